@@ -1,0 +1,49 @@
+-- Clear characters, the texts that are made of them, and the parts into which such texts split at `;`.
+-- A terminal takes each clear character for what it is: none of them controls, opens or ends anything.
+use Rattle.std.specs.Prelude.{ℕ, ◌≡◌, ◌≢◌, Bool, true, not, nat_le, ◌==◌, ◌||◌, ◌&&◌, List, [], ◌∷◌, ◌++◌}
+use Rattle.std.specs.List.{slice_split, list_all, flat_map}
+use Rattle.std.specs.Str.{encode_utf8_all}
+use lib.Utf8.{scalar}
+
+-- a Unicode scalar value from U+0020 to U+007F, or from U+00A0 on: neither C0 nor C1
+abbrev pub is_clear : ℕ → Bool
+is_clear c = scalar c && (nat_le 0x20 c && (nat_le c 0x7f || nat_le 0xa0 c))
+
+-- the same, but not `;`
+abbrev pub is_part_char : ℕ → Bool
+is_part_char c = is_clear c && not (c == 0x3b)
+
+-- the UTF-8 of characters that all pass the test
+abbrev pub IsTextOf : (ℕ → Bool) → List ℕ → Type 0
+IsTextOf test t = (cs : List ℕ) × (list_all test cs ≡ true) × (encode_utf8_all cs ≡ t)
+
+-- a text of clear characters
+abbrev pub IsClearText : List ℕ → Type 0
+IsClearText t = IsTextOf is_clear t
+
+-- a clear text without `;`
+abbrev pub IsClearPart : List ℕ → Type 0
+IsClearPart t = IsTextOf is_part_char t
+
+-- clear texts without `;`
+abbrev pub AreClearParts : List (List ℕ) → Type 0
+AreClearParts [] = Unit {0}
+AreClearParts (p ∷ ps) = IsClearPart p × AreClearParts ps
+
+-- the pieces between `;`; none where the text is empty
+abbrev pub parts_of : List ℕ → List (List ℕ)
+parts_of [] = []
+parts_of (b ∷ text) = slice_split (λ c. c == 0x3b) (b ∷ text)
+
+-- the parts, with `;` between them
+abbrev pub joined : List (List ℕ) → List ℕ
+joined [] = []
+joined (p ∷ ps) = p ++ flat_map (λ q. 0x3b ∷ q) ps
+
+-- clear parts, but not one empty part: what a clear text splits into
+abbrev pub AreTextParts : List (List ℕ) → Type 0
+AreTextParts ps = AreClearParts ps × (ps ≢ [] ∷ [])
+
+-- a text between the introducer of an operating system command, `ESC ]`, and the string terminator, `ESC \`
+abbrev pub framed : List ℕ → List ℕ
+framed t = 0x1b ∷ 0x5d ∷ (t ++ 0x1b ∷ 0x5c ∷ [])

@@ -1,0 +1,182 @@
+-- Which streams may make a parser's memory grow: those whose cut holds such a segment, and all that begin with one of them.
+use Rattle.std.proofs.Common.{ℕ, ◌≡◌, Bool, true, false, if◌then◌else◌, List, [], ◌∷◌, ◌++◌, refl, ap, sym, ◌∙◌, subst, append_assoc, ◌⊎◌, inl, inr}
+use Rattle.std.specs.List.{list_any}
+use Rattle.std.proofs.lemmas.List.{append-nil}
+use Rattle.std.proofs.lemmas.Bool.{or_cases, or_left, or_right}
+use Rattle.esc_frame.specs.declared.classes.Kind.{Kind}
+use Rattle.esc_frame.specs.declared.classes.Kind.TheVariants as kind
+use Rattle.esc_frame.specs.Classes.{class_of, is_breaker, in_data}
+use Rattle.esc_frame.specs.Events.{Event}
+use Rattle.esc_frame.specs.Segments.{Segment, Opener, HasShape, IsOpener, ArePieces, AreSegments, IsCut, joined, bytes_of, text_bytes, ending_bytes, opener}
+use Rattle.esc_frame.specs.Segments.Segment.{Character, Wide, Broken, Stray, Control, HighControl, Terminator, CutEscape, CutCsi, CutDcs, Csi, Osc, Dcs, Apc, Ignored}
+use Rattle.esc_frame.specs.Segments.Segment.{Escape as EscapeOf}
+use Rattle.esc_frame.specs.Segments.Opener.{Long, Raw, Pair}
+use Rattle.esc_frame.specs.Segments.Ending.{Open, Waits}
+use Rattle.esc_frame.specs.Memory.{may_grow, MayGrow}
+use Rattle.esc_frame.specs.Leads.{Unfinished, Stands, AreFinished, osc_bytes}
+use Rattle.esc_frame.specs.Leads.Unfinished.{Ground, Pending, InEscape, InCsi, InDcs, InData, InApc, InIgnored, InOsc, InOscPending}
+use Rattle.esc_frame.specs.Moves.{after_by, after_all, may_grow_in, may_grow_within}
+use Rattle.esc_frame.specs.Stream.{events}
+use Rattle.esc_frame.proofs.Grows.{finished_before}
+use Rattle.esc_frame.proofs.Cuts.{has_cut, cut_last, stands}
+use Rattle.esc_frame.proofs.First.{Found, found, first, first_is, opened_first, opener_first, csi_of, dcs_of, front}
+use Rattle.esc_frame.proofs.First.Found.{OneSegment, OscBehind}
+use Rattle.esc_frame.proofs.OneCut.{head_of, one_cut}
+use Rattle.esc_frame.proofs.Streams.{after_append}
+
+-- ---- what an opener begins
+
+-- such a segment begins with an opener
+abbrev Opened : Segment → Type 0
+Opened g = (k : Kind) × (o : Opener) × (r : List ℕ) × IsOpener o × (bytes_of g ≡ opener k o ++ r)
+
+grows_opened : (g : Segment) (after : List ℕ) → HasShape g after → may_grow g ≡ true → Opened g
+grows_opened (Csi o x f) after s h = (kind.Csi, o, x ++ f ∷ [], s.0, append_assoc (opener kind.Csi o) x (f ∷ []))
+grows_opened (Osc o ps e) after s h = (kind.Osc, o, text_bytes ps ++ ending_bytes e, s.0, append_assoc (opener kind.Osc o) (text_bytes ps) (ending_bytes e))
+grows_opened (Dcs o x f d) after s h = (kind.Dcs, o, (x ++ f ∷ []) ++ d, s.0, ap (λ y. y ++ d) (append_assoc (opener kind.Dcs o) x (f ∷ [])) ∙ append_assoc (opener kind.Dcs o) (x ++ f ∷ []) d)
+grows_opened (Apc o d) after s h = (kind.Apc, o, d, s.0, refl)
+grows_opened (Ignored k o d) after s h = (k, o, d, s.1, refl)
+grows_opened (CutCsi o x) after s h = (kind.Csi, o, x, s.0, refl)
+grows_opened (CutDcs o x) after s h = (kind.Dcs, o, x, s.0, refl)
+grows_opened _ after s h = absurd cc
+
+-- and an opener begins such a segment
+abbrev found_grows : Found → Bool
+found_grows (OneSegment g) = may_grow g
+found_grows (OscBehind o r) = true
+
+if_both : (t : Bool) (g h : Segment) → may_grow g ≡ true → may_grow h ≡ true → found_grows (if t then OneSegment g else OneSegment h) ≡ true
+if_both true g h e f = e
+if_both false g h e f = f
+
+csi_grows : (o : Opener) (x r : List ℕ) → found_grows (csi_of o x r) ≡ true
+csi_grows o x [] = refl
+csi_grows o x (f ∷ r) = if_both (is_breaker (class_of f)) (CutCsi o x) (Csi o x f) refl refl
+
+dcs_grows : (o : Opener) (x r : List ℕ) → found_grows (dcs_of o x r) ≡ true
+dcs_grows o x [] = refl
+dcs_grows o x (f ∷ r) = if_both (is_breaker (class_of f)) (CutDcs o x) (Dcs o x f (front in_data r)) refl refl
+
+opened_grows : (k : Kind) (o : Opener) (r : List ℕ) → found_grows (opened_first k o r) ≡ true
+opened_grows kind.Csi o r = csi_grows o _ _
+opened_grows kind.Osc o r = refl
+opened_grows kind.Dcs o r = dcs_grows o _ _
+opened_grows kind.Sos o r = refl
+opened_grows kind.Pm o r = refl
+opened_grows kind.Apc o r = refl
+
+found_is : (g : Segment) (r : List ℕ) → found_grows (found g r) ≡ may_grow g
+found_is (Osc o ps e) r = refl
+found_is (Character b) r = refl
+found_is (Wide x) r = refl
+found_is (Broken x) r = refl
+found_is (Stray b) r = refl
+found_is (Control b) r = refl
+found_is (HighControl p b) r = refl
+found_is (Terminator p b) r = refl
+found_is (EscapeOf x f) r = refl
+found_is (Csi o x f) r = refl
+found_is (CutEscape x) r = refl
+found_is (CutCsi o x) r = refl
+found_is (CutDcs o x) r = refl
+found_is (Dcs o x f d) r = refl
+found_is (Apc o d) r = refl
+found_is (Ignored k o d) r = refl
+
+abbrev is_cons : List ℕ → Bool
+is_cons [] = false
+is_cons (_ ∷ _) = true
+
+opener_cons : (k : Kind) (o : Opener) (r : List ℕ) → is_cons (opener k o ++ r) ≡ true
+opener_cons k (Long n) r = refl
+opener_cons k Raw r = refl
+opener_cons k Pair r = refl
+
+not_none : (k : Kind) (o : Opener) (r : List ℕ) → [] ≡ opener k o ++ r → ⊥
+not_none k o r e = let h : false ≡ true = ap is_cons e ∙ opener_cons k o r in cc
+
+-- the first segment behind an opener may grow
+first_grows : (k : Kind) (o : Opener) (r : List ℕ) (gs : List Segment) → IsOpener o → AreSegments gs → joined gs ≡ opener k o ++ r → list_any may_grow gs ≡ true
+first_grows k o r [] h a e = absurd (not_none k o r e)
+first_grows k o r (g ∷ gs) h a e =
+    let p = head_of g gs a in
+    let same : found g (joined gs) ≡ opened_first k o r = sym (first_is g (joined gs) p.0 p.1) ∙ ap first e ∙ opener_first k o r h in
+    let grows : may_grow g ≡ true = sym (found_is g (joined gs)) ∙ ap found_grows same ∙ opened_grows k o r in or_left (may_grow g) (list_any may_grow gs) grows
+
+opens_grow : (k : Kind) (o : Opener) (r : List ℕ) → IsOpener o → MayGrow (opener k o ++ r)
+opens_grow k o r h = let c = has_cut (opener k o ++ r) in (c.0, c.1, first_grows k o r c.0 h c.1.each (sym c.1.whole))
+
+-- ---- more bytes
+
+finished_before_all : (gs : List Segment) (u t : List ℕ) → AreFinished gs t → AreFinished gs (t ++ u)
+finished_before_all gs [] t h = subst (λ x. AreFinished gs x) (sym (append-nil t)) h
+finished_before_all gs (b ∷ u) t h = subst (λ x. AreFinished gs x) (append_assoc t (b ∷ []) u) (finished_before_all gs u (t ++ b ∷ []) (finished_before gs t b h))
+
+-- a finished segment before a stream that may grow
+cut_cons : (g : Segment) (hs : List Segment) → AreFinished (g ∷ []) (joined hs) → AreSegments hs → list_any may_grow hs ≡ true → AreSegments (g ∷ hs)
+cut_cons g [] f a h = absurd cc
+cut_cons g (k ∷ hs) f a h = (f.0, f.1, a)
+
+grows_behind : (g : Segment) (s : List ℕ) → AreFinished (g ∷ []) s → MayGrow s → MayGrow (bytes_of g ++ s)
+grows_behind g s f (hs, cut, h) = (
+  g ∷ hs,
+  record { whole = ap (λ x. bytes_of g ++ x) cut.whole; each = cut_cons g hs (subst (λ x. AreFinished (g ∷ []) x) cut.whole f) cut.each h },
+  or_right (may_grow g) (list_any may_grow hs) h,
+)
+
+-- by the first of them that may grow
+more_by : (g : Segment) (gs : List Segment) (t : List ℕ) → AreSegments (g ∷ gs) → ((may_grow g ≡ true) ⊎ ((list_any may_grow gs ≡ true) × MayGrow (joined gs ++ t))) → MayGrow (bytes_of g ++ (joined gs ++ t))
+more_by g gs t a (inl h) =
+    let w = grows_opened g (joined gs) (head_of g gs a).0 h in
+    let e : opener w.0 w.1 ++ (w.2 ++ (joined gs ++ t)) ≡ bytes_of g ++ (joined gs ++ t) = sym (append_assoc (opener w.0 w.1) w.2 (joined gs ++ t)) ∙ ap (λ x. x ++ (joined gs ++ t)) (sym w.4) in
+    subst MayGrow e (opens_grow w.0 w.1 (w.2 ++ (joined gs ++ t)) w.3)
+more_by g [] t a (inr h) = let e : false ≡ true = h.0 in absurd cc
+more_by g (k ∷ gs) t a (inr h) = grows_behind g (joined (k ∷ gs) ++ t) (finished_before_all (g ∷ []) t (joined (k ∷ gs)) (a.0, a.1, tt)) h.1
+
+more_in : (gs : List Segment) (t : List ℕ) → AreSegments gs → list_any may_grow gs ≡ true → MayGrow (joined gs ++ t)
+more_in [] t a h = absurd cc
+more_in (g ∷ gs) t a h =
+    let rests = (head_of g gs a).2 in
+    subst MayGrow (sym (append_assoc (bytes_of g) (joined gs) t))
+    (more_by g gs t a (elim (or_cases (may_grow g) (list_any may_grow gs) h) [ inl e ↦ inl e | inr e ↦ inr (e, more_in gs t rests e) ]))
+
+-- what begins with such a stream is one
+pub more_grows : (s t : List ℕ) → MayGrow s → MayGrow (s ++ t)
+more_grows s t (gs, cut, h) = subst (λ x. MayGrow (x ++ t)) (sym cut.whole) (more_in gs t cut.each h)
+
+-- any cut of the stream tells
+pub cut_grows : (s : List ℕ) (gs : List Segment) → IsCut s gs → MayGrow s → list_any may_grow gs ≡ true
+cut_grows s gs cut (hs, other, h) = ap (list_any may_grow) (one_cut s gs hs cut other) ∙ h
+
+-- ---- the machine
+
+last_grows : (gs : List Segment) (g : Segment) → may_grow g ≡ true → list_any may_grow (gs ++ g ∷ []) ≡ true
+last_grows [] g h = or_left (may_grow g) false h
+last_grows (k ∷ gs) g h = or_right (may_grow k) (list_any may_grow (gs ++ g ∷ [])) (last_grows gs g h)
+
+-- where a byte may make the machine's memory grow, the unfinished segment is such a one
+open_grows : (s : List ℕ) (es : List Event) (gs : List Segment) (u : Unfinished) → Stands s es gs u → may_grow_in u ≡ true → MayGrow s
+open_grows s es gs Ground st h = absurd cc
+open_grows s es gs (Pending f) st h = absurd cc
+open_grows s es gs (InEscape x) st h = absurd cc
+open_grows s es gs (InCsi o x) st h = (gs ++ CutCsi o x ∷ [], cut_last s es gs (InCsi o x) (CutCsi o x) st refl st.shape, last_grows gs (CutCsi o x) refl)
+open_grows s es gs (InDcs o x) st h = (gs ++ CutDcs o x ∷ [], cut_last s es gs (InDcs o x) (CutDcs o x) st refl st.shape, last_grows gs (CutDcs o x) refl)
+open_grows s es gs (InData o x f d) st h = (gs ++ Dcs o x f d ∷ [], cut_last s es gs (InData o x f d) (Dcs o x f d) st refl st.shape, last_grows gs (Dcs o x f d) refl)
+open_grows s es gs (InApc o d) st h = (gs ++ Apc o d ∷ [], cut_last s es gs (InApc o d) (Apc o d) st refl st.shape, last_grows gs (Apc o d) refl)
+open_grows s es gs (InIgnored k o d) st h = (gs ++ Ignored k o d ∷ [], cut_last s es gs (InIgnored k o d) (Ignored k o d) st refl st.shape, last_grows gs (Ignored k o d) refl)
+open_grows s es gs (InOsc o ps) st h = (gs ++ Osc o ps Open ∷ [], cut_last s es gs (InOsc o ps) (Osc o ps Open) st (sym (append-nil (osc_bytes o ps))) (st.shape.0, st.shape.1, tt), last_grows gs (Osc o ps Open) refl)
+open_grows s es gs (InOscPending o ps f) st h =
+    (gs ++ Osc o ps (Waits f) ∷ [], cut_last s es gs (InOscPending o ps f) (Osc o ps (Waits f)) st refl (st.shape.0, subst (λ y. ArePieces ps y) (sym (append-nil f)) st.shape.1, st.shape.2), last_grows gs (Osc o ps (Waits f)) refl)
+
+-- where one of these bytes behind s may make it grow, s and they are such a stream
+pub grows_added : (s b : List ℕ) → may_grow_within (after_all Ground s) b ≡ true → MayGrow (s ++ b)
+grows_added s [] h = absurd cc
+grows_added s (c ∷ b) h =
+    let u = after_all Ground s in
+    elim (or_cases (may_grow_in u) (may_grow_within (after_by u c (class_of c)) b) h) [
+      | inl e ↦ let w = stands s in more_grows s (c ∷ b) (open_grows s (events s) w.0 u w.1 e)
+      | inr e ↦ subst MayGrow (append_assoc s (c ∷ []) b) (grows_added (s ++ c ∷ []) b (ap (λ v. may_grow_within v b) (after_append Ground s (c ∷ [])) ∙ e))
+    ]
+
+pub grows : (s : List ℕ) → may_grow_within Ground s ≡ true → MayGrow s
+grows s h = grows_added [] s h

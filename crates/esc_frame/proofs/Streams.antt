@@ -1,0 +1,100 @@
+-- The events of a stream are those of its cut.
+use Rattle.std.proofs.Common.{ℕ, ◌≡◌, true, List, [], ◌∷◌, ◌++◌, length, drop, refl, sym, ap, ◌∙◌, subst, append_assoc}
+use Rattle.std.proofs.lemmas.List.{append-nil}
+use Rattle.esc_frame.specs.Classes.{class_of}
+use Rattle.esc_frame.specs.Events.{Event}
+use Rattle.esc_frame.specs.Segments.{Segment, HasShape, joined, bytes_of, events_of, is_finished}
+use Rattle.esc_frame.specs.Leads.{Unfinished, Stands, AreFinished, open_bytes, told_before, told_open}
+use Rattle.esc_frame.specs.Leads.Unfinished.{Ground}
+use Rattle.esc_frame.specs.Moves.{after_by, news_by, after_all, news_all}
+use Rattle.esc_frame.specs.Stream.{events, added, Says}
+use Rattle.esc_frame.proofs.Cuts.{stands_tells, stands, events_of_the_cut}
+use Rattle.esc_frame.proofs.OneCut.{tells_once}
+
+-- what stands told the stream's events
+pub stands_events : (s : List ℕ) (es : List Event) (gs : List Segment) (u : Unfinished) → Stands s es gs u → es ≡ events s
+stands_events s es gs u st = tells_once s es (events s) (stands_tells s es gs u st) (events_of_the_cut s)
+
+drop_front : {X : Type 0} (xs ys : List X) → drop (length xs) (xs ++ ys) ≡ ys
+drop_front [] ys = refl
+drop_front (x ∷ xs) ys = drop_front xs ys
+
+-- the events of a front are a front of the events
+pub added_from : (s b : List ℕ) (news : List Event) → events s ++ news ≡ events (s ++ b) → added s b ≡ news
+unfolding added
+added_from s b news e = ap (drop (length (events s))) (sym e) ∙ drop_front (events s) news
+
+-- ---- the machine, some bytes and then more
+
+pub after_append : (u : Unfinished) (xs ys : List ℕ) → after_all u (xs ++ ys) ≡ after_all (after_all u xs) ys
+after_append u [] ys = refl
+after_append u (b ∷ xs) ys = after_append (after_by u b (class_of b)) xs ys
+
+pub news_append : (u : Unfinished) (xs ys : List ℕ) → news_all u (xs ++ ys) ≡ news_all u xs ++ news_all (after_all u xs) ys
+news_append u [] ys = refl
+news_append u (b ∷ xs) ys = ap (λ z. news_by u b (class_of b) ++ z) (news_append (after_by u b (class_of b)) xs ys) ∙ sym (append_assoc (news_by u b (class_of b)) (news_all (after_by u b (class_of b)) xs) (news_all (after_all (after_by u b (class_of b)) xs) ys))
+
+-- ---- the events of a stream and of more of it
+
+events_then : (s b : List ℕ) → events s ++ news_all (after_all Ground s) b ≡ events (s ++ b)
+unfolding events
+events_then s b = sym (news_append Ground s b)
+
+-- what more bytes add is what the machine tells of them
+pub added_is : (s b : List ℕ) → added s b ≡ news_all (after_all Ground s) b
+added_is s b = added_from s b (news_all (after_all Ground s) b) (events_then s b)
+
+pub events_more : (s b : List ℕ) → events s ++ added s b ≡ events (s ++ b)
+events_more s b = ap (λ x. events s ++ x) (added_is s b) ∙ events_then s b
+
+pub added_append : (s b c : List ℕ) → added s (b ++ c) ≡ added s b ++ added (s ++ b) c
+added_append s b c =
+    added_from s (b ++ c) (added s b ++ added (s ++ b) c)
+    (sym (append_assoc (events s) (added s b) (added (s ++ b) c)) ∙ ap (λ x. x ++ added (s ++ b) c) (events_more s b) ∙ events_more (s ++ b) c ∙ ap events (append_assoc s b c))
+
+pub events_nil : events [] ≡ []
+unfolding events
+events_nil = refl
+
+-- finished segments before others
+joined-append : (gs hs : List Segment) → joined (gs ++ hs) ≡ joined gs ++ joined hs
+joined-append [] hs = refl
+joined-append (g ∷ gs) hs = ap (λ x. bytes_of g ++ x) (joined-append gs hs) ∙ sym (append_assoc (bytes_of g) (joined gs) (joined hs))
+
+told-append : (gs hs : List Segment) → told_before (gs ++ hs) ≡ told_before gs ++ told_before hs
+told-append [] hs = refl
+told-append (g ∷ gs) hs = ap (λ x. events_of g true ++ x) (told-append gs hs) ∙ sym (append_assoc (events_of g true) (told_before gs) (told_before hs))
+
+regroup : (gs hs : List Segment) (r : List ℕ) → joined (gs ++ hs) ++ r ≡ joined gs ++ (joined hs ++ r)
+regroup gs hs r = ap (λ x. x ++ r) (joined-append gs hs) ∙ append_assoc (joined gs) (joined hs) r
+
+are_append : (gs hs : List Segment) (r : List ℕ) → AreFinished gs (joined hs ++ r) → AreFinished hs r → AreFinished (gs ++ hs) r
+are_append [] hs r f k = k
+are_append (g ∷ gs) hs r (sh, fi, f) k =
+    let e = sym (regroup gs hs r) in
+    (subst (λ x. HasShape g x) e sh, subst (λ x. is_finished g x ≡ true) e fi, are_append gs hs r f k)
+
+-- The text of segments that are finished whatever follows says their events: the one fact about the framing that a writer needs.
+pub says_segments : (gs : List Segment) → ((rest : List ℕ) → AreFinished gs rest) → Says (joined gs) (told_before gs)
+says_segments gs f rest =
+    let w = stands rest in
+    let u = after_all Ground rest in
+    let st = w.1 in
+    let here : AreFinished gs (joined w.0 ++ open_bytes u) = subst (λ x. AreFinished gs x) st.whole (f rest) in
+    let all : Stands (joined gs ++ rest) (told_before gs ++ events rest) (gs ++ w.0) u = record {
+      whole = ap (λ x. joined gs ++ x) st.whole ∙ sym (regroup gs w.0 (open_bytes u));
+      finished = are_append gs w.0 (open_bytes u) here st.finished;
+      shape = st.shape;
+      told = ap (λ x. told_before gs ++ x) st.told ∙ sym (append_assoc (told_before gs) (told_before w.0) (told_open u)) ∙ ap (λ x. x ++ told_open u) (sym (told-append gs w.0));
+    } in
+    sym (stands_events (joined gs ++ rest) (told_before gs ++ events rest) (gs ++ w.0) u all)
+
+-- texts, one behind another
+pub says_nil : Says [] []
+says_nil rest = refl
+
+pub says_append : (t u : List ℕ) (es fs : List Event) → Says t es → Says u fs → Says (t ++ u) (es ++ fs)
+says_append t u es fs h k rest = ap events (append_assoc t u rest) ∙ h (u ++ rest) ∙ ap (λ x. es ++ x) (k rest) ∙ sym (append_assoc es fs (events rest))
+
+pub says_events : (t : List ℕ) (es : List Event) → Says t es → events t ≡ es
+says_events t es h = ap events (sym (append-nil t)) ∙ h [] ∙ ap (λ x. es ++ x) events_nil ∙ append-nil es

@@ -1,0 +1,17 @@
+-- The numbers that digits write.
+use Rattle.std.proofs.Common.{ℕ, ◌≡◌, ◌+◌, ◌-◌, ◌*◌, ◌<◌, List, [], ◌∷◌, ◌++◌, take, length, get_or, refl, ap, sym, ◌∙◌, arith}
+use Rattle.std.proofs.lemmas.List.{take_more}
+use Rattle.esc_frame.specs.Bodies.{held, value_behind}
+use Rattle.esc_frame.proofs.FirstEntries.{held_next}
+
+value_push : (n : ℕ) (x : List ℕ) (b : ℕ) → value_behind n (x ++ b ∷ []) ≡ 10 * value_behind n x + (b - 0x30)
+value_push n [] b = refl
+value_push n (c ∷ x) b = value_push (10 * n + (c - 0x30)) x b
+
+-- one digit more of a piece
+pub value_next : (x : List ℕ) (i m : ℕ) → i < length x → m ≡ held (value_behind 0 (take i x)) → held (10 * m + (get_or x i 0 - 0x30)) ≡ held (value_behind 0 (take (i + 1) x))
+value_next x i m h e =
+    ap (λ k. held (10 * k + (get_or x i 0 - 0x30))) e
+    ∙ held_next (value_behind 0 (take i x)) (get_or x i 0 - 0x30)
+    ∙ ap held (sym (value_push 0 (take i x) (get_or x i 0)))
+    ∙ ap (λ y. held (value_behind 0 y)) (sym (take_more x i 0 h))

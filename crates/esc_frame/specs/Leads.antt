@@ -1,0 +1,101 @@
+-- What is unfinished of a stream, and what the machine keeps of it. Private contracts cite it; the public relation is
+-- `LeadsTo` of Stream.
+use Rattle.std.specs.Prelude.{ℕ, ◌≡◌, Bool, true, false, if◌then◌else◌, List, [], ◌∷◌, ◌++◌}
+use Rattle.std.specs.List.{flat_map}
+use Rattle.esc_frame.specs.declared.classes.Kind.{Kind}
+use Rattle.esc_frame.specs.declared.classes.Kind.TheVariants as kind
+use Rattle.esc_frame.specs.declared.machine.State.TheVariants as state
+use Rattle.esc_frame.specs.declared.machine.Machine.{Machine}
+use Rattle.esc_frame.specs.Classes.{strip, those, is_text}
+use Rattle.esc_frame.specs.Sequences.{is_front}
+use Rattle.esc_frame.specs.Bodies.{is_dcs_header}
+use Rattle.esc_frame.specs.Fronts.{front_of}
+use Rattle.esc_frame.specs.Keeps.{Keeps, KeepsBody}
+use Rattle.esc_frame.specs.Events.{Event}
+use Rattle.esc_frame.specs.Segments.{Segment, Opener, Piece, opener, opener_events, text_of, text_bytes, HasShape, IsOpener, ArePieces, is_finished, is_empty, joined, bytes_of, events_of, executes, hook_event, puts}
+use Rattle.esc_frame.specs.Segments.Segment.{CutEscape, CutCsi, CutDcs, Dcs, Apc, Ignored}
+
+-- the last segment, where it is unfinished, taken apart
+pub data Unfinished : Type 0 where
+  Ground : Unfinished
+  -- a front of a sequence
+  Pending : List ℕ → Unfinished
+  InEscape : List ℕ → Unfinished
+  InCsi : Opener → List ℕ → Unfinished
+  InDcs : Opener → List ℕ → Unfinished
+  InData : Opener → List ℕ → ℕ → List ℕ → Unfinished
+  InApc : Opener → List ℕ → Unfinished
+  InIgnored : Kind → Opener → List ℕ → Unfinished
+  InOsc : Opener → List Piece → Unfinished
+  -- a front stands behind the units
+  InOscPending : Opener → List Piece → List ℕ → Unfinished
+
+abbrev pub osc_bytes : Opener → List Piece → List ℕ
+osc_bytes o ps = opener kind.Osc o ++ text_bytes ps
+
+-- its bytes
+abbrev pub open_bytes : Unfinished → List ℕ
+open_bytes Ground = []
+open_bytes (Pending f) = f
+open_bytes (InEscape x) = bytes_of (CutEscape x)
+open_bytes (InCsi o x) = bytes_of (CutCsi o x)
+open_bytes (InDcs o x) = bytes_of (CutDcs o x)
+open_bytes (InData o x f d) = bytes_of (Dcs o x f d)
+open_bytes (InApc o d) = bytes_of (Apc o d)
+open_bytes (InIgnored k o d) = bytes_of (Ignored k o d)
+open_bytes (InOsc o ps) = osc_bytes o ps
+open_bytes (InOscPending o ps f) = osc_bytes o ps ++ f
+
+abbrev pub OpenShape : Unfinished → Type 0
+OpenShape Ground = Unit {0}
+OpenShape (Pending f) = is_front f ≡ true
+OpenShape (InEscape x) = HasShape (CutEscape x) []
+OpenShape (InCsi o x) = HasShape (CutCsi o x) []
+OpenShape (InDcs o x) = HasShape (CutDcs o x) []
+OpenShape (InData o x f d) = HasShape (Dcs o x f d) []
+OpenShape (InApc o d) = HasShape (Apc o d) []
+OpenShape (InIgnored k o d) = HasShape (Ignored k o d) []
+OpenShape (InOsc o ps) = IsOpener o × ArePieces ps []
+OpenShape (InOscPending o ps f) = IsOpener o × ArePieces ps f × (is_front f ≡ true)
+
+-- each has its shape and is finished where these bytes follow the last
+abbrev pub AreFinished : List Segment → List ℕ → Type 0
+AreFinished [] rest = Unit {0}
+AreFinished (g ∷ gs) rest = HasShape g (joined gs ++ rest) × (is_finished g (joined gs ++ rest) ≡ true) × AreFinished gs rest
+
+-- what the machine keeps of the unfinished segment
+abbrev pub Holds : {A : Type 0} → Machine A → Unfinished → Type 0
+Holds m Ground = (m.state ≡ state.Ground) × (front_of m.pending ≡ [])
+Holds m (Pending f) = (m.state ≡ state.Ground) × (front_of m.pending ≡ f) × (is_empty f ≡ false)
+Holds m (InEscape x) = (m.state ≡ state.Escape) × Keeps m.intermediates (strip x)
+Holds m (InCsi o x) = (m.state ≡ state.Csi) × KeepsBody m.body (strip x)
+Holds m (InDcs o x) = (m.state ≡ state.Dcs) × (m.text.items ≡ strip x)
+Holds m (InData o x f d) = m.state ≡ (if is_dcs_header (strip x) then state.Data else state.Skip)
+Holds m (InApc o d) = (m.state ≡ state.Apc) × (m.text.items ≡ those is_text d)
+Holds m (InIgnored k o d) = m.state ≡ state.Skip
+Holds m (InOsc o ps) = (m.state ≡ state.Osc) × (m.text.items ≡ text_of ps) × (front_of m.pending ≡ [])
+Holds m (InOscPending o ps f) = (m.state ≡ state.Osc) × (m.text.items ≡ text_of ps) × (front_of m.pending ≡ f) × (is_empty f ≡ false)
+
+-- what the finished segments have told
+abbrev pub told_before : List Segment → List Event
+told_before gs = flat_map (λ g. events_of g true) gs
+
+-- what the unfinished segment has told
+abbrev pub told_open : Unfinished → List Event
+told_open Ground = []
+told_open (Pending f) = []
+told_open (InEscape x) = executes x
+told_open (InCsi o x) = opener_events o ++ executes x
+told_open (InDcs o x) = opener_events o
+told_open (InData o x f d) = opener_events o ++ (if is_dcs_header (strip x) then hook_event (strip x) f ∷ puts d else [])
+told_open (InApc o d) = opener_events o
+told_open (InIgnored k o d) = opener_events o
+told_open (InOsc o ps) = opener_events o
+told_open (InOscPending o ps f) = opener_events o
+
+-- the stream has a cut with these finished segments and this unfinished one, and told these events
+pub record Stands (stream : List ℕ) (events : List Event) (gs : List Segment) (u : Unfinished) : Type 0 where
+  pub whole : stream ≡ joined gs ++ open_bytes u
+  pub finished : AreFinished gs (open_bytes u)
+  pub shape : OpenShape u
+  pub told : events ≡ told_before gs ++ told_open u

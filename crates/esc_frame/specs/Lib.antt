@@ -1,0 +1,12 @@
+pub mod Classes
+pub mod Sequences
+pub mod Fronts
+pub mod Bodies
+pub mod Events
+pub mod Segments
+pub mod Keeps
+pub mod Leads
+pub mod Moves
+pub mod Stream
+pub mod Memory
+pub mod Fits

@@ -1,0 +1,261 @@
+-- The segments of a stream, taken apart, and the cut of a stream into them.
+use Rattle.std.specs.Prelude.{ℕ, ◌<◌, ◌≡◌, ◌&&◌, ◌||◌, Bool, true, false, cond, nat_lt, not, ◌==◌, if◌then◌else◌, List, [], ◌∷◌, ◌++◌, length, take, map}
+use Rattle.std.specs.List.{flat_map, slice_split, list_all}
+use Rattle.esc_frame.specs.declared.classes.Kind.{Kind}
+use Rattle.esc_frame.specs.declared.classes.Kind.TheVariants as kind
+use Rattle.esc_frame.specs.Classes.{class_of, AllOf, those, strip, is_plain, is_raw, is_breaker, is_noise, is_control, is_raw_control, is_terminator, is_text, is_high, in_escape, ends_escape, opens, in_csi, ends_csi, in_osc, in_data, is_put, is_ignored, letter_of, raw_of}
+use Rattle.esc_frame.specs.Sequences.{is_sequence, is_front, is_pair, is_broken_before, continues, number_of}
+use Rattle.esc_below.specs.Clear.{parts_of}
+use Rattle.esc_frame.specs.Events.{Event}
+use Rattle.esc_frame.specs.Events.Event.{Print, Execute, EscDispatch, CsiDispatch, OscDispatch, DcsHook, DcsPut, DcsUnhook, ApcDispatch}
+use Rattle.esc_frame.specs.Bodies.{is_csi_body, is_dcs_header, kept_entries, has_more_entries, dcs_params, dcs_intermediates, kept_intermediates, has_more_intermediates}
+
+-- ESC, noise and the letter; or the control, raw or behind C2
+pub data Opener : Type 0 where
+  Long : List ℕ → Opener
+  Raw : Opener
+  Pair : Opener
+
+abbrev pub opener : Kind → Opener → List ℕ
+opener k (Long n) = (0x1b ∷ n) ++ letter_of k ∷ []
+opener k Raw = raw_of k ∷ []
+opener k Pair = 0xc2 ∷ raw_of k ∷ []
+
+abbrev pub IsOpener : Opener → Type 0
+IsOpener (Long n) = AllOf is_noise n
+IsOpener Raw = Unit {0}
+IsOpener Pair = Unit {0}
+
+-- a unit of the text of an OSC: a byte, a well-formed sequence, or a broken one
+pub data Piece : Type 0 where
+  One : ℕ → Piece
+  Sequence : List ℕ → Piece
+  BrokenOff : List ℕ → Piece
+
+abbrev pub piece_bytes : Piece → List ℕ
+piece_bytes (One b) = b ∷ []
+piece_bytes (Sequence x) = x
+piece_bytes (BrokenOff x) = x
+
+-- it is a unit where these bytes follow
+abbrev pub IsPiece : Piece → List ℕ → Type 0
+IsPiece (One b) after = in_osc (class_of b) ≡ true
+IsPiece (Sequence x) after = (is_sequence x ≡ true) × (is_pair x ≡ false)
+IsPiece (BrokenOff x) after = (is_front x ≡ true) × (is_broken_before x after ≡ true)
+
+abbrev pub text_bytes : List Piece → List ℕ
+text_bytes ps = flat_map piece_bytes ps
+
+abbrev pub ArePieces : List Piece → List ℕ → Type 0
+ArePieces [] after = Unit {0}
+ArePieces (p ∷ ps) after = IsPiece p (text_bytes ps ++ after) × ArePieces ps after
+
+-- what ends the text of an OSC: nothing yet, 07, or a sequence that may go on
+pub data Ending : Type 0 where
+  Open : Ending
+  Rung : Ending
+  Waits : List ℕ → Ending
+
+abbrev pub ending_bytes : Ending → List ℕ
+ending_bytes Open = []
+ending_bytes Rung = 0x07 ∷ []
+ending_bytes (Waits f) = f
+
+-- A segment, taken apart. Its spelling is `bytes_of`, its shape `HasShape`.
+pub data Segment : Type 0 where
+  -- a character: 20-7F
+  Character : ℕ → Segment
+  -- a character: a well-formed sequence that is no control
+  Wide : List ℕ → Segment
+  -- a proper front of a sequence, broken off or pending
+  Broken : List ℕ → Segment
+  -- a stray byte: A0-C1, F5-FF
+  Stray : ℕ → Segment
+  -- a C0 that stands alone
+  Control : ℕ → Segment
+  -- a C1 that stands alone, raw (false) or behind C2 (true)
+  HighControl : Bool → ℕ → Segment
+  -- a string terminator that stands alone, raw (false) or behind C2 (true)
+  Terminator : Bool → ℕ → Segment
+  -- ESC, intermediates and noise, the final byte
+  Escape : List ℕ → ℕ → Segment
+  -- opener, body, final byte
+  Csi : Opener → List ℕ → ℕ → Segment
+  -- opener, the units of the text, and how they end
+  Osc : Opener → List Piece → Ending → Segment
+  -- opener, header, final byte, data
+  Dcs : Opener → List ℕ → ℕ → List ℕ → Segment
+  -- opener, data
+  Apc : Opener → List ℕ → Segment
+  -- a start of string or a privacy message: opener, data
+  Ignored : Kind → Opener → List ℕ → Segment
+  -- an escape sequence, a control sequence or a device control's header, cut short before its final byte
+  CutEscape : List ℕ → Segment
+  CutCsi : Opener → List ℕ → Segment
+  CutDcs : Opener → List ℕ → Segment
+
+abbrev pub behind_c2 : Bool → ℕ → List ℕ
+behind_c2 true b = 0xc2 ∷ b ∷ []
+behind_c2 false b = b ∷ []
+
+abbrev pub bytes_of : Segment → List ℕ
+bytes_of (Character b) = b ∷ []
+bytes_of (Wide x) = x
+bytes_of (Broken x) = x
+bytes_of (Stray b) = b ∷ []
+bytes_of (Control b) = b ∷ []
+bytes_of (HighControl p b) = behind_c2 p b
+bytes_of (Terminator p b) = behind_c2 p b
+bytes_of (Escape x f) = (0x1b ∷ x) ++ f ∷ []
+bytes_of (Csi o x f) = opener kind.Csi o ++ x ++ f ∷ []
+bytes_of (Osc o ps e) = opener kind.Osc o ++ text_bytes ps ++ ending_bytes e
+bytes_of (CutEscape x) = 0x1b ∷ x
+bytes_of (Dcs o x f d) = (opener kind.Dcs o ++ x ++ f ∷ []) ++ d
+bytes_of (Apc o d) = opener kind.Apc o ++ d
+bytes_of (Ignored k o d) = opener k o ++ d
+bytes_of (CutDcs o x) = opener kind.Dcs o ++ x
+bytes_of (CutCsi o x) = opener kind.Csi o ++ x
+
+abbrev pub is_empty : List ℕ → Bool
+is_empty [] = true
+is_empty (_ ∷ _) = false
+
+abbrev pub IsEnding : Ending → Type 0
+IsEnding Open = Unit {0}
+IsEnding Rung = Unit {0}
+IsEnding (Waits f) = is_front f ≡ true
+
+-- it has its shape where these bytes follow
+abbrev pub HasShape : Segment → List ℕ → Type 0
+HasShape (Character b) after = is_text (class_of b) ≡ true
+HasShape (Wide x) after = (is_sequence x ≡ true) × (is_pair x ≡ false)
+HasShape (Broken x) after = is_front x ≡ true
+HasShape (Stray b) after = is_high (class_of b) ≡ true
+HasShape (Control b) after = is_control (class_of b) ≡ true
+HasShape (HighControl p b) after = is_raw_control (class_of b) ≡ true
+HasShape (Terminator p b) after = is_terminator (class_of b) ≡ true
+HasShape (Escape x f) after = AllOf in_escape x × (ends_escape (class_of f) ≡ true) × ((is_empty (strip x) && opens (class_of f)) ≡ false)
+HasShape (Csi o x f) after = IsOpener o × AllOf in_csi x × (ends_csi (class_of f) ≡ true)
+HasShape (Osc o ps e) after = IsOpener o × ArePieces ps (ending_bytes e ++ after) × IsEnding e
+HasShape (CutEscape x) after = AllOf in_escape x
+HasShape (Dcs o x f d) after = IsOpener o × AllOf in_csi x × (ends_csi (class_of f) ≡ true) × AllOf in_data d
+HasShape (Apc o d) after = IsOpener o × AllOf in_data d
+HasShape (Ignored k o d) after = (is_ignored k ≡ true) × IsOpener o × AllOf in_data d
+HasShape (CutDcs o x) after = IsOpener o × AllOf in_csi x
+HasShape (CutCsi o x) after = IsOpener o × AllOf in_csi x
+
+-- finished by itself
+abbrev pub ends_itself : Segment → Bool
+ends_itself (Broken x) = false
+ends_itself (Osc o ps Rung) = true
+ends_itself (Osc o ps _) = false
+ends_itself (CutEscape x) = false
+ends_itself (Dcs o x f d) = false
+ends_itself (Apc o d) = false
+ends_itself (Ignored k o d) = false
+ends_itself (CutDcs o x) = false
+ends_itself (CutCsi o x) = false
+ends_itself _ = true
+
+-- a breaker unit comes first
+abbrev pub begins_pair : List ℕ → Bool
+begins_pair [] = false
+begins_pair (b ∷ _) = is_raw (class_of b)
+
+abbrev pub breaks_text : List ℕ → Bool
+breaks_text [] = false
+breaks_text (b ∷ r) = is_breaker (class_of b) || ((b == 0xc2) && begins_pair r)
+
+abbrev pub breaks : List ℕ → Bool
+breaks [] = false
+breaks (b ∷ _) = is_breaker (class_of b)
+
+-- finished where these bytes follow
+abbrev pub is_finished : Segment → List ℕ → Bool
+is_finished (Broken x) after = is_broken_before x after
+is_finished (Osc o ps Open) after = breaks_text after
+is_finished (Osc o ps Rung) after = true
+is_finished (Osc o ps (Waits f)) after = false
+is_finished (CutEscape x) after = breaks after
+is_finished (Dcs o x f d) after = breaks after
+is_finished (Apc o d) after = breaks after
+is_finished (Ignored k o d) after = breaks after
+is_finished (CutDcs o x) after = breaks after
+is_finished (CutCsi o x) after = breaks after
+is_finished _ after = true
+
+abbrev pub joined : List Segment → List ℕ
+joined gs = flat_map bytes_of gs
+
+-- each has its shape, and all but the last are finished
+abbrev pub AreSegments : List Segment → Type 0
+AreSegments [] = Unit {0}
+AreSegments (g ∷ []) = HasShape g []
+AreSegments (g ∷ h ∷ gs) = HasShape g (joined (h ∷ gs)) × (is_finished g (joined (h ∷ gs)) ≡ true) × AreSegments (h ∷ gs)
+
+-- a cut of the stream
+pub record IsCut (stream : List ℕ) (gs : List Segment) : Type 0 where
+  pub whole : stream ≡ joined gs
+  pub each : AreSegments gs
+
+abbrev pub executes : List ℕ → List Event
+executes bytes = map Execute (those is_plain bytes)
+
+abbrev pub opener_events : Opener → List Event
+opener_events (Long n) = executes n
+opener_events Raw = []
+opener_events Pair = []
+
+-- what an OSC keeps of its text
+abbrev pub kept_of : Piece → List ℕ
+kept_of (One b) = those is_text (b ∷ [])
+kept_of (Sequence x) = x
+kept_of (BrokenOff x) = 0xef ∷ 0xbf ∷ 0xbd ∷ []
+
+abbrev pub text_of : List Piece → List ℕ
+text_of ps = flat_map kept_of ps
+
+-- what an escape sequence with these intermediates dispatches
+abbrev pub escape_event : List ℕ → ℕ → Event
+escape_event x f = EscDispatch (kept_intermediates x) (has_more_intermediates x) f
+
+-- what a control sequence with this body dispatches: nothing where the body is of another form
+abbrev pub csi_event : List ℕ → ℕ → Event
+csi_event x f = CsiDispatch (kept_entries x) (has_more_entries x) f
+
+abbrev pub csi_events : List ℕ → ℕ → List Event
+csi_events x f = if is_csi_body x then csi_event x f ∷ [] else []
+
+-- the hook of a device control string with this header
+abbrev pub hook_event : List ℕ → ℕ → Event
+hook_event x f = DcsHook f (dcs_params x) (kept_intermediates (dcs_intermediates x)) (has_more_intermediates (dcs_intermediates x))
+
+abbrev pub puts : List ℕ → List Event
+puts d = map DcsPut (those is_put d)
+
+abbrev pub events_of : Segment → Bool → List Event
+events_of (Character b) finished = Print b ∷ []
+events_of (Wide x) finished = Print (number_of x) ∷ []
+events_of (Broken x) finished = if finished then Print 0xfffd ∷ [] else []
+events_of (Stray b) finished = Print 0xfffd ∷ []
+events_of (Control b) finished = Execute b ∷ []
+events_of (HighControl p b) finished = Execute b ∷ []
+events_of (Terminator p b) finished = []
+events_of (Escape x f) finished = executes x ++ escape_event (strip x) f ∷ []
+events_of (Csi o x f) finished = opener_events o ++ executes x ++ csi_events (strip x) f
+events_of (Osc o ps e) finished = opener_events o ++ (if finished then OscDispatch (parts_of (text_of ps)) ∷ [] else [])
+events_of (CutEscape x) finished = executes x
+events_of (Dcs o x f d) finished = opener_events o ++ (if is_dcs_header (strip x) then (hook_event (strip x) f ∷ puts d) ++ (if finished then DcsUnhook ∷ [] else []) else [])
+events_of (Apc o d) finished = opener_events o ++ (if finished then ApcDispatch (those is_text d) ∷ [] else [])
+events_of (Ignored k o d) finished = opener_events o
+events_of (CutDcs o x) finished = opener_events o
+events_of (CutCsi o x) finished = opener_events o ++ executes x
+
+abbrev pub events_of_cut : List Segment → List Event
+events_of_cut [] = []
+events_of_cut (g ∷ []) = events_of g (ends_itself g)
+events_of_cut (g ∷ h ∷ gs) = events_of g true ++ events_of_cut (h ∷ gs)
+
+-- what a stream tells: the events of its cut
+abbrev pub Tells : List ℕ → List Event → Type 0
+Tells stream events = (gs : List Segment) × IsCut stream gs × (events ≡ events_of_cut gs)

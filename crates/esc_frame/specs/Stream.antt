@@ -1,0 +1,33 @@
+-- The events of a stream, and which streams lead to a parser.
+use Rattle.std.specs.Prelude.{ℕ, ◌≡◌, Bool, true, false, List, [], ◌∷◌, ◌++◌, length, drop}
+use Rattle.esc_frame.specs.declared.parser.VTParser.{VTParser}
+use Rattle.esc_frame.specs.Events.{Event}
+use Rattle.esc_frame.specs.Segments.{Segment, IsCut}
+use Rattle.esc_frame.specs.Leads.{Unfinished, AreFinished, Holds}
+use Rattle.esc_frame.specs.Leads.Unfinished.{Ground}
+use Rattle.esc_frame.specs.Moves.{after_all, news_all}
+
+-- The events of a stream. The laws `events_of_the_cut` and `tells_once` fix it: they are those that the stream's one cut
+-- tells, and no others. Nothing above this crate uses more of its body, which takes byte after byte as the code does.
+unfoldable pub events : List ℕ → List Event
+events s = news_all Ground s
+
+-- what b adds to the events of s
+unfoldable pub added : List ℕ → List ℕ → List Event
+added s b = drop (length (events s)) (events (s ++ b))
+
+-- The stream may be what the parser was fed: it keeps what is unfinished of it, and has not failed.
+unfoldable pub LeadsTo : {A : Type 0} → List ℕ → VTParser A → Type 0
+LeadsTo s p = (p.has_failed ≡ false) × Holds p.machine (after_all Ground s)
+
+-- an earlier call of the parser was refused memory
+unfoldable pub HasFailed : {A : Type 0} → VTParser A → Type 0
+HasFailed p = p.has_failed ≡ true
+
+-- These bytes have these events, and what follows them has its own, whatever it is.
+abbrev pub Says : List ℕ → List Event → Type 0
+Says t es = (rest : List ℕ) → events (t ++ rest) ≡ es ++ events rest
+
+-- the stream's cut has no unfinished segment
+abbrev pub IsAtGround : List ℕ → Type 0
+IsAtGround s = (gs : List Segment) × IsCut s gs × AreFinished gs []

@@ -1,0 +1,153 @@
+//! Laws over all streams: a stream has one cut, its events are those of the cut, and what texts say whatever follows them.
+#![tactic(auto)]
+
+ghost use Rattle.std.specs.Prelude.{◌≡◌, ◌++◌, ◌&&◌, ℕ, List, [], ◌∷◌, true, false};
+ghost use Rattle.std.specs.Char.{encode_utf8};
+ghost use Rattle.std.specs.List.{list_any};
+ghost use Rattle.esc_below.specs.Clear.{is_clear, IsClearText, parts_of};
+ghost use Rattle.esc_frame.specs.Classes.{class_of, AllOf, is_control, is_raw_control, is_intermediate, is_text, is_put, in_body, ends_escape, ends_csi, opens};
+ghost use Rattle.esc_frame.specs.Bodies.{is_csi_body, is_dcs_header, kept_intermediates, has_more_intermediates};
+ghost use Rattle.esc_frame.specs.Events.{Event};
+ghost use Rattle.esc_frame.specs.Events.Event.{Print, Execute, EscDispatch, OscDispatch, DcsUnhook, ApcDispatch};
+ghost use Rattle.esc_frame.specs.Segments.{Segment, IsCut, Tells, joined, is_empty, csi_event, hook_event, puts};
+ghost use Rattle.esc_frame.specs.Leads.{AreFinished, told_before};
+ghost use Rattle.esc_frame.specs.Stream.{events, added, Says, IsAtGround};
+ghost use Rattle.esc_frame.specs.Fits.{AreFit, IsOneSegment};
+ghost use Rattle.esc_frame.specs.Memory.{may_grow, MayGrow};
+
+/// Two cuts of a stream are one.
+#[tactic(auto, using(crate::proofs::OneCut::one_cut))]
+pub fn one_cut()
+    ensures { (stream : List ℕ) (gs hs : List Segment) → IsCut stream gs → IsCut stream hs → gs ≡ hs }
+{}
+
+/// Every stream has a cut.
+#[tactic(auto, using(crate::proofs::Cuts::has_cut))]
+pub fn has_cut()
+    ensures { (stream : List ℕ) → (gs : List Segment) × IsCut stream gs }
+{}
+
+/// A stream tells one list of events.
+pub fn tells_once()
+    ensures { (stream : List ℕ) (xs ys : List Event) → Tells stream xs → Tells stream ys → xs ≡ ys }
+{}
+
+/// The events of a stream are those that its cut tells.
+#[tactic(auto, using(crate::proofs::Cuts::events_of_the_cut))]
+pub fn events_of_the_cut()
+    ensures { (s : List ℕ) → Tells s (events s) }
+{}
+
+/// The events of a front come first among the events, and then those that the rest adds.
+#[tactic(auto, using(crate::proofs::Streams::events_more))]
+pub fn events_more()
+    ensures { (s b : List ℕ) → events s ++ added s b ≡ events (s ++ b) }
+{}
+
+/// What two pieces add, one behind another, is what they add together: no cut of the input into calls changes the events.
+#[tactic(auto, using(crate::proofs::Streams::added_append))]
+pub fn added_append()
+    ensures { (s b c : List ℕ) → added s (b ++ c) ≡ added s b ++ added (s ++ b) c }
+{}
+
+/// Behind a stream with nothing unfinished, bytes add their own events.
+#[tactic(auto, using(crate::proofs::AtGround::ground_added))]
+pub fn ground_added()
+    ensures { (s b : List ℕ) → IsAtGround s → added s b ≡ events b }
+{}
+
+/// The events of any stream have these forms.
+#[tactic(auto, using(crate::proofs::Fitting::events_fit))]
+pub fn events_fit()
+    ensures { (s : List ℕ) → AreFit (events s) }
+{}
+
+/// No bytes say nothing.
+#[tactic(auto, using(crate::proofs::Streams::says_nil))]
+pub fn says_nil()
+    ensures { Says [] [] }
+{}
+
+/// Texts, one behind another, say their events one behind another.
+#[tactic(auto, using(crate::proofs::Streams::says_append))]
+pub fn says_append()
+    ensures { (t u : List ℕ) (es fs : List Event) → Says t es → Says u fs → Says (t ++ u) (es ++ fs) }
+{}
+
+/// What a text says are its events.
+pub fn says_events()
+    ensures { (t : List ℕ) (es : List Event) → Says t es → events t ≡ es }
+{}
+
+/// Segments that are finished whatever follows say their events.
+#[tactic(auto, using(crate::proofs::Streams::says_segments))]
+pub fn says_segments()
+    ensures { (gs : List Segment) → ((rest : List ℕ) → AreFinished gs rest) → Says (joined gs) (told_before gs) }
+{}
+
+/// One segment that is finished by itself says its events.
+#[tactic(auto, using(crate::proofs::Says::says_itself))]
+pub fn says_itself()
+    ensures { (t : List ℕ) (es : List Event) → IsOneSegment t es → Says t es }
+{}
+
+/// The UTF-8 of a clear character prints it.
+#[tactic(auto, using(crate::proofs::Says::says_print))]
+pub fn says_print()
+    ensures { (c : ℕ) → is_clear c ≡ true → Says (encode_utf8 c) (Print c ∷ []) }
+{}
+
+/// A C0 control but ESC is executed.
+#[tactic(auto, using(crate::proofs::Says::says_control))]
+pub fn says_control()
+    ensures { (b : ℕ) → is_control (class_of b) ≡ true → Says (b ∷ []) (Execute b ∷ []) }
+{}
+
+/// A C1 control that opens and ends nothing is executed, in UTF-8.
+#[tactic(auto, using(crate::proofs::Says::says_high_control))]
+pub fn says_high_control()
+    ensures { (b : ℕ) → is_raw_control (class_of b) ≡ true → Says (0xc2 ∷ b ∷ []) (Execute b ∷ []) }
+{}
+
+/// ESC, intermediates 20-2F and a final byte 30-7E are dispatched, where the final byte does not open a sequence.
+#[tactic(auto, using(crate::proofs::SaysSequences::says_escape))]
+pub fn says_escape()
+    ensures { (is : List ℕ) (f : ℕ) → AllOf is_intermediate is → ends_escape (class_of f) ≡ true → (is_empty is && opens (class_of f)) ≡ false → Says ((0x1b ∷ is) ++ f ∷ []) (EscDispatch (kept_intermediates is) (has_more_intermediates is) f ∷ []) }
+{}
+
+/// A control sequence with a body of its form and a final byte 40-7E is dispatched.
+#[tactic(auto, using(crate::proofs::SaysSequences::says_csi))]
+pub fn says_csi()
+    ensures { (x : List ℕ) (f : ℕ) → AllOf in_body x → is_csi_body x ≡ true → ends_csi (class_of f) ≡ true → Says ((0x1b ∷ 0x5b ∷ x) ++ f ∷ []) (csi_event x f ∷ []) }
+{}
+
+/// A clear text as an operating system command with its string terminator is dispatched whole, in parts.
+#[tactic(auto, using(crate::proofs::SaysStrings::says_osc))]
+pub fn says_osc()
+    ensures { (t : List ℕ) → IsClearText t → Says ((0x1b ∷ 0x5d ∷ t) ++ 0x1b ∷ 0x5c ∷ []) (OscDispatch (parts_of t) ∷ EscDispatch [] false 0x5c ∷ []) }
+{}
+
+/// A text of 20-7F as an application program command with its string terminator is dispatched whole.
+#[tactic(auto, using(crate::proofs::SaysStrings::says_apc))]
+pub fn says_apc()
+    ensures { (t : List ℕ) → AllOf is_text t → Says ((0x1b ∷ 0x5f ∷ t) ++ 0x1b ∷ 0x5c ∷ []) (ApcDispatch t ∷ EscDispatch [] false 0x5c ∷ []) }
+{}
+
+/// A device control string with a header of its form, a final byte 40-7E and data that no byte breaks off is hooked, put
+/// byte by byte and unhooked.
+#[tactic(auto, using(crate::proofs::SaysStrings::says_dcs))]
+pub fn says_dcs()
+    ensures { (x d : List ℕ) (f : ℕ) → AllOf in_body x → is_dcs_header x ≡ true → ends_csi (class_of f) ≡ true → AllOf is_put d → Says ((((0x1b ∷ 0x50 ∷ []) ++ x ++ f ∷ []) ++ d) ++ 0x1b ∷ 0x5c ∷ []) (((hook_event x f ∷ puts d) ++ DcsUnhook ∷ []) ++ EscDispatch [] false 0x5c ∷ []) }
+{}
+
+/// Whether a stream may make a parser's memory grow can be told from its cut.
+#[tactic(auto, using(crate::proofs::Memory::cut_grows))]
+pub fn cut_grows()
+    ensures { (s : List ℕ) (gs : List Segment) → IsCut s gs → MayGrow s → list_any may_grow gs ≡ true }
+{}
+
+/// A stream that begins with one that may make a parser's memory grow may do so too.
+#[tactic(auto, using(crate::proofs::Memory::more_grows))]
+pub fn more_grows()
+    ensures { (s t : List ℕ) → MayGrow s → MayGrow (s ++ t) }
+{}

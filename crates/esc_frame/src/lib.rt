@@ -1,0 +1,16 @@
+//! The framing of terminal streams: bytes, in any pieces, to the events of their one cut into segments.
+#![tactic(auto)]
+
+pub mod actor;
+pub mod body;
+pub mod classes;
+pub mod entries;
+pub mod error;
+pub mod header;
+pub mod intermediates;
+pub mod laws;
+pub mod machine;
+pub mod parser;
+pub mod runs;
+pub mod sequence;
+pub mod split;

@@ -1,0 +1,103 @@
+//! The parser.
+#![tactic(auto)]
+
+ghost use Rattle.std.specs.Prelude.{◌≡◌, ◌++◌, ◌∷◌, [], ℕ, List, IsTrue, ◌↔◌, OnOk, OnErr, IfErr, false};
+ghost use Rattle.std.specs.List.{FoldsTo};
+ghost use Rattle.esc_frame.specs.Events.{StopsAt};
+ghost use Rattle.esc_frame.specs.Memory.{MayGrow};
+ghost use Rattle.esc_frame.specs.Stream.{added, LeadsTo, HasFailed, IsAtGround};
+
+use crate::actor::VTActor;
+use crate::classes::classify;
+use crate::error::ParseError;
+use crate::machine::Machine;
+use crate::runs::take_all;
+use std::alloc::{Allocator, Global};
+
+/// Splits a stream of bytes, which comes in any pieces, into the events of its segments, and gives them to an actor: the
+/// machine of <https://vt100.net/emu/dec_ansi_parser>, with UTF-8 in text and in operating system commands, and with
+/// application program commands handed out.
+///
+/// Neither the stream nor its events are kept, but what is unfinished: of an escape sequence two intermediates, of a
+/// control sequence 256 entries, of an operating system command or an application program command its text, of a device
+/// control string its header.
+#[derive(Drop)]
+pub struct VTParser<A: Allocator = Global> {
+    machine: Machine<A>,
+    has_failed: bool,
+}
+
+impl<A: Allocator> VTParser<A> {
+    /// A parser at the beginning of a stream. It takes no memory before a sequence or a string begins that it keeps.
+    #[tactic(auto, unfolding(crate::specs::Stream::LeadsTo))]
+    pub fn new(alloc: A) -> Self
+    where
+        A: Copy,
+        ensures { LeadsTo [] result }
+    {
+        VTParser {
+            machine: Machine::new(alloc),
+            has_failed: false,
+        }
+    }
+
+    /// Whether the bytes so far leave no unfinished segment. A failed parser answers false.
+    #[tactic(auto, unfolding(crate::specs::Stream::LeadsTo, crate::specs::Stream::HasFailed))]
+    pub fn is_ground(&self) -> bool
+        ensures ground { (s : List ℕ) → LeadsTo s self.now → IsTrue result ↔ IsAtGround s }
+        ensures failed { HasFailed self.now → result ≡ false }
+    {
+        !self.has_failed && self.machine.is_ground()
+    }
+
+    /// Takes the next byte of the stream, and gives the actor, in order, what it adds to the events of the bytes before.
+    ///
+    /// Answers `Memory` where the actor refused a call or where a request for memory was refused; a front of these events
+    /// was given then. Every later call answers `Failed` and gives nothing.
+    #[tactic(auto, unfolding(crate::specs::Stream::LeadsTo, crate::specs::Stream::HasFailed))]
+    pub fn parse_byte<V: VTActor>(&mut self, byte: u8, actor: &mut V) -> Result<(), ParseError>
+        requires { V.is_ready actor.old }
+        ensures given { (s : List ℕ) → LeadsTo s self.old → OnOk result (LeadsTo (s ++ byte ∷ []) self.new × FoldsTo V.takes actor.old (added s (byte ∷ [])) actor.new) }
+        ensures refused { (s : List ℕ) → LeadsTo s self.old → IfErr result (λ e. (e ≡ ParseError.Memory) × StopsAt (MayGrow (s ++ byte ∷ [])) V.takes V.refuses actor.old (added s (byte ∷ [])) actor.new) }
+        ensures ends { OnErr result (HasFailed self.new) }
+        ensures failed { HasFailed self.old → (result ≡ Err ParseError.Failed) × (actor.new ≡ actor.old) }
+        ensures ready { OnOk result (V.is_ready actor.new) }
+    {
+        if self.has_failed {
+            return Err(ParseError::Failed);
+        }
+        match self.machine.step(byte, classify(byte), actor) {
+            Ok(()) => Ok(()),
+            Err(_) => {
+                self.has_failed = true;
+                Err(ParseError::Memory)
+            }
+        }
+    }
+
+    /// Takes the next bytes of the stream, as many as there are, and gives the actor, in order, what they add to the
+    /// events of the bytes before. However a stream is cut into calls, its events are the same.
+    ///
+    /// Answers `Memory` where the actor refused a call or where a request for memory was refused; a front of these events
+    /// was given then. Every later call answers `Failed` and gives nothing.
+    #[tactic(auto, unfolding(crate::specs::Stream::LeadsTo, crate::specs::Stream::HasFailed))]
+    pub fn parse<V: VTActor>(&mut self, bytes: &[u8], actor: &mut V) -> Result<(), ParseError>
+        requires { V.is_ready actor.old }
+        ensures given { (s : List ℕ) → LeadsTo s self.old → OnOk result (LeadsTo (s ++ bytes.now) self.new × FoldsTo V.takes actor.old (added s bytes.now) actor.new) }
+        ensures refused { (s : List ℕ) → LeadsTo s self.old → IfErr result (λ e. (e ≡ ParseError.Memory) × StopsAt (MayGrow (s ++ bytes.now)) V.takes V.refuses actor.old (added s bytes.now) actor.new) }
+        ensures ends { OnErr result (HasFailed self.new) }
+        ensures failed { HasFailed self.old → (result ≡ Err ParseError.Failed) × (actor.new ≡ actor.old) }
+        ensures ready { OnOk result (V.is_ready actor.new) }
+    {
+        if self.has_failed {
+            return Err(ParseError::Failed);
+        }
+        match take_all(&mut self.machine, bytes, actor) {
+            Ok(()) => Ok(()),
+            Err(_) => {
+                self.has_failed = true;
+                Err(ParseError::Memory)
+            }
+        }
+    }
+}

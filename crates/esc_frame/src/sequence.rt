@@ -1,0 +1,180 @@
+//! Sequences of UTF-8 that have begun.
+#![tactic(auto)]
+
+use std::alloc::{AllocError, Allocator};
+
+ghost use Rattle.std.specs.Prelude.{◌≡◌, ◌++◌, List, [], ◌∷◌, ◌-◌, ◌*◌, ◌+◌, ◌≤◌, if◌then◌else◌, true, OnOk, OnErr};
+ghost use Rattle.esc_frame.specs.Sequences.{is_from, is_tail, is_second, is_sequence, is_front, is_pair, outcome, number_of};
+ghost use Rattle.esc_frame.specs.Fronts.{front_of};
+
+/// The bytes of a sequence that has begun.
+#[derive(Clone, Copy, PartialEq, Eq)]
+pub enum Pending {
+    Nothing,
+    One(u8),
+    Two(u8, u8),
+    Three(u8, u8, u8),
+}
+
+/// What the next byte makes of it.
+#[derive(Clone, Copy, PartialEq, Eq)]
+pub enum Outcome {
+    Whole,
+    More,
+    Broken,
+}
+
+#[inline(always)]
+pub fn lies_from(low: u8, high: u8, a: u8) -> bool
+    ensures { result ≡ is_from low high a }
+{
+    low <= a && a <= high
+}
+
+fn is_second_byte(a: u8, b: u8) -> bool
+    ensures { result ≡ is_second a b }
+{
+    if a == 0xe0 {
+        lies_from(0xa0, 0xbf, b)
+    } else if a == 0xed {
+        lies_from(0x80, 0x9f, b)
+    } else if a == 0xf0 {
+        lies_from(0x90, 0xbf, b)
+    } else if a == 0xf4 {
+        lies_from(0x80, 0x8f, b)
+    } else {
+        lies_from(0x80, 0xbf, b)
+    }
+}
+
+fn chosen(whole: bool, more: bool) -> Outcome
+    ensures { result ≡ (if whole then Outcome.Whole else if more then Outcome.More else Outcome.Broken) }
+{
+    if whole {
+        Outcome::Whole
+    } else if more {
+        Outcome::More
+    } else {
+        Outcome::Broken
+    }
+}
+
+impl Pending {
+    /// What the byte makes of the front.
+    #[tactic(auto, unfolding(crate::specs::Sequences::is_sequence, crate::specs::Sequences::is_front))]
+    pub fn outcome(self, b: u8) -> Outcome
+        ensures { result ≡ outcome (front_of self) b }
+    {
+        match self {
+            Pending::Nothing => chosen(false, lies_from(0xc2, 0xf4, b)),
+            Pending::One(a) => chosen(
+                lies_from(0xc2, 0xdf, a) && lies_from(0x80, 0xbf, b),
+                lies_from(0xe0, 0xf4, a) && is_second_byte(a, b),
+            ),
+            Pending::Two(a, second) => chosen(
+                lies_from(0xe0, 0xef, a) && is_second_byte(a, second) && lies_from(0x80, 0xbf, b),
+                lies_from(0xf0, 0xf4, a) && is_second_byte(a, second) && lies_from(0x80, 0xbf, b),
+            ),
+            Pending::Three(a, second, third) => chosen(
+                lies_from(0xf0, 0xf4, a)
+                    && is_second_byte(a, second)
+                    && lies_from(0x80, 0xbf, third)
+                    && lies_from(0x80, 0xbf, b),
+                false,
+            ),
+        }
+    }
+
+    /// The front with the byte.
+    #[tactic(auto, unfolding(crate::specs::Sequences::is_front))]
+    pub fn with(self, b: u8) -> Pending
+        ensures { is_front (front_of self ++ b ∷ []) ≡ true → front_of result ≡ front_of self ++ b ∷ [] }
+    {
+        match self {
+            Pending::Nothing => Pending::One(b),
+            Pending::One(a) => Pending::Two(a, b),
+            Pending::Two(a, second) => Pending::Three(a, second, b),
+            Pending::Three(_, _, _) => self,
+        }
+    }
+
+    /// Whether front and byte are C2 80 to C2 9F.
+    #[tactic(auto, unfolding(crate::specs::Sequences::is_pair))]
+    pub fn pairs_with(self, b: u8) -> bool
+        ensures { result ≡ is_pair (front_of self ++ b ∷ []) }
+    {
+        match self {
+            Pending::One(a) => a == 0xc2 && lies_from(0x80, 0x9f, b),
+            Pending::Nothing | Pending::Two(_, _) | Pending::Three(_, _, _) => false,
+        }
+    }
+
+    /// The character of front and byte.
+    #[tactic(auto, unfolding(crate::specs::Sequences::is_sequence, crate::specs::Sequences::number_of))]
+    pub fn character(self, b: u8) -> char
+        requires { is_sequence (front_of self ++ b ∷ []) ≡ true }
+        ensures { result ≡ number_of (front_of self ++ b ∷ []) }
+    {
+        match self {
+            Pending::Nothing => '\u{fffd}',
+            Pending::One(a) => two(a, b),
+            Pending::Two(a, second) => three(a, second, b),
+            Pending::Three(a, second, third) => four(a, second, third, b),
+        }
+    }
+
+    /// Puts front and byte behind the text.
+    pub fn put<A: Allocator>(self, text: &mut Vec<u8, A>, b: u8) -> Result<(), AllocError>
+        ensures ok { OnOk result (text.new.items ≡ text.old.items ++ (front_of self ++ b ∷ [])) }
+    {
+        match self {
+            Pending::Nothing => text.extend_from_slice(&[b]),
+            Pending::One(a) => text.extend_from_slice(&[a, b]),
+            Pending::Two(a, second) => text.extend_from_slice(&[a, second, b]),
+            Pending::Three(a, second, third) => text.extend_from_slice(&[a, second, third, b]),
+        }
+    }
+}
+
+fn two(a: u8, b: u8) -> char
+    requires first { 0xc2 ≤ a }
+    requires last { a ≤ 0xdf }
+    requires low { 0x80 ≤ b }
+    requires high { b ≤ 0xbf }
+    ensures { result ≡ (a - 0xc0) * 64 + (b - 0x80) }
+{
+    match char::from_u32((a as u32 - 0xc0) * 64 + (b as u32 - 0x80)) {
+        Some(c) => c,
+        None => unreachable!(),
+    }
+}
+
+fn three(a: u8, b: u8, c: u8) -> char
+    requires first { is_from 0xe0 0xef a ≡ true }
+    requires second { is_second a b ≡ true }
+    requires low { 0x80 ≤ c }
+    requires high { c ≤ 0xbf }
+    ensures { result ≡ (a - 0xe0) * 4096 + (b - 0x80) * 64 + (c - 0x80) }
+{
+    match char::from_u32((a as u32 - 0xe0) * 4096 + (b as u32 - 0x80) * 64 + (c as u32 - 0x80)) {
+        Some(c) => c,
+        None => unreachable!(),
+    }
+}
+
+fn four(a: u8, b: u8, c: u8, d: u8) -> char
+    requires first { is_from 0xf0 0xf4 a ≡ true }
+    requires second { is_second a b ≡ true }
+    requires third_low { 0x80 ≤ c }
+    requires third_high { c ≤ 0xbf }
+    requires low { 0x80 ≤ d }
+    requires high { d ≤ 0xbf }
+    ensures { result ≡ (a - 0xf0) * 262144 + (b - 0x80) * 4096 + (c - 0x80) * 64 + (d - 0x80) }
+{
+    match char::from_u32(
+        (a as u32 - 0xf0) * 262144 + (b as u32 - 0x80) * 4096 + (c as u32 - 0x80) * 64 + (d as u32 - 0x80),
+    ) {
+        Some(c) => c,
+        None => unreachable!(),
+    }
+}

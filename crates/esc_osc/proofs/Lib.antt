@@ -1,0 +1,3 @@
+pub mod Codes
+pub mod Parts
+pub mod ReadsBack

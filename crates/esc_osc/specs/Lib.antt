@@ -1,0 +1,4 @@
+pub mod Codes
+pub mod Commands
+pub mod Reading
+pub mod Writable

@@ -1,0 +1,27 @@
+//! Laws of operating system commands: what is written reads back, and what clear parts mean can be written.
+ghost use Rattle.std.specs.Prelude.{◌≡◌, List, ℕ};
+ghost use Rattle.esc_below.specs.Clear.{AreTextParts, IsClearText, parts_of};
+ghost use Rattle.esc_osc.specs.Commands.{inner_text};
+ghost use Rattle.esc_osc.specs.Reading.{meaning};
+ghost use Rattle.esc_osc.specs.Writable.{IsWritable};
+ghost use Rattle.esc_osc.specs.declared.command.OperatingSystemCommand.{OperatingSystemCommand};
+
+use std::alloc::Allocator;
+
+/// What a writable command writes between `ESC ]` and the terminator is a clear text.
+#[tactic(auto, using(crate::proofs::ReadsBack::writes_clear))]
+pub fn writes_clear<A: Allocator>()
+    ensures { (c : OperatingSystemCommand A) → IsWritable c → IsClearText (inner_text c) }
+{}
+
+/// The parts of what a writable command writes mean that command.
+#[tactic(auto, using(crate::proofs::ReadsBack::reads_back))]
+pub fn reads_back<A: Allocator>()
+    ensures { (c : OperatingSystemCommand A) → IsWritable c → meaning (parts_of (inner_text c)) ≡ c }
+{}
+
+/// What clear parts mean, but not one empty part, is writable.
+#[tactic(auto, using(crate::proofs::ReadsBack::clear_is_writable))]
+pub fn clear_is_writable<A: Allocator>()
+    ensures { (ps : List (List ℕ)) → AreTextParts ps → IsWritable {A = A} (meaning {A = A} ps) }
+{}
