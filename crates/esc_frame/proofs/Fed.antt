@@ -6,7 +6,7 @@ use Rattle.esc_frame.specs.declared.classes.Class.{Class}
 use Rattle.esc_frame.specs.declared.machine.Machine.{Machine}
 use Rattle.esc_frame.specs.Classes.{class_of}
 use Rattle.esc_frame.specs.Events.{Event, StopsAt}
-use Rattle.esc_frame.specs.Leads.{Unfinished, Holds}
+use Rattle.esc_frame.specs.Leads.{Holds}
 use Rattle.esc_frame.specs.Leads.Unfinished.{Ground}
 use Rattle.esc_frame.specs.Memory.{MayGrow}
 use Rattle.esc_frame.specs.Moves.{after_by, news_by, after_all, news_all, may_grow_in, may_grow_within}

@@ -1,9 +1,9 @@
 -- The form of a body, byte by byte.
-use Rattle.std.proofs.Common.{ℕ, zero, suc, ◌≡◌, ◌+◌, Bool, true, false, cond, if◌then◌else◌, ◌&&◌, List, [], ◌∷◌, ◌++◌, refl, ap, sym, ◌∙◌, subst, drop, arith}
+use Rattle.std.proofs.Common.{ℕ, suc, ◌≡◌, ◌+◌, Bool, true, false, cond, if◌then◌else◌, ◌&&◌, List, [], ◌∷◌, ◌++◌, refl, ap, sym, ◌∙◌, drop, arith}
 use Rattle.std.specs.List.{list_all, prefix_len}
 use Rattle.esc_frame.specs.declared.body.Form.{Form}
 use Rattle.esc_frame.specs.declared.body.Form.TheVariants as form
-use Rattle.esc_frame.specs.Bodies.{is_marker, is_csi_parameter, is_intermediate_byte, behind_marker, drop_while, is_csi_body}
+use Rattle.esc_frame.specs.Bodies.{is_marker, is_csi_parameter, is_intermediate_byte, drop_while, is_csi_body}
 use Rattle.esc_frame.specs.Keeps.{next_form, form_from, is_formed}
 
 pub form_push : (f : Form) (x : List ℕ) (b : ℕ) → form_from f (x ++ b ∷ []) ≡ next_form (form_from f x) b

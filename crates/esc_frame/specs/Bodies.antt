@@ -1,6 +1,6 @@
 -- The bodies of CSI and DCS sequences, as they stand without noise: their forms, entries, parameters and
 -- intermediates (ECMA-48, section 5.4; vt100.net's parser; 3A is taken as a parameter byte of a CSI).
-use Rattle.std.specs.Prelude.{ℕ, ℤ, ◌≡◌, ◌+◌, ◌-◌, ◌*◌, ◌||◌, ◌==◌, Bool, true, false, nat_lt, min, pos, if◌then◌else◌, List, [], ◌∷◌, ◌++◌, Option, Some, None, length, take, drop, map}
+use Rattle.std.specs.Prelude.{ℕ, ℤ, ◌+◌, ◌-◌, ◌*◌, ◌||◌, ◌==◌, Bool, nat_lt, min, pos, if◌then◌else◌, List, [], ◌∷◌, ◌++◌, Option, Some, None, length, take, drop, map}
 use Rattle.std.specs.List.{list_all, prefix_len, take_while}
 use Rattle.esc_below.specs.declared.csi_param.CsiParam.{CsiParam}
 use Rattle.esc_below.specs.declared.csi_param.CsiParam.TheVariants.{Integer, P}

@@ -1,8 +1,8 @@
 -- What the events of any stream can be, and texts that are one segment.
-use Rattle.std.specs.Prelude.{ℕ, ◌≡◌, Bool, true, false, ◌||◌, ◌&&◌, List, [], ◌∷◌}
+use Rattle.std.specs.Prelude.{ℕ, ◌≡◌, true, false, ◌||◌, ◌&&◌, List, [], ◌∷◌}
 use Rattle.esc_below.specs.Clear.{is_clear, AreTextParts}
 use Rattle.esc_frame.specs.Classes.{class_of, AllOf, in_body, is_control, is_raw_control, is_intermediate, ends_escape, opens, ends_csi, is_put, is_text}
-use Rattle.esc_frame.specs.Bodies.{is_csi_body, is_dcs_header, kept_entries, has_more_entries}
+use Rattle.esc_frame.specs.Bodies.{is_csi_body, is_dcs_header}
 use Rattle.esc_frame.specs.Events.{Event}
 use Rattle.esc_frame.specs.Events.Event.{Print, Execute, EscDispatch, CsiDispatch, OscDispatch, DcsHook, DcsPut, DcsUnhook, ApcDispatch}
 use Rattle.esc_frame.specs.Segments.{Segment, HasShape, bytes_of, events_of, ends_itself, is_empty, escape_event, csi_event, hook_event}

@@ -10,3 +10,6 @@ pub mod Moves
 pub mod Stream
 pub mod Memory
 pub mod Fits
+pub mod Characters
+pub mod Scans
+pub mod TextRuns

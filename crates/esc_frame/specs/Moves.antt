@@ -1,8 +1,8 @@
 -- The byte machine: how one byte changes what is unfinished, and what it tells. Only private contracts cite it.
-use Rattle.std.specs.Prelude.{ℕ, ◌≡◌, Bool, true, false, cond, ◌&&◌, ◌||◌, if◌then◌else◌, List, [], ◌∷◌, ◌++◌, take, Result, MatchResult}
+use Rattle.std.specs.Prelude.{ℕ, ◌≡◌, Bool, true, false, ◌||◌, if◌then◌else◌, List, [], ◌∷◌, ◌++◌, take, Result, MatchResult}
 use Rattle.std.specs.List.{FoldsTo}
 use Rattle.esc_frame.specs.declared.classes.Class.{Class}
-use Rattle.esc_frame.specs.declared.classes.Class.TheVariants.{Plain, Bell, Cancel, Escape, Intermediate, Parameter, Opens, Final, Delete, RawControl, RawOpens, RawTerminator, High, Lead}
+use Rattle.esc_frame.specs.declared.classes.Class.TheVariants.{Plain, Bell, Cancel, Escape, Parameter, Opens, Final, RawControl, RawOpens, RawTerminator, High, Lead}
 use Rattle.esc_frame.specs.declared.classes.Kind.{Kind}
 use Rattle.esc_frame.specs.declared.classes.Kind.TheVariants as kind
 use Rattle.esc_frame.specs.declared.sequence.Outcome.{Outcome}
@@ -10,7 +10,7 @@ use Rattle.esc_frame.specs.declared.sequence.Outcome.TheVariants as outcomes
 use Rattle.esc_frame.specs.Sequences.{is_pair, number_of, outcome}
 use Rattle.esc_frame.specs.Classes.{class_of, strip, those, is_text, is_breaker, ends_csi, is_put}
 use Rattle.esc_frame.specs.Events.{Event, StopsAt}
-use Rattle.esc_frame.specs.Events.Event.{Print, Execute, EscDispatch, OscDispatch, DcsPut, DcsUnhook, ApcDispatch}
+use Rattle.esc_frame.specs.Events.Event.{Print, Execute, OscDispatch, DcsPut, DcsUnhook, ApcDispatch}
 use Rattle.esc_frame.specs.Bodies.{is_dcs_header}
 use Rattle.esc_frame.specs.Segments.{Opener, Piece, text_of, is_empty, escape_event, csi_events, hook_event}
 use Rattle.esc_below.specs.Clear.{parts_of}

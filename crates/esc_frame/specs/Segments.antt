@@ -1,10 +1,10 @@
 -- The segments of a stream, taken apart, and the cut of a stream into them.
-use Rattle.std.specs.Prelude.{ℕ, ◌<◌, ◌≡◌, ◌&&◌, ◌||◌, Bool, true, false, cond, nat_lt, not, ◌==◌, if◌then◌else◌, List, [], ◌∷◌, ◌++◌, length, take, map}
-use Rattle.std.specs.List.{flat_map, slice_split, list_all}
+use Rattle.std.specs.Prelude.{ℕ, ◌≡◌, ◌&&◌, ◌||◌, Bool, true, false, ◌==◌, if◌then◌else◌, List, [], ◌∷◌, ◌++◌, map}
+use Rattle.std.specs.List.{flat_map}
 use Rattle.esc_frame.specs.declared.classes.Kind.{Kind}
 use Rattle.esc_frame.specs.declared.classes.Kind.TheVariants as kind
 use Rattle.esc_frame.specs.Classes.{class_of, AllOf, those, strip, is_plain, is_raw, is_breaker, is_noise, is_control, is_raw_control, is_terminator, is_text, is_high, in_escape, ends_escape, opens, in_csi, ends_csi, in_osc, in_data, is_put, is_ignored, letter_of, raw_of}
-use Rattle.esc_frame.specs.Sequences.{is_sequence, is_front, is_pair, is_broken_before, continues, number_of}
+use Rattle.esc_frame.specs.Sequences.{is_sequence, is_front, is_pair, is_broken_before, number_of}
 use Rattle.esc_below.specs.Clear.{parts_of}
 use Rattle.esc_frame.specs.Events.{Event}
 use Rattle.esc_frame.specs.Events.Event.{Print, Execute, EscDispatch, CsiDispatch, OscDispatch, DcsHook, DcsPut, DcsUnhook, ApcDispatch}

@@ -1,9 +1,9 @@
 -- The events of a stream, and which streams lead to a parser.
-use Rattle.std.specs.Prelude.{ℕ, ◌≡◌, Bool, true, false, List, [], ◌∷◌, ◌++◌, length, drop}
+use Rattle.std.specs.Prelude.{ℕ, ◌≡◌, true, false, List, [], ◌++◌, length, drop}
 use Rattle.esc_frame.specs.declared.parser.VTParser.{VTParser}
 use Rattle.esc_frame.specs.Events.{Event}
 use Rattle.esc_frame.specs.Segments.{Segment, IsCut}
-use Rattle.esc_frame.specs.Leads.{Unfinished, AreFinished, Holds}
+use Rattle.esc_frame.specs.Leads.{AreFinished, Holds}
 use Rattle.esc_frame.specs.Leads.Unfinished.{Ground}
 use Rattle.esc_frame.specs.Moves.{after_all, news_all}
 

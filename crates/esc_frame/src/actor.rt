@@ -1,12 +1,12 @@
 //! Receivers of events.
 #![tactic(auto)]
 
-use esc_below::csi_param::CsiParam;
-use std::alloc::AllocError;
-
 ghost use Rattle.std.specs.Prelude.{◌≡◌, List, [], map, OnOk};
 ghost use Rattle.esc_frame.specs.Events.{Event, Hears};
 ghost use Rattle.esc_frame.specs.Events.Event.{Print, Execute, EscDispatch, CsiDispatch, OscDispatch, DcsHook, DcsPut, DcsUnhook, ApcDispatch};
+
+use esc_below::csi_param::CsiParam;
+use std::alloc::AllocError;
 
 /// What a parser gives the events of a stream, one call an event. The slices are lent for the call.
 ///
@@ -36,7 +36,13 @@ pub trait VTActor {
 
     /// A device control string begins: its final byte 40-7E, its parameters, and its first two intermediates, the marker
     /// first; the last says whether more came.
-    fn dcs_hook(&mut self, byte: u8, params: &[i64], intermediates: &[u8], ignored_extra_intermediates: bool) -> Result<(), AllocError>
+    fn dcs_hook(
+        &mut self,
+        byte: u8,
+        params: &[i64],
+        intermediates: &[u8],
+        ignored_extra_intermediates: bool,
+    ) -> Result<(), AllocError>
         requires { is_ready self.old }
         ensures hears { Hears takes refuses result self.old (DcsHook byte params.now intermediates.now ignored_extra_intermediates) self.new }
         ensures ready { OnOk result (is_ready self.new) };
@@ -55,14 +61,25 @@ pub trait VTActor {
 
     /// An escape sequence: no parameters ever, its first two intermediates 20-2F, whether more came, and its final byte
     /// 30-7E.
-    fn esc_dispatch(&mut self, params: &[i64], intermediates: &[u8], ignored_extra_intermediates: bool, byte: u8) -> Result<(), AllocError>
+    fn esc_dispatch(
+        &mut self,
+        params: &[i64],
+        intermediates: &[u8],
+        ignored_extra_intermediates: bool,
+        byte: u8,
+    ) -> Result<(), AllocError>
         requires ready { is_ready self.old }
         requires no_params { params.now ≡ [] }
         ensures hears { Hears takes refuses result self.old (EscDispatch intermediates.now ignored_extra_intermediates byte) self.new }
         ensures ready { OnOk result (is_ready self.new) };
 
     /// A control sequence: its first 256 entries, whether more came, and its final byte 40-7E.
-    fn csi_dispatch(&mut self, params: &[CsiParam], parameters_truncated: bool, byte: u8) -> Result<(), AllocError>
+    fn csi_dispatch(
+        &mut self,
+        params: &[CsiParam],
+        parameters_truncated: bool,
+        byte: u8,
+    ) -> Result<(), AllocError>
         requires { is_ready self.old }
         ensures hears { Hears takes refuses result self.old (CsiDispatch params.now parameters_truncated byte) self.new }
         ensures ready { OnOk result (is_ready self.new) };

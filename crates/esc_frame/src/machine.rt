@@ -20,8 +20,8 @@ use crate::body::CsiBody;
 use crate::classes::{Class, Kind};
 use crate::header;
 use crate::intermediates::Intermediates;
+use crate::parts::dispatch_osc;
 use crate::sequence::{Outcome, Pending};
-use crate::split::split_parts;
 use std::alloc::{AllocError, Allocator};
 
 /// Where the machine stands.
@@ -104,13 +104,16 @@ impl<A: Allocator> Machine<A> {
         match self.state {
             State::Ground => match self.pending {
                 Pending::Nothing => self.in_ground(b, class, actor),
-                Pending::One(_) | Pending::Two(_, _) | Pending::Three(_, _, _) => self.in_pending(b, class, actor),
+                Pending::One(_) | Pending::Two(_, _) | Pending::Three(_, _, _) => self.in_pending(
+                    b, class, actor,
+                ),
             },
             State::Escape => self.in_escape(b, class, actor),
             State::Csi => self.in_csi(b, class, actor),
             State::Osc => match self.pending {
                 Pending::Nothing => self.in_osc(b, class, actor),
-                Pending::One(_) | Pending::Two(_, _) | Pending::Three(_, _, _) => self.in_osc_pending(b, class, actor),
+                Pending::One(_) | Pending::Two(_, _) | Pending::Three(_, _, _) =>
+                    self.in_osc_pending(b, class, actor),
             },
             State::Dcs => self.in_dcs(b, class, actor),
             State::Data => self.in_data(b, class, actor),
@@ -119,8 +122,8 @@ impl<A: Allocator> Machine<A> {
         }
     }
 
-    // What opens here.
-    fn open(&mut self, kind: Kind)
+    /// What opens here.
+    pub fn open(&mut self, kind: Kind)
         ensures { (o : Opener) → Holds self.new (opened kind o) }
     {
         self.pending = Pending::Nothing;
@@ -145,9 +148,14 @@ impl<A: Allocator> Machine<A> {
         }
     }
 
-    // A byte in ground, with nothing pending.
+    /// A byte in ground, with nothing pending.
     #[tactic(auto, using(crate::proofs::Given::hears_takes))]
-    fn in_ground<V: VTActor>(&mut self, b: u8, class: Class, actor: &mut V) -> Result<(), AllocError>
+    pub fn in_ground<V: VTActor>(
+        &mut self,
+        b: u8,
+        class: Class,
+        actor: &mut V,
+    ) -> Result<(), AllocError>
         requires { V.is_ready actor.old }
         ensures holds { Holds self.new (ground_after b class) }
         ensures told { (own : Bool) → Takes own V.takes V.refuses result actor.old (ground_news b class) actor.new }
@@ -156,7 +164,8 @@ impl<A: Allocator> Machine<A> {
         self.state = State::Ground;
         self.pending = Pending::Nothing;
         match class {
-            Class::Plain | Class::Bell | Class::Cancel | Class::RawControl => actor.execute_c0_or_c1(b),
+            Class::Plain | Class::Bell | Class::Cancel | Class::RawControl =>
+                actor.execute_c0_or_c1(b),
             Class::Escape => {
                 self.intermediates = Intermediates::new();
                 self.state = State::Escape;
@@ -172,9 +181,11 @@ impl<A: Allocator> Machine<A> {
                 Ok(())
             }
             Class::High => actor.print('\u{fffd}'),
-            Class::Intermediate | Class::Parameter | Class::Opens(_) | Class::Final | Class::Delete => {
-                actor.print(b as char)
-            }
+            Class::Intermediate
+            | Class::Parameter
+            | Class::Opens(_)
+            | Class::Final
+            | Class::Delete => { actor.print(b as char) }
         }
     }
 
@@ -210,7 +221,12 @@ impl<A: Allocator> Machine<A> {
     }
 
     // A byte behind a front, in ground.
-    fn in_pending<V: VTActor>(&mut self, b: u8, class: Class, actor: &mut V) -> Result<(), AllocError>
+    fn in_pending<V: VTActor>(
+        &mut self,
+        b: u8,
+        class: Class,
+        actor: &mut V,
+    ) -> Result<(), AllocError>
         requires { V.is_ready actor.old }
         ensures holds { (f : List ℕ) → front_of self.old.pending ≡ f → OnOk result (Holds self.new (pending_after f b class (outcome f b))) }
         ensures told { (own : Bool) (f : List ℕ) → front_of self.old.pending ≡ f → Takes own V.takes V.refuses result actor.old (pending_news f b class (outcome f b)) actor.new }
@@ -228,7 +244,12 @@ impl<A: Allocator> Machine<A> {
     }
 
     // A byte that breaks off a sequence in ground.
-    fn break_off<V: VTActor>(&mut self, b: u8, class: Class, actor: &mut V) -> Result<(), AllocError>
+    fn break_off<V: VTActor>(
+        &mut self,
+        b: u8,
+        class: Class,
+        actor: &mut V,
+    ) -> Result<(), AllocError>
         requires { V.is_ready actor.old }
         ensures holds { OnOk result (Holds self.new (ground_after b class)) }
         ensures told { (own : Bool) → Takes own V.takes V.refuses result actor.old (Print 0xfffd ∷ ground_news b class) actor.new }
@@ -261,7 +282,12 @@ impl<A: Allocator> Machine<A> {
 
     // A byte behind ESC x.
     #[tactic(auto, using(crate::proofs::Given::hears_takes))]
-    fn in_escape<V: VTActor>(&mut self, b: u8, class: Class, actor: &mut V) -> Result<(), AllocError>
+    fn in_escape<V: VTActor>(
+        &mut self,
+        b: u8,
+        class: Class,
+        actor: &mut V,
+    ) -> Result<(), AllocError>
         requires { V.is_ready actor.old }
         ensures holds { (x : List ℕ) → class ≡ class_of b → Keeps self.old.intermediates (strip x) → Holds self.new (escape_after x b class) }
         ensures told { (own : Bool) (x : List ℕ) → class ≡ class_of b → Keeps self.old.intermediates (strip x) → Takes own V.takes V.refuses result actor.old (escape_news x b class) actor.new }
@@ -269,9 +295,11 @@ impl<A: Allocator> Machine<A> {
     {
         self.state = State::Escape;
         match class {
-            Class::Cancel | Class::Escape | Class::RawControl | Class::RawOpens(_) | Class::RawTerminator => {
-                self.in_ground(b, class, actor)
-            }
+            Class::Cancel
+            | Class::Escape
+            | Class::RawControl
+            | Class::RawOpens(_)
+            | Class::RawTerminator => { self.in_ground(b, class, actor) }
             Class::Plain | Class::Bell => actor.execute_c0_or_c1(b),
             Class::Delete | Class::High | Class::Lead => Ok(()),
             Class::Intermediate => {
@@ -299,12 +327,22 @@ impl<A: Allocator> Machine<A> {
     {
         self.state = State::Ground;
         self.pending = Pending::Nothing;
-        actor.esc_dispatch(&[], self.intermediates.as_slice(), self.intermediates.ignored, b)
+        actor.esc_dispatch(
+            &[],
+            self.intermediates.as_slice(),
+            self.intermediates.ignored,
+            b,
+        )
     }
 
-    // A byte behind a CSI's opener and x.
+    /// A byte behind a CSI's opener and x.
     #[tactic(auto, using(crate::proofs::Given::hears_takes))]
-    fn in_csi<V: VTActor>(&mut self, b: u8, class: Class, actor: &mut V) -> Result<(), AllocError>
+    pub fn in_csi<V: VTActor>(
+        &mut self,
+        b: u8,
+        class: Class,
+        actor: &mut V,
+    ) -> Result<(), AllocError>
         requires { V.is_ready actor.old }
         ensures holds { (o : Opener) (x : List ℕ) → class ≡ class_of b → KeepsBody self.old.body (strip x) → OnOk result (Holds self.new (csi_after o x b class)) }
         ensures told { (x : List ℕ) → class ≡ class_of b → KeepsBody self.old.body (strip x) → Takes true V.takes V.refuses result actor.old (csi_news x b class) actor.new }
@@ -312,9 +350,11 @@ impl<A: Allocator> Machine<A> {
     {
         self.state = State::Csi;
         match class {
-            Class::Cancel | Class::Escape | Class::RawControl | Class::RawOpens(_) | Class::RawTerminator => {
-                self.in_ground(b, class, actor)
-            }
+            Class::Cancel
+            | Class::Escape
+            | Class::RawControl
+            | Class::RawOpens(_)
+            | Class::RawTerminator => { self.in_ground(b, class, actor) }
             Class::Plain | Class::Bell => actor.execute_c0_or_c1(b),
             Class::Delete | Class::High | Class::Lead => Ok(()),
             Class::Intermediate | Class::Parameter => self.body.push(b),
@@ -348,9 +388,11 @@ impl<A: Allocator> Machine<A> {
     {
         self.state = State::Dcs;
         match class {
-            Class::Cancel | Class::Escape | Class::RawControl | Class::RawOpens(_) | Class::RawTerminator => {
-                self.in_ground(b, class, actor)
-            }
+            Class::Cancel
+            | Class::Escape
+            | Class::RawControl
+            | Class::RawOpens(_)
+            | Class::RawTerminator => { self.in_ground(b, class, actor) }
             Class::Plain | Class::Bell | Class::Delete | Class::High | Class::Lead => Ok(()),
             Class::Intermediate | Class::Parameter => self.text.extend_from_slice(&[b]),
             Class::Opens(_) | Class::Final => {
@@ -375,9 +417,11 @@ impl<A: Allocator> Machine<A> {
     {
         self.state = State::Data;
         match class {
-            Class::Cancel | Class::Escape | Class::RawControl | Class::RawOpens(_) | Class::RawTerminator => {
-                self.leave_data(b, class, actor)
-            }
+            Class::Cancel
+            | Class::Escape
+            | Class::RawControl
+            | Class::RawOpens(_)
+            | Class::RawTerminator => { self.leave_data(b, class, actor) }
             Class::Delete => Ok(()),
             Class::Plain
             | Class::Bell
@@ -391,7 +435,12 @@ impl<A: Allocator> Machine<A> {
     }
 
     // A breaker behind a DCS's data.
-    fn leave_data<V: VTActor>(&mut self, b: u8, class: Class, actor: &mut V) -> Result<(), AllocError>
+    fn leave_data<V: VTActor>(
+        &mut self,
+        b: u8,
+        class: Class,
+        actor: &mut V,
+    ) -> Result<(), AllocError>
         requires { V.is_ready actor.old }
         ensures holds { OnOk result (Holds self.new (ground_after b class)) }
         ensures told { Takes true V.takes V.refuses result actor.old (DcsUnhook ∷ ground_news b class) actor.new }
@@ -413,9 +462,11 @@ impl<A: Allocator> Machine<A> {
     {
         self.state = State::Skip;
         match class {
-            Class::Cancel | Class::Escape | Class::RawControl | Class::RawOpens(_) | Class::RawTerminator => {
-                self.in_ground(b, class, actor)
-            }
+            Class::Cancel
+            | Class::Escape
+            | Class::RawControl
+            | Class::RawOpens(_)
+            | Class::RawTerminator => { self.in_ground(b, class, actor) }
             Class::Delete
             | Class::Plain
             | Class::Bell
@@ -437,18 +488,27 @@ impl<A: Allocator> Machine<A> {
     {
         self.state = State::Apc;
         match class {
-            Class::Cancel | Class::Escape | Class::RawControl | Class::RawOpens(_) | Class::RawTerminator => {
-                self.leave_apc(b, class, actor)
-            }
+            Class::Cancel
+            | Class::Escape
+            | Class::RawControl
+            | Class::RawOpens(_)
+            | Class::RawTerminator => { self.leave_apc(b, class, actor) }
             Class::Plain | Class::Bell | Class::High | Class::Lead => Ok(()),
-            Class::Delete | Class::Intermediate | Class::Parameter | Class::Opens(_) | Class::Final => {
-                self.text.extend_from_slice(&[b])
-            }
+            Class::Delete
+            | Class::Intermediate
+            | Class::Parameter
+            | Class::Opens(_)
+            | Class::Final => { self.text.extend_from_slice(&[b]) }
         }
     }
 
     // A breaker behind an APC.
-    fn leave_apc<V: VTActor>(&mut self, b: u8, class: Class, actor: &mut V) -> Result<(), AllocError>
+    fn leave_apc<V: VTActor>(
+        &mut self,
+        b: u8,
+        class: Class,
+        actor: &mut V,
+    ) -> Result<(), AllocError>
         requires { V.is_ready actor.old }
         ensures holds { OnOk result (Holds self.new (ground_after b class)) }
         ensures told { Takes true V.takes V.refuses result actor.old (ApcDispatch self.old.text.items ∷ ground_news b class) actor.new }
@@ -461,7 +521,12 @@ impl<A: Allocator> Machine<A> {
     }
 
     // A breaker behind an OSC.
-    fn leave_osc<V: VTActor>(&mut self, b: u8, class: Class, actor: &mut V) -> Result<(), AllocError>
+    fn leave_osc<V: VTActor>(
+        &mut self,
+        b: u8,
+        class: Class,
+        actor: &mut V,
+    ) -> Result<(), AllocError>
         requires { V.is_ready actor.old }
         ensures holds { OnOk result (Holds self.new (ground_after b class)) }
         ensures told { Takes true V.takes V.refuses result actor.old (OscDispatch (parts_of self.old.text.items) ∷ ground_news b class) actor.new }
@@ -474,7 +539,12 @@ impl<A: Allocator> Machine<A> {
     }
 
     // A control behind C2, in an OSC.
-    fn leave_osc_by_pair<V: VTActor>(&mut self, b: u8, class: Class, actor: &mut V) -> Result<(), AllocError>
+    fn leave_osc_by_pair<V: VTActor>(
+        &mut self,
+        b: u8,
+        class: Class,
+        actor: &mut V,
+    ) -> Result<(), AllocError>
         requires { V.is_ready actor.old }
         ensures holds { OnOk result (Holds self.new (pair_after class)) }
         ensures told { Takes true V.takes V.refuses result actor.old (OscDispatch (parts_of self.old.text.items) ∷ pair_news b class) actor.new }
@@ -486,8 +556,13 @@ impl<A: Allocator> Machine<A> {
         }
     }
 
-    // A byte behind an OSC's units, with nothing pending.
-    fn in_osc<V: VTActor>(&mut self, b: u8, class: Class, actor: &mut V) -> Result<(), AllocError>
+    /// A byte behind an OSC's units, with nothing pending.
+    pub fn in_osc<V: VTActor>(
+        &mut self,
+        b: u8,
+        class: Class,
+        actor: &mut V,
+    ) -> Result<(), AllocError>
         requires { V.is_ready actor.old }
         ensures holds { (o : Opener) (ps : List Piece) → class ≡ class_of b → self.old.text.items ≡ text_of ps → OnOk result (Holds self.new (osc_after o ps b class)) }
         ensures told { (ps : List Piece) → class ≡ class_of b → self.old.text.items ≡ text_of ps → Takes true V.takes V.refuses result actor.old (osc_news ps b class) actor.new }
@@ -496,9 +571,11 @@ impl<A: Allocator> Machine<A> {
         self.state = State::Osc;
         self.pending = Pending::Nothing;
         match class {
-            Class::Cancel | Class::Escape | Class::RawControl | Class::RawOpens(_) | Class::RawTerminator => {
-                self.leave_osc(b, class, actor)
-            }
+            Class::Cancel
+            | Class::Escape
+            | Class::RawControl
+            | Class::RawOpens(_)
+            | Class::RawTerminator => { self.leave_osc(b, class, actor) }
             Class::Bell => {
                 self.state = State::Ground;
                 dispatch_osc(&self.text, actor)
@@ -508,14 +585,21 @@ impl<A: Allocator> Machine<A> {
                 self.pending = Pending::One(b);
                 Ok(())
             }
-            Class::Intermediate | Class::Parameter | Class::Opens(_) | Class::Final | Class::Delete => {
-                self.text.extend_from_slice(&[b])
-            }
+            Class::Intermediate
+            | Class::Parameter
+            | Class::Opens(_)
+            | Class::Final
+            | Class::Delete => { self.text.extend_from_slice(&[b]) }
         }
     }
 
     // A byte behind a front, in an OSC.
-    fn in_osc_pending<V: VTActor>(&mut self, b: u8, class: Class, actor: &mut V) -> Result<(), AllocError>
+    fn in_osc_pending<V: VTActor>(
+        &mut self,
+        b: u8,
+        class: Class,
+        actor: &mut V,
+    ) -> Result<(), AllocError>
         requires { V.is_ready actor.old }
         ensures holds { (o : Opener) (ps : List Piece) (f : List ℕ) → class ≡ class_of b → self.old.text.items ≡ text_of ps → front_of self.old.pending ≡ f → OnOk result (Holds self.new (osc_pending_after o ps f b class (outcome f b))) }
         ensures told { (ps : List Piece) (f : List ℕ) → class ≡ class_of b → self.old.text.items ≡ text_of ps → front_of self.old.pending ≡ f → Takes true V.takes V.refuses result actor.old (osc_pending_news ps f b class (outcome f b)) actor.new }
@@ -536,7 +620,12 @@ impl<A: Allocator> Machine<A> {
     }
 
     // A byte that completes a sequence in an OSC.
-    fn whole_in_osc<V: VTActor>(&mut self, b: u8, class: Class, actor: &mut V) -> Result<(), AllocError>
+    fn whole_in_osc<V: VTActor>(
+        &mut self,
+        b: u8,
+        class: Class,
+        actor: &mut V,
+    ) -> Result<(), AllocError>
         requires { V.is_ready actor.old }
         ensures holds { (o : Opener) (ps : List Piece) → self.old.text.items ≡ text_of ps → OnOk result (Holds self.new (osc_pending_after o ps (front_of self.old.pending) b class Outcome.Whole)) }
         ensures told { (ps : List Piece) → self.old.text.items ≡ text_of ps → Takes true V.takes V.refuses result actor.old (osc_pending_news ps (front_of self.old.pending) b class Outcome.Whole) actor.new }
@@ -555,7 +644,10 @@ impl<A: Allocator> Machine<A> {
 
 // The text of an APC, told.
 #[tactic(auto, using(crate::proofs::Given::hears_takes))]
-fn dispatch_apc<A: Allocator, V: VTActor>(text: &Vec<u8, A>, actor: &mut V) -> Result<(), AllocError>
+fn dispatch_apc<A: Allocator, V: VTActor>(
+    text: &Vec<u8, A>,
+    actor: &mut V,
+) -> Result<(), AllocError>
     requires { V.is_ready actor.old }
     ensures told { Takes true V.takes V.refuses result actor.old (ApcDispatch text.now.items ∷ []) actor.new }
     ensures ready { OnOk result (V.is_ready actor.new) }
@@ -565,7 +657,11 @@ fn dispatch_apc<A: Allocator, V: VTActor>(text: &Vec<u8, A>, actor: &mut V) -> R
 
 // A control sequence whose body has its form, told.
 #[tactic(auto, using(crate::proofs::Given::hears_takes))]
-fn tell_csi<A: Allocator, V: VTActor>(body: &mut CsiBody<A>, b: u8, actor: &mut V) -> Result<(), AllocError>
+fn tell_csi<A: Allocator, V: VTActor>(
+    body: &mut CsiBody<A>,
+    b: u8,
+    actor: &mut V,
+) -> Result<(), AllocError>
     requires { V.is_ready actor.old }
     ensures told { (x : List ℕ) → KeepsBody body.old x → Takes true V.takes V.refuses result actor.old (csi_event x b ∷ []) actor.new }
     ensures ready { OnOk result (V.is_ready actor.new) }
@@ -588,19 +684,6 @@ fn hook<A: Allocator, V: VTActor>(text: &Vec<u8, A>, b: u8, actor: &mut V) -> Re
             let kept = header::intermediates_of(text);
             actor.dcs_hook(b, &params, kept.as_slice(), kept.ignored)
         }
-        Err(e) => Err(e),
-    }
-}
-
-// The parts of the text, told.
-#[tactic(auto, using(crate::proofs::Given::hears_takes))]
-fn dispatch_osc<A: Allocator, V: VTActor>(text: &Vec<u8, A>, actor: &mut V) -> Result<(), AllocError>
-    requires { V.is_ready actor.old }
-    ensures told { Takes true V.takes V.refuses result actor.old (OscDispatch (parts_of text.now.items) ∷ []) actor.new }
-    ensures ready { OnOk result (V.is_ready actor.new) }
-{
-    match split_parts(text.allocator(), text) {
-        Ok(parts) => actor.osc_dispatch(&parts),
         Err(e) => Err(e),
     }
 }

@@ -11,7 +11,6 @@ use crate::actor::VTActor;
 use crate::classes::classify;
 use crate::error::ParseError;
 use crate::machine::Machine;
-use crate::runs::take_all;
 use std::alloc::{Allocator, Global};
 
 /// Splits a stream of bytes, which comes in any pieces, into the events of its segments, and gives them to an actor: the
@@ -92,7 +91,7 @@ impl<A: Allocator> VTParser<A> {
         if self.has_failed {
             return Err(ParseError::Failed);
         }
-        match take_all(&mut self.machine, bytes, actor) {
+        match self.machine.take_all(bytes, actor) {
             Ok(()) => Ok(()),
             Err(_) => {
                 self.has_failed = true;

@@ -1,11 +1,12 @@
 //! Sequences of UTF-8 that have begun.
 #![tactic(auto)]
 
-use std::alloc::{AllocError, Allocator};
-
-ghost use Rattle.std.specs.Prelude.{◌≡◌, ◌++◌, List, [], ◌∷◌, ◌-◌, ◌*◌, ◌+◌, ◌≤◌, if◌then◌else◌, true, OnOk, OnErr};
+ghost use Rattle.std.specs.Prelude.{◌≡◌, ◌++◌, List, [], ◌∷◌, ◌-◌, ◌*◌, ◌+◌, ◌≤◌, if◌then◌else◌, true, OnOk, OnErr, ◌<◌, false, length};
 ghost use Rattle.esc_frame.specs.Sequences.{is_from, is_tail, is_second, is_sequence, is_front, is_pair, outcome, number_of};
+ghost use Rattle.esc_frame.specs.Characters.{IsAhead, IsCharacter};
 ghost use Rattle.esc_frame.specs.Fronts.{front_of};
+
+use std::alloc::{AllocError, Allocator};
 
 /// The bytes of a sequence that has begun.
 #[derive(Clone, Copy, PartialEq, Eq)]
@@ -31,6 +32,7 @@ pub fn lies_from(low: u8, high: u8, a: u8) -> bool
     low <= a && a <= high
 }
 
+#[inline(always)]
 fn is_second_byte(a: u8, b: u8) -> bool
     ensures { result ≡ is_second a b }
 {
@@ -136,6 +138,7 @@ impl Pending {
     }
 }
 
+#[inline(always)]
 fn two(a: u8, b: u8) -> char
     requires first { 0xc2 ≤ a }
     requires last { a ≤ 0xdf }
@@ -149,6 +152,7 @@ fn two(a: u8, b: u8) -> char
     }
 }
 
+#[inline(always)]
 fn three(a: u8, b: u8, c: u8) -> char
     requires first { is_from 0xe0 0xef a ≡ true }
     requires second { is_second a b ≡ true }
@@ -162,6 +166,7 @@ fn three(a: u8, b: u8, c: u8) -> char
     }
 }
 
+#[inline(always)]
 fn four(a: u8, b: u8, c: u8, d: u8) -> char
     requires first { is_from 0xf0 0xf4 a ≡ true }
     requires second { is_second a b ≡ true }
@@ -172,9 +177,68 @@ fn four(a: u8, b: u8, c: u8, d: u8) -> char
     ensures { result ≡ (a - 0xf0) * 262144 + (b - 0x80) * 4096 + (c - 0x80) * 64 + (d - 0x80) }
 {
     match char::from_u32(
-        (a as u32 - 0xf0) * 262144 + (b as u32 - 0x80) * 4096 + (c as u32 - 0x80) * 64 + (d as u32 - 0x80),
+        (a as u32 - 0xf0) * 262144
+            + (b as u32 - 0x80) * 4096
+            + (c as u32 - 0x80) * 64
+            + (d as u32 - 0x80),
     ) {
         Some(c) => c,
         None => unreachable!(),
+    }
+}
+
+/// The character of the whole sequence, no control, that stands at the front, and its length; length 0 where none does.
+#[inline(always)]
+pub fn ahead(rest: &[u8]) -> (usize, char)
+    ensures { IsAhead rest.now result.0 result.1 }
+{
+    if rest.len() < 4 {
+        (0, '\u{fffd}')
+    } else if rest[0] < 0xe0 {
+        of_two(rest[0], rest[1])
+    } else if rest[0] < 0xf0 {
+        of_three(rest[0], rest[1], rest[2])
+    } else {
+        of_four(rest[0], rest[1], rest[2], rest[3])
+    }
+}
+
+#[tactic(auto, unfolding(crate::specs::Sequences::is_sequence, crate::specs::Sequences::is_pair, crate::specs::Sequences::number_of))]
+#[inline(always)]
+fn of_two(a: u8, b: u8) -> (usize, char)
+    ensures { 0 < result.0 → (result.0 ≡ 2) × IsCharacter (a ∷ b ∷ []) result.1 }
+{
+    if lies_from(0xc2, 0xdf, a) && lies_from(0x80, 0xbf, b) && (a != 0xc2 || 0xa0 <= b) {
+        (2, two(a, b))
+    } else {
+        (0, '\u{fffd}')
+    }
+}
+
+#[tactic(auto, unfolding(crate::specs::Sequences::is_sequence, crate::specs::Sequences::is_pair, crate::specs::Sequences::number_of))]
+#[inline(always)]
+fn of_three(a: u8, b: u8, c: u8) -> (usize, char)
+    ensures { 0 < result.0 → (result.0 ≡ 3) × IsCharacter (a ∷ b ∷ c ∷ []) result.1 }
+{
+    if lies_from(0xe0, 0xef, a) && is_second_byte(a, b) && lies_from(0x80, 0xbf, c) {
+        (3, three(a, b, c))
+    } else {
+        (0, '\u{fffd}')
+    }
+}
+
+#[tactic(auto, unfolding(crate::specs::Sequences::is_sequence, crate::specs::Sequences::is_pair, crate::specs::Sequences::number_of))]
+#[inline(always)]
+fn of_four(a: u8, b: u8, c: u8, d: u8) -> (usize, char)
+    ensures { 0 < result.0 → (result.0 ≡ 4) × IsCharacter (a ∷ b ∷ c ∷ d ∷ []) result.1 }
+{
+    if lies_from(0xf0, 0xf4, a)
+        && is_second_byte(a, b)
+        && lies_from(0x80, 0xbf, c)
+        && lies_from(0x80, 0xbf, d)
+    {
+        (4, four(a, b, c, d))
+    } else {
+        (0, '\u{fffd}')
     }
 }

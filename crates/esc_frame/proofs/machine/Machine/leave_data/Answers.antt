@@ -1,7 +1,7 @@
 use Rattle.std.proofs.Common.{◌≡◌, true, [], ◌∷◌, refl, inr}
 use Rattle.esc_frame.specs.Events.Event.{DcsUnhook}
 use Rattle.esc_frame.specs.Moves.{ground_news}
-use Rattle.esc_frame.proofs.Given.{takes_then, stops_more, hears_takes}
+use Rattle.esc_frame.proofs.Given.{takes_then, stops_more}
 use Rattle.esc_frame.proofs.machine.Machine.leave_data.Goals as goal
 
 pub returns-in-Ok-clause-told : goal.returns-in-Ok-clause-told

@@ -10,7 +10,7 @@ unfolding LeadsTo
 returns-in-Ok-clause-given g c = λ s (f, h).
     let bs = c.args.bytes.now in
     let u = after_all Ground s in
-    ((f, kept_all c.take_all.new.machine s bs (c.in-Ok.ensures.holds u h)), given_all g.V.VTActor.takes s bs c.args.actor.now c.take_all.new.actor (c.in-Ok.ensures.told u h))
+    ((f, kept_all c.take_all.new.self s bs (c.in-Ok.ensures.holds u h)), given_all g.V.VTActor.takes s bs c.args.actor.now c.take_all.new.actor (c.in-Ok.ensures.told u h))
 
 pub returns-in-Err-clause-refused : goal.returns-in-Err-clause-refused
 unfolding LeadsTo

@@ -1,0 +1,27 @@
+use Rattle.std.proofs.Common.{take, refl, sym, subst, arith}
+use Rattle.esc_frame.specs.Leads.{Holds}
+use Rattle.esc_frame.specs.Moves.{after_all}
+use Rattle.esc_frame.proofs.ManyBytes.{ran_more, ran_ends, tail_length}
+use Rattle.esc_frame.proofs.machine.Machine.take_all.Goals as goal
+
+pub loop-at-preserved : goal.loop-at-preserved
+loop-at-preserved g c =
+    let i = c.loop-at.at in
+    let bs = c.args.bytes.now in
+    let l = tail_length bs i in (
+      omega (arith, c.in-Ok.ensures.count),
+      c.in-Ok.ensures.ready,
+      λ u h.
+          let p = c.loop-at.invariant.2 u h in
+          let v = after_all u (take i bs) in
+          let r = ran_more g.V.VTActor.takes g.V.VTActor.refuses u v bs i c.args.actor.now _ _ refl p.1 _ c.in-Ok.n (refl, c.in-Ok.ensures.told v p.0) in
+          (subst (λ w. Holds c.take.new.self w) (sym r.0) (c.in-Ok.ensures.holds v p.0), r.1),
+    )
+
+pub returns-in-Err-clause-told : goal.returns-in-Err-clause-told
+returns-in-Err-clause-told g c = λ u h.
+    let i = c.loop-at.at in
+    let bs = c.args.bytes.now in
+    let p = c.loop-at.invariant.2 u h in
+    let v = after_all u (take i bs) in
+    ran_ends g.V.VTActor.takes g.V.VTActor.refuses u v bs i c.args.actor.now _ _ refl p.1 (c.in-Err.ensures.told v p.0)

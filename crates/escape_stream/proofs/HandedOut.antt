@@ -1,0 +1,138 @@
+-- What may be handed out.
+use Rattle.std.proofs.Common.{◌≡◌, ◌≢◌, ◌<◌, ◌≤◌, ◌==◌, nat_lt, inl, inr, Option, Some, None, ℕ, Bool, true, false, not, ◌&&◌, ◌||◌, List, [], ◌∷◌, ◌++◌, refl, ap, sym, ◌∙◌, subst, arith}
+use Rattle.std.proofs.lemmas.Bool.{cases_lt, eqb-true}
+use Rattle.std.proofs.lemmas.Bool.Decides.{nat_tests}
+use Rattle.std.proofs.lemmas.Str.{encode_ascii}
+use Rattle.esc_below.specs.declared.esc.Esc.TheVariants as esc_variant
+use Rattle.esc_below.specs.Escs.{esc_of, esc_text}
+use Rattle.esc_frame.specs.Classes.{class_of, AllOf, is_control, is_raw_control, is_intermediate, ends_escape, opens}
+use Rattle.esc_frame.specs.Events.{Event}
+use Rattle.esc_frame.specs.Events.Event.{Print, Execute, EscDispatch, CsiDispatch, OscDispatch, DcsHook, DcsPut, DcsUnhook, ApcDispatch}
+use Rattle.esc_frame.specs.Fits.{IsFit, AreFit}
+use Rattle.esc_frame.specs.Segments.Segment.{Escape as EscapeOf}
+use Rattle.esc_frame.specs.Stream.{events}
+use Rattle.esc_frame.specs.declared.classes.Class.TheVariants.{Intermediate}
+use Rattle.esc_osc.proofs.ReadsBack.{clear_is_writable}
+use Rattle.escape_stream.proofs.Controls.{code_number-code_of}
+use Rattle.esc_frame.proofs.Fitting.{events_fit}
+use Rattle.escape_stream.proofs.Lists.{and_parts}
+use Rattle.escape_stream.proofs.Yields.{meaning_more}
+use Rattle.escape_stream.specs.ControlCodes.{code_of}
+use Rattle.escape_stream.specs.Meaning.{meaning, values_from, yield}
+use Rattle.escape_stream.specs.Values.{Mode, Value, esc, after, executed, given, lone, plain}
+use Rattle.escape_stream.specs.Writable.{IsWritable, AreHandedOut, is_lone_control, is_opening}
+use Rattle.escape_stream.specs.declared.control_code.ControlCode.{ControlCode}
+
+hands_append : {A : Type 0} (vs ws : List (Value A)) → AreHandedOut vs → AreHandedOut ws → AreHandedOut (vs ++ ws)
+hands_append [] ws h k = k
+hands_append (v ∷ vs) ws h k = (h.0, hands_append vs ws h.1 k)
+
+hands_behind : {A : Type 0} (vs ws : List (Value A)) → AreHandedOut (vs ++ ws) → AreHandedOut ws
+hands_behind [] ws h = h
+hands_behind (v ∷ vs) ws h = hands_behind vs ws h.1
+
+-- controls
+low_code : (b : ℕ) → b < 128 → (is_control (class_of b) || is_raw_control (class_of b)) ≡ true → (nat_lt b 0x20 && not (b == 0x1b)) ≡ true
+unfolding class_of
+low_code b l h = grind (arith, nat_tests)
+
+high_small : (b : ℕ) → 128 ≤ b → (is_control (class_of b) || is_raw_control (class_of b)) ≡ true → (b ≤ 0x9f) × (b ≢ 0x90) × (b ≢ 0x98)
+unfolding class_of
+high_small b l h = (grind (arith, nat_tests), λ e. grind (arith, nat_tests), λ e. grind (arith, nat_tests))
+
+high_opens : (b : ℕ) → 128 ≤ b → (is_control (class_of b) || is_raw_control (class_of b)) ≡ true → (b ≢ 0x9b) × (b ≢ 0x9c) × (b ≢ 0x9d) × (b ≢ 0x9e) × (b ≢ 0x9f)
+unfolding class_of
+high_opens b l h = (λ e. grind (arith, nat_tests), λ e. grind (arith, nat_tests), λ e. grind (arith, nat_tests), λ e. grind (arith, nat_tests), λ e. grind (arith, nat_tests))
+
+no_code : (code_of 0x80 ≡ None) × (code_of 0x81 ≡ None) × (code_of 0x99 ≡ None)
+unfolding code_of
+no_code = (refl, refl, refl)
+
+not_coded : (b n : ℕ) (c : ControlCode) → code_of b ≡ Some c → code_of n ≡ None → b ≢ n
+not_coded b n c h k e = let f = ap code_of e in cc
+
+other_code : (b : ℕ) → 128 ≤ b → b ≤ 0x9f → b ≢ 0x80 → b ≢ 0x81 → b ≢ 0x90 → b ≢ 0x98 → b ≢ 0x99 → b ≢ 0x9b → b ≢ 0x9c → b ≢ 0x9d → b ≢ 0x9e → b ≢ 0x9f → is_lone_control b ≡ true
+other_code b l h h0 h1 h2 h3 h4 h5 h6 h7 h8 h9 = grind (arith, nat_tests)
+
+executed_lone : (b : ℕ) (c : ControlCode) → (is_control (class_of b) || is_raw_control (class_of b)) ≡ true → code_of b ≡ Some c → is_lone_control b ≡ true
+executed_lone b c h k = elim (cases_lt b 128) [
+  | inl l ↦ rw (low_code b l h) refl
+  | inr l ↦
+      let p = high_small b l h in
+      let q = high_opens b l h in
+      let n = no_code in
+      other_code b l p.0 (not_coded b 0x80 c k n.0) (not_coded b 0x81 c k n.1) p.1 p.2 (not_coded b 0x99 c k n.2) q.0 q.1 q.2 q.3 q.4
+]
+
+control_handed : (A : Type 0) (b : ℕ) (o : Option ControlCode) → code_of b ≡ o → IsFit (Execute b) → AreHandedOut {A = A} (executed o)
+control_handed A b None e h = tt
+control_handed A b (Some c) e h =
+    let P : ℕ → Type 0 = λ n. is_lone_control n ≡ true in (subst P (sym (code_number-code_of b c e)) (executed_lone b c h e), tt)
+
+-- escape sequences
+intermediate_is : (i : ℕ) → is_intermediate (class_of i) ≡ true → (class_of i ≡ Intermediate) × (i < 128)
+unfolding class_of
+intermediate_is i h = (grind (arith, nat_tests), grind (arith, nat_tests))
+
+final_small : (f : ℕ) → ends_escape (class_of f) ≡ true → f < 128
+unfolding class_of
+final_small f h = grind (arith, nat_tests)
+
+with_one : {A : Type 0} (i f : ℕ) → class_of i ≡ Intermediate → ends_escape (class_of f) ≡ true → i < 128 → f < 128 → IsWritable {A = A} (esc (esc_variant.Unspecified (Some i) f))
+with_one i f b h small low = (
+  EscDispatch (i ∷ []) false f ∷ [],
+  (EscapeOf (i ∷ []) f, rw (encode_ascii i small, encode_ascii f low) refl, refl, (rw b refl, h, rw b refl), rw b refl),
+  refl,
+)
+
+none_text : (f : ℕ) (t u v : Bool) → (f == 0x5c) ≡ t → (f == 0x48) ≡ u → (f == 0x6b) ≡ v → f < 128 → 0x1b ∷ f ∷ [] ≡ esc_text (esc_of None f)
+none_text f true u v e k j low = rw e (ap (λ x. 0x1b ∷ x ∷ []) (eqb-true f 0x5c e))
+none_text f false true v e k j low = rw (e, k) (ap (λ x. 0x1b ∷ x ∷ []) (eqb-true f 0x48 k))
+none_text f false false true e k j low = rw (e, k, j) (ap (λ x. 0x1b ∷ x ∷ []) (eqb-true f 0x6b j))
+none_text f false false false e k j low = rw (e, k, j, encode_ascii f low) refl
+
+named_opens : (opens (class_of 0x5c) ≡ false) × (opens (class_of 0x48) ≡ false) × (opens (class_of 0x6b) ≡ false)
+unfolding class_of
+named_opens = (refl, refl, refl)
+
+none_opens : (f : ℕ) (t u v : Bool) → (f == 0x5c) ≡ t → (f == 0x48) ≡ u → (f == 0x6b) ≡ v → is_opening (esc_of None f) ≡ false → opens (class_of f) ≡ false
+none_opens f true u v e k j h = rw (eqb-true f 0x5c e) named_opens.0
+none_opens f false true v e k j h = rw (eqb-true f 0x48 k) named_opens.1
+none_opens f false false true e k j h = rw (eqb-true f 0x6b j) named_opens.2
+none_opens f false false false e k j h = let w : is_opening (esc_of None f) ≡ opens (class_of f) = rw (e, k, j) refl in sym w ∙ h
+
+pub with_none : {A : Type 0} (f : ℕ) → ends_escape (class_of f) ≡ true → is_opening (esc_of None f) ≡ false → IsWritable {A = A} (esc (esc_of None f))
+with_none f h o = (
+  EscDispatch [] false f ∷ [],
+  (EscapeOf [] f, none_text f (f == 0x5c) (f == 0x48) (f == 0x6b) refl refl refl (final_small f h), refl, (refl, h, none_opens f (f == 0x5c) (f == 0x48) (f == 0x6b) refl refl refl o), refl),
+  refl,
+)
+
+esc_handed : {A : Type 0} (is : List ℕ) (f : ℕ) → AllOf is_intermediate is → ends_escape (class_of f) ≡ true → is_opening (esc_of (lone is) f) ≡ false → IsWritable {A = A} (esc (esc_of (lone is) f))
+esc_handed [] f all h o = with_none f h o
+esc_handed (i ∷ []) f all h o = let q = intermediate_is i (and_parts (is_intermediate (class_of i)) true all).0 in with_one i f q.0 h q.1 (final_small f h)
+esc_handed (i ∷ j ∷ is) f all h o = with_none f h o
+
+event_handed : (A : Type 0) (m : Mode) (e : Event) → IsFit e → AreHandedOut {A = A} (given m e)
+event_handed A m (Print c) h = (h, tt)
+event_handed A m (Execute b) h = control_handed A b (code_of b) refl h
+event_handed A m (EscDispatch is more f) h = (esc_handed is f h.0 h.1, tt)
+event_handed A m (CsiDispatch es more f) h = tt
+event_handed A m (OscDispatch ps) h = (clear_is_writable A ps h, tt)
+event_handed A m (DcsHook f ns is more) h = tt
+event_handed A m (DcsPut b) h = tt
+event_handed A m DcsUnhook h = tt
+event_handed A m (ApcDispatch t) h = tt
+
+events_handed : (A : Type 0) (m : Mode) (es : List Event) → AreFit es → AreHandedOut {A = A} (values_from m es)
+events_handed A m [] h = tt
+events_handed A m (e ∷ es) h = hands_append (given {A = A} m e) (values_from (after m e) es) (event_handed A m e h.0) (events_handed A (after m e) es h.1)
+
+pub handed_out : (A : Type 0) (s : List ℕ) → AreHandedOut {A = A} (meaning s)
+unfolding meaning
+handed_out A s = events_handed A plain (events s) (events_fit s)
+
+pub yield_handed : (A : Type 0) (s b : List ℕ) → AreHandedOut {A = A} (yield s b)
+yield_handed A s b =
+    let P : List (Value A) → Type 0 = λ x. AreHandedOut x in
+    hands_behind (meaning s) (yield s b) (subst P (sym (meaning_more s b)) (handed_out A (s ++ b)))

@@ -1,0 +1,26 @@
+//! Reads a stream of terminal escape sequences from standard input, and writes it in normal form to standard output.
+#![tactic(auto)]
+
+mod run;
+
+use run::run;
+use std::process::ExitCode;
+use std::{env, io};
+
+fn main(rt: HostRuntime) -> ExitCode {
+    let Ok(words) = arguments(&rt) else {
+        let _ = eprintln!(rt; "escnorm: read fault");
+        return ExitCode::from(1);
+    };
+    let status = run(rt.alloc(), &words, rt.stdin(), rt.stdout(), rt.stderr());
+    ExitCode::from(status)
+}
+
+// The words behind the program's name.
+fn arguments(rt: &HostRuntime) -> io::Result<Vec<String>> {
+    let mut words = Vec::new(rt.alloc());
+    for word in env::args(rt)?.skip(1) {
+        words.push(word)?;
+    }
+    Ok(words)
+}
