@@ -64,7 +64,7 @@ body_strip x ys h = filter-append (λ b. not (is_noise (class_of b))) x ys ∙ a
 
 -- ---- ESC [ and ESC ]
 
-escape_class : class_of 0x1b ≡ Escape
+pub escape_class : class_of 0x1b ≡ Escape
 unfolding class_of
 escape_class = refl
 

@@ -22,6 +22,7 @@ pub mod SaysStrings
 pub mod Scan
 pub mod Splits
 pub mod Step
+pub mod Still
 pub mod Streams
 pub mod StringRuns
 pub mod Units

@@ -166,7 +166,7 @@ text_run_news (x ∷ xs) h = let k = both (is_text_byte x) (list_all is_text_byt
 
 -- ---- a whole sequence in ground
 
-lead_class : (b : ℕ) → is_from 0xc2 0xf4 b ≡ true → class_of b ≡ Lead
+pub lead_class : (b : ℕ) → is_from 0xc2 0xf4 b ≡ true → class_of b ≡ Lead
 unfolding class_of
 lead_class b h = grind (arith, nat_tests)
 
@@ -194,12 +194,12 @@ both4 false r s t h = absurd cc
 none : {X : Type 0} → false ≡ true → X
 none h = absurd cc
 
-two_parts : (a b : ℕ) → is_sequence (a ∷ b ∷ []) ≡ true → is_from 0xc2 0xf4 a ≡ true
+pub two_parts : (a b : ℕ) → is_sequence (a ∷ b ∷ []) ≡ true → is_from 0xc2 0xf4 a ≡ true
 unfolding is_sequence
 two_parts a b h = let k = both (is_from 0xc2 0xdf a) (is_tail b) h in lower a 0xc2 0xdf k.0 (omega arith) (omega arith)
 
 -- three bytes: the first two are a front
-three_parts : (a b c : ℕ) → is_sequence (a ∷ b ∷ c ∷ []) ≡ true → (is_from 0xc2 0xf4 a ≡ true) × (is_sequence (a ∷ b ∷ []) ≡ false) × (is_front (a ∷ b ∷ []) ≡ true)
+pub three_parts : (a b c : ℕ) → is_sequence (a ∷ b ∷ c ∷ []) ≡ true → (is_from 0xc2 0xf4 a ≡ true) × (is_sequence (a ∷ b ∷ []) ≡ false) × (is_front (a ∷ b ∷ []) ≡ true)
 unfolding is_sequence is_front
 three_parts a b c h =
     let k = both3 (is_from 0xe0 0xef a) (is_second a b) (is_tail c) h in
@@ -207,7 +207,7 @@ three_parts a b c h =
     let on : is_from 0xe0 0xf4 a ≡ true = wider a 0xe0 0xef k.0 (omega arith) (omega arith) in
     (lower a 0xe0 0xef k.0 (omega arith) (omega arith), rw no refl, rw (on, k.1) refl)
 
-four_parts : (a b c d : ℕ) → is_sequence (a ∷ b ∷ c ∷ d ∷ []) ≡ true
+pub four_parts : (a b c d : ℕ) → is_sequence (a ∷ b ∷ c ∷ d ∷ []) ≡ true
     → (is_from 0xc2 0xf4 a ≡ true) × (is_sequence (a ∷ b ∷ []) ≡ false) × (is_front (a ∷ b ∷ []) ≡ true) × (is_sequence (a ∷ b ∷ c ∷ []) ≡ false) × (is_front (a ∷ b ∷ c ∷ []) ≡ true)
 unfolding is_sequence is_front
 four_parts a b c d h =
@@ -307,6 +307,20 @@ module _ {S : Type 0} (takes refuses : S → Event → S → Type 0) (rest : Lis
 
   pub character_stops : (own : Type 0) (c : ℕ) → IsCharacter (take n rest) c → refuses old (Print c) new → StopsAt own takes refuses old (news_all Ground rest) new
   character_stops own c k r = stop_within own takes refuses Ground rest n old new (subst (λ es. StopsAt own takes refuses old es new) (sym (character_news (take n rest) c k)) (refused_stops own takes refuses old new (Print c) r))
+
+-- one byte of text
+module _ {S : Type 0} (takes refuses : S → Event → S → Type 0) (old new : S) where
+  one_text : (rest : List ℕ) → 0 < length rest → is_text_byte (get_or rest 0 0) ≡ true → (after_all Ground (take 1 rest) ≡ Ground) × (news_all Ground (take 1 rest) ≡ Print (get_or rest 0 0) ∷ [])
+  one_text [] l h = absurd (omega arith)
+  one_text (x ∷ rest) l h = let p : list_all is_text_byte (x ∷ []) ≡ true = rw h refl in (text_run_after (x ∷ []) p, text_run_news (x ∷ []) p)
+
+  pub narrow_given : (rest : List ℕ) → 0 < length rest → is_text_byte (get_or rest 0 0) ≡ true → takes old (Print (get_or rest 0 0)) new → (after_all Ground (take 1 rest) ≡ Ground) × FoldsTo takes old (news_all Ground (take 1 rest)) new
+  narrow_given rest l h g = let t = one_text rest l h in (t.0, subst (λ es. FoldsTo takes old es new) (sym t.1) (new, g, refl))
+
+  pub narrow_stops : (own : Type 0) (rest : List ℕ) → 0 < length rest → is_text_byte (get_or rest 0 0) ≡ true → refuses old (Print (get_or rest 0 0)) new → StopsAt own takes refuses old (news_all Ground rest) new
+  narrow_stops own rest l h r =
+      let t = one_text rest l h in
+      stop_within own takes refuses Ground rest 1 old new (subst (λ es. StopsAt own takes refuses old es new) (sym t.1) (refused_stops own takes refuses old new (Print (get_or rest 0 0)) r))
 
 -- ---- a run, and the byte behind it
 

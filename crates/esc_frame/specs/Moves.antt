@@ -1,5 +1,5 @@
 -- The byte machine: how one byte changes what is unfinished, and what it tells. Only private contracts cite it.
-use Rattle.std.specs.Prelude.{ℕ, ◌≡◌, Bool, true, false, ◌||◌, if◌then◌else◌, List, [], ◌∷◌, ◌++◌, take, Result, MatchResult}
+use Rattle.std.specs.Prelude.{ℕ, ◌≡◌, ◌<◌, Bool, true, false, ◌||◌, if◌then◌else◌, List, [], ◌∷◌, ◌++◌, take, Result, MatchResult}
 use Rattle.std.specs.List.{FoldsTo}
 use Rattle.esc_frame.specs.declared.classes.Class.{Class}
 use Rattle.esc_frame.specs.declared.classes.Class.TheVariants.{Plain, Bell, Cancel, Escape, Parameter, Opens, Final, RawControl, RawOpens, RawTerminator, High, Lead}
@@ -214,3 +214,14 @@ Given takes refuses result u rest old new =
     MatchResult result
     (λ n. FoldsTo takes old (news_all u (take n rest)) new)
     (λ _. StopsAt (may_grow_within u rest ≡ true) takes refuses old (news_all u rest) new)
+
+-- ---- fronts that stop at the first event
+
+abbrev pub is_ground : Unfinished → Bool
+is_ground Ground = true
+is_ground _ = false
+
+-- Of the first n bytes of the rest, where u was unfinished before, all but the last tell nothing and leave something
+-- unfinished.
+abbrev pub IsStill : Unfinished → List ℕ → ℕ → Type 0
+IsStill u rest n = (k : ℕ) → 0 < k → k < n → (news_all u (take k rest) ≡ []) × (is_ground (after_all u (take k rest)) ≡ false)

@@ -1,5 +1,5 @@
 -- The events of a stream, and which streams lead to a parser.
-use Rattle.std.specs.Prelude.{ℕ, ◌≡◌, true, false, List, [], ◌++◌, length, drop}
+use Rattle.std.specs.Prelude.{ℕ, ◌≡◌, ◌<◌, true, false, List, [], ◌++◌, length, take, drop}
 use Rattle.esc_frame.specs.declared.parser.VTParser.{VTParser}
 use Rattle.esc_frame.specs.Events.{Event}
 use Rattle.esc_frame.specs.Segments.{Segment, IsCut}
@@ -31,3 +31,7 @@ Says t es = (rest : List ℕ) → events (t ++ rest) ≡ es ++ events rest
 -- the stream's cut has no unfinished segment
 abbrev pub IsAtGround : List ℕ → Type 0
 IsAtGround s = (gs : List Segment) × IsCut s gs × AreFinished gs []
+
+-- of the first n bytes that follow s, all but the last add no event and leave a segment unfinished
+abbrev pub IsQuiet : List ℕ → List ℕ → ℕ → Type 0
+IsQuiet s b n = (k : ℕ) → 0 < k → k < n → (added s (take k b) ≡ []) × (IsAtGround (s ++ take k b) → ⊥)

@@ -1,11 +1,11 @@
 //! The parser.
 #![tactic(auto)]
 
-ghost use Rattle.std.specs.Prelude.{◌≡◌, ◌++◌, ◌∷◌, [], ℕ, List, IsTrue, ◌↔◌, OnOk, OnErr, IfErr, false};
+ghost use Rattle.std.specs.Prelude.{◌≡◌, ◌<◌, ◌≤◌, ◌++◌, ◌∷◌, [], ℕ, List, length, take, IsTrue, ◌↔◌, OnOk, OnErr, IfOk, IfErr, false};
 ghost use Rattle.std.specs.List.{FoldsTo};
 ghost use Rattle.esc_frame.specs.Events.{StopsAt};
 ghost use Rattle.esc_frame.specs.Memory.{MayGrow};
-ghost use Rattle.esc_frame.specs.Stream.{added, LeadsTo, HasFailed, IsAtGround};
+ghost use Rattle.esc_frame.specs.Stream.{added, LeadsTo, HasFailed, IsAtGround, IsQuiet};
 
 use crate::actor::VTActor;
 use crate::classes::classify;
@@ -93,6 +93,42 @@ impl<A: Allocator> VTParser<A> {
         }
         match self.machine.take_all(bytes, actor) {
             Ok(()) => Ok(()),
+            Err(_) => {
+                self.has_failed = true;
+                Err(ParseError::Memory)
+            }
+        }
+    }
+
+    /// Takes a front of the bytes, at least one byte where there is one, and says how many bytes it took. All but the
+    /// last of them add no event and leave a segment unfinished. So a caller can stop at the first event, or at the first
+    /// place where no segment is unfinished, and give the bytes behind it to a later call.
+    ///
+    /// Answers `Memory` where the actor refused a call or where a request for memory was refused; a front of the events
+    /// that the bytes add was given then. Every later call answers `Failed` and gives nothing.
+    #[tactic(auto, unfolding(crate::specs::Stream::LeadsTo, crate::specs::Stream::HasFailed))]
+    pub fn parse_some<V: VTActor>(
+        &mut self,
+        bytes: &[u8],
+        actor: &mut V,
+    ) -> Result<usize, ParseError>
+        requires { V.is_ready actor.old }
+        ensures count { IfOk result (λ n. (n ≤ length bytes.now) × (0 < length bytes.now → 0 < n)) }
+        ensures given { (s : List ℕ) → LeadsTo s self.old → IfOk result (λ n. LeadsTo (s ++ take n bytes.now) self.new × FoldsTo V.takes actor.old (added s (take n bytes.now)) actor.new) }
+        ensures quiet { (s : List ℕ) → LeadsTo s self.old → IfOk result (λ n. IsQuiet s bytes.now n) }
+        ensures refused { (s : List ℕ) → LeadsTo s self.old → IfErr result (λ e. (e ≡ ParseError.Memory) × StopsAt (MayGrow (s ++ bytes.now)) V.takes V.refuses actor.old (added s bytes.now) actor.new) }
+        ensures ends { OnErr result (HasFailed self.new) }
+        ensures failed { HasFailed self.old → (result ≡ Err ParseError.Failed) × (actor.new ≡ actor.old) }
+        ensures ready { OnOk result (V.is_ready actor.new) }
+    {
+        if self.has_failed {
+            return Err(ParseError::Failed);
+        }
+        if bytes.is_empty() {
+            return Ok(0);
+        }
+        match self.machine.take_some(bytes, actor) {
+            Ok(n) => Ok(n),
             Err(_) => {
                 self.has_failed = true;
                 Err(ParseError::Memory)

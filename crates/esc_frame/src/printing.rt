@@ -1,10 +1,13 @@
 //! Characters in ground, many at once.
 #![tactic(auto)]
 
-ghost use Rattle.std.specs.Prelude.{◌≡◌, ◌<◌, ◌≤◌, length, map, false, OnOk, IfOk};
+ghost use Rattle.std.specs.Prelude.{◌≡◌, ◌<◌, ◌≤◌, length, map, true, false, slice_index, OnOk, IfOk};
 ghost use Rattle.esc_frame.specs.Events.{Takes};
 ghost use Rattle.esc_frame.specs.Events.Event.{Print};
 ghost use Rattle.esc_frame.specs.Characters.{Prints};
+ghost use Rattle.esc_frame.specs.Leads.Unfinished.{Ground};
+ghost use Rattle.esc_frame.specs.Moves.{IsStill};
+ghost use Rattle.esc_frame.specs.Scans.{is_text_byte};
 
 use crate::actor::VTActor;
 use crate::scans::text_run;
@@ -28,6 +31,43 @@ pub fn print_front<V: VTActor>(rest: &[u8], actor: &mut V) -> Result<usize, Allo
         }
     }
     Ok(at)
+}
+
+/// The character at the front, where one stands there that is whole; else nothing.
+#[inline(always)]
+pub fn print_first<V: VTActor>(rest: &[u8], actor: &mut V) -> Result<usize, AllocError>
+    requires some { 0 < length rest.now }
+    requires ready { V.is_ready actor.old }
+    ensures count { IfOk result (λ n. n ≤ length rest.now) }
+    ensures ran { Prints V.takes V.refuses result rest.now actor.old actor.new }
+    ensures quiet { IfOk result (λ n. IsStill Ground rest.now n) }
+    ensures ready { OnOk result (V.is_ready actor.new) }
+{
+    if rest[0] < 0x20 {
+        Ok(0)
+    } else if rest[0] < 0x80 {
+        print_narrow(rest, actor)
+    } else if rest[0] < 0xc2 {
+        Ok(0)
+    } else {
+        print_wide(rest, actor)
+    }
+}
+
+// The byte 20 to 7F at the front.
+#[inline(always)]
+fn print_narrow<V: VTActor>(rest: &[u8], actor: &mut V) -> Result<usize, AllocError>
+    requires some { 0 < length rest.now }
+    requires text { is_text_byte (slice_index rest.now 0) ≡ true }
+    requires ready { V.is_ready actor.old }
+    ensures count { IfOk result (λ n. n ≡ 1) }
+    ensures ran { Prints V.takes V.refuses result rest.now actor.old actor.new }
+    ensures ready { OnOk result (V.is_ready actor.new) }
+{
+    match actor.print(rest[0] as char) {
+        Ok(()) => Ok(1),
+        Err(e) => Err(e),
+    }
 }
 
 // A run of text, or a sequence, at the front.
@@ -62,11 +102,13 @@ fn print_text<V: VTActor>(rest: &[u8], actor: &mut V) -> Result<usize, AllocErro
     }
 }
 
+// The sequence at the front, where one stands there that is whole and no control; else nothing.
 #[inline(always)]
 fn print_wide<V: VTActor>(rest: &[u8], actor: &mut V) -> Result<usize, AllocError>
     requires { V.is_ready actor.old }
     ensures count { IfOk result (λ n. n ≤ length rest.now) }
     ensures ran { Prints V.takes V.refuses result rest.now actor.old actor.new }
+    ensures quiet { IfOk result (λ n. IsStill Ground rest.now n) }
     ensures ready { OnOk result (V.is_ready actor.new) }
 {
     let (n, c) = ahead(rest);

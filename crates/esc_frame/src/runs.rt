@@ -11,7 +11,7 @@ ghost use Rattle.esc_frame.specs.Fronts.{front_of};
 ghost use Rattle.esc_frame.specs.Keeps.{KeepsBody};
 ghost use Rattle.esc_frame.specs.Leads.{Unfinished, Holds};
 ghost use Rattle.esc_frame.specs.Leads.Unfinished.{Ground, InCsi, InOsc, InData, InApc};
-ghost use Rattle.esc_frame.specs.Moves.{after_all, news_all, may_grow_within, Given};
+ghost use Rattle.esc_frame.specs.Moves.{after_all, news_all, may_grow_within, Given, IsStill};
 ghost use Rattle.esc_frame.specs.TextRuns.{IsTextRun};
 ghost use Rattle.esc_frame.specs.Scans.{is_body_byte, is_text_byte};
 ghost use Rattle.esc_frame.specs.Segments.{Opener, Piece, text_of};
@@ -20,7 +20,7 @@ use crate::actor::VTActor;
 use crate::body::CsiBody;
 use crate::classes::{Kind, classify};
 use crate::machine::{Machine, State};
-use crate::printing::print_front;
+use crate::printing::{print_first, print_front};
 use crate::scans::{text_run, units_run};
 use crate::sequence::Pending;
 use std::alloc::{AllocError, Allocator};
@@ -88,6 +88,38 @@ impl<A: Allocator> Machine<A> {
         Ok(())
     }
 
+    /// Takes a front of the bytes, at least one, and says how many: all but the last tell nothing and leave something
+    /// unfinished. After an error nothing is said of the machine.
+    #[inline(always)]
+    pub fn take_some<V: VTActor>(&mut self, rest: &[u8], actor: &mut V) -> Result<usize, AllocError>
+        requires some { 0 < length rest.now }
+        requires ready { V.is_ready actor.old }
+        ensures holds { (u : Unfinished) → Holds self.old u → IfOk result (λ n. Holds self.new (after_all u (take n rest.now))) }
+        ensures told { (u : Unfinished) → Holds self.old u → Given V.takes V.refuses result u rest.now actor.old actor.new }
+        ensures quiet { (u : Unfinished) → Holds self.old u → IfOk result (λ n. IsStill u rest.now n) }
+        ensures count { IfOk result (λ n. (0 < n) × (n ≤ length rest.now)) }
+        ensures ready { OnOk result (V.is_ready actor.new) }
+    {
+        match self.state {
+            State::Ground => match self.pending {
+                Pending::Nothing => self.take_first(rest, actor),
+                Pending::One(_) | Pending::Two(_, _) | Pending::Three(_, _, _) => self.take_one(
+                    rest, actor,
+                ),
+            },
+            State::Csi => self.take_in_csi(rest, actor),
+            State::Osc => match self.pending {
+                Pending::Nothing => self.take_in_osc(rest, actor),
+                Pending::One(_) | Pending::Two(_, _) | Pending::Three(_, _, _) => self.take_one(
+                    rest, actor,
+                ),
+            },
+            State::Apc => self.take_in_apc(rest, actor),
+            State::Skip => self.take_in_skip(rest, actor),
+            State::Escape | State::Dcs | State::Data => self.take_one(rest, actor),
+        }
+    }
+
     // Takes bytes of the front, at least one, and says how many.
     #[inline(always)]
     fn take<V: VTActor>(&mut self, rest: &[u8], actor: &mut V) -> Result<usize, AllocError>
@@ -125,6 +157,7 @@ impl<A: Allocator> Machine<A> {
         requires ready { V.is_ready actor.old }
         ensures holds { (u : Unfinished) → Holds self.old u → IfOk result (λ n. Holds self.new (after_all u (take n rest.now))) }
         ensures told { (u : Unfinished) → Holds self.old u → Given V.takes V.refuses result u rest.now actor.old actor.new }
+        ensures quiet { (u : Unfinished) → IfOk result (λ n. IsStill u rest.now n) }
         ensures count { IfOk result (λ n. n ≡ 1) }
         ensures ready { OnOk result (V.is_ready actor.new) }
     {
@@ -156,13 +189,33 @@ impl<A: Allocator> Machine<A> {
         }
     }
 
-    // What is no character, in ground.
+    // One character, or what else stands in ground.
+    #[inline(always)]
+    fn take_first<V: VTActor>(&mut self, rest: &[u8], actor: &mut V) -> Result<usize, AllocError>
+        requires some { 0 < length rest.now }
+        requires ready { V.is_ready actor.old }
+        requires ground { Holds self.old Ground }
+        ensures holds { IfOk result (λ n. Holds self.new (after_all Ground (take n rest.now))) }
+        ensures told { Given V.takes V.refuses result Ground rest.now actor.old actor.new }
+        ensures quiet { IfOk result (λ n. IsStill Ground rest.now n) }
+        ensures count { IfOk result (λ n. (0 < n) × (n ≤ length rest.now)) }
+        ensures ready { OnOk result (V.is_ready actor.new) }
+    {
+        match print_first(rest, actor) {
+            Ok(0) => self.take_control(rest, actor),
+            Ok(n) => Ok(n),
+            Err(e) => Err(e),
+        }
+    }
+
+    // A byte, or a sequence that ESC begins, in ground.
     #[inline(always)]
     fn take_control<V: VTActor>(&mut self, rest: &[u8], actor: &mut V) -> Result<usize, AllocError>
         requires some { 0 < length rest.now }
         requires ready { V.is_ready actor.old }
         ensures holds { IfOk result (λ n. Holds self.new (after_all Ground (take n rest.now))) }
         ensures told { Given V.takes V.refuses result Ground rest.now actor.old actor.new }
+        ensures quiet { IfOk result (λ n. IsStill Ground rest.now n) }
         ensures count { IfOk result (λ n. (0 < n) × (n ≤ length rest.now)) }
         ensures ready { OnOk result (V.is_ready actor.new) }
     {
@@ -183,6 +236,7 @@ impl<A: Allocator> Machine<A> {
         requires ready { V.is_ready actor.old }
         ensures holds { IfOk result (λ n. Holds self.new (after_all Ground (take n rest.now))) }
         ensures told { Given V.takes V.refuses result Ground rest.now actor.old actor.new }
+        ensures quiet { IfOk result (λ n. IsStill Ground rest.now n) }
         ensures count { IfOk result (λ n. n ≡ 1) }
         ensures ready { OnOk result (V.is_ready actor.new) }
     {
@@ -200,6 +254,7 @@ impl<A: Allocator> Machine<A> {
         requires ready { V.is_ready actor.old }
         ensures holds { IfOk result (λ n. Holds self.new (after_all Ground (take n rest.now))) }
         ensures told { Given V.takes V.refuses result Ground rest.now actor.old actor.new }
+        ensures quiet { IfOk result (λ n. IsStill Ground rest.now n) }
         ensures count { IfOk result (λ n. (0 < n) × (n ≤ length rest.now)) }
         ensures ready { OnOk result (V.is_ready actor.new) }
     {
@@ -221,6 +276,7 @@ impl<A: Allocator> Machine<A> {
         requires ready { V.is_ready actor.old }
         ensures holds { IfOk result (λ n. Holds self.new (after_all Ground (take n rest.now))) }
         ensures told { Given V.takes V.refuses result Ground rest.now actor.old actor.new }
+        ensures quiet { IfOk result (λ n. IsStill Ground rest.now n) }
         ensures count { IfOk result (λ n. (0 < n) × (n ≤ length rest.now)) }
         ensures ready { OnOk result (V.is_ready actor.new) }
     {
@@ -240,6 +296,7 @@ impl<A: Allocator> Machine<A> {
         requires ready { V.is_ready actor.old }
         ensures holds { IfOk result (λ n. Holds self.new (after_all Ground (take n rest.now))) }
         ensures told { Given V.takes V.refuses result Ground rest.now actor.old actor.new }
+        ensures quiet { IfOk result (λ n. IsStill Ground rest.now n) }
         ensures count { IfOk result (λ n. (0 < n) × (n ≤ length rest.now)) }
         ensures ready { OnOk result (V.is_ready actor.new) }
     {
@@ -258,6 +315,7 @@ impl<A: Allocator> Machine<A> {
         requires state { self.old.state ≡ State.Csi }
         ensures holds { (o : Opener) (x : List ℕ) → KeepsBody self.old.body (strip x) → IfOk result (λ n. Holds self.new (after_all (InCsi o x) (take n rest.now))) }
         ensures told { (o : Opener) (x : List ℕ) → KeepsBody self.old.body (strip x) → Given V.takes V.refuses result (InCsi o x) rest.now actor.old actor.new }
+        ensures quiet { (o : Opener) (x : List ℕ) → IfOk result (λ n. IsStill (InCsi o x) rest.now n) }
         ensures count { IfOk result (λ n. (0 < n) × (n ≤ length rest.now)) }
         ensures ready { OnOk result (V.is_ready actor.new) }
     {
@@ -282,6 +340,7 @@ impl<A: Allocator> Machine<A> {
         requires state { self.old.state ≡ State.Csi }
         ensures holds { (o : Opener) (x : List ℕ) → KeepsBody self.old.body (strip x ++ take run rest.now) → IfOk result (λ n. Holds self.new (after_all (InCsi o x) (take n rest.now))) }
         ensures told { (o : Opener) (x : List ℕ) → KeepsBody self.old.body (strip x ++ take run rest.now) → Given V.takes V.refuses result (InCsi o x) rest.now actor.old actor.new }
+        ensures quiet { (o : Opener) (x : List ℕ) → IfOk result (λ n. IsStill (InCsi o x) rest.now n) }
         ensures count { IfOk result (λ n. (0 < n) × (n ≤ length rest.now)) }
         ensures ready { OnOk result (V.is_ready actor.new) }
     {
@@ -303,6 +362,7 @@ impl<A: Allocator> Machine<A> {
         requires whole { front_of self.old.pending ≡ [] }
         ensures holds { (o : Opener) (ps : List Piece) → self.old.text.items ≡ text_of ps → IfOk result (λ n. Holds self.new (after_all (InOsc o ps) (take n rest.now))) }
         ensures told { (o : Opener) (ps : List Piece) → self.old.text.items ≡ text_of ps → Given V.takes V.refuses result (InOsc o ps) rest.now actor.old actor.new }
+        ensures quiet { (o : Opener) (ps : List Piece) → IfOk result (λ n. IsStill (InOsc o ps) rest.now n) }
         ensures count { IfOk result (λ n. (0 < n) × (n ≤ length rest.now)) }
         ensures ready { OnOk result (V.is_ready actor.new) }
     {
@@ -329,6 +389,7 @@ impl<A: Allocator> Machine<A> {
         requires whole { front_of self.old.pending ≡ [] }
         ensures holds { (o : Opener) (ps : List Piece) → self.old.text.items ≡ text_of ps ++ take run rest.now → IfOk result (λ n. Holds self.new (after_all (InOsc o ps) (take n rest.now))) }
         ensures told { (o : Opener) (ps : List Piece) → self.old.text.items ≡ text_of ps ++ take run rest.now → Given V.takes V.refuses result (InOsc o ps) rest.now actor.old actor.new }
+        ensures quiet { (o : Opener) (ps : List Piece) → IfOk result (λ n. IsStill (InOsc o ps) rest.now n) }
         ensures count { IfOk result (λ n. (0 < n) × (n ≤ length rest.now)) }
         ensures ready { OnOk result (V.is_ready actor.new) }
     {
@@ -370,6 +431,7 @@ impl<A: Allocator> Machine<A> {
         requires state { self.old.state ≡ State.Apc }
         ensures holds { (u : Unfinished) → Holds self.old u → IfOk result (λ n. Holds self.new (after_all u (take n rest.now))) }
         ensures told { (u : Unfinished) → Holds self.old u → Given V.takes V.refuses result u rest.now actor.old actor.new }
+        ensures quiet { (u : Unfinished) → Holds self.old u → IfOk result (λ n. IsStill u rest.now n) }
         ensures count { IfOk result (λ n. (0 < n) × (n ≤ length rest.now)) }
         ensures ready { OnOk result (V.is_ready actor.new) }
     {
@@ -391,6 +453,7 @@ impl<A: Allocator> Machine<A> {
         requires state { self.old.state ≡ State.Skip }
         ensures holds { (u : Unfinished) → Holds self.old u → IfOk result (λ n. Holds self.new (after_all u (take n rest.now))) }
         ensures told { (u : Unfinished) → Holds self.old u → Given V.takes V.refuses result u rest.now actor.old actor.new }
+        ensures quiet { (u : Unfinished) → Holds self.old u → IfOk result (λ n. IsStill u rest.now n) }
         ensures count { IfOk result (λ n. (0 < n) × (n ≤ length rest.now)) }
         ensures ready { OnOk result (V.is_ready actor.new) }
     {

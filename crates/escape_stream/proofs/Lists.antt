@@ -80,3 +80,7 @@ if_err_fourth Y Z W (Err e) A B f w = let p = f w.2 in (w.0, w.1, p.0, p.1)
 pub if_err_join : {T E : Type 0} (B Y Z : Type 0) (r : Result T E) (A : E → Type 0) → (Y → Z) → OnErr r B → IfErr r (λ e. A e × Y) → IfErr r (λ e. A e × B × Z)
 if_err_join B Y Z (Ok x) A f b w = tt
 if_err_join B Y Z (Err e) A f b w = (w.0, b, f w.1)
+
+pub if_ok_second : {T E : Type 0} (X Y Z : T → Type 0) (r : Result T E) → ((t : T) → Y t → Z t) → IfOk r (λ t. X t × Y t) → IfOk r (λ t. X t × Z t)
+if_ok_second X Y Z (Ok x) f w = (w.0, f x w.1)
+if_ok_second X Y Z (Err e) f w = tt

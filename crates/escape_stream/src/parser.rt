@@ -1,5 +1,8 @@
 //! The parser.
-ghost use Rattle.std.specs.Prelude.{◌≡◌, ℕ, List, [], ◌++◌, IfErr, IfOk, OnOk, map};
+ghost use Rattle.std.specs.Prelude.{◌≡◌, ◌<◌, ◌≤◌, ℕ, List, [], ◌++◌, IfErr, IfNone, IfOk, IfSome, IsTrue, OnOk, length, map, take};
+ghost use Rattle.std.specs.Option.{option_map};
+ghost use Rattle.esc_frame.specs.Stream.{IsQuiet};
+ghost use Rattle.escape_stream.specs.Firsts.{IsFirst, IsFirstStop, IsStop, first};
 ghost use Rattle.esc_frame.specs.Memory.{MayGrow};
 ghost use Rattle.escape_stream.specs.Given.{At, GetsAll, GetsFront, StopsAt};
 ghost use Rattle.escape_stream.specs.Meaning.{yield};
@@ -8,7 +11,7 @@ ghost use Rattle.escape_stream.specs.Writable.{AreHandedOut};
 
 use crate::action::Action;
 use crate::performer::Performer;
-use crate::sink::{Calls, Collect, Sink};
+use crate::sink::{Calls, Collect, First, Sink};
 use esc_frame::error::ParseError;
 use esc_frame::parser::VTParser;
 use std::alloc::{Allocator, Global};
@@ -90,6 +93,133 @@ impl<A: Allocator + Copy> Parser<A> {
         let (result, Collect { actions }) = self.feed(bytes, sink);
         result?;
         Ok(actions)
+    }
+}
+
+impl<A: Allocator + Copy> Parser<A> {
+    ghost use Rattle.std.specs.List.{FoldsTo};
+    ghost use Rattle.escape_stream.specs.Fed.{IsBroken, WasFed};
+
+    // Gives the sink, in order, the actions that a front of `bytes` adds, and hands it back, with the length of the front.
+    // All but the last byte of it add nothing and leave a segment unfinished.
+    fn feed_some<S: Sink<Action<A>>>(
+        &mut self,
+        bytes: &[u8],
+        sink: S,
+    ) -> (Result<usize, ParseError>, S)
+        requires { S.is_ready sink }
+        ensures count { IfOk result.0 (λ n. (n ≤ length bytes.now) × (0 < length bytes.now → 0 < n)) }
+        ensures given { (s : List ℕ) → WasFed s self.old → IfOk result.0 (λ n. WasFed (s ++ take n bytes.now) self.new
+            × FoldsTo (At value_of S.takes) sink (yield s (take n bytes.now)) result.1) }
+        ensures quiet { (s : List ℕ) → WasFed s self.old → IfOk result.0 (λ n. IsQuiet s bytes.now n) }
+        ensures refused { (s : List ℕ) → WasFed s self.old → IfErr result.0 (λ e. (e ≡ ParseError.Memory) × IsBroken self.new) }
+        ensures failed { IsBroken self.old → (result.0 ≡ Err ParseError.Failed) × IsBroken self.new × (result.1 ≡ sink) }
+    {
+        let mut performer = Performer {
+            sink,
+            alloc: self.alloc,
+        };
+        let result = self.framer.parse_some(bytes, &mut performer);
+        let Performer { sink, alloc: _ } = performer;
+        (result, sink)
+    }
+
+    // The first action that a front of `bytes` adds, where it adds one, and the length of the front.
+    fn first_in(&mut self, bytes: &[u8]) -> Result<(usize, Option<Action<A>>), ParseError>
+        ensures count { IfOk result (λ x. (x.0 ≤ length bytes.now) × (0 < length bytes.now → 0 < x.0)) }
+        ensures given { (s : List ℕ) → WasFed s self.old → IfOk result (λ x. WasFed (s ++ take x.0 bytes.now) self.new
+            × (option_map value_of x.1 ≡ first (yield s (take x.0 bytes.now)))) }
+        ensures quiet { (s : List ℕ) → WasFed s self.old → IfOk result (λ x. IsQuiet s bytes.now x.0) }
+        ensures refused { (s : List ℕ) → WasFed s self.old → IfErr result (λ e. (e ≡ ParseError.Memory) × IsBroken self.new) }
+        ensures failed { IsBroken self.old → (result ≡ Err ParseError.Failed) × IsBroken self.new }
+    {
+        let (result, First { action }) = self.feed_some(bytes, First { action: None });
+        let taken = result?;
+        Ok((taken, action))
+    }
+
+    /// The first action of the shortest front of `bytes` that adds one to what the bytes fed before mean, and the length of
+    /// this front, which is all that was fed; further actions of its last byte are dropped. `None` where `bytes` add none:
+    /// then all were fed.
+    ///
+    /// `ParseError::Memory` says that a growth was refused; the parser has failed. `ParseError::Failed` says that an earlier
+    /// call had been refused one, also where `bytes` are empty.
+    pub fn parse_first(&mut self, bytes: &[u8]) -> Result<Option<(Action<A>, usize)>, ParseError>
+        ensures some { (s : List ℕ) → WasFed s self.old → IfOk result (λ r. IfSome r (λ x. WasFed (s ++ take x.1 bytes.now) self.new × IsFirst s bytes.now (value_of x.0) x.1)) }
+        ensures none { (s : List ℕ) → WasFed s self.old → IfOk result (λ r. IfNone r (WasFed (s ++ bytes.now) self.new × (yield {A = A} s bytes.now ≡ []))) }
+        ensures refused { (s : List ℕ) → WasFed s self.old → IfErr result (λ e. (e ≡ ParseError.Memory) × IsBroken self.new) }
+        ensures failed { IsBroken self.old → (result ≡ Err ParseError.Failed) × IsBroken self.new }
+    {
+        let mut at = 0;
+        'fronts: loop {
+            let (taken, first) = self.first_in(&bytes[at..])?;
+            at += taken;
+            match first {
+                Some(action) => return Ok(Some((action, at))),
+                None => {
+                    if at == bytes.len() {
+                        return Ok(None);
+                    }
+                }
+            }
+        }
+    }
+
+    // The actions so far, and those that a front of `bytes` adds; with the length of the front.
+    fn more_in(
+        &mut self,
+        bytes: &[u8],
+        actions: Vec<Action<A>, A>,
+    ) -> Result<(usize, Vec<Action<A>, A>), ParseError>
+        ensures count { IfOk result (λ x. (x.0 ≤ length bytes.now) × (0 < length bytes.now → 0 < x.0)) }
+        ensures given { (s : List ℕ) → WasFed s self.old → IfOk result (λ x. WasFed (s ++ take x.0 bytes.now) self.new
+            × (map value_of x.1.items ≡ map value_of actions.items ++ yield s (take x.0 bytes.now))) }
+        ensures quiet { (s : List ℕ) → WasFed s self.old → IfOk result (λ x. IsQuiet s bytes.now x.0) }
+        ensures refused { (s : List ℕ) → WasFed s self.old → IfErr result (λ e. (e ≡ ParseError.Memory) × IsBroken self.new) }
+        ensures failed { IsBroken self.old → (result ≡ Err ParseError.Failed) × IsBroken self.new }
+    {
+        let (result, Collect { actions }) = self.feed_some(bytes, Collect { actions });
+        let taken = result?;
+        Ok((taken, actions))
+    }
+
+    // Whether to stop here, with these actions.
+    fn stops(&self, actions: &[Action<A>]) -> bool
+        ensures yes { (s b : List ℕ) → WasFed (s ++ b) self.now → map value_of actions.now ≡ yield s b → IsTrue result → IsStop A s b }
+        ensures no { (s b : List ℕ) → WasFed (s ++ b) self.now → map value_of actions.now ≡ yield s b → IsStop A s b → IsTrue result }
+    {
+        !actions.is_empty() && self.framer.is_ground()
+    }
+
+    /// All actions of the shortest front of `bytes` that adds one and leaves no segment unfinished, and the length of this
+    /// front, which is all that was fed. So no action of what follows belongs to a sequence or a string that began before:
+    /// a string comes with its terminator. `None` where there is no such front: then all `bytes` were fed, and what they
+    /// added is dropped.
+    ///
+    /// `ParseError::Memory` says that a growth was refused; what came is dropped, and the parser has failed.
+    /// `ParseError::Failed` says that an earlier call had been refused one, also where `bytes` are empty.
+    pub fn parse_first_as_vec(
+        &mut self,
+        bytes: &[u8],
+    ) -> Result<Option<(Vec<Action<A>, A>, usize)>, ParseError>
+        ensures some { (s : List ℕ) → WasFed s self.old → IfOk result (λ r. IfSome r (λ x. WasFed (s ++ take x.1 bytes.now) self.new × IsFirstStop s bytes.now (map value_of x.0.items) x.1)) }
+        ensures none { (s : List ℕ) → WasFed s self.old → IfOk result (λ r. IfNone r (WasFed (s ++ bytes.now) self.new × ((k : ℕ) → k ≤ length bytes.now → IsStop A s (take k bytes.now) → ⊥))) }
+        ensures refused { (s : List ℕ) → WasFed s self.old → IfErr result (λ e. (e ≡ ParseError.Memory) × IsBroken self.new) }
+        ensures failed { IsBroken self.old → (result ≡ Err ParseError.Failed) × IsBroken self.new }
+    {
+        let mut at = 0;
+        let mut actions = Vec::new(self.alloc);
+        'fronts: loop {
+            let (taken, more) = self.more_in(&bytes[at..], actions)?;
+            at += taken;
+            actions = more;
+            if self.stops(&actions) {
+                return Ok(Some((actions, at)));
+            }
+            if at == bytes.len() {
+                return Ok(None);
+            }
+        }
     }
 }
 

@@ -1,9 +1,10 @@
-use Rattle.std.proofs.Common.{ℕ, ◌++◌, List, take, refl, sym, subst, arith}
+use Rattle.std.proofs.Common.{ℕ, ◌++◌, List, take, refl, sym, subst, arith, ◌+◌}
 use Rattle.esc_frame.specs.Keeps.{KeepsBody}
 use Rattle.esc_frame.specs.Leads.{Holds}
 use Rattle.esc_frame.specs.Leads.Unfinished.{InCsi}
 use Rattle.esc_frame.proofs.CsiRuns.{body_quiet, body_strip}
 use Rattle.esc_frame.proofs.ManyBytes.{quiet_after, quiet_given, quiet_stops}
+use Rattle.esc_frame.proofs.Still.{body_still, less_still}
 use Rattle.esc_frame.proofs.machine.Machine.take_behind_body.Goals as goal
 
 pub returns-then-run-rest-clause-holds : goal.returns-then-run-rest-clause-holds
@@ -35,3 +36,9 @@ returns-in-Err-clause-told g c = λ o x k.
     let q = body_quiet o x xs c.requires.passes in
     quiet_stops g.V.VTActor.takes g.V.VTActor.refuses (InCsi o x) (InCsi o (x ++ xs)) c.args.rest.now c.args.run _ c.args.actor.now c.in_csi.new.actor q (omega arith) c.classify.ensures
     (c.in-Err.ensures.told (x ++ xs) c.classify.ensures (subst (KeepsBody c.args.self.now.body) (sym (body_strip x xs c.requires.passes)) k))
+
+pub returns-then-run-rest-clause-quiet : goal.returns-then-run-rest-clause-quiet
+returns-then-run-rest-clause-quiet g c = λ o x. less_still (InCsi o x) c.args.rest.now c.args.run (c.args.run + 1) (omega arith) (body_still o x c.args.rest.now c.args.run c.requires.passes)
+
+pub returns-in-Ok-clause-quiet : goal.returns-in-Ok-clause-quiet
+returns-in-Ok-clause-quiet g c = λ o x. body_still o x c.args.rest.now c.args.run c.requires.passes

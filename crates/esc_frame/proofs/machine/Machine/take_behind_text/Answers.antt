@@ -1,8 +1,9 @@
-use Rattle.std.proofs.Common.{◌++◌, refl, sym, ◌∙◌, subst, arith}
+use Rattle.std.proofs.Common.{◌++◌, refl, sym, ◌∙◌, subst, arith, ◌+◌}
 use Rattle.esc_frame.specs.Leads.{Holds}
 use Rattle.esc_frame.specs.Leads.Unfinished.{InOsc}
 use Rattle.esc_frame.proofs.ManyBytes.{quiet_after, quiet_given, quiet_stops}
 use Rattle.esc_frame.proofs.StringRuns.{run_text}
+use Rattle.esc_frame.proofs.Still.{text_still, less_still}
 use Rattle.esc_frame.proofs.machine.Machine.take_behind_text.Goals as goal
 
 pub returns-then-run-rest-clause-holds : goal.returns-then-run-rest-clause-holds
@@ -30,3 +31,10 @@ returns-in-Err-clause-told g c = λ o ps k.
     let run = c.requires.passes in
     quiet_stops g.V.VTActor.takes g.V.VTActor.refuses (InOsc o ps) (InOsc o (ps ++ run.0)) c.args.rest.now c.args.run _ c.args.actor.now c.in_osc.new.actor (run.2 o ps) (omega arith) c.classify.ensures
     (c.in-Err.ensures.told (ps ++ run.0) c.classify.ensures (k ∙ run_text ps run))
+
+pub returns-then-run-rest-clause-quiet : goal.returns-then-run-rest-clause-quiet
+returns-then-run-rest-clause-quiet g c = λ o ps.
+    less_still (InOsc o ps) c.args.rest.now c.args.run (c.args.run + 1) (omega arith) (text_still o ps c.args.rest.now c.args.run (c.requires.passes.2 o ps).1)
+
+pub returns-in-Ok-clause-quiet : goal.returns-in-Ok-clause-quiet
+returns-in-Ok-clause-quiet g c = λ o ps. text_still o ps c.args.rest.now c.args.run (c.requires.passes.2 o ps).1

@@ -4,6 +4,7 @@ use Rattle.esc_frame.specs.Leads.Unfinished.{Ground, InOsc}
 use Rattle.esc_frame.specs.Segments.Opener.{Long}
 use Rattle.esc_frame.proofs.CsiRuns.{osc_opens}
 use Rattle.esc_frame.proofs.ManyBytes.{quiet_folds, ran_more, ran_ends}
+use Rattle.esc_frame.proofs.Still.{osc_still}
 use Rattle.esc_frame.proofs.machine.Machine.take_osc.Goals as goal
 
 pub take_in_osc-requires-clause-state : goal.take_in_osc-requires-clause-state
@@ -30,3 +31,6 @@ returns-in-Err-clause-told g c =
     let begin = osc_opens c.args.rest.now (omega arith) c.requires.escape c.requires.bracket in
     let h = c.open.ensures (Long []) in
     ran_ends g.V.VTActor.takes g.V.VTActor.refuses Ground (InOsc (Long []) []) c.args.rest.now 2 c.args.actor.now c.args.actor.now c.take_in_osc.new.actor begin.0 (quiet_folds g.V.VTActor.takes _ c.args.actor.now begin.1) (c.in-Err.ensures.told (Long []) [] h.1)
+
+pub returns-in-Ok-clause-quiet : goal.returns-in-Ok-clause-quiet
+returns-in-Ok-clause-quiet g c = osc_still c.args.rest.now c.in-Ok.n c.requires.some c.requires.escape c.requires.bracket (c.in-Ok.ensures.quiet (Long []) [])

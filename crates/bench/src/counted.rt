@@ -1,0 +1,25 @@
+//! What a pass counted.
+
+use crate::count::Count;
+use std::fmt;
+
+/// What a pass counted.
+#[derive(Drop)]
+pub enum Counted {
+    /// Events.
+    Events(Count),
+    /// Actions, and the sum of their characters.
+    Actions(u64, u64),
+    /// Bytes of text.
+    Bytes(usize),
+}
+
+impl fmt::Display for Counted {
+    fn fmt<W: fmt::Write>(&self, f: &mut fmt::Formatter<W>) -> fmt::Result {
+        match self {
+            Counted::Events(count) => write!(f, "{count}"),
+            Counted::Actions(number, total) => write!(f, "{number} actions, total {total}"),
+            Counted::Bytes(number) => write!(f, "{number} bytes"),
+        }
+    }
+}

@@ -1,0 +1,140 @@
+-- Exact fronts: what a turn of a loop that looks for one knows.
+use Rattle.std.proofs.Common.{◌≡◌, ℕ, ◌+◌, ◌-◌, ◌<◌, ◌≤◌, List, [], ◌∷◌, ◌++◌, length, take, drop, Option, Some, None, refl, ap, sym, ◌∙◌, subst, append_assoc, take-append-drop, take_all, length-drop, arith, ◌⊎◌, inl, inr}
+use Rattle.std.proofs.Math.Seq.{take-add}
+use Rattle.std.proofs.Math.Nat.{eq-or-lt_of_le}
+use Rattle.std.proofs.lemmas.Bool.{cases_lt}
+use Rattle.std.proofs.lemmas.List.{append-nil, append_cancel_left, take-take}
+use Rattle.std.specs.List.{FoldsTo}
+use Rattle.std.specs.Option.{option_map}
+use Rattle.esc_frame.specs.Stream.{added, events, IsAtGround, IsQuiet}
+use Rattle.escape_stream.proofs.Yields.{meaning_more, yield_is}
+use Rattle.escape_stream.specs.Firsts.{first, IsFirst, IsFirstStop, IsStop}
+use Rattle.escape_stream.specs.Given.{At, first_of}
+use Rattle.escape_stream.specs.Meaning.{meaning, mode_from, values_from, yield}
+use Rattle.escape_stream.specs.Values.{plain, value_of, Value}
+use Rattle.escape_stream.specs.declared.action.Action.{Action}
+use Rattle.escape_stream.specs.declared.sink.First.{First}
+
+-- the first of what a sink was given
+keeps : {A : Type 0} (p : First A) (a : Action A) (vs : List (Value A)) (q : First A) → FoldsTo (At value_of (λ p a q. q.action ≡ first_of p.action a)) p vs q → p.action ≡ Some a → q.action ≡ Some a
+keeps p a [] q e h = ap (λ x. x.action) (sym e) ∙ h
+keeps p a (v ∷ vs) q (j, (b, is, w), rest) h = keeps j a vs q rest (w ∙ ap (λ o. first_of o b) h)
+
+pub keeps_first : {A : Type 0} (p : First A) (vs : List (Value A)) (q : First A) → FoldsTo (At value_of (λ p a q. q.action ≡ first_of p.action a)) p vs q → p.action ≡ None → option_map value_of q.action ≡ first vs
+keeps_first p [] q e h = ap (λ x. option_map value_of x.action) (sym e) ∙ ap (option_map value_of) h
+keeps_first p (v ∷ vs) q (j, (b, is, w), rest) h = ap (option_map value_of) (keeps j b vs q rest (w ∙ ap (λ o. first_of o b) h)) ∙ ap Some is
+
+-- what bytes yield, one behind another
+pub yield_append : {A : Type 0} (s b c : List ℕ) → yield {A = A} s (b ++ c) ≡ yield s b ++ yield (s ++ b) c
+yield_append s b c =
+    append_cancel_left (meaning s) (yield s (b ++ c)) (yield s b ++ yield (s ++ b) c)
+    (meaning_more s (b ++ c) ∙ ap meaning (sym (append_assoc s b c)) ∙ sym (meaning_more (s ++ b) c) ∙ ap (λ x. x ++ yield (s ++ b) c) (sym (meaning_more s b)) ∙ append_assoc (meaning s) (yield s b) (yield (s ++ b) c))
+
+-- bytes that add no event yield nothing
+pub yield_quiet : {A : Type 0} (s b : List ℕ) → added s b ≡ [] → yield {A = A} s b ≡ []
+yield_quiet s b e = yield_is s b ∙ ap (values_from (mode_from plain (events s))) e
+
+left_empty : {X : Type 0} (xs ys : List X) → xs ++ ys ≡ [] → xs ≡ []
+left_empty [] ys e = refl
+left_empty (x ∷ xs) ys e = absurd cc
+
+front_empty : {A : Type 0} (s b c : List ℕ) → yield {A = A} s (b ++ c) ≡ [] → yield {A = A} s b ≡ []
+front_empty s b c e = left_empty (yield s b) (yield (s ++ b) c) (sym (yield_append s b c) ∙ e)
+
+rest_is : (xs : List ℕ) (n : ℕ) → take (length xs - n) (drop n xs) ≡ drop n xs
+rest_is xs n = take_all (length xs - n) (drop n xs) (omega (arith, length-drop n xs))
+
+-- at bytes were taken, and k of the rest are
+more_is : (bs : List ℕ) (at k : ℕ) → take at bs ++ take k (take (length bs - at) (drop at bs)) ≡ take (at + k) bs
+more_is bs at k = ap (λ x. take at bs ++ take k x) (rest_is bs at) ∙ sym (take-add at k bs)
+
+pub fed_more : (s bs : List ℕ) (at k : ℕ) → (s ++ take at bs) ++ take k (take (length bs - at) (drop at bs)) ≡ s ++ take (at + k) bs
+fed_more s bs at k = append_assoc s (take at bs) (take k (take (length bs - at) (drop at bs))) ∙ ap (λ x. s ++ x) (more_is bs at k)
+
+pub yield_more : {A : Type 0} (s bs : List ℕ) (at k : ℕ) → yield {A = A} s (take (at + k) bs) ≡ yield s (take at bs) ++ yield (s ++ take at bs) (take k (take (length bs - at) (drop at bs)))
+yield_more s bs at k = ap (yield s) (sym (more_is bs at k)) ∙ yield_append s (take at bs) (take k (take (length bs - at) (drop at bs)))
+
+pub yield_rest : {A : Type 0} (s bs : List ℕ) (at k : ℕ) → yield {A = A} s (take at bs) ≡ [] → yield {A = A} s (take (at + k) bs) ≡ yield (s ++ take at bs) (take k (take (length bs - at) (drop at bs)))
+yield_rest s bs at k e = yield_more s bs at k ∙ ap (λ x. x ++ yield (s ++ take at bs) (take k (take (length bs - at) (drop at bs)))) e
+
+into_rest : (P : ℕ → Type 0) (at n k : ℕ) → k < at + n → at < k → ((j : ℕ) → 0 < j → j < n → P (at + j)) → P k
+into_rest P at n k h l behind = let e : at + (k - at) ≡ k = omega arith in subst P e (behind (k - at) (omega arith) (omega arith))
+
+front_by : (P : ℕ → Type 0) (at n k : ℕ) → k < at + n → ((j : ℕ) → j ≤ at → P j) → ((j : ℕ) → 0 < j → j < n → P (at + j)) → (at < k) ⊎ (k ≤ at) → P k
+front_by P at n k h before behind (inl l) = into_rest P at n k h l behind
+front_by P at n k h before behind (inr l) = before k l
+
+-- a front is one of what was taken, or reaches into the rest
+front_cases : (P : ℕ → Type 0) (at n k : ℕ) → k < at + n → ((j : ℕ) → j ≤ at → P j) → ((j : ℕ) → 0 < j → j < n → P (at + j)) → P k
+front_cases P at n k h before behind = front_by P at n k h before behind (cases_lt at k)
+
+front_shorter : {A : Type 0} (s bs : List ℕ) (at j : ℕ) → j ≤ at → yield {A = A} s (take at bs) ≡ [] → yield {A = A} s (take j bs) ≡ []
+front_shorter s bs at j h e =
+    front_empty s (take j bs) (drop j (take at bs))
+    (ap (yield s) (ap (λ x. x ++ drop j (take at bs)) (sym (take-take j at bs h)) ∙ take-append-drop j (take at bs)) ∙ e)
+
+none_within : {A : Type 0} (s bs : List ℕ) (at n : ℕ) → yield {A = A} s (take at bs) ≡ [] → IsQuiet (s ++ take at bs) (take (length bs - at) (drop at bs)) n
+    → (k : ℕ) → k < at + n → yield {A = A} s (take k bs) ≡ []
+none_within {A = A} s bs at n e q k h =
+    let P : ℕ → Type 0 = λ j. yield {A = A} s (take j bs) ≡ [] in
+    front_cases P at n k h (λ j l. front_shorter s bs at j l e) (λ j l m. yield_rest s bs at j e ∙ yield_quiet (s ++ take at bs) (take j (take (length bs - at) (drop at bs))) (q j l m).0)
+
+some_same : {X : Type 0} (x y : X) → Some x ≡ Some y → x ≡ y
+some_same x y e = cc
+
+-- the first of a list that has one
+first_is : {A : Type 0} (vs : List (Value A)) (v : Value A) → Some v ≡ first vs → (others : List (Value A)) × (vs ≡ v ∷ others)
+first_is [] v e = absurd cc
+first_is (x ∷ vs) v e = (vs, ap (λ y. y ∷ vs) (some_same x v (sym e)))
+
+none_is : {A : Type 0} (vs : List (Value A)) → None ≡ first vs → vs ≡ []
+none_is [] e = refl
+none_is (x ∷ vs) e = absurd cc
+
+-- n bytes of the rest have the first value
+pub finds_first : {A : Type 0} (s bs : List ℕ) (at n : ℕ) (v : Value A) → at + n ≤ length bs → yield {A = A} s (take at bs) ≡ [] → IsQuiet (s ++ take at bs) (take (length bs - at) (drop at bs)) n
+    → Some v ≡ first (yield (s ++ take at bs) (take n (take (length bs - at) (drop at bs)))) → IsFirst s bs v (at + n)
+finds_first s bs at n v l e q f = let o = first_is (yield (s ++ take at bs) (take n (take (length bs - at) (drop at bs)))) v f in record {
+  within = l;
+  others = o.0;
+  first = yield_rest s bs at n e ∙ o.1;
+  none_before = none_within s bs at n e q;
+}
+
+-- or none
+pub finds_none : {A : Type 0} (s bs : List ℕ) (at n : ℕ) → yield {A = A} s (take at bs) ≡ [] → None ≡ first {T = Value A} (yield (s ++ take at bs) (take n (take (length bs - at) (drop at bs)))) → yield {A = A} s (take (at + n) bs) ≡ []
+finds_none s bs at n e f = yield_rest s bs at n e ∙ none_is (yield (s ++ take at bs) (take n (take (length bs - at) (drop at bs)))) f
+
+-- no stop before the last of n bytes
+pub no_stop_within : (A : Type 0) (s bs : List ℕ) (at n : ℕ) → ((k : ℕ) → k ≤ at → IsStop A s (take k bs) → ⊥) → IsQuiet (s ++ take at bs) (take (length bs - at) (drop at bs)) n
+    → (k : ℕ) → k < at + n → IsStop A s (take k bs) → ⊥
+no_stop_within A s bs at n before q k h =
+    let P : ℕ → Type 0 = λ j. IsStop A s (take j bs) → ⊥ in
+    front_cases P at n k h before (λ j l m stop. (q j l m).1 (subst IsAtGround (sym (fed_more s bs at j)) stop.1))
+
+up_by : (A : Type 0) (s bs : List ℕ) (at : ℕ) → ((k : ℕ) → k < at → IsStop A s (take k bs) → ⊥) → (IsStop A s (take at bs) → ⊥) → (k : ℕ) → (k ≡ at) ⊎ (k < at) → IsStop A s (take k bs) → ⊥
+up_by A s bs at before here k (inl e) = let P : ℕ → Type 0 = λ j. IsStop A s (take j bs) → ⊥ in subst P (sym e) here
+up_by A s bs at before here k (inr l) = before k l
+
+pub no_stop_up_to : (A : Type 0) (s bs : List ℕ) (at : ℕ) → ((k : ℕ) → k < at → IsStop A s (take k bs) → ⊥) → (IsStop A s (take at bs) → ⊥) → (k : ℕ) → k ≤ at → IsStop A s (take k bs) → ⊥
+no_stop_up_to A s bs at before here k h = up_by A s bs at before here k (eq-or-lt_of_le h)
+
+pub rest_length : (xs : List ℕ) (n : ℕ) → length (take (length xs - n) (drop n xs)) ≡ length xs - n
+rest_length xs n = ap length (rest_is xs n) ∙ length-drop n xs
+
+pub yield_nil : {A : Type 0} (s : List ℕ) → yield {A = A} s [] ≡ []
+yield_nil s = append_cancel_left (meaning s) (yield s []) [] (meaning_more s [] ∙ ap meaning (append-nil s) ∙ sym (append-nil (meaning s)))
+
+-- what was taken and n bytes of the rest, where these are all
+pub fed_all : (s bs : List ℕ) (at n : ℕ) → length bs ≤ at + n → s ++ take (at + n) bs ≡ s ++ bs
+fed_all s bs at n h = ap (λ x. s ++ x) (take_all (at + n) bs h)
+
+-- no bytes are no stop
+pub no_stop_yet : (A : Type 0) (s bs : List ℕ) (k : ℕ) → k ≤ 0 → IsStop A s (take k bs) → ⊥
+no_stop_yet A s bs k h stop =
+    let z : k ≡ 0 = omega arith in
+    let e : take k bs ≡ [] = ap (λ n. take n bs) z in stop.0 (ap (yield s) e ∙ yield_nil s)
+
+-- the values so far, and those of n bytes of the rest
+pub values_more : {A : Type 0} (s bs : List ℕ) (at n : ℕ) (had got : List (Value A)) → had ≡ yield s (take at bs) → got ≡ had ++ yield (s ++ take at bs) (take n (take (length bs - at) (drop at bs))) → got ≡ yield s (take (at + n) bs)
+values_more s bs at n had got e f = f ∙ ap (λ x. x ++ yield (s ++ take at bs) (take n (take (length bs - at) (drop at bs)))) e ∙ sym (yield_more s bs at n)
