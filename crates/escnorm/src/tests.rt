@@ -1,0 +1,132 @@
+//! Runs of the program: what it writes, and the status it ends with.
+use crate::run::run;
+use refusing::Refusing;
+use std::alloc::{AllocError, Global};
+use std::io;
+use std::io::{ErrorKind, Read, Write};
+use std::test::Fail;
+
+const STREAM: &[u8] = b"\x1b]0;a\x07b";
+
+const TEXT: &[u8] = b"\x1b]0;a\x1b\\b";
+
+/// Every call is an error.
+#[derive(Drop)]
+struct Broken;
+
+impl Read for Broken {
+    fn read(&mut self, _buf: &mut [u8]) -> io::Result<usize> {
+        Err(io::Error::from(ErrorKind::Other))
+    }
+}
+
+impl Write for Broken {
+    fn write(&mut self, _buf: &[u8]) -> io::Result<usize> {
+        Err(io::Error::from(ErrorKind::Other))
+    }
+
+    fn flush(&mut self) -> io::Result<()> {
+        Err(io::Error::from(ErrorKind::Other))
+    }
+}
+
+/// Takes all that is written, and cannot be flushed.
+#[derive(Drop)]
+struct Unflushed;
+
+impl Write for Unflushed {
+    fn write(&mut self, buf: &[u8]) -> io::Result<usize> {
+        Ok(buf.len())
+    }
+
+    fn flush(&mut self) -> io::Result<()> {
+        Err(io::Error::from(ErrorKind::Other))
+    }
+}
+
+fn words(alloc: Global, word: &str) -> Result<Vec<String>, AllocError> {
+    let mut words = Vec::new(alloc);
+    words.push(String::from_str(alloc, word)?)?;
+    Ok(words)
+}
+
+#[test]
+fn writes_the_normal_form(rt: HostRuntime) {
+    let mut output = Vec::new(rt.alloc());
+    let mut faults = Vec::new(rt.alloc());
+    let status = run(rt.alloc(), &[], STREAM, &mut output, &mut faults);
+    assert_eq!(rt; status, 0);
+    assert_eq!(rt; output.as_slice(), TEXT);
+    assert!(rt; faults.is_empty());
+}
+
+#[test]
+fn any_word_is_told_the_usage(rt: HostRuntime) -> Result<(), Fail> {
+    for word in ["--check", "-h", ""] {
+        let words = words(rt.alloc(), word)?;
+        let mut output = Vec::new(rt.alloc());
+        let mut faults = Vec::new(rt.alloc());
+        let status = run(rt.alloc(), &words, Broken, &mut output, &mut faults);
+        assert_eq!(rt; status, 2);
+        assert!(rt; output.is_empty());
+        assert_eq!(rt; faults.as_slice(), b"usage: escnorm [--check]\n".as_slice());
+        let status = run(rt.alloc(), &words, STREAM, Broken, Broken);
+        assert_eq!(rt; status, 2);
+    }
+    Ok(())
+}
+
+#[test]
+fn a_read_fault(rt: HostRuntime) {
+    let mut output = Vec::new(rt.alloc());
+    let mut faults = Vec::new(rt.alloc());
+    let status = run(rt.alloc(), &[], Broken, &mut output, &mut faults);
+    assert_eq!(rt; status, 1);
+    assert!(rt; output.is_empty());
+    assert_eq!(rt; faults.as_slice(), b"escnorm: read fault\n".as_slice());
+}
+
+#[test]
+fn a_write_fault(rt: HostRuntime) {
+    let mut faults = Vec::new(rt.alloc());
+    let status = run(rt.alloc(), &[], STREAM, Broken, &mut faults);
+    assert_eq!(rt; status, 1);
+    assert_eq!(rt; faults.as_slice(), b"escnorm: write fault\n".as_slice());
+    let status = run(rt.alloc(), &[], STREAM, Broken, Broken);
+    assert_eq!(rt; status, 1);
+}
+
+#[test]
+fn a_flush_that_fails_is_a_write_fault(rt: HostRuntime) {
+    let mut faults = Vec::new(rt.alloc());
+    let status = run(rt.alloc(), &[], STREAM, Unflushed, &mut faults);
+    assert_eq!(rt; status, 1);
+    assert_eq!(rt; faults.as_slice(), b"escnorm: write fault\n".as_slice());
+}
+
+#[test]
+fn refused_memory(rt: HostRuntime) {
+    let heap = Refusing::new(rt.alloc());
+    let mut told = 0usize;
+    let mut is_done = false;
+    for at in 1..100u64 {
+        heap.refuse_at(at);
+        let mut output = Vec::new(rt.alloc());
+        let mut faults = Vec::new(rt.alloc());
+        let status = run(&heap, &[], STREAM, &mut output, &mut faults);
+        if status == 0 {
+            assert_eq!(rt; output.as_slice(), TEXT);
+            if !heap.has_refused() {
+                is_done = true;
+                break;
+            }
+        } else {
+            told = told.saturating_add(1);
+            assert!(rt; heap.has_refused(), "at {at}");
+            assert_eq!(rt; status, 1, "at {at}");
+            assert!(rt; output.is_empty(), "at {at}");
+            assert_eq!(rt; faults.as_slice(), b"escnorm: out of memory\n".as_slice());
+        }
+    }
+    assert!(rt; is_done && told > 0);
+}
