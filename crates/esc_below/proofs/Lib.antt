@@ -1,2 +1,11 @@
+pub mod Base64
+pub mod Bodies
+pub mod CsisBack
+pub mod Engine
+pub mod EntriesText
+pub mod Numbers
 pub mod Plain
+pub mod PlainParts
+pub mod Renditions
 pub mod Split
+pub mod Utf8Bytes

@@ -1,3 +1,5 @@
+use crate::base64_text::{Encoded, read_base64, read_base64_text};
+use crate::scalar::{read_u8, text_of};
 use crate::{CsiParam, Error, Esc, EscCode, Items, Text};
 use std::alloc::AllocError;
 use std::test::Fail;
@@ -73,5 +75,24 @@ fn errors(rt: HostRuntime) -> Result<(), Fail> {
     assert_eq!(rt; Error::from(AllocError), Error::Memory(AllocError));
     let shown = format!(in rt.alloc(); "{0:?}", CsiParam::Integer(3))?;
     assert_eq!(rt; shown.as_str(), "Integer(3)");
+    Ok(())
+}
+
+#[test]
+fn scalars(rt: HostRuntime) -> Result<(), Fail> {
+    let alloc = rt.alloc();
+    assert_eq!(rt; read_u8(b"+250"), Some(250));
+    assert_eq!(rt; read_u8(b"256"), None);
+    assert_eq!(rt; read_u8(b""), None);
+    let text = text_of(b"h\xc3\xa9".as_slice().to_vec(alloc)?);
+    assert_eq!(rt; text, Some(Text::from_str(alloc, "h\u{e9}")?));
+    assert_eq!(rt; text_of(b"\xc3".as_slice().to_vec(alloc)?), None);
+    let shown = Encoded(b"hi").to_string(alloc)?;
+    assert_eq!(rt; shown.as_str(), "aGk=");
+    let read = read_base64_text(alloc, b"aGl=")?;
+    assert_eq!(rt; read, Some(Text::from_str(alloc, "hi")?));
+    assert_eq!(rt; read_base64_text(alloc, b"aGk")?, None);
+    let bytes = read_base64(alloc, b"//8=")?;
+    assert!(rt; matches!(&bytes, Some(b) if b.as_slice() == [255u8, 255].as_slice()));
     Ok(())
 }

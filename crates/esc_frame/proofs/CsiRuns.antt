@@ -1,18 +1,21 @@
 -- Runs in the body of a control sequence.
-use Rattle.std.proofs.Common.{ℕ, ◌≡◌, ◌≤◌, Bool, true, false, not, ◌&&◌, List, [], ◌∷◌, ◌++◌, length, take, get_or, refl, ap, sym, ◌∙◌, append_assoc, arith}
+use Rattle.std.proofs.Common.{ℕ, ◌≡◌, ◌+◌, ◌-◌, ◌≤◌, Bool, true, false, not, ◌&&◌, List, [], ◌∷◌, ◌++◌, length, take, drop, get_or, refl, ap, sym, ◌∙◌, append_assoc, arith}
 use Rattle.std.specs.List.{list_all}
+use Rattle.std.proofs.Math.Seq.{take-add}
 use Rattle.std.proofs.lemmas.List.{append-nil}
 use Rattle.std.proofs.lemmas.List.Elements.{filter-append}
+use Rattle.std.proofs.lemmas.List.Folds.{list_all-append}
 use Rattle.std.proofs.lemmas.Bool.Decides.{nat_tests}
 use Rattle.esc_frame.specs.declared.classes.Class.{Class}
 use Rattle.esc_frame.specs.declared.classes.Class.TheVariants.{Plain, Bell, Cancel, Escape, Intermediate, Parameter, Opens, Final, Delete, RawControl, RawOpens, RawTerminator, High, Lead}
 use Rattle.esc_frame.specs.declared.classes.Kind.TheVariants as kind
-use Rattle.esc_frame.specs.Classes.{class_of, is_noise, in_body, strip}
+use Rattle.esc_frame.specs.Classes.{class_of, is_noise, in_body, ends_csi, strip}
 use Rattle.esc_frame.specs.Scans.{is_body_byte}
-use Rattle.esc_frame.specs.Segments.{Opener}
+use Rattle.esc_frame.specs.Segments.{Opener, csi_events}
 use Rattle.esc_frame.specs.Segments.Opener.{Long, Raw}
 use Rattle.esc_frame.specs.Leads.Unfinished.{Ground, InCsi, InOsc}
 use Rattle.esc_frame.specs.Moves.{csi_after, csi_news, after_all, news_all}
+use Rattle.esc_frame.proofs.ManyBytes.{tail_is}
 
 both : (s t : Bool) → (s && t) ≡ true → (s ≡ true) × (t ≡ true)
 both true t h = (refl, h)
@@ -93,3 +96,35 @@ csi_opens rest h p q = let e = two_first rest 0x1b 0x5b h p q in (ap (after_all 
 
 pub osc_opens : (rest : List ℕ) → 2 ≤ length rest → get_or rest 0 0 ≡ 0x1b → get_or rest 1 0 ≡ 0x5d → (after_all Ground (take 2 rest) ≡ InOsc (Long []) []) × (news_all Ground (take 2 rest) ≡ [])
 osc_opens rest h p q = let e = two_first rest 0x1b 0x5d h p q in (ap (after_all Ground) e ∙ osc_begins.0, ap (news_all Ground) e ∙ osc_begins.1)
+
+-- ---- the final byte
+
+final_class : (b : ℕ) → 0x40 ≤ b → b ≤ 0x7e → ends_csi (class_of b) ≡ true
+unfolding class_of
+final_class b l h = grind (arith, nat_tests)
+
+final_step : (o : Opener) (x : List ℕ) (b : ℕ) (c : Class) → ends_csi c ≡ true → (csi_after o x b c ≡ Ground) × (csi_news x b c ≡ csi_events (strip x) b)
+final_step o x b (Opens k) h = (refl, refl)
+final_step o x b Final h = (refl, refl)
+final_step o x b Intermediate h = absurd cc
+final_step o x b Parameter h = absurd cc
+final_step o x b Delete h = absurd cc
+final_step o x b Plain h = absurd cc
+final_step o x b Bell h = absurd cc
+final_step o x b Cancel h = absurd cc
+final_step o x b Escape h = absurd cc
+final_step o x b RawControl h = absurd cc
+final_step o x b (RawOpens k) h = absurd cc
+final_step o x b RawTerminator h = absurd cc
+final_step o x b High h = absurd cc
+final_step o x b Lead h = absurd cc
+
+pub final_by : (o : Opener) (x : List ℕ) (b : ℕ) → 0x40 ≤ b → b ≤ 0x7e → (csi_after o x b (class_of b) ≡ Ground) × (csi_news x b (class_of b) ≡ csi_events (strip x) b)
+final_by o x b l h = final_step o x b (class_of b) (final_class b l h)
+
+-- a run, and one in the slice behind it
+pub run_joins : (rest : List ℕ) (i n : ℕ) → take i rest ++ take n (take (length rest - i) (drop i rest)) ≡ take (i + n) rest
+run_joins rest i n = ap (λ y. take i rest ++ take n y) (tail_is rest i) ∙ sym (take-add i n rest)
+
+pub passes_more : (rest : List ℕ) (i n : ℕ) → list_all is_body_byte (take i rest) ≡ true → list_all is_body_byte (take n (take (length rest - i) (drop i rest))) ≡ true → list_all is_body_byte (take (i + n) rest) ≡ true
+passes_more rest i n h k = ap (list_all is_body_byte) (sym (run_joins rest i n)) ∙ list_all-append is_body_byte (take i rest) (take n (take (length rest - i) (drop i rest))) ∙ rw (h, k) refl

@@ -3,6 +3,7 @@ pub mod Bytes
 pub mod Characters
 pub mod CsiRuns
 pub mod Cuts
+pub mod DigitRuns
 pub mod Fed
 pub mod First
 pub mod FirstEntries

@@ -1,5 +1,5 @@
 -- Many bytes at once.
-use Rattle.std.proofs.Common.{ℕ, suc, ◌≡◌, ◌+◌, ◌<◌, ◌≤◌, Bool, true, false, cond, ◌&&◌, ◌||◌, List, [], ◌∷◌, ◌++◌, map, length, take, drop, get_or, refl, ap, sym, ◌∙◌, subst, inr, take-append-drop, length-drop, get_or-drop, ◌-◌, arith}
+use Rattle.std.proofs.Common.{ℕ, suc, ◌≡◌, ◌+◌, ◌<◌, ◌≤◌, Bool, true, false, cond, ◌&&◌, ◌||◌, List, [], ◌∷◌, ◌++◌, map, length, take, drop, get_or, refl, ap, sym, ◌∙◌, subst, inr, take-append-drop, length-drop, get_or-drop, ◌-◌, arith, Result, Ok, Err, OnOk}
 use Rattle.std.specs.List.{FoldsTo, prefix_len, list_all}
 use Rattle.std.proofs.Math.Seq.{take-add}
 use Rattle.std.proofs.lemmas.List.{append-nil, take_more, take_all, map-append}
@@ -369,3 +369,8 @@ module _ {S : Type 0} (takes refuses : S → Event → S → Type 0) (u v : Unfi
 -- the machine stopped by itself, where it may
 pub own_stops : {S : Type 0} (takes refuses : S → Event → S → Type 0) (u : Unfinished) (rest : List ℕ) (old : S) → 0 < length rest → may_grow_in u ≡ true → StopsAt (may_grow_within u rest ≡ true) takes refuses old (news_all u rest) old
 own_stops takes refuses u rest old some h = stops_here (may_grow_within u rest ≡ true) takes refuses (news_all u rest) old (grows_first u rest some h)
+
+-- what holds in any case
+pub always_ok : {T E : Type 0} {P : Type 0} (r : Result T E) → P → OnOk r P
+always_ok (Ok x) p = p
+always_ok (Err e) p = tt

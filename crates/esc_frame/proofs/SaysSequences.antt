@@ -1,12 +1,15 @@
 -- What escape sequences and control sequences say.
-use Rattle.std.proofs.Common.{ℕ, ◌≡◌, Bool, true, false, not, ◌&&◌, if◌then◌else◌, List, [], ◌∷◌, ◌++◌, refl, ap}
+use Rattle.std.proofs.Common.{ℕ, ◌≡◌, Bool, true, false, not, ◌&&◌, if◌then◌else◌, List, [], ◌∷◌, ◌++◌, refl, ap, arith}
 use Rattle.std.specs.List.{list_all}
 use Rattle.std.proofs.lemmas.Bool.{and_parts}
+use Rattle.std.proofs.lemmas.Bool.Decides.{nat_tests}
 use Rattle.esc_frame.specs.declared.classes.Class.{Class}
 use Rattle.esc_frame.specs.declared.classes.Class.TheVariants.{Intermediate, Parameter}
 use Rattle.esc_frame.specs.Classes.{class_of, AllOf, those, strip, is_plain, is_noise, is_intermediate, in_body, in_escape, in_csi, ends_escape, ends_csi, opens}
 use Rattle.esc_frame.specs.Bodies.{is_csi_body, kept_intermediates, has_more_intermediates}
+use Rattle.esc_frame.specs.Scans.{is_body_byte}
 use Rattle.esc_frame.specs.Events.Event.{EscDispatch}
+use Rattle.esc_frame.specs.Fits.{IsOneSegment}
 use Rattle.esc_frame.specs.Segments.{bytes_of, events_of, executes, is_empty, csi_event}
 use Rattle.esc_frame.specs.Segments.Segment.{Csi}
 use Rattle.esc_frame.specs.Segments.Segment.{Escape as EscapeOf}
@@ -70,7 +73,20 @@ csi_dispatched : (x : List ℕ) (f : ℕ) (t : Bool) → t ≡ true → (if t th
 csi_dispatched x f true e = refl
 csi_dispatched x f false e = absurd cc
 
--- a control sequence with a body of its form
+-- bytes 20-3F
+body_class : (b : ℕ) → is_body_byte b ≡ true → in_body (class_of b) ≡ true
+unfolding class_of
+body_class b h = grind (arith, nat_tests)
+
+pub body_of : (x : List ℕ) → list_all is_body_byte x ≡ true → AllOf in_body x
+body_of [] h = refl
+body_of (b ∷ x) h = let w = and_parts (is_body_byte b) (list_all is_body_byte x) h in rw (body_class b w.0, body_of x w.1) refl
+
+-- a control sequence with a body of its form is one segment
+pub one_csi : (x : List ℕ) (f : ℕ) → AllOf in_body x → is_csi_body x ≡ true → ends_csi (class_of f) ≡ true → IsOneSegment ((0x1b ∷ 0x5b ∷ x) ++ f ∷ []) (csi_event x f ∷ [])
+one_csi x f hx hb hf = (Csi (Long []) x f, refl, refl, (refl, body_in x hx, hf), rw (body_executes x hx, body_strip x hx) (csi_dispatched x f (is_csi_body x) hb))
+
+-- and says what this body dispatches
 pub says_csi : (x : List ℕ) (f : ℕ) → AllOf in_body x → is_csi_body x ≡ true → ends_csi (class_of f) ≡ true → Says ((0x1b ∷ 0x5b ∷ x) ++ f ∷ []) (csi_event x f ∷ [])
 says_csi x f hx hb hf =
     says_by (bytes_of (Csi (Long []) x f)) ((0x1b ∷ 0x5b ∷ x) ++ f ∷ []) (events_of (Csi (Long []) x f) true) (csi_event x f ∷ []) refl (rw (body_executes x hx, body_strip x hx) (csi_dispatched x f (is_csi_body x) hb))

@@ -18,6 +18,11 @@ abbrev pub shown : Option ℕ → List CsiParam
 shown None = []
 shown (Some n) = Integer (pos (held n)) ∷ []
 
+-- the number of the run of digits at the end, or 0
+abbrev pub number_at : Option ℕ → ℕ
+number_at None = 0
+number_at (Some n) = n
+
 abbrev pub next_number_of : Option ℕ → ℕ → Option ℕ
 next_number_of None b = if is_digit b then Some (b - 0x30) else None
 next_number_of (Some n) b = if is_digit b then Some (10 * n + (b - 0x30)) else None

@@ -1,19 +1,26 @@
 //! The framing of terminal streams: bytes, in any pieces, to the events of their one cut into segments.
+//!
+//! A [`VTParser`] is fed a stream and gives the events of its segments to a [`VTActor`]. What the segments and their events
+//! are is defined in `specs/`; [`laws`] says what holds of all streams.
 #![tactic(auto)]
 
 pub mod actor;
-pub mod body;
-pub mod classes;
-pub mod entries;
+mod body;
+mod classes;
+mod entries;
 pub mod error;
-pub mod header;
-pub mod intermediates;
+mod header;
+mod intermediates;
 pub mod laws;
-pub mod machine;
+mod machine;
 pub mod parser;
-pub mod parts;
-pub mod printing;
-pub mod runs;
-pub mod scans;
-pub mod sequence;
-pub mod split;
+mod parts;
+mod printing;
+mod runs;
+mod scans;
+mod sequence;
+mod split;
+
+pub use actor::VTActor;
+pub use error::ParseError;
+pub use parser::VTParser;

@@ -4,14 +4,14 @@
 ghost use Rattle.std.specs.Prelude.{◌≡◌, ◌≤◌, ◌<◌, ◌++◌, ℕ, List, [], ◌∷◌, length, take, map, true, false, slice_index, IfOk, OnOk};
 ghost use Rattle.std.specs.List.{list_all};
 ghost use Rattle.esc_frame.specs.Bodies.{is_dcs_header};
-ghost use Rattle.esc_frame.specs.Classes.{strip, those, is_text, is_put};
+ghost use Rattle.esc_frame.specs.Classes.{class_of, strip, those, is_text, is_put};
 ghost use Rattle.esc_frame.specs.Events.{Takes};
 ghost use Rattle.esc_frame.specs.Events.Event.{DcsPut};
 ghost use Rattle.esc_frame.specs.Fronts.{front_of};
 ghost use Rattle.esc_frame.specs.Keeps.{KeepsBody};
 ghost use Rattle.esc_frame.specs.Leads.{Unfinished, Holds};
 ghost use Rattle.esc_frame.specs.Leads.Unfinished.{Ground, InCsi, InOsc, InData, InApc};
-ghost use Rattle.esc_frame.specs.Moves.{after_all, news_all, may_grow_within, Given, IsStill};
+ghost use Rattle.esc_frame.specs.Moves.{after_all, news_all, may_grow_within, Given, IsStill, csi_after, csi_news};
 ghost use Rattle.esc_frame.specs.TextRuns.{IsTextRun};
 ghost use Rattle.esc_frame.specs.Scans.{is_body_byte, is_text_byte};
 ghost use Rattle.esc_frame.specs.Segments.{Opener, Piece, text_of};
@@ -34,12 +34,32 @@ fn push_run<A: Allocator>(body: &mut CsiBody<A>, rest: &[u8]) -> Result<usize, A
 {
     let mut end = 0;
     while end < rest.len() && 0x20 <= rest[end] && rest[end] <= 0x3f {
-        match body.push(rest[end]) {
-            Ok(()) => end += 1,
+        match push_next(body, &rest[end..]) {
+            Ok(n) => end += n,
             Err(e) => return Err(e),
         }
     }
     Ok(end)
+}
+
+// Pushes a run of digits, or a byte.
+#[inline(always)]
+fn push_next<A: Allocator>(body: &mut CsiBody<A>, rest: &[u8]) -> Result<usize, AllocError>
+    requires some { 0 < length rest.now }
+    requires low { 0x20 ≤ slice_index rest.now 0 }
+    requires high { slice_index rest.now 0 ≤ 0x3f }
+    ensures keeps { (x : List ℕ) → KeepsBody body.old x → IfOk result (λ n. KeepsBody body.new (x ++ take n rest.now)) }
+    ensures run { IfOk result (λ n. list_all is_body_byte (take n rest.now) ≡ true) }
+    ensures count { IfOk result (λ n. (0 < n) × (n ≤ length rest.now)) }
+{
+    if b'0' <= rest[0] && rest[0] <= b'9' {
+        Ok(body.push_digits(rest))
+    } else {
+        match body.push(rest[0]) {
+            Ok(()) => Ok(1),
+            Err(e) => Err(e),
+        }
+    }
 }
 
 // Gives bytes 20-7F of the data of a device control string to the actor, each but 7F.
@@ -167,7 +187,7 @@ impl<A: Allocator> Machine<A> {
         }
     }
 
-    // Characters, or what else stands in ground.
+    // Characters, and what stands behind them.
     #[inline(always)]
     fn take_in_ground<V: VTActor>(
         &mut self,
@@ -183,8 +203,15 @@ impl<A: Allocator> Machine<A> {
         ensures ready { OnOk result (V.is_ready actor.new) }
     {
         match print_front(rest, actor) {
-            Ok(0) => self.take_control(rest, actor),
-            Ok(n) => Ok(n),
+            Ok(printed) => {
+                if printed == rest.len() {
+                    return Ok(printed);
+                }
+                match self.take_control(&rest[printed..], actor) {
+                    Ok(n) => Ok(printed + n),
+                    Err(e) => Err(e),
+                }
+            }
             Err(e) => Err(e),
         }
     }
@@ -347,9 +374,24 @@ impl<A: Allocator> Machine<A> {
         if run == rest.len() {
             return Ok(run);
         }
-        match self.in_csi(rest[run], classify(rest[run]), actor) {
+        match self.end_body(rest[run], actor) {
             Ok(()) => Ok(run + 1),
             Err(e) => Err(e),
+        }
+    }
+
+    // A byte of a control sequence, which most often is its final byte.
+    #[inline(always)]
+    fn end_body<V: VTActor>(&mut self, b: u8, actor: &mut V) -> Result<(), AllocError>
+        requires { V.is_ready actor.old }
+        ensures holds { (o : Opener) (x : List ℕ) → KeepsBody self.old.body (strip x) → OnOk result (Holds self.new (csi_after o x b (class_of b))) }
+        ensures told { (x : List ℕ) → KeepsBody self.old.body (strip x) → Takes true V.takes V.refuses result actor.old (csi_news x b (class_of b)) actor.new }
+        ensures ready { OnOk result (V.is_ready actor.new) }
+    {
+        if 0x40 <= b && b <= 0x7e {
+            self.dispatch_csi(b, actor)
+        } else {
+            self.in_csi(b, classify(b), actor)
         }
     }
 

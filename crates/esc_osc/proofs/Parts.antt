@@ -1,12 +1,20 @@
--- A title that is joined part by part.
-use Rattle.std.proofs.Common.{◌≡◌, ℕ, ◌≤◌, List, [], ◌∷◌, ◌++◌, length, map, take, refl, ap, take_all}
+-- Lists of parts that are read one after another.
+use Rattle.std.proofs.Common.{◌≡◌, ℕ, ◌<◌, ◌≤◌, List, [], ◌∷◌, ◌++◌, length, map, take, Some, refl, ap, arith, take_all}
 use Rattle.std.specs.List.{flat_map}
-use Rattle.esc_osc.specs.Reading.{title_of, utf8_of}
+use Rattle.esc_below.specs.Scalars.{utf8_of}
+use Rattle.esc_osc.specs.Colors.{pairs_of}
+use Rattle.esc_osc.specs.Reading.{title_of}
 
-flat_map_map : {X : Type 0} (f : X → List ℕ) (rest : List X) → flat_map (λ q. 0x3b ∷ q) (map f rest) ≡ flat_map (λ q. 0x3b ∷ f q) rest
+pub pairs_end : {X : Type 0} (f : X → List ℕ) (left : List X) → length left < 2 → pairs_of (map f left) ≡ Some []
+pairs_end f [] h = refl
+pairs_end f (x ∷ []) h = refl
+pairs_end f (x ∷ y ∷ xs) h = absurd (omega arith)
+
+pub flat_map_map : {X : Type 0} (f : X → List ℕ) (rest : List X) → flat_map (λ q. 0x3b ∷ q) (map f rest) ≡ flat_map (λ q. 0x3b ∷ f q) rest
 flat_map_map f [] = refl
 flat_map_map f (x ∷ xs) = ap (λ t. (0x3b ∷ f x) ++ t) (flat_map_map f xs)
 
+-- a title that is joined part by part
 pub title_whole : {X : Type 0} (f : X → List ℕ) (args : List X) (first : X) (rest : List X) (i : ℕ) (head bytes : List ℕ)
     → args ≡ first ∷ rest → length rest ≤ i → head ≡ f first → bytes ≡ head ++ flat_map (λ q. 0x3b ∷ f q) (take i rest)
     → title_of (map f args) ≡ utf8_of bytes

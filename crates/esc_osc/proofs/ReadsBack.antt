@@ -1,67 +1,50 @@
--- Every writable command reads back, and what clear parts mean is writable.
-use Rattle.std.proofs.Common.{ℕ, ◌≡◌, Bool, true, false, cond, ◌==◌, List, [], ◌∷◌, ◌++◌, Option, Some, None, refl, sym, ap, ◌∙◌, subst}
-use Rattle.std.specs.List.{flat_map, slice_split, list_all, onto_first}
+-- Every writable command reads back.
+use Rattle.esc_below.specs.Scalars.{number_of}
+use Rattle.std.proofs.Common.{ℕ, ◌≡◌, ◌≤◌, arith, Bool, true, false, cond, ◌==◌, List, [], ◌∷◌, ◌++◌, map, codes, Some, refl, sym, ap, ◌∙◌, subst}
+use Rattle.std.specs.Fmt.{decimal}
+use Rattle.std.specs.List.{flat_map, slice_split, onto_first}
 use Rattle.std.specs.Option.{option_map, unwrap_or}
-use Rattle.std.specs.Str.{is_utf8, IsUtf8}
-use Rattle.std.specs.Str.Lossy.{utf8_lossy}
-use Rattle.std.proofs.lemmas.Str.{utf8_lossy-IsUtf8, is_utf8-from_IsUtf8}
-use lib.Utf8.{scalar, scalars}
-use Rattle.esc_below.specs.Clear.{is_clear, IsClearText, IsClearPart, AreClearParts, AreTextParts, joined, parts_of}
-use Rattle.esc_below.proofs.Plain.{is_plain, plain_clear}
-use Rattle.esc_below.proofs.Split.{and_parts, clear_append, joined_clear, part_clear, parts_text, joined_split}
+use Rattle.std.specs.Str.{IsUtf8}
+use Rattle.std.proofs.lemmas.Bool.{le-leb}
+use Rattle.std.proofs.lemmas.List.{append-nil}
+use Rattle.std.proofs.lemmas.Str.{is_utf8-from_IsUtf8}
+use Rattle.esc_below.specs.Base64.{base64_text}
+use Rattle.esc_below.specs.Clear.{IsClearText, IsClearPart, AreClearParts, joined, parts_of}
+use Rattle.esc_below.proofs.Base64.{base64_part, base64_back}
+use Rattle.esc_below.proofs.Plain.{plain_clear}
+use Rattle.esc_below.proofs.PlainParts.{plain_part}
+use Rattle.esc_below.proofs.Split.{clear_append, joined_clear, part_clear, parts_text, joined_split}
+pub use Rattle.esc_osc.proofs.Clear.{chars_scalar, clear_utf8}
+pub use Rattle.esc_osc.proofs.ReadParts.{clear_is_writable}
+use Rattle.esc_osc.proofs.Clear.{part_utf8, part_lossy, parts_lossy, lossy_joined, part_append}
 use Rattle.esc_osc.proofs.Codes.{code_of-code_text}
-use Rattle.esc_osc.specs.Codes.{code_text, code_of}
-use Rattle.esc_osc.specs.Commands.{inner_text, titled, joined_by}
-use Rattle.esc_osc.specs.Reading.{meaning, fitting, reading, title_of, and_then, when}
-use Rattle.esc_osc.specs.Writable.{IsWritable}
+use Rattle.esc_osc.proofs.Colors.{specs_are_parts, colors_back, two_parts, two_are_parts, pairs_back, pairs_joined}
+use Rattle.esc_osc.proofs.Dynamic.{change_reads, reset_reads}
+use Rattle.esc_osc.proofs.Numerals.{number_back, decimal_part, decimals_are_parts, numbers_back}
+use Rattle.esc_osc.proofs.Parts.{flat_map_map}
+use Rattle.esc_osc.proofs.Selections.{selection_back, selection_part, base64_other}
+use Rattle.esc_osc.proofs.Written.{Written, written_clear, written_back, code_part, code_means, one_written, two_written}
+use Rattle.esc_osc.specs.Codes.{code_text, change_code, reset_code}
+use Rattle.esc_osc.specs.Colors.{spec_text}
+use Rattle.esc_osc.specs.Commands.{inner_text, titled}
+use Rattle.esc_osc.specs.Progresses.{held}
+use Rattle.esc_osc.specs.Reading.{meaning, reading, title_of, lone_text}
+use Rattle.esc_osc.specs.Selections.{selection_text}
+use Rattle.esc_osc.specs.Writable.{IsWritable, AreNumbers, AreColors, ArePairs, IsNamed, IsProgress}
+use Rattle.esc_osc.specs.declared.change_color_pair.ChangeColorPair.{ChangeColorPair}
 use Rattle.esc_osc.specs.declared.code.OperatingSystemCommandCode.{OperatingSystemCommandCode}
 use Rattle.esc_osc.specs.declared.code.OperatingSystemCommandCode.TheVariants as code
+use Rattle.esc_osc.specs.declared.color_or_query.ColorOrQuery.{ColorOrQuery}
 use Rattle.esc_osc.specs.declared.command.OperatingSystemCommand.{OperatingSystemCommand}
-use Rattle.esc_osc.specs.declared.command.OperatingSystemCommand.TheVariants.{SetIconNameAndWindowTitle, SetIconName, SetWindowTitle, Unspecified}
+use Rattle.esc_osc.specs.declared.command.OperatingSystemCommand.TheVariants as command
+use Rattle.esc_osc.specs.declared.dynamic_color_number.DynamicColorNumber.{DynamicColorNumber}
+use Rattle.esc_osc.specs.declared.progress.Progress.{Progress}
+use Rattle.esc_osc.specs.declared.progress.Progress.TheVariants as progress
+use Rattle.esc_osc.specs.declared.selection.Selection.{Selection}
 
--- clear texts are UTF-8
-pub chars_scalar : (cs : List ℕ) → list_all is_clear cs ≡ true → scalars cs ≡ true
-chars_scalar [] h = refl
-chars_scalar (c ∷ cs) h =
-    let q = and_parts (is_clear c) (list_all is_clear cs) h in
-    let s = and_parts (scalar c) _ q.0 in
-    rw (s.0, chars_scalar cs q.1) refl
-
-pub clear_utf8 : (t : List ℕ) → IsClearText t → IsUtf8 t
-clear_utf8 t (cs, all, e) = (cs, (chars_scalar cs all, e))
-
--- the lossy text of clear parts is the parts
-part_lossy : (p : List ℕ) → IsClearPart p → utf8_lossy p ≡ p
-part_lossy p h = utf8_lossy-IsUtf8 p (clear_utf8 p (part_clear p h))
-
-behind_lossy : (ps : List (List ℕ)) → AreClearParts ps → flat_map (λ y. 0x3b ∷ utf8_lossy y) ps ≡ flat_map (λ q. 0x3b ∷ q) ps
-behind_lossy [] h = refl
-behind_lossy (p ∷ ps) h = rw (part_lossy p h.0) (ap (λ t. (0x3b ∷ p) ++ t) (behind_lossy ps h.1))
-
-pub lossy_joined : (ps : List (List ℕ)) → AreClearParts ps → joined_by utf8_lossy ps ≡ joined ps
-lossy_joined [] h = refl
-lossy_joined (p ∷ ps) h = rw (part_lossy p h.0) (ap (λ t. p ++ t) (behind_lossy ps h.1))
-
--- a code is a clear text
-code_plain : (c : OperatingSystemCommandCode) → list_all is_plain (code_text c) ≡ true
-code_plain code.SetIconNameAndWindowTitle = refl
-code_plain code.SetIconName = refl
-code_plain code.SetWindowTitle = refl
-
-code_clear : (c : OperatingSystemCommandCode) → IsClearText (code_text c)
-code_clear c = plain_clear (code_text c) (code_plain c)
-
--- what is written is clear
+-- a title: what is written is clear
 titled_clear : (c : OperatingSystemCommandCode) (t : List ℕ) → IsClearText t → IsClearText (titled c t)
-titled_clear c t h = clear_append (code_text c) (0x3b ∷ t) (code_clear c) (clear_append (0x3b ∷ []) t (plain_clear (0x3b ∷ []) refl) h)
-
-pub writes_clear : {A : Type 0} (c : OperatingSystemCommand A) → IsWritable c → IsClearText (inner_text c)
-writes_clear (SetIconNameAndWindowTitle t) h = titled_clear code.SetIconNameAndWindowTitle t h
-writes_clear (SetIconName t) h = titled_clear code.SetIconName t h
-writes_clear (SetWindowTitle t) h = titled_clear code.SetWindowTitle t h
-writes_clear (Unspecified ps) h =
-    let P : List ℕ → Type 0 = λ u. IsClearText u in
-    subst P (sym (lossy_joined ps h.0.0)) (joined_clear ps h.0.0)
+titled_clear c t h = clear_append (code_text c) (0x3b ∷ t) (part_clear (code_text c) (code_part c)) (clear_append (0x3b ∷ []) t (plain_clear (0x3b ∷ []) refl) h)
 
 -- every text splits into at least one piece
 abbrev HasFirst : List (List ℕ) → Type 0
@@ -77,72 +60,213 @@ split_head [] = ([], [], refl)
 split_head (b ∷ t) = split_more b t (b == 0x3b) (split_head t)
 
 -- a title reads back
-code_splits : (c : OperatingSystemCommandCode) (t : List ℕ) → parts_of (titled c t) ≡ code_text c ∷ slice_split (λ c. c == 0x3b) t
-code_splits code.SetIconNameAndWindowTitle t = refl
-code_splits code.SetIconName t = refl
-code_splits code.SetWindowTitle t = refl
-
 title_split : (t : List ℕ) → IsUtf8 t → title_of (slice_split (λ c. c == 0x3b) t) ≡ Some t
 title_split t u =
     let s = split_head t in
     let j : joined (s.0 ∷ s.1) ≡ t = ap joined (sym s.2) ∙ joined_split t in
     rw s.2 (rw (j, is_utf8-from_IsUtf8 t u) refl)
 
-code_means : {A : Type 0} (c : OperatingSystemCommandCode) (args : List (List ℕ)) → fitting {A = A} (code_text c ∷ args) ≡ reading c args
-code_means c args = rw (utf8_lossy-IsUtf8 (code_text c) (clear_utf8 (code_text c) (code_clear c)), code_of-code_text c) refl
+title_means : (A : Type 0) (c : OperatingSystemCommandCode) (t : List ℕ) (v : OperatingSystemCommand A)
+    → parts_of (titled c t) ≡ code_text c ∷ slice_split (λ c. c == 0x3b) t
+    → reading c (code_text c) (slice_split (λ c. c == 0x3b) t) ≡ Some v → meaning (parts_of (titled c t)) ≡ v
+title_means A c t v splits e =
+    ap (meaning {A = A}) splits
+    ∙ ap (λ r. unwrap_or r (command.Unspecified (code_text c ∷ slice_split (λ c. c == 0x3b) t))) (code_means c (slice_split (λ c. c == 0x3b) t) ∙ e)
 
-title_means : {A : Type 0} (c : OperatingSystemCommandCode) (t : List ℕ) (v : OperatingSystemCommand A)
-    → reading c (slice_split (λ c. c == 0x3b) t) ≡ Some v → meaning (parts_of (titled c t)) ≡ v
-title_means {A = A} c t v e =
-    ap (meaning {A = A}) (code_splits c t)
-    ∙ ap (λ r. unwrap_or r (Unspecified (code_text c ∷ slice_split (λ c. c == 0x3b) t))) (code_means c (slice_split (λ c. c == 0x3b) t) ∙ e)
+-- a text behind a letter
+letter_part : (c : OperatingSystemCommandCode) (t : List ℕ) → IsClearPart t → IsClearPart (code_text c ++ t)
+letter_part c t h = part_append (code_text c) t (code_part c) h
+
+one_part : (b : ℕ) (t : List ℕ) → IsClearPart (b ∷ t) → parts_of (b ∷ t) ≡ (b ∷ t) ∷ []
+one_part b t h = ap parts_of (sym (append-nil (b ∷ t))) ∙ (parts_text ((b ∷ t) ∷ []) ((h, tt), λ e. cc)).1
+
+window_means : (A : Type 0) (t : List ℕ) → IsClearPart (0x6c ∷ t) → IsClearPart t → meaning {A = A} ((0x6c ∷ t) ∷ []) ≡ command.SetWindowTitleSun t
+window_means A t h k = rw (part_lossy (0x6c ∷ t) h, code_of-code_text code.SetWindowTitleSun, is_utf8-from_IsUtf8 t (part_utf8 t k)) refl
+
+icon_means : (A : Type 0) (t : List ℕ) → IsClearPart (0x4c ∷ t) → IsClearPart t → meaning {A = A} ((0x4c ∷ t) ∷ []) ≡ command.SetIconNameSun t
+icon_means A t h k = rw (part_lossy (0x4c ∷ t) h, code_of-code_text code.SetIconNameSun, is_utf8-from_IsUtf8 t (part_utf8 t k)) refl
+
+-- one text behind the code
+lone_back : (t : List ℕ) → IsClearPart t → lone_text (t ∷ []) ≡ Some t
+lone_back t h = rw (is_utf8-from_IsUtf8 t (part_utf8 t h)) refl
+
+directory : (A : Type 0) (t : List ℕ) → IsClearPart t → Written A (command.CurrentWorkingDirectory t)
+directory A t h = record {
+  code = code.SetCurrentWorkingDirectory;
+  args = t ∷ [];
+  text = one_written code.SetCurrentWorkingDirectory t;
+  clear = (h, tt);
+  reads = ap (option_map command.CurrentWorkingDirectory) (lone_back t h);
+}
+
+notification : (A : Type 0) (t : List ℕ) → IsClearPart t → Written A (command.SystemNotification t)
+notification A t h = record {
+  code = code.SystemNotification;
+  args = t ∷ [];
+  text = one_written code.SystemNotification t;
+  clear = (h, tt);
+  reads = ap (option_map command.SystemNotification) (lone_back t h);
+}
+
+-- progress
+percent_back : (n : ℕ) → n ≤ 100 → held (unwrap_or (number_of 8 (decimal n)) 0) ≡ n
+percent_back n h = rw (number_back n (omega arith), le-leb n 100 h) refl
+
+progressing : (A : Type 0) (p : Progress) → IsProgress p → Written A (command.ConEmuProgress p)
+progressing A progress.None h = record {
+  code = code.SystemNotification;
+  args = codes "4" ∷ codes "0" ∷ [];
+  text = refl;
+  clear = (plain_part (codes "4") refl, (plain_part (codes "0") refl, tt));
+  reads = refl;
+}
+progressing A (progress.SetPercentage n) h = record {
+  code = code.SystemNotification;
+  args = codes "4" ∷ codes "1" ∷ decimal n ∷ [];
+  text = ap (λ x. codes "9;4;1;" ++ x) (sym (append-nil (decimal n)));
+  clear = (plain_part (codes "4") refl, (plain_part (codes "1") refl, (decimal_part n (omega arith), tt)));
+  reads = ap (λ k. Some (command.ConEmuProgress (progress.SetPercentage k))) (percent_back n h);
+}
+progressing A (progress.SetError n) h = record {
+  code = code.SystemNotification;
+  args = codes "4" ∷ codes "2" ∷ decimal n ∷ [];
+  text = ap (λ x. codes "9;4;2;" ++ x) (sym (append-nil (decimal n)));
+  clear = (plain_part (codes "4") refl, (plain_part (codes "2") refl, (decimal_part n (omega arith), tt)));
+  reads = ap (λ k. Some (command.ConEmuProgress (progress.SetError k))) (percent_back n h);
+}
+progressing A progress.SetIndeterminate h = record {
+  code = code.SystemNotification;
+  args = codes "4" ∷ codes "3" ∷ [];
+  text = refl;
+  clear = (plain_part (codes "4") refl, (plain_part (codes "3") refl, tt));
+  reads = refl;
+}
+progressing A progress.Paused h = record {
+  code = code.SystemNotification;
+  args = codes "4" ∷ codes "4" ∷ [];
+  text = refl;
+  clear = (plain_part (codes "4") refl, (plain_part (codes "4") refl, tt));
+  reads = refl;
+}
+
+-- selections
+cleared : (A : Type 0) (s : Selection) → IsNamed s.0 → Written A (command.ClearSelection s)
+cleared A s h = record {
+  code = code.ManipulateSelectionData;
+  args = selection_text s.0 ∷ [];
+  text = one_written code.ManipulateSelectionData (selection_text s.0);
+  clear = (selection_part s.0 h, tt);
+  reads = rw (selection_back s.0 h) refl;
+}
+
+queried : (A : Type 0) (s : Selection) → IsNamed s.0 → Written A (command.QuerySelection s)
+queried A s h = record {
+  code = code.ManipulateSelectionData;
+  args = selection_text s.0 ∷ codes "?" ∷ [];
+  text = two_written code.ManipulateSelectionData (selection_text s.0) (codes "?");
+  clear = (selection_part s.0 h, (plain_part (codes "?") refl, tt));
+  reads = rw (selection_back s.0 h) refl;
+}
+
+filled : (A : Type 0) (s : Selection) (t : List ℕ) → IsNamed s.0 → IsUtf8 t → Written A (command.SetSelection s t)
+filled A s t h u = record {
+  code = code.ManipulateSelectionData;
+  args = selection_text s.0 ∷ base64_text t ∷ [];
+  text = two_written code.ManipulateSelectionData (selection_text s.0) (base64_text t);
+  clear = (selection_part s.0 h, (base64_part t u, tt));
+  reads = rw (base64_other t u, selection_back s.0 h, base64_back t u) refl;
+}
+
+-- colours
+palette : (A : Type 0) (ps : List ChangeColorPair) → ArePairs ps → Written A (command.ChangeColorNumber ps)
+palette A [] h = record {
+  code = code.ChangeColorNumber;
+  args = [] ∷ [];
+  text = refl;
+  clear = (plain_part [] refl, tt);
+  reads = refl;
+}
+palette A (p ∷ ps) h = record {
+  code = code.ChangeColorNumber;
+  args = flat_map two_parts (p ∷ ps);
+  text = ap (λ t. code_text code.ChangeColorNumber ++ t) (pairs_joined (p ∷ ps));
+  clear = two_are_parts (p ∷ ps) h;
+  reads = ap (option_map command.ChangeColorNumber) (pairs_back (p ∷ ps) h);
+}
+
+changed : (A : Type 0) (n : DynamicColorNumber) (cs : List ColorOrQuery) → AreColors cs → Written A (command.ChangeDynamicColors n cs)
+changed A n cs h = record {
+  code = change_code n;
+  args = map spec_text cs;
+  text = ap (λ t. code_text (change_code n) ++ t) (sym (flat_map_map spec_text cs));
+  clear = specs_are_parts cs h;
+  reads = change_reads A n (code_text (change_code n)) (map spec_text cs) ∙ ap (option_map (command.ChangeDynamicColors n)) (colors_back cs h);
+}
+
+restored : (A : Type 0) (n : DynamicColorNumber) → Written A (command.ResetDynamicColor n)
+restored A n = record {
+  code = reset_code n;
+  args = [];
+  text = sym (append-nil (code_text (reset_code n)));
+  clear = tt;
+  reads = reset_reads A n (code_text (reset_code n)) [];
+}
+
+numbered : (A : Type 0) (ns : List ℕ) → AreNumbers ns → Written A (command.ResetColors ns)
+numbered A ns h = record {
+  code = code.ResetColors;
+  args = map decimal ns;
+  text = ap (λ t. code_text code.ResetColors ++ t) (sym (flat_map_map decimal ns));
+  clear = decimals_are_parts ns h;
+  reads = ap (option_map command.ResetColors) (numbers_back ns h);
+}
+
+extension : (A : Type 0) (ts : List (List ℕ)) → AreClearParts ts → Written A (command.RxvtExtension ts)
+extension A ts h = record {
+  code = code.RxvtProprietary;
+  args = ts;
+  text = refl;
+  clear = h;
+  reads = ap (λ us. Some (command.RxvtExtension us)) (parts_lossy ts h);
+}
+
+pub writes_clear : {A : Type 0} (c : OperatingSystemCommand A) → IsWritable c → IsClearText (inner_text c)
+writes_clear (command.SetIconNameAndWindowTitle t) h = titled_clear code.SetIconNameAndWindowTitle t h
+writes_clear (command.SetIconName t) h = titled_clear code.SetIconName t h
+writes_clear (command.SetWindowTitle t) h = titled_clear code.SetWindowTitle t h
+writes_clear (command.SetWindowTitleSun t) h = part_clear (0x6c ∷ t) (letter_part code.SetWindowTitleSun t h)
+writes_clear (command.SetIconNameSun t) h = part_clear (0x4c ∷ t) (letter_part code.SetIconNameSun t h)
+writes_clear {A = A} (command.ClearSelection s) h = written_clear A (command.ClearSelection s) (cleared A s h)
+writes_clear {A = A} (command.QuerySelection s) h = written_clear A (command.QuerySelection s) (queried A s h)
+writes_clear {A = A} (command.SetSelection s t) h = written_clear A (command.SetSelection s t) (filled A s t h.0 h.1)
+writes_clear {A = A} (command.SystemNotification t) h = written_clear A (command.SystemNotification t) (notification A t h)
+writes_clear {A = A} (command.ChangeColorNumber ps) h = written_clear A (command.ChangeColorNumber ps) (palette A ps h)
+writes_clear {A = A} (command.ChangeDynamicColors n cs) h = written_clear A (command.ChangeDynamicColors n cs) (changed A n cs h)
+writes_clear {A = A} (command.ResetDynamicColor n) h = written_clear A (command.ResetDynamicColor n) (restored A n)
+writes_clear {A = A} (command.CurrentWorkingDirectory t) h = written_clear A (command.CurrentWorkingDirectory t) (directory A t h)
+writes_clear {A = A} (command.ResetColors ns) h = written_clear A (command.ResetColors ns) (numbered A ns h)
+writes_clear {A = A} (command.RxvtExtension ts) h = written_clear A (command.RxvtExtension ts) (extension A ts h)
+writes_clear {A = A} (command.ConEmuProgress p) h = written_clear A (command.ConEmuProgress p) (progressing A p h)
+writes_clear (command.Unspecified ps) h =
+    let P : List ℕ → Type 0 = λ u. IsClearText u in
+    subst P (sym (lossy_joined ps h.0.0)) (joined_clear ps h.0.0)
 
 pub reads_back : {A : Type 0} (c : OperatingSystemCommand A) → IsWritable c → meaning (parts_of (inner_text c)) ≡ c
-reads_back (SetIconNameAndWindowTitle t) h = title_means code.SetIconNameAndWindowTitle t (SetIconNameAndWindowTitle t) (ap (option_map SetIconNameAndWindowTitle) (title_split t (clear_utf8 t h)))
-reads_back (SetIconName t) h = title_means code.SetIconName t (SetIconName t) (ap (option_map SetIconName) (title_split t (clear_utf8 t h)))
-reads_back (SetWindowTitle t) h = title_means code.SetWindowTitle t (SetWindowTitle t) (ap (option_map SetWindowTitle) (title_split t (clear_utf8 t h)))
-reads_back {A = A} (Unspecified ps) h =
+reads_back {A = A} (command.SetIconNameAndWindowTitle t) h = title_means A code.SetIconNameAndWindowTitle t (command.SetIconNameAndWindowTitle t) refl (ap (option_map command.SetIconNameAndWindowTitle) (title_split t (clear_utf8 t h)))
+reads_back {A = A} (command.SetIconName t) h = title_means A code.SetIconName t (command.SetIconName t) refl (ap (option_map command.SetIconName) (title_split t (clear_utf8 t h)))
+reads_back {A = A} (command.SetWindowTitle t) h = title_means A code.SetWindowTitle t (command.SetWindowTitle t) refl (ap (option_map command.SetWindowTitle) (title_split t (clear_utf8 t h)))
+reads_back {A = A} (command.SetWindowTitleSun t) h = ap (meaning {A = A}) (one_part 0x6c t (letter_part code.SetWindowTitleSun t h)) ∙ window_means A t (letter_part code.SetWindowTitleSun t h) h
+reads_back {A = A} (command.SetIconNameSun t) h = ap (meaning {A = A}) (one_part 0x4c t (letter_part code.SetIconNameSun t h)) ∙ icon_means A t (letter_part code.SetIconNameSun t h) h
+reads_back {A = A} (command.ClearSelection s) h = written_back A (command.ClearSelection s) (cleared A s h)
+reads_back {A = A} (command.QuerySelection s) h = written_back A (command.QuerySelection s) (queried A s h)
+reads_back {A = A} (command.SetSelection s t) h = written_back A (command.SetSelection s t) (filled A s t h.0 h.1)
+reads_back {A = A} (command.SystemNotification t) h = written_back A (command.SystemNotification t) (notification A t h)
+reads_back {A = A} (command.ChangeColorNumber ps) h = written_back A (command.ChangeColorNumber ps) (palette A ps h)
+reads_back {A = A} (command.ChangeDynamicColors n cs) h = written_back A (command.ChangeDynamicColors n cs) (changed A n cs h)
+reads_back {A = A} (command.ResetDynamicColor n) h = written_back A (command.ResetDynamicColor n) (restored A n)
+reads_back {A = A} (command.CurrentWorkingDirectory t) h = written_back A (command.CurrentWorkingDirectory t) (directory A t h)
+reads_back {A = A} (command.ResetColors ns) h = written_back A (command.ResetColors ns) (numbered A ns h)
+reads_back {A = A} (command.RxvtExtension ts) h = written_back A (command.RxvtExtension ts) (extension A ts h)
+reads_back {A = A} (command.ConEmuProgress p) h = written_back A (command.ConEmuProgress p) (progressing A p h)
+reads_back {A = A} (command.Unspecified ps) h =
     ap (λ x. meaning {A = A} (parts_of x)) (lossy_joined ps h.0.0) ∙ ap (meaning {A = A}) (parts_text ps h.0).1 ∙ h.1
-
--- a title that clear parts give is clear
-abbrev IsClearWhere : Option (List ℕ) → Type 0
-IsClearWhere None = Unit {0}
-IsClearWhere (Some t) = IsClearText t
-
-when_clear : (b : Bool) (t : List ℕ) → IsClearText t → IsClearWhere (when b t)
-when_clear true t h = h
-when_clear false t h = tt
-
-title_clear : (args : List (List ℕ)) → AreClearParts args → IsClearWhere (title_of args)
-title_clear [] h = tt
-title_clear (p ∷ ps) h = when_clear (is_utf8 (joined (p ∷ ps))) (joined (p ∷ ps)) (joined_clear (p ∷ ps) h)
-
--- what a case makes of clear parts, where it fits, is writable
-abbrev IsWritableWhere : {A : Type 0} → Option (OperatingSystemCommand A) → Type 0
-IsWritableWhere None = Unit {0}
-IsWritableWhere (Some c) = IsWritable c
-
-made_writable : (A : Type 0) (make : List ℕ → OperatingSystemCommand A) → ((t : List ℕ) → IsClearText t → IsWritable (make t))
-    → (o : Option (List ℕ)) → IsClearWhere o → IsWritableWhere (option_map make o)
-made_writable A make k None h = tt
-made_writable A make k (Some t) h = k t h
-
-reading_writable : (A : Type 0) (c : OperatingSystemCommandCode) (args : List (List ℕ)) → AreClearParts args → IsWritableWhere (reading {A = A} c args)
-reading_writable A code.SetIconNameAndWindowTitle args h = made_writable A SetIconNameAndWindowTitle (λ t k. k) (title_of args) (title_clear args h)
-reading_writable A code.SetIconName args h = made_writable A SetIconName (λ t k. k) (title_of args) (title_clear args h)
-reading_writable A code.SetWindowTitle args h = made_writable A SetWindowTitle (λ t k. k) (title_of args) (title_clear args h)
-
-fitting_writable : (A : Type 0) (o : Option OperatingSystemCommandCode) (args : List (List ℕ)) → AreClearParts args
-    → IsWritableWhere (and_then o (λ c. reading {A = A} c args))
-fitting_writable A None args h = tt
-fitting_writable A (Some c) args h = reading_writable A c args h
-
--- and so are the parts as they are, where no case fits
-either_writable : (A : Type 0) (ps : List (List ℕ)) → AreTextParts ps → (r : Option (OperatingSystemCommand A)) → fitting {A = A} ps ≡ r
-    → IsWritableWhere r → IsWritable (unwrap_or r (Unspecified ps))
-either_writable A ps h None e w = (h, ap (λ r. unwrap_or r (Unspecified ps)) e)
-either_writable A ps h (Some c) e w = w
-
-pub clear_is_writable : (A : Type 0) (ps : List (List ℕ)) → AreTextParts ps → IsWritable (meaning {A = A} ps)
-clear_is_writable A [] h = (h, refl)
-clear_is_writable A (p ∷ args) h = either_writable A (p ∷ args) h (fitting {A = A} (p ∷ args)) refl (fitting_writable A (code_of (utf8_lossy p)) args h.0.1)

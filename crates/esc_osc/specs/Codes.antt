@@ -1,18 +1,70 @@
 -- The codes of commands and their texts.
-use Rattle.std.specs.Prelude.{ℕ, nat_eq, if◌then◌else◌, List, [], ◌∷◌, codes, Option, Some, None}
+use Rattle.std.specs.Prelude.{ℕ, nat_eq, nat_le, ◌&&◌, if◌then◌else◌, List, [], ◌∷◌, take, slice_index, codes, Option, Some, None}
 use Rattle.std.specs.Cmp.Lexicographic.{pointwise}
 use Rattle.esc_osc.specs.declared.code.OperatingSystemCommandCode.{OperatingSystemCommandCode}
-use Rattle.esc_osc.specs.declared.code.OperatingSystemCommandCode.TheVariants.{SetIconNameAndWindowTitle, SetIconName, SetWindowTitle}
+use Rattle.esc_osc.specs.declared.code.OperatingSystemCommandCode.TheVariants as code
+use Rattle.esc_osc.specs.declared.dynamic_color_number.DynamicColorNumber.{DynamicColorNumber}
+use Rattle.esc_osc.specs.declared.dynamic_color_number.DynamicColorNumber.TheVariants as color
 
 -- the text of a code
 abbrev pub code_text : OperatingSystemCommandCode → List ℕ
-code_text SetIconNameAndWindowTitle = codes "0"
-code_text SetIconName = codes "1"
-code_text SetWindowTitle = codes "2"
+code_text code.SetIconNameAndWindowTitle = codes "0"
+code_text code.SetIconName = codes "1"
+code_text code.SetWindowTitle = codes "2"
+code_text code.SetXWindowProperty = codes "3"
+code_text code.ChangeColorNumber = codes "4"
+code_text code.ChangeSpecialColorNumber = codes "5"
+code_text code.ChangeTitleTabColor = codes "6"
+code_text code.SetCurrentWorkingDirectory = codes "7"
+code_text code.SetHyperlink = codes "8"
+code_text code.SystemNotification = codes "9"
+code_text code.SetTextForegroundColor = codes "10"
+code_text code.SetTextBackgroundColor = codes "11"
+code_text code.SetTextCursorColor = codes "12"
+code_text code.SetMouseForegroundColor = codes "13"
+code_text code.SetMouseBackgroundColor = codes "14"
+code_text code.SetTektronixForegroundColor = codes "15"
+code_text code.SetTektronixBackgroundColor = codes "16"
+code_text code.SetHighlightBackgroundColor = codes "17"
+code_text code.SetTektronixCursorColor = codes "18"
+code_text code.SetHighlightForegroundColor = codes "19"
+code_text code.SetLogFileName = codes "46"
+code_text code.SetFont = codes "50"
+code_text code.EmacsShell = codes "51"
+code_text code.ManipulateSelectionData = codes "52"
+code_text code.ResetColors = codes "104"
+code_text code.ResetSpecialColor = codes "105"
+code_text code.ResetTextForegroundColor = codes "110"
+code_text code.ResetTextBackgroundColor = codes "111"
+code_text code.ResetTextCursorColor = codes "112"
+code_text code.ResetMouseForegroundColor = codes "113"
+code_text code.ResetMouseBackgroundColor = codes "114"
+code_text code.ResetTektronixForegroundColor = codes "115"
+code_text code.ResetTektronixBackgroundColor = codes "116"
+code_text code.ResetHighlightColor = codes "117"
+code_text code.ResetTektronixCursorColor = codes "118"
+code_text code.ResetHighlightForegroundColor = codes "119"
+code_text code.FinalTermSemanticPrompt = codes "133"
+code_text code.RxvtProprietary = codes "777"
+code_text code.ITermProprietary = codes "1337"
+code_text code.SetWindowTitleSun = codes "l"
+code_text code.SetIconNameSun = codes "L"
 
 -- every code
 abbrev pub all_codes : List OperatingSystemCommandCode
-all_codes = SetIconNameAndWindowTitle ∷ SetIconName ∷ SetWindowTitle ∷ []
+all_codes = code.SetIconNameAndWindowTitle ∷ code.SetIconName ∷ code.SetWindowTitle ∷
+    code.SetXWindowProperty ∷ code.ChangeColorNumber ∷ code.ChangeSpecialColorNumber ∷
+    code.ChangeTitleTabColor ∷ code.SetCurrentWorkingDirectory ∷ code.SetHyperlink ∷
+    code.SystemNotification ∷ code.SetTextForegroundColor ∷ code.SetTextBackgroundColor ∷
+    code.SetTextCursorColor ∷ code.SetMouseForegroundColor ∷ code.SetMouseBackgroundColor ∷
+    code.SetTektronixForegroundColor ∷ code.SetTektronixBackgroundColor ∷ code.SetHighlightBackgroundColor ∷
+    code.SetTektronixCursorColor ∷ code.SetHighlightForegroundColor ∷ code.SetLogFileName ∷ code.SetFont ∷
+    code.EmacsShell ∷ code.ManipulateSelectionData ∷ code.ResetColors ∷ code.ResetSpecialColor ∷
+    code.ResetTextForegroundColor ∷ code.ResetTextBackgroundColor ∷ code.ResetTextCursorColor ∷
+    code.ResetMouseForegroundColor ∷ code.ResetMouseBackgroundColor ∷ code.ResetTektronixForegroundColor ∷
+    code.ResetTektronixBackgroundColor ∷ code.ResetHighlightColor ∷ code.ResetTektronixCursorColor ∷
+    code.ResetHighlightForegroundColor ∷ code.FinalTermSemanticPrompt ∷ code.RxvtProprietary ∷
+    code.ITermProprietary ∷ code.SetWindowTitleSun ∷ code.SetIconNameSun ∷ []
 
 -- the first of these codes whose text is t
 abbrev pub first_named : List OperatingSystemCommandCode → List ℕ → Option OperatingSystemCommandCode
@@ -22,3 +74,64 @@ first_named (c ∷ cs) t = if pointwise nat_eq t (code_text c) then Some c else 
 -- the code whose text is t
 unfoldable pub code_of : List ℕ → Option OperatingSystemCommandCode
 code_of t = first_named all_codes t
+
+-- the text that names the code, of the first part's lossy text t and the parts behind it: t, or its first
+-- character where t stands alone and begins with no ASCII digit. A code that is no number is one ASCII character, so
+-- the first byte names what the first character does.
+abbrev pub code_name : List ℕ → List (List ℕ) → List ℕ
+code_name t [] = if nat_le 0x30 (slice_index t 0) && nat_le (slice_index t 0) 0x39 then t else take 1 t
+code_name t (p ∷ ps) = t
+
+-- the code that changes a dynamic colour
+abbrev pub change_code : DynamicColorNumber → OperatingSystemCommandCode
+change_code color.TextForegroundColor = code.SetTextForegroundColor
+change_code color.TextBackgroundColor = code.SetTextBackgroundColor
+change_code color.TextCursorColor = code.SetTextCursorColor
+change_code color.MouseForegroundColor = code.SetMouseForegroundColor
+change_code color.MouseBackgroundColor = code.SetMouseBackgroundColor
+change_code color.TektronixForegroundColor = code.SetTektronixForegroundColor
+change_code color.TektronixBackgroundColor = code.SetTektronixBackgroundColor
+change_code color.HighlightBackgroundColor = code.SetHighlightBackgroundColor
+change_code color.TektronixCursorColor = code.SetTektronixCursorColor
+change_code color.HighlightForegroundColor = code.SetHighlightForegroundColor
+
+-- the code that resets it
+abbrev pub reset_code : DynamicColorNumber → OperatingSystemCommandCode
+reset_code color.TextForegroundColor = code.ResetTextForegroundColor
+reset_code color.TextBackgroundColor = code.ResetTextBackgroundColor
+reset_code color.TextCursorColor = code.ResetTextCursorColor
+reset_code color.MouseForegroundColor = code.ResetMouseForegroundColor
+reset_code color.MouseBackgroundColor = code.ResetMouseBackgroundColor
+reset_code color.TektronixForegroundColor = code.ResetTektronixForegroundColor
+reset_code color.TektronixBackgroundColor = code.ResetTektronixBackgroundColor
+reset_code color.HighlightBackgroundColor = code.ResetHighlightColor
+reset_code color.TektronixCursorColor = code.ResetTektronixCursorColor
+reset_code color.HighlightForegroundColor = code.ResetHighlightForegroundColor
+
+-- the dynamic colour that a code changes
+abbrev pub changed_by : OperatingSystemCommandCode → Option DynamicColorNumber
+changed_by code.SetTextForegroundColor = Some color.TextForegroundColor
+changed_by code.SetTextBackgroundColor = Some color.TextBackgroundColor
+changed_by code.SetTextCursorColor = Some color.TextCursorColor
+changed_by code.SetMouseForegroundColor = Some color.MouseForegroundColor
+changed_by code.SetMouseBackgroundColor = Some color.MouseBackgroundColor
+changed_by code.SetTektronixForegroundColor = Some color.TektronixForegroundColor
+changed_by code.SetTektronixBackgroundColor = Some color.TektronixBackgroundColor
+changed_by code.SetHighlightBackgroundColor = Some color.HighlightBackgroundColor
+changed_by code.SetTektronixCursorColor = Some color.TektronixCursorColor
+changed_by code.SetHighlightForegroundColor = Some color.HighlightForegroundColor
+changed_by c = None
+
+-- the dynamic colour that a code resets
+abbrev pub reset_by : OperatingSystemCommandCode → Option DynamicColorNumber
+reset_by code.ResetTextForegroundColor = Some color.TextForegroundColor
+reset_by code.ResetTextBackgroundColor = Some color.TextBackgroundColor
+reset_by code.ResetTextCursorColor = Some color.TextCursorColor
+reset_by code.ResetMouseForegroundColor = Some color.MouseForegroundColor
+reset_by code.ResetMouseBackgroundColor = Some color.MouseBackgroundColor
+reset_by code.ResetTektronixForegroundColor = Some color.TektronixForegroundColor
+reset_by code.ResetTektronixBackgroundColor = Some color.TektronixBackgroundColor
+reset_by code.ResetHighlightColor = Some color.HighlightBackgroundColor
+reset_by code.ResetTektronixCursorColor = Some color.TektronixCursorColor
+reset_by code.ResetHighlightForegroundColor = Some color.HighlightForegroundColor
+reset_by c = None

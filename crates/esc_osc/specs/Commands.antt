@@ -1,13 +1,18 @@
 -- The text of a command.
-use Rattle.std.specs.Prelude.{ℕ, List, [], ◌∷◌, ◌++◌}
+use Rattle.std.specs.Prelude.{ℕ, List, [], ◌∷◌, ◌++◌, codes}
+use Rattle.std.specs.Fmt.{decimal}
 use Rattle.std.specs.List.{flat_map}
 use Rattle.std.specs.Str.Lossy.{utf8_lossy}
+use Rattle.esc_below.specs.Base64.{base64_text}
 use Rattle.esc_below.specs.Clear.{framed}
-use Rattle.esc_osc.specs.Codes.{code_text}
+use Rattle.esc_osc.specs.Codes.{code_text, change_code, reset_code}
+use Rattle.esc_osc.specs.Colors.{spec_text, pair_text}
+use Rattle.esc_osc.specs.Progresses.{progress_text}
+use Rattle.esc_osc.specs.Selections.{selection_text}
 use Rattle.esc_osc.specs.declared.code.OperatingSystemCommandCode.{OperatingSystemCommandCode}
 use Rattle.esc_osc.specs.declared.code.OperatingSystemCommandCode.TheVariants as code
 use Rattle.esc_osc.specs.declared.command.OperatingSystemCommand.{OperatingSystemCommand}
-use Rattle.esc_osc.specs.declared.command.OperatingSystemCommand.TheVariants.{SetIconNameAndWindowTitle, SetIconName, SetWindowTitle, Unspecified}
+use Rattle.esc_osc.specs.declared.command.OperatingSystemCommand.TheVariants as command
 
 -- the texts of the items, with `;` between them
 abbrev pub joined_by : {X : Type 0} → (X → List ℕ) → List X → List ℕ
@@ -18,12 +23,29 @@ joined_by f (x ∷ xs) = f x ++ flat_map (λ y. 0x3b ∷ f y) xs
 abbrev pub titled : OperatingSystemCommandCode → List ℕ → List ℕ
 titled c t = code_text c ++ 0x3b ∷ t
 
+-- a code and items, each behind a `;`
+abbrev pub listed : {X : Type 0} → OperatingSystemCommandCode → (X → List ℕ) → List X → List ℕ
+listed c f xs = code_text c ++ flat_map (λ x. 0x3b ∷ f x) xs
+
 -- what stands between `ESC ]` and the terminator
 abbrev pub inner_text : {A : Type 0} → OperatingSystemCommand A → List ℕ
-inner_text (SetIconNameAndWindowTitle t) = titled code.SetIconNameAndWindowTitle t
-inner_text (SetIconName t) = titled code.SetIconName t
-inner_text (SetWindowTitle t) = titled code.SetWindowTitle t
-inner_text (Unspecified ps) = joined_by utf8_lossy ps
+inner_text (command.SetIconNameAndWindowTitle t) = titled code.SetIconNameAndWindowTitle t
+inner_text (command.SetIconName t) = titled code.SetIconName t
+inner_text (command.SetWindowTitle t) = titled code.SetWindowTitle t
+inner_text (command.SetWindowTitleSun t) = code_text code.SetWindowTitleSun ++ t
+inner_text (command.SetIconNameSun t) = code_text code.SetIconNameSun ++ t
+inner_text (command.ClearSelection s) = titled code.ManipulateSelectionData (selection_text s.0)
+inner_text (command.QuerySelection s) = titled code.ManipulateSelectionData (selection_text s.0 ++ codes ";?")
+inner_text (command.SetSelection s t) = titled code.ManipulateSelectionData (selection_text s.0 ++ 0x3b ∷ base64_text t)
+inner_text (command.SystemNotification t) = titled code.SystemNotification t
+inner_text (command.ChangeColorNumber ps) = titled code.ChangeColorNumber (joined_by pair_text ps)
+inner_text (command.ChangeDynamicColors n cs) = listed (change_code n) spec_text cs
+inner_text (command.ResetDynamicColor n) = code_text (reset_code n)
+inner_text (command.CurrentWorkingDirectory t) = titled code.SetCurrentWorkingDirectory t
+inner_text (command.ResetColors ns) = listed code.ResetColors decimal ns
+inner_text (command.RxvtExtension ts) = listed code.RxvtProprietary (λ t. t) ts
+inner_text (command.ConEmuProgress p) = titled code.SystemNotification (progress_text p)
+inner_text (command.Unspecified ps) = joined_by utf8_lossy ps
 
 -- the whole text of a command
 abbrev pub command_text : {A : Type 0} → OperatingSystemCommand A → List ℕ

@@ -1,44 +1,86 @@
 -- What parts mean.
-use Rattle.std.specs.Prelude.{ℕ, Bool, if◌then◌else◌, List, [], ◌∷◌, Option, Some, None}
+use Rattle.std.specs.Prelude.{ℕ, nat_eq, ◌==◌, if◌then◌else◌, List, [], ◌∷◌, length, map, drop, codes, Option, Some, None}
+use Rattle.std.specs.Cmp.Lexicographic.{pointwise}
 use Rattle.std.specs.Option.{option_map, unwrap_or}
-use Rattle.std.specs.Str.{is_utf8}
 use Rattle.std.specs.Str.Lossy.{utf8_lossy}
+use Rattle.esc_below.specs.Base64.{base64_text_of}
 use Rattle.esc_below.specs.Clear.{joined}
-use Rattle.esc_osc.specs.Codes.{code_of}
+use Rattle.esc_below.specs.Scalars.{and_then, utf8_of, number_of}
+use Rattle.esc_osc.specs.Codes.{code_of, code_name, changed_by, reset_by}
+use Rattle.esc_osc.specs.Colors.{colors_of, pairs_of}
+use Rattle.esc_osc.specs.Progresses.{progress_of}
+use Rattle.esc_osc.specs.Selections.{selection_of}
 use Rattle.esc_osc.specs.declared.code.OperatingSystemCommandCode.{OperatingSystemCommandCode}
 use Rattle.esc_osc.specs.declared.code.OperatingSystemCommandCode.TheVariants as code
 use Rattle.esc_osc.specs.declared.command.OperatingSystemCommand.{OperatingSystemCommand}
-use Rattle.esc_osc.specs.declared.command.OperatingSystemCommand.TheVariants.{SetIconNameAndWindowTitle, SetIconName, SetWindowTitle, Unspecified}
-
--- what f answers of the value, where there is one
-abbrev pub and_then : {X Y : Type 0} → Option X → (X → Option Y) → Option Y
-and_then None f = None
-and_then (Some x) f = f x
-
--- x, where the test holds
-abbrev pub when : {X : Type 0} → Bool → X → Option X
-when b x = if b then Some x else None
-
--- bytes that are a text
-abbrev pub utf8_of : List ℕ → Option (List ℕ)
-utf8_of bs = when (is_utf8 bs) bs
+use Rattle.esc_osc.specs.declared.command.OperatingSystemCommand.TheVariants as command
+use Rattle.esc_osc.specs.declared.dynamic_color_number.DynamicColorNumber.{DynamicColorNumber}
+use Rattle.esc_osc.specs.declared.progress.Progress.{Progress}
+use Rattle.esc_osc.specs.declared.selection.Selection.{Selection}
 
 -- the parts joined by `;`, where there is one and they are a text
 abbrev pub title_of : List (List ℕ) → Option (List ℕ)
 title_of [] = None
 title_of (p ∷ ps) = utf8_of (joined (p ∷ ps))
 
--- what a code makes of the parts behind it, one line a code; none where they do not fit it
-abbrev pub reading : {A : Type 0} → OperatingSystemCommandCode → List (List ℕ) → Option (OperatingSystemCommand A)
-reading code.SetIconNameAndWindowTitle args = option_map SetIconNameAndWindowTitle (title_of args)
-reading code.SetIconName args = option_map SetIconName (title_of args)
-reading code.SetWindowTitle args = option_map SetWindowTitle (title_of args)
+-- the text of one part alone
+abbrev pub lone_text : List (List ℕ) → Option (List ℕ)
+lone_text (p ∷ []) = utf8_of p
+lone_text ps = None
+
+-- numbers of 8 bits; an empty part is skipped
+abbrev pub numbers_of : List (List ℕ) → Option (List ℕ)
+numbers_of [] = Some []
+numbers_of (p ∷ ps) = if length p == 0 then numbers_of ps
+    else and_then (number_of 8 p) (λ n. option_map (λ more. n ∷ more) (numbers_of ps))
+
+-- the selection of these bits
+abbrev pub selection : ℕ → Selection
+selection b = record { 0 = b }
+
+-- a selection and a base64 text
+abbrev pub content_of : {A : Type 0} → List ℕ → List ℕ → Option (OperatingSystemCommand A)
+content_of s t = and_then (selection_of s) (λ b. option_map (λ text. command.SetSelection (selection b) text) (base64_text_of t))
+
+-- a selection alone, with `?`, or with a text
+abbrev pub selected : {A : Type 0} → List (List ℕ) → Option (OperatingSystemCommand A)
+selected (s ∷ []) = option_map (λ b. command.ClearSelection (selection b)) (selection_of s)
+selected (s ∷ t ∷ []) = if pointwise nat_eq t (codes "?")
+    then option_map (λ b. command.QuerySelection (selection b)) (selection_of s) else content_of s t
+selected ps = None
+
+-- the progress of a task, else a notification
+abbrev pub notified : {A : Type 0} → Option Progress → Option (List ℕ) → Option (OperatingSystemCommand A)
+notified (Some p) t = Some (command.ConEmuProgress p)
+notified None t = option_map command.SystemNotification t
+
+-- a dynamic colour that is changed, else one that is reset
+abbrev pub dynamic : {A : Type 0} → Option DynamicColorNumber → Option DynamicColorNumber → List (List ℕ) → Option (OperatingSystemCommand A)
+dynamic (Some n) r args = option_map (command.ChangeDynamicColors n) (colors_of args)
+dynamic None (Some n) args = Some (command.ResetDynamicColor n)
+dynamic None None args = None
+
+-- what a code makes of the lossy text of the first part and the parts behind it, one line a code; none where they
+-- do not fit it
+abbrev pub reading : {A : Type 0} → OperatingSystemCommandCode → List ℕ → List (List ℕ) → Option (OperatingSystemCommand A)
+reading code.SetIconNameAndWindowTitle t args = option_map command.SetIconNameAndWindowTitle (title_of args)
+reading code.SetIconName t args = option_map command.SetIconName (title_of args)
+reading code.SetWindowTitle t args = option_map command.SetWindowTitle (title_of args)
+reading code.SetWindowTitleSun t args = option_map command.SetWindowTitleSun (utf8_of (drop 1 t))
+reading code.SetIconNameSun t args = option_map command.SetIconNameSun (utf8_of (drop 1 t))
+reading code.ChangeColorNumber t args = option_map command.ChangeColorNumber (pairs_of args)
+reading code.SetCurrentWorkingDirectory t args = option_map command.CurrentWorkingDirectory (lone_text args)
+reading code.SystemNotification t args = notified (progress_of args) (lone_text args)
+reading code.ManipulateSelectionData t args = selected args
+reading code.ResetColors t args = option_map command.ResetColors (numbers_of args)
+reading code.RxvtProprietary t args = Some (command.RxvtExtension (map utf8_lossy args))
+reading c t args = dynamic (changed_by c) (reset_by c) args
 
 -- the case that fits: the lossy text of the first part names the code
 abbrev pub fitting : {A : Type 0} → List (List ℕ) → Option (OperatingSystemCommand A)
 fitting [] = None
-fitting (p ∷ args) = and_then (code_of (utf8_lossy p)) (λ c. reading c args)
+fitting (p ∷ args) = and_then (code_of (code_name (utf8_lossy p) args)) (λ c. reading c (utf8_lossy p) args)
 
 -- what parts mean: the case that fits, else the parts as they are
 abbrev pub meaning : {A : Type 0} → List (List ℕ) → OperatingSystemCommand A
-meaning ps = unwrap_or (fitting ps) (Unspecified ps)
+meaning ps = unwrap_or (fitting ps) (command.Unspecified ps)

@@ -13,6 +13,82 @@ pub enum OperatingSystemCommandCode {
     SetIconName,
     /// 2: the title of the window.
     SetWindowTitle,
+    /// 3: a property of the window under X.
+    SetXWindowProperty,
+    /// 4: colours of the palette.
+    ChangeColorNumber,
+    /// 5: special colours.
+    ChangeSpecialColorNumber,
+    /// 6: the colour of the title's tab.
+    ChangeTitleTabColor,
+    /// 7: the directory that the shell works in.
+    SetCurrentWorkingDirectory,
+    /// 8: the link that the text belongs to.
+    SetHyperlink,
+    /// 9: a notification, or the progress of a task (ConEmu).
+    SystemNotification,
+    /// 10: the colour of the foreground of text.
+    SetTextForegroundColor,
+    /// 11: the colour of the background of text.
+    SetTextBackgroundColor,
+    /// 12: the colour of the text cursor.
+    SetTextCursorColor,
+    /// 13: the colour of the foreground of the pointer.
+    SetMouseForegroundColor,
+    /// 14: the colour of the background of the pointer.
+    SetMouseBackgroundColor,
+    /// 15: the colour of the foreground in Tektronix mode.
+    SetTektronixForegroundColor,
+    /// 16: the colour of the background in Tektronix mode.
+    SetTektronixBackgroundColor,
+    /// 17: the colour of the background of highlighted text.
+    SetHighlightBackgroundColor,
+    /// 18: the colour of the cursor in Tektronix mode.
+    SetTektronixCursorColor,
+    /// 19: the colour of the foreground of highlighted text.
+    SetHighlightForegroundColor,
+    /// 46: the name of the log file.
+    SetLogFileName,
+    /// 50: the font.
+    SetFont,
+    /// 51: left to Emacs.
+    EmacsShell,
+    /// 52: the selections: their text is set, cleared or asked for.
+    ManipulateSelectionData,
+    /// 104: the palette's own colours again.
+    ResetColors,
+    /// 105: the special colours of their own again.
+    ResetSpecialColor,
+    /// 110: the own colour of the foreground of text again.
+    ResetTextForegroundColor,
+    /// 111: the own colour of the background of text again.
+    ResetTextBackgroundColor,
+    /// 112: the own colour of the text cursor again.
+    ResetTextCursorColor,
+    /// 113: the own colour of the foreground of the pointer again.
+    ResetMouseForegroundColor,
+    /// 114: the own colour of the background of the pointer again.
+    ResetMouseBackgroundColor,
+    /// 115: the own colour of the foreground in Tektronix mode again.
+    ResetTektronixForegroundColor,
+    /// 116: the own colour of the background in Tektronix mode again.
+    ResetTektronixBackgroundColor,
+    /// 117: the own colour of the background of highlighted text again.
+    ResetHighlightColor,
+    /// 118: the own colour of the cursor in Tektronix mode again.
+    ResetTektronixCursorColor,
+    /// 119: the own colour of the foreground of highlighted text again.
+    ResetHighlightForegroundColor,
+    /// 133: the marks of prompts and commands (FinalTerm).
+    FinalTermSemanticPrompt,
+    /// 777: the extensions of rxvt.
+    RxvtProprietary,
+    /// 1337: the commands of iTerm2.
+    ITermProprietary,
+    /// l: the title of the window, as Sun's terminals do it.
+    SetWindowTitleSun,
+    /// L: the name of the icon, as Sun's terminals do it.
+    SetIconNameSun,
 }
 
 impl OperatingSystemCommandCode {
@@ -25,6 +101,44 @@ impl OperatingSystemCommandCode {
             "0" => Some(OperatingSystemCommandCode::SetIconNameAndWindowTitle),
             "1" => Some(OperatingSystemCommandCode::SetIconName),
             "2" => Some(OperatingSystemCommandCode::SetWindowTitle),
+            "3" => Some(OperatingSystemCommandCode::SetXWindowProperty),
+            "4" => Some(OperatingSystemCommandCode::ChangeColorNumber),
+            "5" => Some(OperatingSystemCommandCode::ChangeSpecialColorNumber),
+            "6" => Some(OperatingSystemCommandCode::ChangeTitleTabColor),
+            "7" => Some(OperatingSystemCommandCode::SetCurrentWorkingDirectory),
+            "8" => Some(OperatingSystemCommandCode::SetHyperlink),
+            "9" => Some(OperatingSystemCommandCode::SystemNotification),
+            "10" => Some(OperatingSystemCommandCode::SetTextForegroundColor),
+            "11" => Some(OperatingSystemCommandCode::SetTextBackgroundColor),
+            "12" => Some(OperatingSystemCommandCode::SetTextCursorColor),
+            "13" => Some(OperatingSystemCommandCode::SetMouseForegroundColor),
+            "14" => Some(OperatingSystemCommandCode::SetMouseBackgroundColor),
+            "15" => Some(OperatingSystemCommandCode::SetTektronixForegroundColor),
+            "16" => Some(OperatingSystemCommandCode::SetTektronixBackgroundColor),
+            "17" => Some(OperatingSystemCommandCode::SetHighlightBackgroundColor),
+            "18" => Some(OperatingSystemCommandCode::SetTektronixCursorColor),
+            "19" => Some(OperatingSystemCommandCode::SetHighlightForegroundColor),
+            "46" => Some(OperatingSystemCommandCode::SetLogFileName),
+            "50" => Some(OperatingSystemCommandCode::SetFont),
+            "51" => Some(OperatingSystemCommandCode::EmacsShell),
+            "52" => Some(OperatingSystemCommandCode::ManipulateSelectionData),
+            "104" => Some(OperatingSystemCommandCode::ResetColors),
+            "105" => Some(OperatingSystemCommandCode::ResetSpecialColor),
+            "110" => Some(OperatingSystemCommandCode::ResetTextForegroundColor),
+            "111" => Some(OperatingSystemCommandCode::ResetTextBackgroundColor),
+            "112" => Some(OperatingSystemCommandCode::ResetTextCursorColor),
+            "113" => Some(OperatingSystemCommandCode::ResetMouseForegroundColor),
+            "114" => Some(OperatingSystemCommandCode::ResetMouseBackgroundColor),
+            "115" => Some(OperatingSystemCommandCode::ResetTektronixForegroundColor),
+            "116" => Some(OperatingSystemCommandCode::ResetTektronixBackgroundColor),
+            "117" => Some(OperatingSystemCommandCode::ResetHighlightColor),
+            "118" => Some(OperatingSystemCommandCode::ResetTektronixCursorColor),
+            "119" => Some(OperatingSystemCommandCode::ResetHighlightForegroundColor),
+            "133" => Some(OperatingSystemCommandCode::FinalTermSemanticPrompt),
+            "777" => Some(OperatingSystemCommandCode::RxvtProprietary),
+            "1337" => Some(OperatingSystemCommandCode::ITermProprietary),
+            "l" => Some(OperatingSystemCommandCode::SetWindowTitleSun),
+            "L" => Some(OperatingSystemCommandCode::SetIconNameSun),
             _ => None,
         }
     }
@@ -37,6 +151,44 @@ impl OperatingSystemCommandCode {
             OperatingSystemCommandCode::SetIconNameAndWindowTitle => "0",
             OperatingSystemCommandCode::SetIconName => "1",
             OperatingSystemCommandCode::SetWindowTitle => "2",
+            OperatingSystemCommandCode::SetXWindowProperty => "3",
+            OperatingSystemCommandCode::ChangeColorNumber => "4",
+            OperatingSystemCommandCode::ChangeSpecialColorNumber => "5",
+            OperatingSystemCommandCode::ChangeTitleTabColor => "6",
+            OperatingSystemCommandCode::SetCurrentWorkingDirectory => "7",
+            OperatingSystemCommandCode::SetHyperlink => "8",
+            OperatingSystemCommandCode::SystemNotification => "9",
+            OperatingSystemCommandCode::SetTextForegroundColor => "10",
+            OperatingSystemCommandCode::SetTextBackgroundColor => "11",
+            OperatingSystemCommandCode::SetTextCursorColor => "12",
+            OperatingSystemCommandCode::SetMouseForegroundColor => "13",
+            OperatingSystemCommandCode::SetMouseBackgroundColor => "14",
+            OperatingSystemCommandCode::SetTektronixForegroundColor => "15",
+            OperatingSystemCommandCode::SetTektronixBackgroundColor => "16",
+            OperatingSystemCommandCode::SetHighlightBackgroundColor => "17",
+            OperatingSystemCommandCode::SetTektronixCursorColor => "18",
+            OperatingSystemCommandCode::SetHighlightForegroundColor => "19",
+            OperatingSystemCommandCode::SetLogFileName => "46",
+            OperatingSystemCommandCode::SetFont => "50",
+            OperatingSystemCommandCode::EmacsShell => "51",
+            OperatingSystemCommandCode::ManipulateSelectionData => "52",
+            OperatingSystemCommandCode::ResetColors => "104",
+            OperatingSystemCommandCode::ResetSpecialColor => "105",
+            OperatingSystemCommandCode::ResetTextForegroundColor => "110",
+            OperatingSystemCommandCode::ResetTextBackgroundColor => "111",
+            OperatingSystemCommandCode::ResetTextCursorColor => "112",
+            OperatingSystemCommandCode::ResetMouseForegroundColor => "113",
+            OperatingSystemCommandCode::ResetMouseBackgroundColor => "114",
+            OperatingSystemCommandCode::ResetTektronixForegroundColor => "115",
+            OperatingSystemCommandCode::ResetTektronixBackgroundColor => "116",
+            OperatingSystemCommandCode::ResetHighlightColor => "117",
+            OperatingSystemCommandCode::ResetTektronixCursorColor => "118",
+            OperatingSystemCommandCode::ResetHighlightForegroundColor => "119",
+            OperatingSystemCommandCode::FinalTermSemanticPrompt => "133",
+            OperatingSystemCommandCode::RxvtProprietary => "777",
+            OperatingSystemCommandCode::ITermProprietary => "1337",
+            OperatingSystemCommandCode::SetWindowTitleSun => "l",
+            OperatingSystemCommandCode::SetIconNameSun => "L",
         }
     }
 }

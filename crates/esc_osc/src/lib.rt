@@ -2,14 +2,30 @@
 //! between `ESC ]` and the string terminator are read, and how a value is written.
 #![tactic(auto)]
 
+pub mod change_color_pair;
 pub mod code;
+pub mod color16;
+pub mod color_or_query;
 pub mod command;
+pub mod dynamic_color_number;
 pub mod laws;
 mod lossy;
 mod parse;
+pub mod progress;
+mod read_color;
+mod read_items;
+mod read_progress;
+pub mod selection;
 #[cfg(test)]
 mod tests;
 mod write;
 
+pub use bitflags::Flags;
+pub use change_color_pair::ChangeColorPair;
 pub use code::OperatingSystemCommandCode;
+pub use color_or_query::ColorOrQuery;
+pub use color16::Color16;
 pub use command::OperatingSystemCommand;
+pub use dynamic_color_number::DynamicColorNumber;
+pub use progress::Progress;
+pub use selection::Selection;

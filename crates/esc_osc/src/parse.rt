@@ -1,11 +1,21 @@
 //! How parts are read.
-ghost use Rattle.std.specs.Prelude.{◌≡◌, IfOk, map};
-ghost use Rattle.esc_osc.specs.Codes.{code_of};
-ghost use Rattle.esc_osc.specs.Reading.{meaning, fitting, reading, title_of, utf8_of};
+ghost use Rattle.std.specs.Prelude.{◌≡◌, IfOk, [], ◌∷◌, map, drop};
+ghost use Rattle.esc_below.specs.Scalars.{utf8_of};
+ghost use Rattle.esc_osc.specs.Codes.{code_name, code_of};
+ghost use Rattle.esc_osc.specs.Progresses.{progress_of};
+ghost use Rattle.esc_osc.specs.Reading.{content_of, dynamic, fitting, lone_text, meaning, notified, reading, selected};
 
 use crate::code::OperatingSystemCommandCode;
 use crate::command::OperatingSystemCommand;
-use esc_below::{Items, Text};
+use crate::dynamic_color_number::DynamicColorNumber;
+use crate::read_items::{
+    copied, read_colors, read_lone_text, read_numbers, read_pairs, read_texts, read_title,
+};
+use crate::read_progress::read_progress;
+use crate::selection::Selection;
+use esc_below::Text;
+use esc_below::base64_text::read_base64_text;
+use esc_below::scalar::text_of;
 use std::alloc::{AllocError, Allocator};
 
 impl<A: Allocator + Copy> OperatingSystemCommand<A> {
@@ -21,20 +31,6 @@ impl<A: Allocator + Copy> OperatingSystemCommand<A> {
     }
 }
 
-// The same parts.
-fn copied<A: Allocator + Copy>(
-    alloc: A,
-    parts: &[&[u8]],
-) -> Result<Items<Items<u8, A>, A>, AllocError>
-    ensures { IfOk result (λ c. c ≡ map (λ p. p.now) parts.now) }
-{
-    let mut made = Vec::new(alloc);
-    for part in parts {
-        made.push(Items::from_vec(Vec::from_slice(alloc, part)?))?;
-    }
-    Ok(Items::from_vec(made))
-}
-
 // The case that fits, where one does.
 fn read_fitting<A: Allocator + Copy>(
     alloc: A,
@@ -46,26 +42,50 @@ fn read_fitting<A: Allocator + Copy>(
         return Ok(None);
     };
     let first = String::from_utf8_lossy(alloc, first)?;
-    let Some(code) = code_in(first.as_str()) else {
+    let Some(code) = code_in(first.as_str(), args) else {
         return Ok(None);
     };
-    read_by_code(alloc, code, args)
+    read_by_code(alloc, code, first.as_str(), args)
 }
 
-// The code that the lossy text of the first part names.
-fn code_in(first: &str) -> Option<OperatingSystemCommandCode>
-    ensures { result ≡ code_of first.now }
+// The code that the lossy text of the first part names, by whether it stands alone.
+fn code_in(first: &str, args: &[&[u8]]) -> Option<OperatingSystemCommandCode>
+    ensures { result ≡ code_of (code_name first.now (map (λ p. p.now) args.now)) }
 {
-    OperatingSystemCommandCode::from_code(first)
+    if !args.is_empty() {
+        return OperatingSystemCommandCode::from_code(first);
+    }
+    code_alone(first)
 }
 
-// What the code makes of the parts behind the first.
+// The code that the lossy text of an only part names.
+fn code_alone(first: &str) -> Option<OperatingSystemCommandCode>
+    ensures { result ≡ code_of (code_name first.now []) }
+{
+    if first.is_empty() {
+        return None;
+    }
+    let letter = first.as_bytes()[0];
+    if letter >= b'0' && letter <= b'9' {
+        return OperatingSystemCommandCode::from_code(first);
+    }
+    if letter == b'l' {
+        return Some(OperatingSystemCommandCode::SetWindowTitleSun);
+    }
+    if letter == b'L' {
+        return Some(OperatingSystemCommandCode::SetIconNameSun);
+    }
+    None
+}
+
+// What the code makes of the lossy text of the first part and the parts behind it.
 fn read_by_code<A: Allocator + Copy>(
     alloc: A,
     code: OperatingSystemCommandCode,
+    first: &str,
     args: &[&[u8]],
 ) -> Result<Option<OperatingSystemCommand<A>>, AllocError>
-    ensures { IfOk result (λ c. c ≡ reading code (map (λ p. p.now) args.now)) }
+    ensures { IfOk result (λ c. c ≡ reading code first.now (map (λ p. p.now) args.now)) }
 {
     match code {
         OperatingSystemCommandCode::SetIconNameAndWindowTitle => {
@@ -80,30 +100,129 @@ fn read_by_code<A: Allocator + Copy>(
             let title = read_title(alloc, args)?;
             Ok(title.map(|t| OperatingSystemCommand::SetWindowTitle(t)))
         }
+        OperatingSystemCommandCode::SetWindowTitleSun => {
+            let title = without_first(alloc, first)?;
+            Ok(title.map(|t| OperatingSystemCommand::SetWindowTitleSun(t)))
+        }
+        OperatingSystemCommandCode::SetIconNameSun => {
+            let title = without_first(alloc, first)?;
+            Ok(title.map(|t| OperatingSystemCommand::SetIconNameSun(t)))
+        }
+        OperatingSystemCommandCode::ChangeColorNumber => {
+            let pairs = read_pairs(alloc, args)?;
+            Ok(pairs.map(|p| OperatingSystemCommand::ChangeColorNumber(p)))
+        }
+        OperatingSystemCommandCode::SetCurrentWorkingDirectory => {
+            let path = read_lone_text(alloc, args)?;
+            Ok(path.map(|t| OperatingSystemCommand::CurrentWorkingDirectory(t)))
+        }
+        OperatingSystemCommandCode::SystemNotification => read_notified(alloc, args),
+        OperatingSystemCommandCode::ManipulateSelectionData => read_selected(alloc, args),
+        OperatingSystemCommandCode::ResetColors => {
+            let numbers = read_numbers(alloc, args)?;
+            Ok(numbers.map(|n| OperatingSystemCommand::ResetColors(n)))
+        }
+        OperatingSystemCommandCode::RxvtProprietary => {
+            let texts = read_texts(alloc, args)?;
+            Ok(Some(OperatingSystemCommand::RxvtExtension(texts)))
+        }
+        _ => read_dynamic(
+            alloc,
+            DynamicColorNumber::changed_by(code),
+            DynamicColorNumber::reset_by(code),
+            args,
+        ),
     }
 }
 
-// The parts joined by `;`, where they are a text.
-fn read_title<A: Allocator + Copy>(alloc: A, args: &[&[u8]]) -> Result<Option<Text<A>>, AllocError>
-    ensures { IfOk result (λ t. t ≡ title_of (map (λ p. p.now) args.now)) }
+// A text without its first byte, where that is a text.
+fn without_first<A: Allocator>(alloc: A, text: &str) -> Result<Option<Text<A>>, AllocError>
+    ensures { IfOk result (λ t. t ≡ utf8_of (drop 1 text.now)) }
 {
-    let Some((first, rest)) = args.split_first() else {
+    let bytes = text.as_bytes();
+    let Some((_, rest)) = bytes.split_first() else {
+        return Ok(Some(Text::new(alloc)));
+    };
+    Ok(text_of(Vec::from_slice(alloc, rest)?))
+}
+
+// The progress of a task, else a notification.
+fn read_notified<A: Allocator + Copy>(
+    alloc: A,
+    args: &[&[u8]],
+) -> Result<Option<OperatingSystemCommand<A>>, AllocError>
+    ensures { IfOk result (λ c. c ≡ notified (progress_of (map (λ p. p.now) args.now)) (lone_text (map (λ p. p.now) args.now))) }
+{
+    match read_progress(args) {
+        Some(progress) => Ok(Some(OperatingSystemCommand::ConEmuProgress(progress))),
+        None => {
+            let text = read_lone_text(alloc, args)?;
+            Ok(text.map(|t| OperatingSystemCommand::SystemNotification(t)))
+        }
+    }
+}
+
+// A dynamic colour that is changed, else one that is reset.
+fn read_dynamic<A: Allocator + Copy>(
+    alloc: A,
+    changed: Option<DynamicColorNumber>,
+    reset: Option<DynamicColorNumber>,
+    args: &[&[u8]],
+) -> Result<Option<OperatingSystemCommand<A>>, AllocError>
+    ensures { IfOk result (λ c. c ≡ dynamic changed reset (map (λ p. p.now) args.now)) }
+{
+    match changed {
+        Some(number) => {
+            let colors = read_colors(alloc, args)?;
+            Ok(colors.map(|c| OperatingSystemCommand::ChangeDynamicColors(number, c)))
+        }
+        None => Ok(reset.map(|number| OperatingSystemCommand::ResetDynamicColor(number))),
+    }
+}
+
+// A selection alone, with `?`, or with a text.
+fn read_selected<A: Allocator + Copy>(
+    alloc: A,
+    args: &[&[u8]],
+) -> Result<Option<OperatingSystemCommand<A>>, AllocError>
+    ensures { IfOk result (λ c. c ≡ selected (map (λ p. p.now) args.now)) }
+{
+    let Some((letters, rest)) = args.split_first() else {
         return Ok(None);
     };
-    let mut bytes = Vec::from_slice(alloc, first)?;
-    for part in rest {
-        bytes.push(b';')?;
-        bytes.extend_from_slice(part)?;
+    let Some((text, more)) = rest.split_first() else {
+        return Ok(read_cleared(letters));
+    };
+    if !more.is_empty() {
+        return Ok(None);
     }
-    Ok(text_of(bytes))
+    read_content(alloc, letters, text)
 }
 
-// The text of bytes that are UTF-8.
-fn text_of<A: Allocator>(bytes: Vec<u8, A>) -> Option<Text<A>>
-    ensures { result ≡ utf8_of bytes.items }
+// A selection that is cleared.
+fn read_cleared<A: Allocator>(letters: &[u8]) -> Option<OperatingSystemCommand<A>>
+    ensures { result ≡ selected (letters.now ∷ []) }
 {
-    match String::from_utf8(bytes) {
-        Ok(string) => Some(Text::from_string(string)),
-        Err(_) => None,
+    let Some(selection) = Selection::from_letters(letters) else {
+        return None;
+    };
+    Some(OperatingSystemCommand::ClearSelection(selection))
+}
+
+// A selection, with `?` or with a text.
+fn read_content<A: Allocator + Copy>(
+    alloc: A,
+    letters: &[u8],
+    text: &[u8],
+) -> Result<Option<OperatingSystemCommand<A>>, AllocError>
+    ensures { IfOk result (λ c. c ≡ selected (letters.now ∷ text.now ∷ [])) }
+{
+    let Some(selection) = Selection::from_letters(letters) else {
+        return Ok(None);
+    };
+    if text == b"?".as_slice() {
+        return Ok(Some(OperatingSystemCommand::QuerySelection(selection)));
     }
+    let content = read_base64_text(alloc, text)?;
+    Ok(content.map(|t| OperatingSystemCommand::SetSelection(selection, t)))
 }

@@ -1,13 +1,20 @@
 //! The texts of commands.
-ghost use Rattle.std.specs.Prelude.{Some, ◌∷◌};
-ghost use Rattle.std.specs.Fmt.{DisplaysOnOk};
+ghost use Rattle.std.specs.Prelude.{Some, ◌∷◌, ◌++◌, codes};
+ghost use Rattle.std.specs.Fmt.{DisplaysOnOk, decimal};
 ghost use Rattle.std.specs.List.{flat_map};
 ghost use Rattle.std.specs.Str.Lossy.{utf8_lossy};
+ghost use Rattle.esc_below.specs.Base64.{base64_text};
+ghost use Rattle.esc_osc.specs.Colors.{pair_text, spec_text};
 ghost use Rattle.esc_osc.specs.Commands.{command_text, inner_text, joined_by};
+ghost use Rattle.esc_osc.specs.Progresses.{progress_text};
 
+use crate::change_color_pair::ChangeColorPair;
+use crate::color_or_query::ColorOrQuery;
 use crate::command::OperatingSystemCommand;
 use crate::lossy::Lossy;
-use esc_below::Items;
+use crate::progress::Progress;
+use esc_below::base64_text::Encoded;
+use esc_below::{Items, Text};
 use std::alloc::Allocator;
 use std::fmt;
 use std::fmt::Display;
@@ -35,8 +42,105 @@ fn write_inner<W: fmt::Write, A: Allocator>(
         OperatingSystemCommand::SetIconNameAndWindowTitle(title) => write!(f, "0;{title}"),
         OperatingSystemCommand::SetIconName(title) => write!(f, "1;{title}"),
         OperatingSystemCommand::SetWindowTitle(title) => write!(f, "2;{title}"),
+        OperatingSystemCommand::SetWindowTitleSun(title) => write!(f, "l{title}"),
+        OperatingSystemCommand::SetIconNameSun(title) => write!(f, "L{title}"),
+        OperatingSystemCommand::ClearSelection(selection) => write!(f, "52;{selection}"),
+        OperatingSystemCommand::QuerySelection(selection) => write!(f, "52;{selection};?"),
+        OperatingSystemCommand::SetSelection(selection, content) => {
+            let text = EncodedText(content);
+            write!(f, "52;{selection};{text}")
+        }
+        OperatingSystemCommand::SystemNotification(text) => write!(f, "9;{text}"),
+        OperatingSystemCommand::ChangeColorNumber(pairs) => write_pairs(pairs.as_slice(), f),
+        OperatingSystemCommand::ChangeDynamicColors(number, colors) => {
+            f.write_str(number.change_code().as_code())?;
+            write_colors(colors.as_slice(), f)
+        }
+        OperatingSystemCommand::ResetDynamicColor(number) => {
+            f.write_str(number.reset_code().as_code())
+        }
+        OperatingSystemCommand::CurrentWorkingDirectory(path) => write!(f, "7;{path}"),
+        OperatingSystemCommand::ResetColors(numbers) => write_numbers(numbers.as_slice(), f),
+        OperatingSystemCommand::RxvtExtension(texts) => write_texts(texts.as_slice(), f),
+        OperatingSystemCommand::ConEmuProgress(progress) => write_progress(progress, f),
         OperatingSystemCommand::Unspecified(parts) => write_parts(parts.as_slice(), f),
     }
+}
+
+// The code, and what the progress is.
+fn write_progress<W: fmt::Write>(progress: &Progress, f: &mut fmt::Formatter<W>) -> fmt::Result
+    ensures { DisplaysOnOk W.write_str_gives f.old result (Some (codes "9;" ++ progress_text progress.now)) f.new }
+{
+    match progress {
+        Progress::None => f.write_str("9;4;0"),
+        Progress::SetPercentage(percent) => write!(f, "9;4;1;{percent}"),
+        Progress::SetError(percent) => write!(f, "9;4;2;{percent}"),
+        Progress::SetIndeterminate => f.write_str("9;4;3"),
+        Progress::Paused => f.write_str("9;4;4"),
+    }
+}
+
+// The code, and the pairs with `;` between them.
+fn write_pairs<W: fmt::Write>(pairs: &[ChangeColorPair], f: &mut fmt::Formatter<W>) -> fmt::Result
+    ensures { DisplaysOnOk W.write_str_gives f.old result (Some (codes "4;" ++ joined_by pair_text pairs.now)) f.new }
+{
+    let Some((first, rest)) = pairs.split_first() else {
+        return f.write_str("4;");
+    };
+    let index = first.palette_index;
+    let color = &first.color;
+    write!(f, "4;{index};{color}")?;
+    write_more_pairs(rest, f)
+}
+
+// The pairs, each behind a `;`.
+fn write_more_pairs<W: fmt::Write>(
+    rest: &[ChangeColorPair],
+    f: &mut fmt::Formatter<W>,
+) -> fmt::Result
+    ensures { DisplaysOnOk W.write_str_gives f.old result (Some (flat_map (λ p. 0x3b ∷ pair_text p) rest.now)) f.new }
+{
+    for pair in rest {
+        let index = pair.palette_index;
+        let color = &pair.color;
+        write!(f, ";{index};{color}")?;
+    }
+    Ok(())
+}
+
+// The colours, each behind a `;`.
+fn write_colors<W: fmt::Write>(colors: &[ColorOrQuery], f: &mut fmt::Formatter<W>) -> fmt::Result
+    ensures { DisplaysOnOk W.write_str_gives f.old result (Some (flat_map (λ c. 0x3b ∷ spec_text c) colors.now)) f.new }
+{
+    for color in colors {
+        write!(f, ";{color}")?;
+    }
+    Ok(())
+}
+
+// The code, and the numbers, each behind a `;`.
+fn write_numbers<W: fmt::Write>(numbers: &[u8], f: &mut fmt::Formatter<W>) -> fmt::Result
+    ensures { DisplaysOnOk W.write_str_gives f.old result (Some (codes "104" ++ flat_map (λ n. 0x3b ∷ decimal n) numbers.now)) f.new }
+{
+    f.write_str("104")?;
+    for number in numbers {
+        write!(f, ";{number}")?;
+    }
+    Ok(())
+}
+
+// The code, and the texts, each behind a `;`.
+fn write_texts<W: fmt::Write, A: Allocator>(
+    texts: &[Text<A>],
+    f: &mut fmt::Formatter<W>,
+) -> fmt::Result
+    ensures { DisplaysOnOk W.write_str_gives f.old result (Some (codes "777" ++ flat_map (λ t. 0x3b ∷ t) texts.now)) f.new }
+{
+    f.write_str("777")?;
+    for text in texts {
+        write!(f, ";{text}")?;
+    }
+    Ok(())
 }
 
 // The lossy texts of the parts, with `;` between them.
@@ -77,5 +181,17 @@ impl<A: Allocator> fmt::Display for Part<'_, A> {
 
     fn fmt<W: fmt::Write>(&self, f: &mut fmt::Formatter<W>) -> fmt::Result {
         Lossy(self.0.as_slice()).fmt(f)
+    }
+}
+
+// A text, that prints as its base64.
+#[derive_where(Clone, Copy)]
+struct EncodedText<'a, A: Allocator>(&'a Text<A>);
+
+impl<A: Allocator> fmt::Display for EncodedText<'_, A> {
+    ghost output = { λ t. Some (base64_text t.0.now) };
+
+    fn fmt<W: fmt::Write>(&self, f: &mut fmt::Formatter<W>) -> fmt::Result {
+        Encoded(self.0.as_bytes()).fmt(f)
     }
 }

@@ -1,5 +1,5 @@
 -- Exact fronts: what a turn of a loop that looks for one knows.
-use Rattle.std.proofs.Common.{◌≡◌, ℕ, ◌+◌, ◌-◌, ◌<◌, ◌≤◌, List, [], ◌∷◌, ◌++◌, length, take, drop, Option, Some, None, refl, ap, sym, ◌∙◌, subst, append_assoc, take-append-drop, take_all, length-drop, arith, ◌⊎◌, inl, inr}
+use Rattle.std.proofs.Common.{◌≡◌, ℕ, ◌+◌, ◌-◌, ◌<◌, ◌≤◌, List, [], ◌∷◌, ◌++◌, length, take, drop, Some, None, refl, ap, sym, ◌∙◌, subst, append_assoc, take-append-drop, take_all, length-drop, arith, ◌⊎◌, inl, inr}
 use Rattle.std.proofs.Math.Seq.{take-add}
 use Rattle.std.proofs.Math.Nat.{eq-or-lt_of_le}
 use Rattle.std.proofs.lemmas.Bool.{cases_lt}
@@ -7,11 +7,13 @@ use Rattle.std.proofs.lemmas.List.{append-nil, append_cancel_left, take-take}
 use Rattle.std.specs.List.{FoldsTo}
 use Rattle.std.specs.Option.{option_map}
 use Rattle.esc_frame.specs.Stream.{added, events, IsAtGround, IsQuiet}
+use Rattle.escape_stream.proofs.HandedOut.{yield_handed}
 use Rattle.escape_stream.proofs.Yields.{meaning_more, yield_is}
 use Rattle.escape_stream.specs.Firsts.{first, IsFirst, IsFirstStop, IsStop}
 use Rattle.escape_stream.specs.Given.{At, first_of}
 use Rattle.escape_stream.specs.Meaning.{meaning, mode_from, values_from, yield}
 use Rattle.escape_stream.specs.Values.{plain, value_of, Value}
+use Rattle.escape_stream.specs.Writable.{AreHandedOut, IsHandedOut}
 use Rattle.escape_stream.specs.declared.action.Action.{Action}
 use Rattle.escape_stream.specs.declared.sink.First.{First}
 
@@ -138,3 +140,10 @@ no_stop_yet A s bs k h stop =
 -- the values so far, and those of n bytes of the rest
 pub values_more : {A : Type 0} (s bs : List ℕ) (at n : ℕ) (had got : List (Value A)) → had ≡ yield s (take at bs) → got ≡ had ++ yield (s ++ take at bs) (take n (take (length bs - at) (drop at bs))) → got ≡ yield s (take (at + n) bs)
 values_more s bs at n had got e f = f ∙ ap (λ x. x ++ yield (s ++ take at bs) (take n (take (length bs - at) (drop at bs)))) e ∙ sym (yield_more s bs at n)
+
+-- such values are handed out
+pub first_handed : (A : Type 0) (s bs : List ℕ) (v : Value A) (n : ℕ) → IsFirst s bs v n → IsHandedOut v
+first_handed A s bs v n is = let P : List (Value A) → Type 0 = λ vs. AreHandedOut vs in (subst P is.first (yield_handed A s (take n bs))).0
+
+pub stop_handed : (A : Type 0) (s bs : List ℕ) (vs : List (Value A)) (n : ℕ) → IsFirstStop s bs vs n → AreHandedOut vs
+stop_handed A s bs vs n is = let P : List (Value A) → Type 0 = λ vs. AreHandedOut vs in subst P (sym is.values) (yield_handed A s (take n bs))

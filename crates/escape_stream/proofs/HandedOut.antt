@@ -1,25 +1,32 @@
 -- What may be handed out.
-use Rattle.std.proofs.Common.{◌≡◌, ◌≢◌, ◌<◌, ◌≤◌, ◌==◌, nat_lt, inl, inr, Option, Some, None, ℕ, Bool, true, false, not, ◌&&◌, ◌||◌, List, [], ◌∷◌, ◌++◌, refl, ap, sym, ◌∙◌, subst, arith}
+use Rattle.std.proofs.Common.{◌≡◌, ◌≢◌, ◌<◌, ◌≤◌, ◌==◌, nat_lt, inl, inr, Option, Some, None, ℕ, Bool, true, false, not, ◌&&◌, ◌||◌, List, [], ◌∷◌, ◌++◌, length, map, take_all, refl, ap, sym, ◌∙◌, subst, arith}
 use Rattle.std.proofs.lemmas.Bool.{cases_lt, eqb-true}
 use Rattle.std.proofs.lemmas.Bool.Decides.{nat_tests}
 use Rattle.std.proofs.lemmas.Str.{encode_ascii}
 use Rattle.esc_below.specs.declared.esc.Esc.TheVariants as esc_variant
+use Rattle.esc_below.specs.Csis.{CsiValue, csi_body, csi_of, ReadBack, ReadsBack}
 use Rattle.esc_below.specs.Escs.{esc_of, esc_text}
-use Rattle.esc_frame.specs.Classes.{class_of, AllOf, is_control, is_raw_control, is_intermediate, ends_escape, opens}
+use Rattle.esc_below.specs.Entries.{entries}
+use Rattle.esc_below.specs.declared.csi_param.CsiParam.{CsiParam}
+use Rattle.esc_below.proofs.CsisBack.{reads_back as csi_reads_back, truncated as csi_truncated}
+use Rattle.esc_frame.specs.Classes.{class_of, AllOf, is_control, is_raw_control, is_intermediate, ends_csi, ends_escape, opens}
+use Rattle.esc_frame.specs.Bodies.{is_csi_body, kept_entries, has_more_entries}
 use Rattle.esc_frame.specs.Events.{Event}
 use Rattle.esc_frame.specs.Events.Event.{Print, Execute, EscDispatch, CsiDispatch, OscDispatch, DcsHook, DcsPut, DcsUnhook, ApcDispatch}
-use Rattle.esc_frame.specs.Fits.{IsFit, AreFit}
+use Rattle.esc_frame.specs.Fits.{IsFit, AreFit, IsOneSegment}
+use Rattle.esc_frame.specs.Segments.{csi_event}
 use Rattle.esc_frame.specs.Segments.Segment.{Escape as EscapeOf}
 use Rattle.esc_frame.specs.Stream.{events}
 use Rattle.esc_frame.specs.declared.classes.Class.TheVariants.{Intermediate}
 use Rattle.esc_osc.proofs.ReadsBack.{clear_is_writable}
 use Rattle.escape_stream.proofs.Controls.{code_number-code_of}
 use Rattle.esc_frame.proofs.Fitting.{events_fit}
+use Rattle.esc_frame.proofs.SaysSequences.{body_of, one_csi}
 use Rattle.escape_stream.proofs.Lists.{and_parts}
 use Rattle.escape_stream.proofs.Yields.{meaning_more}
 use Rattle.escape_stream.specs.ControlCodes.{code_of}
 use Rattle.escape_stream.specs.Meaning.{meaning, values_from, yield}
-use Rattle.escape_stream.specs.Values.{Mode, Value, esc, after, executed, given, lone, plain}
+use Rattle.escape_stream.specs.Values.{Mode, Value, esc, csi, after, executed, given, lone, plain}
 use Rattle.escape_stream.specs.Writable.{IsWritable, AreHandedOut, is_lone_control, is_opening}
 use Rattle.escape_stream.specs.declared.control_code.ControlCode.{ControlCode}
 
@@ -113,11 +120,50 @@ esc_handed [] f all h o = with_none f h o
 esc_handed (i ∷ []) f all h o = let q = intermediate_is i (and_parts (is_intermediate (class_of i)) true all).0 in with_one i f q.0 h q.1 (final_small f h)
 esc_handed (i ∷ j ∷ is) f all h o = with_none f h o
 
+-- control sequences
+few_kept : (x : List ℕ) → length (entries x) ≤ 256 → (kept_entries x ≡ entries x) × (has_more_entries x ≡ false)
+unfolding kept_entries has_more_entries
+few_kept x h = (take_all 256 (entries x) h, grind (arith, nat_tests))
+
+few_are : (x : List ℕ) → has_more_entries x ≡ false → length (entries x) ≤ 256
+unfolding has_more_entries
+few_are x h = grind (arith, nat_tests)
+
+csi_small : (f : ℕ) → ends_csi (class_of f) ≡ true → f < 128
+unfolding class_of
+csi_small f h = grind (arith, nat_tests)
+
+-- what reads back as one value is writable
+csi_writable : (A : Type 0) (f : ℕ) (v : CsiValue) → ends_csi (class_of f) ≡ true → ReadsBack f v → IsWritable {A = A} (csi v)
+csi_writable A f v ends (text, (bytes, form, few), one) =
+    let x = csi_body v in
+    let k = few_kept x few in (
+      csi_event x f ∷ [],
+      subst (λ t. IsOneSegment t (csi_event x f ∷ [])) (sym text) (one_csi x f (body_of x bytes) form ends),
+      rw (k.0, k.1, one) refl,
+    )
+
+all_handed : (A : Type 0) (f : ℕ) (vs : List CsiValue) → ends_csi (class_of f) ≡ true → ReadBack f vs → AreHandedOut {A = A} (map csi vs)
+all_handed A f [] ends h = tt
+all_handed A f (v ∷ vs) ends h = (λ whole. csi_writable A f v ends h.0, all_handed A f vs ends h.1)
+
+body_handed : (A : Type 0) (x : List ℕ) (f : ℕ) (more : Bool) → has_more_entries x ≡ more → is_csi_body x ≡ true → ends_csi (class_of f) ≡ true → AreHandedOut {A = A} (map csi (csi_of (kept_entries x) more f))
+body_handed A x f true e form ends = let P : List CsiValue → Type 0 = λ vs. AreHandedOut {A = A} (map csi vs) in subst P (sym (csi_truncated (kept_entries x) f)) (λ whole. absurd cc, tt)
+body_handed A x f false e form ends =
+    let few = few_are x e in
+    let P : List CsiParam → Type 0 = λ es. AreHandedOut {A = A} (map csi (csi_of es false f)) in
+    subst P (sym (few_kept x few).0) (all_handed A f (csi_of (entries x) false f) ends (csi_reads_back x f form few (csi_small f ends)))
+
+csi_handed : (A : Type 0) (es : List CsiParam) (more : Bool) (f : ℕ) → IsFit (CsiDispatch es more f) → AreHandedOut {A = A} (given plain (CsiDispatch es more f))
+csi_handed A es more f (x, bytes, form, is, ends) =
+    let P : Event → Type 0 = λ e. AreHandedOut {A = A} (given plain e) in
+    subst P (sym is) (body_handed A x f (has_more_entries x) refl form ends)
+
 event_handed : (A : Type 0) (m : Mode) (e : Event) → IsFit e → AreHandedOut {A = A} (given m e)
 event_handed A m (Print c) h = (h, tt)
 event_handed A m (Execute b) h = control_handed A b (code_of b) refl h
 event_handed A m (EscDispatch is more f) h = (esc_handed is f h.0 h.1, tt)
-event_handed A m (CsiDispatch es more f) h = tt
+event_handed A m (CsiDispatch es more f) h = csi_handed A es more f h
 event_handed A m (OscDispatch ps) h = (clear_is_writable A ps h, tt)
 event_handed A m (DcsHook f ns is more) h = tt
 event_handed A m (DcsPut b) h = tt

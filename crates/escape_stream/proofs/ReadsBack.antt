@@ -8,6 +8,7 @@ use Rattle.std.specs.Char.{encode_utf8}
 use Rattle.std.specs.List.{list_all}
 use Rattle.std.specs.Str.{chars, encode_utf8_all}
 use Rattle.esc_below.specs.Clear.{is_clear, IsClearText, parts_of}
+use Rattle.esc_below.specs.Csis.{csi_text}
 use Rattle.esc_below.specs.Escs.{esc_text}
 use Rattle.esc_below.specs.declared.esc.Esc.TheVariants as esc_variant
 use Rattle.esc_below.specs.declared.esc_code.EscCode.TheVariants as esc_code
@@ -27,7 +28,7 @@ use Rattle.escape_stream.proofs.Yields.{always_plain, meaning_nil, values_append
 use Rattle.escape_stream.specs.ControlCodes.{code_number}
 use Rattle.escape_stream.specs.Meaning.{meaning, mode_from, values_from, Reads}
 use Rattle.escape_stream.specs.Texts.{value_text, is_string, is_terminator, terminator, begins_terminator, text_behind, texts_behind, list_text, spelled, normal}
-use Rattle.escape_stream.specs.Values.{Value, print, string, control, esc, osc, executed, plain}
+use Rattle.escape_stream.specs.Values.{Value, print, string, control, esc, csi, osc, executed, plain}
 use Rattle.escape_stream.specs.Writable.{IsWritable, AreWritable, is_lone_control}
 use Rattle.escape_stream.specs.declared.control_code.ControlCode.{ControlCode}
 
@@ -114,6 +115,7 @@ reads_value (print c) h = reads_print c h
 reads_value (string t) h = reads_by t t (map print (chars t)) (map print (chars t) ++ []) refl (sym (append-nil (map print (chars t)))) (reads_string t h.0)
 reads_value (control c) h = reads_control c h
 reads_value (esc e) (es, one, is) = reads_by (esc_text e) (esc_text e) (values_from plain es) (esc e ∷ []) refl is (reads_says (esc_text e) es (always_plain (mode_from plain es)) (says_itself (esc_text e) es one))
+reads_value (csi c) (es, one, is) = reads_by (csi_text c) (csi_text c) (values_from plain es) (csi c ∷ []) refl is (reads_says (csi_text c) es (always_plain (mode_from plain es)) (says_itself (csi_text c) es one))
 reads_value (osc c) h = reads_osc c h
 
 -- a list
@@ -153,6 +155,7 @@ both (esc (esc_variant.Code esc_code.StringTerminator) ∷ vs) = let e = ap (λ 
 both (esc (esc_variant.Code esc_code.HorizontalTabSet) ∷ vs) = let e = ap (λ x. esc (esc_variant.Code esc_code.HorizontalTabSet) ∷ x) (both vs).0 in (e, ap (λ x. terminator ∷ x) e)
 both (esc (esc_variant.Code esc_code.TmuxTitle) ∷ vs) = let e = ap (λ x. esc (esc_variant.Code esc_code.TmuxTitle) ∷ x) (both vs).0 in (e, ap (λ x. terminator ∷ x) e)
 both (esc (esc_variant.Unspecified i c) ∷ vs) = let e = ap (λ x. esc (esc_variant.Unspecified i c) ∷ x) (both vs).0 in (e, ap (λ x. terminator ∷ x) e)
+both (csi c ∷ vs) = let e = ap (λ x. csi c ∷ x) (both vs).0 in (e, ap (λ x. terminator ∷ x) e)
 both (osc c ∷ vs) = let e = ap (λ x. osc c ∷ x) (both vs).1 in (string_normal (osc c) vs (begins_terminator vs) e, ap (λ x. terminator ∷ x) (string_normal (osc c) vs (begins_terminator vs) e))
 
 pub meant_normal : {A : Type 0} (vs : List (Value A)) → meant_behind false vs ≡ normal vs

@@ -38,7 +38,7 @@ pub fn normal_normal<A: Allocator>()
 {}
 
 /// Every value that any stream means is writable, but for an escape sequence without intermediate whose letter opens a string
-/// or a control sequence.
+/// or a control sequence, and for a control sequence of which entries were left out.
 #[tactic(auto, using(crate::proofs::HandedOut::handed_out))]
 pub fn handed_out<A: Allocator>()
     ensures { (s : List ℕ) → AreHandedOut {A = A} (meaning s) }

@@ -18,6 +18,11 @@ mod pieces;
 mod sink;
 mod watched;
 
+/// Control sequences.
+pub mod csi {
+    pub use esc_below::{CSI, Intensity, Sgr, Underline, Unspecified};
+}
+
 /// Escape sequences.
 pub mod esc {
     pub use esc_below::{Esc, EscCode};
@@ -32,10 +37,8 @@ pub use action::Action;
 pub use control_code::ControlCode;
 pub use encode_error::EncodeError;
 pub use encoding::encode;
-pub use esc_below::{CsiParam, Error, Esc, EscCode, Items, Text};
-pub use esc_frame::actor::VTActor;
+pub use esc_below::{CSI, CsiParam, Error, Esc, EscCode, Items, RgbColor, Text};
 pub use esc_frame::error::ParseError;
-pub use esc_frame::parser::VTParser;
 pub use esc_osc::{OperatingSystemCommand, OperatingSystemCommandCode};
 pub use normalisation::normalise;
 pub use normalise_error::NormaliseError;

@@ -7,7 +7,7 @@ ghost use Rattle.esc_frame.specs.Memory.{MayGrow};
 ghost use Rattle.escape_stream.specs.Given.{At, GetsAll, GetsFront, StopsAt};
 ghost use Rattle.escape_stream.specs.Meaning.{yield};
 ghost use Rattle.escape_stream.specs.Values.{value_of};
-ghost use Rattle.escape_stream.specs.Writable.{AreHandedOut};
+ghost use Rattle.escape_stream.specs.Writable.{AreHandedOut, IsHandedOut};
 
 use crate::action::Action;
 use crate::performer::Performer;
@@ -146,6 +146,7 @@ impl<A: Allocator + Copy> Parser<A> {
     /// call had been refused one, also where `bytes` are empty.
     pub fn parse_first(&mut self, bytes: &[u8]) -> Result<Option<(Action<A>, usize)>, ParseError>
         ensures some { (s : List ℕ) → WasFed s self.old → IfOk result (λ r. IfSome r (λ x. WasFed (s ++ take x.1 bytes.now) self.new × IsFirst s bytes.now (value_of x.0) x.1)) }
+        ensures handed_out { (s : List ℕ) → WasFed s self.old → IfOk result (λ r. IfSome r (λ x. IsHandedOut (value_of x.0))) }
         ensures none { (s : List ℕ) → WasFed s self.old → IfOk result (λ r. IfNone r (WasFed (s ++ bytes.now) self.new × (yield {A = A} s bytes.now ≡ []))) }
         ensures refused { (s : List ℕ) → WasFed s self.old → IfErr result (λ e. (e ≡ ParseError.Memory) × IsBroken self.new) }
         ensures failed { IsBroken self.old → (result ≡ Err ParseError.Failed) × IsBroken self.new }
@@ -203,6 +204,7 @@ impl<A: Allocator + Copy> Parser<A> {
         bytes: &[u8],
     ) -> Result<Option<(Vec<Action<A>, A>, usize)>, ParseError>
         ensures some { (s : List ℕ) → WasFed s self.old → IfOk result (λ r. IfSome r (λ x. WasFed (s ++ take x.1 bytes.now) self.new × IsFirstStop s bytes.now (map value_of x.0.items) x.1)) }
+        ensures handed_out { (s : List ℕ) → WasFed s self.old → IfOk result (λ r. IfSome r (λ x. AreHandedOut (map value_of x.0.items))) }
         ensures none { (s : List ℕ) → WasFed s self.old → IfOk result (λ r. IfNone r (WasFed (s ++ bytes.now) self.new × ((k : ℕ) → k ≤ length bytes.now → IsStop A s (take k bytes.now) → ⊥))) }
         ensures refused { (s : List ℕ) → WasFed s self.old → IfErr result (λ e. (e ≡ ParseError.Memory) × IsBroken self.new) }
         ensures failed { IsBroken self.old → (result ≡ Err ParseError.Failed) × IsBroken self.new }
@@ -236,6 +238,7 @@ impl Parser {
         requires { F.IsAlwaysCallable callback }
         ensures given { (s : List ℕ) → WasFed s self.old → OnOk result (WasFed (s ++ bytes.now) self.new
             × GetsAll (At value_of (λ p a q. F.step p a tt q)) callback (yield s bytes.now)) }
+        ensures handed_out { (s : List ℕ) → WasFed s self.old → AreHandedOut {A = Global} (yield s bytes.now) }
         ensures refused { (s : List ℕ) → WasFed s self.old → IfErr result (λ e. (e ≡ ParseError.Memory) × IsBroken self.new
             × MayGrow (s ++ bytes.now) × GetsFront (At value_of (λ p a q. F.step p a tt q)) callback (yield s bytes.now)) }
         ensures failed { IsBroken self.old → (result ≡ Err ParseError.Failed) × IsBroken self.new }

@@ -1,14 +1,15 @@
 //! From events to actions.
-ghost use Rattle.std.specs.Prelude.{◌≡◌, ℕ, true, MatchOption};
+ghost use Rattle.std.specs.Prelude.{◌≡◌, ℕ, true, MatchOption, MatchResult, OnOk, map};
 ghost use Rattle.std.specs.List.{FoldsTo};
+ghost use Rattle.esc_below.specs.Csis.{csi_value};
 ghost use Rattle.escape_stream.specs.ControlCodes.{code_of};
 ghost use Rattle.escape_stream.specs.Given.{At, StopsAt};
-ghost use Rattle.escape_stream.specs.Values.{Mode, after, given, lone, value_of, wants_memory};
+ghost use Rattle.escape_stream.specs.Values.{Mode, after, csi, given, lone, value_of, wants_memory};
 
 use crate::action::Action;
 use crate::control_code::ControlCode;
 use crate::sink::Sink;
-use esc_below::{CsiParam, Esc};
+use esc_below::{CSI, CsiParam, Esc};
 use esc_frame::actor::VTActor;
 use esc_osc::OperatingSystemCommand;
 use std::alloc::{AllocError, Allocator, Global};
@@ -33,6 +34,22 @@ fn code_for(control: u8) -> Option<ControlCode>
     ensures { result ≡ code_of control }
 {
     ControlCode::from_byte(control)
+}
+
+// Gives the sink these control sequences, one after another.
+fn give_all<A: Allocator, S: Sink<Action<A>>>(
+    sink: &mut S,
+    values: Vec<CSI<A>, A>,
+) -> Result<(), AllocError>
+    requires { S.is_ready sink.old }
+    ensures ready { OnOk result (S.is_ready sink.new) }
+    ensures given { MatchResult result (λ _. FoldsTo (At value_of S.takes) sink.old (map csi (map csi_value values.items)) sink.new)
+        (λ _. StopsAt (true ≡ true) (At value_of S.takes) (At value_of S.refuses) sink.old (map csi (map csi_value values.items)) sink.new) }
+{
+    for value in values {
+        sink.receive(Action::CSI(value))?;
+    }
+    Ok(())
 }
 
 impl<A: Allocator + Copy, S: Sink<Action<A>>> VTActor for Performer<S, A> {
@@ -86,11 +103,14 @@ impl<A: Allocator + Copy, S: Sink<Action<A>>> VTActor for Performer<S, A> {
 
     fn csi_dispatch(
         &mut self,
-        _params: &[CsiParam],
-        _parameters_truncated: bool,
-        _byte: u8,
+        params: &[CsiParam],
+        parameters_truncated: bool,
+        byte: u8,
     ) -> Result<(), AllocError> {
-        Ok(())
+        match CSI::parse(self.alloc, params, parameters_truncated, byte) {
+            Ok(values) => give_all(&mut self.sink, values),
+            Err(error) => Err(error),
+        }
     }
 
     fn osc_dispatch(&mut self, params: &[&[u8]]) -> Result<(), AllocError> {

@@ -1,4 +1,4 @@
-use Rattle.std.proofs.Common.{◌++◌, sym, take}
+use Rattle.std.proofs.Common.{sym, take}
 use Rattle.esc_frame.specs.Stream.{added, events}
 use Rattle.escape_stream.proofs.Lists.{if_ok_second}
 use Rattle.escape_stream.proofs.Yields.{always_plain, performs, yield_is}

@@ -1,4 +1,4 @@
-use Rattle.std.proofs.Common.{◌++◌, take, refl}
+use Rattle.std.proofs.Common.{refl}
 use Rattle.std.proofs.lemmas.Result.{IfOk-at_ok}
 use Rattle.escape_stream.proofs.FirstsGiven.{keeps_first}
 use Rattle.escape_stream.proofs.parser.Parser.first_in.Goals as goal

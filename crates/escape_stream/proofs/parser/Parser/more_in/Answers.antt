@@ -1,4 +1,3 @@
-use Rattle.std.proofs.Common.{◌++◌, map, take}
 use Rattle.std.proofs.lemmas.Result.{IfOk-at_ok}
 use Rattle.escape_stream.proofs.Yields.{collects}
 use Rattle.escape_stream.proofs.parser.Parser.more_in.Goals as goal

@@ -1,11 +1,9 @@
-use Rattle.std.proofs.Common.{◌≡◌, ◌≢◌, ◌+◌, ◌-◌, ◌<◌, ◌≤◌, ◌++◌, ℕ, List, [], length, map, take, drop, Some, None, refl, sym, ap, ◌∙◌, subst, arith}
+use Rattle.std.proofs.Common.{◌≡◌, ◌+◌, ◌≤◌, ◌++◌, length, take, sym, ap, ◌∙◌, subst, arith}
 use Rattle.std.proofs.lemmas.List.{append-nil, take_all}
 use Rattle.std.specs.Option.{option_map}
-use Rattle.esc_frame.specs.Stream.{LeadsTo}
-use Rattle.escape_stream.proofs.FirstsGiven.{fed_more, finds_first, finds_none, rest_length, yield_nil}
+use Rattle.escape_stream.proofs.FirstsGiven.{fed_more, finds_first, finds_none, first_handed, rest_length, yield_nil}
 use Rattle.escape_stream.proofs.parser.Parser.parse_first.Goals as goal
 use Rattle.escape_stream.specs.Fed.{WasFed}
-use Rattle.escape_stream.specs.Firsts.{first}
 use Rattle.escape_stream.specs.Meaning.{yield}
 use Rattle.escape_stream.specs.Values.{value_of}
 
@@ -26,6 +24,9 @@ returns-in-Some-clause-some g c = λ s h.
     let l = rest_length bs at in
     let m : at + n ≤ length bs = omega (arith, c.in_ok-taken.ensures.count.0, c.fronts.invariant.within) in
     (subst (λ x. WasFed x c.first_in.new.self) (fed_more s bs at n) w.0, finds_first s bs at n (value_of c.in-Some.action) m p.1 (c.in_ok-taken.ensures.quiet (s ++ take at bs) p.0) (sym (ap (option_map value_of) c.in-Some.is) ∙ w.1))
+
+pub returns-in-Some-clause-handed_out : goal.returns-in-Some-clause-handed_out
+returns-in-Some-clause-handed_out g c = λ s h. let is = (returns-in-Some-clause-some g c s h).1 in first_handed g.row.A.Denot s c.args.bytes.now (value_of c.in-Some.action) _ is
 
 pub returns-then-at-bytes-clause-none : goal.returns-then-at-bytes-clause-none
 returns-then-at-bytes-clause-none g c = λ s h.

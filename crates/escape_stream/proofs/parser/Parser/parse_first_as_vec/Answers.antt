@@ -1,7 +1,7 @@
-use Rattle.std.proofs.Common.{◌≡◌, ◌+◌, ◌-◌, ◌<◌, ◌≤◌, ◌++◌, ℕ, List, [], true, false, length, map, take, drop, refl, sym, ap, ◌∙◌, subst, arith}
+use Rattle.std.proofs.Common.{◌≡◌, ◌+◌, ◌≤◌, ◌++◌, length, map, take, sym, ap, ◌∙◌, subst, arith}
 use Rattle.std.proofs.lemmas.List.{append-nil, take_all}
 use Rattle.std.proofs.lemmas.Result.{err_from_is_err_and}
-use Rattle.escape_stream.proofs.FirstsGiven.{fed_more, no_stop_up_to, no_stop_within, no_stop_yet, rest_length, values_more, yield_nil}
+use Rattle.escape_stream.proofs.FirstsGiven.{fed_more, stop_handed, no_stop_up_to, no_stop_within, no_stop_yet, rest_length, values_more, yield_nil}
 use Rattle.escape_stream.proofs.parser.Parser.parse_first_as_vec.Goals as goal
 use Rattle.escape_stream.specs.Fed.{WasFed}
 use Rattle.escape_stream.specs.Firsts.{IsStop}
@@ -34,6 +34,9 @@ returns-then-stops-clause-some g c = λ s h.
       },
     )
 
+pub returns-then-stops-clause-handed_out : goal.returns-then-stops-clause-handed_out
+returns-then-stops-clause-handed_out g c = λ s h. stop_handed g.row.A.Denot s c.args.bytes.now _ _ (returns-then-stops-clause-some g c s h).1
+
 pub returns-then-stops-clause-failed : goal.returns-then-stops-clause-failed
 returns-then-stops-clause-failed g c = λ b. let e = (c.in_ok-taken.ensures.failed (c.fronts.invariant.broken b)).0 in absurd cc
 
@@ -50,8 +53,8 @@ returns-then-at-bytes-clause-none g c = λ s h.
     let here : IsStop g.row.A.Denot s (take (at + n) bs) → ⊥ = λ stop. (let t = c.stops.ensures.no s (take (at + n) bs) f (ap (map value_of) c.deref.ensures.value ∙ v) stop in let e = c.if-stops.false in cc) in (
       subst (λ x. WasFed x c.more_in.new.self) (ap (λ x. s ++ x) all) f,
       λ k below.
-      let within : k ≤ at + n = omega arith in
-      no_stop_up_to g.row.A.Denot s bs (at + n) (no_stop_within g.row.A.Denot s bs at n p.2 (c.in_ok-taken.ensures.quiet (s ++ take at bs) p.0)) here k within,
+          let within : k ≤ at + n = omega arith in
+          no_stop_up_to g.row.A.Denot s bs (at + n) (no_stop_within g.row.A.Denot s bs at n p.2 (c.in_ok-taken.ensures.quiet (s ++ take at bs) p.0)) here k within,
     )
 
 pub returns-in_err-taken-clause-refused : goal.returns-in_err-taken-clause-refused

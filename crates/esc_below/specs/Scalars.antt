@@ -1,0 +1,25 @@
+-- The texts of scalars: numbers and UTF-8.
+use Rattle.std.specs.Prelude.{ℕ, ◌^◌, nat_lt, Bool, ◌&&◌, if◌then◌else◌, List, length, Option, Some, None}
+use Rattle.std.specs.Str.{all_ascii_digits, is_utf8}
+use Rattle.std.specs.Str.Parse.{without_leading_plus, digits_value}
+
+-- what f answers of the value, where there is one
+abbrev pub and_then : {X Y : Type 0} → Option X → (X → Option Y) → Option Y
+and_then None f = None
+and_then (Some x) f = f x
+
+-- x, where the test holds
+abbrev pub when : {X : Type 0} → Bool → X → Option X
+when b x = if b then Some x else None
+
+-- bytes that are a text
+abbrev pub utf8_of : List ℕ → Option (List ℕ)
+utf8_of bs = when (is_utf8 bs) bs
+
+-- the number of at least one digit, where it has k bits
+abbrev pub number_in : ℕ → List ℕ → Option ℕ
+number_in k ds = when (nat_lt 0 (length ds) && all_ascii_digits ds && nat_lt (digits_value 10 ds) (2 ^ k)) (digits_value 10 ds)
+
+-- the number of k bits that a text writes in decimal, with or without a `+`
+abbrev pub number_of : ℕ → List ℕ → Option ℕ
+number_of k bs = number_in k (without_leading_plus bs)

@@ -1,0 +1,134 @@
+//! Control sequences.
+ghost use Rattle.std.specs.Prelude.{◌≡◌, ◌+◌, ◌<◌, ◌≤◌, ◌∷◌, [], length, drop, IfOk, map, Some};
+ghost use Rattle.std.specs.Option.{option_map};
+ghost use Rattle.std.specs.List.{position_or_len, slice_split};
+ghost use Rattle.esc_below.specs.Csis.{csi_value, csi_of, csi_text, is_separator, renditions, unspecified};
+
+use crate::csi_param::CsiParam;
+use crate::items::Items;
+use crate::sgr::Sgr;
+use crate::unspecified::Unspecified;
+use std::alloc::{AllocError, Allocator, Global};
+use std::fmt;
+use std::fmt::Display;
+
+/// A control sequence, or an item of one that has several: `ESC [`, a body of parameter and intermediate bytes, and a
+/// final byte (ECMA-48, 5.4; xterm's list of control sequences).
+///
+/// Contracts see it by `csi_value`, which leaves out where it lies in memory.
+#[derive(Drop)]
+#[derive_where(Debug, PartialEq)]
+pub enum CSI<A: Allocator = Global> {
+    /// A rendition (ECMA-48, 8.3.117, SGR).
+    Sgr(Sgr),
+    /// Any other control sequence, as it stands.
+    Unspecified(Box<Unspecified<A>, A>),
+}
+
+impl<A: Allocator + Copy> CSI<A> {
+    /// What the entries of a body and a final byte are. Where the final byte is `m`, no entry was left out, and the
+    /// entries are items between `;` that are all renditions, these renditions, in order; no entry is one empty item.
+    /// Anything else is one `Unspecified` of the same entries. The error is that memory was refused.
+    ///
+    /// Renditions are: nothing and 0, reset; 1 bold, 2 faint, 22 neither; 3 slanted, 23 not; 4 underlined, 21 twice, 24
+    /// not; and `4:0` to `4:5`, the kinds of underlines from none to dashes.
+    pub fn parse(
+        alloc: A,
+        params: &[CsiParam],
+        parameters_truncated: bool,
+        control: u8,
+    ) -> Result<Vec<CSI<A>, A>, AllocError>
+        ensures { IfOk result (λ v. map csi_value v.items ≡ csi_of params.now parameters_truncated control) }
+    {
+        if control == b'm' && !parameters_truncated {
+            if let Some(read) = read_renditions(alloc, params)? {
+                return Ok(read);
+            }
+        }
+        as_it_stands(alloc, params, parameters_truncated, control)
+    }
+}
+
+// One `Unspecified`.
+fn as_it_stands<A: Allocator + Copy>(
+    alloc: A,
+    params: &[CsiParam],
+    parameters_truncated: bool,
+    control: u8,
+) -> Result<Vec<CSI<A>, A>, AllocError>
+    ensures { IfOk result (λ v. map csi_value v.items ≡ unspecified params.now parameters_truncated control ∷ []) }
+{
+    let kept = Unspecified {
+        params: Items::from_vec(Vec::from_slice(alloc, params)?),
+        parameters_truncated,
+        control,
+    };
+    let Ok(kept) = Box::new(alloc, kept) else {
+        return Err(AllocError);
+    };
+    let mut read = Vec::new(alloc);
+    read.push(CSI::Unspecified(kept))?;
+    Ok(read)
+}
+
+// The renditions of the items between `;`, where each item is one.
+fn read_renditions<A: Allocator + Copy>(
+    alloc: A,
+    params: &[CsiParam],
+) -> Result<Option<Vec<CSI<A>, A>>, AllocError>
+    ensures { IfOk result (λ o. option_map (λ v. map csi_value v.items) o ≡ renditions (slice_split is_separator params.now)) }
+{
+    let mut read = Vec::new(alloc);
+    let mut rest = params;
+    'items: loop {
+        let len = item_len(rest);
+        let Some(sgr) = Sgr::from_item(&rest[..len]) else {
+            return Ok(None);
+        };
+        read.push(CSI::Sgr(sgr))?;
+        if len == rest.len() {
+            return Ok(Some(read));
+        }
+        rest = behind_item(rest, len);
+    }
+}
+
+// How many entries the first item has.
+fn item_len(params: &[CsiParam]) -> usize
+    ensures first { result ≡ position_or_len is_separator params.now }
+    ensures few { result ≤ length params.now }
+{
+    let mut len = 0;
+    while len < params.len() && !is_separator(&params[len]) {
+        len += 1;
+    }
+    len
+}
+
+// What stands behind an item of this many entries and the `;` that ends it.
+fn behind_item(params: &[CsiParam], len: usize) -> &[CsiParam]
+    requires { len < length params.now }
+    ensures { result.now ≡ drop (len + 1) params.now }
+{
+    &params[len + 1..]
+}
+
+// Whether it stands between items.
+fn is_separator(param: &CsiParam) -> bool
+    ensures { result ≡ is_separator param.now }
+{
+    *param == CsiParam::P(b';')
+}
+
+/// Writes the control sequence as a terminal reads it. Takes no memory, and errs only where the writer behind the
+/// formatter errs.
+impl<A: Allocator> fmt::Display for CSI<A> {
+    ghost output = { λ c. Some (csi_text (csi_value c)) };
+
+    fn fmt<W: fmt::Write>(&self, f: &mut fmt::Formatter<W>) -> fmt::Result {
+        match self {
+            CSI::Sgr(sgr) => sgr.fmt(f),
+            CSI::Unspecified(unspecified) => unspecified.fmt(f),
+        }
+    }
+}

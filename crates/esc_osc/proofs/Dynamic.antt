@@ -1,0 +1,94 @@
+-- Dynamic colours, and the codes that change and reset them.
+use Rattle.std.proofs.Common.{◌≡◌, ◌≢◌, ℕ, List, Some, refl}
+use Rattle.std.specs.Option.{option_map}
+use Rattle.esc_osc.specs.Codes.{changed_by, reset_by, change_code, reset_code}
+use Rattle.esc_osc.specs.Colors.{colors_of}
+use Rattle.esc_osc.specs.Reading.{reading, dynamic}
+use Rattle.esc_osc.specs.declared.code.OperatingSystemCommandCode.{OperatingSystemCommandCode}
+use Rattle.esc_osc.specs.declared.code.OperatingSystemCommandCode.TheVariants as code
+use Rattle.esc_osc.specs.declared.command.OperatingSystemCommand.TheVariants as command
+use Rattle.esc_osc.specs.declared.dynamic_color_number.DynamicColorNumber.{DynamicColorNumber}
+use Rattle.esc_osc.specs.declared.dynamic_color_number.DynamicColorNumber.TheVariants as color
+
+-- a code that has no line of its own
+pub other_reads : (A : Type 0) (c : OperatingSystemCommandCode) (t : List ℕ) (args : List (List ℕ))
+    → c ≢ code.SetIconNameAndWindowTitle
+    → c ≢ code.SetIconName
+    → c ≢ code.SetWindowTitle
+    → c ≢ code.SetWindowTitleSun
+    → c ≢ code.SetIconNameSun
+    → c ≢ code.ChangeColorNumber
+    → c ≢ code.SetCurrentWorkingDirectory
+    → c ≢ code.SystemNotification
+    → c ≢ code.ManipulateSelectionData
+    → c ≢ code.ResetColors
+    → c ≢ code.RxvtProprietary
+    → reading {A = A} c t args ≡ dynamic (changed_by c) (reset_by c) args
+other_reads A code.SetIconNameAndWindowTitle t args n0 n1 n2 n3 n4 n5 n6 n7 n8 n9 n10 = absurd (n0 refl)
+other_reads A code.SetIconName t args n0 n1 n2 n3 n4 n5 n6 n7 n8 n9 n10 = absurd (n1 refl)
+other_reads A code.SetWindowTitle t args n0 n1 n2 n3 n4 n5 n6 n7 n8 n9 n10 = absurd (n2 refl)
+other_reads A code.SetXWindowProperty t args n0 n1 n2 n3 n4 n5 n6 n7 n8 n9 n10 = refl
+other_reads A code.ChangeColorNumber t args n0 n1 n2 n3 n4 n5 n6 n7 n8 n9 n10 = absurd (n5 refl)
+other_reads A code.ChangeSpecialColorNumber t args n0 n1 n2 n3 n4 n5 n6 n7 n8 n9 n10 = refl
+other_reads A code.ChangeTitleTabColor t args n0 n1 n2 n3 n4 n5 n6 n7 n8 n9 n10 = refl
+other_reads A code.SetCurrentWorkingDirectory t args n0 n1 n2 n3 n4 n5 n6 n7 n8 n9 n10 = absurd (n6 refl)
+other_reads A code.SetHyperlink t args n0 n1 n2 n3 n4 n5 n6 n7 n8 n9 n10 = refl
+other_reads A code.SystemNotification t args n0 n1 n2 n3 n4 n5 n6 n7 n8 n9 n10 = absurd (n7 refl)
+other_reads A code.SetTextForegroundColor t args n0 n1 n2 n3 n4 n5 n6 n7 n8 n9 n10 = refl
+other_reads A code.SetTextBackgroundColor t args n0 n1 n2 n3 n4 n5 n6 n7 n8 n9 n10 = refl
+other_reads A code.SetTextCursorColor t args n0 n1 n2 n3 n4 n5 n6 n7 n8 n9 n10 = refl
+other_reads A code.SetMouseForegroundColor t args n0 n1 n2 n3 n4 n5 n6 n7 n8 n9 n10 = refl
+other_reads A code.SetMouseBackgroundColor t args n0 n1 n2 n3 n4 n5 n6 n7 n8 n9 n10 = refl
+other_reads A code.SetTektronixForegroundColor t args n0 n1 n2 n3 n4 n5 n6 n7 n8 n9 n10 = refl
+other_reads A code.SetTektronixBackgroundColor t args n0 n1 n2 n3 n4 n5 n6 n7 n8 n9 n10 = refl
+other_reads A code.SetHighlightBackgroundColor t args n0 n1 n2 n3 n4 n5 n6 n7 n8 n9 n10 = refl
+other_reads A code.SetTektronixCursorColor t args n0 n1 n2 n3 n4 n5 n6 n7 n8 n9 n10 = refl
+other_reads A code.SetHighlightForegroundColor t args n0 n1 n2 n3 n4 n5 n6 n7 n8 n9 n10 = refl
+other_reads A code.SetLogFileName t args n0 n1 n2 n3 n4 n5 n6 n7 n8 n9 n10 = refl
+other_reads A code.SetFont t args n0 n1 n2 n3 n4 n5 n6 n7 n8 n9 n10 = refl
+other_reads A code.EmacsShell t args n0 n1 n2 n3 n4 n5 n6 n7 n8 n9 n10 = refl
+other_reads A code.ManipulateSelectionData t args n0 n1 n2 n3 n4 n5 n6 n7 n8 n9 n10 = absurd (n8 refl)
+other_reads A code.ResetColors t args n0 n1 n2 n3 n4 n5 n6 n7 n8 n9 n10 = absurd (n9 refl)
+other_reads A code.ResetSpecialColor t args n0 n1 n2 n3 n4 n5 n6 n7 n8 n9 n10 = refl
+other_reads A code.ResetTextForegroundColor t args n0 n1 n2 n3 n4 n5 n6 n7 n8 n9 n10 = refl
+other_reads A code.ResetTextBackgroundColor t args n0 n1 n2 n3 n4 n5 n6 n7 n8 n9 n10 = refl
+other_reads A code.ResetTextCursorColor t args n0 n1 n2 n3 n4 n5 n6 n7 n8 n9 n10 = refl
+other_reads A code.ResetMouseForegroundColor t args n0 n1 n2 n3 n4 n5 n6 n7 n8 n9 n10 = refl
+other_reads A code.ResetMouseBackgroundColor t args n0 n1 n2 n3 n4 n5 n6 n7 n8 n9 n10 = refl
+other_reads A code.ResetTektronixForegroundColor t args n0 n1 n2 n3 n4 n5 n6 n7 n8 n9 n10 = refl
+other_reads A code.ResetTektronixBackgroundColor t args n0 n1 n2 n3 n4 n5 n6 n7 n8 n9 n10 = refl
+other_reads A code.ResetHighlightColor t args n0 n1 n2 n3 n4 n5 n6 n7 n8 n9 n10 = refl
+other_reads A code.ResetTektronixCursorColor t args n0 n1 n2 n3 n4 n5 n6 n7 n8 n9 n10 = refl
+other_reads A code.ResetHighlightForegroundColor t args n0 n1 n2 n3 n4 n5 n6 n7 n8 n9 n10 = refl
+other_reads A code.FinalTermSemanticPrompt t args n0 n1 n2 n3 n4 n5 n6 n7 n8 n9 n10 = refl
+other_reads A code.RxvtProprietary t args n0 n1 n2 n3 n4 n5 n6 n7 n8 n9 n10 = absurd (n10 refl)
+other_reads A code.ITermProprietary t args n0 n1 n2 n3 n4 n5 n6 n7 n8 n9 n10 = refl
+other_reads A code.SetWindowTitleSun t args n0 n1 n2 n3 n4 n5 n6 n7 n8 n9 n10 = absurd (n3 refl)
+other_reads A code.SetIconNameSun t args n0 n1 n2 n3 n4 n5 n6 n7 n8 n9 n10 = absurd (n4 refl)
+
+-- the codes of a dynamic colour
+pub change_reads : (A : Type 0) (n : DynamicColorNumber) (t : List ℕ) (args : List (List ℕ))
+    → reading {A = A} (change_code n) t args ≡ option_map (command.ChangeDynamicColors n) (colors_of args)
+change_reads A color.TextForegroundColor t args = refl
+change_reads A color.TextBackgroundColor t args = refl
+change_reads A color.TextCursorColor t args = refl
+change_reads A color.MouseForegroundColor t args = refl
+change_reads A color.MouseBackgroundColor t args = refl
+change_reads A color.TektronixForegroundColor t args = refl
+change_reads A color.TektronixBackgroundColor t args = refl
+change_reads A color.HighlightBackgroundColor t args = refl
+change_reads A color.TektronixCursorColor t args = refl
+change_reads A color.HighlightForegroundColor t args = refl
+
+pub reset_reads : (A : Type 0) (n : DynamicColorNumber) (t : List ℕ) (args : List (List ℕ))
+    → reading {A = A} (reset_code n) t args ≡ Some (command.ResetDynamicColor n)
+reset_reads A color.TextForegroundColor t args = refl
+reset_reads A color.TextBackgroundColor t args = refl
+reset_reads A color.TextCursorColor t args = refl
+reset_reads A color.MouseForegroundColor t args = refl
+reset_reads A color.MouseBackgroundColor t args = refl
+reset_reads A color.TektronixForegroundColor t args = refl
+reset_reads A color.TektronixBackgroundColor t args = refl
+reset_reads A color.HighlightBackgroundColor t args = refl
+reset_reads A color.TektronixCursorColor t args = refl
+reset_reads A color.HighlightForegroundColor t args = refl

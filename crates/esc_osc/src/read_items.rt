@@ -1,0 +1,136 @@
+//! How lists of parts are read.
+ghost use Rattle.std.specs.Prelude.{◌≡◌, IfOk, map};
+ghost use Rattle.std.specs.Str.Lossy.{utf8_lossy};
+ghost use Rattle.esc_osc.specs.Colors.{colors_of, pairs_of};
+ghost use Rattle.esc_osc.specs.Reading.{lone_text, numbers_of, title_of};
+
+use crate::change_color_pair::ChangeColorPair;
+use crate::color_or_query::ColorOrQuery;
+use crate::read_color::read_spec;
+use esc_below::scalar::{read_u8, text_of};
+use esc_below::{Items, Text};
+use std::alloc::{AllocError, Allocator};
+
+// The same parts.
+pub(crate) fn copied<A: Allocator + Copy>(
+    alloc: A,
+    parts: &[&[u8]],
+) -> Result<Items<Items<u8, A>, A>, AllocError>
+    ensures { IfOk result (λ c. c ≡ map (λ p. p.now) parts.now) }
+{
+    let mut made = Vec::new(alloc);
+    for part in parts {
+        made.push(Items::from_vec(Vec::from_slice(alloc, part)?))?;
+    }
+    Ok(Items::from_vec(made))
+}
+
+// The parts joined by `;`, where they are a text.
+pub(crate) fn read_title<A: Allocator + Copy>(
+    alloc: A,
+    args: &[&[u8]],
+) -> Result<Option<Text<A>>, AllocError>
+    ensures { IfOk result (λ t. t ≡ title_of (map (λ p. p.now) args.now)) }
+{
+    let Some((first, rest)) = args.split_first() else {
+        return Ok(None);
+    };
+    let mut bytes = Vec::from_slice(alloc, first)?;
+    for part in rest {
+        bytes.push(b';')?;
+        bytes.extend_from_slice(part)?;
+    }
+    Ok(text_of(bytes))
+}
+
+// The text of one part alone.
+pub(crate) fn read_lone_text<A: Allocator + Copy>(
+    alloc: A,
+    args: &[&[u8]],
+) -> Result<Option<Text<A>>, AllocError>
+    ensures { IfOk result (λ t. t ≡ lone_text (map (λ p. p.now) args.now)) }
+{
+    let Some((text, more)) = args.split_first() else {
+        return Ok(None);
+    };
+    if !more.is_empty() {
+        return Ok(None);
+    }
+    Ok(text_of(Vec::from_slice(alloc, text)?))
+}
+
+// Pairs of a number and a colour; a last lone part is dropped.
+pub(crate) fn read_pairs<A: Allocator>(
+    alloc: A,
+    args: &[&[u8]],
+) -> Result<Option<Items<ChangeColorPair, A>>, AllocError>
+    ensures { IfOk result (λ t. t ≡ pairs_of (map (λ p. p.now) args.now)) }
+{
+    let mut made = Vec::new(alloc);
+    let mut left = args;
+    while let [index, spec, rest @ ..] = left {
+        let Some(palette_index) = read_u8(index) else {
+            return Ok(None);
+        };
+        let Some(color) = read_spec(spec) else {
+            return Ok(None);
+        };
+        made.push(ChangeColorPair {
+            palette_index,
+            color,
+        })?;
+        left = rest;
+    }
+    Ok(Some(Items::from_vec(made)))
+}
+
+// Colours.
+pub(crate) fn read_colors<A: Allocator>(
+    alloc: A,
+    args: &[&[u8]],
+) -> Result<Option<Items<ColorOrQuery, A>>, AllocError>
+    ensures { IfOk result (λ t. t ≡ colors_of (map (λ p. p.now) args.now)) }
+{
+    let mut made = Vec::new(alloc);
+    for part in args {
+        let Some(color) = read_spec(part) else {
+            return Ok(None);
+        };
+        made.push(color)?;
+    }
+    Ok(Some(Items::from_vec(made)))
+}
+
+// Numbers; an empty part is skipped.
+pub(crate) fn read_numbers<A: Allocator>(
+    alloc: A,
+    args: &[&[u8]],
+) -> Result<Option<Items<u8, A>>, AllocError>
+    ensures { IfOk result (λ t. t ≡ numbers_of (map (λ p. p.now) args.now)) }
+{
+    let mut made = Vec::new(alloc);
+    for part in args {
+        if part.is_empty() {
+            continue;
+        }
+        let Some(number) = read_u8(part) else {
+            return Ok(None);
+        };
+        made.push(number)?;
+    }
+    Ok(Some(Items::from_vec(made)))
+}
+
+// The lossy texts of the parts.
+pub(crate) fn read_texts<A: Allocator + Copy>(
+    alloc: A,
+    args: &[&[u8]],
+) -> Result<Items<Text<A>, A>, AllocError>
+    ensures { IfOk result (λ t. t ≡ map utf8_lossy (map (λ p. p.now) args.now)) }
+{
+    let mut made = Vec::new(alloc);
+    for part in args {
+        made.push(Text::from_string(String::from_utf8_lossy(alloc, part)?))?;
+    }
+    Ok(Items::from_vec(made))
+}
