@@ -7,6 +7,7 @@ use Rattle.std.proofs.lemmas.List.{append-nil, append_cancel_left, take-take}
 use Rattle.std.specs.List.{FoldsTo}
 use Rattle.std.specs.Option.{option_map}
 use Rattle.esc_frame.specs.Stream.{added, events, IsAtGround, IsQuiet}
+use Rattle.escape_stream.proofs.Fronts.{rest_is}
 use Rattle.escape_stream.proofs.HandedOut.{yield_handed}
 use Rattle.escape_stream.proofs.Yields.{meaning_more, yield_is}
 use Rattle.escape_stream.specs.Firsts.{first, IsFirst, IsFirstStop, IsStop}
@@ -42,9 +43,6 @@ left_empty (x ∷ xs) ys e = absurd cc
 
 front_empty : {A : Type 0} (s b c : List ℕ) → yield {A = A} s (b ++ c) ≡ [] → yield {A = A} s b ≡ []
 front_empty s b c e = left_empty (yield s b) (yield (s ++ b) c) (sym (yield_append s b c) ∙ e)
-
-rest_is : (xs : List ℕ) (n : ℕ) → take (length xs - n) (drop n xs) ≡ drop n xs
-rest_is xs n = take_all (length xs - n) (drop n xs) (omega (arith, length-drop n xs))
 
 -- at bytes were taken, and k of the rest are
 more_is : (bs : List ℕ) (at k : ℕ) → take at bs ++ take k (take (length bs - at) (drop at bs)) ≡ take (at + k) bs
