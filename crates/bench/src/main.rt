@@ -1,8 +1,9 @@
 //! How fast a stream is framed, parsed, written and normalised.
 //!
 //! `bench [--counts] [MEASURE..] < STREAM` reads a stream whole and prints a line for each measure, `framing`, `parse`,
-//! `encode` or `normalise` (all four where none is named): its best speed of several passes in MB/s (10^6 bytes a second),
-//! and what it counted. `--counts` leaves out the speed, so that the output depends on the stream alone.
+//! `parse_first`, `parse_first_as_vec`, `encode` or `normalise` (all six where none is named): its best speed of several
+//! passes in MB/s (10^6 bytes a second), and what it counted. `--counts` leaves out the speed, so that the output depends
+//! on the stream alone.
 #![tactic(auto)]
 
 mod count;
@@ -10,6 +11,7 @@ mod counted;
 mod input;
 mod measure;
 mod speed;
+mod tally;
 mod wanted;
 
 use crate::input::Input;
@@ -27,7 +29,9 @@ const PASSES: u32 = 5;
 
 fn main(rt: HostRuntime) -> Result<ExitCode> {
     let Some(wanted) = arguments(&rt)? else {
-        eprintln!(rt; "usage: bench [--counts] [framing | parse | encode | normalise]..")?;
+        eprintln!(rt;
+            "usage: bench [--counts] [framing | parse | parse_first | parse_first_as_vec | encode | normalise].."
+        )?;
         return Ok(ExitCode::from(2));
     };
     let mut bytes = Vec::new(rt.alloc());

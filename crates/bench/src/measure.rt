@@ -3,9 +3,10 @@
 use crate::count::Count;
 use crate::counted::Counted;
 use crate::input::Input;
+use crate::tally::Tally;
 use anyhow::Result;
 use esc_frame::parser::VTParser;
-use escape_stream::{Action, Parser, Watched, encode, normalise};
+use escape_stream::{Parser, Watched, encode, normalise};
 use std::alloc::Global;
 use std::fmt;
 
@@ -16,6 +17,10 @@ pub enum Measure {
     Framing,
     /// The actions of a stream, counted.
     Parse,
+    /// The first actions of the fronts of a stream, counted.
+    ParseFirst,
+    /// The actions of the fronts of a stream that leave no segment unfinished, counted.
+    ParseFirstAsVec,
     /// The text of a stream's actions.
     Encode,
     /// The normal text of a stream.
@@ -24,9 +29,11 @@ pub enum Measure {
 
 impl Measure {
     /// All measures, in the order in which they are taken.
-    pub const ALL: [Measure; 4] = [
+    pub const ALL: [Measure; 6] = [
         Measure::Framing,
         Measure::Parse,
+        Measure::ParseFirst,
+        Measure::ParseFirstAsVec,
         Measure::Encode,
         Measure::Normalise,
     ];
@@ -36,6 +43,8 @@ impl Measure {
         match self {
             Measure::Framing => "framing",
             Measure::Parse => "parse",
+            Measure::ParseFirst => "parse_first",
+            Measure::ParseFirstAsVec => "parse_first_as_vec",
             Measure::Encode => "encode",
             Measure::Normalise => "normalise",
         }
@@ -46,6 +55,8 @@ impl Measure {
         match self {
             Measure::Framing => framing(alloc, &input.bytes),
             Measure::Parse => parse(alloc, &input.bytes),
+            Measure::ParseFirst => first_actions(alloc, &input.bytes),
+            Measure::ParseFirstAsVec => fronts(alloc, &input.bytes),
             Measure::Encode => Ok(Counted::Bytes(encode(alloc, &input.actions)?.len())),
             Measure::Normalise => normal(alloc, &input.bytes),
         }
@@ -66,16 +77,46 @@ fn framing(alloc: Global, bytes: &[u8]) -> Result<Counted> {
 }
 
 fn parse(alloc: Global, bytes: &[u8]) -> Result<Counted> {
-    let mut number = 0u64;
-    let mut total = 0u64;
+    let mut tally = Tally::new();
     let mut parser = Parser::new(alloc);
-    parser.parse(bytes, |action| {
-        number = number.wrapping_add(1);
-        if let Action::Print(c) = action {
-            total = total.wrapping_add(c as u64);
+    parser.parse(bytes, |action| tally.add(&action))?;
+    Ok(tally.counted())
+}
+
+fn first_actions(alloc: Global, bytes: &[u8]) -> Result<Counted> {
+    let mut tally = Tally::new();
+    let mut parser = Parser::new(alloc);
+    let mut rest = bytes;
+    for _ in 0..=bytes.len() {
+        let Some((action, len)) = parser.parse_first(rest)? else {
+            break;
+        };
+        tally.add(&action);
+        let Some(behind) = rest.get(len..) else {
+            break;
+        };
+        rest = behind;
+    }
+    Ok(tally.counted())
+}
+
+fn fronts(alloc: Global, bytes: &[u8]) -> Result<Counted> {
+    let mut tally = Tally::new();
+    let mut parser = Parser::new(alloc);
+    let mut rest = bytes;
+    for _ in 0..=bytes.len() {
+        let Some((actions, len)) = parser.parse_first_as_vec(rest)? else {
+            break;
+        };
+        for action in &actions {
+            tally.add(action);
         }
-    })?;
-    Ok(Counted::Actions(number, total))
+        let Some(behind) = rest.get(len..) else {
+            break;
+        };
+        rest = behind;
+    }
+    Ok(tally.counted())
 }
 
 fn normal(alloc: Global, bytes: &[u8]) -> Result<Counted> {

@@ -27,7 +27,7 @@ encode_bytes c small = elim (bool_cases (nat_lt c 128)) [
   ])
 ]
 
-bytes_append : (p q : List ℕ) → AreBytes p → AreBytes q → AreBytes (p ++ q)
+pub bytes_append : (p q : List ℕ) → AreBytes p → AreBytes q → AreBytes (p ++ q)
 bytes_append [] q h k = k
 bytes_append (b ∷ bs) q h k = (h.0, bytes_append bs q h.1 k)
 
@@ -37,7 +37,8 @@ encodes_bytes (c ∷ cs) h =
     let parts = both (scalar c) (scalars cs) h in
     bytes_append (encode c) (encodes cs) (encode_bytes c (below c parts.0)) (encodes_bytes cs parts.1)
 
-by_index : (bs : List ℕ) → AreBytes bs → IsBytes bs
+-- each byte by its index
+pub by_index : (bs : List ℕ) → AreBytes bs → IsBytes bs
 by_index [] h i = omega arith
 by_index (b ∷ bs) h zero = h.0
 by_index (b ∷ bs) h (suc i) = by_index bs h.1 i
@@ -47,3 +48,7 @@ utf8_bytes t h = let P : List ℕ → Type 0 = λ bs. IsBytes bs in subst P h.1.
 
 pub utf8_are_bytes : (t : List ℕ) → IsUtf8 t → AreBytes t
 utf8_are_bytes t h = let P : List ℕ → Type 0 = λ bs. AreBytes bs in subst P h.1.1 (encodes_bytes h.0 h.1.0)
+
+pub from_index : (bs : List ℕ) → IsBytes bs → AreBytes bs
+from_index [] h = tt
+from_index (b ∷ bs) h = (h 0, from_index bs (λ i. h (suc i)))

@@ -1,7 +1,7 @@
 -- The texts of scalars: numbers and UTF-8.
-use Rattle.std.specs.Prelude.{ℕ, ◌^◌, nat_lt, Bool, ◌&&◌, if◌then◌else◌, List, length, Option, Some, None}
+use Rattle.std.specs.Prelude.{ℕ, ℤ, pos, negsuc, ◌-◌, ◌^◌, ◌<◌, nat_lt, Bool, ◌&&◌, if◌then◌else◌, List, length, Option, Some, None}
 use Rattle.std.specs.Str.{all_ascii_digits, is_utf8}
-use Rattle.std.specs.Str.Parse.{without_leading_plus, digits_value}
+use Rattle.std.specs.Str.Parse.{without_leading_plus, without_leading_sign, digits_value, signed_digits_value}
 
 -- what f answers of the value, where there is one
 abbrev pub and_then : {X Y : Type 0} → Option X → (X → Option Y) → Option Y
@@ -23,3 +23,18 @@ number_in k ds = when (nat_lt 0 (length ds) && all_ascii_digits ds && nat_lt (di
 -- the number of k bits that a text writes in decimal, with or without a `+`
 abbrev pub number_of : ℕ → List ℕ → Option ℕ
 number_of k bs = number_in k (without_leading_plus bs)
+
+-- a number of a signed type of k bits: from - 2 ^ (k - 1), which is negsuc (2 ^ (k - 1) - 1), to 2 ^ (k - 1) - 1
+abbrev pub IsSigned : ℕ → ℤ → Type 0
+IsSigned k (pos n) = n < 2 ^ (k - 1)
+IsSigned k (negsuc n) = n < 2 ^ (k - 1)
+
+abbrev pub is_signed : ℕ → ℤ → Bool
+is_signed k (pos n) = nat_lt n (2 ^ (k - 1))
+is_signed k (negsuc n) = nat_lt n (2 ^ (k - 1))
+
+-- the number of k bits that a text writes in decimal: a `-`, a `+` or no sign, and then at least one digit
+abbrev pub signed_of : ℕ → List ℕ → Option ℤ
+signed_of k bs =
+    when (nat_lt 0 (length (without_leading_sign bs)) && all_ascii_digits (without_leading_sign bs) && is_signed k (signed_digits_value 10 bs))
+    (signed_digits_value 10 bs)

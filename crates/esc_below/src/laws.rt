@@ -1,10 +1,15 @@
-//! Laws of clear texts: how they split at `;` and join again; and of control sequences: what is read of them reads back.
-ghost use Rattle.std.specs.Prelude.{◌≡◌, ◌<◌, ◌≤◌, ℕ, true, false, List, [], ◌∷◌, length};
+//! Laws of clear texts: how they split at `;` and join again; and of control sequences and hyperlinks: what is read of
+//! them reads back.
+ghost use Rattle.std.specs.Prelude.{◌≡◌, ◌<◌, ◌≤◌, ℕ, true, false, List, [], ◌∷◌, length, Option, Some};
 ghost use Rattle.std.specs.List.{list_all};
 ghost use Rattle.esc_below.specs.Clear.{IsClearText, AreTextParts, parts_of, joined};
 ghost use Rattle.esc_below.specs.Csis.{csi_of, ReadBack, unspecified};
 ghost use Rattle.esc_below.specs.Entries.{entries, entries_text, is_body_byte, is_csi_body};
+ghost use Rattle.esc_below.specs.Hyperlinks.{link_of, link_text};
 ghost use Rattle.esc_below.specs.declared.csi_param.CsiParam.{CsiParam};
+ghost use Rattle.esc_below.specs.declared.hyperlink.Hyperlink.{Hyperlink};
+
+use std::alloc::Allocator;
 
 /// A clear text splits into clear parts, and not into one empty part.
 #[tactic(auto, using(crate::proofs::Split::text_parts))]
@@ -43,4 +48,9 @@ pub fn csi_reads_back()
 #[tactic(auto, using(crate::proofs::CsisBack::truncated))]
 pub fn csi_truncated()
     ensures { (es : List CsiParam) (f : ℕ) → csi_of es true f ≡ unspecified es true f ∷ [] }
+{}
+
+/// What is read from clear parts as a hyperlink, or as none, has a clear text, whose parts are read as the same.
+pub fn link_reads_back<A: Allocator>()
+    ensures { (ps : List (List ℕ)) → AreTextParts ps → (v : Option (Hyperlink A)) → link_of ps ≡ Some v → IsClearText (link_text v) × (link_of (parts_of (link_text v)) ≡ Some v) }
 {}

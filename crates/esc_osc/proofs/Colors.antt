@@ -1,5 +1,5 @@
 -- Colours are clear parts that read back.
-use Rattle.std.proofs.Common.{◌≡◌, ℕ, ◌/◌, ◌%◌, ◌<◌, ◌==◌, ◌&&◌, not, Bool, true, false, List, [], ◌∷◌, ◌++◌, map, codes, Option, Some, None, refl, ap, ◌∙◌, arith, append_assoc}
+use Rattle.std.proofs.Common.{◌≡◌, ℕ, ◌+◌, ◌*◌, ◌/◌, ◌%◌, ◌<◌, ◌==◌, ◌&&◌, not, Bool, true, false, List, [], ◌∷◌, ◌++◌, map, codes, Option, Some, None, refl, ap, ◌∙◌, arith, append_assoc}
 use Rattle.std.specs.Fmt.{digit_glyph, decimal}
 use Rattle.std.specs.List.{flat_map, list_all}
 use Rattle.std.proofs.lemmas.Bool.{eqb-true}
@@ -8,14 +8,15 @@ use Rattle.base64.proofs.Tables.{all_below_at}
 use Rattle.esc_below.specs.Clear.{IsClearPart, AreClearParts}
 use Rattle.esc_below.proofs.PlainParts.{is_part_plain, plain_part, all_append}
 use Rattle.esc_below.proofs.Split.{and_parts}
-use Rattle.esc_osc.proofs.Numerals.{number_back, decimal_part}
-use Rattle.esc_osc.specs.Colors.{cut_at, channel_of, rgb_of, color_from, spec_of, colors_of, pairs_of, hex4, spec_text, pair_text}
+use Rattle.esc_osc.proofs.Numerals.{byte_back, byte_part}
+use Rattle.esc_below.specs.Cuts.{cut_at}
+use Rattle.esc_osc.specs.Colors.{hex_of, channel_of, rgb_of, color_from, spec_of, colors_of, pairs_of, hex4, spec_text, pair_text}
 use Rattle.esc_osc.specs.Writable.{IsColor, AreColors, ArePairs}
 use Rattle.esc_osc.specs.declared.change_color_pair.ChangeColorPair.{ChangeColorPair}
 use Rattle.esc_osc.specs.declared.color_or_query.ColorOrQuery.{ColorOrQuery}
 use Rattle.esc_osc.specs.declared.color_or_query.ColorOrQuery.TheVariants.{Color, Query}
 
--- every channel's four digits are the channel
+-- a digit that is written is read
 abbrev is_found : ℕ → Option ℕ → Bool
 is_found b None = false
 is_found b (Some c) = c == b
@@ -24,14 +25,29 @@ found : (b : ℕ) (o : Option ℕ) → is_found b o ≡ true → o ≡ Some b
 found b None h = cc
 found b (Some c) h = ap Some (eqb-true c b h)
 
-abbrev reads_channel : ℕ → Bool
-reads_channel n = is_found n (channel_of (hex4 n))
+abbrev reads_digit : ℕ → Bool
+reads_digit d = is_found d (hex_of (digit_glyph false d))
 
-channels : all_below reads_channel 65536 ≡ true
-channels = refl
+digits : all_below reads_digit 16 ≡ true
+digits = refl
+
+digit_back : (d : ℕ) → d < 16 → hex_of (digit_glyph false d) ≡ Some d
+digit_back d small = found d (hex_of (digit_glyph false d)) (all_below_at reads_digit 16 d digits small)
+
+-- the number that four digits make
+abbrev of_four : ℕ → ℕ → ℕ → ℕ → ℕ
+of_four a b c d = (((0 + a) * 16 + b) * 16 + c) * 16 + d
+
+four_back : (a b c d : ℕ) → a < 16 → b < 16 → c < 16 → d < 16
+    → channel_of (digit_glyph false a ∷ digit_glyph false b ∷ digit_glyph false c ∷ digit_glyph false d ∷ []) ≡ Some (65535 * of_four a b c d / 65535)
+four_back a b c d h i j k = rw (digit_back a h, digit_back b i, digit_back c j, digit_back d k) refl
 
 channel_back : (n : ℕ) → n < 65536 → channel_of (hex4 n) ≡ Some n
-channel_back n small = found n (channel_of (hex4 n)) (all_below_at reads_channel 65536 n channels small)
+channel_back n small =
+    let all : of_four (n / 4096) (n / 256 % 16) (n / 16 % 16) (n % 16) ≡ n = omega arith in
+    let one : 65535 * n / 65535 ≡ n = omega arith in
+    four_back (n / 4096) (n / 256 % 16) (n / 16 % 16) (n % 16) (omega arith) (omega arith) (omega arith) (omega arith)
+    ∙ ap (λ v. Some (65535 * v / 65535)) all ∙ ap Some one
 
 -- a digit is a plain character, and no `/`
 abbrev is_glyph : ℕ → Bool
@@ -112,12 +128,12 @@ two_parts p = decimal p.palette_index ∷ spec_text p.color ∷ []
 
 pub two_are_parts : (ps : List ChangeColorPair) → ArePairs ps → AreClearParts (flat_map two_parts ps)
 two_are_parts [] h = tt
-two_are_parts (p ∷ ps) h = (decimal_part p.palette_index h.0.0, (spec_part p.color h.0.1, two_are_parts ps h.1))
+two_are_parts (p ∷ ps) h = (byte_part p.palette_index h.0.0, (spec_part p.color h.0.1, two_are_parts ps h.1))
 
 pub pairs_back : (ps : List ChangeColorPair) → ArePairs ps → pairs_of (flat_map two_parts ps) ≡ Some ps
 pairs_back [] h = refl
 pairs_back (p ∷ ps) h =
-    rw (number_back p.palette_index h.0.0, spec_back p.color h.0.1, pairs_back ps h.1) refl
+    rw (byte_back p.palette_index h.0.0, spec_back p.color h.0.1, pairs_back ps h.1) refl
 
 regroup : (a b x : List ℕ) → (0x3b ∷ (a ++ 0x3b ∷ b)) ++ x ≡ (0x3b ∷ a) ++ ((0x3b ∷ b) ++ x)
 regroup a b x = ap (λ t. 0x3b ∷ t) (append_assoc a (0x3b ∷ b) x)

@@ -19,52 +19,55 @@ pub other_reads : (A : Type 0) (c : OperatingSystemCommandCode) (t : List ℕ) (
     → c ≢ code.SetIconNameSun
     → c ≢ code.ChangeColorNumber
     → c ≢ code.SetCurrentWorkingDirectory
+    → c ≢ code.SetHyperlink
     → c ≢ code.SystemNotification
     → c ≢ code.ManipulateSelectionData
     → c ≢ code.ResetColors
+    → c ≢ code.FinalTermSemanticPrompt
+    → c ≢ code.ITermProprietary
     → c ≢ code.RxvtProprietary
     → reading {A = A} c t args ≡ dynamic (changed_by c) (reset_by c) args
-other_reads A code.SetIconNameAndWindowTitle t args n0 n1 n2 n3 n4 n5 n6 n7 n8 n9 n10 = absurd (n0 refl)
-other_reads A code.SetIconName t args n0 n1 n2 n3 n4 n5 n6 n7 n8 n9 n10 = absurd (n1 refl)
-other_reads A code.SetWindowTitle t args n0 n1 n2 n3 n4 n5 n6 n7 n8 n9 n10 = absurd (n2 refl)
-other_reads A code.SetXWindowProperty t args n0 n1 n2 n3 n4 n5 n6 n7 n8 n9 n10 = refl
-other_reads A code.ChangeColorNumber t args n0 n1 n2 n3 n4 n5 n6 n7 n8 n9 n10 = absurd (n5 refl)
-other_reads A code.ChangeSpecialColorNumber t args n0 n1 n2 n3 n4 n5 n6 n7 n8 n9 n10 = refl
-other_reads A code.ChangeTitleTabColor t args n0 n1 n2 n3 n4 n5 n6 n7 n8 n9 n10 = refl
-other_reads A code.SetCurrentWorkingDirectory t args n0 n1 n2 n3 n4 n5 n6 n7 n8 n9 n10 = absurd (n6 refl)
-other_reads A code.SetHyperlink t args n0 n1 n2 n3 n4 n5 n6 n7 n8 n9 n10 = refl
-other_reads A code.SystemNotification t args n0 n1 n2 n3 n4 n5 n6 n7 n8 n9 n10 = absurd (n7 refl)
-other_reads A code.SetTextForegroundColor t args n0 n1 n2 n3 n4 n5 n6 n7 n8 n9 n10 = refl
-other_reads A code.SetTextBackgroundColor t args n0 n1 n2 n3 n4 n5 n6 n7 n8 n9 n10 = refl
-other_reads A code.SetTextCursorColor t args n0 n1 n2 n3 n4 n5 n6 n7 n8 n9 n10 = refl
-other_reads A code.SetMouseForegroundColor t args n0 n1 n2 n3 n4 n5 n6 n7 n8 n9 n10 = refl
-other_reads A code.SetMouseBackgroundColor t args n0 n1 n2 n3 n4 n5 n6 n7 n8 n9 n10 = refl
-other_reads A code.SetTektronixForegroundColor t args n0 n1 n2 n3 n4 n5 n6 n7 n8 n9 n10 = refl
-other_reads A code.SetTektronixBackgroundColor t args n0 n1 n2 n3 n4 n5 n6 n7 n8 n9 n10 = refl
-other_reads A code.SetHighlightBackgroundColor t args n0 n1 n2 n3 n4 n5 n6 n7 n8 n9 n10 = refl
-other_reads A code.SetTektronixCursorColor t args n0 n1 n2 n3 n4 n5 n6 n7 n8 n9 n10 = refl
-other_reads A code.SetHighlightForegroundColor t args n0 n1 n2 n3 n4 n5 n6 n7 n8 n9 n10 = refl
-other_reads A code.SetLogFileName t args n0 n1 n2 n3 n4 n5 n6 n7 n8 n9 n10 = refl
-other_reads A code.SetFont t args n0 n1 n2 n3 n4 n5 n6 n7 n8 n9 n10 = refl
-other_reads A code.EmacsShell t args n0 n1 n2 n3 n4 n5 n6 n7 n8 n9 n10 = refl
-other_reads A code.ManipulateSelectionData t args n0 n1 n2 n3 n4 n5 n6 n7 n8 n9 n10 = absurd (n8 refl)
-other_reads A code.ResetColors t args n0 n1 n2 n3 n4 n5 n6 n7 n8 n9 n10 = absurd (n9 refl)
-other_reads A code.ResetSpecialColor t args n0 n1 n2 n3 n4 n5 n6 n7 n8 n9 n10 = refl
-other_reads A code.ResetTextForegroundColor t args n0 n1 n2 n3 n4 n5 n6 n7 n8 n9 n10 = refl
-other_reads A code.ResetTextBackgroundColor t args n0 n1 n2 n3 n4 n5 n6 n7 n8 n9 n10 = refl
-other_reads A code.ResetTextCursorColor t args n0 n1 n2 n3 n4 n5 n6 n7 n8 n9 n10 = refl
-other_reads A code.ResetMouseForegroundColor t args n0 n1 n2 n3 n4 n5 n6 n7 n8 n9 n10 = refl
-other_reads A code.ResetMouseBackgroundColor t args n0 n1 n2 n3 n4 n5 n6 n7 n8 n9 n10 = refl
-other_reads A code.ResetTektronixForegroundColor t args n0 n1 n2 n3 n4 n5 n6 n7 n8 n9 n10 = refl
-other_reads A code.ResetTektronixBackgroundColor t args n0 n1 n2 n3 n4 n5 n6 n7 n8 n9 n10 = refl
-other_reads A code.ResetHighlightColor t args n0 n1 n2 n3 n4 n5 n6 n7 n8 n9 n10 = refl
-other_reads A code.ResetTektronixCursorColor t args n0 n1 n2 n3 n4 n5 n6 n7 n8 n9 n10 = refl
-other_reads A code.ResetHighlightForegroundColor t args n0 n1 n2 n3 n4 n5 n6 n7 n8 n9 n10 = refl
-other_reads A code.FinalTermSemanticPrompt t args n0 n1 n2 n3 n4 n5 n6 n7 n8 n9 n10 = refl
-other_reads A code.RxvtProprietary t args n0 n1 n2 n3 n4 n5 n6 n7 n8 n9 n10 = absurd (n10 refl)
-other_reads A code.ITermProprietary t args n0 n1 n2 n3 n4 n5 n6 n7 n8 n9 n10 = refl
-other_reads A code.SetWindowTitleSun t args n0 n1 n2 n3 n4 n5 n6 n7 n8 n9 n10 = absurd (n3 refl)
-other_reads A code.SetIconNameSun t args n0 n1 n2 n3 n4 n5 n6 n7 n8 n9 n10 = absurd (n4 refl)
+other_reads A code.SetIconNameAndWindowTitle t args n0 n1 n2 n3 n4 n5 n6 n7 n8 n9 n10 n11 n12 n13 = absurd (n0 refl)
+other_reads A code.SetIconName t args n0 n1 n2 n3 n4 n5 n6 n7 n8 n9 n10 n11 n12 n13 = absurd (n1 refl)
+other_reads A code.SetWindowTitle t args n0 n1 n2 n3 n4 n5 n6 n7 n8 n9 n10 n11 n12 n13 = absurd (n2 refl)
+other_reads A code.SetXWindowProperty t args n0 n1 n2 n3 n4 n5 n6 n7 n8 n9 n10 n11 n12 n13 = refl
+other_reads A code.ChangeColorNumber t args n0 n1 n2 n3 n4 n5 n6 n7 n8 n9 n10 n11 n12 n13 = absurd (n5 refl)
+other_reads A code.ChangeSpecialColorNumber t args n0 n1 n2 n3 n4 n5 n6 n7 n8 n9 n10 n11 n12 n13 = refl
+other_reads A code.ChangeTitleTabColor t args n0 n1 n2 n3 n4 n5 n6 n7 n8 n9 n10 n11 n12 n13 = refl
+other_reads A code.SetCurrentWorkingDirectory t args n0 n1 n2 n3 n4 n5 n6 n7 n8 n9 n10 n11 n12 n13 = absurd (n6 refl)
+other_reads A code.SetHyperlink t args n0 n1 n2 n3 n4 n5 n6 n7 n8 n9 n10 n11 n12 n13 = absurd (n7 refl)
+other_reads A code.SystemNotification t args n0 n1 n2 n3 n4 n5 n6 n7 n8 n9 n10 n11 n12 n13 = absurd (n8 refl)
+other_reads A code.SetTextForegroundColor t args n0 n1 n2 n3 n4 n5 n6 n7 n8 n9 n10 n11 n12 n13 = refl
+other_reads A code.SetTextBackgroundColor t args n0 n1 n2 n3 n4 n5 n6 n7 n8 n9 n10 n11 n12 n13 = refl
+other_reads A code.SetTextCursorColor t args n0 n1 n2 n3 n4 n5 n6 n7 n8 n9 n10 n11 n12 n13 = refl
+other_reads A code.SetMouseForegroundColor t args n0 n1 n2 n3 n4 n5 n6 n7 n8 n9 n10 n11 n12 n13 = refl
+other_reads A code.SetMouseBackgroundColor t args n0 n1 n2 n3 n4 n5 n6 n7 n8 n9 n10 n11 n12 n13 = refl
+other_reads A code.SetTektronixForegroundColor t args n0 n1 n2 n3 n4 n5 n6 n7 n8 n9 n10 n11 n12 n13 = refl
+other_reads A code.SetTektronixBackgroundColor t args n0 n1 n2 n3 n4 n5 n6 n7 n8 n9 n10 n11 n12 n13 = refl
+other_reads A code.SetHighlightBackgroundColor t args n0 n1 n2 n3 n4 n5 n6 n7 n8 n9 n10 n11 n12 n13 = refl
+other_reads A code.SetTektronixCursorColor t args n0 n1 n2 n3 n4 n5 n6 n7 n8 n9 n10 n11 n12 n13 = refl
+other_reads A code.SetHighlightForegroundColor t args n0 n1 n2 n3 n4 n5 n6 n7 n8 n9 n10 n11 n12 n13 = refl
+other_reads A code.SetLogFileName t args n0 n1 n2 n3 n4 n5 n6 n7 n8 n9 n10 n11 n12 n13 = refl
+other_reads A code.SetFont t args n0 n1 n2 n3 n4 n5 n6 n7 n8 n9 n10 n11 n12 n13 = refl
+other_reads A code.EmacsShell t args n0 n1 n2 n3 n4 n5 n6 n7 n8 n9 n10 n11 n12 n13 = refl
+other_reads A code.ManipulateSelectionData t args n0 n1 n2 n3 n4 n5 n6 n7 n8 n9 n10 n11 n12 n13 = absurd (n9 refl)
+other_reads A code.ResetColors t args n0 n1 n2 n3 n4 n5 n6 n7 n8 n9 n10 n11 n12 n13 = absurd (n10 refl)
+other_reads A code.ResetSpecialColor t args n0 n1 n2 n3 n4 n5 n6 n7 n8 n9 n10 n11 n12 n13 = refl
+other_reads A code.ResetTextForegroundColor t args n0 n1 n2 n3 n4 n5 n6 n7 n8 n9 n10 n11 n12 n13 = refl
+other_reads A code.ResetTextBackgroundColor t args n0 n1 n2 n3 n4 n5 n6 n7 n8 n9 n10 n11 n12 n13 = refl
+other_reads A code.ResetTextCursorColor t args n0 n1 n2 n3 n4 n5 n6 n7 n8 n9 n10 n11 n12 n13 = refl
+other_reads A code.ResetMouseForegroundColor t args n0 n1 n2 n3 n4 n5 n6 n7 n8 n9 n10 n11 n12 n13 = refl
+other_reads A code.ResetMouseBackgroundColor t args n0 n1 n2 n3 n4 n5 n6 n7 n8 n9 n10 n11 n12 n13 = refl
+other_reads A code.ResetTektronixForegroundColor t args n0 n1 n2 n3 n4 n5 n6 n7 n8 n9 n10 n11 n12 n13 = refl
+other_reads A code.ResetTektronixBackgroundColor t args n0 n1 n2 n3 n4 n5 n6 n7 n8 n9 n10 n11 n12 n13 = refl
+other_reads A code.ResetHighlightColor t args n0 n1 n2 n3 n4 n5 n6 n7 n8 n9 n10 n11 n12 n13 = refl
+other_reads A code.ResetTektronixCursorColor t args n0 n1 n2 n3 n4 n5 n6 n7 n8 n9 n10 n11 n12 n13 = refl
+other_reads A code.ResetHighlightForegroundColor t args n0 n1 n2 n3 n4 n5 n6 n7 n8 n9 n10 n11 n12 n13 = refl
+other_reads A code.FinalTermSemanticPrompt t args n0 n1 n2 n3 n4 n5 n6 n7 n8 n9 n10 n11 n12 n13 = absurd (n11 refl)
+other_reads A code.RxvtProprietary t args n0 n1 n2 n3 n4 n5 n6 n7 n8 n9 n10 n11 n12 n13 = absurd (n13 refl)
+other_reads A code.ITermProprietary t args n0 n1 n2 n3 n4 n5 n6 n7 n8 n9 n10 n11 n12 n13 = absurd (n12 refl)
+other_reads A code.SetWindowTitleSun t args n0 n1 n2 n3 n4 n5 n6 n7 n8 n9 n10 n11 n12 n13 = absurd (n3 refl)
+other_reads A code.SetIconNameSun t args n0 n1 n2 n3 n4 n5 n6 n7 n8 n9 n10 n11 n12 n13 = absurd (n4 refl)
 
 -- the codes of a dynamic colour
 pub change_reads : (A : Type 0) (n : DynamicColorNumber) (t : List ℕ) (args : List (List ℕ))

@@ -1,28 +1,20 @@
 -- What is read of parts lies in the ranges of its types.
-use Rattle.std.proofs.Common.{ℕ, ◌≡◌, ◌<◌, ◌≤◌, ◌+◌, ◌*◌, ◌/◌, ◌==◌, ◌&&◌, nat_lt, nat_le, nat_eq, inl, inr, List, [], ◌∷◌, length, take, drop, codes, Option, Some, None, arith}
+use Rattle.std.proofs.Common.{ℕ, ◌≡◌, ◌<◌, ◌≤◌, ◌+◌, ◌*◌, ◌/◌, ◌==◌, ◌&&◌, nat_lt, nat_le, nat_eq, inl, inr, List, [], ◌∷◌, length, take, drop, codes, arith}
 use Rattle.std.specs.Char.{digit_value}
 use Rattle.std.specs.Cmp.Lexicographic.{pointwise}
 use Rattle.std.specs.List.{starts_with}
 use Rattle.std.specs.Option.{option_map, unwrap_or}
-use Rattle.std.specs.Str.{IsUtf8}
 use Rattle.std.proofs.lemmas.Bool.{ltb-true, leb-true}
-use Rattle.esc_below.specs.Base64.{base64_of, base64_text_of}
-use Rattle.esc_below.specs.Scalars.{and_then, utf8_of, number_of}
+use Rattle.esc_below.specs.Scalars.{and_then, number_of}
 use Rattle.esc_below.proofs.Numbers.{bool_cases}
 use Rattle.esc_below.proofs.Split.{and_parts}
-use Rattle.esc_osc.proofs.Where.{Where, where_map, where_then, number_where, utf8_where}
-use Rattle.esc_osc.specs.Colors.{cut_at, hex_of, hex_after, channel_of, color_from, rgb_of, sharp_of, spec_of, colors_of, pairs_of}
+use Rattle.esc_below.proofs.Where.{Where, where_map, where_then, number_where, Anything, anything}
+use Rattle.esc_below.specs.Cuts.{cut_at}
+use Rattle.esc_osc.specs.Colors.{hex_of, hex_after, channel_of, color_from, rgb_of, sharp_of, spec_of, colors_of, pairs_of}
 use Rattle.esc_osc.specs.Progresses.{held, percent_of, state_of, progress_of}
 use Rattle.esc_osc.specs.Reading.{numbers_of}
 use Rattle.esc_osc.specs.Writable.{AreNumbers, IsColor, AreColors, ArePairs, IsProgress}
 use Rattle.esc_osc.specs.declared.color_or_query.ColorOrQuery.TheVariants.{Color}
-
-abbrev Anything : {X : Type 0} → X → Type 0
-Anything x = Unit {0}
-
-anything : {X : Type 0} (o : Option X) → Where (λ (x : X). Anything x) o
-anything None = tt
-anything (Some x) = tt
 
 -- numbers
 pub numbers_where : (ps : List (List ℕ)) → Where AreNumbers (numbers_of ps)
@@ -174,7 +166,3 @@ progress_where (a ∷ s ∷ more) =
       | inl held ↦ rw held (state_where s more)
       | inr failed ↦ rw failed tt
     ]
-
--- base64
-pub content_where : (t : List ℕ) → Where (λ u. IsUtf8 u) (base64_text_of t)
-content_where t = where_then (λ (bs : List ℕ). Anything bs) (λ u. IsUtf8 u) utf8_of (λ bs h. utf8_where bs) (base64_of t) (anything (base64_of t))

@@ -1,12 +1,12 @@
-pub mod Clear
 pub mod Codes
 pub mod Colors
 pub mod Dynamic
 pub mod Fits
+pub mod JoinedLossy
+pub mod Layers
 pub mod Numerals
 pub mod Parts
 pub mod ReadParts
 pub mod ReadsBack
 pub mod Selections
-pub mod Where
 pub mod Written

@@ -11,11 +11,12 @@ use Rattle.esc_below.specs.Clear.{IsClearText, IsClearPart, AreClearParts, AreTe
 use Rattle.esc_below.specs.Scalars.{and_then, utf8_of}
 use Rattle.esc_below.proofs.Numbers.{bool_cases}
 use Rattle.esc_below.proofs.Split.{joined_clear}
-use Rattle.esc_osc.proofs.Clear.{part_lossy, parts_lossy, tail_part}
+use Rattle.esc_below.proofs.ClearTexts.{part_lossy, parts_lossy, tail_part}
 use Rattle.esc_osc.proofs.Codes.{code_of_text}
-use Rattle.esc_osc.proofs.Fits.{numbers_where, colors_where, pairs_where, progress_where, content_where}
+use Rattle.esc_osc.proofs.Fits.{numbers_where, colors_where, pairs_where, progress_where}
+use Rattle.esc_osc.proofs.Layers.{Good, prompt_good, iterm_good, link_good}
 use Rattle.esc_osc.proofs.Selections.{selection_named}
-use Rattle.esc_osc.proofs.Where.{Where, where_map, where_then, utf8_keeps}
+use Rattle.esc_below.proofs.Where.{Where, where_map, where_then, utf8_keeps, content_where}
 use Rattle.esc_osc.specs.Codes.{code_of, code_name, code_text, changed_by, reset_by}
 use Rattle.esc_osc.specs.Colors.{colors_of, pairs_of}
 use Rattle.esc_osc.specs.Progresses.{progress_of}
@@ -28,10 +29,6 @@ use Rattle.esc_osc.specs.declared.command.OperatingSystemCommand.{OperatingSyste
 use Rattle.esc_osc.specs.declared.command.OperatingSystemCommand.TheVariants as command
 use Rattle.esc_osc.specs.declared.dynamic_color_number.DynamicColorNumber.{DynamicColorNumber}
 use Rattle.esc_osc.specs.declared.progress.Progress.{Progress}
-
--- a writable command
-abbrev Good : (A : Type 0) → OperatingSystemCommand A → Type 0
-Good A c = IsWritable {A = A} c
 
 title_clear : (args : List (List ℕ)) → AreClearParts args → Where (λ t. IsClearText t) (title_of args)
 title_clear [] h = tt
@@ -93,9 +90,12 @@ reading_good A code.SetWindowTitleSun t args e h k = where_map (λ u. IsClearPar
 reading_good A code.SetIconNameSun t args e h k = where_map (λ u. IsClearPart u) (Good A) command.SetIconNameSun (λ u q. q) (utf8_of (drop 1 t)) (sun_tail 0x4c t args (omega arith) e h)
 reading_good A code.ChangeColorNumber t args e h k = where_map ArePairs (Good A) command.ChangeColorNumber (λ u q. q) (pairs_of args) (pairs_where args)
 reading_good A code.SetCurrentWorkingDirectory t args e h k = where_map (λ u. IsClearPart u) (Good A) command.CurrentWorkingDirectory (λ u q. q) (lone_text args) (lone_clear args k)
+reading_good A code.SetHyperlink t args e h k = link_good A t args h k
 reading_good A code.SystemNotification t args e h k = notified_good A (progress_of args) (lone_text args) (progress_where args) (lone_clear args k)
 reading_good A code.ManipulateSelectionData t args e h k = selected_good A args
 reading_good A code.ResetColors t args e h k = where_map AreNumbers (Good A) command.ResetColors (λ u q. q) (numbers_of args) (numbers_where args)
+reading_good A code.FinalTermSemanticPrompt t args e h k = prompt_good A args k
+reading_good A code.ITermProprietary t args e h k = iterm_good A args k
 reading_good A code.RxvtProprietary t args e h k = texts_good args k
 reading_good A c t args e h k = dynamic_good A (changed_by c) (reset_by c) args
 

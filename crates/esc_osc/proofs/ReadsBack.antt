@@ -14,13 +14,15 @@ use Rattle.esc_below.proofs.Base64.{base64_part, base64_back}
 use Rattle.esc_below.proofs.Plain.{plain_clear}
 use Rattle.esc_below.proofs.PlainParts.{plain_part}
 use Rattle.esc_below.proofs.Split.{clear_append, joined_clear, part_clear, parts_text, joined_split}
-pub use Rattle.esc_osc.proofs.Clear.{chars_scalar, clear_utf8}
+pub use Rattle.esc_below.proofs.ClearTexts.{chars_scalar, clear_utf8}
 pub use Rattle.esc_osc.proofs.ReadParts.{clear_is_writable}
-use Rattle.esc_osc.proofs.Clear.{part_utf8, part_lossy, parts_lossy, lossy_joined, part_append}
+use Rattle.esc_below.proofs.ClearTexts.{part_utf8, part_lossy, parts_lossy, part_append}
+use Rattle.esc_osc.proofs.JoinedLossy.{lossy_joined}
 use Rattle.esc_osc.proofs.Codes.{code_of-code_text}
 use Rattle.esc_osc.proofs.Colors.{specs_are_parts, colors_back, two_parts, two_are_parts, pairs_back, pairs_joined}
 use Rattle.esc_osc.proofs.Dynamic.{change_reads, reset_reads}
-use Rattle.esc_osc.proofs.Numerals.{number_back, decimal_part, decimals_are_parts, numbers_back}
+use Rattle.esc_osc.proofs.Layers.{prompted, proprietary, linked}
+use Rattle.esc_osc.proofs.Numerals.{byte_back, byte_part, decimals_are_parts, numbers_back}
 use Rattle.esc_osc.proofs.Parts.{flat_map_map}
 use Rattle.esc_osc.proofs.Selections.{selection_back, selection_part, base64_other}
 use Rattle.esc_osc.proofs.Written.{Written, written_clear, written_back, code_part, code_means, one_written, two_written}
@@ -110,7 +112,7 @@ notification A t h = record {
 
 -- progress
 percent_back : (n : ℕ) → n ≤ 100 → held (unwrap_or (number_of 8 (decimal n)) 0) ≡ n
-percent_back n h = rw (number_back n (omega arith), le-leb n 100 h) refl
+percent_back n h = rw (byte_back n (omega arith), le-leb n 100 h) refl
 
 progressing : (A : Type 0) (p : Progress) → IsProgress p → Written A (command.ConEmuProgress p)
 progressing A progress.None h = record {
@@ -124,14 +126,14 @@ progressing A (progress.SetPercentage n) h = record {
   code = code.SystemNotification;
   args = codes "4" ∷ codes "1" ∷ decimal n ∷ [];
   text = ap (λ x. codes "9;4;1;" ++ x) (sym (append-nil (decimal n)));
-  clear = (plain_part (codes "4") refl, (plain_part (codes "1") refl, (decimal_part n (omega arith), tt)));
+  clear = (plain_part (codes "4") refl, (plain_part (codes "1") refl, (byte_part n (omega arith), tt)));
   reads = ap (λ k. Some (command.ConEmuProgress (progress.SetPercentage k))) (percent_back n h);
 }
 progressing A (progress.SetError n) h = record {
   code = code.SystemNotification;
   args = codes "4" ∷ codes "2" ∷ decimal n ∷ [];
   text = ap (λ x. codes "9;4;2;" ++ x) (sym (append-nil (decimal n)));
-  clear = (plain_part (codes "4") refl, (plain_part (codes "2") refl, (decimal_part n (omega arith), tt)));
+  clear = (plain_part (codes "4") refl, (plain_part (codes "2") refl, (byte_part n (omega arith), tt)));
   reads = ap (λ k. Some (command.ConEmuProgress (progress.SetError k))) (percent_back n h);
 }
 progressing A progress.SetIndeterminate h = record {
@@ -236,10 +238,13 @@ writes_clear (command.SetIconName t) h = titled_clear code.SetIconName t h
 writes_clear (command.SetWindowTitle t) h = titled_clear code.SetWindowTitle t h
 writes_clear (command.SetWindowTitleSun t) h = part_clear (0x6c ∷ t) (letter_part code.SetWindowTitleSun t h)
 writes_clear (command.SetIconNameSun t) h = part_clear (0x4c ∷ t) (letter_part code.SetIconNameSun t h)
+writes_clear (command.SetHyperlink v) h = h.0
 writes_clear {A = A} (command.ClearSelection s) h = written_clear A (command.ClearSelection s) (cleared A s h)
 writes_clear {A = A} (command.QuerySelection s) h = written_clear A (command.QuerySelection s) (queried A s h)
 writes_clear {A = A} (command.SetSelection s t) h = written_clear A (command.SetSelection s t) (filled A s t h.0 h.1)
 writes_clear {A = A} (command.SystemNotification t) h = written_clear A (command.SystemNotification t) (notification A t h)
+writes_clear {A = A} (command.ITermProprietary c) h = written_clear A (command.ITermProprietary c) (proprietary A c h)
+writes_clear {A = A} (command.FinalTermSemanticPrompt p) h = written_clear A (command.FinalTermSemanticPrompt p) (prompted A p h)
 writes_clear {A = A} (command.ChangeColorNumber ps) h = written_clear A (command.ChangeColorNumber ps) (palette A ps h)
 writes_clear {A = A} (command.ChangeDynamicColors n cs) h = written_clear A (command.ChangeDynamicColors n cs) (changed A n cs h)
 writes_clear {A = A} (command.ResetDynamicColor n) h = written_clear A (command.ResetDynamicColor n) (restored A n)
@@ -257,10 +262,13 @@ reads_back {A = A} (command.SetIconName t) h = title_means A code.SetIconName t 
 reads_back {A = A} (command.SetWindowTitle t) h = title_means A code.SetWindowTitle t (command.SetWindowTitle t) refl (ap (option_map command.SetWindowTitle) (title_split t (clear_utf8 t h)))
 reads_back {A = A} (command.SetWindowTitleSun t) h = ap (meaning {A = A}) (one_part 0x6c t (letter_part code.SetWindowTitleSun t h)) ∙ window_means A t (letter_part code.SetWindowTitleSun t h) h
 reads_back {A = A} (command.SetIconNameSun t) h = ap (meaning {A = A}) (one_part 0x4c t (letter_part code.SetIconNameSun t h)) ∙ icon_means A t (letter_part code.SetIconNameSun t h) h
+reads_back {A = A} (command.SetHyperlink v) h = linked A v h.0 h.1
 reads_back {A = A} (command.ClearSelection s) h = written_back A (command.ClearSelection s) (cleared A s h)
 reads_back {A = A} (command.QuerySelection s) h = written_back A (command.QuerySelection s) (queried A s h)
 reads_back {A = A} (command.SetSelection s t) h = written_back A (command.SetSelection s t) (filled A s t h.0 h.1)
 reads_back {A = A} (command.SystemNotification t) h = written_back A (command.SystemNotification t) (notification A t h)
+reads_back {A = A} (command.ITermProprietary c) h = written_back A (command.ITermProprietary c) (proprietary A c h)
+reads_back {A = A} (command.FinalTermSemanticPrompt p) h = written_back A (command.FinalTermSemanticPrompt p) (prompted A p h)
 reads_back {A = A} (command.ChangeColorNumber ps) h = written_back A (command.ChangeColorNumber ps) (palette A ps h)
 reads_back {A = A} (command.ChangeDynamicColors n cs) h = written_back A (command.ChangeDynamicColors n cs) (changed A n cs h)
 reads_back {A = A} (command.ResetDynamicColor n) h = written_back A (command.ResetDynamicColor n) (restored A n)

@@ -13,7 +13,7 @@ use Rattle.esc_below.proofs.Numbers.{bool_cases}
 use Rattle.esc_below.proofs.PlainParts.{is_part_plain, plain_part}
 use Rattle.esc_below.proofs.Split.{and_parts}
 use Rattle.esc_osc.proofs.Codes.{same_texts}
-use Rattle.esc_osc.proofs.Where.{Where}
+use Rattle.esc_below.proofs.Where.{Where}
 use Rattle.esc_osc.specs.Selections.{letters, letter_bit_in, letter_bit, with_letters, selection_of, selection_text}
 use Rattle.esc_osc.specs.Writable.{IsNamed}
 

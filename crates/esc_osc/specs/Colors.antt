@@ -5,6 +5,7 @@ use Rattle.std.specs.Cmp.Lexicographic.{pointwise}
 use Rattle.std.specs.Fmt.{digit_glyph, decimal}
 use Rattle.std.specs.List.{starts_with}
 use Rattle.std.specs.Option.{option_map}
+use Rattle.esc_below.specs.Cuts.{cut_at}
 use Rattle.esc_below.specs.Scalars.{and_then, when, number_of}
 use Rattle.esc_osc.specs.declared.color_or_query.ColorOrQuery.{ColorOrQuery}
 use Rattle.esc_osc.specs.declared.color_or_query.ColorOrQuery.TheVariants.{Color, Query}
@@ -23,11 +24,6 @@ spec_text Query = codes "?"
 -- a place of the palette and its colour
 abbrev pub pair_text : ChangeColorPair → List ℕ
 pair_text p = decimal p.palette_index ++ 0x3b ∷ spec_text p.color
-
--- what stands before and behind the first c
-abbrev pub cut_at : ℕ → List ℕ → Option (List ℕ × List ℕ)
-cut_at c [] = None
-cut_at c (b ∷ bs) = if b == c then Some ([], bs) else option_map (λ (p : List ℕ × List ℕ). (b ∷ p.0, p.1)) (cut_at c bs)
 
 -- one hexadecimal digit, in either case
 abbrev pub hex_of : ℕ → Option ℕ

@@ -5,6 +5,9 @@ use Rattle.std.specs.List.{flat_map}
 use Rattle.std.specs.Str.Lossy.{utf8_lossy}
 use Rattle.esc_below.specs.Base64.{base64_text}
 use Rattle.esc_below.specs.Clear.{framed}
+use Rattle.esc_below.specs.Hyperlinks.{link_text}
+use Rattle.esc_iterm.specs.ITerms.{iterm_text}
+use Rattle.esc_prompts.specs.Prompts.{prompt_text}
 use Rattle.esc_osc.specs.Codes.{code_text, change_code, reset_code}
 use Rattle.esc_osc.specs.Colors.{spec_text, pair_text}
 use Rattle.esc_osc.specs.Progresses.{progress_text}
@@ -34,10 +37,13 @@ inner_text (command.SetIconName t) = titled code.SetIconName t
 inner_text (command.SetWindowTitle t) = titled code.SetWindowTitle t
 inner_text (command.SetWindowTitleSun t) = code_text code.SetWindowTitleSun ++ t
 inner_text (command.SetIconNameSun t) = code_text code.SetIconNameSun ++ t
+inner_text (command.SetHyperlink h) = link_text h
 inner_text (command.ClearSelection s) = titled code.ManipulateSelectionData (selection_text s.0)
 inner_text (command.QuerySelection s) = titled code.ManipulateSelectionData (selection_text s.0 ++ codes ";?")
 inner_text (command.SetSelection s t) = titled code.ManipulateSelectionData (selection_text s.0 ++ 0x3b ∷ base64_text t)
 inner_text (command.SystemNotification t) = titled code.SystemNotification t
+inner_text (command.ITermProprietary c) = iterm_text c
+inner_text (command.FinalTermSemanticPrompt p) = prompt_text p
 inner_text (command.ChangeColorNumber ps) = titled code.ChangeColorNumber (joined_by pair_text ps)
 inner_text (command.ChangeDynamicColors n cs) = listed (change_code n) spec_text cs
 inner_text (command.ResetDynamicColor n) = code_text (reset_code n)

@@ -5,7 +5,10 @@ use Rattle.std.specs.Option.{option_map, unwrap_or}
 use Rattle.std.specs.Str.Lossy.{utf8_lossy}
 use Rattle.esc_below.specs.Base64.{base64_text_of}
 use Rattle.esc_below.specs.Clear.{joined}
+use Rattle.esc_below.specs.Hyperlinks.{link_of}
 use Rattle.esc_below.specs.Scalars.{and_then, utf8_of, number_of}
+use Rattle.esc_iterm.specs.ITerms.{iterm_of}
+use Rattle.esc_prompts.specs.Prompts.{prompt_of}
 use Rattle.esc_osc.specs.Codes.{code_of, code_name, changed_by, reset_by}
 use Rattle.esc_osc.specs.Colors.{colors_of, pairs_of}
 use Rattle.esc_osc.specs.Progresses.{progress_of}
@@ -70,16 +73,23 @@ reading code.SetWindowTitleSun t args = option_map command.SetWindowTitleSun (ut
 reading code.SetIconNameSun t args = option_map command.SetIconNameSun (utf8_of (drop 1 t))
 reading code.ChangeColorNumber t args = option_map command.ChangeColorNumber (pairs_of args)
 reading code.SetCurrentWorkingDirectory t args = option_map command.CurrentWorkingDirectory (lone_text args)
+reading code.SetHyperlink t args = option_map command.SetHyperlink (link_of (t ∷ args))
 reading code.SystemNotification t args = notified (progress_of args) (lone_text args)
 reading code.ManipulateSelectionData t args = selected args
 reading code.ResetColors t args = option_map command.ResetColors (numbers_of args)
+reading code.FinalTermSemanticPrompt t args = option_map command.FinalTermSemanticPrompt (prompt_of args)
+reading code.ITermProprietary t args = option_map command.ITermProprietary (iterm_of args)
 reading code.RxvtProprietary t args = Some (command.RxvtExtension (map utf8_lossy args))
 reading c t args = dynamic (changed_by c) (reset_by c) args
+
+-- what the code that the first part's lossy text names makes of the parts behind it
+abbrev pub named : {A : Type 0} → List ℕ → List (List ℕ) → Option (OperatingSystemCommand A)
+named t args = and_then (code_of (code_name t args)) (λ c. reading c t args)
 
 -- the case that fits: the lossy text of the first part names the code
 abbrev pub fitting : {A : Type 0} → List (List ℕ) → Option (OperatingSystemCommand A)
 fitting [] = None
-fitting (p ∷ args) = and_then (code_of (code_name (utf8_lossy p) args)) (λ c. reading c (utf8_lossy p) args)
+fitting (p ∷ args) = named (utf8_lossy p) args
 
 -- what parts mean: the case that fits, else the parts as they are
 abbrev pub meaning : {A : Type 0} → List (List ℕ) → OperatingSystemCommand A

@@ -1,6 +1,14 @@
--- Letters of selections.
-use Rattle.std.specs.Prelude.{ℕ, ◌==◌, if◌then◌else◌, Option, Some, None, List, [], ◌∷◌, bit_and, bit_or}
+-- Sets of selections as bits, and their letters.
+use Rattle.std.specs.Prelude.{ℕ, ◌==◌, if◌then◌else◌, ◌-◌, Option, Some, None, List, [], ◌∷◌, bit_and, bit_or}
 use Rattle.std.specs.List.{flat_map}
+
+-- the named bits: 1 to 13
+abbrev pub named_bits : ℕ
+named_bits = 16382
+
+-- the bits of a that b lacks, of 16
+abbrev pub lacking : ℕ → ℕ → ℕ
+lacking a b = bit_and a (65535 - b)
 
 -- the bits and their letters, in the order in which they are written
 abbrev pub letters : List (ℕ × ℕ)

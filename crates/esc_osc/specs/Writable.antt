@@ -1,7 +1,11 @@
 -- Which commands read back from their text.
 use Rattle.std.specs.Prelude.{ℕ, ◌≡◌, ◌<◌, ◌≤◌, ◌%◌, List, [], ◌∷◌}
 use Rattle.std.specs.Str.{IsUtf8}
-use Rattle.esc_below.specs.Clear.{IsClearText, IsClearPart, AreClearParts, AreTextParts}
+use Rattle.std.specs.Prelude.{Some}
+use Rattle.esc_below.specs.Clear.{IsClearText, IsClearPart, AreClearParts, AreTextParts, parts_of}
+use Rattle.esc_below.specs.Hyperlinks.{link_of, link_text}
+use Rattle.esc_iterm.specs.WritableITerms.{IsWritableITerm}
+use Rattle.esc_prompts.specs.Prompts.{IsWritablePrompt}
 use Rattle.esc_osc.specs.Reading.{meaning}
 use Rattle.esc_osc.specs.declared.color_or_query.ColorOrQuery.{ColorOrQuery}
 use Rattle.esc_osc.specs.declared.color_or_query.ColorOrQuery.TheVariants.{Color, Query}
@@ -39,19 +43,22 @@ IsProgress (progress.SetPercentage n) = n ≤ 100
 IsProgress (progress.SetError n) = n ≤ 100
 IsProgress p = Unit {0}
 
--- a title of clear characters, other texts without `;`; a selection of named bits, at least one, with any text; a
--- percentage to 100; any colours and numbers, which have 16 and 8 bits; or clear parts, not one empty part, that mean
--- no other command
+-- a title of clear characters, other texts without `;`; a link whose text is clear and reads as the link; a selection of
+-- named bits, at least one, with any text; a percentage to 100; any colours and numbers, which have 16 and 8 bits; a
+-- writable prompt or command of iTerm2; or clear parts, not one empty part, that mean no other command
 abbrev pub IsWritable : {A : Type 0} → OperatingSystemCommand A → Type 0
 IsWritable (command.SetIconNameAndWindowTitle t) = IsClearText t
 IsWritable (command.SetIconName t) = IsClearText t
 IsWritable (command.SetWindowTitle t) = IsClearText t
 IsWritable (command.SetWindowTitleSun t) = IsClearPart t
 IsWritable (command.SetIconNameSun t) = IsClearPart t
+IsWritable (command.SetHyperlink h) = IsClearText (link_text h) × (link_of (parts_of (link_text h)) ≡ Some h)
 IsWritable (command.ClearSelection s) = IsNamed s.0
 IsWritable (command.QuerySelection s) = IsNamed s.0
 IsWritable (command.SetSelection s t) = IsNamed s.0 × IsUtf8 t
 IsWritable (command.SystemNotification t) = IsClearPart t
+IsWritable (command.ITermProprietary c) = IsWritableITerm c
+IsWritable (command.FinalTermSemanticPrompt p) = IsWritablePrompt p
 IsWritable (command.ChangeColorNumber ps) = ArePairs ps
 IsWritable (command.ChangeDynamicColors n cs) = AreColors cs
 IsWritable (command.ResetDynamicColor n) = Unit {0}

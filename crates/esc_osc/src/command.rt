@@ -4,7 +4,9 @@ use crate::color_or_query::ColorOrQuery;
 use crate::dynamic_color_number::DynamicColorNumber;
 use crate::progress::Progress;
 use crate::selection::Selection;
-use esc_below::{Items, Text};
+use esc_below::{Hyperlink, Items, Text};
+use esc_iterm::ITermProprietary;
+use esc_prompts::FinalTermSemanticPrompt;
 use std::alloc::{Allocator, Global};
 
 /// An operating system command: a control string between `ESC ]` and a string terminator, whose parts stand
@@ -22,6 +24,8 @@ pub enum OperatingSystemCommand<A: Allocator = Global> {
     SetIconName(Text<A>),
     /// Code `L`: sets the name of the icon, as Sun's terminals do it.
     SetIconNameSun(Text<A>),
+    /// Code 8: what is printed next belongs to this link, or to none.
+    SetHyperlink(Option<Hyperlink<A>>),
     /// Code 52 with a selection alone: clears it.
     ClearSelection(Selection),
     /// Code 52 with a selection and `?`: asks for its text.
@@ -30,6 +34,10 @@ pub enum OperatingSystemCommand<A: Allocator = Global> {
     SetSelection(Selection, Text<A>),
     /// Code 9: shows a notification.
     SystemNotification(Text<A>),
+    /// Code 1337: a command of iTerm2.
+    ITermProprietary(ITermProprietary<A>),
+    /// Code 133: where a shell's prompts, commands and their output begin and end.
+    FinalTermSemanticPrompt(FinalTermSemanticPrompt<A>),
     /// Code 4: changes colours of the palette, or asks for them.
     ChangeColorNumber(Items<ChangeColorPair, A>),
     /// Codes 10 to 19: changes this dynamic colour and those behind it, or asks for them, one a colour.

@@ -1,11 +1,15 @@
-//! Laws of operating system commands: what is written reads back, and what clear parts mean can be written.
+//! Laws of operating system commands: what is written reads back, what clear parts mean can be written, and dynamic
+//! colours have their numbers.
 ghost use Rattle.std.specs.Prelude.{◌≡◌, List, ℕ};
+ghost use Rattle.std.specs.Fmt.{decimal};
 ghost use Rattle.esc_below.specs.Clear.{AreTextParts, IsClearText, parts_of};
+ghost use Rattle.esc_osc.specs.Codes.{change_code, code_text};
 ghost use Rattle.esc_osc.specs.Commands.{inner_text};
 ghost use Rattle.esc_osc.specs.Reading.{meaning};
 ghost use Rattle.esc_osc.specs.Writable.{IsWritable};
 ghost use Rattle.esc_osc.specs.declared.command.OperatingSystemCommand.{OperatingSystemCommand};
 
+use crate::dynamic_color_number::DynamicColorNumber;
 use std::alloc::Allocator;
 
 /// What a writable command writes between `ESC ]` and the terminator is a clear text.
@@ -25,3 +29,10 @@ pub fn reads_back<A: Allocator>()
 pub fn clear_is_writable<A: Allocator>()
     ensures { (ps : List (List ℕ)) → AreTextParts ps → IsWritable {A = A} (meaning {A = A} ps) }
 {}
+
+/// A dynamic colour, `as u8`, is the number that the code which changes it writes, from 10 to 19.
+pub fn number_of_color(color: DynamicColorNumber) -> u8
+    ensures { decimal result ≡ code_text (change_code color) }
+{
+    color as u8
+}

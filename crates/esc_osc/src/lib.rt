@@ -16,16 +16,18 @@ mod read_color;
 mod read_items;
 mod read_progress;
 pub mod selection;
-#[cfg(test)]
-mod tests;
 mod write;
 
-pub use bitflags::Flags;
 pub use change_color_pair::ChangeColorPair;
 pub use code::OperatingSystemCommandCode;
 pub use color_or_query::ColorOrQuery;
 pub use color16::Color16;
 pub use command::OperatingSystemCommand;
 pub use dynamic_color_number::DynamicColorNumber;
+pub use esc_below::{Hyperlink, Params};
+pub use esc_iterm::{
+    Boxed, ITermDimension, ITermFileData, ITermProprietary, ITermUnicodeVersionOp,
+};
+pub use esc_prompts::{FinalTermClick, FinalTermPromptKind, FinalTermSemanticPrompt};
 pub use progress::Progress;
 pub use selection::Selection;

@@ -1,9 +1,13 @@
 //! How parts are read.
-ghost use Rattle.std.specs.Prelude.{◌≡◌, IfOk, [], ◌∷◌, map, drop};
+ghost use Rattle.std.specs.Prelude.{◌≡◌, IfOk, [], ◌∷◌, map, drop, codes};
+ghost use Rattle.std.specs.Option.{option_map};
+ghost use Rattle.std.specs.Str.Lossy.{utf8_lossy};
+ghost use Rattle.esc_below.specs.Hyperlinks.{link_of};
 ghost use Rattle.esc_below.specs.Scalars.{utf8_of};
 ghost use Rattle.esc_osc.specs.Codes.{code_name, code_of};
 ghost use Rattle.esc_osc.specs.Progresses.{progress_of};
-ghost use Rattle.esc_osc.specs.Reading.{content_of, dynamic, fitting, lone_text, meaning, notified, reading, selected};
+ghost use Rattle.esc_osc.specs.Reading.{content_of, dynamic, fitting, lone_text, meaning, named, notified, reading, selected};
+ghost use Rattle.esc_osc.specs.declared.command.OperatingSystemCommand.TheVariants as command;
 
 use crate::code::OperatingSystemCommandCode;
 use crate::command::OperatingSystemCommand;
@@ -13,10 +17,13 @@ use crate::read_items::{
 };
 use crate::read_progress::read_progress;
 use crate::selection::Selection;
-use esc_below::Text;
 use esc_below::base64_text::read_base64_text;
 use esc_below::scalar::text_of;
+use esc_below::{Error, Hyperlink, Text};
+use esc_iterm::ITermProprietary;
+use esc_prompts::FinalTermSemanticPrompt;
 use std::alloc::{AllocError, Allocator};
+use std::str;
 
 impl<A: Allocator + Copy> OperatingSystemCommand<A> {
     /// The command that these parts mean: the one that the code in the first part names, where the other parts
@@ -41,11 +48,38 @@ fn read_fitting<A: Allocator + Copy>(
     let Some((first, args)) = parts.split_first() else {
         return Ok(None);
     };
-    let first = String::from_utf8_lossy(alloc, first)?;
-    let Some(code) = code_in(first.as_str(), args) else {
-        return Ok(None);
-    };
-    read_by_code(alloc, code, first.as_str(), args)
+    read_lossy(alloc, first, args)
+}
+
+// What the code that the first part names makes of the parts behind it. A part that is UTF-8 is its own lossy text.
+fn read_lossy<A: Allocator + Copy>(
+    alloc: A,
+    first: &[u8],
+    args: &[&[u8]],
+) -> Result<Option<OperatingSystemCommand<A>>, AllocError>
+    ensures { IfOk result (λ c. c ≡ named (utf8_lossy first.now) (map (λ p. p.now) args.now)) }
+{
+    match str::from_utf8(first) {
+        Ok(text) => read_named(alloc, text, args),
+        Err(_) => {
+            let text = String::from_utf8_lossy(alloc, first)?;
+            read_named(alloc, text.as_str(), args)
+        }
+    }
+}
+
+// What the code of this text makes of the parts behind it.
+fn read_named<A: Allocator + Copy>(
+    alloc: A,
+    first: &str,
+    args: &[&[u8]],
+) -> Result<Option<OperatingSystemCommand<A>>, AllocError>
+    ensures { IfOk result (λ c. c ≡ named first.now (map (λ p. p.now) args.now)) }
+{
+    match code_in(first, args) {
+        Some(code) => read_by_code(alloc, code, first, args),
+        None => Ok(None),
+    }
 }
 
 // The code that the lossy text of the first part names, by whether it stands alone.
@@ -116,11 +150,20 @@ fn read_by_code<A: Allocator + Copy>(
             let path = read_lone_text(alloc, args)?;
             Ok(path.map(|t| OperatingSystemCommand::CurrentWorkingDirectory(t)))
         }
+        OperatingSystemCommandCode::SetHyperlink => read_link(alloc, args),
         OperatingSystemCommandCode::SystemNotification => read_notified(alloc, args),
         OperatingSystemCommandCode::ManipulateSelectionData => read_selected(alloc, args),
         OperatingSystemCommandCode::ResetColors => {
             let numbers = read_numbers(alloc, args)?;
             Ok(numbers.map(|n| OperatingSystemCommand::ResetColors(n)))
+        }
+        OperatingSystemCommandCode::FinalTermSemanticPrompt => {
+            let prompt = FinalTermSemanticPrompt::parse(alloc, args)?;
+            Ok(prompt.map(|p| OperatingSystemCommand::FinalTermSemanticPrompt(p)))
+        }
+        OperatingSystemCommandCode::ITermProprietary => {
+            let command = ITermProprietary::parse(alloc, args)?;
+            Ok(command.map(|c| OperatingSystemCommand::ITermProprietary(c)))
         }
         OperatingSystemCommandCode::RxvtProprietary => {
             let texts = read_texts(alloc, args)?;
@@ -144,6 +187,23 @@ fn without_first<A: Allocator>(alloc: A, text: &str) -> Result<Option<Text<A>>, 
         return Ok(Some(Text::new(alloc)));
     };
     Ok(text_of(Vec::from_slice(alloc, rest)?))
+}
+
+// The link behind the code, where there is one.
+fn read_link<A: Allocator + Copy>(
+    alloc: A,
+    args: &[&[u8]],
+) -> Result<Option<OperatingSystemCommand<A>>, AllocError>
+    ensures { IfOk result (λ c. c ≡ option_map command.SetHyperlink (link_of (codes "8" ∷ map (λ p. p.now) args.now))) }
+{
+    let [params, uri] = args else {
+        return Ok(None);
+    };
+    match Hyperlink::parse(alloc, &[b"8".as_slice(), params, uri]) {
+        Ok(link) => Ok(Some(OperatingSystemCommand::SetHyperlink(link))),
+        Err(Error::Invalid) => Ok(None),
+        Err(Error::Memory(error)) => Err(error),
+    }
 }
 
 // The progress of a task, else a notification.

@@ -1,10 +1,10 @@
 //! How colours are read.
 ghost use Rattle.std.specs.Prelude.{◌≡◌, ◌<◌, ◌≤◌, IfSome, length};
-ghost use Rattle.std.specs.Option.{option_map};
-ghost use Rattle.esc_osc.specs.Colors.{hex_after, hex_of, cut_at, channel_of, rgb_of, sharp_of, color_from, spec_of};
+ghost use Rattle.esc_osc.specs.Colors.{hex_after, hex_of, channel_of, rgb_of, sharp_of, color_from, spec_of};
 
 use crate::color_or_query::ColorOrQuery;
 use crate::color16::Color16;
+use esc_below::cut::cut;
 
 // A colour, or the question for one.
 pub(crate) fn read_spec(bytes: &[u8]) -> Option<ColorOrQuery>
@@ -95,18 +95,4 @@ fn hex_digit(digit: u8) -> Option<u32>
         b'A'..=b'F' => Some(u32::from(digit - b'A') + 10),
         _ => None,
     }
-}
-
-// What stands before and behind the first `at`.
-fn cut(bytes: &[u8], at: u8) -> Option<(&[u8], &[u8])>
-    ensures { option_map (λ p. (p.0.now, p.1.now)) result ≡ cut_at at bytes.now }
-{
-    let mut index = 0;
-    while index < bytes.len() {
-        if bytes[index] == at {
-            return Some((&bytes[..index], &bytes[index + 1..]));
-        }
-        index += 1;
-    }
-    None
 }

@@ -44,6 +44,8 @@ fn write_inner<W: fmt::Write, A: Allocator>(
         OperatingSystemCommand::SetWindowTitle(title) => write!(f, "2;{title}"),
         OperatingSystemCommand::SetWindowTitleSun(title) => write!(f, "l{title}"),
         OperatingSystemCommand::SetIconNameSun(title) => write!(f, "L{title}"),
+        OperatingSystemCommand::SetHyperlink(Some(link)) => write!(f, "{link}"),
+        OperatingSystemCommand::SetHyperlink(None) => f.write_str("8;;"),
         OperatingSystemCommand::ClearSelection(selection) => write!(f, "52;{selection}"),
         OperatingSystemCommand::QuerySelection(selection) => write!(f, "52;{selection};?"),
         OperatingSystemCommand::SetSelection(selection, content) => {
@@ -51,6 +53,8 @@ fn write_inner<W: fmt::Write, A: Allocator>(
             write!(f, "52;{selection};{text}")
         }
         OperatingSystemCommand::SystemNotification(text) => write!(f, "9;{text}"),
+        OperatingSystemCommand::ITermProprietary(command) => write!(f, "{command}"),
+        OperatingSystemCommand::FinalTermSemanticPrompt(prompt) => write!(f, "{prompt}"),
         OperatingSystemCommand::ChangeColorNumber(pairs) => write_pairs(pairs.as_slice(), f),
         OperatingSystemCommand::ChangeDynamicColors(number, colors) => {
             f.write_str(number.change_code().as_code())?;

@@ -1,182 +1,131 @@
 //! What streams mean, in whatever chunks they come, and the text of that.
-use escape_stream::{Action, Parser, encode, parse_pieces};
-use std::alloc::Global;
+use crate::commands::{COMMANDS, WRITTEN_BACK, WRITTEN_OTHERWISE};
+use crate::iterm::ITERM;
+use crate::links::{LINKS, PROMPTS};
+use crate::row::{Row, by_bytes};
+use crate::streams::{BROKEN, CHARACTERS, ESCAPES, SEQUENCES, UNFINISHED};
+use escape_stream::csi::Unspecified;
+use escape_stream::{Action, CSI, CsiParam, Items, encode, parse_pieces};
+use std::alloc::{AllocError, Global};
 use std::process::Abort;
 use std::test::Fail;
 
-// A stream, the Debug text of the actions that it means, and the text that `encode` writes for these.
-#[derive(Clone, Copy)]
-struct Row<'a> {
-    shows: &'a str,
-    stream: &'a [u8],
-    actions: &'a str,
-    text: &'a str,
-}
-
-fn characters() -> [Row<'static>; 5] {
-    [
-        Row {
-            shows: "characters",
-            stream: b"hello",
-            actions: "[Print('h'), Print('e'), Print('l'), Print('l'), Print('o')]",
-            text: "hello",
-        },
-        Row {
-            shows: "nothing",
-            stream: b"",
-            actions: "[]",
-            text: "",
-        },
-        Row {
-            shows: "a broken sequence, the byte that broke it, a stray byte",
-            stream: b"\xe2\x82A\xff",
-            actions: "[Print('\u{fffd}'), Print('A'), Print('\u{fffd}')]",
-            text: "\u{fffd}A\u{fffd}",
-        },
-        Row {
-            shows: "a broken sequence, and a control without code",
-            stream: b"\xe0\x80A",
-            actions: "[Print('\u{fffd}'), Print('A')]",
-            text: "\u{fffd}A",
-        },
-        Row {
-            shows: "a cancelled control sequence",
-            stream: b"\x1b[1\x18x",
-            actions: "[Control(Cancel), Print('x')]",
-            text: "\x18x",
-        },
-    ]
-}
-
-fn commands() -> [Row<'static>; 5] {
-    [
-        Row {
-            shows: "a title",
-            stream: b"\x1b]0;h\xc3\xa9\x07",
-            actions: "[OperatingSystemCommand(SetIconNameAndWindowTitle(\"h\u{e9}\"))]",
-            text: "\x1b]0;h\u{e9}\x1b\\",
-        },
-        Row {
-            shows: "a title that the terminator's two bytes end",
-            stream: b"\x1b]0;a\xc2\x9cb",
-            actions: "[OperatingSystemCommand(SetIconNameAndWindowTitle(\"a\")), Print('b')]",
-            text: "\x1b]0;a\x1b\\b",
-        },
-        Row {
-            shows: "an unknown code",
-            stream: b"\x1b]532534523;hello\x07",
-            actions: "[OperatingSystemCommand(Unspecified([[53, 51, 50, 53, 51, 52, 53, 50, 51], [104, 101, 108, 108, 111]]))]",
-            text: "\x1b]532534523;hello\x1b\\",
-        },
-        Row {
-            shows: "a cancelled title",
-            stream: b"\x1b]2;t\x18",
-            actions: "[OperatingSystemCommand(SetWindowTitle(\"t\")), Control(Cancel)]",
-            text: "\x1b]2;t\x1b\\\x18",
-        },
-        Row {
-            shows: "a raw opener, a stray byte in a command, an unfinished escape",
-            stream: b"\x9d1337\xff;File\x1b",
-            actions: "[OperatingSystemCommand(Unspecified([[49, 51, 51, 55], [70, 105, 108, 101]]))]",
-            text: "\x1b]1337;File\x1b\\",
-        },
-    ]
-}
-
-fn escapes() -> [Row<'static>; 3] {
-    [
-        Row {
-            shows: "a malformed device control string",
-            stream: b"\x1bP1:2qabc\x1b\\",
-            actions: "[Esc(Code(StringTerminator))]",
-            text: "\x1b\\",
-        },
-        Row {
-            shows: "two intermediates count as none",
-            stream: b"\x1b##[A",
-            actions: "[Esc(Unspecified { intermediate: None, control: 91 }), Print('A')]",
-            text: "\x1b[A",
-        },
-        Row {
-            shows: "named escapes, and one with an intermediate",
-            stream: b"\x1bH\x1bk\x1b(B",
-            actions: "[Esc(Code(HorizontalTabSet)), Esc(Code(TmuxTitle)), Esc(Unspecified { intermediate: Some(40), control: 66 })]",
-            text: "\x1bH\x1bk\x1b(B",
-        },
-    ]
-}
-
-// The stream in one chunk.
-fn check_whole(rt: &impl Abort, alloc: Global, row: &Row) -> Result<(), Fail> {
-    let actions = parse_pieces(alloc, &[row.stream])?;
-    let told = format!(in alloc; "{actions:?}")?;
-    assert_eq!(rt; told.as_str(), row.actions, "whole: {}", row.shows);
-    let text = encode(alloc, &actions)?;
-    assert_eq!(rt; text.as_str(), row.text, "written: {}", row.shows);
-    Ok(())
-}
-
-// The stream in two chunks, cut at each place.
-fn check_cuts(rt: &impl Abort, alloc: Global, row: &Row) -> Result<(), Fail> {
-    for at in 0..row.stream.len() {
-        let actions = parse_pieces(alloc, &[&row.stream[..at], &row.stream[at..]])?;
-        let told = format!(in alloc; "{actions:?}")?;
-        assert_eq!(rt; told.as_str(), row.actions, "cut at {at}: {}", row.shows);
+fn check_all(rt: &impl Abort, alloc: Global, rows: &[Row]) -> Result<(), Fail> {
+    for row in rows {
+        row.check(rt, alloc)?;
     }
     Ok(())
-}
-
-// Byte by byte, as lists and by a closure.
-fn check_bytes(rt: &impl Abort, alloc: Global, row: &Row) -> Result<(), Fail> {
-    let mut listing = Parser::new(alloc);
-    let mut calling = Parser::new(alloc);
-    let mut listed: Vec<Action> = Vec::new(alloc);
-    let mut called: Vec<Action> = Vec::new(alloc);
-    let mut was_refused = false;
-    for i in 0..row.stream.len() {
-        let byte = &row.stream[i..i + 1];
-        for action in listing.parse_as_vec(byte)? {
-            listed.push(action)?;
-        }
-        calling.parse(byte, |action| {
-            if called.push(action).is_err() {
-                was_refused = true;
-            }
-        })?;
-    }
-    assert!(rt; !was_refused);
-    assert!(rt; listed == called, "{}", row.shows);
-    let told = format!(in alloc; "{called:?}")?;
-    assert_eq!(rt; told.as_str(), row.actions, "byte by byte: {}", row.shows);
-    Ok(())
-}
-
-fn check(rt: &impl Abort, alloc: Global, row: &Row) -> Result<(), Fail> {
-    check_whole(rt, alloc, row)?;
-    check_cuts(rt, alloc, row)?;
-    check_bytes(rt, alloc, row)
 }
 
 #[test]
 fn characters_are_read(rt: HostRuntime) -> Result<(), Fail> {
-    for row in &characters() {
-        check(&rt, rt.alloc(), row)?;
-    }
-    Ok(())
-}
-
-#[test]
-fn commands_are_read(rt: HostRuntime) -> Result<(), Fail> {
-    for row in &commands() {
-        check(&rt, rt.alloc(), row)?;
-    }
-    Ok(())
+    check_all(&rt, rt.alloc(), &CHARACTERS)?;
+    check_all(&rt, rt.alloc(), &BROKEN)
 }
 
 #[test]
 fn escapes_are_read(rt: HostRuntime) -> Result<(), Fail> {
-    for row in &escapes() {
-        check(&rt, rt.alloc(), row)?;
+    check_all(&rt, rt.alloc(), &ESCAPES)
+}
+
+#[test]
+fn control_sequences_are_read(rt: HostRuntime) -> Result<(), Fail> {
+    check_all(&rt, rt.alloc(), &SEQUENCES)
+}
+
+#[test]
+fn commands_are_read(rt: HostRuntime) -> Result<(), Fail> {
+    check_all(&rt, rt.alloc(), &COMMANDS)?;
+    check_all(&rt, rt.alloc(), &WRITTEN_BACK)?;
+    check_all(&rt, rt.alloc(), &WRITTEN_OTHERWISE)
+}
+
+#[test]
+fn hyperlinks_are_read(rt: HostRuntime) -> Result<(), Fail> {
+    check_all(&rt, rt.alloc(), &LINKS)
+}
+
+#[test]
+fn prompts_are_read(rt: HostRuntime) -> Result<(), Fail> {
+    check_all(&rt, rt.alloc(), &PROMPTS)
+}
+
+#[test]
+fn commands_of_iterm2_are_read(rt: HostRuntime) -> Result<(), Fail> {
+    check_all(&rt, rt.alloc(), &ITERM)
+}
+
+#[test]
+fn unfinished_streams_are_read(rt: HostRuntime) -> Result<(), Fail> {
+    check_all(&rt, rt.alloc(), &UNFINISHED)
+}
+
+#[test]
+fn dynamic_colors_are_read(rt: HostRuntime) -> Result<(), Fail> {
+    let rows = [
+        ("10", "110", "TextForegroundColor"),
+        ("11", "111", "TextBackgroundColor"),
+        ("12", "112", "TextCursorColor"),
+        ("13", "113", "MouseForegroundColor"),
+        ("14", "114", "MouseBackgroundColor"),
+        ("15", "115", "TektronixForegroundColor"),
+        ("16", "116", "TektronixBackgroundColor"),
+        ("17", "117", "HighlightBackgroundColor"),
+        ("18", "118", "TektronixCursorColor"),
+        ("19", "119", "HighlightForegroundColor"),
+    ];
+    let alloc = rt.alloc();
+    for (change, reset, name) in rows {
+        let stream = format!(in alloc; "\x1b]{change};?;rgb:0/8/F\x07\x1b]{reset}\x07")?;
+        let colors = "[Query, Color(Color16 { red: 0, green: 34952, blue: 65535 })]";
+        let changed = format!(in alloc;
+            "OperatingSystemCommand(ChangeDynamicColors({name}, {colors}))"
+        )?;
+        let actions = format!(in alloc;
+            "[{changed}, OperatingSystemCommand(ResetDynamicColor({name}))]"
+        )?;
+        let text = format!(in alloc; "\x1b]{change};?;rgb:0000/8888/ffff\x1b\\\x1b]{reset}\x1b\\")?;
+        let row = Row {
+            shows: name,
+            stream: stream.as_bytes(),
+            actions: actions.as_str(),
+            text: text.as_str(),
+        };
+        row.check(&rt, alloc)?;
+    }
+    Ok(())
+}
+
+// A control sequence of 256 entries, each `1` with a `;` behind it.
+fn of_256_entries(alloc: Global, parameters_truncated: bool) -> Result<Vec<Action>, AllocError> {
+    let mut params = Vec::new(alloc);
+    for _ in 0..128 {
+        params.push(CsiParam::Integer(1))?;
+        params.push(CsiParam::P(b';'))?;
+    }
+    let sequence = Unspecified {
+        params: Items::from_vec(params),
+        parameters_truncated,
+        control: b'x',
+    };
+    let mut actions = Vec::new(alloc);
+    actions.push(Action::CSI(CSI::Unspecified(Box::new(alloc, sequence)?)))?;
+    Ok(actions)
+}
+
+#[test]
+fn entries_past_256_are_cut_off(rt: HostRuntime) -> Result<(), Fail> {
+    let alloc = rt.alloc();
+    let entries = "1;".repeat(alloc, 128)?;
+    let kept = format!(in alloc; "\x1b[{entries}x")?;
+    let more = format!(in alloc; "\x1b[{entries}1x")?;
+    for (stream, is_truncated) in [(kept.as_bytes(), false), (more.as_bytes(), true)] {
+        let want = of_256_entries(alloc, is_truncated)?;
+        let whole = parse_pieces(alloc, &[stream])?;
+        assert!(rt; whole == want, "truncated: {is_truncated}");
+        let pieced = by_bytes(alloc, stream)?;
+        assert!(rt; pieced == want, "byte by byte, truncated: {is_truncated}");
+        assert_eq!(rt; encode(alloc, &whole)?.as_str(), kept.as_str());
     }
     Ok(())
 }

@@ -4,33 +4,18 @@ use std::test::Fail;
 
 #[test]
 fn errors_tell_what_went_wrong(rt: HostRuntime) -> Result<(), Fail> {
-    assert_eq!(rt;
-        format!(in rt.alloc(); "{}", ParseError::Memory)?.as_str(),
-        "out of memory"
-    );
-    assert_eq!(rt;
-        format!(in rt.alloc(); "{}", ParseError::Failed)?.as_str(),
-        "parser failed"
-    );
-    assert_eq!(rt;
-        format!(in rt.alloc(); "{}", EncodeError::Fmt)?.as_str(),
-        "sixel value over 63"
-    );
-    assert_eq!(rt;
-        format!(in rt.alloc(); "{}", EncodeError::Memory)?.as_str(),
-        "out of memory"
-    );
-    assert_eq!(rt;
-        format!(in rt.alloc(); "{}", NormaliseError::Read)?.as_str(),
-        "read fault"
-    );
-    assert_eq!(rt;
-        format!(in rt.alloc(); "{}", NormaliseError::Write)?.as_str(),
-        "write fault"
-    );
-    assert_eq!(rt;
-        format!(in rt.alloc(); "{}", NormaliseError::Memory)?.as_str(),
-        "out of memory"
-    );
+    let alloc = rt.alloc();
+    let rows = [
+        (ParseError::Memory.to_string(alloc)?, "out of memory"),
+        (ParseError::Failed.to_string(alloc)?, "parser failed"),
+        (EncodeError::Fmt.to_string(alloc)?, "sixel value over 63"),
+        (EncodeError::Memory.to_string(alloc)?, "out of memory"),
+        (NormaliseError::Read.to_string(alloc)?, "read fault"),
+        (NormaliseError::Write.to_string(alloc)?, "write fault"),
+        (NormaliseError::Memory.to_string(alloc)?, "out of memory"),
+    ];
+    for (told, want) in &rows {
+        assert_eq!(rt; told.as_str(), *want);
+    }
     Ok(())
 }

@@ -1,0 +1,35 @@
+//! A count of actions.
+
+use crate::counted::Counted;
+use escape_stream::Action;
+
+/// Counts the actions that it is given, and adds up their characters, so that no part of the work can be left out.
+#[derive(Drop)]
+pub struct Tally {
+    number: u64,
+    total: u64,
+}
+
+impl Tally {
+    /// Nothing yet.
+    pub fn new() -> Tally {
+        Tally {
+            number: 0,
+            total: 0,
+        }
+    }
+
+    /// Counts one more action.
+    #[inline]
+    pub fn add(&mut self, action: &Action) {
+        self.number = self.number.wrapping_add(1);
+        if let Action::Print(c) = action {
+            self.total = self.total.wrapping_add(*c as u64);
+        }
+    }
+
+    /// What was counted.
+    pub fn counted(&self) -> Counted {
+        Counted::Actions(self.number, self.total)
+    }
+}

@@ -1,0 +1,180 @@
+//! Hyperlinks.
+ghost use Rattle.std.specs.Prelude.{◌≡◌, ℕ, [], ◌∷◌, codes, map, IfOk, IfErr, OnOk, Some, None};
+ghost use Rattle.std.specs.Fmt.{DisplaysOnOk};
+ghost use Rattle.std.specs.List.{flat_map};
+ghost use Rattle.std.specs.Option.{option_map};
+ghost use Rattle.esc_below.specs.Cuts.{key_and_value};
+ghost use Rattle.esc_below.specs.declared.error.Error.TheVariants.{Invalid};
+ghost use Rattle.esc_below.specs.Hyperlinks.{put, params_of, link_of, link_in, link_to, hyperlink_text, params_text, pair_text};
+
+use crate::cut::{cut, key_and_value};
+use crate::error::Error;
+use crate::params::{Iter, Params};
+use crate::scalar::text_in;
+use crate::text::Text;
+use std::alloc::{AllocError, Allocator, Global};
+use std::fmt;
+
+/// A hyperlink: where the characters that follow lead to ("Hyperlinks in terminal emulators", the command OSC 8).
+#[derive(Drop)]
+#[derive_where(Debug, PartialEq)]
+pub struct Hyperlink<A: Allocator = Global> {
+    /// The parameters. The key `id` is that of the link: cells of one id and one address are one link.
+    pub params: Params<A>,
+    /// The address.
+    pub uri: Text<A>,
+    /// Whether the terminal found it in the text itself. What is read or made here has false.
+    pub implicit: bool,
+}
+
+impl<A: Allocator + Copy> Hyperlink<A> {
+    /// The link to this address, without parameters. The error is that memory was refused.
+    pub fn new(alloc: A, uri: &str) -> Result<Hyperlink<A>, AllocError>
+        ensures { IfOk result (λ h. h ≡ link_to [] uri.now) }
+    {
+        Ok(Hyperlink {
+            params: Params::new(alloc),
+            uri: Text::from_str(alloc, uri)?,
+            implicit: false,
+        })
+    }
+
+    /// The link to this address with the parameter `id`. The error is that memory was refused.
+    pub fn new_with_id(alloc: A, uri: &str, id: &str) -> Result<Hyperlink<A>, AllocError>
+        ensures { IfOk result (λ h. h ≡ link_to ((codes "id", id.now) ∷ []) uri.now) }
+    {
+        let mut params = Params::new(alloc);
+        params.insert(Text::from_str(alloc, "id")?, Text::from_str(alloc, id)?)?;
+        Ok(Hyperlink {
+            params,
+            uri: Text::from_str(alloc, uri)?,
+            implicit: false,
+        })
+    }
+
+    /// What the parts of a text between `;` are: three parts, of which the first is not looked at, the second has the
+    /// parameters and the third is the address. The parameters are `key=value` with `:` between them, each cut at its
+    /// first `=`, and a later one replaces an earlier one of the same key. Where both are empty there is no link.
+    ///
+    /// The errors are `Error::Invalid`, where there are not three parts, a parameter has no `=`, or a key, a value or
+    /// the address is not UTF-8; and `Error::Memory`, where memory was refused.
+    pub fn parse(alloc: A, parts: &[&[u8]]) -> Result<Option<Hyperlink<A>>, Error>
+        ensures read { IfOk result (λ v. link_of (map (λ p. p.now) parts.now) ≡ Some v) }
+        ensures invalid { IfErr result (λ e. e ≡ Invalid → link_of {A = A} (map (λ p. p.now) parts.now) ≡ None) }
+    {
+        let Some((_, rest)) = parts.split_first() else {
+            return Err(Error::Invalid);
+        };
+        let Some((params, rest)) = rest.split_first() else {
+            return Err(Error::Invalid);
+        };
+        let Some((uri, rest)) = rest.split_first() else {
+            return Err(Error::Invalid);
+        };
+        if !rest.is_empty() {
+            return Err(Error::Invalid);
+        }
+        read_link(alloc, params, uri)
+    }
+}
+
+// The link of parameters and an address; no link where both are empty.
+fn read_link<A: Allocator + Copy>(
+    alloc: A,
+    params: &[u8],
+    uri: &[u8],
+) -> Result<Option<Hyperlink<A>>, Error>
+    ensures read { IfOk result (λ v. link_in params.now uri.now ≡ Some v) }
+    ensures invalid { IfErr result (λ e. e ≡ Invalid → link_in {A = A} params.now uri.now ≡ None) }
+{
+    if params.is_empty() && uri.is_empty() {
+        return Ok(None);
+    }
+    let params = read_params(alloc, params)?;
+    let Some(uri) = text_in(uri) else {
+        return Err(Error::Invalid);
+    };
+    let uri = Text::from_str(alloc, uri)?;
+    Ok(Some(Hyperlink {
+        params,
+        uri,
+        implicit: false,
+    }))
+}
+
+// The parameters that a text holds, between `:`.
+fn read_params<A: Allocator + Copy>(alloc: A, text: &[u8]) -> Result<Params<A>, Error>
+    ensures read { IfOk result (λ p. params_of text.now ≡ Some p) }
+    ensures invalid { IfErr result (λ e. e ≡ Invalid → params_of text.now ≡ None) }
+{
+    let mut params = Params::new(alloc);
+    if text.is_empty() {
+        return Ok(params);
+    }
+    let mut rest = text;
+    while let Some((piece, more)) = cut(rest, b':') {
+        put_piece(alloc, &mut params, piece)?;
+        rest = more;
+    }
+    put_piece(alloc, &mut params, rest)?;
+    Ok(params)
+}
+
+// Puts the key and the value of a piece.
+fn put_piece<A: Allocator + Copy>(
+    alloc: A,
+    params: &mut Params<A>,
+    piece: &[u8],
+) -> Result<(), Error>
+    ensures read { OnOk result (option_map (λ e. put e.0 e.1 params.old) (key_and_value piece.now) ≡ Some params.new) }
+    ensures invalid { IfErr result (λ e. e ≡ Invalid → key_and_value piece.now ≡ None) }
+{
+    let Some((key, value)) = key_and_value(piece) else {
+        return Err(Error::Invalid);
+    };
+    let key = Text::from_str(alloc, key)?;
+    let value = Text::from_str(alloc, value)?;
+    params.insert(key, value)?;
+    Ok(())
+}
+
+/// Writes `8;`, the parameters as `key=value` in order with `:` between them, `;` and the address. Takes no memory, and
+/// errs only where the writer behind the formatter errs.
+impl<A: Allocator> fmt::Display for Hyperlink<A> {
+    ghost output = { λ h. Some (hyperlink_text h) };
+
+    fn fmt<W: fmt::Write>(&self, f: &mut fmt::Formatter<W>) -> fmt::Result {
+        f.write_str("8;")?;
+        write_params(&self.params, f)?;
+        f.write_str(";")?;
+        f.write_str(self.uri.as_str())
+    }
+}
+
+// The parameters, with `:` between them.
+fn write_params<A: Allocator, W: fmt::Write>(
+    params: &Params<A>,
+    f: &mut fmt::Formatter<W>,
+) -> fmt::Result
+    ensures { DisplaysOnOk W.write_str_gives f.old result (Some (params_text params.now)) f.new }
+{
+    let mut pairs = params.iter();
+    let Some((key, value)) = pairs.next() else {
+        return Ok(());
+    };
+    write!(f, "{key}={value}")?;
+    write_rest(pairs, f)
+}
+
+// The pairs, with `:` before each.
+fn write_rest<A: Allocator, W: fmt::Write>(
+    mut pairs: Iter<'_, A>,
+    f: &mut fmt::Formatter<W>,
+) -> fmt::Result
+    ensures { DisplaysOnOk W.write_str_gives f.old result (Some (flat_map (λ e. 0x3a ∷ pair_text e) pairs.entry)) f.new }
+{
+    while let Some((key, value)) = pairs.next() {
+        write!(f, ":{key}={value}")?;
+    }
+    Ok(())
+}

@@ -1,0 +1,176 @@
+-- What clear parts mean is writable.
+use Rattle.std.proofs.Common.{ℕ, ◌≡◌, ◌==◌, Bool, true, false, nat_eq, if◌then◌else◌, inl, inr, List, [], ◌∷◌, length, codes, Option, Some, None, refl, sym, subst}
+use Rattle.std.specs.Cmp.Lexicographic.{pointwise}
+use Rattle.std.specs.List.{starts_with}
+use Rattle.std.specs.Option.{option_map}
+use Rattle.std.specs.Str.{IsUtf8}
+use Rattle.std.specs.Str.Lossy.{utf8_lossy}
+use Rattle.esc_below.specs.Base64.{base64_text_of}
+use Rattle.esc_below.specs.Clear.{IsClearPart, AreClearParts}
+use Rattle.esc_below.specs.Cuts.{key_and_value}
+use Rattle.esc_below.specs.Scalars.{and_then}
+use Rattle.esc_below.proofs.ClearTexts.{part_lossy}
+use Rattle.esc_below.proofs.Numbers.{bool_cases}
+use Rattle.esc_below.proofs.Where.{Where, where_map, where_then, content_where}
+use Rattle.esc_iterm.specs.Files.{file_of, IsWritableFile}
+use Rattle.esc_iterm.specs.ITerms.{alone, highlight_of, variable_of, assigned, content_of, cell_size, scaled_size, with_one, with_two, bare, keyed, form_from, form_of, iterm_of}
+use Rattle.esc_iterm.specs.Tenths.{tenths_of}
+use Rattle.esc_iterm.specs.Versions.{version_of}
+use Rattle.esc_iterm.specs.WritableITerms.{IsScale, IsVersion, IsWritableITerm}
+use Rattle.esc_iterm.specs.declared.file_data.ITermFileData.{ITermFileData}
+use Rattle.esc_iterm.specs.declared.proprietary.ITermProprietary.{ITermProprietary}
+use Rattle.esc_iterm.specs.declared.proprietary.ITermProprietary.TheVariants as iterm
+use Rattle.esc_iterm.proofs.Cutting.{IsEntry, key_clear}
+use Rattle.esc_iterm.proofs.FilesWritable.{file_is_writable}
+use Rattle.esc_iterm.proofs.TenthsBack.{IsSmall, tenths_where}
+use Rattle.esc_iterm.proofs.VersionsBack.{version_where}
+
+-- a writable command
+abbrev Good : (A : Type 0) → ITermProprietary A → Type 0
+Good A c = IsWritableITerm {A = A} c
+
+alone_good : (A : Type 0) (k : List ℕ) → Where (Good A) (alone k)
+alone_good A k =
+    elim (bool_cases (pointwise nat_eq k (codes "SetMark"))) [
+      | inl a ↦ rw a tt
+      | inr b ↦ rw b (elim (bool_cases (pointwise nat_eq k (codes "StealFocus"))) [
+        | inl c ↦ rw c tt
+        | inr d ↦ rw d (elim (bool_cases (pointwise nat_eq k (codes "ClearScrollback"))) [
+          | inl e ↦ rw e tt
+          | inr f ↦ rw f (elim (bool_cases (pointwise nat_eq k (codes "EndCopy"))) [
+            | inl g ↦ rw g tt
+            | inr h ↦ rw h (elim (bool_cases (pointwise nat_eq k (codes "ReportCellSize"))) [
+              | inl i ↦ rw i tt
+              | inr j ↦ rw j tt
+            ])
+          ])
+        ])
+      ])
+    ]
+
+highlight_good : (A : Type 0) (v : List ℕ) → Where (Good A) (highlight_of v)
+highlight_good A v =
+    elim (bool_cases (pointwise nat_eq v (codes "yes"))) [
+      | inl a ↦ rw a tt
+      | inr b ↦ rw b (elim (bool_cases (pointwise nat_eq v (codes "no"))) [
+        | inl c ↦ rw c tt
+        | inr d ↦ rw d tt
+      ])
+    ]
+
+variable_good : (A : Type 0) (v : List ℕ) → IsClearPart v → Where (Good A) (variable_of v)
+variable_good A v h =
+    where_then (λ (e : List ℕ × List ℕ). IsEntry e) (Good A) (λ (e : List ℕ × List ℕ). option_map (λ t. iterm.SetUserVar e.0 t) (base64_text_of e.1))
+    (λ e q. where_map (λ u. IsUtf8 u) (Good A) (λ t. iterm.SetUserVar e.0 t) (λ t u. (q.0, q.2, u)) (base64_text_of e.1) (content_where e.1))
+    (key_and_value v) (key_clear v h)
+
+badge_good : (A : Type 0) (b : List ℕ) → Where (Good A) (option_map iterm.SetBadgeFormat (base64_text_of b))
+badge_good A b = where_map (λ u. IsUtf8 u) (Good A) iterm.SetBadgeFormat (λ t u. u) (base64_text_of b) (content_where b)
+
+version_good : (A : Type 0) (v : List ℕ) → IsClearPart v → Where (Good A) (option_map iterm.UnicodeVersion (version_of v))
+version_good A v h = where_map (λ u. IsVersion {A = A} u) (Good A) iterm.UnicodeVersion (λ t u. u) (version_of v) (version_where A v h)
+
+assigned_good : (A : Type 0) (k v : List ℕ) → IsClearPart v → Where (Good A) (assigned k v)
+assigned_good A k v clear =
+    elim (bool_cases (pointwise nat_eq k (codes "HighlightCursorLine"))) [
+      | inl a ↦ rw a (highlight_good A v)
+      | inr b ↦ rw b (elim (bool_cases (pointwise nat_eq k (codes "CurrentDir"))) [
+        | inl c ↦ rw c clear
+        | inr d ↦ rw d (elim (bool_cases (pointwise nat_eq k (codes "SetProfile"))) [
+          | inl e ↦ rw e clear
+          | inr f ↦ rw f (elim (bool_cases (pointwise nat_eq k (codes "CopyToClipboard"))) [
+            | inl g ↦ rw g clear
+            | inr h ↦ rw h (elim (bool_cases (pointwise nat_eq k (codes "SetBadgeFormat"))) [
+              | inl i ↦ rw i (badge_good A v)
+              | inr j ↦ rw j (elim (bool_cases (pointwise nat_eq k (codes "SetUserVar"))) [
+                | inl l ↦ rw l (variable_good A v clear)
+                | inr m ↦ rw m (elim (bool_cases (pointwise nat_eq k (codes "UnicodeVersion"))) [
+                  | inl n ↦ rw n (version_good A v clear)
+                  | inr o ↦ rw o tt
+                ])
+              ])
+            ])
+          ])
+        ])
+      ])
+    ]
+
+content_good : (A : Type 0) (k b : List ℕ) → Where (Good A) (content_of k b)
+content_good A k b =
+    elim (bool_cases (pointwise nat_eq k (codes "Copy"))) [
+      | inl a ↦ rw a (where_map (λ u. IsUtf8 u) (Good A) iterm.Copy (λ t u. u) (base64_text_of b) (content_where b))
+      | inr c ↦ rw c (elim (bool_cases (pointwise nat_eq k (codes "SetBadgeFormat"))) [
+        | inl d ↦ rw d (badge_good A b)
+        | inr e ↦ rw e tt
+      ])
+    ]
+
+cell_good : (A : Type 0) (h w : List ℕ) (s : Option ℕ) → IsScale s → Where (Good A) (cell_size h w s)
+cell_good A h w s scale =
+    where_then (λ n. IsSmall n) (Good A) (λ height. option_map (λ width. iterm.ReportCellSize height width s) (tenths_of w))
+    (λ height p. where_map (λ n. IsSmall n) (Good A) (λ width. iterm.ReportCellSize height width s) (λ width q. (p, q, scale)) (tenths_of w) (tenths_where w))
+    (tenths_of h) (tenths_where h)
+
+scaled_good : (A : Type 0) (h w s : List ℕ) → Where (Good A) (scaled_size h w s)
+scaled_good A h w s =
+    where_then (λ n. IsSmall n) (Good A) (λ scale. cell_size h w (Some scale)) (λ scale p. cell_good A h w (Some scale) p) (tenths_of s) (tenths_where s)
+
+one_good : (A : Type 0) (k v b : List ℕ) → Where (Good A) (with_one k v b)
+one_good A k v b =
+    elim (bool_cases (pointwise nat_eq k (codes "ReportCellSize"))) [
+      | inl a ↦ rw a (cell_good A v b None tt)
+      | inr c ↦ rw c (elim (bool_cases (length v == 0)) [
+        | inl d ↦ rw d (content_good A k b)
+        | inr e ↦ rw e tt
+      ])
+    ]
+
+two_good : (A : Type 0) (k v b c : List ℕ) → Where (Good A) (with_two k v b c)
+two_good A k v b c =
+    elim (bool_cases (pointwise nat_eq k (codes "ReportCellSize"))) [
+      | inl a ↦ rw a (scaled_good A v b c)
+      | inr d ↦ rw d tt
+    ]
+
+bare_good : (A : Type 0) (k : List ℕ) (more : List (List ℕ)) → Where (Good A) (bare k more)
+bare_good A k [] = alone_good A k
+bare_good A k (b ∷ []) = content_good A k b
+bare_good A k (b ∷ c ∷ more) = tt
+
+keyed_good : (A : Type 0) (k v : List ℕ) (more : List (List ℕ)) → IsClearPart v → Where (Good A) (keyed k v more)
+keyed_good A k v [] h = assigned_good A k v h
+keyed_good A k v (b ∷ []) h = one_good A k v b
+keyed_good A k v (b ∷ c ∷ []) h = two_good A k v b c
+keyed_good A k v (b ∷ c ∷ d ∷ more) h = tt
+
+from_good : (A : Type 0) (t : List ℕ) (o : Option (List ℕ × List ℕ)) (more : List (List ℕ)) → Where (λ (e : List ℕ × List ℕ). IsEntry e) o → Where (Good A) (form_from t o more)
+from_good A t None more h = bare_good A t more
+from_good A t (Some e) more h = keyed_good A e.0 e.1 more h.1
+
+form_good : (A : Type 0) (t : List ℕ) (more : List (List ℕ)) → IsClearPart t → Where (Good A) (form_of t more)
+form_good A t more h = from_good A t (key_and_value t) more (key_clear t h)
+
+lossy_good : (A : Type 0) (p : List ℕ) (more : List (List ℕ)) → IsClearPart p → Where (Good A) (form_of (utf8_lossy p) more)
+lossy_good A p more h = let P : List ℕ → Type 0 = λ t. Where (Good A) (form_of t more) in subst P (sym (part_lossy p h)) (form_good A p more h)
+
+where_from : {X : Type 0} (P : X → Type 0) (o : Option X) → ((x : X) → o ≡ Some x → P x) → Where P o
+where_from P None h = tt
+where_from P (Some x) h = h x refl
+
+file_good : (A : Type 0) (args : List (List ℕ)) → Where (Good A) (option_map iterm.File (file_of args))
+file_good A args =
+    where_map (λ (d : ITermFileData A). IsWritableFile {A = A} d) (Good A) iterm.File (λ d q. q) (file_of args)
+    (where_from (λ (d : ITermFileData A). IsWritableFile {A = A} d) (file_of args) (λ d e. file_is_writable args d e))
+
+one_of : (A : Type 0) (b : Bool) (x y : Option (ITermProprietary A)) → Where (Good A) x → Where (Good A) y → Where (Good A) (if b then x else y)
+one_of A true x y h k = h
+one_of A false x y h k = k
+
+iterm_good : (A : Type 0) (args : List (List ℕ)) → AreClearParts args → Where (Good A) (iterm_of args)
+iterm_good A [] h = tt
+iterm_good A (p ∷ more) h =
+    one_of A (starts_with nat_eq p (codes "File=")) (option_map iterm.File (file_of (p ∷ more))) (form_of (utf8_lossy p) more)
+    (file_good A (p ∷ more)) (lossy_good A p more h.0)
+
+pub clear_is_writable : {A : Type 0} (args : List (List ℕ)) → AreClearParts args → (c : ITermProprietary A) → iterm_of args ≡ Some c → IsWritableITerm c
+clear_is_writable {A = A} args h c e = let P : Option (ITermProprietary A) → Type 0 = λ o. Where (Good A) o in subst P e (iterm_good A args h)

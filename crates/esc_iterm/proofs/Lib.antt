@@ -1,0 +1,14 @@
+pub mod Cutting
+pub mod DecodedBytes
+pub mod DimensionsBack
+pub mod FilesBack
+pub mod FilesWritable
+pub mod ITermsBack
+pub mod ITermsClear
+pub mod KeyTexts
+pub mod KeysWritten
+pub mod LossyTexts
+pub mod Pieces
+pub mod ReadPieces
+pub mod TenthsBack
+pub mod VersionsBack

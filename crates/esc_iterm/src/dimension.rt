@@ -1,0 +1,145 @@
+//! The width or the height at which a file is shown.
+ghost use Rattle.std.specs.Prelude.{◌≡◌, ◌*◌, ◌^◌, nat_lt, IsTrue, ◌↔◌, Some};
+ghost use Rattle.std.specs.Option.{ok_or};
+ghost use Rattle.esc_below.specs.Scalars.{when};
+ghost use Rattle.esc_below.specs.declared.error.Error.TheVariants.{Invalid};
+ghost use Rattle.esc_iterm.specs.Dimensions.{dimension_of, dimension_text, percentage, not_negative, pixels_product, FitsPixels, pixels_of};
+ghost use Rattle.esc_iterm.specs.declared.dimension.ITermDimension.TheVariants.{Automatic};
+
+use esc_below::Error;
+use esc_below::scalar::read_i64;
+use std::fmt;
+use std::str::FromStr;
+
+/// The width or the height at which a file is shown (iTerm2's documentation, "Inline Images Protocol").
+///
+/// Its text is `auto`, or a number, with `px` behind it for pixels, `%` for a percentage of the window and nothing for
+/// cells. The number is one of an `i64` in decimal: at least one ASCII digit, with a `-`, a `+` or no sign before them.
+#[derive(Clone, Copy, Debug, PartialEq, Eq)]
+pub enum ITermDimension {
+    /// As large as the file itself is.
+    Automatic,
+    /// So many cells of characters; a negative number is none.
+    Cells(i64),
+    /// So many pixels; a negative number is none.
+    Pixels(i64),
+    /// This percentage of the window, held within 0 to 100.
+    Percent(i64),
+}
+
+/// `Automatic`.
+impl Default for ITermDimension {
+    ghost is_default = { λ d. d ≡ Automatic };
+
+    fn default() -> ITermDimension {
+        ITermDimension::Automatic
+    }
+}
+
+/// Reads the text of a dimension. The error is `Invalid`: it is none. Takes no memory.
+impl FromStr for ITermDimension {
+    type Err = Error;
+
+    ghost from_str_gives = { λ t r. r ≡ ok_or (dimension_of t) Invalid };
+
+    fn from_str(text: &str) -> Result<ITermDimension, Error> {
+        match read_dimension(text.as_bytes()) {
+            Some(dimension) => Ok(dimension),
+            None => Err(Error::Invalid),
+        }
+    }
+}
+
+// The dimension that a text names.
+pub(crate) fn read_dimension(text: &[u8]) -> Option<ITermDimension>
+    ensures { result ≡ dimension_of text.now }
+{
+    if text == b"auto".as_slice() {
+        return Some(ITermDimension::Automatic);
+    }
+    if let Some(number) = text.strip_suffix(b"px".as_slice()) {
+        return Some(ITermDimension::Pixels(read_i64(number)?));
+    }
+    if let Some(number) = text.strip_suffix(b"%".as_slice()) {
+        return Some(ITermDimension::Percent(read_i64(number)?));
+    }
+    Some(ITermDimension::Cells(read_i64(text)?))
+}
+
+/// Writes the text of the dimension, which reads back. Takes no memory, and errs only where the writer behind the
+/// formatter errs.
+impl fmt::Display for ITermDimension {
+    ghost output = { λ d. Some (dimension_text d) };
+
+    fn fmt<W: fmt::Write>(&self, f: &mut fmt::Formatter<W>) -> fmt::Result {
+        match self {
+            ITermDimension::Automatic => f.write_str("auto"),
+            ITermDimension::Cells(number) => write!(f, "{number}"),
+            ITermDimension::Pixels(number) => write!(f, "{number}px"),
+            ITermDimension::Percent(number) => write!(f, "{number}%"),
+        }
+    }
+}
+
+impl ITermDimension {
+    /// How many pixels it is, where a cell has `cell_size` pixels in this direction and the window has `num_cells` cells:
+    /// none where it is automatic; so many times `cell_size` for cells; the number itself for pixels; for a percentage
+    /// that part of the window, rounded down. The caller has seen that it fits, as `fits_pixels` tells. Takes no memory.
+    pub fn to_pixels(&self, cell_size: usize, num_cells: usize) -> Option<usize>
+        requires { FitsPixels self.now cell_size num_cells }
+        ensures { result ≡ pixels_of self.now cell_size num_cells }
+    {
+        match self {
+            ITermDimension::Automatic => None,
+            ITermDimension::Percent(_) => Some(self.product(cell_size, num_cells)? / 100),
+            _ => self.product(cell_size, num_cells),
+        }
+    }
+
+    /// Whether `to_pixels` may be asked with these sizes: whether the product that it needs fits a `usize`, which has 64 bits.
+    /// That is the product of the cells and their size; of a percentage, the number of cells and their size, before it is
+    /// divided by 100. Takes no memory.
+    pub fn fits_pixels(&self, cell_size: usize, num_cells: usize) -> bool
+        ensures { IsTrue result ↔ FitsPixels self.now cell_size num_cells }
+    {
+        self.product(cell_size, num_cells).is_some()
+    }
+
+    // The product that has to fit, where it does.
+    fn product(&self, cell_size: usize, num_cells: usize) -> Option<usize>
+        ensures { result ≡ when (nat_lt (pixels_product self.now cell_size num_cells) (2 ^ 64)) (pixels_product self.now cell_size num_cells) }
+    {
+        match self {
+            ITermDimension::Automatic => Some(0),
+            ITermDimension::Cells(number) => not_negative(*number).checked_mul(cell_size),
+            ITermDimension::Pixels(number) => Some(not_negative(*number)),
+            ITermDimension::Percent(number) => {
+                product_of_three(percentage(*number), num_cells, cell_size)
+            }
+        }
+    }
+}
+
+// The number, or 0 where it is negative.
+fn not_negative(number: i64) -> usize
+    ensures { result ≡ not_negative number }
+{
+    if number < 0 { 0 } else { number as usize }
+}
+
+// The number, held within 0 to 100.
+fn percentage(number: i64) -> usize
+    ensures { result ≡ percentage number }
+{
+    not_negative(number).min(100)
+}
+
+// The product, where it fits. The product of the first two may not fit where the whole is 0.
+fn product_of_three(a: usize, b: usize, c: usize) -> Option<usize>
+    ensures { result ≡ when (nat_lt (a * b * c) (2 ^ 64)) (a * b * c) }
+{
+    if c == 0 {
+        return Some(0);
+    }
+    a.checked_mul(b)?.checked_mul(c)
+}

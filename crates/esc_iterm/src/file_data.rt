@@ -1,0 +1,64 @@
+//! Files that are sent to the terminal.
+ghost use Rattle.std.specs.Prelude.{◌≡◌, IfOk, map, Some};
+ghost use Rattle.esc_iterm.specs.Files.{file_of, file_text};
+
+use crate::dimension::ITermDimension;
+use crate::read_file::read_file;
+use crate::write_file::{write_content, write_keys};
+use esc_below::{Items, Text};
+use std::alloc::{AllocError, Allocator, Global};
+use std::fmt;
+
+/// A file that is sent to the terminal, to be stored or shown (iTerm2's documentation, "Inline Images Protocol").
+#[derive(Drop)]
+#[derive_where(Debug, PartialEq, Eq)]
+pub struct ITermFileData<A: Allocator = Global> {
+    /// Its name, where one is told.
+    pub name: Option<Text<A>>,
+    /// Its size in bytes, where it is told. It need not be that of the content.
+    pub size: Option<usize>,
+    /// The width at which it is shown.
+    pub width: ITermDimension,
+    /// The height at which it is shown.
+    pub height: ITermDimension,
+    /// Whether its width and height keep their ratio.
+    pub preserve_aspect_ratio: bool,
+    /// Whether it is shown. Where it is not, it is stored.
+    pub inline: bool,
+    /// Whether the cursor stays where it is.
+    pub do_not_move_cursor: bool,
+    /// What it holds.
+    pub content: Items<u8, A>,
+}
+
+impl<A: Allocator + Copy> ITermFileData<A> {
+    /// Reads a file from the parts of an operating system command behind its code `1337`; none where they tell no file.
+    /// The error is that memory was refused.
+    ///
+    /// The first part begins with `File=`. The pieces are what stands behind that, and each further part. The last piece
+    /// has a `:`, and behind its first `:` the content in base64; before it, and in each other piece, stands a key with its
+    /// value behind the first `=`, as texts. An empty piece is skipped, and so is a last piece without `=`. Of a key that comes
+    /// more than once the last value counts; unknown keys are skipped.
+    ///
+    /// `name` is a base64 text, `size` a number, `width` and `height` are dimensions; one that cannot be read counts as
+    /// absent. `preserveAspectRatio` is true unless it is `0`; `inline` and `doNotMoveCursor` are true where they are there and
+    /// not `0`.
+    pub fn parse(alloc: A, args: &[&[u8]]) -> Result<Option<Self>, AllocError>
+        ensures { IfOk result (λ f. f ≡ file_of (map (λ p. p.now) args.now)) }
+    {
+        read_file(alloc, args)
+    }
+}
+
+/// Writes `File=`; the keys `size`, `name`, `width`, `height`, `preserveAspectRatio`, `inline` and `doNotMoveCursor` with
+/// their values, `;` between them, in this order and each only where its value differs from what it is without the key;
+/// `:`, and the content in base64. Takes no memory, and errs only where the writer behind the formatter errs.
+impl<A: Allocator> fmt::Display for ITermFileData<A> {
+    ghost output = { λ f. Some (file_text f) };
+
+    fn fmt<W: fmt::Write>(&self, f: &mut fmt::Formatter<W>) -> fmt::Result {
+        f.write_str("File=")?;
+        write_keys(self, f)?;
+        write_content(&self.content, f)
+    }
+}

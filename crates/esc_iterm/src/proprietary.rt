@@ -1,0 +1,58 @@
+//! iTerm2's proprietary commands.
+use crate::boxed::Boxed;
+use crate::file_data::ITermFileData;
+use crate::unicode_version::ITermUnicodeVersionOp;
+use esc_below::Text;
+use std::alloc::{Allocator, Global};
+
+/// A proprietary command of iTerm2: the operating system command 1337 (iTerm2's documentation, "Proprietary Escape
+/// Codes").
+#[derive(Drop)]
+#[derive_where(Debug, PartialEq, Eq)]
+pub enum ITermProprietary<A: Allocator = Global> {
+    /// Marks this line, so that it can be jumped back to.
+    SetMark,
+    /// Brings the window to the front.
+    StealFocus,
+    /// Forgets the lines that have scrolled off.
+    ClearScrollback,
+    /// Tells the directory that the shell works in.
+    CurrentDir(Text<A>),
+    /// Changes the session's profile to that of this name.
+    SetProfile(Text<A>),
+    /// Puts the text that follows, up to `EndCopy`, into this pasteboard: `rule`, `find`, `font`, or the general one
+    /// where the name is empty.
+    CopyToClipboard(Text<A>),
+    /// Ends the text that `CopyToClipboard` began.
+    EndCopy,
+    /// Whether the line of the cursor is highlighted.
+    HighlightCursorLine(bool),
+    /// Asks for the size of a cell.
+    RequestCellSize,
+    /// Tells the size of a cell.
+    ReportCellSize {
+        /// The height of a cell, in tenths of a pixel.
+        height_pixels: u32,
+        /// The width of a cell, in tenths of a pixel.
+        width_pixels: u32,
+        /// How many pixels of the display a pixel is, in tenths; none where it was not told.
+        scale: Option<u32>,
+    },
+    /// Puts this text into the general pasteboard. Written in base64.
+    Copy(Text<A>),
+    /// Asks for the value of the variable of this name. Written in base64; it has no reading.
+    ReportVariable(Text<A>),
+    /// Sets a variable.
+    SetUserVar {
+        /// The name of the variable. One that reads back has no `=`.
+        name: Text<A>,
+        /// Its value. Written in base64.
+        value: Text<A>,
+    },
+    /// Sets the format of the session's badge. Written in base64.
+    SetBadgeFormat(Text<A>),
+    /// A file to download, or a picture to show.
+    File(Boxed<ITermFileData<A>, A>),
+    /// Sets, keeps or brings back the version of Unicode by which characters have their widths.
+    UnicodeVersion(ITermUnicodeVersionOp<A>),
+}

@@ -1,0 +1,266 @@
+//! How the parts behind the code are read.
+ghost use Rattle.std.specs.Prelude.{◌≡◌, IfOk, map, Some, None};
+ghost use Rattle.std.specs.Str.{IsUtf8};
+ghost use Rattle.std.specs.Str.Lossy.{utf8_lossy};
+ghost use Rattle.esc_iterm.specs.ITerms.{alone, assigned, bare, cell_size, content_of, form_of, highlight_of, iterm_of, keyed, scaled_size, variable_of, with_one, with_two};
+ghost use Rattle.std.specs.Option.{option_map};
+ghost use Rattle.esc_iterm.specs.Files.{file_of};
+ghost use Rattle.esc_iterm.specs.declared.proprietary.ITermProprietary.TheVariants as iterm;
+
+use crate::boxed::Boxed;
+use crate::file_data::ITermFileData;
+use crate::proprietary::ITermProprietary;
+use crate::read_version::read_version;
+use crate::tenths::read_tenths;
+use esc_below::Text;
+use esc_below::base64_text::read_base64_text;
+use esc_below::cut::key_and_value;
+use esc_below::scalar::text_in;
+use std::alloc::{AllocError, Allocator};
+
+impl<A: Allocator + Copy> ITermProprietary<A> {
+    /// The command that the parts behind the code `1337` mean, where they fit one. The error is that memory was
+    /// refused.
+    pub fn parse(alloc: A, args: &[&[u8]]) -> Result<Option<ITermProprietary<A>>, AllocError>
+        ensures { IfOk result (λ c. c ≡ iterm_of (map (λ p. p.now) args.now)) }
+    {
+        let Some((first, more)) = args.split_first() else {
+            return Ok(None);
+        };
+        if first.starts_with(b"File=") {
+            return read_file(alloc, args);
+        }
+        read_lossy(alloc, first, more)
+    }
+}
+
+// A file.
+fn read_file<A: Allocator + Copy>(
+    alloc: A,
+    args: &[&[u8]],
+) -> Result<Option<ITermProprietary<A>>, AllocError>
+    ensures { IfOk result (λ c. c ≡ option_map iterm.File (file_of (map (λ p. p.now) args.now))) }
+{
+    match ITermFileData::parse(alloc, args)? {
+        Some(file) => Ok(Some(ITermProprietary::File(Boxed::new(alloc, file)?))),
+        None => Ok(None),
+    }
+}
+
+// Every other form, of the lossy text of the first part and the parts behind it.
+fn read_lossy<A: Allocator + Copy>(
+    alloc: A,
+    first: &[u8],
+    more: &[&[u8]],
+) -> Result<Option<ITermProprietary<A>>, AllocError>
+    ensures { IfOk result (λ c. c ≡ form_of (utf8_lossy first.now) (map (λ p. p.now) more.now)) }
+{
+    match text_in(first) {
+        Some(text) => read_form(alloc, text, more),
+        None => {
+            let text = String::from_utf8_lossy(alloc, first)?;
+            read_form(alloc, text.as_str(), more)
+        }
+    }
+}
+
+// Every other form, of the first part as a text and the parts behind it.
+fn read_form<A: Allocator + Copy>(
+    alloc: A,
+    first: &str,
+    more: &[&[u8]],
+) -> Result<Option<ITermProprietary<A>>, AllocError>
+    ensures { IfOk result (λ c. c ≡ form_of first.now (map (λ p. p.now) more.now)) }
+{
+    match key_and_value(first.as_bytes()) {
+        Some((key, value)) => read_keyed(alloc, key, value, more),
+        None => read_bare(alloc, first, more),
+    }
+}
+
+// A first part without `=`, and the parts behind it.
+fn read_bare<A: Allocator + Copy>(
+    alloc: A,
+    key: &str,
+    more: &[&[u8]],
+) -> Result<Option<ITermProprietary<A>>, AllocError>
+    ensures { IfOk result (λ c. c ≡ bare key.now (map (λ p. p.now) more.now)) }
+{
+    let Some((content, rest)) = more.split_first() else {
+        return Ok(read_alone(key));
+    };
+    if !rest.is_empty() {
+        return Ok(None);
+    }
+    read_content(alloc, key, content)
+}
+
+// A keyword alone.
+fn read_alone<A: Allocator>(key: &str) -> Option<ITermProprietary<A>>
+    ensures { result ≡ alone key.now }
+{
+    match key {
+        "SetMark" => Some(ITermProprietary::SetMark),
+        "StealFocus" => Some(ITermProprietary::StealFocus),
+        "ClearScrollback" => Some(ITermProprietary::ClearScrollback),
+        "EndCopy" => Some(ITermProprietary::EndCopy),
+        "ReportCellSize" => Some(ITermProprietary::RequestCellSize),
+        _ => None,
+    }
+}
+
+// A first part with `=`, cut there, and the parts behind it.
+fn read_keyed<A: Allocator + Copy>(
+    alloc: A,
+    key: &str,
+    value: &str,
+    more: &[&[u8]],
+) -> Result<Option<ITermProprietary<A>>, AllocError>
+    ensures { IfOk result (λ c. c ≡ keyed key.now value.now (map (λ p. p.now) more.now)) }
+{
+    let Some((second, rest)) = more.split_first() else {
+        return read_assigned(alloc, key, value);
+    };
+    let Some((third, last)) = rest.split_first() else {
+        return read_with_one(alloc, key, value, second);
+    };
+    if !last.is_empty() {
+        return Ok(None);
+    }
+    Ok(read_with_two(key, value, second, third))
+}
+
+// A keyword and its argument in one part.
+fn read_assigned<A: Allocator + Copy>(
+    alloc: A,
+    key: &str,
+    value: &str,
+) -> Result<Option<ITermProprietary<A>>, AllocError>
+    ensures { IfOk result (λ c. c ≡ assigned key.now value.now) }
+{
+    match key {
+        "HighlightCursorLine" => Ok(read_highlight(value)),
+        "CurrentDir" => {
+            let path = Text::from_str(alloc, value)?;
+            Ok(Some(ITermProprietary::CurrentDir(path)))
+        }
+        "SetProfile" => {
+            let profile = Text::from_str(alloc, value)?;
+            Ok(Some(ITermProprietary::SetProfile(profile)))
+        }
+        "CopyToClipboard" => {
+            let name = Text::from_str(alloc, value)?;
+            Ok(Some(ITermProprietary::CopyToClipboard(name)))
+        }
+        "SetBadgeFormat" => {
+            let format = read_base64_text(alloc, value.as_bytes())?;
+            Ok(format.map(|t| ITermProprietary::SetBadgeFormat(t)))
+        }
+        "SetUserVar" => read_variable(alloc, value),
+        "UnicodeVersion" => {
+            let version = read_version(alloc, value.as_bytes())?;
+            Ok(version.map(|v| ITermProprietary::UnicodeVersion(v)))
+        }
+        _ => Ok(None),
+    }
+}
+
+// `yes` or `no`.
+fn read_highlight<A: Allocator>(value: &str) -> Option<ITermProprietary<A>>
+    ensures { result ≡ highlight_of value.now }
+{
+    match value {
+        "yes" => Some(ITermProprietary::HighlightCursorLine(true)),
+        "no" => Some(ITermProprietary::HighlightCursorLine(false)),
+        _ => None,
+    }
+}
+
+// The name of a variable and its value in base64.
+fn read_variable<A: Allocator + Copy>(
+    alloc: A,
+    text: &str,
+) -> Result<Option<ITermProprietary<A>>, AllocError>
+    ensures { IfOk result (λ c. c ≡ variable_of text.now) }
+{
+    let Some((name, value)) = key_and_value(text.as_bytes()) else {
+        return Ok(None);
+    };
+    let Some(value) = read_base64_text(alloc, value.as_bytes())? else {
+        return Ok(None);
+    };
+    let name = Text::from_str(alloc, name)?;
+    Ok(Some(ITermProprietary::SetUserVar { name, value }))
+}
+
+// A keyword and its argument in the first part, and one part more.
+fn read_with_one<A: Allocator + Copy>(
+    alloc: A,
+    key: &str,
+    value: &str,
+    second: &[u8],
+) -> Result<Option<ITermProprietary<A>>, AllocError>
+    ensures { IfOk result (λ c. c ≡ with_one key.now value.now second.now) }
+{
+    if key == "ReportCellSize" {
+        return Ok(read_cell_size(value.as_bytes(), second, None));
+    }
+    if !value.is_empty() {
+        return Ok(None);
+    }
+    read_content(alloc, key, second)
+}
+
+// A keyword, and a base64 text in the next part.
+fn read_content<A: Allocator + Copy>(
+    alloc: A,
+    key: &str,
+    content: &[u8],
+) -> Result<Option<ITermProprietary<A>>, AllocError>
+    ensures { IfOk result (λ c. c ≡ content_of key.now content.now) }
+{
+    match key {
+        "Copy" => {
+            let content = read_base64_text(alloc, content)?;
+            Ok(content.map(|t| ITermProprietary::Copy(t)))
+        }
+        "SetBadgeFormat" => {
+            let format = read_base64_text(alloc, content)?;
+            Ok(format.map(|t| ITermProprietary::SetBadgeFormat(t)))
+        }
+        _ => Ok(None),
+    }
+}
+
+// A keyword and its argument in the first part, and two parts more.
+fn read_with_two<A: Allocator>(
+    key: &str,
+    value: &str,
+    second: &[u8],
+    third: &[u8],
+) -> Option<ITermProprietary<A>>
+    ensures { result ≡ with_two key.now value.now second.now third.now }
+{
+    if key != "ReportCellSize" {
+        return None;
+    }
+    let scale = read_tenths(third)?;
+    read_cell_size(value.as_bytes(), second, Some(scale))
+}
+
+// A height, a width and the scale that was found.
+fn read_cell_size<A: Allocator>(
+    height: &[u8],
+    width: &[u8],
+    scale: Option<u32>,
+) -> Option<ITermProprietary<A>>
+    ensures { result ≡ cell_size height.now width.now scale }
+{
+    let height_pixels = read_tenths(height)?;
+    let width_pixels = read_tenths(width)?;
+    Some(ITermProprietary::ReportCellSize {
+        height_pixels,
+        width_pixels,
+        scale,
+    })
+}

@@ -1,0 +1,142 @@
+//! How files are read.
+ghost use Rattle.std.specs.Prelude.{◌≡◌, ℕ, List, ◌∷◌, IfOk, map};
+ghost use Rattle.std.specs.Option.{option_map};
+ghost use Rattle.esc_below.specs.Base64.{base64_text_of};
+ghost use Rattle.esc_below.specs.Scalars.{and_then, number_of};
+ghost use Rattle.esc_iterm.specs.Files.{Values, file_of, file_with, is_set, last_pairs, piece_pairs, size_in, values_behind, values_of};
+ghost use Rattle.esc_iterm.specs.Keys.{values};
+
+use crate::dimension::{ITermDimension, read_dimension};
+use crate::file_data::ITermFileData;
+use crate::file_keys::FileKeys;
+use esc_below::base64_text::{read_base64, read_base64_text};
+use esc_below::cut::{cut, key_and_value};
+use esc_below::scalar::read_usize;
+use esc_below::{Items, Text};
+use std::alloc::{AllocError, Allocator};
+
+// The file that the parts behind the code tell.
+pub(crate) fn read_file<A: Allocator + Copy>(
+    alloc: A,
+    args: &[&[u8]],
+) -> Result<Option<ITermFileData<A>>, AllocError>
+    ensures { IfOk result (λ f. f ≡ file_of (map (λ p. p.now) args.now)) }
+{
+    let Some((first, rest)) = args.split_first() else {
+        return Ok(None);
+    };
+    if !first.starts_with(b"File=".as_slice()) {
+        return Ok(None);
+    }
+    let Some((keys, content)) = read_pieces(&first[5..], rest) else {
+        return Ok(None);
+    };
+    make_file(alloc, keys, content)
+}
+
+// The values of the keys, and what stands behind the first `:` of the last piece.
+fn read_pieces<'a>(first: &'a [u8], rest: &[&'a [u8]]) -> Option<(FileKeys<'a>, &'a [u8])>
+    ensures { option_map {U = Values × List ℕ} (λ r. (values r.0, r.1.now)) result ≡ values_of (first.now ∷ map (λ p. p.now) rest.now) }
+{
+    let mut keys = FileKeys {
+        name: None,
+        size: None,
+        width: None,
+        height: None,
+        preserve_aspect_ratio: None,
+        inline: None,
+        do_not_move_cursor: None,
+    };
+    let mut piece = first;
+    for next in rest {
+        keys = read_piece(keys, piece)?;
+        piece = next;
+    }
+    let (piece, content) = cut(piece, b':')?;
+    Some((read_last(keys, piece)?, content))
+}
+
+// The values, and those of a piece before the last.
+fn read_piece<'a>(keys: FileKeys<'a>, piece: &'a [u8]) -> Option<FileKeys<'a>>
+    ensures { option_map values result ≡ option_map (values_behind (values keys.entry)) (piece_pairs piece.now) }
+{
+    if piece.is_empty() {
+        return Some(keys);
+    }
+    let (key, value) = key_and_value(piece)?;
+    Some(keys.with(key, value))
+}
+
+// The values, and those of the last piece.
+fn read_last<'a>(keys: FileKeys<'a>, piece: &'a [u8]) -> Option<FileKeys<'a>>
+    ensures { option_map values result ≡ option_map (values_behind (values keys.entry)) (last_pairs piece.now) }
+{
+    if cut(piece, b'=').is_none() {
+        return Some(keys);
+    }
+    let (key, value) = key_and_value(piece)?;
+    Some(keys.with(key, value))
+}
+
+// The file of these values, where the content is base64.
+fn make_file<A: Allocator + Copy>(
+    alloc: A,
+    keys: FileKeys<'_>,
+    content: &[u8],
+) -> Result<Option<ITermFileData<A>>, AllocError>
+    ensures { IfOk result (λ f. f ≡ file_with (values keys.entry) content.now) }
+{
+    let Some(content) = read_base64(alloc, content)? else {
+        return Ok(None);
+    };
+    Ok(Some(ITermFileData {
+        name: read_name(alloc, keys.name)?,
+        size: read_size(keys.size),
+        width: read_dimension_in(keys.width),
+        height: read_dimension_in(keys.height),
+        preserve_aspect_ratio: is_set(true, keys.preserve_aspect_ratio),
+        inline: is_set(false, keys.inline),
+        do_not_move_cursor: is_set(false, keys.do_not_move_cursor),
+        content: Items::from_vec(content),
+    }))
+}
+
+// The text of a name, where there is one in base64.
+fn read_name<A: Allocator>(alloc: A, value: Option<&str>) -> Result<Option<Text<A>>, AllocError>
+    ensures { IfOk result (λ t. t ≡ and_then (option_map (λ v. v.now) value.entry) base64_text_of) }
+{
+    match value {
+        Some(value) => read_base64_text(alloc, value.as_bytes()),
+        None => Ok(None),
+    }
+}
+
+// The size, where there is one that can be read.
+fn read_size(value: Option<&str>) -> Option<usize>
+    ensures { result ≡ and_then (option_map (λ v. v.now) value.entry) (number_of 64) }
+{
+    read_usize(value?.as_bytes())
+}
+
+// The dimension, automatic where there is none that can be read.
+fn read_dimension_in(value: Option<&str>) -> ITermDimension
+    ensures { result ≡ size_in (option_map (λ v. v.now) value.entry) }
+{
+    let Some(value) = value else {
+        return ITermDimension::Automatic;
+    };
+    match read_dimension(value.as_bytes()) {
+        Some(dimension) => dimension,
+        None => ITermDimension::Automatic,
+    }
+}
+
+// Whether a value is not `0`, where there is one.
+fn is_set(without: bool, value: Option<&str>) -> bool
+    ensures { result ≡ is_set without (option_map (λ v. v.now) value.entry) }
+{
+    match value {
+        Some(value) => value != "0",
+        None => without,
+    }
+}

@@ -1,0 +1,67 @@
+//! Tenths: numbers with one digit behind the point.
+ghost use Rattle.std.specs.Prelude.{◌≡◌, ◌<◌, IfSome, Some};
+ghost use Rattle.esc_below.specs.Scalars.{number_in};
+ghost use Rattle.esc_iterm.specs.Tenths.{tenth_of, tenths_in, tenths_of, tenths_text};
+
+use esc_below::cut::cut;
+use esc_below::scalar::read_u32;
+use std::fmt;
+
+/// The tenths that these bytes write, where they fit: at least one ASCII digit, then perhaps a point with at most one
+/// digit behind it, and nothing else. `12`, `12.` and `12.0` are 120.
+pub fn read_tenths(text: &[u8]) -> Option<u32>
+    ensures { result ≡ tenths_of text.now }
+{
+    match cut(text, b'.') {
+        Some((whole, tenth)) => read_pieces(whole, tenth),
+        None => read_pieces(text, b""),
+    }
+}
+
+// The tenths of the digits before the point and what stands behind it.
+fn read_pieces(whole: &[u8], tenth: &[u8]) -> Option<u32>
+    ensures { result ≡ tenths_in whole.now tenth.now }
+{
+    let whole = read_digits(whole)?;
+    let tenth = read_tenth(tenth)?;
+    let tenths = 10 * u64::from(whole) + u64::from(tenth);
+    u32::try_from(tenths).ok()
+}
+
+// The number of at least one digit, where it fits.
+fn read_digits(digits: &[u8]) -> Option<u32>
+    ensures { result ≡ number_in 32 digits.now }
+{
+    if digits.starts_with(b"+") {
+        return None;
+    }
+    read_u32(digits)
+}
+
+// One digit, or none.
+fn read_tenth(digits: &[u8]) -> Option<u32>
+    ensures value { result ≡ tenth_of digits.now }
+    ensures digit { IfSome result (λ d. d < 10) }
+{
+    let Some((digit, rest)) = digits.split_first() else {
+        return Some(0);
+    };
+    if !rest.is_empty() || *digit < b'0' || *digit > b'9' {
+        return None;
+    }
+    Some(u32::from(*digit - b'0'))
+}
+
+/// Tenths, that print with one digit behind the point. Takes no memory.
+#[derive(Clone, Copy)]
+pub struct Tenths(pub u32);
+
+impl fmt::Display for Tenths {
+    ghost output = { λ n. Some (tenths_text n.0) };
+
+    fn fmt<W: fmt::Write>(&self, f: &mut fmt::Formatter<W>) -> fmt::Result {
+        let whole = self.0 / 10;
+        let tenth = self.0 % 10;
+        write!(f, "{whole}.{tenth}")
+    }
+}

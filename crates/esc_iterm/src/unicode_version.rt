@@ -1,0 +1,37 @@
+//! The version of Unicode whose widths are used.
+ghost use Rattle.std.specs.Prelude.{Some, ◌++◌, codes};
+ghost use Rattle.std.specs.Fmt.{DisplaysOnOk};
+ghost use Rattle.esc_iterm.specs.Versions.{label_text, version_text};
+
+use esc_below::Text;
+use std::alloc::{Allocator, Global};
+use std::fmt;
+
+/// What is done to the version of Unicode by which characters have their widths (iTerm2's documentation, "Unicode
+/// Version").
+#[derive(Drop)]
+#[derive_where(Debug, PartialEq, Eq)]
+pub enum ITermUnicodeVersionOp<A: Allocator = Global> {
+    /// Sets the version.
+    Set(u8),
+    /// Keeps the version on a stack, under a label where there is one.
+    Push(Option<Text<A>>),
+    /// Sets the version that was kept last, or that under the label, and drops what was kept since.
+    Pop(Option<Text<A>>),
+}
+
+/// Writes the number, or `push` or `pop`, with a space and the label where there is one. Takes no memory, and errs only
+/// where the writer behind the formatter errs.
+impl<A: Allocator> fmt::Display for ITermUnicodeVersionOp<A> {
+    ghost output = { λ v. Some (version_text v) };
+
+    fn fmt<W: fmt::Write>(&self, f: &mut fmt::Formatter<W>) -> fmt::Result {
+        match self {
+            ITermUnicodeVersionOp::Set(number) => write!(f, "{number}"),
+            ITermUnicodeVersionOp::Push(None) => f.write_str("push"),
+            ITermUnicodeVersionOp::Push(Some(label)) => write!(f, "push {label}"),
+            ITermUnicodeVersionOp::Pop(None) => f.write_str("pop"),
+            ITermUnicodeVersionOp::Pop(Some(label)) => write!(f, "pop {label}"),
+        }
+    }
+}

@@ -1,0 +1,90 @@
+//! The texts of iTerm2's proprietary commands.
+ghost use Rattle.std.specs.Prelude.{Some, ◌∷◌, ◌++◌, codes};
+ghost use Rattle.std.specs.Fmt.{DisplaysOnOk};
+ghost use Rattle.esc_iterm.specs.ITerms.{form_text, iterm_text, scale_text};
+ghost use Rattle.esc_iterm.specs.Tenths.{tenths_text};
+
+use crate::encoded_text::EncodedText;
+use crate::proprietary::ITermProprietary;
+use crate::tenths::Tenths;
+use std::alloc::Allocator;
+use std::fmt;
+use std::fmt::Display;
+
+/// Writes what stands between `ESC ]` and the terminator: `1337;` and the form of the command. Takes no memory, and errs
+/// only where the writer behind the formatter errs.
+impl<A: Allocator> fmt::Display for ITermProprietary<A> {
+    ghost output = { λ c. Some (iterm_text c) };
+
+    fn fmt<W: fmt::Write>(&self, f: &mut fmt::Formatter<W>) -> fmt::Result {
+        f.write_str("1337;")?;
+        write_form(self, f)
+    }
+}
+
+// What stands behind the code.
+fn write_form<W: fmt::Write, A: Allocator>(
+    command: &ITermProprietary<A>,
+    f: &mut fmt::Formatter<W>,
+) -> fmt::Result
+    ensures { DisplaysOnOk W.write_str_gives f.old result (Some (form_text command.now)) f.new }
+{
+    match command {
+        ITermProprietary::SetMark => f.write_str("SetMark"),
+        ITermProprietary::StealFocus => f.write_str("StealFocus"),
+        ITermProprietary::ClearScrollback => f.write_str("ClearScrollback"),
+        ITermProprietary::CurrentDir(path) => write!(f, "CurrentDir={path}"),
+        ITermProprietary::SetProfile(profile) => write!(f, "SetProfile={profile}"),
+        ITermProprietary::CopyToClipboard(name) => write!(f, "CopyToClipboard={name}"),
+        ITermProprietary::EndCopy => f.write_str("EndCopy"),
+        ITermProprietary::HighlightCursorLine(true) => f.write_str("HighlightCursorLine=yes"),
+        ITermProprietary::HighlightCursorLine(false) => f.write_str("HighlightCursorLine=no"),
+        ITermProprietary::RequestCellSize => f.write_str("ReportCellSize"),
+        ITermProprietary::ReportCellSize {
+            height_pixels,
+            width_pixels,
+            scale,
+        } => {
+            let height = Tenths(*height_pixels);
+            let width = Tenths(*width_pixels);
+            let scale = Scale(*scale);
+            write!(f, "ReportCellSize={height};{width}{scale}")
+        }
+        ITermProprietary::Copy(content) => {
+            let content = EncodedText(content);
+            write!(f, "Copy=;{content}")
+        }
+        ITermProprietary::ReportVariable(name) => {
+            let name = EncodedText(name);
+            write!(f, "ReportVariable={name}")
+        }
+        ITermProprietary::SetUserVar { name, value } => {
+            let value = EncodedText(value);
+            write!(f, "SetUserVar={name}={value}")
+        }
+        ITermProprietary::SetBadgeFormat(format) => {
+            let format = EncodedText(format);
+            write!(f, "SetBadgeFormat={format}")
+        }
+        ITermProprietary::File(file) => file.as_ref().fmt(f),
+        ITermProprietary::UnicodeVersion(version) => write!(f, "UnicodeVersion={version}"),
+    }
+}
+
+// A scale, that prints behind a `;`, where there is one.
+#[derive(Clone, Copy)]
+struct Scale(Option<u32>);
+
+impl fmt::Display for Scale {
+    ghost output = { λ s. Some (scale_text s.0) };
+
+    fn fmt<W: fmt::Write>(&self, f: &mut fmt::Formatter<W>) -> fmt::Result {
+        match self.0 {
+            None => Ok(()),
+            Some(scale) => {
+                let scale = Tenths(scale);
+                write!(f, ";{scale}")
+            }
+        }
+    }
+}

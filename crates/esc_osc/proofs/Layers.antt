@@ -1,0 +1,89 @@
+-- Links, prompts and commands of iTerm2, by the laws of the crates that read and write them.
+use Rattle.std.proofs.Common.{ℕ, ◌≡◌, ◌≢◌, List, [], ◌∷◌, codes, Option, Some, None, refl, sym, ap, ◌∙◌}
+use Rattle.std.specs.Option.{option_map, unwrap_or}
+use Rattle.esc_below.specs.Clear.{IsClearText, IsClearPart, AreClearParts, AreTextParts, parts_of}
+use Rattle.esc_below.specs.Hyperlinks.{link_of, link_text}
+use Rattle.esc_below.specs.declared.hyperlink.Hyperlink.{Hyperlink}
+use Rattle.esc_below.proofs.LinksBack.{link_back, link_parts}
+use Rattle.esc_below.proofs.Split.{text_parts}
+use Rattle.esc_below.proofs.Where.{Where}
+use Rattle.esc_iterm.specs.ITerms.{iterm_of}
+use Rattle.esc_iterm.specs.WritableITerms.{IsWritableITerm}
+use Rattle.esc_iterm.specs.declared.proprietary.ITermProprietary.{ITermProprietary}
+use Rattle.esc_iterm.proofs.ITermsBack as iterms_back
+use Rattle.esc_iterm.proofs.ITermsClear as iterms_clear
+use Rattle.esc_prompts.specs.Prompts.{prompt_of, IsWritablePrompt}
+use Rattle.esc_prompts.specs.declared.prompt.FinalTermSemanticPrompt.{FinalTermSemanticPrompt}
+use Rattle.esc_prompts.proofs.ClearArgs as prompts_clear
+use Rattle.esc_prompts.proofs.ReadsBack as prompts_back
+use Rattle.esc_osc.proofs.Written.{Written, code_means}
+use Rattle.esc_osc.specs.Codes.{code_text}
+use Rattle.esc_osc.specs.Reading.{meaning, reading}
+use Rattle.esc_osc.specs.Writable.{IsWritable}
+use Rattle.esc_osc.specs.declared.code.OperatingSystemCommandCode.TheVariants as code
+use Rattle.esc_osc.specs.declared.command.OperatingSystemCommand.{OperatingSystemCommand}
+use Rattle.esc_osc.specs.declared.command.OperatingSystemCommand.TheVariants as command
+
+-- a writable command
+abbrev pub Good : (A : Type 0) → OperatingSystemCommand A → Type 0
+Good A c = IsWritable {A = A} c
+
+-- prompts
+pub prompted : (A : Type 0) (p : FinalTermSemanticPrompt A) → IsWritablePrompt p → Written A (command.FinalTermSemanticPrompt p)
+prompted A p h = let w = prompts_back.writes_back p h in record {
+  code = code.FinalTermSemanticPrompt;
+  args = w.0;
+  text = w.1;
+  clear = w.2;
+  reads = ap (option_map command.FinalTermSemanticPrompt) w.3;
+}
+
+prompt_from : (A : Type 0) (args : List (List ℕ)) → AreClearParts args → (o : Option (FinalTermSemanticPrompt A)) → prompt_of args ≡ o
+    → Where (Good A) (option_map command.FinalTermSemanticPrompt o)
+prompt_from A args k None e = tt
+prompt_from A args k (Some p) e = prompts_clear.clear_is_writable args k p e
+
+pub prompt_good : (A : Type 0) (args : List (List ℕ)) → AreClearParts args → Where (Good A) (option_map command.FinalTermSemanticPrompt (prompt_of args))
+prompt_good A args k = prompt_from A args k (prompt_of args) refl
+
+-- commands of iTerm2
+pub proprietary : (A : Type 0) (c : ITermProprietary A) → IsWritableITerm c → Written A (command.ITermProprietary c)
+proprietary A c h = let w = iterms_back.writes_back c h in record {
+  code = code.ITermProprietary;
+  args = w.0;
+  text = w.1;
+  clear = w.2;
+  reads = ap (option_map command.ITermProprietary) w.3;
+}
+
+iterm_from : (A : Type 0) (args : List (List ℕ)) → AreClearParts args → (o : Option (ITermProprietary A)) → iterm_of args ≡ o
+    → Where (Good A) (option_map command.ITermProprietary o)
+iterm_from A args k None e = tt
+iterm_from A args k (Some c) e = iterms_clear.clear_is_writable args k c e
+
+pub iterm_good : (A : Type 0) (args : List (List ℕ)) → AreClearParts args → Where (Good A) (option_map command.ITermProprietary (iterm_of args))
+iterm_good A args k = iterm_from A args k (iterm_of args) refl
+
+-- links
+link_means : (A : Type 0) (v : Option (Hyperlink A)) (args : List (List ℕ)) → parts_of (link_text v) ≡ code_text code.SetHyperlink ∷ args
+    → link_of (parts_of (link_text v)) ≡ Some v → meaning (parts_of (link_text v)) ≡ command.SetHyperlink v
+link_means A v args is reads =
+    let back : link_of (code_text code.SetHyperlink ∷ args) ≡ Some v = ap link_of (sym is) ∙ reads in
+    ap (meaning {A = A}) is
+    ∙ ap (λ r. unwrap_or r (command.Unspecified (code_text code.SetHyperlink ∷ args))) (code_means code.SetHyperlink args ∙ ap (option_map command.SetHyperlink) back)
+
+pub linked : (A : Type 0) (v : Option (Hyperlink A)) → IsClearText (link_text v) → link_of (parts_of (link_text v)) ≡ Some v
+    → meaning (parts_of (link_text v)) ≡ command.SetHyperlink v
+linked A v clear reads =
+    let p = link_parts (parts_of (link_text v)) (text_parts (link_text v) clear) v reads in
+    link_means A v (p.0 ∷ p.1 ∷ []) p.3 reads
+
+link_from : (A : Type 0) (ps : List (List ℕ)) → AreTextParts ps → (o : Option (Option (Hyperlink A))) → link_of ps ≡ o
+    → Where (Good A) (option_map command.SetHyperlink o)
+link_from A ps h None e = tt
+link_from A ps h (Some v) e = link_back ps h v e
+
+pub link_good : (A : Type 0) (t : List ℕ) (args : List (List ℕ)) → IsClearPart t → AreClearParts args
+    → Where (Good A) (option_map command.SetHyperlink (link_of (t ∷ args)))
+link_good A t [] h k = tt
+link_good A t (a ∷ more) h k = link_from A (t ∷ a ∷ more) ((h, k), λ e. cc) (link_of (t ∷ a ∷ more)) refl

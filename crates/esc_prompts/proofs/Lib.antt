@@ -1,0 +1,2 @@
+pub mod ClearArgs
+pub mod ReadsBack

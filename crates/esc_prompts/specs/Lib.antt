@@ -1,0 +1,3 @@
+pub mod Pairs
+pub mod Prompts
+pub mod Words

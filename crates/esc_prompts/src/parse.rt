@@ -1,0 +1,177 @@
+//! How semantic prompts are read.
+ghost use Rattle.std.specs.Prelude.{◌≡◌, IfOk, map};
+ghost use Rattle.std.specs.Option.{option_map};
+ghost use Rattle.esc_prompts.specs.Prompts.{aid_and_click, aid_of, alone, click_in, kind_among, kind_in, lettered, prompt_of, status_of};
+
+use crate::click::FinalTermClick;
+use crate::keys::read_keys;
+use crate::prompt::FinalTermSemanticPrompt;
+use crate::prompt_kind::FinalTermPromptKind;
+use esc_below::Text;
+use esc_below::scalar::read_i32;
+use std::alloc::{AllocError, Allocator};
+
+impl<A: Allocator> FinalTermSemanticPrompt<A> {
+    /// The prompt that these parts are, which stand behind the code `133`; none where they are no prompt.
+    ///
+    /// The first part is a letter. `L`, `B` and `I` stand alone. Behind `A`, `N`, `C` and `P`, and behind the status
+    /// of `D`, the parts are keys and values with `=` between them, or empty; a later value of a key replaces an
+    /// earlier one, and other keys are ignored. Any other part, a word of `cl` that is unknown behind `A` or `N`, or one
+    /// of `k` behind `P`, is no prompt. A status that is absent, or is no number of 32 bits, is 0.
+    ///
+    /// Memory is taken only for `aid`. The error is that it was refused.
+    pub fn parse(alloc: A, args: &[&[u8]]) -> Result<Option<FinalTermSemanticPrompt<A>>, AllocError>
+        ensures { IfOk result (λ p. p ≡ prompt_of (map (λ p. p.now) args.now)) }
+    {
+        let Some((first, rest)) = args.split_first() else {
+            return Ok(None);
+        };
+        let Some((letter, more)) = first.split_first() else {
+            return Ok(None);
+        };
+        if !more.is_empty() {
+            return Ok(None);
+        }
+        read_by_letter(alloc, *letter, rest)
+    }
+}
+
+// What the letter makes of the parts behind it.
+fn read_by_letter<A: Allocator>(
+    alloc: A,
+    letter: u8,
+    args: &[&[u8]],
+) -> Result<Option<FinalTermSemanticPrompt<A>>, AllocError>
+    ensures { IfOk result (λ p. p ≡ lettered letter (map (λ p. p.now) args.now)) }
+{
+    match letter {
+        b'L' => Ok(read_alone(FinalTermSemanticPrompt::FreshLine, args)),
+        b'B' => {
+            let mark = FinalTermSemanticPrompt::MarkEndOfPromptAndStartOfInputUntilNextMarker;
+            Ok(read_alone(mark, args))
+        }
+        b'I' => {
+            let mark = FinalTermSemanticPrompt::MarkEndOfPromptAndStartOfInputUntilEndOfLine;
+            Ok(read_alone(mark, args))
+        }
+        b'A' => {
+            let keys = read_aid_and_click(alloc, args)?;
+            Ok(keys.map(|(aid, cl)| FinalTermSemanticPrompt::FreshLineAndStartPrompt { aid, cl }))
+        }
+        b'N' => {
+            let keys = read_aid_and_click(alloc, args)?;
+            Ok(keys.map(|(aid, cl)| FinalTermSemanticPrompt::MarkEndOfCommandWithFreshLine {
+                aid,
+                cl,
+            }))
+        }
+        b'C' => {
+            let aid = read_aid(alloc, args)?;
+            Ok(aid.map(|aid| FinalTermSemanticPrompt::MarkEndOfInputAndStartOfOutput { aid }))
+        }
+        b'D' => read_status(alloc, args),
+        b'P' => {
+            let kind = read_kind_among(args);
+            Ok(kind.map(|kind| FinalTermSemanticPrompt::StartPrompt(kind)))
+        }
+        _ => Ok(None),
+    }
+}
+
+// The prompt, where no part stands behind the letter.
+fn read_alone<A: Allocator>(
+    prompt: FinalTermSemanticPrompt<A>,
+    args: &[&[u8]],
+) -> Option<FinalTermSemanticPrompt<A>>
+    ensures { result ≡ alone prompt (map (λ p. p.now) args.now) }
+{
+    if args.is_empty() { Some(prompt) } else { None }
+}
+
+// The values of `aid` and `cl`.
+fn read_aid_and_click<A: Allocator>(
+    alloc: A,
+    args: &[&[u8]],
+) -> Result<Option<(Option<Text<A>>, Option<FinalTermClick>)>, AllocError>
+    ensures { IfOk result (λ f. f ≡ aid_and_click (map (λ p. p.now) args.now)) }
+{
+    let Some(keys) = read_keys(args) else {
+        return Ok(None);
+    };
+    let Some(cl) = read_click(keys.cl) else {
+        return Ok(None);
+    };
+    Ok(Some((copied(alloc, keys.aid)?, cl)))
+}
+
+// The value of `aid`.
+fn read_aid<A: Allocator>(alloc: A, args: &[&[u8]]) -> Result<Option<Option<Text<A>>>, AllocError>
+    ensures { IfOk result (λ a. a ≡ aid_of (map (λ p. p.now) args.now)) }
+{
+    let Some(keys) = read_keys(args) else {
+        return Ok(None);
+    };
+    Ok(Some(copied(alloc, keys.aid)?))
+}
+
+// A status, and the value of `aid` behind it.
+fn read_status<A: Allocator>(
+    alloc: A,
+    args: &[&[u8]],
+) -> Result<Option<FinalTermSemanticPrompt<A>>, AllocError>
+    ensures { IfOk result (λ p. p ≡ status_of (map (λ p. p.now) args.now)) }
+{
+    let Some((status, rest)) = args.split_first() else {
+        return Ok(Some(FinalTermSemanticPrompt::CommandStatus {
+            status: 0,
+            aid: None,
+        }));
+    };
+    let status = read_i32(status).unwrap_or(0);
+    let aid = read_aid(alloc, rest)?;
+    Ok(aid.map(|aid| FinalTermSemanticPrompt::CommandStatus { status, aid }))
+}
+
+// The value of `k`.
+fn read_kind_among(args: &[&[u8]]) -> Option<FinalTermPromptKind>
+    ensures { result ≡ kind_among (map (λ p. p.now) args.now) }
+{
+    let keys = read_keys(args)?;
+    read_kind(keys.k)
+}
+
+// What a word of `cl` names, where it is there.
+fn read_click(word: Option<&str>) -> Option<Option<FinalTermClick>>
+    ensures { result ≡ click_in (option_map (λ w. w.now) word.entry) }
+{
+    let Some(word) = word else {
+        return Some(None);
+    };
+    match FinalTermClick::try_from(word) {
+        Ok(click) => Some(Some(click)),
+        Err(_) => None,
+    }
+}
+
+// What a word of `k` names; the initial kind where it is absent.
+fn read_kind(word: Option<&str>) -> Option<FinalTermPromptKind>
+    ensures { result ≡ kind_in (option_map (λ w. w.now) word.entry) }
+{
+    let Some(word) = word else {
+        return Some(FinalTermPromptKind::default());
+    };
+    match FinalTermPromptKind::try_from(word) {
+        Ok(kind) => Some(kind),
+        Err(_) => None,
+    }
+}
+
+// The text, where there is one.
+fn copied<A: Allocator>(alloc: A, text: Option<&str>) -> Result<Option<Text<A>>, AllocError>
+    ensures { IfOk result (λ t. t ≡ option_map (λ s. s.now) text.entry) }
+{
+    match text {
+        Some(text) => Ok(Some(Text::from_str(alloc, text)?)),
+        None => Ok(None),
+    }
+}

@@ -1,0 +1,46 @@
+//! Semantic prompts.
+use crate::click::FinalTermClick;
+use crate::prompt_kind::FinalTermPromptKind;
+use esc_below::Text;
+use std::alloc::{Allocator, Global};
+
+/// A mark that a shell writes between its prompts, the user's input, and the output of commands (FinalTerm; operating
+/// system command 133, with a letter behind the code).
+#[derive(Drop)]
+#[derive_where(Debug, PartialEq)]
+pub enum FinalTermSemanticPrompt<A: Allocator = Global> {
+    /// `L`: goes to the start of a new line, unless the cursor is at the start of one.
+    FreshLine,
+    /// `A`: as `FreshLine`, and a prompt begins.
+    FreshLineAndStartPrompt {
+        /// The name of the application, key `aid`, where it is given.
+        aid: Option<Text<A>>,
+        /// What a click does, key `cl`, where it is given.
+        cl: Option<FinalTermClick>,
+    },
+    /// `N`: the command before ends, where one has begun with the same `aid`; then as `FreshLineAndStartPrompt`.
+    MarkEndOfCommandWithFreshLine {
+        /// The name of the application, key `aid`, where it is given.
+        aid: Option<Text<A>>,
+        /// What a click does, key `cl`, where it is given.
+        cl: Option<FinalTermClick>,
+    },
+    /// `P`: a prompt of this kind, key `k`, begins.
+    StartPrompt(FinalTermPromptKind),
+    /// `B`: the prompt ends, and the input begins. It goes on to the next mark.
+    MarkEndOfPromptAndStartOfInputUntilNextMarker,
+    /// `I`: the prompt ends, and the input begins. It goes on to the end of the line.
+    MarkEndOfPromptAndStartOfInputUntilEndOfLine,
+    /// `C`: the input ends, and the output begins.
+    MarkEndOfInputAndStartOfOutput {
+        /// The name of the application, key `aid`, where it is given.
+        aid: Option<Text<A>>,
+    },
+    /// `D`: the command ends.
+    CommandStatus {
+        /// With what status; 0 where none is given, or none that is a number of 32 bits.
+        status: i32,
+        /// The name of the application, key `aid`, where it is given.
+        aid: Option<Text<A>>,
+    },
+}

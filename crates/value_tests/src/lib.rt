@@ -1,0 +1,19 @@
+//! Tests of the values and their codecs, through what `esc_below`, `esc_osc` and the crates between them make public.
+#![tactic(auto)]
+
+#[cfg(test)]
+mod below;
+#[cfg(test)]
+mod commands;
+#[cfg(test)]
+mod iterm;
+#[cfg(test)]
+mod iterm_file;
+#[cfg(test)]
+mod links;
+#[cfg(test)]
+mod prompts;
+#[cfg(test)]
+mod selections;
+#[cfg(test)]
+mod sequences;
