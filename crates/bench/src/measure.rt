@@ -79,7 +79,7 @@ fn framing(alloc: Global, bytes: &[u8]) -> Result<Counted> {
 fn parse(alloc: Global, bytes: &[u8]) -> Result<Counted> {
     let mut tally = Tally::new();
     let mut parser = Parser::new(alloc);
-    parser.parse(bytes, |action| tally.add(&action))?;
+    parser.parse(bytes, |action| tally.add(action))?;
     Ok(tally.counted())
 }
 
@@ -87,15 +87,12 @@ fn first_actions(alloc: Global, bytes: &[u8]) -> Result<Counted> {
     let mut tally = Tally::new();
     let mut parser = Parser::new(alloc);
     let mut rest = bytes;
-    for _ in 0..=bytes.len() {
+    while !rest.is_empty() {
         let Some((action, len)) = parser.parse_first(rest)? else {
             break;
         };
-        tally.add(&action);
-        let Some(behind) = rest.get(len..) else {
-            break;
-        };
-        rest = behind;
+        tally.add(action);
+        rest = &rest[len..];
     }
     Ok(tally.counted())
 }
@@ -104,17 +101,14 @@ fn fronts(alloc: Global, bytes: &[u8]) -> Result<Counted> {
     let mut tally = Tally::new();
     let mut parser = Parser::new(alloc);
     let mut rest = bytes;
-    for _ in 0..=bytes.len() {
+    while !rest.is_empty() {
         let Some((actions, len)) = parser.parse_first_as_vec(rest)? else {
             break;
         };
-        for action in &actions {
+        for action in actions {
             tally.add(action);
         }
-        let Some(behind) = rest.get(len..) else {
-            break;
-        };
-        rest = behind;
+        rest = &rest[len..];
     }
     Ok(tally.counted())
 }

@@ -21,10 +21,10 @@ impl Tally {
 
     /// Counts one more action.
     #[inline]
-    pub fn add(&mut self, action: &Action) {
+    pub fn add(&mut self, action: Action) {
         self.number = self.number.wrapping_add(1);
         if let Action::Print(c) = action {
-            self.total = self.total.wrapping_add(*c as u64);
+            self.total = self.total.wrapping_add(c as u64);
         }
     }
 

@@ -1,18 +1,21 @@
 -- From the machine's steps to what a stream adds.
-use Rattle.std.proofs.Common.{ℕ, ◌≡◌, Bool, true, false, ◌||◌, List, [], ◌∷◌, ◌++◌, refl, ap, sym, ◌∙◌, subst}
+use Rattle.std.proofs.Common.{ℕ, ◌≡◌, Bool, true, false, ◌||◌, List, [], ◌∷◌, ◌++◌, take, Option, Some, None, IfSome, refl, ap, sym, ◌∙◌, subst}
 use Rattle.std.specs.List.{FoldsTo}
 use Rattle.std.proofs.lemmas.List.{append-nil}
 use Rattle.esc_frame.specs.declared.classes.Class.{Class}
 use Rattle.esc_frame.specs.declared.machine.Machine.{Machine}
+use Rattle.esc_frame.specs.declared.parser.VTParser.{VTParser}
 use Rattle.esc_frame.specs.Classes.{class_of}
 use Rattle.esc_frame.specs.Events.{Event, StopsAt}
+use Rattle.esc_frame.specs.Events.Event.{Print}
 use Rattle.esc_frame.specs.Leads.{Holds}
 use Rattle.esc_frame.specs.Leads.Unfinished.{Ground}
 use Rattle.esc_frame.specs.Memory.{MayGrow}
-use Rattle.esc_frame.specs.Moves.{after_by, news_by, after_all, news_all, may_grow_in, may_grow_within}
-use Rattle.esc_frame.specs.Stream.{added}
+use Rattle.esc_frame.specs.Moves.{IsStill, after_by, news_by, after_all, news_all, may_grow_in, may_grow_within}
+use Rattle.esc_frame.specs.Stream.{IsQuiet, LeadsTo, added}
 use Rattle.esc_frame.proofs.Given.{stops_for}
 use Rattle.esc_frame.proofs.Memory.{grows_added}
+use Rattle.esc_frame.proofs.Still.{quiet_all}
 use Rattle.esc_frame.proofs.Streams.{after_append, added_is}
 
 -- what many bytes say, of the stream
@@ -46,3 +49,18 @@ refused_one takes refuses s b c old new e h =
     refused_all takes refuses s (b ∷ []) old new
     (subst (λ es. StopsAt (may_grow_within u (b ∷ []) ≡ true) takes refuses old es new) (ap (news_by u b) e ∙ sym (append-nil (news_by u b (class_of b))))
     (stops_for (may_grow_in u ≡ true) (may_grow_within u (b ∷ []) ≡ true) takes refuses (news_by u b c) old new (or_no (may_grow_in u)) h))
+
+-- a character at the front, where nothing is unfinished
+pub character_fed : {A : Type 0} (p : VTParser A) (s bs : List ℕ) (o : Option (ℕ × ℕ)) → LeadsTo s p → after_all Ground s ≡ Ground
+    → IfSome o (λ x. (after_all Ground (take x.1 bs) ≡ Ground) × (news_all Ground (take x.1 bs) ≡ Print x.0 ∷ []))
+    → IfSome o (λ x. LeadsTo (s ++ take x.1 bs) p × (added s (take x.1 bs) ≡ Print x.0 ∷ []))
+unfolding LeadsTo
+character_fed p s bs None l e h = tt
+character_fed p s bs (Some x) (f, h) e k =
+    let b = take x.1 bs in
+    let same : after_all Ground s ≡ after_all (after_all Ground s) b = e ∙ sym k.0 ∙ ap (λ u. after_all u b) (sym e) in
+    ((f, kept_all p.machine s b (subst (λ u. Holds p.machine u) same h)), added_is s b ∙ ap (λ u. news_all u b) e ∙ k.1)
+
+pub character_quiet : (s bs : List ℕ) (o : Option (ℕ × ℕ)) → after_all Ground s ≡ Ground → IfSome o (λ x. IsStill Ground bs x.1) → IfSome o (λ x. IsQuiet s bs x.1)
+character_quiet s bs None e h = tt
+character_quiet s bs (Some x) e h = quiet_all s bs x.1 (subst (λ u. IsStill u bs x.1) (sym e) h)

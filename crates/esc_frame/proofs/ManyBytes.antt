@@ -302,25 +302,18 @@ module _ {S : Type 0} (takes refuses : S → Event → S → Type 0) (rest : Lis
       let p : list_all is_text_byte (take n rest) ≡ true = subst (λ k. list_all is_text_byte (take k rest) ≡ true) (sym e) (run_passes is_text_byte rest) in
       stop_within own takes refuses Ground rest n old new (subst (λ es. StopsAt own takes refuses old es new) (sym (text_run_news (take n rest) p)) f)
 
-  pub character_given : (c : ℕ) → IsCharacter (take n rest) c → takes old (Print c) new → (after_all Ground (take n rest) ≡ Ground) × FoldsTo takes old (news_all Ground (take n rest)) new
-  character_given c k g = (character_after (take n rest) c k, subst (λ es. FoldsTo takes old es new) (sym (character_news (take n rest) c k)) (new, g, refl))
-
-  pub character_stops : (own : Type 0) (c : ℕ) → IsCharacter (take n rest) c → refuses old (Print c) new → StopsAt own takes refuses old (news_all Ground rest) new
-  character_stops own c k r = stop_within own takes refuses Ground rest n old new (subst (λ es. StopsAt own takes refuses old es new) (sym (character_news (take n rest) c k)) (refused_stops own takes refuses old new (Print c) r))
-
 -- one byte of text
-module _ {S : Type 0} (takes refuses : S → Event → S → Type 0) (old new : S) where
-  one_text : (rest : List ℕ) → 0 < length rest → is_text_byte (get_or rest 0 0) ≡ true → (after_all Ground (take 1 rest) ≡ Ground) × (news_all Ground (take 1 rest) ≡ Print (get_or rest 0 0) ∷ [])
-  one_text [] l h = absurd (omega arith)
-  one_text (x ∷ rest) l h = let p : list_all is_text_byte (x ∷ []) ≡ true = rw h refl in (text_run_after (x ∷ []) p, text_run_news (x ∷ []) p)
+pub one_text : (rest : List ℕ) → 0 < length rest → is_text_byte (get_or rest 0 0) ≡ true → (after_all Ground (take 1 rest) ≡ Ground) × (news_all Ground (take 1 rest) ≡ Print (get_or rest 0 0) ∷ [])
+one_text [] l h = absurd (omega arith)
+one_text (x ∷ rest) l h = let p : list_all is_text_byte (x ∷ []) ≡ true = rw h refl in (text_run_after (x ∷ []) p, text_run_news (x ∷ []) p)
 
-  pub narrow_given : (rest : List ℕ) → 0 < length rest → is_text_byte (get_or rest 0 0) ≡ true → takes old (Print (get_or rest 0 0)) new → (after_all Ground (take 1 rest) ≡ Ground) × FoldsTo takes old (news_all Ground (take 1 rest)) new
-  narrow_given rest l h g = let t = one_text rest l h in (t.0, subst (λ es. FoldsTo takes old es new) (sym t.1) (new, g, refl))
+-- a character, whose bytes are known by what they do
+module _ {S : Type 0} (takes refuses : S → Event → S → Type 0) (rest : List ℕ) (n c : ℕ) (old new : S) (does : (after_all Ground (take n rest) ≡ Ground) × (news_all Ground (take n rest) ≡ Print c ∷ [])) where
+  pub character_given : takes old (Print c) new → (after_all Ground (take n rest) ≡ Ground) × FoldsTo takes old (news_all Ground (take n rest)) new
+  character_given g = (does.0, subst (λ es. FoldsTo takes old es new) (sym does.1) (new, g, refl))
 
-  pub narrow_stops : (own : Type 0) (rest : List ℕ) → 0 < length rest → is_text_byte (get_or rest 0 0) ≡ true → refuses old (Print (get_or rest 0 0)) new → StopsAt own takes refuses old (news_all Ground rest) new
-  narrow_stops own rest l h r =
-      let t = one_text rest l h in
-      stop_within own takes refuses Ground rest 1 old new (subst (λ es. StopsAt own takes refuses old es new) (sym t.1) (refused_stops own takes refuses old new (Print (get_or rest 0 0)) r))
+  pub character_stops : (own : Type 0) → refuses old (Print c) new → StopsAt own takes refuses old (news_all Ground rest) new
+  character_stops own r = stop_within own takes refuses Ground rest n old new (subst (λ es. StopsAt own takes refuses old es new) (sym does.1) (refused_stops own takes refuses old new (Print c) r))
 
 -- ---- a run, and the byte behind it
 

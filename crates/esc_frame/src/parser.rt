@@ -1,9 +1,10 @@
 //! The parser.
 #![tactic(auto)]
 
-ghost use Rattle.std.specs.Prelude.{◌≡◌, ◌<◌, ◌≤◌, ◌++◌, ◌∷◌, [], ℕ, List, length, take, IsTrue, ◌↔◌, OnOk, OnErr, IfOk, IfErr, false};
+ghost use Rattle.std.specs.Prelude.{◌≡◌, ◌<◌, ◌≤◌, ◌++◌, ◌∷◌, [], ℕ, List, length, take, IsTrue, ◌↔◌, OnOk, OnErr, IfOk, IfErr, IfSome, IsSome, None, false, slice_index};
 ghost use Rattle.std.specs.List.{FoldsTo};
 ghost use Rattle.esc_frame.specs.Events.{StopsAt};
+ghost use Rattle.esc_frame.specs.Events.Event.{Print};
 ghost use Rattle.esc_frame.specs.Memory.{MayGrow};
 ghost use Rattle.esc_frame.specs.Stream.{added, LeadsTo, HasFailed, IsAtGround, IsQuiet};
 
@@ -11,6 +12,7 @@ use crate::actor::VTActor;
 use crate::classes::classify;
 use crate::error::ParseError;
 use crate::machine::Machine;
+use crate::printing::first_char;
 use std::alloc::{Allocator, Global};
 
 /// Splits a stream of bytes, which comes in any pieces, into the events of its segments, and gives them to an actor: the
@@ -47,6 +49,28 @@ impl<A: Allocator> VTParser<A> {
         ensures failed { HasFailed self.now → result ≡ false }
     {
         !self.has_failed && self.machine.is_ground()
+    }
+
+    /// The character that stands whole at the front of `bytes`, and its length in bytes, where no segment is unfinished. These
+    /// bytes count as fed: behind them the parser stands as before them, and they add this character and nothing else. So a
+    /// caller that takes characters one at a time needs no actor for them.
+    ///
+    /// `None` where a segment is unfinished, where the parser has failed, where something else than a character comes first,
+    /// and where the first byte is 80 or more and fewer than four are there; then nothing counts as fed. For a first byte 20
+    /// to 7F in ground it is never `None`.
+    #[inline]
+    pub fn first_char(&self, bytes: &[u8]) -> Option<(char, usize)>
+        ensures count { IfSome result (λ x. (0 < x.1) × (x.1 ≤ length bytes.now)) }
+        ensures given { (s : List ℕ) → LeadsTo s self.now → IfSome result (λ x. LeadsTo (s ++ take x.1 bytes.now) self.now × (added s (take x.1 bytes.now) ≡ Print x.0 ∷ [])) }
+        ensures quiet { (s : List ℕ) → LeadsTo s self.now → IfSome result (λ x. IsQuiet s bytes.now x.1) }
+        ensures text { (s : List ℕ) → LeadsTo s self.now → IsAtGround s → 0 < length bytes.now → 0x20 ≤ slice_index bytes.now 0 → slice_index bytes.now 0 < 0x80 → IsSome result }
+        ensures failed { HasFailed self.now → result ≡ None }
+    {
+        if self.is_ground() {
+            first_char(bytes)
+        } else {
+            None
+        }
     }
 
     /// Takes the next byte of the stream, and gives the actor, in order, what it adds to the events of the bytes before.
@@ -114,6 +138,7 @@ impl<A: Allocator> VTParser<A> {
     ) -> Result<usize, ParseError>
         requires { V.is_ready actor.old }
         ensures count { IfOk result (λ n. (n ≤ length bytes.now) × (0 < length bytes.now → 0 < n)) }
+        ensures empty { length bytes.now ≡ 0 → actor.new ≡ actor.old }
         ensures given { (s : List ℕ) → LeadsTo s self.old → IfOk result (λ n. LeadsTo (s ++ take n bytes.now) self.new × FoldsTo V.takes actor.old (added s (take n bytes.now)) actor.new) }
         ensures quiet { (s : List ℕ) → LeadsTo s self.old → IfOk result (λ n. IsQuiet s bytes.now n) }
         ensures refused { (s : List ℕ) → LeadsTo s self.old → IfErr result (λ e. (e ≡ ParseError.Memory) × StopsAt (MayGrow (s ++ bytes.now)) V.takes V.refuses actor.old (added s bytes.now) actor.new) }

@@ -1,13 +1,12 @@
 //! Characters in ground, many at once.
 #![tactic(auto)]
 
-ghost use Rattle.std.specs.Prelude.{◌≡◌, ◌<◌, ◌≤◌, length, map, true, false, slice_index, OnOk, IfOk};
+ghost use Rattle.std.specs.Prelude.{◌≡◌, ◌<◌, ◌≤◌, [], ◌∷◌, length, map, take, true, false, slice_index, OnOk, IfOk, IfSome, IsSome};
 ghost use Rattle.esc_frame.specs.Events.{Takes};
 ghost use Rattle.esc_frame.specs.Events.Event.{Print};
 ghost use Rattle.esc_frame.specs.Characters.{Prints};
 ghost use Rattle.esc_frame.specs.Leads.Unfinished.{Ground};
-ghost use Rattle.esc_frame.specs.Moves.{IsStill};
-ghost use Rattle.esc_frame.specs.Scans.{is_text_byte};
+ghost use Rattle.esc_frame.specs.Moves.{IsStill, after_all, news_all};
 
 use crate::actor::VTActor;
 use crate::scans::text_run;
@@ -33,40 +32,52 @@ pub fn print_front<V: VTActor>(rest: &[u8], actor: &mut V) -> Result<usize, Allo
     Ok(at)
 }
 
+/// The character that stands whole at the front, and its length; `None` where there is none, or where that is not seen at
+/// once: behind a first byte from 80 on stand fewer than three.
+#[inline(always)]
+pub fn first_char(rest: &[u8]) -> Option<(char, usize)>
+    ensures count { IfSome result (λ x. (0 < x.1) × (x.1 ≤ length rest.now)) }
+    ensures prints { IfSome result (λ x. (after_all Ground (take x.1 rest.now) ≡ Ground) × (news_all Ground (take x.1 rest.now) ≡ Print x.0 ∷ [])) }
+    ensures quiet { IfSome result (λ x. IsStill Ground rest.now x.1) }
+    ensures text { 0 < length rest.now → 0x20 ≤ slice_index rest.now 0 → slice_index rest.now 0 < 0x80 → IsSome result }
+{
+    if rest.is_empty() {
+        return None;
+    }
+    if rest[0] < 0x20 {
+        None
+    } else if rest[0] < 0x80 {
+        Some((rest[0] as char, 1))
+    } else {
+        first_wide(rest)
+    }
+}
+
+#[inline(always)]
+fn first_wide(rest: &[u8]) -> Option<(char, usize)>
+    ensures count { IfSome result (λ x. (0 < x.1) × (x.1 ≤ length rest.now)) }
+    ensures prints { IfSome result (λ x. (after_all Ground (take x.1 rest.now) ≡ Ground) × (news_all Ground (take x.1 rest.now) ≡ Print x.0 ∷ [])) }
+    ensures quiet { IfSome result (λ x. IsStill Ground rest.now x.1) }
+{
+    let (n, c) = ahead(rest);
+    if n == 0 { None } else { Some((c, n)) }
+}
+
 /// The character at the front, where one stands there that is whole; else nothing.
 #[inline(always)]
 pub fn print_first<V: VTActor>(rest: &[u8], actor: &mut V) -> Result<usize, AllocError>
-    requires some { 0 < length rest.now }
-    requires ready { V.is_ready actor.old }
+    requires { V.is_ready actor.old }
     ensures count { IfOk result (λ n. n ≤ length rest.now) }
     ensures ran { Prints V.takes V.refuses result rest.now actor.old actor.new }
     ensures quiet { IfOk result (λ n. IsStill Ground rest.now n) }
     ensures ready { OnOk result (V.is_ready actor.new) }
 {
-    if rest[0] < 0x20 {
-        Ok(0)
-    } else if rest[0] < 0x80 {
-        print_narrow(rest, actor)
-    } else if rest[0] < 0xc2 {
-        Ok(0)
-    } else {
-        print_wide(rest, actor)
-    }
-}
-
-// The byte 20 to 7F at the front.
-#[inline(always)]
-fn print_narrow<V: VTActor>(rest: &[u8], actor: &mut V) -> Result<usize, AllocError>
-    requires some { 0 < length rest.now }
-    requires text { is_text_byte (slice_index rest.now 0) ≡ true }
-    requires ready { V.is_ready actor.old }
-    ensures count { IfOk result (λ n. n ≡ 1) }
-    ensures ran { Prints V.takes V.refuses result rest.now actor.old actor.new }
-    ensures ready { OnOk result (V.is_ready actor.new) }
-{
-    match actor.print(rest[0] as char) {
-        Ok(()) => Ok(1),
-        Err(e) => Err(e),
+    match first_char(rest) {
+        Some((c, n)) => match actor.print(c) {
+            Ok(()) => Ok(n),
+            Err(e) => Err(e),
+        },
+        None => Ok(0),
     }
 }
 
@@ -108,17 +119,14 @@ fn print_wide<V: VTActor>(rest: &[u8], actor: &mut V) -> Result<usize, AllocErro
     requires { V.is_ready actor.old }
     ensures count { IfOk result (λ n. n ≤ length rest.now) }
     ensures ran { Prints V.takes V.refuses result rest.now actor.old actor.new }
-    ensures quiet { IfOk result (λ n. IsStill Ground rest.now n) }
     ensures ready { OnOk result (V.is_ready actor.new) }
 {
-    let (n, c) = ahead(rest);
-    if n == 0 {
-        Ok(0)
-    } else {
-        match actor.print(c) {
+    match first_wide(rest) {
+        Some((c, n)) => match actor.print(c) {
             Ok(()) => Ok(n),
             Err(e) => Err(e),
-        }
+        },
+        None => Ok(0),
     }
 }
 

@@ -1,19 +1,21 @@
 -- Exact fronts: what a turn of a loop that looks for one knows.
-use Rattle.std.proofs.Common.{◌≡◌, ℕ, ◌+◌, ◌-◌, ◌<◌, ◌≤◌, List, [], ◌∷◌, ◌++◌, length, take, drop, Some, None, refl, ap, sym, ◌∙◌, subst, append_assoc, take-append-drop, take_all, length-drop, arith, ◌⊎◌, inl, inr}
+use Rattle.std.proofs.Common.{◌≡◌, ℕ, zero, suc, ◌+◌, ◌-◌, ◌<◌, ◌≤◌, List, [], ◌∷◌, ◌++◌, length, take, drop, Some, None, refl, ap, sym, ◌∙◌, subst, append_assoc, take-append-drop, take_all, length-drop, arith, ◌⊎◌, inl, inr}
 use Rattle.std.proofs.Math.Seq.{take-add}
 use Rattle.std.proofs.Math.Nat.{eq-or-lt_of_le}
 use Rattle.std.proofs.lemmas.Bool.{cases_lt}
 use Rattle.std.proofs.lemmas.List.{append-nil, append_cancel_left, take-take}
 use Rattle.std.specs.List.{FoldsTo}
 use Rattle.std.specs.Option.{option_map}
+use Rattle.esc_frame.specs.Events.Event.{Print}
 use Rattle.esc_frame.specs.Stream.{added, events, IsAtGround, IsQuiet}
 use Rattle.escape_stream.proofs.Fronts.{rest_is}
 use Rattle.escape_stream.proofs.HandedOut.{yield_handed}
 use Rattle.escape_stream.proofs.Yields.{meaning_more, yield_is}
 use Rattle.escape_stream.specs.Firsts.{first, IsFirst, IsFirstStop, IsStop}
-use Rattle.escape_stream.specs.Given.{At, first_of}
+use Rattle.escape_stream.specs.Given.{At, StopsAt, first_of}
 use Rattle.escape_stream.specs.Meaning.{meaning, mode_from, values_from, yield}
 use Rattle.escape_stream.specs.Values.{plain, value_of, Value}
+use Rattle.escape_stream.specs.Values.Value.{print}
 use Rattle.escape_stream.specs.Writable.{AreHandedOut, IsHandedOut}
 use Rattle.escape_stream.specs.declared.action.Action.{Action}
 use Rattle.escape_stream.specs.declared.sink.First.{First}
@@ -26,6 +28,13 @@ keeps p a (v ∷ vs) q (j, (b, is, w), rest) h = keeps j a vs q rest (w ∙ ap (
 pub keeps_first : {A : Type 0} (p : First A) (vs : List (Value A)) (q : First A) → FoldsTo (At value_of (λ p a q. q.action ≡ first_of p.action a)) p vs q → p.action ≡ None → option_map value_of q.action ≡ first vs
 keeps_first p [] q e h = ap (λ x. option_map value_of x.action) (sym e) ∙ ap (option_map value_of) h
 keeps_first p (v ∷ vs) q (j, (b, is, w), rest) h = ap (option_map value_of) (keeps j b vs q rest (w ∙ ap (λ o. first_of o b) h)) ∙ ap Some is
+
+-- what takes every action is stopped by the giver alone
+pub stops_itself : {P T V : Type 0} (f : T → V) (takes : P → T → P → Type 0) (own : Type 0) (p : P) (vs : List V) (q : P) → StopsAt own (At f takes) (At f (λ p a q. ⊥)) p vs q → own
+stops_itself f takes own p [] q h = h.0
+stops_itself f takes own p (v ∷ vs) q (inl h) = h.0
+stops_itself f takes own p (v ∷ vs) q (inr (inl r)) = absurd r.2
+stops_itself f takes own p (v ∷ vs) q (inr (inr (mid, t, rest))) = stops_itself f takes own mid vs q rest
 
 -- what bytes yield, one behind another
 pub yield_append : {A : Type 0} (s b c : List ℕ) → yield {A = A} s (b ++ c) ≡ yield s b ++ yield (s ++ b) c
@@ -125,6 +134,19 @@ rest_length xs n = ap length (rest_is xs n) ∙ length-drop n xs
 pub yield_nil : {A : Type 0} (s : List ℕ) → yield {A = A} s [] ≡ []
 yield_nil s = append_cancel_left (meaning s) (yield s []) [] (meaning_more s [] ∙ ap meaning (append-nil s) ∙ sym (append-nil (meaning s)))
 
+none_in_quiet : {A : Type 0} (s bs : List ℕ) (n : ℕ) → IsQuiet s bs n → (k : ℕ) → k < n → yield {A = A} s (take k bs) ≡ []
+none_in_quiet s bs n q zero h = yield_nil s
+none_in_quiet s bs n q (suc k) h = yield_quiet s (take (suc k) bs) (q (suc k) (omega arith) h).0
+
+-- n bytes add one character
+pub finds_character : {A : Type 0} (s bs : List ℕ) (n c : ℕ) → n ≤ length bs → added s (take n bs) ≡ Print c ∷ [] → IsQuiet s bs n → IsFirst {A = A} s bs (print c) n
+finds_character s bs n c l e q = record {
+  within = l;
+  others = [];
+  first = yield_is s (take n bs) ∙ ap (values_from (mode_from plain (events s))) e;
+  none_before = none_in_quiet s bs n q;
+}
+
 -- what was taken and n bytes of the rest, where these are all
 pub fed_all : (s bs : List ℕ) (at n : ℕ) → length bs ≤ at + n → s ++ take (at + n) bs ≡ s ++ bs
 fed_all s bs at n h = ap (λ x. s ++ x) (take_all (at + n) bs h)
@@ -145,3 +167,9 @@ first_handed A s bs v n is = let P : List (Value A) → Type 0 = λ vs. AreHande
 
 pub stop_handed : (A : Type 0) (s bs : List ℕ) (vs : List (Value A)) (n : ℕ) → IsFirstStop s bs vs n → AreHandedOut vs
 stop_handed A s bs vs n is = let P : List (Value A) → Type 0 = λ vs. AreHandedOut vs in subst P (sym is.values) (yield_handed A s (take n bs))
+
+-- a front that holds something was taken of something
+pub front_some : (len at n had : ℕ) → (0 < len - at → 0 < n) → 0 < had → (len ≡ 0 → at ≡ 0 → had ≡ 0) → 0 < at + n
+front_some zero zero n had count some none = let e = none refl refl in absurd (omega (arith, e, some))
+front_some (suc len) zero n had count some none = omega (arith, count (omega arith))
+front_some len (suc at) n had count some none = omega arith

@@ -1,5 +1,5 @@
 //! The parser.
-ghost use Rattle.std.specs.Prelude.{◌≡◌, ◌<◌, ◌≤◌, ℕ, List, [], ◌++◌, IfErr, IfNone, IfOk, IfSome, IsTrue, OnOk, length, map, take};
+ghost use Rattle.std.specs.Prelude.{◌≡◌, ◌<◌, ◌≤◌, ℕ, List, [], ◌++◌, IfErr, IfNone, IfOk, IfSome, IsTrue, None, OnOk, length, map, take};
 ghost use Rattle.std.specs.Option.{option_map};
 ghost use Rattle.esc_frame.specs.Stream.{IsQuiet};
 ghost use Rattle.escape_stream.specs.Firsts.{IsFirst, IsFirstStop, IsStop, first};
@@ -109,10 +109,12 @@ impl<A: Allocator + Copy> Parser<A> {
     ) -> (Result<usize, ParseError>, S)
         requires { S.is_ready sink }
         ensures count { IfOk result.0 (λ n. (n ≤ length bytes.now) × (0 < length bytes.now → 0 < n)) }
+        ensures empty { length bytes.now ≡ 0 → result.1 ≡ sink }
         ensures given { (s : List ℕ) → WasFed s self.old → IfOk result.0 (λ n. WasFed (s ++ take n bytes.now) self.new
             × FoldsTo (At value_of S.takes) sink (yield s (take n bytes.now)) result.1) }
         ensures quiet { (s : List ℕ) → WasFed s self.old → IfOk result.0 (λ n. IsQuiet s bytes.now n) }
-        ensures refused { (s : List ℕ) → WasFed s self.old → IfErr result.0 (λ e. (e ≡ ParseError.Memory) × IsBroken self.new) }
+        ensures refused { (s : List ℕ) → WasFed s self.old → IfErr result.0 (λ e. (e ≡ ParseError.Memory) × IsBroken self.new
+            × StopsAt (MayGrow (s ++ bytes.now)) (At value_of S.takes) (At value_of S.refuses) sink (yield s bytes.now) result.1) }
         ensures failed { IsBroken self.old → (result.0 ≡ Err ParseError.Failed) × IsBroken self.new × (result.1 ≡ sink) }
     {
         let mut performer = Performer {
@@ -127,10 +129,11 @@ impl<A: Allocator + Copy> Parser<A> {
     // The first action that a front of `bytes` adds, where it adds one, and the length of the front.
     fn first_in(&mut self, bytes: &[u8]) -> Result<(usize, Option<Action<A>>), ParseError>
         ensures count { IfOk result (λ x. (x.0 ≤ length bytes.now) × (0 < length bytes.now → 0 < x.0)) }
+        ensures empty { length bytes.now ≡ 0 → IfOk result (λ x. x.1 ≡ None) }
         ensures given { (s : List ℕ) → WasFed s self.old → IfOk result (λ x. WasFed (s ++ take x.0 bytes.now) self.new
             × (option_map value_of x.1 ≡ first (yield s (take x.0 bytes.now)))) }
         ensures quiet { (s : List ℕ) → WasFed s self.old → IfOk result (λ x. IsQuiet s bytes.now x.0) }
-        ensures refused { (s : List ℕ) → WasFed s self.old → IfErr result (λ e. (e ≡ ParseError.Memory) × IsBroken self.new) }
+        ensures refused { (s : List ℕ) → WasFed s self.old → IfErr result (λ e. (e ≡ ParseError.Memory) × IsBroken self.new × MayGrow (s ++ bytes.now)) }
         ensures failed { IsBroken self.old → (result ≡ Err ParseError.Failed) × IsBroken self.new }
     {
         let (result, First { action }) = self.feed_some(bytes, First { action: None });
@@ -138,17 +141,13 @@ impl<A: Allocator + Copy> Parser<A> {
         Ok((taken, action))
     }
 
-    /// The first action of the shortest front of `bytes` that adds one to what the bytes fed before mean, and the length of
-    /// this front, which is all that was fed; further actions of its last byte are dropped. `None` where `bytes` add none:
-    /// then all were fed.
-    ///
-    /// `ParseError::Memory` says that a growth was refused; the parser has failed. `ParseError::Failed` says that an earlier
-    /// call had been refused one, also where `bytes` are empty.
-    pub fn parse_first(&mut self, bytes: &[u8]) -> Result<Option<(Action<A>, usize)>, ParseError>
+    // The first action of the shortest front of `bytes` that adds one, and the length of the front.
+    fn first_of(&mut self, bytes: &[u8]) -> Result<Option<(Action<A>, usize)>, ParseError>
+        ensures count { IfOk result (λ r. IfSome r (λ x. (0 < x.1) × (x.1 ≤ length bytes.now))) }
         ensures some { (s : List ℕ) → WasFed s self.old → IfOk result (λ r. IfSome r (λ x. WasFed (s ++ take x.1 bytes.now) self.new × IsFirst s bytes.now (value_of x.0) x.1)) }
         ensures handed_out { (s : List ℕ) → WasFed s self.old → IfOk result (λ r. IfSome r (λ x. IsHandedOut (value_of x.0))) }
         ensures none { (s : List ℕ) → WasFed s self.old → IfOk result (λ r. IfNone r (WasFed (s ++ bytes.now) self.new × (yield {A = A} s bytes.now ≡ []))) }
-        ensures refused { (s : List ℕ) → WasFed s self.old → IfErr result (λ e. (e ≡ ParseError.Memory) × IsBroken self.new) }
+        ensures refused { (s : List ℕ) → WasFed s self.old → IfErr result (λ e. (e ≡ ParseError.Memory) × IsBroken self.new × MayGrow (s ++ bytes.now)) }
         ensures failed { IsBroken self.old → (result ≡ Err ParseError.Failed) × IsBroken self.new }
     {
         let mut at = 0;
@@ -166,6 +165,28 @@ impl<A: Allocator + Copy> Parser<A> {
         }
     }
 
+    /// The first action of the shortest front of `bytes` that adds one to what the bytes fed before mean, and the length of
+    /// this front, which is all that was fed; further actions of its last byte are dropped. `None` where `bytes` add none:
+    /// then all were fed.
+    ///
+    /// `ParseError::Memory` says that a growth was refused; the parser has failed. As from [`parse`](Parser::parse), it does not
+    /// come while the stream holds only what takes no memory. `ParseError::Failed` says that an earlier call had been refused a
+    /// growth, also where `bytes` are empty.
+    #[inline]
+    pub fn parse_first(&mut self, bytes: &[u8]) -> Result<Option<(Action<A>, usize)>, ParseError>
+        ensures count { IfOk result (λ r. IfSome r (λ x. (0 < x.1) × (x.1 ≤ length bytes.now))) }
+        ensures some { (s : List ℕ) → WasFed s self.old → IfOk result (λ r. IfSome r (λ x. WasFed (s ++ take x.1 bytes.now) self.new × IsFirst s bytes.now (value_of x.0) x.1)) }
+        ensures handed_out { (s : List ℕ) → WasFed s self.old → IfOk result (λ r. IfSome r (λ x. IsHandedOut (value_of x.0))) }
+        ensures none { (s : List ℕ) → WasFed s self.old → IfOk result (λ r. IfNone r (WasFed (s ++ bytes.now) self.new × (yield {A = A} s bytes.now ≡ []))) }
+        ensures refused { (s : List ℕ) → WasFed s self.old → IfErr result (λ e. (e ≡ ParseError.Memory) × IsBroken self.new × MayGrow (s ++ bytes.now)) }
+        ensures failed { IsBroken self.old → (result ≡ Err ParseError.Failed) × IsBroken self.new }
+    {
+        match self.framer.first_char(bytes) {
+            Some((c, n)) => Ok(Some((Action::Print(c), n))),
+            None => self.first_of(bytes),
+        }
+    }
+
     // The actions so far, and those that a front of `bytes` adds; with the length of the front.
     fn more_in(
         &mut self,
@@ -173,6 +194,7 @@ impl<A: Allocator + Copy> Parser<A> {
         actions: Vec<Action<A>, A>,
     ) -> Result<(usize, Vec<Action<A>, A>), ParseError>
         ensures count { IfOk result (λ x. (x.0 ≤ length bytes.now) × (0 < length bytes.now → 0 < x.0)) }
+        ensures empty { length bytes.now ≡ 0 → IfOk result (λ x. x.1 ≡ actions) }
         ensures given { (s : List ℕ) → WasFed s self.old → IfOk result (λ x. WasFed (s ++ take x.0 bytes.now) self.new
             × (map value_of x.1.items ≡ map value_of actions.items ++ yield s (take x.0 bytes.now))) }
         ensures quiet { (s : List ℕ) → WasFed s self.old → IfOk result (λ x. IsQuiet s bytes.now x.0) }
@@ -186,6 +208,7 @@ impl<A: Allocator + Copy> Parser<A> {
 
     // Whether to stop here, with these actions.
     fn stops(&self, actions: &[Action<A>]) -> bool
+        ensures some { IsTrue result → 0 < length actions.now }
         ensures yes { (s b : List ℕ) → WasFed (s ++ b) self.now → map value_of actions.now ≡ yield s b → IsTrue result → IsStop A s b }
         ensures no { (s b : List ℕ) → WasFed (s ++ b) self.now → map value_of actions.now ≡ yield s b → IsStop A s b → IsTrue result }
     {
@@ -203,6 +226,7 @@ impl<A: Allocator + Copy> Parser<A> {
         &mut self,
         bytes: &[u8],
     ) -> Result<Option<(Vec<Action<A>, A>, usize)>, ParseError>
+        ensures count { IfOk result (λ r. IfSome r (λ x. (0 < x.1) × (x.1 ≤ length bytes.now))) }
         ensures some { (s : List ℕ) → WasFed s self.old → IfOk result (λ r. IfSome r (λ x. WasFed (s ++ take x.1 bytes.now) self.new × IsFirstStop s bytes.now (map value_of x.0.items) x.1)) }
         ensures handed_out { (s : List ℕ) → WasFed s self.old → IfOk result (λ r. IfSome r (λ x. AreHandedOut (map value_of x.0.items))) }
         ensures none { (s : List ℕ) → WasFed s self.old → IfOk result (λ r. IfNone r (WasFed (s ++ bytes.now) self.new × ((k : ℕ) → k ≤ length bytes.now → IsStop A s (take k bytes.now) → ⊥))) }
