@@ -6,7 +6,7 @@ use Rattle.std.proofs.lemmas.Bool.Decides.{nat_tests}
 use Rattle.esc_below.specs.declared.csi_param.CsiParam.{CsiParam}
 use Rattle.esc_below.specs.declared.csi_param.CsiParam.TheVariants.{Integer, P}
 use Rattle.esc_below.specs.Entries.{is_digit, is_marker, is_intermediate_byte, is_csi_parameter, is_body_byte, drop_while, is_csi_body, held, entries_behind, entries}
-use Rattle.esc_below.proofs.Split.{and_parts}
+use Rattle.esc_below.proofs.Numbers.{and_parts}
 
 digit_is_parameter : (b : ℕ) → is_digit b ≡ true → is_csi_parameter b ≡ true
 digit_is_parameter b d = grind (arith, nat_tests)

@@ -1,14 +1,16 @@
 -- Clear texts and parts.
-use Rattle.std.proofs.Common.{ℕ, ◌≡◌, ◌<◌, true, List, [], ◌∷◌, ◌++◌, length, map, refl, sym, ap, ◌∙◌}
+use Rattle.std.proofs.Common.{ℕ, ◌≡◌, ◌<◌, true, List, [], ◌∷◌, ◌++◌, length, map, Some, refl, sym, ap, ◌∙◌}
 use Rattle.std.specs.List.{list_all}
 use Rattle.std.specs.Char.{encode_utf8}
 use Rattle.std.specs.Str.{IsUtf8, encode_utf8_all}
 use Rattle.std.specs.Str.Lossy.{utf8_lossy}
-use Rattle.std.proofs.lemmas.Str.{utf8_lossy-IsUtf8, encode_ascii, inside_one, encodes-append}
+use Rattle.std.proofs.lemmas.Str.{utf8_lossy-IsUtf8, is_utf8-from_IsUtf8, encode_ascii, inside_one, encodes-append}
 use Rattle.std.proofs.lemmas.List.Folds.{list_all-append}
 use lib.Utf8.{scalar, scalars}
 use Rattle.esc_below.specs.Clear.{is_clear, is_part_char, IsClearText, IsClearPart, AreClearParts}
-use Rattle.esc_below.proofs.Split.{and_parts, part_clear}
+use Rattle.esc_below.specs.Scalars.{utf8_of}
+use Rattle.esc_below.proofs.Numbers.{and_parts}
+use Rattle.esc_below.proofs.Split.{part_clear}
 
 -- clear texts are UTF-8
 pub chars_scalar : (cs : List ℕ) → list_all is_clear cs ≡ true → scalars cs ≡ true
@@ -23,6 +25,9 @@ clear_utf8 t (cs, all, e) = (cs, (chars_scalar cs all, e))
 
 pub part_utf8 : (p : List ℕ) → IsClearPart p → IsUtf8 p
 part_utf8 p h = clear_utf8 p (part_clear p h)
+
+pub part_utf8_of : (p : List ℕ) → IsClearPart p → utf8_of p ≡ Some p
+part_utf8_of p h = rw (is_utf8-from_IsUtf8 p (part_utf8 p h)) refl
 
 -- the lossy text of clear parts is the parts
 pub part_lossy : (p : List ℕ) → IsClearPart p → utf8_lossy p ≡ p

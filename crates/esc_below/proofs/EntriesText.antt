@@ -12,7 +12,7 @@ use Rattle.std.proofs.lemmas.Str.Parse.{IsNumeralModel, numerals_by_fold}
 use Rattle.esc_below.specs.declared.csi_param.CsiParam.{CsiParam}
 use Rattle.esc_below.specs.declared.csi_param.CsiParam.TheVariants.{Integer, P}
 use Rattle.esc_below.specs.Entries.{is_digit, is_body_byte, held, value_behind, entries_behind, entries, entries_text}
-use Rattle.esc_below.proofs.Split.{and_parts}
+use Rattle.esc_below.proofs.Numbers.{and_parts}
 use Rattle.esc_below.proofs.Bodies.{digit_in_body}
 
 abbrev are_digits : List ℕ → Bool

@@ -1,5 +1,6 @@
 pub mod Base64
 pub mod Bodies
+pub mod ClearPairs
 pub mod ClearTexts
 pub mod CsisBack
 pub mod Cutting

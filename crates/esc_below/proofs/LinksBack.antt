@@ -4,10 +4,12 @@ use Rattle.std.specs.List.{slice_split}
 use Rattle.std.specs.Option.{option_map}
 use Rattle.std.proofs.lemmas.List.{append-nil}
 use Rattle.esc_below.specs.Clear.{IsClearText, IsClearPart, AreClearParts, AreTextParts, parts_of, joined}
+use Rattle.esc_below.specs.Cuts.{Pairs}
 use Rattle.esc_below.specs.declared.hyperlink.Hyperlink.{Hyperlink}
-use Rattle.esc_below.specs.Hyperlinks.{Pairs, params_of, params_text, link_to, link_in, link_of, link_text}
+use Rattle.esc_below.specs.Hyperlinks.{params_of, params_text, link_to, link_in, link_of, link_text}
 use Rattle.esc_below.specs.Scalars.{and_then, utf8_of}
-use Rattle.esc_below.proofs.ParamsBack.{AreReadable, part_utf8_of, readable, params_clear, params_text_some, params_back}
+use Rattle.esc_below.proofs.ClearTexts.{part_utf8_of}
+use Rattle.esc_below.proofs.ParamsBack.{AreReadable, readable, params_clear, params_text_some, params_back}
 use Rattle.esc_below.proofs.PlainParts.{plain_part}
 use Rattle.esc_below.proofs.Split.{parts_text}
 use Rattle.esc_below.proofs.Where.{Where}

@@ -18,9 +18,9 @@ pub bool_cases : (b : Bool) → (b ≡ true) ⊎ (b ≡ false)
 bool_cases true = inl refl
 bool_cases false = inr refl
 
-pub both : (a b : Bool) → (a && b) ≡ true → (a ≡ true) × (b ≡ true)
-both true b h = (refl, h)
-both false b h = cc
+pub and_parts : (a b : Bool) → (a && b) ≡ true → (a ≡ true) × (b ≡ true)
+and_parts true b h = (refl, h)
+and_parts false b h = cc
 
 pub and_true : (a b : Bool) → a ≡ true → b ≡ true → (a && b) ≡ true
 and_true a b p q = rw (p, q)
@@ -29,8 +29,8 @@ and_true a b p q = rw (p, q)
 pub numeral_from_test : (k : ℕ) (ds : List ℕ) → (nat_lt 0 (length ds) && all_ascii_digits ds && nat_lt (digits_value 10 ds) (2 ^ k)) ≡ true
     → IsNumeral 10 ds × (digits_value 10 ds < 2 ^ k)
 numeral_from_test k ds h =
-    let outer = both (nat_lt 0 (length ds) && all_ascii_digits ds) (nat_lt (digits_value 10 ds) (2 ^ k)) h in
-    let inner = both (nat_lt 0 (length ds)) (all_ascii_digits ds) outer.0 in
+    let outer = and_parts (nat_lt 0 (length ds) && all_ascii_digits ds) (nat_lt (digits_value 10 ds) (2 ^ k)) h in
+    let inner = and_parts (nat_lt 0 (length ds)) (all_ascii_digits ds) outer.0 in
     ((ltb-true _ _ inner.0, own.to ds inner.1), ltb-true _ _ outer.1)
 
 pub test_from_numeral : (k : ℕ) (ds : List ℕ) → IsNumeral 10 ds × (digits_value 10 ds < 2 ^ k)

@@ -5,7 +5,8 @@ use Rattle.std.specs.declared.cmp.Ordering.{Ordering}
 use Rattle.std.specs.declared.cmp.Ordering.TheVariants.{Less, Equal, Greater}
 use Rattle.std.specs.Ordering.{nat_cmp, ordering_reverse}
 use Rattle.std.proofs.lemmas.List.{append-nil}
-use Rattle.esc_below.specs.Hyperlinks.{Pairs, put, put_all}
+use Rattle.esc_below.specs.Cuts.{Pairs}
+use Rattle.esc_below.specs.Hyperlinks.{put, put_all}
 
 -- one key is below another
 abbrev pub Below : List ℕ → List ℕ → Type 0

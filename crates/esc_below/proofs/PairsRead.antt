@@ -3,10 +3,10 @@ use Rattle.std.proofs.Common.{ℕ, ◌≡◌, ◌≢◌, ◌<◌, Bool, true, fa
 use Rattle.std.specs.List.{slice_split}
 use Rattle.std.specs.Option.{option_map}
 use Rattle.std.specs.Result.{IsErrAnd, IfErr}
-use Rattle.esc_below.specs.Cuts.{cut_at, key_and_value}
+use Rattle.esc_below.specs.Cuts.{Pairs, cut_at, key_and_value, pairs_in}
 use Rattle.esc_below.specs.declared.error.Error.{Error}
 use Rattle.esc_below.specs.declared.error.Error.TheVariants.{Invalid}
-use Rattle.esc_below.specs.Hyperlinks.{Pairs, put, put_all, is_colon, pairs_in, params_of}
+use Rattle.esc_below.specs.Hyperlinks.{put, put_all, is_colon, params_of}
 
 -- pieces, put in behind the pairs es
 abbrev pub reading : Pairs → List (List ℕ) → Option Pairs

@@ -7,49 +7,29 @@ use Rattle.std.specs.List.{slice_split, flat_map}
 use Rattle.std.specs.Option.{option_map}
 use Rattle.std.specs.Ordering.{nat_cmp}
 use Rattle.std.proofs.lemmas.List.{append-nil}
-use Rattle.std.proofs.lemmas.Str.{is_utf8-from_IsUtf8}
-use Rattle.esc_below.specs.Clear.{IsClearPart}
-use Rattle.esc_below.specs.Cuts.{cut_at, key_and_value}
-use Rattle.esc_below.specs.Hyperlinks.{Pairs, put, put_all, is_colon, pairs_in, params_of, pair_text, params_text}
-use Rattle.esc_below.specs.Scalars.{and_then, utf8_of}
-use Rattle.esc_below.proofs.ClearTexts.{part_append, part_utf8}
-use Rattle.esc_below.proofs.Cutting.{Free, free_append, cut_lacks, cut_keeps, cut_clear, cut_there, split_free, IsPiece, ArePieces, SplitsAt, splits}
+use Rattle.esc_below.specs.Clear.{is_part_char, IsClearPart}
+use Rattle.esc_below.specs.Cuts.{Pairs, key_and_value, pairs_in, pair_text}
+use Rattle.esc_below.specs.Hyperlinks.{put, put_all, is_colon, params_of, params_text}
+use Rattle.esc_below.specs.Scalars.{and_then}
+use Rattle.esc_below.proofs.ClearPairs.{IsClearPair, key_keeps, key_clear, key_back}
+use Rattle.esc_below.proofs.ClearTexts.{part_append}
+use Rattle.esc_below.proofs.Cutting.{Free, BothFree, free_more, free_append, cut_keeps, split_free, IsPiece, ArePieces, SplitsAt, splits}
 use Rattle.esc_below.proofs.PairsOrder.{AreOrdered, all_ordered, all_put_some, all_back}
+use Rattle.esc_below.proofs.PairsRead.{params_some}
 use Rattle.esc_below.proofs.PlainParts.{plain_part}
-use Rattle.esc_below.proofs.Where.{Where, where_map, where_then, utf8_keeps}
+use Rattle.esc_below.proofs.Where.{Where, where_map, where_then, where_both}
 
 -- a key and a value that can be written: clear parts without `:`, and the key without `=`
 abbrev pub IsGood : List ℕ × List ℕ → Type 0
-IsGood e = IsPiece 0x3a e.0 × IsPiece 0x3a e.1 × Free 0x3d e.0
+IsGood e = IsClearPair e × BothFree 0x3a e
 
 abbrev pub AreGood : Pairs → Type 0
 AreGood [] = Unit {0}
 AreGood (e ∷ es) = IsGood e × AreGood es
 
-pub part_utf8_of : (t : List ℕ) → IsClearPart t → utf8_of t ≡ Some t
-part_utf8_of t h = rw (is_utf8-from_IsUtf8 t (part_utf8 t h)) refl
-
 -- a piece that is read is good
-where_both : {X : Type 0} (P Q : X → Type 0) (o : Option X) → Where P o → Where Q o → Where (λ x. P x × Q x) o
-where_both P Q None h k = tt
-where_both P Q (Some x) h k = (h, k)
-
-abbrev GoodCut : List ℕ × List ℕ → Type 0
-GoodCut p = (IsClearPart p.0 × IsClearPart p.1) × ((Free 0x3a p.0 × Free 0x3a p.1) × Free 0x3d p.0)
-
-good_cut : (t : List ℕ) → IsPiece 0x3a t → Where GoodCut (cut_at 0x3d t)
-good_cut t h =
-    where_both (λ (p : List ℕ × List ℕ). IsClearPart p.0 × IsClearPart p.1) (λ (p : List ℕ × List ℕ). (Free 0x3a p.0 × Free 0x3a p.1) × Free 0x3d p.0) (cut_at 0x3d t)
-    (cut_clear 0x3d t (lit< tt) refl h.0)
-    (where_both (λ (p : List ℕ × List ℕ). Free 0x3a p.0 × Free 0x3a p.1) (λ (p : List ℕ × List ℕ). Free 0x3d p.0) (cut_at 0x3d t) (cut_keeps 0x3a 0x3d t h.1) (cut_lacks 0x3d t))
-
 good_piece : (t : List ℕ) → IsPiece 0x3a t → Where IsGood (key_and_value t)
-good_piece t h =
-    where_then GoodCut IsGood (λ c. and_then (utf8_of c.0) (λ k. option_map (λ v. (k, v)) (utf8_of c.1)))
-    (λ c good. where_then (λ k. IsPiece 0x3a k × Free 0x3d k) IsGood (λ k. option_map (λ v. (k, v)) (utf8_of c.1))
-    (λ k key. where_map (λ v. IsPiece 0x3a v) IsGood (λ v. (k, v)) (λ v value. (key.0, value, key.1)) (utf8_of c.1) (utf8_keeps (λ v. IsPiece 0x3a v) c.1 (good.0.1, good.1.0.1)))
-    (utf8_of c.0) (utf8_keeps (λ k. IsPiece 0x3a k × Free 0x3d k) c.0 ((good.0.0, good.1.0.0), good.1.1)))
-    (cut_at 0x3d t) (good_cut t h)
+good_piece t h = where_both IsClearPair (BothFree 0x3a) (key_and_value t) (key_clear t h.0) (key_keeps (BothFree 0x3a) t (cut_keeps 0x3a 0x3d t h.1))
 
 good_pairs : (ts : List (List ℕ)) → ArePieces 0x3a ts → Where AreGood (pairs_in ts)
 good_pairs [] h = tt
@@ -73,7 +53,7 @@ put_good k v (e ∷ es) h all = by (slice_cmp nat_cmp k e.0) refl (put_good k v 
   where
     by : (o : Ordering) → slice_cmp nat_cmp k e.0 ≡ o → AreGood (put k v es) → AreGood (put k v (e ∷ es))
     by Less is rest = rw is (h, all)
-    by Equal is rest = rw is ((all.0.0, h.1, all.0.2), all.1)
+    by Equal is rest = rw is ((((all.0.0.0.0, h.0.0.1), all.0.0.1), (all.0.1.0, h.1.1)), all.1)
     by Greater is rest = rw is (all.0, rest)
 
 all_good : (es qs : Pairs) → AreGood es → AreGood qs → AreGood (put_all es qs)
@@ -98,14 +78,14 @@ readable_split t (p, ps, is, one, more) =
     subst P (sym is) (readable_pairs p ps (one, more))
 
 pub readable : (b : ℕ) (t : List ℕ) → IsClearPart (b ∷ t) → Where AreReadable (params_of (b ∷ t))
-readable b t h = readable_split (b ∷ t) (splits 0x3a (b ∷ t) (lit< tt) refl h)
+readable b t h = readable_split (b ∷ t) (splits is_part_char 0x3a (b ∷ t) (lit< tt) (λ c ok other. ok) h)
 
 -- the text of good pairs
 pair_free : (e : List ℕ × List ℕ) → IsGood e → Free 0x3a (pair_text e)
-pair_free e h = free_append 0x3a e.0 (0x3d ∷ e.1) h.0.1 (refl, h.1.1)
+pair_free e h = free_append 0x3a e.0 (0x3d ∷ e.1) h.1.0 (free_more 0x3a 0x3d e.1 refl h.1.1)
 
 pair_clear : (e : List ℕ × List ℕ) → IsGood e → IsClearPart (pair_text e)
-pair_clear e h = part_append e.0 (0x3d ∷ e.1) h.0.0 (part_append (0x3d ∷ []) e.1 (plain_part (0x3d ∷ []) refl) h.1.0)
+pair_clear e h = part_append e.0 (0x3d ∷ e.1) h.0.0.0 (part_append (0x3d ∷ []) e.1 (plain_part (0x3d ∷ []) refl) h.0.0.1)
 
 more_clear : (es : Pairs) → AreGood es → IsClearPart (flat_map (λ d. 0x3a ∷ pair_text d) es)
 more_clear [] h = ([], refl, refl)
@@ -124,12 +104,9 @@ split_pairs e (d ∷ es) h =
     ∙ ap (λ t. t ∷ slice_split is_colon (params_text (d ∷ es))) (append-nil (pair_text e))
     ∙ ap (λ ts. pair_text e ∷ ts) (split_pairs d es h.1)
 
-pair_back : (e : List ℕ × List ℕ) → IsGood e → key_and_value (pair_text e) ≡ Some e
-pair_back e h = rw (cut_there 0x3d e.0 e.1 refl h.2, part_utf8_of e.0 h.0.0, part_utf8_of e.1 h.1.0) refl
-
 pairs_back : (es : Pairs) → AreGood es → pairs_in (map pair_text es) ≡ Some es
 pairs_back [] h = refl
-pairs_back (e ∷ es) h = rw (pair_back e h.0, pairs_back es h.1) refl
+pairs_back (e ∷ es) h = rw (key_back e.0 e.1 h.0.0.0.0 h.0.0.1 h.0.0.0.1, pairs_back es h.1) refl
 
 pair_some : (k r : List ℕ) → k ++ 0x3d ∷ r ≢ []
 pair_some [] r e = cc
@@ -143,12 +120,8 @@ pub params_text_some : (es : Pairs) → es ≢ [] → params_text es ≢ []
 params_text_some [] h = absurd (h refl)
 params_text_some (e ∷ es) h = pair_text_some e (flat_map (λ d. 0x3a ∷ pair_text d) es)
 
-params_of_some : (t : List ℕ) → t ≢ [] → params_of t ≡ option_map (λ es. put_all [] es) (pairs_in (slice_split is_colon t))
-params_of_some [] h = absurd (h refl)
-params_of_some (b ∷ t) h = refl
-
 pub params_back : (es : Pairs) → AreReadable es → params_of (params_text es) ≡ Some es
 params_back [] h = absurd (h.2 refl)
 params_back (e ∷ es) h =
-    params_of_some (params_text (e ∷ es)) (params_text_some (e ∷ es) h.2)
+    params_some (params_text (e ∷ es)) (params_text_some (e ∷ es) h.2)
     ∙ rw (split_pairs e es h.0, pairs_back (e ∷ es) h.0) (ap Some (all_back (e ∷ es) h.1))

@@ -3,7 +3,7 @@ use Rattle.std.proofs.Common.{ℕ, ◌≡◌, Bool, true, not, ◌&&◌, ◌==�
 use Rattle.std.specs.List.{list_all}
 use Rattle.std.proofs.lemmas.List.Folds.{list_all-append}
 use Rattle.esc_below.specs.Clear.{is_part_char, IsClearPart}
-use Rattle.esc_below.proofs.Split.{and_parts}
+use Rattle.esc_below.proofs.Numbers.{and_parts}
 use Rattle.esc_below.proofs.Plain.{is_plain, plain_is_clear, plain_encodes}
 
 -- from space to delete, but not `;`

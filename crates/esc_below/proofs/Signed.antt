@@ -16,7 +16,7 @@ use mir.Syntax.Width.{w8, w16, w32, w64, w128}
 use mir.Val.{bits, hbits}
 use Rattle.esc_below.specs.Clear.{IsClearPart}
 use Rattle.esc_below.specs.Scalars.{IsSigned, is_signed, signed_of}
-use Rattle.esc_below.proofs.Numbers.{own, bool_cases, both, and_true, ascii_cons, ascii_from_plus}
+use Rattle.esc_below.proofs.Numbers.{own, bool_cases, and_parts, and_true, ascii_cons, ascii_from_plus}
 use Rattle.esc_below.proofs.Numerals.{decimal_part, plain_from}
 use Rattle.esc_below.proofs.PlainParts.{plain_part, is_part_plain}
 use Rattle.esc_below.proofs.Where.{Where}
@@ -52,8 +52,8 @@ signed_test k bs = nat_lt 0 (length (without_leading_sign bs)) && all_ascii_digi
 
 numeral_from : (k : ℕ) (bs : List ℕ) → signed_test k bs ≡ true → IsNumeral 10 (without_leading_sign bs) × IsSigned k (signed_digits_value 10 bs)
 numeral_from k bs h =
-    let outer = both (nat_lt 0 (length (without_leading_sign bs)) && all_ascii_digits (without_leading_sign bs)) (is_signed k (signed_digits_value 10 bs)) h in
-    let inner = both (nat_lt 0 (length (without_leading_sign bs))) (all_ascii_digits (without_leading_sign bs)) outer.0 in
+    let outer = and_parts (nat_lt 0 (length (without_leading_sign bs)) && all_ascii_digits (without_leading_sign bs)) (is_signed k (signed_digits_value 10 bs)) h in
+    let inner = and_parts (nat_lt 0 (length (without_leading_sign bs))) (all_ascii_digits (without_leading_sign bs)) outer.0 in
     ((ltb-true _ _ inner.0, own.to (without_leading_sign bs) inner.1), is_signed_true k (signed_digits_value 10 bs) outer.1)
 
 test_from : (k : ℕ) (bs : List ℕ) → IsNumeral 10 (without_leading_sign bs) → IsSigned k (signed_digits_value 10 bs) → signed_test k bs ≡ true

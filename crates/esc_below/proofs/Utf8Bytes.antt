@@ -4,7 +4,7 @@ use Rattle.std.proofs.lemmas.Bool.{ltb-true}
 use Rattle.std.specs.Str.{IsUtf8}
 use Rattle.base64.specs.GeneralPurpose.{IsBytes}
 use lib.Utf8.{encode, encodes, scalar, scalars, scalar_cases}
-use Rattle.esc_below.proofs.Numbers.{bool_cases, both}
+use Rattle.esc_below.proofs.Numbers.{bool_cases, and_parts}
 
 -- every number is a byte
 abbrev pub AreBytes : List ℕ → Type 0
@@ -34,7 +34,7 @@ bytes_append (b ∷ bs) q h k = (h.0, bytes_append bs q h.1 k)
 encodes_bytes : (cs : List ℕ) → scalars cs ≡ true → AreBytes (encodes cs)
 encodes_bytes [] h = tt
 encodes_bytes (c ∷ cs) h =
-    let parts = both (scalar c) (scalars cs) h in
+    let parts = and_parts (scalar c) (scalars cs) h in
     bytes_append (encode c) (encodes cs) (encode_bytes c (below c parts.0)) (encodes_bytes cs parts.1)
 
 -- each byte by its index

@@ -8,13 +8,9 @@ use Rattle.std.specs.Map.{lookup}
 use Rattle.std.specs.Option.{option_map}
 use Rattle.std.specs.Ordering.{nat_cmp}
 use Rattle.std.specs.Str.{bytes_eq}
-use Rattle.esc_below.specs.Cuts.{key_and_value}
+use Rattle.esc_below.specs.Cuts.{Pairs, pairs_in, pair_text}
 use Rattle.esc_below.specs.Scalars.{and_then, utf8_of}
 use Rattle.esc_below.specs.declared.hyperlink.Hyperlink.{Hyperlink}
-
--- keys with their values
-abbrev pub Pairs : Type 0
-Pairs = List (List ℕ × List ℕ)
 
 -- the pairs with v at k: in the order of the keys' bytes, where the value of a key that is there is replaced
 abbrev pub put : List ℕ → List ℕ → Pairs → Pairs
@@ -33,20 +29,11 @@ value_at k es = lookup (bytes_eq k) es
 abbrev pub is_colon : ℕ → Bool
 is_colon c = c == 0x3a
 
--- the pieces as keys and values, where each is one
-abbrev pub pairs_in : List (List ℕ) → Option Pairs
-pairs_in [] = Some []
-pairs_in (p ∷ ps) = and_then (key_and_value p) (λ e. option_map (λ es. e ∷ es) (pairs_in ps))
-
 -- The parameters that a text holds between its first two `;`: keys and values between `:`, of which a later one replaces
 -- an earlier one of the same key; none where it is empty.
 abbrev pub params_of : List ℕ → Option Pairs
 params_of [] = Some []
 params_of (b ∷ t) = option_map (λ es. put_all [] es) (pairs_in (slice_split is_colon (b ∷ t)))
-
--- a key and its value
-abbrev pub pair_text : List ℕ × List ℕ → List ℕ
-pair_text e = e.0 ++ 0x3d ∷ e.1
 
 -- the pairs, with `:` between them
 abbrev pub params_text : Pairs → List ℕ

@@ -1,11 +1,11 @@
 //! Hyperlinks.
-ghost use Rattle.std.specs.Prelude.{◌≡◌, ℕ, [], ◌∷◌, codes, map, IfOk, IfErr, OnOk, Some, None};
+ghost use Rattle.std.specs.Prelude.{◌≡◌, [], ◌∷◌, codes, map, IfOk, IfErr, OnOk, Some, None};
 ghost use Rattle.std.specs.Fmt.{DisplaysOnOk};
 ghost use Rattle.std.specs.List.{flat_map};
 ghost use Rattle.std.specs.Option.{option_map};
-ghost use Rattle.esc_below.specs.Cuts.{key_and_value};
+ghost use Rattle.esc_below.specs.Cuts.{key_and_value, pair_text};
 ghost use Rattle.esc_below.specs.declared.error.Error.TheVariants.{Invalid};
-ghost use Rattle.esc_below.specs.Hyperlinks.{put, params_of, link_of, link_in, link_to, hyperlink_text, params_text, pair_text};
+ghost use Rattle.esc_below.specs.Hyperlinks.{put, params_of, link_of, link_in, link_to, hyperlink_text, params_text};
 
 use crate::cut::{cut, key_and_value};
 use crate::error::Error;

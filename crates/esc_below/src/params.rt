@@ -1,5 +1,5 @@
 //! The parameters of a hyperlink.
-ghost use Rattle.std.specs.Prelude.{◌≡◌, ℕ, ◌<◌, ◌^◌, ◌&&◌, List, [], length, map, nat_eq, IsTrue, ◌↔◌, string_bytes, OnOk, OnErr};
+ghost use Rattle.std.specs.Prelude.{◌≡◌, ℕ, ◌<◌, ◌&&◌, List, [], length, map, nat_eq, IsTrue, ◌↔◌, string_bytes, OnOk, OnErr};
 ghost use Rattle.std.specs.Cmp.Lexicographic.{pointwise, lists_per, nat_list_eq_equiv};
 ghost use Rattle.std.specs.Cmp.{partial_equiv_from_equiv, on_per, and_per};
 ghost use Rattle.std.specs.Iterator.{at_most};

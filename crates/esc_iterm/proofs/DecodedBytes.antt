@@ -1,16 +1,15 @@
 -- What base64 decodes to is bytes.
-use Rattle.std.proofs.Common.{◌≡◌, ◌≢◌, ℕ, zero, suc, ◌+◌, ◌*◌, ◌<◌, ◌≤◌, Bool, true, false, nat_lt, ◌==◌, ◌||◌, List, [], ◌∷◌, ◌++◌, length, get_or, take, drop, Option, Some, None, Result, Ok, Err, refl, sym, ap, ◌∙◌, arith, inl, inr, subst}
+use Rattle.std.proofs.Common.{◌≡◌, ◌≢◌, ℕ, zero, suc, ◌+◌, ◌*◌, ◌<◌, Bool, true, nat_lt, ◌==◌, ◌||◌, List, [], ◌∷◌, length, take, drop, Option, Some, None, Result, Ok, Err, refl, arith, inl, inr, subst}
 use Rattle.std.specs.List.{slice_index, slice_set}
 use Rattle.std.specs.Result.{result_ok}
 use Rattle.std.proofs.lemmas.Bool.{eqb-false, ne_eqb, ltb-true, cases_lt}
 use Rattle.std.proofs.lemmas.List.{get_or_past}
 use Rattle.base64.specs.Decode.{or_else, symbol_error, group_error, decode_group, groups_error, groups_bytes, groups_before_last, push_leftover, no_leftover, scan_steps, scan_last, scan_bytes, lone_error, decode_error, decode_outcome, decoded_bytes}
-use Rattle.base64.specs.GeneralPurpose.{IsBytes, decode_of}
+use Rattle.base64.specs.GeneralPurpose.{IsBytes}
 use Rattle.base64.specs.Tables.{all_below}
 use Rattle.base64.specs.declared.decode.DecodeError.{DecodeError}
 use Rattle.base64.specs.declared.engine.DecodePaddingMode.TheVariants.{RequireCanonical}
 use Rattle.base64.proofs.Tables.{all_below_at}
-use Rattle.base64.proofs.EngineFacts.{decode_of_bytes}
 use Rattle.esc_below.specs.Base64.{engine_value, base64_of}
 use Rattle.esc_below.proofs.Numbers.{bool_cases}
 use Rattle.esc_below.proofs.Utf8Bytes.{AreBytes, bytes_append, by_index}

@@ -1,39 +1,21 @@
 -- A file that was read has only numbers of 64 bits, bytes, and a name that is a text.
-use Rattle.std.proofs.Common.{ℕ, ◌≡◌, ◌<◌, ◌^◌, Bool, true, false, nat_lt, nat_eq, ◌&&◌, if◌then◌else◌, List, [], ◌∷◌, length, drop, codes, Option, Some, None, refl, subst, inl, inr}
+use Rattle.std.proofs.Common.{ℕ, ◌≡◌, ◌<◌, ◌^◌, nat_eq, List, [], ◌∷◌, drop, codes, Option, Some, None, subst}
 use Rattle.std.specs.List.{starts_with}
-use Rattle.std.specs.Option.{option_map}
-use Rattle.std.specs.Prelude.{IfSome}
-use Rattle.std.specs.Str.{IsUtf8, all_ascii_digits}
-use Rattle.std.specs.Str.Parse.{without_leading_plus, digits_value}
+use Rattle.std.specs.Option.{unwrap_or}
+use Rattle.std.specs.Str.{IsUtf8}
 use Rattle.base64.specs.GeneralPurpose.{IsBytes}
 use Rattle.esc_below.specs.Base64.{base64_of, base64_text_of}
 use Rattle.esc_below.specs.Scalars.{and_then, number_of}
-use Rattle.esc_below.proofs.Numbers.{bool_cases, numeral_from_test}
-use Rattle.esc_below.proofs.Where.{Where, where_map, where_then, Anything, anything, content_where}
+use Rattle.esc_below.proofs.Where.{Where, where_from, where_if, where_map, where_then, number_where, Anything, anything, content_where}
 use Rattle.esc_iterm.specs.Dimensions.{dimension_of, IsDimension}
-use Rattle.esc_iterm.specs.Files.{Values, values_of, size_in, automatic_or, filled, file_with, file_from, file_of, IsWritableFile}
+use Rattle.esc_iterm.specs.Files.{Values, values_of, size_in, filled, file_with, file_from, file_of, IsWritableFile}
 use Rattle.esc_iterm.specs.declared.dimension.ITermDimension.{ITermDimension}
 use Rattle.esc_iterm.specs.declared.dimension.ITermDimension.TheVariants.{Automatic}
 use Rattle.esc_iterm.specs.declared.file_data.ITermFileData.{ITermFileData}
 use Rattle.esc_iterm.proofs.DecodedBytes.{decoded_are_bytes}
 use Rattle.esc_iterm.proofs.DimensionsBack.{dimension_where}
 
-if_some : {X : Type 0} (P : X → Type 0) (o : Option X) → Where P o → IfSome o P
-if_some P None h = tt
-if_some P (Some x) h = h
-
-where_is : {X : Type 0} (P : X → Type 0) (o : Option X) → ((x : X) → o ≡ Some x → P x) → Where P o
-where_is P None h = tt
-where_is P (Some x) h = h x refl
-
-number_below : (bs : List ℕ) → Where (λ n. n < 2 ^ 64) (number_of 64 bs)
-number_below bs =
-    elim (bool_cases (nat_lt 0 (length (without_leading_plus bs)) && all_ascii_digits (without_leading_plus bs) && nat_lt (digits_value 10 (without_leading_plus bs)) (2 ^ 64))) [
-      | inl held ↦ let k = (numeral_from_test 64 (without_leading_plus bs) held).1 in rw held k
-      | inr failed ↦ rw failed tt
-    ]
-
-automatic_where : (o : Option ITermDimension) → Where (λ d. IsDimension d) o → IsDimension (automatic_or o)
+automatic_where : (o : Option ITermDimension) → Where (λ d. IsDimension d) o → IsDimension (unwrap_or o Automatic)
 automatic_where None h = tt
 automatic_where (Some d) h = h
 
@@ -43,8 +25,8 @@ size_where v = automatic_where (and_then v dimension_of)
 
 filled_where : (A : Type 0) (v : Values) (bs : List ℕ) → IsBytes bs → IsWritableFile (filled {A = A} v bs)
 filled_where A v bs h = (
-  if_some (λ t. IsUtf8 t) (and_then v.name base64_text_of) (where_then (λ (t : List ℕ). Anything t) (λ t. IsUtf8 t) base64_text_of (λ t k. content_where t) v.name (anything v.name)),
-  if_some (λ n. n < 2 ^ 64) (and_then v.size (number_of 64)) (where_then (λ (t : List ℕ). Anything t) (λ n. n < 2 ^ 64) (number_of 64) (λ t k. number_below t) v.size (anything v.size)),
+  where_then (λ (t : List ℕ). Anything t) (λ t. IsUtf8 t) base64_text_of (λ t k. content_where t) v.name (anything v.name),
+  where_then (λ (t : List ℕ). Anything t) (λ n. n < 2 ^ 64) (number_of 64) (λ t k. number_where 64 t) v.size (anything v.size),
   size_where v.width,
   size_where v.height,
   h,
@@ -53,19 +35,15 @@ filled_where A v bs h = (
 file_with_where : (A : Type 0) (v : Values) (t : List ℕ) → Where (λ f. IsWritableFile f) (file_with {A = A} v t)
 file_with_where A v t =
     where_map (λ m. IsBytes m) (λ f. IsWritableFile f) (filled {A = A} v) (λ m h. filled_where A v m h) (base64_of t)
-    (where_is (λ m. IsBytes m) (base64_of t) (λ m e. decoded_are_bytes t m e))
+    (where_from (λ m. IsBytes m) (base64_of t) (λ m e. decoded_are_bytes t m e))
 
 file_from_where : (A : Type 0) (ps : List (List ℕ)) → Where (λ f. IsWritableFile f) (file_from {A = A} ps)
 file_from_where A ps =
     where_then (λ (m : Values × List ℕ). Anything m) (λ f. IsWritableFile f) (λ (m : Values × List ℕ). file_with {A = A} m.0 m.1) (λ m h. file_with_where A m.0 m.1) (values_of ps) (anything (values_of ps))
 
-begun_where : {A : Type 0} (b : Bool) (o : Option (ITermFileData A)) → Where (λ f. IsWritableFile f) o → Where (λ f. IsWritableFile f) (if b then o else None)
-begun_where true o h = h
-begun_where false o h = tt
-
 file_where : (A : Type 0) (args : List (List ℕ)) → Where (λ f. IsWritableFile f) (file_of {A = A} args)
 file_where A [] = tt
-file_where A (p ∷ ps) = begun_where (starts_with nat_eq p (codes "File=")) (file_from {A = A} (drop 5 p ∷ ps)) (file_from_where A (drop 5 p ∷ ps))
+file_where A (p ∷ ps) = where_if (λ f. IsWritableFile f) (starts_with nat_eq p (codes "File=")) (file_from {A = A} (drop 5 p ∷ ps)) None (file_from_where A (drop 5 p ∷ ps)) tt
 
 pub file_is_writable : {A : Type 0} (args : List (List ℕ)) (f : ITermFileData A) → file_of args ≡ Some f → IsWritableFile f
 file_is_writable {A = A} args f e = let P : Option (ITermFileData A) → Type 0 = λ o. Where (λ g. IsWritableFile g) o in subst P e (file_where A args)

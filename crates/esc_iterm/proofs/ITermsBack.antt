@@ -1,27 +1,27 @@
 -- Every writable command reads back.
-use Rattle.std.proofs.Common.{ℕ, ◌≡◌, ◌≢◌, ◌<◌, ◌^◌, Bool, true, false, nat_eq, if◌then◌else◌, inl, inr, List, [], ◌∷◌, ◌++◌, codes, Option, Some, None, refl, sym, ap, ◌∙◌, subst}
-use Rattle.std.specs.List.{starts_with, flat_map, list_all}
+use Rattle.std.proofs.Common.{ℕ, ◌≡◌, ◌<◌, ◌^◌, Bool, true, false, nat_eq, if◌then◌else◌, inl, inr, List, [], ◌∷◌, ◌++◌, codes, Some, None, refl, sym, ap, ◌∙◌, subst}
+use Rattle.std.specs.List.{starts_with}
 use Rattle.std.specs.Option.{option_map}
 use Rattle.std.specs.Str.{IsUtf8}
 use Rattle.std.specs.Str.Lossy.{utf8_lossy}
 use Rattle.std.proofs.lemmas.List.{append-nil}
 use Rattle.esc_below.specs.Base64.{base64_text, base64_text_of}
-use Rattle.esc_below.specs.Clear.{IsClearPart, AreClearParts, joined}
-use Rattle.esc_below.specs.Cuts.{cut_at, key_and_value}
+use Rattle.esc_below.specs.Clear.{IsClearPart, joined}
 use Rattle.esc_below.specs.Scalars.{and_then}
 use Rattle.esc_below.proofs.Base64.{base64_part, base64_back}
+use Rattle.esc_below.proofs.ClearPairs.{key_back, key_none}
 use Rattle.esc_below.proofs.ClearTexts.{part_append, part_lossy}
+use Rattle.esc_below.proofs.Cutting.{Free}
 use Rattle.esc_below.proofs.Numbers.{bool_cases}
 use Rattle.esc_below.proofs.PlainParts.{plain_part}
-use Rattle.esc_iterm.specs.Files.{file_of, file_text, FileBack}
-use Rattle.esc_iterm.specs.ITerms.{alone, bare, keyed, form_from, form_of, iterm_of, form_text, iterm_text}
+use Rattle.esc_iterm.specs.Files.{file_of, FileBack}
+use Rattle.esc_iterm.specs.ITerms.{alone, bare, keyed, form_from, form_of, iterm_of, form_text}
 use Rattle.esc_iterm.specs.Tenths.{tenths_text}
 use Rattle.esc_iterm.specs.Versions.{version_text}
 use Rattle.esc_iterm.specs.WritableITerms.{IsWritableITerm, WritesBack}
 use Rattle.esc_iterm.specs.declared.file_data.ITermFileData.{ITermFileData}
 use Rattle.esc_iterm.specs.declared.proprietary.ITermProprietary.{ITermProprietary}
 use Rattle.esc_iterm.specs.declared.proprietary.ITermProprietary.TheVariants as iterm
-use Rattle.esc_iterm.proofs.Cutting.{key_back, key_none}
 use Rattle.esc_iterm.proofs.FilesBack.{file_back}
 use Rattle.esc_iterm.proofs.TenthsBack.{tenths_back, tenths_part}
 use Rattle.esc_iterm.proofs.VersionsBack.{version_back, version_part}
@@ -29,7 +29,7 @@ use Rattle.esc_iterm.proofs.VersionsBack.{version_back, version_part}
 -- a clear keyword without `=` that is not `File`
 record Keyword (k : List ℕ) : Type 0 where
   pub clear : IsClearPart k
-  pub lacks : cut_at 0x3d k ≡ None
+  pub lacks : Free 0x3d k
   pub other : (r : List ℕ) → starts_with nat_eq (k ++ r) (codes "File=") ≡ false
 
 -- a keyword and its argument
@@ -124,7 +124,7 @@ copy_back A t u = (
 variable_part : (n t : List ℕ) → IsClearPart n → IsUtf8 t → IsClearPart (n ++ 0x3d ∷ base64_text t)
 variable_part n t h u = part_append n (0x3d ∷ base64_text t) h (part_append (0x3d ∷ []) (base64_text t) (plain_part (0x3d ∷ []) refl) (base64_part t u))
 
-variable_back : (A : Type 0) (n t : List ℕ) → IsClearPart n → cut_at 0x3d n ≡ None → IsUtf8 t → WritesBack {A = A} (iterm.SetUserVar n t)
+variable_back : (A : Type 0) (n t : List ℕ) → IsClearPart n → Free 0x3d n → IsUtf8 t → WritesBack {A = A} (iterm.SetUserVar n t)
 variable_back A n t h lacks u =
     one_back A (iterm.SetUserVar n t) (codes "SetUserVar") (n ++ 0x3d ∷ base64_text t)
     (record { clear = plain_part (codes "SetUserVar") refl; lacks = refl; other = λ r. refl })

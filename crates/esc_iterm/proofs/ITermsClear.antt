@@ -1,5 +1,5 @@
 -- What clear parts mean is writable.
-use Rattle.std.proofs.Common.{ℕ, ◌≡◌, ◌==◌, Bool, true, false, nat_eq, if◌then◌else◌, inl, inr, List, [], ◌∷◌, length, codes, Option, Some, None, refl, sym, subst}
+use Rattle.std.proofs.Common.{ℕ, ◌≡◌, ◌==◌, nat_eq, inl, inr, List, [], ◌∷◌, length, codes, Option, Some, None, sym, subst}
 use Rattle.std.specs.Cmp.Lexicographic.{pointwise}
 use Rattle.std.specs.List.{starts_with}
 use Rattle.std.specs.Option.{option_map}
@@ -8,10 +8,10 @@ use Rattle.std.specs.Str.Lossy.{utf8_lossy}
 use Rattle.esc_below.specs.Base64.{base64_text_of}
 use Rattle.esc_below.specs.Clear.{IsClearPart, AreClearParts}
 use Rattle.esc_below.specs.Cuts.{key_and_value}
-use Rattle.esc_below.specs.Scalars.{and_then}
+use Rattle.esc_below.proofs.ClearPairs.{IsClearPair, key_clear}
 use Rattle.esc_below.proofs.ClearTexts.{part_lossy}
 use Rattle.esc_below.proofs.Numbers.{bool_cases}
-use Rattle.esc_below.proofs.Where.{Where, where_map, where_then, content_where}
+use Rattle.esc_below.proofs.Where.{Where, where_from, where_if, where_map, where_then, content_where}
 use Rattle.esc_iterm.specs.Files.{file_of, IsWritableFile}
 use Rattle.esc_iterm.specs.ITerms.{alone, highlight_of, variable_of, assigned, content_of, cell_size, scaled_size, with_one, with_two, bare, keyed, form_from, form_of, iterm_of}
 use Rattle.esc_iterm.specs.Tenths.{tenths_of}
@@ -20,7 +20,6 @@ use Rattle.esc_iterm.specs.WritableITerms.{IsScale, IsVersion, IsWritableITerm}
 use Rattle.esc_iterm.specs.declared.file_data.ITermFileData.{ITermFileData}
 use Rattle.esc_iterm.specs.declared.proprietary.ITermProprietary.{ITermProprietary}
 use Rattle.esc_iterm.specs.declared.proprietary.ITermProprietary.TheVariants as iterm
-use Rattle.esc_iterm.proofs.Cutting.{IsEntry, key_clear}
 use Rattle.esc_iterm.proofs.FilesWritable.{file_is_writable}
 use Rattle.esc_iterm.proofs.TenthsBack.{IsSmall, tenths_where}
 use Rattle.esc_iterm.proofs.VersionsBack.{version_where}
@@ -60,8 +59,8 @@ highlight_good A v =
 
 variable_good : (A : Type 0) (v : List ℕ) → IsClearPart v → Where (Good A) (variable_of v)
 variable_good A v h =
-    where_then (λ (e : List ℕ × List ℕ). IsEntry e) (Good A) (λ (e : List ℕ × List ℕ). option_map (λ t. iterm.SetUserVar e.0 t) (base64_text_of e.1))
-    (λ e q. where_map (λ u. IsUtf8 u) (Good A) (λ t. iterm.SetUserVar e.0 t) (λ t u. (q.0, q.2, u)) (base64_text_of e.1) (content_where e.1))
+    where_then IsClearPair (Good A) (λ (e : List ℕ × List ℕ). option_map (λ t. iterm.SetUserVar e.0 t) (base64_text_of e.1))
+    (λ e q. where_map (λ u. IsUtf8 u) (Good A) (λ t. iterm.SetUserVar e.0 t) (λ t u. (q.0.0, q.1, u)) (base64_text_of e.1) (content_where e.1))
     (key_and_value v) (key_clear v h)
 
 badge_good : (A : Type 0) (b : List ℕ) → Where (Good A) (option_map iterm.SetBadgeFormat (base64_text_of b))
@@ -143,9 +142,9 @@ keyed_good A k v (b ∷ []) h = one_good A k v b
 keyed_good A k v (b ∷ c ∷ []) h = two_good A k v b c
 keyed_good A k v (b ∷ c ∷ d ∷ more) h = tt
 
-from_good : (A : Type 0) (t : List ℕ) (o : Option (List ℕ × List ℕ)) (more : List (List ℕ)) → Where (λ (e : List ℕ × List ℕ). IsEntry e) o → Where (Good A) (form_from t o more)
+from_good : (A : Type 0) (t : List ℕ) (o : Option (List ℕ × List ℕ)) (more : List (List ℕ)) → Where IsClearPair o → Where (Good A) (form_from t o more)
 from_good A t None more h = bare_good A t more
-from_good A t (Some e) more h = keyed_good A e.0 e.1 more h.1
+from_good A t (Some e) more h = keyed_good A e.0 e.1 more h.0.1
 
 form_good : (A : Type 0) (t : List ℕ) (more : List (List ℕ)) → IsClearPart t → Where (Good A) (form_of t more)
 form_good A t more h = from_good A t (key_and_value t) more (key_clear t h)
@@ -153,23 +152,15 @@ form_good A t more h = from_good A t (key_and_value t) more (key_clear t h)
 lossy_good : (A : Type 0) (p : List ℕ) (more : List (List ℕ)) → IsClearPart p → Where (Good A) (form_of (utf8_lossy p) more)
 lossy_good A p more h = let P : List ℕ → Type 0 = λ t. Where (Good A) (form_of t more) in subst P (sym (part_lossy p h)) (form_good A p more h)
 
-where_from : {X : Type 0} (P : X → Type 0) (o : Option X) → ((x : X) → o ≡ Some x → P x) → Where P o
-where_from P None h = tt
-where_from P (Some x) h = h x refl
-
 file_good : (A : Type 0) (args : List (List ℕ)) → Where (Good A) (option_map iterm.File (file_of args))
 file_good A args =
     where_map (λ (d : ITermFileData A). IsWritableFile {A = A} d) (Good A) iterm.File (λ d q. q) (file_of args)
     (where_from (λ (d : ITermFileData A). IsWritableFile {A = A} d) (file_of args) (λ d e. file_is_writable args d e))
 
-one_of : (A : Type 0) (b : Bool) (x y : Option (ITermProprietary A)) → Where (Good A) x → Where (Good A) y → Where (Good A) (if b then x else y)
-one_of A true x y h k = h
-one_of A false x y h k = k
-
 iterm_good : (A : Type 0) (args : List (List ℕ)) → AreClearParts args → Where (Good A) (iterm_of args)
 iterm_good A [] h = tt
 iterm_good A (p ∷ more) h =
-    one_of A (starts_with nat_eq p (codes "File=")) (option_map iterm.File (file_of (p ∷ more))) (form_of (utf8_lossy p) more)
+    where_if (Good A) (starts_with nat_eq p (codes "File=")) (option_map iterm.File (file_of (p ∷ more))) (form_of (utf8_lossy p) more)
     (file_good A (p ∷ more)) (lossy_good A p more h.0)
 
 pub clear_is_writable : {A : Type 0} (args : List (List ℕ)) → AreClearParts args → (c : ITermProprietary A) → iterm_of args ≡ Some c → IsWritableITerm c

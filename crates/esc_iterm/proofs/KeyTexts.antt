@@ -1,5 +1,5 @@
 -- Texts of numbers, and which characters they have.
-use Rattle.std.proofs.Common.{ℕ, suc, ℤ, pos, negsuc, ◌+◌, ◌-◌, ◌^◌, ◌≡◌, ◌<◌, ◌≤◌, Bool, true, false, not, nat_eq, ◌&&◌, ◌==◌, List, [], ◌∷◌, ◌++◌, length, get_or, drop, refl, arith, zero, inl, inr}
+use Rattle.std.proofs.Common.{ℕ, suc, ℤ, pos, negsuc, ◌+◌, ◌-◌, ◌^◌, ◌≡◌, ◌<◌, ◌≤◌, Bool, true, false, not, nat_eq, ◌&&◌, ◌==◌, List, [], ◌∷◌, length, get_or, drop, refl, arith, zero, inl, inr}
 use Rattle.std.specs.Cmp.Lexicographic.{pointwise}
 use Rattle.std.specs.Fmt.{decimal, signed_decimal}
 use Rattle.std.specs.List.{list_all}
@@ -9,9 +9,8 @@ use Rattle.std.proofs.lemmas.Str.Parse.{digit_at}
 use Rattle.base64.specs.Tables.{all_below}
 use Rattle.base64.proofs.Tables.{all_below_at}
 use Rattle.esc_below.specs.Scalars.{IsSigned}
-use Rattle.esc_below.proofs.Numbers.{bool_cases}
+use Rattle.esc_below.proofs.Numbers.{bool_cases, and_parts}
 use Rattle.esc_below.proofs.PlainParts.{is_part_plain}
-use Rattle.esc_below.proofs.Split.{and_parts}
 
 -- from space to delete, but neither `;` nor `:`
 abbrev pub is_key_plain : ℕ → Bool

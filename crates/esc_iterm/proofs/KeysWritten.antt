@@ -1,20 +1,20 @@
 -- The keys of a file, one written behind another.
-use Rattle.std.proofs.Common.{ℕ, ◌≡◌, Bool, true, false, not, ◌&&◌, if◌then◌else◌, List, [], ◌∷◌, ◌++◌, codes, Option, Some, None, is_none, is_some, refl, sym, ap, ◌∙◌}
+use Rattle.std.proofs.Common.{ℕ, ◌≡◌, Bool, true, false, not, ◌&&◌, List, [], ◌∷◌, ◌++◌, codes, Option, Some, None, is_none, is_some, refl, sym, ap, ◌∙◌}
 use Rattle.std.specs.Fmt.{decimal}
-use Rattle.std.specs.List.{flat_map}
 use Rattle.std.specs.Option.{option_map}
 use Rattle.std.proofs.lemmas.List.{append-nil}
 use Rattle.esc_below.specs.Base64.{base64_text}
 use Rattle.esc_below.specs.Clear.{joined}
+use Rattle.esc_below.specs.Cuts.{pair_text}
 use Rattle.esc_below.specs.Scalars.{when}
 use Rattle.esc_iterm.specs.Files.{key_piece, key_pieces, pieces_behind, written_dimension, written_keys}
 use Rattle.esc_iterm.specs.declared.file_data.ITermFileData.{ITermFileData}
 
 behind_more : (b : Bool) (k : List ℕ) (o : Option (List ℕ)) (ps : List (List ℕ)) → pieces_behind b (key_piece k o) ++ pieces_behind (b && is_none o) ps ≡ pieces_behind b (key_piece k o ++ ps)
 behind_more true k None ps = refl
-behind_more true k (Some v) ps = ap (λ t. t ++ pieces_behind false ps) (append-nil (k ++ 0x3d ∷ v))
+behind_more true k (Some v) ps = ap (λ t. t ++ pieces_behind false ps) (append-nil (pair_text (k, v)))
 behind_more false k None ps = refl
-behind_more false k (Some v) ps = ap (λ t. (0x3b ∷ t) ++ pieces_behind false ps) (append-nil (k ++ 0x3d ∷ v))
+behind_more false k (Some v) ps = ap (λ t. (0x3b ∷ t) ++ pieces_behind false ps) (append-nil (pair_text (k, v)))
 
 behind_none : (b : Bool) → [] ≡ pieces_behind b []
 behind_none true = refl

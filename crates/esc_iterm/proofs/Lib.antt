@@ -1,4 +1,3 @@
-pub mod Cutting
 pub mod DecodedBytes
 pub mod DimensionsBack
 pub mod FilesBack

@@ -1,5 +1,5 @@
 -- Tenths are clear parts that read back.
-use Rattle.std.proofs.Common.{ℕ, ◌≡◌, ◌<◌, ◌+◌, ◌-◌, ◌*◌, ◌^◌, ◌/◌, ◌%◌, ◌≤◌, nat_lt, inl, inr, List, [], ◌∷◌, ◌++◌, length, Option, Some, None, refl, ap, arith, lt-ltb}
+use Rattle.std.proofs.Common.{ℕ, ◌≡◌, ◌<◌, ◌+◌, ◌-◌, ◌*◌, ◌^◌, ◌/◌, ◌%◌, ◌≤◌, nat_lt, inl, inr, List, [], ◌∷◌, Option, Some, None, refl, arith, lt-ltb}
 use Rattle.std.specs.Fmt.{decimal}
 use Rattle.std.proofs.lemmas.Bool.{le-leb, ltb-true}
 use Rattle.std.proofs.lemmas.Fmt.{decimal_is_IsNumeral, decimal_digit}
@@ -8,18 +8,18 @@ use Rattle.esc_below.specs.Clear.{IsClearPart}
 use Rattle.esc_below.specs.Cuts.{cut_at}
 use Rattle.esc_below.specs.Scalars.{and_then, when, number_in}
 use Rattle.esc_below.proofs.ClearTexts.{part_append}
+use Rattle.esc_below.proofs.Cutting.{Free, free_from, cut_there}
 use Rattle.esc_below.proofs.Numbers.{bool_cases, test_from_numeral}
 use Rattle.esc_below.proofs.Numerals.{decimal_part}
 use Rattle.esc_below.proofs.PlainParts.{plain_part}
 use Rattle.esc_below.proofs.Where.{Where, where_then, Anything, anything}
 use Rattle.esc_iterm.specs.Tenths.{tenth_of, tenths_in, tenths_from, tenths_of, tenths_text}
-use Rattle.esc_iterm.proofs.Cutting.{cut_back, none_from}
 
 -- a number has no character below the digits
-pub decimal_lacks : (c n : ℕ) → c < 48 → n < 2 ^ 64 → cut_at c (decimal n) ≡ None
+pub decimal_lacks : (c n : ℕ) → c < 48 → n < 2 ^ 64 → Free c (decimal n)
 decimal_lacks c n low fits =
     let f = decimal_is_IsNumeral n fits in
-    none_from c (decimal n) (λ k below e. let range = digit_at (decimal n) k f.0.1 below in omega (arith, range, e, low))
+    free_from c (decimal n) (λ k below e. let range = digit_at (decimal n) k f.0.1 below in omega (arith, range, e, low))
 
 whole_back : (n : ℕ) → n < 2 ^ 32 → number_in 32 (decimal n) ≡ Some n
 whole_back n small =
@@ -39,7 +39,7 @@ tenth_back d small = rw (decimal_digit d small) (digit_back (48 + d) d refl smal
 
 pub tenths_back : (n : ℕ) → n < 2 ^ 32 → tenths_of (tenths_text n) ≡ Some n
 tenths_back n small =
-    let cut = cut_back 0x2e (decimal (n / 10)) (decimal (n % 10)) (decimal_lacks 0x2e (n / 10) (omega arith) (omega arith)) in
+    let cut = cut_there 0x2e (decimal (n / 10)) (decimal (n % 10)) (decimal_lacks 0x2e (n / 10) (omega arith) (omega arith)) in
     let same : 10 * (n / 10) + n % 10 ≡ n = omega arith in
     rw (cut, whole_back (n / 10) (omega arith), tenth_back (n % 10) (omega arith), same, lt-ltb n (2 ^ 32) small) refl
 

@@ -1,16 +1,16 @@
 -- What is done to the version of Unicode is a clear part that reads back.
-use Rattle.std.proofs.Common.{ℕ, ◌≡◌, ◌≢◌, ◌<◌, ◌^◌, nat_eq, false, inl, inr, List, [], ◌∷◌, ◌++◌, get_or, codes, Option, Some, None, refl, ap, arith}
+use Rattle.std.proofs.Common.{ℕ, ◌≡◌, ◌≢◌, ◌<◌, ◌^◌, nat_eq, false, inl, inr, List, [], ◌∷◌, get_or, codes, Option, Some, None, lit<, refl, ap, arith}
 use Rattle.std.specs.Cmp.Lexicographic.{pointwise}
 use Rattle.std.specs.Fmt.{decimal}
 use Rattle.std.specs.Option.{option_map}
 use Rattle.std.proofs.lemmas.Bool.{ne_eqb}
 use Rattle.std.proofs.lemmas.Fmt.{decimal_is_IsNumeral}
-use Rattle.std.proofs.lemmas.Str.{is_utf8-from_IsUtf8}
 use Rattle.std.proofs.lemmas.Str.Parse.{digit_at}
 use Rattle.esc_below.specs.Clear.{IsClearPart}
 use Rattle.esc_below.specs.Cuts.{cut_at}
 use Rattle.esc_below.specs.Scalars.{utf8_of, number_of}
-use Rattle.esc_below.proofs.ClearTexts.{part_append, part_utf8}
+use Rattle.esc_below.proofs.ClearTexts.{part_append, part_utf8_of}
+use Rattle.esc_below.proofs.Cutting.{BothClear, cut_clear}
 use Rattle.esc_below.proofs.Numbers.{bool_cases}
 use Rattle.esc_below.proofs.Numerals.{decimal_part, number_back}
 use Rattle.esc_below.proofs.PlainParts.{plain_part}
@@ -19,7 +19,6 @@ use Rattle.esc_iterm.specs.Versions.{labelled, unlabelled, version_from, version
 use Rattle.esc_iterm.specs.WritableITerms.{IsLabel, IsVersion}
 use Rattle.esc_iterm.specs.declared.unicode_version.ITermUnicodeVersionOp.{ITermUnicodeVersionOp}
 use Rattle.esc_iterm.specs.declared.unicode_version.ITermUnicodeVersionOp.TheVariants as version
-use Rattle.esc_iterm.proofs.Cutting.{AreBoth, cut_clear}
 use Rattle.esc_iterm.proofs.TenthsBack.{decimal_lacks}
 
 -- a text with another first character is another word
@@ -39,15 +38,12 @@ number_version A n small =
     let pop = other_word (decimal n) 0x70 (codes "op") (first_digit n (omega arith)) in
     rw (decimal_lacks 0x20 n (omega arith) (omega arith), push, pop, number_back 8 n small (omega arith)) refl
 
-label_back : (l : List ℕ) → IsClearPart l → utf8_of l ≡ Some l
-label_back l h = rw (is_utf8-from_IsUtf8 l (part_utf8 l h)) refl
-
 pub version_back : (A : Type 0) (v : ITermUnicodeVersionOp A) → IsVersion v → version_of {A = A} (version_text v) ≡ Some v
 version_back A (version.Set n) h = number_version A n h
 version_back A (version.Push None) h = refl
-version_back A (version.Push (Some l)) h = ap (option_map (λ t. version.Push (Some t))) (label_back l h)
+version_back A (version.Push (Some l)) h = ap (option_map (λ t. version.Push (Some t))) (part_utf8_of l h)
 version_back A (version.Pop None) h = refl
-version_back A (version.Pop (Some l)) h = ap (option_map (λ t. version.Pop (Some t))) (label_back l h)
+version_back A (version.Pop (Some l)) h = ap (option_map (λ t. version.Pop (Some t))) (part_utf8_of l h)
 
 label_part : (l : Option (List ℕ)) → IsLabel l → IsClearPart (label_text l)
 label_part None h = plain_part (codes "") refl
@@ -78,13 +74,13 @@ unlabelled_where A w =
       | inl a ↦ rw a tt
       | inr b ↦ rw b (elim (bool_cases (pointwise nat_eq w (codes "pop"))) [
         | inl c ↦ rw c tt
-        | inr d ↦ rw d (where_map (λ n. n < 256) (Good A) version.Set (λ n q. q) (number_of 8 w) (number_where w))
+        | inr d ↦ rw d (where_map (λ n. n < 256) (Good A) version.Set (λ n q. q) (number_of 8 w) (number_where 8 w))
       ])
     ]
 
-from_where : (A : Type 0) (t : List ℕ) (o : Option (List ℕ × List ℕ)) → Where (λ (p : List ℕ × List ℕ). AreBoth p) o → Where (Good A) (version_from t o)
+from_where : (A : Type 0) (t : List ℕ) (o : Option (List ℕ × List ℕ)) → Where BothClear o → Where (Good A) (version_from t o)
 from_where A t None h = unlabelled_where A t
 from_where A t (Some c) h = labelled_where A c.0 c.1 h.1
 
 pub version_where : (A : Type 0) (t : List ℕ) → IsClearPart t → Where (Good A) (version_of t)
-version_where A t h = from_where A t (cut_at 0x20 t) (cut_clear 0x20 (omega arith) t h)
+version_where A t h = from_where A t (cut_at 0x20 t) (cut_clear 0x20 t (lit< tt) h)

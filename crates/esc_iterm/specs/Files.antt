@@ -1,42 +1,34 @@
 -- Files: how they are read and written.
-use Rattle.std.specs.Prelude.{ℕ, ◌≡◌, ◌≢◌, ◌<◌, ◌^◌, nat_eq, ◌==◌, Bool, true, false, not, if◌then◌else◌, List, [], ◌∷◌, ◌++◌, length, drop, codes, Option, Some, None, IfSome}
+use Rattle.std.specs.Prelude.{ℕ, ◌≡◌, ◌≢◌, ◌<◌, ◌^◌, nat_eq, Bool, true, false, not, if◌then◌else◌, List, [], ◌∷◌, ◌++◌, drop, codes, Option, Some, None, is_some, IfSome}
 use Rattle.std.specs.Cmp.Lexicographic.{pointwise}
 use Rattle.std.specs.Fmt.{decimal}
 use Rattle.std.specs.List.{starts_with, flat_map}
-use Rattle.std.specs.Option.{option_map}
+use Rattle.std.specs.Option.{option_map, unwrap_or}
 use Rattle.std.specs.Str.{IsUtf8}
 use Rattle.base64.specs.GeneralPurpose.{IsBytes}
 use Rattle.esc_below.specs.Base64.{base64_of, base64_text_of, base64_text}
 use Rattle.esc_below.specs.Clear.{joined, AreClearParts}
-use Rattle.esc_below.specs.Cuts.{cut_at, key_and_value, last_value}
+use Rattle.esc_below.specs.Cuts.{Pairs, cut_at, pair_text, pairs_in, without_empty, last_value}
 use Rattle.esc_below.specs.Scalars.{and_then, when, number_of}
 use Rattle.esc_iterm.specs.Dimensions.{dimension_of, dimension_text, IsDimension}
 use Rattle.esc_iterm.specs.declared.dimension.ITermDimension.{ITermDimension}
 use Rattle.esc_iterm.specs.declared.dimension.ITermDimension.TheVariants.{Automatic, Cells, Pixels, Percent}
 use Rattle.esc_iterm.specs.declared.file_data.ITermFileData.{ITermFileData}
 
--- the pair of a key and its value, as texts, that a piece holds
-abbrev pub one_pair : List ℕ → Option (List (List ℕ × List ℕ))
-one_pair p = option_map (λ (e : List ℕ × List ℕ). e ∷ []) (key_and_value p)
-
 -- the pair of a piece before the last: none in an empty piece; any other piece without `=` does not fit
-abbrev pub piece_pairs : List ℕ → Option (List (List ℕ × List ℕ))
-piece_pairs p = if length p == 0 then Some [] else one_pair p
-
-abbrev pub is_cut : Option (List ℕ × List ℕ) → Bool
-is_cut None = false
-is_cut (Some c) = true
+abbrev pub piece_pairs : List ℕ → Option Pairs
+piece_pairs p = pairs_in (without_empty (p ∷ []))
 
 -- the pair of the last piece: none where it has no `=`
-abbrev pub last_pairs : List ℕ → Option (List (List ℕ × List ℕ))
-last_pairs p = if is_cut (cut_at 0x3d p) then one_pair p else Some []
+abbrev pub last_pairs : List ℕ → Option Pairs
+last_pairs p = if is_some (cut_at 0x3d p) then pairs_in (p ∷ []) else Some []
 
 -- The pairs of the pieces, and what stands behind the first `:` of the last piece. None where there is no piece, the last one has
 -- no `:`, or one does not fit.
-abbrev pub pairs_of : List (List ℕ) → Option (List (List ℕ × List ℕ) × List ℕ)
+abbrev pub pairs_of : List (List ℕ) → Option (Pairs × List ℕ)
 pairs_of [] = None
 pairs_of (p ∷ []) = and_then (cut_at 0x3a p) (λ (c : List ℕ × List ℕ). option_map (λ es. (es, c.1)) (last_pairs c.0))
-pairs_of (p ∷ q ∷ ps) = and_then (piece_pairs p) (λ es. option_map (λ (m : List (List ℕ × List ℕ) × List ℕ). (es ++ m.0, m.1)) (pairs_of (q ∷ ps)))
+pairs_of (p ∷ q ∷ ps) = and_then (piece_pairs p) (λ es. option_map (λ (m : Pairs × List ℕ). (es ++ m.0, m.1)) (pairs_of (q ∷ ps)))
 
 -- the values of the keys that tell something, where they are there
 pub record Values : Type 0 where
@@ -60,7 +52,7 @@ no_values = record {
 }
 
 -- these values, where no pair has the key, else that of the last pair that has it
-abbrev pub values_behind : Values → List (List ℕ × List ℕ) → Values
+abbrev pub values_behind : Values → Pairs → Values
 values_behind v es = record {
   name = last_value (codes "name") v.name es;
   size = last_value (codes "size") v.size es;
@@ -73,15 +65,11 @@ values_behind v es = record {
 
 -- the values of the keys of the pieces, and what stands behind the first `:` of the last piece
 abbrev pub values_of : List (List ℕ) → Option (Values × List ℕ)
-values_of ps = option_map (λ (m : List (List ℕ × List ℕ) × List ℕ). (values_behind no_values m.0, m.1)) (pairs_of ps)
+values_of ps = option_map (λ (m : Pairs × List ℕ). (values_behind no_values m.0, m.1)) (pairs_of ps)
 
 -- the dimension of a value; automatic where there is none that can be read
-abbrev pub automatic_or : Option ITermDimension → ITermDimension
-automatic_or None = Automatic
-automatic_or (Some d) = d
-
 abbrev pub size_in : Option (List ℕ) → ITermDimension
-size_in v = automatic_or (and_then v dimension_of)
+size_in v = unwrap_or (and_then v dimension_of) Automatic
 
 -- whether a value is not `0`, where there is one, else what it is without the key
 abbrev pub is_set : Bool → Option (List ℕ) → Bool
@@ -136,7 +124,7 @@ written_keys f =
 -- the piece of a key, where it has a value
 abbrev pub key_piece : List ℕ → Option (List ℕ) → List (List ℕ)
 key_piece k None = []
-key_piece k (Some v) = (k ++ 0x3d ∷ v) ∷ []
+key_piece k (Some v) = pair_text (k, v) ∷ []
 
 -- the pieces of the keys that have a value
 abbrev pub key_pieces : List (List ℕ × Option (List ℕ)) → List (List ℕ)

@@ -4,7 +4,6 @@
 
 pub mod boxed;
 pub mod dimension;
-mod encoded_text;
 pub mod file_data;
 mod file_keys;
 pub mod file_laws;

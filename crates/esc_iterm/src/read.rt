@@ -1,8 +1,7 @@
 //! How the parts behind the code are read.
 ghost use Rattle.std.specs.Prelude.{◌≡◌, IfOk, map, Some, None};
-ghost use Rattle.std.specs.Str.{IsUtf8};
 ghost use Rattle.std.specs.Str.Lossy.{utf8_lossy};
-ghost use Rattle.esc_iterm.specs.ITerms.{alone, assigned, bare, cell_size, content_of, form_of, highlight_of, iterm_of, keyed, scaled_size, variable_of, with_one, with_two};
+ghost use Rattle.esc_iterm.specs.ITerms.{alone, assigned, bare, cell_size, content_of, form_of, highlight_of, iterm_of, keyed, variable_of, with_one, with_two};
 ghost use Rattle.std.specs.Option.{option_map};
 ghost use Rattle.esc_iterm.specs.Files.{file_of};
 ghost use Rattle.esc_iterm.specs.declared.proprietary.ITermProprietary.TheVariants as iterm;

@@ -1,7 +1,6 @@
 //! The version of Unicode whose widths are used.
-ghost use Rattle.std.specs.Prelude.{Some, ◌++◌, codes};
-ghost use Rattle.std.specs.Fmt.{DisplaysOnOk};
-ghost use Rattle.esc_iterm.specs.Versions.{label_text, version_text};
+ghost use Rattle.std.specs.Prelude.{Some};
+ghost use Rattle.esc_iterm.specs.Versions.{version_text};
 
 use esc_below::Text;
 use std::alloc::{Allocator, Global};

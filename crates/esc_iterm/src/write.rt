@@ -1,12 +1,11 @@
 //! The texts of iTerm2's proprietary commands.
-ghost use Rattle.std.specs.Prelude.{Some, ◌∷◌, ◌++◌, codes};
+ghost use Rattle.std.specs.Prelude.{Some};
 ghost use Rattle.std.specs.Fmt.{DisplaysOnOk};
 ghost use Rattle.esc_iterm.specs.ITerms.{form_text, iterm_text, scale_text};
-ghost use Rattle.esc_iterm.specs.Tenths.{tenths_text};
 
-use crate::encoded_text::EncodedText;
 use crate::proprietary::ITermProprietary;
 use crate::tenths::Tenths;
+use esc_below::base64_text::Encoded;
 use std::alloc::Allocator;
 use std::fmt;
 use std::fmt::Display;
@@ -51,19 +50,19 @@ fn write_form<W: fmt::Write, A: Allocator>(
             write!(f, "ReportCellSize={height};{width}{scale}")
         }
         ITermProprietary::Copy(content) => {
-            let content = EncodedText(content);
+            let content = Encoded(content.as_bytes());
             write!(f, "Copy=;{content}")
         }
         ITermProprietary::ReportVariable(name) => {
-            let name = EncodedText(name);
+            let name = Encoded(name.as_bytes());
             write!(f, "ReportVariable={name}")
         }
         ITermProprietary::SetUserVar { name, value } => {
-            let value = EncodedText(value);
+            let value = Encoded(value.as_bytes());
             write!(f, "SetUserVar={name}={value}")
         }
         ITermProprietary::SetBadgeFormat(format) => {
-            let format = EncodedText(format);
+            let format = Encoded(format.as_bytes());
             write!(f, "SetBadgeFormat={format}")
         }
         ITermProprietary::File(file) => file.as_ref().fmt(f),

@@ -8,13 +8,11 @@ ghost use Rattle.esc_below.specs.Scalars.{when};
 ghost use Rattle.esc_iterm.specs.Files.{key_piece, key_pieces, pieces_behind, written_dimension, written_keys};
 
 use crate::dimension::ITermDimension;
-use crate::encoded_text::EncodedText;
 use crate::file_data::ITermFileData;
 use esc_below::base64_text::Encoded;
 use esc_below::{Items, Text};
 use std::alloc::Allocator;
 use std::fmt;
-use std::fmt::Display;
 
 // The keys with their values, `;` between them.
 pub(crate) fn write_keys<W: fmt::Write, A: Allocator>(
@@ -57,7 +55,7 @@ pub(crate) fn write_content<W: fmt::Write, A: Allocator>(
 ) -> fmt::Result
     ensures { DisplaysOnOk W.write_str_gives f.old result (Some (0x3a ∷ base64_text content.now)) f.new }
 {
-    let content = EncodedItems(content);
+    let content = Encoded(content.as_slice());
     write!(f, ":{content}")
 }
 
@@ -108,7 +106,7 @@ fn write_name<W: fmt::Write, A: Allocator>(
     let separator = separator(first);
     match name {
         Some(name) => {
-            let name = EncodedText(name);
+            let name = Encoded(name.as_bytes());
             write!(f, "{separator}name={name}")
         }
         None => Ok(()),
@@ -146,17 +144,5 @@ fn write_flag<W: fmt::Write>(
         write!(f, "{separator}{key}={value}")
     } else {
         Ok(())
-    }
-}
-
-// Bytes, that print as their base64.
-#[derive_where(Clone, Copy)]
-struct EncodedItems<'a, A: Allocator>(&'a Items<u8, A>);
-
-impl<A: Allocator> fmt::Display for EncodedItems<'_, A> {
-    ghost output = { λ b. Some (base64_text b.0.now) };
-
-    fn fmt<W: fmt::Write>(&self, f: &mut fmt::Formatter<W>) -> fmt::Result {
-        Encoded(self.0.as_slice()).fmt(f)
     }
 }

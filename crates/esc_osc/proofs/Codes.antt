@@ -2,10 +2,9 @@
 use Rattle.std.proofs.Common.{◌≡◌, ◌≢◌, ℕ, ◌<◌, ◌≤◌, true, false, nat_eq, nat_le, ◌⊎◌, inl, inr, List, [], ◌∷◌, length, map, get_or, Option, Some, None, MatchOption, refl, sym, ap, ◌∙◌, arith}
 use Rattle.std.specs.Cmp.Lexicographic.{pointwise}
 use Rattle.std.proofs.lemmas.Bool.{eqb-true, lt-leb, le-leb}
-use Rattle.esc_below.proofs.Numbers.{bool_cases}
+use Rattle.esc_below.proofs.Numbers.{bool_cases, and_parts}
 use Rattle.std.specs.List.{list_all}
 use Rattle.esc_below.proofs.PlainParts.{is_part_plain}
-use Rattle.esc_below.proofs.Split.{and_parts}
 use Rattle.esc_osc.specs.Codes.{code_text, all_codes, first_named, code_of, code_name}
 use Rattle.esc_osc.specs.declared.code.OperatingSystemCommandCode.{OperatingSystemCommandCode}
 use Rattle.esc_osc.specs.declared.code.OperatingSystemCommandCode.TheVariants as code

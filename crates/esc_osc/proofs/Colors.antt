@@ -1,13 +1,14 @@
 -- Colours are clear parts that read back.
-use Rattle.std.proofs.Common.{◌≡◌, ℕ, ◌+◌, ◌*◌, ◌/◌, ◌%◌, ◌<◌, ◌==◌, ◌&&◌, not, Bool, true, false, List, [], ◌∷◌, ◌++◌, map, codes, Option, Some, None, refl, ap, ◌∙◌, arith, append_assoc}
+use Rattle.std.proofs.Common.{◌≡◌, ℕ, ◌+◌, ◌*◌, ◌/◌, ◌%◌, ◌<◌, ◌==◌, ◌&&◌, not, Bool, true, false, List, [], ◌∷◌, ◌++◌, map, codes, Some, refl, ap, ◌∙◌, arith, append_assoc}
 use Rattle.std.specs.Fmt.{digit_glyph, decimal}
 use Rattle.std.specs.List.{flat_map, list_all}
-use Rattle.std.proofs.lemmas.Bool.{eqb-true}
 use Rattle.base64.specs.Tables.{all_below}
 use Rattle.base64.proofs.Tables.{all_below_at}
 use Rattle.esc_below.specs.Clear.{IsClearPart, AreClearParts}
 use Rattle.esc_below.proofs.PlainParts.{is_part_plain, plain_part, all_append}
-use Rattle.esc_below.proofs.Split.{and_parts}
+use Rattle.esc_below.proofs.Cutting.{free_passes, cut_there}
+use Rattle.esc_below.proofs.Numbers.{and_parts}
+use Rattle.esc_osc.proofs.Found.{is_found, found}
 use Rattle.esc_osc.proofs.Numerals.{byte_back, byte_part}
 use Rattle.esc_below.specs.Cuts.{cut_at}
 use Rattle.esc_osc.specs.Colors.{hex_of, channel_of, rgb_of, color_from, spec_of, colors_of, pairs_of, hex4, spec_text, pair_text}
@@ -17,14 +18,6 @@ use Rattle.esc_osc.specs.declared.color_or_query.ColorOrQuery.{ColorOrQuery}
 use Rattle.esc_osc.specs.declared.color_or_query.ColorOrQuery.TheVariants.{Color, Query}
 
 -- a digit that is written is read
-abbrev is_found : ℕ → Option ℕ → Bool
-is_found b None = false
-is_found b (Some c) = c == b
-
-found : (b : ℕ) (o : Option ℕ) → is_found b o ≡ true → o ≡ Some b
-found b None h = cc
-found b (Some c) h = ap Some (eqb-true c b h)
-
 abbrev reads_digit : ℕ → Bool
 reads_digit d = is_found d (hex_of (digit_glyph false d))
 
@@ -77,16 +70,8 @@ glyphs_plain (c ∷ t) h =
     let k = and_parts (is_part_plain c) (not (c == 0x2f)) q.0 in
     rw (k.0, glyphs_plain t q.1) refl
 
-not_true : (b : Bool) → not b ≡ true → b ≡ false
-not_true true h = cc
-not_true false h = refl
-
 cut_at_first : (p rest : List ℕ) → list_all is_glyph p ≡ true → cut_at 0x2f (p ++ 0x2f ∷ rest) ≡ Some (p, rest)
-cut_at_first [] rest h = refl
-cut_at_first (b ∷ bs) rest h =
-    let q = and_parts (is_glyph b) (list_all is_glyph bs) h in
-    let k = and_parts (is_part_plain b) (not (b == 0x2f)) q.0 in
-    rw (not_true (b == 0x2f) k.1, cut_at_first bs rest q.1) refl
+cut_at_first p rest h = cut_there 0x2f p rest (free_passes 0x2f is_glyph refl p h)
 
 rgb_of_three : (r g b : List ℕ) → list_all is_glyph r ≡ true → list_all is_glyph g ≡ true → rgb_of (r ++ 0x2f ∷ (g ++ 0x2f ∷ b)) ≡ color_from r g b
 rgb_of_three r g b h k = rw (cut_at_first r (g ++ 0x2f ∷ b) h, cut_at_first g b k) refl

@@ -6,8 +6,7 @@ use Rattle.std.specs.List.{starts_with}
 use Rattle.std.specs.Option.{option_map, unwrap_or}
 use Rattle.std.proofs.lemmas.Bool.{ltb-true, leb-true}
 use Rattle.esc_below.specs.Scalars.{and_then, number_of}
-use Rattle.esc_below.proofs.Numbers.{bool_cases}
-use Rattle.esc_below.proofs.Split.{and_parts}
+use Rattle.esc_below.proofs.Numbers.{bool_cases, and_parts}
 use Rattle.esc_below.proofs.Where.{Where, where_map, where_then, number_where, Anything, anything}
 use Rattle.esc_below.specs.Cuts.{cut_at}
 use Rattle.esc_osc.specs.Colors.{hex_of, hex_after, channel_of, color_from, rgb_of, sharp_of, spec_of, colors_of, pairs_of}
@@ -23,7 +22,7 @@ numbers_where (p ∷ ps) =
     elim (bool_cases (length p == 0)) [
       | inl held ↦ rw held (numbers_where ps)
       | inr failed ↦ rw failed (where_then (λ n. n < 256) AreNumbers (λ n. option_map (λ more. n ∷ more) (numbers_of ps))
-          (λ n small. where_map AreNumbers AreNumbers (λ more. n ∷ more) (λ more h. (small, h)) (numbers_of ps) (numbers_where ps)) (number_of 8 p) (number_where p))
+          (λ n small. where_map AreNumbers AreNumbers (λ more. n ∷ more) (λ more h. (small, h)) (numbers_of ps) (numbers_where ps)) (number_of 8 p) (number_where 8 p))
     ]
 
 -- channels
@@ -125,7 +124,7 @@ pairs_where (i ∷ s ∷ ps) =
     (λ n small. where_then IsColor ArePairs (λ c. option_map (λ more. record { palette_index = n; color = c } ∷ more) (pairs_of ps))
     (λ c h. where_map ArePairs ArePairs (λ more. record { palette_index = n; color = c } ∷ more) (λ more k. ((small, h), k)) (pairs_of ps) (pairs_where ps))
     (spec_of s) (spec_where s))
-    (number_of 8 i) (number_where i)
+    (number_of 8 i) (number_where 8 i)
 
 -- progress
 held_small : (n : ℕ) → held n ≤ 100

@@ -1,5 +1,5 @@
 -- Links, prompts and commands of iTerm2, by the laws of the crates that read and write them.
-use Rattle.std.proofs.Common.{ℕ, ◌≡◌, ◌≢◌, List, [], ◌∷◌, codes, Option, Some, None, refl, sym, ap, ◌∙◌}
+use Rattle.std.proofs.Common.{ℕ, ◌≡◌, List, [], ◌∷◌, Option, Some, None, refl, sym, ap, ◌∙◌}
 use Rattle.std.specs.Option.{option_map, unwrap_or}
 use Rattle.esc_below.specs.Clear.{IsClearText, IsClearPart, AreClearParts, AreTextParts, parts_of}
 use Rattle.esc_below.specs.Hyperlinks.{link_of, link_text}
@@ -18,7 +18,7 @@ use Rattle.esc_prompts.proofs.ClearArgs as prompts_clear
 use Rattle.esc_prompts.proofs.ReadsBack as prompts_back
 use Rattle.esc_osc.proofs.Written.{Written, code_means}
 use Rattle.esc_osc.specs.Codes.{code_text}
-use Rattle.esc_osc.specs.Reading.{meaning, reading}
+use Rattle.esc_osc.specs.Reading.{meaning}
 use Rattle.esc_osc.specs.Writable.{IsWritable}
 use Rattle.esc_osc.specs.declared.code.OperatingSystemCommandCode.TheVariants as code
 use Rattle.esc_osc.specs.declared.command.OperatingSystemCommand.{OperatingSystemCommand}

@@ -2,6 +2,7 @@ pub mod Codes
 pub mod Colors
 pub mod Dynamic
 pub mod Fits
+pub mod Found
 pub mod JoinedLossy
 pub mod Layers
 pub mod Numerals

@@ -16,7 +16,7 @@ use Rattle.esc_below.proofs.PlainParts.{plain_part}
 use Rattle.esc_below.proofs.Split.{clear_append, joined_clear, part_clear, parts_text, joined_split}
 pub use Rattle.esc_below.proofs.ClearTexts.{chars_scalar, clear_utf8}
 pub use Rattle.esc_osc.proofs.ReadParts.{clear_is_writable}
-use Rattle.esc_below.proofs.ClearTexts.{part_utf8, part_lossy, parts_lossy, part_append}
+use Rattle.esc_below.proofs.ClearTexts.{part_utf8_of, part_lossy, parts_lossy, part_append}
 use Rattle.esc_osc.proofs.JoinedLossy.{lossy_joined}
 use Rattle.esc_osc.proofs.Codes.{code_of-code_text}
 use Rattle.esc_osc.proofs.Colors.{specs_are_parts, colors_back, two_parts, two_are_parts, pairs_back, pairs_joined}
@@ -30,7 +30,7 @@ use Rattle.esc_osc.specs.Codes.{code_text, change_code, reset_code}
 use Rattle.esc_osc.specs.Colors.{spec_text}
 use Rattle.esc_osc.specs.Commands.{inner_text, titled}
 use Rattle.esc_osc.specs.Progresses.{held}
-use Rattle.esc_osc.specs.Reading.{meaning, reading, title_of, lone_text}
+use Rattle.esc_osc.specs.Reading.{meaning, reading, title_of}
 use Rattle.esc_osc.specs.Selections.{selection_text}
 use Rattle.esc_osc.specs.Writable.{IsWritable, AreNumbers, AreColors, ArePairs, IsNamed, IsProgress}
 use Rattle.esc_osc.specs.declared.change_color_pair.ChangeColorPair.{ChangeColorPair}
@@ -83,22 +83,19 @@ one_part : (b : ℕ) (t : List ℕ) → IsClearPart (b ∷ t) → parts_of (b �
 one_part b t h = ap parts_of (sym (append-nil (b ∷ t))) ∙ (parts_text ((b ∷ t) ∷ []) ((h, tt), λ e. cc)).1
 
 window_means : (A : Type 0) (t : List ℕ) → IsClearPart (0x6c ∷ t) → IsClearPart t → meaning {A = A} ((0x6c ∷ t) ∷ []) ≡ command.SetWindowTitleSun t
-window_means A t h k = rw (part_lossy (0x6c ∷ t) h, code_of-code_text code.SetWindowTitleSun, is_utf8-from_IsUtf8 t (part_utf8 t k)) refl
+window_means A t h k = rw (part_lossy (0x6c ∷ t) h, code_of-code_text code.SetWindowTitleSun, part_utf8_of t k) refl
 
 icon_means : (A : Type 0) (t : List ℕ) → IsClearPart (0x4c ∷ t) → IsClearPart t → meaning {A = A} ((0x4c ∷ t) ∷ []) ≡ command.SetIconNameSun t
-icon_means A t h k = rw (part_lossy (0x4c ∷ t) h, code_of-code_text code.SetIconNameSun, is_utf8-from_IsUtf8 t (part_utf8 t k)) refl
+icon_means A t h k = rw (part_lossy (0x4c ∷ t) h, code_of-code_text code.SetIconNameSun, part_utf8_of t k) refl
 
 -- one text behind the code
-lone_back : (t : List ℕ) → IsClearPart t → lone_text (t ∷ []) ≡ Some t
-lone_back t h = rw (is_utf8-from_IsUtf8 t (part_utf8 t h)) refl
-
 directory : (A : Type 0) (t : List ℕ) → IsClearPart t → Written A (command.CurrentWorkingDirectory t)
 directory A t h = record {
   code = code.SetCurrentWorkingDirectory;
   args = t ∷ [];
   text = one_written code.SetCurrentWorkingDirectory t;
   clear = (h, tt);
-  reads = ap (option_map command.CurrentWorkingDirectory) (lone_back t h);
+  reads = ap (option_map command.CurrentWorkingDirectory) (part_utf8_of t h);
 }
 
 notification : (A : Type 0) (t : List ℕ) → IsClearPart t → Written A (command.SystemNotification t)
@@ -107,7 +104,7 @@ notification A t h = record {
   args = t ∷ [];
   text = one_written code.SystemNotification t;
   clear = (h, tt);
-  reads = ap (option_map command.SystemNotification) (lone_back t h);
+  reads = ap (option_map command.SystemNotification) (part_utf8_of t h);
 }
 
 -- progress

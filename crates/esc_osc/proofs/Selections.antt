@@ -1,5 +1,5 @@
 -- Selections are clear parts that read back, and what is read has named bits.
-use Rattle.std.proofs.Common.{◌≡◌, ℕ, ◌+◌, ◌-◌, ◌*◌, ◌/◌, ◌%◌, ◌≤◌, ◌==◌, nat_eq, nat_lt, nat_le, ◌&&◌, Bool, true, false, inl, inr, List, [], ◌∷◌, codes, bit_or, Option, Some, None, refl, sym, ap, ◌∙◌, arith}
+use Rattle.std.proofs.Common.{◌≡◌, ℕ, ◌+◌, ◌-◌, ◌*◌, ◌/◌, ◌%◌, ◌≤◌, ◌==◌, nat_eq, nat_lt, nat_le, ◌&&◌, Bool, true, false, inl, inr, List, [], ◌∷◌, codes, bit_or, Some, None, refl, sym, ap, ◌∙◌, arith}
 use Rattle.std.specs.Cmp.Lexicographic.{pointwise}
 use Rattle.std.specs.List.{list_all}
 use Rattle.std.specs.Str.{IsUtf8}
@@ -9,21 +9,13 @@ use Rattle.base64.proofs.Tables.{all_below_at}
 use Rattle.esc_below.specs.Base64.{base64_text, base64_text_of}
 use Rattle.esc_below.specs.Clear.{IsClearPart}
 use Rattle.esc_below.proofs.Base64.{base64_back}
-use Rattle.esc_below.proofs.Numbers.{bool_cases}
+use Rattle.esc_below.proofs.Numbers.{bool_cases, and_parts}
 use Rattle.esc_below.proofs.PlainParts.{is_part_plain, plain_part}
-use Rattle.esc_below.proofs.Split.{and_parts}
 use Rattle.esc_osc.proofs.Codes.{same_texts}
+use Rattle.esc_osc.proofs.Found.{is_found, found}
 use Rattle.esc_below.proofs.Where.{Where}
 use Rattle.esc_osc.specs.Selections.{letters, letter_bit_in, letter_bit, with_letters, selection_of, selection_text}
 use Rattle.esc_osc.specs.Writable.{IsNamed}
-
-abbrev is_found : ℕ → Option ℕ → Bool
-is_found b None = false
-is_found b (Some c) = c == b
-
-found : (b : ℕ) (o : Option ℕ) → is_found b o ≡ true → o ≡ Some b
-found b None h = cc
-found b (Some c) h = ap Some (eqb-true c b h)
 
 -- every set of named bits, at least one
 abbrev reads_selection : ℕ → Bool

@@ -6,7 +6,7 @@ ghost use Rattle.esc_below.specs.Hyperlinks.{link_of};
 ghost use Rattle.esc_below.specs.Scalars.{utf8_of};
 ghost use Rattle.esc_osc.specs.Codes.{code_name, code_of};
 ghost use Rattle.esc_osc.specs.Progresses.{progress_of};
-ghost use Rattle.esc_osc.specs.Reading.{content_of, dynamic, fitting, lone_text, meaning, named, notified, reading, selected};
+ghost use Rattle.esc_osc.specs.Reading.{dynamic, fitting, lone_text, meaning, named, notified, reading, selected};
 ghost use Rattle.esc_osc.specs.declared.command.OperatingSystemCommand.TheVariants as command;
 
 use crate::code::OperatingSystemCommandCode;

@@ -3,7 +3,6 @@ ghost use Rattle.std.specs.Prelude.{Some, ◌∷◌, ◌++◌, codes};
 ghost use Rattle.std.specs.Fmt.{DisplaysOnOk, decimal};
 ghost use Rattle.std.specs.List.{flat_map};
 ghost use Rattle.std.specs.Str.Lossy.{utf8_lossy};
-ghost use Rattle.esc_below.specs.Base64.{base64_text};
 ghost use Rattle.esc_osc.specs.Colors.{pair_text, spec_text};
 ghost use Rattle.esc_osc.specs.Commands.{command_text, inner_text, joined_by};
 ghost use Rattle.esc_osc.specs.Progresses.{progress_text};
@@ -17,7 +16,6 @@ use esc_below::base64_text::Encoded;
 use esc_below::{Items, Text};
 use std::alloc::Allocator;
 use std::fmt;
-use std::fmt::Display;
 
 /// Writes `ESC ]`, the parts of the command with `;` between them, and the string terminator `ESC \`. Bytes that
 /// are no UTF-8 are written as U+FFFD. Takes no memory, and errs only where the writer behind the formatter errs.
@@ -49,7 +47,7 @@ fn write_inner<W: fmt::Write, A: Allocator>(
         OperatingSystemCommand::ClearSelection(selection) => write!(f, "52;{selection}"),
         OperatingSystemCommand::QuerySelection(selection) => write!(f, "52;{selection};?"),
         OperatingSystemCommand::SetSelection(selection, content) => {
-            let text = EncodedText(content);
+            let text = Encoded(content.as_bytes());
             write!(f, "52;{selection};{text}")
         }
         OperatingSystemCommand::SystemNotification(text) => write!(f, "9;{text}"),
@@ -157,7 +155,7 @@ fn write_parts<W: fmt::Write, A: Allocator>(
     let Some((first, rest)) = parts.split_first() else {
         return Ok(());
     };
-    let first = Part(first);
+    let first = Lossy(first.as_slice());
     write!(f, "{first}")?;
     write_more_parts(rest, f)
 }
@@ -170,32 +168,8 @@ fn write_more_parts<W: fmt::Write, A: Allocator>(
     ensures { DisplaysOnOk W.write_str_gives f.old result (Some (flat_map (λ y. 0x3b ∷ utf8_lossy y) rest.now)) f.new }
 {
     for part in rest {
-        let part = Part(part);
+        let part = Lossy(part.as_slice());
         write!(f, ";{part}")?;
     }
     Ok(())
-}
-
-// A part, that prints as its lossy text.
-#[derive_where(Clone, Copy)]
-struct Part<'a, A: Allocator>(&'a Items<u8, A>);
-
-impl<A: Allocator> fmt::Display for Part<'_, A> {
-    ghost output = { λ p. Some (utf8_lossy p.0.now) };
-
-    fn fmt<W: fmt::Write>(&self, f: &mut fmt::Formatter<W>) -> fmt::Result {
-        Lossy(self.0.as_slice()).fmt(f)
-    }
-}
-
-// A text, that prints as its base64.
-#[derive_where(Clone, Copy)]
-struct EncodedText<'a, A: Allocator>(&'a Text<A>);
-
-impl<A: Allocator> fmt::Display for EncodedText<'_, A> {
-    ghost output = { λ t. Some (base64_text t.0.now) };
-
-    fn fmt<W: fmt::Write>(&self, f: &mut fmt::Formatter<W>) -> fmt::Result {
-        Encoded(self.0.as_bytes()).fmt(f)
-    }
 }

@@ -1,19 +1,18 @@
 -- Every writable prompt reads back.
-use Rattle.std.proofs.Common.{ℕ, ℤ, pos, ◌≡◌, ◌==◌, true, false, List, [], ◌∷◌, ◌++◌, length, codes, Option, Some, None, refl, sym, ap, ◌∙◌, arith, append_assoc}
+use Rattle.std.proofs.Common.{ℕ, ℤ, pos, ◌≡◌, ◌==◌, false, List, [], ◌∷◌, ◌++◌, length, codes, Option, Some, None, refl, sym, ap, ◌∙◌, arith, append_assoc}
 use Rattle.std.specs.Fmt.{signed_decimal}
-use Rattle.std.specs.List.{flat_map, list_all}
+use Rattle.std.specs.List.{flat_map}
 use Rattle.std.specs.Option.{option_map, unwrap_or}
-use Rattle.std.specs.Str.{is_utf8}
 use Rattle.std.proofs.lemmas.Bool.{ne_eqb}
 use Rattle.std.proofs.lemmas.List.{append-nil}
-use Rattle.std.proofs.lemmas.Str.{is_utf8-from_IsUtf8}
 use Rattle.esc_below.specs.Clear.{IsClearPart, AreClearParts}
-use Rattle.esc_below.specs.Cuts.{cut_at, key_and_value}
+use Rattle.esc_below.specs.Cuts.{Pairs, key_and_value, pairs_in, without_empty}
 use Rattle.esc_below.specs.Scalars.{and_then, IsSigned}
-use Rattle.esc_below.proofs.ClearTexts.{part_append, part_utf8}
-use Rattle.esc_below.proofs.PlainParts.{is_part_plain, plain_part}
+use Rattle.esc_below.proofs.ClearPairs.{key_back}
+use Rattle.esc_below.proofs.ClearTexts.{part_append}
+use Rattle.esc_below.proofs.PlainParts.{plain_part}
 use Rattle.esc_below.proofs.Signed.{signed_back_32, signed_part, signed_wide}
-use Rattle.esc_prompts.specs.Pairs.{KeyValues, last_values, pairs_of}
+use Rattle.esc_prompts.specs.Pairs.{KeyValues, last_values}
 use Rattle.esc_prompts.specs.Prompts.{IsAid, IsWritablePrompt, WritesBack, aid_and_click, aid_of, aid_text, click_in, click_text, kind_among, kind_in, status_of}
 use Rattle.esc_prompts.specs.Words.{click_word, kind_word}
 use Rattle.esc_prompts.specs.declared.click.FinalTermClick.{FinalTermClick}
@@ -82,24 +81,12 @@ both_joined : (aid : Option (List ℕ)) (cl : Option FinalTermClick) → aid_tex
 both_joined aid cl = ap (λ t. aid_text aid ++ t) (click_joined cl) ∙ aid_joined aid (click_parts cl)
 
 -- what is read of them
-literal_utf8 : (t : List ℕ) → list_all is_part_plain t ≡ true → is_utf8 t ≡ true
-literal_utf8 t h = is_utf8-from_IsUtf8 t (part_utf8 t (plain_part t h))
-
-clear_is_utf8 : (t : List ℕ) → IsClearPart t → is_utf8 t ≡ true
-clear_is_utf8 t h = is_utf8-from_IsUtf8 t (part_utf8 t h)
-
-pair_back : (k v p : List ℕ) → cut_at 0x3d p ≡ Some (k, v) → is_utf8 k ≡ true → IsClearPart v → key_and_value p ≡ Some (k, v)
-pair_back k v p cut u h = rw (cut, u, clear_is_utf8 v h) refl
-
 some_length : (b : ℕ) (p : List ℕ) → (length (b ∷ p) == 0) ≡ false
 some_length b p = ne_eqb (length (b ∷ p)) 0 (λ e. omega (arith, e))
 
-pairs_step : (b : ℕ) (p : List ℕ) (ps : List (List ℕ)) (e : List ℕ × List ℕ) (es : List (List ℕ × List ℕ)) → key_and_value (b ∷ p) ≡ Some e → pairs_of ps ≡ Some es
-    → pairs_of ((b ∷ p) ∷ ps) ≡ Some (e ∷ es)
+pairs_step : (b : ℕ) (p : List ℕ) (ps : List (List ℕ)) (e : List ℕ × List ℕ) (es : Pairs) → key_and_value (b ∷ p) ≡ Some e → pairs_in (without_empty ps) ≡ Some es
+    → pairs_in (without_empty ((b ∷ p) ∷ ps)) ≡ Some (e ∷ es)
 pairs_step b p ps e es h k = rw (some_length b p, h, k) refl
-
-abbrev Pairs : Type 0
-Pairs = List (List ℕ × List ℕ)
 
 abbrev aid_pairs : Option (List ℕ) → Pairs → Pairs
 aid_pairs None more = more
@@ -109,25 +96,25 @@ abbrev click_pairs : Option FinalTermClick → Pairs
 click_pairs None = []
 click_pairs (Some c) = (codes "cl", click_word c) ∷ []
 
-pairs_aid : (aid : Option (List ℕ)) (ps : List (List ℕ)) (es : Pairs) → IsAid aid → pairs_of ps ≡ Some es → pairs_of (aid_parts aid ps) ≡ Some (aid_pairs aid es)
+pairs_aid : (aid : Option (List ℕ)) (ps : List (List ℕ)) (es : Pairs) → IsAid aid → pairs_in (without_empty ps) ≡ Some es → pairs_in (without_empty (aid_parts aid ps)) ≡ Some (aid_pairs aid es)
 pairs_aid None ps es h k = k
 pairs_aid (Some a) ps es h k =
-    pairs_step 0x61 (codes "id=" ++ a) ps (codes "aid", a) es (pair_back (codes "aid") a (aid_part a) refl (literal_utf8 (codes "aid") refl) h) k
+    pairs_step 0x61 (codes "id=" ++ a) ps (codes "aid", a) es (key_back (codes "aid") a (plain_part (codes "aid") refl) refl h) k
 
-pairs_click : (cl : Option FinalTermClick) → pairs_of (click_parts cl) ≡ Some (click_pairs cl)
+pairs_click : (cl : Option FinalTermClick) → pairs_in (without_empty (click_parts cl)) ≡ Some (click_pairs cl)
 pairs_click None = refl
 pairs_click (Some c) =
     pairs_step 0x63 (codes "l=" ++ click_word c) [] (codes "cl", click_word c) []
-    (pair_back (codes "cl") (click_word c) (codes "cl=" ++ click_word c) refl (literal_utf8 (codes "cl") refl) (click_word_clear c)) refl
+    (key_back (codes "cl") (click_word c) (plain_part (codes "cl") refl) refl (click_word_clear c)) refl
 
-pairs_kind : (k : FinalTermPromptKind) → pairs_of ((codes "k=" ++ kind_word k) ∷ []) ≡ Some ((codes "k", kind_word k) ∷ [])
+pairs_kind : (k : FinalTermPromptKind) → pairs_in (without_empty ((codes "k=" ++ kind_word k) ∷ [])) ≡ Some ((codes "k", kind_word k) ∷ [])
 pairs_kind k =
     pairs_step 0x6b (codes "=" ++ kind_word k) [] (codes "k", kind_word k) []
-    (pair_back (codes "k") (kind_word k) (codes "k=" ++ kind_word k) refl (literal_utf8 (codes "k") refl) (kind_word_clear k)) refl
+    (key_back (codes "k") (kind_word k) (plain_part (codes "k") refl) refl (kind_word_clear k)) refl
 
-pairs_err : (s : List ℕ) (ps : List (List ℕ)) (es : Pairs) → IsClearPart s → pairs_of ps ≡ Some es → pairs_of ((codes "err=" ++ s) ∷ ps) ≡ Some ((codes "err", s) ∷ es)
+pairs_err : (s : List ℕ) (ps : List (List ℕ)) (es : Pairs) → IsClearPart s → pairs_in (without_empty ps) ≡ Some es → pairs_in (without_empty ((codes "err=" ++ s) ∷ ps)) ≡ Some ((codes "err", s) ∷ es)
 pairs_err s ps es h k =
-    pairs_step 0x65 (codes "rr=" ++ s) ps (codes "err", s) es (pair_back (codes "err") s (codes "err=" ++ s) refl (literal_utf8 (codes "err") refl) h) k
+    pairs_step 0x65 (codes "rr=" ++ s) ps (codes "err", s) es (key_back (codes "err") s (plain_part (codes "err") refl) refl h) k
 
 abbrev aid_read : Option Pairs → Option (Option (List ℕ))
 aid_read o = option_map (λ (v : KeyValues). v.aid) (option_map last_values o)

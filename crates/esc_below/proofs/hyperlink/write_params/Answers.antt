@@ -2,7 +2,8 @@ use Rattle.std.proofs.Common.{ℕ, ◌≡◌, ◌∷◌, ◌++◌, List, refl, s
 use Rattle.std.specs.Fmt.{HasWritten}
 use Rattle.std.specs.List.{flat_map}
 use Rattle.std.proofs.lemmas.Grind.{put_two}
-use Rattle.esc_below.specs.Hyperlinks.{Pairs, pair_text, params_text}
+use Rattle.esc_below.specs.Cuts.{Pairs, pair_text}
+use Rattle.esc_below.specs.Hyperlinks.{params_text}
 use Rattle.esc_below.proofs.hyperlink.write_params.Goals as goal
 
 abbrev text : Pairs → List ℕ

@@ -3,7 +3,7 @@ use Rattle.std.specs.Fmt.{HasWritten}
 use Rattle.std.specs.List.{flat_map}
 use Rattle.std.proofs.lemmas.Grind.{put_two}
 use Rattle.std.proofs.lemmas.List.{append-nil}
-use Rattle.esc_below.specs.Hyperlinks.{Pairs, pair_text}
+use Rattle.esc_below.specs.Cuts.{Pairs, pair_text}
 use Rattle.esc_below.proofs.hyperlink.write_rest.Goals as goal
 
 abbrev text : Pairs → List ℕ

@@ -1,7 +1,7 @@
 use Rattle.std.proofs.Common.{ℕ, ◌≡◌, ◌∷◌, ◌++◌, List, length}
 use Rattle.std.specs.Fmt.{IsPlainFormatter, HasWritten}
 use Rattle.std.specs.List.{flat_map}
-use Rattle.esc_below.specs.Hyperlinks.{pair_text}
+use Rattle.esc_below.specs.Cuts.{pair_text}
 use Rattle.esc_below.proofs.hyperlink.write_rest.Given as goal
 
 -- some text was written, and it and what is left are the whole

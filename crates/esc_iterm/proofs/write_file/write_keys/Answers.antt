@@ -1,4 +1,4 @@
-use Rattle.std.proofs.Common.{rules, ◌&&◌, ap, ◌∙◌}
+use Rattle.std.proofs.Common.{◌&&◌, ap, ◌∙◌}
 use Rattle.std.specs.Result.{is_ok}
 use Rattle.std.proofs.Output.{has_written_append, has_written_of_eq}
 use Rattle.esc_iterm.proofs.KeysWritten.{keys_written, none_is}
