@@ -1,5 +1,5 @@
 -- The items of a body, read one after another.
-use Rattle.std.proofs.Common.{ℕ, suc, ◌≡◌, ◌+◌, ◌<◌, Bool, true, false, not, cond, List, [], ◌∷◌, ◌++◌, length, take, drop, Option, Some, None, refl, ap, sym, ◌∙◌, arith, append_assoc}
+use Rattle.std.proofs.Common.{ℕ, suc, ◌≡◌, ◌+◌, ◌<◌, Bool, true, false, not, cond, List, [], ◌∷◌, ◌++◌, length, take, drop, Option, Some, None, IfSome, is_some, ◌≤◌, refl, ap, sym, ◌∙◌, arith, append_assoc}
 use Rattle.std.specs.List.{slice_split, onto_first, position_or_len}
 use Rattle.std.specs.Option.{option_map}
 use Rattle.std.proofs.lemmas.List.{append-nil}
@@ -74,3 +74,43 @@ pub last_one : (xs : List CsiParam) (n : ℕ) (s : Sgr) (made : List CsiValue) (
 last_one xs n s made whole at all one h =
     let rest : behind is_separator xs ≡ [] = none_is is_separator xs (sym at ∙ all) in
     h ∙ ap (after made) (first_is xs n s at one) ∙ after_one made s (renditions (behind is_separator xs)) ∙ ap (λ is. after (made ++ sgr s ∷ []) (renditions is)) rest ∙ ap Some (append-nil (made ++ sgr s ∷ []))
+
+-- ---- how many there are
+
+some_after : (made : List CsiValue) (o : Option (List CsiValue)) → is_some (after made o) ≡ is_some o
+some_after made None = refl
+some_after made (Some vs) = refl
+
+after_none : (o : Option (List CsiValue)) → o ≡ after [] o
+after_none None = refl
+after_none (Some vs) = refl
+
+-- behind an item that is one, the rest decides
+pub rest_decides : (xs : List CsiParam) (n : ℕ) (s : Sgr) → n ≡ position_or_len is_separator xs → n < length xs → rendition (take n xs) ≡ Some s
+    → is_some (renditions (slice_split is_separator xs)) ≡ is_some (renditions (slice_split is_separator (drop (n + 1) xs)))
+rest_decides xs n s at below one =
+    ap is_some (one_more xs n s [] (renditions (slice_split is_separator xs)) at below one (after_none (renditions (slice_split is_separator xs))))
+    ∙ some_after (sgr s ∷ []) (renditions (slice_split is_separator (drop (n + 1) xs)))
+
+-- the only item
+pub only_one : (xs : List CsiParam) (n : ℕ) (s : Sgr) → n ≡ position_or_len is_separator xs → n ≡ length xs → rendition (take n xs) ≡ Some s → renditions (slice_split is_separator xs) ≡ Some (sgr s ∷ [])
+only_one xs n s at all one = last_one xs n s [] (renditions (slice_split is_separator xs)) at all one (after_none (renditions (slice_split is_separator xs)))
+
+put_some : (i : Option Sgr) (o : Option (List CsiValue)) → IfSome (put_first i o) (λ vs. 1 ≤ length vs)
+put_some None o = tt
+put_some (Some s) None = tt
+put_some (Some s) (Some vs) = omega arith
+
+some_items : (xs : List CsiParam) → IfSome (renditions (slice_split is_separator xs)) (λ vs. 1 ≤ length vs)
+some_items xs = rw (split_is is_separator xs) (put_some (rendition (take (position_or_len is_separator xs) xs)) (renditions (behind is_separator xs)))
+
+put_more : (i : Option Sgr) (o : Option (List CsiValue)) → IfSome o (λ vs. 1 ≤ length vs) → IfSome (put_first i o) (λ vs. 2 ≤ length vs)
+put_more None o h = tt
+put_more (Some s) None h = tt
+put_more (Some s) (Some vs) h = omega (arith, h)
+
+-- items behind the first
+pub several : (xs : List CsiParam) (n : ℕ) → n ≡ position_or_len is_separator xs → n < length xs → IfSome (renditions (slice_split is_separator xs)) (λ vs. 2 ≤ length vs)
+several xs n at below =
+    rw (split_is is_separator xs, behind_is is_separator xs (omega arith))
+    (put_more (rendition (take (position_or_len is_separator xs) xs)) (renditions (slice_split is_separator (drop (position_or_len is_separator xs + 1) xs))) (some_items (drop (position_or_len is_separator xs + 1) xs)))

@@ -1,8 +1,8 @@
 //! Control sequences.
-ghost use Rattle.std.specs.Prelude.{◌≡◌, ◌+◌, ◌<◌, ◌≤◌, ◌∷◌, [], length, drop, IfOk, map, Some};
+ghost use Rattle.std.specs.Prelude.{◌≡◌, ◌+◌, ◌<◌, ◌≤◌, ◌∷◌, [], length, drop, IfNone, IfOk, IfSome, is_some, map, Some};
 ghost use Rattle.std.specs.Option.{option_map};
 ghost use Rattle.std.specs.List.{position_or_len, slice_split};
-ghost use Rattle.esc_below.specs.Csis.{csi_value, csi_of, csi_text, is_separator, renditions, unspecified};
+ghost use Rattle.esc_below.specs.Csis.{csi_value, csi_of, csi_text, is_separator, renditions, sgr, unspecified};
 
 use crate::csi_param::CsiParam;
 use crate::items::Items;
@@ -45,30 +45,77 @@ impl<A: Allocator + Copy> CSI<A> {
                 return Ok(read);
             }
         }
-        as_it_stands(alloc, params, parameters_truncated, control)
+        let mut read = Vec::new(alloc);
+        read.push(as_it_stands(alloc, params, parameters_truncated, control)?)?;
+        Ok(read)
+    }
+
+    /// What [`parse`](CSI::parse) answers, where that is one value, with no list made for it; `None` where there are several.
+    /// The error is that memory was refused, which one rendition does not want.
+    pub fn parse_one(
+        alloc: A,
+        params: &[CsiParam],
+        parameters_truncated: bool,
+        control: u8,
+    ) -> Result<Option<CSI<A>>, AllocError>
+        ensures one { IfOk result (λ o. IfSome o (λ c. csi_of params.now parameters_truncated control ≡ csi_value c ∷ [])) }
+        ensures several { IfOk result (λ o. IfNone o (2 ≤ length (csi_of params.now parameters_truncated control))) }
+    {
+        if control == b'm' && !parameters_truncated && are_renditions(params) {
+            return Ok(lone_rendition(params).map(|sgr| CSI::Sgr(sgr)));
+        }
+        let read = as_it_stands(alloc, params, parameters_truncated, control)?;
+        Ok(Some(read))
     }
 }
 
-// One `Unspecified`.
+// The sequence as it stands.
 fn as_it_stands<A: Allocator + Copy>(
     alloc: A,
     params: &[CsiParam],
     parameters_truncated: bool,
     control: u8,
-) -> Result<Vec<CSI<A>, A>, AllocError>
-    ensures { IfOk result (λ v. map csi_value v.items ≡ unspecified params.now parameters_truncated control ∷ []) }
+) -> Result<CSI<A>, AllocError>
+    ensures { IfOk result (λ c. csi_value c ≡ unspecified params.now parameters_truncated control) }
 {
     let kept = Unspecified {
         params: Items::from_vec(Vec::from_slice(alloc, params)?),
         parameters_truncated,
         control,
     };
-    let Ok(kept) = Box::new(alloc, kept) else {
-        return Err(AllocError);
-    };
-    let mut read = Vec::new(alloc);
-    read.push(CSI::Unspecified(kept))?;
-    Ok(read)
+    match Box::new(alloc, kept) {
+        Ok(kept) => Ok(CSI::Unspecified(kept)),
+        Err(_) => Err(AllocError),
+    }
+}
+
+// The rendition, where there is one item.
+fn lone_rendition(params: &[CsiParam]) -> Option<Sgr>
+    ensures one { IfSome result (λ s. renditions (slice_split is_separator params.now) ≡ Some (sgr s ∷ [])) }
+    ensures several { IfNone result (IfSome (renditions (slice_split is_separator params.now)) (λ vs. 2 ≤ length vs)) }
+{
+    if item_len(params) == params.len() {
+        Sgr::from_item(params)
+    } else {
+        None
+    }
+}
+
+// Whether each item is a rendition.
+fn are_renditions(params: &[CsiParam]) -> bool
+    ensures { result ≡ is_some (renditions (slice_split is_separator params.now)) }
+{
+    let mut left = params;
+    'items: loop {
+        let len = item_len(left);
+        let Some(_) = Sgr::from_item(&left[..len]) else {
+            return false;
+        };
+        if len == left.len() {
+            return true;
+        }
+        left = behind_item(left, len);
+    }
 }
 
 // The renditions of the items between `;`, where each item is one.

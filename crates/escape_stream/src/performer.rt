@@ -107,8 +107,12 @@ impl<A: Allocator + Copy, S: Sink<Action<A>>> VTActor for Performer<S, A> {
         parameters_truncated: bool,
         byte: u8,
     ) -> Result<(), AllocError> {
-        match CSI::parse(self.alloc, params, parameters_truncated, byte) {
-            Ok(values) => give_all(&mut self.sink, values),
+        match CSI::parse_one(self.alloc, params, parameters_truncated, byte) {
+            Ok(Some(value)) => self.sink.receive(Action::CSI(value)),
+            Ok(None) => match CSI::parse(self.alloc, params, parameters_truncated, byte) {
+                Ok(values) => give_all(&mut self.sink, values),
+                Err(error) => Err(error),
+            },
             Err(error) => Err(error),
         }
     }
