@@ -6,6 +6,8 @@ mod byte_reader;
 #[cfg(test)]
 mod call;
 #[cfg(test)]
+mod characters;
+#[cfg(test)]
 mod commands;
 #[cfg(test)]
 mod encoding;

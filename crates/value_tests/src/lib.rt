@@ -6,14 +6,28 @@ mod below;
 #[cfg(test)]
 mod commands;
 #[cfg(test)]
+mod escapes;
+#[cfg(test)]
 mod iterm;
 #[cfg(test)]
 mod iterm_file;
 #[cfg(test)]
 mod links;
 #[cfg(test)]
+mod numbers;
+#[cfg(test)]
+mod one_value;
+#[cfg(test)]
+mod params;
+#[cfg(test)]
+mod pixels;
+#[cfg(test)]
 mod prompts;
+#[cfg(test)]
+mod refused;
 #[cfg(test)]
 mod selections;
 #[cfg(test)]
 mod sequences;
+#[cfg(test)]
+mod told;

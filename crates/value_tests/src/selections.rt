@@ -1,3 +1,4 @@
+//! Selections.
 use esc_osc::Selection;
 
 const FEW: u16 = 10;
@@ -59,9 +60,8 @@ fn sets_made(rt: HostRuntime) {
 #[test]
 fn sets_changed(rt: HostRuntime) {
     let few = Selection::from_bits_retain(FEW);
-    let others = Selection::from_bits_retain(OTHERS);
     let mut set = few;
-    set.insert(others);
+    set.insert(Selection::from_bits_retain(OTHERS));
     assert_eq!(rt; set.bits(), 8202);
     set.remove(few);
     assert_eq!(rt; set.bits(), 8192);
@@ -71,9 +71,15 @@ fn sets_changed(rt: HostRuntime) {
     assert_eq!(rt; set.bits(), 8192);
     set.set(Selection::CUT0, true);
     assert_eq!(rt; set.bits(), 8208);
+}
+
+#[test]
+fn sets_assigned(rt: HostRuntime) {
+    let few = Selection::from_bits_retain(FEW);
+    let mut set = Selection::from_bits_retain(8208);
     set |= few;
     assert_eq!(rt; set.bits(), 8218);
-    set &= others;
+    set &= Selection::from_bits_retain(OTHERS);
     assert_eq!(rt; set.bits(), 8200);
     set ^= few;
     assert_eq!(rt; set.bits(), 8194);
@@ -81,31 +87,47 @@ fn sets_changed(rt: HostRuntime) {
     assert_eq!(rt; set.bits(), 8192);
 }
 
+// The bits; whether they are none, all the named ones, those of `FEW` and more, and some of `FEW`.
+static ASKED: [(u16, [bool; 4]); 7] = [
+    (0, [true, false, false, false]),
+    (1, [false, false, false, false]),
+    (2, [false, false, false, true]),
+    (10, [false, false, true, true]),
+    (8192, [false, false, false, false]),
+    (16382, [false, true, true, true]),
+    (65535, [false, true, true, true]),
+];
+
+// What the set of these bits answers.
+fn answers(bits: u16) -> [bool; 4] {
+    let few = Selection::from_bits_retain(FEW);
+    let set = Selection::from_bits_retain(bits);
+    [
+        set.is_empty(),
+        set.is_all(),
+        set.contains(few),
+        set.intersects(few),
+    ]
+}
+
 #[test]
 fn sets_asked(rt: HostRuntime) {
-    let few = Selection::from_bits_retain(FEW);
-    // The bits; whether they are none, all the named ones, those of `few` and more, and some of `few`.
-    let rows = [
-        (0, true, false, false, false),
-        (1, false, false, false, false),
-        (2, false, false, false, true),
-        (10, false, false, true, true),
-        (8192, false, false, false, false),
-        (16382, false, true, true, true),
-        (65535, false, true, true, true),
-    ];
-    for (bits, none, whole, has_few, shares) in rows {
-        let set = Selection::from_bits_retain(bits);
-        assert_eq!(rt; set.is_empty(), none, "{bits}");
-        assert_eq!(rt; set.is_all(), whole, "{bits}");
-        assert_eq!(rt; set.contains(few), has_few, "{bits}");
-        assert_eq!(rt; set.intersects(few), shares, "{bits}");
+    for (bits, wanted) in &ASKED {
+        assert!(rt; answers(*bits) == *wanted, "{bits}");
     }
-    for bits in [0, 2, 10, 16382] {
-        let set = Selection::from_bits_retain(bits);
-        assert_eq!(rt; Selection::from_bits(bits), Some(set), "{bits}");
+}
+
+static NAMED: [u16; 4] = [0, 2, 10, 16382];
+
+static NOT_NAMED: [u16; 5] = [1, 3, 16383, 16384, 65535];
+
+#[test]
+fn sets_of_bits(rt: HostRuntime) {
+    for bits in &NAMED {
+        let set = Selection::from_bits_retain(*bits);
+        assert!(rt; Selection::from_bits(*bits) == Some(set), "{bits}");
     }
-    for bits in [1, 3, 16383, 16384, 65535] {
-        assert_eq!(rt; Selection::from_bits(bits), None, "{bits}");
+    for bits in &NOT_NAMED {
+        assert!(rt; Selection::from_bits(*bits).is_none(), "{bits}");
     }
 }
