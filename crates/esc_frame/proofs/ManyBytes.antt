@@ -1,5 +1,5 @@
 -- Many bytes at once.
-use Rattle.std.proofs.Common.{ℕ, suc, ◌≡◌, ◌+◌, ◌<◌, ◌≤◌, Bool, true, false, cond, ◌&&◌, ◌||◌, List, [], ◌∷◌, ◌++◌, map, length, take, drop, get_or, refl, ap, sym, ◌∙◌, subst, inr, take-append-drop, length-drop, get_or-drop, ◌-◌, arith, Result, Ok, Err, OnOk}
+use Rattle.std.proofs.Common.{ℕ, suc, ◌≡◌, ◌≢◌, ◌+◌, ◌<◌, ◌≤◌, Bool, true, false, cond, ◌&&◌, ◌||◌, List, [], ◌∷◌, ◌++◌, map, length, take, drop, get_or, refl, ap, sym, ◌∙◌, subst, inr, take-append-drop, length-drop, get_or-drop, ◌-◌, arith, Result, Ok, Err, OnOk}
 use Rattle.std.specs.List.{FoldsTo, prefix_len, list_all}
 use Rattle.std.proofs.Math.Seq.{take-add}
 use Rattle.std.proofs.lemmas.List.{append-nil, take_more, take_all, map-append}
@@ -7,11 +7,11 @@ use Rattle.std.proofs.lemmas.Bool.{or_left, or_right}
 use Rattle.std.proofs.lemmas.Bool.Decides.{nat_tests}
 use Rattle.esc_frame.specs.declared.classes.Class.{Class}
 use Rattle.esc_frame.specs.declared.classes.Class.TheVariants.{Plain, Bell, Cancel, Escape, Intermediate, Parameter, Opens, Final, Delete, RawControl, RawOpens, RawTerminator, High, Lead}
-use Rattle.esc_frame.specs.Classes.{class_of, is_text}
+use Rattle.esc_frame.specs.Classes.{class_of, is_control, is_text}
 use Rattle.esc_frame.specs.Scans.{is_text_byte}
 use Rattle.esc_frame.specs.Sequences.{is_sequence, is_front, is_pair, number_of, is_from, is_second, is_tail}
 use Rattle.esc_frame.specs.Events.{Event, StopsAt}
-use Rattle.esc_frame.specs.Events.Event.{Print}
+use Rattle.esc_frame.specs.Events.Event.{Execute, Print}
 use Rattle.esc_frame.specs.Leads.{Unfinished}
 use Rattle.esc_frame.specs.Leads.Unfinished.{Ground, InOsc}
 use Rattle.esc_frame.specs.Segments.{Opener, Piece}
@@ -306,6 +306,29 @@ module _ {S : Type 0} (takes refuses : S → Event → S → Type 0) (rest : Lis
 pub one_text : (rest : List ℕ) → 0 < length rest → is_text_byte (get_or rest 0 0) ≡ true → (after_all Ground (take 1 rest) ≡ Ground) × (news_all Ground (take 1 rest) ≡ Print (get_or rest 0 0) ∷ [])
 one_text [] l h = absurd (omega arith)
 one_text (x ∷ rest) l h = let p : list_all is_text_byte (x ∷ []) ≡ true = rw h refl in (text_run_after (x ∷ []) p, text_run_news (x ∷ []) p)
+
+-- one control
+control_class : (b : ℕ) → b < 0x20 → b ≢ 0x1b → is_control (class_of b) ≡ true
+unfolding class_of
+control_class b low other = grind (arith, nat_tests)
+
+control_after : (b : ℕ) (c : Class) → is_control c ≡ true → ground_after b c ≡ Ground
+control_after b Plain h = refl
+control_after b Bell h = refl
+control_after b Cancel h = refl
+control_after b _ h = absurd cc
+
+control_news : (b : ℕ) (c : Class) → is_control c ≡ true → ground_news b c ≡ Execute b ∷ []
+control_news b Plain h = refl
+control_news b Bell h = refl
+control_news b Cancel h = refl
+control_news b _ h = absurd cc
+
+pub one_control : (rest : List ℕ) → 0 < length rest → get_or rest 0 0 < 0x20 → get_or rest 0 0 ≢ 0x1b → (after_all Ground (take 1 rest) ≡ Ground) × (news_all Ground (take 1 rest) ≡ Execute (get_or rest 0 0) ∷ [])
+one_control [] l low other = absurd (omega arith)
+one_control (b ∷ rest) l low other =
+    let c : is_control (class_of b) ≡ true = control_class b low other in
+    (control_after b (class_of b) c, rw (control_news b (class_of b) c) refl)
 
 -- a character, whose bytes are known by what they do
 module _ {S : Type 0} (takes refuses : S → Event → S → Type 0) (rest : List ℕ) (n c : ℕ) (old new : S) (does : (after_all Ground (take n rest) ≡ Ground) × (news_all Ground (take n rest) ≡ Print c ∷ [])) where

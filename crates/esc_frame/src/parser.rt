@@ -1,10 +1,10 @@
 //! The parser.
 #![tactic(auto)]
 
-ghost use Rattle.std.specs.Prelude.{◌≡◌, ◌<◌, ◌≤◌, ◌++◌, ◌∷◌, [], ℕ, List, length, take, IsTrue, ◌↔◌, OnOk, OnErr, IfOk, IfErr, IfSome, IsSome, None, false, slice_index};
+ghost use Rattle.std.specs.Prelude.{◌≡◌, ◌≢◌, ◌<◌, ◌≤◌, ◌++◌, ◌∷◌, [], ℕ, List, length, take, IsTrue, ◌↔◌, OnOk, OnErr, IfOk, IfErr, IfSome, IsSome, None, false, slice_index};
 ghost use Rattle.std.specs.List.{FoldsTo};
 ghost use Rattle.esc_frame.specs.Events.{StopsAt};
-ghost use Rattle.esc_frame.specs.Events.Event.{Print};
+ghost use Rattle.esc_frame.specs.Events.Event.{Execute, Print};
 ghost use Rattle.esc_frame.specs.Memory.{MayGrow};
 ghost use Rattle.esc_frame.specs.Stream.{added, LeadsTo, HasFailed, IsAtGround, IsQuiet};
 
@@ -12,7 +12,7 @@ use crate::actor::VTActor;
 use crate::classes::classify;
 use crate::error::ParseError;
 use crate::machine::Machine;
-use crate::printing::first_char;
+use crate::printing::{first_char, first_control};
 use std::alloc::{Allocator, Global};
 
 /// Splits a stream of bytes, which comes in any pieces, into the events of its segments, and gives them to an actor: the
@@ -71,6 +71,22 @@ impl<A: Allocator> VTParser<A> {
         } else {
             None
         }
+    }
+
+    /// The control at the front of `bytes`, 00 to 1F but not ESC, where no segment is unfinished; else `None`. As with
+    /// [`first_char`](VTParser::first_char), this byte counts as fed where it is answered, and adds this control and nothing
+    /// else.
+    #[inline]
+    pub fn first_control(&self, bytes: &[u8]) -> Option<u8>
+        ensures count { IfSome result (λ b. 0 < length bytes.now) }
+        ensures given { (s : List ℕ) → LeadsTo s self.now → IfSome result (λ b. LeadsTo (s ++ take 1 bytes.now) self.now × (added s (take 1 bytes.now) ≡ Execute b ∷ [])) }
+        ensures control { (s : List ℕ) → LeadsTo s self.now → IsAtGround s → 0 < length bytes.now → slice_index bytes.now 0 < 0x20 → slice_index bytes.now 0 ≢ 0x1b → IsSome result }
+        ensures failed { HasFailed self.now → result ≡ None }
+    {
+        if !self.is_ground() {
+            return None;
+        }
+        first_control(bytes)
     }
 
     /// Takes the next byte of the stream, and gives the actor, in order, what it adds to the events of the bytes before.

@@ -1,9 +1,9 @@
-//! Characters in ground, many at once.
+//! Characters and controls in ground.
 #![tactic(auto)]
 
-ghost use Rattle.std.specs.Prelude.{◌≡◌, ◌<◌, ◌≤◌, [], ◌∷◌, length, map, take, true, false, slice_index, OnOk, IfOk, IfSome, IsSome};
+ghost use Rattle.std.specs.Prelude.{◌≡◌, ◌≢◌, ◌<◌, ◌≤◌, [], ◌∷◌, length, map, take, true, false, slice_index, OnOk, IfOk, IfSome, IsSome};
 ghost use Rattle.esc_frame.specs.Events.{Takes};
-ghost use Rattle.esc_frame.specs.Events.Event.{Print};
+ghost use Rattle.esc_frame.specs.Events.Event.{Execute, Print};
 ghost use Rattle.esc_frame.specs.Characters.{Prints};
 ghost use Rattle.esc_frame.specs.Leads.Unfinished.{Ground};
 ghost use Rattle.esc_frame.specs.Moves.{IsStill, after_all, news_all};
@@ -50,6 +50,23 @@ pub fn first_char(rest: &[u8]) -> Option<(char, usize)>
         Some((rest[0] as char, 1))
     } else {
         first_wide(rest)
+    }
+}
+
+/// The control at the front: 00 to 1F, but not ESC.
+#[inline(always)]
+pub fn first_control(rest: &[u8]) -> Option<u8>
+    ensures count { IfSome result (λ b. 0 < length rest.now) }
+    ensures executes { IfSome result (λ b. (after_all Ground (take 1 rest.now) ≡ Ground) × (news_all Ground (take 1 rest.now) ≡ Execute b ∷ [])) }
+    ensures control { 0 < length rest.now → slice_index rest.now 0 < 0x20 → slice_index rest.now 0 ≢ 0x1b → IsSome result }
+{
+    if rest.is_empty() {
+        return None;
+    }
+    if rest[0] < 0x20 && rest[0] != 0x1b {
+        Some(rest[0])
+    } else {
+        None
     }
 }
 

@@ -6,11 +6,12 @@ ghost use Rattle.escape_stream.specs.Firsts.{IsFirst, IsFirstStop, IsStop, first
 ghost use Rattle.esc_frame.specs.Memory.{MayGrow};
 ghost use Rattle.escape_stream.specs.Given.{At, GetsAll, GetsFront, StopsAt};
 ghost use Rattle.escape_stream.specs.Meaning.{yield};
-ghost use Rattle.escape_stream.specs.Values.{value_of};
+ghost use Rattle.escape_stream.specs.Values.{control, value_of};
 ghost use Rattle.escape_stream.specs.Writable.{AreHandedOut, IsHandedOut};
 
 use crate::action::Action;
-use crate::performer::Performer;
+use crate::control_code::ControlCode;
+use crate::performer::{Performer, code_for};
 use crate::sink::{Calls, Collect, First, Sink};
 use esc_frame::error::ParseError;
 use esc_frame::parser::VTParser;
@@ -165,6 +166,16 @@ impl<A: Allocator + Copy> Parser<A> {
         }
     }
 
+    // The control that stands at the front in ground.
+    #[cold]
+    fn first_control(&self, bytes: &[u8]) -> Option<ControlCode>
+        ensures given { (s : List ℕ) → WasFed s self.now → IfSome result (λ c. WasFed (s ++ take 1 bytes.now) self.now × IsFirst {A = A} s bytes.now (control c) 1) }
+        ensures count { IfSome result (λ c. 0 < length bytes.now) }
+        ensures failed { IsBroken self.now → result ≡ None }
+    {
+        code_for(self.framer.first_control(bytes)?)
+    }
+
     /// The first action of the shortest front of `bytes` that adds one to what the bytes fed before mean, and the length of
     /// this front, which is all that was fed; further actions of its last byte are dropped. `None` where `bytes` add none:
     /// then all were fed.
@@ -183,7 +194,10 @@ impl<A: Allocator + Copy> Parser<A> {
     {
         match self.framer.first_char(bytes) {
             Some((c, n)) => Ok(Some((Action::Print(c), n))),
-            None => self.first_of(bytes),
+            None => match self.first_control(bytes) {
+                Some(code) => Ok(Some((Action::Control(code), 1))),
+                None => self.first_of(bytes),
+            },
         }
     }
 

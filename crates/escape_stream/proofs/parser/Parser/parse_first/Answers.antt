@@ -8,3 +8,6 @@ returns-in-Some-clause-some g c = λ s h.
 
 pub returns-in-Some-clause-handed_out : goal.returns-in-Some-clause-handed_out
 returns-in-Some-clause-handed_out g c = λ s h. let is = (returns-in-Some-clause-some g c s h).1 in first_handed g.row.A.Denot s c.args.bytes.now _ c.in-Some.n is
+
+pub returns-in-Some-first_control-clause-handed_out : goal.returns-in-Some-first_control-clause-handed_out
+returns-in-Some-first_control-clause-handed_out g c = λ s h. first_handed g.row.A.Denot s c.args.bytes.now _ 1 (c.in-Some-first_control.ensures.given s h).1
