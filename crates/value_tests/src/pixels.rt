@@ -72,11 +72,12 @@ fn no_dimensions(rt: HostRuntime) {
 const HALF: usize = 9_223_372_036_854_775_808;
 
 // A dimension, the size of a cell and their number, and the pixels that it is.
-static PIXELS: [(ITermDimension, usize, usize, Option<usize>); 17] = [
+static PIXELS: [(ITermDimension, usize, usize, Option<usize>); 19] = [
     (ITermDimension::Automatic, 16, 80, None),
     (ITermDimension::Automatic, usize::MAX, usize::MAX, None),
     (ITermDimension::Cells(5), 16, 80, Some(80)),
     (ITermDimension::Cells(-5), 16, 80, Some(0)),
+    (ITermDimension::Cells(-2), 7, 9, Some(0)),
     (ITermDimension::Cells(1), usize::MAX, 0, Some(usize::MAX)),
     (
         ITermDimension::Cells(i64::MAX),
@@ -88,6 +89,7 @@ static PIXELS: [(ITermDimension, usize, usize, Option<usize>); 17] = [
     (ITermDimension::Pixels(-7), 16, 80, Some(0)),
     (ITermDimension::Percent(50), 16, 80, Some(640)),
     (ITermDimension::Percent(33), 10, 1, Some(3)),
+    (ITermDimension::Percent(33), 7, 9, Some(20)),
     (ITermDimension::Percent(-1), 16, 80, Some(0)),
     (ITermDimension::Percent(101), 16, 80, Some(1280)),
     (ITermDimension::Percent(i64::MAX), 1, 1, Some(1)),
