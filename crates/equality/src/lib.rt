@@ -1,0 +1,12 @@
+//! Equality is equality of values: `==` of each public type that has it answers true exactly where the two are the same.
+//!
+//! Most of these types derive `==`, and a derive has no clause of its own; here each stands in a function that has one.
+#![tactic(auto)]
+
+pub mod actions;
+pub mod below;
+pub mod commands;
+pub mod errors;
+pub mod iterm;
+pub mod lists;
+pub mod prompts;
