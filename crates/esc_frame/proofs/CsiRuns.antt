@@ -1,10 +1,11 @@
 -- Runs in the body of a control sequence.
-use Rattle.std.proofs.Common.{ℕ, ◌≡◌, ◌+◌, ◌-◌, ◌≤◌, Bool, true, false, not, ◌&&◌, List, [], ◌∷◌, ◌++◌, length, take, drop, get_or, refl, ap, sym, ◌∙◌, append_assoc, arith}
+use Rattle.std.proofs.Common.{ℕ, ◌≡◌, ◌+◌, ◌-◌, ◌≤◌, true, false, not, List, [], ◌∷◌, ◌++◌, length, take, drop, get_or, refl, ap, sym, ◌∙◌, append_assoc, arith}
 use Rattle.std.specs.List.{list_all}
 use Rattle.std.proofs.Math.Seq.{take-add}
 use Rattle.std.proofs.lemmas.List.{append-nil}
 use Rattle.std.proofs.lemmas.List.Elements.{filter-append}
 use Rattle.std.proofs.lemmas.List.Folds.{list_all-append}
+use Rattle.std.proofs.lemmas.Bool.{and_parts}
 use Rattle.std.proofs.lemmas.Bool.Decides.{nat_tests}
 use Rattle.esc_frame.specs.declared.classes.Class.{Class}
 use Rattle.esc_frame.specs.declared.classes.Class.TheVariants.{Plain, Bell, Cancel, Escape, Intermediate, Parameter, Opens, Final, Delete, RawControl, RawOpens, RawTerminator, High, Lead}
@@ -16,10 +17,6 @@ use Rattle.esc_frame.specs.Segments.Opener.{Long, Raw}
 use Rattle.esc_frame.specs.Leads.Unfinished.{Ground, InCsi, InOsc}
 use Rattle.esc_frame.specs.Moves.{csi_after, csi_news, after_all, news_all}
 use Rattle.esc_frame.proofs.ManyBytes.{tail_is}
-
-both : (s t : Bool) → (s && t) ≡ true → (s ≡ true) × (t ≡ true)
-both true t h = (refl, h)
-both false t h = absurd cc
 
 body_class : (b : ℕ) → is_body_byte b ≡ true → in_body (class_of b) ≡ true
 unfolding class_of
@@ -44,13 +41,13 @@ body_step o x b Lead h = absurd cc
 body_after : (o : Opener) (x ys : List ℕ) → list_all is_body_byte ys ≡ true → after_all (InCsi o x) ys ≡ InCsi o (x ++ ys)
 body_after o x [] h = ap (InCsi o) (sym (append-nil x))
 body_after o x (b ∷ ys) h =
-    let k = both (is_body_byte b) (list_all is_body_byte ys) h in
+    let k = and_parts (is_body_byte b) (list_all is_body_byte ys) h in
     rw (body_step o x b (class_of b) (body_class b k.0)).0 (body_after o (x ++ b ∷ []) ys k.1 ∙ ap (InCsi o) (append_assoc x (b ∷ []) ys))
 
 body_news : (o : Opener) (x ys : List ℕ) → list_all is_body_byte ys ≡ true → news_all (InCsi o x) ys ≡ []
 body_news o x [] h = refl
 body_news o x (b ∷ ys) h =
-    let k = both (is_body_byte b) (list_all is_body_byte ys) h in
+    let k = and_parts (is_body_byte b) (list_all is_body_byte ys) h in
     let p = body_step o x b (class_of b) (body_class b k.0) in rw (p.0, p.1) (body_news o (x ++ b ∷ []) ys k.1)
 
 pub body_quiet : (o : Opener) (x ys : List ℕ) → list_all is_body_byte ys ≡ true → (after_all (InCsi o x) ys ≡ InCsi o (x ++ ys)) × (news_all (InCsi o x) ys ≡ [])
@@ -59,7 +56,7 @@ body_quiet o x ys h = (body_after o x ys h, body_news o x ys h)
 body_alone : (ys : List ℕ) → list_all is_body_byte ys ≡ true → strip ys ≡ ys
 body_alone [] h = refl
 body_alone (b ∷ ys) h =
-    let k = both (is_body_byte b) (list_all is_body_byte ys) h in
+    let k = and_parts (is_body_byte b) (list_all is_body_byte ys) h in
     let p = body_step Raw [] b (class_of b) (body_class b k.0) in rw p.2 (ap (λ zs. b ∷ zs) (body_alone ys k.1))
 
 pub body_strip : (x ys : List ℕ) → list_all is_body_byte ys ≡ true → strip (x ++ ys) ≡ strip x ++ ys

@@ -3,7 +3,7 @@ use Rattle.std.proofs.Common.{ℕ, suc, ◌≡◌, ◌≢◌, ◌+◌, ◌<◌, 
 use Rattle.std.specs.List.{FoldsTo, prefix_len, list_all}
 use Rattle.std.proofs.Math.Seq.{take-add}
 use Rattle.std.proofs.lemmas.List.{append-nil, take_more, take_all, map-append}
-use Rattle.std.proofs.lemmas.Bool.{or_left, or_right}
+use Rattle.std.proofs.lemmas.Bool.{and_parts, or_left, or_right}
 use Rattle.std.proofs.lemmas.Bool.Decides.{nat_tests}
 use Rattle.esc_frame.specs.declared.classes.Class.{Class}
 use Rattle.esc_frame.specs.declared.classes.Class.TheVariants.{Plain, Bell, Cancel, Escape, Intermediate, Parameter, Opens, Final, Delete, RawControl, RawOpens, RawTerminator, High, Lead}
@@ -152,17 +152,13 @@ pub run_passes : (p : ℕ → Bool) (xs : List ℕ) → list_all p (take (prefix
 run_passes p [] = refl
 run_passes p (x ∷ xs) = passes_at p x xs (prefix_len p xs) (p x) refl (run_passes p xs)
 
-both : (s t : Bool) → (s && t) ≡ true → (s ≡ true) × (t ≡ true)
-both true t h = (refl, h)
-both false t h = absurd cc
-
 pub text_run_after : (xs : List ℕ) → list_all is_text_byte xs ≡ true → after_all Ground xs ≡ Ground
 text_run_after [] h = refl
-text_run_after (x ∷ xs) h = let k = both (is_text_byte x) (list_all is_text_byte xs) h in rw (text_after x (class_of x) (text_class x k.0)) (text_run_after xs k.1)
+text_run_after (x ∷ xs) h = let k = and_parts (is_text_byte x) (list_all is_text_byte xs) h in rw (text_after x (class_of x) (text_class x k.0)) (text_run_after xs k.1)
 
 pub text_run_news : (xs : List ℕ) → list_all is_text_byte xs ≡ true → news_all Ground xs ≡ map Print xs
 text_run_news [] h = refl
-text_run_news (x ∷ xs) h = let k = both (is_text_byte x) (list_all is_text_byte xs) h in rw (text_after x (class_of x) (text_class x k.0), text_news x (class_of x) (text_class x k.0), text_run_news xs k.1) refl
+text_run_news (x ∷ xs) h = let k = and_parts (is_text_byte x) (list_all is_text_byte xs) h in rw (text_after x (class_of x) (text_class x k.0), text_news x (class_of x) (text_class x k.0), text_run_news xs k.1) refl
 
 -- ---- a whole sequence in ground
 
@@ -196,7 +192,7 @@ none h = absurd cc
 
 pub two_parts : (a b : ℕ) → is_sequence (a ∷ b ∷ []) ≡ true → is_from 0xc2 0xf4 a ≡ true
 unfolding is_sequence
-two_parts a b h = let k = both (is_from 0xc2 0xdf a) (is_tail b) h in lower a 0xc2 0xdf k.0 (omega arith) (omega arith)
+two_parts a b h = let k = and_parts (is_from 0xc2 0xdf a) (is_tail b) h in lower a 0xc2 0xdf k.0 (omega arith) (omega arith)
 
 -- three bytes: the first two are a front
 pub three_parts : (a b c : ℕ) → is_sequence (a ∷ b ∷ c ∷ []) ≡ true → (is_from 0xc2 0xf4 a ≡ true) × (is_sequence (a ∷ b ∷ []) ≡ false) × (is_front (a ∷ b ∷ []) ≡ true)

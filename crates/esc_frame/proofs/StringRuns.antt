@@ -1,10 +1,11 @@
 -- Runs of text in the bodies of strings.
-use Rattle.std.proofs.Common.{ℕ, zero, suc, ◌≡◌, ◌≢◌, ◌+◌, ◌-◌, ◌<◌, Bool, true, false, cond, ◌&&◌, if◌then◌else◌, List, [], ◌∷◌, ◌++◌, length, take, drop, map, get_or, refl, ap, sym, ◌∙◌, subst, append_assoc, take-append-drop, arith}
+use Rattle.std.proofs.Common.{ℕ, zero, suc, ◌≡◌, ◌≢◌, ◌+◌, ◌-◌, ◌<◌, Bool, true, false, cond, if◌then◌else◌, List, [], ◌∷◌, ◌++◌, length, take, drop, map, get_or, refl, ap, sym, ◌∙◌, subst, append_assoc, take-append-drop, arith}
 use Rattle.std.specs.List.{FoldsTo, list_all, prefix_len}
 use Rattle.std.proofs.Math.Seq.{take-add}
 use Rattle.std.proofs.lemmas.List.{append-nil, map-append, take_more}
 use Rattle.std.proofs.lemmas.List.Concat.{flat_map-append}
 use Rattle.std.proofs.lemmas.List.Elements.{filter-append}
+use Rattle.std.proofs.lemmas.Bool.{and_parts}
 use Rattle.std.proofs.lemmas.Bool.Decides.{nat_tests}
 use Rattle.esc_frame.specs.declared.classes.Class.{Class}
 use Rattle.esc_frame.specs.declared.classes.Class.TheVariants.{Plain, Bell, Cancel, Escape, Intermediate, Parameter, Opens, Final, Delete, RawControl, RawOpens, RawTerminator, High, Lead}
@@ -27,10 +28,6 @@ use Rattle.esc_frame.proofs.Given.{folds_then, stops_then, stops_more}
 use Rattle.esc_frame.proofs.ManyBytes.{text_class, run_passes, osc_sequence, tail_is}
 use Rattle.esc_frame.proofs.Streams.{after_append, news_append}
 
-both : (s t : Bool) → (s && t) ≡ true → (s ≡ true) × (t ≡ true)
-both true t h = (refl, h)
-both false t h = absurd cc
-
 -- ---- an operating system command
 
 osc_step : (o : Opener) (ps : List Piece) (b : ℕ) (c : Class) → is_text c ≡ true → (osc_after o ps b c ≡ InOsc o (ps ++ One b ∷ [])) × (osc_news ps b c ≡ [])
@@ -52,13 +49,13 @@ osc_step o ps b Lead h = absurd cc
 osc_text : (o : Opener) (ps : List Piece) (ys : List ℕ) → list_all is_text_byte ys ≡ true → (after_all (InOsc o ps) ys ≡ InOsc o (ps ++ map One ys)) × (news_all (InOsc o ps) ys ≡ [])
 osc_text o ps [] h = (ap (InOsc o) (sym (append-nil ps)), refl)
 osc_text o ps (b ∷ ys) h =
-    let k = both (is_text_byte b) (list_all is_text_byte ys) h in
+    let k = and_parts (is_text_byte b) (list_all is_text_byte ys) h in
     let p = osc_step o ps b (class_of b) (text_class b k.0) in
     let q = osc_text o (ps ++ One b ∷ []) ys k.1 in rw (p.0, p.1) (q.0 ∙ ap (InOsc o) (append_assoc ps (One b ∷ []) (map One ys)), q.1)
 
 text_kept : (ys : List ℕ) → list_all is_text_byte ys ≡ true → text_of (map One ys) ≡ ys
 text_kept [] h = refl
-text_kept (b ∷ ys) h = let k = both (is_text_byte b) (list_all is_text_byte ys) h in rw (text_class b k.0) (ap (λ zs. b ∷ zs) (text_kept ys k.1))
+text_kept (b ∷ ys) h = let k = and_parts (is_text_byte b) (list_all is_text_byte ys) h in rw (text_class b k.0) (ap (λ zs. b ∷ zs) (text_kept ys k.1))
 
 pub no_run : IsTextRun []
 no_run = ([], refl, λ o ps. (ap (InOsc o) (sym (append-nil ps)), refl))
@@ -126,12 +123,12 @@ goes_on b h = text_breaks_not (class_of b) (text_class b h)
 pub apc_text : (o : Opener) (d ys : List ℕ) → list_all is_text_byte ys ≡ true → (after_all (InApc o d) ys ≡ InApc o (d ++ ys)) × (news_all (InApc o d) ys ≡ [])
 apc_text o d [] h = (ap (InApc o) (sym (append-nil d)), refl)
 apc_text o d (b ∷ ys) h =
-    let k = both (is_text_byte b) (list_all is_text_byte ys) h in
+    let k = and_parts (is_text_byte b) (list_all is_text_byte ys) h in
     let q = apc_text o (d ++ b ∷ []) ys k.1 in rw (goes_on b k.0) (q.0 ∙ ap (InApc o) (append_assoc d (b ∷ []) ys), q.1)
 
 those_text : (ys : List ℕ) → list_all is_text_byte ys ≡ true → those is_text ys ≡ ys
 those_text [] h = refl
-those_text (b ∷ ys) h = let k = both (is_text_byte b) (list_all is_text_byte ys) h in rw (text_class b k.0) (ap (λ zs. b ∷ zs) (those_text ys k.1))
+those_text (b ∷ ys) h = let k = and_parts (is_text_byte b) (list_all is_text_byte ys) h in rw (text_class b k.0) (ap (λ zs. b ∷ zs) (those_text ys k.1))
 
 pub apc_kept : (d ys : List ℕ) → list_all is_text_byte ys ≡ true → those is_text (d ++ ys) ≡ those is_text d ++ ys
 apc_kept d ys h = filter-append (λ b. is_text (class_of b)) d ys ∙ ap (λ y. those is_text d ++ y) (those_text ys h)
@@ -148,7 +145,7 @@ put_shown false b ys = refl
 pub data_text : (o : Opener) (x : List ℕ) (f : ℕ) (d ys : List ℕ) → is_dcs_header (strip x) ≡ true → list_all is_text_byte ys ≡ true → (after_all (InData o x f d) ys ≡ InData o x f (d ++ ys)) × (news_all (InData o x f d) ys ≡ puts_of ys)
 data_text o x f d [] e h = (ap (InData o x f) (sym (append-nil d)), refl)
 data_text o x f d (b ∷ ys) e h =
-    let k = both (is_text_byte b) (list_all is_text_byte ys) h in
+    let k = and_parts (is_text_byte b) (list_all is_text_byte ys) h in
     let q = data_text o x f (d ++ b ∷ []) ys e k.1 in
     rw (e, goes_on b k.0) (q.0 ∙ ap (InData o x f) (append_assoc d (b ∷ []) ys), ap (λ es. (if is_put (class_of b) then DcsPut b ∷ [] else []) ++ es) q.1 ∙ put_shown (is_put (class_of b)) b ys)
 
@@ -157,13 +154,13 @@ data_text o x f d (b ∷ ys) e h =
 skip_data : (o : Opener) (x : List ℕ) (f : ℕ) (d ys : List ℕ) → is_dcs_header (strip x) ≡ false → list_all is_text_byte ys ≡ true → (after_all (InData o x f d) ys ≡ InData o x f (d ++ ys)) × (news_all (InData o x f d) ys ≡ [])
 skip_data o x f d [] e h = (ap (InData o x f) (sym (append-nil d)), refl)
 skip_data o x f d (b ∷ ys) e h =
-    let k = both (is_text_byte b) (list_all is_text_byte ys) h in
+    let k = and_parts (is_text_byte b) (list_all is_text_byte ys) h in
     let q = skip_data o x f (d ++ b ∷ []) ys e k.1 in rw (e, goes_on b k.0) (q.0 ∙ ap (InData o x f) (append_assoc d (b ∷ []) ys), q.1)
 
 skip_ignored : (i : Kind) (o : Opener) (d ys : List ℕ) → list_all is_text_byte ys ≡ true → (after_all (InIgnored i o d) ys ≡ InIgnored i o (d ++ ys)) × (news_all (InIgnored i o d) ys ≡ [])
 skip_ignored i o d [] h = (ap (InIgnored i o) (sym (append-nil d)), refl)
 skip_ignored i o d (b ∷ ys) h =
-    let k = both (is_text_byte b) (list_all is_text_byte ys) h in
+    let k = and_parts (is_text_byte b) (list_all is_text_byte ys) h in
     let q = skip_ignored i o (d ++ b ∷ []) ys k.1 in rw (goes_on b k.0) (q.0 ∙ ap (InIgnored i o) (append_assoc d (b ∷ []) ys), q.1)
 
 -- ---- what the machine holds behind a run, by its state
@@ -234,8 +231,8 @@ delete_byte = refl
 
 pub passing_at : (p : ℕ → Bool) (xs : List ℕ) (i : ℕ) → list_all p xs ≡ true → i < length xs → p (get_or xs i 0) ≡ true
 passing_at p [] i h l = absurd (omega arith)
-passing_at p (x ∷ xs) zero h l = (both (p x) (list_all p xs) h).0
-passing_at p (x ∷ xs) (suc i) h l = passing_at p xs i (both (p x) (list_all p xs) h).1 (omega arith)
+passing_at p (x ∷ xs) zero h l = (and_parts (p x) (list_all p xs) h).0
+passing_at p (x ∷ xs) (suc i) h l = passing_at p xs i (and_parts (p x) (list_all p xs) h).1 (omega arith)
 
 puts_append : (xs ys : List ℕ) → puts_of (xs ++ ys) ≡ puts_of xs ++ puts_of ys
 puts_append xs ys = ap (map DcsPut) (filter-append (λ b. is_put (class_of b)) xs ys) ∙ map-append DcsPut (those is_put xs) (those is_put ys)

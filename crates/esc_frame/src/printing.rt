@@ -112,7 +112,7 @@ fn print_one<V: VTActor>(rest: &[u8], actor: &mut V) -> Result<usize, AllocError
     } else if rest[0] < 0x80 {
         print_text(rest, actor)
     } else {
-        print_wide(rest, actor)
+        print_first(rest, actor)
     }
 }
 
@@ -127,23 +127,6 @@ fn print_text<V: VTActor>(rest: &[u8], actor: &mut V) -> Result<usize, AllocErro
     match print_all(&rest[..run], actor) {
         Ok(()) => Ok(run),
         Err(e) => Err(e),
-    }
-}
-
-// The sequence at the front, where one stands there that is whole and no control; else nothing.
-#[inline(always)]
-fn print_wide<V: VTActor>(rest: &[u8], actor: &mut V) -> Result<usize, AllocError>
-    requires { V.is_ready actor.old }
-    ensures count { IfOk result (λ n. n ≤ length rest.now) }
-    ensures ran { Prints V.takes V.refuses result rest.now actor.old actor.new }
-    ensures ready { OnOk result (V.is_ready actor.new) }
-{
-    match first_wide(rest) {
-        Some((c, n)) => match actor.print(c) {
-            Ok(()) => Ok(n),
-            Err(e) => Err(e),
-        },
-        None => Ok(0),
     }
 }
 
