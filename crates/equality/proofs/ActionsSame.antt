@@ -25,7 +25,7 @@ actions T G x y (action.Control c) (action.Control d) = (λ h. ap control ((code
 actions T G x y (action.Esc s) (action.Esc t) = (λ h. ap esc ((escs s t).0 h), λ e. let q : s ≡ t = cc in (escs s t).1 q)
 actions T G x y (action.CSI c) (action.CSI d) = (λ h. ap csi ((csis T G x y c d).0 h), λ e. let q : csi_value c ≡ csi_value d = cc in (csis T G x y c d).1 q)
 actions T G x y (action.OperatingSystemCommand c) (action.OperatingSystemCommand d) = (
-  λ h. ap osc ((commands T G x y c.value d.value).0 h),
-  λ e. let q : c.value ≡ d.value = cc in (commands T G x y c.value d.value).1 q,
+  λ h. ap osc ((commands T G x y c d).0 h),
+  λ e. let q : c ≡ d = cc in (commands T G x y c d).1 q,
 )
 actions T G x y a b = (λ h. never h, λ e. absurd cc)

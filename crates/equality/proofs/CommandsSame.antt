@@ -57,7 +57,8 @@ commands_true T G x y (command.ClearSelection s) (command.ClearSelection t) e = 
 commands_true T G x y (command.QuerySelection s) (command.QuerySelection t) e = ap command.QuerySelection ((selections s t).0 e)
 commands_true T G x y (command.ITermProprietary s) (command.ITermProprietary t) e = ap command.ITermProprietary ((iterms T G x y s t).0 e)
 commands_true T G x y (command.FinalTermSemanticPrompt s) (command.FinalTermSemanticPrompt t) e = ap command.FinalTermSemanticPrompt ((prompts T G x y s t).0 e)
-commands_true T G x y (command.ChangeColorNumber s) (command.ChangeColorNumber t) e = ap command.ChangeColorNumber ((lists color_pair.ghosts.eq color_pairs s t).0 e)
+commands_true T G x y (command.ChangeColorNumber s) (command.ChangeColorNumber t) e =
+    ap command.ChangeColorNumber ((lists color_pair.ghosts.eq color_pairs s t).0 e)
 commands_true T G x y (command.ResetDynamicColor s) (command.ResetDynamicColor t) e = ap command.ResetDynamicColor ((dynamics s t).0 e)
 commands_true T G x y (command.ResetColors s) (command.ResetColors t) e = ap command.ResetColors ((texts s t).0 e)
 commands_true T G x y (command.RxvtExtension s) (command.RxvtExtension t) e = ap command.RxvtExtension ((lists (pointwise nat_eq) texts s t).0 e)
@@ -65,7 +66,8 @@ commands_true T G x y (command.ConEmuProgress s) (command.ConEmuProgress t) e = 
 commands_true T G x y (command.Unspecified s) (command.Unspecified t) e = ap command.Unspecified ((lists (pointwise nat_eq) texts s t).0 e)
 commands_true T G x y (command.SetHyperlink s) (command.SetHyperlink t) e = ap command.SetHyperlink ((links T G x y s t).0 e)
 commands_true T G x y (command.SetSelection m s) (command.SetSelection n t) e = let q = (both (selections m n) (texts s t)).0 e in rw (q.0, q.1) refl
-commands_true T G x y (command.ChangeDynamicColors m s) (command.ChangeDynamicColors n t) e = let q = (both (dynamics m n) (lists color.ghosts.eq colors s t)).0 e in rw (q.0, q.1) refl
+commands_true T G x y (command.ChangeDynamicColors m s) (command.ChangeDynamicColors n t) e = let q =
+    (both (dynamics m n) (lists color.ghosts.eq colors s t)).0 e in rw (q.0, q.1) refl
 commands_true T G x y a b e = never e
 
 commands_itself : (T : RattleType) (G : Ghosts T.Denot) (x y : Dict) (a : OperatingSystemCommand T.Denot) → (command_eq.ghosts T G x y).eq a a ≡ true

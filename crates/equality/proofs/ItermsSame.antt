@@ -30,9 +30,11 @@ made_same n m s t w v h k r q i j d e c f e1 e2 e3 e4 e5 e6 e7 e8 = rw (e1, e2, 
 pub files : (T : RattleType) (G : Ghosts T.Denot) (x y : Dict) → IsSame (file_eq.ghosts T G x y).eq
 files T G x y a b =
     let parts : IsTrue ((file_eq.ghosts T G x y).eq a b) ↔ ((a.name ≡ b.name) × ((a.size ≡ b.size) × ((a.width ≡ b.width) × ((a.height ≡ b.height)
-    × ((a.preserve_aspect_ratio ≡ b.preserve_aspect_ratio) × ((a.inline ≡ b.inline) × ((a.do_not_move_cursor ≡ b.do_not_move_cursor) × (a.content ≡ b.content))))))))
+    × ((a.preserve_aspect_ratio ≡ b.preserve_aspect_ratio) × ((a.inline ≡ b.inline)
+    × ((a.do_not_move_cursor ≡ b.do_not_move_cursor) × (a.content ≡ b.content))))))))
     = both (search (texts, rules)) (both (search rules) (both (dimensions a.width b.width) (both (dimensions a.height b.height)
-    (both (bools a.preserve_aspect_ratio b.preserve_aspect_ratio) (both (bools a.inline b.inline) (both (bools a.do_not_move_cursor b.do_not_move_cursor) (texts a.content b.content)))))))
+    (both (bools a.preserve_aspect_ratio b.preserve_aspect_ratio)
+    (both (bools a.inline b.inline) (both (bools a.do_not_move_cursor b.do_not_move_cursor) (texts a.content b.content)))))))
     in (
       λ h.
           let e = parts.0 h in

@@ -3,7 +3,7 @@ use Rattle.std.specs.Prelude.{◌≡◌, ◌↔◌, ℕ, nat_eq, Bool, true, fal
 use Rattle.std.specs.Cmp.Lexicographic.{pointwise}
 use Rattle.std.proofs.Common.{rules, ap, refl}
 use Rattle.std.proofs.Math.Bool.{beq}
-use Rattle.esc_below.proofs.Numbers.{and_parts}
+use Rattle.std.proofs.lemmas.Bool.{and_parts}
 
 -- the test holds exactly of equal values
 abbrev pub IsSame : {X : Type 0} → (X → X → Bool) → Type 0

@@ -1,6 +1,6 @@
-//! Equality is equality of values: `==` of each public type that has it answers true exactly where the two are the same.
+//! Equality is equality of values: `==` of each public type that has it is true exactly where the two are the same.
 //!
-//! Most of these types derive `==`, and a derive has no clause of its own; here each stands in a function that has one.
+//! Most of these types derive `==`, and a derive has no clause of its own; here each is the body of a function that has one.
 #![tactic(auto)]
 
 pub mod actions;

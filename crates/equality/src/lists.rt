@@ -1,8 +1,7 @@
 //! Lists and boxed values, where `==` of what they hold is equality.
 ghost use Rattle.std.specs.Prelude.{◌≡◌, ◌↔◌, IsTrue};
 
-use esc_below::Items;
-use esc_iterm::Boxed;
+use esc_below::{Boxed, Items};
 use std::alloc::Allocator;
 
 /// Whether two lists are the same.

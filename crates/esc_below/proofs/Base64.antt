@@ -35,14 +35,21 @@ symbols_pass f all (a ∷ b ∷ c ∷ rest) h =
     let one = h.0 in
     let two = h.1.0 in
     let three = h.1.1.0 in
-    rw (symbol_passes f all (a / 4) (omega arith), symbol_passes f all (a % 4 * 16 + b / 16) (omega arith), symbol_passes f all (b % 16 * 4 + c / 64) (omega arith), symbol_passes f all (c % 64) (omega arith), symbols_pass f all rest h.1.1.1) refl
+    rw (
+      symbol_passes f all (a / 4) (omega arith),
+      symbol_passes f all (a % 4 * 16 + b / 16) (omega arith),
+      symbol_passes f all (b % 16 * 4 + c / 64) (omega arith),
+      symbol_passes f all (c % 64) (omega arith),
+      symbols_pass f all rest h.1.1.1,
+    ) refl
 
 padding_passes : (f : ℕ → Bool) → f 0x3d ≡ true → (n : ℕ) → list_all f (replicate n 0x3d) ≡ true
 padding_passes f one zero = refl
 padding_passes f one (suc n) = rw (one, padding_passes f one n) refl
 
 -- the base64 of bytes passes a test that the symbols and `=` pass
-pub base64_passes : (f : ℕ → Bool) → all_below (λ i. f (slice_index table i)) 64 ≡ true → f 0x3d ≡ true → (m : List ℕ) → AreBytes m → list_all f (base64_text m) ≡ true
+pub base64_passes : (f : ℕ → Bool) → all_below (λ i. f (slice_index table i)) 64 ≡ true → f 0x3d ≡ true → (m : List ℕ) → AreBytes m
+    → list_all f (base64_text m) ≡ true
 base64_passes f all one m h =
     all_append f (encode_symbols table m) (replicate (padding_len (length m)) 0x3d) (symbols_pass f all m h) (padding_passes f one (padding_len (length m)))
 

@@ -1,12 +1,14 @@
 -- The form of a body is seen in its entries.
-use Rattle.std.proofs.Common.{ℕ, suc, ◌≡◌, ◌+◌, ◌-◌, ◌*◌, Bool, true, false, cond, if◌then◌else◌, ◌&&◌, List, [], ◌∷◌, drop, Option, Some, None, refl, ap, sym, ◌∙◌, arith}
+use Rattle.std.proofs.Common.{ℕ, suc, ◌≡◌, ◌+◌, ◌-◌, ◌*◌, Bool, true, false, cond, if◌then◌else◌, ◌&&◌, List, [], ◌∷◌, drop, Option, Some, None, refl}
+use Rattle.std.proofs.Common.{ap, sym, ◌∙◌, arith}
 use Rattle.std.specs.Prelude.{pos}
 use Rattle.std.specs.List.{list_all, prefix_len}
 use Rattle.std.proofs.lemmas.Bool.Decides.{nat_tests}
+use Rattle.std.proofs.lemmas.Bool.{and_parts}
 use Rattle.esc_below.specs.declared.csi_param.CsiParam.{CsiParam}
 use Rattle.esc_below.specs.declared.csi_param.CsiParam.TheVariants.{Integer, P}
-use Rattle.esc_below.specs.Entries.{is_digit, is_marker, is_intermediate_byte, is_csi_parameter, is_body_byte, drop_while, is_csi_body, held, entries_behind, entries}
-use Rattle.esc_below.proofs.Numbers.{and_parts}
+use Rattle.esc_below.specs.Entries.{is_digit, is_marker, is_intermediate_byte, is_csi_parameter, is_body_byte, drop_while, is_csi_body, held}
+use Rattle.esc_below.specs.Entries.{entries_behind, entries}
 
 digit_is_parameter : (b : ℕ) → is_digit b ≡ true → is_csi_parameter b ≡ true
 digit_is_parameter b d = grind (arith, nat_tests)
@@ -39,20 +41,23 @@ drop_while_by p b x true = let one : 1 + prefix_len p x ≡ suc (prefix_len p x)
 drop_while_by p b x false = refl
 
 parameters_by : (b : ℕ) (x : List ℕ) (t : Bool) → list_all is_intermediate_byte (drop_while is_csi_parameter x) ≡ parameters x
-    → list_all is_intermediate_byte (if t then drop_while is_csi_parameter x else b ∷ x) ≡ (if t then parameters x else (is_intermediate_byte b && list_all is_intermediate_byte x))
+    → list_all is_intermediate_byte (if t then drop_while is_csi_parameter x else b ∷ x)
+    ≡ (if t then parameters x else (is_intermediate_byte b && list_all is_intermediate_byte x))
 parameters_by b x true h = h
 parameters_by b x false h = refl
 
 parameters_are : (x : List ℕ) → list_all is_intermediate_byte (drop_while is_csi_parameter x) ≡ parameters x
 parameters_are [] = refl
-parameters_are (b ∷ x) = ap (list_all is_intermediate_byte) (drop_while_by is_csi_parameter b x (is_csi_parameter b)) ∙ parameters_by b x (is_csi_parameter b) (parameters_are x)
+parameters_are (b ∷ x) = ap (list_all is_intermediate_byte) (drop_while_by is_csi_parameter b x (is_csi_parameter b))
+    ∙ parameters_by b x (is_csi_parameter b) (parameters_are x)
 
 -- a marker, where there is one, and then these
 abbrev marked : List ℕ → Bool
 marked [] = true
 marked (b ∷ x) = if is_marker b then parameters x else parameters (b ∷ x)
 
-marked_by : (b : ℕ) (x : List ℕ) (t : Bool) → list_all is_intermediate_byte (drop_while is_csi_parameter (if t then x else b ∷ x)) ≡ (if t then parameters x else parameters (b ∷ x))
+marked_by : (b : ℕ) (x : List ℕ) (t : Bool)
+    → list_all is_intermediate_byte (drop_while is_csi_parameter (if t then x else b ∷ x)) ≡ (if t then parameters x else parameters (b ∷ x))
 marked_by b x true = parameters_are x
 marked_by b x false = parameters_are (b ∷ x)
 
@@ -88,7 +93,8 @@ run_no_intermediates n [] = refl
 run_no_intermediates n (b ∷ x) = run_by n b x (is_digit b) (run_no_intermediates (10 * n + (b - 0x30)) x)
 
 intermediates_by : (b : ℕ) (x : List ℕ) (t : Bool) → is_digit b ≡ t → entry_intermediates (entries x) ≡ list_all is_intermediate_byte x
-    → entry_intermediates (if t then entries_behind (Some (b - 0x30)) x else P b ∷ entries_behind None x) ≡ (is_intermediate_byte b && list_all is_intermediate_byte x)
+    → entry_intermediates (if t then entries_behind (Some (b - 0x30)) x else P b ∷ entries_behind None x)
+    ≡ (is_intermediate_byte b && list_all is_intermediate_byte x)
 intermediates_by b x true d h = run_no_intermediates (b - 0x30) x ∙ sym (ap (λ t. t && list_all is_intermediate_byte x) (digit_no_intermediate b d))
 intermediates_by b x false d h = ap (λ t. is_intermediate_byte b && t) h
 
@@ -97,16 +103,19 @@ intermediates_are [] = refl
 intermediates_are (b ∷ x) = intermediates_by b x (is_digit b) refl (intermediates_are x)
 
 other_by : (b : ℕ) (x : List ℕ) (t : Bool) → entry_parameters (entries x) ≡ parameters x
-    → (if t then entry_parameters (entries x) else (is_intermediate_byte b && entry_intermediates (entries x))) ≡ (if t then parameters x else (is_intermediate_byte b && list_all is_intermediate_byte x))
+    → (if t then entry_parameters (entries x) else (is_intermediate_byte b && entry_intermediates (entries x)))
+    ≡ (if t then parameters x else (is_intermediate_byte b && list_all is_intermediate_byte x))
 other_by b x true h = h
 other_by b x false h = ap (λ t. is_intermediate_byte b && t) (intermediates_are x)
 
-none_by : (b : ℕ) (x : List ℕ) (t : Bool) → is_digit b ≡ t → entry_parameters (entries_behind (Some (b - 0x30)) x) ≡ parameters x → entry_parameters (entries x) ≡ parameters x
+none_by : (b : ℕ) (x : List ℕ) (t : Bool) → is_digit b ≡ t → entry_parameters (entries_behind (Some (b - 0x30)) x) ≡ parameters x
+    → entry_parameters (entries x) ≡ parameters x
     → entry_parameters (if t then entries_behind (Some (b - 0x30)) x else P b ∷ entries_behind None x) ≡ parameters (b ∷ x)
 none_by b x true d h k = rw (digit_is_parameter b d) h
 none_by b x false d h k = other_by b x (is_csi_parameter b) k
 
-some_by : (n b : ℕ) (x : List ℕ) (t : Bool) → is_digit b ≡ t → entry_parameters (entries_behind (Some (10 * n + (b - 0x30))) x) ≡ parameters x → entry_parameters (entries x) ≡ parameters x
+some_by : (n b : ℕ) (x : List ℕ) (t : Bool) → is_digit b ≡ t → entry_parameters (entries_behind (Some (10 * n + (b - 0x30))) x) ≡ parameters x
+    → entry_parameters (entries x) ≡ parameters x
     → entry_parameters (if t then entries_behind (Some (10 * n + (b - 0x30))) x else Integer (pos (held n)) ∷ P b ∷ entries_behind None x) ≡ parameters (b ∷ x)
 some_by n b x true d h k = rw (digit_is_parameter b d) h
 some_by n b x false d h k = other_by b x (is_csi_parameter b) k
@@ -118,8 +127,10 @@ entry_parameters_are None (b ∷ x) = none_by b x (is_digit b) refl (entry_param
 entry_parameters_are (Some n) (b ∷ x) = some_by n b x (is_digit b) refl (entry_parameters_are (Some (10 * n + (b - 0x30))) x) (entry_parameters_are None x)
 
 -- a number is no marker
-first_by : (n b : ℕ) (x : List ℕ) (t : Bool) → entry_marked (entries_behind (Some (10 * n + (b - 0x30))) x) ≡ entry_parameters (entries_behind (Some (10 * n + (b - 0x30))) x)
-    → entry_marked (if t then entries_behind (Some (10 * n + (b - 0x30))) x else Integer (pos (held n)) ∷ P b ∷ entries_behind None x) ≡ entry_parameters (if t then entries_behind (Some (10 * n + (b - 0x30))) x else Integer (pos (held n)) ∷ P b ∷ entries_behind None x)
+first_by : (n b : ℕ) (x : List ℕ) (t : Bool)
+    → entry_marked (entries_behind (Some (10 * n + (b - 0x30))) x) ≡ entry_parameters (entries_behind (Some (10 * n + (b - 0x30))) x)
+    → entry_marked (if t then entries_behind (Some (10 * n + (b - 0x30))) x else Integer (pos (held n)) ∷ P b ∷ entries_behind None x)
+    ≡ entry_parameters (if t then entries_behind (Some (10 * n + (b - 0x30))) x else Integer (pos (held n)) ∷ P b ∷ entries_behind None x)
 first_by n b x true h = h
 first_by n b x false h = refl
 
@@ -145,7 +156,8 @@ same_form x y same h = marked_is y ∙ sym (entry_marked_is y) ∙ ap entry_mark
 -- the bytes of a body
 all_intermediates : (x : List ℕ) → list_all is_intermediate_byte x ≡ true → list_all is_body_byte x ≡ true
 all_intermediates [] h = refl
-all_intermediates (b ∷ x) h = let q = and_parts (is_intermediate_byte b) (list_all is_intermediate_byte x) h in rw (intermediate_in_body b q.0, all_intermediates x q.1) refl
+all_intermediates (b ∷ x) h = let q = and_parts (is_intermediate_byte b) (list_all is_intermediate_byte x) h in
+    rw (intermediate_in_body b q.0, all_intermediates x q.1) refl
 
 all_parameters_by : (b : ℕ) (x : List ℕ) (t : Bool) → is_csi_parameter b ≡ t → (parameters x ≡ true → list_all is_body_byte x ≡ true)
     → (if t then parameters x else (is_intermediate_byte b && list_all is_intermediate_byte x)) ≡ true → (is_body_byte b && list_all is_body_byte x) ≡ true
@@ -156,7 +168,8 @@ all_parameters : (x : List ℕ) → parameters x ≡ true → list_all is_body_b
 all_parameters [] h = refl
 all_parameters (b ∷ x) h = all_parameters_by b x (is_csi_parameter b) refl (all_parameters x) h
 
-all_marked_by : (b : ℕ) (x : List ℕ) (t : Bool) → is_marker b ≡ t → (if t then parameters x else parameters (b ∷ x)) ≡ true → (is_body_byte b && list_all is_body_byte x) ≡ true
+all_marked_by : (b : ℕ) (x : List ℕ) (t : Bool) → is_marker b ≡ t → (if t then parameters x else parameters (b ∷ x)) ≡ true
+    → (is_body_byte b && list_all is_body_byte x) ≡ true
 all_marked_by b x true m h = rw (marker_in_body b m, all_parameters x h) refl
 all_marked_by b x false m h = all_parameters (b ∷ x) h
 

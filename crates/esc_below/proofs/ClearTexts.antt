@@ -6,10 +6,10 @@ use Rattle.std.specs.Str.{IsUtf8, encode_utf8_all}
 use Rattle.std.specs.Str.Lossy.{utf8_lossy}
 use Rattle.std.proofs.lemmas.Str.{utf8_lossy-IsUtf8, is_utf8-from_IsUtf8, encode_ascii, inside_one, encodes-append}
 use Rattle.std.proofs.lemmas.List.Folds.{list_all-append}
+use Rattle.std.proofs.lemmas.Bool.{and_parts}
 use lib.Utf8.{scalar, scalars}
 use Rattle.esc_below.specs.Clear.{is_clear, is_part_char, IsClearText, IsClearPart, AreClearParts}
 use Rattle.esc_below.specs.Scalars.{utf8_of}
-use Rattle.esc_below.proofs.Numbers.{and_parts}
 use Rattle.esc_below.proofs.Split.{part_clear}
 
 -- clear texts are UTF-8
@@ -37,12 +37,12 @@ pub parts_lossy : (ps : List (List ℕ)) → AreClearParts ps → map utf8_lossy
 parts_lossy [] h = refl
 parts_lossy (p ∷ ps) h = rw (part_lossy p h.0, parts_lossy ps h.1) refl
 
--- one part behind another is a part
+-- one part after another is a part
 pub part_append : (x y : List ℕ) → IsClearPart x → IsClearPart y → IsClearPart (x ++ y)
 part_append x y (cs, all, e) (ds, more, f) =
     (cs ++ ds, rw (list_all-append is_part_char cs ds, all, more) refl, encodes-append cs ds ∙ ap (λ t. t ++ encode_utf8_all ds) e ∙ ap (λ t. x ++ t) f)
 
--- what stands behind the first character, where that is ASCII
+-- what follows the first character, where that is ASCII
 behind_first : (c b : ℕ) (ds r : List ℕ) → b < 128 → c ≡ b → encode_utf8 c ++ encode_utf8_all ds ≡ b ∷ r → encode_utf8_all ds ≡ r
 behind_first c b ds r small same e =
     let whole : b ∷ encode_utf8_all ds ≡ b ∷ r = rw (same, encode_ascii b small) at e in

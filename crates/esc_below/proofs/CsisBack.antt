@@ -1,5 +1,6 @@
 -- What is read of a body reads back from its text.
-use Rattle.std.proofs.Common.{ℕ, ◌≡◌, ◌<◌, ◌≤◌, Bool, true, false, not, ◌&&◌, ◌==◌, if◌then◌else◌, List, [], ◌∷◌, ◌++◌, length, Option, Some, None, lit≤, refl, ap, sym, ◌∙◌, subst, arith}
+use Rattle.std.proofs.Common.{ℕ, ◌≡◌, ◌<◌, ◌≤◌, Bool, true, false, not, ◌&&◌, ◌==◌, if◌then◌else◌, List, [], ◌∷◌, ◌++◌, length, Option, Some, None}
+use Rattle.std.proofs.Common.{lit≤, refl, ap, sym, ◌∙◌, subst, arith}
 use Rattle.std.specs.Prelude.{unwrap_or}
 use Rattle.std.specs.List.{slice_split}
 use Rattle.std.proofs.lemmas.Bool.{eqb-true}
@@ -43,8 +44,9 @@ renditions_back : (is : List (List CsiParam)) → BackWhere (renditions is)
 renditions_back [] = tt
 renditions_back (i ∷ is) = put_back (rendition i) (renditions is) (renditions_back is)
 
--- one sequence as it stands
-whole_back : (x : List ℕ) (f : ℕ) → is_csi_body x ≡ true → length (entries x) ≤ 256 → f < 128 → csi_of (entries x) false f ≡ unspecified (entries x) false f ∷ [] → ReadsBack f (unspecified (entries x) false f)
+-- one sequence as it is
+whole_back : (x : List ℕ) (f : ℕ) → is_csi_body x ≡ true → length (entries x) ≤ 256 → f < 128
+    → csi_of (entries x) false f ≡ unspecified (entries x) false f ∷ [] → ReadsBack f (unspecified (entries x) false f)
 whole_back x f form few small read =
     let same = entries_back x (body_bytes x form) in (
       ap (λ t. 0x1b ∷ 0x5b ∷ (entries_text (entries x) ++ t)) (encode_ascii f small),
@@ -53,13 +55,16 @@ whole_back x f form few small read =
     )
 
 -- which of both it is
-read_by : (x : List ℕ) (o : Option (List CsiValue)) → is_csi_body x ≡ true → length (entries x) ≤ 256 → BackWhere o → renditions (slice_split is_separator (entries x)) ≡ o
+read_by : (x : List ℕ) (o : Option (List CsiValue)) → is_csi_body x ≡ true → length (entries x) ≤ 256 → BackWhere o
+    → renditions (slice_split is_separator (entries x)) ≡ o
     → ReadBack 0x6d (unwrap_or o (unspecified (entries x) false 0x6d ∷ []))
 read_by x None form few back is = (whole_back x 0x6d form few (omega arith) (ap (λ o. unwrap_or o (unspecified (entries x) false 0x6d ∷ [])) is), tt)
 read_by x (Some vs) form few back is = back
 
 final_by : (x : List ℕ) (f : ℕ) (t : Bool) → (f == 0x6d) ≡ t → is_csi_body x ≡ true → length (entries x) ≤ 256 → f < 128
-    → ReadBack f (if t && not false then unwrap_or (renditions (slice_split is_separator (entries x))) (unspecified (entries x) false f ∷ []) else unspecified (entries x) false f ∷ [])
+    → ReadBack f
+    (if t && not false then unwrap_or (renditions (slice_split is_separator (entries x))) (unspecified (entries x) false f ∷ []) else unspecified
+    (entries x) false f ∷ [])
 final_by x f true e form few small =
     let is : f ≡ 0x6d = eqb-true f 0x6d e in
     let P : ℕ → Type 0 = λ g. ReadBack g (unwrap_or (renditions (slice_split is_separator (entries x))) (unspecified (entries x) false g ∷ [])) in
@@ -69,7 +74,9 @@ final_by x f false e form few small = (whole_back x f form few small (rw e refl)
 pub reads_back : (x : List ℕ) (f : ℕ) → is_csi_body x ≡ true → length (entries x) ≤ 256 → f < 128 → ReadBack f (csi_of (entries x) false f)
 reads_back x f form few small = final_by x f (f == 0x6d) refl form few small
 
-truncated_by : (es : List CsiParam) (f : ℕ) (t : Bool) → (if t && not true then unwrap_or (renditions (slice_split is_separator es)) (unspecified es true f ∷ []) else unspecified es true f ∷ []) ≡ unspecified es true f ∷ []
+truncated_by : (es : List CsiParam) (f : ℕ) (t : Bool)
+    → (if t && not true then unwrap_or (renditions (slice_split is_separator es)) (unspecified es true f ∷ []) else unspecified es true f ∷ [])
+    ≡ unspecified es true f ∷ []
 truncated_by es f true = refl
 truncated_by es f false = refl
 

@@ -1,15 +1,15 @@
 -- Bytes without a byte, and clear parts that are cut at an ASCII character.
-use Rattle.std.proofs.Common.{ℕ, suc, ◌≡◌, ◌≢◌, ◌<◌, Bool, true, false, ◌==◌, inl, inr, List, [], ◌∷◌, ◌++◌, length, get_or, Option, Some, None, refl, ap, sym, ◌∙◌, subst, arith, eq-eqb}
+use Rattle.std.proofs.Common.{ℕ, suc, ◌≡◌, ◌≢◌, ◌<◌, Bool, true, false, ◌==◌, inl, inr, List, [], ◌∷◌, ◌++◌, length, get_or, Option, Some, None, refl}
+use Rattle.std.proofs.Common.{ap, sym, ◌∙◌, subst, arith, eq-eqb}
 use Rattle.std.specs.Char.{encode_utf8}
 use Rattle.std.specs.List.{slice_split, list_all}
 use Rattle.std.specs.Option.{option_map}
 use Rattle.std.specs.Str.{encode_utf8_all}
-use Rattle.std.proofs.lemmas.Bool.{eqb-true, eqb-false, ne_eqb}
+use Rattle.std.proofs.lemmas.Bool.{eqb-true, eqb-false, ne_eqb, cases_Bool, and_parts}
 use Rattle.std.proofs.lemmas.List.{append-nil}
 use Rattle.std.proofs.lemmas.Str.{inside_one, encode_ascii}
 use Rattle.esc_below.specs.Clear.{is_part_char, IsTextOf, IsClearPart}
 use Rattle.esc_below.specs.Cuts.{cut_at}
-use Rattle.esc_below.proofs.Numbers.{bool_cases, and_parts}
 use Rattle.esc_below.proofs.Where.{Where, where_map}
 
 -- bytes without the byte b; of a literal by `refl`
@@ -25,7 +25,7 @@ none_before f (Some x) h = absurd cc
 
 free_parts : (b x : ℕ) (t : List ℕ) → Free b (x ∷ t) → ((x == b) ≡ false) × Free b t
 free_parts b x t h =
-    elim (bool_cases (x == b)) [
+    elim (cases_Bool (x == b)) [
       | inl held ↦ let bad = rw held at h in absurd cc
       | inr failed ↦ (failed, none_before _ (cut_at b t) (rw failed at h))
     ]
@@ -48,19 +48,19 @@ pub free_passes : (b : ℕ) (f : ℕ → Bool) → f b ≡ false → (t : List �
 free_passes b f fails [] h = refl
 free_passes b f fails (x ∷ t) h =
     let q = and_parts (f x) (list_all f t) h in
-    elim (bool_cases (x == b)) [
+    elim (cases_Bool (x == b)) [
       | inl held ↦ let same : x ≡ b = eqb-true x b held in let bad : f b ≡ true = subst (λ y. f y ≡ true) same q.0 in absurd cc
       | inr failed ↦ free_more b x t failed (free_passes b f fails t q.1)
     ]
 
--- what stands before a cut is without its byte
+-- what comes before a cut is without its byte
 abbrev pub FirstFree : ℕ → List ℕ × List ℕ → Type 0
 FirstFree b p = Free b p.0
 
 pub cut_lacks : (b : ℕ) (t : List ℕ) → Where (FirstFree b) (cut_at b t)
 cut_lacks b [] = tt
 cut_lacks b (x ∷ t) =
-    elim (bool_cases (x == b)) [
+    elim (cases_Bool (x == b)) [
       | inl held ↦ rw held refl
       | inr failed ↦ rw failed (where_map (FirstFree b) (FirstFree b) (λ p. (x ∷ p.0, p.1)) (λ p h. free_more b x p.0 failed h) (cut_at b t) (cut_lacks b t))
     ]
@@ -73,16 +73,17 @@ pub cut_keeps : (a b : ℕ) (t : List ℕ) → Free a t → Where (BothFree a) (
 cut_keeps a b [] h = tt
 cut_keeps a b (x ∷ t) h =
     let q = free_parts a x t h in
-    elim (bool_cases (x == b)) [
+    elim (cases_Bool (x == b)) [
       | inl held ↦ rw held (refl, q.1)
-      | inr failed ↦ rw failed (where_map (BothFree a) (BothFree a) (λ p. (x ∷ p.0, p.1)) (λ p both. (free_more a x p.0 q.0 both.0, both.1)) (cut_at b t) (cut_keeps a b t q.1))
+      | inr failed ↦ rw failed
+          (where_map (BothFree a) (BothFree a) (λ p. (x ∷ p.0, p.1)) (λ p both. (free_more a x p.0 q.0 both.0, both.1)) (cut_at b t) (cut_keeps a b t q.1))
     ]
 
 -- both sides of a cut are clear parts
 abbrev pub BothClear : List ℕ × List ℕ → Type 0
 BothClear p = IsClearPart p.0 × IsClearPart p.1
 
--- what stands before the cut, with x before it
+-- what comes before the cut, with x before it
 abbrev Behind : List ℕ → Option (List ℕ × List ℕ) → Option (List ℕ × List ℕ)
 Behind x o = option_map (λ (p : List ℕ × List ℕ). (x ++ p.0, p.1)) o
 
@@ -117,17 +118,19 @@ cut_chars : (b : ℕ) (cs : List ℕ) → b < 128 → list_all is_part_char cs �
 cut_chars b [] small h = tt
 cut_chars b (c ∷ cs) small h =
     let q = and_parts (is_part_char c) (list_all is_part_char cs) h in
-    elim (bool_cases (c == b)) [
+    elim (cases_Bool (c == b)) [
       | inl held ↦ let same : c ≡ b = eqb-true c b held in rw (same, encode_ascii b small, cut_here b (encode_utf8_all cs)) (no_part, (cs, q.1, refl))
       | inr failed ↦ rw (cut_behind b (encode_utf8 c) (encode_utf8_all cs) (encode_free b c small (eqb-false c b failed)))
-          (where_map BothClear BothClear (λ p. (encode_utf8 c ++ p.0, p.1)) (λ p k. (part_more c p.0 q.0 k.0, k.1)) (cut_at b (encode_utf8_all cs)) (cut_chars b cs small q.1))
+          (where_map BothClear BothClear (λ p. (encode_utf8 c ++ p.0, p.1)) (λ p k. (part_more c p.0 q.0 k.0, k.1)) (cut_at b (encode_utf8_all cs))
+          (cut_chars b cs small q.1))
     ]
 
 pub cut_clear : (b : ℕ) (t : List ℕ) → b < 128 → IsClearPart t → Where BothClear (cut_at b t)
 cut_clear b t small (cs, all, e) = let P : List ℕ → Type 0 = λ u. Where BothClear (cut_at b u) in subst P e (cut_chars b cs small all)
 
 -- splitting
-pub split_free : (b : ℕ) (x r p : List ℕ) (ps : List (List ℕ)) → Free b x → slice_split (λ c. c == b) r ≡ p ∷ ps → slice_split (λ c. c == b) (x ++ r) ≡ (x ++ p) ∷ ps
+pub split_free : (b : ℕ) (x r p : List ℕ) (ps : List (List ℕ)) → Free b x → slice_split (λ c. c == b) r ≡ p ∷ ps
+    → slice_split (λ c. c == b) (x ++ r) ≡ (x ++ p) ∷ ps
 split_free b [] r p ps h e = e
 split_free b (a ∷ x) r p ps h e = let q = free_parts b a x h in rw (q.0, split_free b x r p ps q.1 e) refl
 

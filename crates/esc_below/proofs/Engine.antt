@@ -70,7 +70,11 @@ suffix_error_agree d e pad allow mode at s same bytes = rw (scan_last_agree d e 
 pub decode_error_agree : (d e : List ℕ) (pad : ℕ) (allow : Bool) (mode : DecodePaddingMode) (s : List ℕ) → Agree d e → Bytes s
     → decode_error d pad allow mode s ≡ decode_error e pad allow mode s
 decode_error_agree d e pad allow mode s same bytes =
-    rw (same _ (bytes (length s - 1)), groups_error_agree d e s same bytes ((length s - 1) / 4), suffix_error_agree d e pad allow mode (4 * ((length s - 1) / 4)) s same bytes)
+    rw (
+      same _ (bytes (length s - 1)),
+      groups_error_agree d e s same bytes ((length s - 1) / 4),
+      suffix_error_agree d e pad allow mode (4 * ((length s - 1) / 4)) s same bytes,
+    )
 
 pub decoded_bytes_agree : (d e : List ℕ) (pad : ℕ) (s : List ℕ) → Agree d e → Bytes s → decoded_bytes d pad s ≡ decoded_bytes e pad s
 decoded_bytes_agree d e pad s same bytes =

@@ -20,7 +20,8 @@ text_of p1 p2 = ap (λ t. codes "8;" ++ (p1 ++ 0x3b ∷ t)) (append-nil p2)
 not_one : (p q r : List ℕ) → p ∷ q ∷ r ∷ [] ≢ [] ∷ []
 not_one p q r e = cc
 
-text_parts_of : (p1 p2 : List ℕ) → IsClearPart p1 → IsClearPart p2 → IsClearText (joined (codes "8" ∷ p1 ∷ p2 ∷ [])) × (parts_of (joined (codes "8" ∷ p1 ∷ p2 ∷ [])) ≡ codes "8" ∷ p1 ∷ p2 ∷ [])
+text_parts_of : (p1 p2 : List ℕ) → IsClearPart p1 → IsClearPart p2
+    → IsClearText (joined (codes "8" ∷ p1 ∷ p2 ∷ [])) × (parts_of (joined (codes "8" ∷ p1 ∷ p2 ∷ [])) ≡ codes "8" ∷ p1 ∷ p2 ∷ [])
 text_parts_of p1 p2 h k = parts_text (codes "8" ∷ p1 ∷ p2 ∷ []) ((plain_part (codes "8") refl, (h, (k, tt))), not_one (codes "8") p1 p2)
 
 module _ {A : Type 0} where
@@ -49,7 +50,8 @@ module _ (A : Type 0) where
   )
 
   -- what is read
-  by_params : (o : Option Pairs) (uri : List ℕ) → Where AreReadable o → IsClearPart uri → Where (ReadsAs {A = A}) (and_then o (λ es. option_map (λ u. Some (link_to es u)) (utf8_of uri)))
+  by_params : (o : Option Pairs) (uri : List ℕ) → Where AreReadable o → IsClearPart uri
+      → Where (ReadsAs {A = A}) (and_then o (λ es. option_map (λ u. Some (link_to es u)) (utf8_of uri)))
   by_params None uri h k = tt
   by_params (Some es) uri h k = rw (part_utf8_of uri k) (with_params es uri h k)
 
@@ -79,7 +81,8 @@ module _ {A : Type 0} where
       let moved : P (link_text v) = subst P r.4 t in
       (r.0, r.1, moved.0, moved.1, r.5)
 
-  pub link_back : (ps : List (List ℕ)) → AreTextParts ps → (v : Option (Hyperlink A)) → link_of ps ≡ Some v → IsClearText (link_text v) × (link_of (parts_of (link_text v)) ≡ Some v)
+  pub link_back : (ps : List (List ℕ)) → AreTextParts ps → (v : Option (Hyperlink A)) → link_of ps ≡ Some v
+      → IsClearText (link_text v) × (link_of (parts_of (link_text v)) ≡ Some v)
   link_back ps h v e =
       let r = link_parts ps h v e in
       (r.2, ap link_of r.3 ∙ r.4)
@@ -94,13 +97,15 @@ module _ {A : Type 0} where
   code_first (Some h) = refl
 
   -- a link that reads back has three parts: `8` and two that are read as it
-  three_parts : (v : Option (Hyperlink A)) (ps : List (List ℕ)) → link_of (codes "8" ∷ ps) ≡ Some v → (p1 : List ℕ) × (p2 : List ℕ) × (ps ≡ p1 ∷ p2 ∷ []) × (link_in p1 p2 ≡ Some v)
+  three_parts : (v : Option (Hyperlink A)) (ps : List (List ℕ)) → link_of (codes "8" ∷ ps) ≡ Some v
+      → (p1 : List ℕ) × (p2 : List ℕ) × (ps ≡ p1 ∷ p2 ∷ []) × (link_in p1 p2 ≡ Some v)
   three_parts v [] e = absurd cc
   three_parts v (p1 ∷ []) e = absurd cc
   three_parts v (p1 ∷ p2 ∷ []) e = (p1, p2, refl, e)
   three_parts v (p1 ∷ p2 ∷ p3 ∷ ps) e = absurd cc
 
-  pub written_parts : (v : Option (Hyperlink A)) → link_of (parts_of (link_text v)) ≡ Some v → (p1 : List ℕ) × (p2 : List ℕ) × (parts_of (link_text v) ≡ codes "8" ∷ p1 ∷ p2 ∷ []) × (link_in p1 p2 ≡ Some v)
+  pub written_parts : (v : Option (Hyperlink A)) → link_of (parts_of (link_text v)) ≡ Some v
+      → (p1 : List ℕ) × (p2 : List ℕ) × (parts_of (link_text v) ≡ codes "8" ∷ p1 ∷ p2 ∷ []) × (link_in p1 p2 ≡ Some v)
   written_parts v e =
       let r = three_parts v (slice_split (λ c. c == 0x3b) (behind_code v)) (ap link_of (sym (code_first v)) ∙ e) in
       (r.0, r.1, code_first v ∙ ap (λ ps. codes "8" ∷ ps) r.2, r.3)

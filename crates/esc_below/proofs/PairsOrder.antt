@@ -17,7 +17,7 @@ abbrev pub BelowAll : List ℕ → Pairs → Type 0
 BelowAll j [] = Unit {0}
 BelowAll j (e ∷ es) = Below j e.0 × BelowAll j es
 
--- each key is below those behind it
+-- each key is below those after it
 abbrev pub AreOrdered : Pairs → Type 0
 AreOrdered [] = Unit {0}
 AreOrdered (e ∷ es) = BelowAll e.0 es × AreOrdered es

@@ -8,7 +8,7 @@ use Rattle.esc_below.specs.declared.error.Error.{Error}
 use Rattle.esc_below.specs.declared.error.Error.TheVariants.{Invalid}
 use Rattle.esc_below.specs.Hyperlinks.{put, put_all, is_colon, params_of}
 
--- pieces, put in behind the pairs es
+-- pieces, put in after the pairs es
 abbrev pub reading : Pairs → List (List ℕ) → Option Pairs
 reading es ps = option_map (λ qs. put_all es qs) (pairs_in ps)
 
@@ -21,7 +21,8 @@ abbrev CutsInto : List ℕ → Option (List ℕ × List ℕ) → Type 0
 CutsInto t None = slice_split is_colon t ≡ t ∷ []
 CutsInto t (Some p) = (slice_split is_colon t ≡ p.0 ∷ slice_split is_colon p.1) × (length p.1 < length t)
 
-cuts_more : (b : ℕ) (t : List ℕ) (o : Option (List ℕ × List ℕ)) → is_colon b ≡ false → CutsInto t o → CutsInto (b ∷ t) (option_map (λ (p : List ℕ × List ℕ). (b ∷ p.0, p.1)) o)
+cuts_more : (b : ℕ) (t : List ℕ) (o : Option (List ℕ × List ℕ)) → is_colon b ≡ false → CutsInto t o
+    → CutsInto (b ∷ t) (option_map (λ (p : List ℕ × List ℕ). (b ∷ p.0, p.1)) o)
 cuts_more b t None other h = rw (other, h) refl
 cuts_more b t (Some p) other h = (rw (other, h.0) refl, let k = h.1 in omega arith)
 
@@ -40,7 +41,8 @@ pub cut_none : (t : List ℕ) → cut_at 0x3a t ≡ None → slice_split is_colo
 cut_none t e = let P : Option (List ℕ × List ℕ) → Type 0 = λ o. CutsInto t o in subst P e (cuts t)
 
 -- one piece more
-more_by : (es : Pairs) (e : List ℕ × List ℕ) (o : Option Pairs) → option_map (λ qs. put_all es qs) (option_map (λ qs. e ∷ qs) o) ≡ option_map (λ qs. put_all (put e.0 e.1 es) qs) o
+more_by : (es : Pairs) (e : List ℕ × List ℕ) (o : Option Pairs)
+    → option_map (λ qs. put_all es qs) (option_map (λ qs. e ∷ qs) o) ≡ option_map (λ qs. put_all (put e.0 e.1 es) qs) o
 more_by es e None = refl
 more_by es e (Some qs) = refl
 
@@ -48,9 +50,11 @@ more_by es e (Some qs) = refl
 abbrev pub put_of : Pairs → List ℕ → Option Pairs
 put_of es p = option_map (λ e. put e.0 e.1 es) (key_and_value p)
 
-reading_by : (es fs : Pairs) (p : List ℕ) (ps : List (List ℕ)) (o : Option (List ℕ × List ℕ)) → key_and_value p ≡ o → put_of es p ≡ Some fs → reading es (p ∷ ps) ≡ reading fs ps
+reading_by : (es fs : Pairs) (p : List ℕ) (ps : List (List ℕ)) (o : Option (List ℕ × List ℕ)) → key_and_value p ≡ o → put_of es p ≡ Some fs
+    → reading es (p ∷ ps) ≡ reading fs ps
 reading_by es fs p ps None is h = let k : None ≡ Some fs = rw is at h in cc
-reading_by es fs p ps (Some e) is h = let k : Some (put e.0 e.1 es) ≡ Some fs = rw is at h in let same : put e.0 e.1 es ≡ fs = cc in rw is (more_by es e (pairs_in ps) ∙ ap (λ gs. reading gs ps) same)
+reading_by es fs p ps (Some e) is h = let k : Some (put e.0 e.1 es) ≡ Some fs = rw is at h in let same : put e.0 e.1 es ≡ fs = cc in
+    rw is (more_by es e (pairs_in ps) ∙ ap (λ gs. reading gs ps) same)
 
 pub reading_piece : (es fs : Pairs) (p : List ℕ) (ps : List (List ℕ)) → put_of es p ≡ Some fs → reading es (p ∷ ps) ≡ reading fs ps
 reading_piece es fs p ps h = reading_by es fs p ps (key_and_value p) refl h

@@ -41,7 +41,8 @@ good_pairs (t ∷ ts) h =
 some_pairs : (t : List ℕ) (ts : List (List ℕ)) → Where (λ qs. (q : List ℕ × List ℕ) × (more : Pairs) × (qs ≡ q ∷ more)) (pairs_in (t ∷ ts))
 some_pairs t ts = by (key_and_value t) (pairs_in ts)
   where
-    by : (o : Option (List ℕ × List ℕ)) (m : Option Pairs) → Where (λ qs. (q : List ℕ × List ℕ) × (more : Pairs) × (qs ≡ q ∷ more)) (and_then o (λ e. option_map (λ es. e ∷ es) m))
+    by : (o : Option (List ℕ × List ℕ)) (m : Option Pairs)
+        → Where (λ qs. (q : List ℕ × List ℕ) × (more : Pairs) × (qs ≡ q ∷ more)) (and_then o (λ e. option_map (λ es. e ∷ es) m))
     by None m = tt
     by (Some q) None = tt
     by (Some q) (Some more) = (q, more, refl)
@@ -90,7 +91,8 @@ pair_clear e h = part_append e.0 (0x3d ∷ e.1) h.0.0.0 (part_append (0x3d ∷ [
 more_clear : (es : Pairs) → AreGood es → IsClearPart (flat_map (λ d. 0x3a ∷ pair_text d) es)
 more_clear [] h = ([], refl, refl)
 more_clear (e ∷ es) h =
-    part_append (0x3a ∷ pair_text e) (flat_map (λ d. 0x3a ∷ pair_text d) es) (part_append (0x3a ∷ []) (pair_text e) (plain_part (0x3a ∷ []) refl) (pair_clear e h.0)) (more_clear es h.1)
+    part_append (0x3a ∷ pair_text e) (flat_map (λ d. 0x3a ∷ pair_text d) es)
+    (part_append (0x3a ∷ []) (pair_text e) (plain_part (0x3a ∷ []) refl) (pair_clear e h.0)) (more_clear es h.1)
 
 pub params_clear : (es : Pairs) → AreGood es → IsClearPart (params_text es)
 params_clear [] h = ([], refl, refl)

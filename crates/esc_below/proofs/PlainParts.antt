@@ -2,8 +2,8 @@
 use Rattle.std.proofs.Common.{ℕ, ◌≡◌, Bool, true, not, ◌&&◌, ◌==◌, List, [], ◌∷◌, ◌++◌, refl}
 use Rattle.std.specs.List.{list_all}
 use Rattle.std.proofs.lemmas.List.Folds.{list_all-append}
+use Rattle.std.proofs.lemmas.Bool.{and_parts}
 use Rattle.esc_below.specs.Clear.{is_part_char, IsClearPart}
-use Rattle.esc_below.proofs.Numbers.{and_parts}
 use Rattle.esc_below.proofs.Plain.{is_plain, plain_is_clear, plain_encodes}
 
 -- from space to delete, but not `;`

@@ -1,24 +1,22 @@
--- Signed numbers: what `parse` answers, as `signed_of`; their texts are clear parts that read back.
-use Rattle.std.proofs.Common.{ℕ, suc, ◌-◌, ◌^◌, ◌≡◌, ◌≢◌, ◌<◌, Bool, true, false, ◌&&◌, nat_lt, nat_eq, List, [], ◌∷◌, length, get_or, Some, None, Result, Ok, Err, ℤ, pos, negsuc, neg_ℤ, refl, ap, arith, lt-ltb, inl, inr}
+-- Signed numbers: what `parse` returns, as `signed_of`; their texts read back.
+use Rattle.std.proofs.Common.{ℕ, suc, ◌-◌, ◌^◌, ◌≡◌, ◌≢◌, ◌<◌, Bool, true, false, ◌&&◌, nat_lt, nat_eq, List, [], ◌∷◌, length, get_or, Some, None}
+use Rattle.std.proofs.Common.{Result, Ok, Err, ℤ, pos, negsuc, neg_ℤ, refl, ap, arith, lt-ltb, inl, inr}
 use Rattle.std.specs.Fmt.{decimal, signed_decimal}
-use Rattle.std.specs.List.{list_all}
 use Rattle.std.specs.Result.{result_ok}
 use Rattle.std.specs.Str.{all_ascii_digits, IsUtf8, IsAscii}
 use Rattle.std.specs.Str.Parse.{ParsesSigned, AllDigits, IsNumeral, without_leading_plus, without_leading_sign, starts_with_minus, signed_digits_value}
 use Rattle.std.specs.Int.RustNames.{FitsSigned}
-use Rattle.std.proofs.lemmas.Bool.{eqb-true, ne_eqb}
+use Rattle.std.proofs.lemmas.Bool.{eqb-true, ne_eqb, cases_Bool, and_parts}
 use Rattle.std.proofs.lemmas.Fmt.{decimal_is_IsNumeral, IsAscii-from_digits}
 use Rattle.std.proofs.lemmas.Str.{IsUtf8-from_ascii}
 use Rattle.std.proofs.lemmas.Str.Parse.{digit_at, without_leading_plus_none}
+use Rattle.std.specs.Cmp.Derive.{both_true}
 use borrow.Author.Tests.{ltb-true}
 use mir.Syntax.{Width}
 use mir.Syntax.Width.{w8, w16, w32, w64, w128}
 use mir.Val.{bits, hbits}
-use Rattle.esc_below.specs.Clear.{IsClearPart}
 use Rattle.esc_below.specs.Scalars.{IsSigned, is_signed, signed_of}
-use Rattle.esc_below.proofs.Numbers.{own, bool_cases, and_parts, and_true, ascii_cons, ascii_from_plus}
-use Rattle.esc_below.proofs.Numerals.{decimal_part, plain_from}
-use Rattle.esc_below.proofs.PlainParts.{plain_part, is_part_plain}
+use Rattle.esc_below.proofs.Numbers.{own, ascii_cons, ascii_from_plus}
 use Rattle.esc_below.proofs.Where.{Where}
 
 -- the test of the range, as a fact
@@ -52,18 +50,19 @@ signed_test k bs = nat_lt 0 (length (without_leading_sign bs)) && all_ascii_digi
 
 numeral_from : (k : ℕ) (bs : List ℕ) → signed_test k bs ≡ true → IsNumeral 10 (without_leading_sign bs) × IsSigned k (signed_digits_value 10 bs)
 numeral_from k bs h =
-    let outer = and_parts (nat_lt 0 (length (without_leading_sign bs)) && all_ascii_digits (without_leading_sign bs)) (is_signed k (signed_digits_value 10 bs)) h in
+    let outer =
+    and_parts (nat_lt 0 (length (without_leading_sign bs)) && all_ascii_digits (without_leading_sign bs)) (is_signed k (signed_digits_value 10 bs)) h in
     let inner = and_parts (nat_lt 0 (length (without_leading_sign bs))) (all_ascii_digits (without_leading_sign bs)) outer.0 in
     ((ltb-true _ _ inner.0, own.to (without_leading_sign bs) inner.1), is_signed_true k (signed_digits_value 10 bs) outer.1)
 
 test_from : (k : ℕ) (bs : List ℕ) → IsNumeral 10 (without_leading_sign bs) → IsSigned k (signed_digits_value 10 bs) → signed_test k bs ≡ true
 test_from k bs f r =
-    and_true _ _ (and_true _ _ (lt-ltb _ _ f.0) (own.from (without_leading_sign bs) f.1)) (is_signed_holds k (signed_digits_value 10 bs) r)
+    both_true (both_true (lt-ltb _ _ f.0) (own.from (without_leading_sign bs) f.1)) (is_signed_holds k (signed_digits_value 10 bs) r)
 
 pub signed_from_parse : {E : Type 0} (w : Width) (bs : List ℕ) (r : Result ℤ E) → ParsesSigned w 10 bs r → result_ok r ≡ signed_of (bits w) bs
 signed_from_parse w bs (Ok x) h = rw (test_from (bits w) bs h.0.0 (signed_fits w (signed_digits_value 10 bs) h.0.1), h.1)
 signed_from_parse w bs (Err e) h =
-    elim (bool_cases (signed_test (bits w) bs)) [
+    elim (cases_Bool (signed_test (bits w) bs)) [
       | inl held ↦ let f = numeral_from (bits w) bs held in absurd (h (f.0, fits_signed w (signed_digits_value 10 bs) f.1))
       | inr failed ↦ rw failed
     ]
@@ -72,14 +71,14 @@ signed_from_parse w bs (Err e) h =
 ascii_from_sign : (bs : List ℕ) → AllDigits 10 (without_leading_sign bs) → IsAscii bs
 ascii_from_sign [] h = ascii_from_plus [] h
 ascii_from_sign (x ∷ xs) h =
-    elim (bool_cases (nat_eq x 45)) [
+    elim (cases_Bool (nat_eq x 45)) [
       | inl minus ↦ let e : x ≡ 45 = eqb-true x 45 minus in ascii_cons x xs (omega arith) (IsAscii-from_digits xs (rw minus at h))
       | inr other ↦ ascii_from_plus (x ∷ xs) (rw other at h)
     ]
 
 pub signed_none : (k : ℕ) (bs : List ℕ) → (IsUtf8 bs → ⊥) → signed_of k bs ≡ None
 signed_none k bs h =
-    elim (bool_cases (signed_test k bs)) [
+    elim (cases_Bool (signed_test k bs)) [
       | inl held ↦ absurd (h (IsUtf8-from_ascii bs (ascii_from_sign bs (numeral_from k bs held).0.1)))
       | inr failed ↦ rw failed
     ]
@@ -87,7 +86,7 @@ signed_none k bs h =
 -- a number that was read lies in the range of the type
 pub signed_where : (k : ℕ) (bs : List ℕ) → Where (λ z. IsSigned k z) (signed_of k bs)
 signed_where k bs =
-    elim (bool_cases (signed_test k bs)) [
+    elim (cases_Bool (signed_test k bs)) [
       | inl held ↦ let r = (numeral_from k bs held).1 in rw held r
       | inr failed ↦ rw failed tt
     ]
@@ -122,14 +121,6 @@ signed_back_32 (negsuc n) h = back_neg 32 n h (omega arith)
 
 pub signed_back_64 : (z : ℤ) → IsSigned 64 z → signed_of 64 (signed_decimal z) ≡ Some z
 signed_back_64 z h = signed_back 64 z h h
-
--- and is a clear part
-pub signed_part : (z : ℤ) → IsSigned 64 z → IsClearPart (signed_decimal z)
-signed_part (pos n) h = decimal_part n (omega arith)
-signed_part (negsuc n) h =
-    let f = decimal_is_IsNumeral (suc n) (omega arith) in
-    let digits : list_all is_part_plain (decimal (suc n)) ≡ true = plain_from (decimal (suc n)) (λ k below. let range = digit_at (decimal (suc n)) k f.0.1 below in (omega (arith, range), omega (arith, range))) in
-    plain_part (45 ∷ decimal (suc n)) digits
 
 -- a number of 32 bits has 64
 pub signed_wide : (z : ℤ) → IsSigned 32 z → IsSigned 64 z

@@ -4,13 +4,12 @@ use Rattle.std.specs.List.{slice_split, list_all, flat_map, join_with_byte}
 use Rattle.std.proofs.lemmas.List.{append-nil}
 use Rattle.std.proofs.lemmas.List.Folds.{list_all-append}
 use Rattle.std.proofs.lemmas.List.Splits.{join_with_byte-slice_split}
-use Rattle.std.proofs.lemmas.Bool.{eqb-false, ne_eqb, not-true}
+use Rattle.std.proofs.lemmas.Bool.{eqb-false, ne_eqb, not-true, and_parts}
 use Rattle.std.proofs.lemmas.Str.{encodes-append}
 use Rattle.std.specs.Str.{encode_utf8_all}
 use Rattle.std.specs.Char.{encode_utf8}
 use Rattle.esc_below.specs.Clear.{is_clear, is_part_char, IsClearText, IsClearPart, AreClearParts, AreTextParts, parts_of, joined}
 use Rattle.esc_below.proofs.Cutting.{Free, free_append, encode_free, split_free, ArePieces, SplitsAt, splits}
-use Rattle.esc_below.proofs.Numbers.{and_parts}
 
 abbrev semi : ℕ → Bool
 semi c = c == 0x3b
@@ -44,7 +43,8 @@ all_clear ps t (p, more, is, one, rest) e = let P : List (List ℕ) → Type 0 =
 
 pub text_parts : (t : List ℕ) → IsClearText t → AreTextParts (parts_of t)
 text_parts [] h = (tt, λ e. cc)
-text_parts (b ∷ t) h = (all_clear (slice_split semi (b ∷ t)) (b ∷ t) (split_clear (b ∷ t) h) refl, λ e. let k : b ∷ t ≡ [] = sym (joined_split (b ∷ t)) ∙ ap joined e in cc)
+text_parts (b ∷ t) h =
+    (all_clear (slice_split semi (b ∷ t)) (b ∷ t) (split_clear (b ∷ t) h) refl, λ e. let k : b ∷ t ≡ [] = sym (joined_split (b ∷ t)) ∙ ap joined e in cc)
 
 -- a clear part is a clear text without `;`
 part_char : (c : ℕ) → is_part_char c ≡ true → (is_clear c ≡ true) × (c ≢ 0x3b)
@@ -67,7 +67,8 @@ pub part_clear : (p : List ℕ) → IsClearPart p → IsClearText p
 part_clear p (cs, all, e) = (cs, chars_clear cs all, e)
 
 pub clear_append : (x y : List ℕ) → IsClearText x → IsClearText y → IsClearText (x ++ y)
-clear_append x y (cs, all, e) (ds, more, f) = (cs ++ ds, rw (list_all-append is_clear cs ds, all, more) refl, encodes-append cs ds ∙ ap (λ t. t ++ encode_utf8_all ds) e ∙ ap (λ t. x ++ t) f)
+clear_append x y (cs, all, e) (ds, more, f) =
+    (cs ++ ds, rw (list_all-append is_clear cs ds, all, more) refl, encodes-append cs ds ∙ ap (λ t. t ++ encode_utf8_all ds) e ∙ ap (λ t. x ++ t) f)
 
 encode_is : encode_utf8_all (0x3b ∷ []) ≡ 0x3b ∷ []
 unfolding encode_utf8
@@ -78,7 +79,9 @@ semi_clear = (0x3b ∷ [], refl, encode_is)
 
 behind_clear : (ps : List (List ℕ)) → AreClearParts ps → IsClearText (flat_map (λ q. 0x3b ∷ q) ps)
 behind_clear [] h = ([], refl, refl)
-behind_clear (q ∷ ps) h = clear_append (0x3b ∷ []) (q ++ flat_map (λ q. 0x3b ∷ q) ps) semi_clear (clear_append q (flat_map (λ q. 0x3b ∷ q) ps) (part_clear q h.0) (behind_clear ps h.1))
+behind_clear (q ∷ ps) h =
+    clear_append (0x3b ∷ []) (q ++ flat_map (λ q. 0x3b ∷ q) ps) semi_clear
+    (clear_append q (flat_map (λ q. 0x3b ∷ q) ps) (part_clear q h.0) (behind_clear ps h.1))
 
 pub joined_clear : (ps : List (List ℕ)) → AreClearParts ps → IsClearText (joined ps)
 joined_clear [] h = ([], refl, refl)

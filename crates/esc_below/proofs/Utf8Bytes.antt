@@ -1,10 +1,9 @@
 -- The bytes of a text are bytes.
 use Rattle.std.proofs.Common.{◌≡◌, ℕ, zero, suc, ◌<◌, nat_lt, true, List, [], ◌∷◌, ◌++◌, arith, inl, inr, subst}
-use Rattle.std.proofs.lemmas.Bool.{ltb-true}
+use Rattle.std.proofs.lemmas.Bool.{ltb-true, cases_Bool, and_parts}
 use Rattle.std.specs.Str.{IsUtf8}
 use Rattle.base64.specs.GeneralPurpose.{IsBytes}
 use lib.Utf8.{encode, encodes, scalar, scalars, scalar_cases}
-use Rattle.esc_below.proofs.Numbers.{bool_cases, and_parts}
 
 -- every number is a byte
 abbrev pub AreBytes : List ℕ → Type 0
@@ -16,11 +15,11 @@ below c h = elim (scalar_cases c h) [ inl low ↦ omega arith | inr high ↦ hig
 
 encode_bytes : (c : ℕ) → c < 1114112 → AreBytes (encode c)
 unfolding encode
-encode_bytes c small = elim (bool_cases (nat_lt c 128)) [
+encode_bytes c small = elim (cases_Bool (nat_lt c 128)) [
   | inl one ↦ let k = ltb-true c 128 one in rw one (omega arith, tt)
-  | inr more ↦ rw more (elim (bool_cases (nat_lt c 2048)) [
+  | inr more ↦ rw more (elim (cases_Bool (nat_lt c 2048)) [
     | inl two ↦ let k = ltb-true c 2048 two in rw two (omega arith, (omega arith, tt))
-    | inr many ↦ rw many (elim (bool_cases (nat_lt c 65536)) [
+    | inr many ↦ rw many (elim (cases_Bool (nat_lt c 65536)) [
       | inl three ↦ let k = ltb-true c 65536 three in rw three (omega arith, (omega arith, (omega arith, tt)))
       | inr four ↦ rw four (omega arith, (omega arith, (omega arith, (omega arith, tt))))
     ])

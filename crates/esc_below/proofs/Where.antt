@@ -5,9 +5,10 @@ use Rattle.std.specs.Prelude.{IfSome}
 use Rattle.std.specs.Str.{IsUtf8, is_utf8, all_ascii_digits}
 use Rattle.std.specs.Str.Parse.{without_leading_plus, digits_value}
 use Rattle.std.proofs.lemmas.Str.{IsUtf8-from_is_utf8}
+use Rattle.std.proofs.lemmas.Bool.{cases_Bool}
 use Rattle.esc_below.specs.Base64.{base64_of, base64_text_of}
 use Rattle.esc_below.specs.Scalars.{and_then, utf8_of, number_of}
-use Rattle.esc_below.proofs.Numbers.{bool_cases, numeral_from_test}
+use Rattle.esc_below.proofs.Numbers.{numeral_from_test}
 
 abbrev pub Where : {X : Type 0} → (X → Type 0) → Option X → Type 0
 Where P o = IfSome o P
@@ -24,7 +25,8 @@ pub where_map : {X Y : Type 0} (P : X → Type 0) (Q : Y → Type 0) (f : X → 
 where_map P Q f k None h = tt
 where_map P Q f k (Some x) h = k x h
 
-pub where_then : {X Y : Type 0} (P : X → Type 0) (Q : Y → Type 0) (f : X → Option Y) → ((x : X) → P x → Where Q (f x)) → (o : Option X) → Where P o → Where Q (and_then o f)
+pub where_then : {X Y : Type 0} (P : X → Type 0) (Q : Y → Type 0) (f : X → Option Y) → ((x : X) → P x → Where Q (f x)) → (o : Option X) → Where P o
+    → Where Q (and_then o f)
 where_then P Q f k None h = tt
 where_then P Q f k (Some x) h = k x h
 
@@ -34,21 +36,22 @@ where_both P Q (Some x) h k = (h, k)
 
 pub number_where : (k : ℕ) (bs : List ℕ) → Where (λ n. n < 2 ^ k) (number_of k bs)
 number_where k bs =
-    elim (bool_cases (nat_lt 0 (length (without_leading_plus bs)) && all_ascii_digits (without_leading_plus bs) && nat_lt (digits_value 10 (without_leading_plus bs)) (2 ^ k))) [
+    elim (cases_Bool (nat_lt 0 (length (without_leading_plus bs)) && all_ascii_digits (without_leading_plus bs)
+    && nat_lt (digits_value 10 (without_leading_plus bs)) (2 ^ k))) [
       | inl held ↦ let small = (numeral_from_test k (without_leading_plus bs) held).1 in rw held small
       | inr failed ↦ rw failed tt
     ]
 
 pub utf8_where : (bs : List ℕ) → Where (λ t. IsUtf8 t) (utf8_of bs)
 utf8_where bs =
-    elim (bool_cases (is_utf8 bs)) [
+    elim (cases_Bool (is_utf8 bs)) [
       | inl held ↦ rw held (IsUtf8-from_is_utf8 bs held)
       | inr failed ↦ rw failed tt
     ]
 
 pub utf8_keeps : (P : List ℕ → Type 0) (bs : List ℕ) → P bs → Where P (utf8_of bs)
 utf8_keeps P bs h =
-    elim (bool_cases (is_utf8 bs)) [
+    elim (cases_Bool (is_utf8 bs)) [
       | inl held ↦ rw held h
       | inr failed ↦ rw failed tt
     ]

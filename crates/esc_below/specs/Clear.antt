@@ -35,10 +35,14 @@ abbrev pub parts_of : List ℕ → List (List ℕ)
 parts_of [] = []
 parts_of (b ∷ text) = slice_split (λ c. c == 0x3b) (b ∷ text)
 
+-- the parts, each after a `;`
+abbrev pub separated : List (List ℕ) → List ℕ
+separated ps = flat_map (λ q. 0x3b ∷ q) ps
+
 -- the parts, with `;` between them
 abbrev pub joined : List (List ℕ) → List ℕ
 joined [] = []
-joined (p ∷ ps) = p ++ flat_map (λ q. 0x3b ∷ q) ps
+joined (p ∷ ps) = p ++ separated ps
 
 -- clear parts, but not one empty part: what a clear text splits into
 abbrev pub AreTextParts : List (List ℕ) → Type 0

@@ -1,5 +1,6 @@
 -- Control sequences: how they are read and written.
-use Rattle.std.specs.Prelude.{ℕ, ℤ, ◌≡◌, ◌≤◌, Bool, true, false, not, ◌==◌, ◌&&◌, pos, negsuc, if◌then◌else◌, List, [], ◌∷◌, ◌++◌, length, codes, Option, Some, None, unwrap_or}
+use Rattle.std.specs.Prelude.{ℕ, ℤ, ◌≡◌, ◌≤◌, Bool, true, false, not, ◌==◌, ◌&&◌, pos, negsuc, if◌then◌else◌, List, [], ◌∷◌, ◌++◌, length, codes}
+use Rattle.std.specs.Prelude.{Option, Some, None, unwrap_or}
 use Rattle.std.specs.Char.{encode_utf8}
 use Rattle.std.specs.List.{list_all, slice_split}
 use Rattle.std.specs.Option.{option_map}
@@ -20,7 +21,7 @@ pub data CsiValue : Type 0 where
 
 abbrev pub csi_value : {A : Type 0} → CSI A → CsiValue
 csi_value (csi.Sgr s) = sgr s
-csi_value (csi.Unspecified u) = unspecified u.value.params u.value.parameters_truncated u.value.control
+csi_value (csi.Unspecified u) = unspecified u.params u.parameters_truncated u.control
 
 -- the renditions by their numbers
 abbrev pub named : ℕ → Option Sgr
@@ -39,7 +40,7 @@ abbrev pub numbered : ℤ → Option Sgr
 numbered (pos n) = named n
 numbered (negsuc n) = None
 
--- the kinds of underlines by the number behind `4:`
+-- the kinds of underlines by the number after `4:`
 abbrev pub kind_of : ℕ → Option Sgr
 kind_of n = if n == 0 then Some (Underline underline.None)
     else if n == 1 then Some (Underline underline.Single)
@@ -70,13 +71,13 @@ abbrev pub renditions : List (List CsiParam) → Option (List CsiValue)
 renditions [] = Some []
 renditions (i ∷ is) = put_first (rendition i) (renditions is)
 
--- `;` stands between items
+-- `;` comes between items
 abbrev pub is_separator : CsiParam → Bool
 is_separator (Integer n) = false
 is_separator (P b) = b == 0x3b
 
 -- What entries, whether there were more of them, and a final byte are: with the final byte `m`, where none was left out
--- and the items between `;` are all renditions, these; else one sequence as it stands. No entry is one empty item.
+-- and the items between `;` are all renditions, these; else one sequence as it is. No entry is one empty item.
 abbrev pub csi_of : List CsiParam → Bool → ℕ → List CsiValue
 csi_of params truncated control =
     let whole = unspecified params truncated control ∷ [] in
@@ -101,7 +102,7 @@ sgr_body (Underline underline.Dashed) = codes "4:5"
 abbrev pub sgr_text : Sgr → List ℕ
 sgr_text s = 0x1b ∷ 0x5b ∷ (sgr_body s ++ 0x6d ∷ [])
 
--- what stands between `ESC [` and the final byte
+-- what comes between `ESC [` and the final byte
 abbrev pub csi_body : CsiValue → List ℕ
 csi_body (sgr s) = sgr_body s
 csi_body (unspecified es more f) = entries_text es

@@ -35,16 +35,16 @@ is_body_byte b = is_from 0x20 0x3f b
 abbrev pub is_final : ℕ → Bool
 is_final b = is_from 0x40 0x7e b
 
--- the body behind its marker
+-- the body after its marker
 abbrev pub behind_marker : List ℕ → List ℕ
 behind_marker [] = []
 behind_marker (b ∷ x) = if is_marker b then x else b ∷ x
 
--- what stands behind the longest front of bytes that pass
+-- what follows the longest prefix of bytes that pass
 abbrev pub drop_while : (ℕ → Bool) → List ℕ → List ℕ
 drop_while p x = drop (prefix_len p x) x
 
--- the form of a CSI's body: perhaps a marker, then parameter bytes, then intermediates
+-- the form of a CSI's body: optionally a marker, then parameter bytes, then intermediates
 unfoldable pub is_csi_body : List ℕ → Bool
 is_csi_body x = list_all is_intermediate_byte (drop_while is_csi_parameter (behind_marker x))
 
@@ -52,12 +52,12 @@ is_csi_body x = list_all is_intermediate_byte (drop_while is_csi_parameter (behi
 abbrev pub held : ℕ → ℕ
 held n = min n 0x7fff_ffff_ffff_ffff
 
--- the number that these digits write behind those of n
+-- the number that these digits write after those of n
 abbrev pub value_behind : ℕ → List ℕ → ℕ
 value_behind n [] = n
 value_behind n (b ∷ bs) = value_behind (10 * n + (b - 0x30)) bs
 
--- the entries of a CSI's body, where n is the number of the run of digits that stands in front, if one does:
+-- the entries of a CSI's body, where n is the number of the run of digits before them, if there is one:
 -- each run of digits is its number, every other byte is itself
 abbrev pub entries_behind : Option ℕ → List ℕ → List CsiParam
 entries_behind None [] = []
@@ -73,6 +73,6 @@ abbrev pub entry_text : CsiParam → List ℕ
 entry_text (Integer n) = signed_decimal n
 entry_text (P b) = encode_utf8 b
 
--- the text of entries, one behind another
+-- the text of entries, one after another
 abbrev pub entries_text : List CsiParam → List ℕ
 entries_text es = flat_map entry_text es

@@ -13,7 +13,7 @@ esc_of None c = if c == 0x5c then esc.Code code.StringTerminator
     else esc.Unspecified None c
 esc_of (Some i) c = esc.Unspecified (Some i) c
 
--- what stands behind ESC
+-- what follows ESC
 abbrev pub final_text : Esc → List ℕ
 final_text (esc.Code code.StringTerminator) = 0x5c ∷ []
 final_text (esc.Code code.HorizontalTabSet) = 0x48 ∷ []

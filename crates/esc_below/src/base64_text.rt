@@ -1,4 +1,4 @@
-//! Base64 (RFC 4648, section 4), by one engine.
+//! Base64 (RFC 4648, section 4, <https://www.rfc-editor.org/rfc/rfc4648#section-4>), by one engine.
 ghost use Rattle.std.specs.Prelude.{◌≡◌, IfOk, Some};
 ghost use Rattle.std.specs.Option.{option_map};
 ghost use Rattle.esc_below.specs.Base64.{IsEngine, base64_of, base64_text_of, base64_text};
@@ -23,7 +23,7 @@ fn engine() -> GeneralPurpose
 }
 
 /// The bytes that a base64 text encodes; none where it is no base64. Its alphabet is the standard one, padding is
-/// required, and the bits behind the last byte may be any. The error is that memory was refused.
+/// required, and the bits after the last byte may be any. The error is that memory was refused.
 pub fn read_base64<A: Allocator>(alloc: A, text: &[u8]) -> Result<Option<Vec<u8, A>>, AllocError>
     ensures { IfOk result (λ o. option_map (λ v. v.items) o ≡ base64_of text.now) }
 {
@@ -45,7 +45,7 @@ pub fn read_base64_text<A: Allocator>(alloc: A, text: &[u8]) -> Result<Option<Te
     }
 }
 
-/// Bytes that print as their base64, with padding. Takes no memory.
+/// Bytes that print as their base64, with padding.
 #[derive(Clone, Copy)]
 pub struct Encoded<'a>(pub &'a [u8]);
 

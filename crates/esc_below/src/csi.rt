@@ -1,9 +1,11 @@
-//! Control sequences.
-ghost use Rattle.std.specs.Prelude.{◌≡◌, ◌+◌, ◌<◌, ◌≤◌, ◌∷◌, [], length, drop, IfNone, IfOk, IfSome, is_some, map, Some};
+//! Control sequences (ECMA-48, <https://ecma-international.org/publications-and-standards/standards/ecma-48/>; xterm's
+//! list, <https://invisible-island.net/xterm/ctlseqs/ctlseqs.html>).
+ghost use Rattle.std.specs.Prelude.{◌≡◌, ◌+◌, ◌<◌, ◌≤◌, ◌∷◌, [], length, drop, IfNone, IfOk, IfSome, IsOk, false, true, is_some, map, Some};
 ghost use Rattle.std.specs.Option.{option_map};
 ghost use Rattle.std.specs.List.{position_or_len, slice_split};
 ghost use Rattle.esc_below.specs.Csis.{csi_value, csi_of, csi_text, is_separator, renditions, sgr, unspecified};
 
+use crate::boxed::Boxed;
 use crate::csi_param::CsiParam;
 use crate::items::Items;
 use crate::sgr::Sgr;
@@ -21,8 +23,8 @@ use std::fmt::Display;
 pub enum CSI<A: Allocator = Global> {
     /// A rendition (ECMA-48, 8.3.117, SGR).
     Sgr(Sgr),
-    /// Any other control sequence, as it stands.
-    Unspecified(Box<Unspecified<A>, A>),
+    /// Any other control sequence, as it is.
+    Unspecified(Boxed<Unspecified<A>, A>),
 }
 
 impl<A: Allocator + Copy> CSI<A> {
@@ -50,8 +52,8 @@ impl<A: Allocator + Copy> CSI<A> {
         Ok(read)
     }
 
-    /// What [`parse`](CSI::parse) answers, where that is one value, with no list made for it; `None` where there are several.
-    /// The error is that memory was refused, which one rendition does not want.
+    /// What [`parse`](CSI::parse) returns, where that is one value, with no list made for it; `None` where there are several.
+    /// The error is that memory was refused, which renditions do not want.
     pub fn parse_one(
         alloc: A,
         params: &[CsiParam],
@@ -60,6 +62,7 @@ impl<A: Allocator + Copy> CSI<A> {
     ) -> Result<Option<CSI<A>>, AllocError>
         ensures one { IfOk result (λ o. IfSome o (λ c. csi_of params.now parameters_truncated control ≡ csi_value c ∷ [])) }
         ensures several { IfOk result (λ o. IfNone o (2 ≤ length (csi_of params.now parameters_truncated control))) }
+        ensures free { control ≡ 0x6d → parameters_truncated ≡ false → is_some (renditions (slice_split is_separator params.now)) ≡ true → IsOk result }
     {
         if control == b'm' && !parameters_truncated && are_renditions(params) {
             return Ok(lone_rendition(params).map(|sgr| CSI::Sgr(sgr)));
@@ -69,7 +72,7 @@ impl<A: Allocator + Copy> CSI<A> {
     }
 }
 
-// The sequence as it stands.
+// The sequence as it is.
 fn as_it_stands<A: Allocator + Copy>(
     alloc: A,
     params: &[CsiParam],
@@ -83,10 +86,7 @@ fn as_it_stands<A: Allocator + Copy>(
         parameters_truncated,
         control,
     };
-    match Box::new(alloc, kept) {
-        Ok(kept) => Ok(CSI::Unspecified(kept)),
-        Err(_) => Err(AllocError),
-    }
+    Ok(CSI::Unspecified(Boxed::new(alloc, kept)?))
 }
 
 // The rendition, where there is one item.
@@ -114,7 +114,7 @@ fn are_renditions(params: &[CsiParam]) -> bool
         if len == left.len() {
             return true;
         }
-        left = behind_item(left, len);
+        left = after_item(left, len);
     }
 }
 
@@ -136,7 +136,7 @@ fn read_renditions<A: Allocator + Copy>(
         if len == rest.len() {
             return Ok(Some(read));
         }
-        rest = behind_item(rest, len);
+        rest = after_item(rest, len);
     }
 }
 
@@ -152,23 +152,22 @@ fn item_len(params: &[CsiParam]) -> usize
     len
 }
 
-// What stands behind an item of this many entries and the `;` that ends it.
-fn behind_item(params: &[CsiParam], len: usize) -> &[CsiParam]
+// What follows an item of this many entries and the `;` that ends it.
+fn after_item(params: &[CsiParam], len: usize) -> &[CsiParam]
     requires { len < length params.now }
     ensures { result.now ≡ drop (len + 1) params.now }
 {
     &params[len + 1..]
 }
 
-// Whether it stands between items.
+// Whether it separates items.
 fn is_separator(param: &CsiParam) -> bool
     ensures { result ≡ is_separator param.now }
 {
     *param == CsiParam::P(b';')
 }
 
-/// Writes the control sequence as a terminal reads it. Takes no memory, and errs only where the writer behind the
-/// formatter errs.
+/// Writes the control sequence as a terminal reads it. Where it returns `Ok`, all of it was written.
 impl<A: Allocator> fmt::Display for CSI<A> {
     ghost output = { λ c. Some (csi_text (csi_value c)) };
 

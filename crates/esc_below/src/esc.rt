@@ -50,7 +50,7 @@ impl Esc {
 }
 
 /// Writes ESC, the intermediate where there is one, and the final byte. A byte is written as the character
-/// of the same number. Takes no memory, and errs only where the writer behind the formatter errs.
+/// of the same number. Where it returns `Ok`, all of it was written.
 impl fmt::Display for Esc {
     ghost output = { λ e. Some (esc_text e) };
 
@@ -60,7 +60,7 @@ impl fmt::Display for Esc {
     }
 }
 
-// What stands behind ESC.
+// What follows ESC.
 fn write_final<W: fmt::Write>(esc: Esc, f: &mut fmt::Formatter<W>) -> fmt::Result
     ensures { DisplaysOnOk W.write_str_gives f.old result (Some (final_text esc)) f.new }
 {

@@ -1,4 +1,4 @@
-//! Hyperlinks.
+//! Hyperlinks ("Hyperlinks in terminal emulators", <https://gist.github.com/egmontkob/eb114294efbcd5adb1944c9f3cb5feda>).
 ghost use Rattle.std.specs.Prelude.{◌≡◌, [], ◌∷◌, codes, map, IfOk, IfErr, OnOk, Some, None};
 ghost use Rattle.std.specs.Fmt.{DisplaysOnOk};
 ghost use Rattle.std.specs.List.{flat_map};
@@ -138,8 +138,8 @@ fn put_piece<A: Allocator + Copy>(
     Ok(())
 }
 
-/// Writes `8;`, the parameters as `key=value` in order with `:` between them, `;` and the address. Takes no memory, and
-/// errs only where the writer behind the formatter errs.
+/// Writes `8;`, the parameters as `key=value` in order with `:` between them, `;` and the address. Where it returns `Ok`,
+/// all of it was written.
 impl<A: Allocator> fmt::Display for Hyperlink<A> {
     ghost output = { λ h. Some (hyperlink_text h) };
 

@@ -44,7 +44,7 @@ pub fn csi_reads_back()
     ensures { (x : List ℕ) (f : ℕ) → is_csi_body x ≡ true → length (entries x) ≤ 256 → f < 128 → ReadBack f (csi_of (entries x) false f) }
 {}
 
-/// Where entries are left out, what is read is one sequence as it stands.
+/// Where entries are left out, what is read is one sequence as it is.
 #[tactic(auto, using(crate::proofs::CsisBack::truncated))]
 pub fn csi_truncated()
     ensures { (es : List CsiParam) (f : ℕ) → csi_of es true f ≡ unspecified es true f ∷ [] }
@@ -52,5 +52,6 @@ pub fn csi_truncated()
 
 /// What is read from clear parts as a hyperlink, or as none, has a clear text, whose parts are read as the same.
 pub fn link_reads_back<A: Allocator>()
-    ensures { (ps : List (List ℕ)) → AreTextParts ps → (v : Option (Hyperlink A)) → link_of ps ≡ Some v → IsClearText (link_text v) × (link_of (parts_of (link_text v)) ≡ Some v) }
+    ensures { (ps : List (List ℕ)) → AreTextParts ps → (v : Option (Hyperlink A)) → link_of ps ≡ Some v
+        → IsClearText (link_text v) × (link_of (parts_of (link_text v)) ≡ Some v) }
 {}

@@ -1,9 +1,17 @@
-//! What the framing and the codecs of terminal escape sequences stand on: texts and lists that contracts
-//! see as lists, the error of a reading that may fail, colours, control sequences with their parameters, the escape
+//! What the framing and the codecs of terminal escape sequences build on: texts, lists and boxed values that contracts
+//! see as plain values, the error of a reading that may fail, colours, control sequences with their parameters, the escape
 //! sequences that have a name, and hyperlinks.
+//!
+//! The standards: ECMA-48 (<https://ecma-international.org/publications-and-standards/standards/ecma-48/>), xterm's list of
+//! control sequences (<https://invisible-island.net/xterm/ctlseqs/ctlseqs.html>), and for links "Hyperlinks in terminal
+//! emulators" (<https://gist.github.com/egmontkob/eb114294efbcd5adb1944c9f3cb5feda>).
+//!
+//! A bold character is asked for by `ESC [ 1 m`: `CSI::parse(alloc, &[CsiParam::Integer(1)], false, b'm')?` has the one value
+//! `CSI::Sgr(Sgr::Intensity(Intensity::Bold))`, which prints as the same sequence.
 #![tactic(auto)]
 
 pub mod base64_text;
+pub mod boxed;
 pub mod csi;
 pub mod csi_param;
 pub mod cut;
@@ -22,6 +30,7 @@ pub mod text;
 pub mod underline;
 pub mod unspecified;
 
+pub use boxed::Boxed;
 pub use csi::CSI;
 pub use csi_param::CsiParam;
 pub use error::Error;

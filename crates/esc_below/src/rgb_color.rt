@@ -21,7 +21,7 @@ impl Model for RgbColor {
 }
 
 impl RgbColor {
-    /// The colour of these intensities, each from 0 to 255. Takes no memory.
+    /// The colour of these intensities, each from 0 to 255.
     pub fn new_8bpc(red: u8, green: u8, blue: u8) -> RgbColor
         ensures { result ≡ (red, green, blue) }
     {

@@ -69,7 +69,7 @@ pub fn text_in(bytes: &[u8]) -> Option<&str>
     str::from_utf8(bytes).ok()
 }
 
-/// The text of these bytes, where they are well-formed UTF-8 (Unicode, Table 3-7). Takes no memory.
+/// The text of these bytes, where they are well-formed UTF-8 (Unicode, Table 3-7). They are not copied.
 pub fn text_of<A: Allocator>(bytes: Vec<u8, A>) -> Option<Text<A>>
     ensures { result ≡ utf8_of bytes.items }
 {

@@ -1,4 +1,5 @@
-//! Renditions: how characters are shown from here on.
+//! Renditions: how characters are shown from here on (xterm's list, "Character Attributes (SGR)",
+//! <https://invisible-island.net/xterm/ctlseqs/ctlseqs.html>).
 ghost use Rattle.std.specs.Prelude.{◌≡◌, Some};
 ghost use Rattle.esc_below.specs.Csis.{numbered, underlined, rendition, sgr_text};
 
@@ -64,7 +65,7 @@ fn by_number(number: i64) -> Option<Sgr>
     }
 }
 
-// The rendition of this entry behind `4:`.
+// The rendition of this entry after `4:`.
 fn underline_of(kind: CsiParam) -> Option<Sgr>
     ensures { result ≡ underlined kind }
 {
@@ -79,8 +80,8 @@ fn underline_of(kind: CsiParam) -> Option<Sgr>
     }
 }
 
-/// Writes the control sequence that selects it: `ESC [`, its number, and `m`. Takes no memory, and errs only where
-/// the writer behind the formatter errs.
+/// Writes the control sequence that selects it: `ESC [`, its number, and `m`. Where it returns
+/// `Ok`, all of it was written.
 impl fmt::Display for Sgr {
     ghost output = { λ s. Some (sgr_text s) };
 

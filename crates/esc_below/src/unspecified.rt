@@ -9,7 +9,7 @@ use crate::items::Items;
 use std::alloc::{Allocator, Global};
 use std::fmt;
 
-/// A control sequence that has no name, as it stands (ECMA-48, 5.4).
+/// A control sequence that has no name, as it is (ECMA-48, 5.4).
 #[derive(Drop)]
 #[derive_where(Debug, PartialEq)]
 pub struct Unspecified<A: Allocator = Global> {
@@ -22,7 +22,7 @@ pub struct Unspecified<A: Allocator = Global> {
 }
 
 /// Writes `ESC [`, each entry as its decimal number or its character, and the final byte. A byte is written as the
-/// character of the same number. Takes no memory, and errs only where the writer behind the formatter errs.
+/// character of the same number. Where it returns `Ok`, all of it was written.
 impl<A: Allocator> fmt::Display for Unspecified<A> {
     ghost output = { λ u. Some (csi_text (unspecified u.params u.parameters_truncated u.control)) };
 
@@ -34,7 +34,7 @@ impl<A: Allocator> fmt::Display for Unspecified<A> {
     }
 }
 
-// The entries, one behind another.
+// The entries, one after another.
 fn write_entries<W: fmt::Write>(params: &[CsiParam], f: &mut fmt::Formatter<W>) -> fmt::Result
     ensures { DisplaysOnOk W.write_str_gives f.old result (Some (entries_text params.now)) f.new }
 {

@@ -1,21 +1,22 @@
 -- The text of a dimension reads back; a dimension that was read has a number of 64 bits.
-use Rattle.std.proofs.Common.{ℕ, ◌-◌, ◌≡◌, ◌<◌, Bool, true, false, nat_le, nat_eq, if◌then◌else◌, ◌&&◌, ◌||◌, ◌==◌, List, [], ◌∷◌, ◌++◌, length, drop, codes, Option, Some, None, refl, ap, arith, inl, inr}
+use Rattle.std.proofs.Common.{ℕ, ◌-◌, ◌≡◌, ◌<◌, Bool, true, false, nat_le, nat_eq, ◌&&◌, ◌||◌, ◌==◌, List, [], ◌∷◌, ◌++◌, length, drop}
+use Rattle.std.proofs.Common.{codes, Option, Some, None, refl, ap, arith, inl, inr}
 use Rattle.std.specs.Cmp.Lexicographic.{pointwise}
 use Rattle.std.specs.Fmt.{signed_decimal}
 use Rattle.std.specs.List.{list_all}
 use Rattle.std.specs.Option.{option_map}
-use Rattle.std.proofs.lemmas.Bool.{eqb-true}
+use Rattle.std.proofs.lemmas.Bool.{eqb-true, cases_Bool}
 use Rattle.std.proofs.lemmas.List.{length-append, append-nil}
 use Rattle.std.proofs.Math.Seq.{drop-append_seam, take-append_seam}
+use Rattle.esc_below.proofs.Numerals.{signed_passes}
 use Rattle.esc_below.specs.Scalars.{signed_of, IsSigned}
-use Rattle.esc_below.proofs.Numbers.{bool_cases}
 use Rattle.esc_below.proofs.PlainParts.{all_append}
 use Rattle.esc_below.proofs.Signed.{signed_back_64, signed_where}
-use Rattle.esc_below.proofs.Where.{Where, where_map}
+use Rattle.esc_below.proofs.Where.{Where, where_if, where_map}
 use Rattle.esc_iterm.specs.Dimensions.{before_end, measured, dimension_of, dimension_text, IsDimension}
 use Rattle.esc_iterm.specs.declared.dimension.ITermDimension.{ITermDimension}
 use Rattle.esc_iterm.specs.declared.dimension.ITermDimension.TheVariants.{Automatic, Cells, Pixels, Percent}
-use Rattle.esc_iterm.proofs.KeyTexts.{signed_passes, signed_some, differs, drop_passes}
+use Rattle.esc_iterm.proofs.KeyTexts.{signed_some, differs, drop_passes}
 
 -- a digit or `-`
 abbrev is_number : ℕ → Bool
@@ -25,7 +26,7 @@ is_number c = (c == 45) || (nat_le 48 c && nat_le c 57)
 abbrev is_percent : ℕ → Bool
 is_percent c = (c == 37) || is_number c
 
--- what stands before the end of a text
+-- what comes before the end of a text
 end_back : (d e : List ℕ) → pointwise nat_eq e e ≡ true → before_end e (d ++ e) ≡ Some d
 end_back d e same =
     let len : length (d ++ e) - length e ≡ length d = omega (arith, length-append d e) in
@@ -38,12 +39,13 @@ no_end f t c e h other =
 -- a text that begins with a number is not `auto`
 not_auto : (d u : List ℕ) → list_all is_number d ≡ true → 0 < length d → pointwise nat_eq (d ++ u) (codes "auto") ≡ false
 not_auto [] u h some = absurd (omega arith)
-not_auto (c ∷ d) u h some = elim (bool_cases (nat_eq c 97)) [
+not_auto (c ∷ d) u h some = elim (cases_Bool (nat_eq c 97)) [
   | inl same ↦ absurd (let k = eqb-true c 97 same in let bad = rw k at h in cc)
   | inr other ↦ rw other refl
 ]
 
-read_cells : (t : List ℕ) (r : Option ITermDimension) → pointwise nat_eq t (codes "auto") ≡ false → before_end (codes "px") t ≡ None → before_end (codes "%") t ≡ None
+read_cells : (t : List ℕ) (r : Option ITermDimension) → pointwise nat_eq t (codes "auto") ≡ false → before_end (codes "px") t ≡ None
+    → before_end (codes "%") t ≡ None
     → option_map Cells (signed_of 64 t) ≡ r → dimension_of t ≡ r
 read_cells t r a p q e = rw (a, p, q) e
 
@@ -51,7 +53,8 @@ read_pixels : (t n : List ℕ) (r : Option ITermDimension) → pointwise nat_eq 
     → option_map Pixels (signed_of 64 n) ≡ r → dimension_of t ≡ r
 read_pixels t n r a p e = rw (a, p) e
 
-read_percent : (t n : List ℕ) (r : Option ITermDimension) → pointwise nat_eq t (codes "auto") ≡ false → before_end (codes "px") t ≡ None → before_end (codes "%") t ≡ Some n
+read_percent : (t n : List ℕ) (r : Option ITermDimension) → pointwise nat_eq t (codes "auto") ≡ false → before_end (codes "px") t ≡ None
+    → before_end (codes "%") t ≡ Some n
     → option_map Percent (signed_of 64 n) ≡ r → dimension_of t ≡ r
 read_percent t n r a p q e = rw (a, p, q) e
 
@@ -86,9 +89,7 @@ measured_where (Some n) q t = where_map (λ z. IsSigned 64 z) (λ d. IsDimension
 measured_where None (Some n) t = where_map (λ z. IsSigned 64 z) (λ d. IsDimension d) Percent (λ z h. h) (signed_of 64 n) (signed_where 64 n)
 measured_where None None t = where_map (λ z. IsSigned 64 z) (λ d. IsDimension d) Cells (λ z h. h) (signed_of 64 t) (signed_where 64 t)
 
-dimension_where_by : (b : Bool) (o : Option ITermDimension) → Where (λ d. IsDimension d) o → Where (λ d. IsDimension d) (if b then Some Automatic else o)
-dimension_where_by true o h = tt
-dimension_where_by false o h = h
-
 pub dimension_where : (t : List ℕ) → Where (λ d. IsDimension d) (dimension_of t)
-dimension_where t = dimension_where_by (pointwise nat_eq t (codes "auto")) _ (measured_where (before_end (codes "px") t) (before_end (codes "%") t) t)
+dimension_where t =
+    where_if (λ d. IsDimension d) (pointwise nat_eq t (codes "auto")) (Some Automatic) _ tt
+    (measured_where (before_end (codes "px") t) (before_end (codes "%") t) t)

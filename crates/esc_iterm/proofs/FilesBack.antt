@@ -7,21 +7,23 @@ use Rattle.std.specs.Prelude.{IfSome}
 use Rattle.std.specs.Str.{IsUtf8}
 use Rattle.std.proofs.lemmas.List.{append_assoc}
 use Rattle.esc_below.specs.Base64.{base64_text_of, base64_text}
-use Rattle.esc_below.specs.Clear.{joined}
+use Rattle.esc_below.specs.Clear.{joined, separated}
 use Rattle.esc_below.specs.Cuts.{Pairs, pair_text, last_value}
 use Rattle.esc_below.specs.Scalars.{and_then, when, number_of}
 use Rattle.esc_below.proofs.Base64.{base64_passes, base64_back, base64_bytes_back}
-use Rattle.esc_below.proofs.Numerals.{number_back}
+use Rattle.esc_below.proofs.Numerals.{number_back, decimal_passes, signed_passes}
 use Rattle.esc_below.proofs.PlainParts.{is_part_plain, all_append}
 use Rattle.esc_below.proofs.Utf8Bytes.{utf8_are_bytes, from_index}
 use Rattle.esc_iterm.specs.Dimensions.{IsDimension}
-use Rattle.esc_iterm.specs.Files.{Values, no_values, values_behind, file_with, file_text, size_in, is_set, written_dimension, written_keys, IsWritableFile, FileBack}
+use Rattle.esc_iterm.specs.Files.{Values, no_values, values_after, file_with, file_text, size_in, is_set, written_dimension, written_keys}
+use Rattle.esc_iterm.specs.Files.{IsWritableFile, FileBack}
 use Rattle.esc_iterm.specs.declared.dimension.ITermDimension.{ITermDimension}
 use Rattle.esc_iterm.specs.declared.dimension.ITermDimension.TheVariants.{Automatic, Cells, Pixels, Percent}
 use Rattle.esc_iterm.specs.declared.file_data.ITermFileData.{ITermFileData}
 use Rattle.esc_iterm.proofs.DimensionsBack.{dimension_back}
-use Rattle.esc_iterm.proofs.KeyTexts.{is_key_plain, key_plain_part, decimal_passes, signed_passes}
-use Rattle.esc_iterm.proofs.Pieces.{ArePieces, piece_plain, ended, pairs_back, file_of_ended, behind, joined_ended, ended_some, ended_clear, pieces_plain, key_pair, key_pairs, key_pieces_are, last_value_in, or_none}
+use Rattle.esc_iterm.proofs.KeyTexts.{is_key_plain, key_plain_part}
+use Rattle.esc_iterm.proofs.Pieces.{ArePieces, piece_plain, ended, pairs_back, file_of_ended, joined_ended, ended_some, ended_clear, pieces_plain}
+use Rattle.esc_iterm.proofs.Pieces.{key_pair, key_pairs, key_pieces_are, last_value_in, or_none}
 
 -- the keys that are written are pieces
 abbrev AreKeys : List (List ℕ × Option (List ℕ)) → Type 0
@@ -47,8 +49,10 @@ name_key (Some t) h = (record { lacks = refl; key = refl; value = base64_passes 
 width_text : (d : ITermDimension) (v : List ℕ) → IsDimension d → written_dimension d ≡ Some v → list_all is_key_plain v ≡ true
 width_text Automatic v h e = absurd cc
 width_text (Cells n) v h e = let k : signed_decimal n ≡ v = cc in rw (← k) (signed_passes is_key_plain refl refl n h)
-width_text (Pixels n) v h e = let k : signed_decimal n ++ codes "px" ≡ v = cc in rw (← k) (all_append is_key_plain (signed_decimal n) (codes "px") (signed_passes is_key_plain refl refl n h) refl)
-width_text (Percent n) v h e = let k : signed_decimal n ++ codes "%" ≡ v = cc in rw (← k) (all_append is_key_plain (signed_decimal n) (codes "%") (signed_passes is_key_plain refl refl n h) refl)
+width_text (Pixels n) v h e = let k : signed_decimal n ++ codes "px" ≡ v = cc in
+    rw (← k) (all_append is_key_plain (signed_decimal n) (codes "px") (signed_passes is_key_plain refl refl n h) refl)
+width_text (Percent n) v h e = let k : signed_decimal n ++ codes "%" ≡ v = cc in
+    rw (← k) (all_append is_key_plain (signed_decimal n) (codes "%") (signed_passes is_key_plain refl refl n h) refl)
 
 width_key : (o : Option (List ℕ)) → ((v : List ℕ) → o ≡ Some v → list_all is_key_plain v ≡ true) → ArePieces (key_pair (codes "width") o)
 width_key None h = tt
@@ -125,28 +129,44 @@ pub same_values : (n n' s s' w w' h h' r r' i i' c c' : Option (List ℕ)) → n
     (record { name = n'; size = s'; width = w'; height = h'; preserve_aspect_ratio = r'; inline = i'; do_not_move_cursor = c' })
 same_values n n' s s' w w' h h' r r' i i' c c' e1 e2 e3 e4 e5 e6 e7 = rw (e1, e2, e3, e4, e5, e6, e7) refl
 
-values_are : {A : Type 0} (f : ITermFileData A) → values_behind no_values (key_pairs (written_keys f)) ≡ values_in f
+values_are : {A : Type 0} (f : ITermFileData A) → values_after no_values (key_pairs (written_keys f)) ≡ values_in f
 values_are f =
     let ks = written_keys f in
-    let name : last_value (codes "name") None (key_pairs ks) ≡ option_map base64_text f.name = last_value_in (codes "name") None ks ∙ or_none (option_map base64_text f.name) in
-    let size : last_value (codes "size") None (key_pairs ks) ≡ option_map decimal f.size = last_value_in (codes "size") None ks ∙ or_none (option_map decimal f.size) in
-    let width : last_value (codes "width") None (key_pairs ks) ≡ written_dimension f.width = last_value_in (codes "width") None ks ∙ or_none (written_dimension f.width) in
-    let height : last_value (codes "height") None (key_pairs ks) ≡ written_dimension f.height = last_value_in (codes "height") None ks ∙ or_none (written_dimension f.height) in
-    let ratio : last_value (codes "preserveAspectRatio") None (key_pairs ks) ≡ when (not f.preserve_aspect_ratio) (codes "0") = last_value_in (codes "preserveAspectRatio") None ks ∙ or_none (when (not f.preserve_aspect_ratio) (codes "0")) in
-    let inline : last_value (codes "inline") None (key_pairs ks) ≡ when f.inline (codes "1") = last_value_in (codes "inline") None ks ∙ or_none (when f.inline (codes "1")) in
-    let cursor : last_value (codes "doNotMoveCursor") None (key_pairs ks) ≡ when f.do_not_move_cursor (codes "1") = last_value_in (codes "doNotMoveCursor") None ks ∙ or_none (when f.do_not_move_cursor (codes "1")) in
+    let name : last_value (codes "name") None (key_pairs ks) ≡ option_map base64_text f.name = last_value_in (codes "name") None ks
+    ∙ or_none (option_map base64_text f.name) in
+    let size : last_value (codes "size") None (key_pairs ks) ≡ option_map decimal f.size = last_value_in (codes "size") None ks
+    ∙ or_none (option_map decimal f.size) in
+    let width : last_value (codes "width") None (key_pairs ks) ≡ written_dimension f.width = last_value_in (codes "width") None ks
+    ∙ or_none (written_dimension f.width) in
+    let height : last_value (codes "height") None (key_pairs ks) ≡ written_dimension f.height = last_value_in (codes "height") None ks
+    ∙ or_none (written_dimension f.height) in
+    let ratio : last_value (codes "preserveAspectRatio") None (key_pairs ks) ≡ when (not f.preserve_aspect_ratio) (codes "0") =
+    last_value_in (codes "preserveAspectRatio") None ks ∙ or_none (when (not f.preserve_aspect_ratio) (codes "0")) in
+    let inline : last_value (codes "inline") None (key_pairs ks) ≡ when f.inline (codes "1") = last_value_in (codes "inline") None ks
+    ∙ or_none (when f.inline (codes "1")) in
+    let cursor : last_value (codes "doNotMoveCursor") None (key_pairs ks) ≡ when f.do_not_move_cursor (codes "1") =
+    last_value_in (codes "doNotMoveCursor") None ks ∙ or_none (when f.do_not_move_cursor (codes "1")) in
     same_values _ _ _ _ _ _ _ _ _ _ _ _ _ _ name size width height ratio inline cursor
 
 filled_back : {A : Type 0} (f : ITermFileData A) → IsWritableFile f → file_with {A = A} (values_in f) (base64_text f.content) ≡ Some f
 filled_back f h =
-    rw (base64_bytes_back f.content h.4, name_back f.name h.0, size_back f.size h.1, width_back f.width h.2, width_back f.height h.3, ratio_back f.preserve_aspect_ratio, flag_back f.inline, flag_back f.do_not_move_cursor) refl
+    rw (
+      base64_bytes_back f.content h.4,
+      name_back f.name h.0,
+      size_back f.size h.1,
+      width_back f.width h.2,
+      width_back f.height h.3,
+      ratio_back f.preserve_aspect_ratio,
+      flag_back f.inline,
+      flag_back f.do_not_move_cursor,
+    ) refl
 
--- the file of what stands in the pieces
+-- the file of what is in the pieces
 abbrev made : {A : Type 0} → Option (Pairs × List ℕ) → Option (ITermFileData A)
-made o = and_then (option_map (λ (m : Pairs × List ℕ). (values_behind no_values m.0, m.1)) o) (λ (m : Values × List ℕ). file_with m.0 m.1)
+made o = and_then (option_map (λ (m : Pairs × List ℕ). (values_after no_values m.0, m.1)) o) (λ (m : Values × List ℕ). file_with m.0 m.1)
 
 back_of : {A : Type 0} (f : ITermFileData A) (es : Pairs) (b : List ℕ) → ArePieces es → list_all is_part_plain (0x3a ∷ b) ≡ true
-    → file_with {A = A} (values_behind no_values es) b ≡ Some f → file_text f ≡ codes "File=" ++ (joined (map pair_text es) ++ 0x3a ∷ b) → FileBack f
+    → file_with {A = A} (values_after no_values es) b ≡ Some f → file_text f ≡ codes "File=" ++ (joined (map pair_text es) ++ 0x3a ∷ b) → FileBack f
 back_of {A = A} f [] b h plain is text = (
   ended (codes "File=" ++ []) [] (0x3a ∷ b),
   text ∙ sym (joined_ended (codes "File=" ++ []) [] (0x3a ∷ b)),
@@ -156,7 +176,8 @@ back_of {A = A} f [] b h plain is text = (
 )
 back_of {A = A} f (e ∷ es) b h plain is text = (
   ended (codes "File=" ++ pair_text e) (map pair_text es) (0x3a ∷ b),
-  text ∙ ap (λ u. codes "File=" ++ u) (append_assoc (pair_text e) (behind (map pair_text es)) (0x3a ∷ b)) ∙ sym (joined_ended (codes "File=" ++ pair_text e) (map pair_text es) (0x3a ∷ b)),
+  text ∙ ap (λ u. codes "File=" ++ u) (append_assoc (pair_text e) (separated (map pair_text es)) (0x3a ∷ b))
+      ∙ sym (joined_ended (codes "File=" ++ pair_text e) (map pair_text es) (0x3a ∷ b)),
   ended_some (codes "File=" ++ pair_text e) (map pair_text es) (0x3a ∷ b),
   ended_clear (codes "File=" ++ pair_text e) (map pair_text es) (0x3a ∷ b) (key_plain_part (pair_text e) (piece_plain e h.0)) (pieces_plain es h.1) plain,
   file_of_ended {A = A} (pair_text e) (map pair_text es) (0x3a ∷ b) ∙ ap (made {A = A}) (pairs_back e es b h.0 h.1) ∙ is,

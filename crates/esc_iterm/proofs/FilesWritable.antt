@@ -39,11 +39,13 @@ file_with_where A v t =
 
 file_from_where : (A : Type 0) (ps : List (List ℕ)) → Where (λ f. IsWritableFile f) (file_from {A = A} ps)
 file_from_where A ps =
-    where_then (λ (m : Values × List ℕ). Anything m) (λ f. IsWritableFile f) (λ (m : Values × List ℕ). file_with {A = A} m.0 m.1) (λ m h. file_with_where A m.0 m.1) (values_of ps) (anything (values_of ps))
+    where_then (λ (m : Values × List ℕ). Anything m) (λ f. IsWritableFile f) (λ (m : Values × List ℕ). file_with {A = A} m.0 m.1)
+    (λ m h. file_with_where A m.0 m.1) (values_of ps) (anything (values_of ps))
 
 file_where : (A : Type 0) (args : List (List ℕ)) → Where (λ f. IsWritableFile f) (file_of {A = A} args)
 file_where A [] = tt
-file_where A (p ∷ ps) = where_if (λ f. IsWritableFile f) (starts_with nat_eq p (codes "File=")) (file_from {A = A} (drop 5 p ∷ ps)) None (file_from_where A (drop 5 p ∷ ps)) tt
+file_where A (p ∷ ps) =
+    where_if (λ f. IsWritableFile f) (starts_with nat_eq p (codes "File=")) (file_from {A = A} (drop 5 p ∷ ps)) None (file_from_where A (drop 5 p ∷ ps)) tt
 
 pub file_is_writable : {A : Type 0} (args : List (List ℕ)) (f : ITermFileData A) → file_of args ≡ Some f → IsWritableFile f
 file_is_writable {A = A} args f e = let P : Option (ITermFileData A) → Type 0 = λ o. Where (λ g. IsWritableFile g) o in subst P e (file_where A args)

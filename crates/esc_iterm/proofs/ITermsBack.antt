@@ -1,10 +1,12 @@
 -- Every writable command reads back.
-use Rattle.std.proofs.Common.{ℕ, ◌≡◌, ◌<◌, ◌^◌, Bool, true, false, nat_eq, if◌then◌else◌, inl, inr, List, [], ◌∷◌, ◌++◌, codes, Some, None, refl, sym, ap, ◌∙◌, subst}
+use Rattle.std.proofs.Common.{ℕ, ◌≡◌, ◌<◌, ◌^◌, Bool, true, false, nat_eq, if◌then◌else◌, inl, inr, List, [], ◌∷◌, ◌++◌, codes, Some, None, refl, sym}
+use Rattle.std.proofs.Common.{ap, ◌∙◌, subst}
 use Rattle.std.specs.List.{starts_with}
 use Rattle.std.specs.Option.{option_map}
 use Rattle.std.specs.Str.{IsUtf8}
 use Rattle.std.specs.Str.Lossy.{utf8_lossy}
 use Rattle.std.proofs.lemmas.List.{append-nil}
+use Rattle.std.proofs.lemmas.Bool.{cases_Bool}
 use Rattle.esc_below.specs.Base64.{base64_text, base64_text_of}
 use Rattle.esc_below.specs.Clear.{IsClearPart, joined}
 use Rattle.esc_below.specs.Scalars.{and_then}
@@ -12,7 +14,6 @@ use Rattle.esc_below.proofs.Base64.{base64_part, base64_back}
 use Rattle.esc_below.proofs.ClearPairs.{key_back, key_none}
 use Rattle.esc_below.proofs.ClearTexts.{part_append, part_lossy}
 use Rattle.esc_below.proofs.Cutting.{Free}
-use Rattle.esc_below.proofs.Numbers.{bool_cases}
 use Rattle.esc_below.proofs.PlainParts.{plain_part}
 use Rattle.esc_iterm.specs.Files.{file_of, FileBack}
 use Rattle.esc_iterm.specs.ITerms.{alone, bare, keyed, form_from, form_of, iterm_of, form_text}
@@ -45,7 +46,8 @@ taken true x y h = refl
 taken false x y h = absurd cc
 
 -- the forms that are no file
-form_means : (A : Type 0) (p : List ℕ) (more : List (List ℕ)) → IsClearPart p → starts_with nat_eq p (codes "File=") ≡ false → iterm_of {A = A} (p ∷ more) ≡ form_of p more
+form_means : (A : Type 0) (p : List ℕ) (more : List (List ℕ)) → IsClearPart p → starts_with nat_eq p (codes "File=") ≡ false
+    → iterm_of {A = A} (p ∷ more) ≡ form_of p more
 form_means A p more h other =
     otherwise (starts_with nat_eq p (codes "File=")) (option_map iterm.File (file_of (p ∷ more))) (form_of (utf8_lossy p) more) other
     ∙ ap (λ t. form_of {A = A} t more) (part_lossy p h)
@@ -61,7 +63,7 @@ bare_means A k more w =
     form_means A k more w.clear (subst P (append-nil k) (w.other []))
     ∙ ap (λ o. form_from {A = A} k o more) (key_none k w.lacks)
 
--- one part behind the code
+-- one part after the code
 one_text : (t : List ℕ) → codes "1337;" ++ t ≡ joined (codes "1337" ∷ t ∷ [])
 one_text t = ap (λ x. codes "1337;" ++ x) (sym (append-nil t))
 
@@ -80,7 +82,8 @@ cell_word = record {
   other = λ r. refl;
 }
 
-cell_text : (x y : List ℕ) → codes "1337;" ++ (codes "ReportCellSize=" ++ (x ++ 0x3b ∷ (y ++ codes ""))) ≡ joined (codes "1337" ∷ (codes "ReportCellSize" ++ 0x3d ∷ x) ∷ y ∷ [])
+cell_text : (x y : List ℕ)
+    → codes "1337;" ++ (codes "ReportCellSize=" ++ (x ++ 0x3b ∷ (y ++ codes ""))) ≡ joined (codes "1337" ∷ (codes "ReportCellSize" ++ 0x3d ∷ x) ∷ y ∷ [])
 cell_text x y = refl
 
 scaled_text : (x y z : List ℕ)
@@ -129,13 +132,15 @@ variable_back A n t h lacks u =
     one_back A (iterm.SetUserVar n t) (codes "SetUserVar") (n ++ 0x3d ∷ base64_text t)
     (record { clear = plain_part (codes "SetUserVar") refl; lacks = refl; other = λ r. refl })
     (variable_part n t h u) refl
-    (ap (λ o. and_then o (λ (e : List ℕ × List ℕ). option_map {U = ITermProprietary A} (λ x. iterm.SetUserVar e.0 x) (base64_text_of e.1))) (key_back n (base64_text t) h lacks (base64_part t u))
+    (ap (λ o. and_then o (λ (e : List ℕ × List ℕ). option_map {U = ITermProprietary A} (λ x. iterm.SetUserVar e.0 x) (base64_text_of e.1)))
+    (key_back n (base64_text t) h lacks (base64_part t u))
     ∙ ap (option_map (λ x. iterm.SetUserVar n x)) (base64_back t u))
 
 -- files
-file_starts : (A : Type 0) (p : List ℕ) (ps : List (List ℕ)) (d : ITermFileData A) → file_of {A = A} (p ∷ ps) ≡ Some d → starts_with nat_eq p (codes "File=") ≡ true
+file_starts : (A : Type 0) (p : List ℕ) (ps : List (List ℕ)) (d : ITermFileData A) → file_of {A = A} (p ∷ ps) ≡ Some d
+    → starts_with nat_eq p (codes "File=") ≡ true
 file_starts A p ps d e =
-    elim (bool_cases (starts_with nat_eq p (codes "File="))) [
+    elim (cases_Bool (starts_with nat_eq p (codes "File="))) [
       | inl held ↦ held
       | inr failed ↦ let none = rw failed at e in absurd cc
     ]
@@ -156,13 +161,17 @@ writes_back {A = A} iterm.SetMark h =
 writes_back {A = A} iterm.StealFocus h =
     alone_back A iterm.StealFocus (codes "StealFocus") (record { clear = plain_part (codes "StealFocus") refl; lacks = refl; other = λ r. refl }) refl refl
 writes_back {A = A} iterm.ClearScrollback h =
-    alone_back A iterm.ClearScrollback (codes "ClearScrollback") (record { clear = plain_part (codes "ClearScrollback") refl; lacks = refl; other = λ r. refl }) refl refl
+    alone_back A iterm.ClearScrollback (codes "ClearScrollback")
+    (record { clear = plain_part (codes "ClearScrollback") refl; lacks = refl; other = λ r. refl }) refl refl
 writes_back {A = A} (iterm.CurrentDir t) h =
-    one_back A (iterm.CurrentDir t) (codes "CurrentDir") t (record { clear = plain_part (codes "CurrentDir") refl; lacks = refl; other = λ r. refl }) h refl refl
+    one_back A (iterm.CurrentDir t) (codes "CurrentDir") t
+    (record { clear = plain_part (codes "CurrentDir") refl; lacks = refl; other = λ r. refl }) h refl refl
 writes_back {A = A} (iterm.SetProfile t) h =
-    one_back A (iterm.SetProfile t) (codes "SetProfile") t (record { clear = plain_part (codes "SetProfile") refl; lacks = refl; other = λ r. refl }) h refl refl
+    one_back A (iterm.SetProfile t) (codes "SetProfile") t
+    (record { clear = plain_part (codes "SetProfile") refl; lacks = refl; other = λ r. refl }) h refl refl
 writes_back {A = A} (iterm.CopyToClipboard t) h =
-    one_back A (iterm.CopyToClipboard t) (codes "CopyToClipboard") t (record { clear = plain_part (codes "CopyToClipboard") refl; lacks = refl; other = λ r. refl }) h refl refl
+    one_back A (iterm.CopyToClipboard t) (codes "CopyToClipboard") t
+    (record { clear = plain_part (codes "CopyToClipboard") refl; lacks = refl; other = λ r. refl }) h refl refl
 writes_back {A = A} iterm.EndCopy h =
     alone_back A iterm.EndCopy (codes "EndCopy") (record { clear = plain_part (codes "EndCopy") refl; lacks = refl; other = λ r. refl }) refl refl
 writes_back {A = A} (iterm.HighlightCursorLine true) h =
@@ -179,8 +188,10 @@ writes_back {A = A} (iterm.ReportVariable t) h = absurd h
 writes_back {A = A} (iterm.SetUserVar n t) h = variable_back A n t h.0 h.1 h.2
 writes_back {A = A} (iterm.SetBadgeFormat t) h =
     one_back A (iterm.SetBadgeFormat t) (codes "SetBadgeFormat") (base64_text t)
-    (record { clear = plain_part (codes "SetBadgeFormat") refl; lacks = refl; other = λ r. refl }) (base64_part t h) refl (ap (option_map iterm.SetBadgeFormat) (base64_back t h))
+    (record { clear = plain_part (codes "SetBadgeFormat") refl; lacks = refl; other = λ r. refl }) (base64_part t h) refl
+    (ap (option_map iterm.SetBadgeFormat) (base64_back t h))
 writes_back {A = A} (iterm.File d) h = file_writes A d (file_back d h)
 writes_back {A = A} (iterm.UnicodeVersion v) h =
     one_back A (iterm.UnicodeVersion v) (codes "UnicodeVersion") (version_text v)
-    (record { clear = plain_part (codes "UnicodeVersion") refl; lacks = refl; other = λ r. refl }) (version_part A v h) refl (ap (option_map iterm.UnicodeVersion) (version_back A v h))
+    (record { clear = plain_part (codes "UnicodeVersion") refl; lacks = refl; other = λ r. refl }) (version_part A v h) refl
+    (ap (option_map iterm.UnicodeVersion) (version_back A v h))

@@ -1,5 +1,5 @@
 -- What clear parts mean is writable.
-use Rattle.std.proofs.Common.{ℕ, ◌≡◌, ◌==◌, nat_eq, inl, inr, List, [], ◌∷◌, length, codes, Option, Some, None, sym, subst}
+use Rattle.std.proofs.Common.{ℕ, ◌≡◌, ◌==◌, true, false, nat_eq, List, [], ◌∷◌, length, codes, Option, Some, None, sym, subst}
 use Rattle.std.specs.Cmp.Lexicographic.{pointwise}
 use Rattle.std.specs.List.{starts_with}
 use Rattle.std.specs.Option.{option_map}
@@ -10,10 +10,10 @@ use Rattle.esc_below.specs.Clear.{IsClearPart, AreClearParts}
 use Rattle.esc_below.specs.Cuts.{key_and_value}
 use Rattle.esc_below.proofs.ClearPairs.{IsClearPair, key_clear}
 use Rattle.esc_below.proofs.ClearTexts.{part_lossy}
-use Rattle.esc_below.proofs.Numbers.{bool_cases}
 use Rattle.esc_below.proofs.Where.{Where, where_from, where_if, where_map, where_then, content_where}
 use Rattle.esc_iterm.specs.Files.{file_of, IsWritableFile}
-use Rattle.esc_iterm.specs.ITerms.{alone, highlight_of, variable_of, assigned, content_of, cell_size, scaled_size, with_one, with_two, bare, keyed, form_from, form_of, iterm_of}
+use Rattle.esc_iterm.specs.ITerms.{alone, highlight_of, variable_of, assigned, content_of, cell_size, scaled_size, with_one, with_two, bare, keyed}
+use Rattle.esc_iterm.specs.ITerms.{form_from, form_of, iterm_of}
 use Rattle.esc_iterm.specs.Tenths.{tenths_of}
 use Rattle.esc_iterm.specs.Versions.{version_of}
 use Rattle.esc_iterm.specs.WritableITerms.{IsScale, IsVersion, IsWritableITerm}
@@ -30,32 +30,16 @@ Good A c = IsWritableITerm {A = A} c
 
 alone_good : (A : Type 0) (k : List ℕ) → Where (Good A) (alone k)
 alone_good A k =
-    elim (bool_cases (pointwise nat_eq k (codes "SetMark"))) [
-      | inl a ↦ rw a tt
-      | inr b ↦ rw b (elim (bool_cases (pointwise nat_eq k (codes "StealFocus"))) [
-        | inl c ↦ rw c tt
-        | inr d ↦ rw d (elim (bool_cases (pointwise nat_eq k (codes "ClearScrollback"))) [
-          | inl e ↦ rw e tt
-          | inr f ↦ rw f (elim (bool_cases (pointwise nat_eq k (codes "EndCopy"))) [
-            | inl g ↦ rw g tt
-            | inr h ↦ rw h (elim (bool_cases (pointwise nat_eq k (codes "ReportCellSize"))) [
-              | inl i ↦ rw i tt
-              | inr j ↦ rw j tt
-            ])
-          ])
-        ])
-      ])
-    ]
+    where_if (Good A) (pointwise nat_eq k (codes "SetMark")) (Some iterm.SetMark) _ tt
+    (where_if (Good A) (pointwise nat_eq k (codes "StealFocus")) (Some iterm.StealFocus) _ tt
+    (where_if (Good A) (pointwise nat_eq k (codes "ClearScrollback")) (Some iterm.ClearScrollback) _ tt
+    (where_if (Good A) (pointwise nat_eq k (codes "EndCopy")) (Some iterm.EndCopy) _ tt
+    (where_if (Good A) (pointwise nat_eq k (codes "ReportCellSize")) (Some iterm.RequestCellSize) None tt tt))))
 
 highlight_good : (A : Type 0) (v : List ℕ) → Where (Good A) (highlight_of v)
 highlight_good A v =
-    elim (bool_cases (pointwise nat_eq v (codes "yes"))) [
-      | inl a ↦ rw a tt
-      | inr b ↦ rw b (elim (bool_cases (pointwise nat_eq v (codes "no"))) [
-        | inl c ↦ rw c tt
-        | inr d ↦ rw d tt
-      ])
-    ]
+    where_if (Good A) (pointwise nat_eq v (codes "yes")) (Some (iterm.HighlightCursorLine true)) _ tt
+    (where_if (Good A) (pointwise nat_eq v (codes "no")) (Some (iterm.HighlightCursorLine false)) None tt tt)
 
 variable_good : (A : Type 0) (v : List ℕ) → IsClearPart v → Where (Good A) (variable_of v)
 variable_good A v h =
@@ -71,38 +55,19 @@ version_good A v h = where_map (λ u. IsVersion {A = A} u) (Good A) iterm.Unicod
 
 assigned_good : (A : Type 0) (k v : List ℕ) → IsClearPart v → Where (Good A) (assigned k v)
 assigned_good A k v clear =
-    elim (bool_cases (pointwise nat_eq k (codes "HighlightCursorLine"))) [
-      | inl a ↦ rw a (highlight_good A v)
-      | inr b ↦ rw b (elim (bool_cases (pointwise nat_eq k (codes "CurrentDir"))) [
-        | inl c ↦ rw c clear
-        | inr d ↦ rw d (elim (bool_cases (pointwise nat_eq k (codes "SetProfile"))) [
-          | inl e ↦ rw e clear
-          | inr f ↦ rw f (elim (bool_cases (pointwise nat_eq k (codes "CopyToClipboard"))) [
-            | inl g ↦ rw g clear
-            | inr h ↦ rw h (elim (bool_cases (pointwise nat_eq k (codes "SetBadgeFormat"))) [
-              | inl i ↦ rw i (badge_good A v)
-              | inr j ↦ rw j (elim (bool_cases (pointwise nat_eq k (codes "SetUserVar"))) [
-                | inl l ↦ rw l (variable_good A v clear)
-                | inr m ↦ rw m (elim (bool_cases (pointwise nat_eq k (codes "UnicodeVersion"))) [
-                  | inl n ↦ rw n (version_good A v clear)
-                  | inr o ↦ rw o tt
-                ])
-              ])
-            ])
-          ])
-        ])
-      ])
-    ]
+    where_if (Good A) (pointwise nat_eq k (codes "HighlightCursorLine")) (highlight_of v) _ (highlight_good A v)
+    (where_if (Good A) (pointwise nat_eq k (codes "CurrentDir")) (Some (iterm.CurrentDir v)) _ clear
+    (where_if (Good A) (pointwise nat_eq k (codes "SetProfile")) (Some (iterm.SetProfile v)) _ clear
+    (where_if (Good A) (pointwise nat_eq k (codes "CopyToClipboard")) (Some (iterm.CopyToClipboard v)) _ clear
+    (where_if (Good A) (pointwise nat_eq k (codes "SetBadgeFormat")) _ _ (badge_good A v)
+    (where_if (Good A) (pointwise nat_eq k (codes "SetUserVar")) _ _ (variable_good A v clear)
+    (where_if (Good A) (pointwise nat_eq k (codes "UnicodeVersion")) _ None (version_good A v clear) tt))))))
 
 content_good : (A : Type 0) (k b : List ℕ) → Where (Good A) (content_of k b)
 content_good A k b =
-    elim (bool_cases (pointwise nat_eq k (codes "Copy"))) [
-      | inl a ↦ rw a (where_map (λ u. IsUtf8 u) (Good A) iterm.Copy (λ t u. u) (base64_text_of b) (content_where b))
-      | inr c ↦ rw c (elim (bool_cases (pointwise nat_eq k (codes "SetBadgeFormat"))) [
-        | inl d ↦ rw d (badge_good A b)
-        | inr e ↦ rw e tt
-      ])
-    ]
+    where_if (Good A) (pointwise nat_eq k (codes "Copy")) _ _
+    (where_map (λ u. IsUtf8 u) (Good A) iterm.Copy (λ t u. u) (base64_text_of b) (content_where b))
+    (where_if (Good A) (pointwise nat_eq k (codes "SetBadgeFormat")) _ None (badge_good A b) tt)
 
 cell_good : (A : Type 0) (h w : List ℕ) (s : Option ℕ) → IsScale s → Where (Good A) (cell_size h w s)
 cell_good A h w s scale =
@@ -116,20 +81,11 @@ scaled_good A h w s =
 
 one_good : (A : Type 0) (k v b : List ℕ) → Where (Good A) (with_one k v b)
 one_good A k v b =
-    elim (bool_cases (pointwise nat_eq k (codes "ReportCellSize"))) [
-      | inl a ↦ rw a (cell_good A v b None tt)
-      | inr c ↦ rw c (elim (bool_cases (length v == 0)) [
-        | inl d ↦ rw d (content_good A k b)
-        | inr e ↦ rw e tt
-      ])
-    ]
+    where_if (Good A) (pointwise nat_eq k (codes "ReportCellSize")) _ _ (cell_good A v b None tt)
+    (where_if (Good A) (length v == 0) _ None (content_good A k b) tt)
 
 two_good : (A : Type 0) (k v b c : List ℕ) → Where (Good A) (with_two k v b c)
-two_good A k v b c =
-    elim (bool_cases (pointwise nat_eq k (codes "ReportCellSize"))) [
-      | inl a ↦ rw a (scaled_good A v b c)
-      | inr d ↦ rw d tt
-    ]
+two_good A k v b c = where_if (Good A) (pointwise nat_eq k (codes "ReportCellSize")) _ None (scaled_good A v b c) tt
 
 bare_good : (A : Type 0) (k : List ℕ) (more : List (List ℕ)) → Where (Good A) (bare k more)
 bare_good A k [] = alone_good A k

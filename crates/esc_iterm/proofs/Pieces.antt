@@ -1,11 +1,12 @@
 -- Pieces of keys with their values: how they are read.
-use Rattle.std.proofs.Common.{ℕ, ◌≡◌, ◌≢◌, Bool, true, false, nat_eq, ◌==◌, if◌then◌else◌, List, [], ◌∷◌, ◌++◌, map, length, codes, Option, Some, None, is_some, refl, sym, ap, ◌∙◌, arith}
+use Rattle.std.proofs.Common.{ℕ, ◌≡◌, ◌≢◌, Bool, true, false, nat_eq, ◌==◌, if◌then◌else◌, List, [], ◌∷◌, ◌++◌, map, length, codes, Option, Some}
+use Rattle.std.proofs.Common.{None, is_some, refl, sym, ap, ◌∙◌, arith}
 use Rattle.std.specs.Cmp.Lexicographic.{pointwise}
-use Rattle.std.specs.List.{list_all, flat_map}
+use Rattle.std.specs.List.{list_all}
 use Rattle.std.specs.Option.{option_map}
 use Rattle.std.proofs.lemmas.Bool.{ne_eqb}
 use Rattle.std.proofs.lemmas.List.{append-nil, append_assoc, length-append}
-use Rattle.esc_below.specs.Clear.{joined, IsClearPart, AreClearParts}
+use Rattle.esc_below.specs.Clear.{separated, joined, IsClearPart, AreClearParts}
 use Rattle.esc_below.specs.Cuts.{Pairs, key_and_value, pair_text, pairs_in, last_value}
 use Rattle.esc_below.specs.Scalars.{and_then}
 use Rattle.esc_below.proofs.ClearPairs.{key_back}
@@ -44,7 +45,7 @@ last_back e h =
 pub piece_plain : (e : List ℕ × List ℕ) → IsPiece e → list_all is_key_plain (pair_text e) ≡ true
 piece_plain e h = all_append is_key_plain e.0 (0x3d ∷ e.1) h.key h.value
 
--- pieces, with t behind the last
+-- pieces, with t after the last
 abbrev pub ended : List ℕ → List (List ℕ) → List ℕ → List (List ℕ)
 ended p [] t = (p ++ t) ∷ []
 ended p (q ∷ ps) t = p ∷ ended q ps t
@@ -52,11 +53,13 @@ ended p (q ∷ ps) t = p ∷ ended q ps t
 abbrev pub put_before : Pairs → Option (Pairs × List ℕ) → Option (Pairs × List ℕ)
 put_before es o = option_map (λ (m : Pairs × List ℕ). (es ++ m.0, m.1)) o
 
-pairs_more : (p q : List ℕ) (ps : List (List ℕ)) (t : List ℕ) → pairs_of (p ∷ ended q ps t) ≡ and_then (piece_pairs p) (λ es. put_before es (pairs_of (ended q ps t)))
+pairs_more : (p q : List ℕ) (ps : List (List ℕ)) (t : List ℕ)
+    → pairs_of (p ∷ ended q ps t) ≡ and_then (piece_pairs p) (λ es. put_before es (pairs_of (ended q ps t)))
 pairs_more p q [] t = refl
 pairs_more p q (r ∷ ps) t = refl
 
-pub pairs_back : (e : List ℕ × List ℕ) (es : Pairs) (b : List ℕ) → IsPiece e → ArePieces es → pairs_of (ended (pair_text e) (map pair_text es) (0x3a ∷ b)) ≡ Some (e ∷ es, b)
+pub pairs_back : (e : List ℕ × List ℕ) (es : Pairs) (b : List ℕ) → IsPiece e → ArePieces es
+    → pairs_of (ended (pair_text e) (map pair_text es) (0x3a ∷ b)) ≡ Some (e ∷ es, b)
 pairs_back e [] b h k = rw (cut_there 0x3a (pair_text e) b (free_passes 0x3a is_key_plain refl (pair_text e) (piece_plain e h)), last_back e h) refl
 pairs_back e (g ∷ es) b h k =
     pairs_more (pair_text e) (pair_text g) (map pair_text es) (0x3a ∷ b)
@@ -64,21 +67,19 @@ pairs_back e (g ∷ es) b h k =
     ∙ ap (put_before (e ∷ [])) (pairs_back g es b k.0 k.1)
 
 -- the parts of a file
-pub file_of_ended : {A : Type 0} (p : List ℕ) (ps : List (List ℕ)) (t : List ℕ) → file_of {A = A} (ended (codes "File=" ++ p) ps t) ≡ file_from {A = A} (ended p ps t)
+pub file_of_ended : {A : Type 0} (p : List ℕ) (ps : List (List ℕ)) (t : List ℕ)
+    → file_of {A = A} (ended (codes "File=" ++ p) ps t) ≡ file_from {A = A} (ended p ps t)
 file_of_ended p [] t = refl
 file_of_ended p (q ∷ ps) t = refl
 
 -- the text of the parts
-abbrev pub behind : List (List ℕ) → List ℕ
-behind ps = flat_map (λ q. 0x3b ∷ q) ps
+separated_ended : (p : List ℕ) (ps : List (List ℕ)) (t : List ℕ) → separated (ended p ps t) ≡ 0x3b ∷ (p ++ (separated ps ++ t))
+separated_ended p [] t = ap (λ u. 0x3b ∷ u) (append-nil (p ++ t))
+separated_ended p (q ∷ ps) t = ap (λ u. 0x3b ∷ (p ++ u)) (separated_ended q ps t ∙ ap (λ u. 0x3b ∷ u) (sym (append_assoc q (separated ps) t)))
 
-behind_ended : (p : List ℕ) (ps : List (List ℕ)) (t : List ℕ) → behind (ended p ps t) ≡ 0x3b ∷ (p ++ (behind ps ++ t))
-behind_ended p [] t = ap (λ u. 0x3b ∷ u) (append-nil (p ++ t))
-behind_ended p (q ∷ ps) t = ap (λ u. 0x3b ∷ (p ++ u)) (behind_ended q ps t ∙ ap (λ u. 0x3b ∷ u) (sym (append_assoc q (behind ps) t)))
-
-pub joined_ended : (p : List ℕ) (ps : List (List ℕ)) (t : List ℕ) → joined (ended p ps t) ≡ p ++ (behind ps ++ t)
+pub joined_ended : (p : List ℕ) (ps : List (List ℕ)) (t : List ℕ) → joined (ended p ps t) ≡ p ++ (separated ps ++ t)
 joined_ended p [] t = append-nil (p ++ t)
-joined_ended p (q ∷ ps) t = ap (λ u. p ++ u) (behind_ended q ps t ∙ ap (λ u. 0x3b ∷ u) (sym (append_assoc q (behind ps) t)))
+joined_ended p (q ∷ ps) t = ap (λ u. p ++ u) (separated_ended q ps t ∙ ap (λ u. 0x3b ∷ u) (sym (append_assoc q (separated ps) t)))
 
 pub ended_some : (p : List ℕ) (ps : List (List ℕ)) (t : List ℕ) → ended p ps t ≢ []
 ended_some p [] t = λ e. cc
@@ -89,7 +90,8 @@ abbrev pub ArePlain : List (List ℕ) → Type 0
 ArePlain [] = Unit {0}
 ArePlain (p ∷ ps) = (list_all is_part_plain p ≡ true) × ArePlain ps
 
-pub ended_clear : (p : List ℕ) (ps : List (List ℕ)) (t : List ℕ) → list_all is_part_plain p ≡ true → ArePlain ps → list_all is_part_plain t ≡ true → AreClearParts (ended p ps t)
+pub ended_clear : (p : List ℕ) (ps : List (List ℕ)) (t : List ℕ) → list_all is_part_plain p ≡ true → ArePlain ps → list_all is_part_plain t ≡ true
+    → AreClearParts (ended p ps t)
 ended_clear p [] t h k last = (plain_part (p ++ t) (all_append is_part_plain p t h last), tt)
 ended_clear p (q ∷ ps) t h k last = (plain_part p h, ended_clear q ps t k.0 k.1 last)
 
@@ -106,7 +108,8 @@ abbrev pub key_pairs : List (List ℕ × Option (List ℕ)) → Pairs
 key_pairs [] = []
 key_pairs (k ∷ ks) = key_pair k.0 k.1 ++ key_pairs ks
 
-by_value : (k : List ℕ) (o : Option (List ℕ)) (ps : List (List ℕ)) (es : Pairs) → ps ≡ map pair_text es → key_piece k o ++ ps ≡ map pair_text (key_pair k o ++ es)
+by_value : (k : List ℕ) (o : Option (List ℕ)) (ps : List (List ℕ)) (es : Pairs) → ps ≡ map pair_text es
+    → key_piece k o ++ ps ≡ map pair_text (key_pair k o ++ es)
 by_value k None ps es h = h
 by_value k (Some v) ps es h = ap (λ xs. pair_text (k, v) ∷ xs) h
 

@@ -1,7 +1,7 @@
 -- Tenths are clear parts that read back.
 use Rattle.std.proofs.Common.{ℕ, ◌≡◌, ◌<◌, ◌+◌, ◌-◌, ◌*◌, ◌^◌, ◌/◌, ◌%◌, ◌≤◌, nat_lt, inl, inr, List, [], ◌∷◌, Option, Some, None, refl, arith, lt-ltb}
 use Rattle.std.specs.Fmt.{decimal}
-use Rattle.std.proofs.lemmas.Bool.{le-leb, ltb-true}
+use Rattle.std.proofs.lemmas.Bool.{le-leb, ltb-true, cases_Bool}
 use Rattle.std.proofs.lemmas.Fmt.{decimal_is_IsNumeral, decimal_digit}
 use Rattle.std.proofs.lemmas.Str.Parse.{digit_at}
 use Rattle.esc_below.specs.Clear.{IsClearPart}
@@ -9,7 +9,7 @@ use Rattle.esc_below.specs.Cuts.{cut_at}
 use Rattle.esc_below.specs.Scalars.{and_then, when, number_in}
 use Rattle.esc_below.proofs.ClearTexts.{part_append}
 use Rattle.esc_below.proofs.Cutting.{Free, free_from, cut_there}
-use Rattle.esc_below.proofs.Numbers.{bool_cases, test_from_numeral}
+use Rattle.esc_below.proofs.Numbers.{test_from_numeral}
 use Rattle.esc_below.proofs.Numerals.{decimal_part}
 use Rattle.esc_below.proofs.PlainParts.{plain_part}
 use Rattle.esc_below.proofs.Where.{Where, where_then, Anything, anything}
@@ -54,7 +54,7 @@ IsSmall n = n < 2 ^ 32
 
 when_small : (n : ℕ) → Where (λ m. IsSmall m) (when (nat_lt n (2 ^ 32)) n)
 when_small n =
-    elim (bool_cases (nat_lt n (2 ^ 32))) [
+    elim (cases_Bool (nat_lt n (2 ^ 32))) [
       | inl held ↦ let small = ltb-true n (2 ^ 32) held in rw held small
       | inr failed ↦ rw failed tt
     ]

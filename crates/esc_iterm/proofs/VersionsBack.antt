@@ -1,5 +1,5 @@
 -- What is done to the version of Unicode is a clear part that reads back.
-use Rattle.std.proofs.Common.{ℕ, ◌≡◌, ◌≢◌, ◌<◌, ◌^◌, nat_eq, false, inl, inr, List, [], ◌∷◌, get_or, codes, Option, Some, None, lit<, refl, ap, arith}
+use Rattle.std.proofs.Common.{ℕ, ◌≡◌, ◌≢◌, ◌<◌, ◌^◌, nat_eq, false, List, [], ◌∷◌, get_or, codes, Option, Some, None, lit<, refl, ap, arith}
 use Rattle.std.specs.Cmp.Lexicographic.{pointwise}
 use Rattle.std.specs.Fmt.{decimal}
 use Rattle.std.specs.Option.{option_map}
@@ -11,10 +11,9 @@ use Rattle.esc_below.specs.Cuts.{cut_at}
 use Rattle.esc_below.specs.Scalars.{utf8_of, number_of}
 use Rattle.esc_below.proofs.ClearTexts.{part_append, part_utf8_of}
 use Rattle.esc_below.proofs.Cutting.{BothClear, cut_clear}
-use Rattle.esc_below.proofs.Numbers.{bool_cases}
 use Rattle.esc_below.proofs.Numerals.{decimal_part, number_back}
 use Rattle.esc_below.proofs.PlainParts.{plain_part}
-use Rattle.esc_below.proofs.Where.{Where, where_map, utf8_keeps, number_where}
+use Rattle.esc_below.proofs.Where.{Where, where_if, where_map, utf8_keeps, number_where}
 use Rattle.esc_iterm.specs.Versions.{labelled, unlabelled, version_from, version_of, label_text, version_text}
 use Rattle.esc_iterm.specs.WritableITerms.{IsLabel, IsVersion}
 use Rattle.esc_iterm.specs.declared.unicode_version.ITermUnicodeVersionOp.{ITermUnicodeVersionOp}
@@ -60,23 +59,16 @@ Good A v = IsVersion {A = A} v
 
 labelled_where : (A : Type 0) (w l : List ℕ) → IsClearPart l → Where (Good A) (labelled w l)
 labelled_where A w l h =
-    elim (bool_cases (pointwise nat_eq w (codes "push"))) [
-      | inl a ↦ rw a (where_map (λ t. IsClearPart t) (Good A) (λ t. version.Push (Some t)) (λ t q. q) (utf8_of l) (utf8_keeps (λ t. IsClearPart t) l h))
-      | inr b ↦ rw b (elim (bool_cases (pointwise nat_eq w (codes "pop"))) [
-        | inl c ↦ rw c (where_map (λ t. IsClearPart t) (Good A) (λ t. version.Pop (Some t)) (λ t q. q) (utf8_of l) (utf8_keeps (λ t. IsClearPart t) l h))
-        | inr d ↦ rw d tt
-      ])
-    ]
+    where_if (Good A) (pointwise nat_eq w (codes "push")) _ _
+    (where_map (λ t. IsClearPart t) (Good A) (λ t. version.Push (Some t)) (λ t q. q) (utf8_of l) (utf8_keeps (λ t. IsClearPart t) l h))
+    (where_if (Good A) (pointwise nat_eq w (codes "pop")) _ None
+    (where_map (λ t. IsClearPart t) (Good A) (λ t. version.Pop (Some t)) (λ t q. q) (utf8_of l) (utf8_keeps (λ t. IsClearPart t) l h)) tt)
 
 unlabelled_where : (A : Type 0) (w : List ℕ) → Where (Good A) (unlabelled w)
 unlabelled_where A w =
-    elim (bool_cases (pointwise nat_eq w (codes "push"))) [
-      | inl a ↦ rw a tt
-      | inr b ↦ rw b (elim (bool_cases (pointwise nat_eq w (codes "pop"))) [
-        | inl c ↦ rw c tt
-        | inr d ↦ rw d (where_map (λ n. n < 256) (Good A) version.Set (λ n q. q) (number_of 8 w) (number_where 8 w))
-      ])
-    ]
+    where_if (Good A) (pointwise nat_eq w (codes "push")) (Some (version.Push None)) _ tt
+    (where_if (Good A) (pointwise nat_eq w (codes "pop")) (Some (version.Pop None)) _ tt
+    (where_map (λ n. n < 256) (Good A) version.Set (λ n q. q) (number_of 8 w) (number_where 8 w)))
 
 from_where : (A : Type 0) (t : List ℕ) (o : Option (List ℕ × List ℕ)) → Where BothClear o → Where (Good A) (version_from t o)
 from_where A t None h = unlabelled_where A t

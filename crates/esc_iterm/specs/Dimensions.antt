@@ -7,11 +7,11 @@ use Rattle.esc_below.specs.Scalars.{when, signed_of, IsSigned}
 use Rattle.esc_iterm.specs.declared.dimension.ITermDimension.{ITermDimension}
 use Rattle.esc_iterm.specs.declared.dimension.ITermDimension.TheVariants.{Automatic, Cells, Pixels, Percent}
 
--- what stands before this end of a text; none where the text does not end so
+-- what comes before this end of a text; none where the text does not end so
 abbrev pub before_end : List ℕ → List ℕ → Option (List ℕ)
 before_end e t = when (pointwise nat_eq (drop (length t - length e) t) e) (take (length t - length e) t)
 
--- by what stands before `px`, else by what stands before `%`, else by the text: a number of 64 bits
+-- by what comes before `px`, else by what comes before `%`, else by the text: a number of 64 bits
 abbrev pub measured : Option (List ℕ) → Option (List ℕ) → List ℕ → Option ITermDimension
 measured (Some n) p t = option_map Pixels (signed_of 64 n)
 measured None (Some n) t = option_map Percent (signed_of 64 n)

@@ -1,13 +1,14 @@
 -- Files: how they are read and written.
-use Rattle.std.specs.Prelude.{ℕ, ◌≡◌, ◌≢◌, ◌<◌, ◌^◌, nat_eq, Bool, true, false, not, if◌then◌else◌, List, [], ◌∷◌, ◌++◌, drop, codes, Option, Some, None, is_some, IfSome}
+use Rattle.std.specs.Prelude.{ℕ, ◌≡◌, ◌≢◌, ◌<◌, ◌^◌, nat_eq, Bool, true, false, not, if◌then◌else◌, List, [], ◌∷◌, ◌++◌, drop, codes, Option, Some}
+use Rattle.std.specs.Prelude.{None, is_some, IfSome}
 use Rattle.std.specs.Cmp.Lexicographic.{pointwise}
 use Rattle.std.specs.Fmt.{decimal}
-use Rattle.std.specs.List.{starts_with, flat_map}
+use Rattle.std.specs.List.{starts_with}
 use Rattle.std.specs.Option.{option_map, unwrap_or}
 use Rattle.std.specs.Str.{IsUtf8}
 use Rattle.base64.specs.GeneralPurpose.{IsBytes}
 use Rattle.esc_below.specs.Base64.{base64_of, base64_text_of, base64_text}
-use Rattle.esc_below.specs.Clear.{joined, AreClearParts}
+use Rattle.esc_below.specs.Clear.{joined, separated, AreClearParts}
 use Rattle.esc_below.specs.Cuts.{Pairs, cut_at, pair_text, pairs_in, without_empty, last_value}
 use Rattle.esc_below.specs.Scalars.{and_then, when, number_of}
 use Rattle.esc_iterm.specs.Dimensions.{dimension_of, dimension_text, IsDimension}
@@ -23,14 +24,14 @@ piece_pairs p = pairs_in (without_empty (p ∷ []))
 abbrev pub last_pairs : List ℕ → Option Pairs
 last_pairs p = if is_some (cut_at 0x3d p) then pairs_in (p ∷ []) else Some []
 
--- The pairs of the pieces, and what stands behind the first `:` of the last piece. None where there is no piece, the last one has
+-- The pairs of the pieces, and what follows the first `:` of the last piece. None where there is no piece, the last one has
 -- no `:`, or one does not fit.
 abbrev pub pairs_of : List (List ℕ) → Option (Pairs × List ℕ)
 pairs_of [] = None
 pairs_of (p ∷ []) = and_then (cut_at 0x3a p) (λ (c : List ℕ × List ℕ). option_map (λ es. (es, c.1)) (last_pairs c.0))
 pairs_of (p ∷ q ∷ ps) = and_then (piece_pairs p) (λ es. option_map (λ (m : Pairs × List ℕ). (es ++ m.0, m.1)) (pairs_of (q ∷ ps)))
 
--- the values of the keys that tell something, where they are there
+-- the values of the keys that are read, where they are there
 pub record Values : Type 0 where
   pub name : Option (List ℕ)
   pub size : Option (List ℕ)
@@ -52,8 +53,8 @@ no_values = record {
 }
 
 -- these values, where no pair has the key, else that of the last pair that has it
-abbrev pub values_behind : Values → Pairs → Values
-values_behind v es = record {
+abbrev pub values_after : Values → Pairs → Values
+values_after v es = record {
   name = last_value (codes "name") v.name es;
   size = last_value (codes "size") v.size es;
   width = last_value (codes "width") v.width es;
@@ -63,9 +64,9 @@ values_behind v es = record {
   do_not_move_cursor = last_value (codes "doNotMoveCursor") v.do_not_move_cursor es;
 }
 
--- the values of the keys of the pieces, and what stands behind the first `:` of the last piece
+-- the values of the keys of the pieces, and what follows the first `:` of the last piece
 abbrev pub values_of : List (List ℕ) → Option (Values × List ℕ)
-values_of ps = option_map (λ (m : Pairs × List ℕ). (values_behind no_values m.0, m.1)) (pairs_of ps)
+values_of ps = option_map (λ (m : Pairs × List ℕ). (values_after no_values m.0, m.1)) (pairs_of ps)
 
 -- the dimension of a value; automatic where there is none that can be read
 abbrev pub size_in : Option (List ℕ) → ITermDimension
@@ -89,6 +90,19 @@ filled v bytes = record {
   content = bytes;
 }
 
+-- the file of this content that says nothing else of it
+abbrev pub plain_file : {A : Type 0} → List ℕ → ITermFileData A
+plain_file bytes = record {
+  name = None;
+  size = None;
+  width = Automatic;
+  height = Automatic;
+  preserve_aspect_ratio = true;
+  inline = false;
+  do_not_move_cursor = false;
+  content = bytes;
+}
+
 -- the file of these values and a content in base64; none where that is no base64
 abbrev pub file_with : {A : Type 0} → Values → List ℕ → Option (ITermFileData A)
 file_with v t = option_map (filled v) (base64_of t)
@@ -97,7 +111,7 @@ file_with v t = option_map (filled v) (base64_of t)
 abbrev pub file_from : {A : Type 0} → List (List ℕ) → Option (ITermFileData A)
 file_from ps = and_then (values_of ps) (λ (m : Values × List ℕ). file_with m.0 m.1)
 
--- The file of the parts behind the code `1337`. The first begins with `File=`; what follows that, and each further part, is a
+-- The file of the parts after the code `1337`. The first begins with `File=`; what follows that, and each further part, is a
 -- piece.
 abbrev pub file_of : {A : Type 0} → List (List ℕ) → Option (ITermFileData A)
 file_of [] = None
@@ -132,11 +146,11 @@ key_pieces [] = []
 key_pieces (k ∷ ks) = key_piece k.0 k.1 ++ key_pieces ks
 
 -- pieces with `;` between them, and before the first of them where it is not the first at all
-abbrev pub pieces_behind : Bool → List (List ℕ) → List ℕ
-pieces_behind true ps = joined ps
-pieces_behind false ps = flat_map (λ p. 0x3b ∷ p) ps
+abbrev pub pieces_after : Bool → List (List ℕ) → List ℕ
+pieces_after true ps = joined ps
+pieces_after false ps = separated ps
 
--- the text of a file, which is what stands behind `1337;`
+-- the text of a file, which is what follows `1337;`
 abbrev pub file_text : {A : Type 0} → ITermFileData A → List ℕ
 file_text f = codes "File=" ++ (joined (key_pieces (written_keys f)) ++ 0x3a ∷ base64_text f.content)
 

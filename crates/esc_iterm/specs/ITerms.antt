@@ -1,4 +1,4 @@
--- iTerm2's proprietary commands: how the parts behind their code are read, and what is written of them.
+-- iTerm2's proprietary commands: how the parts after their code are read, and what is written of them.
 use Rattle.std.specs.Prelude.{ℕ, ◌==◌, Bool, true, false, nat_eq, if◌then◌else◌, List, [], ◌∷◌, ◌++◌, length, codes, Option, Some, None}
 use Rattle.std.specs.Cmp.Lexicographic.{pointwise}
 use Rattle.std.specs.List.{starts_with}
@@ -43,7 +43,7 @@ assigned k v = if pointwise nat_eq k (codes "HighlightCursorLine") then highligh
     else if pointwise nat_eq k (codes "UnicodeVersion") then option_map iterm.UnicodeVersion (version_of v)
     else None
 
--- a keyword with nothing behind it, and a base64 text in the next part
+-- a keyword with nothing after it, and a base64 text in the next part
 abbrev pub content_of : {A : Type 0} → List ℕ → List ℕ → Option (ITermProprietary A)
 content_of k b = if pointwise nat_eq k (codes "Copy") then option_map iterm.Copy (base64_text_of b)
     else if pointwise nat_eq k (codes "SetBadgeFormat") then option_map iterm.SetBadgeFormat (base64_text_of b)
@@ -67,13 +67,13 @@ with_one k v b = if pointwise nat_eq k (codes "ReportCellSize") then cell_size v
 abbrev pub with_two : {A : Type 0} → List ℕ → List ℕ → List ℕ → List ℕ → Option (ITermProprietary A)
 with_two k v b c = if pointwise nat_eq k (codes "ReportCellSize") then scaled_size v b c else None
 
--- a first part without `=`, and the parts behind it
+-- a first part without `=`, and the parts after it
 abbrev pub bare : {A : Type 0} → List ℕ → List (List ℕ) → Option (ITermProprietary A)
 bare k [] = alone k
 bare k (b ∷ []) = content_of k b
 bare k (b ∷ c ∷ more) = None
 
--- a first part with `=`, cut there, and the parts behind it
+-- a first part with `=`, cut there, and the parts after it
 abbrev pub keyed : {A : Type 0} → List ℕ → List ℕ → List (List ℕ) → Option (ITermProprietary A)
 keyed k v [] = assigned k v
 keyed k v (b ∷ []) = with_one k v b
@@ -84,27 +84,27 @@ abbrev pub form_from : {A : Type 0} → List ℕ → Option (List ℕ × List �
 form_from t None more = bare t more
 form_from t (Some e) more = keyed e.0 e.1 more
 
--- every form but a file: the first part as a text, cut at its first `=`, and the parts behind it
+-- every form but a file: the first part as a text, cut at its first `=`, and the parts after it
 abbrev pub form_of : {A : Type 0} → List ℕ → List (List ℕ) → Option (ITermProprietary A)
 form_of t more = form_from t (key_and_value t) more
 
--- What the parts behind the code mean; none where they fit no form. The keyword is that of the lossy text of the first
--- part. `File=` is ASCII, so it stands at the head of the lossy text just where it stands at the head of the part.
+-- What the parts after the code mean; none where they fit no form. The keyword is that of the lossy text of the first
+-- part. `File=` is ASCII, so it begins the lossy text just where it begins the part.
 abbrev pub iterm_of : {A : Type 0} → List (List ℕ) → Option (ITermProprietary A)
 iterm_of [] = None
 iterm_of (p ∷ more) = if starts_with nat_eq p (codes "File=") then option_map iterm.File (file_of (p ∷ more)) else form_of (utf8_lossy p) more
 
 -- `yes` or `no`
-abbrev pub answer_text : Bool → List ℕ
-answer_text true = codes "yes"
-answer_text false = codes "no"
+abbrev pub flag_text : Bool → List ℕ
+flag_text true = codes "yes"
+flag_text false = codes "no"
 
--- a scale behind a `;`, where there is one
+-- a scale after a `;`, where there is one
 abbrev pub scale_text : Option ℕ → List ℕ
 scale_text None = codes ""
 scale_text (Some s) = 0x3b ∷ tenths_text s
 
--- what stands behind `1337;`
+-- what follows `1337;`
 abbrev pub form_text : {A : Type 0} → ITermProprietary A → List ℕ
 form_text iterm.SetMark = codes "SetMark"
 form_text iterm.StealFocus = codes "StealFocus"
@@ -113,7 +113,7 @@ form_text (iterm.CurrentDir t) = codes "CurrentDir=" ++ t
 form_text (iterm.SetProfile t) = codes "SetProfile=" ++ t
 form_text (iterm.CopyToClipboard t) = codes "CopyToClipboard=" ++ t
 form_text iterm.EndCopy = codes "EndCopy"
-form_text (iterm.HighlightCursorLine b) = codes "HighlightCursorLine=" ++ answer_text b
+form_text (iterm.HighlightCursorLine b) = codes "HighlightCursorLine=" ++ flag_text b
 form_text iterm.RequestCellSize = codes "ReportCellSize"
 form_text (iterm.ReportCellSize h w s) = codes "ReportCellSize=" ++ (tenths_text h ++ 0x3b ∷ (tenths_text w ++ scale_text s))
 form_text (iterm.Copy t) = codes "Copy=;" ++ base64_text t

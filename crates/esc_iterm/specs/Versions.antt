@@ -24,11 +24,11 @@ abbrev pub version_from : {A : Type 0} → List ℕ → Option (List ℕ × List
 version_from t None = unlabelled t
 version_from t (Some c) = labelled c.0 c.1
 
--- `push` or `pop`, with or without a label behind the first space, or a number of 8 bits
+-- `push` or `pop`, with or without a label after the first space, or a number of 8 bits
 abbrev pub version_of : {A : Type 0} → List ℕ → Option (ITermUnicodeVersionOp A)
 version_of t = version_from t (cut_at 0x20 t)
 
--- a label behind a space, where there is one
+-- a label after a space, where there is one
 abbrev pub label_text : Option (List ℕ) → List ℕ
 label_text None = codes ""
 label_text (Some l) = 0x20 ∷ l

@@ -27,7 +27,7 @@ IsScale None = Unit {0}
 IsScale (Some s) = s < 2 ^ 32
 
 -- directories, profiles and clipboards are clear parts, names of variables clear parts without `=`, texts in base64 any
--- text, numbers of 32 bits; what a variable is told to be is not read
+-- text, numbers of 32 bits; the report of a variable is not read
 abbrev pub IsWritableITerm : {A : Type 0} → ITermProprietary A → Type 0
 IsWritableITerm (iterm.CurrentDir t) = IsClearPart t
 IsWritableITerm (iterm.SetProfile t) = IsClearPart t

@@ -1,4 +1,4 @@
-//! The width or the height at which a file is shown.
+//! The width or the height at which a file is shown (<https://iterm2.com/documentation-images.html>).
 ghost use Rattle.std.specs.Prelude.{◌≡◌, ◌*◌, ◌^◌, nat_lt, IsTrue, ◌↔◌, Some};
 ghost use Rattle.std.specs.Option.{ok_or};
 ghost use Rattle.esc_below.specs.Scalars.{when};
@@ -13,15 +13,15 @@ use std::str::FromStr;
 
 /// The width or the height at which a file is shown (iTerm2's documentation, "Inline Images Protocol").
 ///
-/// Its text is `auto`, or a number, with `px` behind it for pixels, `%` for a percentage of the window and nothing for
+/// Its text is `auto`, or a number, followed by `px` for pixels, `%` for a percentage of the window and nothing for
 /// cells. The number is one of an `i64` in decimal: at least one ASCII digit, with a `-`, a `+` or no sign before them.
 #[derive(Clone, Copy, Debug, PartialEq, Eq)]
 pub enum ITermDimension {
     /// As large as the file itself is.
     Automatic,
-    /// So many cells of characters; a negative number is none.
+    /// So many cells of characters; a negative number counts as 0.
     Cells(i64),
-    /// So many pixels; a negative number is none.
+    /// So many pixels; a negative number counts as 0.
     Pixels(i64),
     /// This percentage of the window, held within 0 to 100.
     Percent(i64),
@@ -36,7 +36,7 @@ impl Default for ITermDimension {
     }
 }
 
-/// Reads the text of a dimension. The error is `Invalid`: it is none. Takes no memory.
+/// Reads the text of a dimension. The error is `Invalid`, for a text that is none.
 impl FromStr for ITermDimension {
     type Err = Error;
 
@@ -66,8 +66,7 @@ pub(crate) fn read_dimension(text: &[u8]) -> Option<ITermDimension>
     Some(ITermDimension::Cells(read_i64(text)?))
 }
 
-/// Writes the text of the dimension, which reads back. Takes no memory, and errs only where the writer behind the
-/// formatter errs.
+/// Writes the text of the dimension, which reads back. Where it returns `Ok`, all of it was written.
 impl fmt::Display for ITermDimension {
     ghost output = { λ d. Some (dimension_text d) };
 
@@ -84,7 +83,7 @@ impl fmt::Display for ITermDimension {
 impl ITermDimension {
     /// How many pixels it is, where a cell has `cell_size` pixels in this direction and the window has `num_cells` cells:
     /// none where it is automatic; so many times `cell_size` for cells; the number itself for pixels; for a percentage
-    /// that part of the window, rounded down. The caller has seen that it fits, as `fits_pixels` tells. Takes no memory.
+    /// that part of the window, rounded down. The caller has seen that it fits, by `fits_pixels`.
     pub fn to_pixels(&self, cell_size: usize, num_cells: usize) -> Option<usize>
         requires { FitsPixels self.now cell_size num_cells }
         ensures { result ≡ pixels_of self.now cell_size num_cells }
@@ -98,7 +97,7 @@ impl ITermDimension {
 
     /// Whether `to_pixels` may be asked with these sizes: whether the product that it needs fits a `usize`, which has 64 bits.
     /// That is the product of the cells and their size; of a percentage, the number of cells and their size, before it is
-    /// divided by 100. Takes no memory.
+    /// divided by 100.
     pub fn fits_pixels(&self, cell_size: usize, num_cells: usize) -> bool
         ensures { IsTrue result ↔ FitsPixels self.now cell_size num_cells }
     {

@@ -1,6 +1,6 @@
-//! Files that are sent to the terminal.
+//! Files that are sent to the terminal (<https://iterm2.com/documentation-images.html>).
 ghost use Rattle.std.specs.Prelude.{◌≡◌, IfOk, map, Some};
-ghost use Rattle.esc_iterm.specs.Files.{file_of, file_text};
+ghost use Rattle.esc_iterm.specs.Files.{file_of, file_text, plain_file};
 
 use crate::dimension::ITermDimension;
 use crate::read_file::read_file;
@@ -13,9 +13,9 @@ use std::fmt;
 #[derive(Drop)]
 #[derive_where(Debug, PartialEq, Eq)]
 pub struct ITermFileData<A: Allocator = Global> {
-    /// Its name, where one is told.
+    /// Its name, where it has one.
     pub name: Option<Text<A>>,
-    /// Its size in bytes, where it is told. It need not be that of the content.
+    /// Its size in bytes, where it is given. It need not be that of the content.
     pub size: Option<usize>,
     /// The width at which it is shown.
     pub width: ITermDimension,
@@ -31,13 +31,39 @@ pub struct ITermFileData<A: Allocator = Global> {
     pub content: Items<u8, A>,
 }
 
+impl<A: Allocator> ITermFileData<A> {
+    /// The file that holds a copy of these bytes: with no name and no size, both dimensions automatic, its ratio kept, not
+    /// inline, and with the cursor moved. The error is that memory was refused.
+    pub fn new(alloc: A, content: &[u8]) -> Result<ITermFileData<A>, AllocError>
+        ensures { IfOk result (λ f. f ≡ plain_file content.now) }
+    {
+        Ok(ITermFileData::with_content(Items::from_slice(alloc, content)?))
+    }
+
+    /// The file that holds these bytes, else as [`new`](ITermFileData::new) makes it, without taking memory.
+    pub fn with_content(content: Items<u8, A>) -> ITermFileData<A>
+        ensures { result ≡ plain_file content }
+    {
+        ITermFileData {
+            name: None,
+            size: None,
+            width: ITermDimension::Automatic,
+            height: ITermDimension::Automatic,
+            preserve_aspect_ratio: true,
+            inline: false,
+            do_not_move_cursor: false,
+            content,
+        }
+    }
+}
+
 impl<A: Allocator + Copy> ITermFileData<A> {
-    /// Reads a file from the parts of an operating system command behind its code `1337`; none where they tell no file.
+    /// Reads a file from the parts of an operating system command after its code `1337`; none where they are no file.
     /// The error is that memory was refused.
     ///
-    /// The first part begins with `File=`. The pieces are what stands behind that, and each further part. The last piece
-    /// has a `:`, and behind its first `:` the content in base64; before it, and in each other piece, stands a key with its
-    /// value behind the first `=`, as texts. An empty piece is skipped, and so is a last piece without `=`. Of a key that comes
+    /// The first part begins with `File=`. The pieces are what follows that, and each further part. The last piece
+    /// has a `:`, and after its first `:` the content in base64; before it, and in each other piece, is a key with its
+    /// value after the first `=`, as texts. An empty piece is skipped, and so is a last piece without `=`. Of a key that comes
     /// more than once the last value counts; unknown keys are skipped.
     ///
     /// `name` is a base64 text, `size` a number, `width` and `height` are dimensions; one that cannot be read counts as
@@ -52,7 +78,7 @@ impl<A: Allocator + Copy> ITermFileData<A> {
 
 /// Writes `File=`; the keys `size`, `name`, `width`, `height`, `preserveAspectRatio`, `inline` and `doNotMoveCursor` with
 /// their values, `;` between them, in this order and each only where its value differs from what it is without the key;
-/// `:`, and the content in base64. Takes no memory, and errs only where the writer behind the formatter errs.
+/// `:`, and the content in base64. Where it returns `Ok`, all of it was written.
 impl<A: Allocator> fmt::Display for ITermFileData<A> {
     ghost output = { λ f. Some (file_text f) };
 

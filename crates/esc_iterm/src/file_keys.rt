@@ -1,6 +1,6 @@
 //! The keys of a file, as they are read.
 ghost use Rattle.std.specs.Prelude.{◌≡◌, [], ◌∷◌};
-ghost use Rattle.esc_iterm.specs.Files.{values_behind};
+ghost use Rattle.esc_iterm.specs.Files.{values_after};
 ghost use Rattle.esc_iterm.specs.Keys.{values};
 
 // The values of the keys of a file, where they are there.
@@ -18,7 +18,7 @@ pub(crate) struct FileKeys<'a> {
 impl<'a> FileKeys<'a> {
     // The same, with this value in place of the one that the key had.
     pub(crate) fn with(self, key: &str, value: &'a str) -> FileKeys<'a>
-        ensures { values result ≡ values_behind (values self.entry) ((key.now, value.now) ∷ []) }
+        ensures { values result ≡ values_after (values self.entry) ((key.now, value.now) ∷ []) }
     {
         let mut keys = self;
         match key {

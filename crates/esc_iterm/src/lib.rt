@@ -1,8 +1,12 @@
-//! iTerm2's proprietary commands (iTerm2's documentation, "Proprietary Escape Codes" and "Inline Images Protocol"): their
-//! values, how the parts behind their code are read, and how a value is written.
+//! iTerm2's proprietary commands: their values, how the parts after their code are read, and how a value is written.
+//!
+//! The standards: iTerm2's documentation, "Proprietary Escape Codes" (<https://iterm2.com/documentation-escape-codes.html>) and
+//! "Inline Images Protocol" (<https://iterm2.com/documentation-images.html>).
+//!
+//! A program shows a picture with `ESC ] 1337 ; File=inline=1:aGk= ESC \`: `ITermProprietary::parse(alloc, &[b"File=inline=1:aGk="])?`
+//! is `Some(ITermProprietary::File(file))`, where `file.inline` is true and `file.content` holds the bytes of `hi`.
 #![tactic(auto)]
 
-pub mod boxed;
 pub mod dimension;
 pub mod file_data;
 mod file_keys;
@@ -17,8 +21,8 @@ pub mod unicode_version;
 mod write;
 mod write_file;
 
-pub use boxed::Boxed;
 pub use dimension::ITermDimension;
+pub use esc_below::{Boxed, boxed};
 pub use file_data::ITermFileData;
 pub use proprietary::ITermProprietary;
 pub use unicode_version::ITermUnicodeVersionOp;

@@ -1,8 +1,7 @@
-//! iTerm2's proprietary commands.
-use crate::boxed::Boxed;
+//! iTerm2's proprietary commands (<https://iterm2.com/documentation-escape-codes.html>).
 use crate::file_data::ITermFileData;
 use crate::unicode_version::ITermUnicodeVersionOp;
-use esc_below::Text;
+use esc_below::{Boxed, Text};
 use std::alloc::{Allocator, Global};
 
 /// A proprietary command of iTerm2: the operating system command 1337 (iTerm2's documentation, "Proprietary Escape
@@ -12,11 +11,11 @@ use std::alloc::{Allocator, Global};
 pub enum ITermProprietary<A: Allocator = Global> {
     /// Marks this line, so that it can be jumped back to.
     SetMark,
-    /// Brings the window to the front.
+    /// Brings the window before all others.
     StealFocus,
     /// Forgets the lines that have scrolled off.
     ClearScrollback,
-    /// Tells the directory that the shell works in.
+    /// The directory that the shell works in.
     CurrentDir(Text<A>),
     /// Changes the session's profile to that of this name.
     SetProfile(Text<A>),
@@ -29,13 +28,13 @@ pub enum ITermProprietary<A: Allocator = Global> {
     HighlightCursorLine(bool),
     /// Asks for the size of a cell.
     RequestCellSize,
-    /// Tells the size of a cell.
+    /// The size of a cell, as the terminal reports it.
     ReportCellSize {
         /// The height of a cell, in tenths of a pixel.
         height_pixels: u32,
         /// The width of a cell, in tenths of a pixel.
         width_pixels: u32,
-        /// How many pixels of the display a pixel is, in tenths; none where it was not told.
+        /// How many pixels of the display a pixel is, in tenths; none where it was not reported.
         scale: Option<u32>,
     },
     /// Puts this text into the general pasteboard. Written in base64.

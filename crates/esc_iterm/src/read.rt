@@ -1,4 +1,4 @@
-//! How the parts behind the code are read.
+//! How the parts after the code are read.
 ghost use Rattle.std.specs.Prelude.{◌≡◌, IfOk, map, Some, None};
 ghost use Rattle.std.specs.Str.Lossy.{utf8_lossy};
 ghost use Rattle.esc_iterm.specs.ITerms.{alone, assigned, bare, cell_size, content_of, form_of, highlight_of, iterm_of, keyed, variable_of, with_one, with_two};
@@ -6,19 +6,18 @@ ghost use Rattle.std.specs.Option.{option_map};
 ghost use Rattle.esc_iterm.specs.Files.{file_of};
 ghost use Rattle.esc_iterm.specs.declared.proprietary.ITermProprietary.TheVariants as iterm;
 
-use crate::boxed::Boxed;
 use crate::file_data::ITermFileData;
 use crate::proprietary::ITermProprietary;
 use crate::read_version::read_version;
 use crate::tenths::read_tenths;
-use esc_below::Text;
 use esc_below::base64_text::read_base64_text;
 use esc_below::cut::key_and_value;
 use esc_below::scalar::text_in;
+use esc_below::{Boxed, Text};
 use std::alloc::{AllocError, Allocator};
 
 impl<A: Allocator + Copy> ITermProprietary<A> {
-    /// The command that the parts behind the code `1337` mean, where they fit one. The error is that memory was
+    /// The command that the parts after the code `1337` mean, where they fit one. The error is that memory was
     /// refused.
     pub fn parse(alloc: A, args: &[&[u8]]) -> Result<Option<ITermProprietary<A>>, AllocError>
         ensures { IfOk result (λ c. c ≡ iterm_of (map (λ p. p.now) args.now)) }
@@ -46,7 +45,7 @@ fn read_file<A: Allocator + Copy>(
     }
 }
 
-// Every other form, of the lossy text of the first part and the parts behind it.
+// Every other form, of the lossy text of the first part and the parts after it.
 fn read_lossy<A: Allocator + Copy>(
     alloc: A,
     first: &[u8],
@@ -63,7 +62,7 @@ fn read_lossy<A: Allocator + Copy>(
     }
 }
 
-// Every other form, of the first part as a text and the parts behind it.
+// Every other form, of the first part as a text and the parts after it.
 fn read_form<A: Allocator + Copy>(
     alloc: A,
     first: &str,
@@ -77,7 +76,7 @@ fn read_form<A: Allocator + Copy>(
     }
 }
 
-// A first part without `=`, and the parts behind it.
+// A first part without `=`, and the parts after it.
 fn read_bare<A: Allocator + Copy>(
     alloc: A,
     key: &str,
@@ -108,7 +107,7 @@ fn read_alone<A: Allocator>(key: &str) -> Option<ITermProprietary<A>>
     }
 }
 
-// A first part with `=`, cut there, and the parts behind it.
+// A first part with `=`, cut there, and the parts after it.
 fn read_keyed<A: Allocator + Copy>(
     alloc: A,
     key: &str,

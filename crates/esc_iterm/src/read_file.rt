@@ -3,7 +3,7 @@ ghost use Rattle.std.specs.Prelude.{◌≡◌, ℕ, List, ◌∷◌, IfOk, map};
 ghost use Rattle.std.specs.Option.{option_map};
 ghost use Rattle.esc_below.specs.Base64.{base64_text_of};
 ghost use Rattle.esc_below.specs.Scalars.{and_then, number_of};
-ghost use Rattle.esc_iterm.specs.Files.{Values, file_of, file_with, is_set, last_pairs, piece_pairs, size_in, values_behind, values_of};
+ghost use Rattle.esc_iterm.specs.Files.{Values, file_of, file_with, is_set, last_pairs, piece_pairs, size_in, values_after, values_of};
 ghost use Rattle.esc_iterm.specs.Keys.{values};
 
 use crate::dimension::{ITermDimension, read_dimension};
@@ -15,7 +15,7 @@ use esc_below::scalar::read_usize;
 use esc_below::{Items, Text};
 use std::alloc::{AllocError, Allocator};
 
-// The file that the parts behind the code tell.
+// The file that the parts after the code are.
 pub(crate) fn read_file<A: Allocator + Copy>(
     alloc: A,
     args: &[&[u8]],
@@ -34,7 +34,7 @@ pub(crate) fn read_file<A: Allocator + Copy>(
     make_file(alloc, keys, content)
 }
 
-// The values of the keys, and what stands behind the first `:` of the last piece.
+// The values of the keys, and what follows the first `:` of the last piece.
 fn read_pieces<'a>(first: &'a [u8], rest: &[&'a [u8]]) -> Option<(FileKeys<'a>, &'a [u8])>
     ensures { option_map {U = Values × List ℕ} (λ r. (values r.0, r.1.now)) result ≡ values_of (first.now ∷ map (λ p. p.now) rest.now) }
 {
@@ -58,7 +58,7 @@ fn read_pieces<'a>(first: &'a [u8], rest: &[&'a [u8]]) -> Option<(FileKeys<'a>, 
 
 // The values, and those of a piece before the last.
 fn read_piece<'a>(keys: FileKeys<'a>, piece: &'a [u8]) -> Option<FileKeys<'a>>
-    ensures { option_map values result ≡ option_map (values_behind (values keys.entry)) (piece_pairs piece.now) }
+    ensures { option_map values result ≡ option_map (values_after (values keys.entry)) (piece_pairs piece.now) }
 {
     if piece.is_empty() {
         return Some(keys);
@@ -69,7 +69,7 @@ fn read_piece<'a>(keys: FileKeys<'a>, piece: &'a [u8]) -> Option<FileKeys<'a>>
 
 // The values, and those of the last piece.
 fn read_last<'a>(keys: FileKeys<'a>, piece: &'a [u8]) -> Option<FileKeys<'a>>
-    ensures { option_map values result ≡ option_map (values_behind (values keys.entry)) (last_pairs piece.now) }
+    ensures { option_map values result ≡ option_map (values_after (values keys.entry)) (last_pairs piece.now) }
 {
     if cut(piece, b'=').is_none() {
         return Some(keys);

@@ -8,7 +8,7 @@ use esc_below::cut::cut;
 use esc_below::scalar::{read_u8, text_in};
 use std::alloc::{AllocError, Allocator};
 
-// `push` or `pop`, with or without a label behind the first space, or a number.
+// `push` or `pop`, with or without a label after the first space, or a number.
 pub(crate) fn read_version<A: Allocator + Copy>(
     alloc: A,
     text: &[u8],

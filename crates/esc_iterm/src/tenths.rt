@@ -1,4 +1,4 @@
-//! Tenths: numbers with one digit behind the point.
+//! Tenths: numbers with one digit after the point.
 ghost use Rattle.std.specs.Prelude.{◌≡◌, ◌<◌, IfSome, Some};
 ghost use Rattle.esc_below.specs.Scalars.{number_in};
 ghost use Rattle.esc_iterm.specs.Tenths.{tenth_of, tenths_in, tenths_of, tenths_text};
@@ -7,8 +7,8 @@ use esc_below::cut::cut;
 use esc_below::scalar::read_u32;
 use std::fmt;
 
-/// The tenths that these bytes write, where they fit: at least one ASCII digit, then perhaps a point with at most one
-/// digit behind it, and nothing else. `12`, `12.` and `12.0` are 120.
+/// The tenths that these bytes write, where they fit: at least one ASCII digit, then optionally a point and at most one
+/// digit after it, and nothing else. `12`, `12.` and `12.0` are 120.
 pub fn read_tenths(text: &[u8]) -> Option<u32>
     ensures { result ≡ tenths_of text.now }
 {
@@ -18,7 +18,7 @@ pub fn read_tenths(text: &[u8]) -> Option<u32>
     }
 }
 
-// The tenths of the digits before the point and what stands behind it.
+// The tenths of the digits before the point and of what follows it.
 fn read_pieces(whole: &[u8], tenth: &[u8]) -> Option<u32>
     ensures { result ≡ tenths_in whole.now tenth.now }
 {
@@ -52,7 +52,7 @@ fn read_tenth(digits: &[u8]) -> Option<u32>
     Some(u32::from(*digit - b'0'))
 }
 
-/// Tenths, that print with one digit behind the point. Takes no memory.
+/// Tenths, that print with one digit after the point.
 #[derive(Clone, Copy)]
 pub struct Tenths(pub u32);
 

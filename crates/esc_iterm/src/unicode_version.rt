@@ -1,4 +1,4 @@
-//! The version of Unicode whose widths are used.
+//! The version of Unicode whose widths are used (<https://iterm2.com/documentation-escape-codes.html>, "Unicode Version").
 ghost use Rattle.std.specs.Prelude.{Some};
 ghost use Rattle.esc_iterm.specs.Versions.{version_text};
 
@@ -19,8 +19,8 @@ pub enum ITermUnicodeVersionOp<A: Allocator = Global> {
     Pop(Option<Text<A>>),
 }
 
-/// Writes the number, or `push` or `pop`, with a space and the label where there is one. Takes no memory, and errs only
-/// where the writer behind the formatter errs.
+/// Writes the number, or `push` or `pop`, with a space and the label where there is one. Where it returns
+/// `Ok`, all of it was written.
 impl<A: Allocator> fmt::Display for ITermUnicodeVersionOp<A> {
     ghost output = { λ v. Some (version_text v) };
 

@@ -10,8 +10,8 @@ use std::alloc::Allocator;
 use std::fmt;
 use std::fmt::Display;
 
-/// Writes what stands between `ESC ]` and the terminator: `1337;` and the form of the command. Takes no memory, and errs
-/// only where the writer behind the formatter errs.
+/// Writes what comes between `ESC ]` and the terminator: `1337;` and the form of the command. Where it returns `Ok`, all
+/// of it was written.
 impl<A: Allocator> fmt::Display for ITermProprietary<A> {
     ghost output = { λ c. Some (iterm_text c) };
 
@@ -21,7 +21,7 @@ impl<A: Allocator> fmt::Display for ITermProprietary<A> {
     }
 }
 
-// What stands behind the code.
+// What follows the code.
 fn write_form<W: fmt::Write, A: Allocator>(
     command: &ITermProprietary<A>,
     f: &mut fmt::Formatter<W>,
@@ -70,7 +70,7 @@ fn write_form<W: fmt::Write, A: Allocator>(
     }
 }
 
-// A scale, that prints behind a `;`, where there is one.
+// A scale, that prints after a `;`, where there is one.
 #[derive(Clone, Copy)]
 struct Scale(Option<u32>);
 

@@ -5,7 +5,7 @@ ghost use Rattle.std.specs.Option.{option_map};
 ghost use Rattle.esc_below.specs.Base64.{base64_text};
 ghost use Rattle.esc_below.specs.Clear.{joined};
 ghost use Rattle.esc_below.specs.Scalars.{when};
-ghost use Rattle.esc_iterm.specs.Files.{key_piece, key_pieces, pieces_behind, written_dimension, written_keys};
+ghost use Rattle.esc_iterm.specs.Files.{key_piece, key_pieces, pieces_after, written_dimension, written_keys};
 
 use crate::dimension::ITermDimension;
 use crate::file_data::ITermFileData;
@@ -66,14 +66,14 @@ fn is_automatic(dimension: &ITermDimension) -> bool
     matches!(dimension, ITermDimension::Automatic)
 }
 
-// Whether the next key is the first: nothing stands before this one, and this one is not written.
+// Whether the next key is the first: nothing is before this one, and this one is not written.
 fn stays_first(first: bool, is_absent: bool) -> bool
     ensures { result ≡ (first && is_absent) }
 {
     first && is_absent
 }
 
-// What stands before a key.
+// What comes before a key.
 fn separator(first: bool) -> &'static str
     ensures { result.now ≡ (if first then [] else 0x3b ∷ []) }
 {
@@ -86,7 +86,7 @@ fn write_size<W: fmt::Write>(
     size: Option<usize>,
     f: &mut fmt::Formatter<W>,
 ) -> fmt::Result
-    ensures { DisplaysOnOk W.write_str_gives f.old result (Some (pieces_behind first (key_piece (codes "size") (option_map decimal size)))) f.new }
+    ensures { DisplaysOnOk W.write_str_gives f.old result (Some (pieces_after first (key_piece (codes "size") (option_map decimal size)))) f.new }
 {
     let separator = separator(first);
     match size {
@@ -101,7 +101,7 @@ fn write_name<W: fmt::Write, A: Allocator>(
     name: &Option<Text<A>>,
     f: &mut fmt::Formatter<W>,
 ) -> fmt::Result
-    ensures { DisplaysOnOk W.write_str_gives f.old result (Some (pieces_behind first (key_piece (codes "name") (option_map base64_text name.now)))) f.new }
+    ensures { DisplaysOnOk W.write_str_gives f.old result (Some (pieces_after first (key_piece (codes "name") (option_map base64_text name.now)))) f.new }
 {
     let separator = separator(first);
     match name {
@@ -113,14 +113,14 @@ fn write_name<W: fmt::Write, A: Allocator>(
     }
 }
 
-// A dimension behind its key, where it is not automatic.
+// A dimension after its key, where it is not automatic.
 fn write_dimension<W: fmt::Write>(
     first: bool,
     key: &str,
     dimension: &ITermDimension,
     f: &mut fmt::Formatter<W>,
 ) -> fmt::Result
-    ensures { DisplaysOnOk W.write_str_gives f.old result (Some (pieces_behind first (key_piece key.now (written_dimension dimension.now)))) f.new }
+    ensures { DisplaysOnOk W.write_str_gives f.old result (Some (pieces_after first (key_piece key.now (written_dimension dimension.now)))) f.new }
 {
     let separator = separator(first);
     match dimension {
@@ -137,7 +137,7 @@ fn write_flag<W: fmt::Write>(
     is_wanted: bool,
     f: &mut fmt::Formatter<W>,
 ) -> fmt::Result
-    ensures { DisplaysOnOk W.write_str_gives f.old result (Some (pieces_behind first (key_piece key.now (when is_wanted value.now)))) f.new }
+    ensures { DisplaysOnOk W.write_str_gives f.old result (Some (pieces_after first (key_piece key.now (when is_wanted value.now)))) f.new }
 {
     let separator = separator(first);
     if is_wanted {

@@ -1,5 +1,7 @@
 -- Colours are clear parts that read back.
-use Rattle.std.proofs.Common.{◌≡◌, ℕ, ◌+◌, ◌*◌, ◌/◌, ◌%◌, ◌<◌, ◌==◌, ◌&&◌, not, Bool, true, false, List, [], ◌∷◌, ◌++◌, map, codes, Some, refl, ap, ◌∙◌, arith, append_assoc}
+use Rattle.std.proofs.Common.{◌≡◌, ℕ, ◌+◌, ◌*◌, ◌/◌, ◌%◌, ◌<◌, ◌==◌, ◌&&◌, not, Bool, true, false, List, [], ◌∷◌, ◌++◌, map, codes, Some, refl, ap}
+use Rattle.std.proofs.Common.{◌∙◌, arith, append_assoc}
+use Rattle.std.proofs.lemmas.Bool.{and_parts}
 use Rattle.std.specs.Fmt.{digit_glyph, decimal}
 use Rattle.std.specs.List.{flat_map, list_all}
 use Rattle.base64.specs.Tables.{all_below}
@@ -7,7 +9,6 @@ use Rattle.base64.proofs.Tables.{all_below_at}
 use Rattle.esc_below.specs.Clear.{IsClearPart, AreClearParts}
 use Rattle.esc_below.proofs.PlainParts.{is_part_plain, plain_part, all_append}
 use Rattle.esc_below.proofs.Cutting.{free_passes, cut_there}
-use Rattle.esc_below.proofs.Numbers.{and_parts}
 use Rattle.esc_osc.proofs.Found.{is_found, found}
 use Rattle.esc_osc.proofs.Numerals.{byte_back, byte_part}
 use Rattle.esc_below.specs.Cuts.{cut_at}
@@ -97,7 +98,8 @@ pub spec_part : (c : ColorOrQuery) → IsColor c → IsClearPart (spec_text c)
 spec_part Query h = plain_part (codes "?") refl
 spec_part (Color c) h =
     plain_part (spec_text (Color c)) (rgb_plain (hex4 c.red) (hex4 c.green) (hex4 c.blue)
-    (glyphs_plain (hex4 c.red) (hex4_glyphs c.red h.0)) (glyphs_plain (hex4 c.green) (hex4_glyphs c.green h.1)) (glyphs_plain (hex4 c.blue) (hex4_glyphs c.blue h.2)))
+    (glyphs_plain (hex4 c.red) (hex4_glyphs c.red h.0)) (glyphs_plain (hex4 c.green) (hex4_glyphs c.green h.1))
+    (glyphs_plain (hex4 c.blue) (hex4_glyphs c.blue h.2)))
 
 pub specs_are_parts : (cs : List ColorOrQuery) → AreColors cs → AreClearParts (map spec_text cs)
 specs_are_parts [] h = tt
@@ -123,7 +125,7 @@ pairs_back (p ∷ ps) h =
 regroup : (a b x : List ℕ) → (0x3b ∷ (a ++ 0x3b ∷ b)) ++ x ≡ (0x3b ∷ a) ++ ((0x3b ∷ b) ++ x)
 regroup a b x = ap (λ t. 0x3b ∷ t) (append_assoc a (0x3b ∷ b) x)
 
--- each pair behind a `;` is its two parts behind a `;` each
+-- each pair after a `;` is its two parts after a `;` each
 pub pairs_joined : (ps : List ChangeColorPair) → flat_map (λ p. 0x3b ∷ pair_text p) ps ≡ flat_map (λ q. 0x3b ∷ q) (flat_map two_parts ps)
 pairs_joined [] = refl
 pairs_joined (p ∷ ps) =

@@ -1,28 +1,30 @@
 -- What is read of parts lies in the ranges of its types.
-use Rattle.std.proofs.Common.{ℕ, ◌≡◌, ◌<◌, ◌≤◌, ◌+◌, ◌*◌, ◌/◌, ◌==◌, ◌&&◌, nat_lt, nat_le, nat_eq, inl, inr, List, [], ◌∷◌, length, take, drop, codes, arith}
+use Rattle.std.proofs.Common.{ℕ, ◌≡◌, ◌<◌, ◌≤◌, ◌+◌, ◌*◌, ◌/◌, ◌==◌, ◌&&◌, nat_lt, nat_le, nat_eq, inl, inr, List, [], ◌∷◌, length, take, drop, codes}
+use Rattle.std.proofs.Common.{Some, None, arith}
 use Rattle.std.specs.Char.{digit_value}
 use Rattle.std.specs.Cmp.Lexicographic.{pointwise}
 use Rattle.std.specs.List.{starts_with}
 use Rattle.std.specs.Option.{option_map, unwrap_or}
-use Rattle.std.proofs.lemmas.Bool.{ltb-true, leb-true}
+use Rattle.std.proofs.lemmas.Bool.{ltb-true, leb-true, cases_Bool, and_parts}
 use Rattle.esc_below.specs.Scalars.{and_then, number_of}
-use Rattle.esc_below.proofs.Numbers.{bool_cases, and_parts}
-use Rattle.esc_below.proofs.Where.{Where, where_map, where_then, number_where, Anything, anything}
+use Rattle.esc_below.proofs.Where.{Where, where_if, where_map, where_then, number_where, Anything, anything}
 use Rattle.esc_below.specs.Cuts.{cut_at}
 use Rattle.esc_osc.specs.Colors.{hex_of, hex_after, channel_of, color_from, rgb_of, sharp_of, spec_of, colors_of, pairs_of}
 use Rattle.esc_osc.specs.Progresses.{held, percent_of, state_of, progress_of}
 use Rattle.esc_osc.specs.Reading.{numbers_of}
 use Rattle.esc_osc.specs.Writable.{AreNumbers, IsColor, AreColors, ArePairs, IsProgress}
-use Rattle.esc_osc.specs.declared.color_or_query.ColorOrQuery.TheVariants.{Color}
+use Rattle.esc_osc.specs.declared.color_or_query.ColorOrQuery.TheVariants.{Color, Query}
+use Rattle.esc_osc.specs.declared.progress.Progress.TheVariants as progress
 
 -- numbers
 pub numbers_where : (ps : List (List ℕ)) → Where AreNumbers (numbers_of ps)
 numbers_where [] = tt
 numbers_where (p ∷ ps) =
-    elim (bool_cases (length p == 0)) [
+    elim (cases_Bool (length p == 0)) [
       | inl held ↦ rw held (numbers_where ps)
       | inr failed ↦ rw failed (where_then (λ n. n < 256) AreNumbers (λ n. option_map (λ more. n ∷ more) (numbers_of ps))
-          (λ n small. where_map AreNumbers AreNumbers (λ more. n ∷ more) (λ more h. (small, h)) (numbers_of ps) (numbers_where ps)) (number_of 8 p) (number_where 8 p))
+          (λ n small. where_map AreNumbers AreNumbers (λ more. n ∷ more) (λ more h. (small, h)) (numbers_of ps) (numbers_where ps)) (number_of 8 p)
+          (number_where 8 p))
     ]
 
 -- channels
@@ -31,7 +33,7 @@ Below k v = v < k
 
 hex_where : (d : ℕ) → Where (Below 16) (hex_of d)
 hex_where d =
-    elim (bool_cases (nat_lt (digit_value d) 16)) [
+    elim (cases_Bool (nat_lt (digit_value d) 16)) [
       | inl held ↦ let small = ltb-true (digit_value d) 16 held in rw held small
       | inr failed ↦ rw failed tt
     ]
@@ -62,7 +64,7 @@ four_digits n m a b c d h = one_more n m a (b ∷ c ∷ d ∷ []) (m * 65536) (�
 
 long_where : (ds : List ℕ) → 4 < length ds → Where (Below 65536) (channel_of ds)
 long_where ds long =
-    elim (bool_cases (nat_lt 0 (length ds) && nat_le (length ds) 4)) [
+    elim (cases_Bool (nat_lt 0 (length ds) && nat_le (length ds) 4)) [
       | inl held ↦ let q = and_parts (nat_lt 0 (length ds)) (nat_le (length ds) 4) held in let short = leb-true (length ds) 4 q.1 in absurd (omega arith)
       | inr failed ↦ rw failed tt
     ]
@@ -70,45 +72,42 @@ long_where ds long =
 channel_where : (ds : List ℕ) → Where (Below 65536) (channel_of ds)
 channel_where [] = tt
 channel_where (a ∷ []) = where_map (Below 16) (Below 65536) (λ v. 65535 * v / 15) (λ v h. omega arith) (hex_after 0 (a ∷ [])) (one_digit 0 1 a (omega arith))
-channel_where (a ∷ b ∷ []) = where_map (Below 256) (Below 65536) (λ v. 65535 * v / 255) (λ v h. omega arith) (hex_after 0 (a ∷ b ∷ [])) (two_digits 0 1 a b (omega arith))
-channel_where (a ∷ b ∷ c ∷ []) = where_map (Below 4096) (Below 65536) (λ v. 65535 * v / 4095) (λ v h. omega arith) (hex_after 0 (a ∷ b ∷ c ∷ [])) (three_digits 0 1 a b c (omega arith))
-channel_where (a ∷ b ∷ c ∷ d ∷ []) = where_map (Below 65536) (Below 65536) (λ v. 65535 * v / 65535) (λ v h. omega arith) (hex_after 0 (a ∷ b ∷ c ∷ d ∷ [])) (four_digits 0 1 a b c d (omega arith))
+channel_where (a ∷ b ∷ []) =
+    where_map (Below 256) (Below 65536) (λ v. 65535 * v / 255) (λ v h. omega arith) (hex_after 0 (a ∷ b ∷ [])) (two_digits 0 1 a b (omega arith))
+channel_where (a ∷ b ∷ c ∷ []) =
+    where_map (Below 4096) (Below 65536) (λ v. 65535 * v / 4095) (λ v h. omega arith) (hex_after 0 (a ∷ b ∷ c ∷ [])) (three_digits 0 1 a b c (omega arith))
+channel_where (a ∷ b ∷ c ∷ d ∷ []) =
+    where_map (Below 65536) (Below 65536) (λ v. 65535 * v / 65535) (λ v h. omega arith) (hex_after 0 (a ∷ b ∷ c ∷ d ∷ []))
+    (four_digits 0 1 a b c d (omega arith))
 channel_where (a ∷ b ∷ c ∷ d ∷ e ∷ ds) = long_where (a ∷ b ∷ c ∷ d ∷ e ∷ ds) (omega arith)
 
 -- colours
 color_where : (r g b : List ℕ) → Where IsColor (color_from r g b)
 color_where r g b =
-    where_then (Below 65536) IsColor (λ red. and_then (channel_of g) (λ green. option_map (λ blue. Color (record { red = red; green = green; blue = blue })) (channel_of b)))
+    where_then (Below 65536) IsColor
+    (λ red. and_then (channel_of g) (λ green. option_map (λ blue. Color (record { red = red; green = green; blue = blue })) (channel_of b)))
     (λ red small. where_then (Below 65536) IsColor (λ green. option_map (λ blue. Color (record { red = red; green = green; blue = blue })) (channel_of b))
-    (λ green little. where_map (Below 65536) IsColor (λ blue. Color (record { red = red; green = green; blue = blue })) (λ blue low. (small, little, low)) (channel_of b) (channel_where b))
+    (λ green little. where_map (Below 65536) IsColor (λ blue. Color (record { red = red; green = green; blue = blue }))
+    (λ blue low. (small, little, low)) (channel_of b) (channel_where b))
     (channel_of g) (channel_where g))
     (channel_of r) (channel_where r)
 
 rgb_where : (bs : List ℕ) → Where IsColor (rgb_of bs)
 rgb_where bs =
-    where_then (λ (p : List ℕ × List ℕ). Anything p) IsColor (λ (p : List ℕ × List ℕ). and_then (cut_at 0x2f p.1) (λ (q : List ℕ × List ℕ). color_from p.0 q.0 q.1))
-    (λ p h. where_then (λ (q : List ℕ × List ℕ). Anything q) IsColor (λ (q : List ℕ × List ℕ). color_from p.0 q.0 q.1) (λ q k. color_where p.0 q.0 q.1) (cut_at 0x2f p.1) (anything (cut_at 0x2f p.1)))
+    where_then (λ (p : List ℕ × List ℕ). Anything p) IsColor
+    (λ (p : List ℕ × List ℕ). and_then (cut_at 0x2f p.1) (λ (q : List ℕ × List ℕ). color_from p.0 q.0 q.1))
+    (λ p h. where_then (λ (q : List ℕ × List ℕ). Anything q) IsColor (λ (q : List ℕ × List ℕ). color_from p.0 q.0 q.1)
+    (λ q k. color_where p.0 q.0 q.1) (cut_at 0x2f p.1) (anything (cut_at 0x2f p.1)))
     (cut_at 0x2f bs) (anything (cut_at 0x2f bs))
 
 sharp_where : (bs : List ℕ) → Where IsColor (sharp_of bs)
-sharp_where bs =
-    elim (bool_cases (length bs == 6)) [
-      | inl held ↦ rw held (color_where (take 2 bs) (take 2 (drop 2 bs)) (drop 4 bs))
-      | inr failed ↦ rw failed tt
-    ]
+sharp_where bs = where_if IsColor (length bs == 6) _ None (color_where (take 2 bs) (take 2 (drop 2 bs)) (drop 4 bs)) tt
 
 spec_where : (bs : List ℕ) → Where IsColor (spec_of bs)
 spec_where bs =
-    elim (bool_cases (pointwise nat_eq bs (codes "?"))) [
-      | inl query ↦ rw query tt
-      | inr other ↦ rw other (elim (bool_cases (starts_with nat_eq bs (codes "rgb:"))) [
-        | inl rgb ↦ rw rgb (rgb_where (drop 4 bs))
-        | inr none ↦ rw none (elim (bool_cases (starts_with nat_eq bs (codes "#"))) [
-          | inl sharp ↦ rw sharp (sharp_where (drop 1 bs))
-          | inr last ↦ rw last tt
-        ])
-      ])
-    ]
+    where_if IsColor (pointwise nat_eq bs (codes "?")) (Some Query) _ tt
+    (where_if IsColor (starts_with nat_eq bs (codes "rgb:")) _ _ (rgb_where (drop 4 bs))
+    (where_if IsColor (starts_with nat_eq bs (codes "#")) _ None (sharp_where (drop 1 bs)) tt))
 
 pub colors_where : (ps : List (List ℕ)) → Where AreColors (colors_of ps)
 colors_where [] = tt
@@ -129,7 +128,7 @@ pairs_where (i ∷ s ∷ ps) =
 -- progress
 held_small : (n : ℕ) → held n ≤ 100
 held_small n =
-    elim (bool_cases (nat_le n 100)) [
+    elim (cases_Bool (nat_le n 100)) [
       | inl low ↦ let small = leb-true n 100 low in rw low small
       | inr high ↦ rw high (omega arith)
     ]
@@ -140,28 +139,13 @@ percent_small (p ∷ ps) = held_small (unwrap_or (number_of 8 p) 0)
 
 state_where : (s : List ℕ) (more : List (List ℕ)) → Where IsProgress (state_of s more)
 state_where s more =
-    elim (bool_cases (pointwise nat_eq s (codes "0"))) [
-      | inl a ↦ rw a tt
-      | inr b ↦ rw b (elim (bool_cases (pointwise nat_eq s (codes "1"))) [
-        | inl c ↦ rw c (percent_small more)
-        | inr d ↦ rw d (elim (bool_cases (pointwise nat_eq s (codes "2"))) [
-          | inl e ↦ rw e (percent_small more)
-          | inr f ↦ rw f (elim (bool_cases (pointwise nat_eq s (codes "3"))) [
-            | inl g ↦ rw g tt
-            | inr h ↦ rw h (elim (bool_cases (pointwise nat_eq s (codes "4"))) [
-              | inl i ↦ rw i tt
-              | inr j ↦ rw j tt
-            ])
-          ])
-        ])
-      ])
-    ]
+    where_if IsProgress (pointwise nat_eq s (codes "0")) (Some progress.None) _ tt
+    (where_if IsProgress (pointwise nat_eq s (codes "1")) (Some (progress.SetPercentage (percent_of more))) _ (percent_small more)
+    (where_if IsProgress (pointwise nat_eq s (codes "2")) (Some (progress.SetError (percent_of more))) _ (percent_small more)
+    (where_if IsProgress (pointwise nat_eq s (codes "3")) (Some progress.SetIndeterminate) _ tt
+    (where_if IsProgress (pointwise nat_eq s (codes "4")) (Some progress.Paused) None tt tt))))
 
 pub progress_where : (args : List (List ℕ)) → Where IsProgress (progress_of args)
 progress_where [] = tt
 progress_where (a ∷ []) = tt
-progress_where (a ∷ s ∷ more) =
-    elim (bool_cases (pointwise nat_eq a (codes "4"))) [
-      | inl held ↦ rw held (state_where s more)
-      | inr failed ↦ rw failed tt
-    ]
+progress_where (a ∷ s ∷ more) = where_if IsProgress (pointwise nat_eq a (codes "4")) _ None (state_where s more) tt

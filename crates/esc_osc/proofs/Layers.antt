@@ -70,7 +70,8 @@ link_means : (A : Type 0) (v : Option (Hyperlink A)) (args : List (List ℕ)) �
 link_means A v args is reads =
     let back : link_of (code_text code.SetHyperlink ∷ args) ≡ Some v = ap link_of (sym is) ∙ reads in
     ap (meaning {A = A}) is
-    ∙ ap (λ r. unwrap_or r (command.Unspecified (code_text code.SetHyperlink ∷ args))) (code_means code.SetHyperlink args ∙ ap (option_map command.SetHyperlink) back)
+    ∙ ap (λ r. unwrap_or r (command.Unspecified (code_text code.SetHyperlink ∷ args)))
+    (code_means code.SetHyperlink args ∙ ap (option_map command.SetHyperlink) back)
 
 pub linked : (A : Type 0) (v : Option (Hyperlink A)) → IsClearText (link_text v) → link_of (parts_of (link_text v)) ≡ Some v
     → meaning (parts_of (link_text v)) ≡ command.SetHyperlink v

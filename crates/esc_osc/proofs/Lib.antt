@@ -11,3 +11,4 @@ pub mod ReadParts
 pub mod ReadsBack
 pub mod Selections
 pub mod Written
+pub mod Under

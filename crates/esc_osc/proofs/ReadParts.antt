@@ -1,15 +1,16 @@
 -- What clear parts mean is writable.
-use Rattle.std.proofs.Common.{ℕ, ◌≡◌, ◌<◌, nat_le, nat_eq, ◌&&◌, inl, inr, List, [], ◌∷◌, length, map, drop, codes, Option, Some, None, refl, sym, ap, subst, arith}
+use Rattle.std.proofs.Common.{ℕ, ◌≡◌, ◌<◌, nat_le, nat_eq, ◌&&◌, inl, inr, List, [], ◌∷◌, length, map, drop, codes, Option, Some, None, refl, sym, ap}
+use Rattle.std.proofs.Common.{subst, arith}
 use Rattle.std.specs.Char.{encode_utf8}
 use Rattle.std.specs.Cmp.Lexicographic.{pointwise}
 use Rattle.std.specs.Option.{option_map, unwrap_or}
 use Rattle.std.specs.Str.{IsUtf8}
 use Rattle.std.specs.Str.Lossy.{utf8_lossy}
 use Rattle.std.proofs.lemmas.Str.{length-encode, len_utf8_bounds}
+use Rattle.std.proofs.lemmas.Bool.{cases_Bool}
 use Rattle.esc_below.specs.Base64.{base64_text_of}
 use Rattle.esc_below.specs.Clear.{IsClearText, IsClearPart, AreClearParts, AreTextParts, joined}
 use Rattle.esc_below.specs.Scalars.{and_then, utf8_of}
-use Rattle.esc_below.proofs.Numbers.{bool_cases}
 use Rattle.esc_below.proofs.Split.{joined_clear}
 use Rattle.esc_below.proofs.ClearTexts.{part_lossy, parts_lossy, tail_part}
 use Rattle.esc_osc.proofs.Codes.{code_of_text}
@@ -39,13 +40,13 @@ lone_clear [] h = tt
 lone_clear (p ∷ []) h = utf8_keeps (λ t. IsClearPart t) p h.0
 lone_clear (p ∷ q ∷ ps) h = tt
 
--- a text behind a letter
+-- a text after a letter
 sun_head : (b : ℕ) (t : List ℕ) (args : List (List ℕ)) → code_name t args ≡ b ∷ [] → t ≡ b ∷ drop 1 t
 sun_head b [] [] e = absurd cc
 sun_head b [] (q ∷ qs) e = absurd cc
 sun_head b (x ∷ xs) (q ∷ qs) e = let same : x ≡ b = cc in ap (λ y. y ∷ xs) same
 sun_head b (x ∷ xs) [] e =
-    elim (bool_cases (nat_le 0x30 x && nat_le x 0x39)) [
+    elim (cases_Bool (nat_le 0x30 x && nat_le x 0x39)) [
       | inl held ↦ let whole : x ∷ xs ≡ b ∷ [] = rw held at e in let same : x ≡ b = cc in ap (λ y. y ∷ xs) same
       | inr failed ↦ let first : x ∷ [] ≡ b ∷ [] = rw failed at e in let same : x ≡ b = cc in ap (λ y. y ∷ xs) same
     ]
@@ -71,25 +72,31 @@ selected_good : (A : Type 0) (args : List (List ℕ)) → Where (Good A) (select
 selected_good A [] = tt
 selected_good A (s ∷ []) = where_map IsNamed (Good A) (λ b. command.ClearSelection (selection b)) (λ b h. h) (selection_of s) (selection_named s)
 selected_good A (s ∷ t ∷ []) =
-    elim (bool_cases (pointwise nat_eq t (codes "?"))) [
+    elim (cases_Bool (pointwise nat_eq t (codes "?"))) [
       | inl held ↦ rw held (where_map IsNamed (Good A) (λ b. command.QuerySelection (selection b)) (λ b h. h) (selection_of s) (selection_named s))
       | inr failed ↦ rw failed (where_then IsNamed (Good A) (λ b. option_map (λ text. command.SetSelection (selection b) text) (base64_text_of t))
-          (λ b h. where_map (λ u. IsUtf8 u) (Good A) (λ text. command.SetSelection (selection b) text) (λ text k. (h, k)) (base64_text_of t) (content_where t)) (selection_of s) (selection_named s))
+          (λ b h. where_map (λ u. IsUtf8 u) (Good A) (λ text. command.SetSelection (selection b) text) (λ text k. (h, k)) (base64_text_of t)
+          (content_where t)) (selection_of s) (selection_named s))
     ]
 selected_good A (s ∷ t ∷ u ∷ more) = tt
 
 texts_good : (args : List (List ℕ)) → AreClearParts args → AreClearParts (map utf8_lossy args)
 texts_good args h = let P : List (List ℕ) → Type 0 = λ us. AreClearParts us in subst P (sym (parts_lossy args h)) h
 
-reading_good : (A : Type 0) (c : OperatingSystemCommandCode) (t : List ℕ) (args : List (List ℕ)) → code_name t args ≡ code_text c → IsClearPart t → AreClearParts args
+reading_good : (A : Type 0) (c : OperatingSystemCommandCode) (t : List ℕ) (args : List (List ℕ)) → code_name t args ≡ code_text c → IsClearPart t
+    → AreClearParts args
     → Where (Good A) (reading {A = A} c t args)
-reading_good A code.SetIconNameAndWindowTitle t args e h k = where_map (λ u. IsClearText u) (Good A) command.SetIconNameAndWindowTitle (λ u q. q) (title_of args) (title_clear args k)
+reading_good A code.SetIconNameAndWindowTitle t args e h k =
+    where_map (λ u. IsClearText u) (Good A) command.SetIconNameAndWindowTitle (λ u q. q) (title_of args) (title_clear args k)
 reading_good A code.SetIconName t args e h k = where_map (λ u. IsClearText u) (Good A) command.SetIconName (λ u q. q) (title_of args) (title_clear args k)
 reading_good A code.SetWindowTitle t args e h k = where_map (λ u. IsClearText u) (Good A) command.SetWindowTitle (λ u q. q) (title_of args) (title_clear args k)
-reading_good A code.SetWindowTitleSun t args e h k = where_map (λ u. IsClearPart u) (Good A) command.SetWindowTitleSun (λ u q. q) (utf8_of (drop 1 t)) (sun_tail 0x6c t args (omega arith) e h)
-reading_good A code.SetIconNameSun t args e h k = where_map (λ u. IsClearPart u) (Good A) command.SetIconNameSun (λ u q. q) (utf8_of (drop 1 t)) (sun_tail 0x4c t args (omega arith) e h)
+reading_good A code.SetWindowTitleSun t args e h k =
+    where_map (λ u. IsClearPart u) (Good A) command.SetWindowTitleSun (λ u q. q) (utf8_of (drop 1 t)) (sun_tail 0x6c t args (omega arith) e h)
+reading_good A code.SetIconNameSun t args e h k =
+    where_map (λ u. IsClearPart u) (Good A) command.SetIconNameSun (λ u q. q) (utf8_of (drop 1 t)) (sun_tail 0x4c t args (omega arith) e h)
 reading_good A code.ChangeColorNumber t args e h k = where_map ArePairs (Good A) command.ChangeColorNumber (λ u q. q) (pairs_of args) (pairs_where args)
-reading_good A code.SetCurrentWorkingDirectory t args e h k = where_map (λ u. IsClearPart u) (Good A) command.CurrentWorkingDirectory (λ u q. q) (lone_text args) (lone_clear args k)
+reading_good A code.SetCurrentWorkingDirectory t args e h k =
+    where_map (λ u. IsClearPart u) (Good A) command.CurrentWorkingDirectory (λ u q. q) (lone_text args) (lone_clear args k)
 reading_good A code.SetHyperlink t args e h k = link_good A t args h k
 reading_good A code.SystemNotification t args e h k = notified_good A (progress_of args) (lone_text args) (progress_where args) (lone_clear args k)
 reading_good A code.ManipulateSelectionData t args e h k = selected_good A args
@@ -100,7 +107,8 @@ reading_good A code.RxvtProprietary t args e h k = texts_good args k
 reading_good A c t args e h k = dynamic_good A (changed_by c) (reset_by c) args
 
 fitting_good : (A : Type 0) (p : List ℕ) (args : List (List ℕ)) → IsClearPart p → AreClearParts args
-    → (o : Option OperatingSystemCommandCode) → code_of (code_name (utf8_lossy p) args) ≡ o → Where (Good A) (and_then o (λ c. reading {A = A} c (utf8_lossy p) args))
+    → (o : Option OperatingSystemCommandCode) → code_of (code_name (utf8_lossy p) args) ≡ o
+    → Where (Good A) (and_then o (λ c. reading {A = A} c (utf8_lossy p) args))
 fitting_good A p args h k None e = tt
 fitting_good A p args h k (Some c) e =
     let P : List ℕ → Type 0 = λ u. IsClearPart u in

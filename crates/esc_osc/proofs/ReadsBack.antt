@@ -46,7 +46,8 @@ use Rattle.esc_osc.specs.declared.selection.Selection.{Selection}
 
 -- a title: what is written is clear
 titled_clear : (c : OperatingSystemCommandCode) (t : List ℕ) → IsClearText t → IsClearText (titled c t)
-titled_clear c t h = clear_append (code_text c) (0x3b ∷ t) (part_clear (code_text c) (code_part c)) (clear_append (0x3b ∷ []) t (plain_clear (0x3b ∷ []) refl) h)
+titled_clear c t h =
+    clear_append (code_text c) (0x3b ∷ t) (part_clear (code_text c) (code_part c)) (clear_append (0x3b ∷ []) t (plain_clear (0x3b ∷ []) refl) h)
 
 -- every text splits into at least one piece
 abbrev HasFirst : List (List ℕ) → Type 0
@@ -75,7 +76,7 @@ title_means A c t v splits e =
     ap (meaning {A = A}) splits
     ∙ ap (λ r. unwrap_or r (command.Unspecified (code_text c ∷ slice_split (λ c. c == 0x3b) t))) (code_means c (slice_split (λ c. c == 0x3b) t) ∙ e)
 
--- a text behind a letter
+-- a text after a letter
 letter_part : (c : OperatingSystemCommandCode) (t : List ℕ) → IsClearPart t → IsClearPart (code_text c ++ t)
 letter_part c t h = part_append (code_text c) t (code_part c) h
 
@@ -88,7 +89,7 @@ window_means A t h k = rw (part_lossy (0x6c ∷ t) h, code_of-code_text code.Set
 icon_means : (A : Type 0) (t : List ℕ) → IsClearPart (0x4c ∷ t) → IsClearPart t → meaning {A = A} ((0x4c ∷ t) ∷ []) ≡ command.SetIconNameSun t
 icon_means A t h k = rw (part_lossy (0x4c ∷ t) h, code_of-code_text code.SetIconNameSun, part_utf8_of t k) refl
 
--- one text behind the code
+-- one text after the code
 directory : (A : Type 0) (t : List ℕ) → IsClearPart t → Written A (command.CurrentWorkingDirectory t)
 directory A t h = record {
   code = code.SetCurrentWorkingDirectory;
@@ -254,11 +255,17 @@ writes_clear (command.Unspecified ps) h =
     subst P (sym (lossy_joined ps h.0.0)) (joined_clear ps h.0.0)
 
 pub reads_back : {A : Type 0} (c : OperatingSystemCommand A) → IsWritable c → meaning (parts_of (inner_text c)) ≡ c
-reads_back {A = A} (command.SetIconNameAndWindowTitle t) h = title_means A code.SetIconNameAndWindowTitle t (command.SetIconNameAndWindowTitle t) refl (ap (option_map command.SetIconNameAndWindowTitle) (title_split t (clear_utf8 t h)))
-reads_back {A = A} (command.SetIconName t) h = title_means A code.SetIconName t (command.SetIconName t) refl (ap (option_map command.SetIconName) (title_split t (clear_utf8 t h)))
-reads_back {A = A} (command.SetWindowTitle t) h = title_means A code.SetWindowTitle t (command.SetWindowTitle t) refl (ap (option_map command.SetWindowTitle) (title_split t (clear_utf8 t h)))
-reads_back {A = A} (command.SetWindowTitleSun t) h = ap (meaning {A = A}) (one_part 0x6c t (letter_part code.SetWindowTitleSun t h)) ∙ window_means A t (letter_part code.SetWindowTitleSun t h) h
-reads_back {A = A} (command.SetIconNameSun t) h = ap (meaning {A = A}) (one_part 0x4c t (letter_part code.SetIconNameSun t h)) ∙ icon_means A t (letter_part code.SetIconNameSun t h) h
+reads_back {A = A} (command.SetIconNameAndWindowTitle t) h =
+    title_means A code.SetIconNameAndWindowTitle t (command.SetIconNameAndWindowTitle t) refl
+    (ap (option_map command.SetIconNameAndWindowTitle) (title_split t (clear_utf8 t h)))
+reads_back {A = A} (command.SetIconName t) h =
+    title_means A code.SetIconName t (command.SetIconName t) refl (ap (option_map command.SetIconName) (title_split t (clear_utf8 t h)))
+reads_back {A = A} (command.SetWindowTitle t) h =
+    title_means A code.SetWindowTitle t (command.SetWindowTitle t) refl (ap (option_map command.SetWindowTitle) (title_split t (clear_utf8 t h)))
+reads_back {A = A} (command.SetWindowTitleSun t) h = ap (meaning {A = A}) (one_part 0x6c t (letter_part code.SetWindowTitleSun t h))
+    ∙ window_means A t (letter_part code.SetWindowTitleSun t h) h
+reads_back {A = A} (command.SetIconNameSun t) h = ap (meaning {A = A}) (one_part 0x4c t (letter_part code.SetIconNameSun t h))
+    ∙ icon_means A t (letter_part code.SetIconNameSun t h) h
 reads_back {A = A} (command.SetHyperlink v) h = linked A v h.0 h.1
 reads_back {A = A} (command.ClearSelection s) h = written_back A (command.ClearSelection s) (cleared A s h)
 reads_back {A = A} (command.QuerySelection s) h = written_back A (command.QuerySelection s) (queried A s h)

@@ -1,17 +1,16 @@
 -- Selections are clear parts that read back, and what is read has named bits.
-use Rattle.std.proofs.Common.{◌≡◌, ℕ, ◌+◌, ◌-◌, ◌*◌, ◌/◌, ◌%◌, ◌≤◌, ◌==◌, nat_eq, nat_lt, nat_le, ◌&&◌, Bool, true, false, inl, inr, List, [], ◌∷◌, codes, bit_or, Some, None, refl, sym, ap, ◌∙◌, arith}
-use Rattle.std.specs.Cmp.Lexicographic.{pointwise}
+use Rattle.std.proofs.Common.{◌≡◌, ℕ, ◌+◌, ◌-◌, ◌*◌, ◌/◌, ◌%◌, ◌≤◌, ◌==◌, nat_eq, nat_lt, nat_le, ◌&&◌, Bool, true, false, inl, inr, List, [], ◌∷◌}
+use Rattle.std.proofs.Common.{codes, bit_or, Some, None, refl, sym, ap, ◌∙◌, arith}
+use Rattle.std.specs.Cmp.Lexicographic.{pointwise, same_text}
 use Rattle.std.specs.List.{list_all}
 use Rattle.std.specs.Str.{IsUtf8}
-use Rattle.std.proofs.lemmas.Bool.{eqb-true, ltb-true, leb-true}
+use Rattle.std.proofs.lemmas.Bool.{eqb-true, ltb-true, leb-true, cases_Bool, and_parts}
 use Rattle.base64.specs.Tables.{all_below}
 use Rattle.base64.proofs.Tables.{all_below_at}
 use Rattle.esc_below.specs.Base64.{base64_text, base64_text_of}
 use Rattle.esc_below.specs.Clear.{IsClearPart}
 use Rattle.esc_below.proofs.Base64.{base64_back}
-use Rattle.esc_below.proofs.Numbers.{bool_cases, and_parts}
 use Rattle.esc_below.proofs.PlainParts.{is_part_plain, plain_part}
-use Rattle.esc_osc.proofs.Codes.{same_texts}
 use Rattle.esc_osc.proofs.Found.{is_found, found}
 use Rattle.esc_below.proofs.Where.{Where}
 use Rattle.esc_osc.specs.Selections.{letters, letter_bit_in, letter_bit, with_letters, selection_of, selection_text}
@@ -49,9 +48,9 @@ no_query = refl
 
 pub base64_other : (t : List ℕ) → IsUtf8 t → pointwise nat_eq (base64_text t) (codes "?") ≡ false
 base64_other t h =
-    elim (bool_cases (pointwise nat_eq (base64_text t) (codes "?"))) [
+    elim (cases_Bool (pointwise nat_eq (base64_text t) (codes "?"))) [
       | inl held ↦
-          let none : Some t ≡ None = sym (base64_back t h) ∙ ap base64_text_of (same_texts (base64_text t) (codes "?") held) ∙ no_query in
+          let none : Some t ≡ None = sym (base64_back t h) ∙ ap base64_text_of (same_text (base64_text t) (codes "?") (sym held)) ∙ no_query in
           absurd cc
       | inr failed ↦ failed
     ]
@@ -74,7 +73,7 @@ letter_named : (b c : ℕ) (ls : List (ℕ × ℕ)) → all_named b ls ≡ true 
 letter_named b c [] h k = absurd cc
 letter_named b c (l ∷ ls) h k =
     let q = and_parts (is_named (bit_or b l.0)) (all_named b ls) h in
-    elim (bool_cases (c == l.1)) [
+    elim (cases_Bool (c == l.1)) [
       | inl held ↦ rw held q.0
       | inr failed ↦ rw failed (letter_named b c ls q.1 (rw failed at k))
     ]
@@ -94,7 +93,7 @@ one_letter b c even most other =
 more_letters : (b : ℕ) (cs : List ℕ) → IsNamed b → Where IsNamed (with_letters b cs)
 more_letters b [] h = h
 more_letters b (c ∷ cs) h =
-    elim (bool_cases (letter_bit c == 0)) [
+    elim (cases_Bool (letter_bit c == 0)) [
       | inl held ↦ rw held tt
       | inr failed ↦ rw failed (more_letters (bit_or b (letter_bit c)) cs (one_letter b c h.0 h.2 failed))
     ]
@@ -102,7 +101,7 @@ more_letters b (c ∷ cs) h =
 pub selection_named : (t : List ℕ) → Where IsNamed (selection_of t)
 selection_named [] = (refl, omega arith, omega arith)
 selection_named (c ∷ cs) =
-    elim (bool_cases (letter_bit c == 0)) [
+    elim (cases_Bool (letter_bit c == 0)) [
       | inl held ↦ rw held tt
       | inr failed ↦ rw failed (more_letters (bit_or 0 (letter_bit c)) cs (one_letter 0 c refl (omega arith) failed))
     ]

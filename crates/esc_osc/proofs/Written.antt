@@ -47,7 +47,7 @@ written_back A c w =
     ∙ ap (meaning {A = A}) (parts_text (code_text w.code ∷ w.args) (written_parts w.code w.args w.clear)).1
     ∙ ap (λ r. unwrap_or r (command.Unspecified (code_text w.code ∷ w.args))) (code_means w.code w.args ∙ w.reads)
 
--- one part behind the code, and two
+-- one part after the code, and two
 pub one_written : (k : OperatingSystemCommandCode) (t : List ℕ) → titled k t ≡ joined (code_text k ∷ t ∷ [])
 one_written k t = ap (λ x. code_text k ++ 0x3b ∷ x) (sym (append-nil t))
 

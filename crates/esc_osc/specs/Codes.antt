@@ -1,6 +1,7 @@
 -- The codes of commands and their texts.
-use Rattle.std.specs.Prelude.{ℕ, nat_eq, nat_le, ◌&&◌, if◌then◌else◌, List, [], ◌∷◌, take, slice_index, codes, Option, Some, None}
+use Rattle.std.specs.Prelude.{ℕ, ◌-◌, ◌==◌, nat_eq, nat_le, ◌&&◌, if◌then◌else◌, List, [], ◌∷◌, take, slice_index, codes, Option, Some, None}
 use Rattle.std.specs.Cmp.Lexicographic.{pointwise}
+use Rattle.esc_below.specs.Scalars.{and_then, number_of}
 use Rattle.esc_osc.specs.declared.code.OperatingSystemCommandCode.{OperatingSystemCommandCode}
 use Rattle.esc_osc.specs.declared.code.OperatingSystemCommandCode.TheVariants as code
 use Rattle.esc_osc.specs.declared.dynamic_color_number.DynamicColorNumber.{DynamicColorNumber}
@@ -75,12 +76,40 @@ first_named (c ∷ cs) t = if pointwise nat_eq t (code_text c) then Some c else 
 unfoldable pub code_of : List ℕ → Option OperatingSystemCommandCode
 code_of t = first_named all_codes t
 
--- the text that names the code, of the first part's lossy text t and the parts behind it: t, or its first
--- character where t stands alone and begins with no ASCII digit. A code that is no number is one ASCII character, so
+-- the text that names the code, of the first part's lossy text t and the parts after it: t, or its first
+-- character where t is alone and begins with no ASCII digit. A code that is no number is one ASCII character, so
 -- the first byte names what the first character does.
 abbrev pub code_name : List ℕ → List (List ℕ) → List ℕ
 code_name t [] = if nat_le 0x30 (slice_index t 0) && nat_le (slice_index t 0) 0x39 then t else take 1 t
 code_name t (p ∷ ps) = t
+
+-- the number of a dynamic colour, that of the code which changes it
+abbrev pub color_number : DynamicColorNumber → ℕ
+color_number color.TextForegroundColor = 10
+color_number color.TextBackgroundColor = 11
+color_number color.TextCursorColor = 12
+color_number color.MouseForegroundColor = 13
+color_number color.MouseBackgroundColor = 14
+color_number color.TektronixForegroundColor = 15
+color_number color.TektronixBackgroundColor = 16
+color_number color.HighlightBackgroundColor = 17
+color_number color.TektronixCursorColor = 18
+color_number color.HighlightForegroundColor = 19
+
+-- the dynamic colours
+abbrev pub all_colors : List DynamicColorNumber
+all_colors = color.TextForegroundColor ∷ color.TextBackgroundColor ∷ color.TextCursorColor ∷ color.MouseForegroundColor ∷
+    color.MouseBackgroundColor ∷ color.TektronixForegroundColor ∷ color.TektronixBackgroundColor ∷
+    color.HighlightBackgroundColor ∷ color.TektronixCursorColor ∷ color.HighlightForegroundColor ∷ []
+
+-- the first of these colours that has the number n
+abbrev pub first_numbered : List DynamicColorNumber → ℕ → Option DynamicColorNumber
+first_numbered [] n = None
+first_numbered (c ∷ cs) n = if n == color_number c then Some c else first_numbered cs n
+
+-- the dynamic colour whose number is n
+abbrev pub color_of : ℕ → Option DynamicColorNumber
+color_of n = first_numbered all_colors n
 
 -- the code that changes a dynamic colour
 abbrev pub change_code : DynamicColorNumber → OperatingSystemCommandCode
@@ -108,30 +137,10 @@ reset_code color.HighlightBackgroundColor = code.ResetHighlightColor
 reset_code color.TektronixCursorColor = code.ResetTektronixCursorColor
 reset_code color.HighlightForegroundColor = code.ResetHighlightForegroundColor
 
--- the dynamic colour that a code changes
+-- the dynamic colour that a code changes: that of its number
 abbrev pub changed_by : OperatingSystemCommandCode → Option DynamicColorNumber
-changed_by code.SetTextForegroundColor = Some color.TextForegroundColor
-changed_by code.SetTextBackgroundColor = Some color.TextBackgroundColor
-changed_by code.SetTextCursorColor = Some color.TextCursorColor
-changed_by code.SetMouseForegroundColor = Some color.MouseForegroundColor
-changed_by code.SetMouseBackgroundColor = Some color.MouseBackgroundColor
-changed_by code.SetTektronixForegroundColor = Some color.TektronixForegroundColor
-changed_by code.SetTektronixBackgroundColor = Some color.TektronixBackgroundColor
-changed_by code.SetHighlightBackgroundColor = Some color.HighlightBackgroundColor
-changed_by code.SetTektronixCursorColor = Some color.TektronixCursorColor
-changed_by code.SetHighlightForegroundColor = Some color.HighlightForegroundColor
-changed_by c = None
+changed_by c = and_then (number_of 8 (code_text c)) color_of
 
--- the dynamic colour that a code resets
+-- the dynamic colour that a code resets: that of its number less 100
 abbrev pub reset_by : OperatingSystemCommandCode → Option DynamicColorNumber
-reset_by code.ResetTextForegroundColor = Some color.TextForegroundColor
-reset_by code.ResetTextBackgroundColor = Some color.TextBackgroundColor
-reset_by code.ResetTextCursorColor = Some color.TextCursorColor
-reset_by code.ResetMouseForegroundColor = Some color.MouseForegroundColor
-reset_by code.ResetMouseBackgroundColor = Some color.MouseBackgroundColor
-reset_by code.ResetTektronixForegroundColor = Some color.TektronixForegroundColor
-reset_by code.ResetTektronixBackgroundColor = Some color.TektronixBackgroundColor
-reset_by code.ResetHighlightColor = Some color.HighlightBackgroundColor
-reset_by code.ResetTektronixCursorColor = Some color.TektronixCursorColor
-reset_by code.ResetHighlightForegroundColor = Some color.HighlightForegroundColor
-reset_by c = None
+reset_by c = and_then (number_of 8 (code_text c)) (λ n. color_of (n - 100))

@@ -1,5 +1,6 @@
 -- Colours: how they are read and written.
-use Rattle.std.specs.Prelude.{ℕ, ◌-◌, ◌*◌, ◌/◌, ◌%◌, ◌^◌, ◌+◌, ◌==◌, nat_lt, nat_le, nat_eq, ◌&&◌, false, if◌then◌else◌, List, [], ◌∷◌, ◌++◌, length, take, drop, codes, Option, Some, None}
+use Rattle.std.specs.Prelude.{ℕ, ◌-◌, ◌*◌, ◌/◌, ◌%◌, ◌^◌, ◌+◌, ◌==◌, nat_lt, nat_le, nat_eq, ◌&&◌, false, if◌then◌else◌, List, [], ◌∷◌, ◌++◌, length}
+use Rattle.std.specs.Prelude.{take, drop, codes, Option, Some, None}
 use Rattle.std.specs.Char.{digit_value}
 use Rattle.std.specs.Cmp.Lexicographic.{pointwise}
 use Rattle.std.specs.Fmt.{digit_glyph, decimal}
@@ -41,7 +42,9 @@ channel_of ds = if nat_lt 0 (length ds) && nat_le (length ds) 4
 
 -- three channels
 abbrev pub color_from : List ℕ → List ℕ → List ℕ → Option ColorOrQuery
-color_from r g b = and_then (channel_of r) (λ red. and_then (channel_of g) (λ green. option_map (λ blue. Color (record { red = red; green = green; blue = blue })) (channel_of b)))
+color_from r g b =
+    and_then (channel_of r)
+    (λ red. and_then (channel_of g) (λ green. option_map (λ blue. Color (record { red = red; green = green; blue = blue })) (channel_of b)))
 
 -- channels with `/` between them
 abbrev pub rgb_of : List ℕ → Option ColorOrQuery

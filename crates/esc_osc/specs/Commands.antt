@@ -1,5 +1,5 @@
 -- The text of a command.
-use Rattle.std.specs.Prelude.{ℕ, List, [], ◌∷◌, ◌++◌, codes}
+use Rattle.std.specs.Prelude.{ℕ, ◌≡◌, ◌⊎◌, Bool, true, false, List, [], ◌∷◌, ◌++◌, codes, Option, Some, None}
 use Rattle.std.specs.Fmt.{decimal}
 use Rattle.std.specs.List.{flat_map}
 use Rattle.std.specs.Str.Lossy.{utf8_lossy}
@@ -26,11 +26,11 @@ joined_by f (x ∷ xs) = f x ++ flat_map (λ y. 0x3b ∷ f y) xs
 abbrev pub titled : OperatingSystemCommandCode → List ℕ → List ℕ
 titled c t = code_text c ++ 0x3b ∷ t
 
--- a code and items, each behind a `;`
+-- a code and items, each after a `;`
 abbrev pub listed : {X : Type 0} → OperatingSystemCommandCode → (X → List ℕ) → List X → List ℕ
 listed c f xs = code_text c ++ flat_map (λ x. 0x3b ∷ f x) xs
 
--- what stands between `ESC ]` and the terminator
+-- what comes between `ESC ]` and the terminator
 abbrev pub inner_text : {A : Type 0} → OperatingSystemCommand A → List ℕ
 inner_text (command.SetIconNameAndWindowTitle t) = titled code.SetIconNameAndWindowTitle t
 inner_text (command.SetIconName t) = titled code.SetIconName t
@@ -52,6 +52,44 @@ inner_text (command.ResetColors ns) = listed code.ResetColors decimal ns
 inner_text (command.RxvtExtension ts) = listed code.RxvtProprietary (λ t. t) ts
 inner_text (command.ConEmuProgress p) = titled code.SystemNotification (progress_text p)
 inner_text (command.Unspecified ps) = joined_by utf8_lossy ps
+
+-- a code whose text the title follows at once
+abbrev pub IsLetter : OperatingSystemCommandCode → Type 0
+IsLetter c = (c ≡ code.SetWindowTitleSun) ⊎ (c ≡ code.SetIconNameSun)
+
+-- a text is written under a code: it is that of the code, alone, before a `;`, or before the title of a letter
+abbrev pub IsUnder : OperatingSystemCommandCode → List ℕ → Type 0
+IsUnder c t = (t ≡ code_text c)
+    ⊎ (((rest : List ℕ) × (t ≡ titled c rest))
+    ⊎ (IsLetter c × ((rest : List ℕ) × (t ≡ code_text c ++ rest))))
+
+-- parts that are kept as they are
+abbrev pub is_unspecified : {A : Type 0} → OperatingSystemCommand A → Bool
+is_unspecified (command.Unspecified ps) = true
+is_unspecified c = false
+
+-- the code under which each command is written
+abbrev pub code_under : {A : Type 0} → OperatingSystemCommand A → Option OperatingSystemCommandCode
+code_under (command.SetIconNameAndWindowTitle t) = Some code.SetIconNameAndWindowTitle
+code_under (command.SetIconName t) = Some code.SetIconName
+code_under (command.SetWindowTitle t) = Some code.SetWindowTitle
+code_under (command.SetWindowTitleSun t) = Some code.SetWindowTitleSun
+code_under (command.SetIconNameSun t) = Some code.SetIconNameSun
+code_under (command.SetHyperlink h) = Some code.SetHyperlink
+code_under (command.ClearSelection s) = Some code.ManipulateSelectionData
+code_under (command.QuerySelection s) = Some code.ManipulateSelectionData
+code_under (command.SetSelection s t) = Some code.ManipulateSelectionData
+code_under (command.SystemNotification t) = Some code.SystemNotification
+code_under (command.ITermProprietary c) = Some code.ITermProprietary
+code_under (command.FinalTermSemanticPrompt p) = Some code.FinalTermSemanticPrompt
+code_under (command.ChangeColorNumber ps) = Some code.ChangeColorNumber
+code_under (command.ChangeDynamicColors n cs) = Some (change_code n)
+code_under (command.ResetDynamicColor n) = Some (reset_code n)
+code_under (command.CurrentWorkingDirectory t) = Some code.SetCurrentWorkingDirectory
+code_under (command.ResetColors ns) = Some code.ResetColors
+code_under (command.RxvtExtension ts) = Some code.RxvtProprietary
+code_under (command.ConEmuProgress p) = Some code.SystemNotification
+code_under (command.Unspecified ps) = None
 
 -- the whole text of a command
 abbrev pub command_text : {A : Type 0} → OperatingSystemCommand A → List ℕ

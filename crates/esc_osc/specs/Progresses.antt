@@ -16,7 +16,7 @@ abbrev pub percent_of : List (List ℕ) → ℕ
 percent_of [] = 0
 percent_of (p ∷ ps) = held (unwrap_or (number_of 8 p) 0)
 
--- the progress that a state names, with the parts behind it
+-- the progress that a state names, with the parts after it
 abbrev pub state_of : List ℕ → List (List ℕ) → Option Progress
 state_of s more = if pointwise nat_eq s (codes "0") then Some progress.None
     else if pointwise nat_eq s (codes "1") then Some (progress.SetPercentage (percent_of more))
@@ -25,12 +25,12 @@ state_of s more = if pointwise nat_eq s (codes "0") then Some progress.None
     else if pointwise nat_eq s (codes "4") then Some progress.Paused
     else None
 
--- the progress behind a first part `4`
+-- the progress after a first part `4`
 abbrev pub progress_of : List (List ℕ) → Option Progress
 progress_of (a ∷ s ∷ more) = if pointwise nat_eq a (codes "4") then state_of s more else None
 progress_of args = None
 
--- what is written of it, behind the code
+-- what is written of it, after the code
 abbrev pub progress_text : Progress → List ℕ
 progress_text progress.None = codes "4;0"
 progress_text (progress.SetPercentage n) = codes "4;1;" ++ decimal n

@@ -63,7 +63,7 @@ dynamic (Some n) r args = option_map (command.ChangeDynamicColors n) (colors_of 
 dynamic None (Some n) args = Some (command.ResetDynamicColor n)
 dynamic None None args = None
 
--- what a code makes of the lossy text of the first part and the parts behind it, one line a code; none where they
+-- what a code makes of the lossy text of the first part and the parts after it, one line a code; none where they
 -- do not fit it
 abbrev pub reading : {A : Type 0} → OperatingSystemCommandCode → List ℕ → List (List ℕ) → Option (OperatingSystemCommand A)
 reading code.SetIconNameAndWindowTitle t args = option_map command.SetIconNameAndWindowTitle (title_of args)
@@ -82,7 +82,7 @@ reading code.ITermProprietary t args = option_map command.ITermProprietary (iter
 reading code.RxvtProprietary t args = Some (command.RxvtExtension (map utf8_lossy args))
 reading c t args = dynamic (changed_by c) (reset_by c) args
 
--- what the code that the first part's lossy text names makes of the parts behind it
+-- what the code that the first part's lossy text names makes of the parts after it
 abbrev pub named : {A : Type 0} → List ℕ → List (List ℕ) → Option (OperatingSystemCommand A)
 named t args = and_then (code_of (code_name t args)) (λ c. reading c t args)
 

@@ -3,8 +3,8 @@ ghost use Rattle.std.specs.Prelude.{◌≡◌, ◌≢◌, MatchOption};
 ghost use Rattle.esc_osc.specs.Codes.{code_text};
 ghost use Rattle.esc_osc.specs.declared.code.OperatingSystemCommandCode.{OperatingSystemCommandCode};
 
-/// What an operating system command asks for, as its first part tells it (xterm's list of control sequences,
-/// "Operating System Commands").
+/// What an operating system command asks for, which its first part says (xterm's list of control sequences,
+/// "Operating System Commands", <https://invisible-island.net/xterm/ctlseqs/ctlseqs.html>).
 #[derive(Clone, Copy, Debug, PartialEq, Eq, Hash)]
 pub enum OperatingSystemCommandCode {
     /// 0: the name of the icon and the title of the window.
@@ -92,12 +92,12 @@ pub enum OperatingSystemCommandCode {
 }
 
 impl OperatingSystemCommandCode {
-    /// The code whose text this is; none where it is the text of no code. The text is compared as it stands, so
-    /// `02` is no code.
+    /// The code whose text this is; none where it is the text of no code. The texts are compared byte by
+    /// byte, so `02` is no code.
     pub fn from_code(code: &str) -> Option<OperatingSystemCommandCode>
         ensures { MatchOption result ((c : OperatingSystemCommandCode) → code.now ≢ code_text c) (λ c. code.now ≡ code_text c) }
     {
-        // The texts are compared in turn, so those that come most stand first.
+        // The texts are compared in turn, so those that come most are first.
         match code {
             "0" => Some(OperatingSystemCommandCode::SetIconNameAndWindowTitle),
             "2" => Some(OperatingSystemCommandCode::SetWindowTitle),

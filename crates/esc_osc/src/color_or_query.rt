@@ -15,7 +15,7 @@ pub enum ColorOrQuery {
 }
 
 /// Writes `rgb:` and the three channels with `/` between them, each of four lower-case hexadecimal digits, or `?`.
-/// Takes no memory, and errs only where the writer behind the formatter errs.
+/// Where it returns `Ok`, all of it was written.
 impl fmt::Display for ColorOrQuery {
     ghost output = { λ c. Some (spec_text c) };
 

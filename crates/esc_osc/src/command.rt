@@ -1,5 +1,9 @@
-//! Operating system commands.
+//! Operating system commands (<https://invisible-island.net/xterm/ctlseqs/ctlseqs.html>).
+ghost use Rattle.std.specs.Prelude.{◌≡◌, IfSome, is_none};
+ghost use Rattle.esc_osc.specs.Commands.{code_under, inner_text, is_unspecified, IsUnder};
+
 use crate::change_color_pair::ChangeColorPair;
+use crate::code::OperatingSystemCommandCode;
 use crate::color_or_query::ColorOrQuery;
 use crate::dynamic_color_number::DynamicColorNumber;
 use crate::progress::Progress;
@@ -9,8 +13,8 @@ use esc_iterm::ITermProprietary;
 use esc_prompts::FinalTermSemanticPrompt;
 use std::alloc::{Allocator, Global};
 
-/// An operating system command: a control string between `ESC ]` and a string terminator, whose parts stand
-/// between `;` (xterm's list of control sequences, "Operating System Commands").
+/// An operating system command: a control string between `ESC ]` and a string terminator, whose parts have `;`
+/// between them (xterm's list of control sequences, "Operating System Commands").
 #[derive(Drop)]
 #[derive_where(Debug, PartialEq)]
 pub enum OperatingSystemCommand<A: Allocator = Global> {
@@ -40,11 +44,11 @@ pub enum OperatingSystemCommand<A: Allocator = Global> {
     FinalTermSemanticPrompt(FinalTermSemanticPrompt<A>),
     /// Code 4: changes colours of the palette, or asks for them.
     ChangeColorNumber(Items<ChangeColorPair, A>),
-    /// Codes 10 to 19: changes this dynamic colour and those behind it, or asks for them, one a colour.
+    /// Codes 10 to 19: changes this dynamic colour and those after it, or asks for them, one a colour.
     ChangeDynamicColors(DynamicColorNumber, Items<ColorOrQuery, A>),
     /// Codes 110 to 119: resets a dynamic colour.
     ResetDynamicColor(DynamicColorNumber),
-    /// Code 7: tells the directory that the shell works in.
+    /// Code 7: the directory that the shell works in.
     CurrentWorkingDirectory(Text<A>),
     /// Code 104: resets these colours of the palette; all of them where none is named.
     ResetColors(Items<u8, A>),
@@ -54,4 +58,52 @@ pub enum OperatingSystemCommand<A: Allocator = Global> {
     ConEmuProgress(Progress),
     /// Any other command, as its parts.
     Unspecified(Items<Items<u8, A>, A>),
+}
+
+impl<A: Allocator> OperatingSystemCommand<A> {
+    /// The code that its text is written under; none where it is `Unspecified`, whose parts may have any.
+    pub fn code(&self) -> Option<OperatingSystemCommandCode>
+        ensures under { IfSome result (λ c. IsUnder c (inner_text self.now)) }
+        ensures none { is_none result ≡ is_unspecified self.now }
+    {
+        code_under(self)
+    }
+}
+
+// The code under which a command is written.
+fn code_under<A: Allocator>(
+    command: &OperatingSystemCommand<A>,
+) -> Option<OperatingSystemCommandCode>
+    ensures code { result ≡ code_under command.now }
+    ensures none { is_none result ≡ is_unspecified command.now }
+{
+    let code = match command {
+        OperatingSystemCommand::SetIconNameAndWindowTitle(_) =>
+            OperatingSystemCommandCode::SetIconNameAndWindowTitle,
+        OperatingSystemCommand::SetWindowTitle(_) => OperatingSystemCommandCode::SetWindowTitle,
+        OperatingSystemCommand::SetWindowTitleSun(_) =>
+            OperatingSystemCommandCode::SetWindowTitleSun,
+        OperatingSystemCommand::SetIconName(_) => OperatingSystemCommandCode::SetIconName,
+        OperatingSystemCommand::SetIconNameSun(_) => OperatingSystemCommandCode::SetIconNameSun,
+        OperatingSystemCommand::SetHyperlink(_) => OperatingSystemCommandCode::SetHyperlink,
+        OperatingSystemCommand::ClearSelection(_)
+        | OperatingSystemCommand::QuerySelection(_)
+        | OperatingSystemCommand::SetSelection(_, _) =>
+            OperatingSystemCommandCode::ManipulateSelectionData,
+        OperatingSystemCommand::SystemNotification(_) | OperatingSystemCommand::ConEmuProgress(_) =>
+            OperatingSystemCommandCode::SystemNotification,
+        OperatingSystemCommand::ITermProprietary(_) => OperatingSystemCommandCode::ITermProprietary,
+        OperatingSystemCommand::FinalTermSemanticPrompt(_) =>
+            OperatingSystemCommandCode::FinalTermSemanticPrompt,
+        OperatingSystemCommand::ChangeColorNumber(_) =>
+            OperatingSystemCommandCode::ChangeColorNumber,
+        OperatingSystemCommand::ChangeDynamicColors(number, _) => number.change_code(),
+        OperatingSystemCommand::ResetDynamicColor(number) => number.reset_code(),
+        OperatingSystemCommand::CurrentWorkingDirectory(_) =>
+            OperatingSystemCommandCode::SetCurrentWorkingDirectory,
+        OperatingSystemCommand::ResetColors(_) => OperatingSystemCommandCode::ResetColors,
+        OperatingSystemCommand::RxvtExtension(_) => OperatingSystemCommandCode::RxvtProprietary,
+        OperatingSystemCommand::Unspecified(_) => return None,
+    };
+    Some(code)
 }

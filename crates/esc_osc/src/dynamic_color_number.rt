@@ -1,11 +1,12 @@
-//! The dynamic colours.
-ghost use Rattle.std.specs.Prelude.{◌≡◌};
-ghost use Rattle.esc_osc.specs.Codes.{change_code, changed_by, reset_by, reset_code};
+//! The dynamic colours (<https://invisible-island.net/xterm/ctlseqs/ctlseqs.html>, codes 10 to 19 and 110 to 119).
+ghost use Rattle.std.specs.Prelude.{◌≡◌, ◌+◌};
+ghost use Rattle.esc_osc.specs.Codes.{change_code, changed_by, color_number, color_of, reset_by, reset_code};
 
 use crate::code::OperatingSystemCommandCode;
+use esc_below::scalar::read_u8;
 
 /// A colour that a program may change, ask for and reset (xterm's list of control sequences, "VT100 text colors" and
-/// on, `Ps` 10 to 19). `as u8` gives its number, that of the code which changes it.
+/// on, `Ps` 10 to 19). Its number is that of the code which changes it.
 #[derive(Clone, Copy, Debug, PartialEq, Eq)]
 pub enum DynamicColorNumber {
     /// The colour of the foreground of text.
@@ -31,6 +32,39 @@ pub enum DynamicColorNumber {
 }
 
 impl DynamicColorNumber {
+    /// Its number, from 10 to 19.
+    pub fn number(self) -> u8
+        ensures { result ≡ color_number self }
+    {
+        self as u8
+    }
+
+    /// The colour of this number; none where the number is not one of 10 to 19.
+    pub fn from_number(number: u8) -> Option<DynamicColorNumber>
+        ensures { result ≡ color_of number }
+    {
+        match number {
+            10 => Some(DynamicColorNumber::TextForegroundColor),
+            11 => Some(DynamicColorNumber::TextBackgroundColor),
+            12 => Some(DynamicColorNumber::TextCursorColor),
+            13 => Some(DynamicColorNumber::MouseForegroundColor),
+            14 => Some(DynamicColorNumber::MouseBackgroundColor),
+            15 => Some(DynamicColorNumber::TektronixForegroundColor),
+            16 => Some(DynamicColorNumber::TektronixBackgroundColor),
+            17 => Some(DynamicColorNumber::HighlightBackgroundColor),
+            18 => Some(DynamicColorNumber::TektronixCursorColor),
+            19 => Some(DynamicColorNumber::HighlightForegroundColor),
+            _ => None,
+        }
+    }
+
+    /// The colour of the next number, which a command with several colours changes next; none after the last, 19.
+    pub fn next(self) -> Option<DynamicColorNumber>
+        ensures { result ≡ color_of (color_number self + 1) }
+    {
+        DynamicColorNumber::from_number(self.number() + 1)
+    }
+
     // The code that changes this colour.
     pub(crate) fn change_code(self) -> OperatingSystemCommandCode
         ensures { result ≡ change_code self }
@@ -89,77 +123,15 @@ impl DynamicColorNumber {
     pub(crate) fn changed_by(code: OperatingSystemCommandCode) -> Option<DynamicColorNumber>
         ensures { result ≡ changed_by code }
     {
-        match code {
-            OperatingSystemCommandCode::SetTextForegroundColor => Some(
-                DynamicColorNumber::TextForegroundColor,
-            ),
-            OperatingSystemCommandCode::SetTextBackgroundColor => Some(
-                DynamicColorNumber::TextBackgroundColor,
-            ),
-            OperatingSystemCommandCode::SetTextCursorColor => Some(
-                DynamicColorNumber::TextCursorColor,
-            ),
-            OperatingSystemCommandCode::SetMouseForegroundColor => Some(
-                DynamicColorNumber::MouseForegroundColor,
-            ),
-            OperatingSystemCommandCode::SetMouseBackgroundColor => Some(
-                DynamicColorNumber::MouseBackgroundColor,
-            ),
-            OperatingSystemCommandCode::SetTektronixForegroundColor => Some(
-                DynamicColorNumber::TektronixForegroundColor,
-            ),
-            OperatingSystemCommandCode::SetTektronixBackgroundColor => Some(
-                DynamicColorNumber::TektronixBackgroundColor,
-            ),
-            OperatingSystemCommandCode::SetHighlightBackgroundColor => Some(
-                DynamicColorNumber::HighlightBackgroundColor,
-            ),
-            OperatingSystemCommandCode::SetTektronixCursorColor => Some(
-                DynamicColorNumber::TektronixCursorColor,
-            ),
-            OperatingSystemCommandCode::SetHighlightForegroundColor => Some(
-                DynamicColorNumber::HighlightForegroundColor,
-            ),
-            _ => None,
-        }
+        let number = read_u8(code.as_code().as_bytes())?;
+        DynamicColorNumber::from_number(number)
     }
 
     // The colour that a code resets.
     pub(crate) fn reset_by(code: OperatingSystemCommandCode) -> Option<DynamicColorNumber>
         ensures { result ≡ reset_by code }
     {
-        match code {
-            OperatingSystemCommandCode::ResetTextForegroundColor => Some(
-                DynamicColorNumber::TextForegroundColor,
-            ),
-            OperatingSystemCommandCode::ResetTextBackgroundColor => Some(
-                DynamicColorNumber::TextBackgroundColor,
-            ),
-            OperatingSystemCommandCode::ResetTextCursorColor => Some(
-                DynamicColorNumber::TextCursorColor,
-            ),
-            OperatingSystemCommandCode::ResetMouseForegroundColor => Some(
-                DynamicColorNumber::MouseForegroundColor,
-            ),
-            OperatingSystemCommandCode::ResetMouseBackgroundColor => Some(
-                DynamicColorNumber::MouseBackgroundColor,
-            ),
-            OperatingSystemCommandCode::ResetTektronixForegroundColor => Some(
-                DynamicColorNumber::TektronixForegroundColor,
-            ),
-            OperatingSystemCommandCode::ResetTektronixBackgroundColor => Some(
-                DynamicColorNumber::TektronixBackgroundColor,
-            ),
-            OperatingSystemCommandCode::ResetHighlightColor => Some(
-                DynamicColorNumber::HighlightBackgroundColor,
-            ),
-            OperatingSystemCommandCode::ResetTektronixCursorColor => Some(
-                DynamicColorNumber::TektronixCursorColor,
-            ),
-            OperatingSystemCommandCode::ResetHighlightForegroundColor => Some(
-                DynamicColorNumber::HighlightForegroundColor,
-            ),
-            _ => None,
-        }
+        let number = read_u8(code.as_code().as_bytes())?;
+        DynamicColorNumber::from_number(number.saturating_sub(100))
     }
 }

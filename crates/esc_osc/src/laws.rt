@@ -30,9 +30,9 @@ pub fn clear_is_writable<A: Allocator>()
     ensures { (ps : List (List ℕ)) → AreTextParts ps → IsWritable {A = A} (meaning {A = A} ps) }
 {}
 
-/// A dynamic colour, `as u8`, is the number that the code which changes it writes, from 10 to 19.
+/// The number of a dynamic colour is the one that the code which changes it writes, from 10 to 19.
 pub fn number_of_color(color: DynamicColorNumber) -> u8
     ensures { decimal result ≡ code_text (change_code color) }
 {
-    color as u8
+    color.number()
 }

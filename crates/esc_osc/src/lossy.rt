@@ -5,8 +5,8 @@ ghost use Rattle.std.specs.Str.Lossy.{utf8_lossy};
 use std::fmt;
 
 /// Bytes that print as their lossy text: each well-formed sequence of UTF-8 is its character, and each longest
-/// proper front of one that is not continued, and each other byte, is U+FFFD (Unicode, Table 3-7 and "U+FFFD
-/// Substitution of Maximal Subparts"). Takes no memory.
+/// proper prefix of one that is not continued, and each other byte, is U+FFFD (Unicode, Table 3-7 and "U+FFFD
+/// Substitution of Maximal Subparts").
 #[derive(Clone, Copy)]
 pub struct Lossy<'a>(pub &'a [u8]);
 

@@ -51,7 +51,7 @@ fn read_fitting<A: Allocator + Copy>(
     read_lossy(alloc, first, args)
 }
 
-// What the code that the first part names makes of the parts behind it. A part that is UTF-8 is its own lossy text.
+// What the code that the first part names makes of the parts after it. A part that is UTF-8 is its own lossy text.
 fn read_lossy<A: Allocator + Copy>(
     alloc: A,
     first: &[u8],
@@ -68,7 +68,7 @@ fn read_lossy<A: Allocator + Copy>(
     }
 }
 
-// What the code of this text makes of the parts behind it.
+// What the code of this text makes of the parts after it.
 fn read_named<A: Allocator + Copy>(
     alloc: A,
     first: &str,
@@ -82,7 +82,7 @@ fn read_named<A: Allocator + Copy>(
     }
 }
 
-// The code that the lossy text of the first part names, by whether it stands alone.
+// The code that the lossy text of the first part names, by whether it is alone.
 fn code_in(first: &str, args: &[&[u8]]) -> Option<OperatingSystemCommandCode>
     ensures { result ≡ code_of (code_name first.now (map (λ p. p.now) args.now)) }
 {
@@ -112,7 +112,7 @@ fn code_alone(first: &str) -> Option<OperatingSystemCommandCode>
     None
 }
 
-// What the code makes of the lossy text of the first part and the parts behind it.
+// What the code makes of the lossy text of the first part and the parts after it.
 fn read_by_code<A: Allocator + Copy>(
     alloc: A,
     code: OperatingSystemCommandCode,
@@ -189,7 +189,7 @@ fn without_first<A: Allocator>(alloc: A, text: &str) -> Result<Option<Text<A>>, 
     Ok(text_of(Vec::from_slice(alloc, rest)?))
 }
 
-// The link behind the code, where there is one.
+// The link after the code, where there is one.
 fn read_link<A: Allocator + Copy>(
     alloc: A,
     args: &[&[u8]],

@@ -1,4 +1,4 @@
-//! The progress of a task.
+//! The progress of a task (<https://conemu.github.io/en/AnsiEscapeCodes.html#ConEmu_specific_OSC>).
 
 /// The progress of a task, as ConEmu shows it (its "ANSI X3.64 and Xterm 256 colors", OSC 9;4).
 #[derive(Clone, Debug, Drop, PartialEq, Eq)]

@@ -5,7 +5,7 @@ ghost use Rattle.esc_osc.specs.Progresses.{percent_of, progress_of, state_of};
 use crate::progress::Progress;
 use esc_below::scalar::read_u8;
 
-// The progress that the parts behind the code tell, where they begin with `4` and a state.
+// The progress that the parts after the code give, where they begin with `4` and a state.
 pub(crate) fn read_progress(args: &[&[u8]]) -> Option<Progress>
     ensures { result ≡ progress_of (map (λ p. p.now) args.now) }
 {
@@ -22,7 +22,7 @@ pub(crate) fn read_progress(args: &[&[u8]]) -> Option<Progress>
     }
 }
 
-// The progress of a state and the parts behind it.
+// The progress of a state and the parts after it.
 fn read_state(state: &[u8], more: &[&[u8]]) -> Option<Progress>
     ensures { result ≡ state_of state.now (map (λ p. p.now) more.now) }
 {

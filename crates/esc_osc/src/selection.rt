@@ -1,4 +1,4 @@
-//! Selections.
+//! Selections (<https://invisible-island.net/xterm/ctlseqs/ctlseqs.html>, code 52).
 ghost use Rattle.std.specs.Prelude.{⊤, ◌≡◌, ◌==◌, not, if◌then◌else◌, [], ◌∷◌, codes, Some, None, bit_and, bit_or, bit_xor};
 ghost use Rattle.esc_osc.specs.Selections.{lacking, letter_bit, named_bits};
 
@@ -10,7 +10,7 @@ use std::ops::{
 
 /// Which selections, as a set of bits (xterm's list of control sequences, "Manipulate Selection Data"): the clipboard,
 /// the primary selection, the one that is configured, and the cut buffers 0 to 9. These are the named bits; a value
-/// may hold others too. No call takes memory.
+/// may hold others too.
 #[derive(Clone, Copy, PartialEq, Eq, Debug)]
 pub struct Selection(u16);
 
@@ -123,7 +123,9 @@ impl Flags for Selection {
 
     ghost exact = { ⊤ };
 
-    ghost table = { (codes "NONE", 0) ∷ (codes "CLIPBOARD", 2) ∷ (codes "PRIMARY", 4) ∷ (codes "SELECT", 8) ∷ (codes "CUT0", 16) ∷ (codes "CUT1", 32) ∷ (codes "CUT2", 64) ∷ (codes "CUT3", 128) ∷ (codes "CUT4", 256) ∷ (codes "CUT5", 512) ∷ (codes "CUT6", 1024) ∷ (codes "CUT7", 2048) ∷ (codes "CUT8", 4096) ∷ (codes "CUT9", 8192) ∷ [] };
+    ghost table = { (codes "NONE", 0) ∷ (codes "CLIPBOARD", 2) ∷ (codes "PRIMARY", 4) ∷ (codes "SELECT", 8)
+        ∷ (codes "CUT0", 16) ∷ (codes "CUT1", 32) ∷ (codes "CUT2", 64) ∷ (codes "CUT3", 128) ∷ (codes "CUT4", 256)
+        ∷ (codes "CUT5", 512) ∷ (codes "CUT6", 1024) ∷ (codes "CUT7", 2048) ∷ (codes "CUT8", 4096) ∷ (codes "CUT9", 8192) ∷ [] };
 
     ghost set_of = { λ p. p.0 };
 
@@ -388,8 +390,8 @@ const LETTERS: [(u16, char); 13] = [
     (8192, '9'),
 ];
 
-/// Writes the letter of each named bit, in the order `c`, `p`, `s`, `0` to `9`. Takes no memory, and errs only where
-/// the writer behind the formatter errs.
+/// Writes the letter of each named bit, in the order `c`, `p`, `s`, `0` to `9`. Where it returns `Ok`, all
+/// of it was written.
 impl fmt::Display for Selection {
     ghost use Rattle.esc_osc.specs.Selections.{selection_text};
 

@@ -18,7 +18,7 @@ use std::alloc::Allocator;
 use std::fmt;
 
 /// Writes `ESC ]`, the parts of the command with `;` between them, and the string terminator `ESC \`. Bytes that
-/// are no UTF-8 are written as U+FFFD. Takes no memory, and errs only where the writer behind the formatter errs.
+/// are no UTF-8 are written as U+FFFD. Where it returns `Ok`, all of it was written.
 impl<A: Allocator> fmt::Display for OperatingSystemCommand<A> {
     ghost output = { λ c. Some (command_text c) };
 
@@ -29,7 +29,7 @@ impl<A: Allocator> fmt::Display for OperatingSystemCommand<A> {
     }
 }
 
-// What stands between `ESC ]` and the terminator.
+// What comes between `ESC ]` and the terminator.
 fn write_inner<W: fmt::Write, A: Allocator>(
     command: &OperatingSystemCommand<A>,
     f: &mut fmt::Formatter<W>,
@@ -95,7 +95,7 @@ fn write_pairs<W: fmt::Write>(pairs: &[ChangeColorPair], f: &mut fmt::Formatter<
     write_more_pairs(rest, f)
 }
 
-// The pairs, each behind a `;`.
+// The pairs, each after a `;`.
 fn write_more_pairs<W: fmt::Write>(
     rest: &[ChangeColorPair],
     f: &mut fmt::Formatter<W>,
@@ -110,7 +110,7 @@ fn write_more_pairs<W: fmt::Write>(
     Ok(())
 }
 
-// The colours, each behind a `;`.
+// The colours, each after a `;`.
 fn write_colors<W: fmt::Write>(colors: &[ColorOrQuery], f: &mut fmt::Formatter<W>) -> fmt::Result
     ensures { DisplaysOnOk W.write_str_gives f.old result (Some (flat_map (λ c. 0x3b ∷ spec_text c) colors.now)) f.new }
 {
@@ -120,7 +120,7 @@ fn write_colors<W: fmt::Write>(colors: &[ColorOrQuery], f: &mut fmt::Formatter<W
     Ok(())
 }
 
-// The code, and the numbers, each behind a `;`.
+// The code, and the numbers, each after a `;`.
 fn write_numbers<W: fmt::Write>(numbers: &[u8], f: &mut fmt::Formatter<W>) -> fmt::Result
     ensures { DisplaysOnOk W.write_str_gives f.old result (Some (codes "104" ++ flat_map (λ n. 0x3b ∷ decimal n) numbers.now)) f.new }
 {
@@ -131,7 +131,7 @@ fn write_numbers<W: fmt::Write>(numbers: &[u8], f: &mut fmt::Formatter<W>) -> fm
     Ok(())
 }
 
-// The code, and the texts, each behind a `;`.
+// The code, and the texts, each after a `;`.
 fn write_texts<W: fmt::Write, A: Allocator>(
     texts: &[Text<A>],
     f: &mut fmt::Formatter<W>,
@@ -160,7 +160,7 @@ fn write_parts<W: fmt::Write, A: Allocator>(
     write_more_parts(rest, f)
 }
 
-// The lossy texts of the parts, each behind a `;`.
+// The lossy texts of the parts, each after a `;`.
 fn write_more_parts<W: fmt::Write, A: Allocator>(
     rest: &[Items<u8, A>],
     f: &mut fmt::Formatter<W>,

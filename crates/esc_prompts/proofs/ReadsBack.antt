@@ -1,19 +1,20 @@
 -- Every writable prompt reads back.
 use Rattle.std.proofs.Common.{ℕ, ℤ, pos, ◌≡◌, ◌==◌, false, List, [], ◌∷◌, ◌++◌, length, codes, Option, Some, None, refl, sym, ap, ◌∙◌, arith, append_assoc}
 use Rattle.std.specs.Fmt.{signed_decimal}
-use Rattle.std.specs.List.{flat_map}
 use Rattle.std.specs.Option.{option_map, unwrap_or}
 use Rattle.std.proofs.lemmas.Bool.{ne_eqb}
 use Rattle.std.proofs.lemmas.List.{append-nil}
-use Rattle.esc_below.specs.Clear.{IsClearPart, AreClearParts}
+use Rattle.esc_below.proofs.Numerals.{signed_part}
+use Rattle.esc_below.specs.Clear.{separated, IsClearPart, AreClearParts}
 use Rattle.esc_below.specs.Cuts.{Pairs, key_and_value, pairs_in, without_empty}
 use Rattle.esc_below.specs.Scalars.{and_then, IsSigned}
 use Rattle.esc_below.proofs.ClearPairs.{key_back}
 use Rattle.esc_below.proofs.ClearTexts.{part_append}
 use Rattle.esc_below.proofs.PlainParts.{plain_part}
-use Rattle.esc_below.proofs.Signed.{signed_back_32, signed_part, signed_wide}
+use Rattle.esc_below.proofs.Signed.{signed_back_32, signed_wide}
 use Rattle.esc_prompts.specs.Pairs.{KeyValues, last_values}
-use Rattle.esc_prompts.specs.Prompts.{IsAid, IsWritablePrompt, WritesBack, aid_and_click, aid_of, aid_text, click_in, click_text, kind_among, kind_in, status_of}
+use Rattle.esc_prompts.specs.Prompts.{IsAid, IsWritablePrompt, WritesBack, aid_and_click, aid_of, aid_text, click_in, click_text, kind_among, kind_in}
+use Rattle.esc_prompts.specs.Prompts.{status_of}
 use Rattle.esc_prompts.specs.Words.{click_word, kind_word}
 use Rattle.esc_prompts.specs.declared.click.FinalTermClick.{FinalTermClick}
 use Rattle.esc_prompts.specs.declared.click.FinalTermClick.TheVariants as click
@@ -62,29 +63,27 @@ click_all None = tt
 click_all (Some c) = (click_clear c, tt)
 
 -- their text
-abbrev behind : List (List ℕ) → List ℕ
-behind ps = flat_map (λ (q : List ℕ). 0x3b ∷ q) ps
-
-click_joined : (cl : Option FinalTermClick) → click_text cl ≡ behind (click_parts cl)
+click_joined : (cl : Option FinalTermClick) → click_text cl ≡ separated (click_parts cl)
 click_joined None = refl
 click_joined (Some c) = ap (λ t. codes ";cl=" ++ t) (sym (append-nil (click_word c)))
 
-aid_joined : (aid : Option (List ℕ)) (more : List (List ℕ)) → aid_text aid ++ behind more ≡ behind (aid_parts aid more)
+aid_joined : (aid : Option (List ℕ)) (more : List (List ℕ)) → aid_text aid ++ separated more ≡ separated (aid_parts aid more)
 aid_joined None more = refl
 aid_joined (Some a) more = refl
 
-aid_alone : (aid : Option (List ℕ)) → aid_text aid ≡ behind (aid_parts aid [])
+aid_alone : (aid : Option (List ℕ)) → aid_text aid ≡ separated (aid_parts aid [])
 aid_alone None = refl
 aid_alone (Some a) = ap (λ t. codes ";aid=" ++ t) (sym (append-nil a))
 
-both_joined : (aid : Option (List ℕ)) (cl : Option FinalTermClick) → aid_text aid ++ click_text cl ≡ behind (aid_parts aid (click_parts cl))
+both_joined : (aid : Option (List ℕ)) (cl : Option FinalTermClick) → aid_text aid ++ click_text cl ≡ separated (aid_parts aid (click_parts cl))
 both_joined aid cl = ap (λ t. aid_text aid ++ t) (click_joined cl) ∙ aid_joined aid (click_parts cl)
 
 -- what is read of them
 some_length : (b : ℕ) (p : List ℕ) → (length (b ∷ p) == 0) ≡ false
 some_length b p = ne_eqb (length (b ∷ p)) 0 (λ e. omega (arith, e))
 
-pairs_step : (b : ℕ) (p : List ℕ) (ps : List (List ℕ)) (e : List ℕ × List ℕ) (es : Pairs) → key_and_value (b ∷ p) ≡ Some e → pairs_in (without_empty ps) ≡ Some es
+pairs_step : (b : ℕ) (p : List ℕ) (ps : List (List ℕ)) (e : List ℕ × List ℕ) (es : Pairs) → key_and_value (b ∷ p) ≡ Some e
+    → pairs_in (without_empty ps) ≡ Some es
     → pairs_in (without_empty ((b ∷ p) ∷ ps)) ≡ Some (e ∷ es)
 pairs_step b p ps e es h k = rw (some_length b p, h, k) refl
 
@@ -96,7 +95,8 @@ abbrev click_pairs : Option FinalTermClick → Pairs
 click_pairs None = []
 click_pairs (Some c) = (codes "cl", click_word c) ∷ []
 
-pairs_aid : (aid : Option (List ℕ)) (ps : List (List ℕ)) (es : Pairs) → IsAid aid → pairs_in (without_empty ps) ≡ Some es → pairs_in (without_empty (aid_parts aid ps)) ≡ Some (aid_pairs aid es)
+pairs_aid : (aid : Option (List ℕ)) (ps : List (List ℕ)) (es : Pairs) → IsAid aid → pairs_in (without_empty ps) ≡ Some es
+    → pairs_in (without_empty (aid_parts aid ps)) ≡ Some (aid_pairs aid es)
 pairs_aid None ps es h k = k
 pairs_aid (Some a) ps es h k =
     pairs_step 0x61 (codes "id=" ++ a) ps (codes "aid", a) es (key_back (codes "aid") a (plain_part (codes "aid") refl) refl h) k
@@ -112,7 +112,8 @@ pairs_kind k =
     pairs_step 0x6b (codes "=" ++ kind_word k) [] (codes "k", kind_word k) []
     (key_back (codes "k") (kind_word k) (plain_part (codes "k") refl) refl (kind_word_clear k)) refl
 
-pairs_err : (s : List ℕ) (ps : List (List ℕ)) (es : Pairs) → IsClearPart s → pairs_in (without_empty ps) ≡ Some es → pairs_in (without_empty ((codes "err=" ++ s) ∷ ps)) ≡ Some ((codes "err", s) ∷ es)
+pairs_err : (s : List ℕ) (ps : List (List ℕ)) (es : Pairs) → IsClearPart s → pairs_in (without_empty ps) ≡ Some es
+    → pairs_in (without_empty ((codes "err=" ++ s) ∷ ps)) ≡ Some ((codes "err", s) ∷ es)
 pairs_err s ps es h k =
     pairs_step 0x65 (codes "rr=" ++ s) ps (codes "err", s) es (key_back (codes "err") s (plain_part (codes "err") refl) refl h) k
 
@@ -192,7 +193,7 @@ status_back A s args aid h e =
     ∙ ap (option_map (λ aid. prompt.CommandStatus s aid)) e
 
 status_text : (s a : List ℕ) → codes "133;D;" ++ s ++ codes ";err=" ++ s ++ codes ";aid=" ++ a
-    ≡ codes "133;D" ++ behind (s ∷ (codes "err=" ++ s) ∷ aid_part a ∷ [])
+    ≡ codes "133;D" ++ separated (s ∷ (codes "err=" ++ s) ∷ aid_part a ∷ [])
 status_text s a = simp (append_assoc, append-nil)
 
 ended : (A : Type 0) (s : ℤ) (aid : Option (List ℕ)) → IsSigned 32 s → IsAid aid → WritesBack {A = A} (prompt.CommandStatus s aid)

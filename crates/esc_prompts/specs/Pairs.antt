@@ -9,7 +9,7 @@ pub record KeyValues : Type 0 where
   pub cl : Option (List ℕ)
   pub k : Option (List ℕ)
 
--- the values that stand last
+-- the values that come last
 abbrev pub last_values : Pairs → KeyValues
 last_values es = record { aid = last_value (codes "aid") None es; cl = last_value (codes "cl") None es; k = last_value (codes "k") None es }
 

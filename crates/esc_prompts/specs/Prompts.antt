@@ -12,7 +12,7 @@ use Rattle.esc_prompts.specs.declared.prompt.FinalTermSemanticPrompt.TheVariants
 use Rattle.esc_prompts.specs.declared.prompt_kind.FinalTermPromptKind.{FinalTermPromptKind}
 use Rattle.esc_prompts.specs.declared.prompt_kind.FinalTermPromptKind.TheVariants as kind
 
--- a prompt of a letter that stands alone
+-- a prompt of a letter that comes alone
 abbrev pub alone : {A : Type 0} → FinalTermSemanticPrompt A → List (List ℕ) → Option (FinalTermSemanticPrompt A)
 alone p [] = Some p
 alone p (a ∷ args) = None
@@ -39,12 +39,12 @@ aid_of args = option_map (λ v. v.aid) (keys_of args)
 abbrev pub kind_among : List (List ℕ) → Option FinalTermPromptKind
 kind_among args = and_then (keys_of args) (λ v. kind_in v.k)
 
--- a status, 0 where it is absent or is no number of 32 bits, and the value of `aid` behind it
+-- a status, 0 where it is absent or is no number of 32 bits, and the value of `aid` after it
 abbrev pub status_of : {A : Type 0} → List (List ℕ) → Option (FinalTermSemanticPrompt A)
 status_of [] = Some (prompt.CommandStatus (pos 0) None)
 status_of (s ∷ args) = option_map (λ aid. prompt.CommandStatus (unwrap_or (signed_of 32 s) (pos 0)) aid) (aid_of args)
 
--- what a letter makes of the parts behind it, one line a letter
+-- what a letter makes of the parts after it, one line a letter
 abbrev pub lettered : {A : Type 0} → ℕ → List (List ℕ) → Option (FinalTermSemanticPrompt A)
 lettered c args = if c == 0x4c then alone prompt.FreshLine args
     else if c == 0x42 then alone prompt.MarkEndOfPromptAndStartOfInputUntilNextMarker args
@@ -56,7 +56,7 @@ lettered c args = if c == 0x4c then alone prompt.FreshLine args
     else if c == 0x50 then option_map prompt.StartPrompt (kind_among args)
     else None
 
--- the prompt of the parts behind the code: a letter alone in the first of them, and what it makes of the others
+-- the prompt of the parts after the code: a letter alone in the first of them, and what it makes of the others
 abbrev pub prompt_of : {A : Type 0} → List (List ℕ) → Option (FinalTermSemanticPrompt A)
 prompt_of ((c ∷ []) ∷ args) = lettered c args
 prompt_of args = None
@@ -71,7 +71,7 @@ abbrev pub click_text : Option FinalTermClick → List ℕ
 click_text None = []
 click_text (Some c) = codes ";cl=" ++ click_word c
 
--- the text of a prompt: the code, the letter, and what stands behind it
+-- the text of a prompt: the code, the letter, and what follows it
 abbrev pub prompt_text : {A : Type 0} → FinalTermSemanticPrompt A → List ℕ
 prompt_text prompt.FreshLine = codes "133;L"
 prompt_text (prompt.FreshLineAndStartPrompt aid cl) = codes "133;A" ++ aid_text aid ++ click_text cl

@@ -20,8 +20,8 @@ pub enum FinalTermClick {
     SmartVertical,
 }
 
-/// The value that the word names. The error is `Invalid`, for a word that names none; the text is compared as it
-/// stands.
+/// The value that the word names. The error is `Invalid`, for a word that names none; the text is compared byte
+/// by byte.
 impl TryFrom<&str> for FinalTermClick {
     type Error = Error;
 
@@ -38,7 +38,7 @@ impl TryFrom<&str> for FinalTermClick {
     }
 }
 
-/// Writes the word. Takes no memory, and errs only where the writer behind the formatter errs.
+/// Writes the word. Where it returns `Ok`, all of it was written.
 impl fmt::Display for FinalTermClick {
     ghost output = { λ c. Some (click_word c) };
 

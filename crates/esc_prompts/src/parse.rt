@@ -12,14 +12,14 @@ use esc_below::scalar::read_i32;
 use std::alloc::{AllocError, Allocator};
 
 impl<A: Allocator> FinalTermSemanticPrompt<A> {
-    /// The prompt that these parts are, which stand behind the code `133`; none where they are no prompt.
+    /// The prompt that these parts are, which follow the code `133`; none where they are no prompt.
     ///
-    /// The first part is a letter. `L`, `B` and `I` stand alone. Behind `A`, `N`, `C` and `P`, and behind the status
+    /// The first part is a letter. `L`, `B` and `I` come alone. After `A`, `N`, `C` and `P`, and after the status
     /// of `D`, the parts are keys and values with `=` between them, or empty; a later value of a key replaces an
-    /// earlier one, and other keys are ignored. Any other part, a word of `cl` that is unknown behind `A` or `N`, or one
-    /// of `k` behind `P`, is no prompt. A status that is absent, or is no number of 32 bits, is 0.
+    /// earlier one, and other keys are ignored. Any other part, a word of `cl` that is unknown after `A` or `N`, or one
+    /// of `k` after `P`, is no prompt. A status that is absent, or is no number of 32 bits, is 0.
     ///
-    /// Memory is taken only for `aid`. The error is that it was refused.
+    /// The error is that memory was refused.
     pub fn parse(alloc: A, args: &[&[u8]]) -> Result<Option<FinalTermSemanticPrompt<A>>, AllocError>
         ensures { IfOk result (λ p. p ≡ prompt_of (map (λ p. p.now) args.now)) }
     {
@@ -36,7 +36,7 @@ impl<A: Allocator> FinalTermSemanticPrompt<A> {
     }
 }
 
-// What the letter makes of the parts behind it.
+// What the letter makes of the parts after it.
 fn read_by_letter<A: Allocator>(
     alloc: A,
     letter: u8,
@@ -78,7 +78,7 @@ fn read_by_letter<A: Allocator>(
     }
 }
 
-// The prompt, where no part stands behind the letter.
+// The prompt, where no part follows the letter.
 fn read_alone<A: Allocator>(
     prompt: FinalTermSemanticPrompt<A>,
     args: &[&[u8]],
@@ -114,7 +114,7 @@ fn read_aid<A: Allocator>(alloc: A, args: &[&[u8]]) -> Result<Option<Option<Text
     Ok(Some(copied(alloc, keys.aid)?))
 }
 
-// A status, and the value of `aid` behind it.
+// A status, and the value of `aid` after it.
 fn read_status<A: Allocator>(
     alloc: A,
     args: &[&[u8]],

@@ -1,13 +1,14 @@
-//! Semantic prompts.
+//! Semantic prompts ("Semantic prompts",
+//! <https://gitlab.freedesktop.org/Per_Bothner/specifications/blob/master/proposals/semantic-prompts.md>).
 use crate::click::FinalTermClick;
 use crate::prompt_kind::FinalTermPromptKind;
 use esc_below::Text;
 use std::alloc::{Allocator, Global};
 
 /// A mark that a shell writes between its prompts, the user's input, and the output of commands (FinalTerm; operating
-/// system command 133, with a letter behind the code).
+/// system command 133, with a letter after the code).
 #[derive(Drop)]
-#[derive_where(Debug, PartialEq)]
+#[derive_where(Debug, PartialEq, Eq)]
 pub enum FinalTermSemanticPrompt<A: Allocator = Global> {
     /// `L`: goes to the start of a new line, unless the cursor is at the start of one.
     FreshLine,

@@ -29,8 +29,8 @@ impl Default for FinalTermPromptKind {
     }
 }
 
-/// The value that the word names. The error is `Invalid`, for a word that names none; the text is compared as it
-/// stands.
+/// The value that the word names. The error is `Invalid`, for a word that names none; the text is compared byte
+/// by byte.
 impl TryFrom<&str> for FinalTermPromptKind {
     type Error = Error;
 
@@ -47,7 +47,7 @@ impl TryFrom<&str> for FinalTermPromptKind {
     }
 }
 
-/// Writes the word. Takes no memory, and errs only where the writer behind the formatter errs.
+/// Writes the word. Where it returns `Ok`, all of it was written.
 impl fmt::Display for FinalTermPromptKind {
     ghost output = { λ k. Some (kind_word k) };
 

@@ -9,10 +9,10 @@ use std::alloc::Allocator;
 use std::fmt;
 use std::fmt::Display;
 
-/// Writes what stands between `ESC ]` and the string terminator: the code 133, the letter, and behind it the keys that
-/// are there, each behind a `;`. A status is written before the keys, and with an `aid` also as the key `err`.
+/// Writes what comes between `ESC ]` and the string terminator: the code 133, the letter, and after it the keys that
+/// are there, each after a `;`. A status is written before the keys, and with an `aid` also as the key `err`.
 ///
-/// Takes no memory, and errs only where the writer behind the formatter errs.
+/// Where it returns `Ok`, all of it was written.
 impl<A: Allocator> fmt::Display for FinalTermSemanticPrompt<A> {
     ghost output = { λ p. Some (prompt_text p) };
 

@@ -4,11 +4,12 @@ use Rattle.std.specs.Option.{option_map}
 use Rattle.esc_below.specs.Csis.{csi_value, is_separator, renditions}
 use Rattle.esc_below.proofs.csi.read_renditions.Given as goal
 
--- what is left, behind what was read, is the whole
+-- what is left, after what was read, is the whole
 abbrev pub invariant-items : goal.invariant-items
 invariant-items g l =
     (length l.rest ≤ length l.fn.params)
-    × (renditions (slice_split is_separator l.fn.params) ≡ option_map (λ more. map csi_value l.read.items ++ more) (renditions (slice_split is_separator l.rest)))
+    × (renditions (slice_split is_separator l.fn.params) ≡ option_map (λ more. map csi_value l.read.items ++ more)
+    (renditions (slice_split is_separator l.rest)))
 
 abbrev pub decreases-items : goal.decreases-items
 decreases-items g l = length l.rest

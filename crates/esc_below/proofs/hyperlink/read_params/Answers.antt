@@ -22,7 +22,9 @@ loop-piece-preserved g c =
 
 pub returns-in_err-put_piece-2-clause-invalid : goal.returns-in_err-put_piece-2-clause-invalid
 returns-in_err-put_piece-2-clause-invalid g c =
-    handed_on (params_of c.args.text.now ≡ None) c.from_residual-in_err-put_piece-2.result c.in_err-put_piece-2.field-0.0 c.from_residual-in_err-put_piece-2.ensures.1 (λ is.
+    handed_on
+    (params_of c.args.text.now ≡ None) c.from_residual-in_err-put_piece-2.result c.in_err-put_piece-2.field-0.0
+    c.from_residual-in_err-put_piece-2.ensures.1 (λ is.
     c.loop-piece.invariant
     ∙ ap (reading c.loop-piece.params) (cut_none c.loop-piece.rest.now (sym c.in_default.ensures))
     ∙ reading_none c.loop-piece.params c.loop-piece.rest.now [] (c.in_err-put_piece-2.ensures.invalid is))

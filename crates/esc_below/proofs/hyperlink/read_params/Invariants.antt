@@ -4,7 +4,7 @@ use Rattle.esc_below.specs.Hyperlinks.{is_colon, params_of}
 use Rattle.esc_below.proofs.PairsRead.{reading}
 use Rattle.esc_below.proofs.hyperlink.read_params.Given as goal
 
--- what is left, behind what was put, is the whole
+-- what is left, after what was put, is the whole
 abbrev pub invariant-loop-piece : goal.invariant-loop-piece
 invariant-loop-piece g l = params_of l.fn.text ≡ reading l.params (slice_split is_colon l.rest)
 

@@ -3,15 +3,15 @@ use Rattle.std.specs.Option.{option_map}
 use Rattle.std.specs.Result.{result_ok}
 use Rattle.std.specs.Str.{IsUtf8, is_utf8}
 use Rattle.std.proofs.lemmas.Str.{is_utf8-from_IsUtf8, IsUtf8-from_is_utf8}
+use Rattle.std.proofs.lemmas.Bool.{cases_Bool}
 use Rattle.esc_below.specs.Scalars.{utf8_of}
-use Rattle.esc_below.proofs.Numbers.{bool_cases}
 use Rattle.esc_below.proofs.scalar.text_in.Goals as goal
 
 text_from_cases : {X E : Type 0} (now : X → List ℕ) (Q : E → Type 0) (bs : List ℕ) (r : Result X E)
     → MatchResult r (λ s. (now s ≡ bs) × IsUtf8 bs) (λ e. (IsUtf8 bs → ⊥) × Q e) → option_map now (result_ok r) ≡ utf8_of bs
 text_from_cases now Q bs (Ok s) h = rw (h.0, is_utf8-from_IsUtf8 bs h.1)
 text_from_cases now Q bs (Err e) h =
-    elim (bool_cases (is_utf8 bs)) [
+    elim (cases_Bool (is_utf8 bs)) [
       | inl held ↦ absurd (h.0 (IsUtf8-from_is_utf8 bs held))
       | inr failed ↦ rw failed
     ]

@@ -1,7 +1,7 @@
 use Rattle.std.proofs.Common.{◌≡◌, Some, ap, ◌∙◌, true, subst, inl, inr, List, ℕ, string_bytes}
 use Rattle.std.specs.Str.{is_utf8, IsUtf8}
 use Rattle.std.proofs.lemmas.Str.{is_utf8-from_IsUtf8, IsUtf8-from_is_utf8, IsUtf8-string_bytes}
-use Rattle.esc_below.proofs.Numbers.{bool_cases}
+use Rattle.std.proofs.lemmas.Bool.{cases_Bool}
 use Rattle.esc_below.proofs.scalar.text_of.Goals as goal
 
 pub returns-in-Ok : goal.returns-in-Ok
@@ -13,7 +13,7 @@ returns-in-Ok g c =
 
 pub returns : goal.returns
 returns g c =
-    elim (bool_cases (is_utf8 c.args.bytes.items)) [
+    elim (cases_Bool (is_utf8 c.args.bytes.items)) [
       | inl held ↦ let bad = c.in-Err.ensures.succeeds (IsUtf8-from_is_utf8 _ held) in cc
       | inr failed ↦ rw failed
     ]

@@ -1,7 +1,7 @@
 use Rattle.std.proofs.Common.{rules, ◌≡◌, ℕ, ◌+◌, ◌<◌, List, [], ◌∷◌, map, drop, length, get_or, Some, None, sym, ap, ◌∙◌, Bor}
 use Rattle.std.specs.Option.{option_map}
 use Rattle.std.proofs.lemmas.List.{at_drop_more}
-use Rattle.esc_iterm.specs.Files.{Values, values_behind, piece_pairs, pairs_of}
+use Rattle.esc_iterm.specs.Files.{Values, values_after, piece_pairs, pairs_of}
 use Rattle.esc_iterm.specs.Keys.{values}
 use Rattle.esc_iterm.proofs.ReadPieces.{all_values, turn, stop}
 use Rattle.esc_iterm.proofs.read_file.read_pieces.Goals as goal
@@ -18,7 +18,8 @@ pub returns-in_err-keys : goal.returns-in_err-keys
 returns-in_err-keys c =
     let i = c.loop-next.next-index in
     let lt : i < length c.args.rest.now = search rules in
-    let fails : None ≡ option_map (values_behind (values c.loop-next.keys)) (piece_pairs c.loop-next.piece.now) = sym (ap (option_map values) c.in_err-keys.was) ∙ c.read_piece.ensures in
+    let fails : None ≡ option_map (values_after (values c.loop-next.keys)) (piece_pairs c.loop-next.piece.now) =
+    sym (ap (option_map values) c.in_err-keys.was) ∙ c.read_piece.ensures in
     rw c.from_residual.ensures
     (stop (values c.loop-next.keys) c.loop-next.piece.now (get_or c.args.rest.now i no_piece).now (map (λ x. x.now) (drop (i + 1) c.args.rest.now)) fails
     ∙ sym (next_piece (values c.loop-next.keys) c.loop-next.piece.now c.args.rest.now i no_piece lt)
@@ -28,7 +29,9 @@ pub loop-next-preserved : goal.loop-next-preserved
 loop-next-preserved c =
     let i = c.loop-next.next-index in
     let lt : i < length c.args.rest.now = search rules in
-    let reads : Some (values c.in_ok-keys.keys) ≡ option_map (values_behind (values c.loop-next.keys)) (piece_pairs c.loop-next.piece.now) = sym (ap (option_map values) c.in_ok-keys.was) ∙ c.read_piece.ensures in
-    turn (values c.loop-next.keys) (values c.in_ok-keys.keys) c.loop-next.piece.now (get_or c.args.rest.now i no_piece).now (map (λ x. x.now) (drop (i + 1) c.args.rest.now)) reads
+    let reads : Some (values c.in_ok-keys.keys) ≡ option_map (values_after (values c.loop-next.keys)) (piece_pairs c.loop-next.piece.now) =
+    sym (ap (option_map values) c.in_ok-keys.was) ∙ c.read_piece.ensures in
+    turn (values c.loop-next.keys) (values c.in_ok-keys.keys) c.loop-next.piece.now (get_or c.args.rest.now i no_piece).now
+    (map (λ x. x.now) (drop (i + 1) c.args.rest.now)) reads
     ∙ sym (next_piece (values c.loop-next.keys) c.loop-next.piece.now c.args.rest.now i no_piece lt)
     ∙ c.loop-next.invariant

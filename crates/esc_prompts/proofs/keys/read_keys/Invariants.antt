@@ -10,5 +10,6 @@ found_then aid cl k es = record { aid = last_value (codes "aid") aid es; cl = la
 
 abbrev pub invariant-loop-part : goal.invariant-loop-part
 invariant-loop-part l =
-    option_map (found_then (option_map (λ t. t.now) l.aid) (option_map (λ t. t.now) l.cl) (option_map (λ t. t.now) l.k)) (pairs_in (without_empty (map (λ p. p.now) (drop l.part-index l.args))))
+    option_map (found_then (option_map (λ t. t.now) l.aid) (option_map (λ t. t.now) l.cl) (option_map (λ t. t.now) l.k))
+    (pairs_in (without_empty (map (λ p. p.now) (drop l.part-index l.args))))
     ≡ keys_of (map (λ p. p.now) l.args)

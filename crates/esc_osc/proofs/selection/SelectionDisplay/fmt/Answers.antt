@@ -1,4 +1,5 @@
-use Rattle.std.proofs.Common.{rules, arith, ◌≡◌, [], ◌∷◌, ℕ, ◌+◌, ◌<◌, length, true, List, ◌++◌, take, get_or, sym, ap, ◌∙◌, refl, Bool, nat_lt, ◌&&◌, eq-eqb, zero, suc}
+use Rattle.std.proofs.Common.{rules, arith, ◌≡◌, [], ◌∷◌, ℕ, ◌+◌, ◌<◌, length, true, List, ◌++◌, take, get_or, sym, ap, ◌∙◌, refl, Bool, nat_lt, ◌&&◌}
+use Rattle.std.proofs.Common.{eq-eqb, zero, suc}
 use Rattle.std.specs.Fmt.{IsPlainFormatter}
 use Rattle.std.specs.List.{flat_map}
 use Rattle.std.proofs.lemmas.List.{take_more, flat_map_more}
@@ -13,7 +14,8 @@ use Rattle.esc_osc.proofs.selection.SelectionDisplay.fmt.Goals.{then-self-bit-ne
 -- one more letter
 one_more : (b i : ℕ) → i < length letters
     → flat_map (letter_text b) (take i letters) ++ letter_text b (get_or letters i (0, 0)) ≡ flat_map (letter_text b) (take (i + 1) letters)
-one_more b i lt = flat_map_more (letter_text b) [] (take i letters) (get_or letters i (0, 0)) ∙ ap (flat_map (letter_text b)) (sym (take_more letters i (0, 0) lt))
+one_more b i lt = flat_map_more (letter_text b) [] (take i letters) (get_or letters i (0, 0))
+    ∙ ap (flat_map (letter_text b)) (sym (take_more letters i (0, 0) lt))
 
 -- the letters are ASCII
 abbrev all_ascii : List (ℕ × ℕ) → Bool
