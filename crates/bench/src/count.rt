@@ -22,6 +22,15 @@ pub struct Count {
     total: u64,
 }
 
+#[inline(always)]
+fn sum_of(text: &[u8]) -> u64 {
+    let mut sum = 0u64;
+    for b in text {
+        sum = sum.wrapping_add(*b as u64);
+    }
+    sum
+}
+
 impl Count {
     /// Nothing yet.
     pub fn new() -> Count {
@@ -82,6 +91,13 @@ impl VTActor for Count {
     fn print(&mut self, c: char) -> Result<(), AllocError> {
         self.characters = self.characters.wrapping_add(1);
         self.add(c as u64);
+        Ok(())
+    }
+
+    #[inline]
+    fn print_text(&mut self, text: &[u8]) -> Result<(), AllocError> {
+        self.characters = self.characters.wrapping_add(text.len() as u64);
+        self.add(sum_of(text));
         Ok(())
     }
 

@@ -7,7 +7,7 @@ use Rattle.esc_frame.specs.Segments.Segment.{Broken, Osc, Dcs, Apc, Ignored, Cut
 use Rattle.esc_frame.specs.Segments.Ending.{Open, Waits}
 use Rattle.esc_frame.specs.Leads.{Unfinished, Stands, AreFinished, open_bytes, osc_bytes}
 use Rattle.esc_frame.specs.Leads.Unfinished.{Ground, Pending, InEscape, InCsi, InDcs, InData, InApc, InIgnored, InOsc, InOscPending}
-use Rattle.esc_frame.specs.Moves.{after_all, news_all}
+use Rattle.esc_frame.specs.Machine.Moves.{after_all, news_all}
 use Rattle.esc_frame.specs.Stream.{IsAtGround, events, added}
 use Rattle.esc_frame.proofs.Cuts.{are_closed, cut_last, itself, stands}
 use Rattle.esc_frame.proofs.OneCut.{one_cut}
@@ -21,7 +21,8 @@ not_both : (b : Bool) → b ≡ true → b ≡ false → ⊥
 not_both true h k = cc
 not_both false h k = cc
 
-not_finished : (s : List ℕ) (es : List Event) (gs : List Segment) (u : Unfinished) (g : Segment) → Stands s es gs u → open_bytes u ≡ bytes_of g → HasShape g [] → ends_itself g ≡ false → IsAtGround s → ⊥
+not_finished : (s : List ℕ) (es : List Event) (gs : List Segment) (u : Unfinished) (g : Segment) → Stands s es gs u → open_bytes u ≡ bytes_of g → HasShape g []
+    → ends_itself g ≡ false → IsAtGround s → ⊥
 not_finished s es gs u g st e sh n (hs, cut, fin) =
     let same = one_cut s hs (gs ++ g ∷ []) cut (cut_last s es gs u g st e sh) in
     not_both (ends_itself g) (itself g (last_finished gs g (subst (λ ks. AreFinished ks []) same fin))) n
@@ -35,8 +36,11 @@ ground_if s es gs (InDcs o x) st h = absurd (not_finished s es gs (InDcs o x) (C
 ground_if s es gs (InData o x f d) st h = absurd (not_finished s es gs (InData o x f d) (Dcs o x f d) st refl st.shape refl h)
 ground_if s es gs (InApc o d) st h = absurd (not_finished s es gs (InApc o d) (Apc o d) st refl st.shape refl h)
 ground_if s es gs (InIgnored k o d) st h = absurd (not_finished s es gs (InIgnored k o d) (Ignored k o d) st refl st.shape refl h)
-ground_if s es gs (InOsc o ps) st h = absurd (not_finished s es gs (InOsc o ps) (Osc o ps Open) st (sym (append-nil (osc_bytes o ps))) (st.shape.0, st.shape.1, tt) refl h)
-ground_if s es gs (InOscPending o ps f) st h = absurd (not_finished s es gs (InOscPending o ps f) (Osc o ps (Waits f)) st refl (st.shape.0, subst (λ y. ArePieces ps y) (sym (append-nil f)) st.shape.1, st.shape.2) refl h)
+ground_if s es gs (InOsc o ps) st h =
+    absurd (not_finished s es gs (InOsc o ps) (Osc o ps Open) st (sym (append-nil (osc_bytes o ps))) (st.shape.0, st.shape.1, tt) refl h)
+ground_if s es gs (InOscPending o ps f) st h =
+    absurd (not_finished s es gs (InOscPending o ps f) (Osc o ps (Waits f)) st refl
+    (st.shape.0, subst (λ y. ArePieces ps y) (sym (append-nil f)) st.shape.1, st.shape.2) refl h)
 
 at_ground_if : (s : List ℕ) (es : List Event) (gs : List Segment) (u : Unfinished) → Stands s es gs u → u ≡ Ground → IsAtGround s
 at_ground_if s es gs u st e =

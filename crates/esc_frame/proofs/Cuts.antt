@@ -4,12 +4,14 @@ use Rattle.std.proofs.lemmas.List.{append-nil}
 use Rattle.esc_frame.specs.Classes.{class_of, strip}
 use Rattle.esc_frame.specs.Events.{Event}
 use Rattle.esc_frame.specs.Bodies.{is_dcs_header}
-use Rattle.esc_frame.specs.Segments.{Segment, HasShape, AreSegments, IsCut, Tells, ArePieces, joined, bytes_of, events_of, events_of_cut, ends_itself, is_finished, opener_events, hook_event, puts}
-use Rattle.esc_frame.specs.Segments.Segment.{Character, Wide, Broken, Stray, Control, HighControl, Terminator, Escape, Csi, Osc, CutEscape, CutCsi, CutDcs, Dcs, Apc, Ignored}
+use Rattle.esc_frame.specs.Segments.{Segment, HasShape, AreSegments, IsCut, HasEvents, ArePieces, joined, bytes_of, events_of, events_of_cut, ends_itself}
+use Rattle.esc_frame.specs.Segments.{is_finished, opener_events, hook_event, puts}
+use Rattle.esc_frame.specs.Segments.Segment.{Character, Wide, Broken, Stray, Control, HighControl, Terminator, Escape, Csi, Osc, CutEscape, CutCsi, CutDcs, Dcs}
+use Rattle.esc_frame.specs.Segments.Segment.{Apc, Ignored}
 use Rattle.esc_frame.specs.Segments.Ending.{Open, Rung, Waits}
-use Rattle.esc_frame.specs.Leads.{Unfinished, AreFinished, open_bytes, osc_bytes, Stands, told_before, told_open}
+use Rattle.esc_frame.specs.Leads.{Unfinished, AreFinished, open_bytes, osc_bytes, Stands, finished_events, told_open}
 use Rattle.esc_frame.specs.Leads.Unfinished.{Ground, Pending, InEscape, InCsi, InOsc, InOscPending, InDcs, InData, InApc, InIgnored}
-use Rattle.esc_frame.specs.Moves.{after_by, news_by, after_all, news_all}
+use Rattle.esc_frame.specs.Machine.Moves.{after_by, news_by, after_all, news_all}
 use Rattle.esc_frame.specs.Stream.{events}
 use Rattle.esc_frame.proofs.Grows.{joined_end}
 use Rattle.esc_frame.proofs.Step.{byte_step}
@@ -17,17 +19,20 @@ use Rattle.esc_frame.proofs.Step.{byte_step}
 pub are_push : (gs : List Segment) (g : Segment) → AreFinished gs (bytes_of g) → HasShape g [] → AreSegments (gs ++ g ∷ [])
 are_push [] g f s = s
 are_push (h ∷ []) g (sh, fh, r) s = let e = sym (append-nil (bytes_of g)) in (subst (λ x. HasShape h x) e sh, subst (λ x. is_finished h x ≡ true) e fh, s)
-are_push (h ∷ k ∷ gs) g (sh, fh, r) s = let e = sym (joined_end (k ∷ gs) g) in (subst (λ x. HasShape h x) e sh, subst (λ x. is_finished h x ≡ true) e fh, are_push (k ∷ gs) g r s)
+are_push (h ∷ k ∷ gs) g (sh, fh, r) s =
+    let e = sym (joined_end (k ∷ gs) g) in (subst (λ x. HasShape h x) e sh, subst (λ x. is_finished h x ≡ true) e fh, are_push (k ∷ gs) g r s)
 
 pub are_closed : (gs : List Segment) → AreFinished gs [] → AreSegments gs
 are_closed [] f = tt
 are_closed (h ∷ []) (sh, fh, r) = sh
-are_closed (h ∷ k ∷ gs) (sh, fh, r) = let e = append-nil (joined (k ∷ gs)) in (subst (λ x. HasShape h x) e sh, subst (λ x. is_finished h x ≡ true) e fh, are_closed (k ∷ gs) r)
+are_closed (h ∷ k ∷ gs) (sh, fh, r) =
+    let e = append-nil (joined (k ∷ gs)) in (subst (λ x. HasShape h x) e sh, subst (λ x. is_finished h x ≡ true) e fh, are_closed (k ∷ gs) r)
 
-events_push : (gs : List Segment) (g : Segment) → events_of_cut (gs ++ g ∷ []) ≡ told_before gs ++ events_of g (ends_itself g)
+events_push : (gs : List Segment) (g : Segment) → events_of_cut (gs ++ g ∷ []) ≡ finished_events gs ++ events_of g (ends_itself g)
 events_push [] g = refl
 events_push (h ∷ []) g = ap (λ x. x ++ events_of g (ends_itself g)) (sym (append-nil (events_of h true)))
-events_push (h ∷ k ∷ gs) g = ap (λ x. events_of h true ++ x) (events_push (k ∷ gs) g) ∙ sym (append_assoc (events_of h true) (told_before (k ∷ gs)) (events_of g (ends_itself g)))
+events_push (h ∷ k ∷ gs) g =
+    ap (λ x. events_of h true ++ x) (events_push (k ∷ gs) g) ∙ sym (append_assoc (events_of h true) (finished_events (k ∷ gs)) (events_of g (ends_itself g)))
 
 -- what is finished before nothing is finished by itself
 pub itself : (h : Segment) → is_finished h [] ≡ true → ends_itself h ≡ true
@@ -53,43 +58,60 @@ itself (Csi o x c) f = refl
 last_told : (h : Segment) → ends_itself h ≡ true → events_of h (ends_itself h) ≡ events_of h true ++ []
 last_told h e = rw e (sym (append-nil (events_of h true)))
 
-events_closed : (gs : List Segment) → AreFinished gs [] → events_of_cut gs ≡ told_before gs
+events_closed : (gs : List Segment) → AreFinished gs [] → events_of_cut gs ≡ finished_events gs
 events_closed [] f = refl
 events_closed (h ∷ []) (sh, fh, r) = last_told h (itself h fh)
 events_closed (h ∷ k ∷ gs) (sh, fh, r) = ap (λ x. events_of h true ++ x) (events_closed (k ∷ gs) r)
 
 -- what stands with an unfinished segment is a cut with that segment last
-pub cut_last : (s : List ℕ) (es : List Event) (gs : List Segment) (u : Unfinished) (g : Segment) → Stands s es gs u → open_bytes u ≡ bytes_of g → HasShape g [] → IsCut s (gs ++ g ∷ [])
-cut_last s es gs u g st j sh = record { whole = st.whole ∙ ap (λ y. joined gs ++ y) j ∙ sym (joined_end gs g); each = are_push gs g (subst (λ y. AreFinished gs y) j st.finished) sh }
+pub cut_last : (s : List ℕ) (es : List Event) (gs : List Segment) (u : Unfinished) (g : Segment) → Stands s es gs u → open_bytes u ≡ bytes_of g → HasShape g []
+    → IsCut s (gs ++ g ∷ [])
+cut_last s es gs u g st j sh =
+    record { whole = st.whole ∙ ap (λ y. joined gs ++ y) j ∙ sym (joined_end gs g); each = are_push gs g (subst (λ y. AreFinished gs y) j st.finished) sh }
 
-with_last : (s : List ℕ) (es : List Event) (gs : List Segment) (u : Unfinished) (g : Segment) → Stands s es gs u → open_bytes u ≡ bytes_of g → HasShape g [] → told_open u ≡ events_of g (ends_itself g) → Tells s es
-with_last s es gs u g st j sh t = (gs ++ g ∷ [], cut_last s es gs u g st j sh, st.told ∙ ap (λ y. told_before gs ++ y) t ∙ sym (events_push gs g))
+with_last : (s : List ℕ) (es : List Event) (gs : List Segment) (u : Unfinished) (g : Segment) → Stands s es gs u → open_bytes u ≡ bytes_of g → HasShape g []
+    → told_open u ≡ events_of g (ends_itself g) → HasEvents s es
+with_last s es gs u g st j sh t = (gs ++ g ∷ [], cut_last s es gs u g st j sh, st.told ∙ ap (λ y. finished_events gs ++ y) t ∙ sym (events_push gs g))
 
 data_told : (ds bs : List Event) (w : Bool) → ds ++ (if w then bs else []) ≡ ds ++ (if w then bs ++ [] else [])
 data_told ds bs true = ap (λ y. ds ++ y) (sym (append-nil bs))
 data_told ds bs false = refl
 
-pub stands_tells : (s : List ℕ) (es : List Event) (gs : List Segment) (u : Unfinished) → Stands s es gs u → Tells s es
-stands_tells s es gs Ground st = (gs, record { whole = st.whole ∙ append-nil (joined gs); each = are_closed gs st.finished }, st.told ∙ append-nil (told_before gs) ∙ sym (events_closed gs st.finished))
+pub stands_tells : (s : List ℕ) (es : List Event) (gs : List Segment) (u : Unfinished) → Stands s es gs u → HasEvents s es
+stands_tells s es gs Ground st = (
+  gs,
+  record { whole = st.whole ∙ append-nil (joined gs); each = are_closed gs st.finished },
+  st.told ∙ append-nil (finished_events gs) ∙ sym
+      (events_closed gs st.finished),
+)
 stands_tells s es gs (Pending f) st = with_last s es gs (Pending f) (Broken f) st refl st.shape refl
 stands_tells s es gs (InEscape x) st = with_last s es gs (InEscape x) (CutEscape x) st refl st.shape refl
 stands_tells s es gs (InCsi o x) st = with_last s es gs (InCsi o x) (CutCsi o x) st refl st.shape refl
 stands_tells s es gs (InDcs o x) st = with_last s es gs (InDcs o x) (CutDcs o x) st refl st.shape refl
-stands_tells s es gs (InData o x f d) st = with_last s es gs (InData o x f d) (Dcs o x f d) st refl st.shape (data_told (opener_events o) (hook_event (strip x) f ∷ puts d) (is_dcs_header (strip x)))
+stands_tells s es gs (InData o x f d) st =
+    with_last s es gs (InData o x f d) (Dcs o x f d) st refl st.shape (data_told (opener_events o) (hook_event (strip x) f ∷ puts d) (is_dcs_header (strip x)))
 stands_tells s es gs (InApc o d) st = with_last s es gs (InApc o d) (Apc o d) st refl st.shape (sym (append-nil (opener_events o)))
 stands_tells s es gs (InIgnored k o d) st = with_last s es gs (InIgnored k o d) (Ignored k o d) st refl st.shape refl
-stands_tells s es gs (InOsc o ps) st = with_last s es gs (InOsc o ps) (Osc o ps Open) st (sym (append-nil (osc_bytes o ps))) (st.shape.0, st.shape.1, tt) (sym (append-nil (told_open (InOsc o ps))))
-stands_tells s es gs (InOscPending o ps f) st = with_last s es gs (InOscPending o ps f) (Osc o ps (Waits f)) st refl (st.shape.0, subst (λ y. ArePieces ps y) (sym (append-nil f)) st.shape.1, st.shape.2) (sym (append-nil (told_open (InOscPending o ps f))))
+stands_tells s es gs (InOsc o ps) st =
+    with_last s es gs (InOsc o ps) (Osc o ps Open) st (sym (append-nil (osc_bytes o ps))) (st.shape.0, st.shape.1, tt)
+    (sym (append-nil (told_open (InOsc o ps))))
+stands_tells s es gs (InOscPending o ps f) st =
+    with_last s es gs (InOscPending o ps f) (Osc o ps (Waits f)) st refl (st.shape.0, subst (λ y. ArePieces ps y) (sym (append-nil f)) st.shape.1, st.shape.2)
+    (sym (append-nil (told_open (InOscPending o ps f))))
 
 -- more bytes on a cut take a cut, with the events that the machine tells
-pub run_stands : (bs s : List ℕ) (es : List Event) (gs : List Segment) (u : Unfinished) → Stands s es gs u → (hs : List Segment) × Stands (s ++ bs) (es ++ news_all u bs) hs (after_all u bs)
+pub run_stands : (bs s : List ℕ) (es : List Event) (gs : List Segment) (u : Unfinished) → Stands s es gs u
+    → (hs : List Segment) × Stands (s ++ bs) (es ++ news_all u bs) hs (after_all u bs)
 run_stands [] s es gs u st = (gs, subst (λ x. Stands x (es ++ []) gs u) (sym (append-nil s)) (subst (λ x. Stands s x gs u) (sym (append-nil es)) st))
 run_stands (b ∷ bs) s es gs u st =
     let g = byte_step s es gs u b st in
     let n = news_by u b (class_of b) in
     let v = after_by u b (class_of b) in
-    let r = run_stands bs (s ++ b ∷ []) (es ++ n) g.0 v g.1 in
-    (r.0, subst (λ x. Stands x (es ++ (n ++ news_all v bs)) r.0 (after_all v bs)) (append_assoc s (b ∷ []) bs) (subst (λ x. Stands ((s ++ b ∷ []) ++ bs) x r.0 (after_all v bs)) (append_assoc es n (news_all v bs)) r.1))
+    let r = run_stands bs (s ++ b ∷ []) (es ++ n) g.0 v g.1 in (
+      r.0,
+      subst (λ x. Stands x (es ++ (n ++ news_all v bs)) r.0 (after_all v bs)) (append_assoc s (b ∷ []) bs)
+          (subst (λ x. Stands ((s ++ b ∷ []) ++ bs) x r.0 (after_all v bs)) (append_assoc es n (news_all v bs)) r.1),
+    )
 
 nothing_stands : Stands [] [] [] Ground
 nothing_stands = record { whole = refl; finished = tt; shape = tt; told = refl }
@@ -100,7 +122,7 @@ unfolding events
 stands s = run_stands s [] [] [] Ground nothing_stands
 
 -- every stream has a cut, and its events are those of the cut
-pub events_of_the_cut : (s : List ℕ) → Tells s (events s)
+pub events_of_the_cut : (s : List ℕ) → HasEvents s (events s)
 events_of_the_cut s = let w = stands s in stands_tells s (events s) w.0 (after_all Ground s) w.1
 
 pub has_cut : (s : List ℕ) → (gs : List Segment) × IsCut s gs

@@ -9,18 +9,21 @@ use Rattle.esc_below.specs.Clear.{is_clear, IsClearText, parts_of}
 use Rattle.esc_below.proofs.Split.{clear_append, text_parts}
 use Rattle.esc_frame.specs.declared.classes.Class.{Class}
 use Rattle.esc_frame.specs.declared.classes.Class.TheVariants.{Plain, Bell, Intermediate, Parameter, Delete, High, Lead}
-use Rattle.esc_frame.specs.Classes.{class_of, AllOf, those, strip, is_text, is_plain, is_noise, is_intermediate, in_escape, is_control, is_raw_control, is_put, in_csi, in_body, ends_csi}
+use Rattle.esc_frame.specs.Classes.{class_of, AllOf, those, strip, is_text, is_plain, is_noise, is_intermediate, in_escape, is_control, is_raw_control, is_put}
+use Rattle.esc_frame.specs.Classes.{in_csi, in_body, ends_csi}
 use Rattle.esc_frame.specs.Bodies.{is_csi_body, is_dcs_header}
 use Rattle.esc_frame.specs.Events.{Event}
 use Rattle.esc_frame.specs.Events.Event.{Print, OscDispatch, DcsUnhook, ApcDispatch}
-use Rattle.esc_frame.specs.Segments.{Segment, Opener, Piece, HasShape, IsPiece, ArePieces, text_bytes, text_of, kept_of, events_of, executes, opener_events, ending_bytes, puts, csi_event, csi_events, hook_event}
-use Rattle.esc_frame.specs.Segments.Segment.{Character, Wide, Broken, Stray, Control, HighControl, Terminator, Csi, Osc, Dcs, Apc, Ignored, CutDcs, CutEscape, CutCsi}
+use Rattle.esc_frame.specs.Segments.{Segment, Opener, Piece, HasShape, IsPiece, ArePieces, text_bytes, text_of, kept_of, events_of, executes, opener_events}
+use Rattle.esc_frame.specs.Segments.{ending_bytes, puts, csi_event, csi_events, hook_event}
+use Rattle.esc_frame.specs.Segments.Segment.{Character, Wide, Broken, Stray, Control, HighControl, Terminator, Csi, Osc, Dcs, Apc, Ignored, CutDcs, CutEscape}
+use Rattle.esc_frame.specs.Segments.Segment.{CutCsi}
 use Rattle.esc_frame.specs.Segments.Segment.{Escape as EscapeOf}
 use Rattle.esc_frame.specs.Segments.Opener.{Long, Raw, Pair}
 use Rattle.esc_frame.specs.Segments.Piece.{One, Sequence, BrokenOff}
-use Rattle.esc_frame.specs.Leads.{Unfinished, AreFinished, OpenShape, told_before, told_open}
+use Rattle.esc_frame.specs.Leads.{Unfinished, AreFinished, OpenShape, finished_events, told_open}
 use Rattle.esc_frame.specs.Leads.Unfinished.{Ground, Pending, InEscape, InCsi, InDcs, InData, InApc, InIgnored, InOsc, InOscPending}
-use Rattle.esc_frame.specs.Moves.{after_all}
+use Rattle.esc_frame.specs.Machine.Moves.{after_all}
 use Rattle.esc_frame.specs.Stream.{events}
 use Rattle.esc_frame.specs.Fits.{IsFit, AreFit}
 use Rattle.esc_frame.proofs.Cuts.{stands}
@@ -88,13 +91,16 @@ intermediate_if High h k = absurd cc
 intermediate_if Lead h k = absurd cc
 intermediate_if _ h k = absurd cc
 
-strip_intermediates_more : (b : ℕ) (x : List ℕ) (t : Bool) → is_noise (class_of b) ≡ t → in_escape (class_of b) ≡ true → AllOf is_intermediate (strip x) → AllOf is_intermediate (strip (b ∷ x))
+strip_intermediates_more : (b : ℕ) (x : List ℕ) (t : Bool) → is_noise (class_of b) ≡ t → in_escape (class_of b) ≡ true → AllOf is_intermediate (strip x)
+    → AllOf is_intermediate (strip (b ∷ x))
 strip_intermediates_more b x true e h k = rw e k
 strip_intermediates_more b x false e h k = rw (e, intermediate_if (class_of b) h e, k) refl
 
 strip_intermediates : (x : List ℕ) → AllOf in_escape x → AllOf is_intermediate (strip x)
 strip_intermediates [] h = refl
-strip_intermediates (b ∷ x) h = let q = and_parts (in_escape (class_of b)) (list_all (λ b. in_escape (class_of b)) x) h in strip_intermediates_more b x (is_noise (class_of b)) refl q.0 (strip_intermediates x q.1)
+strip_intermediates (b ∷ x) h =
+    let q = and_parts (in_escape (class_of b)) (list_all (λ b. in_escape (class_of b)) x) h in
+    strip_intermediates_more b x (is_noise (class_of b)) refl q.0 (strip_intermediates x q.1)
 
 take_intermediates : (x : List ℕ) → AllOf is_intermediate x → AllOf is_intermediate (take 2 x)
 take_intermediates [] h = refl
@@ -136,22 +142,26 @@ body_if High h k = absurd cc
 body_if Lead h k = absurd cc
 body_if _ h k = absurd cc
 
-strip_body_more : (b : ℕ) (x : List ℕ) (t : Bool) → is_noise (class_of b) ≡ t → in_csi (class_of b) ≡ true → AllOf in_body (strip x) → AllOf in_body (strip (b ∷ x))
+strip_body_more : (b : ℕ) (x : List ℕ) (t : Bool) → is_noise (class_of b) ≡ t → in_csi (class_of b) ≡ true → AllOf in_body (strip x)
+    → AllOf in_body (strip (b ∷ x))
 strip_body_more b x true e h k = rw e k
 strip_body_more b x false e h k = rw (e, body_if (class_of b) h e, k) refl
 
 strip_body : (x : List ℕ) → AllOf in_csi x → AllOf in_body (strip x)
 strip_body [] h = refl
-strip_body (b ∷ x) h = let q = and_parts (in_csi (class_of b)) (list_all (λ b. in_csi (class_of b)) x) h in strip_body_more b x (is_noise (class_of b)) refl q.0 (strip_body x q.1)
+strip_body (b ∷ x) h =
+    let q = and_parts (in_csi (class_of b)) (list_all (λ b. in_csi (class_of b)) x) h in strip_body_more b x (is_noise (class_of b)) refl q.0 (strip_body x q.1)
 
-fit_csi_if : (x : List ℕ) (f : ℕ) (t : Bool) → is_csi_body x ≡ t → AllOf in_body x → ends_csi (class_of f) ≡ true → AreFit (if t then csi_event x f ∷ [] else [])
+fit_csi_if : (x : List ℕ) (f : ℕ) (t : Bool) → is_csi_body x ≡ t → AllOf in_body x → ends_csi (class_of f) ≡ true
+    → AreFit (if t then csi_event x f ∷ [] else [])
 fit_csi_if x f true e h k = ((x, h, e, refl, k), tt)
 fit_csi_if x f false e h k = tt
 
 fit_csi : (x : List ℕ) (f : ℕ) → AllOf in_body x → ends_csi (class_of f) ≡ true → AreFit (csi_events x f)
 fit_csi x f h k = fit_csi_if x f (is_csi_body x) refl h k
 
-fit_hook : (x d : List ℕ) (f : ℕ) (more : List Event) (t : Bool) → is_dcs_header x ≡ t → AllOf in_body x → ends_csi (class_of f) ≡ true → AreFit more → AreFit (if t then (hook_event x f ∷ puts d) ++ more else [])
+fit_hook : (x d : List ℕ) (f : ℕ) (more : List Event) (t : Bool) → is_dcs_header x ≡ t → AllOf in_body x → ends_csi (class_of f) ≡ true → AreFit more
+    → AreFit (if t then (hook_event x f ∷ puts d) ++ more else [])
 fit_hook x d f more true e h k m = ((x, h, e, refl, k), fit_append (puts d) more (fit_puts d) m)
 fit_hook x d f more false e h k m = tt
 
@@ -163,21 +173,28 @@ fit_segment (Stray b) r f h = (refl, tt)
 fit_segment (Control b) r f h = (or_left (is_control (class_of b)) (is_raw_control (class_of b)) h, tt)
 fit_segment (HighControl p b) r f h = (or_right (is_control (class_of b)) (is_raw_control (class_of b)) h, tt)
 fit_segment (Terminator p b) r f h = tt
-fit_segment (EscapeOf x b) r f h = fit_append (executes x) _ (fit_executes x) (let i = strip_intermediates x h.0 in ((take_intermediates (strip x) i, h.1, (strip x, i, refl, h.2)), tt))
-fit_segment (Csi o x b) r f h = fit_append (opener_events o ++ executes x) _ (fit_append (opener_events o) (executes x) (fit_opener o) (fit_executes x)) (fit_csi (strip x) b (strip_body x h.1) h.2)
-fit_segment (Osc o ps e) r f h = fit_append (opener_events o) _ (fit_opener o) (maybe f (OscDispatch (parts_of (text_of ps)) ∷ []) (fit_osc ps (ending_bytes e ++ r) h.1, tt))
-fit_segment (Dcs o x b d) r f h = fit_append (opener_events o) _ (fit_opener o) (fit_hook (strip x) d b (if f then DcsUnhook ∷ [] else []) (is_dcs_header (strip x)) refl (strip_body x h.1) h.2 (maybe f (DcsUnhook ∷ []) (tt, tt)))
+fit_segment (EscapeOf x b) r f h =
+    fit_append (executes x) _ (fit_executes x) (let i = strip_intermediates x h.0 in ((take_intermediates (strip x) i, h.1, (strip x, i, refl, h.2)), tt))
+fit_segment (Csi o x b) r f h =
+    fit_append (opener_events o ++ executes x) _ (fit_append (opener_events o) (executes x) (fit_opener o) (fit_executes x))
+    (fit_csi (strip x) b (strip_body x h.1) h.2)
+fit_segment (Osc o ps e) r f h =
+    fit_append (opener_events o) _ (fit_opener o) (maybe f (OscDispatch (parts_of (text_of ps)) ∷ []) (fit_osc ps (ending_bytes e ++ r) h.1, tt))
+fit_segment (Dcs o x b d) r f h =
+    fit_append (opener_events o) _ (fit_opener o) (fit_hook (strip x) d b (if f then DcsUnhook ∷ [] else []) (is_dcs_header (strip x)) refl
+    (strip_body x h.1) h.2 (maybe f (DcsUnhook ∷ []) (tt, tt)))
 fit_segment (Apc o d) r f h = fit_append (opener_events o) _ (fit_opener o) (maybe f (ApcDispatch (those is_text d) ∷ []) (those_text d, tt))
 fit_segment (Ignored k o d) r f h = fit_opener o
 fit_segment (CutDcs o x) r f h = fit_opener o
 fit_segment (CutEscape x) r f h = fit_executes x
 fit_segment (CutCsi o x) r f h = fit_append (opener_events o) (executes x) (fit_opener o) (fit_executes x)
 
-fit_before : (gs : List Segment) (r : List ℕ) → AreFinished gs r → AreFit (told_before gs)
+fit_before : (gs : List Segment) (r : List ℕ) → AreFinished gs r → AreFit (finished_events gs)
 fit_before [] r h = tt
-fit_before (g ∷ gs) r h = fit_append (events_of g true) (told_before gs) (fit_segment g _ true h.0) (fit_before gs r h.2)
+fit_before (g ∷ gs) r h = fit_append (events_of g true) (finished_events gs) (fit_segment g _ true h.0) (fit_before gs r h.2)
 
-fit_data : (x d : List ℕ) (f : ℕ) (t : Bool) → is_dcs_header x ≡ t → AllOf in_body x → ends_csi (class_of f) ≡ true → AreFit (if t then hook_event x f ∷ puts d else [])
+fit_data : (x d : List ℕ) (f : ℕ) (t : Bool) → is_dcs_header x ≡ t → AllOf in_body x → ends_csi (class_of f) ≡ true
+    → AreFit (if t then hook_event x f ∷ puts d else [])
 fit_data x d f true e h k = ((x, h, e, refl, k), fit_puts d)
 fit_data x d f false e h k = tt
 
@@ -197,4 +214,4 @@ pub events_fit : (s : List ℕ) → AreFit (events s)
 events_fit s =
     let w = stands s in
     let u = after_all Ground s in
-    subst AreFit (sym w.1.told) (fit_append (told_before w.0) (told_open u) (fit_before w.0 _ w.1.finished) (fit_open u w.1.shape))
+    subst AreFit (sym w.1.told) (fit_append (finished_events w.0) (told_open u) (fit_before w.0 _ w.1.finished) (fit_open u w.1.shape))

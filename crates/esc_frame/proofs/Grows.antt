@@ -4,11 +4,13 @@ use Rattle.std.proofs.lemmas.List.{append-nil}
 use Rattle.esc_frame.specs.Classes.{class_of, is_breaker}
 use Rattle.esc_frame.specs.Sequences.{is_broken_before}
 use Rattle.esc_frame.specs.Events.{Event}
-use Rattle.esc_frame.specs.Segments.{Segment, Piece, HasShape, IsPiece, ArePieces, joined, bytes_of, text_bytes, piece_bytes, ending_bytes, events_of, is_finished, breaks, breaks_text}
-use Rattle.esc_frame.specs.Segments.Segment.{Character, Wide, Broken, Stray, Control, HighControl, Terminator, Escape, Csi, Osc, CutEscape, CutCsi, CutDcs, Dcs, Apc, Ignored}
+use Rattle.esc_frame.specs.Segments.{Segment, Piece, HasShape, IsPiece, ArePieces, joined, bytes_of, text_bytes, piece_bytes, ending_bytes, events_of}
+use Rattle.esc_frame.specs.Segments.{is_finished, breaks, breaks_text}
+use Rattle.esc_frame.specs.Segments.Segment.{Character, Wide, Broken, Stray, Control, HighControl, Terminator, Escape, Csi, Osc, CutEscape, CutCsi, CutDcs, Dcs}
+use Rattle.esc_frame.specs.Segments.Segment.{Apc, Ignored}
 use Rattle.esc_frame.specs.Segments.Ending.{Open, Rung, Waits}
 use Rattle.esc_frame.specs.Segments.Piece.{One, Sequence, BrokenOff}
-use Rattle.esc_frame.specs.Leads.{Unfinished, AreFinished, OpenShape, open_bytes, Stands, told_before, told_open}
+use Rattle.esc_frame.specs.Leads.{Unfinished, AreFinished, OpenShape, open_bytes, Stands, finished_events, told_open}
 use Rattle.esc_frame.specs.Leads.Unfinished.{Ground}
 
 -- ---- what follows may grow
@@ -38,7 +40,8 @@ piece_more (BrokenOff x) t b h = (h.0, broken_more x t b h.1)
 
 pub pieces_more : (ps : List Piece) (t : List ℕ) (b : ℕ) → ArePieces ps t → ArePieces ps (t ++ b ∷ [])
 pieces_more [] t b h = tt
-pieces_more (p ∷ ps) t b (h, r) = (subst (λ x. IsPiece p x) (append_assoc (text_bytes ps) t (b ∷ [])) (piece_more p (text_bytes ps ++ t) b h), pieces_more ps t b r)
+pieces_more (p ∷ ps) t b (h, r) =
+    (subst (λ x. IsPiece p x) (append_assoc (text_bytes ps) t (b ∷ [])) (piece_more p (text_bytes ps ++ t) b h), pieces_more ps t b r)
 
 shape_more : (g : Segment) (t : List ℕ) (b : ℕ) → HasShape g t → HasShape g (t ++ b ∷ [])
 shape_more (Osc o ps e) t b h = (h.0, subst (λ x. ArePieces ps x) (append_assoc (ending_bytes e) t (b ∷ [])) (pieces_more ps (ending_bytes e ++ t) b h.1), h.2)
@@ -91,7 +94,9 @@ finished_before (g ∷ gs) t b (s, f, r) =
 
 pub text_push : (ps : List Piece) (p : Piece) (t : List ℕ) → text_bytes (ps ++ p ∷ []) ++ t ≡ text_bytes ps ++ (piece_bytes p ++ t)
 text_push [] p t = ap (λ x. x ++ t) (append-nil (piece_bytes p))
-text_push (q ∷ ps) p t = append_assoc (piece_bytes q) (text_bytes (ps ++ p ∷ [])) t ∙ ap (λ x. piece_bytes q ++ x) (text_push ps p t) ∙ sym (append_assoc (piece_bytes q) (text_bytes ps) (piece_bytes p ++ t))
+text_push (q ∷ ps) p t =
+    append_assoc (piece_bytes q) (text_bytes (ps ++ p ∷ [])) t ∙ ap (λ x. piece_bytes q ++ x) (text_push ps p t)
+    ∙ sym (append_assoc (piece_bytes q) (text_bytes ps) (piece_bytes p ++ t))
 
 pub text_end : (ps : List Piece) (p : Piece) → text_bytes (ps ++ p ∷ []) ≡ text_bytes ps ++ piece_bytes p
 text_end ps p = sym (append-nil (text_bytes (ps ++ p ∷ []))) ∙ text_push ps p [] ∙ ap (λ x. text_bytes ps ++ x) (append-nil (piece_bytes p))
@@ -102,18 +107,22 @@ pieces_push (q ∷ ps) p t (h, r) i = (subst (λ x. IsPiece q x) (sym (text_push
 
 joined_push : (gs : List Segment) (g : Segment) (t : List ℕ) → joined (gs ++ g ∷ []) ++ t ≡ joined gs ++ (bytes_of g ++ t)
 joined_push [] g t = ap (λ x. x ++ t) (append-nil (bytes_of g))
-joined_push (h ∷ gs) g t = append_assoc (bytes_of h) (joined (gs ++ g ∷ [])) t ∙ ap (λ x. bytes_of h ++ x) (joined_push gs g t) ∙ sym (append_assoc (bytes_of h) (joined gs) (bytes_of g ++ t))
+joined_push (h ∷ gs) g t =
+    append_assoc (bytes_of h) (joined (gs ++ g ∷ [])) t ∙ ap (λ x. bytes_of h ++ x) (joined_push gs g t)
+    ∙ sym (append_assoc (bytes_of h) (joined gs) (bytes_of g ++ t))
 
 pub joined_end : (gs : List Segment) (g : Segment) → joined (gs ++ g ∷ []) ≡ joined gs ++ bytes_of g
 joined_end gs g = sym (append-nil (joined (gs ++ g ∷ []))) ∙ joined_push gs g [] ∙ ap (λ x. joined gs ++ x) (append-nil (bytes_of g))
 
-finished_push : (gs : List Segment) (g : Segment) (t : List ℕ) → AreFinished gs (bytes_of g ++ t) → HasShape g t → is_finished g t ≡ true → AreFinished (gs ++ g ∷ []) t
+finished_push : (gs : List Segment) (g : Segment) (t : List ℕ) → AreFinished gs (bytes_of g ++ t) → HasShape g t → is_finished g t ≡ true
+    → AreFinished (gs ++ g ∷ []) t
 finished_push [] g t h s f = (s, f, tt)
-finished_push (h ∷ gs) g t (s, f, r) sg fg = (subst (λ x. HasShape h x) (sym (joined_push gs g t)) s, subst (λ x. is_finished h x ≡ true) (sym (joined_push gs g t)) f, finished_push gs g t r sg fg)
+finished_push (h ∷ gs) g t (s, f, r) sg fg =
+    (subst (λ x. HasShape h x) (sym (joined_push gs g t)) s, subst (λ x. is_finished h x ≡ true) (sym (joined_push gs g t)) f, finished_push gs g t r sg fg)
 
-told_push : (gs : List Segment) (g : Segment) → told_before (gs ++ g ∷ []) ≡ told_before gs ++ events_of g true
+told_push : (gs : List Segment) (g : Segment) → finished_events (gs ++ g ∷ []) ≡ finished_events gs ++ events_of g true
 told_push [] g = append-nil (events_of g true)
-told_push (h ∷ gs) g = ap (λ x. events_of h true ++ x) (told_push gs g) ∙ sym (append_assoc (events_of h true) (told_before gs) (events_of g true))
+told_push (h ∷ gs) g = ap (λ x. events_of h true ++ x) (told_push gs g) ∙ sym (append_assoc (events_of h true) (finished_events gs) (events_of g true))
 
 -- ---- one byte more
 
@@ -121,48 +130,52 @@ told_push (h ∷ gs) g = ap (λ x. events_of h true ++ x) (told_push gs g) ∙ s
 pub record Base (stream : List ℕ) (events : List Event) (gs : List Segment) (last : List ℕ) (told_last : List Event) : Type 0 where
   pub whole : stream ≡ joined gs ++ last
   pub finished : AreFinished gs last
-  pub told : events ≡ told_before gs ++ told_last
+  pub told : events ≡ finished_events gs ++ told_last
 
 pub base : (s : List ℕ) (es : List Event) (gs : List Segment) (u : Unfinished) → Stands s es gs u → Base s es gs (open_bytes u) (told_open u)
 base s es gs u st = record { whole = st.whole; finished = st.finished; told = st.told }
 
 -- the last segment takes the byte
-pub grows : (stream : List ℕ) (events : List Event) (gs : List Segment) (last : List ℕ) (ts : List Event) (v : Unfinished) (b : ℕ) (news : List Event) → Base stream events gs last ts
+pub grows : (stream : List ℕ) (events : List Event) (gs : List Segment) (last : List ℕ) (ts : List Event) (v : Unfinished) (b : ℕ) (news : List Event)
+    → Base stream events gs last ts
     → open_bytes v ≡ last ++ b ∷ [] → OpenShape v → told_open v ≡ ts ++ news
     → Stands (stream ++ b ∷ []) (events ++ news) gs v
 grows stream events gs last ts v b news st j s t = record {
   whole = ap (λ x. x ++ b ∷ []) st.whole ∙ append_assoc (joined gs) last (b ∷ []) ∙ ap (λ x. joined gs ++ x) (sym j);
   finished = subst (λ x. AreFinished gs x) (sym j) (finished_before gs last b st.finished);
   shape = s;
-  told = ap (λ x. x ++ news) st.told ∙ append_assoc (told_before gs) ts news ∙ ap (λ x. told_before gs ++ x) (sym t);
+  told = ap (λ x. x ++ news) st.told ∙ append_assoc (finished_events gs) ts news ∙ ap (λ x. finished_events gs ++ x) (sym t);
 }
 
 -- Of a stream the finished segments are all but these last bytes.
 pub record Meets (stream : List ℕ) (events : List Event) (gs : List Segment) (last : List ℕ) : Type 0 where
   pub whole : stream ≡ joined gs ++ last
   pub finished : AreFinished gs last
-  pub told : events ≡ told_before gs
+  pub told : events ≡ finished_events gs
 
 -- the last segment is finished before these last bytes
-pub leaves : (stream : List ℕ) (events : List Event) (gs : List Segment) (last : List ℕ) (ts : List Event) (g : Segment) (b : ℕ) (rest : List ℕ) (news : List Event) → Base stream events gs last ts
+pub leaves : (stream : List ℕ) (events : List Event) (gs : List Segment) (last : List ℕ) (ts : List Event) (g : Segment) (b : ℕ) (rest : List ℕ)
+    (news : List Event)
+    → Base stream events gs last ts
     → bytes_of g ++ rest ≡ last ++ b ∷ [] → HasShape g rest → is_finished g rest ≡ true → events_of g true ≡ ts ++ news
     → Meets (stream ++ b ∷ []) (events ++ news) (gs ++ g ∷ []) rest
 leaves stream events gs last ts g b rest news st j s f t = record {
   whole = ap (λ x. x ++ b ∷ []) st.whole ∙ append_assoc (joined gs) last (b ∷ []) ∙ ap (λ x. joined gs ++ x) (sym j) ∙ sym (joined_push gs g rest);
   finished = finished_push gs g rest (subst (λ x. AreFinished gs x) (sym j) (finished_before gs last b st.finished)) s f;
-  told = ap (λ x. x ++ news) st.told ∙ append_assoc (told_before gs) ts news ∙ ap (λ x. told_before gs ++ x) (sym t) ∙ sym (told_push gs g);
+  told = ap (λ x. x ++ news) st.told ∙ append_assoc (finished_events gs) ts news ∙ ap (λ x. finished_events gs ++ x) (sym t) ∙ sym (told_push gs g);
 }
 
 -- nothing is left over
 pub ends : (stream : List ℕ) (events : List Event) (gs : List Segment) → Meets stream events gs [] → Stands stream events gs Ground
-ends stream events gs m = record { whole = m.whole; finished = m.finished; shape = tt; told = m.told ∙ sym (append-nil (told_before gs)) }
+ends stream events gs m = record { whole = m.whole; finished = m.finished; shape = tt; told = m.told ∙ sym (append-nil (finished_events gs)) }
 
 -- what told nothing may be anew
-pub meets : (stream : List ℕ) (events : List Event) (gs : List Segment) (last : List ℕ) (b : ℕ) → Base stream events gs last [] → Meets (stream ++ b ∷ []) events gs (last ++ b ∷ [])
+pub meets : (stream : List ℕ) (events : List Event) (gs : List Segment) (last : List ℕ) (b : ℕ) → Base stream events gs last []
+    → Meets (stream ++ b ∷ []) events gs (last ++ b ∷ [])
 meets stream events gs last b st = record {
   whole = ap (λ x. x ++ b ∷ []) st.whole ∙ append_assoc (joined gs) last (b ∷ []);
   finished = finished_before gs last b st.finished;
-  told = st.told ∙ append-nil (told_before gs);
+  told = st.told ∙ append-nil (finished_events gs);
 }
 
 -- the last bytes are a segment
@@ -174,7 +187,7 @@ alone stream events gs g last news m j s f t =
       whole = m.whole ∙ ap (λ x. joined gs ++ x) e ∙ sym (joined_push gs g []);
       finished = finished_push gs g [] (subst (λ x. AreFinished gs x) e m.finished) s f;
       shape = tt;
-      told = ap (λ x. x ++ news) m.told ∙ ap (λ x. told_before gs ++ x) (sym t) ∙ sym (told_push gs g) ∙ sym (append-nil (told_before (gs ++ g ∷ [])));
+      told = ap (λ x. x ++ news) m.told ∙ ap (λ x. finished_events gs ++ x) (sym t) ∙ sym (told_push gs g) ∙ sym (append-nil (finished_events (gs ++ g ∷ [])));
     }
 
 -- the last bytes begin a segment
@@ -184,5 +197,5 @@ begins stream events gs u last m j s t = record {
   whole = m.whole ∙ ap (λ x. joined gs ++ x) (sym j);
   finished = subst (λ x. AreFinished gs x) (sym j) m.finished;
   shape = s;
-  told = ap (λ x. x ++ []) m.told ∙ ap (λ x. told_before gs ++ x) (sym t);
+  told = ap (λ x. x ++ []) m.told ∙ ap (λ x. finished_events gs ++ x) (sym t);
 }

@@ -8,14 +8,15 @@ use Rattle.esc_frame.specs.declared.classes.Kind.TheVariants as kind
 use Rattle.esc_frame.specs.Classes.{class_of, is_breaker, in_data}
 use Rattle.esc_frame.specs.Events.{Event}
 use Rattle.esc_frame.specs.Segments.{Segment, Opener, HasShape, IsOpener, ArePieces, AreSegments, IsCut, joined, bytes_of, text_bytes, ending_bytes, opener}
-use Rattle.esc_frame.specs.Segments.Segment.{Character, Wide, Broken, Stray, Control, HighControl, Terminator, CutEscape, CutCsi, CutDcs, Csi, Osc, Dcs, Apc, Ignored}
+use Rattle.esc_frame.specs.Segments.Segment.{Character, Wide, Broken, Stray, Control, HighControl, Terminator, CutEscape, CutCsi, CutDcs, Csi, Osc, Dcs, Apc}
+use Rattle.esc_frame.specs.Segments.Segment.{Ignored}
 use Rattle.esc_frame.specs.Segments.Segment.{Escape as EscapeOf}
 use Rattle.esc_frame.specs.Segments.Opener.{Long, Raw, Pair}
 use Rattle.esc_frame.specs.Segments.Ending.{Open, Waits}
 use Rattle.esc_frame.specs.Memory.{may_grow, MayGrow}
 use Rattle.esc_frame.specs.Leads.{Unfinished, Stands, AreFinished, osc_bytes}
 use Rattle.esc_frame.specs.Leads.Unfinished.{Ground, Pending, InEscape, InCsi, InDcs, InData, InApc, InIgnored, InOsc, InOscPending}
-use Rattle.esc_frame.specs.Moves.{after_by, after_all, may_grow_in, may_grow_within}
+use Rattle.esc_frame.specs.Machine.Moves.{after_by, after_all, may_grow_in, may_grow_within}
 use Rattle.esc_frame.specs.Stream.{events}
 use Rattle.esc_frame.proofs.Grows.{finished_before}
 use Rattle.esc_frame.proofs.Cuts.{has_cut, cut_last, stands}
@@ -33,7 +34,8 @@ Opened g = (k : Kind) × (o : Opener) × (r : List ℕ) × IsOpener o × (bytes_
 grows_opened : (g : Segment) (after : List ℕ) → HasShape g after → may_grow g ≡ true → Opened g
 grows_opened (Csi o x f) after s h = (kind.Csi, o, x ++ f ∷ [], s.0, append_assoc (opener kind.Csi o) x (f ∷ []))
 grows_opened (Osc o ps e) after s h = (kind.Osc, o, text_bytes ps ++ ending_bytes e, s.0, append_assoc (opener kind.Osc o) (text_bytes ps) (ending_bytes e))
-grows_opened (Dcs o x f d) after s h = (kind.Dcs, o, (x ++ f ∷ []) ++ d, s.0, ap (λ y. y ++ d) (append_assoc (opener kind.Dcs o) x (f ∷ [])) ∙ append_assoc (opener kind.Dcs o) (x ++ f ∷ []) d)
+grows_opened (Dcs o x f d) after s h =
+    (kind.Dcs, o, (x ++ f ∷ []) ++ d, s.0, ap (λ y. y ++ d) (append_assoc (opener kind.Dcs o) x (f ∷ [])) ∙ append_assoc (opener kind.Dcs o) (x ++ f ∷ []) d)
 grows_opened (Apc o d) after s h = (kind.Apc, o, d, s.0, refl)
 grows_opened (Ignored k o d) after s h = (k, o, d, s.1, refl)
 grows_opened (CutCsi o x) after s h = (kind.Csi, o, x, s.0, refl)
@@ -110,7 +112,8 @@ opens_grow k o r h = let c = has_cut (opener k o ++ r) in (c.0, c.1, first_grows
 
 finished_before_all : (gs : List Segment) (u t : List ℕ) → AreFinished gs t → AreFinished gs (t ++ u)
 finished_before_all gs [] t h = subst (λ x. AreFinished gs x) (sym (append-nil t)) h
-finished_before_all gs (b ∷ u) t h = subst (λ x. AreFinished gs x) (append_assoc t (b ∷ []) u) (finished_before_all gs u (t ++ b ∷ []) (finished_before gs t b h))
+finished_before_all gs (b ∷ u) t h =
+    subst (λ x. AreFinished gs x) (append_assoc t (b ∷ []) u) (finished_before_all gs u (t ++ b ∷ []) (finished_before gs t b h))
 
 -- a finished segment before a stream that may grow
 cut_cons : (g : Segment) (hs : List Segment) → AreFinished (g ∷ []) (joined hs) → AreSegments hs → list_any may_grow hs ≡ true → AreSegments (g ∷ hs)
@@ -125,10 +128,12 @@ grows_behind g s f (hs, cut, h) = (
 )
 
 -- by the first of them that may grow
-more_by : (g : Segment) (gs : List Segment) (t : List ℕ) → AreSegments (g ∷ gs) → ((may_grow g ≡ true) ⊎ ((list_any may_grow gs ≡ true) × MayGrow (joined gs ++ t))) → MayGrow (bytes_of g ++ (joined gs ++ t))
+more_by : (g : Segment) (gs : List Segment) (t : List ℕ) → AreSegments (g ∷ gs)
+    → ((may_grow g ≡ true) ⊎ ((list_any may_grow gs ≡ true) × MayGrow (joined gs ++ t))) → MayGrow (bytes_of g ++ (joined gs ++ t))
 more_by g gs t a (inl h) =
     let w = grows_opened g (joined gs) (head_of g gs a).0 h in
-    let e : opener w.0 w.1 ++ (w.2 ++ (joined gs ++ t)) ≡ bytes_of g ++ (joined gs ++ t) = sym (append_assoc (opener w.0 w.1) w.2 (joined gs ++ t)) ∙ ap (λ x. x ++ (joined gs ++ t)) (sym w.4) in
+    let e : opener w.0 w.1 ++ (w.2 ++ (joined gs ++ t)) ≡ bytes_of g ++ (joined gs ++ t) = sym (append_assoc (opener w.0 w.1) w.2 (joined gs ++ t)) ∙ ap
+    (λ x. x ++ (joined gs ++ t)) (sym w.4) in
     subst MayGrow e (opens_grow w.0 w.1 (w.2 ++ (joined gs ++ t)) w.3)
 more_by g [] t a (inr h) = let e : false ≡ true = h.0 in absurd cc
 more_by g (k ∷ gs) t a (inr h) = grows_behind g (joined (k ∷ gs) ++ t) (finished_before_all (g ∷ []) t (joined (k ∷ gs)) (a.0, a.1, tt)) h.1
@@ -161,12 +166,23 @@ open_grows s es gs (Pending f) st h = absurd cc
 open_grows s es gs (InEscape x) st h = absurd cc
 open_grows s es gs (InCsi o x) st h = (gs ++ CutCsi o x ∷ [], cut_last s es gs (InCsi o x) (CutCsi o x) st refl st.shape, last_grows gs (CutCsi o x) refl)
 open_grows s es gs (InDcs o x) st h = (gs ++ CutDcs o x ∷ [], cut_last s es gs (InDcs o x) (CutDcs o x) st refl st.shape, last_grows gs (CutDcs o x) refl)
-open_grows s es gs (InData o x f d) st h = (gs ++ Dcs o x f d ∷ [], cut_last s es gs (InData o x f d) (Dcs o x f d) st refl st.shape, last_grows gs (Dcs o x f d) refl)
+open_grows s es gs (InData o x f d) st h =
+    (gs ++ Dcs o x f d ∷ [], cut_last s es gs (InData o x f d) (Dcs o x f d) st refl st.shape, last_grows gs (Dcs o x f d) refl)
 open_grows s es gs (InApc o d) st h = (gs ++ Apc o d ∷ [], cut_last s es gs (InApc o d) (Apc o d) st refl st.shape, last_grows gs (Apc o d) refl)
-open_grows s es gs (InIgnored k o d) st h = (gs ++ Ignored k o d ∷ [], cut_last s es gs (InIgnored k o d) (Ignored k o d) st refl st.shape, last_grows gs (Ignored k o d) refl)
-open_grows s es gs (InOsc o ps) st h = (gs ++ Osc o ps Open ∷ [], cut_last s es gs (InOsc o ps) (Osc o ps Open) st (sym (append-nil (osc_bytes o ps))) (st.shape.0, st.shape.1, tt), last_grows gs (Osc o ps Open) refl)
-open_grows s es gs (InOscPending o ps f) st h =
-    (gs ++ Osc o ps (Waits f) ∷ [], cut_last s es gs (InOscPending o ps f) (Osc o ps (Waits f)) st refl (st.shape.0, subst (λ y. ArePieces ps y) (sym (append-nil f)) st.shape.1, st.shape.2), last_grows gs (Osc o ps (Waits f)) refl)
+open_grows s es gs (InIgnored k o d) st h =
+    (gs ++ Ignored k o d ∷ [], cut_last s es gs (InIgnored k o d) (Ignored k o d) st refl st.shape, last_grows gs (Ignored k o d) refl)
+open_grows s es gs (InOsc o ps) st h = (
+  gs ++ Osc o ps Open ∷ [],
+  cut_last s es gs (InOsc o ps) (Osc o ps Open) st (sym (append-nil (osc_bytes o ps))) (st.shape.0, st.shape.1, tt),
+  last_grows gs
+      (Osc o ps Open) refl,
+)
+open_grows s es gs (InOscPending o ps f) st h = (
+  gs ++ Osc o ps (Waits f) ∷ [],
+  cut_last s es gs (InOscPending o ps f) (Osc o ps (Waits f)) st refl
+      (st.shape.0, subst (λ y. ArePieces ps y) (sym (append-nil f)) st.shape.1, st.shape.2),
+  last_grows gs (Osc o ps (Waits f)) refl,
+)
 
 -- where one of these bytes behind s may make it grow, s and they are such a stream
 pub grows_added : (s b : List ℕ) → may_grow_within (after_all Ground s) b ≡ true → MayGrow (s ++ b)

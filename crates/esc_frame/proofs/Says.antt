@@ -10,11 +10,12 @@ use Rattle.esc_frame.specs.Sequences.{is_broken_before}
 use Rattle.esc_frame.specs.Events.{Event}
 use Rattle.esc_frame.specs.Events.Event.{Print, Execute}
 use Rattle.esc_frame.specs.Segments.{Segment, Piece, HasShape, IsPiece, ArePieces, joined, bytes_of, text_bytes, events_of, is_finished, ends_itself}
-use Rattle.esc_frame.specs.Segments.Segment.{Character, Wide, Broken, Stray, Control, HighControl, Terminator, Csi, Osc, Dcs, Apc, Ignored, CutDcs, CutEscape, CutCsi}
+use Rattle.esc_frame.specs.Segments.Segment.{Character, Wide, Broken, Stray, Control, HighControl, Terminator, Csi, Osc, Dcs, Apc, Ignored, CutDcs, CutEscape}
+use Rattle.esc_frame.specs.Segments.Segment.{CutCsi}
 use Rattle.esc_frame.specs.Segments.Segment.{Escape as EscapeOf}
 use Rattle.esc_frame.specs.Segments.Ending.{Open, Rung, Waits}
 use Rattle.esc_frame.specs.Segments.Piece.{One, Sequence, BrokenOff}
-use Rattle.esc_frame.specs.Leads.{told_before}
+use Rattle.esc_frame.specs.Leads.{finished_events}
 use Rattle.esc_frame.specs.Stream.{Says, events}
 use Rattle.esc_frame.specs.Fits.{IsOneSegment}
 use Rattle.esc_frame.proofs.Streams.{says_segments}
@@ -25,7 +26,9 @@ says_by t u es fs e f h rest = ap (λ x. events (x ++ rest)) (sym e) ∙ h rest 
 
 -- one segment
 pub says_one : (g : Segment) → ((rest : List ℕ) → HasShape g rest × (is_finished g rest ≡ true)) → Says (bytes_of g) (events_of g true)
-says_one g h = says_by (joined (g ∷ [])) (bytes_of g) (told_before (g ∷ [])) (events_of g true) (append-nil (bytes_of g)) (append-nil (events_of g true)) (says_segments (g ∷ []) (λ rest. ((h rest).0, (h rest).1, tt)))
+says_one g h =
+    says_by (joined (g ∷ [])) (bytes_of g) (finished_events (g ∷ [])) (events_of g true) (append-nil (bytes_of g)) (append-nil (events_of g true))
+    (says_segments (g ∷ []) (λ rest. ((h rest).0, (h rest).1, tt)))
 
 -- ASCII text
 pub text_from : (c : ℕ) → 0x20 ≤ c → c < 128 → is_text (class_of c) ≡ true
@@ -34,8 +37,10 @@ text_from c l h = grind (arith, nat_tests)
 
 pub says_print : (c : ℕ) → is_clear c ≡ true → Says (encode_utf8 c) (Print c ∷ [])
 says_print c h = let q = clear_cases c h in elim q.1 [
-  | inl l ↦ let t = text_from c l.0 l.1 in says_by (c ∷ []) (encode_utf8 c) (Print c ∷ []) (Print c ∷ []) (sym (encode_ascii c l.1)) refl (says_one (Character c) (λ rest. (t, refl)))
-  | inr l ↦ let w = spells_clear c q.0 l in says_by (encode_utf8 c) (encode_utf8 c) (events_of (Wide (encode_utf8 c)) true) (Print c ∷ []) refl (ap (λ n. Print n ∷ []) w.2) (says_one (Wide (encode_utf8 c)) (λ rest. ((w.0, w.1), refl)))
+  | inl l ↦ let t = text_from c l.0 l.1 in says_by (c ∷ []) (encode_utf8 c) (Print c ∷ []) (Print c ∷ []) (sym (encode_ascii c l.1)) refl
+      (says_one (Character c) (λ rest. (t, refl)))
+  | inr l ↦ let w = spells_clear c q.0 l in says_by (encode_utf8 c) (encode_utf8 c) (events_of (Wide (encode_utf8 c)) true) (Print c ∷ []) refl
+      (ap (λ n. Print n ∷ []) w.2) (says_one (Wide (encode_utf8 c)) (λ rest. ((w.0, w.1), refl)))
 ]
 
 pub says_control : (b : ℕ) → is_control (class_of b) ≡ true → Says (b ∷ []) (Execute b ∷ [])

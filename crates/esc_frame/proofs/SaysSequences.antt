@@ -5,7 +5,8 @@ use Rattle.std.proofs.lemmas.Bool.{and_parts}
 use Rattle.std.proofs.lemmas.Bool.Decides.{nat_tests}
 use Rattle.esc_frame.specs.declared.classes.Class.{Class}
 use Rattle.esc_frame.specs.declared.classes.Class.TheVariants.{Intermediate, Parameter}
-use Rattle.esc_frame.specs.Classes.{class_of, AllOf, those, strip, is_plain, is_noise, is_intermediate, in_body, in_escape, in_csi, ends_escape, ends_csi, opens}
+use Rattle.esc_frame.specs.Classes.{class_of, AllOf, those, strip, is_plain, is_noise, is_intermediate, in_body, in_escape, in_csi, ends_escape, ends_csi}
+use Rattle.esc_frame.specs.Classes.{opens}
 use Rattle.esc_frame.specs.Bodies.{is_csi_body, kept_intermediates, has_more_intermediates}
 use Rattle.esc_frame.specs.Scans.{is_body_byte}
 use Rattle.esc_frame.specs.Events.Event.{EscDispatch}
@@ -50,7 +51,8 @@ body_strip x h = all_those (λ c. not (is_noise c)) x (all_by in_body (λ c. not
 
 body_executes : (x : List ℕ) → AllOf in_body x → executes x ≡ []
 body_executes [] h = refl
-body_executes (b ∷ x) h = let w = and_parts (in_body (class_of b)) (list_all (λ b. in_body (class_of b)) x) h in rw (body_silent (class_of b) w.0) (body_executes x w.1)
+body_executes (b ∷ x) h =
+    let w = and_parts (in_body (class_of b)) (list_all (λ b. in_body (class_of b)) x) h in rw (body_silent (class_of b) w.0) (body_executes x w.1)
 
 intermediate_body : (c : Class) → is_intermediate c ≡ true → in_body c ≡ true
 intermediate_body Intermediate h = refl
@@ -66,7 +68,8 @@ pub says_escape : (x : List ℕ) (f : ℕ) → AllOf is_intermediate x → ends_
 says_escape x f hx hf ho =
     let body = all_by is_intermediate in_body intermediate_body x hx in
     let kept = body_strip x body in
-    says_by ((0x1b ∷ x) ++ f ∷ []) ((0x1b ∷ x) ++ f ∷ []) (events_of (EscapeOf x f) true) (EscDispatch (kept_intermediates x) (has_more_intermediates x) f ∷ []) refl (rw (body_executes x body, kept) refl)
+    says_by ((0x1b ∷ x) ++ f ∷ []) ((0x1b ∷ x) ++ f ∷ []) (events_of (EscapeOf x f) true)
+    (EscDispatch (kept_intermediates x) (has_more_intermediates x) f ∷ []) refl (rw (body_executes x body, kept) refl)
     (says_one (EscapeOf x f) (λ rest. ((all_by is_intermediate in_escape intermediate_escape x hx, hf, rw kept ho), refl)))
 
 csi_dispatched : (x : List ℕ) (f : ℕ) (t : Bool) → t ≡ true → (if t then csi_event x f ∷ [] else []) ≡ csi_event x f ∷ []
@@ -83,11 +86,15 @@ body_of [] h = refl
 body_of (b ∷ x) h = let w = and_parts (is_body_byte b) (list_all is_body_byte x) h in rw (body_class b w.0, body_of x w.1) refl
 
 -- a control sequence with a body of its form is one segment
-pub one_csi : (x : List ℕ) (f : ℕ) → AllOf in_body x → is_csi_body x ≡ true → ends_csi (class_of f) ≡ true → IsOneSegment ((0x1b ∷ 0x5b ∷ x) ++ f ∷ []) (csi_event x f ∷ [])
-one_csi x f hx hb hf = (Csi (Long []) x f, refl, refl, (refl, body_in x hx, hf), rw (body_executes x hx, body_strip x hx) (csi_dispatched x f (is_csi_body x) hb))
+pub one_csi : (x : List ℕ) (f : ℕ) → AllOf in_body x → is_csi_body x ≡ true → ends_csi (class_of f) ≡ true
+    → IsOneSegment ((0x1b ∷ 0x5b ∷ x) ++ f ∷ []) (csi_event x f ∷ [])
+one_csi x f hx hb hf =
+    (Csi (Long []) x f, refl, refl, (refl, body_in x hx, hf), rw (body_executes x hx, body_strip x hx) (csi_dispatched x f (is_csi_body x) hb))
 
 -- and says what this body dispatches
-pub says_csi : (x : List ℕ) (f : ℕ) → AllOf in_body x → is_csi_body x ≡ true → ends_csi (class_of f) ≡ true → Says ((0x1b ∷ 0x5b ∷ x) ++ f ∷ []) (csi_event x f ∷ [])
+pub says_csi : (x : List ℕ) (f : ℕ) → AllOf in_body x → is_csi_body x ≡ true → ends_csi (class_of f) ≡ true
+    → Says ((0x1b ∷ 0x5b ∷ x) ++ f ∷ []) (csi_event x f ∷ [])
 says_csi x f hx hb hf =
-    says_by (bytes_of (Csi (Long []) x f)) ((0x1b ∷ 0x5b ∷ x) ++ f ∷ []) (events_of (Csi (Long []) x f) true) (csi_event x f ∷ []) refl (rw (body_executes x hx, body_strip x hx) (csi_dispatched x f (is_csi_body x) hb))
+    says_by (bytes_of (Csi (Long []) x f)) ((0x1b ∷ 0x5b ∷ x) ++ f ∷ []) (events_of (Csi (Long []) x f) true) (csi_event x f ∷ []) refl
+    (rw (body_executes x hx, body_strip x hx) (csi_dispatched x f (is_csi_body x) hb))
     (says_one (Csi (Long []) x f) (λ rest. ((refl, body_in x hx, hf), refl)))

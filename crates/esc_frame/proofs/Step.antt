@@ -2,26 +2,32 @@
 use Rattle.std.proofs.Common.{ℕ, ◌≡◌, Bool, true, false, not, if◌then◌else◌, ◌||◌, ◌&&◌, List, [], ◌∷◌, ◌++◌, refl, ap, sym, ◌∙◌, subst, append_assoc}
 use Rattle.std.proofs.lemmas.List.{append-nil}
 use Rattle.esc_frame.specs.declared.classes.Class.{Class}
-use Rattle.esc_frame.specs.declared.classes.Class.TheVariants.{Plain, Bell, Cancel, Escape, Intermediate, Parameter, Opens, Final, Delete, RawControl, RawOpens, RawTerminator, High, Lead}
+use Rattle.esc_frame.specs.declared.classes.Class.TheVariants.{Plain, Bell, Cancel, Escape, Intermediate, Parameter, Opens, Final, Delete, RawControl, RawOpens}
+use Rattle.esc_frame.specs.declared.classes.Class.TheVariants.{RawTerminator, High, Lead}
 use Rattle.esc_frame.specs.declared.classes.Kind.{Kind}
 use Rattle.esc_frame.specs.declared.classes.Kind.TheVariants as kind
 use Rattle.esc_frame.specs.declared.sequence.Outcome.{Outcome}
 use Rattle.esc_frame.specs.declared.sequence.Outcome.TheVariants as outcomes
-use Rattle.esc_frame.specs.Classes.{class_of, strip, is_plain, is_raw, is_breaker, in_escape, ends_escape, in_csi, ends_csi, in_osc, in_data, is_put, those, is_text, opens}
+use Rattle.esc_frame.specs.Classes.{class_of, strip, is_plain, is_raw, is_breaker, in_escape, ends_escape, in_csi, ends_csi, in_osc, in_data, is_put, those}
+use Rattle.esc_frame.specs.Classes.{is_text, opens}
 use Rattle.esc_frame.specs.Bodies.{is_dcs_header}
 use Rattle.esc_frame.specs.Sequences.{is_sequence, is_pair, outcome, number_of}
 use Rattle.esc_frame.specs.Events.{Event}
 use Rattle.esc_frame.specs.Events.Event.{Print, Execute, DcsPut, DcsUnhook, ApcDispatch}
-use Rattle.esc_frame.specs.Segments.{escape_event, Segment, Opener, Piece, HasShape, IsOpener, ArePieces, bytes_of, text_bytes, events_of, is_finished, executes, is_empty, opener, opener_events, breaks_text, csi_events, hook_event, puts}
-use Rattle.esc_frame.specs.Segments.Segment.{Character, Wide, Broken, Stray, Control, HighControl, Terminator, CutEscape, CutCsi, CutDcs, Csi, Osc, Dcs, Apc, Ignored}
+use Rattle.esc_frame.specs.Segments.{escape_event, Segment, Opener, Piece, HasShape, IsOpener, ArePieces, bytes_of, text_bytes, events_of, is_finished}
+use Rattle.esc_frame.specs.Segments.{executes, is_empty, opener, opener_events, breaks_text, csi_events, hook_event, puts}
+use Rattle.esc_frame.specs.Segments.Segment.{Character, Wide, Broken, Stray, Control, HighControl, Terminator, CutEscape, CutCsi, CutDcs, Csi, Osc, Dcs, Apc}
+use Rattle.esc_frame.specs.Segments.Segment.{Ignored}
 use Rattle.esc_frame.specs.Segments.Segment.{Escape as EscapeOf}
 use Rattle.esc_frame.specs.Segments.Opener.{Long, Raw, Pair}
 use Rattle.esc_frame.specs.Segments.Ending.{Open, Rung}
 use Rattle.esc_frame.specs.Segments.Piece.{One, Sequence, BrokenOff}
 use Rattle.esc_frame.specs.Leads.{Unfinished, OpenShape, open_bytes, osc_bytes, Stands, told_open}
 use Rattle.esc_frame.specs.Leads.Unfinished.{Ground, Pending, InEscape, InCsi, InOsc, InOscPending, InDcs, InData, InApc, InIgnored}
-use Rattle.esc_frame.specs.Moves.{opened, after_by, news_by, ground_after, ground_news, pair_after, pair_news, pending_after, pending_news, escape_after, escape_news, csi_after, csi_news, osc_after, osc_news, osc_pending_after, osc_pending_news, osc_event}
-use Rattle.esc_frame.proofs.Bytes.{all_push, executes_push, puts_push, is_escape, is_bell, is_letter, is_raw_letter, lead_front, pair_is, outcome_whole, outcome_more, outcome_broken, all_noise}
+use Rattle.esc_frame.specs.Machine.Moves.{opened, after_by, news_by, ground_after, ground_news, pair_after, pair_news, pending_after, pending_news, escape_after}
+use Rattle.esc_frame.specs.Machine.Moves.{escape_news, csi_after, csi_news, osc_after, osc_news, osc_pending_after, osc_pending_news, osc_event}
+use Rattle.esc_frame.proofs.Bytes.{all_push, executes_push, puts_push, is_escape, is_bell, is_letter, is_raw_letter, lead_front, pair_is, outcome_whole}
+use Rattle.esc_frame.proofs.Bytes.{outcome_more, outcome_broken, all_noise}
 use Rattle.esc_frame.proofs.Grows.{Base, base, grows, Meets, leaves, ends, meets, alone, begins, pieces_more, pieces_push, text_end}
 
 or_yes : (t : Bool) → (t || true) ≡ true
@@ -62,7 +68,8 @@ opened_told kind.Sos o = refl
 opened_told kind.Pm o = refl
 opened_told kind.Apc o = refl
 
-ground_step : (w : List ℕ) (es : List Event) (gs : List Segment) (b : ℕ) (c : Class) → class_of b ≡ c → Meets w es gs (b ∷ []) → Goes w (es ++ ground_news b c) (ground_after b c)
+ground_step : (w : List ℕ) (es : List Event) (gs : List Segment) (b : ℕ) (c : Class) → class_of b ≡ c → Meets w es gs (b ∷ [])
+    → Goes w (es ++ ground_news b c) (ground_after b c)
 ground_step w es gs b Plain e m = (_, alone w es gs (Control b) (b ∷ []) (Execute b ∷ []) m refl (rw e refl) refl refl)
 ground_step w es gs b Bell e m = (_, alone w es gs (Control b) (b ∷ []) (Execute b ∷ []) m refl (rw e refl) refl refl)
 ground_step w es gs b Cancel e m = (_, alone w es gs (Control b) (b ∷ []) (Execute b ∷ []) m refl (rw e refl) refl refl)
@@ -73,15 +80,24 @@ ground_step w es gs b (Opens k) e m = (_, alone w es gs (Character b) (b ∷ [])
 ground_step w es gs b Final e m = (_, alone w es gs (Character b) (b ∷ []) (Print b ∷ []) m refl (rw e refl) refl refl)
 ground_step w es gs b Delete e m = (_, alone w es gs (Character b) (b ∷ []) (Print b ∷ []) m refl (rw e refl) refl refl)
 ground_step w es gs b RawControl e m = (_, alone w es gs (HighControl false b) (b ∷ []) (Execute b ∷ []) m refl (rw e refl) refl refl)
-ground_step w es gs b (RawOpens k) e m = (gs, begins w es gs (opened k Raw) (b ∷ []) m (opened_bytes k Raw ∙ ap (λ x. x ∷ []) (sym (is_raw_letter b k e))) (opened_shape k Raw tt) (opened_told k Raw))
+ground_step w es gs b (RawOpens k) e m = (
+  gs,
+  begins w es gs (opened k Raw) (b ∷ []) m (opened_bytes k Raw ∙ ap (λ x. x ∷ []) (sym (is_raw_letter b k e))) (opened_shape k Raw tt)
+      (opened_told k Raw),
+)
 ground_step w es gs b RawTerminator e m = (_, alone w es gs (Terminator false b) (b ∷ []) [] m refl (rw e refl) refl refl)
 ground_step w es gs b High e m = (_, alone w es gs (Stray b) (b ∷ []) (Print 0xfffd ∷ []) m refl (rw e refl) refl refl)
 ground_step w es gs b Lead e m = (gs, begins w es gs (Pending (b ∷ [])) (b ∷ []) m refl (lead_front b e) refl)
 
 -- behind C2
-pair_step : (w : List ℕ) (es : List Event) (gs : List Segment) (b : ℕ) (c : Class) → class_of b ≡ c → is_raw c ≡ true → Meets w es gs (0xc2 ∷ b ∷ []) → Goes w (es ++ pair_news b c) (pair_after c)
+pair_step : (w : List ℕ) (es : List Event) (gs : List Segment) (b : ℕ) (c : Class) → class_of b ≡ c → is_raw c ≡ true → Meets w es gs (0xc2 ∷ b ∷ [])
+    → Goes w (es ++ pair_news b c) (pair_after c)
 pair_step w es gs b RawControl e h m = (_, alone w es gs (HighControl true b) (0xc2 ∷ b ∷ []) (Execute b ∷ []) m refl (rw e refl) refl refl)
-pair_step w es gs b (RawOpens k) e h m = (gs, begins w es gs (opened k Pair) (0xc2 ∷ b ∷ []) m (opened_bytes k Pair ∙ ap (λ x. 0xc2 ∷ x ∷ []) (sym (is_raw_letter b k e))) (opened_shape k Pair tt) (opened_told k Pair))
+pair_step w es gs b (RawOpens k) e h m = (
+  gs,
+  begins w es gs (opened k Pair) (0xc2 ∷ b ∷ []) m (opened_bytes k Pair ∙ ap (λ x. 0xc2 ∷ x ∷ []) (sym (is_raw_letter b k e))) (opened_shape k Pair tt)
+      (opened_told k Pair),
+)
 pair_step w es gs b RawTerminator e h m = (_, alone w es gs (Terminator true b) (0xc2 ∷ b ∷ []) [] m refl (rw e refl) refl refl)
 pair_step w es gs b _ e h m = absurd cc
 
@@ -90,7 +106,8 @@ joins : (w : List ℕ) (es first news : List Event) (v : Unfinished) → Goes w 
 joins w es first news v h = subst (λ x. Goes w x v) (append_assoc es first news) h
 
 -- what is unfinished is left, and the byte stands in ground
-break_step : (s : List ℕ) (es : List Event) (gs : List Segment) (last : List ℕ) (ts : List Event) (g : Segment) (first : List Event) (b : ℕ) (c : Class) → class_of b ≡ c → Base s es gs last ts
+break_step : (s : List ℕ) (es : List Event) (gs : List Segment) (last : List ℕ) (ts : List Event) (g : Segment) (first : List Event) (b : ℕ) (c : Class)
+    → class_of b ≡ c → Base s es gs last ts
     → bytes_of g ≡ last → HasShape g (b ∷ []) → is_finished g (b ∷ []) ≡ true → events_of g true ≡ ts ++ first
     → Goes (s ++ b ∷ []) (es ++ (first ++ ground_news b c)) (ground_after b c)
 break_step s es gs last ts g first b c e st j sh f t =
@@ -101,38 +118,61 @@ break_step s es gs last ts g first b c e st j sh f t =
 closes : (s : List ℕ) (es : List Event) (gs : List Segment) (last : List ℕ) (ts : List Event) (g : Segment) (b : ℕ) (news : List Event) → Base s es gs last ts
     → bytes_of g ≡ last ++ b ∷ [] → HasShape g [] → is_finished g [] ≡ true → events_of g true ≡ ts ++ news
     → Goes (s ++ b ∷ []) (es ++ news) Ground
-closes s es gs last ts g b news st j sh f t = (gs ++ g ∷ [], ends (s ++ b ∷ []) (es ++ news) (gs ++ g ∷ []) (leaves s es gs last ts g b [] news st (append-nil (bytes_of g) ∙ j) sh f t))
+closes s es gs last ts g b news st j sh f t =
+    (gs ++ g ∷ [], ends (s ++ b ∷ []) (es ++ news) (gs ++ g ∷ []) (leaves s es gs last ts g b [] news st (append-nil (bytes_of g) ∙ j) sh f t))
 
 -- ---- a front in ground
 
-whole_step : (s : List ℕ) (es : List Event) (gs : List Segment) (f : List ℕ) (b : ℕ) (t : Bool) → is_pair (f ++ b ∷ []) ≡ t → is_sequence (f ++ b ∷ []) ≡ true → Stands s es gs (Pending f)
+whole_step : (s : List ℕ) (es : List Event) (gs : List Segment) (f : List ℕ) (b : ℕ) (t : Bool) → is_pair (f ++ b ∷ []) ≡ t → is_sequence (f ++ b ∷ []) ≡ true
+    → Stands s es gs (Pending f)
     → Goes (s ++ b ∷ []) (es ++ (if t then pair_news b (class_of b) else Print (number_of (f ++ b ∷ [])) ∷ [])) (if t then pair_after (class_of b) else Ground)
-whole_step s es gs f b false p q st = closes s es gs f [] (Wide (f ++ b ∷ [])) b (Print (number_of (f ++ b ∷ [])) ∷ []) (base s es gs (Pending f) st) refl (q, p) refl refl
+whole_step s es gs f b false p q st =
+    closes s es gs f [] (Wide (f ++ b ∷ [])) b (Print (number_of (f ++ b ∷ [])) ∷ []) (base s es gs (Pending f) st) refl (q, p) refl refl
 whole_step s es gs f b true p q st =
     let k = pair_is f b p in
-    pair_step (s ++ b ∷ []) es gs b (class_of b) refl k.1 (subst (λ x. Meets (s ++ b ∷ []) es gs (x ++ b ∷ [])) k.0 (meets s es gs f b (base s es gs (Pending f) st)))
+    pair_step (s ++ b ∷ []) es gs b (class_of b) refl k.1 (subst (λ x. Meets (s ++ b ∷ []) es gs (x ++ b ∷ [])) k.0
+    (meets s es gs f b (base s es gs (Pending f) st)))
 
-pending_step : (s : List ℕ) (es : List Event) (gs : List Segment) (f : List ℕ) (b : ℕ) (t : Outcome) → outcome f b ≡ t → Stands s es gs (Pending f) → Goes (s ++ b ∷ []) (es ++ pending_news f b (class_of b) t) (pending_after f b (class_of b) t)
+pending_step : (s : List ℕ) (es : List Event) (gs : List Segment) (f : List ℕ) (b : ℕ) (t : Outcome) → outcome f b ≡ t → Stands s es gs (Pending f)
+    → Goes (s ++ b ∷ []) (es ++ pending_news f b (class_of b) t) (pending_after f b (class_of b) t)
 pending_step s es gs f b outcomes.Whole e st = whole_step s es gs f b (is_pair (f ++ b ∷ [])) refl (outcome_whole f b e) st
 pending_step s es gs f b outcomes.More e st = (gs, grows s es gs f [] (Pending (f ++ b ∷ [])) b [] (base s es gs (Pending f) st) refl (outcome_more f b e) refl)
-pending_step s es gs f b outcomes.Broken e st = break_step s es gs f [] (Broken f) (Print 0xfffd ∷ []) b (class_of b) refl (base s es gs (Pending f) st) refl st.shape (outcome_broken f b e) refl
+pending_step s es gs f b outcomes.Broken e st =
+    break_step s es gs f [] (Broken f) (Print 0xfffd ∷ []) b (class_of b) refl (base s es gs (Pending f) st) refl st.shape (outcome_broken f b e) refl
 
 -- ---- ESC x
 
-escape_grows : (s : List ℕ) (es : List Event) (gs : List Segment) (x : List ℕ) (b : ℕ) (c : Class) → class_of b ≡ c → in_escape c ≡ true → Stands s es gs (InEscape x) → Goes (s ++ b ∷ []) (es ++ (if is_plain c then Execute b ∷ [] else [])) (InEscape (x ++ b ∷ []))
-escape_grows s es gs x b c e h st = (gs, grows s es gs (0x1b ∷ x) (executes x) (InEscape (x ++ b ∷ [])) b (if is_plain c then Execute b ∷ [] else []) (base s es gs (InEscape x) st) refl (all_push in_escape x b c e st.shape h) (executes_push x b c e))
+escape_grows : (s : List ℕ) (es : List Event) (gs : List Segment) (x : List ℕ) (b : ℕ) (c : Class) → class_of b ≡ c → in_escape c ≡ true
+    → Stands s es gs (InEscape x) → Goes (s ++ b ∷ []) (es ++ (if is_plain c then Execute b ∷ [] else [])) (InEscape (x ++ b ∷ []))
+escape_grows s es gs x b c e h st = (
+  gs,
+  grows s es gs (0x1b ∷ x) (executes x) (InEscape (x ++ b ∷ [])) b (if is_plain c then Execute b ∷ [] else []) (base s es gs (InEscape x) st) refl
+      (all_push in_escape x b c e st.shape h) (executes_push x b c e),
+)
 
-escape_closes : (s : List ℕ) (es : List Event) (gs : List Segment) (x : List ℕ) (b : ℕ) (c : Class) → class_of b ≡ c → ends_escape c ≡ true → (is_empty (strip x) && opens c) ≡ false → Stands s es gs (InEscape x) → Goes (s ++ b ∷ []) (es ++ escape_event (strip x) b ∷ []) Ground
-escape_closes s es gs x b c e h k st = closes s es gs (0x1b ∷ x) (executes x) (EscapeOf x b) b (escape_event (strip x) b ∷ []) (base s es gs (InEscape x) st) refl (st.shape, rw e h, rw e k) refl refl
+escape_closes : (s : List ℕ) (es : List Event) (gs : List Segment) (x : List ℕ) (b : ℕ) (c : Class) → class_of b ≡ c → ends_escape c ≡ true
+    → (is_empty (strip x) && opens c) ≡ false → Stands s es gs (InEscape x) → Goes (s ++ b ∷ []) (es ++ escape_event (strip x) b ∷ []) Ground
+escape_closes s es gs x b c e h k st =
+    closes s es gs (0x1b ∷ x) (executes x) (EscapeOf x b) b (escape_event (strip x) b ∷ []) (base s es gs (InEscape x) st) refl
+    (st.shape, rw e h, rw e k) refl refl
 
-escape_breaks : (s : List ℕ) (es : List Event) (gs : List Segment) (x : List ℕ) (b : ℕ) (c : Class) → class_of b ≡ c → is_breaker c ≡ true → Stands s es gs (InEscape x) → Goes (s ++ b ∷ []) (es ++ ground_news b c) (ground_after b c)
-escape_breaks s es gs x b c e h st = break_step s es gs (0x1b ∷ x) (executes x) (CutEscape x) [] b c e (base s es gs (InEscape x) st) refl st.shape (rw e h) (sym (append-nil (executes x)))
+escape_breaks : (s : List ℕ) (es : List Event) (gs : List Segment) (x : List ℕ) (b : ℕ) (c : Class) → class_of b ≡ c → is_breaker c ≡ true
+    → Stands s es gs (InEscape x) → Goes (s ++ b ∷ []) (es ++ ground_news b c) (ground_after b c)
+escape_breaks s es gs x b c e h st =
+    break_step s es gs (0x1b ∷ x) (executes x) (CutEscape x) [] b c e (base s es gs (InEscape x) st) refl st.shape (rw e h) (sym (append-nil (executes x)))
 
-opens_step : (s : List ℕ) (es : List Event) (gs : List Segment) (x : List ℕ) (b : ℕ) (k : Kind) (t : Bool) → is_empty (strip x) ≡ t → class_of b ≡ Opens k → Stands s es gs (InEscape x) → Goes (s ++ b ∷ []) (es ++ (if t then [] else escape_event (strip x) b ∷ [])) (if t then opened k (Long x) else Ground)
-opens_step s es gs x b k true h e st = (gs, grows s es gs (0x1b ∷ x) (executes x) (opened k (Long x)) b [] (base s es gs (InEscape x) st) (opened_bytes k (Long x) ∙ ap (λ y. (0x1b ∷ x) ++ y ∷ []) (sym (is_letter b k e))) (opened_shape k (Long x) (all_noise x h)) (opened_told k (Long x) ∙ sym (append-nil (executes x))))
+opens_step : (s : List ℕ) (es : List Event) (gs : List Segment) (x : List ℕ) (b : ℕ) (k : Kind) (t : Bool) → is_empty (strip x) ≡ t → class_of b ≡ Opens k
+    → Stands s es gs (InEscape x) → Goes (s ++ b ∷ []) (es ++ (if t then [] else escape_event (strip x) b ∷ [])) (if t then opened k (Long x) else Ground)
+opens_step s es gs x b k true h e st = (
+  gs,
+  grows s es gs (0x1b ∷ x) (executes x) (opened k (Long x)) b [] (base s es gs (InEscape x) st)
+      (opened_bytes k (Long x) ∙ ap (λ y. (0x1b ∷ x) ++ y ∷ []) (sym (is_letter b k e))) (opened_shape k (Long x) (all_noise x h))
+      (opened_told k (Long x) ∙ sym (append-nil (executes x))),
+)
 opens_step s es gs x b k false h e st = escape_closes s es gs x b (Opens k) e refl (rw h refl) st
 
-escape_step : (s : List ℕ) (es : List Event) (gs : List Segment) (x : List ℕ) (b : ℕ) (c : Class) → class_of b ≡ c → Stands s es gs (InEscape x) → Goes (s ++ b ∷ []) (es ++ escape_news x b c) (escape_after x b c)
+escape_step : (s : List ℕ) (es : List Event) (gs : List Segment) (x : List ℕ) (b : ℕ) (c : Class) → class_of b ≡ c → Stands s es gs (InEscape x)
+    → Goes (s ++ b ∷ []) (es ++ escape_news x b c) (escape_after x b c)
 escape_step s es gs x b Plain e st = escape_grows s es gs x b Plain e refl st
 escape_step s es gs x b Bell e st = escape_grows s es gs x b Bell e refl st
 escape_step s es gs x b Intermediate e st = escape_grows s es gs x b Intermediate e refl st
@@ -150,20 +190,29 @@ escape_step s es gs x b (Opens k) e st = opens_step s es gs x b k (is_empty (str
 
 -- ---- a CSI
 
-csi_grows : (s : List ℕ) (es : List Event) (gs : List Segment) (o : Opener) (x : List ℕ) (b : ℕ) (c : Class) → class_of b ≡ c → in_csi c ≡ true → Stands s es gs (InCsi o x) → Goes (s ++ b ∷ []) (es ++ (if is_plain c then Execute b ∷ [] else [])) (InCsi o (x ++ b ∷ []))
+csi_grows : (s : List ℕ) (es : List Event) (gs : List Segment) (o : Opener) (x : List ℕ) (b : ℕ) (c : Class) → class_of b ≡ c → in_csi c ≡ true
+    → Stands s es gs (InCsi o x) → Goes (s ++ b ∷ []) (es ++ (if is_plain c then Execute b ∷ [] else [])) (InCsi o (x ++ b ∷ []))
 csi_grows s es gs o x b c e h st = (
   gs,
-  grows s es gs (opener kind.Csi o ++ x) (opener_events o ++ executes x) (InCsi o (x ++ b ∷ [])) b (if is_plain c then Execute b ∷ [] else []) (base s es gs (InCsi o x) st) (sym (append_assoc (opener kind.Csi o) x (b ∷ []))) (st.shape.0, all_push in_csi x b c e st.shape.1 h)
+  grows s es gs (opener kind.Csi o ++ x) (opener_events o ++ executes x) (InCsi o (x ++ b ∷ [])) b (if is_plain c then Execute b ∷ [] else [])
+      (base s es gs (InCsi o x) st) (sym (append_assoc (opener kind.Csi o) x (b ∷ []))) (st.shape.0, all_push in_csi x b c e st.shape.1 h)
       (ap (λ y. opener_events o ++ y) (executes_push x b c e) ∙ sym (append_assoc (opener_events o) (executes x) (if is_plain c then Execute b ∷ [] else []))),
 )
 
-csi_closes : (s : List ℕ) (es : List Event) (gs : List Segment) (o : Opener) (x : List ℕ) (b : ℕ) (c : Class) → class_of b ≡ c → ends_csi c ≡ true → Stands s es gs (InCsi o x) → Goes (s ++ b ∷ []) (es ++ csi_events (strip x) b) Ground
-csi_closes s es gs o x b c e h st = closes s es gs (opener kind.Csi o ++ x) (opener_events o ++ executes x) (Csi o x b) b (csi_events (strip x) b) (base s es gs (InCsi o x) st) refl (st.shape.0, st.shape.1, rw e h) refl refl
+csi_closes : (s : List ℕ) (es : List Event) (gs : List Segment) (o : Opener) (x : List ℕ) (b : ℕ) (c : Class) → class_of b ≡ c → ends_csi c ≡ true
+    → Stands s es gs (InCsi o x) → Goes (s ++ b ∷ []) (es ++ csi_events (strip x) b) Ground
+csi_closes s es gs o x b c e h st =
+    closes s es gs (opener kind.Csi o ++ x) (opener_events o ++ executes x) (Csi o x b) b (csi_events (strip x) b) (base s es gs (InCsi o x) st) refl
+    (st.shape.0, st.shape.1, rw e h) refl refl
 
-csi_breaks : (s : List ℕ) (es : List Event) (gs : List Segment) (o : Opener) (x : List ℕ) (b : ℕ) (c : Class) → class_of b ≡ c → is_breaker c ≡ true → Stands s es gs (InCsi o x) → Goes (s ++ b ∷ []) (es ++ ground_news b c) (ground_after b c)
-csi_breaks s es gs o x b c e h st = break_step s es gs (opener kind.Csi o ++ x) (opener_events o ++ executes x) (CutCsi o x) [] b c e (base s es gs (InCsi o x) st) refl st.shape (rw e h) (sym (append-nil (opener_events o ++ executes x)))
+csi_breaks : (s : List ℕ) (es : List Event) (gs : List Segment) (o : Opener) (x : List ℕ) (b : ℕ) (c : Class) → class_of b ≡ c → is_breaker c ≡ true
+    → Stands s es gs (InCsi o x) → Goes (s ++ b ∷ []) (es ++ ground_news b c) (ground_after b c)
+csi_breaks s es gs o x b c e h st =
+    break_step s es gs (opener kind.Csi o ++ x) (opener_events o ++ executes x) (CutCsi o x) [] b c e (base s es gs (InCsi o x) st) refl st.shape (rw e h)
+    (sym (append-nil (opener_events o ++ executes x)))
 
-csi_step : (s : List ℕ) (es : List Event) (gs : List Segment) (o : Opener) (x : List ℕ) (b : ℕ) (c : Class) → class_of b ≡ c → Stands s es gs (InCsi o x) → Goes (s ++ b ∷ []) (es ++ csi_news x b c) (csi_after o x b c)
+csi_step : (s : List ℕ) (es : List Event) (gs : List Segment) (o : Opener) (x : List ℕ) (b : ℕ) (c : Class) → class_of b ≡ c → Stands s es gs (InCsi o x)
+    → Goes (s ++ b ∷ []) (es ++ csi_news x b c) (csi_after o x b c)
 csi_step s es gs o x b Plain e st = csi_grows s es gs o x b Plain e refl st
 csi_step s es gs o x b Bell e st = csi_grows s es gs o x b Bell e refl st
 csi_step s es gs o x b Intermediate e st = csi_grows s es gs o x b Intermediate e refl st
@@ -185,22 +234,37 @@ csi_step s es gs o x b Final e st = csi_closes s es gs o x b Final e refl st
 abbrev OscBase : List ℕ → List Event → List Segment → Opener → List Piece → ℕ → Type 0
 OscBase s es gs o ps b = Base s es gs (osc_bytes o ps) (opener_events o) × IsOpener o × ArePieces ps (b ∷ [])
 
-osc_grows : (s : List ℕ) (es : List Event) (gs : List Segment) (o : Opener) (ps : List Piece) (b : ℕ) (c : Class) → class_of b ≡ c → in_osc c ≡ true → OscBase s es gs o ps b → Goes (s ++ b ∷ []) (es ++ []) (InOsc o (ps ++ One b ∷ []))
-osc_grows s es gs o ps b c e h st = (gs, grows s es gs (osc_bytes o ps) (opener_events o) (InOsc o (ps ++ One b ∷ [])) b [] st.0 (ap (λ x. opener kind.Osc o ++ x) (text_end ps (One b)) ∙ sym (append_assoc (opener kind.Osc o) (text_bytes ps) (b ∷ []))) (st.1, pieces_push ps (One b) [] st.2 (rw e h)) (sym (append-nil (opener_events o))))
+osc_grows : (s : List ℕ) (es : List Event) (gs : List Segment) (o : Opener) (ps : List Piece) (b : ℕ) (c : Class) → class_of b ≡ c → in_osc c ≡ true
+    → OscBase s es gs o ps b → Goes (s ++ b ∷ []) (es ++ []) (InOsc o (ps ++ One b ∷ []))
+osc_grows s es gs o ps b c e h st = (
+  gs,
+  grows s es gs (osc_bytes o ps) (opener_events o) (InOsc o (ps ++ One b ∷ [])) b [] st.0
+      (ap (λ x. opener kind.Osc o ++ x) (text_end ps (One b)) ∙ sym (append_assoc (opener kind.Osc o) (text_bytes ps) (b ∷ [])))
+      (st.1, pieces_push ps (One b) [] st.2 (rw e h)) (sym (append-nil (opener_events o))),
+)
 
-osc_breaks : (s : List ℕ) (es : List Event) (gs : List Segment) (o : Opener) (ps : List Piece) (b : ℕ) (c : Class) → class_of b ≡ c → is_breaker c ≡ true → OscBase s es gs o ps b → Goes (s ++ b ∷ []) (es ++ osc_event ps ∷ ground_news b c) (ground_after b c)
-osc_breaks s es gs o ps b c e h st = break_step s es gs (osc_bytes o ps) (opener_events o) (Osc o ps Open) (osc_event ps ∷ []) b c e st.0 (append-nil (osc_bytes o ps)) (st.1, st.2, tt) (rw (e, h) refl) refl
+osc_breaks : (s : List ℕ) (es : List Event) (gs : List Segment) (o : Opener) (ps : List Piece) (b : ℕ) (c : Class) → class_of b ≡ c → is_breaker c ≡ true
+    → OscBase s es gs o ps b → Goes (s ++ b ∷ []) (es ++ osc_event ps ∷ ground_news b c) (ground_after b c)
+osc_breaks s es gs o ps b c e h st =
+    break_step s es gs (osc_bytes o ps) (opener_events o) (Osc o ps Open) (osc_event ps ∷ []) b c e st.0 (append-nil (osc_bytes o ps)) (st.1, st.2, tt)
+    (rw (e, h) refl) refl
 
-osc_step : (s : List ℕ) (es : List Event) (gs : List Segment) (o : Opener) (ps : List Piece) (b : ℕ) (c : Class) → class_of b ≡ c → OscBase s es gs o ps b → Goes (s ++ b ∷ []) (es ++ osc_news ps b c) (osc_after o ps b c)
+osc_step : (s : List ℕ) (es : List Event) (gs : List Segment) (o : Opener) (ps : List Piece) (b : ℕ) (c : Class) → class_of b ≡ c → OscBase s es gs o ps b
+    → Goes (s ++ b ∷ []) (es ++ osc_news ps b c) (osc_after o ps b c)
 osc_step s es gs o ps b Bell e st =
     let k = is_bell b e in
-    closes s es gs (osc_bytes o ps) (opener_events o) (Osc o ps Rung) b (osc_event ps ∷ []) st.0 (ap (λ y. osc_bytes o ps ++ y ∷ []) (sym k)) (st.1, subst (λ x. ArePieces ps (x ∷ [])) k st.2, tt) refl refl
+    closes s es gs (osc_bytes o ps) (opener_events o) (Osc o ps Rung) b (osc_event ps ∷ []) st.0 (ap (λ y. osc_bytes o ps ++ y ∷ []) (sym k))
+    (st.1, subst (λ x. ArePieces ps (x ∷ [])) k st.2, tt) refl refl
 osc_step s es gs o ps b Cancel e st = osc_breaks s es gs o ps b Cancel e refl st
 osc_step s es gs o ps b Escape e st = osc_breaks s es gs o ps b Escape e refl st
 osc_step s es gs o ps b RawControl e st = osc_breaks s es gs o ps b RawControl e refl st
 osc_step s es gs o ps b (RawOpens k) e st = osc_breaks s es gs o ps b (RawOpens k) e refl st
 osc_step s es gs o ps b RawTerminator e st = osc_breaks s es gs o ps b RawTerminator e refl st
-osc_step s es gs o ps b Lead e st = (gs, grows s es gs (osc_bytes o ps) (opener_events o) (InOscPending o ps (b ∷ [])) b [] st.0 refl (st.1, st.2, lead_front b e) (sym (append-nil (opener_events o))))
+osc_step s es gs o ps b Lead e st = (
+  gs,
+  grows s es gs (osc_bytes o ps) (opener_events o) (InOscPending o ps (b ∷ [])) b [] st.0 refl (st.1, st.2, lead_front b e)
+      (sym (append-nil (opener_events o))),
+)
 osc_step s es gs o ps b Plain e st = osc_grows s es gs o ps b Plain e refl st
 osc_step s es gs o ps b High e st = osc_grows s es gs o ps b High e refl st
 osc_step s es gs o ps b Intermediate e st = osc_grows s es gs o ps b Intermediate e refl st
@@ -216,13 +280,19 @@ lead_code = refl
 pair_breaks : (b : ℕ) → is_raw (class_of b) ≡ true → breaks_text (0xc2 ∷ b ∷ []) ≡ true
 pair_breaks b h = rw (lead_code, h) refl
 
-osc_whole_step : (s : List ℕ) (es : List Event) (gs : List Segment) (o : Opener) (ps : List Piece) (f : List ℕ) (b : ℕ) (t : Bool) → is_pair (f ++ b ∷ []) ≡ t → is_sequence (f ++ b ∷ []) ≡ true → Stands s es gs (InOscPending o ps f)
-    → Goes (s ++ b ∷ []) (es ++ (if t then osc_event ps ∷ pair_news b (class_of b) else [])) (if t then pair_after (class_of b) else InOsc o (ps ++ Sequence (f ++ b ∷ []) ∷ []))
+osc_whole_step : (s : List ℕ) (es : List Event) (gs : List Segment) (o : Opener) (ps : List Piece) (f : List ℕ) (b : ℕ) (t : Bool) → is_pair (f ++ b ∷ []) ≡ t
+    → is_sequence (f ++ b ∷ []) ≡ true → Stands s es gs (InOscPending o ps f)
+    → Goes (s ++ b ∷ []) (es ++ (if t then osc_event ps ∷ pair_news b (class_of b) else []))
+    (if t then pair_after (class_of b) else InOsc o (ps ++ Sequence (f ++ b ∷ []) ∷ []))
 osc_whole_step s es gs o ps f b false p q st = (
   gs,
   grows s es gs (osc_bytes o ps ++ f) (opener_events o) (InOsc o (ps ++ Sequence (f ++ b ∷ []) ∷ [])) b [] (base s es gs (InOscPending o ps f) st)
-      (ap (λ x. opener kind.Osc o ++ x) (text_end ps (Sequence (f ++ b ∷ []))) ∙ sym (append_assoc (opener kind.Osc o) (text_bytes ps) (f ++ b ∷ [])) ∙ sym (append_assoc (osc_bytes o ps) f (b ∷ [])))
-      (st.shape.0, pieces_push ps (Sequence (f ++ b ∷ [])) [] (subst (λ x. ArePieces ps x) (sym (append-nil (f ++ b ∷ []))) (pieces_more ps f b st.shape.1)) (q, p))
+      (ap (λ x. opener kind.Osc o ++ x) (text_end ps (Sequence (f ++ b ∷ []))) ∙ sym (append_assoc (opener kind.Osc o) (text_bytes ps) (f ++ b ∷ [])) ∙ sym
+      (append_assoc (osc_bytes o ps) f (b ∷ []))) (
+        st.shape.0,
+        pieces_push ps (Sequence (f ++ b ∷ [])) [] (subst (λ x. ArePieces ps x) (sym (append-nil (f ++ b ∷ []))) (pieces_more ps f b st.shape.1))
+            (q, p),
+      )
       (sym (append-nil (opener_events o))),
 )
 osc_whole_step s es gs o ps f b true p q st =
@@ -234,12 +304,23 @@ osc_whole_step s es gs o ps f b true p q st =
     (ap (λ x. x ++ 0xc2 ∷ b ∷ []) (append-nil (osc_bytes o ps)) ∙ ap (λ x. osc_bytes o ps ++ x) (sym r) ∙ sym (append_assoc (osc_bytes o ps) f (b ∷ [])))
     (st.shape.0, subst (λ x. ArePieces ps x) r (pieces_more ps f b st.shape.1), tt) (pair_breaks b k.1) refl))
 
-osc_pending_step : (s : List ℕ) (es : List Event) (gs : List Segment) (o : Opener) (ps : List Piece) (f : List ℕ) (b : ℕ) (t : Outcome) → outcome f b ≡ t → Stands s es gs (InOscPending o ps f) → Goes (s ++ b ∷ []) (es ++ osc_pending_news ps f b (class_of b) t) (osc_pending_after o ps f b (class_of b) t)
+osc_pending_step : (s : List ℕ) (es : List Event) (gs : List Segment) (o : Opener) (ps : List Piece) (f : List ℕ) (b : ℕ) (t : Outcome) → outcome f b ≡ t
+    → Stands s es gs (InOscPending o ps f) → Goes (s ++ b ∷ []) (es ++ osc_pending_news ps f b (class_of b) t) (osc_pending_after o ps f b (class_of b) t)
 osc_pending_step s es gs o ps f b outcomes.Whole e st = osc_whole_step s es gs o ps f b (is_pair (f ++ b ∷ [])) refl (outcome_whole f b e) st
-osc_pending_step s es gs o ps f b outcomes.More e st = (gs, grows s es gs (osc_bytes o ps ++ f) (opener_events o) (InOscPending o ps (f ++ b ∷ [])) b [] (base s es gs (InOscPending o ps f) st) (sym (append_assoc (osc_bytes o ps) f (b ∷ []))) (st.shape.0, pieces_more ps f b st.shape.1, outcome_more f b e) (sym (append-nil (opener_events o))))
+osc_pending_step s es gs o ps f b outcomes.More e st = (
+  gs,
+  grows s es gs (osc_bytes o ps ++ f) (opener_events o) (InOscPending o ps (f ++ b ∷ [])) b [] (base s es gs (InOscPending o ps f) st)
+      (sym (append_assoc (osc_bytes o ps) f (b ∷ []))) (st.shape.0, pieces_more ps f b st.shape.1, outcome_more f b e) (sym (append-nil (opener_events o))),
+)
 osc_pending_step s es gs o ps f b outcomes.Broken e st =
-    let j : osc_bytes o ps ++ f ≡ osc_bytes o (ps ++ BrokenOff f ∷ []) = append_assoc (opener kind.Osc o) (text_bytes ps) f ∙ ap (λ x. opener kind.Osc o ++ x) (sym (text_end ps (BrokenOff f))) in
-    osc_step s es gs o (ps ++ BrokenOff f ∷ []) b (class_of b) refl (subst (λ x. Base s es gs x (opener_events o)) j (base s es gs (InOscPending o ps f) st), st.shape.0, pieces_push ps (BrokenOff f) (b ∷ []) (pieces_more ps f b st.shape.1) (st.shape.2, outcome_broken f b e))
+    let j : osc_bytes o ps ++ f ≡ osc_bytes o (ps ++ BrokenOff f ∷ []) = append_assoc (opener kind.Osc o) (text_bytes ps) f ∙ ap (λ x. opener kind.Osc o ++ x)
+    (sym (text_end ps (BrokenOff f))) in
+    osc_step s es gs o (ps ++ BrokenOff f ∷ []) b (class_of b) refl (
+      subst (λ x. Base s es gs x (opener_events o)) j (base s es gs (InOscPending o ps f) st),
+      st.shape.0,
+      pieces_push ps (BrokenOff f) (b ∷ [])
+          (pieces_more ps f b st.shape.1) (st.shape.2, outcome_broken f b e),
+    )
 
 -- ---- a DCS, by tests on the class
 
@@ -259,49 +340,86 @@ header_byte RawTerminator h k = absurd cc
 header_byte (Opens i) h k = absurd cc
 header_byte Final h k = absurd cc
 
-dcs_by : (s : List ℕ) (es : List Event) (gs : List Segment) (o : Opener) (x : List ℕ) (b : ℕ) (c : Class) (t w : Bool) → class_of b ≡ c → is_breaker c ≡ t → ends_csi c ≡ w → Stands s es gs (InDcs o x)
-    → Goes (s ++ b ∷ []) (es ++ (if t then ground_news b c else if w then (if is_dcs_header (strip x) then hook_event (strip x) b ∷ [] else []) else [])) (if t then ground_after b c else if w then InData o x b [] else InDcs o (x ++ b ∷ []))
-dcs_by s es gs o x b c true w e h k st = break_step s es gs (opener kind.Dcs o ++ x) (opener_events o) (CutDcs o x) [] b c e (base s es gs (InDcs o x) st) refl st.shape (rw (e, h) refl) (sym (append-nil (opener_events o)))
-dcs_by s es gs o x b c false true e h k st = (gs, grows s es gs (opener kind.Dcs o ++ x) (opener_events o) (InData o x b []) b (if is_dcs_header (strip x) then hook_event (strip x) b ∷ [] else []) (base s es gs (InDcs o x) st) (append-nil _) (st.shape.0, st.shape.1, rw e k, refl) refl)
-dcs_by s es gs o x b c false false e h k st = (gs, grows s es gs (opener kind.Dcs o ++ x) (opener_events o) (InDcs o (x ++ b ∷ [])) b [] (base s es gs (InDcs o x) st) (sym (append_assoc (opener kind.Dcs o) x (b ∷ []))) (st.shape.0, all_push in_csi x b c e st.shape.1 (header_byte c h k)) (sym (append-nil (opener_events o))))
+dcs_by : (s : List ℕ) (es : List Event) (gs : List Segment) (o : Opener) (x : List ℕ) (b : ℕ) (c : Class) (t w : Bool) → class_of b ≡ c → is_breaker c ≡ t
+    → ends_csi c ≡ w → Stands s es gs (InDcs o x)
+    → Goes (s ++ b ∷ []) (es ++ (if t then ground_news b c else if w then (if is_dcs_header (strip x) then hook_event (strip x) b ∷ [] else []) else []))
+    (if t then ground_after b c else if w then InData o x b [] else InDcs o (x ++ b ∷ []))
+dcs_by s es gs o x b c true w e h k st =
+    break_step s es gs (opener kind.Dcs o ++ x) (opener_events o) (CutDcs o x) [] b c e (base s es gs (InDcs o x) st) refl st.shape (rw (e, h) refl)
+    (sym (append-nil (opener_events o)))
+dcs_by s es gs o x b c false true e h k st = (
+  gs,
+  grows s es gs (opener kind.Dcs o ++ x) (opener_events o) (InData o x b []) b (if is_dcs_header (strip x) then hook_event (strip x) b ∷ [] else [])
+      (base s es gs (InDcs o x) st) (append-nil _) (st.shape.0, st.shape.1, rw e k, refl) refl,
+)
+dcs_by s es gs o x b c false false e h k st = (
+  gs,
+  grows s es gs (opener kind.Dcs o ++ x) (opener_events o) (InDcs o (x ++ b ∷ [])) b [] (base s es gs (InDcs o x) st)
+      (sym (append_assoc (opener kind.Dcs o) x (b ∷ []))) (st.shape.0, all_push in_csi x b c e st.shape.1 (header_byte c h k))
+      (sym (append-nil (opener_events o))),
+)
 
 -- what stands behind the header has told, and tells more
 told_more : (ds bs cs : List Event) (w : Bool) → ds ++ (if w then bs ++ cs else []) ≡ (ds ++ (if w then bs else [])) ++ (if w then cs else [])
 told_more ds bs cs true = sym (append_assoc ds bs cs)
 told_more ds bs cs false = sym (append-nil (ds ++ []))
 
-data_news_by : (b : ℕ) (c : Class) (w : Bool) → (if w then DcsUnhook ∷ [] else []) ++ ground_news b c ≡ (if w then DcsUnhook ∷ ground_news b c else ground_news b c)
+data_news_by : (b : ℕ) (c : Class) (w : Bool)
+    → (if w then DcsUnhook ∷ [] else []) ++ ground_news b c ≡ (if w then DcsUnhook ∷ ground_news b c else ground_news b c)
 data_news_by b c true = refl
 data_news_by b c false = refl
 
 not_true : (t : Bool) → t ≡ false → not t ≡ true
 not_true t h = rw h refl
 
-data_by : (s : List ℕ) (es : List Event) (gs : List Segment) (o : Opener) (x : List ℕ) (f : ℕ) (d : List ℕ) (b : ℕ) (c : Class) (t : Bool) → class_of b ≡ c → is_breaker c ≡ t → Stands s es gs (InData o x f d)
-    → Goes (s ++ b ∷ []) (es ++ (if is_dcs_header (strip x) then (if t then DcsUnhook ∷ ground_news b c else if is_put c then DcsPut b ∷ [] else []) else (if t then ground_news b c else []))) (if t then ground_after b c else InData o x f (d ++ b ∷ []))
+data_by : (s : List ℕ) (es : List Event) (gs : List Segment) (o : Opener) (x : List ℕ) (f : ℕ) (d : List ℕ) (b : ℕ) (c : Class) (t : Bool) → class_of b ≡ c
+    → is_breaker c ≡ t → Stands s es gs (InData o x f d)
+    → Goes (s ++ b ∷ []) (es ++ (if is_dcs_header (strip x) then (if t then DcsUnhook ∷ ground_news b c else if is_put c then DcsPut b ∷ [] else []) else
+    (if t then ground_news b c else []))) (if t then ground_after b c else InData o x f (d ++ b ∷ []))
 data_by s es gs o x f d b c true e h st =
     subst (λ z. Goes (s ++ b ∷ []) (es ++ z) (ground_after b c)) (data_news_by b c (is_dcs_header (strip x)))
-    (break_step s es gs (bytes_of (Dcs o x f d)) (told_open (InData o x f d)) (Dcs o x f d) (if is_dcs_header (strip x) then DcsUnhook ∷ [] else []) b c e (base s es gs (InData o x f d) st) refl st.shape (rw (e, h) refl) (told_more (opener_events o) (hook_event (strip x) f ∷ puts d) (DcsUnhook ∷ []) (is_dcs_header (strip x))))
+    (break_step s es gs (bytes_of (Dcs o x f d)) (told_open (InData o x f d)) (Dcs o x f d) (if is_dcs_header (strip x) then DcsUnhook ∷ [] else []) b c e
+    (base s es gs (InData o x f d) st) refl st.shape (rw (e, h) refl)
+    (told_more (opener_events o) (hook_event (strip x) f ∷ puts d) (DcsUnhook ∷ []) (is_dcs_header (strip x))))
 data_by s es gs o x f d b c false e h st = (
   gs,
-  grows s es gs (bytes_of (Dcs o x f d)) (told_open (InData o x f d)) (InData o x f (d ++ b ∷ [])) b (if is_dcs_header (strip x) then (if is_put c then DcsPut b ∷ [] else []) else []) (base s es gs (InData o x f d) st)
+  grows s es gs (bytes_of (Dcs o x f d)) (told_open (InData o x f d)) (InData o x f (d ++ b ∷ [])) b
+      (if is_dcs_header (strip x) then (if is_put c then DcsPut b ∷ [] else []) else []) (base s es gs (InData o x f d) st)
       (sym (append_assoc (opener kind.Dcs o ++ x ++ f ∷ []) d (b ∷ [])))
       (st.shape.0, st.shape.1, st.shape.2, all_push in_data d b c e st.shape.3 (not_true (is_breaker c) h))
-      (ap (λ y. opener_events o ++ (if is_dcs_header (strip x) then hook_event (strip x) f ∷ y else [])) (puts_push d b c e) ∙ told_more (opener_events o) (hook_event (strip x) f ∷ puts d) (if is_put c then DcsPut b ∷ [] else []) (is_dcs_header (strip x))),
+      (ap (λ y. opener_events o ++ (if is_dcs_header (strip x) then hook_event (strip x) f ∷ y else [])) (puts_push d b c e) ∙ told_more (opener_events o)
+      (hook_event (strip x) f ∷ puts d) (if is_put c then DcsPut b ∷ [] else []) (is_dcs_header (strip x))),
 )
 
-apc_by : (s : List ℕ) (es : List Event) (gs : List Segment) (o : Opener) (d : List ℕ) (b : ℕ) (c : Class) (t : Bool) → class_of b ≡ c → is_breaker c ≡ t → Stands s es gs (InApc o d)
+apc_by : (s : List ℕ) (es : List Event) (gs : List Segment) (o : Opener) (d : List ℕ) (b : ℕ) (c : Class) (t : Bool) → class_of b ≡ c → is_breaker c ≡ t
+    → Stands s es gs (InApc o d)
     → Goes (s ++ b ∷ []) (es ++ (if t then ApcDispatch (those is_text d) ∷ ground_news b c else [])) (if t then ground_after b c else InApc o (d ++ b ∷ []))
-apc_by s es gs o d b c true e h st = break_step s es gs (opener kind.Apc o ++ d) (opener_events o) (Apc o d) (ApcDispatch (those is_text d) ∷ []) b c e (base s es gs (InApc o d) st) refl st.shape (rw (e, h) refl) refl
-apc_by s es gs o d b c false e h st = (gs, grows s es gs (opener kind.Apc o ++ d) (opener_events o) (InApc o (d ++ b ∷ [])) b [] (base s es gs (InApc o d) st) (sym (append_assoc (opener kind.Apc o) d (b ∷ []))) (st.shape.0, all_push in_data d b c e st.shape.1 (not_true (is_breaker c) h)) (sym (append-nil (opener_events o))))
+apc_by s es gs o d b c true e h st =
+    break_step s es gs (opener kind.Apc o ++ d) (opener_events o) (Apc o d) (ApcDispatch (those is_text d) ∷ []) b c e
+    (base s es gs (InApc o d) st) refl st.shape (rw (e, h) refl) refl
+apc_by s es gs o d b c false e h st = (
+  gs,
+  grows s es gs (opener kind.Apc o ++ d) (opener_events o) (InApc o (d ++ b ∷ [])) b [] (base s es gs (InApc o d) st)
+      (sym (append_assoc (opener kind.Apc o) d (b ∷ []))) (st.shape.0, all_push in_data d b c e st.shape.1 (not_true (is_breaker c) h))
+      (sym (append-nil (opener_events o))),
+)
 
-ignored_by : (s : List ℕ) (es : List Event) (gs : List Segment) (k : Kind) (o : Opener) (d : List ℕ) (b : ℕ) (c : Class) (t : Bool) → class_of b ≡ c → is_breaker c ≡ t → Stands s es gs (InIgnored k o d)
+ignored_by : (s : List ℕ) (es : List Event) (gs : List Segment) (k : Kind) (o : Opener) (d : List ℕ) (b : ℕ) (c : Class) (t : Bool) → class_of b ≡ c
+    → is_breaker c ≡ t → Stands s es gs (InIgnored k o d)
     → Goes (s ++ b ∷ []) (es ++ (if t then ground_news b c else [])) (if t then ground_after b c else InIgnored k o (d ++ b ∷ []))
-ignored_by s es gs k o d b c true e h st = break_step s es gs (opener k o ++ d) (opener_events o) (Ignored k o d) [] b c e (base s es gs (InIgnored k o d) st) refl st.shape (rw (e, h) refl) (sym (append-nil (opener_events o)))
-ignored_by s es gs k o d b c false e h st = (gs, grows s es gs (opener k o ++ d) (opener_events o) (InIgnored k o (d ++ b ∷ [])) b [] (base s es gs (InIgnored k o d) st) (sym (append_assoc (opener k o) d (b ∷ []))) (st.shape.0, st.shape.1, all_push in_data d b c e st.shape.2 (not_true (is_breaker c) h)) (sym (append-nil (opener_events o))))
+ignored_by s es gs k o d b c true e h st =
+    break_step s es gs (opener k o ++ d) (opener_events o) (Ignored k o d) [] b c e (base s es gs (InIgnored k o d) st) refl st.shape (rw (e, h) refl)
+    (sym (append-nil (opener_events o)))
+ignored_by s es gs k o d b c false e h st = (
+  gs,
+  grows s es gs (opener k o ++ d) (opener_events o) (InIgnored k o (d ++ b ∷ [])) b [] (base s es gs (InIgnored k o d) st)
+      (sym (append_assoc (opener k o) d (b ∷ []))) (st.shape.0, st.shape.1, all_push in_data d b c e st.shape.2 (not_true (is_breaker c) h))
+      (sym (append-nil (opener_events o))),
+)
 
 -- one byte more on a cut takes a cut, with those events more
-pub byte_step : (s : List ℕ) (es : List Event) (gs : List Segment) (u : Unfinished) (b : ℕ) → Stands s es gs u → Goes (s ++ b ∷ []) (es ++ news_by u b (class_of b)) (after_by u b (class_of b))
+pub byte_step : (s : List ℕ) (es : List Event) (gs : List Segment) (u : Unfinished) (b : ℕ) → Stands s es gs u
+    → Goes (s ++ b ∷ []) (es ++ news_by u b (class_of b)) (after_by u b (class_of b))
 byte_step s es gs Ground b st = ground_step (s ++ b ∷ []) es gs b (class_of b) refl (meets s es gs [] b (base s es gs Ground st))
 byte_step s es gs (Pending f) b st = pending_step s es gs f b (outcome f b) refl st
 byte_step s es gs (InEscape x) b st = escape_step s es gs x b (class_of b) refl st

@@ -1,22 +1,25 @@
 -- Fronts that stop at the first event.
-use Rattle.std.proofs.Common.{ℕ, zero, suc, ◌≡◌, ◌+◌, ◌-◌, ◌<◌, ◌≤◌, Bool, true, false, ◌&&◌, if◌then◌else◌, List, [], ◌∷◌, ◌++◌, length, take, drop, get_or, refl, ap, sym, ◌∙◌, subst, arith, ◌⊎◌, inl, inr}
+use Rattle.std.proofs.Common.{ℕ, zero, suc, ◌≡◌, ◌+◌, ◌-◌, ◌<◌, ◌≤◌, Bool, true, false, ◌&&◌, if◌then◌else◌, List, [], ◌∷◌, ◌++◌, length, take, drop, get_or}
+use Rattle.std.proofs.Common.{refl, ap, sym, ◌∙◌, subst, arith, ◌⊎◌, inl, inr}
 use Rattle.std.specs.List.{list_all, prefix_len}
 use Rattle.std.proofs.Math.Seq.{take-add}
 use Rattle.std.proofs.lemmas.Bool.{and_parts, cases_lt}
 use Rattle.std.proofs.lemmas.List.{take-take, take-append-drop, length-take-le}
 use Rattle.std.proofs.lemmas.List.Folds.{list_all-append}
 use Rattle.esc_frame.specs.declared.classes.Class.{Class}
-use Rattle.esc_frame.specs.declared.classes.Class.TheVariants.{Plain, Bell, Cancel, Escape, Intermediate, Parameter, Opens, Final, Delete, RawControl, RawOpens, RawTerminator, High, Lead}
+use Rattle.esc_frame.specs.declared.classes.Class.TheVariants.{Plain, Bell, Cancel, Escape, Intermediate, Parameter, Opens, Final, Delete, RawControl, RawOpens}
+use Rattle.esc_frame.specs.declared.classes.Class.TheVariants.{RawTerminator, High, Lead}
 use Rattle.esc_frame.specs.declared.machine.Machine.{Machine}
 use Rattle.esc_frame.specs.declared.machine.State.TheVariants as state
 use Rattle.esc_frame.specs.declared.sequence.Outcome.{Outcome}
 use Rattle.esc_frame.specs.declared.sequence.Outcome.TheVariants as outcomes
 use Rattle.esc_frame.specs.Classes.{class_of}
-use Rattle.esc_frame.specs.Characters.{IsCharacter}
+use Rattle.esc_frame.specs.Machine.Characters.{IsCharacter}
 use Rattle.esc_frame.specs.Events.{Event}
 use Rattle.esc_frame.specs.Leads.{Unfinished, Holds}
 use Rattle.esc_frame.specs.Leads.Unfinished.{Ground, Pending, InEscape, InCsi, InDcs, InData, InApc, InIgnored, InOsc, InOscPending}
-use Rattle.esc_frame.specs.Moves.{after_by, news_by, osc_after, osc_news, osc_event, osc_pending_after, osc_pending_news, pair_after, pair_news, after_all, news_all, is_ground, IsStill}
+use Rattle.esc_frame.specs.Machine.Moves.{after_by, news_by, osc_after, osc_news, osc_event, osc_pending_after, osc_pending_news, pair_after, pair_news, after_all}
+use Rattle.esc_frame.specs.Machine.Moves.{news_all, is_ground, IsStill}
 use Rattle.esc_frame.specs.Scans.{is_body_byte, is_text_byte}
 use Rattle.esc_frame.specs.Segments.{Opener, Piece}
 use Rattle.esc_frame.specs.Segments.Opener.{Long}
@@ -44,7 +47,8 @@ less_still u rest m n l h = λ k a b. h k a (omega arith)
 front_passes : (p : ℕ → Bool) (rest : List ℕ) (run k : ℕ) → k ≤ run → list_all p (take run rest) ≡ true → list_all p (take k rest) ≡ true
 front_passes p rest run k l h =
     let split : take k (take run rest) ++ drop k (take run rest) ≡ take run rest = take-append-drop k (take run rest) in
-    let all : (list_all p (take k (take run rest)) && list_all p (drop k (take run rest))) ≡ true = sym (list_all-append p (take k (take run rest)) (drop k (take run rest))) ∙ ap (list_all p) split ∙ h in
+    let all : (list_all p (take k (take run rest)) && list_all p (drop k (take run rest))) ≡ true = sym
+    (list_all-append p (take k (take run rest)) (drop k (take run rest))) ∙ ap (list_all p) split ∙ h in
     ap (list_all p) (sym (take-take k run rest l)) ∙ (and_parts (list_all p (take k (take run rest))) (list_all p (drop k (take run rest))) all).0
 
 no_first : (xs ys : List Event) → xs ++ ys ≡ [] → xs ≡ []
@@ -96,11 +100,13 @@ text_stays o ps b Delete h = refl
 text_stays o ps b High h = refl
 text_stays o ps b Lead h = refl
 
-whole_stays : (o : Opener) (ps : List Piece) (f : List ℕ) (b : ℕ) (c : Class) (t : Bool) → (if t then osc_event ps ∷ pair_news b c else []) ≡ [] → is_osc (if t then pair_after c else InOsc o (ps ++ Sequence (f ++ b ∷ []) ∷ [])) ≡ true
+whole_stays : (o : Opener) (ps : List Piece) (f : List ℕ) (b : ℕ) (c : Class) (t : Bool) → (if t then osc_event ps ∷ pair_news b c else []) ≡ []
+    → is_osc (if t then pair_after c else InOsc o (ps ++ Sequence (f ++ b ∷ []) ∷ [])) ≡ true
 whole_stays o ps f b c true h = absurd cc
 whole_stays o ps f b c false h = refl
 
-pending_stays : (o : Opener) (ps : List Piece) (f : List ℕ) (b : ℕ) (c : Class) (w : Outcome) → osc_pending_news ps f b c w ≡ [] → is_osc (osc_pending_after o ps f b c w) ≡ true
+pending_stays : (o : Opener) (ps : List Piece) (f : List ℕ) (b : ℕ) (c : Class) (w : Outcome) → osc_pending_news ps f b c w ≡ []
+    → is_osc (osc_pending_after o ps f b c w) ≡ true
 pending_stays o ps f b c outcomes.Whole h = whole_stays o ps f b c (is_pair (f ++ b ∷ [])) h
 pending_stays o ps f b c outcomes.More h = refl
 pending_stays o ps f b c outcomes.Broken h = text_stays o (ps ++ BrokenOff f ∷ []) b c h
@@ -146,7 +152,8 @@ holds_no_ground m (InOscPending o ps f) h n = refl
 module _ {A : Type 0} (m : Machine A) (u : Unfinished) (rest : List ℕ) (run : ℕ) (e : run ≡ prefix_len is_text_byte rest) (h : Holds m u) where
   pub apc_still : m.state ≡ state.Apc → IsStill u rest run
   apc_still s = λ k a b.
-      apc_run m (take k rest) (front_passes is_text_byte rest run k (omega arith) (prefix_passes rest run e)) u s h (λ v es. (es ≡ []) × (is_ground v ≡ false)) (λ o d f. (refl, refl))
+      apc_run m (take k rest) (front_passes is_text_byte rest run k (omega arith) (prefix_passes rest run e)) u s h (λ v es. (es ≡ []) × (is_ground v ≡ false))
+      (λ o d f. (refl, refl))
 
   pub skip_still : m.state ≡ state.Skip → IsStill u rest run
   skip_still s = λ k a b.
@@ -159,12 +166,15 @@ module _ (u v : Unfinished) (rest : List ℕ) (i n : ℕ) (here : after_all u (t
   behind_still : IsStill v (take (length rest - i) (drop i rest)) n → (j : ℕ) → 0 < j → j < n → Still u (take (i + j) rest)
   behind_still h j a b =
       let m : Still v (take j (drop i rest)) = subst (λ y. Still v (take j y)) (tail_is rest i) (h j a b) in (
-        ap (news_all u) (take-add i j rest) ∙ news_append u (take i rest) (take j (drop i rest)) ∙ ap (λ es. es ++ news_all (after_all u (take i rest)) (take j (drop i rest))) none ∙ ap (λ w. news_all w (take j (drop i rest))) here ∙ m.0,
+        ap (news_all u) (take-add i j rest) ∙ news_append u (take i rest) (take j (drop i rest)) ∙ ap
+            (λ es. es ++ news_all (after_all u (take i rest)) (take j (drop i rest))) none ∙ ap (λ w. news_all w (take j (drop i rest))) here ∙ m.0,
         ap is_ground (after_more u rest i j ∙ ap (λ w. after_all w (take j (drop i rest))) here) ∙ m.1,
       )
 
-  still_at : IsStill u rest (i + 1) → IsStill v (take (length rest - i) (drop i rest)) n → (k : ℕ) → 0 < k → k < i + n → ((i < k) ⊎ (k ≤ i)) → Still u (take k rest)
-  still_at f h k a b (inl l) = let e : i + (k - i) ≡ k = omega arith in subst (λ j. Still u (take j rest)) e (behind_still h (k - i) (omega arith) (omega arith))
+  still_at : IsStill u rest (i + 1) → IsStill v (take (length rest - i) (drop i rest)) n → (k : ℕ) → 0 < k → k < i + n → ((i < k) ⊎ (k ≤ i))
+      → Still u (take k rest)
+  still_at f h k a b (inl l) =
+      let e : i + (k - i) ≡ k = omega arith in subst (λ j. Still u (take j rest)) e (behind_still h (k - i) (omega arith) (omega arith))
   still_at f h k a b (inr l) = f k a (omega arith)
 
   pub more_still : IsStill u rest (i + 1) → IsStill v (take (length rest - i) (drop i rest)) n → IsStill u rest (i + n)
@@ -184,12 +194,14 @@ opens_at rest l e h (suc zero) a b = escape_first rest l e
 opens_at rest l e h (suc (suc zero)) a b = h
 opens_at rest l e h (suc (suc (suc k))) a b = absurd (omega arith)
 
-pub csi_still : (rest : List ℕ) (n : ℕ) → 2 < length rest → get_or rest 0 0 ≡ 0x1b → get_or rest 1 0 ≡ 0x5b → IsStill (InCsi (Long []) []) (take (length rest - 2) (drop 2 rest)) n → IsStill Ground rest (2 + n)
+pub csi_still : (rest : List ℕ) (n : ℕ) → 2 < length rest → get_or rest 0 0 ≡ 0x1b → get_or rest 1 0 ≡ 0x5b
+    → IsStill (InCsi (Long []) []) (take (length rest - 2) (drop 2 rest)) n → IsStill Ground rest (2 + n)
 csi_still rest n l e f h =
     let begin = csi_opens rest (omega arith) e f in
     more_still Ground (InCsi (Long []) []) rest 2 n begin.0 begin.1 (opens_at rest l e (begin.1, ap is_ground begin.0)) h
 
-pub osc_still : (rest : List ℕ) (n : ℕ) → 2 < length rest → get_or rest 0 0 ≡ 0x1b → get_or rest 1 0 ≡ 0x5d → IsStill (InOsc (Long []) []) (take (length rest - 2) (drop 2 rest)) n → IsStill Ground rest (2 + n)
+pub osc_still : (rest : List ℕ) (n : ℕ) → 2 < length rest → get_or rest 0 0 ≡ 0x1b → get_or rest 1 0 ≡ 0x5d
+    → IsStill (InOsc (Long []) []) (take (length rest - 2) (drop 2 rest)) n → IsStill Ground rest (2 + n)
 osc_still rest n l e f h =
     let begin = osc_opens rest (omega arith) e f in
     more_still Ground (InOsc (Long []) []) rest 2 n begin.0 begin.1 (opens_at rest l e (begin.1, ap is_ground begin.0)) h
@@ -238,5 +250,6 @@ pub quiet_all : (s b : List ℕ) (n : ℕ) → IsStill (after_all Ground s) b n 
 quiet_all s b n h = λ k l m.
     let q = h k l m in (
       added_is s (take k b) ∙ q.0,
-      λ g. not_both (is_ground (after_all (after_all Ground s) (take k b))) (ap is_ground (sym (after_append Ground s (take k b)) ∙ to_ground (s ++ take k b) g)) q.1,
+      λ g. not_both (is_ground (after_all (after_all Ground s) (take k b)))
+          (ap is_ground (sym (after_append Ground s (take k b)) ∙ to_ground (s ++ take k b) g)) q.1,
     )

@@ -4,16 +4,16 @@ use Rattle.std.proofs.lemmas.List.{append-nil}
 use Rattle.esc_frame.specs.Classes.{class_of}
 use Rattle.esc_frame.specs.Events.{Event}
 use Rattle.esc_frame.specs.Segments.{Segment, HasShape, joined, bytes_of, events_of, is_finished}
-use Rattle.esc_frame.specs.Leads.{Unfinished, Stands, AreFinished, open_bytes, told_before, told_open}
+use Rattle.esc_frame.specs.Leads.{Unfinished, Stands, AreFinished, open_bytes, finished_events, told_open}
 use Rattle.esc_frame.specs.Leads.Unfinished.{Ground}
-use Rattle.esc_frame.specs.Moves.{after_by, news_by, after_all, news_all}
+use Rattle.esc_frame.specs.Machine.Moves.{after_by, news_by, after_all, news_all}
 use Rattle.esc_frame.specs.Stream.{events, added, Says}
 use Rattle.esc_frame.proofs.Cuts.{stands_tells, stands, events_of_the_cut}
-use Rattle.esc_frame.proofs.OneCut.{tells_once}
+use Rattle.esc_frame.proofs.OneCut.{events_once}
 
 -- what stands told the stream's events
 pub stands_events : (s : List ℕ) (es : List Event) (gs : List Segment) (u : Unfinished) → Stands s es gs u → es ≡ events s
-stands_events s es gs u st = tells_once s es (events s) (stands_tells s es gs u st) (events_of_the_cut s)
+stands_events s es gs u st = events_once s es (events s) (stands_tells s es gs u st) (events_of_the_cut s)
 
 drop_front : {X : Type 0} (xs ys : List X) → drop (length xs) (xs ++ ys) ≡ ys
 drop_front [] ys = refl
@@ -32,7 +32,9 @@ after_append u (b ∷ xs) ys = after_append (after_by u b (class_of b)) xs ys
 
 pub news_append : (u : Unfinished) (xs ys : List ℕ) → news_all u (xs ++ ys) ≡ news_all u xs ++ news_all (after_all u xs) ys
 news_append u [] ys = refl
-news_append u (b ∷ xs) ys = ap (λ z. news_by u b (class_of b) ++ z) (news_append (after_by u b (class_of b)) xs ys) ∙ sym (append_assoc (news_by u b (class_of b)) (news_all (after_by u b (class_of b)) xs) (news_all (after_all (after_by u b (class_of b)) xs) ys))
+news_append u (b ∷ xs) ys =
+    ap (λ z. news_by u b (class_of b) ++ z) (news_append (after_by u b (class_of b)) xs ys)
+    ∙ sym (append_assoc (news_by u b (class_of b)) (news_all (after_by u b (class_of b)) xs) (news_all (after_all (after_by u b (class_of b)) xs) ys))
 
 -- ---- the events of a stream and of more of it
 
@@ -50,7 +52,8 @@ events_more s b = ap (λ x. events s ++ x) (added_is s b) ∙ events_then s b
 pub added_append : (s b c : List ℕ) → added s (b ++ c) ≡ added s b ++ added (s ++ b) c
 added_append s b c =
     added_from s (b ++ c) (added s b ++ added (s ++ b) c)
-    (sym (append_assoc (events s) (added s b) (added (s ++ b) c)) ∙ ap (λ x. x ++ added (s ++ b) c) (events_more s b) ∙ events_more (s ++ b) c ∙ ap events (append_assoc s b c))
+    (sym (append_assoc (events s) (added s b) (added (s ++ b) c)) ∙ ap (λ x. x ++ added (s ++ b) c) (events_more s b) ∙ events_more (s ++ b) c ∙ ap events
+    (append_assoc s b c))
 
 pub events_nil : events [] ≡ []
 unfolding events
@@ -61,9 +64,9 @@ joined-append : (gs hs : List Segment) → joined (gs ++ hs) ≡ joined gs ++ jo
 joined-append [] hs = refl
 joined-append (g ∷ gs) hs = ap (λ x. bytes_of g ++ x) (joined-append gs hs) ∙ sym (append_assoc (bytes_of g) (joined gs) (joined hs))
 
-told-append : (gs hs : List Segment) → told_before (gs ++ hs) ≡ told_before gs ++ told_before hs
+told-append : (gs hs : List Segment) → finished_events (gs ++ hs) ≡ finished_events gs ++ finished_events hs
 told-append [] hs = refl
-told-append (g ∷ gs) hs = ap (λ x. events_of g true ++ x) (told-append gs hs) ∙ sym (append_assoc (events_of g true) (told_before gs) (told_before hs))
+told-append (g ∷ gs) hs = ap (λ x. events_of g true ++ x) (told-append gs hs) ∙ sym (append_assoc (events_of g true) (finished_events gs) (finished_events hs))
 
 regroup : (gs hs : List Segment) (r : List ℕ) → joined (gs ++ hs) ++ r ≡ joined gs ++ (joined hs ++ r)
 regroup gs hs r = ap (λ x. x ++ r) (joined-append gs hs) ∙ append_assoc (joined gs) (joined hs) r
@@ -75,19 +78,21 @@ are_append (g ∷ gs) hs r (sh, fi, f) k =
     (subst (λ x. HasShape g x) e sh, subst (λ x. is_finished g x ≡ true) e fi, are_append gs hs r f k)
 
 -- The text of segments that are finished whatever follows says their events: the one fact about the framing that a writer needs.
-pub says_segments : (gs : List Segment) → ((rest : List ℕ) → AreFinished gs rest) → Says (joined gs) (told_before gs)
+pub says_segments : (gs : List Segment) → ((rest : List ℕ) → AreFinished gs rest) → Says (joined gs) (finished_events gs)
 says_segments gs f rest =
     let w = stands rest in
     let u = after_all Ground rest in
     let st = w.1 in
     let here : AreFinished gs (joined w.0 ++ open_bytes u) = subst (λ x. AreFinished gs x) st.whole (f rest) in
-    let all : Stands (joined gs ++ rest) (told_before gs ++ events rest) (gs ++ w.0) u = record {
+    let all : Stands (joined gs ++ rest) (finished_events gs ++ events rest) (gs ++ w.0) u = record {
       whole = ap (λ x. joined gs ++ x) st.whole ∙ sym (regroup gs w.0 (open_bytes u));
       finished = are_append gs w.0 (open_bytes u) here st.finished;
       shape = st.shape;
-      told = ap (λ x. told_before gs ++ x) st.told ∙ sym (append_assoc (told_before gs) (told_before w.0) (told_open u)) ∙ ap (λ x. x ++ told_open u) (sym (told-append gs w.0));
+      told =
+          ap (λ x. finished_events gs ++ x) st.told ∙ sym (append_assoc (finished_events gs) (finished_events w.0) (told_open u))
+          ∙ ap (λ x. x ++ told_open u) (sym (told-append gs w.0));
     } in
-    sym (stands_events (joined gs ++ rest) (told_before gs ++ events rest) (gs ++ w.0) u all)
+    sym (stands_events (joined gs ++ rest) (finished_events gs ++ events rest) (gs ++ w.0) u all)
 
 -- texts, one behind another
 pub says_nil : Says [] []

@@ -1,5 +1,6 @@
 -- Runs of text in the bodies of strings.
-use Rattle.std.proofs.Common.{ℕ, zero, suc, ◌≡◌, ◌≢◌, ◌+◌, ◌-◌, ◌<◌, Bool, true, false, cond, if◌then◌else◌, List, [], ◌∷◌, ◌++◌, length, take, drop, map, get_or, refl, ap, sym, ◌∙◌, subst, append_assoc, take-append-drop, arith}
+use Rattle.std.proofs.Common.{ℕ, zero, suc, ◌≡◌, ◌≢◌, ◌+◌, ◌-◌, ◌<◌, Bool, true, false, cond, if◌then◌else◌, List, [], ◌∷◌, ◌++◌, length, take, drop, map}
+use Rattle.std.proofs.Common.{get_or, refl, ap, sym, ◌∙◌, subst, append_assoc, take-append-drop, arith}
 use Rattle.std.specs.List.{FoldsTo, list_all, prefix_len}
 use Rattle.std.proofs.Math.Seq.{take-add}
 use Rattle.std.proofs.lemmas.List.{append-nil, map-append, take_more}
@@ -8,13 +9,14 @@ use Rattle.std.proofs.lemmas.List.Elements.{filter-append}
 use Rattle.std.proofs.lemmas.Bool.{and_parts}
 use Rattle.std.proofs.lemmas.Bool.Decides.{nat_tests}
 use Rattle.esc_frame.specs.declared.classes.Class.{Class}
-use Rattle.esc_frame.specs.declared.classes.Class.TheVariants.{Plain, Bell, Cancel, Escape, Intermediate, Parameter, Opens, Final, Delete, RawControl, RawOpens, RawTerminator, High, Lead}
+use Rattle.esc_frame.specs.declared.classes.Class.TheVariants.{Plain, Bell, Cancel, Escape, Intermediate, Parameter, Opens, Final, Delete, RawControl, RawOpens}
+use Rattle.esc_frame.specs.declared.classes.Class.TheVariants.{RawTerminator, High, Lead}
 use Rattle.esc_frame.specs.declared.classes.Kind.{Kind}
 use Rattle.esc_frame.specs.declared.machine.Machine.{Machine}
 use Rattle.esc_frame.specs.declared.machine.State.TheVariants as state
 use Rattle.esc_frame.specs.Bodies.{is_dcs_header}
 use Rattle.esc_frame.specs.Classes.{class_of, is_text, is_breaker, is_put, those, strip}
-use Rattle.esc_frame.specs.Characters.{IsCharacter, IsAhead}
+use Rattle.esc_frame.specs.Machine.Characters.{IsCharacter, IsAhead}
 use Rattle.esc_frame.specs.Events.{Event, StopsAt}
 use Rattle.esc_frame.specs.Events.Event.{DcsPut}
 use Rattle.esc_frame.specs.Scans.{is_text_byte}
@@ -22,8 +24,8 @@ use Rattle.esc_frame.specs.Segments.{Opener, Piece, text_of, kept_of}
 use Rattle.esc_frame.specs.Segments.Piece.{One, Sequence}
 use Rattle.esc_frame.specs.Leads.{Unfinished, Holds}
 use Rattle.esc_frame.specs.Leads.Unfinished.{Ground, Pending, InEscape, InCsi, InDcs, InData, InApc, InIgnored, InOsc, InOscPending}
-use Rattle.esc_frame.specs.Moves.{after_all, news_all, osc_after, osc_news}
-use Rattle.esc_frame.specs.TextRuns.{IsTextRun}
+use Rattle.esc_frame.specs.Machine.Moves.{after_all, news_all, osc_after, osc_news}
+use Rattle.esc_frame.specs.Machine.TextRuns.{IsTextRun}
 use Rattle.esc_frame.proofs.Given.{folds_then, stops_then, stops_more}
 use Rattle.esc_frame.proofs.ManyBytes.{text_class, run_passes, osc_sequence, tail_is}
 use Rattle.esc_frame.proofs.Streams.{after_append, news_append}
@@ -46,7 +48,8 @@ osc_step o ps b RawTerminator h = absurd cc
 osc_step o ps b High h = absurd cc
 osc_step o ps b Lead h = absurd cc
 
-osc_text : (o : Opener) (ps : List Piece) (ys : List ℕ) → list_all is_text_byte ys ≡ true → (after_all (InOsc o ps) ys ≡ InOsc o (ps ++ map One ys)) × (news_all (InOsc o ps) ys ≡ [])
+osc_text : (o : Opener) (ps : List Piece) (ys : List ℕ) → list_all is_text_byte ys ≡ true
+    → (after_all (InOsc o ps) ys ≡ InOsc o (ps ++ map One ys)) × (news_all (InOsc o ps) ys ≡ [])
 osc_text o ps [] h = (ap (InOsc o) (sym (append-nil ps)), refl)
 osc_text o ps (b ∷ ys) h =
     let k = and_parts (is_text_byte b) (list_all is_text_byte ys) h in
@@ -93,7 +96,8 @@ ahead_is_run rest (suc n) c h = let k = h (omega arith) in character_is_run (tak
 -- a run, and one in the slice behind it
 pub run_more : (rest : List ℕ) (i n : ℕ) → IsTextRun (take i rest) → IsTextRun (take n (take (length rest - i) (drop i rest))) → IsTextRun (take (i + n) rest)
 run_more rest i n f g =
-    subst IsTextRun (ap (λ y. take i rest ++ take n y) (tail_is rest i) ∙ sym (take-add i n rest)) (runs_append (take i rest) (take n (take (length rest - i) (drop i rest))) f g)
+    subst IsTextRun (ap (λ y. take i rest ++ take n y) (tail_is rest i) ∙ sym (take-add i n rest))
+    (runs_append (take i rest) (take n (take (length rest - i) (drop i rest))) f g)
 
 -- what is kept with the run
 pub run_text : {x : List ℕ} (ps : List Piece) (run : IsTextRun x) → text_of ps ++ x ≡ text_of (ps ++ run.0)
@@ -142,22 +146,29 @@ put_shown : (t : Bool) (b : ℕ) (ys : List ℕ) → (if t then DcsPut b ∷ [] 
 put_shown true b ys = refl
 put_shown false b ys = refl
 
-pub data_text : (o : Opener) (x : List ℕ) (f : ℕ) (d ys : List ℕ) → is_dcs_header (strip x) ≡ true → list_all is_text_byte ys ≡ true → (after_all (InData o x f d) ys ≡ InData o x f (d ++ ys)) × (news_all (InData o x f d) ys ≡ puts_of ys)
+pub data_text : (o : Opener) (x : List ℕ) (f : ℕ) (d ys : List ℕ) → is_dcs_header (strip x) ≡ true → list_all is_text_byte ys ≡ true
+    → (after_all (InData o x f d) ys ≡ InData o x f (d ++ ys)) × (news_all (InData o x f d) ys ≡ puts_of ys)
 data_text o x f d [] e h = (ap (InData o x f) (sym (append-nil d)), refl)
 data_text o x f d (b ∷ ys) e h =
     let k = and_parts (is_text_byte b) (list_all is_text_byte ys) h in
     let q = data_text o x f (d ++ b ∷ []) ys e k.1 in
-    rw (e, goes_on b k.0) (q.0 ∙ ap (InData o x f) (append_assoc d (b ∷ []) ys), ap (λ es. (if is_put (class_of b) then DcsPut b ∷ [] else []) ++ es) q.1 ∙ put_shown (is_put (class_of b)) b ys)
+    rw (e, goes_on b k.0) (
+      q.0 ∙ ap (InData o x f) (append_assoc d (b ∷ []) ys),
+      ap (λ es. (if is_put (class_of b) then DcsPut b ∷ [] else []) ++ es) q.1
+          ∙ put_shown (is_put (class_of b)) b ys,
+    )
 
 -- ---- what is passed over
 
-skip_data : (o : Opener) (x : List ℕ) (f : ℕ) (d ys : List ℕ) → is_dcs_header (strip x) ≡ false → list_all is_text_byte ys ≡ true → (after_all (InData o x f d) ys ≡ InData o x f (d ++ ys)) × (news_all (InData o x f d) ys ≡ [])
+skip_data : (o : Opener) (x : List ℕ) (f : ℕ) (d ys : List ℕ) → is_dcs_header (strip x) ≡ false → list_all is_text_byte ys ≡ true
+    → (after_all (InData o x f d) ys ≡ InData o x f (d ++ ys)) × (news_all (InData o x f d) ys ≡ [])
 skip_data o x f d [] e h = (ap (InData o x f) (sym (append-nil d)), refl)
 skip_data o x f d (b ∷ ys) e h =
     let k = and_parts (is_text_byte b) (list_all is_text_byte ys) h in
     let q = skip_data o x f (d ++ b ∷ []) ys e k.1 in rw (e, goes_on b k.0) (q.0 ∙ ap (InData o x f) (append_assoc d (b ∷ []) ys), q.1)
 
-skip_ignored : (i : Kind) (o : Opener) (d ys : List ℕ) → list_all is_text_byte ys ≡ true → (after_all (InIgnored i o d) ys ≡ InIgnored i o (d ++ ys)) × (news_all (InIgnored i o d) ys ≡ [])
+skip_ignored : (i : Kind) (o : Opener) (d ys : List ℕ) → list_all is_text_byte ys ≡ true
+    → (after_all (InIgnored i o d) ys ≡ InIgnored i o (d ++ ys)) × (news_all (InIgnored i o d) ys ≡ [])
 skip_ignored i o d [] h = (ap (InIgnored i o) (sym (append-nil d)), refl)
 skip_ignored i o d (b ∷ ys) h =
     let k = and_parts (is_text_byte b) (list_all is_text_byte ys) h in
@@ -178,7 +189,8 @@ apc_not true h = cc
 apc_not false h = cc
 
 module _ {A : Type 0} (m : Machine A) (ys : List ℕ) (p : list_all is_text_byte ys ≡ true) where
-  pub apc_run : (u : Unfinished) → m.state ≡ state.Apc → Holds m u → (Q : Unfinished → List Event → Type 0) → ((o : Opener) (d : List ℕ) → (m.text.items ++ ys ≡ those is_text (d ++ ys)) → Q (InApc o (d ++ ys)) []) → Q (after_all u ys) (news_all u ys)
+  pub apc_run : (u : Unfinished) → m.state ≡ state.Apc → Holds m u → (Q : Unfinished → List Event → Type 0)
+      → ((o : Opener) (d : List ℕ) → (m.text.items ++ ys ≡ those is_text (d ++ ys)) → Q (InApc o (d ++ ys)) []) → Q (after_all u ys) (news_all u ys)
   apc_run (InApc o d) s h Q f = let q = apc_text o d ys p in rw (q.0, q.1) (f o d (ap (λ x. x ++ ys) h.1 ∙ sym (apc_kept d ys p)))
   apc_run (InData o x f d) s h Q k = absurd (apc_not _ (sym s ∙ h))
   apc_run (InIgnored k o d) s h Q f = absurd cc
@@ -237,7 +249,8 @@ passing_at p (x ∷ xs) (suc i) h l = passing_at p xs i (and_parts (p x) (list_a
 puts_append : (xs ys : List ℕ) → puts_of (xs ++ ys) ≡ puts_of xs ++ puts_of ys
 puts_append xs ys = ap (map DcsPut) (filter-append (λ b. is_put (class_of b)) xs ys) ∙ map-append DcsPut (those is_put xs) (those is_put ys)
 
-module _ {S : Type 0} (takes refuses : S → Event → S → Type 0) (xs : List ℕ) (i : ℕ) (h : i < length xs) (old mid new : S) (so : FoldsTo takes old (puts_of (take i xs)) mid) where
+module _ {S : Type 0} (takes refuses : S → Event → S → Type 0) (xs : List ℕ) (i : ℕ) (h : i < length xs) (old mid new : S)
+    (so : FoldsTo takes old (puts_of (take i xs)) mid) where
   next_put : puts_of (take (i + 1) xs) ≡ puts_of (take i xs) ++ puts_of (get_or xs i 0 ∷ [])
   next_put = ap puts_of (take_more xs i 0 h) ∙ puts_append (take i xs) (get_or xs i 0 ∷ [])
 
@@ -246,6 +259,8 @@ module _ {S : Type 0} (takes refuses : S → Event → S → Type 0) (xs : List 
 
   pub put_stop : (own : Type 0) → StopsAt own takes refuses mid (puts_of (get_or xs i 0 ∷ [])) new → StopsAt own takes refuses old (puts_of xs) new
   put_stop own g =
-      let all : puts_of (take (i + 1) xs) ++ puts_of (drop (i + 1) xs) ≡ puts_of xs = sym (puts_append (take (i + 1) xs) (drop (i + 1) xs)) ∙ ap puts_of (take-append-drop (i + 1) xs) in
-      let front : StopsAt own takes refuses old (puts_of (take (i + 1) xs)) new = subst (λ es. StopsAt own takes refuses old es new) (sym next_put) (stops_then own takes refuses (puts_of (take i xs)) _ old mid new so g) in
+      let all : puts_of (take (i + 1) xs) ++ puts_of (drop (i + 1) xs) ≡ puts_of xs = sym (puts_append (take (i + 1) xs) (drop (i + 1) xs)) ∙ ap puts_of
+      (take-append-drop (i + 1) xs) in
+      let front : StopsAt own takes refuses old (puts_of (take (i + 1) xs)) new = subst (λ es. StopsAt own takes refuses old es new) (sym next_put)
+      (stops_then own takes refuses (puts_of (take i xs)) _ old mid new so g) in
       subst (λ es. StopsAt own takes refuses old es new) all (stops_more own takes refuses (puts_of (take (i + 1) xs)) _ old new front)

@@ -9,10 +9,11 @@ use Rattle.esc_frame.specs.declared.machine.Machine.{Machine}
 use Rattle.esc_frame.specs.Classes.{strip, those, is_text}
 use Rattle.esc_frame.specs.Sequences.{is_front}
 use Rattle.esc_frame.specs.Bodies.{is_dcs_header}
-use Rattle.esc_frame.specs.Fronts.{front_of}
-use Rattle.esc_frame.specs.Keeps.{Keeps, KeepsBody}
+use Rattle.esc_frame.specs.Machine.Fronts.{front_of}
+use Rattle.esc_frame.specs.Machine.Keeps.{Keeps, KeepsBody}
 use Rattle.esc_frame.specs.Events.{Event}
-use Rattle.esc_frame.specs.Segments.{Segment, Opener, Piece, opener, opener_events, text_of, text_bytes, HasShape, IsOpener, ArePieces, is_finished, is_empty, joined, bytes_of, events_of, executes, hook_event, puts}
+use Rattle.esc_frame.specs.Segments.{Segment, Opener, Piece, opener, opener_events, text_of, text_bytes, HasShape, IsOpener, ArePieces, is_finished, is_empty}
+use Rattle.esc_frame.specs.Segments.{joined, bytes_of, events_of, executes, hook_event, puts}
 use Rattle.esc_frame.specs.Segments.Segment.{CutEscape, CutCsi, CutDcs, Dcs, Apc, Ignored}
 
 -- the last segment, where it is unfinished, taken apart
@@ -77,8 +78,8 @@ Holds m (InOsc o ps) = (m.state ≡ state.Osc) × (m.text.items ≡ text_of ps) 
 Holds m (InOscPending o ps f) = (m.state ≡ state.Osc) × (m.text.items ≡ text_of ps) × (front_of m.pending ≡ f) × (is_empty f ≡ false)
 
 -- what the finished segments have told
-abbrev pub told_before : List Segment → List Event
-told_before gs = flat_map (λ g. events_of g true) gs
+abbrev pub finished_events : List Segment → List Event
+finished_events gs = flat_map (λ g. events_of g true) gs
 
 -- what the unfinished segment has told
 abbrev pub told_open : Unfinished → List Event
@@ -98,4 +99,4 @@ pub record Stands (stream : List ℕ) (events : List Event) (gs : List Segment) 
   pub whole : stream ≡ joined gs ++ open_bytes u
   pub finished : AreFinished gs (open_bytes u)
   pub shape : OpenShape u
-  pub told : events ≡ told_before gs ++ told_open u
+  pub told : events ≡ finished_events gs ++ told_open u

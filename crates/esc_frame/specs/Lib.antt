@@ -1,15 +1,11 @@
 pub mod Classes
 pub mod Sequences
-pub mod Fronts
 pub mod Bodies
 pub mod Events
 pub mod Segments
-pub mod Keeps
+pub mod Scans
+pub mod Machine
 pub mod Leads
-pub mod Moves
 pub mod Stream
 pub mod Memory
 pub mod Fits
-pub mod Characters
-pub mod Scans
-pub mod TextRuns

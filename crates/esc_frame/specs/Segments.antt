@@ -3,12 +3,14 @@ use Rattle.std.specs.Prelude.{ℕ, ◌≡◌, ◌&&◌, ◌||◌, Bool, true, fa
 use Rattle.std.specs.List.{flat_map}
 use Rattle.esc_frame.specs.declared.classes.Kind.{Kind}
 use Rattle.esc_frame.specs.declared.classes.Kind.TheVariants as kind
-use Rattle.esc_frame.specs.Classes.{class_of, AllOf, those, strip, is_plain, is_raw, is_breaker, is_noise, is_control, is_raw_control, is_terminator, is_text, is_high, in_escape, ends_escape, opens, in_csi, ends_csi, in_osc, in_data, is_put, is_ignored, letter_of, raw_of}
+use Rattle.esc_frame.specs.Classes.{class_of, AllOf, those, strip, is_plain, is_raw, is_breaker, is_noise, is_control, is_raw_control, is_terminator, is_text}
+use Rattle.esc_frame.specs.Classes.{is_high, in_escape, ends_escape, opens, in_csi, ends_csi, in_osc, in_data, is_put, is_ignored, letter_of, raw_of}
 use Rattle.esc_frame.specs.Sequences.{is_sequence, is_front, is_pair, is_broken_before, number_of}
 use Rattle.esc_below.specs.Clear.{parts_of}
 use Rattle.esc_frame.specs.Events.{Event}
 use Rattle.esc_frame.specs.Events.Event.{Print, Execute, EscDispatch, CsiDispatch, OscDispatch, DcsHook, DcsPut, DcsUnhook, ApcDispatch}
-use Rattle.esc_frame.specs.Bodies.{is_csi_body, is_dcs_header, kept_entries, has_more_entries, dcs_params, dcs_intermediates, kept_intermediates, has_more_intermediates}
+use Rattle.esc_frame.specs.Bodies.{is_csi_body, is_dcs_header, kept_entries, has_more_entries, dcs_params, dcs_intermediates, kept_intermediates}
+use Rattle.esc_frame.specs.Bodies.{has_more_intermediates}
 
 -- ESC, noise and the letter; or the control, raw or behind C2
 pub data Opener : Type 0 where
@@ -245,7 +247,8 @@ events_of (Escape x f) finished = executes x ++ escape_event (strip x) f ∷ []
 events_of (Csi o x f) finished = opener_events o ++ executes x ++ csi_events (strip x) f
 events_of (Osc o ps e) finished = opener_events o ++ (if finished then OscDispatch (parts_of (text_of ps)) ∷ [] else [])
 events_of (CutEscape x) finished = executes x
-events_of (Dcs o x f d) finished = opener_events o ++ (if is_dcs_header (strip x) then (hook_event (strip x) f ∷ puts d) ++ (if finished then DcsUnhook ∷ [] else []) else [])
+events_of (Dcs o x f d) finished =
+    opener_events o ++ (if is_dcs_header (strip x) then (hook_event (strip x) f ∷ puts d) ++ (if finished then DcsUnhook ∷ [] else []) else [])
 events_of (Apc o d) finished = opener_events o ++ (if finished then ApcDispatch (those is_text d) ∷ [] else [])
 events_of (Ignored k o d) finished = opener_events o
 events_of (CutDcs o x) finished = opener_events o
@@ -257,5 +260,5 @@ events_of_cut (g ∷ []) = events_of g (ends_itself g)
 events_of_cut (g ∷ h ∷ gs) = events_of g true ++ events_of_cut (h ∷ gs)
 
 -- what a stream tells: the events of its cut
-abbrev pub Tells : List ℕ → List Event → Type 0
-Tells stream events = (gs : List Segment) × IsCut stream gs × (events ≡ events_of_cut gs)
+abbrev pub HasEvents : List ℕ → List Event → Type 0
+HasEvents stream events = (gs : List Segment) × IsCut stream gs × (events ≡ events_of_cut gs)

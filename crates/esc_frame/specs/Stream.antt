@@ -5,9 +5,9 @@ use Rattle.esc_frame.specs.Events.{Event}
 use Rattle.esc_frame.specs.Segments.{Segment, IsCut}
 use Rattle.esc_frame.specs.Leads.{AreFinished, Holds}
 use Rattle.esc_frame.specs.Leads.Unfinished.{Ground}
-use Rattle.esc_frame.specs.Moves.{after_all, news_all}
+use Rattle.esc_frame.specs.Machine.Moves.{after_all, news_all}
 
--- The events of a stream. The laws `events_of_the_cut` and `tells_once` fix it: they are those that the stream's one cut
+-- The events of a stream. The laws `events_of_the_cut` and `events_once` fix it: they are those that the stream's one cut
 -- tells, and no others. Nothing above this crate uses more of its body, which takes byte after byte as the code does.
 unfoldable pub events : List ℕ → List Event
 events s = news_all Ground s

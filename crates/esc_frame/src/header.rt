@@ -4,7 +4,7 @@
 ghost use Rattle.std.specs.Prelude.{◌≡◌, ◌≤◌, length, map, pos, IfOk};
 ghost use Rattle.std.specs.List.{prefix_len, take_while, list_all};
 ghost use Rattle.esc_frame.specs.Bodies.{behind_marker, marker_of, drop_while, is_dcs_parameter, is_intermediate_byte, is_dcs_header, dcs_params, dcs_intermediates, held, value_behind};
-ghost use Rattle.esc_frame.specs.Keeps.{Keeps};
+ghost use Rattle.esc_frame.specs.Machine.Keeps.{Keeps};
 
 use crate::entries::next_number;
 use crate::intermediates::Intermediates;

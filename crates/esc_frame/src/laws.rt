@@ -9,8 +9,8 @@ ghost use Rattle.esc_frame.specs.Classes.{class_of, AllOf, is_control, is_raw_co
 ghost use Rattle.esc_frame.specs.Bodies.{is_csi_body, is_dcs_header, kept_intermediates, has_more_intermediates};
 ghost use Rattle.esc_frame.specs.Events.{Event};
 ghost use Rattle.esc_frame.specs.Events.Event.{Print, Execute, EscDispatch, OscDispatch, DcsUnhook, ApcDispatch};
-ghost use Rattle.esc_frame.specs.Segments.{Segment, IsCut, Tells, joined, is_empty, csi_event, hook_event, puts};
-ghost use Rattle.esc_frame.specs.Leads.{AreFinished, told_before};
+ghost use Rattle.esc_frame.specs.Segments.{Segment, IsCut, HasEvents, joined, is_empty, csi_event, hook_event, puts};
+ghost use Rattle.esc_frame.specs.Leads.{AreFinished, finished_events};
 ghost use Rattle.esc_frame.specs.Stream.{events, added, Says, IsAtGround};
 ghost use Rattle.esc_frame.specs.Fits.{AreFit, IsOneSegment};
 ghost use Rattle.esc_frame.specs.Memory.{may_grow, MayGrow};
@@ -27,30 +27,30 @@ pub fn has_cut()
     ensures { (stream : List ℕ) → (gs : List Segment) × IsCut stream gs }
 {}
 
-/// A stream tells one list of events.
-pub fn tells_once()
-    ensures { (stream : List ℕ) (xs ys : List Event) → Tells stream xs → Tells stream ys → xs ≡ ys }
+/// A stream has one list of events.
+pub fn events_once()
+    ensures { (stream : List ℕ) (xs ys : List Event) → HasEvents stream xs → HasEvents stream ys → xs ≡ ys }
 {}
 
-/// The events of a stream are those that its cut tells.
+/// The events of a stream are those of its cut.
 #[tactic(auto, using(crate::proofs::Cuts::events_of_the_cut))]
 pub fn events_of_the_cut()
-    ensures { (s : List ℕ) → Tells s (events s) }
+    ensures { (s : List ℕ) → HasEvents s (events s) }
 {}
 
-/// The events of a front come first among the events, and then those that the rest adds.
+/// The events of a prefix come first, and then those that the rest adds.
 #[tactic(auto, using(crate::proofs::Streams::events_more))]
 pub fn events_more()
     ensures { (s b : List ℕ) → events s ++ added s b ≡ events (s ++ b) }
 {}
 
-/// What two pieces add, one behind another, is what they add together: no cut of the input into calls changes the events.
+/// What two pieces add, one after another, is what they add together: no cut of the input into calls changes the events.
 #[tactic(auto, using(crate::proofs::Streams::added_append))]
 pub fn added_append()
     ensures { (s b c : List ℕ) → added s (b ++ c) ≡ added s b ++ added (s ++ b) c }
 {}
 
-/// Behind a stream with nothing unfinished, bytes add their own events.
+/// After a stream with nothing unfinished, bytes add their own events.
 #[tactic(auto, using(crate::proofs::AtGround::ground_added))]
 pub fn ground_added()
     ensures { (s b : List ℕ) → IsAtGround s → added s b ≡ events b }
@@ -68,7 +68,7 @@ pub fn says_nil()
     ensures { Says [] [] }
 {}
 
-/// Texts, one behind another, say their events one behind another.
+/// Texts, one after another, say their events one after another.
 #[tactic(auto, using(crate::proofs::Streams::says_append))]
 pub fn says_append()
     ensures { (t u : List ℕ) (es fs : List Event) → Says t es → Says u fs → Says (t ++ u) (es ++ fs) }
@@ -82,7 +82,7 @@ pub fn says_events()
 /// Segments that are finished whatever follows say their events.
 #[tactic(auto, using(crate::proofs::Streams::says_segments))]
 pub fn says_segments()
-    ensures { (gs : List Segment) → ((rest : List ℕ) → AreFinished gs rest) → Says (joined gs) (told_before gs) }
+    ensures { (gs : List Segment) → ((rest : List ℕ) → AreFinished gs rest) → Says (joined gs) (finished_events gs) }
 {}
 
 /// One segment that is finished by itself says its events.
@@ -140,7 +140,7 @@ pub fn says_dcs()
     ensures { (x d : List ℕ) (f : ℕ) → AllOf in_body x → is_dcs_header x ≡ true → ends_csi (class_of f) ≡ true → AllOf is_put d → Says ((((0x1b ∷ 0x50 ∷ []) ++ x ++ f ∷ []) ++ d) ++ 0x1b ∷ 0x5c ∷ []) (((hook_event x f ∷ puts d) ++ DcsUnhook ∷ []) ++ EscDispatch [] false 0x5c ∷ []) }
 {}
 
-/// Whether a stream may make a parser's memory grow can be told from its cut.
+/// Whether a stream may make a parser's memory grow shows in its cut.
 #[tactic(auto, using(crate::proofs::Memory::cut_grows))]
 pub fn cut_grows()
     ensures { (s : List ℕ) (gs : List Segment) → IsCut s gs → MayGrow s → list_any may_grow gs ≡ true }

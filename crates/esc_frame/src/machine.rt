@@ -6,11 +6,11 @@ ghost use Rattle.esc_frame.specs.Classes.{class_of, strip, those, is_text, is_br
 ghost use Rattle.esc_frame.specs.Bodies.{is_dcs_header};
 ghost use Rattle.esc_frame.specs.Events.{Event, Takes, Hears};
 ghost use Rattle.esc_frame.specs.Events.Event.{Print, EscDispatch, OscDispatch, DcsUnhook, ApcDispatch};
-ghost use Rattle.esc_frame.specs.Keeps.{Keeps, KeepsBody};
+ghost use Rattle.esc_frame.specs.Machine.Keeps.{Keeps, KeepsBody};
 ghost use Rattle.esc_frame.specs.Leads.{Unfinished, Holds};
-ghost use Rattle.esc_frame.specs.Fronts.{front_of};
+ghost use Rattle.esc_frame.specs.Machine.Fronts.{front_of};
 ghost use Rattle.esc_frame.specs.Leads.Unfinished.{Ground};
-ghost use Rattle.esc_frame.specs.Moves.{after_by, news_by, may_grow_in, opened, ground_after, ground_news, pair_after, pair_news, pending_after, pending_news, escape_after, escape_news, csi_after, csi_news, osc_after, osc_news, osc_pending_after, osc_pending_news, dcs_after, dcs_news, data_after, data_news, apc_after, apc_news};
+ghost use Rattle.esc_frame.specs.Machine.Moves.{after_by, news_by, may_grow_in, opened, ground_after, ground_news, pair_after, pair_news, pending_after, pending_news, escape_after, escape_news, csi_after, csi_news, osc_after, osc_news, osc_pending_after, osc_pending_news, dcs_after, dcs_news, data_after, data_news, apc_after, apc_news};
 ghost use Rattle.esc_frame.specs.Sequences.{outcome, is_sequence};
 ghost use Rattle.esc_frame.specs.Segments.{Opener, Piece, text_of, is_empty, csi_event, csi_events, hook_event};
 ghost use Rattle.esc_below.specs.Clear.{parts_of};
@@ -22,6 +22,7 @@ use crate::header;
 use crate::intermediates::Intermediates;
 use crate::parts::dispatch_osc;
 use crate::sequence::{Outcome, Pending};
+use crate::short::Short;
 use std::alloc::{AllocError, Allocator};
 
 /// Where the machine stands.
@@ -55,6 +56,8 @@ pub struct Machine<A: Allocator> {
     pub intermediates: Intermediates,
     // that of a control sequence
     pub body: CsiBody<A>,
+    // that of one that stands whole in a call's bytes
+    pub short: Short,
     // what is kept of the text of an OSC or APC, or of the header of a DCS
     pub text: Vec<u8, A>,
 }
@@ -69,6 +72,7 @@ impl<A: Allocator + Copy> Machine<A> {
             pending: Pending::Nothing,
             intermediates: Intermediates::new(),
             body: CsiBody::new(alloc),
+            short: Short::new(),
             text: Vec::new(alloc),
         }
     }

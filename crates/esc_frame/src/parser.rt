@@ -42,7 +42,7 @@ impl<A: Allocator> VTParser<A> {
         }
     }
 
-    /// Whether the bytes so far leave no unfinished segment. A failed parser answers false.
+    /// Whether the bytes so far leave no unfinished segment. After a failure it is false.
     #[tactic(auto, unfolding(crate::specs::Stream::LeadsTo, crate::specs::Stream::HasFailed))]
     pub fn is_ground(&self) -> bool
         ensures ground { (s : List ℕ) → LeadsTo s self.now → IsTrue result ↔ IsAtGround s }
@@ -51,13 +51,12 @@ impl<A: Allocator> VTParser<A> {
         !self.has_failed && self.machine.is_ground()
     }
 
-    /// The character that stands whole at the front of `bytes`, and its length in bytes, where no segment is unfinished. These
-    /// bytes count as fed: behind them the parser stands as before them, and they add this character and nothing else. So a
-    /// caller that takes characters one at a time needs no actor for them.
+    /// The character that comes first in `bytes`, and its length in bytes, where that is seen without a change of the parser.
+    /// These bytes then count as fed: they add this character and nothing else, and the parser is as before. So a caller that
+    /// takes characters one at a time needs no actor for them.
     ///
-    /// `None` where a segment is unfinished, where the parser has failed, where something else than a character comes first,
-    /// and where the first byte is 80 or more and fewer than four are there; then nothing counts as fed. For a first byte 20
-    /// to 7F in ground it is never `None`.
+    /// After `None` nothing counts as fed, and a call of another kind goes on. It is always `None` after a failure, and never
+    /// where no segment is unfinished and the first byte is 20 to 7F.
     #[inline]
     pub fn first_char(&self, bytes: &[u8]) -> Option<(char, usize)>
         ensures count { IfSome result (λ x. (0 < x.1) × (x.1 ≤ length bytes.now)) }
@@ -73,9 +72,10 @@ impl<A: Allocator> VTParser<A> {
         }
     }
 
-    /// The control at the front of `bytes`, 00 to 1F but not ESC, where no segment is unfinished; else `None`. As with
-    /// [`first_char`](VTParser::first_char), this byte counts as fed where it is answered, and adds this control and nothing
-    /// else.
+    /// The control, 00 to 1F but not ESC, that comes first in `bytes`, where that is seen without a change of the parser. As
+    /// with [`first_char`](VTParser::first_char), this byte then counts as fed, and adds this control and nothing else.
+    ///
+    /// It is always `None` after a failure, and never where no segment is unfinished and the first byte is such a control.
     #[inline]
     pub fn first_control(&self, bytes: &[u8]) -> Option<u8>
         ensures count { IfSome result (λ b. 0 < length bytes.now) }
@@ -91,8 +91,8 @@ impl<A: Allocator> VTParser<A> {
 
     /// Takes the next byte of the stream, and gives the actor, in order, what it adds to the events of the bytes before.
     ///
-    /// Answers `Memory` where the actor refused a call or where a request for memory was refused; a front of these events
-    /// was given then. Every later call answers `Failed` and gives nothing.
+    /// The error is `Memory` where the actor refused a call or a request for memory was refused: a prefix of these events was
+    /// given then, and every later call returns `Failed` and gives nothing.
     #[tactic(auto, unfolding(crate::specs::Stream::LeadsTo, crate::specs::Stream::HasFailed))]
     pub fn parse_byte<V: VTActor>(&mut self, byte: u8, actor: &mut V) -> Result<(), ParseError>
         requires { V.is_ready actor.old }
@@ -117,8 +117,8 @@ impl<A: Allocator> VTParser<A> {
     /// Takes the next bytes of the stream, as many as there are, and gives the actor, in order, what they add to the
     /// events of the bytes before. However a stream is cut into calls, its events are the same.
     ///
-    /// Answers `Memory` where the actor refused a call or where a request for memory was refused; a front of these events
-    /// was given then. Every later call answers `Failed` and gives nothing.
+    /// The error is `Memory` where the actor refused a call or a request for memory was refused: a prefix of these events was
+    /// given then, and every later call returns `Failed` and gives nothing.
     #[tactic(auto, unfolding(crate::specs::Stream::LeadsTo, crate::specs::Stream::HasFailed))]
     pub fn parse<V: VTActor>(&mut self, bytes: &[u8], actor: &mut V) -> Result<(), ParseError>
         requires { V.is_ready actor.old }
@@ -140,12 +140,12 @@ impl<A: Allocator> VTParser<A> {
         }
     }
 
-    /// Takes a front of the bytes, at least one byte where there is one, and says how many bytes it took. All but the
+    /// Takes a prefix of the bytes, at least one byte where there is one, and returns its length. All but the
     /// last of them add no event and leave a segment unfinished. So a caller can stop at the first event, or at the first
-    /// place where no segment is unfinished, and give the bytes behind it to a later call.
+    /// place where no segment is unfinished, and give the bytes after it to a later call.
     ///
-    /// Answers `Memory` where the actor refused a call or where a request for memory was refused; a front of the events
-    /// that the bytes add was given then. Every later call answers `Failed` and gives nothing.
+    /// The error is `Memory` where the actor refused a call or a request for memory was refused: a prefix of the events that
+    /// the bytes add was given then, and every later call returns `Failed` and gives nothing.
     #[tactic(auto, unfolding(crate::specs::Stream::LeadsTo, crate::specs::Stream::HasFailed))]
     pub fn parse_some<V: VTActor>(
         &mut self,

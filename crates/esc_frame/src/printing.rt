@@ -4,33 +4,14 @@
 ghost use Rattle.std.specs.Prelude.{◌≡◌, ◌≢◌, ◌<◌, ◌≤◌, [], ◌∷◌, length, map, take, true, false, slice_index, OnOk, IfOk, IfSome, IsSome};
 ghost use Rattle.esc_frame.specs.Events.{Takes};
 ghost use Rattle.esc_frame.specs.Events.Event.{Execute, Print};
-ghost use Rattle.esc_frame.specs.Characters.{Prints};
+ghost use Rattle.esc_frame.specs.Machine.Characters.{Prints, IsAhead};
 ghost use Rattle.esc_frame.specs.Leads.Unfinished.{Ground};
-ghost use Rattle.esc_frame.specs.Moves.{IsStill, after_all, news_all};
+ghost use Rattle.esc_frame.specs.Machine.Moves.{IsStill, after_all, news_all};
 
 use crate::actor::VTActor;
 use crate::scans::text_run;
-use crate::sequence::ahead;
+use crate::sequence::{ahead, of_four, of_three, of_two};
 use std::alloc::AllocError;
-
-/// The characters at the front.
-#[inline(always)]
-pub fn print_front<V: VTActor>(rest: &[u8], actor: &mut V) -> Result<usize, AllocError>
-    requires { V.is_ready actor.old }
-    ensures count { IfOk result (λ n. n ≤ length rest.now) }
-    ensures ran { Prints V.takes V.refuses result rest.now actor.old actor.new }
-    ensures ready { OnOk result (V.is_ready actor.new) }
-{
-    let mut at = 0;
-    while at < rest.len() {
-        match print_one(&rest[at..], actor) {
-            Ok(0) => return Ok(at),
-            Ok(n) => at += n,
-            Err(e) => return Err(e),
-        }
-    }
-    Ok(at)
-}
 
 /// The character that stands whole at the front, and its length; `None` where there is none, or where that is not seen at
 /// once: behind a first byte from 80 on stand fewer than three.
@@ -70,6 +51,23 @@ pub fn first_control(rest: &[u8]) -> Option<u8>
     }
 }
 
+/// The control at the front.
+#[inline(always)]
+pub fn execute_one<V: VTActor>(rest: &[u8], actor: &mut V) -> Result<usize, AllocError>
+    requires some { 0 < length rest.now }
+    requires low { slice_index rest.now 0 < 0x20 }
+    requires other { slice_index rest.now 0 ≢ 0x1b }
+    requires ready { V.is_ready actor.old }
+    ensures count { IfOk result (λ n. n ≤ length rest.now) }
+    ensures ran { Prints V.takes V.refuses result rest.now actor.old actor.new }
+    ensures ready { OnOk result (V.is_ready actor.new) }
+{
+    match actor.execute_c0_or_c1(rest[0]) {
+        Ok(()) => Ok(1),
+        Err(e) => Err(e),
+    }
+}
+
 #[inline(always)]
 fn first_wide(rest: &[u8]) -> Option<(char, usize)>
     ensures count { IfSome result (λ x. (0 < x.1) × (x.1 ≤ length rest.now)) }
@@ -98,9 +96,9 @@ pub fn print_first<V: VTActor>(rest: &[u8], actor: &mut V) -> Result<usize, Allo
     }
 }
 
-// A run of text, or a sequence, at the front.
+/// A run of text, or sequences, at the front.
 #[inline(always)]
-fn print_one<V: VTActor>(rest: &[u8], actor: &mut V) -> Result<usize, AllocError>
+pub fn print_one<V: VTActor>(rest: &[u8], actor: &mut V) -> Result<usize, AllocError>
     requires some { 0 < length rest.now }
     requires ready { V.is_ready actor.old }
     ensures count { IfOk result (λ n. n ≤ length rest.now) }
@@ -112,35 +110,209 @@ fn print_one<V: VTActor>(rest: &[u8], actor: &mut V) -> Result<usize, AllocError
     } else if rest[0] < 0x80 {
         print_text(rest, actor)
     } else {
-        print_first(rest, actor)
+        print_wides(rest, actor)
     }
 }
 
+// The sequences at the front, and short runs of text between them; a longer run is left.
 #[inline(always)]
-fn print_text<V: VTActor>(rest: &[u8], actor: &mut V) -> Result<usize, AllocError>
+fn print_wides<V: VTActor>(rest: &[u8], actor: &mut V) -> Result<usize, AllocError>
     requires { V.is_ready actor.old }
     ensures count { IfOk result (λ n. n ≤ length rest.now) }
     ensures ran { Prints V.takes V.refuses result rest.now actor.old actor.new }
     ensures ready { OnOk result (V.is_ready actor.new) }
 {
-    let run = text_run(rest);
-    match print_all(&rest[..run], actor) {
-        Ok(()) => Ok(run),
+    let mut at = 0;
+    while rest.len() - at >= 8 {
+        match print_wide(&rest[at..], actor) {
+            Ok(0) => return Ok(at),
+            Ok(n) => at += n,
+            Err(e) => return Err(e),
+        }
+    }
+    Ok(at)
+}
+
+// Sequences at the front, or text that has a sequence near behind it.
+#[inline(always)]
+fn print_wide<V: VTActor>(rest: &[u8], actor: &mut V) -> Result<usize, AllocError>
+    requires some { 8 ≤ length rest.now }
+    requires ready { V.is_ready actor.old }
+    ensures count { IfOk result (λ n. n ≤ length rest.now) }
+    ensures ran { Prints V.takes V.refuses result rest.now actor.old actor.new }
+    ensures ready { OnOk result (V.is_ready actor.new) }
+{
+    if rest[0] < 0x80 {
+        if (rest[1] | rest[3] | rest[5] | rest[7]) < 0x80 {
+            Ok(0)
+        } else {
+            print_lones(rest, actor)
+        }
+    } else if rest[0] < 0xe0 {
+        print_twos(rest, actor)
+    } else if rest[0] < 0xf0 {
+        print_threes(rest, actor)
+    } else {
+        let (n, c) = of_four(rest[0], rest[1], rest[2], rest[3]);
+        print_ahead(rest, n, c, actor)
+    }
+}
+
+// The bytes of text at the front, one at a time.
+#[inline(always)]
+fn print_lones<V: VTActor>(rest: &[u8], actor: &mut V) -> Result<usize, AllocError>
+    requires { V.is_ready actor.old }
+    ensures count { IfOk result (λ n. n ≤ length rest.now) }
+    ensures ran { Prints V.takes V.refuses result rest.now actor.old actor.new }
+    ensures ready { OnOk result (V.is_ready actor.new) }
+{
+    let mut at = 0;
+    while rest.len() - at >= 1 {
+        match print_lone(&rest[at..], actor) {
+            Ok(0) => return Ok(at),
+            Ok(n) => at += n,
+            Err(e) => return Err(e),
+        }
+    }
+    Ok(at)
+}
+
+// The sequences of two bytes at the front, and single bytes of text between them.
+#[inline(always)]
+fn print_twos<V: VTActor>(rest: &[u8], actor: &mut V) -> Result<usize, AllocError>
+    requires { V.is_ready actor.old }
+    ensures count { IfOk result (λ n. n ≤ length rest.now) }
+    ensures ran { Prints V.takes V.refuses result rest.now actor.old actor.new }
+    ensures ready { OnOk result (V.is_ready actor.new) }
+{
+    let mut at = 0;
+    while rest.len() - at >= 4 {
+        match print_two(&rest[at..], actor) {
+            Ok(0) => return Ok(at),
+            Ok(n) => at += n,
+            Err(e) => return Err(e),
+        }
+    }
+    Ok(at)
+}
+
+// The sequences of three bytes at the front.
+#[inline(always)]
+fn print_threes<V: VTActor>(rest: &[u8], actor: &mut V) -> Result<usize, AllocError>
+    requires { V.is_ready actor.old }
+    ensures count { IfOk result (λ n. n ≤ length rest.now) }
+    ensures ran { Prints V.takes V.refuses result rest.now actor.old actor.new }
+    ensures ready { OnOk result (V.is_ready actor.new) }
+{
+    let mut at = 0;
+    while rest.len() - at >= 3 {
+        match print_three(&rest[at..], actor) {
+            Ok(0) => return Ok(at),
+            Ok(n) => at += n,
+            Err(e) => return Err(e),
+        }
+    }
+    Ok(at)
+}
+
+// A sequence of two bytes at the front.
+#[inline(always)]
+fn print_two<V: VTActor>(rest: &[u8], actor: &mut V) -> Result<usize, AllocError>
+    requires some { 4 ≤ length rest.now }
+    requires ready { V.is_ready actor.old }
+    ensures count { IfOk result (λ n. n ≤ length rest.now) }
+    ensures ran { Prints V.takes V.refuses result rest.now actor.old actor.new }
+    ensures ready { OnOk result (V.is_ready actor.new) }
+{
+    if rest[0] < 0x80 {
+        return print_near(rest, actor);
+    }
+    let (n, c) = of_two(rest[0], rest[1]);
+    print_ahead(rest, n, c, actor)
+}
+
+// A byte of text that has a sequence near behind it.
+#[inline(always)]
+fn print_near<V: VTActor>(rest: &[u8], actor: &mut V) -> Result<usize, AllocError>
+    requires some { 4 ≤ length rest.now }
+    requires ready { V.is_ready actor.old }
+    ensures count { IfOk result (λ n. n ≤ length rest.now) }
+    ensures ran { Prints V.takes V.refuses result rest.now actor.old actor.new }
+    ensures ready { OnOk result (V.is_ready actor.new) }
+{
+    if rest[3] < 0x80 {
+        Ok(0)
+    } else {
+        print_lone(rest, actor)
+    }
+}
+
+// A sequence of three bytes at the front.
+#[inline(always)]
+fn print_three<V: VTActor>(rest: &[u8], actor: &mut V) -> Result<usize, AllocError>
+    requires some { 3 ≤ length rest.now }
+    requires ready { V.is_ready actor.old }
+    ensures count { IfOk result (λ n. n ≤ length rest.now) }
+    ensures ran { Prints V.takes V.refuses result rest.now actor.old actor.new }
+    ensures ready { OnOk result (V.is_ready actor.new) }
+{
+    let (n, c) = of_three(rest[0], rest[1], rest[2]);
+    print_ahead(rest, n, c, actor)
+}
+
+#[inline(always)]
+fn print_ahead<V: VTActor>(
+    rest: &[u8],
+    n: usize,
+    c: char,
+    actor: &mut V,
+) -> Result<usize, AllocError>
+    requires ahead { IsAhead rest.now n c }
+    requires ready { V.is_ready actor.old }
+    ensures count { IfOk result (λ k. k ≤ length rest.now) }
+    ensures ran { Prints V.takes V.refuses result rest.now actor.old actor.new }
+    ensures ready { OnOk result (V.is_ready actor.new) }
+{
+    if n == 0 {
+        return Ok(0);
+    }
+    match actor.print(c) {
+        Ok(()) => Ok(n),
+        Err(e) => Err(e),
+    }
+}
+
+// A byte of text at the front.
+#[inline(always)]
+fn print_lone<V: VTActor>(rest: &[u8], actor: &mut V) -> Result<usize, AllocError>
+    requires some { 1 ≤ length rest.now }
+    requires ready { V.is_ready actor.old }
+    ensures count { IfOk result (λ n. n ≤ length rest.now) }
+    ensures ran { Prints V.takes V.refuses result rest.now actor.old actor.new }
+    ensures ready { OnOk result (V.is_ready actor.new) }
+{
+    if rest[0] < 0x20 || rest[0] > 0x7f {
+        return Ok(0);
+    }
+    match actor.print(rest[0] as char) {
+        Ok(()) => Ok(1),
         Err(e) => Err(e),
     }
 }
 
 #[inline(always)]
-fn print_all<V: VTActor>(run: &[u8], actor: &mut V) -> Result<(), AllocError>
-    requires { V.is_ready actor.old }
-    ensures told { Takes false V.takes V.refuses result actor.old (map Print run.now) actor.new }
+fn print_text<V: VTActor>(rest: &[u8], actor: &mut V) -> Result<usize, AllocError>
+    requires some { 0 < length rest.now }
+    requires low { 0x20 ≤ slice_index rest.now 0 }
+    requires high { slice_index rest.now 0 < 0x80 }
+    requires ready { V.is_ready actor.old }
+    ensures count { IfOk result (λ n. n ≤ length rest.now) }
+    ensures ran { Prints V.takes V.refuses result rest.now actor.old actor.new }
     ensures ready { OnOk result (V.is_ready actor.new) }
 {
-    for b in run {
-        match actor.print(*b as char) {
-            Ok(()) => {}
-            Err(e) => return Err(e),
-        }
+    let run = text_run(rest);
+    match actor.print_text(&rest[..run]) {
+        Ok(()) => Ok(run),
+        Err(e) => Err(e),
     }
-    Ok(())
 }

@@ -1,28 +1,30 @@
 //! The machine over many bytes at once: runs of bytes that change nothing but what is kept.
 #![tactic(auto)]
 
-ghost use Rattle.std.specs.Prelude.{◌≡◌, ◌≤◌, ◌<◌, ◌++◌, ℕ, List, [], ◌∷◌, length, take, map, true, false, slice_index, IfOk, OnOk};
+ghost use Rattle.std.specs.Prelude.{◌≡◌, ◌≤◌, ◌<◌, ◌++◌, ℕ, List, [], ◌∷◌, length, take, drop, map, true, false, slice_index, IfOk, OnOk, ◌+◌};
 ghost use Rattle.std.specs.List.{list_all};
 ghost use Rattle.esc_frame.specs.Bodies.{is_dcs_header};
 ghost use Rattle.esc_frame.specs.Classes.{class_of, strip, those, is_text, is_put};
 ghost use Rattle.esc_frame.specs.Events.{Takes};
 ghost use Rattle.esc_frame.specs.Events.Event.{DcsPut};
-ghost use Rattle.esc_frame.specs.Fronts.{front_of};
-ghost use Rattle.esc_frame.specs.Keeps.{KeepsBody};
+ghost use Rattle.esc_frame.specs.Machine.Fronts.{front_of};
+ghost use Rattle.esc_frame.specs.Machine.Keeps.{KeepsBody};
 ghost use Rattle.esc_frame.specs.Leads.{Unfinished, Holds};
 ghost use Rattle.esc_frame.specs.Leads.Unfinished.{Ground, InCsi, InOsc, InData, InApc};
-ghost use Rattle.esc_frame.specs.Moves.{after_all, news_all, may_grow_within, Given, IsStill, csi_after, csi_news};
-ghost use Rattle.esc_frame.specs.TextRuns.{IsTextRun};
+ghost use Rattle.esc_frame.specs.Machine.Moves.{after_all, news_all, may_grow_within, Given, IsStill, csi_after, csi_news};
+ghost use Rattle.esc_frame.specs.Machine.TextRuns.{IsTextRun};
 ghost use Rattle.esc_frame.specs.Scans.{is_body_byte, is_text_byte};
 ghost use Rattle.esc_frame.specs.Segments.{Opener, Piece, text_of};
+ghost use Rattle.esc_frame.specs.Sequences.{is_from};
+ghost use Rattle.esc_frame.specs.Machine.Shorts.{IsShort};
 
 use crate::actor::VTActor;
 use crate::body::CsiBody;
 use crate::classes::{Kind, classify};
 use crate::machine::{Machine, State};
-use crate::printing::{print_first, print_front};
+use crate::printing::{execute_one, print_first, print_one};
 use crate::scans::{text_run, units_run};
-use crate::sequence::Pending;
+use crate::sequence::{Pending, lies_from};
 use std::alloc::{AllocError, Allocator};
 
 // Pushes the run of 20-3F at the front, and says how long it is.
@@ -202,7 +204,7 @@ impl<A: Allocator> Machine<A> {
         ensures count { IfOk result (λ n. (0 < n) × (n ≤ length rest.now)) }
         ensures ready { OnOk result (V.is_ready actor.new) }
     {
-        match print_front(rest, actor) {
+        match self.take_quick(rest, actor) {
             Ok(printed) => {
                 if printed == rest.len() {
                     return Ok(printed);
@@ -213,6 +215,86 @@ impl<A: Allocator> Machine<A> {
                 }
             }
             Err(e) => Err(e),
+        }
+    }
+
+    // Characters and short control sequences, as long as they come.
+    #[inline(always)]
+    fn take_quick<V: VTActor>(&mut self, rest: &[u8], actor: &mut V) -> Result<usize, AllocError>
+        requires ready { V.is_ready actor.old }
+        requires ground { Holds self.old Ground }
+        ensures holds { IfOk result (λ n. Holds self.new Ground) }
+        ensures stays { IfOk result (λ n. after_all Ground (take n rest.now) ≡ Ground) }
+        ensures told { Given V.takes V.refuses result Ground rest.now actor.old actor.new }
+        ensures count { IfOk result (λ n. n ≤ length rest.now) }
+        ensures ready { OnOk result (V.is_ready actor.new) }
+    {
+        let mut at = 0;
+        while at < rest.len() {
+            match self.take_quick_one(&rest[at..], actor) {
+                Ok(0) => return Ok(at),
+                Ok(n) => at += n,
+                Err(e) => return Err(e),
+            }
+        }
+        Ok(at)
+    }
+
+    // Characters, or a short control sequence; nothing where something else stands there.
+    #[inline(always)]
+    fn take_quick_one<V: VTActor>(
+        &mut self,
+        rest: &[u8],
+        actor: &mut V,
+    ) -> Result<usize, AllocError>
+        requires some { 0 < length rest.now }
+        requires ready { V.is_ready actor.old }
+        requires ground { Holds self.old Ground }
+        ensures holds { IfOk result (λ n. Holds self.new Ground) }
+        ensures stays { IfOk result (λ n. after_all Ground (take n rest.now) ≡ Ground) }
+        ensures told { Given V.takes V.refuses result Ground rest.now actor.old actor.new }
+        ensures count { IfOk result (λ n. n ≤ length rest.now) }
+        ensures ready { OnOk result (V.is_ready actor.new) }
+    {
+        if rest[0] >= 0x20 {
+            return print_one(rest, actor);
+        }
+        if rest[0] == 0x1b {
+            self.take_quick_csi(rest, actor)
+        } else {
+            execute_one(rest, actor)
+        }
+    }
+
+    #[inline(always)]
+    fn take_quick_csi<V: VTActor>(
+        &mut self,
+        rest: &[u8],
+        actor: &mut V,
+    ) -> Result<usize, AllocError>
+        requires escape { slice_index rest.now 0 ≡ 0x1b }
+        requires ready { V.is_ready actor.old }
+        requires ground { Holds self.old Ground }
+        ensures holds { IfOk result (λ n. Holds self.new Ground) }
+        ensures stays { IfOk result (λ n. after_all Ground (take n rest.now) ≡ Ground) }
+        ensures told { Given V.takes V.refuses result Ground rest.now actor.old actor.new }
+        ensures count { IfOk result (λ n. n ≤ length rest.now) }
+        ensures ready { OnOk result (V.is_ready actor.new) }
+    {
+        if rest.len() <= 2 {
+            return Ok(0);
+        }
+        if rest[1] != b'[' {
+            return Ok(0);
+        }
+        let run = self.short.read(&rest[2..]);
+        if run == rest.len() - 2 {
+            return Ok(0);
+        }
+        if lies_from(0x40, 0x7e, rest[run + 2]) {
+            self.take_short_csi(rest, run, actor)
+        } else {
+            Ok(0)
         }
     }
 
@@ -294,9 +376,63 @@ impl<A: Allocator> Machine<A> {
         }
     }
 
-    // A control sequence, up to its final byte or what else is not of its body.
+    // A control sequence: at once, where it is short and stands whole in the bytes.
     #[inline(always)]
     fn take_csi<V: VTActor>(&mut self, rest: &[u8], actor: &mut V) -> Result<usize, AllocError>
+        requires some { 2 < length rest.now }
+        requires escape { slice_index rest.now 0 ≡ 0x1b }
+        requires bracket { slice_index rest.now 1 ≡ 0x5b }
+        requires ready { V.is_ready actor.old }
+        ensures holds { IfOk result (λ n. Holds self.new (after_all Ground (take n rest.now))) }
+        ensures told { Given V.takes V.refuses result Ground rest.now actor.old actor.new }
+        ensures quiet { IfOk result (λ n. IsStill Ground rest.now n) }
+        ensures count { IfOk result (λ n. (0 < n) × (n ≤ length rest.now)) }
+        ensures ready { OnOk result (V.is_ready actor.new) }
+    {
+        let run = self.short.read(&rest[2..]);
+        if run == rest.len() - 2 {
+            return self.take_long_csi(rest, actor);
+        }
+        if lies_from(0x40, 0x7e, rest[run + 2]) {
+            self.take_short_csi(rest, run, actor)
+        } else {
+            self.take_long_csi(rest, actor)
+        }
+    }
+
+    // A control sequence whose entries were read.
+    #[inline(always)]
+    fn take_short_csi<V: VTActor>(
+        &mut self,
+        rest: &[u8],
+        run: usize,
+        actor: &mut V,
+    ) -> Result<usize, AllocError>
+        requires some { 2 < length rest.now }
+        requires escape { slice_index rest.now 0 ≡ 0x1b }
+        requires bracket { slice_index rest.now 1 ≡ 0x5b }
+        requires few { run + 2 < length rest.now }
+        requires read { IsShort (take self.old.short.count self.old.short.items) (take run (drop 2 rest.now)) }
+        requires ends { is_from 0x40 0x7e (slice_index rest.now (run + 2)) ≡ true }
+        requires ready { V.is_ready actor.old }
+        ensures ground { IfOk result (λ n. Holds self.new Ground) }
+        ensures stays { IfOk result (λ n. after_all Ground (take n rest.now) ≡ Ground) }
+        ensures holds { IfOk result (λ n. Holds self.new (after_all Ground (take n rest.now))) }
+        ensures told { Given V.takes V.refuses result Ground rest.now actor.old actor.new }
+        ensures quiet { IfOk result (λ n. IsStill Ground rest.now n) }
+        ensures count { IfOk result (λ n. (0 < n) × (n ≤ length rest.now)) }
+        ensures ready { OnOk result (V.is_ready actor.new) }
+    {
+        self.state = State::Ground;
+        self.pending = Pending::Nothing;
+        match actor.csi_dispatch(self.short.as_slice(), false, rest[run + 2]) {
+            Ok(()) => Ok(run + 3),
+            Err(e) => Err(e),
+        }
+    }
+
+    // A control sequence, up to its final byte or what else is not of its body.
+    fn take_long_csi<V: VTActor>(&mut self, rest: &[u8], actor: &mut V) -> Result<usize, AllocError>
         requires some { 2 < length rest.now }
         requires escape { slice_index rest.now 0 ≡ 0x1b }
         requires bracket { slice_index rest.now 1 ≡ 0x5b }

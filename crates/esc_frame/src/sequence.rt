@@ -3,8 +3,8 @@
 
 ghost use Rattle.std.specs.Prelude.{◌≡◌, ◌++◌, List, [], ◌∷◌, ◌-◌, ◌*◌, ◌+◌, ◌≤◌, if◌then◌else◌, true, OnOk, OnErr, ◌<◌, false, length};
 ghost use Rattle.esc_frame.specs.Sequences.{is_from, is_tail, is_second, is_sequence, is_front, is_pair, outcome, number_of};
-ghost use Rattle.esc_frame.specs.Characters.{IsAhead, IsCharacter};
-ghost use Rattle.esc_frame.specs.Fronts.{front_of};
+ghost use Rattle.esc_frame.specs.Machine.Characters.{IsAhead, IsCharacter};
+ghost use Rattle.esc_frame.specs.Machine.Fronts.{front_of};
 
 use std::alloc::{AllocError, Allocator};
 
@@ -205,11 +205,16 @@ pub fn ahead(rest: &[u8]) -> (usize, char)
 
 #[tactic(auto, unfolding(crate::specs::Sequences::is_sequence, crate::specs::Sequences::is_pair, crate::specs::Sequences::number_of))]
 #[inline(always)]
-fn of_two(a: u8, b: u8) -> (usize, char)
+pub fn of_two(a: u8, b: u8) -> (usize, char)
     ensures { 0 < result.0 → (result.0 ≡ 2) × IsCharacter (a ∷ b ∷ []) result.1 }
 {
-    if lies_from(0xc2, 0xdf, a) && lies_from(0x80, 0xbf, b) && (a != 0xc2 || 0xa0 <= b) {
-        (2, two(a, b))
+    if lies_from(0xc2, 0xdf, a) && lies_from(0x80, 0xbf, b) {
+        let c = two(a, b);
+        if c as u32 >= 0xa0 {
+            (2, c)
+        } else {
+            (0, '\u{fffd}')
+        }
     } else {
         (0, '\u{fffd}')
     }
@@ -217,11 +222,18 @@ fn of_two(a: u8, b: u8) -> (usize, char)
 
 #[tactic(auto, unfolding(crate::specs::Sequences::is_sequence, crate::specs::Sequences::is_pair, crate::specs::Sequences::number_of))]
 #[inline(always)]
-fn of_three(a: u8, b: u8, c: u8) -> (usize, char)
+pub fn of_three(a: u8, b: u8, c: u8) -> (usize, char)
     ensures { 0 < result.0 → (result.0 ≡ 3) × IsCharacter (a ∷ b ∷ c ∷ []) result.1 }
 {
-    if lies_from(0xe0, 0xef, a) && is_second_byte(a, b) && lies_from(0x80, 0xbf, c) {
-        (3, three(a, b, c))
+    if lies_from(0xe0, 0xef, a) && lies_from(0x80, 0xbf, b) && lies_from(0x80, 0xbf, c) {
+        let n = (a as u32 - 0xe0) * 4096 + (b as u32 - 0x80) * 64 + (c as u32 - 0x80);
+        if n < 0x800 {
+            return (0, '\u{fffd}');
+        }
+        if 0xd800 <= n && n <= 0xdfff {
+            return (0, '\u{fffd}');
+        }
+        (3, unsafe { char::from_u32_unchecked(n) })
     } else {
         (0, '\u{fffd}')
     }
@@ -229,7 +241,7 @@ fn of_three(a: u8, b: u8, c: u8) -> (usize, char)
 
 #[tactic(auto, unfolding(crate::specs::Sequences::is_sequence, crate::specs::Sequences::is_pair, crate::specs::Sequences::number_of))]
 #[inline(always)]
-fn of_four(a: u8, b: u8, c: u8, d: u8) -> (usize, char)
+pub fn of_four(a: u8, b: u8, c: u8, d: u8) -> (usize, char)
     ensures { 0 < result.0 → (result.0 ≡ 4) × IsCharacter (a ∷ b ∷ c ∷ d ∷ []) result.1 }
 {
     if lies_from(0xf0, 0xf4, a)

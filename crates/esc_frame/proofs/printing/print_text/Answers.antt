@@ -1,8 +1,21 @@
-use Rattle.esc_frame.proofs.ManyBytes.{text_given, text_stops}
+use Rattle.std.proofs.Common.{◌≡◌, ◌<◌, true, length, take, subst, sym}
+use Rattle.std.specs.List.{list_all}
+use Rattle.esc_frame.specs.Scans.{is_text_byte}
+use Rattle.esc_frame.proofs.ManyBytes.{run_passes, some_run, text_given, text_stops}
 use Rattle.esc_frame.proofs.printing.print_text.Goals as goal
 
 pub returns-in-Ok-clause-ran : goal.returns-in-Ok-clause-ran
-returns-in-Ok-clause-ran g c = text_given g.V.VTActor.takes g.V.VTActor.refuses c.args.rest.now _ c.args.actor.now _ c.text_run-run.ensures.run c.in-Ok.ensures.told
+returns-in-Ok-clause-ran g c =
+    text_given g.V.VTActor.takes g.V.VTActor.refuses c.args.rest.now _ c.args.actor.now _ c.text_run-run.ensures.run c.in-Ok.ensures.told
 
 pub returns-in-Err-clause-ran : goal.returns-in-Err-clause-ran
-returns-in-Err-clause-ran g c = text_stops g.V.VTActor.takes g.V.VTActor.refuses c.args.rest.now _ c.args.actor.now _ _ c.text_run-run.ensures.run c.in-Err.ensures.told
+returns-in-Err-clause-ran g c =
+    text_stops g.V.VTActor.takes g.V.VTActor.refuses c.args.rest.now _ c.args.actor.now _ _ c.text_run-run.ensures.run c.in-Err.ensures.told
+
+pub print_text-requires-clause-text : goal.print_text-requires-clause-text
+print_text-requires-clause-text g c =
+    subst (λ k. list_all is_text_byte (take k c.args.rest.now) ≡ true) (sym c.text_run-run.ensures.run) (run_passes is_text_byte c.args.rest.now)
+
+pub print_text-requires-clause-some : goal.print_text-requires-clause-some
+print_text-requires-clause-some g c =
+    subst (λ k. 0 < length (take k c.args.rest.now)) (sym c.text_run-run.ensures.run) (some_run c.args.rest.now c.requires.some c.requires.low c.requires.high)

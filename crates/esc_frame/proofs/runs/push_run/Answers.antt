@@ -1,5 +1,5 @@
 use Rattle.std.proofs.Common.{◌++◌, ◌∙◌, take, drop, length, ◌-◌, ap, subst, append_assoc, arith}
-use Rattle.esc_frame.specs.Keeps.{KeepsBody}
+use Rattle.esc_frame.specs.Machine.Keeps.{KeepsBody}
 use Rattle.esc_frame.proofs.CsiRuns.{run_joins, passes_more}
 use Rattle.esc_frame.proofs.ManyBytes.{tail_length}
 use Rattle.esc_frame.proofs.runs.push_run.Goals as goal
@@ -13,5 +13,6 @@ loop-end-preserved g c =
     let l = tail_length rest i in (
       omega (arith, c.in-Ok.ensures.count),
       passes_more rest i n so.1 c.in-Ok.ensures.run,
-      λ x h. subst (λ y. KeepsBody c.push_next.new.body y) (append_assoc x (take i rest) (take n (take (length rest - i) (drop i rest))) ∙ ap (λ y. x ++ y) (run_joins rest i n)) (c.in-Ok.ensures.keeps (x ++ take i rest) (so.2 x h)),
+      λ x h. subst (λ y. KeepsBody c.push_next.new.body y) (append_assoc x (take i rest) (take n (take (length rest - i) (drop i rest))) ∙ ap (λ y. x ++ y)
+          (run_joins rest i n)) (c.in-Ok.ensures.keeps (x ++ take i rest) (so.2 x h)),
     )

@@ -5,5 +5,7 @@ use Rattle.esc_frame.proofs.scans.units_run.Goals as goal
 
 pub loop-end-preserved : goal.loop-end-preserved
 loop-end-preserved c =
-    let l = tail_length c.args.bytes.now c.loop-end.end in
-    (omega (arith, c.units_ahead-n.ensures.few), run_more c.args.bytes.now c.loop-end.end c.units_ahead-n.result c.loop-end.invariant.1 c.units_ahead-n.ensures.run)
+    let l = tail_length c.args.bytes.now c.loop-end.end in (
+      omega (arith, c.units_ahead-n.ensures.few),
+      run_more c.args.bytes.now c.loop-end.end c.units_ahead-n.result c.loop-end.invariant.1 c.units_ahead-n.ensures.run,
+    )

@@ -1,6 +1,6 @@
 use Rattle.std.proofs.Common.{take, refl, sym, subst, arith}
 use Rattle.esc_frame.specs.Leads.{Holds}
-use Rattle.esc_frame.specs.Moves.{after_all}
+use Rattle.esc_frame.specs.Machine.Moves.{after_all}
 use Rattle.esc_frame.proofs.ManyBytes.{ran_more, ran_ends, tail_length}
 use Rattle.esc_frame.proofs.machine.Machine.take_all.Goals as goal
 

@@ -1,12 +1,13 @@
 use Rattle.std.proofs.Common.{◌-◌, ◌≤◌, length, take}
 use Rattle.std.specs.List.{FoldsTo}
 use Rattle.esc_frame.specs.Leads.{Unfinished, Holds}
-use Rattle.esc_frame.specs.Moves.{after_all, news_all}
+use Rattle.esc_frame.specs.Machine.Moves.{after_all, news_all}
 use Rattle.esc_frame.proofs.machine.Machine.take_all.Given as goal
 
 abbrev pub invariant-loop-at : goal.invariant-loop-at
 invariant-loop-at g l = (l.at ≤ length l.bytes) × g.V.VTActor.is_ready l.actor
-    × ((u : Unfinished) → Holds l.initial.self u → Holds l.self (after_all u (take l.at l.bytes)) × FoldsTo g.V.VTActor.takes l.initial.actor (news_all u (take l.at l.bytes)) l.actor)
+    × ((u : Unfinished) → Holds l.initial.self u → Holds l.self (after_all u (take l.at l.bytes)) × FoldsTo g.V.VTActor.takes l.initial.actor
+    (news_all u (take l.at l.bytes)) l.actor)
 
 abbrev pub decreases-loop-at : goal.decreases-loop-at
 decreases-loop-at g l = length l.bytes - l.at

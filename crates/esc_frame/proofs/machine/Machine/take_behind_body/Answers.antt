@@ -1,5 +1,5 @@
 use Rattle.std.proofs.Common.{ℕ, ◌++◌, List, take, refl, sym, subst, arith, ◌+◌}
-use Rattle.esc_frame.specs.Keeps.{KeepsBody}
+use Rattle.esc_frame.specs.Machine.Keeps.{KeepsBody}
 use Rattle.esc_frame.specs.Leads.{Holds}
 use Rattle.esc_frame.specs.Leads.Unfinished.{InCsi}
 use Rattle.esc_frame.proofs.CsiRuns.{body_quiet, body_strip}
@@ -20,25 +20,29 @@ returns-in-Ok-clause-holds g c = λ o x k.
     let xs : List ℕ = take c.args.run c.args.rest.now in
     let q = body_quiet o x xs c.requires.passes in
     subst (λ u. Holds c.end_body.new.self u)
-    (sym (quiet_after g.V.VTActor.takes g.V.VTActor.refuses (InCsi o x) (InCsi o (x ++ xs)) c.args.rest.now c.args.run _ c.args.actor.now c.end_body.new.actor q (omega arith) refl))
+    (sym (quiet_after g.V.VTActor.takes g.V.VTActor.refuses (InCsi o x) (InCsi o (x ++ xs)) c.args.rest.now c.args.run _ c.args.actor.now c.end_body.new.actor q
+    (omega arith) refl))
     (c.in-Ok.ensures.holds o (x ++ xs) (subst (KeepsBody c.args.self.now.body) (sym (body_strip x xs c.requires.passes)) k))
 
 pub returns-in-Ok-clause-told : goal.returns-in-Ok-clause-told
 returns-in-Ok-clause-told g c = λ o x k.
     let xs : List ℕ = take c.args.run c.args.rest.now in
     let q = body_quiet o x xs c.requires.passes in
-    quiet_given g.V.VTActor.takes g.V.VTActor.refuses (InCsi o x) (InCsi o (x ++ xs)) c.args.rest.now c.args.run _ c.args.actor.now c.end_body.new.actor q (omega arith) refl
+    quiet_given g.V.VTActor.takes g.V.VTActor.refuses (InCsi o x) (InCsi o (x ++ xs)) c.args.rest.now c.args.run _ c.args.actor.now c.end_body.new.actor q
+    (omega arith) refl
     (c.in-Ok.ensures.told (x ++ xs) (subst (KeepsBody c.args.self.now.body) (sym (body_strip x xs c.requires.passes)) k))
 
 pub returns-in-Err-clause-told : goal.returns-in-Err-clause-told
 returns-in-Err-clause-told g c = λ o x k.
     let xs : List ℕ = take c.args.run c.args.rest.now in
     let q = body_quiet o x xs c.requires.passes in
-    quiet_stops g.V.VTActor.takes g.V.VTActor.refuses (InCsi o x) (InCsi o (x ++ xs)) c.args.rest.now c.args.run _ c.args.actor.now c.end_body.new.actor q (omega arith) refl
+    quiet_stops g.V.VTActor.takes g.V.VTActor.refuses (InCsi o x) (InCsi o (x ++ xs)) c.args.rest.now c.args.run _ c.args.actor.now c.end_body.new.actor q
+    (omega arith) refl
     (c.in-Err.ensures.told (x ++ xs) (subst (KeepsBody c.args.self.now.body) (sym (body_strip x xs c.requires.passes)) k))
 
 pub returns-then-run-rest-clause-quiet : goal.returns-then-run-rest-clause-quiet
-returns-then-run-rest-clause-quiet g c = λ o x. less_still (InCsi o x) c.args.rest.now c.args.run (c.args.run + 1) (omega arith) (body_still o x c.args.rest.now c.args.run c.requires.passes)
+returns-then-run-rest-clause-quiet g c =
+    λ o x. less_still (InCsi o x) c.args.rest.now c.args.run (c.args.run + 1) (omega arith) (body_still o x c.args.rest.now c.args.run c.requires.passes)
 
 pub returns-in-Ok-clause-quiet : goal.returns-in-Ok-clause-quiet
 returns-in-Ok-clause-quiet g c = λ o x. body_still o x c.args.rest.now c.args.run c.requires.passes

@@ -17,19 +17,22 @@ pub returns-in-Ok-clause-holds : goal.returns-in-Ok-clause-holds
 returns-in-Ok-clause-holds g c = λ o ps k.
     let run = c.requires.passes in
     subst (λ u. Holds c.in_osc.new.self u)
-    (sym (quiet_after g.V.VTActor.takes g.V.VTActor.refuses (InOsc o ps) (InOsc o (ps ++ run.0)) c.args.rest.now c.args.run _ c.args.actor.now c.in_osc.new.actor (run.2 o ps) (omega arith) c.classify.ensures))
+    (sym (quiet_after g.V.VTActor.takes g.V.VTActor.refuses (InOsc o ps)
+    (InOsc o (ps ++ run.0)) c.args.rest.now c.args.run _ c.args.actor.now c.in_osc.new.actor (run.2 o ps) (omega arith) c.classify.ensures))
     (c.in-Ok.ensures.holds o (ps ++ run.0) c.classify.ensures (k ∙ run_text ps run))
 
 pub returns-in-Ok-clause-told : goal.returns-in-Ok-clause-told
 returns-in-Ok-clause-told g c = λ o ps k.
     let run = c.requires.passes in
-    quiet_given g.V.VTActor.takes g.V.VTActor.refuses (InOsc o ps) (InOsc o (ps ++ run.0)) c.args.rest.now c.args.run _ c.args.actor.now c.in_osc.new.actor (run.2 o ps) (omega arith) c.classify.ensures
+    quiet_given g.V.VTActor.takes g.V.VTActor.refuses (InOsc o ps) (InOsc o (ps ++ run.0)) c.args.rest.now c.args.run _ c.args.actor.now c.in_osc.new.actor
+    (run.2 o ps) (omega arith) c.classify.ensures
     (c.in-Ok.ensures.told (ps ++ run.0) c.classify.ensures (k ∙ run_text ps run))
 
 pub returns-in-Err-clause-told : goal.returns-in-Err-clause-told
 returns-in-Err-clause-told g c = λ o ps k.
     let run = c.requires.passes in
-    quiet_stops g.V.VTActor.takes g.V.VTActor.refuses (InOsc o ps) (InOsc o (ps ++ run.0)) c.args.rest.now c.args.run _ c.args.actor.now c.in_osc.new.actor (run.2 o ps) (omega arith) c.classify.ensures
+    quiet_stops g.V.VTActor.takes g.V.VTActor.refuses (InOsc o ps) (InOsc o (ps ++ run.0)) c.args.rest.now c.args.run _ c.args.actor.now c.in_osc.new.actor
+    (run.2 o ps) (omega arith) c.classify.ensures
     (c.in-Err.ensures.told (ps ++ run.0) c.classify.ensures (k ∙ run_text ps run))
 
 pub returns-then-run-rest-clause-quiet : goal.returns-then-run-rest-clause-quiet

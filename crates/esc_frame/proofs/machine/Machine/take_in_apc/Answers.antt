@@ -7,12 +7,16 @@ use Rattle.esc_frame.proofs.machine.Machine.take_in_apc.Goals as goal
 
 pub returns-in-Ok-clause-holds : goal.returns-in-Ok-clause-holds
 returns-in-Ok-clause-holds g c = λ u h.
-    apc_run c.args.self.now (take c.text_run-run.result c.args.rest.now) (prefix_passes c.args.rest.now c.text_run-run.result c.text_run-run.ensures.run) u c.requires.state h (λ v es. Holds (record c.args.self.now { text = c.extend_from_slice.new.self }) v)
+    apc_run c.args.self.now (take c.text_run-run.result c.args.rest.now)
+    (prefix_passes c.args.rest.now c.text_run-run.result c.text_run-run.ensures.run) u c.requires.state h
+    (λ v es. Holds (record c.args.self.now { text = c.extend_from_slice.new.self }) v)
     (λ o d e. (c.requires.state, c.in-Ok.ensures.items ∙ e))
 
 pub returns-in-Ok-clause-told : goal.returns-in-Ok-clause-told
 returns-in-Ok-clause-told g c = λ u h.
-    apc_run c.args.self.now (take c.text_run-run.result c.args.rest.now) (prefix_passes c.args.rest.now c.text_run-run.result c.text_run-run.ensures.run) u c.requires.state h (λ v es. FoldsTo g.V.VTActor.takes c.args.actor.now es c.args.actor.now)
+    apc_run c.args.self.now (take c.text_run-run.result c.args.rest.now)
+    (prefix_passes c.args.rest.now c.text_run-run.result c.text_run-run.ensures.run) u c.requires.state h
+    (λ v es. FoldsTo g.V.VTActor.takes c.args.actor.now es c.args.actor.now)
     (λ o d e. refl)
 
 pub returns-in-Ok-clause-quiet : goal.returns-in-Ok-clause-quiet

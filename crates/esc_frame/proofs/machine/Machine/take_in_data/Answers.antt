@@ -1,7 +1,7 @@
 use Rattle.std.proofs.Common.{◌≡◌, false, true, sym, subst, take}
 use Rattle.std.specs.List.{FoldsTo}
 use Rattle.esc_frame.specs.Events.{StopsAt}
-use Rattle.esc_frame.specs.Moves.{may_grow_within}
+use Rattle.esc_frame.specs.Machine.Moves.{may_grow_within}
 use Rattle.esc_frame.proofs.Given.{stops_for}
 use Rattle.esc_frame.proofs.ManyBytes.{stop_within}
 use Rattle.esc_frame.proofs.StringRuns.{data_holds, prefix_passes}
@@ -12,18 +12,22 @@ put_all-requires-clause-text g c = prefix_passes c.args.rest.now c.text_run-run.
 
 pub returns-in-Ok-clause-holds : goal.returns-in-Ok-clause-holds
 returns-in-Ok-clause-holds g c = λ u h.
-    (data_holds c.args.self.now (take c.text_run-run.result c.args.rest.now) (prefix_passes c.args.rest.now c.text_run-run.result c.text_run-run.ensures.run) u c.requires.state h).0
+    (data_holds c.args.self.now (take c.text_run-run.result c.args.rest.now)
+    (prefix_passes c.args.rest.now c.text_run-run.result c.text_run-run.ensures.run) u c.requires.state h).0
 
 pub returns-in-Ok-clause-told : goal.returns-in-Ok-clause-told
 returns-in-Ok-clause-told g c = λ u h.
     subst (λ es. FoldsTo g.V.VTActor.takes c.args.actor.now es c.put_all.new.actor)
-    (sym (data_holds c.args.self.now (take c.text_run-run.result c.args.rest.now) (prefix_passes c.args.rest.now c.text_run-run.result c.text_run-run.ensures.run) u c.requires.state h).1)
+    (sym (data_holds c.args.self.now (take c.text_run-run.result c.args.rest.now)
+    (prefix_passes c.args.rest.now c.text_run-run.result c.text_run-run.ensures.run) u c.requires.state h).1)
     c.in-Ok.ensures.told
 
 pub returns-in-Err-clause-told : goal.returns-in-Err-clause-told
 returns-in-Err-clause-told g c = λ u h.
     stop_within (may_grow_within u c.args.rest.now ≡ true) g.V.VTActor.takes g.V.VTActor.refuses u c.args.rest.now c.text_run-run.result c.args.actor.now c.put_all.new.actor
-    (stops_for (false ≡ true) (may_grow_within u c.args.rest.now ≡ true) g.V.VTActor.takes g.V.VTActor.refuses _ c.args.actor.now c.put_all.new.actor (λ no. absurd cc)
+    (stops_for (false ≡ true) (may_grow_within u c.args.rest.now ≡ true) g.V.VTActor.takes g.V.VTActor.refuses _ c.args.actor.now c.put_all.new.actor
+    (λ no. absurd cc)
     (subst (λ es. StopsAt (false ≡ true) g.V.VTActor.takes g.V.VTActor.refuses c.args.actor.now es c.put_all.new.actor)
-    (sym (data_holds c.args.self.now (take c.text_run-run.result c.args.rest.now) (prefix_passes c.args.rest.now c.text_run-run.result c.text_run-run.ensures.run) u c.requires.state h).1)
+    (sym (data_holds c.args.self.now (take c.text_run-run.result c.args.rest.now)
+    (prefix_passes c.args.rest.now c.text_run-run.result c.text_run-run.ensures.run) u c.requires.state h).1)
     c.in-Err.ensures.told))

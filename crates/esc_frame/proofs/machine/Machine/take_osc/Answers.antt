@@ -17,20 +17,26 @@ pub returns-in-Ok-clause-holds : goal.returns-in-Ok-clause-holds
 returns-in-Ok-clause-holds g c =
     let begin = osc_opens c.args.rest.now (omega arith) c.requires.escape c.requires.bracket in
     let h = c.open.ensures (Long []) in
-    let r = ran_more g.V.VTActor.takes g.V.VTActor.refuses Ground (InOsc (Long []) []) c.args.rest.now 2 c.args.actor.now c.args.actor.now c.take_in_osc.new.actor begin.0 (quiet_folds g.V.VTActor.takes _ c.args.actor.now begin.1) _ c.in-Ok.n (refl, c.in-Ok.ensures.told (Long []) [] h.1) in
+    let r = ran_more g.V.VTActor.takes g.V.VTActor.refuses Ground
+    (InOsc (Long []) []) c.args.rest.now 2 c.args.actor.now c.args.actor.now c.take_in_osc.new.actor begin.0
+    (quiet_folds g.V.VTActor.takes _ c.args.actor.now begin.1) _ c.in-Ok.n (refl, c.in-Ok.ensures.told (Long []) [] h.1) in
     subst (λ u. Holds c.take_in_osc.new.self u) (sym r.0) (c.in-Ok.ensures.holds (Long []) [] h.1)
 
 pub returns-in-Ok-clause-told : goal.returns-in-Ok-clause-told
 returns-in-Ok-clause-told g c =
     let begin = osc_opens c.args.rest.now (omega arith) c.requires.escape c.requires.bracket in
     let h = c.open.ensures (Long []) in
-    (ran_more g.V.VTActor.takes g.V.VTActor.refuses Ground (InOsc (Long []) []) c.args.rest.now 2 c.args.actor.now c.args.actor.now c.take_in_osc.new.actor begin.0 (quiet_folds g.V.VTActor.takes _ c.args.actor.now begin.1) _ c.in-Ok.n (refl, c.in-Ok.ensures.told (Long []) [] h.1)).1
+    (ran_more g.V.VTActor.takes g.V.VTActor.refuses Ground (InOsc
+    (Long []) []) c.args.rest.now 2 c.args.actor.now c.args.actor.now c.take_in_osc.new.actor begin.0
+    (quiet_folds g.V.VTActor.takes _ c.args.actor.now begin.1) _ c.in-Ok.n (refl, c.in-Ok.ensures.told (Long []) [] h.1)).1
 
 pub returns-in-Err-clause-told : goal.returns-in-Err-clause-told
 returns-in-Err-clause-told g c =
     let begin = osc_opens c.args.rest.now (omega arith) c.requires.escape c.requires.bracket in
     let h = c.open.ensures (Long []) in
-    ran_ends g.V.VTActor.takes g.V.VTActor.refuses Ground (InOsc (Long []) []) c.args.rest.now 2 c.args.actor.now c.args.actor.now c.take_in_osc.new.actor begin.0 (quiet_folds g.V.VTActor.takes _ c.args.actor.now begin.1) (c.in-Err.ensures.told (Long []) [] h.1)
+    ran_ends g.V.VTActor.takes g.V.VTActor.refuses Ground (InOsc
+    (Long []) []) c.args.rest.now 2 c.args.actor.now c.args.actor.now c.take_in_osc.new.actor begin.0
+    (quiet_folds g.V.VTActor.takes _ c.args.actor.now begin.1) (c.in-Err.ensures.told (Long []) [] h.1)
 
 pub returns-in-Ok-clause-quiet : goal.returns-in-Ok-clause-quiet
 returns-in-Ok-clause-quiet g c = osc_still c.args.rest.now c.in-Ok.n c.requires.some c.requires.escape c.requires.bracket (c.in-Ok.ensures.quiet (Long []) [])

@@ -1,5 +1,5 @@
 use Rattle.esc_frame.specs.Leads.Unfinished.{Ground}
-use Rattle.esc_frame.specs.Moves.{after_all}
+use Rattle.esc_frame.specs.Machine.Moves.{after_all}
 use Rattle.esc_frame.specs.Stream.{LeadsTo}
 use Rattle.esc_frame.proofs.AtGround.{to_ground, from_ground}
 use Rattle.esc_frame.proofs.parser.VTParser.is_ground.Goals as goal

@@ -1,6 +1,6 @@
 use Rattle.std.proofs.Common.{[], take, refl}
 use Rattle.esc_frame.specs.Leads.Unfinished.{Ground}
-use Rattle.esc_frame.specs.Moves.{after_all}
+use Rattle.esc_frame.specs.Machine.Moves.{after_all}
 use Rattle.esc_frame.specs.Stream.{LeadsTo}
 use Rattle.esc_frame.proofs.Fed.{kept_all, given_all, refused_all}
 use Rattle.esc_frame.proofs.Still.{quiet_all}
@@ -8,14 +8,18 @@ use Rattle.esc_frame.proofs.parser.VTParser.parse_some.Goals as goal
 
 pub returns-then-is_empty-clause-given : goal.returns-then-is_empty-clause-given
 unfolding LeadsTo
-returns-then-is_empty-clause-given g c = λ s (f, h). ((f, kept_all c.args.self.now.machine s [] h), given_all g.V.VTActor.takes s [] c.args.actor.now c.args.actor.now refl)
+returns-then-is_empty-clause-given g c =
+    λ s (f, h). ((f, kept_all c.args.self.now.machine s [] h), given_all g.V.VTActor.takes s [] c.args.actor.now c.args.actor.now refl)
 
 pub returns-in-Ok-clause-given : goal.returns-in-Ok-clause-given
 unfolding LeadsTo
 returns-in-Ok-clause-given g c = λ s (f, h).
     let bs = take c.in-Ok.n c.args.bytes.now in
-    let u = after_all Ground s in
-    ((f, kept_all c.take_some.new.self s bs (c.in-Ok.ensures.holds u h)), given_all g.V.VTActor.takes s bs c.args.actor.now c.take_some.new.actor (c.in-Ok.ensures.told u h))
+    let u = after_all Ground s in (
+      (f, kept_all c.take_some.new.self s bs (c.in-Ok.ensures.holds u h)),
+      given_all g.V.VTActor.takes s bs c.args.actor.now c.take_some.new.actor
+          (c.in-Ok.ensures.told u h),
+    )
 
 pub returns-in-Ok-clause-quiet : goal.returns-in-Ok-clause-quiet
 unfolding LeadsTo
@@ -23,5 +27,8 @@ returns-in-Ok-clause-quiet g c = λ s (f, h). quiet_all s c.args.bytes.now c.in-
 
 pub returns-in-Err-clause-refused : goal.returns-in-Err-clause-refused
 unfolding LeadsTo
-returns-in-Err-clause-refused g c = λ s (f, h).
-    (refl, refused_all g.V.VTActor.takes g.V.VTActor.refuses s c.args.bytes.now c.args.actor.now c.take_some.new.actor (c.in-Err.ensures.told (after_all Ground s) h))
+returns-in-Err-clause-refused g c = λ s (f, h). (
+  refl,
+  refused_all g.V.VTActor.takes g.V.VTActor.refuses s c.args.bytes.now c.args.actor.now c.take_some.new.actor
+      (c.in-Err.ensures.told (after_all Ground s) h),
+)

@@ -1,0 +1,71 @@
+-- What the machine's small parts keep of the bytes that they were given. Only private contracts cite it.
+use Rattle.std.specs.Prelude.{ℕ, ◌≡◌, ◌+◌, ◌-◌, ◌*◌, Bool, true, false, nat_lt, if◌then◌else◌, List, [], ◌∷◌, ◌++◌, length, take, Option, Some, None, pos}
+use Rattle.esc_below.specs.declared.csi_param.CsiParam.{CsiParam}
+use Rattle.esc_below.specs.declared.csi_param.CsiParam.TheVariants.{Integer, P}
+use Rattle.esc_frame.specs.declared.intermediates.Intermediates.{Intermediates}
+use Rattle.esc_frame.specs.declared.entries.Entries.{Entries}
+use Rattle.esc_frame.specs.declared.body.CsiBody.{CsiBody}
+use Rattle.esc_frame.specs.declared.body.Form.{Form}
+use Rattle.esc_frame.specs.declared.body.Form.TheVariants as form
+use Rattle.esc_frame.specs.Bodies.{is_digit, held, is_marker, is_csi_parameter, is_intermediate_byte}
+
+-- the first two of these bytes are kept, and whether there are more
+abbrev pub Keeps : Intermediates → List ℕ → Type 0
+Keeps i bytes = (take i.kept i.bytes ≡ take 2 bytes) × (i.ignored ≡ nat_lt 2 (length bytes)) × (i.kept ≡ length (take 2 bytes))
+
+-- the entries that no further digit can change, and the number of the run of digits at the end
+abbrev pub shown : Option ℕ → List CsiParam
+shown None = []
+shown (Some n) = Integer (pos (held n)) ∷ []
+
+-- the number of the run of digits at the end, or 0
+abbrev pub number_at : Option ℕ → ℕ
+number_at None = 0
+number_at (Some n) = n
+
+abbrev pub next_number_of : Option ℕ → ℕ → Option ℕ
+next_number_of None b = if is_digit b then Some (b - 0x30) else None
+next_number_of (Some n) b = if is_digit b then Some (10 * n + (b - 0x30)) else None
+
+abbrev pub closed_by : Option ℕ → ℕ → List CsiParam
+closed_by o b = if is_digit b then [] else shown o ++ P b ∷ []
+
+abbrev pub number_of_run : Option ℕ → List ℕ → Option ℕ
+number_of_run o [] = o
+number_of_run o (b ∷ bs) = number_of_run (next_number_of o b) bs
+
+abbrev pub closed_of : Option ℕ → List ℕ → List CsiParam
+closed_of o [] = []
+closed_of o (b ∷ bs) = closed_by o b ++ closed_of (next_number_of o b) bs
+
+abbrev pub IsNumber : {A : Type 0} → Entries A → Option ℕ → Type 0
+IsNumber e None = e.is_open ≡ false
+IsNumber e (Some n) = (e.is_open ≡ true) × (e.number ≡ held n)
+
+-- these are the first entries of the list, as many as are kept, and whether it has more
+pub record AreFirst (items : List CsiParam) (truncated : Bool) (limit : ℕ) (all : List CsiParam) : Type 0 where
+  pub kept : items ≡ take limit all
+  pub more : truncated ≡ nat_lt limit (length all)
+
+abbrev pub KeepsEntries : {A : Type 0} → Entries A → List ℕ → Type 0
+KeepsEntries e x = AreFirst e.items.items e.is_truncated e.limit (closed_of None x) × IsNumber e (number_of_run None x) × (e.limit ≡ 256)
+
+-- how far a body has come in its form, byte by byte
+abbrev pub next_form : Form → ℕ → Form
+next_form form.Empty b =
+    if is_marker b then form.Parameters else if is_csi_parameter b then form.Parameters else if is_intermediate_byte b then form.Intermediates else form.Malformed
+next_form form.Parameters b = if is_csi_parameter b then form.Parameters else if is_intermediate_byte b then form.Intermediates else form.Malformed
+next_form form.Intermediates b = if is_intermediate_byte b then form.Intermediates else form.Malformed
+next_form form.Malformed b = form.Malformed
+
+abbrev pub form_from : Form → List ℕ → Form
+form_from f [] = f
+form_from f (b ∷ bs) = form_from (next_form f b) bs
+
+abbrev pub is_formed : Form → Bool
+is_formed form.Malformed = false
+is_formed _ = true
+
+-- the entries and the form of a body so far
+abbrev pub KeepsBody : {A : Type 0} → CsiBody A → List ℕ → Type 0
+KeepsBody e x = KeepsEntries e.entries x × (e.form ≡ form_from form.Empty x)

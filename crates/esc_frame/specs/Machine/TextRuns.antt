@@ -1,0 +1,10 @@
+-- Runs in the text of an operating system command. Only private contracts cite it.
+use Rattle.std.specs.Prelude.{ℕ, ◌≡◌, List, [], ◌++◌}
+use Rattle.esc_frame.specs.Segments.{Opener, Piece, text_of}
+use Rattle.esc_frame.specs.Leads.Unfinished.{InOsc}
+use Rattle.esc_frame.specs.Machine.Moves.{after_all, news_all}
+
+-- the bytes are whole units of the text, which keeps them as they are
+abbrev pub IsTextRun : List ℕ → Type 0
+IsTextRun x =
+    (qs : List Piece) × (text_of qs ≡ x) × ((o : Opener) (ps : List Piece) → (after_all (InOsc o ps) x ≡ InOsc o (ps ++ qs)) × (news_all (InOsc o ps) x ≡ []))
