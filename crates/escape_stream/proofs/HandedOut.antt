@@ -1,6 +1,7 @@
 -- What may be handed out.
-use Rattle.std.proofs.Common.{◌≡◌, ◌≢◌, ◌<◌, ◌≤◌, ◌==◌, nat_lt, inl, inr, Option, Some, None, ℕ, Bool, true, false, not, ◌&&◌, ◌||◌, List, [], ◌∷◌, ◌++◌, length, map, take_all, refl, ap, sym, ◌∙◌, subst, arith}
-use Rattle.std.proofs.lemmas.Bool.{cases_lt, eqb-true}
+use Rattle.std.proofs.Common.{◌≡◌, ◌≢◌, ◌<◌, ◌≤◌, ◌==◌, nat_lt, inl, inr, Option, Some, None, ℕ, Bool, true, false, not, ◌&&◌, ◌||◌, List, [], ◌∷◌, ◌++◌}
+use Rattle.std.proofs.Common.{length, map, take_all, refl, ap, sym, ◌∙◌, subst, arith}
+use Rattle.std.proofs.lemmas.Bool.{and_parts, cases_lt, eqb-true}
 use Rattle.std.proofs.lemmas.Bool.Decides.{nat_tests}
 use Rattle.std.proofs.lemmas.Str.{encode_ascii}
 use Rattle.esc_below.specs.declared.esc.Esc.TheVariants as esc_variant
@@ -8,7 +9,6 @@ use Rattle.esc_below.specs.Csis.{CsiValue, csi_body, csi_of, ReadBack, ReadsBack
 use Rattle.esc_below.specs.Escs.{esc_of, esc_text}
 use Rattle.esc_below.specs.Entries.{entries}
 use Rattle.esc_below.specs.declared.csi_param.CsiParam.{CsiParam}
-use Rattle.esc_below.proofs.CsisBack.{reads_back as csi_reads_back, truncated as csi_truncated}
 use Rattle.esc_frame.specs.Classes.{class_of, AllOf, is_control, is_raw_control, is_intermediate, ends_csi, ends_escape, opens}
 use Rattle.esc_frame.specs.Bodies.{is_csi_body, kept_entries, has_more_entries}
 use Rattle.esc_frame.specs.Events.{Event}
@@ -18,13 +18,11 @@ use Rattle.esc_frame.specs.Segments.{csi_event}
 use Rattle.esc_frame.specs.Segments.Segment.{Escape as EscapeOf}
 use Rattle.esc_frame.specs.Stream.{events}
 use Rattle.esc_frame.specs.declared.classes.Class.TheVariants.{Intermediate}
-use Rattle.esc_osc.proofs.ReadsBack.{clear_is_writable}
 use Rattle.escape_stream.proofs.Controls.{code_number-code_of}
-use Rattle.esc_frame.proofs.Fitting.{events_fit}
 use Rattle.esc_frame.proofs.SaysSequences.{body_of, one_csi}
-use Rattle.escape_stream.proofs.Lists.{and_parts}
 use Rattle.escape_stream.proofs.Yields.{meaning_more}
 use Rattle.escape_stream.specs.ControlCodes.{code_of}
+use Rattle.escape_stream.specs.LowerLaws.{LowerLaws}
 use Rattle.escape_stream.specs.Meaning.{meaning, values_from, yield}
 use Rattle.escape_stream.specs.Values.{Mode, Value, esc, csi, after, executed, given, lone, plain}
 use Rattle.escape_stream.specs.Writable.{IsWritable, AreHandedOut, is_lone_control, is_opening}
@@ -47,9 +45,11 @@ high_small : (b : ℕ) → 128 ≤ b → (is_control (class_of b) || is_raw_cont
 unfolding class_of
 high_small b l h = (grind (arith, nat_tests), λ e. grind (arith, nat_tests), λ e. grind (arith, nat_tests))
 
-high_opens : (b : ℕ) → 128 ≤ b → (is_control (class_of b) || is_raw_control (class_of b)) ≡ true → (b ≢ 0x9b) × (b ≢ 0x9c) × (b ≢ 0x9d) × (b ≢ 0x9e) × (b ≢ 0x9f)
+high_opens : (b : ℕ) → 128 ≤ b → (is_control (class_of b) || is_raw_control (class_of b)) ≡ true
+    → (b ≢ 0x9b) × (b ≢ 0x9c) × (b ≢ 0x9d) × (b ≢ 0x9e) × (b ≢ 0x9f)
 unfolding class_of
-high_opens b l h = (λ e. grind (arith, nat_tests), λ e. grind (arith, nat_tests), λ e. grind (arith, nat_tests), λ e. grind (arith, nat_tests), λ e. grind (arith, nat_tests))
+high_opens b l h =
+    (λ e. grind (arith, nat_tests), λ e. grind (arith, nat_tests), λ e. grind (arith, nat_tests), λ e. grind (arith, nat_tests), λ e. grind (arith, nat_tests))
 
 no_code : (code_of 0x80 ≡ None) × (code_of 0x81 ≡ None) × (code_of 0x99 ≡ None)
 unfolding code_of
@@ -58,7 +58,8 @@ no_code = (refl, refl, refl)
 not_coded : (b n : ℕ) (c : ControlCode) → code_of b ≡ Some c → code_of n ≡ None → b ≢ n
 not_coded b n c h k e = let f = ap code_of e in cc
 
-other_code : (b : ℕ) → 128 ≤ b → b ≤ 0x9f → b ≢ 0x80 → b ≢ 0x81 → b ≢ 0x90 → b ≢ 0x98 → b ≢ 0x99 → b ≢ 0x9b → b ≢ 0x9c → b ≢ 0x9d → b ≢ 0x9e → b ≢ 0x9f → is_lone_control b ≡ true
+other_code : (b : ℕ) → 128 ≤ b → b ≤ 0x9f → b ≢ 0x80 → b ≢ 0x81 → b ≢ 0x90 → b ≢ 0x98 → b ≢ 0x99 → b ≢ 0x9b → b ≢ 0x9c → b ≢ 0x9d → b ≢ 0x9e → b ≢ 0x9f
+    → is_lone_control b ≡ true
 other_code b l h h0 h1 h2 h3 h4 h5 h6 h7 h8 h9 = grind (arith, nat_tests)
 
 executed_lone : (b : ℕ) (c : ControlCode) → (is_control (class_of b) || is_raw_control (class_of b)) ≡ true → code_of b ≡ Some c → is_lone_control b ≡ true
@@ -85,7 +86,8 @@ final_small : (f : ℕ) → ends_escape (class_of f) ≡ true → f < 128
 unfolding class_of
 final_small f h = grind (arith, nat_tests)
 
-with_one : {A : Type 0} (i f : ℕ) → class_of i ≡ Intermediate → ends_escape (class_of f) ≡ true → i < 128 → f < 128 → IsWritable {A = A} (esc (esc_variant.Unspecified (Some i) f))
+with_one : {A : Type 0} (i f : ℕ) → class_of i ≡ Intermediate → ends_escape (class_of f) ≡ true → i < 128 → f < 128
+    → IsWritable {A = A} (esc (esc_variant.Unspecified (Some i) f))
 with_one i f b h small low = (
   EscDispatch (i ∷ []) false f ∷ [],
   (EscapeOf (i ∷ []) f, rw (encode_ascii i small, encode_ascii f low) refl, refl, (rw b refl, h, rw b refl), rw b refl),
@@ -111,11 +113,18 @@ none_opens f false false false e k j h = let w : is_opening (esc_of None f) ≡ 
 pub with_none : {A : Type 0} (f : ℕ) → ends_escape (class_of f) ≡ true → is_opening (esc_of None f) ≡ false → IsWritable {A = A} (esc (esc_of None f))
 with_none f h o = (
   EscDispatch [] false f ∷ [],
-  (EscapeOf [] f, none_text f (f == 0x5c) (f == 0x48) (f == 0x6b) refl refl refl (final_small f h), refl, (refl, h, none_opens f (f == 0x5c) (f == 0x48) (f == 0x6b) refl refl refl o), refl),
+  (
+    EscapeOf [] f,
+    none_text f (f == 0x5c) (f == 0x48) (f == 0x6b) refl refl refl (final_small f h),
+    refl,
+    (refl, h, none_opens f (f == 0x5c) (f == 0x48) (f == 0x6b) refl refl refl o),
+    refl,
+  ),
   refl,
 )
 
-esc_handed : {A : Type 0} (is : List ℕ) (f : ℕ) → AllOf is_intermediate is → ends_escape (class_of f) ≡ true → is_opening (esc_of (lone is) f) ≡ false → IsWritable {A = A} (esc (esc_of (lone is) f))
+esc_handed : {A : Type 0} (is : List ℕ) (f : ℕ) → AllOf is_intermediate is → ends_escape (class_of f) ≡ true → is_opening (esc_of (lone is) f) ≡ false
+    → IsWritable {A = A} (esc (esc_of (lone is) f))
 esc_handed [] f all h o = with_none f h o
 esc_handed (i ∷ []) f all h o = let q = intermediate_is i (and_parts (is_intermediate (class_of i)) true all).0 in with_one i f q.0 h q.1 (final_small f h)
 esc_handed (i ∷ j ∷ is) f all h o = with_none f h o
@@ -147,38 +156,42 @@ all_handed : (A : Type 0) (f : ℕ) (vs : List CsiValue) → ends_csi (class_of 
 all_handed A f [] ends h = tt
 all_handed A f (v ∷ vs) ends h = (λ whole. csi_writable A f v ends h.0, all_handed A f vs ends h.1)
 
-body_handed : (A : Type 0) (x : List ℕ) (f : ℕ) (more : Bool) → has_more_entries x ≡ more → is_csi_body x ≡ true → ends_csi (class_of f) ≡ true → AreHandedOut {A = A} (map csi (csi_of (kept_entries x) more f))
-body_handed A x f true e form ends = let P : List CsiValue → Type 0 = λ vs. AreHandedOut {A = A} (map csi vs) in subst P (sym (csi_truncated (kept_entries x) f)) (λ whole. absurd cc, tt)
-body_handed A x f false e form ends =
+body_handed : (A : Type 0) (low : LowerLaws A) (x : List ℕ) (f : ℕ) (more : Bool) → has_more_entries x ≡ more → is_csi_body x ≡ true
+    → ends_csi (class_of f) ≡ true → AreHandedOut {A = A} (map csi (csi_of (kept_entries x) more f))
+body_handed A low x f true e form ends =
+    let P : List CsiValue → Type 0 = λ vs. AreHandedOut {A = A} (map csi vs) in subst P (sym (low.csi_truncated (kept_entries x) f)) (λ whole. absurd cc, tt)
+body_handed A low x f false e form ends =
     let few = few_are x e in
     let P : List CsiParam → Type 0 = λ es. AreHandedOut {A = A} (map csi (csi_of es false f)) in
-    subst P (sym (few_kept x few).0) (all_handed A f (csi_of (entries x) false f) ends (csi_reads_back x f form few (csi_small f ends)))
+    subst P (sym (few_kept x few).0) (all_handed A f (csi_of (entries x) false f) ends (low.csi_back x f form few (csi_small f ends)))
 
-csi_handed : (A : Type 0) (es : List CsiParam) (more : Bool) (f : ℕ) → IsFit (CsiDispatch es more f) → AreHandedOut {A = A} (given plain (CsiDispatch es more f))
-csi_handed A es more f (x, bytes, form, is, ends) =
+csi_handed : (A : Type 0) (low : LowerLaws A) (es : List CsiParam) (more : Bool) (f : ℕ) → IsFit (CsiDispatch es more f)
+    → AreHandedOut {A = A} (given plain (CsiDispatch es more f))
+csi_handed A low es more f (x, bytes, form, is, ends) =
     let P : Event → Type 0 = λ e. AreHandedOut {A = A} (given plain e) in
-    subst P (sym is) (body_handed A x f (has_more_entries x) refl form ends)
+    subst P (sym is) (body_handed A low x f (has_more_entries x) refl form ends)
 
-event_handed : (A : Type 0) (m : Mode) (e : Event) → IsFit e → AreHandedOut {A = A} (given m e)
-event_handed A m (Print c) h = (h, tt)
-event_handed A m (Execute b) h = control_handed A b (code_of b) refl h
-event_handed A m (EscDispatch is more f) h = (esc_handed is f h.0 h.1, tt)
-event_handed A m (CsiDispatch es more f) h = csi_handed A es more f h
-event_handed A m (OscDispatch ps) h = (clear_is_writable A ps h, tt)
-event_handed A m (DcsHook f ns is more) h = tt
-event_handed A m (DcsPut b) h = tt
-event_handed A m DcsUnhook h = tt
-event_handed A m (ApcDispatch t) h = tt
+event_handed : (A : Type 0) (low : LowerLaws A) (m : Mode) (e : Event) → IsFit e → AreHandedOut {A = A} (given m e)
+event_handed A low m (Print c) h = (h, tt)
+event_handed A low m (Execute b) h = control_handed A b (code_of b) refl h
+event_handed A low m (EscDispatch is more f) h = (esc_handed is f h.0 h.1, tt)
+event_handed A low m (CsiDispatch es more f) h = csi_handed A low es more f h
+event_handed A low m (OscDispatch ps) h = (low.command_writable ps h, tt)
+event_handed A low m (DcsHook f ns is more) h = tt
+event_handed A low m (DcsPut b) h = tt
+event_handed A low m DcsUnhook h = tt
+event_handed A low m (ApcDispatch t) h = tt
 
-events_handed : (A : Type 0) (m : Mode) (es : List Event) → AreFit es → AreHandedOut {A = A} (values_from m es)
-events_handed A m [] h = tt
-events_handed A m (e ∷ es) h = hands_append (given {A = A} m e) (values_from (after m e) es) (event_handed A m e h.0) (events_handed A (after m e) es h.1)
+events_handed : (A : Type 0) (low : LowerLaws A) (m : Mode) (es : List Event) → AreFit es → AreHandedOut {A = A} (values_from m es)
+events_handed A low m [] h = tt
+events_handed A low m (e ∷ es) h =
+    hands_append (given {A = A} m e) (values_from (after m e) es) (event_handed A low m e h.0) (events_handed A low (after m e) es h.1)
 
-pub handed_out : (A : Type 0) (s : List ℕ) → AreHandedOut {A = A} (meaning s)
+pub handed_out : (A : Type 0) → LowerLaws A → (s : List ℕ) → AreHandedOut {A = A} (meaning s)
 unfolding meaning
-handed_out A s = events_handed A plain (events s) (events_fit s)
+handed_out A low s = events_handed A low plain (events s) (low.events_fit s)
 
-pub yield_handed : (A : Type 0) (s b : List ℕ) → AreHandedOut {A = A} (yield s b)
-yield_handed A s b =
+pub yield_handed : (A : Type 0) → ((s : List ℕ) → AreHandedOut {A = A} (meaning s)) → (s b : List ℕ) → AreHandedOut {A = A} (yield s b)
+yield_handed A handed s b =
     let P : List (Value A) → Type 0 = λ x. AreHandedOut x in
-    hands_behind (meaning s) (yield s b) (subst P (sym (meaning_more s b)) (handed_out A (s ++ b)))
+    hands_behind (meaning s) (yield s b) (subst P (sym (meaning_more s b)) (handed (s ++ b)))

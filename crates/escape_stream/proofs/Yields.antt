@@ -1,5 +1,5 @@
 -- From events to values, and what a sink was given of them.
-use Rattle.std.proofs.Common.{◌≡◌, ℕ, true, List, [], ◌∷◌, ◌++◌, length, drop, map, string_bytes, refl, ap, sym, ◌∙◌, subst, append_assoc, inl, inr}
+use Rattle.std.proofs.Common.{◌≡◌, ℕ, true, List, [], ◌∷◌, ◌++◌, length, drop, map, refl, ap, sym, ◌∙◌, subst, append_assoc, inl, inr}
 use Rattle.std.proofs.Math.Seq.{drop-append_seam}
 use Rattle.std.proofs.lemmas.List.{append-nil, map-append}
 use Rattle.std.specs.List.{FoldsTo}
@@ -12,7 +12,7 @@ use Rattle.escape_stream.proofs.Lists.{FoldsTo-append, StopsAt-append, StopsAt-h
 use Rattle.escape_stream.specs.Fed.{mode_of}
 use Rattle.escape_stream.specs.Given.{At, StopsAt}
 use Rattle.escape_stream.specs.Meaning.{meaning, mode_from, values_from, yield}
-use Rattle.escape_stream.specs.Texts.{is_string, text_behind, texts_behind}
+use Rattle.escape_stream.specs.Texts.{is_string, text_after, texts_after}
 use Rattle.escape_stream.specs.Values.{Mode, Value, after, given, plain, value_of, wants_memory}
 use Rattle.escape_stream.specs.declared.performer.Performer.{Performer}
 use Rattle.escape_stream.specs.declared.sink.Collect.{Collect}
@@ -72,11 +72,12 @@ module _ {S A : Type 0} (R Q : S → Value A → S → Type 0) where
       let rest = performs es j (after m e) q h one.0 in
       (rest.0, FoldsTo-append R p.sink (given m e) j.sink (values_from (after m e) es) q.sink one.1 rest.1)
 
-  pub performs_front : (own : Type 0) (es : List Event) (p : Performer S A) (m : Mode) (q : Performer S A)
+  pub performs_prefix : (own : Type 0) (es : List Event) (p : Performer S A) (m : Mode) (q : Performer S A)
       → ((before : List Event) (e : Event) (behind : List Event) → es ≡ before ++ e ∷ behind → wants_memory e ≡ true → own)
       → StopsAtEvent own Takes Refuses p es q → mode_of p ≡ m → StopsAt own R Q p.sink (values_from m es) q.sink
-  performs_front own es p m q wants (front, rest, whole, stop) k =
-      let all : values_from {A = A} m es ≡ values_from m front ++ values_from (mode_from m front) rest = ap (values_from m) whole ∙ values_append m front rest in
+  performs_prefix own es p m q wants (front, rest, whole, stop) k =
+      let all : values_from {A =
+      A} m es ≡ values_from m front ++ values_from (mode_from m front) rest = ap (values_from m) whole ∙ values_append m front rest in
       let Goal : List (Value A) → Type 0 = λ x. StopsAt own R Q p.sink x q.sink in
       subst Goal (sym all) (elim stop [
         | inl x ↦
@@ -96,12 +97,15 @@ module _ {S A : Type 0} (R Q : S → Value A → S → Type 0) where
       ])
 
 -- an event behind s that wants memory
-pub added_grows : (s b : List ℕ) (before : List Event) (e : Event) (behind : List Event) → added s b ≡ before ++ e ∷ behind → wants_memory e ≡ true → MayGrow (s ++ b)
+pub added_grows : (s b : List ℕ) (before : List Event) (e : Event) (behind : List Event) → added s b ≡ before ++ e ∷ behind → wants_memory e ≡ true
+    → MayGrow (s ++ b)
 added_grows s b before e behind is h =
-    event_grows (s ++ b) (events s ++ before) e behind (sym (events_more s b) ∙ ap (λ l. events s ++ l) is ∙ sym (append_assoc (events s) before (e ∷ behind))) h
+    event_grows (s ++ b) (events s ++ before) e behind
+    (sym (events_more s b) ∙ ap (λ l. events s ++ l) is ∙ sym (append_assoc (events s) before (e ∷ behind))) h
 
 -- what a list of actions was given
-pub collects : {A : Type 0} (p : Collect A) (vs : List (Value A)) (q : Collect A) → FoldsTo (At value_of (λ p a q. q.actions.items ≡ p.actions.items ++ a ∷ [])) p vs q
+pub collects : {A : Type 0} (p : Collect A) (vs : List (Value A)) (q : Collect A)
+    → FoldsTo (At value_of (λ p a q. q.actions.items ≡ p.actions.items ++ a ∷ [])) p vs q
     → map value_of q.actions.items ≡ map value_of p.actions.items ++ vs
 collects p [] q e = ap (λ x. map value_of x.actions.items) (sym e) ∙ sym (append-nil (map value_of p.actions.items))
 collects p (v ∷ vs) q e =
@@ -113,11 +117,11 @@ collects p (v ∷ vs) q e =
 
 -- what a text was given
 pub spells : {A : Type 0} (p : Spell A) (vs : List (Value A)) (q : Spell A)
-    → FoldsTo (At value_of (λ p a q. (string_bytes q.text ≡ string_bytes p.text ++ text_behind p.is_behind_string (value_of a)) × (q.is_behind_string ≡ is_string (value_of a)))) p vs q
-    → string_bytes q.text ≡ string_bytes p.text ++ texts_behind p.is_behind_string vs
-spells p [] q e = ap (λ x. string_bytes x.text) (sym e) ∙ sym (append-nil (string_bytes p.text))
+    → FoldsTo (At value_of (λ p a q. (q.text ≡ p.text ++ text_after p.follows_string (value_of a)) × (q.follows_string ≡ is_string (value_of a)))) p vs q
+    → q.text ≡ p.text ++ texts_after p.follows_string vs
+spells p [] q e = ap (λ x. x.text) (sym e) ∙ sym (append-nil p.text)
 spells p (v ∷ vs) q (j, (a, is, w), rest) =
     spells j vs q rest
-    ∙ ap (λ l. l ++ texts_behind j.is_behind_string vs) (w.0 ∙ ap (λ x. string_bytes p.text ++ text_behind p.is_behind_string x) is)
-    ∙ append_assoc (string_bytes p.text) (text_behind p.is_behind_string v) (texts_behind j.is_behind_string vs)
-    ∙ ap (λ b. string_bytes p.text ++ (text_behind p.is_behind_string v ++ texts_behind b vs)) (w.1 ∙ ap is_string is)
+    ∙ ap (λ l. l ++ texts_after j.follows_string vs) (w.0 ∙ ap (λ x. p.text ++ text_after p.follows_string x) is)
+    ∙ append_assoc p.text (text_after p.follows_string v) (texts_after j.follows_string vs)
+    ∙ ap (λ b. p.text ++ (text_after p.follows_string v ++ texts_after b vs)) (w.1 ∙ ap is_string is)

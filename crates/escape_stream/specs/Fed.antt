@@ -13,6 +13,6 @@ WasFed s p = LeadsTo s p.framer
 abbrev pub IsBroken : {A : Type 0} → Parser A → Type 0
 IsBroken p = HasFailed p.framer
 
--- what stands open
+-- what is unfinished
 abbrev pub mode_of : {S A : Type 0} → Performer S A → Mode
 mode_of p = plain

@@ -1,18 +1,63 @@
-//! Laws of streams of actions: what is written reads back, and what is handed out can be written. Each holds for every
-//! allocator `A`, by which the actions are told apart.
-ghost use Rattle.std.specs.Prelude.{◌≡◌, ◌++◌, ◌↔◌, List, ℕ};
+//! Laws of streams of actions: a stream means the readings of its one cut, what is written reads back, and what is handed
+//! out can be written. Each holds for every allocator `A`, which the type of the actions names.
+ghost use Rattle.std.specs.Prelude.{◌≡◌, ◌++◌, ◌↔◌, List, ℕ, false};
+ghost use Rattle.std.specs.List.{list_any};
+ghost use Rattle.escape_stream.specs.Headline.{Headline};
+ghost use Rattle.escape_stream.specs.LowerLaws.{LowerLaws};
 ghost use Rattle.escape_stream.specs.Meaning.{meaning, yield};
+ghost use Rattle.escape_stream.specs.Readings.{MeansItsCut};
 ghost use Rattle.escape_stream.specs.Texts.{list_text, normal};
 ghost use Rattle.escape_stream.specs.Values.{Value};
-ghost use Rattle.escape_stream.specs.Writable.{AreHandedOut, AreWritable};
+ghost use Rattle.escape_stream.specs.Writable.{AreHandedOut, AreWritable, is_exception};
 
+pub use esc_frame::laws::{has_cut, one_cut};
 use std::alloc::Allocator;
 
+/// Everything at once, for every stream: it has exactly one cut; it means the readings of the cut's segments, in order; each
+/// of these values is writable, but for the two exceptions; and where it is the text of a writable list, it means the list's
+/// normal list, which has the same text.
+pub fn headline<A: Allocator>()
+    ensures { (s : List ℕ) → Headline {A = A} s (meaning s) }
+{
+    has_cut();
+    one_cut();
+    meaning_of_the_cut::<A>();
+    handed_out::<A>();
+    reads_back::<A>();
+    same_text::<A>();
+}
+
+/// A stream means the readings of the segments of its cut, one after another: nothing is unfinished between two segments.
+pub fn meaning_of_the_cut<A: Allocator>()
+    ensures { MeansItsCut A }
+{
+    esc_frame::laws::events_once();
+    esc_frame::laws::events_of_the_cut();
+}
+
+// What the laws of the crates below say.
+fn lower_laws<A: Allocator>()
+    ensures { LowerLaws A }
+{
+    esc_frame::laws::says_print();
+    esc_frame::laws::says_control();
+    esc_frame::laws::says_high_control();
+    esc_frame::laws::says_itself();
+    esc_frame::laws::says_osc();
+    esc_frame::laws::events_fit();
+    esc_osc::laws::writes_clear::<A>();
+    esc_osc::laws::reads_back::<A>();
+    esc_osc::laws::clear_is_writable::<A>();
+    esc_below::laws::csi_reads_back();
+    esc_below::laws::csi_truncated();
+}
+
 /// The text of a writable list means its normal list.
-#[tactic(auto, using(crate::proofs::ReadsBack::reads_back))]
 pub fn reads_back<A: Allocator>()
     ensures { (vs : List (Value A)) → AreWritable vs → meaning (list_text vs) ≡ normal vs }
-{}
+{
+    lower_laws::<A>();
+}
 
 /// A writable list and its normal list have the same text.
 #[tactic(auto, using(crate::proofs::Normal::same_text))]
@@ -23,7 +68,9 @@ pub fn same_text<A: Allocator>()
 /// Two writable lists have the same text exactly where they have the same normal list.
 pub fn same_normal<A: Allocator>()
     ensures { (vs ws : List (Value A)) → AreWritable vs → AreWritable ws → (list_text vs ≡ list_text ws) ↔ (normal vs ≡ normal ws) }
-{}
+{
+    reads_back::<A>();
+}
 
 /// The normal list of a writable list is writable.
 #[tactic(auto, using(crate::proofs::Normal::normal_writable))]
@@ -39,16 +86,18 @@ pub fn normal_normal<A: Allocator>()
 
 /// Every value that any stream means is writable, but for an escape sequence without intermediate whose letter opens a string
 /// or a control sequence, and for a control sequence of which entries were left out.
-#[tactic(auto, using(crate::proofs::HandedOut::handed_out))]
 pub fn handed_out<A: Allocator>()
     ensures { (s : List ℕ) → AreHandedOut {A = A} (meaning s) }
-{}
+{
+    lower_laws::<A>();
+}
 
 /// So is every value that one call hands out, whatever was fed before.
-#[tactic(auto, using(crate::proofs::HandedOut::yield_handed))]
 pub fn yield_handed_out<A: Allocator>()
     ensures { (s b : List ℕ) → AreHandedOut {A = A} (yield s b) }
-{}
+{
+    handed_out::<A>();
+}
 
 /// What calls hand out one after another is the meaning of what they were fed, joined.
 #[tactic(auto, using(crate::proofs::Yields::meaning_more))]
@@ -56,8 +105,24 @@ pub fn meaning_of_more<A: Allocator>()
     ensures { (s b : List ℕ) → meaning {A = A} s ++ yield s b ≡ meaning (s ++ b) }
 {}
 
+/// So a stream without these two means a writable list.
+pub fn means_writable<A: Allocator>()
+    ensures { (s : List ℕ) → list_any is_exception (meaning {A = A} s) ≡ false → AreWritable {A = A} (meaning s) }
+{
+    handed_out::<A>();
+}
+
 /// Where a stream means a writable list, the text of this list means a list with the same text.
-#[tactic(auto, using(crate::proofs::Normal::normal_once))]
 pub fn normal_once<A: Allocator>()
     ensures { (s : List ℕ) → AreWritable {A = A} (meaning s) → list_text (meaning {A = A} (list_text (meaning {A = A} s))) ≡ list_text (meaning {A = A} s) }
-{}
+{
+    reads_back::<A>();
+}
+
+/// So normalising is idempotent where neither of the two occurs.
+pub fn normal_is_idempotent<A: Allocator>()
+    ensures { (s : List ℕ) → list_any is_exception (meaning {A = A} s) ≡ false → list_text (meaning {A = A} (list_text (meaning {A = A} s))) ≡ list_text (meaning {A = A} s) }
+{
+    means_writable::<A>();
+    normal_once::<A>();
+}

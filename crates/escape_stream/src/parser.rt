@@ -4,13 +4,14 @@ ghost use Rattle.std.specs.Option.{option_map};
 ghost use Rattle.esc_frame.specs.Stream.{IsQuiet};
 ghost use Rattle.escape_stream.specs.Firsts.{IsFirst, IsFirstStop, IsStop, first};
 ghost use Rattle.esc_frame.specs.Memory.{MayGrow};
-ghost use Rattle.escape_stream.specs.Given.{At, GetsAll, GetsFront, StopsAt};
-ghost use Rattle.escape_stream.specs.Meaning.{yield};
+ghost use Rattle.escape_stream.specs.Given.{At, GetsAll, GetsPrefix, StopsAt};
+ghost use Rattle.escape_stream.specs.Meaning.{MayWant, yield};
 ghost use Rattle.escape_stream.specs.Values.{control, value_of};
 ghost use Rattle.escape_stream.specs.Writable.{AreHandedOut, IsHandedOut};
 
 use crate::action::Action;
 use crate::control_code::ControlCode;
+use crate::laws;
 use crate::performer::{Performer, code_for};
 use crate::sink::{Calls, Collect, First, Sink};
 use esc_frame::error::ParseError;
@@ -23,7 +24,7 @@ use std::alloc::{Allocator, Global};
 /// and with application program commands read like other strings. Each call hands out what its bytes add to the meaning of
 /// the bytes that earlier calls were fed, so the chunks make no difference.
 ///
-/// Where a call answers `ParseError::Memory` a growth was refused: from then on every call answers `ParseError::Failed`, and
+/// Where a call returns `ParseError::Memory`, a growth was refused: from then on every call returns `ParseError::Failed`, and
 /// nothing is handed out any more.
 #[derive(Drop)]
 pub struct Parser<A: Allocator = Global> {
@@ -45,14 +46,19 @@ impl<A: Allocator + Copy> Parser<A> {
         }
     }
 
-    // Gives the sink, in order, the actions that `bytes` add, and hands it back. Where memory was refused it was given a
-    // front of them.
-    pub(crate) fn feed<S: Sink<Action<A>>>(
+    /// Gives the sink, in order, exactly the actions that `bytes` add to what the bytes fed before mean, and hands it back.
+    ///
+    /// `ParseError::Memory` says that a growth was refused, the parser's or the sink's: the sink was given a prefix of these
+    /// actions, and the parser has failed. Without the sink's doing it does not come while the stream so far holds only
+    /// characters, stray and broken bytes, controls, lone terminators and escape sequences, whole or cut short.
+    /// `ParseError::Failed` says that an earlier call had been refused a growth: the sink comes back as it was.
+    pub fn parse_into<S: Sink<Action<A>>>(
         &mut self,
         bytes: &[u8],
         sink: S,
     ) -> (Result<(), ParseError>, S)
         requires { S.is_ready sink }
+        ensures ready { OnOk result.0 (S.is_ready result.1) }
         ensures given { (s : List ℕ) → WasFed s self.old → OnOk result.0 (WasFed (s ++ bytes.now) self.new
             × FoldsTo (At value_of S.takes) sink (yield s bytes.now) result.1) }
         ensures refused { (s : List ℕ) → WasFed s self.old → IfErr result.0 (λ e. (e ≡ ParseError.Memory) × IsBroken self.new
@@ -76,22 +82,23 @@ impl<A: Allocator + Copy> Parser<A> {
         ensures given { (s : List ℕ) → WasFed s self.old → IfOk result (λ v. WasFed (s ++ bytes.now) self.new
             × (map value_of v.items ≡ yield s bytes.now)) }
         ensures handed_out { (s : List ℕ) → WasFed s self.old → IfOk result (λ v. AreHandedOut (map value_of v.items)) }
-        ensures refused { (s : List ℕ) → WasFed s self.old → IfErr result (λ e. (e ≡ ParseError.Memory) × IsBroken self.new) }
+        ensures refused { (s : List ℕ) → WasFed s self.old → IfErr result (λ e. (e ≡ ParseError.Memory) × IsBroken self.new × MayWant A s bytes.now) }
         ensures failed { IsBroken self.old → (result ≡ Err ParseError.Failed) × IsBroken self.new }
     {
+        laws::yield_handed_out::<A>();
         self.collect(bytes)
     }
 
     fn collect(&mut self, bytes: &[u8]) -> Result<Vec<Action<A>, A>, ParseError>
         ensures given { (s : List ℕ) → WasFed s self.old → IfOk result (λ v. WasFed (s ++ bytes.now) self.new
             × (map value_of v.items ≡ yield s bytes.now)) }
-        ensures refused { (s : List ℕ) → WasFed s self.old → IfErr result (λ e. (e ≡ ParseError.Memory) × IsBroken self.new) }
+        ensures refused { (s : List ℕ) → WasFed s self.old → IfErr result (λ e. (e ≡ ParseError.Memory) × IsBroken self.new × MayWant A s bytes.now) }
         ensures failed { IsBroken self.old → (result ≡ Err ParseError.Failed) × IsBroken self.new }
     {
         let sink = Collect {
             actions: Vec::new(self.alloc),
         };
-        let (result, Collect { actions }) = self.feed(bytes, sink);
+        let (result, Collect { actions }) = self.parse_into(bytes, sink);
         result?;
         Ok(actions)
     }
@@ -151,6 +158,7 @@ impl<A: Allocator + Copy> Parser<A> {
         ensures refused { (s : List ℕ) → WasFed s self.old → IfErr result (λ e. (e ≡ ParseError.Memory) × IsBroken self.new × MayGrow (s ++ bytes.now)) }
         ensures failed { IsBroken self.old → (result ≡ Err ParseError.Failed) × IsBroken self.new }
     {
+        laws::yield_handed_out::<A>();
         let mut at = 0;
         'fronts: loop {
             let (taken, first) = self.first_in(&bytes[at..])?;
@@ -176,8 +184,8 @@ impl<A: Allocator + Copy> Parser<A> {
         code_for(self.framer.first_control(bytes)?)
     }
 
-    /// The first action of the shortest front of `bytes` that adds one to what the bytes fed before mean, and the length of
-    /// this front, which is all that was fed; further actions of its last byte are dropped. `None` where `bytes` add none:
+    /// The first action of the shortest prefix of `bytes` that adds one to what the bytes fed before mean, and the length of
+    /// this prefix, which is all that was fed; further actions of its last byte are dropped. `None` where `bytes` add none:
     /// then all were fed.
     ///
     /// `ParseError::Memory` says that a growth was refused; the parser has failed. As from [`parse`](Parser::parse), it does not
@@ -192,6 +200,7 @@ impl<A: Allocator + Copy> Parser<A> {
         ensures refused { (s : List ℕ) → WasFed s self.old → IfErr result (λ e. (e ≡ ParseError.Memory) × IsBroken self.new × MayGrow (s ++ bytes.now)) }
         ensures failed { IsBroken self.old → (result ≡ Err ParseError.Failed) × IsBroken self.new }
     {
+        laws::yield_handed_out::<A>();
         match self.framer.first_char(bytes) {
             Some((c, n)) => Ok(Some((Action::Print(c), n))),
             None => match self.first_control(bytes) {
@@ -212,7 +221,7 @@ impl<A: Allocator + Copy> Parser<A> {
         ensures given { (s : List ℕ) → WasFed s self.old → IfOk result (λ x. WasFed (s ++ take x.0 bytes.now) self.new
             × (map value_of x.1.items ≡ map value_of actions.items ++ yield s (take x.0 bytes.now))) }
         ensures quiet { (s : List ℕ) → WasFed s self.old → IfOk result (λ x. IsQuiet s bytes.now x.0) }
-        ensures refused { (s : List ℕ) → WasFed s self.old → IfErr result (λ e. (e ≡ ParseError.Memory) × IsBroken self.new) }
+        ensures refused { (s : List ℕ) → WasFed s self.old → IfErr result (λ e. (e ≡ ParseError.Memory) × IsBroken self.new × MayWant A s bytes.now) }
         ensures failed { IsBroken self.old → (result ≡ Err ParseError.Failed) × IsBroken self.new }
     {
         let (result, Collect { actions }) = self.feed_some(bytes, Collect { actions });
@@ -229,9 +238,9 @@ impl<A: Allocator + Copy> Parser<A> {
         !actions.is_empty() && self.framer.is_ground()
     }
 
-    /// All actions of the shortest front of `bytes` that adds one and leaves no segment unfinished, and the length of this
-    /// front, which is all that was fed. So no action of what follows belongs to a sequence or a string that began before:
-    /// a string comes with its terminator. `None` where there is no such front: then all `bytes` were fed, and what they
+    /// All actions of the shortest prefix of `bytes` that adds one and leaves no segment unfinished, and the length of this
+    /// prefix, which is all that was fed. So no action of what follows belongs to a sequence or a string that began before:
+    /// a string comes with its terminator. `None` where there is no such prefix: then all `bytes` were fed, and what they
     /// added is dropped.
     ///
     /// `ParseError::Memory` says that a growth was refused; what came is dropped, and the parser has failed.
@@ -244,9 +253,10 @@ impl<A: Allocator + Copy> Parser<A> {
         ensures some { (s : List ℕ) → WasFed s self.old → IfOk result (λ r. IfSome r (λ x. WasFed (s ++ take x.1 bytes.now) self.new × IsFirstStop s bytes.now (map value_of x.0.items) x.1)) }
         ensures handed_out { (s : List ℕ) → WasFed s self.old → IfOk result (λ r. IfSome r (λ x. AreHandedOut (map value_of x.0.items))) }
         ensures none { (s : List ℕ) → WasFed s self.old → IfOk result (λ r. IfNone r (WasFed (s ++ bytes.now) self.new × ((k : ℕ) → k ≤ length bytes.now → IsStop A s (take k bytes.now) → ⊥))) }
-        ensures refused { (s : List ℕ) → WasFed s self.old → IfErr result (λ e. (e ≡ ParseError.Memory) × IsBroken self.new) }
+        ensures refused { (s : List ℕ) → WasFed s self.old → IfErr result (λ e. (e ≡ ParseError.Memory) × IsBroken self.new × MayWant A s bytes.now) }
         ensures failed { IsBroken self.old → (result ≡ Err ParseError.Failed) × IsBroken self.new }
     {
+        laws::yield_handed_out::<A>();
         let mut at = 0;
         let mut actions = Vec::new(self.alloc);
         'fronts: loop {
@@ -268,7 +278,11 @@ impl Parser {
 
     /// Calls `callback` on each action that `bytes` add to what the bytes fed before mean, in order.
     ///
-    /// `ParseError::Memory` says that a growth was refused, after a front of these actions; the parser has failed. It does
+    /// This call is for the global allocator alone, since a bound `FnMut(Action<A>)` over an allocator `A` cannot be had yet;
+    /// and its clause says that the closure got these actions, but not that it got no call more. Where either matters, use
+    /// [`parse_into`](Parser::parse_into).
+    ///
+    /// `ParseError::Memory` says that a growth was refused, after a prefix of these actions; the parser has failed. It does
     /// not come while the stream so far holds only characters, stray and broken bytes, controls, lone terminators and
     /// escape sequences, whole or cut short: for these no memory is taken. `ParseError::Failed` says that an earlier call
     /// had been refused a growth; the parser stays as it was.
@@ -278,9 +292,10 @@ impl Parser {
             × GetsAll (At value_of (λ p a q. F.step p a tt q)) callback (yield s bytes.now)) }
         ensures handed_out { (s : List ℕ) → WasFed s self.old → AreHandedOut {A = Global} (yield s bytes.now) }
         ensures refused { (s : List ℕ) → WasFed s self.old → IfErr result (λ e. (e ≡ ParseError.Memory) × IsBroken self.new
-            × MayGrow (s ++ bytes.now) × GetsFront (At value_of (λ p a q. F.step p a tt q)) callback (yield s bytes.now)) }
+            × MayGrow (s ++ bytes.now) × GetsPrefix (At value_of (λ p a q. F.step p a tt q)) callback (yield s bytes.now)) }
         ensures failed { IsBroken self.old → (result ≡ Err ParseError.Failed) × IsBroken self.new }
     {
-        self.feed(bytes, Calls { callback }).0
+        laws::yield_handed_out::<Global>();
+        self.parse_into(bytes, Calls { callback }).0
     }
 }

@@ -1,7 +1,7 @@
 //! What the program does.
 ghost use Rattle.std.specs.Prelude.{◌≡◌, ◌≢◌, ◌<◌, [], false, IfErr, IfSome, IsErrOf, IsTrue, OnOk, ◌↔◌};
 ghost use Rattle.std.specs.Io.KnownBytes.{Appends, IsAtEnd, Keeps};
-ghost use Rattle.escape_stream.specs.Io.{AppendsFront, has_failed, inner_of};
+ghost use Rattle.escape_stream.specs.Io.{AppendsPrefix, has_failed, inner_of};
 ghost use Rattle.escape_stream.specs.Meaning.{meaning};
 ghost use Rattle.escape_stream.specs.Texts.{list_text};
 

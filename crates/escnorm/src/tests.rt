@@ -44,6 +44,19 @@ impl Write for Unflushed {
     }
 }
 
+/// Counts its calls, and has nothing to read.
+#[derive(Drop)]
+struct Counting {
+    calls: usize,
+}
+
+impl Read for Counting {
+    fn read(&mut self, _buf: &mut [u8]) -> io::Result<usize> {
+        self.calls = self.calls.saturating_add(1);
+        Ok(0)
+    }
+}
+
 fn words(alloc: Global, word: &str) -> Result<Vec<String>, AllocError> {
     let mut words = Vec::new(alloc);
     words.push(String::from_str(alloc, word)?)?;
@@ -73,6 +86,18 @@ fn any_word_is_told_the_usage(rt: HostRuntime) -> Result<(), Fail> {
         let status = run(rt.alloc(), &words, STREAM, Broken, Broken);
         assert_eq!(rt; status, 2);
     }
+    Ok(())
+}
+
+#[test]
+fn nothing_is_read_before_the_usage(rt: HostRuntime) -> Result<(), Fail> {
+    let words = words(rt.alloc(), "-h")?;
+    let mut input = Counting { calls: 0 };
+    let mut output = Vec::new(rt.alloc());
+    let mut faults = Vec::new(rt.alloc());
+    let status = run(rt.alloc(), &words, &mut input, &mut output, &mut faults);
+    assert_eq!(rt; status, 2);
+    assert_eq!(rt; input.calls, 0);
     Ok(())
 }
 
