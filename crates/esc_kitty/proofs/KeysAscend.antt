@@ -1,0 +1,65 @@
+-- The keys of an image stand in the order of their bytes.
+use Rattle.std.proofs.Common.{ℕ, ◌≡◌, Bool, true, ◌&&◌, List, [], ◌∷◌, Option, Some, None, refl}
+use Rattle.std.proofs.lemmas.Bool.{and_parts}
+use Rattle.std.specs.List.{list_all}
+use Rattle.esc_below.specs.Cuts.{Pairs}
+use Rattle.esc_kitty.specs.Texts.{Entry, ascends, compose_keys, delete_keys, display_keys, frame_keys, image_keys, or_action, query_keys, shown_keys, stands_before, transmit_keys, with_value, written}
+use Rattle.esc_kitty.specs.declared.verbosity.KittyImageVerbosity.{KittyImageVerbosity}
+use Rattle.esc_kitty.specs.declared.delete.KittyImageDelete.{KittyImageDelete}
+use Rattle.esc_kitty.specs.declared.delete.KittyImageDelete.TheVariants.{All, ByImageId, ByImageNumber, AtCursorPosition, AnimationFrames, DeleteAt, DeleteAtZ, DeleteColumn, DeleteRow, DeleteZ, ByImageIdRange}
+use Rattle.esc_kitty.specs.declared.image.KittyImage.{KittyImage}
+use Rattle.esc_kitty.specs.declared.image.KittyImage.TheVariants as image
+
+-- the same of keys that may be written
+abbrev entries_ascend : List Entry → Bool
+entries_ascend [] = true
+entries_ascend (e ∷ es) = list_all (λ (d : Entry). stands_before e.0 d.0) es && entries_ascend es
+
+before_with : (n m : List ℕ) (v : Option (List ℕ)) (es : Pairs) → stands_before n m ≡ true → list_all (λ (d : List ℕ × List ℕ). stands_before n d.0) es ≡ true
+    → list_all (λ (d : List ℕ × List ℕ). stands_before n d.0) (with_value m v es) ≡ true
+before_with n m None es h k = k
+before_with n m (Some v) es h k = rw (h, k) refl
+
+before_written : (n : List ℕ) (es : List Entry) → list_all (λ (d : Entry). stands_before n d.0) es ≡ true
+    → list_all (λ (d : List ℕ × List ℕ). stands_before n d.0) (written es) ≡ true
+before_written n [] h = refl
+before_written n (e ∷ es) h =
+    let q = and_parts (stands_before n e.0) (list_all (λ (d : Entry). stands_before n d.0) es) h in
+    before_with n e.0 e.1 (written es) q.0 (before_written n es q.1)
+
+ascends_with : (n : List ℕ) (v : Option (List ℕ)) (es : Pairs) → list_all (λ (d : List ℕ × List ℕ). stands_before n d.0) es ≡ true → ascends es ≡ true
+    → ascends (with_value n v es) ≡ true
+ascends_with n None es h k = k
+ascends_with n (Some v) es h k = rw (h, k) refl
+
+written_ascends : (es : List Entry) → entries_ascend es ≡ true → ascends (written es) ≡ true
+written_ascends [] h = refl
+written_ascends (e ∷ es) h =
+    let q = and_parts (list_all (λ (d : Entry). stands_before e.0 d.0) es) (entries_ascend es) h in
+    ascends_with e.0 e.1 (written es) (before_written e.0 es q.0) (written_ascends es q.1)
+
+or_ascends : (es : Pairs) → ascends es ≡ true → ascends (or_action es) ≡ true
+or_ascends [] h = refl
+or_ascends (e ∷ es) h = h
+
+delete_ascends : (w : KittyImageDelete) (q : KittyImageVerbosity) → ascends (written (delete_keys w q)) ≡ true
+delete_ascends (All d) q = written_ascends (delete_keys (All d) q) refl
+delete_ascends (ByImageId i p d) q = written_ascends (delete_keys (ByImageId i p d) q) refl
+delete_ascends (ByImageNumber n p d) q = written_ascends (delete_keys (ByImageNumber n p d) q) refl
+delete_ascends (AtCursorPosition d) q = written_ascends (delete_keys (AtCursorPosition d) q) refl
+delete_ascends (AnimationFrames d) q = written_ascends (delete_keys (AnimationFrames d) q) refl
+delete_ascends (DeleteAt x y d) q = written_ascends (delete_keys (DeleteAt x y d) q) refl
+delete_ascends (DeleteAtZ x y z d) q = written_ascends (delete_keys (DeleteAtZ x y z d) q) refl
+delete_ascends (DeleteColumn x d) q = written_ascends (delete_keys (DeleteColumn x d) q) refl
+delete_ascends (DeleteRow y d) q = written_ascends (delete_keys (DeleteRow y d) q) refl
+delete_ascends (DeleteZ z d) q = written_ascends (delete_keys (DeleteZ z d) q) refl
+delete_ascends (ByImageIdRange x y d) q = written_ascends (delete_keys (ByImageIdRange x y d) q) refl
+
+pub keys_ascend : {A : Type 0} (i : KittyImage A) → ascends (image_keys i) ≡ true
+keys_ascend (image.TransmitData t q) = or_ascends (written (transmit_keys t q)) (written_ascends (transmit_keys t q) refl)
+keys_ascend (image.TransmitDataAndDisplay t p q) = written_ascends (shown_keys t p q) refl
+keys_ascend (image.Display i n p q) = written_ascends (display_keys i n p q) refl
+keys_ascend (image.Delete w q) = delete_ascends w q
+keys_ascend (image.Query t) = written_ascends (query_keys t) refl
+keys_ascend (image.TransmitFrame t f q) = written_ascends (frame_keys t f q) refl
+keys_ascend (image.ComposeFrame f q) = written_ascends (compose_keys f q) refl

@@ -1,0 +1,9 @@
+pub mod KeysWritten
+pub mod KeysRead
+pub mod FieldsBack
+pub mod ValuesWritten
+pub mod Sending
+pub mod DeletesBack
+pub mod ImagesBack
+pub mod KeysAscend
+pub mod ImagesWritable

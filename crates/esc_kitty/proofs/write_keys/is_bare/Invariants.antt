@@ -1,0 +1,7 @@
+use Rattle.std.proofs.Common.{◌≡◌, map, drop}
+use Rattle.esc_kitty.specs.Texts.{entry, is_bare, written}
+use Rattle.esc_kitty.proofs.write_keys.is_bare.Given as goal
+
+-- none of the keys so far is written
+abbrev pub invariant-loop-key : goal.invariant-loop-key
+invariant-loop-key l = is_bare (written (map entry l.keys)) ≡ is_bare (written (map entry (drop l.key-index l.keys)))

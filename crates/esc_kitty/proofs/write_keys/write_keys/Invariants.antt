@@ -1,0 +1,10 @@
+use Rattle.std.proofs.Common.{◌≡◌, map, take}
+use Rattle.std.specs.Fmt.{HasWritten, IsPlainFormatter}
+use Rattle.esc_kitty.specs.Texts.{entry, is_bare, keys_text, written}
+use Rattle.esc_kitty.proofs.write_keys.write_keys.Given as goal
+
+-- the keys so far are written
+abbrev pub invariant-loop-key : goal.invariant-loop-key
+invariant-loop-key g l =
+    (l.is_first ≡ is_bare (written (map entry (take l.key-index l.keys))))
+    × (IsPlainFormatter l.initial.f → HasWritten g.W.Write.write_str_gives l.initial.f (keys_text (written (map entry (take l.key-index l.keys)))) l.f)

@@ -1,0 +1,5 @@
+pub mod Keys
+pub mod Words
+pub mod Images
+pub mod Texts
+pub mod Writable

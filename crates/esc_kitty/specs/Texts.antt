@@ -1,0 +1,300 @@
+-- The texts of images.
+use Rattle.std.specs.Prelude.{ℕ, ℤ, Bool, true, false, ◌&&◌, if◌then◌else◌, List, [], ◌∷◌, ◌++◌, codes, Option, Some, None}
+use Rattle.std.specs.Fmt.{decimal, signed_decimal}
+use Rattle.std.specs.Cmp.Lexicographic.{slice_cmp}
+use Rattle.std.specs.List.{flat_map, list_all}
+use Rattle.std.specs.Ordering.{is_lt, nat_cmp}
+use Rattle.std.specs.Option.{option_map}
+use Rattle.esc_below.specs.Base64.{base64_text}
+use Rattle.esc_below.specs.Cuts.{Pairs, pair_text}
+use Rattle.esc_kitty.specs.Words.{verbosity_word, flag_word, format_word, compression_word, composition_word}
+use Rattle.esc_kitty.specs.declared.write_keys.Value.{Value}
+use Rattle.esc_kitty.specs.declared.write_keys.Value.TheVariants as value
+use Rattle.esc_kitty.specs.declared.write_keys.Key.{Key}
+use Rattle.esc_kitty.specs.declared.verbosity.KittyImageVerbosity.{KittyImageVerbosity}
+use Rattle.esc_kitty.specs.declared.content.KittyImageData.{KittyImageData}
+use Rattle.esc_kitty.specs.declared.content.KittyImageData.TheVariants.{Direct, DirectBin, File, TemporaryFile, SharedMem}
+use Rattle.esc_kitty.specs.declared.transmit.KittyImageTransmit.{KittyImageTransmit}
+use Rattle.esc_kitty.specs.declared.placement.KittyImagePlacement.{KittyImagePlacement}
+use Rattle.esc_kitty.specs.declared.delete.KittyImageDelete.{KittyImageDelete}
+use Rattle.esc_kitty.specs.declared.delete.KittyImageDelete.TheVariants.{All, ByImageId, ByImageNumber, AtCursorPosition, AnimationFrames, DeleteAt, DeleteAtZ, DeleteColumn, DeleteRow, DeleteZ, ByImageIdRange}
+use Rattle.esc_kitty.specs.declared.frame.KittyImageFrame.{KittyImageFrame}
+use Rattle.esc_kitty.specs.declared.compose.KittyImageFrameCompose.{KittyImageFrameCompose}
+use Rattle.esc_kitty.specs.declared.image.KittyImage.{KittyImage}
+use Rattle.esc_kitty.specs.declared.image.KittyImage.TheVariants as image
+
+-- a key, and its value where it is written
+abbrev pub Entry : Type 0
+Entry = List ℕ × Option (List ℕ)
+
+-- the same as the program holds it
+abbrev pub value_text : Value → Option (List ℕ)
+value_text (value.Number n) = option_map decimal n
+value_text (value.Signed z) = option_map signed_decimal z
+value_text (value.Word w) = option_map (λ t. t.now) w
+
+abbrev pub entry : Key → Entry
+entry k = (k.0.now, value_text k.1)
+
+-- the keys that are written
+abbrev pub with_value : List ℕ → Option (List ℕ) → Pairs → Pairs
+with_value n None es = es
+with_value n (Some v) es = (n, v) ∷ es
+
+abbrev pub written : List Entry → Pairs
+written [] = []
+written (e ∷ es) = with_value e.0 e.1 (written es)
+
+-- keys with their values, and `,` between them
+abbrev pub keys_text : Pairs → List ℕ
+keys_text [] = []
+keys_text (e ∷ es) = pair_text e ++ flat_map (λ d. 0x2c ∷ pair_text d) es
+
+-- in the order of their bytes, each once
+abbrev pub stands_before : List ℕ → List ℕ → Bool
+stands_before n m = is_lt (slice_cmp nat_cmp n m)
+
+abbrev pub ascends : Pairs → Bool
+ascends [] = true
+ascends (e ∷ es) = list_all (λ (d : List ℕ × List ℕ). stands_before e.0 d.0) es && ascends es
+
+-- whether none is written
+abbrev pub is_bare : Pairs → Bool
+is_bare [] = true
+is_bare (e ∷ es) = false
+
+-- what one more key adds to the text: `,` before it, unless it is the first
+abbrev pub separator : Bool → List ℕ
+separator first = if first then [] else 0x2c ∷ []
+
+abbrev pub entry_by : Bool → List ℕ → Option (List ℕ) → List ℕ
+entry_by first n None = []
+entry_by first n (Some v) = separator first ++ pair_text (n, v)
+
+abbrev pub entry_text : Bool → Entry → List ℕ
+entry_text first e = entry_by first e.0 e.1
+
+-- `t`, `S`, `O` and the payload of what an image is made of
+abbrev pub medium_word : {A : Type 0} → KittyImageData A → Option (List ℕ)
+medium_word (Direct t) = None
+medium_word (DirectBin b) = None
+medium_word (File t s o) = Some (codes "f")
+medium_word (TemporaryFile t s o) = Some (codes "t")
+medium_word (SharedMem t s o) = Some (codes "s")
+
+abbrev pub size_in : {A : Type 0} → KittyImageData A → Option ℕ
+size_in (Direct t) = None
+size_in (DirectBin b) = None
+size_in (File t s o) = s
+size_in (TemporaryFile t s o) = s
+size_in (SharedMem t s o) = s
+
+abbrev pub offset_in : {A : Type 0} → KittyImageData A → Option ℕ
+offset_in (Direct t) = None
+offset_in (DirectBin b) = None
+offset_in (File t s o) = o
+offset_in (TemporaryFile t s o) = o
+offset_in (SharedMem t s o) = o
+
+abbrev pub content_text : {A : Type 0} → KittyImageData A → List ℕ
+content_text (Direct t) = t
+content_text (DirectBin b) = base64_text b
+content_text (File t s o) = base64_text t
+content_text (TemporaryFile t s o) = base64_text t
+content_text (SharedMem t s o) = base64_text t
+
+abbrev pub number_text : Option ℕ → Option (List ℕ)
+number_text n = option_map decimal n
+
+abbrev pub signed_text : Option ℤ → Option (List ℕ)
+signed_text z = option_map signed_decimal z
+
+-- The keys of each action, in the order of their bytes, each with its value where that differs from what it is without the key.
+abbrev pub transmit_keys : {A : Type 0} → KittyImageTransmit A → KittyImageVerbosity → List Entry
+transmit_keys t q =
+    (codes "I", number_text t.image_number)
+    ∷ (codes "O", number_text (offset_in t.content))
+    ∷ (codes "S", number_text (size_in t.content))
+    ∷ (codes "f", format_word t.format)
+    ∷ (codes "i", number_text t.image_id)
+    ∷ (codes "m", flag_word t.more_data_follows)
+    ∷ (codes "o", compression_word t.compression)
+    ∷ (codes "q", verbosity_word q)
+    ∷ (codes "s", number_text t.width)
+    ∷ (codes "t", medium_word t.content)
+    ∷ (codes "v", number_text t.height)
+    ∷ []
+
+abbrev pub query_keys : {A : Type 0} → KittyImageTransmit A → List Entry
+query_keys t =
+    (codes "I", number_text t.image_number)
+    ∷ (codes "O", number_text (offset_in t.content))
+    ∷ (codes "S", number_text (size_in t.content))
+    ∷ (codes "a", Some (codes "q"))
+    ∷ (codes "f", format_word t.format)
+    ∷ (codes "i", number_text t.image_id)
+    ∷ (codes "m", flag_word t.more_data_follows)
+    ∷ (codes "o", compression_word t.compression)
+    ∷ (codes "s", number_text t.width)
+    ∷ (codes "t", medium_word t.content)
+    ∷ (codes "v", number_text t.height)
+    ∷ []
+
+abbrev pub shown_keys : {A : Type 0} → KittyImageTransmit A → KittyImagePlacement → KittyImageVerbosity → List Entry
+shown_keys t p q =
+    (codes "C", flag_word p.do_not_move_cursor)
+    ∷ (codes "I", number_text t.image_number)
+    ∷ (codes "O", number_text (offset_in t.content))
+    ∷ (codes "S", number_text (size_in t.content))
+    ∷ (codes "U", flag_word p.unicode_placeholder)
+    ∷ (codes "X", number_text p.x_offset)
+    ∷ (codes "Y", number_text p.y_offset)
+    ∷ (codes "a", Some (codes "T"))
+    ∷ (codes "c", number_text p.columns)
+    ∷ (codes "f", format_word t.format)
+    ∷ (codes "h", number_text p.h)
+    ∷ (codes "i", number_text t.image_id)
+    ∷ (codes "m", flag_word t.more_data_follows)
+    ∷ (codes "o", compression_word t.compression)
+    ∷ (codes "p", number_text p.placement_id)
+    ∷ (codes "q", verbosity_word q)
+    ∷ (codes "r", number_text p.rows)
+    ∷ (codes "s", number_text t.width)
+    ∷ (codes "t", medium_word t.content)
+    ∷ (codes "v", number_text t.height)
+    ∷ (codes "w", number_text p.w)
+    ∷ (codes "x", number_text p.x)
+    ∷ (codes "y", number_text p.y)
+    ∷ (codes "z", signed_text p.z_index)
+    ∷ []
+
+abbrev pub display_keys : Option ℕ → Option ℕ → KittyImagePlacement → KittyImageVerbosity → List Entry
+display_keys i n p q =
+    (codes "C", flag_word p.do_not_move_cursor)
+    ∷ (codes "I", number_text n)
+    ∷ (codes "U", flag_word p.unicode_placeholder)
+    ∷ (codes "X", number_text p.x_offset)
+    ∷ (codes "Y", number_text p.y_offset)
+    ∷ (codes "a", Some (codes "p"))
+    ∷ (codes "c", number_text p.columns)
+    ∷ (codes "h", number_text p.h)
+    ∷ (codes "i", number_text i)
+    ∷ (codes "p", number_text p.placement_id)
+    ∷ (codes "q", verbosity_word q)
+    ∷ (codes "r", number_text p.rows)
+    ∷ (codes "w", number_text p.w)
+    ∷ (codes "x", number_text p.x)
+    ∷ (codes "y", number_text p.y)
+    ∷ (codes "z", signed_text p.z_index)
+    ∷ []
+
+abbrev pub frame_keys : {A : Type 0} → KittyImageTransmit A → KittyImageFrame → KittyImageVerbosity → List Entry
+frame_keys t f q =
+    (codes "I", number_text t.image_number)
+    ∷ (codes "O", number_text (offset_in t.content))
+    ∷ (codes "S", number_text (size_in t.content))
+    ∷ (codes "X", composition_word f.composition_mode)
+    ∷ (codes "Y", number_text f.background_pixel)
+    ∷ (codes "a", Some (codes "f"))
+    ∷ (codes "c", number_text f.base_frame)
+    ∷ (codes "f", format_word t.format)
+    ∷ (codes "i", number_text t.image_id)
+    ∷ (codes "m", flag_word t.more_data_follows)
+    ∷ (codes "o", compression_word t.compression)
+    ∷ (codes "q", verbosity_word q)
+    ∷ (codes "r", number_text f.frame_number)
+    ∷ (codes "s", number_text t.width)
+    ∷ (codes "t", medium_word t.content)
+    ∷ (codes "v", number_text t.height)
+    ∷ (codes "x", number_text f.x)
+    ∷ (codes "y", number_text f.y)
+    ∷ (codes "z", number_text f.duration_ms)
+    ∷ []
+
+abbrev pub compose_keys : KittyImageFrameCompose → KittyImageVerbosity → List Entry
+compose_keys f q =
+    (codes "C", composition_word f.composition_mode)
+    ∷ (codes "I", number_text f.image_number)
+    ∷ (codes "X", number_text f.src_x)
+    ∷ (codes "Y", number_text f.src_y)
+    ∷ (codes "a", Some (codes "c"))
+    ∷ (codes "c", number_text f.target_frame)
+    ∷ (codes "h", number_text f.h)
+    ∷ (codes "i", number_text f.image_id)
+    ∷ (codes "q", verbosity_word q)
+    ∷ (codes "r", number_text f.source_frame)
+    ∷ (codes "w", number_text f.w)
+    ∷ (codes "x", number_text f.x)
+    ∷ (codes "y", number_text f.y)
+    ∷ []
+
+-- of a deletion by id or number, and of any other
+abbrev pub named_keys : List ℕ → Option ℕ → Option ℕ → Option ℕ → KittyImageVerbosity → List Entry
+named_keys d n i p q =
+    (codes "I", number_text n)
+    ∷ (codes "a", Some (codes "d"))
+    ∷ (codes "d", Some d)
+    ∷ (codes "i", number_text i)
+    ∷ (codes "p", number_text p)
+    ∷ (codes "q", verbosity_word q)
+    ∷ []
+
+abbrev pub placed_keys : List ℕ → Option ℕ → Option ℕ → Option ℤ → KittyImageVerbosity → List Entry
+placed_keys d x y z q =
+    (codes "a", Some (codes "d"))
+    ∷ (codes "d", Some d)
+    ∷ (codes "q", verbosity_word q)
+    ∷ (codes "x", number_text x)
+    ∷ (codes "y", number_text y)
+    ∷ (codes "z", signed_text z)
+    ∷ []
+
+-- the letter, a capital where the data too is deleted
+abbrev pub letter : Bool → List ℕ → List ℕ → List ℕ
+letter d small capital = if d then capital else small
+
+abbrev pub delete_keys : KittyImageDelete → KittyImageVerbosity → List Entry
+delete_keys (All d) q = placed_keys (letter d (codes "a") (codes "A")) None None None q
+delete_keys (ByImageId i p d) q = named_keys (letter d (codes "i") (codes "I")) None (Some i) p q
+delete_keys (ByImageNumber n p d) q = named_keys (letter d (codes "n") (codes "N")) (Some n) None p q
+delete_keys (AtCursorPosition d) q = placed_keys (letter d (codes "c") (codes "C")) None None None q
+delete_keys (AnimationFrames d) q = placed_keys (letter d (codes "f") (codes "F")) None None None q
+delete_keys (DeleteAt x y d) q = placed_keys (letter d (codes "p") (codes "P")) (Some x) (Some y) None q
+delete_keys (DeleteAtZ x y z d) q = placed_keys (letter d (codes "q") (codes "Q")) (Some x) (Some y) (Some z) q
+delete_keys (DeleteColumn x d) q = placed_keys (letter d (codes "x") (codes "X")) (Some x) None None q
+delete_keys (DeleteRow y d) q = placed_keys (letter d (codes "y") (codes "Y")) None (Some y) None q
+delete_keys (DeleteZ z d) q = placed_keys (letter d (codes "z") (codes "Z")) None None (Some z) q
+delete_keys (ByImageIdRange x y d) q = placed_keys (letter d (codes "r") (codes "R")) (Some x) (Some y) None q
+
+-- `a=t`, where no other key is written
+abbrev pub or_action : Pairs → Pairs
+or_action [] = (codes "a", codes "t") ∷ []
+or_action (e ∷ es) = e ∷ es
+
+-- the keys of an image
+abbrev pub image_keys : {A : Type 0} → KittyImage A → Pairs
+image_keys (image.TransmitData t q) = or_action (written (transmit_keys t q))
+image_keys (image.TransmitDataAndDisplay t p q) = written (shown_keys t p q)
+image_keys (image.Display i n p q) = written (display_keys i n p q)
+image_keys (image.Delete w q) = written (delete_keys w q)
+image_keys (image.Query t) = written (query_keys t)
+image_keys (image.TransmitFrame t f q) = written (frame_keys t f q)
+image_keys (image.ComposeFrame f q) = written (compose_keys f q)
+
+-- `;` and the payload, wherever something is transmitted
+abbrev pub payload_text : {A : Type 0} → KittyImage A → List ℕ
+payload_text (image.TransmitData t q) = 0x3b ∷ content_text t.content
+payload_text (image.TransmitDataAndDisplay t p q) = 0x3b ∷ content_text t.content
+payload_text (image.Display i n p q) = []
+payload_text (image.Delete w q) = []
+payload_text (image.Query t) = 0x3b ∷ content_text t.content
+payload_text (image.TransmitFrame t f q) = 0x3b ∷ content_text t.content
+payload_text (image.ComposeFrame f q) = []
+
+-- the data of the application program command
+abbrev pub image_body : {A : Type 0} → KittyImage A → List ℕ
+image_body i = 0x47 ∷ (keys_text (image_keys i) ++ payload_text i)
+
+-- `ESC _` and the data; what ends the command is not part of it
+abbrev pub image_text : {A : Type 0} → KittyImage A → List ℕ
+image_text i = 0x1b ∷ 0x5f ∷ image_body i

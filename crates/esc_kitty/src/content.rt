@@ -1,0 +1,147 @@
+//! What an image is made of, or where that lies.
+ghost use Rattle.std.specs.Prelude.{◌≡◌, Some};
+ghost use Rattle.std.specs.Option.{option_map};
+ghost use Rattle.esc_kitty.specs.Texts.{content_text, medium_word, offset_in, size_in};
+
+use esc_below::base64_text::Encoded;
+use esc_below::{Items, Text};
+use std::alloc::{Allocator, Global};
+use std::fmt;
+use std::fmt::Display;
+
+/// What an image is made of, or where that lies (key `t`).
+#[derive(Drop)]
+#[derive_where(PartialEq, Eq)]
+pub enum KittyImageData<A: Allocator = Global> {
+    /// `d`: the payload as it stands in the command, which is base64. It is not decoded.
+    Direct(Text<A>),
+    /// Bytes that are written as base64. They are never read: what was written so reads as `Direct`.
+    DirectBin(Items<u8, A>),
+    /// `f`: a file.
+    File {
+        /// Its path.
+        path: Text<A>,
+        /// How many bytes of it are the image, key `S`; where there is none, all.
+        data_size: Option<u32>,
+        /// How many bytes of it stand before them, key `O`.
+        data_offset: Option<u32>,
+    },
+    /// `t`: a file that the terminal deletes once it is read.
+    TemporaryFile {
+        /// Its path.
+        path: Text<A>,
+        /// How many bytes of it are the image, key `S`; where there is none, all.
+        data_size: Option<u32>,
+        /// How many bytes of it stand before them, key `O`.
+        data_offset: Option<u32>,
+    },
+    /// `s`: a shared memory object (POSIX `shm_open`).
+    SharedMem {
+        /// Its name.
+        name: Text<A>,
+        /// How many bytes of it are the image, key `S`; where there is none, all.
+        data_size: Option<u32>,
+        /// How many bytes of it stand before them, key `O`.
+        data_offset: Option<u32>,
+    },
+}
+
+impl<A: Allocator> KittyImageData<A> {
+    // The value of `t`, unless this is the default.
+    pub(crate) fn medium(&self) -> Option<&'static str>
+        ensures { option_map (λ w. w.now) result ≡ medium_word self.now }
+    {
+        match self {
+            KittyImageData::Direct(_) | KittyImageData::DirectBin(_) => None,
+            KittyImageData::File { .. } => Some("f"),
+            KittyImageData::TemporaryFile { .. } => Some("t"),
+            KittyImageData::SharedMem { .. } => Some("s"),
+        }
+    }
+
+    // The number of bytes, where it is told.
+    pub(crate) fn size(&self) -> Option<u32>
+        ensures { result ≡ size_in self.now }
+    {
+        match self {
+            KittyImageData::Direct(_) | KittyImageData::DirectBin(_) => None,
+            KittyImageData::File { data_size, .. } => *data_size,
+            KittyImageData::TemporaryFile { data_size, .. } => *data_size,
+            KittyImageData::SharedMem { data_size, .. } => *data_size,
+        }
+    }
+
+    // The number of bytes before them, where it is told.
+    pub(crate) fn offset(&self) -> Option<u32>
+        ensures { result ≡ offset_in self.now }
+    {
+        match self {
+            KittyImageData::Direct(_) | KittyImageData::DirectBin(_) => None,
+            KittyImageData::File { data_offset, .. } => *data_offset,
+            KittyImageData::TemporaryFile { data_offset, .. } => *data_offset,
+            KittyImageData::SharedMem { data_offset, .. } => *data_offset,
+        }
+    }
+}
+
+/// Writes the payload: the text of `Direct`, else base64 of the bytes, the path or the name. Takes no memory, and errs
+/// only where the writer behind the formatter errs.
+impl<A: Allocator> fmt::Display for KittyImageData<A> {
+    ghost output = { λ c. Some (content_text c) };
+
+    fn fmt<W: fmt::Write>(&self, f: &mut fmt::Formatter<W>) -> fmt::Result {
+        match self {
+            KittyImageData::Direct(text) => text.fmt(f),
+            KittyImageData::DirectBin(bytes) => Encoded(bytes.as_slice()).fmt(f),
+            KittyImageData::File { path, .. } => Encoded(path.as_bytes()).fmt(f),
+            KittyImageData::TemporaryFile { path, .. } => Encoded(path.as_bytes()).fmt(f),
+            KittyImageData::SharedMem { name, .. } => Encoded(name.as_bytes()).fmt(f),
+        }
+    }
+}
+
+/// Of bytes in the command it writes only how many they are, since they may be many.
+impl<A: Allocator> fmt::Debug for KittyImageData<A> {
+    fn fmt<W: fmt::Write>(&self, f: &mut fmt::Formatter<W>) -> fmt::Result {
+        match self {
+            KittyImageData::Direct(text) => {
+                let length = text.len();
+                write!(f, "Direct({length} bytes of data)")
+            }
+            KittyImageData::DirectBin(bytes) => {
+                let length = bytes.len();
+                write!(f, "DirectBin({length} bytes of data)")
+            }
+            KittyImageData::File {
+                path,
+                data_size,
+                data_offset,
+            } => f
+                .debug_struct("File")
+                .field("path", path)
+                .field("data_offset", data_offset)
+                .field("data_size", data_size)
+                .finish(),
+            KittyImageData::TemporaryFile {
+                path,
+                data_size,
+                data_offset,
+            } => f
+                .debug_struct("TemporaryFile")
+                .field("path", path)
+                .field("data_offset", data_offset)
+                .field("data_size", data_size)
+                .finish(),
+            KittyImageData::SharedMem {
+                name,
+                data_size,
+                data_offset,
+            } => f
+                .debug_struct("SharedMem")
+                .field("name", name)
+                .field("data_offset", data_offset)
+                .field("data_size", data_size)
+                .finish(),
+        }
+    }
+}

@@ -1,0 +1,104 @@
+//! The keys of an image with their values.
+ghost use Rattle.std.specs.Prelude.{◌≡◌, ◌==◌, IfOk, map};
+ghost use Rattle.std.specs.List.{slice_split};
+ghost use Rattle.std.specs.Option.{option_map};
+ghost use Rattle.esc_below.specs.Cuts.{pairs_in};
+ghost use Rattle.esc_kitty.specs.Keys.{keys_of, not_zero, number, pairs, signed, values};
+ghost use Rattle.esc_kitty.specs.Words.{flag_of};
+
+use esc_below::cut::key_and_value;
+use esc_below::scalar::{read_i32, read_u32};
+use std::alloc::{AllocError, Allocator};
+
+// A key with its value.
+#[derive(Clone, Copy)]
+pub(crate) struct Pair<'a> {
+    pub(crate) key: &'a str,
+    pub(crate) value: &'a str,
+}
+
+// The keys of a text with their values, between `,`; none where one is no key and value.
+pub(crate) fn read_keys<A: Allocator + Copy>(
+    alloc: A,
+    text: &[u8],
+) -> Result<Option<Vec<Pair<'_>, A>>, AllocError>
+    ensures { IfOk result (λ o. option_map (λ v. pairs v.items) o ≡ keys_of text.now) }
+{
+    let pieces = split_at_commas(alloc, text)?;
+    read_pieces(alloc, pieces.as_slice())
+}
+
+// The pieces of a text between `,`.
+fn split_at_commas<A: Allocator>(alloc: A, text: &[u8]) -> Result<Vec<&[u8], A>, AllocError>
+    ensures { IfOk result (λ v. map (λ p. p.now) v.items ≡ slice_split (λ c. c == 0x2c) text.now) }
+{
+    text.split(|c| *c == b',').collect(alloc)
+}
+
+// The pieces as keys and values; none where one is none.
+fn read_pieces<'a, A: Allocator>(
+    alloc: A,
+    pieces: &[&'a [u8]],
+) -> Result<Option<Vec<Pair<'a>, A>>, AllocError>
+    ensures { IfOk result (λ o. option_map (λ v. pairs v.items) o ≡ pairs_in (map (λ p. p.now) pieces.now)) }
+{
+    let mut pairs = Vec::new(alloc);
+    for piece in pieces {
+        let Some((key, value)) = key_and_value(piece) else {
+            return Ok(None);
+        };
+        pairs.push(Pair { key, value })?;
+    }
+    Ok(Some(pairs))
+}
+
+// The last value of a key, where the key is there.
+pub(crate) fn value<'a>(pairs: &[Pair<'a>], key: &str) -> Option<&'a str>
+    ensures { option_map (λ v. v.now) result ≡ values pairs.now key.now }
+{
+    let mut found = None;
+    for pair in pairs {
+        if pair.key == key {
+            found = Some(pair.value);
+        }
+    }
+    found
+}
+
+// The number of a key, where there is one that can be read.
+pub(crate) fn number(pairs: &[Pair<'_>], key: &str) -> Option<u32>
+    ensures { result ≡ number (values pairs.now) key.now }
+{
+    read_u32(value(pairs, key)?.as_bytes())
+}
+
+// The signed number of a key, where there is one that can be read.
+pub(crate) fn signed(pairs: &[Pair<'_>], key: &str) -> Option<i32>
+    ensures { result ≡ signed (values pairs.now) key.now }
+{
+    read_i32(value(pairs, key)?.as_bytes())
+}
+
+// The number of a key, where there is one that can be read, and it is not 0.
+pub(crate) fn nonzero(pairs: &[Pair<'_>], key: &str) -> Option<u32>
+    ensures { result ≡ not_zero (number (values pairs.now) key.now) }
+{
+    match number(pairs, key) {
+        Some(0) => None,
+        other => other,
+    }
+}
+
+// The flag of a key, where it is one. An absent key is false.
+pub(crate) fn flag(pairs: &[Pair<'_>], key: &str) -> Option<bool>
+    ensures { result ≡ flag_of (values pairs.now key.now) }
+{
+    let Some(word) = value(pairs, key) else {
+        return Some(false);
+    };
+    match word {
+        "0" => Some(false),
+        "1" => Some(true),
+        _ => None,
+    }
+}

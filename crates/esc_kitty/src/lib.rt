@@ -1,0 +1,38 @@
+//! Images of kitty's graphics protocol (<https://sw.kovidgoyal.net/kitty/graphics-protocol/>): their values, how the data
+//! of an application program command is read as one, and how a value is written.
+#![tactic(auto)]
+
+pub mod compose;
+pub mod composition;
+pub mod compression;
+pub mod content;
+pub mod delete;
+pub mod format;
+pub mod frame;
+pub mod image;
+mod keys;
+pub mod laws;
+mod parse;
+pub mod placement;
+mod read_delete;
+mod read_shown;
+mod read_transmit;
+pub mod transmit;
+pub mod verbosity;
+mod write;
+mod write_delete;
+mod write_keys;
+mod write_shown;
+mod write_transmit;
+
+pub use compose::KittyImageFrameCompose;
+pub use composition::KittyFrameCompositionMode;
+pub use compression::KittyImageCompression;
+pub use content::KittyImageData;
+pub use delete::KittyImageDelete;
+pub use format::KittyImageFormat;
+pub use frame::KittyImageFrame;
+pub use image::KittyImage;
+pub use placement::KittyImagePlacement;
+pub use transmit::KittyImageTransmit;
+pub use verbosity::KittyImageVerbosity;

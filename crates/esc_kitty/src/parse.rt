@@ -1,0 +1,154 @@
+//! How images are read.
+ghost use Rattle.std.specs.Prelude.{◌≡◌, IfOk};
+ghost use Rattle.esc_kitty.specs.Keys.{values};
+ghost use Rattle.esc_kitty.specs.Images.{image_by, image_frame, image_in, image_of, image_shown, image_with};
+
+use crate::image::KittyImage;
+use crate::keys::{Pair, number, read_keys, value};
+use crate::read_delete::read_delete;
+use crate::read_shown::{read_compose, read_frame, read_placement};
+use crate::read_transmit::read_transmit;
+use crate::verbosity::KittyImageVerbosity;
+use esc_below::cut::cut;
+use std::alloc::{AllocError, Allocator};
+
+impl<A: Allocator + Copy> KittyImage<A> {
+    /// The image that the data of an application program command is; none where it is no image. The error is that memory was
+    /// refused.
+    ///
+    /// The data is `G`, the keys, and the payload behind the first `;`; without `;` the payload is empty. The keys are UTF-8,
+    /// with `,` between them; each has its value behind its first `=`, and a later value of a key replaces an earlier one.
+    /// Keys that the action does not use are ignored, but for `q`. A number that cannot be read counts as absent; any other value
+    /// that is unknown is no image, nor is a deletion without a number that it needs. A payload is read only where something
+    /// is transmitted, and is then text, or base64 of a text where a file or a shared memory object is named.
+    pub fn parse_apc(alloc: A, bytes: &[u8]) -> Result<Option<KittyImage<A>>, AllocError>
+        ensures { IfOk result (λ o. o ≡ image_of bytes.now) }
+    {
+        let Some((first, rest)) = bytes.split_first() else {
+            return Ok(None);
+        };
+        if *first != b'G' {
+            return Ok(None);
+        }
+        match cut(rest, b';') {
+            Some((keys, payload)) => read_image(alloc, keys, payload),
+            None => read_image(alloc, rest, &[]),
+        }
+    }
+}
+
+// The image of the text of keys and a payload.
+fn read_image<A: Allocator + Copy>(
+    alloc: A,
+    keys: &[u8],
+    payload: &[u8],
+) -> Result<Option<KittyImage<A>>, AllocError>
+    ensures { IfOk result (λ o. o ≡ image_with keys.now payload.now) }
+{
+    let Some(pairs) = read_keys(alloc, keys)? else {
+        return Ok(None);
+    };
+    read_image_in(alloc, pairs.as_slice(), payload)
+}
+
+// The image of keys and a payload.
+fn read_image_in<A: Allocator + Copy>(
+    alloc: A,
+    pairs: &[Pair<'_>],
+    payload: &[u8],
+) -> Result<Option<KittyImage<A>>, AllocError>
+    ensures { IfOk result (λ o. o ≡ image_in (values pairs.now) payload.now) }
+{
+    let Some(verbosity) = KittyImageVerbosity::read(value(pairs, "q")) else {
+        return Ok(None);
+    };
+    let action = value(pairs, "a").unwrap_or("t");
+    read_image_by(alloc, action, verbosity, pairs, payload)
+}
+
+// The image of keys and a payload, by the value of `a`.
+fn read_image_by<A: Allocator + Copy>(
+    alloc: A,
+    action: &str,
+    verbosity: KittyImageVerbosity,
+    pairs: &[Pair<'_>],
+    payload: &[u8],
+) -> Result<Option<KittyImage<A>>, AllocError>
+    ensures { IfOk result (λ o. o ≡ image_by action.now verbosity (values pairs.now) payload.now) }
+{
+    match action {
+        "t" => {
+            let transmit = read_transmit(alloc, pairs, payload)?;
+            Ok(transmit.map(|transmit| KittyImage::TransmitData {
+                transmit,
+                verbosity,
+            }))
+        }
+        "q" => {
+            let transmit = read_transmit(alloc, pairs, payload)?;
+            Ok(transmit.map(|transmit| KittyImage::Query { transmit }))
+        }
+        "T" => read_image_shown(alloc, verbosity, pairs, payload),
+        "p" => {
+            let image_id = number(pairs, "i");
+            let image_number = number(pairs, "I");
+            let placement = read_placement(pairs);
+            Ok(placement.map(|placement| KittyImage::Display {
+                image_id,
+                image_number,
+                placement,
+                verbosity,
+            }))
+        }
+        "d" => {
+            let what = read_delete(pairs);
+            Ok(what.map(|what| KittyImage::Delete { what, verbosity }))
+        }
+        "f" => read_image_frame(alloc, verbosity, pairs, payload),
+        "c" => {
+            let frame = read_compose(pairs);
+            Ok(frame.map(|frame| KittyImage::ComposeFrame { frame, verbosity }))
+        }
+        _ => Ok(None),
+    }
+}
+
+// The image that is kept and shown.
+fn read_image_shown<A: Allocator + Copy>(
+    alloc: A,
+    verbosity: KittyImageVerbosity,
+    pairs: &[Pair<'_>],
+    payload: &[u8],
+) -> Result<Option<KittyImage<A>>, AllocError>
+    ensures { IfOk result (λ o. o ≡ image_shown verbosity (values pairs.now) payload.now) }
+{
+    let Some(placement) = read_placement(pairs) else {
+        return Ok(None);
+    };
+    let transmit = read_transmit(alloc, pairs, payload)?;
+    Ok(transmit.map(|transmit| KittyImage::TransmitDataAndDisplay {
+        transmit,
+        placement,
+        verbosity,
+    }))
+}
+
+// The frame that is kept.
+fn read_image_frame<A: Allocator + Copy>(
+    alloc: A,
+    verbosity: KittyImageVerbosity,
+    pairs: &[Pair<'_>],
+    payload: &[u8],
+) -> Result<Option<KittyImage<A>>, AllocError>
+    ensures { IfOk result (λ o. o ≡ image_frame verbosity (values pairs.now) payload.now) }
+{
+    let Some(frame) = read_frame(pairs) else {
+        return Ok(None);
+    };
+    let transmit = read_transmit(alloc, pairs, payload)?;
+    Ok(transmit.map(|transmit| KittyImage::TransmitFrame {
+        transmit,
+        frame,
+        verbosity,
+    }))
+}

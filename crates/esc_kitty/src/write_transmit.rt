@@ -1,0 +1,146 @@
+//! How what is transmitted is written.
+ghost use Rattle.std.specs.Prelude.{◌++◌, ◌∷◌, map, Some};
+ghost use Rattle.std.specs.Fmt.{DisplaysOnOk};
+ghost use Rattle.esc_kitty.specs.Texts.{content_text, entry, frame_keys, keys_text, or_action, query_keys, shown_keys, transmit_keys, written};
+
+use crate::format::KittyImageFormat;
+use crate::frame::KittyImageFrame;
+use crate::placement::KittyImagePlacement;
+use crate::transmit::KittyImageTransmit;
+use crate::verbosity::KittyImageVerbosity;
+use crate::write_keys::Value::{Number, Signed, Word};
+use crate::write_keys::{Key, flag_word, is_bare, write_keys};
+use std::alloc::Allocator;
+use std::fmt;
+
+// The keys of an image that is kept.
+pub(crate) fn write_transmit<A: Allocator, W: fmt::Write>(
+    transmit: &KittyImageTransmit<A>,
+    verbosity: KittyImageVerbosity,
+    f: &mut fmt::Formatter<W>,
+) -> fmt::Result
+    ensures { DisplaysOnOk W.write_str_gives f.old result (Some (keys_text (or_action (written (transmit_keys transmit.now verbosity))))) f.new }
+{
+    let content = &transmit.content;
+    let keys = [
+        Key("I", Number(transmit.image_number)),
+        Key("O", Number(content.offset())),
+        Key("S", Number(content.size())),
+        Key("f", Word(KittyImageFormat::word(transmit.format))),
+        Key("i", Number(transmit.image_id)),
+        Key("m", Word(flag_word(transmit.more_data_follows))),
+        Key("o", Word(transmit.compression.word())),
+        Key("q", Word(verbosity.word())),
+        Key("s", Number(transmit.width)),
+        Key("t", Word(content.medium())),
+        Key("v", Number(transmit.height)),
+    ];
+    write_or_action(&keys, f)
+}
+
+// The keys, or `a=t` where none is written.
+fn write_or_action<W: fmt::Write>(keys: &[Key<'_>], f: &mut fmt::Formatter<W>) -> fmt::Result
+    ensures { DisplaysOnOk W.write_str_gives f.old result (Some (keys_text (or_action (written (map entry keys.now))))) f.new }
+{
+    if is_bare(keys) {
+        return f.write_str("a=t");
+    }
+    write_keys(keys, f)
+}
+
+// The keys of a query.
+pub(crate) fn write_query<A: Allocator, W: fmt::Write>(
+    transmit: &KittyImageTransmit<A>,
+    f: &mut fmt::Formatter<W>,
+) -> fmt::Result
+    ensures { DisplaysOnOk W.write_str_gives f.old result (Some (keys_text (written (query_keys transmit.now)))) f.new }
+{
+    let content = &transmit.content;
+    let keys = [
+        Key("I", Number(transmit.image_number)),
+        Key("O", Number(content.offset())),
+        Key("S", Number(content.size())),
+        Key("a", Word(Some("q"))),
+        Key("f", Word(KittyImageFormat::word(transmit.format))),
+        Key("i", Number(transmit.image_id)),
+        Key("m", Word(flag_word(transmit.more_data_follows))),
+        Key("o", Word(transmit.compression.word())),
+        Key("s", Number(transmit.width)),
+        Key("t", Word(content.medium())),
+        Key("v", Number(transmit.height)),
+    ];
+    write_keys(&keys, f)
+}
+
+// The keys of an image that is kept and shown.
+pub(crate) fn write_shown<A: Allocator, W: fmt::Write>(
+    transmit: &KittyImageTransmit<A>,
+    placement: &KittyImagePlacement,
+    verbosity: KittyImageVerbosity,
+    f: &mut fmt::Formatter<W>,
+) -> fmt::Result
+    ensures { DisplaysOnOk W.write_str_gives f.old result (Some (keys_text (written (shown_keys transmit.now placement.now verbosity)))) f.new }
+{
+    let content = &transmit.content;
+    let keys = [
+        Key("C", Word(flag_word(placement.do_not_move_cursor))),
+        Key("I", Number(transmit.image_number)),
+        Key("O", Number(content.offset())),
+        Key("S", Number(content.size())),
+        Key("U", Word(flag_word(placement.unicode_placeholder))),
+        Key("X", Number(placement.x_offset)),
+        Key("Y", Number(placement.y_offset)),
+        Key("a", Word(Some("T"))),
+        Key("c", Number(placement.columns)),
+        Key("f", Word(KittyImageFormat::word(transmit.format))),
+        Key("h", Number(placement.h)),
+        Key("i", Number(transmit.image_id)),
+        Key("m", Word(flag_word(transmit.more_data_follows))),
+        Key("o", Word(transmit.compression.word())),
+        Key("p", Number(placement.placement_id)),
+        Key("q", Word(verbosity.word())),
+        Key("r", Number(placement.rows)),
+        Key("s", Number(transmit.width)),
+        Key("t", Word(content.medium())),
+        Key("v", Number(transmit.height)),
+        Key("w", Number(placement.w)),
+        Key("x", Number(placement.x)),
+        Key("y", Number(placement.y)),
+        Key("z", Signed(placement.z_index)),
+    ];
+    write_keys(&keys, f)
+}
+
+// The keys of a frame.
+pub(crate) fn write_frame<A: Allocator, W: fmt::Write>(
+    transmit: &KittyImageTransmit<A>,
+    frame: &KittyImageFrame,
+    verbosity: KittyImageVerbosity,
+    f: &mut fmt::Formatter<W>,
+) -> fmt::Result
+    ensures { DisplaysOnOk W.write_str_gives f.old result (Some (keys_text (written (frame_keys transmit.now frame.now verbosity)))) f.new }
+{
+    let content = &transmit.content;
+    let keys = [
+        Key("I", Number(transmit.image_number)),
+        Key("O", Number(content.offset())),
+        Key("S", Number(content.size())),
+        Key("X", Word(frame.composition_mode.word())),
+        Key("Y", Number(frame.background_pixel)),
+        Key("a", Word(Some("f"))),
+        Key("c", Number(frame.base_frame)),
+        Key("f", Word(KittyImageFormat::word(transmit.format))),
+        Key("i", Number(transmit.image_id)),
+        Key("m", Word(flag_word(transmit.more_data_follows))),
+        Key("o", Word(transmit.compression.word())),
+        Key("q", Word(verbosity.word())),
+        Key("r", Number(frame.frame_number)),
+        Key("s", Number(transmit.width)),
+        Key("t", Word(content.medium())),
+        Key("v", Number(transmit.height)),
+        Key("x", Number(frame.x)),
+        Key("y", Number(frame.y)),
+        Key("z", Number(frame.duration_ms)),
+    ];
+    write_keys(&keys, f)
+}

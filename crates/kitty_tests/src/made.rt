@@ -1,0 +1,49 @@
+//! Images that a program makes.
+use esc_below::{Items, Text};
+use esc_kitty::{
+    KittyImage, KittyImageCompression, KittyImageData, KittyImageTransmit, KittyImageVerbosity,
+};
+use std::test::Fail;
+
+// An image of this content alone.
+fn transmit(content: KittyImageData) -> KittyImage {
+    KittyImage::TransmitData {
+        transmit: KittyImageTransmit {
+            format: None,
+            content,
+            width: None,
+            height: None,
+            image_id: None,
+            image_number: None,
+            compression: KittyImageCompression::None,
+            more_data_follows: false,
+        },
+        verbosity: KittyImageVerbosity::Verbose,
+    }
+}
+
+#[test]
+fn without_keys(rt: HostRuntime) -> Result<(), Fail> {
+    let alloc = rt.alloc();
+    let image = transmit(KittyImageData::Direct(Text::from_str(alloc, "AAAA")?));
+    let text = format!(in alloc; "{image}")?;
+    assert_eq!(rt; text.as_str(), "\x1b_Ga=t;AAAA");
+    assert!(rt; KittyImage::parse_apc(alloc, b"Ga=t;AAAA")? == Some(image));
+    Ok(())
+}
+
+#[test]
+fn bytes(rt: HostRuntime) -> Result<(), Fail> {
+    let alloc = rt.alloc();
+    let bytes = Items::from_vec(Vec::from_slice(alloc, b"hell")?);
+    let image = transmit(KittyImageData::DirectBin(bytes));
+    let text = format!(in alloc; "{image}")?;
+    assert_eq!(rt; text.as_str(), "\x1b_Ga=t;aGVsbA==");
+    let told = format!(in alloc; "{image:?}")?;
+    assert_eq!(rt;
+        told.as_str(),
+        "TransmitData { transmit: KittyImageTransmit { format: None, content: DirectBin(4 bytes of data), width: None, height: None, image_id: None, image_number: None, compression: None, more_data_follows: false }, verbosity: Verbose }"
+    );
+    assert!(rt; image.verbosity() == KittyImageVerbosity::Verbose);
+    Ok(())
+}
