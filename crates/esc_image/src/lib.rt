@@ -1,0 +1,21 @@
+//! Images and queries: kitty images, sixel images and termcap queries, each of a crate of its own, under one name.
+#![tactic(auto)]
+
+/// Kitty images: application program commands of kitty's graphics protocol.
+pub mod kitty {
+    pub use esc_kitty::{
+        KittyFrameCompositionMode, KittyImage, KittyImageCompression, KittyImageData,
+        KittyImageDelete, KittyImageFormat, KittyImageFrame, KittyImageFrameCompose,
+        KittyImagePlacement, KittyImageTransmit, KittyImageVerbosity,
+    };
+}
+
+/// Sixel images: device control strings with the final byte `q`.
+pub mod sixel {
+    pub use esc_sixel::{Sixel, SixelBuilder, SixelData, SixelValue};
+}
+
+/// Termcap queries: device control strings with the intermediate `+` and the final byte `q`.
+pub mod tcap {
+    pub use esc_tcap::{GetTcapBuilder, TcapQuery};
+}

@@ -1,0 +1,11 @@
+pub mod Ascii
+pub mod Cut
+pub mod Digits
+pub mod Extents
+pub mod Handed
+pub mod Headers
+pub mod Pieces
+pub mod Runs
+pub mod Steps
+pub mod Written
+pub mod WritesBack

@@ -1,0 +1,5 @@
+use Rattle.esc_sixel.proofs.Handed.{data_is_writable}
+use Rattle.esc_sixel.proofs.laws.data_is_writable.Goals as goal
+
+pub returns : goal.returns
+returns g c = λ ps bs h. data_is_writable ps bs h

@@ -1,0 +1,24 @@
+-- The parameters of a command: what its run of digits and `;` says.
+use Rattle.std.specs.Prelude.{ℕ, ◌+◌, ◌*◌, ◌<◌, ◌≡◌, ◌-◌, ◌==◌, min, if◌then◌else◌, List, [], ◌∷◌, get_or, Option, Some, None, option_map, unwrap_or}
+use Rattle.esc_below.specs.Entries.{held}
+use Rattle.esc_sixel.specs.declared.parameters.Parameters.{Parameters}
+
+-- The numbers of the pieces between `;`, none for an empty piece. The first piece goes on one that began before the run, of which n is
+-- the number, if it had digits.
+abbrev pub numbers_after : Option ℕ → List ℕ → List (Option ℕ)
+numbers_after n [] = n ∷ []
+numbers_after n (b ∷ bs) = if b == 0x3b then n ∷ numbers_after None bs else numbers_after (Some (10 * unwrap_or n 0 + (b - 0x30))) bs
+
+-- parameter k of a run, the first being 0, at most the greatest number of 64 bits with a sign; none where it is missing or empty
+abbrev pub param : List ℕ → ℕ → Option ℕ
+param run k = option_map held (get_or (numbers_after None run) k None)
+
+-- how many `;` it has
+abbrev pub separators : List ℕ → ℕ
+separators [] = 0
+separators (b ∷ bs) = if b == 0x3b then separators bs + 1 else separators bs
+
+-- the first five parameters of the run, and how many `;` it has, up to five
+pub record Keeps (p : Parameters) (run : List ℕ) : Type 0 where
+  pub values : (k : ℕ) → k < 5 → get_or p.values k None ≡ param run k
+  pub count : p.count ≡ min (separators run) 5

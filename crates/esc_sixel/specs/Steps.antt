@@ -1,0 +1,87 @@
+-- One byte more of sixel data: the items that no later byte changes, and the command that may go on. Only the builder is stated by it;
+-- what data means is in Items and Meaning.
+use Rattle.std.specs.Prelude.{ℕ, ℤ, ◌≡◌, if◌then◌else◌, List, [], ◌∷◌, ◌++◌, Option, Some, None, option_map, unwrap_or, option_to_list}
+use Rattle.esc_sixel.specs.Classes.{class_of}
+use Rattle.esc_sixel.specs.Items.{Item, OfReturn, OfLine, OfPixels, OfRepeat, OfColor, OfRaster, OfJunk, in_run}
+use Rattle.esc_sixel.specs.Meaning.{sixel_of, raster_pan, raster_pad, raster_sizes, is_oversize, gives}
+use Rattle.esc_sixel.specs.Runs.{Keeps}
+use Rattle.esc_sixel.specs.declared.builder.SixelBuilder.{SixelBuilder}
+use Rattle.esc_sixel.specs.declared.parameters.Parameters.{Parameters}
+use Rattle.esc_sixel.specs.declared.sixel.Sixel.{Sixel}
+use Rattle.esc_sixel.specs.declared.sixel_data.SixelData.{SixelData}
+use Rattle.esc_sixel.specs.declared.class.Class.{Class}
+use Rattle.esc_sixel.specs.declared.class.Class.TheVariants.{Return, Line, Pixels, Introduces}
+use Rattle.esc_sixel.specs.declared.introducer.Introducer.{Introducer}
+use Rattle.esc_sixel.specs.declared.introducer.Introducer.TheVariants as introducer
+
+-- no command, or one with its run so far, that may go on
+pub data Open : Type 0 where
+  Closed : Open
+  In : Introducer → List ℕ → Open
+
+-- the item of a command that ends before a byte that it does not take
+abbrev pub ended : Open → List Item
+ended Closed = []
+ended (In introducer.Repeat r) = OfRepeat r None ∷ []
+ended (In introducer.Color r) = OfColor r ∷ []
+ended (In introducer.Raster r) = OfRaster r ∷ []
+
+-- the item of a byte outside a command, which no later byte changes
+abbrev pub alone : Class → ℕ → List Item
+alone Return b = OfReturn ∷ []
+alone Line b = OfLine ∷ []
+alone (Pixels v) b = OfPixels v ∷ []
+alone (Introduces m) b = []
+alone c b = OfJunk b ∷ []
+
+-- the items that a byte closes, and the command that is open after it
+abbrev pub closed_by : Open → Class → ℕ → List Item
+closed_by Closed c b = alone c b
+closed_by (In introducer.Repeat r) (Pixels v) b = OfRepeat r (Some v) ∷ []
+closed_by (In m r) c b = if in_run c then [] else ended (In m r) ++ alone c b
+
+abbrev pub opened : Class → Open
+opened (Introduces m) = In m []
+opened c = Closed
+
+abbrev pub open_by : Open → Class → ℕ → Open
+open_by Closed c b = opened c
+open_by (In m r) c b = if in_run c then In m (r ++ b ∷ []) else opened c
+
+-- the same of bytes
+abbrev pub closed_of : Open → List ℕ → List Item
+closed_of o [] = []
+closed_of o (b ∷ bs) = closed_by o (class_of b) b ++ closed_of (open_by o (class_of b) b) bs
+
+abbrev pub open_of : Open → List ℕ → Open
+open_of o [] = o
+open_of o (b ∷ bs) = open_of (open_by o (class_of b) b) bs
+
+-- the image with one more item, or with more
+abbrev pub with_item : {A : Type 0} → Sixel A → Item → Sixel A
+with_item s i = record {
+  pan = unwrap_or (raster_pan i) s.pan;
+  pad = unwrap_or (raster_pad i) s.pad;
+  pixel_width = unwrap_or (option_map (λ (o : Option (ℕ × ℕ)). option_map (λ (s : ℕ × ℕ). s.0) o) (raster_sizes i)) s.pixel_width;
+  pixel_height = unwrap_or (option_map (λ (o : Option (ℕ × ℕ)). option_map (λ (s : ℕ × ℕ). s.1) o) (raster_sizes i)) s.pixel_height;
+  background_is_transparent = s.background_is_transparent;
+  horizontal_grid_size = s.horizontal_grid_size;
+  content = if is_oversize i then [] else s.content ++ gives i;
+}
+
+abbrev pub with_items : {A : Type 0} → Sixel A → List Item → Sixel A
+with_items s [] = s
+with_items s (i ∷ is) = with_items (with_item s i) is
+
+-- the image with one more piece of data, where there is one
+abbrev pub add_to : {A : Type 0} → Sixel A → Option SixelData → Sixel A
+add_to s next = record s { content = s.content ++ option_to_list next }
+
+-- the fields of a builder hold the command that is open
+abbrev pub HoldsOpen : Open → Option Introducer → Parameters → Type 0
+HoldsOpen Closed i p = i ≡ None
+HoldsOpen (In m r) i p = (i ≡ Some m) × Keeps p r
+
+-- a builder with these parameters that was pushed these bytes
+unfoldable pub LeadsTo : {A : Type 0} → List ℤ → List ℕ → SixelBuilder A → Type 0
+LeadsTo ps s b = (b.sixel ≡ sixel_of ps (closed_of Closed s)) × HoldsOpen (open_of Closed s) b.introducer b.parameters

@@ -1,0 +1,274 @@
+//! How a sixel string is read, byte by byte.
+ghost use Rattle.std.specs.Prelude.{◌≡◌, ℕ, ℤ, List, [], ◌∷◌, ◌++◌, OnOk, OnErr, Some, None};
+ghost use Rattle.std.specs.List.{slice_get};
+ghost use Rattle.esc_sixel.specs.Classes.{class_of};
+ghost use Rattle.esc_sixel.specs.Items.{items, OfRaster, OfColor};
+ghost use Rattle.esc_sixel.specs.Meaning.{sixel_of, header_pan, is_one};
+ghost use Rattle.esc_sixel.specs.Runs.{Keeps};
+ghost use Rattle.esc_sixel.specs.declared.class.Class.TheVariants.{Pixels};
+ghost use Rattle.esc_sixel.specs.Steps.{add_to, ended, alone, LeadsTo, HoldsOpen, In, closed_by, open_by, opened, with_item, with_items};
+
+use crate::class::{Class, classify};
+use crate::commands::{color, repeat, signed, sizes};
+use crate::introducer::Introducer;
+use crate::parameters::Parameters;
+use crate::sixel::Sixel;
+use crate::sixel_data::SixelData;
+use esc_below::Items;
+use std::alloc::{AllocError, Allocator, Global};
+
+/// Reads a sixel string: the parameters of its header, and then its data byte by byte.
+///
+/// In the data `$` is a carriage return, `-` a new line, and 3F to 7E six pixels. `!`, `#` and `"` begin a command, which goes
+/// on as digits and `;` follow, its parameters, of which five count. Any other byte, and digits and `;` outside a command, are
+/// dropped. Numbers saturate.
+///
+/// - `!` with six pixels directly after it repeats them, once where the count is missing; else it gives nothing.
+/// - `#` with four `;` or more gives a colour to a number: in hue, lightness and saturation where the second parameter is 1, else
+///   in percentages of red, green and blue; 0 where one is missing. With fewer it selects a colour.
+/// - `"` sets pan, 2 where it is missing, and pad, 1 where it is. With three `;` or more it sets both sizes too; where one is
+///   missing or past `u32`, or the product is over 100,000,000, there are no sizes, and the data so far is dropped.
+#[derive(Drop)]
+pub struct SixelBuilder<A: Allocator = Global> {
+    /// The image: what was pushed means it right after a `finish` that succeeded.
+    pub sixel: Sixel<A>,
+    introducer: Option<Introducer>,
+    parameters: Parameters,
+}
+
+// The pan that the first parameter of a header means.
+fn pan_of(params: &[i64]) -> i64
+    ensures { result ≡ header_pan params.now }
+{
+    let Some((first, _)) = params.split_first() else {
+        return 2;
+    };
+    match *first {
+        2 => 5,
+        3 | 4 => 3,
+        7 | 8 | 9 => 1,
+        _ => 2,
+    }
+}
+
+// Whether the second parameter of a header is 1.
+fn is_transparent(params: &[i64]) -> bool
+    ensures { result ≡ is_one (slice_get params.now 1) }
+{
+    match params.get(1) {
+        Some(1) => true,
+        _ => false,
+    }
+}
+
+// The third parameter of a header.
+fn grid_of(params: &[i64]) -> Option<i64>
+    ensures { result ≡ slice_get params.now 2 }
+{
+    params.get(2).copied()
+}
+
+impl<A: Allocator> SixelBuilder<A> {
+    /// A builder of an image with these parameters of its header, before any data. Takes no memory.
+    ///
+    /// The first means pan: 7, 8 and 9 mean 1; 0, 1, 5 and 6 mean 2; 3 and 4 mean 3; 2 means 5; any other, or none, 2. Where the second is 1
+    /// the background is transparent. The third is the horizontal grid size.
+    #[tactic(auto, unfolding(crate::specs::Steps::LeadsTo))]
+    pub fn new(alloc: A, params: &[i64]) -> SixelBuilder<A>
+        ensures { LeadsTo params.now [] result }
+    {
+        SixelBuilder {
+            sixel: Sixel {
+                pan: pan_of(params),
+                pad: 1,
+                pixel_width: None,
+                pixel_height: None,
+                background_is_transparent: is_transparent(params),
+                horizontal_grid_size: grid_of(params),
+                content: Items::new(alloc),
+            },
+            introducer: None,
+            parameters: Parameters::new(),
+        }
+    }
+
+    /// One more byte of the data. The error is that memory was refused, and the builder stays as it was.
+    pub fn push(&mut self, byte: u8) -> Result<(), AllocError>
+        ensures ok { (ps : List ℤ) (s : List ℕ) → LeadsTo ps s self.old → OnOk result (LeadsTo ps (s ++ byte ∷ []) self.new) }
+        ensures err { OnErr result (self.new ≡ self.old) }
+    {
+        let class = classify(byte);
+        match self.introducer {
+            None => self.push_alone(class),
+            Some(introducer) => self.push_after(introducer, class, byte),
+        }
+    }
+
+    /// The data ends here, and a command with it: the field `sixel` is the image that the parameters and all bytes mean.
+    /// To bytes that are pushed later, this counts as a byte that is dropped. The error is that memory was refused, and the
+    /// builder stays as it was.
+    pub fn finish(&mut self) -> Result<(), AllocError>
+        ensures ok { (ps : List ℤ) (s : List ℕ) → LeadsTo ps s self.old
+            → OnOk result (LeadsTo ps (s ++ 0 ∷ []) self.new × (self.new.sixel ≡ sixel_of ps (items s))) }
+        ensures err { OnErr result (self.new ≡ self.old) }
+    {
+        self.push(0)
+    }
+
+    // A `#` ends; `next` is what the byte after it gives.
+    #[tactic(auto, using(std::proofs::Common::append_assoc))]
+    fn end_color(&mut self, next: Option<SixelData>) -> Result<(), AllocError>
+        ensures ok { (r : List ℕ) → Keeps self.old.parameters r
+            → OnOk result (self.new.sixel ≡ add_to (with_item self.old.sixel (OfColor r)) next) }
+        ensures err { OnErr result (self.new ≡ self.old) }
+    {
+        let color = color(&self.parameters);
+        self.sixel.content.push_two(color, next)
+    }
+
+    // A `"` ends; `next` is what the byte after it gives.
+    fn end_raster(&mut self, next: Option<SixelData>) -> Result<(), AllocError>
+        ensures ok { (r : List ℕ) → Keeps self.old.parameters r
+            → OnOk result (self.new.sixel ≡ add_to (with_item self.old.sixel (OfRaster r)) next) }
+        ensures err { OnErr result (self.new ≡ self.old) }
+    {
+        let pan = signed(&self.parameters, 0, 2);
+        let pad = signed(&self.parameters, 1, 1);
+        if !self.parameters.has_separators(3) {
+            self.sixel.content.push_optional(next)?;
+            self.sixel.pan = pan;
+            self.sixel.pad = pad;
+            return Ok(());
+        }
+        match sizes(&self.parameters) {
+            Some((width, height)) => {
+                self.sixel.content.push_optional(next)?;
+                self.sixel.pan = pan;
+                self.sixel.pad = pad;
+                self.sixel.pixel_width = Some(width);
+                self.sixel.pixel_height = Some(height);
+                Ok(())
+            }
+            None => {
+                self.sixel.content.restart(next)?;
+                self.sixel.pan = pan;
+                self.sixel.pad = pad;
+                self.sixel.pixel_width = None;
+                self.sixel.pixel_height = None;
+                Ok(())
+            }
+        }
+    }
+
+    // A command ends; `next` is what the byte after it gives.
+    fn end_command(
+        &mut self,
+        introducer: Introducer,
+        next: Option<SixelData>,
+    ) -> Result<(), AllocError>
+        ensures ok { (r : List ℕ) → Keeps self.old.parameters r
+            → OnOk result (self.new.sixel ≡ add_to (with_items self.old.sixel (ended (In introducer r))) next) }
+        ensures err { OnErr result (self.new ≡ self.old) }
+    {
+        match introducer {
+            Introducer::Repeat => self.sixel.content.push_optional(next),
+            Introducer::Color => self.end_color(next),
+            Introducer::Raster => self.end_raster(next),
+        }
+    }
+
+    // A command ends, before a byte that begins none.
+    fn end(&mut self, introducer: Introducer, next: Option<SixelData>) -> Result<(), AllocError>
+        ensures ok { (r : List ℕ) → Keeps self.old.parameters r
+            → OnOk result ((self.new.sixel ≡ add_to (with_items self.old.sixel (ended (In introducer r))) next)
+            × (self.new.introducer ≡ None)) }
+        ensures err { OnErr result (self.new ≡ self.old) }
+    {
+        self.end_command(introducer, next)?;
+        self.introducer = None;
+        Ok(())
+    }
+
+    // A command ends, and another begins.
+    fn end_and_begin(&mut self, introducer: Introducer, begun: Introducer) -> Result<(), AllocError>
+        ensures ok { (r : List ℕ) → Keeps self.old.parameters r
+            → OnOk result ((self.new.sixel ≡ add_to (with_items self.old.sixel (ended (In introducer r))) None)
+            × HoldsOpen (In begun []) self.new.introducer self.new.parameters) }
+        ensures err { OnErr result (self.new ≡ self.old) }
+    {
+        self.end_command(introducer, None)?;
+        self.introducer = Some(begun);
+        self.parameters = Parameters::new();
+        Ok(())
+    }
+
+    // A command ends, before six pixels.
+    fn end_before_pixels(&mut self, introducer: Introducer, value: u8) -> Result<(), AllocError>
+        ensures ok { (r : List ℕ) (b : ℕ) → Keeps self.old.parameters r
+            → OnOk result ((self.new.sixel ≡ with_items self.old.sixel (closed_by (In introducer r) (Pixels value) b))
+            × (self.new.introducer ≡ None)) }
+        ensures err { OnErr result (self.new ≡ self.old) }
+    {
+        match introducer {
+            Introducer::Repeat => {
+                self.sixel.content.push(repeat(&self.parameters, value))?;
+                self.introducer = None;
+                Ok(())
+            }
+            Introducer::Color => self.end(introducer, Some(SixelData::Data(value))),
+            Introducer::Raster => self.end(introducer, Some(SixelData::Data(value))),
+        }
+    }
+
+    // A byte within or after a command.
+    fn push_after(
+        &mut self,
+        introducer: Introducer,
+        class: Class,
+        byte: u8,
+    ) -> Result<(), AllocError>
+        requires { class ≡ class_of byte }
+        ensures ok { (r : List ℕ) → HoldsOpen (In introducer r) self.old.introducer self.old.parameters
+            → OnOk result ((self.new.sixel ≡ with_items self.old.sixel (closed_by (In introducer r) class byte))
+            × HoldsOpen (open_by (In introducer r) class byte) self.new.introducer self.new.parameters) }
+        ensures err { OnErr result (self.new ≡ self.old) }
+    {
+        match class {
+            Class::Digit(digit) => {
+                self.parameters.digit(digit);
+                Ok(())
+            }
+            Class::Separator => {
+                self.parameters.separator();
+                Ok(())
+            }
+            Class::Pixels(value) => self.end_before_pixels(introducer, value),
+            Class::Return => self.end(introducer, Some(SixelData::CarriageReturn)),
+            Class::Line => self.end(introducer, Some(SixelData::NewLine)),
+            Class::Introduces(begun) => self.end_and_begin(introducer, begun),
+            Class::Junk => self.end(introducer, None),
+        }
+    }
+
+    // A byte outside a command.
+    fn push_alone(&mut self, class: Class) -> Result<(), AllocError>
+        requires { self.old.introducer ≡ None }
+        ensures ok { (b : ℕ) → OnOk result ((self.new.sixel ≡ with_items self.old.sixel (alone class b))
+            × HoldsOpen (opened class) self.new.introducer self.new.parameters) }
+        ensures err { OnErr result (self.new ≡ self.old) }
+    {
+        match class {
+            Class::Return => self.sixel.content.push(SixelData::CarriageReturn),
+            Class::Line => self.sixel.content.push(SixelData::NewLine),
+            Class::Pixels(value) => self.sixel.content.push(SixelData::Data(value)),
+            Class::Introduces(begun) => {
+                self.introducer = Some(begun);
+                self.parameters = Parameters::new();
+                Ok(())
+            }
+            Class::Digit(_) => Ok(()),
+            Class::Separator => Ok(()),
+            Class::Junk => Ok(()),
+        }
+    }
+}

@@ -1,0 +1,42 @@
+//! What a byte is to sixel data.
+ghost use Rattle.std.specs.Prelude.{◌≡◌};
+ghost use Rattle.esc_sixel.specs.Classes.{class_of};
+
+use crate::introducer::Introducer;
+
+// What a byte is.
+#[derive(Clone, Copy, PartialEq, Eq)]
+pub(crate) enum Class {
+    // `$`.
+    Return,
+    // `-`.
+    Line,
+    // 3F to 7E, six pixels as their number.
+    Pixels(u8),
+    // `!`, `#` or `"`.
+    Introduces(Introducer),
+    // `0` to `9`, as its value.
+    Digit(u8),
+    // `;`.
+    Separator,
+    // Any other.
+    Junk,
+}
+
+// What this byte is.
+#[tactic(auto, unfolding(crate::specs::Classes::class_of))]
+pub(crate) fn classify(b: u8) -> Class
+    ensures { result ≡ class_of b }
+{
+    match b {
+        b'$' => Class::Return,
+        b'-' => Class::Line,
+        b'!' => Class::Introduces(Introducer::Repeat),
+        b'#' => Class::Introduces(Introducer::Color),
+        b'"' => Class::Introduces(Introducer::Raster),
+        b';' => Class::Separator,
+        b'0'..=b'9' => Class::Digit(b - b'0'),
+        0x3f..=0x7e => Class::Pixels(b - 0x3f),
+        _ => Class::Junk,
+    }
+}

@@ -1,0 +1,103 @@
+//! What the parameters of a command say.
+ghost use Rattle.std.specs.Prelude.{◌<◌, ◌≡◌, ℕ, List, min, pos, unwrap_or};
+ghost use Rattle.esc_sixel.specs.Meaning.{number, percent, size_of, color_of, repeat_of, sizes_of};
+ghost use Rattle.esc_sixel.specs.Runs.{Keeps, param};
+
+use crate::parameters::Parameters;
+use crate::sixel_data::{SixelData, SixelValue};
+use esc_below::RgbColor;
+
+// Parameter `k`, 0 where it is missing, at most `u16::MAX`.
+fn short(parameters: &Parameters, k: usize) -> u16
+    requires { k < 5 }
+    ensures { (r : List ℕ) → Keeps parameters.now r → result ≡ min (number r k) 65535 }
+{
+    parameters.get(k).unwrap_or(0).min(65535) as u16
+}
+
+// Parameter `k`, 0 where it is missing, at most `u8::MAX`.
+fn byte(parameters: &Parameters, k: usize) -> u8
+    requires { k < 5 }
+    ensures { (r : List ℕ) → Keeps parameters.now r → result ≡ min (number r k) 255 }
+{
+    parameters.get(k).unwrap_or(0).min(255) as u8
+}
+
+// The channel of a colour that parameter `k` gives as a percentage.
+fn channel(parameters: &Parameters, k: usize) -> u8
+    requires { k < 5 }
+    ensures { (r : List ℕ) → Keeps parameters.now r → result ≡ percent (number r k) }
+{
+    let percent = parameters.get(k).unwrap_or(0).min(100);
+    (255 * percent / 100) as u8
+}
+
+// What a `#` with these parameters gives.
+pub(crate) fn color(parameters: &Parameters) -> SixelData
+    ensures { (r : List ℕ) → Keeps parameters.now r → result ≡ color_of r }
+{
+    if !parameters.has_separators(4) {
+        return SixelData::SelectColorMapEntry(short(parameters, 0));
+    }
+    if parameters.get(1) == Some(1) {
+        return SixelData::DefineColorMapHSL {
+            color_number: short(parameters, 0),
+            hue_angle: short(parameters, 2),
+            lightness: byte(parameters, 3),
+            saturation: byte(parameters, 4),
+        };
+    }
+    let red = channel(parameters, 2);
+    let green = channel(parameters, 3);
+    let blue = channel(parameters, 4);
+    SixelData::DefineColorMapRGB {
+        color_number: short(parameters, 0),
+        rgb: RgbColor::new_8bpc(red, green, blue),
+    }
+}
+
+// What a `!` with these parameters gives, before six pixels.
+pub(crate) fn repeat(parameters: &Parameters, value: SixelValue) -> SixelData
+    ensures { (r : List ℕ) → Keeps parameters.now r → result ≡ repeat_of r value }
+{
+    SixelData::Repeat {
+        repeat_count: parameters.get(0).unwrap_or(1).min(4294967295) as u32,
+        content: value,
+    }
+}
+
+// Parameter `k`, where it is there and has 32 bits.
+fn size(parameters: &Parameters, k: usize) -> Option<u32>
+    requires { k < 5 }
+    ensures { (r : List ℕ) → Keeps parameters.now r → result ≡ size_of r k }
+{
+    let number = parameters.get(k)?;
+    if number >= 4294967296 {
+        return None;
+    }
+    Some(number as u32)
+}
+
+// The width and the height of raster attributes, where both have 32 bits and the image is not oversize.
+pub(crate) fn sizes(parameters: &Parameters) -> Option<(u32, u32)>
+    ensures { (r : List ℕ) → Keeps parameters.now r → result ≡ sizes_of r }
+{
+    let width = size(parameters, 2)?;
+    let height = size(parameters, 3)?;
+    if u64::from(width) * u64::from(height) > 100_000_000 {
+        return None;
+    }
+    Some((width, height))
+}
+
+// Parameter `k`, or `default` where it is missing.
+pub(crate) fn signed(parameters: &Parameters, k: usize, default: u64) -> i64
+    requires place { k < 5 }
+    requires small { default < 10 }
+    ensures { (r : List ℕ) → Keeps parameters.now r → result ≡ pos (unwrap_or (param r k) default) }
+{
+    parameters
+        .get(k)
+        .unwrap_or(default)
+        .min(0x7fff_ffff_ffff_ffff) as i64
+}

@@ -1,0 +1,12 @@
+//! What begins a command.
+
+// A byte that begins a command, whose parameters follow it.
+#[derive(Clone, Copy, PartialEq, Eq)]
+pub(crate) enum Introducer {
+    // `!`, the graphics repeat introducer.
+    Repeat,
+    // `#`, the colour introducer.
+    Color,
+    // `"`, raster attributes.
+    Raster,
+}

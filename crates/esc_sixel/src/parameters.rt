@@ -1,0 +1,73 @@
+//! The parameters of a command.
+ghost use Rattle.std.specs.Prelude.{◌≡◌, ◌<◌, ◌≤◌, ◌∷◌, [], ◌++◌, ◌+◌, ◌*◌, ℕ, List, nat_le};
+ghost use Rattle.esc_sixel.specs.Runs.{Keeps, param, separators};
+ghost use Rattle.esc_below.specs.Entries.{held};
+
+// The first five parameters of a run of digits and `;`. Takes no memory.
+#[derive(Clone, Copy)]
+pub(crate) struct Parameters {
+    // The numbers, at most `i64::MAX`; none where no digit has come.
+    pub(crate) values: [Option<u64>; 5],
+    // How many `;` have come, at most five.
+    pub(crate) count: usize,
+}
+
+impl Parameters {
+    // Those of the empty run.
+    pub(crate) fn new() -> Parameters
+        ensures { Keeps result [] }
+    {
+        Parameters {
+            values: [None; 5],
+            count: 0,
+        }
+    }
+
+    // One more `;`.
+    pub(crate) fn separator(&mut self)
+        ensures { (run : List ℕ) → Keeps self.old run → Keeps self.new (run ++ 0x3b ∷ []) }
+    {
+        if self.count < 5 {
+            self.count += 1;
+        }
+    }
+
+    // One more digit, given as its value.
+    pub(crate) fn digit(&mut self, digit: u8)
+        requires { digit < 10 }
+        ensures { (run : List ℕ) → Keeps self.old run → Keeps self.new (run ++ (digit + 0x30) ∷ []) }
+    {
+        if self.count < 5 {
+            let number = with_digit(self.values[self.count].unwrap_or(0), digit);
+            self.values[self.count] = Some(number);
+        }
+    }
+
+    // Parameter `k`, the first being 0; none where it is missing or empty.
+    pub(crate) fn get(&self, k: usize) -> Option<u64>
+        requires { k < 5 }
+        ensures { (run : List ℕ) → Keeps self.now run → result ≡ param run k }
+    {
+        self.values[k]
+    }
+
+    // Whether there are `n` or more `;`.
+    pub(crate) fn has_separators(&self, n: usize) -> bool
+        requires { n ≤ 5 }
+        ensures { (run : List ℕ) → Keeps self.now run → result ≡ nat_le n (separators run) }
+    {
+        n <= self.count
+    }
+}
+
+// Ten times a number and a digit, at most `i64::MAX`.
+fn with_digit(number: u64, digit: u8) -> u64
+    requires { digit < 10 }
+    ensures { number ≤ 0x7fff_ffff_ffff_ffff → result ≡ held (10 * number + digit) }
+{
+    if number > (0x7fff_ffff_ffff_ffff - u64::from(digit)) / 10 {
+        0x7fff_ffff_ffff_ffff
+    } else {
+        number * 10 + u64::from(digit)
+    }
+}

@@ -1,0 +1,85 @@
+//! What sixel data consists of.
+ghost use Rattle.esc_sixel.specs.Texts.{data_output};
+
+use crate::write_data::{Percent, write_pixels};
+use esc_below::RgbColor;
+use std::fmt;
+
+/// Six pixels, one above the other, as the bits of a number from 0 to 63. The lowest bit is the top pixel.
+pub type SixelValue = u8;
+
+/// A piece of sixel data.
+#[derive(Clone, Copy, Debug, PartialEq, Eq)]
+pub enum SixelData {
+    /// Six pixels, a byte from `?` to `~`.
+    Data(SixelValue),
+    /// Six pixels so many times, `!` with the count before them.
+    Repeat {
+        /// How many times.
+        repeat_count: u32,
+        /// The pixels.
+        content: SixelValue,
+    },
+    /// `#` with coordinate system 2: gives a colour to a number, and selects it.
+    DefineColorMapRGB {
+        /// The number.
+        color_number: u16,
+        /// The colour. In the text each channel is a percentage.
+        rgb: RgbColor,
+    },
+    /// `#` with coordinate system 1: gives a colour to a number, and selects it.
+    DefineColorMapHSL {
+        /// The number.
+        color_number: u16,
+        /// The angle of the hue, from 0 to 360 degrees. Larger ones are kept as they are.
+        hue_angle: u16,
+        /// The lightness, from 0 to 100. Larger ones are kept as they are.
+        lightness: u8,
+        /// The saturation, from 0 to 100. Larger ones are kept as they are.
+        saturation: u8,
+    },
+    /// `#`: selects the colour of this number.
+    SelectColorMapEntry(u16),
+    /// `$`: back to the start of the line, so that what follows is drawn over it.
+    CarriageReturn,
+    /// `-`: to the start of the next band of six lines.
+    NewLine,
+}
+
+/// Writes the data as it comes in a sixel string. A channel of a colour is written as the least percentage that is read
+/// as no less.
+///
+/// Takes no memory. Errs where the formatter's writer errs, and where a value is over 63; then it has written no
+/// sixel.
+impl fmt::Display for SixelData {
+    ghost output = { data_output };
+
+    fn fmt<W: fmt::Write>(&self, f: &mut fmt::Formatter<W>) -> fmt::Result {
+        match self {
+            SixelData::Data(value) => write_pixels(*value, f),
+            SixelData::Repeat {
+                repeat_count,
+                content,
+            } => {
+                write!(f, "!{repeat_count}")?;
+                write_pixels(*content, f)
+            }
+            SixelData::DefineColorMapRGB { color_number, rgb } => {
+                let (red, green, blue) = rgb.to_tuple_rgb8();
+                let red = Percent(red);
+                let green = Percent(green);
+                let blue = Percent(blue);
+                write!(f, "#{color_number};2;{red};{green};{blue}")
+            }
+            SixelData::DefineColorMapHSL {
+                color_number,
+                hue_angle,
+                lightness,
+                saturation,
+            } => write!(f, "#{color_number};1;{hue_angle};{lightness};{saturation}"),
+            SixelData::SelectColorMapEntry(number) => write!(f, "#{number}"),
+            SixelData::CarriageReturn => f.write_str("$"),
+            SixelData::NewLine => f.write_str("-"),
+        }
+    }
+}

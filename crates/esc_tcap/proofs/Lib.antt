@@ -1,0 +1,2 @@
+pub mod LossyTexts
+pub mod ReadsBack
