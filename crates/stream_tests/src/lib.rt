@@ -38,4 +38,6 @@ mod row;
 #[cfg(test)]
 mod streams;
 #[cfg(test)]
+mod sweeps;
+#[cfg(test)]
 mod texts;

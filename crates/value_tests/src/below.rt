@@ -1,11 +1,23 @@
 //! Texts, lists, base64 and cuts.
-use crate::told::{check, is_told};
+use crate::told::{check, is_shown, is_told};
 use esc_below::base64_text::{Encoded, read_base64, read_base64_text};
 use esc_below::cut::{cut, key_and_value};
 use esc_below::scalar::{text_in, text_of};
-use esc_below::{CsiParam, Error, Items, Text};
+use esc_below::{CsiParam, Error, Items, RgbColor, Text};
 use std::alloc::{AllocError, Global};
 use std::test::Fail;
+
+// Texts, and their Debug texts.
+static TEXTS: [(&str, &str); 3] = [("", "\"\""), ("h", "\"h\""), ("h\u{e9}", "\"h\u{e9}\"")];
+
+// The text, written a character at a time.
+fn pushed(alloc: Global, want: &str) -> Result<Text, AllocError> {
+    let mut text = Text::new(alloc);
+    for c in want.chars() {
+        text.push(c)?;
+    }
+    Ok(text)
+}
 
 // Whether a text is this one, in each way that it is seen.
 fn is_text(text: &Text, want: &str) -> bool {
@@ -17,28 +29,26 @@ fn is_text(text: &Text, want: &str) -> bool {
 
 #[test]
 fn texts(rt: HostRuntime) -> Result<(), Fail> {
-    let mut text = Text::from_str(rt.alloc(), "h")?;
-    text.push('\u{e9}')?;
-    assert!(rt; is_text(&text, "h\u{e9}"));
-    let shown = format!(in rt.alloc(); "{text} {text:?}")?;
-    assert_eq!(rt; shown.as_str(), "h\u{e9} \"h\u{e9}\"");
+    for (want, told) in &TEXTS {
+        let text = pushed(rt.alloc(), want)?;
+        check(
+            &rt,
+            is_text(&text, want) && is_told(rt.alloc(), &text, told)?,
+            told,
+        );
+        let string = String::from(Text::from_str(rt.alloc(), want)?);
+        check(
+            &rt,
+            string.as_str() == *want && Text::from(string) == text,
+            told,
+        );
+        check(&rt, is_shown(rt.alloc(), &text, want)?, told);
+    }
     Ok(())
 }
 
-#[test]
-fn empty_texts(rt: HostRuntime) {
-    assert!(rt; is_text(&Text::new(rt.alloc()), ""));
-}
-
-#[test]
-fn texts_of_strings(rt: HostRuntime) -> Result<(), Fail> {
-    let string = String::from(Text::from_str(rt.alloc(), "h\u{e9}")?);
-    assert_eq!(rt; string.as_str(), "h\u{e9}");
-    let text = Text::from(string);
-    assert!(rt; is_text(&text, "h\u{e9}"));
-    assert!(rt; text == Text::from_str(rt.alloc(), "h\u{e9}")?);
-    Ok(())
-}
+// Bytes, their sum, and the Debug text of their list.
+static LISTS: [(&[u8], u8, &str); 3] = [(&[], 0, "[]"), (&[5], 5, "[5]"), (&[3, 4], 7, "[3, 4]")];
 
 // Whether a list is this one, in each way that it is seen; `sum` is that of its items.
 fn is_list(items: &Items<u8>, want: &[u8], sum: u8) -> bool {
@@ -54,83 +64,83 @@ fn is_list(items: &Items<u8>, want: &[u8], sum: u8) -> bool {
 
 #[test]
 fn lists(rt: HostRuntime) -> Result<(), Fail> {
-    let items = Items::from([3u8, 4].to_vec(rt.alloc())?);
-    assert!(rt; is_list(&items, &[3, 4], 7));
-    assert!(rt; is_told(rt.alloc(), &items, "[3, 4]")?);
-    assert!(rt; items == Items::from_vec([3u8, 4].to_vec(rt.alloc())?));
-    assert_eq!(rt; items.into_vec().len(), 2);
+    for (want, sum, told) in &LISTS {
+        let items = Items::from(want.to_vec(rt.alloc())?);
+        check(
+            &rt,
+            is_list(&items, want, *sum) && is_told(rt.alloc(), &items, told)?,
+            told,
+        );
+        check(
+            &rt,
+            Items::from_vec(want.to_vec(rt.alloc())?) == items,
+            told,
+        );
+        check(&rt, items.into_vec().as_slice() == *want, told);
+    }
+    assert!(rt; Items::<u8>::new(rt.alloc()).is_empty());
     Ok(())
 }
 
 #[test]
-fn empty_lists(rt: HostRuntime) {
-    assert!(rt; is_list(&Items::new(rt.alloc()), &[], 0));
-}
-
-#[test]
-fn errors(rt: HostRuntime) -> Result<(), Fail> {
-    assert_eq!(rt; Error::from(AllocError), Error::Memory(AllocError));
+fn small_values(rt: HostRuntime) -> Result<(), Fail> {
+    assert!(rt; RgbColor::new_8bpc(1, 20, 255).to_tuple_rgb8() == (1, 20, 255));
+    assert!(rt; Error::from(AllocError) == Error::Memory(AllocError));
     assert!(rt; is_told(rt.alloc(), &CsiParam::Integer(3), "Integer(3)")?);
     Ok(())
 }
 
-// Whether the bytes are read as this, as a text that is borrowed and as one that is owned.
-fn is_utf8(alloc: Global, bytes: &[u8], told: &str) -> Result<bool, AllocError> {
-    let owned = text_of(Vec::from_slice(alloc, bytes)?);
-    Ok(is_told(alloc, &text_in(bytes), told)? && is_told(alloc, &owned, told)?)
-}
+// Bytes, and the text that they are, where they are one.
+static UTF8: [(&[u8], Option<&str>); 3] = [
+    (b"", Some("")),
+    (b"h\xc3\xa9", Some("h\u{e9}")),
+    (b"\xc3", None),
+];
 
 #[test]
 fn utf8(rt: HostRuntime) -> Result<(), Fail> {
-    assert!(rt; is_utf8(rt.alloc(), b"h\xc3\xa9", "Some(\"h\u{e9}\")")?);
-    assert!(rt; is_utf8(rt.alloc(), b"\xc3", "None")?);
-    Ok(())
-}
-
-// A base64 text, and what it is read as: bytes and a text.
-static BASE64: [(&str, &str, &str); 4] = [
-    ("aGk=", "Some([104, 105])", "Some(\"hi\")"),
-    // The bits behind the last byte may be any.
-    ("aGl=", "Some([104, 105])", "Some(\"hi\")"),
-    ("aGk", "None", "None"),
-    ("//8=", "Some([255, 255])", "None"),
-];
-
-// Whether the base64 text is read so.
-fn is_base64(alloc: Global, text: &str, bytes: &str, told: &str) -> Result<bool, AllocError> {
-    let read = read_base64(alloc, text.as_bytes())?;
-    let read_text = read_base64_text(alloc, text.as_bytes())?;
-    Ok(is_told(alloc, &read, bytes)? && is_told(alloc, &read_text, told)?)
-}
-
-#[test]
-fn base64_is_read(rt: HostRuntime) -> Result<(), Fail> {
-    for (text, bytes, told) in &BASE64 {
-        check(&rt, is_base64(rt.alloc(), text, bytes, told)?, text);
+    for (bytes, text) in &UTF8 {
+        let owned = text_of(Vec::from_slice(rt.alloc(), bytes)?);
+        assert!(rt; text_in(bytes) == *text && owned.as_ref().map(|it| it.as_str()) == *text);
     }
     Ok(())
 }
 
+// A base64 text, and the Debug texts of what it is read as: bytes, and a text.
+static BASE64: [(&str, &str); 4] = [
+    ("aGk=", "Some([104, 105]) Some(\"hi\")"),
+    // The bits after the last byte may be any.
+    ("aGl=", "Some([104, 105]) Some(\"hi\")"),
+    ("aGk", "None None"),
+    ("//8=", "Some([255, 255]) None"),
+];
+
 #[test]
-fn base64_is_written(rt: HostRuntime) -> Result<(), Fail> {
-    let shown = Encoded(b"hi").to_string(rt.alloc())?;
-    assert_eq!(rt; shown.as_str(), "aGk=");
+fn base64(rt: HostRuntime) -> Result<(), Fail> {
+    for (text, told) in &BASE64 {
+        let bytes = read_base64(rt.alloc(), text.as_bytes())?;
+        let read = read_base64_text(rt.alloc(), text.as_bytes())?;
+        let both = format!(in rt.alloc(); "{bytes:?} {read:?}")?;
+        check(&rt, both.as_str() == *told, text);
+    }
+    check(&rt, is_shown(rt.alloc(), &Encoded(b"hi"), "aGk=")?, "aGk=");
     Ok(())
 }
+
+// Bytes, and the Debug texts of what stands on either side of their first `=`: as bytes, and as texts.
+static CUTS: [(&[u8], &str); 3] = [
+    (b"a=b=", "Some(([97], [98, 61])) Some((\"a\", \"b=\"))"),
+    (b"ab", "None None"),
+    (b"a=\xff", "Some(([97], [255])) None"),
+];
 
 #[test]
 fn cuts(rt: HostRuntime) -> Result<(), Fail> {
-    let told = "Some(([97], [98, 61]))";
-    assert!(rt; is_told(rt.alloc(), &cut(b"a=b=", b'='), told)?);
-    assert!(rt; is_told(rt.alloc(), &cut(b"ab", b'='), "None")?);
-    Ok(())
-}
-
-#[test]
-fn keys_and_values(rt: HostRuntime) -> Result<(), Fail> {
-    let told = "Some((\"a\", \"b=\"))";
-    assert!(rt; is_told(rt.alloc(), &key_and_value(b"a=b="), told)?);
-    assert!(rt; is_told(rt.alloc(), &key_and_value(b"ab"), "None")?);
-    assert!(rt; is_told(rt.alloc(), &key_and_value(b"a=\xff"), "None")?);
+    for (bytes, told) in &CUTS {
+        let parts = cut(bytes, b'=');
+        let texts = key_and_value(bytes);
+        let both = format!(in rt.alloc(); "{parts:?} {texts:?}")?;
+        check(&rt, both.as_str() == *told, told);
+    }
     Ok(())
 }

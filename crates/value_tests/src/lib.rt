@@ -4,21 +4,15 @@
 #[cfg(test)]
 mod below;
 #[cfg(test)]
+mod codes;
+#[cfg(test)]
 mod commands;
 #[cfg(test)]
-mod escapes;
-#[cfg(test)]
 mod iterm;
-#[cfg(test)]
-mod iterm_file;
 #[cfg(test)]
 mod links;
 #[cfg(test)]
 mod numbers;
-#[cfg(test)]
-mod one_value;
-#[cfg(test)]
-mod params;
 #[cfg(test)]
 mod pixels;
 #[cfg(test)]

@@ -1,107 +1,114 @@
 //! Selections.
 use esc_osc::Selection;
 
-const FEW: u16 = 10;
-
-const OTHERS: u16 = 8200;
-
-#[test]
-fn named_bits(rt: HostRuntime) {
-    let named = [
-        Selection::CLIPBOARD,
-        Selection::PRIMARY,
-        Selection::SELECT,
-        Selection::CUT0,
-        Selection::CUT1,
-        Selection::CUT2,
-        Selection::CUT3,
-        Selection::CUT4,
-        Selection::CUT5,
-        Selection::CUT6,
-        Selection::CUT7,
-        Selection::CUT8,
-        Selection::CUT9,
-    ];
-    let bits = [2, 4, 8, 16, 32, 64, 128, 256, 512, 1024, 2048, 4096, 8192];
-    for (set, bits) in named.iter().zip(bits) {
-        assert_eq!(rt; set.bits(), bits);
-    }
-}
-
-#[test]
-fn sets_made(rt: HostRuntime) {
-    let few = Selection::CLIPBOARD | Selection::SELECT;
-    let others = Selection::SELECT | Selection::CUT9;
-    assert_eq!(rt; few.bits(), FEW);
-    assert_eq!(rt; others.bits(), OTHERS);
-    let rows = [
-        (Selection::NONE, 0),
-        (Selection::empty(), 0),
-        (Selection::all(), 16382),
-        (Selection::from_bits_retain(65535), 65535),
-        (Selection::from_bits_truncate(65535), 16382),
-        (few.union(others), 8202),
-        (few | others, 8202),
-        (few.intersection(others), 8),
-        (few & others, 8),
-        (few.symmetric_difference(others), 8194),
-        (few ^ others, 8194),
-        (few.difference(others), 2),
-        (few - others, 2),
-        (few.complement(), 16372),
-        (!few, 16372),
-        (!Selection::from_bits_retain(65535), 0),
-    ];
-    for (made, bits) in rows {
-        assert_eq!(rt; made.bits(), bits);
-    }
-}
-
-#[test]
-fn sets_changed(rt: HostRuntime) {
-    let few = Selection::from_bits_retain(FEW);
-    let mut set = few;
-    set.insert(Selection::from_bits_retain(OTHERS));
-    assert_eq!(rt; set.bits(), 8202);
-    set.remove(few);
-    assert_eq!(rt; set.bits(), 8192);
-    set.toggle(few);
-    assert_eq!(rt; set.bits(), 8202);
-    set.set(few, false);
-    assert_eq!(rt; set.bits(), 8192);
-    set.set(Selection::CUT0, true);
-    assert_eq!(rt; set.bits(), 8208);
-}
-
-#[test]
-fn sets_assigned(rt: HostRuntime) {
-    let few = Selection::from_bits_retain(FEW);
-    let mut set = Selection::from_bits_retain(8208);
-    set |= few;
-    assert_eq!(rt; set.bits(), 8218);
-    set &= Selection::from_bits_retain(OTHERS);
-    assert_eq!(rt; set.bits(), 8200);
-    set ^= few;
-    assert_eq!(rt; set.bits(), 8194);
-    set -= few;
-    assert_eq!(rt; set.bits(), 8192);
-}
-
-// The bits; whether they are none, all the named ones, those of `FEW` and more, and some of `FEW`.
-static ASKED: [(u16, [bool; 4]); 7] = [
-    (0, [true, false, false, false]),
-    (1, [false, false, false, false]),
-    (2, [false, false, false, true]),
-    (10, [false, false, true, true]),
-    (8192, [false, false, false, false]),
-    (16382, [false, true, true, true]),
-    (65535, [false, true, true, true]),
+static NAMED: [(Selection, u16); 14] = [
+    (Selection::NONE, 0),
+    (Selection::CLIPBOARD, 2),
+    (Selection::PRIMARY, 4),
+    (Selection::SELECT, 8),
+    (Selection::CUT0, 16),
+    (Selection::CUT1, 32),
+    (Selection::CUT2, 64),
+    (Selection::CUT3, 128),
+    (Selection::CUT4, 256),
+    (Selection::CUT5, 512),
+    (Selection::CUT6, 1024),
+    (Selection::CUT7, 2048),
+    (Selection::CUT8, 4096),
+    (Selection::CUT9, 8192),
 ];
 
-// What the set of these bits answers.
-fn answers(bits: u16) -> [bool; 4] {
-    let few = Selection::from_bits_retain(FEW);
-    let set = Selection::from_bits_retain(bits);
+#[test]
+fn named_sets(rt: HostRuntime) {
+    for (set, bits) in &NAMED {
+        assert!(rt; set.bits() == *bits, "{bits}");
+    }
+    assert!(rt; Selection::empty().bits() == 0 && Selection::all().bits() == 16382);
+}
+
+// The bits of two sets; those of their union, their intersection, and the bits of one alone and of the first alone.
+static JOINED: [(u16, u16, [u16; 4]); 4] = [
+    (0, 10, [10, 0, 10, 0]),
+    (10, 8200, [8202, 8, 8194, 2]),
+    (8208, 10, [8218, 0, 8218, 8208]),
+    (65535, 16382, [65535, 16382, 49153, 49153]),
+];
+
+fn by_methods(a: Selection, b: Selection) -> [u16; 4] {
+    [
+        a.union(b).bits(),
+        a.intersection(b).bits(),
+        a.symmetric_difference(b).bits(),
+        a.difference(b).bits(),
+    ]
+}
+
+fn by_operators(a: Selection, b: Selection) -> [u16; 4] {
+    [
+        (a | b).bits(),
+        (a & b).bits(),
+        (a ^ b).bits(),
+        (a - b).bits(),
+    ]
+}
+
+fn by_assignments(a: Selection, b: Selection) -> [u16; 4] {
+    let (mut union, mut shared, mut lone, mut rest) = (a, a, a, a);
+    union |= b;
+    shared &= b;
+    lone ^= b;
+    rest -= b;
+    [union.bits(), shared.bits(), lone.bits(), rest.bits()]
+}
+
+// All but the intersection.
+fn by_changes(a: Selection, b: Selection) -> [u16; 3] {
+    let (mut union, mut lone, mut rest) = (a, a, a);
+    union.insert(b);
+    lone.toggle(b);
+    rest.remove(b);
+    [union.bits(), lone.bits(), rest.bits()]
+}
+
+// The union and the bits of the first alone.
+fn by_set(a: Selection, b: Selection) -> [u16; 2] {
+    let (mut union, mut rest) = (a, a);
+    union.set(b, true);
+    rest.set(b, false);
+    [union.bits(), rest.bits()]
+}
+
+#[test]
+fn joined_sets(rt: HostRuntime) {
+    for (a, b, bits) in &JOINED {
+        let [union, _, lone, rest] = *bits;
+        let (a, b) = (
+            Selection::from_bits_retain(*a),
+            Selection::from_bits_retain(*b),
+        );
+        assert!(rt; by_methods(a, b) == *bits && by_operators(a, b) == *bits);
+        assert!(rt; by_assignments(a, b) == *bits && by_changes(a, b) == [union, lone, rest]);
+        assert!(rt; by_set(a, b) == [union, rest]);
+    }
+}
+
+// Bits; the named ones of them, and those that they lack; whether they are none, all the named ones, 10 and more, and some of 10.
+static SINGLE: [(u16, u16, u16, [bool; 4]); 10] = [
+    (0, 0, 16382, [true, false, false, false]),
+    (1, 0, 16382, [false, false, false, false]),
+    (2, 2, 16380, [false, false, false, true]),
+    (3, 2, 16380, [false, false, false, true]),
+    (10, 10, 16372, [false, false, true, true]),
+    (8192, 8192, 8190, [false, false, false, false]),
+    (16382, 16382, 0, [false, true, true, true]),
+    (16383, 16382, 0, [false, true, true, true]),
+    (16384, 0, 16382, [false, false, false, false]),
+    (65535, 16382, 0, [false, true, true, true]),
+];
+
+// What the set says of itself and of the bits 10.
+fn asked(set: Selection) -> [bool; 4] {
+    let few = Selection::from_bits_retain(10);
     [
         set.is_empty(),
         set.is_all(),
@@ -111,23 +118,21 @@ fn answers(bits: u16) -> [bool; 4] {
 }
 
 #[test]
-fn sets_asked(rt: HostRuntime) {
-    for (bits, wanted) in &ASKED {
-        assert!(rt; answers(*bits) == *wanted, "{bits}");
-    }
-}
-
-static NAMED: [u16; 4] = [0, 2, 10, 16382];
-
-static NOT_NAMED: [u16; 5] = [1, 3, 16383, 16384, 65535];
-
-#[test]
-fn sets_of_bits(rt: HostRuntime) {
-    for bits in &NAMED {
+fn single_sets(rt: HostRuntime) {
+    for (bits, named, lacking, answers) in &SINGLE {
         let set = Selection::from_bits_retain(*bits);
-        assert!(rt; Selection::from_bits(*bits) == Some(set), "{bits}");
-    }
-    for bits in &NOT_NAMED {
-        assert!(rt; Selection::from_bits(*bits).is_none(), "{bits}");
+        assert!(rt; set.bits() == *bits && asked(set) == *answers, "{bits}");
+        assert!(rt;
+            set.complement().bits() == *lacking && (!set).bits() == *lacking,
+            "{bits}"
+        );
+        assert!(rt;
+            Selection::from_bits_truncate(*bits).bits() == *named,
+            "{bits}"
+        );
+        assert!(rt;
+            Selection::from_bits(*bits).is_some() == (named == bits),
+            "{bits}"
+        );
     }
 }

@@ -1,15 +1,9 @@
-//! Control sequences.
-use crate::told::{check, is_shown, is_told};
-use esc_below::{CSI, CsiParam, Intensity, Items, RgbColor, Sgr, Underline, Unspecified};
+//! Control sequences and escape sequences.
+use crate::told::{check, is_shown};
+use esc_below::{CSI, CsiParam, Esc};
 use std::alloc::{AllocError, Global};
+use std::process::Abort;
 use std::test::Fail;
-
-#[test]
-fn colours(rt: HostRuntime) {
-    let colour = RgbColor::new_8bpc(1, 20, 255);
-    assert_eq!(rt; colour.to_tuple_rgb8(), (1u8, 20u8, 255u8));
-    assert!(rt; colour != RgbColor::new_8bpc(1, 255, 20));
-}
 
 const END: CsiParam = CsiParam::P(b';');
 
@@ -19,73 +13,106 @@ const ONE: CsiParam = CsiParam::Integer(1);
 
 const FOUR: CsiParam = CsiParam::Integer(4);
 
-// The texts, one behind another.
-fn written(alloc: Global, read: &[CSI]) -> Result<String, AllocError> {
-    let mut text = String::new(alloc);
-    for csi in read {
-        write!(text, "{csi}")?;
+// Entries of a body, whether some were left out, and the final byte.
+#[derive(Clone, Copy)]
+struct Body<'a> {
+    params: &'a [CsiParam],
+    is_truncated: bool,
+    control: u8,
+}
+
+impl Body<'_> {
+    // Whether it is read as one value, of this Debug text, which is written as `text`.
+    fn is_one(&self, alloc: Global, told: &str, text: &str) -> Result<bool, AllocError> {
+        let list = CSI::parse(alloc, self.params, self.is_truncated, self.control)?;
+        let one = CSI::parse_one(alloc, self.params, self.is_truncated, self.control)?;
+        let both = format!(in alloc; "{list:?} {one:?}")?;
+        let wanted = format!(in alloc; "[{told}] Some({told})")?;
+        let Some(value) = one else {
+            return Ok(false);
+        };
+        let is_written = match &value {
+            CSI::Sgr(sgr) => is_shown(alloc, sgr, text)?,
+            CSI::Unspecified(kept) => is_shown(alloc, &**kept, text)?,
+        };
+        Ok(both.as_str() == wanted.as_str() && is_written && is_shown(alloc, &value, text)?)
     }
-    Ok(text)
+
+    // Whether it is read as several values, of these Debug and Display texts.
+    fn is_several(&self, alloc: Global, told: &str, text: &str) -> Result<bool, AllocError> {
+        let list = CSI::parse(alloc, self.params, self.is_truncated, self.control)?;
+        let one = CSI::parse_one(alloc, self.params, self.is_truncated, self.control)?;
+        let read = format!(in alloc; "{list:?}")?;
+        let mut written = String::new(alloc);
+        for value in &list {
+            write!(written, "{value}")?;
+        }
+        Ok(one.is_none() && read.as_str() == told && written.as_str() == text)
+    }
 }
 
-// Whether the entries before an `m` are read as this rendition, which is written as `text`.
-fn is_one(alloc: Global, params: &[CsiParam], sgr: Sgr, text: &str) -> Result<bool, AllocError> {
-    let read = CSI::parse(alloc, params, false, b'm')?;
-    let same = match read.as_slice() {
-        [csi] => *csi == CSI::Sgr(sgr),
-        _ => false,
-    };
-    let all = written(alloc, &read)?;
-    Ok(same && all.as_str() == text && is_shown(alloc, &sgr, text)?)
-}
-
-static RENDITIONS: [(i64, Sgr, &str); 9] = [
-    (0, Sgr::Reset, "\x1b[0m"),
-    (1, Sgr::Intensity(Intensity::Bold), "\x1b[1m"),
-    (2, Sgr::Intensity(Intensity::Half), "\x1b[2m"),
-    (22, Sgr::Intensity(Intensity::Normal), "\x1b[22m"),
-    (3, Sgr::Italic(true), "\x1b[3m"),
-    (23, Sgr::Italic(false), "\x1b[23m"),
-    (4, Sgr::Underline(Underline::Single), "\x1b[4m"),
-    (21, Sgr::Underline(Underline::Double), "\x1b[21m"),
-    (24, Sgr::Underline(Underline::None), "\x1b[24m"),
+// Entries before an `m`, the Debug text of the rendition that they are read as, and its text.
+static RENDITIONS: [(&[CsiParam], &str, &str); 16] = [
+    (&[], "Reset", "\x1b[0m"),
+    (&[CsiParam::Integer(0)], "Reset", "\x1b[0m"),
+    (&[ONE], "Intensity(Bold)", "\x1b[1m"),
+    (&[CsiParam::Integer(2)], "Intensity(Half)", "\x1b[2m"),
+    (&[CsiParam::Integer(22)], "Intensity(Normal)", "\x1b[22m"),
+    (&[CsiParam::Integer(3)], "Italic(true)", "\x1b[3m"),
+    (&[CsiParam::Integer(23)], "Italic(false)", "\x1b[23m"),
+    (&[FOUR], "Underline(Single)", "\x1b[4m"),
+    (&[CsiParam::Integer(21)], "Underline(Double)", "\x1b[21m"),
+    (&[CsiParam::Integer(24)], "Underline(None)", "\x1b[24m"),
+    (
+        &[FOUR, COLON, CsiParam::Integer(0)],
+        "Underline(None)",
+        "\x1b[24m",
+    ),
+    (&[FOUR, COLON, ONE], "Underline(Single)", "\x1b[4m"),
+    (
+        &[FOUR, COLON, CsiParam::Integer(2)],
+        "Underline(Double)",
+        "\x1b[21m",
+    ),
+    (
+        &[FOUR, COLON, CsiParam::Integer(3)],
+        "Underline(Curly)",
+        "\x1b[4:3m",
+    ),
+    (&[FOUR, COLON, FOUR], "Underline(Dotted)", "\x1b[4:4m"),
+    (
+        &[FOUR, COLON, CsiParam::Integer(5)],
+        "Underline(Dashed)",
+        "\x1b[4:5m",
+    ),
 ];
 
 #[test]
-fn renditions_by_number(rt: HostRuntime) -> Result<(), Fail> {
-    for (number, sgr, text) in &RENDITIONS {
-        let params = [CsiParam::Integer(*number)];
-        check(&rt, is_one(rt.alloc(), &params, *sgr, text)?, text);
+fn renditions(rt: HostRuntime) -> Result<(), Fail> {
+    for (params, told, text) in &RENDITIONS {
+        let body = Body {
+            params,
+            is_truncated: false,
+            control: b'm',
+        };
+        let told = format!(in rt.alloc(); "Sgr({told})")?;
+        check(&rt, body.is_one(rt.alloc(), told.as_str(), text)?, text);
     }
     Ok(())
 }
 
-static UNDERLINES: [(i64, Sgr, &str); 6] = [
-    (0, Sgr::Underline(Underline::None), "\x1b[24m"),
-    (1, Sgr::Underline(Underline::Single), "\x1b[4m"),
-    (2, Sgr::Underline(Underline::Double), "\x1b[21m"),
-    (3, Sgr::Underline(Underline::Curly), "\x1b[4:3m"),
-    (4, Sgr::Underline(Underline::Dotted), "\x1b[4:4m"),
-    (5, Sgr::Underline(Underline::Dashed), "\x1b[4:5m"),
-];
-
-#[test]
-fn kinds_of_underlines(rt: HostRuntime) -> Result<(), Fail> {
-    for (number, sgr, text) in &UNDERLINES {
-        let params = [FOUR, COLON, CsiParam::Integer(*number)];
-        check(&rt, is_one(rt.alloc(), &params, *sgr, text)?, text);
-    }
-    Ok(())
-}
-
-// The entries before an `m`, the renditions that they are read as, and their text.
+// Entries before an `m`, and the Debug and Display texts of the renditions that they are read as.
 static ITEMS: [(&[CsiParam], &str, &str); 4] = [
-    (&[], "[Sgr(Reset)]", "\x1b[0m"),
     (&[END], "[Sgr(Reset), Sgr(Reset)]", "\x1b[0m\x1b[0m"),
     (
         &[FOUR, END],
         "[Sgr(Underline(Single)), Sgr(Reset)]",
         "\x1b[4m\x1b[0m",
+    ),
+    (
+        &[ONE, END, CsiParam::Integer(3)],
+        "[Sgr(Intensity(Bold)), Sgr(Italic(true))]",
+        "\x1b[1m\x1b[3m",
     ),
     (
         &[
@@ -103,26 +130,26 @@ static ITEMS: [(&[CsiParam], &str, &str); 4] = [
     ),
 ];
 
-// Whether the entries before an `m` are read so, and written as `text`.
-fn is_read(alloc: Global, params: &[CsiParam], told: &str, text: &str) -> Result<bool, AllocError> {
-    let read = CSI::parse(alloc, params, false, b'm')?;
-    let all = written(alloc, &read)?;
-    Ok(is_told(alloc, &read, told)? && all.as_str() == text)
-}
-
 #[test]
-fn items(rt: HostRuntime) -> Result<(), Fail> {
+fn several_renditions(rt: HostRuntime) -> Result<(), Fail> {
     for (params, told, text) in &ITEMS {
-        check(&rt, is_read(rt.alloc(), params, told, text)?, told);
+        let body = Body {
+            params,
+            is_truncated: false,
+            control: b'm',
+        };
+        check(&rt, body.is_several(rt.alloc(), told, text)?, text);
     }
     Ok(())
 }
 
-// The entries, whether some were left out, the final byte, and the text.
-static AS_THEY_STAND: [(&[CsiParam], bool, u8, &str); 14] = [
+// Entries, whether some were left out, the final byte, and the text. They are kept as they are.
+static KEPT: [(&[CsiParam], bool, u8, &str); 15] = [
     // Another final byte, and entries that were left out.
     (&[], false, b'H', "\x1b[H"),
+    (&[CsiParam::Integer(2)], false, b'J', "\x1b[2J"),
     (&[ONE], true, b'm', "\x1b[1m"),
+    (&[ONE, END, CsiParam::Integer(3)], true, b'm', "\x1b[1;3m"),
     (
         &[CsiParam::P(b'?'), CsiParam::Integer(25)],
         false,
@@ -131,7 +158,6 @@ static AS_THEY_STAND: [(&[CsiParam], bool, u8, &str); 14] = [
     ),
     (&[ONE, CsiParam::P(b' ')], false, b'q', "\x1b[1 q"),
     // An item that is no rendition.
-    (&[CsiParam::Integer(5)], false, b'm', "\x1b[5m"),
     (&[CsiParam::Integer(-1)], false, b'm', "\x1b[-1m"),
     (
         &[ONE, END, CsiParam::Integer(38), END, CsiParam::Integer(5)],
@@ -158,45 +184,82 @@ static AS_THEY_STAND: [(&[CsiParam], bool, u8, &str); 14] = [
     ),
 ];
 
-// Whether it is read as one sequence as it stands, and written as `text`.
-fn is_kept(
-    alloc: Global,
-    params: &[CsiParam],
-    parameters_truncated: bool,
-    control: u8,
-    text: &str,
-) -> Result<bool, AllocError> {
-    let read = CSI::parse(alloc, params, parameters_truncated, control)?;
-    let want = Unspecified {
-        params: Items::from_vec(Vec::from_slice(alloc, params)?),
-        parameters_truncated,
-        control,
-    };
-    let same = match read.as_slice() {
-        [CSI::Unspecified(kept)] => **kept == want,
-        _ => false,
-    };
-    let all = written(alloc, &read)?;
-    Ok(same && all.as_str() == text && is_shown(alloc, &want, text)?)
+impl Body<'_> {
+    // It is kept as it is, and written as `text`.
+    fn check_kept(&self, rt: &impl Abort, alloc: Global, text: &str) -> Result<(), AllocError> {
+        let told = format!(in alloc;
+            "Unspecified(Unspecified {{ params: {:?}, parameters_truncated: {:?}, control: {:?} }})",
+            self.params, self.is_truncated, self.control
+        )?;
+        check(rt, self.is_one(alloc, told.as_str(), text)?, text);
+        Ok(())
+    }
 }
 
 #[test]
-fn as_they_stand(rt: HostRuntime) -> Result<(), Fail> {
-    for (params, truncated, control, text) in &AS_THEY_STAND {
-        check(
-            &rt,
-            is_kept(rt.alloc(), params, *truncated, *control, text)?,
-            text,
-        );
+fn sequences_that_are_kept(rt: HostRuntime) -> Result<(), Fail> {
+    for (params, is_truncated, control, text) in &KEPT {
+        let body = Body {
+            params,
+            is_truncated: *is_truncated,
+            control: *control,
+        };
+        body.check_kept(&rt, rt.alloc(), text)?;
     }
     Ok(())
 }
 
+// The numbers that are renditions.
+static NUMBERS: [i64; 9] = [0, 1, 2, 3, 4, 21, 22, 23, 24];
+
+// Every other number is kept. No number is refused under ample memory, of which no contract speaks.
 #[test]
-fn a_sequence_as_it_is_told(rt: HostRuntime) -> Result<(), Fail> {
-    let read = CSI::parse(rt.alloc(), &[ONE], false, b'A')?;
-    let told =
-        "[Unspecified(Unspecified { params: [Integer(1)], parameters_truncated: false, control: 65 })]";
-    assert!(rt; is_told(rt.alloc(), &read, told)?);
+fn other_numbers(rt: HostRuntime) -> Result<(), Fail> {
+    for number in 0..2000i64 {
+        if NUMBERS.contains(&number) {
+            continue;
+        }
+        let params = [CsiParam::Integer(number)];
+        let body = Body {
+            params: &params,
+            is_truncated: false,
+            control: b'm',
+        };
+        let text = format!(in rt.alloc(); "\x1b[{number}m")?;
+        body.check_kept(&rt, rt.alloc(), text.as_str())?;
+    }
+    Ok(())
+}
+
+// The intermediate and the letter of an escape sequence, and the Debug and Display texts of what they are read as.
+static ESCAPES: [(Option<u8>, u8, &str, &str); 5] = [
+    (None, b'\\', "Code(StringTerminator)", "\x1b\\"),
+    (None, b'H', "Code(HorizontalTabSet)", "\x1bH"),
+    (None, b'k', "Code(TmuxTitle)", "\x1bk"),
+    (
+        None,
+        b'h',
+        "Unspecified { intermediate: None, control: 104 }",
+        "\x1bh",
+    ),
+    (
+        Some(b'#'),
+        b'k',
+        "Unspecified { intermediate: Some(35), control: 107 }",
+        "\x1b#k",
+    ),
+];
+
+#[test]
+fn escapes(rt: HostRuntime) -> Result<(), Fail> {
+    for (intermediate, control, told, text) in &ESCAPES {
+        let esc = Esc::parse(*intermediate, *control);
+        let read = format!(in rt.alloc(); "{esc:?}")?;
+        check(
+            &rt,
+            read.as_str() == *told && is_shown(rt.alloc(), &esc, text)?,
+            text,
+        );
+    }
     Ok(())
 }
