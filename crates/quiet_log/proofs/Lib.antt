@@ -1,0 +1,2 @@
+pub mod Openers
+pub mod WhatStays

@@ -1,0 +1,8 @@
+use Rattle.std.proofs.Common.{[], ◌∙◌}
+use Rattle.escape_stream.proofs.Lists.{if_ok_more}
+use Rattle.escape_stream.proofs.Yields.{yield_whole}
+use Rattle.quiet_log.proofs.quiet.actions_of.Goals as goal
+
+pub returns-clause-meant : goal.returns-clause-meant
+returns-clause-meant g c =
+    if_ok_more _ _ c.parse_as_vec.result (λ v w. w.1 ∙ yield_whole c.args.bytes.now) (c.parse_as_vec.ensures.given [] c.new-parser.ensures)
