@@ -36,6 +36,8 @@ mod refusals;
 #[cfg(test)]
 mod row;
 #[cfg(test)]
+mod sinks;
+#[cfg(test)]
 mod streams;
 #[cfg(test)]
 mod sweeps;
