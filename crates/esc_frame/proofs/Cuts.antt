@@ -6,12 +6,12 @@ use Rattle.esc_frame.specs.Events.{Event}
 use Rattle.esc_frame.specs.Bodies.{is_dcs_header}
 use Rattle.esc_frame.specs.Segments.{Segment, HasShape, AreSegments, IsCut, HasEvents, ArePieces, joined, bytes_of, events_of, events_of_cut, ends_itself}
 use Rattle.esc_frame.specs.Segments.{is_finished, opener_events, hook_event, puts}
-use Rattle.esc_frame.specs.Segments.Segment.{Character, Wide, Broken, Stray, Control, HighControl, Terminator, Escape, Csi, Osc, CutEscape, CutCsi, CutDcs, Dcs}
+use Rattle.esc_frame.specs.Segments.Segment.{Broken, Osc, CutEscape, CutCsi, CutDcs, Dcs}
 use Rattle.esc_frame.specs.Segments.Segment.{Apc, Ignored}
 use Rattle.esc_frame.specs.Segments.Ending.{Open, Rung, Waits}
-use Rattle.esc_frame.specs.Leads.{Unfinished, AreFinished, open_bytes, osc_bytes, Stands, finished_events, told_open}
+use Rattle.esc_frame.specs.Leads.{Unfinished, OpenShape, AreFinished, open_bytes, osc_bytes, Stands, finished_events, told_open}
 use Rattle.esc_frame.specs.Leads.Unfinished.{Ground, Pending, InEscape, InCsi, InOsc, InOscPending, InDcs, InData, InApc, InIgnored}
-use Rattle.esc_frame.specs.Machine.Moves.{after_by, news_by, after_all, news_all}
+use Rattle.esc_frame.specs.Machine.Moves.{after_by, news_by, after_all, news_all, is_ground}
 use Rattle.esc_frame.specs.Stream.{events}
 use Rattle.esc_frame.proofs.Grows.{joined_end}
 use Rattle.esc_frame.proofs.Step.{byte_step}
@@ -39,21 +39,7 @@ pub itself : (h : Segment) → is_finished h [] ≡ true → ends_itself h ≡ t
 itself (Osc o ps Open) f = f
 itself (Osc o ps Rung) f = refl
 itself (Osc o ps (Waits x)) f = f
-itself (Broken x) f = f
-itself (CutEscape x) f = f
-itself (Dcs o x c d) f = f
-itself (Apc o d) f = f
-itself (Ignored k o d) f = f
-itself (CutDcs o x) f = f
-itself (CutCsi o x) f = f
-itself (Character c) f = refl
-itself (Wide x) f = refl
-itself (Stray c) f = refl
-itself (Control c) f = refl
-itself (HighControl p c) f = refl
-itself (Terminator p c) f = refl
-itself (Escape x c) f = refl
-itself (Csi o x c) f = refl
+itself _ f = f
 
 last_told : (h : Segment) → ends_itself h ≡ true → events_of h (ends_itself h) ≡ events_of h true ++ []
 last_told h e = rw e (sym (append-nil (events_of h true)))
@@ -63,19 +49,55 @@ events_closed [] f = refl
 events_closed (h ∷ []) (sh, fh, r) = last_told h (itself h fh)
 events_closed (h ∷ k ∷ gs) (sh, fh, r) = ap (λ x. events_of h true ++ x) (events_closed (k ∷ gs) r)
 
--- what stands with an unfinished segment is a cut with that segment last
-pub cut_last : (s : List ℕ) (es : List Event) (gs : List Segment) (u : Unfinished) (g : Segment) → Stands s es gs u → open_bytes u ≡ bytes_of g → HasShape g []
-    → IsCut s (gs ++ g ∷ [])
-cut_last s es gs u g st j sh =
-    record { whole = st.whole ∙ ap (λ y. joined gs ++ y) j ∙ sym (joined_end gs g); each = are_push gs g (subst (λ y. AreFinished gs y) j st.finished) sh }
-
-with_last : (s : List ℕ) (es : List Event) (gs : List Segment) (u : Unfinished) (g : Segment) → Stands s es gs u → open_bytes u ≡ bytes_of g → HasShape g []
-    → told_open u ≡ events_of g (ends_itself g) → HasEvents s es
-with_last s es gs u g st j sh t = (gs ++ g ∷ [], cut_last s es gs u g st j sh, st.told ∙ ap (λ y. finished_events gs ++ y) t ∙ sym (events_push gs g))
-
 data_told : (ds bs : List Event) (w : Bool) → ds ++ (if w then bs else []) ≡ ds ++ (if w then bs ++ [] else [])
 data_told ds bs true = ap (λ y. ds ++ y) (sym (append-nil bs))
 data_told ds bs false = refl
+
+-- ---- the last segment, where it is unfinished
+
+-- nothing is said of Ground
+abbrev pub last_of : Unfinished → Segment
+last_of Ground = CutEscape []
+last_of (Pending f) = Broken f
+last_of (InEscape x) = CutEscape x
+last_of (InCsi o x) = CutCsi o x
+last_of (InDcs o x) = CutDcs o x
+last_of (InData o x f d) = Dcs o x f d
+last_of (InApc o d) = Apc o d
+last_of (InIgnored k o d) = Ignored k o d
+last_of (InOsc o ps) = Osc o ps Open
+last_of (InOscPending o ps f) = Osc o ps (Waits f)
+
+last_bytes : (u : Unfinished) → is_ground u ≡ false → open_bytes u ≡ bytes_of (last_of u)
+last_bytes Ground n = absurd cc
+last_bytes (InOsc o ps) n = sym (append-nil (osc_bytes o ps))
+last_bytes _ n = refl
+
+last_shape : (u : Unfinished) → is_ground u ≡ false → OpenShape u → HasShape (last_of u) []
+last_shape Ground n h = absurd cc
+last_shape (InOsc o ps) n h = (h.0, h.1, tt)
+last_shape (InOscPending o ps f) n h = (h.0, subst (λ y. ArePieces ps y) (sym (append-nil f)) h.1, h.2)
+last_shape _ n h = h
+
+last_events : (u : Unfinished) → is_ground u ≡ false → told_open u ≡ events_of (last_of u) (ends_itself (last_of u))
+last_events Ground n = absurd cc
+last_events (InData o x f d) n = data_told (opener_events o) (hook_event (strip x) f ∷ puts d) (is_dcs_header (strip x))
+last_events (InApc o d) n = sym (append-nil (opener_events o))
+last_events (InOsc o ps) n = sym (append-nil (opener_events o))
+last_events (InOscPending o ps f) n = sym (append-nil (opener_events o))
+last_events _ n = refl
+
+pub last_goes_on : (u : Unfinished) → is_ground u ≡ false → ends_itself (last_of u) ≡ false
+last_goes_on Ground n = absurd cc
+last_goes_on _ n = refl
+
+pub cut_last : (s : List ℕ) (es : List Event) (gs : List Segment) (u : Unfinished) → is_ground u ≡ false → Stands s es gs u → IsCut s (gs ++ last_of u ∷ [])
+cut_last s es gs u n st =
+    let j = last_bytes u n in
+    record {
+      whole = st.whole ∙ ap (λ y. joined gs ++ y) j ∙ sym (joined_end gs (last_of u));
+      each = are_push gs (last_of u) (subst (λ y. AreFinished gs y) j st.finished) (last_shape u n st.shape);
+    }
 
 pub stands_tells : (s : List ℕ) (es : List Event) (gs : List Segment) (u : Unfinished) → Stands s es gs u → HasEvents s es
 stands_tells s es gs Ground st = (
@@ -84,20 +106,11 @@ stands_tells s es gs Ground st = (
   st.told ∙ append-nil (finished_events gs) ∙ sym
       (events_closed gs st.finished),
 )
-stands_tells s es gs (Pending f) st = with_last s es gs (Pending f) (Broken f) st refl st.shape refl
-stands_tells s es gs (InEscape x) st = with_last s es gs (InEscape x) (CutEscape x) st refl st.shape refl
-stands_tells s es gs (InCsi o x) st = with_last s es gs (InCsi o x) (CutCsi o x) st refl st.shape refl
-stands_tells s es gs (InDcs o x) st = with_last s es gs (InDcs o x) (CutDcs o x) st refl st.shape refl
-stands_tells s es gs (InData o x f d) st =
-    with_last s es gs (InData o x f d) (Dcs o x f d) st refl st.shape (data_told (opener_events o) (hook_event (strip x) f ∷ puts d) (is_dcs_header (strip x)))
-stands_tells s es gs (InApc o d) st = with_last s es gs (InApc o d) (Apc o d) st refl st.shape (sym (append-nil (opener_events o)))
-stands_tells s es gs (InIgnored k o d) st = with_last s es gs (InIgnored k o d) (Ignored k o d) st refl st.shape refl
-stands_tells s es gs (InOsc o ps) st =
-    with_last s es gs (InOsc o ps) (Osc o ps Open) st (sym (append-nil (osc_bytes o ps))) (st.shape.0, st.shape.1, tt)
-    (sym (append-nil (told_open (InOsc o ps))))
-stands_tells s es gs (InOscPending o ps f) st =
-    with_last s es gs (InOscPending o ps f) (Osc o ps (Waits f)) st refl (st.shape.0, subst (λ y. ArePieces ps y) (sym (append-nil f)) st.shape.1, st.shape.2)
-    (sym (append-nil (told_open (InOscPending o ps f))))
+stands_tells s es gs u st = (
+  gs ++ last_of u ∷ [],
+  cut_last s es gs u refl st,
+  st.told ∙ ap (λ y. finished_events gs ++ y) (last_events u refl) ∙ sym (events_push gs (last_of u)),
+)
 
 -- more bytes on a cut take a cut, with the events that the machine tells
 pub run_stands : (bs s : List ℕ) (es : List Event) (gs : List Segment) (u : Unfinished) → Stands s es gs u

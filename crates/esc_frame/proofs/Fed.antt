@@ -11,6 +11,7 @@ use Rattle.esc_frame.specs.Events.Event.{Execute, Print}
 use Rattle.esc_frame.specs.Leads.{Holds}
 use Rattle.esc_frame.specs.Leads.Unfinished.{Ground}
 use Rattle.esc_frame.specs.Memory.{MayGrow}
+use Rattle.esc_frame.specs.Machine.Calls.{TellsOne}
 use Rattle.esc_frame.specs.Machine.Moves.{IsStill, after_by, news_by, after_all, news_all, may_grow_in, may_grow_within}
 use Rattle.esc_frame.specs.Stream.{IsQuiet, LeadsTo, added}
 use Rattle.esc_frame.proofs.Given.{stops_for}
@@ -57,7 +58,7 @@ refused_one takes refuses s b c old new e h =
     (subst (λ es. StopsAt (may_grow_within u (b ∷ []) ≡ true) takes refuses old es new) (ap (news_by u b) e ∙ sym (append-nil (news_by u b (class_of b))))
     (stops_for (may_grow_in u ≡ true) (may_grow_within u (b ∷ []) ≡ true) takes refuses (news_by u b c) old new (or_no (may_grow_in u)) h))
 
--- bytes of one event, where nothing is unfinished before them and behind them
+-- bytes of one event, where nothing is unfinished before them and after them
 event_fed : {A : Type 0} (p : VTParser A) (s b : List ℕ) (x : Event) → LeadsTo s p → after_all Ground s ≡ Ground → after_all Ground b ≡ Ground
     → news_all Ground b ≡ x ∷ [] → LeadsTo (s ++ b) p × (added s b ≡ x ∷ [])
 unfolding LeadsTo
@@ -66,13 +67,13 @@ event_fed p s b x (f, h) e k n =
     ((f, kept_all p.machine s b (subst (λ u. Holds p.machine u) same h)), added_is s b ∙ ap (λ u. news_all u b) e ∙ n)
 
 pub character_fed : {A : Type 0} (p : VTParser A) (s bs : List ℕ) (o : Option (ℕ × ℕ)) → LeadsTo s p → after_all Ground s ≡ Ground
-    → IfSome o (λ x. (after_all Ground (take x.1 bs) ≡ Ground) × (news_all Ground (take x.1 bs) ≡ Print x.0 ∷ []))
+    → IfSome o (λ x. TellsOne (take x.1 bs) (Print x.0))
     → IfSome o (λ x. LeadsTo (s ++ take x.1 bs) p × (added s (take x.1 bs) ≡ Print x.0 ∷ []))
 character_fed p s bs None l e h = tt
 character_fed p s bs (Some x) l e k = event_fed p s (take x.1 bs) (Print x.0) l e k.0 k.1
 
 pub control_fed : {A : Type 0} (p : VTParser A) (s bs : List ℕ) (o : Option ℕ) → LeadsTo s p → after_all Ground s ≡ Ground
-    → IfSome o (λ b. (after_all Ground (take 1 bs) ≡ Ground) × (news_all Ground (take 1 bs) ≡ Execute b ∷ []))
+    → IfSome o (λ b. TellsOne (take 1 bs) (Execute b))
     → IfSome o (λ b. LeadsTo (s ++ take 1 bs) p × (added s (take 1 bs) ≡ Execute b ∷ []))
 control_fed p s bs None l e h = tt
 control_fed p s bs (Some b) l e k = event_fed p s (take 1 bs) (Execute b) l e k.0 k.1

@@ -8,7 +8,7 @@ use Rattle.std.specs.List.{list_all}
 use Rattle.esc_below.specs.Clear.{is_clear, IsClearText, parts_of}
 use Rattle.esc_below.proofs.Split.{clear_append, text_parts}
 use Rattle.esc_frame.specs.declared.classes.Class.{Class}
-use Rattle.esc_frame.specs.declared.classes.Class.TheVariants.{Plain, Bell, Intermediate, Parameter, Delete, High, Lead}
+use Rattle.esc_frame.specs.declared.classes.Class.TheVariants.{Plain, Bell, Intermediate, Parameter}
 use Rattle.esc_frame.specs.Classes.{class_of, AllOf, those, strip, is_text, is_plain, is_noise, is_intermediate, in_escape, is_control, is_raw_control, is_put}
 use Rattle.esc_frame.specs.Classes.{in_csi, in_body, ends_csi}
 use Rattle.esc_frame.specs.Bodies.{is_csi_body, is_dcs_header}
@@ -84,11 +84,6 @@ fit_osc ps r h = text_parts (text_of ps) (text_clear ps r h)
 -- intermediates
 intermediate_if : (c : Class) → in_escape c ≡ true → is_noise c ≡ false → is_intermediate c ≡ true
 intermediate_if Intermediate h k = refl
-intermediate_if Plain h k = absurd cc
-intermediate_if Bell h k = absurd cc
-intermediate_if Delete h k = absurd cc
-intermediate_if High h k = absurd cc
-intermediate_if Lead h k = absurd cc
 intermediate_if _ h k = absurd cc
 
 strip_intermediates_more : (b : ℕ) (x : List ℕ) (t : Bool) → is_noise (class_of b) ≡ t → in_escape (class_of b) ≡ true → AllOf is_intermediate (strip x)
@@ -135,11 +130,6 @@ those_text (b ∷ d) = text_one b d (is_text (class_of b)) refl (those_text d)
 body_if : (c : Class) → in_csi c ≡ true → is_noise c ≡ false → in_body c ≡ true
 body_if Intermediate h k = refl
 body_if Parameter h k = refl
-body_if Plain h k = absurd cc
-body_if Bell h k = absurd cc
-body_if Delete h k = absurd cc
-body_if High h k = absurd cc
-body_if Lead h k = absurd cc
 body_if _ h k = absurd cc
 
 strip_body_more : (b : ℕ) (x : List ℕ) (t : Bool) → is_noise (class_of b) ≡ t → in_csi (class_of b) ≡ true → AllOf in_body (strip x)

@@ -6,7 +6,7 @@ use Rattle.esc_frame.specs.Sequences.{is_broken_before}
 use Rattle.esc_frame.specs.Events.{Event}
 use Rattle.esc_frame.specs.Segments.{Segment, Piece, HasShape, IsPiece, ArePieces, joined, bytes_of, text_bytes, piece_bytes, ending_bytes, events_of}
 use Rattle.esc_frame.specs.Segments.{is_finished, breaks, breaks_text}
-use Rattle.esc_frame.specs.Segments.Segment.{Character, Wide, Broken, Stray, Control, HighControl, Terminator, Escape, Csi, Osc, CutEscape, CutCsi, CutDcs, Dcs}
+use Rattle.esc_frame.specs.Segments.Segment.{Broken, Osc, CutEscape, CutCsi, CutDcs, Dcs}
 use Rattle.esc_frame.specs.Segments.Segment.{Apc, Ignored}
 use Rattle.esc_frame.specs.Segments.Ending.{Open, Rung, Waits}
 use Rattle.esc_frame.specs.Segments.Piece.{One, Sequence, BrokenOff}
@@ -45,21 +45,7 @@ pieces_more (p ∷ ps) t b (h, r) =
 
 shape_more : (g : Segment) (t : List ℕ) (b : ℕ) → HasShape g t → HasShape g (t ++ b ∷ [])
 shape_more (Osc o ps e) t b h = (h.0, subst (λ x. ArePieces ps x) (append_assoc (ending_bytes e) t (b ∷ [])) (pieces_more ps (ending_bytes e ++ t) b h.1), h.2)
-shape_more (Character c) t b h = h
-shape_more (Wide x) t b h = h
-shape_more (Broken x) t b h = h
-shape_more (Stray c) t b h = h
-shape_more (Control c) t b h = h
-shape_more (HighControl p c) t b h = h
-shape_more (Terminator p c) t b h = h
-shape_more (Escape x f) t b h = h
-shape_more (Csi o x f) t b h = h
-shape_more (CutEscape x) t b h = h
-shape_more (Dcs o x f d) t b h = h
-shape_more (Apc o d) t b h = h
-shape_more (Ignored k o d) t b h = h
-shape_more (CutDcs o x) t b h = h
-shape_more (CutCsi o x) t b h = h
+shape_more _ t b h = h
 
 finished_more : (g : Segment) (t : List ℕ) (b : ℕ) → is_finished g t ≡ true → is_finished g (t ++ b ∷ []) ≡ true
 finished_more (Osc o ps Open) t b h = text_more t b h
@@ -72,14 +58,7 @@ finished_more (Apc o d) t b h = breaks_more t b h
 finished_more (Ignored k o d) t b h = breaks_more t b h
 finished_more (CutDcs o x) t b h = breaks_more t b h
 finished_more (CutCsi o x) t b h = breaks_more t b h
-finished_more (Character c) t b h = refl
-finished_more (Wide x) t b h = refl
-finished_more (Stray c) t b h = refl
-finished_more (Control c) t b h = refl
-finished_more (HighControl p c) t b h = refl
-finished_more (Terminator p c) t b h = refl
-finished_more (Escape x f) t b h = refl
-finished_more (Csi o x f) t b h = refl
+finished_more _ t b h = h
 
 pub finished_before : (gs : List Segment) (t : List ℕ) (b : ℕ) → AreFinished gs t → AreFinished gs (t ++ b ∷ [])
 finished_before [] t b h = tt

@@ -1,34 +1,43 @@
 -- Many bytes at once.
 use Rattle.std.proofs.Common.{ℕ, suc, ◌≡◌, ◌≢◌, ◌+◌, ◌<◌, ◌≤◌, Bool, true, false, cond, ◌&&◌, ◌||◌, List, [], ◌∷◌, ◌++◌, map, length, take, drop, get_or, refl}
-use Rattle.std.proofs.Common.{ap, sym, ◌∙◌, subst, inr, take-append-drop, length-drop, length-take, get_or-drop, ◌-◌, arith, Result, Ok, Err, OnOk}
+use Rattle.std.proofs.Common.{ap, sym, ◌∙◌, subst, take-append-drop, length-drop, length-take, append_assoc, ◌-◌, arith}
 use Rattle.std.specs.List.{FoldsTo, prefix_len, list_all}
 use Rattle.std.proofs.Math.Seq.{take-add}
 use Rattle.std.proofs.lemmas.List.{append-nil, take_more, take_all, map-append}
 use Rattle.std.proofs.lemmas.Bool.{and_parts, or_left, or_right}
 use Rattle.std.proofs.lemmas.Bool.Decides.{nat_tests}
 use Rattle.esc_frame.specs.declared.classes.Class.{Class}
-use Rattle.esc_frame.specs.declared.classes.Class.TheVariants.{Plain, Bell, Cancel, Escape, Intermediate, Parameter, Opens, Final, Delete, RawControl, RawOpens}
-use Rattle.esc_frame.specs.declared.classes.Class.TheVariants.{RawTerminator, High, Lead}
+use Rattle.esc_frame.specs.declared.classes.Class.TheVariants.{Lead}
 use Rattle.esc_frame.specs.Classes.{class_of, is_control, is_text}
 use Rattle.esc_frame.specs.Scans.{is_text_byte}
-use Rattle.esc_frame.specs.Sequences.{is_sequence, is_front, is_pair, number_of, is_from, is_second, is_tail}
+use Rattle.esc_frame.specs.Sequences.{is_sequence, is_front, is_pair, number_of, outcome, is_from, is_second, is_tail}
 use Rattle.esc_frame.specs.Events.{Event, StopsAt}
 use Rattle.esc_frame.specs.Events.Event.{Execute, Print}
-use Rattle.esc_frame.specs.Leads.{Unfinished}
+use Rattle.esc_frame.specs.declared.machine.Machine.{Machine}
+use Rattle.esc_frame.specs.Leads.{Unfinished, Holds}
 use Rattle.esc_frame.specs.Leads.Unfinished.{Ground, InOsc}
 use Rattle.esc_frame.specs.Segments.{Opener, Piece}
 use Rattle.esc_frame.specs.Segments.Piece.{Sequence}
-use Rattle.esc_frame.specs.Machine.Moves.{after_by, news_by, ground_after, ground_news, after_all, news_all, may_grow_in, may_grow_within}
+use Rattle.esc_frame.specs.Machine.Moves.{
+  move,
+  ground_move,
+  pending_move,
+  osc_pending_move,
+  inside,
+  goes_on,
+  after_by,
+  news_by,
+  after_all,
+  news_all,
+  may_grow_in,
+  may_grow_within,
+}
+use Rattle.esc_frame.specs.Machine.Calls.{Ran, TellsOne}
 use Rattle.esc_frame.specs.Machine.Characters.{IsCharacter}
-use Rattle.esc_frame.proofs.Given.{folds_then, stops_then, stops_more, stops_for, stops_here}
+use Rattle.esc_frame.proofs.Given.{folds_then, stops_then, stops_more, stops_for, stops_here, refused_stops}
 use Rattle.esc_frame.proofs.Streams.{after_append, news_append}
 
--- ---- one run behind another
-
--- a call that was refused
-pub refused_stops : {S : Type 0} (own : Type 0) (takes refuses : S → Event → S → Type 0) (old new : S) (e : Event) → refuses old e new
-    → StopsAt own takes refuses old (e ∷ []) new
-refused_stops own takes refuses old new e h = ([], e ∷ [], refl, inr (old, e, [], refl, refl, h))
+-- ---- one run after another
 
 or_assoc : (r s t : Bool) → (r || (s || t)) ≡ ((r || s) || t)
 or_assoc true s t = refl
@@ -40,13 +49,7 @@ grows_append u (x ∷ xs) ys =
     let v : Unfinished = after_by u x (class_of x) in
     ap (λ t. may_grow_in u || t) (grows_append v xs ys) ∙ or_assoc (may_grow_in u) (may_grow_within v xs) (may_grow_within (after_all v xs) ys)
 
--- a front of the bytes may make the machine's memory grow, so they may
-pub grows_front : (u : Unfinished) (rest : List ℕ) (n : ℕ) → may_grow_within u (take n rest) ≡ true → may_grow_within u rest ≡ true
-grows_front u rest n h =
-    ap (may_grow_within u) (sym (take-append-drop n rest)) ∙ grows_append u (take n rest) (drop n rest)
-    ∙ or_left (may_grow_within u (take n rest)) (may_grow_within (after_all u (take n rest)) (drop n rest)) h
-
--- so may the bytes behind a front
+-- the bytes after a prefix may make the machine's memory grow, so the bytes may
 pub grows_behind : (u : Unfinished) (rest : List ℕ) (n : ℕ) → may_grow_within (after_all u (take n rest)) (drop n rest) ≡ true → may_grow_within u rest ≡ true
 grows_behind u rest n h =
     ap (may_grow_within u) (sym (take-append-drop n rest)) ∙ grows_append u (take n rest) (drop n rest)
@@ -66,7 +69,7 @@ module _ {S : Type 0} (takes refuses : S → Event → S → Type 0) (u : Unfini
       subst (λ es. FoldsTo takes old es new) (sym (ap (news_all u) (take-add i n rest) ∙ news_append u (take i rest) (take n (drop i rest))))
       (folds_then takes (news_all u (take i rest)) _ old mid new so h)
 
-  -- stopped within the bytes behind
+  -- stopped within the bytes after them
   pub given_stop : (own : Type 0) → StopsAt own takes refuses mid (news_all (after_all u (take i rest)) (drop i rest)) new
       → StopsAt own takes refuses old (news_all u rest) new
   given_stop own h =
@@ -96,6 +99,13 @@ module _ {S : Type 0} (takes refuses : S → Event → S → Type 0) (u v : Unfi
             (subst (λ y. FoldsTo takes mid (news_all v y) new) e g)),
       )
 
+  pub ran_took : {A : Type 0} (machine : Machine A) (n : ℕ)
+      → Holds machine (after_all v (take n (take (length rest - i) (drop i rest)))) × FoldsTo takes mid
+      (news_all v (take n (take (length rest - i) (drop i rest)))) new
+      → Holds machine (after_all u (take (i + n) rest)) × FoldsTo takes old (news_all u (take (i + n) rest)) new
+  ran_took machine n (h, f) =
+      let r = ran_more (after_all v (take n (take (length rest - i) (drop i rest)))) n (refl, f) in (subst (λ w. Holds machine w) (sym r.0) h, r.1)
+
   -- or stopped within it, by a refused call
   pub ran_stop : (own : Type 0) → StopsAt own takes refuses mid (news_all v (take (length rest - i) (drop i rest))) new
       → StopsAt own takes refuses old (news_all u rest) new
@@ -112,56 +122,34 @@ module _ {S : Type 0} (takes refuses : S → Event → S → Type 0) (u v : Unfi
       (stops_for (may_grow_within v (take (length rest - i) (drop i rest)) ≡ true) (may_grow_within u rest ≡ true) takes refuses _ mid new
       (λ g. grows_behind u rest i (ap (λ x. may_grow_within x (drop i rest)) here ∙ ap (may_grow_within v) (sym (tail_is rest i)) ∙ g)) h)
 
--- what stopped within a front stopped within the whole
+-- in ground: n bytes of a slice to the end
+module _ {S : Type 0} (takes refuses : S → Event → S → Type 0) (is_ready : S → Type 0) (rest : List ℕ) (i : ℕ) where
+  pub ran_again : (n : ℕ) (old mid new : S) → Ran takes is_ready rest i old mid
+      → Ran takes is_ready (take (length rest - i) (drop i rest)) n mid new → Ran takes is_ready rest (i + n) old new
+  ran_again n old mid new so h =
+      let r = ran_more takes refuses Ground Ground rest i old mid new so.1 so.2 Ground n (h.1, h.2) in
+      let l = tail_length rest i in (omega (arith, so.0, h.0), r.0, r.1, h.3)
+
+  pub ran_refused : {own : Type 0} (old mid new : S) → Ran takes is_ready rest i old mid
+      → StopsAt own takes refuses mid (news_all Ground (take (length rest - i) (drop i rest))) new → StopsAt own takes refuses old (news_all Ground rest) new
+  ran_refused {own} old mid new so h = ran_stop takes refuses Ground Ground rest i old mid new so.1 so.2 own h
+
+-- what stopped within a prefix stopped within the whole
 pub stop_within : {S : Type 0} (own : Type 0) (takes refuses : S → Event → S → Type 0) (u : Unfinished) (rest : List ℕ) (n : ℕ) (old new : S)
     → StopsAt own takes refuses old (news_all u (take n rest)) new → StopsAt own takes refuses old (news_all u rest) new
 stop_within own takes refuses u rest n old new h =
     subst (λ es. StopsAt own takes refuses old es new) (sym (news_append u (take n rest) (drop n rest)) ∙ ap (news_all u) (take-append-drop n rest))
     (stops_more own takes refuses (news_all u (take n rest)) _ old new h)
 
--- one byte stopped
-pub one_stops : {S : Type 0} (takes refuses : S → Event → S → Type 0) (u : Unfinished) (rest : List ℕ) (c : Class) (old new : S) → 0 < length rest
-    → c ≡ class_of (get_or rest 0 0) → StopsAt (may_grow_in u ≡ true) takes refuses old (news_by u (get_or rest 0 0) c) new
-    → StopsAt (may_grow_within u rest ≡ true) takes refuses old (news_all u rest) new
-one_stops takes refuses u [] c old new h e s = absurd (omega arith)
-one_stops takes refuses u (b ∷ bs) c old new h e s =
-    stops_for (may_grow_in u ≡ true) (may_grow_within u (b ∷ bs) ≡ true) takes refuses _ old new (grows_first u (b ∷ bs) h)
-    (stops_more (may_grow_in u ≡ true) takes refuses (news_by u b (class_of b)) (news_all (after_by u b (class_of b)) bs) old new
-    (subst (λ k. StopsAt (may_grow_in u ≡ true) takes refuses old (news_by u b k) new) e s))
+-- bytes that the unfinished takes without a word
+pub quiet_run : (f : List ℕ → Unfinished) (p : ℕ → Bool) → ((d : List ℕ) (b : ℕ) → p b ≡ true → move (f d) b (class_of b) ≡ (f (d ++ b ∷ []), []))
+    → (d ys : List ℕ) → list_all p ys ≡ true → (after_all (f d) ys ≡ f (d ++ ys)) × (news_all (f d) ys ≡ [])
+quiet_run f p does d [] h = (ap f (sym (append-nil d)), refl)
+quiet_run f p does d (b ∷ ys) h =
+    let k = and_parts (p b) (list_all p ys) h in
+    let q = quiet_run f p does (d ++ b ∷ []) ys k.1 in rw (does d b k.0, after_by, news_by) (q.0 ∙ ap f (append_assoc d (b ∷ []) ys), q.1)
 
 -- ---- text in ground
-
-text_after : (b : ℕ) (c : Class) → is_text c ≡ true → ground_after b c ≡ Ground
-text_after b Intermediate h = refl
-text_after b Parameter h = refl
-text_after b (Opens k) h = refl
-text_after b Final h = refl
-text_after b Delete h = refl
-text_after b Plain h = absurd cc
-text_after b Bell h = absurd cc
-text_after b Cancel h = absurd cc
-text_after b Escape h = absurd cc
-text_after b RawControl h = absurd cc
-text_after b (RawOpens k) h = absurd cc
-text_after b RawTerminator h = absurd cc
-text_after b High h = absurd cc
-text_after b Lead h = absurd cc
-
-text_news : (b : ℕ) (c : Class) → is_text c ≡ true → ground_news b c ≡ Print b ∷ []
-text_news b Intermediate h = refl
-text_news b Parameter h = refl
-text_news b (Opens k) h = refl
-text_news b Final h = refl
-text_news b Delete h = refl
-text_news b Plain h = absurd cc
-text_news b Bell h = absurd cc
-text_news b Cancel h = absurd cc
-text_news b Escape h = absurd cc
-text_news b RawControl h = absurd cc
-text_news b (RawOpens k) h = absurd cc
-text_news b RawTerminator h = absurd cc
-text_news b High h = absurd cc
-text_news b Lead h = absurd cc
 
 pub text_class : (b : ℕ) → is_text_byte b ≡ true → is_text (class_of b) ≡ true
 unfolding class_of
@@ -178,16 +166,14 @@ pub run_passes : (p : ℕ → Bool) (xs : List ℕ) → list_all p (take (prefix
 run_passes p [] = refl
 run_passes p (x ∷ xs) = passes_at p x xs (prefix_len p xs) (p x) refl (run_passes p xs)
 
-pub text_run_after : (xs : List ℕ) → list_all is_text_byte xs ≡ true → after_all Ground xs ≡ Ground
-text_run_after [] h = refl
-text_run_after (x ∷ xs) h =
-    let k = and_parts (is_text_byte x) (list_all is_text_byte xs) h in rw (text_after x (class_of x) (text_class x k.0)) (text_run_after xs k.1)
+text_move : (b : ℕ) → is_text_byte b ≡ true → move Ground b (class_of b) ≡ (Ground, Print b ∷ [])
+text_move b h = rw (text_class b h, ground_move) refl
 
-pub text_run_news : (xs : List ℕ) → list_all is_text_byte xs ≡ true → news_all Ground xs ≡ map Print xs
-text_run_news [] h = refl
-text_run_news (x ∷ xs) h =
+pub text_run : (xs : List ℕ) → list_all is_text_byte xs ≡ true → (after_all Ground xs ≡ Ground) × (news_all Ground xs ≡ map Print xs)
+text_run [] h = (refl, refl)
+text_run (x ∷ xs) h =
     let k = and_parts (is_text_byte x) (list_all is_text_byte xs) h in
-    rw (text_after x (class_of x) (text_class x k.0), text_news x (class_of x) (text_class x k.0), text_run_news xs k.1) refl
+    let q = text_run xs k.1 in rw (text_move x k.0, after_by, news_by) (q.0, ap (λ es. Print x ∷ es) q.1)
 
 -- ---- a whole sequence in ground
 
@@ -244,60 +230,45 @@ four_parts a b c d h =
     let off : is_from 0xe0 0xef a ≡ false = over a 0xf0 0xf4 k.0 (omega arith) in
     (lower a 0xf0 0xf4 k.0 (omega arith) (omega arith), rw no refl, rw (on, k.1) refl, rw off refl, rw (k.0, k.1, k.2) refl)
 
-after_two : (a b : ℕ) → is_sequence (a ∷ b ∷ []) ≡ true → is_pair (a ∷ b ∷ []) ≡ false → after_all Ground (a ∷ b ∷ []) ≡ Ground
-after_two a b s p = rw (lead_class a (two_parts a b s), s, p) refl
+prints_two : (a b : ℕ) → is_sequence (a ∷ b ∷ []) ≡ true → is_pair (a ∷ b ∷ []) ≡ false → TellsOne (a ∷ b ∷ []) (Print (number_of (a ∷ b ∷ [])))
+prints_two a b s p = rw (lead_class a (two_parts a b s), s, p, after_by, news_by, move, pending_move, outcome) (refl, refl)
 
-after_three : (a b c : ℕ) → is_sequence (a ∷ b ∷ c ∷ []) ≡ true → is_pair (a ∷ b ∷ c ∷ []) ≡ false → after_all Ground (a ∷ b ∷ c ∷ []) ≡ Ground
-after_three a b c s p = let t = three_parts a b c s in rw (lead_class a t.0, t.1, t.2, s, p) refl
+prints_three : (a b c : ℕ) → is_sequence (a ∷ b ∷ c ∷ []) ≡ true → is_pair (a ∷ b ∷ c ∷ []) ≡ false
+    → TellsOne (a ∷ b ∷ c ∷ []) (Print (number_of (a ∷ b ∷ c ∷ [])))
+prints_three a b c s p = let t = three_parts a b c s in rw (lead_class a t.0, t.1, t.2, s, p, after_by, news_by, move, pending_move, outcome) (refl, refl)
 
-after_four : (a b c d : ℕ) → is_sequence (a ∷ b ∷ c ∷ d ∷ []) ≡ true → is_pair (a ∷ b ∷ c ∷ d ∷ []) ≡ false → after_all Ground (a ∷ b ∷ c ∷ d ∷ []) ≡ Ground
-after_four a b c d s p = let t = four_parts a b c d s in rw (lead_class a t.0, t.1, t.2, t.3, t.4, s, p) refl
+prints_four : (a b c d : ℕ) → is_sequence (a ∷ b ∷ c ∷ d ∷ []) ≡ true → is_pair (a ∷ b ∷ c ∷ d ∷ []) ≡ false
+    → TellsOne (a ∷ b ∷ c ∷ d ∷ []) (Print (number_of (a ∷ b ∷ c ∷ d ∷ [])))
+prints_four a b c d s p = let t = four_parts a b c d s
+    in rw (lead_class a t.0, t.1, t.2, t.3, t.4, s, p, after_by, news_by, move, pending_move, outcome) (refl, refl)
 
-news_two : (a b : ℕ) → is_sequence (a ∷ b ∷ []) ≡ true → is_pair (a ∷ b ∷ []) ≡ false → news_all Ground (a ∷ b ∷ []) ≡ Print (number_of (a ∷ b ∷ [])) ∷ []
-news_two a b s p = rw (lead_class a (two_parts a b s), s, p) refl
-
-news_three : (a b c : ℕ) → is_sequence (a ∷ b ∷ c ∷ []) ≡ true → is_pair (a ∷ b ∷ c ∷ []) ≡ false
-    → news_all Ground (a ∷ b ∷ c ∷ []) ≡ Print (number_of (a ∷ b ∷ c ∷ [])) ∷ []
-news_three a b c s p = let t = three_parts a b c s in rw (lead_class a t.0, t.1, t.2, s, p) refl
-
-news_four : (a b c d : ℕ) → is_sequence (a ∷ b ∷ c ∷ d ∷ []) ≡ true → is_pair (a ∷ b ∷ c ∷ d ∷ []) ≡ false
-    → news_all Ground (a ∷ b ∷ c ∷ d ∷ []) ≡ Print (number_of (a ∷ b ∷ c ∷ d ∷ [])) ∷ []
-news_four a b c d s p = let t = four_parts a b c d s in rw (lead_class a t.0, t.1, t.2, t.3, t.4, s, p) refl
-
-pub character_after : (x : List ℕ) (c : ℕ) → IsCharacter x c → after_all Ground x ≡ Ground
+sequence_prints : (x : List ℕ) → is_sequence x ≡ true → is_pair x ≡ false → TellsOne x (Print (number_of x))
 unfolding is_sequence
-character_after [] c (s, p, k) = none s
-character_after (a ∷ []) c (s, p, k) = none s
-character_after (a ∷ b ∷ []) c (s, p, k) = after_two a b s p
-character_after (a ∷ b ∷ d ∷ []) c (s, p, k) = after_three a b d s p
-character_after (a ∷ b ∷ d ∷ e ∷ []) c (s, p, k) = after_four a b d e s p
-character_after (a ∷ b ∷ d ∷ e ∷ f ∷ x) c (s, p, k) = none s
+sequence_prints [] s p = none s
+sequence_prints (a ∷ []) s p = none s
+sequence_prints (a ∷ b ∷ []) s p = prints_two a b s p
+sequence_prints (a ∷ b ∷ d ∷ []) s p = prints_three a b d s p
+sequence_prints (a ∷ b ∷ d ∷ e ∷ []) s p = prints_four a b d e s p
+sequence_prints (a ∷ b ∷ d ∷ e ∷ f ∷ x) s p = none s
 
-news_number : (x : List ℕ) → is_sequence x ≡ true → is_pair x ≡ false → news_all Ground x ≡ Print (number_of x) ∷ []
-unfolding is_sequence
-news_number [] s p = none s
-news_number (a ∷ []) s p = none s
-news_number (a ∷ b ∷ []) s p = news_two a b s p
-news_number (a ∷ b ∷ d ∷ []) s p = news_three a b d s p
-news_number (a ∷ b ∷ d ∷ e ∷ []) s p = news_four a b d e s p
-news_number (a ∷ b ∷ d ∷ e ∷ f ∷ x) s p = none s
-
-pub character_news : (x : List ℕ) (c : ℕ) → IsCharacter x c → news_all Ground x ≡ Print c ∷ []
-character_news x c (s, p, k) = news_number x s p ∙ ap (λ n. Print n ∷ []) (sym k)
+pub character_does : (x : List ℕ) (c : ℕ) → IsCharacter x c → TellsOne x (Print c)
+character_does x c (s, p, k) = let q = sequence_prints x s p in (q.0, q.1 ∙ ap (λ n. Print n ∷ []) (sym k))
 
 -- ---- a whole sequence in an OSC
 
 osc_two : (o : Opener) (ps : List Piece) (a b : ℕ) → is_sequence (a ∷ b ∷ []) ≡ true → is_pair (a ∷ b ∷ []) ≡ false
     → (after_all (InOsc o ps) (a ∷ b ∷ []) ≡ InOsc o (ps ++ Sequence (a ∷ b ∷ []) ∷ [])) × (news_all (InOsc o ps) (a ∷ b ∷ []) ≡ [])
-osc_two o ps a b s p = rw (lead_class a (two_parts a b s), s, p) (refl, refl)
+osc_two o ps a b s p = rw (lead_class a (two_parts a b s), s, p, after_by, news_by, move, inside, goes_on, osc_pending_move, outcome) (refl, refl)
 
 osc_three : (o : Opener) (ps : List Piece) (a b c : ℕ) → is_sequence (a ∷ b ∷ c ∷ []) ≡ true → is_pair (a ∷ b ∷ c ∷ []) ≡ false
     → (after_all (InOsc o ps) (a ∷ b ∷ c ∷ []) ≡ InOsc o (ps ++ Sequence (a ∷ b ∷ c ∷ []) ∷ [])) × (news_all (InOsc o ps) (a ∷ b ∷ c ∷ []) ≡ [])
-osc_three o ps a b c s p = let t = three_parts a b c s in rw (lead_class a t.0, t.1, t.2, s, p) (refl, refl)
+osc_three o ps a b c s p = let t = three_parts a b c s
+    in rw (lead_class a t.0, t.1, t.2, s, p, after_by, news_by, move, inside, goes_on, osc_pending_move, outcome) (refl, refl)
 
 osc_four : (o : Opener) (ps : List Piece) (a b c d : ℕ) → is_sequence (a ∷ b ∷ c ∷ d ∷ []) ≡ true → is_pair (a ∷ b ∷ c ∷ d ∷ []) ≡ false
     → (after_all (InOsc o ps) (a ∷ b ∷ c ∷ d ∷ []) ≡ InOsc o (ps ++ Sequence (a ∷ b ∷ c ∷ d ∷ []) ∷ [])) × (news_all (InOsc o ps) (a ∷ b ∷ c ∷ d ∷ []) ≡ [])
-osc_four o ps a b c d s p = let t = four_parts a b c d s in rw (lead_class a t.0, t.1, t.2, t.3, t.4, s, p) (refl, refl)
+osc_four o ps a b c d s p = let t = four_parts a b c d s
+    in rw (lead_class a t.0, t.1, t.2, t.3, t.4, s, p, after_by, news_by, move, inside, goes_on, osc_pending_move, outcome) (refl, refl)
 
 pub osc_sequence : (o : Opener) (ps : List Piece) (x : List ℕ) → is_sequence x ≡ true → is_pair x ≡ false
     → (after_all (InOsc o ps) x ≡ InOsc o (ps ++ Sequence x ∷ [])) × (news_all (InOsc o ps) x ≡ [])
@@ -333,13 +304,13 @@ module _ {S : Type 0} (takes refuses : S → Event → S → Type 0) (rest : Lis
       → (after_all Ground (take n rest) ≡ Ground) × FoldsTo takes old (news_all Ground (take n rest)) new
   text_given e f =
       let p : list_all is_text_byte (take n rest) ≡ true = subst (λ k. list_all is_text_byte (take k rest) ≡ true) (sym e) (run_passes is_text_byte rest) in
-      (text_run_after (take n rest) p, subst (λ es. FoldsTo takes old es new) (sym (text_run_news (take n rest) p)) f)
+      let q = text_run (take n rest) p in (q.0, subst (λ es. FoldsTo takes old es new) (sym q.1) f)
 
   pub text_stops : (own : Type 0) → n ≡ prefix_len is_text_byte rest → StopsAt own takes refuses old (map Print (take n rest)) new
       → StopsAt own takes refuses old (news_all Ground rest) new
   text_stops own e f =
       let p : list_all is_text_byte (take n rest) ≡ true = subst (λ k. list_all is_text_byte (take k rest) ≡ true) (sym e) (run_passes is_text_byte rest) in
-      stop_within own takes refuses Ground rest n old new (subst (λ es. StopsAt own takes refuses old es new) (sym (text_run_news (take n rest) p)) f)
+      stop_within own takes refuses Ground rest n old new (subst (λ es. StopsAt own takes refuses old es new) (sym (text_run (take n rest) p).1) f)
 
 -- a run that begins with a byte of text is not empty
 pub some_run : (rest : List ℕ) → 0 < length rest → 0x20 ≤ get_or rest 0 0 → get_or rest 0 0 < 0x80 → 0 < length (take (prefix_len is_text_byte rest) rest)
@@ -354,103 +325,70 @@ some_run (x ∷ rest) l low high =
 
 -- one byte of text
 pub one_text : (rest : List ℕ) → 0 < length rest → is_text_byte (get_or rest 0 0) ≡ true
-    → (after_all Ground (take 1 rest) ≡ Ground) × (news_all Ground (take 1 rest) ≡ Print (get_or rest 0 0) ∷ [])
+    → TellsOne (take 1 rest) (Print (get_or rest 0 0))
 one_text [] l h = absurd (omega arith)
-one_text (x ∷ rest) l h = let p : list_all is_text_byte (x ∷ []) ≡ true = rw h refl in (text_run_after (x ∷ []) p, text_run_news (x ∷ []) p)
+one_text (x ∷ rest) l h = let p : list_all is_text_byte (x ∷ []) ≡ true = rw h refl in text_run (x ∷ []) p
 
 -- one control
-control_class : (b : ℕ) → b < 0x20 → b ≢ 0x1b → is_control (class_of b) ≡ true
+control_class : (b : ℕ) → b < 0x20 → b ≢ 0x1b → (is_text (class_of b) ≡ false) × (is_control (class_of b) ≡ true)
 unfolding class_of
-control_class b low other = grind (arith, nat_tests)
-
-control_after : (b : ℕ) (c : Class) → is_control c ≡ true → ground_after b c ≡ Ground
-control_after b Plain h = refl
-control_after b Bell h = refl
-control_after b Cancel h = refl
-control_after b _ h = absurd cc
-
-control_news : (b : ℕ) (c : Class) → is_control c ≡ true → ground_news b c ≡ Execute b ∷ []
-control_news b Plain h = refl
-control_news b Bell h = refl
-control_news b Cancel h = refl
-control_news b _ h = absurd cc
+control_class b low other = (grind (arith, nat_tests), grind (arith, nat_tests))
 
 pub one_control : (rest : List ℕ) → 0 < length rest → get_or rest 0 0 < 0x20 → get_or rest 0 0 ≢ 0x1b
-    → (after_all Ground (take 1 rest) ≡ Ground) × (news_all Ground (take 1 rest) ≡ Execute (get_or rest 0 0) ∷ [])
+    → TellsOne (take 1 rest) (Execute (get_or rest 0 0))
 one_control [] l low other = absurd (omega arith)
-one_control (b ∷ rest) l low other =
-    let c : is_control (class_of b) ≡ true = control_class b low other in
-    (control_after b (class_of b) c, rw (control_news b (class_of b) c) refl)
+one_control (b ∷ rest) l low other = let k = control_class b low other in rw (k.0, k.1, after_by, news_by, ground_move) (refl, refl)
 
--- a character, whose bytes are known by what they do
-module _ {S : Type 0} (takes refuses : S → Event → S → Type 0) (rest : List ℕ) (n c : ℕ) (old new : S)
-    (does : (after_all Ground (take n rest) ≡ Ground) × (news_all Ground (take n rest) ≡ Print c ∷ [])) where
-  pub character_given : takes old (Print c) new → (after_all Ground (take n rest) ≡ Ground) × FoldsTo takes old (news_all Ground (take n rest)) new
-  character_given g = (does.0, subst (λ es. FoldsTo takes old es new) (sym does.1) (new, g, refl))
+-- bytes that tell one event
+module _ {S : Type 0} (takes refuses : S → Event → S → Type 0) (rest : List ℕ) (n : ℕ) (e : Event) (old new : S) (one : TellsOne (take n rest) e) where
+  pub event_given : takes old e new → FoldsTo takes old (news_all Ground (take n rest)) new
+  event_given g = subst (λ es. FoldsTo takes old es new) (sym one.1) (new, g, refl)
 
-  pub character_stops : (own : Type 0) → refuses old (Print c) new → StopsAt own takes refuses old (news_all Ground rest) new
-  character_stops own r =
-      stop_within own takes refuses Ground rest n old new (subst (λ es. StopsAt own takes refuses old es new) (sym does.1)
-      (refused_stops own takes refuses old new (Print c) r))
-
--- ---- a run, and the byte behind it
-
-module _ {S : Type 0} (takes refuses : S → Event → S → Type 0) (u v : Unfinished) (rest : List ℕ) (n : ℕ) (c : Class) (old mid new : S)
-    (here : after_all u (take n rest) ≡ v) (so : FoldsTo takes old (news_all u (take n rest)) mid)
-    (room : n < length rest) (e : c ≡ class_of (get_or rest n 0)) where
-  pub then_after : after_all u (take (n + 1) rest) ≡ after_by v (get_or rest n 0) c
-  then_after =
-      ap (after_all u) (take_more rest n 0 room) ∙ after_append u (take n rest) (get_or rest n 0 ∷ [])
-      ∙ ap (λ w. after_by w (get_or rest n 0) (class_of (get_or rest n 0))) here ∙ ap (after_by v (get_or rest n 0)) (sym e)
-
-  then_news : news_all u (take (n + 1) rest) ≡ news_all u (take n rest) ++ news_by v (get_or rest n 0) c
-  then_news =
-      ap (news_all u) (take_more rest n 0 room) ∙ news_append u (take n rest) (get_or rest n 0 ∷ [])
-      ∙ ap (λ w. news_all u (take n rest) ++ (news_by w (get_or rest n 0) (class_of (get_or rest n 0)) ++ [])) here
-      ∙ ap (λ es. news_all u (take n rest) ++ es) (append-nil (news_by v (get_or rest n 0) (class_of (get_or rest n 0))) ∙ ap (news_by v (get_or rest n 0))
-      (sym e))
-
-  pub then_given : FoldsTo takes mid (news_by v (get_or rest n 0) c) new → FoldsTo takes old (news_all u (take (n + 1) rest)) new
-  then_given h = subst (λ es. FoldsTo takes old es new) (sym then_news) (folds_then takes (news_all u (take n rest)) _ old mid new so h)
-
-  pub then_stops : StopsAt (may_grow_in v ≡ true) takes refuses mid (news_by v (get_or rest n 0) c) new
-      → StopsAt (may_grow_within u rest ≡ true) takes refuses old (news_all u rest) new
-  then_stops h =
-      let first : get_or (drop n rest) 0 0 ≡ get_or rest n 0 = get_or-drop n rest 0 0 ∙ ap (λ k. get_or rest k 0) (omega arith) in
-      let some : 0 < length (drop n rest) = omega (arith, length-drop n rest) in
-      let one : StopsAt (may_grow_within v (drop n rest) ≡ true) takes refuses mid (news_all v (drop n rest)) new
-      =
-      one_stops takes refuses v (drop n rest) c mid new some (e ∙ ap class_of (sym first))
-      (subst (λ b. StopsAt (may_grow_in v ≡ true) takes refuses mid (news_by v b c) new) (sym first) h) in
-      given_stop takes refuses u rest n old mid new so (may_grow_within u rest ≡ true)
-      (stops_for (may_grow_within v (drop n rest) ≡ true) (may_grow_within u rest ≡ true) takes refuses _ mid new
-      (λ g. grows_behind u rest n (ap (λ x. may_grow_within x (drop n rest)) here ∙ g))
-      (subst (λ x. StopsAt (may_grow_within v (drop n rest) ≡ true) takes refuses mid (news_all x (drop n rest)) new) (sym here) one))
+  pub event_stops : (own : Type 0) → refuses old e new → StopsAt own takes refuses old (news_all Ground rest) new
+  event_stops own r =
+      stop_within own takes refuses Ground rest n old new (subst (λ es. StopsAt own takes refuses old es new) (sym one.1)
+      (refused_stops own takes refuses old new e r))
 
 -- no events leave the actor as it was
 pub quiet_folds : {S : Type 0} (takes : S → Event → S → Type 0) (es : List Event) (old : S) → es ≡ [] → FoldsTo takes old es old
 quiet_folds takes es old e = subst (λ xs. FoldsTo takes old xs old) (sym e) refl
 
--- the same, where the run tells nothing
+-- ---- a run that tells nothing, and the byte after it
+
 module _ {S : Type 0} (takes refuses : S → Event → S → Type 0) (u v : Unfinished) (rest : List ℕ) (n : ℕ) (c : Class) (old new : S)
     (run : (after_all u (take n rest) ≡ v) × (news_all u (take n rest) ≡ []))
     (room : n < length rest) (e : c ≡ class_of (get_or rest n 0)) where
   pub quiet_after : after_all u (take (n + 1) rest) ≡ after_by v (get_or rest n 0) c
-  quiet_after = then_after takes refuses u v rest n c old old new run.0 (quiet_folds takes (news_all u (take n rest)) old run.1) room e
+  quiet_after =
+      ap (after_all u) (take_more rest n 0 room) ∙ after_append u (take n rest) (get_or rest n 0 ∷ [])
+      ∙ ap (λ w. after_by w (get_or rest n 0) (class_of (get_or rest n 0))) run.0 ∙ ap (after_by v (get_or rest n 0)) (sym e)
+
+  quiet_news : news_all u (take (n + 1) rest) ≡ news_by v (get_or rest n 0) c
+  quiet_news =
+      ap (news_all u) (take_more rest n 0 room) ∙ news_append u (take n rest) (get_or rest n 0 ∷ [])
+      ∙ ap (λ es. es ++ news_all (after_all u (take n rest)) (get_or rest n 0 ∷ [])) run.1 ∙ ap (λ w. news_all w (get_or rest n 0 ∷ [])) run.0
+      ∙ append-nil (news_by v (get_or rest n 0) (class_of (get_or rest n 0))) ∙ ap (news_by v (get_or rest n 0)) (sym e)
+
+  quiet_grows : may_grow_in v ≡ true → may_grow_within u rest ≡ true
+  quiet_grows h =
+      let some : 0 < length (drop n rest) = omega (arith, length-drop n rest) in
+      grows_behind u rest n (ap (λ x. may_grow_within x (drop n rest)) run.0 ∙ grows_first v (drop n rest) some h)
 
   pub quiet_given : FoldsTo takes old (news_by v (get_or rest n 0) c) new → FoldsTo takes old (news_all u (take (n + 1) rest)) new
-  quiet_given h = then_given takes refuses u v rest n c old old new run.0 (quiet_folds takes (news_all u (take n rest)) old run.1) room e h
+  quiet_given h = subst (λ es. FoldsTo takes old es new) (sym quiet_news) h
+
+  pub quiet_took : {A : Type 0} (machine : Machine A) → Holds machine (after_by v (get_or rest n 0) c) × FoldsTo takes old (news_by v (get_or rest n 0) c) new
+      → Holds machine (after_all u (take (n + 1) rest)) × FoldsTo takes old (news_all u (take (n + 1) rest)) new
+  quiet_took machine h = (subst (λ w. Holds machine w) (sym quiet_after) h.0, quiet_given h.1)
 
   pub quiet_stops : StopsAt (may_grow_in v ≡ true) takes refuses old (news_by v (get_or rest n 0) c) new
       → StopsAt (may_grow_within u rest ≡ true) takes refuses old (news_all u rest) new
-  quiet_stops h = then_stops takes refuses u v rest n c old old new run.0 (quiet_folds takes (news_all u (take n rest)) old run.1) room e h
+  quiet_stops h =
+      stop_within (may_grow_within u rest ≡ true) takes refuses u rest (n + 1) old new
+      (subst (λ es. StopsAt (may_grow_within u rest ≡ true) takes refuses old es new) (sym quiet_news)
+      (stops_for (may_grow_in v ≡ true) (may_grow_within u rest ≡ true) takes refuses _ old new quiet_grows h))
 
 -- the machine stopped by itself, where it may
 pub own_stops : {S : Type 0} (takes refuses : S → Event → S → Type 0) (u : Unfinished) (rest : List ℕ) (old : S) → 0 < length rest → may_grow_in u ≡ true
     → StopsAt (may_grow_within u rest ≡ true) takes refuses old (news_all u rest) old
 own_stops takes refuses u rest old some h = stops_here (may_grow_within u rest ≡ true) takes refuses (news_all u rest) old (grows_first u rest some h)
-
--- what holds in any case
-pub always_ok : {T E : Type 0} {P : Type 0} (r : Result T E) → P → OnOk r P
-always_ok (Ok x) p = p
-always_ok (Err e) p = tt

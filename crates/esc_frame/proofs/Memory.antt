@@ -7,19 +7,17 @@ use Rattle.esc_frame.specs.declared.classes.Kind.{Kind}
 use Rattle.esc_frame.specs.declared.classes.Kind.TheVariants as kind
 use Rattle.esc_frame.specs.Classes.{class_of, is_breaker, in_data}
 use Rattle.esc_frame.specs.Events.{Event}
-use Rattle.esc_frame.specs.Segments.{Segment, Opener, HasShape, IsOpener, ArePieces, AreSegments, IsCut, joined, bytes_of, text_bytes, ending_bytes, opener}
-use Rattle.esc_frame.specs.Segments.Segment.{Character, Wide, Broken, Stray, Control, HighControl, Terminator, CutEscape, CutCsi, CutDcs, Csi, Osc, Dcs, Apc}
+use Rattle.esc_frame.specs.Segments.{Segment, Opener, HasShape, IsOpener, AreSegments, IsCut, joined, bytes_of, text_bytes, ending_bytes, opener}
+use Rattle.esc_frame.specs.Segments.Segment.{CutCsi, CutDcs, Csi, Osc, Dcs, Apc}
 use Rattle.esc_frame.specs.Segments.Segment.{Ignored}
-use Rattle.esc_frame.specs.Segments.Segment.{Escape as EscapeOf}
 use Rattle.esc_frame.specs.Segments.Opener.{Long, Raw, Pair}
-use Rattle.esc_frame.specs.Segments.Ending.{Open, Waits}
 use Rattle.esc_frame.specs.Memory.{may_grow, MayGrow}
-use Rattle.esc_frame.specs.Leads.{Unfinished, Stands, AreFinished, osc_bytes}
-use Rattle.esc_frame.specs.Leads.Unfinished.{Ground, Pending, InEscape, InCsi, InDcs, InData, InApc, InIgnored, InOsc, InOscPending}
+use Rattle.esc_frame.specs.Leads.{Unfinished, Stands, AreFinished}
+use Rattle.esc_frame.specs.Leads.Unfinished.{Ground, Pending, InEscape}
 use Rattle.esc_frame.specs.Machine.Moves.{after_by, after_all, may_grow_in, may_grow_within}
 use Rattle.esc_frame.specs.Stream.{events}
 use Rattle.esc_frame.proofs.Grows.{finished_before}
-use Rattle.esc_frame.proofs.Cuts.{has_cut, cut_last, stands}
+use Rattle.esc_frame.proofs.Cuts.{has_cut, last_of, cut_last, stands}
 use Rattle.esc_frame.proofs.First.{Found, found, first, first_is, opened_first, opener_first, csi_of, dcs_of, front}
 use Rattle.esc_frame.proofs.First.Found.{OneSegment, OscBehind}
 use Rattle.esc_frame.proofs.OneCut.{head_of, one_cut}
@@ -69,21 +67,7 @@ opened_grows kind.Apc o r = refl
 
 found_is : (g : Segment) (r : List ℕ) → found_grows (found g r) ≡ may_grow g
 found_is (Osc o ps e) r = refl
-found_is (Character b) r = refl
-found_is (Wide x) r = refl
-found_is (Broken x) r = refl
-found_is (Stray b) r = refl
-found_is (Control b) r = refl
-found_is (HighControl p b) r = refl
-found_is (Terminator p b) r = refl
-found_is (EscapeOf x f) r = refl
-found_is (Csi o x f) r = refl
-found_is (CutEscape x) r = refl
-found_is (CutCsi o x) r = refl
-found_is (CutDcs o x) r = refl
-found_is (Dcs o x f d) r = refl
-found_is (Apc o d) r = refl
-found_is (Ignored k o d) r = refl
+found_is _ r = refl
 
 abbrev is_cons : List ℕ → Bool
 is_cons [] = false
@@ -164,27 +148,9 @@ open_grows : (s : List ℕ) (es : List Event) (gs : List Segment) (u : Unfinishe
 open_grows s es gs Ground st h = absurd cc
 open_grows s es gs (Pending f) st h = absurd cc
 open_grows s es gs (InEscape x) st h = absurd cc
-open_grows s es gs (InCsi o x) st h = (gs ++ CutCsi o x ∷ [], cut_last s es gs (InCsi o x) (CutCsi o x) st refl st.shape, last_grows gs (CutCsi o x) refl)
-open_grows s es gs (InDcs o x) st h = (gs ++ CutDcs o x ∷ [], cut_last s es gs (InDcs o x) (CutDcs o x) st refl st.shape, last_grows gs (CutDcs o x) refl)
-open_grows s es gs (InData o x f d) st h =
-    (gs ++ Dcs o x f d ∷ [], cut_last s es gs (InData o x f d) (Dcs o x f d) st refl st.shape, last_grows gs (Dcs o x f d) refl)
-open_grows s es gs (InApc o d) st h = (gs ++ Apc o d ∷ [], cut_last s es gs (InApc o d) (Apc o d) st refl st.shape, last_grows gs (Apc o d) refl)
-open_grows s es gs (InIgnored k o d) st h =
-    (gs ++ Ignored k o d ∷ [], cut_last s es gs (InIgnored k o d) (Ignored k o d) st refl st.shape, last_grows gs (Ignored k o d) refl)
-open_grows s es gs (InOsc o ps) st h = (
-  gs ++ Osc o ps Open ∷ [],
-  cut_last s es gs (InOsc o ps) (Osc o ps Open) st (sym (append-nil (osc_bytes o ps))) (st.shape.0, st.shape.1, tt),
-  last_grows gs
-      (Osc o ps Open) refl,
-)
-open_grows s es gs (InOscPending o ps f) st h = (
-  gs ++ Osc o ps (Waits f) ∷ [],
-  cut_last s es gs (InOscPending o ps f) (Osc o ps (Waits f)) st refl
-      (st.shape.0, subst (λ y. ArePieces ps y) (sym (append-nil f)) st.shape.1, st.shape.2),
-  last_grows gs (Osc o ps (Waits f)) refl,
-)
+open_grows s es gs u st h = (gs ++ last_of u ∷ [], cut_last s es gs u refl st, last_grows gs (last_of u) refl)
 
--- where one of these bytes behind s may make it grow, s and they are such a stream
+-- where one of these bytes after s may make it grow, s and they are such a stream
 pub grows_added : (s b : List ℕ) → may_grow_within (after_all Ground s) b ≡ true → MayGrow (s ++ b)
 grows_added s [] h = absurd cc
 grows_added s (c ∷ b) h =

@@ -6,9 +6,8 @@ use Rattle.esc_frame.specs.declared.classes.Kind.TheVariants as kind
 use Rattle.esc_frame.specs.Events.{Event}
 use Rattle.esc_frame.specs.Segments.{Segment, Opener, Piece, Ending, HasShape, AreSegments, IsCut, HasEvents, events_of_cut, joined, bytes_of, text_bytes}
 use Rattle.esc_frame.specs.Segments.{ending_bytes, is_finished, opener}
-use Rattle.esc_frame.specs.Segments.Segment.{Character, Wide, Broken, Stray, Control, HighControl, Terminator, CutEscape, CutCsi, CutDcs, Csi, Osc, Dcs, Apc}
+use Rattle.esc_frame.specs.Segments.Segment.{Wide, Broken, HighControl, Terminator, CutCsi, CutDcs, Csi, Osc, Dcs, Apc}
 use Rattle.esc_frame.specs.Segments.Segment.{Ignored}
-use Rattle.esc_frame.specs.Segments.Segment.{Escape as EscapeOf}
 use Rattle.esc_frame.specs.Segments.Opener.{Long, Raw, Pair}
 use Rattle.esc_frame.specs.Segments.Ending.{Open, Rung, Waits}
 use Rattle.esc_frame.proofs.Scan.{lead_of, front_lead, sequence_lead}
@@ -22,21 +21,7 @@ OscOrWhole g = ((o : Opener) × (ps : List Piece) × (e : Ending) × (g ≡ Osc 
 
 osc_or_whole : (g : Segment) → OscOrWhole g
 osc_or_whole (Osc o ps e) = inl (o, ps, e, refl)
-osc_or_whole (Character b) = inr (λ r. refl)
-osc_or_whole (Wide b) = inr (λ r. refl)
-osc_or_whole (Broken b) = inr (λ r. refl)
-osc_or_whole (Stray b) = inr (λ r. refl)
-osc_or_whole (Control b) = inr (λ r. refl)
-osc_or_whole (HighControl p b) = inr (λ r. refl)
-osc_or_whole (Terminator p b) = inr (λ r. refl)
-osc_or_whole (EscapeOf x f) = inr (λ r. refl)
-osc_or_whole (Csi o x f) = inr (λ r. refl)
-osc_or_whole (CutEscape x) = inr (λ r. refl)
-osc_or_whole (CutCsi o x) = inr (λ r. refl)
-osc_or_whole (CutDcs o x) = inr (λ r. refl)
-osc_or_whole (Dcs o x f d) = inr (λ r. refl)
-osc_or_whole (Apc o d) = inr (λ r. refl)
-osc_or_whole (Ignored k o d) = inr (λ r. refl)
+osc_or_whole _ = inr (λ r. refl)
 
 may_end : (o : Opener) (ps : List Piece) (e : Ending) (r : List ℕ) → MayFollow (Osc o ps e) r → MayEnd e r
 may_end o ps Open [] m = tt
@@ -92,17 +77,12 @@ opener_cons k Raw x t = refl
 opener_cons k Pair x t = refl
 
 has_byte : (g : Segment) (r t : List ℕ) → HasShape g r → is_cons (bytes_of g ++ t) ≡ true
-has_byte (Character b) r t s = refl
 has_byte (Wide x) r t s = front_cons x t (sequence_lead x t s.0)
 has_byte (Broken x) r t s = front_cons x t (front_lead x t s)
-has_byte (Stray b) r t s = refl
-has_byte (Control b) r t s = refl
 has_byte (HighControl true b) r t s = refl
 has_byte (HighControl false b) r t s = refl
 has_byte (Terminator true b) r t s = refl
 has_byte (Terminator false b) r t s = refl
-has_byte (EscapeOf x f) r t s = refl
-has_byte (CutEscape x) r t s = refl
 has_byte (Csi o x f) r t s = ap is_cons (append_assoc (opener kind.Csi o ++ x) (f ∷ []) t) ∙ opener_cons kind.Csi o x (f ∷ t)
 has_byte (CutCsi o x) r t s = opener_cons kind.Csi o x t
 has_byte (CutDcs o x) r t s = opener_cons kind.Dcs o x t
@@ -113,6 +93,7 @@ has_byte (Dcs o x f d) r t s =
     ∙ opener_cons kind.Dcs o x (f ∷ (d ++ t))
 has_byte (Osc o ps e) r t s =
     ap is_cons (append_assoc (opener kind.Osc o ++ text_bytes ps) (ending_bytes e) t) ∙ opener_cons kind.Osc o (text_bytes ps) (ending_bytes e ++ t)
+has_byte _ r t s = refl
 
 not_none : (g : Segment) (r t : List ℕ) → HasShape g r → [] ≡ bytes_of g ++ t → ⊥
 not_none g r t s e = let h : false ≡ true = ap is_cons e ∙ has_byte g r t s in cc

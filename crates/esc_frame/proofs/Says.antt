@@ -10,9 +10,8 @@ use Rattle.esc_frame.specs.Sequences.{is_broken_before}
 use Rattle.esc_frame.specs.Events.{Event}
 use Rattle.esc_frame.specs.Events.Event.{Print, Execute}
 use Rattle.esc_frame.specs.Segments.{Segment, Piece, HasShape, IsPiece, ArePieces, joined, bytes_of, text_bytes, events_of, is_finished, ends_itself}
-use Rattle.esc_frame.specs.Segments.Segment.{Character, Wide, Broken, Stray, Control, HighControl, Terminator, Csi, Osc, Dcs, Apc, Ignored, CutDcs, CutEscape}
+use Rattle.esc_frame.specs.Segments.Segment.{Character, Wide, Broken, Control, HighControl, Osc, Dcs, Apc, Ignored, CutDcs, CutEscape}
 use Rattle.esc_frame.specs.Segments.Segment.{CutCsi}
-use Rattle.esc_frame.specs.Segments.Segment.{Escape as EscapeOf}
 use Rattle.esc_frame.specs.Segments.Ending.{Open, Rung, Waits}
 use Rattle.esc_frame.specs.Segments.Piece.{One, Sequence, BrokenOff}
 use Rattle.esc_frame.specs.Leads.{finished_events}
@@ -74,14 +73,7 @@ itself (CutDcs o x) rest e h = absurd cc
 itself (Dcs o x f d) rest e h = absurd cc
 itself (Apc o d) rest e h = absurd cc
 itself (Ignored k o d) rest e h = absurd cc
-itself (Character c) rest e h = (h, refl)
-itself (Wide x) rest e h = (h, refl)
-itself (Stray c) rest e h = (h, refl)
-itself (Control c) rest e h = (h, refl)
-itself (HighControl p c) rest e h = (h, refl)
-itself (Terminator p c) rest e h = (h, refl)
-itself (EscapeOf x c) rest e h = (h, refl)
-itself (Csi o x c) rest e h = (h, refl)
+itself _ rest e h = (h, refl)
 
 pub says_itself : (t : List ℕ) (es : List Event) → IsOneSegment t es → Says t es
 says_itself t es (g, bytes, ends, shape, told) = says_by (bytes_of g) t (events_of g true) es bytes told (says_one g (λ rest. itself g rest ends shape))

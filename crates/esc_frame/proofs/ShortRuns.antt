@@ -9,15 +9,16 @@ use Rattle.esc_frame.specs.Classes.{class_of}
 use Rattle.esc_frame.specs.Events.{Event, StopsAt}
 use Rattle.esc_frame.specs.Events.Event.{CsiDispatch}
 use Rattle.esc_frame.specs.Leads.Unfinished.{Ground, InCsi}
-use Rattle.esc_frame.specs.Machine.Moves.{after_all, news_all, csi_news, may_grow_within, IsStill}
+use Rattle.esc_frame.specs.Machine.Moves.{after_all, news_all, inside, may_grow_within, IsStill}
 use Rattle.esc_frame.specs.Scans.{is_body_byte}
 use Rattle.esc_frame.specs.Segments.{csi_events}
 use Rattle.esc_frame.specs.Segments.Opener.{Long}
 use Rattle.esc_frame.specs.Machine.Shorts.{IsShort}
 use Rattle.esc_frame.proofs.CsiRuns.{csi_opens, body_quiet, body_strip, final_by}
-use Rattle.esc_frame.proofs.ManyBytes.{after_more, quiet_after, quiet_given, quiet_stops, tail_is, refused_stops}
+use Rattle.esc_frame.proofs.ManyBytes.{after_more, quiet_after, quiet_given, quiet_stops, tail_is}
+use Rattle.esc_frame.proofs.Given.{refused_stops}
 use Rattle.esc_frame.proofs.Streams.{news_append}
-use Rattle.esc_frame.proofs.Still.{csi_still, body_still}
+use Rattle.esc_frame.proofs.Still.{opened_still, body_still}
 
 module _ (rest : List ℕ) (run : ℕ) (items : List CsiParam) (some : 2 < length rest) (e : get_or rest 0 0 ≡ 0x1b) (b : get_or rest 1 0 ≡ 0x5b)
     (room : run + 2 < length rest) (read : IsShort items (take run (drop 2 rest))) (final : is_from 0x40 0x7e (get_or rest (run + 2) 0) ≡ true) where
@@ -48,12 +49,14 @@ module _ (rest : List ℕ) (run : ℕ) (items : List CsiParam) (some : 2 < lengt
   short_after =
       ap (λ n. after_all Ground (take n rest)) three
       ∙ quiet_after {S = Unit {0}} (λ _ _ _. Unit {0}) (λ _ _ _. Unit {0}) Ground (InCsi (Long []) body) rest (run + 2) _ tt tt short_run room refl
-      ∙ (final_by (Long []) body (get_or rest (run + 2) 0) low high).0
+      ∙ ap (λ m. m.0) (final_by (Long []) body (get_or rest (run + 2) 0) low high)
 
   -- the event
-  short_event : csi_news body (get_or rest (run + 2) 0) (class_of (get_or rest (run + 2) 0)) ≡ CsiDispatch items false (get_or rest (run + 2) 0) ∷ []
+  short_event : (inside (InCsi (Long []) body) (get_or rest (run + 2) 0) (class_of (get_or rest (run + 2) 0))).1
+      ≡ CsiDispatch items false (get_or rest (run + 2) 0) ∷ []
   short_event =
-      (final_by (Long []) body (get_or rest (run + 2) 0) low high).1 ∙ ap (λ x. csi_events x (get_or rest (run + 2) 0)) (body_strip [] body read.body)
+      ap (λ m. m.1) (final_by (Long []) body (get_or rest (run + 2) 0) low high)
+      ∙ ap (λ x. csi_events x (get_or rest (run + 2) 0)) (body_strip [] body read.body)
       ∙ rw (read.form, sym read.kept, sym read.more) refl
 
   pub short_given : {S : Type 0} (takes refuses : S → Event → S → Type 0) (old new : S) → takes old (CsiDispatch items false (get_or rest (run + 2) 0)) new
@@ -72,6 +75,6 @@ module _ (rest : List ℕ) (run : ℕ) (items : List CsiParam) (some : 2 < lengt
   pub short_still : IsStill Ground rest (run + 3)
   short_still =
       let back : 2 + (run + 1) ≡ run + 3 = omega arith in
-      subst (IsStill Ground rest) back (csi_still rest (run + 1) some e b
+      subst (IsStill Ground rest) back (opened_still (InCsi (Long []) []) rest some e (csi_opens rest (omega arith) e b) refl (run + 1)
       (body_still (Long []) [] (take (length rest - 2) (drop 2 rest)) run
       (subst (λ y. list_all is_body_byte (take run y) ≡ true) (sym (tail_is rest 2)) read.body)))

@@ -78,20 +78,6 @@ mark_front items new x b m e f =
       closed = number_other x b d;
     }
 
--- a marker
-pub marker_front : (new : List CsiParam) (b : ℕ) → is_from 0x3c 0x3f b ≡ true → new ≡ P b ∷ [] → IsFront new (b ∷ [])
-marker_front new b k e =
-    let d : is_digit b ≡ false = grind (arith, nat_tests) in
-    let m : is_marker b ≡ true = grind (arith, nat_tests) in
-    let y : is_body_byte b ≡ true = grind (arith, nat_tests) in record {
-      so = record {
-        all = e ∙ sym (other_entries [] b d);
-        form = rw m refl;
-        body = rw y refl;
-      };
-      closed = number_other [] b d;
-    }
-
 -- at the end
 early_formed : (f : Form) → is_early f ≡ true → is_formed f ≡ true
 early_formed form.Empty h = refl

@@ -1,34 +1,33 @@
--- Fronts that stop at the first event.
-use Rattle.std.proofs.Common.{ℕ, zero, suc, ◌≡◌, ◌+◌, ◌-◌, ◌<◌, ◌≤◌, Bool, true, false, ◌&&◌, if◌then◌else◌, List, [], ◌∷◌, ◌++◌, length, take, drop, get_or}
-use Rattle.std.proofs.Common.{refl, ap, sym, ◌∙◌, subst, arith, ◌⊎◌, inl, inr}
-use Rattle.std.specs.List.{list_all, prefix_len}
+-- Prefixes that stop at the first event.
+use Rattle.std.proofs.Common.{ℕ, zero, suc, ◌≡◌, ◌+◌, ◌-◌, ◌<◌, ◌≤◌, Bool, true, false, ◌&&◌, List, [], ◌∷◌, ◌++◌, length, take, drop, get_or}
+use Rattle.std.proofs.Common.{refl, ap, sym, ◌∙◌, subst, arith, ◌⊎◌, inl, inr, Ok}
+use Rattle.std.specs.List.{FoldsTo, list_all, prefix_len}
 use Rattle.std.proofs.Math.Seq.{take-add}
 use Rattle.std.proofs.lemmas.Bool.{and_parts, cases_lt}
 use Rattle.std.proofs.lemmas.List.{take-take, take-append-drop, length-take-le}
 use Rattle.std.proofs.lemmas.List.Folds.{list_all-append}
 use Rattle.esc_frame.specs.declared.classes.Class.{Class}
-use Rattle.esc_frame.specs.declared.classes.Class.TheVariants.{Plain, Bell, Cancel, Escape, Intermediate, Parameter, Opens, Final, Delete, RawControl, RawOpens}
-use Rattle.esc_frame.specs.declared.classes.Class.TheVariants.{RawTerminator, High, Lead}
+use Rattle.esc_frame.specs.declared.classes.Class.TheVariants.{Lead}
 use Rattle.esc_frame.specs.declared.machine.Machine.{Machine}
 use Rattle.esc_frame.specs.declared.machine.State.TheVariants as state
 use Rattle.esc_frame.specs.declared.sequence.Outcome.{Outcome}
 use Rattle.esc_frame.specs.declared.sequence.Outcome.TheVariants as outcomes
-use Rattle.esc_frame.specs.Classes.{class_of}
+use Rattle.esc_frame.specs.Classes.{class_of, is_breaker, in_osc}
+use Rattle.esc_frame.specs.Machine.Calls.{TookSome}
 use Rattle.esc_frame.specs.Machine.Characters.{IsCharacter}
-use Rattle.esc_frame.specs.Events.{Event}
+use Rattle.esc_frame.specs.Events.{Event, StopsAt}
 use Rattle.esc_frame.specs.Leads.{Unfinished, Holds}
-use Rattle.esc_frame.specs.Leads.Unfinished.{Ground, Pending, InEscape, InCsi, InDcs, InData, InApc, InIgnored, InOsc, InOscPending}
-use Rattle.esc_frame.specs.Machine.Moves.{after_by, news_by, osc_after, osc_news, osc_event, osc_pending_after, osc_pending_news, pair_after, pair_news, after_all}
-use Rattle.esc_frame.specs.Machine.Moves.{news_all, is_ground, IsStill}
+use Rattle.esc_frame.specs.Leads.Unfinished.{Ground, InCsi, InOsc, InOscPending}
+use Rattle.esc_frame.specs.Machine.Moves.{move, after_by, news_by, pending_move, inside, goes_on, final_osc, osc_pending_move, after_all}
+use Rattle.esc_frame.specs.Machine.Moves.{news_all, is_ground, may_grow_within, IsStill}
 use Rattle.esc_frame.specs.Scans.{is_body_byte, is_text_byte}
 use Rattle.esc_frame.specs.Segments.{Opener, Piece}
-use Rattle.esc_frame.specs.Segments.Opener.{Long}
-use Rattle.esc_frame.specs.Segments.Piece.{Sequence, BrokenOff}
+use Rattle.esc_frame.specs.Segments.Piece.{BrokenOff}
 use Rattle.esc_frame.specs.Sequences.{is_sequence, is_pair, outcome}
 use Rattle.esc_frame.specs.Stream.{IsQuiet}
 use Rattle.esc_frame.proofs.AtGround.{to_ground}
-use Rattle.esc_frame.proofs.CsiRuns.{body_quiet, escape_class, csi_opens, osc_opens}
-use Rattle.esc_frame.proofs.ManyBytes.{after_more, tail_is, lead_class, two_parts, three_parts, four_parts}
+use Rattle.esc_frame.proofs.CsiRuns.{body_quiet, escape_class}
+use Rattle.esc_frame.proofs.ManyBytes.{after_more, tail_is, tail_length, quiet_folds, ran_took, ran_ends, lead_class, two_parts, three_parts, four_parts}
 use Rattle.esc_frame.proofs.StringRuns.{apc_run, skip_holds, prefix_passes}
 use Rattle.esc_frame.proofs.Streams.{after_append, news_append, added_is}
 
@@ -84,44 +83,31 @@ osc_no_ground : (u : Unfinished) → is_osc u ≡ true → is_ground u ≡ false
 osc_no_ground Ground h = absurd cc
 osc_no_ground _ h = refl
 
-text_stays : (o : Opener) (ps : List Piece) (b : ℕ) (c : Class) → osc_news ps b c ≡ [] → is_osc (osc_after o ps b c) ≡ true
-text_stays o ps b Plain h = refl
-text_stays o ps b Bell h = absurd cc
-text_stays o ps b Cancel h = absurd cc
-text_stays o ps b Escape h = absurd cc
-text_stays o ps b RawControl h = absurd cc
-text_stays o ps b (RawOpens k) h = absurd cc
-text_stays o ps b RawTerminator h = absurd cc
-text_stays o ps b Intermediate h = refl
-text_stays o ps b Parameter h = refl
-text_stays o ps b (Opens k) h = refl
-text_stays o ps b Final h = refl
-text_stays o ps b Delete h = refl
-text_stays o ps b High h = refl
-text_stays o ps b Lead h = refl
+final_stays : (o : Opener) (ps : List Piece) (b : ℕ) (c : Class) → (final_osc o ps b c).1 ≡ [] → is_osc (final_osc o ps b c).0 ≡ true
+final_stays o ps b Lead h = refl
+final_stays o ps b _ h = absurd cc
 
-whole_stays : (o : Opener) (ps : List Piece) (f : List ℕ) (b : ℕ) (c : Class) (t : Bool) → (if t then osc_event ps ∷ pair_news b c else []) ≡ []
-    → is_osc (if t then pair_after c else InOsc o (ps ++ Sequence (f ++ b ∷ []) ∷ [])) ≡ true
-whole_stays o ps f b c true h = absurd cc
-whole_stays o ps f b c false h = refl
+text_stays : (o : Opener) (ps : List Piece) (b : ℕ) (c : Class) (t w : Bool) → is_breaker c ≡ t → in_osc c ≡ w → (inside (InOsc o ps) b c).1 ≡ []
+    → is_osc (inside (InOsc o ps) b c).0 ≡ true
+text_stays o ps b c true w e k = rw (e, inside) (λ h. absurd cc)
+text_stays o ps b c false true e k = rw (e, k, inside, goes_on) (λ h. refl)
+text_stays o ps b c false false e k = rw (e, k, inside, goes_on) (final_stays o ps b c)
 
-pending_stays : (o : Opener) (ps : List Piece) (f : List ℕ) (b : ℕ) (c : Class) (w : Outcome) → osc_pending_news ps f b c w ≡ []
-    → is_osc (osc_pending_after o ps f b c w) ≡ true
-pending_stays o ps f b c outcomes.Whole h = whole_stays o ps f b c (is_pair (f ++ b ∷ [])) h
+whole_stays : (o : Opener) (ps : List Piece) (f : List ℕ) (b : ℕ) (c : Class) (t : Bool) → is_pair (f ++ b ∷ []) ≡ t
+    → (osc_pending_move o ps f b c outcomes.Whole).1 ≡ [] → is_osc (osc_pending_move o ps f b c outcomes.Whole).0 ≡ true
+whole_stays o ps f b c true e = rw (e, osc_pending_move) (λ h. absurd cc)
+whole_stays o ps f b c false e = rw (e, osc_pending_move) (λ h. refl)
+
+pending_stays : (o : Opener) (ps : List Piece) (f : List ℕ) (b : ℕ) (c : Class) (w : Outcome) → (osc_pending_move o ps f b c w).1 ≡ []
+    → is_osc (osc_pending_move o ps f b c w).0 ≡ true
+pending_stays o ps f b c outcomes.Whole h = whole_stays o ps f b c (is_pair (f ++ b ∷ [])) refl h
 pending_stays o ps f b c outcomes.More h = refl
-pending_stays o ps f b c outcomes.Broken h = text_stays o (ps ++ BrokenOff f ∷ []) b c h
+pending_stays o ps f b c outcomes.Broken h = text_stays o (ps ++ BrokenOff f ∷ []) b c (is_breaker c) (in_osc c) refl refl h
 
 stays_by : (u : Unfinished) (b : ℕ) → is_osc u ≡ true → news_by u b (class_of b) ≡ [] → is_osc (after_by u b (class_of b)) ≡ true
-stays_by (InOsc o ps) b h e = text_stays o ps b (class_of b) e
+stays_by (InOsc o ps) b h e = text_stays o ps b (class_of b) (is_breaker (class_of b)) (in_osc (class_of b)) refl refl e
 stays_by (InOscPending o ps f) b h e = pending_stays o ps f b (class_of b) (outcome f b) e
-stays_by Ground b h e = absurd cc
-stays_by (Pending f) b h e = absurd cc
-stays_by (InEscape x) b h e = absurd cc
-stays_by (InCsi o x) b h e = absurd cc
-stays_by (InDcs o x) b h e = absurd cc
-stays_by (InData o x f d) b h e = absurd cc
-stays_by (InApc o d) b h e = absurd cc
-stays_by (InIgnored k o d) b h e = absurd cc
+stays_by _ b h e = absurd cc
 
 stays : (u : Unfinished) (ys : List ℕ) → is_osc u ≡ true → news_all u ys ≡ [] → is_osc (after_all u ys) ≡ true
 stays u [] h e = h
@@ -139,15 +125,7 @@ text_still o ps rest run h = λ k a b.
 
 holds_no_ground : {A : Type 0} (m : Machine A) (u : Unfinished) → Holds m u → (m.state ≡ state.Ground → ⊥) → is_ground u ≡ false
 holds_no_ground m Ground h n = absurd (n h.0)
-holds_no_ground m (Pending f) h n = refl
-holds_no_ground m (InEscape x) h n = refl
-holds_no_ground m (InCsi o x) h n = refl
-holds_no_ground m (InDcs o x) h n = refl
-holds_no_ground m (InData o x f d) h n = refl
-holds_no_ground m (InApc o d) h n = refl
-holds_no_ground m (InIgnored k o d) h n = refl
-holds_no_ground m (InOsc o ps) h n = refl
-holds_no_ground m (InOscPending o ps f) h n = refl
+holds_no_ground m _ h n = refl
 
 module _ {A : Type 0} (m : Machine A) (u : Unfinished) (rest : List ℕ) (run : ℕ) (e : run ≡ prefix_len is_text_byte rest) (h : Holds m u) where
   pub apc_still : m.state ≡ state.Apc → IsStill u rest run
@@ -160,7 +138,7 @@ module _ {A : Type 0} (m : Machine A) (u : Unfinished) (rest : List ℕ) (run : 
       let q = skip_holds m (take k rest) (front_passes is_text_byte rest run k (omega arith) (prefix_passes rest run e)) u s h in
       (q.1, holds_no_ground m (after_all u (take k rest)) q.0 (λ g. cc))
 
--- ---- bytes that tell nothing, and what is behind them
+-- ---- bytes that tell nothing, and what follows them
 
 module _ (u v : Unfinished) (rest : List ℕ) (i n : ℕ) (here : after_all u (take i rest) ≡ v) (none : news_all u (take i rest) ≡ []) where
   behind_still : IsStill v (take (length rest - i) (drop i rest)) n → (j : ℕ) → 0 < j → j < n → Still u (take (i + j) rest)
@@ -194,36 +172,51 @@ opens_at rest l e h (suc zero) a b = escape_first rest l e
 opens_at rest l e h (suc (suc zero)) a b = h
 opens_at rest l e h (suc (suc (suc k))) a b = absurd (omega arith)
 
-pub csi_still : (rest : List ℕ) (n : ℕ) → 2 < length rest → get_or rest 0 0 ≡ 0x1b → get_or rest 1 0 ≡ 0x5b
-    → IsStill (InCsi (Long []) []) (take (length rest - 2) (drop 2 rest)) n → IsStill Ground rest (2 + n)
-csi_still rest n l e f h =
-    let begin = csi_opens rest (omega arith) e f in
-    more_still Ground (InCsi (Long []) []) rest 2 n begin.0 begin.1 (opens_at rest l e (begin.1, ap is_ground begin.0)) h
+-- ESC and a byte that opens, and what a call takes of the bytes after them
+module _ (u : Unfinished) (rest : List ℕ) (l : 2 < length rest) (e : get_or rest 0 0 ≡ 0x1b)
+    (begin : (after_all Ground (take 2 rest) ≡ u) × (news_all Ground (take 2 rest) ≡ [])) (o : is_ground u ≡ false) where
+  pub opened_still : (n : ℕ) → IsStill u (take (length rest - 2) (drop 2 rest)) n → IsStill Ground rest (2 + n)
+  opened_still n h = more_still Ground u rest 2 n begin.0 begin.1 (opens_at rest l e (begin.1, ap is_ground begin.0 ∙ o)) h
 
-pub osc_still : (rest : List ℕ) (n : ℕ) → 2 < length rest → get_or rest 0 0 ≡ 0x1b → get_or rest 1 0 ≡ 0x5d
-    → IsStill (InOsc (Long []) []) (take (length rest - 2) (drop 2 rest)) n → IsStill Ground rest (2 + n)
-osc_still rest n l e f h =
-    let begin = osc_opens rest (omega arith) e f in
-    more_still Ground (InOsc (Long []) []) rest 2 n begin.0 begin.1 (opens_at rest l e (begin.1, ap is_ground begin.0)) h
+  module _ {S : Type 0} (takes refuses : S → Event → S → Type 0) (is_ready : S → Type 0) (old new : S) where
+    pub opened_took : {A : Type 0} (machine : Machine A) (n : ℕ)
+        → Holds machine (after_all u (take n (take (length rest - 2) (drop 2 rest)))) × FoldsTo takes old
+        (news_all u (take n (take (length rest - 2) (drop 2 rest)))) new
+        → IsStill u (take (length rest - 2) (drop 2 rest)) n → (0 < n) × (n ≤ length (take (length rest - 2) (drop 2 rest))) × is_ready new
+        → TookSome {E = Unit {0}} takes refuses is_ready (Ok (2 + n)) rest machine old new
+    opened_took machine n t q a =
+        let k = tail_length rest 2 in (
+          ran_took takes refuses Ground u rest 2 old old new begin.0 (quiet_folds takes (news_all Ground (take 2 rest)) old begin.1) machine n t,
+          opened_still n q,
+          (omega (arith, a.0), omega (arith, a.1), a.2),
+        )
+
+    pub opened_stops : StopsAt (may_grow_within u (take (length rest - 2) (drop 2 rest)) ≡ true) takes refuses old
+        (news_all u (take (length rest - 2) (drop 2 rest))) new
+        → StopsAt (may_grow_within Ground rest ≡ true) takes refuses old (news_all Ground rest) new
+    opened_stops h = ran_ends takes refuses Ground u rest 2 old old new begin.0 (quiet_folds takes (news_all Ground (take 2 rest)) old begin.1) h
 
 -- ---- a whole sequence in ground
 
 two_still : (a b : ℕ) (k : ℕ) → is_sequence (a ∷ b ∷ []) ≡ true → 0 < k → k < 2 → Still Ground (take k (a ∷ b ∷ []))
 two_still a b zero s l m = absurd (omega arith)
-two_still a b (suc zero) s l m = rw (lead_class a (two_parts a b s)) (refl, refl)
+two_still a b (suc zero) s l m = rw (lead_class a (two_parts a b s), after_by, news_by, move, pending_move, outcome) (refl, refl)
 two_still a b (suc (suc k)) s l m = absurd (omega arith)
 
 three_still : (a b c : ℕ) (k : ℕ) → is_sequence (a ∷ b ∷ c ∷ []) ≡ true → 0 < k → k < 3 → Still Ground (take k (a ∷ b ∷ c ∷ []))
 three_still a b c zero s l m = absurd (omega arith)
-three_still a b c (suc zero) s l m = let t = three_parts a b c s in rw (lead_class a t.0) (refl, refl)
-three_still a b c (suc (suc zero)) s l m = let t = three_parts a b c s in rw (lead_class a t.0, t.1, t.2) (refl, refl)
+three_still a b c (suc zero) s l m = let t = three_parts a b c s in rw (lead_class a t.0, after_by, news_by, move, pending_move, outcome) (refl, refl)
+three_still a b c (suc (suc zero)) s l m = let t = three_parts a b c s
+    in rw (lead_class a t.0, t.1, t.2, after_by, news_by, move, pending_move, outcome) (refl, refl)
 three_still a b c (suc (suc (suc k))) s l m = absurd (omega arith)
 
 four_still : (a b c d : ℕ) (k : ℕ) → is_sequence (a ∷ b ∷ c ∷ d ∷ []) ≡ true → 0 < k → k < 4 → Still Ground (take k (a ∷ b ∷ c ∷ d ∷ []))
 four_still a b c d zero s l m = absurd (omega arith)
-four_still a b c d (suc zero) s l m = let t = four_parts a b c d s in rw (lead_class a t.0) (refl, refl)
-four_still a b c d (suc (suc zero)) s l m = let t = four_parts a b c d s in rw (lead_class a t.0, t.1, t.2) (refl, refl)
-four_still a b c d (suc (suc (suc zero))) s l m = let t = four_parts a b c d s in rw (lead_class a t.0, t.1, t.2, t.3, t.4) (refl, refl)
+four_still a b c d (suc zero) s l m = let t = four_parts a b c d s in rw (lead_class a t.0, after_by, news_by, move, pending_move, outcome) (refl, refl)
+four_still a b c d (suc (suc zero)) s l m = let t = four_parts a b c d s
+    in rw (lead_class a t.0, t.1, t.2, after_by, news_by, move, pending_move, outcome) (refl, refl)
+four_still a b c d (suc (suc (suc zero))) s l m = let t = four_parts a b c d s
+    in rw (lead_class a t.0, t.1, t.2, t.3, t.4, after_by, news_by, move, pending_move, outcome) (refl, refl)
 four_still a b c d (suc (suc (suc (suc k)))) s l m = absurd (omega arith)
 
 sequence_still : (x : List ℕ) (k : ℕ) → is_sequence x ≡ true → 0 < k → k < length x → Still Ground (take k x)

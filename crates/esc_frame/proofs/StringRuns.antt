@@ -8,14 +8,11 @@ use Rattle.std.proofs.lemmas.List.Concat.{flat_map-append}
 use Rattle.std.proofs.lemmas.List.Elements.{filter-append}
 use Rattle.std.proofs.lemmas.Bool.{and_parts}
 use Rattle.std.proofs.lemmas.Bool.Decides.{nat_tests}
-use Rattle.esc_frame.specs.declared.classes.Class.{Class}
-use Rattle.esc_frame.specs.declared.classes.Class.TheVariants.{Plain, Bell, Cancel, Escape, Intermediate, Parameter, Opens, Final, Delete, RawControl, RawOpens}
-use Rattle.esc_frame.specs.declared.classes.Class.TheVariants.{RawTerminator, High, Lead}
 use Rattle.esc_frame.specs.declared.classes.Kind.{Kind}
 use Rattle.esc_frame.specs.declared.machine.Machine.{Machine}
 use Rattle.esc_frame.specs.declared.machine.State.TheVariants as state
 use Rattle.esc_frame.specs.Bodies.{is_dcs_header}
-use Rattle.esc_frame.specs.Classes.{class_of, is_text, is_breaker, is_put, those, strip}
+use Rattle.esc_frame.specs.Classes.{class_of, is_text, is_breaker, in_osc, is_put, those, strip}
 use Rattle.esc_frame.specs.Machine.Characters.{IsCharacter, IsAhead}
 use Rattle.esc_frame.specs.Events.{Event, StopsAt}
 use Rattle.esc_frame.specs.Events.Event.{DcsPut}
@@ -23,38 +20,31 @@ use Rattle.esc_frame.specs.Scans.{is_text_byte}
 use Rattle.esc_frame.specs.Segments.{Opener, Piece, text_of, kept_of}
 use Rattle.esc_frame.specs.Segments.Piece.{One, Sequence}
 use Rattle.esc_frame.specs.Leads.{Unfinished, Holds}
-use Rattle.esc_frame.specs.Leads.Unfinished.{Ground, Pending, InEscape, InCsi, InDcs, InData, InApc, InIgnored, InOsc, InOscPending}
-use Rattle.esc_frame.specs.Machine.Moves.{after_all, news_all, osc_after, osc_news}
+use Rattle.esc_frame.specs.Leads.Unfinished.{InData, InApc, InIgnored, InOsc}
+use Rattle.esc_frame.specs.Machine.Moves.{inside, goes_on, after_by, news_by, after_all, news_all}
 use Rattle.esc_frame.specs.Machine.TextRuns.{IsTextRun}
 use Rattle.esc_frame.proofs.Given.{folds_then, stops_then, stops_more}
-use Rattle.esc_frame.proofs.ManyBytes.{text_class, run_passes, osc_sequence, tail_is}
+use Rattle.esc_frame.proofs.ManyBytes.{quiet_run, text_class, run_passes, osc_sequence, tail_is}
+use Rattle.esc_frame.proofs.States.{apc_only, data_only, skip_only}
 use Rattle.esc_frame.proofs.Streams.{after_append, news_append}
 
 -- ---- an operating system command
 
-osc_step : (o : Opener) (ps : List Piece) (b : ℕ) (c : Class) → is_text c ≡ true → (osc_after o ps b c ≡ InOsc o (ps ++ One b ∷ [])) × (osc_news ps b c ≡ [])
-osc_step o ps b Intermediate h = (refl, refl)
-osc_step o ps b Parameter h = (refl, refl)
-osc_step o ps b (Opens k) h = (refl, refl)
-osc_step o ps b Final h = (refl, refl)
-osc_step o ps b Delete h = (refl, refl)
-osc_step o ps b Plain h = absurd cc
-osc_step o ps b Bell h = absurd cc
-osc_step o ps b Cancel h = absurd cc
-osc_step o ps b Escape h = absurd cc
-osc_step o ps b RawControl h = absurd cc
-osc_step o ps b (RawOpens k) h = absurd cc
-osc_step o ps b RawTerminator h = absurd cc
-osc_step o ps b High h = absurd cc
-osc_step o ps b Lead h = absurd cc
+-- 20-7F breaks nothing off, and is a unit of an OSC
+text_byte : (b : ℕ) → is_text_byte b ≡ true → (is_breaker (class_of b) ≡ false) × (in_osc (class_of b) ≡ true)
+unfolding class_of
+text_byte b h = (grind (arith, nat_tests), grind (arith, nat_tests))
 
 osc_text : (o : Opener) (ps : List Piece) (ys : List ℕ) → list_all is_text_byte ys ≡ true
     → (after_all (InOsc o ps) ys ≡ InOsc o (ps ++ map One ys)) × (news_all (InOsc o ps) ys ≡ [])
 osc_text o ps [] h = (ap (InOsc o) (sym (append-nil ps)), refl)
 osc_text o ps (b ∷ ys) h =
     let k = and_parts (is_text_byte b) (list_all is_text_byte ys) h in
-    let p = osc_step o ps b (class_of b) (text_class b k.0) in
-    let q = osc_text o (ps ++ One b ∷ []) ys k.1 in rw (p.0, p.1) (q.0 ∙ ap (InOsc o) (append_assoc ps (One b ∷ []) (map One ys)), q.1)
+    let q = osc_text o (ps ++ One b ∷ []) ys k.1 in let p = text_byte b k.0 in rw (p.0, p.1, after_by, news_by, inside, goes_on) (
+      q.0
+          ∙ ap (InOsc o) (append_assoc ps (One b ∷ []) (map One ys)),
+      q.1,
+    )
 
 text_kept : (ys : List ℕ) → list_all is_text_byte ys ≡ true → text_of (map One ys) ≡ ys
 text_kept [] h = refl
@@ -93,7 +83,7 @@ pub ahead_is_run : (rest : List ℕ) (n c : ℕ) → IsAhead rest n c → IsText
 ahead_is_run rest zero c h = no_run
 ahead_is_run rest (suc n) c h = let k = h (omega arith) in character_is_run (take (suc n) rest) c k.1
 
--- a run, and one in the slice behind it
+-- a run, and one in the slice after it
 pub run_more : (rest : List ℕ) (i n : ℕ) → IsTextRun (take i rest) → IsTextRun (take n (take (length rest - i) (drop i rest))) → IsTextRun (take (i + n) rest)
 run_more rest i n f g =
     subst IsTextRun (ap (λ y. take i rest ++ take n y) (tail_is rest i) ∙ sym (take-add i n rest))
@@ -105,30 +95,8 @@ run_text ps (qs, t, f) = ap (λ z. text_of ps ++ z) (sym t) ∙ sym (flat_map-ap
 
 -- ---- the strings that a breaker ends
 
-text_breaks_not : (c : Class) → is_text c ≡ true → is_breaker c ≡ false
-text_breaks_not Intermediate h = refl
-text_breaks_not Parameter h = refl
-text_breaks_not (Opens k) h = refl
-text_breaks_not Final h = refl
-text_breaks_not Delete h = refl
-text_breaks_not Plain h = absurd cc
-text_breaks_not Bell h = absurd cc
-text_breaks_not Cancel h = absurd cc
-text_breaks_not Escape h = absurd cc
-text_breaks_not RawControl h = absurd cc
-text_breaks_not (RawOpens k) h = absurd cc
-text_breaks_not RawTerminator h = absurd cc
-text_breaks_not High h = absurd cc
-text_breaks_not Lead h = absurd cc
-
-goes_on : (b : ℕ) → is_text_byte b ≡ true → is_breaker (class_of b) ≡ false
-goes_on b h = text_breaks_not (class_of b) (text_class b h)
-
 pub apc_text : (o : Opener) (d ys : List ℕ) → list_all is_text_byte ys ≡ true → (after_all (InApc o d) ys ≡ InApc o (d ++ ys)) × (news_all (InApc o d) ys ≡ [])
-apc_text o d [] h = (ap (InApc o) (sym (append-nil d)), refl)
-apc_text o d (b ∷ ys) h =
-    let k = and_parts (is_text_byte b) (list_all is_text_byte ys) h in
-    let q = apc_text o (d ++ b ∷ []) ys k.1 in rw (goes_on b k.0) (q.0 ∙ ap (InApc o) (append_assoc d (b ∷ []) ys), q.1)
+apc_text o = quiet_run (InApc o) is_text_byte (λ d b h. rw ((text_byte b h).0, inside) refl)
 
 those_text : (ys : List ℕ) → list_all is_text_byte ys ≡ true → those is_text ys ≡ ys
 those_text [] h = refl
@@ -152,7 +120,7 @@ data_text o x f d [] e h = (ap (InData o x f) (sym (append-nil d)), refl)
 data_text o x f d (b ∷ ys) e h =
     let k = and_parts (is_text_byte b) (list_all is_text_byte ys) h in
     let q = data_text o x f (d ++ b ∷ []) ys e k.1 in
-    rw (e, goes_on b k.0) (
+    rw (e, (text_byte b k.0).0, after_by, news_by, inside, goes_on) (
       q.0 ∙ ap (InData o x f) (append_assoc d (b ∷ []) ys),
       ap (λ es. (if is_put (class_of b) then DcsPut b ∷ [] else []) ++ es) q.1
           ∙ put_shown (is_put (class_of b)) b ys,
@@ -162,73 +130,31 @@ data_text o x f d (b ∷ ys) e h =
 
 skip_data : (o : Opener) (x : List ℕ) (f : ℕ) (d ys : List ℕ) → is_dcs_header (strip x) ≡ false → list_all is_text_byte ys ≡ true
     → (after_all (InData o x f d) ys ≡ InData o x f (d ++ ys)) × (news_all (InData o x f d) ys ≡ [])
-skip_data o x f d [] e h = (ap (InData o x f) (sym (append-nil d)), refl)
-skip_data o x f d (b ∷ ys) e h =
-    let k = and_parts (is_text_byte b) (list_all is_text_byte ys) h in
-    let q = skip_data o x f (d ++ b ∷ []) ys e k.1 in rw (e, goes_on b k.0) (q.0 ∙ ap (InData o x f) (append_assoc d (b ∷ []) ys), q.1)
+skip_data o x f d ys e = quiet_run (InData o x f) is_text_byte (λ d b h. rw (e, (text_byte b h).0, inside, goes_on) refl) d ys
 
 skip_ignored : (i : Kind) (o : Opener) (d ys : List ℕ) → list_all is_text_byte ys ≡ true
     → (after_all (InIgnored i o d) ys ≡ InIgnored i o (d ++ ys)) × (news_all (InIgnored i o d) ys ≡ [])
-skip_ignored i o d [] h = (ap (InIgnored i o) (sym (append-nil d)), refl)
-skip_ignored i o d (b ∷ ys) h =
-    let k = and_parts (is_text_byte b) (list_all is_text_byte ys) h in
-    let q = skip_ignored i o (d ++ b ∷ []) ys k.1 in rw (goes_on b k.0) (q.0 ∙ ap (InIgnored i o) (append_assoc d (b ∷ []) ys), q.1)
+skip_ignored i o = quiet_run (InIgnored i o) is_text_byte (λ d b h. rw ((text_byte b h).0, inside) refl)
 
--- ---- what the machine holds behind a run, by its state
-
-data_only : (t : Bool) → state.Data ≡ (if t then state.Data else state.Skip) → t ≡ true
-data_only true h = refl
-data_only false h = absurd cc
-
-skip_only : (t : Bool) → state.Skip ≡ (if t then state.Data else state.Skip) → t ≡ false
-skip_only true h = absurd cc
-skip_only false h = refl
-
-apc_not : (t : Bool) → state.Apc ≡ (if t then state.Data else state.Skip) → ⊥
-apc_not true h = cc
-apc_not false h = cc
+-- ---- what the machine holds after a run, by its state
 
 module _ {A : Type 0} (m : Machine A) (ys : List ℕ) (p : list_all is_text_byte ys ≡ true) where
   pub apc_run : (u : Unfinished) → m.state ≡ state.Apc → Holds m u → (Q : Unfinished → List Event → Type 0)
       → ((o : Opener) (d : List ℕ) → (m.text.items ++ ys ≡ those is_text (d ++ ys)) → Q (InApc o (d ++ ys)) []) → Q (after_all u ys) (news_all u ys)
-  apc_run (InApc o d) s h Q f = let q = apc_text o d ys p in rw (q.0, q.1) (f o d (ap (λ x. x ++ ys) h.1 ∙ sym (apc_kept d ys p)))
-  apc_run (InData o x f d) s h Q k = absurd (apc_not _ (sym s ∙ h))
-  apc_run (InIgnored k o d) s h Q f = absurd cc
-  apc_run Ground s h Q f = absurd (cc h.0)
-  apc_run (Pending x) s h Q f = absurd (cc h.0)
-  apc_run (InEscape x) s h Q f = absurd (cc h.0)
-  apc_run (InCsi o x) s h Q f = absurd (cc h.0)
-  apc_run (InDcs o x) s h Q f = absurd (cc h.0)
-  apc_run (InOsc o ps) s h Q f = absurd (cc h.0)
-  apc_run (InOscPending o ps x) s h Q f = absurd (cc h.0)
+  apc_run u s h Q f =
+      apc_only m u s h (λ v. Q (after_all v ys) (news_all v ys))
+      (λ o d k. let q = apc_text o d ys p in rw (q.0, q.1) (f o d (ap (λ x. x ++ ys) k.1 ∙ sym (apc_kept d ys p))))
 
   pub data_holds : (u : Unfinished) → m.state ≡ state.Data → Holds m u → Holds m (after_all u ys) × (news_all u ys ≡ puts_of ys)
-  data_holds (InData o x f d) s h =
-      let e = data_only (is_dcs_header (strip x)) (sym s ∙ h) in
-      let q = data_text o x f d ys e p in rw (q.0, q.1) (h, refl)
-  data_holds (InApc o d) s h = absurd (cc h.0)
-  data_holds (InIgnored k o d) s h = absurd cc
-  data_holds Ground s h = absurd (cc h.0)
-  data_holds (Pending f) s h = absurd (cc h.0)
-  data_holds (InEscape x) s h = absurd (cc h.0)
-  data_holds (InCsi o x) s h = absurd (cc h.0)
-  data_holds (InDcs o x) s h = absurd (cc h.0)
-  data_holds (InOsc o ps) s h = absurd (cc h.0)
-  data_holds (InOscPending o ps f) s h = absurd (cc h.0)
+  data_holds u s h =
+      data_only m u s h (λ v. Holds m (after_all v ys) × (news_all v ys ≡ puts_of ys))
+      (λ o x f d e. let q = data_text o x f d ys e p in rw (q.0, q.1) (rw (e, s) refl, refl))
 
   pub skip_holds : (u : Unfinished) → m.state ≡ state.Skip → Holds m u → Holds m (after_all u ys) × (news_all u ys ≡ [])
-  skip_holds (InData o x f d) s h =
-      let e = skip_only (is_dcs_header (strip x)) (sym s ∙ h) in
-      let q = skip_data o x f d ys e p in rw (q.0, q.1) (h, refl)
-  skip_holds (InIgnored k o d) s h = let q = skip_ignored k o d ys p in rw (q.0, q.1) (h, refl)
-  skip_holds (InApc o d) s h = absurd (cc h.0)
-  skip_holds Ground s h = absurd (cc h.0)
-  skip_holds (Pending f) s h = absurd (cc h.0)
-  skip_holds (InEscape x) s h = absurd (cc h.0)
-  skip_holds (InCsi o x) s h = absurd (cc h.0)
-  skip_holds (InDcs o x) s h = absurd (cc h.0)
-  skip_holds (InOsc o ps) s h = absurd (cc h.0)
-  skip_holds (InOscPending o ps f) s h = absurd (cc h.0)
+  skip_holds u s h =
+      skip_only m u s h (λ v. Holds m (after_all v ys) × (news_all v ys ≡ []))
+      (λ o x f d e. let q = skip_data o x f d ys e p in rw (q.0, q.1) (rw (e, s) refl, refl))
+      (λ k o d. let q = skip_ignored k o d ys p in rw (q.0, q.1) (s, refl))
 
 -- ---- what the actor is given of the data
 

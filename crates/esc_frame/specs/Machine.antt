@@ -3,6 +3,7 @@
 pub mod Fronts
 pub mod Keeps
 pub mod Moves
+pub mod Calls
 pub mod Characters
 pub mod TextRuns
 pub mod Shorts

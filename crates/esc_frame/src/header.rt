@@ -12,7 +12,7 @@ use crate::sequence::lies_from;
 use crate::split::split_parts;
 use std::alloc::{AllocError, Allocator};
 
-// What stands behind the marker.
+// What follows the marker.
 fn behind_marker(header: &[u8]) -> &[u8]
     ensures { result.now ≡ behind_marker header.now }
 {
@@ -34,7 +34,7 @@ fn is_parameter(byte: u8) -> bool
     lies_from(0x30, 0x39, byte) || byte == b';'
 }
 
-// How many parameter bytes stand in front.
+// How many parameter bytes come first.
 #[tactic(auto, using(crate::proofs::Prefixes::runs))]
 fn parameters_run(bytes: &[u8]) -> usize
     ensures run { result ≡ prefix_len is_dcs_parameter bytes.now }
@@ -56,7 +56,7 @@ fn parameters(header: &[u8]) -> &[u8]
     &body[..run]
 }
 
-// What stands behind the parameter bytes.
+// What follows the parameter bytes.
 fn behind_parameters(header: &[u8]) -> &[u8]
     ensures { result.now ≡ drop_while is_dcs_parameter (behind_marker header.now) }
 {

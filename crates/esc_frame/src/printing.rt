@@ -1,24 +1,24 @@
 //! Characters and controls in ground.
 #![tactic(auto)]
 
-ghost use Rattle.std.specs.Prelude.{◌≡◌, ◌≢◌, ◌<◌, ◌≤◌, [], ◌∷◌, length, map, take, true, false, slice_index, OnOk, IfOk, IfSome, IsSome};
-ghost use Rattle.esc_frame.specs.Events.{Takes};
+ghost use Rattle.std.specs.Prelude.{◌≢◌, ◌<◌, ◌≤◌, length, take, false, slice_index, IfSome, IsSome};
 ghost use Rattle.esc_frame.specs.Events.Event.{Execute, Print};
-ghost use Rattle.esc_frame.specs.Machine.Characters.{Prints, IsAhead};
+ghost use Rattle.esc_frame.specs.Machine.Calls.{Stays, Quietly, TellsOne};
+ghost use Rattle.esc_frame.specs.Machine.Characters.{IsAhead};
 ghost use Rattle.esc_frame.specs.Leads.Unfinished.{Ground};
-ghost use Rattle.esc_frame.specs.Machine.Moves.{IsStill, after_all, news_all};
+ghost use Rattle.esc_frame.specs.Machine.Moves.{IsStill};
 
 use crate::actor::VTActor;
+use crate::machine::Result;
 use crate::scans::text_run;
 use crate::sequence::{ahead, of_four, of_three, of_two};
-use std::alloc::AllocError;
 
-/// The character that stands whole at the front, and its length; `None` where there is none, or where that is not seen at
-/// once: behind a first byte from 80 on stand fewer than three.
+/// The character that comes first and is whole, and its length; `None` where there is none, or where that is not seen at
+/// once: fewer than three bytes follow a first byte from 80 on.
 #[inline(always)]
 pub fn first_char(rest: &[u8]) -> Option<(char, usize)>
     ensures count { IfSome result (λ x. (0 < x.1) × (x.1 ≤ length rest.now)) }
-    ensures prints { IfSome result (λ x. (after_all Ground (take x.1 rest.now) ≡ Ground) × (news_all Ground (take x.1 rest.now) ≡ Print x.0 ∷ [])) }
+    ensures prints { IfSome result (λ x. TellsOne (take x.1 rest.now) (Print x.0)) }
     ensures quiet { IfSome result (λ x. IsStill Ground rest.now x.1) }
     ensures text { 0 < length rest.now → 0x20 ≤ slice_index rest.now 0 → slice_index rest.now 0 < 0x80 → IsSome result }
 {
@@ -34,11 +34,11 @@ pub fn first_char(rest: &[u8]) -> Option<(char, usize)>
     }
 }
 
-/// The control at the front: 00 to 1F, but not ESC.
+/// The control that comes first: 00 to 1F, but not ESC.
 #[inline(always)]
 pub fn first_control(rest: &[u8]) -> Option<u8>
     ensures count { IfSome result (λ b. 0 < length rest.now) }
-    ensures executes { IfSome result (λ b. (after_all Ground (take 1 rest.now) ≡ Ground) × (news_all Ground (take 1 rest.now) ≡ Execute b ∷ [])) }
+    ensures executes { IfSome result (λ b. TellsOne (take 1 rest.now) (Execute b)) }
     ensures control { 0 < length rest.now → slice_index rest.now 0 < 0x20 → slice_index rest.now 0 ≢ 0x1b → IsSome result }
 {
     if rest.is_empty() {
@@ -51,16 +51,14 @@ pub fn first_control(rest: &[u8]) -> Option<u8>
     }
 }
 
-/// The control at the front.
+/// The control that comes first.
 #[inline(always)]
-pub fn execute_one<V: VTActor>(rest: &[u8], actor: &mut V) -> Result<usize, AllocError>
+pub fn execute_one<V: VTActor>(rest: &[u8], actor: &mut V) -> Result<usize>
     requires some { 0 < length rest.now }
     requires low { slice_index rest.now 0 < 0x20 }
     requires other { slice_index rest.now 0 ≢ 0x1b }
     requires ready { V.is_ready actor.old }
-    ensures count { IfOk result (λ n. n ≤ length rest.now) }
-    ensures ran { Prints V.takes V.refuses result rest.now actor.old actor.new }
-    ensures ready { OnOk result (V.is_ready actor.new) }
+    ensures { Stays false V.takes V.refuses V.is_ready result rest.now actor.old actor.new }
 {
     match actor.execute_c0_or_c1(rest[0]) {
         Ok(()) => Ok(1),
@@ -71,21 +69,19 @@ pub fn execute_one<V: VTActor>(rest: &[u8], actor: &mut V) -> Result<usize, Allo
 #[inline(always)]
 fn first_wide(rest: &[u8]) -> Option<(char, usize)>
     ensures count { IfSome result (λ x. (0 < x.1) × (x.1 ≤ length rest.now)) }
-    ensures prints { IfSome result (λ x. (after_all Ground (take x.1 rest.now) ≡ Ground) × (news_all Ground (take x.1 rest.now) ≡ Print x.0 ∷ [])) }
+    ensures prints { IfSome result (λ x. TellsOne (take x.1 rest.now) (Print x.0)) }
     ensures quiet { IfSome result (λ x. IsStill Ground rest.now x.1) }
 {
     let (n, c) = ahead(rest);
     if n == 0 { None } else { Some((c, n)) }
 }
 
-/// The character at the front, where one stands there that is whole; else nothing.
+/// The character that comes first, where it is whole; else nothing.
 #[inline(always)]
-pub fn print_first<V: VTActor>(rest: &[u8], actor: &mut V) -> Result<usize, AllocError>
+pub fn print_first<V: VTActor>(rest: &[u8], actor: &mut V) -> Result<usize>
     requires { V.is_ready actor.old }
-    ensures count { IfOk result (λ n. n ≤ length rest.now) }
-    ensures ran { Prints V.takes V.refuses result rest.now actor.old actor.new }
-    ensures quiet { IfOk result (λ n. IsStill Ground rest.now n) }
-    ensures ready { OnOk result (V.is_ready actor.new) }
+    ensures stays { Stays false V.takes V.refuses V.is_ready result rest.now actor.old actor.new }
+    ensures quiet { Quietly result Ground rest.now }
 {
     match first_char(rest) {
         Some((c, n)) => match actor.print(c) {
@@ -96,14 +92,12 @@ pub fn print_first<V: VTActor>(rest: &[u8], actor: &mut V) -> Result<usize, Allo
     }
 }
 
-/// A run of text, or sequences, at the front.
+/// A run of text, or sequences, that come first.
 #[inline(always)]
-pub fn print_one<V: VTActor>(rest: &[u8], actor: &mut V) -> Result<usize, AllocError>
+pub fn print_one<V: VTActor>(rest: &[u8], actor: &mut V) -> Result<usize>
     requires some { 0 < length rest.now }
     requires ready { V.is_ready actor.old }
-    ensures count { IfOk result (λ n. n ≤ length rest.now) }
-    ensures ran { Prints V.takes V.refuses result rest.now actor.old actor.new }
-    ensures ready { OnOk result (V.is_ready actor.new) }
+    ensures { Stays false V.takes V.refuses V.is_ready result rest.now actor.old actor.new }
 {
     if rest[0] < 0x20 {
         Ok(0)
@@ -114,13 +108,11 @@ pub fn print_one<V: VTActor>(rest: &[u8], actor: &mut V) -> Result<usize, AllocE
     }
 }
 
-// The sequences at the front, and short runs of text between them; a longer run is left.
+// The sequences that come first, and short runs of text between them; a longer run is left.
 #[inline(always)]
-fn print_wides<V: VTActor>(rest: &[u8], actor: &mut V) -> Result<usize, AllocError>
+fn print_wides<V: VTActor>(rest: &[u8], actor: &mut V) -> Result<usize>
     requires { V.is_ready actor.old }
-    ensures count { IfOk result (λ n. n ≤ length rest.now) }
-    ensures ran { Prints V.takes V.refuses result rest.now actor.old actor.new }
-    ensures ready { OnOk result (V.is_ready actor.new) }
+    ensures { Stays false V.takes V.refuses V.is_ready result rest.now actor.old actor.new }
 {
     let mut at = 0;
     while rest.len() - at >= 8 {
@@ -133,14 +125,12 @@ fn print_wides<V: VTActor>(rest: &[u8], actor: &mut V) -> Result<usize, AllocErr
     Ok(at)
 }
 
-// Sequences at the front, or text that has a sequence near behind it.
+// Sequences that come first, or text that a sequence follows soon.
 #[inline(always)]
-fn print_wide<V: VTActor>(rest: &[u8], actor: &mut V) -> Result<usize, AllocError>
+fn print_wide<V: VTActor>(rest: &[u8], actor: &mut V) -> Result<usize>
     requires some { 8 ≤ length rest.now }
     requires ready { V.is_ready actor.old }
-    ensures count { IfOk result (λ n. n ≤ length rest.now) }
-    ensures ran { Prints V.takes V.refuses result rest.now actor.old actor.new }
-    ensures ready { OnOk result (V.is_ready actor.new) }
+    ensures { Stays false V.takes V.refuses V.is_ready result rest.now actor.old actor.new }
 {
     if rest[0] < 0x80 {
         if (rest[1] | rest[3] | rest[5] | rest[7]) < 0x80 {
@@ -158,13 +148,11 @@ fn print_wide<V: VTActor>(rest: &[u8], actor: &mut V) -> Result<usize, AllocErro
     }
 }
 
-// The bytes of text at the front, one at a time.
+// The bytes of text that come first, one at a time.
 #[inline(always)]
-fn print_lones<V: VTActor>(rest: &[u8], actor: &mut V) -> Result<usize, AllocError>
+fn print_lones<V: VTActor>(rest: &[u8], actor: &mut V) -> Result<usize>
     requires { V.is_ready actor.old }
-    ensures count { IfOk result (λ n. n ≤ length rest.now) }
-    ensures ran { Prints V.takes V.refuses result rest.now actor.old actor.new }
-    ensures ready { OnOk result (V.is_ready actor.new) }
+    ensures { Stays false V.takes V.refuses V.is_ready result rest.now actor.old actor.new }
 {
     let mut at = 0;
     while rest.len() - at >= 1 {
@@ -177,13 +165,11 @@ fn print_lones<V: VTActor>(rest: &[u8], actor: &mut V) -> Result<usize, AllocErr
     Ok(at)
 }
 
-// The sequences of two bytes at the front, and single bytes of text between them.
+// The sequences of two bytes that come first, and single bytes of text between them.
 #[inline(always)]
-fn print_twos<V: VTActor>(rest: &[u8], actor: &mut V) -> Result<usize, AllocError>
+fn print_twos<V: VTActor>(rest: &[u8], actor: &mut V) -> Result<usize>
     requires { V.is_ready actor.old }
-    ensures count { IfOk result (λ n. n ≤ length rest.now) }
-    ensures ran { Prints V.takes V.refuses result rest.now actor.old actor.new }
-    ensures ready { OnOk result (V.is_ready actor.new) }
+    ensures { Stays false V.takes V.refuses V.is_ready result rest.now actor.old actor.new }
 {
     let mut at = 0;
     while rest.len() - at >= 4 {
@@ -196,13 +182,11 @@ fn print_twos<V: VTActor>(rest: &[u8], actor: &mut V) -> Result<usize, AllocErro
     Ok(at)
 }
 
-// The sequences of three bytes at the front.
+// The sequences of three bytes that come first.
 #[inline(always)]
-fn print_threes<V: VTActor>(rest: &[u8], actor: &mut V) -> Result<usize, AllocError>
+fn print_threes<V: VTActor>(rest: &[u8], actor: &mut V) -> Result<usize>
     requires { V.is_ready actor.old }
-    ensures count { IfOk result (λ n. n ≤ length rest.now) }
-    ensures ran { Prints V.takes V.refuses result rest.now actor.old actor.new }
-    ensures ready { OnOk result (V.is_ready actor.new) }
+    ensures { Stays false V.takes V.refuses V.is_ready result rest.now actor.old actor.new }
 {
     let mut at = 0;
     while rest.len() - at >= 3 {
@@ -215,14 +199,12 @@ fn print_threes<V: VTActor>(rest: &[u8], actor: &mut V) -> Result<usize, AllocEr
     Ok(at)
 }
 
-// A sequence of two bytes at the front.
+// A sequence of two bytes.
 #[inline(always)]
-fn print_two<V: VTActor>(rest: &[u8], actor: &mut V) -> Result<usize, AllocError>
+fn print_two<V: VTActor>(rest: &[u8], actor: &mut V) -> Result<usize>
     requires some { 4 ≤ length rest.now }
     requires ready { V.is_ready actor.old }
-    ensures count { IfOk result (λ n. n ≤ length rest.now) }
-    ensures ran { Prints V.takes V.refuses result rest.now actor.old actor.new }
-    ensures ready { OnOk result (V.is_ready actor.new) }
+    ensures { Stays false V.takes V.refuses V.is_ready result rest.now actor.old actor.new }
 {
     if rest[0] < 0x80 {
         return print_near(rest, actor);
@@ -231,14 +213,12 @@ fn print_two<V: VTActor>(rest: &[u8], actor: &mut V) -> Result<usize, AllocError
     print_ahead(rest, n, c, actor)
 }
 
-// A byte of text that has a sequence near behind it.
+// A byte of text that a sequence follows soon.
 #[inline(always)]
-fn print_near<V: VTActor>(rest: &[u8], actor: &mut V) -> Result<usize, AllocError>
+fn print_near<V: VTActor>(rest: &[u8], actor: &mut V) -> Result<usize>
     requires some { 4 ≤ length rest.now }
     requires ready { V.is_ready actor.old }
-    ensures count { IfOk result (λ n. n ≤ length rest.now) }
-    ensures ran { Prints V.takes V.refuses result rest.now actor.old actor.new }
-    ensures ready { OnOk result (V.is_ready actor.new) }
+    ensures { Stays false V.takes V.refuses V.is_ready result rest.now actor.old actor.new }
 {
     if rest[3] < 0x80 {
         Ok(0)
@@ -247,31 +227,22 @@ fn print_near<V: VTActor>(rest: &[u8], actor: &mut V) -> Result<usize, AllocErro
     }
 }
 
-// A sequence of three bytes at the front.
+// A sequence of three bytes.
 #[inline(always)]
-fn print_three<V: VTActor>(rest: &[u8], actor: &mut V) -> Result<usize, AllocError>
+fn print_three<V: VTActor>(rest: &[u8], actor: &mut V) -> Result<usize>
     requires some { 3 ≤ length rest.now }
     requires ready { V.is_ready actor.old }
-    ensures count { IfOk result (λ n. n ≤ length rest.now) }
-    ensures ran { Prints V.takes V.refuses result rest.now actor.old actor.new }
-    ensures ready { OnOk result (V.is_ready actor.new) }
+    ensures { Stays false V.takes V.refuses V.is_ready result rest.now actor.old actor.new }
 {
     let (n, c) = of_three(rest[0], rest[1], rest[2]);
     print_ahead(rest, n, c, actor)
 }
 
 #[inline(always)]
-fn print_ahead<V: VTActor>(
-    rest: &[u8],
-    n: usize,
-    c: char,
-    actor: &mut V,
-) -> Result<usize, AllocError>
+fn print_ahead<V: VTActor>(rest: &[u8], n: usize, c: char, actor: &mut V) -> Result<usize>
     requires ahead { IsAhead rest.now n c }
     requires ready { V.is_ready actor.old }
-    ensures count { IfOk result (λ k. k ≤ length rest.now) }
-    ensures ran { Prints V.takes V.refuses result rest.now actor.old actor.new }
-    ensures ready { OnOk result (V.is_ready actor.new) }
+    ensures { Stays false V.takes V.refuses V.is_ready result rest.now actor.old actor.new }
 {
     if n == 0 {
         return Ok(0);
@@ -282,14 +253,12 @@ fn print_ahead<V: VTActor>(
     }
 }
 
-// A byte of text at the front.
+// A byte of text.
 #[inline(always)]
-fn print_lone<V: VTActor>(rest: &[u8], actor: &mut V) -> Result<usize, AllocError>
+fn print_lone<V: VTActor>(rest: &[u8], actor: &mut V) -> Result<usize>
     requires some { 1 ≤ length rest.now }
     requires ready { V.is_ready actor.old }
-    ensures count { IfOk result (λ n. n ≤ length rest.now) }
-    ensures ran { Prints V.takes V.refuses result rest.now actor.old actor.new }
-    ensures ready { OnOk result (V.is_ready actor.new) }
+    ensures { Stays false V.takes V.refuses V.is_ready result rest.now actor.old actor.new }
 {
     if rest[0] < 0x20 || rest[0] > 0x7f {
         return Ok(0);
@@ -301,14 +270,12 @@ fn print_lone<V: VTActor>(rest: &[u8], actor: &mut V) -> Result<usize, AllocErro
 }
 
 #[inline(always)]
-fn print_text<V: VTActor>(rest: &[u8], actor: &mut V) -> Result<usize, AllocError>
+fn print_text<V: VTActor>(rest: &[u8], actor: &mut V) -> Result<usize>
     requires some { 0 < length rest.now }
     requires low { 0x20 ≤ slice_index rest.now 0 }
     requires high { slice_index rest.now 0 < 0x80 }
     requires ready { V.is_ready actor.old }
-    ensures count { IfOk result (λ n. n ≤ length rest.now) }
-    ensures ran { Prints V.takes V.refuses result rest.now actor.old actor.new }
-    ensures ready { OnOk result (V.is_ready actor.new) }
+    ensures { Stays false V.takes V.refuses V.is_ready result rest.now actor.old actor.new }
 {
     let run = text_run(rest);
     match actor.print_text(&rest[..run]) {

@@ -1,8 +1,8 @@
 //! Sequences of UTF-8 that have begun.
 #![tactic(auto)]
 
-ghost use Rattle.std.specs.Prelude.{◌≡◌, ◌++◌, List, [], ◌∷◌, ◌-◌, ◌*◌, ◌+◌, ◌≤◌, if◌then◌else◌, true, OnOk, OnErr, ◌<◌, false, length};
-ghost use Rattle.esc_frame.specs.Sequences.{is_from, is_tail, is_second, is_sequence, is_front, is_pair, outcome, number_of};
+ghost use Rattle.std.specs.Prelude.{◌≡◌, ◌++◌, [], ◌∷◌, ◌-◌, ◌*◌, ◌+◌, ◌≤◌, if◌then◌else◌, true, OnOk, ◌<◌, false, length};
+ghost use Rattle.esc_frame.specs.Sequences.{is_from, is_second, is_sequence, is_front, is_pair, outcome, number_of};
 ghost use Rattle.esc_frame.specs.Machine.Characters.{IsAhead, IsCharacter};
 ghost use Rattle.esc_frame.specs.Machine.Fronts.{front_of};
 
@@ -62,7 +62,7 @@ fn chosen(whole: bool, more: bool) -> Outcome
 }
 
 impl Pending {
-    /// What the byte makes of the front.
+    /// What the byte makes of the prefix.
     #[tactic(auto, unfolding(crate::specs::Sequences::is_sequence, crate::specs::Sequences::is_front))]
     pub fn outcome(self, b: u8) -> Outcome
         ensures { result ≡ outcome (front_of self) b }
@@ -87,7 +87,7 @@ impl Pending {
         }
     }
 
-    /// The front with the byte.
+    /// The prefix with the byte.
     #[tactic(auto, unfolding(crate::specs::Sequences::is_front))]
     pub fn with(self, b: u8) -> Pending
         ensures { is_front (front_of self ++ b ∷ []) ≡ true → front_of result ≡ front_of self ++ b ∷ [] }
@@ -100,7 +100,7 @@ impl Pending {
         }
     }
 
-    /// Whether front and byte are C2 80 to C2 9F.
+    /// Whether prefix and byte are C2 80 to C2 9F.
     #[tactic(auto, unfolding(crate::specs::Sequences::is_pair))]
     pub fn pairs_with(self, b: u8) -> bool
         ensures { result ≡ is_pair (front_of self ++ b ∷ []) }
@@ -111,7 +111,7 @@ impl Pending {
         }
     }
 
-    /// The character of front and byte.
+    /// The character of prefix and byte.
     #[tactic(auto, unfolding(crate::specs::Sequences::is_sequence, crate::specs::Sequences::number_of))]
     pub fn character(self, b: u8) -> char
         requires { is_sequence (front_of self ++ b ∷ []) ≡ true }
@@ -125,7 +125,7 @@ impl Pending {
         }
     }
 
-    /// Puts front and byte behind the text.
+    /// Appends prefix and byte to the text.
     pub fn put<A: Allocator>(self, text: &mut Vec<u8, A>, b: u8) -> Result<(), AllocError>
         ensures ok { OnOk result (text.new.items ≡ text.old.items ++ (front_of self ++ b ∷ [])) }
     {
@@ -187,7 +187,7 @@ fn four(a: u8, b: u8, c: u8, d: u8) -> char
     }
 }
 
-/// The character of the whole sequence, no control, that stands at the front, and its length; length 0 where none does.
+/// The character of the whole sequence, no control, that comes first, and its length; length 0 where none does.
 #[inline(always)]
 pub fn ahead(rest: &[u8]) -> (usize, char)
     ensures { IsAhead rest.now result.0 result.1 }

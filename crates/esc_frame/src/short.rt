@@ -18,7 +18,7 @@ pub struct Short {
     ghost fits: { count ≤ 32 },
 }
 
-// The number that the digits at the front write, at least one, and how many they are.
+// The number that the digits write that come first, at least one, and how many they are.
 #[inline(always)]
 fn read_number(rest: &[u8]) -> (u64, usize)
     requires some { 0 < length rest.now }
@@ -75,7 +75,7 @@ impl Short {
         self.push(CsiParam::Integer(number as i64))
     }
 
-    // The digits at the front.
+    // The digits that come first.
     #[inline(always)]
     fn push_number(&mut self, rest: &[u8]) -> usize
         requires room { self.old.count < 32 }
@@ -107,7 +107,7 @@ impl Short {
         }
     }
 
-    // A marker, 3C to 3F, at the front, if one stands there.
+    // A marker, 3C to 3F, if one comes first.
     #[inline(always)]
     fn push_marker(&mut self, rest: &[u8]) -> usize
         requires none { self.old.count ≡ 0 }
@@ -125,7 +125,7 @@ impl Short {
         }
     }
 
-    // The digits at the front, if any, and a separator behind them; whether that came.
+    // The digits that come first, if any, and a separator after them; whether that came.
     #[inline(always)]
     fn push_field(&mut self, rest: &[u8]) -> (usize, bool)
         requires room { self.old.count < 31 }
@@ -152,8 +152,8 @@ impl Short {
         }
     }
 
-    /// Reads the body at the front, as far as it has a marker, numbers and separators and at most 32 entries, and says how
-    /// long it is.
+    /// Reads the body that comes first, as far as it has a marker, numbers and separators and at most 32 entries, and returns
+    /// its length.
     #[inline(always)]
     pub fn read(&mut self, rest: &[u8]) -> usize
         ensures few { result ≤ length rest.now }

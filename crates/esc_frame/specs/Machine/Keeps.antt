@@ -53,7 +53,8 @@ KeepsEntries e x = AreFirst e.items.items e.is_truncated e.limit (closed_of None
 -- how far a body has come in its form, byte by byte
 abbrev pub next_form : Form → ℕ → Form
 next_form form.Empty b =
-    if is_marker b then form.Parameters else if is_csi_parameter b then form.Parameters else if is_intermediate_byte b then form.Intermediates else form.Malformed
+    if is_marker b then form.Parameters else if is_csi_parameter b then form.Parameters else if is_intermediate_byte b then form.Intermediates else
+    form.Malformed
 next_form form.Parameters b = if is_csi_parameter b then form.Parameters else if is_intermediate_byte b then form.Intermediates else form.Malformed
 next_form form.Intermediates b = if is_intermediate_byte b then form.Intermediates else form.Malformed
 next_form form.Malformed b = form.Malformed

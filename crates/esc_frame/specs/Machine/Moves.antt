@@ -1,16 +1,14 @@
--- The byte machine: how one byte changes what is unfinished, and what it tells. Only private contracts cite it.
-use Rattle.std.specs.Prelude.{ℕ, ◌≡◌, ◌<◌, Bool, true, false, ◌||◌, if◌then◌else◌, List, [], ◌∷◌, ◌++◌, take, Result, MatchResult}
-use Rattle.std.specs.List.{FoldsTo}
+-- The byte machine: what one byte makes of what is unfinished, and what it tells. Only private contracts cite it.
+use Rattle.std.specs.Prelude.{ℕ, ◌≡◌, ◌<◌, Bool, true, false, ◌||◌, ◌&&◌, if◌then◌else◌, List, [], ◌∷◌, ◌++◌, take}
 use Rattle.esc_frame.specs.declared.classes.Class.{Class}
-use Rattle.esc_frame.specs.declared.classes.Class.TheVariants.{Plain, Bell, Cancel, Escape, Parameter, Opens, Final, RawControl, RawOpens, RawTerminator, High}
-use Rattle.esc_frame.specs.declared.classes.Class.TheVariants.{Lead}
+use Rattle.esc_frame.specs.declared.classes.Class.TheVariants.{Escape, Opens, RawOpens, High, Lead}
 use Rattle.esc_frame.specs.declared.classes.Kind.{Kind}
 use Rattle.esc_frame.specs.declared.classes.Kind.TheVariants as kind
 use Rattle.esc_frame.specs.declared.sequence.Outcome.{Outcome}
 use Rattle.esc_frame.specs.declared.sequence.Outcome.TheVariants as outcomes
 use Rattle.esc_frame.specs.Sequences.{is_pair, number_of, outcome}
-use Rattle.esc_frame.specs.Classes.{class_of, strip, those, is_text, is_breaker, ends_csi, is_put}
-use Rattle.esc_frame.specs.Events.{Event, StopsAt}
+use Rattle.esc_frame.specs.Classes.{class_of, strip, those, is_text, is_breaker, is_plain, is_control, is_raw_control, in_escape, in_csi, in_osc, is_put}
+use Rattle.esc_frame.specs.Events.{Event}
 use Rattle.esc_frame.specs.Events.Event.{Print, Execute, OscDispatch, DcsPut, DcsUnhook, ApcDispatch}
 use Rattle.esc_frame.specs.Bodies.{is_dcs_header}
 use Rattle.esc_frame.specs.Segments.{Opener, Piece, text_of, is_empty, escape_event, csi_events, hook_event}
@@ -20,6 +18,14 @@ use Rattle.esc_frame.specs.Segments.Piece.{One, Sequence, BrokenOff}
 use Rattle.esc_frame.specs.Leads.{Unfinished}
 use Rattle.esc_frame.specs.Leads.Unfinished.{Ground, Pending, InEscape, InCsi, InOsc, InOscPending, InDcs, InData, InApc, InIgnored}
 
+-- what is unfinished after a byte, and the events that the byte tells
+abbrev pub Move : Type 0
+Move = Unfinished × List Event
+
+-- these events, and then what a byte does
+abbrev pub telling : List Event → Move → Move
+telling es m = (m.0, es ++ m.1)
+
 abbrev pub opened : Kind → Opener → Unfinished
 opened kind.Csi o = InCsi o []
 opened kind.Osc o = InOsc o []
@@ -27,164 +33,92 @@ opened kind.Dcs o = InDcs o []
 opened kind.Apc o = InApc o []
 opened k o = InIgnored k o []
 
-abbrev pub ground_after : ℕ → Class → Unfinished
-ground_after b Escape = InEscape []
-ground_after b (RawOpens k) = opened k Raw
-ground_after b Lead = Pending (b ∷ [])
-ground_after b _ = Ground
+-- a byte in ground that is no character and no control
+abbrev pub begins : ℕ → Class → Move
+begins b Escape = (InEscape [], [])
+begins b (RawOpens k) = (opened k Raw, [])
+begins b Lead = (Pending (b ∷ []), [])
+begins b High = (Ground, Print 0xfffd ∷ [])
+begins b _ = (Ground, [])
 
-abbrev pub ground_news : ℕ → Class → List Event
-ground_news b Plain = Execute b ∷ []
-ground_news b Bell = Execute b ∷ []
-ground_news b Cancel = Execute b ∷ []
-ground_news b Escape = []
-ground_news b High = Print 0xfffd ∷ []
-ground_news b Lead = []
-ground_news b RawControl = Execute b ∷ []
-ground_news b (RawOpens k) = []
-ground_news b RawTerminator = []
-ground_news b _ = Print b ∷ []
+abbrev pub ground_move : ℕ → Class → Move
+ground_move b c = if is_text c then (Ground, Print b ∷ []) else if is_control c || is_raw_control c then (Ground, Execute b ∷ []) else begins b c
 
--- behind C2
-abbrev pub pair_after : Class → Unfinished
-pair_after (RawOpens k) = opened k Pair
-pair_after _ = Ground
+-- after C2: 80-9F
+abbrev pub pair_move : ℕ → Class → Move
+pair_move b (RawOpens k) = (opened k Pair, [])
+pair_move b c = (Ground, if is_raw_control c then Execute b ∷ [] else [])
 
-abbrev pub pair_news : ℕ → Class → List Event
-pair_news b RawControl = Execute b ∷ []
-pair_news b _ = []
+-- a control in a sequence that goes on
+abbrev pub noise : ℕ → Class → List Event
+noise b c = if is_plain c then Execute b ∷ [] else []
 
-abbrev pub pending_after : List ℕ → ℕ → Class → Outcome → Unfinished
-pending_after f b c outcomes.Whole = if is_pair (f ++ b ∷ []) then pair_after c else Ground
-pending_after f b c outcomes.More = Pending (f ++ b ∷ [])
-pending_after f b c outcomes.Broken = ground_after b c
+-- the final byte of an escape sequence, or what it opens
+abbrev pub final_escape : List ℕ → ℕ → Class → Move
+final_escape x b (Opens k) = if is_empty (strip x) then (opened k (Long x), []) else (Ground, escape_event (strip x) b ∷ [])
+final_escape x b _ = (Ground, escape_event (strip x) b ∷ [])
 
-abbrev pub pending_news : List ℕ → ℕ → Class → Outcome → List Event
-pending_news f b c outcomes.Whole = if is_pair (f ++ b ∷ []) then pair_news b c else Print (number_of (f ++ b ∷ [])) ∷ []
-pending_news f b c outcomes.More = []
-pending_news f b c outcomes.Broken = Print 0xfffd ∷ ground_news b c
-
-abbrev pub escape_after : List ℕ → ℕ → Class → Unfinished
-escape_after x b Cancel = Ground
-escape_after x b Escape = InEscape []
-escape_after x b RawControl = Ground
-escape_after x b (RawOpens k) = opened k Raw
-escape_after x b RawTerminator = Ground
-escape_after x b Parameter = Ground
-escape_after x b Final = Ground
-escape_after x b (Opens k) = if is_empty (strip x) then opened k (Long x) else Ground
-escape_after x b _ = InEscape (x ++ b ∷ [])
-
-abbrev pub escape_news : List ℕ → ℕ → Class → List Event
-escape_news x b Plain = Execute b ∷ []
-escape_news x b Bell = Execute b ∷ []
-escape_news x b Cancel = Execute b ∷ []
-escape_news x b RawControl = Execute b ∷ []
-escape_news x b Parameter = escape_event (strip x) b ∷ []
-escape_news x b Final = escape_event (strip x) b ∷ []
-escape_news x b (Opens k) = if is_empty (strip x) then [] else escape_event (strip x) b ∷ []
-escape_news x b _ = []
-
-abbrev pub csi_after : Opener → List ℕ → ℕ → Class → Unfinished
-csi_after o x b Cancel = Ground
-csi_after o x b Escape = InEscape []
-csi_after o x b RawControl = Ground
-csi_after o x b (RawOpens k) = opened k Raw
-csi_after o x b RawTerminator = Ground
-csi_after o x b (Opens k) = Ground
-csi_after o x b Final = Ground
-csi_after o x b _ = InCsi o (x ++ b ∷ [])
-
-abbrev pub csi_news : List ℕ → ℕ → Class → List Event
-csi_news x b Plain = Execute b ∷ []
-csi_news x b Bell = Execute b ∷ []
-csi_news x b Cancel = Execute b ∷ []
-csi_news x b RawControl = Execute b ∷ []
-csi_news x b (Opens k) = csi_events (strip x) b
-csi_news x b Final = csi_events (strip x) b
-csi_news x b _ = []
+-- the hook of a header that has its form
+abbrev pub hooks : List ℕ → ℕ → List Event
+hooks x b = if is_dcs_header (strip x) then hook_event (strip x) b ∷ [] else []
 
 abbrev pub osc_event : List Piece → Event
 osc_event ps = OscDispatch (parts_of (text_of ps))
 
-abbrev pub osc_after : Opener → List Piece → ℕ → Class → Unfinished
-osc_after o ps b Bell = Ground
-osc_after o ps b Cancel = Ground
-osc_after o ps b Escape = InEscape []
-osc_after o ps b RawControl = Ground
-osc_after o ps b (RawOpens k) = opened k Raw
-osc_after o ps b RawTerminator = Ground
-osc_after o ps b Lead = InOscPending o ps (b ∷ [])
-osc_after o ps b _ = InOsc o (ps ++ One b ∷ [])
+-- what the unfinished tells where it is left
+abbrev pub leaving : Unfinished → List Event
+leaving (Pending _) = Print 0xfffd ∷ []
+leaving (InData o x f d) = if is_dcs_header (strip x) then DcsUnhook ∷ [] else []
+leaving (InApc o d) = ApcDispatch (those is_text d) ∷ []
+leaving (InOsc o ps) = osc_event ps ∷ []
+leaving (InOscPending o ps f) = osc_event ps ∷ []
+leaving _ = []
 
-abbrev pub osc_news : List Piece → ℕ → Class → List Event
-osc_news ps b Bell = osc_event ps ∷ []
-osc_news ps b Cancel = osc_event ps ∷ Execute b ∷ []
-osc_news ps b RawControl = osc_event ps ∷ Execute b ∷ []
-osc_news ps b Escape = osc_event ps ∷ []
-osc_news ps b (RawOpens k) = osc_event ps ∷ []
-osc_news ps b RawTerminator = osc_event ps ∷ []
-osc_news ps b _ = []
+-- a lead byte in an OSC, or the bell that ends it
+abbrev pub final_osc : Opener → List Piece → ℕ → Class → Move
+final_osc o ps b Lead = (InOscPending o ps (b ∷ []), [])
+final_osc o ps b _ = (Ground, leaving (InOsc o ps))
 
-abbrev pub osc_pending_after : Opener → List Piece → List ℕ → ℕ → Class → Outcome → Unfinished
-osc_pending_after o ps f b c outcomes.Whole = if is_pair (f ++ b ∷ []) then pair_after c else InOsc o (ps ++ Sequence (f ++ b ∷ []) ∷ [])
-osc_pending_after o ps f b c outcomes.More = InOscPending o ps (f ++ b ∷ [])
-osc_pending_after o ps f b c outcomes.Broken = osc_after o (ps ++ BrokenOff f ∷ []) b c
+-- a byte that breaks off no sequence or string
+abbrev pub goes_on : Unfinished → ℕ → Class → Move
+goes_on (InEscape x) b c = if in_escape c then (InEscape (x ++ b ∷ []), noise b c) else final_escape x b c
+goes_on (InCsi o x) b c = if in_csi c then (InCsi o (x ++ b ∷ []), noise b c) else (Ground, csi_events (strip x) b)
+goes_on (InDcs o x) b c = if in_csi c then (InDcs o (x ++ b ∷ []), []) else (InData o x b [], hooks x b)
+goes_on (InData o x f d) b c = (InData o x f (d ++ b ∷ []), if is_dcs_header (strip x) && is_put c then DcsPut b ∷ [] else [])
+goes_on (InApc o d) b c = (InApc o (d ++ b ∷ []), [])
+goes_on (InIgnored k o d) b c = (InIgnored k o (d ++ b ∷ []), [])
+goes_on (InOsc o ps) b c = if in_osc c then (InOsc o (ps ++ One b ∷ []), []) else final_osc o ps b c
+goes_on u b c = (u, [])
 
-abbrev pub osc_pending_news : List Piece → List ℕ → ℕ → Class → Outcome → List Event
-osc_pending_news ps f b c outcomes.Whole = if is_pair (f ++ b ∷ []) then osc_event ps ∷ pair_news b c else []
-osc_pending_news ps f b c outcomes.More = []
-osc_pending_news ps f b c outcomes.Broken = osc_news (ps ++ BrokenOff f ∷ []) b c
+-- a byte in a sequence or a string: a breaker breaks it off, and does what it does in ground
+abbrev pub inside : Unfinished → ℕ → Class → Move
+inside u b c = if is_breaker c then telling (leaving u) (ground_move b c) else goes_on u b c
 
-abbrev pub dcs_after : Opener → List ℕ → ℕ → Class → Unfinished
-dcs_after o x b c = if is_breaker c then ground_after b c else if ends_csi c then InData o x b [] else InDcs o (x ++ b ∷ [])
+-- a byte after a prefix of a sequence
+abbrev pub pending_move : List ℕ → ℕ → Class → Outcome → Move
+pending_move f b c outcomes.Whole = if is_pair (f ++ b ∷ []) then pair_move b c else (Ground, Print (number_of (f ++ b ∷ [])) ∷ [])
+pending_move f b c outcomes.More = (Pending (f ++ b ∷ []), [])
+pending_move f b c outcomes.Broken = telling (leaving (Pending f)) (ground_move b c)
 
-abbrev pub dcs_news : List ℕ → ℕ → Class → List Event
-dcs_news x b c = if is_breaker c then ground_news b c else if ends_csi c then (if is_dcs_header (strip x) then hook_event (strip x) b ∷ [] else []) else []
+-- the same in an OSC
+abbrev pub osc_pending_move : Opener → List Piece → List ℕ → ℕ → Class → Outcome → Move
+osc_pending_move o ps f b c outcomes.Whole =
+    if is_pair (f ++ b ∷ []) then telling (leaving (InOscPending o ps f)) (pair_move b c) else (InOsc o (ps ++ Sequence (f ++ b ∷ []) ∷ []), [])
+osc_pending_move o ps f b c outcomes.More = (InOscPending o ps (f ++ b ∷ []), [])
+osc_pending_move o ps f b c outcomes.Broken = inside (InOsc o (ps ++ BrokenOff f ∷ [])) b c
 
-abbrev pub data_after : Opener → List ℕ → ℕ → List ℕ → ℕ → Class → Unfinished
-data_after o x f d b c = if is_breaker c then ground_after b c else InData o x f (d ++ b ∷ [])
-
-abbrev pub data_news : List ℕ → ℕ → Class → List Event
-data_news x b c =
-    if is_dcs_header (strip x) then (if is_breaker c then DcsUnhook ∷ ground_news b c else if is_put c then DcsPut b ∷ [] else []) else
-    (if is_breaker c then ground_news b c else [])
-
-abbrev pub apc_after : Opener → List ℕ → ℕ → Class → Unfinished
-apc_after o d b c = if is_breaker c then ground_after b c else InApc o (d ++ b ∷ [])
-
-abbrev pub apc_news : List ℕ → ℕ → Class → List Event
-apc_news d b c = if is_breaker c then ApcDispatch (those is_text d) ∷ ground_news b c else []
-
-abbrev pub ignored_after : Kind → Opener → List ℕ → ℕ → Class → Unfinished
-ignored_after k o d b c = if is_breaker c then ground_after b c else InIgnored k o (d ++ b ∷ [])
-
-abbrev pub ignored_news : ℕ → Class → List Event
-ignored_news b c = if is_breaker c then ground_news b c else []
+-- what a byte of this class makes of what is unfinished
+abbrev pub move : Unfinished → ℕ → Class → Move
+move Ground b c = ground_move b c
+move (Pending f) b c = pending_move f b c (outcome f b)
+move (InOscPending o ps f) b c = osc_pending_move o ps f b c (outcome f b)
+move u b c = inside u b c
 
 abbrev pub after_by : Unfinished → ℕ → Class → Unfinished
-after_by Ground b c = ground_after b c
-after_by (Pending f) b c = pending_after f b c (outcome f b)
-after_by (InEscape x) b c = escape_after x b c
-after_by (InCsi o x) b c = csi_after o x b c
-after_by (InDcs o x) b c = dcs_after o x b c
-after_by (InData o x f d) b c = data_after o x f d b c
-after_by (InApc o d) b c = apc_after o d b c
-after_by (InIgnored k o d) b c = ignored_after k o d b c
-after_by (InOsc o ps) b c = osc_after o ps b c
-after_by (InOscPending o ps f) b c = osc_pending_after o ps f b c (outcome f b)
+after_by u b c = (move u b c).0
 
 abbrev pub news_by : Unfinished → ℕ → Class → List Event
-news_by Ground b c = ground_news b c
-news_by (Pending f) b c = pending_news f b c (outcome f b)
-news_by (InEscape x) b c = escape_news x b c
-news_by (InCsi o x) b c = csi_news x b c
-news_by (InDcs o x) b c = dcs_news x b c
-news_by (InData o x f d) b c = data_news x b c
-news_by (InApc o d) b c = apc_news d b c
-news_by (InIgnored k o d) b c = ignored_news b c
-news_by (InOsc o ps) b c = osc_news ps b c
-news_by (InOscPending o ps f) b c = osc_pending_news ps f b c (outcome f b)
+news_by u b c = (move u b c).1
 
 -- ---- many bytes, one after another
 
@@ -210,15 +144,7 @@ abbrev pub may_grow_within : Unfinished → List ℕ → Bool
 may_grow_within u [] = false
 may_grow_within u (b ∷ bs) = may_grow_in u || may_grow_within (after_by u b (class_of b)) bs
 
--- What a call says that takes n bytes of the front of the rest, where u was unfinished before: the actor was given what
--- they tell; where the answer is an error, a front of what the rest tells.
-abbrev pub Given : {S E : Type 0} → (S → Event → S → Type 0) → (S → Event → S → Type 0) → Result ℕ E → Unfinished → List ℕ → S → S → Type 0
-Given takes refuses result u rest old new =
-    MatchResult result
-    (λ n. FoldsTo takes old (news_all u (take n rest)) new)
-    (λ _. StopsAt (may_grow_within u rest ≡ true) takes refuses old (news_all u rest) new)
-
--- ---- fronts that stop at the first event
+-- ---- prefixes that stop at the first event
 
 abbrev pub is_ground : Unfinished → Bool
 is_ground Ground = true

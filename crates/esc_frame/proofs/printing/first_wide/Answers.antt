@@ -1,10 +1,10 @@
 use Rattle.std.proofs.Common.{arith}
-use Rattle.esc_frame.proofs.ManyBytes.{character_after, character_news}
+use Rattle.esc_frame.proofs.ManyBytes.{character_does}
 use Rattle.esc_frame.proofs.Still.{character_still}
 use Rattle.esc_frame.proofs.printing.first_wide.Goals as goal
 
 pub returns-else-n-eq0-clause-prints : goal.returns-else-n-eq0-clause-prints
-returns-else-n-eq0-clause-prints c = let k = c.ahead-n.ensures (omega arith) in (character_after _ _ k.1, character_news _ _ k.1)
+returns-else-n-eq0-clause-prints c = character_does _ _ (c.ahead-n.ensures (omega arith)).1
 
 pub returns-else-n-eq0-clause-quiet : goal.returns-else-n-eq0-clause-quiet
 returns-else-n-eq0-clause-quiet c = let k = c.ahead-n.ensures (omega arith) in character_still c.args.rest.now _ _ k.0 k.1

@@ -1,10 +1,15 @@
-use Rattle.esc_frame.proofs.ManyBytes.{character_given, character_stops}
+use Rattle.esc_frame.proofs.ManyBytes.{event_given, event_stops}
 use Rattle.esc_frame.proofs.printing.print_first.Goals as goal
 
-pub returns-in-Ok-clause-ran : goal.returns-in-Ok-clause-ran
-returns-in-Ok-clause-ran g c =
-    character_given g.V.VTActor.takes g.V.VTActor.refuses c.args.rest.now _ _ c.args.actor.now _ c.in-Some.ensures.prints c.in-Ok.ensures.hears
+pub returns-in-Ok-clause-stays : goal.returns-in-Ok-clause-stays
+returns-in-Ok-clause-stays g c =
+    let one = c.in-Some.ensures.prints in (
+      c.in-Some.ensures.count.1,
+      one.0,
+      event_given g.V.VTActor.takes g.V.VTActor.refuses c.args.rest.now _ _ c.args.actor.now _ one c.in-Ok.ensures.hears,
+      c.in-Ok.ensures.ready,
+    )
 
-pub returns-in-Err-clause-ran : goal.returns-in-Err-clause-ran
-returns-in-Err-clause-ran g c =
-    character_stops g.V.VTActor.takes g.V.VTActor.refuses c.args.rest.now _ _ c.args.actor.now _ c.in-Some.ensures.prints _ c.in-Err.ensures.hears
+pub returns-in-Err-clause-stays : goal.returns-in-Err-clause-stays
+returns-in-Err-clause-stays g c =
+    event_stops g.V.VTActor.takes g.V.VTActor.refuses c.args.rest.now _ _ c.args.actor.now _ (c.in-Some.ensures.prints) _ c.in-Err.ensures.hears

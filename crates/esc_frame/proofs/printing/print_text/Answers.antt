@@ -4,12 +4,13 @@ use Rattle.esc_frame.specs.Scans.{is_text_byte}
 use Rattle.esc_frame.proofs.ManyBytes.{run_passes, some_run, text_given, text_stops}
 use Rattle.esc_frame.proofs.printing.print_text.Goals as goal
 
-pub returns-in-Ok-clause-ran : goal.returns-in-Ok-clause-ran
-returns-in-Ok-clause-ran g c =
-    text_given g.V.VTActor.takes g.V.VTActor.refuses c.args.rest.now _ c.args.actor.now _ c.text_run-run.ensures.run c.in-Ok.ensures.told
+pub returns-in-Ok : goal.returns-in-Ok
+returns-in-Ok g c =
+    let run = text_given g.V.VTActor.takes g.V.VTActor.refuses c.args.rest.now _ c.args.actor.now _ c.text_run-run.ensures.run c.in-Ok.ensures.told in
+    (c.text_run-run.ensures.few, run.0, run.1, c.in-Ok.ensures.ready)
 
-pub returns-in-Err-clause-ran : goal.returns-in-Err-clause-ran
-returns-in-Err-clause-ran g c =
+pub returns-in-Err : goal.returns-in-Err
+returns-in-Err g c =
     text_stops g.V.VTActor.takes g.V.VTActor.refuses c.args.rest.now _ c.args.actor.now _ _ c.text_run-run.ensures.run c.in-Err.ensures.told
 
 pub print_text-requires-clause-text : goal.print_text-requires-clause-text

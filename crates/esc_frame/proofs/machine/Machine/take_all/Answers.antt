@@ -1,7 +1,6 @@
-use Rattle.std.proofs.Common.{take, refl, sym, subst, arith}
-use Rattle.esc_frame.specs.Leads.{Holds}
+use Rattle.std.proofs.Common.{take, refl, arith}
 use Rattle.esc_frame.specs.Machine.Moves.{after_all}
-use Rattle.esc_frame.proofs.ManyBytes.{ran_more, ran_ends, tail_length}
+use Rattle.esc_frame.proofs.ManyBytes.{ran_took, ran_ends, tail_length}
 use Rattle.esc_frame.proofs.machine.Machine.take_all.Goals as goal
 
 pub loop-at-preserved : goal.loop-at-preserved
@@ -10,12 +9,11 @@ loop-at-preserved g c =
     let bs = c.args.bytes.now in
     let l = tail_length bs i in (
       omega (arith, c.in-Ok.ensures.count),
-      c.in-Ok.ensures.ready,
+      c.in-Ok.ensures.count.2,
       λ u h.
           let p = c.loop-at.invariant.2 u h in
           let v = after_all u (take i bs) in
-          let r = ran_more g.V.VTActor.takes g.V.VTActor.refuses u v bs i c.args.actor.now _ _ refl p.1 _ c.in-Ok.n (refl, c.in-Ok.ensures.told v p.0) in
-          (subst (λ w. Holds c.take.new.self w) (sym r.0) (c.in-Ok.ensures.holds v p.0), r.1),
+          ran_took g.V.VTActor.takes g.V.VTActor.refuses u v bs i c.args.actor.now _ _ refl p.1 c.take.new.self c.in-Ok.n (c.in-Ok.ensures.took v p.0),
     )
 
 pub returns-in-Err-clause-told : goal.returns-in-Err-clause-told
@@ -24,4 +22,4 @@ returns-in-Err-clause-told g c = λ u h.
     let bs = c.args.bytes.now in
     let p = c.loop-at.invariant.2 u h in
     let v = after_all u (take i bs) in
-    ran_ends g.V.VTActor.takes g.V.VTActor.refuses u v bs i c.args.actor.now _ _ refl p.1 (c.in-Err.ensures.told v p.0)
+    ran_ends g.V.VTActor.takes g.V.VTActor.refuses u v bs i c.args.actor.now _ _ refl p.1 (c.in-Err.ensures.took v p.0)

@@ -3,5 +3,5 @@ use Rattle.esc_frame.specs.Leads.Unfinished.{InCsi}
 use Rattle.esc_frame.proofs.ManyBytes.{own_stops}
 use Rattle.esc_frame.proofs.machine.Machine.take_in_csi.Goals as goal
 
-pub returns-in-Err-clause-told : goal.returns-in-Err-clause-told
-returns-in-Err-clause-told g c = λ o x k. own_stops g.V.VTActor.takes g.V.VTActor.refuses (InCsi o x) c.args.rest.now c.args.actor.now c.requires.some refl
+pub returns-in-Err-clause-took : goal.returns-in-Err-clause-took
+returns-in-Err-clause-took g c = λ o x k. own_stops g.V.VTActor.takes g.V.VTActor.refuses (InCsi o x) c.args.rest.now c.args.actor.now c.requires.some refl

@@ -1,10 +1,8 @@
-use Rattle.std.proofs.Common.{[], refl, sym, subst, arith}
-use Rattle.esc_frame.specs.Leads.{Holds}
-use Rattle.esc_frame.specs.Leads.Unfinished.{Ground, InOsc}
+use Rattle.std.proofs.Common.{[], refl, arith}
+use Rattle.esc_frame.specs.Leads.Unfinished.{InOsc}
 use Rattle.esc_frame.specs.Segments.Opener.{Long}
 use Rattle.esc_frame.proofs.CsiRuns.{osc_opens}
-use Rattle.esc_frame.proofs.ManyBytes.{quiet_folds, ran_more, ran_ends}
-use Rattle.esc_frame.proofs.Still.{osc_still}
+use Rattle.esc_frame.proofs.Still.{opened_took, opened_stops}
 use Rattle.esc_frame.proofs.machine.Machine.take_osc.Goals as goal
 
 pub take_in_osc-requires-clause-state : goal.take_in_osc-requires-clause-state
@@ -13,30 +11,18 @@ take_in_osc-requires-clause-state g c = (c.open.ensures (Long [])).0
 pub take_in_osc-requires-clause-whole : goal.take_in_osc-requires-clause-whole
 take_in_osc-requires-clause-whole g c = (c.open.ensures (Long [])).2
 
-pub returns-in-Ok-clause-holds : goal.returns-in-Ok-clause-holds
-returns-in-Ok-clause-holds g c =
-    let begin = osc_opens c.args.rest.now (omega arith) c.requires.escape c.requires.bracket in
-    let h = c.open.ensures (Long []) in
-    let r = ran_more g.V.VTActor.takes g.V.VTActor.refuses Ground
-    (InOsc (Long []) []) c.args.rest.now 2 c.args.actor.now c.args.actor.now c.take_in_osc.new.actor begin.0
-    (quiet_folds g.V.VTActor.takes _ c.args.actor.now begin.1) _ c.in-Ok.n (refl, c.in-Ok.ensures.told (Long []) [] h.1) in
-    subst (λ u. Holds c.take_in_osc.new.self u) (sym r.0) (c.in-Ok.ensures.holds (Long []) [] h.1)
+pub returns-in-Ok : goal.returns-in-Ok
+returns-in-Ok g c =
+    opened_took (InOsc (Long []) []) c.args.rest.now c.requires.some c.requires.escape
+    (osc_opens c.args.rest.now (omega arith) c.requires.escape c.requires.bracket) refl g.V.VTActor.takes g.V.VTActor.refuses g.V.VTActor.is_ready
+    c.args.actor.now c.take_in_osc.new.actor c.take_in_osc.new.self c.in-Ok.n (c.in-Ok.ensures.took (Long []) [] (c.open.ensures (Long [])).1)
+    (c.in-Ok.ensures.quiet (Long []) []) c.in-Ok.ensures.count
 
-pub returns-in-Ok-clause-told : goal.returns-in-Ok-clause-told
-returns-in-Ok-clause-told g c =
-    let begin = osc_opens c.args.rest.now (omega arith) c.requires.escape c.requires.bracket in
-    let h = c.open.ensures (Long []) in
-    (ran_more g.V.VTActor.takes g.V.VTActor.refuses Ground (InOsc
-    (Long []) []) c.args.rest.now 2 c.args.actor.now c.args.actor.now c.take_in_osc.new.actor begin.0
-    (quiet_folds g.V.VTActor.takes _ c.args.actor.now begin.1) _ c.in-Ok.n (refl, c.in-Ok.ensures.told (Long []) [] h.1)).1
-
-pub returns-in-Err-clause-told : goal.returns-in-Err-clause-told
-returns-in-Err-clause-told g c =
-    let begin = osc_opens c.args.rest.now (omega arith) c.requires.escape c.requires.bracket in
-    let h = c.open.ensures (Long []) in
-    ran_ends g.V.VTActor.takes g.V.VTActor.refuses Ground (InOsc
-    (Long []) []) c.args.rest.now 2 c.args.actor.now c.args.actor.now c.take_in_osc.new.actor begin.0
-    (quiet_folds g.V.VTActor.takes _ c.args.actor.now begin.1) (c.in-Err.ensures.told (Long []) [] h.1)
-
-pub returns-in-Ok-clause-quiet : goal.returns-in-Ok-clause-quiet
-returns-in-Ok-clause-quiet g c = osc_still c.args.rest.now c.in-Ok.n c.requires.some c.requires.escape c.requires.bracket (c.in-Ok.ensures.quiet (Long []) [])
+pub returns-in-Err : goal.returns-in-Err
+returns-in-Err g c = (
+  opened_stops (InOsc (Long []) []) c.args.rest.now c.requires.some c.requires.escape
+      (osc_opens c.args.rest.now (omega arith) c.requires.escape c.requires.bracket) refl g.V.VTActor.takes g.V.VTActor.refuses g.V.VTActor.is_ready
+      c.args.actor.now c.take_in_osc.new.actor (c.in-Err.ensures.took (Long []) [] (c.open.ensures (Long [])).1),
+  tt,
+  tt,
+)

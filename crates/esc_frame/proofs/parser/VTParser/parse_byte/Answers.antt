@@ -11,9 +11,9 @@ returns-in-Ok-clause-given g c = λ s (f, h).
     let b = c.args.byte in
     let u = after_all Ground s in
     let k = c.classify.ensures in (
-      (f, kept_one c.step.new.self s b _ k (c.in-Ok.ensures.holds u k h)),
+      (f, kept_one c.step.new.self s b _ k (c.in-Ok.ensures.moved u k h).0),
       given_one g.V.VTActor.takes s b _ c.args.actor.now c.step.new.actor k
-          (c.in-Ok.ensures.told u k h),
+          (c.in-Ok.ensures.moved u k h).1,
     )
 
 pub returns-in-Err-clause-refused : goal.returns-in-Err-clause-refused
@@ -22,5 +22,5 @@ returns-in-Err-clause-refused g c = λ s (f, h).
     let k = c.classify.ensures in (
       refl,
       refused_one g.V.VTActor.takes g.V.VTActor.refuses s c.args.byte _ c.args.actor.now c.step.new.actor k
-          (c.in-Err.ensures.told (after_all Ground s) k h),
+          (c.in-Err.ensures.moved (after_all Ground s) k h),
     )

@@ -16,9 +16,9 @@ unfolding LeadsTo
 returns-in-Ok-clause-given g c = λ s (f, h).
     let bs = take c.in-Ok.n c.args.bytes.now in
     let u = after_all Ground s in (
-      (f, kept_all c.take_some.new.self s bs (c.in-Ok.ensures.holds u h)),
+      (f, kept_all c.take_some.new.self s bs (c.in-Ok.ensures.took u h).0),
       given_all g.V.VTActor.takes s bs c.args.actor.now c.take_some.new.actor
-          (c.in-Ok.ensures.told u h),
+          (c.in-Ok.ensures.took u h).1,
     )
 
 pub returns-in-Ok-clause-quiet : goal.returns-in-Ok-clause-quiet
@@ -30,5 +30,5 @@ unfolding LeadsTo
 returns-in-Err-clause-refused g c = λ s (f, h). (
   refl,
   refused_all g.V.VTActor.takes g.V.VTActor.refuses s c.args.bytes.now c.args.actor.now c.take_some.new.actor
-      (c.in-Err.ensures.told (after_all Ground s) h),
+      (c.in-Err.ensures.took (after_all Ground s) h),
 )

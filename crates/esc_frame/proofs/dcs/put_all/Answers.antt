@@ -1,7 +1,7 @@
 use Rattle.std.proofs.Common.{arith}
 use Rattle.esc_frame.specs.Scans.{is_text_byte}
 use Rattle.esc_frame.proofs.StringRuns.{put_next, put_stop, passing_at}
-use Rattle.esc_frame.proofs.runs.put_all.Goals as goal
+use Rattle.esc_frame.proofs.dcs.put_all.Goals as goal
 
 pub put_one-requires-clause-text : goal.put_one-requires-clause-text
 put_one-requires-clause-text g c = passing_at is_text_byte c.args.run.now c.loop-b.b-index c.requires.text (omega arith)

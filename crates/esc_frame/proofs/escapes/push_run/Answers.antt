@@ -2,7 +2,7 @@ use Rattle.std.proofs.Common.{◌++◌, ◌∙◌, take, drop, length, ◌-◌, 
 use Rattle.esc_frame.specs.Machine.Keeps.{KeepsBody}
 use Rattle.esc_frame.proofs.CsiRuns.{run_joins, passes_more}
 use Rattle.esc_frame.proofs.ManyBytes.{tail_length}
-use Rattle.esc_frame.proofs.runs.push_run.Goals as goal
+use Rattle.esc_frame.proofs.escapes.push_run.Goals as goal
 
 pub loop-end-preserved : goal.loop-end-preserved
 loop-end-preserved g c =

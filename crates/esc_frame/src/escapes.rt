@@ -1,0 +1,323 @@
+//! The machine in escape sequences and control sequences.
+#![tactic(auto)]
+
+ghost use Rattle.std.specs.Prelude.{◌≡◌, ◌≤◌, ◌<◌, ◌++◌, ◌+◌, ℕ, Bool, List, [], ◌∷◌, length, take, drop, true, slice_index, IfOk, OnOk};
+ghost use Rattle.std.specs.List.{list_all};
+ghost use Rattle.esc_frame.specs.Classes.{class_of, strip};
+ghost use Rattle.esc_frame.specs.Events.{Hears};
+ghost use Rattle.esc_frame.specs.Events.Event.{EscDispatch};
+ghost use Rattle.esc_frame.specs.Leads.{Holds};
+ghost use Rattle.esc_frame.specs.Leads.Unfinished.{Ground, InEscape, InCsi};
+ghost use Rattle.esc_frame.specs.Machine.Calls.{Moved, Took, TookSome, Advances, Quietly, Stays};
+ghost use Rattle.esc_frame.specs.Machine.Keeps.{Keeps, KeepsBody};
+ghost use Rattle.esc_frame.specs.Machine.Moves.{inside, may_grow_within};
+ghost use Rattle.esc_frame.specs.Machine.Shorts.{IsShort};
+ghost use Rattle.esc_frame.specs.Scans.{is_body_byte};
+ghost use Rattle.esc_frame.specs.Segments.{Opener, csi_events, csi_event};
+ghost use Rattle.esc_frame.specs.Sequences.{is_from};
+ghost use Rattle.esc_frame.specs.Events.{Takes};
+
+use crate::actor::VTActor;
+use crate::body::CsiBody;
+use crate::classes::{Class, Kind, classify};
+use crate::machine::{Machine, Result, State};
+use crate::sequence::{Pending, lies_from};
+use std::alloc::Allocator;
+
+impl<A: Allocator> Machine<A> {
+    /// A byte after ESC x.
+    #[tactic(auto, using(crate::proofs::Given::hears_moved))]
+    pub fn in_escape<V: VTActor>(&mut self, b: u8, class: Class, actor: &mut V) -> Result<()>
+        requires { V.is_ready actor.old }
+        ensures moved { (own : Bool) (x : List ℕ) → class ≡ class_of b → Keeps self.old.intermediates (strip x) → Moved own V.takes V.refuses result (inside (InEscape x) b class) self.new actor.old actor.new }
+        ensures ready { OnOk result (V.is_ready actor.new) }
+    {
+        self.state = State::Escape;
+        match class {
+            Class::Cancel
+            | Class::Escape
+            | Class::RawControl
+            | Class::RawOpens(_)
+            | Class::RawTerminator => { self.in_ground(b, class, actor) }
+            Class::Plain | Class::Bell => actor.execute_c0_or_c1(b),
+            Class::Delete | Class::High | Class::Lead => Ok(()),
+            Class::Intermediate => {
+                self.intermediates.push(b);
+                Ok(())
+            }
+            Class::Parameter | Class::Final => self.dispatch_escape(b, actor),
+            Class::Opens(kind) => {
+                if self.intermediates.kept == 0 {
+                    self.open(kind);
+                    Ok(())
+                } else {
+                    self.dispatch_escape(b, actor)
+                }
+            }
+        }
+    }
+
+    // The final byte of an escape sequence.
+    fn dispatch_escape<V: VTActor>(&mut self, b: u8, actor: &mut V) -> Result<()>
+        requires { V.is_ready actor.old }
+        ensures holds { Holds self.new Ground }
+        ensures told { Hears V.takes V.refuses result actor.old (EscDispatch (take self.old.intermediates.kept self.old.intermediates.bytes) self.old.intermediates.ignored b) actor.new }
+        ensures ready { OnOk result (V.is_ready actor.new) }
+    {
+        self.state = State::Ground;
+        self.pending = Pending::Nothing;
+        actor.esc_dispatch(
+            &[],
+            self.intermediates.as_slice(),
+            self.intermediates.ignored,
+            b,
+        )
+    }
+
+    /// A byte after a CSI's opener and x.
+    #[tactic(auto, using(crate::proofs::Given::hears_moved))]
+    pub fn in_csi<V: VTActor>(&mut self, b: u8, class: Class, actor: &mut V) -> Result<()>
+        requires { V.is_ready actor.old }
+        ensures moved { (o : Opener) (x : List ℕ) → class ≡ class_of b → KeepsBody self.old.body (strip x) → Moved true V.takes V.refuses result (inside (InCsi o x) b class) self.new actor.old actor.new }
+        ensures ready { OnOk result (V.is_ready actor.new) }
+    {
+        self.state = State::Csi;
+        match class {
+            Class::Cancel
+            | Class::Escape
+            | Class::RawControl
+            | Class::RawOpens(_)
+            | Class::RawTerminator => { self.in_ground(b, class, actor) }
+            Class::Plain | Class::Bell => actor.execute_c0_or_c1(b),
+            Class::Delete | Class::High | Class::Lead => Ok(()),
+            Class::Intermediate | Class::Parameter => self.body.push(b),
+            Class::Opens(_) | Class::Final => self.dispatch_csi(b, actor),
+        }
+    }
+
+    // The final byte of a CSI.
+    fn dispatch_csi<V: VTActor>(&mut self, b: u8, actor: &mut V) -> Result<()>
+        requires { V.is_ready actor.old }
+        ensures moved { (x : List ℕ) → KeepsBody self.old.body x → Moved true V.takes V.refuses result (Ground, csi_events x b) self.new actor.old actor.new }
+        ensures ready { OnOk result (V.is_ready actor.new) }
+    {
+        self.state = State::Ground;
+        self.pending = Pending::Nothing;
+        if self.body.is_formed() {
+            tell_csi(&mut self.body, b, actor)
+        } else {
+            Ok(())
+        }
+    }
+
+    /// ESC and at least two bytes more, in ground.
+    #[inline(always)]
+    pub fn take_escape<V: VTActor>(&mut self, rest: &[u8], actor: &mut V) -> Result<usize>
+        requires some { 2 < length rest.now }
+        requires escape { slice_index rest.now 0 ≡ 0x1b }
+        requires ready { V.is_ready actor.old }
+        ensures { TookSome V.takes V.refuses V.is_ready result rest.now self.new actor.old actor.new }
+    {
+        if rest[1] == b'[' {
+            self.take_csi(rest, actor)
+        } else if rest[1] == b']' {
+            self.take_osc(rest, actor)
+        } else {
+            self.take_one_in_ground(rest, actor)
+        }
+    }
+
+    /// A control sequence that is short and stands whole at the start of the bytes; else nothing.
+    #[inline(always)]
+    pub fn take_quick_csi<V: VTActor>(&mut self, rest: &[u8], actor: &mut V) -> Result<usize>
+        requires escape { slice_index rest.now 0 ≡ 0x1b }
+        requires ready { V.is_ready actor.old }
+        requires ground { Holds self.old Ground }
+        ensures ground { IfOk result (λ n. Holds self.new Ground) }
+        ensures stays { Stays (may_grow_within Ground rest.now) V.takes V.refuses V.is_ready result rest.now actor.old actor.new }
+    {
+        if rest.len() <= 2 {
+            return Ok(0);
+        }
+        if rest[1] != b'[' {
+            return Ok(0);
+        }
+        let run = self.short.read(&rest[2..]);
+        if run == rest.len() - 2 {
+            return Ok(0);
+        }
+        if lies_from(0x40, 0x7e, rest[run + 2]) {
+            self.take_short_csi(rest, run, actor)
+        } else {
+            Ok(0)
+        }
+    }
+
+    // A control sequence: at once, where it is short and stands whole in the bytes.
+    #[inline(always)]
+    fn take_csi<V: VTActor>(&mut self, rest: &[u8], actor: &mut V) -> Result<usize>
+        requires some { 2 < length rest.now }
+        requires escape { slice_index rest.now 0 ≡ 0x1b }
+        requires bracket { slice_index rest.now 1 ≡ 0x5b }
+        requires ready { V.is_ready actor.old }
+        ensures { TookSome V.takes V.refuses V.is_ready result rest.now self.new actor.old actor.new }
+    {
+        let run = self.short.read(&rest[2..]);
+        if run == rest.len() - 2 {
+            return self.take_long_csi(rest, actor);
+        }
+        if lies_from(0x40, 0x7e, rest[run + 2]) {
+            self.take_short_csi(rest, run, actor)
+        } else {
+            self.take_long_csi(rest, actor)
+        }
+    }
+
+    // A control sequence whose entries were read.
+    #[inline(always)]
+    fn take_short_csi<V: VTActor>(
+        &mut self,
+        rest: &[u8],
+        run: usize,
+        actor: &mut V,
+    ) -> Result<usize>
+        requires some { 2 < length rest.now }
+        requires escape { slice_index rest.now 0 ≡ 0x1b }
+        requires bracket { slice_index rest.now 1 ≡ 0x5b }
+        requires few { run + 2 < length rest.now }
+        requires read { IsShort (take self.old.short.count self.old.short.items) (take run (drop 2 rest.now)) }
+        requires ends { is_from 0x40 0x7e (slice_index rest.now (run + 2)) ≡ true }
+        requires ready { V.is_ready actor.old }
+        ensures ground { IfOk result (λ n. Holds self.new Ground) }
+        ensures stays { Stays (may_grow_within Ground rest.now) V.takes V.refuses V.is_ready result rest.now actor.old actor.new }
+        ensures some { IfOk result (λ n. 0 < n) }
+        ensures quiet { Quietly result Ground rest.now }
+    {
+        self.state = State::Ground;
+        self.pending = Pending::Nothing;
+        match actor.csi_dispatch(self.short.as_slice(), false, rest[run + 2]) {
+            Ok(()) => Ok(run + 3),
+            Err(e) => Err(e),
+        }
+    }
+
+    // A control sequence, up to its final byte or what else is not of its body.
+    fn take_long_csi<V: VTActor>(&mut self, rest: &[u8], actor: &mut V) -> Result<usize>
+        requires some { 2 < length rest.now }
+        requires escape { slice_index rest.now 0 ≡ 0x1b }
+        requires bracket { slice_index rest.now 1 ≡ 0x5b }
+        requires ready { V.is_ready actor.old }
+        ensures { TookSome V.takes V.refuses V.is_ready result rest.now self.new actor.old actor.new }
+    {
+        self.open(Kind::Csi);
+        match self.take_in_csi(&rest[2..], actor) {
+            Ok(n) => Ok(2 + n),
+            Err(e) => Err(e),
+        }
+    }
+
+    /// The run of 20-3F in a control sequence, and the byte after it.
+    #[inline(always)]
+    pub fn take_in_csi<V: VTActor>(&mut self, rest: &[u8], actor: &mut V) -> Result<usize>
+        requires some { 0 < length rest.now }
+        requires ready { V.is_ready actor.old }
+        requires state { self.old.state ≡ State.Csi }
+        ensures took { (o : Opener) (x : List ℕ) → KeepsBody self.old.body (strip x) → Took V.takes V.refuses result (InCsi o x) rest.now self.new actor.old actor.new }
+        ensures quiet { (o : Opener) (x : List ℕ) → Quietly result (InCsi o x) rest.now }
+        ensures count { Advances V.is_ready result rest.now actor.new }
+    {
+        match push_run(&mut self.body, rest) {
+            Ok(run) => self.take_after_body(rest, run, actor),
+            Err(e) => Err(e),
+        }
+    }
+
+    // The byte after a run in a control sequence that was kept.
+    #[inline(always)]
+    fn take_after_body<V: VTActor>(
+        &mut self,
+        rest: &[u8],
+        run: usize,
+        actor: &mut V,
+    ) -> Result<usize>
+        requires some { 0 < length rest.now }
+        requires few { run ≤ length rest.now }
+        requires passes { list_all is_body_byte (take run rest.now) ≡ true }
+        requires ready { V.is_ready actor.old }
+        requires state { self.old.state ≡ State.Csi }
+        ensures took { (o : Opener) (x : List ℕ) → KeepsBody self.old.body (strip x ++ take run rest.now) → Took V.takes V.refuses result (InCsi o x) rest.now self.new actor.old actor.new }
+        ensures quiet { (o : Opener) (x : List ℕ) → Quietly result (InCsi o x) rest.now }
+        ensures count { Advances V.is_ready result rest.now actor.new }
+    {
+        if run == rest.len() {
+            return Ok(run);
+        }
+        match self.end_body(rest[run], actor) {
+            Ok(()) => Ok(run + 1),
+            Err(e) => Err(e),
+        }
+    }
+
+    // A byte of a control sequence, which most often is its final byte.
+    #[inline(always)]
+    fn end_body<V: VTActor>(&mut self, b: u8, actor: &mut V) -> Result<()>
+        requires { V.is_ready actor.old }
+        ensures moved { (o : Opener) (x : List ℕ) → KeepsBody self.old.body (strip x) → Moved true V.takes V.refuses result (inside (InCsi o x) b (class_of b)) self.new actor.old actor.new }
+        ensures ready { OnOk result (V.is_ready actor.new) }
+    {
+        if 0x40 <= b && b <= 0x7e {
+            self.dispatch_csi(b, actor)
+        } else {
+            self.in_csi(b, classify(b), actor)
+        }
+    }
+}
+
+// A control sequence whose body has its form, told.
+#[tactic(auto, using(crate::proofs::Given::hears_takes))]
+fn tell_csi<A: Allocator, V: VTActor>(body: &mut CsiBody<A>, b: u8, actor: &mut V) -> Result<()>
+    requires { V.is_ready actor.old }
+    ensures told { (x : List ℕ) → KeepsBody body.old x → Takes true V.takes V.refuses result actor.old (csi_event x b ∷ []) actor.new }
+    ensures ready { OnOk result (V.is_ready actor.new) }
+{
+    match body.finish() {
+        Ok(()) => actor.csi_dispatch(&body.entries.items, body.entries.is_truncated, b),
+        Err(e) => Err(e),
+    }
+}
+
+// Pushes the run of 20-3F that comes first, and returns its length.
+#[inline(always)]
+fn push_run<A: Allocator>(body: &mut CsiBody<A>, rest: &[u8]) -> Result<usize>
+    ensures keeps { (x : List ℕ) → KeepsBody body.old x → IfOk result (λ n. KeepsBody body.new (x ++ take n rest.now)) }
+    ensures run { IfOk result (λ n. (n ≤ length rest.now) × (list_all is_body_byte (take n rest.now) ≡ true)) }
+{
+    let mut end = 0;
+    while end < rest.len() && 0x20 <= rest[end] && rest[end] <= 0x3f {
+        match push_next(body, &rest[end..]) {
+            Ok(n) => end += n,
+            Err(e) => return Err(e),
+        }
+    }
+    Ok(end)
+}
+
+// Pushes a run of digits, or a byte.
+#[inline(always)]
+fn push_next<A: Allocator>(body: &mut CsiBody<A>, rest: &[u8]) -> Result<usize>
+    requires some { 0 < length rest.now }
+    requires low { 0x20 ≤ slice_index rest.now 0 }
+    requires high { slice_index rest.now 0 ≤ 0x3f }
+    ensures keeps { (x : List ℕ) → KeepsBody body.old x → IfOk result (λ n. KeepsBody body.new (x ++ take n rest.now)) }
+    ensures run { IfOk result (λ n. list_all is_body_byte (take n rest.now) ≡ true) }
+    ensures count { IfOk result (λ n. (0 < n) × (n ≤ length rest.now)) }
+{
+    if b'0' <= rest[0] && rest[0] <= b'9' {
+        Ok(body.push_digits(rest))
+    } else {
+        match body.push(rest[0]) {
+            Ok(()) => Ok(1),
+            Err(e) => Err(e),
+        }
+    }
+}

@@ -1,0 +1,236 @@
+//! The machine in ground: characters, controls, and what opens.
+#![tactic(auto)]
+
+ghost use Rattle.std.specs.Prelude.{◌≡◌, ◌<◌, ◌++◌, ◌∷◌, ℕ, List, [], Bool, true, length, OnOk, IfOk};
+ghost use Rattle.esc_frame.specs.Leads.{Holds};
+ghost use Rattle.esc_frame.specs.Leads.Unfinished.{Ground};
+ghost use Rattle.esc_frame.specs.Machine.Calls.{Moved, Took, TookSome, Advances, Stays};
+ghost use Rattle.esc_frame.specs.Machine.Fronts.{front_of};
+ghost use Rattle.esc_frame.specs.Machine.Moves.{telling, ground_move, pair_move, pending_move, may_grow_within};
+ghost use Rattle.esc_frame.specs.Events.Event.{Print};
+ghost use Rattle.esc_frame.specs.Sequences.{outcome, is_sequence};
+
+use crate::actor::VTActor;
+use crate::classes::{Class, classify};
+use crate::intermediates::Intermediates;
+use crate::machine::{Machine, Result, State};
+use crate::printing::{execute_one, print_first, print_one};
+use crate::sequence::{Outcome, Pending};
+use std::alloc::Allocator;
+
+impl<A: Allocator> Machine<A> {
+    /// A byte in ground, with nothing pending.
+    #[tactic(auto, using(crate::proofs::Given::hears_moved))]
+    pub fn in_ground<V: VTActor>(&mut self, b: u8, class: Class, actor: &mut V) -> Result<()>
+        requires { V.is_ready actor.old }
+        ensures moved { (own : Bool) → Moved own V.takes V.refuses result (ground_move b class) self.new actor.old actor.new }
+        ensures ready { OnOk result (V.is_ready actor.new) }
+    {
+        self.state = State::Ground;
+        self.pending = Pending::Nothing;
+        match class {
+            Class::Plain | Class::Bell | Class::Cancel | Class::RawControl =>
+                actor.execute_c0_or_c1(b),
+            Class::Escape => {
+                self.intermediates = Intermediates::new();
+                self.state = State::Escape;
+                Ok(())
+            }
+            Class::RawOpens(kind) => {
+                self.open(kind);
+                Ok(())
+            }
+            Class::RawTerminator => Ok(()),
+            Class::Lead => {
+                self.pending = Pending::One(b);
+                Ok(())
+            }
+            Class::High => actor.print('\u{fffd}'),
+            Class::Intermediate
+            | Class::Parameter
+            | Class::Opens(_)
+            | Class::Final
+            | Class::Delete => { actor.print(b as char) }
+        }
+    }
+
+    /// A control after C2.
+    #[tactic(auto, using(crate::proofs::Given::hears_moved))]
+    pub fn in_pair<V: VTActor>(&mut self, b: u8, class: Class, actor: &mut V) -> Result<()>
+        requires { V.is_ready actor.old }
+        ensures moved { (own : Bool) → Moved own V.takes V.refuses result (pair_move b class) self.new actor.old actor.new }
+        ensures ready { OnOk result (V.is_ready actor.new) }
+    {
+        self.state = State::Ground;
+        self.pending = Pending::Nothing;
+        match class {
+            Class::RawControl => actor.execute_c0_or_c1(b),
+            Class::RawOpens(kind) => {
+                self.open(kind);
+                Ok(())
+            }
+            Class::RawTerminator
+            | Class::Plain
+            | Class::Bell
+            | Class::Cancel
+            | Class::Escape
+            | Class::Lead
+            | Class::High
+            | Class::Intermediate
+            | Class::Parameter
+            | Class::Opens(_)
+            | Class::Final
+            | Class::Delete => Ok(()),
+        }
+    }
+
+    /// A byte after a prefix of a character's sequence.
+    pub fn in_pending<V: VTActor>(&mut self, b: u8, class: Class, actor: &mut V) -> Result<()>
+        requires { V.is_ready actor.old }
+        ensures moved { (own : Bool) (f : List ℕ) → front_of self.old.pending ≡ f → Moved own V.takes V.refuses result (pending_move f b class (outcome f b)) self.new actor.old actor.new }
+        ensures ready { OnOk result (V.is_ready actor.new) }
+    {
+        match self.pending.outcome(b) {
+            Outcome::Whole => self.whole(b, class, actor),
+            Outcome::More => {
+                self.state = State::Ground;
+                self.pending = self.pending.with(b);
+                Ok(())
+            }
+            Outcome::Broken => self.break_off(b, class, actor),
+        }
+    }
+
+    // A byte that breaks off a character's sequence.
+    fn break_off<V: VTActor>(&mut self, b: u8, class: Class, actor: &mut V) -> Result<()>
+        requires { V.is_ready actor.old }
+        ensures moved { (own : Bool) → Moved own V.takes V.refuses result (telling (Print 0xfffd ∷ []) (ground_move b class)) self.new actor.old actor.new }
+        ensures ready { OnOk result (V.is_ready actor.new) }
+    {
+        match actor.print('\u{fffd}') {
+            Ok(()) => self.in_ground(b, class, actor),
+            Err(e) => Err(e),
+        }
+    }
+
+    // A byte that completes a sequence.
+    #[tactic(auto, using(crate::proofs::Given::hears_moved))]
+    fn whole<V: VTActor>(&mut self, b: u8, class: Class, actor: &mut V) -> Result<()>
+        requires ready { V.is_ready actor.old }
+        requires whole { is_sequence (front_of self.old.pending ++ b ∷ []) ≡ true }
+        ensures moved { (own : Bool) → Moved own V.takes V.refuses result (pending_move (front_of self.old.pending) b class Outcome.Whole) self.new actor.old actor.new }
+        ensures ready { OnOk result (V.is_ready actor.new) }
+    {
+        if self.pending.pairs_with(b) {
+            self.in_pair(b, class, actor)
+        } else {
+            let c = self.pending.character(b);
+            self.state = State::Ground;
+            self.pending = Pending::Nothing;
+            actor.print(c)
+        }
+    }
+
+    /// Characters, and what follows them.
+    #[inline(always)]
+    pub fn take_in_ground<V: VTActor>(&mut self, rest: &[u8], actor: &mut V) -> Result<usize>
+        requires some { 0 < length rest.now }
+        requires ready { V.is_ready actor.old }
+        requires ground { Holds self.old Ground }
+        ensures took { Took V.takes V.refuses result Ground rest.now self.new actor.old actor.new }
+        ensures count { Advances V.is_ready result rest.now actor.new }
+    {
+        match self.take_quick(rest, actor) {
+            Ok(printed) => {
+                if printed == rest.len() {
+                    return Ok(printed);
+                }
+                match self.take_control(&rest[printed..], actor) {
+                    Ok(n) => Ok(printed + n),
+                    Err(e) => Err(e),
+                }
+            }
+            Err(e) => Err(e),
+        }
+    }
+
+    // Characters, controls and short control sequences, as long as they come.
+    #[inline(always)]
+    fn take_quick<V: VTActor>(&mut self, rest: &[u8], actor: &mut V) -> Result<usize>
+        requires ready { V.is_ready actor.old }
+        requires ground { Holds self.old Ground }
+        ensures ground { IfOk result (λ n. Holds self.new Ground) }
+        ensures stays { Stays (may_grow_within Ground rest.now) V.takes V.refuses V.is_ready result rest.now actor.old actor.new }
+    {
+        let mut at = 0;
+        while at < rest.len() {
+            match self.take_quick_one(&rest[at..], actor) {
+                Ok(0) => return Ok(at),
+                Ok(n) => at += n,
+                Err(e) => return Err(e),
+            }
+        }
+        Ok(at)
+    }
+
+    // Characters, a control, or a short control sequence; nothing where something else stands there.
+    #[inline(always)]
+    fn take_quick_one<V: VTActor>(&mut self, rest: &[u8], actor: &mut V) -> Result<usize>
+        requires some { 0 < length rest.now }
+        requires ready { V.is_ready actor.old }
+        requires ground { Holds self.old Ground }
+        ensures ground { IfOk result (λ n. Holds self.new Ground) }
+        ensures stays { Stays (may_grow_within Ground rest.now) V.takes V.refuses V.is_ready result rest.now actor.old actor.new }
+    {
+        if rest[0] >= 0x20 {
+            return print_one(rest, actor);
+        }
+        if rest[0] == 0x1b {
+            self.take_quick_csi(rest, actor)
+        } else {
+            execute_one(rest, actor)
+        }
+    }
+
+    /// One character, or what else stands in ground.
+    #[inline(always)]
+    pub fn take_first<V: VTActor>(&mut self, rest: &[u8], actor: &mut V) -> Result<usize>
+        requires some { 0 < length rest.now }
+        requires ready { V.is_ready actor.old }
+        requires ground { Holds self.old Ground }
+        ensures { TookSome V.takes V.refuses V.is_ready result rest.now self.new actor.old actor.new }
+    {
+        match print_first(rest, actor) {
+            Ok(0) => self.take_control(rest, actor),
+            Ok(n) => Ok(n),
+            Err(e) => Err(e),
+        }
+    }
+
+    // A byte, or a sequence that ESC begins, in ground.
+    #[inline(always)]
+    fn take_control<V: VTActor>(&mut self, rest: &[u8], actor: &mut V) -> Result<usize>
+        requires some { 0 < length rest.now }
+        requires ready { V.is_ready actor.old }
+        ensures { TookSome V.takes V.refuses V.is_ready result rest.now self.new actor.old actor.new }
+    {
+        if rest[0] == 0x1b && rest.len() > 2 {
+            self.take_escape(rest, actor)
+        } else {
+            self.take_one_in_ground(rest, actor)
+        }
+    }
+
+    /// One byte in ground.
+    #[inline(always)]
+    pub fn take_one_in_ground<V: VTActor>(&mut self, rest: &[u8], actor: &mut V) -> Result<usize>
+        requires some { 0 < length rest.now }
+        requires ready { V.is_ready actor.old }
+        ensures { TookSome V.takes V.refuses V.is_ready result rest.now self.new actor.old actor.new }
+    {
+        match self.in_ground(rest[0], classify(rest[0]), actor) {
+            Ok(()) => Ok(1),
+            Err(e) => Err(e),
+        }
+    }
+}
