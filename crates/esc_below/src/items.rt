@@ -86,13 +86,17 @@ impl<T, A: Allocator> Items<T, A> {
     }
 
     /// Appends an item. The error is that memory was refused, and the items stay as they were.
+    #[inline(always)]
     pub fn push(&mut self, item: T) -> Result<(), AllocError>
     where
         T: Drop,
         ensures ok { OnOk result (self.new ≡ self.old ++ item ∷ []) }
         ensures err { OnErr result (self.new ≡ self.old) }
     {
-        self.vec.push(item)?;
+        if self.vec.len() == self.vec.capacity() {
+            self.vec.reserve(1)?;
+        }
+        self.vec.push_reserved(item);
         Ok(())
     }
 

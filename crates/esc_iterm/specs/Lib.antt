@@ -1,4 +1,5 @@
 pub mod Dimensions
+pub mod FileKeys
 pub mod Files
 pub mod ITerms
 pub mod Keys

@@ -1,11 +1,12 @@
 //! The texts of files.
-ghost use Rattle.std.specs.Prelude.{◌≡◌, ◌&&◌, is_none, if◌then◌else◌, [], ◌∷◌, codes, Some};
-ghost use Rattle.std.specs.Fmt.{DisplaysOnOk, decimal};
-ghost use Rattle.std.specs.Option.{option_map};
+ghost use Rattle.std.specs.Prelude.{◌≡◌, ◌&&◌, not, is_some, if◌then◌else◌, [], ◌∷◌, map, Some};
+ghost use Rattle.std.specs.Fmt.{DisplaysOnOk};
+ghost use Rattle.std.specs.Option.{option_map, unwrap_or};
 ghost use Rattle.esc_below.specs.Base64.{base64_text};
 ghost use Rattle.esc_below.specs.Clear.{joined};
 ghost use Rattle.esc_below.specs.Scalars.{when};
-ghost use Rattle.esc_iterm.specs.Files.{key_piece, key_pieces, pieces_after, written_dimension, written_keys};
+ghost use Rattle.esc_iterm.specs.FileKeys.{entry, value_text};
+ghost use Rattle.esc_iterm.specs.Files.{key_piece, key_pieces, pieces_after, written_keys};
 
 use crate::dimension::ITermDimension;
 use crate::file_data::ITermFileData;
@@ -13,6 +14,51 @@ use esc_below::base64_text::Encoded;
 use esc_below::{Items, Text};
 use std::alloc::Allocator;
 use std::fmt;
+use std::fmt::Display;
+
+// The value of a key, where it is written.
+#[derive(Clone, Copy)]
+pub(crate) enum Value<'a> {
+    Size(Option<usize>),
+    // Written in base64.
+    Name(Option<&'a str>),
+    // Written unless it is automatic.
+    Dimension(ITermDimension),
+    Word(Option<&'a str>),
+}
+
+// A key with its value.
+#[derive(Clone, Copy)]
+pub(crate) struct Key<'a>(pub(crate) &'a str, pub(crate) Value<'a>);
+
+impl Value<'_> {
+    fn is_written(&self) -> bool
+        ensures { result ≡ is_some (value_text self.now) }
+    {
+        match self {
+            Value::Size(size) => size.is_some(),
+            Value::Name(name) => name.is_some(),
+            Value::Dimension(ITermDimension::Automatic) => false,
+            Value::Dimension(_) => true,
+            Value::Word(word) => word.is_some(),
+        }
+    }
+}
+
+impl Display for Value<'_> {
+    ghost output = { λ v. Some (unwrap_or (value_text v) []) };
+
+    fn fmt<W: fmt::Write>(&self, f: &mut fmt::Formatter<W>) -> fmt::Result {
+        match self {
+            Value::Size(Some(size)) => write!(f, "{size}"),
+            Value::Name(Some(name)) => Encoded(name.as_bytes()).fmt(f),
+            Value::Dimension(ITermDimension::Automatic) => Ok(()),
+            Value::Dimension(dimension) => dimension.fmt(f),
+            Value::Word(Some(word)) => f.write_str(word),
+            _ => Ok(()),
+        }
+    }
+}
 
 // The keys with their values, `;` between them.
 pub(crate) fn write_keys<W: fmt::Write, A: Allocator>(
@@ -21,31 +67,77 @@ pub(crate) fn write_keys<W: fmt::Write, A: Allocator>(
 ) -> fmt::Result
     ensures { DisplaysOnOk W.write_str_gives f.old result (Some (joined (key_pieces (written_keys file.now)))) f.new }
 {
-    let name_first = file.size.is_none();
-    let width_first = stays_first(name_first, file.name.is_none());
-    let height_first = stays_first(width_first, is_automatic(&file.width));
-    let ratio_first = stays_first(height_first, is_automatic(&file.height));
-    let inline_first = stays_first(ratio_first, file.preserve_aspect_ratio);
-    let cursor_first = stays_first(inline_first, !file.inline);
-    write_size(true, file.size, f)?;
-    write_name(name_first, &file.name, f)?;
-    write_dimension(width_first, "width", &file.width, f)?;
-    write_dimension(height_first, "height", &file.height, f)?;
-    write_flag(
-        ratio_first,
-        "preserveAspectRatio",
-        "0",
-        !file.preserve_aspect_ratio,
-        f,
-    )?;
-    write_flag(inline_first, "inline", "1", file.inline, f)?;
-    write_flag(
-        cursor_first,
-        "doNotMoveCursor",
-        "1",
-        file.do_not_move_cursor,
-        f,
-    )
+    let keys = [
+        Key("size", Value::Size(file.size)),
+        Key("name", Value::Name(text_of(&file.name))),
+        Key("width", Value::Dimension(file.width)),
+        Key("height", Value::Dimension(file.height)),
+        Key(
+            "preserveAspectRatio",
+            Value::Word(word_if(!file.preserve_aspect_ratio, "0")),
+        ),
+        Key("inline", Value::Word(word_if(file.inline, "1"))),
+        Key(
+            "doNotMoveCursor",
+            Value::Word(word_if(file.do_not_move_cursor, "1")),
+        ),
+    ];
+    write_each(&keys, f)
+}
+
+// The keys that are written, with `;` between them.
+fn write_each<W: fmt::Write>(keys: &[Key<'_>], f: &mut fmt::Formatter<W>) -> fmt::Result
+    ensures { DisplaysOnOk W.write_str_gives f.old result (Some (joined (key_pieces (map entry keys.now)))) f.new }
+{
+    let mut is_first = true;
+    for key in keys {
+        write_key(is_first, key, f)?;
+        is_first = is_still_first(is_first, key);
+    }
+    Ok(())
+}
+
+// A key with its value, where it is written, and a `;` before it, unless it is the first.
+fn write_key<W: fmt::Write>(is_first: bool, key: &Key<'_>, f: &mut fmt::Formatter<W>) -> fmt::Result
+    ensures { DisplaysOnOk W.write_str_gives f.old result (Some (pieces_after is_first (key_piece key.now.0.now (value_text key.now.1)))) f.new }
+{
+    if !key.1.is_written() {
+        return Ok(());
+    }
+    let separator = separator(is_first);
+    let Key(name, value) = *key;
+    write!(f, "{separator}{name}={value}")
+}
+
+// Whether the next key is the first that is written.
+fn is_still_first(is_first: bool, key: &Key<'_>) -> bool
+    ensures { result ≡ (is_first && not (is_some (value_text key.now.1))) }
+{
+    is_first && !key.1.is_written()
+}
+
+// What comes before a key.
+fn separator(is_first: bool) -> &'static str
+    ensures { result.now ≡ (if is_first then [] else 0x3b ∷ []) }
+{
+    if is_first { "" } else { ";" }
+}
+
+// The word, where it is wanted.
+fn word_if(is_wanted: bool, word: &'static str) -> Option<&'static str>
+    ensures { option_map (λ w. w.now) result ≡ when is_wanted word.now }
+{
+    if is_wanted { Some(word) } else { None }
+}
+
+// The text, where there is one.
+fn text_of<A: Allocator>(text: &Option<Text<A>>) -> Option<&str>
+    ensures { option_map (λ t. t.now) result ≡ text.now }
+{
+    match text {
+        Some(text) => Some(text.as_str()),
+        None => None,
+    }
 }
 
 // `:`, and the content in base64.
@@ -57,92 +149,4 @@ pub(crate) fn write_content<W: fmt::Write, A: Allocator>(
 {
     let content = Encoded(content.as_slice());
     write!(f, ":{content}")
-}
-
-// Whether the dimension is not written.
-fn is_automatic(dimension: &ITermDimension) -> bool
-    ensures { result ≡ is_none (written_dimension dimension.now) }
-{
-    matches!(dimension, ITermDimension::Automatic)
-}
-
-// Whether the next key is the first: nothing is before this one, and this one is not written.
-fn stays_first(first: bool, is_absent: bool) -> bool
-    ensures { result ≡ (first && is_absent) }
-{
-    first && is_absent
-}
-
-// What comes before a key.
-fn separator(first: bool) -> &'static str
-    ensures { result.now ≡ (if first then [] else 0x3b ∷ []) }
-{
-    if first { "" } else { ";" }
-}
-
-// The size, where there is one.
-fn write_size<W: fmt::Write>(
-    first: bool,
-    size: Option<usize>,
-    f: &mut fmt::Formatter<W>,
-) -> fmt::Result
-    ensures { DisplaysOnOk W.write_str_gives f.old result (Some (pieces_after first (key_piece (codes "size") (option_map decimal size)))) f.new }
-{
-    let separator = separator(first);
-    match size {
-        Some(size) => write!(f, "{separator}size={size}"),
-        None => Ok(()),
-    }
-}
-
-// The name in base64, where there is one.
-fn write_name<W: fmt::Write, A: Allocator>(
-    first: bool,
-    name: &Option<Text<A>>,
-    f: &mut fmt::Formatter<W>,
-) -> fmt::Result
-    ensures { DisplaysOnOk W.write_str_gives f.old result (Some (pieces_after first (key_piece (codes "name") (option_map base64_text name.now)))) f.new }
-{
-    let separator = separator(first);
-    match name {
-        Some(name) => {
-            let name = Encoded(name.as_bytes());
-            write!(f, "{separator}name={name}")
-        }
-        None => Ok(()),
-    }
-}
-
-// A dimension after its key, where it is not automatic.
-fn write_dimension<W: fmt::Write>(
-    first: bool,
-    key: &str,
-    dimension: &ITermDimension,
-    f: &mut fmt::Formatter<W>,
-) -> fmt::Result
-    ensures { DisplaysOnOk W.write_str_gives f.old result (Some (pieces_after first (key_piece key.now (written_dimension dimension.now)))) f.new }
-{
-    let separator = separator(first);
-    match dimension {
-        ITermDimension::Automatic => Ok(()),
-        _ => write!(f, "{separator}{key}={dimension}"),
-    }
-}
-
-// A key with its value, where it is wanted.
-fn write_flag<W: fmt::Write>(
-    first: bool,
-    key: &str,
-    value: &str,
-    is_wanted: bool,
-    f: &mut fmt::Formatter<W>,
-) -> fmt::Result
-    ensures { DisplaysOnOk W.write_str_gives f.old result (Some (pieces_after first (key_piece key.now (when is_wanted value.now)))) f.new }
-{
-    let separator = separator(first);
-    if is_wanted {
-        write!(f, "{separator}{key}={value}")
-    } else {
-        Ok(())
-    }
 }

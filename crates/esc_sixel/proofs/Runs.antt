@@ -1,6 +1,6 @@
 -- One more byte of a run.
-use Rattle.std.proofs.Common.{◌≡◌, ◌≢◌, ℕ, zero, suc, ◌+◌, ◌-◌, ◌*◌, ◌<◌, ◌≤◌, ◌==◌, min, Bool, true, false, List, [], ◌∷◌, ◌++◌, get_or, length, set, Option}
-use Rattle.std.proofs.Common.{Some, None, refl, sym, ap, ◌∙◌, arith, ◌⊎◌, inl, inr}
+use Rattle.std.proofs.Common.{◌≡◌, ◌≢◌, ℕ, zero, suc, ◌+◌, ◌-◌, ◌*◌, ◌<◌, ◌==◌, min, false, List, [], ◌∷◌, ◌++◌, get_or, length, set, Option}
+use Rattle.std.proofs.Common.{Some, None, refl, sym, ap, ◌∙◌, arith, inl, inr}
 use Rattle.std.specs.Option.{option_map, unwrap_or}
 use Rattle.std.proofs.lemmas.Bool.{eqb-false, eqb-true, cases_Bool}
 use Rattle.std.proofs.lemmas.List.{get_or-set_same, get_or-set_other}
@@ -84,12 +84,6 @@ pub param_here : (run : List ℕ) (d k : ℕ) → (d == 59) ≡ false → k ≡ 
 param_here run d k h e =
     ap (option_map held) (digit_here None run d k h e)
     ∙ ap Some (held_more (get_or (numbers_after None run) k None) (d - 48) (param run k) refl)
-
-pub param_small : (run : List ℕ) (k : ℕ) → unwrap_or (param run k) 0 ≤ 0x7fff_ffff_ffff_ffff
-param_small run k = elim (get_or (numbers_after None run) k None) as (λ o. unwrap_or (option_map held o) 0 ≤ 0x7fff_ffff_ffff_ffff) [
-  | None ↦ omega arith
-  | Some n ↦ omega arith
-]
 
 pub digit_is_none : (d : ℕ) → d < 10 → (d + 48 == 59) ≡ false
 digit_is_none d h = ne_eqb (d + 48) 59 (λ e. omega (arith, e))

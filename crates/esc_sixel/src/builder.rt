@@ -1,5 +1,5 @@
 //! How a sixel string is read, byte by byte.
-ghost use Rattle.std.specs.Prelude.{◌≡◌, ℕ, ℤ, List, [], ◌∷◌, ◌++◌, OnOk, OnErr, Some, None};
+ghost use Rattle.std.specs.Prelude.{◌≡◌, ◌<◌, ℕ, ℤ, length, take, List, [], ◌∷◌, ◌++◌, OnOk, OnErr, Some, None};
 ghost use Rattle.std.specs.List.{slice_get};
 ghost use Rattle.esc_sixel.specs.Classes.{class_of};
 ghost use Rattle.esc_sixel.specs.Items.{items, OfRaster, OfColor};
@@ -93,15 +93,28 @@ impl<A: Allocator> SixelBuilder<A> {
     }
 
     /// One more byte of the data. The error is that memory was refused, and the builder stays as it was.
+    #[inline(always)]
     pub fn push(&mut self, byte: u8) -> Result<(), AllocError>
         ensures ok { (ps : List ℤ) (s : List ℕ) → LeadsTo ps s self.old → OnOk result (LeadsTo ps (s ++ byte ∷ []) self.new) }
         ensures err { OnErr result (self.new ≡ self.old) }
     {
-        let class = classify(byte);
         match self.introducer {
-            None => self.push_alone(class),
-            Some(introducer) => self.push_after(introducer, class, byte),
+            None => self.push_alone(byte),
+            Some(introducer) => self.push_after(introducer, byte),
         }
+    }
+
+    /// These bytes of the data, as `push` of each takes them. The error is that memory was refused; the builder has then taken
+    /// those before the byte that needed it, and no more.
+    pub fn push_run(&mut self, bytes: &[u8]) -> Result<(), AllocError>
+        ensures ok { (ps : List ℤ) (s : List ℕ) → LeadsTo ps s self.old → OnOk result (LeadsTo ps (s ++ bytes.now) self.new) }
+        ensures err { (ps : List ℤ) (s : List ℕ) → LeadsTo ps s self.old
+            → OnErr result ((n : ℕ) × (n < length bytes.now) × LeadsTo ps (s ++ take n bytes.now) self.new) }
+    {
+        for byte in bytes {
+            self.push(*byte)?;
+        }
+        Ok(())
     }
 
     /// The data ends here, and a command with it: the field `sixel` is the image that the parameters and all bytes mean.
@@ -221,19 +234,14 @@ impl<A: Allocator> SixelBuilder<A> {
     }
 
     // A byte within or after a command.
-    fn push_after(
-        &mut self,
-        introducer: Introducer,
-        class: Class,
-        byte: u8,
-    ) -> Result<(), AllocError>
-        requires { class ≡ class_of byte }
+    #[inline(always)]
+    fn push_after(&mut self, introducer: Introducer, byte: u8) -> Result<(), AllocError>
         ensures ok { (r : List ℕ) → HoldsOpen (In introducer r) self.old.introducer self.old.parameters
-            → OnOk result ((self.new.sixel ≡ with_items self.old.sixel (closed_by (In introducer r) class byte))
-            × HoldsOpen (open_by (In introducer r) class byte) self.new.introducer self.new.parameters) }
+            → OnOk result ((self.new.sixel ≡ with_items self.old.sixel (closed_by (In introducer r) (class_of byte) byte))
+            × HoldsOpen (open_by (In introducer r) (class_of byte) byte) self.new.introducer self.new.parameters) }
         ensures err { OnErr result (self.new ≡ self.old) }
     {
-        match class {
+        match classify(byte) {
             Class::Digit(digit) => {
                 self.parameters.digit(digit);
                 Ok(())
@@ -251,13 +259,14 @@ impl<A: Allocator> SixelBuilder<A> {
     }
 
     // A byte outside a command.
-    fn push_alone(&mut self, class: Class) -> Result<(), AllocError>
+    #[inline(always)]
+    fn push_alone(&mut self, byte: u8) -> Result<(), AllocError>
         requires { self.old.introducer ≡ None }
-        ensures ok { (b : ℕ) → OnOk result ((self.new.sixel ≡ with_items self.old.sixel (alone class b))
-            × HoldsOpen (opened class) self.new.introducer self.new.parameters) }
+        ensures ok { (b : ℕ) → OnOk result ((self.new.sixel ≡ with_items self.old.sixel (alone (class_of byte) b))
+            × HoldsOpen (opened (class_of byte)) self.new.introducer self.new.parameters) }
         ensures err { OnErr result (self.new ≡ self.old) }
     {
-        match class {
+        match classify(byte) {
             Class::Return => self.sixel.content.push(SixelData::CarriageReturn),
             Class::Line => self.sixel.content.push(SixelData::NewLine),
             Class::Pixels(value) => self.sixel.content.push(SixelData::Data(value)),

@@ -24,10 +24,21 @@ pub(crate) enum Class {
 }
 
 // What this byte is.
+#[inline]
 #[tactic(auto, unfolding(crate::specs::Classes::class_of))]
 pub(crate) fn classify(b: u8) -> Class
     ensures { result ≡ class_of b }
 {
+    if b >= 0x3f {
+        return if b < 0x7f {
+            Class::Pixels(b - 0x3f)
+        } else {
+            Class::Junk
+        };
+    }
+    if b >= b'0' && b <= b'9' {
+        return Class::Digit(b - b'0');
+    }
     match b {
         b'$' => Class::Return,
         b'-' => Class::Line,
@@ -35,8 +46,6 @@ pub(crate) fn classify(b: u8) -> Class
         b'#' => Class::Introduces(Introducer::Color),
         b'"' => Class::Introduces(Introducer::Raster),
         b';' => Class::Separator,
-        b'0'..=b'9' => Class::Digit(b - b'0'),
-        0x3f..=0x7e => Class::Pixels(b - 0x3f),
         _ => Class::Junk,
     }
 }

@@ -33,6 +33,7 @@ impl Parameters {
     }
 
     // One more digit, given as its value.
+    #[inline]
     pub(crate) fn digit(&mut self, digit: u8)
         requires { digit < 10 }
         ensures { (run : List ℕ) → Keeps self.old run → Keeps self.new (run ++ (digit + 0x30) ∷ []) }
@@ -63,11 +64,14 @@ impl Parameters {
 // Ten times a number and a digit, at most `i64::MAX`.
 fn with_digit(number: u64, digit: u8) -> u64
     requires { digit < 10 }
-    ensures { number ≤ 0x7fff_ffff_ffff_ffff → result ≡ held (10 * number + digit) }
+    ensures { result ≡ held (10 * number + digit) }
 {
-    if number > (0x7fff_ffff_ffff_ffff - u64::from(digit)) / 10 {
-        0x7fff_ffff_ffff_ffff
-    } else {
-        number * 10 + u64::from(digit)
+    // Below a tenth of the bound, no sum can pass it.
+    if number < 0x7fff_ffff_ffff_ffff / 10 {
+        return number * 10 + u64::from(digit);
     }
+    number
+        .saturating_mul(10)
+        .saturating_add(u64::from(digit))
+        .min(0x7fff_ffff_ffff_ffff)
 }

@@ -1,5 +1,5 @@
 //! How a termcap query is read, byte by byte.
-ghost use Rattle.std.specs.Prelude.{◌≡◌, ◌++◌, ◌∷◌, [], ℕ, List, OnOk, OnErr, IfOk, map, ◌==◌};
+ghost use Rattle.std.specs.Prelude.{◌≡◌, ◌<◌, length, take, ◌++◌, ◌∷◌, [], ℕ, List, OnOk, OnErr, IfOk, map, ◌==◌};
 ghost use Rattle.std.specs.List.{slice_split};
 ghost use Rattle.esc_tcap.specs.Names.{LeadsTo, names_of, name_of};
 
@@ -36,6 +36,18 @@ impl<A: Allocator + Copy> GetTcapBuilder<A> {
         ensures err { OnErr result (self.new ≡ self.old) }
     {
         self.bytes.push(byte)
+    }
+
+    /// These bytes of the data, as `push` of each takes them. The error is that memory was refused; the builder has then taken
+    /// those before the byte that needed it, and no more.
+    pub fn push_run(&mut self, bytes: &[u8]) -> Result<(), AllocError>
+        ensures ok { (s : List ℕ) → LeadsTo s self.old → OnOk result (LeadsTo (s ++ bytes.now) self.new) }
+        ensures err { (s : List ℕ) → LeadsTo s self.old → OnErr result ((n : ℕ) × (n < length bytes.now) × LeadsTo (s ++ take n bytes.now) self.new) }
+    {
+        for byte in bytes {
+            self.push(*byte)?;
+        }
+        Ok(())
     }
 
     /// The names that all bytes mean, at least one. The error is that memory was refused; then nothing is handed back.

@@ -15,11 +15,21 @@ pub(crate) fn read_name<A: Allocator + Copy>(alloc: A, piece: &[u8]) -> Result<T
     ensures { IfOk result (λ t. t ≡ name_of piece.now) }
 {
     match hex::decode(alloc, piece) {
-        Ok(bytes) => lossy(alloc, bytes.as_slice()),
+        Ok(bytes) => into_lossy(alloc, bytes),
         Err(FromHexError::OutOfMemory) => Err(AllocError),
         Err(FromHexError::InvalidHexCharacter { c: _, index: _ }) => lossy(alloc, piece),
         Err(FromHexError::OddLength) => lossy(alloc, piece),
         Err(FromHexError::InvalidStringLength) => lossy(alloc, piece),
+    }
+}
+
+// The text of these bytes, with U+FFFD where they are not UTF-8. They are copied only then.
+fn into_lossy<A: Allocator>(alloc: A, bytes: Vec<u8, A>) -> Result<Text<A>, AllocError>
+    ensures { IfOk result (λ t. t ≡ utf8_lossy bytes.items) }
+{
+    match String::from_utf8(bytes) {
+        Ok(string) => Ok(Text::from_string(string)),
+        Err(error) => lossy(alloc, error.into_bytes().as_slice()),
     }
 }
 

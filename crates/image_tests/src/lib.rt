@@ -11,3 +11,5 @@ mod sixels;
 mod termcap;
 #[cfg(test)]
 mod texts;
+#[cfg(test)]
+mod too_large;

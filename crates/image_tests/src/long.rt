@@ -1,4 +1,4 @@
-//! Data of a megabyte. Each test ends in time only where the work for a byte does not grow.
+//! Data of a megabyte, and of ten. Each test ends in time only where the work for a byte does not grow.
 use crate::texts::{read_names, read_sixel};
 use esc_tcap::TcapQuery;
 use std::alloc::{AllocError, Global};
@@ -20,8 +20,8 @@ static SIXELS: [Long<'static>; 6] = [
     },
     Long {
         piece: "!9~",
-        times: 350_000,
-        items: 350_000,
+        times: 3_500_000,
+        items: 3_500_000,
     },
     Long {
         piece: "#1;2;3;4;5",
@@ -58,7 +58,7 @@ static QUERIES: [Long<'static>; 3] = [
     },
     Long {
         piece: "54",
-        times: 500_000,
+        times: 5_000_000,
         items: 1,
     },
 ];

@@ -1,6 +1,5 @@
 //! Keys with their values: which are read, and which make no image.
-use crate::row::text;
-use esc_kitty::KittyImage;
+use crate::row::{text, told};
 use std::test::Fail;
 
 // Data, and the text of the image that it is.
@@ -23,41 +22,44 @@ static READ: [(&str, &str); 16] = [
     ("Ga=T,f=32;", "\x1b_Ga=T,f=32;"),
 ];
 
-// Data that is no image.
-static NONE: [&str; 27] = [
-    "",
-    "G",
-    "Ga",
-    "Xa=t;AAAA",
-    "G;AAAA",
-    "Ga=t,;AAAA",
-    "Ga=t,,i=1",
-    "Ga=x",
-    "Ga=tt",
-    "Ga=",
-    "GA=Q,a=Q",
-    "Ga=q,q=3;AAAA",
-    "Gq=+1;AAAA",
-    "Gm=+1;AAAA",
-    "Gm=2;AAAA",
-    "Gf=024;AAAA",
-    "Go=y;AAAA",
-    "Gt=x;AAAA",
-    "Gt=f;AAA",
-    "Gt=f;/w==",
-    "Ga=p,C=+1",
-    "Ga=T,U=2;AAAA",
-    "Ga=f,X=2;AAAA",
-    "Ga=c,C=-1",
-    "Ga=d,d=r,x=3",
-    "Ga=d,d=aa",
-    "Ga=d,d=q,x=1,y=2",
+// Data that is no image. The last two have keys and a payload that are no UTF-8.
+static NONE: [&[u8]; 29] = [
+    b"",
+    b"G",
+    b"Ga",
+    b"Xa=t;AAAA",
+    b"G;AAAA",
+    b"Ga=t,;AAAA",
+    b"Ga=t,,i=1",
+    b"Ga=x",
+    b"Ga=tt",
+    b"Ga=",
+    b"GA=Q,a=Q",
+    b"Ga=q,q=3;AAAA",
+    b"Gq=+1;AAAA",
+    b"Gm=+1;AAAA",
+    b"Gm=2;AAAA",
+    b"Gf=024;AAAA",
+    b"Go=y;AAAA",
+    b"Gt=x;AAAA",
+    b"Gt=f;AAA",
+    b"Gt=f;/w==",
+    b"Ga=p,C=+1",
+    b"Ga=T,U=2;AAAA",
+    b"Ga=f,X=2;AAAA",
+    b"Ga=c,C=-1",
+    b"Ga=d,d=r,x=3",
+    b"Ga=d,d=aa",
+    b"Ga=d,d=q,x=1,y=2",
+    b"Ga=t;\xff",
+    b"Ga=t,\xff=1;A",
 ];
 
 #[test]
 fn read(rt: HostRuntime) -> Result<(), Fail> {
     for row in &READ {
-        assert_eq!(rt; text(rt.alloc(), row.0)?.as_str(), row.1, "{}", row.0);
+        let written = text(rt.alloc(), row.0)?;
+        assert_eq!(rt; written.as_str(), row.1, "{}", row.0);
     }
     Ok(())
 }
@@ -65,16 +67,8 @@ fn read(rt: HostRuntime) -> Result<(), Fail> {
 #[test]
 fn no_images(rt: HostRuntime) -> Result<(), Fail> {
     for data in &NONE {
-        let image = KittyImage::parse_apc(rt.alloc(), data.as_bytes())?;
-        assert!(rt; image.is_none(), "{data}");
+        let told = told(rt.alloc(), rt.alloc(), data)?;
+        assert!(rt; told.is_empty(), "{data:?}");
     }
-    Ok(())
-}
-
-// Keys and a payload that are no UTF-8.
-#[test]
-fn no_utf8(rt: HostRuntime) -> Result<(), Fail> {
-    assert!(rt; KittyImage::parse_apc(rt.alloc(), b"Ga=t;\xff")?.is_none());
-    assert!(rt; KittyImage::parse_apc(rt.alloc(), b"Ga=t,\xff=1;A")?.is_none());
     Ok(())
 }

@@ -3,6 +3,8 @@ use esc_below::{Items, Text};
 use esc_kitty::{
     KittyImage, KittyImageCompression, KittyImageData, KittyImageTransmit, KittyImageVerbosity,
 };
+use std::alloc::{AllocError, Global};
+use std::fmt::{Debug, Display};
 use std::test::Fail;
 
 // An image of this content alone.
@@ -37,13 +39,16 @@ fn bytes(rt: HostRuntime) -> Result<(), Fail> {
     let alloc = rt.alloc();
     let bytes = Items::from_vec(Vec::from_slice(alloc, b"hell")?);
     let image = transmit(KittyImageData::DirectBin(bytes));
-    let text = format!(in alloc; "{image}")?;
-    assert_eq!(rt; text.as_str(), "\x1b_Ga=t;aGVsbA==");
-    let told = format!(in alloc; "{image:?}")?;
-    assert_eq!(rt;
-        told.as_str(),
-        "TransmitData { transmit: KittyImageTransmit { format: None, content: DirectBin(4 bytes of data), width: None, height: None, image_id: None, image_number: None, compression: None, more_data_follows: false }, verbosity: Verbose }"
-    );
     assert!(rt; image.verbosity() == KittyImageVerbosity::Verbose);
+    let both = both(alloc, image)?;
+    assert_eq!(rt;
+        both.as_str(),
+        "\x1b_Ga=t;aGVsbA== TransmitData { transmit: KittyImageTransmit { format: None, content: DirectBin(4 bytes of data), width: None, height: None, image_id: None, image_number: None, compression: None, more_data_follows: false }, verbosity: Verbose }"
+    );
     Ok(())
+}
+
+// The Display text and the Debug text of an image.
+fn both<T: Debug + Display + Drop>(alloc: Global, image: T) -> Result<String, AllocError> {
+    format!(in alloc; "{image} {image:?}")
 }

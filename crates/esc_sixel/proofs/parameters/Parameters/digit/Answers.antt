@@ -1,9 +1,9 @@
-use Rattle.std.proofs.Common.{◌≡◌, ◌≢◌, ◌+◌, rules, ◌-◌, ◌*◌, ◌∙◌, None, get_or}
+use Rattle.std.proofs.Common.{◌≡◌, ◌≢◌, ◌+◌, rules, ◌*◌, ◌∙◌, None, get_or}
 use Rattle.std.proofs.Common.{min, sym, ap, arith}
 use Rattle.std.specs.Option.{unwrap_or}
 use Rattle.esc_sixel.specs.Runs.{param, separators}
 use Rattle.esc_below.specs.Entries.{held}
-use Rattle.esc_sixel.proofs.Runs.{param_else, param_small, semicolons_digit, digit_is_none, keeps_digit}
+use Rattle.esc_sixel.proofs.Runs.{param_else, semicolons_digit, digit_is_none, keeps_digit}
 use Rattle.esc_sixel.proofs.parameters.Parameters.digit.Goals as goal
 
 pub returns-then-self-lt5 : goal.returns-then-self-lt5
@@ -14,10 +14,9 @@ returns-then-self-lt5 c = λ run p.
     record {
       values = λ k small.
           let same = c.unwrap_or.ensures ∙ kept in
-          let number = c.with_digit-number.ensures (rw same (param_small run c.args.self.now.count)) in
           keeps_digit c.args.self.now.values c.args.self.now.count c.args.digit c.with_digit-number.result run
           (search rules) c.requires c.if-self-lt5.true p.values p.count
-          (number ∙ ap (λ x. held (10 * x + c.args.digit)) same) k small;
+          (c.with_digit-number.ensures ∙ ap (λ x. held (10 * x + c.args.digit)) same) k small;
       count = p.count ∙ ap (λ s. min s 5) (sym (semicolons_digit run (c.args.digit + 48) n));
     }
 
