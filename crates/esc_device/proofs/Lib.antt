@@ -1,0 +1,4 @@
+pub mod Bytes
+pub mod Headers
+pub mod Hooks
+pub mod Says

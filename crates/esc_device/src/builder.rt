@@ -1,0 +1,58 @@
+//! How a short device control is read, byte by byte.
+ghost use Rattle.std.specs.Prelude.{◌≡◌, ◌++◌, ◌∷◌, [], ℕ, ℤ, List, IfOk, OnOk, OnErr};
+ghost use Rattle.esc_device.specs.Leads.{LeadsShort};
+ghost use Rattle.esc_device.specs.Values.{short_of};
+
+use crate::short::ShortDeviceControl;
+use esc_below::Items;
+use std::alloc::{AllocError, Allocator, Global};
+
+/// Reads a short device control: its header, and then its data byte by byte.
+#[derive(Drop)]
+pub struct ShortBuilder<A: Allocator = Global> {
+    short: ShortDeviceControl<A>,
+}
+
+impl<A: Allocator + Copy> ShortBuilder<A> {
+    /// A builder of a control with copies of these parameters and intermediates and with this final byte, before any data. The
+    /// error is that memory was refused.
+    #[tactic(auto, unfolding(crate::specs::Leads::LeadsShort))]
+    pub fn new(
+        alloc: A,
+        params: &[i64],
+        intermediates: &[u8],
+        byte: u8,
+    ) -> Result<ShortBuilder<A>, AllocError>
+        ensures { IfOk result (λ b. LeadsShort params.now intermediates.now byte [] b) }
+    {
+        Ok(ShortBuilder {
+            short: ShortDeviceControl {
+                params: Items::from_slice(alloc, params)?,
+                intermediates: Items::from_slice(alloc, intermediates)?,
+                byte,
+                content: Items::new(alloc),
+            },
+        })
+    }
+}
+
+impl<A: Allocator> ShortBuilder<A> {
+    /// One more byte of the data. The error is that memory was refused, and the builder stays as it was.
+    #[tactic(auto, unfolding(crate::specs::Leads::LeadsShort))]
+    pub fn push(&mut self, byte: u8) -> Result<(), AllocError>
+        ensures ok { (ps : List ℤ) (is : List ℕ) (f : ℕ) (d : List ℕ) → LeadsShort ps is f d self.old
+            → OnOk result (LeadsShort ps is f (d ++ byte ∷ []) self.new) }
+        ensures err { OnErr result (self.new ≡ self.old) }
+    {
+        self.short.content.push(byte)
+    }
+
+    /// The control of the header and all bytes. Takes no memory.
+    #[tactic(auto, unfolding(crate::specs::Leads::LeadsShort))]
+    pub fn finish(self) -> ShortDeviceControl<A>
+        ensures { (ps : List ℤ) (is : List ℕ) (f : ℕ) (d : List ℕ) → LeadsShort ps is f d self → result ≡ short_of ps is f d }
+    {
+        let ShortBuilder { short } = self;
+        short
+    }
+}
