@@ -1,13 +1,14 @@
-//! How fast a stream is framed, parsed, written and normalised.
+//! How fast a stream is framed, parsed, written and normalised, and its images read.
 //!
 //! `bench [--counts] [MEASURE..] < STREAM` reads a stream whole and prints a line for each measure, `framing`, `parse`,
-//! `parse_first`, `parse_first_as_vec`, `encode` or `normalise` (all six where none is named): its best speed of several
-//! passes in MB/s (10^6 bytes a second), and what it counted. `--counts` leaves out the speed, so that the output depends
-//! on the stream alone.
+//! `parse_first`, `parse_first_as_vec`, `encode`, `normalise` or `images` (all seven where none is named): its best speed of
+//! several passes in MB/s (10^6 bytes a second), and what it counted. `--counts` leaves out the speed, so that the output
+//! depends on the stream alone.
 #![tactic(auto)]
 
 mod count;
 mod counted;
+mod images;
 mod input;
 mod measure;
 mod speed;
@@ -30,7 +31,7 @@ const PASSES: u32 = 5;
 fn main(rt: HostRuntime) -> Result<ExitCode> {
     let Some(wanted) = arguments(&rt)? else {
         eprintln!(rt;
-            "usage: bench [--counts] [framing | parse | parse_first | parse_first_as_vec | encode | normalise].."
+            "usage: bench [--counts] [framing | parse | parse_first | parse_first_as_vec | encode | normalise | images].."
         )?;
         return Ok(ExitCode::from(2));
     };

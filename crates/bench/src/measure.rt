@@ -2,6 +2,7 @@
 
 use crate::count::Count;
 use crate::counted::Counted;
+use crate::images::Images;
 use crate::input::Input;
 use crate::tally::Tally;
 use anyhow::Result;
@@ -25,17 +26,20 @@ pub enum Measure {
     Encode,
     /// The normal text of a stream.
     Normalise,
+    /// The images and termcap queries of a stream, read from its events.
+    Images,
 }
 
 impl Measure {
     /// All measures, in the order in which they are taken.
-    pub const ALL: [Measure; 6] = [
+    pub const ALL: [Measure; 7] = [
         Measure::Framing,
         Measure::Parse,
         Measure::ParseFirst,
         Measure::ParseFirstAsVec,
         Measure::Encode,
         Measure::Normalise,
+        Measure::Images,
     ];
 
     /// The word that asks for it.
@@ -47,6 +51,7 @@ impl Measure {
             Measure::ParseFirstAsVec => "parse_first_as_vec",
             Measure::Encode => "encode",
             Measure::Normalise => "normalise",
+            Measure::Images => "images",
         }
     }
 
@@ -59,6 +64,7 @@ impl Measure {
             Measure::ParseFirstAsVec => fronts(alloc, &input.bytes),
             Measure::Encode => Ok(Counted::Bytes(encode(alloc, &input.actions)?.len())),
             Measure::Normalise => normal(alloc, &input.bytes),
+            Measure::Images => images(alloc, &input.bytes),
         }
     }
 }
@@ -118,4 +124,11 @@ fn normal(alloc: Global, bytes: &[u8]) -> Result<Counted> {
     let mut writer = Watched::new(Vec::new(alloc));
     normalise(alloc, &mut reader, &mut writer)?;
     Ok(Counted::Bytes(writer.into_inner().len()))
+}
+
+fn images(alloc: Global, bytes: &[u8]) -> Result<Counted> {
+    let mut parser = VTParser::new(alloc);
+    let mut images = Images::new(alloc);
+    parser.parse(bytes, &mut images)?;
+    Ok(images.counted())
 }

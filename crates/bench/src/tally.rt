@@ -23,8 +23,9 @@ impl Tally {
     #[inline]
     pub fn add(&mut self, action: Action) {
         self.number = self.number.wrapping_add(1);
-        if let Action::Print(c) = action {
-            self.total = self.total.wrapping_add(c as u64);
+        match action {
+            Action::Print(c) => self.total = self.total.wrapping_add(c as u64),
+            other => let_go(other),
         }
     }
 
@@ -33,3 +34,7 @@ impl Tally {
         Counted::Actions(self.number, self.total)
     }
 }
+
+// Lets go of an action, out of the way of the code that counts characters.
+#[inline(never)]
+fn let_go(_action: Action) {}

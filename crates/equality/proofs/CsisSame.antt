@@ -12,8 +12,8 @@ use Rattle.esc_below.specs.Csis.CsiValue.{sgr, unspecified}
 use Rattle.esc_below.specs.declared.csi.CSI.{CSI}
 use Rattle.esc_below.specs.declared.csi_param.CsiParam.{CsiParam}
 use Rattle.esc_below.specs.contracts.csi_param.CsiParamPartialEq.TheImpl as entry
-use Rattle.escape_stream.specs.contracts.control_code.ControlCode.{the_type}
-use Rattle.escape_stream.specs.contracts.control_code.ControlCodePartialEq.TheImpl as code_eq
+use Rattle.esc_actions.specs.contracts.control_code.ControlCode.{the_type}
+use Rattle.esc_actions.specs.contracts.control_code.ControlCodePartialEq.TheImpl as code_eq
 use Rattle.esc_below.specs.declared.csi.CSI.TheVariants as csi
 use Rattle.esc_below.specs.contracts.csi.CSIPartialEq.TheImpl as csi_eq
 use Rattle.esc_below.specs.contracts.sgr.SgrPartialEq.TheImpl as sgr_eq

@@ -1,45 +1,39 @@
 -- Equal files of iTerm2 are the same, and its commands.
-use Rattle.std.specs.Prelude.{◌≡◌, ◌↔◌, ℕ, Bool, true, List, IsTrue, Option}
+use Rattle.std.specs.Prelude.{◌≡◌, ◌↔◌, ℕ, nat_eq, true, IsTrue, Option}
+use Rattle.std.specs.Cmp.Lexicographic.{pointwise}
 use Rattle.std.specs.declared.alloc.Allocator.{Ghosts}
 use denote.RattleType.{RattleType}
 use mir.Syntax.{Dict}
 use Rattle.std.proofs.Common.{rules, refl, ap}
-use Rattle.esc_iterm.specs.declared.dimension.ITermDimension.{ITermDimension}
-use Rattle.esc_iterm.specs.declared.file_data.ITermFileData.{ITermFileData}
 use Rattle.esc_iterm.specs.declared.proprietary.ITermProprietary.{ITermProprietary}
 use Rattle.esc_iterm.specs.declared.proprietary.ITermProprietary.TheVariants as iterm
 use Rattle.esc_iterm.specs.contracts.dimension.ITermDimensionPartialEq.TheImpl as dimension_eq
 use Rattle.esc_iterm.specs.contracts.file_data.ITermFileDataPartialEq.TheImpl as file_eq
 use Rattle.esc_iterm.specs.contracts.proprietary.ITermProprietaryPartialEq.TheImpl as iterm_eq
 use Rattle.esc_iterm.specs.contracts.unicode_version.ITermUnicodeVersionOpPartialEq.TheImpl as version_eq
-use Rattle.equality.proofs.Same.{IsSame, bools, both, never, numbers, texts}
+use Rattle.equality.proofs.Same.{IsSame, bools, both, never, numbers, options, texts}
 
 dimensions : IsSame dimension_eq.ghosts.eq
 dimensions a b = search rules
 
--- a file of these fields
-abbrev made : {A : Type 0} → Option (List ℕ) → Option ℕ → ITermDimension → ITermDimension → Bool → Bool → Bool → List ℕ → ITermFileData A
-made n s w h r i m c = record { name = n; size = s; width = w; height = h; preserve_aspect_ratio = r; inline = i; do_not_move_cursor = m; content = c }
-
--- files of equal fields are equal
-made_same : {A : Type 0} (n m : Option (List ℕ)) (s t : Option ℕ) (w v h k : ITermDimension) (r q i j d e : Bool) (c f : List ℕ)
-    → n ≡ m → s ≡ t → w ≡ v → h ≡ k → r ≡ q → i ≡ j → d ≡ e → c ≡ f
-    → made {A = A} n s w h r i d c ≡ made {A = A} m t v k q j e f
-made_same n m s t w v h k r q i j d e c f e1 e2 e3 e4 e5 e6 e7 e8 = rw (e1, e2, e3, e4, e5, e6, e7, e8) refl
-
 pub files : (T : RattleType) (G : Ghosts T.Denot) (x y : Dict) → IsSame (file_eq.ghosts T G x y).eq
 files T G x y a b =
-    let parts : IsTrue ((file_eq.ghosts T G x y).eq a b) ↔ ((a.name ≡ b.name) × ((a.size ≡ b.size) × ((a.width ≡ b.width) × ((a.height ≡ b.height)
-    × ((a.preserve_aspect_ratio ≡ b.preserve_aspect_ratio) × ((a.inline ≡ b.inline)
-    × ((a.do_not_move_cursor ≡ b.do_not_move_cursor) × (a.content ≡ b.content))))))))
-    = both (search (texts, rules)) (both (search rules) (both (dimensions a.width b.width) (both (dimensions a.height b.height)
-    (both (bools a.preserve_aspect_ratio b.preserve_aspect_ratio)
-    (both (bools a.inline b.inline) (both (bools a.do_not_move_cursor b.do_not_move_cursor) (texts a.content b.content)))))))
-    in (
+    let parts = both (options (pointwise nat_eq) texts a.name b.name) (both (options nat_eq numbers a.size b.size)
+    (both (dimensions a.width b.width) (both (dimensions a.height b.height)
+    (both (bools a.preserve_aspect_ratio b.preserve_aspect_ratio) (both (bools a.inline b.inline)
+    (both (bools a.do_not_move_cursor b.do_not_move_cursor) (texts a.content b.content))))))) in (
       λ h.
           let e = parts.0 h in
-          made_same a.name b.name a.size b.size a.width b.width a.height b.height a.preserve_aspect_ratio b.preserve_aspect_ratio a.inline b.inline
-          a.do_not_move_cursor b.do_not_move_cursor a.content b.content e.0 e.1.0 e.1.1.0 e.1.1.1.0 e.1.1.1.1.0 e.1.1.1.1.1.0 e.1.1.1.1.1.1.0 e.1.1.1.1.1.1.1,
+          λ i. record {
+            name = e.0 i;
+            size = e.1.0 i;
+            width = e.1.1.0 i;
+            height = e.1.1.1.0 i;
+            preserve_aspect_ratio = e.1.1.1.1.0 i;
+            inline = e.1.1.1.1.1.0 i;
+            do_not_move_cursor = e.1.1.1.1.1.1.0 i;
+            content = e.1.1.1.1.1.1.1 i;
+          },
       λ e. parts.1 (rw e (refl, (refl, (refl, (refl, (refl, (refl, (refl, refl)))))))),
     )
 

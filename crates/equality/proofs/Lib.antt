@@ -2,5 +2,8 @@ pub mod ActionsSame
 pub mod BelowSame
 pub mod CommandsSame
 pub mod CsisSame
+pub mod DeviceSame
 pub mod ItermsSame
+pub mod KittySame
 pub mod Same
+pub mod SixelSame

@@ -1,6 +1,8 @@
 -- Tests that hold exactly of equal values, and what is put together of them.
-use Rattle.std.specs.Prelude.{◌≡◌, ◌↔◌, ℕ, nat_eq, Bool, true, false, ◌&&◌, List, [], ◌∷◌, IsTrue}
+use Rattle.std.specs.Prelude.{◌≡◌, ◌↔◌, ℕ, nat_eq, Bool, true, false, ◌&&◌, List, [], ◌∷◌, Some, None, IsTrue}
 use Rattle.std.specs.Cmp.Lexicographic.{pointwise}
+use Rattle.std.specs.Option.{option_eq}
+use Rattle.std.specs.Ordering.{int_eq}
 use Rattle.std.proofs.Common.{rules, ap, refl}
 use Rattle.std.proofs.Math.Bool.{beq}
 use Rattle.std.proofs.lemmas.Bool.{and_parts}
@@ -16,6 +18,9 @@ never h = absurd cc
 pub numbers : IsSame nat_eq
 numbers x y = search rules
 
+pub integers : IsSame int_eq
+integers x y = search rules
+
 pub bools : IsSame beq
 bools x y = search rules
 
@@ -25,6 +30,13 @@ both {a = a} {b = b} p q = (
   λ h. let r = and_parts a b h in (p.0 r.0, q.0 r.1),
   λ e. rw (p.1 e.0, q.1 e.1) refl,
 )
+
+-- values that may be missing
+pub options : {X : Type 0} (E : X → X → Bool) → IsSame E → IsSame (option_eq E)
+options E same None None = (λ h. refl, λ e. refl)
+options E same None (Some y) = (λ h. never h, λ e. absurd cc)
+options E same (Some x) None = (λ h. never h, λ e. absurd cc)
+options E same (Some x) (Some y) = (λ h. ap Some ((same x y).0 h), λ e. let q : x ≡ y = cc in (same x y).1 q)
 
 lists_true : {X : Type 0} (E : X → X → Bool) → IsSame E → (xs ys : List X) → pointwise E xs ys ≡ true → xs ≡ ys
 lists_true E same [] [] h = refl

@@ -1,7 +1,7 @@
 //! Control codes, control sequences and actions. Of what lies in a box the value counts, and not where it lies.
 ghost use Rattle.std.specs.Prelude.{◌≡◌, ◌↔◌, IsTrue};
 ghost use Rattle.esc_below.specs.Csis.{csi_value};
-ghost use Rattle.escape_stream.specs.Values.{value_of};
+ghost use Rattle.esc_actions.specs.Values.{value_of};
 
 use esc_below::CSI;
 use escape_stream::{Action, ControlCode};

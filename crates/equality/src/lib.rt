@@ -6,7 +6,10 @@
 pub mod actions;
 pub mod below;
 pub mod commands;
+pub mod device;
 pub mod errors;
 pub mod iterm;
+pub mod kitty;
 pub mod lists;
 pub mod prompts;
+pub mod sixel;

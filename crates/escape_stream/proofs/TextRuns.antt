@@ -13,12 +13,12 @@ use Rattle.esc_frame.specs.Events.Event.{Print}
 use Rattle.esc_frame.specs.Scans.{is_text_byte}
 use Rattle.esc_frame.proofs.Given.{stops_then}
 use Rattle.escape_stream.proofs.Lists.{FoldsTo-append, StopsAt-append, StopsAt-longer}
-use Rattle.escape_stream.specs.Fed.{mode_of}
+use Rattle.escape_stream.specs.Fed.{Keeps}
 use Rattle.escape_stream.specs.Given.{At, StopsAt}
-use Rattle.escape_stream.specs.Texts.{is_string, text_after}
-use Rattle.escape_stream.specs.Values.{Mode, after, given, value_of, wants_memory}
-use Rattle.escape_stream.specs.declared.action.Action.{Action}
-use Rattle.escape_stream.specs.declared.action.Action.TheVariants as action
+use Rattle.esc_actions.specs.Texts.{is_string, text_after}
+use Rattle.esc_actions.specs.Values.{Mode, after, given, value_of, wants_memory}
+use Rattle.esc_actions.specs.declared.action.Action.{Action}
+use Rattle.esc_actions.specs.declared.action.Action.TheVariants as action
 use Rattle.escape_stream.specs.declared.performer.Performer.{Performer}
 use Rattle.escape_stream.specs.declared.sink.Spell.{Spell}
 
@@ -42,10 +42,10 @@ module _ {S V : Type 0} (print : ℕ → V) (R Q : S → V → S → Type 0) (xs
 -- what a sink takes as a run, its actor takes as events
 module _ {S A : Type 0} (R Q : S → Action A → S → Type 0) where
   abbrev Takes : Performer S A → Event → Performer S A → Type 0
-  Takes p e q = (m : Mode) → mode_of p ≡ m → (mode_of q ≡ after m e) × FoldsTo (At value_of R) p.sink (given m e) q.sink
+  Takes p e q = (m : Mode) → Keeps p.kept m → Keeps q.kept (after m e) × FoldsTo (At value_of R) p.sink (given m e) q.sink
 
   abbrev Refuses : Performer S A → Event → Performer S A → Type 0
-  Refuses p e q = (m : Mode) → mode_of p ≡ m → StopsAt (wants_memory e ≡ true) (At value_of R) (At value_of Q) p.sink (given m e) q.sink
+  Refuses p e q = (m : Mode) → Keeps p.kept m → StopsAt (wants_memory e ≡ true) (At value_of R) (At value_of Q) p.sink (given m e) q.sink
 
   abbrev with_sink : Performer S A → S → Performer S A
   with_sink p s = record p { sink = s }

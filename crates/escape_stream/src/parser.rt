@@ -5,18 +5,20 @@ ghost use Rattle.esc_frame.specs.Stream.{IsQuiet};
 ghost use Rattle.escape_stream.specs.Firsts.{IsFirst, IsFirstStop, IsStop, first};
 ghost use Rattle.esc_frame.specs.Memory.{MayGrow};
 ghost use Rattle.escape_stream.specs.Given.{At, GetsAll, GetsPrefix, StopsAt};
-ghost use Rattle.escape_stream.specs.Meaning.{MayWant, yield};
-ghost use Rattle.escape_stream.specs.Values.{control, value_of};
-ghost use Rattle.escape_stream.specs.Writable.{AreHandedOut, IsHandedOut};
+ghost use Rattle.esc_actions.specs.Meaning.{MayWant, yield};
+ghost use Rattle.esc_actions.specs.Values.{control, value_of};
+ghost use Rattle.esc_actions.specs.Writable.{AreHandedOut, IsHandedOut};
 
-use crate::action::Action;
-use crate::control_code::ControlCode;
-use crate::laws;
-use crate::performer::{Performer, code_for};
+use crate::kept::Kept;
+use crate::performer::Performer;
 use crate::sink::{Calls, Collect, First, Sink};
+use esc_actions::{Action, ControlCode, laws};
 use esc_frame::error::ParseError;
 use esc_frame::parser::VTParser;
+pub use esc_sixel::SixelBuilder;
+pub use esc_tcap::GetTcapBuilder;
 use std::alloc::{Allocator, Global};
+use std::mem;
 
 /// Reads a stream of bytes, in whatever chunks it comes, as actions.
 ///
@@ -30,6 +32,7 @@ use std::alloc::{Allocator, Global};
 pub struct Parser<A: Allocator = Global> {
     framer: VTParser<A>,
     alloc: A,
+    kept: Kept<A>,
 }
 
 impl<A: Allocator + Copy> Parser<A> {
@@ -37,12 +40,14 @@ impl<A: Allocator + Copy> Parser<A> {
     ghost use Rattle.escape_stream.specs.Fed.{IsBroken, WasFed};
 
     /// A parser at the beginning of a stream. Takes no memory.
+    #[tactic(auto, unfolding(crate::specs::Fed::WasFed))]
     pub fn new(alloc: A) -> Parser<A>
         ensures { WasFed [] result }
     {
         Parser {
             framer: VTParser::new(alloc),
             alloc,
+            kept: Kept::Nothing,
         }
     }
 
@@ -52,6 +57,7 @@ impl<A: Allocator + Copy> Parser<A> {
     /// actions, and the parser has failed. Without the sink's doing it does not come while the stream so far holds only
     /// characters, stray and broken bytes, controls, lone terminators and escape sequences, whole or cut short.
     /// `ParseError::Failed` says that an earlier call had been refused a growth: the sink comes back as it was.
+    #[tactic(auto, unfolding(crate::specs::Fed::WasFed))]
     pub fn parse_into<S: Sink<Action<A>>>(
         &mut self,
         bytes: &[u8],
@@ -68,9 +74,15 @@ impl<A: Allocator + Copy> Parser<A> {
         let mut performer = Performer {
             sink,
             alloc: self.alloc,
+            kept: mem::replace(&mut self.kept, Kept::Nothing),
         };
         let result = self.framer.parse(bytes, &mut performer);
-        let Performer { sink, alloc: _ } = performer;
+        let Performer {
+            sink,
+            alloc: _,
+            kept,
+        } = performer;
+        self.kept = kept;
         (result, sink)
     }
 
@@ -110,6 +122,7 @@ impl<A: Allocator + Copy> Parser<A> {
 
     // Gives the sink, in order, the actions that a front of `bytes` adds, and hands it back, with the length of the front.
     // All but the last byte of it add nothing and leave a segment unfinished.
+    #[tactic(auto, unfolding(crate::specs::Fed::WasFed))]
     fn feed_some<S: Sink<Action<A>>>(
         &mut self,
         bytes: &[u8],
@@ -128,9 +141,15 @@ impl<A: Allocator + Copy> Parser<A> {
         let mut performer = Performer {
             sink,
             alloc: self.alloc,
+            kept: mem::replace(&mut self.kept, Kept::Nothing),
         };
         let result = self.framer.parse_some(bytes, &mut performer);
-        let Performer { sink, alloc: _ } = performer;
+        let Performer {
+            sink,
+            alloc: _,
+            kept,
+        } = performer;
+        self.kept = kept;
         (result, sink)
     }
 
@@ -175,13 +194,14 @@ impl<A: Allocator + Copy> Parser<A> {
     }
 
     // The control that stands at the front in ground.
+    #[tactic(auto, unfolding(crate::specs::Fed::WasFed))]
     #[cold]
     fn first_control(&self, bytes: &[u8]) -> Option<ControlCode>
         ensures given { (s : List ℕ) → WasFed s self.now → IfSome result (λ c. WasFed (s ++ take 1 bytes.now) self.now × IsFirst {A = A} s bytes.now (control c) 1) }
         ensures count { IfSome result (λ c. 0 < length bytes.now) }
         ensures failed { IsBroken self.now → result ≡ None }
     {
-        code_for(self.framer.first_control(bytes)?)
+        ControlCode::from_byte(self.framer.first_control(bytes)?)
     }
 
     /// The first action of the shortest prefix of `bytes` that adds one to what the bytes fed before mean, and the length of
@@ -191,6 +211,7 @@ impl<A: Allocator + Copy> Parser<A> {
     /// `ParseError::Memory` says that a growth was refused; the parser has failed. As from [`parse`](Parser::parse), it does not
     /// come while the stream holds only what takes no memory. `ParseError::Failed` says that an earlier call had been refused a
     /// growth, also where `bytes` are empty.
+    #[tactic(auto, unfolding(crate::specs::Fed::WasFed))]
     #[inline]
     pub fn parse_first(&mut self, bytes: &[u8]) -> Result<Option<(Action<A>, usize)>, ParseError>
         ensures count { IfOk result (λ r. IfSome r (λ x. (0 < x.1) × (x.1 ≤ length bytes.now))) }
@@ -230,6 +251,7 @@ impl<A: Allocator + Copy> Parser<A> {
     }
 
     // Whether to stop here, with these actions.
+    #[tactic(auto, unfolding(crate::specs::Fed::WasFed))]
     fn stops(&self, actions: &[Action<A>]) -> bool
         ensures some { IsTrue result → 0 < length actions.now }
         ensures yes { (s b : List ℕ) → WasFed (s ++ b) self.now → map value_of actions.now ≡ yield s b → IsTrue result → IsStop A s b }

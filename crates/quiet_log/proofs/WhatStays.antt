@@ -6,37 +6,38 @@ use Rattle.std.specs.List.{list_all}
 use Rattle.std.specs.Str.{chars}
 use Rattle.esc_below.specs.declared.esc.Esc.TheVariants as esc_variant
 use Rattle.esc_below.specs.declared.esc_code.EscCode.TheVariants as esc_code
-use Rattle.escape_stream.specs.Meaning.{meaning}
-use Rattle.escape_stream.specs.Texts.{begins_terminator, is_string, is_terminator, list_text, normal, spelled, terminator}
-use Rattle.escape_stream.specs.Values.{Value, print, string, control, esc, csi, osc}
-use Rattle.escape_stream.specs.Writable.{IsWritable, AreWritable, IsHandedOut, AreHandedOut, is_opening, is_truncated}
+use Rattle.esc_actions.specs.Meaning.{meaning}
+use Rattle.esc_actions.specs.Texts.{begins_terminator, is_string, is_terminator, list_text, normal, spelled, terminator}
+use Rattle.esc_actions.specs.Values.{Value, print, string, control, esc, csi, osc, kitty, sixel, termcap, short, enter, datum, exit}
+use Rattle.esc_actions.specs.Writable.{IsWritable, AreWritable, AreWritableFrom, IsHandedOut, AreHandedOut, is_opening, is_truncated, is_within, stays_within}
 use Rattle.quiet_log.specs.Quiet.{is_left, keeps, left_of, quiet, quiet_after}
 
--- what stays of what a parser emits is writable
-stays_writable : {A : Type 0} (v : Value A) → keeps v ≡ true → IsHandedOut v → IsWritable v
-stays_writable (print c) e h = h
-stays_writable (string t) e h = h
-stays_writable (control c) e h = h
+-- what stays of what a parser emits is writable, and no part of a mode
+stays_writable : {A : Type 0} (v : Value A) → keeps v ≡ true → IsHandedOut v → (is_within v ≡ false) × IsWritable v × (stays_within v ≡ false)
+stays_writable (print c) e h = (refl, h refl, refl)
+stays_writable (string t) e h = (refl, h refl, refl)
+stays_writable (control c) e h = (refl, h refl, refl)
 stays_writable (esc (esc_variant.Code esc_code.TmuxTitle)) e h = absurd cc
-stays_writable (esc (esc_variant.Code esc_code.StringTerminator)) e h = h refl
-stays_writable (esc (esc_variant.Code esc_code.HorizontalTabSet)) e h = h refl
-stays_writable (esc (esc_variant.Unspecified i f)) e h = h (not-true (is_opening (esc_variant.Unspecified i f)) e)
-stays_writable (csi c) e h = h (not-true (is_truncated c) e)
-stays_writable (osc c) e h = h
+stays_writable (esc (esc_variant.Code esc_code.StringTerminator)) e h = (refl, h refl, refl)
+stays_writable (esc (esc_variant.Code esc_code.HorizontalTabSet)) e h = (refl, h refl, refl)
+stays_writable (esc (esc_variant.Unspecified i f)) e h = (refl, h (not-true (is_opening (esc_variant.Unspecified i f)) e), refl)
+stays_writable (csi c) e h = (refl, h (not-true (is_truncated c) e), refl)
+stays_writable (osc c) e h = (refl, h refl, refl)
+stays_writable (kitty i) e h = (refl, h refl, refl)
+stays_writable (sixel s) e h = (refl, h refl, refl)
+stays_writable (termcap ns) e h = (refl, h refl, refl)
+stays_writable v e h = absurd cc
 
-writable_append : {A : Type 0} (vs ws : List (Value A)) → AreWritable vs → AreWritable ws → AreWritable (vs ++ ws)
-writable_append [] ws h k = k
-writable_append (v ∷ vs) ws h k = (h.0, writable_append vs ws h.1 k)
-
-one_writable : {A : Type 0} (t : Bool) (v : Value A) → (t ≡ true → IsWritable v) → AreWritable (if t then v ∷ [] else [])
-one_writable true v f = (f refl, tt)
-one_writable false v f = tt
+one_writable : {A : Type 0} (t : Bool) (v : Value A) (vs : List (Value A)) → (t ≡ true → (is_within v ≡ false) × IsWritable v × (stays_within v ≡ false))
+    → AreWritable vs → AreWritable ((if t then v ∷ [] else []) ++ vs)
+one_writable true v vs f h = let k = f refl in (k.0, k.1, subst (λ b. AreWritableFrom b vs) (sym k.2) h)
+one_writable false v vs f h = h
 
 after_writable : {A : Type 0} (gone : Bool) (vs : List (Value A)) → AreHandedOut vs → AreWritable (quiet_after gone vs)
-after_writable gone [] h = tt
+after_writable gone [] h = refl
 after_writable gone (v ∷ vs) h =
-    writable_append (left_of gone v) (quiet_after (not (keeps v)) vs)
-    (one_writable (is_left gone v) v (λ e. stays_writable v (and_parts (keeps v) (not (gone && is_terminator v)) e).0 h.0))
+    one_writable (is_left gone v) v (quiet_after (not (keeps v)) vs)
+    (λ e. stays_writable v (and_parts (keeps v) (not (gone && is_terminator v)) e).0 h.0)
     (after_writable (not (keeps v)) vs h.1)
 
 pub quiet_writable : {A : Type 0} (vs : List (Value A)) → AreHandedOut vs → AreWritable (quiet vs)
@@ -68,6 +69,10 @@ spelled_kept (control c) h = refl
 spelled_kept {A = A} (esc e) h = and_from (keeps {A = A} (esc e)) true h refl
 spelled_kept {A = A} (csi c) h = and_from (keeps {A = A} (csi c)) true h refl
 spelled_kept (osc c) h = and_from (keeps (osc c)) true h refl
+spelled_kept (kitty i) h = refl
+spelled_kept (sixel s) h = refl
+spelled_kept (termcap ns) h = refl
+spelled_kept v h = absurd cc
 
 ending_kept : (A : Type 0) (t : Bool) → list_all (keeps {A = A}) (if t then terminator ∷ [] else []) ≡ true
 ending_kept A true = refl

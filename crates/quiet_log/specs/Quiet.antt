@@ -4,9 +4,9 @@ use Rattle.esc_below.specs.declared.esc.Esc.TheVariants as esc_variant
 use Rattle.esc_below.specs.declared.esc_code.EscCode.TheVariants as esc_code
 use Rattle.esc_osc.specs.declared.command.OperatingSystemCommand.{OperatingSystemCommand}
 use Rattle.esc_osc.specs.declared.command.OperatingSystemCommand.TheVariants as command
-use Rattle.escape_stream.specs.Texts.{is_terminator}
-use Rattle.escape_stream.specs.Values.{Value, print, string, control, esc, csi, osc}
-use Rattle.escape_stream.specs.Writable.{is_opening, is_truncated}
+use Rattle.esc_actions.specs.Texts.{is_terminator}
+use Rattle.esc_actions.specs.Values.{Value, print, string, control, esc, csi, osc, kitty, sixel, termcap, short, enter, datum, exit}
+use Rattle.esc_actions.specs.Writable.{is_opening, is_truncated}
 
 -- a command that sets a title or the name of an icon, or shows a notification (codes 0, 1, 2, l, L, 9 and 777)
 abbrev pub is_loud : {A : Type 0} → OperatingSystemCommand A → Bool
@@ -19,8 +19,8 @@ is_loud (command.SystemNotification t) = true
 is_loud (command.RxvtExtension ts) = true
 is_loud _ = false
 
--- A value that stays: no loud command, no `ESC k`, by which screen and tmux set a title, and nothing that does not read
--- back as itself, which is an escape sequence whose letter opens a string, and a truncated control sequence.
+-- A value that stays: no loud command, no `ESC k`, by which screen and tmux set a title, no short control and nothing of a
+-- mode, which may pass on a title, and nothing that does not read back as itself, which is an escape sequence whose letter opens a string, and a truncated control sequence.
 abbrev pub keeps : {A : Type 0} → Value A → Bool
 keeps (print c) = true
 keeps (string t) = true
@@ -29,6 +29,13 @@ keeps (esc (esc_variant.Code esc_code.TmuxTitle)) = false
 keeps (esc e) = not (is_opening e)
 keeps (csi c) = not (is_truncated c)
 keeps (osc c) = not (is_loud c)
+keeps (kitty i) = true
+keeps (sixel s) = true
+keeps (termcap ns) = true
+keeps (short s) = false
+keeps (enter e) = false
+keeps (datum b) = false
+keeps exit = false
 
 -- the letters that open a string or a control sequence after ESC: [ ] P X ^ _
 abbrev pub is_opener : ℕ → Bool

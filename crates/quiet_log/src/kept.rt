@@ -1,9 +1,9 @@
 //! What a quiet log keeps.
 ghost use Rattle.std.specs.Prelude.{◌≡◌, ◌++◌, OnOk, map};
 ghost use Rattle.esc_below.specs.Csis.{csi_value};
-ghost use Rattle.escape_stream.specs.Texts.{is_terminator};
-ghost use Rattle.escape_stream.specs.Values.{value_of};
-ghost use Rattle.escape_stream.specs.Writable.{is_opening, is_truncated};
+ghost use Rattle.esc_actions.specs.Texts.{is_terminator};
+ghost use Rattle.esc_actions.specs.Values.{value_of};
+ghost use Rattle.esc_actions.specs.Writable.{is_opening, is_truncated};
 ghost use Rattle.quiet_log.specs.Quiet.{is_left, is_loud, is_opener, keeps, left_of};
 
 use escape_stream::{Action, CSI, Esc, EscCode, OperatingSystemCommand};
@@ -19,6 +19,8 @@ pub fn is_kept<A: Allocator>(action: &Action<A>) -> bool
         Action::Esc(esc) => !opens(esc),
         Action::CSI(csi) => !is_truncated(csi),
         Action::OperatingSystemCommand(command) => !is_loud(command.as_ref()),
+        Action::KittyImage(_) | Action::Sixel(_) | Action::XtGetTcap(_) => true,
+        Action::DeviceControl(_) => false,
     }
 }
 

@@ -1,18 +1,18 @@
 //! A log without titles and notifications.
 ghost use Rattle.std.specs.Prelude.{◌≡◌, true, IfOk, map, string_bytes};
 ghost use Rattle.std.specs.List.{list_all};
-ghost use Rattle.escape_stream.specs.Meaning.{meaning};
-ghost use Rattle.escape_stream.specs.Texts.{list_text, normal};
-ghost use Rattle.escape_stream.specs.Values.{value_of};
-ghost use Rattle.escape_stream.specs.Writable.{AreHandedOut};
+ghost use Rattle.esc_actions.specs.Meaning.{meaning};
+ghost use Rattle.esc_actions.specs.Texts.{list_text, normal};
+ghost use Rattle.esc_actions.specs.Values.{value_of};
+ghost use Rattle.esc_actions.specs.Writable.{AreHandedOut};
 ghost use Rattle.quiet_log.specs.Quiet.{keeps, quiet};
 
 use crate::kept::{is_kept, keep};
 use escape_stream::{Action, ParseError, Parser, encode};
 use std::alloc::{AllocError, Allocator};
 
-/// The text of what `bytes` mean, without the commands that set a title or show a notification, and without what does
-/// not read back as itself. All else stays as it is, in normal form; and what stays is all that the text means, so a
+/// The text of what `bytes` mean, without the commands that set a title or show a notification, without modes and short
+/// controls, as tmux passes on whatever a mode holds, and without what does not read back as itself. All else stays as it is, in normal form; and what stays is all that the text means, so a
 /// terminal that shows the text sets no title either.
 ///
 /// The error is that memory was refused.

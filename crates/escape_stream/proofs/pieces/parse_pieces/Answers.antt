@@ -1,4 +1,4 @@
-use Rattle.escape_stream.proofs.Headlines.{at_meaning}
+use Rattle.esc_actions.proofs.Headlines.{at_meaning}
 use Rattle.escape_stream.proofs.Lists.{if_ok_more}
 use Rattle.escape_stream.proofs.pieces.parse_pieces.Goals as goal
 

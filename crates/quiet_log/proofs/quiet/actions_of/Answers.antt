@@ -1,6 +1,6 @@
 use Rattle.std.proofs.Common.{[], ◌∙◌}
 use Rattle.escape_stream.proofs.Lists.{if_ok_more}
-use Rattle.escape_stream.proofs.Yields.{yield_whole}
+use Rattle.esc_actions.proofs.Meanings.{yield_whole}
 use Rattle.quiet_log.proofs.quiet.actions_of.Goals as goal
 
 pub returns-clause-meant : goal.returns-clause-meant

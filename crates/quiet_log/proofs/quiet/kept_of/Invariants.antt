@@ -1,6 +1,6 @@
 use Rattle.std.proofs.Common.{◌≡◌, ◌++◌, length, map}
 use Rattle.std.specs.Vec.Iter.{into_iter_items, into_iter_len}
-use Rattle.escape_stream.specs.Values.{value_of}
+use Rattle.esc_actions.specs.Values.{value_of}
 use Rattle.quiet_log.specs.Quiet.{quiet, quiet_after}
 use Rattle.quiet_log.proofs.quiet.kept_of.Given as goal
 

@@ -3,8 +3,8 @@ use Rattle.std.proofs.lemmas.Result.{IfErr-at_err, IfOk-at_ok, err_from_is_err_a
 use Rattle.escape_stream.proofs.Lists.{if_err_is, stops_or_some}
 use Rattle.escape_stream.proofs.Yields.{collects}
 use Rattle.escape_stream.proofs.parser.Parser.collect.Goals as goal
-use Rattle.escape_stream.specs.Meaning.{yield}
-use Rattle.escape_stream.specs.Values.{value_of}
+use Rattle.esc_actions.specs.Meaning.{yield}
+use Rattle.esc_actions.specs.Values.{value_of}
 
 pub returns-clause-given : goal.returns-clause-given
 returns-clause-given g c s h =

@@ -1,0 +1,162 @@
+//! An actor that reads images.
+
+use crate::counted::Counted;
+use esc_below::csi_param::CsiParam;
+use esc_frame::actor::VTActor;
+use esc_kitty::{KittyImage, KittyImageData};
+use esc_sixel::SixelBuilder;
+use esc_tcap::GetTcapBuilder;
+use std::alloc::{AllocError, Global};
+use std::mem;
+
+/// A device control string whose data is read.
+#[derive(Drop)]
+enum Open {
+    /// None, or one of another kind.
+    Nothing,
+    /// A sixel image.
+    Sixel(SixelBuilder),
+    /// A termcap query.
+    Query(GetTcapBuilder),
+}
+
+/// Reads each kitty image, sixel image and termcap query of a stream, counts them, and adds up how much they hold: the bytes of a
+/// payload, the pieces of a sixel's data, the names of a query.
+#[derive(Drop)]
+pub struct Images {
+    alloc: Global,
+    open: Open,
+    number: u64,
+    total: u64,
+}
+
+impl Images {
+    /// Nothing yet.
+    pub fn new(alloc: Global) -> Images {
+        Images {
+            alloc,
+            open: Open::Nothing,
+            number: 0,
+            total: 0,
+        }
+    }
+
+    /// What was counted.
+    pub fn counted(&self) -> Counted {
+        Counted::Images(self.number, self.total)
+    }
+
+    // One more image or query, which holds so much.
+    fn add(&mut self, size: usize) {
+        self.number = self.number.wrapping_add(1);
+        self.total = self.total.wrapping_add(size as u64);
+    }
+}
+
+// How many bytes the payload has, where the image is sent in it.
+fn payload_size(image: &KittyImage) -> usize {
+    match image {
+        KittyImage::TransmitData { transmit, .. }
+        | KittyImage::TransmitDataAndDisplay { transmit, .. }
+        | KittyImage::Query { transmit }
+        | KittyImage::TransmitFrame { transmit, .. } => match &transmit.content {
+            KittyImageData::Direct(text) => text.len(),
+            _ => 0,
+        },
+        _ => 0,
+    }
+}
+
+impl VTActor for Images {
+    ghost takes = { λ _ _ _. Unit {0} };
+
+    ghost refuses = { λ _ _ _. Unit {0} };
+
+    ghost is_ready = { λ _. Unit {0} };
+
+    #[inline]
+    fn print(&mut self, _c: char) -> Result<(), AllocError> {
+        Ok(())
+    }
+
+    #[inline]
+    fn execute_c0_or_c1(&mut self, _control: u8) -> Result<(), AllocError> {
+        Ok(())
+    }
+
+    #[inline]
+    fn dcs_hook(
+        &mut self,
+        byte: u8,
+        params: &[i64],
+        intermediates: &[u8],
+        _ignored_extra_intermediates: bool,
+    ) -> Result<(), AllocError> {
+        self.open = match (byte, intermediates) {
+            (b'q', []) => Open::Sixel(SixelBuilder::new(self.alloc, params)),
+            (b'q', [b'+']) => Open::Query(GetTcapBuilder::new(self.alloc)),
+            _ => Open::Nothing,
+        };
+        Ok(())
+    }
+
+    #[inline]
+    fn dcs_put(&mut self, byte: u8) -> Result<(), AllocError> {
+        match &mut self.open {
+            Open::Nothing => Ok(()),
+            Open::Sixel(builder) => builder.push(byte),
+            Open::Query(builder) => builder.push(byte),
+        }
+    }
+
+    #[inline]
+    fn dcs_unhook(&mut self) -> Result<(), AllocError> {
+        match mem::replace(&mut self.open, Open::Nothing) {
+            Open::Nothing => {}
+            Open::Sixel(builder) => {
+                let mut builder = builder;
+                builder.finish()?;
+                self.add(builder.sixel.content.len());
+            }
+            Open::Query(builder) => {
+                let names = builder.finish()?;
+                self.add(names.len());
+            }
+        }
+        Ok(())
+    }
+
+    #[inline]
+    fn esc_dispatch(
+        &mut self,
+        _params: &[i64],
+        _intermediates: &[u8],
+        _ignored_extra_intermediates: bool,
+        _byte: u8,
+    ) -> Result<(), AllocError> {
+        Ok(())
+    }
+
+    #[inline]
+    fn csi_dispatch(
+        &mut self,
+        _params: &[CsiParam],
+        _parameters_truncated: bool,
+        _byte: u8,
+    ) -> Result<(), AllocError> {
+        Ok(())
+    }
+
+    #[inline]
+    fn osc_dispatch(&mut self, _params: &[&[u8]]) -> Result<(), AllocError> {
+        Ok(())
+    }
+
+    #[inline]
+    fn apc_dispatch(&mut self, text: &[u8]) -> Result<(), AllocError> {
+        if let Some(image) = KittyImage::parse_apc(self.alloc, text)? {
+            self.add(payload_size(&image));
+        }
+        Ok(())
+    }
+}

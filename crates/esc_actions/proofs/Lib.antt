@@ -1,0 +1,11 @@
+pub mod Controls
+pub mod Meanings
+pub mod Readings
+pub mod ReadsBack
+pub mod HandedOut
+pub mod Groups
+pub mod Joins
+pub mod StringsBack
+pub mod Normal
+pub mod Headlines
+pub mod Appends

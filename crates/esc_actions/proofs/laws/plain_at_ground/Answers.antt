@@ -1,0 +1,5 @@
+use Rattle.esc_actions.proofs.Readings.{plain_at_ground}
+use Rattle.esc_actions.proofs.laws.plain_at_ground.Goals as goal
+
+pub returns : goal.returns
+returns c = plain_at_ground c.events_once.ensures c.events_of_the_cut.ensures

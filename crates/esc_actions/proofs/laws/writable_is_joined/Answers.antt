@@ -1,0 +1,5 @@
+use Rattle.esc_actions.proofs.Joins.{joins_groups, joined_writable}
+use Rattle.esc_actions.proofs.laws.writable_is_joined.Goals as goal
+
+pub returns : goal.returns
+returns g c = λ vs. (joins_groups vs, joined_writable vs)

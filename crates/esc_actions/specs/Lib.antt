@@ -1,0 +1,11 @@
+pub mod ControlCodes
+pub mod Values
+pub mod Meaning
+pub mod Texts
+pub mod Writable
+pub mod Readings
+pub mod Headline
+pub mod LowerLaws
+pub mod Appending
+pub mod Coordinates
+pub mod Groups

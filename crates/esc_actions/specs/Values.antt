@@ -1,0 +1,154 @@
+-- The values of actions, and the values that events give.
+use Rattle.std.specs.Prelude.{ℕ, ℤ, ◌++◌, Bool, true, false, List, [], ◌∷◌, Option, Some, None, map}
+use Rattle.esc_below.specs.declared.esc.Esc.{Esc}
+use Rattle.esc_below.specs.Csis.{CsiValue, csi_value, csi_of}
+use Rattle.esc_below.specs.Escs.{esc_of}
+use Rattle.esc_device.specs.Kinds.{kind_of}
+use Rattle.esc_device.specs.Values.{enter_of, short_of}
+use Rattle.esc_device.specs.declared.enter.EnterDeviceControlMode.{EnterDeviceControlMode}
+use Rattle.esc_device.specs.declared.kind.StringKind.{StringKind}
+use Rattle.esc_device.specs.declared.kind.StringKind.TheVariants as kind
+use Rattle.esc_device.specs.declared.mode.DeviceControlMode.{DeviceControlMode}
+use Rattle.esc_device.specs.declared.mode.DeviceControlMode.TheVariants as device
+use Rattle.esc_device.specs.declared.short.ShortDeviceControl.{ShortDeviceControl}
+use Rattle.esc_frame.specs.Events.{Event}
+use Rattle.esc_frame.specs.Events.Event.{Print, Execute, EscDispatch, CsiDispatch, OscDispatch, DcsHook, DcsPut, DcsUnhook, ApcDispatch}
+use Rattle.esc_kitty.specs.Images.{image_of}
+use Rattle.esc_kitty.specs.declared.image.KittyImage.{KittyImage}
+use Rattle.esc_osc.specs.Reading.{meaning as command_meant}
+use Rattle.esc_osc.specs.declared.command.OperatingSystemCommand.{OperatingSystemCommand}
+use Rattle.esc_sixel.specs.Items.{items}
+use Rattle.esc_sixel.specs.Meaning.{sixel_of}
+use Rattle.esc_sixel.specs.declared.sixel.Sixel.{Sixel}
+use Rattle.esc_tcap.specs.Names.{names_of}
+use Rattle.esc_actions.specs.ControlCodes.{code_of}
+use Rattle.esc_actions.specs.declared.control_code.ControlCode.{ControlCode}
+use Rattle.esc_actions.specs.declared.action.Action.{Action}
+use Rattle.esc_actions.specs.declared.action.Action.TheVariants as action
+
+-- an action, without where it lies in memory
+pub data Value (A : Type 0) : Type 0 where
+  print : ℕ → Value A
+  string : List ℕ → Value A
+  control : ControlCode → Value A
+  esc : Esc → Value A
+  csi : CsiValue → Value A
+  osc : OperatingSystemCommand A → Value A
+  kitty : KittyImage A → Value A
+  sixel : Sixel A → Value A
+  termcap : List (List ℕ) → Value A
+  short : ShortDeviceControl A → Value A
+  enter : EnterDeviceControlMode A → Value A
+  datum : ℕ → Value A
+  exit : Value A
+
+-- a step of a mode, or a short control
+abbrev pub device_value : {A : Type 0} → DeviceControlMode A → Value A
+device_value (device.Enter e) = enter e
+device_value device.Exit = exit
+device_value (device.Data b) = datum b
+device_value (device.ShortDeviceControl s) = short s
+
+abbrev pub value_of : {A : Type 0} → Action A → Value A
+value_of (action.Print c) = print c
+value_of (action.PrintString t) = string t
+value_of (action.Control c) = control c
+value_of (action.Esc e) = esc e
+value_of (action.CSI c) = csi (csi_value c)
+value_of (action.OperatingSystemCommand c) = osc c
+value_of (action.KittyImage i) = kitty i
+value_of (action.Sixel s) = sixel s
+value_of (action.XtGetTcap ns) = termcap ns
+value_of (action.DeviceControl m) = device_value m
+
+-- What is unfinished between two events. It decides what the next one gives: an action that is known only at the end of a
+-- string needs all that came of it.
+pub data Mode : Type 0 where
+  -- nothing
+  plain : Mode
+  -- a sixel image: its parameters and its data so far
+  in_sixel : List ℤ → List ℕ → Mode
+  -- a termcap query: its data so far
+  in_termcap : List ℕ → Mode
+  -- a short control: its parameters, intermediates, final byte and data so far
+  in_short : List ℤ → List ℕ → ℕ → List ℕ → Mode
+  -- a mode, of which everything is given at once
+  entered : Mode
+
+-- what a header opens, by its kind
+abbrev pub opened : StringKind → ℕ → List ℤ → List ℕ → Mode
+opened kind.Sixel f ps is = in_sixel ps []
+opened kind.Termcap f ps is = in_termcap []
+opened kind.Short f ps is = in_short ps is f []
+opened kind.Other f ps is = entered
+
+-- what is unfinished after a byte of data
+abbrev pub taken : Mode → ℕ → Mode
+taken plain b = plain
+taken (in_sixel ps d) b = in_sixel ps (d ++ b ∷ [])
+taken (in_termcap d) b = in_termcap (d ++ b ∷ [])
+taken (in_short ps is f d) b = in_short ps is f (d ++ b ∷ [])
+taken entered b = entered
+
+-- what is unfinished after an event
+abbrev pub after : Mode → Event → Mode
+after m (Print c) = m
+after m (Execute b) = m
+after m (EscDispatch is more f) = m
+after m (CsiDispatch es more f) = m
+after m (OscDispatch ps) = m
+after m (DcsHook f ps is more) = opened (kind_of f is more) f ps is
+after m (DcsPut b) = taken m b
+after m DcsUnhook = plain
+after m (ApcDispatch t) = m
+
+-- what a header, a byte of data and the end of a string give: an image, a query and a short control are given whole at the end
+abbrev pub opened_gives : {A : Type 0} → StringKind → ℕ → List ℤ → List ℕ → Bool → List (Value A)
+opened_gives kind.Other f ps is more = enter (enter_of f ps is more) ∷ []
+opened_gives _ f ps is more = []
+
+abbrev pub taken_gives : {A : Type 0} → Mode → ℕ → List (Value A)
+taken_gives entered b = datum b ∷ []
+taken_gives _ b = []
+
+abbrev pub closed_gives : {A : Type 0} → Mode → List (Value A)
+closed_gives plain = []
+closed_gives (in_sixel ps d) = sixel (sixel_of ps (items d)) ∷ []
+closed_gives (in_termcap d) = termcap (names_of d) ∷ []
+closed_gives (in_short ps is f d) = short (short_of ps is f d) ∷ []
+closed_gives entered = exit ∷ []
+
+-- the one of a list
+abbrev pub lone : List ℕ → Option ℕ
+lone [] = None
+lone (i ∷ []) = Some i
+lone (i ∷ j ∷ is) = None
+
+-- a control without a code gives nothing
+abbrev pub executed : {A : Type 0} → Option ControlCode → List (Value A)
+executed None = []
+executed (Some c) = control c ∷ []
+
+-- data that is no image gives nothing
+abbrev pub imaged : {A : Type 0} → Option (KittyImage A) → List (Value A)
+imaged None = []
+imaged (Some i) = kitty i ∷ []
+
+-- the values that an event gives
+abbrev pub given : {A : Type 0} → Mode → Event → List (Value A)
+given m (Print c) = print c ∷ []
+given m (Execute b) = executed (code_of b)
+given m (EscDispatch is more f) = esc (esc_of (lone is) f) ∷ []
+given m (CsiDispatch es more f) = map csi (csi_of es more f)
+given m (OscDispatch ps) = osc (command_meant ps) ∷ []
+given m (DcsHook f ps is more) = opened_gives (kind_of f is more) f ps is more
+given m (DcsPut b) = taken_gives m b
+given m DcsUnhook = closed_gives m
+given m (ApcDispatch t) = imaged (image_of t)
+
+-- whether an action of the event may have to be kept in memory
+abbrev pub wants_memory : Event → Bool
+wants_memory (Print c) = false
+wants_memory (Execute b) = false
+wants_memory (EscDispatch is more f) = false
+wants_memory _ = true

@@ -1,0 +1,164 @@
+//! Laws of streams of actions: a stream means the readings of its one cut, what is written reads back, and what is handed
+//! out can be written. Each holds for every allocator `A`, which the type of the actions names.
+ghost use Rattle.std.specs.Prelude.{◌≡◌, ◌++◌, ◌↔◌, List, ℕ, false};
+ghost use Rattle.std.specs.List.{list_any};
+ghost use Rattle.esc_frame.specs.Stream.{IsAtGround, events};
+ghost use Rattle.esc_actions.specs.Headline.{Headline};
+ghost use Rattle.esc_actions.specs.Groups.{JoinsGroups, MeansGroups, MeansWritable, ends_within};
+ghost use Rattle.esc_actions.specs.LowerLaws.{LowerLaws};
+ghost use Rattle.esc_actions.specs.Meaning.{meaning, mode_from, yield};
+ghost use Rattle.esc_actions.specs.Readings.{MeansItsCut};
+ghost use Rattle.esc_actions.specs.Texts.{list_text, normal};
+ghost use Rattle.esc_actions.specs.Values.{Value, plain};
+ghost use Rattle.esc_actions.specs.Writable.{AreHandedOut, AreWritable, is_exception};
+
+pub use esc_frame::laws::{has_cut, one_cut};
+use std::alloc::Allocator;
+
+/// Everything at once, for every stream: it has exactly one cut; it means the readings of the cut's segments, in order; each
+/// of these values is writable, but for the four exceptions; and where it is the text of a writable list, it means the list's
+/// normal list, which has the same text.
+pub fn headline<A: Allocator>()
+    ensures { (s : List ℕ) → Headline {A = A} s (meaning s) }
+{
+    has_cut();
+    one_cut();
+    meaning_of_the_cut::<A>();
+    handed_out::<A>();
+    reads_back::<A>();
+    same_text::<A>();
+}
+
+/// A stream means the readings of the segments of its cut, one after another: nothing is unfinished between two segments.
+pub fn meaning_of_the_cut<A: Allocator>()
+    ensures { MeansItsCut A }
+{
+    esc_frame::laws::events_once();
+    esc_frame::laws::events_of_the_cut();
+}
+
+// What the laws of the crates below say.
+fn lower_laws<A: Allocator>()
+    ensures { LowerLaws A }
+{
+    esc_frame::laws::says_print();
+    esc_frame::laws::says_control();
+    esc_frame::laws::says_high_control();
+    esc_frame::laws::says_itself();
+    esc_frame::laws::says_osc();
+    esc_frame::laws::says_apc();
+    esc_frame::laws::events_fit();
+    esc_osc::laws::writes_clear::<A>();
+    esc_osc::laws::reads_back::<A>();
+    esc_osc::laws::clear_is_writable::<A>();
+    esc_kitty::laws::reads_back::<A>();
+    esc_kitty::laws::kept_is_writable::<A>();
+    esc_below::laws::csi_reads_back();
+    esc_below::laws::csi_truncated();
+    esc_device::laws::enter_says::<A>();
+    esc_device::laws::short_says::<A>();
+    esc_device::laws::sixel_says::<A>();
+    esc_device::laws::query_says();
+    esc_device::laws::params_are_natural();
+    esc_device::laws::hook_is_writable::<A>();
+    esc_device::laws::short_is_writable::<A>();
+    esc_sixel::laws::data_is_writable::<A>();
+    esc_tcap::laws::data_is_writable();
+}
+
+/// The text of a writable list means its normal list.
+pub fn reads_back<A: Allocator>()
+    ensures { (vs : List (Value A)) → AreWritable vs → meaning (list_text vs) ≡ normal vs }
+{
+    lower_laws::<A>();
+}
+
+/// A writable list and its normal list have the same text.
+#[tactic(auto, using(crate::proofs::Normal::same_text))]
+pub fn same_text<A: Allocator>()
+    ensures { (vs : List (Value A)) → AreWritable vs → list_text (normal vs) ≡ list_text vs }
+{}
+
+/// Two writable lists have the same text exactly where they have the same normal list.
+pub fn same_normal<A: Allocator>()
+    ensures { (vs ws : List (Value A)) → AreWritable vs → AreWritable ws → (list_text vs ≡ list_text ws) ↔ (normal vs ≡ normal ws) }
+{
+    reads_back::<A>();
+}
+
+/// The normal list of a writable list is writable.
+#[tactic(auto, using(crate::proofs::Normal::normal_writable))]
+pub fn normal_writable<A: Allocator>()
+    ensures { (vs : List (Value A)) → AreWritable vs → AreWritable (normal vs) }
+{}
+
+/// A normal list is its own normal list.
+#[tactic(auto, using(crate::proofs::Normal::normal_normal))]
+pub fn normal_normal<A: Allocator>()
+    ensures { (vs : List (Value A)) → normal (normal vs) ≡ normal vs }
+{}
+
+/// Every value that any stream means is writable, but for an escape sequence without intermediate whose letter opens a string
+/// or a control sequence; a control sequence of which entries were left out; the header of a mode of which intermediates were
+/// left out; and a byte A0 to FF of a mode, or a short control that has one.
+pub fn handed_out<A: Allocator>()
+    ensures { (s : List ℕ) → AreHandedOut {A = A} (meaning s) }
+{
+    lower_laws::<A>();
+}
+
+/// So is every value that one call hands out, whatever was fed before.
+pub fn yield_handed_out<A: Allocator>()
+    ensures { (s b : List ℕ) → AreHandedOut {A = A} (yield s b) }
+{
+    handed_out::<A>();
+}
+
+/// What calls hand out one after another is the meaning of what they were fed, joined.
+#[tactic(auto, using(crate::proofs::Meanings::meaning_more))]
+pub fn meaning_of_more<A: Allocator>()
+    ensures { (s b : List ℕ) → meaning {A = A} s ++ yield s b ≡ meaning (s ++ b) }
+{}
+
+/// Where no segment of a stream is unfinished, nothing is unfinished of its actions.
+pub fn plain_at_ground()
+    ensures { (s : List ℕ) → IsAtGround s → mode_from plain (events s) ≡ plain }
+{
+    esc_frame::laws::events_once();
+    esc_frame::laws::events_of_the_cut();
+}
+
+/// A list is writable exactly where it is writable single values and writable groups, joined.
+pub fn writable_is_joined<A: Allocator>()
+    ensures { (vs : List (Value A)) → AreWritable vs ↔ JoinsGroups vs }
+{}
+
+/// The values of a stream come in groups: a mode that is entered, its bytes, and its end.
+pub fn means_groups<A: Allocator>()
+    ensures { MeansGroups A }
+{
+    esc_frame::laws::events_of_the_cut();
+}
+
+/// So a stream without these four that does not end inside a mode means a writable list.
+pub fn means_writable<A: Allocator>()
+    ensures { MeansWritable A }
+{
+    means_groups::<A>();
+    handed_out::<A>();
+}
+
+/// Where a stream means a writable list, the text of this list means a list with the same text.
+pub fn normal_once<A: Allocator>()
+    ensures { (s : List ℕ) → AreWritable {A = A} (meaning s) → list_text (meaning {A = A} (list_text (meaning {A = A} s))) ≡ list_text (meaning {A = A} s) }
+{
+    reads_back::<A>();
+}
+
+/// So normalising is idempotent where none of the four occurs and no mode is unfinished.
+pub fn normal_is_idempotent<A: Allocator>()
+    ensures { (s : List ℕ) → list_any is_exception (meaning {A = A} s) ≡ false → ends_within s ≡ false → list_text (meaning {A = A} (list_text (meaning {A = A} s))) ≡ list_text (meaning {A = A} s) }
+{
+    means_writable::<A>();
+    normal_once::<A>();
+}

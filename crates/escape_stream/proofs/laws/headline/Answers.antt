@@ -1,5 +1,0 @@
-use Rattle.escape_stream.proofs.Headlines.{meets}
-use Rattle.escape_stream.proofs.laws.headline.Goals as goal
-
-pub returns : goal.returns
-returns g c = meets c.has_cut.ensures c.one_cut.ensures c.meaning_of_the_cut.ensures c.handed_out.ensures c.reads_back.ensures c.same_text.ensures

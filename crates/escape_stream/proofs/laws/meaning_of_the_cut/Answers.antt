@@ -1,5 +1,0 @@
-use Rattle.escape_stream.proofs.Readings.{meaning_of_the_cut}
-use Rattle.escape_stream.proofs.laws.meaning_of_the_cut.Goals as goal
-
-pub returns : goal.returns
-returns g c = meaning_of_the_cut c.events_once.ensures c.events_of_the_cut.ensures _

@@ -1,5 +1,0 @@
-use Rattle.escape_stream.proofs.ReadsBack.{reads_back}
-use Rattle.escape_stream.proofs.laws.reads_back.Goals as goal
-
-pub returns : goal.returns
-returns g c = reads_back c.lower_laws.ensures
