@@ -1,7 +1,9 @@
-//! Reads a stream of terminal escape sequences from standard input, and writes it in normal form to standard output.
+//! Reads a stream of terminal escape sequences from standard input, and writes it in normal form to standard output; with
+//! `--check` it says by its status whether the stream is in normal form.
 #![tactic(auto)]
 
 mod run;
+mod task;
 #[cfg(test)]
 mod tests;
 

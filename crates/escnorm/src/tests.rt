@@ -75,7 +75,7 @@ fn writes_the_normal_form(rt: HostRuntime) {
 
 #[test]
 fn any_word_is_told_the_usage(rt: HostRuntime) -> Result<(), Fail> {
-    for word in ["--check", "-h", ""] {
+    for word in ["--checks", "-h", ""] {
         let words = words(rt.alloc(), word)?;
         let mut output = Vec::new(rt.alloc());
         let mut faults = Vec::new(rt.alloc());
@@ -86,6 +86,34 @@ fn any_word_is_told_the_usage(rt: HostRuntime) -> Result<(), Fail> {
         let status = run(rt.alloc(), &words, STREAM, Broken, Broken);
         assert_eq!(rt; status, 2);
     }
+    Ok(())
+}
+
+#[test]
+fn check_tells_a_text_from_its_normal_form(rt: HostRuntime) -> Result<(), Fail> {
+    let words = words(rt.alloc(), "--check")?;
+    for (stream, status) in [
+        (TEXT, 0u8),
+        (STREAM, 3),
+        (b"", 0),
+        (b"a\x1b[", 3),
+        (b"plain", 0),
+    ] {
+        let mut output = Vec::new(rt.alloc());
+        let mut faults = Vec::new(rt.alloc());
+        assert_eq!(rt;
+            run(rt.alloc(), &words, stream, &mut output, &mut faults),
+            status
+        );
+        assert!(rt; output.is_empty() && faults.is_empty());
+    }
+    let mut output = Vec::new(rt.alloc());
+    let mut faults = Vec::new(rt.alloc());
+    assert_eq!(rt;
+        run(rt.alloc(), &words, Broken, &mut output, &mut faults),
+        1
+    );
+    assert_eq!(rt; faults.as_slice(), b"escnorm: read fault\n".as_slice());
     Ok(())
 }
 
