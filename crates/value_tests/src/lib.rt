@@ -6,8 +6,6 @@ mod below;
 #[cfg(test)]
 mod codes;
 #[cfg(test)]
-mod commands;
-#[cfg(test)]
 mod iterm;
 #[cfg(test)]
 mod links;

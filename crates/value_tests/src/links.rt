@@ -1,63 +1,43 @@
 //! Hyperlinks, and their parameters.
 use crate::told::{check, is_shown, is_told, parts_of};
-use esc_below::{Error, Hyperlink, Params, Text};
+use esc_below::{Hyperlink, Params, Text};
 use std::alloc::{AllocError, Global};
 use std::test::Fail;
 
-// The parts, the first of which is not looked at, and the Debug text of what they are read as.
-static LINKS: [(&[u8], &str); 4] = [
-    (
-        b"8;;x",
-        "Some(Hyperlink { params: {}, uri: \"x\", implicit: false })",
-    ),
+// The parts, the first of which is not looked at, and the Debug text of what they are read as. `check_rows` has tables of
+// links in streams.
+static LINKS: [(&[u8], &str); 10] = [
     (
         b"8;id=foo;x",
-        "Some(Hyperlink { params: {\"id\": \"foo\"}, uri: \"x\", implicit: false })",
+        "Ok(Some(Hyperlink { params: {\"id\": \"foo\"}, uri: \"x\", implicit: false }))",
     ),
     (
         b"\xff;a=1:=:a=b=c;",
-        "Some(Hyperlink { params: {\"\": \"\", \"a\": \"b=c\"}, uri: \"\", implicit: false })",
+        "Ok(Some(Hyperlink { params: {\"\": \"\", \"a\": \"b=c\"}, uri: \"\", implicit: false }))",
     ),
-    (b"\xff;;", "None"),
+    (b"\xff;;", "Ok(None)"),
+    (b"8", "Err(Invalid)"),
+    (b"8;;x;", "Err(Invalid)"),
+    (b"8;\xff=c;x", "Err(Invalid)"),
+    (b"8;b=\xff;x", "Err(Invalid)"),
+    (b"8;b=c;\xff", "Err(Invalid)"),
+    (b"8;;\xc3", "Err(Invalid)"),
+    (b"8;\xff;", "Err(Invalid)"),
 ];
 
 #[test]
 fn links(rt: HostRuntime) -> Result<(), Fail> {
     for (text, told) in &LINKS {
         let parts = parts_of(rt.alloc(), text)?;
-        let link = Hyperlink::parse(rt.alloc(), parts.as_slice())
-            .ok()
-            .ok_or("no link")?;
+        let link = Hyperlink::parse(rt.alloc(), parts.as_slice());
         check(&rt, is_told(rt.alloc(), &link, told)?, told);
     }
-    Ok(())
-}
-
-// Parts that are no link.
-static NO_LINKS: [&[u8]; 12] = [
-    b"8",
-    b"8;",
-    b"8;;x;",
-    b"8;1;2",
-    b"8;a:b=c;x",
-    b"8;b=c:;x",
-    b"8;:b=c;x",
-    b"8;\xff=c;x",
-    b"8;b=\xff;x",
-    b"8;b=c;\xff",
-    b"8;;\xc3",
-    b"8;\xff;",
-];
-
-#[test]
-fn no_links(rt: HostRuntime) -> Result<(), Fail> {
-    for text in &NO_LINKS {
-        let parts = parts_of(rt.alloc(), text)?;
-        let read = Hyperlink::parse(rt.alloc(), parts.as_slice());
-        assert!(rt; matches!(read, Err(Error::Invalid)), "{text:?}");
-    }
-    let read = Hyperlink::parse(rt.alloc(), &[]);
-    assert!(rt; matches!(read, Err(Error::Invalid)));
+    let nothing = Hyperlink::parse(rt.alloc(), &[]);
+    check(
+        &rt,
+        is_told(rt.alloc(), &nothing, "Err(Invalid)")?,
+        "no parts",
+    );
     Ok(())
 }
 

@@ -9,6 +9,11 @@ pub fn check(rt: &impl Abort, holds: bool, row: &str) {
     assert!(rt; holds, "{row}");
 }
 
+/// The value's Debug text.
+pub fn told_of<T: Debug + Drop>(alloc: Global, value: T) -> Result<String, AllocError> {
+    format!(in alloc; "{value:?}")
+}
+
 /// Whether this is the value's Debug text.
 pub fn is_told<T: Debug>(alloc: Global, value: &T, told: &str) -> Result<bool, AllocError> {
     let written = format!(in alloc; "{value:?}")?;

@@ -1,0 +1,87 @@
+//! Streams of each length, under ample memory. A contract leaves open when memory is wanted, so a body that refuses a stream of
+//! one length, or a list of one number of actions, would be proved.
+use crate::fault::Fault;
+use crate::report::Report;
+use crate::row::Row;
+use crate::spellings::{encoded, encoded_calls, encoded_halves, normalised};
+use escape_stream::Parser;
+use std::alloc::Global;
+
+/// Every stream of the family is read by every call, and written as it came.
+pub fn check_lengths(alloc: Global, row: Row, report: &mut Report) -> Result<(), Fault> {
+    let numbers = row.text(alloc, "times")?;
+    for word in numbers.split(' ') {
+        let (from, to) = range(word)?;
+        for number in from..to {
+            check_length(alloc, row, number, report)?;
+        }
+    }
+    Ok(())
+}
+
+// The stream of a row that has its piece so many times, or this number in its place.
+fn stream_of(alloc: Global, row: Row, number: usize) -> Result<String, Fault> {
+    let mut stream = row.text(alloc, "begins")?;
+    if row.has("piece")? {
+        stream.push_str(
+            row.text(alloc, "piece")?
+                .as_str()
+                .repeat(alloc, number)?
+                .as_str(),
+        )?;
+    } else {
+        write!(stream, "{number}")?;
+    }
+    stream.push_str(row.text(alloc, "ends")?.as_str())?;
+    Ok(stream)
+}
+
+// The numbers that a word names: `a..b`, of which the last is left out, or one.
+fn range(word: &str) -> Result<(usize, usize), Fault> {
+    let (from, to) = match word.split_once("..") {
+        Some((from, to)) => (from.parse::<usize>(), to.parse::<usize>()),
+        None => (
+            word.parse::<usize>(),
+            word.parse::<usize>().map(|n| n.saturating_add(1)),
+        ),
+    };
+    match (from, to) {
+        (Ok(from), Ok(to)) => Ok((from, to)),
+        _ => Err(Fault("a length is no number")),
+    }
+}
+
+fn check_length(alloc: Global, row: Row, number: usize, report: &mut Report) -> Result<(), Fault> {
+    let stream = stream_of(alloc, row, number)?;
+    let text = stream.as_str();
+    let bytes = text.as_bytes();
+    report.expect(row.name, "written", text, encoded(alloc, bytes))?;
+    report.expect(
+        row.name,
+        "read in halves",
+        text,
+        encoded_halves(alloc, bytes),
+    )?;
+    report.expect(
+        row.name,
+        "given to a closure",
+        text,
+        encoded_calls(alloc, bytes),
+    )?;
+    report.expect(row.name, "normalised", text, normalised(alloc, bytes))?;
+    let has_none = bytes.is_empty();
+    if has_first(alloc, bytes)? == has_none || has_prefix(alloc, bytes)? == has_none {
+        report.note(row.name, "no first action")?;
+    }
+    Ok(())
+}
+
+// Whether it has a first action.
+fn has_first(alloc: Global, bytes: &[u8]) -> Result<bool, Fault> {
+    Ok(Parser::new(alloc).parse_first(bytes)?.is_some())
+}
+
+// Whether it has a first action, as the call for a whole prefix says.
+fn has_prefix(alloc: Global, bytes: &[u8]) -> Result<bool, Fault> {
+    Ok(Parser::new(alloc).parse_first_as_vec(bytes)?.is_some())
+}

@@ -1,0 +1,104 @@
+//! Ways to read a stream. Each gives the Debug text of the list of actions.
+use crate::fault::Fault;
+use escape_stream::{Action, Parser, parse_pieces};
+use std::alloc::Global;
+
+/// In these pieces.
+pub fn in_pieces(alloc: Global, pieces: &[&[u8]]) -> Result<String, Fault> {
+    let actions = parse_pieces(alloc, pieces)?;
+    Ok(format!(in alloc; "{actions:?}")?)
+}
+
+/// Byte by byte, as a list for each.
+pub fn by_bytes(alloc: Global, stream: &[u8]) -> Result<String, Fault> {
+    let actions = listed(alloc, stream)?;
+    Ok(format!(in alloc; "{actions:?}")?)
+}
+
+/// Byte by byte, by a closure.
+pub fn by_calls(alloc: Global, stream: &[u8]) -> Result<String, Fault> {
+    let actions = called(alloc, stream)?;
+    Ok(format!(in alloc; "{actions:?}")?)
+}
+
+/// By the prefixes that `parse_first_as_vec` takes, until there is none.
+pub fn by_prefixes(alloc: Global, stream: &[u8]) -> Result<String, Fault> {
+    let actions = walked(alloc, stream)?;
+    Ok(format!(in alloc; "{actions:?}")?)
+}
+
+/// The actions of a stream that comes byte by byte.
+pub fn listed(alloc: Global, stream: &[u8]) -> Result<Vec<Action>, Fault> {
+    let mut parser = Parser::new(alloc);
+    let mut actions = Vec::new(alloc);
+    for i in 0..stream.len() {
+        for action in parser.parse_as_vec(&stream[i..i + 1])? {
+            actions.push(action)?;
+        }
+    }
+    Ok(actions)
+}
+
+/// The actions that a closure is given of a stream that comes byte by byte.
+pub fn called(alloc: Global, stream: &[u8]) -> Result<Vec<Action>, Fault> {
+    let mut parser = Parser::new(alloc);
+    let mut actions = Vec::new(alloc);
+    let mut is_refused = false;
+    for i in 0..stream.len() {
+        parser.parse(&stream[i..i + 1], |action| {
+            if actions.push(action).is_err() {
+                is_refused = true;
+            }
+        })?;
+    }
+    if is_refused {
+        return Err(Fault("out of memory"));
+    }
+    Ok(actions)
+}
+
+// The actions of the prefixes of a stream, one after another.
+fn walked(alloc: Global, stream: &[u8]) -> Result<Vec<Action>, Fault> {
+    let mut parser = Parser::new(alloc);
+    let mut walked = Vec::new(alloc);
+    let mut rest = stream;
+    for _ in 0..=stream.len() {
+        let Some((actions, len)) = parser.parse_first_as_vec(rest)? else {
+            return Ok(walked);
+        };
+        for action in actions {
+            walked.push(action)?;
+        }
+        rest = rest.get(len..).ok_or(Fault("a prefix past the end"))?;
+    }
+    Err(Fault("more prefixes than bytes"))
+}
+
+/// Where each prefix ends that `parse_first` takes, and the Debug text of its action.
+pub fn first_actions(alloc: Global, stream: &[u8]) -> Result<String, Fault> {
+    let mut parser = Parser::new(alloc);
+    let mut shown = String::new(alloc);
+    let mut end = 0usize;
+    for _ in 0..=stream.len() {
+        let rest = stream.get(end..).ok_or(Fault("a prefix past the end"))?;
+        let Some((action, len)) = parser.parse_first(rest)? else {
+            return Ok(shown);
+        };
+        end = end.saturating_add(len);
+        write!(shown, "{end} {action:?}. ")?;
+    }
+    Err(Fault("more prefixes than bytes"))
+}
+
+/// After how many bytes actions are added, and the Debug text of the first of them.
+pub fn added_actions(alloc: Global, stream: &[u8]) -> Result<String, Fault> {
+    let mut parser = Parser::new(alloc);
+    let mut shown = String::new(alloc);
+    for i in 0..stream.len() {
+        let added = parser.parse_as_vec(&stream[i..i + 1])?;
+        if let Some(action) = added.first() {
+            write!(shown, "{} {action:?}. ", i + 1)?;
+        }
+    }
+    Ok(shown)
+}
