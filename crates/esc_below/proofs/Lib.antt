@@ -4,6 +4,7 @@ pub mod ClearPairs
 pub mod ClearTexts
 pub mod CsisBack
 pub mod Cutting
+pub mod Digits
 pub mod Engine
 pub mod EntriesText
 pub mod LinksBack

@@ -1,6 +1,6 @@
 //! Control sequences (ECMA-48, <https://ecma-international.org/publications-and-standards/standards/ecma-48/>; xterm's
 //! list, <https://invisible-island.net/xterm/ctlseqs/ctlseqs.html>).
-ghost use Rattle.std.specs.Prelude.{◌≡◌, ◌+◌, ◌<◌, ◌≤◌, ◌∷◌, [], length, drop, IfNone, IfOk, IfSome, IsOk, false, true, is_some, map, Some};
+ghost use Rattle.std.specs.Prelude.{◌≡◌, ◌+◌, ◌<◌, ◌≤◌, ◌∷◌, [], length, drop, IfNone, IfOk, IfSome, IsOk, IsTrue, false, true, is_some, map, Some};
 ghost use Rattle.std.specs.Option.{option_map};
 ghost use Rattle.std.specs.List.{position_or_len, slice_split};
 ghost use Rattle.esc_below.specs.Csis.{csi_value, csi_of, csi_text, is_separator, renditions, sgr, unspecified};
@@ -25,6 +25,14 @@ pub enum CSI<A: Allocator = Global> {
     Sgr(Sgr),
     /// Any other control sequence, as it is.
     Unspecified(Boxed<Unspecified<A>, A>),
+}
+
+/// Whether what [`parse`](CSI::parse) returns for these entries is one `Unspecified` of them, which needs no value to be written:
+/// a [`BorrowedSequence`](crate::BorrowedSequence) is written as it is.
+pub fn is_unspecified(params: &[CsiParam], parameters_truncated: bool, control: u8) -> bool
+    ensures { IsTrue result → csi_of params.now parameters_truncated control ≡ unspecified params.now parameters_truncated control ∷ [] }
+{
+    control != b'm' || parameters_truncated || !are_renditions(params)
 }
 
 impl<A: Allocator + Copy> CSI<A> {

@@ -3,6 +3,7 @@ ghost use Rattle.esc_sixel.specs.Texts.{data_output};
 
 use crate::write_data::{Percent, write_pixels};
 use esc_below::RgbColor;
+use esc_below::number::write_natural;
 use std::fmt;
 
 /// Six pixels, one above the other, as the bits of a number from 0 to 63. The lowest bit is the top pixel.
@@ -61,7 +62,8 @@ impl fmt::Display for SixelData {
                 repeat_count,
                 content,
             } => {
-                write!(f, "!{repeat_count}")?;
+                f.write_str("!")?;
+                write_natural(u64::from(*repeat_count), f)?;
                 write_pixels(*content, f)
             }
             SixelData::DefineColorMapRGB { color_number, rgb } => {
@@ -77,7 +79,10 @@ impl fmt::Display for SixelData {
                 lightness,
                 saturation,
             } => write!(f, "#{color_number};1;{hue_angle};{lightness};{saturation}"),
-            SixelData::SelectColorMapEntry(number) => write!(f, "#{number}"),
+            SixelData::SelectColorMapEntry(number) => {
+                f.write_str("#")?;
+                write_natural(u64::from(*number), f)
+            }
             SixelData::CarriageReturn => f.write_str("$"),
             SixelData::NewLine => f.write_str("-"),
         }
