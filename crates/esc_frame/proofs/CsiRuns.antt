@@ -1,5 +1,5 @@
 -- Runs in the body of a control sequence.
-use Rattle.std.proofs.Common.{ℕ, ◌≡◌, ◌+◌, ◌-◌, ◌≤◌, true, false, not, List, [], ◌∷◌, ◌++◌, length, take, drop, get_or, refl, ap, sym, ◌∙◌, arith}
+use Rattle.std.proofs.Common.{ℕ, ◌≡◌, ◌+◌, ◌-◌, ◌≤◌, true, false, not, List, [], ◌∷◌, ◌++◌, length, take, drop, get_or, refl, ap, sym, ◌∙◌, arith, Option}
 use Rattle.std.specs.List.{list_all}
 use Rattle.std.proofs.Math.Seq.{take-add}
 use Rattle.std.proofs.lemmas.List.Elements.{filter-append}
@@ -21,9 +21,9 @@ body_byte : (b : ℕ) → is_body_byte b ≡ true
 unfolding class_of
 body_byte b h = (grind (arith, nat_tests), grind (arith, nat_tests), grind (arith, nat_tests), grind (arith, nat_tests))
 
-pub body_quiet : (o : Opener) (x ys : List ℕ) → list_all is_body_byte ys ≡ true
-    → (after_all (InCsi o x) ys ≡ InCsi o (x ++ ys)) × (news_all (InCsi o x) ys ≡ [])
-body_quiet o = quiet_run (InCsi o) is_body_byte (λ d b h. let p = body_byte b h in rw (p.0, p.1, p.2, inside, goes_on, noise) refl)
+pub body_quiet : (limit : Option ℕ) (o : Opener) (x ys : List ℕ) → list_all is_body_byte ys ≡ true
+    → (after_all (InCsi o x) ys ≡ InCsi o (x ++ ys)) × (news_all limit (InCsi o x) ys ≡ [])
+body_quiet limit o = quiet_run limit (InCsi o) is_body_byte (λ d b h. let p = body_byte b h in rw (p.0, p.1, p.2, inside, goes_on, noise) refl)
 
 body_alone : (ys : List ℕ) → list_all is_body_byte ys ≡ true → strip ys ≡ ys
 body_alone [] h = refl
@@ -54,19 +54,21 @@ two_first [] a b h p q = absurd (omega arith)
 two_first (x ∷ []) a b h p q = absurd (omega arith)
 two_first (x ∷ y ∷ r) a b h p q = ap (λ z. z ∷ y ∷ []) p ∙ ap (λ z. a ∷ z ∷ []) q
 
-csi_begins : (after_all Ground (0x1b ∷ 0x5b ∷ []) ≡ InCsi (Long []) []) × (news_all Ground (0x1b ∷ 0x5b ∷ []) ≡ [])
-csi_begins = rw (escape_class, csi_class) (refl, refl)
+csi_begins : (limit : Option ℕ) → (after_all Ground (0x1b ∷ 0x5b ∷ []) ≡ InCsi (Long []) []) × (news_all limit Ground (0x1b ∷ 0x5b ∷ []) ≡ [])
+csi_begins limit = rw (escape_class, csi_class) (refl, refl)
 
-osc_begins : (after_all Ground (0x1b ∷ 0x5d ∷ []) ≡ InOsc (Long []) []) × (news_all Ground (0x1b ∷ 0x5d ∷ []) ≡ [])
-osc_begins = rw (escape_class, osc_class) (refl, refl)
+osc_begins : (limit : Option ℕ) → (after_all Ground (0x1b ∷ 0x5d ∷ []) ≡ InOsc (Long []) []) × (news_all limit Ground (0x1b ∷ 0x5d ∷ []) ≡ [])
+osc_begins limit = rw (escape_class, osc_class) (refl, refl)
 
-pub csi_opens : (rest : List ℕ) → 2 ≤ length rest → get_or rest 0 0 ≡ 0x1b → get_or rest 1 0 ≡ 0x5b
-    → (after_all Ground (take 2 rest) ≡ InCsi (Long []) []) × (news_all Ground (take 2 rest) ≡ [])
-csi_opens rest h p q = let e = two_first rest 0x1b 0x5b h p q in (ap (after_all Ground) e ∙ csi_begins.0, ap (news_all Ground) e ∙ csi_begins.1)
+pub csi_opens : (limit : Option ℕ) (rest : List ℕ) → 2 ≤ length rest → get_or rest 0 0 ≡ 0x1b → get_or rest 1 0 ≡ 0x5b
+    → (after_all Ground (take 2 rest) ≡ InCsi (Long []) []) × (news_all limit Ground (take 2 rest) ≡ [])
+csi_opens limit rest h p q = let e = two_first rest 0x1b 0x5b h p q in
+    (ap (after_all Ground) e ∙ (csi_begins limit).0, ap (news_all limit Ground) e ∙ (csi_begins limit).1)
 
-pub osc_opens : (rest : List ℕ) → 2 ≤ length rest → get_or rest 0 0 ≡ 0x1b → get_or rest 1 0 ≡ 0x5d
-    → (after_all Ground (take 2 rest) ≡ InOsc (Long []) []) × (news_all Ground (take 2 rest) ≡ [])
-osc_opens rest h p q = let e = two_first rest 0x1b 0x5d h p q in (ap (after_all Ground) e ∙ osc_begins.0, ap (news_all Ground) e ∙ osc_begins.1)
+pub osc_opens : (limit : Option ℕ) (rest : List ℕ) → 2 ≤ length rest → get_or rest 0 0 ≡ 0x1b → get_or rest 1 0 ≡ 0x5d
+    → (after_all Ground (take 2 rest) ≡ InOsc (Long []) []) × (news_all limit Ground (take 2 rest) ≡ [])
+osc_opens limit rest h p q = let e = two_first rest 0x1b 0x5d h p q in
+    (ap (after_all Ground) e ∙ (osc_begins limit).0, ap (news_all limit Ground) e ∙ (osc_begins limit).1)
 
 -- ---- the final byte
 
@@ -74,8 +76,9 @@ final_byte : (b : ℕ) → 0x40 ≤ b → b ≤ 0x7e → (is_breaker (class_of b
 unfolding class_of
 final_byte b l h = (grind (arith, nat_tests), grind (arith, nat_tests))
 
-pub final_by : (o : Opener) (x : List ℕ) (b : ℕ) → 0x40 ≤ b → b ≤ 0x7e → inside (InCsi o x) b (class_of b) ≡ (Ground, csi_events (strip x) b)
-final_by o x b l h = let p = final_byte b l h in rw (p.0, p.1, goes_on) refl
+pub final_by : (limit : Option ℕ) (o : Opener) (x : List ℕ) (b : ℕ) → 0x40 ≤ b → b ≤ 0x7e
+    → inside limit (InCsi o x) b (class_of b) ≡ (Ground, csi_events (strip x) b)
+final_by limit o x b l h = let p = final_byte b l h in rw (p.0, p.1, goes_on) refl
 
 -- a run, and one in the slice after it
 pub run_joins : (rest : List ℕ) (i n : ℕ) → take i rest ++ take n (take (length rest - i) (drop i rest)) ≡ take (i + n) rest

@@ -1,5 +1,6 @@
 -- What the events of any stream can be.
-use Rattle.std.proofs.Common.{ℕ, ◌≡◌, ◌<◌, Bool, true, false, if◌then◌else◌, ◌&&◌, ◌||◌, List, [], ◌∷◌, ◌++◌, take, refl, sym, ap, ◌∙◌, subst, arith}
+use Rattle.std.proofs.Common.{ℕ, Option, length, ◌≡◌, ◌<◌, Bool, true, false, if◌then◌else◌, ◌&&◌, ◌||◌, List, [], ◌∷◌, ◌++◌, take, refl, sym, ap, ◌∙◌, subst}
+use Rattle.std.proofs.Common.{arith}
 use Rattle.std.proofs.lemmas.List.{append-nil}
 use Rattle.std.proofs.lemmas.Str.{encode_ascii}
 use Rattle.std.proofs.lemmas.Bool.Decides.{nat_tests}
@@ -12,19 +13,21 @@ use Rattle.esc_frame.specs.declared.classes.Class.TheVariants.{Plain, Bell, Inte
 use Rattle.esc_frame.specs.Classes.{class_of, AllOf, those, strip, is_text, is_plain, is_noise, is_intermediate, in_escape, is_control, is_raw_control, is_put}
 use Rattle.esc_frame.specs.Classes.{in_csi, in_body, ends_csi}
 use Rattle.esc_frame.specs.Bodies.{is_csi_body, is_dcs_header}
+use Rattle.esc_frame.specs.Limits.{is_within, is_read, header_count}
 use Rattle.esc_frame.specs.Events.{Event}
 use Rattle.esc_frame.specs.Events.Event.{Print, OscDispatch, DcsUnhook, ApcDispatch}
-use Rattle.esc_frame.specs.Segments.{Segment, Opener, Piece, HasShape, IsPiece, ArePieces, text_bytes, text_of, kept_of, events_of, executes, opener_events}
-use Rattle.esc_frame.specs.Segments.{ending_bytes, puts, csi_event, csi_events, hook_event}
+use Rattle.esc_frame.specs.Segments.{Segment, Opener, Piece, HasShape, IsPiece, ArePieces, text_bytes, text_of, kept_of, events_of_within, executes}
+use Rattle.esc_frame.specs.Segments.{opener_events}
+use Rattle.esc_frame.specs.Segments.{ending_bytes, puts, csi_event, csi_events, hook_event, osc_events, apc_events}
 use Rattle.esc_frame.specs.Segments.Segment.{Character, Wide, Broken, Stray, Control, HighControl, Terminator, Csi, Osc, Dcs, Apc, Ignored, CutDcs, CutEscape}
 use Rattle.esc_frame.specs.Segments.Segment.{CutCsi}
 use Rattle.esc_frame.specs.Segments.Segment.{Escape as EscapeOf}
 use Rattle.esc_frame.specs.Segments.Opener.{Long, Raw, Pair}
 use Rattle.esc_frame.specs.Segments.Piece.{One, Sequence, BrokenOff}
-use Rattle.esc_frame.specs.Leads.{Unfinished, AreFinished, OpenShape, finished_events, told_open}
+use Rattle.esc_frame.specs.Leads.{Unfinished, AreFinished, OpenShape, finished_events_within, told_open}
 use Rattle.esc_frame.specs.Leads.Unfinished.{Ground, Pending, InEscape, InCsi, InDcs, InData, InApc, InIgnored, InOsc, InOscPending}
 use Rattle.esc_frame.specs.Machine.Moves.{after_all}
-use Rattle.esc_frame.specs.Stream.{events}
+use Rattle.esc_frame.specs.Stream.{events_within}
 use Rattle.esc_frame.specs.Fits.{IsFit, AreFit}
 use Rattle.esc_frame.proofs.Cuts.{stands}
 use Rattle.std.proofs.lemmas.Bool.{and_parts, or_left, or_right}
@@ -150,58 +153,65 @@ fit_csi_if x f false e h k = tt
 fit_csi : (x : List ℕ) (f : ℕ) → AllOf in_body x → ends_csi (class_of f) ≡ true → AreFit (csi_events x f)
 fit_csi x f h k = fit_csi_if x f (is_csi_body x) refl h k
 
-fit_hook : (x d : List ℕ) (f : ℕ) (more : List Event) (t : Bool) → is_dcs_header x ≡ t → AllOf in_body x → ends_csi (class_of f) ≡ true → AreFit more
-    → AreFit (if t then (hook_event x f ∷ puts d) ++ more else [])
-fit_hook x d f more true e h k m = ((x, h, e, refl, k), fit_append (puts d) more (fit_puts d) m)
-fit_hook x d f more false e h k m = tt
+module _ (limit : Option ℕ) where
+  has_form : (x : List ℕ) → is_read limit x ≡ true → is_dcs_header x ≡ true
+  has_form x e = (and_parts (is_within limit (header_count x)) (is_dcs_header x) e).1
 
-fit_segment : (g : Segment) (r : List ℕ) (f : Bool) → HasShape g r → AreFit (events_of g f)
-fit_segment (Character b) r f h = ((text_is b h).0, tt)
-fit_segment (Wide x) r f h = ((spelled x h.0 h.1).0, tt)
-fit_segment (Broken x) r f h = maybe f (Print 0xfffd ∷ []) (refl, tt)
-fit_segment (Stray b) r f h = (refl, tt)
-fit_segment (Control b) r f h = (or_left (is_control (class_of b)) (is_raw_control (class_of b)) h, tt)
-fit_segment (HighControl p b) r f h = (or_right (is_control (class_of b)) (is_raw_control (class_of b)) h, tt)
-fit_segment (Terminator p b) r f h = tt
-fit_segment (EscapeOf x b) r f h =
-    fit_append (executes x) _ (fit_executes x) (let i = strip_intermediates x h.0 in ((take_intermediates (strip x) i, h.1, (strip x, i, refl, h.2)), tt))
-fit_segment (Csi o x b) r f h =
-    fit_append (opener_events o ++ executes x) _ (fit_append (opener_events o) (executes x) (fit_opener o) (fit_executes x))
-    (fit_csi (strip x) b (strip_body x h.1) h.2)
-fit_segment (Osc o ps e) r f h =
-    fit_append (opener_events o) _ (fit_opener o) (maybe f (OscDispatch (parts_of (text_of ps)) ∷ []) (fit_osc ps (ending_bytes e ++ r) h.1, tt))
-fit_segment (Dcs o x b d) r f h =
-    fit_append (opener_events o) _ (fit_opener o) (fit_hook (strip x) d b (if f then DcsUnhook ∷ [] else []) (is_dcs_header (strip x)) refl
-    (strip_body x h.1) h.2 (maybe f (DcsUnhook ∷ []) (tt, tt)))
-fit_segment (Apc o d) r f h = fit_append (opener_events o) _ (fit_opener o) (maybe f (ApcDispatch (those is_text d) ∷ []) (those_text d, tt))
-fit_segment (Ignored k o d) r f h = fit_opener o
-fit_segment (CutDcs o x) r f h = fit_opener o
-fit_segment (CutEscape x) r f h = fit_executes x
-fit_segment (CutCsi o x) r f h = fit_append (opener_events o) (executes x) (fit_opener o) (fit_executes x)
+  fit_hook : (x d : List ℕ) (f : ℕ) (more : List Event) (t : Bool) → is_read limit x ≡ t → AllOf in_body x → ends_csi (class_of f) ≡ true → AreFit more
+      → AreFit (if t then (hook_event x f ∷ puts d) ++ more else [])
+  fit_hook x d f more true e h k m = ((x, h, has_form x e, refl, k), fit_append (puts d) more (fit_puts d) m)
+  fit_hook x d f more false e h k m = tt
 
-fit_before : (gs : List Segment) (r : List ℕ) → AreFinished gs r → AreFit (finished_events gs)
-fit_before [] r h = tt
-fit_before (g ∷ gs) r h = fit_append (events_of g true) (finished_events gs) (fit_segment g _ true h.0) (fit_before gs r h.2)
+  fit_segment : (g : Segment) (r : List ℕ) (f : Bool) → HasShape g r → AreFit (events_of_within limit g f)
+  fit_segment (Character b) r f h = ((text_is b h).0, tt)
+  fit_segment (Wide x) r f h = ((spelled x h.0 h.1).0, tt)
+  fit_segment (Broken x) r f h = maybe f (Print 0xfffd ∷ []) (refl, tt)
+  fit_segment (Stray b) r f h = (refl, tt)
+  fit_segment (Control b) r f h = (or_left (is_control (class_of b)) (is_raw_control (class_of b)) h, tt)
+  fit_segment (HighControl p b) r f h = (or_right (is_control (class_of b)) (is_raw_control (class_of b)) h, tt)
+  fit_segment (Terminator p b) r f h = tt
+  fit_segment (EscapeOf x b) r f h =
+      fit_append (executes x) _ (fit_executes x) (let i = strip_intermediates x h.0 in ((take_intermediates (strip x) i, h.1, (strip x, i, refl, h.2)), tt))
+  fit_segment (Csi o x b) r f h =
+      fit_append (opener_events o ++ executes x) _ (fit_append (opener_events o) (executes x) (fit_opener o) (fit_executes x))
+      (fit_csi (strip x) b (strip_body x h.1) h.2)
+  fit_segment (Osc o ps e) r f h =
+      fit_append (opener_events o) _ (fit_opener o) (maybe f (osc_events limit (text_of ps)) (maybe (is_within limit (length (text_of ps)))
+      (OscDispatch (parts_of (text_of ps)) ∷ []) (fit_osc ps (ending_bytes e ++ r) h.1, tt)))
+  fit_segment (Dcs o x b d) r f h =
+      fit_append (opener_events o) _ (fit_opener o) (fit_hook (strip x) d b (if f then DcsUnhook ∷ [] else []) (is_read limit (strip x)) refl
+      (strip_body x h.1) h.2 (maybe f (DcsUnhook ∷ []) (tt, tt)))
+  fit_segment (Apc o d) r f h = fit_append (opener_events o) _ (fit_opener o) (maybe f (apc_events limit (those is_text d))
+      (maybe (is_within limit (length (those is_text d))) (ApcDispatch (those is_text d) ∷ []) (those_text d, tt)))
+  fit_segment (Ignored k o d) r f h = fit_opener o
+  fit_segment (CutDcs o x) r f h = fit_opener o
+  fit_segment (CutEscape x) r f h = fit_executes x
+  fit_segment (CutCsi o x) r f h = fit_append (opener_events o) (executes x) (fit_opener o) (fit_executes x)
 
-fit_data : (x d : List ℕ) (f : ℕ) (t : Bool) → is_dcs_header x ≡ t → AllOf in_body x → ends_csi (class_of f) ≡ true
-    → AreFit (if t then hook_event x f ∷ puts d else [])
-fit_data x d f true e h k = ((x, h, e, refl, k), fit_puts d)
-fit_data x d f false e h k = tt
+  fit_before : (gs : List Segment) (r : List ℕ) → AreFinished gs r → AreFit (finished_events_within limit gs)
+  fit_before [] r h = tt
+  fit_before (g ∷ gs) r h = fit_append (events_of_within limit g true) (finished_events_within limit gs) (fit_segment g _ true h.0) (fit_before gs r h.2)
 
-fit_open : (u : Unfinished) → OpenShape u → AreFit (told_open u)
-fit_open Ground h = tt
-fit_open (Pending f) h = tt
-fit_open (InEscape x) h = fit_executes x
-fit_open (InCsi o x) h = fit_append (opener_events o) (executes x) (fit_opener o) (fit_executes x)
-fit_open (InOsc o ps) h = fit_opener o
-fit_open (InOscPending o ps f) h = fit_opener o
-fit_open (InDcs o x) h = fit_opener o
-fit_open (InData o x f d) h = fit_append (opener_events o) _ (fit_opener o) (fit_data (strip x) d f (is_dcs_header (strip x)) refl (strip_body x h.1) h.2)
-fit_open (InApc o d) h = fit_opener o
-fit_open (InIgnored k o d) h = fit_opener o
+  fit_data : (x d : List ℕ) (f : ℕ) (t : Bool) → is_read limit x ≡ t → AllOf in_body x → ends_csi (class_of f) ≡ true
+      → AreFit (if t then hook_event x f ∷ puts d else [])
+  fit_data x d f true e h k = ((x, h, has_form x e, refl, k), fit_puts d)
+  fit_data x d f false e h k = tt
 
-pub events_fit : (s : List ℕ) → AreFit (events s)
-events_fit s =
-    let w = stands s in
+  fit_open : (u : Unfinished) → OpenShape u → AreFit (told_open limit u)
+  fit_open Ground h = tt
+  fit_open (Pending f) h = tt
+  fit_open (InEscape x) h = fit_executes x
+  fit_open (InCsi o x) h = fit_append (opener_events o) (executes x) (fit_opener o) (fit_executes x)
+  fit_open (InOsc o ps) h = fit_opener o
+  fit_open (InOscPending o ps f) h = fit_opener o
+  fit_open (InDcs o x) h = fit_opener o
+  fit_open (InData o x f d) h = fit_append (opener_events o) _ (fit_opener o) (fit_data (strip x) d f (is_read limit (strip x)) refl (strip_body x h.1) h.2)
+  fit_open (InApc o d) h = fit_opener o
+  fit_open (InIgnored k o d) h = fit_opener o
+
+pub events_fit : (limit : Option ℕ) (s : List ℕ) → AreFit (events_within limit s)
+events_fit limit s =
+    let w = stands limit s in
     let u = after_all Ground s in
-    subst AreFit (sym w.1.told) (fit_append (finished_events w.0) (told_open u) (fit_before w.0 _ w.1.finished) (fit_open u w.1.shape))
+    subst AreFit (sym w.1.told) (fit_append (finished_events_within limit w.0) (told_open limit u) (fit_before limit w.0 _ w.1.finished)
+    (fit_open limit u w.1.shape))

@@ -1,12 +1,12 @@
 -- Many bytes at once.
-use Rattle.std.proofs.Common.{ℕ, suc, ◌≡◌, ◌≢◌, ◌+◌, ◌<◌, ◌≤◌, Bool, true, false, cond, ◌&&◌, ◌||◌, List, [], ◌∷◌, ◌++◌, map, length, take, drop, get_or, refl}
+use Rattle.std.proofs.Common.{ℕ, suc, ◌≡◌, ◌≢◌, ◌+◌, ◌<◌, ◌≤◌, Bool, true, false, cond, ◌&&◌, ◌||◌, List, [], ◌∷◌, ◌++◌, map, length, take, drop, get_or}
+use Rattle.std.proofs.Common.{refl, Option, None, Result, Ok, Err}
 use Rattle.std.proofs.Common.{ap, sym, ◌∙◌, subst, take-append-drop, length-drop, length-take, append_assoc, ◌-◌, arith}
 use Rattle.std.specs.List.{FoldsTo, prefix_len, list_all}
 use Rattle.std.proofs.Math.Seq.{take-add}
-use Rattle.std.proofs.lemmas.List.{append-nil, take_more, take_all, map-append}
+use Rattle.std.proofs.lemmas.List.{append-nil, take_all}
 use Rattle.std.proofs.lemmas.Bool.{and_parts, or_left, or_right}
 use Rattle.std.proofs.lemmas.Bool.Decides.{nat_tests}
-use Rattle.esc_frame.specs.declared.classes.Class.{Class}
 use Rattle.esc_frame.specs.declared.classes.Class.TheVariants.{Lead}
 use Rattle.esc_frame.specs.Classes.{class_of, is_control, is_text}
 use Rattle.esc_frame.specs.Scans.{is_text_byte}
@@ -18,23 +18,12 @@ use Rattle.esc_frame.specs.Leads.{Unfinished, Holds}
 use Rattle.esc_frame.specs.Leads.Unfinished.{Ground, InOsc}
 use Rattle.esc_frame.specs.Segments.{Opener, Piece}
 use Rattle.esc_frame.specs.Segments.Piece.{Sequence}
-use Rattle.esc_frame.specs.Machine.Moves.{
-  move,
-  ground_move,
-  pending_move,
-  osc_pending_move,
-  inside,
-  goes_on,
-  after_by,
-  news_by,
-  after_all,
-  news_all,
-  may_grow_in,
-  may_grow_within,
-}
-use Rattle.esc_frame.specs.Machine.Calls.{Ran, TellsOne}
+use Rattle.esc_frame.specs.Machine.Moves.{move, ground_move, pending_move, osc_pending_move, inside, goes_on, after_by, news_by, after_all, news_all}
+use Rattle.esc_frame.specs.Machine.Moves.{may_grow_in, may_grow_within}
+use Rattle.esc_frame.specs.Machine.Calls.{Ran, Stays, TellsOne}
 use Rattle.esc_frame.specs.Machine.Characters.{IsCharacter}
-use Rattle.esc_frame.proofs.Given.{folds_then, stops_then, stops_more, stops_for, stops_here, refused_stops}
+use Rattle.esc_frame.proofs.Given.{folds_then, stops_then, stops_more, stops_for, refused_stops}
+use Rattle.esc_frame.proofs.SameMoves.{after_same}
 use Rattle.esc_frame.proofs.Streams.{after_append, news_append}
 
 -- ---- one run after another
@@ -60,21 +49,22 @@ pub grows_first : (u : Unfinished) (rest : List ℕ) → 0 < length rest → may
 grows_first u [] l h = absurd (omega arith)
 grows_first u (b ∷ bs) l h = or_left (may_grow_in u) (may_grow_within (after_by u b (class_of b)) bs) h
 
-module _ {S : Type 0} (takes refuses : S → Event → S → Type 0) (u : Unfinished) (rest : List ℕ) (i : ℕ) (old mid new : S)
-    (so : FoldsTo takes old (news_all u (take i rest)) mid) where
+module _ {S : Type 0} (limit : Option ℕ) (takes refuses : S → Event → S → Type 0) (u : Unfinished) (rest : List ℕ) (i : ℕ) (old mid new : S)
+    (so : FoldsTo takes old (news_all limit u (take i rest)) mid) where
   -- n bytes more
-  pub given_more : (n : ℕ) → FoldsTo takes mid (news_all (after_all u (take i rest)) (take n (drop i rest))) new
-      → FoldsTo takes old (news_all u (take (i + n) rest)) new
+  pub given_more : (n : ℕ) → FoldsTo takes mid (news_all limit (after_all u (take i rest)) (take n (drop i rest))) new
+      → FoldsTo takes old (news_all limit u (take (i + n) rest)) new
   given_more n h =
-      subst (λ es. FoldsTo takes old es new) (sym (ap (news_all u) (take-add i n rest) ∙ news_append u (take i rest) (take n (drop i rest))))
-      (folds_then takes (news_all u (take i rest)) _ old mid new so h)
+      subst (λ es. FoldsTo takes old es new) (sym (ap (news_all limit u) (take-add i n rest) ∙ news_append limit u (take i rest) (take n (drop i rest))))
+      (folds_then takes (news_all limit u (take i rest)) _ old mid new so h)
 
   -- stopped within the bytes after them
-  pub given_stop : (own : Type 0) → StopsAt own takes refuses mid (news_all (after_all u (take i rest)) (drop i rest)) new
-      → StopsAt own takes refuses old (news_all u rest) new
+  pub given_stop : (own : Type 0) → StopsAt own takes refuses mid (news_all limit (after_all u (take i rest)) (drop i rest)) new
+      → StopsAt own takes refuses old (news_all limit u rest) new
   given_stop own h =
-      subst (λ es. StopsAt own takes refuses old es new) (sym (news_append u (take i rest) (drop i rest)) ∙ ap (news_all u) (take-append-drop i rest))
-      (stops_then own takes refuses (news_all u (take i rest)) _ old mid new so h)
+      subst (λ es. StopsAt own takes refuses old es new) (sym (news_append limit u (take i rest) (drop i rest))
+      ∙ ap (news_all limit u) (take-append-drop i rest))
+      (stops_then own takes refuses (news_all limit u (take i rest)) _ old mid new so h)
 
 pub after_more : (u : Unfinished) (rest : List ℕ) (i n : ℕ) → after_all u (take (i + n) rest) ≡ after_all (after_all u (take i rest)) (take n (drop i rest))
 after_more u rest i n = ap (after_all u) (take-add i n rest) ∙ after_append u (take i rest) (take n (drop i rest))
@@ -86,37 +76,38 @@ tail_is rest i = take_all (length rest - i) (drop i rest) (omega (arith, length-
 pub tail_length : (rest : List ℕ) (i : ℕ) → length (take (length rest - i) (drop i rest)) ≡ length rest - i
 tail_length rest i = ap length (tail_is rest i) ∙ length-drop i rest
 
-module _ {S : Type 0} (takes refuses : S → Event → S → Type 0) (u v : Unfinished) (rest : List ℕ) (i : ℕ) (old mid new : S)
-    (here : after_all u (take i rest) ≡ v) (so : FoldsTo takes old (news_all u (take i rest)) mid) where
+module _ {S : Type 0} (limit : Option ℕ) (takes refuses : S → Event → S → Type 0) (u v : Unfinished) (rest : List ℕ) (i : ℕ) (old mid new : S)
+    (here : after_all u (take i rest) ≡ v) (so : FoldsTo takes old (news_all limit u (take i rest)) mid) where
   -- a call took n bytes of a slice to the end
   pub ran_more : (w : Unfinished) (n : ℕ)
-      → (after_all v (take n (take (length rest - i) (drop i rest))) ≡ w) × FoldsTo takes mid (news_all v (take n (take (length rest - i) (drop i rest)))) new
-      → (after_all u (take (i + n) rest) ≡ w) × FoldsTo takes old (news_all u (take (i + n) rest)) new
+      → (after_all v (take n (take (length rest - i) (drop i rest))) ≡ w)
+      × FoldsTo takes mid (news_all limit v (take n (take (length rest - i) (drop i rest)))) new
+      → (after_all u (take (i + n) rest) ≡ w) × FoldsTo takes old (news_all limit u (take (i + n) rest)) new
   ran_more w n (a, g) =
       let e : take n (take (length rest - i) (drop i rest)) ≡ take n (drop i rest) = ap (take n) (tail_is rest i) in (
         after_more u rest i n ∙ ap (λ x. after_all x (take n (drop i rest))) here ∙ ap (after_all v) (sym e) ∙ a,
-        given_more takes refuses u rest i old mid new so n (subst (λ x. FoldsTo takes mid (news_all x (take n (drop i rest))) new) (sym here)
-            (subst (λ y. FoldsTo takes mid (news_all v y) new) e g)),
+        given_more limit takes refuses u rest i old mid new so n (subst (λ x. FoldsTo takes mid (news_all limit x (take n (drop i rest))) new) (sym here)
+            (subst (λ y. FoldsTo takes mid (news_all limit v y) new) e g)),
       )
 
   pub ran_took : {A : Type 0} (machine : Machine A) (n : ℕ)
-      → Holds machine (after_all v (take n (take (length rest - i) (drop i rest)))) × FoldsTo takes mid
-      (news_all v (take n (take (length rest - i) (drop i rest)))) new
-      → Holds machine (after_all u (take (i + n) rest)) × FoldsTo takes old (news_all u (take (i + n) rest)) new
+      → Holds limit machine (after_all v (take n (take (length rest - i) (drop i rest)))) × FoldsTo takes mid
+      (news_all limit v (take n (take (length rest - i) (drop i rest)))) new
+      → Holds limit machine (after_all u (take (i + n) rest)) × FoldsTo takes old (news_all limit u (take (i + n) rest)) new
   ran_took machine n (h, f) =
-      let r = ran_more (after_all v (take n (take (length rest - i) (drop i rest)))) n (refl, f) in (subst (λ w. Holds machine w) (sym r.0) h, r.1)
+      let r = ran_more (after_all v (take n (take (length rest - i) (drop i rest)))) n (refl, f) in (subst (λ w. Holds limit machine w) (sym r.0) h, r.1)
 
   -- or stopped within it, by a refused call
-  pub ran_stop : (own : Type 0) → StopsAt own takes refuses mid (news_all v (take (length rest - i) (drop i rest))) new
-      → StopsAt own takes refuses old (news_all u rest) new
+  pub ran_stop : (own : Type 0) → StopsAt own takes refuses mid (news_all limit v (take (length rest - i) (drop i rest))) new
+      → StopsAt own takes refuses old (news_all limit u rest) new
   ran_stop own h =
-      given_stop takes refuses u rest i old mid new so own (subst (λ x. StopsAt own takes refuses mid (news_all x (drop i rest)) new) (sym here)
-      (subst (λ y. StopsAt own takes refuses mid (news_all v y) new) (tail_is rest i) h))
+      given_stop limit takes refuses u rest i old mid new so own (subst (λ x. StopsAt own takes refuses mid (news_all limit x (drop i rest)) new) (sym here)
+      (subst (λ y. StopsAt own takes refuses mid (news_all limit v y) new) (tail_is rest i) h))
 
   -- or by itself
   pub ran_ends : StopsAt (may_grow_within v (take (length rest - i) (drop i rest)) ≡ true) takes refuses mid
-      (news_all v (take (length rest - i) (drop i rest))) new
-      → StopsAt (may_grow_within u rest ≡ true) takes refuses old (news_all u rest) new
+      (news_all limit v (take (length rest - i) (drop i rest))) new
+      → StopsAt (may_grow_within u rest ≡ true) takes refuses old (news_all limit u rest) new
   ran_ends h =
       ran_stop (may_grow_within u rest ≡ true)
       (stops_for (may_grow_within v (take (length rest - i) (drop i rest)) ≡ true) (may_grow_within u rest ≡ true) takes refuses _ mid new
@@ -127,27 +118,50 @@ module _ {S : Type 0} (takes refuses : S → Event → S → Type 0) (is_ready :
   pub ran_again : (n : ℕ) (old mid new : S) → Ran takes is_ready rest i old mid
       → Ran takes is_ready (take (length rest - i) (drop i rest)) n mid new → Ran takes is_ready rest (i + n) old new
   ran_again n old mid new so h =
-      let r = ran_more takes refuses Ground Ground rest i old mid new so.1 so.2 Ground n (h.1, h.2) in
-      let l = tail_length rest i in (omega (arith, so.0, h.0), r.0, r.1, h.3)
+      let l = tail_length rest i in (
+        omega (arith, so.0, h.0),
+        (ran_more None takes refuses Ground Ground rest i old mid new so.1 (so.2 None) Ground n (h.1, h.2 None)).0,
+        λ limit. (ran_more limit takes refuses Ground Ground rest i old mid new so.1 (so.2 limit) Ground n (h.1, h.2 limit)).1,
+        h.3,
+      )
+
+  -- or none
+  pub ran_none : (n : ℕ) (old mid new : S) → n ≡ 0 → Ran takes is_ready rest i old mid
+      → Ran takes is_ready (take (length rest - i) (drop i rest)) n mid new → Ran takes is_ready rest i old new
+  ran_none n old mid new e so h =
+      let same : mid ≡ new = subst (λ k. FoldsTo takes mid (news_all None Ground (take k (take (length rest - i) (drop i rest)))) new) e (h.2 None) in
+      (so.0, so.1, λ limit. subst (λ x. FoldsTo takes old (news_all limit Ground (take i rest)) x) same (so.2 limit), h.3)
 
   pub ran_refused : {own : Type 0} (old mid new : S) → Ran takes is_ready rest i old mid
-      → StopsAt own takes refuses mid (news_all Ground (take (length rest - i) (drop i rest))) new → StopsAt own takes refuses old (news_all Ground rest) new
-  ran_refused {own} old mid new so h = ran_stop takes refuses Ground Ground rest i old mid new so.1 so.2 own h
+      → ((limit : Option ℕ) → StopsAt own takes refuses mid (news_all limit Ground (take (length rest - i) (drop i rest))) new)
+      → (limit : Option ℕ) → StopsAt own takes refuses old (news_all limit Ground rest) new
+  ran_refused {own} old mid new so h = λ limit. ran_stop limit takes refuses Ground Ground rest i old mid new so.1 (so.2 limit) own (h limit)
+
+-- a weaker reason to stop
+pub stays_for : {S E : Type 0} (own other : Bool) (takes refuses : S → Event → S → Type 0) (is_ready : S → Type 0) (result : Result ℕ E) (rest : List ℕ)
+    (old new : S) → (own ≡ true → other ≡ true) → Stays own takes refuses is_ready result rest old new → Stays other takes refuses is_ready result rest old new
+stays_for own other takes refuses is_ready (Ok n) rest old new w h = h
+stays_for own other takes refuses is_ready (Err e) rest old new w h = λ limit. stops_for (own ≡ true) (other ≡ true) takes refuses _ old new w (h limit)
 
 -- what stopped within a prefix stopped within the whole
-pub stop_within : {S : Type 0} (own : Type 0) (takes refuses : S → Event → S → Type 0) (u : Unfinished) (rest : List ℕ) (n : ℕ) (old new : S)
-    → StopsAt own takes refuses old (news_all u (take n rest)) new → StopsAt own takes refuses old (news_all u rest) new
-stop_within own takes refuses u rest n old new h =
-    subst (λ es. StopsAt own takes refuses old es new) (sym (news_append u (take n rest) (drop n rest)) ∙ ap (news_all u) (take-append-drop n rest))
-    (stops_more own takes refuses (news_all u (take n rest)) _ old new h)
+pub stop_within : {S : Type 0} (limit : Option ℕ) (own : Type 0) (takes refuses : S → Event → S → Type 0) (u : Unfinished) (rest : List ℕ) (n : ℕ) (old new : S)
+    → StopsAt own takes refuses old (news_all limit u (take n rest)) new → StopsAt own takes refuses old (news_all limit u rest) new
+stop_within limit own takes refuses u rest n old new h =
+    subst (λ es. StopsAt own takes refuses old es new) (sym (news_append limit u (take n rest) (drop n rest)) ∙ ap (news_all limit u) (take-append-drop n rest))
+    (stops_more own takes refuses (news_all limit u (take n rest)) _ old new h)
 
 -- bytes that the unfinished takes without a word
-pub quiet_run : (f : List ℕ → Unfinished) (p : ℕ → Bool) → ((d : List ℕ) (b : ℕ) → p b ≡ true → move (f d) b (class_of b) ≡ (f (d ++ b ∷ []), []))
-    → (d ys : List ℕ) → list_all p ys ≡ true → (after_all (f d) ys ≡ f (d ++ ys)) × (news_all (f d) ys ≡ [])
-quiet_run f p does d [] h = (ap f (sym (append-nil d)), refl)
-quiet_run f p does d (b ∷ ys) h =
+pub quiet_run : (limit : Option ℕ) (f : List ℕ → Unfinished) (p : ℕ → Bool)
+    → ((d : List ℕ) (b : ℕ) → p b ≡ true → move limit (f d) b (class_of b) ≡ (f (d ++ b ∷ []), []))
+    → (d ys : List ℕ) → list_all p ys ≡ true → (after_all (f d) ys ≡ f (d ++ ys)) × (news_all limit (f d) ys ≡ [])
+quiet_run limit f p does d [] h = (ap f (sym (append-nil d)), refl)
+quiet_run limit f p does d (b ∷ ys) h =
     let k = and_parts (p b) (list_all p ys) h in
-    let q = quiet_run f p does (d ++ b ∷ []) ys k.1 in rw (does d b k.0, after_by, news_by) (q.0 ∙ ap f (append_assoc d (b ∷ []) ys), q.1)
+    let q = quiet_run limit f p does (d ++ b ∷ []) ys k.1 in
+    let w : after_by (f d) b (class_of b) ≡ f (d ++ b ∷ []) = sym (after_same limit (f d) b (class_of b)) ∙ ap (λ m. m.0) (does d b k.0) in (
+      ap (λ v. after_all v ys) w ∙ q.0 ∙ ap f (append_assoc d (b ∷ []) ys),
+      ap (λ m. m.1 ++ news_all limit (after_by (f d) b (class_of b)) ys) (does d b k.0) ∙ ap (λ v. news_all limit v ys) w ∙ q.1,
+    )
 
 -- ---- text in ground
 
@@ -166,14 +180,15 @@ pub run_passes : (p : ℕ → Bool) (xs : List ℕ) → list_all p (take (prefix
 run_passes p [] = refl
 run_passes p (x ∷ xs) = passes_at p x xs (prefix_len p xs) (p x) refl (run_passes p xs)
 
-text_move : (b : ℕ) → is_text_byte b ≡ true → move Ground b (class_of b) ≡ (Ground, Print b ∷ [])
+text_move : (b : ℕ) → is_text_byte b ≡ true → ground_move b (class_of b) ≡ (Ground, Print b ∷ [])
 text_move b h = rw (text_class b h, ground_move) refl
 
-pub text_run : (xs : List ℕ) → list_all is_text_byte xs ≡ true → (after_all Ground xs ≡ Ground) × (news_all Ground xs ≡ map Print xs)
-text_run [] h = (refl, refl)
-text_run (x ∷ xs) h =
+pub text_run : (limit : Option ℕ) (xs : List ℕ) → list_all is_text_byte xs ≡ true
+    → (after_all Ground xs ≡ Ground) × (news_all limit Ground xs ≡ map Print xs)
+text_run limit [] h = (refl, refl)
+text_run limit (x ∷ xs) h =
     let k = and_parts (is_text_byte x) (list_all is_text_byte xs) h in
-    let q = text_run xs k.1 in rw (text_move x k.0, after_by, news_by) (q.0, ap (λ es. Print x ∷ es) q.1)
+    let q = text_run limit xs k.1 in rw (text_move x k.0, after_by, news_by, move) (q.0, ap (λ es. Print x ∷ es) q.1)
 
 -- ---- a whole sequence in ground
 
@@ -231,16 +246,17 @@ four_parts a b c d h =
     (lower a 0xf0 0xf4 k.0 (omega arith) (omega arith), rw no refl, rw (on, k.1) refl, rw off refl, rw (k.0, k.1, k.2) refl)
 
 prints_two : (a b : ℕ) → is_sequence (a ∷ b ∷ []) ≡ true → is_pair (a ∷ b ∷ []) ≡ false → TellsOne (a ∷ b ∷ []) (Print (number_of (a ∷ b ∷ [])))
-prints_two a b s p = rw (lead_class a (two_parts a b s), s, p, after_by, news_by, move, pending_move, outcome) (refl, refl)
+prints_two a b s p = rw (lead_class a (two_parts a b s), s, p, after_by, news_by, move, pending_move, outcome) (refl, λ limit. refl)
 
 prints_three : (a b c : ℕ) → is_sequence (a ∷ b ∷ c ∷ []) ≡ true → is_pair (a ∷ b ∷ c ∷ []) ≡ false
     → TellsOne (a ∷ b ∷ c ∷ []) (Print (number_of (a ∷ b ∷ c ∷ [])))
-prints_three a b c s p = let t = three_parts a b c s in rw (lead_class a t.0, t.1, t.2, s, p, after_by, news_by, move, pending_move, outcome) (refl, refl)
+prints_three a b c s p = let t = three_parts a b c s in rw (lead_class a t.0, t.1, t.2, s, p, after_by, news_by, move, pending_move, outcome)
+    (refl, λ limit. refl)
 
 prints_four : (a b c d : ℕ) → is_sequence (a ∷ b ∷ c ∷ d ∷ []) ≡ true → is_pair (a ∷ b ∷ c ∷ d ∷ []) ≡ false
     → TellsOne (a ∷ b ∷ c ∷ d ∷ []) (Print (number_of (a ∷ b ∷ c ∷ d ∷ [])))
 prints_four a b c d s p = let t = four_parts a b c d s
-    in rw (lead_class a t.0, t.1, t.2, t.3, t.4, s, p, after_by, news_by, move, pending_move, outcome) (refl, refl)
+    in rw (lead_class a t.0, t.1, t.2, t.3, t.4, s, p, after_by, news_by, move, pending_move, outcome) (refl, λ limit. refl)
 
 sequence_prints : (x : List ℕ) → is_sequence x ≡ true → is_pair x ≡ false → TellsOne x (Print (number_of x))
 unfolding is_sequence
@@ -252,65 +268,49 @@ sequence_prints (a ∷ b ∷ d ∷ e ∷ []) s p = prints_four a b d e s p
 sequence_prints (a ∷ b ∷ d ∷ e ∷ f ∷ x) s p = none s
 
 pub character_does : (x : List ℕ) (c : ℕ) → IsCharacter x c → TellsOne x (Print c)
-character_does x c (s, p, k) = let q = sequence_prints x s p in (q.0, q.1 ∙ ap (λ n. Print n ∷ []) (sym k))
+character_does x c (s, p, k) = let q = sequence_prints x s p in (q.0, λ limit. q.1 limit ∙ ap (λ n. Print n ∷ []) (sym k))
 
 -- ---- a whole sequence in an OSC
 
-osc_two : (o : Opener) (ps : List Piece) (a b : ℕ) → is_sequence (a ∷ b ∷ []) ≡ true → is_pair (a ∷ b ∷ []) ≡ false
-    → (after_all (InOsc o ps) (a ∷ b ∷ []) ≡ InOsc o (ps ++ Sequence (a ∷ b ∷ []) ∷ [])) × (news_all (InOsc o ps) (a ∷ b ∷ []) ≡ [])
-osc_two o ps a b s p = rw (lead_class a (two_parts a b s), s, p, after_by, news_by, move, inside, goes_on, osc_pending_move, outcome) (refl, refl)
+osc_two : (limit : Option ℕ) (o : Opener) (ps : List Piece) (a b : ℕ) → is_sequence (a ∷ b ∷ []) ≡ true → is_pair (a ∷ b ∷ []) ≡ false
+    → (after_all (InOsc o ps) (a ∷ b ∷ []) ≡ InOsc o (ps ++ Sequence (a ∷ b ∷ []) ∷ [])) × (news_all limit (InOsc o ps) (a ∷ b ∷ []) ≡ [])
+osc_two limit o ps a b s p = rw (lead_class a (two_parts a b s), s, p, after_by, news_by, move, inside, goes_on, osc_pending_move, outcome) (refl, refl)
 
-osc_three : (o : Opener) (ps : List Piece) (a b c : ℕ) → is_sequence (a ∷ b ∷ c ∷ []) ≡ true → is_pair (a ∷ b ∷ c ∷ []) ≡ false
-    → (after_all (InOsc o ps) (a ∷ b ∷ c ∷ []) ≡ InOsc o (ps ++ Sequence (a ∷ b ∷ c ∷ []) ∷ [])) × (news_all (InOsc o ps) (a ∷ b ∷ c ∷ []) ≡ [])
-osc_three o ps a b c s p = let t = three_parts a b c s
+osc_three : (limit : Option ℕ) (o : Opener) (ps : List Piece) (a b c : ℕ) → is_sequence (a ∷ b ∷ c ∷ []) ≡ true → is_pair (a ∷ b ∷ c ∷ []) ≡ false
+    → (after_all (InOsc o ps) (a ∷ b ∷ c ∷ []) ≡ InOsc o (ps ++ Sequence (a ∷ b ∷ c ∷ []) ∷ [])) × (news_all limit (InOsc o ps) (a ∷ b ∷ c ∷ []) ≡ [])
+osc_three limit o ps a b c s p = let t = three_parts a b c s
     in rw (lead_class a t.0, t.1, t.2, s, p, after_by, news_by, move, inside, goes_on, osc_pending_move, outcome) (refl, refl)
 
-osc_four : (o : Opener) (ps : List Piece) (a b c d : ℕ) → is_sequence (a ∷ b ∷ c ∷ d ∷ []) ≡ true → is_pair (a ∷ b ∷ c ∷ d ∷ []) ≡ false
-    → (after_all (InOsc o ps) (a ∷ b ∷ c ∷ d ∷ []) ≡ InOsc o (ps ++ Sequence (a ∷ b ∷ c ∷ d ∷ []) ∷ [])) × (news_all (InOsc o ps) (a ∷ b ∷ c ∷ d ∷ []) ≡ [])
-osc_four o ps a b c d s p = let t = four_parts a b c d s
+osc_four : (limit : Option ℕ) (o : Opener) (ps : List Piece) (a b c d : ℕ) → is_sequence (a ∷ b ∷ c ∷ d ∷ []) ≡ true → is_pair (a ∷ b ∷ c ∷ d ∷ []) ≡ false
+    → (after_all (InOsc o ps) (a ∷ b ∷ c ∷ d ∷ []) ≡ InOsc o (ps ++ Sequence (a ∷ b ∷ c ∷ d ∷ []) ∷ []))
+    × (news_all limit (InOsc o ps) (a ∷ b ∷ c ∷ d ∷ []) ≡ [])
+osc_four limit o ps a b c d s p = let t = four_parts a b c d s
     in rw (lead_class a t.0, t.1, t.2, t.3, t.4, s, p, after_by, news_by, move, inside, goes_on, osc_pending_move, outcome) (refl, refl)
 
-pub osc_sequence : (o : Opener) (ps : List Piece) (x : List ℕ) → is_sequence x ≡ true → is_pair x ≡ false
-    → (after_all (InOsc o ps) x ≡ InOsc o (ps ++ Sequence x ∷ [])) × (news_all (InOsc o ps) x ≡ [])
+pub osc_sequence : (limit : Option ℕ) (o : Opener) (ps : List Piece) (x : List ℕ) → is_sequence x ≡ true → is_pair x ≡ false
+    → (after_all (InOsc o ps) x ≡ InOsc o (ps ++ Sequence x ∷ [])) × (news_all limit (InOsc o ps) x ≡ [])
 unfolding is_sequence
-osc_sequence o ps [] s p = none s
-osc_sequence o ps (a ∷ []) s p = none s
-osc_sequence o ps (a ∷ b ∷ []) s p = osc_two o ps a b s p
-osc_sequence o ps (a ∷ b ∷ d ∷ []) s p = osc_three o ps a b d s p
-osc_sequence o ps (a ∷ b ∷ d ∷ e ∷ []) s p = osc_four o ps a b d e s p
-osc_sequence o ps (a ∷ b ∷ d ∷ e ∷ f ∷ x) s p = none s
+osc_sequence limit o ps [] s p = none s
+osc_sequence limit o ps (a ∷ []) s p = none s
+osc_sequence limit o ps (a ∷ b ∷ []) s p = osc_two limit o ps a b s p
+osc_sequence limit o ps (a ∷ b ∷ d ∷ []) s p = osc_three limit o ps a b d s p
+osc_sequence limit o ps (a ∷ b ∷ d ∷ e ∷ []) s p = osc_four limit o ps a b d e s p
+osc_sequence limit o ps (a ∷ b ∷ d ∷ e ∷ f ∷ x) s p = none s
 
 -- ---- what the actor is given of them
 
-module _ {S : Type 0} (takes refuses : S → Event → S → Type 0) (xs : List ℕ) (i : ℕ) (h : i < length xs) (old mid new : S)
-    (so : FoldsTo takes old (map Print (take i xs)) mid) where
-  next : map Print (take (i + 1) xs) ≡ map Print (take i xs) ++ Print (get_or xs i 0) ∷ []
-  next = ap (map Print) (take_more xs i 0 h) ∙ map-append Print (take i xs) (get_or xs i 0 ∷ [])
-
-  pub print_next : takes mid (Print (get_or xs i 0)) new → FoldsTo takes old (map Print (take (i + 1) xs)) new
-  print_next g =
-      subst (λ es. FoldsTo takes old es new) (sym next) (folds_then takes (map Print (take i xs)) (Print (get_or xs i 0) ∷ []) old mid new so (new, g, refl))
-
-  pub print_stop : (own : Type 0) → refuses mid (Print (get_or xs i 0)) new → StopsAt own takes refuses old (map Print xs) new
-  print_stop own r =
-      let all : map Print (take (i + 1) xs) ++ map Print (drop (i + 1) xs) ≡ map Print xs = sym (map-append Print (take (i + 1) xs) (drop (i + 1) xs)) ∙ ap
-      (map Print) (take-append-drop (i + 1) xs) in
-      let front : StopsAt own takes refuses old (map Print (take (i + 1) xs)) new = subst (λ es. StopsAt own takes refuses old es new) (sym next)
-      (stops_then own takes refuses (map Print (take i xs)) _ old mid new so (refused_stops own takes refuses mid new (Print (get_or xs i 0)) r)) in
-      subst (λ es. StopsAt own takes refuses old es new) all (stops_more own takes refuses (map Print (take (i + 1) xs)) _ old new front)
-
 module _ {S : Type 0} (takes refuses : S → Event → S → Type 0) (rest : List ℕ) (n : ℕ) (old new : S) where
   pub text_given : n ≡ prefix_len is_text_byte rest → FoldsTo takes old (map Print (take n rest)) new
-      → (after_all Ground (take n rest) ≡ Ground) × FoldsTo takes old (news_all Ground (take n rest)) new
+      → (after_all Ground (take n rest) ≡ Ground) × ((limit : Option ℕ) → FoldsTo takes old (news_all limit Ground (take n rest)) new)
   text_given e f =
       let p : list_all is_text_byte (take n rest) ≡ true = subst (λ k. list_all is_text_byte (take k rest) ≡ true) (sym e) (run_passes is_text_byte rest) in
-      let q = text_run (take n rest) p in (q.0, subst (λ es. FoldsTo takes old es new) (sym q.1) f)
+      ((text_run None (take n rest) p).0, λ limit. subst (λ es. FoldsTo takes old es new) (sym (text_run limit (take n rest) p).1) f)
 
   pub text_stops : (own : Type 0) → n ≡ prefix_len is_text_byte rest → StopsAt own takes refuses old (map Print (take n rest)) new
-      → StopsAt own takes refuses old (news_all Ground rest) new
-  text_stops own e f =
+      → (limit : Option ℕ) → StopsAt own takes refuses old (news_all limit Ground rest) new
+  text_stops own e f = λ limit.
       let p : list_all is_text_byte (take n rest) ≡ true = subst (λ k. list_all is_text_byte (take k rest) ≡ true) (sym e) (run_passes is_text_byte rest) in
-      stop_within own takes refuses Ground rest n old new (subst (λ es. StopsAt own takes refuses old es new) (sym (text_run (take n rest) p).1) f)
+      stop_within limit own takes refuses Ground rest n old new (subst (λ es. StopsAt own takes refuses old es new) (sym (text_run limit (take n rest) p).1) f)
 
 -- a run that begins with a byte of text is not empty
 pub some_run : (rest : List ℕ) → 0 < length rest → 0x20 ≤ get_or rest 0 0 → get_or rest 0 0 < 0x80 → 0 < length (take (prefix_len is_text_byte rest) rest)
@@ -327,7 +327,7 @@ some_run (x ∷ rest) l low high =
 pub one_text : (rest : List ℕ) → 0 < length rest → is_text_byte (get_or rest 0 0) ≡ true
     → TellsOne (take 1 rest) (Print (get_or rest 0 0))
 one_text [] l h = absurd (omega arith)
-one_text (x ∷ rest) l h = let p : list_all is_text_byte (x ∷ []) ≡ true = rw h refl in text_run (x ∷ []) p
+one_text (x ∷ rest) l h = let p : list_all is_text_byte (x ∷ []) ≡ true = rw h refl in ((text_run None (x ∷ []) p).0, λ limit. (text_run limit (x ∷ []) p).1)
 
 -- one control
 control_class : (b : ℕ) → b < 0x20 → b ≢ 0x1b → (is_text (class_of b) ≡ false) × (is_control (class_of b) ≡ true)
@@ -337,58 +337,14 @@ control_class b low other = (grind (arith, nat_tests), grind (arith, nat_tests))
 pub one_control : (rest : List ℕ) → 0 < length rest → get_or rest 0 0 < 0x20 → get_or rest 0 0 ≢ 0x1b
     → TellsOne (take 1 rest) (Execute (get_or rest 0 0))
 one_control [] l low other = absurd (omega arith)
-one_control (b ∷ rest) l low other = let k = control_class b low other in rw (k.0, k.1, after_by, news_by, ground_move) (refl, refl)
+one_control (b ∷ rest) l low other = let k = control_class b low other in rw (k.0, k.1, after_by, news_by, ground_move) (refl, λ limit. refl)
 
 -- bytes that tell one event
 module _ {S : Type 0} (takes refuses : S → Event → S → Type 0) (rest : List ℕ) (n : ℕ) (e : Event) (old new : S) (one : TellsOne (take n rest) e) where
-  pub event_given : takes old e new → FoldsTo takes old (news_all Ground (take n rest)) new
-  event_given g = subst (λ es. FoldsTo takes old es new) (sym one.1) (new, g, refl)
+  pub event_given : takes old e new → (limit : Option ℕ) → FoldsTo takes old (news_all limit Ground (take n rest)) new
+  event_given g = λ limit. subst (λ es. FoldsTo takes old es new) (sym (one.1 limit)) (new, g, refl)
 
-  pub event_stops : (own : Type 0) → refuses old e new → StopsAt own takes refuses old (news_all Ground rest) new
-  event_stops own r =
-      stop_within own takes refuses Ground rest n old new (subst (λ es. StopsAt own takes refuses old es new) (sym one.1)
+  pub event_stops : (own : Type 0) → refuses old e new → (limit : Option ℕ) → StopsAt own takes refuses old (news_all limit Ground rest) new
+  event_stops own r = λ limit.
+      stop_within limit own takes refuses Ground rest n old new (subst (λ es. StopsAt own takes refuses old es new) (sym (one.1 limit))
       (refused_stops own takes refuses old new e r))
-
--- no events leave the actor as it was
-pub quiet_folds : {S : Type 0} (takes : S → Event → S → Type 0) (es : List Event) (old : S) → es ≡ [] → FoldsTo takes old es old
-quiet_folds takes es old e = subst (λ xs. FoldsTo takes old xs old) (sym e) refl
-
--- ---- a run that tells nothing, and the byte after it
-
-module _ {S : Type 0} (takes refuses : S → Event → S → Type 0) (u v : Unfinished) (rest : List ℕ) (n : ℕ) (c : Class) (old new : S)
-    (run : (after_all u (take n rest) ≡ v) × (news_all u (take n rest) ≡ []))
-    (room : n < length rest) (e : c ≡ class_of (get_or rest n 0)) where
-  pub quiet_after : after_all u (take (n + 1) rest) ≡ after_by v (get_or rest n 0) c
-  quiet_after =
-      ap (after_all u) (take_more rest n 0 room) ∙ after_append u (take n rest) (get_or rest n 0 ∷ [])
-      ∙ ap (λ w. after_by w (get_or rest n 0) (class_of (get_or rest n 0))) run.0 ∙ ap (after_by v (get_or rest n 0)) (sym e)
-
-  quiet_news : news_all u (take (n + 1) rest) ≡ news_by v (get_or rest n 0) c
-  quiet_news =
-      ap (news_all u) (take_more rest n 0 room) ∙ news_append u (take n rest) (get_or rest n 0 ∷ [])
-      ∙ ap (λ es. es ++ news_all (after_all u (take n rest)) (get_or rest n 0 ∷ [])) run.1 ∙ ap (λ w. news_all w (get_or rest n 0 ∷ [])) run.0
-      ∙ append-nil (news_by v (get_or rest n 0) (class_of (get_or rest n 0))) ∙ ap (news_by v (get_or rest n 0)) (sym e)
-
-  quiet_grows : may_grow_in v ≡ true → may_grow_within u rest ≡ true
-  quiet_grows h =
-      let some : 0 < length (drop n rest) = omega (arith, length-drop n rest) in
-      grows_behind u rest n (ap (λ x. may_grow_within x (drop n rest)) run.0 ∙ grows_first v (drop n rest) some h)
-
-  pub quiet_given : FoldsTo takes old (news_by v (get_or rest n 0) c) new → FoldsTo takes old (news_all u (take (n + 1) rest)) new
-  quiet_given h = subst (λ es. FoldsTo takes old es new) (sym quiet_news) h
-
-  pub quiet_took : {A : Type 0} (machine : Machine A) → Holds machine (after_by v (get_or rest n 0) c) × FoldsTo takes old (news_by v (get_or rest n 0) c) new
-      → Holds machine (after_all u (take (n + 1) rest)) × FoldsTo takes old (news_all u (take (n + 1) rest)) new
-  quiet_took machine h = (subst (λ w. Holds machine w) (sym quiet_after) h.0, quiet_given h.1)
-
-  pub quiet_stops : StopsAt (may_grow_in v ≡ true) takes refuses old (news_by v (get_or rest n 0) c) new
-      → StopsAt (may_grow_within u rest ≡ true) takes refuses old (news_all u rest) new
-  quiet_stops h =
-      stop_within (may_grow_within u rest ≡ true) takes refuses u rest (n + 1) old new
-      (subst (λ es. StopsAt (may_grow_within u rest ≡ true) takes refuses old es new) (sym quiet_news)
-      (stops_for (may_grow_in v ≡ true) (may_grow_within u rest ≡ true) takes refuses _ old new quiet_grows h))
-
--- the machine stopped by itself, where it may
-pub own_stops : {S : Type 0} (takes refuses : S → Event → S → Type 0) (u : Unfinished) (rest : List ℕ) (old : S) → 0 < length rest → may_grow_in u ≡ true
-    → StopsAt (may_grow_within u rest ≡ true) takes refuses old (news_all u rest) old
-own_stops takes refuses u rest old some h = stops_here (may_grow_within u rest ≡ true) takes refuses (news_all u rest) old (grows_first u rest some h)

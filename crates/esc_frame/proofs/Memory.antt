@@ -1,5 +1,6 @@
 -- Which streams may make a parser's memory grow: those whose cut holds such a segment, and all that begin with one of them.
-use Rattle.std.proofs.Common.{ℕ, ◌≡◌, Bool, true, false, if◌then◌else◌, List, [], ◌∷◌, ◌++◌, refl, ap, sym, ◌∙◌, subst, append_assoc, ◌⊎◌, inl, inr}
+use Rattle.std.proofs.Common.{ℕ, Option, None, ◌≡◌, Bool, true, false, if◌then◌else◌, List, [], ◌∷◌, ◌++◌, refl, ap, sym, ◌∙◌, subst, append_assoc, ◌⊎◌, inl}
+use Rattle.std.proofs.Common.{inr}
 use Rattle.std.specs.List.{list_any}
 use Rattle.std.proofs.lemmas.List.{append-nil}
 use Rattle.std.proofs.lemmas.Bool.{or_cases, or_left, or_right}
@@ -144,7 +145,7 @@ last_grows [] g h = or_left (may_grow g) false h
 last_grows (k ∷ gs) g h = or_right (may_grow k) (list_any may_grow (gs ++ g ∷ [])) (last_grows gs g h)
 
 -- where a byte may make the machine's memory grow, the unfinished segment is such a one
-open_grows : (s : List ℕ) (es : List Event) (gs : List Segment) (u : Unfinished) → Stands s es gs u → may_grow_in u ≡ true → MayGrow s
+open_grows : {limit : Option ℕ} (s : List ℕ) (es : List Event) (gs : List Segment) (u : Unfinished) → Stands limit s es gs u → may_grow_in u ≡ true → MayGrow s
 open_grows s es gs Ground st h = absurd cc
 open_grows s es gs (Pending f) st h = absurd cc
 open_grows s es gs (InEscape x) st h = absurd cc
@@ -156,7 +157,7 @@ grows_added s [] h = absurd cc
 grows_added s (c ∷ b) h =
     let u = after_all Ground s in
     elim (or_cases (may_grow_in u) (may_grow_within (after_by u c (class_of c)) b) h) [
-      | inl e ↦ let w = stands s in more_grows s (c ∷ b) (open_grows s (events s) w.0 u w.1 e)
+      | inl e ↦ let w = stands None s in more_grows s (c ∷ b) (open_grows s (events s) w.0 u w.1 e)
       | inr e ↦ subst MayGrow (append_assoc s (c ∷ []) b) (grows_added (s ++ c ∷ []) b (ap (λ v. may_grow_within v b) (after_append Ground s (c ∷ [])) ∙ e))
     ]
 

@@ -1,10 +1,11 @@
 -- A stream has one cut: its first segment is determined by its bytes.
-use Rattle.std.proofs.Common.{ℕ, ◌≡◌, true, false, List, [], ◌∷◌, ◌++◌, refl, ap, sym, ◌∙◌, subst, append_assoc, ◌⊎◌, inl, inr}
+use Rattle.std.proofs.Common.{ℕ, ◌≡◌, true, false, List, [], ◌∷◌, ◌++◌, refl, ap, sym, ◌∙◌, subst, append_assoc, ◌⊎◌, inl, inr, Option}
 use Rattle.std.proofs.lemmas.List.{append_cancel_left}
 use Rattle.esc_frame.specs.declared.classes.Kind.{Kind}
 use Rattle.esc_frame.specs.declared.classes.Kind.TheVariants as kind
 use Rattle.esc_frame.specs.Events.{Event}
-use Rattle.esc_frame.specs.Segments.{Segment, Opener, Piece, Ending, HasShape, AreSegments, IsCut, HasEvents, events_of_cut, joined, bytes_of, text_bytes}
+use Rattle.esc_frame.specs.Segments.{Segment, Opener, Piece, Ending, HasShape, AreSegments, IsCut, HasEventsWithin, events_of_cut_within, joined, bytes_of}
+use Rattle.esc_frame.specs.Segments.{text_bytes}
 use Rattle.esc_frame.specs.Segments.{ending_bytes, is_finished, opener}
 use Rattle.esc_frame.specs.Segments.Segment.{Wide, Broken, HighControl, Terminator, CutCsi, CutDcs, Csi, Osc, Dcs, Apc}
 use Rattle.esc_frame.specs.Segments.Segment.{Ignored}
@@ -116,5 +117,5 @@ pub one_cut : (s : List ℕ) (gs hs : List Segment) → IsCut s gs → IsCut s h
 one_cut s gs hs a b = one_list gs hs a.each b.each (sym a.whole ∙ b.whole)
 
 -- a stream tells one list of events
-pub events_once : (s : List ℕ) (xs ys : List Event) → HasEvents s xs → HasEvents s ys → xs ≡ ys
-events_once s xs ys (gs, a, p) (hs, b, q) = p ∙ ap events_of_cut (one_cut s gs hs a b) ∙ sym q
+pub events_once : (limit : Option ℕ) (s : List ℕ) (xs ys : List Event) → HasEventsWithin limit s xs → HasEventsWithin limit s ys → xs ≡ ys
+events_once limit s xs ys (gs, a, p) (hs, b, q) = p ∙ ap (events_of_cut_within limit) (one_cut s gs hs a b) ∙ sym q

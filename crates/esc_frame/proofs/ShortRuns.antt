@@ -1,5 +1,6 @@
 -- Control sequences that stand whole in some bytes, and are short.
 use Rattle.std.proofs.Common.{ℕ, ◌≡◌, ◌+◌, ◌-◌, ◌<◌, ◌≤◌, true, false, List, [], ◌∷◌, ◌++◌, length, take, drop, get_or, refl, ap, sym, ◌∙◌, subst, arith}
+use Rattle.std.proofs.Common.{Option}
 use Rattle.std.specs.List.{FoldsTo, list_all}
 use Rattle.std.proofs.Math.Seq.{take-add}
 use Rattle.std.proofs.lemmas.Bool.Decides.{nat_tests}
@@ -15,25 +16,26 @@ use Rattle.esc_frame.specs.Segments.{csi_events}
 use Rattle.esc_frame.specs.Segments.Opener.{Long}
 use Rattle.esc_frame.specs.Machine.Shorts.{IsShort}
 use Rattle.esc_frame.proofs.CsiRuns.{csi_opens, body_quiet, body_strip, final_by}
-use Rattle.esc_frame.proofs.ManyBytes.{after_more, quiet_after, quiet_given, quiet_stops, tail_is}
+use Rattle.esc_frame.proofs.ManyBytes.{after_more, tail_is}
+use Rattle.esc_frame.proofs.QuietRuns.{quiet_after, quiet_given, quiet_stops}
 use Rattle.esc_frame.proofs.Given.{refused_stops}
 use Rattle.esc_frame.proofs.Streams.{news_append}
 use Rattle.esc_frame.proofs.Still.{opened_still, body_still}
 
-module _ (rest : List ℕ) (run : ℕ) (items : List CsiParam) (some : 2 < length rest) (e : get_or rest 0 0 ≡ 0x1b) (b : get_or rest 1 0 ≡ 0x5b)
+module _ (limit : Option ℕ) (rest : List ℕ) (run : ℕ) (items : List CsiParam) (some : 2 < length rest) (e : get_or rest 0 0 ≡ 0x1b) (b : get_or rest 1 0 ≡ 0x5b)
     (room : run + 2 < length rest) (read : IsShort items (take run (drop 2 rest))) (final : is_from 0x40 0x7e (get_or rest (run + 2) 0) ≡ true) where
   abbrev body : List ℕ
   body = take run (drop 2 rest)
 
   -- the opener and the body
-  short_run : (after_all Ground (take (run + 2) rest) ≡ InCsi (Long []) body) × (news_all Ground (take (run + 2) rest) ≡ [])
+  short_run : (after_all Ground (take (run + 2) rest) ≡ InCsi (Long []) body) × (news_all limit Ground (take (run + 2) rest) ≡ [])
   short_run =
-      let begin = csi_opens rest (omega arith) e b in
-      let q = body_quiet (Long []) [] body read.body in
+      let begin = csi_opens limit rest (omega arith) e b in
+      let q = body_quiet limit (Long []) [] body read.body in
       let back : run + 2 ≡ 2 + run = omega arith in (
         ap (λ n. after_all Ground (take n rest)) back ∙ after_more Ground rest 2 run ∙ ap (λ u. after_all u body) begin.0 ∙ q.0,
-        ap (λ n. news_all Ground (take n rest)) back ∙ ap (news_all Ground) (take-add 2 run rest) ∙ news_append Ground (take 2 rest) body ∙ ap
-            (λ es. es ++ news_all (after_all Ground (take 2 rest)) body) begin.1 ∙ ap (λ u. news_all u body) begin.0 ∙ q.1,
+        ap (λ n. news_all limit Ground (take n rest)) back ∙ ap (news_all limit Ground) (take-add 2 run rest) ∙ news_append limit Ground (take 2 rest) body ∙ ap
+            (λ es. es ++ news_all limit (after_all Ground (take 2 rest)) body) begin.1 ∙ ap (λ u. news_all limit u body) begin.0 ∙ q.1,
       )
 
   low : 0x40 ≤ get_or rest (run + 2) 0
@@ -48,33 +50,33 @@ module _ (rest : List ℕ) (run : ℕ) (items : List CsiParam) (some : 2 < lengt
   pub short_after : after_all Ground (take (run + 3) rest) ≡ Ground
   short_after =
       ap (λ n. after_all Ground (take n rest)) three
-      ∙ quiet_after {S = Unit {0}} (λ _ _ _. Unit {0}) (λ _ _ _. Unit {0}) Ground (InCsi (Long []) body) rest (run + 2) _ tt tt short_run room refl
-      ∙ ap (λ m. m.0) (final_by (Long []) body (get_or rest (run + 2) 0) low high)
+      ∙ quiet_after {S = Unit {0}} limit (λ _ _ _. Unit {0}) (λ _ _ _. Unit {0}) Ground (InCsi (Long []) body) rest (run + 2) _ tt tt short_run room refl
+      ∙ ap (λ m. m.0) (final_by limit (Long []) body (get_or rest (run + 2) 0) low high)
 
   -- the event
-  short_event : (inside (InCsi (Long []) body) (get_or rest (run + 2) 0) (class_of (get_or rest (run + 2) 0))).1
+  short_event : (inside limit (InCsi (Long []) body) (get_or rest (run + 2) 0) (class_of (get_or rest (run + 2) 0))).1
       ≡ CsiDispatch items false (get_or rest (run + 2) 0) ∷ []
   short_event =
-      ap (λ m. m.1) (final_by (Long []) body (get_or rest (run + 2) 0) low high)
+      ap (λ m. m.1) (final_by limit (Long []) body (get_or rest (run + 2) 0) low high)
       ∙ ap (λ x. csi_events x (get_or rest (run + 2) 0)) (body_strip [] body read.body)
       ∙ rw (read.form, sym read.kept, sym read.more) refl
 
   pub short_given : {S : Type 0} (takes refuses : S → Event → S → Type 0) (old new : S) → takes old (CsiDispatch items false (get_or rest (run + 2) 0)) new
-      → FoldsTo takes old (news_all Ground (take (run + 3) rest)) new
+      → FoldsTo takes old (news_all limit Ground (take (run + 3) rest)) new
   short_given takes refuses old new h =
-      subst (λ n. FoldsTo takes old (news_all Ground (take n rest)) new) (sym three)
-      (quiet_given takes refuses Ground (InCsi (Long []) body) rest (run + 2) _ old new short_run room refl
+      subst (λ n. FoldsTo takes old (news_all limit Ground (take n rest)) new) (sym three)
+      (quiet_given limit takes refuses Ground (InCsi (Long []) body) rest (run + 2) _ old new short_run room refl
       (subst (λ es. FoldsTo takes old es new) (sym short_event) (new, h, refl)))
 
   pub short_stops : {S : Type 0} (takes refuses : S → Event → S → Type 0) (old new : S) → refuses old (CsiDispatch items false (get_or rest (run + 2) 0)) new
-      → StopsAt (may_grow_within Ground rest ≡ true) takes refuses old (news_all Ground rest) new
+      → StopsAt (may_grow_within Ground rest ≡ true) takes refuses old (news_all limit Ground rest) new
   short_stops takes refuses old new h =
-      quiet_stops takes refuses Ground (InCsi (Long []) body) rest (run + 2) _ old new short_run room refl
+      quiet_stops limit takes refuses Ground (InCsi (Long []) body) rest (run + 2) _ old new short_run room refl
       (subst (λ es. StopsAt (true ≡ true) takes refuses old es new) (sym short_event) (refused_stops (true ≡ true) takes refuses old new _ h))
 
-  pub short_still : IsStill Ground rest (run + 3)
+  pub short_still : IsStill limit Ground rest (run + 3)
   short_still =
       let back : 2 + (run + 1) ≡ run + 3 = omega arith in
-      subst (IsStill Ground rest) back (opened_still (InCsi (Long []) []) rest some e (csi_opens rest (omega arith) e b) refl (run + 1)
-      (body_still (Long []) [] (take (length rest - 2) (drop 2 rest)) run
+      subst (IsStill limit Ground rest) back (opened_still limit (InCsi (Long []) []) rest some e (csi_opens limit rest (omega arith) e b) refl (run + 1)
+      (body_still limit (Long []) [] (take (length rest - 2) (drop 2 rest)) run
       (subst (λ y. list_all is_body_byte (take run y) ≡ true) (sym (tail_is rest 2)) read.body)))

@@ -1,32 +1,32 @@
 -- What is unfinished, by the machine's state.
-use Rattle.std.proofs.Common.{ℕ, ◌≡◌, Bool, true, false, if◌then◌else◌, List, [], refl, ap, sym, ◌∙◌}
+use Rattle.std.proofs.Common.{ℕ, ◌≡◌, Bool, true, false, if◌then◌else◌, List, [], refl, ap, sym, ◌∙◌, Option}
 use Rattle.esc_frame.specs.declared.classes.Kind.{Kind}
 use Rattle.esc_frame.specs.declared.machine.Machine.{Machine}
 use Rattle.esc_frame.specs.declared.machine.State.{State}
 use Rattle.esc_frame.specs.declared.machine.State.TheVariants as state
-use Rattle.esc_frame.specs.Bodies.{is_dcs_header}
+use Rattle.esc_frame.specs.Limits.{is_read}
 use Rattle.esc_frame.specs.Classes.{strip}
 use Rattle.esc_frame.specs.Leads.{Unfinished, Holds}
 use Rattle.esc_frame.specs.Leads.Unfinished.{Ground, Pending, InEscape, InCsi, InDcs, InData, InApc, InIgnored, InOsc, InOscPending}
 use Rattle.esc_frame.specs.Machine.Fronts.{front_of}
 use Rattle.esc_frame.specs.Segments.{Opener, Piece, is_empty}
 
-abbrev state_of : Unfinished → State
-state_of Ground = state.Ground
-state_of (Pending f) = state.Ground
-state_of (InEscape x) = state.Escape
-state_of (InCsi o x) = state.Csi
-state_of (InDcs o x) = state.Dcs
-state_of (InData o x f d) = if is_dcs_header (strip x) then state.Data else state.Skip
-state_of (InApc o d) = state.Apc
-state_of (InIgnored k o d) = state.Skip
-state_of (InOsc o ps) = state.Osc
-state_of (InOscPending o ps f) = state.Osc
+abbrev state_of : Option ℕ → Unfinished → State
+state_of limit Ground = state.Ground
+state_of limit (Pending f) = state.Ground
+state_of limit (InEscape x) = state.Escape
+state_of limit (InCsi o x) = state.Csi
+state_of limit (InDcs o x) = state.Dcs
+state_of limit (InData o x f d) = if is_read limit (strip x) then state.Data else state.Skip
+state_of limit (InApc o d) = state.Apc
+state_of limit (InIgnored k o d) = state.Skip
+state_of limit (InOsc o ps) = state.Osc
+state_of limit (InOscPending o ps f) = state.Osc
 
-held : {A : Type 0} (m : Machine A) (u : Unfinished) → Holds m u → m.state ≡ state_of u
-held m (InData o x f d) h = h
-held m (InIgnored k o d) h = h
-held m _ h = h.0
+held : {A : Type 0} (limit : Option ℕ) (m : Machine A) (u : Unfinished) → Holds limit m u → m.state ≡ state_of limit u
+held limit m (InData o x f d) h = h
+held limit m (InIgnored k o d) h = h
+held limit m _ h = h.0
 
 is_data : (t : Bool) → state.Data ≡ (if t then state.Data else state.Skip) → t ≡ true
 is_data true h = refl
@@ -46,56 +46,56 @@ not_data : (s : State) (t : Bool) → is_other s ≡ true → s ≡ (if t then s
 not_data s true o e = let k : false ≡ true = ap is_other (sym e) ∙ o in cc
 not_data s false o e = let k : false ≡ true = ap is_other (sym e) ∙ o in cc
 
-module _ {A : Type 0} (m : Machine A) where
-  osc_in : (u : Unfinished) → state.Osc ≡ state_of u → front_of m.pending ≡ [] → Holds m u → (Q : Unfinished → Type 0)
-      → ((o : Opener) (ps : List Piece) → Holds m (InOsc o ps) → Q (InOsc o ps)) → Q u
+module _ {A : Type 0} (limit : Option ℕ) (m : Machine A) where
+  osc_in : (u : Unfinished) → state.Osc ≡ state_of limit u → front_of m.pending ≡ [] → Holds limit m u → (Q : Unfinished → Type 0)
+      → ((o : Opener) (ps : List Piece) → Holds limit m (InOsc o ps) → Q (InOsc o ps)) → Q u
   osc_in (InOsc o ps) e p h Q q = q o ps h
   osc_in (InOscPending o ps f) e p h Q q = let k : true ≡ false = ap is_empty (sym p ∙ h.2) ∙ h.3 in absurd cc
-  osc_in (InData o x f d) e p h Q q = absurd (not_data state.Osc (is_dcs_header (strip x)) refl e)
+  osc_in (InData o x f d) e p h Q q = absurd (not_data state.Osc (is_read limit (strip x)) refl e)
   osc_in _ e p h Q q = absurd cc
 
-  dcs_in : (u : Unfinished) → state.Dcs ≡ state_of u → Holds m u → (Q : Unfinished → Type 0)
-      → ((o : Opener) (x : List ℕ) → Holds m (InDcs o x) → Q (InDcs o x)) → Q u
+  dcs_in : (u : Unfinished) → state.Dcs ≡ state_of limit u → Holds limit m u → (Q : Unfinished → Type 0)
+      → ((o : Opener) (x : List ℕ) → Holds limit m (InDcs o x) → Q (InDcs o x)) → Q u
   dcs_in (InDcs o x) e h Q q = q o x h
-  dcs_in (InData o x f d) e h Q q = absurd (not_data state.Dcs (is_dcs_header (strip x)) refl e)
+  dcs_in (InData o x f d) e h Q q = absurd (not_data state.Dcs (is_read limit (strip x)) refl e)
   dcs_in _ e h Q q = absurd cc
 
-  apc_in : (u : Unfinished) → state.Apc ≡ state_of u → Holds m u → (Q : Unfinished → Type 0)
-      → ((o : Opener) (d : List ℕ) → Holds m (InApc o d) → Q (InApc o d)) → Q u
+  apc_in : (u : Unfinished) → state.Apc ≡ state_of limit u → Holds limit m u → (Q : Unfinished → Type 0)
+      → ((o : Opener) (d : List ℕ) → Holds limit m (InApc o d) → Q (InApc o d)) → Q u
   apc_in (InApc o d) e h Q q = q o d h
-  apc_in (InData o x f d) e h Q q = absurd (not_data state.Apc (is_dcs_header (strip x)) refl e)
+  apc_in (InData o x f d) e h Q q = absurd (not_data state.Apc (is_read limit (strip x)) refl e)
   apc_in _ e h Q q = absurd cc
 
-  data_in : (u : Unfinished) → state.Data ≡ state_of u → (Q : Unfinished → Type 0)
-      → ((o : Opener) (x : List ℕ) (f : ℕ) (d : List ℕ) → is_dcs_header (strip x) ≡ true → Q (InData o x f d)) → Q u
-  data_in (InData o x f d) e Q q = q o x f d (is_data (is_dcs_header (strip x)) e)
+  data_in : (u : Unfinished) → state.Data ≡ state_of limit u → (Q : Unfinished → Type 0)
+      → ((o : Opener) (x : List ℕ) (f : ℕ) (d : List ℕ) → is_read limit (strip x) ≡ true → Q (InData o x f d)) → Q u
+  data_in (InData o x f d) e Q q = q o x f d (is_data (is_read limit (strip x)) e)
   data_in _ e Q q = absurd cc
 
-  skip_in : (u : Unfinished) → state.Skip ≡ state_of u → (Q : Unfinished → Type 0)
-      → ((o : Opener) (x : List ℕ) (f : ℕ) (d : List ℕ) → is_dcs_header (strip x) ≡ false → Q (InData o x f d))
+  skip_in : (u : Unfinished) → state.Skip ≡ state_of limit u → (Q : Unfinished → Type 0)
+      → ((o : Opener) (x : List ℕ) (f : ℕ) (d : List ℕ) → is_read limit (strip x) ≡ false → Q (InData o x f d))
       → ((k : Kind) (o : Opener) (d : List ℕ) → Q (InIgnored k o d)) → Q u
-  skip_in (InData o x f d) e Q q r = q o x f d (is_skip (is_dcs_header (strip x)) e)
+  skip_in (InData o x f d) e Q q r = q o x f d (is_skip (is_read limit (strip x)) e)
   skip_in (InIgnored k o d) e Q q r = r k o d
   skip_in _ e Q q r = absurd cc
 
   -- what holds of all that may be unfinished in a state holds of what is
-  pub osc_only : (u : Unfinished) → m.state ≡ state.Osc → front_of m.pending ≡ [] → Holds m u → (Q : Unfinished → Type 0)
-      → ((o : Opener) (ps : List Piece) → Holds m (InOsc o ps) → Q (InOsc o ps)) → Q u
-  osc_only u s p h = osc_in u (sym s ∙ held m u h) p h
+  pub osc_only : (u : Unfinished) → m.state ≡ state.Osc → front_of m.pending ≡ [] → Holds limit m u → (Q : Unfinished → Type 0)
+      → ((o : Opener) (ps : List Piece) → Holds limit m (InOsc o ps) → Q (InOsc o ps)) → Q u
+  osc_only u s p h = osc_in u (sym s ∙ held limit m u h) p h
 
-  pub dcs_only : (u : Unfinished) → m.state ≡ state.Dcs → Holds m u → (Q : Unfinished → Type 0)
-      → ((o : Opener) (x : List ℕ) → Holds m (InDcs o x) → Q (InDcs o x)) → Q u
-  dcs_only u s h = dcs_in u (sym s ∙ held m u h) h
+  pub dcs_only : (u : Unfinished) → m.state ≡ state.Dcs → Holds limit m u → (Q : Unfinished → Type 0)
+      → ((o : Opener) (x : List ℕ) → Holds limit m (InDcs o x) → Q (InDcs o x)) → Q u
+  dcs_only u s h = dcs_in u (sym s ∙ held limit m u h) h
 
-  pub apc_only : (u : Unfinished) → m.state ≡ state.Apc → Holds m u → (Q : Unfinished → Type 0)
-      → ((o : Opener) (d : List ℕ) → Holds m (InApc o d) → Q (InApc o d)) → Q u
-  apc_only u s h = apc_in u (sym s ∙ held m u h) h
+  pub apc_only : (u : Unfinished) → m.state ≡ state.Apc → Holds limit m u → (Q : Unfinished → Type 0)
+      → ((o : Opener) (d : List ℕ) → Holds limit m (InApc o d) → Q (InApc o d)) → Q u
+  apc_only u s h = apc_in u (sym s ∙ held limit m u h) h
 
-  pub data_only : (u : Unfinished) → m.state ≡ state.Data → Holds m u → (Q : Unfinished → Type 0)
-      → ((o : Opener) (x : List ℕ) (f : ℕ) (d : List ℕ) → is_dcs_header (strip x) ≡ true → Q (InData o x f d)) → Q u
-  data_only u s h = data_in u (sym s ∙ held m u h)
+  pub data_only : (u : Unfinished) → m.state ≡ state.Data → Holds limit m u → (Q : Unfinished → Type 0)
+      → ((o : Opener) (x : List ℕ) (f : ℕ) (d : List ℕ) → is_read limit (strip x) ≡ true → Q (InData o x f d)) → Q u
+  data_only u s h = data_in u (sym s ∙ held limit m u h)
 
-  pub skip_only : (u : Unfinished) → m.state ≡ state.Skip → Holds m u → (Q : Unfinished → Type 0)
-      → ((o : Opener) (x : List ℕ) (f : ℕ) (d : List ℕ) → is_dcs_header (strip x) ≡ false → Q (InData o x f d))
+  pub skip_only : (u : Unfinished) → m.state ≡ state.Skip → Holds limit m u → (Q : Unfinished → Type 0)
+      → ((o : Opener) (x : List ℕ) (f : ℕ) (d : List ℕ) → is_read limit (strip x) ≡ false → Q (InData o x f d))
       → ((k : Kind) (o : Opener) (d : List ℕ) → Q (InIgnored k o d)) → Q u
-  skip_only u s h = skip_in u (sym s ∙ held m u h)
+  skip_only u s h = skip_in u (sym s ∙ held limit m u h)

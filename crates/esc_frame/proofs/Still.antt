@@ -1,5 +1,5 @@
 -- Prefixes that stop at the first event.
-use Rattle.std.proofs.Common.{ℕ, zero, suc, ◌≡◌, ◌+◌, ◌-◌, ◌<◌, ◌≤◌, Bool, true, false, ◌&&◌, List, [], ◌∷◌, ◌++◌, length, take, drop, get_or}
+use Rattle.std.proofs.Common.{ℕ, zero, suc, ◌≡◌, ◌+◌, ◌-◌, ◌<◌, ◌≤◌, Bool, true, false, ◌&&◌, List, [], ◌∷◌, ◌++◌, length, take, drop, get_or, Option, None}
 use Rattle.std.proofs.Common.{refl, ap, sym, ◌∙◌, subst, arith, ◌⊎◌, inl, inr, Ok}
 use Rattle.std.specs.List.{FoldsTo, list_all, prefix_len}
 use Rattle.std.proofs.Math.Seq.{take-add}
@@ -24,22 +24,23 @@ use Rattle.esc_frame.specs.Scans.{is_body_byte, is_text_byte}
 use Rattle.esc_frame.specs.Segments.{Opener, Piece}
 use Rattle.esc_frame.specs.Segments.Piece.{BrokenOff}
 use Rattle.esc_frame.specs.Sequences.{is_sequence, is_pair, outcome}
-use Rattle.esc_frame.specs.Stream.{IsQuiet}
+use Rattle.esc_frame.specs.Stream.{IsQuietWithin}
 use Rattle.esc_frame.proofs.AtGround.{to_ground}
 use Rattle.esc_frame.proofs.CsiRuns.{body_quiet, escape_class}
-use Rattle.esc_frame.proofs.ManyBytes.{after_more, tail_is, tail_length, quiet_folds, ran_took, ran_ends, lead_class, two_parts, three_parts, four_parts}
+use Rattle.esc_frame.proofs.ManyBytes.{after_more, tail_is, tail_length, ran_took, ran_ends, lead_class, two_parts, three_parts, four_parts}
+use Rattle.esc_frame.proofs.QuietRuns.{quiet_folds}
 use Rattle.esc_frame.proofs.StringRuns.{apc_run, skip_holds, prefix_passes}
 use Rattle.esc_frame.proofs.Streams.{after_append, news_append, added_is}
 
 -- what a front of k bytes is to be
-abbrev Still : Unfinished → List ℕ → Type 0
-Still u ys = (news_all u ys ≡ []) × (is_ground (after_all u ys) ≡ false)
+abbrev Still : Option ℕ → Unfinished → List ℕ → Type 0
+Still limit u ys = (news_all limit u ys ≡ []) × (is_ground (after_all u ys) ≡ false)
 
-pub one_still : (u : Unfinished) (rest : List ℕ) → IsStill u rest 1
-one_still u rest = λ k a b. absurd (omega arith)
+pub one_still : (limit : Option ℕ) (u : Unfinished) (rest : List ℕ) → IsStill limit u rest 1
+one_still limit u rest = λ k a b. absurd (omega arith)
 
-pub less_still : (u : Unfinished) (rest : List ℕ) (m n : ℕ) → m ≤ n → IsStill u rest n → IsStill u rest m
-less_still u rest m n l h = λ k a b. h k a (omega arith)
+pub less_still : (limit : Option ℕ) (u : Unfinished) (rest : List ℕ) (m n : ℕ) → m ≤ n → IsStill limit u rest n → IsStill limit u rest m
+less_still limit u rest m n l h = λ k a b. h k a (omega arith)
 
 -- ---- fronts of a run
 
@@ -58,21 +59,24 @@ no_second : (xs ys : List Event) → xs ++ ys ≡ [] → ys ≡ []
 no_second [] ys h = h
 no_second (x ∷ xs) ys h = absurd cc
 
-front_tells_not : (u : Unfinished) (rest : List ℕ) (run k : ℕ) → k ≤ run → news_all u (take run rest) ≡ [] → news_all u (take k rest) ≡ []
-front_tells_not u rest run k l h =
+front_tells_not : (limit : Option ℕ) (u : Unfinished) (rest : List ℕ) (run k : ℕ) → k ≤ run → news_all limit u (take run rest) ≡ []
+    → news_all limit u (take k rest) ≡ []
+front_tells_not limit u rest run k l h =
     let xs : List ℕ = take k (take run rest) in
     let ys : List ℕ = drop k (take run rest) in
-    let e : news_all u xs ++ news_all (after_all u xs) ys ≡ [] = sym (news_append u xs ys) ∙ ap (news_all u) (take-append-drop k (take run rest)) ∙ h in
-    ap (news_all u) (sym (take-take k run rest l)) ∙ no_first (news_all u xs) (news_all (after_all u xs) ys) e
+    let e : news_all limit u xs ++ news_all limit (after_all u xs) ys ≡ [] = sym (news_append limit u xs ys) ∙ ap (news_all limit u)
+    (take-append-drop k (take run rest)) ∙ h in
+    ap (news_all limit u) (sym (take-take k run rest l)) ∙ no_first (news_all limit u xs) (news_all limit (after_all u xs) ys) e
 
 -- ---- the body of a control sequence, and the byte behind it
 
-pub body_still : (o : Opener) (x rest : List ℕ) (run : ℕ) → list_all is_body_byte (take run rest) ≡ true → IsStill (InCsi o x) rest (run + 1)
-body_still o x rest run h = λ k a b.
-    let q = body_quiet o x (take k rest) (front_passes is_body_byte rest run k (omega arith) h) in
+pub body_still : (limit : Option ℕ) (o : Opener) (x rest : List ℕ) (run : ℕ) → list_all is_body_byte (take run rest) ≡ true
+    → IsStill limit (InCsi o x) rest (run + 1)
+body_still limit o x rest run h = λ k a b.
+    let q = body_quiet limit o x (take k rest) (front_passes is_body_byte rest run k (omega arith) h) in
     (q.1, ap is_ground q.0)
 
--- ---- an operating system command: to leave it tells its event
+-- ---- an operating system command: without a limit, to leave it tells its event
 
 abbrev is_osc : Unfinished → Bool
 is_osc (InOsc o ps) = true
@@ -83,155 +87,162 @@ osc_no_ground : (u : Unfinished) → is_osc u ≡ true → is_ground u ≡ false
 osc_no_ground Ground h = absurd cc
 osc_no_ground _ h = refl
 
-final_stays : (o : Opener) (ps : List Piece) (b : ℕ) (c : Class) → (final_osc o ps b c).1 ≡ [] → is_osc (final_osc o ps b c).0 ≡ true
+final_stays : (o : Opener) (ps : List Piece) (b : ℕ) (c : Class) → (final_osc None o ps b c).1 ≡ [] → is_osc (final_osc None o ps b c).0 ≡ true
 final_stays o ps b Lead h = refl
 final_stays o ps b _ h = absurd cc
 
-text_stays : (o : Opener) (ps : List Piece) (b : ℕ) (c : Class) (t w : Bool) → is_breaker c ≡ t → in_osc c ≡ w → (inside (InOsc o ps) b c).1 ≡ []
-    → is_osc (inside (InOsc o ps) b c).0 ≡ true
+text_stays : (o : Opener) (ps : List Piece) (b : ℕ) (c : Class) (t w : Bool) → is_breaker c ≡ t → in_osc c ≡ w → (inside None (InOsc o ps) b c).1 ≡ []
+    → is_osc (inside None (InOsc o ps) b c).0 ≡ true
 text_stays o ps b c true w e k = rw (e, inside) (λ h. absurd cc)
 text_stays o ps b c false true e k = rw (e, k, inside, goes_on) (λ h. refl)
 text_stays o ps b c false false e k = rw (e, k, inside, goes_on) (final_stays o ps b c)
 
 whole_stays : (o : Opener) (ps : List Piece) (f : List ℕ) (b : ℕ) (c : Class) (t : Bool) → is_pair (f ++ b ∷ []) ≡ t
-    → (osc_pending_move o ps f b c outcomes.Whole).1 ≡ [] → is_osc (osc_pending_move o ps f b c outcomes.Whole).0 ≡ true
+    → (osc_pending_move None o ps f b c outcomes.Whole).1 ≡ [] → is_osc (osc_pending_move None o ps f b c outcomes.Whole).0 ≡ true
 whole_stays o ps f b c true e = rw (e, osc_pending_move) (λ h. absurd cc)
 whole_stays o ps f b c false e = rw (e, osc_pending_move) (λ h. refl)
 
-pending_stays : (o : Opener) (ps : List Piece) (f : List ℕ) (b : ℕ) (c : Class) (w : Outcome) → (osc_pending_move o ps f b c w).1 ≡ []
-    → is_osc (osc_pending_move o ps f b c w).0 ≡ true
+pending_stays : (o : Opener) (ps : List Piece) (f : List ℕ) (b : ℕ) (c : Class) (w : Outcome) → (osc_pending_move None o ps f b c w).1 ≡ []
+    → is_osc (osc_pending_move None o ps f b c w).0 ≡ true
 pending_stays o ps f b c outcomes.Whole h = whole_stays o ps f b c (is_pair (f ++ b ∷ [])) refl h
 pending_stays o ps f b c outcomes.More h = refl
 pending_stays o ps f b c outcomes.Broken h = text_stays o (ps ++ BrokenOff f ∷ []) b c (is_breaker c) (in_osc c) refl refl h
 
-stays_by : (u : Unfinished) (b : ℕ) → is_osc u ≡ true → news_by u b (class_of b) ≡ [] → is_osc (after_by u b (class_of b)) ≡ true
+stays_by : (u : Unfinished) (b : ℕ) → is_osc u ≡ true → news_by None u b (class_of b) ≡ [] → is_osc (after_by u b (class_of b)) ≡ true
 stays_by (InOsc o ps) b h e = text_stays o ps b (class_of b) (is_breaker (class_of b)) (in_osc (class_of b)) refl refl e
 stays_by (InOscPending o ps f) b h e = pending_stays o ps f b (class_of b) (outcome f b) e
 stays_by _ b h e = absurd cc
 
-stays : (u : Unfinished) (ys : List ℕ) → is_osc u ≡ true → news_all u ys ≡ [] → is_osc (after_all u ys) ≡ true
+stays : (u : Unfinished) (ys : List ℕ) → is_osc u ≡ true → news_all None u ys ≡ [] → is_osc (after_all u ys) ≡ true
 stays u [] h e = h
 stays u (b ∷ ys) h e =
     let v : Unfinished = after_by u b (class_of b) in
-    let first : news_by u b (class_of b) ≡ [] = no_first (news_by u b (class_of b)) (news_all v ys) e in
-    let behind : news_all v ys ≡ [] = no_second (news_by u b (class_of b)) (news_all v ys) e in stays v ys (stays_by u b h first) behind
+    let first : news_by None u b (class_of b) ≡ [] = no_first (news_by None u b (class_of b)) (news_all None v ys) e in
+    let behind : news_all None v ys ≡ [] = no_second (news_by None u b (class_of b)) (news_all None v ys) e in stays v ys (stays_by u b h first) behind
 
-pub text_still : (o : Opener) (ps : List Piece) (rest : List ℕ) (run : ℕ) → news_all (InOsc o ps) (take run rest) ≡ [] → IsStill (InOsc o ps) rest (run + 1)
-text_still o ps rest run h = λ k a b.
-    let e : news_all (InOsc o ps) (take k rest) ≡ [] = front_tells_not (InOsc o ps) rest run k (omega arith) h in
-    (e, osc_no_ground (after_all (InOsc o ps) (take k rest)) (stays (InOsc o ps) (take k rest) refl e))
+-- a run of text tells nothing whatever the limit, and so is never left
+pub text_still : (limit : Option ℕ) (o : Opener) (ps : List Piece) (rest : List ℕ) (run : ℕ)
+    → ((any : Option ℕ) → news_all any (InOsc o ps) (take run rest) ≡ []) → IsStill limit (InOsc o ps) rest (run + 1)
+text_still limit o ps rest run h = λ k a b.
+    let e : (any : Option ℕ) → news_all any (InOsc o ps) (take k rest) ≡ [] = λ any. front_tells_not any (InOsc o ps) rest run k (omega arith) (h any) in
+    (e limit, osc_no_ground (after_all (InOsc o ps) (take k rest)) (stays (InOsc o ps) (take k rest) refl (e None)))
 
 -- ---- runs in the strings that a breaker ends
 
-holds_no_ground : {A : Type 0} (m : Machine A) (u : Unfinished) → Holds m u → (m.state ≡ state.Ground → ⊥) → is_ground u ≡ false
-holds_no_ground m Ground h n = absurd (n h.0)
-holds_no_ground m _ h n = refl
+holds_no_ground : {A : Type 0} (limit : Option ℕ) (m : Machine A) (u : Unfinished) → Holds limit m u → (m.state ≡ state.Ground → ⊥) → is_ground u ≡ false
+holds_no_ground limit m Ground h n = absurd (n h.0)
+holds_no_ground limit m _ h n = refl
 
-module _ {A : Type 0} (m : Machine A) (u : Unfinished) (rest : List ℕ) (run : ℕ) (e : run ≡ prefix_len is_text_byte rest) (h : Holds m u) where
-  pub apc_still : m.state ≡ state.Apc → IsStill u rest run
+module _ {A : Type 0} (limit : Option ℕ) (m : Machine A) (u : Unfinished) (rest : List ℕ) (run : ℕ) (e : run ≡ prefix_len is_text_byte rest)
+    (h : Holds limit m u) where
+  pub apc_still : m.state ≡ state.Apc → IsStill limit u rest run
   apc_still s = λ k a b.
-      apc_run m (take k rest) (front_passes is_text_byte rest run k (omega arith) (prefix_passes rest run e)) u s h (λ v es. (es ≡ []) × (is_ground v ≡ false))
-      (λ o d f. (refl, refl))
+      apc_run limit m (take k rest) (front_passes is_text_byte rest run k (omega arith) (prefix_passes rest run e)) u s h
+      (λ v es. (es ≡ []) × (is_ground v ≡ false))
+      (λ o d k f. (refl, refl))
 
-  pub skip_still : m.state ≡ state.Skip → IsStill u rest run
+  pub skip_still : m.state ≡ state.Skip → IsStill limit u rest run
   skip_still s = λ k a b.
-      let q = skip_holds m (take k rest) (front_passes is_text_byte rest run k (omega arith) (prefix_passes rest run e)) u s h in
-      (q.1, holds_no_ground m (after_all u (take k rest)) q.0 (λ g. cc))
+      let q = skip_holds limit m (take k rest) (front_passes is_text_byte rest run k (omega arith) (prefix_passes rest run e)) u s h in
+      (q.1, holds_no_ground limit m (after_all u (take k rest)) q.0 (λ g. cc))
 
 -- ---- bytes that tell nothing, and what follows them
 
-module _ (u v : Unfinished) (rest : List ℕ) (i n : ℕ) (here : after_all u (take i rest) ≡ v) (none : news_all u (take i rest) ≡ []) where
-  behind_still : IsStill v (take (length rest - i) (drop i rest)) n → (j : ℕ) → 0 < j → j < n → Still u (take (i + j) rest)
-  behind_still h j a b =
-      let m : Still v (take j (drop i rest)) = subst (λ y. Still v (take j y)) (tail_is rest i) (h j a b) in (
-        ap (news_all u) (take-add i j rest) ∙ news_append u (take i rest) (take j (drop i rest)) ∙ ap
-            (λ es. es ++ news_all (after_all u (take i rest)) (take j (drop i rest))) none ∙ ap (λ w. news_all w (take j (drop i rest))) here ∙ m.0,
-        ap is_ground (after_more u rest i j ∙ ap (λ w. after_all w (take j (drop i rest))) here) ∙ m.1,
-      )
+module _ (limit : Option ℕ) (u v : Unfinished) (rest : List ℕ) (i n : ℕ) (here : after_all u (take i rest) ≡ v) (none : news_all limit u (take i rest) ≡ [])
+  where
+    behind_still : IsStill limit v (take (length rest - i) (drop i rest)) n → (j : ℕ) → 0 < j → j < n → Still limit u (take (i + j) rest)
+    behind_still h j a b =
+        let m : Still limit v (take j (drop i rest)) = subst (λ y. Still limit v (take j y)) (tail_is rest i) (h j a b) in (
+          ap (news_all limit u) (take-add i j rest) ∙ news_append limit u (take i rest) (take j (drop i rest)) ∙ ap
+              (λ es. es ++ news_all limit (after_all u (take i rest)) (take j (drop i rest))) none ∙ ap (λ w. news_all limit w (take j (drop i rest))) here ∙ m.0,
+          ap is_ground (after_more u rest i j ∙ ap (λ w. after_all w (take j (drop i rest))) here) ∙ m.1,
+        )
 
-  still_at : IsStill u rest (i + 1) → IsStill v (take (length rest - i) (drop i rest)) n → (k : ℕ) → 0 < k → k < i + n → ((i < k) ⊎ (k ≤ i))
-      → Still u (take k rest)
-  still_at f h k a b (inl l) =
-      let e : i + (k - i) ≡ k = omega arith in subst (λ j. Still u (take j rest)) e (behind_still h (k - i) (omega arith) (omega arith))
-  still_at f h k a b (inr l) = f k a (omega arith)
+    still_at : IsStill limit u rest (i + 1) → IsStill limit v (take (length rest - i) (drop i rest)) n → (k : ℕ) → 0 < k → k < i + n → ((i < k) ⊎ (k ≤ i))
+        → Still limit u (take k rest)
+    still_at f h k a b (inl l) =
+        let e : i + (k - i) ≡ k = omega arith in subst (λ j. Still limit u (take j rest)) e (behind_still h (k - i) (omega arith) (omega arith))
+    still_at f h k a b (inr l) = f k a (omega arith)
 
-  pub more_still : IsStill u rest (i + 1) → IsStill v (take (length rest - i) (drop i rest)) n → IsStill u rest (i + n)
-  more_still f h = λ k a b. still_at f h k a b (cases_lt i k)
+    pub more_still : IsStill limit u rest (i + 1) → IsStill limit v (take (length rest - i) (drop i rest)) n → IsStill limit u rest (i + n)
+    more_still f h = λ k a b. still_at f h k a b (cases_lt i k)
 
 -- ESC and the byte that opens
-escape_alone : Still Ground (0x1b ∷ [])
-escape_alone = rw escape_class (refl, refl)
+escape_alone : (limit : Option ℕ) → Still limit Ground (0x1b ∷ [])
+escape_alone limit = rw escape_class (refl, refl)
 
-escape_first : (rest : List ℕ) → 2 < length rest → get_or rest 0 0 ≡ 0x1b → Still Ground (take 1 rest)
-escape_first [] l e = absurd (omega arith)
-escape_first (x ∷ rest) l e = subst (λ y. Still Ground (y ∷ [])) (sym e) escape_alone
+escape_first : (limit : Option ℕ) (rest : List ℕ) → 2 < length rest → get_or rest 0 0 ≡ 0x1b → Still limit Ground (take 1 rest)
+escape_first limit [] l e = absurd (omega arith)
+escape_first limit (x ∷ rest) l e = subst (λ y. Still limit Ground (y ∷ [])) (sym e) (escape_alone limit)
 
-opens_at : (rest : List ℕ) → 2 < length rest → get_or rest 0 0 ≡ 0x1b → Still Ground (take 2 rest) → (k : ℕ) → 0 < k → k < 3 → Still Ground (take k rest)
-opens_at rest l e h zero a b = absurd (omega arith)
-opens_at rest l e h (suc zero) a b = escape_first rest l e
-opens_at rest l e h (suc (suc zero)) a b = h
-opens_at rest l e h (suc (suc (suc k))) a b = absurd (omega arith)
+opens_at : (limit : Option ℕ) (rest : List ℕ) → 2 < length rest → get_or rest 0 0 ≡ 0x1b → Still limit Ground (take 2 rest) → (k : ℕ) → 0 < k → k < 3
+    → Still limit Ground (take k rest)
+opens_at limit rest l e h zero a b = absurd (omega arith)
+opens_at limit rest l e h (suc zero) a b = escape_first limit rest l e
+opens_at limit rest l e h (suc (suc zero)) a b = h
+opens_at limit rest l e h (suc (suc (suc k))) a b = absurd (omega arith)
 
 -- ESC and a byte that opens, and what a call takes of the bytes after them
-module _ (u : Unfinished) (rest : List ℕ) (l : 2 < length rest) (e : get_or rest 0 0 ≡ 0x1b)
-    (begin : (after_all Ground (take 2 rest) ≡ u) × (news_all Ground (take 2 rest) ≡ [])) (o : is_ground u ≡ false) where
-  pub opened_still : (n : ℕ) → IsStill u (take (length rest - 2) (drop 2 rest)) n → IsStill Ground rest (2 + n)
-  opened_still n h = more_still Ground u rest 2 n begin.0 begin.1 (opens_at rest l e (begin.1, ap is_ground begin.0 ∙ o)) h
+module _ (limit : Option ℕ) (u : Unfinished) (rest : List ℕ) (l : 2 < length rest) (e : get_or rest 0 0 ≡ 0x1b)
+    (begin : (after_all Ground (take 2 rest) ≡ u) × (news_all limit Ground (take 2 rest) ≡ [])) (o : is_ground u ≡ false) where
+  pub opened_still : (n : ℕ) → IsStill limit u (take (length rest - 2) (drop 2 rest)) n → IsStill limit Ground rest (2 + n)
+  opened_still n h = more_still limit Ground u rest 2 n begin.0 begin.1 (opens_at limit rest l e (begin.1, ap is_ground begin.0 ∙ o)) h
 
   module _ {S : Type 0} (takes refuses : S → Event → S → Type 0) (is_ready : S → Type 0) (old new : S) where
     pub opened_took : {A : Type 0} (machine : Machine A) (n : ℕ)
-        → Holds machine (after_all u (take n (take (length rest - 2) (drop 2 rest)))) × FoldsTo takes old
-        (news_all u (take n (take (length rest - 2) (drop 2 rest)))) new
-        → IsStill u (take (length rest - 2) (drop 2 rest)) n → (0 < n) × (n ≤ length (take (length rest - 2) (drop 2 rest))) × is_ready new
-        → TookSome {E = Unit {0}} takes refuses is_ready (Ok (2 + n)) rest machine old new
+        → Holds limit machine (after_all u (take n (take (length rest - 2) (drop 2 rest)))) × FoldsTo takes old
+        (news_all limit u (take n (take (length rest - 2) (drop 2 rest)))) new
+        → IsStill limit u (take (length rest - 2) (drop 2 rest)) n → (0 < n) × (n ≤ length (take (length rest - 2) (drop 2 rest))) × is_ready new
+        → TookSome {E = Unit {0}} limit takes refuses is_ready (Ok (2 + n)) rest machine old new
     opened_took machine n t q a =
         let k = tail_length rest 2 in (
-          ran_took takes refuses Ground u rest 2 old old new begin.0 (quiet_folds takes (news_all Ground (take 2 rest)) old begin.1) machine n t,
+          ran_took limit takes refuses Ground u rest 2 old old new begin.0 (quiet_folds takes (news_all limit Ground (take 2 rest)) old begin.1) machine n t,
           opened_still n q,
           (omega (arith, a.0), omega (arith, a.1), a.2),
         )
 
     pub opened_stops : StopsAt (may_grow_within u (take (length rest - 2) (drop 2 rest)) ≡ true) takes refuses old
-        (news_all u (take (length rest - 2) (drop 2 rest))) new
-        → StopsAt (may_grow_within Ground rest ≡ true) takes refuses old (news_all Ground rest) new
-    opened_stops h = ran_ends takes refuses Ground u rest 2 old old new begin.0 (quiet_folds takes (news_all Ground (take 2 rest)) old begin.1) h
+        (news_all limit u (take (length rest - 2) (drop 2 rest))) new
+        → StopsAt (may_grow_within Ground rest ≡ true) takes refuses old (news_all limit Ground rest) new
+    opened_stops h = ran_ends limit takes refuses Ground u rest 2 old old new begin.0 (quiet_folds takes (news_all limit Ground (take 2 rest)) old begin.1) h
 
 -- ---- a whole sequence in ground
 
-two_still : (a b : ℕ) (k : ℕ) → is_sequence (a ∷ b ∷ []) ≡ true → 0 < k → k < 2 → Still Ground (take k (a ∷ b ∷ []))
-two_still a b zero s l m = absurd (omega arith)
-two_still a b (suc zero) s l m = rw (lead_class a (two_parts a b s), after_by, news_by, move, pending_move, outcome) (refl, refl)
-two_still a b (suc (suc k)) s l m = absurd (omega arith)
+two_still : (limit : Option ℕ) (a b : ℕ) (k : ℕ) → is_sequence (a ∷ b ∷ []) ≡ true → 0 < k → k < 2 → Still limit Ground (take k (a ∷ b ∷ []))
+two_still limit a b zero s l m = absurd (omega arith)
+two_still limit a b (suc zero) s l m = rw (lead_class a (two_parts a b s), after_by, news_by, move, pending_move, outcome) (refl, refl)
+two_still limit a b (suc (suc k)) s l m = absurd (omega arith)
 
-three_still : (a b c : ℕ) (k : ℕ) → is_sequence (a ∷ b ∷ c ∷ []) ≡ true → 0 < k → k < 3 → Still Ground (take k (a ∷ b ∷ c ∷ []))
-three_still a b c zero s l m = absurd (omega arith)
-three_still a b c (suc zero) s l m = let t = three_parts a b c s in rw (lead_class a t.0, after_by, news_by, move, pending_move, outcome) (refl, refl)
-three_still a b c (suc (suc zero)) s l m = let t = three_parts a b c s
+three_still : (limit : Option ℕ) (a b c : ℕ) (k : ℕ) → is_sequence (a ∷ b ∷ c ∷ []) ≡ true → 0 < k → k < 3 → Still limit Ground (take k (a ∷ b ∷ c ∷ []))
+three_still limit a b c zero s l m = absurd (omega arith)
+three_still limit a b c (suc zero) s l m = let t = three_parts a b c s in rw (lead_class a t.0, after_by, news_by, move, pending_move, outcome) (refl, refl)
+three_still limit a b c (suc (suc zero)) s l m = let t = three_parts a b c s
     in rw (lead_class a t.0, t.1, t.2, after_by, news_by, move, pending_move, outcome) (refl, refl)
-three_still a b c (suc (suc (suc k))) s l m = absurd (omega arith)
+three_still limit a b c (suc (suc (suc k))) s l m = absurd (omega arith)
 
-four_still : (a b c d : ℕ) (k : ℕ) → is_sequence (a ∷ b ∷ c ∷ d ∷ []) ≡ true → 0 < k → k < 4 → Still Ground (take k (a ∷ b ∷ c ∷ d ∷ []))
-four_still a b c d zero s l m = absurd (omega arith)
-four_still a b c d (suc zero) s l m = let t = four_parts a b c d s in rw (lead_class a t.0, after_by, news_by, move, pending_move, outcome) (refl, refl)
-four_still a b c d (suc (suc zero)) s l m = let t = four_parts a b c d s
+four_still : (limit : Option ℕ) (a b c d : ℕ) (k : ℕ) → is_sequence (a ∷ b ∷ c ∷ d ∷ []) ≡ true → 0 < k → k < 4
+    → Still limit Ground (take k (a ∷ b ∷ c ∷ d ∷ []))
+four_still limit a b c d zero s l m = absurd (omega arith)
+four_still limit a b c d (suc zero) s l m = let t = four_parts a b c d s in rw (lead_class a t.0, after_by, news_by, move, pending_move, outcome) (refl, refl)
+four_still limit a b c d (suc (suc zero)) s l m = let t = four_parts a b c d s
     in rw (lead_class a t.0, t.1, t.2, after_by, news_by, move, pending_move, outcome) (refl, refl)
-four_still a b c d (suc (suc (suc zero))) s l m = let t = four_parts a b c d s
+four_still limit a b c d (suc (suc (suc zero))) s l m = let t = four_parts a b c d s
     in rw (lead_class a t.0, t.1, t.2, t.3, t.4, after_by, news_by, move, pending_move, outcome) (refl, refl)
-four_still a b c d (suc (suc (suc (suc k)))) s l m = absurd (omega arith)
+four_still limit a b c d (suc (suc (suc (suc k)))) s l m = absurd (omega arith)
 
-sequence_still : (x : List ℕ) (k : ℕ) → is_sequence x ≡ true → 0 < k → k < length x → Still Ground (take k x)
+sequence_still : (limit : Option ℕ) (x : List ℕ) (k : ℕ) → is_sequence x ≡ true → 0 < k → k < length x → Still limit Ground (take k x)
 unfolding is_sequence
-sequence_still [] k s l m = absurd cc
-sequence_still (a ∷ []) k s l m = absurd cc
-sequence_still (a ∷ b ∷ []) k s l m = two_still a b k s l m
-sequence_still (a ∷ b ∷ c ∷ []) k s l m = three_still a b c k s l m
-sequence_still (a ∷ b ∷ c ∷ d ∷ []) k s l m = four_still a b c d k s l m
-sequence_still (a ∷ b ∷ c ∷ d ∷ e ∷ x) k s l m = absurd cc
+sequence_still limit [] k s l m = absurd cc
+sequence_still limit (a ∷ []) k s l m = absurd cc
+sequence_still limit (a ∷ b ∷ []) k s l m = two_still limit a b k s l m
+sequence_still limit (a ∷ b ∷ c ∷ []) k s l m = three_still limit a b c k s l m
+sequence_still limit (a ∷ b ∷ c ∷ d ∷ []) k s l m = four_still limit a b c d k s l m
+sequence_still limit (a ∷ b ∷ c ∷ d ∷ e ∷ x) k s l m = absurd cc
 
-pub character_still : (rest : List ℕ) (n c : ℕ) → n ≤ length rest → IsCharacter (take n rest) c → IsStill Ground rest n
-character_still rest n c l h = λ k a b.
+pub character_still : (limit : Option ℕ) (rest : List ℕ) (n c : ℕ) → n ≤ length rest → IsCharacter (take n rest) c → IsStill limit Ground rest n
+character_still limit rest n c l h = λ k a b.
     let long : length (take n rest) ≡ n = length-take-le n rest l in
-    subst (Still Ground) (take-take k n rest (omega arith)) (sequence_still (take n rest) k h.0 a (omega arith))
+    subst (Still limit Ground) (take-take k n rest (omega arith)) (sequence_still limit (take n rest) k h.0 a (omega arith))
 
 -- ---- of the stream
 
@@ -239,10 +250,10 @@ not_both : (t : Bool) → t ≡ true → t ≡ false → ⊥
 not_both true h k = cc
 not_both false h k = cc
 
-pub quiet_all : (s b : List ℕ) (n : ℕ) → IsStill (after_all Ground s) b n → IsQuiet s b n
-quiet_all s b n h = λ k l m.
+pub quiet_all : (limit : Option ℕ) (s b : List ℕ) (n : ℕ) → IsStill limit (after_all Ground s) b n → IsQuietWithin limit s b n
+quiet_all limit s b n h = λ k l m.
     let q = h k l m in (
-      added_is s (take k b) ∙ q.0,
+      added_is limit s (take k b) ∙ q.0,
       λ g. not_both (is_ground (after_all (after_all Ground s) (take k b)))
           (ap is_ground (sym (after_append Ground s (take k b)) ∙ to_ground (s ++ take k b) g)) q.1,
     )

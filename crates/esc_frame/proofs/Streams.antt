@@ -1,5 +1,5 @@
 -- The events of a stream are those of its cut.
-use Rattle.std.proofs.Common.{ℕ, ◌≡◌, true, List, [], ◌∷◌, ◌++◌, length, drop, refl, sym, ap, ◌∙◌, subst, append_assoc}
+use Rattle.std.proofs.Common.{ℕ, ◌≡◌, true, List, [], ◌∷◌, ◌++◌, length, drop, refl, sym, ap, ◌∙◌, subst, append_assoc, Option, None}
 use Rattle.std.proofs.lemmas.List.{append-nil}
 use Rattle.esc_frame.specs.Classes.{class_of}
 use Rattle.esc_frame.specs.Events.{Event}
@@ -7,22 +7,23 @@ use Rattle.esc_frame.specs.Segments.{Segment, HasShape, joined, bytes_of, events
 use Rattle.esc_frame.specs.Leads.{Unfinished, Stands, AreFinished, open_bytes, finished_events, told_open}
 use Rattle.esc_frame.specs.Leads.Unfinished.{Ground}
 use Rattle.esc_frame.specs.Machine.Moves.{after_by, news_by, after_all, news_all}
-use Rattle.esc_frame.specs.Stream.{events, added, Says}
+use Rattle.esc_frame.specs.Stream.{events, events_within, added_within, Says}
 use Rattle.esc_frame.proofs.Cuts.{stands_tells, stands, events_of_the_cut}
 use Rattle.esc_frame.proofs.OneCut.{events_once}
 
 -- what stands told the stream's events
-pub stands_events : (s : List ℕ) (es : List Event) (gs : List Segment) (u : Unfinished) → Stands s es gs u → es ≡ events s
-stands_events s es gs u st = events_once s es (events s) (stands_tells s es gs u st) (events_of_the_cut s)
+pub stands_events : (limit : Option ℕ) (s : List ℕ) (es : List Event) (gs : List Segment) (u : Unfinished) → Stands limit s es gs u → es ≡ events_within limit s
+stands_events limit s es gs u st = events_once limit s es (events_within limit s) (stands_tells s es gs u st) (events_of_the_cut limit s)
 
 drop_front : {X : Type 0} (xs ys : List X) → drop (length xs) (xs ++ ys) ≡ ys
 drop_front [] ys = refl
 drop_front (x ∷ xs) ys = drop_front xs ys
 
 -- the events of a front are a front of the events
-pub added_from : (s b : List ℕ) (news : List Event) → events s ++ news ≡ events (s ++ b) → added s b ≡ news
-unfolding added
-added_from s b news e = ap (drop (length (events s))) (sym e) ∙ drop_front (events s) news
+pub added_from : (limit : Option ℕ) (s b : List ℕ) (news : List Event) → events_within limit s ++ news ≡ events_within limit (s ++ b)
+    → added_within limit s b ≡ news
+unfolding added_within
+added_from limit s b news e = ap (drop (length (events_within limit s))) (sym e) ∙ drop_front (events_within limit s) news
 
 -- ---- the machine, some bytes and then more
 
@@ -30,33 +31,36 @@ pub after_append : (u : Unfinished) (xs ys : List ℕ) → after_all u (xs ++ ys
 after_append u [] ys = refl
 after_append u (b ∷ xs) ys = after_append (after_by u b (class_of b)) xs ys
 
-pub news_append : (u : Unfinished) (xs ys : List ℕ) → news_all u (xs ++ ys) ≡ news_all u xs ++ news_all (after_all u xs) ys
-news_append u [] ys = refl
-news_append u (b ∷ xs) ys =
-    ap (λ z. news_by u b (class_of b) ++ z) (news_append (after_by u b (class_of b)) xs ys)
-    ∙ sym (append_assoc (news_by u b (class_of b)) (news_all (after_by u b (class_of b)) xs) (news_all (after_all (after_by u b (class_of b)) xs) ys))
+pub news_append : (limit : Option ℕ) (u : Unfinished) (xs ys : List ℕ)
+    → news_all limit u (xs ++ ys) ≡ news_all limit u xs ++ news_all limit (after_all u xs) ys
+news_append limit u [] ys = refl
+news_append limit u (b ∷ xs) ys =
+    let v = after_by u b (class_of b) in
+    ap (λ z. news_by limit u b (class_of b) ++ z) (news_append limit v xs ys)
+    ∙ sym (append_assoc (news_by limit u b (class_of b)) (news_all limit v xs) (news_all limit (after_all v xs) ys))
 
 -- ---- the events of a stream and of more of it
 
-events_then : (s b : List ℕ) → events s ++ news_all (after_all Ground s) b ≡ events (s ++ b)
-unfolding events
-events_then s b = sym (news_append Ground s b)
+module _ (limit : Option ℕ) where
+  events_then : (s b : List ℕ) → events_within limit s ++ news_all limit (after_all Ground s) b ≡ events_within limit (s ++ b)
+  unfolding events_within
+  events_then s b = sym (news_append limit Ground s b)
 
--- what more bytes add is what the machine tells of them
-pub added_is : (s b : List ℕ) → added s b ≡ news_all (after_all Ground s) b
-added_is s b = added_from s b (news_all (after_all Ground s) b) (events_then s b)
+  -- what more bytes add is what the machine tells of them
+  pub added_is : (s b : List ℕ) → added_within limit s b ≡ news_all limit (after_all Ground s) b
+  added_is s b = added_from limit s b (news_all limit (after_all Ground s) b) (events_then s b)
 
-pub events_more : (s b : List ℕ) → events s ++ added s b ≡ events (s ++ b)
-events_more s b = ap (λ x. events s ++ x) (added_is s b) ∙ events_then s b
+  pub events_more : (s b : List ℕ) → events_within limit s ++ added_within limit s b ≡ events_within limit (s ++ b)
+  events_more s b = ap (λ x. events_within limit s ++ x) (added_is s b) ∙ events_then s b
 
-pub added_append : (s b c : List ℕ) → added s (b ++ c) ≡ added s b ++ added (s ++ b) c
-added_append s b c =
-    added_from s (b ++ c) (added s b ++ added (s ++ b) c)
-    (sym (append_assoc (events s) (added s b) (added (s ++ b) c)) ∙ ap (λ x. x ++ added (s ++ b) c) (events_more s b) ∙ events_more (s ++ b) c ∙ ap events
-    (append_assoc s b c))
+  pub added_append : (s b c : List ℕ) → added_within limit s (b ++ c) ≡ added_within limit s b ++ added_within limit (s ++ b) c
+  added_append s b c =
+      added_from limit s (b ++ c) (added_within limit s b ++ added_within limit (s ++ b) c)
+      (sym (append_assoc (events_within limit s) (added_within limit s b) (added_within limit (s ++ b) c))
+      ∙ ap (λ x. x ++ added_within limit (s ++ b) c) (events_more s b) ∙ events_more (s ++ b) c ∙ ap (events_within limit) (append_assoc s b c))
 
 pub events_nil : events [] ≡ []
-unfolding events
+unfolding events_within
 events_nil = refl
 
 -- finished segments before others
@@ -80,19 +84,19 @@ are_append (g ∷ gs) hs r (sh, fi, f) k =
 -- The text of segments that are finished whatever follows says their events: the one fact about the framing that a writer needs.
 pub says_segments : (gs : List Segment) → ((rest : List ℕ) → AreFinished gs rest) → Says (joined gs) (finished_events gs)
 says_segments gs f rest =
-    let w = stands rest in
+    let w = stands None rest in
     let u = after_all Ground rest in
     let st = w.1 in
     let here : AreFinished gs (joined w.0 ++ open_bytes u) = subst (λ x. AreFinished gs x) st.whole (f rest) in
-    let all : Stands (joined gs ++ rest) (finished_events gs ++ events rest) (gs ++ w.0) u = record {
+    let all : Stands None (joined gs ++ rest) (finished_events gs ++ events rest) (gs ++ w.0) u = record {
       whole = ap (λ x. joined gs ++ x) st.whole ∙ sym (regroup gs w.0 (open_bytes u));
       finished = are_append gs w.0 (open_bytes u) here st.finished;
       shape = st.shape;
       told =
-          ap (λ x. finished_events gs ++ x) st.told ∙ sym (append_assoc (finished_events gs) (finished_events w.0) (told_open u))
-          ∙ ap (λ x. x ++ told_open u) (sym (told-append gs w.0));
+          ap (λ x. finished_events gs ++ x) st.told ∙ sym (append_assoc (finished_events gs) (finished_events w.0) (told_open None u))
+          ∙ ap (λ x. x ++ told_open None u) (sym (told-append gs w.0));
     } in
-    sym (stands_events (joined gs ++ rest) (finished_events gs ++ events rest) (gs ++ w.0) u all)
+    sym (stands_events None (joined gs ++ rest) (finished_events gs ++ events rest) (gs ++ w.0) u all)
 
 -- texts, one behind another
 pub says_nil : Says [] []

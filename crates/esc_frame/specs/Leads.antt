@@ -1,6 +1,6 @@
 -- What is unfinished of a stream, and what the machine keeps of it. Private contracts cite it; the public relation is
 -- `LeadsTo` of Stream.
-use Rattle.std.specs.Prelude.{ℕ, ◌≡◌, true, false, if◌then◌else◌, List, [], ◌∷◌, ◌++◌}
+use Rattle.std.specs.Prelude.{ℕ, ◌≡◌, true, false, if◌then◌else◌, List, [], ◌∷◌, ◌++◌, Option, None, length}
 use Rattle.std.specs.List.{flat_map}
 use Rattle.esc_frame.specs.declared.classes.Kind.{Kind}
 use Rattle.esc_frame.specs.declared.classes.Kind.TheVariants as kind
@@ -8,12 +8,12 @@ use Rattle.esc_frame.specs.declared.machine.State.TheVariants as state
 use Rattle.esc_frame.specs.declared.machine.Machine.{Machine}
 use Rattle.esc_frame.specs.Classes.{strip, those, is_text}
 use Rattle.esc_frame.specs.Sequences.{is_front}
-use Rattle.esc_frame.specs.Bodies.{is_dcs_header}
+use Rattle.esc_frame.specs.Limits.{is_read, kept_within, header_count}
 use Rattle.esc_frame.specs.Machine.Fronts.{front_of}
-use Rattle.esc_frame.specs.Machine.Keeps.{Keeps, KeepsBody}
+use Rattle.esc_frame.specs.Machine.Keeps.{Keeps, KeepsBody, KeepsText, KeepsDcs, parameters_of}
 use Rattle.esc_frame.specs.Events.{Event}
 use Rattle.esc_frame.specs.Segments.{Segment, Opener, Piece, opener, opener_events, text_of, text_bytes, HasShape, IsOpener, ArePieces, is_finished, is_empty}
-use Rattle.esc_frame.specs.Segments.{joined, bytes_of, events_of, executes, hook_event, puts}
+use Rattle.esc_frame.specs.Segments.{joined, bytes_of, events_of_within, executes, hook_event, puts}
 use Rattle.esc_frame.specs.Segments.Segment.{CutEscape, CutCsi, CutDcs, Dcs, Apc, Ignored}
 
 -- the last segment, where it is unfinished, taken apart
@@ -64,39 +64,50 @@ abbrev pub AreFinished : List Segment → List ℕ → Type 0
 AreFinished [] rest = Unit {0}
 AreFinished (g ∷ gs) rest = HasShape g (joined gs ++ rest) × (is_finished g (joined gs ++ rest) ≡ true) × AreFinished gs rest
 
--- what the machine keeps of the unfinished segment
-abbrev pub Holds : {A : Type 0} → Machine A → Unfinished → Type 0
-Holds m Ground = (m.state ≡ state.Ground) × (front_of m.pending ≡ [])
-Holds m (Pending f) = (m.state ≡ state.Ground) × (front_of m.pending ≡ f) × (is_empty f ≡ false)
-Holds m (InEscape x) = (m.state ≡ state.Escape) × Keeps m.intermediates (strip x)
-Holds m (InCsi o x) = (m.state ≡ state.Csi) × KeepsBody m.body (strip x)
-Holds m (InDcs o x) = (m.state ≡ state.Dcs) × (m.text.items ≡ strip x)
-Holds m (InData o x f d) = m.state ≡ (if is_dcs_header (strip x) then state.Data else state.Skip)
-Holds m (InApc o d) = (m.state ≡ state.Apc) × (m.text.items ≡ those is_text d)
-Holds m (InIgnored k o d) = m.state ≡ state.Skip
-Holds m (InOsc o ps) = (m.state ≡ state.Osc) × (m.text.items ≡ text_of ps) × (front_of m.pending ≡ [])
-Holds m (InOscPending o ps f) = (m.state ≡ state.Osc) × (m.text.items ≡ text_of ps) × (front_of m.pending ≡ f) × (is_empty f ≡ false)
+-- what the machine keeps of the unfinished segment, of a string no more than the limit
+abbrev pub Holds : {A : Type 0} → Option ℕ → Machine A → Unfinished → Type 0
+Holds limit m Ground = (m.state ≡ state.Ground) × (front_of m.pending ≡ [])
+Holds limit m (Pending f) = (m.state ≡ state.Ground) × (front_of m.pending ≡ f) × (is_empty f ≡ false)
+Holds limit m (InEscape x) = (m.state ≡ state.Escape) × Keeps m.intermediates (strip x)
+Holds limit m (InCsi o x) = (m.state ≡ state.Csi) × KeepsBody m.body (strip x)
+Holds limit m (InDcs o x) = (m.state ≡ state.Dcs) × KeepsText limit m.text (parameters_of (strip x)) × KeepsDcs m.header (strip x)
+Holds limit m (InData o x f d) = m.state ≡ (if is_read limit (strip x) then state.Data else state.Skip)
+Holds limit m (InApc o d) = (m.state ≡ state.Apc) × KeepsText limit m.text (those is_text d)
+Holds limit m (InIgnored k o d) = m.state ≡ state.Skip
+Holds limit m (InOsc o ps) = (m.state ≡ state.Osc) × KeepsText limit m.text (text_of ps) × (front_of m.pending ≡ [])
+Holds limit m (InOscPending o ps f) = (m.state ≡ state.Osc) × KeepsText limit m.text (text_of ps) × (front_of m.pending ≡ f) × (is_empty f ≡ false)
+
+-- the count of what is kept of it
+abbrev pub kept_open : Option ℕ → Unfinished → ℕ
+kept_open limit (InOsc o ps) = kept_within limit (length (text_of ps))
+kept_open limit (InOscPending o ps f) = kept_within limit (length (text_of ps))
+kept_open limit (InApc o d) = kept_within limit (length (those is_text d))
+kept_open limit (InDcs o x) = kept_within limit (header_count (strip x))
+kept_open limit _ = 0
 
 -- what the finished segments have told
+abbrev pub finished_events_within : Option ℕ → List Segment → List Event
+finished_events_within limit gs = flat_map (λ g. events_of_within limit g true) gs
+
 abbrev pub finished_events : List Segment → List Event
-finished_events gs = flat_map (λ g. events_of g true) gs
+finished_events gs = finished_events_within None gs
 
 -- what the unfinished segment has told
-abbrev pub told_open : Unfinished → List Event
-told_open Ground = []
-told_open (Pending f) = []
-told_open (InEscape x) = executes x
-told_open (InCsi o x) = opener_events o ++ executes x
-told_open (InDcs o x) = opener_events o
-told_open (InData o x f d) = opener_events o ++ (if is_dcs_header (strip x) then hook_event (strip x) f ∷ puts d else [])
-told_open (InApc o d) = opener_events o
-told_open (InIgnored k o d) = opener_events o
-told_open (InOsc o ps) = opener_events o
-told_open (InOscPending o ps f) = opener_events o
+abbrev pub told_open : Option ℕ → Unfinished → List Event
+told_open limit Ground = []
+told_open limit (Pending f) = []
+told_open limit (InEscape x) = executes x
+told_open limit (InCsi o x) = opener_events o ++ executes x
+told_open limit (InDcs o x) = opener_events o
+told_open limit (InData o x f d) = opener_events o ++ (if is_read limit (strip x) then hook_event (strip x) f ∷ puts d else [])
+told_open limit (InApc o d) = opener_events o
+told_open limit (InIgnored k o d) = opener_events o
+told_open limit (InOsc o ps) = opener_events o
+told_open limit (InOscPending o ps f) = opener_events o
 
 -- the stream has a cut with these finished segments and this unfinished one, and told these events
-pub record Stands (stream : List ℕ) (events : List Event) (gs : List Segment) (u : Unfinished) : Type 0 where
+pub record Stands (limit : Option ℕ) (stream : List ℕ) (events : List Event) (gs : List Segment) (u : Unfinished) : Type 0 where
   pub whole : stream ≡ joined gs ++ open_bytes u
   pub finished : AreFinished gs (open_bytes u)
   pub shape : OpenShape u
-  pub told : events ≡ finished_events gs ++ told_open u
+  pub told : events ≡ finished_events_within limit gs ++ told_open limit u

@@ -1,8 +1,10 @@
 pub mod Classes
 pub mod Sequences
 pub mod Bodies
+pub mod Limits
 pub mod Events
 pub mod Segments
+pub mod Counts
 pub mod Scans
 pub mod Machine
 pub mod Leads

@@ -1,5 +1,5 @@
 -- The segments of a stream, taken apart, and the cut of a stream into them.
-use Rattle.std.specs.Prelude.{ℕ, ◌≡◌, ◌&&◌, ◌||◌, Bool, true, false, ◌==◌, if◌then◌else◌, List, [], ◌∷◌, ◌++◌, map}
+use Rattle.std.specs.Prelude.{ℕ, ◌≡◌, ◌&&◌, ◌||◌, Bool, true, false, ◌==◌, if◌then◌else◌, List, [], ◌∷◌, ◌++◌, map, length, Option, None}
 use Rattle.std.specs.List.{flat_map}
 use Rattle.esc_frame.specs.declared.classes.Kind.{Kind}
 use Rattle.esc_frame.specs.declared.classes.Kind.TheVariants as kind
@@ -9,7 +9,8 @@ use Rattle.esc_frame.specs.Sequences.{is_sequence, is_front, is_pair, is_broken_
 use Rattle.esc_below.specs.Clear.{parts_of}
 use Rattle.esc_frame.specs.Events.{Event}
 use Rattle.esc_frame.specs.Events.Event.{Print, Execute, EscDispatch, CsiDispatch, OscDispatch, DcsHook, DcsPut, DcsUnhook, ApcDispatch}
-use Rattle.esc_frame.specs.Bodies.{is_csi_body, is_dcs_header, kept_entries, has_more_entries, dcs_params, dcs_intermediates, kept_intermediates}
+use Rattle.esc_frame.specs.Limits.{is_within, is_read}
+use Rattle.esc_frame.specs.Bodies.{is_csi_body, kept_entries, has_more_entries, dcs_params, dcs_intermediates, kept_intermediates}
 use Rattle.esc_frame.specs.Bodies.{has_more_intermediates}
 
 -- ESC, noise and the letter; or the control, raw or behind C2
@@ -235,30 +236,48 @@ hook_event x f = DcsHook f (dcs_params x) (kept_intermediates (dcs_intermediates
 abbrev pub puts : List ℕ → List Event
 puts d = map DcsPut (those is_put d)
 
-abbrev pub events_of : Segment → Bool → List Event
-events_of (Character b) finished = Print b ∷ []
-events_of (Wide x) finished = Print (number_of x) ∷ []
-events_of (Broken x) finished = if finished then Print 0xfffd ∷ [] else []
-events_of (Stray b) finished = Print 0xfffd ∷ []
-events_of (Control b) finished = Execute b ∷ []
-events_of (HighControl p b) finished = Execute b ∷ []
-events_of (Terminator p b) finished = []
-events_of (Escape x f) finished = executes x ++ escape_event (strip x) f ∷ []
-events_of (Csi o x f) finished = opener_events o ++ executes x ++ csi_events (strip x) f
-events_of (Osc o ps e) finished = opener_events o ++ (if finished then OscDispatch (parts_of (text_of ps)) ∷ [] else [])
-events_of (CutEscape x) finished = executes x
-events_of (Dcs o x f d) finished =
-    opener_events o ++ (if is_dcs_header (strip x) then (hook_event (strip x) f ∷ puts d) ++ (if finished then DcsUnhook ∷ [] else []) else [])
-events_of (Apc o d) finished = opener_events o ++ (if finished then ApcDispatch (those is_text d) ∷ [] else [])
-events_of (Ignored k o d) finished = opener_events o
-events_of (CutDcs o x) finished = opener_events o
-events_of (CutCsi o x) finished = opener_events o ++ executes x
+-- what an OSC with this text, and an APC with these bytes, dispatches where it is finished: nothing past the limit
+abbrev pub osc_events : Option ℕ → List ℕ → List Event
+osc_events limit t = if is_within limit (length t) then OscDispatch (parts_of t) ∷ [] else []
 
-abbrev pub events_of_cut : List Segment → List Event
-events_of_cut [] = []
-events_of_cut (g ∷ []) = events_of g (ends_itself g)
-events_of_cut (g ∷ h ∷ gs) = events_of g true ++ events_of_cut (h ∷ gs)
+abbrev pub apc_events : Option ℕ → List ℕ → List Event
+apc_events limit t = if is_within limit (length t) then ApcDispatch t ∷ [] else []
+
+-- the events of a segment, where of each string no more is kept than the limit
+abbrev pub events_of_within : Option ℕ → Segment → Bool → List Event
+events_of_within limit (Character b) finished = Print b ∷ []
+events_of_within limit (Wide x) finished = Print (number_of x) ∷ []
+events_of_within limit (Broken x) finished = if finished then Print 0xfffd ∷ [] else []
+events_of_within limit (Stray b) finished = Print 0xfffd ∷ []
+events_of_within limit (Control b) finished = Execute b ∷ []
+events_of_within limit (HighControl p b) finished = Execute b ∷ []
+events_of_within limit (Terminator p b) finished = []
+events_of_within limit (Escape x f) finished = executes x ++ escape_event (strip x) f ∷ []
+events_of_within limit (Csi o x f) finished = opener_events o ++ executes x ++ csi_events (strip x) f
+events_of_within limit (Osc o ps e) finished = opener_events o ++ (if finished then osc_events limit (text_of ps) else [])
+events_of_within limit (CutEscape x) finished = executes x
+events_of_within limit (Dcs o x f d) finished =
+    opener_events o ++ (if is_read limit (strip x) then (hook_event (strip x) f ∷ puts d) ++ (if finished then DcsUnhook ∷ [] else []) else [])
+events_of_within limit (Apc o d) finished = opener_events o ++ (if finished then apc_events limit (those is_text d) else [])
+events_of_within limit (Ignored k o d) finished = opener_events o
+events_of_within limit (CutDcs o x) finished = opener_events o
+events_of_within limit (CutCsi o x) finished = opener_events o ++ executes x
+
+abbrev pub events_of_cut_within : Option ℕ → List Segment → List Event
+events_of_cut_within limit [] = []
+events_of_cut_within limit (g ∷ []) = events_of_within limit g (ends_itself g)
+events_of_cut_within limit (g ∷ h ∷ gs) = events_of_within limit g true ++ events_of_cut_within limit (h ∷ gs)
 
 -- what a stream tells: the events of its cut
+abbrev pub HasEventsWithin : Option ℕ → List ℕ → List Event → Type 0
+HasEventsWithin limit stream events = (gs : List Segment) × IsCut stream gs × (events ≡ events_of_cut_within limit gs)
+
+-- the same without a limit
+abbrev pub events_of : Segment → Bool → List Event
+events_of g finished = events_of_within None g finished
+
+abbrev pub events_of_cut : List Segment → List Event
+events_of_cut gs = events_of_cut_within None gs
+
 abbrev pub HasEvents : List ℕ → List Event → Type 0
-HasEvents stream events = (gs : List Segment) × IsCut stream gs × (events ≡ events_of_cut gs)
+HasEvents stream events = HasEventsWithin None stream events

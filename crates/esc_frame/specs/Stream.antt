@@ -1,5 +1,5 @@
 -- The events of a stream, and which streams lead to a parser.
-use Rattle.std.specs.Prelude.{ℕ, ◌≡◌, ◌<◌, true, false, List, [], ◌++◌, length, take, drop}
+use Rattle.std.specs.Prelude.{ℕ, ◌≡◌, ◌<◌, true, false, List, [], ◌++◌, length, take, drop, Option, None}
 use Rattle.esc_frame.specs.declared.parser.VTParser.{VTParser}
 use Rattle.esc_frame.specs.Events.{Event}
 use Rattle.esc_frame.specs.Segments.{Segment, IsCut}
@@ -7,31 +7,47 @@ use Rattle.esc_frame.specs.Leads.{AreFinished, Holds}
 use Rattle.esc_frame.specs.Leads.Unfinished.{Ground}
 use Rattle.esc_frame.specs.Machine.Moves.{after_all, news_all}
 
--- The events of a stream. The laws `events_of_the_cut` and `events_once` fix it: they are those that the stream's one cut
--- tells, and no others. Nothing above this crate uses more of its body, which takes byte after byte as the code does.
-unfoldable pub events : List ℕ → List Event
-events s = news_all Ground s
+-- The events of a stream, where of each string no more is kept than the limit: of a longer one nothing is told. The laws
+-- `events_of_the_cut_within` and `events_once_within` fix it: they are those that the stream's one cut tells, and no others.
+-- Nothing above this crate uses more of its body, which takes byte after byte as the code does.
+unfoldable pub events_within : Option ℕ → List ℕ → List Event
+events_within limit s = news_all limit Ground s
 
 -- what b adds to the events of s
-unfoldable pub added : List ℕ → List ℕ → List Event
-added s b = drop (length (events s)) (events (s ++ b))
+unfoldable pub added_within : Option ℕ → List ℕ → List ℕ → List Event
+added_within limit s b = drop (length (events_within limit s)) (events_within limit (s ++ b))
 
--- The stream may be what the parser was fed: it keeps what is unfinished of it, and has not failed.
-unfoldable pub LeadsTo : {A : Type 0} → List ℕ → VTParser A → Type 0
-LeadsTo s p = (p.has_failed ≡ false) × Holds p.machine (after_all Ground s)
+-- The stream may be what the parser was fed, which keeps no more of a string than the limit: it keeps what is unfinished
+-- of the stream, and has not failed.
+unfoldable pub LeadsToWithin : {A : Type 0} → Option ℕ → List ℕ → VTParser A → Type 0
+LeadsToWithin limit s p = (p.has_failed ≡ false) × (p.limit ≡ limit) × Holds p.limit p.machine (after_all Ground s)
 
 -- an earlier call of the parser was refused memory
 unfoldable pub HasFailed : {A : Type 0} → VTParser A → Type 0
 HasFailed p = p.has_failed ≡ true
-
--- These bytes have these events, and what follows them has its own, whatever it is.
-abbrev pub Says : List ℕ → List Event → Type 0
-Says t es = (rest : List ℕ) → events (t ++ rest) ≡ es ++ events rest
 
 -- the stream's cut has no unfinished segment
 abbrev pub IsAtGround : List ℕ → Type 0
 IsAtGround s = (gs : List Segment) × IsCut s gs × AreFinished gs []
 
 -- of the first n bytes that follow s, all but the last add no event and leave a segment unfinished
+abbrev pub IsQuietWithin : Option ℕ → List ℕ → List ℕ → ℕ → Type 0
+IsQuietWithin limit s b n = (k : ℕ) → 0 < k → k < n → (added_within limit s (take k b) ≡ []) × (IsAtGround (s ++ take k b) → ⊥)
+
+-- ---- without a limit
+
+abbrev pub events : List ℕ → List Event
+events s = events_within None s
+
+abbrev pub added : List ℕ → List ℕ → List Event
+added s b = added_within None s b
+
+abbrev pub LeadsTo : {A : Type 0} → List ℕ → VTParser A → Type 0
+LeadsTo s p = LeadsToWithin None s p
+
 abbrev pub IsQuiet : List ℕ → List ℕ → ℕ → Type 0
-IsQuiet s b n = (k : ℕ) → 0 < k → k < n → (added s (take k b) ≡ []) × (IsAtGround (s ++ take k b) → ⊥)
+IsQuiet s b n = IsQuietWithin None s b n
+
+-- These bytes have these events, and what follows them has its own, whatever it is.
+abbrev pub Says : List ℕ → List Event → Type 0
+Says t es = (rest : List ℕ) → events (t ++ rest) ≡ es ++ events rest

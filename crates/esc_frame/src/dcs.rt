@@ -1,32 +1,38 @@
 //! The machine in device control strings.
 #![tactic(auto)]
 
-ghost use Rattle.std.specs.Prelude.{◌≡◌, ◌<◌, ℕ, List, [], ◌∷◌, true, false, length, map, OnOk};
-ghost use Rattle.std.specs.List.{list_all};
-ghost use Rattle.esc_frame.specs.Bodies.{is_dcs_header};
-ghost use Rattle.esc_frame.specs.Classes.{class_of, strip, those, is_put};
+ghost use Rattle.std.specs.Prelude.{◌≡◌, ◌<◌, ◌++◌, ℕ, List, Option, [], ◌∷◌, true, length, OnOk};
+ghost use Rattle.esc_frame.specs.Classes.{class_of, strip};
 ghost use Rattle.esc_frame.specs.Events.{Takes};
-ghost use Rattle.esc_frame.specs.Events.Event.{DcsPut, DcsUnhook};
+ghost use Rattle.esc_frame.specs.Events.Event.{DcsUnhook};
 ghost use Rattle.esc_frame.specs.Leads.{Unfinished, Holds};
 ghost use Rattle.esc_frame.specs.Leads.Unfinished.{InDcs, InData};
 ghost use Rattle.esc_frame.specs.Machine.Calls.{Moved, Took, Advances};
+ghost use Rattle.esc_frame.specs.Limits.{is_read};
+ghost use Rattle.esc_frame.specs.Machine.Keeps.{KeepsText, KeepsDcs, parameters_of};
 ghost use Rattle.esc_frame.specs.Machine.Moves.{telling, ground_move, inside};
-ghost use Rattle.esc_frame.specs.Scans.{is_text_byte};
 ghost use Rattle.esc_frame.specs.Segments.{Opener, hook_event};
 
 use crate::actor::VTActor;
 use crate::classes::Class;
-use crate::header;
+use crate::header::{DcsHeader, is_parameter, params_of};
+use crate::kept::Kept;
 use crate::machine::{Machine, Result, State};
-use crate::scans::text_run;
+use crate::scans::data_run;
 use std::alloc::Allocator;
 
 impl<A: Allocator> Machine<A> {
     /// A byte after a DCS's opener and x.
     #[tactic(auto, using(crate::proofs::Given::takes_moved))]
-    pub fn in_dcs<V: VTActor>(&mut self, b: u8, class: Class, actor: &mut V) -> Result<()>
+    pub fn in_dcs<V: VTActor>(
+        &mut self,
+        limit: Option<usize>,
+        b: u8,
+        class: Class,
+        actor: &mut V,
+    ) -> Result<()>
         requires { V.is_ready actor.old }
-        ensures moved { (o : Opener) (x : List ℕ) → class ≡ class_of b → self.old.text.items ≡ strip x → Moved true V.takes V.refuses result (inside (InDcs o x) b class) self.new actor.old actor.new }
+        ensures moved { (o : Opener) (x : List ℕ) → class ≡ class_of b → KeepsText limit self.old.text (parameters_of (strip x)) → KeepsDcs self.old.header (strip x) → Moved limit true V.takes V.refuses result (inside limit (InDcs o x) b class) self.new actor.old actor.new }
         ensures ready { OnOk result (V.is_ready actor.new) }
     {
         self.state = State::Dcs;
@@ -37,11 +43,16 @@ impl<A: Allocator> Machine<A> {
             | Class::RawOpens(_)
             | Class::RawTerminator => { self.in_ground(b, class, actor) }
             Class::Plain | Class::Bell | Class::Delete | Class::High | Class::Lead => Ok(()),
-            Class::Intermediate | Class::Parameter => self.text.extend_from_slice(&[b]),
+            Class::Intermediate | Class::Parameter => keep(
+                limit,
+                &mut self.header,
+                &mut self.text,
+                b,
+            ),
             Class::Opens(_) | Class::Final => {
-                if header::is_formed(&self.text) {
+                if is_read(&self.header, &self.text) {
                     self.state = State::Data;
-                    hook(&self.text, b, actor)
+                    hook(&self.header, &self.text, b, actor)
                 } else {
                     self.state = State::Skip;
                     Ok(())
@@ -54,7 +65,7 @@ impl<A: Allocator> Machine<A> {
     #[tactic(auto, using(crate::proofs::Given::hears_moved))]
     pub fn in_data<V: VTActor>(&mut self, b: u8, class: Class, actor: &mut V) -> Result<()>
         requires { V.is_ready actor.old }
-        ensures moved { (o : Opener) (x : List ℕ) (f : ℕ) (d : List ℕ) → is_dcs_header (strip x) ≡ true → Moved true V.takes V.refuses result (inside (InData o x f d) b class) self.new actor.old actor.new }
+        ensures moved { (limit : Option ℕ) (o : Opener) (x : List ℕ) (f : ℕ) (d : List ℕ) → is_read limit (strip x) ≡ true → Moved limit true V.takes V.refuses result (inside limit (InData o x f d) b class) self.new actor.old actor.new }
         ensures ready { OnOk result (V.is_ready actor.new) }
     {
         self.state = State::Data;
@@ -79,7 +90,7 @@ impl<A: Allocator> Machine<A> {
     // A breaker after a DCS's data.
     fn leave_data<V: VTActor>(&mut self, b: u8, class: Class, actor: &mut V) -> Result<()>
         requires { V.is_ready actor.old }
-        ensures moved { Moved true V.takes V.refuses result (telling (DcsUnhook ∷ []) (ground_move b class)) self.new actor.old actor.new }
+        ensures moved { (limit : Option ℕ) → Moved limit true V.takes V.refuses result (telling (DcsUnhook ∷ []) (ground_move b class)) self.new actor.old actor.new }
         ensures ready { OnOk result (V.is_ready actor.new) }
     {
         match actor.dcs_unhook() {
@@ -88,66 +99,72 @@ impl<A: Allocator> Machine<A> {
         }
     }
 
-    /// The run of 20-7F in the data of a device control string.
+    /// The run of 20-7E in the data of a device control string.
     #[inline(always)]
-    pub fn take_in_data<V: VTActor>(&mut self, rest: &[u8], actor: &mut V) -> Result<usize>
+    pub fn take_in_data<V: VTActor>(
+        &mut self,
+        limit: Option<usize>,
+        rest: &[u8],
+        actor: &mut V,
+    ) -> Result<usize>
         requires some { 0 < length rest.now }
         requires ready { V.is_ready actor.old }
         requires state { self.old.state ≡ State.Data }
-        ensures took { (u : Unfinished) → Holds self.old u → Took V.takes V.refuses result u rest.now self.new actor.old actor.new }
+        ensures took { (u : Unfinished) → Holds limit self.old u → Took limit V.takes V.refuses result u rest.now self.new actor.old actor.new }
         ensures count { Advances V.is_ready result rest.now actor.new }
     {
-        let run = text_run(rest);
+        let run = data_run(rest);
         if run == 0 {
-            return self.take_one(rest, actor);
+            return self.take_one(limit, rest, actor);
         }
-        match put_all(&rest[..run], actor) {
+        match actor.dcs_put_text(&rest[..run]) {
             Ok(()) => Ok(run),
             Err(e) => Err(e),
         }
     }
 }
 
-// The hook of a header that has its form, told.
-#[tactic(auto, using(crate::proofs::Given::hears_takes))]
-fn hook<A: Allocator, V: VTActor>(text: &Vec<u8, A>, b: u8, actor: &mut V) -> Result<()>
+// Takes a byte, 20-3F, of the header.
+fn keep<A: Allocator>(
+    limit: Option<usize>,
+    header: &mut DcsHeader,
+    parameters: &mut Kept<A>,
+    b: u8,
+) -> Result<()>
+    ensures parameters { (x : List ℕ) → KeepsText limit parameters.old (parameters_of x) → OnOk result (KeepsText limit parameters.new (parameters_of (x ++ b ∷ []))) }
+    ensures header { (x : List ℕ) → KeepsDcs header.old x → KeepsDcs header.new (x ++ b ∷ []) }
+{
+    header.push(b);
+    if is_parameter(b) {
+        parameters.push(limit, &[b])
+    } else {
+        Ok(())
+    }
+}
+
+// Whether the header is hooked: its parameter bytes are within the limit, and it has its form.
+fn is_read<A: Allocator>(header: &DcsHeader, parameters: &Kept<A>) -> bool
+    ensures { (limit : Option ℕ) (x : List ℕ) → KeepsText limit parameters.now (parameters_of x) → KeepsDcs header.now x → result ≡ is_read limit x }
+{
+    !parameters.count.is_over && header.is_formed()
+}
+
+// The hook of a header that is read, told.
+fn hook<A: Allocator, V: VTActor>(
+    header: &DcsHeader,
+    parameters: &Kept<A>,
+    b: u8,
+    actor: &mut V,
+) -> Result<()>
     requires { V.is_ready actor.old }
-    ensures told { Takes true V.takes V.refuses result actor.old (hook_event text.now.items b ∷ []) actor.new }
+    ensures told { (limit : Option ℕ) (x : List ℕ) → KeepsText limit parameters.now (parameters_of x) → KeepsDcs header.now x → is_read limit x ≡ true → Takes true V.takes V.refuses result actor.old (hook_event x b ∷ []) actor.new }
     ensures ready { OnOk result (V.is_ready actor.new) }
 {
-    match header::params_of(text.allocator(), text) {
+    match params_of(parameters.bytes.allocator(), &parameters.bytes) {
         Ok(params) => {
-            let kept = header::intermediates_of(text);
+            let kept = &header.intermediates;
             actor.dcs_hook(b, &params, kept.as_slice(), kept.ignored)
         }
         Err(e) => Err(e),
     }
-}
-
-// Gives bytes 20-7F of the data of a device control string to the actor, each but 7F.
-#[inline(always)]
-fn put_all<V: VTActor>(run: &[u8], actor: &mut V) -> Result<()>
-    requires text { list_all is_text_byte run.now ≡ true }
-    requires ready { V.is_ready actor.old }
-    ensures told { Takes false V.takes V.refuses result actor.old (map DcsPut (those is_put run.now)) actor.new }
-    ensures ready { OnOk result (V.is_ready actor.new) }
-{
-    for b in run {
-        match put_one(*b, actor) {
-            Ok(()) => {}
-            Err(e) => return Err(e),
-        }
-    }
-    Ok(())
-}
-
-#[tactic(auto, using(crate::proofs::Given::hears_takes))]
-#[inline(always)]
-fn put_one<V: VTActor>(b: u8, actor: &mut V) -> Result<()>
-    requires text { is_text_byte b ≡ true }
-    requires ready { V.is_ready actor.old }
-    ensures told { Takes false V.takes V.refuses result actor.old (map DcsPut (those is_put (b ∷ []))) actor.new }
-    ensures ready { OnOk result (V.is_ready actor.new) }
-{
-    if b == 0x7f { Ok(()) } else { actor.dcs_put(b) }
 }

@@ -1,7 +1,7 @@
 //! The machine in escape sequences and control sequences.
 #![tactic(auto)]
 
-ghost use Rattle.std.specs.Prelude.{◌≡◌, ◌≤◌, ◌<◌, ◌++◌, ◌+◌, ℕ, Bool, List, [], ◌∷◌, length, take, drop, true, slice_index, IfOk, OnOk};
+ghost use Rattle.std.specs.Prelude.{◌≡◌, ◌≤◌, ◌<◌, ◌++◌, ◌+◌, ℕ, Bool, List, Option, None, [], ◌∷◌, length, take, drop, true, slice_index, IfOk, OnOk};
 ghost use Rattle.std.specs.List.{list_all};
 ghost use Rattle.esc_frame.specs.Classes.{class_of, strip};
 ghost use Rattle.esc_frame.specs.Events.{Hears};
@@ -29,7 +29,7 @@ impl<A: Allocator> Machine<A> {
     #[tactic(auto, using(crate::proofs::Given::hears_moved))]
     pub fn in_escape<V: VTActor>(&mut self, b: u8, class: Class, actor: &mut V) -> Result<()>
         requires { V.is_ready actor.old }
-        ensures moved { (own : Bool) (x : List ℕ) → class ≡ class_of b → Keeps self.old.intermediates (strip x) → Moved own V.takes V.refuses result (inside (InEscape x) b class) self.new actor.old actor.new }
+        ensures moved { (limit : Option ℕ) (own : Bool) (x : List ℕ) → class ≡ class_of b → Keeps self.old.intermediates (strip x) → Moved limit own V.takes V.refuses result (inside limit (InEscape x) b class) self.new actor.old actor.new }
         ensures ready { OnOk result (V.is_ready actor.new) }
     {
         self.state = State::Escape;
@@ -60,7 +60,7 @@ impl<A: Allocator> Machine<A> {
     // The final byte of an escape sequence.
     fn dispatch_escape<V: VTActor>(&mut self, b: u8, actor: &mut V) -> Result<()>
         requires { V.is_ready actor.old }
-        ensures holds { Holds self.new Ground }
+        ensures holds { Holds None self.new Ground }
         ensures told { Hears V.takes V.refuses result actor.old (EscDispatch (take self.old.intermediates.kept self.old.intermediates.bytes) self.old.intermediates.ignored b) actor.new }
         ensures ready { OnOk result (V.is_ready actor.new) }
     {
@@ -78,7 +78,7 @@ impl<A: Allocator> Machine<A> {
     #[tactic(auto, using(crate::proofs::Given::hears_moved))]
     pub fn in_csi<V: VTActor>(&mut self, b: u8, class: Class, actor: &mut V) -> Result<()>
         requires { V.is_ready actor.old }
-        ensures moved { (o : Opener) (x : List ℕ) → class ≡ class_of b → KeepsBody self.old.body (strip x) → Moved true V.takes V.refuses result (inside (InCsi o x) b class) self.new actor.old actor.new }
+        ensures moved { (limit : Option ℕ) (o : Opener) (x : List ℕ) → class ≡ class_of b → KeepsBody self.old.body (strip x) → Moved limit true V.takes V.refuses result (inside limit (InCsi o x) b class) self.new actor.old actor.new }
         ensures ready { OnOk result (V.is_ready actor.new) }
     {
         self.state = State::Csi;
@@ -98,7 +98,7 @@ impl<A: Allocator> Machine<A> {
     // The final byte of a CSI.
     fn dispatch_csi<V: VTActor>(&mut self, b: u8, actor: &mut V) -> Result<()>
         requires { V.is_ready actor.old }
-        ensures moved { (x : List ℕ) → KeepsBody self.old.body x → Moved true V.takes V.refuses result (Ground, csi_events x b) self.new actor.old actor.new }
+        ensures moved { (limit : Option ℕ) (x : List ℕ) → KeepsBody self.old.body x → Moved limit true V.takes V.refuses result (Ground, csi_events x b) self.new actor.old actor.new }
         ensures ready { OnOk result (V.is_ready actor.new) }
     {
         self.state = State::Ground;
@@ -112,16 +112,21 @@ impl<A: Allocator> Machine<A> {
 
     /// ESC and at least two bytes more, in ground.
     #[inline(always)]
-    pub fn take_escape<V: VTActor>(&mut self, rest: &[u8], actor: &mut V) -> Result<usize>
+    pub fn take_escape<V: VTActor>(
+        &mut self,
+        limit: Option<usize>,
+        rest: &[u8],
+        actor: &mut V,
+    ) -> Result<usize>
         requires some { 2 < length rest.now }
         requires escape { slice_index rest.now 0 ≡ 0x1b }
         requires ready { V.is_ready actor.old }
-        ensures { TookSome V.takes V.refuses V.is_ready result rest.now self.new actor.old actor.new }
+        ensures { TookSome limit V.takes V.refuses V.is_ready result rest.now self.new actor.old actor.new }
     {
         if rest[1] == b'[' {
             self.take_csi(rest, actor)
         } else if rest[1] == b']' {
-            self.take_osc(rest, actor)
+            self.take_osc(limit, rest, actor)
         } else {
             self.take_one_in_ground(rest, actor)
         }
@@ -132,8 +137,8 @@ impl<A: Allocator> Machine<A> {
     pub fn take_quick_csi<V: VTActor>(&mut self, rest: &[u8], actor: &mut V) -> Result<usize>
         requires escape { slice_index rest.now 0 ≡ 0x1b }
         requires ready { V.is_ready actor.old }
-        requires ground { Holds self.old Ground }
-        ensures ground { IfOk result (λ n. Holds self.new Ground) }
+        requires ground { Holds None self.old Ground }
+        ensures ground { IfOk result (λ n. Holds None self.new Ground) }
         ensures stays { Stays (may_grow_within Ground rest.now) V.takes V.refuses V.is_ready result rest.now actor.old actor.new }
     {
         if rest.len() <= 2 {
@@ -160,7 +165,7 @@ impl<A: Allocator> Machine<A> {
         requires escape { slice_index rest.now 0 ≡ 0x1b }
         requires bracket { slice_index rest.now 1 ≡ 0x5b }
         requires ready { V.is_ready actor.old }
-        ensures { TookSome V.takes V.refuses V.is_ready result rest.now self.new actor.old actor.new }
+        ensures { (limit : Option ℕ) → TookSome limit V.takes V.refuses V.is_ready result rest.now self.new actor.old actor.new }
     {
         let run = self.short.read(&rest[2..]);
         if run == rest.len() - 2 {
@@ -188,10 +193,10 @@ impl<A: Allocator> Machine<A> {
         requires read { IsShort (take self.old.short.count self.old.short.items) (take run (drop 2 rest.now)) }
         requires ends { is_from 0x40 0x7e (slice_index rest.now (run + 2)) ≡ true }
         requires ready { V.is_ready actor.old }
-        ensures ground { IfOk result (λ n. Holds self.new Ground) }
+        ensures ground { IfOk result (λ n. Holds None self.new Ground) }
         ensures stays { Stays (may_grow_within Ground rest.now) V.takes V.refuses V.is_ready result rest.now actor.old actor.new }
         ensures some { IfOk result (λ n. 0 < n) }
-        ensures quiet { Quietly result Ground rest.now }
+        ensures quiet { (limit : Option ℕ) → Quietly limit result Ground rest.now }
     {
         self.state = State::Ground;
         self.pending = Pending::Nothing;
@@ -207,7 +212,7 @@ impl<A: Allocator> Machine<A> {
         requires escape { slice_index rest.now 0 ≡ 0x1b }
         requires bracket { slice_index rest.now 1 ≡ 0x5b }
         requires ready { V.is_ready actor.old }
-        ensures { TookSome V.takes V.refuses V.is_ready result rest.now self.new actor.old actor.new }
+        ensures { (limit : Option ℕ) → TookSome limit V.takes V.refuses V.is_ready result rest.now self.new actor.old actor.new }
     {
         self.open(Kind::Csi);
         match self.take_in_csi(&rest[2..], actor) {
@@ -222,8 +227,8 @@ impl<A: Allocator> Machine<A> {
         requires some { 0 < length rest.now }
         requires ready { V.is_ready actor.old }
         requires state { self.old.state ≡ State.Csi }
-        ensures took { (o : Opener) (x : List ℕ) → KeepsBody self.old.body (strip x) → Took V.takes V.refuses result (InCsi o x) rest.now self.new actor.old actor.new }
-        ensures quiet { (o : Opener) (x : List ℕ) → Quietly result (InCsi o x) rest.now }
+        ensures took { (limit : Option ℕ) (o : Opener) (x : List ℕ) → KeepsBody self.old.body (strip x) → Took limit V.takes V.refuses result (InCsi o x) rest.now self.new actor.old actor.new }
+        ensures quiet { (limit : Option ℕ) (o : Opener) (x : List ℕ) → Quietly limit result (InCsi o x) rest.now }
         ensures count { Advances V.is_ready result rest.now actor.new }
     {
         match push_run(&mut self.body, rest) {
@@ -245,8 +250,8 @@ impl<A: Allocator> Machine<A> {
         requires passes { list_all is_body_byte (take run rest.now) ≡ true }
         requires ready { V.is_ready actor.old }
         requires state { self.old.state ≡ State.Csi }
-        ensures took { (o : Opener) (x : List ℕ) → KeepsBody self.old.body (strip x ++ take run rest.now) → Took V.takes V.refuses result (InCsi o x) rest.now self.new actor.old actor.new }
-        ensures quiet { (o : Opener) (x : List ℕ) → Quietly result (InCsi o x) rest.now }
+        ensures took { (limit : Option ℕ) (o : Opener) (x : List ℕ) → KeepsBody self.old.body (strip x ++ take run rest.now) → Took limit V.takes V.refuses result (InCsi o x) rest.now self.new actor.old actor.new }
+        ensures quiet { (limit : Option ℕ) (o : Opener) (x : List ℕ) → Quietly limit result (InCsi o x) rest.now }
         ensures count { Advances V.is_ready result rest.now actor.new }
     {
         if run == rest.len() {
@@ -262,7 +267,7 @@ impl<A: Allocator> Machine<A> {
     #[inline(always)]
     fn end_body<V: VTActor>(&mut self, b: u8, actor: &mut V) -> Result<()>
         requires { V.is_ready actor.old }
-        ensures moved { (o : Opener) (x : List ℕ) → KeepsBody self.old.body (strip x) → Moved true V.takes V.refuses result (inside (InCsi o x) b (class_of b)) self.new actor.old actor.new }
+        ensures moved { (limit : Option ℕ) (o : Opener) (x : List ℕ) → KeepsBody self.old.body (strip x) → Moved limit true V.takes V.refuses result (inside limit (InCsi o x) b (class_of b)) self.new actor.old actor.new }
         ensures ready { OnOk result (V.is_ready actor.new) }
     {
         if 0x40 <= b && b <= 0x7e {

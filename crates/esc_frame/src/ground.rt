@@ -1,7 +1,7 @@
 //! The machine in ground: characters, controls, and what opens.
 #![tactic(auto)]
 
-ghost use Rattle.std.specs.Prelude.{◌≡◌, ◌<◌, ◌++◌, ◌∷◌, ℕ, List, [], Bool, true, length, OnOk, IfOk};
+ghost use Rattle.std.specs.Prelude.{◌≡◌, ◌<◌, ◌++◌, ◌∷◌, ℕ, List, Option, None, [], Bool, true, length, OnOk, IfOk};
 ghost use Rattle.esc_frame.specs.Leads.{Holds};
 ghost use Rattle.esc_frame.specs.Leads.Unfinished.{Ground};
 ghost use Rattle.esc_frame.specs.Machine.Calls.{Moved, Took, TookSome, Advances, Stays};
@@ -23,7 +23,7 @@ impl<A: Allocator> Machine<A> {
     #[tactic(auto, using(crate::proofs::Given::hears_moved))]
     pub fn in_ground<V: VTActor>(&mut self, b: u8, class: Class, actor: &mut V) -> Result<()>
         requires { V.is_ready actor.old }
-        ensures moved { (own : Bool) → Moved own V.takes V.refuses result (ground_move b class) self.new actor.old actor.new }
+        ensures moved { (limit : Option ℕ) (own : Bool) → Moved limit own V.takes V.refuses result (ground_move b class) self.new actor.old actor.new }
         ensures ready { OnOk result (V.is_ready actor.new) }
     {
         self.state = State::Ground;
@@ -58,7 +58,7 @@ impl<A: Allocator> Machine<A> {
     #[tactic(auto, using(crate::proofs::Given::hears_moved))]
     pub fn in_pair<V: VTActor>(&mut self, b: u8, class: Class, actor: &mut V) -> Result<()>
         requires { V.is_ready actor.old }
-        ensures moved { (own : Bool) → Moved own V.takes V.refuses result (pair_move b class) self.new actor.old actor.new }
+        ensures moved { (limit : Option ℕ) (own : Bool) → Moved limit own V.takes V.refuses result (pair_move b class) self.new actor.old actor.new }
         ensures ready { OnOk result (V.is_ready actor.new) }
     {
         self.state = State::Ground;
@@ -87,7 +87,7 @@ impl<A: Allocator> Machine<A> {
     /// A byte after a prefix of a character's sequence.
     pub fn in_pending<V: VTActor>(&mut self, b: u8, class: Class, actor: &mut V) -> Result<()>
         requires { V.is_ready actor.old }
-        ensures moved { (own : Bool) (f : List ℕ) → front_of self.old.pending ≡ f → Moved own V.takes V.refuses result (pending_move f b class (outcome f b)) self.new actor.old actor.new }
+        ensures moved { (limit : Option ℕ) (own : Bool) (f : List ℕ) → front_of self.old.pending ≡ f → Moved limit own V.takes V.refuses result (pending_move f b class (outcome f b)) self.new actor.old actor.new }
         ensures ready { OnOk result (V.is_ready actor.new) }
     {
         match self.pending.outcome(b) {
@@ -104,7 +104,7 @@ impl<A: Allocator> Machine<A> {
     // A byte that breaks off a character's sequence.
     fn break_off<V: VTActor>(&mut self, b: u8, class: Class, actor: &mut V) -> Result<()>
         requires { V.is_ready actor.old }
-        ensures moved { (own : Bool) → Moved own V.takes V.refuses result (telling (Print 0xfffd ∷ []) (ground_move b class)) self.new actor.old actor.new }
+        ensures moved { (limit : Option ℕ) (own : Bool) → Moved limit own V.takes V.refuses result (telling (Print 0xfffd ∷ []) (ground_move b class)) self.new actor.old actor.new }
         ensures ready { OnOk result (V.is_ready actor.new) }
     {
         match actor.print('\u{fffd}') {
@@ -118,7 +118,7 @@ impl<A: Allocator> Machine<A> {
     fn whole<V: VTActor>(&mut self, b: u8, class: Class, actor: &mut V) -> Result<()>
         requires ready { V.is_ready actor.old }
         requires whole { is_sequence (front_of self.old.pending ++ b ∷ []) ≡ true }
-        ensures moved { (own : Bool) → Moved own V.takes V.refuses result (pending_move (front_of self.old.pending) b class Outcome.Whole) self.new actor.old actor.new }
+        ensures moved { (limit : Option ℕ) (own : Bool) → Moved limit own V.takes V.refuses result (pending_move (front_of self.old.pending) b class Outcome.Whole) self.new actor.old actor.new }
         ensures ready { OnOk result (V.is_ready actor.new) }
     {
         if self.pending.pairs_with(b) {
@@ -133,11 +133,16 @@ impl<A: Allocator> Machine<A> {
 
     /// Characters, and what follows them.
     #[inline(always)]
-    pub fn take_in_ground<V: VTActor>(&mut self, rest: &[u8], actor: &mut V) -> Result<usize>
+    pub fn take_in_ground<V: VTActor>(
+        &mut self,
+        limit: Option<usize>,
+        rest: &[u8],
+        actor: &mut V,
+    ) -> Result<usize>
         requires some { 0 < length rest.now }
         requires ready { V.is_ready actor.old }
-        requires ground { Holds self.old Ground }
-        ensures took { Took V.takes V.refuses result Ground rest.now self.new actor.old actor.new }
+        requires ground { Holds limit self.old Ground }
+        ensures took { Took limit V.takes V.refuses result Ground rest.now self.new actor.old actor.new }
         ensures count { Advances V.is_ready result rest.now actor.new }
     {
         match self.take_quick(rest, actor) {
@@ -145,7 +150,7 @@ impl<A: Allocator> Machine<A> {
                 if printed == rest.len() {
                     return Ok(printed);
                 }
-                match self.take_control(&rest[printed..], actor) {
+                match self.take_control(limit, &rest[printed..], actor) {
                     Ok(n) => Ok(printed + n),
                     Err(e) => Err(e),
                 }
@@ -158,8 +163,8 @@ impl<A: Allocator> Machine<A> {
     #[inline(always)]
     fn take_quick<V: VTActor>(&mut self, rest: &[u8], actor: &mut V) -> Result<usize>
         requires ready { V.is_ready actor.old }
-        requires ground { Holds self.old Ground }
-        ensures ground { IfOk result (λ n. Holds self.new Ground) }
+        requires ground { Holds None self.old Ground }
+        ensures ground { IfOk result (λ n. Holds None self.new Ground) }
         ensures stays { Stays (may_grow_within Ground rest.now) V.takes V.refuses V.is_ready result rest.now actor.old actor.new }
     {
         let mut at = 0;
@@ -178,8 +183,8 @@ impl<A: Allocator> Machine<A> {
     fn take_quick_one<V: VTActor>(&mut self, rest: &[u8], actor: &mut V) -> Result<usize>
         requires some { 0 < length rest.now }
         requires ready { V.is_ready actor.old }
-        requires ground { Holds self.old Ground }
-        ensures ground { IfOk result (λ n. Holds self.new Ground) }
+        requires ground { Holds None self.old Ground }
+        ensures ground { IfOk result (λ n. Holds None self.new Ground) }
         ensures stays { Stays (may_grow_within Ground rest.now) V.takes V.refuses V.is_ready result rest.now actor.old actor.new }
     {
         if rest[0] >= 0x20 {
@@ -194,14 +199,19 @@ impl<A: Allocator> Machine<A> {
 
     /// One character, or what else stands in ground.
     #[inline(always)]
-    pub fn take_first<V: VTActor>(&mut self, rest: &[u8], actor: &mut V) -> Result<usize>
+    pub fn take_first<V: VTActor>(
+        &mut self,
+        limit: Option<usize>,
+        rest: &[u8],
+        actor: &mut V,
+    ) -> Result<usize>
         requires some { 0 < length rest.now }
         requires ready { V.is_ready actor.old }
-        requires ground { Holds self.old Ground }
-        ensures { TookSome V.takes V.refuses V.is_ready result rest.now self.new actor.old actor.new }
+        requires ground { Holds limit self.old Ground }
+        ensures { TookSome limit V.takes V.refuses V.is_ready result rest.now self.new actor.old actor.new }
     {
         match print_first(rest, actor) {
-            Ok(0) => self.take_control(rest, actor),
+            Ok(0) => self.take_control(limit, rest, actor),
             Ok(n) => Ok(n),
             Err(e) => Err(e),
         }
@@ -209,13 +219,18 @@ impl<A: Allocator> Machine<A> {
 
     // A byte, or a sequence that ESC begins, in ground.
     #[inline(always)]
-    fn take_control<V: VTActor>(&mut self, rest: &[u8], actor: &mut V) -> Result<usize>
+    fn take_control<V: VTActor>(
+        &mut self,
+        limit: Option<usize>,
+        rest: &[u8],
+        actor: &mut V,
+    ) -> Result<usize>
         requires some { 0 < length rest.now }
         requires ready { V.is_ready actor.old }
-        ensures { TookSome V.takes V.refuses V.is_ready result rest.now self.new actor.old actor.new }
+        ensures { TookSome limit V.takes V.refuses V.is_ready result rest.now self.new actor.old actor.new }
     {
         if rest[0] == 0x1b && rest.len() > 2 {
-            self.take_escape(rest, actor)
+            self.take_escape(limit, rest, actor)
         } else {
             self.take_one_in_ground(rest, actor)
         }
@@ -226,7 +241,7 @@ impl<A: Allocator> Machine<A> {
     pub fn take_one_in_ground<V: VTActor>(&mut self, rest: &[u8], actor: &mut V) -> Result<usize>
         requires some { 0 < length rest.now }
         requires ready { V.is_ready actor.old }
-        ensures { TookSome V.takes V.refuses V.is_ready result rest.now self.new actor.old actor.new }
+        ensures { (limit : Option ℕ) → TookSome limit V.takes V.refuses V.is_ready result rest.now self.new actor.old actor.new }
     {
         match self.in_ground(rest[0], classify(rest[0]), actor) {
             Ok(()) => Ok(1),

@@ -1,7 +1,7 @@
 //! Laws over all streams: a stream has one cut, its events are those of the cut, and what texts say whatever follows them.
 #![tactic(auto)]
 
-ghost use Rattle.std.specs.Prelude.{◌≡◌, ◌++◌, ◌&&◌, ℕ, List, [], ◌∷◌, true, false};
+ghost use Rattle.std.specs.Prelude.{◌≡◌, ◌++◌, ◌&&◌, ℕ, List, Option, [], ◌∷◌, true, false};
 ghost use Rattle.std.specs.Char.{encode_utf8};
 ghost use Rattle.std.specs.List.{list_any};
 ghost use Rattle.esc_below.specs.Clear.{is_clear, IsClearText, parts_of};
@@ -9,9 +9,10 @@ ghost use Rattle.esc_frame.specs.Classes.{class_of, AllOf, is_control, is_raw_co
 ghost use Rattle.esc_frame.specs.Bodies.{is_csi_body, is_dcs_header, kept_intermediates, has_more_intermediates};
 ghost use Rattle.esc_frame.specs.Events.{Event};
 ghost use Rattle.esc_frame.specs.Events.Event.{Print, Execute, EscDispatch, OscDispatch, DcsUnhook, ApcDispatch};
-ghost use Rattle.esc_frame.specs.Segments.{Segment, IsCut, HasEvents, joined, is_empty, csi_event, hook_event, puts};
+ghost use Rattle.esc_frame.specs.Segments.{Segment, IsCut, HasEvents, HasEventsWithin, joined, is_empty, csi_event, hook_event, puts};
 ghost use Rattle.esc_frame.specs.Leads.{AreFinished, finished_events};
-ghost use Rattle.esc_frame.specs.Stream.{events, added, Says, IsAtGround};
+ghost use Rattle.esc_frame.specs.Stream.{events, events_within, added, added_within, Says, IsAtGround};
+ghost use Rattle.esc_frame.specs.Counts.{AreWithin};
 ghost use Rattle.esc_frame.specs.Fits.{AreFit, IsOneSegment};
 ghost use Rattle.esc_frame.specs.Memory.{may_grow, MayGrow};
 
@@ -33,7 +34,6 @@ pub fn events_once()
 {}
 
 /// The events of a stream are those of its cut.
-#[tactic(auto, using(crate::proofs::Cuts::events_of_the_cut))]
 pub fn events_of_the_cut()
     ensures { (s : List ℕ) → HasEvents s (events s) }
 {}
@@ -51,15 +51,50 @@ pub fn added_append()
 {}
 
 /// After a stream with nothing unfinished, bytes add their own events.
-#[tactic(auto, using(crate::proofs::AtGround::ground_added))]
 pub fn ground_added()
     ensures { (s b : List ℕ) → IsAtGround s → added s b ≡ events b }
 {}
 
 /// The events of any stream have these forms.
-#[tactic(auto, using(crate::proofs::Fitting::events_fit))]
 pub fn events_fit()
     ensures { (s : List ℕ) → AreFit (events s) }
+{}
+
+/// Under a limit a stream has one list of events too.
+pub fn events_once_within()
+    ensures { (limit : Option ℕ) (stream : List ℕ) (xs ys : List Event) → HasEventsWithin limit stream xs → HasEventsWithin limit stream ys → xs ≡ ys }
+{}
+
+/// Under a limit the events of a stream are those of its cut.
+pub fn events_of_the_cut_within()
+    ensures { (limit : Option ℕ) (s : List ℕ) → HasEventsWithin limit s (events_within limit s) }
+{}
+
+/// A stream none of whose segments passes the limit has the events that it has without one.
+pub fn same_within()
+    ensures { (limit : Option ℕ) (s : List ℕ) (gs : List Segment) → IsCut s gs → AreWithin limit gs → events_within limit s ≡ events s }
+{}
+
+/// Under a limit the events of a prefix come first, and then those that the rest adds.
+#[tactic(auto, using(crate::proofs::Streams::events_more))]
+pub fn events_more_within()
+    ensures { (limit : Option ℕ) (s b : List ℕ) → events_within limit s ++ added_within limit s b ≡ events_within limit (s ++ b) }
+{}
+
+/// Under a limit, what two pieces add, one after another, is what they add together.
+#[tactic(auto, using(crate::proofs::Streams::added_append))]
+pub fn added_append_within()
+    ensures { (limit : Option ℕ) (s b c : List ℕ) → added_within limit s (b ++ c) ≡ added_within limit s b ++ added_within limit (s ++ b) c }
+{}
+
+/// Under a limit too, bytes after a stream with nothing unfinished add their own events.
+pub fn ground_added_within()
+    ensures { (limit : Option ℕ) (s b : List ℕ) → IsAtGround s → added_within limit s b ≡ events_within limit b }
+{}
+
+/// The events of any stream have these forms under a limit too.
+pub fn events_fit_within()
+    ensures { (limit : Option ℕ) (s : List ℕ) → AreFit (events_within limit s) }
 {}
 
 /// No bytes say nothing.

@@ -2,11 +2,12 @@
 //! a file for each kind of segment.
 #![tactic(auto)]
 
-ghost use Rattle.std.specs.Prelude.{◌≡◌, ◌<◌, length, take, OnOk, IsTrue, ◌↔◌};
+ghost use Rattle.std.specs.Prelude.{◌≡◌, ◌<◌, ℕ, Option, None, length, take, min, OnOk, IsTrue, ◌↔◌};
 ghost use Rattle.esc_frame.specs.Classes.{class_of};
 ghost use Rattle.esc_frame.specs.Events.{Takes};
-ghost use Rattle.esc_frame.specs.Leads.{Unfinished, Holds};
+ghost use Rattle.esc_frame.specs.Leads.{Unfinished, Holds, kept_open};
 ghost use Rattle.esc_frame.specs.Leads.Unfinished.{Ground};
+ghost use Rattle.esc_frame.specs.Limits.{most};
 ghost use Rattle.esc_frame.specs.Machine.Calls.{Moved, Took, Advances, Quietly};
 ghost use Rattle.esc_frame.specs.Machine.Moves.{move, opened, may_grow_in, may_grow_within, after_all, news_all};
 ghost use Rattle.esc_frame.specs.Segments.{Opener};
@@ -14,7 +15,9 @@ ghost use Rattle.esc_frame.specs.Segments.{Opener};
 use crate::actor::VTActor;
 use crate::body::CsiBody;
 use crate::classes::{Class, Kind, classify};
+use crate::header::DcsHeader;
 use crate::intermediates::Intermediates;
+use crate::kept::Kept;
 use crate::sequence::Pending;
 use crate::short::Short;
 use std::alloc::{AllocError, Allocator};
@@ -55,14 +58,16 @@ pub struct Machine<A: Allocator> {
     pub body: CsiBody<A>,
     // that of one that stands whole in a call's bytes
     pub short: Short,
-    // what is kept of the text of an OSC or APC, or of the header of a DCS
-    pub text: Vec<u8, A>,
+    // the header of a DCS, but for its parameter bytes
+    pub header: DcsHeader,
+    // what is kept of the text of an OSC or APC, or the parameter bytes of the header of a DCS
+    pub text: Kept<A>,
 }
 
 impl<A: Allocator + Copy> Machine<A> {
     /// A machine at the beginning of a stream.
     pub fn new(alloc: A) -> Self
-        ensures { Holds result Ground }
+        ensures { Holds None result Ground }
     {
         Machine {
             state: State::Ground,
@@ -70,7 +75,8 @@ impl<A: Allocator + Copy> Machine<A> {
             intermediates: Intermediates::new(),
             body: CsiBody::new(alloc),
             short: Short::new(),
-            text: Vec::new(alloc),
+            header: DcsHeader::new(),
+            text: Kept::new(alloc),
         }
     }
 }
@@ -78,7 +84,7 @@ impl<A: Allocator + Copy> Machine<A> {
 impl<A: Allocator> Machine<A> {
     /// Whether no segment is unfinished.
     pub fn is_ground(&self) -> bool
-        ensures { (u : Unfinished) → Holds self.now u → IsTrue result ↔ (u ≡ Ground) }
+        ensures { (limit : Option ℕ) (u : Unfinished) → Holds limit self.now u → IsTrue result ↔ (u ≡ Ground) }
     {
         match self.state {
             State::Ground => match self.pending {
@@ -95,9 +101,19 @@ impl<A: Allocator> Machine<A> {
         }
     }
 
+    /// How many bytes are kept of the unfinished segment.
+    pub fn kept(&self) -> usize
+        ensures { (limit : Option ℕ) (u : Unfinished) → Holds limit self.now u → result ≡ min (kept_open limit u) most }
+    {
+        match self.state {
+            State::Osc | State::Dcs | State::Apc => self.text.count.value(),
+            State::Ground | State::Escape | State::Csi | State::Data | State::Skip => 0,
+        }
+    }
+
     /// What opens here.
     pub fn open(&mut self, kind: Kind)
-        ensures { (o : Opener) → Holds self.new (opened kind o) }
+        ensures { (limit : Option ℕ) (o : Opener) → Holds limit self.new (opened kind o) }
     {
         self.pending = Pending::Nothing;
         match kind {
@@ -110,6 +126,7 @@ impl<A: Allocator> Machine<A> {
                 self.state = State::Osc;
             }
             Kind::Dcs => {
+                self.header = DcsHeader::new();
                 self.text.clear();
                 self.state = State::Dcs;
             }
@@ -122,9 +139,15 @@ impl<A: Allocator> Machine<A> {
     }
 
     /// Takes a byte.
-    pub fn step<V: VTActor>(&mut self, b: u8, class: Class, actor: &mut V) -> Result<()>
+    pub fn step<V: VTActor>(
+        &mut self,
+        limit: Option<usize>,
+        b: u8,
+        class: Class,
+        actor: &mut V,
+    ) -> Result<()>
         requires { V.is_ready actor.old }
-        ensures moved { (u : Unfinished) → class ≡ class_of b → Holds self.old u → Moved (may_grow_in u) V.takes V.refuses result (move u b class) self.new actor.old actor.new }
+        ensures moved { (u : Unfinished) → class ≡ class_of b → Holds limit self.old u → Moved limit (may_grow_in u) V.takes V.refuses result (move limit u b class) self.new actor.old actor.new }
         ensures ready { OnOk result (V.is_ready actor.new) }
     {
         match self.state {
@@ -137,27 +160,32 @@ impl<A: Allocator> Machine<A> {
             State::Escape => self.in_escape(b, class, actor),
             State::Csi => self.in_csi(b, class, actor),
             State::Osc => match self.pending {
-                Pending::Nothing => self.in_osc(b, class, actor),
+                Pending::Nothing => self.in_osc(limit, b, class, actor),
                 Pending::One(_) | Pending::Two(_, _) | Pending::Three(_, _, _) =>
-                    self.in_osc_pending(b, class, actor),
+                    self.in_osc_pending(limit, b, class, actor),
             },
-            State::Dcs => self.in_dcs(b, class, actor),
+            State::Dcs => self.in_dcs(limit, b, class, actor),
             State::Data => self.in_data(b, class, actor),
             State::Skip => self.in_skip(b, class, actor),
-            State::Apc => self.in_apc(b, class, actor),
+            State::Apc => self.in_apc(limit, b, class, actor),
         }
     }
 
     /// Takes the bytes, one after another. After an error nothing is said of the machine.
-    pub fn take_all<V: VTActor>(&mut self, bytes: &[u8], actor: &mut V) -> Result<()>
+    pub fn take_all<V: VTActor>(
+        &mut self,
+        limit: Option<usize>,
+        bytes: &[u8],
+        actor: &mut V,
+    ) -> Result<()>
         requires { V.is_ready actor.old }
-        ensures holds { (u : Unfinished) → Holds self.old u → OnOk result (Holds self.new (after_all u bytes.now)) }
-        ensures told { (u : Unfinished) → Holds self.old u → Takes (may_grow_within u bytes.now) V.takes V.refuses result actor.old (news_all u bytes.now) actor.new }
+        ensures holds { (u : Unfinished) → Holds limit self.old u → OnOk result (Holds limit self.new (after_all u bytes.now)) }
+        ensures told { (u : Unfinished) → Holds limit self.old u → Takes (may_grow_within u bytes.now) V.takes V.refuses result actor.old (news_all limit u bytes.now) actor.new }
         ensures ready { OnOk result (V.is_ready actor.new) }
     {
         let mut at = 0;
         while at < bytes.len() {
-            match self.take(&bytes[at..], actor) {
+            match self.take(limit, &bytes[at..], actor) {
                 Ok(n) => at += n,
                 Err(e) => return Err(e),
             }
@@ -168,63 +196,78 @@ impl<A: Allocator> Machine<A> {
     /// Takes a prefix of the bytes, at least one, and returns its length: all but the last tell nothing and leave something
     /// unfinished. After an error nothing is said of the machine.
     #[inline(always)]
-    pub fn take_some<V: VTActor>(&mut self, rest: &[u8], actor: &mut V) -> Result<usize>
+    pub fn take_some<V: VTActor>(
+        &mut self,
+        limit: Option<usize>,
+        rest: &[u8],
+        actor: &mut V,
+    ) -> Result<usize>
         requires some { 0 < length rest.now }
         requires ready { V.is_ready actor.old }
-        ensures took { (u : Unfinished) → Holds self.old u → Took V.takes V.refuses result u rest.now self.new actor.old actor.new }
-        ensures quiet { (u : Unfinished) → Holds self.old u → Quietly result u rest.now }
+        ensures took { (u : Unfinished) → Holds limit self.old u → Took limit V.takes V.refuses result u rest.now self.new actor.old actor.new }
+        ensures quiet { (u : Unfinished) → Holds limit self.old u → Quietly limit result u rest.now }
         ensures count { Advances V.is_ready result rest.now actor.new }
     {
         match self.state {
             State::Ground => match self.pending {
-                Pending::Nothing => self.take_first(rest, actor),
+                Pending::Nothing => self.take_first(limit, rest, actor),
                 Pending::One(_) | Pending::Two(_, _) | Pending::Three(_, _, _) => self.take_one(
-                    rest, actor,
+                    limit, rest, actor,
                 ),
             },
             State::Csi => self.take_in_csi(rest, actor),
             State::Osc => match self.pending {
-                Pending::Nothing => self.take_in_osc(rest, actor),
+                Pending::Nothing => self.take_in_osc(limit, rest, actor),
                 Pending::One(_) | Pending::Two(_, _) | Pending::Three(_, _, _) => self.take_one(
-                    rest, actor,
+                    limit, rest, actor,
                 ),
             },
-            State::Apc => self.take_in_apc(rest, actor),
-            State::Skip => self.take_in_skip(rest, actor),
-            State::Escape | State::Dcs | State::Data => self.take_one(rest, actor),
+            State::Apc => self.take_in_apc(limit, rest, actor),
+            State::Skip => self.take_in_skip(limit, rest, actor),
+            State::Escape | State::Dcs | State::Data => self.take_one(limit, rest, actor),
         }
     }
 
     // Takes a prefix of the bytes, at least one, and returns its length.
     #[inline(always)]
-    fn take<V: VTActor>(&mut self, rest: &[u8], actor: &mut V) -> Result<usize>
+    fn take<V: VTActor>(
+        &mut self,
+        limit: Option<usize>,
+        rest: &[u8],
+        actor: &mut V,
+    ) -> Result<usize>
         requires some { 0 < length rest.now }
         requires ready { V.is_ready actor.old }
-        ensures took { (u : Unfinished) → Holds self.old u → Took V.takes V.refuses result u rest.now self.new actor.old actor.new }
+        ensures took { (u : Unfinished) → Holds limit self.old u → Took limit V.takes V.refuses result u rest.now self.new actor.old actor.new }
         ensures count { Advances V.is_ready result rest.now actor.new }
     {
         match self.state {
             State::Ground => match self.pending {
-                Pending::Nothing => self.take_in_ground(rest, actor),
+                Pending::Nothing => self.take_in_ground(limit, rest, actor),
                 Pending::One(_) | Pending::Two(_, _) | Pending::Three(_, _, _) => self.take_one(
-                    rest, actor,
+                    limit, rest, actor,
                 ),
             },
-            State::Data => self.take_in_data(rest, actor),
+            State::Data => self.take_in_data(limit, rest, actor),
             State::Escape | State::Csi | State::Osc | State::Dcs | State::Skip | State::Apc =>
-                self.take_some(rest, actor),
+                self.take_some(limit, rest, actor),
         }
     }
 
     /// One byte.
-    pub fn take_one<V: VTActor>(&mut self, rest: &[u8], actor: &mut V) -> Result<usize>
+    pub fn take_one<V: VTActor>(
+        &mut self,
+        limit: Option<usize>,
+        rest: &[u8],
+        actor: &mut V,
+    ) -> Result<usize>
         requires some { 0 < length rest.now }
         requires ready { V.is_ready actor.old }
-        ensures took { (u : Unfinished) → Holds self.old u → Took V.takes V.refuses result u rest.now self.new actor.old actor.new }
-        ensures quiet { (u : Unfinished) → Quietly result u rest.now }
+        ensures took { (u : Unfinished) → Holds limit self.old u → Took limit V.takes V.refuses result u rest.now self.new actor.old actor.new }
+        ensures quiet { (u : Unfinished) → Quietly limit result u rest.now }
         ensures count { Advances V.is_ready result rest.now actor.new }
     {
-        match self.step(rest[0], classify(rest[0]), actor) {
+        match self.step(limit, rest[0], classify(rest[0]), actor) {
             Ok(()) => Ok(1),
             Err(e) => Err(e),
         }

@@ -1,20 +1,21 @@
 //! The machine in operating system commands.
 #![tactic(auto)]
 
-ghost use Rattle.std.specs.Prelude.{◌≡◌, ◌≤◌, ◌<◌, ◌++◌, ℕ, List, [], ◌∷◌, true, length, take, slice_index, OnOk};
-ghost use Rattle.esc_below.specs.Clear.{parts_of};
+ghost use Rattle.std.specs.Prelude.{◌≡◌, ◌≤◌, ◌<◌, ◌++◌, ℕ, List, Option, [], true, length, take, slice_index, OnOk};
 ghost use Rattle.esc_frame.specs.Classes.{class_of};
-ghost use Rattle.esc_frame.specs.Events.Event.{OscDispatch};
+ghost use Rattle.esc_frame.specs.Events.{Takes};
 ghost use Rattle.esc_frame.specs.Leads.Unfinished.{InOsc};
 ghost use Rattle.esc_frame.specs.Machine.Calls.{Moved, Took, TookSome, Advances, Quietly};
 ghost use Rattle.esc_frame.specs.Machine.Fronts.{front_of};
+ghost use Rattle.esc_frame.specs.Machine.Keeps.{KeepsText};
 ghost use Rattle.esc_frame.specs.Machine.Moves.{telling, ground_move, pair_move, inside, osc_pending_move};
 ghost use Rattle.esc_frame.specs.Machine.TextRuns.{IsTextRun};
-ghost use Rattle.esc_frame.specs.Segments.{Opener, Piece, text_of};
+ghost use Rattle.esc_frame.specs.Segments.{Opener, Piece, text_of, osc_events};
 ghost use Rattle.esc_frame.specs.Sequences.{outcome};
 
 use crate::actor::VTActor;
 use crate::classes::{Class, Kind, classify};
+use crate::kept::Kept;
 use crate::machine::{Machine, Result, State};
 use crate::parts::dispatch_osc;
 use crate::scans::units_run;
@@ -24,9 +25,15 @@ use std::alloc::Allocator;
 impl<A: Allocator> Machine<A> {
     /// A byte after an OSC's units, with nothing pending.
     #[tactic(auto, using(crate::proofs::Given::takes_moved))]
-    pub fn in_osc<V: VTActor>(&mut self, b: u8, class: Class, actor: &mut V) -> Result<()>
+    pub fn in_osc<V: VTActor>(
+        &mut self,
+        limit: Option<usize>,
+        b: u8,
+        class: Class,
+        actor: &mut V,
+    ) -> Result<()>
         requires { V.is_ready actor.old }
-        ensures moved { (o : Opener) (ps : List Piece) → class ≡ class_of b → self.old.text.items ≡ text_of ps → Moved true V.takes V.refuses result (inside (InOsc o ps) b class) self.new actor.old actor.new }
+        ensures moved { (o : Opener) (ps : List Piece) → class ≡ class_of b → KeepsText limit self.old.text (text_of ps) → Moved limit true V.takes V.refuses result (inside limit (InOsc o ps) b class) self.new actor.old actor.new }
         ensures ready { OnOk result (V.is_ready actor.new) }
     {
         self.state = State::Osc;
@@ -39,7 +46,7 @@ impl<A: Allocator> Machine<A> {
             | Class::RawTerminator => { self.leave_osc(b, class, actor) }
             Class::Bell => {
                 self.state = State::Ground;
-                dispatch_osc(&self.text, actor)
+                tell_osc(&self.text, actor)
             }
             Class::Plain | Class::High => Ok(()),
             Class::Lead => {
@@ -50,34 +57,46 @@ impl<A: Allocator> Machine<A> {
             | Class::Parameter
             | Class::Opens(_)
             | Class::Final
-            | Class::Delete => { self.text.extend_from_slice(&[b]) }
+            | Class::Delete => { self.text.push(limit, &[b]) }
         }
     }
 
     /// A byte after a prefix of a sequence, in an OSC.
-    pub fn in_osc_pending<V: VTActor>(&mut self, b: u8, class: Class, actor: &mut V) -> Result<()>
+    pub fn in_osc_pending<V: VTActor>(
+        &mut self,
+        limit: Option<usize>,
+        b: u8,
+        class: Class,
+        actor: &mut V,
+    ) -> Result<()>
         requires { V.is_ready actor.old }
-        ensures moved { (o : Opener) (ps : List Piece) (f : List ℕ) → class ≡ class_of b → self.old.text.items ≡ text_of ps → front_of self.old.pending ≡ f → Moved true V.takes V.refuses result (osc_pending_move o ps f b class (outcome f b)) self.new actor.old actor.new }
+        ensures moved { (o : Opener) (ps : List Piece) (f : List ℕ) → class ≡ class_of b → KeepsText limit self.old.text (text_of ps) → front_of self.old.pending ≡ f → Moved limit true V.takes V.refuses result (osc_pending_move limit o ps f b class (outcome f b)) self.new actor.old actor.new }
         ensures ready { OnOk result (V.is_ready actor.new) }
     {
         match self.pending.outcome(b) {
-            Outcome::Whole => self.whole_in_osc(b, class, actor),
+            Outcome::Whole => self.whole_in_osc(limit, b, class, actor),
             Outcome::More => {
                 self.state = State::Osc;
                 self.pending = self.pending.with(b);
                 Ok(())
             }
-            Outcome::Broken => match self.text.extend_from_slice(&[0xef, 0xbf, 0xbd]) {
-                Ok(()) => self.in_osc(b, class, actor),
+            Outcome::Broken => match self.text.push(limit, &[0xef, 0xbf, 0xbd]) {
+                Ok(()) => self.in_osc(limit, b, class, actor),
                 Err(e) => Err(e),
             },
         }
     }
 
     // A byte that completes a sequence in an OSC.
-    fn whole_in_osc<V: VTActor>(&mut self, b: u8, class: Class, actor: &mut V) -> Result<()>
+    fn whole_in_osc<V: VTActor>(
+        &mut self,
+        limit: Option<usize>,
+        b: u8,
+        class: Class,
+        actor: &mut V,
+    ) -> Result<()>
         requires { V.is_ready actor.old }
-        ensures moved { (o : Opener) (ps : List Piece) → self.old.text.items ≡ text_of ps → Moved true V.takes V.refuses result (osc_pending_move o ps (front_of self.old.pending) b class Outcome.Whole) self.new actor.old actor.new }
+        ensures moved { (o : Opener) (ps : List Piece) → KeepsText limit self.old.text (text_of ps) → Moved limit true V.takes V.refuses result (osc_pending_move limit o ps (front_of self.old.pending) b class Outcome.Whole) self.new actor.old actor.new }
         ensures ready { OnOk result (V.is_ready actor.new) }
     {
         if self.pending.pairs_with(b) {
@@ -86,17 +105,17 @@ impl<A: Allocator> Machine<A> {
             let pending = self.pending;
             self.state = State::Osc;
             self.pending = Pending::Nothing;
-            pending.put(&mut self.text, b)
+            pending.put(limit, &mut self.text, b)
         }
     }
 
     // A breaker after an OSC.
     fn leave_osc<V: VTActor>(&mut self, b: u8, class: Class, actor: &mut V) -> Result<()>
         requires { V.is_ready actor.old }
-        ensures moved { Moved true V.takes V.refuses result (telling (OscDispatch (parts_of self.old.text.items) ∷ []) (ground_move b class)) self.new actor.old actor.new }
+        ensures moved { (limit : Option ℕ) (t : List ℕ) → KeepsText limit self.old.text t → Moved limit true V.takes V.refuses result (telling (osc_events limit t) (ground_move b class)) self.new actor.old actor.new }
         ensures ready { OnOk result (V.is_ready actor.new) }
     {
-        match dispatch_osc(&self.text, actor) {
+        match tell_osc(&self.text, actor) {
             Ok(()) => self.in_ground(b, class, actor),
             Err(e) => Err(e),
         }
@@ -105,10 +124,10 @@ impl<A: Allocator> Machine<A> {
     // A control after C2, in an OSC.
     fn leave_osc_by_pair<V: VTActor>(&mut self, b: u8, class: Class, actor: &mut V) -> Result<()>
         requires { V.is_ready actor.old }
-        ensures moved { Moved true V.takes V.refuses result (telling (OscDispatch (parts_of self.old.text.items) ∷ []) (pair_move b class)) self.new actor.old actor.new }
+        ensures moved { (limit : Option ℕ) (t : List ℕ) → KeepsText limit self.old.text t → Moved limit true V.takes V.refuses result (telling (osc_events limit t) (pair_move b class)) self.new actor.old actor.new }
         ensures ready { OnOk result (V.is_ready actor.new) }
     {
-        match dispatch_osc(&self.text, actor) {
+        match tell_osc(&self.text, actor) {
             Ok(()) => self.in_pair(b, class, actor),
             Err(e) => Err(e),
         }
@@ -116,15 +135,20 @@ impl<A: Allocator> Machine<A> {
 
     /// An operating system command, up to its end or what else its text does not keep as it is.
     #[inline(always)]
-    pub fn take_osc<V: VTActor>(&mut self, rest: &[u8], actor: &mut V) -> Result<usize>
+    pub fn take_osc<V: VTActor>(
+        &mut self,
+        limit: Option<usize>,
+        rest: &[u8],
+        actor: &mut V,
+    ) -> Result<usize>
         requires some { 2 < length rest.now }
         requires escape { slice_index rest.now 0 ≡ 0x1b }
         requires bracket { slice_index rest.now 1 ≡ 0x5d }
         requires ready { V.is_ready actor.old }
-        ensures { TookSome V.takes V.refuses V.is_ready result rest.now self.new actor.old actor.new }
+        ensures { TookSome limit V.takes V.refuses V.is_ready result rest.now self.new actor.old actor.new }
     {
         self.open(Kind::Osc);
-        match self.take_in_osc(&rest[2..], actor) {
+        match self.take_in_osc(limit, &rest[2..], actor) {
             Ok(n) => Ok(2 + n),
             Err(e) => Err(e),
         }
@@ -132,18 +156,23 @@ impl<A: Allocator> Machine<A> {
 
     /// The units that an operating system command keeps as they are, and the byte after them.
     #[inline(always)]
-    pub fn take_in_osc<V: VTActor>(&mut self, rest: &[u8], actor: &mut V) -> Result<usize>
+    pub fn take_in_osc<V: VTActor>(
+        &mut self,
+        limit: Option<usize>,
+        rest: &[u8],
+        actor: &mut V,
+    ) -> Result<usize>
         requires some { 0 < length rest.now }
         requires ready { V.is_ready actor.old }
         requires state { self.old.state ≡ State.Osc }
         requires whole { front_of self.old.pending ≡ [] }
-        ensures took { (o : Opener) (ps : List Piece) → self.old.text.items ≡ text_of ps → Took V.takes V.refuses result (InOsc o ps) rest.now self.new actor.old actor.new }
-        ensures quiet { (o : Opener) (ps : List Piece) → Quietly result (InOsc o ps) rest.now }
+        ensures took { (o : Opener) (ps : List Piece) → KeepsText limit self.old.text (text_of ps) → Took limit V.takes V.refuses result (InOsc o ps) rest.now self.new actor.old actor.new }
+        ensures quiet { (o : Opener) (ps : List Piece) → Quietly limit result (InOsc o ps) rest.now }
         ensures count { Advances V.is_ready result rest.now actor.new }
     {
         let run = units_run(rest);
-        match self.text.extend_from_slice(&rest[..run]) {
-            Ok(()) => self.take_after_text(rest, run, actor),
+        match self.text.push(limit, &rest[..run]) {
+            Ok(()) => self.take_after_text(limit, rest, run, actor),
             Err(e) => Err(e),
         }
     }
@@ -152,6 +181,7 @@ impl<A: Allocator> Machine<A> {
     #[inline(always)]
     fn take_after_text<V: VTActor>(
         &mut self,
+        limit: Option<usize>,
         rest: &[u8],
         run: usize,
         actor: &mut V,
@@ -162,16 +192,29 @@ impl<A: Allocator> Machine<A> {
         requires ready { V.is_ready actor.old }
         requires state { self.old.state ≡ State.Osc }
         requires whole { front_of self.old.pending ≡ [] }
-        ensures took { (o : Opener) (ps : List Piece) → self.old.text.items ≡ text_of ps ++ take run rest.now → Took V.takes V.refuses result (InOsc o ps) rest.now self.new actor.old actor.new }
-        ensures quiet { (o : Opener) (ps : List Piece) → Quietly result (InOsc o ps) rest.now }
+        ensures took { (o : Opener) (ps : List Piece) → KeepsText limit self.old.text (text_of ps ++ take run rest.now) → Took limit V.takes V.refuses result (InOsc o ps) rest.now self.new actor.old actor.new }
+        ensures quiet { (o : Opener) (ps : List Piece) → Quietly limit result (InOsc o ps) rest.now }
         ensures count { Advances V.is_ready result rest.now actor.new }
     {
         if run == rest.len() {
             return Ok(run);
         }
-        match self.in_osc(rest[run], classify(rest[run]), actor) {
+        match self.in_osc(limit, rest[run], classify(rest[run]), actor) {
             Ok(()) => Ok(run + 1),
             Err(e) => Err(e),
         }
+    }
+}
+
+// The text of an operating system command, told where it is within the limit.
+fn tell_osc<A: Allocator, V: VTActor>(text: &Kept<A>, actor: &mut V) -> Result<()>
+    requires { V.is_ready actor.old }
+    ensures told { (limit : Option ℕ) (t : List ℕ) → KeepsText limit text.now t → Takes true V.takes V.refuses result actor.old (osc_events limit t) actor.new }
+    ensures ready { OnOk result (V.is_ready actor.new) }
+{
+    if text.count.is_over {
+        Ok(())
+    } else {
+        dispatch_osc(&text.bytes, actor)
     }
 }

@@ -1,12 +1,15 @@
 //! The parser.
 #![tactic(auto)]
 
-ghost use Rattle.std.specs.Prelude.{◌≡◌, ◌≢◌, ◌<◌, ◌≤◌, ◌++◌, ◌∷◌, [], ℕ, List, length, take, IsTrue, ◌↔◌, OnOk, OnErr, IfOk, IfErr, IfSome, IsSome, None, false, slice_index};
+ghost use Rattle.std.specs.Prelude.{◌≡◌, ◌≢◌, ◌<◌, ◌≤◌, ◌++◌, ◌∷◌, [], ℕ, List, length, take, IsTrue, ◌↔◌, OnOk, OnErr, IfOk, IfErr, IfSome, IsSome, Option, None, Some, min, false, slice_index};
+ghost use Rattle.esc_frame.specs.Counts.{kept_of_cut};
+ghost use Rattle.esc_frame.specs.Limits.{most};
+ghost use Rattle.esc_frame.specs.Segments.{Segment, IsCut};
 ghost use Rattle.std.specs.List.{FoldsTo};
 ghost use Rattle.esc_frame.specs.Events.{StopsAt};
 ghost use Rattle.esc_frame.specs.Events.Event.{Execute, Print};
 ghost use Rattle.esc_frame.specs.Memory.{MayGrow};
-ghost use Rattle.esc_frame.specs.Stream.{added, LeadsTo, HasFailed, IsAtGround, IsQuiet};
+ghost use Rattle.esc_frame.specs.Stream.{added_within, LeadsTo, LeadsToWithin, HasFailed, IsAtGround, IsQuietWithin};
 
 use crate::actor::VTActor;
 use crate::classes::classify;
@@ -21,16 +24,17 @@ use std::alloc::{Allocator, Global};
 ///
 /// Neither the stream nor its events are kept, but what is unfinished: of an escape sequence two intermediates, of a
 /// control sequence 256 entries, of an operating system command or an application program command its text, of a device
-/// control string its header.
+/// control string its header. [`with_limit`](VTParser::with_limit) bounds what is kept of such a string.
 #[derive(Drop)]
 pub struct VTParser<A: Allocator = Global> {
     machine: Machine<A>,
+    limit: Option<usize>,
     has_failed: bool,
 }
 
 impl<A: Allocator> VTParser<A> {
     /// A parser at the beginning of a stream. It takes no memory before a sequence or a string begins that it keeps.
-    #[tactic(auto, unfolding(crate::specs::Stream::LeadsTo))]
+    #[tactic(auto, unfolding(crate::specs::Stream::LeadsToWithin))]
     pub fn new(alloc: A) -> Self
     where
         A: Copy,
@@ -38,14 +42,48 @@ impl<A: Allocator> VTParser<A> {
     {
         VTParser {
             machine: Machine::new(alloc),
+            limit: None,
             has_failed: false,
         }
     }
 
+    /// A parser at the beginning of a stream that keeps at most `limit` bytes of a string: of the text of an operating system
+    /// command in UTF-8, of the bytes 20 to 7F of an application program command, or of the bytes 30 to 39 and 3B of a device
+    /// control string's header. Once a string passes the limit, what was kept of it is let go, and it is not dispatched or
+    /// hooked; what follows it is parsed as by a parser without a limit.
+    #[tactic(auto, unfolding(crate::specs::Stream::LeadsToWithin))]
+    pub fn with_limit(alloc: A, limit: usize) -> Self
+    where
+        A: Copy,
+        ensures { LeadsToWithin (Some limit) [] result }
+    {
+        VTParser {
+            machine: Machine::new(alloc),
+            limit: Some(limit),
+            has_failed: false,
+        }
+    }
+
+    /// How many bytes of the unfinished string are kept, counted as for [`with_limit`](VTParser::with_limit). It is 0 where
+    /// the string passed the limit, where none of the three is unfinished, and after a failure. Without a limit a count past
+    /// [`usize::MAX`] is returned as `usize::MAX`.
+    #[tactic(auto, unfolding(crate::specs::Stream::LeadsToWithin, crate::specs::Stream::HasFailed))]
+    pub fn kept(&self) -> usize
+        ensures given { (limit : Option ℕ) (s : List ℕ) → LeadsToWithin limit s self.now → (gs : List Segment) → IsCut s gs → result ≡ min (kept_of_cut limit gs) most }
+        ensures within { (limit : Option ℕ) (s : List ℕ) → LeadsToWithin limit s self.now → IfSome limit (λ n. result ≤ n) }
+        ensures failed { HasFailed self.now → result ≡ 0 }
+    {
+        if self.has_failed {
+            0
+        } else {
+            self.machine.kept()
+        }
+    }
+
     /// Whether the bytes so far leave no unfinished segment. After a failure it is false.
-    #[tactic(auto, unfolding(crate::specs::Stream::LeadsTo, crate::specs::Stream::HasFailed))]
+    #[tactic(auto, unfolding(crate::specs::Stream::LeadsToWithin, crate::specs::Stream::HasFailed))]
     pub fn is_ground(&self) -> bool
-        ensures ground { (s : List ℕ) → LeadsTo s self.now → IsTrue result ↔ IsAtGround s }
+        ensures ground { (limit : Option ℕ) (s : List ℕ) → LeadsToWithin limit s self.now → IsTrue result ↔ IsAtGround s }
         ensures failed { HasFailed self.now → result ≡ false }
     {
         !self.has_failed && self.machine.is_ground()
@@ -60,9 +98,9 @@ impl<A: Allocator> VTParser<A> {
     #[inline]
     pub fn first_char(&self, bytes: &[u8]) -> Option<(char, usize)>
         ensures count { IfSome result (λ x. (0 < x.1) × (x.1 ≤ length bytes.now)) }
-        ensures given { (s : List ℕ) → LeadsTo s self.now → IfSome result (λ x. LeadsTo (s ++ take x.1 bytes.now) self.now × (added s (take x.1 bytes.now) ≡ Print x.0 ∷ [])) }
-        ensures quiet { (s : List ℕ) → LeadsTo s self.now → IfSome result (λ x. IsQuiet s bytes.now x.1) }
-        ensures text { (s : List ℕ) → LeadsTo s self.now → IsAtGround s → 0 < length bytes.now → 0x20 ≤ slice_index bytes.now 0 → slice_index bytes.now 0 < 0x80 → IsSome result }
+        ensures given { (limit : Option ℕ) (s : List ℕ) → LeadsToWithin limit s self.now → IfSome result (λ x. LeadsToWithin limit (s ++ take x.1 bytes.now) self.now × (added_within limit s (take x.1 bytes.now) ≡ Print x.0 ∷ [])) }
+        ensures quiet { (limit : Option ℕ) (s : List ℕ) → LeadsToWithin limit s self.now → IfSome result (λ x. IsQuietWithin limit s bytes.now x.1) }
+        ensures text { (limit : Option ℕ) (s : List ℕ) → LeadsToWithin limit s self.now → IsAtGround s → 0 < length bytes.now → 0x20 ≤ slice_index bytes.now 0 → slice_index bytes.now 0 < 0x80 → IsSome result }
         ensures failed { HasFailed self.now → result ≡ None }
     {
         if self.is_ground() {
@@ -79,8 +117,8 @@ impl<A: Allocator> VTParser<A> {
     #[inline]
     pub fn first_control(&self, bytes: &[u8]) -> Option<u8>
         ensures count { IfSome result (λ b. 0 < length bytes.now) }
-        ensures given { (s : List ℕ) → LeadsTo s self.now → IfSome result (λ b. LeadsTo (s ++ take 1 bytes.now) self.now × (added s (take 1 bytes.now) ≡ Execute b ∷ [])) }
-        ensures control { (s : List ℕ) → LeadsTo s self.now → IsAtGround s → 0 < length bytes.now → slice_index bytes.now 0 < 0x20 → slice_index bytes.now 0 ≢ 0x1b → IsSome result }
+        ensures given { (limit : Option ℕ) (s : List ℕ) → LeadsToWithin limit s self.now → IfSome result (λ b. LeadsToWithin limit (s ++ take 1 bytes.now) self.now × (added_within limit s (take 1 bytes.now) ≡ Execute b ∷ [])) }
+        ensures control { (limit : Option ℕ) (s : List ℕ) → LeadsToWithin limit s self.now → IsAtGround s → 0 < length bytes.now → slice_index bytes.now 0 < 0x20 → slice_index bytes.now 0 ≢ 0x1b → IsSome result }
         ensures failed { HasFailed self.now → result ≡ None }
     {
         if !self.is_ground() {
@@ -93,11 +131,11 @@ impl<A: Allocator> VTParser<A> {
     ///
     /// The error is `Memory` where the actor refused a call or a request for memory was refused: a prefix of these events was
     /// given then, and every later call returns `Failed` and gives nothing.
-    #[tactic(auto, unfolding(crate::specs::Stream::LeadsTo, crate::specs::Stream::HasFailed))]
+    #[tactic(auto, unfolding(crate::specs::Stream::LeadsToWithin, crate::specs::Stream::HasFailed))]
     pub fn parse_byte<V: VTActor>(&mut self, byte: u8, actor: &mut V) -> Result<(), ParseError>
         requires { V.is_ready actor.old }
-        ensures given { (s : List ℕ) → LeadsTo s self.old → OnOk result (LeadsTo (s ++ byte ∷ []) self.new × FoldsTo V.takes actor.old (added s (byte ∷ [])) actor.new) }
-        ensures refused { (s : List ℕ) → LeadsTo s self.old → IfErr result (λ e. (e ≡ ParseError.Memory) × StopsAt (MayGrow (s ++ byte ∷ [])) V.takes V.refuses actor.old (added s (byte ∷ [])) actor.new) }
+        ensures given { (limit : Option ℕ) (s : List ℕ) → LeadsToWithin limit s self.old → OnOk result (LeadsToWithin limit (s ++ byte ∷ []) self.new × FoldsTo V.takes actor.old (added_within limit s (byte ∷ [])) actor.new) }
+        ensures refused { (limit : Option ℕ) (s : List ℕ) → LeadsToWithin limit s self.old → IfErr result (λ e. (e ≡ ParseError.Memory) × StopsAt (MayGrow (s ++ byte ∷ [])) V.takes V.refuses actor.old (added_within limit s (byte ∷ [])) actor.new) }
         ensures ends { OnErr result (HasFailed self.new) }
         ensures failed { HasFailed self.old → (result ≡ Err ParseError.Failed) × (actor.new ≡ actor.old) }
         ensures ready { OnOk result (V.is_ready actor.new) }
@@ -105,7 +143,7 @@ impl<A: Allocator> VTParser<A> {
         if self.has_failed {
             return Err(ParseError::Failed);
         }
-        match self.machine.step(byte, classify(byte), actor) {
+        match self.machine.step(self.limit, byte, classify(byte), actor) {
             Ok(()) => Ok(()),
             Err(_) => {
                 self.has_failed = true;
@@ -119,11 +157,11 @@ impl<A: Allocator> VTParser<A> {
     ///
     /// The error is `Memory` where the actor refused a call or a request for memory was refused: a prefix of these events was
     /// given then, and every later call returns `Failed` and gives nothing.
-    #[tactic(auto, unfolding(crate::specs::Stream::LeadsTo, crate::specs::Stream::HasFailed))]
+    #[tactic(auto, unfolding(crate::specs::Stream::LeadsToWithin, crate::specs::Stream::HasFailed))]
     pub fn parse<V: VTActor>(&mut self, bytes: &[u8], actor: &mut V) -> Result<(), ParseError>
         requires { V.is_ready actor.old }
-        ensures given { (s : List ℕ) → LeadsTo s self.old → OnOk result (LeadsTo (s ++ bytes.now) self.new × FoldsTo V.takes actor.old (added s bytes.now) actor.new) }
-        ensures refused { (s : List ℕ) → LeadsTo s self.old → IfErr result (λ e. (e ≡ ParseError.Memory) × StopsAt (MayGrow (s ++ bytes.now)) V.takes V.refuses actor.old (added s bytes.now) actor.new) }
+        ensures given { (limit : Option ℕ) (s : List ℕ) → LeadsToWithin limit s self.old → OnOk result (LeadsToWithin limit (s ++ bytes.now) self.new × FoldsTo V.takes actor.old (added_within limit s bytes.now) actor.new) }
+        ensures refused { (limit : Option ℕ) (s : List ℕ) → LeadsToWithin limit s self.old → IfErr result (λ e. (e ≡ ParseError.Memory) × StopsAt (MayGrow (s ++ bytes.now)) V.takes V.refuses actor.old (added_within limit s bytes.now) actor.new) }
         ensures ends { OnErr result (HasFailed self.new) }
         ensures failed { HasFailed self.old → (result ≡ Err ParseError.Failed) × (actor.new ≡ actor.old) }
         ensures ready { OnOk result (V.is_ready actor.new) }
@@ -131,7 +169,7 @@ impl<A: Allocator> VTParser<A> {
         if self.has_failed {
             return Err(ParseError::Failed);
         }
-        match self.machine.take_all(bytes, actor) {
+        match self.machine.take_all(self.limit, bytes, actor) {
             Ok(()) => Ok(()),
             Err(_) => {
                 self.has_failed = true;
@@ -146,7 +184,7 @@ impl<A: Allocator> VTParser<A> {
     ///
     /// The error is `Memory` where the actor refused a call or a request for memory was refused: a prefix of the events that
     /// the bytes add was given then, and every later call returns `Failed` and gives nothing.
-    #[tactic(auto, unfolding(crate::specs::Stream::LeadsTo, crate::specs::Stream::HasFailed))]
+    #[tactic(auto, unfolding(crate::specs::Stream::LeadsToWithin, crate::specs::Stream::HasFailed))]
     pub fn parse_some<V: VTActor>(
         &mut self,
         bytes: &[u8],
@@ -155,9 +193,9 @@ impl<A: Allocator> VTParser<A> {
         requires { V.is_ready actor.old }
         ensures count { IfOk result (λ n. (n ≤ length bytes.now) × (0 < length bytes.now → 0 < n)) }
         ensures empty { length bytes.now ≡ 0 → actor.new ≡ actor.old }
-        ensures given { (s : List ℕ) → LeadsTo s self.old → IfOk result (λ n. LeadsTo (s ++ take n bytes.now) self.new × FoldsTo V.takes actor.old (added s (take n bytes.now)) actor.new) }
-        ensures quiet { (s : List ℕ) → LeadsTo s self.old → IfOk result (λ n. IsQuiet s bytes.now n) }
-        ensures refused { (s : List ℕ) → LeadsTo s self.old → IfErr result (λ e. (e ≡ ParseError.Memory) × StopsAt (MayGrow (s ++ bytes.now)) V.takes V.refuses actor.old (added s bytes.now) actor.new) }
+        ensures given { (limit : Option ℕ) (s : List ℕ) → LeadsToWithin limit s self.old → IfOk result (λ n. LeadsToWithin limit (s ++ take n bytes.now) self.new × FoldsTo V.takes actor.old (added_within limit s (take n bytes.now)) actor.new) }
+        ensures quiet { (limit : Option ℕ) (s : List ℕ) → LeadsToWithin limit s self.old → IfOk result (λ n. IsQuietWithin limit s bytes.now n) }
+        ensures refused { (limit : Option ℕ) (s : List ℕ) → LeadsToWithin limit s self.old → IfErr result (λ e. (e ≡ ParseError.Memory) × StopsAt (MayGrow (s ++ bytes.now)) V.takes V.refuses actor.old (added_within limit s bytes.now) actor.new) }
         ensures ends { OnErr result (HasFailed self.new) }
         ensures failed { HasFailed self.old → (result ≡ Err ParseError.Failed) × (actor.new ≡ actor.old) }
         ensures ready { OnOk result (V.is_ready actor.new) }
@@ -168,7 +206,7 @@ impl<A: Allocator> VTParser<A> {
         if bytes.is_empty() {
             return Ok(0);
         }
-        match self.machine.take_some(bytes, actor) {
+        match self.machine.take_some(self.limit, bytes, actor) {
             Ok(n) => Ok(n),
             Err(_) => {
                 self.has_failed = true;

@@ -1,7 +1,7 @@
 //! Characters and controls in ground.
 #![tactic(auto)]
 
-ghost use Rattle.std.specs.Prelude.{◌≢◌, ◌<◌, ◌≤◌, length, take, false, slice_index, IfSome, IsSome};
+ghost use Rattle.std.specs.Prelude.{◌≢◌, ◌<◌, ◌≤◌, ℕ, Option, length, take, false, slice_index, IfSome, IsSome};
 ghost use Rattle.esc_frame.specs.Events.Event.{Execute, Print};
 ghost use Rattle.esc_frame.specs.Machine.Calls.{Stays, Quietly, TellsOne};
 ghost use Rattle.esc_frame.specs.Machine.Characters.{IsAhead};
@@ -19,7 +19,7 @@ use crate::sequence::{ahead, of_four, of_three, of_two};
 pub fn first_char(rest: &[u8]) -> Option<(char, usize)>
     ensures count { IfSome result (λ x. (0 < x.1) × (x.1 ≤ length rest.now)) }
     ensures prints { IfSome result (λ x. TellsOne (take x.1 rest.now) (Print x.0)) }
-    ensures quiet { IfSome result (λ x. IsStill Ground rest.now x.1) }
+    ensures quiet { (limit : Option ℕ) → IfSome result (λ x. IsStill limit Ground rest.now x.1) }
     ensures text { 0 < length rest.now → 0x20 ≤ slice_index rest.now 0 → slice_index rest.now 0 < 0x80 → IsSome result }
 {
     if rest.is_empty() {
@@ -70,7 +70,7 @@ pub fn execute_one<V: VTActor>(rest: &[u8], actor: &mut V) -> Result<usize>
 fn first_wide(rest: &[u8]) -> Option<(char, usize)>
     ensures count { IfSome result (λ x. (0 < x.1) × (x.1 ≤ length rest.now)) }
     ensures prints { IfSome result (λ x. TellsOne (take x.1 rest.now) (Print x.0)) }
-    ensures quiet { IfSome result (λ x. IsStill Ground rest.now x.1) }
+    ensures quiet { (limit : Option ℕ) → IfSome result (λ x. IsStill limit Ground rest.now x.1) }
 {
     let (n, c) = ahead(rest);
     if n == 0 { None } else { Some((c, n)) }
@@ -81,7 +81,7 @@ fn first_wide(rest: &[u8]) -> Option<(char, usize)>
 pub fn print_first<V: VTActor>(rest: &[u8], actor: &mut V) -> Result<usize>
     requires { V.is_ready actor.old }
     ensures stays { Stays false V.takes V.refuses V.is_ready result rest.now actor.old actor.new }
-    ensures quiet { Quietly result Ground rest.now }
+    ensures quiet { (limit : Option ℕ) → Quietly limit result Ground rest.now }
 {
     match first_char(rest) {
         Some((c, n)) => match actor.print(c) {

@@ -1,11 +1,13 @@
 //! Sequences of UTF-8 that have begun.
 #![tactic(auto)]
 
-ghost use Rattle.std.specs.Prelude.{◌≡◌, ◌++◌, [], ◌∷◌, ◌-◌, ◌*◌, ◌+◌, ◌≤◌, if◌then◌else◌, true, OnOk, ◌<◌, false, length};
+ghost use Rattle.std.specs.Prelude.{◌≡◌, ◌++◌, ℕ, List, [], ◌∷◌, ◌-◌, ◌*◌, ◌+◌, ◌≤◌, if◌then◌else◌, true, OnOk, ◌<◌, false, length};
 ghost use Rattle.esc_frame.specs.Sequences.{is_from, is_second, is_sequence, is_front, is_pair, outcome, number_of};
 ghost use Rattle.esc_frame.specs.Machine.Characters.{IsAhead, IsCharacter};
 ghost use Rattle.esc_frame.specs.Machine.Fronts.{front_of};
+ghost use Rattle.esc_frame.specs.Machine.Keeps.{KeepsText};
 
+use crate::kept::Kept;
 use std::alloc::{AllocError, Allocator};
 
 /// The bytes of a sequence that has begun.
@@ -126,14 +128,19 @@ impl Pending {
     }
 
     /// Appends prefix and byte to the text.
-    pub fn put<A: Allocator>(self, text: &mut Vec<u8, A>, b: u8) -> Result<(), AllocError>
-        ensures ok { OnOk result (text.new.items ≡ text.old.items ++ (front_of self ++ b ∷ [])) }
+    pub fn put<A: Allocator>(
+        self,
+        limit: Option<usize>,
+        text: &mut Kept<A>,
+        b: u8,
+    ) -> Result<(), AllocError>
+        ensures ok { (t : List ℕ) → KeepsText limit text.old t → OnOk result (KeepsText limit text.new (t ++ (front_of self ++ b ∷ []))) }
     {
         match self {
-            Pending::Nothing => text.extend_from_slice(&[b]),
-            Pending::One(a) => text.extend_from_slice(&[a, b]),
-            Pending::Two(a, second) => text.extend_from_slice(&[a, second, b]),
-            Pending::Three(a, second, third) => text.extend_from_slice(&[a, second, third, b]),
+            Pending::Nothing => text.push(limit, &[b]),
+            Pending::One(a) => text.push(limit, &[a, b]),
+            Pending::Two(a, second) => text.push(limit, &[a, second, b]),
+            Pending::Three(a, second, third) => text.push(limit, &[a, second, third, b]),
         }
     }
 }

@@ -1,5 +1,5 @@
 -- What a call says of the machine and the actor. Only private contracts cite it.
-use Rattle.std.specs.Prelude.{ℕ, ◌≡◌, ◌≤◌, ◌<◌, Bool, true, List, [], ◌∷◌, length, take, Result, MatchResult, IfOk}
+use Rattle.std.specs.Prelude.{ℕ, ◌≡◌, ◌≤◌, ◌<◌, Bool, true, List, [], ◌∷◌, length, take, Option, Result, MatchResult, IfOk}
 use Rattle.std.specs.List.{FoldsTo}
 use Rattle.esc_frame.specs.declared.machine.Machine.{Machine}
 use Rattle.esc_frame.specs.Events.{Event, StopsAt}
@@ -9,42 +9,47 @@ use Rattle.esc_frame.specs.Machine.Moves.{Move, after_all, news_all, may_grow_wi
 
 -- The machine made this move: it keeps what is unfinished after it, and the actor was given its events. Where the result is
 -- an error the actor was given a prefix of them; the machine stopped by itself only where `own` holds.
-abbrev pub Moved : {A S E : Type 0} → Bool → (S → Event → S → Type 0) → (S → Event → S → Type 0) → Result (Unit {0}) E → Move → Machine A → S → S → Type 0
-Moved own takes refuses result m machine old new =
-    MatchResult result (λ _. Holds machine m.0 × FoldsTo takes old m.1 new) (λ _. StopsAt (own ≡ true) takes refuses old m.1 new)
+abbrev pub Moved : {A S E : Type 0} → Option ℕ → Bool → (S → Event → S → Type 0) → (S → Event → S → Type 0) → Result (Unit {0}) E → Move → Machine A → S → S
+    → Type 0
+Moved limit own takes refuses result m machine old new =
+    MatchResult result (λ _. Holds limit machine m.0 × FoldsTo takes old m.1 new) (λ _. StopsAt (own ≡ true) takes refuses old m.1 new)
 
 -- The call took n bytes of the rest, where u was unfinished before: the machine keeps what is unfinished after them, and the
 -- actor was given their events. Where the result is an error the actor was given a prefix of the events of the rest.
-abbrev pub Took : {A S E : Type 0} → (S → Event → S → Type 0) → (S → Event → S → Type 0) → Result ℕ E → Unfinished → List ℕ → Machine A → S → S → Type 0
-Took takes refuses result u rest machine old new =
+abbrev pub Took : {A S E : Type 0} → Option ℕ → (S → Event → S → Type 0) → (S → Event → S → Type 0) → Result ℕ E → Unfinished → List ℕ → Machine A → S → S
+    → Type 0
+Took limit takes refuses result u rest machine old new =
     MatchResult result
-    (λ n. Holds machine (after_all u (take n rest)) × FoldsTo takes old (news_all u (take n rest)) new)
-    (λ _. StopsAt (may_grow_within u rest ≡ true) takes refuses old (news_all u rest) new)
+    (λ n. Holds limit machine (after_all u (take n rest)) × FoldsTo takes old (news_all limit u (take n rest)) new)
+    (λ _. StopsAt (may_grow_within u rest ≡ true) takes refuses old (news_all limit u rest) new)
 
 -- it took a byte at least, and no more than there are, and the actor is ready
 abbrev pub Advances : {S E : Type 0} → (S → Type 0) → Result ℕ E → List ℕ → S → Type 0
 Advances is_ready result rest new = IfOk result (λ n. (0 < n) × (n ≤ length rest) × is_ready new)
 
 -- of the bytes that it took, all but the last tell nothing and leave something unfinished
-abbrev pub Quietly : {E : Type 0} → Result ℕ E → Unfinished → List ℕ → Type 0
-Quietly result u rest = IfOk result (λ n. IsStill u rest n)
+abbrev pub Quietly : {E : Type 0} → Option ℕ → Result ℕ E → Unfinished → List ℕ → Type 0
+Quietly limit result u rest = IfOk result (λ n. IsStill limit u rest n)
 
--- in ground these bytes tell one event, and leave nothing unfinished
+-- in ground these bytes tell one event, whatever the limit, and leave nothing unfinished
 abbrev pub TellsOne : List ℕ → Event → Type 0
-TellsOne x e = (after_all Ground x ≡ Ground) × (news_all Ground x ≡ e ∷ [])
+TellsOne x e = (after_all Ground x ≡ Ground) × ((limit : Option ℕ) → news_all limit Ground x ≡ e ∷ [])
 
--- N bytes of the rest were taken in ground: nothing is unfinished after them, the actor was given their events, and is ready.
+-- N bytes of the rest were taken in ground: whatever the limit, nothing is unfinished after them, the actor was given their
+-- events, and is ready.
 abbrev pub Ran : {S : Type 0} → (S → Event → S → Type 0) → (S → Type 0) → List ℕ → ℕ → S → S → Type 0
 Ran takes is_ready rest n old new =
-    (n ≤ length rest) × (after_all Ground (take n rest) ≡ Ground) × FoldsTo takes old (news_all Ground (take n rest)) new × is_ready new
+    (n ≤ length rest) × (after_all Ground (take n rest) ≡ Ground) × ((limit : Option ℕ) → FoldsTo takes old (news_all limit Ground (take n rest)) new) ×
+    is_ready new
 
 -- the same of a call
 abbrev pub Stays : {S E : Type 0} → Bool → (S → Event → S → Type 0) → (S → Event → S → Type 0) → (S → Type 0) → Result ℕ E → List ℕ → S → S → Type 0
 Stays own takes refuses is_ready result rest old new =
-    MatchResult result (λ n. Ran takes is_ready rest n old new) (λ _. StopsAt (own ≡ true) takes refuses old (news_all Ground rest) new)
+    MatchResult result (λ n. Ran takes is_ready rest n old new)
+    (λ _. (limit : Option ℕ) → StopsAt (own ≡ true) takes refuses old (news_all limit Ground rest) new)
 
 -- It took some of the bytes, in ground: one at least, and the first event among them, if any, is that of the last.
-abbrev pub TookSome : {A S E : Type 0} → (S → Event → S → Type 0) → (S → Event → S → Type 0) → (S → Type 0) → Result ℕ E → List ℕ → Machine A → S → S
+abbrev pub TookSome : {A S E : Type 0} → Option ℕ → (S → Event → S → Type 0) → (S → Event → S → Type 0) → (S → Type 0) → Result ℕ E → List ℕ → Machine A → S → S
     → Type 0
-TookSome takes refuses is_ready result rest machine old new =
-    Took takes refuses result Ground rest machine old new × Quietly result Ground rest × Advances is_ready result rest new
+TookSome limit takes refuses is_ready result rest machine old new =
+    Took limit takes refuses result Ground rest machine old new × Quietly limit result Ground rest × Advances is_ready result rest new

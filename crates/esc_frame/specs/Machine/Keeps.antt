@@ -1,13 +1,18 @@
 -- What the machine's small parts keep of the bytes that they were given. Only private contracts cite it.
-use Rattle.std.specs.Prelude.{ℕ, ◌≡◌, ◌+◌, ◌-◌, ◌*◌, Bool, true, false, nat_lt, if◌then◌else◌, List, [], ◌∷◌, ◌++◌, length, take, Option, Some, None, pos}
+use Rattle.std.specs.Prelude.{ℕ, ◌≡◌, ◌+◌, ◌-◌, ◌*◌, Bool, true, false, not, nat_lt, if◌then◌else◌, List, [], ◌∷◌, ◌++◌, length, take, Option, Some, None}
+use Rattle.std.specs.Prelude.{pos, vec_capacity}
+use Rattle.std.specs.List.{filter}
 use Rattle.esc_below.specs.declared.csi_param.CsiParam.{CsiParam}
 use Rattle.esc_below.specs.declared.csi_param.CsiParam.TheVariants.{Integer, P}
 use Rattle.esc_frame.specs.declared.intermediates.Intermediates.{Intermediates}
 use Rattle.esc_frame.specs.declared.entries.Entries.{Entries}
+use Rattle.esc_frame.specs.declared.kept.Kept.{Kept}
 use Rattle.esc_frame.specs.declared.body.CsiBody.{CsiBody}
 use Rattle.esc_frame.specs.declared.body.Form.{Form}
+use Rattle.esc_frame.specs.declared.header.DcsHeader.{DcsHeader}
 use Rattle.esc_frame.specs.declared.body.Form.TheVariants as form
-use Rattle.esc_frame.specs.Bodies.{is_digit, held, is_marker, is_csi_parameter, is_intermediate_byte}
+use Rattle.esc_frame.specs.Limits.{Counts}
+use Rattle.esc_frame.specs.Bodies.{is_digit, held, is_marker, is_csi_parameter, is_dcs_parameter, is_intermediate_byte}
 
 -- the first two of these bytes are kept, and whether there are more
 abbrev pub Keeps : Intermediates → List ℕ → Type 0
@@ -50,18 +55,24 @@ pub record AreFirst (items : List CsiParam) (truncated : Bool) (limit : ℕ) (al
 abbrev pub KeepsEntries : {A : Type 0} → Entries A → List ℕ → Type 0
 KeepsEntries e x = AreFirst e.items.items e.is_truncated e.limit (closed_of None x) × IsNumber e (number_of_run None x) × (e.limit ≡ 256)
 
--- how far a body has come in its form, byte by byte
+-- how far a body, or a header, has come in its form, byte by byte, where these are its parameter bytes
+abbrev pub next_form_by : (ℕ → Bool) → Form → ℕ → Form
+next_form_by p form.Empty b =
+    if is_marker b then form.Parameters else if p b then form.Parameters else if is_intermediate_byte b then form.Intermediates else form.Malformed
+next_form_by p form.Parameters b = if p b then form.Parameters else if is_intermediate_byte b then form.Intermediates else form.Malformed
+next_form_by p form.Intermediates b = if is_intermediate_byte b then form.Intermediates else form.Malformed
+next_form_by p form.Malformed b = form.Malformed
+
+abbrev pub form_by : (ℕ → Bool) → Form → List ℕ → Form
+form_by p f [] = f
+form_by p f (b ∷ bs) = form_by p (next_form_by p f b) bs
+
+-- of a CSI
 abbrev pub next_form : Form → ℕ → Form
-next_form form.Empty b =
-    if is_marker b then form.Parameters else if is_csi_parameter b then form.Parameters else if is_intermediate_byte b then form.Intermediates else
-    form.Malformed
-next_form form.Parameters b = if is_csi_parameter b then form.Parameters else if is_intermediate_byte b then form.Intermediates else form.Malformed
-next_form form.Intermediates b = if is_intermediate_byte b then form.Intermediates else form.Malformed
-next_form form.Malformed b = form.Malformed
+next_form f b = next_form_by is_csi_parameter f b
 
 abbrev pub form_from : Form → List ℕ → Form
-form_from f [] = f
-form_from f (b ∷ bs) = form_from (next_form f b) bs
+form_from f x = form_by is_csi_parameter f x
 
 abbrev pub is_formed : Form → Bool
 is_formed form.Malformed = false
@@ -70,3 +81,20 @@ is_formed _ = true
 -- the entries and the form of a body so far
 abbrev pub KeepsBody : {A : Type 0} → CsiBody A → List ℕ → Type 0
 KeepsBody e x = KeepsEntries e.entries x × (e.form ≡ form_from form.Empty x)
+
+-- this text is kept, each byte of which counts; or nothing, not even memory, where it is past the limit
+pub record KeepsText {A : Type 0} (limit : Option ℕ) (k : Kept A) (text : List ℕ) : Type 0 where
+  pub counts : Counts limit k.count (length text)
+  pub kept : k.count.is_over ≡ false → k.bytes.items ≡ text
+  pub freed : k.count.is_over ≡ true → vec_capacity k.bytes ≡ 0
+
+-- the parameter bytes of a DCS's header, and the others
+abbrev pub parameters_of : List ℕ → List ℕ
+parameters_of x = filter is_dcs_parameter x
+
+abbrev pub others_of : List ℕ → List ℕ
+others_of x = filter (λ b. not (is_dcs_parameter b)) x
+
+-- the form of a DCS's header so far, and its bytes that are no parameter bytes
+abbrev pub KeepsDcs : DcsHeader → List ℕ → Type 0
+KeepsDcs h x = Keeps h.intermediates (others_of x) × (h.form ≡ form_by is_dcs_parameter form.Empty x)

@@ -1,5 +1,5 @@
 -- The byte machine: what one byte makes of what is unfinished, and what it tells. Only private contracts cite it.
-use Rattle.std.specs.Prelude.{ℕ, ◌≡◌, ◌<◌, Bool, true, false, ◌||◌, ◌&&◌, if◌then◌else◌, List, [], ◌∷◌, ◌++◌, take}
+use Rattle.std.specs.Prelude.{ℕ, ◌≡◌, ◌<◌, Bool, true, false, ◌||◌, ◌&&◌, if◌then◌else◌, List, [], ◌∷◌, ◌++◌, take, Option, None}
 use Rattle.esc_frame.specs.declared.classes.Class.{Class}
 use Rattle.esc_frame.specs.declared.classes.Class.TheVariants.{Escape, Opens, RawOpens, High, Lead}
 use Rattle.esc_frame.specs.declared.classes.Kind.{Kind}
@@ -9,10 +9,9 @@ use Rattle.esc_frame.specs.declared.sequence.Outcome.TheVariants as outcomes
 use Rattle.esc_frame.specs.Sequences.{is_pair, number_of, outcome}
 use Rattle.esc_frame.specs.Classes.{class_of, strip, those, is_text, is_breaker, is_plain, is_control, is_raw_control, in_escape, in_csi, in_osc, is_put}
 use Rattle.esc_frame.specs.Events.{Event}
-use Rattle.esc_frame.specs.Events.Event.{Print, Execute, OscDispatch, DcsPut, DcsUnhook, ApcDispatch}
-use Rattle.esc_frame.specs.Bodies.{is_dcs_header}
-use Rattle.esc_frame.specs.Segments.{Opener, Piece, text_of, is_empty, escape_event, csi_events, hook_event}
-use Rattle.esc_below.specs.Clear.{parts_of}
+use Rattle.esc_frame.specs.Events.Event.{Print, Execute, DcsPut, DcsUnhook}
+use Rattle.esc_frame.specs.Limits.{is_read}
+use Rattle.esc_frame.specs.Segments.{Opener, Piece, text_of, is_empty, escape_event, csi_events, hook_event, osc_events, apc_events}
 use Rattle.esc_frame.specs.Segments.Opener.{Long, Raw, Pair}
 use Rattle.esc_frame.specs.Segments.Piece.{One, Sequence, BrokenOff}
 use Rattle.esc_frame.specs.Leads.{Unfinished}
@@ -58,67 +57,64 @@ abbrev pub final_escape : List ℕ → ℕ → Class → Move
 final_escape x b (Opens k) = if is_empty (strip x) then (opened k (Long x), []) else (Ground, escape_event (strip x) b ∷ [])
 final_escape x b _ = (Ground, escape_event (strip x) b ∷ [])
 
--- the hook of a header that has its form
-abbrev pub hooks : List ℕ → ℕ → List Event
-hooks x b = if is_dcs_header (strip x) then hook_event (strip x) b ∷ [] else []
+-- the hook of a header that is read
+abbrev pub hooks : Option ℕ → List ℕ → ℕ → List Event
+hooks limit x b = if is_read limit (strip x) then hook_event (strip x) b ∷ [] else []
 
-abbrev pub osc_event : List Piece → Event
-osc_event ps = OscDispatch (parts_of (text_of ps))
-
--- what the unfinished tells where it is left
-abbrev pub leaving : Unfinished → List Event
-leaving (Pending _) = Print 0xfffd ∷ []
-leaving (InData o x f d) = if is_dcs_header (strip x) then DcsUnhook ∷ [] else []
-leaving (InApc o d) = ApcDispatch (those is_text d) ∷ []
-leaving (InOsc o ps) = osc_event ps ∷ []
-leaving (InOscPending o ps f) = osc_event ps ∷ []
-leaving _ = []
+-- what a sequence or a string tells where it is left
+abbrev pub leaving : Option ℕ → Unfinished → List Event
+leaving limit (InData o x f d) = if is_read limit (strip x) then DcsUnhook ∷ [] else []
+leaving limit (InApc o d) = apc_events limit (those is_text d)
+leaving limit (InOsc o ps) = osc_events limit (text_of ps)
+leaving limit (InOscPending o ps f) = osc_events limit (text_of ps)
+leaving limit _ = []
 
 -- a lead byte in an OSC, or the bell that ends it
-abbrev pub final_osc : Opener → List Piece → ℕ → Class → Move
-final_osc o ps b Lead = (InOscPending o ps (b ∷ []), [])
-final_osc o ps b _ = (Ground, leaving (InOsc o ps))
+abbrev pub final_osc : Option ℕ → Opener → List Piece → ℕ → Class → Move
+final_osc limit o ps b Lead = (InOscPending o ps (b ∷ []), [])
+final_osc limit o ps b _ = (Ground, leaving limit (InOsc o ps))
 
 -- a byte that breaks off no sequence or string
-abbrev pub goes_on : Unfinished → ℕ → Class → Move
-goes_on (InEscape x) b c = if in_escape c then (InEscape (x ++ b ∷ []), noise b c) else final_escape x b c
-goes_on (InCsi o x) b c = if in_csi c then (InCsi o (x ++ b ∷ []), noise b c) else (Ground, csi_events (strip x) b)
-goes_on (InDcs o x) b c = if in_csi c then (InDcs o (x ++ b ∷ []), []) else (InData o x b [], hooks x b)
-goes_on (InData o x f d) b c = (InData o x f (d ++ b ∷ []), if is_dcs_header (strip x) && is_put c then DcsPut b ∷ [] else [])
-goes_on (InApc o d) b c = (InApc o (d ++ b ∷ []), [])
-goes_on (InIgnored k o d) b c = (InIgnored k o (d ++ b ∷ []), [])
-goes_on (InOsc o ps) b c = if in_osc c then (InOsc o (ps ++ One b ∷ []), []) else final_osc o ps b c
-goes_on u b c = (u, [])
+abbrev pub goes_on : Option ℕ → Unfinished → ℕ → Class → Move
+goes_on limit (InEscape x) b c = if in_escape c then (InEscape (x ++ b ∷ []), noise b c) else final_escape x b c
+goes_on limit (InCsi o x) b c = if in_csi c then (InCsi o (x ++ b ∷ []), noise b c) else (Ground, csi_events (strip x) b)
+goes_on limit (InDcs o x) b c = if in_csi c then (InDcs o (x ++ b ∷ []), []) else (InData o x b [], hooks limit x b)
+goes_on limit (InData o x f d) b c = (InData o x f (d ++ b ∷ []), if is_read limit (strip x) && is_put c then DcsPut b ∷ [] else [])
+goes_on limit (InApc o d) b c = (InApc o (d ++ b ∷ []), [])
+goes_on limit (InIgnored k o d) b c = (InIgnored k o (d ++ b ∷ []), [])
+goes_on limit (InOsc o ps) b c = if in_osc c then (InOsc o (ps ++ One b ∷ []), []) else final_osc limit o ps b c
+goes_on limit u b c = (u, [])
 
 -- a byte in a sequence or a string: a breaker breaks it off, and does what it does in ground
-abbrev pub inside : Unfinished → ℕ → Class → Move
-inside u b c = if is_breaker c then telling (leaving u) (ground_move b c) else goes_on u b c
+abbrev pub inside : Option ℕ → Unfinished → ℕ → Class → Move
+inside limit u b c = if is_breaker c then telling (leaving limit u) (ground_move b c) else goes_on limit u b c
 
 -- a byte after a prefix of a sequence
 abbrev pub pending_move : List ℕ → ℕ → Class → Outcome → Move
 pending_move f b c outcomes.Whole = if is_pair (f ++ b ∷ []) then pair_move b c else (Ground, Print (number_of (f ++ b ∷ [])) ∷ [])
 pending_move f b c outcomes.More = (Pending (f ++ b ∷ []), [])
-pending_move f b c outcomes.Broken = telling (leaving (Pending f)) (ground_move b c)
+pending_move f b c outcomes.Broken = telling (Print 0xfffd ∷ []) (ground_move b c)
 
 -- the same in an OSC
-abbrev pub osc_pending_move : Opener → List Piece → List ℕ → ℕ → Class → Outcome → Move
-osc_pending_move o ps f b c outcomes.Whole =
-    if is_pair (f ++ b ∷ []) then telling (leaving (InOscPending o ps f)) (pair_move b c) else (InOsc o (ps ++ Sequence (f ++ b ∷ []) ∷ []), [])
-osc_pending_move o ps f b c outcomes.More = (InOscPending o ps (f ++ b ∷ []), [])
-osc_pending_move o ps f b c outcomes.Broken = inside (InOsc o (ps ++ BrokenOff f ∷ [])) b c
+abbrev pub osc_pending_move : Option ℕ → Opener → List Piece → List ℕ → ℕ → Class → Outcome → Move
+osc_pending_move limit o ps f b c outcomes.Whole =
+    if is_pair (f ++ b ∷ []) then telling (leaving limit (InOscPending o ps f)) (pair_move b c) else (InOsc o (ps ++ Sequence (f ++ b ∷ []) ∷ []), [])
+osc_pending_move limit o ps f b c outcomes.More = (InOscPending o ps (f ++ b ∷ []), [])
+osc_pending_move limit o ps f b c outcomes.Broken = inside limit (InOsc o (ps ++ BrokenOff f ∷ [])) b c
 
 -- what a byte of this class makes of what is unfinished
-abbrev pub move : Unfinished → ℕ → Class → Move
-move Ground b c = ground_move b c
-move (Pending f) b c = pending_move f b c (outcome f b)
-move (InOscPending o ps f) b c = osc_pending_move o ps f b c (outcome f b)
-move u b c = inside u b c
+abbrev pub move : Option ℕ → Unfinished → ℕ → Class → Move
+move limit Ground b c = ground_move b c
+move limit (Pending f) b c = pending_move f b c (outcome f b)
+move limit (InOscPending o ps f) b c = osc_pending_move limit o ps f b c (outcome f b)
+move limit u b c = inside limit u b c
 
+-- what is unfinished does not depend on the limit
 abbrev pub after_by : Unfinished → ℕ → Class → Unfinished
-after_by u b c = (move u b c).0
+after_by u b c = (move None u b c).0
 
-abbrev pub news_by : Unfinished → ℕ → Class → List Event
-news_by u b c = (move u b c).1
+abbrev pub news_by : Option ℕ → Unfinished → ℕ → Class → List Event
+news_by limit u b c = (move limit u b c).1
 
 -- ---- many bytes, one after another
 
@@ -126,9 +122,9 @@ abbrev pub after_all : Unfinished → List ℕ → Unfinished
 after_all u [] = u
 after_all u (b ∷ bs) = after_all (after_by u b (class_of b)) bs
 
-abbrev pub news_all : Unfinished → List ℕ → List Event
-news_all u [] = []
-news_all u (b ∷ bs) = news_by u b (class_of b) ++ news_all (after_by u b (class_of b)) bs
+abbrev pub news_all : Option ℕ → Unfinished → List ℕ → List Event
+news_all limit u [] = []
+news_all limit u (b ∷ bs) = news_by limit u b (class_of b) ++ news_all limit (after_by u b (class_of b)) bs
 
 -- ---- memory
 
@@ -152,5 +148,5 @@ is_ground _ = false
 
 -- Of the first n bytes of the rest, where u was unfinished before, all but the last tell nothing and leave something
 -- unfinished.
-abbrev pub IsStill : Unfinished → List ℕ → ℕ → Type 0
-IsStill u rest n = (k : ℕ) → 0 < k → k < n → (news_all u (take k rest) ≡ []) × (is_ground (after_all u (take k rest)) ≡ false)
+abbrev pub IsStill : Option ℕ → Unfinished → List ℕ → ℕ → Type 0
+IsStill limit u rest n = (k : ℕ) → 0 < k → k < n → (news_all limit u (take k rest) ≡ []) × (is_ground (after_all u (take k rest)) ≡ false)

@@ -1,5 +1,5 @@
 -- Runs in the text of an operating system command. Only private contracts cite it.
-use Rattle.std.specs.Prelude.{ℕ, ◌≡◌, List, [], ◌++◌}
+use Rattle.std.specs.Prelude.{ℕ, ◌≡◌, List, [], ◌++◌, Option}
 use Rattle.esc_frame.specs.Segments.{Opener, Piece, text_of}
 use Rattle.esc_frame.specs.Leads.Unfinished.{InOsc}
 use Rattle.esc_frame.specs.Machine.Moves.{after_all, news_all}
@@ -7,4 +7,5 @@ use Rattle.esc_frame.specs.Machine.Moves.{after_all, news_all}
 -- the bytes are whole units of the text, which keeps them as they are
 abbrev pub IsTextRun : List ℕ → Type 0
 IsTextRun x =
-    (qs : List Piece) × (text_of qs ≡ x) × ((o : Opener) (ps : List Piece) → (after_all (InOsc o ps) x ≡ InOsc o (ps ++ qs)) × (news_all (InOsc o ps) x ≡ []))
+    (qs : List Piece) × (text_of qs ≡ x) × ((limit : Option ℕ) (o : Opener) (ps : List Piece)
+    → (after_all (InOsc o ps) x ≡ InOsc o (ps ++ qs)) × (news_all limit (InOsc o ps) x ≡ []))

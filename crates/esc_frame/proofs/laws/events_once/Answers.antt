@@ -1,5 +1,6 @@
+use Rattle.std.proofs.Common.{None}
 use Rattle.esc_frame.proofs.OneCut.{events_once}
 use Rattle.esc_frame.proofs.laws.events_once.Goals as goal
 
 pub returns : goal.returns
-returns c = events_once
+returns c = events_once None

@@ -1,15 +1,16 @@
 use Rattle.std.proofs.Common.{arith}
-use Rattle.esc_frame.proofs.ManyBytes.{print_next, print_stop}
+use Rattle.esc_frame.specs.Events.Event.{Print}
+use Rattle.esc_frame.proofs.Given.{each_next, each_stop}
 use Rattle.esc_frame.proofs.actor.VTActor.print_text.Goals as goal
 
 pub returns-in-Err-clause-told : goal.returns-in-Err-clause-told
 returns-in-Err-clause-told g c =
-    print_stop g.Self.VTActor.takes g.Self.VTActor.refuses c.args.text.now c.loop-b.b-index
+    each_stop g.Self.VTActor.takes g.Self.VTActor.refuses Print c.args.text.now c.loop-b.b-index
     (omega arith) c.args.self.now _ _ c.loop-b.invariant.1 _ c.in-Err.ensures.hears
 
 pub loop-b-preserved : goal.loop-b-preserved
 loop-b-preserved g c = (
   c.in-Ok.ensures.ready,
-  print_next g.Self.VTActor.takes g.Self.VTActor.refuses c.args.text.now c.loop-b.b-index
+  each_next g.Self.VTActor.takes g.Self.VTActor.refuses Print c.args.text.now c.loop-b.b-index
       (omega arith) c.args.self.now _ _ c.loop-b.invariant.1 c.in-Ok.ensures.hears,
 )

@@ -5,6 +5,7 @@ use Rattle.esc_frame.proofs.CsiRuns.{final_by}
 use Rattle.esc_frame.proofs.machine.Machine.end_body.Goals as goal
 
 pub returns-then-b-le126-clause-moved : goal.returns-then-b-le126-clause-moved
-returns-then-b-le126-clause-moved g c = λ o x k.
-    subst (λ m. Moved true g.V.VTActor.takes g.V.VTActor.refuses c.dispatch_csi.result m c.dispatch_csi.new.self c.args.actor.now c.dispatch_csi.new.actor)
-    (sym (final_by o x c.args.b (omega arith) (omega arith))) (c.dispatch_csi.ensures.moved (strip x) k)
+returns-then-b-le126-clause-moved g c = λ limit o x k.
+    subst (λ m. Moved limit true g.V.VTActor.takes g.V.VTActor.refuses c.dispatch_csi.result m c.dispatch_csi.new.self c.args.actor.now
+    c.dispatch_csi.new.actor)
+    (sym (final_by limit o x c.args.b (omega arith) (omega arith))) (c.dispatch_csi.ensures.moved limit (strip x) k)

@@ -1,4 +1,5 @@
-use Rattle.std.proofs.Common.{inl, inr, ◌++◌, ◌∷◌, [], refl, subst}
+use Rattle.esc_frame.specs.Segments.Opener.{Long}
+use Rattle.std.proofs.Common.{inl, inr, ◌++◌, ◌∷◌, [], refl, subst, rules}
 use Rattle.esc_frame.specs.declared.machine.State.TheVariants as state
 use Rattle.esc_frame.specs.Events.Event.{Execute}
 use Rattle.esc_frame.specs.Leads.Unfinished.{InEscape}
@@ -8,15 +9,15 @@ use Rattle.esc_frame.proofs.Given.{hears_moved}
 use Rattle.esc_frame.proofs.machine.Machine.in_escape.Goals as goal
 
 pub returns-in-Plain-clause-moved : goal.returns-in-Plain-clause-moved
-returns-in-Plain-clause-moved g c = λ own x e k. elim c.in-Plain.is [
-  | inl i ↦ rw i (hears_moved _ g.V.VTActor.takes g.V.VTActor.refuses c.execute_c0_or_c1.result (InEscape (x ++ c.args.b ∷ [])) (Execute c.args.b)
+returns-in-Plain-clause-moved g c = λ limit own x e k. elim c.in-Plain.is [
+  | inl i ↦ rw i (hears_moved limit _ g.V.VTActor.takes g.V.VTActor.refuses c.execute_c0_or_c1.result (InEscape (x ++ c.args.b ∷ [])) (Execute c.args.b)
       (record c.args.self.now { state = state.Escape }) c.args.actor.now _ (
         refl,
         subst (Keeps c.args.self.now.intermediates) (noise_strip x c.args.b _ _ e
             i refl) k,
       )
       c.execute_c0_or_c1.ensures.hears)
-  | inr i ↦ rw i (hears_moved _ g.V.VTActor.takes g.V.VTActor.refuses c.execute_c0_or_c1.result (InEscape (x ++ c.args.b ∷ [])) (Execute c.args.b)
+  | inr i ↦ rw i (hears_moved limit _ g.V.VTActor.takes g.V.VTActor.refuses c.execute_c0_or_c1.result (InEscape (x ++ c.args.b ∷ [])) (Execute c.args.b)
       (record c.args.self.now { state = state.Escape }) c.args.actor.now _ (
         refl,
         subst (Keeps c.args.self.now.intermediates) (noise_strip x c.args.b _ _ e
@@ -24,3 +25,6 @@ returns-in-Plain-clause-moved g c = λ own x e k. elim c.in-Plain.is [
       )
       c.execute_c0_or_c1.ensures.hears)
 ]
+
+pub returns-then-self-eq0-clause-moved : goal.returns-then-self-eq0-clause-moved
+returns-then-self-eq0-clause-moved g c = λ limit own x e k. let h = c.open.ensures limit (Long x) in search (rules, h)

@@ -1,4 +1,4 @@
-use Rattle.std.proofs.Common.{[], refl, arith}
+use Rattle.std.proofs.Common.{[], refl, arith, None}
 use Rattle.esc_frame.specs.Leads.Unfinished.{InCsi}
 use Rattle.esc_frame.specs.Segments.Opener.{Long}
 use Rattle.esc_frame.proofs.CsiRuns.{csi_opens}
@@ -6,20 +6,20 @@ use Rattle.esc_frame.proofs.Still.{opened_took, opened_stops}
 use Rattle.esc_frame.proofs.machine.Machine.take_long_csi.Goals as goal
 
 pub take_in_csi-requires-clause-state : goal.take_in_csi-requires-clause-state
-take_in_csi-requires-clause-state g c = (c.open.ensures (Long [])).0
+take_in_csi-requires-clause-state g c = (c.open.ensures None (Long [])).0
 
 pub returns-in-Ok : goal.returns-in-Ok
-returns-in-Ok g c =
-    opened_took (InCsi (Long []) []) c.args.rest.now c.requires.some c.requires.escape
-    (csi_opens c.args.rest.now (omega arith) c.requires.escape c.requires.bracket) refl g.V.VTActor.takes g.V.VTActor.refuses g.V.VTActor.is_ready
-    c.args.actor.now c.take_in_csi.new.actor c.take_in_csi.new.self c.in-Ok.n (c.in-Ok.ensures.took (Long []) [] (c.open.ensures (Long [])).1)
-    (c.in-Ok.ensures.quiet (Long []) []) c.in-Ok.ensures.count
+returns-in-Ok g c = λ limit.
+    opened_took limit (InCsi (Long []) []) c.args.rest.now c.requires.some c.requires.escape
+    (csi_opens limit c.args.rest.now (omega arith) c.requires.escape c.requires.bracket) refl g.V.VTActor.takes g.V.VTActor.refuses g.V.VTActor.is_ready
+    c.args.actor.now c.take_in_csi.new.actor c.take_in_csi.new.self c.in-Ok.n (c.in-Ok.ensures.took limit (Long []) [] (c.open.ensures limit (Long [])).1)
+    (c.in-Ok.ensures.quiet limit (Long []) []) c.in-Ok.ensures.count
 
 pub returns-in-Err : goal.returns-in-Err
-returns-in-Err g c = (
-  opened_stops (InCsi (Long []) []) c.args.rest.now c.requires.some c.requires.escape
-      (csi_opens c.args.rest.now (omega arith) c.requires.escape c.requires.bracket) refl g.V.VTActor.takes g.V.VTActor.refuses g.V.VTActor.is_ready
-      c.args.actor.now c.take_in_csi.new.actor (c.in-Err.ensures.took (Long []) [] (c.open.ensures (Long [])).1),
+returns-in-Err g c = λ limit. (
+  opened_stops limit (InCsi (Long []) []) c.args.rest.now c.requires.some c.requires.escape
+      (csi_opens limit c.args.rest.now (omega arith) c.requires.escape c.requires.bracket) refl g.V.VTActor.takes g.V.VTActor.refuses g.V.VTActor.is_ready
+      c.args.actor.now c.take_in_csi.new.actor (c.in-Err.ensures.took limit (Long []) [] (c.open.ensures limit (Long [])).1),
   tt,
   tt,
 )

@@ -1,22 +1,22 @@
 use Rattle.std.proofs.Common.{false, refl, arith}
 use Rattle.esc_frame.specs.Leads.Unfinished.{Ground}
-use Rattle.esc_frame.proofs.ManyBytes.{quiet_took, quiet_stops}
+use Rattle.esc_frame.proofs.QuietRuns.{quiet_took, quiet_stops}
 use Rattle.esc_frame.proofs.Still.{one_still}
 use Rattle.esc_frame.proofs.machine.Machine.take_one_in_ground.Goals as goal
 
 pub returns-in-Ok : goal.returns-in-Ok
-returns-in-Ok g c = (
-  quiet_took g.V.VTActor.takes g.V.VTActor.refuses Ground Ground c.args.rest.now 0 _ c.args.actor.now _ (refl, refl) c.requires.some c.classify.ensures
+returns-in-Ok g c = λ limit. (
+  quiet_took limit g.V.VTActor.takes g.V.VTActor.refuses Ground Ground c.args.rest.now 0 _ c.args.actor.now _ (refl, refl) c.requires.some c.classify.ensures
       c.in_ground.new.self
-      (c.in-Ok.ensures.moved false),
-  one_still Ground c.args.rest.now,
+      (c.in-Ok.ensures.moved limit false),
+  one_still limit Ground c.args.rest.now,
   (omega arith, c.requires.some, c.in-Ok.ensures.ready),
 )
 
 pub returns-in-Err : goal.returns-in-Err
-returns-in-Err g c = (
-  quiet_stops g.V.VTActor.takes g.V.VTActor.refuses Ground Ground c.args.rest.now 0 _ c.args.actor.now _ (refl, refl) c.requires.some c.classify.ensures
-      (c.in-Err.ensures.moved false),
+returns-in-Err g c = λ limit. (
+  quiet_stops limit g.V.VTActor.takes g.V.VTActor.refuses Ground Ground c.args.rest.now 0 _ c.args.actor.now _ (refl, refl) c.requires.some c.classify.ensures
+      (c.in-Err.ensures.moved limit false),
   tt,
   tt,
 )

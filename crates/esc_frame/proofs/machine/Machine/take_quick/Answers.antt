@@ -1,5 +1,6 @@
+use Rattle.std.proofs.Common.{◌≡◌, rules}
 use Rattle.esc_frame.specs.Leads.Unfinished.{Ground}
-use Rattle.esc_frame.proofs.ManyBytes.{ran_again, ran_ends}
+use Rattle.esc_frame.proofs.ManyBytes.{ran_again, ran_none, ran_ends}
 use Rattle.esc_frame.proofs.machine.Machine.take_quick.Goals as goal
 
 pub loop-at-preserved : goal.loop-at-preserved
@@ -12,4 +13,11 @@ loop-at-preserved g c = (
 pub returns-in-Err-clause-stays : goal.returns-in-Err-clause-stays
 returns-in-Err-clause-stays g c =
     let so = c.loop-at.invariant.0 in
-    ran_ends g.V.VTActor.takes g.V.VTActor.refuses Ground Ground c.args.rest.now c.loop-at.at c.args.actor.now _ _ so.1 so.2 c.in-Err.ensures.stays
+    λ limit. ran_ends limit g.V.VTActor.takes g.V.VTActor.refuses Ground Ground c.args.rest.now c.loop-at.at c.args.actor.now _ _ so.1 (so.2 limit)
+    (c.in-Err.ensures.stays limit)
+
+pub returns-in-Ok-eq0-clause-stays : goal.returns-in-Ok-eq0-clause-stays
+returns-in-Ok-eq0-clause-stays g c =
+    let none : c.in-Ok-eq0.field-0 ≡ 0 = search rules in
+    ran_none g.V.VTActor.takes g.V.VTActor.refuses g.V.VTActor.is_ready c.args.rest.now c.loop-at.at c.in-Ok-eq0.field-0 c.args.actor.now _ _ none
+    c.loop-at.invariant.0 c.in-Ok-eq0.ensures.stays

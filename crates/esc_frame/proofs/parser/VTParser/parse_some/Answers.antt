@@ -1,34 +1,40 @@
-use Rattle.std.proofs.Common.{[], take, refl}
+use Rattle.std.proofs.Common.{[], take, refl, subst}
 use Rattle.esc_frame.specs.Leads.Unfinished.{Ground}
 use Rattle.esc_frame.specs.Machine.Moves.{after_all}
-use Rattle.esc_frame.specs.Stream.{LeadsTo}
+use Rattle.esc_frame.specs.Stream.{LeadsToWithin, IsQuietWithin}
 use Rattle.esc_frame.proofs.Fed.{kept_all, given_all, refused_all}
 use Rattle.esc_frame.proofs.Still.{quiet_all}
 use Rattle.esc_frame.proofs.parser.VTParser.parse_some.Goals as goal
 
 pub returns-then-is_empty-clause-given : goal.returns-then-is_empty-clause-given
-unfolding LeadsTo
+unfolding LeadsToWithin
 returns-then-is_empty-clause-given g c =
-    λ s (f, h). ((f, kept_all c.args.self.now.machine s [] h), given_all g.V.VTActor.takes s [] c.args.actor.now c.args.actor.now refl)
+    λ limit s (f, i, h). (
+      (f, i, kept_all c.args.self.now.limit c.args.self.now.machine s [] h),
+      given_all c.args.self.now.limit limit i g.V.VTActor.takes s
+          [] c.args.actor.now c.args.actor.now refl,
+    )
 
 pub returns-in-Ok-clause-given : goal.returns-in-Ok-clause-given
-unfolding LeadsTo
-returns-in-Ok-clause-given g c = λ s (f, h).
+unfolding LeadsToWithin
+returns-in-Ok-clause-given g c = λ limit s (f, i, h).
     let bs = take c.in-Ok.n c.args.bytes.now in
     let u = after_all Ground s in (
-      (f, kept_all c.take_some.new.self s bs (c.in-Ok.ensures.took u h).0),
-      given_all g.V.VTActor.takes s bs c.args.actor.now c.take_some.new.actor
+      (f, i, kept_all c.args.self.now.limit c.take_some.new.self s bs (c.in-Ok.ensures.took u h).0),
+      given_all c.args.self.now.limit limit i g.V.VTActor.takes s bs c.args.actor.now c.take_some.new.actor
           (c.in-Ok.ensures.took u h).1,
     )
 
 pub returns-in-Ok-clause-quiet : goal.returns-in-Ok-clause-quiet
-unfolding LeadsTo
-returns-in-Ok-clause-quiet g c = λ s (f, h). quiet_all s c.args.bytes.now c.in-Ok.n (c.in-Ok.ensures.quiet (after_all Ground s) h)
+unfolding LeadsToWithin
+returns-in-Ok-clause-quiet g c = λ limit s (f, i, h).
+    subst (λ l. IsQuietWithin l s c.args.bytes.now c.in-Ok.n) i
+    (quiet_all c.args.self.now.limit s c.args.bytes.now c.in-Ok.n (c.in-Ok.ensures.quiet (after_all Ground s) h))
 
 pub returns-in-Err-clause-refused : goal.returns-in-Err-clause-refused
-unfolding LeadsTo
-returns-in-Err-clause-refused g c = λ s (f, h). (
+unfolding LeadsToWithin
+returns-in-Err-clause-refused g c = λ limit s (f, i, h). (
   refl,
-  refused_all g.V.VTActor.takes g.V.VTActor.refuses s c.args.bytes.now c.args.actor.now c.take_some.new.actor
+  refused_all c.args.self.now.limit limit i g.V.VTActor.takes g.V.VTActor.refuses s c.args.bytes.now c.args.actor.now c.take_some.new.actor
       (c.in-Err.ensures.took (after_all Ground s) h),
 )

@@ -1,0 +1,6 @@
+use Rattle.std.proofs.Common.{None}
+use Rattle.esc_frame.proofs.Fitting.{events_fit}
+use Rattle.esc_frame.proofs.laws.events_fit.Goals as goal
+
+pub returns : goal.returns
+returns c = events_fit None

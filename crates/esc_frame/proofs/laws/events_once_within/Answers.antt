@@ -1,0 +1,5 @@
+use Rattle.esc_frame.proofs.OneCut.{events_once}
+use Rattle.esc_frame.proofs.laws.events_once_within.Goals as goal
+
+pub returns : goal.returns
+returns c = events_once

@@ -1,0 +1,6 @@
+use Rattle.std.proofs.Common.{None}
+use Rattle.esc_frame.proofs.AtGround.{ground_added}
+use Rattle.esc_frame.proofs.laws.ground_added.Goals as goal
+
+pub returns : goal.returns
+returns c = ground_added None

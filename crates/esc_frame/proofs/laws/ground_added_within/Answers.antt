@@ -1,0 +1,5 @@
+use Rattle.esc_frame.proofs.AtGround.{ground_added}
+use Rattle.esc_frame.proofs.laws.ground_added_within.Goals as goal
+
+pub returns : goal.returns
+returns c = ground_added

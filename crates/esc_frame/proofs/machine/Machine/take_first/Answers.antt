@@ -1,0 +1,35 @@
+use Rattle.std.proofs.Common.{◌≡◌, ◌<◌, true, false, None, sym, subst, rules, take}
+use Rattle.std.specs.List.{FoldsTo}
+use Rattle.esc_frame.specs.Leads.{Holds}
+use Rattle.esc_frame.specs.Leads.Unfinished.{Ground}
+use Rattle.esc_frame.specs.Machine.Calls.{TookSome}
+use Rattle.esc_frame.specs.Machine.Moves.{news_all, may_grow_within}
+use Rattle.esc_frame.proofs.Given.{stops_for}
+use Rattle.esc_frame.proofs.machine.Machine.take_first.Goals as goal
+
+pub returns-in-Ok-eq0 : goal.returns-in-Ok-eq0
+returns-in-Ok-eq0 g c =
+    let none : c.in-Ok-eq0.field-0 ≡ 0 = search rules in
+    let same : c.args.actor.now ≡ c.print_first.new.actor =
+    subst (λ k. FoldsTo g.V.VTActor.takes c.args.actor.now (news_all None Ground (take k c.args.rest.now)) c.print_first.new.actor) none
+    (c.in-Ok-eq0.ensures.stays.2 None) in
+    subst (λ a. TookSome c.args.limit g.V.VTActor.takes g.V.VTActor.refuses g.V.VTActor.is_ready c.take_control.result c.args.rest.now c.take_control.new.self
+    a c.take_control.new.actor)
+    (sym same) c.take_control.ensures
+
+pub returns-in-Ok : goal.returns-in-Ok
+returns-in-Ok g c =
+    let so = c.in-Ok.ensures.stays in
+    let some : 0 < c.in-Ok.n = search rules in (
+      (subst (λ u. Holds c.args.limit c.args.self.now u) (sym so.1) c.requires.ground, so.2 c.args.limit),
+      c.in-Ok.ensures.quiet c.args.limit,
+      (some, so.0, so.3),
+    )
+
+pub returns-in-Err : goal.returns-in-Err
+returns-in-Err g c = (
+  stops_for (false ≡ true) (may_grow_within Ground c.args.rest.now ≡ true) g.V.VTActor.takes g.V.VTActor.refuses _ c.args.actor.now _ (λ no. absurd cc)
+      (c.in-Err.ensures.stays c.args.limit),
+  tt,
+  tt,
+)
