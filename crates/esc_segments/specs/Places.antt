@@ -1,0 +1,60 @@
+-- What is found of the segment that comes first in some bytes. Only private contracts cite it.
+use Rattle.std.specs.Prelude.{ℕ, ◌≡◌, ◌+◌, ◌<◌, ◌≤◌, Bool, true, false, List, [], ◌∷◌, ◌++◌, length, take, drop}
+use Rattle.esc_segments.specs.declared.kind.SegmentKind.{SegmentKind}
+use Rattle.esc_segments.specs.declared.found.Found.{Found}
+use Rattle.esc_segments.specs.declared.sequence.Ahead.{Ahead}
+use Rattle.esc_segments.specs.declared.sequence.Ahead.TheVariants as ahead
+use Rattle.esc_segments.specs.declared.text.Unit.{Unit as TextUnit}
+use Rattle.esc_segments.specs.declared.text.Unit.TheVariants as units
+use Rattle.esc_frame.specs.declared.classes.Kind.{Kind}
+use Rattle.esc_frame.specs.Classes.{class_of, is_raw}
+use Rattle.esc_frame.specs.Sequences.{is_sequence, is_front, is_pair, is_broken_before}
+use Rattle.esc_frame.specs.Segments.{Segment, Opener, Piece, IsOpener, HasShape, ArePieces, opener, bytes_of, text_bytes, is_finished, breaks_text, behind_c2}
+use Rattle.esc_segments.specs.Items.{kind_of}
+
+abbrev pub found : SegmentKind → ℕ → Bool → Found
+found kind len finished = record { kind = kind; len = len; finished = finished }
+
+-- with so many bytes more before it
+abbrev pub moved : ℕ → Found → Found
+moved n x = record { kind = x.kind; len = n + x.len; finished = x.finished }
+
+-- the first segment of the bytes
+pub record IsFirst (bytes : List ℕ) (x : Found) : Type 0 where
+  pub g : Segment
+  pub after : List ℕ
+  pub whole : bytes ≡ bytes_of g ++ after
+  pub shape : HasShape g after
+  pub kind : x.kind ≡ kind_of g
+  pub len : x.len ≡ length (bytes_of g)
+  pub finished : x.finished ≡ is_finished g after
+  pub last : x.finished ≡ false → after ≡ []
+
+-- behind any opener of this kind
+abbrev pub IsOpened : Kind → List ℕ → Found → Type 0
+IsOpened k body x = (o : Opener) → IsOpener o → IsFirst (opener k o ++ body) (moved (length (opener k o)) x)
+
+-- behind this control, raw and behind C2
+abbrev pub IsRaw : ℕ → List ℕ → Found → Type 0
+IsRaw b body x = (p : Bool) → IsFirst (behind_c2 p b ++ body) (moved (length (behind_c2 p b)) x)
+
+-- the sequence of UTF-8 that comes first
+abbrev pub IsSequence : List ℕ → Ahead → Type 0
+IsSequence bytes (ahead.Whole n) =
+    (0 < n) × (n ≤ length bytes) × (is_sequence (take n bytes) ≡ true) × (is_pair (take n bytes) ≡ false)
+IsSequence bytes (ahead.Broken n) =
+    (0 < n) × (n ≤ length bytes) × (is_front (take n bytes) ≡ true) × (is_broken_before (take n bytes) (drop n bytes) ≡ true)
+IsSequence bytes ahead.Pending = is_front bytes ≡ true
+IsSequence bytes (ahead.Control b) = (is_raw (class_of b) ≡ true) × (take 2 bytes ≡ 0xc2 ∷ b ∷ []) × (2 ≤ length bytes)
+
+-- what comes first in the text of an OSC
+abbrev pub IsUnit : List ℕ → TextUnit → Type 0
+IsUnit text (units.Kept n) =
+    (0 < n) × (n ≤ length text) × ((ps : List Piece) × (text_bytes ps ≡ take n text) × ArePieces ps (drop n text))
+IsUnit text units.Bell = text ≡ 0x07 ∷ drop 1 text
+IsUnit text units.Breaker = breaks_text text ≡ true
+IsUnit text units.Pending = is_front text ≡ true
+
+-- whole units come first, so many bytes
+abbrev pub IsText : List ℕ → ℕ → Type 0
+IsText text n = (ps : List Piece) × (text_bytes ps ≡ take n text) × ArePieces ps (drop n text)

@@ -1,0 +1,59 @@
+//! Classes of bytes.
+#![tactic(auto)]
+
+ghost use Rattle.std.specs.Prelude.{◌≡◌};
+ghost use Rattle.esc_frame.specs.Classes.{class_of, is_breaker, is_noise, in_escape, in_csi, in_osc, opens};
+
+/// Whether the byte ends what stands before it: 18, 1A, 1B, 80 to 9F.
+#[tactic(auto, unfolding(esc_frame::specs::Classes::class_of))]
+#[inline(always)]
+pub fn is_breaker(b: u8) -> bool
+    ensures { result ≡ is_breaker (class_of b) }
+{
+    matches!(b, 0x18 | 0x1a | 0x1b | 0x80..=0x9f)
+}
+
+/// Whether the byte is passed over in a sequence: any other below 20, and 7F, A0 to FF.
+#[tactic(auto, unfolding(esc_frame::specs::Classes::class_of))]
+#[inline(always)]
+pub fn is_noise(b: u8) -> bool
+    ensures { result ≡ is_noise (class_of b) }
+{
+    !is_breaker(b) && (b < 0x20 || 0x7f <= b)
+}
+
+/// Whether it may stand between ESC and the final byte: noise, or 20 to 2F.
+#[tactic(auto, unfolding(esc_frame::specs::Classes::class_of))]
+#[inline(always)]
+pub fn is_in_escape(b: u8) -> bool
+    ensures { result ≡ in_escape (class_of b) }
+{
+    !is_breaker(b) && (b < 0x30 || 0x7f <= b)
+}
+
+/// Whether it may stand between CSI or DCS and the final byte: noise, or 20 to 3F.
+#[tactic(auto, unfolding(esc_frame::specs::Classes::class_of))]
+#[inline(always)]
+pub fn is_in_header(b: u8) -> bool
+    ensures { result ≡ in_csi (class_of b) }
+{
+    !is_breaker(b) && (b < 0x40 || 0x7f <= b)
+}
+
+/// Whether it is a unit by itself in the text of an OSC: no breaker, no BEL, and no byte C2 to F4 that begins a sequence.
+#[tactic(auto, unfolding(esc_frame::specs::Classes::class_of))]
+#[inline(always)]
+pub fn is_in_text(b: u8) -> bool
+    ensures { result ≡ in_osc (class_of b) }
+{
+    !is_breaker(b) && b != 0x07 && (b < 0xc2 || 0xf4 < b)
+}
+
+/// Whether it is the letter of an opener: `P`, `X`, `[`, `]`, `^`, `_`.
+#[tactic(auto, unfolding(esc_frame::specs::Classes::class_of))]
+#[inline(always)]
+pub fn is_letter(b: u8) -> bool
+    ensures { result ≡ opens (class_of b) }
+{
+    matches!(b, b'P' | b'X' | b'[' | b']' | b'^' | b'_')
+}

@@ -1,0 +1,55 @@
+//! How far a segment goes.
+#![tactic(auto)]
+
+ghost use Rattle.std.specs.Prelude.{◌≡◌, ◌+◌, ◌<◌, ◌^◌, true, false};
+ghost use Rattle.esc_segments.specs.Places.{moved, found};
+
+use crate::kind::SegmentKind;
+
+/// A segment that has been found, or what of it follows its opener: its kind, how many bytes it takes, and whether it is
+/// finished.
+#[derive(Clone, Copy)]
+pub struct Found {
+    pub kind: SegmentKind,
+    pub len: usize,
+    pub finished: bool,
+}
+
+impl Found {
+    /// One that is finished after so many bytes.
+    #[inline(always)]
+    pub fn finished(kind: SegmentKind, len: usize) -> Found
+        ensures { result ≡ found kind len true }
+    {
+        Found {
+            kind,
+            len,
+            finished: true,
+        }
+    }
+
+    /// One that takes all bytes, and may go on.
+    #[inline(always)]
+    pub fn unfinished(kind: SegmentKind, len: usize) -> Found
+        ensures { result ≡ found kind len false }
+    {
+        Found {
+            kind,
+            len,
+            finished: false,
+        }
+    }
+
+    /// The segment with so many bytes more before it.
+    #[inline(always)]
+    pub fn behind(self, count: usize) -> Found
+        requires { count + self.len < 2 ^ 64 }
+        ensures { result ≡ moved count self }
+    {
+        Found {
+            kind: self.kind,
+            len: count + self.len,
+            finished: self.finished,
+        }
+    }
+}

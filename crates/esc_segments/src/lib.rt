@@ -1,0 +1,38 @@
+//! The segments of terminal bytes: an iterator over the caller's slice that takes no memory.
+//!
+//! [`Segments`] gives the one cut of a stream of bytes into characters, controls, escape sequences and strings, as the parser
+//! of DEC's terminals (<https://vt100.net/emu/dec_ansi_parser>) and ECMA-48 have them, without dispatching anything: a pager,
+//! a linter or an editor can look at the bytes of each where they lie. [`laws`] says what a whole iteration gives.
+//!
+//! ```
+//! for segment in Segments::new(b"\x1b[1mbold") {
+//!     println!(rt; "{:?} of {} bytes", segment.kind, segment.bytes.len())?;
+//! }
+//! ```
+//!
+//! A segment outlives the iterator that gave it, and not the input: this does not compile, since `bytes` ends before `kept`.
+//!
+//! ```compile_fail
+//! let kept = {
+//!     let bytes = [b'a', 0x07];
+//!     Segments::new(&bytes).next()
+//! };
+//! let _ = kept;
+//! ```
+#![tactic(auto)]
+
+mod bytes;
+mod first;
+mod found;
+pub mod item;
+pub mod iter;
+pub mod kind;
+pub mod laws;
+mod opened;
+mod runs;
+mod sequence;
+mod text;
+
+pub use item::Segment;
+pub use iter::Segments;
+pub use kind::SegmentKind;
