@@ -55,12 +55,12 @@ version_good A v h = where_map (λ u. IsVersion {A = A} u) (Good A) iterm.Unicod
 
 assigned_good : (A : Type 0) (k v : List ℕ) → IsClearPart v → Where (Good A) (assigned k v)
 assigned_good A k v clear =
-    where_if (Good A) (pointwise nat_eq k (codes "HighlightCursorLine")) (highlight_of v) _ (highlight_good A v)
-    (where_if (Good A) (pointwise nat_eq k (codes "CurrentDir")) (Some (iterm.CurrentDir v)) _ clear
+    where_if (Good A) (pointwise nat_eq k (codes "CurrentDir")) (Some (iterm.CurrentDir v)) _ clear
     (where_if (Good A) (pointwise nat_eq k (codes "SetProfile")) (Some (iterm.SetProfile v)) _ clear
     (where_if (Good A) (pointwise nat_eq k (codes "CopyToClipboard")) (Some (iterm.CopyToClipboard v)) _ clear
-    (where_if (Good A) (pointwise nat_eq k (codes "SetBadgeFormat")) _ _ (badge_good A v)
+    (where_if (Good A) (pointwise nat_eq k (codes "HighlightCursorLine")) (highlight_of v) _ (highlight_good A v)
     (where_if (Good A) (pointwise nat_eq k (codes "SetUserVar")) _ _ (variable_good A v clear)
+    (where_if (Good A) (pointwise nat_eq k (codes "SetBadgeFormat")) _ _ (badge_good A v)
     (where_if (Good A) (pointwise nat_eq k (codes "UnicodeVersion")) _ None (version_good A v clear) tt))))))
 
 content_good : (A : Type 0) (k b : List ℕ) → Where (Good A) (content_of k b)

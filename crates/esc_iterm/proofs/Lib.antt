@@ -7,6 +7,7 @@ pub mod ITermsClear
 pub mod KeyTexts
 pub mod KeysWritten
 pub mod LossyTexts
+pub mod ManyParts
 pub mod Pieces
 pub mod ReadPieces
 pub mod TenthsBack

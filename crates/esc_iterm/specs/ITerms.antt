@@ -34,12 +34,12 @@ variable_of v = and_then (key_and_value v) (λ (e : List ℕ × List ℕ). optio
 
 -- a keyword and its argument in one part
 abbrev pub assigned : {A : Type 0} → List ℕ → List ℕ → Option (ITermProprietary A)
-assigned k v = if pointwise nat_eq k (codes "HighlightCursorLine") then highlight_of v
-    else if pointwise nat_eq k (codes "CurrentDir") then Some (iterm.CurrentDir v)
+assigned k v = if pointwise nat_eq k (codes "CurrentDir") then Some (iterm.CurrentDir v)
     else if pointwise nat_eq k (codes "SetProfile") then Some (iterm.SetProfile v)
     else if pointwise nat_eq k (codes "CopyToClipboard") then Some (iterm.CopyToClipboard v)
-    else if pointwise nat_eq k (codes "SetBadgeFormat") then option_map iterm.SetBadgeFormat (base64_text_of v)
+    else if pointwise nat_eq k (codes "HighlightCursorLine") then highlight_of v
     else if pointwise nat_eq k (codes "SetUserVar") then variable_of v
+    else if pointwise nat_eq k (codes "SetBadgeFormat") then option_map iterm.SetBadgeFormat (base64_text_of v)
     else if pointwise nat_eq k (codes "UnicodeVersion") then option_map iterm.UnicodeVersion (version_of v)
     else None
 

@@ -84,13 +84,11 @@ fn read_bare<A: Allocator + Copy>(
 ) -> Result<Option<ITermProprietary<A>>, AllocError>
     ensures { IfOk result (λ c. c ≡ bare key.now (map (λ p. p.now) more.now)) }
 {
-    let Some((content, rest)) = more.split_first() else {
-        return Ok(read_alone(key));
-    };
-    if !rest.is_empty() {
-        return Ok(None);
+    match more {
+        [] => Ok(read_alone(key)),
+        [content] => read_content(alloc, key, content),
+        _ => Ok(None),
     }
-    read_content(alloc, key, content)
 }
 
 // A keyword alone.
@@ -116,16 +114,12 @@ fn read_keyed<A: Allocator + Copy>(
 ) -> Result<Option<ITermProprietary<A>>, AllocError>
     ensures { IfOk result (λ c. c ≡ keyed key.now value.now (map (λ p. p.now) more.now)) }
 {
-    let Some((second, rest)) = more.split_first() else {
-        return read_assigned(alloc, key, value);
-    };
-    let Some((third, last)) = rest.split_first() else {
-        return read_with_one(alloc, key, value, second);
-    };
-    if !last.is_empty() {
-        return Ok(None);
+    match more {
+        [] => read_assigned(alloc, key, value),
+        [second] => read_with_one(alloc, key, value, second),
+        [second, third] => Ok(read_with_two(key, value, second, third)),
+        _ => Ok(None),
     }
-    Ok(read_with_two(key, value, second, third))
 }
 
 // A keyword and its argument in one part.
@@ -137,7 +131,6 @@ fn read_assigned<A: Allocator + Copy>(
     ensures { IfOk result (λ c. c ≡ assigned key.now value.now) }
 {
     match key {
-        "HighlightCursorLine" => Ok(read_highlight(value)),
         "CurrentDir" => {
             let path = Text::from_str(alloc, value)?;
             Ok(Some(ITermProprietary::CurrentDir(path)))
@@ -150,11 +143,12 @@ fn read_assigned<A: Allocator + Copy>(
             let name = Text::from_str(alloc, value)?;
             Ok(Some(ITermProprietary::CopyToClipboard(name)))
         }
+        "HighlightCursorLine" => Ok(read_highlight(value)),
+        "SetUserVar" => read_variable(alloc, value),
         "SetBadgeFormat" => {
             let format = read_base64_text(alloc, value.as_bytes())?;
             Ok(format.map(|t| ITermProprietary::SetBadgeFormat(t)))
         }
-        "SetUserVar" => read_variable(alloc, value),
         "UnicodeVersion" => {
             let version = read_version(alloc, value.as_bytes())?;
             Ok(version.map(|v| ITermProprietary::UnicodeVersion(v)))

@@ -10,7 +10,8 @@ use Rattle.esc_kitty.specs.Words.{verbosity_word}
 use Rattle.esc_kitty.specs.Writable.{IsNumber, IsOrder, IsWritableDelete, ReadsBack}
 use Rattle.esc_kitty.specs.declared.verbosity.KittyImageVerbosity.{KittyImageVerbosity}
 use Rattle.esc_kitty.specs.declared.delete.KittyImageDelete.{KittyImageDelete}
-use Rattle.esc_kitty.specs.declared.delete.KittyImageDelete.TheVariants.{All, ByImageId, ByImageNumber, AtCursorPosition, AnimationFrames, DeleteAt, DeleteAtZ, DeleteColumn, DeleteRow, DeleteZ, ByImageIdRange}
+use Rattle.esc_kitty.specs.declared.delete.KittyImageDelete.TheVariants.{All, ByImageId, ByImageNumber, AtCursorPosition, AnimationFrames, DeleteAt}
+use Rattle.esc_kitty.specs.declared.delete.KittyImageDelete.TheVariants.{DeleteAtZ, DeleteColumn, DeleteRow, DeleteZ, ByImageIdRange}
 use Rattle.esc_kitty.specs.declared.image.KittyImage.TheVariants as image
 use Rattle.esc_kitty.proofs.FieldsBack.{number_is, one_back}
 use Rattle.esc_kitty.proofs.KeysRead.{is_entry, is_value, entries_image, find, written_pairs}

@@ -13,8 +13,10 @@ use Rattle.std.proofs.lemmas.Str.{is_utf8-from_IsUtf8}
 use Rattle.esc_kitty.specs.Images.{compose_of, content_by, frame_of, placement_of, transmit_of}
 use Rattle.esc_kitty.specs.Keys.{Values, not_zero}
 use Rattle.esc_kitty.specs.Texts.{content_text, medium_word, number_text, offset_in, signed_text, size_in}
-use Rattle.esc_kitty.specs.Words.{composition_of, composition_word, compression_of, compression_word, flag_of, flag_word, format_of, format_word, verbosity_of, verbosity_word}
-use Rattle.esc_kitty.specs.Writable.{IsFrameNumber, IsNumber, IsOrder, IsWritableCompose, IsWritableContent, IsWritableFrame, IsWritablePlacement, IsWritableTransmit}
+use Rattle.esc_kitty.specs.Words.{composition_of, composition_word, compression_of, compression_word, flag_of, flag_word, format_of, format_word}
+use Rattle.esc_kitty.specs.Words.{verbosity_of, verbosity_word}
+use Rattle.esc_kitty.specs.Writable.{IsFrameNumber, IsNumber, IsOrder, IsWritableCompose, IsWritableContent, IsWritableFrame, IsWritablePlacement}
+use Rattle.esc_kitty.specs.Writable.{IsWritableTransmit}
 use Rattle.esc_kitty.specs.declared.verbosity.KittyImageVerbosity.{KittyImageVerbosity}
 use Rattle.esc_kitty.specs.declared.verbosity.KittyImageVerbosity.TheVariants.{Verbose, OnlyErrors, Quiet}
 use Rattle.esc_kitty.specs.declared.format.KittyImageFormat.{KittyImageFormat}

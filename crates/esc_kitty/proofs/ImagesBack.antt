@@ -4,7 +4,8 @@ use Rattle.std.specs.List.{list_all}
 use Rattle.esc_below.specs.Cuts.{Pairs}
 use Rattle.esc_kitty.specs.Images.{compose_of, frame_of, image_by, image_frame, image_in, image_shown, placement_of, transmit_of}
 use Rattle.esc_kitty.specs.Keys.{Values, values_of}
-use Rattle.esc_kitty.specs.Texts.{compose_keys, content_text, display_keys, frame_keys, is_bare, number_text, offset_in, or_action, query_keys, shown_keys, size_in, transmit_keys, written}
+use Rattle.esc_kitty.specs.Texts.{compose_keys, content_text, display_keys, frame_keys, is_bare, number_text, offset_in, or_action, query_keys}
+use Rattle.esc_kitty.specs.Texts.{shown_keys, size_in, transmit_keys, written}
 use Rattle.esc_kitty.specs.Writable.{IsNumber, IsWritableCompose, IsWritableFrame, IsWritableImage, IsWritablePlacement, IsWritableTransmit, ReadsBack}
 use Rattle.esc_kitty.specs.declared.verbosity.KittyImageVerbosity.{KittyImageVerbosity}
 use Rattle.esc_kitty.specs.declared.verbosity.KittyImageVerbosity.TheVariants.{Verbose}
@@ -16,7 +17,8 @@ use Rattle.esc_kitty.specs.declared.image.KittyImage.{KittyImage}
 use Rattle.esc_kitty.specs.declared.image.KittyImage.TheVariants as image
 use Rattle.esc_kitty.proofs.FieldsBack.{compose_back, frame_back, number_is, placement_back, transmit_back}
 use Rattle.esc_kitty.proofs.KeysRead.{is_entry, ArePairs, entries_image, find, written_pairs}
-use Rattle.esc_kitty.proofs.ValuesWritten.{number_value, frame_value, order_value, flag_value, verbosity_value, format_value, compression_value, composition_value, medium_value, content_size, content_offset, content_kept}
+use Rattle.esc_kitty.proofs.ValuesWritten.{number_value, frame_value, order_value, flag_value, verbosity_value, format_value, compression_value}
+use Rattle.esc_kitty.proofs.ValuesWritten.{composition_value, medium_value, content_size, content_offset, content_kept}
 use Rattle.esc_kitty.proofs.Sending.{written_at, sends, tells, acts}
 use Rattle.esc_kitty.proofs.DeletesBack.{deleted_back}
 

@@ -9,10 +9,12 @@ use Rattle.esc_below.specs.Cuts.{Pairs, cut_at}
 use Rattle.esc_below.specs.Scalars.{IsSigned, and_then, number_of, signed_of, utf8_of}
 use Rattle.esc_below.proofs.Signed.{signed_where}
 use Rattle.esc_below.proofs.Where.{Where, where_if, where_map, where_then, number_where, utf8_keeps, Anything, anything, content_where}
-use Rattle.esc_kitty.specs.Images.{compose_of, content_by, content_of, delete_by, delete_in, delete_of, frame_of, image_by, image_frame, image_in, image_of, image_shown, image_with, is_capital, keys_and_payload, placement_of, transmit_of}
+use Rattle.esc_kitty.specs.Images.{compose_of, content_by, content_of, delete_by, delete_in, delete_of, frame_of, image_by, image_frame, image_in}
+use Rattle.esc_kitty.specs.Images.{image_of, image_shown, image_with, is_capital, keys_and_payload, placement_of, transmit_of}
 use Rattle.esc_kitty.specs.Keys.{Values, keys_of, not_zero, number, signed, values_of}
 use Rattle.esc_kitty.specs.Words.{composition_of, compression_of, flag_of, format_of, is, verbosity_of}
-use Rattle.esc_kitty.specs.Writable.{IsFrameNumber, IsNumber, IsOrder, IsWritableCompose, IsWritableContent, IsWritableDelete, IsWritableFrame, IsWritableImage, IsWritablePlacement, IsWritableTransmit, is_kept}
+use Rattle.esc_kitty.specs.Writable.{IsFrameNumber, IsNumber, IsOrder, IsWritableCompose, IsWritableContent, IsWritableDelete, IsWritableFrame}
+use Rattle.esc_kitty.specs.Writable.{IsWritableImage, IsWritablePlacement, IsWritableTransmit, is_kept}
 use Rattle.esc_kitty.specs.declared.verbosity.KittyImageVerbosity.{KittyImageVerbosity}
 use Rattle.esc_kitty.specs.declared.format.KittyImageFormat.{KittyImageFormat}
 use Rattle.esc_kitty.specs.declared.compression.KittyImageCompression.{KittyImageCompression}
@@ -21,7 +23,8 @@ use Rattle.esc_kitty.specs.declared.content.KittyImageData.{KittyImageData}
 use Rattle.esc_kitty.specs.declared.content.KittyImageData.TheVariants.{Direct, File, TemporaryFile, SharedMem}
 use Rattle.esc_kitty.specs.declared.transmit.KittyImageTransmit.{KittyImageTransmit}
 use Rattle.esc_kitty.specs.declared.delete.KittyImageDelete.{KittyImageDelete}
-use Rattle.esc_kitty.specs.declared.delete.KittyImageDelete.TheVariants.{ByImageId, ByImageNumber, DeleteAt, DeleteAtZ, DeleteColumn, DeleteRow, DeleteZ, ByImageIdRange}
+use Rattle.esc_kitty.specs.declared.delete.KittyImageDelete.TheVariants.{ByImageId, ByImageNumber, DeleteAt, DeleteAtZ, DeleteColumn, DeleteRow}
+use Rattle.esc_kitty.specs.declared.delete.KittyImageDelete.TheVariants.{DeleteZ, ByImageIdRange}
 use Rattle.esc_kitty.specs.declared.image.KittyImage.{KittyImage}
 use Rattle.esc_kitty.specs.declared.image.KittyImage.TheVariants as image
 

@@ -3,10 +3,12 @@ use Rattle.std.proofs.Common.{ℕ, ◌≡◌, Bool, true, ◌&&◌, List, [], �
 use Rattle.std.proofs.lemmas.Bool.{and_parts}
 use Rattle.std.specs.List.{list_all}
 use Rattle.esc_below.specs.Cuts.{Pairs}
-use Rattle.esc_kitty.specs.Texts.{Entry, ascends, compose_keys, delete_keys, display_keys, frame_keys, image_keys, or_action, query_keys, shown_keys, stands_before, transmit_keys, with_value, written}
+use Rattle.esc_kitty.specs.Texts.{Entry, ascends, compose_keys, delete_keys, display_keys, frame_keys, image_keys, or_action, query_keys, shown_keys}
+use Rattle.esc_kitty.specs.Texts.{stands_before, transmit_keys, with_value, written}
 use Rattle.esc_kitty.specs.declared.verbosity.KittyImageVerbosity.{KittyImageVerbosity}
 use Rattle.esc_kitty.specs.declared.delete.KittyImageDelete.{KittyImageDelete}
-use Rattle.esc_kitty.specs.declared.delete.KittyImageDelete.TheVariants.{All, ByImageId, ByImageNumber, AtCursorPosition, AnimationFrames, DeleteAt, DeleteAtZ, DeleteColumn, DeleteRow, DeleteZ, ByImageIdRange}
+use Rattle.esc_kitty.specs.declared.delete.KittyImageDelete.TheVariants.{All, ByImageId, ByImageNumber, AtCursorPosition, AnimationFrames, DeleteAt}
+use Rattle.esc_kitty.specs.declared.delete.KittyImageDelete.TheVariants.{DeleteAtZ, DeleteColumn, DeleteRow, DeleteZ, ByImageIdRange}
 use Rattle.esc_kitty.specs.declared.image.KittyImage.{KittyImage}
 use Rattle.esc_kitty.specs.declared.image.KittyImage.TheVariants as image
 

@@ -17,7 +17,8 @@ use Rattle.esc_kitty.specs.declared.content.KittyImageData.TheVariants.{Direct, 
 use Rattle.esc_kitty.specs.declared.transmit.KittyImageTransmit.{KittyImageTransmit}
 use Rattle.esc_kitty.specs.declared.placement.KittyImagePlacement.{KittyImagePlacement}
 use Rattle.esc_kitty.specs.declared.delete.KittyImageDelete.{KittyImageDelete}
-use Rattle.esc_kitty.specs.declared.delete.KittyImageDelete.TheVariants.{All, ByImageId, ByImageNumber, AtCursorPosition, AnimationFrames, DeleteAt, DeleteAtZ, DeleteColumn, DeleteRow, DeleteZ, ByImageIdRange}
+use Rattle.esc_kitty.specs.declared.delete.KittyImageDelete.TheVariants.{All, ByImageId, ByImageNumber, AtCursorPosition, AnimationFrames, DeleteAt}
+use Rattle.esc_kitty.specs.declared.delete.KittyImageDelete.TheVariants.{DeleteAtZ, DeleteColumn, DeleteRow, DeleteZ, ByImageIdRange}
 use Rattle.esc_kitty.specs.declared.frame.KittyImageFrame.{KittyImageFrame}
 use Rattle.esc_kitty.specs.declared.compose.KittyImageFrameCompose.{KittyImageFrameCompose}
 use Rattle.esc_kitty.specs.declared.image.KittyImage.{KittyImage}

@@ -1,8 +1,10 @@
 -- The code that a text names.
-use Rattle.std.proofs.Common.{◌≡◌, ◌≢◌, ℕ, ◌<◌, ◌≤◌, true, false, nat_eq, nat_le, ◌⊎◌, inl, inr, List, [], ◌∷◌, length, map, get_or, Option, Some}
-use Rattle.std.proofs.Common.{None, MatchOption, refl, sym, ap, ◌∙◌, arith}
+use Rattle.std.proofs.Common.{◌≡◌, ◌≢◌, ℕ, ◌<◌, ◌≤◌, Bool, true, false, nat_eq, ◌==◌, nat_le, ◌&&◌, ◌||◌, ◌⊎◌, inl, inr, List, []}
+use Rattle.std.proofs.Common.{◌∷◌, length, map, get_or, Option, Some, None, MatchOption, drop, ◌+◌, refl, sym, ap, ◌∙◌, arith}
 use Rattle.std.specs.Cmp.Lexicographic.{pointwise, same_text}
-use Rattle.std.proofs.lemmas.Bool.{eqb-true, lt-leb, le-leb, cases_Bool}
+use Rattle.std.proofs.Math.Bool.{and-false}
+use Rattle.std.proofs.lemmas.List.{at_drop_more}
+use Rattle.std.proofs.lemmas.Bool.{eqb-true, ne_eqb, lt-leb, le-leb, cases_Bool}
 use Rattle.std.specs.List.{list_all}
 use Rattle.esc_below.proofs.PlainParts.{is_part_plain}
 use Rattle.esc_osc.specs.Codes.{code_text, all_codes, first_named, code_of, code_name}
@@ -29,6 +31,15 @@ unfolding code_of
 code_of_from t None h = sym (first_named_none all_codes t h)
 code_of_from t (Some c) h = rw h (sym (code_of-code_text c))
 
+-- a code whose text is another is passed over
+pub named_later : (cs : List OperatingSystemCommandCode) (t : List ℕ) (i : ℕ) (d : OperatingSystemCommandCode) → i < length cs
+    → pointwise nat_eq t (code_text (get_or cs i d)) ≡ false → first_named (drop (i + 1) cs) t ≡ first_named (drop i cs) t
+named_later cs t i d lt differs = sym (at_drop_more (λ ks. first_named ks t) cs i d lt ∙ rw differs refl)
+
+-- a text that names no code is that of none
+pub code_of_none : (t : List ℕ) → code_of t ≡ None → (c : OperatingSystemCommandCode) → t ≢ code_text c
+code_of_none t h c e = let found : code_of t ≡ Some c = ap code_of e ∙ code_of-code_text c in cc
+
 -- what names a code is its text
 first_named_text : (cs : List OperatingSystemCommandCode) (t : List ℕ) (c : OperatingSystemCommandCode) → first_named cs t ≡ Some c → t ≡ code_text c
 first_named_text [] t c h = cc
@@ -42,24 +53,23 @@ pub code_of_text : (t : List ℕ) (c : OperatingSystemCommandCode) → code_of t
 unfolding code_of
 code_of_text t c h = first_named_text all_codes t c h
 
--- a letter that is no code
-abbrev NoLetter : ℕ → OperatingSystemCommandCode → Type 0
-NoLetter b c = b ∷ [] ≢ code_text c
+-- the characters that a code begins with: digits, `l` and `L`
+abbrev begins_code : ℕ → Bool
+begins_code b = (nat_le 0x30 b && nat_le b 0x39) || b == 0x6c || b == 0x4c
 
-letter_differs : (b : ℕ) → (b < 0x30) ⊎ (0x39 < b) → b ≢ 0x6c → b ≢ 0x4c → (c : OperatingSystemCommandCode) → NoLetter b c
-letter_differs b h l u code.SetIconNameAndWindowTitle = λ e. let d : b ≡ 0x30 = cc in absurd (omega arith)
-letter_differs b h l u code.SetIconName = λ e. let d : b ≡ 0x31 = cc in absurd (omega arith)
-letter_differs b h l u code.SetWindowTitle = λ e. let d : b ≡ 0x32 = cc in absurd (omega arith)
-letter_differs b h l u code.SetXWindowProperty = λ e. let d : b ≡ 0x33 = cc in absurd (omega arith)
-letter_differs b h l u code.ChangeColorNumber = λ e. let d : b ≡ 0x34 = cc in absurd (omega arith)
-letter_differs b h l u code.ChangeSpecialColorNumber = λ e. let d : b ≡ 0x35 = cc in absurd (omega arith)
-letter_differs b h l u code.ChangeTitleTabColor = λ e. let d : b ≡ 0x36 = cc in absurd (omega arith)
-letter_differs b h l u code.SetCurrentWorkingDirectory = λ e. let d : b ≡ 0x37 = cc in absurd (omega arith)
-letter_differs b h l u code.SetHyperlink = λ e. let d : b ≡ 0x38 = cc in absurd (omega arith)
-letter_differs b h l u code.SystemNotification = λ e. let d : b ≡ 0x39 = cc in absurd (omega arith)
-letter_differs b h l u code.SetWindowTitleSun = λ e. let d : b ≡ 0x6c = cc in absurd (l d)
-letter_differs b h l u code.SetIconNameSun = λ e. let d : b ≡ 0x4c = cc in absurd (u d)
-letter_differs b h l u c = λ e. cc
+code_begins : (c : OperatingSystemCommandCode) → begins_code (get_or (code_text c) 0 0) ≡ true
+code_begins code.SetIconNameAndWindowTitle = refl
+code_begins c = refl
+
+begins_not : (b : ℕ) → (b < 0x30) ⊎ (0x39 < b) → b ≢ 0x6c → b ≢ 0x4c → begins_code b ≡ false
+begins_not b (inl low) l u = rw (lt-leb 0x30 b low, ne_eqb b 0x6c l, ne_eqb b 0x4c u) refl
+begins_not b (inr high) l u = rw (lt-leb b 0x39 high, and-false (nat_le 0x30 b), ne_eqb b 0x6c l, ne_eqb b 0x4c u) refl
+
+letter_differs : (b : ℕ) → (b < 0x30) ⊎ (0x39 < b) → b ≢ 0x6c → b ≢ 0x4c → (c : OperatingSystemCommandCode) → b ∷ [] ≢ code_text c
+letter_differs b h l u c =
+    λ e.
+    let begins : begins_code b ≡ true = ap (λ t. begins_code (get_or t 0 0)) e ∙ code_begins c in
+    let not : begins_code b ≡ false = begins_not b h l u in cc
 
 pub letter_none : (b : ℕ) → (b < 0x30) ⊎ (0x39 < b) → b ≢ 0x6c → b ≢ 0x4c → code_of (b ∷ []) ≡ None
 unfolding code_of

@@ -81,10 +81,10 @@ three_back : (r g b : ℕ) → r < 65536 → g < 65536 → b < 65536 → color_f
 three_back r g b h i j = rw (channel_back r h, channel_back g i, channel_back b j) refl
 
 pub spec_back : (c : ColorOrQuery) → IsColor c → spec_of (spec_text c) ≡ Some c
-spec_back Query h = refl
 spec_back (Color c) h =
     rgb_of_three (hex4 c.red) (hex4 c.green) (hex4 c.blue) (hex4_glyphs c.red h.0) (hex4_glyphs c.green h.1)
     ∙ three_back c.red c.green c.blue h.0 h.1 h.2
+spec_back Query h = refl
 
 rgb_plain : (r g b : List ℕ) → list_all is_part_plain r ≡ true → list_all is_part_plain g ≡ true → list_all is_part_plain b ≡ true
     → list_all is_part_plain (codes "rgb:" ++ r ++ 0x2f ∷ (g ++ 0x2f ∷ b)) ≡ true
@@ -95,11 +95,11 @@ rgb_plain r g b h i j =
     (all_append is_part_plain g (0x2f ∷ b) i (all_append is_part_plain (codes "/") b refl j))))
 
 pub spec_part : (c : ColorOrQuery) → IsColor c → IsClearPart (spec_text c)
-spec_part Query h = plain_part (codes "?") refl
 spec_part (Color c) h =
     plain_part (spec_text (Color c)) (rgb_plain (hex4 c.red) (hex4 c.green) (hex4 c.blue)
     (glyphs_plain (hex4 c.red) (hex4_glyphs c.red h.0)) (glyphs_plain (hex4 c.green) (hex4_glyphs c.green h.1))
     (glyphs_plain (hex4 c.blue) (hex4_glyphs c.blue h.2)))
+spec_part Query h = plain_part (codes "?") refl
 
 pub specs_are_parts : (cs : List ColorOrQuery) → AreColors cs → AreClearParts (map spec_text cs)
 specs_are_parts [] h = tt

@@ -1,12 +1,12 @@
 -- Links, prompts and commands of iTerm2, by the laws of the crates that read and write them.
-use Rattle.std.proofs.Common.{ℕ, ◌≡◌, List, [], ◌∷◌, Option, Some, None, refl, sym, ap, ◌∙◌}
+use Rattle.std.proofs.Common.{ℕ, ◌≡◌, List, [], ◌∷◌, Option, Some, sym, ap, ◌∙◌}
 use Rattle.std.specs.Option.{option_map, unwrap_or}
-use Rattle.esc_below.specs.Clear.{IsClearText, IsClearPart, AreClearParts, AreTextParts, parts_of}
+use Rattle.esc_below.specs.Clear.{IsClearText, IsClearPart, AreClearParts, parts_of}
 use Rattle.esc_below.specs.Hyperlinks.{link_of, link_text}
 use Rattle.esc_below.specs.declared.hyperlink.Hyperlink.{Hyperlink}
 use Rattle.esc_below.proofs.LinksBack.{link_back, link_parts}
 use Rattle.esc_below.proofs.Split.{text_parts}
-use Rattle.esc_below.proofs.Where.{Where}
+use Rattle.esc_below.proofs.Where.{Where, where_from, where_map}
 use Rattle.esc_iterm.specs.ITerms.{iterm_of}
 use Rattle.esc_iterm.specs.WritableITerms.{IsWritableITerm}
 use Rattle.esc_iterm.specs.declared.proprietary.ITermProprietary.{ITermProprietary}
@@ -38,13 +38,10 @@ prompted A p h = let w = prompts_back.writes_back p h in record {
   reads = ap (option_map command.FinalTermSemanticPrompt) w.3;
 }
 
-prompt_from : (A : Type 0) (args : List (List ℕ)) → AreClearParts args → (o : Option (FinalTermSemanticPrompt A)) → prompt_of args ≡ o
-    → Where (Good A) (option_map command.FinalTermSemanticPrompt o)
-prompt_from A args k None e = tt
-prompt_from A args k (Some p) e = prompts_clear.clear_is_writable args k p e
-
 pub prompt_good : (A : Type 0) (args : List (List ℕ)) → AreClearParts args → Where (Good A) (option_map command.FinalTermSemanticPrompt (prompt_of args))
-prompt_good A args k = prompt_from A args k (prompt_of args) refl
+prompt_good A args k =
+    where_map (λ (p : FinalTermSemanticPrompt A). IsWritablePrompt p) (Good A) command.FinalTermSemanticPrompt (λ p w. w) (prompt_of args)
+    (where_from (λ (p : FinalTermSemanticPrompt A). IsWritablePrompt p) (prompt_of args) (prompts_clear.clear_is_writable args k))
 
 -- commands of iTerm2
 pub proprietary : (A : Type 0) (c : ITermProprietary A) → IsWritableITerm c → Written A (command.ITermProprietary c)
@@ -56,13 +53,10 @@ proprietary A c h = let w = iterms_back.writes_back c h in record {
   reads = ap (option_map command.ITermProprietary) w.3;
 }
 
-iterm_from : (A : Type 0) (args : List (List ℕ)) → AreClearParts args → (o : Option (ITermProprietary A)) → iterm_of args ≡ o
-    → Where (Good A) (option_map command.ITermProprietary o)
-iterm_from A args k None e = tt
-iterm_from A args k (Some c) e = iterms_clear.clear_is_writable args k c e
-
 pub iterm_good : (A : Type 0) (args : List (List ℕ)) → AreClearParts args → Where (Good A) (option_map command.ITermProprietary (iterm_of args))
-iterm_good A args k = iterm_from A args k (iterm_of args) refl
+iterm_good A args k =
+    where_map (λ (c : ITermProprietary A). IsWritableITerm c) (Good A) command.ITermProprietary (λ c w. w) (iterm_of args)
+    (where_from (λ (c : ITermProprietary A). IsWritableITerm c) (iterm_of args) (iterms_clear.clear_is_writable args k))
 
 -- links
 link_means : (A : Type 0) (v : Option (Hyperlink A)) (args : List (List ℕ)) → parts_of (link_text v) ≡ code_text code.SetHyperlink ∷ args
@@ -79,12 +73,10 @@ linked A v clear reads =
     let p = link_parts (parts_of (link_text v)) (text_parts (link_text v) clear) v reads in
     link_means A v (p.0 ∷ p.1 ∷ []) p.3 reads
 
-link_from : (A : Type 0) (ps : List (List ℕ)) → AreTextParts ps → (o : Option (Option (Hyperlink A))) → link_of ps ≡ o
-    → Where (Good A) (option_map command.SetHyperlink o)
-link_from A ps h None e = tt
-link_from A ps h (Some v) e = link_back ps h v e
-
 pub link_good : (A : Type 0) (t : List ℕ) (args : List (List ℕ)) → IsClearPart t → AreClearParts args
     → Where (Good A) (option_map command.SetHyperlink (link_of (t ∷ args)))
 link_good A t [] h k = tt
-link_good A t (a ∷ more) h k = link_from A (t ∷ a ∷ more) ((h, k), λ e. cc) (link_of (t ∷ a ∷ more)) refl
+link_good A t (a ∷ more) h k =
+    let IsGood : Option (Hyperlink A) → Type 0 = λ v. Good A (command.SetHyperlink v) in
+    where_map IsGood (Good A) command.SetHyperlink (λ v w. w) (link_of (t ∷ a ∷ more))
+    (where_from IsGood (link_of (t ∷ a ∷ more)) (link_back (t ∷ a ∷ more) ((h, k), λ e. cc)))

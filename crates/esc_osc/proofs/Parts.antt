@@ -1,9 +1,9 @@
 -- Lists of parts that are read one after another.
-use Rattle.std.proofs.Common.{◌≡◌, ℕ, ◌<◌, ◌≤◌, List, [], ◌∷◌, ◌++◌, length, map, take, Some, refl, ap, arith, take_all}
+use Rattle.std.proofs.Common.{◌≡◌, ℕ, ◌<◌, ◌≤◌, List, [], ◌∷◌, ◌++◌, length, map, take, Some, None, refl, ap, arith, take_all}
 use Rattle.std.specs.List.{flat_map}
 use Rattle.esc_below.specs.Scalars.{utf8_of}
 use Rattle.esc_osc.specs.Colors.{pairs_of}
-use Rattle.esc_osc.specs.Reading.{title_of}
+use Rattle.esc_osc.specs.Reading.{selected, title_of}
 
 pub pairs_end : {X : Type 0} (f : X → List ℕ) (left : List X) → length left < 2 → pairs_of (map f left) ≡ Some []
 pairs_end f [] h = refl
@@ -20,3 +20,10 @@ pub title_whole : {X : Type 0} (f : X → List ℕ) (args : List X) (first : X) 
     → title_of (map f args) ≡ utf8_of bytes
 title_whole f args first rest i head bytes parts all is was =
     rw (parts, was, is, take_all i rest all, flat_map_map f rest)
+
+-- more parts than a selection has
+pub selected_long : {X : Type 0} (A : Type 0) (f : X → List ℕ) (args : List X) → 3 ≤ length args → selected {A = A} (map f args) ≡ None
+selected_long A f [] h = absurd (omega arith)
+selected_long A f (x ∷ []) h = absurd (omega arith)
+selected_long A f (x ∷ y ∷ []) h = absurd (omega arith)
+selected_long A f (x ∷ y ∷ z ∷ xs) h = refl

@@ -90,10 +90,6 @@ reading_good A code.SetIconNameAndWindowTitle t args e h k =
     where_map (λ u. IsClearText u) (Good A) command.SetIconNameAndWindowTitle (λ u q. q) (title_of args) (title_clear args k)
 reading_good A code.SetIconName t args e h k = where_map (λ u. IsClearText u) (Good A) command.SetIconName (λ u q. q) (title_of args) (title_clear args k)
 reading_good A code.SetWindowTitle t args e h k = where_map (λ u. IsClearText u) (Good A) command.SetWindowTitle (λ u q. q) (title_of args) (title_clear args k)
-reading_good A code.SetWindowTitleSun t args e h k =
-    where_map (λ u. IsClearPart u) (Good A) command.SetWindowTitleSun (λ u q. q) (utf8_of (drop 1 t)) (sun_tail 0x6c t args (omega arith) e h)
-reading_good A code.SetIconNameSun t args e h k =
-    where_map (λ u. IsClearPart u) (Good A) command.SetIconNameSun (λ u q. q) (utf8_of (drop 1 t)) (sun_tail 0x4c t args (omega arith) e h)
 reading_good A code.ChangeColorNumber t args e h k = where_map ArePairs (Good A) command.ChangeColorNumber (λ u q. q) (pairs_of args) (pairs_where args)
 reading_good A code.SetCurrentWorkingDirectory t args e h k =
     where_map (λ u. IsClearPart u) (Good A) command.CurrentWorkingDirectory (λ u q. q) (lone_text args) (lone_clear args k)
@@ -102,8 +98,12 @@ reading_good A code.SystemNotification t args e h k = notified_good A (progress_
 reading_good A code.ManipulateSelectionData t args e h k = selected_good A args
 reading_good A code.ResetColors t args e h k = where_map AreNumbers (Good A) command.ResetColors (λ u q. q) (numbers_of args) (numbers_where args)
 reading_good A code.FinalTermSemanticPrompt t args e h k = prompt_good A args k
-reading_good A code.ITermProprietary t args e h k = iterm_good A args k
 reading_good A code.RxvtProprietary t args e h k = texts_good args k
+reading_good A code.ITermProprietary t args e h k = iterm_good A args k
+reading_good A code.SetWindowTitleSun t args e h k =
+    where_map (λ u. IsClearPart u) (Good A) command.SetWindowTitleSun (λ u q. q) (utf8_of (drop 1 t)) (sun_tail 0x6c t args (omega arith) e h)
+reading_good A code.SetIconNameSun t args e h k =
+    where_map (λ u. IsClearPart u) (Good A) command.SetIconNameSun (λ u q. q) (utf8_of (drop 1 t)) (sun_tail 0x4c t args (omega arith) e h)
 reading_good A c t args e h k = dynamic_good A (changed_by c) (reset_by c) args
 
 fitting_good : (A : Type 0) (p : List ℕ) (args : List (List ℕ)) → IsClearPart p → AreClearParts args

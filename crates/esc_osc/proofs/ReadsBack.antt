@@ -9,11 +9,10 @@ use Rattle.std.proofs.lemmas.Bool.{le-leb}
 use Rattle.std.proofs.lemmas.List.{append-nil}
 use Rattle.std.proofs.lemmas.Str.{is_utf8-from_IsUtf8}
 use Rattle.esc_below.specs.Base64.{base64_text}
-use Rattle.esc_below.specs.Clear.{IsClearText, IsClearPart, AreClearParts, joined, parts_of}
+use Rattle.esc_below.specs.Clear.{IsClearText, IsClearPart, AreClearParts, joined, separated, parts_of}
 use Rattle.esc_below.proofs.Base64.{base64_part, base64_back}
-use Rattle.esc_below.proofs.Plain.{plain_clear}
 use Rattle.esc_below.proofs.PlainParts.{plain_part}
-use Rattle.esc_below.proofs.Split.{clear_append, joined_clear, part_clear, parts_text, joined_split}
+use Rattle.esc_below.proofs.Split.{joined_clear, part_clear, parts_text, text_parts, joined_split}
 pub use Rattle.esc_below.proofs.ClearTexts.{chars_scalar, clear_utf8}
 pub use Rattle.esc_osc.proofs.ReadParts.{clear_is_writable}
 use Rattle.esc_below.proofs.ClearTexts.{part_utf8_of, part_lossy, parts_lossy, part_append}
@@ -25,7 +24,7 @@ use Rattle.esc_osc.proofs.Layers.{prompted, proprietary, linked}
 use Rattle.esc_osc.proofs.Numerals.{byte_back, byte_part, decimals_are_parts, numbers_back}
 use Rattle.esc_osc.proofs.Parts.{flat_map_map}
 use Rattle.esc_osc.proofs.Selections.{selection_back, selection_part, base64_other}
-use Rattle.esc_osc.proofs.Written.{Written, written_clear, written_back, code_part, code_means, one_written, two_written}
+use Rattle.esc_osc.proofs.Written.{Written, written_clear, written_back, code_part, one_written, two_written}
 use Rattle.esc_osc.specs.Codes.{code_text, change_code, reset_code}
 use Rattle.esc_osc.specs.Colors.{spec_text}
 use Rattle.esc_osc.specs.Commands.{inner_text, titled}
@@ -43,11 +42,6 @@ use Rattle.esc_osc.specs.declared.dynamic_color_number.DynamicColorNumber.{Dynam
 use Rattle.esc_osc.specs.declared.progress.Progress.{Progress}
 use Rattle.esc_osc.specs.declared.progress.Progress.TheVariants as progress
 use Rattle.esc_osc.specs.declared.selection.Selection.{Selection}
-
--- a title: what is written is clear
-titled_clear : (c : OperatingSystemCommandCode) (t : List ℕ) → IsClearText t → IsClearText (titled c t)
-titled_clear c t h =
-    clear_append (code_text c) (0x3b ∷ t) (part_clear (code_text c) (code_part c)) (clear_append (0x3b ∷ []) t (plain_clear (0x3b ∷ []) refl) h)
 
 -- every text splits into at least one piece
 abbrev HasFirst : List (List ℕ) → Type 0
@@ -69,12 +63,25 @@ title_split t u =
     let j : joined (s.0 ∷ s.1) ≡ t = ap joined (sym s.2) ∙ joined_split t in
     rw s.2 (rw (j, is_utf8-from_IsUtf8 t u) refl)
 
-title_means : (A : Type 0) (c : OperatingSystemCommandCode) (t : List ℕ) (v : OperatingSystemCommand A)
-    → parts_of (titled c t) ≡ code_text c ∷ slice_split (λ c. c == 0x3b) t
-    → reading c (code_text c) (slice_split (λ c. c == 0x3b) t) ≡ Some v → meaning (parts_of (titled c t)) ≡ v
-title_means A c t v splits e =
-    ap (meaning {A = A}) splits
-    ∙ ap (λ r. unwrap_or r (command.Unspecified (code_text c ∷ slice_split (λ c. c == 0x3b) t))) (code_means c (slice_split (λ c. c == 0x3b) t) ∙ e)
+title_parts : (t : List ℕ) → IsClearText t → AreClearParts (slice_split (λ c. c == 0x3b) t)
+title_parts [] h = (plain_part [] refl, tt)
+title_parts (b ∷ t) h = (text_parts (b ∷ t) h).0
+
+title_text : (t : List ℕ) → 0x3b ∷ t ≡ separated (slice_split (λ c. c == 0x3b) t)
+title_text t =
+    let s = split_head t in
+    let j : joined (s.0 ∷ s.1) ≡ t = ap joined (sym s.2) ∙ joined_split t in
+    rw s.2 (ap (λ u. 0x3b ∷ u) (sym j))
+
+entitled : (A : Type 0) (k : OperatingSystemCommandCode) (t : List ℕ) (c : OperatingSystemCommand A) → IsClearText t → inner_text c ≡ titled k t
+    → reading k (code_text k) (slice_split (λ c. c == 0x3b) t) ≡ Some c → Written A c
+entitled A k t c h is e = record {
+  code = k;
+  args = slice_split (λ c. c == 0x3b) t;
+  text = is ∙ ap (λ u. code_text k ++ u) (title_text t);
+  clear = title_parts t h;
+  reads = e;
+}
 
 -- a text after a letter
 letter_part : (c : OperatingSystemCommandCode) (t : List ℕ) → IsClearPart t → IsClearPart (code_text c ++ t)
@@ -230,55 +237,49 @@ extension A ts h = record {
   reads = ap (λ us. Some (command.RxvtExtension us)) (parts_lossy ts h);
 }
 
+-- a writable command's text is clear, and reads back
+abbrev Back : {A : Type 0} → OperatingSystemCommand A → Type 0
+Back c = IsClearText (inner_text c) × (meaning (parts_of (inner_text c)) ≡ c)
+
+by : (A : Type 0) (c : OperatingSystemCommand A) → Written A c → Back c
+by A c w = (written_clear A c w, written_back A c w)
+
+back : {A : Type 0} (c : OperatingSystemCommand A) → IsWritable c → Back c
+back {A = A} (command.SetIconNameAndWindowTitle t) h =
+    by A _ (entitled A code.SetIconNameAndWindowTitle t (command.SetIconNameAndWindowTitle t) h refl
+    (ap (option_map command.SetIconNameAndWindowTitle) (title_split t (clear_utf8 t h))))
+back {A = A} (command.SetWindowTitle t) h =
+    by A _ (entitled A code.SetWindowTitle t (command.SetWindowTitle t) h refl (ap (option_map command.SetWindowTitle) (title_split t (clear_utf8 t h))))
+back {A = A} (command.SetWindowTitleSun t) h =
+    let part = letter_part code.SetWindowTitleSun t h in
+    (part_clear (0x6c ∷ t) part, ap (meaning {A = A}) (one_part 0x6c t part) ∙ window_means A t part h)
+back {A = A} (command.SetIconName t) h =
+    by A _ (entitled A code.SetIconName t (command.SetIconName t) h refl (ap (option_map command.SetIconName) (title_split t (clear_utf8 t h))))
+back {A = A} (command.SetIconNameSun t) h =
+    let part = letter_part code.SetIconNameSun t h in
+    (part_clear (0x4c ∷ t) part, ap (meaning {A = A}) (one_part 0x4c t part) ∙ icon_means A t part h)
+back {A = A} (command.SetHyperlink v) h = (h.0, linked A v h.0 h.1)
+back {A = A} (command.ClearSelection s) h = by A _ (cleared A s h)
+back {A = A} (command.QuerySelection s) h = by A _ (queried A s h)
+back {A = A} (command.SetSelection s t) h = by A _ (filled A s t h.0 h.1)
+back {A = A} (command.SystemNotification t) h = by A _ (notification A t h)
+back {A = A} (command.ITermProprietary c) h = by A _ (proprietary A c h)
+back {A = A} (command.FinalTermSemanticPrompt p) h = by A _ (prompted A p h)
+back {A = A} (command.ChangeColorNumber ps) h = by A _ (palette A ps h)
+back {A = A} (command.ChangeDynamicColors n cs) h = by A _ (changed A n cs h)
+back {A = A} (command.ResetDynamicColor n) h = by A _ (restored A n)
+back {A = A} (command.CurrentWorkingDirectory t) h = by A _ (directory A t h)
+back {A = A} (command.ResetColors ns) h = by A _ (numbered A ns h)
+back {A = A} (command.RxvtExtension ts) h = by A _ (extension A ts h)
+back {A = A} (command.ConEmuProgress p) h = by A _ (progressing A p h)
+back {A = A} (command.Unspecified ps) h =
+    let P : List ℕ → Type 0 = λ u. IsClearText u in (
+      subst P (sym (lossy_joined ps h.0.0)) (joined_clear ps h.0.0),
+      ap (λ x. meaning {A = A} (parts_of x)) (lossy_joined ps h.0.0) ∙ ap (meaning {A = A}) (parts_text ps h.0).1 ∙ h.1,
+    )
+
 pub writes_clear : {A : Type 0} (c : OperatingSystemCommand A) → IsWritable c → IsClearText (inner_text c)
-writes_clear (command.SetIconNameAndWindowTitle t) h = titled_clear code.SetIconNameAndWindowTitle t h
-writes_clear (command.SetIconName t) h = titled_clear code.SetIconName t h
-writes_clear (command.SetWindowTitle t) h = titled_clear code.SetWindowTitle t h
-writes_clear (command.SetWindowTitleSun t) h = part_clear (0x6c ∷ t) (letter_part code.SetWindowTitleSun t h)
-writes_clear (command.SetIconNameSun t) h = part_clear (0x4c ∷ t) (letter_part code.SetIconNameSun t h)
-writes_clear (command.SetHyperlink v) h = h.0
-writes_clear {A = A} (command.ClearSelection s) h = written_clear A (command.ClearSelection s) (cleared A s h)
-writes_clear {A = A} (command.QuerySelection s) h = written_clear A (command.QuerySelection s) (queried A s h)
-writes_clear {A = A} (command.SetSelection s t) h = written_clear A (command.SetSelection s t) (filled A s t h.0 h.1)
-writes_clear {A = A} (command.SystemNotification t) h = written_clear A (command.SystemNotification t) (notification A t h)
-writes_clear {A = A} (command.ITermProprietary c) h = written_clear A (command.ITermProprietary c) (proprietary A c h)
-writes_clear {A = A} (command.FinalTermSemanticPrompt p) h = written_clear A (command.FinalTermSemanticPrompt p) (prompted A p h)
-writes_clear {A = A} (command.ChangeColorNumber ps) h = written_clear A (command.ChangeColorNumber ps) (palette A ps h)
-writes_clear {A = A} (command.ChangeDynamicColors n cs) h = written_clear A (command.ChangeDynamicColors n cs) (changed A n cs h)
-writes_clear {A = A} (command.ResetDynamicColor n) h = written_clear A (command.ResetDynamicColor n) (restored A n)
-writes_clear {A = A} (command.CurrentWorkingDirectory t) h = written_clear A (command.CurrentWorkingDirectory t) (directory A t h)
-writes_clear {A = A} (command.ResetColors ns) h = written_clear A (command.ResetColors ns) (numbered A ns h)
-writes_clear {A = A} (command.RxvtExtension ts) h = written_clear A (command.RxvtExtension ts) (extension A ts h)
-writes_clear {A = A} (command.ConEmuProgress p) h = written_clear A (command.ConEmuProgress p) (progressing A p h)
-writes_clear (command.Unspecified ps) h =
-    let P : List ℕ → Type 0 = λ u. IsClearText u in
-    subst P (sym (lossy_joined ps h.0.0)) (joined_clear ps h.0.0)
+writes_clear c h = (back c h).0
 
 pub reads_back : {A : Type 0} (c : OperatingSystemCommand A) → IsWritable c → meaning (parts_of (inner_text c)) ≡ c
-reads_back {A = A} (command.SetIconNameAndWindowTitle t) h =
-    title_means A code.SetIconNameAndWindowTitle t (command.SetIconNameAndWindowTitle t) refl
-    (ap (option_map command.SetIconNameAndWindowTitle) (title_split t (clear_utf8 t h)))
-reads_back {A = A} (command.SetIconName t) h =
-    title_means A code.SetIconName t (command.SetIconName t) refl (ap (option_map command.SetIconName) (title_split t (clear_utf8 t h)))
-reads_back {A = A} (command.SetWindowTitle t) h =
-    title_means A code.SetWindowTitle t (command.SetWindowTitle t) refl (ap (option_map command.SetWindowTitle) (title_split t (clear_utf8 t h)))
-reads_back {A = A} (command.SetWindowTitleSun t) h = ap (meaning {A = A}) (one_part 0x6c t (letter_part code.SetWindowTitleSun t h))
-    ∙ window_means A t (letter_part code.SetWindowTitleSun t h) h
-reads_back {A = A} (command.SetIconNameSun t) h = ap (meaning {A = A}) (one_part 0x4c t (letter_part code.SetIconNameSun t h))
-    ∙ icon_means A t (letter_part code.SetIconNameSun t h) h
-reads_back {A = A} (command.SetHyperlink v) h = linked A v h.0 h.1
-reads_back {A = A} (command.ClearSelection s) h = written_back A (command.ClearSelection s) (cleared A s h)
-reads_back {A = A} (command.QuerySelection s) h = written_back A (command.QuerySelection s) (queried A s h)
-reads_back {A = A} (command.SetSelection s t) h = written_back A (command.SetSelection s t) (filled A s t h.0 h.1)
-reads_back {A = A} (command.SystemNotification t) h = written_back A (command.SystemNotification t) (notification A t h)
-reads_back {A = A} (command.ITermProprietary c) h = written_back A (command.ITermProprietary c) (proprietary A c h)
-reads_back {A = A} (command.FinalTermSemanticPrompt p) h = written_back A (command.FinalTermSemanticPrompt p) (prompted A p h)
-reads_back {A = A} (command.ChangeColorNumber ps) h = written_back A (command.ChangeColorNumber ps) (palette A ps h)
-reads_back {A = A} (command.ChangeDynamicColors n cs) h = written_back A (command.ChangeDynamicColors n cs) (changed A n cs h)
-reads_back {A = A} (command.ResetDynamicColor n) h = written_back A (command.ResetDynamicColor n) (restored A n)
-reads_back {A = A} (command.CurrentWorkingDirectory t) h = written_back A (command.CurrentWorkingDirectory t) (directory A t h)
-reads_back {A = A} (command.ResetColors ns) h = written_back A (command.ResetColors ns) (numbered A ns h)
-reads_back {A = A} (command.RxvtExtension ts) h = written_back A (command.RxvtExtension ts) (extension A ts h)
-reads_back {A = A} (command.ConEmuProgress p) h = written_back A (command.ConEmuProgress p) (progressing A p h)
-reads_back {A = A} (command.Unspecified ps) h =
-    ap (λ x. meaning {A = A} (parts_of x)) (lossy_joined ps h.0.0) ∙ ap (meaning {A = A}) (parts_text ps h.0).1 ∙ h.1
+reads_back c h = (back c h).1

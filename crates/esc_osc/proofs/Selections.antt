@@ -1,9 +1,10 @@
 -- Selections are clear parts that read back, and what is read has named bits.
 use Rattle.std.proofs.Common.{◌≡◌, ℕ, ◌+◌, ◌-◌, ◌*◌, ◌/◌, ◌%◌, ◌≤◌, ◌==◌, nat_eq, nat_lt, nat_le, ◌&&◌, Bool, true, false, inl, inr, List, [], ◌∷◌}
-use Rattle.std.proofs.Common.{codes, bit_or, Some, None, refl, sym, ap, ◌∙◌, arith}
+use Rattle.std.proofs.Common.{codes, ◌<◌, length, drop, get_or, bit_or, Some, None, refl, sym, ap, ◌∙◌, arith}
 use Rattle.std.specs.Cmp.Lexicographic.{pointwise, same_text}
 use Rattle.std.specs.List.{list_all}
 use Rattle.std.specs.Str.{IsUtf8}
+use Rattle.std.proofs.lemmas.List.{at_drop_more}
 use Rattle.std.proofs.lemmas.Bool.{eqb-true, ltb-true, leb-true, cases_Bool, and_parts}
 use Rattle.base64.specs.Tables.{all_below}
 use Rattle.base64.proofs.Tables.{all_below_at}
@@ -54,6 +55,14 @@ base64_other t h =
           absurd cc
       | inr failed ↦ failed
     ]
+
+-- the bit of the letter at a place, and a letter that is passed over
+pub bit_here : (ls : List (ℕ × ℕ)) (c i : ℕ) (d : ℕ × ℕ) → i < length ls → (c == (get_or ls i d).1) ≡ true → letter_bit_in (drop i ls) c ≡ (get_or ls i d).0
+bit_here ls c i d lt same = at_drop_more (λ ks. letter_bit_in ks c) ls i d lt ∙ rw same refl
+
+pub bit_later : (ls : List (ℕ × ℕ)) (c i : ℕ) (d : ℕ × ℕ) → i < length ls → (c == (get_or ls i d).1) ≡ false
+    → letter_bit_in (drop (i + 1) ls) c ≡ letter_bit_in (drop i ls) c
+bit_later ls c i d lt differs = sym (at_drop_more (λ ks. letter_bit_in ks c) ls i d lt ∙ rw differs refl)
 
 -- a letter's bit with named bits
 abbrev is_named : ℕ → Bool

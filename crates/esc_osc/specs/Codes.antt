@@ -51,21 +51,20 @@ code_text code.ITermProprietary = codes "1337"
 code_text code.SetWindowTitleSun = codes "l"
 code_text code.SetIconNameSun = codes "L"
 
--- every code
+-- every code, in the order in which a text is compared with theirs
 abbrev pub all_codes : List OperatingSystemCommandCode
-all_codes = code.SetIconNameAndWindowTitle ∷ code.SetIconName ∷ code.SetWindowTitle ∷
-    code.SetXWindowProperty ∷ code.ChangeColorNumber ∷ code.ChangeSpecialColorNumber ∷
-    code.ChangeTitleTabColor ∷ code.SetCurrentWorkingDirectory ∷ code.SetHyperlink ∷
-    code.SystemNotification ∷ code.SetTextForegroundColor ∷ code.SetTextBackgroundColor ∷
-    code.SetTextCursorColor ∷ code.SetMouseForegroundColor ∷ code.SetMouseBackgroundColor ∷
+all_codes =
+    code.SetIconNameAndWindowTitle ∷ code.SetWindowTitle ∷ code.SetIconName ∷ code.SetHyperlink ∷ code.FinalTermSemanticPrompt ∷
+    code.SetCurrentWorkingDirectory ∷ code.ManipulateSelectionData ∷ code.SetTextForegroundColor ∷ code.SetTextBackgroundColor ∷
+    code.SetTextCursorColor ∷ code.ChangeColorNumber ∷ code.SystemNotification ∷ code.ITermProprietary ∷ code.SetXWindowProperty ∷
+    code.ChangeSpecialColorNumber ∷ code.ChangeTitleTabColor ∷ code.SetMouseForegroundColor ∷ code.SetMouseBackgroundColor ∷
     code.SetTektronixForegroundColor ∷ code.SetTektronixBackgroundColor ∷ code.SetHighlightBackgroundColor ∷
-    code.SetTektronixCursorColor ∷ code.SetHighlightForegroundColor ∷ code.SetLogFileName ∷ code.SetFont ∷
-    code.EmacsShell ∷ code.ManipulateSelectionData ∷ code.ResetColors ∷ code.ResetSpecialColor ∷
-    code.ResetTextForegroundColor ∷ code.ResetTextBackgroundColor ∷ code.ResetTextCursorColor ∷
-    code.ResetMouseForegroundColor ∷ code.ResetMouseBackgroundColor ∷ code.ResetTektronixForegroundColor ∷
-    code.ResetTektronixBackgroundColor ∷ code.ResetHighlightColor ∷ code.ResetTektronixCursorColor ∷
-    code.ResetHighlightForegroundColor ∷ code.FinalTermSemanticPrompt ∷ code.RxvtProprietary ∷
-    code.ITermProprietary ∷ code.SetWindowTitleSun ∷ code.SetIconNameSun ∷ []
+    code.SetTektronixCursorColor ∷ code.SetHighlightForegroundColor ∷ code.SetLogFileName ∷ code.SetFont ∷ code.EmacsShell ∷
+    code.ResetColors ∷ code.ResetSpecialColor ∷ code.ResetTextForegroundColor ∷ code.ResetTextBackgroundColor ∷
+    code.ResetTextCursorColor ∷ code.ResetMouseForegroundColor ∷ code.ResetMouseBackgroundColor ∷
+    code.ResetTektronixForegroundColor ∷ code.ResetTektronixBackgroundColor ∷ code.ResetHighlightColor ∷
+    code.ResetTektronixCursorColor ∷ code.ResetHighlightForegroundColor ∷ code.RxvtProprietary ∷ code.SetWindowTitleSun ∷
+    code.SetIconNameSun ∷ []
 
 -- the first of these codes whose text is t
 abbrev pub first_named : List OperatingSystemCommandCode → List ℕ → Option OperatingSystemCommandCode

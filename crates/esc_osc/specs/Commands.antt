@@ -33,9 +33,9 @@ listed c f xs = code_text c ++ flat_map (λ x. 0x3b ∷ f x) xs
 -- what comes between `ESC ]` and the terminator
 abbrev pub inner_text : {A : Type 0} → OperatingSystemCommand A → List ℕ
 inner_text (command.SetIconNameAndWindowTitle t) = titled code.SetIconNameAndWindowTitle t
-inner_text (command.SetIconName t) = titled code.SetIconName t
 inner_text (command.SetWindowTitle t) = titled code.SetWindowTitle t
 inner_text (command.SetWindowTitleSun t) = code_text code.SetWindowTitleSun ++ t
+inner_text (command.SetIconName t) = titled code.SetIconName t
 inner_text (command.SetIconNameSun t) = code_text code.SetIconNameSun ++ t
 inner_text (command.SetHyperlink h) = link_text h
 inner_text (command.ClearSelection s) = titled code.ManipulateSelectionData (selection_text s.0)
@@ -71,9 +71,9 @@ is_unspecified c = false
 -- the code under which each command is written
 abbrev pub code_under : {A : Type 0} → OperatingSystemCommand A → Option OperatingSystemCommandCode
 code_under (command.SetIconNameAndWindowTitle t) = Some code.SetIconNameAndWindowTitle
-code_under (command.SetIconName t) = Some code.SetIconName
 code_under (command.SetWindowTitle t) = Some code.SetWindowTitle
 code_under (command.SetWindowTitleSun t) = Some code.SetWindowTitleSun
+code_under (command.SetIconName t) = Some code.SetIconName
 code_under (command.SetIconNameSun t) = Some code.SetIconNameSun
 code_under (command.SetHyperlink h) = Some code.SetHyperlink
 code_under (command.ClearSelection s) = Some code.ManipulateSelectionData

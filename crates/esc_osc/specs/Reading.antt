@@ -69,8 +69,6 @@ abbrev pub reading : {A : Type 0} → OperatingSystemCommandCode → List ℕ �
 reading code.SetIconNameAndWindowTitle t args = option_map command.SetIconNameAndWindowTitle (title_of args)
 reading code.SetIconName t args = option_map command.SetIconName (title_of args)
 reading code.SetWindowTitle t args = option_map command.SetWindowTitle (title_of args)
-reading code.SetWindowTitleSun t args = option_map command.SetWindowTitleSun (utf8_of (drop 1 t))
-reading code.SetIconNameSun t args = option_map command.SetIconNameSun (utf8_of (drop 1 t))
 reading code.ChangeColorNumber t args = option_map command.ChangeColorNumber (pairs_of args)
 reading code.SetCurrentWorkingDirectory t args = option_map command.CurrentWorkingDirectory (lone_text args)
 reading code.SetHyperlink t args = option_map command.SetHyperlink (link_of (t ∷ args))
@@ -78,8 +76,10 @@ reading code.SystemNotification t args = notified (progress_of args) (lone_text 
 reading code.ManipulateSelectionData t args = selected args
 reading code.ResetColors t args = option_map command.ResetColors (numbers_of args)
 reading code.FinalTermSemanticPrompt t args = option_map command.FinalTermSemanticPrompt (prompt_of args)
-reading code.ITermProprietary t args = option_map command.ITermProprietary (iterm_of args)
 reading code.RxvtProprietary t args = Some (command.RxvtExtension (map utf8_lossy args))
+reading code.ITermProprietary t args = option_map command.ITermProprietary (iterm_of args)
+reading code.SetWindowTitleSun t args = option_map command.SetWindowTitleSun (utf8_of (drop 1 t))
+reading code.SetIconNameSun t args = option_map command.SetIconNameSun (utf8_of (drop 1 t))
 reading c t args = dynamic (changed_by c) (reset_by c) args
 
 -- what the code that the first part's lossy text names makes of the parts after it

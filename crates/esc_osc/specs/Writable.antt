@@ -48,9 +48,9 @@ IsProgress p = Unit {0}
 -- writable prompt or command of iTerm2; or clear parts, not one empty part, that mean no other command
 abbrev pub IsWritable : {A : Type 0} → OperatingSystemCommand A → Type 0
 IsWritable (command.SetIconNameAndWindowTitle t) = IsClearText t
-IsWritable (command.SetIconName t) = IsClearText t
 IsWritable (command.SetWindowTitle t) = IsClearText t
 IsWritable (command.SetWindowTitleSun t) = IsClearPart t
+IsWritable (command.SetIconName t) = IsClearText t
 IsWritable (command.SetIconNameSun t) = IsClearPart t
 IsWritable (command.SetHyperlink h) = IsClearText (link_text h) × (link_of (parts_of (link_text h)) ≡ Some h)
 IsWritable (command.ClearSelection s) = IsNamed s.0

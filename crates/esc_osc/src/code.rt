@@ -91,57 +91,63 @@ pub enum OperatingSystemCommandCode {
     SetIconNameSun,
 }
 
+// Every code. A text is compared with theirs in turn, so those that come most are first.
+const ALL: [OperatingSystemCommandCode; 41] = [
+    OperatingSystemCommandCode::SetIconNameAndWindowTitle,
+    OperatingSystemCommandCode::SetWindowTitle,
+    OperatingSystemCommandCode::SetIconName,
+    OperatingSystemCommandCode::SetHyperlink,
+    OperatingSystemCommandCode::FinalTermSemanticPrompt,
+    OperatingSystemCommandCode::SetCurrentWorkingDirectory,
+    OperatingSystemCommandCode::ManipulateSelectionData,
+    OperatingSystemCommandCode::SetTextForegroundColor,
+    OperatingSystemCommandCode::SetTextBackgroundColor,
+    OperatingSystemCommandCode::SetTextCursorColor,
+    OperatingSystemCommandCode::ChangeColorNumber,
+    OperatingSystemCommandCode::SystemNotification,
+    OperatingSystemCommandCode::ITermProprietary,
+    OperatingSystemCommandCode::SetXWindowProperty,
+    OperatingSystemCommandCode::ChangeSpecialColorNumber,
+    OperatingSystemCommandCode::ChangeTitleTabColor,
+    OperatingSystemCommandCode::SetMouseForegroundColor,
+    OperatingSystemCommandCode::SetMouseBackgroundColor,
+    OperatingSystemCommandCode::SetTektronixForegroundColor,
+    OperatingSystemCommandCode::SetTektronixBackgroundColor,
+    OperatingSystemCommandCode::SetHighlightBackgroundColor,
+    OperatingSystemCommandCode::SetTektronixCursorColor,
+    OperatingSystemCommandCode::SetHighlightForegroundColor,
+    OperatingSystemCommandCode::SetLogFileName,
+    OperatingSystemCommandCode::SetFont,
+    OperatingSystemCommandCode::EmacsShell,
+    OperatingSystemCommandCode::ResetColors,
+    OperatingSystemCommandCode::ResetSpecialColor,
+    OperatingSystemCommandCode::ResetTextForegroundColor,
+    OperatingSystemCommandCode::ResetTextBackgroundColor,
+    OperatingSystemCommandCode::ResetTextCursorColor,
+    OperatingSystemCommandCode::ResetMouseForegroundColor,
+    OperatingSystemCommandCode::ResetMouseBackgroundColor,
+    OperatingSystemCommandCode::ResetTektronixForegroundColor,
+    OperatingSystemCommandCode::ResetTektronixBackgroundColor,
+    OperatingSystemCommandCode::ResetHighlightColor,
+    OperatingSystemCommandCode::ResetTektronixCursorColor,
+    OperatingSystemCommandCode::ResetHighlightForegroundColor,
+    OperatingSystemCommandCode::RxvtProprietary,
+    OperatingSystemCommandCode::SetWindowTitleSun,
+    OperatingSystemCommandCode::SetIconNameSun,
+];
+
 impl OperatingSystemCommandCode {
     /// The code whose text this is; none where it is the text of no code. The texts are compared byte by
     /// byte, so `02` is no code.
     pub fn from_code(code: &str) -> Option<OperatingSystemCommandCode>
         ensures { MatchOption result ((c : OperatingSystemCommandCode) → code.now ≢ code_text c) (λ c. code.now ≡ code_text c) }
     {
-        // The texts are compared in turn, so those that come most are first.
-        match code {
-            "0" => Some(OperatingSystemCommandCode::SetIconNameAndWindowTitle),
-            "2" => Some(OperatingSystemCommandCode::SetWindowTitle),
-            "1" => Some(OperatingSystemCommandCode::SetIconName),
-            "8" => Some(OperatingSystemCommandCode::SetHyperlink),
-            "133" => Some(OperatingSystemCommandCode::FinalTermSemanticPrompt),
-            "7" => Some(OperatingSystemCommandCode::SetCurrentWorkingDirectory),
-            "52" => Some(OperatingSystemCommandCode::ManipulateSelectionData),
-            "10" => Some(OperatingSystemCommandCode::SetTextForegroundColor),
-            "11" => Some(OperatingSystemCommandCode::SetTextBackgroundColor),
-            "12" => Some(OperatingSystemCommandCode::SetTextCursorColor),
-            "4" => Some(OperatingSystemCommandCode::ChangeColorNumber),
-            "9" => Some(OperatingSystemCommandCode::SystemNotification),
-            "1337" => Some(OperatingSystemCommandCode::ITermProprietary),
-            "3" => Some(OperatingSystemCommandCode::SetXWindowProperty),
-            "5" => Some(OperatingSystemCommandCode::ChangeSpecialColorNumber),
-            "6" => Some(OperatingSystemCommandCode::ChangeTitleTabColor),
-            "13" => Some(OperatingSystemCommandCode::SetMouseForegroundColor),
-            "14" => Some(OperatingSystemCommandCode::SetMouseBackgroundColor),
-            "15" => Some(OperatingSystemCommandCode::SetTektronixForegroundColor),
-            "16" => Some(OperatingSystemCommandCode::SetTektronixBackgroundColor),
-            "17" => Some(OperatingSystemCommandCode::SetHighlightBackgroundColor),
-            "18" => Some(OperatingSystemCommandCode::SetTektronixCursorColor),
-            "19" => Some(OperatingSystemCommandCode::SetHighlightForegroundColor),
-            "46" => Some(OperatingSystemCommandCode::SetLogFileName),
-            "50" => Some(OperatingSystemCommandCode::SetFont),
-            "51" => Some(OperatingSystemCommandCode::EmacsShell),
-            "104" => Some(OperatingSystemCommandCode::ResetColors),
-            "105" => Some(OperatingSystemCommandCode::ResetSpecialColor),
-            "110" => Some(OperatingSystemCommandCode::ResetTextForegroundColor),
-            "111" => Some(OperatingSystemCommandCode::ResetTextBackgroundColor),
-            "112" => Some(OperatingSystemCommandCode::ResetTextCursorColor),
-            "113" => Some(OperatingSystemCommandCode::ResetMouseForegroundColor),
-            "114" => Some(OperatingSystemCommandCode::ResetMouseBackgroundColor),
-            "115" => Some(OperatingSystemCommandCode::ResetTektronixForegroundColor),
-            "116" => Some(OperatingSystemCommandCode::ResetTektronixBackgroundColor),
-            "117" => Some(OperatingSystemCommandCode::ResetHighlightColor),
-            "118" => Some(OperatingSystemCommandCode::ResetTektronixCursorColor),
-            "119" => Some(OperatingSystemCommandCode::ResetHighlightForegroundColor),
-            "777" => Some(OperatingSystemCommandCode::RxvtProprietary),
-            "l" => Some(OperatingSystemCommandCode::SetWindowTitleSun),
-            "L" => Some(OperatingSystemCommandCode::SetIconNameSun),
-            _ => None,
+        for known in ALL {
+            if code == known.as_code() {
+                return Some(known);
+            }
         }
+        None
     }
 
     /// The text of this code.

@@ -134,14 +134,6 @@ fn read_by_code<A: Allocator + Copy>(
             let title = read_title(alloc, args)?;
             Ok(title.map(|t| OperatingSystemCommand::SetWindowTitle(t)))
         }
-        OperatingSystemCommandCode::SetWindowTitleSun => {
-            let title = without_first(alloc, first)?;
-            Ok(title.map(|t| OperatingSystemCommand::SetWindowTitleSun(t)))
-        }
-        OperatingSystemCommandCode::SetIconNameSun => {
-            let title = without_first(alloc, first)?;
-            Ok(title.map(|t| OperatingSystemCommand::SetIconNameSun(t)))
-        }
         OperatingSystemCommandCode::ChangeColorNumber => {
             let pairs = read_pairs(alloc, args)?;
             Ok(pairs.map(|p| OperatingSystemCommand::ChangeColorNumber(p)))
@@ -161,13 +153,21 @@ fn read_by_code<A: Allocator + Copy>(
             let prompt = FinalTermSemanticPrompt::parse(alloc, args)?;
             Ok(prompt.map(|p| OperatingSystemCommand::FinalTermSemanticPrompt(p)))
         }
+        OperatingSystemCommandCode::RxvtProprietary => {
+            let texts = read_texts(alloc, args)?;
+            Ok(Some(OperatingSystemCommand::RxvtExtension(texts)))
+        }
         OperatingSystemCommandCode::ITermProprietary => {
             let command = ITermProprietary::parse(alloc, args)?;
             Ok(command.map(|c| OperatingSystemCommand::ITermProprietary(c)))
         }
-        OperatingSystemCommandCode::RxvtProprietary => {
-            let texts = read_texts(alloc, args)?;
-            Ok(Some(OperatingSystemCommand::RxvtExtension(texts)))
+        OperatingSystemCommandCode::SetWindowTitleSun => {
+            let title = without_first(alloc, first)?;
+            Ok(title.map(|t| OperatingSystemCommand::SetWindowTitleSun(t)))
+        }
+        OperatingSystemCommandCode::SetIconNameSun => {
+            let title = without_first(alloc, first)?;
+            Ok(title.map(|t| OperatingSystemCommand::SetIconNameSun(t)))
         }
         _ => read_dynamic(
             alloc,
@@ -247,16 +247,12 @@ fn read_selected<A: Allocator + Copy>(
 ) -> Result<Option<OperatingSystemCommand<A>>, AllocError>
     ensures { IfOk result (λ c. c ≡ selected (map (λ p. p.now) args.now)) }
 {
-    let Some((letters, rest)) = args.split_first() else {
-        return Ok(None);
-    };
-    let Some((text, more)) = rest.split_first() else {
-        return Ok(read_cleared(letters));
-    };
-    if !more.is_empty() {
-        return Ok(None);
+    match args {
+        [] => Ok(None),
+        [letters] => Ok(read_cleared(letters)),
+        [letters, text] => read_content(alloc, letters, text),
+        _ => Ok(None),
     }
-    read_content(alloc, letters, text)
 }
 
 // A selection that is cleared.

@@ -373,7 +373,7 @@ impl Not for Selection {
     }
 }
 
-// The letter of each named bit, in the order in which they are written.
+// The named bits and their letters, in the order in which they are written.
 const LETTERS: [(u16, char); 13] = [
     (2, 'c'),
     (4, 'p'),
@@ -434,20 +434,10 @@ impl Selection {
 fn letter_bit(letter: u8) -> u16
     ensures { result ≡ letter_bit letter }
 {
-    match letter {
-        b'c' => 2,
-        b'p' => 4,
-        b's' => 8,
-        b'0' => 16,
-        b'1' => 32,
-        b'2' => 64,
-        b'3' => 128,
-        b'4' => 256,
-        b'5' => 512,
-        b'6' => 1024,
-        b'7' => 2048,
-        b'8' => 4096,
-        b'9' => 8192,
-        _ => 0,
+    for (bit, known) in LETTERS {
+        if char::from(letter) == known {
+            return bit;
+        }
     }
+    0
 }

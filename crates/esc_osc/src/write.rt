@@ -38,9 +38,9 @@ fn write_inner<W: fmt::Write, A: Allocator>(
 {
     match command {
         OperatingSystemCommand::SetIconNameAndWindowTitle(title) => write!(f, "0;{title}"),
-        OperatingSystemCommand::SetIconName(title) => write!(f, "1;{title}"),
         OperatingSystemCommand::SetWindowTitle(title) => write!(f, "2;{title}"),
         OperatingSystemCommand::SetWindowTitleSun(title) => write!(f, "l{title}"),
+        OperatingSystemCommand::SetIconName(title) => write!(f, "1;{title}"),
         OperatingSystemCommand::SetIconNameSun(title) => write!(f, "L{title}"),
         OperatingSystemCommand::SetHyperlink(Some(link)) => write!(f, "{link}"),
         OperatingSystemCommand::SetHyperlink(None) => f.write_str("8;;"),

@@ -80,16 +80,16 @@ alone_good A p (a ∷ args) h = tt
 lettered_good : (A : Type 0) (c : ℕ) (args : List (List ℕ)) → AreClearParts args → Where (Good A) (lettered {A = A} c args)
 lettered_good A c args h =
     where_if (Good A) (c == 0x4c) _ _ (alone_good A prompt.FreshLine args tt)
-    (where_if (Good A) (c == 0x42) _ _ (alone_good A prompt.MarkEndOfPromptAndStartOfInputUntilNextMarker args tt)
-    (where_if (Good A) (c == 0x49) _ _ (alone_good A prompt.MarkEndOfPromptAndStartOfInputUntilEndOfLine args tt)
     (where_if (Good A) (c == 0x41) _ _ (where_map First (Good A)
     (λ (f : Option (List ℕ) × Option FinalTermClick). prompt.FreshLineAndStartPrompt f.0 f.1) (λ f w. w) (aid_and_click args) (both_where args h))
     (where_if (Good A) (c == 0x4e) _ _ (where_map First (Good A)
     (λ (f : Option (List ℕ) × Option FinalTermClick). prompt.MarkEndOfCommandWithFreshLine f.0 f.1) (λ f w. w) (aid_and_click args) (both_where args h))
+    (where_if (Good A) (c == 0x50) _ _ (where_map (λ (k : FinalTermPromptKind). Unit {0}) (Good A) prompt.StartPrompt (λ k u. tt) (kind_among args)
+    (anything (kind_among args)))
+    (where_if (Good A) (c == 0x42) _ _ (alone_good A prompt.MarkEndOfPromptAndStartOfInputUntilNextMarker args tt)
+    (where_if (Good A) (c == 0x49) _ _ (alone_good A prompt.MarkEndOfPromptAndStartOfInputUntilEndOfLine args tt)
     (where_if (Good A) (c == 0x43) _ _ (where_map IsAid (Good A) prompt.MarkEndOfInputAndStartOfOutput (λ a w. w) (aid_of args) (aid_where args h))
-    (where_if (Good A) (c == 0x44) _ _ (status_good A args h)
-    (where_if (Good A) (c == 0x50) _ None (where_map (λ (k : FinalTermPromptKind). Unit {0}) (Good A) prompt.StartPrompt (λ k u. tt) (kind_among args)
-    (anything (kind_among args))) tt)))))))
+    (where_if (Good A) (c == 0x44) _ None (status_good A args h) tt)))))))
 
 prompt_good : (A : Type 0) (args : List (List ℕ)) → AreClearParts args → Where (Good A) (prompt_of {A = A} args)
 prompt_good A [] h = tt

@@ -47,13 +47,13 @@ status_of (s ∷ args) = option_map (λ aid. prompt.CommandStatus (unwrap_or (si
 -- what a letter makes of the parts after it, one line a letter
 abbrev pub lettered : {A : Type 0} → ℕ → List (List ℕ) → Option (FinalTermSemanticPrompt A)
 lettered c args = if c == 0x4c then alone prompt.FreshLine args
-    else if c == 0x42 then alone prompt.MarkEndOfPromptAndStartOfInputUntilNextMarker args
-    else if c == 0x49 then alone prompt.MarkEndOfPromptAndStartOfInputUntilEndOfLine args
     else if c == 0x41 then option_map (λ (f : Option (List ℕ) × Option FinalTermClick). prompt.FreshLineAndStartPrompt f.0 f.1) (aid_and_click args)
     else if c == 0x4e then option_map (λ (f : Option (List ℕ) × Option FinalTermClick). prompt.MarkEndOfCommandWithFreshLine f.0 f.1) (aid_and_click args)
+    else if c == 0x50 then option_map prompt.StartPrompt (kind_among args)
+    else if c == 0x42 then alone prompt.MarkEndOfPromptAndStartOfInputUntilNextMarker args
+    else if c == 0x49 then alone prompt.MarkEndOfPromptAndStartOfInputUntilEndOfLine args
     else if c == 0x43 then option_map prompt.MarkEndOfInputAndStartOfOutput (aid_of args)
     else if c == 0x44 then status_of args
-    else if c == 0x50 then option_map prompt.StartPrompt (kind_among args)
     else None
 
 -- the prompt of the parts after the code: a letter alone in the first of them, and what it makes of the others

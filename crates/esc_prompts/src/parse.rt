@@ -46,14 +46,6 @@ fn read_by_letter<A: Allocator>(
 {
     match letter {
         b'L' => Ok(read_alone(FinalTermSemanticPrompt::FreshLine, args)),
-        b'B' => {
-            let mark = FinalTermSemanticPrompt::MarkEndOfPromptAndStartOfInputUntilNextMarker;
-            Ok(read_alone(mark, args))
-        }
-        b'I' => {
-            let mark = FinalTermSemanticPrompt::MarkEndOfPromptAndStartOfInputUntilEndOfLine;
-            Ok(read_alone(mark, args))
-        }
         b'A' => {
             let keys = read_aid_and_click(alloc, args)?;
             Ok(keys.map(|(aid, cl)| FinalTermSemanticPrompt::FreshLineAndStartPrompt { aid, cl }))
@@ -65,15 +57,23 @@ fn read_by_letter<A: Allocator>(
                 cl,
             }))
         }
+        b'P' => {
+            let kind = read_kind_among(args);
+            Ok(kind.map(|kind| FinalTermSemanticPrompt::StartPrompt(kind)))
+        }
+        b'B' => {
+            let mark = FinalTermSemanticPrompt::MarkEndOfPromptAndStartOfInputUntilNextMarker;
+            Ok(read_alone(mark, args))
+        }
+        b'I' => {
+            let mark = FinalTermSemanticPrompt::MarkEndOfPromptAndStartOfInputUntilEndOfLine;
+            Ok(read_alone(mark, args))
+        }
         b'C' => {
             let aid = read_aid(alloc, args)?;
             Ok(aid.map(|aid| FinalTermSemanticPrompt::MarkEndOfInputAndStartOfOutput { aid }))
         }
         b'D' => read_status(alloc, args),
-        b'P' => {
-            let kind = read_kind_among(args);
-            Ok(kind.map(|kind| FinalTermSemanticPrompt::StartPrompt(kind)))
-        }
         _ => Ok(None),
     }
 }
