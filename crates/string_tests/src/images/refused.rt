@@ -1,8 +1,8 @@
 //! Requests for memory that are refused, each in turn. A builder that was refused stays as it was, so the same push can be made
 //! again.
-use crate::sixels::{ROWS as SIXELS, Row as SixelRow};
-use crate::termcap::{ROWS as QUERIES, Row as QueryRow};
-use crate::texts::{has_debug, read_names, read_sixel};
+use crate::images::sixels::{ROWS as SIXELS, Row as SixelRow};
+use crate::images::termcap::{ROWS as QUERIES, Row as QueryRow};
+use crate::images::texts::{has_debug, read_names, read_sixel};
 use refusing::Refusing;
 use std::alloc::{AllocError, Global};
 use std::process::Abort;

@@ -1,5 +1,5 @@
 //! Short controls, as they are read, written and shown.
-use crate::texts::has_texts;
+use crate::device::texts::has_texts;
 use esc_below::Boxed;
 use esc_device::{DeviceControlMode, ShortBuilder, ShortDeviceControl};
 use std::alloc::{AllocError, Allocator, Global};
@@ -79,10 +79,14 @@ impl Row<'_> {
     // Whether the control has these texts, by itself and as a mode's value.
     fn is_written(&self, alloc: Global) -> Result<bool, AllocError> {
         let (short, _) = self.read(alloc)?;
-        let alone = has_texts(alloc, &short, self.debug, self.text)?;
-        let debug = format!(in alloc; "ShortDeviceControl({})", self.debug)?;
+        Ok(has_texts(alloc, short, self.debug, self.text)? && self.is_written_as_value(alloc)?)
+    }
+
+    fn is_written_as_value(&self, alloc: Global) -> Result<bool, AllocError> {
+        let (short, _) = self.read(alloc)?;
         let value = DeviceControlMode::ShortDeviceControl(Boxed::new(alloc, short)?);
-        Ok(alone && has_texts(alloc, &value, debug.as_str(), self.text)?)
+        let debug = format!(in alloc; "ShortDeviceControl({})", self.debug)?;
+        has_texts(alloc, value, debug.as_str(), self.text)
     }
 }
 

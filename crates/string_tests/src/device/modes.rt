@@ -1,5 +1,5 @@
 //! Modes that are entered, as they are written and shown.
-use crate::texts::has_texts;
+use crate::device::texts::has_texts;
 use esc_below::Boxed;
 use esc_device::{DeviceControlMode, EnterDeviceControlMode};
 use std::alloc::{AllocError, Allocator, Global};
@@ -84,11 +84,19 @@ impl Row<'_> {
 
     // Whether the header has these texts, by itself and as a step.
     fn is_written(&self, alloc: Global) -> Result<bool, AllocError> {
-        let enter = self.enter(alloc)?;
-        let alone = has_texts(alloc, &enter, self.debug, self.text)?;
+        let alone = has_texts(alloc, self.enter(alloc)?, self.debug, self.text)?;
+        let step = DeviceControlMode::Enter(Boxed::new(alloc, self.enter(alloc)?)?);
         let debug = format!(in alloc; "Enter({})", self.debug)?;
-        let step = DeviceControlMode::Enter(Boxed::new(alloc, enter)?);
-        Ok(alone && has_texts(alloc, &step, debug.as_str(), self.text)?)
+        Ok(alone && has_texts(alloc, step, debug.as_str(), self.text)?)
+    }
+
+    // Whether the mode equals itself, and none with another final byte.
+    fn is_itself(&self, alloc: Global) -> Result<bool, AllocError> {
+        let enter = self.enter(alloc)?;
+        let mut other = self.enter(alloc)?;
+        let is_same = enter == other;
+        other.byte = b'x';
+        Ok(is_same && enter != other)
     }
 }
 
@@ -103,28 +111,39 @@ fn headers(rt: HostRuntime) -> Result<(), Fail> {
 #[test]
 fn equal_headers(rt: HostRuntime) -> Result<(), Fail> {
     for row in &ROWS {
-        let enter = row.enter(rt.alloc())?;
-        assert!(rt; enter == row.enter(rt.alloc())?);
-        let mut other = row.enter(rt.alloc())?;
-        other.byte = b'x';
-        assert!(rt; enter != other);
+        assert!(rt; row.is_itself(rt.alloc())?, "{}", row.debug);
+    }
+    Ok(())
+}
+
+// A byte, and the Debug text and the text of the step that it is.
+static BYTES: [(u8, &str, &str); 4] = [
+    (b'a', "Data('a' 0x61)", "a"),
+    (0xe9, "Data('é' 0xe9)", "é"),
+    (b'\'', "Data('\\'' 0x27)", "'"),
+    (1, "Data('\\u{1}' 0x1)", "\x01"),
+];
+
+fn step(byte: u8) -> DeviceControlMode<Global> {
+    DeviceControlMode::Data(byte)
+}
+
+#[test]
+fn bytes(rt: HostRuntime) -> Result<(), Fail> {
+    for (byte, debug, text) in &BYTES {
+        assert!(rt; has_texts(rt.alloc(), step(*byte), debug, text)?, "{debug}");
+        assert!(rt;
+            step(*byte) == step(*byte) && step(*byte) != step(b'x'),
+            "{debug}"
+        );
     }
     Ok(())
 }
 
 #[test]
-fn bytes_and_ends(rt: HostRuntime) -> Result<(), Fail> {
-    let alloc = rt.alloc();
+fn end(rt: HostRuntime) -> Result<(), Fail> {
     let exit: DeviceControlMode<Global> = DeviceControlMode::Exit;
-    assert!(rt; has_texts(alloc, &exit, "Exit", "")?);
-    let letter: DeviceControlMode<Global> = DeviceControlMode::Data(b'a');
-    assert!(rt; has_texts(alloc, &letter, "Data('a' 0x61)", "a")?);
-    let high: DeviceControlMode<Global> = DeviceControlMode::Data(0xe9);
-    assert!(rt; has_texts(alloc, &high, "Data('é' 0xe9)", "é")?);
-    let quote: DeviceControlMode<Global> = DeviceControlMode::Data(b'\'');
-    assert!(rt; has_texts(alloc, &quote, "Data('\\'' 0x27)", "'")?);
-    let control: DeviceControlMode<Global> = DeviceControlMode::Data(1);
-    assert!(rt; has_texts(alloc, &control, "Data('\\u{1}' 0x1)", "\x01")?);
-    assert!(rt; exit != letter && letter != high);
+    assert!(rt; exit != step(b'a'));
+    assert!(rt; has_texts(rt.alloc(), exit, "Exit", "")?);
     Ok(())
 }

@@ -1,5 +1,5 @@
 //! Payloads and keys of ten megabytes. Each test ends in time only where the work for a byte does not grow.
-use crate::row::text;
+use crate::kitty::shown::text;
 use std::alloc::{AllocError, Global};
 use std::test::Fail;
 

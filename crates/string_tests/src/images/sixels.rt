@@ -1,5 +1,5 @@
 //! Sixel images as they are read, measured and written.
-use crate::texts::{has_debug, has_text, read_sixel};
+use crate::images::texts::{has_debug, has_text, read_sixel};
 use esc_sixel::Sixel;
 use std::alloc::{AllocError, Allocator, Global};
 use std::test::Fail;

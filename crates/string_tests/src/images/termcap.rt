@@ -1,5 +1,5 @@
 //! Termcap queries as they are read and written.
-use crate::texts::{has_debug, has_text, read_names};
+use crate::images::texts::{has_debug, has_text, read_names};
 use esc_tcap::TcapQuery;
 use std::alloc::{AllocError, Global};
 use std::test::Fail;

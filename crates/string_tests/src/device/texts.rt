@@ -2,10 +2,20 @@
 use std::alloc::{AllocError, Global};
 use std::fmt::{Debug, Display};
 
-/// Whether these are the value's Debug text and its Display text.
-pub fn has_texts<T: Debug + Display>(
+/// Whether this is the value's Debug text.
+pub fn has_debug<T: Debug + Drop>(
     alloc: Global,
-    value: &T,
+    value: T,
+    debug: &str,
+) -> Result<bool, AllocError> {
+    let shown = format!(in alloc; "{value:?}")?;
+    Ok(shown.as_str() == debug)
+}
+
+/// Whether these are the value's Debug text and its Display text.
+pub fn has_texts<T: Debug + Display + Drop>(
+    alloc: Global,
+    value: T,
     debug: &str,
     text: &str,
 ) -> Result<bool, AllocError> {

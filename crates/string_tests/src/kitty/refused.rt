@@ -1,5 +1,5 @@
 //! Requests for memory that are refused, each in turn.
-use crate::row::told;
+use crate::kitty::shown::told;
 use refusing::Refusing;
 use std::test::Fail;
 

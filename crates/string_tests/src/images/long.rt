@@ -1,5 +1,5 @@
 //! Data of a megabyte, and of ten. Each test ends in time only where the work for a byte does not grow.
-use crate::texts::{read_names, read_sixel};
+use crate::images::texts::{read_names, read_sixel};
 use esc_tcap::TcapQuery;
 use std::alloc::{AllocError, Global};
 use std::test::Fail;

@@ -1,5 +1,5 @@
-//! Keys with their values: which are read, and which make no image.
-use crate::row::{text, told};
+//! Keys with their values: which are read.
+use crate::kitty::shown::text;
 use std::test::Fail;
 
 // Data, and the text of the image that it is.
@@ -22,53 +22,11 @@ static READ: [(&str, &str); 16] = [
     ("Ga=T,f=32;", "\x1b_Ga=T,f=32;"),
 ];
 
-// Data that is no image. The last two have keys and a payload that are no UTF-8.
-static NONE: [&[u8]; 29] = [
-    b"",
-    b"G",
-    b"Ga",
-    b"Xa=t;AAAA",
-    b"G;AAAA",
-    b"Ga=t,;AAAA",
-    b"Ga=t,,i=1",
-    b"Ga=x",
-    b"Ga=tt",
-    b"Ga=",
-    b"GA=Q,a=Q",
-    b"Ga=q,q=3;AAAA",
-    b"Gq=+1;AAAA",
-    b"Gm=+1;AAAA",
-    b"Gm=2;AAAA",
-    b"Gf=024;AAAA",
-    b"Go=y;AAAA",
-    b"Gt=x;AAAA",
-    b"Gt=f;AAA",
-    b"Gt=f;/w==",
-    b"Ga=p,C=+1",
-    b"Ga=T,U=2;AAAA",
-    b"Ga=f,X=2;AAAA",
-    b"Ga=c,C=-1",
-    b"Ga=d,d=r,x=3",
-    b"Ga=d,d=aa",
-    b"Ga=d,d=q,x=1,y=2",
-    b"Ga=t;\xff",
-    b"Ga=t,\xff=1;A",
-];
-
 #[test]
 fn read(rt: HostRuntime) -> Result<(), Fail> {
     for row in &READ {
         let written = text(rt.alloc(), row.0)?;
         assert_eq!(rt; written.as_str(), row.1, "{}", row.0);
-    }
-    Ok(())
-}
-
-#[test]
-fn no_images(rt: HostRuntime) -> Result<(), Fail> {
-    for data in &NONE {
-        let told = told(rt.alloc(), rt.alloc(), data)?;
-        assert!(rt; told.is_empty(), "{data:?}");
     }
     Ok(())
 }
