@@ -1,5 +1,6 @@
 -- What may be handed out.
-use Rattle.std.proofs.Common.{◌≡◌, ◌≢◌, ◌<◌, ◌≤◌, ◌==◌, nat_lt, inl, inr, Option, Some, None, ℕ, ℤ, Bool, true, false, not, ◌&&◌, ◌||◌, List, [], ◌∷◌, ◌++◌}
+use Rattle.std.proofs.Common.{◌≡◌, ◌≢◌, ◌<◌, ◌≤◌, ◌==◌, if◌then◌else◌, nat_lt, inl, inr, Option, Some, None, ℕ, ℤ, Bool, true, false, not, ◌&&◌, ◌||◌, List}
+use Rattle.std.proofs.Common.{[], ◌∷◌, ◌++◌}
 use Rattle.std.proofs.Common.{length, map, take_all, refl, ap, sym, ◌∙◌, subst, arith}
 use Rattle.std.proofs.lemmas.Bool.{and_parts, cases_lt, eqb-true}
 use Rattle.std.proofs.lemmas.Bool.Decides.{nat_tests}
@@ -10,10 +11,14 @@ use Rattle.esc_below.specs.Escs.{esc_of, esc_text}
 use Rattle.esc_below.specs.Entries.{entries}
 use Rattle.esc_below.specs.declared.csi_param.CsiParam.{CsiParam}
 use Rattle.esc_device.specs.Kinds.{kind_of}
+use Rattle.esc_device.specs.Values.{short_of}
 use Rattle.esc_device.specs.Writable.{is_datum, is_high_byte}
 use Rattle.esc_device.specs.declared.kind.StringKind.{StringKind}
 use Rattle.esc_device.specs.declared.kind.StringKind.TheVariants as kind
+use Rattle.esc_sixel.specs.Items.{items}
+use Rattle.esc_sixel.specs.Meaning.{sixel_of}
 use Rattle.esc_sixel.specs.Writable.{AreNatural}
+use Rattle.esc_tcap.specs.Names.{names_of}
 use Rattle.esc_frame.specs.Classes.{class_of, AllOf, is_control, is_raw_control, is_intermediate, is_put, is_text, ends_csi, ends_escape, opens}
 use Rattle.esc_frame.specs.Bodies.{is_csi_body, kept_entries, has_more_entries}
 use Rattle.esc_frame.specs.Events.{Event}
@@ -21,7 +26,8 @@ use Rattle.esc_frame.specs.Events.Event.{Print, Execute, EscDispatch, CsiDispatc
 use Rattle.esc_frame.specs.Fits.{IsFit, AreFit, IsOneSegment}
 use Rattle.esc_frame.specs.Segments.{csi_event}
 use Rattle.esc_frame.specs.Segments.Segment.{Escape as EscapeOf}
-use Rattle.esc_frame.specs.Stream.{events}
+use Rattle.esc_frame.specs.Limits.{is_within}
+use Rattle.esc_frame.specs.Stream.{events_within}
 use Rattle.esc_frame.specs.declared.classes.Class.TheVariants.{Intermediate}
 use Rattle.esc_actions.proofs.Controls.{code_number-code_of}
 use Rattle.esc_kitty.specs.Images.{image_of}
@@ -32,10 +38,11 @@ use Rattle.esc_frame.proofs.SaysSequences.{body_of, one_csi}
 use Rattle.esc_actions.proofs.Meanings.{meaning_more}
 use Rattle.esc_actions.specs.ControlCodes.{code_of}
 use Rattle.esc_actions.specs.LowerLaws.{LowerLaws}
-use Rattle.esc_actions.specs.Meaning.{meaning, values_from, yield}
-use Rattle.esc_actions.specs.Values.{Mode, Value, esc, csi, after, executed, given, imaged, lone, plain, in_sixel, in_termcap, in_short, entered}
+use Rattle.esc_actions.specs.Meaning.{meaning_within, values_from, yield_within}
+use Rattle.esc_actions.specs.Values.{Mode, Value, esc, csi, sixel, termcap, short as short_value, after, executed, given, imaged, lone, plain, in_sixel}
+use Rattle.esc_actions.specs.Values.{in_termcap, in_short, entered}
 use Rattle.esc_actions.specs.Values.{opened, taken, opened_gives, taken_gives, closed_gives}
-use Rattle.esc_actions.specs.Writable.{IsWritable, AreHandedOut, is_lone_control, is_opening}
+use Rattle.esc_actions.specs.Writable.{IsWritable, AreHandedOut, IsHandedOut, is_lone_control, is_opening}
 use Rattle.esc_actions.specs.declared.control_code.ControlCode.{ControlCode}
 
 hands_append : {A : Type 0} (vs ws : List (Value A)) → AreHandedOut vs → AreHandedOut ws → AreHandedOut (vs ++ ws)
@@ -176,9 +183,9 @@ body_handed A low x f false e form ends =
     subst P (sym (few_kept x few).0) (all_handed A f (csi_of (entries x) false f) ends (low.csi_back x f form few (csi_small f ends)))
 
 csi_handed : (A : Type 0) (low : LowerLaws A) (es : List CsiParam) (more : Bool) (f : ℕ) → IsFit (CsiDispatch es more f)
-    → AreHandedOut {A = A} (given plain (CsiDispatch es more f))
+    → AreHandedOut {A = A} (given None plain (CsiDispatch es more f))
 csi_handed A low es more f (x, bytes, form, is, ends) =
-    let P : Event → Type 0 = λ e. AreHandedOut {A = A} (given plain e) in
+    let P : Event → Type 0 = λ e. AreHandedOut {A = A} (given None plain e) in
     subst P (sym is) (body_handed A low x f (has_more_entries x) refl form ends)
 
 -- images
@@ -207,7 +214,8 @@ put_more [] b h k = rw k refl
 put_more (c ∷ d) b h k =
     let q = and_parts (is_put (class_of c)) (list_all (λ x. is_put (class_of x)) d) h in rw (q.0, put_more d b q.1 k) refl
 
-opened_fit : (A : Type 0) (low : LowerLaws A) (f : ℕ) (ps : List ℤ) (is : List ℕ) (more : Bool) (k : StringKind) → kind_of f is more ≡ k → IsFit (DcsHook f ps is more)
+opened_fit : (A : Type 0) (low : LowerLaws A) (f : ℕ) (ps : List ℤ) (is : List ℕ) (more : Bool) (k : StringKind) → kind_of f is more ≡ k
+    → IsFit (DcsHook f ps is more)
     → IsFitMode (opened k f ps is)
 opened_fit A low f ps is more kind.Sixel e h = low.header_natural f ps is more h
 opened_fit A low f ps is more kind.Termcap e h = tt
@@ -232,7 +240,8 @@ after_fit A low m (DcsPut b) k h = taken_fit m b k h
 after_fit A low m DcsUnhook k h = tt
 after_fit A low m (ApcDispatch t) k h = k
 
-opened_handed : (A : Type 0) (low : LowerLaws A) (f : ℕ) (ps : List ℤ) (is : List ℕ) (more : Bool) (k : StringKind) → kind_of f is more ≡ k → IsFit (DcsHook f ps is more)
+opened_handed : (A : Type 0) (low : LowerLaws A) (f : ℕ) (ps : List ℤ) (is : List ℕ) (more : Bool) (k : StringKind) → kind_of f is more ≡ k
+    → IsFit (DcsHook f ps is more)
     → AreHandedOut {A = A} (opened_gives k f ps is more)
 opened_handed A low f ps is more kind.Sixel e h = tt
 opened_handed A low f ps is more kind.Termcap e h = tt
@@ -250,35 +259,43 @@ taken_handed A (in_termcap d) b h = tt
 taken_handed A (in_short ps is f d) b h = tt
 taken_handed A entered b h = (λ low. put_datum b h low, tt)
 
-closed_handed : (A : Type 0) (low : LowerLaws A) (m : Mode) → IsFitMode m → AreHandedOut {A = A} (closed_gives m)
-closed_handed A low plain k = tt
-closed_handed A low (in_sixel ps d) k = (λ _. low.sixel_writable ps d k, tt)
-closed_handed A low (in_termcap d) k = (λ _. low.names_writable d, tt)
-closed_handed A low (in_short ps is f d) (more, fit, short, put) = (λ none. low.short_writable f ps is more d fit short put none, tt)
-closed_handed A low entered k = (λ _. tt, tt)
+-- what the end of a string gives, where it gives anything
+given_where : {A : Type 0} (v : Value A) (t : Bool) → IsHandedOut v → AreHandedOut (if t then v ∷ [] else [])
+given_where v true h = (h, tt)
+given_where v false h = tt
 
-event_handed : (A : Type 0) (low : LowerLaws A) (m : Mode) (e : Event) → IsFitMode m → IsFit e → AreHandedOut {A = A} (given m e)
-event_handed A low m (Print c) k h = (λ _. h, tt)
-event_handed A low m (Execute b) k h = control_handed A b (code_of b) refl h
-event_handed A low m (EscDispatch is more f) k h = (esc_handed is f h.0 h.1, tt)
-event_handed A low m (CsiDispatch es more f) k h = csi_handed A low es more f h
-event_handed A low m (OscDispatch ps) k h = (λ _. low.command_writable ps h, tt)
-event_handed A low m (DcsHook f ps is more) k h = opened_handed A low f ps is more (kind_of f is more) refl h
-event_handed A low m (DcsPut b) k h = taken_handed A m b h
-event_handed A low m DcsUnhook k h = closed_handed A low m k
-event_handed A low m (ApcDispatch t) k h = image_handed A low t (image_of t) refl h
+closed_handed : (A : Type 0) (low : LowerLaws A) (limit : Option ℕ) (m : Mode) → IsFitMode m → AreHandedOut {A = A} (closed_gives limit m)
+closed_handed A low limit plain k = tt
+closed_handed A low limit (in_sixel ps d) k = given_where (sixel (sixel_of ps (items d))) (is_within limit (length d)) (λ _. low.sixel_writable ps d k)
+closed_handed A low limit (in_termcap d) k = given_where (termcap (names_of d)) (is_within limit (length d)) (λ _. low.names_writable d)
+closed_handed A low limit (in_short ps is f d) (more, fit, short, put) =
+    given_where (short_value (short_of ps is f d)) (is_within limit (length d)) (λ none. low.short_writable f ps is more d fit short put none)
+closed_handed A low limit entered k = (λ _. tt, tt)
 
-events_handed : (A : Type 0) (low : LowerLaws A) (m : Mode) (es : List Event) → IsFitMode m → AreFit es → AreHandedOut {A = A} (values_from m es)
-events_handed A low m [] k h = tt
-events_handed A low m (e ∷ es) k h =
-    hands_append (given {A = A} m e) (values_from (after m e) es) (event_handed A low m e k h.0)
-    (events_handed A low (after m e) es (after_fit A low m e k h.0) h.1)
+event_handed : (A : Type 0) (low : LowerLaws A) (limit : Option ℕ) (m : Mode) (e : Event) → IsFitMode m → IsFit e → AreHandedOut {A = A} (given limit m e)
+event_handed A low limit m (Print c) k h = (λ _. h, tt)
+event_handed A low limit m (Execute b) k h = control_handed A b (code_of b) refl h
+event_handed A low limit m (EscDispatch is more f) k h = (esc_handed is f h.0 h.1, tt)
+event_handed A low limit m (CsiDispatch es more f) k h = csi_handed A low es more f h
+event_handed A low limit m (OscDispatch ps) k h = (λ _. low.command_writable ps h, tt)
+event_handed A low limit m (DcsHook f ps is more) k h = opened_handed A low f ps is more (kind_of f is more) refl h
+event_handed A low limit m (DcsPut b) k h = taken_handed A m b h
+event_handed A low limit m DcsUnhook k h = closed_handed A low limit m k
+event_handed A low limit m (ApcDispatch t) k h = image_handed A low t (image_of t) refl h
 
-pub handed_out : (A : Type 0) → LowerLaws A → (s : List ℕ) → AreHandedOut {A = A} (meaning s)
-unfolding meaning
-handed_out A low s = events_handed A low plain (events s) tt (low.events_fit s)
+events_handed : (A : Type 0) (low : LowerLaws A) (limit : Option ℕ) (m : Mode) (es : List Event) → IsFitMode m → AreFit es
+    → AreHandedOut {A = A} (values_from limit m es)
+events_handed A low limit m [] k h = tt
+events_handed A low limit m (e ∷ es) k h =
+    hands_append (given {A = A} limit m e) (values_from limit (after m e) es) (event_handed A low limit m e k h.0)
+    (events_handed A low limit (after m e) es (after_fit A low m e k h.0) h.1)
 
-pub yield_handed : (A : Type 0) → ((s : List ℕ) → AreHandedOut {A = A} (meaning s)) → (s b : List ℕ) → AreHandedOut {A = A} (yield s b)
-yield_handed A handed s b =
+pub handed_out : (A : Type 0) → LowerLaws A → (limit : Option ℕ) (s : List ℕ) → AreHandedOut {A = A} (meaning_within limit s)
+unfolding meaning_within
+handed_out A low limit s = events_handed A low limit plain (events_within limit s) tt (low.events_fit limit s)
+
+pub yield_handed : (A : Type 0) → ((limit : Option ℕ) (s : List ℕ) → AreHandedOut {A = A} (meaning_within limit s))
+    → (limit : Option ℕ) (s b : List ℕ) → AreHandedOut {A = A} (yield_within limit s b)
+yield_handed A handed limit s b =
     let P : List (Value A) → Type 0 = λ x. AreHandedOut x in
-    hands_behind (meaning s) (yield s b) (subst P (sym (meaning_more s b)) (handed (s ++ b)))
+    hands_behind (meaning_within limit s) (yield_within limit s b) (subst P (sym (meaning_more limit s b)) (handed limit (s ++ b)))

@@ -1,5 +1,5 @@
 -- The meaning of a stream meets the headline, by the laws.
-use Rattle.std.proofs.Common.{ℕ, ◌≡◌, List, ap, sym, ◌∙◌, subst}
+use Rattle.std.proofs.Common.{ℕ, ◌≡◌, List, None, ap, sym, ◌∙◌, subst}
 use Rattle.esc_frame.specs.Segments.{Segment, IsCut}
 use Rattle.esc_actions.specs.Headline.{Headline}
 use Rattle.esc_actions.specs.Meaning.{meaning}
@@ -22,7 +22,7 @@ module _ {A : Type 0}
         record {
           segments = c.0;
           one_cut = record { cuts = c.1; alone = λ hs cut. one_cut s hs c.0 cut c.1 };
-          readings_in_order = of_the_cut s c.0 c.1;
+          readings_in_order = of_the_cut None s c.0 c.1;
           handed_out_is_writable = handed_out s;
           reads_back = λ ws h e. ap meaning (sym e) ∙ back ws h;
           same_text = λ ws h e. same ws h ∙ e;

@@ -8,7 +8,8 @@ use Rattle.esc_actions.specs.Writable.{AreWritable, AreWritableFrom, IsWritable,
 use Rattle.esc_device.specs.declared.enter.EnterDeviceControlMode.{EnterDeviceControlMode as Enter}
 use Rattle.esc_device.specs.Writable.{AreData, is_datum}
 
-joins_single : {A : Type 0} (v : Value A) (vs : List (Value A)) → IsWritable v → is_within v ≡ false → stays_within v ≡ false → JoinsGroups vs → JoinsGroups (v ∷ vs)
+joins_single : {A : Type 0} (v : Value A) (vs : List (Value A)) → IsWritable v → is_within v ≡ false → stays_within v ≡ false → JoinsGroups vs
+    → JoinsGroups (v ∷ vs)
 joins_single v vs h o p (gs, all, e) = (single v ∷ gs, ((h, o, p), all), ap (λ x. v ∷ x) e)
 
 -- inside a mode: its bytes, its end, and the rest

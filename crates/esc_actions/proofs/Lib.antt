@@ -8,4 +8,5 @@ pub mod Joins
 pub mod StringsBack
 pub mod Normal
 pub mod Headlines
+pub mod Limited
 pub mod Appends

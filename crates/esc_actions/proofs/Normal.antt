@@ -39,8 +39,10 @@ same p b (print c ∷ vs) h = ap (λ x. encode_utf8 c ++ x) (same false false vs
 same p b (string t ∷ vs) h = string_text t (meant_after false vs) vs h.1 (same false false vs h.2)
 same p b (control c ∷ vs) h = ap (λ x. encode_utf8 (code_number c) ++ x) (same false false vs h.2)
 same p true (esc (esc_variant.Code esc_code.StringTerminator) ∷ vs) h = same false false vs h.2
-same p false (esc (esc_variant.Code esc_code.StringTerminator) ∷ vs) h = ap (λ x. esc_text (esc_variant.Code esc_code.StringTerminator) ++ x) (same false false vs h.2)
-same p b (esc (esc_variant.Code esc_code.HorizontalTabSet) ∷ vs) h = ap (λ x. esc_text (esc_variant.Code esc_code.HorizontalTabSet) ++ x) (same false false vs h.2)
+same p false (esc (esc_variant.Code esc_code.StringTerminator) ∷ vs) h = ap (λ x. esc_text (esc_variant.Code esc_code.StringTerminator) ++ x)
+    (same false false vs h.2)
+same p b (esc (esc_variant.Code esc_code.HorizontalTabSet) ∷ vs) h = ap (λ x. esc_text (esc_variant.Code esc_code.HorizontalTabSet) ++ x)
+    (same false false vs h.2)
 same p b (esc (esc_variant.Code esc_code.TmuxTitle) ∷ vs) h = ap (λ x. esc_text (esc_variant.Code esc_code.TmuxTitle) ++ x) (same false false vs h.2)
 same p b (esc (esc_variant.Unspecified i c) ∷ vs) h = ap (λ x. esc_text (esc_variant.Unspecified i c) ++ x) (same false false vs h.2)
 same p b (csi c ∷ vs) h = ap (λ x. csi_text c ++ x) (same false false vs h.2)
@@ -64,18 +66,21 @@ backslash_ends = refl
 terminator_writable : {A : Type 0} → IsWritable {A = A} terminator
 terminator_writable = with_none 0x5c backslash_ends refl
 
-chars_writable : {A : Type 0} (cs : List ℕ) (vs : List (Value A)) → list_all is_clear cs ≡ true → AreWritableFrom false vs → AreWritableFrom false (map print cs ++ vs)
+chars_writable : {A : Type 0} (cs : List ℕ) (vs : List (Value A)) → list_all is_clear cs ≡ true → AreWritableFrom false vs
+    → AreWritableFrom false (map print cs ++ vs)
 chars_writable [] vs h k = k
 chars_writable (c ∷ cs) vs h k = let q = and_parts (is_clear c) (list_all is_clear cs) h in (refl, q.0, chars_writable cs vs q.1 k)
 
-string_writable : {A : Type 0} (t : List ℕ) (vs : List (Value A)) → IsClearText t → AreWritableFrom false vs → AreWritableFrom false ((map print (chars t) ++ []) ++ vs)
+string_writable : {A : Type 0} (t : List ℕ) (vs : List (Value A)) → IsClearText t → AreWritableFrom false vs
+    → AreWritableFrom false ((map print (chars t) ++ []) ++ vs)
 string_writable {A = A} t vs (cs, all, e) k =
     let same : chars t ≡ cs = ap chars (sym e) ∙ chars-encodes cs (chars_scalar cs all) in
     let P : List ℕ → Type 0 = λ x. AreWritableFrom {A = A} false ((map print x ++ []) ++ vs) in
     let Q : List (Value A) → Type 0 = λ x. AreWritableFrom {A = A} false (x ++ vs) in
     subst P (sym same) (subst Q (sym (append-nil (map print cs))) (chars_writable cs vs all k))
 
-esc_writable : {A : Type 0} (p t : Bool) (e : Esc) (vs : List (Value A)) → false ≡ p → IsWritable {A = A} (esc e) → AreWritableFrom false vs → AreWritableFrom p ((if t then [] else esc e ∷ []) ++ vs)
+esc_writable : {A : Type 0} (p t : Bool) (e : Esc) (vs : List (Value A)) → false ≡ p → IsWritable {A = A} (esc e) → AreWritableFrom false vs
+    → AreWritableFrom p ((if t then [] else esc e ∷ []) ++ vs)
 esc_writable p true e vs is h k = subst (λ q. AreWritableFrom q vs) is k
 esc_writable p false e vs is h k = (is, h, k)
 
@@ -86,7 +91,8 @@ behind_writable {A = A} p b (string t ∷ vs) h =
     let P : Bool → Type 0 = λ q. AreWritableFrom {A = A} q ((map print (chars t) ++ []) ++ meant_after false vs) in
     subst P h.0 (string_writable t (meant_after false vs) h.1.0 (behind_writable false false vs h.2))
 behind_writable p b (control c ∷ vs) h = (h.0, h.1, behind_writable false false vs h.2)
-behind_writable {A = A} p b (esc e ∷ vs) h = esc_writable p (is_terminator {A = A} (esc e) && b) e (meant_after false vs) h.0 h.1 (behind_writable false false vs h.2)
+behind_writable {A = A} p b (esc e ∷ vs) h = esc_writable p (is_terminator {A = A} (esc e) && b) e (meant_after false vs) h.0 h.1
+    (behind_writable false false vs h.2)
 behind_writable p b (csi c ∷ vs) h = (h.0, h.1, behind_writable false false vs h.2)
 behind_writable p b (osc c ∷ vs) h = (h.0, h.1, (refl, terminator_writable, behind_writable false true vs h.2))
 behind_writable p b (kitty i ∷ vs) h = (h.0, h.1, (refl, terminator_writable, behind_writable false true vs h.2))
@@ -105,7 +111,8 @@ chars_meant : {A : Type 0} (cs : List ℕ) (vs : List (Value A)) → meant_after
 chars_meant [] vs = refl
 chars_meant (c ∷ cs) vs = ap (λ x. print c ∷ x) (chars_meant cs vs)
 
-string_meant : {A : Type 0} (cs : List ℕ) (vs : List (Value A)) → meant_after false vs ≡ vs → meant_after false ((map print cs ++ []) ++ vs) ≡ (map print cs ++ []) ++ vs
+string_meant : {A : Type 0} (cs : List ℕ) (vs : List (Value A)) → meant_after false vs ≡ vs
+    → meant_after false ((map print cs ++ []) ++ vs) ≡ (map print cs ++ []) ++ vs
 string_meant cs vs e =
     ap (λ x. meant_after false (x ++ vs)) (append-nil (map print cs)) ∙ chars_meant cs vs ∙ ap (λ x. map print cs ++ x) e
     ∙ ap (λ x. x ++ vs) (sym (append-nil (map print cs)))

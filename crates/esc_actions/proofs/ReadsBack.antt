@@ -1,5 +1,6 @@
 -- What the text of a writable list means.
-use Rattle.std.proofs.Common.{◌≡◌, ℕ, ◌<◌, ◌≤◌, ◌+◌, ◌/◌, ◌%◌, nat_lt, Bool, true, false, not, ◌&&◌, if◌then◌else◌, List, [], ◌∷◌, ◌++◌, map, refl, ap, sym}
+use Rattle.std.proofs.Common.{◌≡◌, ℕ, ◌<◌, ◌≤◌, ◌+◌, ◌/◌, ◌%◌, nat_lt, Bool, true, false, not, ◌&&◌, if◌then◌else◌, List, [], ◌∷◌, ◌++◌, map, None, refl, ap}
+use Rattle.std.proofs.Common.{sym}
 use Rattle.std.proofs.Common.{◌∙◌, append_assoc, arith, inl, inr}
 use Rattle.std.proofs.lemmas.List.{append-nil, map-append}
 use Rattle.std.proofs.lemmas.Bool.{and_parts, cases_lt}
@@ -40,8 +41,9 @@ use Rattle.esc_actions.proofs.Readings.{one_closes}
 use Rattle.esc_actions.proofs.StringsBack.{puts_kept, puts_quiet, puts_entered, puts_given, string_closes, string_gives}
 use Rattle.esc_actions.specs.ControlCodes.{code_number}
 use Rattle.esc_actions.specs.LowerLaws.{LowerLaws}
-use Rattle.esc_actions.specs.Meaning.{meaning, mode_from, values_from, Reads}
-use Rattle.esc_actions.specs.Texts.{value_text, whole_text, is_string, is_terminator, terminator, begins_terminator, text_after, texts_after, list_text, spelled}
+use Rattle.esc_actions.specs.Meaning.{meaning, meaning_within, mode_from, values_from, Reads}
+use Rattle.esc_actions.specs.Texts.{value_text, whole_text, is_string, is_terminator, terminator, begins_terminator, text_after, texts_after, list_text}
+use Rattle.esc_actions.specs.Texts.{spelled}
 use Rattle.esc_actions.specs.Texts.{normal}
 use Rattle.esc_actions.specs.Values.{Value, print, string, control, esc, csi, osc, kitty, sixel, termcap, short, enter, datum, exit, executed, imaged, plain}
 use Rattle.esc_actions.specs.Values.{Mode, in_sixel, in_termcap, in_short, after, given, taken, taken_gives, closed_gives, opened, opened_gives}
@@ -53,11 +55,11 @@ reads_by : {A : Type 0} (t u : List ℕ) (vs ws : List (Value A)) → t ≡ u �
 reads_by t u vs ws e f h rest = ap (λ x. meaning (x ++ rest)) (sym e) ∙ h rest ∙ ap (λ x. x ++ meaning rest) f
 
 -- a text whose events leave nothing open reads by itself
-reads_says : {A : Type 0} (t : List ℕ) (es : List Event) → mode_from plain es ≡ plain → Says t es → Reads {A = A} t (values_from plain es)
-unfolding meaning
+reads_says : {A : Type 0} (t : List ℕ) (es : List Event) → mode_from plain es ≡ plain → Says t es → Reads {A = A} t (values_from None plain es)
+unfolding meaning_within
 reads_says t es closed h rest =
-    ap (values_from plain) (h rest) ∙ values_append plain es (events rest)
-    ∙ ap (λ m. values_from plain es ++ values_from m (events rest)) closed
+    ap (values_from None plain) (h rest) ∙ values_append None plain es (events rest)
+    ∙ ap (λ m. values_from None plain es ++ values_from None m (events rest)) closed
 
 reads_nil : {A : Type 0} → Reads {A = A} [] []
 reads_nil rest = refl
@@ -66,7 +68,7 @@ reads_append : {A : Type 0} (t u : List ℕ) (vs ws : List (Value A)) → Reads 
 reads_append t u vs ws h k rest = ap meaning (append_assoc t u rest) ∙ h (u ++ rest) ∙ ap (λ x. vs ++ x) (k rest) ∙ sym (append_assoc vs ws (meaning rest))
 
 reads_whole : {A : Type 0} (t : List ℕ) (vs : List (Value A)) → Reads t vs → meaning t ≡ vs
-reads_whole t vs h = ap meaning (sym (append-nil t)) ∙ h [] ∙ ap (λ x. vs ++ x) meaning_nil ∙ append-nil vs
+reads_whole t vs h = ap meaning (sym (append-nil t)) ∙ h [] ∙ ap (λ x. vs ++ x) (meaning_nil None) ∙ append-nil vs
 
 -- characters
 reads_print : {A : Type 0} (low : LowerLaws A) (c : ℕ) → is_clear c ≡ true → Reads {A = A} (encode_utf8 c) (print c ∷ [])
@@ -103,16 +105,16 @@ encode_high b l h =
     let e : 192 + b / 64 ≡ 0xc2 = omega arith in
     let f : 128 + b % 64 ≡ b = omega arith in rw (one, two, e, f) refl
 
-executes : {A : Type 0} (c : ControlCode) → values_from {A = A} plain (Execute (code_number c) ∷ []) ≡ control c ∷ []
+executes : {A : Type 0} (c : ControlCode) → values_from {A = A} None plain (Execute (code_number c) ∷ []) ≡ control c ∷ []
 executes c = ap (λ o. executed o ++ []) (code_of-code_number c)
 
 reads_control : {A : Type 0} (low : LowerLaws A) (c : ControlCode) → is_lone_control (code_number c) ≡ true
     → Reads {A = A} (encode_utf8 (code_number c)) (control c ∷ [])
 reads_control {A = A} low c h =
     let b = code_number c in elim (cases_lt b 128) [
-      | inl l ↦ reads_by (b ∷ []) (encode_utf8 b) (values_from plain (Execute b ∷ [])) (control c ∷ []) (sym (encode_ascii b l)) (executes c)
+      | inl l ↦ reads_by (b ∷ []) (encode_utf8 b) (values_from None plain (Execute b ∷ [])) (control c ∷ []) (sym (encode_ascii b l)) (executes c)
           (reads_says (b ∷ []) (Execute b ∷ []) refl (low.executes b (low_control b l h)))
-      | inr l ↦ reads_by (0xc2 ∷ b ∷ []) (encode_utf8 b) (values_from plain (Execute b ∷ [])) (control c ∷ []) (sym (encode_high b l (code_small b h)))
+      | inr l ↦ reads_by (0xc2 ∷ b ∷ []) (encode_utf8 b) (values_from None plain (Execute b ∷ [])) (control c ∷ []) (sym (encode_high b l (code_small b h)))
           (executes c)
           (reads_says (0xc2 ∷ b ∷ []) (Execute b ∷ []) refl (low.executes_high b (high_control b l h)))
     ]
@@ -124,7 +126,7 @@ meant v = spelled v ++ (if is_string v then terminator ∷ [] else [])
 reads_osc : {A : Type 0} (low : LowerLaws A) (c : OperatingSystemCommand A) → IsWritableCommand c → Reads (value_text (osc c)) (osc c ∷ terminator ∷ [])
 reads_osc low c h =
     let t = inner_text c in
-    reads_by ((0x1b ∷ 0x5d ∷ t) ++ 0x1b ∷ 0x5c ∷ []) (value_text (osc c)) (values_from plain (OscDispatch (parts_of t) ∷ EscDispatch [] false 0x5c ∷ []))
+    reads_by ((0x1b ∷ 0x5d ∷ t) ++ 0x1b ∷ 0x5c ∷ []) (value_text (osc c)) (values_from None plain (OscDispatch (parts_of t) ∷ EscDispatch [] false 0x5c ∷ []))
     (osc c ∷ terminator ∷ [])
     refl (ap (λ d. osc d ∷ terminator ∷ []) (low.command_back c h))
     (reads_says ((0x1b ∷ 0x5d ∷ t) ++ 0x1b ∷ 0x5c ∷ []) (OscDispatch (parts_of t) ∷ EscDispatch [] false 0x5c ∷ []) refl
@@ -143,7 +145,7 @@ reads_kitty : {A : Type 0} (low : LowerLaws A) (i : KittyImage A) → IsWritable
 reads_kitty low i h =
     let t = image_body i in
     let back = low.image_back i h in
-    reads_by ((0x1b ∷ 0x5f ∷ t) ++ 0x1b ∷ 0x5c ∷ []) (whole_text (kitty i)) (values_from plain (ApcDispatch t ∷ EscDispatch [] false 0x5c ∷ []))
+    reads_by ((0x1b ∷ 0x5f ∷ t) ++ 0x1b ∷ 0x5c ∷ []) (whole_text (kitty i)) (values_from None plain (ApcDispatch t ∷ EscDispatch [] false 0x5c ∷ []))
     (kitty i ∷ terminator ∷ [])
     refl (ap (λ o. imaged o ++ terminator ∷ []) back.1)
     (reads_says ((0x1b ∷ 0x5f ∷ t) ++ 0x1b ∷ 0x5c ∷ []) (ApcDispatch t ∷ EscDispatch [] false 0x5c ∷ []) refl
@@ -151,18 +153,19 @@ reads_kitty low i h =
 
 -- strings that are given at their end: what is kept of the data gives this one value
 module _ (kept : List ℕ → Mode) (keeps : (d : List ℕ) (b : ℕ) → taken (kept d) b ≡ kept (d ++ b ∷ [])) where
-  kept_gives : {A : Type 0} (hook : Event) (d : List ℕ) (v : Value A) → given {A = A} plain hook ≡ [] → after plain hook ≡ kept []
-      → ((y : List ℕ) (b : ℕ) → taken_gives {A = A} (kept y) b ≡ []) → closed_gives (kept d) ≡ v ∷ []
-      → values_from plain (string_events hook d) ≡ v ∷ terminator ∷ []
+  kept_gives : {A : Type 0} (hook : Event) (d : List ℕ) (v : Value A) → given {A = A} None plain hook ≡ [] → after plain hook ≡ kept []
+      → ((y : List ℕ) (b : ℕ) → taken_gives {A = A} (kept y) b ≡ []) → closed_gives None (kept d) ≡ v ∷ []
+      → values_from None plain (string_events hook d) ≡ v ∷ terminator ∷ []
   kept_gives hook d v none opens quiet closed =
       string_gives hook d
       ∙ rw (none, opens, puts_quiet kept keeps quiet d [], puts_kept kept keeps d [], closed) refl
 
-  reads_kept : {A : Type 0} (t d : List ℕ) (v : Value A) (hook : Event) → Says t (string_events hook d) → given {A = A} plain hook ≡ [] → after plain hook ≡ kept []
-      → ((y : List ℕ) (b : ℕ) → taken_gives {A = A} (kept y) b ≡ []) → closed_gives (kept d) ≡ v ∷ []
+  reads_kept : {A : Type 0} (t d : List ℕ) (v : Value A) (hook : Event) → Says t (string_events hook d) → given {A = A} None plain hook ≡ []
+      → after plain hook ≡ kept []
+      → ((y : List ℕ) (b : ℕ) → taken_gives {A = A} (kept y) b ≡ []) → closed_gives None (kept d) ≡ v ∷ []
       → Reads t (v ∷ terminator ∷ [])
   reads_kept t d v hook says none opens quiet closed =
-      reads_by t t (values_from plain (string_events hook d)) (v ∷ terminator ∷ []) refl (kept_gives hook d v none opens quiet closed)
+      reads_by t t (values_from None plain (string_events hook d)) (v ∷ terminator ∷ []) refl (kept_gives hook d v none opens quiet closed)
       (reads_says t (string_events hook d) (string_closes hook d) says)
 
 reads_sixel : {A : Type 0} (low : LowerLaws A) (s : Sixel A) → IsWritableSixel s → Reads (whole_text (sixel s)) (sixel s ∷ terminator ∷ [])
@@ -171,7 +174,8 @@ reads_sixel low s h =
     reads_kept (in_sixel ps) (λ x b. refl) (whole_text (sixel s)) d (sixel s) (DcsHook 0x71 ps [] false) says refl refl (λ x b. refl)
     (ap (λ x. sixel x ∷ []) means)
 
-reads_termcap : {A : Type 0} (low : LowerLaws A) (ns : List (List ℕ)) → AreWritableNames ns → Reads {A = A} (whole_text {A = A} (termcap ns)) (termcap ns ∷ terminator ∷ [])
+reads_termcap : {A : Type 0} (low : LowerLaws A) (ns : List (List ℕ)) → AreWritableNames ns
+    → Reads {A = A} (whole_text {A = A} (termcap ns)) (termcap ns ∷ terminator ∷ [])
 reads_termcap {A = A} low ns h =
     let (says, means) = low.query_says ns h in
     reads_kept in_termcap (λ x b. refl) (whole_text {A = A} (termcap ns)) (names_text ns) (termcap ns) (DcsHook 0x71 [] (0x2b ∷ []) false) says refl refl
@@ -189,7 +193,7 @@ reads_short {A = A} low s h =
 
 -- a mode, its bytes and its end
 group_gives : {A : Type 0} (e : EnterDeviceControlMode A) (d : List ℕ) → kind_of e.byte e.intermediates e.ignored_extra_intermediates ≡ kind.Other
-    → values_from {A = A} plain (string_events (hook_of e) d) ≡ (enter e ∷ map datum d) ++ exit ∷ terminator ∷ []
+    → values_from {A = A} None plain (string_events (hook_of e) d) ≡ (enter e ∷ map datum d) ++ exit ∷ terminator ∷ []
 group_gives {A = A} e d other =
     string_gives (hook_of e) d
     ∙ rw (other, puts_given {A = A} d, puts_entered d) (append_assoc (enter e ∷ map datum d) (exit ∷ []) (terminator ∷ []))
@@ -201,7 +205,7 @@ reads_group : {A : Type 0} (low : LowerLaws A) (e : EnterDeviceControlMode A) (d
     → Reads ((value_text (enter e) ++ as_text d) ++ 0x1b ∷ 0x5c ∷ []) ((enter e ∷ map datum d) ++ exit ∷ terminator ∷ [])
 reads_group low e d h hd =
     let t = (value_text (enter e) ++ as_text d) ++ 0x1b ∷ 0x5c ∷ [] in
-    reads_by t t (values_from plain (string_events (hook_of e) d)) ((enter e ∷ map datum d) ++ exit ∷ terminator ∷ []) refl
+    reads_by t t (values_from None plain (string_events (hook_of e) d)) ((enter e ∷ map datum d) ++ exit ∷ terminator ∷ []) refl
     (group_gives e d (enter_kind e h))
     (reads_says t (string_events (hook_of e) d) (string_closes (hook_of e) d) (low.mode_says e d h hd))
 
@@ -212,10 +216,10 @@ reads_value low (string t) h o p =
     reads_by t t (map print (chars t)) (map print (chars t) ++ []) refl (sym (append-nil (map print (chars t)))) (reads_string low t h.0)
 reads_value low (control c) h o p = reads_control low c h
 reads_value low (esc e) (es, one, is) o p =
-    reads_by (esc_text e) (esc_text e) (values_from plain es) (esc e ∷ []) refl is
+    reads_by (esc_text e) (esc_text e) (values_from None plain es) (esc e ∷ []) refl is
     (reads_says (esc_text e) es (one_closes (esc_text e) es one) (low.one_segment (esc_text e) es one))
 reads_value low (csi c) (es, one, is) o p =
-    reads_by (csi_text c) (csi_text c) (values_from plain es) (csi c ∷ []) refl is
+    reads_by (csi_text c) (csi_text c) (values_from None plain es) (csi c ∷ []) refl is
     (reads_says (csi_text c) es (one_closes (csi_text c) es one) (low.one_segment (csi_text c) es one))
 reads_value low (osc c) h o p = reads_osc low c h
 reads_value low (kitty i) h o p = reads_kitty low i h
@@ -231,11 +235,13 @@ abbrev pub meant_after : {A : Type 0} → Bool → List (Value A) → List (Valu
 meant_after b [] = []
 meant_after b (v ∷ vs) = (if is_terminator v && b then [] else meant v) ++ meant_after (is_string v) vs
 
-reads_one : {A : Type 0} (low : LowerLaws A) (b : Bool) (v : Value A) → IsWritable v → is_within v ≡ false → stays_within v ≡ false → Reads (if b then [] else whole_text v) (if b then [] else meant v)
+reads_one : {A : Type 0} (low : LowerLaws A) (b : Bool) (v : Value A) → IsWritable v → is_within v ≡ false → stays_within v ≡ false
+    → Reads (if b then [] else whole_text v) (if b then [] else meant v)
 reads_one low true v h o p = reads_nil
 reads_one low false v h o p = reads_value low v h o p
 
-step : {A : Type 0} (low : LowerLaws A) (b : Bool) (v : Value A) (vs : List (Value A)) → IsWritable v → is_within v ≡ false → stays_within v ≡ false → Reads (texts_after (is_string v) vs) (meant_after (is_string v) vs)
+step : {A : Type 0} (low : LowerLaws A) (b : Bool) (v : Value A) (vs : List (Value A)) → IsWritable v → is_within v ≡ false → stays_within v ≡ false
+    → Reads (texts_after (is_string v) vs) (meant_after (is_string v) vs)
     → Reads (texts_after b (v ∷ vs)) (meant_after b (v ∷ vs))
 step low b v vs h o p rest =
     reads_append (text_after b v) (texts_after (is_string v) vs) (if is_terminator v && b then [] else meant v) (meant_after (is_string v) vs)
@@ -258,7 +264,8 @@ text_more (c ∷ d) b = ap (λ x. encode_utf8 c ++ x) (text_more d b) ∙ sym (a
 -- outside an entered mode; and inside one, behind its header and these bytes
 abbrev Both : {A : Type 0} → List (Value A) → Type 0
 Both {A = A} vs = ((b : Bool) → AreWritableFrom false vs → Reads (texts_after b vs) (meant_after b vs))
-    × ((e : EnterDeviceControlMode A) (d : List ℕ) → IsWritableEnter e → AreData d → AreWritableFrom true vs → Reads ((value_text (enter e) ++ as_text d) ++ texts_after false vs) ((enter e ∷ map datum d) ++ meant_after false vs))
+    × ((e : EnterDeviceControlMode A) (d : List ℕ) → IsWritableEnter e → AreData d → AreWritableFrom true vs
+    → Reads ((value_text (enter e) ++ as_text d) ++ texts_after false vs) ((enter e ∷ map datum d) ++ meant_after false vs))
 
 datum_step : {A : Type 0} (e : EnterDeviceControlMode A) (d : List ℕ) (b : ℕ) (vs : List (Value A))
     → Reads ((value_text (enter e) ++ as_text (d ++ b ∷ [])) ++ texts_after false vs) ((enter e ∷ map datum (d ++ b ∷ [])) ++ meant_after false vs)
@@ -267,24 +274,29 @@ datum_step e d b vs h =
     let x = value_text (enter e) in
     let t = as_text d in
     reads_by _ _ _ _
-    (ap (λ y. (x ++ y) ++ texts_after false vs) (text_more d b) ∙ ap (λ y. y ++ texts_after false vs) (sym (append_assoc x t (encode_utf8 b))) ∙ append_assoc (x ++ t) (encode_utf8 b) (texts_after false vs))
+    (ap (λ y. (x ++ y) ++ texts_after false vs) (text_more d b) ∙ ap (λ y. y ++ texts_after false vs) (sym (append_assoc x t (encode_utf8 b)))
+    ∙ append_assoc (x ++ t) (encode_utf8 b) (texts_after false vs))
     (ap (λ y. (enter e ∷ y) ++ meant_after false vs) (map-append datum d (b ∷ [])) ∙ append_assoc (enter e ∷ map datum d) (datum b ∷ []) (meant_after false vs))
     h
 
-exit_step : {A : Type 0} (low : LowerLaws A) (e : EnterDeviceControlMode A) (d : List ℕ) (vs : List (Value A)) → IsWritableEnter e → AreData d → Reads (texts_after true vs) (meant_after true vs)
-    → Reads ((value_text (enter e) ++ as_text d) ++ ((0x1b ∷ 0x5c ∷ []) ++ texts_after true vs)) ((enter e ∷ map datum d) ++ (exit ∷ terminator ∷ meant_after true vs))
+exit_step : {A : Type 0} (low : LowerLaws A) (e : EnterDeviceControlMode A) (d : List ℕ) (vs : List (Value A)) → IsWritableEnter e → AreData d
+    → Reads (texts_after true vs) (meant_after true vs)
+    → Reads ((value_text (enter e) ++ as_text d) ++ ((0x1b ∷ 0x5c ∷ []) ++ texts_after true vs))
+    ((enter e ∷ map datum d) ++ (exit ∷ terminator ∷ meant_after true vs))
 exit_step low e d vs w a rest =
     let x = value_text (enter e) ++ as_text d in
     reads_by _ _ _ _
     (append_assoc x (0x1b ∷ 0x5c ∷ []) (texts_after true vs))
     (append_assoc (enter e ∷ map datum d) (exit ∷ terminator ∷ []) (meant_after true vs))
-    (reads_append (x ++ 0x1b ∷ 0x5c ∷ []) (texts_after true vs) ((enter e ∷ map datum d) ++ exit ∷ terminator ∷ []) (meant_after true vs) (reads_group low e d w a) rest)
+    (reads_append (x ++ 0x1b ∷ 0x5c ∷ []) (texts_after true vs) ((enter e ∷ map datum d) ++ exit ∷ terminator ∷ []) (meant_after true vs)
+    (reads_group low e d w a) rest)
 
 enter_step : {A : Type 0} (e : EnterDeviceControlMode A) (vs : List (Value A))
     → Reads ((value_text (enter e) ++ []) ++ texts_after false vs) ((enter e ∷ []) ++ meant_after false vs)
     → Reads (value_text (enter e) ++ texts_after false vs) (enter e ∷ meant_after false vs)
 enter_step e vs h =
-    reads_by ((value_text (enter e) ++ []) ++ texts_after false vs) (value_text (enter e) ++ texts_after false vs) (enter e ∷ meant_after false vs) (enter e ∷ meant_after false vs)
+    reads_by ((value_text (enter e) ++ []) ++ texts_after false vs) (value_text (enter e) ++ texts_after false vs) (enter e ∷ meant_after false vs)
+    (enter e ∷ meant_after false vs)
     (ap (λ x. x ++ texts_after false vs) (append-nil (value_text (enter e)))) refl h
 
 reads_both : {A : Type 0} (low : LowerLaws A) (vs : List (Value A)) → Both vs
@@ -300,7 +312,11 @@ reads_both low (sixel s ∷ vs) = (λ b h. step low b (sixel s) vs h.1 refl refl
 reads_both low (termcap t ∷ vs) = (λ b h. step low b (termcap t) vs h.1 refl refl ((reads_both low vs).0 true h.2), λ e d w a h. absurd (within_not h.0))
 reads_both low (short s ∷ vs) = (λ b h. step low b (short s) vs h.1 refl refl ((reads_both low vs).0 true h.2), λ e d w a h. absurd (within_not h.0))
 reads_both low (enter k ∷ vs) = (λ b h. enter_step k vs ((reads_both low vs).1 k [] h.1 refl h.2), λ e d w a h. absurd (within_not h.0))
-reads_both low (datum c ∷ vs) = (λ b h. absurd (outside_not h.0), λ e d w a h. datum_step e d c vs ((reads_both low vs).1 e (d ++ c ∷ []) w (data_more d c a h.1) h.2))
+reads_both low (datum c ∷ vs) = (
+  λ b h. absurd (outside_not h.0),
+  λ e d w a h. datum_step e d c vs
+      ((reads_both low vs).1 e (d ++ c ∷ []) w (data_more d c a h.1) h.2),
+)
 reads_both low (exit ∷ vs) = (λ b h. absurd (outside_not h.0), λ e d w a h. exit_step low e d vs w a ((reads_both low vs).0 true h.2))
 
 reads_behind : {A : Type 0} (low : LowerLaws A) (b : Bool) (vs : List (Value A)) → AreWritable vs → Reads (texts_after b vs) (meant_after b vs)
@@ -314,7 +330,8 @@ abbrev AsNormal : {A : Type 0} → List (Value A) → Type 0
 AsNormal vs = (meant_after false vs ≡ normal vs) × (terminator ∷ meant_after true vs ≡ after_string vs)
 
 -- behind a string action: a terminator, unless one stands there
-string_normal : {A : Type 0} (v : Value A) (vs : List (Value A)) (t : Bool) → v ∷ (terminator ∷ meant_after true vs) ≡ v ∷ ((if not t then terminator ∷ [] else []) ++ normal vs)
+string_normal : {A : Type 0} (v : Value A) (vs : List (Value A)) (t : Bool)
+    → v ∷ (terminator ∷ meant_after true vs) ≡ v ∷ ((if not t then terminator ∷ [] else []) ++ normal vs)
     → v ∷ terminator ∷ meant_after true vs ≡ ((v ∷ []) ++ (if not t then terminator ∷ [] else [])) ++ normal vs
 string_normal v vs true e = e
 string_normal v vs false e = e
@@ -325,18 +342,26 @@ as_normal (print c ∷ vs) = let e = ap (λ x. print c ∷ x) (as_normal vs).0 i
 as_normal (string t ∷ vs) = let e = ap (λ x. (map print (chars t) ++ []) ++ x) (as_normal vs).0 in (e, ap (λ x. terminator ∷ x) e)
 as_normal (control c ∷ vs) = let e = ap (λ x. control c ∷ x) (as_normal vs).0 in (e, ap (λ x. terminator ∷ x) e)
 as_normal (esc (esc_variant.Code esc_code.StringTerminator) ∷ vs) = let e = ap (λ x. terminator ∷ x) (as_normal vs).0 in (e, e)
-as_normal (esc (esc_variant.Code esc_code.HorizontalTabSet) ∷ vs) = let e = ap (λ x. esc (esc_variant.Code esc_code.HorizontalTabSet) ∷ x) (as_normal vs).0 in (e, ap (λ x. terminator ∷ x) e)
-as_normal (esc (esc_variant.Code esc_code.TmuxTitle) ∷ vs) = let e = ap (λ x. esc (esc_variant.Code esc_code.TmuxTitle) ∷ x) (as_normal vs).0 in (e, ap (λ x. terminator ∷ x) e)
+as_normal (esc (esc_variant.Code esc_code.HorizontalTabSet) ∷ vs) = let e = ap (λ x. esc (esc_variant.Code esc_code.HorizontalTabSet) ∷ x) (as_normal vs).0 in
+    (e, ap (λ x. terminator ∷ x) e)
+as_normal (esc (esc_variant.Code esc_code.TmuxTitle) ∷ vs) = let e = ap (λ x. esc (esc_variant.Code esc_code.TmuxTitle) ∷ x) (as_normal vs).0 in
+    (e, ap (λ x. terminator ∷ x) e)
 as_normal (esc (esc_variant.Unspecified i c) ∷ vs) = let e = ap (λ x. esc (esc_variant.Unspecified i c) ∷ x) (as_normal vs).0 in (e, ap (λ x. terminator ∷ x) e)
 as_normal (csi c ∷ vs) = let e = ap (λ x. csi c ∷ x) (as_normal vs).0 in (e, ap (λ x. terminator ∷ x) e)
 as_normal (enter k ∷ vs) = let e = ap (λ x. enter k ∷ x) (as_normal vs).0 in (e, ap (λ x. terminator ∷ x) e)
 as_normal (datum b ∷ vs) = let e = ap (λ x. datum b ∷ x) (as_normal vs).0 in (e, ap (λ x. terminator ∷ x) e)
-as_normal (osc c ∷ vs) = let e = ap (λ x. osc c ∷ x) (as_normal vs).1 in (string_normal (osc c) vs (begins_terminator vs) e, ap (λ x. terminator ∷ x) (string_normal (osc c) vs (begins_terminator vs) e))
-as_normal (kitty i ∷ vs) = let e = ap (λ x. kitty i ∷ x) (as_normal vs).1 in (string_normal (kitty i) vs (begins_terminator vs) e, ap (λ x. terminator ∷ x) (string_normal (kitty i) vs (begins_terminator vs) e))
-as_normal (sixel s ∷ vs) = let e = ap (λ x. sixel s ∷ x) (as_normal vs).1 in (string_normal (sixel s) vs (begins_terminator vs) e, ap (λ x. terminator ∷ x) (string_normal (sixel s) vs (begins_terminator vs) e))
-as_normal (termcap d ∷ vs) = let e = ap (λ x. termcap d ∷ x) (as_normal vs).1 in (string_normal (termcap d) vs (begins_terminator vs) e, ap (λ x. terminator ∷ x) (string_normal (termcap d) vs (begins_terminator vs) e))
-as_normal (short s ∷ vs) = let e = ap (λ x. short s ∷ x) (as_normal vs).1 in (string_normal (short s) vs (begins_terminator vs) e, ap (λ x. terminator ∷ x) (string_normal (short s) vs (begins_terminator vs) e))
-as_normal (exit ∷ vs) = let e = ap (λ x. exit ∷ x) (as_normal vs).1 in (string_normal exit vs (begins_terminator vs) e, ap (λ x. terminator ∷ x) (string_normal exit vs (begins_terminator vs) e))
+as_normal (osc c ∷ vs) = let e = ap (λ x. osc c ∷ x) (as_normal vs).1 in
+    (string_normal (osc c) vs (begins_terminator vs) e, ap (λ x. terminator ∷ x) (string_normal (osc c) vs (begins_terminator vs) e))
+as_normal (kitty i ∷ vs) = let e = ap (λ x. kitty i ∷ x) (as_normal vs).1 in
+    (string_normal (kitty i) vs (begins_terminator vs) e, ap (λ x. terminator ∷ x) (string_normal (kitty i) vs (begins_terminator vs) e))
+as_normal (sixel s ∷ vs) = let e = ap (λ x. sixel s ∷ x) (as_normal vs).1 in
+    (string_normal (sixel s) vs (begins_terminator vs) e, ap (λ x. terminator ∷ x) (string_normal (sixel s) vs (begins_terminator vs) e))
+as_normal (termcap d ∷ vs) = let e = ap (λ x. termcap d ∷ x) (as_normal vs).1 in
+    (string_normal (termcap d) vs (begins_terminator vs) e, ap (λ x. terminator ∷ x) (string_normal (termcap d) vs (begins_terminator vs) e))
+as_normal (short s ∷ vs) = let e = ap (λ x. short s ∷ x) (as_normal vs).1 in
+    (string_normal (short s) vs (begins_terminator vs) e, ap (λ x. terminator ∷ x) (string_normal (short s) vs (begins_terminator vs) e))
+as_normal (exit ∷ vs) = let e = ap (λ x. exit ∷ x) (as_normal vs).1 in
+    (string_normal exit vs (begins_terminator vs) e, ap (λ x. terminator ∷ x) (string_normal exit vs (begins_terminator vs) e))
 
 pub meant_normal : {A : Type 0} (vs : List (Value A)) → meant_after false vs ≡ normal vs
 meant_normal vs = (as_normal vs).0

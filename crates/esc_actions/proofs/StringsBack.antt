@@ -1,5 +1,5 @@
 -- The values of the events of device control strings.
-use Rattle.std.proofs.Common.{ℕ, ◌≡◌, false, List, [], ◌∷◌, ◌++◌, map, refl, ap, sym, ◌∙◌, append_assoc}
+use Rattle.std.proofs.Common.{ℕ, ◌≡◌, false, List, [], ◌∷◌, ◌++◌, map, None, refl, ap, sym, ◌∙◌, append_assoc}
 use Rattle.std.proofs.lemmas.List.{append-nil}
 use Rattle.esc_device.specs.Says.{string_events}
 use Rattle.esc_frame.specs.Events.{Event}
@@ -15,18 +15,19 @@ module _ (kept : List ℕ → Mode) (keeps : (d : List ℕ) (b : ℕ) → taken 
   puts_kept [] x = ap kept (sym (append-nil x))
   puts_kept (b ∷ d) x = ap (λ m. mode_from m (map DcsPut d)) (keeps x b) ∙ puts_kept d (x ++ b ∷ []) ∙ ap kept (append_assoc x (b ∷ []) d)
 
-  pub puts_quiet : {A : Type 0} → ((d : List ℕ) (b : ℕ) → taken_gives {A = A} (kept d) b ≡ []) → (d x : List ℕ) → values_from {A = A} (kept x) (map DcsPut d) ≡ []
+  pub puts_quiet : {A : Type 0} → ((d : List ℕ) (b : ℕ) → taken_gives {A = A} (kept d) b ≡ []) → (d x : List ℕ)
+      → values_from {A = A} None (kept x) (map DcsPut d) ≡ []
   puts_quiet quiet [] x = refl
   puts_quiet quiet (b ∷ d) x =
-      ap (λ v. v ++ values_from (taken (kept x) b) (map DcsPut d)) (quiet x b)
-      ∙ ap (λ m. values_from m (map DcsPut d)) (keeps x b) ∙ puts_quiet quiet d (x ++ b ∷ [])
+      ap (λ v. v ++ values_from None (taken (kept x) b) (map DcsPut d)) (quiet x b)
+      ∙ ap (λ m. values_from None m (map DcsPut d)) (keeps x b) ∙ puts_quiet quiet d (x ++ b ∷ [])
 
 -- in a mode each is given at once
 pub puts_entered : (d : List ℕ) → mode_from entered (map DcsPut d) ≡ entered
 puts_entered [] = refl
 puts_entered (b ∷ d) = puts_entered d
 
-pub puts_given : {A : Type 0} (d : List ℕ) → values_from {A = A} entered (map DcsPut d) ≡ map datum d
+pub puts_given : {A : Type 0} (d : List ℕ) → values_from {A = A} None entered (map DcsPut d) ≡ map datum d
 puts_given [] = refl
 puts_given (b ∷ d) = ap (λ x. datum b ∷ x) (puts_given d)
 
@@ -37,8 +38,9 @@ string_closes hook d =
     ∙ mode_append plain (hook ∷ map DcsPut d) (DcsUnhook ∷ [])
 
 -- and gives what the header gives, what the data gives, and what the end gives
-pub string_gives : {A : Type 0} (hook : Event) (d : List ℕ) → values_from {A = A} plain (string_events hook d)
-    ≡ ((given plain hook ++ values_from (after plain hook) (map DcsPut d)) ++ (closed_gives (mode_from (after plain hook) (map DcsPut d)) ++ [])) ++ terminator ∷ []
+pub string_gives : {A : Type 0} (hook : Event) (d : List ℕ) → values_from {A = A} None plain (string_events hook d)
+    ≡ ((given None plain hook ++ values_from None (after plain hook) (map DcsPut d)) ++
+    (closed_gives None (mode_from (after plain hook) (map DcsPut d)) ++ [])) ++ terminator ∷ []
 string_gives hook d =
-    values_append plain ((hook ∷ map DcsPut d) ++ DcsUnhook ∷ []) (EscDispatch [] false 0x5c ∷ [])
-    ∙ ap (λ x. x ++ terminator ∷ []) (values_append plain (hook ∷ map DcsPut d) (DcsUnhook ∷ []))
+    values_append None plain ((hook ∷ map DcsPut d) ++ DcsUnhook ∷ []) (EscDispatch [] false 0x5c ∷ [])
+    ∙ ap (λ x. x ++ terminator ∷ []) (values_append None plain (hook ∷ map DcsPut d) (DcsUnhook ∷ []))

@@ -4,6 +4,7 @@ pub mod Meaning
 pub mod Texts
 pub mod Writable
 pub mod Readings
+pub mod Limited
 pub mod Headline
 pub mod LowerLaws
 pub mod Appending

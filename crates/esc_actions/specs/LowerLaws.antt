@@ -1,6 +1,6 @@
 -- What the laws of the crates below say of texts, events and values. Only private contracts cite it: the laws of this crate
 -- rest on it, and it rests on calls of those laws.
-use Rattle.std.specs.Prelude.{ℕ, ◌≡◌, ◌<◌, ◌≤◌, true, false, List, [], ◌∷◌, ◌++◌, length, Some, ℤ, Bool}
+use Rattle.std.specs.Prelude.{ℕ, ◌≡◌, ◌<◌, ◌≤◌, true, false, List, [], ◌∷◌, ◌++◌, length, Option, Some, ℤ, Bool}
 use Rattle.std.specs.List.{list_all, list_any}
 use Rattle.std.specs.Char.{encode_utf8}
 use Rattle.esc_below.specs.Clear.{is_clear, IsClearText, AreTextParts, parts_of}
@@ -18,7 +18,7 @@ use Rattle.esc_frame.specs.Classes.{class_of, AllOf, is_control, is_raw_control,
 use Rattle.esc_frame.specs.Events.{Event}
 use Rattle.esc_frame.specs.Events.Event.{Print, Execute, EscDispatch, OscDispatch, DcsHook, ApcDispatch}
 use Rattle.esc_frame.specs.Fits.{IsFit, AreFit, IsOneSegment}
-use Rattle.esc_frame.specs.Stream.{Says, events}
+use Rattle.esc_frame.specs.Stream.{Says, events_within}
 use Rattle.esc_kitty.specs.Images.{image_of}
 use Rattle.esc_kitty.specs.Writable.{is_kept, IsWritableImage, ReadsBack as ReadsBackImage}
 use Rattle.esc_kitty.specs.declared.image.KittyImage.{KittyImage}
@@ -41,7 +41,7 @@ pub record LowerLaws (A : Type 0) : Type 0 where
   pub command : (t : List ℕ) → IsClearText t → Says ((0x1b ∷ 0x5d ∷ t) ++ 0x1b ∷ 0x5c ∷ []) (OscDispatch (parts_of t) ∷ EscDispatch [] false 0x5c ∷ [])
   pub application : (t : List ℕ) → AllOf is_text t → Says ((0x1b ∷ 0x5f ∷ t) ++ 0x1b ∷ 0x5c ∷ []) (ApcDispatch t ∷ EscDispatch [] false 0x5c ∷ [])
   -- what the events of any stream can be
-  pub events_fit : (s : List ℕ) → AreFit (events s)
+  pub events_fit : (limit : Option ℕ) (s : List ℕ) → AreFit (events_within limit s)
   -- operating system commands
   pub command_clear : (c : OperatingSystemCommand A) → IsWritableCommand c → IsClearText (inner_text c)
   pub command_back : (c : OperatingSystemCommand A) → IsWritableCommand c → command_meant (parts_of (inner_text c)) ≡ c

@@ -1,31 +1,39 @@
 -- What a stream means.
-use Rattle.std.specs.Prelude.{ℕ, ◌≡◌, ◌≢◌, ◌⊎◌, List, [], ◌∷◌, ◌++◌, length, drop}
+use Rattle.std.specs.Prelude.{ℕ, ◌≡◌, ◌≢◌, ◌⊎◌, List, [], ◌∷◌, ◌++◌, length, drop, Option, None}
 use Rattle.esc_frame.specs.Events.{Event}
 use Rattle.esc_frame.specs.Memory.{MayGrow}
-use Rattle.esc_frame.specs.Stream.{events}
+use Rattle.esc_frame.specs.Stream.{events_within}
 use Rattle.esc_actions.specs.Values.{Value, Mode, plain, after, given}
 
--- what events give, one after another, where m is unfinished before them
-abbrev pub values_from : {A : Type 0} → Mode → List Event → List (Value A)
-values_from m [] = []
-values_from m (e ∷ es) = given m e ++ values_from (after m e) es
+-- what events give, one after another, where m is unfinished before them and no more than the limit is kept of a string's data
+abbrev pub values_from : {A : Type 0} → Option ℕ → Mode → List Event → List (Value A)
+values_from limit m [] = []
+values_from limit m (e ∷ es) = given limit m e ++ values_from limit (after m e) es
 
 -- what is unfinished after them
 abbrev pub mode_from : Mode → List Event → Mode
 mode_from m [] = m
 mode_from m (e ∷ es) = mode_from (after m e) es
 
--- the values of the events of the stream's one cut, the last segment of which may be unfinished
-unfoldable pub meaning : {A : Type 0} → List ℕ → List (Value A)
-meaning s = values_from plain (events s)
+-- the values of the events of the stream's one cut, the last segment of which may be unfinished, where no more than the limit is
+-- kept of a segment
+unfoldable pub meaning_within : {A : Type 0} → Option ℕ → List ℕ → List (Value A)
+meaning_within limit s = values_from limit plain (events_within limit s)
 
 -- what b adds to the meaning of s
-unfoldable pub yield : {A : Type 0} → List ℕ → List ℕ → List (Value A)
-yield {A = A} s b = drop (length (meaning {A = A} s)) (meaning (s ++ b))
+unfoldable pub yield_within : {A : Type 0} → Option ℕ → List ℕ → List ℕ → List (Value A)
+yield_within {A = A} limit s b = drop (length (meaning_within {A = A} limit s)) (meaning_within limit (s ++ b))
+
+-- the same without a limit
+abbrev pub meaning : {A : Type 0} → List ℕ → List (Value A)
+meaning s = meaning_within None s
+
+abbrev pub yield : {A : Type 0} → List ℕ → List ℕ → List (Value A)
+yield s b = yield_within None s b
 
 -- a call that is fed b after s may want memory: for an unfinished string or sequence, or for what it hands out
-abbrev pub MayWant : Type 0 → List ℕ → List ℕ → Type 0
-MayWant A s b = MayGrow (s ++ b) ⊎ (yield {A = A} s b ≢ [])
+abbrev pub MayWant : Type 0 → Option ℕ → List ℕ → List ℕ → Type 0
+MayWant A limit s b = MayGrow (s ++ b) ⊎ (yield_within {A = A} limit s b ≢ [])
 
 -- these bytes mean these values, and what follows them means its own, whatever it is
 abbrev pub Reads : {A : Type 0} → List ℕ → List (Value A) → Type 0

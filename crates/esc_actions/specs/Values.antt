@@ -1,5 +1,5 @@
 -- The values of actions, and the values that events give.
-use Rattle.std.specs.Prelude.{ℕ, ℤ, ◌++◌, Bool, true, false, List, [], ◌∷◌, Option, Some, None, map}
+use Rattle.std.specs.Prelude.{ℕ, ℤ, ◌++◌, Bool, true, false, if◌then◌else◌, List, [], ◌∷◌, length, Option, Some, None, map}
 use Rattle.esc_below.specs.declared.esc.Esc.{Esc}
 use Rattle.esc_below.specs.Csis.{CsiValue, csi_value, csi_of}
 use Rattle.esc_below.specs.Escs.{esc_of}
@@ -13,6 +13,7 @@ use Rattle.esc_device.specs.declared.mode.DeviceControlMode.TheVariants as devic
 use Rattle.esc_device.specs.declared.short.ShortDeviceControl.{ShortDeviceControl}
 use Rattle.esc_frame.specs.Events.{Event}
 use Rattle.esc_frame.specs.Events.Event.{Print, Execute, EscDispatch, CsiDispatch, OscDispatch, DcsHook, DcsPut, DcsUnhook, ApcDispatch}
+use Rattle.esc_frame.specs.Limits.{is_within}
 use Rattle.esc_kitty.specs.Images.{image_of}
 use Rattle.esc_kitty.specs.declared.image.KittyImage.{KittyImage}
 use Rattle.esc_osc.specs.Reading.{meaning as command_meant}
@@ -75,6 +76,14 @@ pub data Mode : Type 0 where
   -- a mode, of which everything is given at once
   entered : Mode
 
+-- how many bytes of data have to be kept of it
+abbrev pub data_count : Mode → ℕ
+data_count plain = 0
+data_count (in_sixel ps d) = length d
+data_count (in_termcap d) = length d
+data_count (in_short ps is f d) = length d
+data_count entered = 0
+
 -- what a header opens, by its kind
 abbrev pub opened : StringKind → ℕ → List ℤ → List ℕ → Mode
 opened kind.Sixel f ps is = in_sixel ps []
@@ -102,7 +111,8 @@ after m (DcsPut b) = taken m b
 after m DcsUnhook = plain
 after m (ApcDispatch t) = m
 
--- what a header, a byte of data and the end of a string give: an image, a query and a short control are given whole at the end
+-- What a header, a byte of data and the end of a string give. An image, a query and a short control are given whole at the end, and
+-- only where their data is within the limit: past it none is kept.
 abbrev pub opened_gives : {A : Type 0} → StringKind → ℕ → List ℤ → List ℕ → Bool → List (Value A)
 opened_gives kind.Other f ps is more = enter (enter_of f ps is more) ∷ []
 opened_gives _ f ps is more = []
@@ -111,12 +121,12 @@ abbrev pub taken_gives : {A : Type 0} → Mode → ℕ → List (Value A)
 taken_gives entered b = datum b ∷ []
 taken_gives _ b = []
 
-abbrev pub closed_gives : {A : Type 0} → Mode → List (Value A)
-closed_gives plain = []
-closed_gives (in_sixel ps d) = sixel (sixel_of ps (items d)) ∷ []
-closed_gives (in_termcap d) = termcap (names_of d) ∷ []
-closed_gives (in_short ps is f d) = short (short_of ps is f d) ∷ []
-closed_gives entered = exit ∷ []
+abbrev pub closed_gives : {A : Type 0} → Option ℕ → Mode → List (Value A)
+closed_gives limit plain = []
+closed_gives limit (in_sixel ps d) = if is_within limit (length d) then sixel (sixel_of ps (items d)) ∷ [] else []
+closed_gives limit (in_termcap d) = if is_within limit (length d) then termcap (names_of d) ∷ [] else []
+closed_gives limit (in_short ps is f d) = if is_within limit (length d) then short (short_of ps is f d) ∷ [] else []
+closed_gives limit entered = exit ∷ []
 
 -- the one of a list
 abbrev pub lone : List ℕ → Option ℕ
@@ -134,17 +144,17 @@ abbrev pub imaged : {A : Type 0} → Option (KittyImage A) → List (Value A)
 imaged None = []
 imaged (Some i) = kitty i ∷ []
 
--- the values that an event gives
-abbrev pub given : {A : Type 0} → Mode → Event → List (Value A)
-given m (Print c) = print c ∷ []
-given m (Execute b) = executed (code_of b)
-given m (EscDispatch is more f) = esc (esc_of (lone is) f) ∷ []
-given m (CsiDispatch es more f) = map csi (csi_of es more f)
-given m (OscDispatch ps) = osc (command_meant ps) ∷ []
-given m (DcsHook f ps is more) = opened_gives (kind_of f is more) f ps is more
-given m (DcsPut b) = taken_gives m b
-given m DcsUnhook = closed_gives m
-given m (ApcDispatch t) = imaged (image_of t)
+-- the values that an event gives, where no more than the limit is kept of a string's data
+abbrev pub given : {A : Type 0} → Option ℕ → Mode → Event → List (Value A)
+given limit m (Print c) = print c ∷ []
+given limit m (Execute b) = executed (code_of b)
+given limit m (EscDispatch is more f) = esc (esc_of (lone is) f) ∷ []
+given limit m (CsiDispatch es more f) = map csi (csi_of es more f)
+given limit m (OscDispatch ps) = osc (command_meant ps) ∷ []
+given limit m (DcsHook f ps is more) = opened_gives (kind_of f is more) f ps is more
+given limit m (DcsPut b) = taken_gives m b
+given limit m DcsUnhook = closed_gives limit m
+given limit m (ApcDispatch t) = imaged (image_of t)
 
 -- whether an action of the event may have to be kept in memory
 abbrev pub wants_memory : Event → Bool

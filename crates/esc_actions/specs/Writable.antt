@@ -29,8 +29,8 @@ abbrev pub IsWritable : {A : Type 0} → Value A → Type 0
 IsWritable (print c) = is_clear c ≡ true
 IsWritable (string t) = IsClearText t × (t ≢ [])
 IsWritable (control c) = is_lone_control (code_number c) ≡ true
-IsWritable {A = A} (esc e) = (es : List Event) × IsOneSegment (esc_text e) es × (values_from {A = A} plain es ≡ esc e ∷ [])
-IsWritable {A = A} (csi c) = (es : List Event) × IsOneSegment (csi_text c) es × (values_from {A = A} plain es ≡ csi c ∷ [])
+IsWritable {A = A} (esc e) = (es : List Event) × IsOneSegment (esc_text e) es × (values_from {A = A} None plain es ≡ esc e ∷ [])
+IsWritable {A = A} (csi c) = (es : List Event) × IsOneSegment (csi_text c) es × (values_from {A = A} None plain es ≡ csi c ∷ [])
 IsWritable (osc c) = IsWritableCommand c
 IsWritable (kitty i) = IsWritableImage i
 IsWritable (sixel s) = IsWritableSixel s

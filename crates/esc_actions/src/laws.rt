@@ -1,12 +1,15 @@
 //! Laws of streams of actions: a stream means the readings of its one cut, what is written reads back, and what is handed
 //! out can be written. Each holds for every allocator `A`, which the type of the actions names.
-ghost use Rattle.std.specs.Prelude.{◌≡◌, ◌++◌, ◌↔◌, List, ℕ, false};
+ghost use Rattle.std.specs.Prelude.{◌≡◌, ◌++◌, ◌↔◌, ◌⊎◌, List, ℕ, Option, false};
 ghost use Rattle.std.specs.List.{list_any};
-ghost use Rattle.esc_frame.specs.Stream.{IsAtGround, events};
+ghost use Rattle.esc_frame.specs.Stream.{IsAtGround, events_within};
+ghost use Rattle.esc_frame.specs.Counts.{kept_of_cut};
+ghost use Rattle.esc_frame.specs.Segments.{Segment, IsCut};
+ghost use Rattle.esc_actions.specs.Limited.{IsWithin, data_kept};
 ghost use Rattle.esc_actions.specs.Headline.{Headline};
 ghost use Rattle.esc_actions.specs.Groups.{JoinsGroups, MeansGroups, MeansWritable, ends_within};
 ghost use Rattle.esc_actions.specs.LowerLaws.{LowerLaws};
-ghost use Rattle.esc_actions.specs.Meaning.{meaning, mode_from, yield};
+ghost use Rattle.esc_actions.specs.Meaning.{meaning, meaning_within, mode_from, yield_within};
 ghost use Rattle.esc_actions.specs.Readings.{MeansItsCut};
 ghost use Rattle.esc_actions.specs.Texts.{list_text, normal};
 ghost use Rattle.esc_actions.specs.Values.{Value, plain};
@@ -29,12 +32,13 @@ pub fn headline<A: Allocator>()
     same_text::<A>();
 }
 
-/// A stream means the readings of the segments of its cut, one after another: nothing is unfinished between two segments.
+/// A stream means the readings of the segments of its cut, one after another, whatever limit there is: nothing is unfinished
+/// between two segments.
 pub fn meaning_of_the_cut<A: Allocator>()
     ensures { MeansItsCut A }
 {
-    esc_frame::laws::events_once();
-    esc_frame::laws::events_of_the_cut();
+    esc_frame::laws::events_once_within();
+    esc_frame::laws::events_of_the_cut_within();
 }
 
 // What the laws of the crates below say.
@@ -47,7 +51,7 @@ fn lower_laws<A: Allocator>()
     esc_frame::laws::says_itself();
     esc_frame::laws::says_osc();
     esc_frame::laws::says_apc();
-    esc_frame::laws::events_fit();
+    esc_frame::laws::events_fit_within();
     esc_osc::laws::writes_clear::<A>();
     esc_osc::laws::reads_back::<A>();
     esc_osc::laws::clear_is_writable::<A>();
@@ -71,6 +75,24 @@ pub fn reads_back<A: Allocator>()
     ensures { (vs : List (Value A)) → AreWritable vs → meaning (list_text vs) ≡ normal vs }
 {
     lower_laws::<A>();
+}
+
+/// So it does under a limit within which all that counts of its segments is.
+pub fn reads_back_within<A: Allocator>()
+    ensures { (limit : Option ℕ) (vs : List (Value A)) → AreWritable vs → IsWithin limit (list_text vs) → meaning_within limit (list_text vs) ≡ normal vs }
+{
+    reads_back::<A>();
+    esc_frame::laws::events_once();
+    esc_frame::laws::events_of_the_cut();
+    esc_frame::laws::same_within();
+}
+
+/// Of an unfinished segment one thing alone is kept: its text or header, or its data.
+pub fn keeps_once()
+    ensures { (limit : Option ℕ) (s : List ℕ) (gs : List Segment) → IsCut s gs → (kept_of_cut limit gs ≡ 0) ⊎ (data_kept limit s ≡ 0) }
+{
+    esc_frame::laws::events_once_within();
+    esc_frame::laws::events_of_the_cut_within();
 }
 
 /// A writable list and its normal list have the same text.
@@ -98,18 +120,18 @@ pub fn normal_normal<A: Allocator>()
     ensures { (vs : List (Value A)) → normal (normal vs) ≡ normal vs }
 {}
 
-/// Every value that any stream means is writable, but for an escape sequence without intermediate whose letter opens a string
+/// Every value that any stream means, whatever limit there is, is writable, but for an escape sequence without intermediate whose letter opens a string
 /// or a control sequence; a control sequence of which entries were left out; the header of a mode of which intermediates were
 /// left out; and a byte A0 to FF of a mode, or a short control that has one.
 pub fn handed_out<A: Allocator>()
-    ensures { (s : List ℕ) → AreHandedOut {A = A} (meaning s) }
+    ensures { (limit : Option ℕ) (s : List ℕ) → AreHandedOut {A = A} (meaning_within limit s) }
 {
     lower_laws::<A>();
 }
 
 /// So is every value that one call hands out, whatever was fed before.
 pub fn yield_handed_out<A: Allocator>()
-    ensures { (s b : List ℕ) → AreHandedOut {A = A} (yield s b) }
+    ensures { (limit : Option ℕ) (s b : List ℕ) → AreHandedOut {A = A} (yield_within limit s b) }
 {
     handed_out::<A>();
 }
@@ -117,15 +139,15 @@ pub fn yield_handed_out<A: Allocator>()
 /// What calls hand out one after another is the meaning of what they were fed, joined.
 #[tactic(auto, using(crate::proofs::Meanings::meaning_more))]
 pub fn meaning_of_more<A: Allocator>()
-    ensures { (s b : List ℕ) → meaning {A = A} s ++ yield s b ≡ meaning (s ++ b) }
+    ensures { (limit : Option ℕ) (s b : List ℕ) → meaning_within {A = A} limit s ++ yield_within limit s b ≡ meaning_within limit (s ++ b) }
 {}
 
 /// Where no segment of a stream is unfinished, nothing is unfinished of its actions.
 pub fn plain_at_ground()
-    ensures { (s : List ℕ) → IsAtGround s → mode_from plain (events s) ≡ plain }
+    ensures { (limit : Option ℕ) (s : List ℕ) → IsAtGround s → mode_from plain (events_within limit s) ≡ plain }
 {
-    esc_frame::laws::events_once();
-    esc_frame::laws::events_of_the_cut();
+    esc_frame::laws::events_once_within();
+    esc_frame::laws::events_of_the_cut_within();
 }
 
 /// A list is writable exactly where it is writable single values and writable groups, joined.

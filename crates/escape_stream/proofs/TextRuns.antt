@@ -1,6 +1,6 @@
 -- A run of text: as events, as actions, and what it makes of a text.
 use Rattle.std.proofs.Common.{◌≡◌, ◌<◌, ◌+◌, ℕ, true, false, List, [], ◌∷◌, ◌++◌, length, map, take, drop, get_or, refl, ap, sym, subst, ◌∙◌, append_assoc}
-use Rattle.std.proofs.Common.{take-append-drop, arith, inl, inr}
+use Rattle.std.proofs.Common.{take-append-drop, arith, inl, inr, Option}
 use Rattle.std.proofs.lemmas.Bool.{and_parts}
 use Rattle.std.proofs.lemmas.Bool.Decides.{nat_tests}
 use Rattle.std.proofs.lemmas.List.{take_more, map-append}
@@ -13,7 +13,7 @@ use Rattle.esc_frame.specs.Events.Event.{Print}
 use Rattle.esc_frame.specs.Scans.{is_text_byte}
 use Rattle.esc_frame.proofs.Given.{stops_then}
 use Rattle.escape_stream.proofs.Lists.{FoldsTo-append, StopsAt-append, StopsAt-longer}
-use Rattle.escape_stream.specs.Fed.{Keeps}
+use Rattle.escape_stream.specs.Fed.{Hooks}
 use Rattle.escape_stream.specs.Given.{At, StopsAt}
 use Rattle.esc_actions.specs.Texts.{is_string, text_after}
 use Rattle.esc_actions.specs.Values.{Mode, after, given, value_of, wants_memory}
@@ -42,16 +42,18 @@ module _ {S V : Type 0} (print : ℕ → V) (R Q : S → V → S → Type 0) (xs
 -- what a sink takes as a run, its actor takes as events
 module _ {S A : Type 0} (R Q : S → Action A → S → Type 0) where
   abbrev Takes : Performer S A → Event → Performer S A → Type 0
-  Takes p e q = (m : Mode) → Keeps p.kept m → Keeps q.kept (after m e) × FoldsTo (At value_of R) p.sink (given m e) q.sink
+  Takes p e q = (limit : Option ℕ) (m : Mode) → Hooks limit p.unfinished m
+      → Hooks limit q.unfinished (after m e) × FoldsTo (At value_of R) p.sink (given limit m e) q.sink
 
   abbrev Refuses : Performer S A → Event → Performer S A → Type 0
-  Refuses p e q = (m : Mode) → Keeps p.kept m → StopsAt (wants_memory e ≡ true) (At value_of R) (At value_of Q) p.sink (given m e) q.sink
+  Refuses p e q = (limit : Option ℕ) (m : Mode) → Hooks limit p.unfinished m
+      → StopsAt (wants_memory e ≡ true) (At value_of R) (At value_of Q) p.sink (given limit m e) q.sink
 
   abbrev with_sink : Performer S A → S → Performer S A
   with_sink p s = record p { sink = s }
 
   one_taken : (p : Performer S A) (s : S) (x : ℕ) → R p.sink (action.Print x) s → Takes p (Print x) (record p { sink = s })
-  one_taken p s x h = λ m k. (k, (s, (action.Print x, refl, h), refl))
+  one_taken p s x h = λ limit m k. (k, (s, (action.Print x, refl, h), refl))
 
   pub run_taken : (xs : List ℕ) (p : Performer S A) (s : S) → FoldsTo R p.sink (map action.Print xs) s → FoldsTo Takes p (map Print xs) (record p { sink = s })
   run_taken [] p s e = ap (with_sink p) e
@@ -62,7 +64,7 @@ module _ {S A : Type 0} (R Q : S → Action A → S → Type 0) where
   run_stopped own [] p s e = absurd e.0
   run_stopped own (x ∷ xs) p s (inl z) = absurd z.0
   run_stopped own (x ∷ xs) p s (inr (inl h)) =
-      ([], map Print (x ∷ xs), refl, inr (p, Print x, map Print xs, refl, refl, λ m k. inr (inl (action.Print x, refl, h))))
+      ([], map Print (x ∷ xs), refl, inr (p, Print x, map Print xs, refl, refl, λ limit m k. inr (inl (action.Print x, refl, h))))
   run_stopped own (x ∷ xs) p s (inr (inr (j, t, h))) =
       stops_then own Takes Refuses (Print x ∷ []) (map Print xs) p (record p { sink = j }) (record p { sink = s })
       (record p { sink = j }, one_taken p j x t, refl) (run_stopped own xs (record p { sink = j }) s h)

@@ -1,28 +1,49 @@
 -- What a parser was fed.
-use Rattle.std.specs.Prelude.{ℕ, List}
-use Rattle.esc_frame.specs.Stream.{LeadsTo, HasFailed, events}
+use Rattle.std.specs.Prelude.{ℕ, ◌≡◌, true, false, List, length, Option, None}
+use Rattle.esc_frame.specs.Limits.{Counts, is_within}
+use Rattle.esc_frame.specs.Stream.{LeadsToWithin, HasFailed, events_within}
+use Rattle.esc_frame.specs.declared.count.Count.{Count}
 use Rattle.esc_actions.specs.Meaning.{mode_from}
-use Rattle.esc_actions.specs.Values.{Mode, plain, in_sixel, in_termcap, in_short, entered}
+use Rattle.esc_actions.specs.Values.{Mode, plain, in_sixel, in_termcap, in_short, entered, data_count}
 use Rattle.esc_device.specs.Leads.{LeadsShort}
 use Rattle.esc_sixel.specs.Steps.{LeadsTo as LeadsSixel}
 use Rattle.esc_tcap.specs.Names.{LeadsTo as LeadsTermcap}
-use Rattle.escape_stream.specs.declared.kept.Kept.{Kept}
-use Rattle.escape_stream.specs.declared.kept.Kept.TheVariants as kept
+use Rattle.escape_stream.specs.declared.hooked.Hooked.{Hooked}
+use Rattle.escape_stream.specs.declared.hooked.Hooked.TheVariants as hooked
 use Rattle.escape_stream.specs.declared.parser.Parser.{Parser}
+use Rattle.escape_stream.specs.declared.unfinished.Unfinished.{Unfinished}
 
--- what is kept is what is unfinished
-abbrev pub Keeps : {A : Type 0} → Kept A → Mode → Type 0
-Keeps kept.Nothing plain = Unit {0}
-Keeps (kept.Sixel b) (in_sixel ps d) = LeadsSixel ps d b.value
-Keeps (kept.Termcap b) (in_termcap d) = LeadsTermcap d b
-Keeps (kept.Short b) (in_short ps is f d) = LeadsShort ps is f d b.value
-Keeps kept.Entered entered = Unit {0}
-Keeps _ _ = ⊥
+-- the count is that of this data, and within the limit
+abbrev pub CountsData : Option ℕ → Count → List ℕ → Type 0
+CountsData limit c d = Counts limit c (length d) × (is_within limit (length d) ≡ true)
 
--- the bytes may be what the parser was fed: it has not failed, and keeps what is unfinished of them
-unfoldable pub WasFed : {A : Type 0} → List ℕ → Parser A → Type 0
-WasFed s p = LeadsTo s p.framer × Keeps p.kept (mode_from plain (events s))
+-- what is hooked is what is unfinished, or nothing of it where its data is past the limit
+abbrev pub Keeps : {A : Type 0} → Option ℕ → Hooked A → Count → Mode → Type 0
+Keeps limit hooked.Nothing c plain = Unit {0}
+Keeps limit (hooked.Sixel b) c (in_sixel ps d) = LeadsSixel ps d b.value × CountsData limit c d
+Keeps limit (hooked.Termcap b) c (in_termcap d) = LeadsTermcap d b × CountsData limit c d
+Keeps limit (hooked.Short b) c (in_short ps is f d) = LeadsShort ps is f d b.value × CountsData limit c d
+Keeps limit hooked.Entered c entered = Unit {0}
+Keeps limit hooked.Over c m = is_within limit (data_count m) ≡ false
+Keeps limit _ c _ = ⊥
 
--- an earlier call of the parser was refused memory
+-- a string that begins, of which no data is counted yet
+abbrev pub Begins : {A : Type 0} → Option ℕ → Hooked A → Mode → Type 0
+Begins limit h m = (c : Count) → Counts limit c 0 → Keeps limit h c m
+
+-- what is kept, under this limit, is what is unfinished
+unfoldable pub Hooks : {A : Type 0} → Option ℕ → Unfinished A → Mode → Type 0
+Hooks limit u m = (u.limit ≡ limit) × Keeps limit u.hooked u.data m
+
+-- The bytes may be what the parser was fed, which keeps no more than the limit of a segment: it has not failed, and keeps what is
+-- unfinished of them.
+unfoldable pub WasFedWithin : {A : Type 0} → Option ℕ → List ℕ → Parser A → Type 0
+WasFedWithin limit s p = LeadsToWithin limit s p.framer × Hooks limit p.unfinished (mode_from plain (events_within limit s))
+
+-- the same without a limit
+abbrev pub WasFed : {A : Type 0} → List ℕ → Parser A → Type 0
+WasFed s p = WasFedWithin None s p
+
+-- an earlier call of the parser was refused memory, and nothing is kept
 abbrev pub IsBroken : {A : Type 0} → Parser A → Type 0
-IsBroken p = HasFailed p.framer
+IsBroken p = HasFailed p.framer × (p.unfinished.hooked ≡ hooked.Nothing)

@@ -2,6 +2,8 @@
 //! `--check` it says by its status whether the stream is in normal form.
 #![tactic(auto)]
 
+#[cfg(test)]
+mod faults;
 mod run;
 mod task;
 #[cfg(test)]

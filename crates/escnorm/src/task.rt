@@ -1,28 +1,46 @@
 //! What the program is asked to do.
 ghost use Rattle.std.specs.Prelude.{◌≡◌, map, string_bytes};
-ghost use Rattle.escnorm.specs.Tasks.{task_of};
+ghost use Rattle.escnorm.specs.Tasks.{limit_of, task_of};
 
-/// What the program is asked to do.
+use esc_below::scalar::read_usize;
+
+/// What the program is asked to do, where at most so many bytes are kept of a segment; `None` is no limit.
 #[derive(Clone, Copy)]
 pub enum Task {
     /// To write the input in normal form.
-    Normalise,
+    Normalise(Option<usize>),
     /// To say whether the input is in normal form.
-    Check,
+    Check(Option<usize>),
 }
 
 impl Task {
-    /// The task that these words, the program's arguments, name: no word the first, `--check` the second, and any others none.
+    /// The task that these words, the program's arguments, name: no word the first, `--check` the second, and either with
+    /// `--limit` and a number after it. Any others name none.
     pub fn of(words: &[String]) -> Option<Task>
         ensures { result ≡ task_of (map string_bytes words.now) }
     {
         let Some((first, rest)) = words.split_first() else {
-            return Some(Task::Normalise);
+            return Some(Task::Normalise(None));
         };
-        if rest.is_empty() && first.as_str() == "--check" {
-            Some(Task::Check)
-        } else {
-            None
+        if first.as_str() == "--check" {
+            if rest.is_empty() {
+                return Some(Task::Check(None));
+            }
+            return Some(Task::Check(Some(limit_in(rest)?)));
         }
+        Some(Task::Normalise(Some(limit_in(words)?)))
+    }
+}
+
+// The number after `--limit`, where these two words are all.
+fn limit_in(words: &[String]) -> Option<usize>
+    ensures { result ≡ limit_of (map string_bytes words.now) }
+{
+    let (first, rest) = words.split_first()?;
+    let (second, others) = rest.split_first()?;
+    if others.is_empty() && first.as_str() == "--limit" {
+        read_usize(second.as_bytes())
+    } else {
+        None
     }
 }

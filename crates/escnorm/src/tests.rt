@@ -1,6 +1,5 @@
 //! Runs of the program: what it writes, and the status it ends with.
 use crate::run::run;
-use refusing::Refusing;
 use std::alloc::{AllocError, Global};
 use std::io;
 use std::io::{ErrorKind, Read, Write};
@@ -57,9 +56,11 @@ impl Read for Counting {
     }
 }
 
-fn words(alloc: Global, word: &str) -> Result<Vec<String>, AllocError> {
+fn words(alloc: Global, line: &str) -> Result<Vec<String>, AllocError> {
     let mut words = Vec::new(alloc);
-    words.push(String::from_str(alloc, word)?)?;
+    for word in line.split(' ') {
+        words.push(String::from_str(alloc, word)?)?;
+    }
     Ok(words)
 }
 
@@ -75,14 +76,30 @@ fn writes_the_normal_form(rt: HostRuntime) {
 
 #[test]
 fn any_word_is_told_the_usage(rt: HostRuntime) -> Result<(), Fail> {
-    for word in ["--checks", "-h", ""] {
+    for word in [
+        "--checks",
+        "-h",
+        "",
+        "--check x",
+        "--limit",
+        "--limit -1",
+        "--limit 18446744073709551616",
+        "--limit 4 --check",
+        "--limit=4",
+        "--limit 4 5",
+        "--check --limit",
+        "--check --check",
+    ] {
         let words = words(rt.alloc(), word)?;
         let mut output = Vec::new(rt.alloc());
         let mut faults = Vec::new(rt.alloc());
         let status = run(rt.alloc(), &words, Broken, &mut output, &mut faults);
         assert_eq!(rt; status, 2);
         assert!(rt; output.is_empty());
-        assert_eq!(rt; faults.as_slice(), b"usage: escnorm [--check]\n".as_slice());
+        assert_eq!(rt;
+            faults.as_slice(),
+            b"usage: escnorm [--check] [--limit n]\n".as_slice()
+        );
         let status = run(rt.alloc(), &words, STREAM, Broken, Broken);
         assert_eq!(rt; status, 2);
     }
@@ -114,6 +131,36 @@ fn check_tells_a_text_from_its_normal_form(rt: HostRuntime) -> Result<(), Fail> 
         1
     );
     assert_eq!(rt; faults.as_slice(), b"escnorm: read fault\n".as_slice());
+    Ok(())
+}
+
+#[test]
+fn a_limit(rt: HostRuntime) -> Result<(), Fail> {
+    for line in ["--limit 4", "--limit +4", "--limit 004"] {
+        let words = words(rt.alloc(), line)?;
+        let mut output = Vec::new(rt.alloc());
+        let mut faults = Vec::new(rt.alloc());
+        let stream = b"\x1b]2;abc\x07d".as_slice();
+        let status = run(rt.alloc(), &words, stream, &mut output, &mut faults);
+        assert_eq!(rt; status, 0);
+        assert_eq!(rt; output.as_slice(), b"d".as_slice());
+        assert!(rt; faults.is_empty());
+    }
+    let words = words(rt.alloc(), "--check --limit 4")?;
+    for (stream, status) in [
+        (b"\x1b]2;abc\x07d".as_slice(), 3u8),
+        (b"d", 0),
+        (b"\x1b]2;ab\x1b\\", 0),
+        (b"\x1b]2;abc\x1b\\", 3),
+    ] {
+        let mut output = Vec::new(rt.alloc());
+        let mut faults = Vec::new(rt.alloc());
+        assert_eq!(rt;
+            run(rt.alloc(), &words, stream, &mut output, &mut faults),
+            status
+        );
+        assert!(rt; output.is_empty() && faults.is_empty());
+    }
     Ok(())
 }
 
@@ -155,31 +202,4 @@ fn a_flush_that_fails_is_a_write_fault(rt: HostRuntime) {
     let status = run(rt.alloc(), &[], STREAM, Unflushed, &mut faults);
     assert_eq!(rt; status, 1);
     assert_eq!(rt; faults.as_slice(), b"escnorm: write fault\n".as_slice());
-}
-
-#[test]
-fn refused_memory(rt: HostRuntime) {
-    let heap = Refusing::new(rt.alloc());
-    let mut told = 0usize;
-    let mut is_done = false;
-    for at in 1..100u64 {
-        heap.refuse_at(at);
-        let mut output = Vec::new(rt.alloc());
-        let mut faults = Vec::new(rt.alloc());
-        let status = run(&heap, &[], STREAM, &mut output, &mut faults);
-        if status == 0 {
-            assert_eq!(rt; output.as_slice(), TEXT);
-            if !heap.has_refused() {
-                is_done = true;
-                break;
-            }
-        } else {
-            told = told.saturating_add(1);
-            assert!(rt; heap.has_refused(), "at {at}");
-            assert_eq!(rt; status, 1, "at {at}");
-            assert!(rt; output.is_empty(), "at {at}");
-            assert_eq!(rt; faults.as_slice(), b"escnorm: out of memory\n".as_slice());
-        }
-    }
-    assert!(rt; is_done && told > 0);
 }

@@ -20,7 +20,8 @@ is_loud (command.RxvtExtension ts) = true
 is_loud _ = false
 
 -- A value that stays: no loud command, no `ESC k`, by which screen and tmux set a title, no short control and nothing of a
--- mode, which may pass on a title, and nothing that does not read back as itself, which is an escape sequence whose letter opens a string, and a truncated control sequence.
+-- mode, which may pass on a title, and nothing that does not read back as itself, which is an escape sequence whose letter opens
+-- a string, and a truncated control sequence.
 abbrev pub keeps : {A : Type 0} → Value A → Bool
 keeps (print c) = true
 keeps (string t) = true

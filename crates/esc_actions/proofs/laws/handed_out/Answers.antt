@@ -2,4 +2,4 @@ use Rattle.esc_actions.proofs.HandedOut.{handed_out}
 use Rattle.esc_actions.proofs.laws.handed_out.Goals as goal
 
 pub returns : goal.returns
-returns g c = λ s. handed_out _ c.lower_laws.ensures s
+returns g c = λ limit s. handed_out _ c.lower_laws.ensures limit s

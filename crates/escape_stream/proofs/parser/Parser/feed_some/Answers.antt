@@ -1,26 +1,28 @@
 use Rattle.std.proofs.Common.{sym, subst, take}
-use Rattle.escape_stream.proofs.Lists.{if_err_join, if_ok_more}
+use Rattle.std.proofs.lemmas.Result.{IfErr-at_err, IfOk-at_ok}
+use Rattle.escape_stream.proofs.Lists.{on_err_at}
 use Rattle.escape_stream.proofs.Yields.{performs_fed, performs_some}
 use Rattle.escape_stream.proofs.parser.Parser.feed_some.Goals as goal
-use Rattle.esc_frame.specs.Stream.{events}
-use Rattle.escape_stream.specs.Fed.{Keeps, WasFed}
+use Rattle.esc_frame.specs.Stream.{events_within}
+use Rattle.escape_stream.specs.Fed.{Hooks, WasFedWithin}
 use Rattle.escape_stream.specs.Given.{At}
 use Rattle.esc_actions.specs.Meaning.{mode_from}
 use Rattle.esc_actions.specs.Values.{plain, value_of}
 
-pub returns-clause-given : goal.returns-clause-given
-unfolding WasFed
-returns-clause-given g c s h =
-    if_ok_more _ _ c.parse_some-result.result (λ n w.
-    let r = performs_fed (At value_of g.S.Sink.takes) (At value_of g.S.Sink.refuses) s (take n c.args.bytes.now) _ c.parse_some-result.new.actor w.1
-    (subst (λ o. Keeps o (mode_from plain (events s))) (sym c.replace.ensures.value) h.1) in ((w.0, r.0), r.1))
-    (c.parse_some-result.ensures.given s h.0)
+pub returns-in-Ok-clause-given : goal.returns-in-Ok-clause-given
+unfolding WasFedWithin
+returns-in-Ok-clause-given g c = λ limit s h.
+    let w = IfOk-at_ok _ c.in-Ok.is (c.parse_some-result.ensures.given limit s h.0) in
+    let r = performs_fed (At value_of g.S.Sink.takes) (At value_of g.S.Sink.refuses) limit s (take c.in-Ok.taken c.args.bytes.now) _
+    c.parse_some-result.new.actor w.1
+    (subst (λ u. Hooks limit u (mode_from plain (events_within limit s))) (sym c.take.ensures.taken) h.1) in ((w.0, r.0), r.1)
 
-pub returns-clause-refused : goal.returns-clause-refused
-unfolding WasFed
-returns-clause-refused g c s h =
-    if_err_join _ _ _ c.parse_some-result.result _ (λ w.
-    performs_some (At value_of g.S.Sink.takes) (At value_of g.S.Sink.refuses) s c.args.bytes.now _ c.parse_some-result.new.actor w
-    (subst (λ o. Keeps o (mode_from plain (events s))) (sym c.replace.ensures.value) h.1))
-    c.parse_some-result.ensures.ends
-    (c.parse_some-result.ensures.refused s h.0)
+pub returns-in-Err-clause-refused : goal.returns-in-Err-clause-refused
+unfolding WasFedWithin
+returns-in-Err-clause-refused g c = λ limit s h.
+    let w = IfErr-at_err _ c.in-Err.is (c.parse_some-result.ensures.refused limit s h.0) in (
+      w.0,
+      (on_err_at _ c.in-Err.is c.parse_some-result.ensures.ends, c.take.ensures.nothing),
+      performs_some (At value_of g.S.Sink.takes) (At value_of g.S.Sink.refuses) limit s c.args.bytes.now _ c.parse_some-result.new.actor w.1
+          (subst (λ u. Hooks limit u (mode_from plain (events_within limit s))) (sym c.take.ensures.taken) h.1),
+    )

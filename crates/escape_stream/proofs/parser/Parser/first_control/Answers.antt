@@ -1,13 +1,13 @@
 use Rattle.std.proofs.Common.{take, refl}
 use Rattle.esc_frame.specs.Events.Event.{Execute}
-use Rattle.escape_stream.proofs.Yields.{keeps_by}
+use Rattle.escape_stream.proofs.Yields.{hooks_by}
 use Rattle.escape_stream.proofs.FirstsGiven.{control_found}
-use Rattle.escape_stream.specs.Fed.{WasFed}
+use Rattle.escape_stream.specs.Fed.{WasFedWithin}
 use Rattle.escape_stream.proofs.parser.Parser.first_control.Goals as goal
 
 pub returns-clause-given : goal.returns-clause-given
-unfolding WasFed
-returns-clause-given g c = λ s h.
-    let given = c.in_ok-first_control.ensures.given s h.0 in
-    control_found _ s c.args.bytes.now _ _ c.from_byte.result c.in_ok-first_control.ensures.count
-    (given.0, keeps_by _ s (take 1 c.args.bytes.now) (Execute _) given.1 refl h.1) given.1 c.from_byte.ensures
+unfolding WasFedWithin
+returns-clause-given g c = λ limit s h.
+    let given = c.in_ok-first_control.ensures.given limit s h.0 in
+    control_found _ limit s c.args.bytes.now _ _ c.from_byte.result c.in_ok-first_control.ensures.count
+    (given.0, hooks_by limit _ s (take 1 c.args.bytes.now) (Execute _) given.1 refl h.1) given.1 c.from_byte.ensures

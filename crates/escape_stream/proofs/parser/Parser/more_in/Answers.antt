@@ -5,13 +5,13 @@ use Rattle.escape_stream.proofs.Yields.{collects}
 use Rattle.escape_stream.proofs.parser.Parser.more_in.Goals as goal
 
 pub returns-clause-given : goal.returns-clause-given
-returns-clause-given g c s h =
-    let w = IfOk-at_ok _ c.in_ok-taken.was (c.feed_some-result.ensures.given s h) in
+returns-clause-given g c limit s h =
+    let w = IfOk-at_ok _ c.in_ok-taken.was (c.feed_some-result.ensures.given limit s h) in
     (w.0, collects _ _ _ w.1)
 
 pub returns-in_err-taken-clause-refused : goal.returns-in_err-taken-clause-refused
-returns-in_err-taken-clause-refused g c = λ s h.
-    let f = IfErr-at_err _ c.in_err-taken.was (c.feed_some-result.ensures.refused s h) in
+returns-in_err-taken-clause-refused g c = λ limit s h.
+    let f = IfErr-at_err _ c.in_err-taken.was (c.feed_some-result.ensures.refused limit s h) in
     let p = err_from_is_err_and c.from_residual.result c.from_residual.ensures.1 in
     if_err_is _ c.from_residual.result p.0 p.1 (p.2 ∙ f.0, f.1, stops_or_some _ _ _ _ _ _ f.2)
 
@@ -19,7 +19,7 @@ pub returns-clause-empty : goal.returns-clause-empty
 returns-clause-empty g c = λ e. ap (λ k. k.actions) (c.feed_some-result.ensures.empty e)
 
 pub returns-clause-quiet : goal.returns-clause-quiet
-returns-clause-quiet g c = λ s h. IfOk-at_ok _ c.in_ok-taken.was (c.feed_some-result.ensures.quiet s h)
+returns-clause-quiet g c = λ limit s h. IfOk-at_ok _ c.in_ok-taken.was (c.feed_some-result.ensures.quiet limit s h)
 
 pub returns-clause-failed : goal.returns-clause-failed
 returns-clause-failed g c = λ h.

@@ -1,9 +1,10 @@
 //! What is kept of a device control string while it is unfinished.
-ghost use Rattle.std.specs.Prelude.{◌≡◌, [], ◌∷◌, IfOk, option_to_list};
+ghost use Rattle.std.specs.Prelude.{◌≡◌, [], ◌∷◌, ℕ, IfOk, Option, option_to_list};
 ghost use Rattle.std.specs.Option.{option_map};
 ghost use Rattle.esc_actions.specs.Values.{Mode, closed_gives, opened, opened_gives, value_of};
 ghost use Rattle.esc_device.specs.declared.kind.StringKind.TheVariants as kind;
-ghost use Rattle.escape_stream.specs.Fed.{Keeps};
+ghost use Rattle.esc_frame.specs.declared.count.Count.{Count};
+ghost use Rattle.escape_stream.specs.Fed.{Begins, Keeps};
 
 use esc_actions::Action;
 use esc_below::Boxed;
@@ -12,9 +13,9 @@ use esc_sixel::SixelBuilder;
 use esc_tcap::GetTcapBuilder;
 use std::alloc::{AllocError, Allocator, Global};
 
-/// What is kept of the string that is unfinished.
+/// The string that was hooked and is unfinished.
 #[derive(Drop)]
-pub enum Kept<A: Allocator = Global> {
+pub enum Hooked<A: Allocator = Global> {
     /// No string is unfinished.
     Nothing,
     /// A sixel image.
@@ -25,32 +26,35 @@ pub enum Kept<A: Allocator = Global> {
     Short(Box<ShortBuilder<A>, A>),
     /// A mode, of which nothing has to be kept.
     Entered,
+    /// A string of which more data came than the limit allows, so that nothing is kept of it.
+    Over,
 }
 
 // What is kept of a string that begins.
+#[tactic(auto, using(crate::proofs::DataLimits::zero_within))]
 pub(crate) fn begin<A: Allocator + Copy>(
     alloc: A,
     kind: StringKind,
     byte: u8,
     params: &[i64],
     intermediates: &[u8],
-) -> Result<Kept<A>, AllocError>
-    ensures { IfOk result (λ k. Keeps k (opened kind byte params.now intermediates.now)) }
+) -> Result<Hooked<A>, AllocError>
+    ensures { (limit : Option ℕ) → IfOk result (λ h. Begins limit h (opened kind byte params.now intermediates.now)) }
 {
     match kind {
         StringKind::Sixel => match Box::new(alloc, SixelBuilder::new(alloc, params)) {
-            Ok(builder) => Ok(Kept::Sixel(builder)),
+            Ok(builder) => Ok(Hooked::Sixel(builder)),
             Err(_) => Err(AllocError),
         },
-        StringKind::Termcap => Ok(Kept::Termcap(GetTcapBuilder::new(alloc))),
+        StringKind::Termcap => Ok(Hooked::Termcap(GetTcapBuilder::new(alloc))),
         StringKind::Short => {
             let builder = ShortBuilder::new(alloc, params, intermediates, byte)?;
             match Box::new(alloc, builder) {
-                Ok(builder) => Ok(Kept::Short(builder)),
+                Ok(builder) => Ok(Hooked::Short(builder)),
                 Err(_) => Err(AllocError),
             }
         }
-        StringKind::Other => Ok(Kept::Entered),
+        StringKind::Other => Ok(Hooked::Entered),
     }
 }
 
@@ -70,24 +74,26 @@ pub(crate) fn header_action<A: Allocator + Copy>(
 }
 
 // The action of the end of a string, where it has one.
+#[tactic(auto, using(crate::proofs::DataLimits::over_gives))]
 pub(crate) fn end<A: Allocator + Copy>(
     alloc: A,
-    kept: Kept<A>,
+    hooked: Hooked<A>,
 ) -> Result<Option<Action<A>>, AllocError>
-    ensures { (m : Mode) → Keeps kept m → IfOk result (λ o. option_to_list (option_map value_of o) ≡ closed_gives m) }
+    ensures { (limit : Option ℕ) (count : Count) (m : Mode) → Keeps limit hooked count m
+        → IfOk result (λ o. option_to_list (option_map value_of o) ≡ closed_gives limit m) }
 {
-    match kept {
-        Kept::Nothing => Ok(None),
-        Kept::Sixel(builder) => {
+    match hooked {
+        Hooked::Nothing | Hooked::Over => Ok(None),
+        Hooked::Sixel(builder) => {
             let mut builder = Box::into_inner(builder);
             builder.finish()?;
             Ok(Some(Action::Sixel(Boxed::new(alloc, builder.sixel)?)))
         }
-        Kept::Termcap(builder) => Ok(Some(Action::XtGetTcap(builder.finish()?))),
-        Kept::Short(builder) => {
+        Hooked::Termcap(builder) => Ok(Some(Action::XtGetTcap(builder.finish()?))),
+        Hooked::Short(builder) => {
             let short = Boxed::new(alloc, Box::into_inner(builder).finish())?;
             Ok(Some(Action::DeviceControl(DeviceControlMode::ShortDeviceControl(short))))
         }
-        Kept::Entered => Ok(Some(Action::DeviceControl(DeviceControlMode::Exit))),
+        Hooked::Entered => Ok(Some(Action::DeviceControl(DeviceControlMode::Exit))),
     }
 }

@@ -1,0 +1,64 @@
+-- What a text is given by events whose actions are not kept.
+use Rattle.std.proofs.Common.{◌≡◌, ℕ, Bool, true, false, List, [], ◌∷◌, ◌++◌, ◌<◌, length, map, MatchResult, OnOk, Result, Ok, Err, refl, ap, sym, subst, inr}
+use Rattle.std.proofs.Common.{arith}
+use Rattle.std.specs.List.{FoldsTo}
+use Rattle.esc_below.specs.Csis.{csi_of, csi_text, unspecified}
+use Rattle.esc_below.specs.declared.csi.CSI.TheVariants as csi_variant
+use Rattle.esc_below.specs.declared.csi_param.CsiParam.{CsiParam}
+use Rattle.esc_frame.specs.Events.{Event, StopsAt}
+use Rattle.esc_frame.specs.Events.Event.{CsiDispatch, OscDispatch, Print}
+use Rattle.esc_osc.specs.Commands.{command_text}
+use Rattle.esc_osc.specs.Reading.{meaning as command_meant}
+use Rattle.escape_stream.specs.Fed.{Hooks}
+use Rattle.escape_stream.specs.Given.{At}
+use Rattle.escape_stream.specs.Spelled.{Adds, Spells}
+use Rattle.esc_actions.specs.Values.{csi, value_of}
+use Rattle.esc_actions.specs.declared.action.Action.TheVariants as action
+use Rattle.escape_stream.specs.declared.performer.Performer.{Performer}
+use Rattle.escape_stream.specs.declared.sink.Spell.{Spell}
+use Rattle.escape_stream.specs.declared.speller.Speller.{Speller}
+
+-- where a call may leave anything when it is refused
+pub hears_ok : {E : Type 0} (X Y : Type 0) (r : Result (Unit {0}) E) → (X → Y) → OnOk r X → MatchResult r (λ _. Y) (λ _. Unit {0})
+hears_ok X Y (Ok t) f h = f h
+hears_ok X Y (Err e) f h = tt
+
+pub match_both : {E : Type 0} (X Y P Q : Type 0) (r : Result (Unit {0}) E) → (X → Y) → Q → MatchResult r (λ _. X) (λ _. P) → MatchResult r (λ _. Y) (λ _. Q)
+match_both X Y P Q (Ok t) f q h = f h
+match_both X Y P Q (Err e) f q h = q
+
+abbrev wrap : {A : Type 0} → Performer (Spell A) A → Speller A
+wrap p = record { performer = p }
+
+pub sequence_spelled : {A : Type 0} (p q : Performer (Spell A) A) (es : List CsiParam) (more : Bool) (f : ℕ)
+    → csi_of es more f ≡ unspecified es more f ∷ [] → q.unfinished ≡ p.unfinished
+    → q.sink.text ≡ p.sink.text ++ csi_text (unspecified es more f) → q.sink.follows_string ≡ false → Spells p (CsiDispatch es more f) q
+sequence_spelled {A} p q es more f one same text plain = λ limit m h. (
+  subst (λ u. Hooks limit u m) (sym same) h,
+  subst (λ vs. FoldsTo (At value_of Adds) p.sink (map csi vs) q.sink) (sym one)
+      (q.sink, (action.CSI (csi_variant.Unspecified (record { params = es; parameters_truncated = more; control = f })), refl, (text, plain)), refl),
+)
+
+-- the actor that spells is a performer whose sink is a text
+pub unwrapped : {A : Type 0} (es : List Event) (a b : Speller A) → FoldsTo (λ p e q. Spells p.performer e q.performer) a es b
+    → FoldsTo Spells a.performer es b.performer
+unwrapped [] a b e = ap (λ x. x.performer) e
+unwrapped (e ∷ es) a b (j, t, h) = (j.performer, t, unwrapped es j b h)
+
+pub wrapped : {A : Type 0} (es : List Event) (p q : Performer (Spell A) A) → FoldsTo Spells p es q
+    → FoldsTo (λ a e b. Spells a.performer e b.performer) (wrap p) es (wrap q)
+wrapped [] p q e = ap wrap e
+wrapped (e ∷ es) p q (j, t, h) = (wrap j, t, wrapped es j q h)
+
+-- where a run of text is refused, its first character may be
+pub stopped_at_once : {A : Type 0} (xs : List ℕ) (a b : Speller A) → 0 < length xs
+    → StopsAt (false ≡ true) (λ p e q. Spells p.performer e q.performer) (λ p e q. Unit {0}) a (map Print xs) b
+stopped_at_once [] a b some = absurd (omega arith)
+stopped_at_once (x ∷ xs) a b some = ([], map Print (x ∷ xs), refl, inr (a, Print x, map Print xs, refl, refl, tt))
+
+pub command_spelled : {A : Type 0} (p q : Performer (Spell A) A) (ps : List (List ℕ)) → q.unfinished ≡ p.unfinished
+    → q.sink.text ≡ p.sink.text ++ command_text (command_meant {A = A} ps) → q.sink.follows_string ≡ true → Spells p (OscDispatch ps) q
+command_spelled {A} p q ps same text string = λ limit m h. (
+  subst (λ u. Hooks limit u m) (sym same) h,
+  (q.sink, (action.OperatingSystemCommand (command_meant ps), refl, (text, string)), refl),
+)

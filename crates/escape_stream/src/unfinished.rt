@@ -1,0 +1,125 @@
+//! The device control string that is unfinished.
+ghost use Rattle.std.specs.Prelude.{◌≡◌, ℕ, IfOk, OnOk, Option, min, option_to_list};
+ghost use Rattle.std.specs.Option.{option_map};
+ghost use Rattle.esc_frame.specs.Limits.{kept_within, most};
+ghost use Rattle.esc_actions.specs.Values.{Mode, closed_gives, data_count, opened, plain, taken, value_of};
+ghost use Rattle.esc_actions.specs.Groups.{is_entered};
+ghost use Rattle.escape_stream.specs.Fed.{Hooks};
+ghost use Rattle.escape_stream.specs.declared.hooked.Hooked.TheVariants as hooked;
+
+use crate::hooked::{Hooked, begin, end};
+use esc_actions::Action;
+use esc_device::StringKind;
+use esc_frame::Count;
+use std::alloc::{AllocError, Allocator, Global};
+use std::mem;
+
+/// What is kept of a device control string, as far as a limit allows.
+#[derive(Drop)]
+pub struct Unfinished<A: Allocator = Global> {
+    /// The string itself.
+    pub hooked: Hooked<A>,
+    /// How many bytes of data came.
+    pub data: Count,
+    /// How many are kept at most.
+    pub limit: Option<usize>,
+}
+
+impl<A: Allocator + Copy> Unfinished<A> {
+    /// Nothing is unfinished. Takes no memory.
+    #[tactic(auto, unfolding(crate::specs::Fed::Hooks))]
+    pub fn new(limit: Option<usize>) -> Unfinished<A>
+        ensures hooks { Hooks limit result plain }
+        ensures nothing { result.hooked ≡ hooked.Nothing }
+    {
+        Unfinished {
+            hooked: Hooked::Nothing,
+            data: Count::new(),
+            limit,
+        }
+    }
+
+    /// What is unfinished, in place of which nothing is.
+    pub fn take(&mut self) -> Unfinished<A>
+        ensures taken { result ≡ self.old }
+        ensures nothing { self.new.hooked ≡ hooked.Nothing }
+    {
+        let empty = Unfinished::new(self.limit);
+        mem::replace(self, empty)
+    }
+
+    /// A string begins.
+    #[tactic(auto, unfolding(crate::specs::Fed::Hooks))]
+    pub fn begin(
+        &mut self,
+        alloc: A,
+        kind: StringKind,
+        byte: u8,
+        params: &[i64],
+        intermediates: &[u8],
+    ) -> Result<(), AllocError>
+        ensures { (limit : Option ℕ) (m : Mode) → Hooks limit self.old m → OnOk result (Hooks limit self.new (opened kind byte params.now intermediates.now)) }
+    {
+        self.hooked = begin(alloc, kind, byte, params, intermediates)?;
+        self.data.clear();
+        Ok(())
+    }
+
+    /// Whether it is a mode, of which nothing has to be kept.
+    #[tactic(auto, unfolding(crate::specs::Fed::Hooks))]
+    #[inline]
+    pub fn is_entered(&self) -> bool
+        ensures { (limit : Option ℕ) (m : Mode) → Hooks limit self.now m → result ≡ is_entered m }
+    {
+        matches!(self.hooked, Hooked::Entered)
+    }
+
+    /// One more byte of its data. Past the limit all that was kept of it is dropped.
+    #[tactic(auto, unfolding(crate::specs::Fed::Hooks), using(crate::proofs::DataLimits::counts_more, crate::proofs::DataLimits::passed, crate::proofs::DataLimits::over_stays))]
+    #[inline]
+    pub fn push(&mut self, byte: u8) -> Result<(), AllocError>
+        ensures { (limit : Option ℕ) (m : Mode) → Hooks limit self.old m → OnOk result (Hooks limit self.new (taken m byte)) }
+    {
+        match &mut self.hooked {
+            Hooked::Nothing | Hooked::Entered | Hooked::Over => return Ok(()),
+            Hooked::Sixel(builder) => {
+                if self.data.add(self.limit, 1) {
+                    return builder.push(byte);
+                }
+            }
+            Hooked::Termcap(builder) => {
+                if self.data.add(self.limit, 1) {
+                    return builder.push(byte);
+                }
+            }
+            Hooked::Short(builder) => {
+                if self.data.add(self.limit, 1) {
+                    return builder.push(byte);
+                }
+            }
+        }
+        self.hooked = Hooked::Over;
+        Ok(())
+    }
+
+    /// The action of its end, where it has one. Nothing is unfinished then.
+    #[tactic(auto, unfolding(crate::specs::Fed::Hooks))]
+    pub fn end(&mut self, alloc: A) -> Result<Option<Action<A>>, AllocError>
+        ensures hooks { (limit : Option ℕ) (m : Mode) → Hooks limit self.old m → Hooks limit self.new plain }
+        ensures gives { (limit : Option ℕ) (m : Mode) → Hooks limit self.old m → IfOk result (λ o. option_to_list (option_map value_of o) ≡ closed_gives limit m) }
+    {
+        end(alloc, mem::replace(&mut self.hooked, Hooked::Nothing))
+    }
+
+    /// How many bytes of its data are kept; 0 once they passed the limit, and where none have to be.
+    #[tactic(auto, unfolding(crate::specs::Fed::Hooks), using(crate::proofs::DataLimits::zero_within))]
+    pub fn kept(&self) -> usize
+        ensures counts { (limit : Option ℕ) (m : Mode) → Hooks limit self.now m → result ≡ min (kept_within limit (data_count m)) most }
+        ensures nothing { self.now.hooked ≡ hooked.Nothing → result ≡ 0 }
+    {
+        match self.hooked {
+            Hooked::Nothing | Hooked::Entered | Hooked::Over => 0,
+            Hooked::Sixel(_) | Hooked::Termcap(_) | Hooked::Short(_) => self.data.value(),
+        }
+    }
+}
