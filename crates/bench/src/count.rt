@@ -131,6 +131,13 @@ impl VTActor for Count {
     }
 
     #[inline]
+    fn dcs_put_text(&mut self, bytes: &[u8]) -> Result<(), AllocError> {
+        self.device_bytes = self.device_bytes.wrapping_add(bytes.len() as u64);
+        self.add(sum_of(bytes));
+        Ok(())
+    }
+
+    #[inline]
     fn dcs_unhook(&mut self) -> Result<(), AllocError> {
         Ok(())
     }

@@ -110,6 +110,15 @@ impl VTActor for Images {
     }
 
     #[inline]
+    fn dcs_put_text(&mut self, bytes: &[u8]) -> Result<(), AllocError> {
+        match &mut self.open {
+            Open::Nothing => Ok(()),
+            Open::Sixel(builder) => builder.push_run(bytes),
+            Open::Query(builder) => builder.push_run(bytes),
+        }
+    }
+
+    #[inline]
     fn dcs_unhook(&mut self) -> Result<(), AllocError> {
         match mem::replace(&mut self.open, Open::Nothing) {
             Open::Nothing => {}

@@ -1,7 +1,7 @@
 //! How fast a stream is framed, parsed, written and normalised, and its images read.
 //!
 //! `bench [--counts] [MEASURE..] < STREAM` reads a stream whole and prints a line for each measure, `framing`, `parse`,
-//! `parse_first`, `parse_first_as_vec`, `encode`, `normalise` or `images` (all seven where none is named): its best speed of
+//! `parse_first`, `parse_first_as_vec`, `encode`, `normalise`, `images` or `endless` (all where none is named): its best speed of
 //! several passes in MB/s (10^6 bytes a second), and what it counted. `--counts` leaves out the speed, so that the output
 //! depends on the stream alone.
 #![tactic(auto)]
@@ -31,7 +31,7 @@ const PASSES: u32 = 5;
 fn main(rt: HostRuntime) -> Result<ExitCode> {
     let Some(wanted) = arguments(&rt)? else {
         eprintln!(rt;
-            "usage: bench [--counts] [framing | parse | parse_first | parse_first_as_vec | encode | normalise | images].."
+            "usage: bench [--counts] [framing | parse | parse_first | parse_first_as_vec | encode | normalise | images | endless].."
         )?;
         return Ok(ExitCode::from(2));
     };
@@ -71,7 +71,7 @@ fn report(rt: &HostRuntime, measure: Measure, input: &Input, with_speed: bool) -
         best = best.min(u64::try_from(nanoseconds).unwrap_or(u64::MAX));
     }
     if with_speed {
-        let speed = Speed::of(input.bytes.len(), best);
+        let speed = Speed::of(measure.bytes(input), best);
         println!(rt; "{measure} {speed} MB/s, {counted}")?;
     } else {
         println!(rt; "{measure} {counted}")?;

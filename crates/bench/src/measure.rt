@@ -28,11 +28,19 @@ pub enum Measure {
     Normalise,
     /// The images and termcap queries of a stream, read from its events.
     Images,
+    /// The actions of an operating system command that does not end, under a limit, counted.
+    Endless,
 }
+
+/// How often `endless` is given the stream.
+const TIMES: usize = 1000;
+
+/// The limit of `endless`, in bytes.
+const LIMIT: usize = 65_536;
 
 impl Measure {
     /// All measures, in the order in which they are taken.
-    pub const ALL: [Measure; 7] = [
+    pub const ALL: [Measure; 8] = [
         Measure::Framing,
         Measure::Parse,
         Measure::ParseFirst,
@@ -40,6 +48,7 @@ impl Measure {
         Measure::Encode,
         Measure::Normalise,
         Measure::Images,
+        Measure::Endless,
     ];
 
     /// The word that asks for it.
@@ -52,6 +61,7 @@ impl Measure {
             Measure::Encode => "encode",
             Measure::Normalise => "normalise",
             Measure::Images => "images",
+            Measure::Endless => "endless",
         }
     }
 
@@ -65,6 +75,17 @@ impl Measure {
             Measure::Encode => Ok(Counted::Bytes(encode(alloc, &input.actions)?.len())),
             Measure::Normalise => normal(alloc, &input.bytes),
             Measure::Images => images(alloc, &input.bytes),
+            Measure::Endless => endless(alloc, &input.bytes),
+        }
+    }
+
+    /// How many bytes a pass reads.
+    pub fn bytes(self, input: &Input) -> usize {
+        let bytes = input.bytes.len();
+        if self == Measure::Endless {
+            bytes.saturating_mul(TIMES)
+        } else {
+            bytes
         }
     }
 }
@@ -131,4 +152,14 @@ fn images(alloc: Global, bytes: &[u8]) -> Result<Counted> {
     let mut images = Images::new(alloc);
     parser.parse(bytes, &mut images)?;
     Ok(images.counted())
+}
+
+fn endless(alloc: Global, bytes: &[u8]) -> Result<Counted> {
+    let mut tally = Tally::new();
+    let mut parser = Parser::with_limit(alloc, LIMIT);
+    parser.parse(b"\x1b]0;", |action| tally.add(action))?;
+    for _ in 0..TIMES {
+        parser.parse(bytes, |action| tally.add(action))?;
+    }
+    Ok(tally.counted())
 }

@@ -2,7 +2,7 @@
 use crate::call::{Call, shown};
 use crate::fault::Fault;
 use crate::stream::Stream;
-use escape_stream::{Parser, Watched, encode, normalise, parse_pieces};
+use escape_stream::{Collect, Parser, Watched, encode, is_normal, normalise, parse_pieces};
 use refusing::Refusing;
 use std::alloc::Global;
 
@@ -11,34 +11,41 @@ use std::alloc::Global;
 pub enum Asked {
     /// A call of a new parser.
     Parser(Call),
+    /// `parse_into` of a new parser, with a sink that keeps the actions.
+    Sink,
     /// `parse_pieces` of the two halves of a stream.
     Halves,
     /// `encode` of the actions of a stream.
     Text,
     /// `normalise` of a stream.
     Normal,
+    /// `is_normal` of a stream.
+    Verdict,
 }
 
 const MOST_REQUESTS: u64 = 10_000;
 
 impl Asked {
     /// All that takes memory.
-    pub const ALL: [Asked; 6] = [
+    pub const ALL: [Asked; 8] = [
         Asked::Parser(Call::List),
         Asked::Parser(Call::First),
         Asked::Parser(Call::Prefix),
+        Asked::Sink,
         Asked::Halves,
         Asked::Text,
         Asked::Normal,
+        Asked::Verdict,
     ];
 
     /// Whether it takes memory for this stream.
     pub fn grows(self, stream: &Stream) -> bool {
         match self {
-            Asked::Parser(Call::List) | Asked::Halves => stream.actions != "[]",
+            Asked::Parser(Call::List) | Asked::Sink | Asked::Halves => stream.actions != "[]",
             Asked::Parser(Call::First) => begins_with_a_string(stream.actions),
             Asked::Parser(Call::Prefix) => stream.actions != "[]" && stream.is_finished,
             Asked::Text | Asked::Normal => !stream.text.is_empty(),
+            Asked::Verdict => !stream.bytes.is_empty(),
         }
     }
 
@@ -74,9 +81,11 @@ impl Asked {
     ) -> Result<String, Fault> {
         match self {
             Asked::Parser(call) => parsed(alloc, heap, at, call, stream),
+            Asked::Sink => given(alloc, heap, at, stream),
             Asked::Halves => read_in_halves(alloc, heap, at, stream),
             Asked::Text => written(alloc, heap, at, stream),
             Asked::Normal => normalised(alloc, heap, at, stream),
+            Asked::Verdict => judged(alloc, heap, at, stream),
         }
     }
 }
@@ -111,6 +120,22 @@ fn parsed(
         }
     }
     Ok(result)
+}
+
+// The Debug text of the actions that a sink is given, or of the error. Before an error a prefix of the stream's actions is given.
+fn given(alloc: Global, heap: &Refusing<Global>, at: u64, stream: &[u8]) -> Result<String, Fault> {
+    heap.refuse_at(0);
+    let all = shown(alloc, parse_pieces(heap, &[stream])?)?;
+    heap.refuse_at(at);
+    let (result, sink) = Parser::new(heap).parse_into(stream, Collect::new(heap));
+    let given = shown(alloc, sink.actions)?;
+    if result.is_ok() {
+        return Ok(given);
+    }
+    match given.strip_suffix("]") {
+        Some(given) if all.starts_with(given) => Ok(shown(alloc, result)?),
+        _ => Err(Fault("what came before a refusal is no prefix")),
+    }
 }
 
 // The Debug text of what `parse_pieces` returns of the two halves of the stream.
@@ -153,4 +178,10 @@ fn normalised(
         return Ok(shown(alloc, result)?);
     }
     Ok(format!(in alloc; "{result:?} {text:?}")?)
+}
+
+// The Debug text of what `is_normal` returns.
+fn judged(alloc: Global, heap: &Refusing<Global>, at: u64, stream: &[u8]) -> Result<String, Fault> {
+    heap.refuse_at(at);
+    Ok(shown(alloc, is_normal(heap, &mut Watched::new(stream)))?)
 }

@@ -1,6 +1,7 @@
 //! Checks of a table.
 use crate::fault::Fault;
 use crate::lengths::check_lengths;
+use crate::limited::check_limited;
 use crate::report::Report;
 use crate::row::Row;
 use crate::spellings::command_of;
@@ -26,9 +27,11 @@ pub fn check_table(alloc: Global, table: &str) -> Result<Report, AllocError> {
     Ok(report)
 }
 
-// A row is a stream, the parts of a command, calls of one parser, or streams of several lengths.
+// A row is a stream, or one that is read under a limit, the parts of a command, calls of one parser, or streams of several lengths.
 fn check_row(alloc: Global, row: Row, report: &mut Report) -> Result<(), Fault> {
-    if row.has("stream")? {
+    if row.has("limit")? {
+        check_limited(alloc, row, report)
+    } else if row.has("stream")? {
         check_stream(alloc, row, report)
     } else if row.has("parts")? {
         check_parts(alloc, row, report)

@@ -10,7 +10,7 @@ pub struct Line<'a> {
 }
 
 // The words that lines begin with.
-const WORDS: [&str; 15] = [
+const WORDS: [&str; 17] = [
     "row",
     "stream",
     "parts",
@@ -26,6 +26,8 @@ const WORDS: [&str; 15] = [
     "piece",
     "ends",
     "times",
+    "limit",
+    "keeps",
 ];
 
 impl<'a> Line<'a> {

@@ -10,6 +10,7 @@ mod call;
 mod check;
 mod fault;
 mod lengths;
+mod limited;
 mod line;
 mod readings;
 mod report;

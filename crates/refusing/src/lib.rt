@@ -1,9 +1,12 @@
-//! An allocator for tests: it refuses exactly one request, the one whose number it is told.
+//! What tests refuse with: an allocator that refuses exactly one request, the one whose number it is given, and a reader and
+//! a writer that are slow and fail at one call.
 //!
 //! A test runs what it tests once for each number from 1 on, until a run meets no refusal. So each place that asks for
 //! memory is refused in turn, and the test sees what the caller is told and what state is left.
 #![tactic(auto)]
 
+pub mod byte_reader;
+pub mod fixed_writer;
 mod tally;
 
 use crate::tally::Tally;

@@ -4,8 +4,6 @@
 #[cfg(test)]
 mod appending;
 #[cfg(test)]
-mod byte_reader;
-#[cfg(test)]
 mod characters;
 #[cfg(test)]
 mod coordinates;
@@ -14,7 +12,7 @@ mod encoding;
 #[cfg(test)]
 mod events;
 #[cfg(test)]
-mod fixed_writer;
+mod keeping;
 #[cfg(test)]
 mod long;
 #[cfg(test)]

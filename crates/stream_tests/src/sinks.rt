@@ -1,7 +1,7 @@
 //! Sinks by name, and the errors that a watched reader passes on.
-use crate::byte_reader::ByteReader;
 use escape_stream::{Action, Collect, First, ParseError, Parser, Spell, Watched};
 use refusing::Refusing;
+use refusing::byte_reader::ByteReader;
 use std::io::{ErrorKind, Read};
 use std::test::Fail;
 
