@@ -121,4 +121,4 @@ hook_is h x bytes is ns b f k e n i =
 -- what is kept of a header that is read
 pub read_kept : {A : Type 0} (limit : Option ℕ) (k : Kept A) (x : List ℕ) → KeepsText limit k (parameters_of x) → is_read limit x ≡ true
     → (k.bytes.items ≡ parameters_of x) × (is_dcs_header x ≡ true)
-read_kept limit k x h r = let p = and_parts (is_within limit (header_count x)) (is_dcs_header x) r in (h.kept (h.counts.over ∙ ap not p.0), p.1)
+read_kept limit k x h r = let p = and_parts (is_within limit (header_count x)) (is_dcs_header x) r in (h.kept (h.over ∙ ap not p.0), p.1)

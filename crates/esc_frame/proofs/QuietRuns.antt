@@ -1,6 +1,6 @@
 -- Runs that tell nothing, and the byte after them.
 use Rattle.std.proofs.Common.{ℕ, ◌≡◌, ◌+◌, ◌<◌, true, List, [], ◌∷◌, ◌++◌, length, take, drop, get_or, refl, Option}
-use Rattle.std.proofs.Common.{ap, sym, ◌∙◌, subst, length-drop, ◌-◌, arith}
+use Rattle.std.proofs.Common.{ap, sym, ◌∙◌, subst, length-drop, arith}
 use Rattle.std.specs.List.{FoldsTo}
 use Rattle.std.proofs.lemmas.List.{append-nil, take_more}
 use Rattle.esc_frame.specs.declared.classes.Class.{Class}

@@ -54,6 +54,12 @@ module _ {A : Type 0} (limit : Option ℕ) (m : Machine A) where
   osc_in (InData o x f d) e p h Q q = absurd (not_data state.Osc (is_read limit (strip x)) refl e)
   osc_in _ e p h Q q = absurd cc
 
+  escape_in : (u : Unfinished) → state.Escape ≡ state_of limit u → Holds limit m u → (Q : Unfinished → Type 0)
+      → ((x : List ℕ) → Holds limit m (InEscape x) → Q (InEscape x)) → Q u
+  escape_in (InEscape x) e h Q q = q x h
+  escape_in (InData o x f d) e h Q q = absurd (not_data state.Escape (is_read limit (strip x)) refl e)
+  escape_in _ e h Q q = absurd cc
+
   dcs_in : (u : Unfinished) → state.Dcs ≡ state_of limit u → Holds limit m u → (Q : Unfinished → Type 0)
       → ((o : Opener) (x : List ℕ) → Holds limit m (InDcs o x) → Q (InDcs o x)) → Q u
   dcs_in (InDcs o x) e h Q q = q o x h
@@ -82,6 +88,10 @@ module _ {A : Type 0} (limit : Option ℕ) (m : Machine A) where
   pub osc_only : (u : Unfinished) → m.state ≡ state.Osc → front_of m.pending ≡ [] → Holds limit m u → (Q : Unfinished → Type 0)
       → ((o : Opener) (ps : List Piece) → Holds limit m (InOsc o ps) → Q (InOsc o ps)) → Q u
   osc_only u s p h = osc_in u (sym s ∙ held limit m u h) p h
+
+  pub escape_only : (u : Unfinished) → m.state ≡ state.Escape → Holds limit m u → (Q : Unfinished → Type 0)
+      → ((x : List ℕ) → Holds limit m (InEscape x) → Q (InEscape x)) → Q u
+  escape_only u s h = escape_in u (sym s ∙ held limit m u h) h
 
   pub dcs_only : (u : Unfinished) → m.state ≡ state.Dcs → Holds limit m u → (Q : Unfinished → Type 0)
       → ((o : Opener) (x : List ℕ) → Holds limit m (InDcs o x) → Q (InDcs o x)) → Q u

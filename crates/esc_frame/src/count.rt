@@ -4,9 +4,9 @@
 ghost use Rattle.std.specs.Prelude.{◌≡◌, ◌+◌, ℕ, Option, min, not, true, false};
 ghost use Rattle.esc_frame.specs.Limits.{is_within, kept_within, most, Counts};
 
-// Whether `more` may be added to a count that is within the limit.
+/// Whether `more` may be added to a count that is within the limit.
 #[inline(always)]
-fn fits(limit: Option<usize>, count: usize, more: usize) -> bool
+pub fn fits(limit: Option<usize>, count: usize, more: usize) -> bool
     ensures { (n : ℕ) → is_within limit n ≡ true → count ≡ min n most → result ≡ is_within limit (n + more) }
 {
     match limit {

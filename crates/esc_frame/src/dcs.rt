@@ -146,7 +146,7 @@ fn keep<A: Allocator>(
 fn is_read<A: Allocator>(header: &DcsHeader, parameters: &Kept<A>) -> bool
     ensures { (limit : Option ℕ) (x : List ℕ) → KeepsText limit parameters.now (parameters_of x) → KeepsDcs header.now x → result ≡ is_read limit x }
 {
-    !parameters.count.is_over && header.is_formed()
+    !parameters.is_over && header.is_formed()
 }
 
 // The hook of a header that is read, told.

@@ -6,7 +6,7 @@ ghost use Rattle.std.specs.List.{list_all};
 ghost use Rattle.esc_frame.specs.Classes.{class_of, strip};
 ghost use Rattle.esc_frame.specs.Events.{Hears};
 ghost use Rattle.esc_frame.specs.Events.Event.{EscDispatch};
-ghost use Rattle.esc_frame.specs.Leads.{Holds};
+ghost use Rattle.esc_frame.specs.Leads.{Unfinished, Holds};
 ghost use Rattle.esc_frame.specs.Leads.Unfinished.{Ground, InEscape, InCsi};
 ghost use Rattle.esc_frame.specs.Machine.Calls.{Moved, Took, TookSome, Advances, Quietly, Stays};
 ghost use Rattle.esc_frame.specs.Machine.Keeps.{Keeps, KeepsBody};
@@ -54,6 +54,49 @@ impl<A: Allocator> Machine<A> {
                     self.dispatch_escape(b, actor)
                 }
             }
+        }
+    }
+
+    /// The `\` after an ESC that ended a string; else nothing.
+    #[inline(always)]
+    pub fn take_terminator<V: VTActor>(
+        &mut self,
+        limit: Option<usize>,
+        rest: &[u8],
+        actor: &mut V,
+    ) -> Result<usize>
+        requires { V.is_ready actor.old }
+        ensures took { (u : Unfinished) → Holds limit self.old u → Took limit V.takes V.refuses result u rest.now self.new actor.old actor.new }
+        ensures count { IfOk result (λ n. (n ≤ length rest.now) × V.is_ready actor.new) }
+    {
+        if rest.is_empty() || rest[0] != b'\\' {
+            return Ok(0);
+        }
+        if let State::Escape = self.state {
+            self.take_in_escape(limit, rest, actor)
+        } else {
+            Ok(0)
+        }
+    }
+
+    /// A byte in an escape sequence.
+    #[inline(always)]
+    pub fn take_in_escape<V: VTActor>(
+        &mut self,
+        limit: Option<usize>,
+        rest: &[u8],
+        actor: &mut V,
+    ) -> Result<usize>
+        requires some { 0 < length rest.now }
+        requires ready { V.is_ready actor.old }
+        requires state { self.old.state ≡ State.Escape }
+        ensures took { (u : Unfinished) → Holds limit self.old u → Took limit V.takes V.refuses result u rest.now self.new actor.old actor.new }
+        ensures quiet { (u : Unfinished) → Quietly limit result u rest.now }
+        ensures count { Advances V.is_ready result rest.now actor.new }
+    {
+        match self.in_escape(rest[0], classify(rest[0]), actor) {
+            Ok(()) => Ok(1),
+            Err(e) => Err(e),
         }
     }
 

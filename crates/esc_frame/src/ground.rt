@@ -150,7 +150,7 @@ impl<A: Allocator> Machine<A> {
                 if printed == rest.len() {
                     return Ok(printed);
                 }
-                match self.take_control(limit, &rest[printed..], actor) {
+                match self.take_string(limit, &rest[printed..], actor) {
                     Ok(n) => Ok(printed + n),
                     Err(e) => Err(e),
                 }
@@ -213,6 +213,28 @@ impl<A: Allocator> Machine<A> {
         match print_first(rest, actor) {
             Ok(0) => self.take_control(limit, rest, actor),
             Ok(n) => Ok(n),
+            Err(e) => Err(e),
+        }
+    }
+
+    // A byte, or a sequence that ESC begins, and the terminator of a command.
+    #[inline(always)]
+    fn take_string<V: VTActor>(
+        &mut self,
+        limit: Option<usize>,
+        rest: &[u8],
+        actor: &mut V,
+    ) -> Result<usize>
+        requires some { 0 < length rest.now }
+        requires ready { V.is_ready actor.old }
+        ensures took { Took limit V.takes V.refuses result Ground rest.now self.new actor.old actor.new }
+        ensures count { Advances V.is_ready result rest.now actor.new }
+    {
+        match self.take_control(limit, rest, actor) {
+            Ok(n) => match self.take_terminator(limit, &rest[n..], actor) {
+                Ok(more) => Ok(n + more),
+                Err(e) => Err(e),
+            },
             Err(e) => Err(e),
         }
     }

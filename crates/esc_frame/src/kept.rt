@@ -4,14 +4,15 @@
 ghost use Rattle.std.specs.Prelude.{◌++◌, ℕ, List, [], Option, OnOk};
 ghost use Rattle.esc_frame.specs.Machine.Keeps.{KeepsText};
 
-use crate::count::Count;
+use crate::count::fits;
 use std::alloc::{AllocError, Allocator};
 
-/// The bytes that are kept of a string, and their count; no byte and no memory once the count has passed the limit.
+/// The bytes that are kept of a string; no byte and no memory once there were more than the limit.
 #[derive(Drop)]
 pub struct Kept<A: Allocator> {
     pub bytes: Vec<u8, A>,
-    pub count: Count,
+    /// Whether there were more than the limit.
+    pub is_over: bool,
 }
 
 impl<A: Allocator> Kept<A> {
@@ -21,7 +22,7 @@ impl<A: Allocator> Kept<A> {
     {
         Kept {
             bytes: Vec::new(alloc),
-            count: Count::new(),
+            is_over: false,
         }
     }
 
@@ -30,7 +31,7 @@ impl<A: Allocator> Kept<A> {
         ensures { (limit : Option ℕ) → KeepsText limit self.new [] }
     {
         self.bytes.clear();
-        self.count.clear();
+        self.is_over = false;
     }
 
     /// Takes text more, each byte of which counts. Past the limit what was kept is let go, and its memory.
@@ -38,12 +39,13 @@ impl<A: Allocator> Kept<A> {
     pub fn push(&mut self, limit: Option<usize>, text: &[u8]) -> Result<(), AllocError>
         ensures { (t : List ℕ) → KeepsText limit self.old t → OnOk result (KeepsText limit self.new (t ++ text.now)) }
     {
-        if self.count.is_over {
+        if self.is_over {
             return Ok(());
         }
-        if self.count.add(limit, text.len()) {
+        if fits(limit, self.bytes.len(), text.len()) {
             self.bytes.extend_from_slice(text)
         } else {
+            self.is_over = true;
             self.bytes.clear();
             self.bytes.shrink_to_fit();
             Ok(())

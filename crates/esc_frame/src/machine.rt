@@ -106,7 +106,7 @@ impl<A: Allocator> Machine<A> {
         ensures { (limit : Option ℕ) (u : Unfinished) → Holds limit self.now u → result ≡ min (kept_open limit u) most }
     {
         match self.state {
-            State::Osc | State::Dcs | State::Apc => self.text.count.value(),
+            State::Osc | State::Dcs | State::Apc => self.text.bytes.len(),
             State::Ground | State::Escape | State::Csi | State::Data | State::Skip => 0,
         }
     }
@@ -224,7 +224,8 @@ impl<A: Allocator> Machine<A> {
             },
             State::Apc => self.take_in_apc(limit, rest, actor),
             State::Skip => self.take_in_skip(limit, rest, actor),
-            State::Escape | State::Dcs | State::Data => self.take_one(limit, rest, actor),
+            State::Escape => self.take_in_escape(limit, rest, actor),
+            State::Dcs | State::Data => self.take_one(limit, rest, actor),
         }
     }
 

@@ -1,20 +1,22 @@
 //! The machine in operating system commands.
 #![tactic(auto)]
 
-ghost use Rattle.std.specs.Prelude.{◌≡◌, ◌≤◌, ◌<◌, ◌++◌, ℕ, List, Option, [], true, length, take, slice_index, OnOk};
+ghost use Rattle.std.specs.Prelude.{◌≡◌, ◌≤◌, ◌<◌, ◌++◌, ℕ, List, Option, [], ◌+◌, true, length, take, slice_index, OnOk};
 ghost use Rattle.esc_frame.specs.Classes.{class_of};
 ghost use Rattle.esc_frame.specs.Events.{Takes};
 ghost use Rattle.esc_frame.specs.Leads.Unfinished.{InOsc};
+ghost use Rattle.esc_frame.specs.Limits.{is_within};
 ghost use Rattle.esc_frame.specs.Machine.Calls.{Moved, Took, TookSome, Advances, Quietly};
 ghost use Rattle.esc_frame.specs.Machine.Fronts.{front_of};
 ghost use Rattle.esc_frame.specs.Machine.Keeps.{KeepsText};
-ghost use Rattle.esc_frame.specs.Machine.Moves.{telling, ground_move, pair_move, inside, osc_pending_move};
+ghost use Rattle.esc_frame.specs.Machine.Moves.{telling, ground_move, pair_move, inside, osc_pending_move, osc_left, ends_osc};
 ghost use Rattle.esc_frame.specs.Machine.TextRuns.{IsTextRun};
 ghost use Rattle.esc_frame.specs.Segments.{Opener, Piece, text_of, osc_events};
 ghost use Rattle.esc_frame.specs.Sequences.{outcome};
 
 use crate::actor::VTActor;
 use crate::classes::{Class, Kind, classify};
+use crate::count::fits;
 use crate::kept::Kept;
 use crate::machine::{Machine, Result, State};
 use crate::parts::dispatch_osc;
@@ -147,10 +149,91 @@ impl<A: Allocator> Machine<A> {
         requires ready { V.is_ready actor.old }
         ensures { TookSome limit V.takes V.refuses V.is_ready result rest.now self.new actor.old actor.new }
     {
-        self.open(Kind::Osc);
-        match self.take_in_osc(limit, &rest[2..], actor) {
+        match self.take_body(limit, &rest[2..], actor) {
             Ok(n) => Ok(2 + n),
             Err(e) => Err(e),
+        }
+    }
+
+    // What follows the opener: a text that ends in these bytes is lent to the actor from there, any other is kept.
+    #[inline(always)]
+    fn take_body<V: VTActor>(
+        &mut self,
+        limit: Option<usize>,
+        rest: &[u8],
+        actor: &mut V,
+    ) -> Result<usize>
+        requires some { 0 < length rest.now }
+        requires ready { V.is_ready actor.old }
+        ensures took { (o : Opener) → Took limit V.takes V.refuses result (InOsc o []) rest.now self.new actor.old actor.new }
+        ensures quiet { (o : Opener) → Quietly limit result (InOsc o []) rest.now }
+        ensures count { Advances V.is_ready result rest.now actor.new }
+    {
+        let run = units_run(rest);
+        if run < rest.len() && fits(limit, 0, run) {
+            let class = classify(rest[run]);
+            if ends_osc(class) {
+                return self.take_lent(rest, run, class, actor);
+            }
+        }
+        self.open(Kind::Osc);
+        self.take_units(limit, rest, run, actor)
+    }
+
+    // A text, and the byte of this class that ends it.
+    #[inline(always)]
+    fn take_lent<V: VTActor>(
+        &mut self,
+        rest: &[u8],
+        run: usize,
+        class: Class,
+        actor: &mut V,
+    ) -> Result<usize>
+        requires few { run < length rest.now }
+        requires passes { IsTextRun (take run rest.now) }
+        requires class { class ≡ class_of (slice_index rest.now run) }
+        requires ends { ends_osc class ≡ true }
+        requires ready { V.is_ready actor.old }
+        ensures took { (limit : Option ℕ) (o : Opener) → is_within limit run ≡ true → Took limit V.takes V.refuses result (InOsc o []) rest.now self.new actor.old actor.new }
+        ensures quiet { (limit : Option ℕ) (o : Opener) → Quietly limit result (InOsc o []) rest.now }
+        ensures count { Advances V.is_ready result rest.now actor.new }
+    {
+        match self.end_lent(&rest[..run], rest[run], class, actor) {
+            Ok(()) => Ok(run + 1),
+            Err(e) => Err(e),
+        }
+    }
+
+    // What ends a command whose text is lent.
+    fn end_lent<V: VTActor>(
+        &mut self,
+        text: &[u8],
+        b: u8,
+        class: Class,
+        actor: &mut V,
+    ) -> Result<()>
+        requires { V.is_ready actor.old }
+        ensures moved { (limit : Option ℕ) → is_within limit (length text.now) ≡ true → Moved limit true V.takes V.refuses result (telling (osc_events limit text.now) (osc_left b class)) self.new actor.old actor.new }
+        ensures ready { OnOk result (V.is_ready actor.new) }
+    {
+        match dispatch_osc(self.text.bytes.allocator(), text, actor) {
+            Ok(()) => self.leave_lent(b, class, actor),
+            Err(e) => Err(e),
+        }
+    }
+
+    // A bell, or a breaker.
+    fn leave_lent<V: VTActor>(&mut self, b: u8, class: Class, actor: &mut V) -> Result<()>
+        requires { V.is_ready actor.old }
+        ensures moved { (limit : Option ℕ) → Moved limit true V.takes V.refuses result (osc_left b class) self.new actor.old actor.new }
+        ensures ready { OnOk result (V.is_ready actor.new) }
+    {
+        if let Class::Bell = class {
+            self.state = State::Ground;
+            self.pending = Pending::Nothing;
+            Ok(())
+        } else {
+            self.in_ground(b, class, actor)
         }
     }
 
@@ -171,6 +254,28 @@ impl<A: Allocator> Machine<A> {
         ensures count { Advances V.is_ready result rest.now actor.new }
     {
         let run = units_run(rest);
+        self.take_units(limit, rest, run, actor)
+    }
+
+    // A run of units, which is kept, and the byte after them.
+    #[inline(always)]
+    fn take_units<V: VTActor>(
+        &mut self,
+        limit: Option<usize>,
+        rest: &[u8],
+        run: usize,
+        actor: &mut V,
+    ) -> Result<usize>
+        requires some { 0 < length rest.now }
+        requires few { run ≤ length rest.now }
+        requires passes { IsTextRun (take run rest.now) }
+        requires ready { V.is_ready actor.old }
+        requires state { self.old.state ≡ State.Osc }
+        requires whole { front_of self.old.pending ≡ [] }
+        ensures took { (o : Opener) (ps : List Piece) → KeepsText limit self.old.text (text_of ps) → Took limit V.takes V.refuses result (InOsc o ps) rest.now self.new actor.old actor.new }
+        ensures quiet { (o : Opener) (ps : List Piece) → Quietly limit result (InOsc o ps) rest.now }
+        ensures count { Advances V.is_ready result rest.now actor.new }
+    {
         match self.text.push(limit, &rest[..run]) {
             Ok(()) => self.take_after_text(limit, rest, run, actor),
             Err(e) => Err(e),
@@ -206,15 +311,38 @@ impl<A: Allocator> Machine<A> {
     }
 }
 
+// Whether a byte of this class ends an operating system command.
+#[inline(always)]
+fn ends_osc(class: Class) -> bool
+    ensures { result ≡ ends_osc class }
+{
+    match class {
+        Class::Bell
+        | Class::Cancel
+        | Class::Escape
+        | Class::RawControl
+        | Class::RawOpens(_)
+        | Class::RawTerminator => true,
+        Class::Plain
+        | Class::High
+        | Class::Lead
+        | Class::Intermediate
+        | Class::Parameter
+        | Class::Opens(_)
+        | Class::Final
+        | Class::Delete => false,
+    }
+}
+
 // The text of an operating system command, told where it is within the limit.
 fn tell_osc<A: Allocator, V: VTActor>(text: &Kept<A>, actor: &mut V) -> Result<()>
     requires { V.is_ready actor.old }
     ensures told { (limit : Option ℕ) (t : List ℕ) → KeepsText limit text.now t → Takes true V.takes V.refuses result actor.old (osc_events limit t) actor.new }
     ensures ready { OnOk result (V.is_ready actor.new) }
 {
-    if text.count.is_over {
+    if text.is_over {
         Ok(())
     } else {
-        dispatch_osc(&text.bytes, actor)
+        dispatch_osc(text.bytes.allocator(), &text.bytes, actor)
     }
 }

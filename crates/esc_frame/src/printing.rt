@@ -10,7 +10,7 @@ ghost use Rattle.esc_frame.specs.Machine.Moves.{IsStill};
 
 use crate::actor::VTActor;
 use crate::machine::Result;
-use crate::scans::text_run;
+use crate::scans::ascii_run;
 use crate::sequence::{ahead, of_four, of_three, of_two};
 
 /// The character that comes first and is whole, and its length; `None` where there is none, or where that is not seen at
@@ -277,7 +277,7 @@ fn print_text<V: VTActor>(rest: &[u8], actor: &mut V) -> Result<usize>
     requires ready { V.is_ready actor.old }
     ensures { Stays false V.takes V.refuses V.is_ready result rest.now actor.old actor.new }
 {
-    let run = text_run(rest);
+    let run = ascii_run(rest);
     match actor.print_text(&rest[..run]) {
         Ok(()) => Ok(run),
         Err(e) => Err(e),

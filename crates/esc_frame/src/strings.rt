@@ -18,7 +18,7 @@ use crate::actor::VTActor;
 use crate::classes::Class;
 use crate::kept::Kept;
 use crate::machine::{Machine, Result, State};
-use crate::scans::text_run;
+use crate::scans::ascii_run;
 use std::alloc::Allocator;
 
 impl<A: Allocator> Machine<A> {
@@ -103,7 +103,7 @@ impl<A: Allocator> Machine<A> {
         ensures quiet { (u : Unfinished) → Holds limit self.old u → Quietly limit result u rest.now }
         ensures count { Advances V.is_ready result rest.now actor.new }
     {
-        let run = text_run(rest);
+        let run = ascii_run(rest);
         if run == 0 {
             return self.take_one(limit, rest, actor);
         }
@@ -128,7 +128,7 @@ impl<A: Allocator> Machine<A> {
         ensures quiet { (u : Unfinished) → Holds limit self.old u → Quietly limit result u rest.now }
         ensures count { Advances V.is_ready result rest.now actor.new }
     {
-        let run = text_run(rest);
+        let run = ascii_run(rest);
         if run == 0 {
             return self.take_one(limit, rest, actor);
         }
@@ -143,7 +143,7 @@ fn tell_apc<A: Allocator, V: VTActor>(text: &Kept<A>, actor: &mut V) -> Result<(
     ensures told { (limit : Option ℕ) (t : List ℕ) → KeepsText limit text.now t → Takes true V.takes V.refuses result actor.old (apc_events limit t) actor.new }
     ensures ready { OnOk result (V.is_ready actor.new) }
 {
-    if text.count.is_over {
+    if text.is_over {
         Ok(())
     } else {
         actor.apc_dispatch(&text.bytes)

@@ -11,7 +11,7 @@ use Rattle.esc_frame.specs.declared.body.CsiBody.{CsiBody}
 use Rattle.esc_frame.specs.declared.body.Form.{Form}
 use Rattle.esc_frame.specs.declared.header.DcsHeader.{DcsHeader}
 use Rattle.esc_frame.specs.declared.body.Form.TheVariants as form
-use Rattle.esc_frame.specs.Limits.{Counts}
+use Rattle.esc_frame.specs.Limits.{is_within}
 use Rattle.esc_frame.specs.Bodies.{is_digit, held, is_marker, is_csi_parameter, is_dcs_parameter, is_intermediate_byte}
 
 -- the first two of these bytes are kept, and whether there are more
@@ -84,9 +84,10 @@ KeepsBody e x = KeepsEntries e.entries x × (e.form ≡ form_from form.Empty x)
 
 -- this text is kept, each byte of which counts; or nothing, not even memory, where it is past the limit
 pub record KeepsText {A : Type 0} (limit : Option ℕ) (k : Kept A) (text : List ℕ) : Type 0 where
-  pub counts : Counts limit k.count (length text)
-  pub kept : k.count.is_over ≡ false → k.bytes.items ≡ text
-  pub freed : k.count.is_over ≡ true → vec_capacity k.bytes ≡ 0
+  pub over : k.is_over ≡ not (is_within limit (length text))
+  pub kept : k.is_over ≡ false → k.bytes.items ≡ text
+  pub none : k.is_over ≡ true → k.bytes.items ≡ []
+  pub freed : k.is_over ≡ true → vec_capacity k.bytes ≡ 0
 
 -- the parameter bytes of a DCS's header, and the others
 abbrev pub parameters_of : List ℕ → List ℕ

@@ -1,7 +1,7 @@
 -- The byte machine: what one byte makes of what is unfinished, and what it tells. Only private contracts cite it.
 use Rattle.std.specs.Prelude.{ℕ, ◌≡◌, ◌<◌, Bool, true, false, ◌||◌, ◌&&◌, if◌then◌else◌, List, [], ◌∷◌, ◌++◌, take, Option, None}
 use Rattle.esc_frame.specs.declared.classes.Class.{Class}
-use Rattle.esc_frame.specs.declared.classes.Class.TheVariants.{Escape, Opens, RawOpens, High, Lead}
+use Rattle.esc_frame.specs.declared.classes.Class.TheVariants.{Escape, Opens, RawOpens, High, Lead, Bell}
 use Rattle.esc_frame.specs.declared.classes.Kind.{Kind}
 use Rattle.esc_frame.specs.declared.classes.Kind.TheVariants as kind
 use Rattle.esc_frame.specs.declared.sequence.Outcome.{Outcome}
@@ -88,6 +88,15 @@ goes_on limit u b c = (u, [])
 -- a byte in a sequence or a string: a breaker breaks it off, and does what it does in ground
 abbrev pub inside : Option ℕ → Unfinished → ℕ → Class → Move
 inside limit u b c = if is_breaker c then telling (leaving limit u) (ground_move b c) else goes_on limit u b c
+
+-- a byte that ends an operating system command: a bell, which belongs to it, or a breaker
+abbrev pub ends_osc : Class → Bool
+ends_osc Bell = true
+ends_osc c = is_breaker c
+
+abbrev pub osc_left : ℕ → Class → Move
+osc_left b Bell = (Ground, [])
+osc_left b c = ground_move b c
 
 -- a byte after a prefix of a sequence
 abbrev pub pending_move : List ℕ → ℕ → Class → Outcome → Move

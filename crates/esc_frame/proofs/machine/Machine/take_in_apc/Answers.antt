@@ -11,14 +11,14 @@ use Rattle.esc_frame.proofs.machine.Machine.take_in_apc.Goals as goal
 
 pub returns-in-Ok-clause-took : goal.returns-in-Ok-clause-took
 returns-in-Ok-clause-took g c = λ u h.
-    apc_run c.args.limit c.args.self.now (take c.text_run-run.result c.args.rest.now)
-    (prefix_passes c.args.rest.now c.text_run-run.result c.text_run-run.ensures.run) u c.requires.state h
+    apc_run c.args.limit c.args.self.now (take c.ascii_run-run.result c.args.rest.now)
+    (prefix_passes c.args.rest.now c.ascii_run-run.result c.ascii_run-run.ensures.run) u c.requires.state h
     (λ v es. Holds c.args.limit (record c.args.self.now { text = c.push.new.self }) v × FoldsTo g.V.VTActor.takes c.args.actor.now es c.args.actor.now)
     (λ o d k e. ((c.requires.state, subst (KeepsText c.args.limit c.push.new.self) e (c.in-Ok.ensures (those is_text d) k)), refl))
 
 pub returns-in-Ok-clause-quiet : goal.returns-in-Ok-clause-quiet
 returns-in-Ok-clause-quiet g c = λ u h.
-    apc_still c.args.limit c.args.self.now u c.args.rest.now c.text_run-run.result c.text_run-run.ensures.run h c.requires.state
+    apc_still c.args.limit c.args.self.now u c.args.rest.now c.ascii_run-run.result c.ascii_run-run.ensures.run h c.requires.state
 
 pub returns-in-Err-clause-took : goal.returns-in-Err-clause-took
 returns-in-Err-clause-took g c = λ u h.

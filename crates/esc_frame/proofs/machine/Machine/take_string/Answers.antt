@@ -1,0 +1,20 @@
+use Rattle.std.proofs.Common.{take, refl}
+use Rattle.esc_frame.specs.Leads.Unfinished.{Ground}
+use Rattle.esc_frame.specs.Machine.Moves.{after_all}
+use Rattle.esc_frame.proofs.ManyBytes.{ran_took, ran_ends}
+use Rattle.esc_frame.proofs.machine.Machine.take_string.Goals as goal
+
+pub returns-in-Ok-take_terminator-clause-took : goal.returns-in-Ok-take_terminator-clause-took
+returns-in-Ok-take_terminator-clause-took g c =
+    let so = c.in-Ok.ensures.0 in
+    let u = after_all Ground (take c.in-Ok.n c.args.rest.now) in
+    ran_took c.args.limit g.V.VTActor.takes g.V.VTActor.refuses Ground u c.args.rest.now c.in-Ok.n c.args.actor.now _ _ refl so.1 c.take_terminator.new.self
+    c.in-Ok-take_terminator.more
+    (c.in-Ok-take_terminator.ensures.took u so.0)
+
+pub returns-in-Err-take_terminator-clause-took : goal.returns-in-Err-take_terminator-clause-took
+returns-in-Err-take_terminator-clause-took g c =
+    let so = c.in-Ok.ensures.0 in
+    let u = after_all Ground (take c.in-Ok.n c.args.rest.now) in
+    ran_ends c.args.limit g.V.VTActor.takes g.V.VTActor.refuses Ground u c.args.rest.now c.in-Ok.n c.args.actor.now _ _ refl so.1
+    (c.in-Err-take_terminator.ensures.took u so.0)
