@@ -1,6 +1,7 @@
 //! How a short device control is read, byte by byte.
-ghost use Rattle.std.specs.Prelude.{◌≡◌, ◌++◌, ◌∷◌, [], ℕ, ℤ, List, IfOk, OnOk, OnErr};
-ghost use Rattle.esc_device.specs.Leads.{LeadsShort};
+ghost use Rattle.std.specs.Prelude.{◌≡◌, ◌<◌, ◌++◌, ◌∷◌, [], ℕ, ℤ, List, IfOk, OnOk, OnErr, length, take};
+ghost use Rattle.std.specs.List.{FoldsTo};
+ghost use Rattle.esc_device.specs.Leads.{LeadsShort, Pushes};
 ghost use Rattle.esc_device.specs.Values.{short_of};
 
 use crate::short::ShortDeviceControl;
@@ -45,6 +46,21 @@ impl<A: Allocator> ShortBuilder<A> {
         ensures err { OnErr result (self.new ≡ self.old) }
     {
         self.short.content.push(byte)
+    }
+
+    /// These bytes of the data, as `push` of each takes them. The error is that memory was refused; the builder has then taken
+    /// those before the byte that needed it, and no more.
+    pub fn push_run(&mut self, bytes: &[u8]) -> Result<(), AllocError>
+        ensures each { OnOk result (FoldsTo Pushes self.old bytes.now self.new) }
+        ensures ok { (ps : List ℤ) (is : List ℕ) (f : ℕ) (d : List ℕ) → LeadsShort ps is f d self.old
+            → OnOk result (LeadsShort ps is f (d ++ bytes.now) self.new) }
+        ensures err { (ps : List ℤ) (is : List ℕ) (f : ℕ) (d : List ℕ) → LeadsShort ps is f d self.old
+            → OnErr result ((n : ℕ) × (n < length bytes.now) × LeadsShort ps is f (d ++ take n bytes.now) self.new) }
+    {
+        for byte in bytes {
+            self.push(*byte)?;
+        }
+        Ok(())
     }
 
     /// The control of the header and all bytes. Takes no memory.

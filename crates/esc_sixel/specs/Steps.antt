@@ -85,3 +85,7 @@ HoldsOpen (In m r) i p = (i ≡ Some m) × Keeps p r
 -- a builder with these parameters that was pushed these bytes
 unfoldable pub LeadsTo : {A : Type 0} → List ℤ → List ℕ → SixelBuilder A → Type 0
 LeadsTo ps s b = (b.sixel ≡ sixel_of ps (closed_of Closed s)) × HoldsOpen (open_of Closed s) b.introducer b.parameters
+
+-- a byte pushed to p makes q of it
+abbrev pub Pushes : {A : Type 0} → SixelBuilder A → ℕ → SixelBuilder A → Type 0
+Pushes p b q = (ps : List ℤ) (s : List ℕ) → LeadsTo ps s p → LeadsTo ps (s ++ b ∷ []) q

@@ -1,12 +1,12 @@
 //! How a sixel string is read, byte by byte.
 ghost use Rattle.std.specs.Prelude.{◌≡◌, ◌<◌, ℕ, ℤ, length, take, List, [], ◌∷◌, ◌++◌, OnOk, OnErr, Some, None};
-ghost use Rattle.std.specs.List.{slice_get};
+ghost use Rattle.std.specs.List.{FoldsTo, slice_get};
 ghost use Rattle.esc_sixel.specs.Classes.{class_of};
 ghost use Rattle.esc_sixel.specs.Items.{items, OfRaster, OfColor};
 ghost use Rattle.esc_sixel.specs.Meaning.{sixel_of, header_pan, is_one};
 ghost use Rattle.esc_sixel.specs.Runs.{Keeps};
 ghost use Rattle.esc_sixel.specs.declared.class.Class.TheVariants.{Pixels};
-ghost use Rattle.esc_sixel.specs.Steps.{add_to, ended, alone, LeadsTo, HoldsOpen, In, closed_by, open_by, opened, with_item, with_items};
+ghost use Rattle.esc_sixel.specs.Steps.{add_to, ended, alone, LeadsTo, HoldsOpen, In, Pushes, closed_by, open_by, opened, with_item, with_items};
 
 use crate::class::{Class, classify};
 use crate::commands::{color, repeat, signed, sizes};
@@ -107,6 +107,7 @@ impl<A: Allocator> SixelBuilder<A> {
     /// These bytes of the data, as `push` of each takes them. The error is that memory was refused; the builder has then taken
     /// those before the byte that needed it, and no more.
     pub fn push_run(&mut self, bytes: &[u8]) -> Result<(), AllocError>
+        ensures each { OnOk result (FoldsTo Pushes self.old bytes.now self.new) }
         ensures ok { (ps : List ℤ) (s : List ℕ) → LeadsTo ps s self.old → OnOk result (LeadsTo ps (s ++ bytes.now) self.new) }
         ensures err { (ps : List ℤ) (s : List ℕ) → LeadsTo ps s self.old
             → OnErr result ((n : ℕ) × (n < length bytes.now) × LeadsTo ps (s ++ take n bytes.now) self.new) }

@@ -1,2 +1,3 @@
 pub mod LossyTexts
 pub mod ReadsBack
+pub mod Runs

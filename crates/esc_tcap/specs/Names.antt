@@ -39,6 +39,10 @@ query_text ns = 0x1b ∷ codes "P+q" ++ names_text ns
 unfoldable pub LeadsTo : {A : Type 0} → List ℕ → GetTcapBuilder A → Type 0
 LeadsTo s b = b.bytes ≡ s
 
+-- a byte pushed to p makes q of it
+abbrev pub Pushes : {A : Type 0} → GetTcapBuilder A → ℕ → GetTcapBuilder A → Type 0
+Pushes p b q = (s : List ℕ) → LeadsTo s p → LeadsTo (s ++ b ∷ []) q
+
 -- texts
 abbrev pub AreTexts : List (List ℕ) → Type 0
 AreTexts [] = Unit {0}

@@ -1,11 +1,12 @@
 //! How a termcap query is read, byte by byte.
-ghost use Rattle.std.specs.Prelude.{◌≡◌, ◌<◌, length, take, ◌++◌, ◌∷◌, [], ℕ, List, OnOk, OnErr, IfOk, map, ◌==◌};
-ghost use Rattle.std.specs.List.{slice_split};
-ghost use Rattle.esc_tcap.specs.Names.{LeadsTo, names_of, name_of};
+ghost use Rattle.std.specs.Prelude.{◌≡◌, ◌<◌, length, ◌++◌, ◌∷◌, [], ℕ, List, OnOk, OnErr, IfOk, map, ◌==◌};
+ghost use Rattle.std.specs.List.{FoldsTo, slice_split};
+ghost use Rattle.esc_tcap.specs.Names.{LeadsTo, Pushes, names_of, name_of};
 
 use crate::name::read_name;
 use esc_below::{Items, Text};
 use std::alloc::{AllocError, Allocator, Global};
+use std::mem;
 
 /// Reads the data of a termcap query: the names of capabilities, with `;` between them. No data is one empty name.
 ///
@@ -38,16 +39,19 @@ impl<A: Allocator + Copy> GetTcapBuilder<A> {
         self.bytes.push(byte)
     }
 
-    /// These bytes of the data, as `push` of each takes them. The error is that memory was refused; the builder has then taken
-    /// those before the byte that needed it, and no more.
+    /// These bytes of the data, as `push` of each takes them. The error is that memory was refused, and the builder stays as it
+    /// was; of no bytes it never comes.
+    #[tactic(auto, unfolding(crate::specs::Names::LeadsTo), using(crate::proofs::Runs::appended))]
     pub fn push_run(&mut self, bytes: &[u8]) -> Result<(), AllocError>
+        ensures each { OnOk result (FoldsTo Pushes self.old bytes.now self.new) }
         ensures ok { (s : List ℕ) → LeadsTo s self.old → OnOk result (LeadsTo (s ++ bytes.now) self.new) }
-        ensures err { (s : List ℕ) → LeadsTo s self.old → OnErr result ((n : ℕ) × (n < length bytes.now) × LeadsTo (s ++ take n bytes.now) self.new) }
+        ensures err { OnErr result ((0 < length bytes.now) × (self.new ≡ self.old)) }
     {
-        for byte in bytes {
-            self.push(*byte)?;
-        }
-        Ok(())
+        let empty = Items::new(self.alloc);
+        let mut all = mem::replace(&mut self.bytes, empty).into_vec();
+        let result = all.extend_from_slice(bytes);
+        self.bytes = Items::from_vec(all);
+        result
     }
 
     /// The names that all bytes mean, at least one. The error is that memory was refused; then nothing is handed back.

@@ -41,11 +41,11 @@ module _ {S V : Type 0} (print : ℕ → V) (R Q : S → V → S → Type 0) (xs
 
 -- what a sink takes as a run, its actor takes as events
 module _ {S A : Type 0} (R Q : S → Action A → S → Type 0) where
-  abbrev Takes : Performer S A → Event → Performer S A → Type 0
+  abbrev pub Takes : Performer S A → Event → Performer S A → Type 0
   Takes p e q = (limit : Option ℕ) (m : Mode) → Hooks limit p.unfinished m
       → Hooks limit q.unfinished (after m e) × FoldsTo (At value_of R) p.sink (given limit m e) q.sink
 
-  abbrev Refuses : Performer S A → Event → Performer S A → Type 0
+  abbrev pub Refuses : Performer S A → Event → Performer S A → Type 0
   Refuses p e q = (limit : Option ℕ) (m : Mode) → Hooks limit p.unfinished m
       → StopsAt (wants_memory e ≡ true) (At value_of R) (At value_of Q) p.sink (given limit m e) q.sink
 

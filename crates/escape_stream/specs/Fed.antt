@@ -1,10 +1,10 @@
 -- What a parser was fed.
-use Rattle.std.specs.Prelude.{ℕ, ◌≡◌, true, false, List, length, Option, None}
-use Rattle.esc_frame.specs.Limits.{Counts, is_within}
+use Rattle.std.specs.Prelude.{ℕ, ◌≡◌, ◌+◌, ◌≤◌, Bool, true, false, List, length, Option, None}
+use Rattle.esc_frame.specs.Limits.{Counts, is_within, most}
 use Rattle.esc_frame.specs.Stream.{LeadsToWithin, HasFailed, events_within}
 use Rattle.esc_frame.specs.declared.count.Count.{Count}
 use Rattle.esc_actions.specs.Meaning.{mode_from}
-use Rattle.esc_actions.specs.Values.{Mode, plain, in_sixel, in_termcap, in_short, entered, data_count}
+use Rattle.esc_actions.specs.Values.{Mode, plain, in_sixel, in_termcap, in_short, entered, data_count, taken}
 use Rattle.esc_device.specs.Leads.{LeadsShort}
 use Rattle.esc_sixel.specs.Steps.{LeadsTo as LeadsSixel}
 use Rattle.esc_tcap.specs.Names.{LeadsTo as LeadsTermcap}
@@ -34,6 +34,25 @@ Begins limit h m = (c : Count) → Counts limit c 0 → Keeps limit h c m
 -- what is kept, under this limit, is what is unfinished
 unfoldable pub Hooks : {A : Type 0} → Option ℕ → Unfinished A → Mode → Type 0
 Hooks limit u m = (u.limit ≡ limit) × Keeps limit u.hooked u.data m
+
+-- what is hooked is a mode
+abbrev pub is_mode : {A : Type 0} → Hooked A → Bool
+is_mode hooked.Nothing = false
+is_mode (hooked.Sixel b) = false
+is_mode (hooked.Termcap b) = false
+is_mode (hooked.Short b) = false
+is_mode hooked.Entered = true
+is_mode hooked.Over = false
+
+-- a byte of data makes q of p
+abbrev pub TakesData : {A : Type 0} → Unfinished A → ℕ → Unfinished A → Type 0
+TakesData p b q = (is_mode q.hooked ≡ is_mode p.hooked) × ((limit : Option ℕ) (m : Mode) → Hooks limit p m → Hooks limit q (taken m b))
+
+-- so many bytes more are counted without passing the limit
+pub record HasRoom (limit : Option ℕ) (c : Count) (more : ℕ) : Type 0 where
+  pub not_over : c.is_over ≡ false
+  pub few : c.bytes + more ≤ most
+  pub within : is_within limit (c.bytes + more) ≡ true
 
 -- The bytes may be what the parser was fed, which keeps no more than the limit of a segment: it has not failed, and keeps what is
 -- unfinished of them.

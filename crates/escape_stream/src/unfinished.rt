@@ -1,10 +1,11 @@
 //! The device control string that is unfinished.
-ghost use Rattle.std.specs.Prelude.{◌≡◌, ℕ, IfOk, OnOk, Option, min, option_to_list};
+ghost use Rattle.std.specs.Prelude.{◌≡◌, ℕ, IfOk, OnOk, Option, length, min, option_to_list, true};
+ghost use Rattle.std.specs.List.{FoldsTo};
 ghost use Rattle.std.specs.Option.{option_map};
 ghost use Rattle.esc_frame.specs.Limits.{kept_within, most};
 ghost use Rattle.esc_actions.specs.Values.{Mode, closed_gives, data_count, opened, plain, taken, value_of};
 ghost use Rattle.esc_actions.specs.Groups.{is_entered};
-ghost use Rattle.escape_stream.specs.Fed.{Hooks};
+ghost use Rattle.escape_stream.specs.Fed.{HasRoom, Hooks, TakesData, is_mode};
 ghost use Rattle.escape_stream.specs.declared.hooked.Hooked.TheVariants as hooked;
 
 use crate::hooked::{Hooked, begin, end};
@@ -69,7 +70,8 @@ impl<A: Allocator + Copy> Unfinished<A> {
     #[tactic(auto, unfolding(crate::specs::Fed::Hooks))]
     #[inline]
     pub fn is_entered(&self) -> bool
-        ensures { (limit : Option ℕ) (m : Mode) → Hooks limit self.now m → result ≡ is_entered m }
+        ensures entered { (limit : Option ℕ) (m : Mode) → Hooks limit self.now m → result ≡ is_entered m }
+        ensures mode { result ≡ is_mode self.now.hooked }
     {
         matches!(self.hooked, Hooked::Entered)
     }
@@ -78,7 +80,8 @@ impl<A: Allocator + Copy> Unfinished<A> {
     #[tactic(auto, unfolding(crate::specs::Fed::Hooks), using(crate::proofs::DataLimits::counts_more, crate::proofs::DataLimits::passed, crate::proofs::DataLimits::over_stays))]
     #[inline]
     pub fn push(&mut self, byte: u8) -> Result<(), AllocError>
-        ensures { (limit : Option ℕ) (m : Mode) → Hooks limit self.old m → OnOk result (Hooks limit self.new (taken m byte)) }
+        ensures hooks { (limit : Option ℕ) (m : Mode) → Hooks limit self.old m → OnOk result (Hooks limit self.new (taken m byte)) }
+        ensures mode { OnOk result (is_mode self.new.hooked ≡ is_mode self.old.hooked) }
     {
         match &mut self.hooked {
             Hooked::Nothing | Hooked::Entered | Hooked::Over => return Ok(()),
@@ -100,6 +103,41 @@ impl<A: Allocator + Copy> Unfinished<A> {
         }
         self.hooked = Hooked::Over;
         Ok(())
+    }
+
+    /// More bytes of its data, as `push` of each takes them. They are taken at once where the limit has room for all.
+    pub fn push_run(&mut self, bytes: &[u8]) -> Result<(), AllocError>
+        ensures { OnOk result (FoldsTo TakesData self.old bytes.now self.new) }
+    {
+        if self.has_room(bytes.len()) {
+            return self.push_whole(bytes);
+        }
+        for byte in bytes {
+            self.push(*byte)?;
+        }
+        Ok(())
+    }
+
+    // Whether so many bytes more are within the limit.
+    fn has_room(&self, more: usize) -> bool
+        ensures { result ≡ true → HasRoom self.now.limit self.now.data more }
+    {
+        let most = self.limit.unwrap_or(usize::MAX);
+        !self.data.is_over && self.data.bytes <= most && more <= most - self.data.bytes
+    }
+
+    // More bytes of its data, for which the limit has room.
+    fn push_whole(&mut self, bytes: &[u8]) -> Result<(), AllocError>
+        requires { HasRoom self.old.limit self.old.data (length bytes.now) }
+        ensures { OnOk result (FoldsTo TakesData self.old bytes.now self.new) }
+    {
+        self.data.bytes += bytes.len();
+        match &mut self.hooked {
+            Hooked::Nothing | Hooked::Entered | Hooked::Over => Ok(()),
+            Hooked::Sixel(builder) => builder.push_run(bytes),
+            Hooked::Termcap(builder) => builder.push_run(bytes),
+            Hooked::Short(builder) => builder.push_run(bytes),
+        }
     }
 
     /// The action of its end, where it has one. Nothing is unfinished then.
