@@ -4,3 +4,9 @@ pub mod Texts
 pub mod Sequences
 pub mod Escapes
 pub mod Cutting
+pub mod Told
+pub mod Executes
+pub mod Beginnings
+pub mod KeptUnits
+pub mod KindCases
+pub mod Dispatching

@@ -1,2 +1,3 @@
 pub mod Items
+pub mod Parts
 pub mod Places

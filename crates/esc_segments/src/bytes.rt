@@ -2,7 +2,7 @@
 #![tactic(auto)]
 
 ghost use Rattle.std.specs.Prelude.{◌≡◌};
-ghost use Rattle.esc_frame.specs.Classes.{class_of, is_breaker, is_noise, in_escape, in_csi, in_osc, opens};
+ghost use Rattle.esc_frame.specs.Classes.{class_of, is_breaker, is_noise, is_plain, is_text, is_put, in_escape, in_csi, in_osc, opens};
 
 /// Whether the byte ends what stands before it: 18, 1A, 1B, 80 to 9F.
 #[tactic(auto, unfolding(esc_frame::specs::Classes::class_of))]
@@ -20,6 +20,33 @@ pub fn is_noise(b: u8) -> bool
     ensures { result ≡ is_noise (class_of b) }
 {
     !is_breaker(b) && (b < 0x20 || 0x7f <= b)
+}
+
+/// Whether it is a control that is executed also inside a sequence: any below 20 but 18, 1A, 1B.
+#[tactic(auto, unfolding(esc_frame::specs::Classes::class_of))]
+#[inline(always)]
+pub fn is_plain(b: u8) -> bool
+    ensures { result ≡ is_plain (class_of b) }
+{
+    b < 0x20 && !is_breaker(b)
+}
+
+/// Whether an application program command keeps it: 20 to 7F.
+#[tactic(auto, unfolding(esc_frame::specs::Classes::class_of))]
+#[inline(always)]
+pub fn is_text(b: u8) -> bool
+    ensures { result ≡ is_text (class_of b) }
+{
+    matches!(b, 0x20..=0x7f)
+}
+
+/// Whether a device control string hands it on as data: no breaker, and not 7F.
+#[tactic(auto, unfolding(esc_frame::specs::Classes::class_of))]
+#[inline(always)]
+pub fn is_put(b: u8) -> bool
+    ensures { result ≡ is_put (class_of b) }
+{
+    b != 0x7f && !is_breaker(b)
 }
 
 /// Whether it may stand between ESC and the final byte: noise, or 20 to 2F.

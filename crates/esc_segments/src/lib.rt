@@ -22,17 +22,24 @@
 #![tactic(auto)]
 
 mod bytes;
+mod characters;
+mod dispatch;
+pub mod events;
 mod first;
 mod found;
 pub mod item;
 pub mod iter;
+mod kept;
 pub mod kind;
 pub mod laws;
 mod opened;
+mod openers;
 mod runs;
 mod sequence;
+mod strings;
 mod text;
 
+pub use events::segment_events;
 pub use item::Segment;
 pub use iter::Segments;
 pub use kind::SegmentKind;

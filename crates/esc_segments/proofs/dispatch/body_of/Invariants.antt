@@ -1,0 +1,7 @@
+use Rattle.std.proofs.Common.{take}
+use Rattle.esc_frame.specs.Classes.{strip}
+use Rattle.esc_frame.specs.Machine.Keeps.{KeepsBody}
+use Rattle.esc_segments.proofs.dispatch.body_of.Given as goal
+
+abbrev pub invariant-loop-b : goal.invariant-loop-b
+invariant-loop-b g l = KeepsBody l.body (strip (take l.b-index l.x))

@@ -1,0 +1,25 @@
+-- The parts of a segment's bytes. Only private contracts cite it.
+use Rattle.std.specs.Prelude.{ℕ, ◌≡◌, Bool, true, false, List, ◌++◌, Result}
+use Rattle.esc_frame.specs.Events.{Event, Takes}
+use Rattle.esc_frame.specs.Segments.{Segment, Piece, Ending, HasShape, ArePieces, bytes_of, ending_bytes, events_of, is_finished, text_bytes, text_of}
+use Rattle.esc_frame.specs.Segments.Ending.{Waits}
+
+-- no sequence may go on
+abbrev pub is_over : Ending → Bool
+is_over (Waits f) = false
+is_over _ = true
+
+-- These bytes are left of the text of an OSC, which these bytes follow: with what was kept before them, what they keep is t.
+pub record IsLeft (kept bytes after t : List ℕ) : Type 0 where
+  pub pieces : List Piece
+  pub ending : Ending
+  pub over : is_over ending ≡ true
+  pub whole : bytes ≡ text_bytes pieces ++ ending_bytes ending
+  pub each : ArePieces pieces (ending_bytes ending ++ after)
+  pub same : kept ++ text_of pieces ≡ t
+
+-- An actor was given the events of this segment, where these are its bytes and this is whether it is finished.
+abbrev pub Tells : {S E : Type 0} → Bool → (S → Event → S → Type 0) → (S → Event → S → Type 0) → Result (Unit {0}) E → S → S → List ℕ → Bool → Segment
+    → Type 0
+Tells own takes refuses result old new bytes finished g =
+    (after : List ℕ) → HasShape g after → bytes ≡ bytes_of g → finished ≡ is_finished g after → Takes own takes refuses result old (events_of g finished) new

@@ -1,0 +1,149 @@
+//! The events of escape sequences and control sequences.
+#![tactic(auto)]
+
+ghost use Rattle.std.specs.Prelude.{◌∷◌, Bool, IfOk, List, OnOk, [], true, ℕ};
+ghost use Rattle.esc_frame.specs.Classes.{strip};
+ghost use Rattle.esc_frame.specs.Events.{Takes};
+ghost use Rattle.esc_frame.specs.Machine.Keeps.{Keeps, KeepsBody};
+ghost use Rattle.esc_frame.specs.Segments.{Opener, csi_events, escape_event, executes};
+ghost use Rattle.esc_frame.specs.Segments.Segment.{Csi, CutCsi, CutDcs, CutEscape, Escape};
+ghost use Rattle.esc_segments.specs.Parts.{Tells};
+
+use crate::bytes::{is_noise, is_plain};
+use crate::openers::{opens_dcs, split_opener};
+use esc_frame::VTActor;
+use esc_frame::body::CsiBody;
+use esc_frame::intermediates::Intermediates;
+use std::alloc::{AllocError, Allocator};
+
+type Result<T> = std::result::Result<T, AllocError>;
+
+/// Executes the plain controls among the bytes, in order.
+pub fn execute_in<V: VTActor>(bytes: &[u8], actor: &mut V) -> Result<()>
+    requires { V.is_ready actor.old }
+    ensures told { (own : Bool) → Takes own V.takes V.refuses result actor.old (executes bytes.now) actor.new }
+    ensures ready { OnOk result (V.is_ready actor.new) }
+{
+    for b in bytes {
+        if is_plain(*b) {
+            match actor.execute_c0_or_c1(*b) {
+                Ok(()) => {}
+                Err(e) => return Err(e),
+            }
+        }
+    }
+    Ok(())
+}
+
+/// An escape sequence: the controls inside it, and then its dispatch.
+pub fn escape<V: VTActor>(bytes: &[u8], actor: &mut V) -> Result<()>
+    requires { V.is_ready actor.old }
+    ensures told { (own finished : Bool) (x : List ℕ) (f : ℕ) → Tells own V.takes V.refuses result actor.old actor.new bytes.now finished (Escape x f) }
+    ensures ready { OnOk result (V.is_ready actor.new) }
+{
+    if bytes.len() < 2 {
+        return Ok(());
+    }
+    let last = bytes.len() - 1;
+    match execute_in(bytes, actor) {
+        Ok(()) => dispatch_escape(&bytes[1..last], bytes[last], actor),
+        Err(e) => Err(e),
+    }
+}
+
+// The dispatch of an escape sequence with these intermediates and noise, and this final byte.
+fn dispatch_escape<V: VTActor>(x: &[u8], last: u8, actor: &mut V) -> Result<()>
+    requires { V.is_ready actor.old }
+    ensures told { (own : Bool) → Takes own V.takes V.refuses result actor.old (escape_event (strip x.now) last ∷ []) actor.new }
+    ensures ready { OnOk result (V.is_ready actor.new) }
+{
+    let kept = intermediates_of(x);
+    actor.esc_dispatch(&[], kept.as_slice(), kept.ignored, last)
+}
+
+// The bytes but noise.
+fn intermediates_of(x: &[u8]) -> Intermediates
+    ensures { Keeps result (strip x.now) }
+{
+    let mut kept = Intermediates::new();
+    for b in x {
+        if !is_noise(*b) {
+            kept.push(*b);
+        }
+    }
+    kept
+}
+
+/// A control sequence: the controls inside it, and then its dispatch, where its body has its form.
+pub fn csi<A: Allocator, V: VTActor>(alloc: A, bytes: &[u8], actor: &mut V) -> Result<()>
+    requires { V.is_ready actor.old }
+    ensures told { (finished : Bool) (o : Opener) (x : List ℕ) (f : ℕ) → Tells true V.takes V.refuses result actor.old actor.new bytes.now finished (Csi o x f) }
+    ensures ready { OnOk result (V.is_ready actor.new) }
+{
+    match execute_in(bytes, actor) {
+        Ok(()) => {
+            let (_, body) = split_opener(bytes);
+            if body.is_empty() {
+                return Ok(());
+            }
+            let last = body.len() - 1;
+            dispatch_csi(alloc, &body[..last], body[last], actor)
+        }
+        Err(e) => Err(e),
+    }
+}
+
+// The dispatch of a control sequence with this body and final byte.
+fn dispatch_csi<A: Allocator, V: VTActor>(alloc: A, x: &[u8], last: u8, actor: &mut V) -> Result<()>
+    requires { V.is_ready actor.old }
+    ensures told { Takes true V.takes V.refuses result actor.old (csi_events (strip x.now) last) actor.new }
+    ensures ready { OnOk result (V.is_ready actor.new) }
+{
+    match body_of(alloc, x) {
+        Ok(mut body) => tell_body(&mut body, last, actor),
+        Err(e) => Err(e),
+    }
+}
+
+// The same, of a body that was read.
+fn tell_body<A: Allocator, V: VTActor>(body: &mut CsiBody<A>, last: u8, actor: &mut V) -> Result<()>
+    requires { V.is_ready actor.old }
+    ensures told { (x : List ℕ) → KeepsBody body.old x → Takes true V.takes V.refuses result actor.old (csi_events x last) actor.new }
+    ensures ready { OnOk result (V.is_ready actor.new) }
+{
+    if !body.is_formed() {
+        return Ok(());
+    }
+    match body.finish() {
+        Ok(()) => actor.csi_dispatch(&body.entries.items, body.entries.is_truncated, last),
+        Err(e) => Err(e),
+    }
+}
+
+// The body that the bytes but noise are.
+fn body_of<A: Allocator>(alloc: A, x: &[u8]) -> Result<CsiBody<A>>
+    ensures { IfOk result (λ body. KeepsBody body (strip x.now)) }
+{
+    let mut body = CsiBody::new(alloc);
+    for b in x {
+        if !is_noise(*b) {
+            body.push(*b)?;
+        }
+    }
+    Ok(body)
+}
+
+/// A sequence or header that is cut short: the controls inside it, but of a device control string only those in its opener.
+pub fn cut_short<V: VTActor>(bytes: &[u8], actor: &mut V) -> Result<()>
+    requires { V.is_ready actor.old }
+    ensures escape { (own finished : Bool) (x : List ℕ) → Tells own V.takes V.refuses result actor.old actor.new bytes.now finished (CutEscape x) }
+    ensures csi { (own finished : Bool) (o : Opener) (x : List ℕ) → Tells own V.takes V.refuses result actor.old actor.new bytes.now finished (CutCsi o x) }
+    ensures dcs { (own finished : Bool) (o : Opener) (x : List ℕ) → Tells own V.takes V.refuses result actor.old actor.new bytes.now finished (CutDcs o x) }
+    ensures ready { OnOk result (V.is_ready actor.new) }
+{
+    if opens_dcs(bytes) {
+        execute_in(split_opener(bytes).0, actor)
+    } else {
+        execute_in(bytes, actor)
+    }
+}

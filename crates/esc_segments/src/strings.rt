@@ -1,0 +1,239 @@
+//! The events of strings.
+#![tactic(auto)]
+
+ghost use Rattle.std.specs.Prelude.{◌≡◌, ◌++◌, ◌∷◌, Bool, IfOk, List, OnOk, [], if◌then◌else◌, map, pos, true, ℕ};
+ghost use Rattle.esc_below.specs.Clear.{parts_of};
+ghost use Rattle.esc_frame.specs.Bodies.{held, is_dcs_header, value_behind};
+ghost use Rattle.esc_frame.specs.Classes.{is_text, strip, those};
+ghost use Rattle.esc_frame.specs.Events.{Takes};
+ghost use Rattle.esc_frame.specs.Events.Event.{ApcDispatch, DcsUnhook};
+ghost use Rattle.esc_frame.specs.Machine.Keeps.{KeepsDcs, parameters_of};
+ghost use Rattle.esc_frame.specs.Segments.{Ending, Opener, Piece, hook_event, puts};
+ghost use Rattle.esc_frame.specs.Segments.Segment.{Apc, Dcs, Osc};
+ghost use Rattle.esc_segments.specs.Parts.{Tells};
+
+use crate::bytes::{is_noise, is_put, is_text};
+use crate::dispatch::execute_in;
+use crate::kept::kept_text;
+use crate::openers::split_opener;
+use crate::runs::header_run;
+use esc_frame::VTActor;
+use esc_frame::header::{DcsHeader, is_parameter, params_of};
+use esc_frame::parts::dispatch_osc;
+use std::alloc::{AllocError, Allocator};
+
+type Result<T> = std::result::Result<T, AllocError>;
+
+/// An operating system command: the controls in its opener, and once it is finished the dispatch of its parts.
+pub fn osc<A: Allocator + Copy, V: VTActor>(
+    alloc: A,
+    bytes: &[u8],
+    finished: bool,
+    actor: &mut V,
+) -> Result<()>
+    requires { V.is_ready actor.old }
+    ensures told { (o : Opener) (ps : List Piece) (e : Ending) → Tells true V.takes V.refuses result actor.old actor.new bytes.now finished (Osc o ps e) }
+    ensures ready { OnOk result (V.is_ready actor.new) }
+{
+    let (opener, text) = split_opener(bytes);
+    match execute_in(opener, actor) {
+        Ok(()) => {
+            if !finished {
+                return Ok(());
+            }
+            match kept_text(alloc, text) {
+                Ok(kept) => dispatch_osc(alloc, &kept, actor),
+                Err(e) => Err(e),
+            }
+        }
+        Err(e) => Err(e),
+    }
+}
+
+/// An application program command: the controls in its opener, and once it is finished the dispatch of its bytes 20 to 7F.
+pub fn apc<A: Allocator, V: VTActor>(
+    alloc: A,
+    bytes: &[u8],
+    finished: bool,
+    actor: &mut V,
+) -> Result<()>
+    requires { V.is_ready actor.old }
+    ensures told { (o : Opener) (d : List ℕ) → Tells true V.takes V.refuses result actor.old actor.new bytes.now finished (Apc o d) }
+    ensures ready { OnOk result (V.is_ready actor.new) }
+{
+    let (opener, content) = split_opener(bytes);
+    match execute_in(opener, actor) {
+        Ok(()) => {
+            if finished {
+                dispatch_apc(alloc, content, actor)
+            } else {
+                Ok(())
+            }
+        }
+        Err(e) => Err(e),
+    }
+}
+
+// The dispatch of the bytes 20 to 7F.
+fn dispatch_apc<A: Allocator, V: VTActor>(alloc: A, content: &[u8], actor: &mut V) -> Result<()>
+    requires { V.is_ready actor.old }
+    ensures told { Takes true V.takes V.refuses result actor.old (ApcDispatch (those is_text content.now) ∷ []) actor.new }
+    ensures ready { OnOk result (V.is_ready actor.new) }
+{
+    match text_of(alloc, content) {
+        Ok(text) => actor.apc_dispatch(&text),
+        Err(e) => Err(e),
+    }
+}
+
+// The bytes 20 to 7F.
+fn text_of<A: Allocator>(alloc: A, content: &[u8]) -> Result<Vec<u8, A>>
+    ensures { IfOk result (λ v. v.items ≡ those is_text content.now) }
+{
+    content
+        .iter()
+        .copied()
+        .filter(|b| is_text(*b))
+        .collect(alloc)
+}
+
+/// A device control string: the controls in its opener, and where its header has its form the hook, its data byte by byte,
+/// and once it is finished the unhook.
+pub fn dcs<A: Allocator + Copy, V: VTActor>(
+    alloc: A,
+    bytes: &[u8],
+    finished: bool,
+    actor: &mut V,
+) -> Result<()>
+    requires { V.is_ready actor.old }
+    ensures told { (o : Opener) (x : List ℕ) (f : ℕ) (d : List ℕ) → Tells true V.takes V.refuses result actor.old actor.new bytes.now finished (Dcs o x f d) }
+    ensures ready { OnOk result (V.is_ready actor.new) }
+{
+    let (opener, body) = split_opener(bytes);
+    match execute_in(opener, actor) {
+        Ok(()) => {
+            let run = header_run(body);
+            if run == body.len() {
+                return Ok(());
+            }
+            tell_dcs(
+                alloc,
+                &body[..run],
+                body[run],
+                &body[run + 1..],
+                finished,
+                actor,
+            )
+        }
+        Err(e) => Err(e),
+    }
+}
+
+// The hook, the data and the unhook of a string with this header, final byte and data.
+fn tell_dcs<A: Allocator + Copy, V: VTActor>(
+    alloc: A,
+    x: &[u8],
+    last: u8,
+    content: &[u8],
+    finished: bool,
+    actor: &mut V,
+) -> Result<()>
+    requires { V.is_ready actor.old }
+    ensures told { Takes true V.takes V.refuses result actor.old
+        (if is_dcs_header (strip x.now) then (hook_event (strip x.now) last ∷ puts content.now) ++ (if finished then DcsUnhook ∷ [] else []) else []) actor.new }
+    ensures ready { OnOk result (V.is_ready actor.new) }
+{
+    let header = header_of(x);
+    if !header.is_formed() {
+        return Ok(());
+    }
+    match hook(alloc, &header, x, last, actor) {
+        Ok(()) => put_and_end(content, finished, actor),
+        Err(e) => Err(e),
+    }
+}
+
+// What the bytes but noise are as a header.
+fn header_of(x: &[u8]) -> DcsHeader
+    ensures { KeepsDcs result (strip x.now) }
+{
+    let mut header = DcsHeader::new();
+    for b in x {
+        if !is_noise(*b) {
+            header.push(*b);
+        }
+    }
+    header
+}
+
+// The hook of a header of its form.
+fn hook<A: Allocator + Copy, V: VTActor>(
+    alloc: A,
+    header: &DcsHeader,
+    x: &[u8],
+    last: u8,
+    actor: &mut V,
+) -> Result<()>
+    requires ready { V.is_ready actor.old }
+    requires kept { KeepsDcs header.now (strip x.now) }
+    requires formed { is_dcs_header (strip x.now) ≡ true }
+    ensures told { Takes true V.takes V.refuses result actor.old (hook_event (strip x.now) last ∷ []) actor.new }
+    ensures ready { OnOk result (V.is_ready actor.new) }
+{
+    match params_in(alloc, x) {
+        Ok(params) => {
+            let kept = &header.intermediates;
+            actor.dcs_hook(last, &params, kept.as_slice(), kept.ignored)
+        }
+        Err(e) => Err(e),
+    }
+}
+
+// The parameters that the bytes write.
+fn params_in<A: Allocator + Copy>(alloc: A, x: &[u8]) -> Result<Vec<i64, A>>
+    ensures { IfOk result (λ v. v.items ≡ map (λ p. pos (held (value_behind 0 p))) (parts_of (parameters_of (strip x.now)))) }
+{
+    match parameter_bytes(alloc, x) {
+        Ok(bytes) => params_of(alloc, &bytes),
+        Err(e) => Err(e),
+    }
+}
+
+// The bytes 30 to 39 and 3B.
+fn parameter_bytes<A: Allocator>(alloc: A, x: &[u8]) -> Result<Vec<u8, A>>
+    ensures { IfOk result (λ v. v.items ≡ parameters_of x.now) }
+{
+    x.iter()
+        .copied()
+        .filter(|b| is_parameter(*b))
+        .collect(alloc)
+}
+
+// The data, and the unhook.
+fn put_and_end<V: VTActor>(content: &[u8], finished: bool, actor: &mut V) -> Result<()>
+    requires { V.is_ready actor.old }
+    ensures told { (own : Bool) → Takes own V.takes V.refuses result actor.old (puts content.now ++ (if finished then DcsUnhook ∷ [] else [])) actor.new }
+    ensures ready { OnOk result (V.is_ready actor.new) }
+{
+    match put_all(content, actor) {
+        Ok(()) => { if finished { actor.dcs_unhook() } else { Ok(()) } }
+        Err(e) => Err(e),
+    }
+}
+
+// The data, byte by byte.
+fn put_all<V: VTActor>(content: &[u8], actor: &mut V) -> Result<()>
+    requires { V.is_ready actor.old }
+    ensures told { (own : Bool) → Takes own V.takes V.refuses result actor.old (puts content.now) actor.new }
+    ensures ready { OnOk result (V.is_ready actor.new) }
+{
+    for b in content {
+        if is_put(*b) {
+            match actor.dcs_put(*b) {
+                Ok(()) => {}
+                Err(e) => return Err(e),
+            }
+        }
+    }
+    Ok(())
+}

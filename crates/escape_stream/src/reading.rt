@@ -1,0 +1,36 @@
+//! The actions of a segment by itself.
+ghost use Rattle.std.specs.Prelude.{◌≡◌, IfOk, List, map, ℕ};
+ghost use Rattle.esc_actions.specs.Readings.{reading};
+ghost use Rattle.esc_actions.specs.Values.{value_of};
+ghost use Rattle.esc_frame.specs.Segments.{HasShape, Segment as Shape};
+ghost use Rattle.esc_segments.specs.Items.{IsItem};
+
+use crate::performer::Performer;
+use crate::sink::Collect;
+use crate::unfinished::Unfinished;
+use esc_actions::Action;
+use esc_segments::{Segment, segment_events};
+use std::alloc::{AllocError, Allocator};
+
+/// The actions of a segment, in order, as a [`Parser`](crate::Parser) would hand them out wherever the segment comes in a stream.
+/// They are found by splitting the segment's bytes, without a parser.
+///
+/// The segment is one that [`Segments`](esc_segments::Segments) gave. Of a segment that is unfinished these are the actions so far.
+/// Of any other value of the type nothing is said but that the call returns. `AllocError` says that memory was refused; then
+/// nothing is handed out.
+pub fn read_segment<A: Allocator + Copy>(
+    alloc: A,
+    segment: &Segment<'_>,
+) -> Result<Vec<Action<A>, A>, AllocError>
+    ensures { (g : Shape) (after : List ℕ) → HasShape g after → IsItem segment.now g after → IfOk result (λ v. map value_of v.items ≡ reading g segment.now.finished) }
+{
+    let mut performer = Performer {
+        sink: Collect::new(alloc),
+        alloc,
+        unfinished: Unfinished::new(None),
+    };
+    match segment_events(alloc, segment, &mut performer) {
+        Ok(()) => Ok(performer.sink.actions),
+        Err(error) => Err(error),
+    }
+}
