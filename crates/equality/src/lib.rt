@@ -1,15 +1,7 @@
-//! Equality is equality of values: `==` of each public type that has it is true exactly where the two are the same.
+//! Equality is equality of values: `==` of each error that is public is true exactly where the two are the same. Of the other
+//! public types `esc_equality` says it.
 //!
-//! Most of these types derive `==`, and a derive has no clause of its own; here each is the body of a function that has one.
+//! These types derive `==`, and a derive has no clause of its own; here each is the body of a function that has one.
 #![tactic(auto)]
 
-pub mod actions;
-pub mod below;
-pub mod commands;
-pub mod device;
 pub mod errors;
-pub mod iterm;
-pub mod kitty;
-pub mod lists;
-pub mod prompts;
-pub mod sixel;

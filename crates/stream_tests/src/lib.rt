@@ -4,6 +4,8 @@
 #[cfg(test)]
 mod appending;
 #[cfg(test)]
+mod asking;
+#[cfg(test)]
 mod characters;
 #[cfg(test)]
 mod coordinates;

@@ -1,8 +1,0 @@
-use Rattle.std.proofs.Common.{sym, ◌∙◌}
-use Rattle.equality.proofs.KittySame.{composes}
-use Rattle.equality.proofs.kitty.same_compose.Goals as goal
-
-pub returns : goal.returns
-returns c =
-    let same = composes c.args.a.now c.args.b.now in
-    (λ h. same.0 (sym c.eq.ensures ∙ h), λ e. c.eq.ensures ∙ same.1 e)

@@ -1,0 +1,14 @@
+//! Equality is equality of values: `==` of each public type that has it is true exactly where the two are the same.
+//!
+//! Most of these types derive `==`, and a derive has no clause of its own; here each is the body of a function that has one.
+#![tactic(auto)]
+
+pub mod actions;
+pub mod below;
+pub mod commands;
+pub mod device;
+pub mod iterm;
+pub mod kitty;
+pub mod lists;
+pub mod prompts;
+pub mod sixel;

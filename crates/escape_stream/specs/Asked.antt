@@ -1,0 +1,24 @@
+-- Which values are asked of a parser whether they read back.
+use Rattle.std.specs.Prelude.{ℕ, ◌==◌, ◌||◌, Bool, true, false}
+use Rattle.esc_actions.specs.Values.{Value, print, string, control, esc, csi, osc, kitty, sixel, termcap, short, enter, datum, exit}
+
+-- a value that is the first that its own text means, where it is writable: a string of characters means its characters, and a byte
+-- and the end of a mode mean nothing outside it
+abbrev pub has_own_text : {A : Type 0} → Value A → Bool
+has_own_text (print c) = true
+has_own_text (string t) = false
+has_own_text (control c) = true
+has_own_text (esc e) = true
+has_own_text (csi c) = true
+has_own_text (osc c) = true
+has_own_text (kitty i) = true
+has_own_text (sixel s) = true
+has_own_text (termcap ns) = true
+has_own_text (short s) = true
+has_own_text (enter e) = true
+has_own_text (datum b) = false
+has_own_text exit = false
+
+-- the letters that open a string or a control sequence after ESC: [ ] P X ^ _
+abbrev pub is_opener : ℕ → Bool
+is_opener b = (b == 0x5b) || ((b == 0x5d) || ((b == 0x50) || ((b == 0x58) || ((b == 0x5e) || (b == 0x5f)))))

@@ -1,0 +1,87 @@
+//! Actions that a parser emits and that no text has.
+ghost use Rattle.std.specs.Prelude.{◌≡◌};
+ghost use Rattle.std.specs.List.{list_any};
+ghost use Rattle.esc_actions.specs.Values.{device_value, value_of};
+ghost use Rattle.esc_actions.specs.Writable.{is_exception, is_opening, is_truncated};
+ghost use Rattle.esc_below.specs.Csis.{csi_value};
+ghost use Rattle.esc_device.specs.Writable.{is_high_byte};
+ghost use Rattle.escape_stream.specs.Asked.{is_opener};
+
+use esc_actions::Action;
+use esc_below::{CSI, Esc};
+use esc_device::DeviceControlMode;
+use std::alloc::Allocator;
+
+// Whether this is one of the actions that a parser may emit though no text reads back as them.
+pub(crate) fn is_exception<A: Allocator>(action: &Action<A>) -> bool
+    ensures { result ≡ is_exception (value_of action.now) }
+{
+    match action {
+        Action::Esc(esc) => is_opening(esc),
+        Action::CSI(csi) => is_truncated(csi),
+        Action::DeviceControl(mode) => is_incomplete(mode),
+        Action::Print(_)
+        | Action::PrintString(_)
+        | Action::Control(_)
+        | Action::OperatingSystemCommand(_)
+        | Action::KittyImage(_)
+        | Action::Sixel(_)
+        | Action::XtGetTcap(_) => false,
+    }
+}
+
+// Whether the text of the escape sequence begins a string or a control sequence.
+#[tactic(auto, using(crate::proofs::Openers::opens_by_letter))]
+fn is_opening(esc: &Esc) -> bool
+    ensures { result ≡ is_opening esc.now }
+{
+    match esc {
+        Esc::Unspecified {
+            intermediate: None,
+            control,
+        } => is_opener(*control),
+        Esc::Unspecified { .. } | Esc::Code(_) => false,
+    }
+}
+
+// Whether this letter, after ESC, opens a string or a control sequence.
+fn is_opener(letter: u8) -> bool
+    ensures { result ≡ is_opener letter }
+{
+    letter == b'['
+        || letter == b']'
+        || letter == b'P'
+        || letter == b'X'
+        || letter == b'^'
+        || letter == b'_'
+}
+
+// Whether entries of the control sequence were left out.
+fn is_truncated<A: Allocator>(csi: &CSI<A>) -> bool
+    ensures { result ≡ is_truncated (csi_value csi.now) }
+{
+    match csi {
+        CSI::Sgr(_) => false,
+        CSI::Unspecified(sequence) => sequence.as_ref().parameters_truncated,
+    }
+}
+
+// Whether intermediates of a header were left out, or a byte of data is A0 to FF.
+fn is_incomplete<A: Allocator>(mode: &DeviceControlMode<A>) -> bool
+    ensures { result ≡ is_exception (device_value mode.now) }
+{
+    match mode {
+        DeviceControlMode::Enter(enter) => enter.as_ref().ignored_extra_intermediates,
+        DeviceControlMode::Exit => false,
+        DeviceControlMode::Data(byte) => 0xa0 <= *byte,
+        DeviceControlMode::ShortDeviceControl(short) => has_high_byte(
+            short.as_ref().content.as_slice(),
+        ),
+    }
+}
+
+fn has_high_byte(bytes: &[u8]) -> bool
+    ensures { result ≡ list_any is_high_byte bytes.now }
+{
+    bytes.iter().any(|byte| 0xa0 <= *byte)
+}

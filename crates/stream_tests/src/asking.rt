@@ -1,0 +1,165 @@
+//! Which actions and lists are writable.
+use escape_stream::csi::Unspecified;
+use escape_stream::{
+    Action, Boxed, CSI, ControlCode, Esc, Items, OperatingSystemCommand, Parser, Sixel, SixelData,
+    Text, are_writable, is_writable,
+};
+use refusing::Refusing;
+use std::alloc::{AllocError, Allocator};
+use std::test::Fail;
+
+// An action of which a parser emits none, or not each.
+#[derive(Clone, Copy)]
+enum Made {
+    Character(char),
+    Characters(&'static str),
+    Control(ControlCode),
+    Escape(Option<u8>, u8),
+    // A control sequence without entries, whether entries were left out, and its final byte.
+    Sequence(bool, u8),
+    Title(&'static str),
+    // A sixel image with this value.
+    Image(u8),
+    // A termcap query for no name.
+    Nothing,
+}
+
+static MADE: [(Made, bool); 29] = [
+    (Made::Character('\u{7f}'), true),
+    (Made::Character('\u{a0}'), true),
+    (Made::Character('\u{1f}'), false),
+    (Made::Character('\u{85}'), false),
+    (Made::Characters("h\u{e9}"), true),
+    (Made::Characters(""), false),
+    (Made::Characters("a\u{85}"), false),
+    (Made::Characters("a\nb"), false),
+    (Made::Control(ControlCode::Cancel), true),
+    (Made::Control(ControlCode::NEL), true),
+    (Made::Control(ControlCode::Escape), false),
+    (Made::Control(ControlCode::DCS), false),
+    (Made::Control(ControlCode::ST), false),
+    (Made::Escape(None, b'c'), true),
+    (Made::Escape(Some(b' '), b'['), true),
+    (Made::Escape(None, b'['), false),
+    (Made::Escape(None, b'X'), false),
+    (Made::Escape(None, b'H'), false),
+    (Made::Escape(None, b' '), false),
+    (Made::Escape(Some(b'a'), b'b'), false),
+    (Made::Sequence(false, b'H'), true),
+    (Made::Sequence(true, b'H'), false),
+    (Made::Sequence(false, b'm'), false),
+    (Made::Sequence(false, b'1'), false),
+    (Made::Title("a;b"), true),
+    (Made::Title("a\u{7}b"), false),
+    (Made::Image(63), true),
+    (Made::Image(64), false),
+    (Made::Nothing, false),
+];
+
+fn image<A: Allocator + Copy>(alloc: A, value: u8) -> Result<Action<A>, AllocError> {
+    let sixel = Sixel {
+        pan: 2,
+        pad: 1,
+        pixel_width: None,
+        pixel_height: None,
+        background_is_transparent: false,
+        horizontal_grid_size: None,
+        content: Items::from_vec(Vec::from_slice(alloc, &[SixelData::Data(value)])?),
+    };
+    Ok(Action::Sixel(Boxed::new(alloc, sixel)?))
+}
+
+fn sequence<A: Allocator + Copy>(
+    alloc: A,
+    parameters_truncated: bool,
+    control: u8,
+) -> Result<Action<A>, AllocError> {
+    let sequence = Unspecified {
+        params: Items::from_vec(Vec::new(alloc)),
+        parameters_truncated,
+        control,
+    };
+    Ok(Action::CSI(CSI::Unspecified(Boxed::new(alloc, sequence)?)))
+}
+
+fn title<A: Allocator + Copy>(alloc: A, text: &str) -> Result<Action<A>, AllocError> {
+    let command = OperatingSystemCommand::SetWindowTitle(Text::from_str(alloc, text)?);
+    Ok(Action::OperatingSystemCommand(Boxed::new(alloc, command)?))
+}
+
+fn action_of<A: Allocator + Copy>(alloc: A, what: Made) -> Result<Action<A>, AllocError> {
+    match what {
+        Made::Character(c) => Ok(Action::Print(c)),
+        Made::Characters(text) => Ok(Action::PrintString(Text::from_str(alloc, text)?)),
+        Made::Control(code) => Ok(Action::Control(code)),
+        Made::Escape(intermediate, control) => Ok(Action::Esc(Esc::Unspecified {
+            intermediate,
+            control,
+        })),
+        Made::Sequence(is_truncated, control) => sequence(alloc, is_truncated, control),
+        Made::Title(text) => title(alloc, text),
+        Made::Image(value) => image(alloc, value),
+        Made::Nothing => Ok(Action::XtGetTcap(Items::from_vec(Vec::new(alloc)))),
+    }
+}
+
+// With each request for memory refused in turn, the answer is an error or stays the same.
+#[test]
+fn each_kind_of_action(rt: HostRuntime) -> Result<(), Fail> {
+    let heap = Refusing::new(rt.alloc());
+    for (what, wanted) in &MADE {
+        heap.refuse_at(0);
+        let action = action_of(&heap, *what)?;
+        for at in 1..1000u64 {
+            heap.refuse_at(at);
+            let is_right = match is_writable(&heap, &action) {
+                Ok(answer) => answer == *wanted,
+                Err(_) => heap.has_refused(),
+            };
+            assert!(rt; is_right, "{action:?}, request {at}");
+            if !heap.has_refused() {
+                break;
+            }
+        }
+    }
+    Ok(())
+}
+
+// A stream, which of its actions are asked for, and whether these are a writable list.
+static PARTS: [(&[u8], usize, usize, bool); 19] = [
+    (b"", 0, 0, true),
+    (b"ab\r\n", 0, 4, true),
+    (b"\x1bP1;2|ab\x1b\\", 0, 5, true),
+    (b"\x1bP1;2|ab\x1b\\", 0, 4, true),
+    (b"\x1bP1;2|ab\x1b\\", 0, 3, false),
+    (b"\x1bP1;2|ab\x1b\\", 0, 1, false),
+    (b"\x1bP1;2|ab\x1b\\", 1, 2, false),
+    (b"\x1bP1;2|ab\x1b\\", 3, 4, false),
+    (b"\x1bP1|\xa0\x1b\\", 0, 3, false),
+    (b"\x1bP !#|\x1b\\", 0, 2, false),
+    (b"\x1bP$qm\x1b\\", 0, 1, true),
+    (b"\x1bP$q\xa0\x1b\\", 0, 1, false),
+    (b"\x1bPq?\x1b\\", 0, 1, true),
+    (b"\x1bP+q436f\x1b\\", 0, 1, true),
+    (b"\x1b_Ga=d\x1b\\", 0, 1, true),
+    (b"\x1b]0;hi\x07", 0, 1, true),
+    (b"\x1b[1;3m\x1b[2J", 0, 3, true),
+    (b"\x1b  [", 0, 1, false),
+    (b"a\x1b  [", 0, 2, false),
+];
+
+#[test]
+fn lists_and_their_groups(rt: HostRuntime) -> Result<(), Fail> {
+    let alloc = rt.alloc();
+    for (stream, from, to, wanted) in &PARTS {
+        let mut parser = Parser::new(alloc);
+        let Ok(actions) = parser.parse_as_vec(stream) else {
+            panic!(rt; "out of memory");
+        };
+        let Some(asked) = actions.get(*from..*to) else {
+            panic!(rt; "fewer actions: {actions:?}");
+        };
+        assert!(rt; are_writable(alloc, asked)? == *wanted, "{asked:?}");
+    }
+    Ok(())
+}
