@@ -1,8 +1,8 @@
 -- What a text is given by events whose actions are not kept.
-use Rattle.std.proofs.Common.{◌≡◌, ℕ, Bool, true, false, List, [], ◌∷◌, ◌++◌, ◌<◌, length, map, MatchResult, OnOk, Result, Ok, Err, refl, ap, sym, subst, inr}
+use Rattle.std.proofs.Common.{◌≡◌, ℕ, Bool, true, false, List, [], ◌∷◌, ◌++◌, ◌<◌, length, map, MatchResult, OnOk, Result, Ok, Err, refl, ap, sym, ◌∙◌, subst, inl, inr}
 use Rattle.std.proofs.Common.{arith}
 use Rattle.std.specs.List.{FoldsTo}
-use Rattle.esc_below.specs.Csis.{csi_of, csi_text, unspecified}
+use Rattle.esc_below.specs.Csis.{csi_of, csi_text, csi_value, unspecified}
 use Rattle.esc_below.specs.declared.csi.CSI.TheVariants as csi_variant
 use Rattle.esc_below.specs.declared.csi_param.CsiParam.{CsiParam}
 use Rattle.esc_frame.specs.Events.{Event, StopsAt}
@@ -11,7 +11,8 @@ use Rattle.esc_osc.specs.Commands.{command_text}
 use Rattle.esc_osc.specs.Reading.{meaning as command_meant}
 use Rattle.escape_stream.specs.Fed.{Hooks}
 use Rattle.escape_stream.specs.Given.{At}
-use Rattle.escape_stream.specs.Spelled.{Adds, Spells}
+use Rattle.escape_stream.specs.Spelled.{Adds, IsNumber, IsPlain, Spells}
+use Rattle.escape_stream.proofs.LoneNumbers.{lone_number}
 use Rattle.esc_actions.specs.Values.{csi, value_of}
 use Rattle.esc_actions.specs.declared.action.Action.TheVariants as action
 use Rattle.escape_stream.specs.declared.performer.Performer.{Performer}
@@ -23,6 +24,10 @@ pub hears_ok : {E : Type 0} (X Y : Type 0) (r : Result (Unit {0}) E) → (X → 
 hears_ok X Y (Ok t) f h = f h
 hears_ok X Y (Err e) f h = tt
 
+pub ok_both : {E : Type 0} (X Y : Type 0) (r : Result (Unit {0}) E) → (X → Y) → OnOk r X → OnOk r Y
+ok_both X Y (Ok t) f h = f h
+ok_both X Y (Err e) f h = tt
+
 pub match_both : {E : Type 0} (X Y P Q : Type 0) (r : Result (Unit {0}) E) → (X → Y) → Q → MatchResult r (λ _. X) (λ _. P) → MatchResult r (λ _. Y) (λ _. Q)
 match_both X Y P Q (Ok t) f q h = f h
 match_both X Y P Q (Err e) f q h = q
@@ -30,7 +35,7 @@ match_both X Y P Q (Err e) f q h = q
 abbrev wrap : {A : Type 0} → Performer (Spell A) A → Speller A
 wrap p = record { performer = p }
 
-pub sequence_spelled : {A : Type 0} (p q : Performer (Spell A) A) (es : List CsiParam) (more : Bool) (f : ℕ)
+sequence_spelled : {A : Type 0} (p q : Performer (Spell A) A) (es : List CsiParam) (more : Bool) (f : ℕ)
     → csi_of es more f ≡ unspecified es more f ∷ [] → q.unfinished ≡ p.unfinished
     → q.sink.text ≡ p.sink.text ++ csi_text (unspecified es more f) → q.sink.follows_string ≡ false → Spells p (CsiDispatch es more f) q
 sequence_spelled {A} p q es more f one same text plain = λ limit m h. (
@@ -38,6 +43,24 @@ sequence_spelled {A} p q es more f one same text plain = λ limit m h. (
   subst (λ vs. FoldsTo (At value_of Adds) p.sink (map csi vs) q.sink) (sym one)
       (q.sink, (action.CSI (csi_variant.Unspecified (record { params = es; parameters_truncated = more; control = f })), refl, (text, plain)), refl),
 )
+
+number_spelled : {A : Type 0} (p q : Performer (Spell A) A) (es : List CsiParam) (more : Bool) (f : ℕ)
+    → IsNumber es → q.unfinished ≡ p.unfinished
+    → q.sink.text ≡ p.sink.text ++ csi_text (unspecified es more f) → q.sink.follows_string ≡ false → Spells p (CsiDispatch es more f) q
+number_spelled {A} p q es more f (n, is) same text plain = λ limit m h.
+    let l = lone_number {A = A} n more f in
+    let one : csi_of es more f ≡ csi_value l.0 ∷ [] = ap (λ ps. csi_of ps more f) is ∙ l.1 in
+    let spelled : csi_text (unspecified es more f) ≡ csi_text (csi_value l.0) = ap (λ ps. csi_text (unspecified ps more f)) is ∙ sym l.2 in (
+      subst (λ u. Hooks limit u m) (sym same) h,
+      subst (λ vs. FoldsTo (At value_of Adds) p.sink (map csi vs) q.sink) (sym one)
+          (q.sink, (action.CSI l.0, refl, (text ∙ ap (λ t. p.sink.text ++ t) spelled, plain)), refl),
+    )
+
+pub plain_spelled : {A : Type 0} (p q : Performer (Spell A) A) (es : List CsiParam) (more : Bool) (f : ℕ)
+    → IsPlain es more f → q.unfinished ≡ p.unfinished
+    → q.sink.text ≡ p.sink.text ++ csi_text (unspecified es more f) → q.sink.follows_string ≡ false → Spells p (CsiDispatch es more f) q
+plain_spelled p q es more f (inl number) same text plain = number_spelled p q es more f number same text plain
+plain_spelled p q es more f (inr one) same text plain = sequence_spelled p q es more f one same text plain
 
 -- the actor that spells is a performer whose sink is a text
 pub unwrapped : {A : Type 0} (es : List Event) (a b : Speller A) → FoldsTo (λ p e q. Spells p.performer e q.performer) a es b

@@ -1,7 +1,10 @@
 -- What events make of an actor that spells them.
-use Rattle.std.specs.Prelude.{ℕ, ◌≡◌, ◌++◌, Option}
+use Rattle.std.specs.Prelude.{ℕ, ℤ, ◌≡◌, ◌⊎◌, Bool, List, [], ◌∷◌, ◌++◌, Option}
 use Rattle.std.specs.List.{FoldsTo}
 use Rattle.esc_frame.specs.Events.{Event}
+use Rattle.esc_below.specs.Csis.{csi_of, unspecified}
+use Rattle.esc_below.specs.declared.csi_param.CsiParam.{CsiParam}
+use Rattle.esc_below.specs.declared.csi_param.CsiParam.TheVariants.{Integer}
 use Rattle.escape_stream.specs.Fed.{Hooks}
 use Rattle.escape_stream.specs.Given.{At}
 use Rattle.esc_actions.specs.Texts.{is_string, text_after}
@@ -18,3 +21,11 @@ Adds p a q = (q.text ≡ p.text ++ text_after p.follows_string (value_of a)) × 
 abbrev pub Spells : {A : Type 0} → Performer (Spell A) A → Event → Performer (Spell A) A → Type 0
 Spells p e q = (limit : Option ℕ) (m : Mode) → Hooks limit p.unfinished m
     → Hooks limit q.unfinished (after m e) × FoldsTo (At value_of Adds) p.sink (given limit m e) q.sink
+
+-- one entry, which is a number
+abbrev pub IsNumber : List CsiParam → Type 0
+IsNumber es = (n : ℤ) × (es ≡ Integer n ∷ [])
+
+-- a control sequence whose text is that of its entries, by its form
+abbrev pub IsPlain : List CsiParam → Bool → ℕ → Type 0
+IsPlain es more f = IsNumber es ⊎ (csi_of es more f ≡ unspecified es more f ∷ [])

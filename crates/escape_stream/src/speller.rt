@@ -1,14 +1,15 @@
 //! From events to text.
-ghost use Rattle.std.specs.Prelude.{◌≡◌, ◌∷◌, ◌++◌, [], OnOk, false, true};
+ghost use Rattle.std.specs.Prelude.{◌≡◌, ◌∷◌, ◌++◌, [], IsTrue, OnOk, false, true};
 ghost use Rattle.esc_below.specs.Csis.{csi_text, unspecified};
 ghost use Rattle.esc_actions.specs.Texts.{is_string, text_after};
 ghost use Rattle.esc_actions.specs.Values.{plain, value_of};
 ghost use Rattle.esc_osc.specs.Commands.{command_text};
 ghost use Rattle.esc_osc.specs.declared.command.OperatingSystemCommand.{OperatingSystemCommand as Command};
 ghost use Rattle.escape_stream.specs.Fed.{Hooks};
-ghost use Rattle.escape_stream.specs.Spelled.{Spells};
+ghost use Rattle.escape_stream.specs.Spelled.{IsNumber, IsPlain, Spells};
 
 use crate::performer::Performer;
+use crate::short_text::ShortText;
 use crate::sink::Spell;
 use crate::unfinished::Unfinished;
 use esc_below::csi::is_unspecified;
@@ -48,6 +49,27 @@ impl<A: Allocator + Copy> Speller<A> {
     }
 }
 
+// Appends the text of a control sequence that has no name; a short one is gathered first.
+fn append_sequence<A: Allocator>(
+    text: &mut Text<A>,
+    params: &[CsiParam],
+    parameters_truncated: bool,
+    control: u8,
+) -> Result<(), AllocError>
+    ensures { OnOk result (text.new ≡ text.old ++ csi_text (unspecified params.now parameters_truncated control)) }
+{
+    let mut short = ShortText::new();
+    if short.push_sequence(params, control) {
+        text.push_str(short.as_str())
+    } else {
+        text.push_display(&BorrowedSequence {
+            params,
+            parameters_truncated,
+            control,
+        })
+    }
+}
+
 impl<A: Allocator> Spell<A> {
     // Appends the text of a control sequence that has no name.
     fn write_sequence(
@@ -58,12 +80,7 @@ impl<A: Allocator> Spell<A> {
     ) -> Result<(), AllocError>
         ensures { OnOk result ((self.new.text ≡ self.old.text ++ csi_text (unspecified params.now parameters_truncated control)) × (self.new.follows_string ≡ false)) }
     {
-        let sequence = BorrowedSequence {
-            params,
-            parameters_truncated,
-            control,
-        };
-        self.text.push_display(&sequence)?;
+        append_sequence(&mut self.text, params, parameters_truncated, control)?;
         self.follows_string = false;
         Ok(())
     }
@@ -76,6 +93,21 @@ impl<A: Allocator> Spell<A> {
         self.follows_string = true;
         Ok(())
     }
+}
+
+// Whether the text of a control sequence is that of its entries: it has no name, or its only entry is a number, also where that
+// is a rendition.
+fn is_plain(params: &[CsiParam], parameters_truncated: bool, control: u8) -> bool
+    ensures { IsTrue result → IsPlain params.now parameters_truncated control }
+{
+    is_number(params) || is_unspecified(params, parameters_truncated, control)
+}
+
+// Whether the only entry is a number.
+fn is_number(params: &[CsiParam]) -> bool
+    ensures { IsTrue result → IsNumber params.now }
+{
+    matches!(params, [CsiParam::Integer(_)])
 }
 
 impl<A: Allocator + Copy> VTActor for Speller<A> {
@@ -136,7 +168,7 @@ impl<A: Allocator + Copy> VTActor for Speller<A> {
         parameters_truncated: bool,
         byte: u8,
     ) -> Result<(), AllocError> {
-        if is_unspecified(params, parameters_truncated, byte) {
+        if is_plain(params, parameters_truncated, byte) {
             self.performer
                 .sink
                 .write_sequence(params, parameters_truncated, byte)

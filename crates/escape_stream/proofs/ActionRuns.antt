@@ -1,0 +1,61 @@
+-- Runs of characters, gathered eight at a time.
+use Rattle.std.proofs.Common.{ℕ, suc, Bool, false, ◌≡◌, ◌+◌, ◌<◌, List, [], ◌∷◌, ◌++◌, length, map, take, drop, get_or, refl, ap, sym, ◌∙◌, append_assoc, take-append-drop, arith}
+use Rattle.std.proofs.Common.{set}
+use Rattle.std.proofs.lemmas.List.{length-append, length-map, map-append, take_all, take_more, take_more_set}
+use Rattle.std.proofs.lemmas.Str.{encode_ascii}
+use Rattle.std.specs.Str.{IsAscii}
+use Rattle.esc_actions.specs.Texts.{is_string, text_after, texts_after}
+use Rattle.esc_actions.specs.Values.{Value}
+use Rattle.esc_actions.specs.Values.Value.{print}
+
+module _ {X V : Type 0} (f : X → V) (show : ℕ → V) where
+  -- one more character
+  pub one_seen : (xs : List X) (bs : List ℕ) (i c : ℕ) (x : X) → i < length xs → i < length bs → x ≡ get_or xs i x → f x ≡ show c
+      → map f (take i xs) ≡ map show (take i bs) → map f (take (i + 1) xs) ≡ map show (take (i + 1) (set bs i c))
+  one_seen xs bs i c x l k at is seen =
+      ap (map f) (take_more xs i x l) ∙ map-append f (take i xs) (get_or xs i x ∷ [])
+      ∙ ap (λ ys. ys ++ f (get_or xs i x) ∷ []) seen ∙ ap (λ v. map show (take i bs) ++ v ∷ []) (ap f (sym at) ∙ is)
+      ∙ sym (map-append show (take i bs) (c ∷ [])) ∙ ap (map show) (sym (take_more_set bs i c k))
+
+  -- all of them, and what follows
+  pub all_seen : (xs : List X) (bs : List ℕ) (n : ℕ) → length bs ≡ n → map f (take n xs) ≡ map show (take n bs)
+      → map f xs ≡ map show bs ++ map f (drop n xs)
+  all_seen xs bs n full seen =
+      let whole : take n bs ≡ bs = take_all n bs (omega arith) in
+      ap (map f) (sym (take-append-drop n xs)) ∙ map-append f (take n xs) (drop n xs)
+      ∙ ap (λ ys. ys ++ map f (drop n xs)) (seen ∙ ap (map show) whole)
+
+  -- a run that goes on
+  pub more_seen : (vs : List V) (run bs : List ℕ) (ws us : List V) → vs ≡ map show run ++ ws → ws ≡ map show bs ++ us → vs ≡ map show (run ++ bs) ++ us
+  more_seen vs run bs ws us h k =
+      h ∙ ap (λ w. map show run ++ w) k ∙ sym (append_assoc (map show run) (map show bs) us) ∙ ap (λ w. w ++ us) (sym (map-append show run bs))
+
+-- the text of a run
+spelled_run : {A : Type 0} (xs : List ℕ) (vs : List (Value A)) → IsAscii xs → texts_after false (map print xs ++ vs) ≡ xs ++ texts_after false vs
+spelled_run [] vs h = refl
+spelled_run (x ∷ xs) vs h = rw (encode_ascii x (h 0)) (ap (λ t. x ∷ t) (spelled_run xs vs (λ i. h (suc i))))
+
+-- what comes before a character does not show in its text
+print_follows : {A : Type 0} (follows : Bool) (c : ℕ) (vs ws : List (Value A)) → vs ≡ print c ∷ ws → texts_after false vs ≡ texts_after follows vs
+print_follows follows c vs ws h = ap (texts_after false) h ∙ ap (texts_after follows) (sym h)
+
+pub run_text : {A : Type 0} (follows : Bool) (c : ℕ) (old new xs : List ℕ) (vs us ws : List (Value A)) → vs ≡ print c ∷ us → IsAscii xs
+    → vs ≡ map print xs ++ ws → new ≡ old ++ xs → new ++ texts_after false ws ≡ old ++ texts_after follows vs
+run_text follows c old new xs vs us ws f a h k =
+    ap (λ t. t ++ texts_after false ws) k ∙ append_assoc old xs (texts_after false ws) ∙ ap (λ t. old ++ t) (sym (spelled_run xs ws a))
+    ∙ ap (λ vs. old ++ texts_after false vs) (sym h) ∙ ap (λ t. old ++ t) (print_follows follows c vs us f)
+
+-- the text of one action
+pub one_text : {A : Type 0} (follows ends : Bool) (old new : List ℕ) (v : Value A) (vs ws : List (Value A)) → vs ≡ v ∷ ws
+    → new ≡ old ++ text_after follows v → ends ≡ is_string v → new ++ texts_after ends ws ≡ old ++ texts_after follows vs
+one_text follows ends old new v vs ws h k e =
+    ap (λ t. t ++ texts_after ends ws) k ∙ append_assoc old (text_after follows v) (texts_after ends ws)
+    ∙ ap (λ b. old ++ (text_after follows v ++ texts_after b ws)) e ∙ ap (λ vs. old ++ texts_after follows vs) (sym h)
+
+-- what follows a run is shorter
+pub rest_shorter : {X : Type 0} {A : Type 0} (f : X → Value A) (xs rest : List X) (run : List ℕ) → map f xs ≡ map print run ++ map f rest → 0 < length run
+    → length rest < length xs
+rest_shorter {X} {A} f xs rest run h some =
+    let show : ℕ → Value A = λ c. print c in
+    let sizes : length (map f xs) ≡ length (map show run) + length (map f rest) = ap length h ∙ length-append (map show run) (map f rest) in
+    omega (arith, sizes, length-map xs f, length-map rest f, length-map run show)
