@@ -1,0 +1,33 @@
+-- Results, and bytes that were read and written.
+use Rattle.std.proofs.Common.{◌≡◌, ℕ, List, [], ◌++◌, Option, refl, sym, subst, ap, ◌∙◌, append-nil, append_assoc, take, Ok, Err, OnErr, Result}
+use Rattle.std.proofs.KnownBytes.{Appends-kept, Appends-nil, Appends-trans, Consumes-trans}
+use Rattle.std.specs.Io.KnownBytes.{Appends, Consumes, Keeps}
+use Rattle.escape_stream.specs.Io.{AppendsPrefix}
+
+pub on_err_more : {T E : Type 0} (X Y : Type 0) (r : Result T E) → (X → Y) → OnErr r X → OnErr r Y
+on_err_more X Y (Ok t) f h = h
+on_err_more X Y (Err e) f h = f h
+
+pub on_err_any : {T E : Type 0} (X : Type 0) (r : Result T E) → X → OnErr r X
+on_err_any X (Ok t) x = tt
+on_err_any X (Err e) x = x
+
+-- a prefix of a text is one of a text that begins with it
+pub prefix_after : (a b c : Option (List ℕ)) (before more whole : List ℕ) → Appends a b before → AppendsPrefix b c more → whole ≡ before ++ more → AppendsPrefix a c whole
+prefix_after a b c before more whole h (p, r, is, w) e = (before ++ p, r, e ∙ ap (λ x. before ++ x) is ∙ sym (append_assoc before p r), Appends-trans a b c before p h w)
+
+-- all of it is one
+pub prefix_whole : (a b : Option (List ℕ)) (t : List ℕ) → Appends a b t → AppendsPrefix a b t
+prefix_whole a b t h = (t, [], sym (append-nil t), h)
+
+-- and so is nothing
+pub prefix_none : (a : Option (List ℕ)) (t : List ℕ) → AppendsPrefix a a t
+prefix_none a t = ([], t, refl, Appends-nil a)
+
+-- a read that took nothing
+pub read_none : (a b c : Option (List ℕ)) (s : List ℕ) (n : ℕ) (buf : List ℕ) → n ≡ 0 → Consumes a b s → Consumes b c (take n buf) → Consumes a c s
+read_none a b c s n buf e h k = subst (λ x. Consumes a c x) (append-nil s) (Consumes-trans a b c s [] h (subst (λ m. Consumes b c (take m buf)) e k))
+
+-- one more piece was read, and its text written
+pub written_more : (a b c : Option (List ℕ)) (before more whole : List ℕ) → Appends a b before → Appends b c more → whole ≡ before ++ more → Appends a c whole
+written_more a b c before more whole h k e = subst (λ x. Appends a c x) (sym e) (Appends-trans a b c before more h k)

@@ -1,0 +1,12 @@
+use Rattle.std.proofs.Common.{[], Some, false, sym, ap, ◌∙◌}
+use Rattle.std.specs.List.{filter}
+use Rattle.esc_actions.proofs.Meanings.{meaning_nil}
+use Rattle.esc_filter.proofs.filter.Filter.new.Goals as goal
+use Rattle.esc_filter.specs.Passing.{passes}
+use Rattle.esc_filter.specs.Texts.{ends_in_string}
+
+pub returns-clause-fed : goal.returns-clause-fed
+returns-clause-fed g c = (
+  c.with_limit.ensures,
+  c.new.ensures.plain ∙ ap (λ vs. ends_in_string false (filter (passes (g.P.Admit.admits c.args.policy)) vs)) (sym (meaning_nil (Some c.args.limit))),
+)

@@ -1,0 +1,30 @@
+-- What a filter was fed.
+use Rattle.std.specs.Prelude.{ℕ, ◌≡◌, Bool, true, false, List, Option, Some}
+use Rattle.esc_actions.specs.Values.{Value, value_of}
+use Rattle.esc_actions.specs.declared.action.Action.{Action}
+use Rattle.escape_stream.specs.Fed.{IsBroken as IsBrokenParser, WasFedWithin}
+use Rattle.escape_stream.specs.Spelled.{Adds}
+use Rattle.escape_stream.specs.declared.sink.Spell.{Spell}
+use Rattle.esc_filter.specs.Passing.{passed, passes}
+use Rattle.esc_filter.specs.Texts.{ends_in_string}
+use Rattle.esc_filter.specs.declared.filter.Filter.{Filter}
+
+-- an action that passes is added to a text, and any other leaves it as it is
+abbrev pub Takes : {A : Type 0} → (Value A → Bool) → Spell A → Action A → Spell A → Type 0
+Takes admits p a q = (passes admits (value_of a) ≡ true → Adds p a q) × (passes admits (value_of a) ≡ false → q ≡ p)
+
+-- the filter, of this limit and of a policy that admits these values, was fed these bytes
+abbrev pub WasFed : {P A : Type 0} → ℕ → (Value A → Bool) → List ℕ → Filter P A → Type 0
+WasFed limit admits s f = WasFedWithin (Some limit) s f.parser × (f.spell.follows_string ≡ ends_in_string false (passed (Some limit) admits s))
+
+-- an earlier call was refused memory
+abbrev pub IsBroken : {P A : Type 0} → Filter P A → Type 0
+IsBroken f = IsBrokenParser f.parser
+
+-- the text that the bytes fed last added
+abbrev pub added_by : {P A : Type 0} → Filter P A → List ℕ
+added_by f = f.spell.text
+
+-- its policy
+abbrev pub policy_of : {P A : Type 0} → Filter P A → P
+policy_of f = f.policy

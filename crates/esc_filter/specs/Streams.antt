@@ -1,0 +1,18 @@
+-- What a filter did to a reader, of which these bytes remained, and a writer, which held these; each may be unknown.
+use Rattle.std.specs.Prelude.{ℕ, Bool, List, Option, Some}
+use Rattle.std.specs.Io.KnownBytes.{Appends, Consumes}
+use Rattle.esc_actions.specs.Values.{Value}
+use Rattle.escape_stream.specs.Io.{AppendsPrefix}
+use Rattle.esc_filter.specs.Passing.{IsFiltered, passed_text}
+
+-- it read some bytes, and wrote a text that is what passes of them and reads back as that
+abbrev pub HasFiltered : {A : Type 0} → (Value A → Bool) → ℕ → Option (List ℕ) → Option (List ℕ) → Option (List ℕ) → Option (List ℕ) → Type 0
+HasFiltered admits limit remained remain held hold = (s : List ℕ) × (t : List ℕ) × Consumes remained remain s × Appends held hold t × IsFiltered (Some limit) admits s t
+
+-- it read some bytes, and wrote the text of what passes of them
+abbrev pub HasWritten : {A : Type 0} → (Value A → Bool) → ℕ → Option (List ℕ) → Option (List ℕ) → Option (List ℕ) → Option (List ℕ) → Type 0
+HasWritten admits limit remained remain held hold = (s : List ℕ) × Consumes remained remain s × Appends held hold (passed_text (Some limit) admits s)
+
+-- it read some bytes, and wrote a prefix of the text of what passes of them
+abbrev pub HasBegun : {A : Type 0} → (Value A → Bool) → ℕ → Option (List ℕ) → Option (List ℕ) → Option (List ℕ) → Option (List ℕ) → Type 0
+HasBegun admits limit remained remain held hold = (s : List ℕ) × Consumes remained remain s × AppendsPrefix held hold (passed_text (Some limit) admits s)

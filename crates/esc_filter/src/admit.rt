@@ -1,0 +1,108 @@
+//! Whoever says which actions a filter lets through.
+ghost use Rattle.std.specs.Prelude.{◌≡◌, Bool, not, ◌&&◌};
+ghost use Rattle.std.specs.List.{list_any};
+ghost use Rattle.esc_below.specs.Csis.{csi_value};
+ghost use Rattle.esc_actions.specs.Values.{Value, device_value, value_of};
+ghost use Rattle.esc_actions.specs.Writable.{is_exception, is_opening, is_truncated};
+ghost use Rattle.esc_device.specs.Writable.{is_high_byte};
+ghost use Rattle.esc_filter.specs.Passing.{is_opener, is_whole, passes};
+
+use escape_stream::{Action, CSI, DeviceControlMode, Esc};
+use std::alloc::Allocator;
+
+/// Says which actions may pass a filter: a [`Policy`](crate::Policy), or a rule of the caller's own.
+///
+/// A filter asks it only of actions that can be written by themselves. So an implementation cannot let through what would read back
+/// as something else.
+pub trait Admit<A: Allocator> {
+    // the values that it admits
+    ghost admits: { Self → Value A → Bool };
+
+    /// Whether the action may pass. It is asked of each action once, in order.
+    fn admits(&self, action: &Action<A>) -> bool
+        ensures { result ≡ admits self.now (value_of action.now) };
+
+    /// Is shown each action that does not pass, also one that no policy is asked of. It does nothing, unless an implementation does.
+    fn leaves_out(&self, _action: &Action<A>) {}
+}
+
+// Whether the action passes: it can be written by itself, and is admitted.
+#[inline]
+pub(crate) fn passes<A: Allocator, P: Admit<A>>(policy: &P, action: &Action<A>) -> bool
+    ensures { result ≡ passes (P.admits policy.now) (value_of action.now) }
+{
+    is_whole(action) && policy.admits(action)
+}
+
+// Whether the action can be written by itself, where a parser handed it out.
+fn is_whole<A: Allocator>(action: &Action<A>) -> bool
+    ensures { result ≡ is_whole (value_of action.now) }
+{
+    match action {
+        Action::Print(_)
+        | Action::PrintString(_)
+        | Action::Control(_)
+        | Action::OperatingSystemCommand(_)
+        | Action::KittyImage(_)
+        | Action::Sixel(_)
+        | Action::XtGetTcap(_) => true,
+        Action::Esc(esc) => !opens(esc),
+        Action::CSI(csi) => !is_truncated(csi),
+        Action::DeviceControl(mode) => is_plain_short(mode),
+    }
+}
+
+// Whether it is a short control without a byte A0 to FF.
+fn is_plain_short<A: Allocator>(mode: &DeviceControlMode<A>) -> bool
+    ensures { result ≡ is_whole (device_value mode.now) }
+{
+    match mode {
+        DeviceControlMode::ShortDeviceControl(short) => {
+            !has_high_byte(short.as_ref().content.as_slice())
+        }
+        DeviceControlMode::Enter(_) | DeviceControlMode::Data(_) | DeviceControlMode::Exit => false,
+    }
+}
+
+// Whether one of the bytes is A0 to FF.
+fn has_high_byte(bytes: &[u8]) -> bool
+    ensures { result ≡ list_any is_high_byte bytes.now }
+{
+    bytes.iter().any(|b| *b >= 0xa0)
+}
+
+// Whether the text of the escape sequence begins a string or a control sequence.
+#[tactic(auto, using(crate::proofs::Openers::opens_by_letter))]
+fn opens(esc: &Esc) -> bool
+    ensures { result ≡ is_opening esc.now }
+{
+    match esc {
+        Esc::Unspecified {
+            intermediate: None,
+            control,
+        } => is_opener(*control),
+        Esc::Unspecified { .. } | Esc::Code(_) => false,
+    }
+}
+
+// Whether this letter, after ESC, opens a string or a control sequence.
+fn is_opener(letter: u8) -> bool
+    ensures { result ≡ is_opener letter }
+{
+    letter == b'['
+        || letter == b']'
+        || letter == b'P'
+        || letter == b'X'
+        || letter == b'^'
+        || letter == b'_'
+}
+
+// Whether entries of the control sequence were left out.
+fn is_truncated<A: Allocator>(csi: &CSI<A>) -> bool
+    ensures { result ≡ is_truncated (csi_value csi.now) }
+{
+    match csi {
+        CSI::Sgr(_) => false,
+        CSI::Unspecified(sequence) => sequence.as_ref().parameters_truncated,
+    }
+}

@@ -1,0 +1,97 @@
+//! Actions, written one at a time.
+ghost use Rattle.std.specs.Prelude.{◌≡◌, ◌∷◌, ◌++◌, ◌↔◌, [], List, true, false, IfOk, IsErrOf, OnErr, OnOk, string_bytes};
+ghost use Rattle.esc_actions.specs.Texts.{has_text, text_after, whole_text};
+ghost use Rattle.esc_actions.specs.Values.{Value, value_of};
+
+use escape_stream::{Action, EncodeError, Text};
+use std::alloc::{AllocError, Allocator};
+
+/// Writes actions one at a time, as [`encode`](escape_stream::encode) writes all of them. It keeps one bit: whether the last of
+/// them was a string, so that a string terminator which comes next writes nothing.
+#[derive(Clone, Copy, Debug, PartialEq, Eq)]
+pub struct Encoder {
+    follows_string: bool,
+}
+
+impl Encoder {
+    ghost use Rattle.esc_filter.specs.Encoding.{AddsTo, HasWritten, IsNew};
+
+    /// An encoder that wrote nothing yet.
+    pub fn new() -> Encoder
+        ensures { IsNew result }
+    {
+        Encoder {
+            follows_string: false,
+        }
+    }
+
+    /// Appends what the action adds to the text of those before it. A string is ended at once, and a string terminator directly
+    /// after it adds nothing.
+    ///
+    /// `EncodeError::Fmt` comes exactly where the action is a sixel image with a value over 63, and `EncodeError::Memory` says that
+    /// a growth was refused. After an error the text and the encoder are as they were, so the text ends where an action ends.
+    pub fn append<A: Allocator>(
+        &mut self,
+        alloc: A,
+        action: &Action<A>,
+        text: &mut String<A>,
+    ) -> Result<(), EncodeError>
+        ensures written { (vs : List (Value A)) → HasWritten vs self.old → OnOk result (HasWritten (vs ++ value_of action.now ∷ []) self.new
+            × AddsTo vs (value_of action.now) (string_bytes text.old) (string_bytes text.new)) }
+        ensures refused { OnErr result ((self.new ≡ self.old) × (string_bytes text.new ≡ string_bytes text.old)) }
+        ensures no_text { IsErrOf result EncodeError.Fmt ↔ (has_text (value_of action.now) ≡ false) }
+    {
+        append_after(alloc, self.follows_string, action, text)?;
+        self.follows_string = action.is_string();
+        Ok(())
+    }
+}
+
+// Appends the text of an action. A string terminator directly after a string adds none.
+#[tactic(auto, using(crate::proofs::Encoding::text_follows))]
+fn append_after<A: Allocator>(
+    alloc: A,
+    follows_string: bool,
+    action: &Action<A>,
+    text: &mut String<A>,
+) -> Result<(), EncodeError>
+    ensures ok { OnOk result (string_bytes text.new ≡ string_bytes text.old ++ text_after follows_string (value_of action.now)) }
+    ensures err { OnErr result (string_bytes text.new ≡ string_bytes text.old) }
+    ensures no_text { IsErrOf result EncodeError.Fmt ↔ (has_text (value_of action.now) ≡ false) }
+{
+    if action.is_terminator() && follows_string {
+        return Ok(());
+    }
+    let own = own_text(alloc, action)?;
+    match text.push_str(own.as_str()) {
+        Ok(()) => Ok(()),
+        Err(_) => Err(EncodeError::Memory),
+    }
+}
+
+// The text of an action by itself.
+fn own_text<A: Allocator>(alloc: A, action: &Action<A>) -> Result<Text<A>, EncodeError>
+    ensures text { IfOk result (λ t. t ≡ whole_text (value_of action.now)) }
+    ensures no_text { IsErrOf result EncodeError.Fmt ↔ (has_text (value_of action.now) ≡ false) }
+{
+    if !action.has_text() {
+        return Err(EncodeError::Fmt);
+    }
+    match spelled(alloc, action) {
+        Ok(text) => Ok(text),
+        Err(_) => Err(EncodeError::Memory),
+    }
+}
+
+// The same, of an action that has one.
+fn spelled<A: Allocator>(alloc: A, action: &Action<A>) -> Result<Text<A>, AllocError>
+    requires { has_text (value_of action.now) ≡ true }
+    ensures { IfOk result (λ t. t ≡ whole_text (value_of action.now)) }
+{
+    let mut text = Text::new(alloc);
+    text.push_display(action)?;
+    if action.is_left_open() {
+        text.push_str("\x1b\\")?;
+    }
+    Ok(text)
+}

@@ -1,0 +1,88 @@
+//! A filter that is fed a stream piece by piece.
+ghost use Rattle.std.specs.Prelude.{◌≡◌, ◌≤◌, ◌++◌, ℕ, List, [], IfErr, OnOk, Some};
+ghost use Rattle.esc_filter.specs.Passing.{passed_text};
+
+use crate::admit::Admit;
+use crate::passing::Passing;
+use crate::text::emptied;
+use escape_stream::{ParseError, Parser, Spell};
+use std::alloc::{Allocator, Global};
+use std::mem;
+
+/// Takes a stream in whatever pieces it comes, and gives for each the text that it adds: that of the actions which pass the policy.
+///
+/// It keeps what a parser keeps of an unfinished segment, at most the limit, the text of the piece before, and whether a string
+/// terminator that comes next ends a string that was written already.
+#[derive(Drop)]
+pub struct Filter<P, A: Allocator = Global> {
+    parser: Parser<A>,
+    spell: Spell<A>,
+    alloc: A,
+    policy: P,
+}
+
+impl<P: Admit<A>, A: Allocator + Copy> Filter<P, A> {
+    ghost use Rattle.esc_filter.specs.Fed.{IsBroken, WasFed, added_by, policy_of};
+
+    /// A filter at the beginning of a stream, which keeps at most `limit` bytes of a segment, as
+    /// [`Parser::with_limit`](escape_stream::Parser::with_limit) does. Takes no memory.
+    pub fn new(alloc: A, limit: usize, policy: P) -> Filter<P, A>
+        ensures fed { WasFed limit (P.admits policy) [] result }
+        ensures policy { policy_of result ≡ policy }
+        ensures empty { added_by result ≡ [] }
+    {
+        Filter {
+            parser: Parser::with_limit(alloc, limit),
+            spell: Spell::new(alloc),
+            alloc,
+            policy,
+        }
+    }
+
+    /// Takes `bytes`. What they add to the text of the stream so far is then the [`text`](Filter::text).
+    ///
+    /// `ParseError::Memory` says that a growth was refused: the text is empty, and from then on every call returns
+    /// `ParseError::Failed`.
+    pub fn feed(&mut self, bytes: &[u8]) -> Result<(), ParseError>
+        ensures given { (limit : ℕ) (s : List ℕ) → WasFed limit (P.admits (policy_of self.old)) s self.old → OnOk result (WasFed limit (P.admits (policy_of self.old)) (s ++ bytes.now) self.new
+            × (passed_text (Some limit) (P.admits (policy_of self.old)) (s ++ bytes.now) ≡ passed_text (Some limit) (P.admits (policy_of self.old)) s ++ added_by self.new)) }
+        ensures policy { policy_of self.new ≡ policy_of self.old }
+        ensures refused { (limit : ℕ) (s : List ℕ) → WasFed limit (P.admits (policy_of self.old)) s self.old → IfErr result (λ e. (e ≡ ParseError.Memory) × IsBroken self.new × (added_by self.new ≡ [])) }
+        ensures failed { IsBroken self.old → (result ≡ Err ParseError.Failed) × IsBroken self.new × (added_by self.new ≡ []) }
+    {
+        let Spell {
+            text,
+            follows_string,
+        } = mem::replace(&mut self.spell, Spell::new(self.alloc));
+        let sink = Passing {
+            spell: Spell {
+                text: emptied(text),
+                follows_string,
+            },
+            policy: &self.policy,
+        };
+        let (result, Passing { spell, policy: _ }) = self.parser.parse_into(bytes, sink);
+        match result {
+            Ok(()) => {
+                self.spell = spell;
+                Ok(())
+            }
+            Err(error) => Err(error),
+        }
+    }
+
+    /// The text that the bytes fed last added.
+    pub fn text(&self) -> &str
+        ensures { result.now ≡ added_by self.now }
+    {
+        self.spell.text.as_str()
+    }
+
+    /// How many bytes are kept of the segment that is unfinished: at most the limit.
+    pub fn kept(&self) -> usize
+        ensures within { (limit : ℕ) (s : List ℕ) → WasFed limit (P.admits (policy_of self.now)) s self.now → result ≤ limit }
+        ensures failed { IsBroken self.now → result ≡ 0 }
+    {
+        self.parser.kept()
+    }
+}

@@ -1,0 +1,34 @@
+//! What takes the actions that pass.
+ghost use Rattle.std.specs.Prelude.{◌≡◌};
+ghost use Rattle.esc_filter.specs.Fed.{Takes};
+
+use crate::admit::{Admit, passes};
+use escape_stream::{Action, Sink, Spell};
+use std::alloc::{AllocError, Allocator, Global};
+
+/// Appends the text of each action that passes, and drops the others.
+#[derive(Drop)]
+pub(crate) struct Passing<'p, P, A: Allocator = Global> {
+    /// The text of those that passed.
+    pub spell: Spell<A>,
+    /// What admits them.
+    pub policy: &'p P,
+}
+
+impl<'p, P: Admit<A>, A: Allocator> Sink<Action<A>> for Passing<'p, P, A> {
+    ghost is_ready = { λ _. Unit {0} };
+
+    ghost takes = { λ p a q. Takes (P.admits p.policy.now) p.spell a q.spell × (q.policy.now ≡ p.policy.now) };
+
+    ghost refuses = { λ _ _ _. Unit {0} };
+
+    #[inline]
+    fn receive(&mut self, action: Action<A>) -> Result<(), AllocError> {
+        if passes(self.policy, &action) {
+            self.spell.receive(action)
+        } else {
+            self.policy.leaves_out(&action);
+            Ok(())
+        }
+    }
+}

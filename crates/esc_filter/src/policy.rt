@@ -1,0 +1,119 @@
+//! Policies.
+ghost use Rattle.std.specs.Prelude.{◌≡◌};
+ghost use Rattle.std.specs.List.{list_all};
+ghost use Rattle.esc_below.specs.Csis.{csi_value};
+ghost use Rattle.esc_actions.specs.Values.{value_of};
+ghost use Rattle.esc_filter.specs.Rules.{is_colour, is_layout, is_link, is_plain_entry, is_rendition, is_shown, is_text};
+
+use crate::admit::Admit;
+use crate::screen::is_screen;
+use escape_stream::{Action, CSI, CsiParam, OperatingSystemCommand};
+use std::alloc::Allocator;
+
+/// Which actions pass a filter. Each admits all that the one before it does.
+#[derive(Clone, Copy, Debug, PartialEq, Eq)]
+pub enum Policy {
+    /// Characters but DEL; tab, line feed and carriage return.
+    Text,
+    /// And graphic renditions (SGR) and hyperlinks.
+    Color,
+    /// And what changes the screen alone: the controls 07 to 0F; cursor movement, erasing, inserting, deleting, scrolling, margins and tab
+    /// stops; modes of what is shown, character sets, the cursor's shape, and colours of the palette. It is a list of what is known to be
+    /// so: nothing that a terminal answers, nothing that changes what keys, mouse or terminal send, no title, clipboard, notification, file,
+    /// directory, print, device control string or application program command is on it, and nothing unknown.
+    Screen,
+    /// All that can be written by itself, C1 controls, images and queries too. It keeps broken input from becoming a sequence,
+    /// and does not protect from sequences that are there.
+    All,
+}
+
+impl<A: Allocator> Admit<A> for Policy {
+    ghost use Rattle.esc_filter.specs.Rules.{admits as admits_by};
+
+    ghost admits = { λ p v. admits_by p v };
+
+    #[inline]
+    fn admits(&self, action: &Action<A>) -> bool {
+        match self {
+            Policy::Text => is_text(action),
+            Policy::Color => is_text(action) || is_colour(action),
+            Policy::Screen => is_text(action) || is_colour(action) || is_screen(action),
+            Policy::All => true,
+        }
+    }
+}
+
+// Whether it is characters, or a control that lays them out.
+#[inline]
+fn is_text<A: Allocator>(action: &Action<A>) -> bool
+    ensures { result ≡ is_text (value_of action.now) }
+{
+    match action {
+        Action::Print(c) => *c != '\x7f',
+        Action::PrintString(text) => is_shown(text.as_bytes()),
+        Action::Control(code) => is_layout(code.as_char()),
+        _ => false,
+    }
+}
+
+// Whether no byte is DEL.
+fn is_shown(text: &[u8]) -> bool
+    ensures { result ≡ list_all is_shown text.now }
+{
+    text.iter().all(|b| *b != 0x7f)
+}
+
+// Whether it is tab, line feed or carriage return.
+fn is_layout(code: char) -> bool
+    ensures { result ≡ is_layout code }
+{
+    code == '\t' || code == '\n' || code == '\r'
+}
+
+// Whether it is a rendition or a link.
+fn is_colour<A: Allocator>(action: &Action<A>) -> bool
+    ensures { result ≡ is_colour (value_of action.now) }
+{
+    match action {
+        Action::CSI(csi) => is_rendition(csi),
+        Action::OperatingSystemCommand(command) => is_link(command.as_ref()),
+        _ => false,
+    }
+}
+
+// Whether it is a graphic rendition.
+fn is_rendition<A: Allocator>(csi: &CSI<A>) -> bool
+    ensures { result ≡ is_rendition (csi_value csi.now) }
+{
+    match csi {
+        CSI::Sgr(_) => true,
+        CSI::Unspecified(sequence) => {
+            let sequence = sequence.as_ref();
+            sequence.control == b'm' && are_plain(sequence.params.as_slice())
+        }
+    }
+}
+
+// Whether all are numbers, `;` or `:`.
+pub(crate) fn are_plain(params: &[CsiParam]) -> bool
+    ensures { result ≡ list_all is_plain_entry params.now }
+{
+    params.iter().all(is_plain_entry)
+}
+
+// Whether it is a number, `;` or `:`.
+fn is_plain_entry(param: &CsiParam) -> bool
+    ensures { result ≡ is_plain_entry param.now }
+{
+    match param {
+        CsiParam::Integer(_) => true,
+        CsiParam::P(b) => *b == b';' || *b == b':',
+    }
+}
+
+// Whether it is a link, or the end of one.
+fn is_link<A: Allocator>(command: &OperatingSystemCommand<A>) -> bool
+    ensures { result ≡ is_link command.now }
+{
+    matches!(command, OperatingSystemCommand::SetHyperlink(_))
+}

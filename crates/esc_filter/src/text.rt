@@ -1,0 +1,14 @@
+//! A text of which the memory is used again.
+ghost use Rattle.std.specs.Prelude.{◌≡◌, []};
+
+use esc_below::Text;
+use std::alloc::Allocator;
+
+/// The empty text, in the memory of this one.
+pub(crate) fn emptied<A: Allocator>(text: Text<A>) -> Text<A>
+    ensures { result ≡ [] }
+{
+    let mut string = text.into_string();
+    string.clear();
+    Text::from_string(string)
+}
