@@ -1,0 +1,7 @@
+use Rattle.escdump.specs.Pages.{AppendsPage}
+use Rattle.escdump.proofs.run.dump.Given as goal
+
+abbrev pub invariant-loop : goal.invariant-loop
+invariant-loop g l = record {
+  printed : AppendsPage (g.W.Write.contents l.fn.output) (g.W.Write.contents l.output);
+}

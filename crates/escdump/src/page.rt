@@ -1,0 +1,172 @@
+//! Lines that are safe to print.
+ghost use Rattle.std.specs.Prelude.{◌≡◌, ◌<◌, true};
+ghost use Rattle.escdump.specs.Pages.{IsPage, is_shown};
+
+use esc_below::Text;
+use std::alloc::{AllocError, Allocator, Global};
+
+/// Lines for a terminal or a file, of which each character is shown, ends a line, or belongs to a colour that was asked for: no
+/// control or escape sequence of what was read is in them.
+#[derive(Drop)]
+pub struct Page<A: Allocator = Global> {
+    text: Text<A>,
+    columns: usize,
+    is_colored: bool,
+    alloc: A,
+    ghost safe: { ∥ IsPage text ∥₁ },
+}
+
+/// The colour of a part of a line.
+#[derive(Clone, Copy)]
+pub enum Color {
+    /// That of the place.
+    Place,
+    /// That of the bytes.
+    Bytes,
+    /// None.
+    Plain,
+}
+
+impl<A: Allocator + Copy> Page<A> {
+    /// No lines. Takes no memory.
+    #[tactic(auto, using(crate::proofs::PagesMore::no_page))]
+    pub fn new(alloc: A, is_colored: bool) -> Page<A> {
+        Page {
+            text: Text::new(alloc),
+            columns: 0,
+            is_colored,
+            alloc,
+        }
+    }
+
+    /// The lines.
+    pub fn as_bytes(&self) -> &[u8]
+        ensures { ∥ IsPage result.now ∥₁ }
+    {
+        self.text.as_bytes()
+    }
+
+    /// Drops the lines.
+    #[tactic(auto, using(crate::proofs::PagesMore::no_page))]
+    pub fn clear(&mut self) {
+        self.text = Text::new(self.alloc);
+    }
+
+    /// Appends the bytes, escaped: a well-formed character that is shown as itself, `\` as `\\`, and each other byte as `\x` with two
+    /// hexadecimal digits. Where they would go past this column, the first ones, and `..`. The error is that memory was refused.
+    pub fn push(&mut self, bytes: &[u8], room: usize) -> Result<(), AllocError> {
+        for chunk in bytes.utf8_chunks() {
+            for c in chunk.valid().chars() {
+                if self.columns >= room {
+                    return self.cut();
+                }
+                self.push_char(c)?;
+            }
+            for byte in chunk.invalid() {
+                if self.columns >= room {
+                    return self.cut();
+                }
+                self.push_hex(*byte)?;
+            }
+        }
+        Ok(())
+    }
+
+    // Marks that bytes are left out.
+    fn cut(&mut self) -> Result<(), AllocError> {
+        self.push_shown('.')?;
+        self.push_shown('.')
+    }
+
+    // Appends a character, escaped.
+    fn push_char(&mut self, c: char) -> Result<(), AllocError> {
+        if c == '\\' {
+            self.push_shown('\\')?;
+            self.push_shown('\\')
+        } else if is_shown(c) {
+            self.push_shown(c)
+        } else {
+            let mut bytes = [0u8; 4];
+            for byte in c.encode_utf8(&mut bytes).as_bytes() {
+                self.push_hex(*byte)?;
+            }
+            Ok(())
+        }
+    }
+
+    // Appends a character that is shown as itself.
+    fn push_shown(&mut self, c: char) -> Result<(), AllocError>
+        requires { is_shown c ≡ true }
+    {
+        self.columns = self.columns.saturating_add(1);
+        self.text.push(c)
+    }
+
+    // Appends a byte as its number.
+    fn push_hex(&mut self, byte: u8) -> Result<(), AllocError> {
+        self.push_shown('\\')?;
+        self.push_shown('x')?;
+        self.push_shown(digit(byte / 16))?;
+        self.push_shown(digit(byte % 16))
+    }
+
+    /// Appends spaces up to this column, and one at least.
+    pub fn pad(&mut self, columns: usize) -> Result<(), AllocError> {
+        self.push_shown(' ')?;
+        for _ in self.columns..columns {
+            self.push_shown(' ')?;
+        }
+        Ok(())
+    }
+
+    /// Changes the colour, where colours are asked for.
+    pub fn color(&mut self, color: Color) -> Result<(), AllocError> {
+        if !self.is_colored {
+            return Ok(());
+        }
+        match color {
+            Color::Place => self.text.push_str("\x1b[33m"),
+            Color::Bytes => self.text.push_str("\x1b[36m"),
+            Color::Plain => self.text.push_str("\x1b[m"),
+        }
+    }
+
+    /// Appends a whole line. The error is that memory was refused.
+    pub fn push_line(&mut self, line: &str) -> Result<(), AllocError> {
+        self.push(line.as_bytes(), usize::MAX)?;
+        self.end_line()
+    }
+
+    /// Ends the line.
+    pub fn end_line(&mut self) -> Result<(), AllocError> {
+        self.columns = 0;
+        self.text.push_str("\n")
+    }
+}
+
+// Whether the character is shown as itself: U+0020 to U+007E, and from U+00A0 on, but for those that break lines or change the
+// direction of text.
+fn is_shown(c: char) -> bool
+    ensures { result ≡ is_shown c }
+{
+    let number = c as u32;
+    (0x20 <= number && number <= 0x7e)
+        || (0xa0 <= number
+            && !(0x200b <= number && number <= 0x200f)
+            && !(0x2028 <= number && number <= 0x202e)
+            && !(0x2060 <= number && number <= 0x206f)
+            && number != 0x61c
+            && number != 0xfeff)
+}
+
+// The digit of a number below 16.
+fn digit(number: u8) -> char
+    requires { number < 16 }
+    ensures { is_shown result ≡ true }
+{
+    if number < 10 {
+        char::from(b'0' + number)
+    } else {
+        char::from(b'a' + (number - 10))
+    }
+}
