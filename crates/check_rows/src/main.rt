@@ -15,6 +15,7 @@ mod line;
 mod readings;
 mod report;
 mod row;
+mod segments;
 mod spellings;
 mod steps;
 mod stream;

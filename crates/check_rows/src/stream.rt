@@ -3,6 +3,7 @@ use crate::asked::Asked;
 use crate::fault::Fault;
 use crate::readings::{added_actions, by_bytes, by_calls, by_prefixes, first_actions, in_pieces};
 use crate::report::Report;
+use crate::segments::{by_segments, is_read_alike};
 use crate::spellings::{encoded, encoded_bytes, is_displayed, normalised};
 use std::alloc::Global;
 
@@ -20,6 +21,9 @@ pub struct Stream<'a> {
 // Longer streams are not cut at each place, and are refused no memory.
 const CUT_UP_TO: usize = 2000;
 
+// Of longer streams the prefixes are not read by their segments.
+const PREFIXES_UP_TO: usize = 200;
+
 // Longer streams are read whole, and by no other call.
 const EACH_BYTE_UP_TO: usize = 200_000;
 
@@ -28,6 +32,7 @@ impl Stream<'_> {
     pub fn check(&self, alloc: Global, report: &mut Report) -> Result<(), Fault> {
         self.check_pieces(alloc, report)?;
         self.check_calls(alloc, report)?;
+        self.check_segments(alloc, report)?;
         self.check_text(alloc, report)?;
         self.check_memory(alloc, report)
     }
@@ -63,6 +68,21 @@ impl Stream<'_> {
         let added = added_actions(alloc, self.bytes)?;
         let first = first_actions(alloc, self.bytes);
         report.expect(self.name, "first actions", added.as_str(), first)
+    }
+
+    // Segment by segment; and each prefix both ways, also with a byte after it.
+    fn check_segments(&self, alloc: Global, report: &mut Report) -> Result<(), Fault> {
+        let got = by_segments(alloc, self.bytes);
+        self.has_actions("read by segments", got, report)?;
+        if self.bytes.len() > PREFIXES_UP_TO {
+            return Ok(());
+        }
+        for end in 0..self.bytes.len() {
+            if !is_read_alike(alloc, &self.bytes[..end])? {
+                return Ok(report.note(self.name, "a prefix is read otherwise by segments")?);
+            }
+        }
+        Ok(())
     }
 
     // The text of the actions, and what is read of it again.

@@ -1,0 +1,25 @@
+//! Why a stream could not be read.
+use escape_stream::ParseError;
+use std::alloc::{AllocError, AllocFailed};
+
+/// What was wrong, in words.
+#[derive(Clone, Copy)]
+pub struct Fault(pub &'static str);
+
+impl From<AllocError> for Fault {
+    fn from(_: AllocError) -> Fault {
+        Fault("out of memory")
+    }
+}
+
+impl<T: Drop> From<AllocFailed<T>> for Fault {
+    fn from(_: AllocFailed<T>) -> Fault {
+        Fault("out of memory")
+    }
+}
+
+impl From<ParseError> for Fault {
+    fn from(_: ParseError) -> Fault {
+        Fault("the parser failed")
+    }
+}
