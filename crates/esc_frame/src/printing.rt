@@ -10,7 +10,7 @@ ghost use Rattle.esc_frame.specs.Machine.Moves.{IsStill};
 
 use crate::actor::VTActor;
 use crate::machine::Result;
-use crate::scans::ascii_run;
+use crate::scans::{ascii_run, free_run};
 use crate::sequence::{ahead, of_four, of_three, of_two};
 
 /// The character that comes first and is whole, and its length; `None` where there is none, or where that is not seen at
@@ -104,7 +104,30 @@ pub fn print_one<V: VTActor>(rest: &[u8], actor: &mut V) -> Result<usize>
     } else if rest[0] < 0x80 {
         print_text(rest, actor)
     } else {
-        print_wides(rest, actor)
+        print_long(rest, actor)
+    }
+}
+
+// A long run of text as it is; or the sequences that come first, where it is short or not well-formed. A stream that is not
+// UTF-8 mostly shows that at once. It is out of the way of the code for plain text.
+#[inline(never)]
+fn print_long<V: VTActor>(rest: &[u8], actor: &mut V) -> Result<usize>
+    requires { V.is_ready actor.old }
+    ensures { Stays false V.takes V.refuses V.is_ready result rest.now actor.old actor.new }
+{
+    if ahead(rest).0 == 0 {
+        return Ok(0);
+    }
+    let run = free_run(rest);
+    if run < 24 {
+        return print_wides(rest, actor);
+    }
+    match simdutf8::basic::from_utf8(&rest[..run]) {
+        Ok(text) => match actor.print_str(text) {
+            Ok(()) => Ok(run),
+            Err(e) => Err(e),
+        },
+        Err(_) => print_wides(rest, actor),
     }
 }
 

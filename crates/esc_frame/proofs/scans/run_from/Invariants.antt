@@ -1,7 +1,7 @@
 use Rattle.std.proofs.Common.{◌-◌, ◌+◌, ◌≤◌, ◌≡◌, length, drop}
 use Rattle.std.specs.List.{prefix_len}
 use Rattle.esc_frame.specs.Sequences.{is_from}
-use Rattle.esc_frame.proofs.scans.long_run_to.Given as goal
+use Rattle.esc_frame.proofs.scans.run_from.Given as goal
 
 abbrev pub invariant-loop-end : goal.invariant-loop-end
 invariant-loop-end l = (l.end ≤ length l.bytes) × (prefix_len (is_from 0x20 l.last) l.bytes ≡ l.end + prefix_len (is_from 0x20 l.last) (drop l.end l.bytes))
