@@ -4,7 +4,9 @@ pub mod Digits
 pub mod Extents
 pub mod Handed
 pub mod Headers
+pub mod PixelRuns
 pub mod Pieces
+pub mod Pushed
 pub mod Runs
 pub mod Steps
 pub mod Written

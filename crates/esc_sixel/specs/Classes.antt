@@ -1,5 +1,7 @@
 -- What a byte is to sixel data.
-use Rattle.std.specs.Prelude.{ℕ, ◌-◌, ◌==◌, nat_lt, if◌then◌else◌}
+use Rattle.std.specs.Prelude.{ℕ, ◌≡◌, ◌-◌, ◌==◌, Bool, true, nat_lt, if◌then◌else◌}
+use Rattle.std.specs.Int.{w64, trailing_zeros}
+use Rattle.esc_below.specs.Entries.{is_from}
 use Rattle.esc_sixel.specs.declared.class.Class.{Class}
 use Rattle.esc_sixel.specs.declared.class.Class.TheVariants.{Return, Line, Pixels, Introduces, Digit, Separator, Junk}
 use Rattle.esc_sixel.specs.declared.introducer.Introducer.TheVariants as introducer
@@ -18,3 +20,14 @@ class_of b =
     else if nat_lt b 0x3f then Junk
     else if nat_lt b 0x7f then Pixels (b - 0x3f)
     else Junk
+
+-- six pixels, 3F to 7E
+abbrev pub is_pixels : ℕ → Bool
+is_pixels b = is_from 0x3f 0x7e b
+
+abbrev pub IsPixels : ℕ → Type 0
+IsPixels b = is_pixels b ≡ true
+
+-- the place of the lowest bit that is set, or n
+abbrev pub lowest : ℕ → ℕ → ℕ
+lowest mask n = if mask == 0 then n else trailing_zeros w64 mask

@@ -1,5 +1,5 @@
 -- What the parameters of a header and the items of data mean.
-use Rattle.std.specs.Prelude.{ℕ, ℤ, pos, negsuc, ◌*◌, ◌/◌, ◌^◌, ◌==◌, nat_lt, nat_le, min, Bool, false, not, ◌&&◌, if◌then◌else◌, List, [], ◌∷◌}
+use Rattle.std.specs.Prelude.{ℕ, ℤ, pos, negsuc, map, ◌-◌, ◌*◌, ◌/◌, ◌^◌, ◌==◌, nat_lt, nat_le, min, Bool, false, not, ◌&&◌, if◌then◌else◌, List, [], ◌∷◌}
 use Rattle.std.specs.Prelude.{Option, Some, None, option_map, unwrap_or}
 use Rattle.std.specs.Option.{is_some}
 use Rattle.std.specs.List.{flat_map, slice_get, list_any}
@@ -71,6 +71,10 @@ color_of run = if nat_le 4 (separators run)
 -- a `!` and its run before six pixels
 abbrev pub repeat_of : List ℕ → ℕ → SixelData
 repeat_of run v = Repeat (min (unwrap_or (param run 0) 1) 4294967295) v
+
+-- six pixels each
+abbrev pub drawn : List ℕ → List SixelData
+drawn run = map (λ b. Data (b - 0x3f)) run
 
 -- what an item adds to the data
 abbrev pub gives : Item → List SixelData

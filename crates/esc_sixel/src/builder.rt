@@ -1,5 +1,5 @@
 //! How a sixel string is read, byte by byte.
-ghost use Rattle.std.specs.Prelude.{◌≡◌, ◌<◌, ℕ, ℤ, length, take, List, [], ◌∷◌, ◌++◌, OnOk, OnErr, Some, None};
+ghost use Rattle.std.specs.Prelude.{◌≡◌, ◌<◌, ◌≤◌, IfOk, ℕ, ℤ, length, take, List, [], ◌∷◌, ◌++◌, OnOk, OnErr, Some, None};
 ghost use Rattle.std.specs.List.{FoldsTo, slice_get};
 ghost use Rattle.esc_sixel.specs.Classes.{class_of};
 ghost use Rattle.esc_sixel.specs.Items.{items, OfRaster, OfColor};
@@ -12,6 +12,7 @@ use crate::class::{Class, classify};
 use crate::commands::{color, repeat, signed, sizes};
 use crate::introducer::Introducer;
 use crate::parameters::Parameters;
+use crate::pixels::{pixels_run, push_pixels};
 use crate::sixel::Sixel;
 use crate::sixel_data::SixelData;
 use esc_below::Items;
@@ -104,18 +105,37 @@ impl<A: Allocator> SixelBuilder<A> {
         }
     }
 
-    /// These bytes of the data, as `push` of each takes them. The error is that memory was refused; the builder has then taken
-    /// those before the byte that needed it, and no more.
+    /// These bytes of the data, as `push` of each takes them. Memory for six pixels that follow one another is taken at once.
+    /// The error is that memory was refused; the builder has then taken those before the bytes that needed it, and no more.
     pub fn push_run(&mut self, bytes: &[u8]) -> Result<(), AllocError>
         ensures each { OnOk result (FoldsTo Pushes self.old bytes.now self.new) }
         ensures ok { (ps : List ℤ) (s : List ℕ) → LeadsTo ps s self.old → OnOk result (LeadsTo ps (s ++ bytes.now) self.new) }
         ensures err { (ps : List ℤ) (s : List ℕ) → LeadsTo ps s self.old
             → OnErr result ((n : ℕ) × (n < length bytes.now) × LeadsTo ps (s ++ take n bytes.now) self.new) }
     {
-        for byte in bytes {
-            self.push(*byte)?;
+        let mut at = 0;
+        while at < bytes.len() {
+            at += self.push_some(&bytes[at..])?;
         }
         Ok(())
+    }
+
+    // The first byte of these, or outside a command the longest prefix of six pixels; returns how many it took.
+    #[inline(always)]
+    fn push_some(&mut self, rest: &[u8]) -> Result<usize, AllocError>
+        requires { 0 < length rest.now }
+        ensures ok { IfOk result (λ n. (0 < n) × (n ≤ length rest.now) × FoldsTo Pushes self.old (take n rest.now) self.new) }
+        ensures err { OnErr result (self.new ≡ self.old) }
+    {
+        if let None = self.introducer {
+            let run = pixels_run(rest);
+            if run > 0 {
+                push_pixels(&mut self.sixel.content, &rest[..run])?;
+                return Ok(run);
+            }
+        }
+        self.push(rest[0])?;
+        Ok(1)
     }
 
     /// The data ends here, and a command with it: the field `sixel` is the image that the parameters and all bytes mean.

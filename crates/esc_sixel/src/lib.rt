@@ -12,6 +12,7 @@ mod dimensions;
 mod introducer;
 pub mod laws;
 mod parameters;
+mod pixels;
 pub mod sixel;
 pub mod sixel_data;
 mod write_data;

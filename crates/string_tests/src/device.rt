@@ -2,5 +2,5 @@
 mod kinds;
 mod modes;
 mod refused;
-mod shorts;
+pub mod shorts;
 mod texts;

@@ -1,7 +1,7 @@
 //! Sixel images and termcap queries.
 mod long;
 mod refused;
-mod sixels;
-mod termcap;
-mod texts;
+pub mod sixels;
+pub mod termcap;
+pub mod texts;
 mod too_large;

@@ -8,3 +8,5 @@ mod device;
 mod images;
 #[cfg(test)]
 mod kitty;
+#[cfg(test)]
+mod runs;

@@ -1,20 +1,22 @@
-use Rattle.std.proofs.Common.{◌<◌, [], ◌∷◌, ◌++◌, get_or, length, take, append_assoc, ap, sym, ◌∙◌, subst, arith}
-use Rattle.std.proofs.lemmas.List.{drop_more, take_more}
+use Rattle.std.proofs.Common.{subst, sym, arith, ◌++◌, take}
+use Rattle.std.proofs.lemmas.List.{take_all}
 use Rattle.std.specs.List.{FoldsTo}
 use Rattle.esc_sixel.specs.Steps.{LeadsTo, Pushes}
+use Rattle.esc_sixel.proofs.Pushed.{folds_more, on_err, run_leads}
 use Rattle.esc_sixel.proofs.builder.SixelBuilder.push_run.Goals as goal
 
-pub loop-byte-preserved : goal.loop-byte-preserved
-loop-byte-preserved g c =
-    let at = c.loop-byte in
-    let bytes = c.args.bytes.now in
-    let lt : at.byte-index < length bytes = omega arith in
-    record {
-      taken = λ ps s h.
-          subst (λ t. LeadsTo ps t c.push.new.self)
-          (append_assoc s (take at.byte-index bytes) (get_or bytes at.byte-index 0 ∷ []) ∙ ap (λ t. s ++ t) (sym (take_more bytes at.byte-index 0 lt)))
-          (c.in_ok-push.ensures.ok ps (s ++ take at.byte-index bytes) (at.invariant.taken ps s h));
-      each = λ q k.
-          at.invariant.each q
-          (subst (λ bs. FoldsTo Pushes at.self bs q) (sym (drop_more bytes at.byte-index 0 lt)) (c.push.new.self, c.in_ok-push.ensures.ok, k));
-    }
+pub returns-in_err-at-clause-err : goal.returns-in_err-at-clause-err
+returns-in_err-at-clause-err g c = λ ps s h.
+    let before = run_leads ps s (take c.loop-at.at c.args.bytes.now) c.args.self.now c.loop-at.self c.loop-at.invariant.1 h in
+    on_err c.from_residual.result
+    (c.loop-at.at, omega arith, subst (LeadsTo ps (s ++ take c.loop-at.at c.args.bytes.now)) (sym c.in_err-at.ensures.err) before)
+
+pub loop-at-preserved : goal.loop-at-preserved
+loop-at-preserved g c =
+    let taken = c.in_ok-at.ensures.ok in
+    (omega (arith, taken.1), folds_more Pushes c.args.self.now c.args.bytes.now c.loop-at.at _ c.loop-at.self _ c.loop-at.invariant.1 taken.2)
+
+pub returns-clause-ok : goal.returns-clause-ok
+returns-clause-ok g c = λ ps s h.
+    run_leads ps s c.args.bytes.now c.args.self.now c.loop-at.self
+    (subst (λ t. FoldsTo Pushes c.args.self.now t c.loop-at.self) (take_all c.loop-at.at c.args.bytes.now (omega arith)) c.loop-at.invariant.1) h

@@ -1,11 +1,11 @@
-use Rattle.std.proofs.Common.{ℕ, ℤ, List, ◌++◌, drop, take}
+use Rattle.std.proofs.Common.{◌≤◌, ◌-◌, length, take}
 use Rattle.std.specs.List.{FoldsTo}
-use Rattle.esc_sixel.specs.Steps.{LeadsTo, Pushes}
+use Rattle.esc_sixel.specs.Steps.{Pushes}
 use Rattle.esc_sixel.proofs.builder.SixelBuilder.push_run.Given as goal
 
 -- the bytes so far are taken, each by a push
-abbrev pub invariant-loop-byte : goal.invariant-loop-byte
-invariant-loop-byte g l = record {
-  taken : (ps : List ℤ) (s : List ℕ) → LeadsTo ps s l.initial.self → LeadsTo ps (s ++ take l.byte-index l.bytes) l.self;
-  each : (q : _) → FoldsTo Pushes l.self (drop l.byte-index l.bytes) q → FoldsTo Pushes l.initial.self l.bytes q;
-}
+abbrev pub invariant-loop-at : goal.invariant-loop-at
+invariant-loop-at g l = (l.at ≤ length l.bytes) × FoldsTo Pushes l.initial.self (take l.at l.bytes) l.self
+
+abbrev pub decreases-loop-at : goal.decreases-loop-at
+decreases-loop-at g l = length l.bytes - l.at

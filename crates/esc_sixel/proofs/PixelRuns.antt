@@ -1,0 +1,67 @@
+-- Runs of six pixels.
+use Rattle.std.proofs.Common.{◌≡◌, ℕ, ◌+◌, ◌%◌, ◌^◌, ◌<◌, ◌≤◌, Bool, true, not, List, [], ◌∷◌, ◌++◌, map, length, slice_set, take, drop, get_or, Fits}
+use Rattle.std.proofs.Common.{w8, refl, ap, sym, subst, ◌∙◌, ◌-◌, arith}
+use Rattle.std.proofs.lemmas.List.Sums.{prefix_len-le-length, prefix_len_passes}
+use Rattle.std.specs.List.{prefix_len, All}
+use Rattle.std.proofs.lemmas.Bool.{agree_below, agree_below_at}
+use Rattle.std.proofs.lemmas.Bool.Decides.{nat_tests}
+use Rattle.std.proofs.lemmas.List.{length-map, get_or-take, length-take, take_more}
+use Rattle.std.proofs.lemmas.List.Elements.{All-from_get_or, All-append, All-nil, All-cons}
+use Rattle.std.proofs.Math.Seq.{take-add, set-append_seam}
+use Rattle.std.proofs.lemmas.Simd.{map-map, mask_l-mod, first_set_mask_l, chunk-fits, length-chunk}
+use lib.Lanes.{Each1, mask_l, top}
+use Rattle.esc_sixel.specs.Classes.{class_of, is_pixels, IsPixels, lowest}
+use Rattle.esc_sixel.specs.declared.class.Class.TheVariants.{Pixels}
+
+-- two tests that agree on bytes find the same run
+prefix_same : (p q : ℕ → Bool) → agree_below p q 256 ≡ true → (xs : List ℕ) → Each1 (Fits w8) xs → prefix_len p xs ≡ prefix_len q xs
+prefix_same p q h [] f = refl
+prefix_same p q h (x ∷ xs) (f, fs) = rw (agree_below_at p q 256 x h f.fits, prefix_same p q h xs fs) refl
+
+-- the lowest lane whose top bit is set, where the lanes were computed from bytes
+pub lowest_lane : (q : ℕ → Bool) (f : ℕ → ℕ) (z bytes : List ℕ) (at n : ℕ) → at + n ≤ length bytes → n ≤ 64 → ((k : ℕ) → Fits w8 (get_or bytes k 0))
+    → agree_below (λ x. not (top 7 (f x))) q 256 ≡ true → z ≡ map f (take n (drop at bytes))
+    → lowest (mask_l (map (top 7) z) % 2 ^ 64) n ≡ prefix_len q (take n (drop at bytes))
+lowest_lane q f z bytes at n room few fits h lanes =
+    let v : List ℕ = take n (drop at bytes) in
+    let long : length v ≡ n = length-chunk at n bytes room in
+    let stops : ℕ → Bool = λ x. top 7 (f x) in
+    let mask : mask_l (map (top 7) z) % 2 ^ 64 ≡ mask_l (map stops v) = ap (λ l. mask_l l % 2 ^ 64) (ap (map (top 7)) lanes ∙ map-map (top 7) f v) ∙ mask_l-mod
+    (map stops v) 64 (omega (arith, length-map v stops, long)) in
+    ap (λ m. lowest m n) mask ∙ first_set_mask_l stops v n long few ∙ prefix_same (λ x. not (stops x)) q h v (chunk-fits w8 at n bytes fits)
+
+-- the bytes before the first that is none
+pub passed : (xs : List ℕ) (n r : ℕ) → r ≡ prefix_len is_pixels (take n xs) → All IsPixels (take r xs)
+passed xs n r e = All-from_get_or IsPixels (take r xs) 0 (λ k h.
+    let most = prefix_len-le-length is_pixels (take n xs) in
+    let lt : k < r = omega (arith, length-take r xs) in
+    let few : k < n = omega (arith, length-take n xs) in
+    get_or_step xs n r k lt few e)
+  where
+    get_or_step : (xs : List ℕ) (n r k : ℕ) → k < r → k < n → r ≡ prefix_len is_pixels (take n xs) → IsPixels (get_or (take r xs) k 0)
+    get_or_step xs n r k lt few e =
+        subst IsPixels (get_or-take n xs k 0 few ∙ sym (get_or-take r xs k 0 lt)) (prefix_len_passes is_pixels (take n xs) k 0 (omega arith))
+
+-- a run, and one right after it
+pub joined : (xs : List ℕ) (i r : ℕ) → All IsPixels (take i xs) → All IsPixels (take r (drop i xs)) → All IsPixels (take (i + r) xs)
+joined xs i r a b = subst (All IsPixels) (sym (take-add i r xs)) (All-append IsPixels (take i xs) (take r (drop i xs)) a b)
+
+pub one_more : (xs : List ℕ) (i : ℕ) → i < length xs → All IsPixels (take i xs) → 0x3f ≤ get_or xs i 0 → get_or xs i 0 ≤ 0x7e → All IsPixels (take (i + 1) xs)
+one_more xs i lt a low high =
+    let one : IsPixels (get_or xs i 0) = within (get_or xs i 0) low high in
+    subst (All IsPixels) (sym (take_more xs i 0 lt)) (All-append IsPixels (take i xs) (get_or xs i 0 ∷ []) a (All-cons IsPixels _ [] one (All-nil IsPixels)))
+  where
+    within : (b : ℕ) → 0x3f ≤ b → b ≤ 0x7e → IsPixels b
+    within b low high = grind (arith, nat_tests)
+
+-- what such a byte is
+pub pixels_class : (b : ℕ) → IsPixels b → class_of b ≡ Pixels (b - 0x3f)
+unfolding class_of
+pixels_class b h = grind (arith, nat_tests)
+
+pub pixels_least : (b : ℕ) → IsPixels b → 0x3f ≤ b
+pixels_least b h = grind (arith, nat_tests)
+
+-- the last of a list in place of what was pushed
+pub last_set : {X : Type 0} (xs ys : List X) (y z : X) (n : ℕ) → ys ≡ xs ++ y ∷ [] → n ≡ length xs → slice_set ys n z ≡ xs ++ z ∷ []
+last_set xs ys y z n e l = rw (e, l) (set-append_seam xs y [] z)

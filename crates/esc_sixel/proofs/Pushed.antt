@@ -1,0 +1,62 @@
+-- Many bytes, one pushed after another.
+use Rattle.std.proofs.Common.{Result, Ok, Err, OnErr, ◌≡◌, ℕ, ℤ, ◌+◌, ◌-◌, List, [], ◌∷◌}
+use Rattle.std.proofs.Common.{◌++◌, None, refl, sym, ap, subst, ◌∙◌, append-nil, append_assoc, take, drop, length, arith}
+use Rattle.std.proofs.Common.{length-drop}
+use Rattle.std.proofs.lemmas.List.{take_all}
+use Rattle.std.proofs.Math.Seq.{take-add}
+use Rattle.std.specs.List.{FoldsTo, All}
+use Rattle.std.proofs.lemmas.List.Elements.{All-head, All-tail}
+use Rattle.esc_sixel.specs.Classes.{class_of, IsPixels}
+use Rattle.esc_sixel.specs.Meaning.{drawn}
+use Rattle.esc_sixel.specs.Steps.{LeadsTo, Pushes, HoldsOpen, Closed, closed_of, open_of, with_items, alone, opened}
+use Rattle.esc_sixel.specs.declared.builder.SixelBuilder.{SixelBuilder}
+use Rattle.esc_sixel.specs.declared.class.Class.{Class}
+use Rattle.esc_sixel.specs.declared.class.Class.TheVariants.{Pixels}
+use Rattle.esc_sixel.proofs.PixelRuns.{pixels_class}
+use Rattle.esc_sixel.proofs.Steps.{after_none, closed_push, open_push}
+
+pub on_err : {T E : Type 0} {P : Type 0} (r : Result T E) → P → OnErr r P
+on_err (Ok x) p = tt
+on_err (Err e) p = p
+
+-- one run after another
+pub folds_join : {P A : Type 0} (R : P → A → P → Type 0) (p : P) (xs ys : List A) (q r : P) → FoldsTo R p xs q → FoldsTo R q ys r → FoldsTo R p (xs ++ ys) r
+folds_join R p [] ys q r e f = subst (λ z. FoldsTo R z ys r) (sym e) f
+folds_join R p (x ∷ xs) ys q r (j, one, rest) f = (j, one, folds_join R j xs ys q r rest f)
+
+pub folds_more : {P A : Type 0} (R : P → A → P → Type 0) (p : P) (xs : List A) (at n : ℕ) (q r : P) → FoldsTo R p (take at xs) q
+    → FoldsTo R q (take n (take (length xs - at) (drop at xs))) r → FoldsTo R p (take (at + n) xs) r
+folds_more R p xs at n q r e f =
+    let rest = take_all (length xs - at) (drop at xs) (omega (arith, length-drop at xs)) in
+    let more = subst (λ t. FoldsTo R q (take n t) r) rest f in
+    subst (λ z. FoldsTo R p z r) (sym (take-add at n xs)) (folds_join R p (take at xs) (take n (drop at xs)) q r e more)
+
+-- what a run of bytes leads to
+pub run_leads : {A : Type 0} (ps : List ℤ) (s : List ℕ) (bs : List ℕ) (p q : SixelBuilder A) → FoldsTo Pushes p bs q → LeadsTo ps s p → LeadsTo ps (s ++ bs) q
+run_leads ps s [] p q e h = subst (λ t. LeadsTo ps t q) (sym (append-nil s)) (subst (LeadsTo ps s) e h)
+run_leads ps s (b ∷ bs) p q (j, one, rest) h =
+    subst (λ t. LeadsTo ps t q) (append_assoc s (b ∷ []) bs) (run_leads ps (s ++ b ∷ []) bs j q rest (one ps s h))
+
+-- six pixels outside a command
+abbrev with_drawn : {A : Type 0} → SixelBuilder A → List ℕ → SixelBuilder A
+with_drawn p bs = record p { sixel = record p.sixel { content = p.sixel.content ++ drawn bs } }
+
+drawn_alone : {A : Type 0} (p : SixelBuilder A) (b : ℕ) (c : Class) → p.introducer ≡ None → c ≡ Pixels (b - 0x3f)
+    → ((with_drawn p (b ∷ [])).sixel ≡ with_items p.sixel (alone c b)) × HoldsOpen (opened c) p.introducer p.parameters
+drawn_alone p b c none e = rw e (refl, none)
+
+pixel_pushed : {A : Type 0} (p : SixelBuilder A) (b : ℕ) → p.introducer ≡ None → IsPixels b → Pushes p b (with_drawn p (b ∷ []))
+unfolding LeadsTo
+pixel_pushed p b none h = λ ps s lead.
+    rw (closed_push Closed s b, open_push Closed s b)
+    (after_none {T = Unit {0}} {E = Unit {0}} ps (closed_of Closed s) (open_of Closed s) (class_of b) b p.sixel (with_drawn p (b ∷ [])).sixel
+    p.introducer p.introducer p.parameters p.parameters (Ok tt) lead.0 lead.1 none (drawn_alone p b (class_of b) none (pixels_class b h)))
+
+pub pixels_pushed : {A : Type 0} (bs : List ℕ) (p q : SixelBuilder A) → p.introducer ≡ None → All IsPixels bs → q ≡ with_drawn p bs → FoldsTo Pushes p bs q
+pixels_pushed [] p q none h e = ap (λ t. record p { sixel = record p.sixel { content = t } }) (sym (append-nil p.sixel.content)) ∙ sym e
+pixels_pushed (b ∷ bs) p q none h e = (
+  with_drawn p (b ∷ []),
+  pixel_pushed p b none (All-head IsPixels b bs h),
+  pixels_pushed bs (with_drawn p (b ∷ [])) q none (All-tail IsPixels b bs h)
+      (e ∙ ap (λ t. record p { sixel = record p.sixel { content = t } }) (sym (append_assoc p.sixel.content (drawn (b ∷ [])) (drawn bs)))),
+)

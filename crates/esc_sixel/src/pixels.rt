@@ -1,0 +1,113 @@
+//! Six pixels, many times.
+ghost use Rattle.std.specs.Prelude.{◌≡◌, ◌<◌, ◌≤◌, ◌+◌, ◌++◌, ◌∷◌, [], length, take, drop, OnOk, OnErr, vec_len, vec_capacity};
+ghost use Rattle.std.specs.List.{All};
+ghost use Rattle.esc_sixel.specs.Classes.{IsPixels, lowest};
+ghost use Rattle.esc_sixel.specs.Meaning.{drawn};
+ghost use Rattle.esc_sixel.specs.declared.sixel_data.SixelData.TheVariants.{Data};
+
+use crate::sixel_data::SixelData;
+use core::mem::replace_with;
+use esc_below::Items;
+use std::alloc::{AllocError, Allocator};
+use std::simd::prelude::*;
+
+// The lowest bit that is set, 16 where none is.
+#[inline(always)]
+fn lowest(mask: u64) -> usize
+    ensures { result ≡ lowest mask 16 }
+{
+    if mask == 0 {
+        16
+    } else {
+        mask.trailing_zeros() as usize
+    }
+}
+
+// How many of the 16 bytes from `at`, from the first, are 3F to 7E.
+#[inline(always)]
+fn run_in_lanes(bytes: &[u8], at: usize) -> usize
+    requires { at + 16 ≤ length bytes.now }
+    ensures run { All IsPixels (take result (drop at bytes.now)) }
+    ensures few { result ≤ 16 }
+{
+    let v = u8x16::from_slice(&bytes[at..]);
+    let stops = (v - u8x16::splat(0x3f)).simd_ge(u8x16::splat(0x40));
+    lowest(stops.to_bitmask())
+}
+
+// How many bytes, from the first, are 3F to 7E.
+pub(crate) fn pixels_run(bytes: &[u8]) -> usize
+    ensures run { All IsPixels (take result bytes.now) }
+    ensures few { result ≤ length bytes.now }
+{
+    let mut end = 0;
+    'by_block: while bytes.len() - end >= 16 {
+        let run = run_in_lanes(bytes, end);
+        end += run;
+        if run < 16 {
+            return end;
+        }
+    }
+    while end < bytes.len() && 0x3f <= bytes[end] && bytes[end] <= 0x7e {
+        end += 1;
+    }
+    end
+}
+
+// Appends six pixels, for which there is room. The compiler joins the stores of a constant: this takes three, and a
+// `push_reserved` of the value five.
+#[inline(always)]
+fn put<A: Allocator>(vec: &mut Vec<SixelData, A>, value: u8)
+    requires { vec_len vec.old < vec_capacity vec.old }
+    ensures items { vec.new.items ≡ vec.old.items ++ Data value ∷ [] }
+    ensures len { vec_len vec.new ≡ vec_len vec.old + 1 }
+    ensures capacity { vec_capacity vec.new ≡ vec_capacity vec.old }
+{
+    let len = vec.len();
+    vec.push_reserved(SixelData::Data(0));
+    if let SixelData::Data(last) = &mut vec[len] {
+        *last = value;
+    }
+}
+
+// Appends these bytes as pixels, for which there is room.
+fn fill<A: Allocator>(vec: Vec<SixelData, A>, run: &[u8]) -> Vec<SixelData, A>
+    requires room { vec_len vec + length run.now ≤ vec_capacity vec }
+    requires pixels { All IsPixels run.now }
+    ensures { result.items ≡ vec.items ++ drawn run.now }
+{
+    let mut vec = vec;
+    for byte in run {
+        put(&mut vec, *byte - 0x3f);
+    }
+    vec
+}
+
+// Appends these bytes as pixels. Memory for all is taken first.
+fn append<A: Allocator>(
+    items: Items<SixelData, A>,
+    run: &[u8],
+) -> (Items<SixelData, A>, Result<(), AllocError>)
+    requires { All IsPixels run.now }
+    ensures ok { OnOk result.1 (result.0 ≡ items ++ drawn run.now) }
+    ensures err { OnErr result.1 (result.0 ≡ items) }
+{
+    let mut vec = items.into_vec();
+    match vec.reserve(run.len()) {
+        Ok(()) => (Items::from_vec(fill(vec, run)), Ok(())),
+        Err(error) => (Items::from_vec(vec), Err(error)),
+    }
+}
+
+// Appends these bytes, which are 3F to 7E, as pixels. The error is that memory was refused, and the items stay as they were.
+#[inline]
+pub(crate) fn push_pixels<A: Allocator>(
+    items: &mut Items<SixelData, A>,
+    run: &[u8],
+) -> Result<(), AllocError>
+    requires { All IsPixels run.now }
+    ensures ok { OnOk result (items.new ≡ items.old ++ drawn run.now) }
+    ensures err { OnErr result (items.new ≡ items.old) }
+{
+    replace_with(items, run, append)
+}
