@@ -368,3 +368,8 @@ meant_normal vs = (as_normal vs).0
 
 pub reads_back : {A : Type 0} → LowerLaws A → (vs : List (Value A)) → AreWritable vs → meaning (list_text vs) ≡ normal vs
 reads_back low vs h = reads_whole (list_text vs) (meant_after false vs) (reads_behind low false vs h) ∙ meant_normal vs
+
+-- whatever follows
+pub reads_by_itself : {A : Type 0} → LowerLaws A → (vs : List (Value A)) → AreWritable vs → Reads (list_text vs) (normal vs)
+reads_by_itself low vs h =
+    reads_by (list_text vs) (list_text vs) (meant_after false vs) (normal vs) refl (meant_normal vs) (reads_behind low false vs h)

@@ -9,7 +9,7 @@ ghost use Rattle.esc_actions.specs.Limited.{IsWithin, data_kept};
 ghost use Rattle.esc_actions.specs.Headline.{Headline};
 ghost use Rattle.esc_actions.specs.Groups.{JoinsGroups, MeansGroups, MeansWritable, ends_within};
 ghost use Rattle.esc_actions.specs.LowerLaws.{LowerLaws};
-ghost use Rattle.esc_actions.specs.Meaning.{meaning, meaning_within, mode_from, yield_within};
+ghost use Rattle.esc_actions.specs.Meaning.{meaning, meaning_within, mode_from, yield_within, Reads};
 ghost use Rattle.esc_actions.specs.Readings.{MeansItsCut};
 ghost use Rattle.esc_actions.specs.Texts.{list_text, normal};
 ghost use Rattle.esc_actions.specs.Values.{Value, plain};
@@ -73,6 +73,13 @@ fn lower_laws<A: Allocator>()
 /// The text of a writable list means its normal list.
 pub fn reads_back<A: Allocator>()
     ensures { (vs : List (Value A)) → AreWritable vs → meaning (list_text vs) ≡ normal vs }
+{
+    lower_laws::<A>();
+}
+
+/// It means that whatever bytes follow it, and these mean what they mean by themselves.
+pub fn reads_by_itself<A: Allocator>()
+    ensures { (vs : List (Value A)) → AreWritable vs → Reads (list_text vs) (normal vs) }
 {
     lower_laws::<A>();
 }

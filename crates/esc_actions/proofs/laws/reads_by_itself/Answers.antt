@@ -1,0 +1,5 @@
+use Rattle.esc_actions.proofs.ReadsBack.{reads_by_itself}
+use Rattle.esc_actions.proofs.laws.reads_by_itself.Goals as goal
+
+pub returns : goal.returns
+returns g c = reads_by_itself c.lower_laws.ensures
