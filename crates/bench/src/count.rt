@@ -102,6 +102,19 @@ impl VTActor for Count {
     }
 
     #[inline]
+    fn print_str(&mut self, text: &str) -> Result<(), AllocError> {
+        let mut count = 0u64;
+        let mut sum = 0u64;
+        for c in text.chars() {
+            count = count.wrapping_add(1);
+            sum = sum.wrapping_add(c as u64);
+        }
+        self.characters = self.characters.wrapping_add(count);
+        self.add(sum);
+        Ok(())
+    }
+
+    #[inline]
     fn execute_c0_or_c1(&mut self, control: u8) -> Result<(), AllocError> {
         self.controls = self.controls.wrapping_add(1);
         self.add(control as u64);

@@ -1,6 +1,6 @@
 -- A control sequence of one number has the text of its entry, whether it is a rendition or has no name.
-use Rattle.std.proofs.Common.{ℕ, ◌≡◌, ◌<◌, ◌≤◌, Bool, true, false, not, ◌&&◌, ◌==◌, if◌then◌else◌, List, [], ◌∷◌, ◌++◌, Option, Some, None, inl, inr, refl, ap, sym, ◌∙◌, lit≤}
-use Rattle.std.specs.Prelude.{ℤ, pos, negsuc, unwrap_or, codes, ◌⊎◌}
+use Rattle.std.proofs.Common.{ℕ, ◌≡◌, Bool, true, false, not, ◌&&◌, ◌==◌, if◌then◌else◌, [], ◌∷◌, ◌++◌, Option, Some, None, inl, inr, refl, ap, sym, ◌∙◌, lit≤}
+use Rattle.std.specs.Prelude.{ℤ, pos, negsuc, unwrap_or, ◌⊎◌}
 use Rattle.std.specs.Fmt.{decimal, signed_decimal}
 use Rattle.std.specs.Char.{encode_utf8}
 use Rattle.std.proofs.lemmas.Bool.{and_parts, eqb-true}
@@ -8,13 +8,12 @@ use Rattle.std.proofs.lemmas.List.{append-nil}
 use Rattle.std.proofs.lemmas.Str.{encode_ascii}
 use Rattle.esc_below.specs.declared.csi.CSI.{CSI}
 use Rattle.esc_below.specs.declared.csi.CSI.TheVariants as csi_variant
-use Rattle.esc_below.specs.declared.csi_param.CsiParam.{CsiParam}
 use Rattle.esc_below.specs.declared.csi_param.CsiParam.TheVariants.{Integer}
 use Rattle.esc_below.specs.declared.intensity.Intensity.TheVariants as intensity
 use Rattle.esc_below.specs.declared.sgr.Sgr.{Sgr}
 use Rattle.esc_below.specs.declared.sgr.Sgr.TheVariants.{Reset, Intensity, Italic, Underline}
 use Rattle.esc_below.specs.declared.underline.Underline.TheVariants as underline
-use Rattle.esc_below.specs.Csis.{csi_of, csi_text, csi_value, named, numbered, put_first, sgr, sgr_body, unspecified}
+use Rattle.esc_below.specs.Csis.{csi_of, csi_text, csi_value, named, numbered, sgr_body, unspecified}
 use Rattle.esc_below.proofs.Digits.{decimal_one, decimal_two}
 
 -- a test of a chain of tests

@@ -1,12 +1,13 @@
 -- What a text is given by events whose actions are not kept.
-use Rattle.std.proofs.Common.{◌≡◌, ℕ, Bool, true, false, List, [], ◌∷◌, ◌++◌, ◌<◌, length, map, MatchResult, OnOk, Result, Ok, Err, refl, ap, sym, ◌∙◌, subst, inl, inr}
+use Rattle.std.proofs.Common.{◌≡◌, ℕ, Bool, true, false, List, [], ◌∷◌, ◌++◌, ◌<◌, length, map}
+use Rattle.std.proofs.Common.{MatchResult, OnOk, Result, Ok, Err, refl, ap, sym, ◌∙◌, subst, inl, inr}
 use Rattle.std.proofs.Common.{arith}
 use Rattle.std.specs.List.{FoldsTo}
 use Rattle.esc_below.specs.Csis.{csi_of, csi_text, csi_value, unspecified}
 use Rattle.esc_below.specs.declared.csi.CSI.TheVariants as csi_variant
 use Rattle.esc_below.specs.declared.csi_param.CsiParam.{CsiParam}
 use Rattle.esc_frame.specs.Events.{Event, StopsAt}
-use Rattle.esc_frame.specs.Events.Event.{CsiDispatch, OscDispatch, Print}
+use Rattle.esc_frame.specs.Events.Event.{CsiDispatch, OscDispatch}
 use Rattle.esc_osc.specs.Commands.{command_text}
 use Rattle.esc_osc.specs.Reading.{meaning as command_meant}
 use Rattle.escape_stream.specs.Fed.{Hooks}
@@ -73,11 +74,11 @@ pub wrapped : {A : Type 0} (es : List Event) (p q : Performer (Spell A) A) → F
 wrapped [] p q e = ap wrap e
 wrapped (e ∷ es) p q (j, t, h) = (wrap j, t, wrapped es j q h)
 
--- where a run of text is refused, its first character may be
-pub stopped_at_once : {A : Type 0} (xs : List ℕ) (a b : Speller A) → 0 < length xs
-    → StopsAt (false ≡ true) (λ p e q. Spells p.performer e q.performer) (λ p e q. Unit {0}) a (map Print xs) b
-stopped_at_once [] a b some = absurd (omega arith)
-stopped_at_once (x ∷ xs) a b some = ([], map Print (x ∷ xs), refl, inr (a, Print x, map Print xs, refl, refl, tt))
+-- where a run is refused, its first byte may be
+pub stopped_at_once : {A : Type 0} (event : ℕ → Event) (xs : List ℕ) (a b : Speller A) → 0 < length xs
+    → StopsAt (false ≡ true) (λ p e q. Spells p.performer e q.performer) (λ p e q. Unit {0}) a (map event xs) b
+stopped_at_once event [] a b some = absurd (omega arith)
+stopped_at_once event (x ∷ xs) a b some = ([], map event (x ∷ xs), refl, inr (a, event x, map event xs, refl, refl, tt))
 
 pub command_spelled : {A : Type 0} (p q : Performer (Spell A) A) (ps : List (List ℕ)) → q.unfinished ≡ p.unfinished
     → q.sink.text ≡ p.sink.text ++ command_text (command_meant {A = A} ps) → q.sink.follows_string ≡ true → Spells p (OscDispatch ps) q

@@ -3,11 +3,12 @@ use Rattle.std.proofs.Common.{◌≡◌, ◌<◌, ◌+◌, ℕ, true, false, Lis
 use Rattle.std.proofs.Common.{take-append-drop, arith, inl, inr, Option}
 use Rattle.std.proofs.lemmas.Bool.{and_parts}
 use Rattle.std.proofs.lemmas.Bool.Decides.{nat_tests}
-use Rattle.std.proofs.lemmas.List.{take_more, map-append}
-use Rattle.std.proofs.lemmas.Str.{IsUtf8-from_ascii, encode_ascii}
+use Rattle.std.proofs.lemmas.List.{append-nil, take_more, map-append}
+use Rattle.std.proofs.lemmas.Str.{IsUtf8-from_ascii, encode_ascii, encodes-chars, chars-nil, chars_past_char}
 use Rattle.std.proofs.lemmas.Str.Ascii.{IsAscii-cons, IsAscii-nil}
 use Rattle.std.specs.List.{FoldsTo, list_all}
-use Rattle.std.specs.Str.{IsAscii, IsUtf8}
+use Rattle.std.specs.Char.{encode_utf8}
+use Rattle.std.specs.Str.{IsAscii, IsUtf8, chars, encode_utf8_all}
 use Rattle.esc_frame.specs.Events.{Event, StopsAt as StopsAtEvent}
 use Rattle.esc_frame.specs.Events.Event.{Print}
 use Rattle.esc_frame.specs.Scans.{is_text_byte}
@@ -38,6 +39,31 @@ module _ {S V : Type 0} (print : ℕ → V) (R Q : S → V → S → Type 0) (xs
       let here : StopsAt ⊥ R Q p (map print (take (i + 1) xs)) q =
       subst (λ vs. StopsAt ⊥ R Q p vs q) (sym next) (StopsAt-append R Q ⊥ p (map print (take i xs)) j (print (get_or xs i 0) ∷ []) q so (inr (inl h))) in
       subst (λ vs. StopsAt ⊥ R Q p vs q) all (StopsAt-longer R Q ⊥ p (map print (take (i + 1) xs)) (map print (drop (i + 1) xs)) q here)
+
+-- the characters before the rest were taken
+abbrev pub HasTaken : {S V : Type 0} → (ℕ → V) → (S → V → S → Type 0) → List ℕ → List ℕ → S → S → Type 0
+HasTaken print R text rest p q = (cs : List ℕ) × (chars text ≡ cs ++ chars rest) × FoldsTo R p (map print cs) q
+
+module _ {S V : Type 0} (print : ℕ → V) (R Q : S → V → S → Type 0) (text rest later : List ℕ) (c : ℕ) (p j q : S) (u : IsUtf8 rest)
+    (e : rest ≡ encode_utf8 c ++ later) (so : HasTaken print R text rest p j) where
+  pub char_taken : R j (print c) q → HasTaken print R text later p q
+  char_taken h = (
+    so.0 ++ c ∷ [],
+    so.1 ∙ ap (λ x. so.0 ++ x) (chars_past_char rest later c u e) ∙ sym (append_assoc so.0 (c ∷ []) (chars later)),
+    subst (λ vs. FoldsTo R p vs q) (sym (map-append print so.0 (c ∷ []))) (FoldsTo-append R p (map print so.0) j (print c ∷ []) q so.2 (q, h, refl)),
+  )
+
+  pub char_stopped : Q j (print c) q → StopsAt ⊥ R Q p (map print (chars text)) q
+  char_stopped h =
+      let all : map print so.0 ++ print c ∷ map print (chars later) ≡ map print (chars text) = sym (map-append print so.0 (c ∷ chars later))
+      ∙ ap (λ x. map print (so.0 ++ x)) (sym (chars_past_char rest later c u e)) ∙ ap (map print) (sym so.1) in
+      subst (λ vs. StopsAt ⊥ R Q p vs q) all (StopsAt-append R Q ⊥ p (map print so.0) j (print c ∷ map print (chars later)) q so.2 (inr (inl h)))
+
+pub chars_taken : {S V : Type 0} (print : ℕ → V) (R : S → V → S → Type 0) (text rest : List ℕ) (p q : S) → length rest ≡ 0
+    → HasTaken print R text rest p q → FoldsTo R p (map print (chars text)) q
+chars_taken print R text [] p q e so =
+    subst (λ x. FoldsTo R p (map print x) q) (sym (so.1 ∙ ap (λ x. so.0 ++ x) chars-nil ∙ append-nil so.0)) so.2
+chars_taken print R text (b ∷ rest) p q e so = absurd (omega arith)
 
 -- what a sink takes as a run, its actor takes as events
 module _ {S A : Type 0} (R Q : S → Action A → S → Type 0) where
@@ -105,3 +131,35 @@ text_ascii (x ∷ xs) h = let k = and_parts (is_text_byte x) (list_all is_text_b
 
 pub text_utf8 : (xs : List ℕ) → list_all is_text_byte xs ≡ true → IsUtf8 xs
 text_utf8 xs h = IsUtf8-from_ascii xs (text_ascii xs h)
+
+-- a run of characters is its own text
+spells_chars : {A : Type 0} (c : ℕ) (cs : List ℕ) (p : Spell A)
+    → FoldsTo SpellTakes p (map action.Print (c ∷ cs)) (record { text = p.text ++ encode_utf8_all (c ∷ cs); follows_string = false })
+spells_chars c [] p = (
+  record { text = p.text ++ encode_utf8 c; follows_string = false },
+  (refl, refl),
+  ap (λ t. record { text = p.text ++ t; follows_string = false })
+      (sym (append-nil (encode_utf8 c))),
+)
+spells_chars {A = A} c (d ∷ ds) p =
+    let j : Spell A = record { text = p.text ++ encode_utf8 c; follows_string = false } in
+    let Goal : List ℕ → Type 0 = λ t. FoldsTo SpellTakes j (map action.Print (d ∷ ds)) (record { text = t; follows_string = false }) in
+    (j, (refl, refl), subst Goal (append_assoc p.text (encode_utf8 c) (encode_utf8_all (d ∷ ds))) (spells_chars d ds j))
+
+spells_all : {A : Type 0} (cs text : List ℕ) (p : Spell A) → encode_utf8_all cs ≡ text → 0 < length text
+    → FoldsTo SpellTakes p (map action.Print cs) (record { text = p.text ++ text; follows_string = false })
+spells_all [] text p e l = absurd (omega (arith, ap length e))
+spells_all (c ∷ cs) text p e l =
+    subst (λ t. FoldsTo SpellTakes p (map action.Print (c ∷ cs)) (record { text = p.text ++ t; follows_string = false })) e (spells_chars c cs p)
+
+pub spells_str : {A : Type 0} (text : List ℕ) (p q : Spell A) → 0 < length text → IsUtf8 text
+    → q ≡ record { text = p.text ++ text; follows_string = false } → FoldsTo SpellTakes p (map action.Print (chars text)) q
+spells_str text p q l u e =
+    subst (λ s. FoldsTo SpellTakes p (map action.Print (chars text)) s) (sym e) (spells_all (chars text) text p (encodes-chars text u) l)
+
+some_spelled : (cs text : List ℕ) → encode_utf8_all cs ≡ text → 0 < length text → 0 < length cs
+some_spelled [] text e l = absurd (omega (arith, ap length e))
+some_spelled (c ∷ cs) text e l = omega arith
+
+pub some_chars : (text : List ℕ) → IsUtf8 text → 0 < length text → 0 < length (chars text)
+some_chars text u l = some_spelled (chars text) text (encodes-chars text u) l

@@ -1,5 +1,5 @@
 -- What events make of an actor that spells them.
-use Rattle.std.specs.Prelude.{ℕ, ℤ, ◌≡◌, ◌⊎◌, Bool, List, [], ◌∷◌, ◌++◌, Option}
+use Rattle.std.specs.Prelude.{ℕ, ℤ, ◌≡◌, ◌⊎◌, Bool, List, [], ◌∷◌, ◌++◌, codes, Option}
 use Rattle.std.specs.List.{FoldsTo}
 use Rattle.esc_frame.specs.Events.{Event}
 use Rattle.esc_below.specs.Csis.{csi_of, unspecified}
@@ -29,3 +29,11 @@ IsNumber es = (n : ℤ) × (es ≡ Integer n ∷ [])
 -- a control sequence whose text is that of its entries, by its form
 abbrev pub IsPlain : List CsiParam → Bool → ℕ → Type 0
 IsPlain es more f = IsNumber es ⊎ (csi_of es more f ≡ unspecified es more f ∷ [])
+
+-- the codes of titles: 0, 1 and 2
+abbrev pub IsTitleCode : List ℕ → Type 0
+IsTitleCode c = (c ≡ codes "0") ⊎ ((c ≡ codes "1") ⊎ (c ≡ codes "2"))
+
+-- what begins a command, what comes before its last `;`, what comes after that, and the string terminator
+abbrev pub pieces_text : List ℕ → List ℕ → List ℕ → List ℕ
+pieces_text start middle last = start ++ middle ++ 0x3b ∷ (last ++ 0x1b ∷ 0x5c ∷ [])

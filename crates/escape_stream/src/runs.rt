@@ -1,6 +1,8 @@
 //! Runs of characters in a list of actions.
-ghost use Rattle.std.specs.Prelude.{◌≡◌, ◌+◌, ◌<◌, ◌≤◌, ◌++◌, ◌∷◌, [], IsTrue, ◌↔◌, length, map, drop, IfSome};
+ghost use Rattle.std.specs.Prelude.{◌≡◌, ◌+◌, ◌<◌, ◌≤◌, ◌++◌, ◌∷◌, [], IsTrue, ◌↔◌, length, map, drop, IfSome, true};
 ghost use Rattle.std.specs.Str.{IsAscii};
+ghost use Rattle.std.specs.List.{list_all};
+ghost use Rattle.esc_actions.specs.Texts.{has_text};
 ghost use Rattle.esc_actions.specs.Values.{print, value_of};
 
 use crate::short_text::ShortText;
@@ -30,8 +32,10 @@ fn eight_of<A: Allocator>(actions: &[Action<A>]) -> Option<[u8; 8]>
     Some(bytes)
 }
 
-// Gathers the longest run of ASCII characters that are shown, as far as there is room for them, and returns what follows it.
-pub(crate) fn ascii_run<'a, A: Allocator>(
+// Gathers the ASCII characters that are shown at the start, eight at a time, as far as there is room for them, and returns what
+// follows them.
+#[inline(always)]
+pub(crate) fn gather_eights<'a, A: Allocator>(
     actions: &'a [Action<A>],
     run: &mut ShortText,
 ) -> &'a [Action<A>]
@@ -47,15 +51,49 @@ pub(crate) fn ascii_run<'a, A: Allocator>(
         let (_, more) = rest.split_at(8);
         rest = more;
     }
-    'ones: while run.len() < 128 {
-        let Some((Action::Print(c), more)) = rest.split_first() else {
-            break 'ones;
-        };
-        if !c.is_ascii() {
-            break 'ones;
+    rest
+}
+
+// Whether none of these actions is a sixel image.
+#[inline(always)]
+fn are_without_sixels<A: Allocator>(actions: &[Action<A>]) -> bool
+    ensures { IsTrue result → list_all (λ a. has_text (value_of a)) actions.now ≡ true }
+{
+    for action in actions {
+        if let Action::Sixel(_) = action {
+            return false;
         }
-        run.push(*c as u8);
+    }
+    true
+}
+
+// Whether all of them can be written.
+#[inline(never)]
+fn each_has_text<A: Allocator>(actions: &[Action<A>]) -> bool
+    ensures { result ≡ list_all (λ a. has_text (value_of a)) actions.now }
+{
+    actions.iter().all(|action| action.has_text())
+}
+
+// The same, which looks for sixel images first: only those may have no text.
+#[inline(always)]
+fn few_have_texts<A: Allocator>(actions: &[Action<A>]) -> bool
+    ensures { result ≡ list_all (λ a. has_text (value_of a)) actions.now }
+{
+    are_without_sixels(actions) || each_has_text(actions)
+}
+
+// The same, eight actions at a time.
+pub(crate) fn have_texts<A: Allocator>(actions: &[Action<A>]) -> bool
+    ensures { result ≡ list_all (λ a. has_text (value_of a)) actions.now }
+{
+    let mut rest = actions;
+    'eights: while rest.len() >= 8 {
+        let (eight, more) = rest.split_at(8);
+        if !few_have_texts(eight) {
+            return false;
+        }
         rest = more;
     }
-    rest
+    each_has_text(rest)
 }

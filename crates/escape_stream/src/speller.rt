@@ -6,9 +6,10 @@ ghost use Rattle.esc_actions.specs.Values.{plain, value_of};
 ghost use Rattle.esc_osc.specs.Commands.{command_text};
 ghost use Rattle.esc_osc.specs.declared.command.OperatingSystemCommand.{OperatingSystemCommand as Command};
 ghost use Rattle.escape_stream.specs.Fed.{Hooks};
-ghost use Rattle.escape_stream.specs.Spelled.{IsNumber, IsPlain, Spells};
+ghost use Rattle.escape_stream.specs.Spelled.{IsNumber, IsPlain, Spells, pieces_text};
 
 use crate::performer::Performer;
+use crate::plain_command::{PlainCommand, plain_command};
 use crate::short_text::ShortText;
 use crate::sink::Spell;
 use crate::unfinished::Unfinished;
@@ -95,6 +96,17 @@ impl<A: Allocator> Spell<A> {
     }
 }
 
+impl<A: Allocator> Spell<A> {
+    // Appends the text of a command from its pieces.
+    fn write_plain(&mut self, command: &PlainCommand) -> Result<(), AllocError>
+        ensures { OnOk result ((self.new.text ≡ self.old.text ++ pieces_text command.now.start.now command.now.middle.now command.now.last.now) × (self.new.follows_string ≡ true)) }
+    {
+        command.append_to(&mut self.text)?;
+        self.follows_string = true;
+        Ok(())
+    }
+}
+
 // Whether the text of a control sequence is that of its entries: it has no name, or its only entry is a number, also where that
 // is a rendition.
 fn is_plain(params: &[CsiParam], parameters_truncated: bool, control: u8) -> bool
@@ -128,6 +140,11 @@ impl<A: Allocator + Copy> VTActor for Speller<A> {
     }
 
     #[inline]
+    fn print_str(&mut self, text: &str) -> Result<(), AllocError> {
+        self.performer.print_str(text)
+    }
+
+    #[inline]
     fn execute_c0_or_c1(&mut self, control: u8) -> Result<(), AllocError> {
         self.performer.execute_c0_or_c1(control)
     }
@@ -145,6 +162,10 @@ impl<A: Allocator + Copy> VTActor for Speller<A> {
 
     fn dcs_put(&mut self, byte: u8) -> Result<(), AllocError> {
         self.performer.dcs_put(byte)
+    }
+
+    fn dcs_put_text(&mut self, bytes: &[u8]) -> Result<(), AllocError> {
+        self.performer.dcs_put_text(bytes)
     }
 
     fn dcs_unhook(&mut self) -> Result<(), AllocError> {
@@ -179,6 +200,9 @@ impl<A: Allocator + Copy> VTActor for Speller<A> {
     }
 
     fn osc_dispatch(&mut self, params: &[&[u8]]) -> Result<(), AllocError> {
+        if let Some(command) = plain_command::<A>(params) {
+            return self.performer.sink.write_plain(&command);
+        }
         let command = OperatingSystemCommand::parse(self.performer.alloc, params)?;
         self.performer.sink.write_command(&command)
     }

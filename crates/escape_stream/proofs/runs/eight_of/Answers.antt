@@ -1,4 +1,4 @@
-use Rattle.std.proofs.Common.{◌≡◌, ◌<◌, ◌+◌, ◌∙◌, length, ap, arith}
+use Rattle.std.proofs.Common.{◌≡◌, ◌<◌, ◌∙◌, length, ap, arith}
 use Rattle.std.proofs.lemmas.Str.Ascii.{IsAscii-set}
 use Rattle.std.proofs.lemmas.List.{length-set}
 use Rattle.escape_stream.proofs.ActionRuns.{one_seen, all_seen}

@@ -1,4 +1,4 @@
-use Rattle.std.proofs.Common.{◌≡◌, ◌++◌, ◌∷◌, [], take}
+use Rattle.std.proofs.Common.{◌≡◌, ◌∷◌, take}
 use Rattle.esc_below.specs.Entries.{entries_text}
 use Rattle.escape_stream.proofs.short_text.ShortText.push_sequence.Given as goal
 

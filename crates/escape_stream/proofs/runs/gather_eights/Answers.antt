@@ -1,7 +1,7 @@
 use Rattle.std.proofs.Common.{◌++◌, drop, map, ap, sym, ◌∙◌}
 use Rattle.esc_actions.specs.Values.{print, value_of}
 use Rattle.escape_stream.proofs.ActionRuns.{more_seen}
-use Rattle.escape_stream.proofs.runs.ascii_run.Goals as goal
+use Rattle.escape_stream.proofs.runs.gather_eights.Goals as goal
 
 pub eights-preserved : goal.eights-preserved
 eights-preserved g c =

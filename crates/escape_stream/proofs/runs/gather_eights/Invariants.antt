@@ -1,15 +1,9 @@
 use Rattle.std.proofs.Common.{◌≡◌, ◌++◌, length, map}
 use Rattle.esc_actions.specs.Values.{print, value_of}
-use Rattle.escape_stream.proofs.runs.ascii_run.Given as goal
+use Rattle.escape_stream.proofs.runs.gather_eights.Given as goal
 
 abbrev pub invariant-eights : goal.invariant-eights
 invariant-eights g l = map value_of l.actions ≡ map print l.run ++ map value_of l.rest
 
 abbrev pub decreases-eights : goal.decreases-eights
 decreases-eights g l = length l.rest
-
-abbrev pub invariant-ones : goal.invariant-ones
-invariant-ones g l = map value_of l.actions ≡ map print l.run ++ map value_of l.rest
-
-abbrev pub decreases-ones : goal.decreases-ones
-decreases-ones g l = length l.rest

@@ -1,0 +1,9 @@
+use Rattle.std.proofs.Common.{chars}
+use Rattle.bench.proofs.Anything.{anything_run}
+use Rattle.esc_frame.specs.Events.Event.{Print}
+use Rattle.escape_stream.proofs.TextRuns.{some_chars}
+use Rattle.bench.proofs.count.CountVTActor.print_str.Goals as goal
+
+pub returns-clause-told : goal.returns-clause-told
+returns-clause-told c =
+    anything_run Print (chars c.args.text.now) c.args.self.now c.add.new.self (some_chars c.args.text.now c.utf8.text c.requires.some)
