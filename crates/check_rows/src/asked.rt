@@ -1,10 +1,13 @@
 //! Requests for memory that are refused, each in turn.
 use crate::call::{Call, shown};
 use crate::fault::Fault;
+use crate::readings::in_pieces;
 use crate::stream::Stream;
-use escape_stream::{Collect, Parser, Watched, encode, is_normal, normalise, parse_pieces};
+use escape_stream::{
+    Collect, ParseError, Parser, Watched, encode, is_normal, normalise, parse_pieces,
+};
 use refusing::Refusing;
-use std::alloc::Global;
+use std::alloc::{AllocError, Allocator, Global};
 
 /// What takes memory.
 #[derive(Clone, Copy)]
@@ -110,30 +113,46 @@ fn parsed(
     heap.refuse_at(at);
     let mut parser = Parser::new(heap);
     let result = call.shown(alloc, &mut parser, stream)?;
-    if result.as_str() == "Err(Memory)" {
-        for bytes in [b"b".as_slice(), b"".as_slice()] {
-            for later in Call::ALL {
-                if later.shown(alloc, &mut parser, bytes)?.as_str() != "Err(Failed)" {
-                    return Err(Fault("a parser goes on after a refusal"));
-                }
-            }
-        }
+    if result.as_str() == "Err(Memory)" && !has_failed(alloc, &mut parser)? {
+        return Err(Fault("a parser goes on after a refusal"));
     }
     Ok(result)
 }
 
+// Whether each call of the parser says that it has failed.
+fn has_failed<A: Allocator + Copy>(alloc: Global, parser: &mut Parser<A>) -> Result<bool, Fault> {
+    for bytes in [b"b".as_slice(), b"".as_slice()] {
+        for later in Call::ALL {
+            if later.shown(alloc, parser, bytes)?.as_str() != "Err(Failed)" {
+                return Ok(false);
+            }
+        }
+    }
+    Ok(true)
+}
+
 // The Debug text of the actions that a sink is given, or of the error. Before an error a prefix of the stream's actions is given.
 fn given(alloc: Global, heap: &Refusing<Global>, at: u64, stream: &[u8]) -> Result<String, Fault> {
-    heap.refuse_at(0);
-    let all = shown(alloc, parse_pieces(heap, &[stream])?)?;
+    let all = in_pieces(alloc, &[stream])?;
     heap.refuse_at(at);
     let (result, sink) = Parser::new(heap).parse_into(stream, Collect::new(heap));
-    let given = shown(alloc, sink.actions)?;
-    if result.is_ok() {
+    let given = shown(alloc, sink.actions);
+    given_of(alloc, all.as_str(), given, result)
+}
+
+// The text of the actions that were given, of all that the stream has, or that of the error.
+fn given_of(
+    alloc: Global,
+    all: &str,
+    given: Result<String, AllocError>,
+    ending: Result<(), ParseError>,
+) -> Result<String, Fault> {
+    let given = given?;
+    if ending.is_ok() {
         return Ok(given);
     }
     match given.strip_suffix("]") {
-        Some(given) if all.starts_with(given) => Ok(shown(alloc, result)?),
+        Some(given) if all.starts_with(given) => Ok(shown(alloc, ending)?),
         _ => Err(Fault("what came before a refusal is no prefix")),
     }
 }

@@ -1,5 +1,6 @@
 //! Checks of a table.
 use crate::fault::Fault;
+use crate::filtered::check_filtered;
 use crate::lengths::check_lengths;
 use crate::limited::check_limited;
 use crate::report::Report;
@@ -27,10 +28,12 @@ pub fn check_table(alloc: Global, table: &str) -> Result<Report, AllocError> {
     Ok(report)
 }
 
-// A row is a stream, or one that is read under a limit, the parts of a command, calls of one parser, or streams of several lengths.
+// A row is a stream, or one that is read under a limit or filtered, the parts of a command, calls of one parser, or streams of several lengths.
 fn check_row(alloc: Global, row: Row, report: &mut Report) -> Result<(), Fault> {
     if row.has("limit")? {
         check_limited(alloc, row, report)
+    } else if row.has("as-text")? {
+        check_filtered(alloc, row, report)
     } else if row.has("stream")? {
         check_stream(alloc, row, report)
     } else if row.has("parts")? {
@@ -46,15 +49,17 @@ fn check_row(alloc: Global, row: Row, report: &mut Report) -> Result<(), Fault> 
 
 // The bytes of a stream, its actions, and what is written of them: as it came, where the row has no text.
 fn check_stream(alloc: Global, row: Row, report: &mut Report) -> Result<(), Fault> {
+    let word = if row.has("text")? { "text" } else { "stream" };
+    let is_finished = !row.has("unfinished")?;
     let bytes = row.bytes(alloc, "stream")?;
     let actions = row.actions(alloc)?;
-    let text = row.text(alloc, if row.has("text")? { "text" } else { "stream" })?;
+    let text = row.text(alloc, word)?;
     let stream = Stream {
         name: row.name,
         bytes: bytes.as_slice(),
         actions: actions.as_str(),
         text: text.as_str(),
-        is_finished: !row.has("unfinished")?,
+        is_finished,
     };
     stream.check(alloc, report)
 }

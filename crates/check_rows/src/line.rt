@@ -10,7 +10,7 @@ pub struct Line<'a> {
 }
 
 // The words that lines begin with.
-const WORDS: [&str; 17] = [
+const WORDS: [&str; 21] = [
     "row",
     "stream",
     "parts",
@@ -28,6 +28,10 @@ const WORDS: [&str; 17] = [
     "times",
     "limit",
     "keeps",
+    "as-text",
+    "as-color",
+    "as-screen",
+    "as-all",
 ];
 
 impl<'a> Line<'a> {

@@ -9,6 +9,7 @@ mod asked;
 mod call;
 mod check;
 mod fault;
+mod filtered;
 mod lengths;
 mod limited;
 mod line;

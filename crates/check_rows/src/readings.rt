@@ -1,7 +1,8 @@
 //! Ways to read a stream. Each gives the Debug text of the list of actions.
 use crate::fault::Fault;
-use escape_stream::{Action, Parser, parse_pieces};
+use escape_stream::{Action, ParseError, Parser, parse_pieces};
 use std::alloc::Global;
+use std::fmt::Debug;
 
 /// In these pieces.
 pub fn in_pieces(alloc: Global, pieces: &[&[u8]]) -> Result<String, Fault> {
@@ -32,11 +33,20 @@ pub fn listed(alloc: Global, stream: &[u8]) -> Result<Vec<Action>, Fault> {
     let mut parser = Parser::new(alloc);
     let mut actions = Vec::new(alloc);
     for i in 0..stream.len() {
-        for action in parser.parse_as_vec(&stream[i..i + 1])? {
-            actions.push(action)?;
-        }
+        append(&mut actions, parser.parse_as_vec(&stream[i..i + 1]))?;
     }
     Ok(actions)
+}
+
+/// Appends the actions that a call returns.
+pub fn append<T: Drop>(
+    actions: &mut Vec<T>,
+    added: Result<Vec<T>, ParseError>,
+) -> Result<(), Fault> {
+    for action in added? {
+        actions.push(action)?;
+    }
+    Ok(())
 }
 
 /// The actions that a closure is given of a stream that comes byte by byte.
@@ -66,9 +76,7 @@ fn walked(alloc: Global, stream: &[u8]) -> Result<Vec<Action>, Fault> {
         let Some((actions, len)) = parser.parse_first_as_vec(rest)? else {
             return Ok(walked);
         };
-        for action in actions {
-            walked.push(action)?;
-        }
+        append(&mut walked, Ok(actions))?;
         rest = rest.get(len..).ok_or(Fault("a prefix past the end"))?;
     }
     Err(Fault("more prefixes than bytes"))
@@ -81,13 +89,26 @@ pub fn first_actions(alloc: Global, stream: &[u8]) -> Result<String, Fault> {
     let mut end = 0usize;
     for _ in 0..=stream.len() {
         let rest = stream.get(end..).ok_or(Fault("a prefix past the end"))?;
-        let Some((action, len)) = parser.parse_first(rest)? else {
-            return Ok(shown);
-        };
-        end = end.saturating_add(len);
-        write!(shown, "{end} {action:?}. ")?;
+        match show_first(&mut shown, end, parser.parse_first(rest))? {
+            Some(next) => end = next,
+            None => return Ok(shown),
+        }
     }
     Err(Fault("more prefixes than bytes"))
+}
+
+// Appends where the prefix after this place ends that a call took, and the Debug text of its action. None where there is none.
+fn show_first<T: Debug + Drop>(
+    shown: &mut String,
+    start: usize,
+    first: Result<Option<(T, usize)>, ParseError>,
+) -> Result<Option<usize>, Fault> {
+    let Some((action, len)) = first? else {
+        return Ok(None);
+    };
+    let end = start.saturating_add(len);
+    write!(shown, "{end} {action:?}. ")?;
+    Ok(Some(end))
 }
 
 /// After how many bytes actions are added, and the Debug text of the first of them.
@@ -95,10 +116,20 @@ pub fn added_actions(alloc: Global, stream: &[u8]) -> Result<String, Fault> {
     let mut parser = Parser::new(alloc);
     let mut shown = String::new(alloc);
     for i in 0..stream.len() {
-        let added = parser.parse_as_vec(&stream[i..i + 1])?;
-        if let Some(action) = added.first() {
-            write!(shown, "{} {action:?}. ", i + 1)?;
-        }
+        show_added(&mut shown, i + 1, parser.parse_as_vec(&stream[i..i + 1]))?;
     }
     Ok(shown)
+}
+
+// Appends after how many bytes a call added actions, and the Debug text of the first of them.
+fn show_added<T: Debug + Drop>(
+    shown: &mut String,
+    end: usize,
+    added: Result<Vec<T>, ParseError>,
+) -> Result<(), Fault> {
+    let added = added?;
+    if let Some(action) = added.first() {
+        write!(shown, "{end} {action:?}. ")?;
+    }
+    Ok(())
 }

@@ -45,10 +45,7 @@ impl<'a> Row<'a> {
         for line in self.lines.lines() {
             if let Some(line) = Line::read(line)? {
                 if line.word == word {
-                    let text = unescaped(alloc, line.text)?;
-                    for _ in 0..line.times {
-                        bytes.extend_from_slice(&text)?;
-                    }
+                    add_bytes(alloc, line, &mut bytes)?;
                 }
             }
         }
@@ -77,6 +74,15 @@ impl<'a> Row<'a> {
     }
 }
 
+// Adds the bytes of a line, as often as it says.
+fn add_bytes(alloc: Global, line: Line, bytes: &mut Vec<u8>) -> Result<(), Fault> {
+    let text = unescaped(alloc, line.text)?;
+    for _ in 0..line.times {
+        bytes.extend_from_slice(&text)?;
+    }
+    Ok(())
+}
+
 // Adds what a line says of the actions to their list.
 fn add_action(alloc: Global, line: Line, list: &mut String) -> Result<(), Fault> {
     if (line.word == "action" || line.word == "kept") && list.len() > 1 {
@@ -88,14 +94,17 @@ fn add_action(alloc: Global, line: Line, list: &mut String) -> Result<(), Fault>
                 list.push_str(line.text)?;
             }
         }
-        "kept" => {
-            let bytes = unescaped(alloc, line.text)?;
-            let parts = parts_of(alloc, &bytes)?;
-            write!(list, "OperatingSystemCommand(Unspecified({parts:?}))")?;
-        }
+        "kept" => add_kept(alloc, line.text, list)?,
         _ => {}
     }
     Ok(())
+}
+
+// Adds an unknown command of these parts to the list.
+fn add_kept(alloc: Global, text: &str, list: &mut String) -> Result<(), Fault> {
+    let bytes = unescaped(alloc, text)?;
+    let parts = parts_of(alloc, &bytes)?;
+    Ok(write!(list, "OperatingSystemCommand(Unspecified({parts:?}))")?)
 }
 
 /// The parts of a command, between which `;` is.

@@ -1,7 +1,8 @@
+pub mod Encoding
 pub mod Openers
+pub mod Results
+pub mod Runs
+pub mod Sinks
+pub mod Steps
 pub mod Texts
 pub mod Writable
-pub mod Sinks
-pub mod Encoding
-pub mod Results
-pub mod Steps

@@ -1,10 +1,10 @@
 -- Texts that grow by one value after another.
-use Rattle.std.proofs.Common.{◌≡◌, ℕ, Bool, true, false, cond, not, ◌&&◌, if◌then◌else◌, List, [], ◌∷◌, ◌++◌, Option, refl, sym, ap, ◌∙◌, append_assoc, append-nil}
+use Rattle.std.proofs.Common.{◌≡◌, ℕ, Bool, false, List, [], ◌∷◌, ◌++◌, Option, refl, sym, ap, ◌∙◌, append_assoc}
 use Rattle.std.proofs.lemmas.List.Elements.{filter-append}
 use Rattle.std.specs.List.{filter}
 use Rattle.esc_actions.proofs.Meanings.{meaning_more}
 use Rattle.esc_actions.specs.Meaning.{meaning_within, yield_within}
-use Rattle.esc_actions.specs.Texts.{is_string, is_terminator, list_text, text_after, texts_after, whole_text}
+use Rattle.esc_actions.specs.Texts.{is_string, list_text, text_after, texts_after}
 use Rattle.esc_actions.specs.Values.{Value}
 use Rattle.esc_filter.specs.Passing.{passed, passed_text, passes}
 use Rattle.esc_filter.specs.Texts.{ends_in_string}

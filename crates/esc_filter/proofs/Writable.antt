@@ -1,11 +1,11 @@
 -- What passes is writable.
-use Rattle.std.proofs.Common.{◌≡◌, ℕ, Bool, true, false, cond, not, ◌&&◌, List, [], ◌∷◌, Option, refl, sym, subst}
+use Rattle.std.proofs.Common.{◌≡◌, ℕ, Bool, true, false, cond, not, List, [], ◌∷◌, Option, refl, sym, subst}
 use Rattle.std.proofs.lemmas.Bool.{and_parts, not-true}
 use Rattle.std.specs.List.{filter}
-use Rattle.esc_actions.specs.Meaning.{meaning, meaning_within}
+use Rattle.esc_actions.specs.Meaning.{meaning, meaning_within, Reads}
 use Rattle.esc_actions.specs.Texts.{list_text, normal}
 use Rattle.esc_actions.specs.Values.{Value, print, string, control, esc, csi, osc, kitty, sixel, termcap, short, enter, datum, exit}
-use Rattle.esc_actions.specs.Writable.{AreHandedOut, AreWritable, AreWritableFrom, IsHandedOut, IsWritable, is_exception, is_within, stays_within}
+use Rattle.esc_actions.specs.Writable.{AreHandedOut, AreWritable, AreWritableFrom, IsWritable, is_exception, is_within, stays_within}
 use Rattle.esc_filter.specs.Passing.{IsFiltered, is_mode_step, is_whole, passed, passed_text, passes}
 
 -- what is no step of a mode may be where no mode is entered, and enters none
@@ -42,7 +42,8 @@ filtered_writable admits (v ∷ vs) h =
 
 pub is_filtered : {A : Type 0} → ((limit : Option ℕ) (s : List ℕ) → AreHandedOut {A = A} (meaning_within limit s))
     → ((vs : List (Value A)) → AreWritable vs → meaning (list_text vs) ≡ normal vs)
+    → ((vs : List (Value A)) → AreWritable vs → Reads (list_text vs) (normal vs))
     → (limit : Option ℕ) (admits : Value A → Bool) (s : List ℕ) → IsFiltered limit admits s (passed_text limit admits s)
-is_filtered out back limit admits s =
+is_filtered out back itself limit admits s =
     let w : AreWritable (passed limit admits s) = filtered_writable admits (meaning_within limit s) (out limit s) in
-    record { text = refl; writable = w; reads_back = back (passed limit admits s) w }
+    record { text = refl; writable = w; reads_back = back (passed limit admits s) w; whatever_follows = itself (passed limit admits s) w }

@@ -1,5 +1,5 @@
 -- What a filter was fed.
-use Rattle.std.specs.Prelude.{ℕ, ◌≡◌, Bool, true, false, List, Option, Some}
+use Rattle.std.specs.Prelude.{ℕ, ◌≡◌, Bool, true, false, List, Some}
 use Rattle.esc_actions.specs.Values.{Value, value_of}
 use Rattle.esc_actions.specs.declared.action.Action.{Action}
 use Rattle.escape_stream.specs.Fed.{IsBroken as IsBrokenParser, WasFedWithin}

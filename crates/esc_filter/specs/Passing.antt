@@ -1,9 +1,9 @@
 -- What passes a filter.
-use Rattle.std.specs.Prelude.{ℕ, ◌≡◌, Bool, true, false, not, ◌==◌, ◌&&◌, ◌||◌, List, ◌++◌, Option}
-use Rattle.std.specs.List.{filter, list_all}
-use Rattle.esc_actions.specs.Meaning.{meaning, meaning_within}
+use Rattle.std.specs.Prelude.{ℕ, ◌≡◌, Bool, true, false, not, ◌==◌, ◌&&◌, ◌||◌, List, Option}
+use Rattle.std.specs.List.{filter}
+use Rattle.esc_actions.specs.Meaning.{meaning, meaning_within, Reads}
 use Rattle.esc_actions.specs.Texts.{list_text, normal}
-use Rattle.esc_actions.specs.Values.{Value, print, enter, datum, exit}
+use Rattle.esc_actions.specs.Values.{Value, enter, datum, exit}
 use Rattle.esc_actions.specs.Writable.{AreWritable, is_exception}
 
 -- a step of a mode: its header, a byte of its data, or its end
@@ -41,3 +41,5 @@ pub record IsFiltered {A : Type 0} (limit : Option ℕ) (admits : Value A → Bo
   pub writable : AreWritable (passed limit admits s)
   -- it reads back as them, with the terminators of their strings, and as nothing else
   pub reads_back : meaning t ≡ normal (passed limit admits s)
+  -- whatever bytes follow it, it reads so, and they read as they do by themselves
+  pub whatever_follows : Reads t (normal (passed limit admits s))

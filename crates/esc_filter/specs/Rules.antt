@@ -1,5 +1,5 @@
 -- What the policies admit.
-use Rattle.std.specs.Prelude.{ℕ, ℤ, Bool, true, false, not, pos, negsuc, ◌==◌, nat_le, ◌&&◌, ◌||◌, List, [], ◌∷◌, length, Option, Some, None}
+use Rattle.std.specs.Prelude.{ℕ, Bool, true, false, not, pos, negsuc, ◌==◌, nat_le, ◌&&◌, ◌||◌, List, [], ◌∷◌, length, Some, None}
 use Rattle.std.specs.List.{list_all}
 use Rattle.esc_below.specs.Csis.{CsiValue, sgr, unspecified}
 use Rattle.esc_below.specs.Entries.{is_from}
@@ -14,7 +14,7 @@ use Rattle.esc_osc.specs.declared.color_or_query.ColorOrQuery.TheVariants as col
 use Rattle.esc_osc.specs.declared.command.OperatingSystemCommand.{OperatingSystemCommand}
 use Rattle.esc_osc.specs.declared.command.OperatingSystemCommand.TheVariants as command
 use Rattle.esc_actions.specs.ControlCodes.{code_number}
-use Rattle.esc_actions.specs.Values.{Value, print, string, control, esc, csi, osc, kitty, sixel, termcap, short, enter, datum, exit}
+use Rattle.esc_actions.specs.Values.{Value, print, string, control, esc, csi, osc}
 use Rattle.esc_filter.specs.declared.policy.Policy.{Policy}
 use Rattle.esc_filter.specs.declared.policy.Policy.TheVariants as policy
 

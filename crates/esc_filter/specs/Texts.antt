@@ -1,5 +1,5 @@
 -- Texts that grow by one value after another.
-use Rattle.std.specs.Prelude.{Bool, false, List, [], ◌∷◌}
+use Rattle.std.specs.Prelude.{Bool, List, [], ◌∷◌}
 use Rattle.esc_actions.specs.Texts.{is_string}
 use Rattle.esc_actions.specs.Values.{Value}
 

@@ -1,8 +1,8 @@
 //! Whoever says which actions a filter lets through.
-ghost use Rattle.std.specs.Prelude.{◌≡◌, Bool, not, ◌&&◌};
-ghost use Rattle.std.specs.List.{list_any};
+ghost use Rattle.std.specs.Prelude.{◌≡◌, Bool, IsTrue, not, true, ◌&&◌};
+ghost use Rattle.std.specs.List.{list_all, list_any};
 ghost use Rattle.esc_below.specs.Csis.{csi_value};
-ghost use Rattle.esc_actions.specs.Values.{Value, device_value, value_of};
+ghost use Rattle.esc_actions.specs.Values.{Value, device_value, print, value_of};
 ghost use Rattle.esc_actions.specs.Writable.{is_exception, is_opening, is_truncated};
 ghost use Rattle.esc_device.specs.Writable.{is_high_byte};
 ghost use Rattle.esc_filter.specs.Passing.{is_opener, is_whole, passes};
@@ -18,9 +18,19 @@ pub trait Admit<A: Allocator> {
     // the values that it admits
     ghost admits: { Self → Value A → Bool };
 
-    /// Whether the action may pass. It is asked of each action once, in order.
+    /// Whether the action may pass. It is asked of each action once, in order, but for the characters of a run that
+    /// [`admits_text`](Admit::admits_text) lets through.
     fn admits(&self, action: &Action<A>) -> bool
         ensures { result ≡ admits self.now (value_of action.now) };
+
+    /// Whether each character of a run of text, 20 to 7F and one byte each, may pass. Where it returns false, each of them is asked of
+    /// by itself; so it does by default.
+    #[inline]
+    fn admits_text(&self, _text: &[u8]) -> bool
+        ensures { IsTrue result → list_all (λ c. admits self.now (print c)) _text.now ≡ true }
+    {
+        false
+    }
 
     /// Is shown each action that does not pass, also one that no policy is asked of. It does nothing, unless an implementation does.
     fn leaves_out(&self, _action: &Action<A>) {}

@@ -14,6 +14,7 @@ pub fn passed_reads_back<A: Allocator>()
 {
     laws::handed_out::<A>();
     laws::reads_back::<A>();
+    laws::reads_by_itself::<A>();
 }
 
 /// What passes of a stream passes of each longer one, and comes first in it.

@@ -31,4 +31,18 @@ impl<'p, P: Admit<A>, A: Allocator> Sink<Action<A>> for Passing<'p, P, A> {
             Ok(())
         }
     }
+
+    #[inline]
+    fn receive_text(&mut self, text: &[u8]) -> Result<(), AllocError> {
+        if self.policy.admits_text(text) {
+            return self.spell.receive_text(text);
+        }
+        for byte in text {
+            match self.receive(Action::Print(*byte as char)) {
+                Ok(()) => {}
+                Err(error) => return Err(error),
+            }
+        }
+        Ok(())
+    }
 }

@@ -1,5 +1,6 @@
 //! Policies.
-ghost use Rattle.std.specs.Prelude.{◌≡◌};
+ghost use Rattle.std.specs.Prelude.{◌≡◌, IsTrue, true};
+ghost use Rattle.esc_frame.specs.Scans.{is_data_byte};
 ghost use Rattle.std.specs.List.{list_all};
 ghost use Rattle.esc_below.specs.Csis.{csi_value};
 ghost use Rattle.esc_actions.specs.Values.{value_of};
@@ -7,6 +8,7 @@ ghost use Rattle.esc_filter.specs.Rules.{is_colour, is_layout, is_link, is_plain
 
 use crate::admit::Admit;
 use crate::screen::is_screen;
+use esc_frame::scans::data_run;
 use escape_stream::{Action, CSI, CsiParam, OperatingSystemCommand};
 use std::alloc::Allocator;
 
@@ -41,6 +43,18 @@ impl<A: Allocator> Admit<A> for Policy {
             Policy::All => true,
         }
     }
+
+    #[inline]
+    fn admits_text(&self, text: &[u8]) -> bool {
+        is_run_shown(text)
+    }
+}
+
+// Whether all bytes are 20 to 7E.
+fn is_run_shown(text: &[u8]) -> bool
+    ensures { IsTrue result → list_all is_data_byte text.now ≡ true }
+{
+    data_run(text) == text.len()
 }
 
 // Whether it is characters, or a control that lays them out.

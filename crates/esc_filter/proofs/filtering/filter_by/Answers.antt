@@ -1,4 +1,4 @@
-use Rattle.std.proofs.Common.{rules, ◌≡◌, ◌++◌, ℕ, List, [], Some, false, take, subst, sym, ap, ◌∙◌, arith}
+use Rattle.std.proofs.Common.{rules, ◌≡◌, ◌++◌, [], Some, take, subst, sym, ap, ◌∙◌, arith}
 use Rattle.std.proofs.lemmas.Grind.{common_steps}
 use Rattle.std.proofs.KnownBytes.{Appends-nil, Consumes-kept, Consumes-nil, Consumes-trans}
 use Rattle.std.specs.Io.KnownBytes.{Appends}
@@ -9,7 +9,7 @@ use Rattle.esc_filter.proofs.Results.{on_err_any, prefix_after, prefix_whole, re
 use Rattle.esc_filter.proofs.Steps.{Passes, PassesSome}
 use Rattle.esc_filter.proofs.filtering.filter_by.Goals as goal
 use Rattle.esc_filter.specs.Fed.{WasFed}
-use Rattle.esc_filter.specs.Passing.{passed_text, passes}
+use Rattle.esc_filter.specs.Passing.{passes}
 
 pub loop-init : goal.loop-init
 loop-init g c =

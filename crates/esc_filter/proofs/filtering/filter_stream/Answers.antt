@@ -1,7 +1,5 @@
-use Rattle.std.proofs.Common.{[], Some}
-use Rattle.std.proofs.KnownBytes.{Consumes-nil}
+use Rattle.std.proofs.Common.{Some}
 use Rattle.escape_stream.proofs.Lists.{on_ok_more}
-use Rattle.esc_filter.proofs.Results.{prefix_none}
 use Rattle.esc_filter.proofs.filtering.filter_stream.Goals as goal
 use Rattle.esc_filter.specs.Passing.{passed_text}
 

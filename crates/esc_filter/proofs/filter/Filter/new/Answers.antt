@@ -1,4 +1,4 @@
-use Rattle.std.proofs.Common.{[], Some, false, sym, ap, ◌∙◌}
+use Rattle.std.proofs.Common.{Some, false, sym, ap, ◌∙◌}
 use Rattle.std.specs.List.{filter}
 use Rattle.esc_actions.proofs.Meanings.{meaning_nil}
 use Rattle.esc_filter.proofs.filter.Filter.new.Goals as goal

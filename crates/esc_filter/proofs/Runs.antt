@@ -1,0 +1,63 @@
+-- Runs of text.
+use Rattle.std.proofs.Common.{◌≡◌, ℕ, suc, ◌+◌, Bool, true, false, cond, List, [], ◌∷◌, length, map, refl, ap, arith}
+use Rattle.std.proofs.lemmas.Bool.{and_parts}
+use Rattle.std.proofs.lemmas.Bool.Decides.{nat_tests}
+use Rattle.std.specs.List.{FoldsTo, list_all, prefix_len}
+use Rattle.escape_stream.specs.Spelled.{Adds}
+use Rattle.escape_stream.specs.declared.sink.Spell.{Spell}
+use Rattle.esc_actions.specs.Values.{Value, print}
+use Rattle.esc_actions.specs.declared.action.Action.{Action}
+use Rattle.esc_actions.specs.declared.action.Action.TheVariants as action
+use Rattle.esc_frame.specs.Scans.{is_data_byte}
+use Rattle.esc_filter.specs.Fed.{Takes}
+use Rattle.esc_filter.specs.Passing.{passes}
+use Rattle.esc_filter.specs.declared.passing.Passing.{Passing}
+use Rattle.esc_filter.specs.Rules.{admits, is_shown}
+use Rattle.esc_filter.specs.declared.policy.Policy.{Policy}
+use Rattle.esc_filter.specs.declared.policy.Policy.TheVariants as policy
+
+full_step : (p : ℕ → Bool) (x : ℕ) (xs : List ℕ) (t : Bool) → p x ≡ t → cond t (1 + prefix_len p xs) 0 ≡ suc (length xs)
+    → (prefix_len p xs ≡ length xs → list_all p xs ≡ true) → list_all p (x ∷ xs) ≡ true
+full_step p x xs true e h f = rw (e, f (omega arith)) refl
+full_step p x xs false e h f = absurd (omega arith)
+
+-- a prefix that is all
+pub full_run : (p : ℕ → Bool) (xs : List ℕ) → prefix_len p xs ≡ length xs → list_all p xs ≡ true
+full_run p [] e = refl
+full_run p (x ∷ xs) e = full_step p x xs (p x) refl e (full_run p xs)
+
+all_more : (p q : ℕ → Bool) → ((c : ℕ) → p c ≡ true → q c ≡ true) → (xs : List ℕ) → list_all p xs ≡ true → list_all q xs ≡ true
+all_more p q f [] h = refl
+all_more p q f (x ∷ xs) h = let k = and_parts (p x) (list_all p xs) h in rw (f x k.0, all_more p q f xs k.1) refl
+
+shown : (c : ℕ) → is_data_byte c ≡ true → is_shown c ≡ true
+shown c h = grind (arith, nat_tests)
+
+-- each policy admits characters that are shown
+pub run_admitted : (A : Type 0) (p : Policy) (xs : List ℕ) → list_all is_data_byte xs ≡ true → list_all (λ c. admits {A = A} p (print c)) xs ≡ true
+run_admitted A policy.Text xs h = all_more is_data_byte is_shown shown xs h
+run_admitted A policy.Color xs h = all_more is_data_byte (λ c. admits {A = A} policy.Color (print c)) (λ c k. rw (shown c k) refl) xs h
+run_admitted A policy.Screen xs h = all_more is_data_byte (λ c. admits {A = A} policy.Screen (print c)) (λ c k. rw (shown c k) refl) xs h
+run_admitted A policy.All xs h = all_more is_data_byte (λ c. true) (λ c k. refl) xs h
+
+-- a run that is admitted passes, character by character
+abbrev pub TakesBy : {P A : Type 0} → (P → Value A → Bool) → Passing P A → Action A → Passing P A → Type 0
+TakesBy allows p a q = Takes (allows p.policy.now) p.spell a q.spell × (q.policy.now ≡ p.policy.now)
+
+one_passes : {A : Type 0} (b : Bool) (p q : Spell A) (c : ℕ) → b ≡ true → Adds p (action.Print c) q → (b ≡ true → Adds p (action.Print c) q) × (b ≡ false → q ≡ p)
+one_passes true p q c e h = (λ k. h, λ k. absurd cc)
+one_passes false p q c e h = absurd cc
+
+abbrev with_spell : {P A : Type 0} → Passing P A → Spell A → Passing P A
+with_spell p s = record p { spell = s }
+
+pub run_passes : {P A : Type 0} (allows : P → Value A → Bool) (xs : List ℕ) (p : Passing P A) (s : Spell A)
+    → list_all (λ c. allows p.policy.now (print c)) xs ≡ true → FoldsTo Adds p.spell (map action.Print xs) s
+    → FoldsTo (TakesBy allows) p (map action.Print xs) (record p { spell = s })
+run_passes allows [] p s h e = ap (with_spell p) e
+run_passes allows (x ∷ xs) p s h (j, t, rest) =
+    let k = and_parts (allows p.policy.now (print x)) (list_all (λ c. allows p.policy.now (print c)) xs) h in (
+      record p { spell = j },
+      (one_passes (passes (allows p.policy.now) (print x)) p.spell j x k.0 t, refl),
+      run_passes allows xs (record p { spell = j }) s k.1 rest,
+    )

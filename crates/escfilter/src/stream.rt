@@ -1,0 +1,83 @@
+//! One stream, from its reader to the output.
+ghost use Rattle.std.specs.Prelude.{◌≡◌, ◌↔◌, false, IsErrOf, IsTrue, OnErr, OnOk};
+ghost use Rattle.std.specs.Io.KnownBytes.{IsAtEnd};
+ghost use Rattle.esc_filter.specs.Rules.{admits};
+ghost use Rattle.escape_stream.specs.Io.{has_failed, inner_of};
+ghost use Rattle.esc_filter.specs.Streams.{HasBegun, HasFiltered};
+
+use crate::ended::Ended;
+use crate::options::Options;
+use crate::tally::{Counting, Tally};
+use esc_filter::{FilterError, filter_stream};
+use escape_stream::Watched;
+use std::alloc::Allocator;
+use std::cell::Cell;
+use std::io::{ErrorKind, Read, Write};
+
+/// Writes on `writer` what the policy of the options admits of what `reader` reads, as it comes; then, where the options ask for it, a
+/// line on `faults` that names the stream and says what was left out. It returns what `filter_stream` does.
+pub fn filter_named<A: Allocator + Copy, R: Read, W: Write, E: Write>(
+    alloc: A,
+    options: Options,
+    name: &str,
+    reader: &mut Watched<R>,
+    writer: &mut Watched<W>,
+    faults: &mut E,
+) -> Result<(), FilterError>
+    ensures read_all { OnOk result (IsAtEnd (R.remaining (inner_of reader.new))) }
+    ensures written { OnOk result (HasFiltered {A = A} (admits options.policy) options.limit (R.remaining (inner_of reader.old)) (R.remaining (inner_of reader.new))
+        (W.contents (inner_of writer.old)) (W.contents (inner_of writer.new))) }
+    ensures decided { IsErrOf result FilterError.Read → HasFiltered {A = A} (admits options.policy) options.limit (R.remaining (inner_of reader.old)) (R.remaining (inner_of reader.new))
+        (W.contents (inner_of writer.old)) (W.contents (inner_of writer.new)) }
+    ensures beginning { OnErr result (HasBegun {A = A} (admits options.policy) options.limit (R.remaining (inner_of reader.old)) (R.remaining (inner_of reader.new))
+        (W.contents (inner_of writer.old)) (W.contents (inner_of writer.new))) }
+    ensures read_fault { has_failed reader.old ≡ false → (IsErrOf result FilterError.Read ↔ IsTrue (has_failed reader.new)) }
+    ensures write_fault { has_failed writer.old ≡ false → (IsErrOf result FilterError.Write ↔ IsTrue (has_failed writer.new)) }
+{
+    let tally = Cell::new(Tally::new());
+    let policy = Counting {
+        policy: options.policy,
+        tally: options.reports.then_some(&tally),
+    };
+    let result = filter_stream(alloc, reader, writer, options.limit, policy);
+    if options.reports {
+        tally.get().tell(name, faults);
+    }
+    result
+}
+
+/// How the stream of this name ended, with this outcome of its filter, where the last error was of this kind. A line on `faults` says
+/// what hindered it; but where nobody reads the output any more, none is written.
+pub fn ended<E: Write>(
+    outcome: Result<(), FilterError>,
+    kind: Option<ErrorKind>,
+    name: &str,
+    faults: &mut E,
+) -> Ended
+    ensures { result ≡ Ended.Whole → outcome ≡ Ok tt }
+{
+    let error = match outcome {
+        Ok(()) => return Ended::Whole,
+        Err(error) => error,
+    };
+    if error == FilterError::Write {
+        return unwritten(kind, faults);
+    }
+    let _ = match kind {
+        Some(kind) => writeln!(faults, "escfilter: {name}: {kind}"),
+        None => writeln!(faults, "escfilter: {name}: {error}"),
+    };
+    Ended::Unread
+}
+
+// How a stream ended that could not be written. Of an output that was closed no line is written.
+fn unwritten<E: Write>(kind: Option<ErrorKind>, faults: &mut E) -> Ended
+    ensures { result ≡ Ended.Whole → ⊥ }
+{
+    let _ = match kind {
+        Some(ErrorKind::BrokenPipe) => return Ended::Closed,
+        Some(kind) => writeln!(faults, "escfilter: standard output: {kind}"),
+        None => writeln!(faults, "escfilter: standard output: takes nothing"),
+    };
+    Ended::Unwritten
+}
