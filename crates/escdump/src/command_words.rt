@@ -15,28 +15,23 @@ pub struct CommandWords<'a, A: Allocator = Global>(pub &'a OperatingSystemComman
 impl<A: Allocator> Display for CommandWords<'_, A> {
     fn fmt<W: fmt::Write>(&self, f: &mut fmt::Formatter<W>) -> fmt::Result {
         match self.0 {
-            OperatingSystemCommand::SetIconNameAndWindowTitle(text) => write!(
-                f,
-                "OSC 0 icon name and window title \"{text}\""
-            ),
-            OperatingSystemCommand::SetIconName(text) => write!(f, "OSC 1 icon name \"{text}\""),
-            OperatingSystemCommand::SetWindowTitle(text) => write!(
-                f,
-                "OSC 2 window title \"{text}\""
-            ),
-            OperatingSystemCommand::SetWindowTitleSun(text) => write!(
-                f,
-                "OSC l window title \"{text}\""
-            ),
-            OperatingSystemCommand::SetIconNameSun(text) => write!(f, "OSC L icon name \"{text}\""),
-            OperatingSystemCommand::SystemNotification(text) => write!(
-                f,
-                "OSC 9 notification \"{text}\""
-            ),
-            OperatingSystemCommand::CurrentWorkingDirectory(text) => write!(
-                f,
-                "OSC 7 working directory \"{text}\""
-            ),
+            OperatingSystemCommand::SetIconNameAndWindowTitle(text) => {
+                write_text("OSC 0 icon name and window title", text, f)
+            }
+            OperatingSystemCommand::SetIconName(text) => write_text("OSC 1 icon name", text, f),
+            OperatingSystemCommand::SetWindowTitle(text) => {
+                write_text("OSC 2 window title", text, f)
+            }
+            OperatingSystemCommand::SetWindowTitleSun(text) => {
+                write_text("OSC l window title", text, f)
+            }
+            OperatingSystemCommand::SetIconNameSun(text) => write_text("OSC L icon name", text, f),
+            OperatingSystemCommand::SystemNotification(text) => {
+                write_text("OSC 9 notification", text, f)
+            }
+            OperatingSystemCommand::CurrentWorkingDirectory(text) => {
+                write_text("OSC 7 working directory", text, f)
+            }
             OperatingSystemCommand::SetHyperlink(link) => write_link(link.as_ref(), f),
             OperatingSystemCommand::ClearSelection(at) => write!(
                 f,
@@ -61,6 +56,15 @@ impl<A: Allocator> Display for CommandWords<'_, A> {
             other => write_other(other, f),
         }
     }
+}
+
+// A text, after what it is.
+fn write_text<A: Allocator, W: fmt::Write>(
+    what: &str,
+    text: &Text<A>,
+    f: &mut fmt::Formatter<W>,
+) -> fmt::Result {
+    write!(f, "{what} \"{text}\"")
 }
 
 // A command with colours, parts or numbers.

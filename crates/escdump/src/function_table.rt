@@ -87,11 +87,10 @@ const WINDOW: &[Named] = &[
     Named(23, "pop title"),
 ];
 
-const FUNCTIONS: &[Function] = &[
+// Those without a private marker and intermediates.
+const PLAIN: &[Function] = &[
     Function("@", "ICH", "insert characters", Numbers),
-    Function(" @", "SL", "shift left", Numbers),
     Function("A", "CUU", "cursor up", Numbers),
-    Function(" A", "SR", "shift right", Numbers),
     Function("B", "CUD", "cursor down", Numbers),
     Function("C", "CUF", "cursor right", Numbers),
     Function("D", "CUB", "cursor left", Numbers),
@@ -101,104 +100,115 @@ const FUNCTIONS: &[Function] = &[
     Function("H", "CUP", "cursor position", Numbers),
     Function("I", "CHT", "cursor to tab stop", Numbers),
     Function("J", "ED", "erase in display", OneOf(IN_DISPLAY)),
-    Function(
-        "?J",
-        "DECSED",
-        "erase in display what is not protected",
-        OneOf(IN_DISPLAY),
-    ),
     Function("K", "EL", "erase in line", OneOf(IN_LINE)),
-    Function(
-        "?K",
-        "DECSEL",
-        "erase in line what is not protected",
-        OneOf(IN_LINE),
-    ),
     Function("L", "IL", "insert lines", Numbers),
     Function("M", "DL", "delete lines", Numbers),
     Function("P", "DCH", "delete characters", Numbers),
     Function("R", "CPR", "report of the cursor position", Numbers),
     Function("S", "SU", "scroll up", Numbers),
-    Function("?S", "XTSMGRAPHICS", "graphics attribute", Numbers),
     Function("T", "SD", "scroll down", Numbers),
-    Function(">T", "XTRMTITLE", "reset title modes", Numbers),
     Function("X", "ECH", "erase characters", Numbers),
     Function("Z", "CBT", "cursor back to tab stop", Numbers),
     Function("`", "HPA", "column position", Numbers),
     Function("a", "HPR", "column position forward", Numbers),
     Function("b", "REP", "repeat the character", Numbers),
     Function("c", "DA", "device attributes", Numbers),
-    Function("?c", "DA", "report of the device attributes", Numbers),
-    Function(">c", "DA2", "secondary device attributes", Numbers),
-    Function("=c", "DA3", "tertiary device attributes", Numbers),
     Function("d", "VPA", "line position", Numbers),
     Function("e", "VPR", "line position forward", Numbers),
     Function("f", "HVP", "character and line position", Numbers),
     Function("g", "TBC", "clear tab stops", OneOf(TABS)),
     Function("h", "SM", "set modes", Modes),
-    Function("?h", "DECSET", "set private modes", PrivateModes),
     Function("i", "MC", "media copy", Numbers),
-    Function("?i", "MC", "media copy, private", Numbers),
     Function("j", "HPB", "column position backward", Numbers),
     Function("k", "VPB", "line position backward", Numbers),
     Function("l", "RM", "reset modes", Modes),
-    Function("?l", "DECRST", "reset private modes", PrivateModes),
     Function("m", "SGR", "renditions", Renditions),
-    Function("?m", "XTQMODKEYS", "ask for modifier keys", Numbers),
-    Function(">m", "XTMODKEYS", "modifier keys", Numbers),
     Function("n", "DSR", "device status report", OneOf(REPORTS)),
-    Function(
-        "?n",
-        "DSR",
-        "private device status report",
-        OneOf(PRIVATE_REPORTS),
-    ),
-    Function("!p", "DECSTR", "soft terminal reset", Numbers),
-    Function("\"p", "DECSCL", "conformance level", Numbers),
-    Function("$p", "DECRQM", "ask for modes", Modes),
-    Function("?$p", "DECRQM", "ask for private modes", PrivateModes),
     Function("q", "DECLL", "load LEDs", Numbers),
-    Function(" q", "DECSCUSR", "cursor style", OneOf(CURSORS)),
-    Function("\"q", "DECSCA", "character protection", OneOf(PROTECTION)),
-    Function(">q", "XTVERSION", "ask for name and version", Numbers),
     Function("r", "DECSTBM", "top and bottom margins", Numbers),
-    Function("?r", "XTRESTORE", "restore private modes", PrivateModes),
-    Function("$r", "DECCARA", "change attributes in a rectangle", Numbers),
     Function(
         "s",
         "SCP",
         "save cursor position; or DECSLRM, left and right margins",
         Numbers,
     ),
-    Function("?s", "XTSAVE", "save private modes", PrivateModes),
     Function("t", "XTWINOPS", "window", OneOf(WINDOW)),
-    Function(" t", "DECSWBV", "warning bell volume", Numbers),
-    Function(">t", "XTSMTITLE", "set title modes", Numbers),
-    Function(
-        "$t",
-        "DECRARA",
-        "reverse attributes in a rectangle",
-        Numbers,
-    ),
     Function(
         "u",
         "RCP",
         "restore cursor position; or a key, as kitty reports it",
         Numbers,
     ),
-    Function(" u", "DECSMBV", "margin bell volume", Numbers),
+    Function("x", "DECREQTPARM", "ask for terminal parameters", Numbers),
+    Function("~", "DECFNK", "function key", OneOf(KEYS)),
+];
+
+// Those with a private marker.
+const PRIVATE: &[Function] = &[
+    Function(
+        "?J",
+        "DECSED",
+        "erase in display what is not protected",
+        OneOf(IN_DISPLAY),
+    ),
+    Function(
+        "?K",
+        "DECSEL",
+        "erase in line what is not protected",
+        OneOf(IN_LINE),
+    ),
+    Function("?S", "XTSMGRAPHICS", "graphics attribute", Numbers),
+    Function(">T", "XTRMTITLE", "reset title modes", Numbers),
+    Function("?c", "DA", "report of the device attributes", Numbers),
+    Function(">c", "DA2", "secondary device attributes", Numbers),
+    Function("=c", "DA3", "tertiary device attributes", Numbers),
+    Function("?h", "DECSET", "set private modes", PrivateModes),
+    Function("?i", "MC", "media copy, private", Numbers),
+    Function("?l", "DECRST", "reset private modes", PrivateModes),
+    Function("?m", "XTQMODKEYS", "ask for modifier keys", Numbers),
+    Function(">m", "XTMODKEYS", "modifier keys", Numbers),
+    Function(
+        "?n",
+        "DSR",
+        "private device status report",
+        OneOf(PRIVATE_REPORTS),
+    ),
+    Function("?$p", "DECRQM", "ask for private modes", PrivateModes),
+    Function(">q", "XTVERSION", "ask for name and version", Numbers),
+    Function("?r", "XTRESTORE", "restore private modes", PrivateModes),
+    Function("?s", "XTSAVE", "save private modes", PrivateModes),
+    Function(">t", "XTSMTITLE", "set title modes", Numbers),
     Function("?u", "kitty keyboard", "ask for flags", Numbers),
     Function("=u", "kitty keyboard", "set flags", Numbers),
     Function(">u", "kitty keyboard", "push flags", Numbers),
     Function("<u", "kitty keyboard", "pop flags", Numbers),
+    Function("?$y", "DECRPM", "report of a private mode", Numbers),
+];
+
+// Those with intermediates alone.
+const INTERMEDIATE: &[Function] = &[
+    Function(" @", "SL", "shift left", Numbers),
+    Function(" A", "SR", "shift right", Numbers),
+    Function("!p", "DECSTR", "soft terminal reset", Numbers),
+    Function("\"p", "DECSCL", "conformance level", Numbers),
+    Function("$p", "DECRQM", "ask for modes", Modes),
+    Function(" q", "DECSCUSR", "cursor style", OneOf(CURSORS)),
+    Function("\"q", "DECSCA", "character protection", OneOf(PROTECTION)),
+    Function("$r", "DECCARA", "change attributes in a rectangle", Numbers),
+    Function(" t", "DECSWBV", "warning bell volume", Numbers),
+    Function(
+        "$t",
+        "DECRARA",
+        "reverse attributes in a rectangle",
+        Numbers,
+    ),
+    Function(" u", "DECSMBV", "margin bell volume", Numbers),
     Function("$v", "DECCRA", "copy a rectangle", Numbers),
     Function("$w", "DECRQPSR", "ask for presentation state", Numbers),
-    Function("x", "DECREQTPARM", "ask for terminal parameters", Numbers),
     Function("$x", "DECFRA", "fill a rectangle", Numbers),
     Function("*x", "DECSACE", "extent of changed attributes", Numbers),
     Function("*y", "DECRQCRA", "ask for a rectangle's checksum", Numbers),
     Function("$y", "DECRPM", "report of a mode", Numbers),
-    Function("?$y", "DECRPM", "report of a private mode", Numbers),
     Function("$z", "DECERA", "erase a rectangle", Numbers),
     Function("'z", "DECELR", "locator reports", Numbers),
     Function(
@@ -215,10 +225,25 @@ const FUNCTIONS: &[Function] = &[
     Function("#}", "XTPOPSGR", "pop renditions", Numbers),
     Function("'}", "DECIC", "insert columns", Numbers),
     Function("'~", "DECDC", "delete columns", Numbers),
-    Function("~", "DECFNK", "function key", OneOf(KEYS)),
 ];
 
 /// The control function with this private marker, these intermediates and this final byte, where it has a name.
 pub fn control_function(marks: &[u8], last: u8) -> Option<Function> {
-    function_of(FUNCTIONS, marks, last)
+    match marks {
+        [] => plain_function(last),
+        [b'<'..=b'?', ..] => private_function(marks, last),
+        _ => intermediate_function(marks, last),
+    }
+}
+
+fn plain_function(last: u8) -> Option<Function> {
+    function_of(PLAIN, &[], last)
+}
+
+fn private_function(marks: &[u8], last: u8) -> Option<Function> {
+    function_of(PRIVATE, marks, last)
+}
+
+fn intermediate_function(marks: &[u8], last: u8) -> Option<Function> {
+    function_of(INTERMEDIATE, marks, last)
 }

@@ -89,25 +89,37 @@ const UNDERLINES: &[Named] = &[
 ];
 
 // The words of a rendition of the table.
-fn written(table: &[Named], number: i64) -> &'static str {
-    words_of(table, number).unwrap_or("not known")
+fn written(number: i64) -> &'static str {
+    words_of(RENDITIONS, number).unwrap_or("not known")
+}
+
+// The words of an underline of the table.
+fn underlined(kind: i64) -> &'static str {
+    words_of(UNDERLINES, kind).unwrap_or("not known")
 }
 
 /// A rendition in words.
 pub fn rendition_words(sgr: Sgr) -> &'static str {
     match sgr {
-        Sgr::Reset => written(RENDITIONS, 0),
-        Sgr::Intensity(Intensity::Bold) => written(RENDITIONS, 1),
-        Sgr::Intensity(Intensity::Half) => written(RENDITIONS, 2),
-        Sgr::Intensity(Intensity::Normal) => written(RENDITIONS, 22),
-        Sgr::Italic(true) => written(RENDITIONS, 3),
-        Sgr::Italic(false) => written(RENDITIONS, 23),
-        Sgr::Underline(Underline::None) => written(RENDITIONS, 24),
-        Sgr::Underline(Underline::Single) => written(RENDITIONS, 4),
-        Sgr::Underline(Underline::Double) => written(RENDITIONS, 21),
-        Sgr::Underline(Underline::Curly) => written(UNDERLINES, 3),
-        Sgr::Underline(Underline::Dotted) => written(UNDERLINES, 4),
-        Sgr::Underline(Underline::Dashed) => written(UNDERLINES, 5),
+        Sgr::Underline(Underline::Curly) => underlined(3),
+        Sgr::Underline(Underline::Dotted) => underlined(4),
+        Sgr::Underline(Underline::Dashed) => underlined(5),
+        other => written(number_of_rendition(other)),
+    }
+}
+
+// The number of a rendition, for an underline of a kind of its own that of any.
+fn number_of_rendition(sgr: Sgr) -> i64 {
+    match sgr {
+        Sgr::Reset => 0,
+        Sgr::Intensity(Intensity::Bold) => 1,
+        Sgr::Intensity(Intensity::Half) => 2,
+        Sgr::Intensity(Intensity::Normal) => 22,
+        Sgr::Italic(true) => 3,
+        Sgr::Italic(false) => 23,
+        Sgr::Underline(Underline::None) => 24,
+        Sgr::Underline(Underline::Double) => 21,
+        Sgr::Underline(_) => 4,
     }
 }
 
@@ -159,10 +171,10 @@ fn write_rendition<W: fmt::Write>(
         CsiParam::Integer(kind),
     ] = item
     {
-        f.write_str(written(UNDERLINES, *kind))?;
+        f.write_str(underlined(*kind))?;
         return Ok(Rendition);
     }
-    write!(f, "{}", written(RENDITIONS, first))?;
+    f.write_str(written(first))?;
     if let [_, CsiParam::P(b':'), rest @ ..] = item {
         let numbers = Entries(rest);
         write!(f, "{numbers}")?;

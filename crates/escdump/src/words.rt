@@ -68,6 +68,19 @@ impl<A: Allocator> Words<A> {
         self.text.push_display(&ActionWords(action))
     }
 
+    // Appends what an action adds.
+    fn note(&mut self, action: &Action<A>) -> Result<(), AllocError> {
+        match action {
+            Action::Print(_) | Action::PrintString(_) => Ok(()),
+            Action::DeviceControl(DeviceControlMode::Data(byte)) => self.add_data(*byte),
+            Action::DeviceControl(DeviceControlMode::Exit) => Ok(()),
+            Action::Control(ControlCode::Cancel) if self.is_ending => Ok(()),
+            _ if self.text.len() > self.limit => Ok(()),
+            Action::CSI(CSI::Sgr(sgr)) => self.add_rendition(*sgr),
+            other => self.add(other),
+        }
+    }
+
     // Appends a byte of data.
     fn add_data(&mut self, byte: u8) -> Result<(), AllocError> {
         if self.data.len() < self.limit {
@@ -86,14 +99,6 @@ impl<A: Allocator> Sink<Action<A>> for Words<A> {
     ghost refuses = { λ p a q. Unit {0} };
 
     fn receive(&mut self, action: Action<A>) -> Result<(), AllocError> {
-        match &action {
-            Action::Print(_) | Action::PrintString(_) => Ok(()),
-            Action::DeviceControl(DeviceControlMode::Data(byte)) => self.add_data(*byte),
-            Action::DeviceControl(DeviceControlMode::Exit) => Ok(()),
-            Action::Control(ControlCode::Cancel) if self.is_ending => Ok(()),
-            _ if self.text.len() > self.limit => Ok(()),
-            Action::CSI(CSI::Sgr(sgr)) => self.add_rendition(*sgr),
-            other => self.add(other),
-        }
+        self.note(&action)
     }
 }

@@ -61,22 +61,61 @@ fn characters_join(rt: HostRuntime) -> Result<(), Fail> {
     Ok(())
 }
 
+// How many requests are refused, one in each run. None of the rows asks for more.
+const REQUESTS: u64 = 8;
+
+// What comes back where the request with this number is refused, what should, and whether it was refused.
+fn refused_at(
+    alloc: Global,
+    before: &str,
+    is_string: bool,
+    after: &str,
+    at: u64,
+) -> Result<(String, String, bool), AllocError> {
+    let heap = Refusing::new(alloc);
+    let list = list_of(&heap, before)?;
+    let action = last(&heap, is_string)?;
+    let unchanged = format!(in alloc; "{list:?} and {action:?}")?;
+    heap.refuse_at(at);
+    let got = appended(list, action, alloc)?;
+    let is_refused = heap.has_refused();
+    let wanted = if is_refused {
+        unchanged
+    } else {
+        format!(in alloc; "{after}")?
+    };
+    Ok((got, wanted, is_refused))
+}
+
 #[test]
 fn a_refused_action_comes_back(rt: HostRuntime) -> Result<(), Fail> {
     let alloc = rt.alloc();
     for (before, is_string, after) in &ROWS {
-        let heap = Refusing::new(alloc);
-        let list = list_of(&heap, before)?;
-        let action = last(&heap, *is_string)?;
-        let refused = format!(in alloc; "{list:?} and {action:?}")?;
-        heap.refuse_at(1);
-        let got = appended(list, action, alloc)?;
-        let wanted = if heap.has_refused() {
-            refused.as_str()
-        } else {
-            *after
-        };
-        assert_eq!(rt; got.as_str(), wanted, "{before}");
+        let mut is_refused = true;
+        for at in 1..=REQUESTS {
+            let (got, wanted, refused) = refused_at(alloc, before, *is_string, after, at)?;
+            assert_eq!(rt; got.as_str(), wanted.as_str(), "{before}, {at}");
+            is_refused = refused;
+        }
+        assert!(rt; !is_refused);
     }
+    Ok(())
+}
+
+#[test]
+fn a_string_that_cannot_grow_stays(rt: HostRuntime) -> Result<(), Fail> {
+    let alloc = rt.alloc();
+    let mut text = format!(in alloc; "aa")?;
+    let mut times = 0u32;
+    for _ in 0..16u32 {
+        let after = format!(in alloc; "[PrintString(\"{text}b\")]")?;
+        let (got, wanted, is_refused) = refused_at(alloc, &text, false, &after, 1)?;
+        assert_eq!(rt; got.as_str(), wanted.as_str());
+        if is_refused {
+            times = times.saturating_add(1);
+        }
+        text.push('a')?;
+    }
+    assert!(rt; times > 0);
     Ok(())
 }

@@ -1,11 +1,11 @@
 //! Which actions and lists are writable.
 use escape_stream::csi::Unspecified;
 use escape_stream::{
-    Action, Boxed, CSI, ControlCode, Esc, Items, OperatingSystemCommand, Parser, Sixel, SixelData,
-    Text, are_writable, is_writable,
+    Action, Boxed, CSI, ControlCode, Esc, Items, OperatingSystemCommand, ParseError, Parser, Sixel,
+    SixelData, Text, are_writable, is_writable,
 };
 use refusing::Refusing;
-use std::alloc::{AllocError, Allocator};
+use std::alloc::{AllocError, Allocator, Global};
 use std::test::Fail;
 
 // An action of which a parser emits none, or not each.
@@ -103,24 +103,50 @@ fn action_of<A: Allocator + Copy>(alloc: A, what: Made) -> Result<Action<A>, All
     }
 }
 
+// The first request that, refused, makes the answer another one. An error is no other answer.
+fn wrong_request<'a>(
+    heap: &'a Refusing<Global>,
+    action: &Action<&'a Refusing<Global>>,
+    wanted: bool,
+) -> Option<u64> {
+    for at in 1..1000u64 {
+        heap.refuse_at(at);
+        let is_right = match is_writable(heap, action) {
+            Ok(answer) => answer == wanted,
+            Err(_) => heap.has_refused(),
+        };
+        if !is_right {
+            return Some(at);
+        }
+        if !heap.has_refused() {
+            return None;
+        }
+    }
+    None
+}
+
+// What is wrong with the answer of an action, and no text where it is right.
+fn difference(
+    heap: &Refusing<Global>,
+    alloc: Global,
+    what: Made,
+    wanted: bool,
+) -> Result<String, AllocError> {
+    heap.refuse_at(0);
+    let action = action_of(heap, what)?;
+    match wrong_request(heap, &action, wanted) {
+        Some(at) => format!(in alloc; "{action:?}, request {at}"),
+        None => Ok(String::new(alloc)),
+    }
+}
+
 // With each request for memory refused in turn, the answer is an error or stays the same.
 #[test]
 fn each_kind_of_action(rt: HostRuntime) -> Result<(), Fail> {
     let heap = Refusing::new(rt.alloc());
     for (what, wanted) in &MADE {
-        heap.refuse_at(0);
-        let action = action_of(&heap, *what)?;
-        for at in 1..1000u64 {
-            heap.refuse_at(at);
-            let is_right = match is_writable(&heap, &action) {
-                Ok(answer) => answer == *wanted,
-                Err(_) => heap.has_refused(),
-            };
-            assert!(rt; is_right, "{action:?}, request {at}");
-            if !heap.has_refused() {
-                break;
-            }
-        }
+        let difference = difference(&heap, rt.alloc(), *what, *wanted)?;
+        assert_eq!(rt; difference.as_str(), "");
     }
     Ok(())
 }
@@ -148,18 +174,24 @@ static PARTS: [(&[u8], usize, usize, bool); 19] = [
     (b"a\x1b  [", 0, 2, false),
 ];
 
+// Whether these actions are a writable list, and none where there are fewer, or memory is refused.
+fn answer(
+    alloc: Global,
+    actions: Result<Vec<Action>, ParseError>,
+    from: usize,
+    to: usize,
+) -> Option<bool> {
+    let actions = actions.ok()?;
+    let asked = actions.get(from..to)?;
+    are_writable(alloc, asked).ok()
+}
+
 #[test]
-fn lists_and_their_groups(rt: HostRuntime) -> Result<(), Fail> {
+fn lists_and_their_groups(rt: HostRuntime) {
     let alloc = rt.alloc();
     for (stream, from, to, wanted) in &PARTS {
-        let mut parser = Parser::new(alloc);
-        let Ok(actions) = parser.parse_as_vec(stream) else {
-            panic!(rt; "out of memory");
-        };
-        let Some(asked) = actions.get(*from..*to) else {
-            panic!(rt; "fewer actions: {actions:?}");
-        };
-        assert!(rt; are_writable(alloc, asked)? == *wanted, "{asked:?}");
+        let actions = Parser::new(alloc).parse_as_vec(stream);
+        let answer = answer(alloc, actions, *from, *to);
+        assert_eq!(rt; answer, Some(*wanted), "{stream:?}");
     }
-    Ok(())
 }

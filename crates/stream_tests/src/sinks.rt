@@ -2,6 +2,7 @@
 use escape_stream::{Action, Collect, First, ParseError, Parser, Spell, Watched};
 use refusing::Refusing;
 use refusing::byte_reader::ByteReader;
+use std::alloc::Global;
 use std::io::{ErrorKind, Read};
 use std::test::Fail;
 
@@ -37,17 +38,30 @@ fn the_first_action_is_kept(rt: HostRuntime) {
     assert!(rt; sink.action == Some(Action::Print('a')));
 }
 
+// What a parser that is refused memory returns, and how many actions its sink has then.
+fn refused<'a>(
+    heap: &'a Refusing<Global>,
+    parser: &mut Parser<&'a Refusing<Global>>,
+) -> (Result<(), ParseError>, usize) {
+    heap.refuse_at(1);
+    let (refused, sink) = parser.parse_into(b"ab", Collect::new(heap));
+    (refused, sink.actions.len())
+}
+
+// What a parser returns, and whether its sink has no action then.
+fn failed(parser: &mut Parser<&Refusing<Global>>) -> (Result<(), ParseError>, bool) {
+    let (failed, sink) = parser.parse_into(b"c", First { action: None });
+    (failed, sink.action.is_none())
+}
+
 #[test]
 fn a_failed_parser_leaves_the_sink(rt: HostRuntime) {
     let heap = Refusing::new(rt.alloc());
     let mut parser = Parser::new(&heap);
-    heap.refuse_at(1);
-    let (refused, sink) = parser.parse_into(b"ab", Collect::new(&heap));
-    assert_eq!(rt; refused, Err(ParseError::Memory));
-    assert!(rt; sink.actions.is_empty());
-    let (failed, sink) = parser.parse_into(b"c", First { action: None });
-    assert_eq!(rt; failed, Err(ParseError::Failed));
-    assert!(rt; sink.action.is_none());
+    let first = refused(&heap, &mut parser);
+    let later = failed(&mut parser);
+    assert!(rt; first == (Err(ParseError::Memory), 0));
+    assert!(rt; later == (Err(ParseError::Failed), true));
 }
 
 #[test]
