@@ -1,8 +1,12 @@
 -- Runs of text.
-use Rattle.std.proofs.Common.{◌≡◌, ℕ, suc, ◌+◌, Bool, true, false, cond, List, [], ◌∷◌, length, map, refl, ap, arith}
+use Rattle.std.proofs.Common.{◌≡◌, ℕ, suc, ◌+◌, Bool, true, false, cond, List, [], ◌∷◌, length, map, refl, ap, sym, subst, ◌∙◌, ◌==◌, arith}
 use Rattle.std.proofs.lemmas.Bool.{and_parts}
 use Rattle.std.proofs.lemmas.Bool.Decides.{nat_tests}
+use Rattle.std.specs.Char.{encode_utf8}
 use Rattle.std.specs.List.{FoldsTo, list_all, prefix_len}
+use Rattle.std.specs.Str.{IsUtf8, chars, encode_utf8_all}
+use Rattle.std.proofs.lemmas.List.Folds.{list_all-append}
+use Rattle.std.proofs.lemmas.Str.{encode_ascii, encodes-chars}
 use Rattle.escape_stream.specs.Spelled.{Adds}
 use Rattle.escape_stream.specs.declared.sink.Spell.{Spell}
 use Rattle.esc_actions.specs.Values.{Value, print}
@@ -39,6 +43,33 @@ run_admitted A policy.Text xs h = all_more is_data_byte is_shown shown xs h
 run_admitted A policy.Color xs h = all_more is_data_byte (λ c. admits {A = A} policy.Color (print c)) (λ c k. rw (shown c k) refl) xs h
 run_admitted A policy.Screen xs h = all_more is_data_byte (λ c. admits {A = A} policy.Screen (print c)) (λ c k. rw (shown c k) refl) xs h
 run_admitted A policy.All xs h = all_more is_data_byte (λ c. true) (λ c k. refl) xs h
+
+-- a character without the byte DEL is shown
+char_by : (c : ℕ) (t : Bool) → (c == 0x7f) ≡ t → list_all is_shown (encode_utf8 c) ≡ true → is_shown c ≡ true
+char_by c true e h =
+    let d : c ≡ 0x7f = grind (arith, nat_tests) in
+    let k : list_all is_shown (encode_utf8 0x7f) ≡ true = subst (λ b. list_all is_shown (encode_utf8 b) ≡ true) d h in
+    let none : false ≡ true = subst (λ l. list_all is_shown l ≡ true) (encode_ascii 0x7f (omega arith)) k in cc
+char_by c false e h = rw e refl
+
+chars_by : (cs : List ℕ) → list_all is_shown (encode_utf8_all cs) ≡ true → list_all is_shown cs ≡ true
+chars_by [] h = refl
+chars_by (c ∷ cs) h =
+    let k = and_parts (list_all is_shown (encode_utf8 c)) (list_all is_shown (encode_utf8_all cs))
+    (sym (list_all-append is_shown (encode_utf8 c) (encode_utf8_all cs)) ∙ h) in
+    rw (char_by c (c == 0x7f) refl k.0, chars_by cs k.1) refl
+
+admitted_char : (A : Type 0) (p : Policy) (c : ℕ) → is_shown c ≡ true → admits {A = A} p (print c) ≡ true
+admitted_char A policy.Text c h = h
+admitted_char A policy.Color c h = rw h refl
+admitted_char A policy.Screen c h = rw h refl
+admitted_char A policy.All c h = refl
+
+pub str_admitted : (A : Type 0) (p : Policy) (text : List ℕ) → IsUtf8 text → list_all is_shown text ≡ true
+    → list_all (λ c. admits {A = A} p (print c)) (chars text) ≡ true
+str_admitted A p text u h =
+    all_more is_shown (λ c. admits {A = A} p (print c)) (λ c k. admitted_char A p c k) (chars text)
+    (chars_by (chars text) (subst (λ t. list_all is_shown t ≡ true) (sym (encodes-chars text u)) h))
 
 -- a run that is admitted passes, character by character
 abbrev pub TakesBy : {P A : Type 0} → (P → Value A → Bool) → Passing P A → Action A → Passing P A → Type 0

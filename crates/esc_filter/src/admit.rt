@@ -1,6 +1,7 @@
 //! Whoever says which actions a filter lets through.
 ghost use Rattle.std.specs.Prelude.{◌≡◌, Bool, IsTrue, not, true, ◌&&◌};
 ghost use Rattle.std.specs.List.{list_all, list_any};
+ghost use Rattle.std.specs.Str.{chars};
 ghost use Rattle.esc_below.specs.Csis.{csi_value};
 ghost use Rattle.esc_actions.specs.Values.{Value, device_value, print, value_of};
 ghost use Rattle.esc_actions.specs.Writable.{is_exception, is_opening, is_truncated};
@@ -28,6 +29,14 @@ pub trait Admit<A: Allocator> {
     #[inline]
     fn admits_text(&self, _text: &[u8]) -> bool
         ensures { IsTrue result → list_all (λ c. admits self.now (print c)) _text.now ≡ true }
+    {
+        false
+    }
+
+    /// The same of a run of characters as UTF-8.
+    #[inline]
+    fn admits_str(&self, _text: &str) -> bool
+        ensures { IsTrue result → list_all (λ c. admits self.now (print c)) (chars _text.now) ≡ true }
     {
         false
     }

@@ -45,4 +45,18 @@ impl<'p, P: Admit<A>, A: Allocator> Sink<Action<A>> for Passing<'p, P, A> {
         }
         Ok(())
     }
+
+    #[inline]
+    fn receive_str(&mut self, text: &str) -> Result<(), AllocError> {
+        if self.policy.admits_str(text) {
+            return self.spell.receive_str(text);
+        }
+        for c in text.chars() {
+            match self.receive(Action::Print(c)) {
+                Ok(()) => {}
+                Err(error) => return Err(error),
+            }
+        }
+        Ok(())
+    }
 }

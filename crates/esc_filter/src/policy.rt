@@ -48,6 +48,11 @@ impl<A: Allocator> Admit<A> for Policy {
     fn admits_text(&self, text: &[u8]) -> bool {
         is_run_shown(text)
     }
+
+    #[inline]
+    fn admits_str(&self, text: &str) -> bool {
+        is_shown(text.as_bytes())
+    }
 }
 
 // Whether all bytes are 20 to 7E.

@@ -173,7 +173,15 @@ impl<'t, A: Allocator> Admit<A> for Counting<'t> {
     fn admits_text(&self, text: &[u8]) -> bool {
         let passes = <Policy as Admit<A>>::admits_text(&self.policy, text);
         if passes {
-            self.count_passed_text(text);
+            self.count_passed_text(text.len());
+        }
+        passes
+    }
+
+    fn admits_str(&self, text: &str) -> bool {
+        let passes = <Policy as Admit<A>>::admits_str(&self.policy, text);
+        if passes && self.tally.is_some() {
+            self.count_passed_text(text.chars().count());
         }
         passes
     }
@@ -186,10 +194,10 @@ impl<'t, A: Allocator> Admit<A> for Counting<'t> {
 }
 
 impl Counting<'_> {
-    // Counts the characters of a run that passes.
-    fn count_passed_text(&self, text: &[u8]) {
+    // Counts so many characters that pass.
+    fn count_passed_text(&self, count: usize) {
         if let Some(tally) = self.tally {
-            tally.set(tally.get().passed_text(text.len()));
+            tally.set(tally.get().passed_text(count));
         }
     }
 
