@@ -1,36 +1,51 @@
--- A command whose text is lent, and what ends it.
-use Rattle.std.proofs.Common.{ℕ, ◌≡◌, ◌+◌, ◌<◌, true, List, [], ◌∷◌, length, take, get_or, refl, sym, subst, ap, ◌∙◌, Option, None, Some, arith}
-use Rattle.std.specs.List.{FoldsTo}
-use Rattle.std.proofs.lemmas.List.{append-nil, length-take-le}
+-- Strings whose text is lent, and what ends them.
+use Rattle.std.proofs.Common.{ℕ, ◌≡◌, ◌+◌, ◌<◌, Bool, true, false, List, [], ◌∷◌, ◌++◌, length, take, get_or, refl, sym, subst, ap, ◌∙◌, Option, None, Some}
+use Rattle.std.proofs.Common.{min, arith}
+use Rattle.std.specs.List.{FoldsTo, list_all}
+use Rattle.std.proofs.lemmas.List.{append-nil}
 use Rattle.std.proofs.lemmas.Bool.Decides.{nat_tests}
-use Rattle.esc_below.specs.Clear.{parts_of}
 use Rattle.esc_frame.specs.declared.classes.Class.{Class}
-use Rattle.esc_frame.specs.declared.classes.Class.TheVariants.{Bell, Cancel, Escape, RawControl, RawOpens, RawTerminator}
+use Rattle.esc_frame.specs.declared.classes.Class.TheVariants.{Bell, Cancel, Escape, RawControl, RawOpens, RawTerminator, Lead}
+use Rattle.esc_below.specs.Clear.{parts_of}
 use Rattle.esc_frame.specs.Events.{Event, StopsAt}
-use Rattle.esc_frame.specs.Events.Event.{OscDispatch}
+use Rattle.esc_frame.specs.Events.Event.{OscDispatch, ApcDispatch}
 use Rattle.esc_frame.specs.declared.machine.Machine.{Machine}
-use Rattle.esc_frame.specs.Classes.{class_of}
+use Rattle.esc_frame.specs.Classes.{class_of, those, is_text, is_breaker}
 use Rattle.esc_frame.specs.Leads.{Holds}
-use Rattle.esc_frame.specs.Leads.Unfinished.{Ground, InOsc}
-use Rattle.esc_frame.specs.Limits.{is_within}
-use Rattle.esc_frame.specs.Machine.Moves.{inside, telling, ground_move, osc_left, ends_osc, after_all, news_all, may_grow_within}
+use Rattle.esc_frame.specs.Leads.Unfinished.{Ground, InOsc, InOscPending, InApc}
+use Rattle.esc_frame.specs.Limits.{is_within, most}
+use Rattle.esc_frame.specs.Machine.Moves.{move, inside, telling, ground_move, pair_move, osc_pending_move, osc_left, ends_osc, after_all, news_all, may_grow_within}
+use Rattle.esc_frame.specs.Machine.Moves.{IsStill}
 use Rattle.esc_frame.specs.Machine.TextRuns.{IsTextRun}
-use Rattle.esc_frame.specs.Segments.{Opener, Piece, text_of, osc_events}
-use Rattle.esc_frame.proofs.QuietRuns.{quiet_took, quiet_stops}
+use Rattle.esc_frame.specs.Scans.{is_text_byte}
+use Rattle.esc_frame.specs.Segments.{Opener, Piece, text_of, osc_events, apc_events}
+use Rattle.esc_frame.specs.Sequences.{is_from, is_sequence, is_pair, outcome}
+use Rattle.esc_frame.proofs.QuietRuns.{quiet_took, quiet_stops, quiet_after, quiet_news}
+use Rattle.esc_frame.proofs.Still.{text_still}
+use Rattle.esc_frame.proofs.StringRuns.{run_text, apc_text, apc_kept}
 
--- within the limit the command is told
-told : (limit : Option ℕ) (t : List ℕ) → is_within limit (length t) ≡ true → OscDispatch (parts_of t) ∷ [] ≡ osc_events limit t
-told limit t w = rw w refl
+-- no bytes are within each limit
+none_within : (limit : Option ℕ) → is_within limit 0 ≡ true
+none_within None = refl
+none_within (Some n) = grind (arith, nat_tests)
 
-pub lent_folds : {S : Type 0} (takes : S → Event → S → Type 0) (old new : S) (limit : Option ℕ) (t : List ℕ) → is_within limit (length t) ≡ true
-    → FoldsTo takes old (OscDispatch (parts_of t) ∷ []) new → FoldsTo takes old (osc_events limit t) new
-lent_folds takes old new limit t w h = subst (λ es. FoldsTo takes old es new) (told limit t w) h
+-- whether some bytes are, by whether none and they are
+pub within_by : (limit : Option ℕ) (n : ℕ) (r : Bool) → ((k : ℕ) → is_within limit k ≡ true → 0 ≡ min k most → r ≡ is_within limit (k + n))
+    → is_within limit n ≡ r
+within_by limit n r f = let all : 0 + n ≡ n = omega arith in ap (is_within limit) (sym all) ∙ sym (f 0 (none_within limit) refl)
 
-pub lent_stops : {S : Type 0} (own : Type 0) (takes refuses : S → Event → S → Type 0) (old new : S) (limit : Option ℕ) (t : List ℕ)
-    → is_within limit (length t) ≡ true → StopsAt own takes refuses old (OscDispatch (parts_of t) ∷ []) new
-    → StopsAt own takes refuses old (osc_events limit t) new
-lent_stops own takes refuses old new limit t w h =
-    subst (λ es. StopsAt own takes refuses old es new) (told limit t w) h
+-- what is told of a text: its event within the limit, and nothing past it
+pub osc_told : (limit : Option ℕ) (t : List ℕ) → is_within limit (length t) ≡ true → OscDispatch (parts_of t) ∷ [] ≡ osc_events limit t
+osc_told limit t w = rw w refl
+
+pub osc_untold : (limit : Option ℕ) (t : List ℕ) → is_within limit (length t) ≡ false → [] ≡ osc_events limit t
+osc_untold limit t w = rw w refl
+
+pub apc_told : (limit : Option ℕ) (t : List ℕ) → is_within limit (length t) ≡ true → ApcDispatch t ∷ [] ≡ apc_events limit t
+apc_told limit t w = rw w refl
+
+pub apc_untold : (limit : Option ℕ) (t : List ℕ) → is_within limit (length t) ≡ false → [] ≡ apc_events limit t
+apc_untold limit t w = rw w refl
 
 -- what ends a command leaves it, and tells it
 pub ends_by : (limit : Option ℕ) (o : Opener) (ps : List Piece) (b : ℕ) (c : Class) → ends_osc c ≡ true
@@ -48,30 +63,110 @@ pub left_other : (b : ℕ) (c : Class) → (c ≡ Bell → ⊥) → ground_move 
 left_other b Bell h = absurd (h refl)
 left_other b _ h = refl
 
--- no bytes are within each limit
-pub none_within : (limit : Option ℕ) → is_within limit 0 ≡ true
-none_within None = refl
-none_within (Some n) = grind (arith, nat_tests)
+-- ---- a control after C2
 
-module _ {S : Type 0} (limit : Option ℕ) (takes refuses : S → Event → S → Type 0) (o : Opener) (rest : List ℕ) (n : ℕ) (c : Class) (old new : S)
-    (run : IsTextRun (take n rest)) (room : n < length rest) (e : c ≡ class_of (get_or rest n 0)) (ends : ends_osc c ≡ true)
-    (w : is_within limit n ≡ true) where
-  pub short : is_within limit (length (take n rest)) ≡ true
-  short = ap (is_within limit) (length-take-le n rest (omega arith)) ∙ w
+pair_whole : (b : ℕ) → is_from 0x80 0x9f b ≡ true → (is_sequence (0xc2 ∷ b ∷ []) ≡ true) × (is_pair (0xc2 ∷ b ∷ []) ≡ true)
+unfolding is_sequence is_pair
+pair_whole b h = (grind (arith, nat_tests), grind (arith, nat_tests))
 
-  whole : telling (osc_events limit (take n rest)) (osc_left (get_or rest n 0) c) ≡ inside limit (InOsc o run.0) (get_or rest n 0) c
-  whole = ap (λ t. telling (osc_events limit t) (osc_left (get_or rest n 0) c)) (sym run.1) ∙ ends_by limit o run.0 (get_or rest n 0) c ends
+c2_class : (b : ℕ) → b ≡ 0xc2 → Lead ≡ class_of b
+unfolding class_of
+c2_class b e = rw e refl
 
-  pub lent_took : {A : Type 0} (machine : Machine A)
-      → Holds limit machine (telling (osc_events limit (take n rest)) (osc_left (get_or rest n 0) c)).0
-      × FoldsTo takes old (telling (osc_events limit (take n rest)) (osc_left (get_or rest n 0) c)).1 new
-      → Holds limit machine (after_all (InOsc o []) (take (n + 1) rest)) × FoldsTo takes old (news_all limit (InOsc o []) (take (n + 1) rest)) new
-  lent_took machine h =
-      quiet_took limit takes refuses (InOsc o []) (InOsc o run.0) rest n c old new (run.2 limit o []) room e machine
-      (subst (λ m. Holds limit machine m.0 × FoldsTo takes old m.1 new) whole h)
+-- it leaves the command, and tells it
+pair_ends : (limit : Option ℕ) (o : Opener) (ps : List Piece) (b : ℕ) (c : Class) → is_from 0x80 0x9f b ≡ true
+    → telling (osc_events limit (text_of ps)) (pair_move b c) ≡ move limit (InOscPending o ps (0xc2 ∷ [])) b c
+pair_ends limit o ps b c h = let k = pair_whole b h in rw (k.0, k.1, osc_pending_move, outcome) refl
 
-  pub lent_ends : StopsAt (true ≡ true) takes refuses old (telling (osc_events limit (take n rest)) (osc_left (get_or rest n 0) c)).1 new
-      → StopsAt (may_grow_within (InOsc o []) rest ≡ true) takes refuses old (news_all limit (InOsc o []) rest) new
-  lent_ends h =
-      quiet_stops limit takes refuses (InOsc o []) (InOsc o run.0) rest n c old new (run.2 limit o []) room e
-      (subst (λ m. StopsAt (true ≡ true) takes refuses old m.1 new) whole h)
+module _ {S : Type 0} (limit : Option ℕ) (takes refuses : S → Event → S → Type 0) (o : Opener) (ps : List Piece) (rest : List ℕ) (n : ℕ) (old new : S)
+    (none : text_of ps ≡ []) (run : IsTextRun (take n rest)) (room : n < length rest) where
+  -- all the text is the run
+  lent_text : take n rest ≡ text_of (ps ++ run.0)
+  lent_text = ap (λ t. t ++ take n rest) (sym none) ∙ run_text ps run
+
+  module _ (c : Class) (e : c ≡ class_of (get_or rest n 0)) (ends : ends_osc c ≡ true) where
+    whole : telling (osc_events limit (take n rest)) (osc_left (get_or rest n 0) c) ≡ inside limit (InOsc o (ps ++ run.0)) (get_or rest n 0) c
+    whole = ap (λ t. telling (osc_events limit t) (osc_left (get_or rest n 0) c)) lent_text ∙ ends_by limit o (ps ++ run.0) (get_or rest n 0) c ends
+
+    pub lent_took : {A : Type 0} (machine : Machine A)
+        → Holds limit machine (telling (osc_events limit (take n rest)) (osc_left (get_or rest n 0) c)).0
+        × FoldsTo takes old (telling (osc_events limit (take n rest)) (osc_left (get_or rest n 0) c)).1 new
+        → Holds limit machine (after_all (InOsc o ps) (take (n + 1) rest)) × FoldsTo takes old (news_all limit (InOsc o ps) (take (n + 1) rest)) new
+    lent_took machine h =
+        quiet_took limit takes refuses (InOsc o ps) (InOsc o (ps ++ run.0)) rest n c old new (run.2 limit o ps) room e machine
+        (subst (λ m. Holds limit machine m.0 × FoldsTo takes old m.1 new) whole h)
+
+    pub lent_stops : StopsAt (true ≡ true) takes refuses old (telling (osc_events limit (take n rest)) (osc_left (get_or rest n 0) c)).1 new
+        → StopsAt (may_grow_within (InOsc o ps) rest ≡ true) takes refuses old (news_all limit (InOsc o ps) rest) new
+    lent_stops h =
+        quiet_stops limit takes refuses (InOsc o ps) (InOsc o (ps ++ run.0)) rest n c old new (run.2 limit o ps) room e
+        (subst (λ m. StopsAt (true ≡ true) takes refuses old m.1 new) whole h)
+
+  module _ (next : n + 1 < length rest) (lead : get_or rest n 0 ≡ 0xc2) (control : is_from 0x80 0x9f (get_or rest (n + 1) 0) ≡ true) where
+    -- C2 is kept until the byte after it
+    lead_run : (after_all (InOsc o ps) (take (n + 1) rest) ≡ InOscPending o (ps ++ run.0) (0xc2 ∷ [])) × (news_all limit (InOsc o ps) (take (n + 1) rest) ≡ [])
+    lead_run =
+        let e = c2_class (get_or rest n 0) lead in (
+          quiet_after limit takes refuses (InOsc o ps) (InOsc o (ps ++ run.0)) rest n Lead old new (run.2 limit o ps) room e
+              ∙ ap (λ b. InOscPending o (ps ++ run.0) (b ∷ [])) lead,
+          quiet_news limit takes refuses (InOsc o ps) (InOsc o (ps ++ run.0)) rest n Lead old new (run.2 limit o ps) room e,
+        )
+
+    pair_whole_move : telling (osc_events limit (take n rest)) (pair_move (get_or rest (n + 1) 0) (class_of (get_or rest (n + 1) 0)))
+        ≡ move limit (InOscPending o (ps ++ run.0) (0xc2 ∷ [])) (get_or rest (n + 1) 0) (class_of (get_or rest (n + 1) 0))
+    pair_whole_move =
+        ap (λ t. telling (osc_events limit t) (pair_move (get_or rest (n + 1) 0) (class_of (get_or rest (n + 1) 0)))) lent_text
+        ∙ pair_ends limit o (ps ++ run.0) (get_or rest (n + 1) 0) (class_of (get_or rest (n + 1) 0)) control
+
+    two : n + 1 + 1 ≡ n + 2
+    two = omega arith
+
+    pub pair_took : {A : Type 0} (machine : Machine A)
+        → Holds limit machine (telling (osc_events limit (take n rest)) (pair_move (get_or rest (n + 1) 0) (class_of (get_or rest (n + 1) 0)))).0
+        × FoldsTo takes old (telling (osc_events limit (take n rest)) (pair_move (get_or rest (n + 1) 0) (class_of (get_or rest (n + 1) 0)))).1 new
+        → Holds limit machine (after_all (InOsc o ps) (take (n + 2) rest)) × FoldsTo takes old (news_all limit (InOsc o ps) (take (n + 2) rest)) new
+    pair_took machine h =
+        subst (λ k. Holds limit machine (after_all (InOsc o ps) (take k rest)) × FoldsTo takes old (news_all limit (InOsc o ps) (take k rest)) new) two
+        (quiet_took limit takes refuses (InOsc o ps) (InOscPending o (ps ++ run.0) (0xc2 ∷ [])) rest (n + 1) _ old new lead_run next refl machine
+        (subst (λ m. Holds limit machine m.0 × FoldsTo takes old m.1 new) pair_whole_move h))
+
+    pub pair_stops : StopsAt (true ≡ true) takes refuses old
+        (telling (osc_events limit (take n rest)) (pair_move (get_or rest (n + 1) 0) (class_of (get_or rest (n + 1) 0)))).1 new
+        → StopsAt (may_grow_within (InOsc o ps) rest ≡ true) takes refuses old (news_all limit (InOsc o ps) rest) new
+    pair_stops h =
+        quiet_stops limit takes refuses (InOsc o ps) (InOscPending o (ps ++ run.0) (0xc2 ∷ [])) rest (n + 1) _ old new lead_run next refl
+        (subst (λ m. StopsAt (true ≡ true) takes refuses old m.1 new) pair_whole_move h)
+
+-- and tells nothing until then
+pub pair_still : (limit : Option ℕ) (o : Opener) (ps : List Piece) (rest : List ℕ) (n : ℕ) → IsTextRun (take n rest) → n + 1 < length rest
+    → get_or rest n 0 ≡ 0xc2 → IsStill limit (InOsc o ps) rest (n + 2)
+pair_still limit o ps rest n run next lead =
+    let two : n + 1 + 1 ≡ n + 2 = omega arith in
+    let e = c2_class (get_or rest n 0) lead in
+    subst (IsStill limit (InOsc o ps) rest) two (text_still limit o ps rest (n + 1)
+    (λ any. quiet_news {S = Unit {0}} any (λ _ _ _. Unit {0}) (λ _ _ _. Unit {0}) (InOsc o ps) (InOsc o (ps ++ run.0)) rest n Lead tt tt (run.2 any o ps)
+    (omega arith) e))
+
+-- ---- an application program command
+
+module _ {S : Type 0} (limit : Option ℕ) (takes refuses : S → Event → S → Type 0) (o : Opener) (d rest : List ℕ) (n : ℕ) (old new : S)
+    (none : those is_text d ≡ []) (passes : list_all is_text_byte (take n rest) ≡ true) (room : n < length rest)
+    (c : Class) (e : c ≡ class_of (get_or rest n 0)) (ends : is_breaker c ≡ true) where
+  apc_whole : telling (apc_events limit (take n rest)) (ground_move (get_or rest n 0) c) ≡ inside limit (InApc o (d ++ take n rest)) (get_or rest n 0) c
+  apc_whole =
+      ap (λ t. telling (apc_events limit t) (ground_move (get_or rest n 0) c)) (ap (λ t. t ++ take n rest) (sym none) ∙ sym (apc_kept d (take n rest) passes))
+      ∙ rw (ends, inside) refl
+
+  pub lent_apc_took : {A : Type 0} (machine : Machine A)
+      → Holds limit machine (telling (apc_events limit (take n rest)) (ground_move (get_or rest n 0) c)).0
+      × FoldsTo takes old (telling (apc_events limit (take n rest)) (ground_move (get_or rest n 0) c)).1 new
+      → Holds limit machine (after_all (InApc o d) (take (n + 1) rest)) × FoldsTo takes old (news_all limit (InApc o d) (take (n + 1) rest)) new
+  lent_apc_took machine h =
+      quiet_took limit takes refuses (InApc o d) (InApc o (d ++ take n rest)) rest n c old new (apc_text limit o d (take n rest) passes) room e machine
+      (subst (λ m. Holds limit machine m.0 × FoldsTo takes old m.1 new) apc_whole h)
+
+  pub lent_apc_stops : StopsAt (true ≡ true) takes refuses old (telling (apc_events limit (take n rest)) (ground_move (get_or rest n 0) c)).1 new
+      → StopsAt (may_grow_within (InApc o d) rest ≡ true) takes refuses old (news_all limit (InApc o d) rest) new
+  lent_apc_stops h =
+      quiet_stops limit takes refuses (InApc o d) (InApc o (d ++ take n rest)) rest n c old new (apc_text limit o d (take n rest) passes) room e
+      (subst (λ m. StopsAt (true ≡ true) takes refuses old m.1 new) apc_whole h)

@@ -28,7 +28,7 @@ module _ {S : Type 0} (limit : Option ℕ) (takes refuses : S → Event → S �
       ap (after_all u) (take_more rest n 0 room) ∙ after_append u (take n rest) (get_or rest n 0 ∷ [])
       ∙ ap (λ w. after_by w (get_or rest n 0) (class_of (get_or rest n 0))) run.0 ∙ ap (after_by v (get_or rest n 0)) (sym e)
 
-  quiet_news : news_all limit u (take (n + 1) rest) ≡ news_by limit v (get_or rest n 0) c
+  pub quiet_news : news_all limit u (take (n + 1) rest) ≡ news_by limit v (get_or rest n 0) c
   quiet_news =
       ap (news_all limit u) (take_more rest n 0 room) ∙ news_append limit u (take n rest) (get_or rest n 0 ∷ [])
       ∙ ap (λ es. es ++ news_all limit (after_all u (take n rest)) (get_or rest n 0 ∷ [])) run.1 ∙ ap (λ w. news_all limit w (get_or rest n 0 ∷ [])) run.0

@@ -17,7 +17,7 @@ use Rattle.esc_frame.specs.Machine.Calls.{TookSome}
 use Rattle.esc_frame.specs.Machine.Characters.{IsCharacter}
 use Rattle.esc_frame.specs.Events.{Event, StopsAt}
 use Rattle.esc_frame.specs.Leads.{Unfinished, Holds}
-use Rattle.esc_frame.specs.Leads.Unfinished.{Ground, InCsi, InOsc, InOscPending}
+use Rattle.esc_frame.specs.Leads.Unfinished.{Ground, InCsi, InApc, InOsc, InOscPending}
 use Rattle.esc_frame.specs.Machine.Moves.{move, after_by, news_by, pending_move, inside, goes_on, final_osc, osc_pending_move, after_all}
 use Rattle.esc_frame.specs.Machine.Moves.{news_all, is_ground, may_grow_within, IsStill}
 use Rattle.esc_frame.specs.Scans.{is_body_byte, is_text_byte}
@@ -29,7 +29,7 @@ use Rattle.esc_frame.proofs.AtGround.{to_ground}
 use Rattle.esc_frame.proofs.CsiRuns.{body_quiet, escape_class}
 use Rattle.esc_frame.proofs.ManyBytes.{after_more, tail_is, tail_length, ran_took, ran_ends, lead_class, two_parts, three_parts, four_parts}
 use Rattle.esc_frame.proofs.QuietRuns.{quiet_folds}
-use Rattle.esc_frame.proofs.StringRuns.{apc_run, skip_holds, prefix_passes}
+use Rattle.esc_frame.proofs.StringRuns.{apc_text, skip_holds, prefix_passes}
 use Rattle.esc_frame.proofs.Streams.{after_append, news_append, added_is}
 
 -- what a front of k bytes is to be
@@ -133,14 +133,14 @@ holds_no_ground : {A : Type 0} (limit : Option ℕ) (m : Machine A) (u : Unfinis
 holds_no_ground limit m Ground h n = absurd (n h.0)
 holds_no_ground limit m _ h n = refl
 
+pub apc_end_still : (limit : Option ℕ) (o : Opener) (d rest : List ℕ) (run : ℕ) → list_all is_text_byte (take run rest) ≡ true
+    → IsStill limit (InApc o d) rest (run + 1)
+apc_end_still limit o d rest run h = λ k a b.
+    let q = apc_text limit o d (take k rest) (front_passes is_text_byte rest run k (omega arith) h) in
+    (q.1, ap is_ground q.0)
+
 module _ {A : Type 0} (limit : Option ℕ) (m : Machine A) (u : Unfinished) (rest : List ℕ) (run : ℕ) (e : run ≡ prefix_len is_text_byte rest)
     (h : Holds limit m u) where
-  pub apc_still : m.state ≡ state.Apc → IsStill limit u rest run
-  apc_still s = λ k a b.
-      apc_run limit m (take k rest) (front_passes is_text_byte rest run k (omega arith) (prefix_passes rest run e)) u s h
-      (λ v es. (es ≡ []) × (is_ground v ≡ false))
-      (λ o d k f. (refl, refl))
-
   pub skip_still : m.state ≡ state.Skip → IsStill limit u rest run
   skip_still s = λ k a b.
       let q = skip_holds limit m (take k rest) (front_passes is_text_byte rest run k (omega arith) (prefix_passes rest run e)) u s h in

@@ -1,8 +1,9 @@
 //! What is kept of a string, as far as a limit allows.
 #![tactic(auto)]
 
-ghost use Rattle.std.specs.Prelude.{◌++◌, ℕ, List, [], Option, OnOk};
+ghost use Rattle.std.specs.Prelude.{◌≡◌, ◌++◌, ℕ, List, [], Option, OnOk};
 ghost use Rattle.esc_frame.specs.Machine.Keeps.{KeepsText};
+ghost use Rattle.esc_frame.specs.Segments.{is_empty};
 
 use crate::count::fits;
 use std::alloc::{AllocError, Allocator};
@@ -32,6 +33,14 @@ impl<A: Allocator> Kept<A> {
     {
         self.bytes.clear();
         self.is_over = false;
+    }
+
+    /// Whether no byte that counts has come.
+    #[inline(always)]
+    pub fn is_new(&self) -> bool
+        ensures { (limit : Option ℕ) (t : List ℕ) → KeepsText limit self.now t → result ≡ is_empty t }
+    {
+        !self.is_over && self.bytes.is_empty()
     }
 
     /// Takes text more, each byte of which counts. Past the limit what was kept is let go, and its memory.

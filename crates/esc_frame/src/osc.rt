@@ -1,18 +1,17 @@
 //! The machine in operating system commands.
 #![tactic(auto)]
 
-ghost use Rattle.std.specs.Prelude.{◌≡◌, ◌≤◌, ◌<◌, ◌++◌, ℕ, List, Option, [], ◌+◌, true, length, take, slice_index, OnOk};
+ghost use Rattle.std.specs.Prelude.{◌≡◌, ◌≤◌, ◌<◌, ◌++◌, ℕ, List, Option, [], ◌+◌, true, length, take, slice_index, OnOk, IsTrue};
 ghost use Rattle.esc_frame.specs.Classes.{class_of};
 ghost use Rattle.esc_frame.specs.Events.{Takes};
 ghost use Rattle.esc_frame.specs.Leads.Unfinished.{InOsc};
-ghost use Rattle.esc_frame.specs.Limits.{is_within};
 ghost use Rattle.esc_frame.specs.Machine.Calls.{Moved, Took, TookSome, Advances, Quietly};
 ghost use Rattle.esc_frame.specs.Machine.Fronts.{front_of};
 ghost use Rattle.esc_frame.specs.Machine.Keeps.{KeepsText};
 ghost use Rattle.esc_frame.specs.Machine.Moves.{telling, ground_move, pair_move, inside, osc_pending_move, osc_left, ends_osc};
 ghost use Rattle.esc_frame.specs.Machine.TextRuns.{IsTextRun};
 ghost use Rattle.esc_frame.specs.Segments.{Opener, Piece, text_of, osc_events};
-ghost use Rattle.esc_frame.specs.Sequences.{outcome};
+ghost use Rattle.esc_frame.specs.Sequences.{is_from, outcome};
 
 use crate::actor::VTActor;
 use crate::classes::{Class, Kind, classify};
@@ -21,7 +20,7 @@ use crate::kept::Kept;
 use crate::machine::{Machine, Result, State};
 use crate::parts::dispatch_osc;
 use crate::scans::units_run;
-use crate::sequence::{Outcome, Pending};
+use crate::sequence::{Outcome, Pending, lies_from};
 use std::alloc::Allocator;
 
 impl<A: Allocator> Machine<A> {
@@ -155,7 +154,8 @@ impl<A: Allocator> Machine<A> {
         }
     }
 
-    // What follows the opener: a text that ends in these bytes is lent to the actor from there, any other is kept.
+    // What follows the opener, or else no byte that counts: a text that ends in these bytes is lent to the actor from there,
+    // any other is kept.
     #[inline(always)]
     fn take_body<V: VTActor>(
         &mut self,
@@ -165,15 +165,18 @@ impl<A: Allocator> Machine<A> {
     ) -> Result<usize>
         requires some { 0 < length rest.now }
         requires ready { V.is_ready actor.old }
-        ensures took { (o : Opener) → Took limit V.takes V.refuses result (InOsc o []) rest.now self.new actor.old actor.new }
-        ensures quiet { (o : Opener) → Quietly limit result (InOsc o []) rest.now }
+        ensures took { (o : Opener) (ps : List Piece) → text_of ps ≡ [] → Took limit V.takes V.refuses result (InOsc o ps) rest.now self.new actor.old actor.new }
+        ensures quiet { (o : Opener) (ps : List Piece) → Quietly limit result (InOsc o ps) rest.now }
         ensures count { Advances V.is_ready result rest.now actor.new }
     {
         let run = units_run(rest);
-        if run < rest.len() && fits(limit, 0, run) {
+        if run < rest.len() {
             let class = classify(rest[run]);
             if ends_osc(class) {
-                return self.take_lent(rest, run, class, actor);
+                return self.take_lent(limit, rest, run, class, actor);
+            }
+            if is_pair_at(rest, run) {
+                return self.take_lent_by_pair(limit, rest, run, actor);
             }
         }
         self.open(Kind::Osc);
@@ -184,6 +187,7 @@ impl<A: Allocator> Machine<A> {
     #[inline(always)]
     fn take_lent<V: VTActor>(
         &mut self,
+        limit: Option<usize>,
         rest: &[u8],
         run: usize,
         class: Class,
@@ -194,30 +198,74 @@ impl<A: Allocator> Machine<A> {
         requires class { class ≡ class_of (slice_index rest.now run) }
         requires ends { ends_osc class ≡ true }
         requires ready { V.is_ready actor.old }
-        ensures took { (limit : Option ℕ) (o : Opener) → is_within limit run ≡ true → Took limit V.takes V.refuses result (InOsc o []) rest.now self.new actor.old actor.new }
-        ensures quiet { (limit : Option ℕ) (o : Opener) → Quietly limit result (InOsc o []) rest.now }
+        ensures took { (o : Opener) (ps : List Piece) → text_of ps ≡ [] → Took limit V.takes V.refuses result (InOsc o ps) rest.now self.new actor.old actor.new }
+        ensures quiet { (o : Opener) (ps : List Piece) → Quietly limit result (InOsc o ps) rest.now }
         ensures count { Advances V.is_ready result rest.now actor.new }
     {
-        match self.end_lent(&rest[..run], rest[run], class, actor) {
+        match self.end_lent(limit, &rest[..run], rest[run], class, actor) {
             Ok(()) => Ok(run + 1),
             Err(e) => Err(e),
         }
     }
 
+    // A text, and the control after C2 that ends it.
+    #[inline(never)]
+    fn take_lent_by_pair<V: VTActor>(
+        &mut self,
+        limit: Option<usize>,
+        rest: &[u8],
+        run: usize,
+        actor: &mut V,
+    ) -> Result<usize>
+        requires few { run + 1 < length rest.now }
+        requires passes { IsTextRun (take run rest.now) }
+        requires lead { slice_index rest.now run ≡ 0xc2 }
+        requires control { is_from 0x80 0x9f (slice_index rest.now (run + 1)) ≡ true }
+        requires ready { V.is_ready actor.old }
+        ensures took { (o : Opener) (ps : List Piece) → text_of ps ≡ [] → Took limit V.takes V.refuses result (InOsc o ps) rest.now self.new actor.old actor.new }
+        ensures quiet { (o : Opener) (ps : List Piece) → Quietly limit result (InOsc o ps) rest.now }
+        ensures count { Advances V.is_ready result rest.now actor.new }
+    {
+        match self.end_lent_by_pair(limit, &rest[..run], rest[run + 1], actor) {
+            Ok(()) => Ok(run + 2),
+            Err(e) => Err(e),
+        }
+    }
+
     // What ends a command whose text is lent.
+    #[inline(always)]
     fn end_lent<V: VTActor>(
         &mut self,
+        limit: Option<usize>,
         text: &[u8],
         b: u8,
         class: Class,
         actor: &mut V,
     ) -> Result<()>
         requires { V.is_ready actor.old }
-        ensures moved { (limit : Option ℕ) → is_within limit (length text.now) ≡ true → Moved limit true V.takes V.refuses result (telling (osc_events limit text.now) (osc_left b class)) self.new actor.old actor.new }
+        ensures moved { Moved limit true V.takes V.refuses result (telling (osc_events limit text.now) (osc_left b class)) self.new actor.old actor.new }
         ensures ready { OnOk result (V.is_ready actor.new) }
     {
-        match dispatch_osc(self.text.bytes.allocator(), text, actor) {
+        match tell_lent(limit, self.text.bytes.allocator(), text, actor) {
             Ok(()) => self.leave_lent(b, class, actor),
+            Err(e) => Err(e),
+        }
+    }
+
+    // A control after C2 that ends a command whose text is lent.
+    fn end_lent_by_pair<V: VTActor>(
+        &mut self,
+        limit: Option<usize>,
+        text: &[u8],
+        b: u8,
+        actor: &mut V,
+    ) -> Result<()>
+        requires { V.is_ready actor.old }
+        ensures moved { Moved limit true V.takes V.refuses result (telling (osc_events limit text.now) (pair_move b (class_of b))) self.new actor.old actor.new }
+        ensures ready { OnOk result (V.is_ready actor.new) }
+    {
+        match tell_lent(limit, self.text.bytes.allocator(), text, actor) {
+            Ok(()) => self.in_pair(b, classify(b), actor),
             Err(e) => Err(e),
         }
     }
@@ -238,7 +286,7 @@ impl<A: Allocator> Machine<A> {
     }
 
     /// The units that an operating system command keeps as they are, and the byte after them.
-    #[inline(always)]
+    #[inline(never)]
     pub fn take_in_osc<V: VTActor>(
         &mut self,
         limit: Option<usize>,
@@ -253,6 +301,9 @@ impl<A: Allocator> Machine<A> {
         ensures quiet { (o : Opener) (ps : List Piece) → Quietly limit result (InOsc o ps) rest.now }
         ensures count { Advances V.is_ready result rest.now actor.new }
     {
+        if self.text.is_new() {
+            return self.take_body(limit, rest, actor);
+        }
         let run = units_run(rest);
         self.take_units(limit, rest, run, actor)
     }
@@ -331,6 +382,34 @@ fn ends_osc(class: Class) -> bool
         | Class::Opens(_)
         | Class::Final
         | Class::Delete => false,
+    }
+}
+
+// Whether C2 and a control after it come there.
+#[inline(always)]
+fn is_pair_at(rest: &[u8], at: usize) -> bool
+    requires { at < length rest.now }
+    ensures { IsTrue result → (at + 1 < length rest.now) × (slice_index rest.now at ≡ 0xc2) × (is_from 0x80 0x9f (slice_index rest.now (at + 1)) ≡ true) }
+{
+    rest[at] == 0xc2 && rest.len() - at > 1 && lies_from(0x80, 0x9f, rest[at + 1])
+}
+
+// A lent text, told where it is within the limit.
+#[inline(always)]
+fn tell_lent<A: Allocator, V: VTActor>(
+    limit: Option<usize>,
+    alloc: A,
+    text: &[u8],
+    actor: &mut V,
+) -> Result<()>
+    requires { V.is_ready actor.old }
+    ensures told { Takes true V.takes V.refuses result actor.old (osc_events limit text.now) actor.new }
+    ensures ready { OnOk result (V.is_ready actor.new) }
+{
+    if fits(limit, 0, text.len()) {
+        dispatch_osc(alloc, text, actor)
+    } else {
+        Ok(())
     }
 }
 

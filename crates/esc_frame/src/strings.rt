@@ -2,9 +2,10 @@
 //! whose header has another form.
 #![tactic(auto)]
 
-ghost use Rattle.std.specs.Prelude.{◌≡◌, ◌<◌, ℕ, List, Option, true, false, length, OnOk};
+ghost use Rattle.std.specs.Prelude.{◌≡◌, ◌≤◌, ◌<◌, ◌++◌, ℕ, Bool, List, [], Option, true, false, length, take, slice_index, OnOk};
+ghost use Rattle.std.specs.List.{list_all};
 ghost use Rattle.esc_frame.specs.declared.classes.Kind.{Kind};
-ghost use Rattle.esc_frame.specs.Classes.{class_of, strip, those, is_text};
+ghost use Rattle.esc_frame.specs.Classes.{class_of, strip, those, is_text, is_breaker};
 ghost use Rattle.esc_frame.specs.Events.{Takes};
 ghost use Rattle.esc_frame.specs.Leads.{Unfinished, Holds};
 ghost use Rattle.esc_frame.specs.Leads.Unfinished.{InData, InApc, InIgnored};
@@ -12,10 +13,12 @@ ghost use Rattle.esc_frame.specs.Machine.Calls.{Moved, Took, Advances, Quietly};
 ghost use Rattle.esc_frame.specs.Limits.{is_read};
 ghost use Rattle.esc_frame.specs.Machine.Keeps.{KeepsText};
 ghost use Rattle.esc_frame.specs.Machine.Moves.{telling, ground_move, inside};
+ghost use Rattle.esc_frame.specs.Scans.{is_text_byte};
 ghost use Rattle.esc_frame.specs.Segments.{Opener, apc_events};
 
 use crate::actor::VTActor;
-use crate::classes::Class;
+use crate::classes::{Class, classify};
+use crate::count::fits;
 use crate::kept::Kept;
 use crate::machine::{Machine, Result, State};
 use crate::scans::ascii_run;
@@ -88,7 +91,8 @@ impl<A: Allocator> Machine<A> {
         }
     }
 
-    /// The run of 20-7F in an application program command.
+    /// The run of 20-7F in an application program command, and the byte after it: a text that begins and ends in these bytes
+    /// is lent to the actor from there, any other is kept.
     #[inline(always)]
     pub fn take_in_apc<V: VTActor>(
         &mut self,
@@ -99,16 +103,90 @@ impl<A: Allocator> Machine<A> {
         requires some { 0 < length rest.now }
         requires ready { V.is_ready actor.old }
         requires state { self.old.state ≡ State.Apc }
-        ensures took { (u : Unfinished) → Holds limit self.old u → Took limit V.takes V.refuses result u rest.now self.new actor.old actor.new }
-        ensures quiet { (u : Unfinished) → Holds limit self.old u → Quietly limit result u rest.now }
+        ensures took { (o : Opener) (d : List ℕ) → KeepsText limit self.old.text (those is_text d) → Took limit V.takes V.refuses result (InApc o d) rest.now self.new actor.old actor.new }
+        ensures quiet { (o : Opener) (d : List ℕ) → Quietly limit result (InApc o d) rest.now }
         ensures count { Advances V.is_ready result rest.now actor.new }
     {
         let run = ascii_run(rest);
-        if run == 0 {
-            return self.take_one(limit, rest, actor);
+        if self.text.is_new() && run < rest.len() {
+            let class = classify(rest[run]);
+            if is_breaker(class) {
+                return self.take_lent_apc(limit, rest, run, class, actor);
+            }
         }
         match self.text.push(limit, &rest[..run]) {
-            Ok(()) => Ok(run),
+            Ok(()) => self.take_after_apc(limit, rest, run, actor),
+            Err(e) => Err(e),
+        }
+    }
+
+    // The byte after a run in an application program command that was kept.
+    #[inline(always)]
+    fn take_after_apc<V: VTActor>(
+        &mut self,
+        limit: Option<usize>,
+        rest: &[u8],
+        run: usize,
+        actor: &mut V,
+    ) -> Result<usize>
+        requires some { 0 < length rest.now }
+        requires few { run ≤ length rest.now }
+        requires passes { list_all is_text_byte (take run rest.now) ≡ true }
+        requires ready { V.is_ready actor.old }
+        requires state { self.old.state ≡ State.Apc }
+        ensures took { (o : Opener) (d : List ℕ) → KeepsText limit self.old.text (those is_text d ++ take run rest.now) → Took limit V.takes V.refuses result (InApc o d) rest.now self.new actor.old actor.new }
+        ensures quiet { (o : Opener) (d : List ℕ) → Quietly limit result (InApc o d) rest.now }
+        ensures count { Advances V.is_ready result rest.now actor.new }
+    {
+        if run == rest.len() {
+            return Ok(run);
+        }
+        match self.in_apc(limit, rest[run], classify(rest[run]), actor) {
+            Ok(()) => Ok(run + 1),
+            Err(e) => Err(e),
+        }
+    }
+
+    // A text, and the breaker of this class that ends it.
+    #[inline(always)]
+    fn take_lent_apc<V: VTActor>(
+        &mut self,
+        limit: Option<usize>,
+        rest: &[u8],
+        run: usize,
+        class: Class,
+        actor: &mut V,
+    ) -> Result<usize>
+        requires few { run < length rest.now }
+        requires passes { list_all is_text_byte (take run rest.now) ≡ true }
+        requires class { class ≡ class_of (slice_index rest.now run) }
+        requires ends { is_breaker class ≡ true }
+        requires ready { V.is_ready actor.old }
+        ensures took { (o : Opener) (d : List ℕ) → those is_text d ≡ [] → Took limit V.takes V.refuses result (InApc o d) rest.now self.new actor.old actor.new }
+        ensures quiet { (o : Opener) (d : List ℕ) → Quietly limit result (InApc o d) rest.now }
+        ensures count { Advances V.is_ready result rest.now actor.new }
+    {
+        match self.end_lent_apc(limit, &rest[..run], rest[run], class, actor) {
+            Ok(()) => Ok(run + 1),
+            Err(e) => Err(e),
+        }
+    }
+
+    // A breaker after an application program command whose text is lent.
+    fn end_lent_apc<V: VTActor>(
+        &mut self,
+        limit: Option<usize>,
+        text: &[u8],
+        b: u8,
+        class: Class,
+        actor: &mut V,
+    ) -> Result<()>
+        requires { V.is_ready actor.old }
+        ensures moved { (own : Bool) → Moved limit own V.takes V.refuses result (telling (apc_events limit text.now) (ground_move b class)) self.new actor.old actor.new }
+        ensures ready { OnOk result (V.is_ready actor.new) }
+    {
+        match tell_lent_apc(limit, text, actor) {
+            Ok(()) => self.in_ground(b, class, actor),
             Err(e) => Err(e),
         }
     }
@@ -133,6 +211,42 @@ impl<A: Allocator> Machine<A> {
             return self.take_one(limit, rest, actor);
         }
         Ok(run)
+    }
+}
+
+// Whether a byte of this class breaks off a string.
+#[inline(always)]
+fn is_breaker(class: Class) -> bool
+    ensures { result ≡ is_breaker class }
+{
+    match class {
+        Class::Cancel
+        | Class::Escape
+        | Class::RawControl
+        | Class::RawOpens(_)
+        | Class::RawTerminator => true,
+        Class::Plain
+        | Class::Bell
+        | Class::High
+        | Class::Lead
+        | Class::Intermediate
+        | Class::Parameter
+        | Class::Opens(_)
+        | Class::Final
+        | Class::Delete => false,
+    }
+}
+
+// A lent text, told where it is within the limit.
+fn tell_lent_apc<V: VTActor>(limit: Option<usize>, text: &[u8], actor: &mut V) -> Result<()>
+    requires { V.is_ready actor.old }
+    ensures told { (own : Bool) → Takes own V.takes V.refuses result actor.old (apc_events limit text.now) actor.new }
+    ensures ready { OnOk result (V.is_ready actor.new) }
+{
+    if fits(limit, 0, text.len()) {
+        actor.apc_dispatch(text)
+    } else {
+        Ok(())
     }
 }
 
