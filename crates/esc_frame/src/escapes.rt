@@ -215,6 +215,8 @@ impl<A: Allocator> Machine<A> {
             return self.take_long_csi(rest, actor);
         }
         if lies_from(0x40, 0x7e, rest[run + 2]) {
+            self.state = State::Ground;
+            self.pending = Pending::Nothing;
             self.take_short_csi(rest, run, actor)
         } else {
             self.take_long_csi(rest, actor)
@@ -235,14 +237,13 @@ impl<A: Allocator> Machine<A> {
         requires few { run + 2 < length rest.now }
         requires read { IsShort (take self.old.short.count self.old.short.items) (take run (drop 2 rest.now)) }
         requires ends { is_from 0x40 0x7e (slice_index rest.now (run + 2)) ≡ true }
+        requires ground { Holds None self.old Ground }
         requires ready { V.is_ready actor.old }
         ensures ground { IfOk result (λ n. Holds None self.new Ground) }
         ensures stays { Stays (may_grow_within Ground rest.now) V.takes V.refuses V.is_ready result rest.now actor.old actor.new }
         ensures some { IfOk result (λ n. 0 < n) }
         ensures quiet { (limit : Option ℕ) → Quietly limit result Ground rest.now }
     {
-        self.state = State::Ground;
-        self.pending = Pending::Nothing;
         match actor.csi_dispatch(self.short.as_slice(), false, rest[run + 2]) {
             Ok(()) => Ok(run + 3),
             Err(e) => Err(e),
