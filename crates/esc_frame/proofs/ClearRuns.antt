@@ -16,6 +16,7 @@ use Rattle.esc_frame.specs.Events.{Event, StopsAt}
 use Rattle.esc_frame.specs.Events.Event.{Print}
 use Rattle.esc_frame.specs.Leads.Unfinished.{Ground}
 use Rattle.esc_frame.specs.Machine.Calls.{TellsOne}
+use Rattle.esc_frame.specs.Machine.Texts.{HasTaken}
 use Rattle.esc_frame.specs.Machine.Moves.{after_all, news_all}
 use Rattle.esc_frame.proofs.Characters.{clear_cases, clear_from, spells_clear}
 use Rattle.esc_frame.proofs.ManyBytes.{text_run, character_does, stop_within}
@@ -163,10 +164,6 @@ module _ {S : Type 0} (takes refuses : S → Event → S → Type 0) (rest text 
       (subst (λ es. StopsAt own takes refuses old es new) (same ∙ sym (clear_text_run limit (take n rest) u all_clear).1) f)
 
 -- ---- the characters of a text, one call a character
-
--- the characters before the rest were given
-abbrev pub HasTaken : {S : Type 0} → (S → Event → S → Type 0) → List ℕ → List ℕ → S → S → Type 0
-HasTaken takes text rest old new = (cs : List ℕ) × (chars text ≡ cs ++ chars rest) × FoldsTo takes old (map Print cs) new
 
 pub chars_next : {S : Type 0} (takes : S → Event → S → Type 0) (text rest later : List ℕ) (c : ℕ) (old mid new : S) → IsUtf8 rest
     → rest ≡ encode_utf8 c ++ later → HasTaken takes text rest old mid → takes mid (Print c) new → HasTaken takes text later old new

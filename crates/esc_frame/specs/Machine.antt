@@ -7,3 +7,4 @@ pub mod Calls
 pub mod Characters
 pub mod TextRuns
 pub mod Shorts
+pub mod Texts

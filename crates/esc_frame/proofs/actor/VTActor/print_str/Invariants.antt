@@ -1,10 +1,27 @@
-use Rattle.std.proofs.Common.{ℕ, List, ◌≡◌, ◌++◌, map, IsUtf8, chars}
-use Rattle.std.specs.List.{FoldsTo}
-use Rattle.std.specs.Str.Iter.{chars_rest}
-use Rattle.esc_frame.specs.Events.Event.{Print}
+use Rattle.std.proofs.Common.{◌≤◌, ◌-◌, length}
+use Rattle.esc_frame.specs.Machine.Texts.{HasSpelled}
 use Rattle.esc_frame.proofs.actor.VTActor.print_str.Given as goal
 
-abbrev pub invariant-loop-c : goal.invariant-loop-c
-invariant-loop-c g l =
-    g.Self.VTActor.is_ready l.self × IsUtf8 (chars_rest l.c-iterator)
-    × ((cs : List ℕ) × (chars l.fn.text ≡ cs ++ chars (chars_rest l.c-iterator)) × FoldsTo g.Self.VTActor.takes l.initial.self (map Print cs) l.self)
+abbrev pub invariant-loop-at : goal.invariant-loop-at
+invariant-loop-at g l = HasSpelled g.Self.VTActor.takes g.Self.VTActor.is_ready l.bytes l.at l.fn.self l.self
+
+abbrev pub decreases-loop-at : goal.decreases-loop-at
+decreases-loop-at g l = length l.bytes - l.at
+
+abbrev pub invariant-ones : goal.invariant-ones
+invariant-ones g l = (l.initial.at ≤ l.at) × HasSpelled g.Self.VTActor.takes g.Self.VTActor.is_ready l.bytes l.at l.fn.self l.self
+
+abbrev pub decreases-ones : goal.decreases-ones
+decreases-ones g l = length l.bytes - l.at
+
+abbrev pub invariant-twos : goal.invariant-twos
+invariant-twos g l = (l.initial.at ≤ l.at) × HasSpelled g.Self.VTActor.takes g.Self.VTActor.is_ready l.bytes l.at l.fn.self l.self
+
+abbrev pub decreases-twos : goal.decreases-twos
+decreases-twos g l = length l.bytes - l.at
+
+abbrev pub invariant-threes : goal.invariant-threes
+invariant-threes g l = (l.initial.at ≤ l.at) × HasSpelled g.Self.VTActor.takes g.Self.VTActor.is_ready l.bytes l.at l.fn.self l.self
+
+abbrev pub decreases-threes : goal.decreases-threes
+decreases-threes g l = length l.bytes - l.at
