@@ -1,17 +1,20 @@
 -- Runs of six pixels.
-use Rattle.std.proofs.Common.{◌≡◌, ℕ, ◌+◌, ◌%◌, ◌^◌, ◌<◌, ◌≤◌, Bool, true, not, List, [], ◌∷◌, ◌++◌, map, length, slice_set, take, drop, get_or, Fits}
-use Rattle.std.proofs.Common.{w8, refl, ap, sym, subst, ◌∙◌, ◌-◌, arith}
+use Rattle.std.proofs.Common.{◌≡◌, ℕ, ◌+◌, ◌%◌, ◌^◌, ◌<◌, ◌≤◌, ◌==◌, ◌||◌, Bool, true, false, not, List, [], ◌∷◌, ◌++◌, map, length, slice_set, take, drop, get_or, Fits}
+use Rattle.std.proofs.Common.{w8, refl, ap, sym, subst, ◌∙◌, ◌-◌, append_assoc, arith, length-drop}
 use Rattle.std.proofs.lemmas.List.Sums.{prefix_len-le-length, prefix_len_passes}
 use Rattle.std.specs.List.{prefix_len, All}
-use Rattle.std.proofs.lemmas.Bool.{agree_below, agree_below_at}
+use Rattle.std.proofs.lemmas.Bool.{agree_below, agree_below_at, eqb-true}
 use Rattle.std.proofs.lemmas.Bool.Decides.{nat_tests}
-use Rattle.std.proofs.lemmas.List.{length-map, get_or-take, length-take, take_more}
-use Rattle.std.proofs.lemmas.List.Elements.{All-from_get_or, All-append, All-nil, All-cons}
+use Rattle.std.proofs.lemmas.List.{length-map, get_or-take, length-take, map-append, take_all, take_more}
+use Rattle.std.proofs.lemmas.List.Elements.{All-from_get_or, All-append, All-nil, All-cons, All-head, All-tail}
 use Rattle.std.proofs.Math.Seq.{take-add, set-append_seam}
 use Rattle.std.proofs.lemmas.Simd.{map-map, mask_l-mod, first_set_mask_l, chunk-fits, length-chunk}
 use lib.Lanes.{Each1, mask_l, top}
 use Rattle.esc_sixel.specs.Classes.{class_of, is_pixels, IsPixels, lowest}
+use Rattle.esc_sixel.specs.Meaning.{drawn}
 use Rattle.esc_sixel.specs.declared.class.Class.TheVariants.{Pixels}
+use Rattle.esc_sixel.specs.declared.sixel_data.SixelData.{SixelData}
+use Rattle.esc_sixel.specs.declared.sixel_data.SixelData.TheVariants.{Data}
 
 -- two tests that agree on bytes find the same run
 prefix_same : (p q : ℕ → Bool) → agree_below p q 256 ≡ true → (xs : List ℕ) → Each1 (Fits w8) xs → prefix_len p xs ≡ prefix_len q xs
@@ -65,3 +68,53 @@ pixels_least b h = grind (arith, nat_tests)
 -- the last of a list in place of what was pushed
 pub last_set : {X : Type 0} (xs ys : List X) (y z : X) (n : ℕ) → ys ≡ xs ++ y ∷ [] → n ≡ length xs → slice_set ys n z ≡ xs ++ z ∷ []
 last_set xs ys y z n e l = rw (e, l) (set-append_seam xs y [] z)
+
+-- a block of pixels: its bytes, less the least
+implied : (x y : Bool) → x ≡ true → (not x || y) ≡ true → y ≡ true
+implied true y h e = e
+implied false y h e = absurd (let f : false ≡ true = h in cc)
+
+less_least : (f : ℕ → ℕ) → agree_below (λ b. not (is_pixels b) || f b == b - 0x3f) (λ b. true) 256 ≡ true → (b : ℕ) → IsPixels b → f b ≡ b - 0x3f
+less_least f same b h =
+    let low : b < 256 = small b h in
+    eqb-true (f b) (b - 0x3f) (implied (is_pixels b) (f b == b - 0x3f) h (agree_below_at (λ c. not (is_pixels c) || f c == c - 0x3f) (λ c. true) 256 b same low))
+  where
+    small : (b : ℕ) → IsPixels b → b < 256
+    small b h = grind (arith, nat_tests)
+
+pub block_drawn : (f : ℕ → ℕ) → agree_below (λ b. not (is_pixels b) || f b == b - 0x3f) (λ b. true) 256 ≡ true → (bs : List ℕ) → All IsPixels bs
+    → map Data (map f bs) ≡ drawn bs
+block_drawn f same [] h = refl
+block_drawn f same (b ∷ bs) h =
+    ap (λ v. Data v ∷ map Data (map f bs)) (less_least f same b (All-head IsPixels b bs h))
+    ∙ ap (λ ds. Data (b - 0x3f) ∷ ds) (block_drawn f same bs (All-tail IsPixels b bs h))
+
+-- one more after a list and those that came after it
+pub put_more : (xs after ys zs : List SixelData) (v : ℕ) → ys ≡ xs ++ after → zs ≡ ys ++ Data v ∷ [] → zs ≡ xs ++ (after ++ Data v ∷ [])
+put_more xs after ys zs v e f = f ∙ ap (λ t. t ++ Data v ∷ []) e ∙ append_assoc xs after (Data v ∷ [])
+
+-- eight numbers by their places
+pub eight : (vs : List ℕ) → length vs ≡ 8 → Data (get_or vs 0 0) ∷ Data (get_or vs 1 0) ∷ Data (get_or vs 2 0) ∷ Data (get_or vs 3 0)
+    ∷ Data (get_or vs 4 0) ∷ Data (get_or vs 5 0) ∷ Data (get_or vs 6 0) ∷ Data (get_or vs 7 0) ∷ [] ≡ map Data vs
+eight [] l = absurd (omega (arith, l))
+eight (a ∷ []) l = absurd (omega (arith, l))
+eight (a ∷ b ∷ []) l = absurd (omega (arith, l))
+eight (a ∷ b ∷ c ∷ []) l = absurd (omega (arith, l))
+eight (a ∷ b ∷ c ∷ d ∷ []) l = absurd (omega (arith, l))
+eight (a ∷ b ∷ c ∷ d ∷ e ∷ []) l = absurd (omega (arith, l))
+eight (a ∷ b ∷ c ∷ d ∷ e ∷ f ∷ []) l = absurd (omega (arith, l))
+eight (a ∷ b ∷ c ∷ d ∷ e ∷ f ∷ g ∷ []) l = absurd (omega (arith, l))
+eight (a ∷ b ∷ c ∷ d ∷ e ∷ f ∷ g ∷ h ∷ []) l = refl
+eight (a ∷ b ∷ c ∷ d ∷ e ∷ f ∷ g ∷ h ∷ i ∷ vs) l = absurd (omega (arith, l))
+
+-- a run that is drawn goes on
+pub drawn_more : (items before after : List SixelData) (xs : List ℕ) (at n : ℕ) → before ≡ items ++ drawn (take at xs)
+    → after ≡ before ++ drawn (take n (take (length xs - at) (drop at xs))) → after ≡ items ++ drawn (take (at + n) xs)
+drawn_more items before after xs at n e f =
+    let rest : take (length xs - at) (drop at xs) ≡ drop at xs = take_all (length xs - at) (drop at xs) (omega (arith, length-drop at xs)) in
+    let more : after ≡ before ++ drawn (take n (drop at xs)) = f ∙ ap (λ t. before ++ drawn (take n t)) rest in
+    more
+    ∙ ap (λ t. t ++ drawn (take n (drop at xs))) e
+    ∙ append_assoc items (drawn (take at xs)) (drawn (take n (drop at xs)))
+    ∙ ap (λ t. items ++ t) (sym (map-append (λ b. Data (b - 0x3f)) (take at xs) (take n (drop at xs))))
+    ∙ ap (λ t. items ++ drawn t) (sym (take-add at n xs))

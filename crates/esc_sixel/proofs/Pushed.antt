@@ -1,19 +1,26 @@
 -- Many bytes, one pushed after another.
 use Rattle.std.proofs.Common.{Result, Ok, Err, OnErr, ◌≡◌, ℕ, ℤ, ◌+◌, ◌-◌, List, [], ◌∷◌}
 use Rattle.std.proofs.Common.{◌++◌, None, refl, sym, ap, subst, ◌∙◌, append-nil, append_assoc, take, drop, length, arith}
-use Rattle.std.proofs.Common.{length-drop}
-use Rattle.std.proofs.lemmas.List.{take_all}
+use Rattle.std.proofs.Common.{length-drop, Some, ◌<◌, ◌*◌, get_or, min}
+use Rattle.std.specs.Option.{unwrap_or}
+use Rattle.std.proofs.lemmas.List.{length-set, take_all}
 use Rattle.std.proofs.Math.Seq.{take-add}
 use Rattle.std.specs.List.{FoldsTo, All}
 use Rattle.std.proofs.lemmas.List.Elements.{All-head, All-tail}
-use Rattle.esc_sixel.specs.Classes.{class_of, IsPixels}
+use Rattle.esc_below.specs.Entries.{held}
+use Rattle.esc_sixel.specs.Classes.{class_of, IsDigit, IsPixels}
+use Rattle.esc_sixel.specs.Runs.{Keeps, param, more_digit, more_digits}
 use Rattle.esc_sixel.specs.Meaning.{drawn}
 use Rattle.esc_sixel.specs.Steps.{LeadsTo, Pushes, HoldsOpen, Closed, closed_of, open_of, with_items, alone, opened}
 use Rattle.esc_sixel.specs.declared.builder.SixelBuilder.{SixelBuilder}
 use Rattle.esc_sixel.specs.declared.class.Class.{Class}
 use Rattle.esc_sixel.specs.declared.class.Class.TheVariants.{Pixels}
+use Rattle.esc_sixel.specs.declared.introducer.Introducer.{Introducer}
+use Rattle.esc_sixel.specs.declared.parameters.Parameters.{Parameters}
+use Rattle.esc_sixel.proofs.Digits.{digit_below, digit_class, digit_whole}
 use Rattle.esc_sixel.proofs.PixelRuns.{pixels_class}
-use Rattle.esc_sixel.proofs.Steps.{after_none, closed_push, open_push}
+use Rattle.esc_sixel.proofs.Runs.{digit_is_none, keeps_digit, semicolons_digit}
+use Rattle.esc_sixel.proofs.Steps.{after_none, after_some, closed_digit, closed_push, open_push}
 
 pub on_err : {T E : Type 0} {P : Type 0} (r : Result T E) → P → OnErr r P
 on_err (Ok x) p = tt
@@ -60,3 +67,40 @@ pixels_pushed (b ∷ bs) p q none h e = (
   pixels_pushed bs (with_drawn p (b ∷ [])) q none (All-tail IsPixels b bs h)
       (e ∙ ap (λ t. record p { sixel = record p.sixel { content = t } }) (sym (append_assoc p.sixel.content (drawn (b ∷ [])) (drawn bs)))),
 )
+
+-- a digit in a command, and more
+keeps_more : (p : Parameters) (run : List ℕ) (b : ℕ) → length p.values ≡ 5 → p.count < 5 → IsDigit b → Keeps p run → Keeps (more_digit p b) (run ++ b ∷ [])
+keeps_more p run b five room h k =
+    let low : b - 0x30 < 10 = digit_below b h in
+    let whole : (b - 0x30) + 48 ≡ b = digit_whole b h in
+    let number = held (10 * unwrap_or (get_or p.values p.count None) 0 + (b - 0x30)) in
+    let e : number ≡ held (10 * unwrap_or (param run p.count) 0 + (b - 0x30)) =
+    ap (λ o. held (10 * unwrap_or o 0 + (b - 0x30))) (k.values p.count room) in
+    let none = digit_is_none (b - 0x30) low in
+    subst (λ x. Keeps (more_digit p b) (run ++ x ∷ [])) whole (record {
+      values = keeps_digit p.values p.count (b - 0x30) number run five low room k.values k.count e;
+      count = k.count ∙ ap (λ s. min s 5) (sym (semicolons_digit run ((b - 0x30) + 48) none));
+    })
+
+abbrev with_parameters : {A : Type 0} → SixelBuilder A → Parameters → SixelBuilder A
+with_parameters p k = record p { parameters = k }
+
+digit_pushed : {A : Type 0} (p : SixelBuilder A) (m : Introducer) (b : ℕ) → p.introducer ≡ Some m → length p.parameters.values ≡ 5 → p.parameters.count < 5
+    → IsDigit b → Pushes p b (with_parameters p (more_digit p.parameters b))
+unfolding LeadsTo
+digit_pushed p m b some five room h = λ ps s lead.
+    rw (closed_push Closed s b, open_push Closed s b)
+    (after_some {T = Unit {0}} {E = Unit {0}} ps (closed_of Closed s) (open_of Closed s) m (class_of b) b p.sixel p.sixel p.introducer p.introducer
+    p.parameters (more_digit p.parameters b) (Ok tt) lead.0 lead.1 some
+    (λ r k. rw (digit_class b h, closed_digit m r (b - 0x30) b) (refl, (k.0, keeps_more p.parameters r b five room h k.1))))
+
+pub digits_pushed : {A : Type 0} (bs : List ℕ) (p q : SixelBuilder A) (m : Introducer) → p.introducer ≡ Some m → length p.parameters.values ≡ 5
+    → (0 < length bs → p.parameters.count < 5) → All IsDigit bs → q ≡ with_parameters p (more_digits p.parameters bs) → FoldsTo Pushes p bs q
+digits_pushed [] p q m some five room h e = sym e
+digits_pushed (b ∷ bs) p q m some five room h e =
+    let more = more_digit p.parameters b in
+    let long : length more.values ≡ 5 = length-set p.parameters.values p.parameters.count _ ∙ five in (
+      with_parameters p more,
+      digit_pushed p m b some five (room (omega arith)) (All-head IsDigit b bs h),
+      digits_pushed bs (with_parameters p more) q m some long (λ t. room (omega arith)) (All-tail IsDigit b bs h) e,
+    )

@@ -1,7 +1,7 @@
 -- What a byte is to sixel data.
 use Rattle.std.specs.Prelude.{ℕ, ◌≡◌, ◌-◌, ◌==◌, Bool, true, nat_lt, if◌then◌else◌}
 use Rattle.std.specs.Int.{w64, trailing_zeros}
-use Rattle.esc_below.specs.Entries.{is_from}
+use Rattle.esc_below.specs.Entries.{is_digit, is_from}
 use Rattle.esc_sixel.specs.declared.class.Class.{Class}
 use Rattle.esc_sixel.specs.declared.class.Class.TheVariants.{Return, Line, Pixels, Introduces, Digit, Separator, Junk}
 use Rattle.esc_sixel.specs.declared.introducer.Introducer.TheVariants as introducer
@@ -27,6 +27,10 @@ is_pixels b = is_from 0x3f 0x7e b
 
 abbrev pub IsPixels : ℕ → Type 0
 IsPixels b = is_pixels b ≡ true
+
+-- `0` to `9`
+abbrev pub IsDigit : ℕ → Type 0
+IsDigit b = is_digit b ≡ true
 
 -- the place of the lowest bit that is set, or n
 abbrev pub lowest : ℕ → ℕ → ℕ

@@ -1,5 +1,5 @@
 -- The parameters of a command: what its run of digits and `;` says.
-use Rattle.std.specs.Prelude.{ℕ, ◌+◌, ◌*◌, ◌<◌, ◌≡◌, ◌-◌, ◌==◌, min, if◌then◌else◌, List, [], ◌∷◌, get_or, Option, Some, None, option_map, unwrap_or}
+use Rattle.std.specs.Prelude.{ℕ, ◌+◌, ◌*◌, ◌<◌, ◌≡◌, ◌-◌, ◌==◌, min, if◌then◌else◌, List, [], ◌∷◌, get_or, set, Option, Some, None, option_map, unwrap_or}
 use Rattle.esc_below.specs.Entries.{held}
 use Rattle.esc_sixel.specs.declared.parameters.Parameters.{Parameters}
 
@@ -22,3 +22,14 @@ separators (b ∷ bs) = if b == 0x3b then separators bs + 1 else separators bs
 pub record Keeps (p : Parameters) (run : List ℕ) : Type 0 where
   pub values : (k : ℕ) → k < 5 → get_or p.values k None ≡ param run k
   pub count : p.count ≡ min (separators run) 5
+
+-- the parameters with one more digit of the one that is being read, the last; and with more
+abbrev pub more_digit : Parameters → ℕ → Parameters
+more_digit p b = record {
+  values = set p.values p.count (Some (held (10 * unwrap_or (get_or p.values p.count None) 0 + (b - 0x30))));
+  count = p.count;
+}
+
+abbrev pub more_digits : Parameters → List ℕ → Parameters
+more_digits p [] = p
+more_digits p (b ∷ bs) = more_digits (more_digit p b) bs

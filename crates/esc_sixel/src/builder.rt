@@ -120,7 +120,8 @@ impl<A: Allocator> SixelBuilder<A> {
         Ok(())
     }
 
-    // The first byte of these, or outside a command the longest prefix of six pixels; returns how many it took.
+    // The first byte of these, or the longest prefix of six pixels outside a command, or of digits in one; returns how many it
+    // took.
     #[inline(always)]
     fn push_some(&mut self, rest: &[u8]) -> Result<usize, AllocError>
         requires { 0 < length rest.now }
@@ -132,6 +133,11 @@ impl<A: Allocator> SixelBuilder<A> {
             if run > 0 {
                 push_pixels(&mut self.sixel.content, &rest[..run])?;
                 return Ok(run);
+            }
+        } else {
+            let digits = self.parameters.digits(rest);
+            if digits > 0 {
+                return Ok(digits);
             }
         }
         self.push(rest[0])?;

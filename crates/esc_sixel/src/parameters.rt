@@ -1,6 +1,8 @@
 //! The parameters of a command.
-ghost use Rattle.std.specs.Prelude.{◌≡◌, ◌<◌, ◌≤◌, ◌∷◌, [], ◌++◌, ◌+◌, ◌*◌, ℕ, List, nat_le};
-ghost use Rattle.esc_sixel.specs.Runs.{Keeps, param, separators};
+ghost use Rattle.std.specs.Prelude.{◌≡◌, ◌<◌, ◌≤◌, ◌∷◌, [], ◌++◌, ◌+◌, ◌*◌, ℕ, List, length, nat_le, take};
+ghost use Rattle.std.specs.List.{All};
+ghost use Rattle.esc_sixel.specs.Classes.{IsDigit};
+ghost use Rattle.esc_sixel.specs.Runs.{Keeps, more_digits, param, separators};
 ghost use Rattle.esc_below.specs.Entries.{held};
 
 // The first five parameters of a run of digits and `;`. Takes no memory.
@@ -44,6 +46,30 @@ impl Parameters {
         }
     }
 
+    // The longest prefix of digits of these bytes, as `digit` of each takes them; returns how many. It takes none past the
+    // fifth parameter.
+    #[inline(always)]
+    pub(crate) fn digits(&mut self, rest: &[u8]) -> usize
+        ensures few { result ≤ length rest.now }
+        ensures digits { All IsDigit (take result rest.now) }
+        ensures taken { self.new ≡ more_digits self.old (take result rest.now) }
+        ensures room { 0 < result → self.old.count < 5 }
+    {
+        if self.count >= 5 {
+            return 0;
+        }
+        let mut number = self.values[self.count].unwrap_or(0);
+        let mut end = 0;
+        while end < rest.len() && b'0' <= rest[end] && rest[end] <= b'9' {
+            number = with_digit(number, rest[end] - b'0');
+            end += 1;
+        }
+        if end > 0 {
+            self.values[self.count] = Some(number);
+        }
+        end
+    }
+
     // Parameter `k`, the first being 0; none where it is missing or empty.
     pub(crate) fn get(&self, k: usize) -> Option<u64>
         requires { k < 5 }
@@ -62,6 +88,7 @@ impl Parameters {
 }
 
 // Ten times a number and a digit, at most `i64::MAX`.
+#[inline(always)]
 fn with_digit(number: u64, digit: u8) -> u64
     requires { digit < 10 }
     ensures { result ≡ held (10 * number + digit) }

@@ -1,5 +1,5 @@
 //! Six pixels, many times.
-ghost use Rattle.std.specs.Prelude.{◌≡◌, ◌<◌, ◌≤◌, ◌+◌, ◌++◌, ◌∷◌, [], length, take, drop, OnOk, OnErr, vec_len, vec_capacity};
+ghost use Rattle.std.specs.Prelude.{◌≡◌, ◌<◌, ◌≤◌, ◌+◌, ◌++◌, ◌∷◌, [], length, map, take, drop, OnOk, OnErr, vec_len, vec_capacity};
 ghost use Rattle.std.specs.List.{All};
 ghost use Rattle.esc_sixel.specs.Classes.{IsPixels, lowest};
 ghost use Rattle.esc_sixel.specs.Meaning.{drawn};
@@ -41,6 +41,9 @@ pub(crate) fn pixels_run(bytes: &[u8]) -> usize
     ensures few { result ≤ length bytes.now }
 {
     let mut end = 0;
+    if bytes.is_empty() || bytes[0] < 0x3f {
+        return end;
+    }
     'by_block: while bytes.len() - end >= 16 {
         let run = run_in_lanes(bytes, end);
         end += run;
@@ -70,15 +73,52 @@ fn put<A: Allocator>(vec: &mut Vec<SixelData, A>, value: u8)
     }
 }
 
-// Appends these bytes as pixels, for which there is room.
+// Eight bytes as pixels.
+#[inline(always)]
+fn values_of(block: &[u8]) -> [u8; 8]
+    requires room { 8 ≤ length block.now }
+    requires pixels { All IsPixels (take 8 block.now) }
+    ensures { map Data result ≡ drawn (take 8 block.now) }
+{
+    (u8x8::from_slice(block) - u8x8::splat(0x3f)).to_array()
+}
+
+// Appends the first eight of these bytes as pixels, for which there is room.
+#[inline(always)]
+fn put_block<A: Allocator>(vec: &mut Vec<SixelData, A>, block: &[u8])
+    requires room { vec_len vec.old + 8 ≤ vec_capacity vec.old }
+    requires block { 8 ≤ length block.now }
+    requires pixels { All IsPixels (take 8 block.now) }
+    ensures items { vec.new.items ≡ vec.old.items ++ drawn (take 8 block.now) }
+    ensures len { vec_len vec.new ≡ vec_len vec.old + 8 }
+    ensures capacity { vec_capacity vec.new ≡ vec_capacity vec.old }
+{
+    let values = values_of(block);
+    put(vec, values[0]);
+    put(vec, values[1]);
+    put(vec, values[2]);
+    put(vec, values[3]);
+    put(vec, values[4]);
+    put(vec, values[5]);
+    put(vec, values[6]);
+    put(vec, values[7]);
+}
+
+// Appends these bytes as pixels, for which there is room: eight at once, and then the rest.
 fn fill<A: Allocator>(vec: Vec<SixelData, A>, run: &[u8]) -> Vec<SixelData, A>
     requires room { vec_len vec + length run.now ≤ vec_capacity vec }
     requires pixels { All IsPixels run.now }
     ensures { result.items ≡ vec.items ++ drawn run.now }
 {
     let mut vec = vec;
-    for byte in run {
-        put(&mut vec, *byte - 0x3f);
+    let mut at = 0;
+    'by_block: while run.len() - at >= 8 {
+        put_block(&mut vec, &run[at..]);
+        at += 8;
+    }
+    while at < run.len() {
+        put(&mut vec, run[at] - 0x3f);
+        at += 1;
     }
     vec
 }

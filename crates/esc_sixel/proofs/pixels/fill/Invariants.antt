@@ -1,10 +1,24 @@
-use Rattle.std.proofs.Common.{◌≡◌, ◌≤◌, ◌+◌, ◌++◌, length, take}
+use Rattle.std.proofs.Common.{◌≡◌, ◌≤◌, ◌+◌, ◌-◌, ◌++◌, length, take}
 use Rattle.esc_sixel.specs.Meaning.{drawn}
 use Rattle.esc_sixel.proofs.pixels.fill.Given as goal
 
 -- the bytes so far are appended, and there is room for the rest
-abbrev pub invariant-loop-byte : goal.invariant-loop-byte
-invariant-loop-byte g l = record {
-  items : l.vec.items ≡ l.initial.vec.items ++ drawn (take l.byte-index l.run);
-  room : l.vec.len + length l.run ≤ l.vec.cap + l.byte-index;
+abbrev pub invariant-by_block : goal.invariant-by_block
+invariant-by_block g l = record {
+  within : l.at ≤ length l.run;
+  items : l.vec.items ≡ l.fn.vec.items ++ drawn (take l.at l.run);
+  room : l.vec.len + length l.run ≤ l.vec.cap + l.at;
 }
+
+abbrev pub decreases-by_block : goal.decreases-by_block
+decreases-by_block g l = length l.run - l.at
+
+abbrev pub invariant-loop-at : goal.invariant-loop-at
+invariant-loop-at g l = record {
+  within : l.at ≤ length l.run;
+  items : l.vec.items ≡ l.fn.vec.items ++ drawn (take l.at l.run);
+  room : l.vec.len + length l.run ≤ l.vec.cap + l.at;
+}
+
+abbrev pub decreases-loop-at : goal.decreases-loop-at
+decreases-loop-at g l = length l.run - l.at

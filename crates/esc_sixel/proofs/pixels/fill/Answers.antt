@@ -1,0 +1,17 @@
+use Rattle.std.proofs.Common.{◌∙◌, ◌++◌, ap, arith}
+use Rattle.std.proofs.lemmas.List.{take_all}
+use Rattle.esc_sixel.specs.Meaning.{drawn}
+use Rattle.esc_sixel.proofs.PixelRuns.{drawn_more}
+use Rattle.esc_sixel.proofs.pixels.fill.Goals as goal
+
+pub by_block-preserved : goal.by_block-preserved
+by_block-preserved g c = record {
+  within = omega (arith, c.by_block-test.true, c.by_block.invariant.within);
+  items = drawn_more c.args.vec.items c.by_block.vec.items _ c.args.run.now c.by_block.at 8 c.by_block.invariant.items c.put_block.ensures.items;
+  room = omega (arith, c.by_block.invariant.room, c.put_block.ensures.len, c.put_block.ensures.capacity);
+}
+
+pub returns : goal.returns
+returns g c =
+    c.loop-at.invariant.items
+    ∙ ap (λ t. c.args.vec.items ++ drawn t) (take_all c.loop-at.at c.args.run.now (omega (arith, c.loop-at-test.false)))
