@@ -49,13 +49,13 @@ passed xs n r e = All-from_get_or IsPixels (take r xs) 0 (λ k h.
 pub joined : (xs : List ℕ) (i r : ℕ) → All IsPixels (take i xs) → All IsPixels (take r (drop i xs)) → All IsPixels (take (i + r) xs)
 joined xs i r a b = subst (All IsPixels) (sym (take-add i r xs)) (All-append IsPixels (take i xs) (take r (drop i xs)) a b)
 
+pub is_within : (b : ℕ) → 0x3f ≤ b → b ≤ 0x7e → IsPixels b
+is_within b low high = grind (arith, nat_tests)
+
 pub one_more : (xs : List ℕ) (i : ℕ) → i < length xs → All IsPixels (take i xs) → 0x3f ≤ get_or xs i 0 → get_or xs i 0 ≤ 0x7e → All IsPixels (take (i + 1) xs)
 one_more xs i lt a low high =
-    let one : IsPixels (get_or xs i 0) = within (get_or xs i 0) low high in
+    let one : IsPixels (get_or xs i 0) = is_within (get_or xs i 0) low high in
     subst (All IsPixels) (sym (take_more xs i 0 lt)) (All-append IsPixels (take i xs) (get_or xs i 0 ∷ []) a (All-cons IsPixels _ [] one (All-nil IsPixels)))
-  where
-    within : (b : ℕ) → 0x3f ≤ b → b ≤ 0x7e → IsPixels b
-    within b low high = grind (arith, nat_tests)
 
 -- what such a byte is
 pub pixels_class : (b : ℕ) → IsPixels b → class_of b ≡ Pixels (b - 0x3f)

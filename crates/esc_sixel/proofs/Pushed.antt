@@ -3,19 +3,22 @@ use Rattle.std.proofs.Common.{Result, Ok, Err, OnErr, ◌≡◌, ℕ, ℤ, ◌+�
 use Rattle.std.proofs.Common.{◌++◌, None, refl, sym, ap, subst, ◌∙◌, append-nil, append_assoc, take, drop, length, arith}
 use Rattle.std.proofs.Common.{length-drop, Some, ◌<◌, ◌*◌, get_or, min}
 use Rattle.std.specs.Option.{unwrap_or}
-use Rattle.std.proofs.lemmas.List.{length-set, take_all}
+use Rattle.std.proofs.lemmas.List.{length-set, take_all, take_more}
 use Rattle.std.proofs.Math.Seq.{take-add}
 use Rattle.std.specs.List.{FoldsTo, All}
 use Rattle.std.proofs.lemmas.List.Elements.{All-head, All-tail}
 use Rattle.esc_below.specs.Entries.{held}
 use Rattle.esc_sixel.specs.Classes.{class_of, IsDigit, IsPixels}
 use Rattle.esc_sixel.specs.Runs.{Keeps, param, more_digit, more_digits}
-use Rattle.esc_sixel.specs.Meaning.{drawn}
+use Rattle.esc_sixel.specs.Meaning.{color_of, drawn, repeat_of}
 use Rattle.esc_sixel.specs.Steps.{LeadsTo, Pushes, HoldsOpen, Closed, closed_of, open_of, with_items, alone, opened}
 use Rattle.esc_sixel.specs.declared.builder.SixelBuilder.{SixelBuilder}
 use Rattle.esc_sixel.specs.declared.class.Class.{Class}
-use Rattle.esc_sixel.specs.declared.class.Class.TheVariants.{Pixels}
+use Rattle.esc_sixel.specs.declared.class.Class.TheVariants.{Introduces, Pixels}
 use Rattle.esc_sixel.specs.declared.introducer.Introducer.{Introducer}
+use Rattle.esc_sixel.specs.declared.introducer.Introducer.TheVariants as introducer
+use Rattle.esc_sixel.specs.declared.sixel.Sixel.{Sixel}
+use Rattle.esc_sixel.specs.declared.sixel_data.SixelData.{SixelData}
 use Rattle.esc_sixel.specs.declared.parameters.Parameters.{Parameters}
 use Rattle.esc_sixel.proofs.Digits.{digit_below, digit_class, digit_whole}
 use Rattle.esc_sixel.proofs.PixelRuns.{pixels_class}
@@ -37,6 +40,11 @@ folds_more R p xs at n q r e f =
     let rest = take_all (length xs - at) (drop at xs) (omega (arith, length-drop at xs)) in
     let more = subst (λ t. FoldsTo R q (take n t) r) rest f in
     subst (λ z. FoldsTo R p z r) (sym (take-add at n xs)) (folds_join R p (take at xs) (take n (drop at xs)) q r e more)
+
+pub folds_one : {P : Type 0} (R : P → ℕ → P → Type 0) (p : P) (xs : List ℕ) (at : ℕ) (q r : P) → at < length xs → FoldsTo R p (take at xs) q
+    → R q (get_or xs at 0) r → FoldsTo R p (take (at + 1) xs) r
+folds_one R p xs at q r lt e one =
+    subst (λ z. FoldsTo R p z r) (sym (take_more xs at 0 lt)) (folds_join R p (take at xs) (get_or xs at 0 ∷ []) q r e (r, one, refl))
 
 -- what a run of bytes leads to
 pub run_leads : {A : Type 0} (ps : List ℤ) (s : List ℕ) (bs : List ℕ) (p q : SixelBuilder A) → FoldsTo Pushes p bs q → LeadsTo ps s p → LeadsTo ps (s ++ bs) q
@@ -104,3 +112,44 @@ digits_pushed (b ∷ bs) p q m some five room h e =
       digit_pushed p m b some five (room (omega arith)) (All-head IsDigit b bs h),
       digits_pushed bs (with_parameters p more) q m some long (λ t. room (omega arith)) (All-tail IsDigit b bs h) e,
     )
+
+-- a command begins outside one, and after a `#`
+pub color_class : (b : ℕ) → b ≡ 0x23 → class_of b ≡ Introduces introducer.Color
+unfolding class_of
+color_class b e = rw e refl
+
+pub repeat_class : (b : ℕ) → b ≡ 0x21 → class_of b ≡ Introduces introducer.Repeat
+unfolding class_of
+repeat_class b e = rw e refl
+
+pub begins : {A : Type 0} (p : SixelBuilder A) (m : Introducer) (fresh : Parameters) (b : ℕ) → p.introducer ≡ None → class_of b ≡ Introduces m
+    → Keeps fresh [] → Pushes p b (record p { introducer = Some m; parameters = fresh })
+unfolding LeadsTo
+begins p m fresh b none is k = λ ps s lead.
+    rw (closed_push Closed s b, open_push Closed s b)
+    (after_none {T = Unit {0}} {E = Unit {0}} ps (closed_of Closed s) (open_of Closed s) (class_of b) b p.sixel p.sixel p.introducer (Some m)
+    p.parameters fresh (Ok tt) lead.0 lead.1 none (rw is (refl, (refl, k))))
+
+-- the image with one more piece of data
+abbrev pub with_data : {A : Type 0} → Sixel A → SixelData → Sixel A
+with_data s d = record s { content = s.content ++ d ∷ [] }
+
+pub selected_begins : {A : Type 0} (p : SixelBuilder A) (m : Introducer) (fresh : Parameters) (b : ℕ) (d : SixelData) → p.introducer ≡ Some introducer.Color
+    → class_of b ≡ Introduces m → Keeps fresh [] → ((r : List ℕ) → Keeps p.parameters r → d ≡ color_of r)
+    → Pushes p b (record { sixel = with_data p.sixel d; introducer = Some m; parameters = fresh })
+unfolding LeadsTo
+selected_begins p m fresh b d some is k gives = λ ps s lead.
+    rw (closed_push Closed s b, open_push Closed s b)
+    (after_some {T = Unit {0}} {E = Unit {0}} ps (closed_of Closed s) (open_of Closed s) introducer.Color (class_of b) b p.sixel (with_data p.sixel d)
+    p.introducer (Some m) p.parameters fresh (Ok tt) lead.0 lead.1 some
+    (λ r h. rw is (ap (with_data p.sixel) (gives r h.1), (refl, k))))
+
+-- six pixels end a `!`
+pub repeat_ends : {A : Type 0} (p q : SixelBuilder A) (b : ℕ) (d : SixelData) → p.introducer ≡ Some introducer.Repeat → IsPixels b
+    → ((r : List ℕ) → Keeps p.parameters r → d ≡ repeat_of r (b - 0x3f)) → q.sixel ≡ with_data p.sixel d → q.introducer ≡ None → Pushes p b q
+unfolding LeadsTo
+repeat_ends p q b d some is gives e none = λ ps s lead.
+    rw (closed_push Closed s b, open_push Closed s b)
+    (after_some {T = Unit {0}} {E = Unit {0}} ps (closed_of Closed s) (open_of Closed s) introducer.Repeat (class_of b) b p.sixel q.sixel
+    p.introducer q.introducer p.parameters q.parameters (Ok tt) lead.0 lead.1 some
+    (λ r h. rw (pixels_class b is) (e ∙ ap (with_data p.sixel) (gives r h.1), none)))

@@ -1,5 +1,5 @@
 //! How a sixel string is read, byte by byte.
-ghost use Rattle.std.specs.Prelude.{◌≡◌, ◌<◌, ◌≤◌, IfOk, ℕ, ℤ, length, take, List, [], ◌∷◌, ◌++◌, OnOk, OnErr, Some, None};
+ghost use Rattle.std.specs.Prelude.{◌≡◌, ◌<◌, ◌≤◌, IfOk, ℕ, ℤ, get_or, length, take, List, [], ◌∷◌, ◌++◌, OnOk, OnErr, Some, None};
 ghost use Rattle.std.specs.List.{FoldsTo, slice_get};
 ghost use Rattle.esc_sixel.specs.Classes.{class_of};
 ghost use Rattle.esc_sixel.specs.Items.{items, OfRaster, OfColor};
@@ -134,10 +134,38 @@ impl<A: Allocator> SixelBuilder<A> {
                 push_pixels(&mut self.sixel.content, &rest[..run])?;
                 return Ok(run);
             }
+            if rest[0] == b'#' {
+                return self.push_selected(rest);
+            }
         } else {
             let digits = self.parameters.digits(rest);
             if digits > 0 {
                 return Ok(digits);
+            }
+        }
+        self.push(rest[0])?;
+        Ok(1)
+    }
+
+    // A `#`, of which no command is open. The longest prefix of a `#` with its number, a `!` with its count and six pixels, where they
+    // are whole in these bytes, else the `#`; returns how many it took.
+    #[inline(always)]
+    fn push_selected(&mut self, rest: &[u8]) -> Result<usize, AllocError>
+        requires bytes { 0 < length rest.now }
+        requires begins { get_or rest.now 0 0 ≡ 0x23 }
+        requires closed { self.old.introducer ≡ None }
+        ensures ok { IfOk result (λ n. (0 < n) × (n ≤ length rest.now) × FoldsTo Pushes self.old (take n rest.now) self.new) }
+        ensures err { OnErr result (self.new ≡ self.old) }
+    {
+        let mut selected = Parameters::new();
+        let end = 1 + selected.digits(&rest[1..]);
+        if end < rest.len() && rest[end] == b'!' {
+            let mut repeated = Parameters::new();
+            let last = end + 1 + repeated.digits(&rest[end + 1..]);
+            if last < rest.len() && 0x3f <= rest[last] && rest[last] <= 0x7e {
+                let drawn = repeat(&repeated, rest[last] - 0x3f);
+                self.sixel.content.push_two(color(&selected), Some(drawn))?;
+                return Ok(last + 1);
             }
         }
         self.push(rest[0])?;

@@ -55,7 +55,7 @@ impl Parameters {
         ensures taken { self.new ≡ more_digits self.old (take result rest.now) }
         ensures room { 0 < result → self.old.count < 5 }
     {
-        if self.count >= 5 {
+        if self.count >= 5 || rest.is_empty() || rest[0] < b'0' || rest[0] > b'9' {
             return 0;
         }
         let mut number = self.values[self.count].unwrap_or(0);
