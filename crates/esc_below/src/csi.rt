@@ -35,6 +35,29 @@ pub fn is_unspecified(params: &[CsiParam], parameters_truncated: bool, control: 
     control != b'm' || parameters_truncated || !are_renditions(params)
 }
 
+/// The rendition that [`parse`](CSI::parse) returns, where the body is one number or nothing and this names one. It takes no
+/// memory. After `None` nothing is said of the sequence.
+#[inline]
+pub fn short_rendition(params: &[CsiParam], parameters_truncated: bool, control: u8) -> Option<Sgr>
+    ensures { IfSome result (λ s. csi_of params.now parameters_truncated control ≡ sgr s ∷ []) }
+{
+    if control != b'm' || parameters_truncated {
+        return None;
+    }
+    lone_entry(params)
+}
+
+// The rendition of at most one entry.
+#[inline]
+fn lone_entry(params: &[CsiParam]) -> Option<Sgr>
+    ensures { IfSome result (λ s. renditions (slice_split is_separator params.now) ≡ Some (sgr s ∷ [])) }
+{
+    if params.len() > 1 {
+        return None;
+    }
+    Sgr::from_item(params)
+}
+
 impl<A: Allocator + Copy> CSI<A> {
     /// What the entries of a body and a final byte are. Where the final byte is `m`, no entry was left out, and the
     /// entries are items between `;` that are all renditions, these renditions, in order; no entry is one empty item.
@@ -62,6 +85,7 @@ impl<A: Allocator + Copy> CSI<A> {
 
     /// What [`parse`](CSI::parse) returns, where that is one value, with no list made for it; `None` where there are several.
     /// The error is that memory was refused, which renditions do not want.
+    #[inline]
     pub fn parse_one(
         alloc: A,
         params: &[CsiParam],
@@ -81,6 +105,7 @@ impl<A: Allocator + Copy> CSI<A> {
 }
 
 // The sequence as it is.
+#[inline]
 fn as_it_stands<A: Allocator + Copy>(
     alloc: A,
     params: &[CsiParam],

@@ -24,6 +24,7 @@ pub enum Sgr {
 
 impl Sgr {
     // The rendition of an item: the entries between two `;`.
+    #[inline]
     pub(crate) fn from_item(item: &[CsiParam]) -> Option<Sgr>
         ensures { result ≡ rendition item.now }
     {
@@ -48,6 +49,7 @@ impl Sgr {
 }
 
 // The rendition of an item that is one number.
+#[inline]
 fn by_number(number: i64) -> Option<Sgr>
     ensures { result ≡ numbered number }
 {

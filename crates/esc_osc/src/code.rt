@@ -1,5 +1,5 @@
 //! The codes of operating system commands.
-ghost use Rattle.std.specs.Prelude.{◌≡◌, ◌≢◌, MatchOption};
+ghost use Rattle.std.specs.Prelude.{◌≡◌, ◌≢◌, ◌∷◌, [], length, MatchOption};
 ghost use Rattle.esc_osc.specs.Codes.{code_text};
 ghost use Rattle.esc_osc.specs.declared.code.OperatingSystemCommandCode.{OperatingSystemCommandCode};
 
@@ -91,7 +91,7 @@ pub enum OperatingSystemCommandCode {
     SetIconNameSun,
 }
 
-// Every code. A text is compared with theirs in turn, so those that come most are first.
+// Every code. A text of more than one byte is compared with theirs in turn, so those that come most are first.
 const ALL: [OperatingSystemCommandCode; 41] = [
     OperatingSystemCommandCode::SetIconNameAndWindowTitle,
     OperatingSystemCommandCode::SetWindowTitle,
@@ -136,12 +136,45 @@ const ALL: [OperatingSystemCommandCode; 41] = [
     OperatingSystemCommandCode::SetIconNameSun,
 ];
 
+// The code whose text this is, of one byte.
+fn of_one_byte(code: &str) -> Option<OperatingSystemCommandCode>
+    requires { length code.now ≡ 1 }
+    ensures { MatchOption result ((c : OperatingSystemCommandCode) → code.now ≢ code_text c) (λ c. code.now ≡ code_text c) }
+{
+    let letter = code.as_bytes()[0];
+    of_letter(letter)
+}
+
+// The code whose text is this one byte.
+fn of_letter(letter: u8) -> Option<OperatingSystemCommandCode>
+    ensures { MatchOption result ((c : OperatingSystemCommandCode) → letter ∷ [] ≢ code_text c) (λ c. letter ∷ [] ≡ code_text c) }
+{
+    match letter {
+        b'0' => Some(OperatingSystemCommandCode::SetIconNameAndWindowTitle),
+        b'1' => Some(OperatingSystemCommandCode::SetIconName),
+        b'2' => Some(OperatingSystemCommandCode::SetWindowTitle),
+        b'3' => Some(OperatingSystemCommandCode::SetXWindowProperty),
+        b'4' => Some(OperatingSystemCommandCode::ChangeColorNumber),
+        b'5' => Some(OperatingSystemCommandCode::ChangeSpecialColorNumber),
+        b'6' => Some(OperatingSystemCommandCode::ChangeTitleTabColor),
+        b'7' => Some(OperatingSystemCommandCode::SetCurrentWorkingDirectory),
+        b'8' => Some(OperatingSystemCommandCode::SetHyperlink),
+        b'9' => Some(OperatingSystemCommandCode::SystemNotification),
+        b'l' => Some(OperatingSystemCommandCode::SetWindowTitleSun),
+        b'L' => Some(OperatingSystemCommandCode::SetIconNameSun),
+        _ => None,
+    }
+}
+
 impl OperatingSystemCommandCode {
     /// The code whose text this is; none where it is the text of no code. The texts are compared byte by
     /// byte, so `02` is no code.
     pub fn from_code(code: &str) -> Option<OperatingSystemCommandCode>
         ensures { MatchOption result ((c : OperatingSystemCommandCode) → code.now ≢ code_text c) (λ c. code.now ≡ code_text c) }
     {
+        if code.len() == 1 {
+            return of_one_byte(code);
+        }
         for known in ALL {
             if code == known.as_code() {
                 return Some(known);
