@@ -12,3 +12,4 @@ pub mod ReadsBack
 pub mod Selections
 pub mod Written
 pub mod Under
+pub mod NamedMarks

@@ -7,6 +7,7 @@ ghost use Rattle.esc_osc.specs.Commands.{command_text};
 ghost use Rattle.esc_osc.specs.Reading.{meaning};
 ghost use Rattle.escape_stream.specs.Spelled.{IsTitleCode, pieces_text};
 
+use crate::plain_mark::{lone_pieces, named_pieces};
 use esc_below::Text;
 use std::alloc::{AllocError, Allocator};
 use std::str;
@@ -152,13 +153,37 @@ fn link_pieces<'a, A: Allocator>(
     }
 }
 
+// The pieces of a command of a code and one part more.
+fn pieces_of_two<'a, A: Allocator>(code: &[u8], part: &'a [u8]) -> Option<PlainCommand<'a>>
+    ensures { IfSome result (λ p. command_text (meaning {A = A} (code.now ∷ part.now ∷ [])) ≡ pieces_text p.start.now p.middle.now p.last.now) }
+{
+    match title_pieces::<A>(code, part) {
+        Some(pieces) => Some(pieces),
+        None => lone_pieces::<A>(code, part),
+    }
+}
+
+// The pieces of a command of a code and two parts more.
+fn pieces_of_three<'a, A: Allocator>(
+    code: &[u8],
+    second: &'a [u8],
+    third: &'a [u8],
+) -> Option<PlainCommand<'a>>
+    ensures { IfSome result (λ p. command_text (meaning {A = A} (code.now ∷ second.now ∷ third.now ∷ [])) ≡ pieces_text p.start.now p.middle.now p.last.now) }
+{
+    match link_pieces::<A>(code, second, third) {
+        Some(pieces) => Some(pieces),
+        None => named_pieces::<A>(code, second, third),
+    }
+}
+
 // The pieces of the command that these parts mean, where they are found with no command made.
 pub(crate) fn plain_command<'a, A: Allocator>(parts: &[&'a [u8]]) -> Option<PlainCommand<'a>>
     ensures { IfSome result (λ p. command_text (meaning {A = A} (map (λ p. p.now) parts.now)) ≡ pieces_text p.start.now p.middle.now p.last.now) }
 {
     match parts {
-        [code, title] => title_pieces::<A>(code, title),
-        [code, params, uri] => link_pieces::<A>(code, params, uri),
+        [code, part] => pieces_of_two::<A>(code, part),
+        [code, second, third] => pieces_of_three::<A>(code, second, third),
         _ => None,
     }
 }
