@@ -1,9 +1,9 @@
 -- Runs of characters, gathered eight at a time.
 use Rattle.std.proofs.Common.{ℕ, suc, Bool, false, true, ◌≡◌, ◌+◌, ◌<◌, List, [], ◌∷◌, ◌++◌}
-use Rattle.std.proofs.Common.{length, map, take, drop, get_or, refl, ap, sym, ◌∙◌, append_assoc, take-append-drop, arith}
-use Rattle.std.proofs.Common.{set, ◌&&◌}
+use Rattle.std.proofs.Common.{length, map, take, drop, refl, ap, sym, ◌∙◌, append_assoc, take-append-drop, arith}
+use Rattle.std.proofs.Common.{◌&&◌}
 use Rattle.std.proofs.lemmas.List.Folds.{list_all-append}
-use Rattle.std.proofs.lemmas.List.{length-append, length-map, map-append, take_all, take_more, take_more_set}
+use Rattle.std.proofs.lemmas.List.{length-append, length-map, map-append}
 use Rattle.std.proofs.lemmas.Str.{encode_ascii}
 use Rattle.std.specs.List.{list_all}
 use Rattle.std.specs.Str.{IsAscii}
@@ -12,22 +12,6 @@ use Rattle.esc_actions.specs.Values.{Value}
 use Rattle.esc_actions.specs.Values.Value.{print}
 
 module _ {X V : Type 0} (f : X → V) (show : ℕ → V) where
-  -- one more character
-  pub one_seen : (xs : List X) (bs : List ℕ) (i c : ℕ) (x : X) → i < length xs → i < length bs → x ≡ get_or xs i x → f x ≡ show c
-      → map f (take i xs) ≡ map show (take i bs) → map f (take (i + 1) xs) ≡ map show (take (i + 1) (set bs i c))
-  one_seen xs bs i c x l k at is seen =
-      ap (map f) (take_more xs i x l) ∙ map-append f (take i xs) (get_or xs i x ∷ [])
-      ∙ ap (λ ys. ys ++ f (get_or xs i x) ∷ []) seen ∙ ap (λ v. map show (take i bs) ++ v ∷ []) (ap f (sym at) ∙ is)
-      ∙ sym (map-append show (take i bs) (c ∷ [])) ∙ ap (map show) (sym (take_more_set bs i c k))
-
-  -- all of them, and what follows
-  pub all_seen : (xs : List X) (bs : List ℕ) (n : ℕ) → length bs ≡ n → map f (take n xs) ≡ map show (take n bs)
-      → map f xs ≡ map show bs ++ map f (drop n xs)
-  all_seen xs bs n full seen =
-      let whole : take n bs ≡ bs = take_all n bs (omega arith) in
-      ap (map f) (sym (take-append-drop n xs)) ∙ map-append f (take n xs) (drop n xs)
-      ∙ ap (λ ys. ys ++ map f (drop n xs)) (seen ∙ ap (map show) whole)
-
   -- a run that goes on
   pub more_seen : (vs : List V) (run bs : List ℕ) (ws us : List V) → vs ≡ map show run ++ ws → ws ≡ map show bs ++ us → vs ≡ map show (run ++ bs) ++ us
   more_seen vs run bs ws us h k =

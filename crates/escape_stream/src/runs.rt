@@ -9,6 +9,18 @@ use crate::short_text::ShortText;
 use esc_actions::Action;
 use std::alloc::Allocator;
 
+// The character that the action shows, where it is ASCII.
+#[inline(always)]
+fn ascii_of<A: Allocator>(action: &Action<A>) -> Option<u8>
+    ensures ascii { IfSome result (λ b. b < 128) }
+    ensures shown { IfSome result (λ b. value_of action.now ≡ print b) }
+{
+    match action {
+        Action::Print(c) => { if *c < '\u{80}' { Some(*c as u8) } else { None } }
+        _ => None,
+    }
+}
+
 // The characters of the first eight actions, where each is an ASCII character that is shown.
 #[inline(always)]
 fn eight_of<A: Allocator>(actions: &[Action<A>]) -> Option<[u8; 8]>
@@ -16,20 +28,29 @@ fn eight_of<A: Allocator>(actions: &[Action<A>]) -> Option<[u8; 8]>
     ensures same { IfSome result (λ bs. map value_of actions.now ≡ map print bs ++ map value_of (drop 8 actions.now)) }
     ensures ascii { IfSome result (λ bs. IsAscii bs) }
 {
-    if actions.len() < 8 {
+    let [
+        first,
+        second,
+        third,
+        fourth,
+        fifth,
+        sixth,
+        seventh,
+        eighth,
+        ..
+    ] = actions
+    else {
         return None;
-    }
-    let mut bytes = [0; 8];
-    for i in 0..8 {
-        let Action::Print(c) = &actions[i] else {
-            return None;
-        };
-        if *c as u32 >= 128 {
-            return None;
-        }
-        bytes[i] = *c as u8;
-    }
-    Some(bytes)
+    };
+    let first = ascii_of(first)?;
+    let second = ascii_of(second)?;
+    let third = ascii_of(third)?;
+    let fourth = ascii_of(fourth)?;
+    let fifth = ascii_of(fifth)?;
+    let sixth = ascii_of(sixth)?;
+    let seventh = ascii_of(seventh)?;
+    let eighth = ascii_of(eighth)?;
+    Some([first, second, third, fourth, fifth, sixth, seventh, eighth])
 }
 
 // Gathers the ASCII characters that are shown at the start, eight at a time, as far as there is room for them, and returns what

@@ -1,4 +1,4 @@
-use Rattle.std.proofs.Common.{◌++◌, ap, chars, false}
+use Rattle.std.proofs.Common.{ap, chars, false}
 use Rattle.std.proofs.lemmas.Result.{err_from_is_err_and}
 use Rattle.escape_stream.proofs.Lists.{match_err}
 use Rattle.escape_stream.proofs.TextRuns.{refuses_run, some_chars, spells_str}
