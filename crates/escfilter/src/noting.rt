@@ -1,9 +1,14 @@
 //! Readers and writers that note why a call failed.
+ghost use Rattle.std.specs.Prelude.{◌≢◌, IfErr};
+ghost use Rattle.std.specs.Io.{ReadsAtMost, WritesAtMost};
+ghost use Rattle.std.specs.Io.KnownBytes.{ReadConsumes, WriteAppends};
+ghost use Rattle.std.specs.IoError.{error_kind};
 
 use std::io;
 use std::io::{ErrorKind, Read, Write};
 
-/// A reader or a writer around another, which notes of what kind the last error was.
+/// A reader or a writer around another, which notes of what kind the last error was. A call that a signal interrupts is made again,
+/// so it is no error.
 #[derive(Drop)]
 pub struct Noting<T> {
     inner: T,
@@ -25,8 +30,12 @@ impl<T> Noting<T> {
 impl<R: Read> Read for Noting<R> {
     ghost remaining = { λ n. R.remaining n.inner };
 
-    fn read(&mut self, buf: &mut [u8]) -> io::Result<usize> {
-        let result = self.inner.read(buf);
+    fn read(&mut self, buf: &mut [u8]) -> io::Result<usize>
+        ensures bound { ReadsAtMost result buf.new }
+        ensures bytes { ReadConsumes (R.remaining self.old.inner) (R.remaining self.new.inner) result buf.new }
+        ensures retried { IfErr result (λ e. error_kind e ≢ ErrorKind.Interrupted) }
+    {
+        let result = uninterrupted_read(&mut self.inner, buf);
         note(&mut self.kind, &result);
         result
     }
@@ -35,8 +44,12 @@ impl<R: Read> Read for Noting<R> {
 impl<W: Write> Write for Noting<W> {
     ghost contents = { λ n. W.contents n.inner };
 
-    fn write(&mut self, buf: &[u8]) -> io::Result<usize> {
-        let result = self.inner.write(buf);
+    fn write(&mut self, buf: &[u8]) -> io::Result<usize>
+        ensures bound { WritesAtMost result buf.now }
+        ensures bytes { WriteAppends (W.contents self.old.inner) (W.contents self.new.inner) result buf.now }
+        ensures retried { IfErr result (λ e. error_kind e ≢ ErrorKind.Interrupted) }
+    {
+        let result = uninterrupted_write(&mut self.inner, buf);
         note(&mut self.kind, &result);
         result
     }
@@ -46,6 +59,44 @@ impl<W: Write> Write for Noting<W> {
         note(&mut self.kind, &result);
         result
     }
+}
+
+// One read, made again where a signal interrupted it.
+fn uninterrupted_read<R: Read>(reader: &mut R, buf: &mut [u8]) -> io::Result<usize>
+    ensures bound { ReadsAtMost result buf.new }
+    ensures bytes { ReadConsumes (R.remaining reader.old) (R.remaining reader.new) result buf.new }
+    ensures retried { IfErr result (λ e. error_kind e ≢ ErrorKind.Interrupted) }
+{
+    for _ in 0..u64::MAX {
+        match reader.read(buf) {
+            Ok(n) => return Ok(n),
+            Err(error) => {
+                if error.kind() != ErrorKind::Interrupted {
+                    return Err(error);
+                }
+            }
+        }
+    }
+    Err(io::Error::from(ErrorKind::TimedOut))
+}
+
+// One write, made again where a signal interrupted it.
+fn uninterrupted_write<W: Write>(writer: &mut W, buf: &[u8]) -> io::Result<usize>
+    ensures bound { WritesAtMost result buf.now }
+    ensures bytes { WriteAppends (W.contents writer.old) (W.contents writer.new) result buf.now }
+    ensures retried { IfErr result (λ e. error_kind e ≢ ErrorKind.Interrupted) }
+{
+    for _ in 0..u64::MAX {
+        match writer.write(buf) {
+            Ok(n) => return Ok(n),
+            Err(error) => {
+                if error.kind() != ErrorKind::Interrupted {
+                    return Err(error);
+                }
+            }
+        }
+    }
+    Err(io::Error::from(ErrorKind::TimedOut))
 }
 
 // Notes the kind, where the outcome is an error.
