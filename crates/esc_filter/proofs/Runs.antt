@@ -20,15 +20,18 @@ use Rattle.esc_filter.specs.Rules.{admits, is_shown}
 use Rattle.esc_filter.specs.declared.policy.Policy.{Policy}
 use Rattle.esc_filter.specs.declared.policy.Policy.TheVariants as policy
 
-full_step : (p : ℕ → Bool) (x : ℕ) (xs : List ℕ) (t : Bool) → p x ≡ t → cond t (1 + prefix_len p xs) 0 ≡ suc (length xs)
-    → (prefix_len p xs ≡ length xs → list_all p xs ≡ true) → list_all p (x ∷ xs) ≡ true
-full_step p x xs true e h f = rw (e, f (omega arith)) refl
-full_step p x xs false e h f = absurd (omega arith)
+same_next : (n m : ℕ) → (1 + n == suc m) ≡ (n == m)
+same_next n m = grind (arith, nat_tests)
 
--- a prefix that is all
-pub full_run : (p : ℕ → Bool) (xs : List ℕ) → prefix_len p xs ≡ length xs → list_all p xs ≡ true
-full_run p [] e = refl
-full_run p (x ∷ xs) e = full_step p x xs (p x) refl e (full_run p xs)
+whole_by : (p : ℕ → Bool) (x : ℕ) (xs : List ℕ) (t : Bool) → p x ≡ t → (prefix_len p xs == length xs) ≡ list_all p xs
+    → (prefix_len p (x ∷ xs) == length (x ∷ xs)) ≡ list_all p (x ∷ xs)
+whole_by p x xs true e h = rw e (same_next (prefix_len p xs) (length xs) ∙ h)
+whole_by p x xs false e h = rw e (grind (arith, nat_tests))
+
+-- a prefix is the whole where each is in it
+pub is_whole_run : (p : ℕ → Bool) (xs : List ℕ) → (prefix_len p xs == length xs) ≡ list_all p xs
+is_whole_run p [] = refl
+is_whole_run p (x ∷ xs) = whole_by p x xs (p x) refl (is_whole_run p xs)
 
 all_more : (p q : ℕ → Bool) → ((c : ℕ) → p c ≡ true → q c ≡ true) → (xs : List ℕ) → list_all p xs ≡ true → list_all q xs ≡ true
 all_more p q f [] h = refl

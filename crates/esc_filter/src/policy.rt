@@ -1,5 +1,5 @@
 //! Policies.
-ghost use Rattle.std.specs.Prelude.{◌≡◌, IsTrue, true};
+ghost use Rattle.std.specs.Prelude.{◌≡◌};
 ghost use Rattle.esc_frame.specs.Scans.{is_data_byte};
 ghost use Rattle.std.specs.List.{list_all};
 ghost use Rattle.esc_below.specs.Csis.{csi_value};
@@ -46,18 +46,18 @@ impl<A: Allocator> Admit<A> for Policy {
 
     #[inline]
     fn admits_text(&self, text: &[u8]) -> bool {
-        is_run_shown(text)
+        are_printable(text)
     }
 
     #[inline]
     fn admits_str(&self, text: &str) -> bool {
-        is_shown(text.as_bytes())
+        are_shown(text.as_bytes())
     }
 }
 
-// Whether all bytes are 20 to 7E.
-fn is_run_shown(text: &[u8]) -> bool
-    ensures { IsTrue result → list_all is_data_byte text.now ≡ true }
+// Whether each byte is 20 to 7E: a character of ASCII that is shown.
+fn are_printable(text: &[u8]) -> bool
+    ensures { result ≡ list_all is_data_byte text.now }
 {
     data_run(text) == text.len()
 }
@@ -69,14 +69,14 @@ fn is_text<A: Allocator>(action: &Action<A>) -> bool
 {
     match action {
         Action::Print(c) => *c != '\x7f',
-        Action::PrintString(text) => is_shown(text.as_bytes()),
+        Action::PrintString(text) => are_shown(text.as_bytes()),
         Action::Control(code) => is_layout(code.as_char()),
         _ => false,
     }
 }
 
-// Whether no byte is DEL.
-fn is_shown(text: &[u8]) -> bool
+// Whether each character of this UTF-8 is shown: none of its bytes is DEL.
+fn are_shown(text: &[u8]) -> bool
     ensures { result ≡ list_all is_shown text.now }
 {
     text.iter().all(|b| *b != 0x7f)

@@ -1,5 +1,6 @@
+use Rattle.std.proofs.Common.{sym, ◌∙◌}
 use Rattle.esc_filter.proofs.Runs.{run_admitted}
 use Rattle.esc_filter.proofs.policy.PolicyAdmit.admits_text.Goals as goal
 
 pub returns : goal.returns
-returns g c = λ t. run_admitted _ c.args.self.now c.args.text.now (c.is_run_shown.ensures t)
+returns g c = λ t. run_admitted _ c.args.self.now c.args.text.now (sym c.are_printable.ensures ∙ t)
