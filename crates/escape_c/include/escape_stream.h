@@ -1,0 +1,145 @@
+/*
+ * escape_stream.h - streams of terminal escape sequences: their normal form, and a filter
+ *
+ * A stream is bytes as a program writes them to a terminal: UTF-8 text, control characters, and the control functions of
+ * ECMA-48 and xterm, such as colours, cursor movements and titles. Any bytes are a stream. Each call takes one whole, and
+ * nothing is kept between calls.
+ *
+ *     cc -I crates/escape_c/include program.c libescape_c.a liblibc_c.a
+ *
+ * What each call writes is proved, for every stream and every capacity; docs/EMBEDDING.md says what the proof covers and what
+ * it takes for granted. Nothing checks the caller, who owes this at every call:
+ *
+ *   - No pointer is NULL, also where its length is 0.
+ *   - `bytes` is `length` initialized bytes that can be read, and nobody writes them during the call.
+ *   - `out` is `capacity` initialized bytes that can be read and written; `needed` and `answer` point to initialized objects
+ *     of their types. No two of these and of `bytes` overlap, and nobody else reads or writes them during the call.
+ *   - No object has more than PTRDIFF_MAX bytes.
+ *   - malloc, realloc and free are of one allocator, and align a block to each power of two up to 16 that divides its size.
+ *   - The call is made neither in a signal handler, nor in the child of a process with threads that has only forked.
+ *
+ * Calls may run in several threads at once. None starts a thread, takes a lock, reads a clock or touches a file.
+ */
+#ifndef ESCAPE_STREAM_H
+#define ESCAPE_STREAM_H
+
+#include <stdbool.h>
+#include <stddef.h>
+#include <stdint.h>
+
+#ifdef __cplusplus
+extern "C" {
+#endif
+
+/*
+ * The statuses. After each but ESCAPE_STREAM_DONE nothing was written: `out`, `*needed` and `*answer` are as they were. Later
+ * versions may add some, so treat one that you do not know as an error.
+ */
+#define ESCAPE_STREAM_DONE UINT32_C(0)           /* the call was done */
+#define ESCAPE_STREAM_NO_MEMORY UINT32_C(1)      /* a request for memory was refused */
+#define ESCAPE_STREAM_UNKNOWN_POLICY UINT32_C(2) /* no policy has this number */
+
+/*
+ * The policies of escape_stream_filter. Each admits all that the one before it does.
+ *
+ * TEXT     characters but DEL; tab, line feed and carriage return
+ * COLOR    and graphic renditions (SGR: colours, bold, underline ..) and hyperlinks (OSC 8)
+ * SCREEN   and what changes the screen alone, from a list of what is known to do no more: cursor movement, erasing, scrolling,
+ *          modes of what is shown, and others. Nothing that a terminal answers, no title, no clipboard, and nothing unknown
+ * ALL      all that can be written by itself, so images, titles and queries too. It keeps broken input from becoming a
+ *          sequence, and does not protect from sequences that are there
+ */
+#define ESCAPE_STREAM_POLICY_TEXT UINT32_C(0)
+#define ESCAPE_STREAM_POLICY_COLOR UINT32_C(1)
+#define ESCAPE_STREAM_POLICY_SCREEN UINT32_C(2)
+#define ESCAPE_STREAM_POLICY_ALL UINT32_C(3)
+
+/*
+ * Writes the normal form of a stream: each of its actions, in order, in its one spelling. So a title that BEL ends is ended by
+ * ESC \, a C1 control is UTF-8, and UTF-8 that is broken is U+FFFD. Of a sequence that is unfinished at the end of the stream
+ * only what it has done so far is written; of a title, nothing.
+ *
+ * Normal form is no protection: for a stream of unknown origin there is escape_stream_filter.
+ *
+ *   bytes, length    the stream, and how many bytes it has
+ *   out, capacity    where its normal form goes, and for how many bytes there is room
+ *   needed           where the length of the normal form goes, in bytes
+ *
+ * ESCAPE_STREAM_DONE: `*needed` is the length of the whole normal form, whatever the capacity. The normal form, or as much of
+ * its beginning as there is room for, is at the beginning of `out`; every other byte of `out` is as it was. No 0 is added at
+ * the end. All of it is there where `*needed <= capacity`; where it is not, call again with room for `*needed` bytes. With a
+ * capacity of 0 only the length is written.
+ *
+ * ESCAPE_STREAM_NO_MEMORY is the only other status. The call takes memory for the normal form and for one string of the stream
+ * at a time, and gives it back before it returns. Its time grows linearly with the stream.
+ *
+ * Example: the normal form of a stream, in a block of its own.
+ *
+ *     uint8_t *normal_form(const uint8_t *bytes, size_t length, size_t *needed)
+ *     {
+ *         uint8_t none = 0;
+ *         uint8_t *out;
+ *         *needed = 0;
+ *         if (escape_stream_normal(bytes, length, &none, 0, needed) != ESCAPE_STREAM_DONE)
+ *             return NULL;
+ *         out = calloc(*needed + 1, 1);
+ *         if (out && escape_stream_normal(bytes, length, out, *needed, needed) != ESCAPE_STREAM_DONE) {
+ *             free(out);
+ *             return NULL;
+ *         }
+ *         return out;
+ *     }
+ */
+uint32_t escape_stream_normal(const uint8_t *bytes, size_t length, uint8_t *out, size_t capacity, size_t *needed);
+
+/*
+ * Says whether a stream is its own normal form.
+ *
+ *   bytes, length    the stream, and how many bytes it has
+ *   answer           where the answer goes
+ *
+ * ESCAPE_STREAM_DONE: `*answer` is true where the normal form of the stream is the same bytes, and else false.
+ *
+ * ESCAPE_STREAM_NO_MEMORY is the only other status. The call takes what escape_stream_normal takes.
+ *
+ * Example:
+ *
+ *     bool answer = false;
+ *     if (escape_stream_is_normal(bytes, length, &answer) == ESCAPE_STREAM_DONE && !answer)
+ *         puts("not in normal form");
+ */
+uint32_t escape_stream_is_normal(const uint8_t *bytes, size_t length, bool *answer);
+
+/*
+ * Writes what a policy admits of a stream, and nothing else. The text reads back as the actions that were admitted, whatever
+ * bytes follow it: no text of the stream becomes a sequence, however broken the stream is.
+ *
+ *   policy           one of ESCAPE_STREAM_POLICY_..
+ *   limit            how many bytes are kept of a string, such as a title or an image; of one with more nothing is written.
+ *                    So it bounds the memory that one string can take. 1048576 will do
+ *   bytes, length    the stream, and how many bytes it has
+ *   out, capacity    where the text goes, and for how many bytes there is room
+ *   needed           where the length of the text goes, in bytes
+ *
+ * ESCAPE_STREAM_DONE: of that text, `*needed` and `out` are as escape_stream_normal says. A text that does not fit is cut
+ * anywhere, also inside a sequence: send `out` to a terminal only where `*needed <= capacity`.
+ *
+ * ESCAPE_STREAM_UNKNOWN_POLICY says that no policy has this number. ESCAPE_STREAM_NO_MEMORY is the only other status. The call
+ * takes memory for the text and for one string of the stream at a time, and gives it back before it returns.
+ *
+ * Example: a line of a log, safe to print.
+ *
+ *     uint8_t out[4096] = {0};
+ *     size_t needed = 0;
+ *     uint32_t status = escape_stream_filter(ESCAPE_STREAM_POLICY_COLOR, 1024, line, length, out, sizeof out, &needed);
+ *     if (status == ESCAPE_STREAM_DONE && needed <= sizeof out)
+ *         fwrite(out, 1, needed, stdout);
+ */
+uint32_t escape_stream_filter(uint32_t policy, size_t limit, const uint8_t *bytes, size_t length, uint8_t *out,
+                              size_t capacity, size_t *needed);
+
+#ifdef __cplusplus
+}
+#endif
+
+#endif

@@ -1,0 +1,19 @@
+use Rattle.std.proofs.Common.{Global, ◌≡◌, ◌++◌, [], Some, ap, sym, subst, ◌∙◌}
+use Rattle.std.specs.List.{filter}
+use Rattle.esc_actions.proofs.Meanings.{meaning_nil}
+use Rattle.esc_actions.specs.Texts.{list_text}
+use Rattle.esc_filter.specs.Fed.{WasFed, added_by}
+use Rattle.esc_filter.specs.Passing.{passed_text, passes}
+use Rattle.esc_filter.specs.Rules.{admits}
+use Rattle.escape_c.proofs.filter.filtered.Goals as goal
+
+pub returns-in-Ok : goal.returns-in-Ok
+returns-in-Ok c =
+    let limit = c.args.limit in
+    let new = c.new-filter.result in
+    let is = c.new-filter.ensures.policy in
+    let fed = subst (λ p. WasFed limit (admits {A = Global} p) [] new) (sym is) c.new-filter.ensures.fed in
+    let given = c.in-Ok.ensures.given limit [] fed in
+    let nothing = ap (λ vs. list_text (filter (passes (admits {A = Global} new.policy)) vs)) (meaning_nil (Some limit)) in
+    sym (ap (λ t. t ++ added_by c.feed.new.self) nothing) ∙ sym given.1
+    ∙ ap (λ p. passed_text {A = Global} (Some limit) (admits p) c.args.bytes.now) is

@@ -1,0 +1,30 @@
+//! Whether a stream is in normal form.
+ghost use Rattle.std.specs.Prelude.{◌≡◌, ◌≢◌, ◌↔◌, ℕ, IsTrue, List, true};
+ghost use Rattle.esc_actions.specs.Meaning.{meaning};
+ghost use Rattle.esc_actions.specs.Texts.{list_text};
+ghost use Rattle.esc_actions.specs.Writable.{AreWritable};
+
+use crate::spelled::normal_text;
+use crate::{DONE, NO_MEMORY};
+use escape_stream::laws;
+use std::alloc::Global;
+
+/// Writes to `answer` whether the stream `bytes` is its own normal form: the text that [`escape_stream_normal`](crate::escape_stream_normal)
+/// writes for it.
+///
+/// Of the normal form of a stream that means a writable list it is true. `NO_MEMORY` is the only other status.
+#[unsafe(no_mangle)]
+pub extern "C" fn escape_stream_is_normal(alloc: Global, bytes: &[u8], answer: &mut bool) -> u32
+    ensures equal { result ≡ DONE → (IsTrue answer.new ↔ (list_text (meaning {A = Global} bytes.now) ≡ bytes.now)) }
+    ensures normalised { (t : List ℕ) → AreWritable {A = Global} (meaning t) → bytes.now ≡ list_text (meaning {A = Global} t) → result ≡ DONE → answer.new ≡ true }
+    ensures refused { result ≢ DONE → (result ≡ NO_MEMORY) × (answer.new ≡ answer.old) }
+{
+    laws::normal_once::<Global>();
+    match normal_text(alloc, bytes) {
+        Ok(text) => {
+            *answer = text.as_bytes() == bytes;
+            DONE
+        }
+        Err(_) => NO_MEMORY,
+    }
+}

@@ -1,0 +1,25 @@
+//! The normal form, its check and the filter of streams of terminal escape sequences, for C and for programs that link C's libraries.
+//!
+//! Each call takes a stream whole, and returns a status: [`DONE`], or why it was not done. A text goes into the caller's buffer, as much
+//! of it as fits, and its whole length into `needed`; so a caller makes room and calls again. After any status but `DONE` nothing was
+//! written. No state is kept between calls. `include/escape_stream.h` declares the calls for C.
+#![tactic(auto)]
+
+mod filter;
+mod is_normal;
+mod normal;
+mod output;
+mod spelled;
+
+pub use filter::escape_stream_filter;
+pub use is_normal::escape_stream_is_normal;
+pub use normal::escape_stream_normal;
+
+/// The call was done.
+pub const DONE: u32 = 0;
+
+/// A request for memory was refused. Nothing was written.
+pub const NO_MEMORY: u32 = 1;
+
+/// No policy has this number. Nothing was written.
+pub const UNKNOWN_POLICY: u32 = 2;
