@@ -1,6 +1,7 @@
 -- From the machine's steps to what a stream adds.
-use Rattle.std.proofs.Common.{ℕ, ◌≡◌, Bool, true, false, ◌||◌, List, [], ◌∷◌, ◌++◌, take, Option, Some, None, IfSome, refl, ap, sym, ◌∙◌, subst}
+use Rattle.std.proofs.Common.{ℕ, ◌≡◌, Bool, true, false, not, ◌||◌, ◌&&◌, List, [], ◌∷◌, ◌++◌, take, Option, Some, None, IfSome, refl, ap, sym, ◌∙◌, subst}
 use Rattle.std.specs.List.{FoldsTo}
+use Rattle.std.proofs.lemmas.Bool.{and_parts}
 use Rattle.std.proofs.lemmas.List.{append-nil}
 use Rattle.esc_frame.specs.declared.classes.Class.{Class}
 use Rattle.esc_frame.specs.declared.machine.Machine.{Machine}
@@ -12,7 +13,8 @@ use Rattle.esc_frame.specs.Leads.{Holds}
 use Rattle.esc_frame.specs.Leads.Unfinished.{Ground}
 use Rattle.esc_frame.specs.Memory.{MayGrow}
 use Rattle.esc_frame.specs.Machine.Calls.{TellsOne}
-use Rattle.esc_frame.specs.Machine.Moves.{IsStill, after_by, news_by, after_all, news_all, may_grow_in, may_grow_within, move}
+use Rattle.esc_frame.specs.Machine.Moves.{IsStill, after_by, news_by, after_all, news_all, may_grow_in, move}
+use Rattle.esc_frame.specs.Machine.Moves.{reaches_growing, lends, is_lendable, may_grow_within}
 use Rattle.esc_frame.specs.Stream.{IsQuietWithin, LeadsToWithin, added_within}
 use Rattle.esc_frame.proofs.Given.{stops_for}
 use Rattle.esc_frame.proofs.Memory.{grows_added}
@@ -29,12 +31,35 @@ pub given_all : {S : Type 0} (l limit : Option ℕ) → l ≡ limit → (takes :
     → FoldsTo takes old (news_all l (after_all Ground s) b) new → FoldsTo takes old (added_within limit s b) new
 given_all l limit i takes s b old new h = subst (λ es. FoldsTo takes old es new) (sym (added_is l s b) ∙ ap (λ k. added_within k s b) i) h
 
+refused_by : {S : Type 0} (l limit : Option ℕ) → l ≡ limit → (takes refuses : S → Event → S → Type 0) (s b : List ℕ) (old new : S) (own : Type 0)
+    → (own → reaches_growing (after_all Ground s) b ≡ true) → StopsAt own takes refuses old (news_all l (after_all Ground s) b) new
+    → StopsAt (MayGrow (s ++ b)) takes refuses old (added_within limit s b) new
+refused_by l limit i takes refuses s b old new own w h =
+    subst (λ es. StopsAt (MayGrow (s ++ b)) takes refuses old es new) (sym (added_is l s b) ∙ ap (λ k. added_within k s b) i)
+    (stops_for own (MayGrow (s ++ b)) takes refuses (news_all l (after_all Ground s) b) old new (λ o. grows_added s b (w o)) h)
+
 pub refused_all : {S : Type 0} (l limit : Option ℕ) → l ≡ limit → (takes refuses : S → Event → S → Type 0) (s b : List ℕ) (old new : S)
     → StopsAt (may_grow_within (after_all Ground s) b ≡ true) takes refuses old (news_all l (after_all Ground s) b) new
     → StopsAt (MayGrow (s ++ b)) takes refuses old (added_within limit s b) new
 refused_all l limit i takes refuses s b old new h =
-    subst (λ es. StopsAt (MayGrow (s ++ b)) takes refuses old es new) (sym (added_is l s b) ∙ ap (λ k. added_within k s b) i)
-    (stops_for (may_grow_within (after_all Ground s) b ≡ true) (MayGrow (s ++ b)) takes refuses (news_all l (after_all Ground s) b) old new (grows_added s b) h)
+    let u = after_all Ground s in
+    refused_by l limit i takes refuses s b old new (may_grow_within u b ≡ true)
+    (λ g. (and_parts (reaches_growing u b) (not (is_lendable u b)) g).0) h
+
+-- bytes whose strings can all be lent stop only where the actor refused
+pub refused_lent : {S : Type 0} (l limit : Option ℕ) → l ≡ limit → (takes refuses : S → Event → S → Type 0) (s b : List ℕ) (old new : S)
+    → after_all Ground s ≡ Ground → lends Ground b ≡ true
+    → StopsAt (may_grow_within (after_all Ground s) b ≡ true) takes refuses old (news_all l (after_all Ground s) b) new
+    → StopsAt ⊥ takes refuses old (added_within limit s b) new
+refused_lent l limit i takes refuses s b old new e k h =
+    subst (λ es. StopsAt ⊥ takes refuses old es new) (sym (added_is l s b) ∙ ap (λ k. added_within k s b) i)
+    (stops_for (may_grow_within (after_all Ground s) b ≡ true) ⊥ takes refuses (news_all l (after_all Ground s) b) old new
+    (λ g. lent_grows_not (reaches_growing Ground b) (lends Ground b) k (subst (λ u. may_grow_within u b ≡ true) e g)) h)
+  where
+    lent_grows_not : (r t : Bool) → t ≡ true → (r && not (true && t)) ≡ true → ⊥
+    lent_grows_not true true t g = cc
+    lent_grows_not false true t g = cc
+    lent_grows_not r false t g = cc
 
 -- one byte is a list of one
 or_no : (t : Bool) → t ≡ true → (t || false) ≡ true
@@ -60,10 +85,9 @@ pub refused_one : {S : Type 0} (l limit : Option ℕ) → l ≡ limit → (takes
     → StopsAt (MayGrow (s ++ b ∷ [])) takes refuses old (added_within limit s (b ∷ [])) new
 refused_one l limit i takes refuses s b c old new e h =
     let u = after_all Ground s in
-    refused_all l limit i takes refuses s (b ∷ []) old new
-    (subst (λ es. StopsAt (may_grow_within u (b ∷ []) ≡ true) takes refuses old es new)
-    (ap (news_by l u b) e ∙ sym (append-nil (news_by l u b (class_of b))))
-    (stops_for (may_grow_in u ≡ true) (may_grow_within u (b ∷ []) ≡ true) takes refuses (news_by l u b c) old new (or_no (may_grow_in u)) h))
+    refused_by l limit i takes refuses s (b ∷ []) old new (may_grow_in u ≡ true) (or_no (may_grow_in u))
+    (subst (λ es. StopsAt (may_grow_in u ≡ true) takes refuses old es new)
+    (ap (news_by l u b) e ∙ sym (append-nil (news_by l u b (class_of b)))) h)
 
 -- bytes of one event, where nothing is unfinished before them and after them
 event_fed : {A : Type 0} (limit : Option ℕ) (p : VTParser A) (s b : List ℕ) (x : Event) → LeadsToWithin limit s p → after_all Ground s ≡ Ground

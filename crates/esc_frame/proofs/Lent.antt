@@ -1,8 +1,9 @@
 -- Strings whose text is lent, and what ends them.
-use Rattle.std.proofs.Common.{ℕ, ◌≡◌, ◌+◌, ◌<◌, Bool, true, false, List, [], ◌∷◌, ◌++◌, length, take, get_or, refl, sym, subst, ap, ◌∙◌, Option, None, Some}
+use Rattle.std.proofs.Common.{ℕ, ◌≡◌, ◌+◌, ◌<◌, Bool, true, false, not, List, [], ◌∷◌, ◌++◌, length, take, drop, get_or, refl, sym, subst, ap, ◌∙◌, Option, None, Some}
 use Rattle.std.proofs.Common.{min, arith}
 use Rattle.std.specs.List.{FoldsTo, list_all}
 use Rattle.std.proofs.lemmas.List.{append-nil}
+use Rattle.std.proofs.lemmas.Bool.{and_parts}
 use Rattle.std.proofs.lemmas.Bool.Decides.{nat_tests}
 use Rattle.esc_frame.specs.declared.classes.Class.{Class}
 use Rattle.esc_frame.specs.declared.classes.Class.TheVariants.{Bell, Cancel, Escape, RawControl, RawOpens, RawTerminator, Lead}
@@ -13,16 +14,33 @@ use Rattle.esc_frame.specs.declared.machine.Machine.{Machine}
 use Rattle.esc_frame.specs.Classes.{class_of, those, is_text, is_breaker}
 use Rattle.esc_frame.specs.Leads.{Holds}
 use Rattle.esc_frame.specs.Leads.Unfinished.{Ground, InOsc, InOscPending, InApc}
-use Rattle.esc_frame.specs.Limits.{is_within, most}
-use Rattle.esc_frame.specs.Machine.Moves.{move, inside, telling, ground_move, pair_move, osc_pending_move, osc_left, ends_osc, after_all, news_all, may_grow_within}
-use Rattle.esc_frame.specs.Machine.Moves.{IsStill}
+use Rattle.esc_frame.specs.Limits.{is_within, most, has_few_parts}
+use Rattle.esc_frame.specs.Machine.Moves.{move, inside, telling, ground_move, pair_move, osc_pending_move, osc_left, ends_osc, after_all, news_all, may_grow_within, after_by}
+use Rattle.esc_frame.specs.Machine.Moves.{IsStill, passes_osc, passes_pending, lends, is_fresh, is_lendable}
+use Rattle.esc_frame.specs.Machine.Calls.{StaysFresh}
 use Rattle.esc_frame.specs.Machine.TextRuns.{IsTextRun}
 use Rattle.esc_frame.specs.Scans.{is_text_byte}
-use Rattle.esc_frame.specs.Segments.{Opener, Piece, text_of, osc_events, apc_events}
+use Rattle.esc_frame.specs.Segments.{Opener, Piece, text_of, osc_events, apc_events, is_empty}
+use Rattle.esc_frame.specs.Segments.Opener.{Raw}
 use Rattle.esc_frame.specs.Sequences.{is_from, is_sequence, is_pair, outcome}
-use Rattle.esc_frame.proofs.QuietRuns.{quiet_took, quiet_stops, quiet_after, quiet_news}
+use Rattle.esc_frame.proofs.Lends.{begun_fresh, fresh_by, grows_by, lends_at, no_if, not_so, opened_fresh, pair_fresh, reaches_first}
+use Rattle.esc_frame.proofs.QuietRuns.{quiet_took, quiet_stops_for, quiet_after, quiet_news}
 use Rattle.esc_frame.proofs.Still.{text_still}
 use Rattle.esc_frame.proofs.StringRuns.{run_text, apc_text, apc_kept}
+
+left_fresh : (b : ℕ) (c : Class) (rest : List ℕ) → lends (osc_left b c).0 rest ≡ true → is_fresh (osc_left b c).0 ≡ true
+left_fresh b (RawOpens k) rest h = opened_fresh k Raw rest h
+left_fresh b _ rest h = refl
+
+-- what ends a command that can be lent has few parts before it
+few_of : (ps : List Piece) (c : Class) → ends_osc c ≡ true → passes_osc ps c ≡ true → has_few_parts (text_of ps) ≡ true
+few_of ps Bell h k = k
+few_of ps Cancel h k = k
+few_of ps Escape h k = k
+few_of ps RawControl h k = k
+few_of ps (RawOpens i) h k = k
+few_of ps RawTerminator h k = k
+few_of ps _ h k = absurd cc
 
 -- no bytes are within each limit
 none_within : (limit : Option ℕ) → is_within limit 0 ≡ true
@@ -78,6 +96,10 @@ pair_ends : (limit : Option ℕ) (o : Opener) (ps : List Piece) (b : ℕ) (c : C
     → telling (osc_events limit (text_of ps)) (pair_move b c) ≡ move limit (InOscPending o ps (0xc2 ∷ [])) b c
 pair_ends limit o ps b c h = let k = pair_whole b h in rw (k.0, k.1, osc_pending_move, outcome) refl
 
+few_by_pair : (ps : List Piece) (b : ℕ) → is_from 0x80 0x9f b ≡ true → passes_pending ps (0xc2 ∷ []) b (outcome (0xc2 ∷ []) b) ≡ true
+    → has_few_parts (text_of ps) ≡ true
+few_by_pair ps b h = let k = pair_whole b h in rw (k.0, k.1, outcome) (λ p. p)
+
 module _ {S : Type 0} (limit : Option ℕ) (takes refuses : S → Event → S → Type 0) (o : Opener) (ps : List Piece) (rest : List ℕ) (n : ℕ) (old new : S)
     (none : text_of ps ≡ []) (run : IsTextRun (take n rest)) (room : n < length rest) where
   -- all the text is the run
@@ -88,19 +110,37 @@ module _ {S : Type 0} (limit : Option ℕ) (takes refuses : S → Event → S �
     whole : telling (osc_events limit (take n rest)) (osc_left (get_or rest n 0) c) ≡ inside limit (InOsc o (ps ++ run.0)) (get_or rest n 0) c
     whole = ap (λ t. telling (osc_events limit t) (osc_left (get_or rest n 0) c)) lent_text ∙ ends_by limit o (ps ++ run.0) (get_or rest n 0) c ends
 
+    lent_fresh : StaysFresh (InOsc o ps) rest (n + 1)
+    lent_fresh =
+        fresh_by (InOsc o ps) (osc_left (get_or rest n 0) c).0 rest (n + 1)
+        (quiet_after limit takes refuses (InOsc o ps) (InOsc o (ps ++ run.0)) rest n c old new (run.2 limit o ps) room e
+        ∙ ap (λ m. m.0) (sym (ends_by None o (ps ++ run.0) (get_or rest n 0) c ends)))
+        (left_fresh (get_or rest n 0) c (drop (n + 1) rest))
+
+    -- more than 16 parts are not lent
+    lent_grows : not (has_few_parts (take n rest)) ≡ true → may_grow_within (InOsc o ps) rest ≡ true
+    lent_grows many =
+        grows_by (InOsc o ps) rest (reaches_first (InOsc o ps) rest (omega arith) refl)
+        (no_if (is_lendable (InOsc o ps) rest) (λ l.
+        let p = lends_at (InOsc o ps) (InOsc o (ps ++ run.0)) rest n (run.2 limit o ps).0 room (and_parts (is_empty (text_of ps)) (lends (InOsc o ps) rest) l).1 in
+        not_so (has_few_parts (take n rest)) many
+        (ap has_few_parts lent_text ∙ few_of (ps ++ run.0) c ends (subst (λ k. passes_osc (ps ++ run.0) k ≡ true) (sym e) p))))
+
     pub lent_took : {A : Type 0} (machine : Machine A)
         → Holds limit machine (telling (osc_events limit (take n rest)) (osc_left (get_or rest n 0) c)).0
         × FoldsTo takes old (telling (osc_events limit (take n rest)) (osc_left (get_or rest n 0) c)).1 new
         → Holds limit machine (after_all (InOsc o ps) (take (n + 1) rest)) × FoldsTo takes old (news_all limit (InOsc o ps) (take (n + 1) rest)) new
+        × StaysFresh (InOsc o ps) rest (n + 1)
     lent_took machine h =
-        quiet_took limit takes refuses (InOsc o ps) (InOsc o (ps ++ run.0)) rest n c old new (run.2 limit o ps) room e machine
+        quiet_took limit takes refuses (InOsc o ps) (InOsc o (ps ++ run.0)) rest n c old new (run.2 limit o ps) room e machine lent_fresh
         (subst (λ m. Holds limit machine m.0 × FoldsTo takes old m.1 new) whole h)
 
-    pub lent_stops : StopsAt (true ≡ true) takes refuses old (telling (osc_events limit (take n rest)) (osc_left (get_or rest n 0) c)).1 new
+    pub lent_stops : StopsAt (not (has_few_parts (take n rest)) ≡ true) takes refuses old (telling (osc_events limit (take n rest)) (osc_left (get_or rest n 0) c)).1 new
         → StopsAt (may_grow_within (InOsc o ps) rest ≡ true) takes refuses old (news_all limit (InOsc o ps) rest) new
     lent_stops h =
-        quiet_stops limit takes refuses (InOsc o ps) (InOsc o (ps ++ run.0)) rest n c old new (run.2 limit o ps) room e
-        (subst (λ m. StopsAt (true ≡ true) takes refuses old m.1 new) whole h)
+        quiet_stops_for limit takes refuses (InOsc o ps) (InOsc o (ps ++ run.0)) rest n c old new (run.2 limit o ps) room e
+        (not (has_few_parts (take n rest)) ≡ true) lent_grows
+        (subst (λ m. StopsAt (not (has_few_parts (take n rest)) ≡ true) takes refuses old m.1 new) whole h)
 
   module _ (next : n + 1 < length rest) (lead : get_or rest n 0 ≡ 0xc2) (control : is_from 0x80 0x9f (get_or rest (n + 1) 0) ≡ true) where
     -- C2 is kept until the byte after it
@@ -121,21 +161,40 @@ module _ {S : Type 0} (limit : Option ℕ) (takes refuses : S → Event → S �
     two : n + 1 + 1 ≡ n + 2
     two = omega arith
 
+    pair_left : StaysFresh (InOsc o ps) rest (n + 1 + 1)
+    pair_left =
+        fresh_by (InOsc o ps) (pair_move (get_or rest (n + 1) 0) (class_of (get_or rest (n + 1) 0))).0 rest (n + 1 + 1)
+        (quiet_after limit takes refuses (InOsc o ps) (InOscPending o (ps ++ run.0) (0xc2 ∷ [])) rest (n + 1) _ old new lead_run next refl
+        ∙ ap (λ m. m.0) (sym (pair_ends None o (ps ++ run.0) (get_or rest (n + 1) 0) (class_of (get_or rest (n + 1) 0)) control)))
+        (pair_fresh (get_or rest (n + 1) 0) (class_of (get_or rest (n + 1) 0)) (drop (n + 1 + 1) rest))
+
+    pair_grows : not (has_few_parts (take n rest)) ≡ true → may_grow_within (InOsc o ps) rest ≡ true
+    pair_grows many =
+        grows_by (InOsc o ps) rest (reaches_first (InOsc o ps) rest (omega arith) refl)
+        (no_if (is_lendable (InOsc o ps) rest) (λ l.
+        let p = lends_at (InOsc o ps) (InOscPending o (ps ++ run.0) (0xc2 ∷ [])) rest (n + 1) lead_run.0 next
+        (and_parts (is_empty (text_of ps)) (lends (InOsc o ps) rest) l).1 in
+        not_so (has_few_parts (take n rest)) many
+        (ap has_few_parts lent_text ∙ few_by_pair (ps ++ run.0) (get_or rest (n + 1) 0) control p)))
+
     pub pair_took : {A : Type 0} (machine : Machine A)
         → Holds limit machine (telling (osc_events limit (take n rest)) (pair_move (get_or rest (n + 1) 0) (class_of (get_or rest (n + 1) 0)))).0
         × FoldsTo takes old (telling (osc_events limit (take n rest)) (pair_move (get_or rest (n + 1) 0) (class_of (get_or rest (n + 1) 0)))).1 new
         → Holds limit machine (after_all (InOsc o ps) (take (n + 2) rest)) × FoldsTo takes old (news_all limit (InOsc o ps) (take (n + 2) rest)) new
+        × StaysFresh (InOsc o ps) rest (n + 2)
     pair_took machine h =
-        subst (λ k. Holds limit machine (after_all (InOsc o ps) (take k rest)) × FoldsTo takes old (news_all limit (InOsc o ps) (take k rest)) new) two
-        (quiet_took limit takes refuses (InOsc o ps) (InOscPending o (ps ++ run.0) (0xc2 ∷ [])) rest (n + 1) _ old new lead_run next refl machine
+        subst (λ k. Holds limit machine (after_all (InOsc o ps) (take k rest)) × FoldsTo takes old (news_all limit (InOsc o ps) (take k rest)) new
+        × StaysFresh (InOsc o ps) rest k) two
+        (quiet_took limit takes refuses (InOsc o ps) (InOscPending o (ps ++ run.0) (0xc2 ∷ [])) rest (n + 1) _ old new lead_run next refl machine pair_left
         (subst (λ m. Holds limit machine m.0 × FoldsTo takes old m.1 new) pair_whole_move h))
 
-    pub pair_stops : StopsAt (true ≡ true) takes refuses old
+    pub pair_stops : StopsAt (not (has_few_parts (take n rest)) ≡ true) takes refuses old
         (telling (osc_events limit (take n rest)) (pair_move (get_or rest (n + 1) 0) (class_of (get_or rest (n + 1) 0)))).1 new
         → StopsAt (may_grow_within (InOsc o ps) rest ≡ true) takes refuses old (news_all limit (InOsc o ps) rest) new
     pair_stops h =
-        quiet_stops limit takes refuses (InOsc o ps) (InOscPending o (ps ++ run.0) (0xc2 ∷ [])) rest (n + 1) _ old new lead_run next refl
-        (subst (λ m. StopsAt (true ≡ true) takes refuses old m.1 new) pair_whole_move h)
+        quiet_stops_for limit takes refuses (InOsc o ps) (InOscPending o (ps ++ run.0) (0xc2 ∷ [])) rest (n + 1) _ old new lead_run next refl
+        (not (has_few_parts (take n rest)) ≡ true) pair_grows
+        (subst (λ m. StopsAt (not (has_few_parts (take n rest)) ≡ true) takes refuses old m.1 new) pair_whole_move h)
 
 -- and tells nothing until then
 pub pair_still : (limit : Option ℕ) (o : Opener) (ps : List Piece) (rest : List ℕ) (n : ℕ) → IsTextRun (take n rest) → n + 1 < length rest
@@ -157,16 +216,25 @@ module _ {S : Type 0} (limit : Option ℕ) (takes refuses : S → Event → S �
       ap (λ t. telling (apc_events limit t) (ground_move (get_or rest n 0) c)) (ap (λ t. t ++ take n rest) (sym none) ∙ sym (apc_kept d (take n rest) passes))
       ∙ rw (ends, inside) refl
 
+  lent_apc_fresh : StaysFresh (InApc o d) rest (n + 1)
+  lent_apc_fresh =
+      fresh_by (InApc o d) (ground_move (get_or rest n 0) c).0 rest (n + 1)
+      (quiet_after limit takes refuses (InApc o d) (InApc o (d ++ take n rest)) rest n c old new (apc_text limit o d (take n rest) passes) room e
+      ∙ rw (ends, after_by, move, inside) refl)
+      (begun_fresh (get_or rest n 0) c (drop (n + 1) rest))
+
   pub lent_apc_took : {A : Type 0} (machine : Machine A)
       → Holds limit machine (telling (apc_events limit (take n rest)) (ground_move (get_or rest n 0) c)).0
       × FoldsTo takes old (telling (apc_events limit (take n rest)) (ground_move (get_or rest n 0) c)).1 new
       → Holds limit machine (after_all (InApc o d) (take (n + 1) rest)) × FoldsTo takes old (news_all limit (InApc o d) (take (n + 1) rest)) new
+      × StaysFresh (InApc o d) rest (n + 1)
   lent_apc_took machine h =
-      quiet_took limit takes refuses (InApc o d) (InApc o (d ++ take n rest)) rest n c old new (apc_text limit o d (take n rest) passes) room e machine
+      quiet_took limit takes refuses (InApc o d) (InApc o (d ++ take n rest)) rest n c old new (apc_text limit o d (take n rest) passes) room e machine lent_apc_fresh
       (subst (λ m. Holds limit machine m.0 × FoldsTo takes old m.1 new) apc_whole h)
 
-  pub lent_apc_stops : StopsAt (true ≡ true) takes refuses old (telling (apc_events limit (take n rest)) (ground_move (get_or rest n 0) c)).1 new
+  pub lent_apc_stops : StopsAt (false ≡ true) takes refuses old (telling (apc_events limit (take n rest)) (ground_move (get_or rest n 0) c)).1 new
       → StopsAt (may_grow_within (InApc o d) rest ≡ true) takes refuses old (news_all limit (InApc o d) rest) new
   lent_apc_stops h =
-      quiet_stops limit takes refuses (InApc o d) (InApc o (d ++ take n rest)) rest n c old new (apc_text limit o d (take n rest) passes) room e
-      (subst (λ m. StopsAt (true ≡ true) takes refuses old m.1 new) apc_whole h)
+      quiet_stops_for limit takes refuses (InApc o d) (InApc o (d ++ take n rest)) rest n c old new (apc_text limit o d (take n rest) passes) room e
+      (false ≡ true) (λ no. absurd cc)
+      (subst (λ m. StopsAt (false ≡ true) takes refuses old m.1 new) apc_whole h)

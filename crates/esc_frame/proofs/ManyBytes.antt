@@ -1,11 +1,11 @@
 -- Many bytes at once.
-use Rattle.std.proofs.Common.{ℕ, suc, ◌≡◌, ◌≢◌, ◌+◌, ◌<◌, ◌≤◌, Bool, true, false, cond, ◌&&◌, ◌||◌, List, [], ◌∷◌, ◌++◌, map, length, take, drop, get_or}
+use Rattle.std.proofs.Common.{ℕ, suc, ◌≡◌, ◌≢◌, ◌+◌, ◌<◌, ◌≤◌, Bool, true, false, cond, ◌&&◌, List, [], ◌∷◌, ◌++◌, map, length, take, drop, get_or}
 use Rattle.std.proofs.Common.{refl, Option, None, Result, Ok, Err}
 use Rattle.std.proofs.Common.{ap, sym, ◌∙◌, subst, take-append-drop, length-drop, length-take, append_assoc, ◌-◌, arith}
 use Rattle.std.specs.List.{FoldsTo, prefix_len, list_all}
 use Rattle.std.proofs.Math.Seq.{take-add}
 use Rattle.std.proofs.lemmas.List.{append-nil, take_all}
-use Rattle.std.proofs.lemmas.Bool.{and_parts, or_left, or_right}
+use Rattle.std.proofs.lemmas.Bool.{and_parts}
 use Rattle.std.proofs.lemmas.Bool.Decides.{nat_tests}
 use Rattle.esc_frame.specs.declared.classes.Class.TheVariants.{Lead}
 use Rattle.esc_frame.specs.Classes.{class_of, is_control, is_text}
@@ -19,35 +19,15 @@ use Rattle.esc_frame.specs.Leads.Unfinished.{Ground, InOsc}
 use Rattle.esc_frame.specs.Segments.{Opener, Piece}
 use Rattle.esc_frame.specs.Segments.Piece.{Sequence}
 use Rattle.esc_frame.specs.Machine.Moves.{move, ground_move, pending_move, osc_pending_move, inside, goes_on, after_by, news_by, after_all, news_all}
-use Rattle.esc_frame.specs.Machine.Moves.{may_grow_in, may_grow_within}
-use Rattle.esc_frame.specs.Machine.Calls.{Ran, Stays, TellsOne}
+use Rattle.esc_frame.specs.Machine.Moves.{may_grow_within}
+use Rattle.esc_frame.specs.Machine.Calls.{Ran, Stays, StaysFresh, TellsOne}
 use Rattle.esc_frame.specs.Machine.Characters.{IsCharacter}
 use Rattle.esc_frame.proofs.Given.{folds_then, stops_then, stops_more, stops_for, refused_stops}
+use Rattle.esc_frame.proofs.Lends.{after_more, fresh_more, grows_behind}
 use Rattle.esc_frame.proofs.SameMoves.{after_same}
-use Rattle.esc_frame.proofs.Streams.{after_append, news_append}
+use Rattle.esc_frame.proofs.Streams.{news_append}
 
 -- ---- one run after another
-
-or_assoc : (r s t : Bool) → (r || (s || t)) ≡ ((r || s) || t)
-or_assoc true s t = refl
-or_assoc false s t = refl
-
-pub grows_append : (u : Unfinished) (xs ys : List ℕ) → may_grow_within u (xs ++ ys) ≡ (may_grow_within u xs || may_grow_within (after_all u xs) ys)
-grows_append u [] ys = refl
-grows_append u (x ∷ xs) ys =
-    let v : Unfinished = after_by u x (class_of x) in
-    ap (λ t. may_grow_in u || t) (grows_append v xs ys) ∙ or_assoc (may_grow_in u) (may_grow_within v xs) (may_grow_within (after_all v xs) ys)
-
--- the bytes after a prefix may make the machine's memory grow, so the bytes may
-pub grows_behind : (u : Unfinished) (rest : List ℕ) (n : ℕ) → may_grow_within (after_all u (take n rest)) (drop n rest) ≡ true → may_grow_within u rest ≡ true
-grows_behind u rest n h =
-    ap (may_grow_within u) (sym (take-append-drop n rest)) ∙ grows_append u (take n rest) (drop n rest)
-    ∙ or_right (may_grow_within u (take n rest)) (may_grow_within (after_all u (take n rest)) (drop n rest)) h
-
--- so may the first byte
-pub grows_first : (u : Unfinished) (rest : List ℕ) → 0 < length rest → may_grow_in u ≡ true → may_grow_within u rest ≡ true
-grows_first u [] l h = absurd (omega arith)
-grows_first u (b ∷ bs) l h = or_left (may_grow_in u) (may_grow_within (after_by u b (class_of b)) bs) h
 
 module _ {S : Type 0} (limit : Option ℕ) (takes refuses : S → Event → S → Type 0) (u : Unfinished) (rest : List ℕ) (i : ℕ) (old mid new : S)
     (so : FoldsTo takes old (news_all limit u (take i rest)) mid) where
@@ -65,9 +45,6 @@ module _ {S : Type 0} (limit : Option ℕ) (takes refuses : S → Event → S �
       subst (λ es. StopsAt own takes refuses old es new) (sym (news_append limit u (take i rest) (drop i rest))
       ∙ ap (news_all limit u) (take-append-drop i rest))
       (stops_then own takes refuses (news_all limit u (take i rest)) _ old mid new so h)
-
-pub after_more : (u : Unfinished) (rest : List ℕ) (i n : ℕ) → after_all u (take (i + n) rest) ≡ after_all (after_all u (take i rest)) (take n (drop i rest))
-after_more u rest i n = ap (after_all u) (take-add i n rest) ∙ after_append u (take i rest) (take n (drop i rest))
 
 -- a slice to the end
 pub tail_is : (rest : List ℕ) (i : ℕ) → take (length rest - i) (drop i rest) ≡ drop i rest
@@ -90,12 +67,16 @@ module _ {S : Type 0} (limit : Option ℕ) (takes refuses : S → Event → S �
             (subst (λ y. FoldsTo takes mid (news_all limit v y) new) e g)),
       )
 
-  pub ran_took : {A : Type 0} (machine : Machine A) (n : ℕ)
+  pub ran_took : {A : Type 0} (machine : Machine A) (n : ℕ) → StaysFresh u rest i
       → Holds limit machine (after_all v (take n (take (length rest - i) (drop i rest)))) × FoldsTo takes mid
-      (news_all limit v (take n (take (length rest - i) (drop i rest)))) new
-      → Holds limit machine (after_all u (take (i + n) rest)) × FoldsTo takes old (news_all limit u (take (i + n) rest)) new
-  ran_took machine n (h, f) =
-      let r = ran_more (after_all v (take n (take (length rest - i) (drop i rest)))) n (refl, f) in (subst (λ w. Holds limit machine w) (sym r.0) h, r.1)
+      (news_all limit v (take n (take (length rest - i) (drop i rest)))) new × StaysFresh v (take (length rest - i) (drop i rest)) n
+      → Holds limit machine (after_all u (take (i + n) rest)) × FoldsTo takes old (news_all limit u (take (i + n) rest)) new × StaysFresh u rest (i + n)
+  ran_took machine n fresh (h, f, g) =
+      let r = ran_more (after_all v (take n (take (length rest - i) (drop i rest)))) n (refl, f) in (
+        subst (λ w. Holds limit machine w) (sym r.0) h,
+        r.1,
+        fresh_more u rest i n fresh (subst (λ w. StaysFresh w (drop i rest) n) (sym here) (subst (λ y. StaysFresh v y n) (tail_is rest i) g)),
+      )
 
   -- or stopped within it, by a refused call
   pub ran_stop : (own : Type 0) → StopsAt own takes refuses mid (news_all limit v (take (length rest - i) (drop i rest))) new
@@ -105,13 +86,13 @@ module _ {S : Type 0} (limit : Option ℕ) (takes refuses : S → Event → S �
       (subst (λ y. StopsAt own takes refuses mid (news_all limit v y) new) (tail_is rest i) h))
 
   -- or by itself
-  pub ran_ends : StopsAt (may_grow_within v (take (length rest - i) (drop i rest)) ≡ true) takes refuses mid
+  pub ran_ends : StaysFresh u rest i → StopsAt (may_grow_within v (take (length rest - i) (drop i rest)) ≡ true) takes refuses mid
       (news_all limit v (take (length rest - i) (drop i rest))) new
       → StopsAt (may_grow_within u rest ≡ true) takes refuses old (news_all limit u rest) new
-  ran_ends h =
+  ran_ends fresh h =
       ran_stop (may_grow_within u rest ≡ true)
       (stops_for (may_grow_within v (take (length rest - i) (drop i rest)) ≡ true) (may_grow_within u rest ≡ true) takes refuses _ mid new
-      (λ g. grows_behind u rest i (ap (λ x. may_grow_within x (drop i rest)) here ∙ ap (may_grow_within v) (sym (tail_is rest i)) ∙ g)) h)
+      (λ g. grows_behind u rest i fresh (ap (λ x. may_grow_within x (drop i rest)) here ∙ ap (may_grow_within v) (sym (tail_is rest i)) ∙ g)) h)
 
 -- in ground: n bytes of a slice to the end
 module _ {S : Type 0} (takes refuses : S → Event → S → Type 0) (is_ready : S → Type 0) (rest : List ℕ) (i : ℕ) where

@@ -15,7 +15,7 @@ use Rattle.esc_frame.specs.Segments.Opener.{Long, Raw, Pair}
 use Rattle.esc_frame.specs.Memory.{may_grow, MayGrow}
 use Rattle.esc_frame.specs.Leads.{Unfinished, Stands, AreFinished}
 use Rattle.esc_frame.specs.Leads.Unfinished.{Ground, Pending, InEscape}
-use Rattle.esc_frame.specs.Machine.Moves.{after_by, after_all, may_grow_in, may_grow_within}
+use Rattle.esc_frame.specs.Machine.Moves.{after_by, after_all, may_grow_in, reaches_growing}
 use Rattle.esc_frame.specs.Stream.{events}
 use Rattle.esc_frame.proofs.Grows.{finished_before}
 use Rattle.esc_frame.proofs.Cuts.{has_cut, last_of, cut_last, stands}
@@ -152,14 +152,14 @@ open_grows s es gs (InEscape x) st h = absurd cc
 open_grows s es gs u st h = (gs ++ last_of u ∷ [], cut_last s es gs u refl st, last_grows gs (last_of u) refl)
 
 -- where one of these bytes after s may make it grow, s and they are such a stream
-pub grows_added : (s b : List ℕ) → may_grow_within (after_all Ground s) b ≡ true → MayGrow (s ++ b)
+pub grows_added : (s b : List ℕ) → reaches_growing (after_all Ground s) b ≡ true → MayGrow (s ++ b)
 grows_added s [] h = absurd cc
 grows_added s (c ∷ b) h =
     let u = after_all Ground s in
-    elim (or_cases (may_grow_in u) (may_grow_within (after_by u c (class_of c)) b) h) [
+    elim (or_cases (may_grow_in u) (reaches_growing (after_by u c (class_of c)) b) h) [
       | inl e ↦ let w = stands None s in more_grows s (c ∷ b) (open_grows s (events s) w.0 u w.1 e)
-      | inr e ↦ subst MayGrow (append_assoc s (c ∷ []) b) (grows_added (s ++ c ∷ []) b (ap (λ v. may_grow_within v b) (after_append Ground s (c ∷ [])) ∙ e))
+      | inr e ↦ subst MayGrow (append_assoc s (c ∷ []) b) (grows_added (s ++ c ∷ []) b (ap (λ v. reaches_growing v b) (after_append Ground s (c ∷ [])) ∙ e))
     ]
 
-pub grows : (s : List ℕ) → may_grow_within Ground s ≡ true → MayGrow s
+pub grows : (s : List ℕ) → reaches_growing Ground s ≡ true → MayGrow s
 grows s h = grows_added [] s h

@@ -1,5 +1,5 @@
 -- Runs that tell nothing, and the byte after them.
-use Rattle.std.proofs.Common.{ℕ, ◌≡◌, ◌+◌, ◌<◌, true, List, [], ◌∷◌, ◌++◌, length, take, drop, get_or, refl, Option}
+use Rattle.std.proofs.Common.{ℕ, ◌≡◌, ◌+◌, ◌<◌, true, false, List, [], ◌∷◌, ◌++◌, length, take, drop, get_or, refl, Option}
 use Rattle.std.proofs.Common.{ap, sym, ◌∙◌, subst, length-drop, arith}
 use Rattle.std.specs.List.{FoldsTo}
 use Rattle.std.proofs.lemmas.List.{append-nil, take_more}
@@ -8,11 +8,14 @@ use Rattle.esc_frame.specs.Classes.{class_of}
 use Rattle.esc_frame.specs.Events.{Event, StopsAt}
 use Rattle.esc_frame.specs.declared.machine.Machine.{Machine}
 use Rattle.esc_frame.specs.Leads.{Unfinished, Holds}
-use Rattle.esc_frame.specs.Machine.Moves.{move, after_by, news_by, after_all, news_all, may_grow_in, may_grow_within}
+use Rattle.esc_frame.specs.Machine.Calls.{StaysFresh}
+use Rattle.esc_frame.specs.Machine.Moves.{move, after_by, news_by, after_all, news_all, may_grow_in, reaches_growing}
+use Rattle.esc_frame.specs.Machine.Moves.{is_lendable, may_grow_within}
 use Rattle.esc_frame.proofs.Given.{stops_for, stops_here}
 use Rattle.esc_frame.proofs.SameMoves.{after_same}
 use Rattle.esc_frame.proofs.Streams.{after_append, news_append}
-use Rattle.esc_frame.proofs.ManyBytes.{grows_behind, grows_first, stop_within}
+use Rattle.esc_frame.proofs.Lends.{grows_by, reaches_behind, reaches_first}
+use Rattle.esc_frame.proofs.ManyBytes.{stop_within}
 
 -- no events leave the actor as it was
 pub quiet_folds : {S : Type 0} (takes : S → Event → S → Type 0) (es : List Event) (old : S) → es ≡ [] → FoldsTo takes old es old
@@ -34,32 +37,38 @@ module _ {S : Type 0} (limit : Option ℕ) (takes refuses : S → Event → S �
       ∙ ap (λ es. es ++ news_all limit (after_all u (take n rest)) (get_or rest n 0 ∷ [])) run.1 ∙ ap (λ w. news_all limit w (get_or rest n 0 ∷ [])) run.0
       ∙ append-nil (news_by limit v (get_or rest n 0) (class_of (get_or rest n 0))) ∙ ap (news_by limit v (get_or rest n 0)) (sym e)
 
-  quiet_grows : may_grow_in v ≡ true → may_grow_within u rest ≡ true
-  quiet_grows h =
+  quiet_grows : is_lendable u rest ≡ false → may_grow_in v ≡ true → may_grow_within u rest ≡ true
+  quiet_grows k h =
       let some : 0 < length (drop n rest) = omega (arith, length-drop n rest) in
-      grows_behind u rest n (ap (λ x. may_grow_within x (drop n rest)) run.0 ∙ grows_first v (drop n rest) some h)
+      grows_by u rest (reaches_behind u rest n (ap (λ x. reaches_growing x (drop n rest)) run.0 ∙ reaches_first v (drop n rest) some h)) k
 
   pub quiet_given : FoldsTo takes old (news_by limit v (get_or rest n 0) c) new → FoldsTo takes old (news_all limit u (take (n + 1) rest)) new
   quiet_given h = subst (λ es. FoldsTo takes old es new) (sym quiet_news) h
 
-  pub quiet_took : {A : Type 0} (machine : Machine A)
+  pub quiet_took : {A : Type 0} (machine : Machine A) → StaysFresh u rest (n + 1)
       → Holds limit machine (move limit v (get_or rest n 0) c).0 × FoldsTo takes old (move limit v (get_or rest n 0) c).1 new
-      → Holds limit machine (after_all u (take (n + 1) rest)) × FoldsTo takes old (news_all limit u (take (n + 1) rest)) new
-  quiet_took machine h = (
+      → Holds limit machine (after_all u (take (n + 1) rest)) × FoldsTo takes old (news_all limit u (take (n + 1) rest)) new × StaysFresh u rest (n + 1)
+  quiet_took machine fresh h = (
     subst (λ w. Holds limit machine w) (after_same limit v (get_or rest n 0) c ∙ sym quiet_after) h.0,
     quiet_given h.1,
+    fresh,
   )
 
-  pub quiet_stops : StopsAt (may_grow_in v ≡ true) takes refuses old (news_by limit v (get_or rest n 0) c) new
+  -- stopped, for a reason for which the memory may grow
+  pub quiet_stops_for : (own : Type 0) → (own → may_grow_within u rest ≡ true) → StopsAt own takes refuses old (news_by limit v (get_or rest n 0) c) new
       → StopsAt (may_grow_within u rest ≡ true) takes refuses old (news_all limit u rest) new
-  quiet_stops h =
+  quiet_stops_for own w h =
       stop_within limit (may_grow_within u rest ≡ true) takes refuses u rest (n + 1) old new
       (subst (λ es. StopsAt (may_grow_within u rest ≡ true) takes refuses old es new) (sym quiet_news)
-      (stops_for (may_grow_in v ≡ true) (may_grow_within u rest ≡ true) takes refuses _ old new quiet_grows h))
+      (stops_for own (may_grow_within u rest ≡ true) takes refuses _ old new w h))
+
+  pub quiet_stops : (may_grow_in v ≡ true → is_lendable u rest ≡ false) → StopsAt (may_grow_in v ≡ true) takes refuses old (news_by limit v (get_or rest n 0) c) new
+      → StopsAt (may_grow_within u rest ≡ true) takes refuses old (news_all limit u rest) new
+  quiet_stops k h = quiet_stops_for (may_grow_in v ≡ true) (λ g. quiet_grows (k g) g) h
 
 -- the machine stopped by itself, where it may
 pub own_stops : {S : Type 0} (limit : Option ℕ) (takes refuses : S → Event → S → Type 0) (u : Unfinished) (rest : List ℕ) (old : S) → 0 < length rest
-    → may_grow_in u ≡ true
+    → may_grow_in u ≡ true → is_lendable u rest ≡ false
     → StopsAt (may_grow_within u rest ≡ true) takes refuses old (news_all limit u rest) old
-own_stops limit takes refuses u rest old some h = stops_here (may_grow_within u rest ≡ true) takes refuses (news_all limit u rest) old
-    (grows_first u rest some h)
+own_stops limit takes refuses u rest old some h k =
+    stops_here (may_grow_within u rest ≡ true) takes refuses (news_all limit u rest) old (grows_by u rest (reaches_first u rest some h) k)

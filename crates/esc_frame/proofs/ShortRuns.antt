@@ -16,8 +16,9 @@ use Rattle.esc_frame.specs.Segments.{csi_events}
 use Rattle.esc_frame.specs.Segments.Opener.{Long}
 use Rattle.esc_frame.specs.Machine.Shorts.{IsShort}
 use Rattle.esc_frame.proofs.CsiRuns.{csi_opens, body_quiet, body_strip, final_by}
-use Rattle.esc_frame.proofs.ManyBytes.{after_more, tail_is}
-use Rattle.esc_frame.proofs.QuietRuns.{quiet_after, quiet_given, quiet_stops}
+use Rattle.esc_frame.proofs.Lends.{after_more}
+use Rattle.esc_frame.proofs.ManyBytes.{tail_is}
+use Rattle.esc_frame.proofs.QuietRuns.{quiet_after, quiet_given, quiet_stops_for}
 use Rattle.esc_frame.proofs.Given.{refused_stops}
 use Rattle.esc_frame.proofs.Streams.{news_append}
 use Rattle.esc_frame.proofs.Still.{opened_still, body_still}
@@ -71,8 +72,8 @@ module _ (limit : Option ℕ) (rest : List ℕ) (run : ℕ) (items : List CsiPar
   pub short_stops : {S : Type 0} (takes refuses : S → Event → S → Type 0) (old new : S) → refuses old (CsiDispatch items false (get_or rest (run + 2) 0)) new
       → StopsAt (may_grow_within Ground rest ≡ true) takes refuses old (news_all limit Ground rest) new
   short_stops takes refuses old new h =
-      quiet_stops limit takes refuses Ground (InCsi (Long []) body) rest (run + 2) _ old new short_run room refl
-      (subst (λ es. StopsAt (true ≡ true) takes refuses old es new) (sym short_event) (refused_stops (true ≡ true) takes refuses old new _ h))
+      quiet_stops_for limit takes refuses Ground (InCsi (Long []) body) rest (run + 2) _ old new short_run room refl ⊥ (λ no. absurd no)
+      (subst (λ es. StopsAt ⊥ takes refuses old es new) (sym short_event) (refused_stops ⊥ takes refuses old new _ h))
 
   pub short_still : IsStill limit Ground rest (run + 3)
   short_still =

@@ -1,5 +1,5 @@
 -- What is unfinished, by the machine's state.
-use Rattle.std.proofs.Common.{ℕ, ◌≡◌, Bool, true, false, if◌then◌else◌, List, [], refl, ap, sym, ◌∙◌, Option}
+use Rattle.std.proofs.Common.{ℕ, ◌≡◌, Bool, true, false, not, ◌&&◌, if◌then◌else◌, List, [], refl, ap, sym, ◌∙◌, Option}
 use Rattle.esc_frame.specs.declared.classes.Kind.{Kind}
 use Rattle.esc_frame.specs.declared.machine.Machine.{Machine}
 use Rattle.esc_frame.specs.declared.machine.State.{State}
@@ -9,7 +9,10 @@ use Rattle.esc_frame.specs.Classes.{strip}
 use Rattle.esc_frame.specs.Leads.{Unfinished, Holds}
 use Rattle.esc_frame.specs.Leads.Unfinished.{Ground, Pending, InEscape, InCsi, InDcs, InData, InApc, InIgnored, InOsc, InOscPending}
 use Rattle.esc_frame.specs.Machine.Fronts.{front_of}
+use Rattle.esc_frame.specs.Machine.Calls.{StaysFresh, is_between}
+use Rattle.esc_frame.specs.Machine.Moves.{is_fresh, lends}
 use Rattle.esc_frame.specs.Segments.{Opener, Piece, is_empty}
+use Rattle.esc_frame.proofs.Lends.{is_string, unlent_fresh}
 
 abbrev state_of : Option ℕ → Unfinished → State
 state_of limit Ground = state.Ground
@@ -109,3 +112,24 @@ module _ {A : Type 0} (limit : Option ℕ) (m : Machine A) where
       → ((o : Opener) (x : List ℕ) (f : ℕ) (d : List ℕ) → is_read limit (strip x) ≡ false → Q (InData o x f d))
       → ((k : Kind) (o : Opener) (d : List ℕ) → Q (InIgnored k o d)) → Q u
   skip_only u s h = skip_in u (sym s ∙ held limit m u h)
+
+  -- what is unfinished where a byte is taken by itself
+  pub no_string : (u : Unfinished) → Holds limit m u → is_between m.state (front_of m.pending) ≡ true → is_string u ≡ false
+  no_string (InOsc o ps) h k =
+      let e : is_between m.state (front_of m.pending) ≡ false = ap (λ s. is_between s (front_of m.pending)) h.0 ∙ ap (λ f. not (is_empty f)) h.2 in
+      let n : true ≡ false = sym k ∙ e in cc
+  no_string (InApc o d) h k = let n : true ≡ false = sym k ∙ ap (λ s. is_between s (front_of m.pending)) h.0 in cc
+  no_string _ h k = refl
+
+  -- nothing is fresh in what is passed over, nor in the data of a device control string
+  skip_unlent : (u : Unfinished) → m.state ≡ state.Skip → Holds limit m u → is_fresh u ≡ false
+  skip_unlent u s h = skip_only u s h (λ v. is_fresh v ≡ false) (λ o x f d e. refl) (λ k o d. refl)
+
+  data_unlent : (u : Unfinished) → m.state ≡ state.Data → Holds limit m u → is_fresh u ≡ false
+  data_unlent u s h = data_only u s h (λ v. is_fresh v ≡ false) (λ o x f d e. refl)
+
+  pub skip_fresh : (u : Unfinished) (rest : List ℕ) (n : ℕ) → m.state ≡ state.Skip → Holds limit m u → StaysFresh u rest n
+  skip_fresh u rest n s h = unlent_fresh u rest n (ap (λ t. t && lends u rest) (skip_unlent u s h))
+
+  pub data_fresh : (u : Unfinished) (rest : List ℕ) (n : ℕ) → m.state ≡ state.Data → Holds limit m u → StaysFresh u rest n
+  data_fresh u rest n s h = unlent_fresh u rest n (ap (λ t. t && lends u rest) (data_unlent u s h))

@@ -13,13 +13,13 @@ use Rattle.esc_frame.specs.declared.machine.State.TheVariants as state
 use Rattle.esc_frame.specs.declared.sequence.Outcome.{Outcome}
 use Rattle.esc_frame.specs.declared.sequence.Outcome.TheVariants as outcomes
 use Rattle.esc_frame.specs.Classes.{class_of, is_breaker, in_osc}
-use Rattle.esc_frame.specs.Machine.Calls.{TookSome}
+use Rattle.esc_frame.specs.Machine.Calls.{TookSome, StaysFresh}
 use Rattle.esc_frame.specs.Machine.Characters.{IsCharacter}
 use Rattle.esc_frame.specs.Events.{Event, StopsAt}
 use Rattle.esc_frame.specs.Leads.{Unfinished, Holds}
 use Rattle.esc_frame.specs.Leads.Unfinished.{Ground, InCsi, InApc, InOsc, InOscPending}
 use Rattle.esc_frame.specs.Machine.Moves.{move, after_by, news_by, pending_move, inside, goes_on, final_osc, osc_pending_move, after_all}
-use Rattle.esc_frame.specs.Machine.Moves.{news_all, is_ground, may_grow_within, IsStill}
+use Rattle.esc_frame.specs.Machine.Moves.{news_all, is_ground, is_fresh, lends, may_grow_within, IsStill}
 use Rattle.esc_frame.specs.Scans.{is_body_byte, is_text_byte}
 use Rattle.esc_frame.specs.Segments.{Opener, Piece}
 use Rattle.esc_frame.specs.Segments.Piece.{BrokenOff}
@@ -27,7 +27,8 @@ use Rattle.esc_frame.specs.Sequences.{is_sequence, is_pair, outcome}
 use Rattle.esc_frame.specs.Stream.{IsQuietWithin}
 use Rattle.esc_frame.proofs.AtGround.{to_ground}
 use Rattle.esc_frame.proofs.CsiRuns.{body_quiet, escape_class}
-use Rattle.esc_frame.proofs.ManyBytes.{after_more, tail_is, tail_length, ran_took, ran_ends, lead_class, two_parts, three_parts, four_parts}
+use Rattle.esc_frame.proofs.Lends.{after_more, fresh_by, not_both}
+use Rattle.esc_frame.proofs.ManyBytes.{tail_is, tail_length, ran_took, ran_ends, lead_class, two_parts, three_parts, four_parts}
 use Rattle.esc_frame.proofs.QuietRuns.{quiet_folds}
 use Rattle.esc_frame.proofs.StringRuns.{apc_text, skip_holds, prefix_passes}
 use Rattle.esc_frame.proofs.Streams.{after_append, news_append, added_is}
@@ -188,15 +189,20 @@ module _ (limit : Option ℕ) (u : Unfinished) (rest : List ℕ) (l : 2 < length
   pub opened_still : (n : ℕ) → IsStill limit u (take (length rest - 2) (drop 2 rest)) n → IsStill limit Ground rest (2 + n)
   opened_still n h = more_still limit Ground u rest 2 n begin.0 begin.1 (opens_at limit rest l e (begin.1, ap is_ground begin.0 ∙ o)) h
 
-  module _ {S : Type 0} (takes refuses : S → Event → S → Type 0) (is_ready : S → Type 0) (old new : S) where
+  module _ {S : Type 0} (takes refuses : S → Event → S → Type 0) (is_ready : S → Type 0) (old new : S)
+      (f : (r : List ℕ) → lends u r ≡ true → is_fresh u ≡ true) where
+    opened_first : StaysFresh Ground rest 2
+    opened_first = fresh_by Ground u rest 2 begin.0 (f (drop 2 rest))
+
     pub opened_took : {A : Type 0} (machine : Machine A) (n : ℕ)
         → Holds limit machine (after_all u (take n (take (length rest - 2) (drop 2 rest)))) × FoldsTo takes old
-        (news_all limit u (take n (take (length rest - 2) (drop 2 rest)))) new
+        (news_all limit u (take n (take (length rest - 2) (drop 2 rest)))) new × StaysFresh u (take (length rest - 2) (drop 2 rest)) n
         → IsStill limit u (take (length rest - 2) (drop 2 rest)) n → (0 < n) × (n ≤ length (take (length rest - 2) (drop 2 rest))) × is_ready new
         → TookSome {E = Unit {0}} limit takes refuses is_ready (Ok (2 + n)) rest machine old new
     opened_took machine n t q a =
         let k = tail_length rest 2 in (
-          ran_took limit takes refuses Ground u rest 2 old old new begin.0 (quiet_folds takes (news_all limit Ground (take 2 rest)) old begin.1) machine n t,
+          ran_took limit takes refuses Ground u rest 2 old old new begin.0 (quiet_folds takes (news_all limit Ground (take 2 rest)) old begin.1) machine n
+              opened_first t,
           opened_still n q,
           (omega (arith, a.0), omega (arith, a.1), a.2),
         )
@@ -204,7 +210,8 @@ module _ (limit : Option ℕ) (u : Unfinished) (rest : List ℕ) (l : 2 < length
     pub opened_stops : StopsAt (may_grow_within u (take (length rest - 2) (drop 2 rest)) ≡ true) takes refuses old
         (news_all limit u (take (length rest - 2) (drop 2 rest))) new
         → StopsAt (may_grow_within Ground rest ≡ true) takes refuses old (news_all limit Ground rest) new
-    opened_stops h = ran_ends limit takes refuses Ground u rest 2 old old new begin.0 (quiet_folds takes (news_all limit Ground (take 2 rest)) old begin.1) h
+    opened_stops h =
+        ran_ends limit takes refuses Ground u rest 2 old old new begin.0 (quiet_folds takes (news_all limit Ground (take 2 rest)) old begin.1) opened_first h
 
 -- ---- a whole sequence in ground
 
@@ -245,10 +252,6 @@ character_still limit rest n c l h = λ k a b.
     subst (Still limit Ground) (take-take k n rest (omega arith)) (sequence_still limit (take n rest) k h.0 a (omega arith))
 
 -- ---- of the stream
-
-not_both : (t : Bool) → t ≡ true → t ≡ false → ⊥
-not_both true h k = cc
-not_both false h k = cc
 
 pub quiet_all : (limit : Option ℕ) (s b : List ℕ) (n : ℕ) → IsStill limit (after_all Ground s) b n → IsQuietWithin limit s b n
 quiet_all limit s b n h = λ k l m.

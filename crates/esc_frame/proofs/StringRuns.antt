@@ -1,21 +1,20 @@
 -- Runs of text in the bodies of strings.
-use Rattle.std.proofs.Common.{ℕ, zero, suc, ◌≡◌, ◌+◌, ◌-◌, Bool, true, false, List, [], ◌∷◌, ◌++◌, length, take, drop, map, Option}
+use Rattle.std.proofs.Common.{ℕ, zero, suc, ◌≡◌, ◌+◌, ◌-◌, Bool, true, false, List, [], ◌∷◌, ◌++◌, length, take, drop, get_or, map, Option, ◌<◌, get_or-drop}
 use Rattle.std.proofs.Common.{refl, ap, sym, ◌∙◌, subst, append_assoc, arith}
 use Rattle.std.specs.List.{list_all, prefix_len}
 use Rattle.std.proofs.Math.Seq.{take-add}
 use Rattle.std.proofs.lemmas.List.{append-nil}
 use Rattle.std.proofs.lemmas.List.Concat.{flat_map-append}
 use Rattle.std.proofs.lemmas.List.Elements.{filter-append}
+use Rattle.std.proofs.lemmas.List.Sums.{prefix_len_stops}
 use Rattle.std.proofs.lemmas.Bool.{and_parts}
 use Rattle.std.proofs.lemmas.Bool.Decides.{nat_tests}
 use Rattle.esc_frame.specs.declared.classes.Kind.{Kind}
 use Rattle.esc_frame.specs.declared.machine.Machine.{Machine}
 use Rattle.esc_frame.specs.declared.machine.State.TheVariants as state
 use Rattle.esc_frame.specs.Limits.{is_read}
-use Rattle.esc_frame.specs.Machine.Keeps.{KeepsText}
 use Rattle.esc_frame.specs.Classes.{class_of, is_text, is_breaker, in_osc, is_put, those, strip}
 use Rattle.esc_frame.specs.Machine.Characters.{IsCharacter, IsAhead}
-use Rattle.esc_frame.specs.Events.{Event}
 use Rattle.esc_frame.specs.Events.Event.{DcsPut}
 use Rattle.esc_frame.specs.Scans.{is_text_byte, is_data_byte}
 use Rattle.esc_frame.specs.Segments.{Opener, Piece, text_of, kept_of}
@@ -25,7 +24,7 @@ use Rattle.esc_frame.specs.Leads.Unfinished.{InData, InApc, InIgnored, InOsc}
 use Rattle.esc_frame.specs.Machine.Moves.{inside, goes_on, after_by, news_by, after_all, news_all}
 use Rattle.esc_frame.specs.Machine.TextRuns.{IsTextRun}
 use Rattle.esc_frame.proofs.ManyBytes.{quiet_run, text_class, run_passes, osc_sequence, tail_is}
-use Rattle.esc_frame.proofs.States.{apc_only, data_only, skip_only}
+use Rattle.esc_frame.proofs.States.{data_only, skip_only}
 use Rattle.esc_frame.proofs.Streams.{after_append, news_append}
 
 -- ---- an operating system command
@@ -92,6 +91,19 @@ run_more rest i n f g =
     subst IsTextRun (ap (λ y. take i rest ++ take n y) (tail_is rest i) ∙ sym (take-add i n rest))
     (runs_append (take i rest) (take n (take (length rest - i) (drop i rest))) f g)
 
+-- where no byte of text is taken none comes first
+pub no_text_first : (bytes : List ℕ) (n : ℕ) → n ≡ prefix_len is_text_byte bytes → n ≡ 0 → 0 < length bytes → is_text_byte (get_or bytes 0 0) ≡ false
+no_text_first bytes n e z l =
+    let none : prefix_len is_text_byte bytes ≡ 0 = sym e ∙ z in
+    subst (λ k. is_text_byte (get_or bytes k 0) ≡ false) none
+    (prefix_len_stops is_text_byte bytes 0 (subst (λ k. k < length bytes) (sym none) l))
+
+-- the first byte of a slice to the end
+pub tail_first : (bytes : List ℕ) (i : ℕ) → is_text_byte (get_or (take (length bytes - i) (drop i bytes)) 0 0) ≡ false → is_text_byte (get_or bytes i 0) ≡ false
+tail_first bytes i h =
+    let at : i + 0 ≡ i = omega arith in
+    ap is_text_byte (sym (ap (λ y. get_or y 0 0) (tail_is bytes i) ∙ get_or-drop i bytes 0 0 ∙ ap (λ k. get_or bytes k 0) at)) ∙ h
+
 -- what is kept with the run
 pub run_text : {x : List ℕ} (ps : List Piece) (run : IsTextRun x) → text_of ps ++ x ≡ text_of (ps ++ run.0)
 run_text ps (qs, t, f) = ap (λ z. text_of ps ++ z) (sym t) ∙ sym (flat_map-append kept_of ps qs)
@@ -138,13 +150,6 @@ skip_ignored limit i o = quiet_run limit (InIgnored i o) is_text_byte (λ d b h.
 -- ---- what the machine holds after a run, by its state
 
 module _ {A : Type 0} (limit : Option ℕ) (m : Machine A) (ys : List ℕ) (p : list_all is_text_byte ys ≡ true) where
-  pub apc_run : (u : Unfinished) → m.state ≡ state.Apc → Holds limit m u → (Q : Unfinished → List Event → Type 0)
-      → ((o : Opener) (d : List ℕ) → KeepsText limit m.text (those is_text d) → (those is_text d ++ ys ≡ those is_text (d ++ ys)) → Q (InApc o (d ++ ys)) [])
-      → Q (after_all u ys) (news_all limit u ys)
-  apc_run u s h Q f =
-      apc_only limit m u s h (λ v. Q (after_all v ys) (news_all limit v ys))
-      (λ o d k. let q = apc_text limit o d ys p in rw (q.0, q.1) (f o d k.1 (sym (apc_kept d ys p))))
-
   pub skip_holds : (u : Unfinished) → m.state ≡ state.Skip → Holds limit m u → Holds limit m (after_all u ys) × (news_all limit u ys ≡ [])
   skip_holds u s h =
       skip_only limit m u s h (λ v. Holds limit m (after_all v ys) × (news_all limit v ys ≡ []))

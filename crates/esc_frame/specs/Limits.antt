@@ -1,6 +1,7 @@
 -- How much of a string is kept at most.
 use Rattle.std.specs.Prelude.{ℕ, ◌≡◌, ◌-◌, ◌^◌, Bool, true, false, not, nat_le, min, if◌then◌else◌, ◌&&◌, List, length, Option, Some, None}
 use Rattle.std.specs.List.{filter}
+use Rattle.esc_below.specs.Clear.{parts_of}
 use Rattle.esc_frame.specs.declared.count.Count.{Count}
 use Rattle.esc_frame.specs.Bodies.{is_dcs_parameter, is_dcs_header}
 
@@ -30,3 +31,7 @@ header_count x = length (filter is_dcs_parameter x)
 -- a header that is hooked: within the limit, and of its form
 abbrev pub is_read : Option ℕ → List ℕ → Bool
 is_read limit x = is_within limit (header_count x) && is_dcs_header x
+
+-- so few parts that no memory is wanted for the list of them
+abbrev pub has_few_parts : List ℕ → Bool
+has_few_parts t = nat_le (length (parts_of t)) 16

@@ -1,14 +1,15 @@
 //! The machine in operating system commands.
 #![tactic(auto)]
 
-ghost use Rattle.std.specs.Prelude.{◌≡◌, ◌≤◌, ◌<◌, ◌++◌, ℕ, List, Option, [], ◌+◌, true, length, take, slice_index, OnOk, IsTrue};
+ghost use Rattle.std.specs.Prelude.{◌≡◌, ◌≤◌, ◌<◌, ◌++◌, ℕ, Bool, List, Option, [], ◌+◌, true, false, not, length, take, slice_index, OnOk, IsTrue};
 ghost use Rattle.esc_frame.specs.Classes.{class_of};
 ghost use Rattle.esc_frame.specs.Events.{Takes};
 ghost use Rattle.esc_frame.specs.Leads.Unfinished.{InOsc};
+ghost use Rattle.esc_frame.specs.Limits.{has_few_parts};
 ghost use Rattle.esc_frame.specs.Machine.Calls.{Moved, Took, TookSome, Advances, Quietly};
 ghost use Rattle.esc_frame.specs.Machine.Fronts.{front_of};
 ghost use Rattle.esc_frame.specs.Machine.Keeps.{KeepsText};
-ghost use Rattle.esc_frame.specs.Machine.Moves.{telling, ground_move, pair_move, inside, osc_pending_move, osc_left, ends_osc};
+ghost use Rattle.esc_frame.specs.Machine.Moves.{telling, ground_move, pair_move, inside, osc_pending_move, osc_left, ends_osc, is_lendable};
 ghost use Rattle.esc_frame.specs.Machine.TextRuns.{IsTextRun};
 ghost use Rattle.esc_frame.specs.Segments.{Opener, Piece, text_of, osc_events};
 ghost use Rattle.esc_frame.specs.Sequences.{is_from, outcome};
@@ -170,15 +171,36 @@ impl<A: Allocator> Machine<A> {
         ensures count { Advances V.is_ready result rest.now actor.new }
     {
         let run = units_run(rest);
-        if run < rest.len() {
-            let class = classify(rest[run]);
-            if ends_osc(class) {
-                return self.take_lent(limit, rest, run, class, actor);
-            }
-            if is_pair_at(rest, run) {
-                return self.take_lent_by_pair(limit, rest, run, actor);
-            }
+        if run == rest.len() {
+            return self.keep_body(limit, rest, run, actor);
         }
+        let class = classify(rest[run]);
+        if ends_osc(class) {
+            return self.take_lent(limit, rest, run, class, actor);
+        }
+        if is_pair_at(rest, run) {
+            self.take_lent_by_pair(limit, rest, run, actor)
+        } else {
+            self.keep_body(limit, rest, run, actor)
+        }
+    }
+
+    // A text that is kept from its first byte on.
+    fn keep_body<V: VTActor>(
+        &mut self,
+        limit: Option<usize>,
+        rest: &[u8],
+        run: usize,
+        actor: &mut V,
+    ) -> Result<usize>
+        requires some { 0 < length rest.now }
+        requires few { run ≤ length rest.now }
+        requires passes { IsTextRun (take run rest.now) }
+        requires ready { V.is_ready actor.old }
+        ensures took { (o : Opener) (ps : List Piece) → text_of ps ≡ [] → is_lendable (InOsc o ps) rest.now ≡ false → Took limit V.takes V.refuses result (InOsc o ps) rest.now self.new actor.old actor.new }
+        ensures quiet { (o : Opener) (ps : List Piece) → Quietly limit result (InOsc o ps) rest.now }
+        ensures count { Advances V.is_ready result rest.now actor.new }
+    {
         self.open(Kind::Osc);
         self.take_units(limit, rest, run, actor)
     }
@@ -243,7 +265,7 @@ impl<A: Allocator> Machine<A> {
         actor: &mut V,
     ) -> Result<()>
         requires { V.is_ready actor.old }
-        ensures moved { Moved limit true V.takes V.refuses result (telling (osc_events limit text.now) (osc_left b class)) self.new actor.old actor.new }
+        ensures moved { Moved limit (not (has_few_parts text.now)) V.takes V.refuses result (telling (osc_events limit text.now) (osc_left b class)) self.new actor.old actor.new }
         ensures ready { OnOk result (V.is_ready actor.new) }
     {
         match tell_lent(limit, self.text.bytes.allocator(), text, actor) {
@@ -261,7 +283,7 @@ impl<A: Allocator> Machine<A> {
         actor: &mut V,
     ) -> Result<()>
         requires { V.is_ready actor.old }
-        ensures moved { Moved limit true V.takes V.refuses result (telling (osc_events limit text.now) (pair_move b (class_of b))) self.new actor.old actor.new }
+        ensures moved { Moved limit (not (has_few_parts text.now)) V.takes V.refuses result (telling (osc_events limit text.now) (pair_move b (class_of b))) self.new actor.old actor.new }
         ensures ready { OnOk result (V.is_ready actor.new) }
     {
         match tell_lent(limit, self.text.bytes.allocator(), text, actor) {
@@ -273,7 +295,7 @@ impl<A: Allocator> Machine<A> {
     // A bell, or a breaker.
     fn leave_lent<V: VTActor>(&mut self, b: u8, class: Class, actor: &mut V) -> Result<()>
         requires { V.is_ready actor.old }
-        ensures moved { (limit : Option ℕ) → Moved limit true V.takes V.refuses result (osc_left b class) self.new actor.old actor.new }
+        ensures moved { (limit : Option ℕ) (own : Bool) → Moved limit own V.takes V.refuses result (osc_left b class) self.new actor.old actor.new }
         ensures ready { OnOk result (V.is_ready actor.new) }
     {
         if let Class::Bell = class {
@@ -323,7 +345,7 @@ impl<A: Allocator> Machine<A> {
         requires ready { V.is_ready actor.old }
         requires state { self.old.state ≡ State.Osc }
         requires whole { front_of self.old.pending ≡ [] }
-        ensures took { (o : Opener) (ps : List Piece) → KeepsText limit self.old.text (text_of ps) → Took limit V.takes V.refuses result (InOsc o ps) rest.now self.new actor.old actor.new }
+        ensures took { (o : Opener) (ps : List Piece) → KeepsText limit self.old.text (text_of ps) → is_lendable (InOsc o ps) rest.now ≡ false → Took limit V.takes V.refuses result (InOsc o ps) rest.now self.new actor.old actor.new }
         ensures quiet { (o : Opener) (ps : List Piece) → Quietly limit result (InOsc o ps) rest.now }
         ensures count { Advances V.is_ready result rest.now actor.new }
     {
@@ -348,7 +370,7 @@ impl<A: Allocator> Machine<A> {
         requires ready { V.is_ready actor.old }
         requires state { self.old.state ≡ State.Osc }
         requires whole { front_of self.old.pending ≡ [] }
-        ensures took { (o : Opener) (ps : List Piece) → KeepsText limit self.old.text (text_of ps ++ take run rest.now) → Took limit V.takes V.refuses result (InOsc o ps) rest.now self.new actor.old actor.new }
+        ensures took { (o : Opener) (ps : List Piece) → KeepsText limit self.old.text (text_of ps ++ take run rest.now) → is_lendable (InOsc o ps) rest.now ≡ false → Took limit V.takes V.refuses result (InOsc o ps) rest.now self.new actor.old actor.new }
         ensures quiet { (o : Opener) (ps : List Piece) → Quietly limit result (InOsc o ps) rest.now }
         ensures count { Advances V.is_ready result rest.now actor.new }
     {
@@ -389,7 +411,8 @@ fn ends_osc(class: Class) -> bool
 #[inline(always)]
 fn is_pair_at(rest: &[u8], at: usize) -> bool
     requires { at < length rest.now }
-    ensures { IsTrue result → (at + 1 < length rest.now) × (slice_index rest.now at ≡ 0xc2) × (is_from 0x80 0x9f (slice_index rest.now (at + 1)) ≡ true) }
+    ensures some { IsTrue result → (at + 1 < length rest.now) × (slice_index rest.now at ≡ 0xc2) × (is_from 0x80 0x9f (slice_index rest.now (at + 1)) ≡ true) }
+    ensures none { result ≡ false → at + 1 < length rest.now → slice_index rest.now at ≡ 0xc2 → is_from 0x80 0x9f (slice_index rest.now (at + 1)) ≡ false }
 {
     rest[at] == 0xc2 && rest.len() - at > 1 && lies_from(0x80, 0x9f, rest[at + 1])
 }
@@ -403,7 +426,7 @@ fn tell_lent<A: Allocator, V: VTActor>(
     actor: &mut V,
 ) -> Result<()>
     requires { V.is_ready actor.old }
-    ensures told { Takes true V.takes V.refuses result actor.old (osc_events limit text.now) actor.new }
+    ensures told { Takes (not (has_few_parts text.now)) V.takes V.refuses result actor.old (osc_events limit text.now) actor.new }
     ensures ready { OnOk result (V.is_ready actor.new) }
 {
     if fits(limit, 0, text.len()) {

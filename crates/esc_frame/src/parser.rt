@@ -8,7 +8,7 @@ ghost use Rattle.esc_frame.specs.Segments.{Segment, IsCut};
 ghost use Rattle.std.specs.List.{FoldsTo};
 ghost use Rattle.esc_frame.specs.Events.{StopsAt};
 ghost use Rattle.esc_frame.specs.Events.Event.{Execute, Print};
-ghost use Rattle.esc_frame.specs.Memory.{MayGrow};
+ghost use Rattle.esc_frame.specs.Memory.{MayGrow, AreLent};
 ghost use Rattle.esc_frame.specs.Stream.{added_within, LeadsTo, LeadsToWithin, HasFailed, IsAtGround, IsQuietWithin};
 
 use crate::actor::VTActor;
@@ -157,11 +157,17 @@ impl<A: Allocator> VTParser<A> {
     ///
     /// The error is `Memory` where the actor refused a call or a request for memory was refused: a prefix of these events was
     /// given then, and every later call returns `Failed` and gives nothing.
+    ///
+    /// An operating system command of at most 16 parts, or an application program command, that stands whole in `bytes`, with
+    /// a text of bytes 20 to 7F alone, is given to the actor as slices of `bytes` and takes no memory. So where no segment is
+    /// unfinished before and after these bytes, and they hold such commands, text, controls and escape sequences alone, the
+    /// error comes only of a call that the actor refused.
     #[tactic(auto, unfolding(crate::specs::Stream::LeadsToWithin, crate::specs::Stream::HasFailed))]
     pub fn parse<V: VTActor>(&mut self, bytes: &[u8], actor: &mut V) -> Result<(), ParseError>
         requires { V.is_ready actor.old }
         ensures given { (limit : Option ℕ) (s : List ℕ) → LeadsToWithin limit s self.old → OnOk result (LeadsToWithin limit (s ++ bytes.now) self.new × FoldsTo V.takes actor.old (added_within limit s bytes.now) actor.new) }
         ensures refused { (limit : Option ℕ) (s : List ℕ) → LeadsToWithin limit s self.old → IfErr result (λ e. (e ≡ ParseError.Memory) × StopsAt (MayGrow (s ++ bytes.now)) V.takes V.refuses actor.old (added_within limit s bytes.now) actor.new) }
+        ensures lent { (limit : Option ℕ) (s : List ℕ) → LeadsToWithin limit s self.old → IsAtGround s → AreLent bytes.now → IfErr result (λ e. (e ≡ ParseError.Memory) × StopsAt ⊥ V.takes V.refuses actor.old (added_within limit s bytes.now) actor.new) }
         ensures ends { OnErr result (HasFailed self.new) }
         ensures failed { HasFailed self.old → (result ≡ Err ParseError.Failed) × (actor.new ≡ actor.old) }
         ensures ready { OnOk result (V.is_ready actor.new) }

@@ -12,7 +12,7 @@ ghost use Rattle.esc_frame.specs.Leads.Unfinished.{InData, InApc, InIgnored};
 ghost use Rattle.esc_frame.specs.Machine.Calls.{Moved, Took, Advances, Quietly};
 ghost use Rattle.esc_frame.specs.Limits.{is_read};
 ghost use Rattle.esc_frame.specs.Machine.Keeps.{KeepsText};
-ghost use Rattle.esc_frame.specs.Machine.Moves.{telling, ground_move, inside};
+ghost use Rattle.esc_frame.specs.Machine.Moves.{telling, ground_move, inside, is_lendable};
 ghost use Rattle.esc_frame.specs.Scans.{is_text_byte};
 ghost use Rattle.esc_frame.specs.Segments.{Opener, apc_events};
 
@@ -108,12 +108,37 @@ impl<A: Allocator> Machine<A> {
         ensures count { Advances V.is_ready result rest.now actor.new }
     {
         let run = ascii_run(rest);
-        if self.text.is_new() && run < rest.len() {
-            let class = classify(rest[run]);
-            if is_breaker(class) {
-                return self.take_lent_apc(limit, rest, run, class, actor);
-            }
+        if run == rest.len() {
+            return self.keep_apc(limit, rest, run, actor);
         }
+        if !self.text.is_new() {
+            return self.keep_apc(limit, rest, run, actor);
+        }
+        let class = classify(rest[run]);
+        if is_breaker(class) {
+            self.take_lent_apc(limit, rest, run, class, actor)
+        } else {
+            self.keep_apc(limit, rest, run, actor)
+        }
+    }
+
+    // A run in an application program command, which is kept, and the byte after it.
+    fn keep_apc<V: VTActor>(
+        &mut self,
+        limit: Option<usize>,
+        rest: &[u8],
+        run: usize,
+        actor: &mut V,
+    ) -> Result<usize>
+        requires some { 0 < length rest.now }
+        requires few { run ≤ length rest.now }
+        requires passes { list_all is_text_byte (take run rest.now) ≡ true }
+        requires ready { V.is_ready actor.old }
+        requires state { self.old.state ≡ State.Apc }
+        ensures took { (o : Opener) (d : List ℕ) → KeepsText limit self.old.text (those is_text d) → is_lendable (InApc o d) rest.now ≡ false → Took limit V.takes V.refuses result (InApc o d) rest.now self.new actor.old actor.new }
+        ensures quiet { (o : Opener) (d : List ℕ) → Quietly limit result (InApc o d) rest.now }
+        ensures count { Advances V.is_ready result rest.now actor.new }
+    {
         match self.text.push(limit, &rest[..run]) {
             Ok(()) => self.take_after_apc(limit, rest, run, actor),
             Err(e) => Err(e),
@@ -134,7 +159,7 @@ impl<A: Allocator> Machine<A> {
         requires passes { list_all is_text_byte (take run rest.now) ≡ true }
         requires ready { V.is_ready actor.old }
         requires state { self.old.state ≡ State.Apc }
-        ensures took { (o : Opener) (d : List ℕ) → KeepsText limit self.old.text (those is_text d ++ take run rest.now) → Took limit V.takes V.refuses result (InApc o d) rest.now self.new actor.old actor.new }
+        ensures took { (o : Opener) (d : List ℕ) → KeepsText limit self.old.text (those is_text d ++ take run rest.now) → is_lendable (InApc o d) rest.now ≡ false → Took limit V.takes V.refuses result (InApc o d) rest.now self.new actor.old actor.new }
         ensures quiet { (o : Opener) (d : List ℕ) → Quietly limit result (InApc o d) rest.now }
         ensures count { Advances V.is_ready result rest.now actor.new }
     {

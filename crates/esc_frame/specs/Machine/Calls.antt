@@ -1,11 +1,14 @@
 -- What a call says of the machine and the actor. Only private contracts cite it.
-use Rattle.std.specs.Prelude.{ℕ, ◌≡◌, ◌≤◌, ◌<◌, Bool, true, List, [], ◌∷◌, length, take, Option, Result, MatchResult, IfOk}
+use Rattle.std.specs.Prelude.{ℕ, ◌≡◌, ◌≤◌, ◌<◌, Bool, true, false, not, List, [], ◌∷◌, length, take, Option, Result, MatchResult, IfOk}
 use Rattle.std.specs.List.{FoldsTo}
 use Rattle.esc_frame.specs.declared.machine.Machine.{Machine}
+use Rattle.esc_frame.specs.declared.machine.State.{State}
+use Rattle.esc_frame.specs.declared.machine.State.TheVariants as state
 use Rattle.esc_frame.specs.Events.{Event, StopsAt}
 use Rattle.esc_frame.specs.Leads.{Unfinished, Holds}
+use Rattle.esc_frame.specs.Segments.{is_empty}
 use Rattle.esc_frame.specs.Leads.Unfinished.{Ground}
-use Rattle.esc_frame.specs.Machine.Moves.{Move, after_all, news_all, may_grow_within, IsStill}
+use Rattle.esc_frame.specs.Machine.Moves.{Move, after_all, news_all, may_grow_within, is_fresh, is_lendable, IsStill}
 
 -- The machine made this move: it keeps what is unfinished after it, and the actor was given its events. Where the result is
 -- an error the actor was given a prefix of them; the machine stopped by itself only where `own` holds.
@@ -14,13 +17,17 @@ abbrev pub Moved : {A S E : Type 0} → Option ℕ → Bool → (S → Event →
 Moved limit own takes refuses result m machine old new =
     MatchResult result (λ _. Holds limit machine m.0 × FoldsTo takes old m.1 new) (λ _. StopsAt (own ≡ true) takes refuses old m.1 new)
 
+-- where all strings in the rest can be lent, none of them is begun after its first n bytes but for its opener
+abbrev pub StaysFresh : Unfinished → List ℕ → ℕ → Type 0
+StaysFresh u rest n = is_lendable u rest ≡ true → is_fresh (after_all u (take n rest)) ≡ true
+
 -- The call took n bytes of the rest, where u was unfinished before: the machine keeps what is unfinished after them, and the
 -- actor was given their events. Where the result is an error the actor was given a prefix of the events of the rest.
 abbrev pub Took : {A S E : Type 0} → Option ℕ → (S → Event → S → Type 0) → (S → Event → S → Type 0) → Result ℕ E → Unfinished → List ℕ → Machine A → S → S
     → Type 0
 Took limit takes refuses result u rest machine old new =
     MatchResult result
-    (λ n. Holds limit machine (after_all u (take n rest)) × FoldsTo takes old (news_all limit u (take n rest)) new)
+    (λ n. Holds limit machine (after_all u (take n rest)) × FoldsTo takes old (news_all limit u (take n rest)) new × StaysFresh u rest n)
     (λ _. StopsAt (may_grow_within u rest ≡ true) takes refuses old (news_all limit u rest) new)
 
 -- it took a byte at least, and no more than there are, and the actor is ready
@@ -53,3 +60,9 @@ abbrev pub TookSome : {A S E : Type 0} → Option ℕ → (S → Event → S →
     → Type 0
 TookSome limit takes refuses is_ready result rest machine old new =
     Took limit takes refuses result Ground rest machine old new × Quietly limit result Ground rest × Advances is_ready result rest new
+
+-- The machine is in no OSC or APC, but where these bytes of a sequence pend in an OSC.
+abbrev pub is_between : State → List ℕ → Bool
+is_between state.Apc f = false
+is_between state.Osc f = not (is_empty f)
+is_between _ f = true

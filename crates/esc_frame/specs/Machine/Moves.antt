@@ -1,5 +1,5 @@
 -- The byte machine: what one byte makes of what is unfinished, and what it tells. Only private contracts cite it.
-use Rattle.std.specs.Prelude.{ℕ, ◌≡◌, ◌<◌, Bool, true, false, ◌||◌, ◌&&◌, if◌then◌else◌, List, [], ◌∷◌, ◌++◌, take, Option, None}
+use Rattle.std.specs.Prelude.{ℕ, ◌≡◌, ◌<◌, Bool, true, false, not, ◌||◌, ◌&&◌, if◌then◌else◌, List, [], ◌∷◌, ◌++◌, take, Option, None}
 use Rattle.esc_frame.specs.declared.classes.Class.{Class}
 use Rattle.esc_frame.specs.declared.classes.Class.TheVariants.{Escape, Opens, RawOpens, High, Lead, Bell}
 use Rattle.esc_frame.specs.declared.classes.Kind.{Kind}
@@ -10,7 +10,7 @@ use Rattle.esc_frame.specs.Sequences.{is_pair, number_of, outcome}
 use Rattle.esc_frame.specs.Classes.{class_of, strip, those, is_text, is_breaker, is_plain, is_control, is_raw_control, in_escape, in_csi, in_osc, is_put}
 use Rattle.esc_frame.specs.Events.{Event}
 use Rattle.esc_frame.specs.Events.Event.{Print, Execute, DcsPut, DcsUnhook}
-use Rattle.esc_frame.specs.Limits.{is_read}
+use Rattle.esc_frame.specs.Limits.{is_read, has_few_parts}
 use Rattle.esc_frame.specs.Segments.{Opener, Piece, text_of, is_empty, escape_event, csi_events, hook_event, osc_events, apc_events}
 use Rattle.esc_frame.specs.Segments.Opener.{Long, Raw, Pair}
 use Rattle.esc_frame.specs.Segments.Piece.{One, Sequence, BrokenOff}
@@ -135,6 +135,10 @@ abbrev pub news_all : Option ℕ → Unfinished → List ℕ → List Event
 news_all limit u [] = []
 news_all limit u (b ∷ bs) = news_by limit u b (class_of b) ++ news_all limit (after_by u b (class_of b)) bs
 
+abbrev pub is_ground : Unfinished → Bool
+is_ground Ground = true
+is_ground _ = false
+
 -- ---- memory
 
 -- a byte that is taken here may make the machine's memory grow
@@ -144,16 +148,58 @@ may_grow_in (Pending _) = false
 may_grow_in (InEscape _) = false
 may_grow_in _ = true
 
--- one of these bytes may
+-- one of these bytes is taken in a control sequence or a string
+abbrev pub reaches_growing : Unfinished → List ℕ → Bool
+reaches_growing u [] = false
+reaches_growing u (b ∷ bs) = may_grow_in u || reaches_growing (after_by u b (class_of b)) bs
+
+-- ---- strings that are lent
+
+-- a byte in the text of an OSC that can be lent, or a byte that ends it
+abbrev pub passes_osc : List Piece → Class → Bool
+passes_osc ps Lead = true
+passes_osc ps c = is_text c || (ends_osc c && has_few_parts (text_of ps))
+
+-- a byte after a prefix of a sequence there
+abbrev pub passes_pending : List Piece → List ℕ → ℕ → Outcome → Bool
+passes_pending ps f b outcomes.Whole = is_pair (f ++ b ∷ []) && has_few_parts (text_of ps)
+passes_pending ps f b _ = false
+
+-- a byte outside of control sequences and strings, or in a string that can be lent
+abbrev pub passes : Unfinished → ℕ → Class → Bool
+passes Ground b c = true
+passes (Pending f) b c = true
+passes (InEscape x) b c = true
+passes (InOsc o ps) b c = passes_osc ps c
+passes (InOscPending o ps f) b c = passes_pending ps f b (outcome f b)
+passes (InApc o d) b c = is_text c || is_breaker c
+passes _ b c = false
+
+abbrev pub all_pass : Unfinished → List ℕ → Bool
+all_pass u [] = true
+all_pass u (b ∷ bs) = passes u b (class_of b) && all_pass (after_by u b (class_of b)) bs
+
+-- all strings in these bytes can be lent, and nothing is unfinished after them
+abbrev pub lends : Unfinished → List ℕ → Bool
+lends u bs = all_pass u bs && is_ground (after_all u bs)
+
+-- no byte that counts has come
+abbrev pub is_fresh : Unfinished → Bool
+is_fresh Ground = true
+is_fresh (Pending f) = true
+is_fresh (InEscape x) = true
+is_fresh (InOsc o ps) = is_empty (text_of ps)
+is_fresh (InApc o d) = is_empty (those is_text d)
+is_fresh _ = false
+
+abbrev pub is_lendable : Unfinished → List ℕ → Bool
+is_lendable u bs = is_fresh u && lends u bs
+
+-- these bytes may make the machine's memory grow
 abbrev pub may_grow_within : Unfinished → List ℕ → Bool
-may_grow_within u [] = false
-may_grow_within u (b ∷ bs) = may_grow_in u || may_grow_within (after_by u b (class_of b)) bs
+may_grow_within u bs = reaches_growing u bs && not (is_lendable u bs)
 
 -- ---- prefixes that stop at the first event
-
-abbrev pub is_ground : Unfinished → Bool
-is_ground Ground = true
-is_ground _ = false
 
 -- Of the first n bytes of the rest, where u was unfinished before, all but the last tell nothing and leave something
 -- unfinished.

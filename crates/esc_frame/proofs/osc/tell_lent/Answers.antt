@@ -1,14 +1,20 @@
-use Rattle.std.proofs.Common.{true, ◌∙◌, refl, length, subst}
+use Rattle.std.proofs.Common.{[], ◌∷◌, not, ◌∙◌, refl, length, subst}
 use Rattle.std.specs.List.{FoldsTo}
+use Rattle.esc_below.specs.Clear.{parts_of}
 use Rattle.esc_frame.specs.Events.{Takes}
+use Rattle.esc_frame.specs.Events.Event.{OscDispatch}
+use Rattle.esc_frame.specs.Limits.{has_few_parts}
+use Rattle.esc_frame.proofs.Given.{takes_few}
 use Rattle.esc_frame.proofs.Lent.{within_by, osc_told, osc_untold}
 use Rattle.esc_frame.proofs.osc.tell_lent.Goals as goal
 
 pub returns-then-fits-clause-told : goal.returns-then-fits-clause-told
 returns-then-fits-clause-told g c =
     let t = c.args.text.now in
-    subst (λ es. Takes true g.V.VTActor.takes g.V.VTActor.refuses c.dispatch_osc.result c.args.actor.now es c.dispatch_osc.new.actor)
-    (osc_told c.args.limit t (within_by c.args.limit (length t) _ c.fits.ensures ∙ c.if-fits.true)) c.dispatch_osc.ensures.told
+    subst (λ es. Takes (not (has_few_parts t)) g.V.VTActor.takes g.V.VTActor.refuses c.dispatch_osc.result c.args.actor.now es c.dispatch_osc.new.actor)
+    (osc_told c.args.limit t (within_by c.args.limit (length t) _ c.fits.ensures ∙ c.if-fits.true))
+    (takes_few (has_few_parts t) g.V.VTActor.takes g.V.VTActor.refuses c.dispatch_osc.result c.args.actor.now c.dispatch_osc.new.actor (OscDispatch (parts_of t) ∷ []) c.dispatch_osc.ensures.told
+    c.dispatch_osc.ensures.few)
 
 pub returns-else-fits-clause-told : goal.returns-else-fits-clause-told
 returns-else-fits-clause-told g c =

@@ -1,6 +1,6 @@
-use Rattle.std.proofs.Common.{arith}
+use Rattle.std.proofs.Common.{arith, rules}
 use Rattle.esc_frame.proofs.ManyBytes.{tail_length}
-use Rattle.esc_frame.proofs.StringRuns.{run_more}
+use Rattle.esc_frame.proofs.StringRuns.{run_more, tail_first}
 use Rattle.esc_frame.proofs.scans.units_run.Goals as goal
 
 pub loop-end-preserved : goal.loop-end-preserved
@@ -9,3 +9,8 @@ loop-end-preserved c =
       omega (arith, c.units_ahead-n.ensures.few),
       run_more c.args.bytes.now c.loop-end.end c.units_ahead-n.result c.loop-end.invariant.1 c.units_ahead-n.ensures.run,
     )
+
+pub returns-then-n-eq0-clause-stops : goal.returns-then-n-eq0-clause-stops
+returns-then-n-eq0-clause-stops c =
+    let l = tail_length c.args.bytes.now c.loop-end.end in
+    λ room. tail_first c.args.bytes.now c.loop-end.end (c.units_ahead-n.ensures.stops (search rules) (omega arith))

@@ -1,5 +1,6 @@
-use Rattle.std.proofs.Common.{true, ◌≡◌, sym, subst}
+use Rattle.std.proofs.Common.{true, not, ◌≡◌, subst}
 use Rattle.esc_frame.specs.Classes.{class_of}
+use Rattle.esc_frame.specs.Limits.{has_few_parts}
 use Rattle.esc_frame.specs.Machine.Calls.{Moved}
 use Rattle.esc_frame.specs.Machine.Moves.{pair_move}
 use Rattle.esc_frame.specs.Segments.{osc_events}
@@ -8,12 +9,13 @@ use Rattle.esc_frame.proofs.machine.Machine.end_lent_by_pair.Goals as goal
 
 pub returns-in-Ok-clause-moved : goal.returns-in-Ok-clause-moved
 returns-in-Ok-clause-moved g c =
-    moves_then c.args.limit true g.V.VTActor.takes g.V.VTActor.refuses c.in_pair.result (osc_events c.args.limit c.args.text.now)
+    moves_then c.args.limit (not (has_few_parts c.args.text.now)) g.V.VTActor.takes g.V.VTActor.refuses c.in_pair.result (osc_events c.args.limit c.args.text.now)
     (pair_move c.args.b (class_of c.args.b)) c.in_pair.new.self c.args.actor.now _ _ c.in-Ok.ensures.told
-    (subst (λ k. Moved c.args.limit true g.V.VTActor.takes g.V.VTActor.refuses c.in_pair.result (pair_move c.args.b k) c.in_pair.new.self c.tell_lent.new.actor
+    (subst (λ k. Moved c.args.limit (not (has_few_parts c.args.text.now)) g.V.VTActor.takes g.V.VTActor.refuses c.in_pair.result (pair_move c.args.b k) c.in_pair.new.self c.tell_lent.new.actor
     c.in_pair.new.actor)
-    c.classify.ensures (c.in_pair.ensures.moved c.args.limit true))
+    c.classify.ensures (c.in_pair.ensures.moved c.args.limit
+    (not (has_few_parts c.args.text.now))))
 
 pub returns-in-Err-clause-moved : goal.returns-in-Err-clause-moved
 returns-in-Err-clause-moved g c =
-    stops_more (true ≡ true) g.V.VTActor.takes g.V.VTActor.refuses (osc_events c.args.limit c.args.text.now) _ c.args.actor.now _ c.in-Err.ensures.told
+    stops_more (not (has_few_parts c.args.text.now) ≡ true) g.V.VTActor.takes g.V.VTActor.refuses (osc_events c.args.limit c.args.text.now) _ c.args.actor.now _ c.in-Err.ensures.told

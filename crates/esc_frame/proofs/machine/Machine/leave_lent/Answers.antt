@@ -1,9 +1,9 @@
-use Rattle.std.proofs.Common.{true, subst}
+use Rattle.std.proofs.Common.{subst}
 use Rattle.esc_frame.specs.Machine.Calls.{Moved}
 use Rattle.esc_frame.proofs.Lent.{left_other}
 use Rattle.esc_frame.proofs.machine.Machine.leave_lent.Goals as goal
 
 pub returns-in_default-clause-moved : goal.returns-in_default-clause-moved
-returns-in_default-clause-moved g c = λ limit.
-    subst (λ m. Moved limit true g.V.VTActor.takes g.V.VTActor.refuses c.in_ground.result m c.in_ground.new.self c.args.actor.now c.in_ground.new.actor)
-    (left_other c.args.b c.args.class c.in_default.not-Bell) (c.in_ground.ensures.moved limit true)
+returns-in_default-clause-moved g c = λ limit own.
+    subst (λ m. Moved limit own g.V.VTActor.takes g.V.VTActor.refuses c.in_ground.result m c.in_ground.new.self c.args.actor.now c.in_ground.new.actor)
+    (left_other c.args.b c.args.class c.in_default.not-Bell) (c.in_ground.ensures.moved limit own)

@@ -1,31 +1,37 @@
 use Rattle.std.proofs.Common.{◌+◌, ◌++◌, refl, subst, arith}
 use Rattle.esc_frame.specs.Leads.Unfinished.{InOsc}
 use Rattle.esc_frame.specs.Machine.Keeps.{KeepsText}
+use Rattle.esc_frame.proofs.Lends.{unlent_fresh}
 use Rattle.esc_frame.proofs.QuietRuns.{quiet_took, quiet_stops}
 use Rattle.esc_frame.proofs.Still.{text_still, less_still}
 use Rattle.esc_frame.proofs.StringRuns.{run_text}
 use Rattle.esc_frame.proofs.machine.Machine.take_after_text.Goals as goal
 
 pub returns-then-run-rest-clause-took : goal.returns-then-run-rest-clause-took
-returns-then-run-rest-clause-took g c = λ o ps k.
+returns-then-run-rest-clause-took g c = λ o ps k not_lent.
     let run = c.requires.passes in
     let q = run.2 c.args.limit o ps in
-    rw (q.0, q.1) ((c.requires.state, subst (KeepsText c.args.limit c.args.self.now.text) (run_text ps run) k, c.requires.whole), refl)
+    let fresh = unlent_fresh (InOsc o ps) c.args.rest.now c.args.run not_lent in (
+      rw q.0 (c.requires.state, subst (KeepsText c.args.limit c.args.self.now.text) (run_text ps run) k, c.requires.whole),
+      rw q.1 refl,
+      fresh,
+    )
 
 pub returns-in-Ok-clause-took : goal.returns-in-Ok-clause-took
-returns-in-Ok-clause-took g c = λ o ps k.
+returns-in-Ok-clause-took g c = λ o ps k not_lent.
     let run = c.requires.passes in
     quiet_took c.args.limit g.V.VTActor.takes g.V.VTActor.refuses (InOsc o ps) (InOsc o (ps ++ run.0)) c.args.rest.now c.args.run _ c.args.actor.now
     c.in_osc.new.actor
     (run.2 c.args.limit o ps) (omega arith) c.classify.ensures c.in_osc.new.self
+    (unlent_fresh (InOsc o ps) c.args.rest.now (c.args.run + 1) not_lent)
     (c.in-Ok.ensures.moved o (ps ++ run.0) c.classify.ensures (subst (KeepsText c.args.limit c.args.self.now.text) (run_text ps run) k))
 
 pub returns-in-Err-clause-took : goal.returns-in-Err-clause-took
-returns-in-Err-clause-took g c = λ o ps k.
+returns-in-Err-clause-took g c = λ o ps k not_lent.
     let run = c.requires.passes in
     quiet_stops c.args.limit g.V.VTActor.takes g.V.VTActor.refuses (InOsc o ps) (InOsc o (ps ++ run.0)) c.args.rest.now c.args.run _ c.args.actor.now
     c.in_osc.new.actor
-    (run.2 c.args.limit o ps) (omega arith) c.classify.ensures
+    (run.2 c.args.limit o ps) (omega arith) c.classify.ensures (λ may. not_lent)
     (c.in-Err.ensures.moved o (ps ++ run.0) c.classify.ensures (subst (KeepsText c.args.limit c.args.self.now.text) (run_text ps run) k))
 
 pub returns-then-run-rest-clause-quiet : goal.returns-then-run-rest-clause-quiet

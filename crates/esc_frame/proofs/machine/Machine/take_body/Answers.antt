@@ -1,14 +1,13 @@
-use Rattle.std.proofs.Common.{[], sym, subst}
-use Rattle.esc_frame.specs.Machine.Keeps.{KeepsText}
-use Rattle.esc_frame.specs.Segments.Opener.{Long}
+use Rattle.std.proofs.Common.{◌∙◌, sym, arith}
+use Rattle.esc_frame.proofs.KeptStrings.{unended, unclosed}
 use Rattle.esc_frame.proofs.machine.Machine.take_body.Goals as goal
 
-pub take_units-requires-clause-state : goal.take_units-requires-clause-state
-take_units-requires-clause-state g c = (c.open.ensures c.args.limit (Long [])).0
+pub returns-then-run-rest-clause-took : goal.returns-then-run-rest-clause-took
+returns-then-run-rest-clause-took g c = λ o ps none.
+    c.keep_body.ensures.took o ps none (unended o ps c.args.rest.now c.units_run-run.result c.units_run-run.ensures.run (omega arith))
 
-pub take_units-requires-clause-whole : goal.take_units-requires-clause-whole
-take_units-requires-clause-whole g c = (c.open.ensures c.args.limit (Long [])).2
-
-pub returns-clause-took : goal.returns-clause-took
-returns-clause-took g c = λ o ps none.
-    c.take_units.ensures.took o ps (subst (KeepsText c.args.limit c.open.new.self.text) (sym none) (c.open.ensures c.args.limit (Long [])).1)
+pub returns-else-is_pair_at-clause-took : goal.returns-else-is_pair_at-clause-took
+returns-else-is_pair_at-clause-took g c = λ o ps none.
+    c.keep_body-else-is_pair_at.ensures.took o ps none
+    (unclosed o ps c.args.rest.now c.units_run-run.result c.units_run-run.ensures.run (omega arith) (c.units_run-run.ensures.stops (omega arith)) _
+    c.classify-class.ensures (sym c.ends_osc.ensures ∙ c.if-ends_osc.false) (c.is_pair_at.ensures.none c.if-is_pair_at.false))

@@ -5,6 +5,7 @@ use Rattle.esc_frame.specs.Leads.Unfinished.{Ground}
 use Rattle.esc_frame.specs.Machine.Calls.{TookSome}
 use Rattle.esc_frame.specs.Machine.Moves.{news_all, may_grow_within}
 use Rattle.esc_frame.proofs.Given.{stops_for}
+use Rattle.esc_frame.proofs.Lends.{ground_fresh}
 use Rattle.esc_frame.proofs.machine.Machine.take_first.Goals as goal
 
 pub returns-in-Ok-eq0 : goal.returns-in-Ok-eq0
@@ -21,7 +22,7 @@ pub returns-in-Ok : goal.returns-in-Ok
 returns-in-Ok g c =
     let so = c.in-Ok.ensures.stays in
     let some : 0 < c.in-Ok.n = search rules in (
-      (subst (λ u. Holds c.args.limit c.args.self.now u) (sym so.1) c.requires.ground, so.2 c.args.limit),
+      (subst (λ u. Holds c.args.limit c.args.self.now u) (sym so.1) c.requires.ground, so.2 c.args.limit, ground_fresh Ground c.args.rest.now c.in-Ok.n so.1),
       c.in-Ok.ensures.quiet c.args.limit,
       (some, so.0, so.3),
     )

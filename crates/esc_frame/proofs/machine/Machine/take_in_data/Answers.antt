@@ -1,10 +1,11 @@
-use Rattle.std.proofs.Common.{◌≡◌, false, true, sym, subst, take}
+use Rattle.std.proofs.Common.{◌≡◌, false, true, refl, sym, subst, take}
 use Rattle.std.specs.List.{FoldsTo}
 use Rattle.esc_frame.specs.Events.{StopsAt}
 use Rattle.esc_frame.specs.Machine.Moves.{may_grow_within}
 use Rattle.esc_frame.specs.Scans.{is_data_byte}
 use Rattle.esc_frame.proofs.Given.{stops_for}
 use Rattle.esc_frame.proofs.ManyBytes.{stop_within}
+use Rattle.esc_frame.proofs.States.{data_fresh}
 use Rattle.esc_frame.proofs.StringRuns.{data_holds, all_pass}
 use Rattle.esc_frame.proofs.machine.Machine.take_in_data.Goals as goal
 
@@ -14,8 +15,11 @@ dcs_put_text-requires-clause-bytes g c = all_pass is_data_byte c.args.rest.now c
 pub returns-in-Ok-clause-took : goal.returns-in-Ok-clause-took
 returns-in-Ok-clause-took g c = λ u h.
     let q = data_holds c.args.limit c.args.self.now (take c.data_run-run.result c.args.rest.now)
-    (all_pass is_data_byte c.args.rest.now c.data_run-run.result c.data_run-run.ensures.run) u c.requires.state h in
-    (q.0, subst (λ es. FoldsTo g.V.VTActor.takes c.args.actor.now es c.dcs_put_text.new.self) (sym q.1) c.in-Ok.ensures.told)
+    (all_pass is_data_byte c.args.rest.now c.data_run-run.result c.data_run-run.ensures.run) u c.requires.state h in (
+      q.0,
+      subst (λ es. FoldsTo g.V.VTActor.takes c.args.actor.now es c.dcs_put_text.new.self) (sym q.1) c.in-Ok.ensures.told,
+      data_fresh c.args.limit c.args.self.now u c.args.rest.now c.data_run-run.result c.requires.state h,
+    )
 
 pub returns-in-Err-clause-took : goal.returns-in-Err-clause-took
 returns-in-Err-clause-took g c = λ u h.
@@ -25,3 +29,6 @@ returns-in-Err-clause-took g c = λ u h.
     stop_within c.args.limit own g.V.VTActor.takes g.V.VTActor.refuses u c.args.rest.now c.data_run-run.result c.args.actor.now c.dcs_put_text.new.self
     (stops_for (false ≡ true) own g.V.VTActor.takes g.V.VTActor.refuses _ c.args.actor.now c.dcs_put_text.new.self (λ no. absurd cc)
     (subst (λ es. StopsAt (false ≡ true) g.V.VTActor.takes g.V.VTActor.refuses c.args.actor.now es c.dcs_put_text.new.self) (sym q.1) c.in-Err.ensures.told))
+
+pub take_one-requires-clause-between : goal.take_one-requires-clause-between
+take_one-requires-clause-between g c = rw c.requires.state refl

@@ -3,7 +3,9 @@ use Rattle.std.specs.List.{FoldsTo}
 use Rattle.esc_frame.specs.Events.{StopsAt}
 use Rattle.esc_frame.specs.Leads.{Holds}
 use Rattle.esc_frame.specs.Leads.Unfinished.{InEscape}
+use Rattle.esc_frame.specs.Machine.Calls.{StaysFresh}
 use Rattle.esc_frame.specs.Machine.Moves.{after_all, news_all, may_grow_within}
+use Rattle.esc_frame.proofs.Lends.{one_fresh, one_unlent}
 use Rattle.esc_frame.proofs.QuietRuns.{quiet_took, quiet_stops}
 use Rattle.esc_frame.proofs.States.{escape_only}
 use Rattle.esc_frame.proofs.machine.Machine.take_in_escape.Goals as goal
@@ -12,10 +14,10 @@ pub returns-in-Ok-clause-took : goal.returns-in-Ok-clause-took
 returns-in-Ok-clause-took g c = λ u h.
     escape_only c.args.limit c.args.self.now u c.requires.state h
     (λ v. Holds c.args.limit c.in_escape.new.self (after_all v (take 1 c.args.rest.now))
-    × FoldsTo g.V.VTActor.takes c.args.actor.now (news_all c.args.limit v (take 1 c.args.rest.now)) c.in_escape.new.actor)
+    × FoldsTo g.V.VTActor.takes c.args.actor.now (news_all c.args.limit v (take 1 c.args.rest.now)) c.in_escape.new.actor × StaysFresh v c.args.rest.now 1)
     (λ x k. quiet_took c.args.limit g.V.VTActor.takes g.V.VTActor.refuses (InEscape x) (InEscape x) c.args.rest.now 0 _ c.args.actor.now _ (refl, refl)
     c.requires.some c.classify.ensures
-    c.in_escape.new.self
+    c.in_escape.new.self (one_fresh (InEscape x) c.args.rest.now refl)
     (c.in-Ok.ensures.moved c.args.limit false x c.classify.ensures k.1))
 
 pub returns-in-Err-clause-took : goal.returns-in-Err-clause-took
@@ -25,5 +27,5 @@ returns-in-Err-clause-took g c = λ u h.
     (news_all c.args.limit v c.args.rest.now)
     c.in_escape.new.actor)
     (λ x k. quiet_stops c.args.limit g.V.VTActor.takes g.V.VTActor.refuses (InEscape x) (InEscape x) c.args.rest.now 0 _ c.args.actor.now _ (refl, refl)
-    c.requires.some c.classify.ensures
+    c.requires.some c.classify.ensures (one_unlent (InEscape x) c.args.rest.now refl)
     (c.in-Err.ensures.moved c.args.limit false x c.classify.ensures k.1))

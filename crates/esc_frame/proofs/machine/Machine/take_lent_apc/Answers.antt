@@ -1,4 +1,4 @@
-use Rattle.std.proofs.Common.{true}
+use Rattle.std.proofs.Common.{false}
 use Rattle.esc_frame.proofs.Lent.{lent_apc_took, lent_apc_stops}
 use Rattle.esc_frame.proofs.Still.{apc_end_still}
 use Rattle.esc_frame.proofs.machine.Machine.take_lent_apc.Goals as goal
@@ -6,7 +6,7 @@ use Rattle.esc_frame.proofs.machine.Machine.take_lent_apc.Goals as goal
 pub returns-in-Ok-clause-took : goal.returns-in-Ok-clause-took
 returns-in-Ok-clause-took g c = λ o d none.
     lent_apc_took c.args.limit g.V.VTActor.takes g.V.VTActor.refuses o d c.args.rest.now c.args.run c.args.actor.now c.end_lent_apc.new.actor none
-    c.requires.passes c.requires.few c.args.class c.requires.class c.requires.ends c.end_lent_apc.new.self (c.in-Ok.ensures.moved true)
+    c.requires.passes c.requires.few c.args.class c.requires.class c.requires.ends c.end_lent_apc.new.self (c.in-Ok.ensures.moved false)
 
 pub returns-in-Ok-clause-quiet : goal.returns-in-Ok-clause-quiet
 returns-in-Ok-clause-quiet g c = λ o d. apc_end_still c.args.limit o d c.args.rest.now c.args.run c.requires.passes
@@ -14,4 +14,4 @@ returns-in-Ok-clause-quiet g c = λ o d. apc_end_still c.args.limit o d c.args.r
 pub returns-in-Err-clause-took : goal.returns-in-Err-clause-took
 returns-in-Err-clause-took g c = λ o d none.
     lent_apc_stops c.args.limit g.V.VTActor.takes g.V.VTActor.refuses o d c.args.rest.now c.args.run c.args.actor.now c.end_lent_apc.new.actor none
-    c.requires.passes c.requires.few c.args.class c.requires.class c.requires.ends (c.in-Err.ensures.moved true)
+    c.requires.passes c.requires.few c.args.class c.requires.class c.requires.ends (c.in-Err.ensures.moved false)

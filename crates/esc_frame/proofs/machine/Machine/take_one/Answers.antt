@@ -1,14 +1,17 @@
 use Rattle.std.proofs.Common.{refl}
+use Rattle.esc_frame.proofs.Lends.{one_fresh, one_unlent}
 use Rattle.esc_frame.proofs.QuietRuns.{quiet_took, quiet_stops}
+use Rattle.esc_frame.proofs.States.{no_string}
 use Rattle.esc_frame.proofs.machine.Machine.take_one.Goals as goal
 
 pub returns-in-Ok-clause-took : goal.returns-in-Ok-clause-took
 returns-in-Ok-clause-took g c = λ u h.
     quiet_took c.args.limit g.V.VTActor.takes g.V.VTActor.refuses u u c.args.rest.now 0 _ c.args.actor.now _ (refl, refl) c.requires.some c.classify.ensures
-    c.step.new.self
+    c.step.new.self (one_fresh u c.args.rest.now (no_string c.args.limit c.args.self.now u h c.requires.between))
     (c.in-Ok.ensures.moved u c.classify.ensures h)
 
 pub returns-in-Err-clause-took : goal.returns-in-Err-clause-took
 returns-in-Err-clause-took g c = λ u h.
     quiet_stops c.args.limit g.V.VTActor.takes g.V.VTActor.refuses u u c.args.rest.now 0 _ c.args.actor.now _ (refl, refl) c.requires.some c.classify.ensures
+    (one_unlent u c.args.rest.now (no_string c.args.limit c.args.self.now u h c.requires.between))
     (c.in-Err.ensures.moved u c.classify.ensures h)

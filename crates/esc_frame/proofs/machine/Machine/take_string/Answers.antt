@@ -9,12 +9,12 @@ returns-in-Ok-take_terminator-clause-took g c =
     let so = c.in-Ok.ensures.0 in
     let u = after_all Ground (take c.in-Ok.n c.args.rest.now) in
     ran_took c.args.limit g.V.VTActor.takes g.V.VTActor.refuses Ground u c.args.rest.now c.in-Ok.n c.args.actor.now _ _ refl so.1 c.take_terminator.new.self
-    c.in-Ok-take_terminator.more
+    c.in-Ok-take_terminator.more so.2
     (c.in-Ok-take_terminator.ensures.took u so.0)
 
 pub returns-in-Err-take_terminator-clause-took : goal.returns-in-Err-take_terminator-clause-took
 returns-in-Err-take_terminator-clause-took g c =
     let so = c.in-Ok.ensures.0 in
     let u = after_all Ground (take c.in-Ok.n c.args.rest.now) in
-    ran_ends c.args.limit g.V.VTActor.takes g.V.VTActor.refuses Ground u c.args.rest.now c.in-Ok.n c.args.actor.now _ _ refl so.1
+    ran_ends c.args.limit g.V.VTActor.takes g.V.VTActor.refuses Ground u c.args.rest.now c.in-Ok.n c.args.actor.now _ _ refl so.1 so.2
     (c.in-Err-take_terminator.ensures.took u so.0)

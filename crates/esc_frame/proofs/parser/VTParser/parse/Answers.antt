@@ -2,7 +2,9 @@ use Rattle.std.proofs.Common.{refl}
 use Rattle.esc_frame.specs.Leads.Unfinished.{Ground}
 use Rattle.esc_frame.specs.Machine.Moves.{after_all}
 use Rattle.esc_frame.specs.Stream.{LeadsToWithin}
-use Rattle.esc_frame.proofs.Fed.{kept_all, given_all, refused_all}
+use Rattle.esc_frame.proofs.AtGround.{to_ground}
+use Rattle.esc_frame.proofs.Fed.{kept_all, given_all, refused_all, refused_lent}
+use Rattle.esc_frame.proofs.LentCuts.{lent_lends}
 use Rattle.esc_frame.proofs.parser.VTParser.parse.Goals as goal
 
 pub returns-in-Ok-clause-given : goal.returns-in-Ok-clause-given
@@ -20,5 +22,14 @@ unfolding LeadsToWithin
 returns-in-Err-clause-refused g c = λ limit s (f, i, h). (
   refl,
   refused_all c.args.self.now.limit limit i g.V.VTActor.takes g.V.VTActor.refuses s c.args.bytes.now c.args.actor.now c.take_all.new.actor
+      (c.in-Err.ensures.told (after_all Ground s) h),
+)
+
+pub returns-in-Err-clause-lent : goal.returns-in-Err-clause-lent
+unfolding LeadsToWithin
+returns-in-Err-clause-lent g c = λ limit s (f, i, h) at lent. (
+  refl,
+  refused_lent c.args.self.now.limit limit i g.V.VTActor.takes g.V.VTActor.refuses s c.args.bytes.now c.args.actor.now c.take_all.new.actor (to_ground s at)
+      (lent_lends c.args.bytes.now lent)
       (c.in-Err.ensures.told (after_all Ground s) h),
 )
