@@ -7,13 +7,9 @@ use Rattle.std.proofs.lemmas.List.{get_or-set_same, length-set, set-set, take_mo
 use Rattle.std.proofs.lemmas.List.Elements.{All-append, All-nil, All-cons}
 use Rattle.esc_below.specs.Entries.{held}
 use Rattle.esc_sixel.specs.Classes.{IsDigit}
+use Rattle.esc_sixel.specs.Lines.{number_after}
 use Rattle.esc_sixel.specs.Runs.{more_digit, more_digits}
 use Rattle.esc_sixel.specs.declared.parameters.Parameters.{Parameters}
-
--- a number with these digits after its own
-abbrev pub number_after : ℕ → List ℕ → ℕ
-number_after n [] = n
-number_after n (b ∷ bs) = number_after (held (10 * n + (b - 0x30))) bs
 
 number_push : (n : ℕ) (bs : List ℕ) (b : ℕ) → number_after n (bs ++ b ∷ []) ≡ held (10 * number_after n bs + (b - 0x30))
 number_push n [] b = refl

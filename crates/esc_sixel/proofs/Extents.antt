@@ -10,7 +10,7 @@ use Rattle.esc_sixel.specs.declared.sixel_data.SixelData.TheVariants.{NewLine}
 max_least : (n : ℕ) (ds : List SixelData) → n ≤ widest_after n ds
 max_least n [] = omega arith
 max_least n (Data v ∷ ds) = let h = max_least (n + 1) ds in omega (arith, h)
-max_least n (Repeat c v ∷ ds) = let h = max_least (n + c) ds in omega (arith, h)
+max_least n (Repeat v c ∷ ds) = let h = max_least (n + c) ds in omega (arith, h)
 max_least n (DefineColorMapRGB a b ∷ ds) = max_least n ds
 max_least n (DefineColorMapHSL a b c d ∷ ds) = max_least n ds
 max_least n (SelectColorMapEntry a ∷ ds) = max_least n ds
@@ -20,7 +20,7 @@ max_least n (NewLine ∷ ds) = omega arith
 pub widest_step : (best n : ℕ) (d : SixelData) (ds : List SixelData) → n ≤ best
     → max best (widest_after n (d ∷ ds)) ≡ max (max best (line_after n d)) (widest_after (line_after n d) ds)
 widest_step best n (Data v) ds h = let k = max_least (n + 1) ds in omega (arith, k)
-widest_step best n (Repeat c v) ds h = let k = max_least (n + c) ds in omega (arith, k)
+widest_step best n (Repeat v c) ds h = let k = max_least (n + c) ds in omega (arith, k)
 widest_step best n (DefineColorMapRGB a b) ds h = let k = max_least n ds in omega (arith, k)
 widest_step best n (DefineColorMapHSL a b c d) ds h = let k = max_least n ds in omega (arith, k)
 widest_step best n (SelectColorMapEntry a) ds h = let k = max_least n ds in omega (arith, k)

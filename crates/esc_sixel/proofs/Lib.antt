@@ -1,5 +1,6 @@
 pub mod Ascii
 pub mod Cut
+pub mod Defined
 pub mod DigitRuns
 pub mod Digits
 pub mod Extents

@@ -1,24 +1,27 @@
 -- Many bytes, one pushed after another.
 use Rattle.std.proofs.Common.{Result, Ok, Err, OnErr, ◌≡◌, ℕ, ℤ, ◌+◌, ◌-◌, List, [], ◌∷◌}
 use Rattle.std.proofs.Common.{◌++◌, None, refl, sym, ap, subst, ◌∙◌, append-nil, append_assoc, take, drop, length, arith}
-use Rattle.std.proofs.Common.{length-drop, Some, ◌<◌, ◌*◌, get_or, min}
+use Rattle.std.proofs.Common.{length-drop, Option, Some, ◌<◌, ◌≤◌, ◌*◌, ◌⊎◌, inl, inr, zero, suc, get_or, min}
 use Rattle.std.specs.Option.{unwrap_or}
-use Rattle.std.proofs.lemmas.List.{length-set, take_all, take_more}
+use Rattle.std.proofs.lemmas.List.{length-set, length-take, take_all, take_more}
 use Rattle.std.proofs.Math.Seq.{take-add}
 use Rattle.std.specs.List.{FoldsTo, All}
 use Rattle.std.proofs.lemmas.List.Elements.{All-head, All-tail}
 use Rattle.esc_below.specs.Entries.{held}
 use Rattle.esc_sixel.specs.Classes.{class_of, IsDigit, IsPixels}
-use Rattle.esc_sixel.specs.Runs.{Keeps, param, more_digit, more_digits}
+use Rattle.esc_sixel.specs.Lines.{Ends, fresh, number_after}
+use Rattle.esc_sixel.specs.Runs.{Keeps, param, separators, more_digit, more_digits}
+use Rattle.esc_sixel.proofs.DigitRuns.{digits_written}
 use Rattle.esc_sixel.specs.Meaning.{color_of, drawn, repeat_of}
 use Rattle.esc_sixel.specs.Steps.{LeadsTo, Pushes, HoldsOpen, Closed, closed_of, open_of, with_items, alone, opened}
 use Rattle.esc_sixel.specs.declared.builder.SixelBuilder.{SixelBuilder}
 use Rattle.esc_sixel.specs.declared.class.Class.{Class}
-use Rattle.esc_sixel.specs.declared.class.Class.TheVariants.{Introduces, Pixels}
+use Rattle.esc_sixel.specs.declared.class.Class.TheVariants.{Introduces, Line, Pixels, Return}
 use Rattle.esc_sixel.specs.declared.introducer.Introducer.{Introducer}
 use Rattle.esc_sixel.specs.declared.introducer.Introducer.TheVariants as introducer
 use Rattle.esc_sixel.specs.declared.sixel.Sixel.{Sixel}
 use Rattle.esc_sixel.specs.declared.sixel_data.SixelData.{SixelData}
+use Rattle.esc_sixel.specs.declared.sixel_data.SixelData.TheVariants.{CarriageReturn, NewLine, Repeat, SelectColorMapEntry}
 use Rattle.esc_sixel.specs.declared.parameters.Parameters.{Parameters}
 use Rattle.esc_sixel.proofs.Digits.{digit_below, digit_class, digit_whole}
 use Rattle.esc_sixel.proofs.PixelRuns.{pixels_class}
@@ -52,8 +55,12 @@ run_leads ps s [] p q e h = subst (λ t. LeadsTo ps t q) (sym (append-nil s)) (s
 run_leads ps s (b ∷ bs) p q (j, one, rest) h =
     subst (λ t. LeadsTo ps t q) (append_assoc s (b ∷ []) bs) (run_leads ps (s ++ b ∷ []) bs j q rest (one ps s h))
 
+-- the image with one more piece of data
+abbrev pub with_data : {A : Type 0} → Sixel A → SixelData → Sixel A
+with_data s d = record s { content = s.content ++ d ∷ [] }
+
 -- six pixels outside a command
-abbrev with_drawn : {A : Type 0} → SixelBuilder A → List ℕ → SixelBuilder A
+abbrev pub with_drawn : {A : Type 0} → SixelBuilder A → List ℕ → SixelBuilder A
 with_drawn p bs = record p { sixel = record p.sixel { content = p.sixel.content ++ drawn bs } }
 
 drawn_alone : {A : Type 0} (p : SixelBuilder A) (b : ℕ) (c : Class) → p.introducer ≡ None → c ≡ Pixels (b - 0x3f)
@@ -76,6 +83,29 @@ pixels_pushed (b ∷ bs) p q none h e = (
       (e ∙ ap (λ t. record p { sixel = record p.sixel { content = t } }) (sym (append_assoc p.sixel.content (drawn (b ∷ [])) (drawn bs)))),
 )
 
+-- the end of a line outside a command
+abbrev EndsBy : Class → SixelData → Type 0
+EndsBy c d = ((c ≡ Return) × (d ≡ CarriageReturn)) ⊎ ((c ≡ Line) × (d ≡ NewLine))
+
+ends_class : (b : ℕ) (d : SixelData) → Ends b d → EndsBy (class_of b) d
+unfolding class_of
+ends_class b d (inl h) = inl (rw h.0 refl, h.1)
+ends_class b d (inr h) = inr (rw h.0 refl, h.1)
+
+ended_alone : {A : Type 0} (s : Sixel A) (b : ℕ) (c : Class) (d : SixelData) (i : Option Introducer) (k : Parameters) → i ≡ None → EndsBy c d
+    → (with_data s d ≡ with_items s (alone c b)) × HoldsOpen (opened c) i k
+ended_alone s b c d i k none (inl h) = rw (h.0, h.1) (refl, none)
+ended_alone s b c d i k none (inr h) = rw (h.0, h.1) (refl, none)
+
+pub line_ended : {A : Type 0} (p q : SixelBuilder A) (b : ℕ) (d : SixelData) → p.introducer ≡ None → Ends b d → q.sixel ≡ with_data p.sixel d
+    → q.introducer ≡ None → Pushes p b q
+unfolding LeadsTo
+line_ended p q b d none h e after = λ ps s lead.
+    let did = ended_alone p.sixel b (class_of b) d q.introducer q.parameters after (ends_class b d h) in
+    rw (closed_push Closed s b, open_push Closed s b)
+    (after_none {T = Unit {0}} {E = Unit {0}} ps (closed_of Closed s) (open_of Closed s) (class_of b) b p.sixel q.sixel
+    p.introducer q.introducer p.parameters q.parameters (Ok tt) lead.0 lead.1 none (e ∙ did.0, did.1))
+
 -- a digit in a command, and more
 keeps_more : (p : Parameters) (run : List ℕ) (b : ℕ) → length p.values ≡ 5 → p.count < 5 → IsDigit b → Keeps p run → Keeps (more_digit p b) (run ++ b ∷ [])
 keeps_more p run b five room h k =
@@ -93,7 +123,7 @@ keeps_more p run b five room h k =
 abbrev with_parameters : {A : Type 0} → SixelBuilder A → Parameters → SixelBuilder A
 with_parameters p k = record p { parameters = k }
 
-digit_pushed : {A : Type 0} (p : SixelBuilder A) (m : Introducer) (b : ℕ) → p.introducer ≡ Some m → length p.parameters.values ≡ 5 → p.parameters.count < 5
+pub digit_pushed : {A : Type 0} (p : SixelBuilder A) (m : Introducer) (b : ℕ) → p.introducer ≡ Some m → length p.parameters.values ≡ 5 → p.parameters.count < 5
     → IsDigit b → Pushes p b (with_parameters p (more_digit p.parameters b))
 unfolding LeadsTo
 digit_pushed p m b some five room h = λ ps s lead.
@@ -130,10 +160,6 @@ begins p m fresh b none is k = λ ps s lead.
     (after_none {T = Unit {0}} {E = Unit {0}} ps (closed_of Closed s) (open_of Closed s) (class_of b) b p.sixel p.sixel p.introducer (Some m)
     p.parameters fresh (Ok tt) lead.0 lead.1 none (rw is (refl, (refl, k))))
 
--- the image with one more piece of data
-abbrev pub with_data : {A : Type 0} → Sixel A → SixelData → Sixel A
-with_data s d = record s { content = s.content ++ d ∷ [] }
-
 pub selected_begins : {A : Type 0} (p : SixelBuilder A) (m : Introducer) (fresh : Parameters) (b : ℕ) (d : SixelData) → p.introducer ≡ Some introducer.Color
     → class_of b ≡ Introduces m → Keeps fresh [] → ((r : List ℕ) → Keeps p.parameters r → d ≡ color_of r)
     → Pushes p b (record { sixel = with_data p.sixel d; introducer = Some m; parameters = fresh })
@@ -153,3 +179,39 @@ repeat_ends p q b d some is gives e none = λ ps s lead.
     (after_some {T = Unit {0}} {E = Unit {0}} ps (closed_of Closed s) (open_of Closed s) introducer.Repeat (class_of b) b p.sixel q.sixel
     p.introducer q.introducer p.parameters q.parameters (Ok tt) lead.0 lead.1 some
     (λ r h. rw (pixels_class b is) (e ∙ ap (with_data p.sixel) (gives r h.1), none)))
+
+-- a number alone in a command
+none_kept : (k : ℕ) → get_or fresh.values k None ≡ param [] k
+none_kept zero = refl
+none_kept (suc zero) = refl
+none_kept (suc (suc zero)) = refl
+none_kept (suc (suc (suc zero))) = refl
+none_kept (suc (suc (suc (suc zero)))) = refl
+none_kept (suc (suc (suc (suc (suc k))))) = refl
+
+pub fresh_keeps : Keeps fresh []
+fresh_keeps = record { values = λ k small. none_kept k; count = refl }
+
+count_stays : (p : Parameters) (ds : List ℕ) → (more_digits p ds).count ≡ p.count
+count_stays p [] = refl
+count_stays p (b ∷ ds) = count_stays (more_digit p b) ds
+
+number_kept : (ds r : List ℕ) → 0 < length ds → Keeps (more_digits fresh ds) r → param r 0 ≡ Some (number_after 0 ds)
+number_kept ds r some k =
+    sym (k.values 0 (omega arith)) ∙ ap (λ (p : Parameters). get_or p.values 0 None) (digits_written fresh ds (omega arith) some)
+
+pub selects : (ds r : List ℕ) (n : ℕ) → 0 < length ds → n ≡ number_after 0 ds → n < 1000 → Keeps (more_digits fresh ds) r → SelectColorMapEntry n ≡ color_of r
+selects ds r n some e small k =
+    let alone : separators r ≡ 0 = omega (arith, k.count, count_stays fresh ds) in
+    let is : param r 0 ≡ Some n = number_kept ds r some k ∙ ap Some (sym e) in
+    let fits : n ≡ min n 65535 = omega arith in
+    rw (alone, is) (ap SelectColorMapEntry fits)
+
+pub repeats : (ds r : List ℕ) (n v : ℕ) → 0 < length ds → n ≡ number_after 0 ds → n < 1000 → Keeps (more_digits fresh ds) r → Repeat v n ≡ repeat_of r v
+repeats ds r n v some e small k =
+    let is : param r 0 ≡ Some n = number_kept ds r some k ∙ ap Some (sym e) in
+    let fits : n ≡ min n 4294967295 = omega arith in
+    rw is (ap (λ m. Repeat v m) fits)
+
+pub some_taken : (n : ℕ) (ys : List ℕ) → 0 < n → n ≤ length ys → 0 < length (take n ys)
+some_taken n ys some few = omega (arith, length-take n ys)

@@ -237,13 +237,13 @@ select_back n small =
     let pieces : ArePieces (decimal n ∷ []) (n ∷ []) = (decimal_piece n (omega arith), tt) in
     rw (run_separators (decimal n) [] n [] pieces, run_numbers (decimal n) [] n [] pieces) (ap SelectColorMapEntry (held_short n small))
 
-repeat_back : (n v : ℕ) → n < 2 ^ 32 → repeat_of (decimal n) v ≡ Repeat n v
-repeat_back n v small = rw (piece_last (decimal n) n (decimal_piece n (omega arith))) (ap (λ m. Repeat m v) (held_count n small))
+repeat_back : (n v : ℕ) → n < 2 ^ 32 → repeat_of (decimal n) v ≡ Repeat v n
+repeat_back n v small = rw (piece_last (decimal n) n (decimal_piece n (omega arith))) (ap (λ m. Repeat v m) (held_count n small))
 
 -- the item of a piece of data
 abbrev pub item_for : SixelData → Item
 item_for (Data v) = OfPixels v
-item_for (Repeat n v) = OfRepeat (decimal n) (Some v)
+item_for (Repeat v n) = OfRepeat (decimal n) (Some v)
 item_for (DefineColorMapRGB n c) = OfColor (rgb_run n c)
 item_for (DefineColorMapHSL n h l s) = OfColor (hsl_run n h l s)
 item_for (SelectColorMapEntry n) = OfColor (joined (decimal n ∷ []))
@@ -253,7 +253,7 @@ item_for NewLine = OfLine
 pub content_stops : (ds : List SixelData) → AreWritableData ds → Stops (content_text ds)
 content_stops [] h = tt
 content_stops (Data v ∷ ds) h = pixels_stop v (content_text ds) h.0
-content_stops (Repeat n v ∷ ds) h = rw repeat_class refl
+content_stops (Repeat v n ∷ ds) h = rw repeat_class refl
 content_stops (DefineColorMapRGB n c ∷ ds) h = rw color_class refl
 content_stops (DefineColorMapHSL n a l s ∷ ds) h = rw color_class refl
 content_stops (SelectColorMapEntry n ∷ ds) h = rw color_class refl
@@ -266,7 +266,7 @@ select_text n = simp append-nil refl
 pub content_items : (ds : List SixelData) → AreWritableData ds → items_at Outside (content_text ds) ≡ map item_for ds
 content_items [] h = refl
 content_items (Data v ∷ ds) h = pixels_item v (content_text ds) h.0 ∙ ap (λ r. OfPixels v ∷ r) (content_items ds h.1)
-content_items (Repeat n v ∷ ds) h =
+content_items (Repeat v n ∷ ds) h =
     let small = h.0.0 in
     let piece = decimal_piece n (omega (arith, small)) in
     ap (λ t. items_at Outside (0x21 ∷ t)) (append_assoc (decimal n) (pixels_text v) (content_text ds))
@@ -292,7 +292,7 @@ content_items (NewLine ∷ ds) h = rw line_class (ap (λ r. OfLine ∷ r) (conte
 
 item_gives : (d : SixelData) → IsWritableData d → gives (item_for d) ≡ d ∷ []
 item_gives (Data v) h = refl
-item_gives (Repeat n v) h = ap (λ x. x ∷ []) (repeat_back n v h.0)
+item_gives (Repeat v n) h = ap (λ x. x ∷ []) (repeat_back n v h.0)
 item_gives (DefineColorMapRGB n c) h = ap (λ x. x ∷ []) (rgb_back n c h)
 item_gives (DefineColorMapHSL n a l s) h = ap (λ x. x ∷ []) (hsl_back n a l s h)
 item_gives (SelectColorMapEntry n) h = ap (λ x. x ∷ []) (select_back n h)
@@ -306,7 +306,7 @@ content_back (d ∷ ds) h = ap (λ x. x ++ flat_map gives (map item_for ds)) (it
 -- none of them is raster attributes
 pub no_pan : (d : SixelData) → raster_pan (item_for d) ≡ None
 no_pan (Data v) = refl
-no_pan (Repeat n v) = refl
+no_pan (Repeat v n) = refl
 no_pan (DefineColorMapRGB n c) = refl
 no_pan (DefineColorMapHSL n a l s) = refl
 no_pan (SelectColorMapEntry n) = refl
@@ -315,7 +315,7 @@ no_pan NewLine = refl
 
 pub no_pad : (d : SixelData) → raster_pad (item_for d) ≡ None
 no_pad (Data v) = refl
-no_pad (Repeat n v) = refl
+no_pad (Repeat v n) = refl
 no_pad (DefineColorMapRGB n c) = refl
 no_pad (DefineColorMapHSL n a l s) = refl
 no_pad (SelectColorMapEntry n) = refl
@@ -324,7 +324,7 @@ no_pad NewLine = refl
 
 pub no_sizes : (d : SixelData) → raster_sizes (item_for d) ≡ None
 no_sizes (Data v) = refl
-no_sizes (Repeat n v) = refl
+no_sizes (Repeat v n) = refl
 no_sizes (DefineColorMapRGB n c) = refl
 no_sizes (DefineColorMapHSL n a l s) = refl
 no_sizes (SelectColorMapEntry n) = refl
@@ -333,7 +333,7 @@ no_sizes NewLine = refl
 
 not_oversize : (d : SixelData) → is_oversize (item_for d) ≡ false
 not_oversize (Data v) = refl
-not_oversize (Repeat n v) = refl
+not_oversize (Repeat v n) = refl
 not_oversize (DefineColorMapRGB n c) = refl
 not_oversize (DefineColorMapHSL n a l s) = refl
 not_oversize (SelectColorMapEntry n) = refl
@@ -366,7 +366,7 @@ pixels_byte v small = grind (arith, nat_tests)
 
 text_bytes : (d : SixelData) → IsWritableData d → list_all is_data_byte (data_text d) ≡ true
 text_bytes (Data v) h = rw (pixels_byte v h) refl
-text_bytes (Repeat n v) h =
+text_bytes (Repeat v n) h =
     let small = h.0 in
     let piece = decimal_piece n (omega (arith, small)) in
     list_all-append is_data_byte (decimal n) (pixels_text v)
@@ -390,7 +390,7 @@ content_bytes (d ∷ ds) h =
 -- all values are six pixels
 data_fits : (d : SixelData) → IsWritableData d → is_sixel d ≡ true
 data_fits (Data v) h = lt-ltb v 64 h
-data_fits (Repeat n v) h = lt-ltb v 64 h.1
+data_fits (Repeat v n) h = lt-ltb v 64 h.1
 data_fits (DefineColorMapRGB n c) h = refl
 data_fits (DefineColorMapHSL n a l s) h = refl
 data_fits (SelectColorMapEntry n) h = refl

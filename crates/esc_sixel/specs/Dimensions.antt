@@ -12,7 +12,7 @@ most = 4294967295
 -- how wide the line is after a piece of data, where it was n wide
 abbrev pub line_after : ℕ → SixelData → ℕ
 line_after n (Data v) = n + 1
-line_after n (Repeat c v) = n + c
+line_after n (Repeat v c) = n + c
 line_after n CarriageReturn = 0
 line_after n NewLine = 0
 line_after n d = n
@@ -34,7 +34,7 @@ band_after b d = b
 
 abbrev pub found_after : ℕ → ℕ → SixelData → ℕ
 found_after b f (Data v) = b
-found_after b f (Repeat c v) = b
+found_after b f (Repeat v c) = b
 found_after b f d = f
 
 abbrev pub last_band : ℕ → ℕ → List SixelData → ℕ

@@ -1,6 +1,7 @@
 pub mod Classes
 pub mod Dimensions
 pub mod Items
+pub mod Lines
 pub mod Meaning
 pub mod Runs
 pub mod Steps

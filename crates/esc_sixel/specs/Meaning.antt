@@ -70,7 +70,7 @@ color_of run = if nat_le 4 (separators run)
 
 -- a `!` and its run before six pixels
 abbrev pub repeat_of : List ℕ → ℕ → SixelData
-repeat_of run v = Repeat (min (unwrap_or (param run 0) 1) 4294967295) v
+repeat_of run v = Repeat v (min (unwrap_or (param run 0) 1) 4294967295)
 
 -- six pixels each
 abbrev pub drawn : List ℕ → List SixelData

@@ -11,7 +11,7 @@ use Rattle.esc_sixel.specs.declared.sixel_data.SixelData.TheVariants.{NewLine}
 -- whether its values, if it has one, are six pixels
 abbrev pub is_sixel : SixelData → Bool
 is_sixel (Data v) = nat_lt v 64
-is_sixel (Repeat n v) = nat_lt v 64
+is_sixel (Repeat v n) = nat_lt v 64
 is_sixel d = true
 
 -- the least percentage that is read as no less than a channel
@@ -25,7 +25,7 @@ pixels_text v = (v + 0x3f) ∷ []
 -- the text of a piece of data
 abbrev pub data_text : SixelData → List ℕ
 data_text (Data v) = pixels_text v
-data_text (Repeat n v) = codes "!" ++ decimal n ++ pixels_text v
+data_text (Repeat v n) = codes "!" ++ decimal n ++ pixels_text v
 data_text (DefineColorMapRGB n c) = codes "#" ++ decimal n ++ codes ";2;" ++ decimal (least_percent c.0) ++ codes ";" ++ decimal (least_percent c.1)
     ++ codes ";" ++ decimal (least_percent c.2)
 data_text (DefineColorMapHSL n h l s) = codes "#" ++ decimal n ++ codes ";1;" ++ decimal h ++ codes ";" ++ decimal l ++ codes ";" ++ decimal s

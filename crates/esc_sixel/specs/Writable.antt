@@ -17,7 +17,7 @@ IsChannel c = (p : ℕ) × (p ≤ 100) × (c ≡ percent p)
 -- six pixels, numbers within their types, channels of percentages
 abbrev pub IsWritableData : SixelData → Type 0
 IsWritableData (Data v) = v < 64
-IsWritableData (Repeat n v) = (n < 2 ^ 32) × (v < 64)
+IsWritableData (Repeat v n) = (n < 2 ^ 32) × (v < 64)
 IsWritableData (DefineColorMapRGB n c) = (n < 2 ^ 16) × (IsChannel c.0 × (IsChannel c.1 × IsChannel c.2))
 IsWritableData (DefineColorMapHSL n h l s) = (n < 2 ^ 16) × ((h < 2 ^ 16) × ((l < 2 ^ 8) × (s < 2 ^ 8)))
 IsWritableData (SelectColorMapEntry n) = n < 2 ^ 16

@@ -1,5 +1,5 @@
 //! How a sixel string is read, byte by byte.
-ghost use Rattle.std.specs.Prelude.{◌≡◌, ◌<◌, ◌≤◌, IfOk, ℕ, ℤ, get_or, length, take, List, [], ◌∷◌, ◌++◌, OnOk, OnErr, Some, None};
+ghost use Rattle.std.specs.Prelude.{◌≡◌, ◌<◌, ◌≤◌, IfOk, IfSome, ℕ, ℤ, get_or, length, take, List, [], ◌∷◌, ◌++◌, OnOk, OnErr, Some, None};
 ghost use Rattle.std.specs.List.{FoldsTo, slice_get};
 ghost use Rattle.esc_sixel.specs.Classes.{class_of};
 ghost use Rattle.esc_sixel.specs.Items.{items, OfRaster, OfColor};
@@ -9,13 +9,14 @@ ghost use Rattle.esc_sixel.specs.declared.class.Class.TheVariants.{Pixels};
 ghost use Rattle.esc_sixel.specs.Steps.{add_to, ended, alone, LeadsTo, HoldsOpen, In, Pushes, closed_by, open_by, opened, with_item, with_items};
 
 use crate::class::{Class, classify};
-use crate::commands::{color, repeat, signed, sizes};
+use crate::commands::{channel_of, color, repeat, signed, sizes};
+use crate::few_digits::{few_digits, number_before};
 use crate::introducer::Introducer;
 use crate::parameters::Parameters;
-use crate::pixels::{pixels_run, push_pixels};
+use crate::pixels::{line_end, pixels_run, push_pixels};
 use crate::sixel::Sixel;
 use crate::sixel_data::SixelData;
-use esc_below::Items;
+use esc_below::{Items, RgbColor};
 use std::alloc::{AllocError, Allocator, Global};
 
 /// Reads a sixel string: the parameters of its header, and then its data byte by byte.
@@ -132,12 +133,16 @@ impl<A: Allocator> SixelBuilder<A> {
             let run = pixels_run(rest);
             if run > 0 {
                 push_pixels(&mut self.sixel.content, &rest[..run])?;
-                return Ok(run);
+                return Ok(run + self.end_line(&rest[run..]));
             }
             if rest[0] == b'#' {
                 return self.push_selected(rest);
             }
         } else {
+            if let Some((color, taken)) = self.defined(rest) {
+                self.sixel.content.push(color)?;
+                return Ok(taken);
+            }
             let digits = self.parameters.digits(rest);
             if digits > 0 {
                 return Ok(digits);
@@ -147,8 +152,30 @@ impl<A: Allocator> SixelBuilder<A> {
         Ok(1)
     }
 
-    // A `#`, of which no command is open. The longest prefix of a `#` with its number, a `!` with its count and six pixels, where they
-    // are whole in these bytes, else the `#`; returns how many it took.
+    // The first byte of these outside a command, where it ends a line and memory for what it gives is not refused; returns how many
+    // bytes it took.
+    #[inline(always)]
+    fn end_line(&mut self, rest: &[u8]) -> usize
+        requires { self.old.introducer ≡ None }
+        ensures few { result ≤ length rest.now }
+        ensures takes { FoldsTo Pushes self.old (take result rest.now) self.new }
+    {
+        if rest.is_empty() {
+            return 0;
+        }
+        let Some(end) = line_end(rest[0]) else {
+            return 0;
+        };
+        // The pixels before it took memory for it too. Were it refused, the byte is not taken: the next step pushes it again, and
+        // returns the error.
+        match self.sixel.content.push(end) {
+            Ok(()) => 1,
+            Err(_) => 0,
+        }
+    }
+
+    // A `#` outside a command. A `#` with its number, a `!` with its count and six pixels, where they come first and their numbers have
+    // up to three digits, else the `#`; returns how many bytes it took.
     #[inline(always)]
     fn push_selected(&mut self, rest: &[u8]) -> Result<usize, AllocError>
         requires bytes { 0 < length rest.now }
@@ -157,19 +184,64 @@ impl<A: Allocator> SixelBuilder<A> {
         ensures ok { IfOk result (λ n. (0 < n) × (n ≤ length rest.now) × FoldsTo Pushes self.old (take n rest.now) self.new) }
         ensures err { OnErr result (self.new ≡ self.old) }
     {
-        let mut selected = Parameters::new();
-        let end = 1 + selected.digits(&rest[1..]);
-        if end < rest.len() && rest[end] == b'!' {
-            let mut repeated = Parameters::new();
-            let last = end + 1 + repeated.digits(&rest[end + 1..]);
-            if last < rest.len() && 0x3f <= rest[last] && rest[last] <= 0x7e {
-                let drawn = repeat(&repeated, rest[last] - 0x3f);
-                self.sixel.content.push_two(color(&selected), Some(drawn))?;
+        let (color, digits) = few_digits(&rest[1..]);
+        let end = 1 + digits;
+        if 0 < digits && end < rest.len() && rest[end] == b'!' {
+            let (repeat_count, digits) = few_digits(&rest[end + 1..]);
+            let last = end + 1 + digits;
+            if 0 < digits && last < rest.len() && 0x3f <= rest[last] && rest[last] <= 0x7e {
+                let drawn = SixelData::Repeat {
+                    repeat_count,
+                    content: rest[last] - 0x3f,
+                };
+                self.sixel
+                    .content
+                    .push_two(SixelData::SelectColorMapEntry(color as u16), Some(drawn))?;
                 return Ok(last + 1);
             }
         }
         self.push(rest[0])?;
         Ok(1)
+    }
+
+    // Right after a `#`: a colour's number, `2` and its percentages, of up to three digits each, and another `#`, where these come first.
+    // Gives the colour, and how many bytes these are.
+    #[inline(always)]
+    fn defined(&self, rest: &[u8]) -> Option<(SixelData, usize)>
+        ensures some { IfSome result (λ r. 0 < r.1) }
+        ensures few { IfSome result (λ r. r.1 ≤ length rest.now) }
+        ensures pushes { IfSome result (λ r. FoldsTo Pushes self.now (take r.1 rest.now)
+            (record self.now { sixel = record self.now.sixel { content = self.now.sixel.content ++ r.0 ∷ [] } })) }
+    {
+        let Some(Introducer::Color) = self.introducer else {
+            return None;
+        };
+        if !self.parameters.is_new() {
+            return None;
+        }
+        let Some((number, digits)) = number_before(rest, 0, b';') else {
+            return None;
+        };
+        let two = digits + 1;
+        if rest.len() - two < 2 || rest[two] != b'2' || rest[two + 1] != b';' {
+            return None;
+        }
+        let at = two + 2;
+        let Some((red, digits)) = number_before(rest, at, b';') else {
+            return None;
+        };
+        let after_red = at + digits + 1;
+        let Some((green, digits)) = number_before(rest, after_red, b';') else {
+            return None;
+        };
+        let after_green = after_red + digits + 1;
+        let Some((blue, digits)) = number_before(rest, after_green, b'#') else {
+            return None;
+        };
+        let rgb = RgbColor::new_8bpc(channel_of(red), channel_of(green), channel_of(blue));
+        let color_number = number as u16;
+        let color = SixelData::DefineColorMapRGB { color_number, rgb };
+        Some((color, after_green + digits + 1))
     }
 
     /// The data ends here, and a command with it: the field `sixel` is the image that the parameters and all bytes mean.

@@ -1,6 +1,7 @@
 //! What the parameters of a command say.
 ghost use Rattle.std.specs.Prelude.{◌<◌, ◌≡◌, ℕ, List, min, pos, unwrap_or};
 ghost use Rattle.esc_sixel.specs.Meaning.{number, percent, size_of, color_of, repeat_of, sizes_of};
+ghost use Rattle.esc_sixel.specs.Meaning.{percent as percent_of};
 ghost use Rattle.esc_sixel.specs.Runs.{Keeps, param};
 
 use crate::parameters::Parameters;
@@ -29,6 +30,15 @@ fn channel(parameters: &Parameters, k: usize) -> u8
     ensures { (r : List ℕ) → Keeps parameters.now r → result ≡ percent (number r k) }
 {
     let percent = parameters.get(k).unwrap_or(0).min(100);
+    (255 * percent / 100) as u8
+}
+
+// The channel of a colour that is given as a percentage.
+#[inline(always)]
+pub(crate) fn channel_of(percent: u32) -> u8
+    ensures { result ≡ percent_of percent }
+{
+    let percent = percent.min(100);
     (255 * percent / 100) as u8
 }
 

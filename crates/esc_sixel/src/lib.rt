@@ -9,6 +9,7 @@ pub mod builder;
 mod class;
 mod commands;
 mod dimensions;
+mod few_digits;
 mod introducer;
 pub mod laws;
 mod parameters;

@@ -1,7 +1,8 @@
 //! The parameters of a command.
-ghost use Rattle.std.specs.Prelude.{◌≡◌, ◌<◌, ◌≤◌, ◌∷◌, [], ◌++◌, ◌+◌, ◌*◌, ℕ, List, length, nat_le, take};
+ghost use Rattle.std.specs.Prelude.{◌≡◌, ◌<◌, ◌≤◌, ◌∷◌, [], ◌++◌, ◌+◌, ◌*◌, ℕ, List, length, nat_le, take, true};
 ghost use Rattle.std.specs.List.{All};
 ghost use Rattle.esc_sixel.specs.Classes.{IsDigit};
+ghost use Rattle.esc_sixel.specs.Lines.{fresh};
 ghost use Rattle.esc_sixel.specs.Runs.{Keeps, more_digits, param, separators};
 ghost use Rattle.esc_below.specs.Entries.{held};
 
@@ -23,6 +24,19 @@ impl Parameters {
             values: [None; 5],
             count: 0,
         }
+    }
+
+    // Whether nothing has come.
+    #[inline(always)]
+    pub(crate) fn is_new(&self) -> bool
+        ensures { result ≡ true → self.now ≡ fresh }
+    {
+        self.count == 0
+            && self.values[0].is_none()
+            && self.values[1].is_none()
+            && self.values[2].is_none()
+            && self.values[3].is_none()
+            && self.values[4].is_none()
     }
 
     // One more `;`.

@@ -1,7 +1,8 @@
 //! Six pixels, many times.
-ghost use Rattle.std.specs.Prelude.{◌≡◌, ◌<◌, ◌≤◌, ◌+◌, ◌++◌, ◌∷◌, [], length, map, take, drop, OnOk, OnErr, vec_len, vec_capacity};
+ghost use Rattle.std.specs.Prelude.{◌≡◌, ◌<◌, ◌≤◌, ◌+◌, ◌++◌, ◌∷◌, [], length, map, take, drop, IfSome, OnOk, OnErr, vec_len, vec_capacity};
 ghost use Rattle.std.specs.List.{All};
 ghost use Rattle.esc_sixel.specs.Classes.{IsPixels, lowest};
+ghost use Rattle.esc_sixel.specs.Lines.{Ends};
 ghost use Rattle.esc_sixel.specs.Meaning.{drawn};
 ghost use Rattle.esc_sixel.specs.declared.sixel_data.SixelData.TheVariants.{Data};
 
@@ -57,8 +58,8 @@ pub(crate) fn pixels_run(bytes: &[u8]) -> usize
     end
 }
 
-// Appends six pixels, for which there is room. The compiler joins the stores of a constant: this takes three, and a
-// `push_reserved` of the value five.
+// Appends six pixels, for which there is room. The compiler joins the stores of a constant: this takes two, and a
+// `push_reserved` of the value four.
 #[inline(always)]
 fn put<A: Allocator>(vec: &mut Vec<SixelData, A>, value: u8)
     requires { vec_len vec.old < vec_capacity vec.old }
@@ -123,7 +124,7 @@ fn fill<A: Allocator>(vec: Vec<SixelData, A>, run: &[u8]) -> Vec<SixelData, A>
     vec
 }
 
-// Appends these bytes as pixels. Memory for all is taken first.
+// Appends these bytes as pixels. Memory for all, and for what ends their line, is taken first.
 fn append<A: Allocator>(
     items: Items<SixelData, A>,
     run: &[u8],
@@ -133,7 +134,7 @@ fn append<A: Allocator>(
     ensures err { OnErr result.1 (result.0 ≡ items) }
 {
     let mut vec = items.into_vec();
-    match vec.reserve(run.len()) {
+    match vec.reserve(run.len() + 1) {
         Ok(()) => (Items::from_vec(fill(vec, run)), Ok(())),
         Err(error) => (Items::from_vec(vec), Err(error)),
     }
@@ -150,4 +151,16 @@ pub(crate) fn push_pixels<A: Allocator>(
     ensures err { OnErr result (items.new ≡ items.old) }
 {
     replace_with(items, run, append)
+}
+
+// What a byte that ends a line gives; none for another.
+#[inline(always)]
+pub(crate) fn line_end(byte: u8) -> Option<SixelData>
+    ensures { IfSome result (λ d. Ends byte d) }
+{
+    match byte {
+        b'$' => Some(SixelData::CarriageReturn),
+        b'-' => Some(SixelData::NewLine),
+        _ => None,
+    }
 }

@@ -10,16 +10,16 @@ use std::fmt;
 pub type SixelValue = u8;
 
 /// A piece of sixel data.
-#[derive(Clone, Copy, Debug, PartialEq, Eq)]
+#[derive(Clone, Copy, PartialEq, Eq)]
 pub enum SixelData {
     /// Six pixels, a byte from `?` to `~`.
     Data(SixelValue),
     /// Six pixels so many times, `!` with the count before them.
     Repeat {
-        /// How many times.
-        repeat_count: u32,
         /// The pixels.
         content: SixelValue,
+        /// How many times.
+        repeat_count: u32,
     },
     /// `#` with coordinate system 2: gives a colour to a number, and selects it.
     DefineColorMapRGB {
@@ -85,6 +85,45 @@ impl fmt::Display for SixelData {
             }
             SixelData::CarriageReturn => f.write_str("$"),
             SixelData::NewLine => f.write_str("-"),
+        }
+    }
+}
+
+/// Writes each variant with its fields, as a derived Debug does, but the count of `Repeat` before its pixels.
+impl fmt::Debug for SixelData {
+    fn fmt<W: fmt::Write>(&self, f: &mut fmt::Formatter<W>) -> fmt::Result {
+        match self {
+            SixelData::Data(value) => f.debug_tuple("Data").field(value).finish(),
+            SixelData::Repeat {
+                content,
+                repeat_count,
+            } => f
+                .debug_struct("Repeat")
+                .field("repeat_count", repeat_count)
+                .field("content", content)
+                .finish(),
+            SixelData::DefineColorMapRGB { color_number, rgb } => f
+                .debug_struct("DefineColorMapRGB")
+                .field("color_number", color_number)
+                .field("rgb", rgb)
+                .finish(),
+            SixelData::DefineColorMapHSL {
+                color_number,
+                hue_angle,
+                lightness,
+                saturation,
+            } => f
+                .debug_struct("DefineColorMapHSL")
+                .field("color_number", color_number)
+                .field("hue_angle", hue_angle)
+                .field("lightness", lightness)
+                .field("saturation", saturation)
+                .finish(),
+            SixelData::SelectColorMapEntry(number) => {
+                f.debug_tuple("SelectColorMapEntry").field(number).finish()
+            }
+            SixelData::CarriageReturn => f.write_str("CarriageReturn"),
+            SixelData::NewLine => f.write_str("NewLine"),
         }
     }
 }

@@ -2,7 +2,7 @@ use Rattle.std.proofs.Common.{◌-◌, ◌≡◌, ◌≤◌, None, get_or, lengt
 use Rattle.std.specs.List.{All}
 use Rattle.std.specs.Option.{unwrap_or}
 use Rattle.esc_sixel.specs.Classes.{IsDigit}
-use Rattle.esc_sixel.proofs.DigitRuns.{number_after}
+use Rattle.esc_sixel.specs.Lines.{number_after}
 use Rattle.esc_sixel.proofs.parameters.Parameters.digits.Given as goal
 
 -- the digits so far are in the number

@@ -1,0 +1,47 @@
+//! Numbers of few digits.
+ghost use Rattle.std.specs.Prelude.{◌≡◌, ◌<◌, ◌≤◌, ◌+◌, ◌-◌, IfSome, drop, length, slice_index, take};
+ghost use Rattle.std.specs.List.{All};
+ghost use Rattle.esc_sixel.specs.Classes.{IsDigit};
+ghost use Rattle.esc_sixel.specs.Lines.{number_after};
+
+// The number of the digits that come first, up to three, and how many these are. It takes none of fewer than three bytes.
+#[inline(always)]
+pub(crate) fn few_digits(rest: &[u8]) -> (u32, usize)
+    ensures few { result.1 ≤ length rest.now }
+    ensures digits { All IsDigit (take result.1 rest.now) }
+    ensures number { result.0 ≡ number_after 0 (take result.1 rest.now) }
+    ensures small { result.0 < 1000 }
+{
+    if rest.len() < 3 || rest[0] < b'0' || rest[0] > b'9' {
+        return (0, 0);
+    }
+    let one = u32::from(rest[0] - b'0');
+    if rest[1] < b'0' || rest[1] > b'9' {
+        return (one, 1);
+    }
+    let two = one * 10 + u32::from(rest[1] - b'0');
+    if rest[2] < b'0' || rest[2] > b'9' {
+        return (two, 2);
+    }
+    (two * 10 + u32::from(rest[2] - b'0'), 3)
+}
+
+// The number of up to three digits at this place, and how many these are, where this byte comes right after them.
+#[inline(always)]
+pub(crate) fn number_before(rest: &[u8], at: usize, mark: u8) -> Option<(u32, usize)>
+    requires { at ≤ length rest.now }
+    ensures some { IfSome result (λ r. 0 < r.1) }
+    ensures few { IfSome result (λ r. r.1 ≤ length (take (length rest.now - at) (drop at rest.now))) }
+    ensures digits { IfSome result (λ r. All IsDigit (take r.1 (take (length rest.now - at) (drop at rest.now)))) }
+    ensures number { IfSome result (λ r. r.0 ≡ number_after 0 (take r.1 (take (length rest.now - at) (drop at rest.now)))) }
+    ensures small { IfSome result (λ r. r.0 < 1000) }
+    ensures within { IfSome result (λ r. at + r.1 < length rest.now) }
+    ensures mark { IfSome result (λ r. slice_index rest.now (at + r.1) ≡ mark) }
+{
+    let (number, digits) = few_digits(&rest[at..]);
+    let end = at + digits;
+    if digits == 0 || end >= rest.len() || rest[end] != mark {
+        return None;
+    }
+    Some((number, digits))
+}
