@@ -1,7 +1,7 @@
 -- What a stream means.
 use Rattle.std.specs.Prelude.{ℕ, ◌≡◌, ◌≢◌, ◌⊎◌, List, [], ◌∷◌, ◌++◌, length, drop, Option, None}
 use Rattle.esc_frame.specs.Events.{Event}
-use Rattle.esc_frame.specs.Memory.{MayGrow}
+use Rattle.esc_frame.specs.Memory.{MayTake}
 use Rattle.esc_frame.specs.Stream.{events_within}
 use Rattle.esc_actions.specs.Values.{Value, Mode, plain, after, given}
 
@@ -33,7 +33,7 @@ yield s b = yield_within None s b
 
 -- a call that is fed b after s may want memory: for an unfinished string or sequence, or for what it hands out
 abbrev pub MayWant : Type 0 → Option ℕ → List ℕ → List ℕ → Type 0
-MayWant A limit s b = MayGrow (s ++ b) ⊎ (yield_within {A = A} limit s b ≢ [])
+MayWant A limit s b = MayTake (s ++ b) ⊎ (yield_within {A = A} limit s b ≢ [])
 
 -- these bytes mean these values, and what follows them means its own, whatever it is
 abbrev pub Reads : {A : Type 0} → List ℕ → List (Value A) → Type 0

@@ -1,7 +1,9 @@
+pub mod Commands
 pub mod Encoding
 pub mod Openers
 pub mod Results
 pub mod Runs
+pub mod Sequences
 pub mod Sinks
 pub mod Steps
 pub mod Texts

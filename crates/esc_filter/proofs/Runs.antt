@@ -1,9 +1,9 @@
 -- Runs of text.
-use Rattle.std.proofs.Common.{◌≡◌, ℕ, suc, ◌+◌, Bool, true, false, cond, List, [], ◌∷◌, length, map, refl, ap, sym, subst, ◌∙◌, ◌==◌, arith}
+use Rattle.std.proofs.Common.{◌≡◌, ℕ, Bool, true, false, List, [], ◌∷◌, map, refl, ap, sym, subst, ◌∙◌, ◌==◌, arith}
 use Rattle.std.proofs.lemmas.Bool.{and_parts}
 use Rattle.std.proofs.lemmas.Bool.Decides.{nat_tests}
 use Rattle.std.specs.Char.{encode_utf8}
-use Rattle.std.specs.List.{FoldsTo, list_all, prefix_len}
+use Rattle.std.specs.List.{FoldsTo, list_all}
 use Rattle.std.specs.Str.{IsUtf8, chars, encode_utf8_all}
 use Rattle.std.proofs.lemmas.List.Folds.{list_all-append}
 use Rattle.std.proofs.lemmas.Str.{encode_ascii, encodes-chars}
@@ -12,7 +12,6 @@ use Rattle.escape_stream.specs.declared.sink.Spell.{Spell}
 use Rattle.esc_actions.specs.Values.{Value, print}
 use Rattle.esc_actions.specs.declared.action.Action.{Action}
 use Rattle.esc_actions.specs.declared.action.Action.TheVariants as action
-use Rattle.esc_frame.specs.Scans.{is_data_byte}
 use Rattle.esc_filter.specs.Fed.{Takes}
 use Rattle.esc_filter.specs.Passing.{passes}
 use Rattle.esc_filter.specs.declared.passing.Passing.{Passing}
@@ -20,32 +19,9 @@ use Rattle.esc_filter.specs.Rules.{admits, is_shown}
 use Rattle.esc_filter.specs.declared.policy.Policy.{Policy}
 use Rattle.esc_filter.specs.declared.policy.Policy.TheVariants as policy
 
-same_next : (n m : ℕ) → (1 + n == suc m) ≡ (n == m)
-same_next n m = grind (arith, nat_tests)
-
-whole_by : (p : ℕ → Bool) (x : ℕ) (xs : List ℕ) (t : Bool) → p x ≡ t → (prefix_len p xs == length xs) ≡ list_all p xs
-    → (prefix_len p (x ∷ xs) == length (x ∷ xs)) ≡ list_all p (x ∷ xs)
-whole_by p x xs true e h = rw e (same_next (prefix_len p xs) (length xs) ∙ h)
-whole_by p x xs false e h = rw e (grind (arith, nat_tests))
-
--- a prefix is the whole where each is in it
-pub is_whole_run : (p : ℕ → Bool) (xs : List ℕ) → (prefix_len p xs == length xs) ≡ list_all p xs
-is_whole_run p [] = refl
-is_whole_run p (x ∷ xs) = whole_by p x xs (p x) refl (is_whole_run p xs)
-
 all_more : (p q : ℕ → Bool) → ((c : ℕ) → p c ≡ true → q c ≡ true) → (xs : List ℕ) → list_all p xs ≡ true → list_all q xs ≡ true
 all_more p q f [] h = refl
 all_more p q f (x ∷ xs) h = let k = and_parts (p x) (list_all p xs) h in rw (f x k.0, all_more p q f xs k.1) refl
-
-shown : (c : ℕ) → is_data_byte c ≡ true → is_shown c ≡ true
-shown c h = grind (arith, nat_tests)
-
--- each policy admits characters that are shown
-pub run_admitted : (A : Type 0) (p : Policy) (xs : List ℕ) → list_all is_data_byte xs ≡ true → list_all (λ c. admits {A = A} p (print c)) xs ≡ true
-run_admitted A policy.Text xs h = all_more is_data_byte is_shown shown xs h
-run_admitted A policy.Color xs h = all_more is_data_byte (λ c. admits {A = A} policy.Color (print c)) (λ c k. rw (shown c k) refl) xs h
-run_admitted A policy.Screen xs h = all_more is_data_byte (λ c. admits {A = A} policy.Screen (print c)) (λ c k. rw (shown c k) refl) xs h
-run_admitted A policy.All xs h = all_more is_data_byte (λ c. true) (λ c k. refl) xs h
 
 -- a character without the byte DEL is shown
 char_by : (c : ℕ) (t : Bool) → (c == 0x7f) ≡ t → list_all is_shown (encode_utf8 c) ≡ true → is_shown c ≡ true
@@ -68,10 +44,14 @@ admitted_char A policy.Color c h = rw h refl
 admitted_char A policy.Screen c h = rw h refl
 admitted_char A policy.All c h = refl
 
+-- each policy admits characters that are shown
+pub run_admitted : (A : Type 0) (p : Policy) (xs : List ℕ) → list_all is_shown xs ≡ true → list_all (λ c. admits {A = A} p (print c)) xs ≡ true
+run_admitted A p xs h = all_more is_shown (λ c. admits {A = A} p (print c)) (λ c k. admitted_char A p c k) xs h
+
 pub str_admitted : (A : Type 0) (p : Policy) (text : List ℕ) → IsUtf8 text → list_all is_shown text ≡ true
     → list_all (λ c. admits {A = A} p (print c)) (chars text) ≡ true
 str_admitted A p text u h =
-    all_more is_shown (λ c. admits {A = A} p (print c)) (λ c k. admitted_char A p c k) (chars text)
+    run_admitted A p (chars text)
     (chars_by (chars text) (subst (λ t. list_all is_shown t ≡ true) (sym (encodes-chars text u)) h))
 
 -- a run that is admitted passes, character by character

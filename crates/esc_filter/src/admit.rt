@@ -1,14 +1,15 @@
 //! Whoever says which actions a filter lets through.
-ghost use Rattle.std.specs.Prelude.{◌≡◌, Bool, IsTrue, not, true, ◌&&◌};
+ghost use Rattle.std.specs.Prelude.{◌≡◌, Bool, IfSome, IsTrue, Some, false, map, not, true, ◌&&◌};
 ghost use Rattle.std.specs.List.{list_all, list_any};
 ghost use Rattle.std.specs.Str.{chars};
-ghost use Rattle.esc_below.specs.Csis.{csi_value};
-ghost use Rattle.esc_actions.specs.Values.{Value, device_value, print, value_of};
+ghost use Rattle.esc_below.specs.Csis.{csi_of, csi_value};
+ghost use Rattle.esc_actions.specs.Values.{Value, csi, device_value, osc, print, value_of};
 ghost use Rattle.esc_actions.specs.Writable.{is_exception, is_opening, is_truncated};
 ghost use Rattle.esc_device.specs.Writable.{is_high_byte};
+ghost use Rattle.esc_osc.specs.Reading.{meaning as command_meant};
 ghost use Rattle.esc_filter.specs.Passing.{is_opener, is_whole, passes};
 
-use escape_stream::{Action, CSI, DeviceControlMode, Esc};
+use escape_stream::{Action, CSI, CsiParam, DeviceControlMode, Esc};
 use std::alloc::Allocator;
 
 /// Says which actions may pass a filter: a [`Policy`](crate::Policy), or a rule of the caller's own.
@@ -20,7 +21,8 @@ pub trait Admit<A: Allocator> {
     ghost admits: { Self → Value A → Bool };
 
     /// Whether the action may pass. It is asked of each action once, in order, but for the characters of a run that
-    /// [`admits_text`](Admit::admits_text) lets through.
+    /// [`admits_text`](Admit::admits_text) lets through, and those of which
+    /// [`admits_sequence`](Admit::admits_sequence) or [`admits_command`](Admit::admits_command) knows it.
     fn admits(&self, action: &Action<A>) -> bool
         ensures { result ≡ admits self.now (value_of action.now) };
 
@@ -41,7 +43,27 @@ pub trait Admit<A: Allocator> {
         false
     }
 
-    /// Is shown each action that does not pass, also one that no policy is asked of. It does nothing, unless an implementation does.
+    /// Whether the actions of a control sequence pass, of which no entry was left out: true where each is admitted, and false where
+    /// none is and [`leaves_out`](Admit::leaves_out) need not be shown them. They are not made then. Where it returns `None`, each is made
+    /// and asked of by itself; so it does by default.
+    #[inline]
+    fn admits_sequence(&self, _params: &[CsiParam], _control: u8) -> Option<bool>
+        ensures passes { result ≡ Some true → list_all (λ c. admits self.now (csi c)) (csi_of _params.now false _control) ≡ true }
+        ensures stays { result ≡ Some false → list_any (λ c. admits self.now (csi c)) (csi_of _params.now false _control) ≡ false }
+    {
+        None
+    }
+
+    /// The same of the operating system command that these parts mean.
+    #[inline]
+    fn admits_command(&self, _parts: &[&[u8]]) -> Option<bool>
+        ensures { IfSome result (λ b. admits self.now (osc (command_meant (map (λ p. p.now) _parts.now))) ≡ b) }
+    {
+        None
+    }
+
+    /// Is shown each action that does not pass, also one that no policy is asked of, but for those of which
+    /// [`admits_sequence`](Admit::admits_sequence) or [`admits_command`](Admit::admits_command) returns false. It does nothing, unless an implementation does.
     fn leaves_out(&self, _action: &Action<A>) {}
 }
 

@@ -3,7 +3,7 @@ ghost use Rattle.std.specs.Prelude.{◌≡◌};
 ghost use Rattle.esc_filter.specs.Fed.{Takes};
 
 use crate::admit::{Admit, passes};
-use escape_stream::{Action, Sink, Spell};
+use escape_stream::{Action, CsiParam, Sink, Spell};
 use std::alloc::{AllocError, Allocator, Global};
 
 /// Appends the text of each action that passes, and drops the others.
@@ -58,5 +58,35 @@ impl<'p, P: Admit<A>, A: Allocator> Sink<Action<A>> for Passing<'p, P, A> {
             }
         }
         Ok(())
+    }
+
+    // What passes is appended from its entries where the text can be, and what does not is passed over; neither is made.
+    #[inline]
+    fn receive_sequence(
+        &mut self,
+        params: &[CsiParam],
+        parameters_truncated: bool,
+        control: u8,
+    ) -> Result<bool, AllocError> {
+        if parameters_truncated {
+            return Ok(false);
+        }
+        match self.policy.admits_sequence(params, control) {
+            Some(true) => self
+                .spell
+                .receive_sequence(params, parameters_truncated, control),
+            Some(false) => Ok(true),
+            None => Ok(false),
+        }
+    }
+
+    // The same of a command.
+    #[inline]
+    fn receive_command(&mut self, parts: &[&[u8]]) -> Result<bool, AllocError> {
+        match self.policy.admits_command(parts) {
+            Some(true) => self.spell.receive_command(parts),
+            Some(false) => Ok(true),
+            None => Ok(false),
+        }
     }
 }

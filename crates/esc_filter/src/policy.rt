@@ -1,14 +1,15 @@
 //! Policies.
-ghost use Rattle.std.specs.Prelude.{◌≡◌};
-ghost use Rattle.esc_frame.specs.Scans.{is_data_byte};
-ghost use Rattle.std.specs.List.{list_all};
-ghost use Rattle.esc_below.specs.Csis.{csi_value};
+ghost use Rattle.std.specs.Prelude.{◌≡◌, ◌≢◌, ◌||◌, ◌∷◌, [], IfSome, IsTrue, Some, codes, false, map, true};
+ghost use Rattle.std.specs.Str.{IsAscii};
+ghost use Rattle.std.specs.List.{list_all, list_any};
+ghost use Rattle.esc_below.specs.Csis.{csi_of, csi_value};
+ghost use Rattle.esc_below.specs.Hyperlinks.{is_colon};
 ghost use Rattle.esc_actions.specs.Values.{value_of};
-ghost use Rattle.esc_filter.specs.Rules.{is_colour, is_layout, is_link, is_plain_entry, is_rendition, is_shown, is_text};
+ghost use Rattle.esc_osc.specs.Reading.{meaning as command_meant};
+ghost use Rattle.esc_filter.specs.Rules.{ArePlainParams, is_colour, is_layout, is_link, is_plain_entry, is_rendition, is_screen_sequence, is_shown, is_text};
 
 use crate::admit::Admit;
-use crate::screen::is_screen;
-use esc_frame::scans::data_run;
+use crate::screen::{is_screen, is_screen_body};
 use escape_stream::{Action, CSI, CsiParam, OperatingSystemCommand};
 use std::alloc::Allocator;
 
@@ -46,20 +47,131 @@ impl<A: Allocator> Admit<A> for Policy {
 
     #[inline]
     fn admits_text(&self, text: &[u8]) -> bool {
-        are_printable(text)
+        are_shown(text)
     }
 
     #[inline]
     fn admits_str(&self, text: &str) -> bool {
         are_shown(text.as_bytes())
     }
+
+    #[inline]
+    fn admits_sequence(&self, params: &[CsiParam], control: u8) -> Option<bool> {
+        match self {
+            Policy::Text => Some(false),
+            Policy::Color => colour_passes(params, control),
+            Policy::Screen => screen_passes(params, control),
+            Policy::All => Some(true),
+        }
+    }
+
+    #[inline]
+    fn admits_command(&self, parts: &[&[u8]]) -> Option<bool> {
+        match self {
+            Policy::Text => Some(false),
+            Policy::Color => link_passes::<A>(parts),
+            Policy::Screen => None,
+            Policy::All => Some(true),
+        }
+    }
 }
 
-// Whether each byte is 20 to 7E: a character of ASCII that is shown.
-fn are_printable(text: &[u8]) -> bool
-    ensures { result ≡ list_all is_data_byte text.now }
+// Whether the command that these parts mean is a link; known where there are two or three, and the first is another code or they are a
+// plain link.
+#[inline]
+fn link_passes<A: Allocator>(parts: &[&[u8]]) -> Option<bool>
+    ensures { IfSome result (λ b. is_link (command_meant {A = A} (map (λ p. p.now) parts.now)) ≡ b) }
 {
-    data_run(text) == text.len()
+    match parts {
+        [code, part] => link_of_two::<A>(code, part),
+        [code, second, third] => link_of_three::<A>(code, second, third),
+        _ => None,
+    }
+}
+
+// The same, of a code and one part more.
+fn link_of_two<A: Allocator>(code: &[u8], _part: &[u8]) -> Option<bool>
+    ensures { IfSome result (λ b. is_link (command_meant {A = A} (code.now ∷ _part.now ∷ [])) ≡ b) }
+{
+    if is_other_code(code) {
+        Some(false)
+    } else {
+        None
+    }
+}
+
+// The same, of a code and two parts more.
+fn link_of_three<A: Allocator>(code: &[u8], params: &[u8], uri: &[u8]) -> Option<bool>
+    ensures { IfSome result (λ b. is_link (command_meant {A = A} (code.now ∷ params.now ∷ uri.now ∷ [])) ≡ b) }
+{
+    if is_other_code(code) {
+        Some(false)
+    } else if is_link_code(code) && are_plain_params(params) && uri.is_ascii() {
+        Some(true)
+    } else {
+        None
+    }
+}
+
+// Whether the parameters of a link are none, or `id` alone, in ASCII.
+fn are_plain_params(params: &[u8]) -> bool
+    ensures { IsTrue result → ArePlainParams params.now }
+{
+    match params {
+        [] => true,
+        [b'i', b'd', b'=', value @ ..] => is_plain_value(value),
+        _ => false,
+    }
+}
+
+// Whether it is ASCII, and is one parameter.
+fn is_plain_value(value: &[u8]) -> bool
+    ensures ascii { IsTrue result → IsAscii value.now }
+    ensures one { IsTrue result → list_any is_colon value.now ≡ false }
+{
+    value.is_ascii() && !value.contains(&b':')
+}
+
+// Whether it is ASCII, and not the code of links.
+fn is_other_code(code: &[u8]) -> bool
+    ensures ascii { IsTrue result → IsAscii code.now }
+    ensures other { IsTrue result → code.now ≢ codes "8" }
+{
+    !is_link_code(code) && code.is_ascii()
+}
+
+// Whether it is the code of links.
+fn is_link_code(code: &[u8]) -> bool
+    ensures link { IsTrue result → code.now ≡ codes "8" }
+    ensures other { result ≡ false → code.now ≢ codes "8" }
+{
+    matches!(code, [b'8'])
+}
+
+// Whether what a control sequence means is renditions; not known where the final byte is `m` and the entries are no plain ones.
+#[tactic(auto, using(crate::proofs::Sequences::renditions_pass, crate::proofs::Sequences::no_rendition))]
+#[inline]
+fn colour_passes(params: &[CsiParam], control: u8) -> Option<bool>
+    ensures passes { result ≡ Some true → list_all is_rendition (csi_of params.now false control) ≡ true }
+    ensures stays { result ≡ Some false → list_any is_rendition (csi_of params.now false control) ≡ false }
+{
+    if control != b'm' {
+        return Some(false);
+    }
+    if are_plain(params) { Some(true) } else { None }
+}
+
+// The same, of what changes the screen alone too.
+#[tactic(auto, using(crate::proofs::Sequences::screen_all, crate::proofs::Sequences::screen_one, crate::proofs::Sequences::screen_none))]
+#[inline]
+fn screen_passes(params: &[CsiParam], control: u8) -> Option<bool>
+    ensures passes { result ≡ Some true → list_all (λ c. is_rendition c || is_screen_sequence c) (csi_of params.now false control) ≡ true }
+    ensures stays { result ≡ Some false → list_any (λ c. is_rendition c || is_screen_sequence c) (csi_of params.now false control) ≡ false }
+{
+    if control != b'm' {
+        return Some(is_screen_body(params, control));
+    }
+    if are_plain(params) { Some(true) } else { None }
 }
 
 // Whether it is characters, or a control that lays them out.
@@ -75,11 +187,16 @@ fn is_text<A: Allocator>(action: &Action<A>) -> bool
     }
 }
 
-// Whether each character of this UTF-8 is shown: none of its bytes is DEL.
+// Whether each character of this UTF-8 is shown: none of its bytes is DEL. It looks at all of them, so that many are looked at in one
+// step.
 fn are_shown(text: &[u8]) -> bool
     ensures { result ≡ list_all is_shown text.now }
 {
-    text.iter().all(|b| *b != 0x7f)
+    let mut shown = true;
+    for byte in text {
+        shown &= *byte != 0x7f;
+    }
+    shown
 }
 
 // Whether it is tab, line feed or carriage return.

@@ -78,7 +78,7 @@ fn is_screen_sequence<A: Allocator>(csi: &CSI<A>) -> bool
 }
 
 // The same, of a sequence that has no name.
-fn is_screen_body(params: &[CsiParam], control: u8) -> bool
+pub(crate) fn is_screen_body(params: &[CsiParam], control: u8) -> bool
     ensures { result ≡ is_screen_body params.now control }
 {
     (moves_or_erases(control) && are_plain(params))

@@ -13,6 +13,7 @@ use Rattle.esc_frame.specs.Leads.{Holds}
 use Rattle.esc_frame.specs.Leads.Unfinished.{Ground}
 use Rattle.esc_frame.specs.Memory.{MayGrow}
 use Rattle.esc_frame.specs.Machine.Calls.{TellsOne}
+use Rattle.esc_frame.specs.Machine.Keeps.{KeepsText}
 use Rattle.esc_frame.specs.Machine.Moves.{IsStill, after_by, news_by, after_all, news_all, may_grow_in, move}
 use Rattle.esc_frame.specs.Machine.Moves.{reaches_growing, lends, is_lendable, may_grow_within}
 use Rattle.esc_frame.specs.Stream.{IsQuietWithin, LeadsToWithin, added_within}
@@ -23,9 +24,10 @@ use Rattle.esc_frame.proofs.Still.{quiet_all}
 use Rattle.esc_frame.proofs.Streams.{after_append, added_is}
 
 -- what many bytes say, of the stream
-pub kept_all : {A : Type 0} (limit : Option ℕ) (m : Machine A) (s b : List ℕ) → Holds limit m (after_all (after_all Ground s) b)
-    → Holds limit m (after_all Ground (s ++ b))
-kept_all limit m s b h = subst (λ u. Holds limit m u) (sym (after_append Ground s b)) h
+pub kept_all : {K A : Type 0} (keeps : Option ℕ → K → List ℕ → Type 0) (limit : Option ℕ) (m : Machine K A) (s b : List ℕ)
+    → Holds keeps limit m (after_all (after_all Ground s) b)
+    → Holds keeps limit m (after_all Ground (s ++ b))
+kept_all keeps limit m s b h = subst (λ u. Holds keeps limit m u) (sym (after_append Ground s b)) h
 
 pub given_all : {S : Type 0} (l limit : Option ℕ) → l ≡ limit → (takes : S → Event → S → Type 0) (s b : List ℕ) (old new : S)
     → FoldsTo takes old (news_all l (after_all Ground s) b) new → FoldsTo takes old (added_within limit s b) new
@@ -66,12 +68,12 @@ or_no : (t : Bool) → t ≡ true → (t || false) ≡ true
 or_no true h = refl
 or_no false h = h
 
-pub kept_one : {A : Type 0} (limit : Option ℕ) (m : Machine A) (s : List ℕ) (b : ℕ) (c : Class) → c ≡ class_of b
-    → Holds limit m (move limit (after_all Ground s) b c).0
-    → Holds limit m (after_all Ground (s ++ b ∷ []))
-kept_one limit m s b c e h =
+pub kept_one : {K A : Type 0} (keeps : Option ℕ → K → List ℕ → Type 0) (limit : Option ℕ) (m : Machine K A) (s : List ℕ) (b : ℕ) (c : Class) → c ≡ class_of b
+    → Holds keeps limit m (move limit (after_all Ground s) b c).0
+    → Holds keeps limit m (after_all Ground (s ++ b ∷ []))
+kept_one keeps limit m s b c e h =
     let u = after_all Ground s in
-    kept_all limit m s (b ∷ []) (subst (λ k. Holds limit m (after_by u b k)) e (subst (λ w. Holds limit m w) (after_same limit u b c) h))
+    kept_all keeps limit m s (b ∷ []) (subst (λ k. Holds keeps limit m (after_by u b k)) e (subst (λ w. Holds keeps limit m w) (after_same limit u b c) h))
 
 pub given_one : {S : Type 0} (l limit : Option ℕ) → l ≡ limit → (takes : S → Event → S → Type 0) (s : List ℕ) (b : ℕ) (c : Class) (old new : S)
     → c ≡ class_of b → FoldsTo takes old (news_by l (after_all Ground s) b c) new → FoldsTo takes old (added_within limit s (b ∷ [])) new
@@ -95,8 +97,10 @@ event_fed : {A : Type 0} (limit : Option ℕ) (p : VTParser A) (s b : List ℕ) 
     → news_all limit Ground b ≡ x ∷ [] → LeadsToWithin limit (s ++ b) p × (added_within limit s b ≡ x ∷ [])
 unfolding LeadsToWithin
 event_fed limit p s b x (f, i, h) e k n =
-    let same : after_all Ground s ≡ after_all (after_all Ground s) b = e ∙ sym k ∙ ap (λ u. after_all u b) (sym e) in
-    ((f, i, kept_all p.limit p.machine s b (subst (λ u. Holds p.limit p.machine u) same h)), added_is limit s b ∙ ap (λ u. news_all limit u b) e ∙ n)
+    let same : after_all Ground s ≡ after_all (after_all Ground s) b = e ∙ sym k ∙ ap (λ u. after_all u b) (sym e) in (
+      (f, i, kept_all KeepsText p.limit p.machine s b (subst (λ u. Holds KeepsText p.limit p.machine u) same h)),
+      added_is limit s b ∙ ap (λ u. news_all limit u b) e ∙ n,
+    )
 
 pub character_fed : {A : Type 0} (limit : Option ℕ) (p : VTParser A) (s bs : List ℕ) (o : Option (ℕ × ℕ)) → LeadsToWithin limit s p
     → after_all Ground s ≡ Ground

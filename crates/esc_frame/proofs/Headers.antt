@@ -15,9 +15,8 @@ use Rattle.esc_frame.specs.declared.header.DcsHeader.{DcsHeader}
 use Rattle.esc_frame.specs.Bodies.{is_marker, is_intermediate_byte, is_csi_parameter, is_dcs_parameter, is_dcs_header, behind_marker, drop_while}
 use Rattle.esc_frame.specs.Bodies.{held, value_behind, dcs_params, dcs_intermediates}
 use Rattle.esc_frame.specs.Events.Event.{DcsHook}
-use Rattle.esc_frame.specs.declared.kept.Kept.{Kept}
 use Rattle.esc_frame.specs.Limits.{is_within, is_read, header_count}
-use Rattle.esc_frame.specs.Machine.Keeps.{KeepsText, KeepsDcs, next_form_by, next_form, form_by, is_formed, parameters_of, others_of}
+use Rattle.esc_frame.specs.Machine.Keeps.{KeepsDcs, next_form_by, next_form, form_by, is_formed, parameters_of, others_of}
 use Rattle.esc_frame.specs.Segments.{hook_event}
 use Rattle.esc_frame.proofs.Forms.{drop_while-cons, formed_by}
 
@@ -118,7 +117,6 @@ hook_is h x bytes is ns b f k e n i =
     ∙ ap (λ y. DcsHook b (dcs_params x) y h.intermediates.ignored) (i ∙ k.0.0 ∙ ap (take 2) o)
     ∙ ap (λ t. DcsHook b (dcs_params x) (take 2 (dcs_intermediates x)) t) (k.0.1 ∙ ap (λ y. nat_lt 2 (length y)) o)
 
--- what is kept of a header that is read
-pub read_kept : {A : Type 0} (limit : Option ℕ) (k : Kept A) (x : List ℕ) → KeepsText limit k (parameters_of x) → is_read limit x ≡ true
-    → (k.bytes.items ≡ parameters_of x) × (is_dcs_header x ≡ true)
-read_kept limit k x h r = let p = and_parts (is_within limit (header_count x)) (is_dcs_header x) r in (h.kept (h.over ∙ ap not p.0), p.1)
+-- a header that is read is within the limit, and has its form
+pub read_parts : (limit : Option ℕ) (x : List ℕ) → is_read limit x ≡ true → (is_within limit (length (parameters_of x)) ≡ true) × (is_dcs_header x ≡ true)
+read_parts limit x r = and_parts (is_within limit (header_count x)) (is_dcs_header x) r

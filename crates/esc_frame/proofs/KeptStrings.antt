@@ -1,24 +1,25 @@
 -- Strings that cannot be lent from where they are, and so are kept.
-use Rattle.std.proofs.Common.{ℕ, ◌≡◌, ◌+◌, ◌<◌, ◌≤◌, true, false, ◌||◌, ◌==◌, List, [], ◌∷◌, ◌++◌, length, take, drop, get_or, refl, sym, subst, ap}
-use Rattle.std.proofs.Common.{◌∙◌, ◌⊎◌, inl, inr, None, length-drop, arith}
+use Rattle.std.proofs.Common.{ℕ, ◌≡◌, ◌+◌, ◌<◌, ◌≤◌, Bool, true, false, ◌||◌, ◌==◌, List, [], ◌∷◌, ◌++◌, length, take, drop, get_or, refl, sym, subst}
+use Rattle.std.proofs.Common.{ap, ◌∙◌, None, append_assoc, length-drop, arith}
 use Rattle.std.specs.List.{prefix_len}
-use Rattle.std.proofs.lemmas.Bool.{and_parts, cases_lt}
+use Rattle.std.proofs.lemmas.Bool.{and_parts}
 use Rattle.std.proofs.lemmas.Bool.Decides.{nat_tests}
+use Rattle.std.proofs.lemmas.List.{drop_more}
 use Rattle.std.proofs.lemmas.List.Sums.{prefix_len_stops}
 use Rattle.esc_frame.specs.declared.classes.Class.{Class}
 use Rattle.esc_frame.specs.declared.classes.Class.TheVariants.{Lead}
-use Rattle.esc_frame.specs.declared.sequence.Outcome.{Outcome}
 use Rattle.esc_frame.specs.declared.sequence.Outcome.TheVariants as outcomes
-use Rattle.esc_frame.specs.Limits.{has_few_parts}
 use Rattle.esc_frame.specs.Classes.{class_of, is_text, is_breaker, those}
+use Rattle.esc_frame.specs.Leads.{Unfinished}
 use Rattle.esc_frame.specs.Leads.Unfinished.{InApc, InOsc, InOscPending}
-use Rattle.esc_frame.specs.Machine.Moves.{after_all, lends, is_lendable, passes_osc, passes_pending, ends_osc}
-use Rattle.esc_frame.specs.Machine.TextRuns.{IsTextRun}
+use Rattle.esc_frame.specs.Machine.Characters.{NoneAhead}
+use Rattle.esc_frame.specs.Machine.Moves.{after_by, after_all, all_pass, is_ground, lends, is_lendable, osc_pending_move, ends_osc}
+use Rattle.esc_frame.specs.Machine.Moves.{passes, passes_osc, passes_pending}
+use Rattle.esc_frame.specs.Machine.TextRuns.{IsTextRun, NoUnitAhead}
 use Rattle.esc_frame.specs.Scans.{is_text_byte}
 use Rattle.esc_frame.specs.Segments.{Opener, Piece, text_of, is_empty}
-use Rattle.esc_frame.specs.Sequences.{is_from, is_pair, outcome}
-use Rattle.esc_frame.proofs.Lends.{lends_all, lends_at, no_if, not_both}
-use Rattle.esc_frame.proofs.QuietRuns.{quiet_after}
+use Rattle.esc_frame.specs.Sequences.{is_from, is_sequence, is_front, is_pair, outcome}
+use Rattle.esc_frame.proofs.Lends.{both, lends_all, lends_at, lends_behind, no_if, not_both}
 use Rattle.esc_frame.proofs.StringRuns.{apc_text, prefix_passes}
 
 pub empty_is : (t : List ℕ) → is_empty t ≡ true → t ≡ []
@@ -50,43 +51,91 @@ only_lead : (ps : List Piece) (c : Class) → is_text c ≡ false → ends_osc c
 only_lead ps Lead t e p = refl
 only_lead ps _ t e p = absurd cc
 
-pass_pair : (ps : List Piece) (f : List ℕ) (b : ℕ) (w : Outcome) → passes_pending ps f b w ≡ true → is_pair (f ++ b ∷ []) ≡ true
-pass_pair ps f b outcomes.Whole h = (and_parts (is_pair (f ++ b ∷ [])) (has_few_parts (text_of ps)) h).0
-pass_pair ps f b outcomes.More h = absurd cc
-pass_pair ps f b outcomes.Broken h = absurd cc
-
 pair_bytes : (a b : ℕ) → is_pair (a ∷ b ∷ []) ≡ true → (a ≡ 0xc2) × (is_from 0x80 0x9f b ≡ true)
 unfolding is_pair
 pair_bytes a b h = let k = and_parts (a == 0xc2) (is_from 0x80 0x9f b) h in (grind (arith, nat_tests), k.1)
 
+-- ---- bytes in which no unit comes first
+
+lends_next : (u : Unfinished) (b : ℕ) (bs : List ℕ) → lends u (b ∷ bs) ≡ true
+    → (passes u b (class_of b) ≡ true) × (lends (after_by u b (class_of b)) bs ≡ true)
+lends_next u b bs h =
+    let v : Unfinished = after_by u b (class_of b) in
+    let k = and_parts (all_pass u (b ∷ bs)) (is_ground (after_all u (b ∷ bs))) h in
+    let p = and_parts (passes u b (class_of b)) (all_pass v bs) k.0 in (p.0, both (all_pass v bs) (is_ground (after_all v bs)) p.1 k.1)
+
+-- no byte that comes next makes it a control
+abbrev NoPair : List ℕ → List ℕ → Type 0
+NoPair f s = (b : ℕ) (t : List ℕ) → s ≡ b ∷ t → is_pair (f ++ b ∷ []) ≡ false
+
+long_no_pair : (f : List ℕ) (b c : ℕ) → is_empty f ≡ false → is_pair ((f ++ b ∷ []) ++ c ∷ []) ≡ false
+unfolding is_pair
+long_no_pair [] b c n = absurd cc
+long_no_pair (a ∷ []) b c n = refl
+long_no_pair (a ∷ d ∷ []) b c n = refl
+long_no_pair (a ∷ d ∷ e ∷ f) b c n = refl
+
+some_more : (f : List ℕ) (b : ℕ) → is_empty (f ++ b ∷ []) ≡ false
+some_more [] b = refl
+some_more (a ∷ f) b = refl
+
+-- a byte that completes no sequence and passes makes the prefix longer
+longer : (o : Opener) (ps : List Piece) (f : List ℕ) (b : ℕ) (s : List ℕ) (t : Bool) → is_sequence (f ++ b ∷ []) ≡ false → is_front (f ++ b ∷ []) ≡ t
+    → passes_pending ps f b (outcome f b) ≡ true → lends (osc_pending_move None o ps f b (class_of b) (outcome f b)).0 s ≡ true
+    → lends (InOscPending o ps (f ++ b ∷ [])) s ≡ true
+longer o ps f b s true w e p h =
+    let k : outcome f b ≡ outcomes.More = rw (w, e) refl in
+    subst (λ x. lends (osc_pending_move None o ps f b (class_of b) x).0 s ≡ true) k h
+longer o ps f b s false w e p h =
+    let k : outcome f b ≡ outcomes.Broken = rw (w, e) refl in
+    let no : false ≡ true = subst (λ x. passes_pending ps f b x ≡ true) k p in absurd cc
+
+-- a prefix of a sequence there is not completed
+uncompleted : (o : Opener) (ps : List Piece) (f s : List ℕ) → is_empty f ≡ false → NoneAhead (f ++ s) → NoPair f s
+    → lends (InOscPending o ps f) s ≡ true → ⊥
+uncompleted o ps f [] n none np h = let k : false ≡ true = h in cc
+uncompleted o ps f (b ∷ s) n none np h =
+    let e : (f ++ b ∷ []) ++ s ≡ f ++ b ∷ s = append_assoc f (b ∷ []) s in
+    let k = lends_next (InOscPending o ps f) b s h in
+    let w : is_sequence (f ++ b ∷ []) ≡ false = no_if (is_sequence (f ++ b ∷ []))
+    (λ i. not_both (is_pair (f ++ b ∷ [])) (none (f ++ b ∷ []) s (sym e) i) (np b s refl)) in
+    uncompleted o ps (f ++ b ∷ []) s (some_more f b) (subst NoneAhead (sym e) none) (λ c t i. long_no_pair f b c n)
+    (longer o ps f b s (is_front (f ++ b ∷ [])) w refl k.0 k.1)
+
+-- where neither a unit nor an end of the text comes first, it cannot be lent
+no_unit : (o : Opener) (ps : List Piece) (a : ℕ) (s : List ℕ) → NoUnitAhead (a ∷ s) → ends_osc (class_of a) ≡ false → NoPair (a ∷ []) s
+    → lends (InOsc o ps) (a ∷ s) ≡ true → ⊥
+no_unit o ps a s stops ends np h =
+    let k = lends_next (InOsc o ps) a s h in
+    let lead : class_of a ≡ Lead = only_lead ps (class_of a) (no_text a stops.0) ends k.0 in
+    uncompleted o ps (a ∷ []) s refl stops.1 np (subst (λ c. lends (after_by (InOsc o ps) a c) s ≡ true) lead k.1)
+
 -- that no byte and no control after C2 ends where its run does
 module _ (o : Opener) (ps : List Piece) (rest : List ℕ) (n : ℕ) (run : IsTextRun (take n rest)) (room : n < length rest)
-    (stops : is_text_byte (get_or rest n 0) ≡ false) (c : Class) (e : c ≡ class_of (get_or rest n 0)) (ends : ends_osc c ≡ false)
+    (stops : NoUnitAhead (drop n rest)) (c : Class) (e : c ≡ class_of (get_or rest n 0)) (ends : ends_osc c ≡ false)
     (none : n + 1 < length rest → get_or rest n 0 ≡ 0xc2 → is_from 0x80 0x9f (get_or rest (n + 1) 0) ≡ false) where
-  lead_of_it : lends (InOsc o ps) rest ≡ true → c ≡ Lead
-  lead_of_it h =
-      only_lead (ps ++ run.0) c (ap is_text e ∙ no_text (get_or rest n 0) stops) ends
-      (subst (λ k. passes_osc (ps ++ run.0) k ≡ true) (sym e) (lends_at (InOsc o ps) (InOsc o (ps ++ run.0)) rest n (run.2 None o ps).0 room h))
+  tail : drop n rest ≡ get_or rest n 0 ∷ drop (n + 1) rest
+  tail = drop_more rest n 0 room
 
-  pends : lends (InOsc o ps) rest ≡ true → after_all (InOsc o ps) (take (n + 1) rest) ≡ InOscPending o (ps ++ run.0) (get_or rest n 0 ∷ [])
-  pends h =
-      quiet_after {S = Unit {0}} None (λ _ _ _. Unit {0}) (λ _ _ _. Unit {0}) (InOsc o ps) (InOsc o (ps ++ run.0)) rest n Lead tt tt (run.2 None o ps) room
-      (sym (lead_of_it h) ∙ e)
+  -- the byte after it
+  next_is : (b : ℕ) (t : List ℕ) → drop (n + 1) rest ≡ b ∷ t → (n + 1 < length rest) × (get_or rest (n + 1) 0 ≡ b)
+  next_is b t i =
+      let l : n + 1 < length rest = omega (arith, length-drop (n + 1) rest, ap length i) in
+      let k : get_or rest (n + 1) 0 ∷ drop (n + 1 + 1) rest ≡ b ∷ t = sym (drop_more rest (n + 1) 0 l) ∙ i in (l, cc)
 
-  not_pending : lends (InOsc o ps) rest ≡ true → ((n + 1 < length rest) ⊎ (length rest ≤ n + 1)) → ⊥
-  not_pending h (inl l) =
-      let p = lends_at (InOsc o ps) (InOscPending o (ps ++ run.0) (get_or rest n 0 ∷ [])) rest (n + 1) (pends h) l h in
-      let k = pair_bytes (get_or rest n 0) (get_or rest (n + 1) 0)
-      (pass_pair (ps ++ run.0) (get_or rest n 0 ∷ []) (get_or rest (n + 1) 0) (outcome (get_or rest n 0 ∷ []) (get_or rest (n + 1) 0)) p) in
-      not_both (is_from 0x80 0x9f (get_or rest (n + 1) 0)) k.1 (none l k.0)
-  not_pending h (inr l) =
-      let k : false ≡ true = lends_all (InOsc o ps) (InOscPending o (ps ++ run.0) (get_or rest n 0 ∷ [])) rest (n + 1) (pends h) (no_drop rest (n + 1) l) h in
-      cc
+  no_control : NoPair (get_or rest n 0 ∷ []) (drop (n + 1) rest)
+  no_control b t i =
+      no_if (is_pair (get_or rest n 0 ∷ b ∷ [])) (λ p.
+      let k = pair_bytes (get_or rest n 0) b p in
+      let j = next_is b t i in not_both (is_from 0x80 0x9f b) k.1 (subst (λ x. is_from 0x80 0x9f x ≡ false) j.1 (none j.0 k.0)))
 
   pub unclosed : is_lendable (InOsc o ps) rest ≡ false
   unclosed =
       no_if (is_lendable (InOsc o ps) rest) (λ h.
-      not_pending (and_parts (is_empty (text_of ps)) (lends (InOsc o ps) rest) h).1 (cases_lt (n + 1) (length rest)))
+      let l = (and_parts (is_empty (text_of ps)) (lends (InOsc o ps) rest) h).1 in
+      no_unit o (ps ++ run.0) (get_or rest n 0) (drop (n + 1) rest) (subst NoUnitAhead tail stops) (ap ends_osc (sym e) ∙ ends) no_control
+      (subst (λ y. lends (InOsc o (ps ++ run.0)) y ≡ true) tail
+      (subst (λ w. lends w (drop n rest) ≡ true) (run.2 None o ps).0 (lends_behind (InOsc o ps) rest n l))))
 
 -- ---- an application program command
 

@@ -10,9 +10,9 @@ use Rattle.esc_frame.specs.declared.classes.Kind.{Kind}
 use Rattle.esc_frame.specs.declared.classes.Kind.TheVariants as kind
 use Rattle.esc_frame.specs.declared.sequence.Outcome.{Outcome}
 use Rattle.esc_frame.specs.declared.sequence.Outcome.TheVariants as outcomes
-use Rattle.esc_frame.specs.Classes.{class_of, is_breaker, in_escape, strip}
+use Rattle.esc_frame.specs.Classes.{class_of, is_breaker, in_escape, in_csi, strip}
 use Rattle.esc_frame.specs.Leads.{Unfinished}
-use Rattle.esc_frame.specs.Leads.Unfinished.{Ground, Pending, InEscape, InOsc, InApc}
+use Rattle.esc_frame.specs.Leads.Unfinished.{Ground, Pending, InEscape, InCsi, InOsc, InApc}
 use Rattle.esc_frame.specs.Machine.Calls.{StaysFresh}
 use Rattle.esc_frame.specs.Machine.Moves.{opened, ground_move, pair_move, pending_move, inside, goes_on, final_escape, after_by, after_all, is_ground, may_grow_in}
 use Rattle.esc_frame.specs.Machine.Moves.{reaches_growing, passes, all_pass, lends, is_fresh, is_lendable, may_grow_within}
@@ -144,8 +144,7 @@ ground_fresh u rest n e = λ l. ap is_fresh e
 pub opened_fresh : (k : Kind) (o : Opener) (rest : List ℕ) → lends (opened k o) rest ≡ true → is_fresh (opened k o) ≡ true
 opened_fresh kind.Osc o rest h = refl
 opened_fresh kind.Apc o rest h = refl
-opened_fresh kind.Csi o [] h = absurd cc
-opened_fresh kind.Csi o (b ∷ bs) h = absurd cc
+opened_fresh kind.Csi o rest h = refl
 opened_fresh kind.Dcs o [] h = absurd cc
 opened_fresh kind.Dcs o (b ∷ bs) h = absurd cc
 opened_fresh kind.Sos o [] h = absurd cc
@@ -187,6 +186,12 @@ escape_fresh x b c rest true w e k = rw (e, inside) (λ h. begun_fresh b c rest 
 escape_fresh x b c rest false true e k = rw (e, k, inside, goes_on) (λ h. refl)
 escape_fresh x b c rest false false e k = rw (e, k, inside, goes_on) (λ h. final_fresh x b c rest h)
 
+pub csi_fresh : (o : Opener) (x : List ℕ) (b : ℕ) (c : Class) (rest : List ℕ) (t w : Bool) → is_breaker c ≡ t → in_csi c ≡ w
+    → lends (inside None (InCsi o x) b c).0 rest ≡ true → is_fresh (inside None (InCsi o x) b c).0 ≡ true
+csi_fresh o x b c rest true w e k = rw (e, inside) (λ h. begun_fresh b c rest h)
+csi_fresh o x b c rest false true e k = rw (e, k, inside, goes_on) (λ h. refl)
+csi_fresh o x b c rest false false e k = rw (e, k, inside, goes_on) (λ h. refl)
+
 -- an OSC or APC that no sequence pends in
 abbrev pub is_string : Unfinished → Bool
 is_string (InOsc o ps) = true
@@ -201,6 +206,8 @@ one_fresh (Pending f) [] s l = refl
 one_fresh (Pending f) (b ∷ bs) s l = pending_fresh f b (class_of b) bs (outcome f b) l
 one_fresh (InEscape x) [] s l = refl
 one_fresh (InEscape x) (b ∷ bs) s l = escape_fresh x b (class_of b) bs (is_breaker (class_of b)) (in_escape (class_of b)) refl refl l
+one_fresh (InCsi o x) [] s l = refl
+one_fresh (InCsi o x) (b ∷ bs) s l = csi_fresh o x b (class_of b) bs (is_breaker (class_of b)) (in_csi (class_of b)) refl refl l
 one_fresh (InOsc o ps) rest s l = absurd cc
 one_fresh (InApc o d) rest s l = absurd cc
 one_fresh _ rest s l = absurd cc
@@ -209,6 +216,7 @@ pub one_unlent : (u : Unfinished) (rest : List ℕ) → is_string u ≡ false �
 one_unlent Ground rest s g = absurd cc
 one_unlent (Pending f) rest s g = absurd cc
 one_unlent (InEscape x) rest s g = absurd cc
+one_unlent (InCsi o x) rest s g = absurd cc
 one_unlent (InOsc o ps) rest s g = absurd cc
 one_unlent (InApc o d) rest s g = absurd cc
 one_unlent _ rest s g = refl

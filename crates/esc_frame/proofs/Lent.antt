@@ -126,14 +126,14 @@ module _ {S : Type 0} (limit : Option ℕ) (takes refuses : S → Event → S �
         not_so (has_few_parts (take n rest)) many
         (ap has_few_parts lent_text ∙ few_of (ps ++ run.0) c ends (subst (λ k. passes_osc (ps ++ run.0) k ≡ true) (sym e) p))))
 
-    pub lent_took : {A : Type 0} (machine : Machine A)
-        → Holds limit machine (telling (osc_events limit (take n rest)) (osc_left (get_or rest n 0) c)).0
+    pub lent_took : {K A : Type 0} (keeps : Option ℕ → K → List ℕ → Type 0) (machine : Machine K A)
+        → Holds keeps limit machine (telling (osc_events limit (take n rest)) (osc_left (get_or rest n 0) c)).0
         × FoldsTo takes old (telling (osc_events limit (take n rest)) (osc_left (get_or rest n 0) c)).1 new
-        → Holds limit machine (after_all (InOsc o ps) (take (n + 1) rest)) × FoldsTo takes old (news_all limit (InOsc o ps) (take (n + 1) rest)) new
+        → Holds keeps limit machine (after_all (InOsc o ps) (take (n + 1) rest)) × FoldsTo takes old (news_all limit (InOsc o ps) (take (n + 1) rest)) new
         × StaysFresh (InOsc o ps) rest (n + 1)
-    lent_took machine h =
-        quiet_took limit takes refuses (InOsc o ps) (InOsc o (ps ++ run.0)) rest n c old new (run.2 limit o ps) room e machine lent_fresh
-        (subst (λ m. Holds limit machine m.0 × FoldsTo takes old m.1 new) whole h)
+    lent_took keeps machine h =
+        quiet_took limit takes refuses (InOsc o ps) (InOsc o (ps ++ run.0)) rest n c old new (run.2 limit o ps) room e keeps machine lent_fresh
+        (subst (λ m. Holds keeps limit machine m.0 × FoldsTo takes old m.1 new) whole h)
 
     pub lent_stops : StopsAt (not (has_few_parts (take n rest)) ≡ true) takes refuses old (telling (osc_events limit (take n rest)) (osc_left (get_or rest n 0) c)).1 new
         → StopsAt (may_grow_within (InOsc o ps) rest ≡ true) takes refuses old (news_all limit (InOsc o ps) rest) new
@@ -177,16 +177,17 @@ module _ {S : Type 0} (limit : Option ℕ) (takes refuses : S → Event → S �
         not_so (has_few_parts (take n rest)) many
         (ap has_few_parts lent_text ∙ few_by_pair (ps ++ run.0) (get_or rest (n + 1) 0) control p)))
 
-    pub pair_took : {A : Type 0} (machine : Machine A)
-        → Holds limit machine (telling (osc_events limit (take n rest)) (pair_move (get_or rest (n + 1) 0) (class_of (get_or rest (n + 1) 0)))).0
+    pub pair_took : {K A : Type 0} (keeps : Option ℕ → K → List ℕ → Type 0) (machine : Machine K A)
+        → Holds keeps limit machine (telling (osc_events limit (take n rest)) (pair_move (get_or rest (n + 1) 0) (class_of (get_or rest (n + 1) 0)))).0
         × FoldsTo takes old (telling (osc_events limit (take n rest)) (pair_move (get_or rest (n + 1) 0) (class_of (get_or rest (n + 1) 0)))).1 new
-        → Holds limit machine (after_all (InOsc o ps) (take (n + 2) rest)) × FoldsTo takes old (news_all limit (InOsc o ps) (take (n + 2) rest)) new
+        → Holds keeps limit machine (after_all (InOsc o ps) (take (n + 2) rest)) × FoldsTo takes old (news_all limit (InOsc o ps) (take (n + 2) rest)) new
         × StaysFresh (InOsc o ps) rest (n + 2)
-    pair_took machine h =
-        subst (λ k. Holds limit machine (after_all (InOsc o ps) (take k rest)) × FoldsTo takes old (news_all limit (InOsc o ps) (take k rest)) new
+    pair_took keeps machine h =
+        subst (λ k. Holds keeps limit machine (after_all (InOsc o ps) (take k rest)) × FoldsTo takes old (news_all limit (InOsc o ps) (take k rest)) new
         × StaysFresh (InOsc o ps) rest k) two
-        (quiet_took limit takes refuses (InOsc o ps) (InOscPending o (ps ++ run.0) (0xc2 ∷ [])) rest (n + 1) _ old new lead_run next refl machine pair_left
-        (subst (λ m. Holds limit machine m.0 × FoldsTo takes old m.1 new) pair_whole_move h))
+        (quiet_took limit takes refuses (InOsc o ps) (InOscPending o (ps ++ run.0) (0xc2 ∷ [])) rest (n + 1) _ old new lead_run next refl keeps machine
+        pair_left
+        (subst (λ m. Holds keeps limit machine m.0 × FoldsTo takes old m.1 new) pair_whole_move h))
 
     pub pair_stops : StopsAt (not (has_few_parts (take n rest)) ≡ true) takes refuses old
         (telling (osc_events limit (take n rest)) (pair_move (get_or rest (n + 1) 0) (class_of (get_or rest (n + 1) 0)))).1 new
@@ -223,14 +224,15 @@ module _ {S : Type 0} (limit : Option ℕ) (takes refuses : S → Event → S �
       ∙ rw (ends, after_by, move, inside) refl)
       (begun_fresh (get_or rest n 0) c (drop (n + 1) rest))
 
-  pub lent_apc_took : {A : Type 0} (machine : Machine A)
-      → Holds limit machine (telling (apc_events limit (take n rest)) (ground_move (get_or rest n 0) c)).0
+  pub lent_apc_took : {K A : Type 0} (keeps : Option ℕ → K → List ℕ → Type 0) (machine : Machine K A)
+      → Holds keeps limit machine (telling (apc_events limit (take n rest)) (ground_move (get_or rest n 0) c)).0
       × FoldsTo takes old (telling (apc_events limit (take n rest)) (ground_move (get_or rest n 0) c)).1 new
-      → Holds limit machine (after_all (InApc o d) (take (n + 1) rest)) × FoldsTo takes old (news_all limit (InApc o d) (take (n + 1) rest)) new
+      → Holds keeps limit machine (after_all (InApc o d) (take (n + 1) rest)) × FoldsTo takes old (news_all limit (InApc o d) (take (n + 1) rest)) new
       × StaysFresh (InApc o d) rest (n + 1)
-  lent_apc_took machine h =
-      quiet_took limit takes refuses (InApc o d) (InApc o (d ++ take n rest)) rest n c old new (apc_text limit o d (take n rest) passes) room e machine lent_apc_fresh
-      (subst (λ m. Holds limit machine m.0 × FoldsTo takes old m.1 new) apc_whole h)
+  lent_apc_took keeps machine h =
+      quiet_took limit takes refuses (InApc o d) (InApc o (d ++ take n rest)) rest n c old new (apc_text limit o d (take n rest) passes) room e keeps machine
+      lent_apc_fresh
+      (subst (λ m. Holds keeps limit machine m.0 × FoldsTo takes old m.1 new) apc_whole h)
 
   pub lent_apc_stops : StopsAt (false ≡ true) takes refuses old (telling (apc_events limit (take n rest)) (ground_move (get_or rest n 0) c)).1 new
       → StopsAt (may_grow_within (InApc o d) rest ≡ true) takes refuses old (news_all limit (InApc o d) rest) new

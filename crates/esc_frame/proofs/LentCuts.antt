@@ -12,16 +12,16 @@ use Rattle.esc_frame.specs.declared.classes.Kind.TheVariants as kind
 use Rattle.esc_frame.specs.Classes.{class_of, AllOf, is_text, is_noise, is_breaker, is_raw, in_escape, in_osc, letter_of}
 use Rattle.esc_frame.specs.Limits.{has_few_parts}
 use Rattle.esc_frame.specs.Memory.{AreLent, is_lent, is_lent_piece, has_ended, may_grow}
-use Rattle.esc_frame.specs.Segments.{Segment, Opener, Piece, Ending, HasShape, IsOpener, AreSegments, IsCut, joined, bytes_of, opener, is_finished, begins_pair}
-use Rattle.esc_frame.specs.Segments.{text_of, text_bytes, breaks_text}
+use Rattle.esc_frame.specs.Segments.{Segment, Opener, Piece, Ending, HasShape, IsOpener, ArePieces, AreSegments, IsCut, joined, bytes_of, opener, is_finished}
+use Rattle.esc_frame.specs.Segments.{begins_pair, text_of, text_bytes, breaks_text}
 use Rattle.esc_frame.specs.Segments.Ending.{Open, Rung, Waits}
 use Rattle.esc_frame.specs.Segments.Opener.{Long, Raw, Pair}
 use Rattle.esc_frame.specs.Segments.Piece.{One, Sequence, BrokenOff}
-use Rattle.esc_frame.specs.Segments.Segment.{Character, Wide, Broken, Stray, Control, HighControl, Terminator, CutEscape, Osc, Apc}
+use Rattle.esc_frame.specs.Segments.Segment.{Character, Wide, Broken, Stray, Control, HighControl, Terminator, CutEscape, Csi, CutCsi, Osc, Apc}
 use Rattle.esc_frame.specs.Segments.Segment.{Escape as EscapeOf}
 use Rattle.esc_frame.specs.Sequences.{is_sequence, is_front, is_pair, is_broken_before, outcome}
 use Rattle.esc_frame.specs.Leads.{Unfinished, AreFinished}
-use Rattle.esc_frame.specs.Leads.Unfinished.{Ground, Pending, InEscape, InOsc, InApc}
+use Rattle.esc_frame.specs.Leads.Unfinished.{Ground, Pending, InEscape, InCsi, InOsc, InApc}
 use Rattle.esc_frame.specs.Machine.Moves.{after_by, after_all, inside, goes_on, pending_move, osc_pending_move, move, is_ground, reaches_growing, passes_osc}
 use Rattle.esc_frame.specs.Machine.Moves.{all_pass, lends}
 use Rattle.esc_frame.specs.Stream.{events_within}
@@ -29,6 +29,7 @@ use Rattle.esc_frame.proofs.AtGround.{to_ground, from_ground}
 use Rattle.esc_frame.proofs.Cuts.{last_of, cut_last, stands}
 use Rattle.esc_frame.proofs.First.{MayFollow}
 use Rattle.esc_frame.proofs.Lends.{both, no_if, not_both, passes_append}
+use Rattle.esc_frame.proofs.ManyBytes.{lead_class, two_parts, three_parts, four_parts, osc_sequence}
 use Rattle.esc_frame.proofs.Memory.{grows, cut_grows}
 use Rattle.esc_frame.proofs.OneCut.{head_of, one_cut}
 use Rattle.esc_frame.proofs.Streams.{after_append}
@@ -83,6 +84,10 @@ escape_is Ground f n e = absurd cc
 escape_is (InEscape x) f n e = cc
 escape_is _ f n e = absurd cc
 
+csi_is : (u : Unfinished) (o : Opener) (x : List ℕ) → last_of u ≡ CutCsi o x → u ≡ InCsi o x
+csi_is (InCsi p y) o x e = cc
+csi_is _ o x e = absurd cc
+
 apc_is : (u : Unfinished) (o : Opener) (d : List ℕ) → last_of u ≡ Apc o d → u ≡ InApc o d
 apc_is (InApc p x) o d e = cc
 apc_is _ o d e = absurd cc
@@ -98,6 +103,7 @@ reaches_pass u [] h = refl
 reaches_pass Ground (b ∷ xs) h = reaches_pass (after_by Ground b (class_of b)) xs h
 reaches_pass (Pending f) (b ∷ xs) h = reaches_pass (after_by (Pending f) b (class_of b)) xs h
 reaches_pass (InEscape x) (b ∷ xs) h = reaches_pass (after_by (InEscape x) b (class_of b)) xs h
+reaches_pass (InCsi o x) (b ∷ xs) h = reaches_pass (after_by (InCsi o x) b (class_of b)) xs h
 reaches_pass _ (b ∷ xs) h = absurd cc
 
 quiet_pass : (g : Segment) → HasShape g [] → may_grow g ≡ false → all_pass Ground (bytes_of g) ≡ true
@@ -183,17 +189,48 @@ apc_pass o e (b ∷ d) h =
     let k = and_parts (is_text (class_of b)) (list_all (λ x. is_text (class_of x)) d) h in
     rw (k.0, text_breaks_not (class_of b) k.0, after_by, move, inside, goes_on) (apc_pass o (e ++ b ∷ []) d k.1)
 
-osc_pass : (o : Opener) (qs ps : List Piece) → list_all is_lent_piece ps ≡ true
+pass_two : (o : Opener) (ps : List Piece) (a b : ℕ) → is_sequence (a ∷ b ∷ []) ≡ true → is_pair (a ∷ b ∷ []) ≡ false
+    → all_pass (InOsc o ps) (a ∷ b ∷ []) ≡ true
+pass_two o ps a b s p = rw (lead_class a (two_parts a b s), s, p, after_by, move, inside, goes_on, osc_pending_move, outcome) refl
+
+pass_three : (o : Opener) (ps : List Piece) (a b c : ℕ) → is_sequence (a ∷ b ∷ c ∷ []) ≡ true → is_pair (a ∷ b ∷ c ∷ []) ≡ false
+    → all_pass (InOsc o ps) (a ∷ b ∷ c ∷ []) ≡ true
+pass_three o ps a b c s p = let t = three_parts a b c s
+    in rw (lead_class a t.0, t.1, t.2, s, p, after_by, move, inside, goes_on, osc_pending_move, outcome) refl
+
+pass_four : (o : Opener) (ps : List Piece) (a b c d : ℕ) → is_sequence (a ∷ b ∷ c ∷ d ∷ []) ≡ true → is_pair (a ∷ b ∷ c ∷ d ∷ []) ≡ false
+    → all_pass (InOsc o ps) (a ∷ b ∷ c ∷ d ∷ []) ≡ true
+pass_four o ps a b c d s p = let t = four_parts a b c d s
+    in rw (lead_class a t.0, t.1, t.2, t.3, t.4, s, p, after_by, move, inside, goes_on, osc_pending_move, outcome) refl
+
+-- a whole sequence passes
+sequence_passes : (o : Opener) (ps : List Piece) (x : List ℕ) → is_sequence x ≡ true → is_pair x ≡ false → all_pass (InOsc o ps) x ≡ true
+unfolding is_sequence
+sequence_passes o ps [] s p = absurd cc
+sequence_passes o ps (a ∷ []) s p = absurd cc
+sequence_passes o ps (a ∷ b ∷ []) s p = pass_two o ps a b s p
+sequence_passes o ps (a ∷ b ∷ c ∷ []) s p = pass_three o ps a b c s p
+sequence_passes o ps (a ∷ b ∷ c ∷ d ∷ []) s p = pass_four o ps a b c d s p
+sequence_passes o ps (a ∷ b ∷ c ∷ d ∷ e ∷ x) s p = absurd cc
+
+osc_pass : (o : Opener) (qs ps : List Piece) (r : List ℕ) → ArePieces ps r → list_all is_lent_piece ps ≡ true
     → (all_pass (InOsc o qs) (text_bytes ps) ≡ true) × (after_all (InOsc o qs) (text_bytes ps) ≡ InOsc o (qs ++ ps))
-osc_pass o qs [] h = (refl, ap (InOsc o) (sym (append-nil qs)))
-osc_pass o qs (One b ∷ ps) h =
+osc_pass o qs [] r a h = (refl, ap (InOsc o) (sym (append-nil qs)))
+osc_pass o qs (One b ∷ ps) r a h =
     let k = and_parts (is_text (class_of b)) (list_all is_lent_piece ps) h in
-    let q = osc_pass o (qs ++ One b ∷ []) ps k.1 in
+    let q = osc_pass o (qs ++ One b ∷ []) ps r a.1 k.1 in
     let p = text_passes qs (class_of b) k.0 in
     rw (p, text_breaks_not (class_of b) k.0, text_in_osc (class_of b) k.0, after_by, move, inside, goes_on)
     (q.0, q.1 ∙ ap (InOsc o) (append_assoc qs (One b ∷ []) ps))
-osc_pass o qs (Sequence x ∷ ps) h = absurd cc
-osc_pass o qs (BrokenOff x ∷ ps) h = absurd cc
+osc_pass o qs (Sequence x ∷ ps) r a h =
+    let k = and_parts true (list_all is_lent_piece ps) h in
+    let q = osc_pass o (qs ++ Sequence x ∷ []) ps r a.1 k.1 in
+    let e = (osc_sequence None o qs x a.0.0 a.0.1).0 in (
+      passes_append (InOsc o qs) x (text_bytes ps)
+          ∙ both (all_pass (InOsc o qs) x) _ (sequence_passes o qs x a.0.0 a.0.1) (ap (λ u. all_pass u (text_bytes ps)) e ∙ q.0),
+      after_append (InOsc o qs) x (text_bytes ps) ∙ ap (λ u. after_all u (text_bytes ps)) e ∙ q.1 ∙ ap (InOsc o) (append_assoc qs (Sequence x ∷ []) ps),
+    )
+osc_pass o qs (BrokenOff x ∷ ps) r a h = absurd cc
 
 -- ---- what follows a segment that does not end itself
 
@@ -212,6 +249,9 @@ broken_on f b r h p =
 
 escape_on : (x : List ℕ) (b : ℕ) (r : List ℕ) → is_breaker (class_of b) ≡ true → all_pass Ground (b ∷ r) ≡ true → all_pass (InEscape x) (b ∷ r) ≡ true
 escape_on x b r h p = rw (h, after_by, move, inside) p
+
+csi_on : (o : Opener) (x : List ℕ) (b : ℕ) (r : List ℕ) → is_breaker (class_of b) ≡ true → all_pass Ground (b ∷ r) ≡ true → all_pass (InCsi o x) (b ∷ r) ≡ true
+csi_on o x b r h p = rw (h, after_by, move, inside) p
 
 apc_on : (o : Opener) (d : List ℕ) (b : ℕ) (r : List ℕ) → is_breaker (class_of b) ≡ true → all_pass Ground (b ∷ r) ≡ true → all_pass (InApc o d) (b ∷ r) ≡ true
 apc_on o d b r h p =
@@ -281,6 +321,15 @@ goes_cut x r s m =
     on [] m h = refl
     on (b ∷ r) m h = escape_on x b r m h
 
+goes_cut_csi : (o : Opener) (x r : List ℕ) → HasShape (CutCsi o x) [] → MayFollow (CutCsi o x) r → Goes (CutCsi o x) r
+goes_cut_csi o x r s m =
+    goes_by (CutCsi o x) r (InCsi o x) (quiet_pass (CutCsi o x) s refl)
+    (csi_is (after_all Ground (bytes_of (CutCsi o x))) o x (open_is (CutCsi o x) s refl)) (on r m)
+  where
+    on : (r : List ℕ) → MayFollow (CutCsi o x) r → all_pass Ground r ≡ true → all_pass (InCsi o x) r ≡ true
+    on [] m h = refl
+    on (b ∷ r) m h = csi_on o x b r m h
+
 goes_apc : (o : Opener) (d r : List ℕ) → IsOpener o → AllOf is_text d → HasShape (Apc o d) [] → MayFollow (Apc o d) r → Goes (Apc o d) r
 goes_apc o d r i t s m =
     goes_by (Apc o d) r (InApc o d)
@@ -292,11 +341,11 @@ goes_apc o d r i t s m =
     on [] m h = refl
     on (b ∷ r) m h = apc_on o d b r m h
 
-osc_bytes : (o : Opener) (ps : List Piece) (e : List ℕ) → IsOpener o → list_all is_lent_piece ps ≡ true → all_pass (InOsc o ps) e ≡ true
+osc_bytes : (o : Opener) (ps : List Piece) (e r : List ℕ) → IsOpener o → ArePieces ps r → list_all is_lent_piece ps ≡ true → all_pass (InOsc o ps) e ≡ true
     → (all_pass Ground (opener kind.Osc o ++ text_bytes ps ++ e) ≡ true)
     × (after_all Ground (opener kind.Osc o ++ text_bytes ps ++ e) ≡ after_all (InOsc o ps) e)
-osc_bytes o ps e i l h =
-    let t = osc_pass o [] ps l in
+osc_bytes o ps e r i a l h =
+    let t = osc_pass o [] ps r a l in
     let xs : List ℕ = text_bytes ps ++ e in
     let inner : all_pass (InOsc o []) xs ≡ true = passes_append (InOsc o []) (text_bytes ps) e ∙ both (all_pass (InOsc o []) (text_bytes ps)) _ t.0
     (ap (λ u. all_pass u e) t.1 ∙ h) in
@@ -311,16 +360,17 @@ bell_class : class_of 0x07 ≡ Bell
 unfolding class_of
 bell_class = refl
 
-goes_osc : (o : Opener) (ps : List Piece) (e : Ending) (r : List ℕ) → IsOpener o → list_all is_lent_piece ps ≡ true → has_few_parts (text_of ps) ≡ true
-    → has_ended e ≡ true → MayFollow (Osc o ps e) r → Goes (Osc o ps e) r
-goes_osc o ps (Waits f) r i l few w m = absurd cc
-goes_osc o ps Rung r i l few w m =
+goes_osc : (o : Opener) (ps : List Piece) (e : Ending) (r : List ℕ) → HasShape (Osc o ps e) r → list_all is_lent_piece ps ≡ true
+    → has_few_parts (text_of ps) ≡ true → has_ended e ≡ true → MayFollow (Osc o ps e) r → Goes (Osc o ps e) r
+goes_osc o ps (Waits f) r s l few w m = absurd cc
+goes_osc o ps Rung r s l few w m =
     let rung : (all_pass (InOsc o ps) (0x07 ∷ []) ≡ true) × (after_all (InOsc o ps) (0x07 ∷ []) ≡ Ground) = rw (bell_class, few, after_by, move, inside, goes_on)
     (refl, refl) in
-    let b = osc_bytes o ps (0x07 ∷ []) i l rung.0 in
+    let b = osc_bytes o ps (0x07 ∷ []) (0x07 ∷ r) s.0 s.1 l rung.0 in
     goes_by (Osc o ps Rung) r Ground b.0 (b.1 ∙ rung.1) (λ h. h)
-goes_osc o ps Open [] i l few w m = let b = osc_bytes o ps [] i l refl in goes_by (Osc o ps Open) [] (InOsc o ps) b.0 b.1 (λ h. refl)
-goes_osc o ps Open (c ∷ r) i l few w m = let b = osc_bytes o ps [] i l refl in goes_by (Osc o ps Open) (c ∷ r) (InOsc o ps) b.0 b.1 (osc_on o ps c r few m)
+goes_osc o ps Open [] s l few w m = let b = osc_bytes o ps [] [] s.0 s.1 l refl in goes_by (Osc o ps Open) [] (InOsc o ps) b.0 b.1 (λ h. refl)
+goes_osc o ps Open (c ∷ r) s l few w m =
+    let b = osc_bytes o ps [] (c ∷ r) s.0 s.1 l refl in goes_by (Osc o ps Open) (c ∷ r) (InOsc o ps) b.0 b.1 (osc_on o ps c r few m)
 
 segment_goes : (g : Segment) (r : List ℕ) → HasShape g r → MayFollow g r → is_lent g ≡ true → Goes g r
 segment_goes (Character b) r s m l = goes_closed (Character b) r s refl refl
@@ -332,11 +382,13 @@ segment_goes (Terminator p b) r s m l = goes_closed (Terminator p b) r s refl re
 segment_goes (EscapeOf x f) r s m l = goes_closed (EscapeOf x f) r s refl refl
 segment_goes (Broken f) r s m l = goes_broken f r s m
 segment_goes (CutEscape x) r s m l = goes_cut x r s m
+segment_goes (Csi o x f) r s m l = goes_closed (Csi o x f) r s refl refl
+segment_goes (CutCsi o x) r s m l = goes_cut_csi o x r s m
 segment_goes (Apc o d) r s m l = goes_apc o d r s.0 l s m
 segment_goes (Osc o ps e) r s m l =
     let k = and_parts (list_all is_lent_piece ps && has_few_parts (text_of ps)) (has_ended e) l in
     let j = and_parts (list_all is_lent_piece ps) (has_few_parts (text_of ps)) k.0 in
-    goes_osc o ps e r s.0 j.0 j.1 k.1 m
+    goes_osc o ps e r s j.0 j.1 k.1 m
 segment_goes _ r s m l = absurd cc
 
 cut_passes : (gs : List Segment) → AreSegments gs → list_all is_lent gs ≡ true → all_pass Ground (joined gs) ≡ true

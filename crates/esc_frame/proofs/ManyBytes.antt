@@ -67,13 +67,13 @@ module _ {S : Type 0} (limit : Option ℕ) (takes refuses : S → Event → S �
             (subst (λ y. FoldsTo takes mid (news_all limit v y) new) e g)),
       )
 
-  pub ran_took : {A : Type 0} (machine : Machine A) (n : ℕ) → StaysFresh u rest i
-      → Holds limit machine (after_all v (take n (take (length rest - i) (drop i rest)))) × FoldsTo takes mid
+  pub ran_took : {K A : Type 0} (keeps : Option ℕ → K → List ℕ → Type 0) (machine : Machine K A) (n : ℕ) → StaysFresh u rest i
+      → Holds keeps limit machine (after_all v (take n (take (length rest - i) (drop i rest)))) × FoldsTo takes mid
       (news_all limit v (take n (take (length rest - i) (drop i rest)))) new × StaysFresh v (take (length rest - i) (drop i rest)) n
-      → Holds limit machine (after_all u (take (i + n) rest)) × FoldsTo takes old (news_all limit u (take (i + n) rest)) new × StaysFresh u rest (i + n)
-  ran_took machine n fresh (h, f, g) =
+      → Holds keeps limit machine (after_all u (take (i + n) rest)) × FoldsTo takes old (news_all limit u (take (i + n) rest)) new × StaysFresh u rest (i + n)
+  ran_took keeps machine n fresh (h, f, g) =
       let r = ran_more (after_all v (take n (take (length rest - i) (drop i rest)))) n (refl, f) in (
-        subst (λ w. Holds limit machine w) (sym r.0) h,
+        subst (λ w. Holds keeps limit machine w) (sym r.0) h,
         r.1,
         fresh_more u rest i n fresh (subst (λ w. StaysFresh w (drop i rest) n) (sym here) (subst (λ y. StaysFresh v y n) (tail_is rest i) g)),
       )

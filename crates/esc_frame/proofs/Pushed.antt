@@ -12,7 +12,7 @@ use Rattle.esc_frame.specs.Events.{Event}
 use Rattle.esc_frame.specs.Leads.Unfinished.{InOsc, InApc, InDcs}
 use Rattle.esc_frame.specs.Machine.Calls.{Moved}
 use Rattle.esc_frame.specs.Machine.Fronts.{front_of}
-use Rattle.esc_frame.specs.Machine.Keeps.{KeepsText, KeepsDcs, parameters_of}
+use Rattle.esc_frame.specs.Machine.Keeps.{KeepsDcs, parameters_of}
 use Rattle.esc_frame.specs.Machine.Moves.{inside, goes_on}
 use Rattle.esc_frame.specs.Segments.{Opener, Piece, text_of, kept_of}
 use Rattle.esc_frame.specs.Segments.Piece.{One, Sequence}
@@ -53,36 +53,37 @@ body_goes Intermediate h = (refl, refl)
 body_goes Parameter h = (refl, refl)
 body_goes _ h = absurd cc
 
-module _ {A S E : Type 0} (limit : Option ℕ) (takes refuses : S → Event → S → Type 0) (result : Result (Unit {0}) E) (m : Machine A) (o : Opener) (b : ℕ)
+module _ {K A S E : Type 0} (keeps : Option ℕ → K → List ℕ → Type 0) (limit : Option ℕ) (takes refuses : S → Event → S → Type 0)
+    (result : Result (Unit {0}) E) (m : Machine K A) (o : Opener) (b : ℕ)
     (c : Class) (old : S) (e : c ≡ class_of b) where
   pub osc_pushed : (ps : List Piece) → is_text c ≡ true → m.state ≡ state.Osc → front_of m.pending ≡ []
-      → OnOk result (KeepsText limit m.text (text_of ps ++ b ∷ []))
-      → Moved limit true takes refuses result (inside limit (InOsc o ps) b c) m old old
+      → OnOk result (keeps limit m.text (text_of ps ++ b ∷ []))
+      → Moved keeps limit true takes refuses result (inside limit (InOsc o ps) b c) m old old
   osc_pushed ps h s p k = by_result result k
     where
-      by_result : (r : Result (Unit {0}) E) → OnOk r (KeepsText limit m.text (text_of ps ++ b ∷ []))
-          → Moved limit true takes refuses r (inside limit (InOsc o ps) b c) m old old
-      by_result (Ok v) k = let t = text_goes c h in rw (t.0, t.1, inside, goes_on) ((s, subst (KeepsText limit m.text) (text_one ps b c e h) k, p), refl)
+      by_result : (r : Result (Unit {0}) E) → OnOk r (keeps limit m.text (text_of ps ++ b ∷ []))
+          → Moved keeps limit true takes refuses r (inside limit (InOsc o ps) b c) m old old
+      by_result (Ok v) k = let t = text_goes c h in rw (t.0, t.1, inside, goes_on) ((s, subst (keeps limit m.text) (text_one ps b c e h) k, p), refl)
       by_result (Err v) k = let t = text_goes c h in rw (t.0, t.1, inside, goes_on) ([], [], refl, inl (refl, refl))
 
-  pub apc_pushed : (d : List ℕ) → is_text c ≡ true → m.state ≡ state.Apc → OnOk result (KeepsText limit m.text (those is_text d ++ b ∷ []))
-      → Moved limit true takes refuses result (inside limit (InApc o d) b c) m old old
+  pub apc_pushed : (d : List ℕ) → is_text c ≡ true → m.state ≡ state.Apc → OnOk result (keeps limit m.text (those is_text d ++ b ∷ []))
+      → Moved keeps limit true takes refuses result (inside limit (InApc o d) b c) m old old
   apc_pushed d h s k = by_result result k
     where
-      by_result : (r : Result (Unit {0}) E) → OnOk r (KeepsText limit m.text (those is_text d ++ b ∷ []))
-          → Moved limit true takes refuses r (inside limit (InApc o d) b c) m old old
-      by_result (Ok v) k = let t = text_goes c h in rw (t.0, inside, goes_on) ((s, subst (KeepsText limit m.text) (apc_one d b c e h) k), refl)
+      by_result : (r : Result (Unit {0}) E) → OnOk r (keeps limit m.text (those is_text d ++ b ∷ []))
+          → Moved keeps limit true takes refuses r (inside limit (InApc o d) b c) m old old
+      by_result (Ok v) k = let t = text_goes c h in rw (t.0, inside, goes_on) ((s, subst (keeps limit m.text) (apc_one d b c e h) k), refl)
       by_result (Err v) k = let t = text_goes c h in rw (t.0, inside, goes_on) ([], [], refl, inl (refl, refl))
 
   pub dcs_pushed : (x : List ℕ) → in_body c ≡ true → m.state ≡ state.Dcs → KeepsDcs m.header (strip x ++ b ∷ [])
-      → OnOk result (KeepsText limit m.text (parameters_of (strip x ++ b ∷ [])))
-      → Moved limit true takes refuses result (inside limit (InDcs o x) b c) m old old
+      → OnOk result (keeps limit m.text (parameters_of (strip x ++ b ∷ [])))
+      → Moved keeps limit true takes refuses result (inside limit (InDcs o x) b c) m old old
   dcs_pushed x h s d k = by_result result k
     where
-      by_result : (r : Result (Unit {0}) E) → OnOk r (KeepsText limit m.text (parameters_of (strip x ++ b ∷ [])))
-          → Moved limit true takes refuses r (inside limit (InDcs o x) b c) m old old
+      by_result : (r : Result (Unit {0}) E) → OnOk r (keeps limit m.text (parameters_of (strip x ++ b ∷ [])))
+          → Moved keeps limit true takes refuses r (inside limit (InDcs o x) b c) m old old
       by_result (Ok v) k =
           let t = body_goes c h in
           let j = strip_one x b c e h in
-          rw (t.0, t.1, inside, goes_on) ((s, subst (λ y. KeepsText limit m.text (parameters_of y)) j k, subst (KeepsDcs m.header) j d), refl)
+          rw (t.0, t.1, inside, goes_on) ((s, subst (λ y. keeps limit m.text (parameters_of y)) j k, subst (KeepsDcs m.header) j d), refl)
       by_result (Err v) k = let t = body_goes c h in rw (t.0, t.1, inside, goes_on) ([], [], refl, inl (refl, refl))

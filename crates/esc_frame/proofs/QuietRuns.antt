@@ -45,11 +45,11 @@ module _ {S : Type 0} (limit : Option ℕ) (takes refuses : S → Event → S �
   pub quiet_given : FoldsTo takes old (news_by limit v (get_or rest n 0) c) new → FoldsTo takes old (news_all limit u (take (n + 1) rest)) new
   quiet_given h = subst (λ es. FoldsTo takes old es new) (sym quiet_news) h
 
-  pub quiet_took : {A : Type 0} (machine : Machine A) → StaysFresh u rest (n + 1)
-      → Holds limit machine (move limit v (get_or rest n 0) c).0 × FoldsTo takes old (move limit v (get_or rest n 0) c).1 new
-      → Holds limit machine (after_all u (take (n + 1) rest)) × FoldsTo takes old (news_all limit u (take (n + 1) rest)) new × StaysFresh u rest (n + 1)
-  quiet_took machine fresh h = (
-    subst (λ w. Holds limit machine w) (after_same limit v (get_or rest n 0) c ∙ sym quiet_after) h.0,
+  pub quiet_took : {K A : Type 0} (keeps : Option ℕ → K → List ℕ → Type 0) (machine : Machine K A) → StaysFresh u rest (n + 1)
+      → Holds keeps limit machine (move limit v (get_or rest n 0) c).0 × FoldsTo takes old (move limit v (get_or rest n 0) c).1 new
+      → Holds keeps limit machine (after_all u (take (n + 1) rest)) × FoldsTo takes old (news_all limit u (take (n + 1) rest)) new × StaysFresh u rest (n + 1)
+  quiet_took keeps machine fresh h = (
+    subst (λ w. Holds keeps limit machine w) (after_same limit v (get_or rest n 0) c ∙ sym quiet_after) h.0,
     quiet_given h.1,
     fresh,
   )

@@ -26,10 +26,11 @@ state_of limit (InIgnored k o d) = state.Skip
 state_of limit (InOsc o ps) = state.Osc
 state_of limit (InOscPending o ps f) = state.Osc
 
-held : {A : Type 0} (limit : Option ℕ) (m : Machine A) (u : Unfinished) → Holds limit m u → m.state ≡ state_of limit u
-held limit m (InData o x f d) h = h
-held limit m (InIgnored k o d) h = h
-held limit m _ h = h.0
+held : {K A : Type 0} (keeps : Option ℕ → K → List ℕ → Type 0) (limit : Option ℕ) (m : Machine K A) (u : Unfinished) → Holds keeps limit m u
+    → m.state ≡ state_of limit u
+held keeps limit m (InData o x f d) h = h
+held keeps limit m (InIgnored k o d) h = h
+held keeps limit m _ h = h.0
 
 is_data : (t : Bool) → state.Data ≡ (if t then state.Data else state.Skip) → t ≡ true
 is_data true h = refl
@@ -49,28 +50,28 @@ not_data : (s : State) (t : Bool) → is_other s ≡ true → s ≡ (if t then s
 not_data s true o e = let k : false ≡ true = ap is_other (sym e) ∙ o in cc
 not_data s false o e = let k : false ≡ true = ap is_other (sym e) ∙ o in cc
 
-module _ {A : Type 0} (limit : Option ℕ) (m : Machine A) where
-  osc_in : (u : Unfinished) → state.Osc ≡ state_of limit u → front_of m.pending ≡ [] → Holds limit m u → (Q : Unfinished → Type 0)
-      → ((o : Opener) (ps : List Piece) → Holds limit m (InOsc o ps) → Q (InOsc o ps)) → Q u
+module _ {K A : Type 0} (keeps : Option ℕ → K → List ℕ → Type 0) (limit : Option ℕ) (m : Machine K A) where
+  osc_in : (u : Unfinished) → state.Osc ≡ state_of limit u → front_of m.pending ≡ [] → Holds keeps limit m u → (Q : Unfinished → Type 0)
+      → ((o : Opener) (ps : List Piece) → Holds keeps limit m (InOsc o ps) → Q (InOsc o ps)) → Q u
   osc_in (InOsc o ps) e p h Q q = q o ps h
   osc_in (InOscPending o ps f) e p h Q q = let k : true ≡ false = ap is_empty (sym p ∙ h.2) ∙ h.3 in absurd cc
   osc_in (InData o x f d) e p h Q q = absurd (not_data state.Osc (is_read limit (strip x)) refl e)
   osc_in _ e p h Q q = absurd cc
 
-  escape_in : (u : Unfinished) → state.Escape ≡ state_of limit u → Holds limit m u → (Q : Unfinished → Type 0)
-      → ((x : List ℕ) → Holds limit m (InEscape x) → Q (InEscape x)) → Q u
+  escape_in : (u : Unfinished) → state.Escape ≡ state_of limit u → Holds keeps limit m u → (Q : Unfinished → Type 0)
+      → ((x : List ℕ) → Holds keeps limit m (InEscape x) → Q (InEscape x)) → Q u
   escape_in (InEscape x) e h Q q = q x h
   escape_in (InData o x f d) e h Q q = absurd (not_data state.Escape (is_read limit (strip x)) refl e)
   escape_in _ e h Q q = absurd cc
 
-  dcs_in : (u : Unfinished) → state.Dcs ≡ state_of limit u → Holds limit m u → (Q : Unfinished → Type 0)
-      → ((o : Opener) (x : List ℕ) → Holds limit m (InDcs o x) → Q (InDcs o x)) → Q u
+  dcs_in : (u : Unfinished) → state.Dcs ≡ state_of limit u → Holds keeps limit m u → (Q : Unfinished → Type 0)
+      → ((o : Opener) (x : List ℕ) → Holds keeps limit m (InDcs o x) → Q (InDcs o x)) → Q u
   dcs_in (InDcs o x) e h Q q = q o x h
   dcs_in (InData o x f d) e h Q q = absurd (not_data state.Dcs (is_read limit (strip x)) refl e)
   dcs_in _ e h Q q = absurd cc
 
-  apc_in : (u : Unfinished) → state.Apc ≡ state_of limit u → Holds limit m u → (Q : Unfinished → Type 0)
-      → ((o : Opener) (d : List ℕ) → Holds limit m (InApc o d) → Q (InApc o d)) → Q u
+  apc_in : (u : Unfinished) → state.Apc ≡ state_of limit u → Holds keeps limit m u → (Q : Unfinished → Type 0)
+      → ((o : Opener) (d : List ℕ) → Holds keeps limit m (InApc o d) → Q (InApc o d)) → Q u
   apc_in (InApc o d) e h Q q = q o d h
   apc_in (InData o x f d) e h Q q = absurd (not_data state.Apc (is_read limit (strip x)) refl e)
   apc_in _ e h Q q = absurd cc
@@ -88,33 +89,33 @@ module _ {A : Type 0} (limit : Option ℕ) (m : Machine A) where
   skip_in _ e Q q r = absurd cc
 
   -- what holds of all that may be unfinished in a state holds of what is
-  pub osc_only : (u : Unfinished) → m.state ≡ state.Osc → front_of m.pending ≡ [] → Holds limit m u → (Q : Unfinished → Type 0)
-      → ((o : Opener) (ps : List Piece) → Holds limit m (InOsc o ps) → Q (InOsc o ps)) → Q u
-  osc_only u s p h = osc_in u (sym s ∙ held limit m u h) p h
+  pub osc_only : (u : Unfinished) → m.state ≡ state.Osc → front_of m.pending ≡ [] → Holds keeps limit m u → (Q : Unfinished → Type 0)
+      → ((o : Opener) (ps : List Piece) → Holds keeps limit m (InOsc o ps) → Q (InOsc o ps)) → Q u
+  osc_only u s p h = osc_in u (sym s ∙ held keeps limit m u h) p h
 
-  pub escape_only : (u : Unfinished) → m.state ≡ state.Escape → Holds limit m u → (Q : Unfinished → Type 0)
-      → ((x : List ℕ) → Holds limit m (InEscape x) → Q (InEscape x)) → Q u
-  escape_only u s h = escape_in u (sym s ∙ held limit m u h) h
+  pub escape_only : (u : Unfinished) → m.state ≡ state.Escape → Holds keeps limit m u → (Q : Unfinished → Type 0)
+      → ((x : List ℕ) → Holds keeps limit m (InEscape x) → Q (InEscape x)) → Q u
+  escape_only u s h = escape_in u (sym s ∙ held keeps limit m u h) h
 
-  pub dcs_only : (u : Unfinished) → m.state ≡ state.Dcs → Holds limit m u → (Q : Unfinished → Type 0)
-      → ((o : Opener) (x : List ℕ) → Holds limit m (InDcs o x) → Q (InDcs o x)) → Q u
-  dcs_only u s h = dcs_in u (sym s ∙ held limit m u h) h
+  pub dcs_only : (u : Unfinished) → m.state ≡ state.Dcs → Holds keeps limit m u → (Q : Unfinished → Type 0)
+      → ((o : Opener) (x : List ℕ) → Holds keeps limit m (InDcs o x) → Q (InDcs o x)) → Q u
+  dcs_only u s h = dcs_in u (sym s ∙ held keeps limit m u h) h
 
-  pub apc_only : (u : Unfinished) → m.state ≡ state.Apc → Holds limit m u → (Q : Unfinished → Type 0)
-      → ((o : Opener) (d : List ℕ) → Holds limit m (InApc o d) → Q (InApc o d)) → Q u
-  apc_only u s h = apc_in u (sym s ∙ held limit m u h) h
+  pub apc_only : (u : Unfinished) → m.state ≡ state.Apc → Holds keeps limit m u → (Q : Unfinished → Type 0)
+      → ((o : Opener) (d : List ℕ) → Holds keeps limit m (InApc o d) → Q (InApc o d)) → Q u
+  apc_only u s h = apc_in u (sym s ∙ held keeps limit m u h) h
 
-  pub data_only : (u : Unfinished) → m.state ≡ state.Data → Holds limit m u → (Q : Unfinished → Type 0)
+  pub data_only : (u : Unfinished) → m.state ≡ state.Data → Holds keeps limit m u → (Q : Unfinished → Type 0)
       → ((o : Opener) (x : List ℕ) (f : ℕ) (d : List ℕ) → is_read limit (strip x) ≡ true → Q (InData o x f d)) → Q u
-  data_only u s h = data_in u (sym s ∙ held limit m u h)
+  data_only u s h = data_in u (sym s ∙ held keeps limit m u h)
 
-  pub skip_only : (u : Unfinished) → m.state ≡ state.Skip → Holds limit m u → (Q : Unfinished → Type 0)
+  pub skip_only : (u : Unfinished) → m.state ≡ state.Skip → Holds keeps limit m u → (Q : Unfinished → Type 0)
       → ((o : Opener) (x : List ℕ) (f : ℕ) (d : List ℕ) → is_read limit (strip x) ≡ false → Q (InData o x f d))
       → ((k : Kind) (o : Opener) (d : List ℕ) → Q (InIgnored k o d)) → Q u
-  skip_only u s h = skip_in u (sym s ∙ held limit m u h)
+  skip_only u s h = skip_in u (sym s ∙ held keeps limit m u h)
 
   -- what is unfinished where a byte is taken by itself
-  pub no_string : (u : Unfinished) → Holds limit m u → is_between m.state (front_of m.pending) ≡ true → is_string u ≡ false
+  pub no_string : (u : Unfinished) → Holds keeps limit m u → is_between m.state (front_of m.pending) ≡ true → is_string u ≡ false
   no_string (InOsc o ps) h k =
       let e : is_between m.state (front_of m.pending) ≡ false = ap (λ s. is_between s (front_of m.pending)) h.0 ∙ ap (λ f. not (is_empty f)) h.2 in
       let n : true ≡ false = sym k ∙ e in cc
@@ -122,14 +123,14 @@ module _ {A : Type 0} (limit : Option ℕ) (m : Machine A) where
   no_string _ h k = refl
 
   -- nothing is fresh in what is passed over, nor in the data of a device control string
-  skip_unlent : (u : Unfinished) → m.state ≡ state.Skip → Holds limit m u → is_fresh u ≡ false
+  skip_unlent : (u : Unfinished) → m.state ≡ state.Skip → Holds keeps limit m u → is_fresh u ≡ false
   skip_unlent u s h = skip_only u s h (λ v. is_fresh v ≡ false) (λ o x f d e. refl) (λ k o d. refl)
 
-  data_unlent : (u : Unfinished) → m.state ≡ state.Data → Holds limit m u → is_fresh u ≡ false
+  data_unlent : (u : Unfinished) → m.state ≡ state.Data → Holds keeps limit m u → is_fresh u ≡ false
   data_unlent u s h = data_only u s h (λ v. is_fresh v ≡ false) (λ o x f d e. refl)
 
-  pub skip_fresh : (u : Unfinished) (rest : List ℕ) (n : ℕ) → m.state ≡ state.Skip → Holds limit m u → StaysFresh u rest n
+  pub skip_fresh : (u : Unfinished) (rest : List ℕ) (n : ℕ) → m.state ≡ state.Skip → Holds keeps limit m u → StaysFresh u rest n
   skip_fresh u rest n s h = unlent_fresh u rest n (ap (λ t. t && lends u rest) (skip_unlent u s h))
 
-  pub data_fresh : (u : Unfinished) (rest : List ℕ) (n : ℕ) → m.state ≡ state.Data → Holds limit m u → StaysFresh u rest n
+  pub data_fresh : (u : Unfinished) (rest : List ℕ) (n : ℕ) → m.state ≡ state.Data → Holds keeps limit m u → StaysFresh u rest n
   data_fresh u rest n s h = unlent_fresh u rest n (ap (λ t. t && lends u rest) (data_unlent u s h))

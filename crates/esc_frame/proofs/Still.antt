@@ -12,7 +12,7 @@ use Rattle.esc_frame.specs.declared.machine.Machine.{Machine}
 use Rattle.esc_frame.specs.declared.machine.State.TheVariants as state
 use Rattle.esc_frame.specs.declared.sequence.Outcome.{Outcome}
 use Rattle.esc_frame.specs.declared.sequence.Outcome.TheVariants as outcomes
-use Rattle.esc_frame.specs.Classes.{class_of, is_breaker, in_osc}
+use Rattle.esc_frame.specs.Classes.{class_of, is_breaker, in_csi, in_osc}
 use Rattle.esc_frame.specs.Machine.Calls.{TookSome, StaysFresh}
 use Rattle.esc_frame.specs.Machine.Characters.{IsCharacter}
 use Rattle.esc_frame.specs.Events.{Event, StopsAt}
@@ -27,9 +27,9 @@ use Rattle.esc_frame.specs.Sequences.{is_sequence, is_pair, outcome}
 use Rattle.esc_frame.specs.Stream.{IsQuietWithin}
 use Rattle.esc_frame.proofs.AtGround.{to_ground}
 use Rattle.esc_frame.proofs.CsiRuns.{body_quiet, escape_class}
-use Rattle.esc_frame.proofs.Lends.{after_more, fresh_by, not_both}
+use Rattle.esc_frame.proofs.Lends.{after_more, csi_fresh, fresh_by, not_both}
 use Rattle.esc_frame.proofs.ManyBytes.{tail_is, tail_length, ran_took, ran_ends, lead_class, two_parts, three_parts, four_parts}
-use Rattle.esc_frame.proofs.QuietRuns.{quiet_folds}
+use Rattle.esc_frame.proofs.QuietRuns.{quiet_after, quiet_folds}
 use Rattle.esc_frame.proofs.StringRuns.{apc_text, skip_holds, prefix_passes}
 use Rattle.esc_frame.proofs.Streams.{after_append, news_append, added_is}
 
@@ -76,6 +76,16 @@ pub body_still : (limit : Option ℕ) (o : Opener) (x rest : List ℕ) (run : �
 body_still limit o x rest run h = λ k a b.
     let q = body_quiet limit o x (take k rest) (front_passes is_body_byte rest run k (omega arith) h) in
     (q.1, ap is_ground q.0)
+
+pub body_fresh : (o : Opener) (x rest : List ℕ) (run : ℕ) → list_all is_body_byte (take run rest) ≡ true → run < length rest
+    → StaysFresh (InCsi o x) rest (run + 1)
+body_fresh o x rest run h room =
+    let y : List ℕ = x ++ take run rest in
+    let b : ℕ = get_or rest run 0 in
+    fresh_by (InCsi o x) (after_by (InCsi o y) b (class_of b)) rest (run + 1)
+    (quiet_after {S = Unit {0}} None (λ _ _ _. Unit {0}) (λ _ _ _. Unit {0}) (InCsi o x) (InCsi o y) rest run (class_of b) tt tt
+    (body_quiet None o x (take run rest) h) room refl)
+    (csi_fresh o y b (class_of b) (drop (run + 1) rest) (is_breaker (class_of b)) (in_csi (class_of b)) refl refl)
 
 -- ---- an operating system command: without a limit, to leave it tells its event
 
@@ -130,9 +140,10 @@ text_still limit o ps rest run h = λ k a b.
 
 -- ---- runs in the strings that a breaker ends
 
-holds_no_ground : {A : Type 0} (limit : Option ℕ) (m : Machine A) (u : Unfinished) → Holds limit m u → (m.state ≡ state.Ground → ⊥) → is_ground u ≡ false
-holds_no_ground limit m Ground h n = absurd (n h.0)
-holds_no_ground limit m _ h n = refl
+holds_no_ground : {K A : Type 0} (keeps : Option ℕ → K → List ℕ → Type 0) (limit : Option ℕ) (m : Machine K A) (u : Unfinished) → Holds keeps limit m u
+    → (m.state ≡ state.Ground → ⊥) → is_ground u ≡ false
+holds_no_ground keeps limit m Ground h n = absurd (n h.0)
+holds_no_ground keeps limit m _ h n = refl
 
 pub apc_end_still : (limit : Option ℕ) (o : Opener) (d rest : List ℕ) (run : ℕ) → list_all is_text_byte (take run rest) ≡ true
     → IsStill limit (InApc o d) rest (run + 1)
@@ -140,12 +151,13 @@ apc_end_still limit o d rest run h = λ k a b.
     let q = apc_text limit o d (take k rest) (front_passes is_text_byte rest run k (omega arith) h) in
     (q.1, ap is_ground q.0)
 
-module _ {A : Type 0} (limit : Option ℕ) (m : Machine A) (u : Unfinished) (rest : List ℕ) (run : ℕ) (e : run ≡ prefix_len is_text_byte rest)
-    (h : Holds limit m u) where
+module _ {K A : Type 0} (keeps : Option ℕ → K → List ℕ → Type 0) (limit : Option ℕ) (m : Machine K A) (u : Unfinished) (rest : List ℕ) (run : ℕ)
+    (e : run ≡ prefix_len is_text_byte rest)
+    (h : Holds keeps limit m u) where
   pub skip_still : m.state ≡ state.Skip → IsStill limit u rest run
   skip_still s = λ k a b.
-      let q = skip_holds limit m (take k rest) (front_passes is_text_byte rest run k (omega arith) (prefix_passes rest run e)) u s h in
-      (q.1, holds_no_ground limit m (after_all u (take k rest)) q.0 (λ g. cc))
+      let q = skip_holds keeps limit m (take k rest) (front_passes is_text_byte rest run k (omega arith) (prefix_passes rest run e)) u s h in
+      (q.1, holds_no_ground keeps limit m (after_all u (take k rest)) q.0 (λ g. cc))
 
 -- ---- bytes that tell nothing, and what follows them
 
@@ -194,14 +206,14 @@ module _ (limit : Option ℕ) (u : Unfinished) (rest : List ℕ) (l : 2 < length
     opened_first : StaysFresh Ground rest 2
     opened_first = fresh_by Ground u rest 2 begin.0 (f (drop 2 rest))
 
-    pub opened_took : {A : Type 0} (machine : Machine A) (n : ℕ)
-        → Holds limit machine (after_all u (take n (take (length rest - 2) (drop 2 rest)))) × FoldsTo takes old
+    pub opened_took : {K A : Type 0} (keeps : Option ℕ → K → List ℕ → Type 0) (machine : Machine K A) (n : ℕ)
+        → Holds keeps limit machine (after_all u (take n (take (length rest - 2) (drop 2 rest)))) × FoldsTo takes old
         (news_all limit u (take n (take (length rest - 2) (drop 2 rest)))) new × StaysFresh u (take (length rest - 2) (drop 2 rest)) n
         → IsStill limit u (take (length rest - 2) (drop 2 rest)) n → (0 < n) × (n ≤ length (take (length rest - 2) (drop 2 rest))) × is_ready new
-        → TookSome {E = Unit {0}} limit takes refuses is_ready (Ok (2 + n)) rest machine old new
-    opened_took machine n t q a =
+        → TookSome {E = Unit {0}} keeps limit takes refuses is_ready (Ok (2 + n)) rest machine old new
+    opened_took keeps machine n t q a =
         let k = tail_length rest 2 in (
-          ran_took limit takes refuses Ground u rest 2 old old new begin.0 (quiet_folds takes (news_all limit Ground (take 2 rest)) old begin.1) machine n
+          ran_took limit takes refuses Ground u rest 2 old old new begin.0 (quiet_folds takes (news_all limit Ground (take 2 rest)) old begin.1) keeps machine n
               opened_first t,
           opened_still n q,
           (omega (arith, a.0), omega (arith, a.1), a.2),

@@ -1,5 +1,5 @@
 -- Runs of text in the bodies of strings.
-use Rattle.std.proofs.Common.{ℕ, zero, suc, ◌≡◌, ◌+◌, ◌-◌, Bool, true, false, List, [], ◌∷◌, ◌++◌, length, take, drop, get_or, map, Option, ◌<◌, get_or-drop}
+use Rattle.std.proofs.Common.{ℕ, zero, suc, ◌≡◌, ◌+◌, ◌-◌, Bool, true, false, List, [], ◌∷◌, ◌++◌, length, take, drop, get_or, map, Option, ◌<◌}
 use Rattle.std.proofs.Common.{refl, ap, sym, ◌∙◌, subst, append_assoc, arith}
 use Rattle.std.specs.List.{list_all, prefix_len}
 use Rattle.std.proofs.Math.Seq.{take-add}
@@ -98,12 +98,6 @@ no_text_first bytes n e z l =
     subst (λ k. is_text_byte (get_or bytes k 0) ≡ false) none
     (prefix_len_stops is_text_byte bytes 0 (subst (λ k. k < length bytes) (sym none) l))
 
--- the first byte of a slice to the end
-pub tail_first : (bytes : List ℕ) (i : ℕ) → is_text_byte (get_or (take (length bytes - i) (drop i bytes)) 0 0) ≡ false → is_text_byte (get_or bytes i 0) ≡ false
-tail_first bytes i h =
-    let at : i + 0 ≡ i = omega arith in
-    ap is_text_byte (sym (ap (λ y. get_or y 0 0) (tail_is bytes i) ∙ get_or-drop i bytes 0 0 ∙ ap (λ k. get_or bytes k 0) at)) ∙ h
-
 -- what is kept with the run
 pub run_text : {x : List ℕ} (ps : List Piece) (run : IsTextRun x) → text_of ps ++ x ≡ text_of (ps ++ run.0)
 run_text ps (qs, t, f) = ap (λ z. text_of ps ++ z) (sym t) ∙ sym (flat_map-append kept_of ps qs)
@@ -149,15 +143,16 @@ skip_ignored limit i o = quiet_run limit (InIgnored i o) is_text_byte (λ d b h.
 
 -- ---- what the machine holds after a run, by its state
 
-module _ {A : Type 0} (limit : Option ℕ) (m : Machine A) (ys : List ℕ) (p : list_all is_text_byte ys ≡ true) where
-  pub skip_holds : (u : Unfinished) → m.state ≡ state.Skip → Holds limit m u → Holds limit m (after_all u ys) × (news_all limit u ys ≡ [])
+module _ {K A : Type 0} (keeps : Option ℕ → K → List ℕ → Type 0) (limit : Option ℕ) (m : Machine K A) (ys : List ℕ) (p : list_all is_text_byte ys ≡ true) where
+  pub skip_holds : (u : Unfinished) → m.state ≡ state.Skip → Holds keeps limit m u → Holds keeps limit m (after_all u ys) × (news_all limit u ys ≡ [])
   skip_holds u s h =
-      skip_only limit m u s h (λ v. Holds limit m (after_all v ys) × (news_all limit v ys ≡ []))
+      skip_only keeps limit m u s h (λ v. Holds keeps limit m (after_all v ys) × (news_all limit v ys ≡ []))
       (λ o x f d e. let q = skip_data limit o x f d ys e p in rw (q.0, q.1) (rw (e, s) refl, refl))
       (λ k o d. let q = skip_ignored limit k o d ys p in rw (q.0, q.1) (s, refl))
 
-pub data_holds : {A : Type 0} (limit : Option ℕ) (m : Machine A) (ys : List ℕ) → list_all is_data_byte ys ≡ true → (u : Unfinished) → m.state ≡ state.Data
-    → Holds limit m u → Holds limit m (after_all u ys) × (news_all limit u ys ≡ map DcsPut ys)
-data_holds limit m ys p u s h =
-    data_only limit m u s h (λ v. Holds limit m (after_all v ys) × (news_all limit v ys ≡ map DcsPut ys))
+pub data_holds : {K A : Type 0} (keeps : Option ℕ → K → List ℕ → Type 0) (limit : Option ℕ) (m : Machine K A) (ys : List ℕ) → list_all is_data_byte ys ≡ true
+    → (u : Unfinished) → m.state ≡ state.Data
+    → Holds keeps limit m u → Holds keeps limit m (after_all u ys) × (news_all limit u ys ≡ map DcsPut ys)
+data_holds keeps limit m ys p u s h =
+    data_only keeps limit m u s h (λ v. Holds keeps limit m (after_all v ys) × (news_all limit v ys ≡ map DcsPut ys))
     (λ o x f d e. let q = data_text limit o x f d ys e p in rw (q.0, q.1) (rw (e, s) refl, refl))

@@ -10,7 +10,7 @@ use Rattle.esc_frame.specs.Classes.{strip, those, is_text}
 use Rattle.esc_frame.specs.Sequences.{is_front}
 use Rattle.esc_frame.specs.Limits.{is_read, kept_within, header_count}
 use Rattle.esc_frame.specs.Machine.Fronts.{front_of}
-use Rattle.esc_frame.specs.Machine.Keeps.{Keeps, KeepsBody, KeepsText, KeepsDcs, parameters_of}
+use Rattle.esc_frame.specs.Machine.Keeps.{Keeps, KeepsBody, KeepsDcs, parameters_of}
 use Rattle.esc_frame.specs.Events.{Event}
 use Rattle.esc_frame.specs.Segments.{Segment, Opener, Piece, opener, opener_events, text_of, text_bytes, HasShape, IsOpener, ArePieces, is_finished, is_empty}
 use Rattle.esc_frame.specs.Segments.{joined, bytes_of, events_of_within, executes, hook_event, puts}
@@ -64,18 +64,18 @@ abbrev pub AreFinished : List Segment → List ℕ → Type 0
 AreFinished [] rest = Unit {0}
 AreFinished (g ∷ gs) rest = HasShape g (joined gs ++ rest) × (is_finished g (joined gs ++ rest) ≡ true) × AreFinished gs rest
 
--- what the machine keeps of the unfinished segment, of a string no more than the limit
-abbrev pub Holds : {A : Type 0} → Option ℕ → Machine A → Unfinished → Type 0
-Holds limit m Ground = (m.state ≡ state.Ground) × (front_of m.pending ≡ [])
-Holds limit m (Pending f) = (m.state ≡ state.Ground) × (front_of m.pending ≡ f) × (is_empty f ≡ false)
-Holds limit m (InEscape x) = (m.state ≡ state.Escape) × Keeps m.intermediates (strip x)
-Holds limit m (InCsi o x) = (m.state ≡ state.Csi) × KeepsBody m.body (strip x)
-Holds limit m (InDcs o x) = (m.state ≡ state.Dcs) × KeepsText limit m.text (parameters_of (strip x)) × KeepsDcs m.header (strip x)
-Holds limit m (InData o x f d) = m.state ≡ (if is_read limit (strip x) then state.Data else state.Skip)
-Holds limit m (InApc o d) = (m.state ≡ state.Apc) × KeepsText limit m.text (those is_text d)
-Holds limit m (InIgnored k o d) = m.state ≡ state.Skip
-Holds limit m (InOsc o ps) = (m.state ≡ state.Osc) × KeepsText limit m.text (text_of ps) × (front_of m.pending ≡ [])
-Holds limit m (InOscPending o ps f) = (m.state ≡ state.Osc) × KeepsText limit m.text (text_of ps) × (front_of m.pending ≡ f) × (is_empty f ≡ false)
+-- what the machine keeps of the unfinished segment, of a string no more than the limit; `keeps` says what its store keeps of a text
+abbrev pub Holds : {K A : Type 0} → (Option ℕ → K → List ℕ → Type 0) → Option ℕ → Machine K A → Unfinished → Type 0
+Holds keeps limit m Ground = (m.state ≡ state.Ground) × (front_of m.pending ≡ [])
+Holds keeps limit m (Pending f) = (m.state ≡ state.Ground) × (front_of m.pending ≡ f) × (is_empty f ≡ false)
+Holds keeps limit m (InEscape x) = (m.state ≡ state.Escape) × Keeps m.intermediates (strip x)
+Holds keeps limit m (InCsi o x) = (m.state ≡ state.Csi) × KeepsBody m.body (strip x)
+Holds keeps limit m (InDcs o x) = (m.state ≡ state.Dcs) × keeps limit m.text (parameters_of (strip x)) × KeepsDcs m.header (strip x)
+Holds keeps limit m (InData o x f d) = m.state ≡ (if is_read limit (strip x) then state.Data else state.Skip)
+Holds keeps limit m (InApc o d) = (m.state ≡ state.Apc) × keeps limit m.text (those is_text d)
+Holds keeps limit m (InIgnored k o d) = m.state ≡ state.Skip
+Holds keeps limit m (InOsc o ps) = (m.state ≡ state.Osc) × keeps limit m.text (text_of ps) × (front_of m.pending ≡ [])
+Holds keeps limit m (InOscPending o ps f) = (m.state ≡ state.Osc) × keeps limit m.text (text_of ps) × (front_of m.pending ≡ f) × (is_empty f ≡ false)
 
 -- the count of what is kept of it
 abbrev pub kept_open : Option ℕ → Unfinished → ℕ

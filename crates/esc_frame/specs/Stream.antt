@@ -5,6 +5,7 @@ use Rattle.esc_frame.specs.Events.{Event}
 use Rattle.esc_frame.specs.Segments.{Segment, IsCut}
 use Rattle.esc_frame.specs.Leads.{AreFinished, Holds}
 use Rattle.esc_frame.specs.Leads.Unfinished.{Ground}
+use Rattle.esc_frame.specs.Machine.Keeps.{KeepsText}
 use Rattle.esc_frame.specs.Machine.Moves.{after_all, news_all}
 
 -- The events of a stream, where of each string no more is kept than the limit: of a longer one nothing is told. The laws
@@ -20,7 +21,7 @@ added_within limit s b = drop (length (events_within limit s)) (events_within li
 -- The stream may be what the parser was fed, which keeps no more of a string than the limit: it keeps what is unfinished
 -- of the stream, and has not failed.
 unfoldable pub LeadsToWithin : {A : Type 0} → Option ℕ → List ℕ → VTParser A → Type 0
-LeadsToWithin limit s p = (p.has_failed ≡ false) × (p.limit ≡ limit) × Holds p.limit p.machine (after_all Ground s)
+LeadsToWithin limit s p = (p.has_failed ≡ false) × (p.limit ≡ limit) × Holds KeepsText p.limit p.machine (after_all Ground s)
 
 -- an earlier call of the parser was refused memory
 unfoldable pub HasFailed : {A : Type 0} → VTParser A → Type 0

@@ -9,19 +9,19 @@ ghost use Rattle.esc_frame.specs.Leads.{Unfinished, Holds};
 ghost use Rattle.esc_frame.specs.Leads.Unfinished.{InDcs, InData};
 ghost use Rattle.esc_frame.specs.Machine.Calls.{Moved, Took, Advances};
 ghost use Rattle.esc_frame.specs.Limits.{is_read};
-ghost use Rattle.esc_frame.specs.Machine.Keeps.{KeepsText, KeepsDcs, parameters_of};
+ghost use Rattle.esc_frame.specs.Machine.Keeps.{KeepsDcs, parameters_of};
 ghost use Rattle.esc_frame.specs.Machine.Moves.{telling, ground_move, inside};
 ghost use Rattle.esc_frame.specs.Segments.{Opener, hook_event};
 
 use crate::actor::VTActor;
 use crate::classes::Class;
-use crate::header::{DcsHeader, is_parameter, params_of};
-use crate::kept::Kept;
+use crate::header::{DcsHeader, is_parameter};
 use crate::machine::{Machine, Result, State};
 use crate::scans::data_run;
+use crate::store::Store;
 use std::alloc::Allocator;
 
-impl<A: Allocator> Machine<A> {
+impl<K: Store, A: Allocator> Machine<K, A> {
     /// A byte after a DCS's opener and x.
     #[tactic(auto, using(crate::proofs::Given::takes_moved))]
     pub fn in_dcs<V: VTActor>(
@@ -32,7 +32,7 @@ impl<A: Allocator> Machine<A> {
         actor: &mut V,
     ) -> Result<()>
         requires { V.is_ready actor.old }
-        ensures moved { (o : Opener) (x : List ℕ) → class ≡ class_of b → KeepsText limit self.old.text (parameters_of (strip x)) → KeepsDcs self.old.header (strip x) → Moved limit true V.takes V.refuses result (inside limit (InDcs o x) b class) self.new actor.old actor.new }
+        ensures moved { (o : Opener) (x : List ℕ) → class ≡ class_of b → K.keeps limit self.old.text (parameters_of (strip x)) → KeepsDcs self.old.header (strip x) → Moved K.keeps limit true V.takes V.refuses result (inside limit (InDcs o x) b class) self.new actor.old actor.new }
         ensures ready { OnOk result (V.is_ready actor.new) }
     {
         self.state = State::Dcs;
@@ -52,7 +52,7 @@ impl<A: Allocator> Machine<A> {
             Class::Opens(_) | Class::Final => {
                 if is_read(&self.header, &self.text) {
                     self.state = State::Data;
-                    hook(&self.header, &self.text, b, actor)
+                    hook(&self.header, &self.text, &self.alloc, b, actor)
                 } else {
                     self.state = State::Skip;
                     Ok(())
@@ -65,7 +65,7 @@ impl<A: Allocator> Machine<A> {
     #[tactic(auto, using(crate::proofs::Given::hears_moved))]
     pub fn in_data<V: VTActor>(&mut self, b: u8, class: Class, actor: &mut V) -> Result<()>
         requires { V.is_ready actor.old }
-        ensures moved { (limit : Option ℕ) (o : Opener) (x : List ℕ) (f : ℕ) (d : List ℕ) → is_read limit (strip x) ≡ true → Moved limit true V.takes V.refuses result (inside limit (InData o x f d) b class) self.new actor.old actor.new }
+        ensures moved { (limit : Option ℕ) (o : Opener) (x : List ℕ) (f : ℕ) (d : List ℕ) → is_read limit (strip x) ≡ true → Moved K.keeps limit true V.takes V.refuses result (inside limit (InData o x f d) b class) self.new actor.old actor.new }
         ensures ready { OnOk result (V.is_ready actor.new) }
     {
         self.state = State::Data;
@@ -90,7 +90,7 @@ impl<A: Allocator> Machine<A> {
     // A breaker after a DCS's data.
     fn leave_data<V: VTActor>(&mut self, b: u8, class: Class, actor: &mut V) -> Result<()>
         requires { V.is_ready actor.old }
-        ensures moved { (limit : Option ℕ) → Moved limit true V.takes V.refuses result (telling (DcsUnhook ∷ []) (ground_move b class)) self.new actor.old actor.new }
+        ensures moved { (limit : Option ℕ) → Moved K.keeps limit true V.takes V.refuses result (telling (DcsUnhook ∷ []) (ground_move b class)) self.new actor.old actor.new }
         ensures ready { OnOk result (V.is_ready actor.new) }
     {
         match actor.dcs_unhook() {
@@ -110,7 +110,7 @@ impl<A: Allocator> Machine<A> {
         requires some { 0 < length rest.now }
         requires ready { V.is_ready actor.old }
         requires state { self.old.state ≡ State.Data }
-        ensures took { (u : Unfinished) → Holds limit self.old u → Took limit V.takes V.refuses result u rest.now self.new actor.old actor.new }
+        ensures took { (u : Unfinished) → Holds K.keeps limit self.old u → Took K.keeps limit V.takes V.refuses result u rest.now self.new actor.old actor.new }
         ensures count { Advances V.is_ready result rest.now actor.new }
     {
         let run = data_run(rest);
@@ -125,13 +125,13 @@ impl<A: Allocator> Machine<A> {
 }
 
 // Takes a byte, 20-3F, of the header.
-fn keep<A: Allocator>(
+fn keep<K: Store>(
     limit: Option<usize>,
     header: &mut DcsHeader,
-    parameters: &mut Kept<A>,
+    parameters: &mut K,
     b: u8,
 ) -> Result<()>
-    ensures parameters { (x : List ℕ) → KeepsText limit parameters.old (parameters_of x) → OnOk result (KeepsText limit parameters.new (parameters_of (x ++ b ∷ []))) }
+    ensures parameters { (x : List ℕ) → K.keeps limit parameters.old (parameters_of x) → OnOk result (K.keeps limit parameters.new (parameters_of (x ++ b ∷ []))) }
     ensures header { (x : List ℕ) → KeepsDcs header.old x → KeepsDcs header.new (x ++ b ∷ []) }
 {
     header.push(b);
@@ -143,28 +143,24 @@ fn keep<A: Allocator>(
 }
 
 // Whether the header is hooked: its parameter bytes are within the limit, and it has its form.
-fn is_read<A: Allocator>(header: &DcsHeader, parameters: &Kept<A>) -> bool
-    ensures { (limit : Option ℕ) (x : List ℕ) → KeepsText limit parameters.now (parameters_of x) → KeepsDcs header.now x → result ≡ is_read limit x }
+fn is_read<K: Store>(header: &DcsHeader, parameters: &K) -> bool
+    ensures { (limit : Option ℕ) (x : List ℕ) → K.keeps limit parameters.now (parameters_of x) → KeepsDcs header.now x → result ≡ is_read limit x }
 {
-    !parameters.is_over && header.is_formed()
+    !parameters.is_over() && header.is_formed()
 }
 
 // The hook of a header that is read, told.
-fn hook<A: Allocator, V: VTActor>(
+fn hook<K: Store, A: Allocator + Copy, V: VTActor>(
     header: &DcsHeader,
-    parameters: &Kept<A>,
+    parameters: &K,
+    alloc: A,
     b: u8,
     actor: &mut V,
 ) -> Result<()>
     requires { V.is_ready actor.old }
-    ensures told { (limit : Option ℕ) (x : List ℕ) → KeepsText limit parameters.now (parameters_of x) → KeepsDcs header.now x → is_read limit x ≡ true → Takes true V.takes V.refuses result actor.old (hook_event x b ∷ []) actor.new }
+    ensures told { (limit : Option ℕ) (x : List ℕ) → K.keeps limit parameters.now (parameters_of x) → KeepsDcs header.now x → is_read limit x ≡ true → Takes true V.takes V.refuses result actor.old (hook_event x b ∷ []) actor.new }
     ensures ready { OnOk result (V.is_ready actor.new) }
 {
-    match params_of(parameters.bytes.allocator(), &parameters.bytes) {
-        Ok(params) => {
-            let kept = &header.intermediates;
-            actor.dcs_hook(b, &params, kept.as_slice(), kept.ignored)
-        }
-        Err(e) => Err(e),
-    }
+    let kept = &header.intermediates;
+    actor.dcs_header(alloc, b, parameters.bytes(), kept.as_slice(), kept.ignored)
 }

@@ -1,7 +1,7 @@
 //! The machine in escape sequences and control sequences.
 #![tactic(auto)]
 
-ghost use Rattle.std.specs.Prelude.{◌≡◌, ◌≤◌, ◌<◌, ◌++◌, ◌+◌, ℕ, Bool, List, Option, None, [], ◌∷◌, length, take, drop, true, slice_index, IfOk, OnOk};
+ghost use Rattle.std.specs.Prelude.{◌≡◌, ◌≤◌, ◌<◌, ◌++◌, ◌+◌, ℕ, Bool, List, Option, None, [], ◌∷◌, length, take, drop, true, false, slice_index, IfOk, OnOk};
 ghost use Rattle.std.specs.List.{list_all};
 ghost use Rattle.esc_frame.specs.Classes.{class_of, strip};
 ghost use Rattle.esc_frame.specs.Events.{Hears};
@@ -22,14 +22,15 @@ use crate::body::CsiBody;
 use crate::classes::{Class, Kind, classify};
 use crate::machine::{Machine, Result, State};
 use crate::sequence::{Pending, lies_from};
+use crate::store::Store;
 use std::alloc::Allocator;
 
-impl<A: Allocator> Machine<A> {
+impl<K: Store, A: Allocator> Machine<K, A> {
     /// A byte after ESC x.
     #[tactic(auto, using(crate::proofs::Given::hears_moved))]
     pub fn in_escape<V: VTActor>(&mut self, b: u8, class: Class, actor: &mut V) -> Result<()>
         requires { V.is_ready actor.old }
-        ensures moved { (limit : Option ℕ) (own : Bool) (x : List ℕ) → class ≡ class_of b → Keeps self.old.intermediates (strip x) → Moved limit own V.takes V.refuses result (inside limit (InEscape x) b class) self.new actor.old actor.new }
+        ensures moved { (limit : Option ℕ) (own : Bool) (x : List ℕ) → class ≡ class_of b → Keeps self.old.intermediates (strip x) → Moved K.keeps limit own V.takes V.refuses result (inside limit (InEscape x) b class) self.new actor.old actor.new }
         ensures ready { OnOk result (V.is_ready actor.new) }
     {
         self.state = State::Escape;
@@ -66,7 +67,7 @@ impl<A: Allocator> Machine<A> {
         actor: &mut V,
     ) -> Result<usize>
         requires { V.is_ready actor.old }
-        ensures took { (u : Unfinished) → Holds limit self.old u → Took limit V.takes V.refuses result u rest.now self.new actor.old actor.new }
+        ensures took { (u : Unfinished) → Holds K.keeps limit self.old u → Took K.keeps limit V.takes V.refuses result u rest.now self.new actor.old actor.new }
         ensures count { IfOk result (λ n. (n ≤ length rest.now) × V.is_ready actor.new) }
     {
         if rest.is_empty() || rest[0] != b'\\' {
@@ -90,7 +91,7 @@ impl<A: Allocator> Machine<A> {
         requires some { 0 < length rest.now }
         requires ready { V.is_ready actor.old }
         requires state { self.old.state ≡ State.Escape }
-        ensures took { (u : Unfinished) → Holds limit self.old u → Took limit V.takes V.refuses result u rest.now self.new actor.old actor.new }
+        ensures took { (u : Unfinished) → Holds K.keeps limit self.old u → Took K.keeps limit V.takes V.refuses result u rest.now self.new actor.old actor.new }
         ensures quiet { (u : Unfinished) → Quietly limit result u rest.now }
         ensures count { Advances V.is_ready result rest.now actor.new }
     {
@@ -103,7 +104,7 @@ impl<A: Allocator> Machine<A> {
     // The final byte of an escape sequence.
     fn dispatch_escape<V: VTActor>(&mut self, b: u8, actor: &mut V) -> Result<()>
         requires { V.is_ready actor.old }
-        ensures holds { Holds None self.new Ground }
+        ensures holds { Holds K.keeps None self.new Ground }
         ensures told { Hears V.takes V.refuses result actor.old (EscDispatch (take self.old.intermediates.kept self.old.intermediates.bytes) self.old.intermediates.ignored b) actor.new }
         ensures ready { OnOk result (V.is_ready actor.new) }
     {
@@ -121,7 +122,7 @@ impl<A: Allocator> Machine<A> {
     #[tactic(auto, using(crate::proofs::Given::hears_moved))]
     pub fn in_csi<V: VTActor>(&mut self, b: u8, class: Class, actor: &mut V) -> Result<()>
         requires { V.is_ready actor.old }
-        ensures moved { (limit : Option ℕ) (o : Opener) (x : List ℕ) → class ≡ class_of b → KeepsBody self.old.body (strip x) → Moved limit true V.takes V.refuses result (inside limit (InCsi o x) b class) self.new actor.old actor.new }
+        ensures moved { (limit : Option ℕ) (o : Opener) (x : List ℕ) → class ≡ class_of b → KeepsBody self.old.body (strip x) → Moved K.keeps limit false V.takes V.refuses result (inside limit (InCsi o x) b class) self.new actor.old actor.new }
         ensures ready { OnOk result (V.is_ready actor.new) }
     {
         self.state = State::Csi;
@@ -133,7 +134,10 @@ impl<A: Allocator> Machine<A> {
             | Class::RawTerminator => { self.in_ground(b, class, actor) }
             Class::Plain | Class::Bell => actor.execute_c0_or_c1(b),
             Class::Delete | Class::High | Class::Lead => Ok(()),
-            Class::Intermediate | Class::Parameter => self.body.push(b),
+            Class::Intermediate | Class::Parameter => {
+                self.body.push(b);
+                Ok(())
+            }
             Class::Opens(_) | Class::Final => self.dispatch_csi(b, actor),
         }
     }
@@ -141,7 +145,7 @@ impl<A: Allocator> Machine<A> {
     // The final byte of a CSI.
     fn dispatch_csi<V: VTActor>(&mut self, b: u8, actor: &mut V) -> Result<()>
         requires { V.is_ready actor.old }
-        ensures moved { (limit : Option ℕ) (x : List ℕ) → KeepsBody self.old.body x → Moved limit true V.takes V.refuses result (Ground, csi_events x b) self.new actor.old actor.new }
+        ensures moved { (limit : Option ℕ) (x : List ℕ) → KeepsBody self.old.body x → Moved K.keeps limit false V.takes V.refuses result (Ground, csi_events x b) self.new actor.old actor.new }
         ensures ready { OnOk result (V.is_ready actor.new) }
     {
         self.state = State::Ground;
@@ -164,7 +168,7 @@ impl<A: Allocator> Machine<A> {
         requires some { 2 < length rest.now }
         requires escape { slice_index rest.now 0 ≡ 0x1b }
         requires ready { V.is_ready actor.old }
-        ensures { TookSome limit V.takes V.refuses V.is_ready result rest.now self.new actor.old actor.new }
+        ensures { TookSome K.keeps limit V.takes V.refuses V.is_ready result rest.now self.new actor.old actor.new }
     {
         if rest[1] == b'[' {
             self.take_csi(rest, actor)
@@ -180,8 +184,8 @@ impl<A: Allocator> Machine<A> {
     pub fn take_quick_csi<V: VTActor>(&mut self, rest: &[u8], actor: &mut V) -> Result<usize>
         requires escape { slice_index rest.now 0 ≡ 0x1b }
         requires ready { V.is_ready actor.old }
-        requires ground { Holds None self.old Ground }
-        ensures ground { IfOk result (λ n. Holds None self.new Ground) }
+        requires ground { Holds K.keeps None self.old Ground }
+        ensures ground { IfOk result (λ n. Holds K.keeps None self.new Ground) }
         ensures stays { Stays (may_grow_within Ground rest.now) V.takes V.refuses V.is_ready result rest.now actor.old actor.new }
     {
         if rest.len() <= 2 {
@@ -208,7 +212,7 @@ impl<A: Allocator> Machine<A> {
         requires escape { slice_index rest.now 0 ≡ 0x1b }
         requires bracket { slice_index rest.now 1 ≡ 0x5b }
         requires ready { V.is_ready actor.old }
-        ensures { (limit : Option ℕ) → TookSome limit V.takes V.refuses V.is_ready result rest.now self.new actor.old actor.new }
+        ensures { (limit : Option ℕ) → TookSome K.keeps limit V.takes V.refuses V.is_ready result rest.now self.new actor.old actor.new }
     {
         let run = self.short.read(&rest[2..]);
         if run == rest.len() - 2 {
@@ -237,9 +241,9 @@ impl<A: Allocator> Machine<A> {
         requires few { run + 2 < length rest.now }
         requires read { IsShort (take self.old.short.count self.old.short.items) (take run (drop 2 rest.now)) }
         requires ends { is_from 0x40 0x7e (slice_index rest.now (run + 2)) ≡ true }
-        requires ground { Holds None self.old Ground }
+        requires ground { Holds K.keeps None self.old Ground }
         requires ready { V.is_ready actor.old }
-        ensures ground { IfOk result (λ n. Holds None self.new Ground) }
+        ensures ground { IfOk result (λ n. Holds K.keeps None self.new Ground) }
         ensures stays { Stays (may_grow_within Ground rest.now) V.takes V.refuses V.is_ready result rest.now actor.old actor.new }
         ensures some { IfOk result (λ n. 0 < n) }
         ensures quiet { (limit : Option ℕ) → Quietly limit result Ground rest.now }
@@ -256,7 +260,7 @@ impl<A: Allocator> Machine<A> {
         requires escape { slice_index rest.now 0 ≡ 0x1b }
         requires bracket { slice_index rest.now 1 ≡ 0x5b }
         requires ready { V.is_ready actor.old }
-        ensures { (limit : Option ℕ) → TookSome limit V.takes V.refuses V.is_ready result rest.now self.new actor.old actor.new }
+        ensures { (limit : Option ℕ) → TookSome K.keeps limit V.takes V.refuses V.is_ready result rest.now self.new actor.old actor.new }
     {
         self.open(Kind::Csi);
         match self.take_in_csi(&rest[2..], actor) {
@@ -271,14 +275,12 @@ impl<A: Allocator> Machine<A> {
         requires some { 0 < length rest.now }
         requires ready { V.is_ready actor.old }
         requires state { self.old.state ≡ State.Csi }
-        ensures took { (limit : Option ℕ) (o : Opener) (x : List ℕ) → KeepsBody self.old.body (strip x) → Took limit V.takes V.refuses result (InCsi o x) rest.now self.new actor.old actor.new }
+        ensures took { (limit : Option ℕ) (o : Opener) (x : List ℕ) → KeepsBody self.old.body (strip x) → Took K.keeps limit V.takes V.refuses result (InCsi o x) rest.now self.new actor.old actor.new }
         ensures quiet { (limit : Option ℕ) (o : Opener) (x : List ℕ) → Quietly limit result (InCsi o x) rest.now }
         ensures count { Advances V.is_ready result rest.now actor.new }
     {
-        match push_run(&mut self.body, rest) {
-            Ok(run) => self.take_after_body(rest, run, actor),
-            Err(e) => Err(e),
-        }
+        let run = push_run(&mut self.body, rest);
+        self.take_after_body(rest, run, actor)
     }
 
     // The byte after a run in a control sequence that was kept.
@@ -294,7 +296,7 @@ impl<A: Allocator> Machine<A> {
         requires passes { list_all is_body_byte (take run rest.now) ≡ true }
         requires ready { V.is_ready actor.old }
         requires state { self.old.state ≡ State.Csi }
-        ensures took { (limit : Option ℕ) (o : Opener) (x : List ℕ) → KeepsBody self.old.body (strip x ++ take run rest.now) → Took limit V.takes V.refuses result (InCsi o x) rest.now self.new actor.old actor.new }
+        ensures took { (limit : Option ℕ) (o : Opener) (x : List ℕ) → KeepsBody self.old.body (strip x ++ take run rest.now) → Took K.keeps limit V.takes V.refuses result (InCsi o x) rest.now self.new actor.old actor.new }
         ensures quiet { (limit : Option ℕ) (o : Opener) (x : List ℕ) → Quietly limit result (InCsi o x) rest.now }
         ensures count { Advances V.is_ready result rest.now actor.new }
     {
@@ -311,7 +313,7 @@ impl<A: Allocator> Machine<A> {
     #[inline(always)]
     fn end_body<V: VTActor>(&mut self, b: u8, actor: &mut V) -> Result<()>
         requires { V.is_ready actor.old }
-        ensures moved { (limit : Option ℕ) (o : Opener) (x : List ℕ) → KeepsBody self.old.body (strip x) → Moved limit true V.takes V.refuses result (inside limit (InCsi o x) b (class_of b)) self.new actor.old actor.new }
+        ensures moved { (limit : Option ℕ) (o : Opener) (x : List ℕ) → KeepsBody self.old.body (strip x) → Moved K.keeps limit false V.takes V.refuses result (inside limit (InCsi o x) b (class_of b)) self.new actor.old actor.new }
         ensures ready { OnOk result (V.is_ready actor.new) }
     {
         if 0x40 <= b && b <= 0x7e {
@@ -324,49 +326,43 @@ impl<A: Allocator> Machine<A> {
 
 // A control sequence whose body has its form, told.
 #[tactic(auto, using(crate::proofs::Given::hears_takes))]
-fn tell_csi<A: Allocator, V: VTActor>(body: &mut CsiBody<A>, b: u8, actor: &mut V) -> Result<()>
+fn tell_csi<V: VTActor>(body: &mut CsiBody, b: u8, actor: &mut V) -> Result<()>
     requires { V.is_ready actor.old }
-    ensures told { (x : List ℕ) → KeepsBody body.old x → Takes true V.takes V.refuses result actor.old (csi_event x b ∷ []) actor.new }
+    ensures told { (x : List ℕ) → KeepsBody body.old x → Takes false V.takes V.refuses result actor.old (csi_event x b ∷ []) actor.new }
     ensures ready { OnOk result (V.is_ready actor.new) }
 {
-    match body.finish() {
-        Ok(()) => actor.csi_dispatch(&body.entries.items, body.entries.is_truncated, b),
-        Err(e) => Err(e),
-    }
+    body.finish();
+    actor.csi_dispatch(body.entries.items.as_slice(), body.entries.is_truncated, b)
 }
 
 // Pushes the run of 20-3F that comes first, and returns its length.
 #[inline(always)]
-fn push_run<A: Allocator>(body: &mut CsiBody<A>, rest: &[u8]) -> Result<usize>
-    ensures keeps { (x : List ℕ) → KeepsBody body.old x → IfOk result (λ n. KeepsBody body.new (x ++ take n rest.now)) }
-    ensures run { IfOk result (λ n. (n ≤ length rest.now) × (list_all is_body_byte (take n rest.now) ≡ true)) }
+fn push_run(body: &mut CsiBody, rest: &[u8]) -> usize
+    ensures keeps { (x : List ℕ) → KeepsBody body.old x → KeepsBody body.new (x ++ take result rest.now) }
+    ensures few { result ≤ length rest.now }
+    ensures run { list_all is_body_byte (take result rest.now) ≡ true }
 {
     let mut end = 0;
     while end < rest.len() && 0x20 <= rest[end] && rest[end] <= 0x3f {
-        match push_next(body, &rest[end..]) {
-            Ok(n) => end += n,
-            Err(e) => return Err(e),
-        }
+        end += push_next(body, &rest[end..]);
     }
-    Ok(end)
+    end
 }
 
-// Pushes a run of digits, or a byte.
+// Pushes a run of digits, or a byte, and returns its length.
 #[inline(always)]
-fn push_next<A: Allocator>(body: &mut CsiBody<A>, rest: &[u8]) -> Result<usize>
+fn push_next(body: &mut CsiBody, rest: &[u8]) -> usize
     requires some { 0 < length rest.now }
     requires low { 0x20 ≤ slice_index rest.now 0 }
     requires high { slice_index rest.now 0 ≤ 0x3f }
-    ensures keeps { (x : List ℕ) → KeepsBody body.old x → IfOk result (λ n. KeepsBody body.new (x ++ take n rest.now)) }
-    ensures run { IfOk result (λ n. list_all is_body_byte (take n rest.now) ≡ true) }
-    ensures count { IfOk result (λ n. (0 < n) × (n ≤ length rest.now)) }
+    ensures keeps { (x : List ℕ) → KeepsBody body.old x → KeepsBody body.new (x ++ take result rest.now) }
+    ensures run { list_all is_body_byte (take result rest.now) ≡ true }
+    ensures count { (0 < result) × (result ≤ length rest.now) }
 {
     if b'0' <= rest[0] && rest[0] <= b'9' {
-        Ok(body.push_digits(rest))
+        body.push_digits(rest)
     } else {
-        match body.push(rest[0]) {
-            Ok(()) => Ok(1),
-            Err(e) => Err(e),
-        }
+        body.push(rest[0]);
+        1
     }
 }

@@ -1,11 +1,11 @@
 //! What is kept of a string, as far as a limit allows.
 #![tactic(auto)]
 
-ghost use Rattle.std.specs.Prelude.{◌≡◌, ◌++◌, ℕ, List, [], Option, OnOk};
+ghost use Rattle.std.specs.Prelude.{ℕ, [], Option};
 ghost use Rattle.esc_frame.specs.Machine.Keeps.{KeepsText};
-ghost use Rattle.esc_frame.specs.Segments.{is_empty};
 
 use crate::count::fits;
+use crate::store::Store;
 use std::alloc::{AllocError, Allocator};
 
 /// The bytes that are kept of a string; no byte and no memory once there were more than the limit.
@@ -26,28 +26,35 @@ impl<A: Allocator> Kept<A> {
             is_over: false,
         }
     }
+}
 
-    /// Begins anew. The memory is kept.
-    pub fn clear(&mut self)
-        ensures { (limit : Option ℕ) → KeepsText limit self.new [] }
-    {
+impl<A: Allocator> Store for Kept<A> {
+    ghost keeps = { λ limit kept t. KeepsText limit kept t };
+
+    // The memory is kept.
+    fn clear(&mut self) {
         self.bytes.clear();
         self.is_over = false;
     }
 
-    /// Whether no byte that counts has come.
     #[inline(always)]
-    pub fn is_new(&self) -> bool
-        ensures { (limit : Option ℕ) (t : List ℕ) → KeepsText limit self.now t → result ≡ is_empty t }
-    {
+    fn is_new(&self) -> bool {
         !self.is_over && self.bytes.is_empty()
     }
 
-    /// Takes text more, each byte of which counts. Past the limit what was kept is let go, and its memory.
+    #[inline(always)]
+    fn is_over(&self) -> bool {
+        self.is_over
+    }
+
+    #[inline(always)]
+    fn bytes(&self) -> &[u8] {
+        &self.bytes
+    }
+
+    // Past the limit what was kept is let go, and its memory.
     #[inline]
-    pub fn push(&mut self, limit: Option<usize>, text: &[u8]) -> Result<(), AllocError>
-        ensures { (t : List ℕ) → KeepsText limit self.old t → OnOk result (KeepsText limit self.new (t ++ text.now)) }
-    {
+    fn push(&mut self, limit: Option<usize>, text: &[u8]) -> Result<(), AllocError> {
         if self.is_over {
             return Ok(());
         }

@@ -14,7 +14,7 @@ ghost use Rattle.esc_frame.specs.Leads.{AreFinished, finished_events};
 ghost use Rattle.esc_frame.specs.Stream.{events, events_within, added, added_within, Says, IsAtGround};
 ghost use Rattle.esc_frame.specs.Counts.{AreWithin};
 ghost use Rattle.esc_frame.specs.Fits.{AreFit, IsOneSegment};
-ghost use Rattle.esc_frame.specs.Memory.{may_grow, MayGrow};
+ghost use Rattle.esc_frame.specs.Memory.{may_grow, MayGrow, may_take, MayTake};
 
 /// Two cuts of a stream are one.
 #[tactic(auto, using(crate::proofs::OneCut::one_cut))]
@@ -185,4 +185,16 @@ pub fn cut_grows()
 #[tactic(auto, using(crate::proofs::Memory::more_grows))]
 pub fn more_grows()
     ensures { (s t : List ℕ) → MayGrow s → MayGrow (s ++ t) }
+{}
+
+/// Whether a stream holds what an actor may want memory for shows in its cut.
+#[tactic(auto, using(crate::proofs::Memory::cut_takes))]
+pub fn cut_takes()
+    ensures { (s : List ℕ) (gs : List Segment) → IsCut s gs → MayTake s → list_any may_take gs ≡ true }
+{}
+
+/// A stream that begins with one that holds it does so too.
+#[tactic(auto, using(crate::proofs::Memory::more_takes))]
+pub fn more_takes()
+    ensures { (s t : List ℕ) → MayTake s → MayTake (s ++ t) }
 {}

@@ -18,9 +18,9 @@ use crate::body::CsiBody;
 use crate::classes::{Class, Kind, classify};
 use crate::header::DcsHeader;
 use crate::intermediates::Intermediates;
-use crate::kept::Kept;
 use crate::sequence::Pending;
 use crate::short::Short;
+use crate::store::Store;
 use std::alloc::{AllocError, Allocator};
 
 /// The error is that the actor refused a call, or that a request for memory was refused.
@@ -47,45 +47,49 @@ pub enum State {
     Apc,
 }
 
-/// The machine, between any two bytes of a stream.
+/// The machine, between any two bytes of a stream, with a store for the text of an unfinished string. The entries of a control
+/// sequence lie in it.
 #[derive(Drop)]
-pub struct Machine<A: Allocator> {
+pub struct Machine<K: Store, A: Allocator> {
     pub state: State,
     // the bytes of a UTF-8 sequence that has begun
     pub pending: Pending,
     // those of an escape sequence
     pub intermediates: Intermediates,
     // that of a control sequence
-    pub body: CsiBody<A>,
+    pub body: CsiBody,
     // that of one that stands whole in a call's bytes
     pub short: Short,
     // the header of a DCS, but for its parameter bytes
     pub header: DcsHeader,
     // what is kept of the text of an OSC or APC, or the parameter bytes of the header of a DCS
-    pub text: Kept<A>,
+    pub text: K,
+    // where the calls that need memory take it
+    pub alloc: A,
 }
 
-impl<A: Allocator + Copy> Machine<A> {
+impl<K: Store, A: Allocator + Copy> Machine<K, A> {
     /// A machine at the beginning of a stream.
-    pub fn new(alloc: A) -> Self
-        ensures { Holds None result Ground }
+    pub fn new(text: K, alloc: A) -> Self
+        ensures { Holds K.keeps None result Ground }
     {
         Machine {
             state: State::Ground,
             pending: Pending::Nothing,
             intermediates: Intermediates::new(),
-            body: CsiBody::new(alloc),
+            body: CsiBody::new(),
             short: Short::new(),
             header: DcsHeader::new(),
-            text: Kept::new(alloc),
+            text,
+            alloc,
         }
     }
 }
 
-impl<A: Allocator> Machine<A> {
+impl<K: Store, A: Allocator> Machine<K, A> {
     /// Whether no segment is unfinished.
     pub fn is_ground(&self) -> bool
-        ensures { (limit : Option ℕ) (u : Unfinished) → Holds limit self.now u → IsTrue result ↔ (u ≡ Ground) }
+        ensures { (limit : Option ℕ) (u : Unfinished) → Holds K.keeps limit self.now u → IsTrue result ↔ (u ≡ Ground) }
     {
         match self.state {
             State::Ground => match self.pending {
@@ -104,17 +108,17 @@ impl<A: Allocator> Machine<A> {
 
     /// How many bytes are kept of the unfinished segment.
     pub fn kept(&self) -> usize
-        ensures { (limit : Option ℕ) (u : Unfinished) → Holds limit self.now u → result ≡ min (kept_open limit u) most }
+        ensures { (limit : Option ℕ) (u : Unfinished) → Holds K.keeps limit self.now u → result ≡ min (kept_open limit u) most }
     {
         match self.state {
-            State::Osc | State::Dcs | State::Apc => self.text.bytes.len(),
+            State::Osc | State::Dcs | State::Apc => self.text.bytes().len(),
             State::Ground | State::Escape | State::Csi | State::Data | State::Skip => 0,
         }
     }
 
     /// What opens here.
     pub fn open(&mut self, kind: Kind)
-        ensures { (limit : Option ℕ) (o : Opener) → Holds limit self.new (opened kind o) }
+        ensures { (limit : Option ℕ) (o : Opener) → Holds K.keeps limit self.new (opened kind o) }
     {
         self.pending = Pending::Nothing;
         match kind {
@@ -148,7 +152,7 @@ impl<A: Allocator> Machine<A> {
         actor: &mut V,
     ) -> Result<()>
         requires { V.is_ready actor.old }
-        ensures moved { (u : Unfinished) → class ≡ class_of b → Holds limit self.old u → Moved limit (may_grow_in u) V.takes V.refuses result (move limit u b class) self.new actor.old actor.new }
+        ensures moved { (u : Unfinished) → class ≡ class_of b → Holds K.keeps limit self.old u → Moved K.keeps limit (may_grow_in u) V.takes V.refuses result (move limit u b class) self.new actor.old actor.new }
         ensures ready { OnOk result (V.is_ready actor.new) }
     {
         match self.state {
@@ -180,8 +184,8 @@ impl<A: Allocator> Machine<A> {
         actor: &mut V,
     ) -> Result<()>
         requires { V.is_ready actor.old }
-        ensures holds { (u : Unfinished) → Holds limit self.old u → OnOk result (Holds limit self.new (after_all u bytes.now)) }
-        ensures told { (u : Unfinished) → Holds limit self.old u → Takes (may_grow_within u bytes.now) V.takes V.refuses result actor.old (news_all limit u bytes.now) actor.new }
+        ensures holds { (u : Unfinished) → Holds K.keeps limit self.old u → OnOk result (Holds K.keeps limit self.new (after_all u bytes.now)) }
+        ensures told { (u : Unfinished) → Holds K.keeps limit self.old u → Takes (may_grow_within u bytes.now) V.takes V.refuses result actor.old (news_all limit u bytes.now) actor.new }
         ensures ready { OnOk result (V.is_ready actor.new) }
     {
         let mut at = 0;
@@ -205,8 +209,8 @@ impl<A: Allocator> Machine<A> {
     ) -> Result<usize>
         requires some { 0 < length rest.now }
         requires ready { V.is_ready actor.old }
-        ensures took { (u : Unfinished) → Holds limit self.old u → Took limit V.takes V.refuses result u rest.now self.new actor.old actor.new }
-        ensures quiet { (u : Unfinished) → Holds limit self.old u → Quietly limit result u rest.now }
+        ensures took { (u : Unfinished) → Holds K.keeps limit self.old u → Took K.keeps limit V.takes V.refuses result u rest.now self.new actor.old actor.new }
+        ensures quiet { (u : Unfinished) → Holds K.keeps limit self.old u → Quietly limit result u rest.now }
         ensures count { Advances V.is_ready result rest.now actor.new }
     {
         match self.state {
@@ -240,7 +244,7 @@ impl<A: Allocator> Machine<A> {
     ) -> Result<usize>
         requires some { 0 < length rest.now }
         requires ready { V.is_ready actor.old }
-        ensures took { (u : Unfinished) → Holds limit self.old u → Took limit V.takes V.refuses result u rest.now self.new actor.old actor.new }
+        ensures took { (u : Unfinished) → Holds K.keeps limit self.old u → Took K.keeps limit V.takes V.refuses result u rest.now self.new actor.old actor.new }
         ensures count { Advances V.is_ready result rest.now actor.new }
     {
         match self.state {
@@ -266,7 +270,7 @@ impl<A: Allocator> Machine<A> {
         requires some { 0 < length rest.now }
         requires ready { V.is_ready actor.old }
         requires between { is_between self.old.state (front_of self.old.pending) ≡ true }
-        ensures took { (u : Unfinished) → Holds limit self.old u → Took limit V.takes V.refuses result u rest.now self.new actor.old actor.new }
+        ensures took { (u : Unfinished) → Holds K.keeps limit self.old u → Took K.keeps limit V.takes V.refuses result u rest.now self.new actor.old actor.new }
         ensures quiet { (u : Unfinished) → Quietly limit result u rest.now }
         ensures count { Advances V.is_ready result rest.now actor.new }
     {

@@ -8,7 +8,6 @@ ghost use Rattle.esc_frame.specs.Leads.Unfinished.{InOsc};
 ghost use Rattle.esc_frame.specs.Limits.{has_few_parts};
 ghost use Rattle.esc_frame.specs.Machine.Calls.{Moved, Took, TookSome, Advances, Quietly};
 ghost use Rattle.esc_frame.specs.Machine.Fronts.{front_of};
-ghost use Rattle.esc_frame.specs.Machine.Keeps.{KeepsText};
 ghost use Rattle.esc_frame.specs.Machine.Moves.{telling, ground_move, pair_move, inside, osc_pending_move, osc_left, ends_osc, is_lendable};
 ghost use Rattle.esc_frame.specs.Machine.TextRuns.{IsTextRun};
 ghost use Rattle.esc_frame.specs.Segments.{Opener, Piece, text_of, osc_events};
@@ -17,14 +16,13 @@ ghost use Rattle.esc_frame.specs.Sequences.{is_from, outcome};
 use crate::actor::VTActor;
 use crate::classes::{Class, Kind, classify};
 use crate::count::fits;
-use crate::kept::Kept;
 use crate::machine::{Machine, Result, State};
-use crate::parts::dispatch_osc;
 use crate::scans::units_run;
 use crate::sequence::{Outcome, Pending, lies_from};
+use crate::store::Store;
 use std::alloc::Allocator;
 
-impl<A: Allocator> Machine<A> {
+impl<K: Store, A: Allocator> Machine<K, A> {
     /// A byte after an OSC's units, with nothing pending.
     #[tactic(auto, using(crate::proofs::Given::takes_moved))]
     pub fn in_osc<V: VTActor>(
@@ -35,7 +33,7 @@ impl<A: Allocator> Machine<A> {
         actor: &mut V,
     ) -> Result<()>
         requires { V.is_ready actor.old }
-        ensures moved { (o : Opener) (ps : List Piece) → class ≡ class_of b → KeepsText limit self.old.text (text_of ps) → Moved limit true V.takes V.refuses result (inside limit (InOsc o ps) b class) self.new actor.old actor.new }
+        ensures moved { (o : Opener) (ps : List Piece) → class ≡ class_of b → K.keeps limit self.old.text (text_of ps) → Moved K.keeps limit true V.takes V.refuses result (inside limit (InOsc o ps) b class) self.new actor.old actor.new }
         ensures ready { OnOk result (V.is_ready actor.new) }
     {
         self.state = State::Osc;
@@ -48,7 +46,7 @@ impl<A: Allocator> Machine<A> {
             | Class::RawTerminator => { self.leave_osc(b, class, actor) }
             Class::Bell => {
                 self.state = State::Ground;
-                tell_osc(&self.text, actor)
+                tell_osc(&self.text, &self.alloc, actor)
             }
             Class::Plain | Class::High => Ok(()),
             Class::Lead => {
@@ -72,7 +70,7 @@ impl<A: Allocator> Machine<A> {
         actor: &mut V,
     ) -> Result<()>
         requires { V.is_ready actor.old }
-        ensures moved { (o : Opener) (ps : List Piece) (f : List ℕ) → class ≡ class_of b → KeepsText limit self.old.text (text_of ps) → front_of self.old.pending ≡ f → Moved limit true V.takes V.refuses result (osc_pending_move limit o ps f b class (outcome f b)) self.new actor.old actor.new }
+        ensures moved { (o : Opener) (ps : List Piece) (f : List ℕ) → class ≡ class_of b → K.keeps limit self.old.text (text_of ps) → front_of self.old.pending ≡ f → Moved K.keeps limit true V.takes V.refuses result (osc_pending_move limit o ps f b class (outcome f b)) self.new actor.old actor.new }
         ensures ready { OnOk result (V.is_ready actor.new) }
     {
         match self.pending.outcome(b) {
@@ -98,7 +96,7 @@ impl<A: Allocator> Machine<A> {
         actor: &mut V,
     ) -> Result<()>
         requires { V.is_ready actor.old }
-        ensures moved { (o : Opener) (ps : List Piece) → KeepsText limit self.old.text (text_of ps) → Moved limit true V.takes V.refuses result (osc_pending_move limit o ps (front_of self.old.pending) b class Outcome.Whole) self.new actor.old actor.new }
+        ensures moved { (o : Opener) (ps : List Piece) → K.keeps limit self.old.text (text_of ps) → Moved K.keeps limit true V.takes V.refuses result (osc_pending_move limit o ps (front_of self.old.pending) b class Outcome.Whole) self.new actor.old actor.new }
         ensures ready { OnOk result (V.is_ready actor.new) }
     {
         if self.pending.pairs_with(b) {
@@ -114,10 +112,10 @@ impl<A: Allocator> Machine<A> {
     // A breaker after an OSC.
     fn leave_osc<V: VTActor>(&mut self, b: u8, class: Class, actor: &mut V) -> Result<()>
         requires { V.is_ready actor.old }
-        ensures moved { (limit : Option ℕ) (t : List ℕ) → KeepsText limit self.old.text t → Moved limit true V.takes V.refuses result (telling (osc_events limit t) (ground_move b class)) self.new actor.old actor.new }
+        ensures moved { (limit : Option ℕ) (t : List ℕ) → K.keeps limit self.old.text t → Moved K.keeps limit true V.takes V.refuses result (telling (osc_events limit t) (ground_move b class)) self.new actor.old actor.new }
         ensures ready { OnOk result (V.is_ready actor.new) }
     {
-        match tell_osc(&self.text, actor) {
+        match tell_osc(&self.text, &self.alloc, actor) {
             Ok(()) => self.in_ground(b, class, actor),
             Err(e) => Err(e),
         }
@@ -126,10 +124,10 @@ impl<A: Allocator> Machine<A> {
     // A control after C2, in an OSC.
     fn leave_osc_by_pair<V: VTActor>(&mut self, b: u8, class: Class, actor: &mut V) -> Result<()>
         requires { V.is_ready actor.old }
-        ensures moved { (limit : Option ℕ) (t : List ℕ) → KeepsText limit self.old.text t → Moved limit true V.takes V.refuses result (telling (osc_events limit t) (pair_move b class)) self.new actor.old actor.new }
+        ensures moved { (limit : Option ℕ) (t : List ℕ) → K.keeps limit self.old.text t → Moved K.keeps limit true V.takes V.refuses result (telling (osc_events limit t) (pair_move b class)) self.new actor.old actor.new }
         ensures ready { OnOk result (V.is_ready actor.new) }
     {
-        match tell_osc(&self.text, actor) {
+        match tell_osc(&self.text, &self.alloc, actor) {
             Ok(()) => self.in_pair(b, class, actor),
             Err(e) => Err(e),
         }
@@ -147,7 +145,7 @@ impl<A: Allocator> Machine<A> {
         requires escape { slice_index rest.now 0 ≡ 0x1b }
         requires bracket { slice_index rest.now 1 ≡ 0x5d }
         requires ready { V.is_ready actor.old }
-        ensures { TookSome limit V.takes V.refuses V.is_ready result rest.now self.new actor.old actor.new }
+        ensures { TookSome K.keeps limit V.takes V.refuses V.is_ready result rest.now self.new actor.old actor.new }
     {
         match self.take_body(limit, &rest[2..], actor) {
             Ok(n) => Ok(2 + n),
@@ -166,7 +164,7 @@ impl<A: Allocator> Machine<A> {
     ) -> Result<usize>
         requires some { 0 < length rest.now }
         requires ready { V.is_ready actor.old }
-        ensures took { (o : Opener) (ps : List Piece) → text_of ps ≡ [] → Took limit V.takes V.refuses result (InOsc o ps) rest.now self.new actor.old actor.new }
+        ensures took { (o : Opener) (ps : List Piece) → text_of ps ≡ [] → Took K.keeps limit V.takes V.refuses result (InOsc o ps) rest.now self.new actor.old actor.new }
         ensures quiet { (o : Opener) (ps : List Piece) → Quietly limit result (InOsc o ps) rest.now }
         ensures count { Advances V.is_ready result rest.now actor.new }
     {
@@ -197,7 +195,7 @@ impl<A: Allocator> Machine<A> {
         requires few { run ≤ length rest.now }
         requires passes { IsTextRun (take run rest.now) }
         requires ready { V.is_ready actor.old }
-        ensures took { (o : Opener) (ps : List Piece) → text_of ps ≡ [] → is_lendable (InOsc o ps) rest.now ≡ false → Took limit V.takes V.refuses result (InOsc o ps) rest.now self.new actor.old actor.new }
+        ensures took { (o : Opener) (ps : List Piece) → text_of ps ≡ [] → is_lendable (InOsc o ps) rest.now ≡ false → Took K.keeps limit V.takes V.refuses result (InOsc o ps) rest.now self.new actor.old actor.new }
         ensures quiet { (o : Opener) (ps : List Piece) → Quietly limit result (InOsc o ps) rest.now }
         ensures count { Advances V.is_ready result rest.now actor.new }
     {
@@ -220,7 +218,7 @@ impl<A: Allocator> Machine<A> {
         requires class { class ≡ class_of (slice_index rest.now run) }
         requires ends { ends_osc class ≡ true }
         requires ready { V.is_ready actor.old }
-        ensures took { (o : Opener) (ps : List Piece) → text_of ps ≡ [] → Took limit V.takes V.refuses result (InOsc o ps) rest.now self.new actor.old actor.new }
+        ensures took { (o : Opener) (ps : List Piece) → text_of ps ≡ [] → Took K.keeps limit V.takes V.refuses result (InOsc o ps) rest.now self.new actor.old actor.new }
         ensures quiet { (o : Opener) (ps : List Piece) → Quietly limit result (InOsc o ps) rest.now }
         ensures count { Advances V.is_ready result rest.now actor.new }
     {
@@ -244,7 +242,7 @@ impl<A: Allocator> Machine<A> {
         requires lead { slice_index rest.now run ≡ 0xc2 }
         requires control { is_from 0x80 0x9f (slice_index rest.now (run + 1)) ≡ true }
         requires ready { V.is_ready actor.old }
-        ensures took { (o : Opener) (ps : List Piece) → text_of ps ≡ [] → Took limit V.takes V.refuses result (InOsc o ps) rest.now self.new actor.old actor.new }
+        ensures took { (o : Opener) (ps : List Piece) → text_of ps ≡ [] → Took K.keeps limit V.takes V.refuses result (InOsc o ps) rest.now self.new actor.old actor.new }
         ensures quiet { (o : Opener) (ps : List Piece) → Quietly limit result (InOsc o ps) rest.now }
         ensures count { Advances V.is_ready result rest.now actor.new }
     {
@@ -265,10 +263,10 @@ impl<A: Allocator> Machine<A> {
         actor: &mut V,
     ) -> Result<()>
         requires { V.is_ready actor.old }
-        ensures moved { Moved limit (not (has_few_parts text.now)) V.takes V.refuses result (telling (osc_events limit text.now) (osc_left b class)) self.new actor.old actor.new }
+        ensures moved { Moved K.keeps limit (not (has_few_parts text.now)) V.takes V.refuses result (telling (osc_events limit text.now) (osc_left b class)) self.new actor.old actor.new }
         ensures ready { OnOk result (V.is_ready actor.new) }
     {
-        match tell_lent(limit, self.text.bytes.allocator(), text, actor) {
+        match tell_lent(limit, &self.alloc, text, actor) {
             Ok(()) => self.leave_lent(b, class, actor),
             Err(e) => Err(e),
         }
@@ -283,10 +281,10 @@ impl<A: Allocator> Machine<A> {
         actor: &mut V,
     ) -> Result<()>
         requires { V.is_ready actor.old }
-        ensures moved { Moved limit (not (has_few_parts text.now)) V.takes V.refuses result (telling (osc_events limit text.now) (pair_move b (class_of b))) self.new actor.old actor.new }
+        ensures moved { Moved K.keeps limit (not (has_few_parts text.now)) V.takes V.refuses result (telling (osc_events limit text.now) (pair_move b (class_of b))) self.new actor.old actor.new }
         ensures ready { OnOk result (V.is_ready actor.new) }
     {
-        match tell_lent(limit, self.text.bytes.allocator(), text, actor) {
+        match tell_lent(limit, &self.alloc, text, actor) {
             Ok(()) => self.in_pair(b, classify(b), actor),
             Err(e) => Err(e),
         }
@@ -295,7 +293,7 @@ impl<A: Allocator> Machine<A> {
     // A bell, or a breaker.
     fn leave_lent<V: VTActor>(&mut self, b: u8, class: Class, actor: &mut V) -> Result<()>
         requires { V.is_ready actor.old }
-        ensures moved { (limit : Option ℕ) (own : Bool) → Moved limit own V.takes V.refuses result (osc_left b class) self.new actor.old actor.new }
+        ensures moved { (limit : Option ℕ) (own : Bool) → Moved K.keeps limit own V.takes V.refuses result (osc_left b class) self.new actor.old actor.new }
         ensures ready { OnOk result (V.is_ready actor.new) }
     {
         if let Class::Bell = class {
@@ -319,7 +317,7 @@ impl<A: Allocator> Machine<A> {
         requires ready { V.is_ready actor.old }
         requires state { self.old.state ≡ State.Osc }
         requires whole { front_of self.old.pending ≡ [] }
-        ensures took { (o : Opener) (ps : List Piece) → KeepsText limit self.old.text (text_of ps) → Took limit V.takes V.refuses result (InOsc o ps) rest.now self.new actor.old actor.new }
+        ensures took { (o : Opener) (ps : List Piece) → K.keeps limit self.old.text (text_of ps) → Took K.keeps limit V.takes V.refuses result (InOsc o ps) rest.now self.new actor.old actor.new }
         ensures quiet { (o : Opener) (ps : List Piece) → Quietly limit result (InOsc o ps) rest.now }
         ensures count { Advances V.is_ready result rest.now actor.new }
     {
@@ -345,7 +343,7 @@ impl<A: Allocator> Machine<A> {
         requires ready { V.is_ready actor.old }
         requires state { self.old.state ≡ State.Osc }
         requires whole { front_of self.old.pending ≡ [] }
-        ensures took { (o : Opener) (ps : List Piece) → KeepsText limit self.old.text (text_of ps) → is_lendable (InOsc o ps) rest.now ≡ false → Took limit V.takes V.refuses result (InOsc o ps) rest.now self.new actor.old actor.new }
+        ensures took { (o : Opener) (ps : List Piece) → K.keeps limit self.old.text (text_of ps) → is_lendable (InOsc o ps) rest.now ≡ false → Took K.keeps limit V.takes V.refuses result (InOsc o ps) rest.now self.new actor.old actor.new }
         ensures quiet { (o : Opener) (ps : List Piece) → Quietly limit result (InOsc o ps) rest.now }
         ensures count { Advances V.is_ready result rest.now actor.new }
     {
@@ -370,7 +368,7 @@ impl<A: Allocator> Machine<A> {
         requires ready { V.is_ready actor.old }
         requires state { self.old.state ≡ State.Osc }
         requires whole { front_of self.old.pending ≡ [] }
-        ensures took { (o : Opener) (ps : List Piece) → KeepsText limit self.old.text (text_of ps ++ take run rest.now) → is_lendable (InOsc o ps) rest.now ≡ false → Took limit V.takes V.refuses result (InOsc o ps) rest.now self.new actor.old actor.new }
+        ensures took { (o : Opener) (ps : List Piece) → K.keeps limit self.old.text (text_of ps ++ take run rest.now) → is_lendable (InOsc o ps) rest.now ≡ false → Took K.keeps limit V.takes V.refuses result (InOsc o ps) rest.now self.new actor.old actor.new }
         ensures quiet { (o : Opener) (ps : List Piece) → Quietly limit result (InOsc o ps) rest.now }
         ensures count { Advances V.is_ready result rest.now actor.new }
     {
@@ -430,21 +428,21 @@ fn tell_lent<A: Allocator, V: VTActor>(
     ensures ready { OnOk result (V.is_ready actor.new) }
 {
     if fits(limit, 0, text.len()) {
-        dispatch_osc(alloc, text, actor)
+        actor.osc_text(alloc, text)
     } else {
         Ok(())
     }
 }
 
 // The text of an operating system command, told where it is within the limit.
-fn tell_osc<A: Allocator, V: VTActor>(text: &Kept<A>, actor: &mut V) -> Result<()>
+fn tell_osc<K: Store, A: Allocator, V: VTActor>(text: &K, alloc: A, actor: &mut V) -> Result<()>
     requires { V.is_ready actor.old }
-    ensures told { (limit : Option ℕ) (t : List ℕ) → KeepsText limit text.now t → Takes true V.takes V.refuses result actor.old (osc_events limit t) actor.new }
+    ensures told { (limit : Option ℕ) (t : List ℕ) → K.keeps limit text.now t → Takes true V.takes V.refuses result actor.old (osc_events limit t) actor.new }
     ensures ready { OnOk result (V.is_ready actor.new) }
 {
-    if text.is_over {
+    if text.is_over() {
         Ok(())
     } else {
-        dispatch_osc(text.bytes.allocator(), &text.bytes, actor)
+        actor.osc_text(alloc, text.bytes())
     }
 }

@@ -14,6 +14,7 @@ ghost use Rattle.esc_frame.specs.Stream.{added_within, LeadsTo, LeadsToWithin, H
 use crate::actor::VTActor;
 use crate::classes::classify;
 use crate::error::ParseError;
+use crate::kept::Kept;
 use crate::machine::Machine;
 use crate::printing::{first_char, first_control};
 use std::alloc::{Allocator, Global};
@@ -24,16 +25,17 @@ use std::alloc::{Allocator, Global};
 ///
 /// Neither the stream nor its events are kept, but what is unfinished: of an escape sequence two intermediates, of a
 /// control sequence 256 entries, of an operating system command or an application program command its text, of a device
-/// control string its header. [`with_limit`](VTParser::with_limit) bounds what is kept of such a string.
+/// control string its header. [`with_limit`](VTParser::with_limit) bounds what is kept of such a string. Intermediates and entries lie
+/// in the parser, in some 4 KB: only a string takes memory.
 #[derive(Drop)]
 pub struct VTParser<A: Allocator = Global> {
-    machine: Machine<A>,
+    machine: Machine<Kept<A>, A>,
     limit: Option<usize>,
     has_failed: bool,
 }
 
 impl<A: Allocator> VTParser<A> {
-    /// A parser at the beginning of a stream. It takes no memory before a sequence or a string begins that it keeps.
+    /// A parser at the beginning of a stream. It takes no memory before a string begins that it keeps.
     #[tactic(auto, unfolding(crate::specs::Stream::LeadsToWithin))]
     pub fn new(alloc: A) -> Self
     where
@@ -41,7 +43,7 @@ impl<A: Allocator> VTParser<A> {
         ensures { LeadsTo [] result }
     {
         VTParser {
-            machine: Machine::new(alloc),
+            machine: Machine::new(Kept::new(alloc), alloc),
             limit: None,
             has_failed: false,
         }
@@ -58,7 +60,7 @@ impl<A: Allocator> VTParser<A> {
         ensures { LeadsToWithin (Some limit) [] result }
     {
         VTParser {
-            machine: Machine::new(alloc),
+            machine: Machine::new(Kept::new(alloc), alloc),
             limit: Some(limit),
             has_failed: false,
         }
@@ -129,8 +131,8 @@ impl<A: Allocator> VTParser<A> {
 
     /// Takes the next byte of the stream, and gives the actor, in order, what it adds to the events of the bytes before.
     ///
-    /// The error is `Memory` where the actor refused a call or a request for memory was refused: a prefix of these events was
-    /// given then, and every later call returns `Failed` and gives nothing.
+    /// The error is `Memory` where the actor refused a call, or where memory for a string was refused: no control sequence takes
+    /// any. A prefix of these events was given then, and every later call returns `Failed` and gives nothing.
     #[tactic(auto, unfolding(crate::specs::Stream::LeadsToWithin, crate::specs::Stream::HasFailed))]
     pub fn parse_byte<V: VTActor>(&mut self, byte: u8, actor: &mut V) -> Result<(), ParseError>
         requires { V.is_ready actor.old }
@@ -155,13 +157,14 @@ impl<A: Allocator> VTParser<A> {
     /// Takes the next bytes of the stream, as many as there are, and gives the actor, in order, what they add to the
     /// events of the bytes before. However a stream is cut into calls, its events are the same.
     ///
-    /// The error is `Memory` where the actor refused a call or a request for memory was refused: a prefix of these events was
-    /// given then, and every later call returns `Failed` and gives nothing.
+    /// The error is `Memory` where the actor refused a call, or where memory for a string was refused: no control sequence takes
+    /// any. A prefix of these events was given then, and every later call returns `Failed` and gives nothing.
     ///
-    /// An operating system command of at most 16 parts, or an application program command, that stands whole in `bytes`, with
-    /// a text of bytes 20 to 7F alone, is given to the actor as slices of `bytes` and takes no memory. So where no segment is
-    /// unfinished before and after these bytes, and they hold such commands, text, controls and escape sequences alone, the
-    /// error comes only of a call that the actor refused.
+    /// Two strings that stand whole in `bytes` are given to the actor as slices of `bytes` and take no memory: an operating
+    /// system command of at most 16 parts with a text of bytes 20 to 7F and well-formed UTF-8 alone, and an application program
+    /// command with a text of bytes 20 to 7F alone. So where no segment is unfinished before and after these bytes, and they
+    /// hold such commands, text, controls, escape sequences and control sequences alone, the error comes only of a call that
+    /// the actor refused.
     #[tactic(auto, unfolding(crate::specs::Stream::LeadsToWithin, crate::specs::Stream::HasFailed))]
     pub fn parse<V: VTActor>(&mut self, bytes: &[u8], actor: &mut V) -> Result<(), ParseError>
         requires { V.is_ready actor.old }
@@ -188,7 +191,7 @@ impl<A: Allocator> VTParser<A> {
     /// last of them add no event and leave a segment unfinished. So a caller can stop at the first event, or at the first
     /// place where no segment is unfinished, and give the bytes after it to a later call.
     ///
-    /// The error is `Memory` where the actor refused a call or a request for memory was refused: a prefix of the events that
+    /// The error is `Memory` where the actor refused a call, or where memory for a string was refused: a prefix of the events that
     /// the bytes add was given then, and every later call returns `Failed` and gives nothing.
     #[tactic(auto, unfolding(crate::specs::Stream::LeadsToWithin, crate::specs::Stream::HasFailed))]
     pub fn parse_some<V: VTActor>(

@@ -3,12 +3,11 @@
 
 ghost use Rattle.std.specs.Prelude.{◌≡◌, ◌++◌, ℕ, List, [], ◌∷◌, ◌-◌, ◌*◌, ◌+◌, ◌≤◌, if◌then◌else◌, true, OnOk, ◌<◌, false, length};
 ghost use Rattle.esc_frame.specs.Sequences.{is_from, is_second, is_sequence, is_front, is_pair, outcome, number_of};
-ghost use Rattle.esc_frame.specs.Machine.Characters.{IsAhead, IsCharacter};
+ghost use Rattle.esc_frame.specs.Machine.Characters.{IsAhead, IsCharacter, NoneAhead};
 ghost use Rattle.esc_frame.specs.Machine.Fronts.{front_of};
-ghost use Rattle.esc_frame.specs.Machine.Keeps.{KeepsText};
 
-use crate::kept::Kept;
-use std::alloc::{AllocError, Allocator};
+use crate::store::Store;
+use std::alloc::AllocError;
 
 /// The bytes of a sequence that has begun.
 #[derive(Clone, Copy, PartialEq, Eq)]
@@ -128,13 +127,8 @@ impl Pending {
     }
 
     /// Appends prefix and byte to the text.
-    pub fn put<A: Allocator>(
-        self,
-        limit: Option<usize>,
-        text: &mut Kept<A>,
-        b: u8,
-    ) -> Result<(), AllocError>
-        ensures ok { (t : List ℕ) → KeepsText limit text.old t → OnOk result (KeepsText limit text.new (t ++ (front_of self ++ b ∷ []))) }
+    pub fn put<K: Store>(self, limit: Option<usize>, text: &mut K, b: u8) -> Result<(), AllocError>
+        ensures ok { (t : List ℕ) → K.keeps limit text.old t → OnOk result (K.keeps limit text.new (t ++ (front_of self ++ b ∷ []))) }
     {
         match self {
             Pending::Nothing => text.push(limit, &[b]),
@@ -197,7 +191,8 @@ fn four(a: u8, b: u8, c: u8, d: u8) -> char
 /// The character of the whole sequence, no control, that comes first, and its length; length 0 where none does.
 #[inline(always)]
 pub fn ahead(rest: &[u8]) -> (usize, char)
-    ensures { IsAhead rest.now result.0 result.1 }
+    ensures ahead { IsAhead rest.now result.0 result.1 }
+    ensures none { 4 ≤ length rest.now → result.0 ≡ 0 → NoneAhead rest.now }
 {
     if rest.len() < 4 {
         (0, '\u{fffd}')
@@ -210,10 +205,29 @@ pub fn ahead(rest: &[u8]) -> (usize, char)
     }
 }
 
+/// The same of fewer than four bytes. It is out of the way of the code for more.
+#[inline(never)]
+pub fn ahead_of_few(rest: &[u8]) -> (usize, char)
+    requires { length rest.now < 4 }
+    ensures ahead { IsAhead rest.now result.0 result.1 }
+    ensures none { result.0 ≡ 0 → NoneAhead rest.now }
+{
+    if rest.len() < 2 {
+        (0, '\u{fffd}')
+    } else if rest[0] < 0xe0 {
+        of_two(rest[0], rest[1])
+    } else if rest.len() < 3 {
+        (0, '\u{fffd}')
+    } else {
+        of_three(rest[0], rest[1], rest[2])
+    }
+}
+
 #[tactic(auto, unfolding(crate::specs::Sequences::is_sequence, crate::specs::Sequences::is_pair, crate::specs::Sequences::number_of))]
 #[inline(always)]
 pub fn of_two(a: u8, b: u8) -> (usize, char)
-    ensures { 0 < result.0 → (result.0 ≡ 2) × IsCharacter (a ∷ b ∷ []) result.1 }
+    ensures whole { 0 < result.0 → (result.0 ≡ 2) × IsCharacter (a ∷ b ∷ []) result.1 }
+    ensures none { result.0 ≡ 0 → is_sequence (a ∷ b ∷ []) ≡ true → is_pair (a ∷ b ∷ []) ≡ true }
 {
     if lies_from(0xc2, 0xdf, a) && lies_from(0x80, 0xbf, b) {
         let c = two(a, b);
@@ -230,7 +244,8 @@ pub fn of_two(a: u8, b: u8) -> (usize, char)
 #[tactic(auto, unfolding(crate::specs::Sequences::is_sequence, crate::specs::Sequences::is_pair, crate::specs::Sequences::number_of))]
 #[inline(always)]
 pub fn of_three(a: u8, b: u8, c: u8) -> (usize, char)
-    ensures { 0 < result.0 → (result.0 ≡ 3) × IsCharacter (a ∷ b ∷ c ∷ []) result.1 }
+    ensures whole { 0 < result.0 → (result.0 ≡ 3) × IsCharacter (a ∷ b ∷ c ∷ []) result.1 }
+    ensures none { result.0 ≡ 0 → is_sequence (a ∷ b ∷ c ∷ []) ≡ false }
 {
     if lies_from(0xe0, 0xef, a) && lies_from(0x80, 0xbf, b) && lies_from(0x80, 0xbf, c) {
         let n = (a as u32 - 0xe0) * 4096 + (b as u32 - 0x80) * 64 + (c as u32 - 0x80);
@@ -249,7 +264,8 @@ pub fn of_three(a: u8, b: u8, c: u8) -> (usize, char)
 #[tactic(auto, unfolding(crate::specs::Sequences::is_sequence, crate::specs::Sequences::is_pair, crate::specs::Sequences::number_of))]
 #[inline(always)]
 pub fn of_four(a: u8, b: u8, c: u8, d: u8) -> (usize, char)
-    ensures { 0 < result.0 → (result.0 ≡ 4) × IsCharacter (a ∷ b ∷ c ∷ d ∷ []) result.1 }
+    ensures whole { 0 < result.0 → (result.0 ≡ 4) × IsCharacter (a ∷ b ∷ c ∷ d ∷ []) result.1 }
+    ensures none { result.0 ≡ 0 → is_sequence (a ∷ b ∷ c ∷ d ∷ []) ≡ false }
 {
     if lies_from(0xf0, 0xf4, a)
         && is_second_byte(a, b)

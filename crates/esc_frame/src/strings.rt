@@ -11,7 +11,6 @@ ghost use Rattle.esc_frame.specs.Leads.{Unfinished, Holds};
 ghost use Rattle.esc_frame.specs.Leads.Unfinished.{InData, InApc, InIgnored};
 ghost use Rattle.esc_frame.specs.Machine.Calls.{Moved, Took, Advances, Quietly};
 ghost use Rattle.esc_frame.specs.Limits.{is_read};
-ghost use Rattle.esc_frame.specs.Machine.Keeps.{KeepsText};
 ghost use Rattle.esc_frame.specs.Machine.Moves.{telling, ground_move, inside, is_lendable};
 ghost use Rattle.esc_frame.specs.Scans.{is_text_byte};
 ghost use Rattle.esc_frame.specs.Segments.{Opener, apc_events};
@@ -19,12 +18,12 @@ ghost use Rattle.esc_frame.specs.Segments.{Opener, apc_events};
 use crate::actor::VTActor;
 use crate::classes::{Class, classify};
 use crate::count::fits;
-use crate::kept::Kept;
 use crate::machine::{Machine, Result, State};
 use crate::scans::ascii_run;
+use crate::store::Store;
 use std::alloc::Allocator;
 
-impl<A: Allocator> Machine<A> {
+impl<K: Store, A: Allocator> Machine<K, A> {
     /// A byte of an APC.
     pub fn in_apc<V: VTActor>(
         &mut self,
@@ -34,7 +33,7 @@ impl<A: Allocator> Machine<A> {
         actor: &mut V,
     ) -> Result<()>
         requires { V.is_ready actor.old }
-        ensures moved { (o : Opener) (d : List ℕ) → class ≡ class_of b → KeepsText limit self.old.text (those is_text d) → Moved limit true V.takes V.refuses result (inside limit (InApc o d) b class) self.new actor.old actor.new }
+        ensures moved { (o : Opener) (d : List ℕ) → class ≡ class_of b → K.keeps limit self.old.text (those is_text d) → Moved K.keeps limit true V.takes V.refuses result (inside limit (InApc o d) b class) self.new actor.old actor.new }
         ensures ready { OnOk result (V.is_ready actor.new) }
     {
         self.state = State::Apc;
@@ -56,7 +55,7 @@ impl<A: Allocator> Machine<A> {
     // A breaker after an APC.
     fn leave_apc<V: VTActor>(&mut self, b: u8, class: Class, actor: &mut V) -> Result<()>
         requires { V.is_ready actor.old }
-        ensures moved { (limit : Option ℕ) (t : List ℕ) → KeepsText limit self.old.text t → Moved limit true V.takes V.refuses result (telling (apc_events limit t) (ground_move b class)) self.new actor.old actor.new }
+        ensures moved { (limit : Option ℕ) (t : List ℕ) → K.keeps limit self.old.text t → Moved K.keeps limit true V.takes V.refuses result (telling (apc_events limit t) (ground_move b class)) self.new actor.old actor.new }
         ensures ready { OnOk result (V.is_ready actor.new) }
     {
         match tell_apc(&self.text, actor) {
@@ -68,8 +67,8 @@ impl<A: Allocator> Machine<A> {
     /// A byte that is passed over, but for a breaker.
     pub fn in_skip<V: VTActor>(&mut self, b: u8, class: Class, actor: &mut V) -> Result<()>
         requires { V.is_ready actor.old }
-        ensures ignored { (limit : Option ℕ) (k : Kind) (o : Opener) (d : List ℕ) → Moved limit true V.takes V.refuses result (inside limit (InIgnored k o d) b class) self.new actor.old actor.new }
-        ensures data { (limit : Option ℕ) (o : Opener) (x : List ℕ) (f : ℕ) (d : List ℕ) → is_read limit (strip x) ≡ false → Moved limit true V.takes V.refuses result (inside limit (InData o x f d) b class) self.new actor.old actor.new }
+        ensures ignored { (limit : Option ℕ) (k : Kind) (o : Opener) (d : List ℕ) → Moved K.keeps limit true V.takes V.refuses result (inside limit (InIgnored k o d) b class) self.new actor.old actor.new }
+        ensures data { (limit : Option ℕ) (o : Opener) (x : List ℕ) (f : ℕ) (d : List ℕ) → is_read limit (strip x) ≡ false → Moved K.keeps limit true V.takes V.refuses result (inside limit (InData o x f d) b class) self.new actor.old actor.new }
         ensures ready { OnOk result (V.is_ready actor.new) }
     {
         self.state = State::Skip;
@@ -103,7 +102,7 @@ impl<A: Allocator> Machine<A> {
         requires some { 0 < length rest.now }
         requires ready { V.is_ready actor.old }
         requires state { self.old.state ≡ State.Apc }
-        ensures took { (o : Opener) (d : List ℕ) → KeepsText limit self.old.text (those is_text d) → Took limit V.takes V.refuses result (InApc o d) rest.now self.new actor.old actor.new }
+        ensures took { (o : Opener) (d : List ℕ) → K.keeps limit self.old.text (those is_text d) → Took K.keeps limit V.takes V.refuses result (InApc o d) rest.now self.new actor.old actor.new }
         ensures quiet { (o : Opener) (d : List ℕ) → Quietly limit result (InApc o d) rest.now }
         ensures count { Advances V.is_ready result rest.now actor.new }
     {
@@ -135,7 +134,7 @@ impl<A: Allocator> Machine<A> {
         requires passes { list_all is_text_byte (take run rest.now) ≡ true }
         requires ready { V.is_ready actor.old }
         requires state { self.old.state ≡ State.Apc }
-        ensures took { (o : Opener) (d : List ℕ) → KeepsText limit self.old.text (those is_text d) → is_lendable (InApc o d) rest.now ≡ false → Took limit V.takes V.refuses result (InApc o d) rest.now self.new actor.old actor.new }
+        ensures took { (o : Opener) (d : List ℕ) → K.keeps limit self.old.text (those is_text d) → is_lendable (InApc o d) rest.now ≡ false → Took K.keeps limit V.takes V.refuses result (InApc o d) rest.now self.new actor.old actor.new }
         ensures quiet { (o : Opener) (d : List ℕ) → Quietly limit result (InApc o d) rest.now }
         ensures count { Advances V.is_ready result rest.now actor.new }
     {
@@ -159,7 +158,7 @@ impl<A: Allocator> Machine<A> {
         requires passes { list_all is_text_byte (take run rest.now) ≡ true }
         requires ready { V.is_ready actor.old }
         requires state { self.old.state ≡ State.Apc }
-        ensures took { (o : Opener) (d : List ℕ) → KeepsText limit self.old.text (those is_text d ++ take run rest.now) → is_lendable (InApc o d) rest.now ≡ false → Took limit V.takes V.refuses result (InApc o d) rest.now self.new actor.old actor.new }
+        ensures took { (o : Opener) (d : List ℕ) → K.keeps limit self.old.text (those is_text d ++ take run rest.now) → is_lendable (InApc o d) rest.now ≡ false → Took K.keeps limit V.takes V.refuses result (InApc o d) rest.now self.new actor.old actor.new }
         ensures quiet { (o : Opener) (d : List ℕ) → Quietly limit result (InApc o d) rest.now }
         ensures count { Advances V.is_ready result rest.now actor.new }
     {
@@ -187,7 +186,7 @@ impl<A: Allocator> Machine<A> {
         requires class { class ≡ class_of (slice_index rest.now run) }
         requires ends { is_breaker class ≡ true }
         requires ready { V.is_ready actor.old }
-        ensures took { (o : Opener) (d : List ℕ) → those is_text d ≡ [] → Took limit V.takes V.refuses result (InApc o d) rest.now self.new actor.old actor.new }
+        ensures took { (o : Opener) (d : List ℕ) → those is_text d ≡ [] → Took K.keeps limit V.takes V.refuses result (InApc o d) rest.now self.new actor.old actor.new }
         ensures quiet { (o : Opener) (d : List ℕ) → Quietly limit result (InApc o d) rest.now }
         ensures count { Advances V.is_ready result rest.now actor.new }
     {
@@ -207,7 +206,7 @@ impl<A: Allocator> Machine<A> {
         actor: &mut V,
     ) -> Result<()>
         requires { V.is_ready actor.old }
-        ensures moved { (own : Bool) → Moved limit own V.takes V.refuses result (telling (apc_events limit text.now) (ground_move b class)) self.new actor.old actor.new }
+        ensures moved { (own : Bool) → Moved K.keeps limit own V.takes V.refuses result (telling (apc_events limit text.now) (ground_move b class)) self.new actor.old actor.new }
         ensures ready { OnOk result (V.is_ready actor.new) }
     {
         match tell_lent_apc(limit, text, actor) {
@@ -227,8 +226,8 @@ impl<A: Allocator> Machine<A> {
         requires some { 0 < length rest.now }
         requires ready { V.is_ready actor.old }
         requires state { self.old.state ≡ State.Skip }
-        ensures took { (u : Unfinished) → Holds limit self.old u → Took limit V.takes V.refuses result u rest.now self.new actor.old actor.new }
-        ensures quiet { (u : Unfinished) → Holds limit self.old u → Quietly limit result u rest.now }
+        ensures took { (u : Unfinished) → Holds K.keeps limit self.old u → Took K.keeps limit V.takes V.refuses result u rest.now self.new actor.old actor.new }
+        ensures quiet { (u : Unfinished) → Holds K.keeps limit self.old u → Quietly limit result u rest.now }
         ensures count { Advances V.is_ready result rest.now actor.new }
     {
         let run = ascii_run(rest);
@@ -277,14 +276,14 @@ fn tell_lent_apc<V: VTActor>(limit: Option<usize>, text: &[u8], actor: &mut V) -
 
 // The text of an APC, told where it is within the limit.
 #[tactic(auto, using(crate::proofs::Given::hears_takes))]
-fn tell_apc<A: Allocator, V: VTActor>(text: &Kept<A>, actor: &mut V) -> Result<()>
+fn tell_apc<K: Store, V: VTActor>(text: &K, actor: &mut V) -> Result<()>
     requires { V.is_ready actor.old }
-    ensures told { (limit : Option ℕ) (t : List ℕ) → KeepsText limit text.now t → Takes true V.takes V.refuses result actor.old (apc_events limit t) actor.new }
+    ensures told { (limit : Option ℕ) (t : List ℕ) → K.keeps limit text.now t → Takes true V.takes V.refuses result actor.old (apc_events limit t) actor.new }
     ensures ready { OnOk result (V.is_ready actor.new) }
 {
-    if text.is_over {
+    if text.is_over() {
         Ok(())
     } else {
-        actor.apc_dispatch(&text.bytes)
+        actor.apc_dispatch(text.bytes())
     }
 }

@@ -1,7 +1,7 @@
 //! The events of escape sequences and control sequences.
 #![tactic(auto)]
 
-ghost use Rattle.std.specs.Prelude.{◌∷◌, Bool, IfOk, List, OnOk, [], true, ℕ};
+ghost use Rattle.std.specs.Prelude.{◌∷◌, Bool, List, OnOk, [], false, ℕ};
 ghost use Rattle.esc_frame.specs.Classes.{strip};
 ghost use Rattle.esc_frame.specs.Events.{Takes};
 ghost use Rattle.esc_frame.specs.Machine.Keeps.{Keeps, KeepsBody};
@@ -14,7 +14,7 @@ use crate::openers::{opens_dcs, split_opener};
 use esc_frame::VTActor;
 use esc_frame::body::CsiBody;
 use esc_frame::intermediates::Intermediates;
-use std::alloc::{AllocError, Allocator};
+use std::alloc::AllocError;
 
 type Result<T> = std::result::Result<T, AllocError>;
 
@@ -75,9 +75,9 @@ fn intermediates_of(x: &[u8]) -> Intermediates
 }
 
 /// A control sequence: the controls inside it, and then its dispatch, where its body has its form.
-pub fn csi<A: Allocator, V: VTActor>(alloc: A, bytes: &[u8], actor: &mut V) -> Result<()>
+pub fn csi<V: VTActor>(bytes: &[u8], actor: &mut V) -> Result<()>
     requires { V.is_ready actor.old }
-    ensures told { (finished : Bool) (o : Opener) (x : List ℕ) (f : ℕ) → Tells true V.takes V.refuses result actor.old actor.new bytes.now finished (Csi o x f) }
+    ensures told { (finished : Bool) (o : Opener) (x : List ℕ) (f : ℕ) → Tells false V.takes V.refuses result actor.old actor.new bytes.now finished (Csi o x f) }
     ensures ready { OnOk result (V.is_ready actor.new) }
 {
     match execute_in(bytes, actor) {
@@ -87,50 +87,50 @@ pub fn csi<A: Allocator, V: VTActor>(alloc: A, bytes: &[u8], actor: &mut V) -> R
                 return Ok(());
             }
             let last = body.len() - 1;
-            dispatch_csi(alloc, &body[..last], body[last], actor)
+            dispatch_csi(&body[..last], body[last], actor)
         }
         Err(e) => Err(e),
     }
 }
 
 // The dispatch of a control sequence with this body and final byte.
-fn dispatch_csi<A: Allocator, V: VTActor>(alloc: A, x: &[u8], last: u8, actor: &mut V) -> Result<()>
+fn dispatch_csi<V: VTActor>(x: &[u8], last: u8, actor: &mut V) -> Result<()>
     requires { V.is_ready actor.old }
-    ensures told { Takes true V.takes V.refuses result actor.old (csi_events (strip x.now) last) actor.new }
+    ensures told { Takes false V.takes V.refuses result actor.old (csi_events (strip x.now) last) actor.new }
     ensures ready { OnOk result (V.is_ready actor.new) }
 {
-    match body_of(alloc, x) {
-        Ok(mut body) => tell_body(&mut body, last, actor),
-        Err(e) => Err(e),
-    }
+    let mut body = body_of(x);
+    tell_body(&mut body, last, actor)
 }
 
 // The same, of a body that was read.
-fn tell_body<A: Allocator, V: VTActor>(body: &mut CsiBody<A>, last: u8, actor: &mut V) -> Result<()>
+fn tell_body<V: VTActor>(body: &mut CsiBody, last: u8, actor: &mut V) -> Result<()>
     requires { V.is_ready actor.old }
-    ensures told { (x : List ℕ) → KeepsBody body.old x → Takes true V.takes V.refuses result actor.old (csi_events x last) actor.new }
+    ensures told { (x : List ℕ) → KeepsBody body.old x → Takes false V.takes V.refuses result actor.old (csi_events x last) actor.new }
     ensures ready { OnOk result (V.is_ready actor.new) }
 {
     if !body.is_formed() {
         return Ok(());
     }
-    match body.finish() {
-        Ok(()) => actor.csi_dispatch(&body.entries.items, body.entries.is_truncated, last),
-        Err(e) => Err(e),
-    }
+    body.finish();
+    actor.csi_dispatch(
+        body.entries.items.as_slice(),
+        body.entries.is_truncated,
+        last,
+    )
 }
 
 // The body that the bytes but noise are.
-fn body_of<A: Allocator>(alloc: A, x: &[u8]) -> Result<CsiBody<A>>
-    ensures { IfOk result (λ body. KeepsBody body (strip x.now)) }
+fn body_of(x: &[u8]) -> CsiBody
+    ensures { KeepsBody result (strip x.now) }
 {
-    let mut body = CsiBody::new(alloc);
+    let mut body = CsiBody::new();
     for b in x {
         if !is_noise(*b) {
-            body.push(*b)?;
+            body.push(*b);
         }
     }
-    Ok(body)
+    body
 }
 
 /// A sequence or header that is cut short: the controls inside it, but of a device control string only those in its opener.

@@ -20,8 +20,8 @@ use std::alloc::{AllocError, Allocator};
 /// Gives an actor the events of a segment, by splitting its bytes: those that a parser gives for it, wherever it comes in a stream.
 ///
 /// The segment is one that [`Segments`](crate::Segments) gave. Of a segment that is unfinished these are the events so far. Of any
-/// other value of the type nothing is said but that the call returns. It takes memory only for a control sequence and for a
-/// string, and only while it runs. `AllocError` says that memory was refused, here or by the actor, after a prefix of the events.
+/// other value of the type nothing is said but that the call returns. It takes memory only for a string, and only
+/// while it runs. `AllocError` says that memory was refused, here or by the actor, after a prefix of the events.
 pub fn segment_events<A: Allocator + Copy, V: VTActor>(
     alloc: A,
     segment: &Segment<'_>,
@@ -39,7 +39,7 @@ pub fn segment_events<A: Allocator + Copy, V: VTActor>(
         SegmentKind::Control => control(bytes, actor),
         SegmentKind::Terminator => Ok(()),
         SegmentKind::Escape => escape(bytes, actor),
-        SegmentKind::Csi => csi(alloc, bytes, actor),
+        SegmentKind::Csi => csi(bytes, actor),
         SegmentKind::Dcs => dcs(alloc, bytes, segment.finished, actor),
         SegmentKind::Osc => osc(alloc, bytes, segment.finished, actor),
         SegmentKind::Apc => apc(alloc, bytes, segment.finished, actor),

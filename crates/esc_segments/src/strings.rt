@@ -19,7 +19,6 @@ use crate::openers::split_opener;
 use crate::runs::header_run;
 use esc_frame::VTActor;
 use esc_frame::header::{DcsHeader, is_parameter, params_of};
-use esc_frame::parts::dispatch_osc;
 use std::alloc::{AllocError, Allocator};
 
 type Result<T> = std::result::Result<T, AllocError>;
@@ -42,7 +41,7 @@ pub fn osc<A: Allocator + Copy, V: VTActor>(
                 return Ok(());
             }
             match kept_text(alloc, text) {
-                Ok(kept) => dispatch_osc(alloc, &kept, actor),
+                Ok(kept) => actor.osc_text(alloc, &kept),
                 Err(e) => Err(e),
             }
         }

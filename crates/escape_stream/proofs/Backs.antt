@@ -24,7 +24,7 @@ below_64 v h = grind (arith, nat_tests)
 
 datum_has_text : (d : SixelData) → IsWritableData d → is_sixel d ≡ true
 datum_has_text (data_variant.Data v) h = below_64 v h
-datum_has_text (data_variant.Repeat n v) h = below_64 v h.1
+datum_has_text (data_variant.Repeat v n) h = below_64 v h.1
 datum_has_text d h = refl
 
 data_have_text : (ds : List SixelData) → AreWritableData ds → list_all is_sixel ds ≡ true

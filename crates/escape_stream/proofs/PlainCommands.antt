@@ -42,13 +42,24 @@ title_text A c t (inr (inr e)) u =
     ∙ ap command_text (meant code.SetWindowTitle (t ∷ []) (command.SetWindowTitle t) (title_read command.SetWindowTitle t u))
     ∙ ap (λ c. pieces_text (0x1b ∷ 0x5d ∷ c) [] t) (sym e)
 
--- a link without parameters, and none
-bare_read : (A : Type 0) (u : List ℕ) → IsUtf8 u → command_text (meaning {A = A} (codes "8" ∷ [] ∷ u ∷ [])) ≡ pieces_text (codes "\u{1b}]8;") [] u
-bare_read A [] h = ap command_text (meant {A = A} code.SetHyperlink ([] ∷ [] ∷ []) (command.SetHyperlink None) refl)
-bare_read A (b ∷ u) h =
+-- the link without parameters to a place, and none
+abbrev pub bare_of : (A : Type 0) → List ℕ → OperatingSystemCommand A
+bare_of A [] = command.SetHyperlink None
+bare_of A (b ∷ u) = command.SetHyperlink (Some (link_to [] (b ∷ u)))
+
+pub bare_meant : (A : Type 0) (u : List ℕ) → IsUtf8 u → meaning {A = A} (codes "8" ∷ [] ∷ u ∷ []) ≡ bare_of A u
+bare_meant A [] h = meant {A = A} code.SetHyperlink ([] ∷ [] ∷ []) (command.SetHyperlink None) refl
+bare_meant A (b ∷ u) h =
     let read : reading {A = A} code.SetHyperlink (codes "8") ([] ∷ (b ∷ u) ∷ []) ≡ Some (command.SetHyperlink (Some (link_to [] (b ∷ u)))) =
     rw (is_utf8-from_IsUtf8 (b ∷ u) h) refl in
-    ap command_text (meant {A = A} code.SetHyperlink ([] ∷ (b ∷ u) ∷ []) (command.SetHyperlink (Some (link_to [] (b ∷ u)))) read)
+    meant {A = A} code.SetHyperlink ([] ∷ (b ∷ u) ∷ []) (command.SetHyperlink (Some (link_to [] (b ∷ u)))) read
+
+bare_written : (A : Type 0) (u : List ℕ) → command_text (bare_of A u) ≡ pieces_text (codes "\u{1b}]8;") [] u
+bare_written A [] = refl
+bare_written A (b ∷ u) = refl
+
+bare_read : (A : Type 0) (u : List ℕ) → IsUtf8 u → command_text (meaning {A = A} (codes "8" ∷ [] ∷ u ∷ [])) ≡ pieces_text (codes "\u{1b}]8;") [] u
+bare_read A u h = ap command_text (bare_meant A u h) ∙ bare_written A u
 
 pub bare_text : (A : Type 0) (c p u : List ℕ) → c ≡ codes "8" → p ≡ [] → IsUtf8 u
     → command_text (meaning {A = A} (c ∷ p ∷ u ∷ [])) ≡ pieces_text (codes "\u{1b}]8;") [] u
@@ -72,14 +83,21 @@ id_params v h u =
     rw (split_whole v h, is_utf8-from_IsUtf8 v u, key) refl
 
 -- a link with the parameter `id` alone
+abbrev pub id_of : (A : Type 0) → List ℕ → List ℕ → OperatingSystemCommand A
+id_of A v u = command.SetHyperlink (Some (link_to ((codes "id", v) ∷ []) u))
+
+pub id_meant : (A : Type 0) (v u : List ℕ) → list_any is_colon v ≡ false → IsUtf8 v → IsUtf8 u
+    → meaning {A = A} (codes "8" ∷ (codes "id=" ++ v) ∷ u ∷ []) ≡ id_of A v u
+id_meant A v u h k l =
+    let read : reading {A = A} code.SetHyperlink (codes "8") ((codes "id=" ++ v) ∷ u ∷ []) ≡ Some (id_of A v u) =
+    rw (id_params v h k, is_utf8-from_IsUtf8 u l) refl in
+    meant {A = A} code.SetHyperlink ((codes "id=" ++ v) ∷ u ∷ []) (id_of A v u) read
+
 id_read : (A : Type 0) (v u : List ℕ) → list_any is_colon v ≡ false → IsUtf8 v → IsUtf8 u
     → command_text (meaning {A = A} (codes "8" ∷ (codes "id=" ++ v) ∷ u ∷ [])) ≡ pieces_text (codes "\u{1b}]8;id=") v u
 id_read A v u h k l =
     let end : List ℕ = 0x1b ∷ 0x5c ∷ [] in
-    let read : reading {A = A} code.SetHyperlink (codes "8") ((codes "id=" ++ v) ∷ u ∷ [])
-    ≡ Some (command.SetHyperlink (Some (link_to ((codes "id", v) ∷ []) u))) =
-    rw (id_params v h k, is_utf8-from_IsUtf8 u l) refl in
-    ap command_text (meant {A = A} code.SetHyperlink ((codes "id=" ++ v) ∷ u ∷ []) (command.SetHyperlink (Some (link_to ((codes "id", v) ∷ []) u))) read)
+    ap command_text (id_meant A v u h k l)
     ∙ ap (λ t. codes "\u{1b}]8;id=" ++ ((t ++ 0x3b ∷ u) ++ end)) (append-nil v) ∙ ap (λ t. codes "\u{1b}]8;id=" ++ t) (append_assoc v (0x3b ∷ u) end)
 
 pub id_text : (A : Type 0) (c p v u : List ℕ) → c ≡ codes "8" → p ≡ codes "id=" ++ v → list_any is_colon v ≡ false → IsUtf8 v → IsUtf8 u

@@ -3,18 +3,20 @@ use Rattle.std.proofs.Common.{◌≡◌, ℕ, Bool, true, false, List, [], ◌�
 use Rattle.std.proofs.Common.{MatchResult, OnOk, Result, Ok, Err, refl, ap, sym, ◌∙◌, subst, inl, inr}
 use Rattle.std.proofs.Common.{arith}
 use Rattle.std.specs.List.{FoldsTo}
-use Rattle.esc_below.specs.Csis.{csi_of, csi_text, csi_value, unspecified}
+use Rattle.esc_below.specs.Csis.{CsiValue, csi_of, csi_text, csi_value, unspecified}
+use Rattle.esc_below.specs.declared.csi.CSI.{CSI}
 use Rattle.esc_below.specs.declared.csi.CSI.TheVariants as csi_variant
 use Rattle.esc_below.specs.declared.csi_param.CsiParam.{CsiParam}
 use Rattle.esc_frame.specs.Events.{Event, StopsAt}
-use Rattle.esc_frame.specs.Events.Event.{CsiDispatch, OscDispatch}
+use Rattle.esc_frame.specs.Events.Event.{OscDispatch}
 use Rattle.esc_osc.specs.Commands.{command_text}
 use Rattle.esc_osc.specs.Reading.{meaning as command_meant}
 use Rattle.escape_stream.specs.Fed.{Hooks}
-use Rattle.escape_stream.specs.Given.{At}
-use Rattle.escape_stream.specs.Spelled.{Adds, IsNumber, IsPlain, Spells}
+use Rattle.escape_stream.specs.Given.{By, StopsAt as StopsGiven}
+use Rattle.escape_stream.specs.Spelled.{Adds, IsPlain, Spells}
 use Rattle.escape_stream.proofs.LoneNumbers.{lone_number}
-use Rattle.esc_actions.specs.Values.{csi, value_of}
+use Rattle.esc_actions.specs.Values.{csi, osc, value_of}
+use Rattle.esc_actions.specs.declared.action.Action.{Action}
 use Rattle.esc_actions.specs.declared.action.Action.TheVariants as action
 use Rattle.escape_stream.specs.declared.performer.Performer.{Performer}
 use Rattle.escape_stream.specs.declared.sink.Spell.{Spell}
@@ -36,32 +38,42 @@ match_both X Y P Q (Err e) f q h = q
 abbrev wrap : {A : Type 0} → Performer (Spell A) A → Speller A
 wrap p = record { performer = p }
 
-sequence_spelled : {A : Type 0} (p q : Performer (Spell A) A) (es : List CsiParam) (more : Bool) (f : ℕ)
-    → csi_of es more f ≡ unspecified es more f ∷ [] → q.unfinished ≡ p.unfinished
-    → q.sink.text ≡ p.sink.text ++ csi_text (unspecified es more f) → q.sink.follows_string ≡ false → Spells p (CsiDispatch es more f) q
-sequence_spelled {A} p q es more f one same text plain = λ limit m h. (
-  subst (λ u. Hooks limit u m) (sym same) h,
-  subst (λ vs. FoldsTo (At value_of Adds) p.sink (map csi vs) q.sink) (sym one)
-      (q.sink, (action.CSI (csi_variant.Unspecified (record { params = es; parameters_truncated = more; control = f })), refl, (text, plain)), refl),
-)
-
-number_spelled : {A : Type 0} (p q : Performer (Spell A) A) (es : List CsiParam) (more : Bool) (f : ℕ)
-    → IsNumber es → q.unfinished ≡ p.unfinished
-    → q.sink.text ≡ p.sink.text ++ csi_text (unspecified es more f) → q.sink.follows_string ≡ false → Spells p (CsiDispatch es more f) q
-number_spelled {A} p q es more f (n, is) same text plain = λ limit m h.
+-- a control sequence whose text is that of its entries is one value of this text
+plain_value : {A : Type 0} (es : List CsiParam) (more : Bool) (f : ℕ) → IsPlain es more f
+    → (c : CSI A) × (csi_of es more f ≡ csi_value c ∷ []) × (csi_text (csi_value c) ≡ csi_text (unspecified es more f))
+plain_value {A} es more f (inl (n, is)) =
     let l = lone_number {A = A} n more f in
-    let one : csi_of es more f ≡ csi_value l.0 ∷ [] = ap (λ ps. csi_of ps more f) is ∙ l.1 in
-    let spelled : csi_text (unspecified es more f) ≡ csi_text (csi_value l.0) = ap (λ ps. csi_text (unspecified ps more f)) is ∙ sym l.2 in (
-      subst (λ u. Hooks limit u m) (sym same) h,
-      subst (λ vs. FoldsTo (At value_of Adds) p.sink (map csi vs) q.sink) (sym one)
-          (q.sink, (action.CSI l.0, refl, (text ∙ ap (λ t. p.sink.text ++ t) spelled, plain)), refl),
-    )
+    (l.0, ap (λ ps. csi_of ps more f) is ∙ l.1, l.2 ∙ sym (ap (λ ps. csi_text (unspecified ps more f)) is))
+plain_value es more f (inr one) = (csi_variant.Unspecified (record { params = es; parameters_truncated = more; control = f }), one, refl)
 
-pub plain_spelled : {A : Type 0} (p q : Performer (Spell A) A) (es : List CsiParam) (more : Bool) (f : ℕ)
-    → IsPlain es more f → q.unfinished ≡ p.unfinished
-    → q.sink.text ≡ p.sink.text ++ csi_text (unspecified es more f) → q.sink.follows_string ≡ false → Spells p (CsiDispatch es more f) q
-plain_spelled p q es more f (inl number) same text plain = number_spelled p q es more f number same text plain
-plain_spelled p q es more f (inr one) same text plain = sequence_spelled p q es more f one same text plain
+-- the action is this control sequence
+abbrev pub IsSequence : {A : Type 0} → Action A → CsiValue → Type 0
+IsSequence a c = value_of a ≡ csi c
+
+pub plain_given : {A : Type 0} (p q : Spell A) (es : List CsiParam) (more : Bool) (f : ℕ) → IsPlain es more f
+    → (q.text ≡ p.text ++ csi_text (unspecified es more f)) × (q.follows_string ≡ false) → FoldsTo (By IsSequence Adds) p (csi_of es more f) q
+plain_given {A} p q es more f plain w =
+    let v = plain_value {A = A} es more f plain in
+    subst (λ vs. FoldsTo (By IsSequence Adds) p vs q) (sym v.1)
+    (q, (action.CSI v.0, refl, (w.0 ∙ ap (λ t. p.text ++ t) (sym v.2), w.1)), refl)
+
+pub plain_refused : {A : Type 0} (own : Type 0) (p q : Spell A) (es : List CsiParam) (more : Bool) (f : ℕ) → IsPlain es more f
+    → StopsGiven own (By IsSequence Adds) (By (IsSequence {A = A}) (λ _ _ _. Unit {0})) p (csi_of es more f) q
+plain_refused {A} own p q es more f plain =
+    let v = plain_value {A = A} es more f plain in
+    subst (λ vs. StopsGiven own (By IsSequence Adds) (By (IsSequence {A = A}) (λ _ _ _. Unit {0})) p vs q) (sym v.1) (inr (inl (action.CSI v.0, refl, tt)))
+
+-- the action is the command that these parts mean
+abbrev pub IsCommand : {A : Type 0} → Action A → List (List ℕ) → Type 0
+IsCommand a ps = value_of a ≡ osc (command_meant ps)
+
+pub command_given : {A : Type 0} (p q : Spell A) (ps : List (List ℕ))
+    → (q.text ≡ p.text ++ command_text (command_meant {A = A} ps)) × (q.follows_string ≡ true) → FoldsTo (By IsCommand Adds) p (ps ∷ []) q
+command_given p q ps w = (q, (action.OperatingSystemCommand (command_meant ps), refl, w), refl)
+
+pub command_refused : {A : Type 0} (own : Type 0) (p q : Spell A) (ps : List (List ℕ))
+    → StopsGiven own (By IsCommand Adds) (By (IsCommand {A = A}) (λ _ _ _. Unit {0})) p (ps ∷ []) q
+command_refused {A} own p q ps = inr (inl (action.OperatingSystemCommand (command_meant ps), refl, tt))
 
 -- the actor that spells is a performer whose sink is a text
 pub unwrapped : {A : Type 0} (es : List Event) (a b : Speller A) → FoldsTo (λ p e q. Spells p.performer e q.performer) a es b

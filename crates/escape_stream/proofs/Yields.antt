@@ -3,11 +3,13 @@ use Rattle.std.proofs.Common.{◌≡◌, ℕ, true, List, [], ◌∷◌, ◌++�
 use Rattle.std.proofs.lemmas.List.{append-nil, map-append}
 use Rattle.std.specs.List.{FoldsTo}
 use Rattle.esc_frame.specs.Events.{Event, StopsAt as StopsAtEvent}
-use Rattle.esc_frame.specs.Memory.{MayGrow}
+use Rattle.esc_frame.specs.Memory.{MayGrow, MayTake}
 use Rattle.esc_frame.specs.Stream.{events_within, added_within}
+use Rattle.esc_frame.proofs.Given.{stops_for}
+use Rattle.esc_frame.proofs.Memory.{grows_takes}
 use Rattle.esc_frame.proofs.Streams.{events_more}
 use Rattle.esc_actions.proofs.Meanings.{mode_more, values_append, yield_is}
-use Rattle.escape_stream.proofs.Grows.{event_grows}
+use Rattle.escape_stream.proofs.Grows.{event_takes}
 use Rattle.escape_stream.proofs.Lists.{FoldsTo-append, StopsAt-append, StopsAt-here, StopsAt-longer, StopsAt-weaker}
 use Rattle.escape_stream.specs.Fed.{Hooks}
 use Rattle.escape_stream.specs.Given.{At, StopsAt}
@@ -60,10 +62,10 @@ module _ {S A : Type 0} (R Q : S → Value A → S → Type 0) where
       ])
 
 -- an event behind s that wants memory
-pub added_grows : (limit : Option ℕ) (s b : List ℕ) (before : List Event) (e : Event) (behind : List Event)
-    → added_within limit s b ≡ before ++ e ∷ behind → wants_memory e ≡ true → MayGrow (s ++ b)
-added_grows limit s b before e behind is h =
-    event_grows limit (s ++ b) (events_within limit s ++ before) e behind
+pub added_takes : (limit : Option ℕ) (s b : List ℕ) (before : List Event) (e : Event) (behind : List Event)
+    → added_within limit s b ≡ before ++ e ∷ behind → wants_memory e ≡ true → MayTake (s ++ b)
+added_takes limit s b before e behind is h =
+    event_takes limit (s ++ b) (events_within limit s ++ before) e behind
     (sym (events_more limit s b) ∙ ap (λ l. events_within limit s ++ l) is ∙ sym (append_assoc (events_within limit s) before (e ∷ behind))) h
 
 -- an event that leaves unfinished what was unfinished
@@ -86,10 +88,11 @@ module _ {S A : Type 0} (R Q : S → Value A → S → Type 0) where
 
   pub performs_some : (limit : Option ℕ) (s b : List ℕ) (p q : Performer S A)
       → StopsAtEvent (MayGrow (s ++ b)) (Takes R Q) (Refuses R Q) p (added_within limit s b) q
-      → Hooks limit p.unfinished (mode_from plain (events_within limit s)) → StopsAt (MayGrow (s ++ b)) R Q p.sink (yield_within limit s b) q.sink
+      → Hooks limit p.unfinished (mode_from plain (events_within limit s)) → StopsAt (MayTake (s ++ b)) R Q p.sink (yield_within limit s b) q.sink
   performs_some limit s b p q h k =
-      let w = performs_prefix R Q limit (MayGrow (s ++ b)) (added_within limit s b) p (mode_from plain (events_within limit s)) q (added_grows limit s b) h k in
-      subst (λ vs. StopsAt (MayGrow (s ++ b)) R Q p.sink vs q.sink) (sym (yield_is limit s b)) w
+      let w = performs_prefix R Q limit (MayTake (s ++ b)) (added_within limit s b) p (mode_from plain (events_within limit s)) q (added_takes limit s b)
+      (stops_for (MayGrow (s ++ b)) (MayTake (s ++ b)) (Takes R Q) (Refuses R Q) (added_within limit s b) p q (grows_takes (s ++ b)) h) k in
+      subst (λ vs. StopsAt (MayTake (s ++ b)) R Q p.sink vs q.sink) (sym (yield_is limit s b)) w
 
 -- what a list of actions was given
 pub collects : {A : Type 0} (p : Collect A) (vs : List (Value A)) (q : Collect A)

@@ -7,7 +7,7 @@ ghost use Rattle.esc_frame.specs.Segments.{IsCut, Segment};
 ghost use Rattle.esc_frame.specs.Stream.{IsQuietWithin};
 ghost use Rattle.esc_actions.specs.Limited.{data_kept};
 ghost use Rattle.escape_stream.specs.Firsts.{IsFirst, IsFirstStop, IsStop, first};
-ghost use Rattle.esc_frame.specs.Memory.{MayGrow};
+ghost use Rattle.esc_frame.specs.Memory.{MayTake};
 ghost use Rattle.escape_stream.specs.Given.{At, GetsAll, GetsPrefix, StopsAt};
 ghost use Rattle.esc_actions.specs.Meaning.{MayWant, yield_within};
 ghost use Rattle.esc_actions.specs.Values.{control, value_of};
@@ -105,7 +105,7 @@ impl<A: Allocator + Copy> Parser<A> {
         ensures given { (limit : Option ℕ) (s : List ℕ) → WasFedWithin limit s self.old → OnOk result.0 (WasFedWithin limit (s ++ bytes.now) self.new
             × FoldsTo (At value_of S.takes) sink (yield_within limit s bytes.now) result.1) }
         ensures refused { (limit : Option ℕ) (s : List ℕ) → WasFedWithin limit s self.old → IfErr result.0 (λ e. (e ≡ ParseError.Memory) × IsBroken self.new
-            × StopsAt (MayGrow (s ++ bytes.now)) (At value_of S.takes) (At value_of S.refuses) sink (yield_within limit s bytes.now) result.1) }
+            × StopsAt (MayTake (s ++ bytes.now)) (At value_of S.takes) (At value_of S.refuses) sink (yield_within limit s bytes.now) result.1) }
         ensures failed { IsBroken self.old → (result.0 ≡ Err ParseError.Failed) × IsBroken self.new × (result.1 ≡ sink) }
     {
         let mut performer = Performer {
@@ -177,7 +177,7 @@ impl<A: Allocator + Copy> Parser<A> {
             × FoldsTo (At value_of S.takes) sink (yield_within limit s (take n bytes.now)) result.1) }
         ensures quiet { (limit : Option ℕ) (s : List ℕ) → WasFedWithin limit s self.old → IfOk result.0 (λ n. IsQuietWithin limit s bytes.now n) }
         ensures refused { (limit : Option ℕ) (s : List ℕ) → WasFedWithin limit s self.old → IfErr result.0 (λ e. (e ≡ ParseError.Memory) × IsBroken self.new
-            × StopsAt (MayGrow (s ++ bytes.now)) (At value_of S.takes) (At value_of S.refuses) sink (yield_within limit s bytes.now) result.1) }
+            × StopsAt (MayTake (s ++ bytes.now)) (At value_of S.takes) (At value_of S.refuses) sink (yield_within limit s bytes.now) result.1) }
         ensures failed { IsBroken self.old → (result.0 ≡ Err ParseError.Failed) × IsBroken self.new × (result.1 ≡ sink) }
     {
         let mut performer = Performer {
@@ -207,7 +207,7 @@ impl<A: Allocator + Copy> Parser<A> {
         ensures given { (limit : Option ℕ) (s : List ℕ) → WasFedWithin limit s self.old → IfOk result (λ x. WasFedWithin limit (s ++ take x.0 bytes.now) self.new
             × (option_map value_of x.1 ≡ first (yield_within limit s (take x.0 bytes.now)))) }
         ensures quiet { (limit : Option ℕ) (s : List ℕ) → WasFedWithin limit s self.old → IfOk result (λ x. IsQuietWithin limit s bytes.now x.0) }
-        ensures refused { (limit : Option ℕ) (s : List ℕ) → WasFedWithin limit s self.old → IfErr result (λ e. (e ≡ ParseError.Memory) × IsBroken self.new × MayGrow (s ++ bytes.now)) }
+        ensures refused { (limit : Option ℕ) (s : List ℕ) → WasFedWithin limit s self.old → IfErr result (λ e. (e ≡ ParseError.Memory) × IsBroken self.new × MayTake (s ++ bytes.now)) }
         ensures failed { IsBroken self.old → (result ≡ Err ParseError.Failed) × IsBroken self.new }
     {
         let (result, First { action }) = self.feed_some(bytes, First { action: None });
@@ -221,7 +221,7 @@ impl<A: Allocator + Copy> Parser<A> {
         ensures some { (limit : Option ℕ) (s : List ℕ) → WasFedWithin limit s self.old → IfOk result (λ r. IfSome r (λ x. WasFedWithin limit (s ++ take x.1 bytes.now) self.new × IsFirst limit s bytes.now (value_of x.0) x.1)) }
         ensures handed_out { (limit : Option ℕ) (s : List ℕ) → WasFedWithin limit s self.old → IfOk result (λ r. IfSome r (λ x. IsHandedOut (value_of x.0))) }
         ensures none { (limit : Option ℕ) (s : List ℕ) → WasFedWithin limit s self.old → IfOk result (λ r. IfNone r (WasFedWithin limit (s ++ bytes.now) self.new × (yield_within {A = A} limit s bytes.now ≡ []))) }
-        ensures refused { (limit : Option ℕ) (s : List ℕ) → WasFedWithin limit s self.old → IfErr result (λ e. (e ≡ ParseError.Memory) × IsBroken self.new × MayGrow (s ++ bytes.now)) }
+        ensures refused { (limit : Option ℕ) (s : List ℕ) → WasFedWithin limit s self.old → IfErr result (λ e. (e ≡ ParseError.Memory) × IsBroken self.new × MayTake (s ++ bytes.now)) }
         ensures failed { IsBroken self.old → (result ≡ Err ParseError.Failed) × IsBroken self.new }
     {
         laws::yield_handed_out::<A>();
@@ -265,7 +265,7 @@ impl<A: Allocator + Copy> Parser<A> {
         ensures some { (limit : Option ℕ) (s : List ℕ) → WasFedWithin limit s self.old → IfOk result (λ r. IfSome r (λ x. WasFedWithin limit (s ++ take x.1 bytes.now) self.new × IsFirst limit s bytes.now (value_of x.0) x.1)) }
         ensures handed_out { (limit : Option ℕ) (s : List ℕ) → WasFedWithin limit s self.old → IfOk result (λ r. IfSome r (λ x. IsHandedOut (value_of x.0))) }
         ensures none { (limit : Option ℕ) (s : List ℕ) → WasFedWithin limit s self.old → IfOk result (λ r. IfNone r (WasFedWithin limit (s ++ bytes.now) self.new × (yield_within {A = A} limit s bytes.now ≡ []))) }
-        ensures refused { (limit : Option ℕ) (s : List ℕ) → WasFedWithin limit s self.old → IfErr result (λ e. (e ≡ ParseError.Memory) × IsBroken self.new × MayGrow (s ++ bytes.now)) }
+        ensures refused { (limit : Option ℕ) (s : List ℕ) → WasFedWithin limit s self.old → IfErr result (λ e. (e ≡ ParseError.Memory) × IsBroken self.new × MayTake (s ++ bytes.now)) }
         ensures failed { IsBroken self.old → (result ≡ Err ParseError.Failed) × IsBroken self.new }
     {
         laws::yield_handed_out::<A>();
@@ -361,7 +361,7 @@ impl Parser {
             × GetsAll (At value_of (λ p a q. F.step p a tt q)) callback (yield_within limit s bytes.now)) }
         ensures handed_out { (limit : Option ℕ) (s : List ℕ) → WasFedWithin limit s self.old → AreHandedOut {A = Global} (yield_within limit s bytes.now) }
         ensures refused { (limit : Option ℕ) (s : List ℕ) → WasFedWithin limit s self.old → IfErr result (λ e. (e ≡ ParseError.Memory) × IsBroken self.new
-            × MayGrow (s ++ bytes.now) × GetsPrefix (At value_of (λ p a q. F.step p a tt q)) callback (yield_within limit s bytes.now)) }
+            × MayTake (s ++ bytes.now) × GetsPrefix (At value_of (λ p a q. F.step p a tt q)) callback (yield_within limit s bytes.now)) }
         ensures failed { IsBroken self.old → (result ≡ Err ParseError.Failed) × IsBroken self.new }
     {
         laws::yield_handed_out::<Global>();

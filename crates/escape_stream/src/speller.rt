@@ -1,26 +1,20 @@
 //! From events to text.
-ghost use Rattle.std.specs.Prelude.{◌≡◌, ◌∷◌, ◌++◌, [], IsTrue, OnOk, false, true};
-ghost use Rattle.esc_below.specs.Csis.{csi_text, unspecified};
-ghost use Rattle.esc_actions.specs.Texts.{is_string, text_after};
-ghost use Rattle.esc_actions.specs.Values.{plain, value_of};
-ghost use Rattle.esc_osc.specs.Commands.{command_text};
-ghost use Rattle.esc_osc.specs.declared.command.OperatingSystemCommand.{OperatingSystemCommand as Command};
+ghost use Rattle.std.specs.Prelude.{◌≡◌, [], false};
+ghost use Rattle.esc_actions.specs.Values.{plain};
 ghost use Rattle.escape_stream.specs.Fed.{Hooks};
-ghost use Rattle.escape_stream.specs.Spelled.{IsNumber, IsPlain, Spells, pieces_text};
+ghost use Rattle.escape_stream.specs.Spelled.{Spells};
 
 use crate::performer::Performer;
-use crate::plain_command::{PlainCommand, plain_command};
-use crate::short_text::ShortText;
+use crate::plain_command::plain_command;
 use crate::sink::Spell;
 use crate::unfinished::Unfinished;
-use esc_below::csi::is_unspecified;
-use esc_below::{BorrowedSequence, CsiParam, Text};
+use esc_below::{CsiParam, Text};
 use esc_frame::actor::VTActor;
 use esc_osc::OperatingSystemCommand;
 use std::alloc::{AllocError, Allocator, Global};
 
-/// Appends the texts of the actions that events give, as a [`Performer`] with a [`Spell`] does. A control sequence that has no
-/// name and a command are written at once, so that no memory is taken for their actions.
+/// Appends the texts of the actions that events give, as a [`Performer`] with a [`Spell`] does. A command is written at once, so that
+/// no memory is taken for its action.
 #[derive(Drop)]
 pub(crate) struct Speller<A: Allocator = Global> {
     pub performer: Performer<Spell<A>, A>,
@@ -48,78 +42,6 @@ impl<A: Allocator + Copy> Speller<A> {
     {
         self.performer.sink.text
     }
-}
-
-// Appends the text of a control sequence that has no name; a short one is gathered first.
-fn append_sequence<A: Allocator>(
-    text: &mut Text<A>,
-    params: &[CsiParam],
-    parameters_truncated: bool,
-    control: u8,
-) -> Result<(), AllocError>
-    ensures { OnOk result (text.new ≡ text.old ++ csi_text (unspecified params.now parameters_truncated control)) }
-{
-    let mut short = ShortText::new();
-    if short.push_sequence(params, control) {
-        text.push_str(short.as_str())
-    } else {
-        text.push_display(&BorrowedSequence {
-            params,
-            parameters_truncated,
-            control,
-        })
-    }
-}
-
-impl<A: Allocator> Spell<A> {
-    // Appends the text of a control sequence that has no name.
-    fn write_sequence(
-        &mut self,
-        params: &[CsiParam],
-        parameters_truncated: bool,
-        control: u8,
-    ) -> Result<(), AllocError>
-        ensures { OnOk result ((self.new.text ≡ self.old.text ++ csi_text (unspecified params.now parameters_truncated control)) × (self.new.follows_string ≡ false)) }
-    {
-        append_sequence(&mut self.text, params, parameters_truncated, control)?;
-        self.follows_string = false;
-        Ok(())
-    }
-
-    // Appends the text of a command.
-    fn write_command(&mut self, command: &OperatingSystemCommand<A>) -> Result<(), AllocError>
-        ensures { OnOk result ((self.new.text ≡ self.old.text ++ command_text command.now) × (self.new.follows_string ≡ true)) }
-    {
-        self.text.push_display(command)?;
-        self.follows_string = true;
-        Ok(())
-    }
-}
-
-impl<A: Allocator> Spell<A> {
-    // Appends the text of a command from its pieces.
-    fn write_plain(&mut self, command: &PlainCommand) -> Result<(), AllocError>
-        ensures { OnOk result ((self.new.text ≡ self.old.text ++ pieces_text command.now.start.now command.now.middle.now command.now.last.now) × (self.new.follows_string ≡ true)) }
-    {
-        command.append_to(&mut self.text)?;
-        self.follows_string = true;
-        Ok(())
-    }
-}
-
-// Whether the text of a control sequence is that of its entries: it has no name, or its only entry is a number, also where that
-// is a rendition.
-fn is_plain(params: &[CsiParam], parameters_truncated: bool, control: u8) -> bool
-    ensures { IsTrue result → IsPlain params.now parameters_truncated control }
-{
-    is_number(params) || is_unspecified(params, parameters_truncated, control)
-}
-
-// Whether the only entry is a number.
-fn is_number(params: &[CsiParam]) -> bool
-    ensures { IsTrue result → IsNumber params.now }
-{
-    matches!(params, [CsiParam::Integer(_)])
 }
 
 impl<A: Allocator + Copy> VTActor for Speller<A> {
@@ -189,14 +111,8 @@ impl<A: Allocator + Copy> VTActor for Speller<A> {
         parameters_truncated: bool,
         byte: u8,
     ) -> Result<(), AllocError> {
-        if is_plain(params, parameters_truncated, byte) {
-            self.performer
-                .sink
-                .write_sequence(params, parameters_truncated, byte)
-        } else {
-            self.performer
-                .csi_dispatch(params, parameters_truncated, byte)
-        }
+        self.performer
+            .csi_dispatch(params, parameters_truncated, byte)
     }
 
     fn osc_dispatch(&mut self, params: &[&[u8]]) -> Result<(), AllocError> {

@@ -1,6 +1,6 @@
 //! What was left out of a stream.
 use esc_filter::{Admit, Policy};
-use escape_stream::{Action, DeviceControlMode};
+use escape_stream::{Action, CsiParam, DeviceControlMode};
 use std::alloc::Allocator;
 use std::cell::Cell;
 use std::io::Write;
@@ -184,6 +184,21 @@ impl<'t, A: Allocator> Admit<A> for Counting<'t> {
             self.count_passed_text(text.chars().count());
         }
         passes
+    }
+
+    // Where it counts, each is made and asked of.
+    fn admits_sequence(&self, params: &[CsiParam], control: u8) -> Option<bool> {
+        if self.tally.is_some() {
+            return None;
+        }
+        <Policy as Admit<A>>::admits_sequence(&self.policy, params, control)
+    }
+
+    fn admits_command(&self, parts: &[&[u8]]) -> Option<bool> {
+        if self.tally.is_some() {
+            return None;
+        }
+        <Policy as Admit<A>>::admits_command(&self.policy, parts)
     }
 
     fn leaves_out(&self, action: &Action<A>) {

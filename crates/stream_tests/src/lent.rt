@@ -11,7 +11,7 @@ struct Row<'a> {
     events: &'a str,
 }
 
-static WHOLE: [Row<'static>; 9] = [
+static WHOLE: [Row<'static>; 15] = [
     Row {
         stream: b"\x1b]2;t\x1b\\",
         events: "osc [[50], [116]]. esc 92 [] [] false. ",
@@ -33,6 +33,32 @@ static WHOLE: [Row<'static>; 9] = [
     Row {
         stream: b"\x1b\n]2;t\x18",
         events: "execute 10. osc [[50], [116]]. execute 24. ",
+    },
+    // a character of two bytes, of three and of four
+    Row {
+        stream: b"\x1b]2;\xc3\xa9t\xe2\x82\xac \xf0\x9f\x98\x80.\x1b\\",
+        events: "osc [[50], [195, 169, 116, 226, 130, 172, 32, 240, 159, 152, 128, 46]]. esc 92 [] [] false. ",
+    },
+    // the last one just before the byte that ends the command and the bytes
+    Row {
+        stream: b"\x1b]2;t\xc3\xa9\x07",
+        events: "osc [[50], [116, 195, 169]]. ",
+    },
+    Row {
+        stream: b"\x9d2;\xc3\xa9\xc2\xa0\x9c",
+        events: "osc [[50], [195, 169, 194, 160]]. ",
+    },
+    Row {
+        stream: b"\x1b]2;\xc3\xa9\xc2\x9c",
+        events: "osc [[50], [195, 169]]. ",
+    },
+    Row {
+        stream: b"\x1b]2;\xe2\x82\xac\x07",
+        events: "osc [[50], [226, 130, 172]]. ",
+    },
+    Row {
+        stream: b"\x1b]2;\xf0\x9f\x98\x80\x18",
+        events: "osc [[50], [240, 159, 152, 128]]. execute 24. ",
     },
     // no text
     Row {

@@ -12,10 +12,11 @@ use Rattle.esc_frame.specs.Machine.Moves.{Move, after_all, news_all, may_grow_wi
 
 -- The machine made this move: it keeps what is unfinished after it, and the actor was given its events. Where the result is
 -- an error the actor was given a prefix of them; the machine stopped by itself only where `own` holds.
-abbrev pub Moved : {A S E : Type 0} → Option ℕ → Bool → (S → Event → S → Type 0) → (S → Event → S → Type 0) → Result (Unit {0}) E → Move → Machine A → S → S
+abbrev pub Moved : {K A S E : Type 0} → (Option ℕ → K → List ℕ → Type 0) → Option ℕ → Bool → (S → Event → S → Type 0) → (S → Event → S → Type 0)
+    → Result (Unit {0}) E → Move → Machine K A → S → S
     → Type 0
-Moved limit own takes refuses result m machine old new =
-    MatchResult result (λ _. Holds limit machine m.0 × FoldsTo takes old m.1 new) (λ _. StopsAt (own ≡ true) takes refuses old m.1 new)
+Moved keeps limit own takes refuses result m machine old new =
+    MatchResult result (λ _. Holds keeps limit machine m.0 × FoldsTo takes old m.1 new) (λ _. StopsAt (own ≡ true) takes refuses old m.1 new)
 
 -- where all strings in the rest can be lent, none of them is begun after its first n bytes but for its opener
 abbrev pub StaysFresh : Unfinished → List ℕ → ℕ → Type 0
@@ -23,11 +24,12 @@ StaysFresh u rest n = is_lendable u rest ≡ true → is_fresh (after_all u (tak
 
 -- The call took n bytes of the rest, where u was unfinished before: the machine keeps what is unfinished after them, and the
 -- actor was given their events. Where the result is an error the actor was given a prefix of the events of the rest.
-abbrev pub Took : {A S E : Type 0} → Option ℕ → (S → Event → S → Type 0) → (S → Event → S → Type 0) → Result ℕ E → Unfinished → List ℕ → Machine A → S → S
+abbrev pub Took : {K A S E : Type 0} → (Option ℕ → K → List ℕ → Type 0) → Option ℕ → (S → Event → S → Type 0) → (S → Event → S → Type 0) → Result ℕ E
+    → Unfinished → List ℕ → Machine K A → S → S
     → Type 0
-Took limit takes refuses result u rest machine old new =
+Took keeps limit takes refuses result u rest machine old new =
     MatchResult result
-    (λ n. Holds limit machine (after_all u (take n rest)) × FoldsTo takes old (news_all limit u (take n rest)) new × StaysFresh u rest n)
+    (λ n. Holds keeps limit machine (after_all u (take n rest)) × FoldsTo takes old (news_all limit u (take n rest)) new × StaysFresh u rest n)
     (λ _. StopsAt (may_grow_within u rest ≡ true) takes refuses old (news_all limit u rest) new)
 
 -- it took a byte at least, and no more than there are, and the actor is ready
@@ -56,10 +58,11 @@ Stays own takes refuses is_ready result rest old new =
     (λ _. (limit : Option ℕ) → StopsAt (own ≡ true) takes refuses old (news_all limit Ground rest) new)
 
 -- It took some of the bytes, in ground: one at least, and the first event among them, if any, is that of the last.
-abbrev pub TookSome : {A S E : Type 0} → Option ℕ → (S → Event → S → Type 0) → (S → Event → S → Type 0) → (S → Type 0) → Result ℕ E → List ℕ → Machine A → S → S
+abbrev pub TookSome : {K A S E : Type 0} → (Option ℕ → K → List ℕ → Type 0) → Option ℕ → (S → Event → S → Type 0) → (S → Event → S → Type 0) → (S → Type 0)
+    → Result ℕ E → List ℕ → Machine K A → S → S
     → Type 0
-TookSome limit takes refuses is_ready result rest machine old new =
-    Took limit takes refuses result Ground rest machine old new × Quietly limit result Ground rest × Advances is_ready result rest new
+TookSome keeps limit takes refuses is_ready result rest machine old new =
+    Took keeps limit takes refuses result Ground rest machine old new × Quietly limit result Ground rest × Advances is_ready result rest new
 
 -- The machine is in no OSC or APC, but where these bytes of a sequence pend in an OSC.
 abbrev pub is_between : State → List ℕ → Bool

@@ -43,7 +43,7 @@ abbrev pub closed_of : Option ℕ → List ℕ → List CsiParam
 closed_of o [] = []
 closed_of o (b ∷ bs) = closed_by o b ++ closed_of (next_number_of o b) bs
 
-abbrev pub IsNumber : {A : Type 0} → Entries A → Option ℕ → Type 0
+abbrev pub IsNumber : Entries → Option ℕ → Type 0
 IsNumber e None = e.is_open ≡ false
 IsNumber e (Some n) = (e.is_open ≡ true) × (e.number ≡ held n)
 
@@ -52,8 +52,8 @@ pub record AreFirst (items : List CsiParam) (truncated : Bool) (limit : ℕ) (al
   pub kept : items ≡ take limit all
   pub more : truncated ≡ nat_lt limit (length all)
 
-abbrev pub KeepsEntries : {A : Type 0} → Entries A → List ℕ → Type 0
-KeepsEntries e x = AreFirst e.items.items e.is_truncated e.limit (closed_of None x) × IsNumber e (number_of_run None x) × (e.limit ≡ 256)
+abbrev pub KeepsEntries : Entries → List ℕ → Type 0
+KeepsEntries e x = AreFirst e.items e.is_truncated e.limit (closed_of None x) × IsNumber e (number_of_run None x) × (e.limit ≡ 256)
 
 -- how far a body, or a header, has come in its form, byte by byte, where these are its parameter bytes
 abbrev pub next_form_by : (ℕ → Bool) → Form → ℕ → Form
@@ -79,7 +79,7 @@ is_formed form.Malformed = false
 is_formed _ = true
 
 -- the entries and the form of a body so far
-abbrev pub KeepsBody : {A : Type 0} → CsiBody A → List ℕ → Type 0
+abbrev pub KeepsBody : CsiBody → List ℕ → Type 0
 KeepsBody e x = KeepsEntries e.entries x × (e.form ≡ form_from form.Empty x)
 
 -- this text is kept, each byte of which counts; or nothing, not even memory, where it is past the limit

@@ -146,9 +146,10 @@ abbrev pub may_grow_in : Unfinished → Bool
 may_grow_in Ground = false
 may_grow_in (Pending _) = false
 may_grow_in (InEscape _) = false
+may_grow_in (InCsi _ _) = false
 may_grow_in _ = true
 
--- one of these bytes is taken in a control sequence or a string
+-- one of these bytes is taken in a string
 abbrev pub reaches_growing : Unfinished → List ℕ → Bool
 reaches_growing u [] = false
 reaches_growing u (b ∷ bs) = may_grow_in u || reaches_growing (after_by u b (class_of b)) bs
@@ -162,14 +163,16 @@ passes_osc ps c = is_text c || (ends_osc c && has_few_parts (text_of ps))
 
 -- a byte after a prefix of a sequence there
 abbrev pub passes_pending : List Piece → List ℕ → ℕ → Outcome → Bool
-passes_pending ps f b outcomes.Whole = is_pair (f ++ b ∷ []) && has_few_parts (text_of ps)
-passes_pending ps f b _ = false
+passes_pending ps f b outcomes.Whole = if is_pair (f ++ b ∷ []) then has_few_parts (text_of ps) else true
+passes_pending ps f b outcomes.More = true
+passes_pending ps f b outcomes.Broken = false
 
--- a byte outside of control sequences and strings, or in a string that can be lent
+-- a byte outside of strings, or in a string that can be lent
 abbrev pub passes : Unfinished → ℕ → Class → Bool
 passes Ground b c = true
 passes (Pending f) b c = true
 passes (InEscape x) b c = true
+passes (InCsi o x) b c = true
 passes (InOsc o ps) b c = passes_osc ps c
 passes (InOscPending o ps f) b c = passes_pending ps f b (outcome f b)
 passes (InApc o d) b c = is_text c || is_breaker c
@@ -183,11 +186,12 @@ all_pass u (b ∷ bs) = passes u b (class_of b) && all_pass (after_by u b (class
 abbrev pub lends : Unfinished → List ℕ → Bool
 lends u bs = all_pass u bs && is_ground (after_all u bs)
 
--- no byte that counts has come
+-- no byte of a string that counts has come
 abbrev pub is_fresh : Unfinished → Bool
 is_fresh Ground = true
 is_fresh (Pending f) = true
 is_fresh (InEscape x) = true
+is_fresh (InCsi o x) = true
 is_fresh (InOsc o ps) = is_empty (text_of ps)
 is_fresh (InApc o d) = is_empty (those is_text d)
 is_fresh _ = false

@@ -5,14 +5,14 @@ use Rattle.esc_frame.proofs.ManyBytes.{tail_length}
 use Rattle.esc_frame.proofs.escapes.push_run.Goals as goal
 
 pub loop-end-preserved : goal.loop-end-preserved
-loop-end-preserved g c =
+loop-end-preserved c =
     let rest = c.args.rest.now in
     let i = c.loop-end.end in
-    let n = c.in-Ok.n in
+    let n = c.push_next-end.result in
     let so = c.loop-end.invariant in
     let l = tail_length rest i in (
-      omega (arith, c.in-Ok.ensures.count),
-      passes_more rest i n so.1 c.in-Ok.ensures.run,
-      λ x h. subst (λ y. KeepsBody c.push_next.new.body y) (append_assoc x (take i rest) (take n (take (length rest - i) (drop i rest))) ∙ ap (λ y. x ++ y)
-          (run_joins rest i n)) (c.in-Ok.ensures.keeps (x ++ take i rest) (so.2 x h)),
+      omega (arith, c.push_next-end.ensures.count),
+      passes_more rest i n so.1 c.push_next-end.ensures.run,
+      λ x h. subst (λ y. KeepsBody c.push_next-end.new.body y) (append_assoc x (take i rest) (take n (take (length rest - i) (drop i rest))) ∙ ap (λ y. x ++ y)
+          (run_joins rest i n)) (c.push_next-end.ensures.keeps (x ++ take i rest) (so.2 x h)),
     )

@@ -11,10 +11,10 @@ use Rattle.esc_frame.proofs.osc.tell_lent.Goals as goal
 pub returns-then-fits-clause-told : goal.returns-then-fits-clause-told
 returns-then-fits-clause-told g c =
     let t = c.args.text.now in
-    subst (λ es. Takes (not (has_few_parts t)) g.V.VTActor.takes g.V.VTActor.refuses c.dispatch_osc.result c.args.actor.now es c.dispatch_osc.new.actor)
+    subst (λ es. Takes (not (has_few_parts t)) g.V.VTActor.takes g.V.VTActor.refuses c.osc_text.result c.args.actor.now es c.osc_text.new.self)
     (osc_told c.args.limit t (within_by c.args.limit (length t) _ c.fits.ensures ∙ c.if-fits.true))
-    (takes_few (has_few_parts t) g.V.VTActor.takes g.V.VTActor.refuses c.dispatch_osc.result c.args.actor.now c.dispatch_osc.new.actor (OscDispatch (parts_of t) ∷ []) c.dispatch_osc.ensures.told
-    c.dispatch_osc.ensures.few)
+    (takes_few (has_few_parts t) g.V.VTActor.takes g.V.VTActor.refuses c.osc_text.result c.args.actor.now c.osc_text.new.self (OscDispatch (parts_of t) ∷ []) c.osc_text.ensures.told
+    c.osc_text.ensures.few)
 
 pub returns-else-fits-clause-told : goal.returns-else-fits-clause-told
 returns-else-fits-clause-told g c =

@@ -1,6 +1,7 @@
-use Rattle.std.proofs.Common.{arith, rules}
-use Rattle.esc_frame.proofs.ManyBytes.{tail_length}
-use Rattle.esc_frame.proofs.StringRuns.{run_more, tail_first}
+use Rattle.std.proofs.Common.{arith, rules, subst}
+use Rattle.esc_frame.specs.Machine.TextRuns.{NoUnitAhead}
+use Rattle.esc_frame.proofs.ManyBytes.{tail_is, tail_length}
+use Rattle.esc_frame.proofs.StringRuns.{run_more}
 use Rattle.esc_frame.proofs.scans.units_run.Goals as goal
 
 pub loop-end-preserved : goal.loop-end-preserved
@@ -13,4 +14,4 @@ loop-end-preserved c =
 pub returns-then-n-eq0-clause-stops : goal.returns-then-n-eq0-clause-stops
 returns-then-n-eq0-clause-stops c =
     let l = tail_length c.args.bytes.now c.loop-end.end in
-    λ room. tail_first c.args.bytes.now c.loop-end.end (c.units_ahead-n.ensures.stops (search rules) (omega arith))
+    λ room. subst NoUnitAhead (tail_is c.args.bytes.now c.loop-end.end) (c.units_ahead-n.ensures.stops (search rules) (omega arith))

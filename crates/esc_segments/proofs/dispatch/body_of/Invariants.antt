@@ -4,4 +4,4 @@ use Rattle.esc_frame.specs.Machine.Keeps.{KeepsBody}
 use Rattle.esc_segments.proofs.dispatch.body_of.Given as goal
 
 abbrev pub invariant-loop-b : goal.invariant-loop-b
-invariant-loop-b g l = KeepsBody l.body (strip (take l.b-index l.x))
+invariant-loop-b l = KeepsBody l.body (strip (take l.b-index l.x))

@@ -61,5 +61,5 @@ returns-in-CutShort-clause-told g c = λ s after h i.
     → Takes (may_grow s) g.V.VTActor.takes g.V.VTActor.refuses c.cut_short.result c.args.actor.now (events_of s seg.finished) c.cut_short.new.actor in
     cut_shorts P s (sym i.kind ∙ c.in-CutShort.is)
     (λ x h i. c.cut_short.ensures.escape false seg.finished x after h i.bytes i.finished)
-    (λ o x h i. c.cut_short.ensures.csi true seg.finished o x after h i.bytes i.finished)
+    (λ o x h i. c.cut_short.ensures.csi false seg.finished o x after h i.bytes i.finished)
     (λ o x h i. c.cut_short.ensures.dcs true seg.finished o x after h i.bytes i.finished) h i

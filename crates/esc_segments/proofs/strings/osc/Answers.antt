@@ -23,12 +23,12 @@ returns-in-Ok-kept_text-clause-told g c = λ o ps e after h w i.
     let s = c.split_opener.ensures kind.Osc o (text_bytes ps ++ ending_bytes e) h.0 (w ∙ append_assoc (opener kind.Osc o) (text_bytes ps) (ending_bytes e)) in
     let v = over_is o ps e after c.args.finished c.if-not-finished.false i in
     let k = c.in-Ok-kept_text.ensures ps e after s.1 h.1 v in
-    string_told true g.V.VTActor.takes g.V.VTActor.refuses c.dispatch_osc.result c.args.actor.now c.execute_in.new.actor c.dispatch_osc.new.actor kind.Osc o
+    string_told true g.V.VTActor.takes g.V.VTActor.refuses c.osc_text.result c.args.actor.now c.execute_in.new.actor c.osc_text.new.self kind.Osc o
     c.split_opener.result.0.now _ s.0 (c.in-Ok.ensures.told true)
-    (subst (λ b. Takes true g.V.VTActor.takes g.V.VTActor.refuses c.dispatch_osc.result c.execute_in.new.actor
-    (if b then OscDispatch (parts_of (text_of ps)) ∷ [] else []) c.dispatch_osc.new.actor) (sym c.if-not-finished.false)
-    (subst (λ t. Takes true g.V.VTActor.takes g.V.VTActor.refuses c.dispatch_osc.result c.execute_in.new.actor (OscDispatch (parts_of t) ∷ [])
-    c.dispatch_osc.new.actor) (c.deref.ensures.value ∙ k) c.dispatch_osc.ensures.told))
+    (subst (λ b. Takes true g.V.VTActor.takes g.V.VTActor.refuses c.osc_text.result c.execute_in.new.actor
+    (if b then OscDispatch (parts_of (text_of ps)) ∷ [] else []) c.osc_text.new.self) (sym c.if-not-finished.false)
+    (subst (λ t. Takes true g.V.VTActor.takes g.V.VTActor.refuses c.osc_text.result c.execute_in.new.actor (OscDispatch (parts_of t) ∷ [])
+    c.osc_text.new.self) (c.deref.ensures.value ∙ k) c.osc_text.ensures.told))
 
 pub returns-in-Err-kept_text-clause-told : goal.returns-in-Err-kept_text-clause-told
 returns-in-Err-kept_text-clause-told g c = λ o ps e after h w i.

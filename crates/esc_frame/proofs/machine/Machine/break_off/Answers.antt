@@ -6,7 +6,8 @@ use Rattle.esc_frame.proofs.machine.Machine.break_off.Goals as goal
 
 pub returns-in-Ok-clause-moved : goal.returns-in-Ok-clause-moved
 returns-in-Ok-clause-moved g c =
-    λ limit own. moves_then limit own g.V.VTActor.takes g.V.VTActor.refuses c.in_ground.result (Print 0xfffd ∷ []) (ground_move c.args.b c.args.class)
+    λ limit own. moves_then g.K.Store.keeps limit own g.V.VTActor.takes g.V.VTActor.refuses c.in_ground.result (Print 0xfffd ∷ [])
+    (ground_move c.args.b c.args.class)
     c.in_ground.new.self
     c.args.actor.now _ _ (_, c.in-Ok.ensures.hears, refl) (c.in_ground.ensures.moved limit own)
 

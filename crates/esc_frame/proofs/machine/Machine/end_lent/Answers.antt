@@ -7,7 +7,8 @@ use Rattle.esc_frame.proofs.machine.Machine.end_lent.Goals as goal
 
 pub returns-in-Ok-clause-moved : goal.returns-in-Ok-clause-moved
 returns-in-Ok-clause-moved g c =
-    moves_then c.args.limit (not (has_few_parts c.args.text.now)) g.V.VTActor.takes g.V.VTActor.refuses c.leave_lent.result (osc_events c.args.limit c.args.text.now)
+    moves_then g.K.Store.keeps c.args.limit (not (has_few_parts c.args.text.now)) g.V.VTActor.takes g.V.VTActor.refuses c.leave_lent.result
+    (osc_events c.args.limit c.args.text.now)
     (osc_left c.args.b c.args.class) c.leave_lent.new.self c.args.actor.now _ _ c.in-Ok.ensures.told (c.leave_lent.ensures.moved c.args.limit
     (not (has_few_parts c.args.text.now)))
 

@@ -6,7 +6,7 @@ use Rattle.esc_frame.proofs.machine.Machine.end_lent_apc.Goals as goal
 
 pub returns-in-Ok-clause-moved : goal.returns-in-Ok-clause-moved
 returns-in-Ok-clause-moved g c = λ own.
-    moves_then c.args.limit own g.V.VTActor.takes g.V.VTActor.refuses c.in_ground.result (apc_events c.args.limit c.args.text.now)
+    moves_then g.K.Store.keeps c.args.limit own g.V.VTActor.takes g.V.VTActor.refuses c.in_ground.result (apc_events c.args.limit c.args.text.now)
     (ground_move c.args.b c.args.class) c.in_ground.new.self c.args.actor.now _ _ (c.in-Ok.ensures.told own) (c.in_ground.ensures.moved c.args.limit own)
 
 pub returns-in-Err-clause-moved : goal.returns-in-Err-clause-moved

@@ -9,9 +9,11 @@ use Rattle.esc_frame.proofs.machine.Machine.end_lent_by_pair.Goals as goal
 
 pub returns-in-Ok-clause-moved : goal.returns-in-Ok-clause-moved
 returns-in-Ok-clause-moved g c =
-    moves_then c.args.limit (not (has_few_parts c.args.text.now)) g.V.VTActor.takes g.V.VTActor.refuses c.in_pair.result (osc_events c.args.limit c.args.text.now)
+    moves_then g.K.Store.keeps c.args.limit (not (has_few_parts c.args.text.now)) g.V.VTActor.takes g.V.VTActor.refuses c.in_pair.result
+    (osc_events c.args.limit c.args.text.now)
     (pair_move c.args.b (class_of c.args.b)) c.in_pair.new.self c.args.actor.now _ _ c.in-Ok.ensures.told
-    (subst (λ k. Moved c.args.limit (not (has_few_parts c.args.text.now)) g.V.VTActor.takes g.V.VTActor.refuses c.in_pair.result (pair_move c.args.b k) c.in_pair.new.self c.tell_lent.new.actor
+    (subst (λ k. Moved g.K.Store.keeps c.args.limit (not (has_few_parts c.args.text.now)) g.V.VTActor.takes g.V.VTActor.refuses c.in_pair.result
+    (pair_move c.args.b k) c.in_pair.new.self c.tell_lent.new.actor
     c.in_pair.new.actor)
     c.classify.ensures (c.in_pair.ensures.moved c.args.limit
     (not (has_few_parts c.args.text.now))))

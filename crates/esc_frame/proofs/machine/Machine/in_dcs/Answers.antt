@@ -7,6 +7,6 @@ use Rattle.esc_frame.proofs.machine.Machine.in_dcs.Goals as goal
 pub returns-in-Intermediate-clause-moved : goal.returns-in-Intermediate-clause-moved
 returns-in-Intermediate-clause-moved g c = λ o x e k d.
     let t : in_body c.args.class ≡ true = search (rules, c.in-Intermediate.is) in
-    dcs_pushed c.args.limit g.V.VTActor.takes g.V.VTActor.refuses c.keep.result
+    dcs_pushed g.K.Store.keeps c.args.limit g.V.VTActor.takes g.V.VTActor.refuses c.keep.result
     (record c.args.self.now { state = state.Dcs; header = c.keep.new.header; text = c.keep.new.parameters }) o c.args.b c.args.class
     c.args.actor.now e x t refl (c.keep.ensures.header (strip x) d) (c.keep.ensures.parameters (strip x) k)

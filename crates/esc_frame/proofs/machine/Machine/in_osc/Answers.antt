@@ -9,6 +9,6 @@ use Rattle.esc_frame.proofs.machine.Machine.in_osc.Goals as goal
 pub returns-in-Intermediate-clause-moved : goal.returns-in-Intermediate-clause-moved
 returns-in-Intermediate-clause-moved g c = λ o ps e k.
     let t : is_text c.args.class ≡ true = search (rules, c.in-Intermediate.is) in
-    osc_pushed c.args.limit g.V.VTActor.takes g.V.VTActor.refuses c.push.result
+    osc_pushed g.K.Store.keeps c.args.limit g.V.VTActor.takes g.V.VTActor.refuses c.push.result
     (record c.args.self.now { state = state.Osc; pending = pending.Nothing; text = c.push.new.self }) o c.args.b c.args.class c.args.actor.now e ps t refl
     refl (c.push.ensures (text_of ps) k)

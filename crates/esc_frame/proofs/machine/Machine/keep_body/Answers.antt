@@ -1,5 +1,4 @@
 use Rattle.std.proofs.Common.{[], sym, subst}
-use Rattle.esc_frame.specs.Machine.Keeps.{KeepsText}
 use Rattle.esc_frame.specs.Segments.Opener.{Long}
 use Rattle.esc_frame.proofs.machine.Machine.keep_body.Goals as goal
 
@@ -11,4 +10,4 @@ take_units-requires-clause-whole g c = (c.open.ensures c.args.limit (Long [])).2
 
 pub returns-clause-took : goal.returns-clause-took
 returns-clause-took g c = λ o ps none.
-    c.take_units.ensures.took o ps (subst (KeepsText c.args.limit c.open.new.self.text) (sym none) (c.open.ensures c.args.limit (Long [])).1)
+    c.take_units.ensures.took o ps (subst (g.K.Store.keeps c.args.limit c.open.new.self.text) (sym none) (c.open.ensures c.args.limit (Long [])).1)

@@ -6,7 +6,7 @@ use Rattle.esc_frame.proofs.machine.Machine.leave_data.Goals as goal
 
 pub returns-in-Ok-clause-moved : goal.returns-in-Ok-clause-moved
 returns-in-Ok-clause-moved g c =
-    λ limit. moves_then limit true g.V.VTActor.takes g.V.VTActor.refuses c.in_ground.result (DcsUnhook ∷ []) (ground_move c.args.b c.args.class)
+    λ limit. moves_then g.K.Store.keeps limit true g.V.VTActor.takes g.V.VTActor.refuses c.in_ground.result (DcsUnhook ∷ []) (ground_move c.args.b c.args.class)
     c.in_ground.new.self
     c.args.actor.now _ _ (_, c.in-Ok.ensures.hears, refl) (c.in_ground.ensures.moved limit true)
 

@@ -1,6 +1,5 @@
 use Rattle.std.proofs.Common.{◌+◌, ◌++◌, take, refl, sym, subst, arith}
 use Rattle.esc_frame.specs.Leads.Unfinished.{InApc}
-use Rattle.esc_frame.specs.Machine.Keeps.{KeepsText}
 use Rattle.esc_frame.proofs.Lends.{unlent_fresh}
 use Rattle.esc_frame.proofs.QuietRuns.{quiet_took, quiet_stops}
 use Rattle.esc_frame.proofs.Still.{apc_end_still, less_still}
@@ -12,7 +11,7 @@ returns-then-run-rest-clause-took g c = λ o d k not_lent.
     let xs = take c.args.run c.args.rest.now in
     let q = apc_text c.args.limit o d xs c.requires.passes in
     let fresh = unlent_fresh (InApc o d) c.args.rest.now c.args.run not_lent in (
-      rw q.0 (c.requires.state, subst (KeepsText c.args.limit c.args.self.now.text) (sym (apc_kept d xs c.requires.passes)) k),
+      rw q.0 (c.requires.state, subst (g.K.Store.keeps c.args.limit c.args.self.now.text) (sym (apc_kept d xs c.requires.passes)) k),
       rw q.1 refl,
       fresh,
     )
@@ -22,9 +21,9 @@ returns-in-Ok-clause-took g c = λ o d k not_lent.
     let xs = take c.args.run c.args.rest.now in
     quiet_took c.args.limit g.V.VTActor.takes g.V.VTActor.refuses (InApc o d) (InApc o (d ++ xs)) c.args.rest.now c.args.run _ c.args.actor.now
     c.in_apc.new.actor
-    (apc_text c.args.limit o d xs c.requires.passes) (omega arith) c.classify.ensures c.in_apc.new.self
+    (apc_text c.args.limit o d xs c.requires.passes) (omega arith) c.classify.ensures g.K.Store.keeps c.in_apc.new.self
     (unlent_fresh (InApc o d) c.args.rest.now (c.args.run + 1) not_lent)
-    (c.in-Ok.ensures.moved o (d ++ xs) c.classify.ensures (subst (KeepsText c.args.limit c.args.self.now.text) (sym (apc_kept d xs c.requires.passes)) k))
+    (c.in-Ok.ensures.moved o (d ++ xs) c.classify.ensures (subst (g.K.Store.keeps c.args.limit c.args.self.now.text) (sym (apc_kept d xs c.requires.passes)) k))
 
 pub returns-in-Err-clause-took : goal.returns-in-Err-clause-took
 returns-in-Err-clause-took g c = λ o d k not_lent.
@@ -32,7 +31,8 @@ returns-in-Err-clause-took g c = λ o d k not_lent.
     quiet_stops c.args.limit g.V.VTActor.takes g.V.VTActor.refuses (InApc o d) (InApc o (d ++ xs)) c.args.rest.now c.args.run _ c.args.actor.now
     c.in_apc.new.actor
     (apc_text c.args.limit o d xs c.requires.passes) (omega arith) c.classify.ensures (λ may. not_lent)
-    (c.in-Err.ensures.moved o (d ++ xs) c.classify.ensures (subst (KeepsText c.args.limit c.args.self.now.text) (sym (apc_kept d xs c.requires.passes)) k))
+    (c.in-Err.ensures.moved o (d ++ xs) c.classify.ensures
+    (subst (g.K.Store.keeps c.args.limit c.args.self.now.text) (sym (apc_kept d xs c.requires.passes)) k))
 
 pub returns-then-run-rest-clause-quiet : goal.returns-then-run-rest-clause-quiet
 returns-then-run-rest-clause-quiet g c = λ o d.

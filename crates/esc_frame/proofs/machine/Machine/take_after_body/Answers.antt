@@ -1,10 +1,10 @@
-use Rattle.std.proofs.Common.{ℕ, ◌+◌, ◌++◌, List, take, refl, sym, subst, arith}
+use Rattle.std.proofs.Common.{ℕ, ◌+◌, ◌++◌, List, take, refl, sym, ap, subst, arith}
 use Rattle.esc_frame.specs.Leads.Unfinished.{InCsi}
 use Rattle.esc_frame.specs.Machine.Keeps.{KeepsBody}
+use Rattle.esc_frame.specs.Machine.Moves.{is_fresh}
 use Rattle.esc_frame.proofs.CsiRuns.{body_quiet, body_strip}
-use Rattle.esc_frame.proofs.Lends.{unlent_fresh}
 use Rattle.esc_frame.proofs.QuietRuns.{quiet_took, quiet_stops}
-use Rattle.esc_frame.proofs.Still.{body_still, less_still}
+use Rattle.esc_frame.proofs.Still.{body_still, body_fresh, less_still}
 use Rattle.esc_frame.proofs.machine.Machine.take_after_body.Goals as goal
 
 pub returns-then-run-rest-clause-took : goal.returns-then-run-rest-clause-took
@@ -13,22 +13,22 @@ returns-then-run-rest-clause-took g c = λ limit o x k.
     let q = body_quiet limit o x xs c.requires.passes in (
       rw q.0 (c.requires.state, subst (KeepsBody c.args.self.now.body) (sym (body_strip x xs c.requires.passes)) k),
       rw q.1 refl,
-      unlent_fresh (InCsi o x) c.args.rest.now c.args.run refl,
+      λ l. ap is_fresh q.0,
     )
 
 pub returns-in-Ok-clause-took : goal.returns-in-Ok-clause-took
 returns-in-Ok-clause-took g c = λ limit o x k.
     let xs : List ℕ = take c.args.run c.args.rest.now in
     quiet_took limit g.V.VTActor.takes g.V.VTActor.refuses (InCsi o x) (InCsi o (x ++ xs)) c.args.rest.now c.args.run _ c.args.actor.now c.end_body.new.actor
-    (body_quiet limit o x xs c.requires.passes) (omega arith) refl c.end_body.new.self
-    (unlent_fresh (InCsi o x) c.args.rest.now (c.args.run + 1) refl)
+    (body_quiet limit o x xs c.requires.passes) (omega arith) refl g.K.Store.keeps c.end_body.new.self
+    (body_fresh o x c.args.rest.now c.args.run c.requires.passes (omega arith))
     (c.in-Ok.ensures.moved limit o (x ++ xs) (subst (KeepsBody c.args.self.now.body) (sym (body_strip x xs c.requires.passes)) k))
 
 pub returns-in-Err-clause-took : goal.returns-in-Err-clause-took
 returns-in-Err-clause-took g c = λ limit o x k.
     let xs : List ℕ = take c.args.run c.args.rest.now in
     quiet_stops limit g.V.VTActor.takes g.V.VTActor.refuses (InCsi o x) (InCsi o (x ++ xs)) c.args.rest.now c.args.run _ c.args.actor.now c.end_body.new.actor
-    (body_quiet limit o x xs c.requires.passes) (omega arith) refl (λ may. refl)
+    (body_quiet limit o x xs c.requires.passes) (omega arith) refl (λ may. absurd cc)
     (c.in-Err.ensures.moved limit o (x ++ xs) (subst (KeepsBody c.args.self.now.body) (sym (body_strip x xs c.requires.passes)) k))
 
 pub returns-then-run-rest-clause-quiet : goal.returns-then-run-rest-clause-quiet

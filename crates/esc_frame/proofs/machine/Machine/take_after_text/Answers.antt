@@ -1,6 +1,5 @@
 use Rattle.std.proofs.Common.{◌+◌, ◌++◌, refl, subst, arith}
 use Rattle.esc_frame.specs.Leads.Unfinished.{InOsc}
-use Rattle.esc_frame.specs.Machine.Keeps.{KeepsText}
 use Rattle.esc_frame.proofs.Lends.{unlent_fresh}
 use Rattle.esc_frame.proofs.QuietRuns.{quiet_took, quiet_stops}
 use Rattle.esc_frame.proofs.Still.{text_still, less_still}
@@ -12,7 +11,7 @@ returns-then-run-rest-clause-took g c = λ o ps k not_lent.
     let run = c.requires.passes in
     let q = run.2 c.args.limit o ps in
     let fresh = unlent_fresh (InOsc o ps) c.args.rest.now c.args.run not_lent in (
-      rw q.0 (c.requires.state, subst (KeepsText c.args.limit c.args.self.now.text) (run_text ps run) k, c.requires.whole),
+      rw q.0 (c.requires.state, subst (g.K.Store.keeps c.args.limit c.args.self.now.text) (run_text ps run) k, c.requires.whole),
       rw q.1 refl,
       fresh,
     )
@@ -22,9 +21,9 @@ returns-in-Ok-clause-took g c = λ o ps k not_lent.
     let run = c.requires.passes in
     quiet_took c.args.limit g.V.VTActor.takes g.V.VTActor.refuses (InOsc o ps) (InOsc o (ps ++ run.0)) c.args.rest.now c.args.run _ c.args.actor.now
     c.in_osc.new.actor
-    (run.2 c.args.limit o ps) (omega arith) c.classify.ensures c.in_osc.new.self
+    (run.2 c.args.limit o ps) (omega arith) c.classify.ensures g.K.Store.keeps c.in_osc.new.self
     (unlent_fresh (InOsc o ps) c.args.rest.now (c.args.run + 1) not_lent)
-    (c.in-Ok.ensures.moved o (ps ++ run.0) c.classify.ensures (subst (KeepsText c.args.limit c.args.self.now.text) (run_text ps run) k))
+    (c.in-Ok.ensures.moved o (ps ++ run.0) c.classify.ensures (subst (g.K.Store.keeps c.args.limit c.args.self.now.text) (run_text ps run) k))
 
 pub returns-in-Err-clause-took : goal.returns-in-Err-clause-took
 returns-in-Err-clause-took g c = λ o ps k not_lent.
@@ -32,7 +31,7 @@ returns-in-Err-clause-took g c = λ o ps k not_lent.
     quiet_stops c.args.limit g.V.VTActor.takes g.V.VTActor.refuses (InOsc o ps) (InOsc o (ps ++ run.0)) c.args.rest.now c.args.run _ c.args.actor.now
     c.in_osc.new.actor
     (run.2 c.args.limit o ps) (omega arith) c.classify.ensures (λ may. not_lent)
-    (c.in-Err.ensures.moved o (ps ++ run.0) c.classify.ensures (subst (KeepsText c.args.limit c.args.self.now.text) (run_text ps run) k))
+    (c.in-Err.ensures.moved o (ps ++ run.0) c.classify.ensures (subst (g.K.Store.keeps c.args.limit c.args.self.now.text) (run_text ps run) k))
 
 pub returns-then-run-rest-clause-quiet : goal.returns-then-run-rest-clause-quiet
 returns-then-run-rest-clause-quiet g c = λ o ps.

@@ -14,7 +14,8 @@ returns-in-Ok-eq0 g c =
     let same : c.args.actor.now ≡ c.print_first.new.actor =
     subst (λ k. FoldsTo g.V.VTActor.takes c.args.actor.now (news_all None Ground (take k c.args.rest.now)) c.print_first.new.actor) none
     (c.in-Ok-eq0.ensures.stays.2 None) in
-    subst (λ a. TookSome c.args.limit g.V.VTActor.takes g.V.VTActor.refuses g.V.VTActor.is_ready c.take_control.result c.args.rest.now c.take_control.new.self
+    subst (λ a. TookSome g.K.Store.keeps c.args.limit g.V.VTActor.takes g.V.VTActor.refuses g.V.VTActor.is_ready c.take_control.result c.args.rest.now
+    c.take_control.new.self
     a c.take_control.new.actor)
     (sym same) c.take_control.ensures
 
@@ -22,7 +23,12 @@ pub returns-in-Ok : goal.returns-in-Ok
 returns-in-Ok g c =
     let so = c.in-Ok.ensures.stays in
     let some : 0 < c.in-Ok.n = search rules in (
-      (subst (λ u. Holds c.args.limit c.args.self.now u) (sym so.1) c.requires.ground, so.2 c.args.limit, ground_fresh Ground c.args.rest.now c.in-Ok.n so.1),
+      (
+        subst (λ u. Holds g.K.Store.keeps c.args.limit c.args.self.now u) (sym so.1) c.requires.ground,
+        so.2 c.args.limit,
+        ground_fresh Ground c.args.rest.now
+            c.in-Ok.n so.1,
+      ),
       c.in-Ok.ensures.quiet c.args.limit,
       (some, so.0, so.3),
     )

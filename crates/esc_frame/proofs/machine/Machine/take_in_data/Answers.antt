@@ -14,16 +14,16 @@ dcs_put_text-requires-clause-bytes g c = all_pass is_data_byte c.args.rest.now c
 
 pub returns-in-Ok-clause-took : goal.returns-in-Ok-clause-took
 returns-in-Ok-clause-took g c = λ u h.
-    let q = data_holds c.args.limit c.args.self.now (take c.data_run-run.result c.args.rest.now)
+    let q = data_holds g.K.Store.keeps c.args.limit c.args.self.now (take c.data_run-run.result c.args.rest.now)
     (all_pass is_data_byte c.args.rest.now c.data_run-run.result c.data_run-run.ensures.run) u c.requires.state h in (
       q.0,
       subst (λ es. FoldsTo g.V.VTActor.takes c.args.actor.now es c.dcs_put_text.new.self) (sym q.1) c.in-Ok.ensures.told,
-      data_fresh c.args.limit c.args.self.now u c.args.rest.now c.data_run-run.result c.requires.state h,
+      data_fresh g.K.Store.keeps c.args.limit c.args.self.now u c.args.rest.now c.data_run-run.result c.requires.state h,
     )
 
 pub returns-in-Err-clause-took : goal.returns-in-Err-clause-took
 returns-in-Err-clause-took g c = λ u h.
-    let q = data_holds c.args.limit c.args.self.now (take c.data_run-run.result c.args.rest.now)
+    let q = data_holds g.K.Store.keeps c.args.limit c.args.self.now (take c.data_run-run.result c.args.rest.now)
     (all_pass is_data_byte c.args.rest.now c.data_run-run.result c.data_run-run.ensures.run) u c.requires.state h in
     let own = may_grow_within u c.args.rest.now ≡ true in
     stop_within c.args.limit own g.V.VTActor.takes g.V.VTActor.refuses u c.args.rest.now c.data_run-run.result c.args.actor.now c.dcs_put_text.new.self

@@ -12,17 +12,17 @@ use Rattle.esc_frame.proofs.machine.Machine.take_in_escape.Goals as goal
 
 pub returns-in-Ok-clause-took : goal.returns-in-Ok-clause-took
 returns-in-Ok-clause-took g c = λ u h.
-    escape_only c.args.limit c.args.self.now u c.requires.state h
-    (λ v. Holds c.args.limit c.in_escape.new.self (after_all v (take 1 c.args.rest.now))
+    escape_only g.K.Store.keeps c.args.limit c.args.self.now u c.requires.state h
+    (λ v. Holds g.K.Store.keeps c.args.limit c.in_escape.new.self (after_all v (take 1 c.args.rest.now))
     × FoldsTo g.V.VTActor.takes c.args.actor.now (news_all c.args.limit v (take 1 c.args.rest.now)) c.in_escape.new.actor × StaysFresh v c.args.rest.now 1)
     (λ x k. quiet_took c.args.limit g.V.VTActor.takes g.V.VTActor.refuses (InEscape x) (InEscape x) c.args.rest.now 0 _ c.args.actor.now _ (refl, refl)
     c.requires.some c.classify.ensures
-    c.in_escape.new.self (one_fresh (InEscape x) c.args.rest.now refl)
+    g.K.Store.keeps c.in_escape.new.self (one_fresh (InEscape x) c.args.rest.now refl)
     (c.in-Ok.ensures.moved c.args.limit false x c.classify.ensures k.1))
 
 pub returns-in-Err-clause-took : goal.returns-in-Err-clause-took
 returns-in-Err-clause-took g c = λ u h.
-    escape_only c.args.limit c.args.self.now u c.requires.state h
+    escape_only g.K.Store.keeps c.args.limit c.args.self.now u c.requires.state h
     (λ v. StopsAt (may_grow_within v c.args.rest.now ≡ true) g.V.VTActor.takes g.V.VTActor.refuses c.args.actor.now
     (news_all c.args.limit v c.args.rest.now)
     c.in_escape.new.actor)

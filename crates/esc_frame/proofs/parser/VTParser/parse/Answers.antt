@@ -1,5 +1,6 @@
 use Rattle.std.proofs.Common.{refl}
 use Rattle.esc_frame.specs.Leads.Unfinished.{Ground}
+use Rattle.esc_frame.specs.Machine.Keeps.{KeepsText}
 use Rattle.esc_frame.specs.Machine.Moves.{after_all}
 use Rattle.esc_frame.specs.Stream.{LeadsToWithin}
 use Rattle.esc_frame.proofs.AtGround.{to_ground}
@@ -12,7 +13,7 @@ unfolding LeadsToWithin
 returns-in-Ok-clause-given g c = λ limit s (f, i, h).
     let bs = c.args.bytes.now in
     let u = after_all Ground s in (
-      (f, i, kept_all c.args.self.now.limit c.take_all.new.self s bs (c.in-Ok.ensures.holds u h)),
+      (f, i, kept_all KeepsText c.args.self.now.limit c.take_all.new.self s bs (c.in-Ok.ensures.holds u h)),
       given_all c.args.self.now.limit limit i g.V.VTActor.takes s bs c.args.actor.now c.take_all.new.actor
           (c.in-Ok.ensures.told u h),
     )

@@ -1,5 +1,6 @@
 use Rattle.std.proofs.Common.{refl}
 use Rattle.esc_frame.specs.Leads.Unfinished.{Ground}
+use Rattle.esc_frame.specs.Machine.Keeps.{KeepsText}
 use Rattle.esc_frame.specs.Machine.Moves.{after_all}
 use Rattle.esc_frame.specs.Stream.{LeadsToWithin}
 use Rattle.esc_frame.proofs.Fed.{kept_one, given_one, refused_one}
@@ -11,7 +12,7 @@ returns-in-Ok-clause-given g c = λ limit s (f, i, h).
     let b = c.args.byte in
     let u = after_all Ground s in
     let k = c.classify.ensures in (
-      (f, i, kept_one c.args.self.now.limit c.step.new.self s b _ k (c.in-Ok.ensures.moved u k h).0),
+      (f, i, kept_one KeepsText c.args.self.now.limit c.step.new.self s b _ k (c.in-Ok.ensures.moved u k h).0),
       given_one c.args.self.now.limit limit i g.V.VTActor.takes s b _ c.args.actor.now c.step.new.actor k
           (c.in-Ok.ensures.moved u k h).1,
     )

@@ -1,5 +1,6 @@
 use Rattle.std.proofs.Common.{[], take, refl, subst}
 use Rattle.esc_frame.specs.Leads.Unfinished.{Ground}
+use Rattle.esc_frame.specs.Machine.Keeps.{KeepsText}
 use Rattle.esc_frame.specs.Machine.Moves.{after_all}
 use Rattle.esc_frame.specs.Stream.{LeadsToWithin, IsQuietWithin}
 use Rattle.esc_frame.proofs.Fed.{kept_all, given_all, refused_all}
@@ -10,7 +11,7 @@ pub returns-then-is_empty-clause-given : goal.returns-then-is_empty-clause-given
 unfolding LeadsToWithin
 returns-then-is_empty-clause-given g c =
     λ limit s (f, i, h). (
-      (f, i, kept_all c.args.self.now.limit c.args.self.now.machine s [] h),
+      (f, i, kept_all KeepsText c.args.self.now.limit c.args.self.now.machine s [] h),
       given_all c.args.self.now.limit limit i g.V.VTActor.takes s
           [] c.args.actor.now c.args.actor.now refl,
     )
@@ -20,7 +21,7 @@ unfolding LeadsToWithin
 returns-in-Ok-clause-given g c = λ limit s (f, i, h).
     let bs = take c.in-Ok.n c.args.bytes.now in
     let u = after_all Ground s in (
-      (f, i, kept_all c.args.self.now.limit c.take_some.new.self s bs (c.in-Ok.ensures.took u h).0),
+      (f, i, kept_all KeepsText c.args.self.now.limit c.take_some.new.self s bs (c.in-Ok.ensures.took u h).0),
       given_all c.args.self.now.limit limit i g.V.VTActor.takes s bs c.args.actor.now c.take_some.new.actor
           (c.in-Ok.ensures.took u h).1,
     )

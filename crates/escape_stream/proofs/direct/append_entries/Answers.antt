@@ -1,6 +1,6 @@
 use Rattle.std.proofs.Common.{◌++◌, ap, ◌∙◌}
 use Rattle.escape_stream.proofs.Spelling.{ok_both}
-use Rattle.escape_stream.proofs.speller.append_sequence.Goals as goal
+use Rattle.escape_stream.proofs.direct.append_entries.Goals as goal
 
 pub returns-then-push_sequence : goal.returns-then-push_sequence
 returns-then-push_sequence g c = ok_both _ _ c.push_str.result
