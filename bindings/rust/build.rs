@@ -1,5 +1,5 @@
-//! Links the proved archive, and the C code by which it takes memory. `ESCAPE_STREAM_LIB` names the
-//! folder that has both.
+//! Links the proved archives, and the C code by which it takes memory. `ESCAPE_STREAM_LIB` names the
+//! folder that has them.
 use std::env;
 use std::path::PathBuf;
 use std::process;
@@ -7,10 +7,12 @@ use std::process;
 fn main() {
     println!("cargo::rerun-if-env-changed=ESCAPE_STREAM_LIB");
     let Some(folder) = env::var_os("ESCAPE_STREAM_LIB").map(PathBuf::from) else {
-        stop("set ESCAPE_STREAM_LIB to the folder that has libescape_c.a and liblibc_c.a");
+        stop(
+            "set ESCAPE_STREAM_LIB to the folder that has libescape_c.a, libstream_c.a and liblibc_c.a",
+        );
     };
     println!("cargo::rustc-link-search=native={}", folder.display());
-    for name in ["escape_c", "libc_c"] {
+    for name in ["escape_c", "stream_c", "libc_c"] {
         let archive = folder.join(format!("lib{name}.a"));
         if !archive.is_file() {
             stop(&format!("{} is not there", archive.display()));

@@ -1,7 +1,7 @@
-//! The calls of the proved library, `crates/escape_c`. Each block below rests on contracts there,
-//! which the names of clauses point to.
+//! The calls of the proved libraries, `crates/escape_c` and `crates/stream_c`. Each block below rests
+//! on contracts there, which the names of clauses point to.
 //!
-//! The library states no `requires`. What a caller owes all the same is what its types say, and
+//! The libraries state no `requires`. What a caller owes all the same is what its types say, and
 //! Rust's types say it too: a slice is initialized and in bounds for the length that goes with its
 //! pointer, no object has more than `isize::MAX` bytes, and a `&mut` shares nothing with any other
 //! reference. A slice's pointer is never null, also where the slice is empty. An `alloc: Global`
@@ -27,6 +27,18 @@ unsafe extern "C" {
         capacity: usize,
         needed: *mut usize,
     ) -> u32;
+}
+
+unsafe extern "C" {
+    fn escape_stream_begin(parser: *mut Parser);
+    fn escape_stream_next(
+        parser: *mut Parser,
+        buffer: *mut u8,
+        capacity: usize,
+        bytes: *const u8,
+        length: usize,
+        event: *mut Event,
+    ) -> usize;
 }
 
 const DONE: u32 = 0;
@@ -94,4 +106,124 @@ fn done<T>(status: u32, value: T) -> Result<T, Error> {
     } else {
         Err(Error::Memory)
     }
+}
+
+/// An entry of a control sequence: a number, or a byte that is none, as a separator, a marker or an
+/// intermediate.
+#[repr(C)]
+#[derive(Clone, Copy)]
+pub struct Entry {
+    pub(crate) number: i64,
+    pub(crate) byte: u8,
+    pub(crate) is_byte: bool,
+}
+
+const NO_ENTRY: Entry = Entry {
+    number: 0,
+    byte: 0,
+    is_byte: false,
+};
+
+/// An event.
+#[repr(C)]
+pub struct Event {
+    pub kind: u32,
+    pub byte: u32,
+    pub start: usize,
+    pub length: usize,
+    pub intermediates: [u8; 2],
+    pub kept: usize,
+    pub has_more: bool,
+    pub count: usize,
+    pub entries: [Entry; 256],
+}
+
+/// A parser. Its fields are the library's.
+#[repr(C)]
+pub struct Parser {
+    state: u32,
+    pending: u32,
+    first: u8,
+    second: u8,
+    third: u8,
+    intermediates: [u8; 2],
+    kept: usize,
+    has_more: bool,
+    form: u32,
+    count: usize,
+    entries: [Entry; 256],
+    is_truncated: bool,
+    is_open: bool,
+    number: u64,
+    text: usize,
+    is_over: bool,
+    due_kind: u32,
+    due_value: u32,
+    has_failed: bool,
+}
+
+/// No event.
+pub fn no_event() -> Event {
+    Event {
+        kind: 0,
+        byte: 0,
+        start: 0,
+        length: 0,
+        intermediates: [0; 2],
+        kept: 0,
+        has_more: false,
+        count: 0,
+        entries: [NO_ENTRY; 256],
+    }
+}
+
+/// A parser at the beginning of a stream.
+pub fn begun() -> Parser {
+    let mut parser = Parser {
+        state: 0,
+        pending: 0,
+        first: 0,
+        second: 0,
+        third: 0,
+        intermediates: [0; 2],
+        kept: 0,
+        has_more: false,
+        form: 0,
+        count: 0,
+        entries: [NO_ENTRY; 256],
+        is_truncated: false,
+        is_open: false,
+        number: 0,
+        text: 0,
+        is_over: false,
+        due_kind: 0,
+        due_value: 0,
+        has_failed: false,
+    };
+    // SAFETY: the reference is what the type asks for.
+    unsafe { escape_stream_begin(&mut parser) };
+    parser
+}
+
+/// Takes bytes up to the next event, and says how many.
+pub fn next(parser: &mut Parser, buffer: &mut [u8], bytes: &[u8], event: &mut Event) -> usize {
+    // SAFETY: the references are what the types ask for, and a parser and an event have no values
+    // that the call does not take.
+    unsafe {
+        escape_stream_next(
+            parser,
+            buffer.as_mut_ptr(),
+            buffer.len(),
+            bytes.as_ptr(),
+            bytes.len(),
+            event,
+        )
+    }
+}
+
+/// The characters of a run, which lies in the bytes of the call that noted the event.
+pub fn text<'a>(event: &Event, bytes: &'a [u8]) -> &'a str {
+    let run = &bytes[event.start..][..event.length];
+    // SAFETY: clause `utf8` says so of the place in the bytes of that call.
+    unsafe { str::from_utf8_unchecked(run) }
 }

@@ -2,7 +2,7 @@
 //! origin.
 //!
 //! A stream is bytes as a program writes them to a terminal. Any bytes are a stream; each call
-//! takes one whole. The work is done by a library that is proved: what each call writes is what its
+//! takes one whole, but those of a [`Parser`], which takes it in pieces. The work is done by a library that is proved: what each call writes is what its
 //! contract says, for every stream. This crate is not proved. Its module `ffi` is its one place
 //! with unsafe code.
 //!
@@ -21,6 +21,9 @@
 
 #[allow(unsafe_code)]
 mod ffi;
+mod parser;
+
+pub use parser::{Entry, Event, Parser};
 
 use std::error;
 use std::fmt;
@@ -47,12 +50,15 @@ pub enum Policy {
 pub enum Error {
     /// A request for memory was refused. Nothing was written.
     Memory,
+    /// A [`Parser`] failed, and gives nothing any more. No clause excludes it, and no test has met it.
+    Failed,
 }
 
 impl fmt::Display for Error {
     fn fmt(&self, f: &mut fmt::Formatter<'_>) -> fmt::Result {
         match self {
             Error::Memory => f.write_str("out of memory"),
+            Error::Failed => f.write_str("the parser failed"),
         }
     }
 }

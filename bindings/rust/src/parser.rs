@@ -1,0 +1,182 @@
+//! A parser that takes a stream in pieces.
+use crate::{Error, ffi};
+
+/// A parser of a stream that comes in pieces. It takes memory when it is made, and none after that.
+///
+/// ```
+/// use escape_stream::{Event, Parser};
+///
+/// let mut text = String::new();
+/// let mut parser = Parser::new();
+/// for piece in [&b"caf\xc3"[..], b"\xa9 \x1b[1;3", b"1mred"] {
+///     parser.advance(piece, |event| match event {
+///         Event::Text(run) => text.push_str(run),
+///         Event::Character(c) => text.push(c),
+///         Event::Csi { entries, byte, .. } => {
+///             assert_eq!((entries[2].number(), byte), (Some(31), b'm'));
+///         }
+///         _ => {}
+///     })?;
+/// }
+/// assert_eq!(text, "caf\u{e9} red");
+/// # Ok::<(), escape_stream::Error>(())
+/// ```
+pub struct Parser {
+    raw: Box<ffi::Parser>,
+    event: Box<ffi::Event>,
+    buffer: Vec<u8>,
+}
+
+/// What a stream says, in order. A run may come in several, or its characters and bytes one by one.
+#[derive(Clone, Copy, Debug, PartialEq)]
+pub enum Event<'a> {
+    /// A run of characters, none of them a control.
+    Text(&'a str),
+    /// A character that two pieces share, or U+FFFD for bytes that are no UTF-8.
+    Character(char),
+    /// A control character of C0 or C1.
+    Control(u8),
+    /// An escape sequence.
+    Escape {
+        /// The first two intermediates.
+        intermediates: &'a [u8],
+        /// Whether more came.
+        has_more: bool,
+        /// The final byte.
+        byte: u8,
+    },
+    /// A control sequence.
+    Csi {
+        /// The first 256 entries.
+        entries: &'a [Entry],
+        /// Whether more came.
+        has_more: bool,
+        /// The final byte.
+        byte: u8,
+    },
+    /// The text of an operating system command.
+    Osc(&'a [u8]),
+    /// A device control string begins.
+    Dcs {
+        /// The bytes that write its parameters: digits and `;`.
+        parameters: &'a [u8],
+        /// The first two intermediates, the marker first.
+        intermediates: &'a [u8],
+        /// Whether more came.
+        has_more: bool,
+        /// The final byte.
+        byte: u8,
+    },
+    /// Bytes of its data.
+    Data(&'a [u8]),
+    /// It ends.
+    DcsEnd,
+    /// The text of an application program command.
+    Apc(&'a [u8]),
+}
+
+pub use crate::ffi::Entry;
+
+impl Entry {
+    /// The number, held at the greatest `i64`.
+    pub fn number(self) -> Option<i64> {
+        (!self.is_byte).then_some(self.number)
+    }
+
+    /// The byte.
+    pub fn byte(self) -> Option<u8> {
+        self.is_byte.then_some(self.byte)
+    }
+}
+
+impl PartialEq for Entry {
+    fn eq(&self, other: &Entry) -> bool {
+        (self.number(), self.byte()) == (other.number(), other.byte())
+    }
+}
+
+impl std::fmt::Debug for Entry {
+    fn fmt(&self, f: &mut std::fmt::Formatter<'_>) -> std::fmt::Result {
+        match (self.number(), self.byte()) {
+            (Some(number), _) => write!(f, "{number}"),
+            (_, byte) => write!(f, "{:?}", byte.map(char::from)),
+        }
+    }
+}
+
+impl Default for Parser {
+    fn default() -> Parser {
+        Parser::new()
+    }
+}
+
+impl Parser {
+    /// A parser at the beginning of a stream that hands out strings of up to 4,096 bytes.
+    pub fn new() -> Parser {
+        Parser::with_limit(4096)
+    }
+
+    /// A parser at the beginning of a stream that hands out strings of up to `limit` bytes: texts of
+    /// commands, and parameter bytes of device control strings. It passes over longer ones.
+    pub fn with_limit(limit: usize) -> Parser {
+        Parser {
+            raw: Box::new(ffi::begun()),
+            event: Box::new(ffi::no_event()),
+            buffer: vec![0; 2 * limit],
+        }
+    }
+
+    /// Takes the next bytes of the stream, and calls `act` with each event.
+    pub fn advance(&mut self, bytes: &[u8], mut act: impl FnMut(Event<'_>)) -> Result<(), Error> {
+        let mut rest = bytes;
+        loop {
+            let taken = ffi::next(&mut self.raw, &mut self.buffer, rest, &mut self.event);
+            match self.event.kind {
+                0 => return Ok(()),
+                12 => return Err(Error::Failed),
+                9 => act(Event::Data(&[self.event.byte as u8])),
+                _ => act(self.noted(rest)),
+            }
+            rest = &rest[taken..];
+        }
+    }
+
+    // The event of a call that was given these bytes. Kinds are as the header has them.
+    fn noted<'a>(&'a self, bytes: &'a [u8]) -> Event<'a> {
+        let event = &*self.event;
+        let has_more = event.has_more;
+        let byte = event.byte as u8;
+        match event.kind {
+            1 => Event::Text(ffi::text(event, bytes)),
+            2 => {
+                Event::Character(char::from_u32(event.byte).unwrap_or(char::REPLACEMENT_CHARACTER))
+            }
+            3 => Event::Control(byte),
+            4 => Event::Escape {
+                intermediates: &event.intermediates[..event.kept],
+                has_more,
+                byte,
+            },
+            5 => Event::Csi {
+                entries: &event.entries[..event.count],
+                has_more,
+                byte,
+            },
+            6 => Event::Osc(self.string()),
+            7 => Event::Dcs {
+                parameters: self.string(),
+                intermediates: &event.intermediates[..event.kept],
+                has_more,
+                byte,
+            },
+            8 => Event::Data(&bytes[event.start..][..event.length]),
+            10 => Event::DcsEnd,
+            _ => Event::Apc(self.string()),
+        }
+    }
+
+    // A text, in the upper half of the buffer.
+    fn string(&self) -> &[u8] {
+        &self.buffer[self.buffer.len() / 2..][..self.event.length]
+    }
+}

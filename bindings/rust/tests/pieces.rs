@@ -1,0 +1,62 @@
+//! The events of streams in pieces of each size are those of the whole.
+use escape_stream::{Event, Parser};
+
+// What was handed out, in a form in which a run is the same as its characters or bytes by themselves.
+fn log(stream: &[u8], size: usize, limit: usize) -> Vec<String> {
+    let mut log = Vec::new();
+    let mut parser = Parser::with_limit(limit);
+    for piece in stream.chunks(size) {
+        let act = |event: Event<'_>| match event {
+            Event::Text(run) => log.extend(run.chars().map(|c| format!("{c:?}"))),
+            Event::Character(c) => log.push(format!("{c:?}")),
+            Event::Data(bytes) => log.extend(bytes.iter().map(|b| format!("data {b}"))),
+            other => log.push(format!("{other:?}")),
+        };
+        parser.advance(piece, act).unwrap();
+    }
+    log
+}
+
+const STREAMS: [&[u8]; 7] = [
+    b"plain \x1b[31mred\x1b[m\r\n caf\xc3\xa9 \xe2\x82\xac \xf0\x9f\x98\x80 \xff\xe2\x82(",
+    b"\x1b]0;a title\x07\x1b]8;;http://example.com/\x1b\\\x1b]0;cut\x18\x1b]\x07",
+    b"\x1bP1;2;3q#0~~@@vv\n\x7f\xc3\xa9\x1b\\\x1bP+q544e\x1b\\\x1bP1:2q never\x1b\\",
+    b"\x1b_Gi=1,a=q;AAAA\x1b\\\x1bXno\x1b^no\x9cyes",
+    b"\x1b[?25;1004h\x1b[38:2::1:2:3m\x1b[1;\n2H\x1b[1 q\x1b[5;\x18\x9b7m\xc2\x9b8m",
+    b"\x1b(B\x1b#8\x1b $%&'x\x1b7\x1b\x1bc\x1b\n=\x85\xc2\x85\x9c",
+    b"",
+];
+
+#[test]
+fn in_pieces() {
+    for stream in STREAMS {
+        for limit in [0, 1, 8, 4096] {
+            let whole = log(stream, stream.len().max(1), limit);
+            for size in 1..=20 {
+                assert_eq!(
+                    log(stream, size, limit),
+                    whole,
+                    "pieces of {size} of {stream:?}"
+                );
+            }
+        }
+    }
+}
+
+#[test]
+fn each_event() {
+    let told = [
+        "'\u{e9}'",
+        "Control(10)",
+        "Csi { entries: [1, Some(';'), 31], has_more: false, byte: 109 }",
+        "Escape { intermediates: [40], has_more: false, byte: 66 }",
+        "Osc([48, 59, 97])",
+        "Dcs { parameters: [49], intermediates: [36], has_more: false, byte: 113 }",
+        "data 109",
+        "DcsEnd",
+        "Escape { intermediates: [], has_more: false, byte: 92 }",
+        "Apc([71])",
+    ];
+    let stream = b"\xc3\xa9\n\x1b[1;31m\x1b(B\x1b]0;a\x07\x1bP1$qm\x1b\\\x1b_G\x9c";
+    assert_eq!(log(stream, 100, 100), told);
+}

@@ -1,0 +1,10 @@
+use Rattle.std.proofs.Common.{length}
+use Rattle.esc_lent.proofs.step.step.Given as goal
+
+abbrev pub ghosts-step_in : goal.ghosts-step_in
+ghosts-step_in a = record {
+  kept = a.memory.ghost_name;
+  room = length a.memory.now;
+  out = a.out.ghost_name;
+  event = a.event.ghost_name;
+}

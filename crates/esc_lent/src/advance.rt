@@ -1,0 +1,113 @@
+//! The next events of some bytes.
+#![tactic(auto)]
+
+ghost use Rattle.std.specs.Prelude.{◌≡◌, ◌≤◌, ◌<◌, ◌≢◌, ◌++◌, [], ℕ, List, true, false, length, take, Some, Option, IsTrue};
+ghost use Rattle.std.specs.Str.{IsUtf8};
+ghost use Rattle.esc_frame.specs.Leads.{Unfinished};
+ghost use Rattle.esc_frame.specs.Machine.Moves.{after_all, news_all};
+ghost use Rattle.esc_lent.specs.States.{KeptIn};
+ghost use Rattle.esc_lent.specs.Told.{told_by, due_of, is_run};
+
+use crate::event::{CHARACTER, CONTROL, DATA, EscEvent, FAILED, NONE, TEXT};
+use crate::parser::EscParser;
+use crate::quick::note_quick;
+use crate::runs::text_run;
+use crate::step::step;
+use esc_frame::scans::data_run;
+
+// The run of characters, or of data, that comes first, where the parser is where one may come. It changes no state.
+fn run_ahead(parser: &EscParser, bytes: &[u8], event: &mut EscEvent) -> usize
+    requires some { 0 < length bytes.now }
+    requires none { event.old.kind ≡ 0 }
+    ensures few { result ≤ length bytes.now }
+    ensures none { result ≡ 0 → event.new ≡ event.old }
+    ensures some { 0 < result → (event.new.kind ≢ 0) × (event.new.kind ≢ 12) × (is_run event.new.kind ≡ true) }
+    ensures within { (event.new.count ≡ event.old.count) × (event.new.kept ≡ event.old.kept) × (0 < result → event.new.length ≡ result) }
+    ensures utf8 { event.new.kind ≡ 1 → IsUtf8 (take event.new.length bytes.now) }
+    ensures kept { 0 < result → (u : Unfinished) (memory : List ℕ) → KeptIn parser.now memory u → KeptIn parser.now memory (after_all u (take result bytes.now)) }
+    ensures told { 0 < result → (u : Unfinished) (memory out : List ℕ) → KeptIn parser.now memory u → told_by event.new out (take event.new.length bytes.now) ≡ news_all (Some (length memory)) u (take result bytes.now) }
+{
+    if parser.state == 0 && parser.pending == 0 {
+        note_run(event, TEXT, text_run(bytes))
+    } else if parser.state == 5 {
+        note_run(event, DATA, data_run(bytes))
+    } else {
+        0
+    }
+}
+
+// Notes a run of this length, if there is one.
+fn note_run(event: &mut EscEvent, kind: u32, run: usize) -> usize
+    ensures length { result ≡ run }
+    ensures some { 0 < run → (event.new.kind ≡ kind) × (event.new.length ≡ run) }
+    ensures none { run ≡ 0 → event.new ≡ event.old }
+    ensures within { (event.new.count ≡ event.old.count) × (event.new.kept ≡ event.old.kept) }
+{
+    if run > 0 {
+        event.kind = kind;
+        event.length = run;
+    }
+    run
+}
+
+/// Takes a prefix of the bytes, at least one, and notes what they give; a run lies at the first of them. After a failure nothing
+/// counts as taken.
+pub fn advance(
+    parser: &mut EscParser,
+    memory: &mut [u8],
+    out: &mut [u8],
+    bytes: &[u8],
+    event: &mut EscEvent,
+) -> usize
+    requires some { 0 < length bytes.now }
+    requires none { event.old.kind ≡ 0 }
+    requires due { due_of parser.old.due_kind parser.old.due_value ≡ [] }
+    requires within { (event.old.count ≤ 256) × (event.old.kept ≤ 2) × (event.old.length ≤ length out.old) }
+    ensures few { result ≤ length bytes.now }
+    ensures within { (event.new.count ≤ 256) × (event.new.kept ≤ 2) }
+    ensures text { is_run event.new.kind ≡ false → event.new.length ≤ length out.old }
+    ensures run { is_run event.new.kind ≡ true → event.new.length ≤ result }
+    ensures utf8 { event.new.kind ≡ 1 → IsUtf8 (take event.new.length bytes.now) }
+    ensures some { event.new.kind ≢ 12 → 0 < result }
+    ensures kept { (u : Unfinished) → KeptIn parser.old memory.old u → event.new.kind ≢ 12 → KeptIn parser.new memory.new (after_all u (take result bytes.now)) }
+    ensures told { (u : Unfinished) → KeptIn parser.old memory.old u → event.new.kind ≢ 12 → told_by event.new out.new (take event.new.length bytes.now) ++ due_of parser.new.due_kind parser.new.due_value ≡ news_all (Some (length memory.old)) u (take result bytes.now) }
+    ensures due { event.new.kind ≡ 0 → due_of parser.new.due_kind parser.new.due_value ≡ [] }
+    ensures failed { event.new.kind ≡ 12 → parser.new.has_failed ≡ true }
+    ensures goes_on { event.new.kind ≢ 12 → parser.new.has_failed ≡ parser.old.has_failed }
+{
+    let run = run_ahead(parser, bytes, event);
+    if run > 0 {
+        return run;
+    }
+    let quick = note_quick(parser, bytes, event);
+    if quick > 0 {
+        return quick;
+    }
+    let (taken, has_failed) = step(parser, memory, out, event, bytes);
+    if has_failed || !is_sound(event, out.len()) || (event.kind == NONE && gives_due(parser)) {
+        event.clear();
+        event.kind = FAILED;
+        parser.has_failed = true;
+        return 0;
+    }
+    taken
+}
+
+// Whether a character or a control is still to be handed out.
+fn gives_due(parser: &EscParser) -> bool
+    ensures { result ≡ false → due_of parser.now.due_kind parser.now.due_value ≡ [] }
+{
+    parser.due_kind == CHARACTER || parser.due_kind == CONTROL
+}
+
+// Whether the event is no run and no failure, and its counts are within bounds.
+fn is_sound(event: &EscEvent, room: usize) -> bool
+    ensures { IsTrue result → (event.now.count ≤ 256) × (event.now.kept ≤ 2) × (event.now.length ≤ room) × (is_run event.now.kind ≡ false) × (event.now.kind ≢ 12) }
+{
+    event.kind != TEXT
+        && event.kind != DATA
+        && event.kind != FAILED
+        && event.count <= 256
+        && event.kept <= 2
+        && event.length <= room
+}

@@ -1,0 +1,20 @@
+//! A parser in the memory of its caller.
+#![tactic(auto)]
+
+pub mod advance;
+pub mod entries;
+pub mod event;
+pub mod load;
+pub mod named;
+pub mod next;
+pub mod no_memory;
+pub mod numbers;
+pub mod parser;
+pub mod quick;
+pub mod recorder;
+pub mod runs;
+pub mod step;
+#[cfg(test)]
+mod tests;
+pub mod text;
+pub mod unload;

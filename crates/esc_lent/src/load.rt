@@ -1,0 +1,72 @@
+//! The machine that a parser's numbers say.
+#![tactic(auto)]
+
+ghost use Rattle.std.specs.Prelude.{◌≡◌, ℕ, List, length, Some, Option};
+ghost use Rattle.esc_frame.specs.Leads.{Unfinished, Holds};
+ghost use Rattle.esc_frame.specs.Machine.Keeps.{Keeps, KeepsDcs};
+ghost use Rattle.esc_lent.specs.States.{FirstIn, HeaderIn, KeptIn};
+
+use crate::entries::body_in;
+use crate::named::Named;
+use crate::no_memory::NoMemory;
+use crate::numbers::{form_of, pending_in, state_of};
+use crate::parser::EscParser;
+use crate::text::LentText;
+use esc_frame::body::CsiBody;
+use esc_frame::header::DcsHeader;
+use esc_frame::intermediates::Intermediates;
+use esc_frame::machine::Machine;
+use esc_frame::short::Short;
+use esc_frame::store::Store;
+use std::marker::PhantomData;
+
+#[tactic(auto, using(crate::proofs::Parts::first_loaded))]
+fn first_in(parser: &EscParser) -> Intermediates
+    ensures { (x : List ℕ) → FirstIn parser.now x → Keeps result x }
+{
+    Intermediates {
+        bytes: parser.intermediates,
+        kept: parser.kept.min(2),
+        ignored: parser.has_more,
+    }
+}
+
+fn header_in(parser: &EscParser) -> DcsHeader
+    ensures { (x : List ℕ) → HeaderIn parser.now x → KeepsDcs result x }
+{
+    DcsHeader {
+        form: form_of(parser.form),
+        intermediates: first_in(parser),
+    }
+}
+
+/// The machine of this parser, over the memory that it was lent.
+pub fn load<'a, N: Named>(
+    parser: &EscParser,
+    memory: &'a mut [u8],
+) -> Machine<LentText<'a, N>, NoMemory>
+    requires same { memory.ghost_name ≡ N.kept }
+    requires room { length memory.old ≡ N.room }
+    ensures holds { (u : Unfinished) → KeptIn parser.now memory.old u → Holds ⟦<LentText<'a, N> as Store>⟧.keeps (Some N.room) result u }
+{
+    let count = parser.text.min(memory.len());
+    Machine {
+        state: state_of(parser.state),
+        pending: pending_in(parser),
+        intermediates: first_in(parser),
+        body: if parser.state == 2 {
+            body_in(parser)
+        } else {
+            CsiBody::new()
+        },
+        short: Short::new(),
+        header: header_in(parser),
+        text: LentText {
+            memory,
+            count,
+            is_over: parser.is_over,
+            of: PhantomData,
+        },
+        alloc: NoMemory,
+    }
+}

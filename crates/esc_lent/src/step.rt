@@ -1,0 +1,164 @@
+//! One step of the machine, on what is lent for a call.
+#![tactic(auto)]
+
+ghost use Rattle.std.specs.Prelude.{◌≡◌, ◌≤◌, ◌<◌, true, false, length, take, Some, Option};
+ghost use Rattle.esc_frame.specs.Leads.{Unfinished};
+ghost use Rattle.esc_frame.specs.Machine.Moves.{after_all, news_all};
+ghost use Rattle.esc_lent.specs.States.{KeptIn};
+ghost use Rattle.esc_lent.specs.Told.{said, is_run};
+
+use crate::event::{EscEvent, NONE};
+use crate::load::load;
+use crate::named::Named;
+use crate::no_memory::NoMemory;
+use crate::parser::EscParser;
+use crate::recorder::Recorder;
+use crate::text::LentText;
+use crate::unload::unload;
+use esc_frame::machine::Machine;
+use std::alloc::AllocError;
+use std::marker::{Brand, PhantomData};
+
+/// What was lent for a step, and how the step went.
+#[derive(Drop)]
+pub struct Lend<'a, 'b, 'c> {
+    pub memory: &'a mut [u8],
+    pub out: &'b mut [u8],
+    pub event: &'c mut EscEvent,
+    /// How many bytes were taken.
+    pub taken: usize,
+    pub has_failed: bool,
+}
+
+// Takes a prefix of the bytes, at least one, and notes what they give.
+fn step_in<'a, 'b, 'c, N: Named>(
+    parser: &mut EscParser,
+    memory: &'a mut [u8],
+    out: &'b mut [u8],
+    event: &'c mut EscEvent,
+    bytes: &[u8],
+) -> Lend<'a, 'b, 'c>
+    requires some { 0 < length bytes.now }
+    requires memory { memory.ghost_name ≡ N.kept }
+    requires room { length memory.old ≡ N.room }
+    requires out { out.ghost_name ≡ N.out }
+    requires event { event.ghost_name ≡ N.event }
+    requires none { event.old.kind ≡ 0 }
+    ensures memory { result.memory.ghost_name ≡ memory.entry.ghost_name }
+    ensures room { length result.memory.now ≡ length memory.old }
+    ensures out { result.out.ghost_name ≡ out.entry.ghost_name }
+    ensures event { result.event.ghost_name ≡ event.entry.ghost_name }
+    ensures few { result.taken ≤ length bytes.now }
+    ensures some { result.has_failed ≡ false → 0 < result.taken }
+    ensures kept { (u : Unfinished) → KeptIn parser.old memory.old u → result.has_failed ≡ false → KeptIn parser.new result.memory.now (after_all u (take result.taken bytes.now)) }
+    ensures told { (u : Unfinished) → KeptIn parser.old memory.old u → result.has_failed ≡ false → said result.event.now result.out.now parser.new.due_kind parser.new.due_value ≡ news_all (Some (length memory.old)) u (take result.taken bytes.now) }
+    ensures run { (u : Unfinished) → KeptIn parser.old memory.old u → result.has_failed ≡ false → is_run result.event.now.kind ≡ false }
+    ensures before { parser.new.has_failed ≡ parser.old.has_failed }
+{
+    let limit = memory.len();
+    let mut machine: Machine<LentText<'a, N>, NoMemory> = load(parser, memory);
+    let mut recorder: Recorder<'b, 'c, N> = listen(out, event);
+    let (taken, has_failed) = taken_of(machine.take_some(Some(limit), bytes, &mut recorder));
+    parser.due_kind = recorder.due_kind;
+    parser.due_value = recorder.due_value;
+    unload(parser, &machine);
+    let_go(machine, recorder, taken, has_failed)
+}
+
+// How many bytes were taken, and whether that failed.
+fn taken_of(outcome: Result<usize, AllocError>) -> (usize, bool)
+    ensures ok { result.1 ≡ false → outcome ≡ Ok (result.0) }
+    ensures none { result.1 ≡ true → result.0 ≡ 0 }
+{
+    match outcome {
+        Ok(n) => (n, false),
+        Err(_) => (0, true),
+    }
+}
+
+// Notes nothing yet.
+fn listen<'b, 'c, N: Named>(out: &'b mut [u8], event: &'c mut EscEvent) -> Recorder<'b, 'c, N>
+    requires out { out.ghost_name ≡ N.out }
+    requires event { event.ghost_name ≡ N.event }
+    ensures out { result.out.now ≡ out.old }
+    ensures event { result.event.now ≡ event.old }
+    ensures due { result.due_kind ≡ 0 }
+{
+    Recorder {
+        event,
+        out,
+        due_kind: NONE,
+        due_value: 0,
+        of: PhantomData,
+    }
+}
+
+// Gives back what was lent.
+fn let_go<'a, 'b, 'c, N: Named>(
+    machine: Machine<LentText<'a, N>, NoMemory>,
+    recorder: Recorder<'b, 'c, N>,
+    taken: usize,
+    has_failed: bool,
+) -> Lend<'a, 'b, 'c>
+    ensures memory { result.memory.ghost_name ≡ N.kept }
+    ensures memory_now { result.memory.now ≡ machine.entry.text.memory.now }
+    ensures room { length result.memory.now ≡ N.room }
+    ensures out { result.out.ghost_name ≡ N.out }
+    ensures out_now { result.out.now ≡ recorder.entry.out.now }
+    ensures event { result.event.ghost_name ≡ N.event }
+    ensures event_now { result.event.now ≡ recorder.entry.event.now }
+    ensures taken { result.taken ≡ taken }
+    ensures failed { result.has_failed ≡ has_failed }
+{
+    let Machine {
+        state: _,
+        pending: _,
+        intermediates: _,
+        body: _,
+        short: _,
+        header: _,
+        text,
+        alloc: _,
+    } = machine;
+    let LentText {
+        memory,
+        count: _,
+        is_over: _,
+        of: _,
+    } = text;
+    let Recorder {
+        event,
+        out,
+        due_kind: _,
+        due_value: _,
+        of: _,
+    } = recorder;
+    Lend {
+        memory,
+        out,
+        event,
+        taken,
+        has_failed,
+    }
+}
+
+/// Takes a prefix of the bytes, at least one, and notes what they give. Returns how many bytes were taken, and whether that failed.
+pub fn step(
+    parser: &mut EscParser,
+    memory: &mut [u8],
+    out: &mut [u8],
+    event: &mut EscEvent,
+    bytes: &[u8],
+) -> (usize, bool)
+    requires some { 0 < length bytes.now }
+    requires none { event.old.kind ≡ 0 }
+    ensures few { result.0 ≤ length bytes.now }
+    ensures some { result.1 ≡ false → 0 < result.0 }
+    ensures kept { (u : Unfinished) → KeptIn parser.old memory.old u → result.1 ≡ false → KeptIn parser.new memory.new (after_all u (take result.0 bytes.now)) }
+    ensures told { (u : Unfinished) → KeptIn parser.old memory.old u → result.1 ≡ false → said event.new out.new parser.new.due_kind parser.new.due_value ≡ news_all (Some (length memory.old)) u (take result.0 bytes.now) }
+    ensures run { (u : Unfinished) → KeptIn parser.old memory.old u → result.1 ≡ false → is_run event.new.kind ≡ false }
+    ensures before { parser.new.has_failed ≡ parser.old.has_failed }
+{
+    let lend = step_in::<Brand>(parser, memory, out, event, bytes);
+    (lend.taken, lend.has_failed)
+}

@@ -1,0 +1,128 @@
+/*
+ * escape_stream_parser.h - a parser of terminal escape sequences that takes a stream in pieces and takes no memory
+ *
+ * A stream is bytes as a program writes them to a terminal: UTF-8 text, control characters, and the control functions of
+ * ECMA-48 and xterm, such as colours, cursor movements and titles. Any bytes are a stream, and it may be cut anywhere.
+ *
+ *     cc -I crates/stream_c/include program.c libstream_c.a
+ *
+ * The archive needs nothing but memcpy, memmove and memset. What the calls do is proved, for every stream, in any pieces;
+ * docs/EMBEDDING.md says what the proof covers and what it takes for granted. Nothing checks the caller, who owes this:
+ *
+ *   - No pointer is NULL, also where its length is 0, and nothing that a call is given overlaps anything else that it is given.
+ *   - A parser and an event are initialized before their first use, for example by = {0}; a parser is then begun. Of a parser the
+ *     caller reads and writes nothing.
+ *   - The buffer has the same place, the same length and the same lower half at each call of a parser: the first length / 2 bytes
+ *     are the parser's. It is initialized, too.
+ *   - `bytes` is `length` initialized bytes that can be read, and nobody writes them during the call.
+ *   - Two calls of one parser do not run at the same time.
+ *
+ * Calls of several parsers may run in several threads at once. None allocates, starts a thread, takes a lock or touches a file.
+ */
+#ifndef ESCAPE_STREAM_PARSER_H
+#define ESCAPE_STREAM_PARSER_H
+
+#include <stdbool.h>
+#include <stddef.h>
+#include <stdint.h>
+
+#ifdef __cplusplus
+extern "C" {
+#endif
+
+/*
+ * The kinds of events, and what goes with them. `byte` is a number, `text` the bytes of escape_stream_text.
+ *
+ * NONE       all bytes were taken, and there is no event
+ * TEXT       a run of characters: `text`, well-formed UTF-8 without controls, in the bytes of the call
+ * CHARACTER  a character, `byte`: one that two calls share, or U+FFFD for bytes that are no UTF-8
+ * CONTROL    a control character, `byte`, of C0 or C1
+ * ESCAPE     an escape sequence: its intermediates, its final byte `byte`
+ * CSI        a control sequence: its entries, its final byte `byte`
+ * OSC        an operating system command: `text`, all that was between its opener and its end
+ * DCS        a device control string begins: its parameter bytes `text`, its intermediates, its final byte `byte`
+ * DATA       a run of its data: `text`, in the bytes of the call
+ * DATA_BYTE  a byte of its data, `byte`
+ * DCS_END    it ends
+ * APC        an application program command: `text`
+ * FAILED     the parser failed: no call of it gives anything else. No run of the tests has met one
+ */
+#define ESCAPE_STREAM_NONE UINT32_C(0)
+#define ESCAPE_STREAM_TEXT UINT32_C(1)
+#define ESCAPE_STREAM_CHARACTER UINT32_C(2)
+#define ESCAPE_STREAM_CONTROL UINT32_C(3)
+#define ESCAPE_STREAM_ESCAPE UINT32_C(4)
+#define ESCAPE_STREAM_CSI UINT32_C(5)
+#define ESCAPE_STREAM_OSC UINT32_C(6)
+#define ESCAPE_STREAM_DCS UINT32_C(7)
+#define ESCAPE_STREAM_DATA UINT32_C(8)
+#define ESCAPE_STREAM_DATA_BYTE UINT32_C(9)
+#define ESCAPE_STREAM_DCS_END UINT32_C(10)
+#define ESCAPE_STREAM_APC UINT32_C(11)
+#define ESCAPE_STREAM_FAILED UINT32_C(12)
+
+/* An entry of a control sequence: a number, or a byte that is none, as a separator, a marker or an intermediate. */
+struct escape_stream_entry {
+    int64_t number; /* held at INT64_MAX */
+    uint8_t byte;
+    bool is_byte;
+};
+
+/* An event. What its kind does not name has no meaning. */
+struct escape_stream_event {
+    uint32_t kind;
+    uint32_t byte;
+    size_t start; /* where a run of characters or of data begins in the bytes of the call */
+    size_t length; /* of the text, in bytes */
+    uint8_t intermediates[2];
+    size_t kept;   /* how many intermediates there are */
+    bool has_more; /* more intermediates, or more entries, came than are kept */
+    size_t count;  /* how many entries there are */
+    struct escape_stream_entry entries[256];
+};
+
+/* A parser. Its fields are its own. */
+struct escape_stream_parser {
+    uint32_t state, pending;
+    uint8_t first, second, third, intermediates[2];
+    size_t kept;
+    bool has_more;
+    uint32_t form;
+    size_t count;
+    struct escape_stream_entry entries[256];
+    bool is_truncated, is_open;
+    uint64_t number;
+    size_t text;
+    bool is_over;
+    uint32_t due_kind, due_value;
+    bool has_failed;
+};
+
+/* Begins a stream. */
+void escape_stream_begin(struct escape_stream_parser *parser);
+
+/*
+ * Takes bytes of the stream up to the next event, notes it in `event`, and returns how many bytes were taken. Call it again with
+ * the bytes after them until the kind is ESCAPE_STREAM_NONE, for which all bytes were taken; a call may take none and give an
+ * event. Then go on with the next piece of the stream. However a stream is cut, its events are the same, but that a run may come
+ * in several, or its characters one by one.
+ *
+ * A string, which is the text of an OSC or an APC or the parameter bytes of a DCS, of more than buffer_length / 2 bytes is not
+ * handed out: it is passed over, and what follows it is parsed as ever.
+ */
+size_t escape_stream_next(struct escape_stream_parser *parser, uint8_t *buffer, size_t buffer_length, const uint8_t *bytes,
+                          size_t length, struct escape_stream_event *event);
+
+/* The text of an event: `event->length` bytes in the bytes of the call, or in the upper half of the buffer, up to the next call. */
+static inline const uint8_t *escape_stream_text(const struct escape_stream_event *event, const uint8_t *buffer,
+                                                size_t buffer_length, const uint8_t *bytes)
+{
+    return event->kind == ESCAPE_STREAM_TEXT || event->kind == ESCAPE_STREAM_DATA ? bytes + event->start
+                                                                                  : buffer + buffer_length / 2;
+}
+
+#ifdef __cplusplus
+}
+#endif
+
+#endif
