@@ -107,6 +107,15 @@ eight (a ∷ b ∷ c ∷ d ∷ e ∷ f ∷ g ∷ []) l = absurd (omega (arith, l
 eight (a ∷ b ∷ c ∷ d ∷ e ∷ f ∷ g ∷ h ∷ []) l = refl
 eight (a ∷ b ∷ c ∷ d ∷ e ∷ f ∷ g ∷ h ∷ i ∷ vs) l = absurd (omega (arith, l))
 
+-- four numbers by their places
+pub four : (vs : List ℕ) → length vs ≡ 4 → Data (get_or vs 0 0) ∷ Data (get_or vs 1 0) ∷ Data (get_or vs 2 0) ∷ Data (get_or vs 3 0) ∷ [] ≡ map Data vs
+four [] l = absurd (omega (arith, l))
+four (a ∷ []) l = absurd (omega (arith, l))
+four (a ∷ b ∷ []) l = absurd (omega (arith, l))
+four (a ∷ b ∷ c ∷ []) l = absurd (omega (arith, l))
+four (a ∷ b ∷ c ∷ d ∷ []) l = refl
+four (a ∷ b ∷ c ∷ d ∷ e ∷ vs) l = absurd (omega (arith, l))
+
 -- a run that is drawn goes on
 pub drawn_more : (items before after : List SixelData) (xs : List ℕ) (at n : ℕ) → before ≡ items ++ drawn (take at xs)
     → after ≡ before ++ drawn (take n (take (length xs - at) (drop at xs))) → after ≡ items ++ drawn (take (at + n) xs)

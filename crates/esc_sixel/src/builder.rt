@@ -13,7 +13,7 @@ use crate::commands::{channel_of, color, repeat, signed, sizes};
 use crate::few_digits::{few_digits, number_before};
 use crate::introducer::Introducer;
 use crate::parameters::Parameters;
-use crate::pixels::{line_end, pixels_run, push_pixels};
+use crate::pixels::{Line, line_end, make_room, pixels_run, push_line, push_pixels};
 use crate::sixel::Sixel;
 use crate::sixel_data::SixelData;
 use esc_below::{Items, RgbColor};
@@ -37,6 +37,9 @@ pub struct SixelBuilder<A: Allocator = Global> {
     introducer: Option<Introducer>,
     parameters: Parameters,
 }
+
+// For how many pieces of data memory is taken before they come. Many bytes can give few of them.
+const MOST_ROOM: usize = 4096;
 
 // The pan that the first parameter of a header means.
 fn pan_of(params: &[i64]) -> i64
@@ -106,14 +109,20 @@ impl<A: Allocator> SixelBuilder<A> {
         }
     }
 
-    /// These bytes of the data, as `push` of each takes them. Memory for six pixels that follow one another is taken at once.
-    /// The error is that memory was refused; the builder has then taken those before the bytes that needed it, and no more.
+    /// These bytes of the data, as `push` of each takes them. Memory for what they can give is taken first, for up to 4096 pieces of
+    /// data. The error is that memory was refused; the builder has then taken none of them, or those before the bytes that needed
+    /// more of it.
     pub fn push_run(&mut self, bytes: &[u8]) -> Result<(), AllocError>
         ensures each { OnOk result (FoldsTo Pushes self.old bytes.now self.new) }
         ensures ok { (ps : List ℤ) (s : List ℕ) → LeadsTo ps s self.old → OnOk result (LeadsTo ps (s ++ bytes.now) self.new) }
         ensures err { (ps : List ℤ) (s : List ℕ) → LeadsTo ps s self.old
             → OnErr result ((n : ℕ) × (n < length bytes.now) × LeadsTo ps (s ++ take n bytes.now) self.new) }
     {
+        if bytes.is_empty() {
+            return Ok(());
+        }
+        // A byte gives one piece of data or none, but for the first after a colour.
+        make_room(&mut self.sixel.content, bytes.len().min(MOST_ROOM))?;
         let mut at = 0;
         while at < bytes.len() {
             at += self.push_some(&bytes[at..])?;
@@ -174,8 +183,8 @@ impl<A: Allocator> SixelBuilder<A> {
         }
     }
 
-    // A `#` outside a command. A `#` with its number, a `!` with its count and six pixels, where they come first and their numbers have
-    // up to three digits, else the `#`; returns how many bytes it took.
+    // A `#` outside a command. A `#` with its number, a `!` with its count and six pixels, and the pixels after them and what ends their
+    // line, where the first come first and their numbers have up to three digits, else the `#`; returns how many bytes it took.
     #[inline(always)]
     fn push_selected(&mut self, rest: &[u8]) -> Result<usize, AllocError>
         requires bytes { 0 < length rest.now }
@@ -190,14 +199,19 @@ impl<A: Allocator> SixelBuilder<A> {
             let (repeat_count, digits) = few_digits(&rest[end + 1..]);
             let last = end + 1 + digits;
             if 0 < digits && last < rest.len() && 0x3f <= rest[last] && rest[last] <= 0x7e {
-                let drawn = SixelData::Repeat {
-                    repeat_count,
-                    content: rest[last] - 0x3f,
+                let after = &rest[last + 1..];
+                let run = pixels_run(after);
+                let line = Line {
+                    selected: SixelData::SelectColorMapEntry(color as u16),
+                    repeated: SixelData::Repeat {
+                        repeat_count,
+                        content: rest[last] - 0x3f,
+                    },
+                    run: &after[..run],
                 };
-                self.sixel
-                    .content
-                    .push_two(SixelData::SelectColorMapEntry(color as u16), Some(drawn))?;
-                return Ok(last + 1);
+                push_line(&mut self.sixel.content, &line)?;
+                let end = last + 1 + run;
+                return Ok(end + self.end_line(&rest[end..]));
             }
         }
         self.push(rest[0])?;

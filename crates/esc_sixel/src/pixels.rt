@@ -37,6 +37,7 @@ fn run_in_lanes(bytes: &[u8], at: usize) -> usize
 }
 
 // How many bytes, from the first, are 3F to 7E.
+#[inline(always)]
 pub(crate) fn pixels_run(bytes: &[u8]) -> usize
     ensures run { All IsPixels (take result bytes.now) }
     ensures few { result ≤ length bytes.now }
@@ -84,6 +85,16 @@ fn values_of(block: &[u8]) -> [u8; 8]
     (u8x8::from_slice(block) - u8x8::splat(0x3f)).to_array()
 }
 
+// Four bytes as pixels.
+#[inline(always)]
+fn four_values_of(block: &[u8]) -> [u8; 4]
+    requires room { 4 ≤ length block.now }
+    requires pixels { All IsPixels (take 4 block.now) }
+    ensures { map Data result ≡ drawn (take 4 block.now) }
+{
+    (u8x4::from_slice(block) - u8x4::splat(0x3f)).to_array()
+}
+
 // Appends the first eight of these bytes as pixels, for which there is room.
 #[inline(always)]
 fn put_block<A: Allocator>(vec: &mut Vec<SixelData, A>, block: &[u8])
@@ -105,7 +116,39 @@ fn put_block<A: Allocator>(vec: &mut Vec<SixelData, A>, block: &[u8])
     put(vec, values[7]);
 }
 
-// Appends these bytes as pixels, for which there is room: eight at once, and then the rest.
+// Appends the first four of these bytes as pixels, for which there is room.
+#[inline(always)]
+fn put_four<A: Allocator>(vec: &mut Vec<SixelData, A>, block: &[u8])
+    requires room { vec_len vec.old + 4 ≤ vec_capacity vec.old }
+    requires block { 4 ≤ length block.now }
+    requires pixels { All IsPixels (take 4 block.now) }
+    ensures items { vec.new.items ≡ vec.old.items ++ drawn (take 4 block.now) }
+    ensures len { vec_len vec.new ≡ vec_len vec.old + 4 }
+    ensures capacity { vec_capacity vec.new ≡ vec_capacity vec.old }
+{
+    let values = four_values_of(block);
+    put(vec, values[0]);
+    put(vec, values[1]);
+    put(vec, values[2]);
+    put(vec, values[3]);
+}
+
+// Appends the first two of these bytes as pixels, for which there is room.
+#[inline(always)]
+fn put_two<A: Allocator>(vec: &mut Vec<SixelData, A>, block: &[u8])
+    requires room { vec_len vec.old + 2 ≤ vec_capacity vec.old }
+    requires block { 2 ≤ length block.now }
+    requires pixels { All IsPixels (take 2 block.now) }
+    ensures items { vec.new.items ≡ vec.old.items ++ drawn (take 2 block.now) }
+    ensures len { vec_len vec.new ≡ vec_len vec.old + 2 }
+    ensures capacity { vec_capacity vec.new ≡ vec_capacity vec.old }
+{
+    put(vec, block[0] - 0x3f);
+    put(vec, block[1] - 0x3f);
+}
+
+// Appends these bytes as pixels, for which there is room: by eights, and then by four, two and one.
+#[inline(always)]
 fn fill<A: Allocator>(vec: Vec<SixelData, A>, run: &[u8]) -> Vec<SixelData, A>
     requires room { vec_len vec + length run.now ≤ vec_capacity vec }
     requires pixels { All IsPixels run.now }
@@ -117,11 +160,85 @@ fn fill<A: Allocator>(vec: Vec<SixelData, A>, run: &[u8]) -> Vec<SixelData, A>
         put_block(&mut vec, &run[at..]);
         at += 8;
     }
+    'by_four: while run.len() - at >= 4 {
+        put_four(&mut vec, &run[at..]);
+        at += 4;
+    }
+    'by_two: while run.len() - at >= 2 {
+        put_two(&mut vec, &run[at..]);
+        at += 2;
+    }
     while at < run.len() {
         put(&mut vec, run[at] - 0x3f);
         at += 1;
     }
     vec
+}
+
+// What begins a line: a selected colour, six pixels so many times, and pixels, which are 3F to 7E.
+#[derive(Clone, Copy)]
+pub(crate) struct Line<'a> {
+    pub(crate) selected: SixelData,
+    pub(crate) repeated: SixelData,
+    pub(crate) run: &'a [u8],
+}
+
+// Appends what begins a line. Memory for all, and for what ends it, is taken first.
+#[inline(always)]
+fn append_line<A: Allocator>(
+    items: Items<SixelData, A>,
+    line: &Line<'_>,
+) -> (Items<SixelData, A>, Result<(), AllocError>)
+    requires { All IsPixels line.now.run.now }
+    ensures ok { OnOk result.1 (result.0 ≡ items ++ line.now.selected ∷ line.now.repeated ∷ drawn line.now.run.now) }
+    ensures err { OnErr result.1 (result.0 ≡ items) }
+{
+    let run = line.run;
+    let mut vec = items.into_vec();
+    match vec.reserve(run.len() + 3) {
+        Ok(()) => {
+            vec.push_reserved(line.selected);
+            vec.push_reserved(line.repeated);
+            (Items::from_vec(fill(vec, run)), Ok(()))
+        }
+        Err(error) => (Items::from_vec(vec), Err(error)),
+    }
+}
+
+// Appends what begins a line. The error is that memory was refused, and the items stay as they were.
+#[inline(always)]
+pub(crate) fn push_line<A: Allocator>(
+    items: &mut Items<SixelData, A>,
+    line: &Line<'_>,
+) -> Result<(), AllocError>
+    requires { All IsPixels line.now.run.now }
+    ensures ok { OnOk result (items.new ≡ items.old ++ line.now.selected ∷ line.now.repeated ∷ drawn line.now.run.now) }
+    ensures err { OnErr result (items.new ≡ items.old) }
+{
+    replace_with(items, line, append_line)
+}
+
+// Takes memory for so many items more.
+fn with_room<A: Allocator>(
+    items: Items<SixelData, A>,
+    more: usize,
+) -> (Items<SixelData, A>, Result<(), AllocError>)
+    ensures { result.0 ≡ items }
+{
+    let mut vec = items.into_vec();
+    let result = vec.reserve(more);
+    (Items::from_vec(vec), result)
+}
+
+// Takes memory for so many items more. The error is that it was refused. The items stay as they were.
+#[inline]
+pub(crate) fn make_room<A: Allocator>(
+    items: &mut Items<SixelData, A>,
+    more: usize,
+) -> Result<(), AllocError>
+    ensures { items.new ≡ items.old }
+{
+    replace_with(items, more, with_room)
 }
 
 // Appends these bytes as pixels. Memory for all, and for what ends their line, is taken first.
@@ -141,7 +258,7 @@ fn append<A: Allocator>(
 }
 
 // Appends these bytes, which are 3F to 7E, as pixels. The error is that memory was refused, and the items stay as they were.
-#[inline]
+#[inline(never)]
 pub(crate) fn push_pixels<A: Allocator>(
     items: &mut Items<SixelData, A>,
     run: &[u8],

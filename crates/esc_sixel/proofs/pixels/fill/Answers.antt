@@ -11,6 +11,20 @@ by_block-preserved g c = record {
   room = omega (arith, c.by_block.invariant.room, c.put_block.ensures.len, c.put_block.ensures.capacity);
 }
 
+pub by_four-preserved : goal.by_four-preserved
+by_four-preserved g c = record {
+  within = omega (arith, c.by_four-test.true, c.by_four.invariant.within);
+  items = drawn_more c.args.vec.items c.by_four.vec.items _ c.args.run.now c.by_four.at 4 c.by_four.invariant.items c.put_four.ensures.items;
+  room = omega (arith, c.by_four.invariant.room, c.put_four.ensures.len, c.put_four.ensures.capacity);
+}
+
+pub by_two-preserved : goal.by_two-preserved
+by_two-preserved g c = record {
+  within = omega (arith, c.by_two-test.true, c.by_two.invariant.within);
+  items = drawn_more c.args.vec.items c.by_two.vec.items _ c.args.run.now c.by_two.at 2 c.by_two.invariant.items c.put_two.ensures.items;
+  room = omega (arith, c.by_two.invariant.room, c.put_two.ensures.len, c.put_two.ensures.capacity);
+}
+
 pub returns : goal.returns
 returns g c =
     c.loop-at.invariant.items

@@ -13,6 +13,26 @@ invariant-by_block g l = record {
 abbrev pub decreases-by_block : goal.decreases-by_block
 decreases-by_block g l = length l.run - l.at
 
+abbrev pub invariant-by_four : goal.invariant-by_four
+invariant-by_four g l = record {
+  within : l.at ≤ length l.run;
+  items : l.vec.items ≡ l.fn.vec.items ++ drawn (take l.at l.run);
+  room : l.vec.len + length l.run ≤ l.vec.cap + l.at;
+}
+
+abbrev pub decreases-by_four : goal.decreases-by_four
+decreases-by_four g l = length l.run - l.at
+
+abbrev pub invariant-by_two : goal.invariant-by_two
+invariant-by_two g l = record {
+  within : l.at ≤ length l.run;
+  items : l.vec.items ≡ l.fn.vec.items ++ drawn (take l.at l.run);
+  room : l.vec.len + length l.run ≤ l.vec.cap + l.at;
+}
+
+abbrev pub decreases-by_two : goal.decreases-by_two
+decreases-by_two g l = length l.run - l.at
+
 abbrev pub invariant-loop-at : goal.invariant-loop-at
 invariant-loop-at g l = record {
   within : l.at ≤ length l.run;

@@ -8,7 +8,7 @@ use Rattle.esc_sixel.proofs.builder.SixelBuilder.push_run.Goals as goal
 pub returns-in_err-at-clause-err : goal.returns-in_err-at-clause-err
 returns-in_err-at-clause-err g c = λ ps s h.
     let before = run_leads ps s (take c.loop-at.at c.args.bytes.now) c.args.self.now c.loop-at.self c.loop-at.invariant.1 h in
-    on_err c.from_residual.result
+    on_err c.from_residual-in_err-at.result
     (c.loop-at.at, omega arith, subst (LeadsTo ps (s ++ take c.loop-at.at c.args.bytes.now)) (sym c.in_err-at.ensures.err) before)
 
 pub loop-at-preserved : goal.loop-at-preserved

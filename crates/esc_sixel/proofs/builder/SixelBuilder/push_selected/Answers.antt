@@ -1,12 +1,14 @@
-use Rattle.std.proofs.Common.{◌+◌, ◌-◌, ◌∷◌, [], Some, ap, append_assoc, arith, drop, get_or, length, refl, sym, take, ◌∙◌}
+use Rattle.std.proofs.Common.{◌≤◌, ◌+◌, ◌-◌, ◌++◌, ◌∷◌, [], ℕ, List, Some, ap, append_assoc, arith, drop, get_or, length, refl, sym, take, ◌∙◌}
+use Rattle.std.proofs.lemmas.List.{length-take}
 use Rattle.std.specs.List.{FoldsTo}
 use Rattle.esc_sixel.specs.Lines.{fresh}
+use Rattle.esc_sixel.specs.Meaning.{drawn}
 use Rattle.esc_sixel.specs.Runs.{more_digits}
 use Rattle.esc_sixel.specs.Steps.{Pushes}
 use Rattle.esc_sixel.specs.declared.introducer.Introducer.TheVariants as introducer
 use Rattle.esc_sixel.specs.declared.sixel_data.SixelData.TheVariants.{Repeat, SelectColorMapEntry}
 use Rattle.esc_sixel.proofs.PixelRuns.{is_within}
-use Rattle.esc_sixel.proofs.Pushed.{begins, color_class, digits_pushed, folds_more, folds_one, fresh_keeps, repeat_class, repeat_ends, repeats}
+use Rattle.esc_sixel.proofs.Pushed.{begins, color_class, digits_pushed, folds_more, folds_one, fresh_keeps, pixels_pushed, repeat_class, repeat_ends, repeats}
 use Rattle.esc_sixel.proofs.Pushed.{selected_begins, selects, some_taken, with_data}
 use Rattle.esc_sixel.proofs.builder.SixelBuilder.push_selected.Goals as goal
 
@@ -31,16 +33,30 @@ returns-then-rest-last-le126-clause-ok g c =
     let s3 : FoldsTo Pushes p (take (1 + n + 1) xs) p3 =
     folds_one Pushes p xs (1 + n) p2 p3 c.if-end-rest.true s2 (selected_begins p2 introducer.Repeat fresh (get_or xs (1 + n) 0) d refl
     (repeat_class (get_or xs (1 + n) 0) c.if-rest-end-eq33.true) fresh_keeps
-    (λ r k. selects ds r _ (some_taken n (take (length xs - 1) (drop 1 xs)) (omega arith) c.few_digits-color.ensures.few) c.few_digits-color.ensures.number c.few_digits-color.ensures.small k)) in
+    (λ r k. selects ds r _ (some_taken n (take (length xs - 1) (drop 1 xs)) (omega arith) c.few_digits-color.ensures.few)
+    c.few_digits-color.ensures.number c.few_digits-color.ensures.small k)) in
     let p4 = record p3 { parameters = more_digits fresh es } in
     let s4 : FoldsTo Pushes p (take (1 + n + 1 + m) xs) p4 =
     folds_more Pushes p xs (1 + n + 1) m p3 p4 s3
     (digits_pushed es p3 p4 introducer.Repeat refl refl (λ t. omega arith) c.few_digits-repeat_count.ensures.digits refl) in
     let is = is_within (get_or xs (1 + n + 1 + m) 0) c.if-rest-last-ge63.true c.if-rest-last-le126.true in
-    let e = ap (λ t. record p.sixel { content = t }) (c.in_ok-push_two.ensures.ok ∙ sym (append_assoc p.sixel.content (d ∷ []) (v ∷ []))) in (
+    let p5 = record p { sixel = with_data (with_data p.sixel d) v } in
+    let s5 : FoldsTo Pushes p (take (1 + n + 1 + m + 1) xs) p5 =
+    folds_one Pushes p xs (1 + n + 1 + m) p4 p5 c.if-last-rest.true s4
+    (repeat_ends p4 p5 (get_or xs (1 + n + 1 + m) 0) v refl is
+    (λ r k. repeats es r _ _ (some_taken m (take (length xs - (1 + n + 1)) (drop (1 + n + 1) xs)) (omega arith) c.few_digits-repeat_count.ensures.few)
+    c.few_digits-repeat_count.ensures.number c.few_digits-repeat_count.ensures.small k) refl c.requires.closed) in
+    let run = c.pixels_run-run.result in
+    let bs = take run (take (length xs - (1 + n + 1 + m + 1)) (drop (1 + n + 1 + m + 1) xs)) in
+    let drawn_after = c.in_ok-push_line.ensures.ok ∙ sym (append_assoc p.sixel.content (d ∷ []) (v ∷ drawn bs))
+    ∙ sym (append_assoc (p.sixel.content ++ d ∷ []) (v ∷ []) (drawn bs)) in
+    let s6 = folds_more Pushes p xs (1 + n + 1 + m + 1) run p5 _ s5
+    (pixels_pushed bs p5 _ c.requires.closed c.pixels_run-run.ensures.run (ap (λ t. record p { sixel = record p.sixel { content = t } }) drawn_after)) in (
       omega arith,
-      omega (arith, c.if-last-rest.true),
-      folds_one Pushes p xs (1 + n + 1 + m) p4 _ c.if-last-rest.true s4
-          (repeat_ends p4 _ (get_or xs (1 + n + 1 + m) 0) v refl is
-          (λ r k. repeats es r _ _ (some_taken m (take (length xs - (1 + n + 1)) (drop (1 + n + 1) xs)) (omega arith) c.few_digits-repeat_count.ensures.few) c.few_digits-repeat_count.ensures.number c.few_digits-repeat_count.ensures.small k) e c.requires.closed),
+      within (1 + n + 1 + m + 1) run c.end_line.result xs (omega (arith, c.if-last-rest.true)) c.pixels_run-run.ensures.few c.end_line.ensures.few,
+      folds_more Pushes p xs (1 + n + 1 + m + 1 + run) c.end_line.result _ _ s6 c.end_line.ensures.takes,
     )
+  where
+    within : (at run k : ℕ) (xs : List ℕ) → at ≤ length xs → run ≤ length (take (length xs - at) (drop at xs))
+        → k ≤ length (take (length xs - (at + run)) (drop (at + run) xs)) → at + run + k ≤ length xs
+    within at run k xs fits few more = omega (arith, length-take (length xs - at) (drop at xs), length-take (length xs - (at + run)) (drop (at + run) xs))
