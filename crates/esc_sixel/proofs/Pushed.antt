@@ -200,14 +200,14 @@ number_kept : (ds r : List ℕ) → 0 < length ds → Keeps (more_digits fresh d
 number_kept ds r some k =
     sym (k.values 0 (omega arith)) ∙ ap (λ (p : Parameters). get_or p.values 0 None) (digits_written fresh ds (omega arith) some)
 
-pub selects : (ds r : List ℕ) (n : ℕ) → 0 < length ds → n ≡ number_after 0 ds → n < 1000 → Keeps (more_digits fresh ds) r → SelectColorMapEntry n ≡ color_of r
+pub selects : (ds r : List ℕ) (n : ℕ) → 0 < length ds → n ≡ number_after 0 ds → n < 10000 → Keeps (more_digits fresh ds) r → SelectColorMapEntry n ≡ color_of r
 selects ds r n some e small k =
     let alone : separators r ≡ 0 = omega (arith, k.count, count_stays fresh ds) in
     let is : param r 0 ≡ Some n = number_kept ds r some k ∙ ap Some (sym e) in
     let fits : n ≡ min n 65535 = omega arith in
     rw (alone, is) (ap SelectColorMapEntry fits)
 
-pub repeats : (ds r : List ℕ) (n v : ℕ) → 0 < length ds → n ≡ number_after 0 ds → n < 1000 → Keeps (more_digits fresh ds) r → Repeat v n ≡ repeat_of r v
+pub repeats : (ds r : List ℕ) (n v : ℕ) → 0 < length ds → n ≡ number_after 0 ds → n < 10000 → Keeps (more_digits fresh ds) r → Repeat v n ≡ repeat_of r v
 repeats ds r n v some e small k =
     let is : param r 0 ≡ Some n = number_kept ds r some k ∙ ap Some (sym e) in
     let fits : n ≡ min n 4294967295 = omega arith in

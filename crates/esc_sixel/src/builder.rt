@@ -147,6 +147,10 @@ impl<A: Allocator> SixelBuilder<A> {
             if rest[0] == b'#' {
                 return self.push_selected(rest);
             }
+            if let Some((pixels, taken)) = self.repeated(rest) {
+                self.sixel.content.push(pixels)?;
+                return Ok(taken);
+            }
         } else {
             if let Some((color, taken)) = self.defined(rest) {
                 self.sixel.content.push(color)?;
@@ -184,7 +188,7 @@ impl<A: Allocator> SixelBuilder<A> {
     }
 
     // A `#` outside a command. A `#` with its number, a `!` with its count and six pixels, and the pixels after them and what ends their
-    // line, where the first come first and their numbers have up to three digits, else the `#`; returns how many bytes it took.
+    // line, where the first come first and their numbers have up to four digits, else the `#`; returns how many bytes it took.
     #[inline(always)]
     fn push_selected(&mut self, rest: &[u8]) -> Result<usize, AllocError>
         requires bytes { 0 < length rest.now }
@@ -218,7 +222,34 @@ impl<A: Allocator> SixelBuilder<A> {
         Ok(1)
     }
 
-    // Right after a `#`: a colour's number, `2` and its percentages, of up to three digits each, and another `#`, where these come first.
+    // Outside a command: a `!`, its count of up to four digits and six pixels, where these come first. Gives the pixels, and how many
+    // bytes these are.
+    #[inline(always)]
+    fn repeated(&self, rest: &[u8]) -> Option<(SixelData, usize)>
+        requires bytes { 0 < length rest.now }
+        requires closed { self.now.introducer ≡ None }
+        ensures some { IfSome result (λ r. 0 < r.1) }
+        ensures few { IfSome result (λ r. r.1 ≤ length rest.now) }
+        ensures pushes { IfSome result (λ r. FoldsTo Pushes self.now (take r.1 rest.now)
+            (record self.now { sixel = record self.now.sixel { content = self.now.sixel.content ++ r.0 ∷ [] } })) }
+    {
+        if rest[0] != b'!' {
+            return None;
+        }
+        let (repeat_count, digits) = few_digits(&rest[1..]);
+        let last = 1 + digits;
+        if digits == 0 || last >= rest.len() || rest[last] < 0x3f || 0x7e < rest[last] {
+            return None;
+        }
+        let content = rest[last] - 0x3f;
+        let pixels = SixelData::Repeat {
+            repeat_count,
+            content,
+        };
+        Some((pixels, last + 1))
+    }
+
+    // Right after a `#`: a colour's number, `2` and its percentages, of up to four digits each, and another `#`, where these come first.
     // Gives the colour, and how many bytes these are.
     #[inline(always)]
     fn defined(&self, rest: &[u8]) -> Option<(SixelData, usize)>

@@ -4,15 +4,15 @@ ghost use Rattle.std.specs.List.{All};
 ghost use Rattle.esc_sixel.specs.Classes.{IsDigit};
 ghost use Rattle.esc_sixel.specs.Lines.{number_after};
 
-// The number of the digits that come first, up to three, and how many these are. It takes none of fewer than three bytes.
+// The number of the digits that come first, up to four, and how many these are. It takes none of fewer than four bytes.
 #[inline(always)]
 pub(crate) fn few_digits(rest: &[u8]) -> (u32, usize)
     ensures few { result.1 ≤ length rest.now }
     ensures digits { All IsDigit (take result.1 rest.now) }
     ensures number { result.0 ≡ number_after 0 (take result.1 rest.now) }
-    ensures small { result.0 < 1000 }
+    ensures small { result.0 < 10000 }
 {
-    if rest.len() < 3 || rest[0] < b'0' || rest[0] > b'9' {
+    if rest.len() < 4 || rest[0] < b'0' || rest[0] > b'9' {
         return (0, 0);
     }
     let one = u32::from(rest[0] - b'0');
@@ -23,10 +23,14 @@ pub(crate) fn few_digits(rest: &[u8]) -> (u32, usize)
     if rest[2] < b'0' || rest[2] > b'9' {
         return (two, 2);
     }
-    (two * 10 + u32::from(rest[2] - b'0'), 3)
+    let three = two * 10 + u32::from(rest[2] - b'0');
+    if rest[3] < b'0' || rest[3] > b'9' {
+        return (three, 3);
+    }
+    (three * 10 + u32::from(rest[3] - b'0'), 4)
 }
 
-// The number of up to three digits at this place, and how many these are, where this byte comes right after them.
+// The number of up to four digits at this place, and how many these are, where this byte comes right after them.
 #[inline(always)]
 pub(crate) fn number_before(rest: &[u8], at: usize, mark: u8) -> Option<(u32, usize)>
     requires { at ≤ length rest.now }
@@ -34,7 +38,7 @@ pub(crate) fn number_before(rest: &[u8], at: usize, mark: u8) -> Option<(u32, us
     ensures few { IfSome result (λ r. r.1 ≤ length (take (length rest.now - at) (drop at rest.now))) }
     ensures digits { IfSome result (λ r. All IsDigit (take r.1 (take (length rest.now - at) (drop at rest.now)))) }
     ensures number { IfSome result (λ r. r.0 ≡ number_after 0 (take r.1 (take (length rest.now - at) (drop at rest.now)))) }
-    ensures small { IfSome result (λ r. r.0 < 1000) }
+    ensures small { IfSome result (λ r. r.0 < 10000) }
     ensures within { IfSome result (λ r. at + r.1 < length rest.now) }
     ensures mark { IfSome result (λ r. slice_index rest.now (at + r.1) ≡ mark) }
 {

@@ -258,7 +258,7 @@ fn append<A: Allocator>(
 }
 
 // Appends these bytes, which are 3F to 7E, as pixels. The error is that memory was refused, and the items stay as they were.
-#[inline(never)]
+#[inline]
 pub(crate) fn push_pixels<A: Allocator>(
     items: &mut Items<SixelData, A>,
     run: &[u8],
