@@ -2,9 +2,10 @@
 //! origin.
 //!
 //! A stream is bytes as a program writes them to a terminal. Any bytes are a stream; each call
-//! takes one whole, but those of a [`Parser`], which takes it in pieces. The work is done by a library that is proved: what each call writes is what its
-//! contract says, for every stream. This crate is not proved. Its module `ffi` is its one place
-//! with unsafe code.
+//! takes one whole, but those of a [`Parser`], which takes it in pieces. The module [`vte`] has that
+//! parser with the calls of the crate `vte`. The work is done by a library that is proved: what each
+//! call writes is what its contract says, for every stream. This crate is not proved. Its module
+//! `ffi` is its one place with unsafe code.
 //!
 //! ```
 //! use escape_stream::{Policy, filter, is_normal, normal};
@@ -21,7 +22,9 @@
 
 #[allow(unsafe_code)]
 mod ffi;
+mod params;
 mod parser;
+pub mod vte;
 
 pub use parser::{Entry, Event, Parser};
 

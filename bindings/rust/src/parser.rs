@@ -128,16 +128,35 @@ impl Parser {
 
     /// Takes the next bytes of the stream, and calls `act` with each event.
     pub fn advance(&mut self, bytes: &[u8], mut act: impl FnMut(Event<'_>)) -> Result<(), Error> {
+        let act = |event: Event<'_>, _: &[u8]| {
+            act(event);
+            true
+        };
+        self.take(bytes, act).map(|_| ())
+    }
+
+    // Takes the next bytes, calls `act` with each event and the bytes that were taken for it, and
+    // says how many were taken: all of them, or up to an event for which `act` is false. Of two
+    // events of a byte the second is handed out then too.
+    #[inline]
+    pub(crate) fn take(
+        &mut self,
+        bytes: &[u8],
+        mut act: impl FnMut(Event<'_>, &[u8]) -> bool,
+    ) -> Result<usize, Error> {
         let mut rest = bytes;
+        let mut count = 0;
         loop {
             let taken = ffi::next(&mut self.raw, &mut self.buffer, rest, &mut self.event);
-            match self.event.kind {
-                0 => return Ok(()),
+            let (front, back) = rest.split_at(taken);
+            let goes_on = match self.event.kind {
+                0 => return Ok(count + taken),
                 12 => return Err(Error::Failed),
-                9 => act(Event::Data(&[self.event.byte as u8])),
-                _ => act(self.noted(rest)),
-            }
-            rest = &rest[taken..];
+                9 => act(Event::Data(&[self.event.byte as u8]), front),
+                _ => act(self.noted(rest), front),
+            };
+            count += taken;
+            rest = if goes_on { back } else { &[] };
         }
     }
 

@@ -1,0 +1,288 @@
+//! The calls of the crate `vte`, version 0.15, over the proved [parser](crate::Parser), for programs
+//! that are written for it.
+//!
+//! Such a program names this module where it named the crate: `use escape_stream::vte;`. The names
+//! below, their signatures and what each call means are those of `vte`. `docs/EMBEDDING.md` of the
+//! repository lists the streams that this module reads otherwise.
+//!
+//! ```
+//! use escape_stream::vte::{Params, Parser, Perform};
+//!
+//! #[derive(Default)]
+//! struct Screen {
+//!     text: String,
+//!     colors: Vec<u16>,
+//! }
+//!
+//! impl Perform for Screen {
+//!     fn print(&mut self, c: char) {
+//!         self.text.push(c);
+//!     }
+//!
+//!     fn csi_dispatch(&mut self, params: &Params, _: &[u8], _ignore: bool, action: char) {
+//!         if action == 'm' {
+//!             self.colors.extend(params.iter().map(|param| param[0]));
+//!         }
+//!     }
+//! }
+//!
+//! let mut screen = Screen::default();
+//! let mut parser = Parser::new();
+//! for piece in [&b"caf\xc3"[..], b"\xa9 \x1b[1;3", b"1mred"] {
+//!     parser.advance(&mut screen, piece);
+//! }
+//! assert_eq!((&screen.text[..], &screen.colors[..]), ("caf\u{e9} red", &[1, 31][..]));
+//! ```
+use crate::{Entry, Event};
+
+pub use crate::params::{Params, ParamsIter};
+
+const MOST_INTERMEDIATES: usize = 2;
+const MOST_PARTS: usize = 16;
+const BELL: u8 = 0x07;
+
+/// What a program does with what a stream says. By default a call does nothing.
+pub trait Perform {
+    /// A character. A long run of them is a call for each.
+    fn print(&mut self, _c: char) {}
+
+    /// A control character of C0 or C1.
+    fn execute(&mut self, _byte: u8) {}
+
+    /// A device control string begins. Its marker, if it has one, is the first intermediate.
+    ///
+    /// `ignore` says that more than two intermediates, or more than 32 parameters, came: the first
+    /// are there.
+    fn hook(&mut self, _params: &Params, _intermediates: &[u8], _ignore: bool, _action: char) {}
+
+    /// A byte of the data of the device control string that began last.
+    fn put(&mut self, _byte: u8) {}
+
+    /// That string ends.
+    fn unhook(&mut self) {}
+
+    /// An operating system command: the first 16 of its parts, which `;` separates.
+    ///
+    /// `bell_terminated` says that BEL ended it, so that an answer can end in the same way.
+    fn osc_dispatch(&mut self, _params: &[&[u8]], _bell_terminated: bool) {}
+
+    /// A control sequence. Its marker, if it has one, is the first intermediate.
+    ///
+    /// `ignore` says that more than two intermediates, or more than 32 parameters, came: the first
+    /// are there.
+    fn csi_dispatch(
+        &mut self,
+        _params: &Params,
+        _intermediates: &[u8],
+        _ignore: bool,
+        _action: char,
+    ) {
+    }
+
+    /// An escape sequence.
+    ///
+    /// `ignore` says that more than two intermediates came: the first two are there.
+    fn esc_dispatch(&mut self, _intermediates: &[u8], _ignore: bool, _byte: u8) {}
+
+    /// Whether [`Parser::advance_until_terminated`] stops here. The parser asks before the first
+    /// byte and after each call above, but for a run of characters, or of data, only after the last.
+    #[inline(always)]
+    fn terminated(&self) -> bool {
+        false
+    }
+}
+
+/// A parser of a stream that comes in pieces. It takes memory when it is made, and none after that.
+pub struct Parser {
+    stream: crate::Parser,
+    params: Params,
+    has_failed: bool,
+}
+
+impl Default for Parser {
+    fn default() -> Parser {
+        Parser::new()
+    }
+}
+
+impl Parser {
+    /// A parser at the beginning of a stream that hands out strings of up to 1,048,576 bytes.
+    ///
+    /// `vte` hands out longer ones too, in memory that it takes as they grow. The memory here is
+    /// taken at once, two bytes for each byte of the limit: most systems give a page of it only when
+    /// a string is so long that it is written. [`Parser::with_limit`] takes less.
+    pub fn new() -> Parser {
+        Parser::with_limit(1 << 20)
+    }
+
+    /// A parser at the beginning of a stream that hands out strings of up to `limit` bytes: texts of
+    /// operating system commands, and parameter bytes of device control strings. It passes over
+    /// longer ones. The data of a device control string has no limit.
+    pub fn with_limit(limit: usize) -> Parser {
+        Parser {
+            stream: crate::Parser::with_limit(limit),
+            params: Params::default(),
+            has_failed: false,
+        }
+    }
+
+    /// Takes the next bytes of the stream, and makes the calls for what they say.
+    ///
+    /// After a [failure](Parser::has_failed) it makes none.
+    #[inline]
+    pub fn advance<P: Perform>(&mut self, performer: &mut P, bytes: &[u8]) {
+        self.take(performer, bytes, |_| false);
+    }
+
+    /// Takes the next bytes of the stream up to where [`Perform::terminated`] is true, makes the
+    /// calls for what they say, and returns how many bytes it took. The bytes after them are for the
+    /// next call.
+    ///
+    /// After a [failure](Parser::has_failed) it makes no calls and takes all bytes, so that a loop
+    /// over what is left comes to its end.
+    #[inline]
+    #[must_use = "the bytes that were not taken are still to be handed in"]
+    pub fn advance_until_terminated<P: Perform>(
+        &mut self,
+        performer: &mut P,
+        bytes: &[u8],
+    ) -> usize {
+        self.take(performer, bytes, P::terminated)
+    }
+
+    /// Whether the parser failed, as [`Error::Failed`](crate::Error::Failed) has it: then it makes no
+    /// calls any more. No clause excludes it, and no test has met it.
+    ///
+    /// The calls of `vte` return nothing that could say so, and these keep its signatures. Nor do they
+    /// panic: a terminal keeps what it shows, and may begin a new parser.
+    pub fn has_failed(&self) -> bool {
+        self.has_failed
+    }
+
+    #[inline]
+    fn take<P: Perform>(
+        &mut self,
+        performer: &mut P,
+        bytes: &[u8],
+        stops: impl Fn(&P) -> bool,
+    ) -> usize {
+        let params = &mut self.params;
+        let mut count = 0;
+        while count < bytes.len() && !stops(performer) {
+            let taken = self.stream.take(&bytes[count..], |event, taken| {
+                call(params, performer, event, taken);
+                !stops(performer)
+            });
+            let Ok(taken) = taken else {
+                self.has_failed = true;
+                return bytes.len();
+            };
+            count += taken;
+        }
+        count
+    }
+}
+
+// Makes the call for an event, or one for each character or byte of a run. The bytes are those that
+// were taken for it.
+#[inline]
+fn call<P: Perform>(params: &mut Params, performer: &mut P, event: Event<'_>, taken: &[u8]) {
+    match event {
+        Event::Text(run) => print_all(performer, run),
+        Event::Character(c) => performer.print(c),
+        Event::Control(byte) => performer.execute(byte),
+        Event::Escape {
+            intermediates,
+            has_more,
+            byte,
+        } => performer.esc_dispatch(intermediates, has_more, byte),
+        Event::Csi {
+            entries,
+            has_more,
+            byte,
+        } => call_csi(params, performer, entries, has_more, byte),
+        // The bell is the only end of a command that is this byte, and no other byte of a command is.
+        Event::Osc(text) => call_osc(performer, text, taken.last() == Some(&BELL)),
+        Event::Dcs {
+            parameters,
+            intermediates,
+            has_more,
+            byte,
+        } => {
+            let has_room = read_parameters(params, parameters);
+            performer.hook(params, intermediates, has_more || !has_room, byte.into());
+        }
+        Event::Data(bytes) => bytes.iter().for_each(|byte| performer.put(*byte)),
+        Event::DcsEnd => performer.unhook(),
+        Event::Apc(_) => {}
+    }
+}
+
+// Of a run of ASCII each byte is a character, which costs less than to read UTF-8.
+#[inline]
+fn print_all<P: Perform>(performer: &mut P, run: &str) {
+    if run.is_ascii() {
+        run.bytes().for_each(|byte| performer.print(byte.into()));
+    } else {
+        run.chars().for_each(|c| performer.print(c));
+    }
+}
+
+// A control sequence. Its entries are a marker, numbers with separators, and intermediates.
+fn call_csi<P: Perform>(
+    params: &mut Params,
+    performer: &mut P,
+    entries: &[Entry],
+    has_more: bool,
+    byte: u8,
+) {
+    let mut intermediates = [0; MOST_INTERMEDIATES];
+    let mut kept = 0;
+    let mut ignore = has_more;
+    let mut number = 0;
+    params.clear();
+    for entry in entries {
+        match entry.byte() {
+            None => number = entry.number().map_or(0, saturated),
+            Some(separator @ (b';' | b':')) => {
+                ignore |= !params.push(number, separator == b':');
+                number = 0;
+            }
+            Some(other) if kept < MOST_INTERMEDIATES => {
+                intermediates[kept] = other;
+                kept += 1;
+            }
+            Some(_) => ignore = true,
+        }
+    }
+    ignore |= !params.push(number, false);
+    performer.csi_dispatch(params, &intermediates[..kept], ignore, byte.into());
+}
+
+fn saturated(number: i64) -> u16 {
+    number.clamp(0, u16::MAX.into()) as u16
+}
+
+fn call_osc<P: Perform>(performer: &mut P, text: &[u8], bell_terminated: bool) {
+    let mut parts = [&[][..]; MOST_PARTS];
+    let mut count = 0;
+    for (place, part) in parts.iter_mut().zip(text.split(|byte| *byte == b';')) {
+        *place = part;
+        count += 1;
+    }
+    performer.osc_dispatch(&parts[..count], bell_terminated);
+}
+
+// The parameters that digits and `;` write. It says whether there was room for all.
+fn read_parameters(params: &mut Params, bytes: &[u8]) -> bool {
+    params.clear();
+    bytes
+        .split(|byte| *byte == b';')
+        .all(|digits| params.push(digits.iter().fold(0, with_digit), false))
+}
+
+fn with_digit(number: u16, digit: &u8) -> u16 {
+    number
+        .saturating_mul(10)
+        .saturating_add(digit.wrapping_sub(b'0').into())
+}
