@@ -5,7 +5,7 @@
 //! takes one whole, but those of a [`Parser`], which takes it in pieces. The module [`vte`] has that
 //! parser with the calls of the crate `vte`. The work is done by a library that is proved: what each
 //! call writes is what its contract says, for every stream. This crate is not proved. Its module
-//! `ffi` is its one place with unsafe code.
+//! `ffi` is its one place with unsafe code. It is `no_std`, over `alloc`.
 //!
 //! ```
 //! use escape_stream::{Policy, filter, is_normal, normal};
@@ -17,8 +17,11 @@
 //! assert_eq!(filter(Policy::Color, 1024, stream)?, b"a\x1b[1;31mred");
 //! # Ok::<(), escape_stream::Error>(())
 //! ```
+#![no_std]
 #![deny(unsafe_code)]
 #![warn(missing_docs)]
+
+extern crate alloc;
 
 #[allow(unsafe_code)]
 mod ffi;
@@ -28,8 +31,9 @@ pub mod vte;
 
 pub use parser::{Entry, Event, Parser};
 
-use std::error;
-use std::fmt;
+use alloc::vec::Vec;
+use core::error;
+use core::fmt;
 
 /// Which actions pass [`filter`]. Each policy admits all that the one before it does.
 #[derive(Clone, Copy, Debug, PartialEq, Eq, Hash)]

@@ -1,5 +1,5 @@
 //! The parameters of a sequence, as the crate `vte` hands them out.
-use std::fmt;
+use core::fmt;
 
 const MOST: usize = 32;
 

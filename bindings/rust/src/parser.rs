@@ -1,5 +1,9 @@
 //! A parser that takes a stream in pieces.
 use crate::{Error, ffi};
+use alloc::boxed::Box;
+use alloc::vec;
+use alloc::vec::Vec;
+use core::fmt;
 
 /// A parser of a stream that comes in pieces. It takes memory when it is made, and none after that.
 ///
@@ -95,8 +99,8 @@ impl PartialEq for Entry {
     }
 }
 
-impl std::fmt::Debug for Entry {
-    fn fmt(&self, f: &mut std::fmt::Formatter<'_>) -> std::fmt::Result {
+impl fmt::Debug for Entry {
+    fn fmt(&self, f: &mut fmt::Formatter<'_>) -> fmt::Result {
         match (self.number(), self.byte()) {
             (Some(number), _) => write!(f, "{number}"),
             (_, byte) => write!(f, "{:?}", byte.map(char::from)),
