@@ -6,3 +6,4 @@ pub mod Parts
 pub mod Steps
 pub mod Taken
 pub mod TextRuns
+pub mod Whole

@@ -1,11 +1,16 @@
 -- What bytes in ground give.
-use Rattle.std.specs.Prelude.{ℕ, ◌≡◌, true, List, Option}
+use Rattle.std.specs.Prelude.{ℕ, ◌≡◌, Bool, true, not, ◌&&◌, List, length, Option, Some}
 use Rattle.std.specs.List.{list_all}
 use Rattle.std.specs.Str.{chars, IsUtf8}
 use Rattle.esc_below.specs.Clear.{is_clear}
+use Rattle.esc_frame.specs.Classes.{ends_escape, opens}
+use Rattle.esc_frame.specs.declared.classes.Class.{Class}
+use Rattle.esc_frame.specs.Leads.{Unfinished}
 use Rattle.esc_frame.specs.Leads.Unfinished.{Ground}
 use Rattle.esc_frame.specs.Machine.Moves.{after_all, news_all}
 use Rattle.esc_lent.specs.declared.event.EscEvent.{EscEvent}
+use Rattle.esc_lent.specs.declared.parser.EscParser.{EscParser}
+use Rattle.esc_lent.specs.States.{KeptIn}
 use Rattle.esc_lent.specs.Told.{sent}
 
 -- well-formed, and without controls
@@ -15,3 +20,18 @@ IsTextRun x = IsUtf8 x × (list_all is_clear (chars x) ≡ true)
 -- In ground these bytes give the events that this one says, whatever the limit, and leave nothing unfinished.
 abbrev pub TellsEvent : EscEvent → List ℕ → Type 0
 TellsEvent e x = (after_all Ground x ≡ Ground) × ((limit : Option ℕ) (out : List ℕ) → sent e out ≡ news_all limit Ground x)
+
+-- From the one parser to the other these bytes were taken, where so much of a string can be kept: the later one keeps what is unfinished
+-- after them, and the event says what they give.
+abbrev pub Notes : EscParser → EscParser → EscEvent → List ℕ → ℕ → List ℕ → Type 0
+Notes old new e out limit x =
+    (u : Unfinished) (memory : List ℕ) → length memory ≡ limit → KeptIn old memory u
+    → KeptIn new memory (after_all u x) × (sent e out ≡ news_all (Some limit) u x)
+
+-- what is still to be handed out, and whether the parser failed, is as before
+abbrev pub IsDueAs : EscParser → EscParser → Type 0
+IsDueAs new old = (new.due_kind ≡ old.due_kind) × (new.due_value ≡ old.due_value) × (new.has_failed ≡ old.has_failed)
+
+-- 30 to 7E but for the letters that open a string or a control sequence: it ends an escape sequence of an ESC alone
+abbrev pub closes_escape : Class → Bool
+closes_escape c = ends_escape c && not (opens c)

@@ -13,6 +13,7 @@ use crate::parser::EscParser;
 use crate::quick::note_quick;
 use crate::runs::text_run;
 use crate::step::step;
+use crate::strings::note_string;
 use esc_frame::scans::data_run;
 
 // The run of characters, or of data, that comes first, where the parser is where one may come. It changes no state.
@@ -82,6 +83,10 @@ pub fn advance(
     let quick = note_quick(parser, bytes, event);
     if quick > 0 {
         return quick;
+    }
+    let string = note_string(parser, memory.len(), out, bytes, event);
+    if string > 0 {
+        return string;
     }
     let (taken, has_failed) = step(parser, memory, out, event, bytes);
     if has_failed || !is_sound(event, out.len()) || (event.kind == NONE && gives_due(parser)) {

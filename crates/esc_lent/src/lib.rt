@@ -4,6 +4,7 @@
 pub mod advance;
 pub mod entries;
 pub mod event;
+pub mod fields;
 pub mod load;
 pub mod named;
 pub mod next;
@@ -14,6 +15,7 @@ pub mod quick;
 pub mod recorder;
 pub mod runs;
 pub mod step;
+pub mod strings;
 #[cfg(test)]
 mod tests;
 pub mod text;

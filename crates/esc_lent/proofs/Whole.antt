@@ -1,0 +1,160 @@
+-- Commands that lie whole in some bytes, and the final byte of an escape sequence.
+use Rattle.std.proofs.Common.{ℕ, ◌≡◌, ◌+◌, ◌<◌, ◌≤◌, true, false, List, [], ◌∷◌, ◌++◌, take, drop, length, get_or, refl, ap, sym, ◌∙◌, subst, Some, Option, arith, length-take, if◌then◌else◌}
+use Rattle.std.proofs.Math.Seq.{take-add}
+use Rattle.std.proofs.lemmas.List.{append-nil}
+use Rattle.std.proofs.lemmas.Bool.Decides.{nat_tests}
+use Rattle.esc_below.specs.Clear.{parts_of}
+use Rattle.esc_frame.specs.declared.classes.Class.{Class}
+use Rattle.esc_frame.specs.declared.classes.Class.TheVariants.{Bell, Escape, Parameter, Final}
+use Rattle.esc_frame.specs.Classes.{class_of, strip}
+use Rattle.esc_frame.specs.Events.{Event}
+use Rattle.esc_frame.specs.Events.Event.{OscDispatch, EscDispatch}
+use Rattle.esc_frame.specs.Leads.{Unfinished}
+use Rattle.esc_frame.specs.Leads.Unfinished.{Ground, Pending, InEscape, InCsi, InOsc, InOscPending, InDcs, InData, InApc, InIgnored}
+use Rattle.esc_frame.specs.Limits.{is_within, is_read}
+use Rattle.esc_frame.specs.Machine.Moves.{after_all, news_all, after_by, news_by, inside, goes_on}
+use Rattle.esc_frame.specs.Machine.TextRuns.{IsTextRun}
+use Rattle.esc_frame.specs.Segments as segments
+use Rattle.esc_frame.specs.Segments.{osc_events, escape_event}
+use Rattle.esc_frame.specs.Segments.Opener.{Long}
+use Rattle.esc_frame.specs.declared.machine.State.TheVariants as state
+use Rattle.esc_frame.proofs.CsiRuns.{osc_opens, escape_class}
+use Rattle.esc_frame.proofs.Lends.{after_more}
+use Rattle.esc_frame.proofs.Lent.{osc_told}
+use Rattle.esc_frame.proofs.QuietRuns.{quiet_after, quiet_news}
+use Rattle.esc_frame.proofs.Streams.{news_append}
+use Rattle.esc_lent.specs.declared.event.EscEvent.{EscEvent}
+use Rattle.esc_lent.specs.declared.parser.EscParser.{EscParser}
+use Rattle.esc_lent.specs.Numbers.{state_numbered, begun}
+use Rattle.esc_lent.specs.Runs.{Notes, closes_escape}
+use Rattle.esc_lent.specs.States.{KeptIn, FirstIn}
+use Rattle.esc_lent.specs.Told.{sent, text_of}
+use Rattle.esc_lent.proofs.Kept.{ground_only}
+
+-- ---- what a parser keeps of nothing, and of an ESC alone
+
+pub in_ground : (q : EscParser) (memory : List ℕ) → q.state ≡ 0 → q.pending ≡ 0 → KeptIn q memory Ground
+in_ground q memory zero none = (ap state_numbered zero, ap (λ n. begun n q.first q.second q.third) none)
+
+pub in_escape : (q : EscParser) (memory : List ℕ) → q.state ≡ 1 → q.kept ≡ 0 → q.has_more ≡ false → KeptIn q memory (InEscape [])
+in_escape q memory one none more = let first : FirstIn q [] = (ap (λ n. take n q.intermediates) none, more, none) in (ap state_numbered one, first)
+
+-- from ground
+pub from_ground : (p q : EscParser) (e : EscEvent) (out : List ℕ) (limit : ℕ) (x : List ℕ) (v : Unfinished) → p.state ≡ 0 → p.pending ≡ 0
+    → after_all Ground x ≡ v → sent e out ≡ news_all (Some limit) Ground x → ((memory : List ℕ) → KeptIn q memory v) → Notes p q e out limit x
+from_ground p q e out limit x v zero none after news keeps = λ u memory room h.
+    let g = ground_only p memory zero none u h in (
+      subst (KeptIn q memory) (sym (ap (λ w. after_all w x) g ∙ after)) (keeps memory),
+      news ∙ sym (ap (λ w. news_all (Some limit) w x) g),
+    )
+
+-- ---- an operating system command
+
+bell_class : (b : ℕ) → b ≡ 0x07 → Bell ≡ class_of b
+unfolding class_of
+bell_class b e = rw e refl
+
+escape_at : (b : ℕ) → b ≡ 0x1b → Escape ≡ class_of b
+escape_at b e = sym (ap class_of e ∙ escape_class)
+
+pub within : (limit n : ℕ) → n ≤ limit → is_within (Some limit) n ≡ true
+within limit n h = grind (arith, nat_tests)
+
+module _ (limit : Option ℕ) (rest : List ℕ) (run : ℕ) (some : 2 < length rest) (e : get_or rest 0 0 ≡ 0x1b) (b : get_or rest 1 0 ≡ 0x5d)
+    (units : IsTextRun (take run (drop 2 rest))) (room : run + 2 < length rest) where
+  abbrev text : List ℕ
+  text = take run (drop 2 rest)
+
+  -- the opener and the text
+  osc_run : (after_all Ground (take (run + 2) rest) ≡ InOsc (Long []) units.0) × (news_all limit Ground (take (run + 2) rest) ≡ [])
+  osc_run =
+      let begin = osc_opens limit rest (omega arith) e b in
+      let q = units.2 limit (Long []) [] in
+      let back : run + 2 ≡ 2 + run = omega arith in (
+        ap (λ n. after_all Ground (take n rest)) back ∙ after_more Ground rest 2 run ∙ ap (λ u. after_all u text) begin.0 ∙ q.0,
+        ap (λ n. news_all limit Ground (take n rest)) back ∙ ap (news_all limit Ground) (take-add 2 run rest) ∙ news_append limit Ground (take 2 rest) text
+            ∙ ap (λ es. es ++ news_all limit (after_all Ground (take 2 rest)) text) begin.1 ∙ ap (λ u. news_all limit u text) begin.0 ∙ q.1,
+      )
+
+  three : run + 3 ≡ run + 2 + 1
+  three = omega arith
+
+  module _ (c : Class) (is : c ≡ class_of (get_or rest (run + 2) 0)) where
+    osc_after : after_all Ground (take (run + 3) rest) ≡ after_by (InOsc (Long []) units.0) (get_or rest (run + 2) 0) c
+    osc_after =
+        ap (λ n. after_all Ground (take n rest)) three
+        ∙ quiet_after {S = Unit {0}} limit (λ _ _ _. Unit {0}) (λ _ _ _. Unit {0}) Ground (InOsc (Long []) units.0) rest (run + 2) c tt tt osc_run room is
+
+    osc_news : news_all limit Ground (take (run + 3) rest) ≡ news_by limit (InOsc (Long []) units.0) (get_or rest (run + 2) 0) c
+    osc_news =
+        ap (λ n. news_all limit Ground (take n rest)) three
+        ∙ quiet_news {S = Unit {0}} limit (λ _ _ _. Unit {0}) (λ _ _ _. Unit {0}) Ground (InOsc (Long []) units.0) rest (run + 2) c tt tt osc_run room is
+
+  -- the event
+  module _ (fits : is_within limit (length text) ≡ true) where
+    told : osc_events limit (segments.text_of units.0) ≡ OscDispatch (parts_of text) ∷ []
+    told = ap (osc_events limit) units.1 ∙ sym (osc_told limit text fits)
+
+    pub bell_ends : get_or rest (run + 2) 0 ≡ 0x07
+        → (after_all Ground (take (run + 3) rest) ≡ Ground) × (news_all limit Ground (take (run + 3) rest) ≡ OscDispatch (parts_of text) ∷ [])
+    bell_ends h = let k = bell_class _ h in (osc_after Bell k, osc_news Bell k ∙ told)
+
+    pub escape_ends : get_or rest (run + 2) 0 ≡ 0x1b
+        → (after_all Ground (take (run + 3) rest) ≡ InEscape []) × (news_all limit Ground (take (run + 3) rest) ≡ OscDispatch (parts_of text) ∷ [])
+    escape_ends h = let k = escape_at _ h in (osc_after Escape k, osc_news Escape k ∙ append-nil (osc_events limit (segments.text_of units.0)) ∙ told)
+
+pub osc_said : (e : EscEvent) (out t : List ℕ) → e.kind ≡ 6 → text_of e out ≡ t → sent e out ≡ OscDispatch (parts_of t) ∷ []
+osc_said e out t kind h = rw kind (ap (λ y. OscDispatch (parts_of y) ∷ []) h)
+
+-- ---- the final byte of an escape sequence
+
+no_more : (x : List ℕ) → 0 ≡ length (take 2 x) → x ≡ []
+no_more [] h = refl
+no_more (b ∷ x) h = absurd (omega (arith, length-take 2 (b ∷ x)))
+
+one_first : (rest : List ℕ) → 0 < length rest → take 1 rest ≡ get_or rest 0 0 ∷ []
+one_first [] h = absurd (omega arith)
+one_first (b ∷ rest) h = refl
+
+-- after an ESC of which no intermediate has come
+module _ (p : EscParser) (memory : List ℕ) (one : p.state ≡ 1) (none : p.kept ≡ 0) (P : Unfinished → Type 0)
+    (alone : (x : List ℕ) → strip x ≡ [] → P (InEscape x)) where
+  at_escape : state_numbered p.state ≡ state.Escape
+  at_escape = ap state_numbered one
+
+  escape_only : (u : Unfinished) → KeptIn p memory u → P u
+  escape_only Ground h = absurd cc
+  escape_only (Pending f) h = absurd cc
+  escape_only (InEscape x) h = alone x (no_more (strip x) (sym none ∙ h.1.2))
+  escape_only (InCsi o x) h = absurd cc
+  escape_only (InDcs o x) h = absurd cc
+  escape_only (InData o x f d) h =
+      elim (is_read (Some (length memory)) (strip x)) as (λ b. state_numbered p.state ≡ (if b then state.Data else state.Skip) → P (InData o x f d)) [
+        | true ↦ λ e. absurd cc
+        | false ↦ λ e. absurd cc
+      ] h
+  escape_only (InApc o d) h = absurd cc
+  escape_only (InIgnored k o d) h = absurd cc
+  escape_only (InOsc o ps) h = absurd cc
+  escape_only (InOscPending o ps f) h = absurd cc
+
+closes : (limit : Option ℕ) (x : List ℕ) (b : ℕ) (c : Class) → closes_escape c ≡ true → strip x ≡ []
+    → (after_by (InEscape x) b c ≡ Ground) × (news_by limit (InEscape x) b c ≡ EscDispatch [] false b ∷ [])
+closes limit x b Parameter h s = (refl, ap (λ y. escape_event y b ∷ []) s)
+closes limit x b Final h s = (refl, ap (λ y. escape_event y b ∷ []) s)
+closes limit x b _ h s = absurd cc
+
+pub final_notes : (p q : EscParser) (e : EscEvent) (bytes : List ℕ) (c : Class) → p.state ≡ 1 → p.kept ≡ 0 → q.state ≡ 0 → q.pending ≡ 0 → 0 < length bytes
+    → c ≡ class_of (get_or bytes 0 0) → closes_escape c ≡ true → ((out : List ℕ) → sent e out ≡ EscDispatch [] false (get_or bytes 0 0) ∷ [])
+    → (out : List ℕ) (limit : ℕ) → Notes p q e out limit (take 1 bytes)
+final_notes p q e bytes c one none zero still some class ends says out limit = λ u memory room h.
+    let b = get_or bytes 0 0 in
+    let first = one_first bytes some in
+    escape_only p memory one none (λ v. KeptIn q memory (after_all v (take 1 bytes)) × (sent e out ≡ news_all (Some limit) v (take 1 bytes)))
+    (λ x s.
+    let k = closes (Some limit) x b c ends s in (
+      subst (KeptIn q memory) (sym (ap (after_all (InEscape x)) first ∙ ap (after_by (InEscape x) b) (sym class) ∙ k.0)) (in_ground q memory zero still),
+      says out
+          ∙ sym (ap (news_all (Some limit) (InEscape x)) first ∙ append-nil (news_by (Some limit) (InEscape x) b (class_of b))
+          ∙ ap (news_by (Some limit) (InEscape x) b) (sym class) ∙ k.1),
+    )) u h

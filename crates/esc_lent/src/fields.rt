@@ -1,0 +1,196 @@
+//! The body of a short control sequence, read straight into the entries of an event.
+#![tactic(auto)]
+
+ghost use Rattle.std.specs.Prelude.{◌≡◌, ◌<◌, ◌≤◌, ◌+◌, ◌++◌, true, false, ℕ, List, ◌∷◌, [], length, map, take, slice_index, pos};
+ghost use Rattle.std.specs.List.{list_all};
+ghost use Rattle.esc_frame.specs.Bodies.{is_digit, held, value_behind};
+ghost use Rattle.esc_frame.specs.Machine.Shorts.{IsBehind, IsFront, IsShort};
+ghost use Rattle.esc_lent.specs.Told.{param_of};
+
+use crate::event::EscEntry;
+use esc_below::csi_param::CsiParam;
+use esc_frame::entries::next_number;
+use esc_frame::sequence::lies_from;
+
+/// How far the bytes of a field go, how many entries there are then, and whether a separator ended it.
+#[derive(Clone, Copy)]
+struct Field {
+    length: usize,
+    count: usize,
+    goes_on: bool,
+}
+
+// The entry after those that there are.
+#[inline(always)]
+fn put(entries: &mut [EscEntry], count: usize, entry: EscEntry)
+    requires { count < length entries.old }
+    ensures { map param_of (take (count + 1) entries.new) ≡ map param_of (take count entries.old) ++ param_of entry ∷ [] }
+{
+    entries[count] = entry;
+}
+
+// A byte that is an entry by itself.
+#[inline(always)]
+fn put_byte(entries: &mut [EscEntry], count: usize, byte: u8)
+    requires { count < length entries.old }
+    ensures { map param_of (take (count + 1) entries.new) ≡ map param_of (take count entries.old) ++ CsiParam.P byte ∷ [] }
+{
+    let entry = EscEntry {
+        number: 0,
+        byte,
+        is_byte: true,
+    };
+    put(entries, count, entry)
+}
+
+// A number.
+#[inline(always)]
+fn put_integer(entries: &mut [EscEntry], count: usize, number: u64)
+    requires room { count < length entries.old }
+    requires small { number ≤ 0x7fff_ffff_ffff_ffff }
+    ensures { map param_of (take (count + 1) entries.new) ≡ map param_of (take count entries.old) ++ CsiParam.Integer (pos number) ∷ [] }
+{
+    let entry = EscEntry {
+        number: number as i64,
+        byte: 0,
+        is_byte: false,
+    };
+    put(entries, count, entry)
+}
+
+// The number that the digits write that come first, at least one, and how many they are.
+#[inline(always)]
+fn read_number(rest: &[u8]) -> (u64, usize)
+    requires some { 0 < length rest.now }
+    requires low { 0x30 ≤ slice_index rest.now 0 }
+    requires high { slice_index rest.now 0 ≤ 0x39 }
+    ensures count { (0 < result.1) × (result.1 ≤ length rest.now) }
+    ensures digits { list_all is_digit (take result.1 rest.now) ≡ true }
+    ensures value { result.0 ≡ held (value_behind 0 (take result.1 rest.now)) }
+    ensures small { result.0 ≤ 0x7fff_ffff_ffff_ffff }
+{
+    let mut number = next_number(0, rest[0] - b'0');
+    let mut end = 1;
+    while end < rest.len() && b'0' <= rest[end] && rest[end] <= b'9' {
+        number = next_number(number, rest[end] - b'0');
+        end += 1;
+    }
+    (number, end)
+}
+
+// The digits that come first.
+#[inline(always)]
+fn put_number(entries: &mut [EscEntry], count: usize, rest: &[u8]) -> usize
+    requires room { count < length entries.old }
+    requires some { 0 < length rest.now }
+    requires low { 0x30 ≤ slice_index rest.now 0 }
+    requires high { slice_index rest.now 0 ≤ 0x39 }
+    ensures count { (0 < result) × (result ≤ length rest.now) }
+    ensures keeps { (x : List ℕ) → IsFront (map param_of (take count entries.old)) x → IsBehind (map param_of (take (count + 1) entries.new)) (x ++ take result rest.now) }
+{
+    let (number, end) = read_number(rest);
+    put_integer(entries, count, number);
+    end
+}
+
+// A separator, 3A or 3B. False where this is none, and then nothing is taken.
+#[inline(always)]
+fn put_mark(entries: &mut [EscEntry], count: usize, b: u8) -> bool
+    requires room { count < length entries.old }
+    ensures mark { result ≡ true → (x : List ℕ) → IsBehind (map param_of (take count entries.old)) x → IsFront (map param_of (take (count + 1) entries.new)) (x ++ b ∷ []) }
+    ensures other { result ≡ false → entries.new ≡ entries.old }
+{
+    if lies_from(0x3a, 0x3b, b) {
+        put_byte(entries, count, b);
+        true
+    } else {
+        false
+    }
+}
+
+// A marker, 3C to 3F, if one comes first.
+#[inline(always)]
+fn put_marker(entries: &mut [EscEntry], rest: &[u8]) -> usize
+    requires { 0 < length entries.old }
+    ensures few { (result ≤ length rest.now) × (result ≤ 1) }
+    ensures keeps { IsFront (map param_of (take result entries.new)) (take result rest.now) }
+{
+    if rest.is_empty() {
+        return 0;
+    }
+    if lies_from(0x3c, 0x3f, rest[0]) {
+        put_byte(entries, 0, rest[0]);
+        1
+    } else {
+        0
+    }
+}
+
+// The digits that come first, if any, and a separator after them.
+#[inline(always)]
+fn put_field(entries: &mut [EscEntry], count: usize, rest: &[u8]) -> Field
+    requires room { count + 1 < length entries.old }
+    requires some { 0 < length rest.now }
+    ensures few { result.length ≤ length rest.now }
+    ensures entries { (result.count ≤ count + 2) }
+    ensures goes_on { result.goes_on ≡ true → (0 < result.length) × ((x : List ℕ) → IsFront (map param_of (take count entries.old)) x → IsFront (map param_of (take result.count entries.new)) (x ++ take result.length rest.now)) }
+    ensures ends { result.goes_on ≡ false → (x : List ℕ) → IsFront (map param_of (take count entries.old)) x → IsBehind (map param_of (take result.count entries.new)) (x ++ take result.length rest.now) }
+{
+    if b'0' <= rest[0] && rest[0] <= b'9' {
+        let n = put_number(entries, count, rest);
+        if n == rest.len() {
+            return Field {
+                length: n,
+                count: count + 1,
+                goes_on: false,
+            };
+        }
+        if put_mark(entries, count + 1, rest[n]) {
+            Field {
+                length: n + 1,
+                count: count + 2,
+                goes_on: true,
+            }
+        } else {
+            Field {
+                length: n,
+                count: count + 1,
+                goes_on: false,
+            }
+        }
+    } else if put_mark(entries, count, rest[0]) {
+        Field {
+            length: 1,
+            count: count + 1,
+            goes_on: true,
+        }
+    } else {
+        Field {
+            length: 0,
+            count,
+            goes_on: false,
+        }
+    }
+}
+
+/// Reads the body that comes first, as far as it has a marker, numbers and separators and there is room for its entries, and
+/// returns its length and how many entries it has.
+#[inline(always)]
+pub fn read_body(entries: &mut [EscEntry], rest: &[u8]) -> (usize, usize)
+    requires { length entries.old ≡ 256 }
+    ensures few { result.0 ≤ length rest.now }
+    ensures count { result.1 ≤ 256 }
+    ensures keeps { IsShort (map param_of (take result.1 entries.new)) (take result.0 rest.now) }
+{
+    let mut count = put_marker(entries, rest);
+    let mut at = count;
+    while at < rest.len() && count < 255 {
+        let field = put_field(entries, count, &rest[at..]);
+        at += field.length;
+        count = field.count;
+        if !field.goes_on {
+            return (at, count);
+        }
+    }
+    (at, count)
+}

@@ -1,0 +1,166 @@
+//! Commands that lie whole in the bytes, and the final byte of an escape sequence, noted without a machine.
+#![tactic(auto)]
+
+ghost use Rattle.std.specs.Prelude.{◌≡◌, ◌≢◌, ◌≤◌, ◌<◌, ◌∷◌, [], ℕ, List, false, length, take, slice_index};
+ghost use Rattle.esc_frame.specs.Events.Event.{EscDispatch};
+ghost use Rattle.esc_lent.specs.Runs.{Notes, IsDueAs, closes_escape};
+ghost use Rattle.esc_lent.specs.Told.{is_run, sent, text_of};
+
+use crate::event::{ESCAPE, EscEvent, OSC};
+use crate::parser::EscParser;
+use esc_frame::classes::{Class, classify};
+use esc_frame::scans::units_run;
+
+// Copies a text to the place that it is handed out in.
+#[inline(always)]
+fn put_text(out: &mut [u8], event: &mut EscEvent, kind: u32, text: &[u8])
+    requires { length text.now ≤ length out.old }
+    ensures text { text_of event.new out.new ≡ text.now }
+    ensures kind { event.new.kind ≡ kind }
+    ensures length { event.new.length ≡ length text.now }
+    ensures within { (event.new.count ≡ event.old.count) × (event.new.kept ≡ event.old.kept) }
+{
+    out[..text.len()].copy_from_slice(text);
+    event.length = text.len();
+    event.kind = kind;
+}
+
+// After an ESC of which nothing more has come.
+#[inline(always)]
+fn escape(parser: &mut EscParser)
+    ensures state { (parser.new.state ≡ 1) × (parser.new.kept ≡ 0) × (parser.new.has_more ≡ false) }
+    ensures due { IsDueAs parser.new parser.old }
+{
+    parser.state = 1;
+    parser.kept = 0;
+    parser.has_more = false;
+}
+
+// An operating system command that ends by BEL, or by an ESC, which begins the next sequence. A text for which there is no room is
+// left to the machine.
+#[inline(always)]
+fn note_osc(
+    parser: &mut EscParser,
+    limit: usize,
+    out: &mut [u8],
+    bytes: &[u8],
+    event: &mut EscEvent,
+) -> usize
+    requires some { 2 < length bytes.now }
+    requires escape { slice_index bytes.now 0 ≡ 0x1b }
+    requires bracket { slice_index bytes.now 1 ≡ 0x5d }
+    requires ground { (parser.old.state ≡ 0) × (parser.old.pending ≡ 0) }
+    ensures few { result ≤ length bytes.now }
+    ensures none { result ≡ 0 → (parser.new ≡ parser.old) × (event.new ≡ event.old) }
+    ensures some { 0 < result → (event.new.kind ≡ 6) × (event.new.length ≤ length out.old) }
+    ensures within { (event.new.count ≡ event.old.count) × (event.new.kept ≡ event.old.kept) }
+    ensures due { IsDueAs parser.new parser.old }
+    ensures notes { 0 < result → Notes parser.old parser.new event.new out.new limit (take result bytes.now) }
+{
+    let run = units_run(&bytes[2..]);
+    if run == bytes.len() - 2 || run > limit || run > out.len() {
+        return 0;
+    }
+    if bytes[run + 2] == 0x1b {
+        escape(parser);
+        put_text(out, event, OSC, &bytes[2..run + 2]);
+        run + 3
+    } else if bytes[run + 2] == 0x07 {
+        put_text(out, event, OSC, &bytes[2..run + 2]);
+        run + 3
+    } else {
+        0
+    }
+}
+
+// The final byte of an escape sequence without intermediates, where it opens nothing.
+#[inline(always)]
+fn note_final(parser: &mut EscParser, bytes: &[u8], event: &mut EscEvent) -> usize
+    requires some { 0 < length bytes.now }
+    requires state { parser.old.state ≡ 1 }
+    ensures few { result ≤ 1 }
+    ensures none { result ≡ 0 → (parser.new ≡ parser.old) × (event.new ≡ event.old) }
+    ensures some { 0 < result → (event.new.kind ≡ 4) × (event.new.kept ≡ 0) }
+    ensures within { (event.new.count ≡ event.old.count) × (event.new.length ≡ event.old.length) }
+    ensures due { IsDueAs parser.new parser.old }
+    ensures notes { 0 < result → (out : List ℕ) (limit : ℕ) → Notes parser.old parser.new event.new out limit (take result bytes.now) }
+{
+    if parser.kept > 0 {
+        return 0;
+    }
+    if closes_escape(classify(bytes[0])) {
+        put_final(event, bytes[0]);
+        parser.state = 0;
+        parser.pending = 0;
+        1
+    } else {
+        0
+    }
+}
+
+// Whether a byte of this class ends an escape sequence of an ESC alone.
+#[inline(always)]
+fn closes_escape(class: Class) -> bool
+    ensures { result ≡ closes_escape class }
+{
+    match class {
+        Class::Parameter | Class::Final => true,
+        Class::Plain
+        | Class::Bell
+        | Class::Cancel
+        | Class::Escape
+        | Class::Intermediate
+        | Class::Opens(_)
+        | Class::Delete
+        | Class::RawControl
+        | Class::RawOpens(_)
+        | Class::RawTerminator
+        | Class::High
+        | Class::Lead => false,
+    }
+}
+
+// An escape sequence of an ESC and this byte.
+#[inline(always)]
+fn put_final(event: &mut EscEvent, byte: u8)
+    ensures said { (out : List ℕ) → sent event.new out ≡ EscDispatch [] false byte ∷ [] }
+    ensures some { (event.new.kind ≡ 4) × (event.new.kept ≡ 0) }
+    ensures within { (event.new.count ≡ event.old.count) × (event.new.length ≡ event.old.length) }
+{
+    event.kind = ESCAPE;
+    event.kept = 0;
+    event.has_more = false;
+    event.byte = byte as u32;
+}
+
+/// Notes the command that lies whole in the bytes, or the final byte of an escape sequence, that comes first; nothing where
+/// something else comes.
+#[inline(always)]
+pub fn note_string(
+    parser: &mut EscParser,
+    limit: usize,
+    out: &mut [u8],
+    bytes: &[u8],
+    event: &mut EscEvent,
+) -> usize
+    requires some { 0 < length bytes.now }
+    requires within { (event.old.count ≤ 256) × (event.old.kept ≤ 2) × (event.old.length ≤ length out.old) }
+    ensures few { result ≤ length bytes.now }
+    ensures none { result ≡ 0 → (parser.new ≡ parser.old) × (event.new ≡ event.old) }
+    ensures some { 0 < result → (event.new.kind ≢ 0) × (event.new.kind ≢ 1) × (event.new.kind ≢ 12) × (is_run event.new.kind ≡ false) }
+    ensures within { (event.new.count ≤ 256) × (event.new.kept ≤ 2) × (event.new.length ≤ length out.old) }
+    ensures due { IsDueAs parser.new parser.old }
+    ensures notes { 0 < result → Notes parser.old parser.new event.new out.new limit (take result bytes.now) }
+{
+    if parser.state == 1 {
+        return note_final(parser, bytes, event);
+    }
+    if parser.state != 0 || parser.pending != 0 || bytes.len() <= 2 {
+        return 0;
+    }
+    if bytes[0] == 0x1b && bytes[1] == b']' {
+        note_osc(parser, limit, out, bytes, event)
+    } else {
+        0
+    }
+}
