@@ -1,5 +1,5 @@
 -- What bytes in ground give.
-use Rattle.std.specs.Prelude.{ℕ, ◌≡◌, Bool, true, not, ◌&&◌, List, length, Option, Some}
+use Rattle.std.specs.Prelude.{ℕ, ◌≡◌, Bool, true, not, ◌&&◌, List, length, take, Option, Some}
 use Rattle.std.specs.List.{list_all}
 use Rattle.std.specs.Str.{chars, IsUtf8}
 use Rattle.esc_below.specs.Clear.{is_clear}
@@ -11,7 +11,7 @@ use Rattle.esc_frame.specs.Machine.Moves.{after_all, news_all}
 use Rattle.esc_lent.specs.declared.event.EscEvent.{EscEvent}
 use Rattle.esc_lent.specs.declared.parser.EscParser.{EscParser}
 use Rattle.esc_lent.specs.States.{KeptIn}
-use Rattle.esc_lent.specs.Told.{sent}
+use Rattle.esc_lent.specs.Told.{sent, told_by}
 
 -- well-formed, and without controls
 abbrev pub IsTextRun : List ℕ → Type 0
@@ -27,6 +27,12 @@ abbrev pub Notes : EscParser → EscParser → EscEvent → List ℕ → ℕ →
 Notes old new e out limit x =
     (u : Unfinished) (memory : List ℕ) → length memory ≡ limit → KeptIn old memory u
     → KeptIn new memory (after_all u x) × (sent e out ≡ news_all (Some limit) u x)
+
+-- the same of any event, where a run lies at the first of the bytes of the call
+abbrev pub Tells : EscParser → EscParser → EscEvent → List ℕ → ℕ → List ℕ → List ℕ → Type 0
+Tells old new e out limit bytes x =
+    (u : Unfinished) (memory : List ℕ) → length memory ≡ limit → KeptIn old memory u
+    → KeptIn new memory (after_all u x) × (told_by e out (take e.length bytes) ≡ news_all (Some limit) u x)
 
 -- what is still to be handed out, and whether the parser failed, is as before
 abbrev pub IsDueAs : EscParser → EscParser → Type 0

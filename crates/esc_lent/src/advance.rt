@@ -5,6 +5,7 @@ ghost use Rattle.std.specs.Prelude.{◌≡◌, ◌≤◌, ◌<◌, ◌≢◌, �
 ghost use Rattle.std.specs.Str.{IsUtf8};
 ghost use Rattle.esc_frame.specs.Leads.{Unfinished};
 ghost use Rattle.esc_frame.specs.Machine.Moves.{after_all, news_all};
+ghost use Rattle.esc_lent.specs.Runs.{Tells, IsDueAs};
 ghost use Rattle.esc_lent.specs.States.{KeptIn};
 ghost use Rattle.esc_lent.specs.Told.{told_by, due_of, is_run};
 
@@ -51,6 +52,40 @@ fn note_run(event: &mut EscEvent, kind: u32, run: usize) -> usize
     run
 }
 
+/// Notes what comes first, where that needs no machine: a run, a control, or a sequence or a command that lies whole in the bytes.
+/// Nothing where something else comes.
+#[inline(always)]
+pub fn ahead(
+    parser: &mut EscParser,
+    limit: usize,
+    out: &mut [u8],
+    bytes: &[u8],
+    event: &mut EscEvent,
+) -> usize
+    requires some { 0 < length bytes.now }
+    requires none { event.old.kind ≡ 0 }
+    requires within { (event.old.count ≤ 256) × (event.old.kept ≤ 2) × (event.old.length ≤ length out.old) }
+    ensures few { result ≤ length bytes.now }
+    ensures none { result ≡ 0 → (parser.new ≡ parser.old) × (event.new ≡ record event.old { entries = event.new.entries }) }
+    ensures some { 0 < result → (event.new.kind ≢ 0) × (event.new.kind ≢ 12) }
+    ensures within { (event.new.count ≤ 256) × (event.new.kept ≤ 2) }
+    ensures text { is_run event.new.kind ≡ false → event.new.length ≤ length out.old }
+    ensures run { is_run event.new.kind ≡ true → event.new.length ≤ result }
+    ensures utf8 { event.new.kind ≡ 1 → IsUtf8 (take event.new.length bytes.now) }
+    ensures due { IsDueAs parser.new parser.old }
+    ensures tells { 0 < result → Tells parser.old parser.new event.new out.new limit bytes.now (take result bytes.now) }
+{
+    let run = run_ahead(parser, bytes, event);
+    if run > 0 {
+        return run;
+    }
+    let quick = note_quick(parser, bytes, event);
+    if quick > 0 {
+        return quick;
+    }
+    note_string(parser, limit, out, bytes, event)
+}
+
 /// Takes a prefix of the bytes, at least one, and notes what they give; a run lies at the first of them. After a failure nothing
 /// counts as taken.
 pub fn advance(
@@ -76,17 +111,9 @@ pub fn advance(
     ensures failed { event.new.kind ≡ 12 → parser.new.has_failed ≡ true }
     ensures goes_on { event.new.kind ≢ 12 → parser.new.has_failed ≡ parser.old.has_failed }
 {
-    let run = run_ahead(parser, bytes, event);
-    if run > 0 {
-        return run;
-    }
-    let quick = note_quick(parser, bytes, event);
-    if quick > 0 {
-        return quick;
-    }
-    let string = note_string(parser, memory.len(), out, bytes, event);
-    if string > 0 {
-        return string;
+    let first = ahead(parser, memory.len(), out, bytes, event);
+    if first > 0 {
+        return first;
     }
     let (taken, has_failed) = step(parser, memory, out, event, bytes);
     if has_failed || !is_sound(event, out.len()) || (event.kind == NONE && gives_due(parser)) {

@@ -58,9 +58,38 @@ fn put_integer(entries: &mut [EscEntry], count: usize, number: u64)
     put(entries, count, entry)
 }
 
-// The number that the digits write that come first, at least one, and how many they are.
+// The number that the digits write that come first, at least one, and how many they are. Most numbers have at most three.
 #[inline(always)]
 fn read_number(rest: &[u8]) -> (u64, usize)
+    requires some { 0 < length rest.now }
+    requires low { 0x30 ≤ slice_index rest.now 0 }
+    requires high { slice_index rest.now 0 ≤ 0x39 }
+    ensures count { (0 < result.1) × (result.1 ≤ length rest.now) }
+    ensures digits { list_all is_digit (take result.1 rest.now) ≡ true }
+    ensures value { result.0 ≡ held (value_behind 0 (take result.1 rest.now)) }
+    ensures small { result.0 ≤ 0x7fff_ffff_ffff_ffff }
+{
+    if rest.len() < 4 {
+        return read_any_number(rest);
+    }
+    let one = next_number(0, rest[0] - b'0');
+    if rest[1] < b'0' || rest[1] > b'9' {
+        return (one, 1);
+    }
+    let two = next_number(one, rest[1] - b'0');
+    if rest[2] < b'0' || rest[2] > b'9' {
+        return (two, 2);
+    }
+    let three = next_number(two, rest[2] - b'0');
+    if rest[3] < b'0' || rest[3] > b'9' {
+        return (three, 3);
+    }
+    read_any_number(rest)
+}
+
+// The same for any number of digits, out of the way of the code for few.
+#[inline(never)]
+fn read_any_number(rest: &[u8]) -> (u64, usize)
     requires some { 0 < length rest.now }
     requires low { 0x30 ≤ slice_index rest.now 0 }
     requires high { slice_index rest.now 0 ≤ 0x39 }

@@ -9,7 +9,7 @@ ghost use Rattle.esc_frame.specs.Machine.Moves.{after_all, news_all};
 ghost use Rattle.esc_lent.specs.States.{KeptIn, IsAt, lower, upper};
 ghost use Rattle.esc_lent.specs.Told.{told, due_of, is_run, placed, IsWithin};
 
-use crate::advance::advance;
+use crate::advance::{advance, ahead};
 use crate::event::{CHARACTER, CONTROL, EscEvent, FAILED, NONE, TEXT};
 use crate::parser::EscParser;
 
@@ -37,7 +37,42 @@ fn give_due(parser: &mut EscParser, event: &mut EscEvent) -> bool
 }
 
 // Takes bytes up to the first event, or all of them. After a failure nothing is said of how many were taken.
+#[inline(always)]
 fn take_next(
+    parser: &mut EscParser,
+    memory: &mut [u8],
+    out: &mut [u8],
+    bytes: &[u8],
+    event: &mut EscEvent,
+) -> usize
+    requires none { event.old.kind ≡ 0 }
+    requires due { due_of parser.old.due_kind parser.old.due_value ≡ [] }
+    requires within { (event.old.count ≤ 256) × (event.old.kept ≤ 2) × (event.old.length ≤ length out.old) }
+    ensures few { result ≤ length bytes.now }
+    ensures within { IsWithin event.new (length out.old) result }
+    ensures utf8 { event.new.kind ≡ 1 → IsUtf8 (placed event.new bytes.now) }
+    ensures some { event.new.kind ≢ 12 → 0 < length bytes.now → 0 < result }
+    ensures all { event.new.kind ≡ 0 → (result ≡ length bytes.now) × (due_of parser.new.due_kind parser.new.due_value ≡ []) }
+    ensures kept { (u : Unfinished) → KeptIn parser.old memory.old u → event.new.kind ≢ 12 → KeptIn parser.new memory.new (after_all u (take result bytes.now)) }
+    ensures told { (u : Unfinished) → KeptIn parser.old memory.old u → event.new.kind ≢ 12 → told event.new out.new bytes.now ++ due_of parser.new.due_kind parser.new.due_value ≡ news_all (Some (length memory.old)) u (take result bytes.now) }
+    ensures failed { event.new.kind ≡ 12 → parser.new.has_failed ≡ true }
+    ensures goes_on { event.new.kind ≢ 12 → parser.new.has_failed ≡ parser.old.has_failed }
+{
+    if bytes.is_empty() {
+        return 0;
+    }
+    let first = ahead(parser, memory.len(), out, bytes, event);
+    if first > 0 {
+        event.start = 0;
+        first
+    } else {
+        take_on(parser, memory, out, bytes, event)
+    }
+}
+
+// The same, out of the way of what needs no machine.
+#[inline(never)]
+fn take_on(
     parser: &mut EscParser,
     memory: &mut [u8],
     out: &mut [u8],

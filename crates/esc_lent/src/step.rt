@@ -142,7 +142,9 @@ fn let_go<'a, 'b, 'c, N: Named>(
     }
 }
 
-/// Takes a prefix of the bytes, at least one, and notes what they give. Returns how many bytes were taken, and whether that failed.
+/// Takes a prefix of the bytes, at least one, and notes what they give. Returns how many bytes were taken, and whether that failed. It is
+/// out of the way of what needs no machine.
+#[inline(never)]
 pub fn step(
     parser: &mut EscParser,
     memory: &mut [u8],

@@ -1,7 +1,7 @@
 use Rattle.std.proofs.Common.{◌-◌, ◌≤◌, ◌≡◌, true, length, take}
 use Rattle.std.specs.List.{list_all}
 use Rattle.esc_frame.specs.Bodies.{is_digit, held, value_behind}
-use Rattle.esc_lent.proofs.fields.read_number.Given as goal
+use Rattle.esc_lent.proofs.fields.read_any_number.Given as goal
 
 abbrev pub invariant-loop-end : goal.invariant-loop-end
 invariant-loop-end l =

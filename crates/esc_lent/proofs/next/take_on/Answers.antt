@@ -3,7 +3,7 @@ use Rattle.esc_frame.specs.Machine.Moves.{after_all, news_all}
 use Rattle.esc_lent.specs.States.{KeptIn}
 use Rattle.esc_lent.specs.Told.{due_of, is_run}
 use Rattle.esc_lent.proofs.Taken.{utf8_placed, after_both, news_both, told_placed, says_nothing}
-use Rattle.esc_lent.proofs.next.take_next.Goals as goal
+use Rattle.esc_lent.proofs.next.take_on.Goals as goal
 
 pub returns-then-event-ne-NONE-clause-kept : goal.returns-then-event-ne-NONE-clause-kept
 returns-then-event-ne-NONE-clause-kept c = λ u h ne.

@@ -1,6 +1,6 @@
 use Rattle.std.proofs.Common.{refl, ◌∙◌, arith}
 use Rattle.esc_frame.proofs.DigitRuns.{number_next, digits_first, digits_more}
-use Rattle.esc_lent.proofs.fields.read_number.Goals as goal
+use Rattle.esc_lent.proofs.fields.read_any_number.Goals as goal
 
 pub loop-end-init : goal.loop-end-init
 loop-end-init c =

@@ -3,7 +3,7 @@ use Rattle.esc_frame.specs.Leads.{Unfinished}
 use Rattle.esc_frame.specs.Machine.Moves.{after_all, news_all}
 use Rattle.esc_lent.specs.States.{KeptIn}
 use Rattle.esc_lent.specs.Told.{due_of}
-use Rattle.esc_lent.proofs.next.take_next.Given as goal
+use Rattle.esc_lent.proofs.next.take_on.Given as goal
 
 abbrev pub invariant-loop-at : goal.invariant-loop-at
 invariant-loop-at l = record {
