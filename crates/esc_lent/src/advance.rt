@@ -18,6 +18,7 @@ use crate::strings::note_string;
 use esc_frame::scans::data_run;
 
 // The run of characters, or of data, that comes first, where the parser is where one may come. It changes no state.
+#[inline(always)]
 fn run_ahead(parser: &EscParser, bytes: &[u8], event: &mut EscEvent) -> usize
     requires some { 0 < length bytes.now }
     requires none { event.old.kind ≡ 0 }
@@ -39,6 +40,7 @@ fn run_ahead(parser: &EscParser, bytes: &[u8], event: &mut EscEvent) -> usize
 }
 
 // Notes a run of this length, if there is one.
+#[inline(always)]
 fn note_run(event: &mut EscEvent, kind: u32, run: usize) -> usize
     ensures length { result ≡ run }
     ensures some { 0 < run → (event.new.kind ≡ kind) × (event.new.length ≡ run) }

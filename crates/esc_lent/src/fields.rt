@@ -12,12 +12,29 @@ use esc_below::csi_param::CsiParam;
 use esc_frame::entries::next_number;
 use esc_frame::sequence::lies_from;
 
-/// How far the bytes of a field go, how many entries there are then, and whether a separator ended it.
+// The number that some bytes write, how long it is, and the byte after it, or 0.
+#[derive(Clone, Copy)]
+struct Number {
+    value: u64,
+    length: usize,
+    after: u8,
+}
+
+// How far a field goes, how many entries there are then, whether a separator ended it, and else the byte after it, or 0.
 #[derive(Clone, Copy)]
 struct Field {
     length: usize,
     count: usize,
     goes_on: bool,
+    after: u8,
+}
+
+/// How far a body goes, how many entries it has, and the byte after it, or 0 where there is none or there are too many entries.
+#[derive(Clone, Copy)]
+pub struct Body {
+    pub length: usize,
+    pub count: usize,
+    pub after: u8,
 }
 
 // The entry after those that there are.
@@ -58,45 +75,59 @@ fn put_integer(entries: &mut [EscEntry], count: usize, number: u64)
     put(entries, count, entry)
 }
 
-// The number that the digits write that come first, at least one, and how many they are. Most numbers have at most three.
+// The number that the digits write that come first, at least one. Most numbers have at most three.
 #[inline(always)]
-fn read_number(rest: &[u8]) -> (u64, usize)
+fn read_number(rest: &[u8]) -> Number
     requires some { 0 < length rest.now }
     requires low { 0x30 ≤ slice_index rest.now 0 }
     requires high { slice_index rest.now 0 ≤ 0x39 }
-    ensures count { (0 < result.1) × (result.1 ≤ length rest.now) }
-    ensures digits { list_all is_digit (take result.1 rest.now) ≡ true }
-    ensures value { result.0 ≡ held (value_behind 0 (take result.1 rest.now)) }
-    ensures small { result.0 ≤ 0x7fff_ffff_ffff_ffff }
+    ensures count { (0 < result.length) × (result.length ≤ length rest.now) }
+    ensures digits { list_all is_digit (take result.length rest.now) ≡ true }
+    ensures value { result.value ≡ held (value_behind 0 (take result.length rest.now)) }
+    ensures small { result.value ≤ 0x7fff_ffff_ffff_ffff }
+    ensures after { 0 < result.after → (result.length < length rest.now) × (slice_index rest.now result.length ≡ result.after) }
 {
     if rest.len() < 4 {
         return read_any_number(rest);
     }
     let one = next_number(0, rest[0] - b'0');
     if rest[1] < b'0' || rest[1] > b'9' {
-        return (one, 1);
+        return Number {
+            value: one,
+            length: 1,
+            after: rest[1],
+        };
     }
     let two = next_number(one, rest[1] - b'0');
     if rest[2] < b'0' || rest[2] > b'9' {
-        return (two, 2);
+        return Number {
+            value: two,
+            length: 2,
+            after: rest[2],
+        };
     }
     let three = next_number(two, rest[2] - b'0');
     if rest[3] < b'0' || rest[3] > b'9' {
-        return (three, 3);
+        return Number {
+            value: three,
+            length: 3,
+            after: rest[3],
+        };
     }
     read_any_number(rest)
 }
 
 // The same for any number of digits, out of the way of the code for few.
 #[inline(never)]
-fn read_any_number(rest: &[u8]) -> (u64, usize)
+fn read_any_number(rest: &[u8]) -> Number
     requires some { 0 < length rest.now }
     requires low { 0x30 ≤ slice_index rest.now 0 }
     requires high { slice_index rest.now 0 ≤ 0x39 }
-    ensures count { (0 < result.1) × (result.1 ≤ length rest.now) }
-    ensures digits { list_all is_digit (take result.1 rest.now) ≡ true }
-    ensures value { result.0 ≡ held (value_behind 0 (take result.1 rest.now)) }
-    ensures small { result.0 ≤ 0x7fff_ffff_ffff_ffff }
+    ensures count { (0 < result.length) × (result.length ≤ length rest.now) }
+    ensures digits { list_all is_digit (take result.length rest.now) ≡ true }
+    ensures value { result.value ≡ held (value_behind 0 (take result.length rest.now)) }
+    ensures small { result.value ≤ 0x7fff_ffff_ffff_ffff }
+    ensures after { 0 < result.after → (result.length < length rest.now) × (slice_index rest.now result.length ≡ result.after) }
 {
     let mut number = next_number(0, rest[0] - b'0');
     let mut end = 1;
@@ -104,33 +135,50 @@ fn read_any_number(rest: &[u8]) -> (u64, usize)
         number = next_number(number, rest[end] - b'0');
         end += 1;
     }
-    (number, end)
+    if end < rest.len() {
+        Number {
+            value: number,
+            length: end,
+            after: rest[end],
+        }
+    } else {
+        Number {
+            value: number,
+            length: end,
+            after: 0,
+        }
+    }
 }
 
 // The digits that come first.
 #[inline(always)]
-fn put_number(entries: &mut [EscEntry], count: usize, rest: &[u8]) -> usize
+fn put_number(entries: &mut [EscEntry], count: usize, rest: &[u8]) -> Number
     requires room { count < length entries.old }
     requires some { 0 < length rest.now }
     requires low { 0x30 ≤ slice_index rest.now 0 }
     requires high { slice_index rest.now 0 ≤ 0x39 }
-    ensures count { (0 < result) × (result ≤ length rest.now) }
-    ensures keeps { (x : List ℕ) → IsFront (map param_of (take count entries.old)) x → IsBehind (map param_of (take (count + 1) entries.new)) (x ++ take result rest.now) }
+    ensures count { (0 < result.length) × (result.length ≤ length rest.now) }
+    ensures after { 0 < result.after → (result.length < length rest.now) × (slice_index rest.now result.length ≡ result.after) }
+    ensures keeps { (x : List ℕ) → IsFront (map param_of (take count entries.old)) x → IsBehind (map param_of (take (count + 1) entries.new)) (x ++ take result.length rest.now) }
 {
-    let (number, end) = read_number(rest);
-    put_integer(entries, count, number);
-    end
+    let number = read_number(rest);
+    put_integer(entries, count, number.value);
+    number
 }
 
 // A separator, 3A or 3B. False where this is none, and then nothing is taken.
 #[inline(always)]
 fn put_mark(entries: &mut [EscEntry], count: usize, b: u8) -> bool
     requires room { count < length entries.old }
+    ensures some { result ≡ true → 0 < b }
     ensures mark { result ≡ true → (x : List ℕ) → IsBehind (map param_of (take count entries.old)) x → IsFront (map param_of (take (count + 1) entries.new)) (x ++ b ∷ []) }
     ensures other { result ≡ false → entries.new ≡ entries.old }
 {
-    if lies_from(0x3a, 0x3b, b) {
-        put_byte(entries, count, b);
+    if b == b';' {
+        put_byte(entries, count, b';');
+        true
+    } else if b == b':' {
+        put_byte(entries, count, b':');
         true
     } else {
         false
@@ -164,27 +212,23 @@ fn put_field(entries: &mut [EscEntry], count: usize, rest: &[u8]) -> Field
     ensures entries { (result.count ≤ count + 2) }
     ensures goes_on { result.goes_on ≡ true → (0 < result.length) × ((x : List ℕ) → IsFront (map param_of (take count entries.old)) x → IsFront (map param_of (take result.count entries.new)) (x ++ take result.length rest.now)) }
     ensures ends { result.goes_on ≡ false → (x : List ℕ) → IsFront (map param_of (take count entries.old)) x → IsBehind (map param_of (take result.count entries.new)) (x ++ take result.length rest.now) }
+    ensures after { 0 < result.after → (result.length < length rest.now) × (slice_index rest.now result.length ≡ result.after) }
 {
     if b'0' <= rest[0] && rest[0] <= b'9' {
-        let n = put_number(entries, count, rest);
-        if n == rest.len() {
-            return Field {
-                length: n,
-                count: count + 1,
-                goes_on: false,
-            };
-        }
-        if put_mark(entries, count + 1, rest[n]) {
+        let number = put_number(entries, count, rest);
+        if put_mark(entries, count + 1, number.after) {
             Field {
-                length: n + 1,
+                length: number.length + 1,
                 count: count + 2,
                 goes_on: true,
+                after: 0,
             }
         } else {
             Field {
-                length: n,
+                length: number.length,
                 count: count + 1,
                 goes_on: false,
+                after: number.after,
             }
         }
     } else if put_mark(entries, count, rest[0]) {
@@ -192,24 +236,26 @@ fn put_field(entries: &mut [EscEntry], count: usize, rest: &[u8]) -> Field
             length: 1,
             count: count + 1,
             goes_on: true,
+            after: 0,
         }
     } else {
         Field {
             length: 0,
             count,
             goes_on: false,
+            after: rest[0],
         }
     }
 }
 
-/// Reads the body that comes first, as far as it has a marker, numbers and separators and there is room for its entries, and
-/// returns its length and how many entries it has.
+/// Reads the body that comes first, as far as it has a marker, numbers and separators and there is room for its entries.
 #[inline(always)]
-pub fn read_body(entries: &mut [EscEntry], rest: &[u8]) -> (usize, usize)
+pub fn read_body(entries: &mut [EscEntry], rest: &[u8]) -> Body
     requires { length entries.old ≡ 256 }
-    ensures few { result.0 ≤ length rest.now }
-    ensures count { result.1 ≤ 256 }
-    ensures keeps { IsShort (map param_of (take result.1 entries.new)) (take result.0 rest.now) }
+    ensures few { result.length ≤ length rest.now }
+    ensures count { result.count ≤ 256 }
+    ensures keeps { IsShort (map param_of (take result.count entries.new)) (take result.length rest.now) }
+    ensures after { 0 < result.after → (result.length < length rest.now) × (slice_index rest.now result.length ≡ result.after) }
 {
     let mut count = put_marker(entries, rest);
     let mut at = count;
@@ -218,8 +264,16 @@ pub fn read_body(entries: &mut [EscEntry], rest: &[u8]) -> (usize, usize)
         at += field.length;
         count = field.count;
         if !field.goes_on {
-            return (at, count);
+            return Body {
+                length: at,
+                count,
+                after: field.after,
+            };
         }
     }
-    (at, count)
+    Body {
+        length: at,
+        count,
+        after: 0,
+    }
 }

@@ -14,6 +14,7 @@ use crate::event::{CHARACTER, CONTROL, EscEvent, FAILED, NONE, TEXT};
 use crate::parser::EscParser;
 
 // Hands out the character or the control that is still to be handed out, if there is one.
+#[inline(always)]
 fn give_due(parser: &mut EscParser, event: &mut EscEvent) -> bool
     requires { event.old.kind ≡ 0 }
     ensures told { (out : List ℕ) (bytes : List ℕ) → told event.new out bytes ≡ due_of parser.old.due_kind parser.old.due_value }
@@ -25,6 +26,9 @@ fn give_due(parser: &mut EscParser, event: &mut EscEvent) -> bool
     ensures was { result ≡ true → due_of parser.old.due_kind parser.old.due_value ≢ [] }
     ensures none { result ≡ false → event.new.kind ≡ 0 }
 {
+    if parser.due_kind == NONE {
+        return false;
+    }
     let kind = parser.due_kind;
     parser.due_kind = NONE;
     if kind == CHARACTER || kind == CONTROL {

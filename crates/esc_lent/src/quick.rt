@@ -13,7 +13,7 @@ use esc_frame::sequence::lies_from;
 
 /// Notes the control, or the short control sequence, whole in the bytes, that comes first in ground; nothing where
 /// something else comes.
-#[inline]
+#[inline(always)]
 pub fn note_quick(parser: &EscParser, bytes: &[u8], event: &mut EscEvent) -> usize
     requires some { 0 < length bytes.now }
     requires none { event.old.kind ≡ 0 }
@@ -56,13 +56,10 @@ fn note_csi(bytes: &[u8], event: &mut EscEvent) -> usize
     if bytes[1] != b'[' {
         return 0;
     }
-    let (run, count) = read_body(&mut event.entries, &bytes[2..]);
-    if run == bytes.len() - 2 {
-        return 0;
-    }
-    if lies_from(0x40, 0x7e, bytes[run + 2]) {
-        end_csi(event, count, bytes[run + 2]);
-        run + 3
+    let body = read_body(&mut event.entries, &bytes[2..]);
+    if lies_from(0x40, 0x7e, body.after) {
+        end_csi(event, body.count, body.after);
+        body.length + 3
     } else {
         0
     }

@@ -7,7 +7,7 @@ ghost use Rattle.esc_lent.specs.Runs.{IsTextRun};
 use esc_frame::scans::{ascii_run, free_run};
 
 /// How many of the bytes, from the first, are a run of characters that is seen at once. It need not be the longest.
-#[inline]
+#[inline(always)]
 pub fn text_run(bytes: &[u8]) -> usize
     requires { 0 < length bytes.now }
     ensures few { result ≤ length bytes.now }
@@ -23,7 +23,7 @@ pub fn text_run(bytes: &[u8]) -> usize
 }
 
 // The bytes 20 to 7F that come first.
-#[inline]
+#[inline(always)]
 fn ascii_text(bytes: &[u8]) -> usize
     ensures few { result ≤ length bytes.now }
     ensures run { IsTextRun (take result bytes.now) }

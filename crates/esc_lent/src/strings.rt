@@ -38,7 +38,7 @@ fn escape(parser: &mut EscParser)
 
 // An operating system command that ends by BEL, or by an ESC, which begins the next sequence. A text for which there is no room is
 // left to the machine.
-#[inline(always)]
+#[inline(never)]
 fn note_osc(
     parser: &mut EscParser,
     limit: usize,

@@ -1,6 +1,18 @@
-use Rattle.std.proofs.Common.{◌∙◌, sym}
+use Rattle.std.proofs.Common.{◌++◌, ◌∷◌, [], take, map, ap, sym, ◌∙◌}
+use Rattle.esc_below.specs.declared.csi_param.CsiParam.TheVariants.{P}
+use Rattle.esc_frame.specs.Sequences.{is_from}
 use Rattle.esc_frame.proofs.Shorts.{mark_front}
+use Rattle.esc_lent.specs.Told.{param_of}
 use Rattle.esc_lent.proofs.fields.put_mark.Goals as goal
 
-pub returns-then-lies_from-clause-mark : goal.returns-then-lies_from-clause-mark
-returns-then-lies_from-clause-mark c = λ _ x k. mark_front _ _ x c.args.b (sym c.lies_from.ensures ∙ c.if-lies_from.true) c.put_byte.ensures k
+pub returns-then-b-eq59-clause-mark : goal.returns-then-b-eq59-clause-mark
+returns-then-b-eq59-clause-mark c = λ _ x k.
+    let e = c.if-b-eq59.true in
+    mark_front _ _ x c.args.b (ap (is_from 0x3a 0x3b) e)
+    (c.put_byte.ensures ∙ ap (λ y. map param_of (take c.args.count c.args.entries.now) ++ P y ∷ []) (sym e)) k
+
+pub returns-then-b-eq58-clause-mark : goal.returns-then-b-eq58-clause-mark
+returns-then-b-eq58-clause-mark c = λ _ x k.
+    let e = c.if-b-eq58.true in
+    mark_front _ _ x c.args.b (ap (is_from 0x3a 0x3b) e)
+    (c.put_byte-then-b-eq58.ensures ∙ ap (λ y. map param_of (take c.args.count c.args.entries.now) ++ P y ∷ []) (sym e)) k
