@@ -11,6 +11,7 @@ use Rattle.esc_frame.specs.Stream.{events_within}
 use Rattle.esc_frame.proofs.Streams.{after_append, news_append}
 use Rattle.esc_lent.specs.declared.event.EscEvent.{EscEvent}
 use Rattle.esc_lent.specs.declared.parser.EscParser.{EscParser}
+use Rattle.esc_lent.specs.Runs.{Tells}
 use Rattle.esc_lent.specs.States.{KeptIn, IsAt}
 use Rattle.esc_lent.specs.Told.{told, placed, told_by, due_of}
 
@@ -71,3 +72,13 @@ at_due s bytes es old new memory said failed told due kept h =
       kept _ h.1,
       h.2 ∙ ap (λ y. es ++ y) (sym told) ∙ sym (append-nil (es ++ said)) ∙ ap (λ y. (es ++ said) ++ y) (sym due),
     )
+
+-- an event of the first bytes, of a parser that stays as it is
+pub at_first : (s bytes : List ℕ) (n : ℕ) (es : List Event) (p : EscParser) (memory : List ℕ) (e : EscEvent) (out : List ℕ) → e.start ≡ 0
+    → due_of p.due_kind p.due_value ≡ [] → Tells p p e out (length memory) bytes (take n bytes) → IsAt s es p memory
+    → IsAt (s ++ take n bytes) (es ++ told e out bytes) p memory
+at_first s bytes n es p memory e out start due tells h =
+    at_more s bytes n es p p memory memory (told e out bytes) refl refl due (λ u k. (tells u memory refl k).0)
+    (λ u k.
+    ap (λ y. told e out bytes ++ y) due ∙ append-nil (told e out bytes) ∙ ap (λ i. told_by e out (take e.length (drop i bytes))) start
+    ∙ (tells u memory refl k).1) h

@@ -25,7 +25,7 @@ fn run_ahead(parser: &EscParser, bytes: &[u8], event: &mut EscEvent) -> usize
     ensures few { result ≤ length bytes.now }
     ensures none { result ≡ 0 → event.new ≡ event.old }
     ensures some { 0 < result → (event.new.kind ≢ 0) × (event.new.kind ≢ 12) × (is_run event.new.kind ≡ true) }
-    ensures within { (event.new.count ≡ event.old.count) × (event.new.kept ≡ event.old.kept) × (0 < result → event.new.length ≡ result) }
+    ensures within { (event.new.count ≡ event.old.count) × (event.new.kept ≡ event.old.kept) × (event.new.start ≡ event.old.start) × (0 < result → event.new.length ≡ result) }
     ensures utf8 { event.new.kind ≡ 1 → IsUtf8 (take event.new.length bytes.now) }
     ensures kept { 0 < result → (u : Unfinished) (memory : List ℕ) → KeptIn parser.now memory u → KeptIn parser.now memory (after_all u (take result bytes.now)) }
     ensures told { 0 < result → (u : Unfinished) (memory out : List ℕ) → KeptIn parser.now memory u → told_by event.new out (take event.new.length bytes.now) ≡ news_all (Some (length memory)) u (take result bytes.now) }
@@ -45,13 +45,36 @@ fn note_run(event: &mut EscEvent, kind: u32, run: usize) -> usize
     ensures length { result ≡ run }
     ensures some { 0 < run → (event.new.kind ≡ kind) × (event.new.length ≡ run) }
     ensures none { run ≡ 0 → event.new ≡ event.old }
-    ensures within { (event.new.count ≡ event.old.count) × (event.new.kept ≡ event.old.kept) }
+    ensures within { (event.new.count ≡ event.old.count) × (event.new.kept ≡ event.old.kept) × (event.new.start ≡ event.old.start) }
 {
     if run > 0 {
         event.kind = kind;
         event.length = run;
     }
     run
+}
+
+/// Notes the run, the control or the short control sequence that comes first, where one may come; nothing where something else comes.
+/// Numbers of more than three digits are read only where `any` says so.
+#[inline(always)]
+pub fn note_first(parser: &EscParser, bytes: &[u8], event: &mut EscEvent, any: bool) -> usize
+    requires some { 0 < length bytes.now }
+    requires none { event.old.kind ≡ 0 }
+    requires within { (event.old.count ≤ 256) × (event.old.kept ≤ 2) }
+    ensures few { result ≤ length bytes.now }
+    ensures none { result ≡ 0 → event.new ≡ record event.old { entries = event.new.entries } }
+    ensures some { 0 < result → (event.new.kind ≢ 0) × (event.new.kind ≢ 12) }
+    ensures within { (event.new.count ≤ 256) × (event.new.kept ≤ 2) × (event.new.start ≡ event.old.start) }
+    ensures text { is_run event.new.kind ≡ false → event.new.length ≡ event.old.length }
+    ensures run { is_run event.new.kind ≡ true → event.new.length ≤ result }
+    ensures utf8 { event.new.kind ≡ 1 → IsUtf8 (take event.new.length bytes.now) }
+    ensures tells { 0 < result → (out : List ℕ) (limit : ℕ) → Tells parser.now parser.now event.new out limit bytes.now (take result bytes.now) }
+{
+    let run = run_ahead(parser, bytes, event);
+    if run > 0 {
+        return run;
+    }
+    note_quick(parser, bytes, event, any)
 }
 
 /// Notes what comes first, where that needs no machine: a run, a control, or a sequence or a command that lies whole in the bytes.
@@ -77,13 +100,9 @@ pub fn ahead(
     ensures due { IsDueAs parser.new parser.old }
     ensures tells { 0 < result → Tells parser.old parser.new event.new out.new limit bytes.now (take result bytes.now) }
 {
-    let run = run_ahead(parser, bytes, event);
-    if run > 0 {
-        return run;
-    }
-    let quick = note_quick(parser, bytes, event);
-    if quick > 0 {
-        return quick;
+    let first = note_first(parser, bytes, event, true);
+    if first > 0 {
+        return first;
     }
     note_string(parser, limit, out, bytes, event)
 }

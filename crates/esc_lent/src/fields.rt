@@ -75,9 +75,10 @@ fn put_integer(entries: &mut [EscEntry], count: usize, number: u64)
     put(entries, count, entry)
 }
 
-// The number that the digits write that come first, at least one. Most numbers have at most three.
+// The number that the digits write that come first, at least one. Most numbers have at most three; others are read only as a whole
+// body is read that is to be of any length.
 #[inline(always)]
-fn read_number(rest: &[u8]) -> Number
+fn read_number(rest: &[u8], any: bool) -> Number
     requires some { 0 < length rest.now }
     requires low { 0x30 ≤ slice_index rest.now 0 }
     requires high { slice_index rest.now 0 ≤ 0x39 }
@@ -87,10 +88,18 @@ fn read_number(rest: &[u8]) -> Number
     ensures small { result.value ≤ 0x7fff_ffff_ffff_ffff }
     ensures after { 0 < result.after → (result.length < length rest.now) × (slice_index rest.now result.length ≡ result.after) }
 {
-    if rest.len() < 4 {
-        return read_any_number(rest);
-    }
     let one = next_number(0, rest[0] - b'0');
+    if rest.len() < 4 {
+        return if any {
+            read_any_number(rest)
+        } else {
+            Number {
+                value: one,
+                length: 1,
+                after: 0,
+            }
+        };
+    }
     if rest[1] < b'0' || rest[1] > b'9' {
         return Number {
             value: one,
@@ -114,7 +123,15 @@ fn read_number(rest: &[u8]) -> Number
             after: rest[3],
         };
     }
-    read_any_number(rest)
+    if any {
+        read_any_number(rest)
+    } else {
+        Number {
+            value: one,
+            length: 1,
+            after: 0,
+        }
+    }
 }
 
 // The same for any number of digits, out of the way of the code for few.
@@ -152,7 +169,7 @@ fn read_any_number(rest: &[u8]) -> Number
 
 // The digits that come first.
 #[inline(always)]
-fn put_number(entries: &mut [EscEntry], count: usize, rest: &[u8]) -> Number
+fn put_number(entries: &mut [EscEntry], count: usize, rest: &[u8], any: bool) -> Number
     requires room { count < length entries.old }
     requires some { 0 < length rest.now }
     requires low { 0x30 ≤ slice_index rest.now 0 }
@@ -161,7 +178,7 @@ fn put_number(entries: &mut [EscEntry], count: usize, rest: &[u8]) -> Number
     ensures after { 0 < result.after → (result.length < length rest.now) × (slice_index rest.now result.length ≡ result.after) }
     ensures keeps { (x : List ℕ) → IsFront (map param_of (take count entries.old)) x → IsBehind (map param_of (take (count + 1) entries.new)) (x ++ take result.length rest.now) }
 {
-    let number = read_number(rest);
+    let number = read_number(rest, any);
     put_integer(entries, count, number.value);
     number
 }
@@ -205,7 +222,7 @@ fn put_marker(entries: &mut [EscEntry], rest: &[u8]) -> usize
 
 // The digits that come first, if any, and a separator after them.
 #[inline(always)]
-fn put_field(entries: &mut [EscEntry], count: usize, rest: &[u8]) -> Field
+fn put_field(entries: &mut [EscEntry], count: usize, rest: &[u8], any: bool) -> Field
     requires room { count + 1 < length entries.old }
     requires some { 0 < length rest.now }
     ensures few { result.length ≤ length rest.now }
@@ -215,7 +232,7 @@ fn put_field(entries: &mut [EscEntry], count: usize, rest: &[u8]) -> Field
     ensures after { 0 < result.after → (result.length < length rest.now) × (slice_index rest.now result.length ≡ result.after) }
 {
     if b'0' <= rest[0] && rest[0] <= b'9' {
-        let number = put_number(entries, count, rest);
+        let number = put_number(entries, count, rest, any);
         if put_mark(entries, count + 1, number.after) {
             Field {
                 length: number.length + 1,
@@ -248,9 +265,10 @@ fn put_field(entries: &mut [EscEntry], count: usize, rest: &[u8]) -> Field
     }
 }
 
-/// Reads the body that comes first, as far as it has a marker, numbers and separators and there is room for its entries.
+/// Reads the body that comes first, as far as it has a marker, numbers and separators and there is room for its entries; numbers of
+/// more than three digits only where `any` says so.
 #[inline(always)]
-pub fn read_body(entries: &mut [EscEntry], rest: &[u8]) -> Body
+pub fn read_body(entries: &mut [EscEntry], rest: &[u8], any: bool) -> Body
     requires { length entries.old ≡ 256 }
     ensures few { result.length ≤ length rest.now }
     ensures count { result.count ≤ 256 }
@@ -260,7 +278,7 @@ pub fn read_body(entries: &mut [EscEntry], rest: &[u8]) -> Body
     let mut count = put_marker(entries, rest);
     let mut at = count;
     while at < rest.len() && count < 255 {
-        let field = put_field(entries, count, &rest[at..]);
+        let field = put_field(entries, count, &rest[at..], any);
         at += field.length;
         count = field.count;
         if !field.goes_on {

@@ -1,7 +1,7 @@
 //! A parser that takes a stream in pieces, in its caller's memory.
 #![tactic(auto)]
 
-ghost use Rattle.std.specs.Prelude.{◌≡◌, ◌≢◌, ◌≤◌, ◌<◌, ◌++◌, ℕ, List, [], length, take, true, false, Some, Option};
+ghost use Rattle.std.specs.Prelude.{◌≡◌, ◌≢◌, ◌≤◌, ◌<◌, ◌++◌, ℕ, List, [], length, take, true, false, Some, Option, IsTrue};
 ghost use Rattle.std.specs.Str.{IsUtf8};
 ghost use Rattle.esc_frame.specs.Events.{Event};
 ghost use Rattle.esc_frame.specs.Leads.{Unfinished};
@@ -9,7 +9,7 @@ ghost use Rattle.esc_frame.specs.Machine.Moves.{after_all, news_all};
 ghost use Rattle.esc_lent.specs.States.{KeptIn, IsAt, lower, upper};
 ghost use Rattle.esc_lent.specs.Told.{told, due_of, is_run, placed, IsWithin};
 
-use crate::advance::{advance, ahead};
+use crate::advance::{advance, ahead, note_first};
 use crate::event::{CHARACTER, CONTROL, EscEvent, FAILED, NONE, TEXT};
 use crate::parser::EscParser;
 
@@ -139,6 +139,44 @@ fn next_in(
 /// Takes bytes of a stream up to the next event, notes the event, and returns how many bytes were taken: all of them, where there
 /// is no event.
 pub fn next(parser: &mut EscParser, buffer: &mut [u8], bytes: &[u8], event: &mut EscEvent) -> usize
+    ensures few { result ≤ length bytes.now }
+    ensures within { IsWithin event.new (length (upper buffer.old)) result }
+    ensures utf8 { event.new.kind ≡ TEXT → IsUtf8 (placed event.new bytes.now) }
+    ensures given { (s : List ℕ) (es : List Event) → IsAt s es parser.old (lower buffer.old) → event.new.kind ≢ FAILED → IsAt (s ++ take result bytes.now) (es ++ told event.new (upper buffer.new) bytes.now) parser.new (lower buffer.new) }
+    ensures all { event.new.kind ≡ NONE → (result ≡ length bytes.now) × (due_of parser.new.due_kind parser.new.due_value ≡ []) }
+    ensures moves { result ≡ 0 → 0 < length bytes.now → event.new.kind ≢ FAILED → (due_of parser.old.due_kind parser.old.due_value ≢ []) × (due_of parser.new.due_kind parser.new.due_value ≡ []) }
+    ensures failed { event.new.kind ≡ FAILED → parser.new.has_failed ≡ true }
+    ensures again { parser.old.has_failed ≡ true → event.new.kind ≡ FAILED }
+{
+    event.clear();
+    if is_plain(parser) && bytes.len() >= AHEAD && bytes[0] < 0x80 {
+        let first = note_first(parser, bytes, event, false);
+        if first > 0 {
+            return first;
+        }
+    }
+    next_of_any(parser, buffer, bytes, event)
+}
+
+// Whether the parser stands between sequences, and nothing is still to be handed out.
+#[inline(always)]
+fn is_plain(parser: &EscParser) -> bool
+    ensures { IsTrue result → (parser.now.has_failed ≡ false) × (parser.now.due_kind ≡ 0) × (parser.now.state ≡ 0) × (parser.now.pending ≡ 0) }
+{
+    !parser.has_failed && parser.due_kind == NONE && parser.state == 0 && parser.pending == 0
+}
+
+// So many bytes are looked at with no thought of their end.
+const AHEAD: usize = 16;
+
+// The same of anything, out of the way of what most calls give.
+#[inline(never)]
+fn next_of_any(
+    parser: &mut EscParser,
+    buffer: &mut [u8],
+    bytes: &[u8],
+    event: &mut EscEvent,
+) -> usize
     ensures few { result ≤ length bytes.now }
     ensures within { IsWithin event.new (length (upper buffer.old)) result }
     ensures utf8 { event.new.kind ≡ TEXT → IsUtf8 (placed event.new bytes.now) }
