@@ -54,10 +54,9 @@ fn note_run(event: &mut EscEvent, kind: u32, run: usize) -> usize
     run
 }
 
-/// Notes the run, the control or the short control sequence that comes first, where one may come; nothing where something else comes.
-/// Numbers of more than three digits are read only where `any` says so.
+// Notes the run, the control or the short control sequence that comes first, where one may come; nothing where something else comes.
 #[inline(always)]
-pub fn note_first(parser: &EscParser, bytes: &[u8], event: &mut EscEvent, any: bool) -> usize
+fn note_first(parser: &EscParser, bytes: &[u8], event: &mut EscEvent) -> usize
     requires some { 0 < length bytes.now }
     requires none { event.old.kind ≡ 0 }
     requires within { (event.old.count ≤ 256) × (event.old.kept ≤ 2) }
@@ -74,7 +73,7 @@ pub fn note_first(parser: &EscParser, bytes: &[u8], event: &mut EscEvent, any: b
     if run > 0 {
         return run;
     }
-    note_quick(parser, bytes, event, any)
+    note_quick(parser, bytes, event)
 }
 
 /// Notes what comes first, where that needs no machine: a run, a control, or a sequence or a command that lies whole in the bytes.
@@ -100,7 +99,7 @@ pub fn ahead(
     ensures due { IsDueAs parser.new parser.old }
     ensures tells { 0 < result → Tells parser.old parser.new event.new out.new limit bytes.now (take result bytes.now) }
 {
-    let first = note_first(parser, bytes, event, true);
+    let first = note_first(parser, bytes, event);
     if first > 0 {
         return first;
     }

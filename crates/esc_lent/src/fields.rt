@@ -75,8 +75,8 @@ fn put_integer(entries: &mut [EscEntry], count: usize, number: u64)
     put(entries, count, entry)
 }
 
-// The number that the digits write that come first, at least one. Most numbers have at most three; others are read only as a whole
-// body is read that is to be of any length.
+// The number that the digits write that come first, at least one. Most numbers have at most three; of
+// others only the first digit is read, but where `any` says so.
 #[inline(always)]
 fn read_number(rest: &[u8], any: bool) -> Number
     requires some { 0 < length rest.now }
@@ -183,9 +183,9 @@ fn put_number(entries: &mut [EscEntry], count: usize, rest: &[u8], any: bool) ->
     number
 }
 
-// A separator, 3A or 3B. False where this is none, and then nothing is taken.
+// A separator, 3B or, where `any` says so, 3A. False where this is none, and then nothing is taken.
 #[inline(always)]
-fn put_mark(entries: &mut [EscEntry], count: usize, b: u8) -> bool
+fn put_mark(entries: &mut [EscEntry], count: usize, b: u8, any: bool) -> bool
     requires room { count < length entries.old }
     ensures some { result ≡ true → 0 < b }
     ensures mark { result ≡ true → (x : List ℕ) → IsBehind (map param_of (take count entries.old)) x → IsFront (map param_of (take (count + 1) entries.new)) (x ++ b ∷ []) }
@@ -194,6 +194,8 @@ fn put_mark(entries: &mut [EscEntry], count: usize, b: u8) -> bool
     if b == b';' {
         put_byte(entries, count, b';');
         true
+    } else if !any {
+        false
     } else if b == b':' {
         put_byte(entries, count, b':');
         true
@@ -233,7 +235,7 @@ fn put_field(entries: &mut [EscEntry], count: usize, rest: &[u8], any: bool) -> 
 {
     if b'0' <= rest[0] && rest[0] <= b'9' {
         let number = put_number(entries, count, rest, any);
-        if put_mark(entries, count + 1, number.after) {
+        if put_mark(entries, count + 1, number.after, any) {
             Field {
                 length: number.length + 1,
                 count: count + 2,
@@ -248,7 +250,7 @@ fn put_field(entries: &mut [EscEntry], count: usize, rest: &[u8], any: bool) -> 
                 after: number.after,
             }
         }
-    } else if put_mark(entries, count, rest[0]) {
+    } else if put_mark(entries, count, rest[0], any) {
         Field {
             length: 1,
             count: count + 1,
@@ -265,8 +267,16 @@ fn put_field(entries: &mut [EscEntry], count: usize, rest: &[u8], any: bool) -> 
     }
 }
 
-/// Reads the body that comes first, as far as it has a marker, numbers and separators and there is room for its entries; numbers of
-/// more than three digits only where `any` says so.
+// How many bytes are to be left where a field is read.
+#[inline(always)]
+fn least(any: bool) -> usize
+    ensures { 0 < result }
+{
+    if any { 1 } else { 4 }
+}
+
+/// Reads the body that comes first, as far as it has a marker, numbers and separators and there is room for its entries. What is seldom,
+/// which is the separator 3A, numbers of more than three digits and the last bytes of all, it reads only where `any` says so.
 #[inline(always)]
 pub fn read_body(entries: &mut [EscEntry], rest: &[u8], any: bool) -> Body
     requires { length entries.old ≡ 256 }
@@ -277,7 +287,7 @@ pub fn read_body(entries: &mut [EscEntry], rest: &[u8], any: bool) -> Body
 {
     let mut count = put_marker(entries, rest);
     let mut at = count;
-    while at < rest.len() && count < 255 {
+    while rest.len() - at >= least(any) && count < 255 {
         let field = put_field(entries, count, &rest[at..], any);
         at += field.length;
         count = field.count;

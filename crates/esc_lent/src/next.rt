@@ -1,7 +1,7 @@
 //! A parser that takes a stream in pieces, in its caller's memory.
 #![tactic(auto)]
 
-ghost use Rattle.std.specs.Prelude.{◌≡◌, ◌≢◌, ◌≤◌, ◌<◌, ◌++◌, ℕ, List, [], length, take, true, false, Some, Option, IsTrue};
+ghost use Rattle.std.specs.Prelude.{◌≡◌, ◌≢◌, ◌≤◌, ◌<◌, ◌++◌, ℕ, List, [], length, take, true, false, Some, Option, IsTrue, slice_index};
 ghost use Rattle.std.specs.Str.{IsUtf8};
 ghost use Rattle.esc_frame.specs.Events.{Event};
 ghost use Rattle.esc_frame.specs.Leads.{Unfinished};
@@ -9,9 +9,10 @@ ghost use Rattle.esc_frame.specs.Machine.Moves.{after_all, news_all};
 ghost use Rattle.esc_lent.specs.States.{KeptIn, IsAt, lower, upper};
 ghost use Rattle.esc_lent.specs.Told.{told, due_of, is_run, placed, IsWithin};
 
-use crate::advance::{advance, ahead, note_first};
+use crate::advance::{advance, ahead};
 use crate::event::{CHARACTER, CONTROL, EscEvent, FAILED, NONE, TEXT};
 use crate::parser::EscParser;
+use crate::quick::{note_csi, note_plain};
 
 // Hands out the character or the control that is still to be handed out, if there is one.
 #[inline(always)]
@@ -148,11 +149,13 @@ pub fn next(parser: &mut EscParser, buffer: &mut [u8], bytes: &[u8], event: &mut
     ensures failed { event.new.kind ≡ FAILED → parser.new.has_failed ≡ true }
     ensures again { parser.old.has_failed ≡ true → event.new.kind ≡ FAILED }
 {
-    event.clear();
-    if is_plain(parser) && bytes.len() >= AHEAD && bytes[0] < 0x80 {
-        let first = note_first(parser, bytes, event, false);
-        if first > 0 {
-            return first;
+    if is_plain(parser) && bytes.len() >= AHEAD {
+        if bytes[0] == 0x1b {
+            return next_of_sequence(parser, buffer, bytes, event);
+        }
+        let taken = note_plain(bytes, event);
+        if taken > 0 {
+            return taken;
         }
     }
     next_of_any(parser, buffer, bytes, event)
@@ -168,6 +171,44 @@ fn is_plain(parser: &EscParser) -> bool
 
 // So many bytes are looked at with no thought of their end.
 const AHEAD: usize = 16;
+
+// The same after an ESC between sequences.
+#[inline(never)]
+fn next_of_sequence(
+    parser: &mut EscParser,
+    buffer: &mut [u8],
+    bytes: &[u8],
+    event: &mut EscEvent,
+) -> usize
+    requires plain { (parser.old.has_failed ≡ false) × (parser.old.due_kind ≡ 0) × (parser.old.state ≡ 0) × (parser.old.pending ≡ 0) }
+    requires escape { (0 < length bytes.now) × (slice_index bytes.now 0 ≡ 0x1b) }
+    ensures few { result ≤ length bytes.now }
+    ensures within { IsWithin event.new (length (upper buffer.old)) result }
+    ensures utf8 { event.new.kind ≡ TEXT → IsUtf8 (placed event.new bytes.now) }
+    ensures given { (s : List ℕ) (es : List Event) → IsAt s es parser.old (lower buffer.old) → event.new.kind ≢ FAILED → IsAt (s ++ take result bytes.now) (es ++ told event.new (upper buffer.new) bytes.now) parser.new (lower buffer.new) }
+    ensures all { event.new.kind ≡ NONE → (result ≡ length bytes.now) × (due_of parser.new.due_kind parser.new.due_value ≡ []) }
+    ensures moves { result ≡ 0 → 0 < length bytes.now → event.new.kind ≢ FAILED → (due_of parser.old.due_kind parser.old.due_value ≢ []) × (due_of parser.new.due_kind parser.new.due_value ≡ []) }
+    ensures failed { event.new.kind ≡ FAILED → parser.new.has_failed ≡ true }
+    ensures again { parser.old.has_failed ≡ true → event.new.kind ≡ FAILED }
+{
+    settle(event);
+    let taken = note_csi(bytes, event, false);
+    if taken > 0 {
+        taken
+    } else {
+        next_of_any(parser, buffer, bytes, event)
+    }
+}
+
+// It has no text and no intermediates.
+#[inline(always)]
+fn settle(event: &mut EscEvent)
+    ensures { (event.new.start ≡ 0) × (event.new.length ≡ 0) × (event.new.kept ≡ 0) }
+{
+    event.start = 0;
+    event.length = 0;
+    event.kept = 0;
+}
 
 // The same of anything, out of the way of what most calls give.
 #[inline(never)]

@@ -3,18 +3,20 @@
 
 ghost use Rattle.std.specs.Prelude.{◌≡◌, ◌≢◌, ◌≤◌, ◌<◌, ◌∷◌, [], ℕ, List, false, length, map, take, slice_index};
 ghost use Rattle.esc_frame.specs.Events.Event.{CsiDispatch};
-ghost use Rattle.esc_lent.specs.Runs.{TellsEvent};
+ghost use Rattle.esc_lent.specs.declared.parser.EscParser.{EscParser as Parser};
+ghost use Rattle.esc_lent.specs.Runs.{IsTextRun, Tells, TellsEvent};
 ghost use Rattle.esc_lent.specs.Told.{is_run, param_of, sent};
 
-use crate::event::{CONTROL, CSI, EscEvent};
+use crate::event::{CONTROL, CSI, EscEvent, TEXT};
 use crate::fields::read_body;
 use crate::parser::EscParser;
+use crate::runs::ascii_text;
 use esc_frame::sequence::lies_from;
 
 /// Notes the control, or the short control sequence, whole in the bytes, that comes first in ground; nothing where
-/// something else comes. Numbers of more than three digits are read only where `any` says so.
+/// something else comes.
 #[inline(always)]
-pub fn note_quick(parser: &EscParser, bytes: &[u8], event: &mut EscEvent, any: bool) -> usize
+pub fn note_quick(parser: &EscParser, bytes: &[u8], event: &mut EscEvent) -> usize
     requires some { 0 < length bytes.now }
     requires none { event.old.kind ≡ 0 }
     requires count { event.old.count ≤ 256 }
@@ -31,7 +33,7 @@ pub fn note_quick(parser: &EscParser, bytes: &[u8], event: &mut EscEvent, any: b
     if bytes[0] >= 0x20 {
         0
     } else if bytes[0] == 0x1b {
-        note_csi(bytes, event, any)
+        note_csi(bytes, event, true)
     } else {
         event.kind = CONTROL;
         event.byte = bytes[0] as u32;
@@ -39,15 +41,53 @@ pub fn note_quick(parser: &EscParser, bytes: &[u8], event: &mut EscEvent, any: b
     }
 }
 
-// A control sequence of few entries. They are written where the event keeps them, also where it turns out to be none.
+/// Notes the run of bytes 20 to 7F, or the control, that comes first in ground; nothing where something else comes.
 #[inline(always)]
-fn note_csi(bytes: &[u8], event: &mut EscEvent, any: bool) -> usize
+pub fn note_plain(bytes: &[u8], event: &mut EscEvent) -> usize
+    requires some { 0 < length bytes.now }
+    requires other { slice_index bytes.now 0 ≢ 0x1b }
+    ensures few { result ≤ length bytes.now }
+    ensures none { result ≡ 0 → event.new ≡ event.old }
+    ensures some { 0 < result → (event.new.kind ≢ 0) × (event.new.kind ≢ 12) × (event.new.count ≡ 0) × (event.new.kept ≡ 0) × (event.new.start ≡ 0) }
+    ensures text { 0 < result → event.new.kind ≡ 1 → (event.new.length ≡ result) × IsTextRun (take result bytes.now) }
+    ensures control { 0 < result → event.new.kind ≢ 1 → (is_run event.new.kind ≡ false) × (event.new.length ≡ 0) }
+    ensures tells { 0 < result → (p : Parser) (out : List ℕ) (limit : ℕ) → p.state ≡ 0 → p.pending ≡ 0 → Tells p p event.new out limit bytes.now (take result bytes.now) }
+{
+    if bytes[0] < 0x20 {
+        put_plain(event, CONTROL, 0, bytes[0]);
+        return 1;
+    }
+    let run = ascii_text(bytes);
+    if run > 0 {
+        put_plain(event, TEXT, run, 0);
+    }
+    run
+}
+
+// An event without entries and intermediates.
+#[inline(always)]
+fn put_plain(event: &mut EscEvent, kind: u32, run: usize, byte: u8)
+    ensures kind { (event.new.kind ≡ kind) × (event.new.byte ≡ byte) }
+    ensures length { event.new.length ≡ run }
+    ensures none { (event.new.count ≡ 0) × (event.new.kept ≡ 0) × (event.new.start ≡ 0) }
+{
+    event.kind = kind;
+    event.byte = byte as u32;
+    event.start = 0;
+    event.length = run;
+    event.kept = 0;
+    event.count = 0;
+}
+
+/// A control sequence of few entries: of a common form, or of any. They are written where the event keeps them, also where it turns out
+/// to be none.
+#[inline(always)]
+pub fn note_csi(bytes: &[u8], event: &mut EscEvent, any: bool) -> usize
     requires escape { slice_index bytes.now 0 ≡ 0x1b }
-    requires count { event.old.count ≤ 256 }
     ensures few { result ≤ length bytes.now }
     ensures none { result ≡ 0 → event.new ≡ record event.old { entries = event.new.entries } }
     ensures some { 0 < result → event.new.kind ≡ 5 }
-    ensures within { (event.new.count ≤ 256) × (event.new.kept ≡ event.old.kept) × (event.new.length ≡ event.old.length) × (event.new.start ≡ event.old.start) }
+    ensures within { (0 < result → event.new.count ≤ 256) × (event.new.kept ≡ event.old.kept) × (event.new.length ≡ event.old.length) × (event.new.start ≡ event.old.start) }
     ensures tells { 0 < result → TellsEvent event.new (take result bytes.now) }
 {
     if bytes.len() <= 2 {

@@ -22,9 +22,9 @@ pub fn text_run(bytes: &[u8]) -> usize
     }
 }
 
-// The bytes 20 to 7F that come first.
+/// The bytes 20 to 7F that come first.
 #[inline(always)]
-fn ascii_text(bytes: &[u8]) -> usize
+pub fn ascii_text(bytes: &[u8]) -> usize
     ensures few { result ≤ length bytes.now }
     ensures run { IsTextRun (take result bytes.now) }
 {
