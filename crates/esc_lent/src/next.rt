@@ -166,7 +166,7 @@ pub fn next(parser: &mut EscParser, buffer: &mut [u8], bytes: &[u8], event: &mut
 fn is_plain(parser: &EscParser) -> bool
     ensures { IsTrue result → (parser.now.has_failed ≡ false) × (parser.now.due_kind ≡ 0) × (parser.now.state ≡ 0) × (parser.now.pending ≡ 0) }
 {
-    !parser.has_failed && parser.due_kind == NONE && parser.state == 0 && parser.pending == 0
+    !parser.has_failed & (parser.due_kind == NONE) & (parser.state == 0) & (parser.pending == 0)
 }
 
 // So many bytes are looked at with no thought of their end.
