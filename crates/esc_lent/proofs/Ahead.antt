@@ -1,10 +1,8 @@
 -- Controls and short control sequences in ground.
-use Rattle.std.proofs.Common.{ℕ, ◌≡◌, ◌+◌, ◌<◌, ◌≢◌, true, false, List, [], ◌∷◌, ◌++◌, take, drop, length, get_or, refl, ap, sym, ◌∙◌, subst, Some, None}
-use Rattle.std.proofs.lemmas.List.{append-nil}
+use Rattle.std.proofs.Common.{ℕ, ◌≡◌, ◌+◌, ◌<◌, ◌≢◌, true, false, List, [], ◌∷◌, take, drop, length, get_or, refl, ap, sym, ◌∙◌, subst, Some, None}
 use Rattle.esc_below.specs.declared.csi_param.CsiParam.{CsiParam}
 use Rattle.esc_frame.specs.Events.{Event}
 use Rattle.esc_frame.specs.Events.Event.{CsiDispatch, Execute}
-use Rattle.esc_frame.specs.Leads.{Unfinished}
 use Rattle.esc_frame.specs.Leads.Unfinished.{Ground}
 use Rattle.esc_frame.specs.Machine.Moves.{after_all, news_all}
 use Rattle.esc_frame.specs.Machine.Shorts.{IsShort}
@@ -15,7 +13,7 @@ use Rattle.esc_lent.specs.declared.event.EscEvent.{EscEvent}
 use Rattle.esc_lent.specs.declared.parser.EscParser.{EscParser}
 use Rattle.esc_lent.specs.Runs.{IsTextRun, Tells, TellsEvent}
 use Rattle.esc_lent.specs.States.{KeptIn}
-use Rattle.esc_lent.specs.Told.{sent, told_by, is_run}
+use Rattle.esc_lent.specs.Told.{sent, is_run}
 use Rattle.esc_lent.proofs.Folds.{Adds, all_said}
 use Rattle.esc_lent.proofs.Kept.{ground_only, text_keeps, text_tells}
 

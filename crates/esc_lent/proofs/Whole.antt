@@ -1,23 +1,21 @@
--- Commands that lie whole in some bytes, and the final byte of an escape sequence.
-use Rattle.std.proofs.Common.{ℕ, ◌≡◌, ◌+◌, ◌<◌, ◌≤◌, true, false, List, [], ◌∷◌, ◌++◌, take, drop, length, get_or, refl, ap, sym, ◌∙◌, subst, Some, Option, arith, length-take, if◌then◌else◌}
+-- Commands that lie whole in some bytes.
+use Rattle.std.proofs.Common.{ℕ, ◌≡◌, ◌+◌, ◌<◌, ◌≤◌, true, false, List, [], ◌∷◌, ◌++◌, take, drop, length, get_or, refl, ap, sym, ◌∙◌, subst, Some, Option, arith}
 use Rattle.std.proofs.Math.Seq.{take-add}
 use Rattle.std.proofs.lemmas.List.{append-nil}
 use Rattle.std.proofs.lemmas.Bool.Decides.{nat_tests}
 use Rattle.esc_below.specs.Clear.{parts_of}
 use Rattle.esc_frame.specs.declared.classes.Class.{Class}
-use Rattle.esc_frame.specs.declared.classes.Class.TheVariants.{Bell, Escape, Parameter, Final}
-use Rattle.esc_frame.specs.Classes.{class_of, strip}
-use Rattle.esc_frame.specs.Events.{Event}
-use Rattle.esc_frame.specs.Events.Event.{OscDispatch, EscDispatch}
+use Rattle.esc_frame.specs.declared.classes.Class.TheVariants.{Bell, Escape}
+use Rattle.esc_frame.specs.Classes.{class_of}
+use Rattle.esc_frame.specs.Events.Event.{OscDispatch}
 use Rattle.esc_frame.specs.Leads.{Unfinished}
-use Rattle.esc_frame.specs.Leads.Unfinished.{Ground, Pending, InEscape, InCsi, InOsc, InOscPending, InDcs, InData, InApc, InIgnored}
-use Rattle.esc_frame.specs.Limits.{is_within, is_read}
-use Rattle.esc_frame.specs.Machine.Moves.{after_all, news_all, after_by, news_by, inside, goes_on}
+use Rattle.esc_frame.specs.Leads.Unfinished.{Ground, InEscape, InOsc}
+use Rattle.esc_frame.specs.Limits.{is_within}
+use Rattle.esc_frame.specs.Machine.Moves.{after_all, news_all, after_by, news_by}
 use Rattle.esc_frame.specs.Machine.TextRuns.{IsTextRun}
 use Rattle.esc_frame.specs.Segments as segments
 use Rattle.esc_frame.specs.Segments.{osc_events, escape_event}
 use Rattle.esc_frame.specs.Segments.Opener.{Long}
-use Rattle.esc_frame.specs.declared.machine.State.TheVariants as state
 use Rattle.esc_frame.proofs.CsiRuns.{osc_opens, escape_class}
 use Rattle.esc_frame.proofs.Lends.{after_more}
 use Rattle.esc_frame.proofs.Lent.{osc_told}
@@ -26,7 +24,7 @@ use Rattle.esc_frame.proofs.Streams.{news_append}
 use Rattle.esc_lent.specs.declared.event.EscEvent.{EscEvent}
 use Rattle.esc_lent.specs.declared.parser.EscParser.{EscParser}
 use Rattle.esc_lent.specs.Numbers.{state_numbered, begun}
-use Rattle.esc_lent.specs.Runs.{Notes, closes_escape}
+use Rattle.esc_lent.specs.Runs.{Notes}
 use Rattle.esc_lent.specs.States.{KeptIn, FirstIn}
 use Rattle.esc_lent.specs.Told.{sent, text_of}
 use Rattle.esc_lent.proofs.Kept.{ground_only}
@@ -105,56 +103,3 @@ module _ (limit : Option ℕ) (rest : List ℕ) (run : ℕ) (some : 2 < length r
 
 pub osc_said : (e : EscEvent) (out t : List ℕ) → e.kind ≡ 6 → text_of e out ≡ t → sent e out ≡ OscDispatch (parts_of t) ∷ []
 osc_said e out t kind h = rw kind (ap (λ y. OscDispatch (parts_of y) ∷ []) h)
-
--- ---- the final byte of an escape sequence
-
-no_more : (x : List ℕ) → 0 ≡ length (take 2 x) → x ≡ []
-no_more [] h = refl
-no_more (b ∷ x) h = absurd (omega (arith, length-take 2 (b ∷ x)))
-
-one_first : (rest : List ℕ) → 0 < length rest → take 1 rest ≡ get_or rest 0 0 ∷ []
-one_first [] h = absurd (omega arith)
-one_first (b ∷ rest) h = refl
-
--- after an ESC of which no intermediate has come
-module _ (p : EscParser) (memory : List ℕ) (one : p.state ≡ 1) (none : p.kept ≡ 0) (P : Unfinished → Type 0)
-    (alone : (x : List ℕ) → strip x ≡ [] → P (InEscape x)) where
-  at_escape : state_numbered p.state ≡ state.Escape
-  at_escape = ap state_numbered one
-
-  escape_only : (u : Unfinished) → KeptIn p memory u → P u
-  escape_only Ground h = absurd cc
-  escape_only (Pending f) h = absurd cc
-  escape_only (InEscape x) h = alone x (no_more (strip x) (sym none ∙ h.1.2))
-  escape_only (InCsi o x) h = absurd cc
-  escape_only (InDcs o x) h = absurd cc
-  escape_only (InData o x f d) h =
-      elim (is_read (Some (length memory)) (strip x)) as (λ b. state_numbered p.state ≡ (if b then state.Data else state.Skip) → P (InData o x f d)) [
-        | true ↦ λ e. absurd cc
-        | false ↦ λ e. absurd cc
-      ] h
-  escape_only (InApc o d) h = absurd cc
-  escape_only (InIgnored k o d) h = absurd cc
-  escape_only (InOsc o ps) h = absurd cc
-  escape_only (InOscPending o ps f) h = absurd cc
-
-closes : (limit : Option ℕ) (x : List ℕ) (b : ℕ) (c : Class) → closes_escape c ≡ true → strip x ≡ []
-    → (after_by (InEscape x) b c ≡ Ground) × (news_by limit (InEscape x) b c ≡ EscDispatch [] false b ∷ [])
-closes limit x b Parameter h s = (refl, ap (λ y. escape_event y b ∷ []) s)
-closes limit x b Final h s = (refl, ap (λ y. escape_event y b ∷ []) s)
-closes limit x b _ h s = absurd cc
-
-pub final_notes : (p q : EscParser) (e : EscEvent) (bytes : List ℕ) (c : Class) → p.state ≡ 1 → p.kept ≡ 0 → q.state ≡ 0 → q.pending ≡ 0 → 0 < length bytes
-    → c ≡ class_of (get_or bytes 0 0) → closes_escape c ≡ true → ((out : List ℕ) → sent e out ≡ EscDispatch [] false (get_or bytes 0 0) ∷ [])
-    → (out : List ℕ) (limit : ℕ) → Notes p q e out limit (take 1 bytes)
-final_notes p q e bytes c one none zero still some class ends says out limit = λ u memory room h.
-    let b = get_or bytes 0 0 in
-    let first = one_first bytes some in
-    escape_only p memory one none (λ v. KeptIn q memory (after_all v (take 1 bytes)) × (sent e out ≡ news_all (Some limit) v (take 1 bytes)))
-    (λ x s.
-    let k = closes (Some limit) x b c ends s in (
-      subst (KeptIn q memory) (sym (ap (after_all (InEscape x)) first ∙ ap (after_by (InEscape x) b) (sym class) ∙ k.0)) (in_ground q memory zero still),
-      says out
-          ∙ sym (ap (news_all (Some limit) (InEscape x)) first ∙ append-nil (news_by (Some limit) (InEscape x) b (class_of b))
-          ∙ ap (news_by (Some limit) (InEscape x) b) (sym class) ∙ k.1),
-    )) u h

@@ -1,4 +1,4 @@
-use Rattle.std.proofs.Common.{◌-◌, ◌≤◌, ◌≡◌, length, take, map}
+use Rattle.std.proofs.Common.{◌-◌, ◌≤◌, length, take, map}
 use Rattle.esc_frame.specs.Machine.Shorts.{IsFront}
 use Rattle.esc_lent.specs.Told.{param_of}
 use Rattle.esc_lent.proofs.fields.read_body.Given as goal

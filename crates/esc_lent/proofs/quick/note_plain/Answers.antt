@@ -1,4 +1,4 @@
-use Rattle.std.proofs.Common.{take, ap, refl}
+use Rattle.std.proofs.Common.{take, ap}
 use Rattle.esc_lent.specs.Told.{is_run}
 use Rattle.esc_lent.proofs.Ahead.{control_tells, event_tells, run_tells}
 use Rattle.esc_lent.proofs.quick.note_plain.Goals as goal

@@ -1,4 +1,4 @@
-use Rattle.std.proofs.Common.{◌≡◌, ◌≤◌, ◌+◌, ◌-◌, ◌<◌, true, [], take, drop, length, get_or, ap, sym, ◌∙◌, subst, Some, arith, length-take}
+use Rattle.std.proofs.Common.{◌≡◌, ◌+◌, ◌-◌, ◌<◌, true, [], take, drop, length, ap, sym, ◌∙◌, subst, Some, arith, length-take}
 use Rattle.std.proofs.lemmas.List.{take_rest}
 use Rattle.esc_frame.specs.Leads.Unfinished.{Ground, InEscape}
 use Rattle.esc_frame.specs.Limits.{is_within}
