@@ -12,14 +12,6 @@ use esc_below::csi_param::CsiParam;
 use esc_frame::entries::next_number;
 use esc_frame::sequence::lies_from;
 
-// The number that some bytes write, how long it is, and the byte after it, or 0.
-#[derive(Clone, Copy)]
-struct Number {
-    value: u64,
-    length: usize,
-    after: u8,
-}
-
 // How far a field goes, how many entries there are then, whether a separator ended it, and else the byte after it, or 0.
 #[derive(Clone, Copy)]
 struct Field {
@@ -75,76 +67,56 @@ fn put_integer(entries: &mut [EscEntry], count: usize, number: u64)
     put(entries, count, entry)
 }
 
-// The number that the digits write that come first, at least one. Most numbers have at most three; of
-// others only the first digit is read, but where `any` says so.
+// The number that the digits write that come first, at least one, how many they are, and the byte after them, or 0. Most numbers
+// have at most three digits; of others only the first is read, but where `any` says so.
 #[inline(always)]
-fn read_number(rest: &[u8], any: bool) -> Number
+fn read_number(rest: &[u8], any: bool) -> (u64, usize, u8)
     requires some { 0 < length rest.now }
     requires low { 0x30 ≤ slice_index rest.now 0 }
     requires high { slice_index rest.now 0 ≤ 0x39 }
-    ensures count { (0 < result.length) × (result.length ≤ length rest.now) }
-    ensures digits { list_all is_digit (take result.length rest.now) ≡ true }
-    ensures value { result.value ≡ held (value_behind 0 (take result.length rest.now)) }
-    ensures small { result.value ≤ 0x7fff_ffff_ffff_ffff }
-    ensures after { 0 < result.after → (result.length < length rest.now) × (slice_index rest.now result.length ≡ result.after) }
+    ensures count { (0 < result.1) × (result.1 ≤ length rest.now) }
+    ensures digits { list_all is_digit (take result.1 rest.now) ≡ true }
+    ensures value { result.0 ≡ held (value_behind 0 (take result.1 rest.now)) }
+    ensures small { result.0 ≤ 0x7fff_ffff_ffff_ffff }
+    ensures after { 0 < result.2 → (result.1 < length rest.now) × (slice_index rest.now result.1 ≡ result.2) }
 {
     let one = next_number(0, rest[0] - b'0');
     if rest.len() < 4 {
         return if any {
             read_any_number(rest)
         } else {
-            Number {
-                value: one,
-                length: 1,
-                after: 0,
-            }
+            (one, 1, 0)
         };
     }
     if rest[1] < b'0' || rest[1] > b'9' {
-        return Number {
-            value: one,
-            length: 1,
-            after: rest[1],
-        };
+        return (one, 1, rest[1]);
     }
     let two = next_number(one, rest[1] - b'0');
     if rest[2] < b'0' || rest[2] > b'9' {
-        return Number {
-            value: two,
-            length: 2,
-            after: rest[2],
-        };
+        return (two, 2, rest[2]);
     }
     let three = next_number(two, rest[2] - b'0');
     if rest[3] < b'0' || rest[3] > b'9' {
-        return Number {
-            value: three,
-            length: 3,
-            after: rest[3],
-        };
+        return (three, 3, rest[3]);
     }
     if any {
         read_any_number(rest)
     } else {
-        Number {
-            value: one,
-            length: 1,
-            after: 0,
-        }
+        (one, 1, 0)
     }
 }
 
 // The same for any number of digits, out of the way of the code for few.
 #[inline(never)]
-fn read_any_number(rest: &[u8]) -> Number
+fn read_any_number(rest: &[u8]) -> (u64, usize, u8)
     requires some { 0 < length rest.now }
     requires low { 0x30 ≤ slice_index rest.now 0 }
     requires high { slice_index rest.now 0 ≤ 0x39 }
-    ensures count { (0 < result.length) × (result.length ≤ length rest.now) }
-    ensures digits { list_all is_digit (take result.length rest.now) ≡ true }
-    ensures value { result.value ≡ held (value_behind 0 (take result.length rest.now)) }
-    ensures small { result.value ≤ 0x7fff_ffff_ffff_ffff }
-    ensures after { 0 < result.after → (result.length < length rest.now) × (slice_index rest.now result.length ≡ result.after) }
+    ensures count { (0 < result.1) × (result.1 ≤ length rest.now) }
+    ensures digits { list_all is_digit (take result.1 rest.now) ≡ true }
+    ensures value { result.0 ≡ held (value_behind 0 (take result.1 rest.now)) }
+    ensures small { result.0 ≤ 0x7fff_ffff_ffff_ffff }
+    ensures after { 0 < result.2 → (result.1 < length rest.now) × (slice_index rest.now result.1 ≡ result.2) }
 {
     let mut number = next_number(0, rest[0] - b'0');
     let mut end = 1;
@@ -153,34 +125,26 @@ fn read_any_number(rest: &[u8]) -> Number
         end += 1;
     }
     if end < rest.len() {
-        Number {
-            value: number,
-            length: end,
-            after: rest[end],
-        }
+        (number, end, rest[end])
     } else {
-        Number {
-            value: number,
-            length: end,
-            after: 0,
-        }
+        (number, end, 0)
     }
 }
 
-// The digits that come first.
+// The digits that come first: how many they are, and the byte after them, or 0.
 #[inline(always)]
-fn put_number(entries: &mut [EscEntry], count: usize, rest: &[u8], any: bool) -> Number
+fn put_number(entries: &mut [EscEntry], count: usize, rest: &[u8], any: bool) -> (usize, u8)
     requires room { count < length entries.old }
     requires some { 0 < length rest.now }
     requires low { 0x30 ≤ slice_index rest.now 0 }
     requires high { slice_index rest.now 0 ≤ 0x39 }
-    ensures count { (0 < result.length) × (result.length ≤ length rest.now) }
-    ensures after { 0 < result.after → (result.length < length rest.now) × (slice_index rest.now result.length ≡ result.after) }
-    ensures keeps { (x : List ℕ) → IsFront (map param_of (take count entries.old)) x → IsBehind (map param_of (take (count + 1) entries.new)) (x ++ take result.length rest.now) }
+    ensures count { (0 < result.0) × (result.0 ≤ length rest.now) }
+    ensures after { 0 < result.1 → (result.0 < length rest.now) × (slice_index rest.now result.0 ≡ result.1) }
+    ensures keeps { (x : List ℕ) → IsFront (map param_of (take count entries.old)) x → IsBehind (map param_of (take (count + 1) entries.new)) (x ++ take result.0 rest.now) }
 {
-    let number = read_number(rest, any);
-    put_integer(entries, count, number.value);
-    number
+    let (number, length, after) = read_number(rest, any);
+    put_integer(entries, count, number);
+    (length, after)
 }
 
 // A separator, 3B or, where `any` says so, 3A. False where this is none, and then nothing is taken.
@@ -234,20 +198,20 @@ fn put_field(entries: &mut [EscEntry], count: usize, rest: &[u8], any: bool) -> 
     ensures after { 0 < result.after → (result.length < length rest.now) × (slice_index rest.now result.length ≡ result.after) }
 {
     if b'0' <= rest[0] && rest[0] <= b'9' {
-        let number = put_number(entries, count, rest, any);
-        if put_mark(entries, count + 1, number.after, any) {
+        let (n, after) = put_number(entries, count, rest, any);
+        if put_mark(entries, count + 1, after, any) {
             Field {
-                length: number.length + 1,
+                length: n + 1,
                 count: count + 2,
                 goes_on: true,
                 after: 0,
             }
         } else {
             Field {
-                length: number.length,
+                length: n,
                 count: count + 1,
                 goes_on: false,
-                after: number.after,
+                after,
             }
         }
     } else if put_mark(entries, count, rest[0], any) {

@@ -19,7 +19,8 @@ returns-then-not-field-clause-keeps c =
     let entries = c.put_field-field.new.entries in
     let no : field.goes_on ≡ false = search rules in
     ends_short _ _ (few entries field.count (omega (arith, c.put_field-field.ensures.entries)))
-    (subst (λ y. IsBehind (map param_of (take field.count entries)) y) (run_joins rest i _) (c.put_field-field.ensures.ends no (take i rest) c.loop-at.invariant.2))
+    (subst (λ y. IsBehind (map param_of (take field.count entries)) y) (run_joins rest i _)
+    (c.put_field-field.ensures.ends no (take i rest) c.loop-at.invariant.2))
 
 pub loop-at-preserved : goal.loop-at-preserved
 loop-at-preserved c =
