@@ -1,9 +1,9 @@
 -- Runs of text.
-use Rattle.std.proofs.Common.{◌≡◌, ℕ, Bool, true, false, List, [], ◌∷◌, map, refl, ap, sym, subst, ◌∙◌, ◌==◌, arith}
+use Rattle.std.proofs.Common.{◌≡◌, ℕ, Bool, true, false, not, ◌&&◌, ◌||◌, List, [], ◌∷◌, map, refl, ap, sym, subst, ◌∙◌, ◌==◌, arith}
 use Rattle.std.proofs.lemmas.Bool.{and_parts}
 use Rattle.std.proofs.lemmas.Bool.Decides.{nat_tests}
 use Rattle.std.specs.Char.{encode_utf8}
-use Rattle.std.specs.List.{FoldsTo, list_all}
+use Rattle.std.specs.List.{FoldsTo, list_all, list_any}
 use Rattle.std.specs.Str.{IsUtf8, chars, encode_utf8_all}
 use Rattle.std.proofs.lemmas.List.Folds.{list_all-append}
 use Rattle.std.proofs.lemmas.Str.{encode_ascii, encodes-chars}
@@ -18,6 +18,15 @@ use Rattle.esc_filter.specs.declared.passing.Passing.{Passing}
 use Rattle.esc_filter.specs.Rules.{admits, is_shown}
 use Rattle.esc_filter.specs.declared.policy.Policy.{Policy}
 use Rattle.esc_filter.specs.declared.policy.Policy.TheVariants as policy
+
+-- all are shown where none is DEL
+neither : (a b : Bool) → not (a || b) ≡ (not a && not b)
+neither true b = refl
+neither false b = refl
+
+pub none_hidden : (xs : List ℕ) → not (list_any (λ x. x == 0x7f) xs) ≡ list_all is_shown xs
+none_hidden [] = refl
+none_hidden (x ∷ xs) = neither (x == 0x7f) (list_any (λ x. x == 0x7f) xs) ∙ ap (λ r. not (x == 0x7f) && r) (none_hidden xs)
 
 all_more : (p q : ℕ → Bool) → ((c : ℕ) → p c ≡ true → q c ≡ true) → (xs : List ℕ) → list_all p xs ≡ true → list_all q xs ≡ true
 all_more p q f [] h = refl

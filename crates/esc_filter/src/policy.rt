@@ -187,16 +187,11 @@ fn is_text<A: Allocator>(action: &Action<A>) -> bool
     }
 }
 
-// Whether each character of this UTF-8 is shown: none of its bytes is DEL. It looks at all of them, so that many are looked at in one
-// step.
+// Whether each character of this UTF-8 is shown: none of its bytes is DEL.
 fn are_shown(text: &[u8]) -> bool
     ensures { result ≡ list_all is_shown text.now }
 {
-    let mut shown = true;
-    for byte in text {
-        shown &= *byte != 0x7f;
-    }
-    shown
+    !text.contains(&0x7f)
 }
 
 // Whether it is tab, line feed or carriage return.
@@ -230,11 +225,22 @@ fn is_rendition<A: Allocator>(csi: &CSI<A>) -> bool
     }
 }
 
-// Whether all are numbers, `;` or `:`.
+// Whether all are numbers, `;` or `:`. A number, and a colour of the palette, are seen at once.
+#[inline]
 pub(crate) fn are_plain(params: &[CsiParam]) -> bool
     ensures { result ≡ list_all is_plain_entry params.now }
 {
-    params.iter().all(is_plain_entry)
+    match params {
+        [CsiParam::Integer(_)] => true,
+        [
+            CsiParam::Integer(_),
+            CsiParam::P(b';'),
+            CsiParam::Integer(_),
+            CsiParam::P(b';'),
+            CsiParam::Integer(_),
+        ] => true,
+        _ => params.iter().all(is_plain_entry),
+    }
 }
 
 // Whether it is a number, `;` or `:`.
