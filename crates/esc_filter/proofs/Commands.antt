@@ -1,9 +1,8 @@
 -- Commands that are known before they are made.
-use Rattle.std.proofs.Common.{◌≡◌, ◌≢◌, ℕ, Bool, true, false, if◌then◌else◌, List, [], ◌∷◌, length, codes, ◌==◌, Option, Some, None, refl, sym}
-use Rattle.std.proofs.Common.{subst, ap, ◌∙◌, ◌++◌, inl, inr}
+use Rattle.std.proofs.Common.{◌≡◌, ◌≢◌, ℕ, Bool, true, false, if◌then◌else◌, List, [], ◌∷◌, codes, Option, Some, None, refl, sym}
+use Rattle.std.proofs.Common.{subst, ap, ◌∙◌, inl, inr}
 use Rattle.std.specs.Prelude.{nat_eq}
 use Rattle.std.specs.Cmp.Lexicographic.{pointwise}
-use Rattle.std.specs.List.{FoldsTo}
 use Rattle.std.specs.Option.{option_map, unwrap_or}
 use Rattle.std.specs.Str.{IsAscii, IsUtf8}
 use Rattle.std.specs.Str.Lossy.{utf8_lossy}
@@ -12,9 +11,9 @@ use Rattle.esc_below.specs.Base64.{base64_text_of}
 use Rattle.esc_below.specs.Scalars.{and_then}
 use Rattle.esc_osc.proofs.Codes.{code_of_text}
 use Rattle.esc_osc.specs.Codes.{changed_by, code_of, reset_by}
-use Rattle.esc_osc.specs.Colors.{colors_of, pairs_of}
+use Rattle.esc_osc.specs.Colors.{colors_of}
 use Rattle.esc_osc.specs.Progresses.{progress_of}
-use Rattle.esc_osc.specs.Reading.{content_of, dynamic, lone_text, meaning, named, notified, numbers_of, reading, selected, selection, title_of}
+use Rattle.esc_osc.specs.Reading.{content_of, dynamic, lone_text, meaning, named, notified, reading, selected, selection}
 use Rattle.esc_osc.specs.Selections.{selection_of}
 use Rattle.esc_osc.specs.declared.code.OperatingSystemCommandCode.{OperatingSystemCommandCode}
 use Rattle.esc_osc.specs.declared.code.OperatingSystemCommandCode.TheVariants as code
