@@ -1,16 +1,21 @@
 -- Commands that are known before they are made.
-use Rattle.std.proofs.Common.{◌≡◌, ◌≢◌, ℕ, Bool, true, false, if◌then◌else◌, List, [], ◌∷◌, codes, Option, Some, None, refl, sym}
-use Rattle.std.proofs.Common.{subst, ap, ◌∙◌, inl, inr}
+use Rattle.std.proofs.Common.{◌≡◌, ◌≢◌, ℕ, zero, suc, ◌<◌, ◌≤◌, ◌==◌, Bool, true, false, if◌then◌else◌, List, [], ◌∷◌, ◌++◌, codes, Option, Some, None, refl}
+use Rattle.std.proofs.Common.{length, take, get_or, ap, ◌∙◌, inl, inr, arith}
+use Rattle.std.specs.List.{onto_first, slice_split}
+use Rattle.std.proofs.lemmas.Bool.{cases_Bool, eqb-false, ne_eqb}
+use Rattle.std.proofs.lemmas.List.Splits.{slice_split-cons_no}
+use Rattle.std.proofs.lemmas.Str.Ascii.{IsAscii-cons, IsAscii-nil}
 use Rattle.std.specs.Prelude.{nat_eq}
 use Rattle.std.specs.Cmp.Lexicographic.{pointwise}
 use Rattle.std.specs.Option.{option_map, unwrap_or}
-use Rattle.std.specs.Str.{IsAscii, IsUtf8}
-use Rattle.std.specs.Str.Lossy.{utf8_lossy}
-use Rattle.std.proofs.lemmas.Str.{IsUtf8-from_ascii, utf8_lossy-IsUtf8}
+use Rattle.std.specs.Str.{is_utf8}
+use Rattle.std.specs.Str.Lossy.{after_first_chunk, replacement_bytes, utf8_lossy, utf8_valid_len, valid_len_up_to}
+use Rattle.std.proofs.lemmas.Str.{IsUtf8-from_ascii, is_utf8-from_IsUtf8, utf8_lossy_step}
+use Rattle.esc_below.specs.Clear.{parts_of}
 use Rattle.esc_below.specs.Base64.{base64_text_of}
 use Rattle.esc_below.specs.Scalars.{and_then}
-use Rattle.esc_osc.proofs.Codes.{code_of_text}
-use Rattle.esc_osc.specs.Codes.{changed_by, code_of, reset_by}
+use Rattle.esc_osc.proofs.Codes.{code_name_digit, code_of_text}
+use Rattle.esc_osc.specs.Codes.{changed_by, code_name, code_of, reset_by}
 use Rattle.esc_osc.specs.Colors.{colors_of}
 use Rattle.esc_osc.specs.Progresses.{progress_of}
 use Rattle.esc_osc.specs.Reading.{content_of, dynamic, lone_text, meaning, named, notified, reading, selected, selection}
@@ -21,8 +26,8 @@ use Rattle.esc_osc.specs.declared.command.OperatingSystemCommand.{OperatingSyste
 use Rattle.esc_osc.specs.declared.command.OperatingSystemCommand.TheVariants as command
 use Rattle.esc_osc.specs.declared.dynamic_color_number.DynamicColorNumber.{DynamicColorNumber}
 use Rattle.esc_osc.specs.declared.progress.Progress.{Progress}
-use Rattle.escape_stream.proofs.PlainCommands.{bare_meant, bare_of, id_meant}
-use Rattle.esc_filter.specs.Rules.{ArePlainParams, is_link}
+use Rattle.escape_stream.specs.Spelled.{IsPlainLink}
+use Rattle.esc_filter.specs.Rules.{BeginsOther, is_link}
 
 -- whether there is a command, and it is a link
 abbrev links : {A : Type 0} → Option (OperatingSystemCommand A) → Bool
@@ -88,23 +93,68 @@ module _ (A : Type 0) where
 other_named : (t : List ℕ) → t ≢ codes "8" → (c : OperatingSystemCommandCode) → code_of t ≡ Some c → c ≢ code.SetHyperlink
 other_named t other c h e = other (code_of_text t code.SetHyperlink (h ∙ ap Some e))
 
--- parts whose first is ASCII, and another code than that of links
-pub other_code : (A : Type 0) (p q : List ℕ) (ps : List (List ℕ)) → IsAscii p → p ≢ codes "8" → is_link (meaning {A = A} (p ∷ q ∷ ps)) ≡ false
-other_code A p q ps ascii other =
-    meant_no_link A (named (utf8_lossy p) (q ∷ ps)) (p ∷ q ∷ ps)
-    (subst (λ t. links {A = A} (named t (q ∷ ps)) ≡ false) (sym (utf8_lossy-IsUtf8 p (IsUtf8-from_ascii p ascii)))
-    (code_no_link A (code_of p) p (q ∷ ps) (other_named p other)))
+-- a front of one byte of ASCII is valid
+one_valid : (b : ℕ) (p : List ℕ) (m : ℕ) → b < 128 → 1 ≤ m → 1 ≤ valid_len_up_to (b ∷ p) m
+one_valid b p zero small some = absurd (omega (arith, some))
+one_valid b p (suc zero) small some = rw (is_utf8-from_IsUtf8 (b ∷ []) (IsUtf8-from_ascii (b ∷ []) (IsAscii-cons b [] small IsAscii-nil))) (omega arith)
+one_valid b p (suc (suc k)) small some =
+    elim (cases_Bool (is_utf8 (take (suc (suc k)) (b ∷ p)))) [
+      | inl held ↦ rw held (omega arith)
+      | inr failed ↦ rw failed (one_valid b p (suc k) small (omega arith))
+    ]
 
--- parts that are a link, or end one
-bare_link : (A : Type 0) (u : List ℕ) → is_link (bare_of A u) ≡ true
-bare_link A [] = refl
-bare_link A (b ∷ u) = refl
+valid_some : (b : ℕ) (p : List ℕ) → b < 128 → 1 ≤ utf8_valid_len (b ∷ p)
+unfolding utf8_valid_len
+valid_some b p small = one_valid b p (length (b ∷ p)) small (omega arith)
 
-link_by : (A : Type 0) (p u : List ℕ) → ArePlainParams p → IsUtf8 u → is_link (meaning {A = A} (codes "8" ∷ p ∷ u ∷ [])) ≡ true
-link_by A p u (inl e) k =
-    ap (λ p. is_link (meaning {A = A} (codes "8" ∷ p ∷ u ∷ []))) e ∙ ap is_link (bare_meant A u k) ∙ bare_link A u
-link_by A p u (inr (v, e, one, h)) k =
-    ap (λ p. is_link (meaning {A = A} (codes "8" ∷ p ∷ u ∷ []))) e ∙ ap is_link (id_meant A v u one (IsUtf8-from_ascii v h) k)
+first_taken : (n b : ℕ) (p : List ℕ) → 1 ≤ n → (q : List ℕ) × (take n (b ∷ p) ≡ b ∷ q)
+first_taken zero b p some = absurd (omega (arith, some))
+first_taken (suc n) b p some = (take n p, refl)
 
-pub plain_link : (A : Type 0) (c p u : List ℕ) → c ≡ codes "8" → ArePlainParams p → IsAscii u → is_link (meaning {A = A} (c ∷ p ∷ u ∷ [])) ≡ true
-plain_link A c p u e h k = ap (λ c. is_link (meaning {A = A} (c ∷ p ∷ u ∷ []))) e ∙ link_by A p u h (IsUtf8-from_ascii u k)
+-- the first byte of a text is the first of its lossy one, where it is ASCII
+whole_lossy : (b : ℕ) (p : List ℕ) → (utf8_valid_len (b ∷ p) == length (b ∷ p)) ≡ true → utf8_lossy (b ∷ p) ≡ b ∷ p
+unfolding utf8_lossy
+whole_lossy b p e = rw e refl
+
+lossy_first : (b : ℕ) (p : List ℕ) → b < 128 → (q : List ℕ) × (utf8_lossy (b ∷ p) ≡ b ∷ q)
+lossy_first b p small =
+    elim (cases_Bool (utf8_valid_len (b ∷ p) == length (b ∷ p))) [
+      | inl held ↦ (p, whole_lossy b p held)
+      | inr failed ↦ let t = first_taken (utf8_valid_len (b ∷ p)) b p (valid_some b p small) in
+          let more = replacement_bytes ++ utf8_lossy (after_first_chunk (b ∷ p)) in
+          (t.0 ++ more, utf8_lossy_step (b ∷ p) (eqb-false (utf8_valid_len (b ∷ p)) (length (b ∷ p)) failed) ∙ ap (λ x. x ++ more) t.1)
+    ]
+
+-- the first part of a text that begins with no `;` has its first byte
+onto_some : (b : ℕ) (qs : List (List ℕ)) → (p : List ℕ) × (ps : List (List ℕ)) × (onto_first b qs ≡ (b ∷ p) ∷ ps)
+onto_some b [] = ([], [], refl)
+onto_some b (q ∷ qs) = (q, qs, refl)
+
+digit_named : (b : ℕ) (q : List ℕ) (args : List (List ℕ)) → 0x30 ≤ b → b ≤ 0x39 → code_name (b ∷ q) args ≡ b ∷ q
+digit_named b q [] low high = code_name_digit (b ∷ q) low high
+digit_named b q (p ∷ args) low high = refl
+
+named_no_link : (A : Type 0) (b : ℕ) (q : List ℕ) (args : List (List ℕ)) → 0x30 ≤ b → b ≤ 0x39 → b ≢ 0x38 → links {A = A} (named (b ∷ q) args) ≡ false
+named_no_link A b q args low high other =
+    ap (λ t. links {A = A} (and_then (code_of t) (λ c. reading c (b ∷ q) args))) (digit_named b q args low high)
+    ∙ code_no_link A (code_of (b ∷ q)) (b ∷ q) args (other_named (b ∷ q) (λ e. other (ap (λ l. get_or l 0 0) e)))
+
+begun_no_link : (A : Type 0) (b : ℕ) (p : List ℕ) (ps : List (List ℕ)) → 0x30 ≤ b → b ≤ 0x39 → b ≢ 0x38 → is_link (meaning {A = A} ((b ∷ p) ∷ ps)) ≡ false
+begun_no_link A b p ps low high other =
+    let l = lossy_first b p (omega (arith, high)) in
+    meant_no_link A (named (utf8_lossy (b ∷ p)) ps) ((b ∷ p) ∷ ps)
+    (ap (λ t. links {A = A} (named t ps)) l.1 ∙ named_no_link A b l.0 ps low high other)
+
+-- a text that begins with another digit than that of the code of links
+begins_no_link : (A : Type 0) (b : ℕ) (t : List ℕ) → 0x30 ≤ b → b ≤ 0x39 → b ≢ 0x38 → is_link (meaning {A = A} (parts_of (b ∷ t))) ≡ false
+begins_no_link A b t low high other =
+    let no : (b == 0x3b) ≡ false = ne_eqb b 0x3b (λ e. omega (arith, e, high)) in
+    let first = onto_some b (slice_split (λ c. c == 0x3b) t) in
+    ap (λ ps. is_link (meaning {A = A} ps)) (slice_split-cons_no (λ c. c == 0x3b) b t no ∙ first.2) ∙ begun_no_link A b first.0 first.1 low high other
+
+pub other_begins : (A : Type 0) (t : List ℕ) → BeginsOther t → is_link (meaning {A = A} (parts_of t)) ≡ false
+other_begins A t (b, rest, e, low, high, other) = ap (λ t. is_link (meaning {A = A} (parts_of t))) e ∙ begins_no_link A b rest low high other
+
+-- a plain link is a link
+pub plain_is_link : (A : Type 0) (t : List ℕ) → IsPlainLink A t → is_link (meaning {A = A} (parts_of t)) ≡ true
+plain_is_link A t (link, means, written) = ap is_link means

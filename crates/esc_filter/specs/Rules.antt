@@ -1,10 +1,8 @@
 -- What the policies admit.
-use Rattle.std.specs.Prelude.{ℕ, ◌≡◌, ◌⊎◌, ◌++◌, codes, Bool, true, false, not, pos, negsuc, ◌==◌, nat_le, ◌&&◌, ◌||◌, List, [], ◌∷◌, length, Some, None}
-use Rattle.std.specs.List.{list_all, list_any}
-use Rattle.std.specs.Str.{IsAscii}
+use Rattle.std.specs.Prelude.{ℕ, ◌≡◌, ◌≢◌, ◌≤◌, Bool, true, false, not, pos, negsuc, ◌==◌, nat_le, ◌&&◌, ◌||◌, List, [], ◌∷◌, length, Some, None}
+use Rattle.std.specs.List.{list_all}
 use Rattle.esc_below.specs.Csis.{CsiValue, sgr, unspecified}
 use Rattle.esc_below.specs.Entries.{is_from}
-use Rattle.esc_below.specs.Hyperlinks.{is_colon}
 use Rattle.esc_below.specs.declared.csi_param.CsiParam.{CsiParam}
 use Rattle.esc_below.specs.declared.csi_param.CsiParam.TheVariants.{Integer, P}
 use Rattle.esc_below.specs.declared.esc.Esc.{Esc}
@@ -53,9 +51,9 @@ abbrev pub is_link : {A : Type 0} → OperatingSystemCommand A → Bool
 is_link (command.SetHyperlink l) = true
 is_link _ = false
 
--- the parameters of a link are none, or `id` alone, in ASCII
-abbrev pub ArePlainParams : List ℕ → Type 0
-ArePlainParams p = (p ≡ []) ⊎ ((v : List ℕ) × (p ≡ codes "id=" ++ v) × (list_any is_colon v ≡ false) × IsAscii v)
+-- a text that begins with a digit other than 8
+abbrev pub BeginsOther : List ℕ → Type 0
+BeginsOther t = (b : ℕ) × (rest : List ℕ) × (t ≡ b ∷ rest) × (0x30 ≤ b) × (b ≤ 0x39) × (b ≢ 0x38)
 
 abbrev pub is_colour : {A : Type 0} → Value A → Bool
 is_colour (csi c) = is_rendition c

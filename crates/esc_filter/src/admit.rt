@@ -1,7 +1,8 @@
 //! Whoever says which actions a filter lets through.
-ghost use Rattle.std.specs.Prelude.{◌≡◌, Bool, IfSome, IsTrue, Some, false, map, not, true, ◌&&◌};
+ghost use Rattle.std.specs.Prelude.{◌≡◌, Bool, IfSome, IsTrue, Some, false, not, true, ◌&&◌};
 ghost use Rattle.std.specs.List.{list_all, list_any};
 ghost use Rattle.std.specs.Str.{chars};
+ghost use Rattle.esc_below.specs.Clear.{parts_of};
 ghost use Rattle.esc_below.specs.Csis.{csi_of, csi_value};
 ghost use Rattle.esc_actions.specs.Values.{Value, csi, device_value, osc, print, value_of};
 ghost use Rattle.esc_actions.specs.Writable.{is_exception, is_opening, is_truncated};
@@ -54,10 +55,10 @@ pub trait Admit<A: Allocator> {
         None
     }
 
-    /// The same of the operating system command that these parts mean.
+    /// The same of the operating system command of this text, whose parts are between `;`.
     #[inline]
-    fn admits_command(&self, _parts: &[&[u8]]) -> Option<bool>
-        ensures { IfSome result (λ b. admits self.now (osc (command_meant (map (λ p. p.now) _parts.now))) ≡ b) }
+    fn admits_command(&self, _text: &[u8]) -> Option<bool>
+        ensures { IfSome result (λ b. admits self.now (osc (command_meant (parts_of _text.now))) ≡ b) }
     {
         None
     }

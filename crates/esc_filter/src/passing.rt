@@ -82,9 +82,9 @@ impl<'p, P: Admit<A>, A: Allocator> Sink<Action<A>> for Passing<'p, P, A> {
 
     // The same of a command.
     #[inline]
-    fn receive_command(&mut self, parts: &[&[u8]]) -> Result<bool, AllocError> {
-        match self.policy.admits_command(parts) {
-            Some(true) => self.spell.receive_command(parts),
+    fn receive_command(&mut self, text: &[u8]) -> Result<bool, AllocError> {
+        match self.policy.admits_command(text) {
+            Some(true) => self.spell.receive_command(text),
             Some(false) => Ok(true),
             None => Ok(false),
         }

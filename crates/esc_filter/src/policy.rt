@@ -1,16 +1,15 @@
 //! Policies.
-ghost use Rattle.std.specs.Prelude.{◌≡◌, ◌≢◌, ◌||◌, ◌∷◌, [], IfSome, IsTrue, Some, codes, false, map, true};
-ghost use Rattle.std.specs.Str.{IsAscii};
+ghost use Rattle.std.specs.Prelude.{◌≡◌, ◌||◌, IfSome, IsTrue, Some, false, true};
 ghost use Rattle.std.specs.List.{list_all, list_any};
+ghost use Rattle.esc_below.specs.Clear.{parts_of};
 ghost use Rattle.esc_below.specs.Csis.{csi_of, csi_value};
-ghost use Rattle.esc_below.specs.Hyperlinks.{is_colon};
 ghost use Rattle.esc_actions.specs.Values.{value_of};
 ghost use Rattle.esc_osc.specs.Reading.{meaning as command_meant};
-ghost use Rattle.esc_filter.specs.Rules.{ArePlainParams, is_colour, is_layout, is_link, is_plain_entry, is_rendition, is_screen_sequence, is_shown, is_text};
+ghost use Rattle.esc_filter.specs.Rules.{BeginsOther, is_colour, is_layout, is_link, is_plain_entry, is_rendition, is_screen_sequence, is_shown, is_text};
 
 use crate::admit::Admit;
 use crate::screen::{is_screen, is_screen_body};
-use escape_stream::{Action, CSI, CsiParam, OperatingSystemCommand};
+use escape_stream::{Action, CSI, CsiParam, OperatingSystemCommand, is_plain_link};
 use std::alloc::Allocator;
 
 /// Which actions pass a filter. Each admits all that the one before it does.
@@ -66,86 +65,38 @@ impl<A: Allocator> Admit<A> for Policy {
     }
 
     #[inline]
-    fn admits_command(&self, parts: &[&[u8]]) -> Option<bool> {
+    fn admits_command(&self, text: &[u8]) -> Option<bool> {
         match self {
             Policy::Text => Some(false),
-            Policy::Color => link_passes::<A>(parts),
+            Policy::Color => link_passes::<A>(text),
             Policy::Screen => None,
             Policy::All => Some(true),
         }
     }
 }
 
-// Whether the command that these parts mean is a link; known where there are two or three, and the first is another code or they are a
-// plain link.
+// Whether the command of this text is a link; known where it begins with a digit other than 8, and where it is a plain link in ASCII.
 #[inline]
-fn link_passes<A: Allocator>(parts: &[&[u8]]) -> Option<bool>
-    ensures { IfSome result (λ b. is_link (command_meant {A = A} (map (λ p. p.now) parts.now)) ≡ b) }
+fn link_passes<A: Allocator>(text: &[u8]) -> Option<bool>
+    ensures { IfSome result (λ b. is_link (command_meant {A = A} (parts_of text.now)) ≡ b) }
 {
-    match parts {
-        [code, part] => link_of_two::<A>(code, part),
-        [code, second, third] => link_of_three::<A>(code, second, third),
-        _ => None,
-    }
-}
-
-// The same, of a code and one part more.
-fn link_of_two<A: Allocator>(code: &[u8], _part: &[u8]) -> Option<bool>
-    ensures { IfSome result (λ b. is_link (command_meant {A = A} (code.now ∷ _part.now ∷ [])) ≡ b) }
-{
-    if is_other_code(code) {
+    if has_other_code(text) {
         Some(false)
-    } else {
-        None
-    }
-}
-
-// The same, of a code and two parts more.
-fn link_of_three<A: Allocator>(code: &[u8], params: &[u8], uri: &[u8]) -> Option<bool>
-    ensures { IfSome result (λ b. is_link (command_meant {A = A} (code.now ∷ params.now ∷ uri.now ∷ [])) ≡ b) }
-{
-    if is_other_code(code) {
-        Some(false)
-    } else if is_link_code(code) && are_plain_params(params) && uri.is_ascii() {
+    } else if is_plain_link::<A>(text) && text.is_ascii() {
         Some(true)
     } else {
         None
     }
 }
 
-// Whether the parameters of a link are none, or `id` alone, in ASCII.
-fn are_plain_params(params: &[u8]) -> bool
-    ensures { IsTrue result → ArePlainParams params.now }
+// Whether it begins with a digit other than 8. Then its code, the first part, is not that of links.
+fn has_other_code(text: &[u8]) -> bool
+    ensures { IsTrue result → BeginsOther text.now }
 {
-    match params {
-        [] => true,
-        [b'i', b'd', b'=', value @ ..] => is_plain_value(value),
-        _ => false,
-    }
-}
-
-// Whether it is ASCII, and is one parameter.
-fn is_plain_value(value: &[u8]) -> bool
-    ensures ascii { IsTrue result → IsAscii value.now }
-    ensures one { IsTrue result → list_any is_colon value.now ≡ false }
-{
-    value.is_ascii() && !value.contains(&b':')
-}
-
-// Whether it is ASCII, and not the code of links.
-fn is_other_code(code: &[u8]) -> bool
-    ensures ascii { IsTrue result → IsAscii code.now }
-    ensures other { IsTrue result → code.now ≢ codes "8" }
-{
-    !is_link_code(code) && code.is_ascii()
-}
-
-// Whether it is the code of links.
-fn is_link_code(code: &[u8]) -> bool
-    ensures link { IsTrue result → code.now ≡ codes "8" }
-    ensures other { result ≡ false → code.now ≢ codes "8" }
-{
-    matches!(code, [b'8'])
+    let [first, _rest @ ..] = text else {
+        return false;
+    };
+    first.is_ascii_digit() && *first != b'8'
 }
 
 // Whether what a control sequence means is renditions; not known where the final byte is `m` and the entries are no plain ones.

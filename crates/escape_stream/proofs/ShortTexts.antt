@@ -19,6 +19,12 @@ eight_ascii a b c d e f g h la lb lc ld le lf lg lh =
     (IsAscii-cons c (d ∷ e ∷ f ∷ g ∷ h ∷ []) lc (IsAscii-cons d (e ∷ f ∷ g ∷ h ∷ []) ld
     (IsAscii-cons e (f ∷ g ∷ h ∷ []) le (IsAscii-cons f (g ∷ h ∷ []) lf (IsAscii-cons g (h ∷ []) lg (IsAscii-cons h [] lh IsAscii-nil)))))))
 
+pub eleven_ascii : (a b c d e f g h i j k : ℕ) → a < 128 → b < 128 → c < 128 → d < 128 → e < 128 → f < 128 → g < 128 → h < 128 → i < 128 → j < 128 → k < 128
+    → IsAscii (a ∷ b ∷ c ∷ d ∷ e ∷ f ∷ g ∷ h ∷ i ∷ j ∷ k ∷ [])
+eleven_ascii a b c d e f g h i j k la lb lc ld le lf lg lh li lj lk =
+    IsAscii-cons a (b ∷ c ∷ d ∷ e ∷ f ∷ g ∷ h ∷ i ∷ j ∷ k ∷ []) la (IsAscii-cons b (c ∷ d ∷ e ∷ f ∷ g ∷ h ∷ i ∷ j ∷ k ∷ []) lb
+    (IsAscii-cons c (d ∷ e ∷ f ∷ g ∷ h ∷ i ∷ j ∷ k ∷ []) lc (eight_ascii d e f g h i j k ld le lf lg lh li lj lk)))
+
 -- bytes that are appended one after another
 pub two_pushed : (old mid new : List ℕ) (a b : ℕ) → mid ≡ old ++ a ∷ [] → new ≡ mid ++ b ∷ [] → new ≡ old ++ a ∷ b ∷ []
 two_pushed old mid new a b h k = k ∙ ap (λ t. t ++ b ∷ []) h ∙ append_assoc old (a ∷ []) (b ∷ [])

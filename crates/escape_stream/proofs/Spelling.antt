@@ -1,21 +1,23 @@
 -- What a text is given by events whose actions are not kept.
 use Rattle.std.proofs.Common.{◌≡◌, ℕ, Bool, true, false, List, [], ◌∷◌, ◌++◌, ◌<◌, length, map}
-use Rattle.std.proofs.Common.{MatchResult, OnOk, Result, Ok, Err, refl, ap, sym, ◌∙◌, subst, inl, inr}
-use Rattle.std.proofs.Common.{arith}
+use Rattle.std.proofs.Common.{MatchResult, OnOk, Option, Result, Ok, Err, refl, ap, sym, ◌∙◌, subst, inl, inr}
+use Rattle.std.proofs.Common.{IfOk, arith}
 use Rattle.std.specs.List.{FoldsTo}
+use Rattle.esc_below.specs.Clear.{framed, parts_of}
 use Rattle.esc_below.specs.Csis.{CsiValue, csi_of, csi_text, csi_value, unspecified}
 use Rattle.esc_below.specs.declared.csi.CSI.{CSI}
 use Rattle.esc_below.specs.declared.csi.CSI.TheVariants as csi_variant
 use Rattle.esc_below.specs.declared.csi_param.CsiParam.{CsiParam}
-use Rattle.esc_frame.specs.Events.{Event, StopsAt}
+use Rattle.esc_frame.specs.Events.{Event, StopsAt, Takes}
 use Rattle.esc_frame.specs.Events.Event.{OscDispatch}
 use Rattle.esc_osc.specs.Commands.{command_text}
 use Rattle.esc_osc.specs.Reading.{meaning as command_meant}
+use Rattle.esc_osc.specs.declared.command.OperatingSystemCommand.{OperatingSystemCommand}
 use Rattle.escape_stream.specs.Fed.{Hooks}
-use Rattle.escape_stream.specs.Given.{By, StopsAt as StopsGiven}
-use Rattle.escape_stream.specs.Spelled.{Adds, IsPlain, Spells}
+use Rattle.escape_stream.specs.Given.{At, By, StopsAt as StopsGiven}
+use Rattle.escape_stream.specs.Spelled.{Adds, IsPlain, IsVerbatim, Spells}
 use Rattle.escape_stream.proofs.LoneNumbers.{lone_number}
-use Rattle.esc_actions.specs.Values.{csi, osc, value_of}
+use Rattle.esc_actions.specs.Values.{Mode, after, csi, given, osc, value_of, wants_memory}
 use Rattle.esc_actions.specs.declared.action.Action.{Action}
 use Rattle.esc_actions.specs.declared.action.Action.TheVariants as action
 use Rattle.escape_stream.specs.declared.performer.Performer.{Performer}
@@ -98,3 +100,46 @@ command_spelled {A} p q ps same text string = λ limit m h. (
   subst (λ u. Hooks limit u m) (sym same) h,
   (q.sink, (action.OperatingSystemCommand (command_meant ps), refl, (text, string)), refl),
 )
+
+-- a command that a performer gives its sink
+abbrev Performs : {S A : Type 0} → (S → Action A → S → Type 0) → Performer S A → Event → Performer S A → Type 0
+Performs takes p e q = (limit : Option ℕ) (m : Mode) → Hooks limit p.unfinished m
+    → Hooks limit q.unfinished (after m e) × FoldsTo (At value_of takes) p.sink (given limit m e) q.sink
+
+abbrev Stops : {S A : Type 0} → (S → Action A → S → Type 0) → (S → Action A → S → Type 0) → Performer S A → Event → Performer S A → Type 0
+Stops takes refuses p e q =
+    (limit : Option ℕ) (m : Mode) → Hooks limit p.unfinished m
+    → StopsGiven (wants_memory e ≡ true) (At value_of takes) (At value_of refuses) p.sink (given limit m e) q.sink
+
+pub text_taken : {S A E : Type 0} (own : Bool) (takes refuses : S → Action A → S → Type 0) (r : Result (Unit {0}) E) (p : Performer S A) (s : S)
+    (ps : List (List ℕ)) → MatchResult r (λ _. FoldsTo (At value_of takes) p.sink (osc (command_meant ps) ∷ []) s)
+    (λ _. StopsGiven (true ≡ true) (At value_of takes) (At value_of refuses) p.sink (osc (command_meant ps) ∷ []) s)
+    → Takes own (Performs takes) (Stops takes refuses) r p (OscDispatch ps ∷ []) (record p { sink = s })
+text_taken own takes refuses (Ok t) p s ps h = (record p { sink = s }, (λ limit m k. (k, h)), refl)
+text_taken own takes refuses (Err e) p s ps h = ([], OscDispatch ps ∷ [], refl, inr (p, OscDispatch ps, [], refl, refl, λ limit m k. h))
+
+-- the same of an actor that spells
+pub text_spelled : {A E : Type 0} (own : Bool) (r : Result (Unit {0}) E) (p : Performer (Spell A) A) (s : Spell A) (ps : List (List ℕ))
+    → OnOk r (Spells p (OscDispatch ps) (record p { sink = s }))
+    → Takes own (λ p e q. Spells p.performer e q.performer) (λ _ _ _. Unit {0}) r (wrap p) (OscDispatch ps ∷ []) (wrap (record p { sink = s }))
+text_spelled own (Ok t) p s ps h = (wrap (record p { sink = s }), h, refl)
+text_spelled own (Err e) p s ps h = ([], OscDispatch ps ∷ [], refl, inr (wrap p, OscDispatch ps, [], refl, refl, tt))
+
+-- a command that was made, and is written
+abbrev value_or : {X E : Type 0} → X → Result X E → X
+value_or x (Ok y) = y
+value_or x (Err e) = x
+
+pub made_spelled : {A E : Type 0} (r : Result (OperatingSystemCommand A) E) (p : Performer (Spell A) A) (s : Spell A) (ps : List (List ℕ))
+    → IfOk r (λ c. c ≡ command_meant ps)
+    → (c : OperatingSystemCommand A) × (r ≡ Ok c) × (s.text ≡ p.sink.text ++ command_text c) × (s.follows_string ≡ true)
+    → Spells p (OscDispatch ps) (record p { sink = s })
+made_spelled (Ok d) p s ps is (c, e, text, string) =
+    command_spelled p (record p { sink = s }) ps refl (text ∙ ap (λ c. p.sink.text ++ command_text c) (sym (ap (value_or d) e) ∙ is)) string
+made_spelled (Err f) p s ps is (c, e, text, string) = cc
+
+-- one that is written as it came
+pub verbatim_spelled : {A : Type 0} (p : Performer (Spell A) A) (s : Spell A) (t u : List ℕ) → u ≡ t → IsVerbatim A t
+    → (s.text ≡ p.sink.text ++ framed u) × (s.follows_string ≡ true) → Spells p (OscDispatch (parts_of t)) (record p { sink = s })
+verbatim_spelled p s t u same written w =
+    command_spelled p (record p { sink = s }) (parts_of t) refl (w.0 ∙ ap (λ t. p.sink.text ++ framed t) same ∙ ap (λ t. p.sink.text ++ t) (sym written)) w.1

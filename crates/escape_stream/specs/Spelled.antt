@@ -1,20 +1,24 @@
 -- What events make of an actor that spells them.
-use Rattle.std.specs.Prelude.{ℕ, ℤ, ◌≡◌, ◌⊎◌, Bool, List, [], ◌∷◌, ◌++◌, codes, Option, Some}
-use Rattle.std.specs.List.{FoldsTo}
-use Rattle.std.specs.Option.{option_map}
+use Rattle.std.specs.Prelude.{ℕ, ℤ, ◌≡◌, ◌⊎◌, ◌==◌, Bool, List, [], ◌∷◌, ◌++◌, Option}
+use Rattle.std.specs.Fmt.{decimal}
+use Rattle.std.specs.List.{FoldsTo, slice_split}
 use Rattle.esc_frame.specs.Events.{Event}
+use Rattle.esc_below.specs.Clear.{framed, parts_of}
 use Rattle.esc_below.specs.Csis.{csi_of, unspecified}
 use Rattle.esc_below.specs.declared.csi_param.CsiParam.{CsiParam}
 use Rattle.esc_below.specs.declared.csi_param.CsiParam.TheVariants.{Integer}
+use Rattle.esc_below.specs.declared.hyperlink.Hyperlink.{Hyperlink}
 use Rattle.esc_osc.specs.Commands.{command_text}
-use Rattle.esc_osc.specs.Reading.{reading}
-use Rattle.esc_osc.specs.declared.code.OperatingSystemCommandCode.TheVariants as code
+use Rattle.esc_osc.specs.Reading.{meaning}
+use Rattle.esc_osc.specs.declared.command.OperatingSystemCommand.TheVariants as command
 use Rattle.escape_stream.specs.Fed.{Hooks}
 use Rattle.escape_stream.specs.Given.{At}
 use Rattle.esc_actions.specs.Texts.{is_string, text_after}
 use Rattle.esc_actions.specs.Values.{Mode, after, given, value_of}
 use Rattle.esc_actions.specs.declared.action.Action.{Action}
 use Rattle.escape_stream.specs.declared.performer.Performer.{Performer}
+use Rattle.escape_stream.specs.declared.short_numbers.ShortNumbers.{ShortNumbers}
+use Rattle.escape_stream.specs.declared.short_numbers.ShortNumbers.TheVariants as short
 use Rattle.escape_stream.specs.declared.sink.Spell.{Spell}
 
 -- what an action makes of a text
@@ -34,19 +38,27 @@ IsNumber es = (n : ℤ) × (es ≡ Integer n ∷ [])
 abbrev pub IsPlain : List CsiParam → Bool → ℕ → Type 0
 IsPlain es more f = IsNumber es ⊎ (csi_of es more f ≡ unspecified es more f ∷ [])
 
--- the codes of titles: 0, 1 and 2
-abbrev pub IsTitleCode : List ℕ → Type 0
-IsTitleCode c = (c ≡ codes "0") ⊎ ((c ≡ codes "1") ⊎ (c ≡ codes "2"))
+-- the text of a control sequence of one number, with an ASCII final byte
+abbrev pub number_text : ℕ → ℕ → List ℕ
+number_text n f = 0x1b ∷ 0x5b ∷ (decimal n ++ f ∷ [])
 
--- what begins a command, what comes before its last `;`, what comes after that, and the string terminator
-abbrev pub pieces_text : List ℕ → List ℕ → List ℕ → List ℕ
-pieces_text start middle last = start ++ middle ++ 0x3b ∷ (last ++ 0x1b ∷ 0x5c ∷ [])
+-- the text of one of three numbers, with `;` between them
+abbrev pub indexed_text : ℕ → ℕ → ℕ → ℕ → List ℕ
+indexed_text a b c f = 0x1b ∷ 0x5b ∷ (decimal a ++ 0x3b ∷ (decimal b ++ 0x3b ∷ (decimal c ++ f ∷ [])))
 
--- the parts after the code 133 are a mark, whose text has these pieces after that code
-abbrev pub IsMark : (A : Type 0) → List (List ℕ) → List ℕ → List ℕ → Type 0
-IsMark A args middle last =
-    option_map command_text (reading {A = A} code.FinalTermSemanticPrompt (codes "133") args) ≡ Some (pieces_text (codes "\u{1b}]133") middle last)
+-- the text of one that is known by its numbers
+abbrev pub short_text : ShortNumbers → ℕ → List ℕ
+short_text (short.Lone n) f = number_text n f
+short_text (short.Palette i) f = indexed_text i.first i.second i.third f
 
--- the letters of marks that may have the key `aid` alone, and what comes before it in their texts, after the code
-abbrev pub IsNamedMark : List ℕ → List ℕ → Type 0
-IsNamedMark l s = ((l ≡ codes "A") × (s ≡ codes ";A")) ⊎ (((l ≡ codes "C") × (s ≡ codes ";C")) ⊎ ((l ≡ codes "N") × (s ≡ codes ";N")))
+-- a text without `;`
+abbrev pub IsOnePart : List ℕ → Type 0
+IsOnePart t = slice_split (λ c. c == 0x3b) t ≡ t ∷ []
+
+-- the command of a text is written as the text came, between `ESC ]` and the string terminator
+abbrev pub IsVerbatim : (A : Type 0) → List ℕ → Type 0
+IsVerbatim A t = command_text (meaning {A = A} (parts_of t)) ≡ framed t
+
+-- it is a link, or the end of one, and is written so
+abbrev pub IsPlainLink : (A : Type 0) → List ℕ → Type 0
+IsPlainLink A t = (link : Option (Hyperlink A)) × (meaning {A = A} (parts_of t) ≡ command.SetHyperlink link) × IsVerbatim A t

@@ -1,11 +1,12 @@
 //! Control sequences and commands, appended to a text with no action made of them.
-ghost use Rattle.std.specs.Prelude.{◌≡◌, ◌∷◌, ◌++◌, IsTrue, OnOk, false, true};
+ghost use Rattle.std.specs.Prelude.{◌≡◌, ◌<◌, ◌++◌, IsTrue, Ok, OnOk, false, true};
+ghost use Rattle.esc_below.specs.Clear.{framed};
 ghost use Rattle.esc_below.specs.Csis.{csi_text, unspecified};
 ghost use Rattle.esc_osc.specs.Commands.{command_text};
-ghost use Rattle.escape_stream.specs.Spelled.{IsNumber, IsPlain, pieces_text};
+ghost use Rattle.esc_osc.specs.declared.command.OperatingSystemCommand.{OperatingSystemCommand};
+ghost use Rattle.escape_stream.specs.Spelled.{IsNumber, IsPlain, short_text};
 
-use crate::plain_command::PlainCommand;
-use crate::short_numbers::{append_indexed, append_number, lone_number, palette_numbers};
+use crate::short_numbers::ShortNumbers;
 use crate::short_text::ShortText;
 use crate::sink::Spell;
 use esc_below::csi::is_unspecified;
@@ -34,28 +35,6 @@ fn append_entries<A: Allocator>(
     }
 }
 
-// The same, of a lone number or a colour of the palette at once.
-#[inline]
-fn append_sequence<A: Allocator>(
-    text: &mut Text<A>,
-    params: &[CsiParam],
-    parameters_truncated: bool,
-    control: u8,
-) -> Result<(), AllocError>
-    ensures { OnOk result (text.new ≡ text.old ++ csi_text (unspecified params.now parameters_truncated control)) }
-{
-    if control >= 128 {
-        return append_entries(text, params, parameters_truncated, control);
-    }
-    if let Some(number) = lone_number(params) {
-        return append_number(text, number, control);
-    }
-    if let Some(numbers) = palette_numbers(params) {
-        return append_indexed(text, numbers, control);
-    }
-    append_entries(text, params, parameters_truncated, control)
-}
-
 impl<A: Allocator> Spell<A> {
     // Appends the text of a control sequence that has no name.
     pub(crate) fn write_sequence(
@@ -66,30 +45,57 @@ impl<A: Allocator> Spell<A> {
     ) -> Result<(), AllocError>
         ensures { OnOk result ((self.new.text ≡ self.old.text ++ csi_text (unspecified params.now parameters_truncated control)) × (self.new.follows_string ≡ false)) }
     {
-        append_sequence(&mut self.text, params, parameters_truncated, control)?;
+        append_entries(&mut self.text, params, parameters_truncated, control)?;
+        self.follows_string = false;
+        Ok(())
+    }
+
+    // Appends the text of one that is known by its numbers.
+    #[inline]
+    pub(crate) fn write_short(
+        &mut self,
+        numbers: ShortNumbers,
+        control: u8,
+    ) -> Result<(), AllocError>
+        requires { control < 128 }
+        ensures { OnOk result ((self.new.text ≡ self.old.text ++ short_text numbers control) × (self.new.follows_string ≡ false)) }
+    {
+        numbers.append_to(&mut self.text, control)?;
         self.follows_string = false;
         Ok(())
     }
 
     // Appends the text of a command.
-    pub(crate) fn write_command(
-        &mut self,
-        command: &OperatingSystemCommand<A>,
-    ) -> Result<(), AllocError>
+    fn write_display(&mut self, command: &OperatingSystemCommand<A>) -> Result<(), AllocError>
         ensures { OnOk result ((self.new.text ≡ self.old.text ++ command_text command.now) × (self.new.follows_string ≡ true)) }
     {
         self.text.push_display(command)?;
         self.follows_string = true;
         Ok(())
     }
+
+    // Appends the text of a command that was made, where there was memory for it.
+    pub(crate) fn write_command(
+        &mut self,
+        command: Result<OperatingSystemCommand<A>, AllocError>,
+    ) -> Result<(), AllocError>
+        ensures { OnOk result ((c : OperatingSystemCommand A) × (command ≡ Ok c) × (self.new.text ≡ self.old.text ++ command_text c) × (self.new.follows_string ≡ true)) }
+    {
+        match command {
+            Ok(command) => self.write_display(&command),
+            Err(error) => Err(error),
+        }
+    }
 }
 
 impl<A: Allocator> Spell<A> {
-    // Appends the text of a command from its pieces.
-    pub(crate) fn write_plain(&mut self, command: &PlainCommand) -> Result<(), AllocError>
-        ensures { OnOk result ((self.new.text ≡ self.old.text ++ pieces_text command.now.start.now command.now.middle.now command.now.last.now) × (self.new.follows_string ≡ true)) }
+    // Appends the text of a command that is written as it came.
+    pub(crate) fn write_verbatim(&mut self, text: &str) -> Result<(), AllocError>
+        ensures { OnOk result ((self.new.text ≡ self.old.text ++ framed text.now) × (self.new.follows_string ≡ true)) }
     {
-        command.append_to(&mut self.text)?;
+        self.text.push_str("\x1b]")?;
+        self.text.push_str(text)?;
+        self.text.push_str("\x1b\\")?;
         self.follows_string = true;
         Ok(())
     }

@@ -1,9 +1,11 @@
 //! Control sequences of short numbers, appended to a text from arrays of bytes whose lengths are known as the program is made.
-ghost use Rattle.std.specs.Prelude.{◌≡◌, ◌<◌, ◌≤◌, ◌∷◌, ◌++◌, [], pos, IfSome, OnOk};
-ghost use Rattle.std.specs.Fmt.{decimal};
+ghost use Rattle.std.specs.Prelude.{◌≡◌, ◌<◌, ◌≤◌, ◌∷◌, ◌++◌, [], Bool, pos, IfSome, OnOk};
 ghost use Rattle.std.specs.Str.{IsAscii};
+ghost use Rattle.esc_below.specs.Csis.{csi_text, unspecified};
 ghost use Rattle.esc_below.specs.declared.csi_param.CsiParam.TheVariants.{Integer, P};
+ghost use Rattle.escape_stream.specs.Spelled.{IsPlain, indexed_text, number_text, short_text};
 
+use crate::indexed::Indexed;
 use esc_below::{CsiParam, Text};
 use std::alloc::{AllocError, Allocator};
 use std::str;
@@ -33,7 +35,7 @@ fn small_number(param: CsiParam) -> Option<u8>
 
 // The number that is the only entry, where it is below 256.
 #[inline(always)]
-pub(crate) fn lone_number(params: &[CsiParam]) -> Option<u8>
+fn lone_number(params: &[CsiParam]) -> Option<u8>
     ensures { IfSome result (λ n. params.now ≡ Integer (pos n) ∷ []) }
 {
     let [param] = params else {
@@ -42,20 +44,10 @@ pub(crate) fn lone_number(params: &[CsiParam]) -> Option<u8>
     small_number(*param)
 }
 
-/// The numbers of a colour of the palette, as `38;5;n`: of two digits, one digit, and up to three.
-#[derive(Clone, Copy)]
-pub(crate) struct Indexed {
-    pub first: u8,
-    pub second: u8,
-    pub third: u8,
-}
-
 // These numbers, where the entries are such ones, with `;` between them.
 #[inline(always)]
-pub(crate) fn palette_numbers(params: &[CsiParam]) -> Option<Indexed>
+fn palette_numbers(params: &[CsiParam]) -> Option<Indexed>
     ensures entries { IfSome result (λ i. params.now ≡ Integer (pos i.first) ∷ P 0x3b ∷ Integer (pos i.second) ∷ P 0x3b ∷ Integer (pos i.third) ∷ []) }
-    ensures two { IfSome result (λ i. (10 ≤ i.first) × (i.first < 100)) }
-    ensures one { IfSome result (λ i. i.second < 10) }
 {
     let [one, CsiParam::P(b';'), two, CsiParam::P(b';'), three] = params else {
         return None;
@@ -63,7 +55,7 @@ pub(crate) fn palette_numbers(params: &[CsiParam]) -> Option<Indexed>
     let first = small_number(*one)?;
     let second = small_number(*two)?;
     let third = small_number(*three)?;
-    if first < 10 || first >= 100 || second >= 10 {
+    if first < 25 || first >= 100 || second >= 10 {
         return None;
     }
     Some(Indexed {
@@ -73,18 +65,24 @@ pub(crate) fn palette_numbers(params: &[CsiParam]) -> Option<Indexed>
     })
 }
 
-// Appends a number and a final byte.
+// Appends the text of a control sequence of one number.
 #[inline(always)]
-fn append_end<A: Allocator>(text: &mut Text<A>, number: u8, control: u8) -> Result<(), AllocError>
+fn append_number<A: Allocator>(
+    text: &mut Text<A>,
+    number: u8,
+    control: u8,
+) -> Result<(), AllocError>
     requires { control < 128 }
-    ensures { OnOk result (text.new ≡ text.old ++ (decimal number ++ control ∷ [])) }
+    ensures { OnOk result (text.new ≡ text.old ++ number_text number control) }
 {
     if number < 10 {
-        text.push_str(ascii(&[48 + number, control]))
+        text.push_str(ascii(&[0x1b, b'[', 48 + number, control]))
     } else if number < 100 {
-        text.push_str(ascii(&[48 + number / 10, 48 + number % 10, control]))
+        text.push_str(ascii(&[0x1b, b'[', 48 + number / 10, 48 + number % 10, control]))
     } else {
         text.push_str(ascii(&[
+            0x1b,
+            b'[',
             48 + number / 100,
             48 + number / 10 % 10,
             48 + number % 10,
@@ -93,42 +91,9 @@ fn append_end<A: Allocator>(text: &mut Text<A>, number: u8, control: u8) -> Resu
     }
 }
 
-// Appends the text of a control sequence of one number.
+// Appends the text of a control sequence of such numbers, of which the third has one digit.
 #[inline(always)]
-pub(crate) fn append_number<A: Allocator>(
-    text: &mut Text<A>,
-    number: u8,
-    control: u8,
-) -> Result<(), AllocError>
-    requires { control < 128 }
-    ensures { OnOk result (text.new ≡ text.old ++ 0x1b ∷ 0x5b ∷ (decimal number ++ control ∷ [])) }
-{
-    text.push_str("\x1b[")?;
-    append_end(text, number, control)
-}
-
-// Appends what begins the text of a control sequence of two numbers, of two digits and one, with a `;` after each.
-#[inline(always)]
-fn append_start<A: Allocator>(text: &mut Text<A>, first: u8, second: u8) -> Result<(), AllocError>
-    requires low { 10 ≤ first }
-    requires high { first < 100 }
-    requires one { second < 10 }
-    ensures { OnOk result (text.new ≡ text.old ++ 0x1b ∷ 0x5b ∷ (decimal first ++ 0x3b ∷ (decimal second ++ 0x3b ∷ []))) }
-{
-    text.push_str(ascii(&[
-        0x1b,
-        b'[',
-        48 + first / 10,
-        48 + first % 10,
-        b';',
-        48 + second,
-        b';',
-    ]))
-}
-
-// Appends the text of a control sequence of these numbers.
-#[inline(always)]
-pub(crate) fn append_indexed<A: Allocator>(
+fn append_one<A: Allocator>(
     text: &mut Text<A>,
     numbers: Indexed,
     control: u8,
@@ -136,9 +101,140 @@ pub(crate) fn append_indexed<A: Allocator>(
     requires low { 10 ≤ numbers.first }
     requires high { numbers.first < 100 }
     requires one { numbers.second < 10 }
+    requires third { numbers.third < 10 }
     requires ascii { control < 128 }
-    ensures { OnOk result (text.new ≡ text.old ++ 0x1b ∷ 0x5b ∷ (decimal numbers.first ++ 0x3b ∷ (decimal numbers.second ++ 0x3b ∷ (decimal numbers.third ++ control ∷ [])))) }
+    ensures { OnOk result (text.new ≡ text.old ++ indexed_text numbers.first numbers.second numbers.third control) }
 {
-    append_start(text, numbers.first, numbers.second)?;
-    append_end(text, numbers.third, control)
+    text.push_str(ascii(&[
+        0x1b,
+        b'[',
+        48 + numbers.first / 10,
+        48 + numbers.first % 10,
+        b';',
+        48 + numbers.second,
+        b';',
+        48 + numbers.third,
+        control,
+    ]))
+}
+
+// The same, of which it has two.
+#[inline(always)]
+fn append_two<A: Allocator>(
+    text: &mut Text<A>,
+    numbers: Indexed,
+    control: u8,
+) -> Result<(), AllocError>
+    requires low { 10 ≤ numbers.first }
+    requires high { numbers.first < 100 }
+    requires one { numbers.second < 10 }
+    requires third_low { 10 ≤ numbers.third }
+    requires third { numbers.third < 100 }
+    requires ascii { control < 128 }
+    ensures { OnOk result (text.new ≡ text.old ++ indexed_text numbers.first numbers.second numbers.third control) }
+{
+    text.push_str(ascii(&[
+        0x1b,
+        b'[',
+        48 + numbers.first / 10,
+        48 + numbers.first % 10,
+        b';',
+        48 + numbers.second,
+        b';',
+        48 + numbers.third / 10,
+        48 + numbers.third % 10,
+        control,
+    ]))
+}
+
+// The same, of which it has three.
+#[inline(always)]
+fn append_three<A: Allocator>(
+    text: &mut Text<A>,
+    numbers: Indexed,
+    control: u8,
+) -> Result<(), AllocError>
+    requires low { 10 ≤ numbers.first }
+    requires high { numbers.first < 100 }
+    requires one { numbers.second < 10 }
+    requires third { 100 ≤ numbers.third }
+    requires ascii { control < 128 }
+    ensures { OnOk result (text.new ≡ text.old ++ indexed_text numbers.first numbers.second numbers.third control) }
+{
+    text.push_str(ascii(&[
+        0x1b,
+        b'[',
+        48 + numbers.first / 10,
+        48 + numbers.first % 10,
+        b';',
+        48 + numbers.second,
+        b';',
+        48 + numbers.third / 100,
+        48 + numbers.third / 10 % 10,
+        48 + numbers.third % 10,
+        control,
+    ]))
+}
+
+// Appends the text of a control sequence of such numbers.
+#[inline(always)]
+fn append_indexed<A: Allocator>(
+    text: &mut Text<A>,
+    numbers: Indexed,
+    control: u8,
+) -> Result<(), AllocError>
+    requires { control < 128 }
+    ensures { OnOk result (text.new ≡ text.old ++ indexed_text numbers.first numbers.second numbers.third control) }
+{
+    if numbers.third < 10 {
+        append_one(text, numbers, control)
+    } else if numbers.third < 100 {
+        append_two(text, numbers, control)
+    } else {
+        append_three(text, numbers, control)
+    }
+}
+
+/// A number alone, or the numbers of a colour of the palette.
+#[derive(Clone, Copy)]
+pub(crate) enum ShortNumbers {
+    Lone(u8),
+    Palette(Indexed),
+}
+
+impl ShortNumbers {
+    // What the entries are, where the control sequence is one of these, and its text that of the entries.
+    #[inline(always)]
+    pub(crate) fn of(params: &[CsiParam], control: u8) -> Option<ShortNumbers>
+        ensures plain { IfSome result (λ s. (more : Bool) → IsPlain params.now more control) }
+        ensures text { IfSome result (λ s. (more : Bool) → csi_text (unspecified params.now more control) ≡ short_text s control) }
+        ensures ascii { IfSome result (λ s. control < 128) }
+    {
+        if control >= 128 {
+            return None;
+        }
+        if let Some(number) = lone_number(params) {
+            return Some(ShortNumbers::Lone(number));
+        }
+        match palette_numbers(params) {
+            Some(numbers) => Some(ShortNumbers::Palette(numbers)),
+            None => None,
+        }
+    }
+
+    // Appends the text of the control sequence.
+    #[inline(always)]
+    pub(crate) fn append_to<A: Allocator>(
+        self,
+        text: &mut Text<A>,
+        control: u8,
+    ) -> Result<(), AllocError>
+        requires { control < 128 }
+        ensures { OnOk result (text.new ≡ text.old ++ short_text self control) }
+    {
+        match self {
+            ShortNumbers::Lone(number) => append_number(text, number, control),
+            ShortNumbers::Palette(numbers) => append_indexed(text, numbers, control),
+        }
+    }
 }

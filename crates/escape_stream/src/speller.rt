@@ -4,8 +4,8 @@ ghost use Rattle.esc_actions.specs.Values.{plain};
 ghost use Rattle.escape_stream.specs.Fed.{Hooks};
 ghost use Rattle.escape_stream.specs.Spelled.{Spells};
 
+use crate::commands::{command_in, verbatim};
 use crate::performer::Performer;
-use crate::plain_command::plain_command;
 use crate::sink::Spell;
 use crate::unfinished::Unfinished;
 use esc_below::{CsiParam, Text};
@@ -116,11 +116,16 @@ impl<A: Allocator + Copy> VTActor for Speller<A> {
     }
 
     fn osc_dispatch(&mut self, params: &[&[u8]]) -> Result<(), AllocError> {
-        if let Some(command) = plain_command::<A>(params) {
-            return self.performer.sink.write_plain(&command);
+        let command = OperatingSystemCommand::parse(self.performer.alloc, params);
+        self.performer.sink.write_command(command)
+    }
+
+    fn osc_text<B: Allocator>(&mut self, _alloc: B, text: &[u8]) -> Result<(), AllocError> {
+        if let Some(text) = verbatim::<A>(text) {
+            return self.performer.sink.write_verbatim(text);
         }
-        let command = OperatingSystemCommand::parse(self.performer.alloc, params)?;
-        self.performer.sink.write_command(&command)
+        let command = command_in(self.performer.alloc, text);
+        self.performer.sink.write_command(command)
     }
 
     fn apc_dispatch(&mut self, text: &[u8]) -> Result<(), AllocError> {

@@ -194,11 +194,11 @@ impl<'t, A: Allocator> Admit<A> for Counting<'t> {
         <Policy as Admit<A>>::admits_sequence(&self.policy, params, control)
     }
 
-    fn admits_command(&self, parts: &[&[u8]]) -> Option<bool> {
+    fn admits_command(&self, text: &[u8]) -> Option<bool> {
         if self.tally.is_some() {
             return None;
         }
-        <Policy as Admit<A>>::admits_command(&self.policy, parts)
+        <Policy as Admit<A>>::admits_command(&self.policy, text)
     }
 
     fn leaves_out(&self, action: &Action<A>) {

@@ -1,0 +1,16 @@
+use Rattle.std.proofs.Common.{◌++◌, ◌∙◌, ap, sym, arith, lit<}
+use Rattle.escape_stream.proofs.ShortNumbers.{indexed_three}
+use Rattle.escape_stream.proofs.ShortTexts.{eleven_ascii}
+use Rattle.escape_stream.proofs.Spelling.{ok_both}
+use Rattle.escape_stream.proofs.short_numbers.append_three.Goals as goal
+
+pub returns : goal.returns
+returns g c = ok_both _ _ c.push_str.result
+    (λ h. h ∙ ap (λ t. c.args.text.now ++ t)
+    (c.ascii.ensures ∙ sym (indexed_three c.args.numbers.first c.args.numbers.second c.args.numbers.third c.args.control
+    c.requires.low c.requires.high c.requires.one c.requires.third (omega arith))))
+    c.push_str.ensures.ok
+
+pub ascii-requires : goal.ascii-requires
+ascii-requires g c = eleven_ascii _ _ _ _ _ _ _ _ _ _ _ (lit< tt) (lit< tt) (omega (arith, c.requires.high)) (omega arith) (lit< tt)
+    (omega (arith, c.requires.one)) (lit< tt) (omega arith) (omega arith) (omega arith) c.requires.ascii
