@@ -8,7 +8,7 @@ use Rattle.esc_below.specs.Csis.{CsiValue, csi_of, csi_text, csi_value, unspecif
 use Rattle.esc_below.specs.declared.csi.CSI.{CSI}
 use Rattle.esc_below.specs.declared.csi.CSI.TheVariants as csi_variant
 use Rattle.esc_below.specs.declared.csi_param.CsiParam.{CsiParam}
-use Rattle.esc_frame.specs.Events.{Event, StopsAt, Takes}
+use Rattle.esc_frame.specs.Events.{Event, Hears, StopsAt, Takes}
 use Rattle.esc_frame.specs.Events.Event.{OscDispatch}
 use Rattle.esc_osc.specs.Commands.{command_text}
 use Rattle.esc_osc.specs.Reading.{meaning as command_meant}
@@ -117,6 +117,14 @@ pub text_taken : {S A E : Type 0} (own : Bool) (takes refuses : S → Action A �
     → Takes own (Performs takes) (Stops takes refuses) r p (OscDispatch ps ∷ []) (record p { sink = s })
 text_taken own takes refuses (Ok t) p s ps h = (record p { sink = s }, (λ limit m k. (k, h)), refl)
 text_taken own takes refuses (Err e) p s ps h = ([], OscDispatch ps ∷ [], refl, inr (p, OscDispatch ps, [], refl, refl, λ limit m k. h))
+
+-- the same of its parts
+pub text_heard : {S A E : Type 0} (takes refuses : S → Action A → S → Type 0) (r : Result (Unit {0}) E) (p : Performer S A) (s : S)
+    (ps : List (List ℕ)) → MatchResult r (λ _. FoldsTo (At value_of takes) p.sink (osc (command_meant ps) ∷ []) s)
+    (λ _. StopsGiven (true ≡ true) (At value_of takes) (At value_of refuses) p.sink (osc (command_meant ps) ∷ []) s)
+    → Hears (Performs takes) (Stops takes refuses) r p (OscDispatch ps) (record p { sink = s })
+text_heard takes refuses (Ok t) p s ps h = λ limit m k. (k, h)
+text_heard takes refuses (Err e) p s ps h = λ limit m k. h
 
 -- the same of an actor that spells
 pub text_spelled : {A E : Type 0} (own : Bool) (r : Result (Unit {0}) E) (p : Performer (Spell A) A) (s : Spell A) (ps : List (List ℕ))

@@ -1,16 +1,18 @@
 -- Commands that are written as they came.
 use Rattle.std.proofs.Common.{ℕ, ◌≡◌, ◌+◌, ◌-◌, ◌<◌, ◌≤◌, ◌==◌, ◌||◌, inl, inr, Bool, true, false, Option, List, [], ◌∷◌, ◌++◌, codes}
 use Rattle.std.proofs.Common.{Some, None, length, take, drop, get_or}
-use Rattle.std.proofs.Common.{refl, ap, sym, ◌∙◌, subst, length-append, length-drop, arith}
+use Rattle.std.proofs.Common.{refl, ap, sym, ◌∙◌, subst, cond, eqb, length-append, length-drop, arith}
 use Rattle.std.specs.Prelude.{nat_lt}
 use Rattle.std.specs.Option.{option_map, unwrap_or}
 use Rattle.std.specs.List.{list_all, list_any, onto_first, prefix_len, slice_split}
 use Rattle.std.specs.Str.{IsUtf8, is_utf8}
 use Rattle.std.proofs.Math.Seq.{drop-append-add, take-append_seam}
-use Rattle.std.proofs.lemmas.Bool.{and_parts, eqb-true, or_cases}
+use Rattle.std.proofs.lemmas.Bool.{and_parts, cases_Bool, eqb-true, or_cases}
 use Rattle.std.proofs.lemmas.Bool.Decides.{nat_tests}
 use Rattle.std.proofs.lemmas.List.{append-nil, take_all}
+use Rattle.std.proofs.lemmas.List.Folds.{prefix_len-append}
 use Rattle.std.proofs.lemmas.List.Splits.{length-slice_split, slice_split-cons_no}
+use Rattle.std.proofs.lemmas.List.Sums.{prefix_len-le-length}
 use Rattle.std.proofs.lemmas.Str.{IsCharBoundary-after_ascii, IsCharBoundary-before_ascii, IsUtf8-drop, IsUtf8-past_char, IsUtf8-take}
 use Rattle.std.proofs.lemmas.Str.{encode_ascii, is_utf8-from_IsUtf8}
 use Rattle.esc_below.specs.Clear.{framed, joined, parts_of}
@@ -44,6 +46,20 @@ meant {A} k args c h = ap (λ f. unwrap_or f (command.Unspecified (code_text k �
 -- a text without `;`, as a scan finds it
 pub one_part : (t : List ℕ) (end : ℕ) → end ≡ 0 + prefix_len is_unmarked (drop 0 t) → length t ≤ end → IsOnePart t
 one_part t end e h = sym (split_end t 0 end [] (t ∷ []) (slice_split semi t) e h (ap (λ x. x ∷ []) (sym (take_all (end - 0) t (omega (arith, h))))) refl)
+
+-- a scan comes to the end of a text without `;`
+pub one_part_end : (t : List ℕ) (end : ℕ) → end ≡ 0 + prefix_len is_unmarked (drop 0 t) → end ≤ length t → IsOnePart t → end ≡ length t
+one_part_end t end e few one =
+    elim (cases_Bool (end == length t)) [
+      | inl held ↦ eqb-true end (length t) held
+      | inr failed ↦ let h : end < length t = grind (arith, nat_tests, failed, few) in
+          let same : end ≡ end - 0 = omega arith in
+          let more = split_next t 0 end [] (take end t ∷ []) (slice_split semi t) e h (ap (λ n. take n t ∷ []) same) refl in
+          absurd (omega (arith, ap length more, ap length one, length-slice_split semi (drop (end + 1) t)))
+    ]
+
+unmarked_whole : (t : List ℕ) → IsOnePart t → prefix_len is_unmarked t ≡ length t
+unmarked_whole t one = one_part_end t (prefix_len is_unmarked t) (omega arith) (prefix_len-le-length is_unmarked t) one
 
 -- Titles.
 
@@ -200,6 +216,27 @@ two_parts t end last e h k l =
     let rest = split_end t (end + 1) last [] (drop (end + 1) t ∷ []) (slice_split semi (drop (end + 1) t)) k l
     (ap (λ x. x ∷ []) (sym (take_all (last - (end + 1)) (drop (end + 1) t) (omega (arith, length-drop (end + 1) t, l))))) refl in
     sym more ∙ ap (λ ps. take end t ∷ ps) (sym rest)
+
+joined_end : (n k : ℕ) → k ≡ n → cond (eqb k n) (n + 0) k ≡ n
+joined_end n k e = grind (arith, nat_tests, e)
+
+-- what scans find in a name and an address
+pub name_end : (t v u : List ℕ) (end : ℕ) → end ≡ 0 + prefix_len is_unmarked (drop 0 t) → t ≡ v ++ 0x3b ∷ u → IsOnePart v → end ≡ length v
+name_end t v u end e is one =
+    let found : prefix_len is_unmarked t ≡ length v = ap (prefix_len is_unmarked) is ∙ prefix_len-append is_unmarked v (0x3b ∷ u)
+    ∙ joined_end (length v) (prefix_len is_unmarked v) (unmarked_whole v one) in
+    omega (arith, e, found)
+
+-- and after the `;`
+pub address_end : (t v u : List ℕ) (end last : ℕ) → end ≡ length v → last ≡ (end + 1) + prefix_len is_unmarked (drop (end + 1) t)
+    → t ≡ v ++ 0x3b ∷ u → IsOnePart u → last ≡ length t
+address_end t v u end last e l is one =
+    let rest : drop (end + 1) t ≡ u = ap (λ n. drop (n + 1) t) e ∙ ap (drop (length v + 1)) is ∙ drop-append-add v (0x3b ∷ u) 1 in
+    let all : prefix_len is_unmarked (drop (end + 1) t) ≡ length u = ap (prefix_len is_unmarked) rest ∙ unmarked_whole u one in
+    omega (arith, e, l, all, ap length is, length-append v (0x3b ∷ u))
+
+pub name_taken : (t v u : List ℕ) (end : ℕ) → end ≡ length v → t ≡ v ++ 0x3b ∷ u → take end t ≡ v
+name_taken t v u end e is = ap (λ n. take n t) e ∙ ap (take (length v)) is ∙ take-append_seam v (0x3b ∷ u)
 
 -- Marks of prompts.
 

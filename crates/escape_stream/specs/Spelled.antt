@@ -1,10 +1,11 @@
 -- What events make of an actor that spells them.
-use Rattle.std.specs.Prelude.{ℕ, ℤ, ◌≡◌, ◌⊎◌, ◌==◌, Bool, List, [], ◌∷◌, ◌++◌, Option}
+use Rattle.std.specs.Prelude.{ℕ, ℤ, ◌≡◌, ◌⊎◌, ◌==◌, Bool, false, List, [], ◌∷◌, ◌++◌, Option, codes}
 use Rattle.std.specs.Fmt.{decimal}
-use Rattle.std.specs.List.{FoldsTo, slice_split}
+use Rattle.std.specs.List.{FoldsTo, list_any, slice_split}
 use Rattle.esc_frame.specs.Events.{Event}
 use Rattle.esc_below.specs.Clear.{framed, parts_of}
 use Rattle.esc_below.specs.Csis.{csi_of, unspecified}
+use Rattle.esc_below.specs.Hyperlinks.{is_colon}
 use Rattle.esc_below.specs.declared.csi_param.CsiParam.{CsiParam}
 use Rattle.esc_below.specs.declared.csi_param.CsiParam.TheVariants.{Integer}
 use Rattle.esc_below.specs.declared.hyperlink.Hyperlink.{Hyperlink}
@@ -54,6 +55,18 @@ short_text (short.Palette i) f = indexed_text i.first i.second i.third f
 -- a text without `;`
 abbrev pub IsOnePart : List ℕ → Type 0
 IsOnePart t = slice_split (λ c. c == 0x3b) t ≡ t ∷ []
+
+-- a name without `:` and an address, with `;` between them
+abbrev pub IsNameAndAddress : List ℕ → Type 0
+IsNameAndAddress t = (v : List ℕ) × (u : List ℕ) × (t ≡ v ++ 0x3b ∷ u) × (list_any is_colon v ≡ false) × IsOnePart v × IsOnePart u
+
+-- the text of a link without parameters, or of the end of one
+abbrev pub IsBareLink : List ℕ → Type 0
+IsBareLink t = (u : List ℕ) × (t ≡ codes "8;;" ++ u) × IsOnePart u
+
+-- the text of a link with `id` alone
+abbrev pub IsNamedLink : List ℕ → Type 0
+IsNamedLink t = (u : List ℕ) × (t ≡ codes "8;id=" ++ u) × IsNameAndAddress u
 
 -- the command of a text is written as the text came, between `ESC ]` and the string terminator
 abbrev pub IsVerbatim : (A : Type 0) → List ℕ → Type 0

@@ -1,9 +1,9 @@
 //! Operating system commands from their texts.
-ghost use Rattle.std.specs.Prelude.{◌≡◌, ◌==◌, ◌||◌, [], ◌∷◌, ◌++◌, IfOk, IfSome, IsTrue, codes};
+ghost use Rattle.std.specs.Prelude.{ℕ, ◌≡◌, ◌≢◌, ◌==◌, ◌||◌, List, [], ◌∷◌, ◌++◌, IfOk, IfSome, IsTrue, MatchOption, codes};
 ghost use Rattle.std.specs.Str.{IsUtf8};
 ghost use Rattle.esc_below.specs.Clear.{parts_of};
 ghost use Rattle.esc_osc.specs.Reading.{meaning};
-ghost use Rattle.escape_stream.specs.Spelled.{IsOnePart, IsPlainLink, IsVerbatim};
+ghost use Rattle.escape_stream.specs.Spelled.{IsBareLink, IsNameAndAddress, IsNamedLink, IsOnePart, IsPlainLink, IsVerbatim};
 
 use esc_frame::parts::Parts;
 use esc_frame::scans::mark_from;
@@ -31,7 +31,8 @@ pub(crate) fn command_in<A: Allocator + Copy>(
 
 // Whether the text after `8;id=` is a value without `:`, a `;`, and an address without `;`.
 fn is_value_and_address<A: Allocator>(text: &[u8]) -> bool
-    ensures { IsTrue result → IsUtf8 (codes "8;id=" ++ text.now) → IsPlainLink A (codes "8;id=" ++ text.now) }
+    ensures link { IsTrue result → IsUtf8 (codes "8;id=" ++ text.now) → IsPlainLink A (codes "8;id=" ++ text.now) }
+    ensures seen { IsNameAndAddress text.now → IsTrue result }
 {
     let end = mark_from(text, 0);
     if end == text.len() {
@@ -45,14 +46,15 @@ fn is_value_and_address<A: Allocator>(text: &[u8]) -> bool
 
 // Whether a text has no `;`.
 fn is_one_part(text: &[u8]) -> bool
-    ensures { IsTrue result → IsOnePart text.now }
+    ensures one { IsTrue result → IsOnePart text.now }
+    ensures seen { IsOnePart text.now → IsTrue result }
 {
     mark_from(text, 0) == text.len()
 }
 
 // What follows `8;;`.
 fn past_bare_link(text: &[u8]) -> Option<&[u8]>
-    ensures { IfSome result (λ r. text.now ≡ codes "8;;" ++ r.now) }
+    ensures { MatchOption result ((u : List ℕ) → text.now ≢ codes "8;;" ++ u) (λ r. text.now ≡ codes "8;;" ++ r.now) }
 {
     let [b'8', b';', b';', rest @ ..] = text else {
         return None;
@@ -62,7 +64,7 @@ fn past_bare_link(text: &[u8]) -> Option<&[u8]>
 
 // What follows `8;id=`.
 fn past_link_id(text: &[u8]) -> Option<&[u8]>
-    ensures { IfSome result (λ r. text.now ≡ codes "8;id=" ++ r.now) }
+    ensures { MatchOption result ((u : List ℕ) → text.now ≢ codes "8;id=" ++ u) (λ r. text.now ≡ codes "8;id=" ++ r.now) }
 {
     let [b'8', b';', b'i', b'd', b'=', rest @ ..] = text else {
         return None;
@@ -71,9 +73,12 @@ fn past_link_id(text: &[u8]) -> Option<&[u8]>
 }
 
 /// Whether the text of an operating system command, its bytes between `ESC ]` and the terminator, is a link (OSC 8) without parameters or
-/// with `id` alone, or the end of one; such a command is written as it came, where its text is UTF-8. After false nothing is said.
+/// with `id` alone, or the end of one: `8;;` and an address, or `8;id=`, a name without `:`, `;` and an address. Such a command is written as
+/// it came, where its text is UTF-8.
 pub fn is_plain_link<A: Allocator>(text: &[u8]) -> bool
-    ensures { IsTrue result → IsUtf8 text.now → IsPlainLink A text.now }
+    ensures link { IsTrue result → IsUtf8 text.now → IsPlainLink A text.now }
+    ensures bare { IsBareLink text.now → IsTrue result }
+    ensures named { IsNamedLink text.now → IsTrue result }
 {
     if let Some(address) = past_bare_link(text) {
         return is_one_part(address);

@@ -98,9 +98,6 @@ fn append_one<A: Allocator>(
     numbers: Indexed,
     control: u8,
 ) -> Result<(), AllocError>
-    requires low { 10 ≤ numbers.first }
-    requires high { numbers.first < 100 }
-    requires one { numbers.second < 10 }
     requires third { numbers.third < 10 }
     requires ascii { control < 128 }
     ensures { OnOk result (text.new ≡ text.old ++ indexed_text numbers.first numbers.second numbers.third control) }
@@ -125,9 +122,6 @@ fn append_two<A: Allocator>(
     numbers: Indexed,
     control: u8,
 ) -> Result<(), AllocError>
-    requires low { 10 ≤ numbers.first }
-    requires high { numbers.first < 100 }
-    requires one { numbers.second < 10 }
     requires third_low { 10 ≤ numbers.third }
     requires third { numbers.third < 100 }
     requires ascii { control < 128 }
@@ -154,9 +148,6 @@ fn append_three<A: Allocator>(
     numbers: Indexed,
     control: u8,
 ) -> Result<(), AllocError>
-    requires low { 10 ≤ numbers.first }
-    requires high { numbers.first < 100 }
-    requires one { numbers.second < 10 }
     requires third { 100 ≤ numbers.third }
     requires ascii { control < 128 }
     ensures { OnOk result (text.new ≡ text.old ++ indexed_text numbers.first numbers.second numbers.third control) }

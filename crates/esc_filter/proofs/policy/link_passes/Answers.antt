@@ -8,4 +8,4 @@ returns-then-has_other_code g c = other_begins _ c.args.text.now (c.has_other_co
 pub returns-then-is_ascii : goal.returns-then-is_ascii
 returns-then-is_ascii g c =
     plain_is_link _ c.args.text.now
-    (c.is_plain_link.ensures c.if-is_plain_link.true (IsUtf8-from_ascii c.args.text.now (c.if-is_ascii.ensures.cases)))
+    (c.is_plain_link.ensures.link c.if-is_plain_link.true (IsUtf8-from_ascii c.args.text.now (c.if-is_ascii.ensures.cases)))

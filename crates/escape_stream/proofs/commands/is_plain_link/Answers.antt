@@ -4,7 +4,7 @@ use Rattle.escape_stream.specs.Spelled.{IsPlainLink}
 use Rattle.escape_stream.proofs.Verbatim.{bare_link}
 use Rattle.escape_stream.proofs.commands.is_plain_link.Goals as goal
 
-pub returns-in-Some : goal.returns-in-Some
-returns-in-Some g c = λ t u.
+pub returns-in-Some-clause-link : goal.returns-in-Some-clause-link
+returns-in-Some-clause-link g c = λ t u.
     let is = c.in-Some.ensures in
-    subst (IsPlainLink _) (sym is) (bare_link _ c.in-Some.address.now (c.is_one_part.ensures t) (subst IsUtf8 is u))
+    subst (IsPlainLink _) (sym is) (bare_link _ c.in-Some.address.now (c.is_one_part.ensures.one t) (subst IsUtf8 is u))

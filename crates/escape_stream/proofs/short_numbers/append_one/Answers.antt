@@ -1,4 +1,4 @@
-use Rattle.std.proofs.Common.{◌++◌, ◌∙◌, ap, sym}
+use Rattle.std.proofs.Common.{◌++◌, ◌∙◌, ap, sym, arith}
 use Rattle.escape_stream.proofs.ShortNumbers.{indexed_one}
 use Rattle.escape_stream.proofs.Spelling.{ok_both}
 use Rattle.escape_stream.proofs.short_numbers.append_one.Goals as goal
@@ -7,5 +7,5 @@ pub returns : goal.returns
 returns g c = ok_both _ _ c.push_str.result
     (λ h. h ∙ ap (λ t. c.args.text.now ++ t)
     (c.ascii.ensures ∙ sym (indexed_one c.args.numbers.first c.args.numbers.second c.args.numbers.third c.args.control
-    c.requires.low c.requires.high c.requires.one c.requires.third)))
+    (omega (arith, c.args.numbers.fits.0)) c.args.numbers.fits.1 c.args.numbers.fits.2 c.requires.third)))
     c.push_str.ensures.ok

@@ -8,9 +8,9 @@ pub returns : goal.returns
 returns g c = ok_both _ _ c.push_str.result
     (λ h. h ∙ ap (λ t. c.args.text.now ++ t)
     (c.ascii.ensures ∙ sym (indexed_three c.args.numbers.first c.args.numbers.second c.args.numbers.third c.args.control
-    c.requires.low c.requires.high c.requires.one c.requires.third (omega arith))))
+    (omega (arith, c.args.numbers.fits.0)) c.args.numbers.fits.1 c.args.numbers.fits.2 c.requires.third (omega arith))))
     c.push_str.ensures.ok
 
 pub ascii-requires : goal.ascii-requires
-ascii-requires g c = eleven_ascii _ _ _ _ _ _ _ _ _ _ _ (lit< tt) (lit< tt) (omega (arith, c.requires.high)) (omega arith) (lit< tt)
-    (omega (arith, c.requires.one)) (lit< tt) (omega arith) (omega arith) (omega arith) c.requires.ascii
+ascii-requires g c = eleven_ascii _ _ _ _ _ _ _ _ _ _ _ (lit< tt) (lit< tt) (omega (arith, c.args.numbers.fits.1)) (omega arith) (lit< tt)
+    (omega (arith, c.args.numbers.fits.2)) (lit< tt) (omega arith) (omega arith) (omega arith) c.requires.ascii
