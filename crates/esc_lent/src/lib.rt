@@ -16,7 +16,5 @@ pub mod recorder;
 pub mod runs;
 pub mod step;
 pub mod strings;
-#[cfg(test)]
-mod tests;
 pub mod text;
 pub mod unload;

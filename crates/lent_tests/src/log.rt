@@ -1,11 +1,11 @@
 //! A log of events, in which a run of characters or of data is the same as each by itself.
 ghost use Rattle.esc_frame.specs.Events.{Event, Hears};
 
-use crate::event::{
-    APC, CHARACTER, CONTROL, CSI, DATA, DATA_BYTE, DCS, DCS_END, ESCAPE, EscEvent, OSC, TEXT,
-};
 use esc_below::csi_param::CsiParam;
 use esc_frame::VTActor;
+use esc_lent::event::{
+    APC, CHARACTER, CONTROL, CSI, DATA, DATA_BYTE, DCS, DCS_END, ESCAPE, EscEvent, OSC, TEXT,
+};
 use std::alloc::{AllocError, Allocator, Global};
 
 #[derive(Drop)]
@@ -161,7 +161,7 @@ impl VTActor for Log {
         Ok(())
     }
 
-    #[tactic(auto, using(crate::proofs::Folds::hears_both))]
+    #[tactic(auto, using(crate::proofs::Heard::hears_both))]
     fn dcs_header<A: Allocator + Copy>(
         &mut self,
         _alloc: A,
@@ -218,7 +218,7 @@ impl VTActor for Log {
         self.put_more(parameters_truncated)
     }
 
-    #[tactic(auto, using(crate::proofs::Folds::hears_both))]
+    #[tactic(auto, using(crate::proofs::Heard::hears_both))]
     fn osc_text<A: Allocator>(&mut self, _alloc: A, text: &[u8]) -> Result<(), AllocError> {
         self.note_osc(text)
     }

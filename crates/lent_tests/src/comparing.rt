@@ -1,15 +1,12 @@
 //! The events of streams in pieces of each size are those of a parser that keeps no string longer than half the buffer.
 ghost use Rattle.std.specs.Prelude.{◌<◌};
 
-mod log;
-mod streams;
-
-use crate::event::{APC, DATA, DCS, EscEvent, NONE, OSC, TEXT};
-use crate::next::next;
-use crate::parser::EscParser;
-use crate::tests::log::Log;
-use crate::tests::streams::{STREAMS, noise};
+use crate::log::Log;
+use crate::streams::{STREAMS, noise};
 use esc_frame::VTParser;
+use esc_lent::event::{APC, DATA, DCS, EscEvent, NONE, OSC, TEXT};
+use esc_lent::next::next;
+use esc_lent::parser::EscParser;
 use std::alloc::{AllocError, Global};
 use std::process::Abort;
 use std::test::Fail;
