@@ -27,22 +27,24 @@ fn is_text(text: &Text, want: &str) -> bool {
         && text.is_empty() == want.is_empty()
 }
 
+// Whether a text that is written a character at a time is this one.
+fn is_pushed(alloc: Global, want: &str, told: &str) -> Result<bool, AllocError> {
+    let text = pushed(alloc, want)?;
+    Ok(is_text(&text, want) && is_told(alloc, &text, told)? && is_shown(alloc, &text, want)?)
+}
+
+// Whether a text is this one as a string, and as a text again.
+fn is_string(alloc: Global, want: &str) -> Result<bool, AllocError> {
+    let text = pushed(alloc, want)?;
+    let string = String::from(Text::from_str(alloc, want)?);
+    Ok(string.as_str() == want && Text::from(string) == text)
+}
+
 #[test]
 fn texts(rt: HostRuntime) -> Result<(), Fail> {
     for (want, told) in &TEXTS {
-        let text = pushed(rt.alloc(), want)?;
-        check(
-            &rt,
-            is_text(&text, want) && is_told(rt.alloc(), &text, told)?,
-            told,
-        );
-        let string = String::from(Text::from_str(rt.alloc(), want)?);
-        check(
-            &rt,
-            string.as_str() == *want && Text::from(string) == text,
-            told,
-        );
-        check(&rt, is_shown(rt.alloc(), &text, want)?, told);
+        check(&rt, is_pushed(rt.alloc(), want, told)?, told);
+        check(&rt, is_string(rt.alloc(), want)?, told);
     }
     Ok(())
 }
@@ -62,21 +64,24 @@ fn is_list(items: &Items<u8>, want: &[u8], sum: u8) -> bool {
         && added == sum
 }
 
+// Whether a list of these bytes is this one.
+fn is_made(alloc: Global, want: &[u8], sum: u8, told: &str) -> Result<bool, AllocError> {
+    let items = Items::from(want.to_vec(alloc)?);
+    Ok(is_list(&items, want, sum) && is_told(alloc, &items, told)?)
+}
+
+// Whether two lists of these bytes are the same, and one of them as a vector.
+fn is_vector(alloc: Global, want: &[u8]) -> Result<bool, AllocError> {
+    let items = Items::from(want.to_vec(alloc)?);
+    let is_same = Items::from_vec(want.to_vec(alloc)?) == items;
+    Ok(is_same && items.into_vec().as_slice() == want)
+}
+
 #[test]
 fn lists(rt: HostRuntime) -> Result<(), Fail> {
     for (want, sum, told) in &LISTS {
-        let items = Items::from(want.to_vec(rt.alloc())?);
-        check(
-            &rt,
-            is_list(&items, want, *sum) && is_told(rt.alloc(), &items, told)?,
-            told,
-        );
-        check(
-            &rt,
-            Items::from_vec(want.to_vec(rt.alloc())?) == items,
-            told,
-        );
-        check(&rt, items.into_vec().as_slice() == *want, told);
+        check(&rt, is_made(rt.alloc(), want, *sum, told)?, told);
+        check(&rt, is_vector(rt.alloc(), want)?, told);
     }
     assert!(rt; Items::<u8>::new(rt.alloc()).is_empty());
     Ok(())

@@ -1,5 +1,5 @@
 //! What the commands of iTerm2 hold.
-use crate::told::{check, is_shown, is_told};
+use crate::told::{check, is_shown, is_told, writes};
 use esc_below::Text;
 use esc_iterm::tenths::{Tenths, read_tenths};
 use esc_iterm::{Boxed, ITermProprietary};
@@ -31,7 +31,7 @@ fn tenths(rt: HostRuntime) -> Result<(), Fail> {
 fn a_report_is_written(rt: HostRuntime) -> Result<(), Fail> {
     let report = ITermProprietary::ReportVariable(Text::from_str(rt.alloc(), "hello")?);
     let text = "1337;ReportVariable=aGVsbG8=";
-    check(&rt, is_shown(rt.alloc(), &report, text)?, text);
+    check(&rt, writes(rt.alloc(), report, text)?, text);
     Ok(())
 }
 

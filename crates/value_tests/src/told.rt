@@ -41,6 +41,11 @@ pub fn is_shown<T: Display>(alloc: Global, value: &T, shown: &str) -> Result<boo
     Ok(is_taken && written.as_str() == shown)
 }
 
+/// The same of a value that is dropped then.
+pub fn writes<T: Display + Drop>(alloc: Global, value: T, shown: &str) -> Result<bool, AllocError> {
+    is_shown(alloc, &value, shown)
+}
+
 /// The parts of a text, between which `;` is.
 pub fn parts_of(alloc: Global, text: &[u8]) -> Result<Vec<&[u8]>, AllocError> {
     let mut parts = Vec::new(alloc);

@@ -24,14 +24,39 @@ fn transmit(content: KittyImageData) -> KittyImage {
     }
 }
 
+// An image without keys.
+fn bare(alloc: Global) -> Result<KittyImage, AllocError> {
+    let data = Text::from_str(alloc, "AAAA")?;
+    Ok(transmit(KittyImageData::Direct(data)))
+}
+
 #[test]
 fn without_keys(rt: HostRuntime) -> Result<(), Fail> {
     let alloc = rt.alloc();
-    let image = transmit(KittyImageData::Direct(Text::from_str(alloc, "AAAA")?));
-    let text = format!(in alloc; "{image}")?;
+    let text = shown(alloc, bare(alloc)?)?;
     assert_eq!(rt; text.as_str(), "\x1b_Ga=t;AAAA");
-    assert!(rt; KittyImage::parse_apc(alloc, b"Ga=t;AAAA")? == Some(image));
     Ok(())
+}
+
+#[test]
+fn without_keys_read(rt: HostRuntime) -> Result<(), Fail> {
+    let alloc = rt.alloc();
+    let read = KittyImage::parse_apc(alloc, b"Ga=t;AAAA");
+    assert!(rt; are_same(read, bare(alloc).map(Some)));
+    Ok(())
+}
+
+// Whether both are there, and the same.
+fn are_same<T: PartialEq + Drop>(one: Result<T, AllocError>, other: Result<T, AllocError>) -> bool {
+    match (one, other) {
+        (Ok(one), Ok(other)) => one == other,
+        _ => false,
+    }
+}
+
+// The Display text of an image.
+fn shown<T: Display + Drop>(alloc: Global, image: T) -> Result<String, AllocError> {
+    format!(in alloc; "{image}")
 }
 
 #[test]
