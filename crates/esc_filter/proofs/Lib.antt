@@ -8,3 +8,4 @@ pub mod Sinks
 pub mod Steps
 pub mod Texts
 pub mod Writable
+pub mod Images

@@ -1,13 +1,14 @@
 //! Whoever says which actions a filter lets through.
-ghost use Rattle.std.specs.Prelude.{◌≡◌, Bool, IfSome, IsTrue, Some, false, not, true, ◌&&◌};
+ghost use Rattle.std.specs.Prelude.{◌≡◌, Bool, IfSome, IsTrue, Some, false, true};
 ghost use Rattle.std.specs.List.{list_all, list_any};
 ghost use Rattle.std.specs.Str.{chars};
 ghost use Rattle.esc_below.specs.Clear.{parts_of};
 ghost use Rattle.esc_below.specs.Csis.{csi_of, csi_value};
 ghost use Rattle.esc_actions.specs.Values.{Value, csi, device_value, osc, print, value_of};
-ghost use Rattle.esc_actions.specs.Writable.{is_exception, is_opening, is_truncated};
+ghost use Rattle.esc_actions.specs.Writable.{is_opening, is_truncated};
 ghost use Rattle.esc_device.specs.Writable.{is_high_byte};
 ghost use Rattle.esc_osc.specs.Reading.{meaning as command_meant};
+ghost use Rattle.escape_stream.specs.Images.{is_image};
 ghost use Rattle.esc_filter.specs.Passing.{is_opener, is_whole, passes};
 
 use escape_stream::{Action, CSI, CsiParam, DeviceControlMode, Esc};
@@ -63,8 +64,17 @@ pub trait Admit<A: Allocator> {
         None
     }
 
+    /// Whether an image, of kitty's protocol or sixel, may be admitted. Where it returns false, as it does not by default, none is made.
+    #[inline]
+    fn admits_images(&self) -> bool
+        ensures { result ≡ false → (v : Value A) → is_image v ≡ true → admits self.now v ≡ false }
+    {
+        true
+    }
+
     /// Is shown each action that does not pass, also one that no policy is asked of, but for those of which
-    /// [`admits_sequence`](Admit::admits_sequence) or [`admits_command`](Admit::admits_command) returns false. It does nothing, unless an implementation does.
+    /// [`admits_sequence`](Admit::admits_sequence), [`admits_command`](Admit::admits_command) or [`admits_images`](Admit::admits_images)
+    /// returns false. It does nothing, unless an implementation does.
     fn leaves_out(&self, _action: &Action<A>) {}
 }
 

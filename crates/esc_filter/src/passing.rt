@@ -89,4 +89,10 @@ impl<'p, P: Admit<A>, A: Allocator> Sink<Action<A>> for Passing<'p, P, A> {
             None => Ok(false),
         }
     }
+
+    #[tactic(auto, using(crate::proofs::Images::passed_over))]
+    #[inline]
+    fn drops_images(&self) -> bool {
+        !self.policy.admits_images()
+    }
 }

@@ -73,6 +73,17 @@ impl<A: Allocator> Admit<A> for Policy {
             Policy::All => Some(true),
         }
     }
+
+    #[tactic(auto, using(crate::proofs::Images::text_images, crate::proofs::Images::colour_images, crate::proofs::Images::screen_images))]
+    #[inline]
+    fn admits_images(&self) -> bool {
+        match self {
+            Policy::Text => false,
+            Policy::Color => false,
+            Policy::Screen => false,
+            Policy::All => true,
+        }
+    }
 }
 
 // Whether the command of this text is a link; known where it begins with a digit other than 8, and where it is a plain link in ASCII.

@@ -11,8 +11,6 @@ use Rattle.esc_frame.specs.Events.{StopsAt as StopsAtEvent}
 use Rattle.esc_frame.specs.Events.Event.{DcsPut}
 use Rattle.esc_frame.specs.Limits.{is_within, most}
 use Rattle.esc_frame.specs.declared.count.Count.{Count}
-use Rattle.esc_sixel.specs.Steps.{Pushes as PushesSixel}
-use Rattle.esc_sixel.specs.declared.builder.SixelBuilder.{SixelBuilder}
 use Rattle.esc_tcap.specs.Names.{Pushes as PushesTermcap}
 use Rattle.esc_tcap.specs.declared.builder.GetTcapBuilder.{GetTcapBuilder}
 use Rattle.esc_actions.specs.Groups.{is_entered}
@@ -24,9 +22,11 @@ use Rattle.escape_stream.proofs.DataLimits.{entered_put, over_stays, quiet_put, 
 use Rattle.escape_stream.proofs.TextRuns.{Refuses, Takes}
 use Rattle.escape_stream.specs.Fed.{CountsData, HasRoom, Hooks, Keeps, TakesData, is_mode}
 use Rattle.escape_stream.specs.Given.{At, StopsAt}
+use Rattle.escape_stream.specs.Sixels.{Pushes as PushesSixel}
 use Rattle.escape_stream.specs.declared.hooked.Hooked.{Hooked}
 use Rattle.escape_stream.specs.declared.hooked.Hooked.TheVariants as hooked
 use Rattle.escape_stream.specs.declared.performer.Performer.{Performer}
+use Rattle.escape_stream.specs.declared.sixel_text.SixelText.{SixelText}
 use Rattle.escape_stream.specs.declared.unfinished.Unfinished.{Unfinished}
 
 -- a count with so many more
@@ -97,7 +97,7 @@ module _ {A B : Type 0} (R : B → ℕ → B → Type 0) (f : B → Hooked A) (s
             (same ∙ ap (λ n. record u { hooked = f q; «data» = record u.data { bytes = n } }) sum),
       )
 
-pub sixel_step : {A : Type 0} (x : Box (SixelBuilder A) A) (limit : Option ℕ) (c : Count) (m : Mode) (p q : SixelBuilder A) (b : ℕ) → HasRoom limit c 1
+pub sixel_step : {A : Type 0} (x : Box (SixelText A) A) (limit : Option ℕ) (c : Count) (m : Mode) (p q : SixelText A) (b : ℕ) → HasRoom limit c 1
     → PushesSixel p b q → Keeps limit (hooked.Sixel (with_value x p)) c m
     → Keeps limit (hooked.Sixel (with_value x q)) (counted c 1) (taken m b)
 sixel_step x limit c plain p q b room r h = absurd h
@@ -125,7 +125,7 @@ short_step x limit c entered p q b room r h = absurd h
 
 -- a run that a builder takes, which what is hooked holds
 module _ {A : Type 0} (bs : List ℕ) (u v : Unfinished A) where
-  pub sixel_run : (x : Box (SixelBuilder A) A) (y : SixelBuilder A) → u.hooked ≡ hooked.Sixel x → HasRoom u.limit u.data (length bs)
+  pub sixel_run : (x : Box (SixelText A) A) (y : SixelText A) → u.hooked ≡ hooked.Sixel x → HasRoom u.limit u.data (length bs)
       → FoldsTo PushesSixel x.value bs y → v ≡ holding u (hooked.Sixel (with_value x y)) (length bs) → FoldsTo TakesData u bs v
   sixel_run x y is room h same =
       builder_run PushesSixel (λ z. hooked.Sixel (with_value x z)) (λ p q. refl) (sixel_step x) bs x.value y u v is room h same

@@ -6,8 +6,8 @@ use Rattle.esc_frame.specs.declared.count.Count.{Count}
 use Rattle.esc_actions.specs.Meaning.{mode_from}
 use Rattle.esc_actions.specs.Values.{Mode, plain, in_sixel, in_termcap, in_short, entered, data_count, taken}
 use Rattle.esc_device.specs.Leads.{LeadsShort}
-use Rattle.esc_sixel.specs.Steps.{LeadsTo as LeadsSixel}
 use Rattle.esc_tcap.specs.Names.{LeadsTo as LeadsTermcap}
+use Rattle.escape_stream.specs.Sixels.{Holds as HoldsSixel}
 use Rattle.escape_stream.specs.declared.hooked.Hooked.{Hooked}
 use Rattle.escape_stream.specs.declared.hooked.Hooked.TheVariants as hooked
 use Rattle.escape_stream.specs.declared.parser.Parser.{Parser}
@@ -20,7 +20,7 @@ CountsData limit c d = Counts limit c (length d) × (is_within limit (length d) 
 -- what is hooked is what is unfinished, or nothing of it where its data is past the limit
 abbrev pub Keeps : {A : Type 0} → Option ℕ → Hooked A → Count → Mode → Type 0
 Keeps limit hooked.Nothing c plain = Unit {0}
-Keeps limit (hooked.Sixel b) c (in_sixel ps d) = LeadsSixel ps d b.value × CountsData limit c d
+Keeps limit (hooked.Sixel b) c (in_sixel ps d) = HoldsSixel ps d b.value × CountsData limit c d
 Keeps limit (hooked.Termcap b) c (in_termcap d) = LeadsTermcap d b × CountsData limit c d
 Keeps limit (hooked.Short b) c (in_short ps is f d) = LeadsShort ps is f d b.value × CountsData limit c d
 Keeps limit hooked.Entered c entered = Unit {0}

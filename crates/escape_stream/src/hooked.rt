@@ -6,10 +6,10 @@ ghost use Rattle.esc_device.specs.declared.kind.StringKind.TheVariants as kind;
 ghost use Rattle.esc_frame.specs.declared.count.Count.{Count};
 ghost use Rattle.escape_stream.specs.Fed.{Begins, Keeps};
 
+use crate::sixel_text::SixelText;
 use esc_actions::Action;
 use esc_below::Boxed;
 use esc_device::{DeviceControlMode, EnterDeviceControlMode, ShortBuilder, StringKind};
-use esc_sixel::SixelBuilder;
 use esc_tcap::GetTcapBuilder;
 use std::alloc::{AllocError, Allocator, Global};
 
@@ -19,7 +19,7 @@ pub enum Hooked<A: Allocator = Global> {
     /// No string is unfinished.
     Nothing,
     /// A sixel image.
-    Sixel(Box<SixelBuilder<A>, A>),
+    Sixel(Box<SixelText<A>, A>),
     /// A termcap query.
     Termcap(GetTcapBuilder<A>),
     /// A short device control.
@@ -42,8 +42,8 @@ pub(crate) fn begin<A: Allocator + Copy>(
     ensures { (limit : Option ℕ) → IfOk result (λ h. Begins limit h (opened kind byte params.now intermediates.now)) }
 {
     match kind {
-        StringKind::Sixel => match Box::new(alloc, SixelBuilder::new(alloc, params)) {
-            Ok(builder) => Ok(Hooked::Sixel(builder)),
+        StringKind::Sixel => match Box::new(alloc, SixelText::new(alloc, params)) {
+            Ok(text) => Ok(Hooked::Sixel(text)),
             Err(_) => Err(AllocError),
         },
         StringKind::Termcap => Ok(Hooked::Termcap(GetTcapBuilder::new(alloc))),
@@ -84,10 +84,9 @@ pub(crate) fn end<A: Allocator + Copy>(
 {
     match hooked {
         Hooked::Nothing | Hooked::Over => Ok(None),
-        Hooked::Sixel(builder) => {
-            let mut builder = Box::into_inner(builder);
-            builder.finish()?;
-            Ok(Some(Action::Sixel(Boxed::new(alloc, builder.sixel)?)))
+        Hooked::Sixel(text) => {
+            let sixel = Box::into_inner(text).finish()?;
+            Ok(Some(Action::Sixel(Boxed::new(alloc, sixel)?)))
         }
         Hooked::Termcap(builder) => Ok(Some(Action::XtGetTcap(builder.finish()?))),
         Hooked::Short(builder) => {

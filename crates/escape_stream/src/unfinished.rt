@@ -1,11 +1,12 @@
 //! The device control string that is unfinished.
-ghost use Rattle.std.specs.Prelude.{◌≡◌, ℕ, IfOk, OnOk, Option, length, min, option_to_list, true};
-ghost use Rattle.std.specs.List.{FoldsTo};
+ghost use Rattle.std.specs.Prelude.{◌≡◌, ℕ, IfOk, IsTrue, OnOk, Option, length, min, option_to_list, true};
+ghost use Rattle.std.specs.List.{FoldsTo, list_all};
 ghost use Rattle.std.specs.Option.{option_map};
 ghost use Rattle.esc_frame.specs.Limits.{kept_within, most};
 ghost use Rattle.esc_actions.specs.Values.{Mode, closed_gives, data_count, opened, plain, taken, value_of};
 ghost use Rattle.esc_actions.specs.Groups.{is_entered};
 ghost use Rattle.escape_stream.specs.Fed.{HasRoom, Hooks, TakesData, is_mode};
+ghost use Rattle.escape_stream.specs.Images.{is_image};
 ghost use Rattle.escape_stream.specs.declared.hooked.Hooked.TheVariants as hooked;
 
 use crate::hooked::{Hooked, begin, end};
@@ -85,9 +86,9 @@ impl<A: Allocator + Copy> Unfinished<A> {
     {
         match &mut self.hooked {
             Hooked::Nothing | Hooked::Entered | Hooked::Over => return Ok(()),
-            Hooked::Sixel(builder) => {
+            Hooked::Sixel(text) => {
                 if self.data.add(self.limit, 1) {
-                    return builder.push(byte);
+                    return text.push(byte);
                 }
             }
             Hooked::Termcap(builder) => {
@@ -134,10 +135,27 @@ impl<A: Allocator + Copy> Unfinished<A> {
         self.data.bytes += bytes.len();
         match &mut self.hooked {
             Hooked::Nothing | Hooked::Entered | Hooked::Over => Ok(()),
-            Hooked::Sixel(builder) => builder.push_run(bytes),
+            Hooked::Sixel(text) => text.push_run(bytes),
             Hooked::Termcap(builder) => builder.push_run(bytes),
             Hooked::Short(builder) => builder.push_run(bytes),
         }
+    }
+
+    /// Whether it is a sixel image: then its end gives an image or nothing.
+    #[tactic(auto, unfolding(crate::specs::Fed::Hooks), using(crate::proofs::Images::sixel_images))]
+    #[inline]
+    pub fn is_sixel(&self) -> bool
+        ensures { IsTrue result → (limit : Option ℕ) (m : Mode) → Hooks limit self.now m → list_all (is_image {A = A}) (closed_gives limit m) ≡ true }
+    {
+        matches!(self.hooked, Hooked::Sixel(_))
+    }
+
+    /// Drops all that is kept. Nothing is unfinished then.
+    #[tactic(auto, unfolding(crate::specs::Fed::Hooks))]
+    pub fn clear(&mut self)
+        ensures { (limit : Option ℕ) (m : Mode) → Hooks limit self.old m → Hooks limit self.new plain }
+    {
+        self.hooked = Hooked::Nothing;
     }
 
     /// The action of its end, where it has one. Nothing is unfinished then.

@@ -201,6 +201,10 @@ impl<'t, A: Allocator> Admit<A> for Counting<'t> {
         <Policy as Admit<A>>::admits_command(&self.policy, text)
     }
 
+    fn admits_images(&self) -> bool {
+        self.tally.is_some() || <Policy as Admit<A>>::admits_images(&self.policy)
+    }
+
     fn leaves_out(&self, action: &Action<A>) {
         if let Some(tally) = self.tally {
             tally.set(tally.get().left_out(action));

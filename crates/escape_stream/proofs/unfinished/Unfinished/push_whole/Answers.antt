@@ -1,18 +1,18 @@
 use Rattle.std.proofs.Common.{refl, subst}
 use Rattle.std.specs.List.{FoldsTo}
 use Rattle.esc_device.specs.Leads.{Pushes as PushesShort}
-use Rattle.esc_sixel.specs.Steps.{Pushes as PushesSixel}
 use Rattle.escape_stream.proofs.DataRuns.{idle_run, short_run, sixel_run, termcap_run}
 use Rattle.escape_stream.proofs.Lists.{on_ok_more}
+use Rattle.escape_stream.specs.Sixels.{Pushes as PushesSixel}
 use Rattle.escape_stream.proofs.unfinished.Unfinished.push_whole.Goals as goal
 
 pub returns-in-Sixel : goal.returns-in-Sixel
 returns-in-Sixel g c =
     let new = c.push_run.new.self in
     on_ok_more _ _ c.push_run.result
-    (λ h. sixel_run c.args.bytes.now c.args.self.now _ c.in-Sixel.builder new c.in-Sixel.is c.requires
+    (λ h. sixel_run c.args.bytes.now c.args.self.now _ c.in-Sixel.text new c.in-Sixel.is c.requires
     (subst (λ b. FoldsTo PushesSixel b c.args.bytes.now new) c.deref_mut.ensures.value h) refl)
-    c.push_run.ensures.each
+    c.push_run.ensures
 
 pub returns-in-Termcap : goal.returns-in-Termcap
 returns-in-Termcap g c =
