@@ -103,31 +103,15 @@ fn pass_on<W: Write, P: Admit<A> + Drop, A: Allocator + Copy>(
 // Writes all of the text, and flushes the writer.
 fn write_out<W: Write>(writer: &mut Watched<W>, text: &str) -> Result<(), FilterError>
     ensures whole { OnOk result (Appends (W.contents (inner_of writer.old)) (W.contents (inner_of writer.new)) text.now) }
-    ensures front { OnErr result (AppendsPrefix (W.contents (inner_of writer.old)) (W.contents (inner_of writer.new)) text.now) }
+    ensures beginning { OnErr result (AppendsPrefix (W.contents (inner_of writer.old)) (W.contents (inner_of writer.new)) text.now) }
     ensures fault { IfErr result (λ e. e ≡ FilterError.Write) }
     ensures told { has_failed writer.old ≡ false → (IsErrOf result FilterError.Write ↔ IsTrue (has_failed writer.new)) }
 {
-    write_whole(writer, text.as_bytes())?;
+    if !writer.write_whole(text.as_bytes()) {
+        return Err(FilterError::Write);
+    }
     match writer.flush() {
         Ok(()) => Ok(()),
         Err(_) => Err(FilterError::Write),
     }
-}
-
-// Writes all of the bytes.
-fn write_whole<W: Write>(writer: &mut Watched<W>, bytes: &[u8]) -> Result<(), FilterError>
-    ensures whole { OnOk result (Appends (W.contents (inner_of writer.old)) (W.contents (inner_of writer.new)) bytes.now) }
-    ensures front { OnErr result (AppendsPrefix (W.contents (inner_of writer.old)) (W.contents (inner_of writer.new)) bytes.now) }
-    ensures fault { IfErr result (λ e. e ≡ FilterError.Write) }
-    ensures told { has_failed writer.old ≡ false → (IsErrOf result FilterError.Write ↔ IsTrue (has_failed writer.new)) }
-{
-    let mut rest = bytes;
-    while !rest.is_empty() {
-        match writer.write(rest) {
-            Ok(0) => return Err(FilterError::Write),
-            Ok(n) => rest = &rest[n..],
-            Err(_) => return Err(FilterError::Write),
-        }
-    }
-    Ok(())
 }

@@ -15,7 +15,7 @@ pub returns-in-Ok-clause-beginning : goal.returns-in-Ok-clause-beginning
 returns-in-Ok-clause-beginning g c = λ limit s h.
     let k = c.in-Ok.ensures.given limit s h in
     let e = k.1 ∙ ap (λ x. passed_text (Some limit) (g.P.Admit.admits c.args.filter.now.policy) s ++ x) (sym c.text.ensures) in
-    on_err_more _ _ c.write_out.result (λ a. (c.text.result.now, e, a)) c.write_out.ensures.front
+    on_err_more _ _ c.write_out.result (λ a. (c.text.result.now, e, a)) c.write_out.ensures.beginning
 
 pub returns-in-Err-clause-beginning : goal.returns-in-Err-clause-beginning
 returns-in-Err-clause-beginning g c = λ limit s h.
