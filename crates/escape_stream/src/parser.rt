@@ -162,7 +162,7 @@ impl<A: Allocator + Copy> Parser<A> {
     ghost use Rattle.std.specs.List.{FoldsTo};
     ghost use Rattle.escape_stream.specs.Fed.{IsBroken, WasFed, WasFedWithin};
 
-    // Gives the sink, in order, the actions that a front of `bytes` adds, and hands it back, with the length of the front.
+    // Gives the sink, in order, the actions that a prefix of `bytes` adds, and hands it back, with the length of the prefix.
     // All but the last byte of it add nothing and leave a segment unfinished.
     #[tactic(auto, unfolding(crate::specs::Fed::WasFedWithin))]
     fn feed_some<S: Sink<Action<A>>>(
@@ -200,7 +200,7 @@ impl<A: Allocator + Copy> Parser<A> {
         }
     }
 
-    // The first action that a front of `bytes` adds, where it adds one, and the length of the front.
+    // The first action that a prefix of `bytes` adds, where it adds one, and the length of the prefix.
     fn first_in(&mut self, bytes: &[u8]) -> Result<(usize, Option<Action<A>>), ParseError>
         ensures count { IfOk result (λ x. (x.0 ≤ length bytes.now) × (0 < length bytes.now → 0 < x.0)) }
         ensures empty { length bytes.now ≡ 0 → IfOk result (λ x. x.1 ≡ None) }
@@ -215,7 +215,7 @@ impl<A: Allocator + Copy> Parser<A> {
         Ok((taken, action))
     }
 
-    // The first action of the shortest front of `bytes` that adds one, and the length of the front.
+    // The first action of the shortest prefix of `bytes` that adds one, and the length of the prefix.
     fn first_of(&mut self, bytes: &[u8]) -> Result<Option<(Action<A>, usize)>, ParseError>
         ensures count { IfOk result (λ r. IfSome r (λ x. (0 < x.1) × (x.1 ≤ length bytes.now))) }
         ensures some { (limit : Option ℕ) (s : List ℕ) → WasFedWithin limit s self.old → IfOk result (λ r. IfSome r (λ x. WasFedWithin limit (s ++ take x.1 bytes.now) self.new × IsFirst limit s bytes.now (value_of x.0) x.1)) }
@@ -240,7 +240,7 @@ impl<A: Allocator + Copy> Parser<A> {
         }
     }
 
-    // The control that stands at the front in ground.
+    // The control that comes first, in ground.
     #[tactic(auto, unfolding(crate::specs::Fed::WasFedWithin))]
     #[cold]
     fn first_control(&self, bytes: &[u8]) -> Option<ControlCode>
@@ -278,7 +278,7 @@ impl<A: Allocator + Copy> Parser<A> {
         }
     }
 
-    // The actions so far, and those that a front of `bytes` adds; with the length of the front.
+    // The actions so far, and those that a prefix of `bytes` adds; with the length of the prefix.
     fn more_in(
         &mut self,
         bytes: &[u8],
