@@ -1,7 +1,7 @@
 //! What a call gives: one event, as numbers and places.
 #![tactic(auto)]
 
-ghost use Rattle.std.specs.Prelude.{◌≡◌};
+ghost use Rattle.std.specs.Prelude.{◌≡◌, false, pos};
 
 /// Nothing came: all bytes were taken.
 pub const NONE: u32 = 0;
@@ -56,7 +56,10 @@ pub struct EscEntry {
 
 impl EscEntry {
     /// The number 0.
-    pub fn none() -> Self {
+    pub fn none() -> Self
+        ensures number { result.number ≡ pos 0 }
+        ensures kind { result.is_byte ≡ false }
+    {
         EscEntry {
             number: 0,
             byte: 0,
@@ -88,7 +91,9 @@ pub struct EscEvent {
 
 impl EscEvent {
     /// No event.
-    pub fn new() -> Self {
+    pub fn new() -> Self
+        ensures { result.kind ≡ NONE }
+    {
         EscEvent {
             kind: NONE,
             byte: 0,

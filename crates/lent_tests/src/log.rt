@@ -161,7 +161,7 @@ impl VTActor for Log {
         Ok(())
     }
 
-    #[tactic(auto, using(crate::proofs::Heard::hears_both))]
+    #[tactic(auto, using(esc_lent::proofs::Folds::hears_both))]
     fn dcs_header<A: Allocator + Copy>(
         &mut self,
         _alloc: A,
@@ -218,7 +218,7 @@ impl VTActor for Log {
         self.put_more(parameters_truncated)
     }
 
-    #[tactic(auto, using(crate::proofs::Heard::hears_both))]
+    #[tactic(auto, using(esc_lent::proofs::Folds::hears_both))]
     fn osc_text<A: Allocator>(&mut self, _alloc: A, text: &[u8]) -> Result<(), AllocError> {
         self.note_osc(text)
     }
