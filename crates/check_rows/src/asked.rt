@@ -93,13 +93,12 @@ impl Asked {
     }
 }
 
+// How a list of actions begins, and a first action that has no data.
+static WITHOUT_DATA: [&str; 5] = ["[]", "[Print(", "[Control(", "[Esc(", "[CSI("];
+
 // Whether the first action of a list is that of a string, whose data takes memory.
 fn begins_with_a_string(actions: &str) -> bool {
-    let has_no_data = actions.starts_with("[Print(")
-        || actions.starts_with("[Control(")
-        || actions.starts_with("[Esc(")
-        || actions.starts_with("[CSI(");
-    actions != "[]" && !has_no_data
+    !WITHOUT_DATA.iter().any(|begin| actions.starts_with(*begin))
 }
 
 // The Debug text of what the call returns. A parser that was refused memory has failed.

@@ -125,28 +125,24 @@ fn wrong_request<'a>(
     None
 }
 
-// What is wrong with the answer of an action, and no text where it is right.
-fn difference(
+// The first request that, refused, makes the answer of this action another one.
+fn wrong_request_of(
     heap: &Refusing<Global>,
-    alloc: Global,
     what: Made,
     wanted: bool,
-) -> Result<String, AllocError> {
+) -> Result<Option<u64>, AllocError> {
     heap.refuse_at(0);
     let action = action_of(heap, what)?;
-    match wrong_request(heap, &action, wanted) {
-        Some(at) => format!(in alloc; "{action:?}, request {at}"),
-        None => Ok(String::new(alloc)),
-    }
+    Ok(wrong_request(heap, &action, wanted))
 }
 
 // With each request for memory refused in turn, the answer is an error or stays the same.
 #[test]
 fn each_kind_of_action(rt: HostRuntime) -> Result<(), Fail> {
     let heap = Refusing::new(rt.alloc());
-    for (what, wanted) in &MADE {
-        let difference = difference(&heap, rt.alloc(), *what, *wanted)?;
-        assert_eq!(rt; difference.as_str(), "");
+    for (row, (what, wanted)) in MADE.iter().enumerate() {
+        let wrong = wrong_request_of(&heap, *what, *wanted)?;
+        assert_eq!(rt; wrong, None, "row {row}");
     }
     Ok(())
 }
@@ -177,13 +173,14 @@ static PARTS: [(&[u8], usize, usize, bool); 19] = [
 // Whether these actions are a writable list, and none where there are fewer, or memory is refused.
 fn answer(
     alloc: Global,
-    actions: Result<Vec<Action>, ParseError>,
+    actions: &Result<Vec<Action>, ParseError>,
     from: usize,
     to: usize,
 ) -> Option<bool> {
-    let actions = actions.ok()?;
-    let asked = actions.get(from..to)?;
-    are_writable(alloc, asked).ok()
+    match actions {
+        Ok(actions) => are_writable(alloc, actions.get(from..to)?).ok(),
+        Err(_) => None,
+    }
 }
 
 #[test]
@@ -191,7 +188,7 @@ fn lists_and_their_groups(rt: HostRuntime) {
     let alloc = rt.alloc();
     for (stream, from, to, wanted) in &PARTS {
         let actions = Parser::new(alloc).parse_as_vec(stream);
-        let answer = answer(alloc, actions, *from, *to);
+        let answer = answer(alloc, &actions, *from, *to);
         assert_eq!(rt; answer, Some(*wanted), "{stream:?}");
     }
 }
