@@ -13,8 +13,10 @@ on_err_any X (Ok t) x = tt
 on_err_any X (Err e) x = x
 
 -- a prefix of a text is one of a text that begins with it
-pub prefix_after : (a b c : Option (List ℕ)) (before more whole : List ℕ) → Appends a b before → AppendsPrefix b c more → whole ≡ before ++ more → AppendsPrefix a c whole
-prefix_after a b c before more whole h (p, r, is, w) e = (before ++ p, r, e ∙ ap (λ x. before ++ x) is ∙ sym (append_assoc before p r), Appends-trans a b c before p h w)
+pub prefix_after : (a b c : Option (List ℕ)) (before more whole : List ℕ) → Appends a b before → AppendsPrefix b c more → whole ≡ before ++ more
+    → AppendsPrefix a c whole
+prefix_after a b c before more whole h (p, r, is, w) e =
+    (before ++ p, r, e ∙ ap (λ x. before ++ x) is ∙ sym (append_assoc before p r), Appends-trans a b c before p h w)
 
 -- all of it is one
 pub prefix_whole : (a b : Option (List ℕ)) (t : List ℕ) → Appends a b t → AppendsPrefix a b t

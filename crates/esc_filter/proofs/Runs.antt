@@ -67,7 +67,8 @@ str_admitted A p text u h =
 abbrev pub TakesBy : {P A : Type 0} → (P → Value A → Bool) → Passing P A → Action A → Passing P A → Type 0
 TakesBy allows p a q = Takes (allows p.policy.now) p.spell a q.spell × (q.policy.now ≡ p.policy.now)
 
-one_passes : {A : Type 0} (b : Bool) (p q : Spell A) (c : ℕ) → b ≡ true → Adds p (action.Print c) q → (b ≡ true → Adds p (action.Print c) q) × (b ≡ false → q ≡ p)
+one_passes : {A : Type 0} (b : Bool) (p q : Spell A) (c : ℕ) → b ≡ true → Adds p (action.Print c) q
+    → (b ≡ true → Adds p (action.Print c) q) × (b ≡ false → q ≡ p)
 one_passes true p q c e h = (λ k. h, λ k. absurd cc)
 one_passes false p q c e h = absurd cc
 

@@ -50,7 +50,8 @@ module _ {S K A : Type 0} (admits : K → Value A → Bool) (policy : S → K) (
       let r = gives_all j vs q rest in (
         r.0 ∙ w.1,
         gives_one (passes (admits (policy p)) v) (spell p) (spell j) (spell q) a v (filter (passes (admits (policy p))) vs) is
-            (subst (λ x. (passes (admits (policy p)) x ≡ true → Adds (spell p) a (spell j)) × (passes (admits (policy p)) x ≡ false → spell j ≡ spell p)) is w.0)
+            (subst (λ x. (passes (admits (policy p)) x ≡ true → Adds (spell p) a (spell j))
+            × (passes (admits (policy p)) x ≡ false → spell j ≡ spell p)) is w.0)
             (subst (λ k. Gives (spell j) (filter (passes (admits k)) vs) (spell q)) w.1 r.1),
       )
 

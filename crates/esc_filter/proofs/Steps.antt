@@ -14,4 +14,5 @@ Passes limit admits s b f old new = WasFed limit admits (s ++ b) f
 
 -- a prefix of its text was written
 abbrev pub PassesSome : {A : Type 0} → ℕ → (Value A → Bool) → List ℕ → List ℕ → Option (List ℕ) → Option (List ℕ) → Type 0
-PassesSome limit admits s b old new = (t : List ℕ) × (passed_text (Some limit) admits (s ++ b) ≡ passed_text (Some limit) admits s ++ t) × AppendsPrefix old new t
+PassesSome limit admits s b old new = (t : List ℕ) × (passed_text (Some limit) admits (s ++ b) ≡ passed_text (Some limit) admits s ++ t)
+    × AppendsPrefix old new t

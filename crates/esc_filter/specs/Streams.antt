@@ -7,7 +7,8 @@ use Rattle.esc_filter.specs.Passing.{IsFiltered, passed_text}
 
 -- it read some bytes, and wrote a text that is what passes of them and reads back as that
 abbrev pub HasFiltered : {A : Type 0} → (Value A → Bool) → ℕ → Option (List ℕ) → Option (List ℕ) → Option (List ℕ) → Option (List ℕ) → Type 0
-HasFiltered admits limit remained remain held hold = (s : List ℕ) × (t : List ℕ) × Consumes remained remain s × Appends held hold t × IsFiltered (Some limit) admits s t
+HasFiltered admits limit remained remain held hold = (s : List ℕ) × (t : List ℕ) × Consumes remained remain s × Appends held hold t
+    × IsFiltered (Some limit) admits s t
 
 -- it read some bytes, and wrote the text of what passes of them
 abbrev pub HasWritten : {A : Type 0} → (Value A → Bool) → ℕ → Option (List ℕ) → Option (List ℕ) → Option (List ℕ) → Option (List ℕ) → Type 0

@@ -12,7 +12,8 @@ use Rattle.esc_frame.specs.Machine.Texts.{IsClearText, IsNext}
 use Rattle.std.proofs.Common.{take, length-drop}
 use Rattle.std.proofs.lemmas.List.{get_or-drop}
 use Rattle.esc_frame.proofs.ManyBytes.{tail_is}
-use Rattle.esc_frame.proofs.Characters.{clear_cases, spells_clear, two_is, three_is, four_is, number_two, number_three, number_four, none_none, none_one, none_five}
+use Rattle.esc_frame.proofs.Characters.{clear_cases, spells_clear, two_is, three_is, four_is, number_two, number_three, number_four, none_none}
+use Rattle.esc_frame.proofs.Characters.{none_one, none_five}
 
 -- it begins with a clear character
 abbrev Lead : List ℕ → Type 0

@@ -14,7 +14,8 @@ use Rattle.esc_frame.specs.Classes.{class_of, is_breaker, in_escape, in_csi, str
 use Rattle.esc_frame.specs.Leads.{Unfinished}
 use Rattle.esc_frame.specs.Leads.Unfinished.{Ground, Pending, InEscape, InCsi, InOsc, InApc}
 use Rattle.esc_frame.specs.Machine.Calls.{StaysFresh}
-use Rattle.esc_frame.specs.Machine.Moves.{opened, ground_move, pair_move, pending_move, inside, goes_on, final_escape, after_by, after_all, is_ground, may_grow_in}
+use Rattle.esc_frame.specs.Machine.Moves.{opened, ground_move, pair_move, pending_move, inside, goes_on, final_escape, after_by, after_all, is_ground}
+use Rattle.esc_frame.specs.Machine.Moves.{may_grow_in}
 use Rattle.esc_frame.specs.Machine.Moves.{reaches_growing, passes, all_pass, lends, is_fresh, is_lendable, may_grow_within}
 use Rattle.esc_frame.specs.Segments.{Opener, is_empty}
 use Rattle.esc_frame.specs.Segments.Opener.{Long, Raw, Pair}

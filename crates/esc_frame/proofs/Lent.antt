@@ -1,5 +1,6 @@
 -- Strings whose text is lent, and what ends them.
-use Rattle.std.proofs.Common.{ℕ, ◌≡◌, ◌+◌, ◌<◌, Bool, true, false, not, List, [], ◌∷◌, ◌++◌, length, take, drop, get_or, refl, sym, subst, ap, ◌∙◌, Option, None, Some}
+use Rattle.std.proofs.Common.{ℕ, ◌≡◌, ◌+◌, ◌<◌, Bool, true, false, not, List, [], ◌∷◌, ◌++◌, length, take, drop, get_or, refl, sym, subst, ap, ◌∙◌}
+use Rattle.std.proofs.Common.{Option, None, Some}
 use Rattle.std.proofs.Common.{min, arith}
 use Rattle.std.specs.List.{FoldsTo, list_all}
 use Rattle.std.proofs.lemmas.List.{append-nil}
@@ -15,7 +16,8 @@ use Rattle.esc_frame.specs.Classes.{class_of, those, is_text, is_breaker}
 use Rattle.esc_frame.specs.Leads.{Holds}
 use Rattle.esc_frame.specs.Leads.Unfinished.{Ground, InOsc, InOscPending, InApc}
 use Rattle.esc_frame.specs.Limits.{is_within, most, has_few_parts}
-use Rattle.esc_frame.specs.Machine.Moves.{move, inside, telling, ground_move, pair_move, osc_pending_move, osc_left, ends_osc, after_all, news_all, may_grow_within, after_by}
+use Rattle.esc_frame.specs.Machine.Moves.{move, inside, telling, ground_move, pair_move, osc_pending_move, osc_left, ends_osc, after_all, news_all}
+use Rattle.esc_frame.specs.Machine.Moves.{may_grow_within, after_by}
 use Rattle.esc_frame.specs.Machine.Moves.{IsStill, passes_osc, passes_pending, lends, is_fresh, is_lendable}
 use Rattle.esc_frame.specs.Machine.Calls.{StaysFresh}
 use Rattle.esc_frame.specs.Machine.TextRuns.{IsTextRun}
@@ -122,7 +124,8 @@ module _ {S : Type 0} (limit : Option ℕ) (takes refuses : S → Event → S �
     lent_grows many =
         grows_by (InOsc o ps) rest (reaches_first (InOsc o ps) rest (omega arith) refl)
         (no_if (is_lendable (InOsc o ps) rest) (λ l.
-        let p = lends_at (InOsc o ps) (InOsc o (ps ++ run.0)) rest n (run.2 limit o ps).0 room (and_parts (is_empty (text_of ps)) (lends (InOsc o ps) rest) l).1 in
+        let p = lends_at (InOsc o ps) (InOsc o (ps ++ run.0)) rest n (run.2 limit o ps).0 room
+        (and_parts (is_empty (text_of ps)) (lends (InOsc o ps) rest) l).1 in
         not_so (has_few_parts (take n rest)) many
         (ap has_few_parts lent_text ∙ few_of (ps ++ run.0) c ends (subst (λ k. passes_osc (ps ++ run.0) k ≡ true) (sym e) p))))
 
@@ -135,7 +138,8 @@ module _ {S : Type 0} (limit : Option ℕ) (takes refuses : S → Event → S �
         quiet_took limit takes refuses (InOsc o ps) (InOsc o (ps ++ run.0)) rest n c old new (run.2 limit o ps) room e keeps machine lent_fresh
         (subst (λ m. Holds keeps limit machine m.0 × FoldsTo takes old m.1 new) whole h)
 
-    pub lent_stops : StopsAt (not (has_few_parts (take n rest)) ≡ true) takes refuses old (telling (osc_events limit (take n rest)) (osc_left (get_or rest n 0) c)).1 new
+    pub lent_stops : StopsAt (not (has_few_parts (take n rest)) ≡ true) takes refuses old
+        (telling (osc_events limit (take n rest)) (osc_left (get_or rest n 0) c)).1 new
         → StopsAt (may_grow_within (InOsc o ps) rest ≡ true) takes refuses old (news_all limit (InOsc o ps) rest) new
     lent_stops h =
         quiet_stops_for limit takes refuses (InOsc o ps) (InOsc o (ps ++ run.0)) rest n c old new (run.2 limit o ps) room e

@@ -1,11 +1,13 @@
 -- Where the segments of a cut can be lent, so can the bytes.
-use Rattle.std.proofs.Common.{ℕ, ◌≡◌, Bool, true, false, not, ◌&&◌, ◌||◌, ◌==◌, List, [], ◌∷◌, ◌++◌, refl, ap, sym, ◌∙◌, subst, append_assoc, None, inl, inr, arith}
+use Rattle.std.proofs.Common.{ℕ, ◌≡◌, Bool, true, false, not, ◌&&◌, ◌||◌, ◌==◌, List, [], ◌∷◌, ◌++◌, refl, ap, sym, ◌∙◌, subst, append_assoc, None}
+use Rattle.std.proofs.Common.{inl, inr, arith}
 use Rattle.std.specs.List.{list_all}
 use Rattle.std.proofs.lemmas.Bool.{and_parts, or_cases, or_right}
 use Rattle.std.proofs.lemmas.Bool.Decides.{nat_tests}
 use Rattle.std.proofs.lemmas.List.{append-nil}
 use Rattle.esc_frame.specs.declared.classes.Class.{Class}
-use Rattle.esc_frame.specs.declared.classes.Class.TheVariants.{Lead, Plain, Bell, Delete, High, Cancel, Escape, RawControl, RawOpens, RawTerminator, Intermediate}
+use Rattle.esc_frame.specs.declared.classes.Class.TheVariants.{Lead, Plain, Bell, Delete, High, Cancel, Escape, RawControl, RawOpens, RawTerminator}
+use Rattle.esc_frame.specs.declared.classes.Class.TheVariants.{Intermediate}
 use Rattle.esc_frame.specs.declared.classes.Class.TheVariants.{Parameter, Opens, Final}
 use Rattle.esc_frame.specs.declared.classes.Kind.{Kind}
 use Rattle.esc_frame.specs.declared.classes.Kind.TheVariants as kind
@@ -314,7 +316,8 @@ goes_cut x r s m =
   where
     closed_not : ((gs : List Segment) × IsCut (0x1b ∷ x) gs × AreFinished gs []) → ⊥
     closed_not (gs, c, f) =
-        let k : AreFinished (CutEscape x ∷ []) [] = subst (λ ks. AreFinished ks []) (one_cut (0x1b ∷ x) gs (CutEscape x ∷ []) c (one_whole (CutEscape x) s)) f in
+        let k : AreFinished (CutEscape x ∷ []) [] =
+        subst (λ ks. AreFinished ks []) (one_cut (0x1b ∷ x) gs (CutEscape x ∷ []) c (one_whole (CutEscape x) s)) f in
         let no : false ≡ true = k.1 in cc
 
     on : (r : List ℕ) → MayFollow (CutEscape x) r → all_pass Ground r ≡ true → all_pass (InEscape x) r ≡ true
@@ -352,7 +355,8 @@ osc_bytes o ps e r i a l h =
     let all = append_assoc (opener kind.Osc o) (text_bytes ps) e in (
       ap (all_pass Ground) all ∙ passes_append Ground (opener kind.Osc o) xs
           ∙ both (all_pass Ground (opener kind.Osc o)) _ (opener_pass kind.Osc o i) (ap (λ u. all_pass u xs) (osc_opened o i) ∙ inner),
-      ap (after_all Ground) all ∙ after_append Ground (opener kind.Osc o) xs ∙ ap (λ u. after_all u xs) (osc_opened o i) ∙ after_append (InOsc o []) (text_bytes ps) e
+      ap (after_all Ground) all ∙ after_append Ground (opener kind.Osc o) xs ∙ ap (λ u. after_all u xs) (osc_opened o i)
+          ∙ after_append (InOsc o []) (text_bytes ps) e
           ∙ ap (λ u. after_all u e) t.1,
     )
 
@@ -364,7 +368,8 @@ goes_osc : (o : Opener) (ps : List Piece) (e : Ending) (r : List ℕ) → HasSha
     → has_few_parts (text_of ps) ≡ true → has_ended e ≡ true → MayFollow (Osc o ps e) r → Goes (Osc o ps e) r
 goes_osc o ps (Waits f) r s l few w m = absurd cc
 goes_osc o ps Rung r s l few w m =
-    let rung : (all_pass (InOsc o ps) (0x07 ∷ []) ≡ true) × (after_all (InOsc o ps) (0x07 ∷ []) ≡ Ground) = rw (bell_class, few, after_by, move, inside, goes_on)
+    let rung : (all_pass (InOsc o ps) (0x07 ∷ []) ≡ true) × (after_all (InOsc o ps) (0x07 ∷ []) ≡ Ground) =
+    rw (bell_class, few, after_by, move, inside, goes_on)
     (refl, refl) in
     let b = osc_bytes o ps (0x07 ∷ []) (0x07 ∷ r) s.0 s.1 l rung.0 in
     goes_by (Osc o ps Rung) r Ground b.0 (b.1 ∙ rung.1) (λ h. h)

@@ -62,7 +62,8 @@ module _ {S : Type 0} (limit : Option ℕ) (takes refuses : S → Event → S �
       (subst (λ es. StopsAt (may_grow_within u rest ≡ true) takes refuses old es new) (sym quiet_news)
       (stops_for own (may_grow_within u rest ≡ true) takes refuses _ old new w h))
 
-  pub quiet_stops : (may_grow_in v ≡ true → is_lendable u rest ≡ false) → StopsAt (may_grow_in v ≡ true) takes refuses old (news_by limit v (get_or rest n 0) c) new
+  pub quiet_stops : (may_grow_in v ≡ true → is_lendable u rest ≡ false)
+      → StopsAt (may_grow_in v ≡ true) takes refuses old (news_by limit v (get_or rest n 0) c) new
       → StopsAt (may_grow_within u rest ≡ true) takes refuses old (news_all limit u rest) new
   quiet_stops k h = quiet_stops_for (may_grow_in v ≡ true) (λ g. quiet_grows (k g) g) h
 

@@ -26,7 +26,8 @@ module _ {S : Type 0} (takes refuses : S → Event → S → Type 0) (is_ready :
   pub none_spelled : (s : S) → IsClearText text → is_ready s → HasSpelled takes is_ready text 0 s s
   none_spelled s t r = (omega arith, t, ([], refl, refl), r)
 
-  pub next_spelled : (at c n : ℕ) (old mid new : S) → HasSpelled takes is_ready text at old mid → IsNext (drop at text) c n → takes mid (Print c) new → is_ready new
+  pub next_spelled : (at c n : ℕ) (old mid new : S) → HasSpelled takes is_ready text at old mid → IsNext (drop at text) c n → takes mid (Print c) new
+      → is_ready new
       → HasSpelled takes is_ready text (at + n) old new
   next_spelled at c n old mid new h e g r = (
     omega (arith, h.0, e.1, length-drop at text),
@@ -42,7 +43,8 @@ module _ {S : Type 0} (takes refuses : S → Event → S → Type 0) (is_ready :
       chars_stop takes refuses text (drop at text) (drop n (drop at text)) c old mid new h.1.0 e.0 h.2 own g
 
   -- the same of the text that these bytes are
-  pub stop_given : (t : List ℕ) → text ≡ t → (at c n : ℕ) (old mid new : S) → HasSpelled takes is_ready text at old mid → IsNext (drop at text) c n → (own : Type 0)
+  pub stop_given : (t : List ℕ) → text ≡ t → (at c n : ℕ) (old mid new : S) → HasSpelled takes is_ready text at old mid → IsNext (drop at text) c n
+      → (own : Type 0)
       → refuses mid (Print c) new → StopsAt own takes refuses old (map Print (chars t)) new
   stop_given t same at c n old mid new h e own g =
       subst (λ y. StopsAt own takes refuses old (map Print (chars y)) new) same (stop_spelled at c n old mid new h e own g)

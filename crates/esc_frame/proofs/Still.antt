@@ -167,7 +167,8 @@ module _ (limit : Option ℕ) (u v : Unfinished) (rest : List ℕ) (i n : ℕ) (
     behind_still h j a b =
         let m : Still limit v (take j (drop i rest)) = subst (λ y. Still limit v (take j y)) (tail_is rest i) (h j a b) in (
           ap (news_all limit u) (take-add i j rest) ∙ news_append limit u (take i rest) (take j (drop i rest)) ∙ ap
-              (λ es. es ++ news_all limit (after_all u (take i rest)) (take j (drop i rest))) none ∙ ap (λ w. news_all limit w (take j (drop i rest))) here ∙ m.0,
+              (λ es. es ++ news_all limit (after_all u (take i rest)) (take j (drop i rest))) none
+              ∙ ap (λ w. news_all limit w (take j (drop i rest))) here ∙ m.0,
           ap is_ground (after_more u rest i j ∙ ap (λ w. after_all w (take j (drop i rest))) here) ∙ m.1,
         )
 

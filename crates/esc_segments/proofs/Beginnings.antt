@@ -1,5 +1,6 @@
 -- How far an opener goes, and which one opens a device control string.
-use Rattle.std.proofs.Common.{ℕ, zero, suc, ◌≡◌, ◌+◌, ◌-◌, ◌<◌, ◌≤◌, Bool, true, false, List, [], ◌∷◌, ◌++◌, length, take, drop, get_or, refl, ap, sym, ◌∙◌, subst, arith}
+use Rattle.std.proofs.Common.{ℕ, zero, suc, ◌≡◌, ◌+◌, ◌-◌, ◌<◌, ◌≤◌, Bool, true, false, List, [], ◌∷◌, ◌++◌, length, take, drop, get_or, refl, ap}
+use Rattle.std.proofs.Common.{sym, ◌∙◌, subst, arith}
 use Rattle.std.proofs.Common.{append_assoc, length-append, ◌⊎◌, inl, inr}
 use Rattle.std.proofs.Math.Seq.{get_or-append_seam}
 use Rattle.std.proofs.lemmas.List.Folds.{list_all_at}
@@ -83,7 +84,8 @@ pub empty_len : (bytes : List ℕ) → length bytes ≡ 0 → (k : Kind) (o : Op
 empty_len bytes z k o body e = absurd (omega (arith, ap length e, no_opener k o body))
 
 -- noise up to the letter, as the code counts it
-pub noise_len : (bytes : List ℕ) (noise : ℕ) → noise ≡ prefix_len (λ b. is_noise (class_of b)) (take (length bytes - 1) (drop 1 bytes)) → (n body : List ℕ) (letter : ℕ)
+pub noise_len : (bytes : List ℕ) (noise : ℕ) → noise ≡ prefix_len (λ b. is_noise (class_of b)) (take (length bytes - 1) (drop 1 bytes))
+    → (n body : List ℕ) (letter : ℕ)
     → AllOf is_noise n → is_noise (class_of letter) ≡ false → bytes ≡ (0x1b ∷ n) ++ letter ∷ body → (noise ≡ length n) × (length n + 2 ≤ length bytes)
 noise_len bytes noise p n body letter a s e =
     let t : take (length bytes - 1) (drop 1 bytes) ≡ n ++ letter ∷ body = take_rest bytes 1 ∙ ap (drop 1) e in
@@ -134,7 +136,8 @@ inside_escape : (x : List ℕ) (b i : ℕ) → AllOf in_escape x → in_escape (
 inside_escape x b i a n h e =
     let z : true ≡ false = sym a ∙ list_all_at (λ b. in_escape (class_of b)) x i 0 h (ap (λ y. in_escape (class_of y)) e ∙ n) in cc
 
-escape_byte : (x : List ℕ) (b i : ℕ) → AllOf in_escape x → in_escape (class_of b) ≡ false → (0x1b ≡ b → ⊥) → i < length (0x1b ∷ x) → get_or (0x1b ∷ x) i 0 ≡ b → ⊥
+escape_byte : (x : List ℕ) (b i : ℕ) → AllOf in_escape x → in_escape (class_of b) ≡ false → (0x1b ≡ b → ⊥) → i < length (0x1b ∷ x)
+    → get_or (0x1b ∷ x) i 0 ≡ b → ⊥
 escape_byte x b zero a n m h e = m e
 escape_byte x b (suc i) a n m h e = inside_escape x b i a n (omega arith) e
 

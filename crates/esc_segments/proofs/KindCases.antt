@@ -53,7 +53,8 @@ pub ignoreds : (P : Segment → Type 0) (g : Segment) → kind_of g ≡ kinds.Ig
 ignoreds P (Ignored k o d) e h = h k o d
 ignoreds P _ e h = absurd cc
 
-pub cut_shorts : (P : Segment → Type 0) (g : Segment) → kind_of g ≡ kinds.CutShort → ((x : List ℕ) → P (CutEscape x)) → ((o : Opener) (x : List ℕ) → P (CutCsi o x)) → ((o : Opener) (x : List ℕ) → P (CutDcs o x)) → P g
+pub cut_shorts : (P : Segment → Type 0) (g : Segment) → kind_of g ≡ kinds.CutShort → ((x : List ℕ) → P (CutEscape x))
+    → ((o : Opener) (x : List ℕ) → P (CutCsi o x)) → ((o : Opener) (x : List ℕ) → P (CutDcs o x)) → P g
 cut_shorts P (CutEscape x) e h i j = h x
 cut_shorts P (CutCsi o x) e h i j = i o x
 cut_shorts P (CutDcs o x) e h i j = j o x

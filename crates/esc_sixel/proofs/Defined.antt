@@ -32,7 +32,8 @@ pub renamed : {A : Type 0} (p after q of : SixelBuilder A) (xs : List ℕ) → a
 renamed p after q of xs e f h = subst (λ z. FoldsTo Pushes z xs q) e (subst (λ z. FoldsTo Pushes after xs z) f h)
 
 -- none of five
-pub all_none : (k : Parameters) → length k.values ≡ 5 → k.count ≡ 0 → get_or k.values 0 None ≡ None → get_or k.values 1 None ≡ None → get_or k.values 2 None ≡ None
+pub all_none : (k : Parameters) → length k.values ≡ 5 → k.count ≡ 0 → get_or k.values 0 None ≡ None → get_or k.values 1 None ≡ None
+    → get_or k.values 2 None ≡ None
     → get_or k.values 3 None ≡ None → get_or k.values 4 None ≡ None → k ≡ fresh
 all_none k l n a b c d e = by_items k.values k.count l n a b c d e
   where
@@ -51,7 +52,8 @@ separator_class : (b : ℕ) → b ≡ 0x3b → class_of b ≡ Separator
 unfolding class_of
 separator_class b e = rw e refl
 
-keeps_next : (k : Parameters) (r : List ℕ) (b : ℕ) → b ≡ 0x3b → k.count < 5 → Keeps k r → Keeps (record { values = k.values; count = k.count + 1 }) (r ++ b ∷ [])
+keeps_next : (k : Parameters) (r : List ℕ) (b : ℕ) → b ≡ 0x3b → k.count < 5 → Keeps k r
+    → Keeps (record { values = k.values; count = k.count + 1 }) (r ++ b ∷ [])
 keeps_next k r b e room h = rw e (record {
   values = λ j small. h.values j small ∙ sym (param_next r j);
   count = omega (arith, h.count, semicolons_next r, room);

@@ -1,5 +1,6 @@
 -- Runs of six pixels.
-use Rattle.std.proofs.Common.{◌≡◌, ℕ, ◌+◌, ◌%◌, ◌^◌, ◌<◌, ◌≤◌, ◌==◌, ◌||◌, Bool, true, false, not, List, [], ◌∷◌, ◌++◌, map, length, slice_set, take, drop, get_or, Fits}
+use Rattle.std.proofs.Common.{◌≡◌, ℕ, ◌+◌, ◌%◌, ◌^◌, ◌<◌, ◌≤◌, ◌==◌, ◌||◌, Bool, true, false, not, List, [], ◌∷◌, ◌++◌, map, length, slice_set, take}
+use Rattle.std.proofs.Common.{drop, get_or, Fits}
 use Rattle.std.proofs.Common.{w8, refl, ap, sym, subst, ◌∙◌, ◌-◌, append_assoc, arith, length-drop}
 use Rattle.std.proofs.lemmas.List.Sums.{prefix_len-le-length, prefix_len_passes}
 use Rattle.std.specs.List.{prefix_len, All}
@@ -77,7 +78,8 @@ implied false y h e = absurd (let f : false ≡ true = h in cc)
 less_least : (f : ℕ → ℕ) → agree_below (λ b. not (is_pixels b) || f b == b - 0x3f) (λ b. true) 256 ≡ true → (b : ℕ) → IsPixels b → f b ≡ b - 0x3f
 less_least f same b h =
     let low : b < 256 = small b h in
-    eqb-true (f b) (b - 0x3f) (implied (is_pixels b) (f b == b - 0x3f) h (agree_below_at (λ c. not (is_pixels c) || f c == c - 0x3f) (λ c. true) 256 b same low))
+    eqb-true (f b) (b - 0x3f) (implied (is_pixels b) (f b == b - 0x3f) h
+    (agree_below_at (λ c. not (is_pixels c) || f c == c - 0x3f) (λ c. true) 256 b same low))
   where
     small : (b : ℕ) → IsPixels b → b < 256
     small b h = grind (arith, nat_tests)

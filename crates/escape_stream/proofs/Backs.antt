@@ -73,7 +73,8 @@ nothing_given b W (Some x) e h = absurd cc
 
 -- the text of a writable value, with a string terminator after it, means the value first
 module _ {A : Type 0} (back : (vs : List (Value A)) → AreWritable vs → meaning (list_text vs) ≡ normal vs) where
-  alone : (v : Value A) (vs : List (Value A)) → AreWritable (v ∷ []) → normal (v ∷ []) ≡ v ∷ vs → first (meaning (list_text (v ∷ []) ++ 0x1b ∷ 0x5c ∷ [])) ≡ Some v
+  alone : (v : Value A) (vs : List (Value A)) → AreWritable (v ∷ []) → normal (v ∷ []) ≡ v ∷ vs
+      → first (meaning (list_text (v ∷ []) ++ 0x1b ∷ 0x5c ∷ [])) ≡ Some v
   alone v vs h n = still_first (list_text (v ∷ [])) (0x1b ∷ 0x5c ∷ []) v vs (back (v ∷ []) h ∙ n)
 
   list_means_first : (v : Value A) → has_own_text v ≡ true → IsWritable v → first (meaning (list_text (v ∷ []) ++ 0x1b ∷ 0x5c ∷ [])) ≡ Some v

@@ -125,7 +125,8 @@ unwrapped_whole None es f h = refl
 unwrapped_whole (Some vs) es f h = h vs refl
 
 whole_by : (es : List CsiParam) (f : ℕ) (t : Bool)
-    → is_whole (if t && not false then unwrap_or (renditions (slice_split is_separator es)) (unspecified es false f ∷ []) else unspecified es false f ∷ []) ≡ true
+    → is_whole (if t && not false then unwrap_or (renditions (slice_split is_separator es)) (unspecified es false f ∷ [])
+    else unspecified es false f ∷ []) ≡ true
 whole_by es f true = unwrapped_whole (renditions (slice_split is_separator es)) es f (renditions_whole (slice_split is_separator es))
 whole_by es f false = refl
 

@@ -26,8 +26,12 @@ page_push (Err e) s t p fit h ok err = subst (λ x. ∥ IsPage x ∥₁) (sym er
 
 -- pages one after another
 page_append : (s t : List ℕ) → IsPage s → IsPage t → IsPage (s ++ t)
-page_append s t (ps, all, e) (qs, more, f) =
-    (ps ++ qs, rw (list_all-append is_fit ps qs, all, more) refl, flat_map-append piece_text ps qs ∙ ap (λ x. x ++ flat_map piece_text qs) e ∙ ap (λ x. s ++ x) f)
+page_append s t (ps, all, e) (qs, more, f) = (
+  ps ++ qs,
+  rw (list_all-append is_fit ps qs, all, more) refl,
+  flat_map-append piece_text ps qs ∙ ap (λ x. x ++ flat_map piece_text qs) e
+      ∙ ap (λ x. s ++ x) f,
+)
 
 appends_more : (a b c : Option (List ℕ)) (s t : List ℕ) → Appends a b s → Appends b c t → Appends a c (s ++ t)
 appends_more None b c s t h k = tt

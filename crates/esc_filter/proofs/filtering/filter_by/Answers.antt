@@ -19,7 +19,12 @@ loop-init g c =
       reader = λ h. h;
       writer = λ h. h;
       policy = c.new-filter.ensures.policy;
-      read = ([], Consumes-nil _, c.new-filter.ensures.fed, subst (λ t. Appends (g.W.Write.contents c.args.writer.now.inner) (g.W.Write.contents c.args.writer.now.inner) t) nothing (Appends-nil _));
+      read = (
+        [],
+        Consumes-nil _,
+        c.new-filter.ensures.fed,
+        subst (λ t. Appends (g.W.Write.contents c.args.writer.now.inner) (g.W.Write.contents c.args.writer.now.inner) t) nothing (Appends-nil _),
+      );
     }
 
 pub returns-in-Ok-eq0-clause-written : goal.returns-in-Ok-eq0-clause-written
@@ -67,5 +72,6 @@ returns-in_err-pass_on-in-Ok-clause-beginning g c =
     let limit = c.args.limit in
     let piece = take c.in-Ok.n c.read.new.buf in
     let f = subst (λ k. WasFed limit (admits k) r.0 c.loop.filter → PassesSome limit (admits k) r.0 piece
-    (g.W.Write.contents c.loop.writer.inner) (g.W.Write.contents c.pass_on.new.writer.inner)) inv.policy (c.in_err-pass_on-in-Ok.ensures.beginning limit r.0) r.2 in
+    (g.W.Write.contents c.loop.writer.inner) (g.W.Write.contents c.pass_on.new.writer.inner)) inv.policy
+    (c.in_err-pass_on-in-Ok.ensures.beginning limit r.0) r.2 in
     on_err_any _ c.from_residual.result (r.0 ++ piece, Consumes-trans _ _ _ r.0 piece r.1 c.in-Ok.ensures.bytes.0, prefix_after _ _ _ _ f.0 _ r.3 f.2 f.1)

@@ -6,7 +6,8 @@ use Rattle.esc_filter.specs.Passing.{passed_text}
 pub returns-clause-written : goal.returns-clause-written
 returns-clause-written g c =
     let admits = g.P.Admit.admits c.args.policy in
-    on_ok_more _ _ c.filter_by.result (λ w. (w.0, passed_text (Some c.args.limit) admits w.0, w.1, w.2, c.passed_reads_back.ensures (Some c.args.limit) admits w.0))
+    on_ok_more _ _ c.filter_by.result
+    (λ w. (w.0, passed_text (Some c.args.limit) admits w.0, w.1, w.2, c.passed_reads_back.ensures (Some c.args.limit) admits w.0))
     c.filter_by.ensures.written
 
 pub returns-clause-decided : goal.returns-clause-decided

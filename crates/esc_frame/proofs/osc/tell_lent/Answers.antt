@@ -13,7 +13,8 @@ returns-then-fits-clause-told g c =
     let t = c.args.text.now in
     subst (λ es. Takes (not (has_few_parts t)) g.V.VTActor.takes g.V.VTActor.refuses c.osc_text.result c.args.actor.now es c.osc_text.new.self)
     (osc_told c.args.limit t (within_by c.args.limit (length t) _ c.fits.ensures ∙ c.if-fits.true))
-    (takes_few (has_few_parts t) g.V.VTActor.takes g.V.VTActor.refuses c.osc_text.result c.args.actor.now c.osc_text.new.self (OscDispatch (parts_of t) ∷ []) c.osc_text.ensures.told
+    (takes_few (has_few_parts t) g.V.VTActor.takes g.V.VTActor.refuses c.osc_text.result c.args.actor.now c.osc_text.new.self
+    (OscDispatch (parts_of t) ∷ []) c.osc_text.ensures.told
     c.osc_text.ensures.few)
 
 pub returns-else-fits-clause-told : goal.returns-else-fits-clause-told

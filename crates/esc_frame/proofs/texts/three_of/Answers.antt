@@ -4,7 +4,8 @@ use Rattle.esc_frame.proofs.FirstChars.{next_three}
 use Rattle.esc_frame.proofs.texts.three_of.Goals as goal
 
 pub bounds-text-1 : goal.bounds-text-1
-bounds-text-1 c = let q = (next_three c.args.text.now c.requires.clear c.requires.some c.requires.low c.requires.high).0 in let l : 1 < length c.args.text.now = omega (arith, q) in l
+bounds-text-1 c = let q = (next_three c.args.text.now c.requires.clear c.requires.some c.requires.low c.requires.high).0 in
+    let l : 1 < length c.args.text.now = omega (arith, q) in l
 
 pub overflow_sub-n-2 : goal.overflow_sub-n-2
 overflow_sub-n-2 c = (next_three c.args.text.now c.requires.clear c.requires.some c.requires.low c.requires.high).1
@@ -19,4 +20,5 @@ pub from_u32_unchecked-requires : goal.from_u32_unchecked-requires
 from_u32_unchecked-requires c = (next_three c.args.text.now c.requires.clear c.requires.some c.requires.low c.requires.high).3.0
 
 pub returns : goal.returns
-returns c = subst (λ k. IsNext c.args.text.now k 3) (sym c.from_u32_unchecked.ensures) (next_three c.args.text.now c.requires.clear c.requires.some c.requires.low c.requires.high).3.1
+returns c = subst (λ k. IsNext c.args.text.now k 3) (sym c.from_u32_unchecked.ensures)
+    (next_three c.args.text.now c.requires.clear c.requires.some c.requires.low c.requires.high).3.1

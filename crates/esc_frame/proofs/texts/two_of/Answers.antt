@@ -13,4 +13,5 @@ pub overflow_sub-n-2 : goal.overflow_sub-n-2
 overflow_sub-n-2 c = (next_two c.args.text.now c.requires.clear c.requires.some c.requires.low c.requires.high).2
 
 pub returns : goal.returns
-returns c = subst (λ k. IsNext c.args.text.now k 2) (sym c.from_u32_unchecked.ensures) (next_two c.args.text.now c.requires.clear c.requires.some c.requires.low c.requires.high).3.1
+returns c = subst (λ k. IsNext c.args.text.now k 2) (sym c.from_u32_unchecked.ensures)
+    (next_two c.args.text.now c.requires.clear c.requires.some c.requires.low c.requires.high).3.1

@@ -18,6 +18,7 @@ returns-else-is_empty-clause-told g c = λ finished o x f after h e i.
 
 pub returns-in-Err-clause-told : goal.returns-in-Err-clause-told
 returns-in-Err-clause-told g c = λ finished o x f after h e i.
-    stops_more (false ≡ true) g.V.VTActor.takes g.V.VTActor.refuses (opener_events o ++ executes x) (csi_events (strip x) f) c.args.actor.now c.execute_in.new.actor
+    stops_more (false ≡ true) g.V.VTActor.takes g.V.VTActor.refuses (opener_events o ++ executes x) (csi_events (strip x) f) c.args.actor.now
+    c.execute_in.new.actor
     (subst (λ es. StopsAt (false ≡ true) g.V.VTActor.takes g.V.VTActor.refuses c.args.actor.now es c.execute_in.new.actor)
     (ap executes e ∙ executes_whole_csi o x f h.2) (c.in-Err.ensures.told false))

@@ -10,7 +10,8 @@ use Rattle.esc_segments.proofs.dispatch.escape.Goals as goal
 pub returns-in-Ok-clause-told : goal.returns-in-Ok-clause-told
 returns-in-Ok-clause-told g c = λ own finished x f after h e i.
     let bytes = c.args.bytes.now in
-    escape_told own g.V.VTActor.takes g.V.VTActor.refuses c.dispatch_escape.result c.args.actor.now c.execute_in.new.actor c.dispatch_escape.new.actor bytes x _ f
+    escape_told own g.V.VTActor.takes g.V.VTActor.refuses c.dispatch_escape.result c.args.actor.now c.execute_in.new.actor c.dispatch_escape.new.actor
+    bytes x _ f
     _ e h.1 (inner_is bytes x 0x1b f e) (last_is bytes (0x1b ∷ x) f e) (c.in-Ok.ensures.told own) (c.dispatch_escape.ensures.told own)
 
 pub returns-in-Err-clause-told : goal.returns-in-Err-clause-told

@@ -16,7 +16,8 @@ loop-b-preserved g c =
     let i = c.loop-b.b-index in
     let bytes = c.args.bytes.now in
     elim c.if-is_plain.branch [
-      | then-is_plain+in-Ok w ↦ subst (λ a. g.V.VTActor.is_ready a × FoldsTo g.V.VTActor.takes c.args.actor.now (map Execute (those is_plain (take (i + 1) bytes))) a)
+      | then-is_plain+in-Ok w ↦ subst (λ a. g.V.VTActor.is_ready a
+          × FoldsTo g.V.VTActor.takes c.args.actor.now (map Execute (those is_plain (take (i + 1) bytes))) a)
           (sym w.actor-is) (
             w.in-Ok.ensures.ready,
             told_next g.V.VTActor.takes g.V.VTActor.refuses Execute (λ b. is_plain (class_of b)) bytes i (omega arith) c.args.actor.now c.loop-b.actor _

@@ -13,7 +13,8 @@ use Rattle.esc_segments.proofs.strings.osc.Goals as goal
 pub returns-then-not-finished-clause-told : goal.returns-then-not-finished-clause-told
 returns-then-not-finished-clause-told g c = λ o ps e after h w i.
     let s = c.split_opener.ensures kind.Osc o (text_bytes ps ++ ending_bytes e) h.0 (w ∙ append_assoc (opener kind.Osc o) (text_bytes ps) (ending_bytes e)) in
-    subst (λ b. FoldsTo g.V.VTActor.takes c.args.actor.now (opener_events o ++ (if b then OscDispatch (parts_of (text_of ps)) ∷ [] else [])) c.execute_in.new.actor)
+    subst (λ b. FoldsTo g.V.VTActor.takes c.args.actor.now
+    (opener_events o ++ (if b then OscDispatch (parts_of (text_of ps)) ∷ [] else [])) c.execute_in.new.actor)
     (sym c.if-not-finished.true)
     (subst (λ es. FoldsTo g.V.VTActor.takes c.args.actor.now es c.execute_in.new.actor)
     (ap executes s.0 ∙ executes_opener kind.Osc o ∙ sym (append-nil (opener_events o))) (c.in-Ok.ensures.told true))

@@ -16,7 +16,8 @@ loop-b-preserved g c =
     let i = c.loop-b.b-index in
     let content = c.args.content.now in
     elim c.if-is_put.branch [
-      | then-is_put+in-Ok w ↦ subst (λ a. g.V.VTActor.is_ready a × FoldsTo g.V.VTActor.takes c.args.actor.now (map DcsPut (those is_put (take (i + 1) content))) a)
+      | then-is_put+in-Ok w ↦ subst (λ a. g.V.VTActor.is_ready a
+          × FoldsTo g.V.VTActor.takes c.args.actor.now (map DcsPut (those is_put (take (i + 1) content))) a)
           (sym w.actor-is) (
             w.in-Ok.ensures.ready,
             told_next g.V.VTActor.takes g.V.VTActor.refuses DcsPut (λ b. is_put (class_of b)) content i (omega arith) c.args.actor.now c.loop-b.actor _

@@ -12,7 +12,8 @@ pub returns-then-finished-clause-told : goal.returns-then-finished-clause-told
 returns-then-finished-clause-told g c = λ own.
     takes_then own g.V.VTActor.takes g.V.VTActor.refuses c.dcs_unhook.result (puts c.args.content.now) (if c.args.finished then DcsUnhook ∷ [] else [])
     c.args.actor.now c.put_all.new.actor c.dcs_unhook.new.self (c.in-Ok.ensures.told own)
-    (subst (λ b. Takes own g.V.VTActor.takes g.V.VTActor.refuses c.dcs_unhook.result c.put_all.new.actor (if b then DcsUnhook ∷ [] else []) c.dcs_unhook.new.self)
+    (subst (λ b. Takes own g.V.VTActor.takes g.V.VTActor.refuses c.dcs_unhook.result c.put_all.new.actor
+    (if b then DcsUnhook ∷ [] else []) c.dcs_unhook.new.self)
     (sym c.if-finished.true)
     (hears_takes own g.V.VTActor.takes g.V.VTActor.refuses c.dcs_unhook.result c.put_all.new.actor c.dcs_unhook.new.self DcsUnhook c.dcs_unhook.ensures.hears))
 

@@ -14,7 +14,8 @@ pub returns-in-Some-clause-written : goal.returns-in-Some-clause-written
 returns-in-Some-clause-written c = λ done.
     let from = c.args.out.now in
     if_known
-    (λ p. c.filter_by.new.out ≡ take (length from) (passed_text {A = Global} (Some c.args.limit) (admits p) c.args.bytes.now) ++ drop c.filter_by.new.needed from)
+    (λ p. c.filter_by.new.out ≡ take (length from) (passed_text {A = Global} (Some c.args.limit) (admits p) c.args.bytes.now)
+    ++ drop c.filter_by.new.needed from)
     (policy_numbered c.args.policy) c.in-Some.known (sym c.policy_of.ensures ∙ c.in-Some.is) (c.filter_by.ensures.written done)
 
 pub returns-in-Some-clause-filtered : goal.returns-in-Some-clause-filtered

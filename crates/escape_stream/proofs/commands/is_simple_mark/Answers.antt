@@ -11,4 +11,5 @@ pub returns-then-is_named_mark : goal.returns-then-is_named_mark
 returns-then-is_named_mark g c = λ t u.
     let found = c.in-Some-letter_and_name in
     subst (IsVerbatim _) (sym found.ensures)
-    (named_mark _ found.letter (sym c.is_named_mark.ensures ∙ c.if-is_named_mark.true) found.name.now (c.is_one_part.ensures.one t) (subst IsUtf8 found.ensures u))
+    (named_mark _ found.letter (sym c.is_named_mark.ensures ∙ c.if-is_named_mark.true) found.name.now (c.is_one_part.ensures.one t)
+    (subst IsUtf8 found.ensures u))

@@ -8,5 +8,6 @@ pub returns-in-Ok-clause-given : goal.returns-in-Ok-clause-given
 returns-in-Ok-clause-given g c = λ limit s h.
     let k = on_ok_at _ c.in-Ok.is (c.parse_into-result.ensures.given (Some limit) s h.0) in
     let r = gives_all g.P.Admit.admits (λ p. p.policy.now) (λ p. p.spell) _ (yield_within (Some limit) s c.args.bytes.now) _ k.1 in
-    let w = fed_more (Some limit) (g.P.Admit.admits c.args.self.now.policy) s c.args.bytes.now _ _ c.emptied.ensures (ap (λ x. x.follows_string) c.replace-text.ensures.value ∙ h.1) r.1 in
+    let w = fed_more (Some limit) (g.P.Admit.admits c.args.self.now.policy) s c.args.bytes.now _ _ c.emptied.ensures
+    (ap (λ x. x.follows_string) c.replace-text.ensures.value ∙ h.1) r.1 in
     ((k.0, w.0), w.1)

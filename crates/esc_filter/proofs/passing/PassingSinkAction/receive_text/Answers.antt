@@ -14,9 +14,11 @@ returns-then-admits_text-clause-given g c =
 pub returns-in-Err-clause-given : goal.returns-in-Err-clause-given
 returns-in-Err-clause-given g c =
     let at = c.loop-byte in
-    stops_next Print (TakesBy g.P.Admit.admits) (λ _ _ _. Unit {0}) c.args.text.now at.byte-index (omega arith) c.args.self.now _ _ at.invariant c.in-Err.ensures.given
+    stops_next Print (TakesBy g.P.Admit.admits) (λ _ _ _. Unit {0}) c.args.text.now at.byte-index (omega arith) c.args.self.now _ _ at.invariant
+    c.in-Err.ensures.given
 
 pub loop-byte-preserved : goal.loop-byte-preserved
 loop-byte-preserved g c =
     let at = c.loop-byte in
-    takes_next Print (TakesBy g.P.Admit.admits) (λ _ _ _. Unit {0}) c.args.text.now at.byte-index (omega arith) c.args.self.now _ _ at.invariant c.in-Ok.ensures.given
+    takes_next Print (TakesBy g.P.Admit.admits) (λ _ _ _. Unit {0}) c.args.text.now at.byte-index (omega arith) c.args.self.now _ _ at.invariant
+    c.in-Ok.ensures.given

@@ -14,4 +14,5 @@ returns-in-Ok-clause-moved g c =
 
 pub returns-in-Err-clause-moved : goal.returns-in-Err-clause-moved
 returns-in-Err-clause-moved g c =
-    stops_more (not (has_few_parts c.args.text.now) ≡ true) g.V.VTActor.takes g.V.VTActor.refuses (osc_events c.args.limit c.args.text.now) _ c.args.actor.now _ c.in-Err.ensures.told
+    stops_more (not (has_few_parts c.args.text.now) ≡ true) g.V.VTActor.takes g.V.VTActor.refuses (osc_events c.args.limit c.args.text.now) _
+    c.args.actor.now _ c.in-Err.ensures.told

@@ -40,7 +40,8 @@ returns-clause-pushes g c =
     (number_pushed p fresh (take n (take (length xs - 0) (drop 0 xs))) number refl (omega arith)
     (some_taken n (take (length xs - 0) (drop 0 xs)) c.in-Some.ensures.some c.in-Some.ensures.few) c.in-Some.ensures.digits c.in-Some.ensures.number) in
     let whole : 0 + n ≡ n = zero-add n in
-    let begun : FoldsTo Pushes (open_at p fresh) (take n xs) (open_at p k0) = subst (λ i. FoldsTo Pushes (open_at p fresh) (take i xs) (open_at p k0)) whole s1 in
+    let begun : FoldsTo Pushes (open_at p fresh) (take n xs) (open_at p k0) =
+    subst (λ i. FoldsTo Pushes (open_at p fresh) (take i xs) (open_at p k0)) whole s1 in
     let mark : get_or xs n 0 ≡ 0x3b = subst (λ i. get_or xs i 0 ≡ 0x3b) whole c.in-Some.ensures.mark in
     let s2 : FoldsTo Pushes (open_at p fresh) (take (n + 1) xs) (open_at p k1) =
     folds_one Pushes (open_at p fresh) xs n (open_at p k0) (open_at p k1) (omega (arith, c.in-Some.ensures.within)) begun
@@ -52,7 +53,8 @@ returns-clause-pushes g c =
     folds_one Pushes (open_at p fresh) xs (n + 1 + 1) (open_at p k2) (open_at p k3) (omega (arith, c.if-rest-two-lt2.false)) s3
     (separator_pushed p k2 (get_or xs (n + 1 + 1) 0) c.if-rest-two-ne59.false (omega arith)) in
     let three : n + 1 + 1 + 1 ≡ at = omega arith in
-    let two : FoldsTo Pushes (open_at p fresh) (take at xs) (open_at p k3) = subst (λ i. FoldsTo Pushes (open_at p fresh) (take i xs) (open_at p k3)) three s4 in
+    let two : FoldsTo Pushes (open_at p fresh) (take at xs) (open_at p k3) =
+    subst (λ i. FoldsTo Pushes (open_at p fresh) (take i xs) (open_at p k3)) three s4 in
     let s5 : FoldsTo Pushes (open_at p fresh) (take (at + r) xs) (open_at p k4) =
     folds_more Pushes (open_at p fresh) xs at r (open_at p k3) (open_at p k4) two
     (number_pushed p k3 (take r (take (length xs - at) (drop at xs))) red refl (omega arith)
@@ -83,6 +85,7 @@ returns-clause-pushes g c =
     (selected_begins (open_at p k8) introducer.Color fresh (get_or xs (at3 + b) 0) d refl
     (color_class (get_or xs (at3 + b) 0) c.in-Some-number_before-3.ensures.mark) fresh_keeps
     (λ z k. is ∙ defines z number red green blue c.in-Some.ensures.small k)) in
-    let started : p.introducer ≡ Some introducer.Color = is_color p.introducer c.in-Some-Color.field-0 c.in-Some-Color.is (rw c.in-Some-Color.is at c.in-Some-Color.field-0-is) in
+    let started : p.introducer ≡ Some introducer.Color =
+    is_color p.introducer c.in-Some-Color.field-0 c.in-Some-Color.is (rw c.in-Some-Color.is at c.in-Some-Color.field-0-is) in
     let new : p.parameters ≡ fresh = c.if-not-is_new.ensures refl in
     renamed p (open_at p fresh) q (open_at q fresh) (take (at3 + b + 1) xs) (opened p started new) (opened q started new) last

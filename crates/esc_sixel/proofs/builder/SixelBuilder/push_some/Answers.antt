@@ -26,7 +26,8 @@ returns-then-digits-gt0-clause-ok g c =
     let five : length p.parameters.values ≡ 5 = search rules in (
       c.if-digits-gt0.true,
       c.digits-digits.ensures.few,
-      digits_pushed (take c.digits-digits.result c.args.rest.now) p _ c.in_default.field-0 c.in_default.is five (λ t. c.digits-digits.ensures.room c.if-digits-gt0.true)
+      digits_pushed (take c.digits-digits.result c.args.rest.now) p _ c.in_default.field-0 c.in_default.is five
+          (λ t. c.digits-digits.ensures.room c.if-digits-gt0.true)
           c.digits-digits.ensures.digits (ap (λ k. record p { parameters = k }) c.digits-digits.ensures.taken),
     )
 
