@@ -2,8 +2,6 @@
 //! `--check` it says by its status whether the stream is in normal form.
 #![tactic(auto)]
 
-#[cfg(test)]
-mod faults;
 mod run;
 mod task;
 #[cfg(test)]

@@ -1,31 +1,34 @@
-//! Runs of the program: what it writes, and the status it ends with.
+//! Runs of the program over readers and writers that are slow, full, or fail, and with each request for memory refused in turn.
 use crate::run::run;
-use std::alloc::{AllocError, Global};
+use refusing::Refusing;
+use refusing::byte_reader::ByteReader;
+use refusing::fixed_writer::FixedWriter;
+use std::alloc::{AllocError, Allocator, Global};
 use std::io;
-use std::io::{ErrorKind, Read, Write};
+use std::io::{ErrorKind, Write};
 use std::test::Fail;
 
 const STREAM: &[u8] = b"\x1b]0;a\x07b";
 
 const TEXT: &[u8] = b"\x1b]0;a\x1b\\b";
 
-/// Every call is an error.
-#[derive(Drop)]
-struct Broken;
+const LONG: &[u8] = b"\x1b]2;abc\x07d";
 
-impl Read for Broken {
-    fn read(&mut self, _buf: &mut [u8]) -> io::Result<usize> {
-        Err(io::Error::from(ErrorKind::Other))
-    }
+const USAGE: &[u8] = b"usage: escnorm [--check] [--limit n]\n";
+
+/// How a run ended, and how often it read.
+#[derive(Drop)]
+struct Ended {
+    status: u8,
+    reads: usize,
+    output: FixedWriter,
+    faults: FixedWriter,
 }
 
-impl Write for Broken {
-    fn write(&mut self, _buf: &[u8]) -> io::Result<usize> {
-        Err(io::Error::from(ErrorKind::Other))
-    }
-
-    fn flush(&mut self) -> io::Result<()> {
-        Err(io::Error::from(ErrorKind::Other))
+impl Ended {
+    /// Whether it ended with this status, this output and these faults.
+    fn is(&self, status: u8, output: &[u8], faults: &[u8]) -> bool {
+        self.status == status && self.output.holds(output) && self.faults.holds(faults)
     }
 }
 
@@ -43,40 +46,68 @@ impl Write for Unflushed {
     }
 }
 
-/// Counts its calls, and has nothing to read.
-#[derive(Drop)]
-struct Counting {
-    calls: usize,
-}
-
-impl Read for Counting {
-    fn read(&mut self, _buf: &mut [u8]) -> io::Result<usize> {
-        self.calls = self.calls.saturating_add(1);
-        Ok(0)
-    }
-}
-
+/// The words of a line; none of the line `.`.
 fn words(alloc: Global, line: &str) -> Result<Vec<String>, AllocError> {
     let mut words = Vec::new(alloc);
+    if line == "." {
+        return Ok(words);
+    }
     for word in line.split(' ') {
         words.push(String::from_str(alloc, word)?)?;
     }
     Ok(words)
 }
 
-#[test]
-fn writes_the_normal_form(rt: HostRuntime) {
-    let mut output = Vec::new(rt.alloc());
-    let mut faults = Vec::new(rt.alloc());
-    let status = run(rt.alloc(), &[], STREAM, &mut output, &mut faults);
-    assert_eq!(rt; status, 0);
-    assert_eq!(rt; output.as_slice(), TEXT);
-    assert!(rt; faults.is_empty());
+/// A run over a reader that gives one byte a call and fails at one, and this output.
+fn run_over<A: Allocator + Copy>(
+    alloc: A,
+    words: &[String],
+    stream: &[u8],
+    fails_at: usize,
+    mut output: FixedWriter,
+) -> Ended {
+    let mut input = ByteReader {
+        rest: stream,
+        calls: 0,
+        fails_at,
+    };
+    let mut faults = FixedWriter::new(64, 64, 0);
+    let status = run(alloc, words, &mut input, &mut output, &mut faults);
+    Ended {
+        status,
+        reads: input.calls,
+        output,
+        faults,
+    }
 }
 
 #[test]
-fn any_word_is_told_the_usage(rt: HostRuntime) -> Result<(), Fail> {
-    for word in [
+fn writes_or_compares(rt: HostRuntime) -> Result<(), Fail> {
+    for (line, stream, status, output) in [
+        (".", STREAM, 0u8, TEXT),
+        ("--check", TEXT, 0, b""),
+        ("--check", STREAM, 3, b""),
+        ("--check", b"", 0, b""),
+        ("--check", b"a\x1b[", 3, b""),
+        ("--check", b"plain", 0, b""),
+        ("--limit 4", LONG, 0, b"d"),
+        ("--limit +4", LONG, 0, b"d"),
+        ("--limit 004", LONG, 0, b"d"),
+        ("--check --limit 4", LONG, 3, b""),
+        ("--check --limit 4", b"d", 0, b""),
+        ("--check --limit 4", b"\x1b]2;ab\x1b\\", 0, b""),
+        ("--check --limit 4", b"\x1b]2;abc\x1b\\", 3, b""),
+    ] {
+        let words = words(rt.alloc(), line)?;
+        let run = run_over(rt.alloc(), &words, stream, 0, FixedWriter::new(64, 1, 0));
+        assert!(rt; run.is(status, output, b""), "{line}");
+    }
+    Ok(())
+}
+
+#[test]
+fn other_words_get_the_usage(rt: HostRuntime) -> Result<(), Fail> {
+    for line in [
         "--checks",
         "-h",
         "",
@@ -90,116 +121,76 @@ fn any_word_is_told_the_usage(rt: HostRuntime) -> Result<(), Fail> {
         "--check --limit",
         "--check --check",
     ] {
-        let words = words(rt.alloc(), word)?;
-        let mut output = Vec::new(rt.alloc());
-        let mut faults = Vec::new(rt.alloc());
-        let status = run(rt.alloc(), &words, Broken, &mut output, &mut faults);
-        assert_eq!(rt; status, 2);
-        assert!(rt; output.is_empty());
-        assert_eq!(rt;
-            faults.as_slice(),
-            b"usage: escnorm [--check] [--limit n]\n".as_slice()
-        );
-        let status = run(rt.alloc(), &words, STREAM, Broken, Broken);
-        assert_eq!(rt; status, 2);
-    }
-    Ok(())
-}
-
-#[test]
-fn check_tells_a_text_from_its_normal_form(rt: HostRuntime) -> Result<(), Fail> {
-    let words = words(rt.alloc(), "--check")?;
-    for (stream, status) in [
-        (TEXT, 0u8),
-        (STREAM, 3),
-        (b"", 0),
-        (b"a\x1b[", 3),
-        (b"plain", 0),
-    ] {
-        let mut output = Vec::new(rt.alloc());
-        let mut faults = Vec::new(rt.alloc());
-        assert_eq!(rt;
-            run(rt.alloc(), &words, stream, &mut output, &mut faults),
-            status
-        );
-        assert!(rt; output.is_empty() && faults.is_empty());
-    }
-    let mut output = Vec::new(rt.alloc());
-    let mut faults = Vec::new(rt.alloc());
-    assert_eq!(rt;
-        run(rt.alloc(), &words, Broken, &mut output, &mut faults),
-        1
-    );
-    assert_eq!(rt; faults.as_slice(), b"escnorm: read fault\n".as_slice());
-    Ok(())
-}
-
-#[test]
-fn a_limit(rt: HostRuntime) -> Result<(), Fail> {
-    for line in ["--limit 4", "--limit +4", "--limit 004"] {
         let words = words(rt.alloc(), line)?;
-        let mut output = Vec::new(rt.alloc());
-        let mut faults = Vec::new(rt.alloc());
-        let stream = b"\x1b]2;abc\x07d".as_slice();
-        let status = run(rt.alloc(), &words, stream, &mut output, &mut faults);
-        assert_eq!(rt; status, 0);
-        assert_eq!(rt; output.as_slice(), b"d".as_slice());
-        assert!(rt; faults.is_empty());
+        let run = run_over(rt.alloc(), &words, STREAM, 1, FixedWriter::new(64, 1, 1));
+        assert!(rt; run.is(2, b"", USAGE) && run.reads == 0, "{line}");
+        let mut faults = FixedWriter::new(0, 0, 1);
+        assert!(rt; 2 == status_of(rt.alloc(), &words, &mut faults), "{line}");
     }
-    let words = words(rt.alloc(), "--check --limit 4")?;
-    for (stream, status) in [
-        (b"\x1b]2;abc\x07d".as_slice(), 3u8),
-        (b"d", 0),
-        (b"\x1b]2;ab\x1b\\", 0),
-        (b"\x1b]2;abc\x1b\\", 3),
-    ] {
-        let mut output = Vec::new(rt.alloc());
-        let mut faults = Vec::new(rt.alloc());
-        assert_eq!(rt;
-            run(rt.alloc(), &words, stream, &mut output, &mut faults),
-            status
+    Ok(())
+}
+
+/// The status of a run whose reader and writers all fail.
+fn status_of(alloc: Global, words: &[String], faults: &mut FixedWriter) -> u8 {
+    let input = ByteReader {
+        rest: STREAM,
+        calls: 0,
+        fails_at: 1,
+    };
+    run(alloc, words, input, FixedWriter::new(64, 64, 1), faults)
+}
+
+#[test]
+fn the_reader_fails_at_each_call(rt: HostRuntime) -> Result<(), Fail> {
+    for line in [".", "--check"] {
+        let words = words(rt.alloc(), line)?;
+        for at in 1..9usize {
+            let run = run_over(rt.alloc(), &words, STREAM, at, FixedWriter::new(64, 64, 0));
+            assert!(rt; run.is(1, b"", b"escnorm: read fault\n"), "at {at}");
+        }
+    }
+    Ok(())
+}
+
+#[test]
+fn the_writer_fails_at_each_call(rt: HostRuntime) {
+    for at in 1..9usize {
+        let run = run_over(rt.alloc(), &[], STREAM, 0, FixedWriter::new(64, 1, at));
+        assert!(rt;
+            run.is(1, &TEXT[..at - 1], b"escnorm: write fault\n"),
+            "at {at}"
         );
-        assert!(rt; output.is_empty() && faults.is_empty());
     }
-    Ok(())
-}
-
-#[test]
-fn nothing_is_read_before_the_usage(rt: HostRuntime) -> Result<(), Fail> {
-    let words = words(rt.alloc(), "-h")?;
-    let mut input = Counting { calls: 0 };
-    let mut output = Vec::new(rt.alloc());
-    let mut faults = Vec::new(rt.alloc());
-    let status = run(rt.alloc(), &words, &mut input, &mut output, &mut faults);
-    assert_eq!(rt; status, 2);
-    assert_eq!(rt; input.calls, 0);
-    Ok(())
-}
-
-#[test]
-fn a_read_fault(rt: HostRuntime) {
-    let mut output = Vec::new(rt.alloc());
-    let mut faults = Vec::new(rt.alloc());
-    let status = run(rt.alloc(), &[], Broken, &mut output, &mut faults);
-    assert_eq!(rt; status, 1);
-    assert!(rt; output.is_empty());
-    assert_eq!(rt; faults.as_slice(), b"escnorm: read fault\n".as_slice());
-}
-
-#[test]
-fn a_write_fault(rt: HostRuntime) {
-    let mut faults = Vec::new(rt.alloc());
-    let status = run(rt.alloc(), &[], STREAM, Broken, &mut faults);
-    assert_eq!(rt; status, 1);
-    assert_eq!(rt; faults.as_slice(), b"escnorm: write fault\n".as_slice());
-    let status = run(rt.alloc(), &[], STREAM, Broken, Broken);
-    assert_eq!(rt; status, 1);
+    let full = run_over(rt.alloc(), &[], STREAM, 0, FixedWriter::new(3, 3, 0));
+    assert!(rt; full.is(1, &TEXT[..3], b"escnorm: write fault\n"));
+    let mut faults = FixedWriter::new(0, 0, 1);
+    assert_eq!(rt; status_of(rt.alloc(), &[], &mut faults), 1);
 }
 
 #[test]
 fn a_flush_that_fails_is_a_write_fault(rt: HostRuntime) {
-    let mut faults = Vec::new(rt.alloc());
+    let mut faults = FixedWriter::new(64, 64, 0);
     let status = run(rt.alloc(), &[], STREAM, Unflushed, &mut faults);
-    assert_eq!(rt; status, 1);
-    assert_eq!(rt; faults.as_slice(), b"escnorm: write fault\n".as_slice());
+    assert!(rt; status == 1 && faults.holds(b"escnorm: write fault\n"));
+}
+
+#[test]
+fn each_request_is_refused(rt: HostRuntime) -> Result<(), Fail> {
+    let heap = Refusing::new(rt.alloc());
+    for (line, status, text) in [(".", 0u8, TEXT), ("--check", 3, b"")] {
+        let words = words(rt.alloc(), line)?;
+        let mut is_done = false;
+        for at in 1..100u64 {
+            heap.refuse_at(at);
+            let run = run_over(&heap, &words, STREAM, 0, FixedWriter::new(64, 1, 0));
+            if !heap.has_refused() {
+                assert!(rt; at > 1 && run.is(status, text, b""));
+                is_done = true;
+                break;
+            }
+            assert!(rt; run.is(1, b"", b"escnorm: out of memory\n"), "at {at}");
+        }
+        assert!(rt; is_done);
+    }
+    Ok(())
 }
