@@ -144,13 +144,17 @@ image_shown q v payload = and_then (placement_of v) (λ p. option_map (λ t. ima
 abbrev pub image_frame : {A : Type 0} → KittyImageVerbosity → Values → List ℕ → Option (KittyImage A)
 image_frame q v payload = and_then (frame_of v) (λ f. option_map (λ t. image.TransmitFrame t f q) (transmit_of v payload))
 
+-- a kept image that is shown
+abbrev pub image_display : {A : Type 0} → KittyImageVerbosity → Values → Option (KittyImage A)
+image_display q v = option_map (λ p. image.Display (number v (codes "i")) (number v (codes "I")) p q) (placement_of v)
+
 -- the image of keys and a payload, one line a value of `a`
 abbrev pub image_by : {A : Type 0} → List ℕ → KittyImageVerbosity → Values → List ℕ → Option (KittyImage A)
 image_by a q v payload =
     if is a (codes "t") then option_map (λ t. image.TransmitData t q) (transmit_of v payload)
     else if is a (codes "q") then option_map image.Query (transmit_of v payload)
     else if is a (codes "T") then image_shown q v payload
-    else if is a (codes "p") then option_map (λ p. image.Display (number v (codes "i")) (number v (codes "I")) p q) (placement_of v)
+    else if is a (codes "p") then image_display q v
     else if is a (codes "d") then option_map (λ w. image.Delete w q) (delete_of v)
     else if is a (codes "f") then image_frame q v payload
     else if is a (codes "c") then option_map (λ f. image.ComposeFrame f q) (compose_of v)

@@ -1,5 +1,6 @@
 pub mod Keys
 pub mod Words
+pub mod Media
 pub mod Images
 pub mod Texts
 pub mod Writable

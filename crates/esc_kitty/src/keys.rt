@@ -69,14 +69,20 @@ pub(crate) fn value<'a>(pairs: &[Pair<'a>], key: &str) -> Option<&'a str>
 pub(crate) fn number(pairs: &[Pair<'_>], key: &str) -> Option<u32>
     ensures { result ≡ number (values pairs.now) key.now }
 {
-    read_u32(value(pairs, key)?.as_bytes())
+    match value(pairs, key) {
+        Some(digits) => read_u32(digits.as_bytes()),
+        None => None,
+    }
 }
 
 // The signed number of a key, where there is one that can be read.
 pub(crate) fn signed(pairs: &[Pair<'_>], key: &str) -> Option<i32>
     ensures { result ≡ signed (values pairs.now) key.now }
 {
-    read_i32(value(pairs, key)?.as_bytes())
+    match value(pairs, key) {
+        Some(digits) => read_i32(digits.as_bytes()),
+        None => None,
+    }
 }
 
 // The number of a key, where there is one that can be read, and it is not 0.

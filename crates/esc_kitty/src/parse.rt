@@ -1,7 +1,9 @@
 //! How images are read.
 ghost use Rattle.std.specs.Prelude.{◌≡◌, IfOk};
+ghost use Rattle.std.specs.Option.{option_map};
 ghost use Rattle.esc_kitty.specs.Keys.{values};
-ghost use Rattle.esc_kitty.specs.Images.{image_by, image_frame, image_in, image_of, image_shown, image_with};
+ghost use Rattle.esc_kitty.specs.Images.{compose_of, delete_of, image_by, image_display, image_frame, image_in, image_of, image_shown, image_with, transmit_of};
+ghost use Rattle.esc_kitty.specs.declared.image.KittyImage.TheVariants as image;
 
 use crate::image::KittyImage;
 use crate::keys::{Pair, number, read_keys, value};
@@ -77,39 +79,95 @@ fn read_image_by<A: Allocator + Copy>(
     ensures { IfOk result (λ o. o ≡ image_by action.now verbosity (values pairs.now) payload.now) }
 {
     match action {
-        "t" => {
-            let transmit = read_transmit(alloc, pairs, payload)?;
-            Ok(transmit.map(|transmit| KittyImage::TransmitData {
-                transmit,
-                verbosity,
-            }))
-        }
-        "q" => {
-            let transmit = read_transmit(alloc, pairs, payload)?;
-            Ok(transmit.map(|transmit| KittyImage::Query { transmit }))
-        }
+        "t" => read_image_kept(alloc, verbosity, pairs, payload),
+        "q" => read_image_query(alloc, pairs, payload),
         "T" => read_image_shown(alloc, verbosity, pairs, payload),
-        "p" => {
-            let image_id = number(pairs, "i");
-            let image_number = number(pairs, "I");
-            let placement = read_placement(pairs);
-            Ok(placement.map(|placement| KittyImage::Display {
-                image_id,
-                image_number,
-                placement,
-                verbosity,
-            }))
-        }
-        "d" => {
-            let what = read_delete(pairs);
-            Ok(what.map(|what| KittyImage::Delete { what, verbosity }))
-        }
+        "p" => Ok(read_image_display(verbosity, pairs)),
+        "d" => Ok(read_image_delete(verbosity, pairs)),
         "f" => read_image_frame(alloc, verbosity, pairs, payload),
-        "c" => {
-            let frame = read_compose(pairs);
-            Ok(frame.map(|frame| KittyImage::ComposeFrame { frame, verbosity }))
-        }
+        "c" => Ok(read_image_compose(verbosity, pairs)),
         _ => Ok(None),
+    }
+}
+
+// The image that is kept.
+fn read_image_kept<A: Allocator>(
+    alloc: A,
+    verbosity: KittyImageVerbosity,
+    pairs: &[Pair<'_>],
+    payload: &[u8],
+) -> Result<Option<KittyImage<A>>, AllocError>
+    ensures { IfOk result (λ o. o ≡ option_map (λ t. image.TransmitData t verbosity)
+        (transmit_of (values pairs.now) payload.now)) }
+{
+    match read_transmit(alloc, pairs, payload) {
+        Ok(Some(transmit)) => Ok(Some(KittyImage::TransmitData {
+            transmit,
+            verbosity,
+        })),
+        Ok(None) => Ok(None),
+        Err(error) => Err(error),
+    }
+}
+
+// The image that is asked about.
+fn read_image_query<A: Allocator>(
+    alloc: A,
+    pairs: &[Pair<'_>],
+    payload: &[u8],
+) -> Result<Option<KittyImage<A>>, AllocError>
+    ensures { IfOk result (λ o. o ≡ option_map image.Query
+        (transmit_of (values pairs.now) payload.now)) }
+{
+    match read_transmit(alloc, pairs, payload) {
+        Ok(Some(transmit)) => Ok(Some(KittyImage::Query { transmit })),
+        Ok(None) => Ok(None),
+        Err(error) => Err(error),
+    }
+}
+
+// The kept image that is shown.
+fn read_image_display<A: Allocator>(
+    verbosity: KittyImageVerbosity,
+    pairs: &[Pair<'_>],
+) -> Option<KittyImage<A>>
+    ensures { result ≡ image_display verbosity (values pairs.now) }
+{
+    let Some(placement) = read_placement(pairs) else {
+        return None;
+    };
+    Some(KittyImage::Display {
+        image_id: number(pairs, "i"),
+        image_number: number(pairs, "I"),
+        placement,
+        verbosity,
+    })
+}
+
+// What is deleted.
+fn read_image_delete<A: Allocator>(
+    verbosity: KittyImageVerbosity,
+    pairs: &[Pair<'_>],
+) -> Option<KittyImage<A>>
+    ensures { result ≡ option_map (λ w. image.Delete w verbosity) (delete_of (values pairs.now)) }
+{
+    match read_delete(pairs) {
+        Some(what) => Some(KittyImage::Delete { what, verbosity }),
+        None => None,
+    }
+}
+
+// The frames that are composed.
+fn read_image_compose<A: Allocator>(
+    verbosity: KittyImageVerbosity,
+    pairs: &[Pair<'_>],
+) -> Option<KittyImage<A>>
+    ensures { result ≡ option_map (λ f. image.ComposeFrame f verbosity)
+        (compose_of (values pairs.now)) }
+{
+    match read_compose(pairs) {
+        Some(frame) => Some(KittyImage::ComposeFrame { frame, verbosity }),
+        None => None,
     }
 }
 
@@ -125,12 +183,15 @@ fn read_image_shown<A: Allocator + Copy>(
     let Some(placement) = read_placement(pairs) else {
         return Ok(None);
     };
-    let transmit = read_transmit(alloc, pairs, payload)?;
-    Ok(transmit.map(|transmit| KittyImage::TransmitDataAndDisplay {
-        transmit,
-        placement,
-        verbosity,
-    }))
+    match read_transmit(alloc, pairs, payload) {
+        Ok(Some(transmit)) => Ok(Some(KittyImage::TransmitDataAndDisplay {
+            transmit,
+            placement,
+            verbosity,
+        })),
+        Ok(None) => Ok(None),
+        Err(error) => Err(error),
+    }
 }
 
 // The frame that is kept.
@@ -145,10 +206,13 @@ fn read_image_frame<A: Allocator + Copy>(
     let Some(frame) = read_frame(pairs) else {
         return Ok(None);
     };
-    let transmit = read_transmit(alloc, pairs, payload)?;
-    Ok(transmit.map(|transmit| KittyImage::TransmitFrame {
-        transmit,
-        frame,
-        verbosity,
-    }))
+    match read_transmit(alloc, pairs, payload) {
+        Ok(Some(transmit)) => Ok(Some(KittyImage::TransmitFrame {
+            transmit,
+            frame,
+            verbosity,
+        })),
+        Ok(None) => Ok(None),
+        Err(error) => Err(error),
+    }
 }

@@ -18,7 +18,9 @@ pub(crate) fn read_delete(pairs: &[Pair<'_>]) -> Option<KittyImageDelete>
 fn read_delete_in(word: &[u8], pairs: &[Pair<'_>]) -> Option<KittyImageDelete>
     ensures { result ≡ delete_in word.now (values pairs.now) }
 {
-    let (letter, rest) = word.split_first()?;
+    let Some((letter, rest)) = word.split_first() else {
+        return None;
+    };
     if !rest.is_empty() {
         return None;
     }
@@ -36,7 +38,9 @@ fn read_delete_by(letter: u8, delete: bool, pairs: &[Pair<'_>]) -> Option<KittyI
     match letter {
         b'a' => Some(KittyImageDelete::All { delete }),
         b'i' => {
-            let image_id = number(pairs, "i")?;
+            let Some(image_id) = number(pairs, "i") else {
+                return None;
+            };
             let placement_id = number(pairs, "p");
             Some(KittyImageDelete::ByImageId {
                 image_id,
@@ -45,7 +49,9 @@ fn read_delete_by(letter: u8, delete: bool, pairs: &[Pair<'_>]) -> Option<KittyI
             })
         }
         b'n' => {
-            let image_number = number(pairs, "I")?;
+            let Some(image_number) = number(pairs, "I") else {
+                return None;
+            };
             let placement_id = number(pairs, "p");
             Some(KittyImageDelete::ByImageNumber {
                 image_number,
@@ -56,31 +62,51 @@ fn read_delete_by(letter: u8, delete: bool, pairs: &[Pair<'_>]) -> Option<KittyI
         b'c' => Some(KittyImageDelete::AtCursorPosition { delete }),
         b'f' => Some(KittyImageDelete::AnimationFrames { delete }),
         b'p' => {
-            let x = number(pairs, "x")?;
-            let y = number(pairs, "y")?;
+            let Some(x) = number(pairs, "x") else {
+                return None;
+            };
+            let Some(y) = number(pairs, "y") else {
+                return None;
+            };
             Some(KittyImageDelete::DeleteAt { x, y, delete })
         }
         b'q' => {
-            let x = number(pairs, "x")?;
-            let y = number(pairs, "y")?;
-            let z = signed(pairs, "z")?;
+            let Some(x) = number(pairs, "x") else {
+                return None;
+            };
+            let Some(y) = number(pairs, "y") else {
+                return None;
+            };
+            let Some(z) = signed(pairs, "z") else {
+                return None;
+            };
             Some(KittyImageDelete::DeleteAtZ { x, y, z, delete })
         }
         b'x' => {
-            let x = number(pairs, "x")?;
+            let Some(x) = number(pairs, "x") else {
+                return None;
+            };
             Some(KittyImageDelete::DeleteColumn { x, delete })
         }
         b'y' => {
-            let y = number(pairs, "y")?;
+            let Some(y) = number(pairs, "y") else {
+                return None;
+            };
             Some(KittyImageDelete::DeleteRow { y, delete })
         }
         b'z' => {
-            let z = signed(pairs, "z")?;
+            let Some(z) = signed(pairs, "z") else {
+                return None;
+            };
             Some(KittyImageDelete::DeleteZ { z, delete })
         }
         b'r' => {
-            let first = number(pairs, "x")?;
-            let last = number(pairs, "y")?;
+            let Some(first) = number(pairs, "x") else {
+                return None;
+            };
+            let Some(last) = number(pairs, "y") else {
+                return None;
+            };
             Some(KittyImageDelete::ByImageIdRange {
                 first,
                 last,

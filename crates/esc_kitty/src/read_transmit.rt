@@ -1,7 +1,12 @@
 //! How an image on its way to the terminal is read.
 ghost use Rattle.std.specs.Prelude.{◌≡◌, IfOk};
 ghost use Rattle.esc_kitty.specs.Keys.{values};
+ghost use Rattle.std.specs.Option.{option_map};
+ghost use Rattle.esc_below.specs.Base64.{base64_text_of};
+ghost use Rattle.esc_below.specs.Scalars.{utf8_of};
 ghost use Rattle.esc_kitty.specs.Images.{content_by, content_of, transmit_of};
+ghost use Rattle.esc_kitty.specs.Media.{named};
+ghost use Rattle.esc_kitty.specs.declared.content.KittyImageData.TheVariants.{Direct};
 
 use crate::compression::KittyImageCompression;
 use crate::content::KittyImageData;
@@ -70,34 +75,88 @@ fn read_content_by<A: Allocator>(
     ensures { IfOk result (λ o. o ≡ content_by medium.now data_size data_offset payload.now) }
 {
     match medium {
-        "d" => match text_in(payload) {
-            Some(text) => Ok(Some(KittyImageData::Direct(Text::from_str(alloc, text)?))),
-            None => Ok(None),
-        },
-        "f" => {
-            let path = read_base64_text(alloc, payload)?;
-            Ok(path.map(|path| KittyImageData::File {
-                path,
+        "d" => read_direct(alloc, payload),
+        "f" => read_named(alloc, Medium::File, data_size, data_offset, payload),
+        "t" => read_named(
+            alloc,
+            Medium::TemporaryFile,
+            data_size,
+            data_offset,
+            payload,
+        ),
+        "s" => read_named(alloc, Medium::SharedMem, data_size, data_offset, payload),
+        _ => Ok(None),
+    }
+}
+
+// The payload as it stands, where it is a text.
+fn read_direct<A: Allocator>(
+    alloc: A,
+    payload: &[u8],
+) -> Result<Option<KittyImageData<A>>, AllocError>
+    ensures { IfOk result (λ o. o ≡ option_map Direct (utf8_of payload.now)) }
+{
+    let Some(text) = text_in(payload) else {
+        return Ok(None);
+    };
+    match Text::from_str(alloc, text) {
+        Ok(text) => Ok(Some(KittyImageData::Direct(text))),
+        Err(error) => Err(error),
+    }
+}
+
+// What the payload names, where it is the base64 of a text.
+fn read_named<A: Allocator>(
+    alloc: A,
+    medium: Medium,
+    data_size: Option<u32>,
+    data_offset: Option<u32>,
+    payload: &[u8],
+) -> Result<Option<KittyImageData<A>>, AllocError>
+    ensures { IfOk result (λ o. o ≡ option_map (λ t. named medium t data_size data_offset)
+        (base64_text_of payload.now)) }
+{
+    match read_base64_text(alloc, payload) {
+        Ok(Some(name)) => Ok(Some(medium.named(name, data_size, data_offset))),
+        Ok(None) => Ok(None),
+        Err(error) => Err(error),
+    }
+}
+
+// What a payload may name.
+#[derive(Clone, Copy)]
+enum Medium {
+    File,
+    TemporaryFile,
+    SharedMem,
+}
+
+impl Medium {
+    // What is named so.
+    fn named<A: Allocator>(
+        self,
+        name: Text<A>,
+        data_size: Option<u32>,
+        data_offset: Option<u32>,
+    ) -> KittyImageData<A>
+        ensures { result ≡ named self name data_size data_offset }
+    {
+        match self {
+            Medium::File => KittyImageData::File {
+                path: name,
                 data_size,
                 data_offset,
-            }))
-        }
-        "t" => {
-            let path = read_base64_text(alloc, payload)?;
-            Ok(path.map(|path| KittyImageData::TemporaryFile {
-                path,
+            },
+            Medium::TemporaryFile => KittyImageData::TemporaryFile {
+                path: name,
                 data_size,
                 data_offset,
-            }))
-        }
-        "s" => {
-            let name = read_base64_text(alloc, payload)?;
-            Ok(name.map(|name| KittyImageData::SharedMem {
+            },
+            Medium::SharedMem => KittyImageData::SharedMem {
                 name,
                 data_size,
                 data_offset,
-            }))
+            },
         }
-        _ => Ok(None),
     }
 }
