@@ -7,7 +7,7 @@ use Rattle.std.specs.List.{prefix_len, All}
 use Rattle.std.proofs.lemmas.Bool.{agree_below, agree_below_at, eqb-true}
 use Rattle.std.proofs.lemmas.Bool.Decides.{nat_tests}
 use Rattle.std.proofs.lemmas.List.{length-map, get_or-take, length-take, map-append, take_all, take_more}
-use Rattle.std.proofs.lemmas.List.Elements.{All-from_get_or, All-append, All-nil, All-cons, All-head, All-tail}
+use Rattle.std.proofs.lemmas.List.Elements.{All-from_get_or, All-append, All-nil, All-cons, All-head, All-tail, All-take, All-drop}
 use Rattle.std.proofs.Math.Seq.{take-add, set-append_seam}
 use Rattle.std.proofs.lemmas.Simd.{map-map, mask_l-mod, first_set_mask_l, chunk-fits, length-chunk}
 use lib.Lanes.{Each1, mask_l, top}
@@ -129,3 +129,16 @@ drawn_more items before after xs at n e f =
     ∙ append_assoc items (drawn (take at xs)) (drawn (take n (drop at xs)))
     ∙ ap (λ t. items ++ t) (sym (map-append (λ b. Data (b - 0x3f)) (take at xs) (take n (drop at xs))))
     ∙ ap (λ t. items ++ drawn t) (sym (take-add at n xs))
+
+-- and by one
+pub drawn_one : (items before after : List SixelData) (xs : List ℕ) (at v : ℕ) → at < length xs → before ≡ items ++ drawn (take at xs)
+    → v ≡ get_or xs at 0 - 0x3f → after ≡ before ++ Data v ∷ [] → after ≡ items ++ drawn (take (at + 1) xs)
+drawn_one items before after xs at v lt e is f =
+    put_more items (drawn (take at xs)) before after v e f
+    ∙ ap (λ w. items ++ (drawn (take at xs) ++ Data w ∷ [])) is
+    ∙ ap (λ t. items ++ t) (sym (map-append (λ b. Data (b - 0x3f)) (take at xs) (get_or xs at 0 ∷ [])))
+    ∙ ap (λ t. items ++ drawn t) (sym (take_more xs at 0 lt))
+
+-- some of a run, and one of it
+pub some_pixels : (xs : List ℕ) (at n : ℕ) → All IsPixels xs → All IsPixels (take n (take (length xs - at) (drop at xs)))
+some_pixels xs at n h = All-take IsPixels n _ (All-take IsPixels (length xs - at) _ (All-drop IsPixels at xs h))

@@ -75,11 +75,20 @@ abbrev pub size_text : ℕ → Option ℕ → List ℕ
 size_text w h = decimal w ++ codes ";" ++ decimal (unwrap_or h 0)
 
 -- `ESC P`, the parameters, `q`, and raster attributes: with sizes where there is a width, without where no first parameter suffices
-abbrev pub header_by : {A : Type 0} → Option ℕ → Option (List ℕ) → Sixel A → List ℕ
-header_by (Some w) m s = 0x1b ∷ codes "P;" ++ background_text s.background_is_transparent s.horizontal_grid_size ++ codes "q\""
+abbrev pub sized_header : {A : Type 0} → ℕ → Sixel A → List ℕ
+sized_header w s = 0x1b ∷ codes "P;" ++ background_text s.background_is_transparent s.horizontal_grid_size ++ codes "q\""
     ++ ratio_text s.pan s.pad ++ codes ";" ++ size_text w s.pixel_height
-header_by None (Some m) s = 0x1b ∷ codes "P" ++ m ++ codes ";" ++ background_text s.background_is_transparent s.horizontal_grid_size ++ codes "q"
-header_by None None s = 0x1b ∷ codes "P;" ++ background_text s.background_is_transparent s.horizontal_grid_size ++ codes "q\"" ++ ratio_text s.pan s.pad
+
+abbrev pub short_header : {A : Type 0} → List ℕ → Sixel A → List ℕ
+short_header m s = 0x1b ∷ codes "P" ++ m ++ codes ";" ++ background_text s.background_is_transparent s.horizontal_grid_size ++ codes "q"
+
+abbrev pub ratio_header : {A : Type 0} → Sixel A → List ℕ
+ratio_header s = 0x1b ∷ codes "P;" ++ background_text s.background_is_transparent s.horizontal_grid_size ++ codes "q\"" ++ ratio_text s.pan s.pad
+
+abbrev pub header_by : {A : Type 0} → Option ℕ → Option (List ℕ) → Sixel A → List ℕ
+header_by (Some w) m s = sized_header w s
+header_by None (Some m) s = short_header m s
+header_by None None s = ratio_header s
 
 abbrev pub header_text : {A : Type 0} → Sixel A → List ℕ
 header_text s = header_by s.pixel_width (short_form s.pan s.pad) s

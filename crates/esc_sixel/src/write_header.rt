@@ -1,7 +1,7 @@
 //! How the header of a sixel image is written.
 ghost use Rattle.std.specs.Prelude.{◌≡◌, Some, option_map};
 ghost use Rattle.std.specs.Fmt.{DisplaysOnOk};
-ghost use Rattle.esc_sixel.specs.Texts.{short_form, header_text, flag_text, grid_text, background_text, ratio_text, size_text};
+ghost use Rattle.esc_sixel.specs.Texts.{short_form, header_text, sized_header, short_header, ratio_header, flag_text, grid_text, background_text, ratio_text, size_text};
 
 use crate::sixel::Sixel;
 use std::alloc::Allocator;
@@ -104,16 +104,51 @@ pub(crate) fn write_header<W: fmt::Write, A: Allocator>(
 ) -> fmt::Result
     ensures { DisplaysOnOk W.write_str_gives f.old result (Some (header_text sixel.now)) f.new }
 {
-    let background = Background(sixel.background_is_transparent, sixel.horizontal_grid_size);
-    let ratio = Ratio(sixel.pan, sixel.pad);
     match sixel.pixel_width {
-        Some(width) => {
-            let size = Size(width, sixel.pixel_height);
-            write!(f, "\x1bP;{background}q\"{ratio};{size}")
-        }
+        Some(width) => write_sized(sixel, width, f),
         None => match macro_parameter(sixel.pan, sixel.pad) {
-            Some(parameter) => write!(f, "\x1bP{parameter};{background}q"),
-            None => write!(f, "\x1bP;{background}q\"{ratio}"),
+            Some(parameter) => write_short(parameter, sixel, f),
+            None => write_ratio(sixel, f),
         },
     }
+}
+
+// The header with raster attributes that have a width.
+fn write_sized<W: fmt::Write, A: Allocator>(
+    sixel: &Sixel<A>,
+    width: u32,
+    f: &mut fmt::Formatter<W>,
+) -> fmt::Result
+    ensures { DisplaysOnOk W.write_str_gives f.old result
+        (Some (sized_header width sixel.now)) f.new }
+{
+    let background = Background(sixel.background_is_transparent, sixel.horizontal_grid_size);
+    let ratio = Ratio(sixel.pan, sixel.pad);
+    let size = Size(width, sixel.pixel_height);
+    write!(f, "\x1bP;{background}q\"{ratio};{size}")
+}
+
+// The header whose first parameter means pan and pad.
+fn write_short<W: fmt::Write, A: Allocator>(
+    parameter: &str,
+    sixel: &Sixel<A>,
+    f: &mut fmt::Formatter<W>,
+) -> fmt::Result
+    ensures { DisplaysOnOk W.write_str_gives f.old result
+        (Some (short_header parameter.now sixel.now)) f.new }
+{
+    let background = Background(sixel.background_is_transparent, sixel.horizontal_grid_size);
+    write!(f, "\x1bP{parameter};{background}q")
+}
+
+// The header with raster attributes that have pan and pad alone.
+fn write_ratio<W: fmt::Write, A: Allocator>(
+    sixel: &Sixel<A>,
+    f: &mut fmt::Formatter<W>,
+) -> fmt::Result
+    ensures { DisplaysOnOk W.write_str_gives f.old result (Some (ratio_header sixel.now)) f.new }
+{
+    let background = Background(sixel.background_is_transparent, sixel.horizontal_grid_size);
+    let ratio = Ratio(sixel.pan, sixel.pad);
+    write!(f, "\x1bP;{background}q\"{ratio}")
 }

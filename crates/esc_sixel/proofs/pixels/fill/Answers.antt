@@ -1,7 +1,7 @@
-use Rattle.std.proofs.Common.{◌∙◌, ◌++◌, ap, arith}
+use Rattle.std.proofs.Common.{◌∙◌, ◌++◌, ap, arith, refl}
 use Rattle.std.proofs.lemmas.List.{take_all}
 use Rattle.esc_sixel.specs.Meaning.{drawn}
-use Rattle.esc_sixel.proofs.PixelRuns.{drawn_more}
+use Rattle.esc_sixel.proofs.PixelRuns.{drawn_more, drawn_one, some_pixels}
 use Rattle.esc_sixel.proofs.pixels.fill.Goals as goal
 
 pub by_block-preserved : goal.by_block-preserved
@@ -24,6 +24,22 @@ by_two-preserved g c = record {
   items = drawn_more c.args.vec.items c.by_two.vec.items _ c.args.run.now c.by_two.at 2 c.by_two.invariant.items c.put_two.ensures.items;
   room = omega (arith, c.by_two.invariant.room, c.put_two.ensures.len, c.put_two.ensures.capacity);
 }
+
+pub loop-at-preserved : goal.loop-at-preserved
+loop-at-preserved g c = record {
+  within = omega (arith, c.loop-at-test.true);
+  items = drawn_one c.args.vec.items c.loop-at.vec.items _ c.args.run.now c.loop-at.at _ c.loop-at-test.true c.loop-at.invariant.items refl c.put.ensures.items;
+  room = omega (arith, c.loop-at.invariant.room, c.put.ensures.len, c.put.ensures.capacity);
+}
+
+pub put_block-requires-clause-pixels : goal.put_block-requires-clause-pixels
+put_block-requires-clause-pixels g c = some_pixels c.args.run.now c.by_block.at 8 c.requires.pixels
+
+pub put_four-requires-clause-pixels : goal.put_four-requires-clause-pixels
+put_four-requires-clause-pixels g c = some_pixels c.args.run.now c.by_four.at 4 c.requires.pixels
+
+pub put_two-requires-clause-pixels : goal.put_two-requires-clause-pixels
+put_two-requires-clause-pixels g c = some_pixels c.args.run.now c.by_two.at 2 c.requires.pixels
 
 pub returns : goal.returns
 returns g c =
