@@ -64,9 +64,12 @@ values_after v es = record {
   do_not_move_cursor = last_value (codes "doNotMoveCursor") v.do_not_move_cursor es;
 }
 
--- the values of the keys of the pieces, and what follows the first `:` of the last piece
+-- these values, with those of the keys of the pieces, and what follows the first `:` of the last piece
+abbrev pub values_with : Values → List (List ℕ) → Option (Values × List ℕ)
+values_with v ps = option_map (λ (m : Pairs × List ℕ). (values_after v m.0, m.1)) (pairs_of ps)
+
 abbrev pub values_of : List (List ℕ) → Option (Values × List ℕ)
-values_of ps = option_map (λ (m : Pairs × List ℕ). (values_after no_values m.0, m.1)) (pairs_of ps)
+values_of ps = values_with no_values ps
 
 -- the dimension of a value; automatic where there is none that can be read
 abbrev pub size_in : Option (List ℕ) → ITermDimension

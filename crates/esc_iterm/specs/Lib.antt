@@ -4,5 +4,6 @@ pub mod Files
 pub mod ITerms
 pub mod Keys
 pub mod Tenths
+pub mod TextForms
 pub mod Versions
 pub mod WritableITerms

@@ -58,12 +58,21 @@ pub(crate) fn read_dimension(text: &[u8]) -> Option<ITermDimension>
         return Some(ITermDimension::Automatic);
     }
     if let Some(number) = text.strip_suffix(b"px".as_slice()) {
-        return Some(ITermDimension::Pixels(read_i64(number)?));
+        return match read_i64(number) {
+            Some(number) => Some(ITermDimension::Pixels(number)),
+            None => None,
+        };
     }
     if let Some(number) = text.strip_suffix(b"%".as_slice()) {
-        return Some(ITermDimension::Percent(read_i64(number)?));
+        return match read_i64(number) {
+            Some(number) => Some(ITermDimension::Percent(number)),
+            None => None,
+        };
     }
-    Some(ITermDimension::Cells(read_i64(text)?))
+    match read_i64(text) {
+        Some(number) => Some(ITermDimension::Cells(number)),
+        None => None,
+    }
 }
 
 /// Writes the text of the dimension, which reads back. Where it returns `Ok`, all of it was written.

@@ -17,6 +17,7 @@ mod read;
 mod read_file;
 mod read_version;
 pub mod tenths;
+mod text_form;
 pub mod unicode_version;
 mod write;
 mod write_file;

@@ -3,13 +3,17 @@ ghost use Rattle.std.specs.Prelude.{◌≡◌, IfOk, map, Some, None};
 ghost use Rattle.std.specs.Str.Lossy.{utf8_lossy};
 ghost use Rattle.esc_iterm.specs.ITerms.{alone, assigned, bare, cell_size, content_of, form_of, highlight_of, iterm_of, keyed, variable_of, with_one, with_two};
 ghost use Rattle.std.specs.Option.{option_map};
+ghost use Rattle.esc_below.specs.Base64.{base64_text_of};
 ghost use Rattle.esc_iterm.specs.Files.{file_of};
+ghost use Rattle.esc_iterm.specs.TextForms.{with_text};
+ghost use Rattle.esc_iterm.specs.Versions.{version_of};
 ghost use Rattle.esc_iterm.specs.declared.proprietary.ITermProprietary.TheVariants as iterm;
 
 use crate::file_data::ITermFileData;
 use crate::proprietary::ITermProprietary;
 use crate::read_version::read_version;
 use crate::tenths::read_tenths;
+use crate::text_form::TextForm;
 use esc_below::base64_text::read_base64_text;
 use esc_below::cut::key_and_value;
 use esc_below::scalar::text_in;
@@ -39,9 +43,13 @@ fn read_file<A: Allocator + Copy>(
 ) -> Result<Option<ITermProprietary<A>>, AllocError>
     ensures { IfOk result (λ c. c ≡ option_map iterm.File (file_of (map (λ p. p.now) args.now))) }
 {
-    match ITermFileData::parse(alloc, args)? {
-        Some(file) => Ok(Some(ITermProprietary::File(Boxed::new(alloc, file)?))),
-        None => Ok(None),
+    match ITermFileData::parse(alloc, args) {
+        Ok(Some(file)) => match Boxed::new(alloc, file) {
+            Ok(file) => Ok(Some(ITermProprietary::File(file))),
+            Err(error) => Err(error),
+        },
+        Ok(None) => Ok(None),
+        Err(error) => Err(error),
     }
 }
 
@@ -131,29 +139,57 @@ fn read_assigned<A: Allocator + Copy>(
     ensures { IfOk result (λ c. c ≡ assigned key.now value.now) }
 {
     match key {
-        "CurrentDir" => {
-            let path = Text::from_str(alloc, value)?;
-            Ok(Some(ITermProprietary::CurrentDir(path)))
-        }
-        "SetProfile" => {
-            let profile = Text::from_str(alloc, value)?;
-            Ok(Some(ITermProprietary::SetProfile(profile)))
-        }
-        "CopyToClipboard" => {
-            let name = Text::from_str(alloc, value)?;
-            Ok(Some(ITermProprietary::CopyToClipboard(name)))
-        }
+        "CurrentDir" => read_plain(alloc, TextForm::CurrentDir, value),
+        "SetProfile" => read_plain(alloc, TextForm::SetProfile, value),
+        "CopyToClipboard" => read_plain(alloc, TextForm::CopyToClipboard, value),
         "HighlightCursorLine" => Ok(read_highlight(value)),
         "SetUserVar" => read_variable(alloc, value),
-        "SetBadgeFormat" => {
-            let format = read_base64_text(alloc, value.as_bytes())?;
-            Ok(format.map(|t| ITermProprietary::SetBadgeFormat(t)))
-        }
-        "UnicodeVersion" => {
-            let version = read_version(alloc, value.as_bytes())?;
-            Ok(version.map(|v| ITermProprietary::UnicodeVersion(v)))
-        }
+        "SetBadgeFormat" => read_encoded(alloc, TextForm::SetBadgeFormat, value.as_bytes()),
+        "UnicodeVersion" => read_unicode_version(alloc, value.as_bytes()),
         _ => Ok(None),
+    }
+}
+
+// A form with a text that stands as it is.
+fn read_plain<A: Allocator>(
+    alloc: A,
+    form: TextForm,
+    text: &str,
+) -> Result<Option<ITermProprietary<A>>, AllocError>
+    ensures { IfOk result (λ c. c ≡ Some (with_text form text.now)) }
+{
+    match Text::from_str(alloc, text) {
+        Ok(text) => Ok(Some(form.with_text(text))),
+        Err(error) => Err(error),
+    }
+}
+
+// A form with a text in base64.
+fn read_encoded<A: Allocator>(
+    alloc: A,
+    form: TextForm,
+    content: &[u8],
+) -> Result<Option<ITermProprietary<A>>, AllocError>
+    ensures { IfOk result (λ c. c ≡ option_map (with_text form) (base64_text_of content.now)) }
+{
+    match read_base64_text(alloc, content) {
+        Ok(Some(text)) => Ok(Some(form.with_text(text))),
+        Ok(None) => Ok(None),
+        Err(error) => Err(error),
+    }
+}
+
+// A version of Unicode.
+fn read_unicode_version<A: Allocator + Copy>(
+    alloc: A,
+    text: &[u8],
+) -> Result<Option<ITermProprietary<A>>, AllocError>
+    ensures { IfOk result (λ c. c ≡ option_map iterm.UnicodeVersion (version_of text.now)) }
+{
+    match read_version(alloc, text) {
+        Ok(Some(version)) => Ok(Some(ITermProprietary::UnicodeVersion(version))),
+        Ok(None) => Ok(None),
+        Err(error) => Err(error),
     }
 }
 
@@ -178,11 +214,25 @@ fn read_variable<A: Allocator + Copy>(
     let Some((name, value)) = key_and_value(text.as_bytes()) else {
         return Ok(None);
     };
-    let Some(value) = read_base64_text(alloc, value.as_bytes())? else {
-        return Ok(None);
-    };
-    let name = Text::from_str(alloc, name)?;
-    Ok(Some(ITermProprietary::SetUserVar { name, value }))
+    match read_base64_text(alloc, value.as_bytes()) {
+        Ok(Some(value)) => set_variable(alloc, name, value),
+        Ok(None) => Ok(None),
+        Err(error) => Err(error),
+    }
+}
+
+// A variable of this name and this value.
+fn set_variable<A: Allocator>(
+    alloc: A,
+    name: &str,
+    value: Text<A>,
+) -> Result<Option<ITermProprietary<A>>, AllocError>
+    ensures { IfOk result (λ c. c ≡ Some (iterm.SetUserVar name.now value)) }
+{
+    match Text::from_str(alloc, name) {
+        Ok(name) => Ok(Some(ITermProprietary::SetUserVar { name, value })),
+        Err(error) => Err(error),
+    }
 }
 
 // A keyword and its argument in the first part, and one part more.
@@ -212,14 +262,8 @@ fn read_content<A: Allocator + Copy>(
     ensures { IfOk result (λ c. c ≡ content_of key.now content.now) }
 {
     match key {
-        "Copy" => {
-            let content = read_base64_text(alloc, content)?;
-            Ok(content.map(|t| ITermProprietary::Copy(t)))
-        }
-        "SetBadgeFormat" => {
-            let format = read_base64_text(alloc, content)?;
-            Ok(format.map(|t| ITermProprietary::SetBadgeFormat(t)))
-        }
+        "Copy" => read_encoded(alloc, TextForm::Copy, content),
+        "SetBadgeFormat" => read_encoded(alloc, TextForm::SetBadgeFormat, content),
         _ => Ok(None),
     }
 }
@@ -236,7 +280,9 @@ fn read_with_two<A: Allocator>(
     if key != "ReportCellSize" {
         return None;
     }
-    let scale = read_tenths(third)?;
+    let Some(scale) = read_tenths(third) else {
+        return None;
+    };
     read_cell_size(value.as_bytes(), second, Some(scale))
 }
 
@@ -248,8 +294,12 @@ fn read_cell_size<A: Allocator>(
 ) -> Option<ITermProprietary<A>>
     ensures { result ≡ cell_size height.now width.now scale }
 {
-    let height_pixels = read_tenths(height)?;
-    let width_pixels = read_tenths(width)?;
+    let Some(height_pixels) = read_tenths(height) else {
+        return None;
+    };
+    let Some(width_pixels) = read_tenths(width) else {
+        return None;
+    };
     Some(ITermProprietary::ReportCellSize {
         height_pixels,
         width_pixels,

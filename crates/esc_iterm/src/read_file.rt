@@ -1,9 +1,9 @@
 //! How files are read.
-ghost use Rattle.std.specs.Prelude.{◌≡◌, ℕ, List, ◌∷◌, IfOk, map};
+ghost use Rattle.std.specs.Prelude.{◌≡◌, ℕ, List, [], ◌∷◌, IfOk, map, Some};
 ghost use Rattle.std.specs.Option.{option_map};
 ghost use Rattle.esc_below.specs.Base64.{base64_text_of};
 ghost use Rattle.esc_below.specs.Scalars.{and_then, number_of};
-ghost use Rattle.esc_iterm.specs.Files.{Values, file_of, file_with, is_set, last_pairs, piece_pairs, size_in, values_after, values_of};
+ghost use Rattle.esc_iterm.specs.Files.{Values, file_of, filled, file_with, is_set, last_pairs, piece_pairs, size_in, values_after, values_of, values_with};
 ghost use Rattle.esc_iterm.specs.Keys.{values};
 
 use crate::dimension::{ITermDimension, read_dimension};
@@ -25,10 +25,10 @@ pub(crate) fn read_file<A: Allocator + Copy>(
     let Some((first, rest)) = args.split_first() else {
         return Ok(None);
     };
-    if !first.starts_with(b"File=".as_slice()) {
+    let Some(first) = first.strip_prefix(b"File=".as_slice()) else {
         return Ok(None);
-    }
-    let Some((keys, content)) = read_pieces(&first[5..], rest) else {
+    };
+    let Some((keys, content)) = read_pieces(first, rest) else {
         return Ok(None);
     };
     make_file(alloc, keys, content)
@@ -49,11 +49,27 @@ fn read_pieces<'a>(first: &'a [u8], rest: &[&'a [u8]]) -> Option<(FileKeys<'a>, 
     };
     let mut piece = first;
     for next in rest {
-        keys = read_piece(keys, piece)?;
+        let Some(read) = read_piece(keys, piece) else {
+            return None;
+        };
+        keys = read;
         piece = next;
     }
-    let (piece, content) = cut(piece, b':')?;
-    Some((read_last(keys, piece)?, content))
+    read_end(keys, piece)
+}
+
+// The values, and those of the last piece, and what follows its first `:`.
+fn read_end<'a>(keys: FileKeys<'a>, piece: &'a [u8]) -> Option<(FileKeys<'a>, &'a [u8])>
+    ensures { option_map {U = Values × List ℕ} (λ r. (values r.0, r.1.now)) result
+        ≡ values_with (values keys.entry) (piece.now ∷ []) }
+{
+    let Some((piece, content)) = cut(piece, b':') else {
+        return None;
+    };
+    match read_last(keys, piece) {
+        Some(keys) => Some((keys, content)),
+        None => None,
+    }
 }
 
 // The values, and those of a piece before the last.
@@ -63,8 +79,10 @@ fn read_piece<'a>(keys: FileKeys<'a>, piece: &'a [u8]) -> Option<FileKeys<'a>>
     if piece.is_empty() {
         return Some(keys);
     }
-    let (key, value) = key_and_value(piece)?;
-    Some(keys.with(key, value))
+    match key_and_value(piece) {
+        Some((key, value)) => Some(keys.with(key, value)),
+        None => None,
+    }
 }
 
 // The values, and those of the last piece.
@@ -74,8 +92,10 @@ fn read_last<'a>(keys: FileKeys<'a>, piece: &'a [u8]) -> Option<FileKeys<'a>>
     if cut(piece, b'=').is_none() {
         return Some(keys);
     }
-    let (key, value) = key_and_value(piece)?;
-    Some(keys.with(key, value))
+    match key_and_value(piece) {
+        Some((key, value)) => Some(keys.with(key, value)),
+        None => None,
+    }
 }
 
 // The file of these values, where the content is base64.
@@ -86,19 +106,34 @@ fn make_file<A: Allocator + Copy>(
 ) -> Result<Option<ITermFileData<A>>, AllocError>
     ensures { IfOk result (λ f. f ≡ file_with (values keys.entry) content.now) }
 {
-    let Some(content) = read_base64(alloc, content)? else {
-        return Ok(None);
-    };
-    Ok(Some(ITermFileData {
-        name: read_name(alloc, keys.name)?,
-        size: read_size(keys.size),
-        width: read_dimension_in(keys.width),
-        height: read_dimension_in(keys.height),
-        preserve_aspect_ratio: is_set(true, keys.preserve_aspect_ratio),
-        inline: is_set(false, keys.inline),
-        do_not_move_cursor: is_set(false, keys.do_not_move_cursor),
-        content: Items::from_vec(content),
-    }))
+    match read_base64(alloc, content) {
+        Ok(Some(content)) => fill_file(alloc, keys, Items::from_vec(content)),
+        Ok(None) => Ok(None),
+        Err(error) => Err(error),
+    }
+}
+
+// The file of these values and this content.
+fn fill_file<A: Allocator>(
+    alloc: A,
+    keys: FileKeys<'_>,
+    content: Items<u8, A>,
+) -> Result<Option<ITermFileData<A>>, AllocError>
+    ensures { IfOk result (λ f. f ≡ Some (filled (values keys.entry) content)) }
+{
+    match read_name(alloc, keys.name) {
+        Ok(name) => Ok(Some(ITermFileData {
+            name,
+            size: read_size(keys.size),
+            width: read_dimension_in(keys.width),
+            height: read_dimension_in(keys.height),
+            preserve_aspect_ratio: is_set(true, keys.preserve_aspect_ratio),
+            inline: is_set(false, keys.inline),
+            do_not_move_cursor: is_set(false, keys.do_not_move_cursor),
+            content,
+        })),
+        Err(error) => Err(error),
+    }
 }
 
 // The text of a name, where there is one in base64.
@@ -115,7 +150,10 @@ fn read_name<A: Allocator>(alloc: A, value: Option<&str>) -> Result<Option<Text<
 fn read_size(value: Option<&str>) -> Option<usize>
     ensures { result ≡ and_then (option_map (λ v. v.now) value.entry) (number_of 64) }
 {
-    read_usize(value?.as_bytes())
+    match value {
+        Some(value) => read_usize(value.as_bytes()),
+        None => None,
+    }
 }
 
 // The dimension, automatic where there is none that can be read.

@@ -33,11 +33,15 @@ fn read_labelled<A: Allocator + Copy>(
         return Ok(None);
     };
     if word == b"push".as_slice() {
-        let label = Text::from_str(alloc, label)?;
-        Ok(Some(ITermUnicodeVersionOp::Push(Some(label))))
+        match Text::from_str(alloc, label) {
+            Ok(label) => Ok(Some(ITermUnicodeVersionOp::Push(Some(label)))),
+            Err(error) => Err(error),
+        }
     } else if word == b"pop".as_slice() {
-        let label = Text::from_str(alloc, label)?;
-        Ok(Some(ITermUnicodeVersionOp::Pop(Some(label))))
+        match Text::from_str(alloc, label) {
+            Ok(label) => Ok(Some(ITermUnicodeVersionOp::Pop(Some(label)))),
+            Err(error) => Err(error),
+        }
     } else {
         Ok(None)
     }
@@ -52,6 +56,9 @@ fn read_unlabelled<A: Allocator>(word: &[u8]) -> Option<ITermUnicodeVersionOp<A>
     } else if word == b"pop".as_slice() {
         Some(ITermUnicodeVersionOp::Pop(None))
     } else {
-        read_u8(word).map(|n| ITermUnicodeVersionOp::Set(n))
+        match read_u8(word) {
+            Some(number) => Some(ITermUnicodeVersionOp::Set(number)),
+            None => None,
+        }
     }
 }

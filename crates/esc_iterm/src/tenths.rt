@@ -22,8 +22,12 @@ pub fn read_tenths(text: &[u8]) -> Option<u32>
 fn read_pieces(whole: &[u8], tenth: &[u8]) -> Option<u32>
     ensures { result ≡ tenths_in whole.now tenth.now }
 {
-    let whole = read_digits(whole)?;
-    let tenth = read_tenth(tenth)?;
+    let Some(whole) = read_digits(whole) else {
+        return None;
+    };
+    let Some(tenth) = read_tenth(tenth) else {
+        return None;
+    };
     let tenths = 10 * u64::from(whole) + u64::from(tenth);
     u32::try_from(tenths).ok()
 }

@@ -14,24 +14,23 @@ next_piece v p xs i d lt = at_drop_more (λ (ys : List (Bor (List ℕ))). all_va
 abbrev no_piece : Bor (List ℕ)
 no_piece = record { ref_ptr = (0, 0); now = [] }
 
-pub returns-in_err-keys : goal.returns-in_err-keys
-returns-in_err-keys c =
+pub returns-in_default : goal.returns-in_default
+returns-in_default c =
     let i = c.loop-next.next-index in
     let lt : i < length c.args.rest.now = search rules in
     let fails : None ≡ option_map (values_after (values c.loop-next.keys)) (piece_pairs c.loop-next.piece.now) =
-    sym (ap (option_map values) c.in_err-keys.was) ∙ c.read_piece.ensures in
-    rw c.from_residual.ensures
-    (stop (values c.loop-next.keys) c.loop-next.piece.now (get_or c.args.rest.now i no_piece).now (map (λ x. x.now) (drop (i + 1) c.args.rest.now)) fails
+    sym (ap (option_map values) c.in_default.is) ∙ c.read_piece.ensures in
+    stop (values c.loop-next.keys) c.loop-next.piece.now (get_or c.args.rest.now i no_piece).now (map (λ x. x.now) (drop (i + 1) c.args.rest.now)) fails
     ∙ sym (next_piece (values c.loop-next.keys) c.loop-next.piece.now c.args.rest.now i no_piece lt)
-    ∙ c.loop-next.invariant)
+    ∙ c.loop-next.invariant
 
 pub loop-next-preserved : goal.loop-next-preserved
 loop-next-preserved c =
     let i = c.loop-next.next-index in
     let lt : i < length c.args.rest.now = search rules in
-    let reads : Some (values c.in_ok-keys.keys) ≡ option_map (values_after (values c.loop-next.keys)) (piece_pairs c.loop-next.piece.now) =
-    sym (ap (option_map values) c.in_ok-keys.was) ∙ c.read_piece.ensures in
-    turn (values c.loop-next.keys) (values c.in_ok-keys.keys) c.loop-next.piece.now (get_or c.args.rest.now i no_piece).now
+    let reads : Some (values c.in-Some.read) ≡ option_map (values_after (values c.loop-next.keys)) (piece_pairs c.loop-next.piece.now) =
+    sym (ap (option_map values) c.in-Some.is) ∙ c.read_piece.ensures in
+    turn (values c.loop-next.keys) (values c.in-Some.read) c.loop-next.piece.now (get_or c.args.rest.now i no_piece).now
     (map (λ x. x.now) (drop (i + 1) c.args.rest.now)) reads
     ∙ sym (next_piece (values c.loop-next.keys) c.loop-next.piece.now c.args.rest.now i no_piece lt)
     ∙ c.loop-next.invariant
