@@ -23,8 +23,11 @@ pub fn cut(bytes: &[u8], at: u8) -> Option<(&[u8], &[u8])>
 pub fn key_and_value(piece: &[u8]) -> Option<(&str, &str)>
     ensures { option_map (λ e. (e.0.now, e.1.now)) result ≡ key_and_value piece.now }
 {
-    let (key, value) = cut(piece, b'=')?;
-    let key = text_in(key)?;
-    let value = text_in(value)?;
-    Some((key, value))
+    let Some((key, value)) = cut(piece, b'=') else {
+        return None;
+    };
+    match (text_in(key), text_in(value)) {
+        (Some(key), Some(value)) => Some((key, value)),
+        _ => None,
+    }
 }

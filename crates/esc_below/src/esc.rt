@@ -71,17 +71,13 @@ fn write_final<W: fmt::Write>(esc: Esc, f: &mut fmt::Formatter<W>) -> fmt::Resul
         Esc::Unspecified {
             intermediate: None,
             control,
-        } => {
-            let last = char::from(control);
-            write!(f, "{last}")
-        }
+        } => f.write_char(char::from(control)),
         Esc::Unspecified {
             intermediate: Some(first),
             control,
         } => {
-            let first = char::from(first);
-            let last = char::from(control);
-            write!(f, "{first}{last}")
+            f.write_char(char::from(first))?;
+            f.write_char(char::from(control))
         }
     }
 }

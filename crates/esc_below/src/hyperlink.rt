@@ -32,24 +32,17 @@ impl<A: Allocator + Copy> Hyperlink<A> {
     pub fn new(alloc: A, uri: &str) -> Result<Hyperlink<A>, AllocError>
         ensures { IfOk result (λ h. h ≡ link_to [] uri.now) }
     {
-        Ok(Hyperlink {
-            params: Params::new(alloc),
-            uri: Text::from_str(alloc, uri)?,
-            implicit: false,
-        })
+        linked(alloc, Params::new(alloc), uri)
     }
 
     /// The link to this address with the parameter `id`. The error is that memory was refused.
     pub fn new_with_id(alloc: A, uri: &str, id: &str) -> Result<Hyperlink<A>, AllocError>
         ensures { IfOk result (λ h. h ≡ link_to ((codes "id", id.now) ∷ []) uri.now) }
     {
-        let mut params = Params::new(alloc);
-        params.insert(Text::from_str(alloc, "id")?, Text::from_str(alloc, id)?)?;
-        Ok(Hyperlink {
-            params,
-            uri: Text::from_str(alloc, uri)?,
-            implicit: false,
-        })
+        match id_params(alloc, id) {
+            Ok(params) => linked(alloc, params, uri),
+            Err(error) => Err(error),
+        }
     }
 
     /// What the parts of a text between `;` are: three parts, of which the first is not looked at, the second has the
@@ -62,19 +55,35 @@ impl<A: Allocator + Copy> Hyperlink<A> {
         ensures read { IfOk result (λ v. link_of (map (λ p. p.now) parts.now) ≡ Some v) }
         ensures invalid { IfErr result (λ e. e ≡ Invalid → link_of {A = A} (map (λ p. p.now) parts.now) ≡ None) }
     {
-        let Some((_, rest)) = parts.split_first() else {
+        let [_, params, uri] = parts else {
             return Err(Error::Invalid);
         };
-        let Some((params, rest)) = rest.split_first() else {
-            return Err(Error::Invalid);
-        };
-        let Some((uri, rest)) = rest.split_first() else {
-            return Err(Error::Invalid);
-        };
-        if !rest.is_empty() {
-            return Err(Error::Invalid);
-        }
         read_link(alloc, params, uri)
+    }
+}
+
+// The parameter `id`.
+fn id_params<A: Allocator + Copy>(alloc: A, id: &str) -> Result<Params<A>, AllocError>
+    ensures { IfOk result (λ p. p ≡ (codes "id", id.now) ∷ []) }
+{
+    let mut params = Params::new(alloc);
+    match put_texts(alloc, &mut params, "id", id) {
+        Ok(()) => Ok(params),
+        Err(error) => Err(error),
+    }
+}
+
+// The link to this address with these parameters.
+fn linked<A: Allocator>(alloc: A, params: Params<A>, uri: &str) -> Result<Hyperlink<A>, AllocError>
+    ensures { IfOk result (λ h. h ≡ link_to params uri.now) }
+{
+    match Text::from_str(alloc, uri) {
+        Ok(uri) => Ok(Hyperlink {
+            params,
+            uri,
+            implicit: false,
+        }),
+        Err(error) => Err(error),
     }
 }
 
@@ -94,12 +103,10 @@ fn read_link<A: Allocator + Copy>(
     let Some(uri) = text_in(uri) else {
         return Err(Error::Invalid);
     };
-    let uri = Text::from_str(alloc, uri)?;
-    Ok(Some(Hyperlink {
-        params,
-        uri,
-        implicit: false,
-    }))
+    match linked(alloc, params, uri) {
+        Ok(link) => Ok(Some(link)),
+        Err(error) => Err(Error::Memory(error)),
+    }
 }
 
 // The parameters that a text holds, between `:`.
@@ -132,10 +139,26 @@ fn put_piece<A: Allocator + Copy>(
     let Some((key, value)) = key_and_value(piece) else {
         return Err(Error::Invalid);
     };
+    match put_texts(alloc, params, key, value) {
+        Ok(()) => Ok(()),
+        Err(error) => Err(Error::Memory(error)),
+    }
+}
+
+// Puts a value at a key.
+fn put_texts<A: Allocator + Copy>(
+    alloc: A,
+    params: &mut Params<A>,
+    key: &str,
+    value: &str,
+) -> Result<(), AllocError>
+    ensures { OnOk result (params.new ≡ put key.now value.now params.old) }
+{
     let key = Text::from_str(alloc, key)?;
-    let value = Text::from_str(alloc, value)?;
-    params.insert(key, value)?;
-    Ok(())
+    match Text::from_str(alloc, value) {
+        Ok(value) => params.insert(key, value),
+        Err(error) => Err(error),
+    }
 }
 
 /// Writes `8;`, the parameters as `key=value` in order with `:` between them, `;` and the address. Where it returns `Ok`,

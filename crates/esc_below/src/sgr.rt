@@ -88,19 +88,26 @@ impl fmt::Display for Sgr {
     ghost output = { λ s. Some (sgr_text s) };
 
     fn fmt<W: fmt::Write>(&self, f: &mut fmt::Formatter<W>) -> fmt::Result {
-        match self {
-            Sgr::Reset => f.write_str("\x1b[0m"),
-            Sgr::Intensity(Intensity::Bold) => f.write_str("\x1b[1m"),
-            Sgr::Intensity(Intensity::Half) => f.write_str("\x1b[2m"),
-            Sgr::Intensity(Intensity::Normal) => f.write_str("\x1b[22m"),
-            Sgr::Italic(true) => f.write_str("\x1b[3m"),
-            Sgr::Italic(false) => f.write_str("\x1b[23m"),
-            Sgr::Underline(Underline::None) => f.write_str("\x1b[24m"),
-            Sgr::Underline(Underline::Single) => f.write_str("\x1b[4m"),
-            Sgr::Underline(Underline::Double) => f.write_str("\x1b[21m"),
-            Sgr::Underline(Underline::Curly) => f.write_str("\x1b[4:3m"),
-            Sgr::Underline(Underline::Dotted) => f.write_str("\x1b[4:4m"),
-            Sgr::Underline(Underline::Dashed) => f.write_str("\x1b[4:5m"),
-        }
+        f.write_str(sequence(*self))
+    }
+}
+
+// The control sequence that selects it.
+fn sequence(rendition: Sgr) -> &'static str
+    ensures { result.now ≡ sgr_text rendition }
+{
+    match rendition {
+        Sgr::Reset => "\x1b[0m",
+        Sgr::Intensity(Intensity::Bold) => "\x1b[1m",
+        Sgr::Intensity(Intensity::Half) => "\x1b[2m",
+        Sgr::Intensity(Intensity::Normal) => "\x1b[22m",
+        Sgr::Italic(true) => "\x1b[3m",
+        Sgr::Italic(false) => "\x1b[23m",
+        Sgr::Underline(Underline::None) => "\x1b[24m",
+        Sgr::Underline(Underline::Single) => "\x1b[4m",
+        Sgr::Underline(Underline::Double) => "\x1b[21m",
+        Sgr::Underline(Underline::Curly) => "\x1b[4:3m",
+        Sgr::Underline(Underline::Dotted) => "\x1b[4:4m",
+        Sgr::Underline(Underline::Dashed) => "\x1b[4:5m",
     }
 }

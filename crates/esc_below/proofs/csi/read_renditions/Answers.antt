@@ -2,7 +2,7 @@ use Rattle.std.proofs.Common.{◌≡◌, ◌+◌, ◌<◌, ◌++◌, ◌∷◌, 
 use Rattle.std.specs.List.{slice_split}
 use Rattle.std.proofs.lemmas.List.{map-append, length-drop}
 use Rattle.esc_below.specs.Csis.{csi_value, sgr, is_separator, rendition, renditions}
-use Rattle.esc_below.proofs.Renditions.{after, no_rendition, one_more}
+use Rattle.esc_below.proofs.Renditions.{after, last_one, no_rendition, one_more}
 use Rattle.esc_below.proofs.csi.read_renditions.Goals as goal
 
 pub returns-in_default : goal.returns-in_default
@@ -25,3 +25,12 @@ items-preserved g c =
     ≡ after (map csi_value c.push.new.self.items) (renditions (slice_split is_separator c.after_item-rest.result.now)) =
     rw (made, c.after_item-rest.ensures) more in
     (omega (arith, ap length c.after_item-rest.ensures, length-drop (c.item_len-len.result + 1) c.items.rest.now), turn)
+
+pub returns-then-len-rest : goal.returns-then-len-rest
+returns-then-len-rest g c =
+    let e : rendition (take c.item_len-len.result c.items.rest.now) ≡ Some c.in-Some.sgr = sym c.from_item.ensures ∙ c.in-Some.is in
+    let made : map csi_value c.push.new.self.items ≡ map csi_value c.items.read.items ++ sgr c.in-Some.sgr ∷ [] =
+    ap (map csi_value) c.in_ok-push.ensures.items ∙ map-append csi_value c.items.read.items _ in
+    ap Some made
+    ∙ sym (last_one c.items.rest.now c.item_len-len.result c.in-Some.sgr (map csi_value c.items.read.items)
+    (renditions (slice_split is_separator c.args.params.now)) c.item_len-len.ensures.first (omega arith) e c.items.invariant.1)
