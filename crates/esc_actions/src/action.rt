@@ -114,10 +114,10 @@ impl<A: Allocator> Display for Action<A> {
 
     fn fmt<W: fmt::Write>(&self, f: &mut fmt::Formatter<W>) -> fmt::Result {
         match self {
-            Action::Print(c) => write!(f, "{c}"),
-            Action::PrintString(text) => write!(f, "{text}"),
-            Action::Control(code) => write!(f, "{code}"),
-            Action::Esc(esc) => write!(f, "{esc}"),
+            Action::Print(c) => f.write_char(*c),
+            Action::PrintString(text) => f.write_str(text.as_str()),
+            Action::Control(code) => code.fmt(f),
+            Action::Esc(esc) => esc.fmt(f),
             Action::CSI(csi) => csi.fmt(f),
             Action::OperatingSystemCommand(command) => command.as_ref().fmt(f),
             Action::KittyImage(image) => image.as_ref().fmt(f),

@@ -1,5 +1,5 @@
 //! Lists of actions that grow at their end.
-ghost use Rattle.std.specs.Prelude.{◌≡◌, ◌++◌, ◌∷◌, [], IfErr, Ok, OnErr, OnOk, false, map, true};
+ghost use Rattle.std.specs.Prelude.{◌≡◌, ◌++◌, ◌∷◌, [], IfErr, IfOk, Ok, OnErr, OnOk, false, map, true};
 ghost use Rattle.std.specs.Char.{encode_utf8};
 ghost use Rattle.esc_actions.specs.Appending.{appended, ends_in_characters, is_characters, joined};
 ghost use Rattle.esc_actions.specs.Values.{print, value_of};
@@ -7,6 +7,7 @@ ghost use Rattle.esc_actions.specs.Values.{print, value_of};
 use crate::action::Action;
 use esc_below::Text;
 use std::alloc::{AllocError, Allocator};
+use std::mem;
 
 impl<A: Allocator + Copy> Action<A> {
     /// Appends the action to a list. A `Print` directly after a `Print` or a `PrintString` makes one `PrintString` with it, in
@@ -20,7 +21,8 @@ impl<A: Allocator + Copy> Action<A> {
     {
         if let Action::Print(c) = &self {
             match join_last(dest, *c) {
-                Ok(true) => return Ok(()),
+                // A character has no memory to give back.
+                Ok(true) => return Ok(mem::forget(self)),
                 Ok(false) => {}
                 Err(_) => return Err(self),
             }
@@ -46,16 +48,25 @@ impl<A: Allocator + Copy> Action<A> {
     {
         match self {
             Action::Print(before) => {
-                let mut text = Text::new(alloc);
-                text.push(*before)?;
-                text.push(c)?;
-                *self = Action::PrintString(text);
+                let text = two_characters(alloc, *before, c)?;
+                // A character has no memory to give back.
+                mem::forget(mem::replace(self, Action::PrintString(text)));
                 Ok(())
             }
             Action::PrintString(text) => text.push(c),
             _ => Ok(()),
         }
     }
+}
+
+// The text of two characters.
+fn two_characters<A: Allocator>(alloc: A, first: char, second: char) -> Result<Text<A>, AllocError>
+    ensures { IfOk result (λ t. t ≡ encode_utf8 first ++ encode_utf8 second) }
+{
+    let mut text = Text::new(alloc);
+    text.push(first)?;
+    text.push(second)?;
+    Ok(text)
 }
 
 // Lets a character join the characters at the end of the list, and returns whether there are any. The error is that memory was

@@ -226,7 +226,6 @@ impl fmt::Display for ControlCode {
     ghost output = { λ c. Some (encode_utf8 (code_number c)) };
 
     fn fmt<W: fmt::Write>(&self, f: &mut fmt::Formatter<W>) -> fmt::Result {
-        let c = self.as_char();
-        write!(f, "{c}")
+        f.write_char(self.as_char())
     }
 }
