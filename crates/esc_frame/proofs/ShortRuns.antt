@@ -1,6 +1,6 @@
 -- Control sequences that stand whole in some bytes, and are short.
 use Rattle.std.proofs.Common.{ℕ, ◌≡◌, ◌+◌, ◌-◌, ◌<◌, ◌≤◌, true, false, List, [], ◌∷◌, ◌++◌, length, take, drop, get_or, refl, ap, sym, ◌∙◌, subst, arith}
-use Rattle.std.proofs.Common.{Option}
+use Rattle.std.proofs.Common.{Option, None, Result, Ok, Err, IfOk}
 use Rattle.std.specs.List.{FoldsTo, list_all}
 use Rattle.std.proofs.Math.Seq.{take-add}
 use Rattle.std.proofs.lemmas.Bool.Decides.{nat_tests}
@@ -9,14 +9,17 @@ use Rattle.esc_below.specs.declared.csi_param.CsiParam.{CsiParam}
 use Rattle.esc_frame.specs.Classes.{class_of}
 use Rattle.esc_frame.specs.Events.{Event, StopsAt}
 use Rattle.esc_frame.specs.Events.Event.{CsiDispatch}
+use Rattle.esc_frame.specs.declared.machine.Machine.{Machine}
+use Rattle.esc_frame.specs.Leads.{Holds}
 use Rattle.esc_frame.specs.Leads.Unfinished.{Ground, InCsi}
+use Rattle.esc_frame.specs.Machine.Calls.{Stays, TookSome, Quietly}
 use Rattle.esc_frame.specs.Machine.Moves.{after_all, news_all, inside, may_grow_within, IsStill}
 use Rattle.esc_frame.specs.Scans.{is_body_byte}
 use Rattle.esc_frame.specs.Segments.{csi_events}
 use Rattle.esc_frame.specs.Segments.Opener.{Long}
 use Rattle.esc_frame.specs.Machine.Shorts.{IsShort}
 use Rattle.esc_frame.proofs.CsiRuns.{csi_opens, body_quiet, body_strip, final_by}
-use Rattle.esc_frame.proofs.Lends.{after_more}
+use Rattle.esc_frame.proofs.Lends.{after_more, ground_fresh}
 use Rattle.esc_frame.proofs.ManyBytes.{tail_is}
 use Rattle.esc_frame.proofs.QuietRuns.{quiet_after, quiet_given, quiet_stops_for}
 use Rattle.esc_frame.proofs.Given.{refused_stops}
@@ -81,3 +84,15 @@ module _ (limit : Option ℕ) (rest : List ℕ) (run : ℕ) (items : List CsiPar
       subst (IsStill limit Ground rest) back (opened_still limit (InCsi (Long []) []) rest some e (csi_opens limit rest (omega arith) e b) refl (run + 1)
       (body_still limit (Long []) [] (take (length rest - 2) (drop 2 rest)) run
       (subst (λ y. list_all is_body_byte (take run y) ≡ true) (sym (tail_is rest 2)) read.body)))
+
+-- what such a call says of the machine in ground
+pub stays_took : {K A S E : Type 0} (keeps : Option ℕ → K → List ℕ → Type 0) (limit : Option ℕ) (takes refuses : S → Event → S → Type 0) (is_ready : S → Type 0)
+    (result : Result ℕ E) (rest : List ℕ) (m : Machine K A) (old new : S) → IfOk result (λ n. Holds keeps None m Ground)
+    → Stays (may_grow_within Ground rest) takes refuses is_ready result rest old new → IfOk result (λ n. 0 < n) → Quietly limit result Ground rest
+    → TookSome keeps limit takes refuses is_ready result rest m old new
+stays_took keeps limit takes refuses is_ready (Ok n) rest m old new g s p q = (
+  (subst (Holds keeps limit m) (sym s.1) g, s.2 limit, ground_fresh Ground rest n s.1),
+  q,
+  (p, s.0, s.3),
+)
+stays_took keeps limit takes refuses is_ready (Err x) rest m old new g s p q = (s limit, tt, tt)

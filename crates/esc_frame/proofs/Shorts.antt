@@ -1,8 +1,8 @@
 -- Bodies of control sequences that have few entries.
-use Rattle.std.proofs.Common.{ℕ, ◌≡◌, ◌<◌, ◌≤◌, true, false, List, [], ◌∷◌, ◌++◌, length, Some, None, refl, ap, sym, ◌∙◌, arith}
+use Rattle.std.proofs.Common.{ℕ, ◌≡◌, ◌+◌, ◌<◌, ◌≤◌, true, false, List, [], ◌∷◌, ◌++◌, length, take, get_or, Some, None, refl, ap, sym, ◌∙◌, subst, append_assoc, arith}
 use Rattle.std.specs.Prelude.{pos}
 use Rattle.std.specs.List.{list_all}
-use Rattle.std.proofs.lemmas.List.{append-nil, take_all}
+use Rattle.std.proofs.lemmas.List.{append-nil, take_all, take_more}
 use Rattle.std.proofs.lemmas.List.Folds.{list_all-append}
 use Rattle.std.proofs.lemmas.Bool.Decides.{nat_tests}
 use Rattle.esc_below.specs.declared.csi_param.CsiParam.{CsiParam}
@@ -94,3 +94,19 @@ ends_short items x l f =
       form = sym (formed x) ∙ early_formed (form_from form.Empty x) f.form;
       body = f.body;
     }
+
+-- ---- a field: digits, if any, and a separator after them
+
+-- the separator behind the first n bytes of the rest
+pub field_closed : (items : List CsiParam) (x rest : List ℕ) (n : ℕ) → n < length rest → IsFront items ((x ++ take n rest) ++ get_or rest n 0 ∷ [])
+    → IsFront items (x ++ take (n + 1) rest)
+field_closed items x rest n l f =
+    subst (IsFront items) (append_assoc x (take n rest) (get_or rest n 0 ∷ []) ∙ ap (λ ys. x ++ ys) (sym (take_more rest n 0 l))) f
+
+-- a separator alone
+pub mark_closed : (items : List CsiParam) (x rest : List ℕ) → 0 < length rest → IsFront items (x ++ get_or rest 0 0 ∷ []) → IsFront items (x ++ take 1 rest)
+mark_closed items x rest l f = subst (IsFront items) (ap (λ ys. x ++ ys) (sym (take_more rest 0 0 l))) f
+
+-- neither
+pub none_behind : (items : List CsiParam) (x : List ℕ) → IsFront items x → IsBehind items (x ++ [])
+none_behind items x f = subst (IsBehind items) (sym (append-nil x)) f.so

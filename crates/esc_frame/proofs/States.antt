@@ -64,6 +64,19 @@ module _ {K A : Type 0} (keeps : Option ℕ → K → List ℕ → Type 0) (limi
   escape_in (InData o x f d) e h Q q = absurd (not_data state.Escape (is_read limit (strip x)) refl e)
   escape_in _ e h Q q = absurd cc
 
+  ground_in : (u : Unfinished) → state.Ground ≡ state_of limit u → front_of m.pending ≡ [] → Holds keeps limit m u → (Q : Unfinished → Type 0) → Q Ground
+      → Q u
+  ground_in Ground e p h Q q = q
+  ground_in (Pending f) e p h Q q = let k : true ≡ false = ap is_empty (sym p ∙ h.1) ∙ h.2 in absurd cc
+  ground_in (InData o x f d) e p h Q q = absurd (not_data state.Ground (is_read limit (strip x)) refl e)
+  ground_in _ e p h Q q = absurd cc
+
+  csi_in : (u : Unfinished) → state.Csi ≡ state_of limit u → Holds keeps limit m u → (Q : Unfinished → Type 0)
+      → ((o : Opener) (x : List ℕ) → Holds keeps limit m (InCsi o x) → Q (InCsi o x)) → Q u
+  csi_in (InCsi o x) e h Q q = q o x h
+  csi_in (InData o x f d) e h Q q = absurd (not_data state.Csi (is_read limit (strip x)) refl e)
+  csi_in _ e h Q q = absurd cc
+
   dcs_in : (u : Unfinished) → state.Dcs ≡ state_of limit u → Holds keeps limit m u → (Q : Unfinished → Type 0)
       → ((o : Opener) (x : List ℕ) → Holds keeps limit m (InDcs o x) → Q (InDcs o x)) → Q u
   dcs_in (InDcs o x) e h Q q = q o x h
@@ -92,6 +105,13 @@ module _ {K A : Type 0} (keeps : Option ℕ → K → List ℕ → Type 0) (limi
   pub osc_only : (u : Unfinished) → m.state ≡ state.Osc → front_of m.pending ≡ [] → Holds keeps limit m u → (Q : Unfinished → Type 0)
       → ((o : Opener) (ps : List Piece) → Holds keeps limit m (InOsc o ps) → Q (InOsc o ps)) → Q u
   osc_only u s p h = osc_in u (sym s ∙ held keeps limit m u h) p h
+
+  pub ground_only : (u : Unfinished) → m.state ≡ state.Ground → front_of m.pending ≡ [] → Holds keeps limit m u → (Q : Unfinished → Type 0) → Q Ground → Q u
+  ground_only u s p h = ground_in u (sym s ∙ held keeps limit m u h) p h
+
+  pub csi_only : (u : Unfinished) → m.state ≡ state.Csi → Holds keeps limit m u → (Q : Unfinished → Type 0)
+      → ((o : Opener) (x : List ℕ) → Holds keeps limit m (InCsi o x) → Q (InCsi o x)) → Q u
+  csi_only u s h = csi_in u (sym s ∙ held keeps limit m u h) h
 
   pub escape_only : (u : Unfinished) → m.state ≡ state.Escape → Holds keeps limit m u → (Q : Unfinished → Type 0)
       → ((x : List ℕ) → Holds keeps limit m (InEscape x) → Q (InEscape x)) → Q u

@@ -27,7 +27,7 @@ use std::alloc::{AllocError, Allocator};
 pub type Result<T> = std::result::Result<T, AllocError>;
 
 /// Where the machine stands.
-#[derive(Clone, Copy, PartialEq, Eq)]
+#[derive(Clone, Copy)]
 pub enum State {
     /// Between segments, or in a character's sequence.
     Ground,

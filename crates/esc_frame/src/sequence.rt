@@ -10,7 +10,7 @@ use crate::store::Store;
 use std::alloc::AllocError;
 
 /// The bytes of a sequence that has begun.
-#[derive(Clone, Copy, PartialEq, Eq)]
+#[derive(Clone, Copy)]
 pub enum Pending {
     Nothing,
     One(u8),
@@ -19,7 +19,7 @@ pub enum Pending {
 }
 
 /// What the next byte makes of it.
-#[derive(Clone, Copy, PartialEq, Eq)]
+#[derive(Clone, Copy)]
 pub enum Outcome {
     Whole,
     More,

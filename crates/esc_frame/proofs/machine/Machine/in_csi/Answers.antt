@@ -1,11 +1,19 @@
-use Rattle.std.proofs.Common.{inl, inr, ◌++◌, ◌∷◌, [], refl, subst}
+use Rattle.std.proofs.Common.{inl, inr, ◌≡◌, false, true, ◌++◌, ◌∷◌, [], refl, subst, rules}
+use Rattle.esc_frame.specs.Classes.{is_breaker}
 use Rattle.esc_frame.specs.declared.machine.State.TheVariants as state
 use Rattle.esc_frame.specs.Events.Event.{Execute}
 use Rattle.esc_frame.specs.Leads.Unfinished.{InCsi}
 use Rattle.esc_frame.specs.Machine.Keeps.{KeepsBody}
 use Rattle.esc_frame.proofs.Bytes.{noise_strip}
 use Rattle.esc_frame.proofs.Given.{hears_moved}
+use Rattle.esc_frame.proofs.Moving.{broken}
 use Rattle.esc_frame.proofs.machine.Machine.in_csi.Goals as goal
+
+pub returns-in-Cancel-clause-moved : goal.returns-in-Cancel-clause-moved
+returns-in-Cancel-clause-moved g c = λ limit o x e k.
+    let t : is_breaker c.args.class ≡ true = search (rules, c.in-Cancel.is) in
+    broken g.K.Store.keeps limit false g.V.VTActor.takes g.V.VTActor.refuses c.in_ground.result (InCsi o x) c.args.b c.args.class c.in_ground.new.self
+    c.args.actor.now c.in_ground.new.actor t refl (c.in_ground.ensures.moved limit false)
 
 pub returns-in-Plain-clause-moved : goal.returns-in-Plain-clause-moved
 returns-in-Plain-clause-moved g c = λ limit o x e k. elim c.in-Plain.is [

@@ -1,8 +1,16 @@
 use Rattle.std.proofs.Common.{rules, refl, true, ◌≡◌}
 use Rattle.esc_frame.specs.declared.machine.State.TheVariants as state
-use Rattle.esc_frame.specs.Classes.{in_body, strip}
+use Rattle.esc_frame.specs.Classes.{in_body, is_breaker, strip}
+use Rattle.esc_frame.specs.Leads.Unfinished.{InDcs}
 use Rattle.esc_frame.proofs.Pushed.{dcs_pushed}
+use Rattle.esc_frame.proofs.Moving.{broken}
 use Rattle.esc_frame.proofs.machine.Machine.in_dcs.Goals as goal
+
+pub returns-in-Cancel-clause-moved : goal.returns-in-Cancel-clause-moved
+returns-in-Cancel-clause-moved g c = λ o x e k d.
+    let t : is_breaker c.args.class ≡ true = search (rules, c.in-Cancel.is) in
+    broken g.K.Store.keeps c.args.limit true g.V.VTActor.takes g.V.VTActor.refuses c.in_ground.result (InDcs o x) c.args.b c.args.class c.in_ground.new.self
+    c.args.actor.now c.in_ground.new.actor t refl (c.in_ground.ensures.moved c.args.limit true)
 
 pub returns-in-Intermediate-clause-moved : goal.returns-in-Intermediate-clause-moved
 returns-in-Intermediate-clause-moved g c = λ o x e k d.

@@ -1,10 +1,18 @@
 use Rattle.std.proofs.Common.{rules, refl, true, ◌≡◌}
 use Rattle.esc_frame.specs.declared.machine.State.TheVariants as state
 use Rattle.esc_frame.specs.declared.sequence.Pending.TheVariants as pending
-use Rattle.esc_frame.specs.Classes.{is_text}
+use Rattle.esc_frame.specs.Classes.{is_breaker, is_text}
+use Rattle.esc_frame.specs.Leads.Unfinished.{InOsc}
 use Rattle.esc_frame.specs.Segments.{text_of}
 use Rattle.esc_frame.proofs.Pushed.{osc_pushed}
+use Rattle.esc_frame.proofs.Moving.{broken_told}
 use Rattle.esc_frame.proofs.machine.Machine.in_osc.Goals as goal
+
+pub returns-in-Cancel-clause-moved : goal.returns-in-Cancel-clause-moved
+returns-in-Cancel-clause-moved g c = λ o ps e k.
+    let t : is_breaker c.args.class ≡ true = search (rules, c.in-Cancel.is) in
+    broken_told g.K.Store.keeps c.args.limit true g.V.VTActor.takes g.V.VTActor.refuses c.leave_osc.result (InOsc o ps) c.args.b c.args.class c.leave_osc.new.self
+    c.args.actor.now c.leave_osc.new.actor t (c.leave_osc.ensures.moved c.args.limit (text_of ps) k)
 
 pub returns-in-Intermediate-clause-moved : goal.returns-in-Intermediate-clause-moved
 returns-in-Intermediate-clause-moved g c = λ o ps e k.

@@ -1,8 +1,8 @@
-use Rattle.std.proofs.Common.{ap}
+use Rattle.std.proofs.Common.{ap, false}
 use Rattle.esc_frame.specs.Machine.Calls.{Moved}
 use Rattle.esc_frame.specs.Machine.Fronts.{front_of}
 use Rattle.esc_frame.specs.Machine.Moves.{move, may_grow_in}
-use Rattle.esc_frame.proofs.States.{osc_only, dcs_only, apc_only}
+use Rattle.esc_frame.proofs.States.{ground_only, escape_only, csi_only, osc_only, dcs_only, apc_only}
 use Rattle.esc_frame.proofs.machine.Machine.step.Goals as goal
 
 pub returns-in-Nothing-pending-clause-moved : goal.returns-in-Nothing-pending-clause-moved
@@ -28,3 +28,27 @@ returns-in-Apc-clause-moved g c = λ u e h.
     c.in_apc.new.self c.args.actor.now
     c.in_apc.new.actor)
     (λ o d k. c.in_apc.ensures.moved o d e k.1)
+
+pub returns-in-Nothing-clause-moved : goal.returns-in-Nothing-clause-moved
+returns-in-Nothing-clause-moved g c = λ u e h.
+    ground_only g.K.Store.keeps c.args.limit c.args.self.now u c.in-Ground.is (ap front_of c.in-Nothing.is) h
+    (λ v. Moved g.K.Store.keeps c.args.limit (may_grow_in v) g.V.VTActor.takes g.V.VTActor.refuses c.in_ground.result (move c.args.limit v c.args.b c.args.class)
+    c.in_ground.new.self c.args.actor.now
+    c.in_ground.new.actor)
+    (c.in_ground.ensures.moved c.args.limit false)
+
+pub returns-in-Escape-clause-moved : goal.returns-in-Escape-clause-moved
+returns-in-Escape-clause-moved g c = λ u e h.
+    escape_only g.K.Store.keeps c.args.limit c.args.self.now u c.in-Escape.is h
+    (λ v. Moved g.K.Store.keeps c.args.limit (may_grow_in v) g.V.VTActor.takes g.V.VTActor.refuses c.in_escape.result (move c.args.limit v c.args.b c.args.class)
+    c.in_escape.new.self c.args.actor.now
+    c.in_escape.new.actor)
+    (λ x k. c.in_escape.ensures.moved c.args.limit false x e k.1)
+
+pub returns-in-Csi-clause-moved : goal.returns-in-Csi-clause-moved
+returns-in-Csi-clause-moved g c = λ u e h.
+    csi_only g.K.Store.keeps c.args.limit c.args.self.now u c.in-Csi.is h
+    (λ v. Moved g.K.Store.keeps c.args.limit (may_grow_in v) g.V.VTActor.takes g.V.VTActor.refuses c.in_csi.result (move c.args.limit v c.args.b c.args.class)
+    c.in_csi.new.self c.args.actor.now
+    c.in_csi.new.actor)
+    (λ o x k. c.in_csi.ensures.moved c.args.limit o x e k.1)

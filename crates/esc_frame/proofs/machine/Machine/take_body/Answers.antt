@@ -11,3 +11,51 @@ returns-else-is_pair_at-clause-took g c = λ o ps none.
     c.keep_body-else-is_pair_at.ensures.took o ps none
     (unclosed o ps c.args.rest.now c.units_run-run.result c.units_run-run.ensures.run (omega arith) (c.units_run-run.ensures.stops (omega arith)) _
     c.classify-class.ensures (sym c.ends_osc.ensures ∙ c.if-ends_osc.false) (c.is_pair_at.ensures.none c.if-is_pair_at.false))
+
+pub returns-then-run-rest-clause-quiet : goal.returns-then-run-rest-clause-quiet
+returns-then-run-rest-clause-quiet g c = c.keep_body.ensures.quiet
+
+pub returns-else-is_pair_at-clause-quiet : goal.returns-else-is_pair_at-clause-quiet
+returns-else-is_pair_at-clause-quiet g c = c.keep_body-else-is_pair_at.ensures.quiet
+
+pub returns-then-run-rest-clause-count : goal.returns-then-run-rest-clause-count
+returns-then-run-rest-clause-count g c = c.keep_body.ensures.count
+
+pub returns-else-is_pair_at-clause-count : goal.returns-else-is_pair_at-clause-count
+returns-else-is_pair_at-clause-count g c = c.keep_body-else-is_pair_at.ensures.count
+
+pub returns-then-ends_osc-clause-took : goal.returns-then-ends_osc-clause-took
+returns-then-ends_osc-clause-took g c = c.take_lent.ensures.took
+
+pub returns-then-is_pair_at-clause-took : goal.returns-then-is_pair_at-clause-took
+returns-then-is_pair_at-clause-took g c = c.take_lent_by_pair.ensures.took
+
+pub returns-then-ends_osc-clause-quiet : goal.returns-then-ends_osc-clause-quiet
+returns-then-ends_osc-clause-quiet g c = c.take_lent.ensures.quiet
+
+pub returns-then-is_pair_at-clause-quiet : goal.returns-then-is_pair_at-clause-quiet
+returns-then-is_pair_at-clause-quiet g c = c.take_lent_by_pair.ensures.quiet
+
+pub returns-then-ends_osc-clause-count : goal.returns-then-ends_osc-clause-count
+returns-then-ends_osc-clause-count g c = c.take_lent.ensures.count
+
+pub returns-then-is_pair_at-clause-count : goal.returns-then-is_pair_at-clause-count
+returns-then-is_pair_at-clause-count g c = c.take_lent_by_pair.ensures.count
+
+pub keep_body-requires-clause-passes : goal.keep_body-requires-clause-passes
+keep_body-requires-clause-passes g c = c.units_run-run.ensures.run
+
+pub take_lent-requires-clause-passes : goal.take_lent-requires-clause-passes
+take_lent-requires-clause-passes g c = c.units_run-run.ensures.run
+
+pub take_lent_by_pair-requires-clause-passes : goal.take_lent_by_pair-requires-clause-passes
+take_lent_by_pair-requires-clause-passes g c = c.units_run-run.ensures.run
+
+pub keep_body-requires-else-is_pair_at-clause-passes : goal.keep_body-requires-else-is_pair_at-clause-passes
+keep_body-requires-else-is_pair_at-clause-passes g c = c.units_run-run.ensures.run
+
+pub take_lent-requires-clause-class : goal.take_lent-requires-clause-class
+take_lent-requires-clause-class g c = c.classify-class.ensures
+
+pub take_lent-requires-clause-ends : goal.take_lent-requires-clause-ends
+take_lent-requires-clause-ends g c = sym c.ends_osc.ensures ∙ c.if-ends_osc.true

@@ -25,3 +25,33 @@ returns-else-is_breaker-clause-took g c = λ o d k.
     c.keep_apc-else-is_breaker.ensures.took o d k
     (apc_unclosed o d c.args.rest.now c.ascii_run-run.result c.ascii_run-run.ensures.run (omega arith)
     (ap is_breaker (sym c.classify-class.ensures) ∙ sym c.is_breaker.ensures ∙ c.if-is_breaker.false))
+
+pub returns-then-run-rest-clause-quiet : goal.returns-then-run-rest-clause-quiet
+returns-then-run-rest-clause-quiet g c = c.keep_apc.ensures.quiet
+
+pub returns-then-not-is_new-clause-quiet : goal.returns-then-not-is_new-clause-quiet
+returns-then-not-is_new-clause-quiet g c = c.keep_apc-then-not-is_new.ensures.quiet
+
+pub returns-then-is_breaker-clause-quiet : goal.returns-then-is_breaker-clause-quiet
+returns-then-is_breaker-clause-quiet g c = c.take_lent_apc.ensures.quiet
+
+pub returns-else-is_breaker-clause-quiet : goal.returns-else-is_breaker-clause-quiet
+returns-else-is_breaker-clause-quiet g c = c.keep_apc-else-is_breaker.ensures.quiet
+
+pub returns-then-run-rest-clause-count : goal.returns-then-run-rest-clause-count
+returns-then-run-rest-clause-count g c = c.keep_apc.ensures.count
+
+pub returns-then-not-is_new-clause-count : goal.returns-then-not-is_new-clause-count
+returns-then-not-is_new-clause-count g c = c.keep_apc-then-not-is_new.ensures.count
+
+pub returns-then-is_breaker-clause-count : goal.returns-then-is_breaker-clause-count
+returns-then-is_breaker-clause-count g c = c.take_lent_apc.ensures.count
+
+pub returns-else-is_breaker-clause-count : goal.returns-else-is_breaker-clause-count
+returns-else-is_breaker-clause-count g c = c.keep_apc-else-is_breaker.ensures.count
+
+pub take_lent_apc-requires-clause-class : goal.take_lent_apc-requires-clause-class
+take_lent_apc-requires-clause-class g c = c.classify-class.ensures
+
+pub take_lent_apc-requires-clause-ends : goal.take_lent_apc-requires-clause-ends
+take_lent_apc-requires-clause-ends g c = sym c.is_breaker.ensures ∙ c.if-is_breaker.true

@@ -11,3 +11,9 @@ pub returns-else-rest-eq27-clause-stays : goal.returns-else-rest-eq27-clause-sta
 returns-else-rest-eq27-clause-stays g c =
     stays_for false _ g.V.VTActor.takes g.V.VTActor.refuses g.V.VTActor.is_ready c.execute_one.result c.args.rest.now c.args.actor.now _ (λ no. absurd cc)
     c.execute_one.ensures
+
+pub returns-then-rest-eq27-clause-ground : goal.returns-then-rest-eq27-clause-ground
+returns-then-rest-eq27-clause-ground g c = c.take_quick_csi.ensures.ground
+
+pub returns-then-rest-eq27-clause-stays : goal.returns-then-rest-eq27-clause-stays
+returns-then-rest-eq27-clause-stays g c = c.take_quick_csi.ensures.stays

@@ -1,0 +1,18 @@
+use Rattle.std.proofs.Common.{ap}
+use Rattle.esc_frame.specs.Machine.Calls.{Took}
+use Rattle.esc_frame.specs.Machine.Fronts.{front_of}
+use Rattle.esc_frame.proofs.States.{ground_only}
+use Rattle.esc_frame.proofs.machine.Machine.take.Goals as goal
+
+pub returns-in-Nothing-clause-took : goal.returns-in-Nothing-clause-took
+returns-in-Nothing-clause-took g c = λ u h.
+    ground_only g.K.Store.keeps c.args.limit c.args.self.now u c.in-Ground.is (ap front_of c.in-Nothing.is) h
+    (λ v. Took g.K.Store.keeps c.args.limit g.V.VTActor.takes g.V.VTActor.refuses c.take_in_ground.result v c.args.rest.now c.take_in_ground.new.self
+    c.args.actor.now c.take_in_ground.new.actor)
+    c.take_in_ground.ensures.took
+
+pub returns-in-Data-clause-took : goal.returns-in-Data-clause-took
+returns-in-Data-clause-took g c = c.take_in_data.ensures.took
+
+pub returns-in-Escape : goal.returns-in-Escape
+returns-in-Escape g c = record { took = c.take_some.ensures.took; count = c.take_some.ensures.count }
