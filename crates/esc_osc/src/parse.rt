@@ -1,12 +1,15 @@
 //! How parts are read.
-ghost use Rattle.std.specs.Prelude.{◌≡◌, IfOk, [], ◌∷◌, map, drop, codes};
+ghost use Rattle.std.specs.Prelude.{◌≡◌, IfOk, Some, [], ◌∷◌, map, drop, codes};
 ghost use Rattle.std.specs.Option.{option_map};
 ghost use Rattle.std.specs.Str.Lossy.{utf8_lossy};
 ghost use Rattle.esc_below.specs.Hyperlinks.{link_of};
 ghost use Rattle.esc_below.specs.Scalars.{utf8_of};
 ghost use Rattle.esc_osc.specs.Codes.{code_name, code_of};
+ghost use Rattle.esc_osc.specs.Colors.{colors_of, pairs_of};
 ghost use Rattle.esc_osc.specs.Progresses.{progress_of};
-ghost use Rattle.esc_osc.specs.Reading.{dynamic, fitting, lone_text, meaning, named, notified, reading, selected};
+ghost use Rattle.esc_iterm.specs.ITerms.{iterm_of};
+ghost use Rattle.esc_prompts.specs.Prompts.{prompt_of};
+ghost use Rattle.esc_osc.specs.Reading.{dynamic, fitting, lone_text, meaning, named, notified, numbers_of, reading, selected, title_of};
 ghost use Rattle.esc_osc.specs.declared.command.OperatingSystemCommand.TheVariants as command;
 
 use crate::code::OperatingSystemCommandCode;
@@ -122,59 +125,193 @@ fn read_by_code<A: Allocator + Copy>(
     ensures { IfOk result (λ c. c ≡ reading code first.now (map (λ p. p.now) args.now)) }
 {
     match code {
-        OperatingSystemCommandCode::SetIconNameAndWindowTitle => {
-            let title = read_title(alloc, args)?;
-            Ok(title.map(|t| OperatingSystemCommand::SetIconNameAndWindowTitle(t)))
-        }
-        OperatingSystemCommandCode::SetIconName => {
-            let title = read_title(alloc, args)?;
-            Ok(title.map(|t| OperatingSystemCommand::SetIconName(t)))
-        }
-        OperatingSystemCommandCode::SetWindowTitle => {
-            let title = read_title(alloc, args)?;
-            Ok(title.map(|t| OperatingSystemCommand::SetWindowTitle(t)))
-        }
-        OperatingSystemCommandCode::ChangeColorNumber => {
-            let pairs = read_pairs(alloc, args)?;
-            Ok(pairs.map(|p| OperatingSystemCommand::ChangeColorNumber(p)))
-        }
-        OperatingSystemCommandCode::SetCurrentWorkingDirectory => {
-            let path = read_lone_text(alloc, args)?;
-            Ok(path.map(|t| OperatingSystemCommand::CurrentWorkingDirectory(t)))
-        }
+        OperatingSystemCommandCode::SetIconNameAndWindowTitle => read_both_names(alloc, args),
+        OperatingSystemCommandCode::SetIconName => read_icon_name(alloc, args),
+        OperatingSystemCommandCode::SetWindowTitle => read_window_title(alloc, args),
+        OperatingSystemCommandCode::ChangeColorNumber => read_palette(alloc, args),
+        OperatingSystemCommandCode::SetCurrentWorkingDirectory => read_directory(alloc, args),
         OperatingSystemCommandCode::SetHyperlink => read_link(alloc, args),
         OperatingSystemCommandCode::SystemNotification => read_notified(alloc, args),
         OperatingSystemCommandCode::ManipulateSelectionData => read_selected(alloc, args),
-        OperatingSystemCommandCode::ResetColors => {
-            let numbers = read_numbers(alloc, args)?;
-            Ok(numbers.map(|n| OperatingSystemCommand::ResetColors(n)))
-        }
-        OperatingSystemCommandCode::FinalTermSemanticPrompt => {
-            let prompt = FinalTermSemanticPrompt::parse(alloc, args)?;
-            Ok(prompt.map(|p| OperatingSystemCommand::FinalTermSemanticPrompt(p)))
-        }
-        OperatingSystemCommandCode::RxvtProprietary => {
-            let texts = read_texts(alloc, args)?;
-            Ok(Some(OperatingSystemCommand::RxvtExtension(texts)))
-        }
-        OperatingSystemCommandCode::ITermProprietary => {
-            let command = ITermProprietary::parse(alloc, args)?;
-            Ok(command.map(|c| OperatingSystemCommand::ITermProprietary(c)))
-        }
-        OperatingSystemCommandCode::SetWindowTitleSun => {
-            let title = without_first(alloc, first)?;
-            Ok(title.map(|t| OperatingSystemCommand::SetWindowTitleSun(t)))
-        }
-        OperatingSystemCommandCode::SetIconNameSun => {
-            let title = without_first(alloc, first)?;
-            Ok(title.map(|t| OperatingSystemCommand::SetIconNameSun(t)))
-        }
+        OperatingSystemCommandCode::ResetColors => read_reset(alloc, args),
+        OperatingSystemCommandCode::FinalTermSemanticPrompt => read_prompt(alloc, args),
+        OperatingSystemCommandCode::RxvtProprietary => read_extension(alloc, args),
+        OperatingSystemCommandCode::ITermProprietary => read_proprietary(alloc, args),
+        OperatingSystemCommandCode::SetWindowTitleSun => read_sun_title(alloc, first),
+        OperatingSystemCommandCode::SetIconNameSun => read_sun_icon_name(alloc, first),
         _ => read_dynamic(
             alloc,
             DynamicColorNumber::changed_by(code),
             DynamicColorNumber::reset_by(code),
             args,
         ),
+    }
+}
+
+// The name of the icon and the title of the window.
+fn read_both_names<A: Allocator + Copy>(
+    alloc: A,
+    args: &[&[u8]],
+) -> Result<Option<OperatingSystemCommand<A>>, AllocError>
+    ensures { IfOk result (λ c. c ≡ option_map command.SetIconNameAndWindowTitle (title_of (map (λ p. p.now) args.now))) }
+{
+    match read_title(alloc, args) {
+        Ok(Some(read)) => Ok(Some(OperatingSystemCommand::SetIconNameAndWindowTitle(read))),
+        Ok(None) => Ok(None),
+        Err(error) => Err(error),
+    }
+}
+
+// The name of the icon.
+fn read_icon_name<A: Allocator + Copy>(
+    alloc: A,
+    args: &[&[u8]],
+) -> Result<Option<OperatingSystemCommand<A>>, AllocError>
+    ensures { IfOk result (λ c. c ≡ option_map command.SetIconName (title_of (map (λ p. p.now) args.now))) }
+{
+    match read_title(alloc, args) {
+        Ok(Some(read)) => Ok(Some(OperatingSystemCommand::SetIconName(read))),
+        Ok(None) => Ok(None),
+        Err(error) => Err(error),
+    }
+}
+
+// The title of the window.
+fn read_window_title<A: Allocator + Copy>(
+    alloc: A,
+    args: &[&[u8]],
+) -> Result<Option<OperatingSystemCommand<A>>, AllocError>
+    ensures { IfOk result (λ c. c ≡ option_map command.SetWindowTitle (title_of (map (λ p. p.now) args.now))) }
+{
+    match read_title(alloc, args) {
+        Ok(Some(read)) => Ok(Some(OperatingSystemCommand::SetWindowTitle(read))),
+        Ok(None) => Ok(None),
+        Err(error) => Err(error),
+    }
+}
+
+// The directory that the shell works in.
+fn read_directory<A: Allocator + Copy>(
+    alloc: A,
+    args: &[&[u8]],
+) -> Result<Option<OperatingSystemCommand<A>>, AllocError>
+    ensures { IfOk result (λ c. c ≡ option_map command.CurrentWorkingDirectory (lone_text (map (λ p. p.now) args.now))) }
+{
+    match read_lone_text(alloc, args) {
+        Ok(Some(read)) => Ok(Some(OperatingSystemCommand::CurrentWorkingDirectory(read))),
+        Ok(None) => Ok(None),
+        Err(error) => Err(error),
+    }
+}
+
+// A notification.
+fn read_notification<A: Allocator + Copy>(
+    alloc: A,
+    args: &[&[u8]],
+) -> Result<Option<OperatingSystemCommand<A>>, AllocError>
+    ensures { IfOk result (λ c. c ≡ option_map command.SystemNotification (lone_text (map (λ p. p.now) args.now))) }
+{
+    match read_lone_text(alloc, args) {
+        Ok(Some(read)) => Ok(Some(OperatingSystemCommand::SystemNotification(read))),
+        Ok(None) => Ok(None),
+        Err(error) => Err(error),
+    }
+}
+
+// Changes of the palette.
+fn read_palette<A: Allocator + Copy>(
+    alloc: A,
+    args: &[&[u8]],
+) -> Result<Option<OperatingSystemCommand<A>>, AllocError>
+    ensures { IfOk result (λ c. c ≡ option_map command.ChangeColorNumber (pairs_of (map (λ p. p.now) args.now))) }
+{
+    match read_pairs(alloc, args) {
+        Ok(Some(read)) => Ok(Some(OperatingSystemCommand::ChangeColorNumber(read))),
+        Ok(None) => Ok(None),
+        Err(error) => Err(error),
+    }
+}
+
+// Colours of the palette that are reset.
+fn read_reset<A: Allocator + Copy>(
+    alloc: A,
+    args: &[&[u8]],
+) -> Result<Option<OperatingSystemCommand<A>>, AllocError>
+    ensures { IfOk result (λ c. c ≡ option_map command.ResetColors (numbers_of (map (λ p. p.now) args.now))) }
+{
+    match read_numbers(alloc, args) {
+        Ok(Some(read)) => Ok(Some(OperatingSystemCommand::ResetColors(read))),
+        Ok(None) => Ok(None),
+        Err(error) => Err(error),
+    }
+}
+
+// An extension of rxvt.
+fn read_extension<A: Allocator + Copy>(
+    alloc: A,
+    args: &[&[u8]],
+) -> Result<Option<OperatingSystemCommand<A>>, AllocError>
+    ensures { IfOk result (λ c. c ≡ Some (command.RxvtExtension (map utf8_lossy (map (λ p. p.now) args.now)))) }
+{
+    match read_texts(alloc, args) {
+        Ok(texts) => Ok(Some(OperatingSystemCommand::RxvtExtension(texts))),
+        Err(error) => Err(error),
+    }
+}
+
+// A mark of prompts and commands.
+fn read_prompt<A: Allocator + Copy>(
+    alloc: A,
+    args: &[&[u8]],
+) -> Result<Option<OperatingSystemCommand<A>>, AllocError>
+    ensures { IfOk result (λ c. c ≡ option_map command.FinalTermSemanticPrompt (prompt_of (map (λ p. p.now) args.now))) }
+{
+    match FinalTermSemanticPrompt::parse(alloc, args) {
+        Ok(Some(read)) => Ok(Some(OperatingSystemCommand::FinalTermSemanticPrompt(read))),
+        Ok(None) => Ok(None),
+        Err(error) => Err(error),
+    }
+}
+
+// A command of iTerm2.
+fn read_proprietary<A: Allocator + Copy>(
+    alloc: A,
+    args: &[&[u8]],
+) -> Result<Option<OperatingSystemCommand<A>>, AllocError>
+    ensures { IfOk result (λ c. c ≡ option_map command.ITermProprietary (iterm_of (map (λ p. p.now) args.now))) }
+{
+    match ITermProprietary::parse(alloc, args) {
+        Ok(Some(read)) => Ok(Some(OperatingSystemCommand::ITermProprietary(read))),
+        Ok(None) => Ok(None),
+        Err(error) => Err(error),
+    }
+}
+
+// The title of the window after the letter `l`.
+fn read_sun_title<A: Allocator + Copy>(
+    alloc: A,
+    first: &str,
+) -> Result<Option<OperatingSystemCommand<A>>, AllocError>
+    ensures { IfOk result (λ c. c ≡ option_map command.SetWindowTitleSun (utf8_of (drop 1 first.now))) }
+{
+    match without_first(alloc, first) {
+        Ok(Some(read)) => Ok(Some(OperatingSystemCommand::SetWindowTitleSun(read))),
+        Ok(None) => Ok(None),
+        Err(error) => Err(error),
+    }
+}
+
+// The name of the icon after the letter `L`.
+fn read_sun_icon_name<A: Allocator + Copy>(
+    alloc: A,
+    first: &str,
+) -> Result<Option<OperatingSystemCommand<A>>, AllocError>
+    ensures { IfOk result (λ c. c ≡ option_map command.SetIconNameSun (utf8_of (drop 1 first.now))) }
+{
+    match without_first(alloc, first) {
+        Ok(Some(read)) => Ok(Some(OperatingSystemCommand::SetIconNameSun(read))),
+        Ok(None) => Ok(None),
+        Err(error) => Err(error),
     }
 }
 
@@ -215,10 +352,22 @@ fn read_notified<A: Allocator + Copy>(
 {
     match read_progress(args) {
         Some(progress) => Ok(Some(OperatingSystemCommand::ConEmuProgress(progress))),
-        None => {
-            let text = read_lone_text(alloc, args)?;
-            Ok(text.map(|t| OperatingSystemCommand::SystemNotification(t)))
-        }
+        None => read_notification(alloc, args),
+    }
+}
+
+// Changes of this dynamic colour and those after it.
+fn read_changed<A: Allocator + Copy>(
+    alloc: A,
+    number: DynamicColorNumber,
+    args: &[&[u8]],
+) -> Result<Option<OperatingSystemCommand<A>>, AllocError>
+    ensures { IfOk result (λ c. c ≡ option_map (command.ChangeDynamicColors number) (colors_of (map (λ p. p.now) args.now))) }
+{
+    match read_colors(alloc, args) {
+        Ok(Some(colors)) => Ok(Some(OperatingSystemCommand::ChangeDynamicColors(number, colors))),
+        Ok(None) => Ok(None),
+        Err(error) => Err(error),
     }
 }
 
@@ -232,11 +381,11 @@ fn read_dynamic<A: Allocator + Copy>(
     ensures { IfOk result (λ c. c ≡ dynamic changed reset (map (λ p. p.now) args.now)) }
 {
     match changed {
-        Some(number) => {
-            let colors = read_colors(alloc, args)?;
-            Ok(colors.map(|c| OperatingSystemCommand::ChangeDynamicColors(number, c)))
-        }
-        None => Ok(reset.map(|number| OperatingSystemCommand::ResetDynamicColor(number))),
+        Some(number) => read_changed(alloc, number, args),
+        None => match reset {
+            Some(number) => Ok(Some(OperatingSystemCommand::ResetDynamicColor(number))),
+            None => Ok(None),
+        },
     }
 }
 
@@ -279,6 +428,9 @@ fn read_content<A: Allocator + Copy>(
     if text == b"?".as_slice() {
         return Ok(Some(OperatingSystemCommand::QuerySelection(selection)));
     }
-    let content = read_base64_text(alloc, text)?;
-    Ok(content.map(|t| OperatingSystemCommand::SetSelection(selection, t)))
+    match read_base64_text(alloc, text) {
+        Ok(Some(content)) => Ok(Some(OperatingSystemCommand::SetSelection(selection, content))),
+        Ok(None) => Ok(None),
+        Err(error) => Err(error),
+    }
 }

@@ -3,19 +3,23 @@ ghost use Rattle.std.specs.Prelude.{Some, ◌∷◌, ◌++◌, codes};
 ghost use Rattle.std.specs.Fmt.{DisplaysOnOk, decimal};
 ghost use Rattle.std.specs.List.{flat_map};
 ghost use Rattle.std.specs.Str.Lossy.{utf8_lossy};
+ghost use Rattle.esc_below.specs.Base64.{base64_text};
 ghost use Rattle.esc_osc.specs.Colors.{pair_text, spec_text};
 ghost use Rattle.esc_osc.specs.Commands.{command_text, inner_text, joined_by};
 ghost use Rattle.esc_osc.specs.Progresses.{progress_text};
+ghost use Rattle.esc_osc.specs.Selections.{selection_text};
 
 use crate::change_color_pair::ChangeColorPair;
 use crate::color_or_query::ColorOrQuery;
 use crate::command::OperatingSystemCommand;
 use crate::lossy::Lossy;
 use crate::progress::Progress;
+use crate::selection::Selection;
 use esc_below::base64_text::Encoded;
 use esc_below::{Items, Text};
 use std::alloc::Allocator;
 use std::fmt;
+use std::fmt::Display;
 
 /// Writes `ESC ]`, the parts of the command with `;` between them, and the string terminator `ESC \`. Bytes that
 /// are no UTF-8 are written as U+FFFD. Where it returns `Ok`, all of it was written.
@@ -37,36 +41,60 @@ fn write_inner<W: fmt::Write, A: Allocator>(
     ensures { DisplaysOnOk W.write_str_gives f.old result (Some (inner_text command.now)) f.new }
 {
     match command {
-        OperatingSystemCommand::SetIconNameAndWindowTitle(title) => write!(f, "0;{title}"),
-        OperatingSystemCommand::SetWindowTitle(title) => write!(f, "2;{title}"),
-        OperatingSystemCommand::SetWindowTitleSun(title) => write!(f, "l{title}"),
-        OperatingSystemCommand::SetIconName(title) => write!(f, "1;{title}"),
-        OperatingSystemCommand::SetIconNameSun(title) => write!(f, "L{title}"),
-        OperatingSystemCommand::SetHyperlink(Some(link)) => write!(f, "{link}"),
+        OperatingSystemCommand::SetIconNameAndWindowTitle(title) => write_text("0;", title, f),
+        OperatingSystemCommand::SetWindowTitle(title) => write_text("2;", title, f),
+        OperatingSystemCommand::SetWindowTitleSun(title) => write_text("l", title, f),
+        OperatingSystemCommand::SetIconName(title) => write_text("1;", title, f),
+        OperatingSystemCommand::SetIconNameSun(title) => write_text("L", title, f),
+        OperatingSystemCommand::SetHyperlink(Some(link)) => link.fmt(f),
         OperatingSystemCommand::SetHyperlink(None) => f.write_str("8;;"),
         OperatingSystemCommand::ClearSelection(selection) => write!(f, "52;{selection}"),
         OperatingSystemCommand::QuerySelection(selection) => write!(f, "52;{selection};?"),
-        OperatingSystemCommand::SetSelection(selection, content) => {
-            let text = Encoded(content.as_bytes());
-            write!(f, "52;{selection};{text}")
-        }
-        OperatingSystemCommand::SystemNotification(text) => write!(f, "9;{text}"),
-        OperatingSystemCommand::ITermProprietary(command) => write!(f, "{command}"),
-        OperatingSystemCommand::FinalTermSemanticPrompt(prompt) => write!(f, "{prompt}"),
+        OperatingSystemCommand::SetSelection(selection, content) => write_content(
+            selection, content, f,
+        ),
+        OperatingSystemCommand::SystemNotification(text) => write_text("9;", text, f),
+        OperatingSystemCommand::ITermProprietary(command) => command.fmt(f),
+        OperatingSystemCommand::FinalTermSemanticPrompt(prompt) => prompt.fmt(f),
         OperatingSystemCommand::ChangeColorNumber(pairs) => write_pairs(pairs.as_slice(), f),
-        OperatingSystemCommand::ChangeDynamicColors(number, colors) => {
-            f.write_str(number.change_code().as_code())?;
-            write_colors(colors.as_slice(), f)
-        }
+        OperatingSystemCommand::ChangeDynamicColors(number, colors) => write_colors(
+            number.change_code().as_code(),
+            colors.as_slice(),
+            f,
+        ),
         OperatingSystemCommand::ResetDynamicColor(number) => {
             f.write_str(number.reset_code().as_code())
         }
-        OperatingSystemCommand::CurrentWorkingDirectory(path) => write!(f, "7;{path}"),
+        OperatingSystemCommand::CurrentWorkingDirectory(path) => write_text("7;", path, f),
         OperatingSystemCommand::ResetColors(numbers) => write_numbers(numbers.as_slice(), f),
         OperatingSystemCommand::RxvtExtension(texts) => write_texts(texts.as_slice(), f),
         OperatingSystemCommand::ConEmuProgress(progress) => write_progress(progress, f),
         OperatingSystemCommand::Unspecified(parts) => write_parts(parts.as_slice(), f),
     }
+}
+
+// What stands before a text, and the text.
+fn write_text<W: fmt::Write, A: Allocator>(
+    before: &str,
+    text: &Text<A>,
+    f: &mut fmt::Formatter<W>,
+) -> fmt::Result
+    ensures { DisplaysOnOk W.write_str_gives f.old result (Some (before.now ++ text.now)) f.new }
+{
+    f.write_str(before)?;
+    f.write_str(text.as_str())
+}
+
+// The code, the selection, and the text in base64.
+fn write_content<W: fmt::Write, A: Allocator>(
+    selection: &Selection,
+    content: &Text<A>,
+    f: &mut fmt::Formatter<W>,
+) -> fmt::Result
+    ensures { DisplaysOnOk W.write_str_gives f.old result (Some (codes "52;" ++ selection_text selection.now.0 ++ 0x3b ∷ base64_text content.now)) f.new }
+{
+    let text = Encoded(content.as_bytes());
+    write!(f, "52;{selection};{text}")
 }
 
 // The code, and what the progress is.
@@ -110,10 +138,15 @@ fn write_more_pairs<W: fmt::Write>(
     Ok(())
 }
 
-// The colours, each after a `;`.
-fn write_colors<W: fmt::Write>(colors: &[ColorOrQuery], f: &mut fmt::Formatter<W>) -> fmt::Result
-    ensures { DisplaysOnOk W.write_str_gives f.old result (Some (flat_map (λ c. 0x3b ∷ spec_text c) colors.now)) f.new }
+// The code, and the colours, each after a `;`.
+fn write_colors<W: fmt::Write>(
+    code: &str,
+    colors: &[ColorOrQuery],
+    f: &mut fmt::Formatter<W>,
+) -> fmt::Result
+    ensures { DisplaysOnOk W.write_str_gives f.old result (Some (code.now ++ flat_map (λ c. 0x3b ∷ spec_text c) colors.now)) f.new }
 {
+    f.write_str(code)?;
     for color in colors {
         write!(f, ";{color}")?;
     }
