@@ -21,8 +21,7 @@ impl<A: Allocator + Copy> Action<A> {
     {
         if let Action::Print(c) = &self {
             match join_last(dest, *c) {
-                // A character has no memory to give back.
-                Ok(true) => return Ok(mem::forget(self)),
+                Ok(true) => return Ok(drop(self)),
                 Ok(false) => {}
                 Err(_) => return Err(self),
             }
@@ -49,8 +48,7 @@ impl<A: Allocator + Copy> Action<A> {
         match self {
             Action::Print(before) => {
                 let text = two_characters(alloc, *before, c)?;
-                // A character has no memory to give back.
-                mem::forget(mem::replace(self, Action::PrintString(text)));
+                drop(mem::replace(self, Action::PrintString(text)));
                 Ok(())
             }
             Action::PrintString(text) => text.push(c),
