@@ -2,6 +2,7 @@
 use escape_stream::{Action, ControlCode, Text};
 use refusing::Refusing;
 use std::alloc::{AllocError, Allocator, Global};
+use std::fmt::Debug;
 use std::test::Fail;
 
 // The actions before, whether the action that is appended is a string, and the Debug text of the list afterwards; then that of the
@@ -71,10 +72,9 @@ const REQUESTS: u64 = 8;
 fn list_of<A: Allocator + Copy>(alloc: A, text: &str) -> Result<Vec<Action<A>, A>, AllocError> {
     let mut list = Vec::new(alloc);
     for c in text.chars() {
-        let action = if c == '\u{7}' {
-            Action::Control(ControlCode::Bell)
-        } else {
-            Action::Print(c)
+        let action = match c {
+            '\u{7}' => Action::Control(ControlCode::Bell),
+            _ => Action::Print(c),
         };
         if action.append_to(&mut list).is_err() {
             return Err(AllocError);
@@ -85,57 +85,64 @@ fn list_of<A: Allocator + Copy>(alloc: A, text: &str) -> Result<Vec<Action<A>, A
 
 // The character b, as it is or as a string.
 fn last<A: Allocator>(alloc: A, is_string: bool) -> Result<Action<A>, AllocError> {
-    if is_string {
-        Ok(Action::PrintString(Text::from_str(alloc, "b")?))
-    } else {
-        Ok(Action::Print('b'))
+    if !is_string {
+        return Ok(Action::Print('b'));
+    }
+    match Text::from_str(alloc, "b") {
+        Ok(text) => Ok(Action::PrintString(text)),
+        Err(error) => Err(error),
     }
 }
 
-// The Debug text of the list with the action, or of the list and the action that came back.
-fn appended<A: Allocator + Copy>(
-    mut list: Vec<Action<A>, A>,
-    action: Action<A>,
-    out: Global,
+// The Debug text of a list that an action was appended to, or of the list and the action that came back.
+fn shown<T: Debug + Drop>(
+    alloc: Global,
+    list: Vec<T, &Refusing<Global>>,
+    appended: Result<(), T>,
 ) -> Result<String, AllocError> {
-    match action.append_to(&mut list) {
-        Ok(()) => format!(in out; "{list:?}"),
-        Err(action) => format!(in out; "{list:?} and {action:?}"),
+    match appended {
+        Ok(()) => format!(in alloc; "{list:?}"),
+        Err(action) => format!(in alloc; "{list:?} and {action:?}"),
     }
 }
 
-// What comes back where the request with this number is refused, and whether it was refused.
+// What comes back where the request with this number is refused.
 fn refused_at(
     alloc: Global,
-    before: &str,
-    is_string: bool,
+    heap: &Refusing<Global>,
+    row: &(&str, bool, &str, &str),
     at: u64,
-) -> Result<(String, bool), AllocError> {
-    let heap = Refusing::new(alloc);
-    let list = list_of(&heap, before)?;
-    let action = last(&heap, is_string)?;
+) -> Result<String, AllocError> {
+    let (before, is_string, _, _) = *row;
+    heap.refuse_at(0);
+    let mut list = list_of(heap, before)?;
+    let action = last(heap, is_string);
     heap.refuse_at(at);
-    let got = appended(list, action, alloc)?;
-    Ok((got, heap.has_refused()))
+    match action {
+        Ok(action) => {
+            let appended = action.append_to(&mut list);
+            shown(alloc, list, appended)
+        }
+        Err(error) => Err(error),
+    }
 }
 
 // With each request refused in turn, the list stays and the action comes back; with none, it is appended. The growth of a string that is
 // there is refused too.
 #[test]
 fn an_action_is_appended_or_comes_back(rt: HostRuntime) -> Result<(), Fail> {
+    let heap = Refusing::new(rt.alloc());
     let mut strings = 0u32;
-    for (before, is_string, after, unchanged) in &ROWS {
-        let mut is_refused = true;
+    for row in &ROWS {
+        let (before, _, after, unchanged) = *row;
         for at in 1..=REQUESTS {
-            let (got, refused) = refused_at(rt.alloc(), before, *is_string, at)?;
-            let wanted = if refused { *unchanged } else { *after };
-            assert_eq!(rt; got.as_str(), wanted, "{before}, {at}");
-            if refused && before.len() > 2 {
-                strings = strings.saturating_add(1);
-            }
-            is_refused = refused;
+            let got = refused_at(rt.alloc(), &heap, row, at)?;
+            let is_refused = heap.has_refused();
+            let wanted = if is_refused { unchanged } else { after };
+            assert!(rt; got.as_str() == wanted, "{before}, {at}");
+            strings = strings.saturating_add(u32::from(is_refused && before.len() > 2));
         }
-        assert!(rt; !is_refused);
+        assert!(rt; !heap.has_refused());
     }
     assert!(rt; strings > 0);
     Ok(())

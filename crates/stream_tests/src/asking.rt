@@ -1,8 +1,8 @@
 //! Which actions and lists are writable.
 use escape_stream::csi::Unspecified;
 use escape_stream::{
-    Action, Boxed, CSI, ControlCode, Esc, Items, OperatingSystemCommand, ParseError, Parser, Sixel,
-    SixelData, Text, are_writable, is_writable,
+    Action, Boxed, CSI, ControlCode, Esc, Items, OperatingSystemCommand, Parser, Sixel, SixelData,
+    Text, are_writable, is_writable,
 };
 use refusing::Refusing;
 use std::alloc::{AllocError, Allocator, Global};
@@ -56,7 +56,9 @@ static MADE: [(Made, bool); 29] = [
     (Made::Nothing, false),
 ];
 
-fn image<A: Allocator + Copy>(alloc: A, value: u8) -> Result<Action<A>, AllocError> {
+/// An image of one piece of data, of this value.
+pub fn image<A: Allocator + Copy>(alloc: A, value: u8) -> Result<Action<A>, AllocError> {
+    let content = Vec::from_slice(alloc, &[SixelData::Data(value)])?;
     let sixel = Sixel {
         pan: 2,
         pad: 1,
@@ -64,9 +66,12 @@ fn image<A: Allocator + Copy>(alloc: A, value: u8) -> Result<Action<A>, AllocErr
         pixel_height: None,
         background_is_transparent: false,
         horizontal_grid_size: None,
-        content: Items::from_vec(Vec::from_slice(alloc, &[SixelData::Data(value)])?),
+        content: Items::from_vec(content),
     };
-    Ok(Action::Sixel(Boxed::new(alloc, sixel)?))
+    match Boxed::new(alloc, sixel) {
+        Ok(sixel) => Ok(Action::Sixel(sixel)),
+        Err(_) => Err(AllocError),
+    }
 }
 
 fn sequence<A: Allocator + Copy>(
@@ -79,12 +84,18 @@ fn sequence<A: Allocator + Copy>(
         parameters_truncated,
         control,
     };
-    Ok(Action::CSI(CSI::Unspecified(Boxed::new(alloc, sequence)?)))
+    match Boxed::new(alloc, sequence) {
+        Ok(sequence) => Ok(Action::CSI(CSI::Unspecified(sequence))),
+        Err(_) => Err(AllocError),
+    }
 }
 
 fn title<A: Allocator + Copy>(alloc: A, text: &str) -> Result<Action<A>, AllocError> {
-    let command = OperatingSystemCommand::SetWindowTitle(Text::from_str(alloc, text)?);
-    Ok(Action::OperatingSystemCommand(Boxed::new(alloc, command)?))
+    let title = Text::from_str(alloc, text)?;
+    match Boxed::new(alloc, OperatingSystemCommand::SetWindowTitle(title)) {
+        Ok(command) => Ok(Action::OperatingSystemCommand(command)),
+        Err(_) => Err(AllocError),
+    }
 }
 
 fn action_of<A: Allocator + Copy>(alloc: A, what: Made) -> Result<Action<A>, AllocError> {
@@ -170,25 +181,18 @@ static PARTS: [(&[u8], usize, usize, bool); 19] = [
     (b"a\x1b  [", 0, 2, false),
 ];
 
-// Whether these actions are a writable list, and none where there are fewer, or memory is refused.
-fn answer(
-    alloc: Global,
-    actions: &Result<Vec<Action>, ParseError>,
-    from: usize,
-    to: usize,
-) -> Option<bool> {
-    match actions {
-        Ok(actions) => are_writable(alloc, actions.get(from..to)?).ok(),
-        Err(_) => None,
-    }
+// Some of the items, and none where there are fewer.
+fn part<T>(items: &[T], from: usize, to: usize) -> Option<&[T]> {
+    items.get(from..to)
 }
 
 #[test]
-fn lists_and_their_groups(rt: HostRuntime) {
+fn lists_and_their_groups(rt: HostRuntime) -> Result<(), Fail> {
     let alloc = rt.alloc();
     for (stream, from, to, wanted) in &PARTS {
-        let actions = Parser::new(alloc).parse_as_vec(stream);
-        let answer = answer(alloc, &actions, *from, *to);
-        assert_eq!(rt; answer, Some(*wanted), "{stream:?}");
+        let actions = Parser::new(alloc).parse_as_vec(stream)?;
+        let answer = are_writable(alloc, part(&actions, *from, *to).ok_or("too few")?);
+        assert!(rt; answer == Ok(*wanted), "{stream:?}");
     }
+    Ok(())
 }

@@ -16,8 +16,6 @@ mod events;
 #[cfg(test)]
 mod keeping;
 #[cfg(test)]
-mod lent;
-#[cfg(test)]
 mod long;
 #[cfg(test)]
 mod normalising;

@@ -1,83 +1,60 @@
-//! Sinks by name, and the errors that a watched reader passes on.
-use escape_stream::{Action, Collect, First, ParseError, Parser, Spell, Watched};
+//! Sinks by name.
+use escape_stream::{Collect, First, ParseError, Parser, Spell};
 use refusing::Refusing;
-use refusing::byte_reader::ByteReader;
 use std::alloc::Global;
-use std::io::{ErrorKind, Read};
+use std::fmt::Debug;
 use std::test::Fail;
 
 const STREAM: &[u8] = b"ab\x1b]0;t\x07\x1b\\c\x1b[1m";
 
-const TEXT: &str = "ab\x1b]0;t\x1b\\c\x1b[1m";
+const TEXT: &str = "\"ab\\u{1b}]0;t\\u{1b}\\\\c\\u{1b}[1m\"";
 
 const SHOWN: &str =
     "[Print('a'), Print('b'), OperatingSystemCommand(SetIconNameAndWindowTitle(\"t\")), Esc(Code(StringTerminator)), Print('c'), CSI(Sgr(Intensity(Bold)))]";
 
+// The Debug text of what a sink was given, where the parser returned no error.
+fn shown<T: Debug + Drop>(
+    alloc: Global,
+    ending: Result<(), ParseError>,
+    given: T,
+) -> Result<String, Fail> {
+    ending?;
+    Ok(format!(in alloc; "{given:?}")?)
+}
+
 #[test]
-fn a_list_takes_every_action(rt: HostRuntime) -> Result<(), Fail> {
-    let sink = Collect::new(rt.alloc());
-    let (result, sink) = Parser::new(rt.alloc()).parse_into(STREAM, sink);
-    assert_eq!(rt; result, Ok(()));
-    let shown = format!(in rt.alloc(); "{:?}", sink.actions)?;
-    assert_eq!(rt; shown.as_str(), SHOWN);
+fn sinks_take_actions(rt: HostRuntime) -> Result<(), Fail> {
+    let alloc = rt.alloc();
+    let (result, sink) = Parser::new(alloc).parse_into(STREAM, Collect::new(alloc));
+    let shown_list = shown(alloc, result, sink.actions)?;
+    let (result, sink) = Parser::new(alloc).parse_into(STREAM, Spell::new(alloc));
+    let shown_text = shown(alloc, result, sink.text)?;
+    let (result, sink) = Parser::new(alloc).parse_into(STREAM, First { action: None });
+    let shown_first = shown(alloc, result, sink.action)?;
+    assert!(rt; shown_list.as_str() == SHOWN);
+    assert!(rt; shown_text.as_str() == TEXT);
+    assert!(rt; shown_first.as_str() == "Some(Print('a'))");
     Ok(())
 }
 
-#[test]
-fn a_text_takes_every_action(rt: HostRuntime) {
-    let sink = Spell::new(rt.alloc());
-    let (result, sink) = Parser::new(rt.alloc()).parse_into(STREAM, sink);
-    assert_eq!(rt; result, Ok(()));
-    assert_eq!(rt; sink.text.as_str(), TEXT);
-}
-
-#[test]
-fn the_first_action_is_kept(rt: HostRuntime) {
-    let (result, sink) = Parser::new(rt.alloc()).parse_into(STREAM, First { action: None });
-    assert_eq!(rt; result, Ok(()));
-    assert!(rt; sink.action == Some(Action::Print('a')));
-}
-
-// What a parser that is refused memory returns, and how many actions its sink has then.
-fn refused<'a>(
+// What a parser returns of these bytes where this request for memory is refused, and how many actions its sink has then.
+fn given<'a>(
     heap: &'a Refusing<Global>,
     parser: &mut Parser<&'a Refusing<Global>>,
+    at: u64,
+    bytes: &[u8],
 ) -> (Result<(), ParseError>, usize) {
-    heap.refuse_at(1);
-    let (refused, sink) = parser.parse_into(b"ab", Collect::new(heap));
-    (refused, sink.actions.len())
-}
-
-// What a parser returns, and whether its sink has no action then.
-fn failed(parser: &mut Parser<&Refusing<Global>>) -> (Result<(), ParseError>, bool) {
-    let (failed, sink) = parser.parse_into(b"c", First { action: None });
-    (failed, sink.action.is_none())
+    heap.refuse_at(at);
+    let (ending, sink) = parser.parse_into(bytes, Collect::new(heap));
+    (ending, sink.actions.len())
 }
 
 #[test]
 fn a_failed_parser_leaves_the_sink(rt: HostRuntime) {
     let heap = Refusing::new(rt.alloc());
     let mut parser = Parser::new(&heap);
-    let first = refused(&heap, &mut parser);
-    let later = failed(&mut parser);
+    let first = given(&heap, &mut parser, 1, b"ab");
+    let later = given(&heap, &mut parser, 0, b"c");
     assert!(rt; first == (Err(ParseError::Memory), 0));
-    assert!(rt; later == (Err(ParseError::Failed), true));
-}
-
-#[test]
-fn a_watched_reader_returns_the_error_as_it_is(rt: HostRuntime) {
-    let mut reader = Watched::new(ByteReader {
-        rest: b"ab",
-        calls: 0,
-        fails_at: 2,
-    });
-    let mut buffer = [0u8; 4];
-    assert!(rt; reader.read(&mut buffer).is_ok());
-    assert!(rt; !reader.failed());
-    let kind = match reader.read(&mut buffer) {
-        Ok(_) => None,
-        Err(error) => Some(error.kind()),
-    };
-    assert!(rt; kind == Some(ErrorKind::Other));
-    assert!(rt; reader.failed());
+    assert!(rt; later == (Err(ParseError::Failed), 0));
 }
