@@ -1,25 +1,44 @@
-//! Tests of the values and their codecs, through what `esc_below`, `esc_osc` and the crates between them make public.
+//! Tests of the values and their codecs, of the segments of a stream, and of the allocator that refuses requests,
+//! through what their crates make public.
 #![tactic(auto)]
 
 #[cfg(test)]
+mod asked;
+#[cfg(test)]
 mod below;
 #[cfg(test)]
-mod codes;
+mod codecs;
 #[cfg(test)]
-mod iterm;
+mod filled;
+#[cfg(test)]
+mod heap;
+#[cfg(test)]
+mod kinds;
 #[cfg(test)]
 mod links;
 #[cfg(test)]
-mod numbers;
+mod long;
+#[cfg(test)]
+mod made;
+#[cfg(test)]
+mod modes;
 #[cfg(test)]
 mod pixels;
 #[cfg(test)]
-mod prompts;
+mod queries;
 #[cfg(test)]
-mod refused;
+mod segments;
 #[cfg(test)]
 mod selections;
 #[cfg(test)]
 mod sequences;
 #[cfg(test)]
+mod shorts;
+#[cfg(test)]
+mod sixels;
+#[cfg(test)]
 mod told;
+#[cfg(test)]
+mod too_large;
+#[cfg(test)]
+mod words;

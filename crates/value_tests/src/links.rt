@@ -1,107 +1,104 @@
-//! Hyperlinks, and their parameters.
-use crate::told::{check, is_shown, is_told, parts_of};
-use esc_below::{Hyperlink, Params, Text};
-use std::alloc::{AllocError, Global};
+//! The parameters of hyperlinks.
+use crate::told::check;
+use esc_below::{Params, Text};
+use refusing::Refusing;
+use std::alloc::{AllocError, Allocator, Global};
 use std::test::Fail;
-
-// The parts, the first of which is not looked at, and the Debug text of what they are read as. `check_rows` has tables of
-// links in streams.
-static LINKS: [(&[u8], &str); 10] = [
-    (
-        b"8;id=foo;x",
-        "Ok(Some(Hyperlink { params: {\"id\": \"foo\"}, uri: \"x\", implicit: false }))",
-    ),
-    (
-        b"\xff;a=1:=:a=b=c;",
-        "Ok(Some(Hyperlink { params: {\"\": \"\", \"a\": \"b=c\"}, uri: \"\", implicit: false }))",
-    ),
-    (b"\xff;;", "Ok(None)"),
-    (b"8", "Err(Invalid)"),
-    (b"8;;x;", "Err(Invalid)"),
-    (b"8;\xff=c;x", "Err(Invalid)"),
-    (b"8;b=\xff;x", "Err(Invalid)"),
-    (b"8;b=c;\xff", "Err(Invalid)"),
-    (b"8;;\xc3", "Err(Invalid)"),
-    (b"8;\xff;", "Err(Invalid)"),
-];
-
-#[test]
-fn links(rt: HostRuntime) -> Result<(), Fail> {
-    for (text, told) in &LINKS {
-        let parts = parts_of(rt.alloc(), text)?;
-        let link = Hyperlink::parse(rt.alloc(), parts.as_slice());
-        check(&rt, is_told(rt.alloc(), &link, told)?, told);
-    }
-    let nothing = Hyperlink::parse(rt.alloc(), &[]);
-    check(
-        &rt,
-        is_told(rt.alloc(), &nothing, "Err(Invalid)")?,
-        "no parts",
-    );
-    Ok(())
-}
-
-// An id, where there is one, and the Display text of the link to `x` that is made with it.
-static MADE: [(Option<&str>, &str); 3] = [
-    (None, "8;;x"),
-    (Some("foo"), "8;id=foo;x"),
-    (Some(""), "8;id=;x"),
-];
-
-#[test]
-fn links_that_are_made(rt: HostRuntime) -> Result<(), Fail> {
-    for (id, text) in &MADE {
-        let link = match id {
-            Some(id) => Hyperlink::new_with_id(rt.alloc(), "x", id)?,
-            None => Hyperlink::new(rt.alloc(), "x")?,
-        };
-        check(
-            &rt,
-            is_shown(rt.alloc(), &link, text)? && !link.implicit,
-            text,
-        );
-    }
-    Ok(())
-}
 
 static PAIRS: [(&str, &str); 3] = [("id", "1"), ("at", "2"), ("id", "3")];
 
-// The first so many pairs as parameters.
-fn filled(alloc: Global, pairs: &[(&str, &str)]) -> Result<Params, AllocError> {
-    let mut params = Params::new(alloc);
-    for (key, value) in pairs {
-        params.insert(Text::from_str(alloc, key)?, Text::from_str(alloc, value)?)?;
+// What is seen of parameters: their Debug text, their number, whether there are none, the values of `id` and `a`, and how many come.
+fn seen<A: Allocator>(alloc: Global, params: &Params<A>) -> Result<String, AllocError> {
+    format!(in alloc;
+        "{params:?} {} {} {:?} {:?} {}",
+        params.len(),
+        params.is_empty(),
+        params.get("id"),
+        params.get("a"),
+        params.iter().count()
+    )
+}
+
+// What is seen of the parameters after no pair, after the first, and so on.
+static SEEN: [&str; 4] = [
+    "{} 0 true None None 0",
+    "{\"id\": \"1\"} 1 false Some(\"1\") None 1",
+    "{\"at\": \"2\", \"id\": \"1\"} 2 false Some(\"1\") None 2",
+    "{\"at\": \"2\", \"id\": \"3\"} 2 false Some(\"3\") None 2",
+];
+
+// Puts a pair.
+fn put<A: Allocator + Copy>(
+    alloc: A,
+    params: &mut Params<A>,
+    key: &str,
+    value: &str,
+) -> Result<(), AllocError> {
+    params.insert(Text::from_str(alloc, key)?, Text::from_str(alloc, value)?)
+}
+
+#[test]
+fn parameters(rt: HostRuntime) -> Result<(), Fail> {
+    let mut params = Params::new(rt.alloc());
+    for (count, told) in SEEN.iter().enumerate() {
+        let seen = seen(rt.alloc(), &params)?;
+        check(&rt, seen.as_str() == *told, told);
+        if let Some((key, value)) = PAIRS.get(count) {
+            put(rt.alloc(), &mut params, key, value)?;
+        }
+    }
+    Ok(())
+}
+
+// Parameters of so many keys, none of which has a value.
+fn filled(heap: &Refusing<Global>, keys: u8) -> Result<Params<&Refusing<Global>>, AllocError> {
+    let mut params = Params::new(heap);
+    for number in 0..keys {
+        let mut key = Text::new(heap);
+        key.push(char::from(number))?;
+        params.insert(key, Text::new(heap))?;
     }
     Ok(params)
 }
 
-// How many of the pairs were put, how many parameters there are then, the value of `id`, and the Debug text.
-static PARAMS: [(usize, usize, Option<&str>, &str); 4] = [
-    (0, 0, None, "{}"),
-    (1, 1, Some("1"), "{\"id\": \"1\"}"),
-    (2, 2, Some("1"), "{\"at\": \"2\", \"id\": \"1\"}"),
-    (3, 2, Some("3"), "{\"at\": \"2\", \"id\": \"3\"}"),
-];
+// Whether one more key is refused, where this request of its is refused.
+fn refuses<'a>(
+    heap: &'a Refusing<Global>,
+    params: &mut Params<&'a Refusing<Global>>,
+    at: u64,
+) -> Result<bool, AllocError> {
+    heap.refuse_at(0);
+    let more = Text::from_str(heap, "more")?;
+    heap.refuse_at(at);
+    Ok(params.insert(more, Text::new(heap)).is_err())
+}
+
+// Whether one more key is refused; and whether the parameters stay as they were.
+fn outcome<'a>(
+    alloc: Global,
+    heap: &'a Refusing<Global>,
+    mut params: Params<&'a Refusing<Global>>,
+    at: u64,
+) -> Result<(bool, bool), AllocError> {
+    let before = seen(alloc, &params);
+    let is_refused = refuses(heap, &mut params, at);
+    let after = seen(alloc, &params);
+    Ok((is_refused?, before?.as_str() == after?.as_str()))
+}
 
 #[test]
-fn parameters(rt: HostRuntime) -> Result<(), Fail> {
-    for (put, len, id, told) in &PARAMS {
-        let params = filled(rt.alloc(), PAIRS.get(..*put).ok_or("too many")?)?;
-        check(
-            &rt,
-            params.len() == *len && params.is_empty() == (*len == 0),
-            told,
-        );
-        check(
-            &rt,
-            params.get("id") == *id && params.get("a").is_none(),
-            told,
-        );
-        check(
-            &rt,
-            params.iter().count() == *len && is_told(rt.alloc(), &params, told)?,
-            told,
-        );
+fn refused_keys(rt: HostRuntime) -> Result<(), Fail> {
+    let heap = Refusing::new(rt.alloc());
+    let mut refusals = 0usize;
+    for keys in 0..100u8 {
+        for at in 1..5u64 {
+            heap.refuse_at(0);
+            let (is_refused, is_same) = outcome(rt.alloc(), &heap, filled(&heap, keys)?, at)?;
+            assert!(rt; heap.has_refused() || !is_refused, "{keys} keys");
+            assert!(rt; is_same == is_refused, "{keys} keys");
+            refusals = refusals.saturating_add(usize::from(is_refused));
+        }
     }
+    assert!(rt; refusals > 0);
     Ok(())
 }

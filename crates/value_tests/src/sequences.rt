@@ -2,6 +2,7 @@
 use crate::told::check;
 use esc_below::{CSI, CsiParam};
 use std::alloc::{AllocError, Global};
+use std::fmt::{Debug, Display};
 use std::test::Fail;
 
 const END: CsiParam = CsiParam::P(b';');
@@ -46,16 +47,24 @@ static BODIES: [(&[CsiParam], bool, &str, &str); 5] = [
 ];
 
 // The Debug texts of the values that the entries are read as, and of the lone one.
-fn told_of(alloc: Global, params: &[CsiParam], is_truncated: bool) -> Result<String, AllocError> {
-    let list = CSI::parse(alloc, params, is_truncated, b'm')?;
-    let one = CSI::parse_one(alloc, params, is_truncated, b'm')?;
-    format!(in alloc; "{list:?} {one:?}")
+fn told_of<T: Debug + Drop, U: Debug + Drop>(
+    alloc: Global,
+    list: Result<T, AllocError>,
+    one: Result<U, AllocError>,
+) -> Result<String, AllocError> {
+    match (list, one) {
+        (Ok(list), Ok(one)) => format!(in alloc; "{list:?} {one:?}"),
+        _ => Err(AllocError),
+    }
 }
 
-// What is written of the values that the entries are read as.
-fn text_of(alloc: Global, params: &[CsiParam], is_truncated: bool) -> Result<String, AllocError> {
+// What is written of values.
+fn text_of<T: Display + Drop>(
+    alloc: Global,
+    list: Result<Vec<T>, AllocError>,
+) -> Result<String, AllocError> {
     let mut text = String::new(alloc);
-    for value in &CSI::parse(alloc, params, is_truncated, b'm')? {
+    for value in &list? {
         write!(text, "{value}")?;
     }
     Ok(text)
@@ -63,10 +72,14 @@ fn text_of(alloc: Global, params: &[CsiParam], is_truncated: bool) -> Result<Str
 
 #[test]
 fn bodies(rt: HostRuntime) -> Result<(), Fail> {
+    let alloc = rt.alloc();
     for (params, is_truncated, told, text) in &BODIES {
-        let read = told_of(rt.alloc(), params, *is_truncated)?;
+        let list = CSI::parse(alloc, params, *is_truncated, b'm');
+        let one = CSI::parse_one(alloc, params, *is_truncated, b'm');
+        let read = told_of(alloc, list, one)?;
         check(&rt, read.as_str() == *told, told);
-        let written = text_of(rt.alloc(), params, *is_truncated)?;
+        let list = CSI::parse(alloc, params, *is_truncated, b'm');
+        let written = text_of(alloc, list)?;
         check(&rt, written.as_str() == *text, text);
     }
     Ok(())

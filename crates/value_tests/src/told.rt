@@ -14,12 +14,6 @@ pub fn told_of<T: Debug + Drop>(alloc: Global, value: T) -> Result<String, Alloc
     format!(in alloc; "{value:?}")
 }
 
-/// Whether this is the value's Debug text.
-pub fn is_told<T: Debug>(alloc: Global, value: &T, told: &str) -> Result<bool, AllocError> {
-    let written = format!(in alloc; "{value:?}")?;
-    Ok(written.as_str() == told)
-}
-
 // Takes every text, and counts its bytes.
 #[derive(Drop)]
 struct Counter {
@@ -33,24 +27,54 @@ impl Write for Counter {
     }
 }
 
+/// The value's Debug text and its Display text, which a writer that takes every text is given without an error.
+pub fn both_of<T: Debug + Display + Drop>(alloc: Global, value: T) -> Result<String, AllocError> {
+    let mut counter = Counter { bytes: 0 };
+    let is_taken = write!(counter, "{value:?} {value}").is_ok();
+    let both = format!(in alloc; "{value:?} {value}")?;
+    if is_taken && counter.bytes == both.len() {
+        Ok(both)
+    } else {
+        String::from_str(alloc, "a text that is not taken")
+    }
+}
+
+/// The Debug text and the Display text of a value that is there.
+pub fn both_in<T: Debug + Display + Drop>(
+    alloc: Global,
+    value: Result<T, AllocError>,
+) -> Result<String, AllocError> {
+    match value {
+        Ok(value) => both_of(alloc, value),
+        Err(error) => Err(error),
+    }
+}
+
 /// Whether this is the value's Display text, and a writer that takes every text is given it without an error.
-pub fn is_shown<T: Display>(alloc: Global, value: &T, shown: &str) -> Result<bool, AllocError> {
+pub fn writes<T: Display + Drop>(alloc: Global, value: T, shown: &str) -> Result<bool, AllocError> {
     let mut counter = Counter { bytes: 0 };
     let is_taken = write!(counter, "{value}").is_ok() && counter.bytes == shown.len();
     let written = format!(in alloc; "{value}")?;
     Ok(is_taken && written.as_str() == shown)
 }
 
-/// The same of a value that is dropped then.
-pub fn writes<T: Display + Drop>(alloc: Global, value: T, shown: &str) -> Result<bool, AllocError> {
-    is_shown(alloc, &value, shown)
-}
-
-/// The parts of a text, between which `;` is.
+/// The parts of a text, between which `;` is; none of an empty text.
 pub fn parts_of(alloc: Global, text: &[u8]) -> Result<Vec<&[u8]>, AllocError> {
     let mut parts = Vec::new(alloc);
+    if text.is_empty() {
+        return Ok(parts);
+    }
     for part in text.split(|b| *b == b';') {
         parts.push(part)?;
     }
     Ok(parts)
+}
+
+/// Whether these are the Debug text and the Display text of a value, around whose Debug text `name` and a parenthesis stand; alone it would
+/// have those that are told.
+pub fn is_around(both: &str, name: &str, told: &str) -> bool {
+    match both.strip_prefix(name) {
+        Some(both) => both.split_once(")) ") == told.split_once(") "),
+        None => false,
+    }
 }

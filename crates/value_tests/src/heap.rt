@@ -1,5 +1,6 @@
-use super::*;
-use std::alloc::Global;
+//! The allocator that refuses requests.
+use refusing::Refusing;
+use std::alloc::{AllocError, Allocator, Global};
 
 const ITEMS: u64 = 100;
 
@@ -40,33 +41,45 @@ fn refuses_each_growth_in_turn(rt: HostRuntime) {
     assert_eq!(rt; heap.requests(), growths);
 }
 
-#[test]
-fn refuses_the_growth_of_that_number(rt: HostRuntime) -> Result<(), AllocError> {
-    let heap = Refusing::new(rt.alloc());
-    let mut items = Vec::new(&heap);
-    items.reserve(1)?;
-    let held = items.capacity();
-    heap.refuse_at(2);
-    items.reserve(held.saturating_add(1))?;
-    let grown = items.capacity();
-    assert!(rt; items.reserve(grown.saturating_add(1)).is_err());
-    assert_eq!(rt; items.capacity(), grown);
-    items.reserve(grown.saturating_add(1))?;
-    items.push(7u8)?;
-    assert_eq!(rt; items.len(), 1);
-    Ok(())
+// Grows by one item more than there is room for, and answers how many there is room for then.
+fn grown<A: Allocator>(items: &mut Vec<u8, A>) -> Result<usize, AllocError> {
+    let more = items.capacity().saturating_add(1);
+    match items.reserve(more) {
+        Ok(()) => Ok(items.capacity()),
+        Err(error) => Err(error),
+    }
 }
 
 #[test]
-fn giving_back_is_no_request(rt: HostRuntime) -> Result<(), AllocError> {
+fn refuses_the_growth_of_that_number(rt: HostRuntime) {
     let heap = Refusing::new(rt.alloc());
-    let first = Box::new(&heap, 1u8)?;
+    let mut items = Vec::new(&heap);
+    assert!(rt; grown(&mut items).is_ok());
+    heap.refuse_at(2);
+    let held = grown(&mut items);
+    assert!(rt; held == Ok(items.capacity()));
+    assert!(rt; grown(&mut items).is_err());
+    assert!(rt; held == Ok(items.capacity()));
+    assert!(rt; grown(&mut items).is_ok());
+    assert!(rt; items.push(7u8).is_ok() && items.len() == 1);
+}
+
+// A number in a block of its own, which is given back then.
+fn boxed(heap: &Refusing<Global>, number: u8) -> Option<u8> {
+    match Box::new(heap, number) {
+        Ok(boxed) => Some(*boxed),
+        Err(_) => None,
+    }
+}
+
+#[test]
+fn giving_back_is_no_request(rt: HostRuntime) {
+    let heap = Refusing::new(rt.alloc());
+    let first = Box::new(&heap, 1u8);
     heap.refuse_at(1);
     drop(first);
-    assert_eq!(rt; heap.requests(), 0);
-    assert!(rt; Box::new(&heap, 2u8).is_err());
-    let third = Box::new(&heap, 3u8)?;
-    assert_eq!(rt; *third, 3);
-    assert_eq!(rt; heap.requests(), 2);
-    Ok(())
+    assert!(rt; heap.requests() == 0);
+    assert!(rt; boxed(&heap, 2).is_none());
+    assert!(rt; boxed(&heap, 3) == Some(3));
+    assert!(rt; heap.requests() == 2);
 }

@@ -1,6 +1,6 @@
 //! Values over 63, for which sixel data has no character.
-use crate::images::texts::read_sixel;
-use esc_sixel::SixelData;
+use crate::filled::fill;
+use esc_sixel::{SixelBuilder, SixelData};
 use std::alloc::{AllocError, Global};
 use std::fmt::Display;
 use std::test::Fail;
@@ -11,12 +11,13 @@ fn is_written<T: Display>(alloc: Global, value: &T) -> bool {
 
 // Whether neither the value is written, nor an image with it at its end or before that.
 fn is_too_large(alloc: Global, value: SixelData) -> Result<bool, AllocError> {
-    let (mut sixel, _) = read_sixel(alloc, &[], b"~-!3~")?;
-    let is_written_without = is_written(alloc, &sixel);
-    sixel.content.push(value)?;
-    let is_written_last = is_written(alloc, &sixel);
-    sixel.content.push(SixelData::NewLine)?;
-    let is_written_amid = is_written(alloc, &sixel);
+    let mut builder = SixelBuilder::new(alloc, &[]);
+    fill(&mut builder, b"~-!3~", false)?;
+    let is_written_without = is_written(alloc, &builder.sixel);
+    builder.sixel.content.push(value)?;
+    let is_written_last = is_written(alloc, &builder.sixel);
+    builder.sixel.content.push(SixelData::NewLine)?;
+    let is_written_amid = is_written(alloc, &builder.sixel);
     Ok(is_written_without && !is_written_last && !is_written_amid && !is_written(alloc, &value))
 }
 
