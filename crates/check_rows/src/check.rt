@@ -3,6 +3,7 @@ use crate::fault::Fault;
 use crate::filtered::check_filtered;
 use crate::lengths::check_lengths;
 use crate::limited::check_limited;
+use crate::made::check_made;
 use crate::report::Report;
 use crate::row::Row;
 use crate::spellings::command_of;
@@ -28,7 +29,8 @@ pub fn check_table(alloc: Global, table: &str) -> Result<Report, AllocError> {
     Ok(report)
 }
 
-// A row is a stream, or one that is read under a limit or filtered, the parts of a command, calls of one parser, or streams of several lengths.
+// A row is a stream, or one that is read under a limit or filtered, the parts of a command, calls of one parser, streams of several
+// lengths, or streams that are made from numbers.
 fn check_row(alloc: Global, row: Row, report: &mut Report) -> Result<(), Fault> {
     if row.has("limit")? {
         check_limited(alloc, row, report)
@@ -42,8 +44,10 @@ fn check_row(alloc: Global, row: Row, report: &mut Report) -> Result<(), Fault> 
         check_steps(alloc, row, report)
     } else if row.has("times")? {
         check_lengths(alloc, row, report)
+    } else if row.has("seed")? {
+        check_made(alloc, row, report)
     } else {
-        Err(Fault("no stream, no parts, no calls and no lengths"))
+        Err(Fault("no stream, no parts, no calls, no lengths and no seed"))
     }
 }
 

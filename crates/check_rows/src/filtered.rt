@@ -50,16 +50,20 @@ fn byte_by_byte(stream: &[u8], fails_at: usize) -> ByteReader<'_> {
     }
 }
 
-// What passes of a stream.
-fn filtered<R: Read + Drop>(alloc: Global, reader: R, policy: Policy) -> Result<String, Fault> {
-    match written(alloc, alloc, reader, policy) {
-        (Ok(()), text) => as_text(text),
-        _ => Err(Fault("a stream could not be filtered")),
-    }
+// How a filter ended, and what it wrote.
+#[derive(Drop)]
+struct Outcome {
+    ending: Result<(), FilterError>,
+    text: Vec<u8>,
 }
 
-fn as_text(bytes: Vec<u8>) -> Result<String, Fault> {
-    match String::from_utf8(bytes) {
+// What passes of a stream.
+fn filtered<R: Read + Drop>(alloc: Global, reader: R, policy: Policy) -> Result<String, Fault> {
+    let written = written(alloc, alloc, reader, policy);
+    if written.ending.is_err() {
+        return Err(Fault("a stream could not be filtered"));
+    }
+    match String::from_utf8(written.text) {
         Ok(text) => Ok(text),
         Err(_) => Err(Fault("what passes is no UTF-8")),
     }
@@ -71,17 +75,22 @@ fn written<A: Allocator + Copy, R: Read + Drop>(
     heap: A,
     reader: R,
     policy: Policy,
-) -> (Result<(), FilterError>, Vec<u8>) {
+) -> Outcome {
     let mut writer = Watched::new(Vec::new(alloc));
-    let result = filter_stream(heap, &mut Watched::new(reader), &mut writer, LIMIT, policy);
-    (result, writer.into_inner())
+    let mut reader = Watched::new(reader);
+    let ending = filter_stream(heap, &mut reader, &mut writer, LIMIT, policy);
+    Outcome {
+        ending,
+        text: writer.into_inner(),
+    }
 }
 
 // A read that fails is an error, and what was written is a prefix.
 fn check_reads(alloc: Global, stream: &[u8], wanted: &str) -> Result<(), Fault> {
     for at in 1..=stream.len().saturating_add(1) {
-        let (result, text) = written(alloc, alloc, byte_by_byte(stream, at), Policy::All);
-        if result != Err(FilterError::Read) || !wanted.as_bytes().starts_with(&text) {
+        let written = written(alloc, alloc, byte_by_byte(stream, at), Policy::All);
+        let is_prefix = wanted.as_bytes().starts_with(&written.text);
+        if written.ending != Err(FilterError::Read) || !is_prefix {
             return Err(Fault("a read that fails changes what is written"));
         }
     }
@@ -107,10 +116,10 @@ fn check_requests(alloc: Global, stream: &[u8], wanted: &str) -> Result<(), Faul
     let heap = Refusing::new(alloc);
     for at in 1..MOST_REQUESTS {
         heap.refuse_at(at);
-        let (result, text) = written(alloc, &heap, stream, Policy::All);
-        let is_right = match result {
-            Ok(()) => text.as_slice() == wanted.as_bytes(),
-            Err(error) => error == FilterError::Memory && text.is_empty(),
+        let written = written(alloc, &heap, stream, Policy::All);
+        let is_right = match written.ending {
+            Ok(()) => written.text.as_slice() == wanted.as_bytes(),
+            Err(error) => error == FilterError::Memory && written.text.is_empty(),
         };
         if !is_right {
             return Err(Fault("a refused request changes what is written"));

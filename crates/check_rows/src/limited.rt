@@ -1,6 +1,6 @@
 //! Streams that are read under a limit.
 use crate::fault::Fault;
-use crate::readings::append;
+use crate::readings::{append, shown};
 use crate::report::Report;
 use crate::row::Row;
 use escape_stream::{Action, Parser, Watched, is_normal_limited, normalise_limited};
@@ -21,8 +21,8 @@ struct Limited<'a> {
 /// The actions of a stream under the limit of the row, however it is cut; what is written of them; and how many bytes are kept after
 /// it.
 pub fn check_limited(alloc: Global, row: Row, report: &mut Report) -> Result<(), Fault> {
-    let limit = number(alloc, row, "limit")?;
-    let keeps = number(alloc, row, "keeps")?;
+    let limit = row.number(alloc, "limit")?;
+    let keeps = row.number(alloc, "keeps")?;
     let word = if row.has("text")? { "text" } else { "stream" };
     let bytes = row.bytes(alloc, "stream")?;
     let actions = row.actions(alloc)?;
@@ -42,26 +42,31 @@ impl Limited<'_> {
     // Notes each way in which the library reads or writes it otherwise.
     fn check(&self, alloc: Global, report: &mut Report) -> Result<(), Fault> {
         self.check_pieces(alloc, report)?;
-        let got = by_bytes(alloc, self.limit, self.bytes);
-        report.expect(self.name, "read byte by byte", self.actions, got)?;
-        let got = normalised(alloc, self.limit, self.bytes);
-        report.expect(self.name, "normalised", self.text, got)?;
+        self.check_bytes(alloc, report)?;
         self.check_normal(alloc, report)?;
         self.check_kept(alloc, report)
+    }
+
+    // Byte by byte.
+    fn check_bytes(&self, alloc: Global, report: &mut Report) -> Result<(), Fault> {
+        let got = shown(alloc, by_bytes(alloc, self.limit, self.bytes));
+        report.expect(self.name, "read byte by byte", self.actions, got)
     }
 
     // In two pieces, cut at each place.
     fn check_pieces(&self, alloc: Global, report: &mut Report) -> Result<(), Fault> {
         for at in 0..=self.bytes.len() {
             let (begins, ends) = self.bytes.split_at(at);
-            let got = in_pieces(alloc, self.limit, &[begins, ends]);
+            let got = shown(alloc, in_pieces(alloc, self.limit, &[begins, ends]));
             report.expect(self.name, "read in two pieces", self.actions, got)?;
         }
         Ok(())
     }
 
-    // Whether it is its normal form.
+    // Its normal form, and whether it is that.
     fn check_normal(&self, alloc: Global, report: &mut Report) -> Result<(), Fault> {
+        let got = normalised(alloc, self.limit, self.bytes);
+        report.expect(self.name, "normalised", self.text, got)?;
         let is_same = is_normal_limited(alloc, &mut Watched::new(self.bytes), self.limit)?;
         if is_same != (self.text.as_bytes() == self.bytes) {
             report.note(self.name, "compared with its normal form otherwise")?;
@@ -85,38 +90,30 @@ fn kept(alloc: Global, limit: usize, stream: &[u8]) -> Result<usize, Fault> {
     Ok(parser.kept())
 }
 
-// The number that the row has behind a word, and 0 where it has none.
-fn number(alloc: Global, row: Row, word: &str) -> Result<usize, Fault> {
-    if !row.has(word)? {
-        return Ok(0);
-    }
-    match row.text(alloc, word)?.as_str().parse::<usize>() {
-        Ok(number) => Ok(number),
-        Err(_) => Err(Fault("a limit or a count is no number")),
-    }
-}
-
-// The Debug text of the list of its actions.
-fn in_pieces(alloc: Global, limit: usize, pieces: &[&[u8]]) -> Result<String, Fault> {
+// The actions of a stream in these pieces.
+fn in_pieces(alloc: Global, limit: usize, pieces: &[&[u8]]) -> Result<Vec<Action>, Fault> {
     let mut parser = Parser::with_limit(alloc, limit);
-    let mut actions: Vec<Action> = Vec::new(alloc);
+    let mut actions = Vec::new(alloc);
     for piece in pieces {
         append(&mut actions, parser.parse_as_vec(piece))?;
     }
-    Ok(format!(in alloc; "{actions:?}")?)
+    Ok(actions)
 }
 
-// The same, byte by byte.
-fn by_bytes(alloc: Global, limit: usize, stream: &[u8]) -> Result<String, Fault> {
+// The same, byte by byte. No more is kept than the limit.
+fn by_bytes(alloc: Global, limit: usize, stream: &[u8]) -> Result<Vec<Action>, Fault> {
     let mut parser = Parser::with_limit(alloc, limit);
-    let mut actions: Vec<Action> = Vec::new(alloc);
+    let mut actions = Vec::new(alloc);
+    let mut is_kept = true;
     for i in 0..stream.len() {
         append(&mut actions, parser.parse_as_vec(&stream[i..i + 1]))?;
-        if parser.kept() > limit {
-            return Err(Fault("more is kept than the limit"));
-        }
+        is_kept &= parser.kept() <= limit;
     }
-    Ok(format!(in alloc; "{actions:?}")?)
+    if is_kept {
+        Ok(actions)
+    } else {
+        Err(Fault("more is kept than the limit"))
+    }
 }
 
 // Its normal form.

@@ -10,7 +10,7 @@ pub struct Line<'a> {
 }
 
 // The words that lines begin with.
-const WORDS: [&str; 21] = [
+const WORDS: [&str; 23] = [
     "row",
     "stream",
     "parts",
@@ -32,6 +32,8 @@ const WORDS: [&str; 21] = [
     "as-color",
     "as-screen",
     "as-all",
+    "seed",
+    "count",
 ];
 
 impl<'a> Line<'a> {

@@ -2,7 +2,7 @@
 //!
 //! `check_rows TABLE..` reads each table, a text file of rows, and prints a line with its name and the count of its rows, and
 //! below it a line for each way in which a row differs from what the library does. The status is 1 where one differs.
-//! `docs/DEVELOPING.md` has the form of a row.
+//! `docs/DEVELOPING.md` has the form of a row. `check_rows -` shows the actions of standard input, a line of a row for each.
 #![tactic(auto)]
 
 mod asked;
@@ -13,6 +13,9 @@ mod filtered;
 mod lengths;
 mod limited;
 mod line;
+mod made;
+mod noise;
+mod random;
 mod readings;
 mod report;
 mod row;
@@ -22,17 +25,47 @@ mod steps;
 mod stream;
 
 use crate::check::check_table;
+use crate::fault::Fault;
+use crate::readings::action_lines;
+use escape_stream::Parser;
+use std::io::Read;
 use std::process::ExitCode;
 use std::{env, fs, io};
 
 fn main(rt: HostRuntime) -> io::Result<ExitCode> {
     let mut differences = 0usize;
     for table in env::args(&rt)?.skip(1) {
-        let text = fs::read_to_string(&rt, table.as_str())?;
-        let report = check_table(rt.alloc(), text.as_str())?;
-        println!(rt; "{table}: {} rows", report.rows)?;
-        print!(rt; "{}", report.lines)?;
-        differences = differences.saturating_add(report.differences);
+        let found = if table.as_str() == "-" {
+            show_actions(&rt)
+        } else {
+            check_named(&rt, table.as_str())
+        };
+        differences = differences.saturating_add(found?);
     }
     Ok(ExitCode::from(u8::from(differences > 0)))
+}
+
+// Checks the table of this name, and returns how many differences it prints.
+fn check_named(rt: &HostRuntime, table: &str) -> io::Result<usize> {
+    let text = fs::read_to_string(rt, table)?;
+    let report = check_table(rt.alloc(), text.as_str())?;
+    println!(rt; "{table}: {} rows", report.rows)?;
+    print!(rt; "{}", report.lines)?;
+    Ok(report.differences)
+}
+
+// Prints the actions of standard input. A fault counts as a difference.
+fn show_actions(rt: &HostRuntime) -> io::Result<usize> {
+    let mut bytes = Vec::new(rt.alloc());
+    rt.stdin().read_to_end(&mut bytes)?;
+    match action_lines(rt.alloc(), Parser::new(rt.alloc()).parse_as_vec(&bytes)) {
+        Ok(lines) => {
+            print!(rt; "{lines}")?;
+            Ok(0)
+        }
+        Err(Fault(what)) => {
+            println!(rt; "{what}")?;
+            Ok(1)
+        }
+    }
 }

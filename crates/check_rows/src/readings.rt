@@ -12,19 +12,22 @@ pub fn in_pieces(alloc: Global, pieces: &[&[u8]]) -> Result<String, Fault> {
 
 /// Byte by byte, as a list for each.
 pub fn by_bytes(alloc: Global, stream: &[u8]) -> Result<String, Fault> {
-    let actions = listed(alloc, stream)?;
-    Ok(format!(in alloc; "{actions:?}")?)
+    shown(alloc, listed(alloc, stream))
 }
 
 /// Byte by byte, by a closure.
 pub fn by_calls(alloc: Global, stream: &[u8]) -> Result<String, Fault> {
-    let actions = called(alloc, stream)?;
-    Ok(format!(in alloc; "{actions:?}")?)
+    shown(alloc, called(alloc, stream))
 }
 
 /// By the prefixes that `parse_first_as_vec` takes, until there is none.
 pub fn by_prefixes(alloc: Global, stream: &[u8]) -> Result<String, Fault> {
-    let actions = walked(alloc, stream)?;
+    shown(alloc, walked(alloc, stream))
+}
+
+/// The Debug text of the list of actions.
+pub fn shown<T: Debug + Drop>(alloc: Global, actions: Result<T, Fault>) -> Result<String, Fault> {
+    let actions = actions?;
     Ok(format!(in alloc; "{actions:?}")?)
 }
 
@@ -132,4 +135,16 @@ fn show_added<T: Debug + Drop>(
         write!(shown, "{end} {action:?}. ")?;
     }
     Ok(())
+}
+
+/// A line of a row for each of the actions that a call returns.
+pub fn action_lines<T: Debug + Drop>(
+    alloc: Global,
+    actions: Result<Vec<T>, ParseError>,
+) -> Result<String, Fault> {
+    let mut lines = String::new(alloc);
+    for action in &actions? {
+        writeln!(lines, "action  {action:?}")?;
+    }
+    Ok(lines)
 }

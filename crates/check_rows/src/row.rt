@@ -60,6 +60,17 @@ impl<'a> Row<'a> {
         }
     }
 
+    /// The number that it has behind a word, and 0 where it has none.
+    pub fn number(&self, alloc: Global, word: &str) -> Result<usize, Fault> {
+        if !self.has(word)? {
+            return Ok(0);
+        }
+        match self.text(alloc, word)?.as_str().parse::<usize>() {
+            Ok(number) => Ok(number),
+            Err(_) => Err(Fault("a line has no number")),
+        }
+    }
+
     /// The Debug text of the list of its actions.
     pub fn actions(&self, alloc: Global) -> Result<String, Fault> {
         let mut list = String::new(alloc);

@@ -1,6 +1,6 @@
 //! The second way to read a stream: its segments, each by itself.
 use crate::fault::Fault;
-use crate::readings::listed;
+use crate::readings::{listed, shown};
 use escape_stream::{Action, Parser, Segments, read_segment};
 use std::alloc::Global;
 
@@ -11,8 +11,7 @@ const NEXT: [&[u8]; 8] = [
 
 /// The Debug text of the list of the actions of the segments, one segment after another.
 pub fn by_segments(alloc: Global, stream: &[u8]) -> Result<String, Fault> {
-    let actions = of_segments(alloc, stream)?;
-    Ok(format!(in alloc; "{actions:?}")?)
+    shown(alloc, of_segments(alloc, stream))
 }
 
 /// Whether a parser hands out the actions of the segments, of the prefix and of the prefix with one byte after it, whole and byte
@@ -31,18 +30,18 @@ pub fn is_read_alike(alloc: Global, prefix: &[u8]) -> Result<bool, Fault> {
     Ok(true)
 }
 
-// Whether these actions were handed out.
-fn is_same(wanted: &[Action], got: Result<Vec<Action>, Fault>) -> Result<bool, Fault> {
+/// Whether these actions were handed out.
+pub fn is_same(wanted: &[Action], got: Result<Vec<Action>, Fault>) -> Result<bool, Fault> {
     Ok(got?.as_slice() == wanted)
 }
 
-// The actions of the stream in one piece.
-fn whole(alloc: Global, stream: &[u8]) -> Result<Vec<Action>, Fault> {
+/// The actions of the stream in one piece.
+pub fn whole(alloc: Global, stream: &[u8]) -> Result<Vec<Action>, Fault> {
     Ok(Parser::new(alloc).parse_as_vec(stream)?)
 }
 
-// The actions of the segments, one segment after another.
-fn of_segments(alloc: Global, stream: &[u8]) -> Result<Vec<Action>, Fault> {
+/// The actions of the segments, one segment after another.
+pub fn of_segments(alloc: Global, stream: &[u8]) -> Result<Vec<Action>, Fault> {
     let mut actions = Vec::new(alloc);
     for segment in Segments::new(stream) {
         for action in read_segment(alloc, &segment)? {

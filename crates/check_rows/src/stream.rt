@@ -65,9 +65,16 @@ impl Stream<'_> {
         if self.is_finished {
             self.has_actions("read by prefixes", by_prefixes(alloc, self.bytes), report)?;
         }
-        let added = added_actions(alloc, self.bytes)?;
+        self.check_first(alloc, report)
+    }
+
+    // The first action of each call.
+    fn check_first(&self, alloc: Global, report: &mut Report) -> Result<(), Fault> {
         let first = first_actions(alloc, self.bytes);
-        report.expect(self.name, "first actions", added.as_str(), first)
+        match added_actions(alloc, self.bytes) {
+            Ok(added) => report.expect(self.name, "first actions", added.as_str(), first),
+            Err(fault) => Err(fault),
+        }
     }
 
     // Segment by segment; and each prefix both ways, also with a byte after it.

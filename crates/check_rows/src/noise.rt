@@ -1,4 +1,4 @@
-//! Streams that are made from numbers.
+//! What streams are made of.
 use crate::random::Random;
 use std::alloc::{AllocError, Global};
 
