@@ -26,7 +26,7 @@ use Rattle.esc_osc.specs.declared.command.OperatingSystemCommand.{OperatingSyste
 use Rattle.esc_osc.specs.declared.command.OperatingSystemCommand.TheVariants as command
 use Rattle.esc_osc.specs.declared.dynamic_color_number.DynamicColorNumber.{DynamicColorNumber}
 use Rattle.esc_osc.specs.declared.progress.Progress.{Progress}
-use Rattle.escape_stream.specs.Spelled.{IsPlainLink}
+use Rattle.esc_write.specs.Plain.{IsPlainLink}
 use Rattle.esc_filter.specs.Rules.{BeginsOther, is_link}
 
 -- whether there is a command, and it is a link

@@ -1,8 +1,8 @@
 -- Images that do not pass.
 use Rattle.std.proofs.Common.{◌≡◌, Bool, true, false, refl, subst, sym}
 use Rattle.std.proofs.lemmas.Bool.{and_right}
-use Rattle.escape_stream.specs.Images.{is_image}
-use Rattle.escape_stream.specs.declared.sink.Spell.{Spell}
+use Rattle.esc_parse.specs.Images.{is_image}
+use Rattle.esc_normal.specs.declared.spell.Spell.{Spell}
 use Rattle.esc_actions.specs.Values.{Value, value_of}
 use Rattle.esc_actions.specs.Values.Value.{print, string, control, esc, csi, osc, kitty, sixel, termcap, short, enter, datum, exit}
 use Rattle.esc_actions.specs.declared.action.Action.{Action}

@@ -2,7 +2,7 @@
 use Rattle.std.proofs.Common.{◌≡◌, ℕ, List, [], ◌++◌, Option, refl, sym, subst, ap, ◌∙◌, append-nil, append_assoc, take, Ok, Err, OnErr, Result}
 use Rattle.std.proofs.KnownBytes.{Appends-nil, Appends-trans, Consumes-trans}
 use Rattle.std.specs.Io.KnownBytes.{Appends, Consumes}
-use Rattle.escape_stream.specs.Io.{AppendsPrefix}
+use Rattle.esc_normal.specs.Io.{AppendsPrefix}
 
 pub on_err_more : {T E : Type 0} (X Y : Type 0) (r : Result T E) → (X → Y) → OnErr r X → OnErr r Y
 on_err_more X Y (Ok t) f h = h

@@ -7,8 +7,8 @@ use Rattle.std.specs.List.{FoldsTo, list_all, list_any}
 use Rattle.std.specs.Str.{IsUtf8, chars, encode_utf8_all}
 use Rattle.std.proofs.lemmas.List.Folds.{list_all-append}
 use Rattle.std.proofs.lemmas.Str.{encode_ascii, encodes-chars}
-use Rattle.escape_stream.specs.Spelled.{Adds}
-use Rattle.escape_stream.specs.declared.sink.Spell.{Spell}
+use Rattle.esc_normal.specs.Spelled.{Adds}
+use Rattle.esc_normal.specs.declared.spell.Spell.{Spell}
 use Rattle.esc_actions.specs.Values.{Value, print}
 use Rattle.esc_actions.specs.declared.action.Action.{Action}
 use Rattle.esc_actions.specs.declared.action.Action.TheVariants as action

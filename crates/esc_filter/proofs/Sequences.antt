@@ -12,12 +12,12 @@ use Rattle.esc_actions.specs.Values.{Value, csi, osc, value_of}
 use Rattle.esc_actions.specs.Writable.{is_truncated}
 use Rattle.esc_actions.specs.declared.action.Action.{Action}
 use Rattle.esc_actions.specs.declared.action.Action.TheVariants as action
-use Rattle.escape_stream.specs.Given.{By, StopsAt}
-use Rattle.escape_stream.specs.Spelled.{Adds}
-use Rattle.escape_stream.specs.declared.sink.Spell.{Spell}
+use Rattle.esc_parse.specs.Given.{By, StopsAt}
+use Rattle.esc_normal.specs.Spelled.{Adds}
+use Rattle.esc_normal.specs.declared.spell.Spell.{Spell}
 use Rattle.esc_osc.specs.Reading.{meaning as command_meant}
-use Rattle.escape_stream.proofs.Lists.{if_ok_more}
-use Rattle.escape_stream.proofs.Spelling.{IsCommand, IsSequence}
+use Rattle.esc_parse.proofs.Lists.{if_ok_more}
+use Rattle.esc_normal.proofs.Spelling.{IsCommand, IsSequence}
 use Rattle.esc_filter.proofs.Results.{on_err_more}
 use Rattle.esc_filter.proofs.Runs.{TakesBy}
 use Rattle.esc_filter.specs.Rules.{admits, is_plain_entry, is_rendition, is_screen_body, is_screen_sequence}

@@ -1,9 +1,9 @@
 -- What a text was given of the values that pass.
 use Rattle.std.proofs.Common.{◌≡◌, Option, ℕ, Bool, true, false, cond, List, [], ◌∷◌, ◌++◌, refl, sym, subst, ap, ◌∙◌, append_assoc, append-nil}
 use Rattle.std.specs.List.{FoldsTo, filter}
-use Rattle.escape_stream.specs.Given.{At}
-use Rattle.escape_stream.specs.Spelled.{Adds}
-use Rattle.escape_stream.specs.declared.sink.Spell.{Spell}
+use Rattle.esc_parse.specs.Given.{At}
+use Rattle.esc_normal.specs.Spelled.{Adds}
+use Rattle.esc_normal.specs.declared.spell.Spell.{Spell}
 use Rattle.esc_actions.specs.Meaning.{yield_within}
 use Rattle.esc_actions.specs.Texts.{is_string, text_after, texts_after}
 use Rattle.esc_actions.specs.Values.{Value, value_of}

@@ -1,7 +1,7 @@
 -- What a piece does to a filter and a writer.
 use Rattle.std.proofs.Common.{◌≡◌, ℕ, Bool, List, ◌++◌, Option, Some}
 use Rattle.std.specs.Io.KnownBytes.{Appends}
-use Rattle.escape_stream.specs.Io.{AppendsPrefix}
+use Rattle.esc_normal.specs.Io.{AppendsPrefix}
 use Rattle.esc_actions.specs.Values.{Value}
 use Rattle.esc_filter.specs.Fed.{WasFed}
 use Rattle.esc_filter.specs.Passing.{passed_text}

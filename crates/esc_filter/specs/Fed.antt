@@ -2,9 +2,9 @@
 use Rattle.std.specs.Prelude.{ℕ, ◌≡◌, Bool, true, false, List, Some}
 use Rattle.esc_actions.specs.Values.{Value, value_of}
 use Rattle.esc_actions.specs.declared.action.Action.{Action}
-use Rattle.escape_stream.specs.Fed.{IsBroken as IsBrokenParser, WasFedWithin}
-use Rattle.escape_stream.specs.Spelled.{Adds}
-use Rattle.escape_stream.specs.declared.sink.Spell.{Spell}
+use Rattle.esc_parse.specs.Fed.{IsBroken as IsBrokenParser, WasFedWithin}
+use Rattle.esc_normal.specs.Spelled.{Adds}
+use Rattle.esc_normal.specs.declared.spell.Spell.{Spell}
 use Rattle.esc_filter.specs.Passing.{passed, passes}
 use Rattle.esc_filter.specs.Texts.{ends_in_string}
 use Rattle.esc_filter.specs.declared.filter.Filter.{Filter}

@@ -2,7 +2,7 @@
 use Rattle.std.specs.Prelude.{ℕ, Bool, List, Option, Some}
 use Rattle.std.specs.Io.KnownBytes.{Appends, Consumes}
 use Rattle.esc_actions.specs.Values.{Value}
-use Rattle.escape_stream.specs.Io.{AppendsPrefix}
+use Rattle.esc_normal.specs.Io.{AppendsPrefix}
 use Rattle.esc_filter.specs.Passing.{IsFiltered, passed_text}
 
 -- it read some bytes, and wrote a text that is what passes of them and reads back as that

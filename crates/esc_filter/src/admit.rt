@@ -8,10 +8,12 @@ ghost use Rattle.esc_actions.specs.Values.{Value, csi, device_value, osc, print,
 ghost use Rattle.esc_actions.specs.Writable.{is_opening, is_truncated};
 ghost use Rattle.esc_device.specs.Writable.{is_high_byte};
 ghost use Rattle.esc_osc.specs.Reading.{meaning as command_meant};
-ghost use Rattle.escape_stream.specs.Images.{is_image};
+ghost use Rattle.esc_parse.specs.Images.{is_image};
 ghost use Rattle.esc_filter.specs.Passing.{is_opener, is_whole, passes};
 
-use escape_stream::{Action, CSI, CsiParam, DeviceControlMode, Esc};
+use esc_actions::Action;
+use esc_below::{CSI, CsiParam, Esc};
+use esc_device::DeviceControlMode;
 use std::alloc::Allocator;
 
 /// Says which actions may pass a filter: a [`Policy`](crate::Policy), or a rule of the caller's own.

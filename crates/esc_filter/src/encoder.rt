@@ -3,10 +3,12 @@ ghost use Rattle.std.specs.Prelude.{◌≡◌, ◌∷◌, ◌++◌, ◌↔◌, [
 ghost use Rattle.esc_actions.specs.Texts.{has_text, text_after, whole_text};
 ghost use Rattle.esc_actions.specs.Values.{Value, value_of};
 
-use escape_stream::{Action, EncodeError, Text};
+use esc_actions::Action;
+use esc_below::Text;
+use esc_write::EncodeError;
 use std::alloc::{AllocError, Allocator};
 
-/// Writes actions one at a time, as [`encode`](escape_stream::encode) writes all of them. It keeps one bit: whether the last of
+/// Writes actions one at a time, as [`encode`](esc_write::encode) writes all of them. It keeps one bit: whether the last of
 /// them was a string, so that a string terminator which comes next writes nothing.
 #[derive(Clone, Copy, Debug, PartialEq, Eq)]
 pub struct Encoder {

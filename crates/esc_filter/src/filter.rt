@@ -5,7 +5,9 @@ ghost use Rattle.esc_filter.specs.Passing.{passed_text};
 use crate::admit::Admit;
 use crate::passing::Passing;
 use crate::text::emptied;
-use escape_stream::{ParseError, Parser, Spell};
+use esc_frame::ParseError;
+use esc_normal::Spell;
+use esc_parse::Parser;
 use std::alloc::{Allocator, Global};
 use std::mem;
 
@@ -25,7 +27,7 @@ impl<P: Admit<A>, A: Allocator + Copy> Filter<P, A> {
     ghost use Rattle.esc_filter.specs.Fed.{IsBroken, WasFed, added_by, policy_of};
 
     /// A filter at the beginning of a stream, which keeps at most `limit` bytes of a segment, as
-    /// [`Parser::with_limit`](escape_stream::Parser::with_limit) does. Takes no memory.
+    /// [`Parser::with_limit`](esc_parse::Parser::with_limit) does. Takes no memory.
     pub fn new(alloc: A, limit: usize, policy: P) -> Filter<P, A>
         ensures fed { WasFed limit (P.admits policy) [] result }
         ensures policy { policy_of result ≡ policy }

@@ -1,7 +1,7 @@
 //! From a stream to the text of what passes of it.
 ghost use Rattle.std.specs.Prelude.{◌≡◌, ◌<◌, ◌++◌, ◌↔◌, ℕ, List, false, length, IfErr, IsErrOf, IsTrue, OnErr, OnOk, Some};
 ghost use Rattle.std.specs.Io.KnownBytes.{Appends, IsAtEnd};
-ghost use Rattle.escape_stream.specs.Io.{AppendsPrefix, has_failed, inner_of};
+ghost use Rattle.esc_normal.specs.Io.{AppendsPrefix, has_failed, inner_of};
 ghost use Rattle.esc_filter.specs.Fed.{WasFed, policy_of};
 ghost use Rattle.esc_filter.specs.Passing.{passed_text};
 ghost use Rattle.esc_filter.specs.Streams.{HasBegun, HasFiltered, HasWritten};
@@ -10,7 +10,7 @@ use crate::admit::Admit;
 use crate::filter::Filter;
 use crate::filter_error::FilterError;
 use crate::laws;
-use escape_stream::Watched;
+use esc_normal::Watched;
 use std::alloc::Allocator;
 use std::io::{Read, Write};
 

@@ -5,7 +5,7 @@ ghost use Rattle.esc_actions.specs.Meaning.{yield_within};
 ghost use Rattle.esc_actions.specs.Values.{Value};
 ghost use Rattle.esc_filter.specs.Passing.{IsFiltered, passed, passed_text, passes};
 
-use escape_stream::laws;
+use esc_actions::laws;
 use std::alloc::Allocator;
 
 /// The text of what passes of a stream reads back as what passes, whatever is admitted.

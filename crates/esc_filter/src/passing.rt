@@ -3,7 +3,10 @@ ghost use Rattle.std.specs.Prelude.{◌≡◌};
 ghost use Rattle.esc_filter.specs.Fed.{Takes};
 
 use crate::admit::{Admit, passes};
-use escape_stream::{Action, CsiParam, Sink, Spell};
+use esc_actions::Action;
+use esc_below::CsiParam;
+use esc_normal::Spell;
+use esc_parse::Sink;
 use std::alloc::{AllocError, Allocator, Global};
 
 /// Appends the text of each action that passes, and drops the others.

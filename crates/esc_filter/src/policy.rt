@@ -9,7 +9,10 @@ ghost use Rattle.esc_filter.specs.Rules.{BeginsOther, is_colour, is_layout, is_l
 
 use crate::admit::Admit;
 use crate::screen::{is_screen, is_screen_body};
-use escape_stream::{Action, CSI, CsiParam, OperatingSystemCommand, is_plain_link};
+use esc_actions::Action;
+use esc_below::{CSI, CsiParam};
+use esc_osc::OperatingSystemCommand;
+use esc_write::is_plain_link;
 use std::alloc::Allocator;
 
 /// Which actions pass a filter. Each admits all that the one before it does.

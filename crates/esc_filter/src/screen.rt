@@ -8,8 +8,9 @@ ghost use Rattle.esc_actions.specs.Values.{value_of};
 ghost use Rattle.esc_filter.specs.Rules.{changes_modes, is_designation, is_insert_mode, is_line_move, is_lone, is_mode_entry, is_palette, is_private, is_privately_marked, is_screen, is_screen_body, is_screen_control, is_screen_escape, is_screen_sequence, is_set, is_set_pair, is_shape, is_space, moves_or_erases, scrolls_down};
 
 use crate::policy::are_plain;
-use escape_stream::osc::{ChangeColorPair, ColorOrQuery};
-use escape_stream::{Action, CSI, CsiParam, Esc, EscCode, OperatingSystemCommand};
+use esc_actions::Action;
+use esc_below::{CSI, CsiParam, Esc, EscCode};
+use esc_osc::{ChangeColorPair, ColorOrQuery, OperatingSystemCommand};
 use std::alloc::Allocator;
 
 // Whether the action changes the screen alone.

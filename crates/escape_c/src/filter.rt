@@ -8,14 +8,14 @@ ghost use Rattle.escape_c.specs.Policies.{policy_numbered};
 use crate::output::put;
 use crate::{DONE, NO_MEMORY, UNKNOWN_POLICY};
 use esc_filter::{Filter, Policy, passed_reads_back};
-use escape_stream::ParseError;
+use esc_frame::ParseError;
 use std::alloc::Global;
 
 /// Writes to `out` the text of those actions of the stream `bytes` that the policy admits, as much of it as fits, and the length
 /// of all of it in bytes to `needed`. The whole text reads back as these actions, and as nothing else; a part of it need not.
 ///
 /// The policies are 0 text, 1 color, 2 screen and 3 all, each as [`Policy`] says; any other number is `UNKNOWN_POLICY`. Of a string
-/// with more than `limit` bytes nothing is written, as of [`Parser::with_limit`](escape_stream::Parser::with_limit). `NO_MEMORY` says
+/// with more than `limit` bytes nothing is written, as of [`Parser::with_limit`](esc_parse::Parser::with_limit). `NO_MEMORY` says
 /// that a request for memory was refused.
 #[unsafe(no_mangle)]
 pub extern "C" fn escape_stream_filter(

@@ -6,7 +6,7 @@ ghost use Rattle.esc_actions.specs.Writable.{AreWritable};
 
 use crate::spelled::normal_text;
 use crate::{DONE, NO_MEMORY};
-use escape_stream::laws;
+use esc_actions::laws;
 use std::alloc::Global;
 
 /// Writes to `answer` whether the stream `bytes` is its own normal form: the text that [`escape_stream_normal`](crate::escape_stream_normal)

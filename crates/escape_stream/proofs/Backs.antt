@@ -16,7 +16,7 @@ use Rattle.esc_actions.specs.Values.{Value, print, string, control, esc, csi, os
 use Rattle.esc_actions.specs.Writable.{IsWritable, AreWritable}
 use Rattle.esc_actions.proofs.Meanings.{meaning_more, yield_whole}
 use Rattle.escape_stream.specs.Asked.{has_own_text}
-use Rattle.escape_stream.specs.Firsts.{IsFirst, first}
+use Rattle.esc_parse.specs.Firsts.{IsFirst, first}
 
 -- values over 63 are not writable
 below_64 : (v : ℕ) → v < 64 → nat_lt v 64 ≡ true

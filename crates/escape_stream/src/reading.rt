@@ -5,10 +5,10 @@ ghost use Rattle.esc_actions.specs.Values.{value_of};
 ghost use Rattle.esc_frame.specs.Segments.{HasShape, Segment as Shape};
 ghost use Rattle.esc_segments.specs.Items.{IsItem};
 
-use crate::performer::Performer;
-use crate::sink::Collect;
-use crate::unfinished::Unfinished;
 use esc_actions::Action;
+use esc_parse::Collect;
+use esc_parse::performer::Performer;
+use esc_parse::unfinished::Unfinished;
 use esc_segments::{Segment, segment_events};
 use std::alloc::{AllocError, Allocator};
 

@@ -6,14 +6,14 @@ ghost use Rattle.esc_actions.specs.Texts.{text_after};
 ghost use Rattle.esc_actions.specs.Values.{value_of};
 ghost use Rattle.esc_actions.specs.Writable.{IsHandedOut, IsWritable};
 ghost use Rattle.escape_stream.specs.Asked.{has_own_text};
-ghost use Rattle.escape_stream.specs.Firsts.{first};
+ghost use Rattle.esc_parse.specs.Firsts.{first};
 
-use crate::encoding::write_after;
 use crate::exceptions::is_exception;
-use crate::parser::Parser;
 use esc_actions::{Action, laws};
 use esc_below::Text;
 use esc_equality::actions::same_action;
+use esc_parse::Parser;
+use esc_write::encoding::write_after;
 use std::alloc::{AllocError, Allocator};
 
 // Whether the action is the first that its own text means, and no exception: of all but strings of characters, bytes and ends of

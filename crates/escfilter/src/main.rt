@@ -9,7 +9,7 @@ mod stream;
 mod tally;
 
 use ended::Ended;
-use escape_stream::Watched;
+use esc_normal::Watched;
 use noting::Noting;
 use options::{Options, Task};
 use std::fs::File;

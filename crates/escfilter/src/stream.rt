@@ -2,14 +2,14 @@
 ghost use Rattle.std.specs.Prelude.{◌≡◌, ◌↔◌, false, IsErrOf, IsTrue, OnErr, OnOk};
 ghost use Rattle.std.specs.Io.KnownBytes.{IsAtEnd};
 ghost use Rattle.esc_filter.specs.Rules.{admits};
-ghost use Rattle.escape_stream.specs.Io.{has_failed, inner_of};
+ghost use Rattle.esc_normal.specs.Io.{has_failed, inner_of};
 ghost use Rattle.esc_filter.specs.Streams.{HasBegun, HasFiltered};
 
 use crate::ended::Ended;
 use crate::options::Options;
 use crate::tally::{Counting, Tally};
 use esc_filter::{FilterError, filter_stream};
-use escape_stream::Watched;
+use esc_normal::Watched;
 use std::alloc::Allocator;
 use std::cell::Cell;
 use std::io::{ErrorKind, Read, Write};

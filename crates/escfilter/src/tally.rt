@@ -1,6 +1,8 @@
 //! What was left out of a stream.
+use esc_actions::Action;
+use esc_below::CsiParam;
+use esc_device::DeviceControlMode;
 use esc_filter::{Admit, Policy};
-use escape_stream::{Action, CsiParam, DeviceControlMode};
 use std::alloc::Allocator;
 use std::cell::Cell;
 use std::io::Write;

@@ -2,12 +2,12 @@
 ghost use Rattle.std.specs.Prelude.{◌≡◌, ◌<◌, ℕ, Option, false, IfErr, IfOk, IfSome, IsErrOf, IsTrue, None, OnOk, Some, ◌↔◌, map, string_bytes};
 ghost use Rattle.std.specs.Io.KnownBytes.{Appends, IsAtEnd, Keeps};
 ghost use Rattle.escnorm.specs.Tasks.{IsVerdict, task_of};
-ghost use Rattle.escape_stream.specs.Io.{AppendsPrefix, has_failed, inner_of};
+ghost use Rattle.esc_normal.specs.Io.{AppendsPrefix, has_failed, inner_of};
 ghost use Rattle.esc_actions.specs.Meaning.{meaning_within};
 ghost use Rattle.esc_actions.specs.Texts.{list_text};
 
 use crate::task::Task;
-use escape_stream::{
+use esc_normal::{
     NormaliseError, Watched, is_normal, is_normal_limited, normalise, normalise_limited,
 };
 use std::alloc::Allocator;

@@ -1,5 +1,5 @@
 use Rattle.std.proofs.Common.{Some}
-use Rattle.escape_stream.proofs.Lists.{on_ok_more}
+use Rattle.esc_parse.proofs.Lists.{on_ok_more}
 use Rattle.esc_filter.proofs.filtering.filter_stream.Goals as goal
 use Rattle.esc_filter.specs.Passing.{passed_text}
 

@@ -1,5 +1,5 @@
 use Rattle.std.proofs.Common.{◌++◌, Some, ap, sym, ◌∙◌}
-use Rattle.escape_stream.proofs.Lists.{on_ok_more}
+use Rattle.esc_parse.proofs.Lists.{on_ok_more}
 use Rattle.esc_filter.proofs.Results.{on_err_more, prefix_none}
 use Rattle.esc_filter.proofs.Texts.{text_longer}
 use Rattle.esc_filter.proofs.filtering.pass_on.Goals as goal

@@ -2,8 +2,8 @@ use Rattle.std.proofs.Common.{Global, ◌++◌, [], None, ap, ◌∙◌}
 use Rattle.esc_actions.proofs.Meanings.{yield_whole}
 use Rattle.esc_actions.specs.Meaning.{yield_within}
 use Rattle.esc_actions.specs.Texts.{list_text, texts_after}
-use Rattle.escape_stream.proofs.Lists.{on_ok_at}
-use Rattle.escape_stream.proofs.Yields.{spells}
+use Rattle.esc_parse.proofs.Lists.{on_ok_at}
+use Rattle.esc_normal.proofs.Spelling.{spells}
 use Rattle.escape_c.proofs.spelled.normal_text.Goals as goal
 
 pub returns-in-Ok : goal.returns-in-Ok

@@ -1,5 +1,5 @@
 use Rattle.esc_actions.proofs.Headlines.{at_meaning}
-use Rattle.escape_stream.proofs.Lists.{if_ok_more}
+use Rattle.esc_parse.proofs.Lists.{if_ok_more}
 use Rattle.escape_stream.proofs.pieces.parse_pieces.Goals as goal
 
 pub returns-clause-headline : goal.returns-clause-headline

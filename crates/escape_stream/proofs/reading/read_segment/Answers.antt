@@ -2,7 +2,7 @@ use Rattle.std.proofs.Common.{◌++◌, ap, map, ◌∙◌, None}
 use Rattle.esc_frame.specs.Segments.{events_of}
 use Rattle.esc_actions.specs.Readings.{reading}
 use Rattle.esc_actions.specs.Values.{plain, value_of}
-use Rattle.escape_stream.proofs.Yields.{collects, performs}
+use Rattle.esc_parse.proofs.Yields.{collects, performs}
 use Rattle.escape_stream.proofs.reading.read_segment.Goals as goal
 
 pub returns-in-Ok : goal.returns-in-Ok

@@ -1,9 +1,9 @@
 use Rattle.std.proofs.Common.{ap, ◌∙◌}
 use Rattle.esc_actions.specs.Meaning.{meaning}
 use Rattle.escape_stream.proofs.Backs.{means_first}
-use Rattle.escape_stream.proofs.Lists.{if_ok_more}
+use Rattle.esc_parse.proofs.Lists.{if_ok_more}
 use Rattle.escape_stream.proofs.reading_back.first_meant.Goals as goal
-use Rattle.escape_stream.specs.Firsts.{first}
+use Rattle.esc_parse.specs.Firsts.{first}
 
 pub returns-in-Ok-clause-itself : goal.returns-in-Ok-clause-itself
 returns-in-Ok-clause-itself g c = λ o h.

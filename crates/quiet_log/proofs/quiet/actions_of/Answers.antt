@@ -1,5 +1,5 @@
 use Rattle.std.proofs.Common.{None, [], ◌∙◌}
-use Rattle.escape_stream.proofs.Lists.{if_ok_more}
+use Rattle.esc_parse.proofs.Lists.{if_ok_more}
 use Rattle.esc_actions.proofs.Meanings.{yield_whole}
 use Rattle.quiet_log.proofs.quiet.actions_of.Goals as goal
 

@@ -1,6 +1,6 @@
 use Rattle.std.proofs.Common.{◌≡◌, [], ◌++◌, map, ap, sym, ◌∙◌, append-nil}
 use Rattle.std.specs.Vec.Iter.{into_iter_items}
-use Rattle.escape_stream.proofs.Lists.{nothing_left}
+use Rattle.esc_parse.proofs.Lists.{nothing_left}
 use Rattle.esc_actions.specs.Values.{value_of}
 use Rattle.quiet_log.proofs.quiet.kept_of.Goals as goal
 use Rattle.quiet_log.specs.Quiet.{quiet_after}

@@ -1,7 +1,7 @@
 use Rattle.std.proofs.Common.{chars}
 use Rattle.bench.proofs.Anything.{anything_run}
 use Rattle.esc_frame.specs.Events.Event.{Print}
-use Rattle.escape_stream.proofs.TextRuns.{some_chars}
+use Rattle.esc_parse.proofs.TextRuns.{some_chars}
 use Rattle.bench.proofs.count.CountVTActor.print_str.Goals as goal
 
 pub returns-clause-told : goal.returns-clause-told

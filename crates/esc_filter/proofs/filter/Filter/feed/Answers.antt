@@ -1,5 +1,5 @@
 use Rattle.std.proofs.Common.{Some, ap, ◌∙◌}
-use Rattle.escape_stream.proofs.Lists.{on_ok_at}
+use Rattle.esc_parse.proofs.Lists.{on_ok_at}
 use Rattle.esc_actions.specs.Meaning.{yield_within}
 use Rattle.esc_filter.proofs.Sinks.{fed_more, gives_all}
 use Rattle.esc_filter.proofs.filter.Filter.feed.Goals as goal

@@ -1,8 +1,8 @@
 use Rattle.std.proofs.Common.{chars}
 use Rattle.std.proofs.lemmas.Str.{IsUtf8-past_char}
 use Rattle.esc_actions.specs.declared.action.Action.TheVariants.{Print}
-use Rattle.escape_stream.proofs.Spelling.{match_both}
-use Rattle.escape_stream.proofs.TextRuns.{char_stopped, char_taken, chars_taken, refuses_run, some_chars}
+use Rattle.esc_normal.proofs.Spelling.{match_both}
+use Rattle.esc_parse.proofs.TextRuns.{char_stopped, char_taken, chars_taken, refuses_run, some_chars}
 use Rattle.esc_filter.proofs.Runs.{TakesBy, run_passes}
 use Rattle.esc_filter.proofs.passing.PassingSinkAction.receive_str.Goals as goal
 

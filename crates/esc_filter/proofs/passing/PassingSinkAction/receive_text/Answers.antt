@@ -1,7 +1,7 @@
-use Rattle.escape_stream.proofs.Spelling.{match_both}
+use Rattle.esc_normal.proofs.Spelling.{match_both}
 use Rattle.std.proofs.Common.{arith}
 use Rattle.esc_actions.specs.declared.action.Action.TheVariants.{Print}
-use Rattle.escape_stream.proofs.TextRuns.{refuses_run, stops_next, takes_next}
+use Rattle.esc_parse.proofs.TextRuns.{refuses_run, stops_next, takes_next}
 use Rattle.esc_filter.proofs.Runs.{TakesBy, run_passes}
 use Rattle.esc_filter.proofs.passing.PassingSinkAction.receive_text.Goals as goal
 

@@ -1,0 +1,3 @@
+pub mod OwnTexts
+pub mod LoneNumbers
+pub mod Spelling

@@ -1,0 +1,2 @@
+pub mod Io
+pub mod Spelled

@@ -1,0 +1,15 @@
+//! From a stream to the text of what it means: [`normalise`] and [`is_normal`], and [`Spell`], the sink that writes what it takes.
+//!
+//! What `esc_parse` reads is written as `esc_write` writes it, with no list of actions in between.
+#![tactic(auto)]
+
+mod normalisation;
+mod normalise_error;
+mod spell;
+mod speller;
+mod watched;
+
+pub use normalisation::{is_normal, is_normal_limited, normalise, normalise_limited};
+pub use normalise_error::NormaliseError;
+pub use spell::Spell;
+pub use watched::Watched;

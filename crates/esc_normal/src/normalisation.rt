@@ -1,0 +1,217 @@
+//! From a stream to the text of what it means.
+ghost use Rattle.std.specs.Prelude.{◌≡◌, ℕ, List, [], true, false, Some, ◌++◌, IfOk, IfErr, OnOk, OnErr, IfSome, IsTrue, IsErrOf, ◌↔◌, ◌<◌, length};
+ghost use Rattle.std.specs.Io.KnownBytes.{Keeps, Appends, IsAtEnd};
+ghost use Rattle.esc_normal.specs.Io.{AppendsPrefix, has_failed, inner_of};
+ghost use Rattle.esc_frame.specs.Stream.{LeadsToWithin};
+ghost use Rattle.esc_actions.specs.Meaning.{meaning, meaning_within};
+ghost use Rattle.esc_actions.specs.Texts.{list_text};
+ghost use Rattle.esc_actions.specs.Writable.{AreWritable};
+
+use crate::normalise_error::NormaliseError;
+use crate::speller::Speller;
+use crate::watched::Watched;
+use esc_actions::laws;
+use esc_below::Text;
+use esc_frame::error::ParseError;
+use esc_frame::parser::VTParser;
+use std::alloc::Allocator;
+use std::io::{Read, Write};
+
+// How much is read at a call.
+const CHUNK: usize = 65_536;
+
+/// Reads to the end, then writes what [`encode`](esc_write::encode) writes for the actions of the bytes that were read.
+/// It holds the whole input and its text.
+///
+/// After `NormaliseError::Read` or `Memory` nothing was written, after `Write` a prefix of the text. Where neither had failed
+/// before, `Read` comes exactly where the reader has failed, and `Write` exactly where the writer has. A `write` that takes
+/// nothing is a failure. A reader that never ends leads to `Memory`, once no more bytes can be held.
+pub fn normalise<R: Read, W: Write, A: Allocator + Copy>(
+    alloc: A,
+    reader: &mut Watched<R>,
+    writer: &mut Watched<W>,
+) -> Result<(), NormaliseError>
+    ensures read_all { OnOk result (IsAtEnd (R.remaining (inner_of reader.new))) }
+    ensures written { OnOk result (IfSome (R.remaining (inner_of reader.old)) (λ s.
+        Appends (W.contents (inner_of writer.old)) (W.contents (inner_of writer.new)) (list_text (meaning {A = A} s)))) }
+    ensures nothing { IfErr result (λ e. (e ≡ NormaliseError.Write → ⊥) → Keeps (W.contents (inner_of writer.old)) (W.contents (inner_of writer.new))) }
+    ensures beginning { IsErrOf result NormaliseError.Write → IfSome (R.remaining (inner_of reader.old)) (λ s.
+        AppendsPrefix (W.contents (inner_of writer.old)) (W.contents (inner_of writer.new)) (list_text (meaning {A = A} s))) }
+    ensures read_fault { has_failed reader.old ≡ false → (IsErrOf result NormaliseError.Read ↔ IsTrue (has_failed reader.new)) }
+    ensures write_fault { has_failed writer.old ≡ false → (IsErrOf result NormaliseError.Write ↔ IsTrue (has_failed writer.new)) }
+{
+    normalise_within(alloc, reader, writer, None)
+}
+
+/// [`normalise`] through a parser that keeps at most `limit` bytes of a segment, as
+/// [`Parser::with_limit`](esc_parse::Parser::with_limit) makes it. It still holds the whole input and its text.
+pub fn normalise_limited<R: Read, W: Write, A: Allocator + Copy>(
+    alloc: A,
+    reader: &mut Watched<R>,
+    writer: &mut Watched<W>,
+    limit: usize,
+) -> Result<(), NormaliseError>
+    ensures read_all { OnOk result (IsAtEnd (R.remaining (inner_of reader.new))) }
+    ensures written { OnOk result (IfSome (R.remaining (inner_of reader.old)) (λ s.
+        Appends (W.contents (inner_of writer.old)) (W.contents (inner_of writer.new)) (list_text (meaning_within {A = A} (Some limit) s)))) }
+    ensures nothing { IfErr result (λ e. (e ≡ NormaliseError.Write → ⊥) → Keeps (W.contents (inner_of writer.old)) (W.contents (inner_of writer.new))) }
+    ensures beginning { IsErrOf result NormaliseError.Write → IfSome (R.remaining (inner_of reader.old)) (λ s.
+        AppendsPrefix (W.contents (inner_of writer.old)) (W.contents (inner_of writer.new)) (list_text (meaning_within {A = A} (Some limit) s))) }
+    ensures read_fault { has_failed reader.old ≡ false → (IsErrOf result NormaliseError.Read ↔ IsTrue (has_failed reader.new)) }
+    ensures write_fault { has_failed writer.old ≡ false → (IsErrOf result NormaliseError.Write ↔ IsTrue (has_failed writer.new)) }
+{
+    normalise_within(alloc, reader, writer, Some(limit))
+}
+
+/// Whether the bytes that the reader still has are the text that [`normalise`] writes for them. Reads to the end. It holds the
+/// whole input and its text.
+///
+/// Of a text that `normalise` wrote for a stream that means a writable list, it is true. The error is `NormaliseError::Read` or
+/// `Memory`. Where the reader had not failed before, `Read` comes exactly where it has.
+pub fn is_normal<R: Read, A: Allocator + Copy>(
+    alloc: A,
+    reader: &mut Watched<R>,
+) -> Result<bool, NormaliseError>
+    ensures read_all { OnOk result (IsAtEnd (R.remaining (inner_of reader.new))) }
+    ensures equal { IfOk result (λ b. IfSome (R.remaining (inner_of reader.old)) (λ s. IsTrue b ↔ (list_text (meaning {A = A} s) ≡ s))) }
+    ensures normalised { (t : List ℕ) → AreWritable {A = A} (meaning t) → R.remaining (inner_of reader.old) ≡ Some (list_text (meaning {A = A} t)) → IfOk result (λ b. b ≡ true) }
+    ensures read_fault { has_failed reader.old ≡ false → (IsErrOf result NormaliseError.Read ↔ IsTrue (has_failed reader.new)) }
+    ensures not_write { IsErrOf result NormaliseError.Write → ⊥ }
+{
+    laws::normal_once::<A>();
+    is_normal_within(alloc, reader, None)
+}
+
+/// Whether the bytes that the reader still has are the text that [`normalise_limited`] writes for them under this limit. Reads to
+/// the end. It holds the whole input and its text. The errors are those of [`is_normal`].
+pub fn is_normal_limited<R: Read, A: Allocator + Copy>(
+    alloc: A,
+    reader: &mut Watched<R>,
+    limit: usize,
+) -> Result<bool, NormaliseError>
+    ensures read_all { OnOk result (IsAtEnd (R.remaining (inner_of reader.new))) }
+    ensures equal { IfOk result (λ b. IfSome (R.remaining (inner_of reader.old)) (λ s. IsTrue b ↔ (list_text (meaning_within {A = A} (Some limit) s) ≡ s))) }
+    ensures read_fault { has_failed reader.old ≡ false → (IsErrOf result NormaliseError.Read ↔ IsTrue (has_failed reader.new)) }
+    ensures not_write { IsErrOf result NormaliseError.Write → ⊥ }
+{
+    is_normal_within(alloc, reader, Some(limit))
+}
+
+fn normalise_within<R: Read, W: Write, A: Allocator + Copy>(
+    alloc: A,
+    reader: &mut Watched<R>,
+    writer: &mut Watched<W>,
+    limit: Option<usize>,
+) -> Result<(), NormaliseError>
+    ensures read_all { OnOk result (IsAtEnd (R.remaining (inner_of reader.new))) }
+    ensures written { OnOk result (IfSome (R.remaining (inner_of reader.old)) (λ s.
+        Appends (W.contents (inner_of writer.old)) (W.contents (inner_of writer.new)) (list_text (meaning_within {A = A} limit s)))) }
+    ensures nothing { IfErr result (λ e. (e ≡ NormaliseError.Write → ⊥) → Keeps (W.contents (inner_of writer.old)) (W.contents (inner_of writer.new))) }
+    ensures beginning { IsErrOf result NormaliseError.Write → IfSome (R.remaining (inner_of reader.old)) (λ s.
+        AppendsPrefix (W.contents (inner_of writer.old)) (W.contents (inner_of writer.new)) (list_text (meaning_within {A = A} limit s))) }
+    ensures read_fault { has_failed reader.old ≡ false → (IsErrOf result NormaliseError.Read ↔ IsTrue (has_failed reader.new)) }
+    ensures write_fault { has_failed writer.old ≡ false → (IsErrOf result NormaliseError.Write ↔ IsTrue (has_failed writer.new)) }
+{
+    let bytes = read_whole(alloc, reader)?;
+    let Ok(text) = normal_text(alloc, &bytes, limit) else {
+        return Err(NormaliseError::Memory);
+    };
+    write_whole(writer, text.as_bytes())
+}
+
+fn is_normal_within<R: Read, A: Allocator + Copy>(
+    alloc: A,
+    reader: &mut Watched<R>,
+    limit: Option<usize>,
+) -> Result<bool, NormaliseError>
+    ensures read_all { OnOk result (IsAtEnd (R.remaining (inner_of reader.new))) }
+    ensures equal { IfOk result (λ b. IfSome (R.remaining (inner_of reader.old)) (λ s. IsTrue b ↔ (list_text (meaning_within {A = A} limit s) ≡ s))) }
+    ensures read_fault { has_failed reader.old ≡ false → (IsErrOf result NormaliseError.Read ↔ IsTrue (has_failed reader.new)) }
+    ensures not_write { IsErrOf result NormaliseError.Write → ⊥ }
+{
+    let stream = read_whole(alloc, reader)?;
+    match normal_text(alloc, &stream, limit) {
+        Ok(text) => Ok(text.as_bytes() == stream.as_slice()),
+        Err(_) => Err(NormaliseError::Memory),
+    }
+}
+
+// All that the reader still had.
+fn read_whole<R: Read, A: Allocator + Copy>(
+    alloc: A,
+    reader: &mut Watched<R>,
+) -> Result<Vec<u8, A>, NormaliseError>
+    ensures bytes { IfOk result (λ v. IfSome (R.remaining (inner_of reader.old)) (λ xs. v.items ≡ xs)) }
+    ensures end { OnOk result (IsAtEnd (R.remaining (inner_of reader.new))) }
+    ensures told { has_failed reader.old ≡ false → (IsErrOf result NormaliseError.Read ↔ IsTrue (has_failed reader.new)) }
+    ensures not_write { IsErrOf result NormaliseError.Write → ⊥ }
+{
+    let Ok(mut chunk) = vec![in alloc; 0u8; CHUNK] else {
+        return Err(NormaliseError::Memory);
+    };
+    read_by(alloc, reader, chunk.as_mut_slice())
+}
+
+// All that the reader still had, read by way of the chunk.
+fn read_by<R: Read, A: Allocator>(
+    alloc: A,
+    reader: &mut Watched<R>,
+    chunk: &mut [u8],
+) -> Result<Vec<u8, A>, NormaliseError>
+    requires { 0 < length chunk.old }
+    ensures bytes { IfOk result (λ v. IfSome (R.remaining (inner_of reader.old)) (λ xs. v.items ≡ xs)) }
+    ensures end { OnOk result (IsAtEnd (R.remaining (inner_of reader.new))) }
+    ensures told { has_failed reader.old ≡ false → (IsErrOf result NormaliseError.Read ↔ IsTrue (has_failed reader.new)) }
+    ensures not_write { IsErrOf result NormaliseError.Write → ⊥ }
+{
+    let mut bytes = Vec::new(alloc);
+    loop {
+        match reader.read(chunk) {
+            Ok(0) => return Ok(bytes),
+            Ok(n) => {
+                if bytes.extend_from_slice(&chunk[..n]).is_err() {
+                    return Err(NormaliseError::Memory);
+                }
+            }
+            Err(_) => return Err(NormaliseError::Read),
+        }
+    }
+}
+
+// The text of what the bytes mean under this limit.
+fn normal_text<A: Allocator + Copy>(
+    alloc: A,
+    bytes: &[u8],
+    limit: Option<usize>,
+) -> Result<Text<A>, ParseError>
+    ensures { IfOk result (λ t. t ≡ list_text (meaning_within {A = A} limit bytes.now)) }
+{
+    let mut framer = framer_within(alloc, limit);
+    let mut speller = Speller::new(alloc, limit);
+    framer.parse(bytes, &mut speller)?;
+    Ok(speller.into_text())
+}
+
+// A parser at the beginning of a stream, with or without a limit.
+fn framer_within<A: Allocator + Copy>(alloc: A, limit: Option<usize>) -> VTParser<A>
+    ensures { LeadsToWithin limit [] result }
+{
+    match limit {
+        None => VTParser::new(alloc),
+        Some(limit) => VTParser::with_limit(alloc, limit),
+    }
+}
+
+// Writes all of the bytes.
+fn write_whole<W: Write>(writer: &mut Watched<W>, bytes: &[u8]) -> Result<(), NormaliseError>
+    ensures whole { OnOk result (Appends (W.contents (inner_of writer.old)) (W.contents (inner_of writer.new)) bytes.now) }
+    ensures beginning { OnErr result (AppendsPrefix (W.contents (inner_of writer.old)) (W.contents (inner_of writer.new)) bytes.now) }
+    ensures fault { IfErr result (λ e. e ≡ NormaliseError.Write) }
+    ensures told { has_failed writer.old ≡ false → (IsErrOf result NormaliseError.Write ↔ IsTrue (has_failed writer.new)) }
+{
+    if writer.write_whole(bytes) {
+        Ok(())
+    } else {
+        Err(NormaliseError::Write)
+    }
+}

@@ -1,0 +1,198 @@
+//! The sink that writes what it takes.
+ghost use Rattle.std.specs.Prelude.{◌≡◌, ◌<◌, ◌++◌, [], Ok, OnOk, false, true};
+ghost use Rattle.std.specs.List.{list_all};
+ghost use Rattle.esc_below.specs.Clear.{framed};
+ghost use Rattle.esc_below.specs.Csis.{csi_text, unspecified};
+ghost use Rattle.esc_frame.specs.Scans.{is_text_byte};
+ghost use Rattle.esc_actions.specs.Texts.{is_string, text_after};
+ghost use Rattle.esc_actions.specs.Values.{value_of};
+ghost use Rattle.esc_osc.specs.Commands.{command_text};
+ghost use Rattle.esc_osc.specs.declared.command.OperatingSystemCommand.{OperatingSystemCommand};
+ghost use Rattle.esc_write.specs.Plain.{short_text};
+
+use esc_actions::Action;
+use esc_below::{CsiParam, Text};
+use esc_osc::OperatingSystemCommand;
+use esc_parse::Sink;
+use esc_write::commands::verbatim;
+use esc_write::direct::{append_entries, is_plain};
+use esc_write::encoding::write_after;
+use esc_write::short_numbers::ShortNumbers;
+use std::alloc::{AllocError, Allocator, Global};
+use std::str;
+
+/// Appends the text of each action to a text: what [`encode`](esc_write::encode) writes for all of them, without a list
+/// of them. Each action that a string terminator ends gets one string terminator, and one directly after it in the stream is that one.
+#[derive(Drop)]
+pub struct Spell<A: Allocator = Global> {
+    /// The text so far.
+    pub text: Text<A>,
+    /// Whether the last action was one that a string terminator ends.
+    pub follows_string: bool,
+}
+
+impl<A: Allocator> Spell<A> {
+    /// No text yet. Takes no memory.
+    pub fn new(alloc: A) -> Spell<A>
+        ensures text { result.text ≡ [] }
+        ensures plain { result.follows_string ≡ false }
+    {
+        Spell {
+            text: Text::new(alloc),
+            follows_string: false,
+        }
+    }
+
+    // Appends the text of an action, out of the way of the code that takes characters.
+    #[inline(never)]
+    fn append(&mut self, action: Action<A>) -> Result<(), AllocError>
+        ensures { OnOk result ((self.new.text ≡ self.old.text ++ text_after self.old.follows_string (value_of action))
+            × (self.new.follows_string ≡ is_string (value_of action))) }
+    {
+        write_after(&mut self.text, self.follows_string, &action)?;
+        self.follows_string = action.is_string();
+        Ok(())
+    }
+}
+
+impl<A: Allocator> Spell<A> {
+    // Appends the text of a control sequence that has no name.
+    fn write_sequence(
+        &mut self,
+        params: &[CsiParam],
+        parameters_truncated: bool,
+        control: u8,
+    ) -> Result<(), AllocError>
+        ensures { OnOk result ((self.new.text ≡ self.old.text ++ csi_text (unspecified params.now parameters_truncated control)) × (self.new.follows_string ≡ false)) }
+    {
+        append_entries(&mut self.text, params, parameters_truncated, control)?;
+        self.follows_string = false;
+        Ok(())
+    }
+
+    // Appends the text of one that is known by its numbers.
+    #[inline]
+    fn write_short(&mut self, numbers: ShortNumbers, control: u8) -> Result<(), AllocError>
+        requires { control < 128 }
+        ensures { OnOk result ((self.new.text ≡ self.old.text ++ short_text numbers control) × (self.new.follows_string ≡ false)) }
+    {
+        numbers.append_to(&mut self.text, control)?;
+        self.follows_string = false;
+        Ok(())
+    }
+
+    // Appends the text of a command.
+    fn write_display(&mut self, command: &OperatingSystemCommand<A>) -> Result<(), AllocError>
+        ensures { OnOk result ((self.new.text ≡ self.old.text ++ command_text command.now) × (self.new.follows_string ≡ true)) }
+    {
+        self.text.push_display(command)?;
+        self.follows_string = true;
+        Ok(())
+    }
+
+    // Appends the text of a command that was made, where there was memory for it.
+    pub(crate) fn write_command(
+        &mut self,
+        command: Result<OperatingSystemCommand<A>, AllocError>,
+    ) -> Result<(), AllocError>
+        ensures { OnOk result ((c : OperatingSystemCommand A) × (command ≡ Ok c) × (self.new.text ≡ self.old.text ++ command_text c) × (self.new.follows_string ≡ true)) }
+    {
+        match command {
+            Ok(command) => self.write_display(&command),
+            Err(error) => Err(error),
+        }
+    }
+
+    // Appends the text of a command that is written as it came.
+    pub(crate) fn write_verbatim(&mut self, text: &str) -> Result<(), AllocError>
+        ensures { OnOk result ((self.new.text ≡ self.old.text ++ framed text.now) × (self.new.follows_string ≡ true)) }
+    {
+        self.text.push_str("\x1b]")?;
+        self.text.push_str(text)?;
+        self.text.push_str("\x1b\\")?;
+        self.follows_string = true;
+        Ok(())
+    }
+}
+
+/// After a refused call the text ends somewhere within that action's text. A sixel image with a value over 63, which has no text,
+/// is refused too; no parser hands one out.
+impl<A: Allocator> Sink<Action<A>> for Spell<A> {
+    ghost is_ready = { λ _. Unit {0} };
+
+    ghost takes = { λ p a q. (q.text ≡ p.text ++ text_after p.follows_string (value_of a)) × (q.follows_string ≡ is_string (value_of a)) };
+
+    ghost refuses = { λ p a q. Unit {0} };
+
+    #[inline]
+    fn receive(&mut self, action: Action<A>) -> Result<(), AllocError> {
+        match action {
+            Action::Print(c) => {
+                self.text.push(c)?;
+                self.follows_string = false;
+                Ok(())
+            }
+            Action::Control(code) => {
+                self.text.push(code.as_char())?;
+                self.follows_string = false;
+                Ok(())
+            }
+            other => self.append(other),
+        }
+    }
+
+    #[inline]
+    fn receive_text(&mut self, text: &[u8]) -> Result<(), AllocError> {
+        self.text.push_str(as_str(text))?;
+        self.follows_string = false;
+        Ok(())
+    }
+
+    #[inline]
+    fn receive_str(&mut self, text: &str) -> Result<(), AllocError> {
+        self.text.push_str(text)?;
+        self.follows_string = false;
+        Ok(())
+    }
+
+    // Appends it where its text is that of its entries.
+    fn receive_sequence(
+        &mut self,
+        params: &[CsiParam],
+        parameters_truncated: bool,
+        control: u8,
+    ) -> Result<bool, AllocError> {
+        if let Some(numbers) = ShortNumbers::of(params, control) {
+            return match self.write_short(numbers, control) {
+                Ok(()) => Ok(true),
+                Err(error) => Err(error),
+            };
+        }
+        if !is_plain(params, parameters_truncated, control) {
+            return Ok(false);
+        }
+        match self.write_sequence(params, parameters_truncated, control) {
+            Ok(()) => Ok(true),
+            Err(error) => Err(error),
+        }
+    }
+
+    // Appends it where it is written as it came.
+    fn receive_command(&mut self, text: &[u8]) -> Result<bool, AllocError> {
+        let Some(text) = verbatim::<A>(text) else {
+            return Ok(false);
+        };
+        match self.write_verbatim(text) {
+            Ok(()) => Ok(true),
+            Err(error) => Err(error),
+        }
+    }
+}
+
+// ASCII as a text.
+fn as_str(text: &[u8]) -> &str
+    requires { list_all is_text_byte text.now ≡ true }
+    ensures { result.now ≡ text.now }
+{
+    unsafe { str::from_utf8_unchecked(text) }
+}

@@ -1,0 +1,12 @@
+pub mod Lists
+pub mod Grows
+pub mod Yields
+pub mod Fronts
+pub mod FirstsGiven
+pub mod TextRuns
+pub mod Collecting
+pub mod GivenCommands
+pub mod DataLimits
+pub mod DataRuns
+pub mod Sixels
+pub mod Images

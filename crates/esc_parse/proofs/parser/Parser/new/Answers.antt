@@ -1,0 +1,8 @@
+use Rattle.std.proofs.Common.{None, sym, subst}
+use Rattle.esc_actions.proofs.Meanings.{mode_nil}
+use Rattle.esc_parse.proofs.parser.Parser.new.Goals as goal
+use Rattle.esc_parse.specs.Fed.{Hooks, WasFedWithin}
+
+pub returns : goal.returns
+unfolding WasFedWithin
+returns g c = (c.new.ensures, subst (λ m. Hooks None c.new-2.result m) (sym (mode_nil None)) c.new-2.ensures.hooks)

@@ -1,0 +1,16 @@
+use Rattle.esc_parse.proofs.Lists.{if_err_fourth, moved, moved_prefix, on_ok_second}
+use Rattle.esc_parse.proofs.parser.Parser.parse.Goals as goal
+use Rattle.esc_actions.specs.Values.{value_of}
+
+pub returns-clause-given : goal.returns-clause-given
+returns-clause-given g c limit s h =
+    on_ok_second _ _ _ c.parse_into.result.0 (λ w. (c.parse_into.result.1.callback, moved (λ p. p.callback) value_of (λ p a q. goal.F-step g p a tt q) _ _ _ w))
+    (c.parse_into.ensures.given limit s h)
+
+pub returns-clause-refused : goal.returns-clause-refused
+returns-clause-refused g c limit s h =
+    if_err_fourth _ _ _ c.parse_into.result.0 _ _ (λ w. moved_prefix (λ p. p.callback) value_of (λ p a q. goal.F-step g p a tt q) _ _ _ c.parse_into.result.1 w)
+    (c.parse_into.ensures.refused limit s h)
+
+pub returns-clause-handed_out : goal.returns-clause-handed_out
+returns-clause-handed_out g c = λ limit s h. c.yield_handed_out.ensures limit s c.args.bytes.now

@@ -1,0 +1,16 @@
+use Rattle.std.proofs.Common.{◌≡◌, refl, true}
+use Rattle.esc_actions.specs.Values.{value_of}
+use Rattle.esc_parse.specs.Given.{At}
+use Rattle.esc_parse.proofs.Images.{all_dropped, command_images}
+use Rattle.esc_parse.proofs.Lists.{StopsAt-here}
+use Rattle.esc_parse.proofs.performer.PerformerVTActor.apc_dispatch.Goals as goal
+
+pub returns-then-drops_images-clause-hears : goal.returns-then-drops_images-clause-hears
+returns-then-drops_images-clause-hears g c = λ limit m h. (
+  h,
+  all_dropped g.S.Sink.takes c.args.self.now.sink (c.drops_images.ensures c.if-drops_images.true) _ (command_images _),
+)
+
+pub returns-in-Err-clause-hears : goal.returns-in-Err-clause-hears
+returns-in-Err-clause-hears g c = λ limit m h.
+    StopsAt-here (At value_of g.S.Sink.takes) (At value_of g.S.Sink.refuses) (true ≡ true) c.args.self.now.sink _ _ refl refl

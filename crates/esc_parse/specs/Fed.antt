@@ -1,0 +1,68 @@
+-- What a parser was fed.
+use Rattle.std.specs.Prelude.{ℕ, ◌≡◌, ◌+◌, ◌≤◌, Bool, true, false, List, length, Option, None}
+use Rattle.esc_frame.specs.Limits.{Counts, is_within, most}
+use Rattle.esc_frame.specs.Stream.{LeadsToWithin, HasFailed, events_within}
+use Rattle.esc_frame.specs.declared.count.Count.{Count}
+use Rattle.esc_actions.specs.Meaning.{mode_from}
+use Rattle.esc_actions.specs.Values.{Mode, plain, in_sixel, in_termcap, in_short, entered, data_count, taken}
+use Rattle.esc_device.specs.Leads.{LeadsShort}
+use Rattle.esc_tcap.specs.Names.{LeadsTo as LeadsTermcap}
+use Rattle.esc_parse.specs.Sixels.{Holds as HoldsSixel}
+use Rattle.esc_parse.specs.declared.hooked.Hooked.{Hooked}
+use Rattle.esc_parse.specs.declared.hooked.Hooked.TheVariants as hooked
+use Rattle.esc_parse.specs.declared.parser.Parser.{Parser}
+use Rattle.esc_parse.specs.declared.unfinished.Unfinished.{Unfinished}
+
+-- the count is that of this data, and within the limit
+abbrev pub CountsData : Option ℕ → Count → List ℕ → Type 0
+CountsData limit c d = Counts limit c (length d) × (is_within limit (length d) ≡ true)
+
+-- what is hooked is what is unfinished, or nothing of it where its data is past the limit
+abbrev pub Keeps : {A : Type 0} → Option ℕ → Hooked A → Count → Mode → Type 0
+Keeps limit hooked.Nothing c plain = Unit {0}
+Keeps limit (hooked.Sixel b) c (in_sixel ps d) = HoldsSixel ps d b.value × CountsData limit c d
+Keeps limit (hooked.Termcap b) c (in_termcap d) = LeadsTermcap d b × CountsData limit c d
+Keeps limit (hooked.Short b) c (in_short ps is f d) = LeadsShort ps is f d b.value × CountsData limit c d
+Keeps limit hooked.Entered c entered = Unit {0}
+Keeps limit hooked.Over c m = is_within limit (data_count m) ≡ false
+Keeps limit _ c _ = ⊥
+
+-- a string that begins, of which no data is counted yet
+abbrev pub Begins : {A : Type 0} → Option ℕ → Hooked A → Mode → Type 0
+Begins limit h m = (c : Count) → Counts limit c 0 → Keeps limit h c m
+
+-- what is kept, under this limit, is what is unfinished
+unfoldable pub Hooks : {A : Type 0} → Option ℕ → Unfinished A → Mode → Type 0
+Hooks limit u m = (u.limit ≡ limit) × Keeps limit u.hooked u.data m
+
+-- what is hooked is a mode
+abbrev pub is_mode : {A : Type 0} → Hooked A → Bool
+is_mode hooked.Nothing = false
+is_mode (hooked.Sixel b) = false
+is_mode (hooked.Termcap b) = false
+is_mode (hooked.Short b) = false
+is_mode hooked.Entered = true
+is_mode hooked.Over = false
+
+-- a byte of data makes q of p
+abbrev pub TakesData : {A : Type 0} → Unfinished A → ℕ → Unfinished A → Type 0
+TakesData p b q = (is_mode q.hooked ≡ is_mode p.hooked) × ((limit : Option ℕ) (m : Mode) → Hooks limit p m → Hooks limit q (taken m b))
+
+-- so many bytes more are counted without passing the limit
+pub record HasRoom (limit : Option ℕ) (c : Count) (more : ℕ) : Type 0 where
+  pub not_over : c.is_over ≡ false
+  pub few : c.bytes + more ≤ most
+  pub within : is_within limit (c.bytes + more) ≡ true
+
+-- The bytes may be what the parser was fed, which keeps no more than the limit of a segment: it has not failed, and keeps what is
+-- unfinished of them.
+unfoldable pub WasFedWithin : {A : Type 0} → Option ℕ → List ℕ → Parser A → Type 0
+WasFedWithin limit s p = LeadsToWithin limit s p.framer × Hooks limit p.unfinished (mode_from plain (events_within limit s))
+
+-- the same without a limit
+abbrev pub WasFed : {A : Type 0} → List ℕ → Parser A → Type 0
+WasFed s p = WasFedWithin None s p
+
+-- an earlier call of the parser was refused memory, and nothing is kept
+abbrev pub IsBroken : {A : Type 0} → Parser A → Type 0
+IsBroken p = HasFailed p.framer × (p.unfinished.hooked ≡ hooked.Nothing)

@@ -1,0 +1,6 @@
+pub mod Given
+pub mod Fed
+pub mod Firsts
+pub mod Collected
+pub mod Sixels
+pub mod Images

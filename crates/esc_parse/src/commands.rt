@@ -1,0 +1,26 @@
+//! Operating system commands from their texts.
+ghost use Rattle.std.specs.Prelude.{◌≡◌, IfOk};
+ghost use Rattle.esc_below.specs.Clear.{parts_of};
+ghost use Rattle.esc_osc.specs.Reading.{meaning};
+
+use esc_frame::parts::Parts;
+use esc_frame::split::split_parts;
+use esc_osc::OperatingSystemCommand;
+use std::alloc::{AllocError, Allocator};
+
+/// The command that the parts of a text mean.
+pub fn command_in<A: Allocator + Copy>(
+    alloc: A,
+    text: &[u8],
+) -> Result<OperatingSystemCommand<A>, AllocError>
+    ensures { IfOk result (λ c. c ≡ meaning (parts_of text.now)) }
+{
+    let parts = Parts::of(text);
+    if parts.count > 0 && !text.is_empty() {
+        return OperatingSystemCommand::parse(alloc, parts.as_slice());
+    }
+    match split_parts(alloc, text) {
+        Ok(parts) => OperatingSystemCommand::parse(alloc, &parts),
+        Err(error) => Err(error),
+    }
+}

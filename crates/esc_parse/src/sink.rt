@@ -1,0 +1,245 @@
+//! What takes actions, one after another.
+ghost use Rattle.std.specs.Prelude.{◌≡◌, ◌<◌, ◌≤◌, ◌+◌, ℕ, List, [], ◌∷◌, ◌++◌, IfOk, IsTrue, MatchResult, OnErr, OnOk, false, length, map, true, vec_capacity, vec_len};
+ghost use Rattle.std.specs.List.{FoldsTo, list_all};
+ghost use Rattle.std.specs.Str.{chars};
+ghost use Rattle.esc_below.specs.Clear.{is_clear, parts_of};
+ghost use Rattle.esc_below.specs.Csis.{CsiValue, csi_of};
+ghost use Rattle.esc_frame.specs.Scans.{is_text_byte};
+ghost use Rattle.esc_parse.specs.Collected.{Gathers};
+ghost use Rattle.esc_parse.specs.Given.{By, StopsAt, first_of};
+ghost use Rattle.esc_parse.specs.Images.{is_image};
+ghost use Rattle.esc_actions.specs.Values.{csi, osc, value_of};
+ghost use Rattle.esc_osc.specs.Reading.{meaning as command_meant};
+ghost use Rattle.esc_actions.specs.declared.action.Action.TheVariants as action;
+
+use esc_actions::Action;
+use esc_below::CsiParam;
+use std::alloc::{AllocError, Allocator, Global};
+
+/// What a character can be made into.
+pub trait FromChar {
+    // what the character is made into
+    ghost print: { ℕ → Self };
+
+    // it is this control sequence
+    ghost is_sequence: { Self → CsiValue → Type 0 };
+
+    // it is the command that these parts mean
+    ghost is_command: { Self → List (List ℕ) → Type 0 };
+
+    // it is an image
+    ghost is_image: { Self → Type 0 };
+
+    /// What prints the character.
+    fn print(c: char) -> Self
+        ensures { result ≡ print c };
+}
+
+impl<A: Allocator> FromChar for Action<A> {
+    ghost use Rattle.esc_actions.specs.declared.action.Action.TheVariants.{Print};
+
+    ghost print = { λ c. Print c };
+
+    ghost is_sequence = { λ a c. value_of a ≡ csi c };
+
+    ghost is_command = { λ a ps. value_of a ≡ osc (command_meant ps) };
+
+    ghost is_image = { λ a. is_image (value_of a) ≡ true };
+
+    fn print(c: char) -> Action<A> {
+        Action::Print(c)
+    }
+}
+
+/// What takes the actions of a stream, one after another: the receiver of [`Parser::parse_into`](crate::parser::Parser::parse_into).
+///
+/// An implementation says what an action makes of its value (`takes`), what a refused call leaves (`refuses`), and when it may
+/// be called (`is_ready`). After a call that returns `AllocError` no more calls are made.
+pub trait Sink<T: FromChar> {
+    // the next action may be given
+    ghost is_ready: { Self → Type 0 };
+
+    // what an action makes of a value
+    ghost takes: { Self → T → Self → Type 0 };
+
+    // what a refused one may leave
+    ghost refuses: { Self → T → Self → Type 0 };
+
+    /// Takes an action.
+    fn receive(&mut self, action: T) -> Result<(), AllocError>
+        requires { is_ready self.old }
+        ensures ready { OnOk result (is_ready self.new) }
+        ensures given { MatchResult result (λ _. takes self.old action self.new) (λ _. refuses self.old action self.new) };
+
+    /// Takes a run of text, never empty: characters 20 to 7F, one byte each. It does to the sink what a `Print` of each, one
+    /// after another, does. A sink that keeps text can take the run at once.
+    #[inline]
+    fn receive_text(&mut self, text: &[u8]) -> Result<(), AllocError>
+        requires ready { is_ready self.old }
+        requires some { 0 < length text.now }
+        requires text { list_all is_text_byte text.now ≡ true }
+        ensures ready { OnOk result (is_ready self.new) }
+        ensures given { MatchResult result (λ _. FoldsTo takes self.old (map T.print text.now) self.new)
+            (λ _. StopsAt ⊥ takes refuses self.old (map T.print text.now) self.new) }
+    {
+        for b in text {
+            match self.receive(T::print(*b as char)) {
+                Ok(()) => {}
+                Err(e) => return Err(e),
+            }
+        }
+        Ok(())
+    }
+
+    /// Takes a run of characters as UTF-8, never empty: none is a control of C0 or C1. It does to the sink what a `Print` of each,
+    /// one after another, does. A sink that keeps text can take the run at once.
+    #[inline]
+    fn receive_str(&mut self, text: &str) -> Result<(), AllocError>
+        requires ready { is_ready self.old }
+        requires some { 0 < length text.now }
+        requires clear { list_all is_clear (chars text.now) ≡ true }
+        ensures ready { OnOk result (is_ready self.new) }
+        ensures given { MatchResult result (λ _. FoldsTo takes self.old (map T.print (chars text.now)) self.new)
+            (λ _. StopsAt ⊥ takes refuses self.old (map T.print (chars text.now)) self.new) }
+    {
+        for c in text.chars() {
+            match self.receive(T::print(c)) {
+                Ok(()) => {}
+                Err(e) => return Err(e),
+            }
+        }
+        Ok(())
+    }
+
+    /// Takes the actions of a control sequence at once, from its entries, and returns whether it did: it does to the sink what
+    /// receiving each does. Where it returns false it did nothing, and they are made and received; so it does by default.
+    #[inline]
+    fn receive_sequence(
+        &mut self,
+        _params: &[CsiParam],
+        _parameters_truncated: bool,
+        _control: u8,
+    ) -> Result<bool, AllocError>
+        requires { is_ready self.old }
+        ensures ready { OnOk result (is_ready self.new) }
+        ensures taken { IfOk result (λ b. IsTrue b → FoldsTo (By T.is_sequence takes) self.old (csi_of _params.now _parameters_truncated _control) self.new) }
+        ensures left { IfOk result (λ b. b ≡ false → self.new ≡ self.old) }
+        ensures refused { OnErr result (StopsAt (true ≡ true) (By T.is_sequence takes) (By T.is_sequence refuses) self.old (csi_of _params.now _parameters_truncated _control) self.new) }
+    {
+        Ok(false)
+    }
+
+    /// The same of an operating system command, from its text, whose parts are between `;`.
+    #[inline]
+    fn receive_command(&mut self, _text: &[u8]) -> Result<bool, AllocError>
+        requires { is_ready self.old }
+        ensures ready { OnOk result (is_ready self.new) }
+        ensures taken { IfOk result (λ b. IsTrue b → FoldsTo (By T.is_command takes) self.old (parts_of _text.now ∷ []) self.new) }
+        ensures left { IfOk result (λ b. b ≡ false → self.new ≡ self.old) }
+        ensures refused { OnErr result (StopsAt (true ≡ true) (By T.is_command takes) (By T.is_command refuses) self.old (parts_of _text.now ∷ []) self.new) }
+    {
+        Ok(false)
+    }
+
+    /// Whether every image, of kitty's protocol or sixel, would leave it as it is. Where it returns true, as it does not by default,
+    /// none is made and received.
+    #[inline]
+    fn drops_images(&self) -> bool
+        ensures { IsTrue result → (a : T) → T.is_image a → takes self.now a self.now }
+    {
+        false
+    }
+}
+
+/// Calls a closure on each action.
+#[derive(Drop)]
+pub(crate) struct Calls<F> {
+    pub callback: F,
+}
+
+impl<T: FromChar, F: FnMut(T)> Sink<T> for Calls<F> {
+    ghost is_ready = { λ p. F.IsAlwaysCallable p.callback };
+
+    ghost takes = { λ p a q. F.step p.callback a tt q.callback };
+
+    ghost refuses = { λ p a q. ⊥ };
+
+    fn receive(&mut self, action: T) -> Result<(), AllocError> {
+        (self.callback)(action);
+        Ok(())
+    }
+}
+
+/// Keeps the actions in a list.
+#[derive(Drop)]
+pub struct Collect<A: Allocator = Global> {
+    /// The actions so far.
+    pub actions: Vec<Action<A>, A>,
+}
+
+impl<A: Allocator> Collect<A> {
+    /// No action yet. Takes no memory.
+    pub fn new(alloc: A) -> Collect<A>
+        ensures { result.actions.items ≡ [] }
+    {
+        Collect {
+            actions: Vec::new(alloc),
+        }
+    }
+}
+
+impl<A: Allocator> Collect<A> {
+    // Appends a `Print` of each of these characters, for which there is room.
+    #[inline]
+    fn push_text(&mut self, text: &[u8])
+        requires { vec_len self.old.actions + length text.now ≤ vec_capacity self.old.actions }
+        ensures { FoldsTo Gathers self.old (map action.Print text.now) self.new }
+    {
+        for b in text {
+            self.actions.push_reserved(Action::Print(*b as char));
+        }
+    }
+}
+
+/// A refused action is dropped; those before it are kept.
+impl<A: Allocator> Sink<Action<A>> for Collect<A> {
+    ghost is_ready = { λ _. Unit {0} };
+
+    ghost takes = { λ p a q. q.actions.items ≡ p.actions.items ++ a ∷ [] };
+
+    ghost refuses = { λ p a q. q.actions.items ≡ p.actions.items };
+
+    fn receive(&mut self, action: Action<A>) -> Result<(), AllocError> {
+        self.actions.push(action)?;
+        Ok(())
+    }
+
+    #[inline]
+    fn receive_text(&mut self, text: &[u8]) -> Result<(), AllocError> {
+        self.actions.reserve(text.len())?;
+        self.push_text(text);
+        Ok(())
+    }
+}
+
+/// Keeps the first action, and drops the others. It takes no memory.
+#[derive(Drop)]
+pub struct First<A: Allocator = Global> {
+    /// The first action, once one came.
+    pub action: Option<Action<A>>,
+}
+
+impl<A: Allocator> Sink<Action<A>> for First<A> {
+    ghost is_ready = { λ _. Unit {0} };
+
+    ghost takes = { λ p a q. q.action ≡ first_of p.action a };
+
+    ghost refuses = { λ p a q. ⊥ };
+
+    fn receive(&mut self, action: Action<A>) -> Result<(), AllocError> {
+        if self.action.is_none() {
+            self.action = Some(action);
+        }
+        Ok(())
+    }
+}

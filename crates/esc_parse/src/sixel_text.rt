@@ -1,0 +1,69 @@
+//! What is kept of a sixel image while it is unfinished.
+ghost use Rattle.std.specs.Prelude.{◌≡◌, ℕ, ℤ, List, [], ◌∷◌, ◌++◌, IfOk, OnOk};
+ghost use Rattle.std.specs.List.{FoldsTo};
+ghost use Rattle.esc_sixel.specs.Items.{items};
+ghost use Rattle.esc_sixel.specs.Meaning.{sixel_of};
+ghost use Rattle.esc_parse.specs.Sixels.{Holds, Pushes};
+
+use esc_below::Items;
+use esc_sixel::{Sixel, SixelBuilder};
+use std::alloc::{AllocError, Allocator, Global};
+use std::mem;
+
+/// The parameters of a sixel image and its data, as it came: the image is made at the end, and only for a sink that takes images.
+#[derive(Drop)]
+pub struct SixelText<A: Allocator = Global> {
+    alloc: A,
+    // the parameters, before any data
+    header: SixelBuilder<A>,
+    data: Items<u8, A>,
+}
+
+impl<A: Allocator + Copy> SixelText<A> {
+    /// An image with these parameters, before any data. Takes no memory.
+    #[tactic(auto, unfolding(crate::specs::Sixels::Holds))]
+    pub fn new(alloc: A, params: &[i64]) -> SixelText<A>
+        ensures { Holds params.now [] result }
+    {
+        SixelText {
+            alloc,
+            header: SixelBuilder::new(alloc, params),
+            data: Items::new(alloc),
+        }
+    }
+
+    /// One more byte of the data.
+    #[tactic(auto, unfolding(crate::specs::Sixels::Holds))]
+    pub fn push(&mut self, byte: u8) -> Result<(), AllocError>
+        ensures { (ps : List ℤ) (s : List ℕ) → Holds ps s self.old → OnOk result (Holds ps (s ++ byte ∷ []) self.new) }
+    {
+        self.data.push(byte)
+    }
+
+    /// More bytes of the data, as `push` of each takes them.
+    #[tactic(auto, using(crate::proofs::Sixels::appended))]
+    pub fn push_run(&mut self, bytes: &[u8]) -> Result<(), AllocError>
+        ensures { OnOk result (FoldsTo Pushes self.old bytes.now self.new) }
+    {
+        let empty = Items::new(self.alloc);
+        let mut all = mem::replace(&mut self.data, empty).into_vec();
+        let result = all.extend_from_slice(bytes);
+        self.data = Items::from_vec(all);
+        result
+    }
+
+    /// The image that the parameters and all bytes mean.
+    #[tactic(auto, unfolding(crate::specs::Sixels::Holds))]
+    pub fn finish(self) -> Result<Sixel<A>, AllocError>
+        ensures { (ps : List ℤ) (s : List ℕ) → Holds ps s self → IfOk result (λ x. x ≡ sixel_of ps (items s)) }
+    {
+        let SixelText {
+            alloc: _,
+            header: mut builder,
+            data,
+        } = self;
+        builder.push_run(data.as_slice())?;
+        builder.finish()?;
+        Ok(builder.sixel)
+    }
+}

@@ -1,0 +1,181 @@
+//! The device control string that is unfinished.
+ghost use Rattle.std.specs.Prelude.{◌≡◌, ℕ, IfOk, IsTrue, OnOk, Option, length, min, option_to_list, true};
+ghost use Rattle.std.specs.List.{FoldsTo, list_all};
+ghost use Rattle.std.specs.Option.{option_map};
+ghost use Rattle.esc_frame.specs.Limits.{kept_within, most};
+ghost use Rattle.esc_actions.specs.Values.{Mode, closed_gives, data_count, opened, plain, taken, value_of};
+ghost use Rattle.esc_actions.specs.Groups.{is_entered};
+ghost use Rattle.esc_parse.specs.Fed.{HasRoom, Hooks, TakesData, is_mode};
+ghost use Rattle.esc_parse.specs.Images.{is_image};
+ghost use Rattle.esc_parse.specs.declared.hooked.Hooked.TheVariants as hooked;
+
+use crate::hooked::{Hooked, begin, end};
+use esc_actions::Action;
+use esc_device::StringKind;
+use esc_frame::Count;
+use std::alloc::{AllocError, Allocator, Global};
+use std::mem;
+
+/// What is kept of a device control string, as far as a limit allows.
+#[derive(Drop)]
+pub struct Unfinished<A: Allocator = Global> {
+    /// The string itself.
+    pub hooked: Hooked<A>,
+    /// How many bytes of data came.
+    pub data: Count,
+    /// How many are kept at most.
+    pub limit: Option<usize>,
+}
+
+impl<A: Allocator + Copy> Unfinished<A> {
+    /// Nothing is unfinished. Takes no memory.
+    #[tactic(auto, unfolding(crate::specs::Fed::Hooks))]
+    pub fn new(limit: Option<usize>) -> Unfinished<A>
+        ensures hooks { Hooks limit result plain }
+        ensures nothing { result.hooked ≡ hooked.Nothing }
+    {
+        Unfinished {
+            hooked: Hooked::Nothing,
+            data: Count::new(),
+            limit,
+        }
+    }
+
+    /// What is unfinished, in place of which nothing is.
+    pub fn take(&mut self) -> Unfinished<A>
+        ensures taken { result ≡ self.old }
+        ensures nothing { self.new.hooked ≡ hooked.Nothing }
+    {
+        let empty = Unfinished::new(self.limit);
+        mem::replace(self, empty)
+    }
+
+    /// A string begins.
+    #[tactic(auto, unfolding(crate::specs::Fed::Hooks))]
+    pub fn begin(
+        &mut self,
+        alloc: A,
+        kind: StringKind,
+        byte: u8,
+        params: &[i64],
+        intermediates: &[u8],
+    ) -> Result<(), AllocError>
+        ensures { (limit : Option ℕ) (m : Mode) → Hooks limit self.old m → OnOk result (Hooks limit self.new (opened kind byte params.now intermediates.now)) }
+    {
+        self.hooked = begin(alloc, kind, byte, params, intermediates)?;
+        self.data.clear();
+        Ok(())
+    }
+
+    /// Whether it is a mode, of which nothing has to be kept.
+    #[tactic(auto, unfolding(crate::specs::Fed::Hooks))]
+    #[inline]
+    pub fn is_entered(&self) -> bool
+        ensures entered { (limit : Option ℕ) (m : Mode) → Hooks limit self.now m → result ≡ is_entered m }
+        ensures mode { result ≡ is_mode self.now.hooked }
+    {
+        matches!(self.hooked, Hooked::Entered)
+    }
+
+    /// One more byte of its data. Past the limit all that was kept of it is dropped.
+    #[tactic(auto, unfolding(crate::specs::Fed::Hooks), using(crate::proofs::DataLimits::counts_more, crate::proofs::DataLimits::passed, crate::proofs::DataLimits::over_stays))]
+    #[inline]
+    pub fn push(&mut self, byte: u8) -> Result<(), AllocError>
+        ensures hooks { (limit : Option ℕ) (m : Mode) → Hooks limit self.old m → OnOk result (Hooks limit self.new (taken m byte)) }
+        ensures mode { OnOk result (is_mode self.new.hooked ≡ is_mode self.old.hooked) }
+    {
+        match &mut self.hooked {
+            Hooked::Nothing | Hooked::Entered | Hooked::Over => return Ok(()),
+            Hooked::Sixel(text) => {
+                if self.data.add(self.limit, 1) {
+                    return text.push(byte);
+                }
+            }
+            Hooked::Termcap(builder) => {
+                if self.data.add(self.limit, 1) {
+                    return builder.push(byte);
+                }
+            }
+            Hooked::Short(builder) => {
+                if self.data.add(self.limit, 1) {
+                    return builder.push(byte);
+                }
+            }
+        }
+        self.hooked = Hooked::Over;
+        Ok(())
+    }
+
+    /// More bytes of its data, as `push` of each takes them. They are taken at once where the limit has room for all.
+    pub fn push_run(&mut self, bytes: &[u8]) -> Result<(), AllocError>
+        ensures { OnOk result (FoldsTo TakesData self.old bytes.now self.new) }
+    {
+        if self.has_room(bytes.len()) {
+            return self.push_whole(bytes);
+        }
+        for byte in bytes {
+            self.push(*byte)?;
+        }
+        Ok(())
+    }
+
+    // Whether so many bytes more are within the limit.
+    fn has_room(&self, more: usize) -> bool
+        ensures { result ≡ true → HasRoom self.now.limit self.now.data more }
+    {
+        let most = self.limit.unwrap_or(usize::MAX);
+        !self.data.is_over && self.data.bytes <= most && more <= most - self.data.bytes
+    }
+
+    // More bytes of its data, for which the limit has room.
+    fn push_whole(&mut self, bytes: &[u8]) -> Result<(), AllocError>
+        requires { HasRoom self.old.limit self.old.data (length bytes.now) }
+        ensures { OnOk result (FoldsTo TakesData self.old bytes.now self.new) }
+    {
+        self.data.bytes += bytes.len();
+        match &mut self.hooked {
+            Hooked::Nothing | Hooked::Entered | Hooked::Over => Ok(()),
+            Hooked::Sixel(text) => text.push_run(bytes),
+            Hooked::Termcap(builder) => builder.push_run(bytes),
+            Hooked::Short(builder) => builder.push_run(bytes),
+        }
+    }
+
+    /// Whether it is a sixel image: then its end gives an image or nothing.
+    #[tactic(auto, unfolding(crate::specs::Fed::Hooks), using(crate::proofs::Images::sixel_images))]
+    #[inline]
+    pub fn is_sixel(&self) -> bool
+        ensures { IsTrue result → (limit : Option ℕ) (m : Mode) → Hooks limit self.now m → list_all (is_image {A = A}) (closed_gives limit m) ≡ true }
+    {
+        matches!(self.hooked, Hooked::Sixel(_))
+    }
+
+    /// Drops all that is kept. Nothing is unfinished then.
+    #[tactic(auto, unfolding(crate::specs::Fed::Hooks))]
+    pub fn clear(&mut self)
+        ensures { (limit : Option ℕ) (m : Mode) → Hooks limit self.old m → Hooks limit self.new plain }
+    {
+        self.hooked = Hooked::Nothing;
+    }
+
+    /// The action of its end, where it has one. Nothing is unfinished then.
+    #[tactic(auto, unfolding(crate::specs::Fed::Hooks))]
+    pub fn end(&mut self, alloc: A) -> Result<Option<Action<A>>, AllocError>
+        ensures hooks { (limit : Option ℕ) (m : Mode) → Hooks limit self.old m → Hooks limit self.new plain }
+        ensures gives { (limit : Option ℕ) (m : Mode) → Hooks limit self.old m → IfOk result (λ o. option_to_list (option_map value_of o) ≡ closed_gives limit m) }
+    {
+        end(alloc, mem::replace(&mut self.hooked, Hooked::Nothing))
+    }
+
+    /// How many bytes of its data are kept; 0 once they passed the limit, and where none have to be.
+    #[tactic(auto, unfolding(crate::specs::Fed::Hooks), using(crate::proofs::DataLimits::zero_within))]
+    pub fn kept(&self) -> usize
+        ensures counts { (limit : Option ℕ) (m : Mode) → Hooks limit self.now m → result ≡ min (kept_within limit (data_count m)) most }
+        ensures nothing { self.now.hooked ≡ hooked.Nothing → result ≡ 0 }
+    {
+        match self.hooked {
+            Hooked::Nothing | Hooked::Entered | Hooked::Over => 0,
+            Hooked::Sixel(_) | Hooked::Termcap(_) | Hooked::Short(_) => self.data.value(),
+        }
+    }
+}

@@ -1,0 +1,45 @@
+//! Control sequences, appended to a text with no action made of them.
+ghost use Rattle.std.specs.Prelude.{◌≡◌, ◌++◌, IsTrue, OnOk};
+ghost use Rattle.esc_below.specs.Csis.{csi_text, unspecified};
+ghost use Rattle.esc_write.specs.Plain.{IsNumber, IsPlain};
+
+use crate::short_text::ShortText;
+use esc_below::csi::is_unspecified;
+use esc_below::{BorrowedSequence, CsiParam, Text};
+use std::alloc::{AllocError, Allocator};
+
+/// Appends the text of a control sequence that has no name; a short one is gathered first.
+pub fn append_entries<A: Allocator>(
+    text: &mut Text<A>,
+    params: &[CsiParam],
+    parameters_truncated: bool,
+    control: u8,
+) -> Result<(), AllocError>
+    ensures { OnOk result (text.new ≡ text.old ++ csi_text (unspecified params.now parameters_truncated control)) }
+{
+    let mut short = ShortText::new();
+    if short.push_sequence(params, control) {
+        text.push_str(short.as_str())
+    } else {
+        text.push_display(&BorrowedSequence {
+            params,
+            parameters_truncated,
+            control,
+        })
+    }
+}
+
+/// Whether the text of a control sequence is that of its entries: it has no name, or its only entry is a number, also where that
+/// is a rendition.
+pub fn is_plain(params: &[CsiParam], parameters_truncated: bool, control: u8) -> bool
+    ensures { IsTrue result → IsPlain params.now parameters_truncated control }
+{
+    is_number(params) || is_unspecified(params, parameters_truncated, control)
+}
+
+// Whether the only entry is a number.
+fn is_number(params: &[CsiParam]) -> bool
+    ensures { IsTrue result → IsNumber params.now }
+{
+    matches!(params, [CsiParam::Integer(_)])
+}

@@ -1,0 +1,19 @@
+//! From actions to text: [`encode`], and the texts of control sequences and commands that are written as they came.
+//!
+//! The text of a list of actions is that of its values, with a string terminator after each that needs one. There is no parser
+//! here: `esc_normal` joins what this crate writes with what `esc_parse` reads.
+#![tactic(auto)]
+
+pub mod commands;
+pub mod direct;
+mod encode_error;
+pub mod encoding;
+pub mod indexed;
+mod runs;
+pub mod short_numbers;
+mod short_sequence;
+mod short_text;
+
+pub use commands::is_plain_link;
+pub use encode_error::EncodeError;
+pub use encoding::encode;

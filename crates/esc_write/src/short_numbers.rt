@@ -1,0 +1,229 @@
+//! Control sequences of short numbers, appended to a text from arrays of bytes whose lengths are known as the program is made.
+ghost use Rattle.std.specs.Prelude.{◌≡◌, ◌<◌, ◌≤◌, ◌∷◌, ◌++◌, [], Bool, pos, IfSome, OnOk};
+ghost use Rattle.std.specs.Str.{IsAscii};
+ghost use Rattle.esc_below.specs.Csis.{csi_text, unspecified};
+ghost use Rattle.esc_below.specs.declared.csi_param.CsiParam.TheVariants.{Integer, P};
+ghost use Rattle.esc_write.specs.Plain.{IsPlain, indexed_text, number_text, short_text};
+
+use crate::indexed::Indexed;
+use esc_below::{CsiParam, Text};
+use std::alloc::{AllocError, Allocator};
+use std::str;
+
+// ASCII as a text.
+#[inline(always)]
+fn ascii(bytes: &[u8]) -> &str
+    requires { IsAscii bytes.now }
+    ensures { result.now ≡ bytes.now }
+{
+    unsafe { str::from_utf8_unchecked(bytes) }
+}
+
+// The number that an entry is, where it is below 256.
+#[inline(always)]
+fn small_number(param: CsiParam) -> Option<u8>
+    ensures { IfSome result (λ n. param ≡ Integer (pos n)) }
+{
+    let CsiParam::Integer(number) = param else {
+        return None;
+    };
+    match u8::try_from(number) {
+        Ok(small) => Some(small),
+        Err(_) => None,
+    }
+}
+
+// The number that is the only entry, where it is below 256.
+#[inline(always)]
+fn lone_number(params: &[CsiParam]) -> Option<u8>
+    ensures { IfSome result (λ n. params.now ≡ Integer (pos n) ∷ []) }
+{
+    let [param] = params else {
+        return None;
+    };
+    small_number(*param)
+}
+
+// These numbers, where the entries are such ones, with `;` between them.
+#[inline(always)]
+fn palette_numbers(params: &[CsiParam]) -> Option<Indexed>
+    ensures entries { IfSome result (λ i. params.now ≡ Integer (pos i.first) ∷ P 0x3b ∷ Integer (pos i.second) ∷ P 0x3b ∷ Integer (pos i.third) ∷ []) }
+{
+    let [one, CsiParam::P(b';'), two, CsiParam::P(b';'), three] = params else {
+        return None;
+    };
+    let first = small_number(*one)?;
+    let second = small_number(*two)?;
+    let third = small_number(*three)?;
+    if first < 25 || first >= 100 || second >= 10 {
+        return None;
+    }
+    Some(Indexed {
+        first,
+        second,
+        third,
+    })
+}
+
+// Appends the text of a control sequence of one number.
+#[inline(always)]
+fn append_number<A: Allocator>(
+    text: &mut Text<A>,
+    number: u8,
+    control: u8,
+) -> Result<(), AllocError>
+    requires { control < 128 }
+    ensures { OnOk result (text.new ≡ text.old ++ number_text number control) }
+{
+    if number < 10 {
+        text.push_str(ascii(&[0x1b, b'[', 48 + number, control]))
+    } else if number < 100 {
+        text.push_str(ascii(&[0x1b, b'[', 48 + number / 10, 48 + number % 10, control]))
+    } else {
+        text.push_str(ascii(&[
+            0x1b,
+            b'[',
+            48 + number / 100,
+            48 + number / 10 % 10,
+            48 + number % 10,
+            control,
+        ]))
+    }
+}
+
+// Appends the text of a control sequence of such numbers, of which the third has one digit.
+#[inline(always)]
+fn append_one<A: Allocator>(
+    text: &mut Text<A>,
+    numbers: Indexed,
+    control: u8,
+) -> Result<(), AllocError>
+    requires third { numbers.third < 10 }
+    requires ascii { control < 128 }
+    ensures { OnOk result (text.new ≡ text.old ++ indexed_text numbers.first numbers.second numbers.third control) }
+{
+    text.push_str(ascii(&[
+        0x1b,
+        b'[',
+        48 + numbers.first / 10,
+        48 + numbers.first % 10,
+        b';',
+        48 + numbers.second,
+        b';',
+        48 + numbers.third,
+        control,
+    ]))
+}
+
+// The same, of which it has two.
+#[inline(always)]
+fn append_two<A: Allocator>(
+    text: &mut Text<A>,
+    numbers: Indexed,
+    control: u8,
+) -> Result<(), AllocError>
+    requires third_low { 10 ≤ numbers.third }
+    requires third { numbers.third < 100 }
+    requires ascii { control < 128 }
+    ensures { OnOk result (text.new ≡ text.old ++ indexed_text numbers.first numbers.second numbers.third control) }
+{
+    text.push_str(ascii(&[
+        0x1b,
+        b'[',
+        48 + numbers.first / 10,
+        48 + numbers.first % 10,
+        b';',
+        48 + numbers.second,
+        b';',
+        48 + numbers.third / 10,
+        48 + numbers.third % 10,
+        control,
+    ]))
+}
+
+// The same, of which it has three.
+#[inline(always)]
+fn append_three<A: Allocator>(
+    text: &mut Text<A>,
+    numbers: Indexed,
+    control: u8,
+) -> Result<(), AllocError>
+    requires third { 100 ≤ numbers.third }
+    requires ascii { control < 128 }
+    ensures { OnOk result (text.new ≡ text.old ++ indexed_text numbers.first numbers.second numbers.third control) }
+{
+    text.push_str(ascii(&[
+        0x1b,
+        b'[',
+        48 + numbers.first / 10,
+        48 + numbers.first % 10,
+        b';',
+        48 + numbers.second,
+        b';',
+        48 + numbers.third / 100,
+        48 + numbers.third / 10 % 10,
+        48 + numbers.third % 10,
+        control,
+    ]))
+}
+
+// Appends the text of a control sequence of such numbers.
+#[inline(always)]
+fn append_indexed<A: Allocator>(
+    text: &mut Text<A>,
+    numbers: Indexed,
+    control: u8,
+) -> Result<(), AllocError>
+    requires { control < 128 }
+    ensures { OnOk result (text.new ≡ text.old ++ indexed_text numbers.first numbers.second numbers.third control) }
+{
+    if numbers.third < 10 {
+        append_one(text, numbers, control)
+    } else if numbers.third < 100 {
+        append_two(text, numbers, control)
+    } else {
+        append_three(text, numbers, control)
+    }
+}
+
+/// A number alone, or the numbers of a colour of the palette.
+#[derive(Clone, Copy)]
+pub enum ShortNumbers {
+    /// A number alone.
+    Lone(u8),
+    /// The numbers of a colour of the palette.
+    Palette(Indexed),
+}
+
+impl ShortNumbers {
+    /// What the entries are, where the control sequence is one of these, and its text that of the entries.
+    #[inline(always)]
+    pub fn of(params: &[CsiParam], control: u8) -> Option<ShortNumbers>
+        ensures plain { IfSome result (λ s. (more : Bool) → IsPlain params.now more control) }
+        ensures text { IfSome result (λ s. (more : Bool) → csi_text (unspecified params.now more control) ≡ short_text s control) }
+        ensures ascii { IfSome result (λ s. control < 128) }
+    {
+        if control >= 128 {
+            return None;
+        }
+        if let Some(number) = lone_number(params) {
+            return Some(ShortNumbers::Lone(number));
+        }
+        match palette_numbers(params) {
+            Some(numbers) => Some(ShortNumbers::Palette(numbers)),
+            None => None,
+        }
+    }
+
+    /// Appends the text of the control sequence.
+    #[inline(always)]
+    pub fn append_to<A: Allocator>(self, text: &mut Text<A>, control: u8) -> Result<(), AllocError>
+        requires { control < 128 }
+        ensures { OnOk result (text.new ≡ text.old ++ short_text self control) }
+    {
+        match self {
+            ShortNumbers::Lone(number) => append_number(text, number, control),
+            ShortNumbers::Palette(numbers) => append_indexed(text, numbers, control),
+        }
+    }
+}

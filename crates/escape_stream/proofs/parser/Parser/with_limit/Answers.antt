@@ -1,8 +1,0 @@
-use Rattle.std.proofs.Common.{Some, sym, subst}
-use Rattle.esc_actions.proofs.Meanings.{mode_nil}
-use Rattle.escape_stream.proofs.parser.Parser.with_limit.Goals as goal
-use Rattle.escape_stream.specs.Fed.{Hooks, WasFedWithin}
-
-pub returns : goal.returns
-unfolding WasFedWithin
-returns g c = (c.with_limit.ensures, subst (λ m. Hooks (Some c.args.limit) c.new.result m) (sym (mode_nil (Some c.args.limit))) c.new.ensures.hooks)

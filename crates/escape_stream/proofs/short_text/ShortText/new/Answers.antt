@@ -1,6 +1,0 @@
-use Rattle.std.proofs.Common.{lit≤}
-use Rattle.escape_stream.proofs.ShortTexts.{zeros_ascii}
-use Rattle.escape_stream.proofs.short_text.ShortText.new.Goals as goal
-
-pub invariant_of-result : goal.invariant_of-result
-invariant_of-result c = (lit≤ tt, zeros_ascii 128)

@@ -1,9 +1,0 @@
-use Rattle.std.proofs.Common.{IsUtf8}
-use Rattle.std.specs.Str.Iter.{chars_rest}
-use Rattle.escape_stream.proofs.TextRuns.{HasTaken}
-use Rattle.escape_stream.proofs.sink.Sink.receive_str.Given as goal
-
-abbrev pub invariant-loop-c : goal.invariant-loop-c
-invariant-loop-c g l =
-    g.Self.Sink.is_ready l.self × IsUtf8 (chars_rest l.c-iterator)
-    × HasTaken g.T.FromChar.print g.Self.Sink.takes l.fn.text (chars_rest l.c-iterator) l.initial.self l.self

@@ -1,5 +1,0 @@
-use Rattle.escape_stream.proofs.Spelling.{ok_both}
-use Rattle.escape_stream.proofs.sink.Spell.write_command.Goals as goal
-
-pub returns-in-Ok : goal.returns-in-Ok
-returns-in-Ok g c = ok_both _ _ c.write_display.result (λ w. (c.in-Ok.command, c.in-Ok.is, w.0, w.1)) c.write_display.ensures
