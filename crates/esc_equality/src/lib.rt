@@ -1,4 +1,5 @@
-//! Equality is equality of values: `==` of each public type that has it is true exactly where the two are the same.
+//! Equality is equality of values: `==` of each public type that has it is true exactly where the two are the same. Of the errors of
+//! `encode` and `normalise` their own crates say it, `esc_write` and `esc_normal`.
 //!
 //! Most of these types derive `==`, and a derive has no clause of its own; here each is the body of a function that has one.
 #![tactic(auto)]
@@ -7,6 +8,7 @@ pub mod actions;
 pub mod below;
 pub mod commands;
 pub mod device;
+pub mod errors;
 pub mod iterm;
 pub mod kitty;
 pub mod lists;

@@ -10,6 +10,6 @@ mod speller;
 mod watched;
 
 pub use normalisation::{is_normal, is_normal_limited, normalise, normalise_limited};
-pub use normalise_error::NormaliseError;
+pub use normalise_error::{NormaliseError, same_normalise_error};
 pub use spell::Spell;
 pub use watched::Watched;

@@ -15,5 +15,5 @@ mod short_sequence;
 mod short_text;
 
 pub use commands::is_plain_link;
-pub use encode_error::EncodeError;
+pub use encode_error::{EncodeError, same_encode_error};
 pub use encoding::encode;
