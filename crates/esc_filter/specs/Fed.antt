@@ -1,5 +1,5 @@
 -- What a filter was fed.
-use Rattle.std.specs.Prelude.{ℕ, ◌≡◌, Bool, true, false, List, Some}
+use Rattle.std.specs.Prelude.{ℕ, ◌≡◌, Bool, true, false, List, [], Some}
 use Rattle.esc_actions.specs.Values.{Value, value_of}
 use Rattle.esc_actions.specs.declared.action.Action.{Action}
 use Rattle.esc_parse.specs.Fed.{IsBroken as IsBrokenParser, WasFedWithin}
@@ -28,3 +28,7 @@ added_by f = f.spell.text
 -- its policy
 abbrev pub policy_of : {P A : Type 0} → Filter P A → P
 policy_of f = f.policy
+
+-- the filter, of this limit and this policy, which admits these values, was fed nothing
+abbrev pub IsFresh : {P A : Type 0} → ℕ → (Value A → Bool) → P → Filter P A → Type 0
+IsFresh limit admits policy f = WasFed limit admits [] f × (policy_of f ≡ policy)

@@ -2,7 +2,7 @@
 ghost use Rattle.std.specs.Prelude.{◌≡◌, ◌<◌, ◌++◌, ◌↔◌, ℕ, List, false, length, IfErr, IsErrOf, IsTrue, OnErr, OnOk, Some};
 ghost use Rattle.std.specs.Io.KnownBytes.{Appends, IsAtEnd};
 ghost use Rattle.esc_normal.specs.Io.{AppendsPrefix, has_failed, inner_of};
-ghost use Rattle.esc_filter.specs.Fed.{WasFed, policy_of};
+ghost use Rattle.esc_filter.specs.Fed.{IsFresh, WasFed, policy_of};
 ghost use Rattle.esc_filter.specs.Passing.{passed_text};
 ghost use Rattle.esc_filter.specs.Streams.{HasBegun, HasFiltered, HasWritten};
 
@@ -68,10 +68,32 @@ fn filter_by<R: Read, W: Write, P: Admit<A> + Drop, A: Allocator + Copy>(
     ensures write_fault { has_failed writer.old ≡ false → (IsErrOf result FilterError.Write ↔ IsTrue (has_failed writer.new)) }
 {
     let mut filter = Filter::new(alloc, limit, policy);
+    filter_all(&mut filter, reader, writer, chunk)
+}
+
+// The same, by a filter that was fed nothing yet.
+fn filter_all<R: Read, W: Write, P: Admit<A> + Drop, A: Allocator + Copy>(
+    filter: &mut Filter<P, A>,
+    reader: &mut Watched<R>,
+    writer: &mut Watched<W>,
+    chunk: &mut [u8],
+) -> Result<(), FilterError>
+    requires { 0 < length chunk.old }
+    ensures read_all { OnOk result (IsAtEnd (R.remaining (inner_of reader.new))) }
+    ensures written { (limit : ℕ) (policy : P) → IsFresh limit (P.admits policy) policy filter.old → OnOk result (HasWritten {A = A} (P.admits policy) limit
+        (R.remaining (inner_of reader.old)) (R.remaining (inner_of reader.new)) (W.contents (inner_of writer.old)) (W.contents (inner_of writer.new))) }
+    ensures decided { (limit : ℕ) (policy : P) → IsFresh limit (P.admits policy) policy filter.old → IsErrOf result FilterError.Read
+        → HasWritten {A = A} (P.admits policy) limit (R.remaining (inner_of reader.old)) (R.remaining (inner_of reader.new))
+        (W.contents (inner_of writer.old)) (W.contents (inner_of writer.new)) }
+    ensures beginning { (limit : ℕ) (policy : P) → IsFresh limit (P.admits policy) policy filter.old → OnErr result (HasBegun {A = A} (P.admits policy) limit
+        (R.remaining (inner_of reader.old)) (R.remaining (inner_of reader.new)) (W.contents (inner_of writer.old)) (W.contents (inner_of writer.new))) }
+    ensures read_fault { has_failed reader.old ≡ false → (IsErrOf result FilterError.Read ↔ IsTrue (has_failed reader.new)) }
+    ensures write_fault { has_failed writer.old ≡ false → (IsErrOf result FilterError.Write ↔ IsTrue (has_failed writer.new)) }
+{
     for _ in 0..u64::MAX {
         match reader.read(chunk) {
             Ok(0) => return Ok(()),
-            Ok(n) => pass_on(&mut filter, &chunk[..n], writer)?,
+            Ok(n) => pass_on(filter, &chunk[..n], writer)?,
             Err(_) => return Err(FilterError::Read),
         }
     }
