@@ -16,7 +16,7 @@ use std::fs::File;
 use std::io::Read;
 use std::process::ExitCode;
 use std::{env, io};
-use stream::{ended, filter_named};
+use stream::{ended, filter_named, tell};
 
 const DONE: u8 = 0;
 
@@ -65,11 +65,7 @@ fn main(rt: HostRuntime) -> ExitCode {
 
 // The words after the program's name.
 fn arguments(rt: &HostRuntime) -> io::Result<Vec<String>> {
-    let mut words = Vec::new(rt.alloc());
-    for word in env::args(rt)?.skip(1) {
-        words.push(word)?;
-    }
-    Ok(words)
+    Ok(env::args(rt)?.skip(1).collect(rt.alloc())?)
 }
 
 // The status after a text was printed.
@@ -81,7 +77,10 @@ fn said(printed: io::Result<()>) -> u8 {
 // written, none does.
 fn filter_all(rt: &HostRuntime, options: Options, files: &[String]) -> u8 {
     if files.is_empty() {
-        return status_of(filter_file(rt, options, "-"), DONE).unwrap_or_else(|last| last);
+        return match status_of(filter_file(rt, options, "-"), DONE) {
+            Ok(status) => status,
+            Err(status) => status,
+        };
     }
     let mut status = DONE;
     for file in files {
@@ -111,7 +110,7 @@ fn filter_file(rt: &HostRuntime, options: Options, name: &str) -> Ended {
     match File::open(rt, name) {
         Ok(input) => filter_input(rt, options, name, input),
         Err(error) => {
-            let _ = eprintln!(rt; "escfilter: {name}: {error}");
+            tell(name, error, &mut rt.stderr());
             Ended::Unread
         }
     }

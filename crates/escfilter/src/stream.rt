@@ -12,6 +12,7 @@ use esc_filter::{FilterError, filter_stream};
 use esc_normal::Watched;
 use std::alloc::Allocator;
 use std::cell::Cell;
+use std::fmt::Display;
 use std::io::{ErrorKind, Read, Write};
 
 /// Writes on `writer` what the policy of the options admits of what `reader` reads, as it comes; then, where the options ask for it, a
@@ -63,10 +64,10 @@ pub fn ended<E: Write>(
     if error == FilterError::Write {
         return unwritten(kind, faults);
     }
-    let _ = match kind {
-        Some(kind) => writeln!(faults, "escfilter: {name}: {kind}"),
-        None => writeln!(faults, "escfilter: {name}: {error}"),
-    };
+    match kind {
+        Some(kind) => tell(name, kind, faults),
+        None => tell(name, error, faults),
+    }
     Ended::Unread
 }
 
@@ -74,10 +75,15 @@ pub fn ended<E: Write>(
 fn unwritten<E: Write>(kind: Option<ErrorKind>, faults: &mut E) -> Ended
     ensures { result ≡ Ended.Whole → ⊥ }
 {
-    let _ = match kind {
+    match kind {
         Some(ErrorKind::BrokenPipe) => return Ended::Closed,
-        Some(kind) => writeln!(faults, "escfilter: standard output: {kind}"),
-        None => writeln!(faults, "escfilter: standard output: takes nothing"),
-    };
+        Some(kind) => tell("standard output", kind, faults),
+        None => tell("standard output", "takes nothing", faults),
+    }
     Ended::Unwritten
+}
+
+/// Writes a line on `faults`: what the stream of this name was hindered by.
+pub fn tell<D: Display + Drop, E: Write>(name: &str, hindrance: D, faults: &mut E) {
+    let _ = writeln!(faults, "escfilter: {name}: {hindrance}");
 }
