@@ -1,1 +1,2 @@
 pub mod PagesMore
+pub mod Unchanged

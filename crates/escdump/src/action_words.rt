@@ -1,19 +1,20 @@
 //! Actions in words.
 
-use crate::command_words::CommandWords;
+use crate::command_words::write_command;
 use crate::controls::CONTROLS;
-use crate::csi_words::CsiWords;
-use crate::device_words::{EnterWords, KittyWords, QueryWords, ShortWords};
+use crate::csi_words::write_csi;
+use crate::device_words::{write_enter, write_kitty, write_query, write_short, write_sixel};
 use crate::escapes::{ESCAPES, PLACES, SETS};
 use crate::functions::{Function, function_of};
 use crate::named::words_of;
+use crate::writing::write_words;
 use escape_stream::{Action, DeviceControlMode, Esc, EscCode};
 use std::alloc::{Allocator, Global};
 use std::fmt;
 use std::fmt::Display;
 
 /// An action in words. A character, a byte of data and the end of a mode have none.
-#[derive(Clone, Copy)]
+#[derive(Drop)]
 pub struct ActionWords<'a, A: Allocator = Global>(pub &'a Action<A>);
 
 impl<A: Allocator> Display for ActionWords<'_, A> {
@@ -22,14 +23,11 @@ impl<A: Allocator> Display for ActionWords<'_, A> {
             Action::Print(_) | Action::PrintString(_) => Ok(()),
             Action::Control(code) => write_control(*code as u8, f),
             Action::Esc(esc) => write_escape(*esc, f),
-            Action::CSI(csi) => CsiWords(csi).fmt(f),
-            Action::OperatingSystemCommand(command) => CommandWords(command.as_ref()).fmt(f),
-            Action::KittyImage(image) => KittyWords(image.as_ref()).fmt(f),
-            Action::Sixel(image) => {
-                let (width, height) = image.as_ref().dimensions();
-                write!(f, "DCS sixel image, width {width}, height {height}")
-            }
-            Action::XtGetTcap(names) => QueryWords(names.as_slice()).fmt(f),
+            Action::CSI(csi) => write_csi(csi, f),
+            Action::OperatingSystemCommand(command) => write_command(command.as_ref(), f),
+            Action::KittyImage(image) => write_kitty(image.as_ref(), f),
+            Action::Sixel(image) => write_sixel(image.as_ref(), f),
+            Action::XtGetTcap(names) => write_query(names.as_slice(), f),
             Action::DeviceControl(mode) => write_mode(mode, f),
         }
     }
@@ -38,7 +36,7 @@ impl<A: Allocator> Display for ActionWords<'_, A> {
 // A control.
 fn write_control<W: fmt::Write>(number: u8, f: &mut fmt::Formatter<W>) -> fmt::Result {
     let words = words_of(CONTROLS, i64::from(number)).unwrap_or("without a name");
-    write!(f, "control {words}")
+    write_words(&["control ", words], f)
 }
 
 // An escape sequence.
@@ -48,7 +46,7 @@ fn write_escape<W: fmt::Write>(esc: Esc, f: &mut fmt::Formatter<W>) -> fmt::Resu
         (Some(intermediate), last) => match words_of(PLACES, i64::from(intermediate)) {
             Some(place) => {
                 let set = words_of(SETS, i64::from(last)).unwrap_or("another character set");
-                write!(f, "ESC SCS {place} is {set}")
+                write_words(&["ESC SCS ", place, " is ", set], f)
             }
             None => write_named(&[intermediate], last, f),
         },
@@ -62,7 +60,7 @@ fn write_named<W: fmt::Write>(
     f: &mut fmt::Formatter<W>,
 ) -> fmt::Result {
     match function_of(ESCAPES, intermediates, last) {
-        Some(Function(_, name, words, _)) => write!(f, "ESC {name} {words}"),
+        Some(Function(_, name, words, _)) => write_words(&["ESC ", name, " ", words], f),
         None => f.write_str("ESC without a name"),
     }
 }
@@ -86,8 +84,8 @@ fn write_mode<A: Allocator, W: fmt::Write>(
     f: &mut fmt::Formatter<W>,
 ) -> fmt::Result {
     match mode {
-        DeviceControlMode::Enter(enter) => EnterWords(enter.as_ref()).fmt(f),
-        DeviceControlMode::ShortDeviceControl(short) => ShortWords(short.as_ref()).fmt(f),
+        DeviceControlMode::Enter(enter) => write_enter(enter.as_ref(), f),
+        DeviceControlMode::ShortDeviceControl(short) => write_short(short.as_ref(), f),
         DeviceControlMode::Data(_) | DeviceControlMode::Exit => Ok(()),
     }
 }

@@ -1,60 +1,48 @@
 //! Operating system commands in words.
 
+use crate::writing::{write_between, write_debug, write_quoted, write_words};
 use escape_stream::osc::{
-    ChangeColorPair, ColorOrQuery, DynamicColorNumber, Hyperlink, OperatingSystemCommand, Progress,
+    ChangeColorPair, ColorOrQuery, DynamicColorNumber, Hyperlink, OperatingSystemCommand, Params,
+    Progress, Selection,
 };
 use escape_stream::{Items, Text};
-use std::alloc::{Allocator, Global};
+use std::alloc::Allocator;
 use std::fmt::Display;
 use std::{fmt, str};
 
-/// An operating system command in words.
-#[derive(Clone, Copy)]
-pub struct CommandWords<'a, A: Allocator = Global>(pub &'a OperatingSystemCommand<A>);
-
-impl<A: Allocator> Display for CommandWords<'_, A> {
-    fn fmt<W: fmt::Write>(&self, f: &mut fmt::Formatter<W>) -> fmt::Result {
-        match self.0 {
-            OperatingSystemCommand::SetIconNameAndWindowTitle(text) => {
-                write_text("OSC 0 icon name and window title", text, f)
-            }
-            OperatingSystemCommand::SetIconName(text) => write_text("OSC 1 icon name", text, f),
-            OperatingSystemCommand::SetWindowTitle(text) => {
-                write_text("OSC 2 window title", text, f)
-            }
-            OperatingSystemCommand::SetWindowTitleSun(text) => {
-                write_text("OSC l window title", text, f)
-            }
-            OperatingSystemCommand::SetIconNameSun(text) => write_text("OSC L icon name", text, f),
-            OperatingSystemCommand::SystemNotification(text) => {
-                write_text("OSC 9 notification", text, f)
-            }
-            OperatingSystemCommand::CurrentWorkingDirectory(text) => {
-                write_text("OSC 7 working directory", text, f)
-            }
-            OperatingSystemCommand::SetHyperlink(link) => write_link(link.as_ref(), f),
-            OperatingSystemCommand::ClearSelection(at) => write!(
-                f,
-                "OSC 52 clipboard \"{at}\" is cleared"
-            ),
-            OperatingSystemCommand::QuerySelection(at) => write!(
-                f,
-                "OSC 52 clipboard \"{at}\" is asked for"
-            ),
-            OperatingSystemCommand::SetSelection(at, text) => write!(
-                f,
-                "OSC 52 clipboard \"{at}\" is set to \"{text}\""
-            ),
-            OperatingSystemCommand::ITermProprietary(command) => write!(
-                f,
-                "OSC 1337 iTerm2 {command:?}"
-            ),
-            OperatingSystemCommand::FinalTermSemanticPrompt(prompt) => write!(
-                f,
-                "OSC 133 prompt {prompt:?}"
-            ),
-            other => write_other(other, f),
+/// Writes an operating system command in words.
+pub fn write_command<A: Allocator, W: fmt::Write>(
+    command: &OperatingSystemCommand<A>,
+    f: &mut fmt::Formatter<W>,
+) -> fmt::Result {
+    match command {
+        OperatingSystemCommand::SetIconNameAndWindowTitle(text) => {
+            write_text("OSC 0 icon name and window title", text, f)
         }
+        OperatingSystemCommand::SetIconName(text) => write_text("OSC 1 icon name", text, f),
+        OperatingSystemCommand::SetWindowTitle(text) => write_text("OSC 2 window title", text, f),
+        OperatingSystemCommand::SetWindowTitleSun(text) => write_text(
+            "OSC l window title",
+            text,
+            f,
+        ),
+        OperatingSystemCommand::SetIconNameSun(text) => write_text("OSC L icon name", text, f),
+        OperatingSystemCommand::SystemNotification(text) => write_text(
+            "OSC 9 notification",
+            text,
+            f,
+        ),
+        OperatingSystemCommand::CurrentWorkingDirectory(text) => {
+            write_text("OSC 7 working directory", text, f)
+        }
+        OperatingSystemCommand::SetHyperlink(link) => write_link(link.as_ref(), f),
+        OperatingSystemCommand::ClearSelection(at) => write_selection(at, " is cleared", f),
+        OperatingSystemCommand::QuerySelection(at) => write_selection(at, " is asked for", f),
+        OperatingSystemCommand::SetSelection(at, text) => {
+            write_selection(at, " is set to", f)?;
+            write_text("", text, f)
+        }
+        other => write_other(other, f),
     }
 }
 
@@ -64,10 +52,21 @@ fn write_text<A: Allocator, W: fmt::Write>(
     text: &Text<A>,
     f: &mut fmt::Formatter<W>,
 ) -> fmt::Result {
-    write!(f, "{what} \"{text}\"")
+    f.write_str(what)?;
+    write_between(" \"", text, "\"", f)
 }
 
-// A command with colours, parts or numbers.
+// The clipboard, and what is done to it.
+fn write_selection<W: fmt::Write>(
+    at: &Selection,
+    done: &str,
+    f: &mut fmt::Formatter<W>,
+) -> fmt::Result {
+    write_between("OSC 52 clipboard \"", at, "\"", f)?;
+    f.write_str(done)
+}
+
+// A command with colours, parts or numbers, or of another program.
 fn write_other<A: Allocator, W: fmt::Write>(
     command: &OperatingSystemCommand<A>,
     f: &mut fmt::Formatter<W>,
@@ -79,15 +78,20 @@ fn write_other<A: Allocator, W: fmt::Write>(
             colors.as_slice(),
             f,
         ),
-        OperatingSystemCommand::ResetDynamicColor(number) => write!(
-            f,
-            "OSC {} reset {}",
-            100 + u32::from(number.number()),
-            colored(*number)
-        ),
+        OperatingSystemCommand::ResetDynamicColor(number) => write_reset(*number, f),
         OperatingSystemCommand::ResetColors(indexes) => write_indexes(indexes.as_slice(), f),
         OperatingSystemCommand::RxvtExtension(parts) => write_texts(parts.as_slice(), f),
         OperatingSystemCommand::ConEmuProgress(progress) => write_progress(progress, f),
+        OperatingSystemCommand::ITermProprietary(command) => write_debug(
+            "OSC 1337 iTerm2 ",
+            command,
+            f,
+        ),
+        OperatingSystemCommand::FinalTermSemanticPrompt(prompt) => write_debug(
+            "OSC 133 prompt ",
+            prompt,
+            f,
+        ),
         OperatingSystemCommand::Unspecified(parts) => write_parts(parts.as_slice(), f),
         _ => Ok(()),
     }
@@ -101,10 +105,17 @@ fn write_link<A: Allocator, W: fmt::Write>(
     let Some(link) = link else {
         return f.write_str("OSC 8 hyperlink ends");
     };
-    let uri = &link.uri;
-    write!(f, "OSC 8 hyperlink \"{uri}\"")?;
-    for (key, value) in &link.params {
-        write!(f, " {key}={value}")?;
+    write_text("OSC 8 hyperlink", &link.uri, f)?;
+    write_params(&link.params, f)
+}
+
+// The parameters of a link.
+fn write_params<A: Allocator, W: fmt::Write>(
+    params: &Params<A>,
+    f: &mut fmt::Formatter<W>,
+) -> fmt::Result {
+    for (key, value) in params {
+        write_words(&[" ", key, "=", value], f)?;
     }
     Ok(())
 }
@@ -112,14 +123,23 @@ fn write_link<A: Allocator, W: fmt::Write>(
 // Colours of the palette.
 fn write_pairs<W: fmt::Write>(pairs: &[ChangeColorPair], f: &mut fmt::Formatter<W>) -> fmt::Result {
     f.write_str("OSC 4")?;
-    let mut separator = " ";
+    let mut separator = " colour ";
     for pair in pairs {
-        let index = pair.palette_index;
-        let color = &pair.color;
-        write!(f, "{separator}colour {index} = {color}")?;
-        separator = ", ";
+        write_between(separator, &pair.palette_index, " = ", f)?;
+        pair.color.fmt(f)?;
+        separator = ", colour ";
     }
     Ok(())
+}
+
+// The reset of a dynamic colour.
+fn write_reset<W: fmt::Write>(
+    number: DynamicColorNumber,
+    f: &mut fmt::Formatter<W>,
+) -> fmt::Result {
+    let code = 100 + u32::from(number.number());
+    write_between("OSC ", &code, " reset ", f)?;
+    f.write_str(colored(number))
 }
 
 // Dynamic colours, from this one on.
@@ -128,16 +148,16 @@ fn write_colors<W: fmt::Write>(
     colors: &[ColorOrQuery],
     f: &mut fmt::Formatter<W>,
 ) -> fmt::Result {
-    let number = first.number();
-    write!(f, "OSC {number}")?;
+    write_between("OSC ", &first.number(), "", f)?;
     let mut next = Some(first);
     let mut separator = " ";
     for color in colors {
-        if let Some(at) = next {
-            let name = colored(at);
-            write!(f, "{separator}{name} = {color}")?;
-            next = at.next();
-        }
+        let Some(at) = next else {
+            break;
+        };
+        write_words(&[separator, colored(at), " = "], f)?;
+        color.fmt(f)?;
+        next = at.next();
         separator = ", ";
     }
     Ok(())
@@ -166,7 +186,7 @@ fn write_indexes<W: fmt::Write>(indexes: &[u8], f: &mut fmt::Formatter<W>) -> fm
     }
     f.write_str("OSC 104 reset colours")?;
     for index in indexes {
-        write!(f, " {index}")?;
+        write_between(" ", index, "", f)?;
     }
     Ok(())
 }
@@ -177,21 +197,21 @@ fn write_texts<A: Allocator, W: fmt::Write>(
     f: &mut fmt::Formatter<W>,
 ) -> fmt::Result {
     f.write_str("OSC 777 rxvt")?;
-    for part in parts {
-        write!(f, " \"{part}\"")?;
-    }
-    Ok(())
+    write_quoted(parts, f)
 }
 
 // The progress of a task.
 fn write_progress<W: fmt::Write>(progress: &Progress, f: &mut fmt::Formatter<W>) -> fmt::Result {
-    f.write_str("OSC 9;4 progress ")?;
-    match progress {
-        Progress::None => f.write_str("ends"),
-        Progress::SetPercentage(share) => write!(f, "{share} %"),
-        Progress::SetError(share) => write!(f, "{share} %, with an error"),
-        Progress::SetIndeterminate => f.write_str("without an end in sight"),
-        Progress::Paused => f.write_str("pauses"),
+    let (share, words) = match progress {
+        Progress::None => (None, "ends"),
+        Progress::SetPercentage(share) => (Some(share), " %"),
+        Progress::SetError(share) => (Some(share), " %, with an error"),
+        Progress::SetIndeterminate => (None, "without an end in sight"),
+        Progress::Paused => (None, "pauses"),
+    };
+    match share {
+        Some(share) => write_between("OSC 9;4 progress ", share, words, f),
+        None => write_words(&["OSC 9;4 progress ", words], f),
     }
 }
 
@@ -204,7 +224,7 @@ fn write_parts<A: Allocator, W: fmt::Write>(
     let mut separator = " ";
     for part in parts {
         let text = str::from_utf8(part.as_slice()).unwrap_or("\u{fffd}");
-        write!(f, "{separator}{text}")?;
+        write_words(&[separator, text], f)?;
         separator = ";";
     }
     f.write_str(", not interpreted")

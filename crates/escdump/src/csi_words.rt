@@ -5,26 +5,22 @@ use crate::functions::{Function, Parameters};
 use crate::marks::{Marks, is_mark};
 use crate::modes::mode_words;
 use crate::named::words_of;
-use crate::renditions::{Renditions, rendition_words};
+use crate::renditions::{rendition_words, write_renditions};
+use crate::writing::{write_between, write_words};
 use escape_stream::csi::Unspecified;
 use escape_stream::{CSI, CsiParam};
-use std::alloc::{Allocator, Global};
+use std::alloc::Allocator;
 use std::fmt;
 use std::fmt::Display;
 
-/// A control sequence in words.
-#[derive(Clone, Copy)]
-pub struct CsiWords<'a, A: Allocator = Global>(pub &'a CSI<A>);
-
-impl<A: Allocator> Display for CsiWords<'_, A> {
-    fn fmt<W: fmt::Write>(&self, f: &mut fmt::Formatter<W>) -> fmt::Result {
-        match self.0 {
-            CSI::Sgr(sgr) => {
-                let rendition = rendition_words(*sgr);
-                write!(f, "CSI SGR {rendition}")
-            }
-            CSI::Unspecified(sequence) => write_sequence(sequence.as_ref(), f),
-        }
+/// Writes a control sequence in words.
+pub fn write_csi<A: Allocator, W: fmt::Write>(
+    csi: &CSI<A>,
+    f: &mut fmt::Formatter<W>,
+) -> fmt::Result {
+    match csi {
+        CSI::Sgr(sgr) => write_words(&["CSI SGR ", rendition_words(*sgr)], f),
+        CSI::Unspecified(sequence) => write_sequence(sequence.as_ref(), f),
     }
 }
 
@@ -33,24 +29,29 @@ fn write_sequence<A: Allocator, W: fmt::Write>(
     sequence: &Unspecified<A>,
     f: &mut fmt::Formatter<W>,
 ) -> fmt::Result {
-    let params = sequence.params.as_slice();
-    match named(params, sequence.control) {
-        Some(function) => write_function(function, params, f)?,
-        None => {
-            let last = char::from(sequence.control);
-            write!(f, "CSI without a name, of the final byte {last}")?;
-        }
-    }
+    write_named(sequence.params.as_slice(), sequence.control, f)?;
     if sequence.parameters_truncated {
-        f.write_str(", and more parameters")?;
+        return f.write_str(", and more parameters");
     }
     Ok(())
 }
 
 // The function of these entries and this final byte, where it has a name.
-fn named(params: &[CsiParam], last: u8) -> Option<Function> {
+fn write_named<W: fmt::Write>(
+    params: &[CsiParam],
+    last: u8,
+    f: &mut fmt::Formatter<W>,
+) -> fmt::Result {
     let marks = Marks::of(params);
-    control_function(marks.as_bytes(), last)
+    match control_function(marks.as_bytes(), last) {
+        Some(function) => write_function(function, params, f),
+        None => write_between(
+            "CSI without a name, of the final byte ",
+            &char::from(last),
+            "",
+            f,
+        ),
+    }
 }
 
 // A function with its parameters.
@@ -60,29 +61,24 @@ fn write_function<W: fmt::Write>(
     f: &mut fmt::Formatter<W>,
 ) -> fmt::Result {
     let Function(_, name, words, parameters) = function;
-    write!(f, "CSI {name} ")?;
-    let numbers = Entries(params);
+    write_words(&["CSI ", name, " ", words], f)?;
     match parameters {
-        Parameters::Renditions => {
-            let renditions = Renditions(params);
-            write!(f, "{renditions}")
-        }
-        Parameters::Numbers => write!(f, "{words}{numbers}"),
-        Parameters::Modes => {
-            let modes = Modes(params, false);
-            write!(f, "{words}{modes}")
-        }
-        Parameters::PrivateModes => {
-            let modes = Modes(params, true);
-            write!(f, "{words}{modes}")
-        }
+        Parameters::Renditions => write_renditions(params, f),
+        Parameters::Numbers => write_entries(params, f),
+        Parameters::Modes => write_modes(params, false, f),
+        Parameters::PrivateModes => write_modes(params, true, f),
         Parameters::OneOf(table) => {
-            write!(f, "{words}{numbers}")?;
-            match words_of(table, first_number(params)) {
-                Some(choice) => write!(f, " ({choice})"),
-                None => Ok(()),
-            }
+            write_entries(params, f)?;
+            write_choice(words_of(table, first_number(params)), f)
         }
+    }
+}
+
+// Words in parentheses, where there are any.
+fn write_choice<W: fmt::Write>(words: Option<&str>, f: &mut fmt::Formatter<W>) -> fmt::Result {
+    match words {
+        Some(words) => write_words(&[" (", words, ")"], f),
+        None => Ok(()),
     }
 }
 
@@ -96,48 +92,40 @@ fn first_number(params: &[CsiParam]) -> i64 {
     0
 }
 
-/// The numbers of some entries and what separates them, after a space.
-#[derive(Clone, Copy)]
-pub struct Entries<'a>(pub &'a [CsiParam]);
-
-impl Display for Entries<'_> {
-    fn fmt<W: fmt::Write>(&self, f: &mut fmt::Formatter<W>) -> fmt::Result {
-        let mut space = " ";
-        for param in self.0 {
-            if !is_mark(*param) {
-                f.write_str(space)?;
-                write_entry(*param, f)?;
-                space = "";
-            }
+/// Writes the numbers of some entries and what separates them, after a space.
+pub fn write_entries<W: fmt::Write>(params: &[CsiParam], f: &mut fmt::Formatter<W>) -> fmt::Result {
+    let mut space = " ";
+    for param in params {
+        if !is_mark(*param) {
+            f.write_str(space)?;
+            write_entry(*param, f)?;
+            space = "";
         }
-        Ok(())
     }
+    Ok(())
 }
 
 // A number, or what separates two.
 fn write_entry<W: fmt::Write>(param: CsiParam, f: &mut fmt::Formatter<W>) -> fmt::Result {
     match param {
-        CsiParam::Integer(number) => write!(f, "{number}"),
+        CsiParam::Integer(number) => number.fmt(f),
         CsiParam::P(byte) => f.write_char(char::from(byte)),
     }
 }
 
-// Modes by their numbers, each with what holds while it is set, and whether they are private.
-#[derive(Clone, Copy)]
-struct Modes<'a>(&'a [CsiParam], bool);
-
-impl Display for Modes<'_> {
-    fn fmt<W: fmt::Write>(&self, f: &mut fmt::Formatter<W>) -> fmt::Result {
-        let mut separator = " ";
-        for param in self.0 {
-            if let CsiParam::Integer(number) = *param {
-                write!(f, "{separator}{number}")?;
-                if let Some(words) = mode_words(number, self.1) {
-                    write!(f, " ({words})")?;
-                }
-                separator = ", ";
-            }
+// Modes, private ones or not, by their numbers, each with what holds while it is set.
+fn write_modes<W: fmt::Write>(
+    params: &[CsiParam],
+    is_private: bool,
+    f: &mut fmt::Formatter<W>,
+) -> fmt::Result {
+    let mut separator = " ";
+    for param in params {
+        if let CsiParam::Integer(number) = *param {
+            write_between(separator, &number, "", f)?;
+            write_choice(mode_words(number, is_private), f)?;
+            separator = ", ";
         }
-        Ok(())
     }
+    Ok(())
 }

@@ -2,9 +2,10 @@
 
 use crate::functions::Parameters::Numbers;
 use crate::functions::{Function, function_of};
+use crate::writing::{write_between, write_debug, write_quoted, write_words};
 use escape_stream::apc::{KittyImage, KittyImageTransmit};
-use escape_stream::{EnterDeviceControlMode, ShortDeviceControl, Text};
-use std::alloc::{Allocator, Global};
+use escape_stream::{EnterDeviceControlMode, ShortDeviceControl, Sixel, Text};
+use std::alloc::Allocator;
 use std::fmt;
 use std::fmt::Display;
 
@@ -38,23 +39,21 @@ const DEVICE_CONTROLS: &[Function] = &[
     Function("|", "DECUDK", "user-defined keys", Numbers),
 ];
 
-/// The header of a device control string in words.
-#[derive(Clone, Copy)]
-pub struct EnterWords<'a, A: Allocator = Global>(pub &'a EnterDeviceControlMode<A>);
-
-impl<A: Allocator> Display for EnterWords<'_, A> {
-    fn fmt<W: fmt::Write>(&self, f: &mut fmt::Formatter<W>) -> fmt::Result {
-        write_header(
-            self.0.intermediates.as_slice(),
-            self.0.byte,
-            self.0.params.as_slice(),
-            f,
-        )?;
-        if self.0.ignored_extra_intermediates {
-            f.write_str(", and more intermediates")?;
-        }
-        Ok(())
+/// Writes the header of a device control string in words.
+pub fn write_enter<A: Allocator, W: fmt::Write>(
+    enter: &EnterDeviceControlMode<A>,
+    f: &mut fmt::Formatter<W>,
+) -> fmt::Result {
+    write_header(
+        enter.intermediates.as_slice(),
+        enter.byte,
+        enter.params.as_slice(),
+        f,
+    )?;
+    if enter.ignored_extra_intermediates {
+        return f.write_str(", and more intermediates");
     }
+    Ok(())
 }
 
 // A header.
@@ -65,74 +64,74 @@ fn write_header<W: fmt::Write>(
     f: &mut fmt::Formatter<W>,
 ) -> fmt::Result {
     match function_of(DEVICE_CONTROLS, intermediates, byte) {
-        Some(Function(_, name, words, _)) => write!(f, "DCS {name} {words}")?,
+        Some(Function(_, name, words, _)) => write_words(&["DCS ", name, " ", words], f)?,
         None => f.write_str("DCS without a name")?,
     }
     let mut separator = " ";
     for param in params {
-        write!(f, "{separator}{param}")?;
+        write_between(separator, param, "", f)?;
         separator = ";";
     }
     Ok(())
 }
 
-/// A short device control in words.
-#[derive(Clone, Copy)]
-pub struct ShortWords<'a, A: Allocator = Global>(pub &'a ShortDeviceControl<A>);
-
-impl<A: Allocator> Display for ShortWords<'_, A> {
-    fn fmt<W: fmt::Write>(&self, f: &mut fmt::Formatter<W>) -> fmt::Result {
-        write_header(self.0.intermediates.as_slice(), self.0.byte, &[], f)?;
-        f.write_str(" \"")?;
-        for byte in self.0.content.as_slice() {
-            f.write_char(char::from(*byte))?;
-        }
-        f.write_str("\"")
+/// Writes a short device control in words.
+pub fn write_short<A: Allocator, W: fmt::Write>(
+    short: &ShortDeviceControl<A>,
+    f: &mut fmt::Formatter<W>,
+) -> fmt::Result {
+    write_header(short.intermediates.as_slice(), short.byte, &[], f)?;
+    f.write_str(" \"")?;
+    for byte in short.content.as_slice() {
+        f.write_char(char::from(*byte))?;
     }
+    f.write_str("\"")
 }
 
-/// The names of a termcap query in words.
-#[derive(Clone, Copy)]
-pub struct QueryWords<'a, A: Allocator = Global>(pub &'a [Text<A>]);
-
-impl<A: Allocator> Display for QueryWords<'_, A> {
-    fn fmt<W: fmt::Write>(&self, f: &mut fmt::Formatter<W>) -> fmt::Result {
-        f.write_str("DCS XTGETTCAP ask for termcap data")?;
-        for name in self.0 {
-            write!(f, " \"{name}\"")?;
-        }
-        Ok(())
-    }
+/// Writes a termcap query in words.
+pub fn write_query<A: Allocator, W: fmt::Write>(
+    names: &[Text<A>],
+    f: &mut fmt::Formatter<W>,
+) -> fmt::Result {
+    f.write_str("DCS XTGETTCAP ask for termcap data")?;
+    write_quoted(names, f)
 }
 
-/// A command of kitty's graphics protocol in words.
-#[derive(Clone, Copy)]
-pub struct KittyWords<'a, A: Allocator = Global>(pub &'a KittyImage<A>);
+/// Writes the size of a sixel image in words.
+pub fn write_sixel<A: Allocator, W: fmt::Write>(
+    image: &Sixel<A>,
+    f: &mut fmt::Formatter<W>,
+) -> fmt::Result {
+    let (width, height) = image.dimensions();
+    write_between("DCS sixel image, width ", &width, ", height ", f)?;
+    height.fmt(f)
+}
 
-impl<A: Allocator> Display for KittyWords<'_, A> {
-    fn fmt<W: fmt::Write>(&self, f: &mut fmt::Formatter<W>) -> fmt::Result {
-        f.write_str("APC kitty image ")?;
-        match self.0 {
-            KittyImage::TransmitData { transmit, .. } => write_image("transmit", transmit, f),
-            KittyImage::TransmitDataAndDisplay { transmit, .. } => write_image(
-                "transmit and display",
-                transmit,
-                f,
-            ),
-            KittyImage::Query { transmit } => write_image("query", transmit, f),
-            KittyImage::TransmitFrame { transmit, .. } => write_image("frame", transmit, f),
-            KittyImage::Display {
-                image_id,
-                image_number,
-                ..
-            } => {
-                f.write_str("display")?;
-                write_number(", id ", *image_id, f)?;
-                write_number(", number ", *image_number, f)
-            }
-            KittyImage::Delete { what, .. } => write!(f, "delete {what:?}"),
-            KittyImage::ComposeFrame { frame, .. } => write!(f, "compose {frame:?}"),
+/// Writes a command of kitty's graphics protocol in words.
+pub fn write_kitty<A: Allocator, W: fmt::Write>(
+    image: &KittyImage<A>,
+    f: &mut fmt::Formatter<W>,
+) -> fmt::Result {
+    f.write_str("APC kitty image ")?;
+    match image {
+        KittyImage::TransmitData { transmit, .. } => write_image("transmit", transmit, f),
+        KittyImage::TransmitDataAndDisplay { transmit, .. } => write_image(
+            "transmit and display",
+            transmit,
+            f,
+        ),
+        KittyImage::Query { transmit } => write_image("query", transmit, f),
+        KittyImage::TransmitFrame { transmit, .. } => write_image("frame", transmit, f),
+        KittyImage::Display {
+            image_id,
+            image_number,
+            ..
+        } => {
+            f.write_str("display")?;
+            write_numbers(*image_id, *image_number, f)
         }
+        KittyImage::Delete { what, .. } => write_debug("delete ", what, f),
+        KittyImage::ComposeFrame { frame, .. } => write_debug("compose ", frame, f),
     }
 }
 
@@ -146,14 +145,23 @@ fn write_image<A: Allocator, W: fmt::Write>(
     write_number(", width ", image.width, f)?;
     write_number(", height ", image.height, f)?;
     if let Some(format) = image.format {
-        write!(f, ", {format:?}")?;
+        write_debug(", ", &format, f)?;
     }
-    write_number(", id ", image.image_id, f)?;
-    write_number(", number ", image.image_number, f)?;
+    write_numbers(image.image_id, image.image_number, f)?;
     if image.more_data_follows {
-        f.write_str(", more data follows")?;
+        return f.write_str(", more data follows");
     }
     Ok(())
+}
+
+// The numbers of an image.
+fn write_numbers<W: fmt::Write>(
+    id: Option<u32>,
+    number: Option<u32>,
+    f: &mut fmt::Formatter<W>,
+) -> fmt::Result {
+    write_number(", id ", id, f)?;
+    write_number(", number ", number, f)
 }
 
 // A number after its name, where there is one.
@@ -163,7 +171,7 @@ fn write_number<W: fmt::Write>(
     f: &mut fmt::Formatter<W>,
 ) -> fmt::Result {
     match number {
-        Some(number) => write!(f, "{name}{number}"),
+        Some(number) => write_between(name, &number, "", f),
         None => Ok(()),
     }
 }

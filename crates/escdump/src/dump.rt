@@ -52,23 +52,27 @@ impl<A: Allocator + Copy> Dump<A> {
     /// refused.
     pub fn take(&mut self, chunk: &[u8]) -> Result<(), AllocError> {
         let mut bytes = mem::replace(&mut self.begun, Vec::new(self.alloc));
-        let mut known = self.known;
         bytes.extend_from_slice(chunk)?;
+        self.take_segments(&bytes)
+    }
+
+    // Takes the segments of these bytes, of which the first ones are known already.
+    fn take_segments(&mut self, bytes: &[u8]) -> Result<(), AllocError> {
+        let mut known = self.known;
         self.known = 0;
-        for segment in Segments::new(&bytes) {
+        for segment in Segments::new(bytes) {
             let fresh = &segment.bytes[known.min(segment.bytes.len())..];
             known = 0;
-            if segment.finished {
-                self.take_piece(segment.kind, fresh, true)?;
-            } else {
-                self.hold(segment, fresh)?;
-            }
+            self.take_segment(segment, fresh)?;
         }
         self.end_text()
     }
 
-    // Takes the bytes of an unfinished segment, but for those that are held back.
-    fn hold(&mut self, segment: Segment<'_>, fresh: &[u8]) -> Result<(), AllocError> {
+    // Takes the bytes of a segment, of an unfinished one but for those that are held back.
+    fn take_segment(&mut self, segment: Segment<'_>, fresh: &[u8]) -> Result<(), AllocError> {
+        if segment.finished {
+            return self.take_piece(segment.kind, fresh, true);
+        }
         let (taken, held) = fresh.split_at(fresh.len().saturating_sub(held_back(segment)));
         self.take_piece(segment.kind, taken, false)?;
         self.begun.clear();
@@ -130,12 +134,8 @@ impl<A: Allocator + Copy> Dump<A> {
 
     // Adds the line of a run of text or a segment, after which nothing is unfinished.
     fn end_line(&mut self, is_finished: bool) -> Result<(), AllocError> {
-        self.begin_line()?;
-        match self.options.form {
-            Form::Segments => self.add_segment(is_finished)?,
-            Form::Words => self.add_words(is_finished)?,
-            _ => self.push_bytes()?,
-        }
+        self.add_place()?;
+        self.add_form(is_finished)?;
         self.page.end_line()?;
         self.item.end();
         self.words = Words::new(self.alloc, self.options.limit);
@@ -143,17 +143,31 @@ impl<A: Allocator + Copy> Dump<A> {
     }
 
     // The place.
-    fn begin_line(&mut self) -> Result<(), AllocError> {
+    fn add_place(&mut self) -> Result<(), AllocError> {
         let place = self.item.place;
         let place = format!(in self.alloc; "{place:>8}")?;
-        self.page.color(Color::Place)?;
-        self.page.push(place.as_bytes(), usize::MAX)?;
-        self.page.color(Color::Plain)?;
-        self.page.pad(10)
+        self.page
+            .push_colored(Color::Place, place.as_bytes(), usize::MAX, 10)
+    }
+
+    // What the form of the lines has after the place.
+    fn add_form(&mut self, is_finished: bool) -> Result<(), AllocError> {
+        match self.options.form {
+            Form::Segments => self.add_segment(is_finished),
+            Form::Words => self.add_words(is_finished),
+            _ => self.push_bytes(),
+        }
     }
 
     // The length of a segment, its kind, and its bytes.
     fn add_segment(&mut self, is_finished: bool) -> Result<(), AllocError> {
+        self.push_facts(is_finished)?;
+        self.page.pad(10)?;
+        self.push_bytes()
+    }
+
+    // The length of a segment, and its kind.
+    fn push_facts(&mut self, is_finished: bool) -> Result<(), AllocError> {
         let state = if is_finished {
             "finished"
         } else {
@@ -162,33 +176,28 @@ impl<A: Allocator + Copy> Dump<A> {
         let length = self.item.length;
         let kind = self.item.kind_words();
         let facts = format!(in self.alloc; "{length:>6} {kind:<27} {state:<10}")?;
-        self.page.push(facts.as_bytes(), usize::MAX)?;
-        self.page.pad(10)?;
-        self.push_bytes()
+        self.page.push(facts.as_bytes(), usize::MAX)
     }
 
     // The bytes that are kept, and `..` where not all are.
     fn push_bytes(&mut self) -> Result<(), AllocError> {
+        let rest: &[u8] = if self.item.is_cut() { b".." } else { b"" };
         self.page.color(Color::Bytes)?;
         self.page.push(self.item.bytes(), usize::MAX)?;
-        if self.item.is_cut() {
-            self.page.push(b"..", usize::MAX)?;
-        }
+        self.page.push(rest, usize::MAX)?;
         self.page.color(Color::Plain)
     }
 
     // The first bytes, and the words.
     fn add_words(&mut self, is_finished: bool) -> Result<(), AllocError> {
-        self.page.color(Color::Bytes)?;
-        self.page.push(self.item.bytes(), CUT)?;
-        self.page.color(Color::Plain)?;
-        self.page.pad(WORDS)?;
+        self.page
+            .push_colored(Color::Bytes, self.item.bytes(), CUT, WORDS)?;
         self.push_words()?;
         if self.item.is_cut() {
             self.page.push(b", longer than the limit", usize::MAX)?;
         }
         if !is_finished {
-            self.page.push(b", unfinished", usize::MAX)?;
+            return self.page.push(b", unfinished", usize::MAX);
         }
         Ok(())
     }
@@ -196,9 +205,7 @@ impl<A: Allocator + Copy> Dump<A> {
     // The words of a run of text, of actions, or of what gives none.
     fn push_words(&mut self) -> Result<(), AllocError> {
         if self.item.is_text() {
-            self.page.push(b"text \"", usize::MAX)?;
-            self.page.push(self.item.bytes(), usize::MAX)?;
-            return self.page.push(b"\"", usize::MAX);
+            return self.page.push_quoted(b"text \"", self.item.bytes());
         }
         if self.words.text.is_empty() {
             self.page
@@ -208,8 +215,6 @@ impl<A: Allocator + Copy> Dump<A> {
         if self.words.data.is_empty() {
             return Ok(());
         }
-        self.page.push(b" \"", usize::MAX)?;
-        self.page.push(&self.words.data, usize::MAX)?;
-        self.page.push(b"\"", usize::MAX)
+        self.page.push_quoted(b" \"", &self.words.data)
     }
 }

@@ -87,8 +87,8 @@ const WINDOW: &[Named] = &[
     Named(23, "pop title"),
 ];
 
-// Those without a private marker and intermediates.
-const PLAIN: &[Function] = &[
+// Those without a private marker and intermediates: of the final bytes `@` to `_`, and from `` ` `` on.
+const PLAIN_UPPER: &[Function] = &[
     Function("@", "ICH", "insert characters", Numbers),
     Function("A", "CUU", "cursor up", Numbers),
     Function("B", "CUD", "cursor down", Numbers),
@@ -109,6 +109,9 @@ const PLAIN: &[Function] = &[
     Function("T", "SD", "scroll down", Numbers),
     Function("X", "ECH", "erase characters", Numbers),
     Function("Z", "CBT", "cursor back to tab stop", Numbers),
+];
+
+const PLAIN_LOWER: &[Function] = &[
     Function("`", "HPA", "column position", Numbers),
     Function("a", "HPR", "column position forward", Numbers),
     Function("b", "REP", "repeat the character", Numbers),
@@ -122,7 +125,7 @@ const PLAIN: &[Function] = &[
     Function("j", "HPB", "column position backward", Numbers),
     Function("k", "VPB", "line position backward", Numbers),
     Function("l", "RM", "reset modes", Modes),
-    Function("m", "SGR", "renditions", Renditions),
+    Function("m", "SGR", "", Renditions),
     Function("n", "DSR", "device status report", OneOf(REPORTS)),
     Function("q", "DECLL", "load LEDs", Numbers),
     Function("r", "DECSTBM", "top and bottom margins", Numbers),
@@ -237,7 +240,19 @@ pub fn control_function(marks: &[u8], last: u8) -> Option<Function> {
 }
 
 fn plain_function(last: u8) -> Option<Function> {
-    function_of(PLAIN, &[], last)
+    if last < b'`' {
+        plain_upper(last)
+    } else {
+        plain_lower(last)
+    }
+}
+
+fn plain_upper(last: u8) -> Option<Function> {
+    function_of(PLAIN_UPPER, &[], last)
+}
+
+fn plain_lower(last: u8) -> Option<Function> {
+    function_of(PLAIN_LOWER, &[], last)
 }
 
 fn private_function(marks: &[u8], last: u8) -> Option<Function> {

@@ -17,7 +17,8 @@ pub enum Parameters {
     OneOf(&'static [Named]),
 }
 
-/// A function: the private marker, intermediates and final byte of its sequence; its name; what it does; what its parameters are.
+/// A function: the private marker, intermediates and final byte of its sequence; its name; what it does, unless its parameters say it;
+/// what its parameters are.
 #[derive(Clone, Copy)]
 pub struct Function(
     pub &'static str,

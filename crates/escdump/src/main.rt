@@ -21,6 +21,7 @@ mod renditions;
 mod resume;
 mod run;
 mod words;
+mod writing;
 
 use run::run;
 use std::process::ExitCode;
@@ -43,9 +44,5 @@ fn main(rt: HostRuntime) -> ExitCode {
 
 // The words behind the program's name.
 fn arguments(rt: &HostRuntime) -> io::Result<Vec<String>> {
-    let mut words = Vec::new(rt.alloc());
-    for word in env::args(rt)?.skip(1) {
-        words.push(word)?;
-    }
-    Ok(words)
+    Ok(env::args(rt)?.skip(1).collect(rt.alloc())?)
 }

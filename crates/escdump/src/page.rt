@@ -4,6 +4,7 @@ ghost use Rattle.escdump.specs.Pages.{IsPage, is_shown};
 
 use esc_below::Text;
 use std::alloc::{AllocError, Allocator, Global};
+use std::str::Utf8Chunk;
 
 /// Lines for a terminal or a file, of which each character is shown, ends a line, or belongs to a colour that was asked for: no
 /// control or escape sequence of what was read is in them.
@@ -56,20 +57,49 @@ impl<A: Allocator + Copy> Page<A> {
     /// hexadecimal digits. Where they would go past this column, the first ones, and `..`. The error is that memory was refused.
     pub fn push(&mut self, bytes: &[u8], room: usize) -> Result<(), AllocError> {
         for chunk in bytes.utf8_chunks() {
-            for c in chunk.valid().chars() {
-                if self.columns >= room {
-                    return self.cut();
-                }
-                self.push_char(c)?;
-            }
-            for byte in chunk.invalid() {
-                if self.columns >= room {
-                    return self.cut();
-                }
-                self.push_hex(*byte)?;
+            if !self.push_chunk(chunk, room)? {
+                return self.cut();
             }
         }
         Ok(())
+    }
+
+    // Appends some of the bytes, as far as there is room, and returns whether there is.
+    fn push_chunk(&mut self, chunk: Utf8Chunk<'_>, room: usize) -> Result<bool, AllocError> {
+        for c in chunk.valid().chars() {
+            if self.columns >= room {
+                return Ok(false);
+            }
+            self.push_char(c)?;
+        }
+        for byte in chunk.invalid() {
+            if self.columns >= room {
+                return Ok(false);
+            }
+            self.push_hex(*byte)?;
+        }
+        Ok(true)
+    }
+
+    /// Appends the bytes in a colour, escaped and within this column as before, and then spaces up to the next one.
+    pub fn push_colored(
+        &mut self,
+        color: Color,
+        bytes: &[u8],
+        room: usize,
+        columns: usize,
+    ) -> Result<(), AllocError> {
+        self.color(color)?;
+        self.push(bytes, room)?;
+        self.color(Color::Plain)?;
+        self.pad(columns)
+    }
+
+    /// Appends bytes after others, and a quote, escaped.
+    pub fn push_quoted(&mut self, before: &[u8], bytes: &[u8]) -> Result<(), AllocError> {
+        self.push(before, usize::MAX)?;
+        self.push(bytes, usize::MAX)?;
+        self.push(b"\"", usize::MAX)
     }
 
     // Marks that bytes are left out.

@@ -1,12 +1,12 @@
 //! Renditions in words.
 
-use crate::csi_words::Entries;
+use crate::csi_words::write_entries;
 use crate::named::{Named, words_of};
 use crate::renditions::Due::{Kind, Numbers, Rendition};
+use crate::writing::write_between;
 use escape_stream::CsiParam;
 use escape_stream::csi::{Intensity, Sgr, Underline};
 use std::fmt;
-use std::fmt::Display;
 
 // ECMA-48, fifth edition, 8.3.117, and xterm's list, "Character Attributes (SGR)"
 // (<https://invisible-island.net/xterm/ctlseqs/ctlseqs.html>).
@@ -123,10 +123,6 @@ fn number_of_rendition(sgr: Sgr) -> i64 {
     }
 }
 
-/// The renditions of the entries of a control sequence, in words.
-#[derive(Clone, Copy)]
-pub struct Renditions<'a>(pub &'a [CsiParam]);
-
 // What the next item is.
 #[derive(Clone, Copy)]
 enum Due {
@@ -138,24 +134,36 @@ enum Due {
     Numbers(u8),
 }
 
-impl Display for Renditions<'_> {
-    fn fmt<W: fmt::Write>(&self, f: &mut fmt::Formatter<W>) -> fmt::Result {
-        let mut due = Rendition;
-        let mut is_first = true;
-        for item in self.0.split(|param| *param == CsiParam::P(b';')) {
-            due = match due {
-                Rendition => {
-                    if !is_first {
-                        f.write_str(", ")?;
-                    }
-                    write_rendition(item, f)?
-                }
-                Kind => kind_of(item),
-                Numbers(count) => write_channel(item, count, f)?,
-            };
-            is_first = false;
+/// Writes the renditions of the entries of a control sequence, in words.
+pub fn write_renditions<W: fmt::Write>(
+    params: &[CsiParam],
+    f: &mut fmt::Formatter<W>,
+) -> fmt::Result {
+    let mut due = Rendition;
+    let mut is_first = true;
+    for item in params.split(|param| *param == CsiParam::P(b';')) {
+        due = write_item(item, due, is_first, f)?;
+        is_first = false;
+    }
+    Ok(())
+}
+
+// Writes what is due of an item, and says what the next item is.
+fn write_item<W: fmt::Write>(
+    item: &[CsiParam],
+    due: Due,
+    is_first: bool,
+    f: &mut fmt::Formatter<W>,
+) -> Result<Due, fmt::Error> {
+    match due {
+        Rendition => {
+            if !is_first {
+                f.write_str(", ")?;
+            }
+            write_rendition(item, f)
         }
-        Ok(())
+        Kind => Ok(kind_of(item)),
+        Numbers(count) => write_channel(item, count, f),
     }
 }
 
@@ -176,8 +184,7 @@ fn write_rendition<W: fmt::Write>(
     }
     f.write_str(written(first))?;
     if let [_, CsiParam::P(b':'), rest @ ..] = item {
-        let numbers = Entries(rest);
-        write!(f, "{numbers}")?;
+        write_entries(rest, f)?;
         return Ok(Rendition);
     }
     match first {
@@ -209,11 +216,11 @@ fn write_channel<W: fmt::Write>(
     count: u8,
     f: &mut fmt::Formatter<W>,
 ) -> Result<Due, fmt::Error> {
-    let number = number_of(item);
-    if count > 1 {
-        write!(f, " {number},")?;
-        return Ok(Numbers(count - 1));
-    }
-    write!(f, " {number}")?;
-    Ok(Rendition)
+    let (after, due) = if count > 1 {
+        (",", Numbers(count - 1))
+    } else {
+        ("", Rendition)
+    };
+    write_between(" ", &number_of(item), after, f)?;
+    Ok(due)
 }

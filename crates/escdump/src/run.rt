@@ -62,7 +62,6 @@ fn help<A: Allocator + Copy, W: Write>(alloc: A, output: &mut W) -> Result<(), F
 }
 
 // Reads the stream to its end, and prints its lines, those of a chunk before the next is read.
-#[tactic(auto, using(crate::proofs::PagesMore::no_pages))]
 fn dump<A: Allocator + Copy, R: Read, W: Write>(
     alloc: A,
     options: Options,
@@ -71,8 +70,20 @@ fn dump<A: Allocator + Copy, R: Read, W: Write>(
 ) -> Result<(), Fault>
     ensures { OnOk result (AppendsPage (W.contents output.old) (W.contents output.new)) }
 {
-    let mut chunk = [0u8; CHUNK];
     let mut dump = Dump::new(alloc, options);
+    dump_all(&mut dump, input, output)
+}
+
+// The same, by way of this dump, to which nothing came yet.
+#[tactic(auto, using(crate::proofs::PagesMore::no_pages))]
+fn dump_all<A: Allocator + Copy, R: Read, W: Write>(
+    dump: &mut Dump<A>,
+    input: &mut R,
+    output: &mut W,
+) -> Result<(), Fault>
+    ensures { OnOk result (AppendsPage (W.contents output.old) (W.contents output.new)) }
+{
+    let mut chunk = [0u8; CHUNK];
     for _ in 0..u64::MAX {
         let count = read_some(input, &mut chunk)?;
         if count == 0 {

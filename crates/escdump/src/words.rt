@@ -48,23 +48,24 @@ impl<A: Allocator + Copy> Words<A> {
 impl<A: Allocator> Words<A> {
     // Appends the words of a rendition.
     fn add_rendition(&mut self, sgr: Sgr) -> Result<(), AllocError> {
-        let words = rendition_words(sgr);
-        match self.last {
-            Nothing => self.text.push_str("CSI SGR ")?,
-            Rendition => self.text.push_str(", ")?,
-            Other => self.text.push_str("; CSI SGR ")?,
-        }
+        let before = match self.last {
+            Nothing => "CSI SGR ",
+            Rendition => ", ",
+            Other => "; CSI SGR ",
+        };
         self.last = Rendition;
-        self.text.push_str(words)
+        self.text.push_str(before)?;
+        self.text.push_str(rendition_words(sgr))
     }
 
     // Appends the words of another action.
     fn add(&mut self, action: &Action<A>) -> Result<(), AllocError> {
-        match self.last {
-            Nothing => {}
-            Rendition | Other => self.text.push_str("; ")?,
-        }
+        let before = match self.last {
+            Nothing => "",
+            Rendition | Other => "; ",
+        };
         self.last = Other;
+        self.text.push_str(before)?;
         self.text.push_display(&ActionWords(action))
     }
 
@@ -100,5 +101,14 @@ impl<A: Allocator> Sink<Action<A>> for Words<A> {
 
     fn receive(&mut self, action: Action<A>) -> Result<(), AllocError> {
         self.note(&action)
+    }
+
+    // Characters have no words.
+    fn receive_text(&mut self, _text: &[u8]) -> Result<(), AllocError> {
+        Ok(())
+    }
+
+    fn receive_str(&mut self, _text: &str) -> Result<(), AllocError> {
+        Ok(())
     }
 }

@@ -1,5 +1,5 @@
 use Rattle.escdump.specs.Pages.{AppendsPage}
-use Rattle.escdump.proofs.run.dump.Given as goal
+use Rattle.escdump.proofs.run.dump_all.Given as goal
 
 abbrev pub invariant-loop : goal.invariant-loop
 invariant-loop g l = record {

@@ -1,5 +1,5 @@
 use Rattle.escdump.proofs.PagesMore.{pages_more, pages_on}
-use Rattle.escdump.proofs.run.dump.Goals as goal
+use Rattle.escdump.proofs.run.dump_all.Goals as goal
 
 pub loop-preserved : goal.loop-preserved
 loop-preserved g c = record { printed = pages_more _ _ _ c.loop.invariant.printed c.in_ok-print.ensures }
