@@ -1,0 +1,90 @@
+//! Lists and boxes.
+ghost use Rattle.std.specs.Prelude.{◌≡◌, ◌+◌, ◌++◌, ◌∷◌, ◌≤◌, [], length, is_ok, if◌then◌else◌, IfOk, IfErr, OnOk, OnErr, vec_len, vec_capacity};
+ghost use Rattle.std.specs.Iterator.{IsFinite};
+ghost use Rattle.std.specs.Iterator.Runs.{WholeRun};
+ghost use Rattle.memory.specs.Refusals.{Refused};
+
+use crate::answered::answered;
+use std::alloc::{AllocError, AllocFailed, Allocator};
+
+/// Appends a value, or hands it back.
+#[inline(always)]
+pub fn push<T, A: Allocator>(vec: &mut Vec<T, A>, value: T) -> Result<(), AllocFailed<T>>
+    ensures items { vec.new.items ≡ (if is_ok result then vec.old.items ++ value ∷ [] else vec.old.items) }
+    ensures handed_back { IfErr result (λ failed. failed.value ≡ value) }
+    ensures refused { OnErr result (Refused A) }
+{
+    answered::<_, _, A>(vec.push(value))
+}
+
+/// Appends a slice.
+#[inline(always)]
+pub fn extend<T: Copy, A: Allocator>(vec: &mut Vec<T, A>, more: &[T]) -> Result<(), AllocError>
+    ensures items { vec.new.items ≡ (if is_ok result then vec.old.items ++ more.now else vec.old.items) }
+    ensures refused { OnErr result (Refused A) }
+{
+    answered::<_, _, A>(vec.extend_from_slice(more))
+}
+
+/// Makes room for a few more values.
+#[inline(always)]
+pub fn reserve<T, A: Allocator>(vec: &mut Vec<T, A>, additional: usize) -> Result<(), AllocError>
+    requires { additional ≤ 16 }
+    ensures items { vec.new.items ≡ vec.old.items }
+    ensures len { vec_len vec.new ≡ vec_len vec.old }
+    ensures ok { OnOk result (vec_len vec.new + additional ≤ vec_capacity vec.new) }
+    ensures refused { OnErr result (Refused A) }
+{
+    answered::<_, _, A>(vec.reserve(additional))
+}
+
+/// Makes room for as many more values as this slice has, and for a few others.
+#[inline(always)]
+pub fn reserve_for<T, U, A: Allocator>(
+    vec: &mut Vec<T, A>,
+    like: &[U],
+    others: usize,
+) -> Result<(), AllocError>
+    requires few { others ≤ 16 }
+    ensures items { vec.new.items ≡ vec.old.items }
+    ensures len { vec_len vec.new ≡ vec_len vec.old }
+    ensures ok { OnOk result (vec_len vec.new + (length like.now + others) ≤ vec_capacity vec.new) }
+    ensures refused { OnErr result (Refused A) }
+{
+    answered::<_, _, A>(vec.reserve(like.len().saturating_add(others)))
+}
+
+/// A copy of a slice.
+#[inline(always)]
+pub fn copied<T: Copy, A: Allocator>(alloc: A, items: &[T]) -> Result<Vec<T, A>, AllocError>
+    ensures ok { IfOk result (λ v. v.items ≡ items.now) }
+    ensures refused { OnErr result (Refused A) }
+{
+    answered::<_, _, A>(Vec::from_slice(alloc, items))
+}
+
+/// The items of an iterator.
+#[inline(always)]
+pub fn collect<I: Iterator + Drop, A: Allocator>(
+    alloc: A,
+    items: I,
+) -> Result<Vec<I::Item, A>, AllocError>
+where
+    I::Item: Drop,
+    requires can { I.can_next items }
+    requires finite { IsFinite (I.remaining items) }
+    ensures runs { IfOk result (λ v. WholeRun I.next_gives items (λ p. (v.items ≡ p.items) × (vec_len v ≡ length p.items))) }
+    ensures refused { OnErr result (Refused A) }
+{
+    answered::<_, _, A>(items.collect(alloc))
+}
+
+/// A value in a box, or the value back.
+#[inline(always)]
+pub fn boxed<T, A: Allocator>(alloc: A, value: T) -> Result<Box<T, A>, AllocFailed<T>>
+    ensures value { IfOk result (λ boxed. boxed.value ≡ value) }
+    ensures handed_back { IfErr result (λ failed. failed.value ≡ value) }
+    ensures refused { OnErr result (Refused A) }
+{
+    answered::<_, _, A>(Box::new(alloc, value))
+}
