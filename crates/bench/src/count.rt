@@ -1,6 +1,6 @@
 //! An actor that counts.
 
-use esc_below::csi_param::CsiParam;
+use esc_values::csi_param::CsiParam;
 use esc_frame::actor::VTActor;
 use std::alloc::AllocError;
 use std::fmt;

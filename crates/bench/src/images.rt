@@ -1,7 +1,7 @@
 //! An actor that reads images.
 
 use crate::counted::Counted;
-use esc_below::csi_param::CsiParam;
+use esc_values::csi_param::CsiParam;
 use esc_frame::actor::VTActor;
 use esc_kitty::{KittyImage, KittyImageData};
 use esc_sixel::SixelBuilder;

@@ -1,6 +1,6 @@
 -- The values of any stream come in groups.
 use Rattle.std.proofs.Common.{ℕ, ℤ, ◌≡◌, Bool, true, false, ◌||◌, if◌then◌else◌, List, [], ◌∷◌, ◌++◌, map, Option, Some, None, refl, ap, sym, ◌∙◌, subst}
-use Rattle.esc_below.specs.Csis.{CsiValue}
+use Rattle.esc_sequences.specs.Csis.{CsiValue}
 use Rattle.esc_frame.specs.Bodies.{is_csi_body, is_dcs_header}
 use Rattle.esc_frame.specs.Classes.{is_plain, is_put, is_text, those, strip}
 use Rattle.esc_frame.specs.Events.{Event}

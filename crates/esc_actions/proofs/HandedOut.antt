@@ -5,11 +5,11 @@ use Rattle.std.proofs.Common.{length, map, take_all, refl, ap, sym, ◌∙◌, s
 use Rattle.std.proofs.lemmas.Bool.{and_parts, cases_lt, eqb-true}
 use Rattle.std.proofs.lemmas.Bool.Decides.{nat_tests}
 use Rattle.std.proofs.lemmas.Str.{encode_ascii}
-use Rattle.esc_below.specs.declared.esc.Esc.TheVariants as esc_variant
-use Rattle.esc_below.specs.Csis.{CsiValue, csi_body, csi_of, ReadBack, ReadsBack}
-use Rattle.esc_below.specs.Escs.{esc_of, esc_text}
-use Rattle.esc_below.specs.Entries.{entries}
-use Rattle.esc_below.specs.declared.csi_param.CsiParam.{CsiParam}
+use Rattle.esc_sequences.specs.declared.esc.Esc.TheVariants as esc_variant
+use Rattle.esc_sequences.specs.Csis.{CsiValue, csi_body, csi_of, ReadBack, ReadsBack}
+use Rattle.esc_sequences.specs.Escs.{esc_of, esc_text}
+use Rattle.esc_values.specs.Entries.{entries}
+use Rattle.esc_values.specs.declared.csi_param.CsiParam.{CsiParam}
 use Rattle.esc_device.specs.Kinds.{kind_of}
 use Rattle.esc_device.specs.Values.{short_of}
 use Rattle.esc_device.specs.Writable.{is_datum, is_high_byte}

@@ -3,7 +3,7 @@ use Rattle.std.proofs.Common.{ℕ, ◌≡◌, Bool, true, false, ◌&&◌, if◌
 use Rattle.std.proofs.lemmas.Bool.{and_parts}
 use Rattle.std.proofs.lemmas.List.{append-nil}
 use Rattle.std.specs.List.{list_all}
-use Rattle.esc_below.specs.Clear.{parts_of}
+use Rattle.esc_values.specs.Clear.{parts_of}
 use Rattle.esc_frame.specs.Bodies.{is_csi_body, is_dcs_header}
 use Rattle.esc_frame.specs.Classes.{is_plain, is_put, is_text, those, strip}
 use Rattle.esc_frame.specs.Counts.{AreWithin}

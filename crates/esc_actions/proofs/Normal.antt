@@ -6,12 +6,12 @@ use Rattle.std.proofs.lemmas.Str.{chars-encodes, encodes-chars}
 use Rattle.std.specs.Char.{encode_utf8}
 use Rattle.std.specs.List.{list_all}
 use Rattle.std.specs.Str.{chars, encode_utf8_all}
-use Rattle.esc_below.specs.Clear.{is_clear, IsClearText}
-use Rattle.esc_below.specs.Csis.{csi_text}
-use Rattle.esc_below.specs.Escs.{esc_text}
-use Rattle.esc_below.specs.declared.esc.Esc.{Esc}
-use Rattle.esc_below.specs.declared.esc.Esc.TheVariants as esc_variant
-use Rattle.esc_below.specs.declared.esc_code.EscCode.TheVariants as esc_code
+use Rattle.esc_values.specs.Clear.{is_clear, IsClearText}
+use Rattle.esc_sequences.specs.Csis.{csi_text}
+use Rattle.esc_sequences.specs.Escs.{esc_text}
+use Rattle.esc_sequences.specs.declared.esc.Esc.{Esc}
+use Rattle.esc_sequences.specs.declared.esc.Esc.TheVariants as esc_variant
+use Rattle.esc_sequences.specs.declared.esc_code.EscCode.TheVariants as esc_code
 use Rattle.esc_frame.specs.Classes.{class_of, ends_escape}
 use Rattle.esc_osc.proofs.ReadsBack.{clear_utf8, chars_scalar}
 use Rattle.esc_osc.specs.Commands.{command_text}

@@ -9,7 +9,7 @@ use Rattle.esc_frame.specs.Segments.{executes, csi_events, hook_event, puts, tex
 use Rattle.esc_frame.specs.Segments.Ending.{Open, Rung, Waits}
 use Rattle.esc_frame.specs.Counts.{kept_of, kept_of_cut}
 use Rattle.esc_frame.specs.Limits.{is_within, is_read}
-use Rattle.esc_below.specs.Clear.{parts_of}
+use Rattle.esc_values.specs.Clear.{parts_of}
 use Rattle.esc_frame.specs.Segments.Opener.{Long, Raw, Pair}
 use Rattle.esc_frame.specs.Segments.Segment.{Character, Wide, Broken, Stray, Control, HighControl, Terminator, Escape, Csi, Osc, Dcs, Apc, Ignored, CutEscape}
 use Rattle.esc_frame.specs.Segments.Segment.{CutCsi, CutDcs}

@@ -9,11 +9,11 @@ use Rattle.std.proofs.lemmas.Str.{encode_ascii, chars-encodes}
 use Rattle.std.specs.Char.{encode_utf8}
 use Rattle.std.specs.List.{list_all}
 use Rattle.std.specs.Str.{chars, encode_utf8_all}
-use Rattle.esc_below.specs.Clear.{is_clear, IsClearText, parts_of}
-use Rattle.esc_below.specs.Csis.{csi_text}
-use Rattle.esc_below.specs.Escs.{esc_text}
-use Rattle.esc_below.specs.declared.esc.Esc.TheVariants as esc_variant
-use Rattle.esc_below.specs.declared.esc_code.EscCode.TheVariants as esc_code
+use Rattle.esc_values.specs.Clear.{is_clear, IsClearText, parts_of}
+use Rattle.esc_sequences.specs.Csis.{csi_text}
+use Rattle.esc_sequences.specs.Escs.{esc_text}
+use Rattle.esc_sequences.specs.declared.esc.Esc.TheVariants as esc_variant
+use Rattle.esc_sequences.specs.declared.esc_code.EscCode.TheVariants as esc_code
 use Rattle.esc_device.specs.Kinds.{kind_of}
 use Rattle.esc_device.specs.Says.{hook_of, string_events}
 use Rattle.esc_device.specs.Texts.{as_text}

@@ -1,8 +1,8 @@
 -- Coordinates that count from one, as parameters name them.
 use Rattle.std.specs.Prelude.{ℕ, ◌^◌, ◌==◌, nat_lt, if◌then◌else◌, pos, Option, Some, None}
 use Rattle.std.specs.Int.NonZero.{non_zero_u32_get}
-use Rattle.esc_below.specs.declared.csi_param.CsiParam.{CsiParam}
-use Rattle.esc_below.specs.declared.csi_param.CsiParam.TheVariants.{Integer, P}
+use Rattle.esc_values.specs.declared.csi_param.CsiParam.{CsiParam}
+use Rattle.esc_values.specs.declared.csi_param.CsiParam.TheVariants.{Integer, P}
 use Rattle.esc_actions.specs.declared.one_based.OneBased.{OneBased}
 
 -- the number of a coordinate; the first is 1

@@ -3,10 +3,10 @@
 use Rattle.std.specs.Prelude.{ℕ, ◌≡◌, ◌<◌, ◌≤◌, true, false, List, [], ◌∷◌, ◌++◌, length, Option, Some, ℤ, Bool}
 use Rattle.std.specs.List.{list_all, list_any}
 use Rattle.std.specs.Char.{encode_utf8}
-use Rattle.esc_below.specs.Clear.{is_clear, IsClearText, AreTextParts, parts_of}
-use Rattle.esc_below.specs.Csis.{csi_of, ReadBack, unspecified}
-use Rattle.esc_below.specs.Entries.{entries, is_csi_body}
-use Rattle.esc_below.specs.declared.csi_param.CsiParam.{CsiParam}
+use Rattle.esc_values.specs.Clear.{is_clear, IsClearText, AreTextParts, parts_of}
+use Rattle.esc_sequences.specs.Csis.{csi_of, ReadBack, unspecified}
+use Rattle.esc_values.specs.Entries.{entries, is_csi_body}
+use Rattle.esc_values.specs.declared.csi_param.CsiParam.{CsiParam}
 use Rattle.esc_device.specs.Kinds.{kind_of}
 use Rattle.esc_device.specs.Says.{EnterSays, ShortSays, SixelSays, QuerySays}
 use Rattle.esc_device.specs.Values.{enter_of, short_of}

@@ -3,10 +3,10 @@ use Rattle.std.specs.Prelude.{ℕ, Bool, true, false, not, ◌&&◌, if◌then�
 use Rattle.std.specs.Char.{encode_utf8}
 use Rattle.std.specs.List.{list_all}
 use Rattle.std.specs.Str.{chars}
-use Rattle.esc_below.specs.declared.esc.Esc.TheVariants as esc_variant
-use Rattle.esc_below.specs.declared.esc_code.EscCode.TheVariants as esc_code
-use Rattle.esc_below.specs.Csis.{csi_text}
-use Rattle.esc_below.specs.Escs.{esc_text}
+use Rattle.esc_sequences.specs.declared.esc.Esc.TheVariants as esc_variant
+use Rattle.esc_sequences.specs.declared.esc_code.EscCode.TheVariants as esc_code
+use Rattle.esc_sequences.specs.Csis.{csi_text}
+use Rattle.esc_sequences.specs.Escs.{esc_text}
 use Rattle.esc_device.specs.Texts.{enter_text, short_text}
 use Rattle.esc_kitty.specs.Texts.{image_text}
 use Rattle.esc_osc.specs.Commands.{command_text}

@@ -1,8 +1,8 @@
 -- The values of actions, and the values that events give.
 use Rattle.std.specs.Prelude.{ℕ, ℤ, ◌++◌, Bool, true, false, if◌then◌else◌, List, [], ◌∷◌, length, Option, Some, None, map}
-use Rattle.esc_below.specs.declared.esc.Esc.{Esc}
-use Rattle.esc_below.specs.Csis.{CsiValue, csi_value, csi_of}
-use Rattle.esc_below.specs.Escs.{esc_of}
+use Rattle.esc_sequences.specs.declared.esc.Esc.{Esc}
+use Rattle.esc_sequences.specs.Csis.{CsiValue, csi_value, csi_of}
+use Rattle.esc_sequences.specs.Escs.{esc_of}
 use Rattle.esc_device.specs.Kinds.{kind_of}
 use Rattle.esc_device.specs.Values.{enter_of, short_of}
 use Rattle.esc_device.specs.declared.enter.EnterDeviceControlMode.{EnterDeviceControlMode}

@@ -1,11 +1,11 @@
 -- Which values and lists read back from their text.
 use Rattle.std.specs.Prelude.{ℕ, ◌≡◌, ◌≢◌, Bool, true, false, not, nat_lt, nat_le, ◌==◌, ◌&&◌, ◌||◌, List, [], ◌∷◌, None}
 use Rattle.std.specs.List.{list_any}
-use Rattle.esc_below.specs.Clear.{is_clear, IsClearText}
-use Rattle.esc_below.specs.Csis.{CsiValue, sgr, unspecified, csi_text}
-use Rattle.esc_below.specs.Escs.{esc_text}
-use Rattle.esc_below.specs.declared.esc.Esc.{Esc}
-use Rattle.esc_below.specs.declared.esc.Esc.TheVariants as esc_variant
+use Rattle.esc_values.specs.Clear.{is_clear, IsClearText}
+use Rattle.esc_sequences.specs.Csis.{CsiValue, sgr, unspecified, csi_text}
+use Rattle.esc_sequences.specs.Escs.{esc_text}
+use Rattle.esc_sequences.specs.declared.esc.Esc.{Esc}
+use Rattle.esc_sequences.specs.declared.esc.Esc.TheVariants as esc_variant
 use Rattle.esc_frame.specs.Classes.{class_of, opens}
 use Rattle.esc_frame.specs.Events.{Event}
 use Rattle.esc_frame.specs.Fits.{IsOneSegment}

@@ -5,7 +5,7 @@ ghost use Rattle.esc_actions.specs.Appending.{appended, ends_in_characters, is_c
 ghost use Rattle.esc_actions.specs.Values.{print, value_of};
 
 use crate::action::Action;
-use esc_below::Text;
+use esc_values::Text;
 use std::alloc::{AllocError, Allocator};
 use std::mem;
 

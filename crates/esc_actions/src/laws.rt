@@ -57,8 +57,8 @@ fn lower_laws<A: Allocator>()
     esc_osc::laws::clear_is_writable::<A>();
     esc_kitty::laws::reads_back::<A>();
     esc_kitty::laws::kept_is_writable::<A>();
-    esc_below::laws::csi_reads_back();
-    esc_below::laws::csi_truncated();
+    esc_sequences::laws::csi_reads_back();
+    esc_sequences::laws::csi_truncated();
     esc_device::laws::enter_says::<A>();
     esc_device::laws::short_says::<A>();
     esc_device::laws::sixel_says::<A>();

@@ -4,7 +4,7 @@ ghost use Rattle.std.specs.Fmt.{decimal};
 ghost use Rattle.std.specs.Option.{option_map};
 ghost use Rattle.esc_actions.specs.Coordinates.{coordinate, one_based, optional_coordinate};
 
-use esc_below::CsiParam;
+use esc_values::CsiParam;
 use std::fmt;
 use std::num::NonZeroU32;
 

@@ -1,48 +1,18 @@
-//! What the framing and the codecs of terminal escape sequences build on: texts, lists and boxed values that contracts
-//! see as plain values, the error of a reading that may fail, colours, control sequences with their parameters, the escape
-//! sequences that have a name, and hyperlinks.
-//!
-//! The standards: ECMA-48 (<https://ecma-international.org/publications-and-standards/standards/ecma-48/>), xterm's list of
-//! control sequences (<https://invisible-island.net/xterm/ctlseqs/ctlseqs.html>), and for links "Hyperlinks in terminal
-//! emulators" (<https://gist.github.com/egmontkob/eb114294efbcd5adb1944c9f3cb5feda>).
+//! What the framing and the codecs of terminal escape sequences build on, under one name: the values of `esc_values`, the
+//! control and escape sequences of `esc_sequences`, and the hyperlinks of `esc_links`.
 //!
 //! A bold character is asked for by `ESC [ 1 m`: `CSI::parse(alloc, &[CsiParam::Integer(1)], false, b'm')?` has the one value
 //! `CSI::Sgr(Sgr::Intensity(Intensity::Bold))`, which prints as the same sequence.
 #![tactic(auto)]
 
-pub mod base64_text;
-pub mod boxed;
-pub mod csi;
-pub mod csi_param;
-pub mod cut;
-pub mod error;
-pub mod esc;
-pub mod esc_code;
-pub mod hyperlink;
-pub mod intensity;
-pub mod items;
 pub mod laws;
-pub mod number;
-pub mod params;
-pub mod rgb_color;
-pub mod scalar;
-pub mod sgr;
-pub mod text;
-pub mod underline;
-pub mod unspecified;
 
-pub use boxed::Boxed;
-pub use csi::CSI;
-pub use csi_param::CsiParam;
-pub use error::Error;
-pub use esc::Esc;
-pub use esc_code::EscCode;
-pub use hyperlink::Hyperlink;
-pub use intensity::Intensity;
-pub use items::Items;
-pub use params::Params;
-pub use rgb_color::RgbColor;
-pub use sgr::Sgr;
-pub use text::Text;
-pub use underline::Underline;
-pub use unspecified::{BorrowedSequence, Unspecified};
+pub use esc_links::{Hyperlink, Params, hyperlink, params};
+pub use esc_sequences::{
+    BorrowedSequence, CSI, Esc, EscCode, Intensity, Sgr, Underline, Unspecified, csi, esc,
+    esc_code, intensity, sgr, underline, unspecified,
+};
+pub use esc_values::{
+    Boxed, CsiParam, Error, Items, RgbColor, Text, base64_text, boxed, csi_param, cut, error,
+    items, number, rgb_color, scalar, text,
+};

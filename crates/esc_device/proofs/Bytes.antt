@@ -4,7 +4,7 @@ use Rattle.std.proofs.lemmas.Bool.{and_parts}
 use Rattle.std.proofs.lemmas.Bool.Decides.{nat_tests}
 use Rattle.std.proofs.lemmas.Str.{encode_ascii}
 use Rattle.std.specs.List.{list_all, list_any}
-use Rattle.esc_below.specs.Entries.{is_body_byte, is_final, is_intermediate_byte, is_marker}
+use Rattle.esc_values.specs.Entries.{is_body_byte, is_final, is_intermediate_byte, is_marker}
 use Rattle.esc_frame.specs.Bodies.{is_dcs_parameter}
 use Rattle.esc_frame.specs.Classes.{class_of, AllOf, in_body, is_put, ends_csi}
 use Rattle.esc_device.specs.Texts.{as_text, markers_text, others_text}

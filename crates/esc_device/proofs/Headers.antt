@@ -8,10 +8,10 @@ use Rattle.std.proofs.lemmas.Fmt.{decimal_nonempty}
 use Rattle.std.proofs.lemmas.List.{append_cancel_left}
 use Rattle.std.proofs.lemmas.List.Folds.{list_all-append, flat_map-map}
 use Rattle.std.proofs.lemmas.List.Sums.{take_while-cons}
-use Rattle.esc_below.specs.Clear.{AreClearParts, joined}
-use Rattle.esc_below.specs.Entries.{is_marker, is_intermediate_byte, behind_marker, drop_while, held, value_behind}
-use Rattle.esc_below.proofs.Numerals.{decimal_part, decimal_passes}
-use Rattle.esc_below.proofs.Split.{parts_text}
+use Rattle.esc_values.specs.Clear.{AreClearParts, joined}
+use Rattle.esc_values.specs.Entries.{is_marker, is_intermediate_byte, behind_marker, drop_while, held, value_behind}
+use Rattle.esc_values.proofs.Numerals.{decimal_part, decimal_passes}
+use Rattle.esc_values.proofs.Split.{parts_text}
 use Rattle.esc_frame.specs.Bodies.{is_dcs_parameter, is_dcs_header, dcs_params, dcs_intermediates, marker_of}
 use Rattle.esc_sixel.specs.Writable.{IsNatural, AreNatural, params_of}
 use Rattle.esc_sixel.proofs.Pieces.{decimal_piece}

@@ -4,8 +4,8 @@ use Rattle.std.proofs.Common.{refl, ap, sym, ◌∙◌, subst, arith, inl, inr, 
 use Rattle.std.specs.List.{list_all, list_any, take_while}
 use Rattle.std.proofs.lemmas.Bool.{cases_Bool, eqb-true}
 use Rattle.std.proofs.lemmas.Bool.Decides.{nat_tests}
-use Rattle.esc_below.specs.Clear.{parts_of}
-use Rattle.esc_below.specs.Entries.{is_marker, is_intermediate_byte, behind_marker, drop_while, held, value_behind}
+use Rattle.esc_values.specs.Clear.{parts_of}
+use Rattle.esc_values.specs.Entries.{is_marker, is_intermediate_byte, behind_marker, drop_while, held, value_behind}
 use Rattle.esc_frame.specs.Bodies.{is_dcs_parameter, is_dcs_header, dcs_params, dcs_intermediates, marker_of}
 use Rattle.esc_frame.specs.Classes.{AllOf, is_put}
 use Rattle.esc_frame.specs.Events.Event.{DcsHook}

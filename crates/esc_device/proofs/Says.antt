@@ -6,7 +6,7 @@ use Rattle.std.specs.Char.{encode_utf8}
 use Rattle.std.proofs.lemmas.Bool.Decides.{nat_tests}
 use Rattle.std.proofs.lemmas.List.Folds.{list_all-append}
 use Rattle.std.proofs.lemmas.Str.{encode_ascii}
-use Rattle.esc_below.specs.Entries.{is_body_byte, is_final, is_marker, is_intermediate_byte, behind_marker}
+use Rattle.esc_values.specs.Entries.{is_body_byte, is_final, is_marker, is_intermediate_byte, behind_marker}
 use Rattle.esc_frame.specs.Bodies.{is_dcs_parameter, is_dcs_header, dcs_params, dcs_intermediates}
 use Rattle.esc_frame.specs.Classes.{is_put}
 use Rattle.esc_frame.specs.Events.Event.{DcsHook}

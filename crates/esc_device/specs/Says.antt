@@ -1,6 +1,6 @@
 -- The events of device control strings, and the headers of their texts.
 use Rattle.std.specs.Prelude.{ℕ, ℤ, ◌≡◌, true, false, List, [], ◌∷◌, ◌++◌, map}
-use Rattle.esc_below.specs.Entries.{is_marker}
+use Rattle.esc_values.specs.Entries.{is_marker}
 use Rattle.esc_frame.specs.Bodies.{is_dcs_header, dcs_params, dcs_intermediates}
 use Rattle.esc_frame.specs.Events.{Event}
 use Rattle.esc_frame.specs.Events.Event.{EscDispatch, DcsHook, DcsPut, DcsUnhook}

@@ -3,7 +3,7 @@ use Rattle.std.specs.Prelude.{ℕ, ℤ, if◌then◌else◌, List, [], ◌∷◌
 use Rattle.std.specs.Char.{encode_utf8}
 use Rattle.std.specs.Fmt.{signed_decimal}
 use Rattle.std.specs.List.{flat_map}
-use Rattle.esc_below.specs.Entries.{is_marker}
+use Rattle.esc_values.specs.Entries.{is_marker}
 use Rattle.esc_device.specs.declared.enter.EnterDeviceControlMode.{EnterDeviceControlMode}
 use Rattle.esc_device.specs.declared.mode.DeviceControlMode.{DeviceControlMode}
 use Rattle.esc_device.specs.declared.mode.DeviceControlMode.TheVariants.{Enter, Exit, Data, ShortDeviceControl}

@@ -1,7 +1,7 @@
 -- Which modes and short controls read back from their texts.
 use Rattle.std.specs.Prelude.{ℕ, ◌≡◌, ◌≤◌, nat_lt, nat_le, ◌==◌, ◌&&◌, ◌||◌, Bool, true, false, List, [], ◌∷◌, length}
 use Rattle.std.specs.List.{list_all}
-use Rattle.esc_below.specs.Entries.{is_final, is_intermediate_byte, behind_marker}
+use Rattle.esc_values.specs.Entries.{is_final, is_intermediate_byte, behind_marker}
 use Rattle.esc_sixel.specs.Writable.{AreNatural}
 use Rattle.esc_device.specs.Kinds.{kind_of}
 use Rattle.esc_device.specs.declared.enter.EnterDeviceControlMode.{EnterDeviceControlMode}

@@ -5,7 +5,7 @@ ghost use Rattle.esc_device.specs.Leads.{LeadsShort, Pushes};
 ghost use Rattle.esc_device.specs.Values.{short_of};
 
 use crate::short::ShortDeviceControl;
-use esc_below::Items;
+use esc_values::Items;
 use std::alloc::{AllocError, Allocator, Global};
 
 /// Reads a short device control: its header, and then its data byte by byte.

@@ -1,7 +1,7 @@
 //! Bytes, written as the characters of the same numbers.
 ghost use Rattle.std.specs.Prelude.{◌≡◌, Some};
 ghost use Rattle.std.specs.Fmt.{DisplaysOnOk};
-ghost use Rattle.esc_below.specs.Entries.{is_marker};
+ghost use Rattle.esc_values.specs.Entries.{is_marker};
 ghost use Rattle.esc_device.specs.Texts.{as_text, markers_text, others_text};
 
 use std::fmt;

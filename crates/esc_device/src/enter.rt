@@ -6,7 +6,7 @@ ghost use Rattle.esc_device.specs.Values.{enter_of};
 use crate::byte_names::{ByteName, ByteNames};
 use crate::characters::{Markers, Others};
 use crate::numbers::Numbers;
-use esc_below::Items;
+use esc_values::Items;
 use std::alloc::{AllocError, Allocator, Global};
 use std::fmt;
 use std::fmt::{Debug, Display};

@@ -2,7 +2,7 @@
 //! follows it, and what is read can be written.
 ghost use Rattle.std.specs.Prelude.{◌≡◌, ℕ, ℤ, Bool, true, false, List};
 ghost use Rattle.std.specs.List.{list_all, list_any};
-ghost use Rattle.esc_below.specs.Entries.{is_intermediate_byte};
+ghost use Rattle.esc_values.specs.Entries.{is_intermediate_byte};
 ghost use Rattle.esc_frame.specs.Classes.{AllOf, is_put};
 ghost use Rattle.esc_frame.specs.Events.Event.{DcsHook};
 ghost use Rattle.esc_frame.specs.Fits.{IsFit};

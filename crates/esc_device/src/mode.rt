@@ -5,7 +5,7 @@ ghost use Rattle.esc_device.specs.Texts.{mode_text};
 use crate::byte_names::ByteName;
 use crate::enter::EnterDeviceControlMode;
 use crate::short::ShortDeviceControl;
-use esc_below::Boxed;
+use esc_values::Boxed;
 use std::alloc::{Allocator, Global};
 use std::fmt;
 use std::fmt::{Debug, Display};

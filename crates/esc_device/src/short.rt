@@ -5,7 +5,7 @@ ghost use Rattle.esc_device.specs.Texts.{short_text};
 use crate::byte_names::{ByteName, ByteNames};
 use crate::characters::Characters;
 use crate::numbers::Numbers;
-use esc_below::Items;
+use esc_values::Items;
 use std::alloc::{Allocator, Global};
 use std::fmt;
 use std::fmt::{Debug, Display};

@@ -5,8 +5,8 @@ use Rattle.std.specs.declared.alloc.Allocator.{Ghosts}
 use denote.RattleType.{RattleType}
 use mir.Syntax.{Dict}
 use Rattle.std.proofs.Common.{rules, ap, refl}
-use Rattle.esc_below.specs.Csis.{csi_value}
-use Rattle.esc_below.specs.contracts.esc.EscPartialEq.TheImpl as esc_eq
+use Rattle.esc_sequences.specs.Csis.{csi_value}
+use Rattle.esc_sequences.specs.contracts.esc.EscPartialEq.TheImpl as esc_eq
 use Rattle.esc_actions.specs.Values.{Value, device_value, value_of}
 use Rattle.esc_actions.specs.Values.Value.{print, string, control, esc, csi, osc, kitty, sixel, termcap, short, enter, datum, exit}
 use Rattle.esc_actions.specs.contracts.action.ActionPartialEq.TheImpl as action_eq

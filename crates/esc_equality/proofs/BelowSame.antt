@@ -4,8 +4,8 @@ use Rattle.std.proofs.Common.{rules}
 use Rattle.std.specs.declared.alloc.Allocator.{Ghosts}
 use denote.RattleType.{RattleType}
 use mir.Syntax.{Dict}
-use Rattle.esc_below.specs.contracts.hyperlink.HyperlinkPartialEq.TheImpl as hyperlink
-use Rattle.esc_below.specs.contracts.csi_param.CsiParamPartialEq.TheImpl as entry
+use Rattle.esc_links.specs.contracts.hyperlink.HyperlinkPartialEq.TheImpl as hyperlink
+use Rattle.esc_values.specs.contracts.csi_param.CsiParamPartialEq.TheImpl as entry
 use Rattle.esc_equality.proofs.Same.{IsSame, lists, text_pair, text_pairs, texts}
 
 entries : IsSame entry.ghosts.eq

@@ -12,7 +12,7 @@ use Rattle.esc_osc.specs.contracts.command.OperatingSystemCommandPartialEq.TheIm
 use Rattle.esc_osc.specs.contracts.dynamic_color_number.DynamicColorNumberPartialEq.TheImpl as dynamic
 use Rattle.esc_osc.specs.contracts.progress.ProgressPartialEq.TheImpl as progress
 use Rattle.esc_osc.specs.contracts.selection.SelectionPartialEq.TheImpl as selection
-use Rattle.esc_below.specs.declared.hyperlink.Hyperlink.{Hyperlink}
+use Rattle.esc_links.specs.declared.hyperlink.Hyperlink.{Hyperlink}
 use Rattle.esc_prompts.specs.contracts.prompt.FinalTermSemanticPromptPartialEq.TheImpl as prompt
 use Rattle.std.specs.Cmp.Lexicographic.{pointwise}
 use Rattle.esc_equality.proofs.BelowSame.{hyperlinks}

@@ -7,16 +7,16 @@ use mir.Syntax.{Dict}
 use Rattle.std.proofs.Common.{rules, ap}
 use Rattle.std.proofs.Math.Bool.{beq}
 use Rattle.std.specs.Cmp.Lexicographic.{pointwise}
-use Rattle.esc_below.specs.Csis.{csi_value}
-use Rattle.esc_below.specs.Csis.CsiValue.{sgr, unspecified}
-use Rattle.esc_below.specs.declared.csi.CSI.{CSI}
-use Rattle.esc_below.specs.declared.csi_param.CsiParam.{CsiParam}
-use Rattle.esc_below.specs.contracts.csi_param.CsiParamPartialEq.TheImpl as entry
+use Rattle.esc_sequences.specs.Csis.{csi_value}
+use Rattle.esc_sequences.specs.Csis.CsiValue.{sgr, unspecified}
+use Rattle.esc_sequences.specs.declared.csi.CSI.{CSI}
+use Rattle.esc_values.specs.declared.csi_param.CsiParam.{CsiParam}
+use Rattle.esc_values.specs.contracts.csi_param.CsiParamPartialEq.TheImpl as entry
 use Rattle.esc_actions.specs.contracts.control_code.ControlCode.{the_type}
 use Rattle.esc_actions.specs.contracts.control_code.ControlCodePartialEq.TheImpl as code_eq
-use Rattle.esc_below.specs.declared.csi.CSI.TheVariants as csi
-use Rattle.esc_below.specs.contracts.csi.CSIPartialEq.TheImpl as csi_eq
-use Rattle.esc_below.specs.contracts.sgr.SgrPartialEq.TheImpl as sgr_eq
+use Rattle.esc_sequences.specs.declared.csi.CSI.TheVariants as csi
+use Rattle.esc_sequences.specs.contracts.csi.CSIPartialEq.TheImpl as csi_eq
+use Rattle.esc_sequences.specs.contracts.sgr.SgrPartialEq.TheImpl as sgr_eq
 use Rattle.esc_equality.proofs.BelowSame.{entry_lists}
 use Rattle.esc_equality.proofs.Same.{IsSame, bools, both, never, numbers}
 

@@ -1,10 +1,10 @@
 //! Control codes, control sequences and actions. Of what lies in a box the value counts, and not where it lies.
 ghost use Rattle.std.specs.Prelude.{◌≡◌, ◌↔◌, IsTrue};
-ghost use Rattle.esc_below.specs.Csis.{csi_value};
+ghost use Rattle.esc_sequences.specs.Csis.{csi_value};
 ghost use Rattle.esc_actions.specs.Values.{value_of};
 
 use esc_actions::{Action, ControlCode};
-use esc_below::CSI;
+use esc_sequences::CSI;
 use std::alloc::Allocator;
 
 /// Whether two control codes are the same.

@@ -1,7 +1,7 @@
 //! Errors of readings and of parsers.
 ghost use Rattle.std.specs.Prelude.{◌≡◌, ◌↔◌, IsTrue};
 
-use esc_below::Error;
+use esc_values::Error;
 use esc_frame::ParseError;
 
 /// Whether two errors of a reading are the same.

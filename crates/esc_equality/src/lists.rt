@@ -1,7 +1,7 @@
 //! Lists and boxed values, where `==` of what they hold is equality.
 ghost use Rattle.std.specs.Prelude.{◌≡◌, ◌↔◌, IsTrue};
 
-use esc_below::{Boxed, Items};
+use esc_values::{Boxed, Items};
 use std::alloc::Allocator;
 
 /// Whether two lists are the same.

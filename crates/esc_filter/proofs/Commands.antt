@@ -11,9 +11,9 @@ use Rattle.std.specs.Option.{option_map, unwrap_or}
 use Rattle.std.specs.Str.{is_utf8}
 use Rattle.std.specs.Str.Lossy.{after_first_chunk, replacement_bytes, utf8_lossy, utf8_valid_len, valid_len_up_to}
 use Rattle.std.proofs.lemmas.Str.{IsUtf8-from_ascii, is_utf8-from_IsUtf8, utf8_lossy_step}
-use Rattle.esc_below.specs.Clear.{parts_of}
-use Rattle.esc_below.specs.Base64.{base64_text_of}
-use Rattle.esc_below.specs.Scalars.{and_then}
+use Rattle.esc_values.specs.Clear.{parts_of}
+use Rattle.esc_values.specs.Base64.{base64_text_of}
+use Rattle.esc_values.specs.Scalars.{and_then}
 use Rattle.esc_osc.proofs.Codes.{code_name_digit, code_of_text}
 use Rattle.esc_osc.specs.Codes.{changed_by, code_name, code_of, reset_by}
 use Rattle.esc_osc.specs.Colors.{colors_of}

@@ -4,10 +4,10 @@ use Rattle.std.proofs.Common.{IfOk, OnErr, Result, ◌||◌}
 use Rattle.std.specs.Prelude.{IsTrue, unwrap_or}
 use Rattle.std.specs.List.{FoldsTo, list_all, list_any, slice_split}
 use Rattle.std.proofs.lemmas.Bool.{and_parts}
-use Rattle.esc_below.specs.Csis.{CsiValue, csi_of, is_separator, put_first, rendition, renditions, sgr, unspecified}
-use Rattle.esc_below.specs.declared.csi.CSI.TheVariants as csi_variant
-use Rattle.esc_below.specs.declared.csi_param.CsiParam.{CsiParam}
-use Rattle.esc_below.specs.declared.sgr.Sgr.{Sgr}
+use Rattle.esc_sequences.specs.Csis.{CsiValue, csi_of, is_separator, put_first, rendition, renditions, sgr, unspecified}
+use Rattle.esc_sequences.specs.declared.csi.CSI.TheVariants as csi_variant
+use Rattle.esc_values.specs.declared.csi_param.CsiParam.{CsiParam}
+use Rattle.esc_sequences.specs.declared.sgr.Sgr.{Sgr}
 use Rattle.esc_actions.specs.Values.{Value, csi, osc, value_of}
 use Rattle.esc_actions.specs.Writable.{is_truncated}
 use Rattle.esc_actions.specs.declared.action.Action.{Action}

@@ -1,13 +1,13 @@
 -- What the policies admit.
 use Rattle.std.specs.Prelude.{ℕ, ◌≡◌, ◌≢◌, ◌≤◌, Bool, true, false, not, pos, negsuc, ◌==◌, nat_le, ◌&&◌, ◌||◌, List, [], ◌∷◌, length, Some, None}
 use Rattle.std.specs.List.{list_all}
-use Rattle.esc_below.specs.Csis.{CsiValue, sgr, unspecified}
-use Rattle.esc_below.specs.Entries.{is_from}
-use Rattle.esc_below.specs.declared.csi_param.CsiParam.{CsiParam}
-use Rattle.esc_below.specs.declared.csi_param.CsiParam.TheVariants.{Integer, P}
-use Rattle.esc_below.specs.declared.esc.Esc.{Esc}
-use Rattle.esc_below.specs.declared.esc.Esc.TheVariants as esc_variant
-use Rattle.esc_below.specs.declared.esc_code.EscCode.TheVariants as esc_code
+use Rattle.esc_sequences.specs.Csis.{CsiValue, sgr, unspecified}
+use Rattle.esc_values.specs.Entries.{is_from}
+use Rattle.esc_values.specs.declared.csi_param.CsiParam.{CsiParam}
+use Rattle.esc_values.specs.declared.csi_param.CsiParam.TheVariants.{Integer, P}
+use Rattle.esc_sequences.specs.declared.esc.Esc.{Esc}
+use Rattle.esc_sequences.specs.declared.esc.Esc.TheVariants as esc_variant
+use Rattle.esc_sequences.specs.declared.esc_code.EscCode.TheVariants as esc_code
 use Rattle.esc_osc.specs.declared.change_color_pair.ChangeColorPair.{ChangeColorPair}
 use Rattle.esc_osc.specs.declared.color_or_query.ColorOrQuery.{ColorOrQuery}
 use Rattle.esc_osc.specs.declared.color_or_query.ColorOrQuery.TheVariants as color

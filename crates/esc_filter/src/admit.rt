@@ -2,8 +2,8 @@
 ghost use Rattle.std.specs.Prelude.{◌≡◌, Bool, IfSome, IsTrue, Some, false, true};
 ghost use Rattle.std.specs.List.{list_all, list_any};
 ghost use Rattle.std.specs.Str.{chars};
-ghost use Rattle.esc_below.specs.Clear.{parts_of};
-ghost use Rattle.esc_below.specs.Csis.{csi_of, csi_value};
+ghost use Rattle.esc_values.specs.Clear.{parts_of};
+ghost use Rattle.esc_sequences.specs.Csis.{csi_of, csi_value};
 ghost use Rattle.esc_actions.specs.Values.{Value, csi, device_value, osc, print, value_of};
 ghost use Rattle.esc_actions.specs.Writable.{is_opening, is_truncated};
 ghost use Rattle.esc_device.specs.Writable.{is_high_byte};
@@ -12,7 +12,8 @@ ghost use Rattle.esc_parse.specs.Images.{is_image};
 ghost use Rattle.esc_filter.specs.Passing.{is_opener, is_whole, passes};
 
 use esc_actions::Action;
-use esc_below::{CSI, CsiParam, Esc};
+use esc_values::CsiParam;
+use esc_sequences::{CSI, Esc};
 use esc_device::DeviceControlMode;
 use std::alloc::Allocator;
 

@@ -4,7 +4,7 @@ ghost use Rattle.esc_actions.specs.Texts.{has_text, text_after, whole_text};
 ghost use Rattle.esc_actions.specs.Values.{Value, value_of};
 
 use esc_actions::Action;
-use esc_below::Text;
+use esc_values::Text;
 use esc_write::EncodeError;
 use std::alloc::{AllocError, Allocator};
 

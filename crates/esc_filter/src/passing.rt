@@ -4,7 +4,7 @@ ghost use Rattle.esc_filter.specs.Fed.{Takes};
 
 use crate::admit::{Admit, passes};
 use esc_actions::Action;
-use esc_below::CsiParam;
+use esc_values::CsiParam;
 use esc_normal::Spell;
 use esc_parse::Sink;
 use std::alloc::{AllocError, Allocator, Global};

@@ -1,8 +1,8 @@
 //! Policies.
 ghost use Rattle.std.specs.Prelude.{◌≡◌, ◌||◌, IfSome, IsTrue, Some, false, true};
 ghost use Rattle.std.specs.List.{list_all, list_any};
-ghost use Rattle.esc_below.specs.Clear.{parts_of};
-ghost use Rattle.esc_below.specs.Csis.{csi_of, csi_value};
+ghost use Rattle.esc_values.specs.Clear.{parts_of};
+ghost use Rattle.esc_sequences.specs.Csis.{csi_of, csi_value};
 ghost use Rattle.esc_actions.specs.Values.{value_of};
 ghost use Rattle.esc_osc.specs.Reading.{meaning as command_meant};
 ghost use Rattle.esc_filter.specs.Rules.{BeginsOther, is_colour, is_layout, is_link, is_plain_entry, is_rendition, is_screen_sequence, is_shown, is_text};
@@ -10,7 +10,8 @@ ghost use Rattle.esc_filter.specs.Rules.{BeginsOther, is_colour, is_layout, is_l
 use crate::admit::Admit;
 use crate::screen::{is_screen, is_screen_body};
 use esc_actions::Action;
-use esc_below::{CSI, CsiParam};
+use esc_values::CsiParam;
+use esc_sequences::CSI;
 use esc_osc::OperatingSystemCommand;
 use esc_write::is_plain_link;
 use std::alloc::Allocator;

@@ -1,15 +1,16 @@
 //! What changes the screen alone (xterm's list of control sequences, <https://invisible-island.net/xterm/ctlseqs/ctlseqs.html>).
 ghost use Rattle.std.specs.Prelude.{◌≡◌};
 ghost use Rattle.std.specs.List.{list_all};
-ghost use Rattle.esc_below.specs.Csis.{csi_value};
-ghost use Rattle.esc_below.specs.Entries.{is_from};
-ghost use Rattle.esc_below.specs.declared.csi_param.CsiParam.TheVariants.{Integer};
+ghost use Rattle.esc_sequences.specs.Csis.{csi_value};
+ghost use Rattle.esc_values.specs.Entries.{is_from};
+ghost use Rattle.esc_values.specs.declared.csi_param.CsiParam.TheVariants.{Integer};
 ghost use Rattle.esc_actions.specs.Values.{value_of};
 ghost use Rattle.esc_filter.specs.Rules.{changes_modes, is_designation, is_insert_mode, is_line_move, is_lone, is_mode_entry, is_palette, is_private, is_privately_marked, is_screen, is_screen_body, is_screen_control, is_screen_escape, is_screen_sequence, is_set, is_set_pair, is_shape, is_space, moves_or_erases, scrolls_down};
 
 use crate::policy::are_plain;
 use esc_actions::Action;
-use esc_below::{CSI, CsiParam, Esc, EscCode};
+use esc_values::CsiParam;
+use esc_sequences::{CSI, Esc, EscCode};
 use esc_osc::{ChangeColorPair, ColorOrQuery, OperatingSystemCommand};
 use std::alloc::Allocator;
 

@@ -1,7 +1,7 @@
 //! A text of which the memory is used again.
 ghost use Rattle.std.specs.Prelude.{◌≡◌, []};
 
-use esc_below::Text;
+use esc_values::Text;
 use std::alloc::Allocator;
 
 /// The empty text, in the memory of this one.

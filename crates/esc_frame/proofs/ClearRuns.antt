@@ -10,7 +10,7 @@ use Rattle.std.specs.Str.{chars, IsUtf8, encode_utf8_all}
 use Rattle.std.proofs.lemmas.Bool.{and_parts, cases_lt}
 use Rattle.std.proofs.lemmas.Str.{encode_ascii, encodes-chars, scalars-chars, chars-nil, chars_past_char}
 use lib.Utf8.{scalar, scalars}
-use Rattle.esc_below.specs.Clear.{is_clear}
+use Rattle.esc_values.specs.Clear.{is_clear}
 use Rattle.esc_frame.specs.Scans.{is_text_byte, is_free_byte, IsFreeTo}
 use Rattle.esc_frame.specs.Events.{Event, StopsAt}
 use Rattle.esc_frame.specs.Events.Event.{Print}

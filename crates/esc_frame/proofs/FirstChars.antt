@@ -6,7 +6,7 @@ use Rattle.std.specs.Str.{chars, encode_utf8_all}
 use Rattle.std.proofs.lemmas.Bool.{and_parts}
 use Rattle.std.proofs.lemmas.Str.{encode_ascii, encodes-chars, char_from_byte}
 use lib.Utf8.{scalar}
-use Rattle.esc_below.specs.Clear.{is_clear}
+use Rattle.esc_values.specs.Clear.{is_clear}
 use Rattle.esc_frame.specs.Sequences.{is_sequence, number_of}
 use Rattle.esc_frame.specs.Machine.Texts.{IsClearText, IsNext}
 use Rattle.std.proofs.Common.{take, length-drop}

@@ -6,8 +6,8 @@ use Rattle.std.proofs.lemmas.Str.{encode_ascii}
 use Rattle.std.proofs.lemmas.Bool.Decides.{nat_tests}
 use Rattle.std.specs.Char.{encode_utf8}
 use Rattle.std.specs.List.{list_all}
-use Rattle.esc_below.specs.Clear.{is_clear, IsClearText, parts_of}
-use Rattle.esc_below.proofs.Split.{clear_append, text_parts}
+use Rattle.esc_values.specs.Clear.{is_clear, IsClearText, parts_of}
+use Rattle.esc_values.proofs.Split.{clear_append, text_parts}
 use Rattle.esc_frame.specs.declared.classes.Class.{Class}
 use Rattle.esc_frame.specs.declared.classes.Class.TheVariants.{Plain, Bell, Intermediate, Parameter}
 use Rattle.esc_frame.specs.Classes.{class_of, AllOf, those, strip, is_text, is_plain, is_noise, is_intermediate, in_escape, is_control, is_raw_control, is_put}

@@ -8,7 +8,7 @@ use Rattle.std.proofs.lemmas.List.Elements.{filter-append}
 use Rattle.std.proofs.lemmas.List.{append-nil}
 use Rattle.std.proofs.lemmas.Bool.{and_parts}
 use Rattle.std.proofs.lemmas.Bool.Decides.{nat_tests}
-use Rattle.esc_below.specs.Clear.{parts_of}
+use Rattle.esc_values.specs.Clear.{parts_of}
 use Rattle.esc_frame.specs.declared.body.Form.{Form}
 use Rattle.esc_frame.specs.declared.body.Form.TheVariants as form
 use Rattle.esc_frame.specs.declared.header.DcsHeader.{DcsHeader}

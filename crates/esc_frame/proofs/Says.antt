@@ -4,7 +4,7 @@ use Rattle.std.proofs.lemmas.List.{append-nil}
 use Rattle.std.proofs.lemmas.Str.{encode_ascii}
 use Rattle.std.proofs.lemmas.Bool.Decides.{nat_tests}
 use Rattle.std.specs.Char.{encode_utf8}
-use Rattle.esc_below.specs.Clear.{is_clear}
+use Rattle.esc_values.specs.Clear.{is_clear}
 use Rattle.esc_frame.specs.Classes.{class_of, is_text, is_control, is_raw_control}
 use Rattle.esc_frame.specs.Sequences.{is_broken_before}
 use Rattle.esc_frame.specs.Events.{Event}

@@ -6,7 +6,7 @@ use Rattle.std.specs.List.{list_all}
 use Rattle.std.proofs.lemmas.List.{append-nil}
 use Rattle.std.proofs.lemmas.Str.{encode_ascii}
 use Rattle.std.proofs.lemmas.Bool.{and_parts}
-use Rattle.esc_below.specs.Clear.{is_clear, IsClearText, parts_of}
+use Rattle.esc_values.specs.Clear.{is_clear, IsClearText, parts_of}
 use Rattle.esc_frame.specs.declared.classes.Class.{Class}
 use Rattle.esc_frame.specs.declared.classes.Class.TheVariants.{Intermediate, Parameter, Opens, Final, Delete}
 use Rattle.esc_frame.specs.Classes.{class_of, AllOf, is_text, is_put, in_osc, in_data, in_body, ends_csi}

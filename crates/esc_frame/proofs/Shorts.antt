@@ -5,11 +5,11 @@ use Rattle.std.specs.List.{list_all}
 use Rattle.std.proofs.lemmas.List.{append-nil, take_all, take_more}
 use Rattle.std.proofs.lemmas.List.Folds.{list_all-append}
 use Rattle.std.proofs.lemmas.Bool.Decides.{nat_tests}
-use Rattle.esc_below.specs.declared.csi_param.CsiParam.{CsiParam}
-use Rattle.esc_below.specs.declared.csi_param.CsiParam.TheVariants.{Integer, P}
+use Rattle.esc_values.specs.declared.csi_param.CsiParam.{CsiParam}
+use Rattle.esc_values.specs.declared.csi_param.CsiParam.TheVariants.{Integer, P}
 use Rattle.esc_frame.specs.declared.body.Form.{Form}
 use Rattle.esc_frame.specs.declared.body.Form.TheVariants as form
-use Rattle.esc_below.specs.Entries.{is_from}
+use Rattle.esc_values.specs.Entries.{is_from}
 use Rattle.esc_frame.specs.Bodies.{is_digit, is_marker, is_csi_parameter, entries, held, value_behind, kept_entries, has_more_entries}
 use Rattle.esc_frame.specs.Machine.Keeps.{number_of_run, number_at, closed_of, shown, form_from, next_form, is_formed}
 use Rattle.esc_frame.specs.Scans.{is_body_byte}

@@ -1,6 +1,6 @@
 -- What the events of any stream can be, and texts that are one segment.
 use Rattle.std.specs.Prelude.{ℕ, ◌≡◌, true, false, ◌||◌, ◌&&◌, List, [], ◌∷◌}
-use Rattle.esc_below.specs.Clear.{is_clear, AreTextParts}
+use Rattle.esc_values.specs.Clear.{is_clear, AreTextParts}
 use Rattle.esc_frame.specs.Classes.{class_of, AllOf, in_body, is_control, is_raw_control, is_intermediate, ends_escape, opens, ends_csi, is_put, is_text}
 use Rattle.esc_frame.specs.Bodies.{is_csi_body, is_dcs_header}
 use Rattle.esc_frame.specs.Events.{Event}

@@ -6,7 +6,7 @@ use Rattle.esc_frame.specs.declared.classes.Kind.TheVariants as kind
 use Rattle.esc_frame.specs.Classes.{class_of, AllOf, those, strip, is_plain, is_raw, is_breaker, is_noise, is_control, is_raw_control, is_terminator, is_text}
 use Rattle.esc_frame.specs.Classes.{is_high, in_escape, ends_escape, opens, in_csi, ends_csi, in_osc, in_data, is_put, is_ignored, letter_of, raw_of}
 use Rattle.esc_frame.specs.Sequences.{is_sequence, is_front, is_pair, is_broken_before, number_of}
-use Rattle.esc_below.specs.Clear.{parts_of}
+use Rattle.esc_values.specs.Clear.{parts_of}
 use Rattle.esc_frame.specs.Events.{Event}
 use Rattle.esc_frame.specs.Events.Event.{Print, Execute, EscDispatch, CsiDispatch, OscDispatch, DcsHook, DcsPut, DcsUnhook, ApcDispatch}
 use Rattle.esc_frame.specs.Limits.{is_within, is_read}

@@ -3,7 +3,7 @@
 
 ghost use Rattle.std.specs.Prelude.{◌≡◌, ◌<◌, ◌++◌, [], ◌∷◌, length};
 
-use esc_below::csi_param::CsiParam;
+use esc_values::csi_param::CsiParam;
 use std::marker::Model;
 
 /// At most 256 entries, in an array that is filled at the first of them: an empty list costs nothing to make. Contracts see
@@ -16,7 +16,7 @@ pub struct EntryList {
 
 impl Model for EntryList {
     ghost use Rattle.std.specs.Prelude.{List};
-    ghost use Rattle.esc_below.specs.declared.csi_param.CsiParam.{CsiParam as Entry};
+    ghost use Rattle.esc_values.specs.declared.csi_param.CsiParam.{CsiParam as Entry};
     ghost use Rattle.esc_frame.specs.Machine.Cells.{first_cells, HasCells};
 
     ghost Value = { List Entry };

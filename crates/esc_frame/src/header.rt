@@ -2,7 +2,7 @@
 #![tactic(auto)]
 
 ghost use Rattle.std.specs.Prelude.{◌≡◌, ◌++◌, ℕ, List, [], ◌∷◌, map, pos, IfOk};
-ghost use Rattle.esc_below.specs.Clear.{parts_of};
+ghost use Rattle.esc_values.specs.Clear.{parts_of};
 ghost use Rattle.esc_frame.specs.Bodies.{is_dcs_parameter, is_dcs_header, held, value_behind};
 ghost use Rattle.esc_frame.specs.Machine.Keeps.{KeepsDcs, next_form_by};
 

@@ -4,7 +4,7 @@
 ghost use Rattle.std.specs.Prelude.{◌≡◌, ◌++◌, ◌&&◌, ℕ, List, Option, [], ◌∷◌, true, false};
 ghost use Rattle.std.specs.Char.{encode_utf8};
 ghost use Rattle.std.specs.List.{list_any};
-ghost use Rattle.esc_below.specs.Clear.{is_clear, IsClearText, parts_of};
+ghost use Rattle.esc_values.specs.Clear.{is_clear, IsClearText, parts_of};
 ghost use Rattle.esc_frame.specs.Classes.{class_of, AllOf, is_control, is_raw_control, is_intermediate, is_text, is_put, in_body, ends_escape, ends_csi, opens};
 ghost use Rattle.esc_frame.specs.Bodies.{is_csi_body, is_dcs_header, kept_intermediates, has_more_intermediates};
 ghost use Rattle.esc_frame.specs.Events.{Event};

@@ -8,7 +8,7 @@ ghost use Rattle.esc_frame.specs.Machine.Shorts.{IsBehind, IsFront, IsShort};
 
 use crate::entries::next_number;
 use crate::sequence::lies_from;
-use esc_below::csi_param::CsiParam;
+use esc_values::csi_param::CsiParam;
 
 /// At most 32 entries. They take no memory.
 #[derive(Drop)]

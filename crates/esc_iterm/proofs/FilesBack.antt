@@ -6,14 +6,14 @@ use Rattle.std.specs.Option.{option_map, unwrap_or}
 use Rattle.std.specs.Prelude.{IfSome}
 use Rattle.std.specs.Str.{IsUtf8}
 use Rattle.std.proofs.lemmas.List.{append_assoc}
-use Rattle.esc_below.specs.Base64.{base64_text_of, base64_text}
-use Rattle.esc_below.specs.Clear.{joined, separated}
-use Rattle.esc_below.specs.Cuts.{Pairs, pair_text, last_value}
-use Rattle.esc_below.specs.Scalars.{and_then, when, number_of}
-use Rattle.esc_below.proofs.Base64.{base64_passes, base64_back, base64_bytes_back}
-use Rattle.esc_below.proofs.Numerals.{number_back, decimal_passes, signed_passes}
-use Rattle.esc_below.proofs.PlainParts.{is_part_plain, all_append}
-use Rattle.esc_below.proofs.Utf8Bytes.{utf8_are_bytes, from_index}
+use Rattle.esc_values.specs.Base64.{base64_text_of, base64_text}
+use Rattle.esc_values.specs.Clear.{joined, separated}
+use Rattle.esc_values.specs.Cuts.{Pairs, pair_text, last_value}
+use Rattle.esc_values.specs.Scalars.{and_then, when, number_of}
+use Rattle.esc_values.proofs.Base64.{base64_passes, base64_back, base64_bytes_back}
+use Rattle.esc_values.proofs.Numerals.{number_back, decimal_passes, signed_passes}
+use Rattle.esc_values.proofs.PlainParts.{is_part_plain, all_append}
+use Rattle.esc_values.proofs.Utf8Bytes.{utf8_are_bytes, from_index}
 use Rattle.esc_iterm.specs.Dimensions.{IsDimension}
 use Rattle.esc_iterm.specs.Files.{Values, no_values, values_after, file_with, file_text, size_in, is_set, written_dimension, written_keys}
 use Rattle.esc_iterm.specs.Files.{IsWritableFile, FileBack}

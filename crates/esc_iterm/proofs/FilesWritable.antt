@@ -4,9 +4,9 @@ use Rattle.std.specs.List.{starts_with}
 use Rattle.std.specs.Option.{unwrap_or}
 use Rattle.std.specs.Str.{IsUtf8}
 use Rattle.base64.specs.GeneralPurpose.{IsBytes}
-use Rattle.esc_below.specs.Base64.{base64_of, base64_text_of}
-use Rattle.esc_below.specs.Scalars.{and_then, number_of}
-use Rattle.esc_below.proofs.Where.{Where, where_from, where_if, where_map, where_then, number_where, Anything, anything, content_where}
+use Rattle.esc_values.specs.Base64.{base64_of, base64_text_of}
+use Rattle.esc_values.specs.Scalars.{and_then, number_of}
+use Rattle.esc_values.proofs.Where.{Where, where_from, where_if, where_map, where_then, number_where, Anything, anything, content_where}
 use Rattle.esc_iterm.specs.Dimensions.{dimension_of, IsDimension}
 use Rattle.esc_iterm.specs.Files.{Values, values_of, size_in, filled, file_with, file_from, file_of, IsWritableFile}
 use Rattle.esc_iterm.specs.declared.dimension.ITermDimension.{ITermDimension}

@@ -7,14 +7,14 @@ use Rattle.std.specs.Str.{IsUtf8}
 use Rattle.std.specs.Str.Lossy.{utf8_lossy}
 use Rattle.std.proofs.lemmas.List.{append-nil}
 use Rattle.std.proofs.lemmas.Bool.{cases_Bool}
-use Rattle.esc_below.specs.Base64.{base64_text, base64_text_of}
-use Rattle.esc_below.specs.Clear.{IsClearPart, joined}
-use Rattle.esc_below.specs.Scalars.{and_then}
-use Rattle.esc_below.proofs.Base64.{base64_part, base64_back}
-use Rattle.esc_below.proofs.ClearPairs.{key_back, key_none}
-use Rattle.esc_below.proofs.ClearTexts.{part_append, part_lossy}
-use Rattle.esc_below.proofs.Cutting.{Free}
-use Rattle.esc_below.proofs.PlainParts.{plain_part}
+use Rattle.esc_values.specs.Base64.{base64_text, base64_text_of}
+use Rattle.esc_values.specs.Clear.{IsClearPart, joined}
+use Rattle.esc_values.specs.Scalars.{and_then}
+use Rattle.esc_values.proofs.Base64.{base64_part, base64_back}
+use Rattle.esc_values.proofs.ClearPairs.{key_back, key_none}
+use Rattle.esc_values.proofs.ClearTexts.{part_append, part_lossy}
+use Rattle.esc_values.proofs.Cutting.{Free}
+use Rattle.esc_values.proofs.PlainParts.{plain_part}
 use Rattle.esc_iterm.specs.Files.{file_of, FileBack}
 use Rattle.esc_iterm.specs.ITerms.{alone, bare, keyed, form_from, form_of, iterm_of, form_text}
 use Rattle.esc_iterm.specs.Tenths.{tenths_text}

@@ -5,12 +5,12 @@ use Rattle.std.specs.List.{starts_with}
 use Rattle.std.specs.Option.{option_map}
 use Rattle.std.specs.Str.{IsUtf8}
 use Rattle.std.specs.Str.Lossy.{utf8_lossy}
-use Rattle.esc_below.specs.Base64.{base64_text_of}
-use Rattle.esc_below.specs.Clear.{IsClearPart, AreClearParts}
-use Rattle.esc_below.specs.Cuts.{key_and_value}
-use Rattle.esc_below.proofs.ClearPairs.{IsClearPair, key_clear}
-use Rattle.esc_below.proofs.ClearTexts.{part_lossy}
-use Rattle.esc_below.proofs.Where.{Where, where_from, where_if, where_map, where_then, content_where}
+use Rattle.esc_values.specs.Base64.{base64_text_of}
+use Rattle.esc_values.specs.Clear.{IsClearPart, AreClearParts}
+use Rattle.esc_values.specs.Cuts.{key_and_value}
+use Rattle.esc_values.proofs.ClearPairs.{IsClearPair, key_clear}
+use Rattle.esc_values.proofs.ClearTexts.{part_lossy}
+use Rattle.esc_values.proofs.Where.{Where, where_from, where_if, where_map, where_then, content_where}
 use Rattle.esc_iterm.specs.Files.{file_of, IsWritableFile}
 use Rattle.esc_iterm.specs.ITerms.{alone, highlight_of, variable_of, assigned, content_of, cell_size, scaled_size, with_one, with_two, bare, keyed}
 use Rattle.esc_iterm.specs.ITerms.{form_from, form_of, iterm_of}

@@ -4,8 +4,8 @@ use Rattle.std.proofs.Common.{◌++◌, length, map, take, get_or, Option, Some,
 use Rattle.std.proofs.Common.{append_assoc, append-nil}
 use Rattle.std.specs.Option.{is_some}
 use Rattle.std.proofs.lemmas.List.{take_more, flat_map_more, map-append}
-use Rattle.esc_below.specs.Clear.{joined, separated}
-use Rattle.esc_below.specs.Cuts.{pair_text}
+use Rattle.esc_values.specs.Clear.{joined, separated}
+use Rattle.esc_values.specs.Cuts.{pair_text}
 use Rattle.esc_iterm.specs.Files.{key_piece, key_pieces, pieces_after}
 
 -- whether there is no piece

@@ -4,7 +4,7 @@ use Rattle.std.specs.Str.{is_utf8}
 use Rattle.std.specs.Str.Lossy.{utf8_lossy}
 use Rattle.std.proofs.lemmas.Str.{utf8_lossy-IsUtf8, IsUtf8-from_is_utf8}
 use Rattle.std.proofs.lemmas.Bool.{cases_Bool}
-use Rattle.esc_below.specs.Scalars.{utf8_of}
+use Rattle.esc_values.specs.Scalars.{utf8_of}
 
 pub text_lossy : (t bs : List ℕ) → Some t ≡ utf8_of bs → utf8_lossy bs ≡ t
 text_lossy t bs h =

@@ -6,12 +6,12 @@ use Rattle.std.specs.List.{list_all}
 use Rattle.std.specs.Option.{option_map}
 use Rattle.std.proofs.lemmas.Bool.{ne_eqb}
 use Rattle.std.proofs.lemmas.List.{append-nil, append_assoc, length-append}
-use Rattle.esc_below.specs.Clear.{separated, joined, IsClearPart, AreClearParts}
-use Rattle.esc_below.specs.Cuts.{Pairs, key_and_value, pair_text, pairs_in, last_value}
-use Rattle.esc_below.specs.Scalars.{and_then}
-use Rattle.esc_below.proofs.ClearPairs.{key_back}
-use Rattle.esc_below.proofs.Cutting.{Free, free_passes, cut_there}
-use Rattle.esc_below.proofs.PlainParts.{is_part_plain, plain_part, all_append}
+use Rattle.esc_values.specs.Clear.{separated, joined, IsClearPart, AreClearParts}
+use Rattle.esc_values.specs.Cuts.{Pairs, key_and_value, pair_text, pairs_in, last_value}
+use Rattle.esc_values.specs.Scalars.{and_then}
+use Rattle.esc_values.proofs.ClearPairs.{key_back}
+use Rattle.esc_values.proofs.Cutting.{Free, free_passes, cut_there}
+use Rattle.esc_values.proofs.PlainParts.{is_part_plain, plain_part, all_append}
 use Rattle.esc_iterm.specs.Files.{piece_pairs, last_pairs, pairs_of, key_piece, key_pieces, file_of, file_from}
 use Rattle.esc_iterm.proofs.KeyTexts.{is_key_plain, key_plain_part}
 

@@ -2,8 +2,8 @@
 use Rattle.std.proofs.Common.{ℕ, ◌≡◌, List, [], ◌∷◌, ◌++◌, nat_eq, if◌then◌else◌, codes, Option, Some, None, refl, sym, ap, ◌∙◌}
 use Rattle.std.specs.Cmp.Lexicographic.{pointwise}
 use Rattle.std.specs.Option.{option_map}
-use Rattle.esc_below.specs.Cuts.{Pairs, cut_at, last_value}
-use Rattle.esc_below.specs.Scalars.{and_then}
+use Rattle.esc_values.specs.Cuts.{Pairs, cut_at, last_value}
+use Rattle.esc_values.specs.Scalars.{and_then}
 use Rattle.esc_iterm.specs.Files.{Values, values_after, piece_pairs, last_pairs, pairs_of}
 use Rattle.esc_iterm.proofs.FilesBack.{same_values}
 

@@ -4,15 +4,15 @@ use Rattle.std.specs.Fmt.{decimal}
 use Rattle.std.proofs.lemmas.Bool.{le-leb, ltb-true, cases_Bool}
 use Rattle.std.proofs.lemmas.Fmt.{decimal_is_IsNumeral, decimal_digit}
 use Rattle.std.proofs.lemmas.Str.Parse.{digit_at}
-use Rattle.esc_below.specs.Clear.{IsClearPart}
-use Rattle.esc_below.specs.Cuts.{cut_at}
-use Rattle.esc_below.specs.Scalars.{and_then, when, number_in}
-use Rattle.esc_below.proofs.ClearTexts.{part_append}
-use Rattle.esc_below.proofs.Cutting.{Free, free_from, cut_there}
-use Rattle.esc_below.proofs.Numbers.{test_from_numeral}
-use Rattle.esc_below.proofs.Numerals.{decimal_part}
-use Rattle.esc_below.proofs.PlainParts.{plain_part}
-use Rattle.esc_below.proofs.Where.{Where, where_then, Anything, anything}
+use Rattle.esc_values.specs.Clear.{IsClearPart}
+use Rattle.esc_values.specs.Cuts.{cut_at}
+use Rattle.esc_values.specs.Scalars.{and_then, when, number_in}
+use Rattle.esc_values.proofs.ClearTexts.{part_append}
+use Rattle.esc_values.proofs.Cutting.{Free, free_from, cut_there}
+use Rattle.esc_values.proofs.Numbers.{test_from_numeral}
+use Rattle.esc_values.proofs.Numerals.{decimal_part}
+use Rattle.esc_values.proofs.PlainParts.{plain_part}
+use Rattle.esc_values.proofs.Where.{Where, where_then, Anything, anything}
 use Rattle.esc_iterm.specs.Tenths.{tenth_of, tenths_in, tenths_from, tenths_of, tenths_text}
 
 -- a number has no character below the digits

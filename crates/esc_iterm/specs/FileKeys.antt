@@ -2,7 +2,7 @@
 use Rattle.std.specs.Prelude.{ℕ, List, Option}
 use Rattle.std.specs.Fmt.{decimal}
 use Rattle.std.specs.Option.{option_map}
-use Rattle.esc_below.specs.Base64.{base64_text}
+use Rattle.esc_values.specs.Base64.{base64_text}
 use Rattle.esc_iterm.specs.Files.{written_dimension}
 use Rattle.esc_iterm.specs.declared.write_file.Key.{Key}
 use Rattle.esc_iterm.specs.declared.write_file.Value.{Value}

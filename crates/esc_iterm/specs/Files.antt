@@ -7,10 +7,10 @@ use Rattle.std.specs.List.{starts_with}
 use Rattle.std.specs.Option.{option_map, unwrap_or}
 use Rattle.std.specs.Str.{IsUtf8}
 use Rattle.base64.specs.GeneralPurpose.{IsBytes}
-use Rattle.esc_below.specs.Base64.{base64_of, base64_text_of, base64_text}
-use Rattle.esc_below.specs.Clear.{joined, separated, AreClearParts}
-use Rattle.esc_below.specs.Cuts.{Pairs, cut_at, pair_text, pairs_in, without_empty, last_value}
-use Rattle.esc_below.specs.Scalars.{and_then, when, number_of}
+use Rattle.esc_values.specs.Base64.{base64_of, base64_text_of, base64_text}
+use Rattle.esc_values.specs.Clear.{joined, separated, AreClearParts}
+use Rattle.esc_values.specs.Cuts.{Pairs, cut_at, pair_text, pairs_in, without_empty, last_value}
+use Rattle.esc_values.specs.Scalars.{and_then, when, number_of}
 use Rattle.esc_iterm.specs.Dimensions.{dimension_of, dimension_text, IsDimension}
 use Rattle.esc_iterm.specs.declared.dimension.ITermDimension.{ITermDimension}
 use Rattle.esc_iterm.specs.declared.dimension.ITermDimension.TheVariants.{Automatic, Cells, Pixels, Percent}

@@ -4,9 +4,9 @@ use Rattle.std.specs.Cmp.Lexicographic.{pointwise}
 use Rattle.std.specs.List.{starts_with}
 use Rattle.std.specs.Option.{option_map}
 use Rattle.std.specs.Str.Lossy.{utf8_lossy}
-use Rattle.esc_below.specs.Base64.{base64_text_of, base64_text}
-use Rattle.esc_below.specs.Cuts.{key_and_value}
-use Rattle.esc_below.specs.Scalars.{and_then}
+use Rattle.esc_values.specs.Base64.{base64_text_of, base64_text}
+use Rattle.esc_values.specs.Cuts.{key_and_value}
+use Rattle.esc_values.specs.Scalars.{and_then}
 use Rattle.esc_iterm.specs.Files.{file_of, file_text}
 use Rattle.esc_iterm.specs.Tenths.{tenths_of, tenths_text}
 use Rattle.esc_iterm.specs.Versions.{version_of, version_text}

@@ -1,9 +1,9 @@
 -- Tenths: numbers with one digit after the point, counted in tenths.
 use Rattle.std.specs.Prelude.{ℕ, ◌+◌, ◌-◌, ◌*◌, ◌^◌, ◌/◌, ◌%◌, nat_lt, List, [], ◌∷◌, ◌++◌, Option, Some, None}
 use Rattle.std.specs.Fmt.{decimal}
-use Rattle.esc_below.specs.Cuts.{cut_at}
-use Rattle.esc_below.specs.Entries.{is_digit}
-use Rattle.esc_below.specs.Scalars.{and_then, when, number_in}
+use Rattle.esc_values.specs.Cuts.{cut_at}
+use Rattle.esc_values.specs.Entries.{is_digit}
+use Rattle.esc_values.specs.Scalars.{and_then, when, number_in}
 
 -- at most one digit after the point; none is 0
 abbrev pub tenth_of : List ℕ → Option ℕ

@@ -3,8 +3,8 @@ use Rattle.std.specs.Prelude.{ℕ, nat_eq, if◌then◌else◌, List, ◌∷◌,
 use Rattle.std.specs.Cmp.Lexicographic.{pointwise}
 use Rattle.std.specs.Fmt.{decimal}
 use Rattle.std.specs.Option.{option_map}
-use Rattle.esc_below.specs.Cuts.{cut_at}
-use Rattle.esc_below.specs.Scalars.{utf8_of, number_of}
+use Rattle.esc_values.specs.Cuts.{cut_at}
+use Rattle.esc_values.specs.Scalars.{utf8_of, number_of}
 use Rattle.esc_iterm.specs.declared.unicode_version.ITermUnicodeVersionOp.{ITermUnicodeVersionOp}
 use Rattle.esc_iterm.specs.declared.unicode_version.ITermUnicodeVersionOp.TheVariants as version
 

@@ -1,8 +1,8 @@
 -- Which of iTerm2's proprietary commands read back from their text.
 use Rattle.std.specs.Prelude.{ℕ, ◌≡◌, ◌<◌, ◌^◌, List, ◌∷◌, codes, Option, Some, None}
 use Rattle.std.specs.Str.{IsUtf8}
-use Rattle.esc_below.specs.Clear.{IsClearPart, AreClearParts, joined}
-use Rattle.esc_below.specs.Cuts.{cut_at}
+use Rattle.esc_values.specs.Clear.{IsClearPart, AreClearParts, joined}
+use Rattle.esc_values.specs.Cuts.{cut_at}
 use Rattle.esc_iterm.specs.Files.{IsWritableFile}
 use Rattle.esc_iterm.specs.ITerms.{iterm_of, iterm_text}
 use Rattle.esc_iterm.specs.declared.proprietary.ITermProprietary.{ITermProprietary}

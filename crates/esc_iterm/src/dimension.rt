@@ -1,13 +1,13 @@
 //! The width or the height at which a file is shown (<https://iterm2.com/documentation-images.html>).
 ghost use Rattle.std.specs.Prelude.{◌≡◌, ◌*◌, ◌^◌, nat_lt, IsTrue, ◌↔◌, Some};
 ghost use Rattle.std.specs.Option.{ok_or};
-ghost use Rattle.esc_below.specs.Scalars.{when};
-ghost use Rattle.esc_below.specs.declared.error.Error.TheVariants.{Invalid};
+ghost use Rattle.esc_values.specs.Scalars.{when};
+ghost use Rattle.esc_values.specs.declared.error.Error.TheVariants.{Invalid};
 ghost use Rattle.esc_iterm.specs.Dimensions.{dimension_of, dimension_text, percentage, not_negative, pixels_product, FitsPixels, pixels_of};
 ghost use Rattle.esc_iterm.specs.declared.dimension.ITermDimension.TheVariants.{Automatic};
 
-use esc_below::Error;
-use esc_below::scalar::read_i64;
+use esc_values::Error;
+use esc_values::scalar::read_i64;
 use std::fmt;
 use std::str::FromStr;
 

@@ -5,7 +5,7 @@ ghost use Rattle.esc_iterm.specs.Files.{file_of, file_text, plain_file};
 use crate::dimension::ITermDimension;
 use crate::read_file::read_file;
 use crate::write_file::{write_content, write_keys};
-use esc_below::{Items, Text};
+use esc_values::{Items, Text};
 use std::alloc::{AllocError, Allocator, Global};
 use std::fmt;
 

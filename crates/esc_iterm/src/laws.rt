@@ -1,6 +1,6 @@
 //! Laws of iTerm2's proprietary commands: what is written reads back, and what clear parts mean can be written.
 ghost use Rattle.std.specs.Prelude.{◌≡◌, List, ℕ, Some};
-ghost use Rattle.esc_below.specs.Clear.{AreClearParts};
+ghost use Rattle.esc_values.specs.Clear.{AreClearParts};
 ghost use Rattle.esc_iterm.specs.ITerms.{iterm_of};
 ghost use Rattle.esc_iterm.specs.WritableITerms.{IsWritableITerm, WritesBack};
 ghost use Rattle.esc_iterm.specs.declared.proprietary.ITermProprietary.{ITermProprietary};

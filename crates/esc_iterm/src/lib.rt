@@ -23,7 +23,7 @@ mod write;
 mod write_file;
 
 pub use dimension::ITermDimension;
-pub use esc_below::{Boxed, boxed};
+pub use esc_values::{Boxed, boxed};
 pub use file_data::ITermFileData;
 pub use proprietary::ITermProprietary;
 pub use unicode_version::ITermUnicodeVersionOp;

@@ -1,7 +1,7 @@
 //! iTerm2's proprietary commands (<https://iterm2.com/documentation-escape-codes.html>).
 use crate::file_data::ITermFileData;
 use crate::unicode_version::ITermUnicodeVersionOp;
-use esc_below::{Boxed, Text};
+use esc_values::{Boxed, Text};
 use std::alloc::{Allocator, Global};
 
 /// A proprietary command of iTerm2: the operating system command 1337 (iTerm2's documentation, "Proprietary Escape

@@ -3,7 +3,7 @@ ghost use Rattle.std.specs.Prelude.{◌≡◌, IfOk, map, Some, None};
 ghost use Rattle.std.specs.Str.Lossy.{utf8_lossy};
 ghost use Rattle.esc_iterm.specs.ITerms.{alone, assigned, bare, cell_size, content_of, form_of, highlight_of, iterm_of, keyed, variable_of, with_one, with_two};
 ghost use Rattle.std.specs.Option.{option_map};
-ghost use Rattle.esc_below.specs.Base64.{base64_text_of};
+ghost use Rattle.esc_values.specs.Base64.{base64_text_of};
 ghost use Rattle.esc_iterm.specs.Files.{file_of};
 ghost use Rattle.esc_iterm.specs.TextForms.{with_text};
 ghost use Rattle.esc_iterm.specs.Versions.{version_of};
@@ -14,10 +14,10 @@ use crate::proprietary::ITermProprietary;
 use crate::read_version::read_version;
 use crate::tenths::read_tenths;
 use crate::text_form::TextForm;
-use esc_below::base64_text::read_base64_text;
-use esc_below::cut::key_and_value;
-use esc_below::scalar::text_in;
-use esc_below::{Boxed, Text};
+use esc_values::base64_text::read_base64_text;
+use esc_values::cut::key_and_value;
+use esc_values::scalar::text_in;
+use esc_values::{Boxed, Text};
 use std::alloc::{AllocError, Allocator};
 
 impl<A: Allocator + Copy> ITermProprietary<A> {

@@ -1,18 +1,18 @@
 //! How files are read.
 ghost use Rattle.std.specs.Prelude.{◌≡◌, ℕ, List, [], ◌∷◌, IfOk, map, Some};
 ghost use Rattle.std.specs.Option.{option_map};
-ghost use Rattle.esc_below.specs.Base64.{base64_text_of};
-ghost use Rattle.esc_below.specs.Scalars.{and_then, number_of};
+ghost use Rattle.esc_values.specs.Base64.{base64_text_of};
+ghost use Rattle.esc_values.specs.Scalars.{and_then, number_of};
 ghost use Rattle.esc_iterm.specs.Files.{Values, file_of, filled, file_with, is_set, last_pairs, piece_pairs, size_in, values_after, values_of, values_with};
 ghost use Rattle.esc_iterm.specs.Keys.{values};
 
 use crate::dimension::{ITermDimension, read_dimension};
 use crate::file_data::ITermFileData;
 use crate::file_keys::FileKeys;
-use esc_below::base64_text::{read_base64, read_base64_text};
-use esc_below::cut::{cut, key_and_value};
-use esc_below::scalar::read_usize;
-use esc_below::{Items, Text};
+use esc_values::base64_text::{read_base64, read_base64_text};
+use esc_values::cut::{cut, key_and_value};
+use esc_values::scalar::read_usize;
+use esc_values::{Items, Text};
 use std::alloc::{AllocError, Allocator};
 
 // The file that the parts after the code are.

@@ -3,9 +3,9 @@ ghost use Rattle.std.specs.Prelude.{◌≡◌, IfOk};
 ghost use Rattle.esc_iterm.specs.Versions.{labelled, unlabelled, version_of};
 
 use crate::unicode_version::ITermUnicodeVersionOp;
-use esc_below::Text;
-use esc_below::cut::cut;
-use esc_below::scalar::{read_u8, text_in};
+use esc_values::Text;
+use esc_values::cut::cut;
+use esc_values::scalar::{read_u8, text_in};
 use std::alloc::{AllocError, Allocator};
 
 // `push` or `pop`, with or without a label after the first space, or a number.

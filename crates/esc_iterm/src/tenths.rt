@@ -1,10 +1,10 @@
 //! Tenths: numbers with one digit after the point.
 ghost use Rattle.std.specs.Prelude.{◌≡◌, ◌<◌, IfSome, Some};
-ghost use Rattle.esc_below.specs.Scalars.{number_in};
+ghost use Rattle.esc_values.specs.Scalars.{number_in};
 ghost use Rattle.esc_iterm.specs.Tenths.{tenth_of, tenths_in, tenths_of, tenths_text};
 
-use esc_below::cut::cut;
-use esc_below::scalar::read_u32;
+use esc_values::cut::cut;
+use esc_values::scalar::read_u32;
 use std::fmt;
 
 /// The tenths that these bytes write, where they fit: at least one ASCII digit, then optionally a point and at most one

@@ -3,7 +3,7 @@ ghost use Rattle.std.specs.Prelude.{◌≡◌};
 ghost use Rattle.esc_iterm.specs.TextForms.{with_text};
 
 use crate::proprietary::ITermProprietary;
-use esc_below::Text;
+use esc_values::Text;
 use std::alloc::Allocator;
 
 // A command that is a keyword and one text.

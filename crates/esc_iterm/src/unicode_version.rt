@@ -2,7 +2,7 @@
 ghost use Rattle.std.specs.Prelude.{Some};
 ghost use Rattle.esc_iterm.specs.Versions.{version_text};
 
-use esc_below::Text;
+use esc_values::Text;
 use std::alloc::{Allocator, Global};
 use std::fmt;
 

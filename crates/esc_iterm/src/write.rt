@@ -5,7 +5,7 @@ ghost use Rattle.esc_iterm.specs.ITerms.{form_text, iterm_text, scale_text};
 
 use crate::proprietary::ITermProprietary;
 use crate::tenths::Tenths;
-use esc_below::base64_text::Encoded;
+use esc_values::base64_text::Encoded;
 use std::alloc::Allocator;
 use std::fmt;
 use std::fmt::Display;

@@ -2,16 +2,16 @@
 ghost use Rattle.std.specs.Prelude.{◌≡◌, ◌&&◌, not, is_some, if◌then◌else◌, [], ◌∷◌, map, Some};
 ghost use Rattle.std.specs.Fmt.{DisplaysOnOk};
 ghost use Rattle.std.specs.Option.{option_map, unwrap_or};
-ghost use Rattle.esc_below.specs.Base64.{base64_text};
-ghost use Rattle.esc_below.specs.Clear.{joined};
-ghost use Rattle.esc_below.specs.Scalars.{when};
+ghost use Rattle.esc_values.specs.Base64.{base64_text};
+ghost use Rattle.esc_values.specs.Clear.{joined};
+ghost use Rattle.esc_values.specs.Scalars.{when};
 ghost use Rattle.esc_iterm.specs.FileKeys.{entry, value_text};
 ghost use Rattle.esc_iterm.specs.Files.{key_piece, key_pieces, pieces_after, written_keys};
 
 use crate::dimension::ITermDimension;
 use crate::file_data::ITermFileData;
-use esc_below::base64_text::Encoded;
-use esc_below::{Items, Text};
+use esc_values::base64_text::Encoded;
+use esc_values::{Items, Text};
 use std::alloc::Allocator;
 use std::fmt;
 use std::fmt::Display;

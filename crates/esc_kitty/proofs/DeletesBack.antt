@@ -2,7 +2,7 @@
 use Rattle.std.proofs.Common.{ℕ, ℤ, ◌≡◌, Bool, true, false, List, [], codes, Option, Some, None, refl, ap, ◌∙◌}
 use Rattle.std.specs.List.{list_all}
 use Rattle.std.specs.Option.{unwrap_or}
-use Rattle.esc_below.proofs.Signed.{signed_back_32}
+use Rattle.esc_values.proofs.Signed.{signed_back_32}
 use Rattle.esc_kitty.specs.Images.{delete_of, image_by}
 use Rattle.esc_kitty.specs.Keys.{Values}
 use Rattle.esc_kitty.specs.Texts.{delete_keys, is_bare, letter, named_keys, placed_keys, written}

@@ -3,12 +3,12 @@ use Rattle.std.proofs.Common.{ℕ, ℤ, ◌≡◌, ◌<◌, ◌^◌, Bool, true,
 use Rattle.std.specs.Fmt.{decimal}
 use Rattle.std.specs.Option.{unwrap_or}
 use Rattle.std.proofs.lemmas.Bool.{ne_eqb}
-use Rattle.esc_below.specs.Scalars.{and_then, number_of, signed_of}
-use Rattle.esc_below.proofs.Base64.{base64_back}
-use Rattle.esc_below.proofs.ClearTexts.{clear_utf8}
-use Rattle.esc_below.proofs.Numerals.{number_back}
-use Rattle.esc_below.proofs.Plain.{plain_clear}
-use Rattle.esc_below.proofs.Signed.{signed_back_32}
+use Rattle.esc_values.specs.Scalars.{and_then, number_of, signed_of}
+use Rattle.esc_values.proofs.Base64.{base64_back}
+use Rattle.esc_values.proofs.ClearTexts.{clear_utf8}
+use Rattle.esc_values.proofs.Numerals.{number_back}
+use Rattle.esc_values.proofs.Plain.{plain_clear}
+use Rattle.esc_values.proofs.Signed.{signed_back_32}
 use Rattle.std.proofs.lemmas.Str.{is_utf8-from_IsUtf8}
 use Rattle.esc_kitty.specs.Images.{compose_of, content_by, frame_of, placement_of, transmit_of}
 use Rattle.esc_kitty.specs.Keys.{Values, not_zero}

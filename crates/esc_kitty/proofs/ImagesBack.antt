@@ -1,7 +1,7 @@
 -- Every writable image reads back.
 use Rattle.std.proofs.Common.{ℕ, ◌≡◌, true, false, List, [], ◌∷◌, codes, Option, Some, refl, ◌∙◌}
 use Rattle.std.specs.List.{list_all}
-use Rattle.esc_below.specs.Cuts.{Pairs}
+use Rattle.esc_values.specs.Cuts.{Pairs}
 use Rattle.esc_kitty.specs.Images.{compose_of, frame_of, image_by, image_frame, image_in, image_shown, placement_of, transmit_of}
 use Rattle.esc_kitty.specs.Keys.{Values, values_of}
 use Rattle.esc_kitty.specs.Texts.{compose_keys, content_text, display_keys, frame_keys, is_bare, number_text, offset_in, or_action, query_keys}

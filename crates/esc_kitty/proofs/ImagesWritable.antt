@@ -4,11 +4,11 @@ use Rattle.std.specs.List.{list_all}
 use Rattle.std.specs.Option.{option_map, unwrap_or}
 use Rattle.std.specs.Str.{IsUtf8}
 use Rattle.std.proofs.lemmas.Bool.{eqb-false, cases_Bool, and_parts}
-use Rattle.esc_below.specs.Base64.{base64_text_of}
-use Rattle.esc_below.specs.Cuts.{Pairs, cut_at}
-use Rattle.esc_below.specs.Scalars.{IsSigned, and_then, number_of, signed_of, utf8_of}
-use Rattle.esc_below.proofs.Signed.{signed_where}
-use Rattle.esc_below.proofs.Where.{Where, where_if, where_map, where_then, number_where, utf8_keeps, Anything, anything, content_where}
+use Rattle.esc_values.specs.Base64.{base64_text_of}
+use Rattle.esc_values.specs.Cuts.{Pairs, cut_at}
+use Rattle.esc_values.specs.Scalars.{IsSigned, and_then, number_of, signed_of, utf8_of}
+use Rattle.esc_values.proofs.Signed.{signed_where}
+use Rattle.esc_values.proofs.Where.{Where, where_if, where_map, where_then, number_where, utf8_keeps, Anything, anything, content_where}
 use Rattle.esc_kitty.specs.Images.{compose_of, content_by, content_of, delete_by, delete_in, delete_of, frame_of, image_by, image_frame, image_in}
 use Rattle.esc_kitty.specs.Images.{image_of, image_shown, image_with, is_capital, keys_and_payload, placement_of, transmit_of}
 use Rattle.esc_kitty.specs.Keys.{Values, keys_of, not_zero, number, signed, values_of}

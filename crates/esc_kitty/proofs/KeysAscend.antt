@@ -2,7 +2,7 @@
 use Rattle.std.proofs.Common.{ℕ, ◌≡◌, Bool, true, ◌&&◌, List, [], ◌∷◌, Option, Some, None, refl}
 use Rattle.std.proofs.lemmas.Bool.{and_parts}
 use Rattle.std.specs.List.{list_all}
-use Rattle.esc_below.specs.Cuts.{Pairs}
+use Rattle.esc_values.specs.Cuts.{Pairs}
 use Rattle.esc_kitty.specs.Texts.{Entry, ascends, compose_keys, delete_keys, display_keys, frame_keys, image_keys, or_action, query_keys, shown_keys}
 use Rattle.esc_kitty.specs.Texts.{stands_before, transmit_keys, with_value, written}
 use Rattle.esc_kitty.specs.declared.verbosity.KittyImageVerbosity.{KittyImageVerbosity}

@@ -11,12 +11,12 @@ use Rattle.std.proofs.lemmas.Str.Parse.{digit_at}
 use Rattle.std.proofs.Math.Path.{fun_ext}
 use Rattle.base64.specs.Tables.{all_below}
 use Rattle.base64.proofs.Tables.{all_below_at}
-use Rattle.esc_below.specs.Clear.{IsClearPart}
-use Rattle.esc_below.specs.Cuts.{Pairs, cut_at, pair_text, pairs_in, last_value}
-use Rattle.esc_below.specs.Scalars.{IsSigned}
-use Rattle.esc_below.proofs.ClearPairs.{key_back}
-use Rattle.esc_below.proofs.Cutting.{Free, free_passes, cut_there, split_free}
-use Rattle.esc_below.proofs.PlainParts.{is_part_plain, plain_part, all_append}
+use Rattle.esc_values.specs.Clear.{IsClearPart}
+use Rattle.esc_values.specs.Cuts.{Pairs, cut_at, pair_text, pairs_in, last_value}
+use Rattle.esc_values.specs.Scalars.{IsSigned}
+use Rattle.esc_values.proofs.ClearPairs.{key_back}
+use Rattle.esc_values.proofs.Cutting.{Free, free_passes, cut_there, split_free}
+use Rattle.esc_values.proofs.PlainParts.{is_part_plain, plain_part, all_append}
 use Rattle.esc_kitty.specs.Images.{image_in, image_of, image_with, keys_and_payload}
 use Rattle.esc_kitty.specs.Keys.{keys_of, values_of}
 use Rattle.esc_kitty.specs.Texts.{Entry, is_bare, keys_text, with_value, written}
@@ -80,7 +80,7 @@ ArePairs (e ∷ es) = IsPair e × ArePairs es
 pair_word : (e : List ℕ × List ℕ) → IsPair e → IsWord (pair_text e)
 pair_word e h = all_append is_word e.0 (0x3d ∷ e.1) h.key h.value
 
-pair_back : (e : List ℕ × List ℕ) → IsPair e → Rattle.esc_below.specs.Cuts.key_and_value (pair_text e) ≡ Some e
+pair_back : (e : List ℕ × List ℕ) → IsPair e → Rattle.esc_values.specs.Cuts.key_and_value (pair_text e) ≡ Some e
 pair_back e h = key_back e.0 e.1 (word_clear e.0 h.key) h.lacks (word_clear e.1 h.value)
 
 pairs_back : (es : Pairs) → ArePairs es → pairs_in (map pair_text es) ≡ Some es

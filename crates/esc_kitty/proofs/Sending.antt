@@ -2,8 +2,8 @@
 use Rattle.std.proofs.Common.{zero, suc, ℕ, ◌≡◌, true, false, List, [], ◌∷◌, ◌++◌, drop, codes, Option, Some, None, refl, ◌∙◌}
 use Rattle.std.specs.List.{list_all}
 use Rattle.std.specs.Option.{unwrap_or}
-use Rattle.esc_below.specs.Cuts.{Pairs}
-use Rattle.esc_below.proofs.PlainParts.{all_append}
+use Rattle.esc_values.specs.Cuts.{Pairs}
+use Rattle.esc_values.proofs.PlainParts.{all_append}
 use Rattle.esc_kitty.specs.Images.{image_by, image_in, image_of}
 use Rattle.esc_kitty.specs.Keys.{Values, values_of}
 use Rattle.esc_kitty.specs.Texts.{Entry, is_bare, keys_text, with_value, written}

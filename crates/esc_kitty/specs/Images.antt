@@ -1,9 +1,9 @@
 -- What the data of an application program command means as an image.
 use Rattle.std.specs.Prelude.{ℕ, ◌+◌, ◌==◌, nat_le, ◌&&◌, Bool, true, false, if◌then◌else◌, List, [], ◌∷◌, codes, Option, Some, None}
 use Rattle.std.specs.Option.{option_map, unwrap_or}
-use Rattle.esc_below.specs.Base64.{base64_text_of}
-use Rattle.esc_below.specs.Cuts.{cut_at}
-use Rattle.esc_below.specs.Scalars.{and_then, utf8_of}
+use Rattle.esc_values.specs.Base64.{base64_text_of}
+use Rattle.esc_values.specs.Cuts.{cut_at}
+use Rattle.esc_values.specs.Scalars.{and_then, utf8_of}
 use Rattle.esc_kitty.specs.Keys.{Values, keys_of, values_of, number, signed, not_zero}
 use Rattle.esc_kitty.specs.Words.{is, verbosity_of, flag_of, format_of, compression_of, composition_of}
 use Rattle.esc_kitty.specs.declared.verbosity.KittyImageVerbosity.{KittyImageVerbosity}

@@ -1,8 +1,8 @@
 -- The keys of an image with their values.
 use Rattle.std.specs.Prelude.{ℕ, ℤ, ◌==◌, if◌then◌else◌, List, map, Option, Some, None}
 use Rattle.std.specs.List.{slice_split}
-use Rattle.esc_below.specs.Cuts.{Pairs, pairs_in, last_value}
-use Rattle.esc_below.specs.Scalars.{and_then, number_of, signed_of}
+use Rattle.esc_values.specs.Cuts.{Pairs, pairs_in, last_value}
+use Rattle.esc_values.specs.Scalars.{and_then, number_of, signed_of}
 use Rattle.esc_kitty.specs.declared.keys.Pair.{Pair}
 
 -- the keys of a text and their values: between `,`, in UTF-8, and each with a `=`, the first of which ends the key

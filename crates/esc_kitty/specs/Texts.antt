@@ -5,8 +5,8 @@ use Rattle.std.specs.Cmp.Lexicographic.{slice_cmp}
 use Rattle.std.specs.List.{flat_map, list_all}
 use Rattle.std.specs.Ordering.{is_lt, nat_cmp}
 use Rattle.std.specs.Option.{option_map}
-use Rattle.esc_below.specs.Base64.{base64_text}
-use Rattle.esc_below.specs.Cuts.{Pairs, pair_text}
+use Rattle.esc_values.specs.Base64.{base64_text}
+use Rattle.esc_values.specs.Cuts.{Pairs, pair_text}
 use Rattle.esc_kitty.specs.Words.{verbosity_word, flag_word, format_word, compression_word, composition_word}
 use Rattle.esc_kitty.specs.declared.write_keys.Value.{Value}
 use Rattle.esc_kitty.specs.declared.write_keys.Value.TheVariants as value

@@ -2,7 +2,7 @@
 use Rattle.std.specs.Prelude.{ℕ, ℤ, ◌≡◌, ◌≢◌, ◌<◌, ◌^◌, Bool, true, nat_le, ◌&&◌, Option, Some, IfSome}
 use Rattle.std.specs.List.{list_all}
 use Rattle.std.specs.Str.{IsUtf8}
-use Rattle.esc_below.specs.Scalars.{IsSigned}
+use Rattle.esc_values.specs.Scalars.{IsSigned}
 use Rattle.esc_kitty.specs.Images.{image_of}
 use Rattle.esc_kitty.specs.Texts.{image_body}
 use Rattle.esc_kitty.specs.declared.content.KittyImageData.{KittyImageData}

@@ -3,8 +3,8 @@ ghost use Rattle.std.specs.Prelude.{◌≡◌, Some};
 ghost use Rattle.std.specs.Option.{option_map};
 ghost use Rattle.esc_kitty.specs.Texts.{content_text, medium_word, offset_in, size_in};
 
-use esc_below::base64_text::Encoded;
-use esc_below::{Items, Text};
+use esc_values::base64_text::Encoded;
+use esc_values::{Items, Text};
 use std::alloc::{Allocator, Global};
 use std::fmt;
 use std::fmt::Display;

@@ -2,12 +2,12 @@
 ghost use Rattle.std.specs.Prelude.{◌≡◌, ◌==◌, IfOk, map};
 ghost use Rattle.std.specs.List.{slice_split};
 ghost use Rattle.std.specs.Option.{option_map};
-ghost use Rattle.esc_below.specs.Cuts.{pairs_in};
+ghost use Rattle.esc_values.specs.Cuts.{pairs_in};
 ghost use Rattle.esc_kitty.specs.Keys.{keys_of, not_zero, number, pairs, signed, values};
 ghost use Rattle.esc_kitty.specs.Words.{flag_of};
 
-use esc_below::cut::key_and_value;
-use esc_below::scalar::{read_i32, read_u32};
+use esc_values::cut::key_and_value;
+use esc_values::scalar::{read_i32, read_u32};
 use std::alloc::{AllocError, Allocator};
 
 // A key with its value.

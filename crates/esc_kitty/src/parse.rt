@@ -11,7 +11,7 @@ use crate::read_delete::read_delete;
 use crate::read_shown::{read_compose, read_frame, read_placement};
 use crate::read_transmit::read_transmit;
 use crate::verbosity::KittyImageVerbosity;
-use esc_below::cut::cut;
+use esc_values::cut::cut;
 use std::alloc::{AllocError, Allocator};
 
 impl<A: Allocator + Copy> KittyImage<A> {

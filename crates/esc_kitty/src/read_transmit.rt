@@ -2,8 +2,8 @@
 ghost use Rattle.std.specs.Prelude.{◌≡◌, IfOk};
 ghost use Rattle.esc_kitty.specs.Keys.{values};
 ghost use Rattle.std.specs.Option.{option_map};
-ghost use Rattle.esc_below.specs.Base64.{base64_text_of};
-ghost use Rattle.esc_below.specs.Scalars.{utf8_of};
+ghost use Rattle.esc_values.specs.Base64.{base64_text_of};
+ghost use Rattle.esc_values.specs.Scalars.{utf8_of};
 ghost use Rattle.esc_kitty.specs.Images.{content_by, content_of, transmit_of};
 ghost use Rattle.esc_kitty.specs.Media.{named};
 ghost use Rattle.esc_kitty.specs.declared.content.KittyImageData.TheVariants.{Direct};
@@ -13,9 +13,9 @@ use crate::content::KittyImageData;
 use crate::format::KittyImageFormat;
 use crate::keys::{Pair, flag, number, value};
 use crate::transmit::KittyImageTransmit;
-use esc_below::Text;
-use esc_below::base64_text::read_base64_text;
-use esc_below::scalar::text_in;
+use esc_values::Text;
+use esc_values::base64_text::read_base64_text;
+use esc_values::scalar::text_in;
 use std::alloc::{AllocError, Allocator};
 
 // The image of these keys and this payload, if they are one.

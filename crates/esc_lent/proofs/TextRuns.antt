@@ -5,7 +5,7 @@ use Rattle.std.proofs.lemmas.Bool.{and_parts}
 use Rattle.std.proofs.lemmas.Bool.Decides.{nat_tests}
 use Rattle.std.specs.List.{list_all, prefix_len}
 use Rattle.std.specs.Str.{IsUtf8}
-use Rattle.esc_below.specs.Clear.{is_clear}
+use Rattle.esc_values.specs.Clear.{is_clear}
 use Rattle.esc_frame.proofs.ClearRuns.{free_text_clear}
 use Rattle.esc_frame.proofs.ManyBytes.{run_passes}
 use Rattle.esc_frame.specs.Scans.{is_text_byte, IsFreeTo}

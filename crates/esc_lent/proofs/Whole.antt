@@ -4,7 +4,7 @@ use Rattle.std.proofs.Common.{subst, Some, Option, arith}
 use Rattle.std.proofs.Math.Seq.{take-add}
 use Rattle.std.proofs.lemmas.List.{append-nil}
 use Rattle.std.proofs.lemmas.Bool.Decides.{nat_tests}
-use Rattle.esc_below.specs.Clear.{parts_of}
+use Rattle.esc_values.specs.Clear.{parts_of}
 use Rattle.esc_frame.specs.declared.classes.Class.{Class}
 use Rattle.esc_frame.specs.declared.classes.Class.TheVariants.{Bell, Escape}
 use Rattle.esc_frame.specs.Classes.{class_of}

@@ -2,7 +2,7 @@
 use Rattle.std.specs.Prelude.{ℕ, ◌≡◌, Bool, true, not, ◌&&◌, List, length, take, Option, Some}
 use Rattle.std.specs.List.{list_all}
 use Rattle.std.specs.Str.{chars, IsUtf8}
-use Rattle.esc_below.specs.Clear.{is_clear}
+use Rattle.esc_values.specs.Clear.{is_clear}
 use Rattle.esc_frame.specs.Classes.{ends_escape, opens}
 use Rattle.esc_frame.specs.declared.classes.Class.{Class}
 use Rattle.esc_frame.specs.Leads.{Unfinished}

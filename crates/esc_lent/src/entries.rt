@@ -9,7 +9,7 @@ ghost use Rattle.esc_lent.specs.Told.{param_of};
 use crate::event::EscEntry;
 use crate::numbers::{form_of, number_of_form};
 use crate::parser::EscParser;
-use esc_below::csi_param::CsiParam;
+use esc_values::csi_param::CsiParam;
 use esc_frame::body::CsiBody;
 use esc_frame::entries::Entries;
 use esc_frame::entry_list::EntryList;

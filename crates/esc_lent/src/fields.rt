@@ -8,7 +8,7 @@ ghost use Rattle.esc_frame.specs.Machine.Shorts.{IsBehind, IsFront, IsShort};
 ghost use Rattle.esc_lent.specs.Told.{param_of};
 
 use crate::event::EscEntry;
-use esc_below::csi_param::CsiParam;
+use esc_values::csi_param::CsiParam;
 use esc_frame::entries::next_number;
 use esc_frame::sequence::lies_from;
 

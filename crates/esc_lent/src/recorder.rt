@@ -2,7 +2,7 @@
 #![tactic(auto)]
 
 ghost use Rattle.std.specs.Prelude.{◌≡◌, ◌≤◌, ◌<◌, ◌++◌, ◌∷◌, [], false, length, ℕ, List, IsTrue, OnOk};
-ghost use Rattle.esc_below.specs.Clear.{parts_of};
+ghost use Rattle.esc_values.specs.Clear.{parts_of};
 ghost use Rattle.esc_frame.specs.Bodies.{held, value_behind};
 ghost use Rattle.esc_frame.specs.Events.{Hears};
 ghost use Rattle.esc_frame.specs.Events.Event.{Print, Execute, EscDispatch, CsiDispatch, OscDispatch, DcsHook};
@@ -13,7 +13,7 @@ use crate::event::{
     APC, CHARACTER, CONTROL, CSI, DATA_BYTE, DCS, DCS_END, ESCAPE, EscEvent, NONE, OSC,
 };
 use crate::named::Named;
-use esc_below::csi_param::CsiParam;
+use esc_values::csi_param::CsiParam;
 use esc_frame::actor::VTActor;
 use std::alloc::{AllocError, Allocator};
 use std::marker::PhantomData;

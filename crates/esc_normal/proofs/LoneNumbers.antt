@@ -6,15 +6,15 @@ use Rattle.std.specs.Char.{encode_utf8}
 use Rattle.std.proofs.lemmas.Bool.{and_parts, eqb-true}
 use Rattle.std.proofs.lemmas.List.{append-nil}
 use Rattle.std.proofs.lemmas.Str.{encode_ascii}
-use Rattle.esc_below.specs.declared.csi.CSI.{CSI}
-use Rattle.esc_below.specs.declared.csi.CSI.TheVariants as csi_variant
-use Rattle.esc_below.specs.declared.csi_param.CsiParam.TheVariants.{Integer}
-use Rattle.esc_below.specs.declared.intensity.Intensity.TheVariants as intensity
-use Rattle.esc_below.specs.declared.sgr.Sgr.{Sgr}
-use Rattle.esc_below.specs.declared.sgr.Sgr.TheVariants.{Reset, Intensity, Italic, Underline}
-use Rattle.esc_below.specs.declared.underline.Underline.TheVariants as underline
-use Rattle.esc_below.specs.Csis.{csi_of, csi_text, csi_value, named, numbered, sgr_body, unspecified}
-use Rattle.esc_below.proofs.Digits.{decimal_one, decimal_two}
+use Rattle.esc_sequences.specs.declared.csi.CSI.{CSI}
+use Rattle.esc_sequences.specs.declared.csi.CSI.TheVariants as csi_variant
+use Rattle.esc_values.specs.declared.csi_param.CsiParam.TheVariants.{Integer}
+use Rattle.esc_sequences.specs.declared.intensity.Intensity.TheVariants as intensity
+use Rattle.esc_sequences.specs.declared.sgr.Sgr.{Sgr}
+use Rattle.esc_sequences.specs.declared.sgr.Sgr.TheVariants.{Reset, Intensity, Italic, Underline}
+use Rattle.esc_sequences.specs.declared.underline.Underline.TheVariants as underline
+use Rattle.esc_sequences.specs.Csis.{csi_of, csi_text, csi_value, named, numbered, sgr_body, unspecified}
+use Rattle.esc_values.proofs.Digits.{decimal_one, decimal_two}
 
 -- a test of a chain of tests
 tested : (b : Bool) (x s : Sgr) (o : Option Sgr) → (if b then Some x else o) ≡ Some s → ((b ≡ true) × (x ≡ s)) ⊎ (o ≡ Some s)

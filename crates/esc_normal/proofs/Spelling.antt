@@ -4,11 +4,11 @@ use Rattle.std.proofs.Common.{MatchResult, OnOk, Result, Ok, Err, refl, ap, sym,
 use Rattle.std.proofs.Common.{IfOk, append_assoc, arith}
 use Rattle.std.proofs.lemmas.List.{append-nil}
 use Rattle.std.specs.List.{FoldsTo}
-use Rattle.esc_below.specs.Clear.{framed, parts_of}
-use Rattle.esc_below.specs.Csis.{CsiValue, csi_of, csi_text, csi_value, unspecified}
-use Rattle.esc_below.specs.declared.csi.CSI.{CSI}
-use Rattle.esc_below.specs.declared.csi.CSI.TheVariants as csi_variant
-use Rattle.esc_below.specs.declared.csi_param.CsiParam.{CsiParam}
+use Rattle.esc_values.specs.Clear.{framed, parts_of}
+use Rattle.esc_sequences.specs.Csis.{CsiValue, csi_of, csi_text, csi_value, unspecified}
+use Rattle.esc_sequences.specs.declared.csi.CSI.{CSI}
+use Rattle.esc_sequences.specs.declared.csi.CSI.TheVariants as csi_variant
+use Rattle.esc_values.specs.declared.csi_param.CsiParam.{CsiParam}
 use Rattle.esc_frame.specs.Events.{Event, StopsAt, Takes}
 use Rattle.esc_frame.specs.Events.Event.{OscDispatch}
 use Rattle.esc_osc.specs.Commands.{command_text}

@@ -11,7 +11,7 @@ use crate::normalise_error::NormaliseError;
 use crate::speller::Speller;
 use crate::watched::Watched;
 use esc_actions::laws;
-use esc_below::Text;
+use esc_values::Text;
 use esc_frame::error::ParseError;
 use esc_frame::parser::VTParser;
 use std::alloc::Allocator;

@@ -1,8 +1,8 @@
 //! The sink that writes what it takes.
 ghost use Rattle.std.specs.Prelude.{◌≡◌, ◌<◌, ◌++◌, [], Ok, OnOk, false, true};
 ghost use Rattle.std.specs.List.{list_all};
-ghost use Rattle.esc_below.specs.Clear.{framed};
-ghost use Rattle.esc_below.specs.Csis.{csi_text, unspecified};
+ghost use Rattle.esc_values.specs.Clear.{framed};
+ghost use Rattle.esc_sequences.specs.Csis.{csi_text, unspecified};
 ghost use Rattle.esc_frame.specs.Scans.{is_text_byte};
 ghost use Rattle.esc_actions.specs.Texts.{is_string, text_after};
 ghost use Rattle.esc_actions.specs.Values.{value_of};
@@ -11,7 +11,7 @@ ghost use Rattle.esc_osc.specs.declared.command.OperatingSystemCommand.{Operatin
 ghost use Rattle.esc_write.specs.Plain.{short_text};
 
 use esc_actions::Action;
-use esc_below::{CsiParam, Text};
+use esc_values::{CsiParam, Text};
 use esc_osc::OperatingSystemCommand;
 use esc_parse::Sink;
 use esc_write::commands::verbatim;

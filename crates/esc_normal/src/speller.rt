@@ -5,7 +5,7 @@ ghost use Rattle.esc_parse.specs.Fed.{Hooks};
 ghost use Rattle.esc_normal.specs.Spelled.{Spells};
 
 use crate::spell::Spell;
-use esc_below::{CsiParam, Text};
+use esc_values::{CsiParam, Text};
 use esc_frame::actor::VTActor;
 use esc_osc::OperatingSystemCommand;
 use esc_parse::commands::command_in;

@@ -6,12 +6,12 @@ use Rattle.std.specs.Fmt.{digit_glyph, decimal}
 use Rattle.std.specs.List.{flat_map, list_all}
 use Rattle.base64.specs.Tables.{all_below}
 use Rattle.base64.proofs.Tables.{all_below_at}
-use Rattle.esc_below.specs.Clear.{IsClearPart, AreClearParts}
-use Rattle.esc_below.proofs.PlainParts.{is_part_plain, plain_part, all_append}
-use Rattle.esc_below.proofs.Cutting.{free_passes, cut_there}
+use Rattle.esc_values.specs.Clear.{IsClearPart, AreClearParts}
+use Rattle.esc_values.proofs.PlainParts.{is_part_plain, plain_part, all_append}
+use Rattle.esc_values.proofs.Cutting.{free_passes, cut_there}
 use Rattle.esc_osc.proofs.Found.{is_found, found}
 use Rattle.esc_osc.proofs.Numerals.{byte_back, byte_part}
-use Rattle.esc_below.specs.Cuts.{cut_at}
+use Rattle.esc_values.specs.Cuts.{cut_at}
 use Rattle.esc_osc.specs.Colors.{hex_of, channel_of, rgb_of, color_from, spec_of, colors_of, pairs_of, hex4, spec_text, pair_text}
 use Rattle.esc_osc.specs.Writable.{IsColor, AreColors, ArePairs}
 use Rattle.esc_osc.specs.declared.change_color_pair.ChangeColorPair.{ChangeColorPair}

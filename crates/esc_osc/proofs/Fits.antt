@@ -6,9 +6,9 @@ use Rattle.std.specs.Cmp.Lexicographic.{pointwise}
 use Rattle.std.specs.List.{starts_with}
 use Rattle.std.specs.Option.{option_map, unwrap_or}
 use Rattle.std.proofs.lemmas.Bool.{ltb-true, leb-true, cases_Bool, and_parts}
-use Rattle.esc_below.specs.Scalars.{and_then, number_of}
-use Rattle.esc_below.proofs.Where.{Where, where_if, where_map, where_then, number_where, Anything, anything}
-use Rattle.esc_below.specs.Cuts.{cut_at}
+use Rattle.esc_values.specs.Scalars.{and_then, number_of}
+use Rattle.esc_values.proofs.Where.{Where, where_if, where_map, where_then, number_where, Anything, anything}
+use Rattle.esc_values.specs.Cuts.{cut_at}
 use Rattle.esc_osc.specs.Colors.{hex_of, hex_after, channel_of, color_from, rgb_of, sharp_of, spec_of, colors_of, pairs_of}
 use Rattle.esc_osc.specs.Progresses.{held, percent_of, state_of, progress_of}
 use Rattle.esc_osc.specs.Reading.{numbers_of}

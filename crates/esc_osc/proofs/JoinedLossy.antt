@@ -2,8 +2,8 @@
 use Rattle.std.proofs.Common.{ℕ, ◌≡◌, List, [], ◌∷◌, ◌++◌, refl, ap}
 use Rattle.std.specs.List.{flat_map}
 use Rattle.std.specs.Str.Lossy.{utf8_lossy}
-use Rattle.esc_below.specs.Clear.{AreClearParts, joined}
-use Rattle.esc_below.proofs.ClearTexts.{part_lossy}
+use Rattle.esc_values.specs.Clear.{AreClearParts, joined}
+use Rattle.esc_values.proofs.ClearTexts.{part_lossy}
 use Rattle.esc_osc.specs.Commands.{joined_by}
 
 behind_lossy : (ps : List (List ℕ)) → AreClearParts ps → flat_map (λ y. 0x3b ∷ utf8_lossy y) ps ≡ flat_map (λ q. 0x3b ∷ q) ps

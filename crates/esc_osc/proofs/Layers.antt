@@ -1,12 +1,12 @@
 -- Links, prompts and commands of iTerm2, by the laws of the crates that read and write them.
 use Rattle.std.proofs.Common.{ℕ, ◌≡◌, List, [], ◌∷◌, Option, Some, sym, ap, ◌∙◌}
 use Rattle.std.specs.Option.{option_map, unwrap_or}
-use Rattle.esc_below.specs.Clear.{IsClearText, IsClearPart, AreClearParts, parts_of}
-use Rattle.esc_below.specs.Hyperlinks.{link_of, link_text}
-use Rattle.esc_below.specs.declared.hyperlink.Hyperlink.{Hyperlink}
-use Rattle.esc_below.proofs.LinksBack.{link_back, link_parts}
-use Rattle.esc_below.proofs.Split.{text_parts}
-use Rattle.esc_below.proofs.Where.{Where, where_from, where_map}
+use Rattle.esc_values.specs.Clear.{IsClearText, IsClearPart, AreClearParts, parts_of}
+use Rattle.esc_links.specs.Hyperlinks.{link_of, link_text}
+use Rattle.esc_links.specs.declared.hyperlink.Hyperlink.{Hyperlink}
+use Rattle.esc_links.proofs.LinksBack.{link_back, link_parts}
+use Rattle.esc_values.proofs.Split.{text_parts}
+use Rattle.esc_values.proofs.Where.{Where, where_from, where_map}
 use Rattle.esc_iterm.specs.ITerms.{iterm_of}
 use Rattle.esc_iterm.specs.WritableITerms.{IsWritableITerm}
 use Rattle.esc_iterm.specs.declared.proprietary.ITermProprietary.{ITermProprietary}

@@ -5,9 +5,9 @@ use Rattle.std.specs.Str.{IsUtf8, is_utf8}
 use Rattle.std.proofs.lemmas.Bool.{ne_eqb}
 use Rattle.std.proofs.lemmas.List.{append-nil}
 use Rattle.std.proofs.lemmas.Str.{is_utf8-from_IsUtf8}
-use Rattle.esc_below.proofs.ClearTexts.{part_utf8}
-use Rattle.esc_below.proofs.PlainParts.{plain_part}
-use Rattle.esc_below.specs.Clear.{framed}
+use Rattle.esc_values.proofs.ClearTexts.{part_utf8}
+use Rattle.esc_values.proofs.PlainParts.{plain_part}
+use Rattle.esc_values.specs.Clear.{framed}
 use Rattle.esc_osc.specs.Commands.{command_text}
 use Rattle.esc_osc.specs.Reading.{reading}
 use Rattle.esc_osc.specs.declared.code.OperatingSystemCommandCode.TheVariants as code

@@ -3,9 +3,9 @@ use Rattle.std.proofs.Common.{ℕ, ◌≡◌, ◌<◌, nat_eq, false, List, [], 
 use Rattle.std.specs.Fmt.{decimal}
 use Rattle.std.proofs.lemmas.Bool.{ne_eqb}
 use Rattle.std.proofs.lemmas.Fmt.{decimal_nonempty}
-use Rattle.esc_below.specs.Clear.{IsClearPart, AreClearParts}
-use Rattle.esc_below.specs.Scalars.{number_of}
-use Rattle.esc_below.proofs.Numerals.{number_back, decimal_part}
+use Rattle.esc_values.specs.Clear.{IsClearPart, AreClearParts}
+use Rattle.esc_values.specs.Scalars.{number_of}
+use Rattle.esc_values.proofs.Numerals.{number_back, decimal_part}
 use Rattle.esc_osc.specs.Reading.{numbers_of}
 use Rattle.esc_osc.specs.Writable.{AreNumbers}
 

@@ -1,7 +1,7 @@
 -- Lists of parts that are read one after another.
 use Rattle.std.proofs.Common.{◌≡◌, ℕ, ◌<◌, ◌≤◌, List, [], ◌∷◌, ◌++◌, length, map, take, Some, None, refl, ap, arith, take_all}
 use Rattle.std.specs.List.{flat_map}
-use Rattle.esc_below.specs.Scalars.{utf8_of}
+use Rattle.esc_values.specs.Scalars.{utf8_of}
 use Rattle.esc_osc.specs.Colors.{pairs_of}
 use Rattle.esc_osc.specs.Reading.{selected, title_of}
 

@@ -8,16 +8,16 @@ use Rattle.std.specs.Str.{IsUtf8}
 use Rattle.std.specs.Str.Lossy.{utf8_lossy}
 use Rattle.std.proofs.lemmas.Str.{length-encode, len_utf8_bounds}
 use Rattle.std.proofs.lemmas.Bool.{cases_Bool}
-use Rattle.esc_below.specs.Base64.{base64_text_of}
-use Rattle.esc_below.specs.Clear.{IsClearText, IsClearPart, AreClearParts, AreTextParts, joined}
-use Rattle.esc_below.specs.Scalars.{and_then, utf8_of}
-use Rattle.esc_below.proofs.Split.{joined_clear}
-use Rattle.esc_below.proofs.ClearTexts.{part_lossy, parts_lossy, tail_part}
+use Rattle.esc_values.specs.Base64.{base64_text_of}
+use Rattle.esc_values.specs.Clear.{IsClearText, IsClearPart, AreClearParts, AreTextParts, joined}
+use Rattle.esc_values.specs.Scalars.{and_then, utf8_of}
+use Rattle.esc_values.proofs.Split.{joined_clear}
+use Rattle.esc_values.proofs.ClearTexts.{part_lossy, parts_lossy, tail_part}
 use Rattle.esc_osc.proofs.Codes.{code_of_text}
 use Rattle.esc_osc.proofs.Fits.{numbers_where, colors_where, pairs_where, progress_where}
 use Rattle.esc_osc.proofs.Layers.{Good, prompt_good, iterm_good, link_good}
 use Rattle.esc_osc.proofs.Selections.{selection_named}
-use Rattle.esc_below.proofs.Where.{Where, where_map, where_then, utf8_keeps, content_where}
+use Rattle.esc_values.proofs.Where.{Where, where_map, where_then, utf8_keeps, content_where}
 use Rattle.esc_osc.specs.Codes.{code_of, code_name, code_text, changed_by, reset_by}
 use Rattle.esc_osc.specs.Colors.{colors_of, pairs_of}
 use Rattle.esc_osc.specs.Progresses.{progress_of}

@@ -1,5 +1,5 @@
 -- Every writable command reads back.
-use Rattle.esc_below.specs.Scalars.{number_of}
+use Rattle.esc_values.specs.Scalars.{number_of}
 use Rattle.std.proofs.Common.{ℕ, ◌≡◌, ◌≤◌, arith, Bool, true, false, cond, ◌==◌, List, [], ◌∷◌, ◌++◌, map, codes, Some, refl, sym, ap, ◌∙◌, subst}
 use Rattle.std.specs.Fmt.{decimal}
 use Rattle.std.specs.List.{flat_map, slice_split, onto_first}
@@ -8,14 +8,14 @@ use Rattle.std.specs.Str.{IsUtf8}
 use Rattle.std.proofs.lemmas.Bool.{le-leb}
 use Rattle.std.proofs.lemmas.List.{append-nil}
 use Rattle.std.proofs.lemmas.Str.{is_utf8-from_IsUtf8}
-use Rattle.esc_below.specs.Base64.{base64_text}
-use Rattle.esc_below.specs.Clear.{IsClearText, IsClearPart, AreClearParts, joined, separated, parts_of}
-use Rattle.esc_below.proofs.Base64.{base64_part, base64_back}
-use Rattle.esc_below.proofs.PlainParts.{plain_part}
-use Rattle.esc_below.proofs.Split.{joined_clear, part_clear, parts_text, text_parts, joined_split}
-pub use Rattle.esc_below.proofs.ClearTexts.{chars_scalar, clear_utf8}
+use Rattle.esc_values.specs.Base64.{base64_text}
+use Rattle.esc_values.specs.Clear.{IsClearText, IsClearPart, AreClearParts, joined, separated, parts_of}
+use Rattle.esc_values.proofs.Base64.{base64_part, base64_back}
+use Rattle.esc_values.proofs.PlainParts.{plain_part}
+use Rattle.esc_values.proofs.Split.{joined_clear, part_clear, parts_text, text_parts, joined_split}
+pub use Rattle.esc_values.proofs.ClearTexts.{chars_scalar, clear_utf8}
 pub use Rattle.esc_osc.proofs.ReadParts.{clear_is_writable}
-use Rattle.esc_below.proofs.ClearTexts.{part_utf8_of, part_lossy, parts_lossy, part_append}
+use Rattle.esc_values.proofs.ClearTexts.{part_utf8_of, part_lossy, parts_lossy, part_append}
 use Rattle.esc_osc.proofs.JoinedLossy.{lossy_joined}
 use Rattle.esc_osc.proofs.Codes.{code_of-code_text}
 use Rattle.esc_osc.proofs.Colors.{specs_are_parts, colors_back, two_parts, two_are_parts, pairs_back, pairs_joined}

@@ -9,11 +9,11 @@ use Rattle.std.proofs.lemmas.Bool.{eqb-true, eqb-false, ltb-true, cases_Bool, an
 use Rattle.std.proofs.lemmas.Nat.{le_or_r, or_lt, or_mod}
 use Rattle.base64.specs.Tables.{all_below}
 use Rattle.base64.proofs.Tables.{all_below_at}
-use Rattle.esc_below.specs.Base64.{base64_text, base64_text_of}
-use Rattle.esc_below.specs.Clear.{IsClearPart}
-use Rattle.esc_below.proofs.Base64.{base64_back}
-use Rattle.esc_below.proofs.PlainParts.{is_part_plain, plain_part}
-use Rattle.esc_below.proofs.Where.{Where}
+use Rattle.esc_values.specs.Base64.{base64_text, base64_text_of}
+use Rattle.esc_values.specs.Clear.{IsClearPart}
+use Rattle.esc_values.proofs.Base64.{base64_back}
+use Rattle.esc_values.proofs.PlainParts.{is_part_plain, plain_part}
+use Rattle.esc_values.proofs.Where.{Where}
 use Rattle.esc_osc.specs.Selections.{letters, letter_bit_in, letter_bit, letter_text, with_letters, selection_of, selection_text}
 use Rattle.esc_osc.specs.Writable.{IsNamed}
 

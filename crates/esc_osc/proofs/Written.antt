@@ -3,10 +3,10 @@ use Rattle.std.proofs.Common.{ℕ, ◌≡◌, ◌≢◌, List, [], ◌∷◌, �
 use Rattle.std.specs.Option.{unwrap_or}
 use Rattle.std.proofs.lemmas.List.{append-nil}
 use Rattle.std.proofs.lemmas.Str.{utf8_lossy-IsUtf8}
-use Rattle.esc_below.specs.Clear.{IsClearText, IsClearPart, AreClearParts, AreTextParts, joined, parts_of}
-use Rattle.esc_below.proofs.PlainParts.{plain_part}
-use Rattle.esc_below.proofs.Split.{joined_clear, parts_text}
-use Rattle.esc_below.proofs.ClearTexts.{part_utf8}
+use Rattle.esc_values.specs.Clear.{IsClearText, IsClearPart, AreClearParts, AreTextParts, joined, parts_of}
+use Rattle.esc_values.proofs.PlainParts.{plain_part}
+use Rattle.esc_values.proofs.Split.{joined_clear, parts_text}
+use Rattle.esc_values.proofs.ClearTexts.{part_utf8}
 use Rattle.esc_osc.proofs.Codes.{code_of-code_text, code_plain, code_some, code_name_text}
 use Rattle.esc_osc.specs.Codes.{code_text}
 use Rattle.esc_osc.specs.Commands.{inner_text, titled}

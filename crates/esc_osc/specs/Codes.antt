@@ -1,7 +1,7 @@
 -- The codes of commands and their texts.
 use Rattle.std.specs.Prelude.{ℕ, ◌-◌, ◌==◌, nat_eq, nat_le, ◌&&◌, if◌then◌else◌, List, [], ◌∷◌, take, slice_index, codes, Option, Some, None}
 use Rattle.std.specs.Cmp.Lexicographic.{pointwise}
-use Rattle.esc_below.specs.Scalars.{and_then, number_of}
+use Rattle.esc_values.specs.Scalars.{and_then, number_of}
 use Rattle.esc_osc.specs.declared.code.OperatingSystemCommandCode.{OperatingSystemCommandCode}
 use Rattle.esc_osc.specs.declared.code.OperatingSystemCommandCode.TheVariants as code
 use Rattle.esc_osc.specs.declared.dynamic_color_number.DynamicColorNumber.{DynamicColorNumber}

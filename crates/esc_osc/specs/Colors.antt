@@ -6,8 +6,8 @@ use Rattle.std.specs.Cmp.Lexicographic.{pointwise}
 use Rattle.std.specs.Fmt.{digit_glyph, decimal}
 use Rattle.std.specs.List.{starts_with}
 use Rattle.std.specs.Option.{option_map}
-use Rattle.esc_below.specs.Cuts.{cut_at}
-use Rattle.esc_below.specs.Scalars.{and_then, when, number_of}
+use Rattle.esc_values.specs.Cuts.{cut_at}
+use Rattle.esc_values.specs.Scalars.{and_then, when, number_of}
 use Rattle.esc_osc.specs.declared.color_or_query.ColorOrQuery.{ColorOrQuery}
 use Rattle.esc_osc.specs.declared.color_or_query.ColorOrQuery.TheVariants.{Color, Query}
 use Rattle.esc_osc.specs.declared.change_color_pair.ChangeColorPair.{ChangeColorPair}

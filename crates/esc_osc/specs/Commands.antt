@@ -3,9 +3,9 @@ use Rattle.std.specs.Prelude.{ℕ, ◌≡◌, ◌⊎◌, Bool, true, false, List
 use Rattle.std.specs.Fmt.{decimal}
 use Rattle.std.specs.List.{flat_map}
 use Rattle.std.specs.Str.Lossy.{utf8_lossy}
-use Rattle.esc_below.specs.Base64.{base64_text}
-use Rattle.esc_below.specs.Clear.{framed}
-use Rattle.esc_below.specs.Hyperlinks.{link_text}
+use Rattle.esc_values.specs.Base64.{base64_text}
+use Rattle.esc_values.specs.Clear.{framed}
+use Rattle.esc_links.specs.Hyperlinks.{link_text}
 use Rattle.esc_iterm.specs.ITerms.{iterm_text}
 use Rattle.esc_prompts.specs.Prompts.{prompt_text}
 use Rattle.esc_osc.specs.Codes.{code_text, change_code, reset_code}

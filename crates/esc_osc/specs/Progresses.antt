@@ -3,7 +3,7 @@ use Rattle.std.specs.Prelude.{ℕ, nat_le, nat_eq, if◌then◌else◌, List, []
 use Rattle.std.specs.Cmp.Lexicographic.{pointwise}
 use Rattle.std.specs.Fmt.{decimal}
 use Rattle.std.specs.Option.{unwrap_or}
-use Rattle.esc_below.specs.Scalars.{number_of}
+use Rattle.esc_values.specs.Scalars.{number_of}
 use Rattle.esc_osc.specs.declared.progress.Progress.{Progress}
 use Rattle.esc_osc.specs.declared.progress.Progress.TheVariants as progress
 

@@ -3,10 +3,10 @@ use Rattle.std.specs.Prelude.{ℕ, nat_eq, ◌==◌, if◌then◌else◌, List, 
 use Rattle.std.specs.Cmp.Lexicographic.{pointwise}
 use Rattle.std.specs.Option.{option_map, unwrap_or}
 use Rattle.std.specs.Str.Lossy.{utf8_lossy}
-use Rattle.esc_below.specs.Base64.{base64_text_of}
-use Rattle.esc_below.specs.Clear.{joined}
-use Rattle.esc_below.specs.Hyperlinks.{link_of}
-use Rattle.esc_below.specs.Scalars.{and_then, utf8_of, number_of}
+use Rattle.esc_values.specs.Base64.{base64_text_of}
+use Rattle.esc_values.specs.Clear.{joined}
+use Rattle.esc_links.specs.Hyperlinks.{link_of}
+use Rattle.esc_values.specs.Scalars.{and_then, utf8_of, number_of}
 use Rattle.esc_iterm.specs.ITerms.{iterm_of}
 use Rattle.esc_prompts.specs.Prompts.{prompt_of}
 use Rattle.esc_osc.specs.Codes.{code_of, code_name, changed_by, reset_by}

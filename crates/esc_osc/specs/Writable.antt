@@ -2,8 +2,8 @@
 use Rattle.std.specs.Prelude.{ℕ, ◌≡◌, ◌<◌, ◌≤◌, ◌%◌, List, [], ◌∷◌}
 use Rattle.std.specs.Str.{IsUtf8}
 use Rattle.std.specs.Prelude.{Some}
-use Rattle.esc_below.specs.Clear.{IsClearText, IsClearPart, AreClearParts, AreTextParts, parts_of}
-use Rattle.esc_below.specs.Hyperlinks.{link_of, link_text}
+use Rattle.esc_values.specs.Clear.{IsClearText, IsClearPart, AreClearParts, AreTextParts, parts_of}
+use Rattle.esc_links.specs.Hyperlinks.{link_of, link_text}
 use Rattle.esc_iterm.specs.WritableITerms.{IsWritableITerm}
 use Rattle.esc_prompts.specs.Prompts.{IsWritablePrompt}
 use Rattle.esc_osc.specs.Reading.{meaning}

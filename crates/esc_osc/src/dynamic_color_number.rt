@@ -3,7 +3,7 @@ ghost use Rattle.std.specs.Prelude.{◌≡◌, ◌+◌};
 ghost use Rattle.esc_osc.specs.Codes.{change_code, changed_by, color_number, color_of, reset_by, reset_code};
 
 use crate::code::OperatingSystemCommandCode;
-use esc_below::scalar::read_u8;
+use esc_values::scalar::read_u8;
 
 /// A colour that a program may change, ask for and reset (xterm's list of control sequences, "VT100 text colors" and
 /// on, `Ps` 10 to 19). Its number is that of the code which changes it.

@@ -2,7 +2,7 @@
 //! colours have their numbers.
 ghost use Rattle.std.specs.Prelude.{◌≡◌, List, ℕ};
 ghost use Rattle.std.specs.Fmt.{decimal};
-ghost use Rattle.esc_below.specs.Clear.{AreTextParts, IsClearText, parts_of};
+ghost use Rattle.esc_values.specs.Clear.{AreTextParts, IsClearText, parts_of};
 ghost use Rattle.esc_osc.specs.Codes.{change_code, code_text};
 ghost use Rattle.esc_osc.specs.Commands.{inner_text};
 ghost use Rattle.esc_osc.specs.Reading.{meaning};

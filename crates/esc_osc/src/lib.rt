@@ -33,7 +33,7 @@ pub use color_or_query::ColorOrQuery;
 pub use color16::Color16;
 pub use command::OperatingSystemCommand;
 pub use dynamic_color_number::DynamicColorNumber;
-pub use esc_below::{Hyperlink, Params};
+pub use esc_links::{Hyperlink, Params};
 pub use esc_iterm::{
     Boxed, ITermDimension, ITermFileData, ITermProprietary, ITermUnicodeVersionOp,
 };

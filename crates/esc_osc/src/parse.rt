@@ -2,8 +2,8 @@
 ghost use Rattle.std.specs.Prelude.{◌≡◌, IfOk, Some, [], ◌∷◌, map, drop, codes};
 ghost use Rattle.std.specs.Option.{option_map};
 ghost use Rattle.std.specs.Str.Lossy.{utf8_lossy};
-ghost use Rattle.esc_below.specs.Hyperlinks.{link_of};
-ghost use Rattle.esc_below.specs.Scalars.{utf8_of};
+ghost use Rattle.esc_links.specs.Hyperlinks.{link_of};
+ghost use Rattle.esc_values.specs.Scalars.{utf8_of};
 ghost use Rattle.esc_osc.specs.Codes.{code_name, code_of};
 ghost use Rattle.esc_osc.specs.Colors.{colors_of, pairs_of};
 ghost use Rattle.esc_osc.specs.Progresses.{progress_of};
@@ -20,9 +20,10 @@ use crate::read_items::{
 };
 use crate::read_progress::read_progress;
 use crate::selection::Selection;
-use esc_below::base64_text::read_base64_text;
-use esc_below::scalar::text_of;
-use esc_below::{Error, Hyperlink, Text};
+use esc_values::base64_text::read_base64_text;
+use esc_values::scalar::text_of;
+use esc_values::{Error, Text};
+use esc_links::Hyperlink;
 use esc_iterm::ITermProprietary;
 use esc_prompts::FinalTermSemanticPrompt;
 use std::alloc::{AllocError, Allocator};

@@ -4,7 +4,7 @@ ghost use Rattle.esc_osc.specs.Colors.{hex_after, hex_of, channel_of, rgb_of, sh
 
 use crate::color_or_query::ColorOrQuery;
 use crate::color16::Color16;
-use esc_below::cut::cut;
+use esc_values::cut::cut;
 
 // A colour, or the question for one.
 pub(crate) fn read_spec(bytes: &[u8]) -> Option<ColorOrQuery>

@@ -7,8 +7,8 @@ ghost use Rattle.esc_osc.specs.Reading.{lone_text, numbers_of, title_of};
 use crate::change_color_pair::ChangeColorPair;
 use crate::color_or_query::ColorOrQuery;
 use crate::read_color::read_spec;
-use esc_below::scalar::{read_u8, text_of};
-use esc_below::{Items, Text};
+use esc_values::scalar::{read_u8, text_of};
+use esc_values::{Items, Text};
 use std::alloc::{AllocError, Allocator};
 
 // The same parts.

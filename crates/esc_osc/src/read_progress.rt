@@ -3,7 +3,7 @@ ghost use Rattle.std.specs.Prelude.{◌≡◌, map};
 ghost use Rattle.esc_osc.specs.Progresses.{percent_of, progress_of, state_of};
 
 use crate::progress::Progress;
-use esc_below::scalar::read_u8;
+use esc_values::scalar::read_u8;
 
 // The progress that the parts after the code give, where they begin with `4` and a state.
 pub(crate) fn read_progress(args: &[&[u8]]) -> Option<Progress>

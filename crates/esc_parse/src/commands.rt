@@ -1,6 +1,6 @@
 //! Operating system commands from their texts.
 ghost use Rattle.std.specs.Prelude.{◌≡◌, IfOk};
-ghost use Rattle.esc_below.specs.Clear.{parts_of};
+ghost use Rattle.esc_values.specs.Clear.{parts_of};
 ghost use Rattle.esc_osc.specs.Reading.{meaning};
 
 use esc_frame::parts::Parts;

@@ -8,7 +8,7 @@ ghost use Rattle.esc_parse.specs.Fed.{Begins, Keeps};
 
 use crate::sixel_text::SixelText;
 use esc_actions::Action;
-use esc_below::Boxed;
+use esc_values::Boxed;
 use esc_device::{DeviceControlMode, EnterDeviceControlMode, ShortBuilder, StringKind};
 use esc_tcap::GetTcapBuilder;
 use std::alloc::{AllocError, Allocator, Global};

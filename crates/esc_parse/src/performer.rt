@@ -1,8 +1,8 @@
 //! From events to actions.
 ghost use Rattle.std.specs.Prelude.{◌≡◌, ℕ, [], ◌∷◌, true, IfOk, MatchResult, OnOk, Option, map};
 ghost use Rattle.std.specs.List.{FoldsTo};
-ghost use Rattle.esc_below.specs.Clear.{parts_of};
-ghost use Rattle.esc_below.specs.Csis.{csi_of, csi_value};
+ghost use Rattle.esc_values.specs.Clear.{parts_of};
+ghost use Rattle.esc_sequences.specs.Csis.{csi_of, csi_value};
 ghost use Rattle.esc_parse.specs.Given.{At, StopsAt};
 ghost use Rattle.esc_actions.specs.Values.{Mode, after, csi, datum, given, lone, osc, value_of, wants_memory};
 ghost use Rattle.esc_osc.specs.Reading.{meaning as command_meant};
@@ -13,8 +13,9 @@ use crate::hooked::header_action;
 use crate::sink::Sink;
 use crate::unfinished::Unfinished;
 use esc_actions::{Action, ControlCode};
-use esc_below::csi::short_rendition;
-use esc_below::{Boxed, CSI, CsiParam, Esc};
+use esc_sequences::csi::short_rendition;
+use esc_values::{Boxed, CsiParam};
+use esc_sequences::{CSI, Esc};
 use esc_device::{DeviceControlMode, StringKind};
 use esc_frame::actor::VTActor;
 use esc_kitty::KittyImage;

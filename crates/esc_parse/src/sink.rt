@@ -2,8 +2,8 @@
 ghost use Rattle.std.specs.Prelude.{◌≡◌, ◌<◌, ◌≤◌, ◌+◌, ℕ, List, [], ◌∷◌, ◌++◌, IfOk, IsTrue, MatchResult, OnErr, OnOk, false, length, map, true, vec_capacity, vec_len};
 ghost use Rattle.std.specs.List.{FoldsTo, list_all};
 ghost use Rattle.std.specs.Str.{chars};
-ghost use Rattle.esc_below.specs.Clear.{is_clear, parts_of};
-ghost use Rattle.esc_below.specs.Csis.{CsiValue, csi_of};
+ghost use Rattle.esc_values.specs.Clear.{is_clear, parts_of};
+ghost use Rattle.esc_sequences.specs.Csis.{CsiValue, csi_of};
 ghost use Rattle.esc_frame.specs.Scans.{is_text_byte};
 ghost use Rattle.esc_parse.specs.Collected.{Gathers};
 ghost use Rattle.esc_parse.specs.Given.{By, StopsAt, first_of};
@@ -13,7 +13,7 @@ ghost use Rattle.esc_osc.specs.Reading.{meaning as command_meant};
 ghost use Rattle.esc_actions.specs.declared.action.Action.TheVariants as action;
 
 use esc_actions::Action;
-use esc_below::CsiParam;
+use esc_values::CsiParam;
 use std::alloc::{AllocError, Allocator, Global};
 
 /// What a character can be made into.

@@ -3,12 +3,12 @@ use Rattle.std.proofs.Common.{ℕ, ℤ, pos, ◌≡◌, ◌==◌, nat_eq, inl, i
 use Rattle.std.proofs.lemmas.Bool.{cases_Bool}
 use Rattle.std.specs.Cmp.Lexicographic.{pointwise}
 use Rattle.std.specs.Option.{option_map, unwrap_or}
-use Rattle.esc_below.specs.Clear.{IsClearPart, AreClearParts}
-use Rattle.esc_below.specs.Cuts.{Pairs, key_and_value, pairs_in, without_empty, last_value}
-use Rattle.esc_below.specs.Scalars.{IsSigned, signed_of}
-use Rattle.esc_below.proofs.ClearPairs.{IsClearPair, key_clear}
-use Rattle.esc_below.proofs.Signed.{signed_where}
-use Rattle.esc_below.proofs.Where.{Where, where_if, where_map, where_then, anything}
+use Rattle.esc_values.specs.Clear.{IsClearPart, AreClearParts}
+use Rattle.esc_values.specs.Cuts.{Pairs, key_and_value, pairs_in, without_empty, last_value}
+use Rattle.esc_values.specs.Scalars.{IsSigned, signed_of}
+use Rattle.esc_values.proofs.ClearPairs.{IsClearPair, key_clear}
+use Rattle.esc_values.proofs.Signed.{signed_where}
+use Rattle.esc_values.proofs.Where.{Where, where_if, where_map, where_then, anything}
 use Rattle.esc_prompts.specs.Pairs.{KeyValues, keys_of, last_values}
 use Rattle.esc_prompts.specs.Prompts.{IsAid, IsWritablePrompt, aid_and_click, aid_of, alone, click_in, kind_among, lettered, prompt_of, status_of}
 use Rattle.esc_prompts.specs.declared.click.FinalTermClick.{FinalTermClick}

@@ -4,14 +4,14 @@ use Rattle.std.specs.Fmt.{signed_decimal}
 use Rattle.std.specs.Option.{option_map, unwrap_or}
 use Rattle.std.proofs.lemmas.Bool.{ne_eqb}
 use Rattle.std.proofs.lemmas.List.{append-nil}
-use Rattle.esc_below.proofs.Numerals.{signed_part}
-use Rattle.esc_below.specs.Clear.{separated, IsClearPart, AreClearParts}
-use Rattle.esc_below.specs.Cuts.{Pairs, key_and_value, pairs_in, without_empty}
-use Rattle.esc_below.specs.Scalars.{and_then, IsSigned}
-use Rattle.esc_below.proofs.ClearPairs.{key_back}
-use Rattle.esc_below.proofs.ClearTexts.{part_append}
-use Rattle.esc_below.proofs.PlainParts.{plain_part}
-use Rattle.esc_below.proofs.Signed.{signed_back_32, signed_wide}
+use Rattle.esc_values.proofs.Numerals.{signed_part}
+use Rattle.esc_values.specs.Clear.{separated, IsClearPart, AreClearParts}
+use Rattle.esc_values.specs.Cuts.{Pairs, key_and_value, pairs_in, without_empty}
+use Rattle.esc_values.specs.Scalars.{and_then, IsSigned}
+use Rattle.esc_values.proofs.ClearPairs.{key_back}
+use Rattle.esc_values.proofs.ClearTexts.{part_append}
+use Rattle.esc_values.proofs.PlainParts.{plain_part}
+use Rattle.esc_values.proofs.Signed.{signed_back_32, signed_wide}
 use Rattle.esc_prompts.specs.Pairs.{KeyValues, last_values}
 use Rattle.esc_prompts.specs.Prompts.{IsAid, IsWritablePrompt, WritesBack, aid_and_click, aid_of, aid_text, click_in, click_text, kind_among, kind_in}
 use Rattle.esc_prompts.specs.Prompts.{status_of}

@@ -1,7 +1,7 @@
 -- The keys of a semantic prompt and their values.
 use Rattle.std.specs.Prelude.{ℕ, List, codes, Option, None}
 use Rattle.std.specs.Option.{option_map}
-use Rattle.esc_below.specs.Cuts.{Pairs, pairs_in, without_empty, last_value}
+use Rattle.esc_values.specs.Cuts.{Pairs, pairs_in, without_empty, last_value}
 
 -- the values of the keys `aid`, `cl` and `k`, where they are there
 pub record KeyValues : Type 0 where

@@ -2,8 +2,8 @@
 use Rattle.std.specs.Prelude.{ℕ, pos, ◌≡◌, ◌==◌, if◌then◌else◌, List, [], ◌∷◌, ◌++◌, codes, Option, Some, None}
 use Rattle.std.specs.Fmt.{signed_decimal}
 use Rattle.std.specs.Option.{option_map, unwrap_or}
-use Rattle.esc_below.specs.Clear.{IsClearPart, AreClearParts, joined}
-use Rattle.esc_below.specs.Scalars.{and_then, IsSigned, signed_of}
+use Rattle.esc_values.specs.Clear.{IsClearPart, AreClearParts, joined}
+use Rattle.esc_values.specs.Scalars.{and_then, IsSigned, signed_of}
 use Rattle.esc_prompts.specs.Pairs.{keys_of}
 use Rattle.esc_prompts.specs.Words.{click_of, click_word, kind_of, kind_word}
 use Rattle.esc_prompts.specs.declared.click.FinalTermClick.{FinalTermClick}

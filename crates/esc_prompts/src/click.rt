@@ -1,9 +1,9 @@
 //! How a click moves the cursor in a prompt's input.
 ghost use Rattle.std.specs.Prelude.{◌≡◌, MatchResult, Some, None};
-ghost use Rattle.esc_below.specs.declared.error.Error.TheVariants.{Invalid};
+ghost use Rattle.esc_values.specs.declared.error.Error.TheVariants.{Invalid};
 ghost use Rattle.esc_prompts.specs.Words.{click_of, click_word};
 
-use esc_below::Error;
+use esc_values::Error;
 use std::fmt;
 
 /// Which movements of the cursor the shell takes where the user clicks on its input (FinalTerm; key `cl` of operating

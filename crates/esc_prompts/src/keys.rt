@@ -3,7 +3,7 @@ ghost use Rattle.std.specs.Prelude.{◌≡◌, map};
 ghost use Rattle.std.specs.Option.{option_map};
 ghost use Rattle.esc_prompts.specs.Pairs.{keys_of};
 
-use esc_below::cut::key_and_value;
+use esc_values::cut::key_and_value;
 
 // The values of the keys that semantic prompts have, where they are there.
 #[derive(Clone, Copy)]

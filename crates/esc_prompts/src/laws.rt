@@ -1,6 +1,6 @@
 //! Laws of semantic prompts: what is written reads back, and what is read of clear parts can be written.
 ghost use Rattle.std.specs.Prelude.{◌≡◌, List, ℕ, Some};
-ghost use Rattle.esc_below.specs.Clear.{AreClearParts};
+ghost use Rattle.esc_values.specs.Clear.{AreClearParts};
 ghost use Rattle.esc_prompts.specs.Prompts.{IsWritablePrompt, WritesBack, prompt_of};
 ghost use Rattle.esc_prompts.specs.declared.prompt.FinalTermSemanticPrompt.{FinalTermSemanticPrompt};
 

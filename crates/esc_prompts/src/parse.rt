@@ -7,8 +7,8 @@ use crate::click::FinalTermClick;
 use crate::keys::read_keys;
 use crate::prompt::FinalTermSemanticPrompt;
 use crate::prompt_kind::FinalTermPromptKind;
-use esc_below::Text;
-use esc_below::scalar::read_i32;
+use esc_values::Text;
+use esc_values::scalar::read_i32;
 use std::alloc::{AllocError, Allocator};
 
 impl<A: Allocator> FinalTermSemanticPrompt<A> {

@@ -2,7 +2,7 @@
 //! <https://gitlab.freedesktop.org/Per_Bothner/specifications/blob/master/proposals/semantic-prompts.md>).
 use crate::click::FinalTermClick;
 use crate::prompt_kind::FinalTermPromptKind;
-use esc_below::Text;
+use esc_values::Text;
 use std::alloc::{Allocator, Global};
 
 /// A mark that a shell writes between its prompts, the user's input, and the output of commands (FinalTerm; operating

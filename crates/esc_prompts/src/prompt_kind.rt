@@ -1,10 +1,10 @@
 //! The kinds of prompts.
 ghost use Rattle.std.specs.Prelude.{◌≡◌, MatchResult, Some, None};
-ghost use Rattle.esc_below.specs.declared.error.Error.TheVariants.{Invalid};
+ghost use Rattle.esc_values.specs.declared.error.Error.TheVariants.{Invalid};
 ghost use Rattle.esc_prompts.specs.Words.{kind_of, kind_word};
 ghost use Rattle.esc_prompts.specs.declared.prompt_kind.FinalTermPromptKind.TheVariants.{Initial};
 
-use esc_below::Error;
+use esc_values::Error;
 use std::fmt;
 
 /// Which prompt begins (FinalTerm; key `k` of operating system command 133).

@@ -4,7 +4,7 @@ ghost use Rattle.esc_prompts.specs.Prompts.{aid_text, click_text, prompt_text};
 
 use crate::click::FinalTermClick;
 use crate::prompt::FinalTermSemanticPrompt;
-use esc_below::Text;
+use esc_values::Text;
 use std::alloc::Allocator;
 use std::fmt;
 use std::fmt::Display;

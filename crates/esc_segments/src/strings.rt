@@ -2,7 +2,7 @@
 #![tactic(auto)]
 
 ghost use Rattle.std.specs.Prelude.{◌≡◌, ◌++◌, ◌∷◌, Bool, IfOk, List, OnOk, [], if◌then◌else◌, map, pos, true, ℕ};
-ghost use Rattle.esc_below.specs.Clear.{parts_of};
+ghost use Rattle.esc_values.specs.Clear.{parts_of};
 ghost use Rattle.esc_frame.specs.Bodies.{held, is_dcs_header, value_behind};
 ghost use Rattle.esc_frame.specs.Classes.{is_text, strip, those};
 ghost use Rattle.esc_frame.specs.Events.{Takes};

@@ -6,9 +6,9 @@ use Rattle.std.specs.Option.{option_map, unwrap_or}
 use Rattle.std.proofs.lemmas.Bool.{leb-true, cases_Bool}
 use Rattle.std.proofs.lemmas.Bool.Decides.{nat_tests}
 use borrow.Author.Tests.{ltb-true}
-use Rattle.esc_below.specs.Entries.{held}
-use Rattle.esc_below.specs.Scalars.{and_then, when}
-use Rattle.esc_below.proofs.Where.{Where, where_if}
+use Rattle.esc_values.specs.Entries.{held}
+use Rattle.esc_values.specs.Scalars.{and_then, when}
+use Rattle.esc_values.proofs.Where.{Where, where_if}
 use Rattle.esc_sixel.specs.Classes.{class_of}
 use Rattle.esc_sixel.specs.Items.{Item, OfReturn, OfLine, OfPixels, OfRepeat, OfColor, OfRaster, OfJunk, Place, Outside, pixels_of, run_of, after_run}
 use Rattle.esc_sixel.specs.Items.{first_pixels}

@@ -6,7 +6,7 @@ use Rattle.std.specs.Fmt.{decimal}
 use Rattle.std.proofs.lemmas.Bool.{eqb-true, cases_Bool, and_parts}
 use Rattle.std.proofs.lemmas.List.Elements.{All-from_recursion}
 use Rattle.std.proofs.lemmas.List.Splits.{slice_split_none}
-use Rattle.esc_below.specs.Entries.{held, value_behind, is_digit}
+use Rattle.esc_values.specs.Entries.{held, value_behind, is_digit}
 use Rattle.esc_sixel.proofs.Pieces.{are_digits, decimal_piece, digit_bytes, not_separator}
 use Rattle.esc_sixel.specs.Meaning.{pan_number, is_one}
 use Rattle.esc_sixel.specs.Texts.{flag_text, background_text, short_form}

@@ -8,8 +8,8 @@ use Rattle.std.proofs.lemmas.Bool.Decides.{nat_tests}
 use Rattle.std.proofs.lemmas.Fmt.{digits_decimal, digits_value-decimal, decimal_nonempty}
 use Rattle.std.proofs.lemmas.List.Folds.{list_all-append}
 use Rattle.std.proofs.lemmas.Str.Parse.{IsNumeralModel, numerals_by_fold}
-use Rattle.esc_below.specs.Clear.{joined}
-use Rattle.esc_below.specs.Entries.{is_digit, value_behind}
+use Rattle.esc_values.specs.Clear.{joined}
+use Rattle.esc_values.specs.Entries.{is_digit, value_behind}
 use Rattle.esc_sixel.specs.Runs.{numbers_after, separators}
 use Rattle.esc_sixel.specs.Writable.{is_parameter_byte, is_data_byte}
 

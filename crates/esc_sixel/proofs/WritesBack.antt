@@ -7,9 +7,9 @@ use Rattle.std.specs.Option.{option_map, unwrap_or, is_some}
 use Rattle.std.specs.Fmt.{decimal, signed_decimal}
 use Rattle.std.proofs.lemmas.Bool.{le-leb}
 use Rattle.std.proofs.lemmas.List.Folds.{list_all-append}
-use Rattle.esc_below.specs.Clear.{joined}
-use Rattle.esc_below.specs.Entries.{held}
-use Rattle.esc_below.specs.Scalars.{and_then, when}
+use Rattle.esc_values.specs.Clear.{joined}
+use Rattle.esc_values.specs.Entries.{held}
+use Rattle.esc_values.specs.Scalars.{and_then, when}
 use Rattle.esc_sixel.proofs.Headers.{Means, MeansIn, means, flag_number, grid_list, params_plain, params_first, flag_back, grid_back, background_bytes}
 use Rattle.esc_sixel.proofs.Pieces.{IsPiece, ArePieces, decimal_piece, run_numbers, run_separators, run_bytes, data_bytes}
 use Rattle.esc_sixel.proofs.Written.{item_for, raster_item, content_items, content_stops, content_back, content_after, raster_after, last_none}

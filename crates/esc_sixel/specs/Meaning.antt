@@ -3,7 +3,7 @@ use Rattle.std.specs.Prelude.{ℕ, ℤ, pos, negsuc, map, ◌-◌, ◌*◌, ◌/
 use Rattle.std.specs.Prelude.{Option, Some, None, option_map, unwrap_or}
 use Rattle.std.specs.Option.{is_some}
 use Rattle.std.specs.List.{flat_map, slice_get, list_any}
-use Rattle.esc_below.specs.Scalars.{and_then, when}
+use Rattle.esc_values.specs.Scalars.{and_then, when}
 use Rattle.esc_sixel.specs.Items.{Item, OfReturn, OfLine, OfPixels, OfRepeat, OfColor, OfRaster, OfJunk}
 use Rattle.esc_sixel.specs.Runs.{param, separators}
 use Rattle.esc_sixel.specs.declared.sixel.Sixel.{Sixel}

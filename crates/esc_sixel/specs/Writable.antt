@@ -1,8 +1,8 @@
 -- Which sixel images can be written, and what their texts are.
 use Rattle.std.specs.Prelude.{ℕ, ℤ, pos, negsuc, ◌≡◌, ◌<◌, ◌≤◌, ◌*◌, ◌^◌, ◌==◌, ◌||◌, Bool, true, List, [], ◌∷◌, ◌++◌, map, Option, Some, None}
 use Rattle.std.specs.List.{list_all}
-use Rattle.esc_below.specs.Clear.{parts_of}
-use Rattle.esc_below.specs.Entries.{held, value_behind, is_digit, is_from}
+use Rattle.esc_values.specs.Clear.{parts_of}
+use Rattle.esc_values.specs.Entries.{held, value_behind, is_digit, is_from}
 use Rattle.esc_sixel.specs.Items.{items}
 use Rattle.esc_sixel.specs.Meaning.{percent, sixel_of}
 use Rattle.esc_sixel.specs.Texts.{sixel_output}

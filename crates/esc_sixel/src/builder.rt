@@ -16,7 +16,7 @@ use crate::parameters::Parameters;
 use crate::pixels::{Line, line_end, make_room, pixels_run, push_line, push_pixels};
 use crate::sixel::Sixel;
 use crate::sixel_data::SixelData;
-use esc_below::{Items, RgbColor};
+use esc_values::{Items, RgbColor};
 use std::alloc::{AllocError, Allocator, Global};
 
 /// Reads a sixel string: the parameters of its header, and then its data byte by byte.

@@ -6,7 +6,7 @@ ghost use Rattle.esc_sixel.specs.Runs.{Keeps, param};
 
 use crate::parameters::Parameters;
 use crate::sixel_data::{SixelData, SixelValue};
-use esc_below::RgbColor;
+use esc_values::RgbColor;
 
 // Parameter `k`, 0 where it is missing, at most `u16::MAX`.
 fn short(parameters: &Parameters, k: usize) -> u16

@@ -8,7 +8,7 @@ ghost use Rattle.esc_sixel.specs.declared.sixel_data.SixelData.TheVariants.{Data
 
 use crate::sixel_data::SixelData;
 use core::mem::replace_with;
-use esc_below::Items;
+use esc_values::Items;
 use std::alloc::{AllocError, Allocator};
 use std::simd::prelude::*;
 

@@ -7,7 +7,7 @@ use crate::dimensions::measure;
 use crate::sixel_data::SixelData;
 use crate::write_data::write_content;
 use crate::write_header::write_header;
-use esc_below::Items;
+use esc_values::Items;
 use std::alloc::{Allocator, Global};
 use std::fmt;
 

@@ -4,8 +4,8 @@ ghost use Rattle.esc_sixel.specs.Texts.{data_output};
 ghost use Rattle.esc_sixel.specs.declared.sixel_data.SixelData.TheVariants.{DefineColorMapRGB, Repeat, SelectColorMapEntry};
 
 use crate::write_data::{Percent, write_pixels};
-use esc_below::RgbColor;
-use esc_below::number::write_natural;
+use esc_values::RgbColor;
+use esc_values::number::write_natural;
 use std::fmt;
 
 /// Six pixels, one above the other, as the bits of a number from 0 to 63. The lowest bit is the top pixel.

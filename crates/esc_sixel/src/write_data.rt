@@ -4,7 +4,7 @@ ghost use Rattle.std.specs.Fmt.{DisplaysOnOk, decimal};
 ghost use Rattle.esc_sixel.specs.Texts.{pixels_text, least_percent, content_output};
 
 use crate::sixel_data::{SixelData, SixelValue};
-use esc_below::number::write_natural;
+use esc_values::number::write_natural;
 use std::fmt;
 use std::fmt::Display;
 

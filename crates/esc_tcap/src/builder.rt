@@ -4,7 +4,7 @@ ghost use Rattle.std.specs.List.{FoldsTo, slice_split};
 ghost use Rattle.esc_tcap.specs.Names.{LeadsTo, Pushes, names_of, name_of};
 
 use crate::name::read_name;
-use esc_below::{Items, Text};
+use esc_values::{Items, Text};
 use std::alloc::{AllocError, Allocator, Global};
 use std::mem;
 

@@ -4,7 +4,7 @@ ghost use Rattle.std.specs.Fmt.{DisplaysOnOk};
 ghost use Rattle.std.specs.Str.Lossy.{utf8_lossy};
 ghost use Rattle.esc_tcap.specs.Names.{name_of, hex_text, two_digits};
 
-use esc_below::Text;
+use esc_values::Text;
 use hex::FromHexError;
 use std::alloc::{AllocError, Allocator};
 use std::fmt;

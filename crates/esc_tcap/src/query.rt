@@ -5,7 +5,7 @@ ghost use Rattle.std.specs.List.{flat_map};
 ghost use Rattle.esc_tcap.specs.Names.{hex_text, names_text, query_text};
 
 use crate::name::Hex;
-use esc_below::Text;
+use esc_values::Text;
 use std::alloc::{Allocator, Global};
 use std::fmt;
 

@@ -15,13 +15,13 @@ use Rattle.std.proofs.lemmas.List.Splits.{length-slice_split, slice_split-cons_n
 use Rattle.std.proofs.lemmas.List.Sums.{prefix_len-le-length}
 use Rattle.std.proofs.lemmas.Str.{IsCharBoundary-after_ascii, IsCharBoundary-before_ascii, IsUtf8-drop, IsUtf8-past_char, IsUtf8-take}
 use Rattle.std.proofs.lemmas.Str.{encode_ascii, is_utf8-from_IsUtf8}
-use Rattle.esc_below.specs.Clear.{framed, joined, parts_of}
-use Rattle.esc_below.specs.Hyperlinks.{is_colon, link_to, params_of}
-use Rattle.esc_below.specs.Scalars.{utf8_of}
-use Rattle.esc_below.specs.declared.hyperlink.Hyperlink.{Hyperlink}
-use Rattle.esc_below.proofs.ClearTexts.{part_utf8}
-use Rattle.esc_below.proofs.PlainParts.{plain_part}
-use Rattle.esc_below.proofs.Split.{joined_split}
+use Rattle.esc_values.specs.Clear.{framed, joined, parts_of}
+use Rattle.esc_links.specs.Hyperlinks.{is_colon, link_to, params_of}
+use Rattle.esc_values.specs.Scalars.{utf8_of}
+use Rattle.esc_links.specs.declared.hyperlink.Hyperlink.{Hyperlink}
+use Rattle.esc_values.proofs.ClearTexts.{part_utf8}
+use Rattle.esc_values.proofs.PlainParts.{plain_part}
+use Rattle.esc_values.proofs.Split.{joined_split}
 use Rattle.esc_frame.specs.Scans.{is_unmarked}
 use Rattle.esc_frame.proofs.Splits.{split_end, split_next}
 use Rattle.esc_osc.proofs.NamedMarks.{named_end, named_output, named_start}

@@ -2,12 +2,12 @@
 use Rattle.std.specs.Prelude.{ℕ, ℤ, ◌≡◌, ◌⊎◌, ◌==◌, Bool, false, List, [], ◌∷◌, ◌++◌, Option, codes}
 use Rattle.std.specs.Fmt.{decimal}
 use Rattle.std.specs.List.{list_any, slice_split}
-use Rattle.esc_below.specs.Clear.{framed, parts_of}
-use Rattle.esc_below.specs.Csis.{csi_of, unspecified}
-use Rattle.esc_below.specs.Hyperlinks.{is_colon}
-use Rattle.esc_below.specs.declared.csi_param.CsiParam.{CsiParam}
-use Rattle.esc_below.specs.declared.csi_param.CsiParam.TheVariants.{Integer}
-use Rattle.esc_below.specs.declared.hyperlink.Hyperlink.{Hyperlink}
+use Rattle.esc_values.specs.Clear.{framed, parts_of}
+use Rattle.esc_sequences.specs.Csis.{csi_of, unspecified}
+use Rattle.esc_links.specs.Hyperlinks.{is_colon}
+use Rattle.esc_values.specs.declared.csi_param.CsiParam.{CsiParam}
+use Rattle.esc_values.specs.declared.csi_param.CsiParam.TheVariants.{Integer}
+use Rattle.esc_links.specs.declared.hyperlink.Hyperlink.{Hyperlink}
 use Rattle.esc_osc.specs.Commands.{command_text}
 use Rattle.esc_osc.specs.Reading.{meaning}
 use Rattle.esc_osc.specs.declared.command.OperatingSystemCommand.TheVariants as command

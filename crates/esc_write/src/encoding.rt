@@ -10,7 +10,7 @@ use crate::encode_error::EncodeError;
 use crate::runs::{gather_eights, have_texts};
 use crate::short_text::ShortText;
 use esc_actions::{Action, laws};
-use esc_below::Text;
+use esc_values::Text;
 use std::alloc::{AllocError, Allocator};
 
 /// The text of these actions: their texts, one after another. After each operating system command, kitty image, sixel image,

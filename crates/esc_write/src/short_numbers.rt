@@ -1,12 +1,12 @@
 //! Control sequences of short numbers, appended to a text from arrays of bytes whose lengths are known as the program is made.
 ghost use Rattle.std.specs.Prelude.{◌≡◌, ◌<◌, ◌≤◌, ◌∷◌, ◌++◌, [], Bool, pos, IfSome, OnOk};
 ghost use Rattle.std.specs.Str.{IsAscii};
-ghost use Rattle.esc_below.specs.Csis.{csi_text, unspecified};
-ghost use Rattle.esc_below.specs.declared.csi_param.CsiParam.TheVariants.{Integer, P};
+ghost use Rattle.esc_sequences.specs.Csis.{csi_text, unspecified};
+ghost use Rattle.esc_values.specs.declared.csi_param.CsiParam.TheVariants.{Integer, P};
 ghost use Rattle.esc_write.specs.Plain.{IsPlain, indexed_text, number_text, short_text};
 
 use crate::indexed::Indexed;
-use esc_below::{CsiParam, Text};
+use esc_values::{CsiParam, Text};
 use std::alloc::{AllocError, Allocator};
 use std::str;
 

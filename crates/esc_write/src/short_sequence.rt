@@ -1,11 +1,11 @@
 //! Control sequences as short texts.
 ghost use Rattle.std.specs.Prelude.{◌≡◌, ◌+◌, ◌<◌, ◌≤◌, ◌++◌, ◌∷◌, [], Bool, IsTrue, length};
 ghost use Rattle.std.specs.Fmt.{decimal};
-ghost use Rattle.esc_below.specs.Csis.{csi_text, unspecified};
-ghost use Rattle.esc_below.specs.Entries.{entry_text};
+ghost use Rattle.esc_sequences.specs.Csis.{csi_text, unspecified};
+ghost use Rattle.esc_values.specs.Entries.{entry_text};
 
 use crate::short_text::{ROOM, ShortText};
-use esc_below::CsiParam;
+use esc_values::CsiParam;
 
 impl ShortText {
     // Appends the text of a control sequence that has no name, where it is short: its entries are ASCII characters and numbers

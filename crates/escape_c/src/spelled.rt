@@ -3,7 +3,7 @@ ghost use Rattle.std.specs.Prelude.{◌≡◌, IfOk};
 ghost use Rattle.esc_actions.specs.Meaning.{meaning};
 ghost use Rattle.esc_actions.specs.Texts.{list_text};
 
-use esc_below::Text;
+use esc_values::Text;
 use esc_frame::ParseError;
 use esc_normal::Spell;
 use esc_parse::Parser;

@@ -3,7 +3,7 @@ use Rattle.std.proofs.Common.{ℕ, ◌≡◌, ◌≢◌, ◌↔◌, ◌&&◌, Bo
 use Rattle.std.specs.List.{list_all}
 use Rattle.std.proofs.lemmas.Bool.{and_from, and_parts}
 use Rattle.std.proofs.lemmas.Str.{chars-encodes}
-use Rattle.esc_below.specs.Clear.{IsClearText, is_clear}
+use Rattle.esc_values.specs.Clear.{IsClearText, is_clear}
 use lib.Utf8.{scalar, scalars}
 use Rattle.std.specs.Prelude.{nat_le, ◌||◌}
 

@@ -11,9 +11,9 @@ use Rattle.std.proofs.lemmas.Fmt.{digits_decimal}
 use Rattle.std.proofs.lemmas.List.Folds.{list_all-append}
 use Rattle.std.proofs.lemmas.Str.{encode_ascii}
 use Rattle.std.proofs.lemmas.Str.Parse.{IsNumeralModel, numerals_by_fold}
-use Rattle.esc_below.specs.declared.csi_param.CsiParam.{CsiParam}
-use Rattle.esc_below.specs.declared.csi_param.CsiParam.TheVariants.{Integer, P}
-use Rattle.esc_below.specs.Entries.{is_digit, is_body_byte, held, value_behind, entries_behind, entries, entry_text, entries_text}
+use Rattle.esc_values.specs.declared.csi_param.CsiParam.{CsiParam}
+use Rattle.esc_values.specs.declared.csi_param.CsiParam.TheVariants.{Integer, P}
+use Rattle.esc_values.specs.Entries.{is_digit, is_body_byte, held, value_behind, entries_behind, entries, entry_text, entries_text}
 
 abbrev are_digits : List ℕ → Bool
 are_digits [] = true

@@ -9,13 +9,13 @@ use Rattle.std.proofs.lemmas.Bool.{and_parts, eqb-false}
 use Rattle.std.proofs.lemmas.Bool.Decides.{nat_tests}
 use Rattle.std.proofs.lemmas.List.{append_cancel_right, length-append}
 use Rattle.std.proofs.lemmas.Str.{encode_ascii}
-use Rattle.esc_below.specs.Csis.{CsiValue, sgr, unspecified, csi_of, is_separator, put_first, rendition, renditions}
-use Rattle.esc_below.specs.Entries.{entries, entries_text, is_body_byte, is_csi_body}
-use Rattle.esc_below.specs.declared.csi_param.CsiParam.{CsiParam}
-use Rattle.esc_below.specs.declared.esc.Esc.{Esc}
-use Rattle.esc_below.specs.declared.esc.Esc.TheVariants as esc_variant
-use Rattle.esc_below.specs.declared.sgr.Sgr.{Sgr}
-use Rattle.esc_below.proofs.CsisBack.{truncated}
+use Rattle.esc_sequences.specs.Csis.{CsiValue, sgr, unspecified, csi_of, is_separator, put_first, rendition, renditions}
+use Rattle.esc_values.specs.Entries.{entries, entries_text, is_body_byte, is_csi_body}
+use Rattle.esc_values.specs.declared.csi_param.CsiParam.{CsiParam}
+use Rattle.esc_sequences.specs.declared.esc.Esc.{Esc}
+use Rattle.esc_sequences.specs.declared.esc.Esc.TheVariants as esc_variant
+use Rattle.esc_sequences.specs.declared.sgr.Sgr.{Sgr}
+use Rattle.esc_sequences.proofs.CsisBack.{truncated}
 use Rattle.esc_device.specs.Writable.{is_datum, is_high_byte}
 use Rattle.esc_frame.specs.Bodies.{kept_entries, has_more_entries}
 use Rattle.esc_frame.specs.Classes.{class_of, AllOf, strip, is_noise, in_csi, in_escape, ends_csi, opens}

@@ -4,7 +4,7 @@ ghost use Rattle.std.specs.List.{list_all};
 ghost use Rattle.std.specs.Str.{chars};
 ghost use Rattle.esc_actions.specs.ControlCodes.{code_number};
 ghost use Rattle.esc_actions.specs.Writable.{is_lone_control};
-ghost use Rattle.esc_below.specs.Clear.{IsClearText, is_clear};
+ghost use Rattle.esc_values.specs.Clear.{IsClearText, is_clear};
 ghost use Rattle.esc_device.specs.Writable.{is_datum};
 
 use esc_actions::ControlCode;

@@ -3,12 +3,12 @@ ghost use Rattle.std.specs.Prelude.{◌≡◌};
 ghost use Rattle.std.specs.List.{list_any};
 ghost use Rattle.esc_actions.specs.Values.{device_value, value_of};
 ghost use Rattle.esc_actions.specs.Writable.{is_exception, is_opening, is_truncated};
-ghost use Rattle.esc_below.specs.Csis.{csi_value};
+ghost use Rattle.esc_sequences.specs.Csis.{csi_value};
 ghost use Rattle.esc_device.specs.Writable.{is_high_byte};
 ghost use Rattle.escape_stream.specs.Asked.{is_opener};
 
 use esc_actions::Action;
-use esc_below::{CSI, Esc};
+use esc_sequences::{CSI, Esc};
 use esc_device::DeviceControlMode;
 use std::alloc::Allocator;
 

@@ -10,7 +10,7 @@ ghost use Rattle.esc_parse.specs.Firsts.{first};
 
 use crate::exceptions::is_exception;
 use esc_actions::{Action, laws};
-use esc_below::Text;
+use esc_values::Text;
 use esc_equality::actions::same_action;
 use esc_parse::Parser;
 use esc_write::encoding::write_after;

@@ -1,6 +1,6 @@
 //! What the program's words ask for.
 
-use esc_below::scalar::read_usize;
+use esc_values::scalar::read_usize;
 
 /// What a line is printed of.
 #[derive(Clone, Copy)]

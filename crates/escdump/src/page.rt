@@ -2,7 +2,7 @@
 ghost use Rattle.std.specs.Prelude.{◌≡◌, ◌<◌, true};
 ghost use Rattle.escdump.specs.Pages.{IsPage, is_shown};
 
-use esc_below::Text;
+use esc_values::Text;
 use std::alloc::{AllocError, Allocator, Global};
 use std::str::Utf8Chunk;
 

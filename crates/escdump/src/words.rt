@@ -3,7 +3,7 @@
 use crate::action_words::ActionWords;
 use crate::renditions::rendition_words;
 use crate::words::Last::{Nothing, Other, Rendition};
-use esc_below::Text;
+use esc_values::Text;
 use escape_stream::csi::Sgr;
 use escape_stream::{Action, CSI, ControlCode, DeviceControlMode, Sink};
 use std::alloc::{AllocError, Allocator, Global};

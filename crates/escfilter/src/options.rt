@@ -1,6 +1,6 @@
 //! What the program's words ask for.
 
-use esc_below::scalar::read_usize;
+use esc_values::scalar::read_usize;
 use esc_filter::Policy;
 
 /// How streams are filtered.

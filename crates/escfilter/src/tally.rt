@@ -1,6 +1,6 @@
 //! What was left out of a stream.
 use esc_actions::Action;
-use esc_below::CsiParam;
+use esc_values::CsiParam;
 use esc_device::DeviceControlMode;
 use esc_filter::{Admit, Policy};
 use std::alloc::Allocator;

@@ -4,7 +4,7 @@ use Rattle.std.specs.Cmp.Lexicographic.{pointwise}
 use Rattle.std.specs.Option.{option_map}
 use Rattle.esc_actions.specs.Meaning.{meaning_within}
 use Rattle.esc_actions.specs.Texts.{list_text}
-use Rattle.esc_below.specs.Scalars.{number_of}
+use Rattle.esc_values.specs.Scalars.{number_of}
 use Rattle.escnorm.specs.declared.task.Task.{Task}
 use Rattle.escnorm.specs.declared.task.Task.TheVariants.{Normalise, Check}
 

@@ -2,7 +2,7 @@
 ghost use Rattle.std.specs.Prelude.{◌≡◌, map, string_bytes};
 ghost use Rattle.escnorm.specs.Tasks.{limit_of, task_of};
 
-use esc_below::scalar::read_usize;
+use esc_values::scalar::read_usize;
 
 /// What the program is asked to do, where at most so many bytes are kept of a segment; `None` is no limit.
 #[derive(Clone, Copy)]

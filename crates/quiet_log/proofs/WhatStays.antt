@@ -4,8 +4,8 @@ use Rattle.std.proofs.lemmas.Bool.{and_from, and_parts, not-true}
 use Rattle.std.proofs.lemmas.List.Folds.{list_all-append}
 use Rattle.std.specs.List.{list_all}
 use Rattle.std.specs.Str.{chars}
-use Rattle.esc_below.specs.declared.esc.Esc.TheVariants as esc_variant
-use Rattle.esc_below.specs.declared.esc_code.EscCode.TheVariants as esc_code
+use Rattle.esc_sequences.specs.declared.esc.Esc.TheVariants as esc_variant
+use Rattle.esc_sequences.specs.declared.esc_code.EscCode.TheVariants as esc_code
 use Rattle.esc_actions.specs.Meaning.{meaning}
 use Rattle.esc_actions.specs.Texts.{begins_terminator, is_string, is_terminator, list_text, normal, spelled, terminator}
 use Rattle.esc_actions.specs.Values.{Value, print, string, control, esc, csi, osc, kitty, sixel, termcap, short, enter, datum, exit}

@@ -1,7 +1,7 @@
 -- What a quiet log keeps of a stream's actions.
 use Rattle.std.specs.Prelude.{ℕ, Bool, true, false, not, ◌==◌, ◌&&◌, ◌||◌, if◌then◌else◌, List, [], ◌∷◌, ◌++◌}
-use Rattle.esc_below.specs.declared.esc.Esc.TheVariants as esc_variant
-use Rattle.esc_below.specs.declared.esc_code.EscCode.TheVariants as esc_code
+use Rattle.esc_sequences.specs.declared.esc.Esc.TheVariants as esc_variant
+use Rattle.esc_sequences.specs.declared.esc_code.EscCode.TheVariants as esc_code
 use Rattle.esc_osc.specs.declared.command.OperatingSystemCommand.{OperatingSystemCommand}
 use Rattle.esc_osc.specs.declared.command.OperatingSystemCommand.TheVariants as command
 use Rattle.esc_actions.specs.Texts.{is_terminator}

@@ -1,6 +1,6 @@
 //! What a quiet log keeps.
 ghost use Rattle.std.specs.Prelude.{◌≡◌, ◌++◌, OnOk, map};
-ghost use Rattle.esc_below.specs.Csis.{csi_value};
+ghost use Rattle.esc_sequences.specs.Csis.{csi_value};
 ghost use Rattle.esc_actions.specs.Texts.{is_terminator};
 ghost use Rattle.esc_actions.specs.Values.{value_of};
 ghost use Rattle.esc_actions.specs.Writable.{is_opening, is_truncated};

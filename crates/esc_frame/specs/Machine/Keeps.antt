@@ -2,8 +2,8 @@
 use Rattle.std.specs.Prelude.{ℕ, ◌≡◌, ◌+◌, ◌-◌, ◌*◌, Bool, true, false, not, nat_lt, if◌then◌else◌, List, [], ◌∷◌, ◌++◌, length, take, Option, Some, None}
 use Rattle.std.specs.Prelude.{pos, vec_capacity}
 use Rattle.std.specs.List.{filter}
-use Rattle.esc_below.specs.declared.csi_param.CsiParam.{CsiParam}
-use Rattle.esc_below.specs.declared.csi_param.CsiParam.TheVariants.{Integer, P}
+use Rattle.esc_values.specs.declared.csi_param.CsiParam.{CsiParam}
+use Rattle.esc_values.specs.declared.csi_param.CsiParam.TheVariants.{Integer, P}
 use Rattle.esc_frame.specs.declared.intermediates.Intermediates.{Intermediates}
 use Rattle.esc_frame.specs.declared.entries.Entries.{Entries}
 use Rattle.esc_frame.specs.declared.kept.Kept.{Kept}

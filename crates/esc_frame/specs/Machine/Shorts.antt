@@ -1,7 +1,7 @@
 -- Bodies of control sequences that have few entries. Only private contracts cite it.
 use Rattle.std.specs.Prelude.{ℕ, ◌≡◌, Bool, true, false, List, None}
 use Rattle.std.specs.List.{list_all}
-use Rattle.esc_below.specs.declared.csi_param.CsiParam.{CsiParam}
+use Rattle.esc_values.specs.declared.csi_param.CsiParam.{CsiParam}
 use Rattle.esc_frame.specs.declared.body.Form.{Form}
 use Rattle.esc_frame.specs.declared.body.Form.TheVariants as form
 use Rattle.esc_frame.specs.Bodies.{entries, is_csi_body, kept_entries, has_more_entries}

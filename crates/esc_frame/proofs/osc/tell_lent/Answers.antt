@@ -1,6 +1,6 @@
 use Rattle.std.proofs.Common.{[], ◌∷◌, not, ◌∙◌, refl, length, subst}
 use Rattle.std.specs.List.{FoldsTo}
-use Rattle.esc_below.specs.Clear.{parts_of}
+use Rattle.esc_values.specs.Clear.{parts_of}
 use Rattle.esc_frame.specs.Events.{Takes}
 use Rattle.esc_frame.specs.Events.Event.{OscDispatch}
 use Rattle.esc_frame.specs.Limits.{has_few_parts}

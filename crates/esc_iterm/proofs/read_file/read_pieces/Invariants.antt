@@ -1,6 +1,6 @@
 use Rattle.std.proofs.Common.{◌≡◌, ℕ, List, ◌∷◌, map, drop}
 use Rattle.std.specs.Option.{option_map}
-use Rattle.esc_below.specs.Cuts.{Pairs}
+use Rattle.esc_values.specs.Cuts.{Pairs}
 use Rattle.esc_iterm.specs.Files.{Values, values_after, values_of, pairs_of}
 use Rattle.esc_iterm.specs.Keys.{values}
 use Rattle.esc_iterm.proofs.read_file.read_pieces.Given as goal

@@ -1,6 +1,6 @@
 use Rattle.std.proofs.Common.{◌≡◌, map, take}
 use Rattle.std.specs.Fmt.{HasWritten, IsPlainFormatter}
-use Rattle.esc_below.specs.Clear.{joined}
+use Rattle.esc_values.specs.Clear.{joined}
 use Rattle.esc_iterm.specs.FileKeys.{entry}
 use Rattle.esc_iterm.specs.Files.{key_pieces}
 use Rattle.esc_iterm.proofs.KeysWritten.{is_nothing}

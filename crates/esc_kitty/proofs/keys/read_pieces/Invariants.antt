@@ -1,6 +1,6 @@
 use Rattle.std.proofs.Common.{◌≡◌, ◌++◌, map, drop}
 use Rattle.std.specs.Option.{option_map}
-use Rattle.esc_below.specs.Cuts.{Pairs, pairs_in}
+use Rattle.esc_values.specs.Cuts.{Pairs, pairs_in}
 use Rattle.esc_kitty.specs.Keys.{pairs}
 use Rattle.esc_kitty.proofs.keys.read_pieces.Given as goal
 

@@ -1,6 +1,6 @@
 use Rattle.std.proofs.Common.{◌≡◌, drop}
 use Rattle.std.specs.Option.{option_map}
-use Rattle.esc_below.specs.Cuts.{last_value}
+use Rattle.esc_values.specs.Cuts.{last_value}
 use Rattle.esc_kitty.specs.Keys.{pairs, values}
 use Rattle.esc_kitty.proofs.keys.value.Given as goal
 

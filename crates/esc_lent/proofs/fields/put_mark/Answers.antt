@@ -1,5 +1,5 @@
 use Rattle.std.proofs.Common.{◌++◌, ◌∷◌, [], take, map, ap, sym, ◌∙◌}
-use Rattle.esc_below.specs.declared.csi_param.CsiParam.TheVariants.{P}
+use Rattle.esc_values.specs.declared.csi_param.CsiParam.TheVariants.{P}
 use Rattle.esc_frame.specs.Sequences.{is_from}
 use Rattle.esc_frame.proofs.Shorts.{mark_front}
 use Rattle.esc_lent.specs.Told.{param_of}

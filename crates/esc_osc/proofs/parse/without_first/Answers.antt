@@ -1,6 +1,6 @@
 use Rattle.std.proofs.Common.{◌≡◌, Some, [], sym, ap, ◌∙◌, arith, List, ℕ, length, drop, ◌∷◌}
 use Rattle.std.proofs.lemmas.Str.{is_utf8-from_IsUtf8, IsUtf8-nil}
-use Rattle.esc_below.specs.Scalars.{utf8_of}
+use Rattle.esc_values.specs.Scalars.{utf8_of}
 use Rattle.esc_osc.proofs.parse.without_first.Goals as goal
 
 empty_title : (t : List ℕ) → length t ≡ 0 → utf8_of (drop 1 t) ≡ Some []

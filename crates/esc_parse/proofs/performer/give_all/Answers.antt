@@ -2,7 +2,7 @@ use Rattle.std.proofs.Common.{◌≡◌, true, map, length, [], ◌∷◌, ◌++
 use Rattle.std.proofs.lemmas.Result.{err_from_is_err_and}
 use Rattle.std.specs.List.{FoldsTo}
 use Rattle.std.specs.Vec.Iter.{into_iter_items}
-use Rattle.esc_below.specs.Csis.{csi_value}
+use Rattle.esc_sequences.specs.Csis.{csi_value}
 use Rattle.esc_parse.proofs.Lists.{folds_more, match_err, nothing_left, stops_more}
 use Rattle.esc_parse.proofs.performer.give_all.Goals as goal
 use Rattle.esc_parse.specs.Given.{At, StopsAt}

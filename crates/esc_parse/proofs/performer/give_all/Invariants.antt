@@ -1,7 +1,7 @@
 use Rattle.std.proofs.Common.{◌≡◌, ◌++◌, length, map}
 use Rattle.std.specs.List.{FoldsTo}
 use Rattle.std.specs.Vec.Iter.{into_iter_items, into_iter_len}
-use Rattle.esc_below.specs.Csis.{csi_value}
+use Rattle.esc_sequences.specs.Csis.{csi_value}
 use Rattle.esc_parse.specs.Given.{At}
 use Rattle.esc_actions.specs.Values.{csi, value_of}
 use Rattle.esc_parse.proofs.performer.give_all.Given as goal

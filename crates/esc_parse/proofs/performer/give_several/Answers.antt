@@ -1,5 +1,5 @@
 use Rattle.std.proofs.Common.{◌≡◌, true, map, refl}
-use Rattle.esc_below.specs.Csis.{csi_of}
+use Rattle.esc_sequences.specs.Csis.{csi_of}
 use Rattle.esc_parse.proofs.Lists.{StopsAt-here}
 use Rattle.esc_parse.proofs.performer.give_several.Goals as goal
 use Rattle.esc_parse.specs.Given.{At}

@@ -1,6 +1,6 @@
 use Rattle.std.proofs.Common.{◌≡◌, List, ℕ, map, drop, codes, Option}
 use Rattle.std.specs.Option.{option_map}
-use Rattle.esc_below.specs.Cuts.{Pairs, pairs_in, without_empty, last_value}
+use Rattle.esc_values.specs.Cuts.{Pairs, pairs_in, without_empty, last_value}
 use Rattle.esc_prompts.specs.Pairs.{KeyValues, keys_of}
 use Rattle.esc_prompts.proofs.keys.read_keys.Given as goal
 

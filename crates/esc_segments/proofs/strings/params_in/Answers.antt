@@ -1,5 +1,5 @@
 use Rattle.std.proofs.Common.{◌≡◌, ◌∙◌, IfOk, map, pos, subst}
-use Rattle.esc_below.specs.Clear.{parts_of}
+use Rattle.esc_values.specs.Clear.{parts_of}
 use Rattle.esc_frame.specs.Bodies.{held, value_behind}
 use Rattle.esc_segments.proofs.Dispatching.{parameters_strip}
 use Rattle.esc_segments.proofs.strings.params_in.Goals as goal

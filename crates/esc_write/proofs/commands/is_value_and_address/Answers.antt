@@ -1,7 +1,7 @@
 use Rattle.std.proofs.Common.{arith, true, false, take, drop, length, length-append, ap, sym, ◌+◌, ◌∙◌, ◌≡◌, ◌∷◌}
 use Rattle.std.proofs.lemmas.Bool.Decides.{nat_tests}
 use Rattle.std.specs.List.{list_any}
-use Rattle.esc_below.specs.Hyperlinks.{is_colon}
+use Rattle.esc_links.specs.Hyperlinks.{is_colon}
 use Rattle.esc_write.proofs.Verbatim.{address_end, id_link, name_end, name_taken, two_parts}
 use Rattle.esc_write.proofs.commands.is_value_and_address.Goals as goal
 

@@ -1,5 +1,5 @@
 use Rattle.std.proofs.Common.{◌≡◌, true, ◌∙◌}
-use Rattle.esc_below.specs.Clear.{parts_of}
+use Rattle.esc_values.specs.Clear.{parts_of}
 use Rattle.esc_filter.proofs.Sequences.{command_passes, command_refused, command_stays, left_alone}
 use Rattle.esc_filter.proofs.passing.PassingSinkAction.receive_command.Goals as goal
 

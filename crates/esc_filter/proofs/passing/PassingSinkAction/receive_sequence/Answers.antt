@@ -1,5 +1,5 @@
 use Rattle.std.proofs.Common.{◌≡◌, Some, ap, true}
-use Rattle.esc_below.specs.Csis.{csi_of}
+use Rattle.esc_sequences.specs.Csis.{csi_of}
 use Rattle.esc_filter.proofs.Sequences.{left_alone, passes_taken, refused_taken, stays_taken}
 use Rattle.esc_filter.proofs.passing.PassingSinkAction.receive_sequence.Goals as goal
 

@@ -1,5 +1,5 @@
 use Rattle.std.proofs.Common.{false}
-use Rattle.esc_below.specs.Csis.{csi_of}
+use Rattle.esc_sequences.specs.Csis.{csi_of}
 use Rattle.esc_filter.proofs.Sequences.{all_sequences, text_sequences}
 use Rattle.esc_filter.proofs.policy.PolicyAdmit.admits_sequence.Goals as goal
 

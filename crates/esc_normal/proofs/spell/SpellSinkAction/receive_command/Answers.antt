@@ -1,5 +1,5 @@
 use Rattle.std.proofs.Common.{◌≡◌, ◌++◌, true, ap, sym, ◌∙◌}
-use Rattle.esc_below.specs.Clear.{framed, parts_of}
+use Rattle.esc_values.specs.Clear.{framed, parts_of}
 use Rattle.esc_normal.proofs.Spelling.{command_given, command_refused}
 use Rattle.esc_normal.proofs.spell.SpellSinkAction.receive_command.Goals as goal
 

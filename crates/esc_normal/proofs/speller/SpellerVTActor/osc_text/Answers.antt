@@ -1,5 +1,5 @@
 use Rattle.std.proofs.Common.{true, false}
-use Rattle.esc_below.specs.Clear.{parts_of}
+use Rattle.esc_values.specs.Clear.{parts_of}
 use Rattle.esc_write.proofs.Results.{ok_both}
 use Rattle.esc_normal.proofs.Spelling.{made_spelled, text_spelled, verbatim_spelled}
 use Rattle.esc_normal.proofs.speller.SpellerVTActor.osc_text.Goals as goal

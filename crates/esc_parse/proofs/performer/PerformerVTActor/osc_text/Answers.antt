@@ -1,5 +1,5 @@
 use Rattle.std.proofs.Common.{true, false}
-use Rattle.esc_below.specs.Clear.{parts_of}
+use Rattle.esc_values.specs.Clear.{parts_of}
 use Rattle.esc_parse.proofs.GivenCommands.{text_taken}
 use Rattle.esc_parse.proofs.performer.PerformerVTActor.osc_text.Goals as goal
 

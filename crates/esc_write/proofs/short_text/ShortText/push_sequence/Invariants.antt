@@ -1,5 +1,5 @@
 use Rattle.std.proofs.Common.{◌≡◌, ◌∷◌, take}
-use Rattle.esc_below.specs.Entries.{entries_text}
+use Rattle.esc_values.specs.Entries.{entries_text}
 use Rattle.esc_write.proofs.short_text.ShortText.push_sequence.Given as goal
 
 abbrev pub invariant-loop-param : goal.invariant-loop-param

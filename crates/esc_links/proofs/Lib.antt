@@ -1,0 +1,5 @@
+pub mod LinksBack
+pub mod PairsOrder
+pub mod PairsRead
+pub mod ParamsBack
+pub mod ParamsSeen

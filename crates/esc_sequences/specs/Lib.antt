@@ -1,0 +1,2 @@
+pub mod Csis
+pub mod Escs

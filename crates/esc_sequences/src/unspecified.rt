@@ -1,0 +1,83 @@
+//! Control sequences that have no name.
+ghost use Rattle.std.specs.Prelude.{Some};
+ghost use Rattle.std.specs.Fmt.{DisplaysOnOk};
+ghost use Rattle.esc_sequences.specs.Csis.{csi_text, unspecified};
+ghost use Rattle.esc_values.specs.Entries.{entry_text, entries_text};
+
+use esc_values::number::write_number;
+use esc_values::{CsiParam, Items};
+use std::alloc::{Allocator, Global};
+use std::fmt;
+use std::fmt::Display;
+
+/// A control sequence that has no name, as it is (ECMA-48, 5.4).
+#[derive(Drop)]
+#[derive_where(Debug, PartialEq)]
+pub struct Unspecified<A: Allocator = Global> {
+    /// The entries of its body.
+    pub params: Items<CsiParam, A>,
+    /// Whether the body has more entries, which are not kept.
+    pub parameters_truncated: bool,
+    /// The final byte, 40 to 7E (hexadecimal).
+    pub control: u8,
+}
+
+/// Writes `ESC [`, each entry as its decimal number or its character, and the final byte. A byte is written as the
+/// character of the same number. Where it returns `Ok`, all of it was written.
+impl<A: Allocator> fmt::Display for Unspecified<A> {
+    ghost output = { λ u. Some (csi_text (unspecified u.params u.parameters_truncated u.control)) };
+
+    fn fmt<W: fmt::Write>(&self, f: &mut fmt::Formatter<W>) -> fmt::Result {
+        let borrowed = BorrowedSequence {
+            params: self.params.as_slice(),
+            parameters_truncated: self.parameters_truncated,
+            control: self.control,
+        };
+        borrowed.fmt(f)
+    }
+}
+
+/// A control sequence that has no name, of entries that are kept elsewhere: it is written without a copy of them.
+#[derive(Clone, Copy)]
+pub struct BorrowedSequence<'a> {
+    /// The entries of its body.
+    pub params: &'a [CsiParam],
+    /// Whether the body has more entries, which are not kept.
+    pub parameters_truncated: bool,
+    /// The final byte, 40 to 7E (hexadecimal).
+    pub control: u8,
+}
+
+/// Writes what [`Unspecified`] of the same entries writes.
+impl<'a> fmt::Display for BorrowedSequence<'a> {
+    ghost output = { λ u. Some (csi_text (unspecified u.params.now u.parameters_truncated u.control)) };
+
+    fn fmt<W: fmt::Write>(&self, f: &mut fmt::Formatter<W>) -> fmt::Result {
+        f.write_str("\x1b[")?;
+        write_entries(self.params, f)?;
+        f.write_char(char::from(self.control))
+    }
+}
+
+// The entries, one after another.
+fn write_entries<W: fmt::Write>(params: &[CsiParam], f: &mut fmt::Formatter<W>) -> fmt::Result
+    ensures { DisplaysOnOk W.write_str_gives f.old result (Some (entries_text params.now)) f.new }
+{
+    for param in params {
+        write_entry(*param, f)?;
+    }
+    Ok(())
+}
+
+// An entry, as its decimal number or its character.
+fn write_entry<W: fmt::Write>(param: CsiParam, f: &mut fmt::Formatter<W>) -> fmt::Result
+    ensures { DisplaysOnOk W.write_str_gives f.old result (Some (entry_text param)) f.new }
+{
+    match param {
+        CsiParam::Integer(number) => write_number(number, f),
+        CsiParam::P(b';') => f.write_str(";"),
+        CsiParam::P(b':') => f.write_str(":"),
+        CsiParam::P(b'?') => f.write_str("?"),
+        CsiParam::P(byte) => f.write_char(char::from(byte)),
+    }
+}

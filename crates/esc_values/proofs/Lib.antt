@@ -1,0 +1,14 @@
+pub mod Base64
+pub mod ClearPairs
+pub mod ClearTexts
+pub mod Cutting
+pub mod Digits
+pub mod Engine
+pub mod Numbers
+pub mod Numerals
+pub mod Plain
+pub mod PlainParts
+pub mod Signed
+pub mod Split
+pub mod Utf8Bytes
+pub mod Where

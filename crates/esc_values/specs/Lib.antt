@@ -1,0 +1,5 @@
+pub mod Base64
+pub mod Clear
+pub mod Cuts
+pub mod Entries
+pub mod Scalars
