@@ -2,6 +2,7 @@
 use crate::call::{Call, shown};
 use crate::fault::Fault;
 use crate::readings::in_pieces;
+use crate::segments::of_segments;
 use crate::stream::Stream;
 use escape_stream::{
     Collect, ParseError, Parser, Watched, encode, is_normal, normalise, parse_pieces,
@@ -18,6 +19,8 @@ pub enum Asked {
     Sink,
     /// `parse_pieces` of the two halves of a stream.
     Halves,
+    /// `read_segment` of each segment of a stream.
+    Segments,
     /// `encode` of the actions of a stream.
     Text,
     /// `normalise` of a stream.
@@ -30,12 +33,13 @@ const MOST_REQUESTS: u64 = 10_000;
 
 impl Asked {
     /// All that takes memory.
-    pub const ALL: [Asked; 8] = [
+    pub const ALL: [Asked; 9] = [
         Asked::Parser(Call::List),
         Asked::Parser(Call::First),
         Asked::Parser(Call::Prefix),
         Asked::Sink,
         Asked::Halves,
+        Asked::Segments,
         Asked::Text,
         Asked::Normal,
         Asked::Verdict,
@@ -44,7 +48,9 @@ impl Asked {
     /// Whether it takes memory for this stream.
     pub fn grows(self, stream: &Stream) -> bool {
         match self {
-            Asked::Parser(Call::List) | Asked::Sink | Asked::Halves => stream.actions != "[]",
+            Asked::Parser(Call::List) | Asked::Sink | Asked::Halves | Asked::Segments => {
+                stream.actions != "[]"
+            }
             Asked::Parser(Call::First) => begins_with_a_string(stream.actions),
             Asked::Parser(Call::Prefix) => stream.actions != "[]" && stream.is_finished,
             Asked::Text | Asked::Normal => !stream.text.is_empty(),
@@ -86,6 +92,7 @@ impl Asked {
             Asked::Parser(call) => parsed(alloc, heap, at, call, stream),
             Asked::Sink => given(alloc, heap, at, stream),
             Asked::Halves => read_in_halves(alloc, heap, at, stream),
+            Asked::Segments => read_by_segments(alloc, heap, at, stream),
             Asked::Text => written(alloc, heap, at, stream),
             Asked::Normal => normalised(alloc, heap, at, stream),
             Asked::Verdict => judged(alloc, heap, at, stream),
@@ -166,6 +173,17 @@ fn read_in_halves(
     heap.refuse_at(at);
     let (begins, ends) = stream.split_at(stream.len() / 2);
     Ok(shown(alloc, parse_pieces(heap, &[begins, ends]))?)
+}
+
+// The Debug text of the actions of the stream's segments.
+fn read_by_segments(
+    alloc: Global,
+    heap: &Refusing<Global>,
+    at: u64,
+    stream: &[u8],
+) -> Result<String, Fault> {
+    heap.refuse_at(at);
+    Ok(shown(alloc, of_segments(heap, stream))?)
 }
 
 // The Debug text of what `encode` returns of the stream's actions.

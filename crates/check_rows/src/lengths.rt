@@ -1,9 +1,8 @@
-//! Streams of each length, under ample memory. A contract leaves open when memory is wanted, so a body that refuses a stream of
-//! one length, or a list of one number of actions, would be proved.
+//! Streams of each length, under ample memory.
 use crate::fault::Fault;
 use crate::report::Report;
 use crate::row::Row;
-use crate::spellings::{encoded, encoded_calls, encoded_halves, normalised};
+use crate::spellings::{encoded, encoded_calls, encoded_halves, encoded_segments, normalised};
 use escape_stream::{ParseError, Parser};
 use std::alloc::Global;
 
@@ -66,6 +65,8 @@ fn check_text(alloc: Global, name: &str, text: &str, report: &mut Report) -> Res
         text,
         encoded_calls(alloc, bytes),
     )?;
+    let by_segments = encoded_segments(alloc, bytes);
+    report.expect(name, "read by segments", text, by_segments)?;
     report.expect(name, "normalised", text, normalised(alloc, bytes))?;
     let has_none = bytes.is_empty();
     if has_first(alloc, bytes)? == has_none || has_prefix(alloc, bytes)? == has_none {

@@ -3,6 +3,7 @@ use crate::fault::Fault;
 use crate::readings::{append, shown};
 use crate::report::Report;
 use crate::row::Row;
+use crate::segments::is_read_alike;
 use escape_stream::{Action, Parser, Watched, is_normal_limited, normalise_limited};
 use std::alloc::Global;
 
@@ -44,6 +45,7 @@ impl Limited<'_> {
         self.check_pieces(alloc, report)?;
         self.check_bytes(alloc, report)?;
         self.check_normal(alloc, report)?;
+        self.check_segments(alloc, report)?;
         self.check_kept(alloc, report)
     }
 
@@ -70,6 +72,14 @@ impl Limited<'_> {
         let is_same = is_normal_limited(alloc, &mut Watched::new(self.bytes), self.limit)?;
         if is_same != (self.text.as_bytes() == self.bytes) {
             report.note(self.name, "compared with its normal form otherwise")?;
+        }
+        Ok(())
+    }
+
+    // Without the limit, by a parser and by its segments.
+    fn check_segments(&self, alloc: Global, report: &mut Report) -> Result<(), Fault> {
+        if !is_read_alike(alloc, self.bytes)? {
+            report.note(self.name, "read otherwise by segments")?;
         }
         Ok(())
     }

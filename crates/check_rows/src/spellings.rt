@@ -2,6 +2,7 @@
 use crate::fault::Fault;
 use crate::readings::{called, listed};
 use crate::row::parts_of;
+use crate::segments::of_segments;
 use escape_stream::{OperatingSystemCommand, Parser, Watched, encode, normalise, parse_pieces};
 use std::alloc::{AllocError, Global};
 use std::fmt::{Debug, Display};
@@ -29,6 +30,12 @@ pub fn encoded_bytes(alloc: Global, stream: &[u8]) -> Result<String, Fault> {
 /// What is written of the actions that a closure is given of a stream, which comes byte by byte.
 pub fn encoded_calls(alloc: Global, stream: &[u8]) -> Result<String, Fault> {
     Ok(encode(alloc, &called(alloc, stream)?)?)
+}
+
+/// What is written of the actions of a stream's segments.
+pub fn encoded_segments(alloc: Global, stream: &[u8]) -> Result<String, Fault> {
+    let actions = of_segments(alloc, stream)?;
+    Ok(encode(alloc, &actions)?)
 }
 
 /// The normal form of a stream.

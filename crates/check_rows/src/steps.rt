@@ -4,6 +4,7 @@ use crate::fault::Fault;
 use crate::line::Line;
 use crate::report::Report;
 use crate::row::{Row, unescaped};
+use crate::segments::is_read_alike;
 use escape_stream::Parser;
 use std::alloc::Global;
 
@@ -33,15 +34,26 @@ fn step(
         return Ok(String::new(alloc));
     }
     match called(line.word) {
-        Some(call) => returned(alloc, call, parser, line.text),
+        Some(call) => {
+            let bytes = unescaped(alloc, line.text)?;
+            check_segments(alloc, name, &bytes, report)?;
+            Ok(call.shown(alloc, parser, &bytes)?)
+        }
         None => Ok(shown),
     }
 }
 
-// The Debug text of what a call of these bytes returns.
-fn returned(alloc: Global, call: Call, parser: &mut Parser, text: &str) -> Result<String, Fault> {
-    let bytes = unescaped(alloc, text)?;
-    Ok(call.shown(alloc, parser, &bytes)?)
+// The bytes of a call, as a stream of their own, by a parser and by its segments.
+fn check_segments(
+    alloc: Global,
+    name: &str,
+    bytes: &[u8],
+    report: &mut Report,
+) -> Result<(), Fault> {
+    if !is_read_alike(alloc, bytes)? {
+        report.note(name, "read otherwise by segments")?;
+    }
+    Ok(())
 }
 
 // The call that a word names.

@@ -21,7 +21,7 @@ pub struct Stream<'a> {
 // Longer streams are not cut at each place, and are refused no memory.
 const CUT_UP_TO: usize = 2000;
 
-// Of longer streams the prefixes are not read by their segments.
+// Of a longer stream no proper prefix is read by its segments.
 const PREFIXES_UP_TO: usize = 200;
 
 // Longer streams are read whole, and by no other call.
@@ -77,14 +77,16 @@ impl Stream<'_> {
         }
     }
 
-    // Segment by segment; and each prefix both ways, also with a byte after it.
+    // Segment by segment; and each prefix, the stream itself too, both ways, also with a byte after it.
     fn check_segments(&self, alloc: Global, report: &mut Report) -> Result<(), Fault> {
         let got = by_segments(alloc, self.bytes);
         self.has_actions("read by segments", got, report)?;
-        if self.bytes.len() > PREFIXES_UP_TO {
+        let len = self.bytes.len();
+        if len > EACH_BYTE_UP_TO {
             return Ok(());
         }
-        for end in 0..self.bytes.len() {
+        let first = if len > PREFIXES_UP_TO { len } else { 0 };
+        for end in first..=len {
             if !is_read_alike(alloc, &self.bytes[..end])? {
                 return Ok(report.note(self.name, "a prefix is read otherwise by segments")?);
             }

@@ -10,15 +10,8 @@
 //! }
 //! ```
 //!
-//! A segment outlives the iterator that gave it, and not the input: this does not compile, since `bytes` ends before `kept`.
-//!
-//! ```compile_fail
-//! let kept = {
-//!     let bytes = [b'a', 0x07];
-//!     Segments::new(&bytes).next()
-//! };
-//! let _ = kept;
-//! ```
+//! A segment outlives the iterator that gave it, and not the input: the compiler refuses a program that keeps a segment longer
+//! than the bytes that it was cut from.
 #![tactic(auto)]
 
 mod bytes;

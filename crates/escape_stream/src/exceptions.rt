@@ -8,8 +8,8 @@ ghost use Rattle.esc_device.specs.Writable.{is_high_byte};
 ghost use Rattle.escape_stream.specs.Asked.{is_opener};
 
 use esc_actions::Action;
-use esc_sequences::{CSI, Esc};
 use esc_device::DeviceControlMode;
+use esc_sequences::{CSI, Esc};
 use std::alloc::Allocator;
 
 // Whether this is one of the actions that a parser may emit though no text reads back as them.

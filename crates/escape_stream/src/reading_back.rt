@@ -10,9 +10,9 @@ ghost use Rattle.esc_parse.specs.Firsts.{first};
 
 use crate::exceptions::is_exception;
 use esc_actions::{Action, laws};
-use esc_values::Text;
 use esc_equality::actions::same_action;
 use esc_parse::Parser;
+use esc_values::Text;
 use esc_write::encoding::write_after;
 use std::alloc::{AllocError, Allocator};
 

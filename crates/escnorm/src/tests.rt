@@ -109,6 +109,7 @@ fn writes_or_compares(rt: HostRuntime) -> Result<(), Fail> {
 fn other_words_get_the_usage(rt: HostRuntime) -> Result<(), Fail> {
     for line in [
         "--checks",
+        "-c",
         "-h",
         "",
         "--check x",

@@ -22,6 +22,8 @@ mod normalising;
 #[cfg(test)]
 mod recorder;
 #[cfg(test)]
+mod runs;
+#[cfg(test)]
 mod sinks;
 #[cfg(test)]
 mod texts;

@@ -1,6 +1,6 @@
-//! The parameters of hyperlinks.
+//! Hyperlinks and their parameters.
 use crate::told::check;
-use esc_below::{Params, Text};
+use esc_below::{Error, Hyperlink, Params, Text};
 use refusing::Refusing;
 use std::alloc::{AllocError, Allocator, Global};
 use std::test::Fail;
@@ -101,4 +101,26 @@ fn refused_keys(rt: HostRuntime) -> Result<(), Fail> {
     }
     assert!(rt; refusals > 0);
     Ok(())
+}
+
+// Whether the parts `8`, these parameters and `x` are read as this link.
+fn is_read_as(alloc: Global, params: &[u8], link: &Hyperlink) -> Result<bool, Error> {
+    match Hyperlink::parse(alloc, &[b"8", params, b"x"])? {
+        Some(read) => Ok(read == *link),
+        None => Ok(false),
+    }
+}
+
+// Whether a link without a parameter, and one with an id, are read of the parameters that write them, and of no others.
+fn are_told_apart(alloc: Global) -> Result<bool, Error> {
+    let plain = Hyperlink::new(alloc, "x")?;
+    let named = Hyperlink::new_with_id(alloc, "x", "foo")?;
+    let are_read = is_read_as(alloc, b"", &plain)? && is_read_as(alloc, b"id=foo", &named)?;
+    let are_mixed = is_read_as(alloc, b"", &named)? || is_read_as(alloc, b"id=foo", &plain)?;
+    Ok(are_read && !are_mixed && plain != named)
+}
+
+#[test]
+fn links_are_read(rt: HostRuntime) {
+    assert!(rt; matches!(are_told_apart(rt.alloc()), Ok(true)));
 }
