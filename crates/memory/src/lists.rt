@@ -1,6 +1,6 @@
 //! Lists and boxes.
-ghost use Rattle.std.specs.Prelude.{◌≡◌, ◌+◌, ◌++◌, ◌∷◌, ◌≤◌, [], length, is_ok, if◌then◌else◌, IfOk, IfErr, OnOk, OnErr, vec_len, vec_capacity};
-ghost use Rattle.std.specs.Iterator.{IsFinite};
+ghost use Rattle.std.specs.Prelude.{⊤, List, ◌≡◌, ◌+◌, ◌++◌, ◌∷◌, ◌≤◌, [], length, is_ok, if◌then◌else◌, IfOk, IfErr, OnOk, OnErr, vec_len, vec_capacity};
+ghost use Rattle.std.specs.Iterator.{DrainsIf, IsFinite};
 ghost use Rattle.std.specs.Iterator.Runs.{WholeRun};
 ghost use Rattle.memory.specs.Refusals.{Refused};
 
@@ -73,6 +73,8 @@ where
     I::Item: Drop,
     requires can { I.can_next items }
     requires finite { IsFinite (I.remaining items) }
+    ensures ran { IfOk result (λ v. (xs : List I.Item) × DrainsIf I.next_gives ⊤ items xs
+        × ((v.items ≡ xs) × (vec_len v ≡ length xs))) }
     ensures runs { IfOk result (λ v. WholeRun I.next_gives items (λ p. (v.items ≡ p.items) × (vec_len v ≡ length p.items))) }
     ensures refused { OnErr result (Refused A) }
 {
