@@ -10,7 +10,6 @@ use Rattle.esc_values.specs.Clear.{is_clear}
 use Rattle.esc_frame.specs.Sequences.{is_sequence, number_of}
 use Rattle.esc_frame.specs.Machine.Texts.{IsClearText, IsNext}
 use Rattle.std.proofs.Common.{take, length-drop}
-use Rattle.std.proofs.lemmas.List.{get_or-drop}
 use Rattle.esc_frame.proofs.ManyBytes.{tail_is}
 use Rattle.esc_frame.proofs.Characters.{clear_cases, spells_clear, two_is, three_is, four_is, number_two, number_three, number_four, none_none}
 use Rattle.esc_frame.proofs.Characters.{none_one, none_five}
@@ -117,22 +116,15 @@ next_four x t some l =
 
 -- ---- the bytes from a place on
 
-from_at : (x : List ℕ) (at : ℕ) → get_or (drop at x) 0 0 ≡ get_or x at 0
-from_at x at = let place : at + 0 ≡ at = omega arith in get_or-drop at x 0 0 ∙ ap (λ i. get_or x i 0) place
-
-pub one_at : (x : List ℕ) (at : ℕ) → IsClearText (drop at x) → at < length x → get_or x at 0 < 0x80 → IsNext (drop at x) (get_or x at 0) 1
-one_at x at t l h =
-    let same = from_at x at in
-    subst (λ c. IsNext (drop at x) c 1) same (next_one (drop at x) t (omega (arith, length-drop at x, l)) (omega (arith, same, h)))
-
 pub tail_some : (x : List ℕ) (at : ℕ) → at < length x → 0 < length (take (length x - at) (drop at x))
 tail_some x at l = omega (arith, ap length (tail_is x at), length-drop at x, l)
-
-pub tail_first : (x : List ℕ) (at : ℕ) → get_or (take (length x - at) (drop at x)) 0 0 ≡ get_or x at 0
-tail_first x at = ap (λ y. get_or y 0 0) (tail_is x at) ∙ from_at x at
 
 pub tail_clear : (x : List ℕ) (at : ℕ) → IsClearText (drop at x) → IsClearText (take (length x - at) (drop at x))
 tail_clear x at t = subst IsClearText (sym (tail_is x at)) t
 
 pub tail_next : (x : List ℕ) (at c n : ℕ) → IsNext (take (length x - at) (drop at x)) c n → IsNext (drop at x) c n
 tail_next x at c n h = subst (λ y. IsNext y c n) (tail_is x at) h
+
+pub next_within : (x : List ℕ) (at c n : ℕ) → at < length x
+    → IsNext (take (length x - at) (drop at x)) c n → at + n ≤ length x
+next_within x at c n l h = omega (arith, (tail_next x at c n h).1, length-drop at x)

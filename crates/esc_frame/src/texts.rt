@@ -4,9 +4,28 @@
 ghost use Rattle.std.specs.Prelude.{◌<◌, ◌≤◌, length, slice_index};
 ghost use Rattle.esc_frame.specs.Machine.Texts.{IsClearText, IsNext};
 
-/// The character of two bytes that comes first.
+/// The character that comes first, and how many bytes it takes.
 #[inline(always)]
-pub fn two_of(text: &[u8]) -> char
+pub fn first_of(text: &[u8]) -> (char, usize)
+    requires some { 0 < length text.now }
+    requires clear { IsClearText text.now }
+    ensures next { IsNext text.now result.0 result.1 }
+    ensures some { 0 < result.1 }
+{
+    if text[0] < 0x80 {
+        (text[0] as char, 1)
+    } else if text[0] < 0xe0 {
+        (two_of(text), 2)
+    } else if text[0] < 0xf0 {
+        (three_of(text), 3)
+    } else {
+        (four_of(text), 4)
+    }
+}
+
+// The character of two bytes that comes first.
+#[inline(always)]
+fn two_of(text: &[u8]) -> char
     requires some { 0 < length text.now }
     requires low { 0x80 ≤ slice_index text.now 0 }
     requires high { slice_index text.now 0 < 0xe0 }
@@ -17,9 +36,9 @@ pub fn two_of(text: &[u8]) -> char
     unsafe { char::from_u32_unchecked(n) }
 }
 
-/// The character of three bytes that comes first.
+// The character of three bytes that comes first.
 #[inline(always)]
-pub fn three_of(text: &[u8]) -> char
+fn three_of(text: &[u8]) -> char
     requires some { 0 < length text.now }
     requires low { 0xe0 ≤ slice_index text.now 0 }
     requires high { slice_index text.now 0 < 0xf0 }
@@ -30,9 +49,9 @@ pub fn three_of(text: &[u8]) -> char
     unsafe { char::from_u32_unchecked(n) }
 }
 
-/// The character of four bytes that comes first.
+// The character of four bytes that comes first.
 #[inline(always)]
-pub fn four_of(text: &[u8]) -> char
+fn four_of(text: &[u8]) -> char
     requires some { 0 < length text.now }
     requires low { 0xf0 ≤ slice_index text.now 0 }
     requires clear { IsClearText text.now }

@@ -1,4 +1,4 @@
-use Rattle.std.proofs.Common.{◌≤◌, ◌-◌, length}
+use Rattle.std.proofs.Common.{◌-◌, length}
 use Rattle.esc_frame.specs.Machine.Texts.{HasSpelled}
 use Rattle.esc_frame.proofs.actor.VTActor.print_str.Given as goal
 
@@ -7,21 +7,3 @@ invariant-loop-at g l = HasSpelled g.Self.VTActor.takes g.Self.VTActor.is_ready 
 
 abbrev pub decreases-loop-at : goal.decreases-loop-at
 decreases-loop-at g l = length l.bytes - l.at
-
-abbrev pub invariant-ones : goal.invariant-ones
-invariant-ones g l = (l.initial.at ≤ l.at) × HasSpelled g.Self.VTActor.takes g.Self.VTActor.is_ready l.bytes l.at l.fn.self l.self
-
-abbrev pub decreases-ones : goal.decreases-ones
-decreases-ones g l = length l.bytes - l.at
-
-abbrev pub invariant-twos : goal.invariant-twos
-invariant-twos g l = (l.initial.at ≤ l.at) × HasSpelled g.Self.VTActor.takes g.Self.VTActor.is_ready l.bytes l.at l.fn.self l.self
-
-abbrev pub decreases-twos : goal.decreases-twos
-decreases-twos g l = length l.bytes - l.at
-
-abbrev pub invariant-threes : goal.invariant-threes
-invariant-threes g l = (l.initial.at ≤ l.at) × HasSpelled g.Self.VTActor.takes g.Self.VTActor.is_ready l.bytes l.at l.fn.self l.self
-
-abbrev pub decreases-threes : goal.decreases-threes
-decreases-threes g l = length l.bytes - l.at
