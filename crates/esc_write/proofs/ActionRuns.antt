@@ -1,21 +1,59 @@
 -- Runs of characters, gathered eight at a time.
 use Rattle.std.proofs.Common.{ℕ, suc, Bool, false, true, ◌≡◌, ◌+◌, ◌<◌, List, [], ◌∷◌, ◌++◌}
-use Rattle.std.proofs.Common.{length, map, take, drop, refl, ap, sym, ◌∙◌, append_assoc, take-append-drop, arith}
-use Rattle.std.proofs.Common.{◌&&◌}
-use Rattle.std.proofs.lemmas.List.Folds.{list_all-append}
-use Rattle.std.proofs.lemmas.List.{length-append, length-map, map-append}
+use Rattle.std.proofs.Common.{◌&&◌, ◌≤◌, length, map, take, drop, get_or, refl, ap, sym, ◌∙◌}
+use Rattle.std.proofs.Common.{append_assoc, append-nil, take-append-drop, arith}
+use Rattle.std.proofs.lemmas.List.Folds.{list_all-append, list_all_more}
+use Rattle.std.proofs.lemmas.List.{drop_more, length-append, length-map, map-append, take_all}
 use Rattle.std.proofs.lemmas.Str.{encode_ascii}
 use Rattle.std.specs.List.{list_all}
 use Rattle.std.specs.Str.{IsAscii}
-use Rattle.esc_actions.specs.Texts.{is_string, text_after, texts_after}
-use Rattle.esc_actions.specs.Values.{Value}
+use Rattle.esc_actions.specs.Texts.{has_text, is_string, text_after, texts_after}
+use Rattle.esc_actions.specs.Values.{Value, device_value, value_of}
 use Rattle.esc_actions.specs.Values.Value.{print}
+use Rattle.esc_actions.specs.declared.action.Action.{Action}
+use Rattle.esc_actions.specs.declared.action.Action.TheVariants as action
 
 module _ {X V : Type 0} (f : X → V) (show : ℕ → V) where
   -- a run that goes on
-  pub more_seen : (vs : List V) (run bs : List ℕ) (ws us : List V) → vs ≡ map show run ++ ws → ws ≡ map show bs ++ us → vs ≡ map show (run ++ bs) ++ us
-  more_seen vs run bs ws us h k =
-      h ∙ ap (λ w. map show run ++ w) k ∙ sym (append_assoc (map show run) (map show bs) us) ∙ ap (λ w. w ++ us) (sym (map-append show run bs))
+  pub more_seen : (xs rest more : List X) (run bs new : List ℕ)
+      → map f xs ≡ map show run ++ map f rest → map f rest ≡ map show bs ++ map f (drop 8 rest) → new ≡ run ++ bs → more ≡ drop 8 rest
+      → map f xs ≡ map show new ++ map f more
+  more_seen xs rest more run bs new h k n m =
+      h ∙ ap (λ w. map show run ++ w) k
+      ∙ sym (append_assoc (map show run) (map show bs) (map f (drop 8 rest)))
+      ∙ ap (λ w. w ++ map f (drop 8 rest)) (sym (map-append show run bs))
+      ∙ ap (λ w. map show w ++ map f (drop 8 rest)) (sym n)
+      ∙ ap (λ w. map show new ++ map f w) (sym m)
+
+-- one of the first eight, and those after it
+pub next_shown : {X V : Type 0} (f : X → V) (xs : List X) (n : ℕ) (x : X) (v : V) (rest : List V)
+    → 8 ≤ length xs → n < 8 → x ≡ get_or xs n x → f x ≡ v → map f (drop (n + 1) xs) ≡ rest
+    → map f (drop n xs) ≡ v ∷ rest
+next_shown f xs n x v rest few low is shown h =
+    ap (map f) (drop_more xs n x (omega arith)) ∙ ap (λ t. f (get_or xs n x) ∷ t) h
+    ∙ ap (λ y. y ∷ rest) (ap f (sym is) ∙ shown)
+
+-- all of the first n, and of one more
+pub all_next : {X : Type 0} (p : X → Bool) (xs : List X) (n : ℕ) (x : X) → n < length xs
+    → x ≡ get_or xs n x → p x ≡ true → list_all p (take n xs) ≡ true
+    → list_all p (take (n + 1) xs) ≡ true
+all_next p xs n x low is passes h =
+    list_all_more p xs n x low ∙ ap (λ t. t && p (get_or xs n x)) h ∙ ap p (sym is) ∙ passes
+
+-- all of the first n, which are all
+pub all_taken : {X : Type 0} (p : X → Bool) (xs : List X) (n : ℕ) → length xs ≤ n
+    → list_all p (take n xs) ≡ true → list_all p xs ≡ true
+all_taken p xs n few h = ap (list_all p) (sym (take_all n xs few)) ∙ h
+
+device_text : {A : Type 0} (m : _) → has_text {A = A} (device_value m) ≡ true
+device_text m = grind arith
+
+-- an action that is no sixel image has a text
+pub text_unless_sixel : {A : Type 0} (a : Action A) → ((s : _) → a ≡ action.Sixel s → ⊥)
+    → has_text (value_of a) ≡ true
+text_unless_sixel (action.Sixel s) other = absurd (other s refl)
+text_unless_sixel (action.DeviceControl m) other = device_text m
+text_unless_sixel a other = refl
 
 -- all of a list: of its first n, and of what follows
 module _ {X : Type 0} (p : X → Bool) (n : ℕ) (xs front back : List X) (f : front ≡ take n xs) (b : back ≡ drop n xs) where
@@ -39,12 +77,16 @@ spelled_run (x ∷ xs) vs h = rw (encode_ascii x (h 0)) (ap (λ t. x ∷ t) (spe
 print_follows : {A : Type 0} (follows : Bool) (c : ℕ) (vs ws : List (Value A)) → vs ≡ print c ∷ ws → texts_after false vs ≡ texts_after follows vs
 print_follows follows c vs ws h = ap (texts_after false) h ∙ ap (texts_after follows) (sym h)
 
-pub run_text : {A : Type 0} (follows : Bool) (old new xs : List ℕ) (vs ws : List (Value A)) → 0 < length xs → IsAscii xs
-    → vs ≡ map print xs ++ ws → new ≡ old ++ xs → new ++ texts_after false ws ≡ old ++ texts_after follows vs
-run_text follows old new [] vs ws some a h k = absurd (omega arith)
-run_text follows old new (x ∷ xs) vs ws some a h k =
-    ap (λ t. t ++ texts_after false ws) k ∙ append_assoc old (x ∷ xs) (texts_after false ws) ∙ ap (λ t. old ++ t) (sym (spelled_run (x ∷ xs) ws a))
-    ∙ ap (λ vs. old ++ texts_after false vs) (sym h) ∙ ap (λ t. old ++ t) (print_follows follows x vs (map print xs ++ ws) h)
+pub run_text : {A : Type 0} (follows : Bool) (old new shown xs : List ℕ) (vs ws : List (Value A))
+    → 0 < length xs → IsAscii xs → vs ≡ map print xs ++ ws → new ≡ old ++ shown → shown ≡ xs
+    → new ++ texts_after false ws ≡ old ++ texts_after follows vs
+run_text follows old new shown [] vs ws some a h k is = absurd (omega arith)
+run_text follows old new shown (x ∷ xs) vs ws some a h k is =
+    ap (λ t. t ++ texts_after false ws) (k ∙ ap (λ t. old ++ t) is)
+    ∙ append_assoc old (x ∷ xs) (texts_after false ws)
+    ∙ ap (λ t. old ++ t) (sym (spelled_run (x ∷ xs) ws a))
+    ∙ ap (λ vs. old ++ texts_after false vs) (sym h)
+    ∙ ap (λ t. old ++ t) (print_follows follows x vs (map print xs ++ ws) h)
 
 -- the text of one action
 pub one_text : {A : Type 0} (follows ends : Bool) (old new : List ℕ) (v : Value A) (vs ws : List (Value A)) → vs ≡ v ∷ ws
@@ -60,3 +102,9 @@ rest_shorter {X} {A} f xs rest run h some =
     let show : ℕ → Value A = λ c. print c in
     let sizes : length (map f xs) ≡ length (map show run) + length (map f rest) = ap length h ∙ length-append (map show run) (map f rest) in
     omega (arith, sizes, length-map xs f, length-map rest f, length-map run show)
+
+-- nothing is left
+pub all_written : {X A : Type 0} (f : X → Value A) (follows : Bool) (text all : List ℕ)
+    (rest : List X) → length rest ≤ 0 → text ++ texts_after follows (map f rest) ≡ all → text ≡ all
+all_written f follows text all [] none h = sym (append-nil text) ∙ h
+all_written f follows text all (x ∷ xs) none h = absurd (omega arith)

@@ -12,3 +12,6 @@ few-preserved g c = record {
       c.in_ok-follows.ensures.0 c.in_ok-follows.ensures.1
       ∙ c.few.invariant.text;
 }
+
+pub returns-clause-text : goal.returns-clause-text
+returns-clause-text g c = c.few.invariant.text

@@ -1,0 +1,15 @@
+use Rattle.std.proofs.Common.{arith, ◌∙◌}
+use Rattle.esc_actions.specs.Values.{value_of}
+use Rattle.esc_write.proofs.ActionRuns.{all_written}
+use Rattle.esc_write.proofs.encoding.spell.Goals as goal
+
+pub actions-preserved : goal.actions-preserved
+actions-preserved g c = record {
+  few = omega (arith, c.in_ok-left.ensures.less, c.actions.invariant.few);
+  text = c.in_ok-left.ensures.text ∙ c.actions.invariant.text;
+}
+
+pub returns-clause-text : goal.returns-clause-text
+returns-clause-text g c =
+    all_written value_of c.actions.follows_string c.actions.text _ c.actions.rest.now
+    c.actions-test.false c.actions.invariant.text
