@@ -46,21 +46,9 @@ fn read_by_letter<A: Allocator>(
 {
     match letter {
         b'L' => Ok(read_alone(FinalTermSemanticPrompt::FreshLine, args)),
-        b'A' => {
-            let keys = read_aid_and_click(alloc, args)?;
-            Ok(keys.map(|(aid, cl)| FinalTermSemanticPrompt::FreshLineAndStartPrompt { aid, cl }))
-        }
-        b'N' => {
-            let keys = read_aid_and_click(alloc, args)?;
-            Ok(keys.map(|(aid, cl)| FinalTermSemanticPrompt::MarkEndOfCommandWithFreshLine {
-                aid,
-                cl,
-            }))
-        }
-        b'P' => {
-            let kind = read_kind_among(args);
-            Ok(kind.map(|kind| FinalTermSemanticPrompt::StartPrompt(kind)))
-        }
+        b'A' => read_start(alloc, args),
+        b'N' => read_end(alloc, args),
+        b'P' => Ok(read_start_of_kind(args)),
         b'B' => {
             let mark = FinalTermSemanticPrompt::MarkEndOfPromptAndStartOfInputUntilNextMarker;
             Ok(read_alone(mark, args))
@@ -69,10 +57,7 @@ fn read_by_letter<A: Allocator>(
             let mark = FinalTermSemanticPrompt::MarkEndOfPromptAndStartOfInputUntilEndOfLine;
             Ok(read_alone(mark, args))
         }
-        b'C' => {
-            let aid = read_aid(alloc, args)?;
-            Ok(aid.map(|aid| FinalTermSemanticPrompt::MarkEndOfInputAndStartOfOutput { aid }))
-        }
+        b'C' => read_output(alloc, args),
         b'D' => read_status(alloc, args),
         _ => Ok(None),
     }
@@ -86,6 +71,63 @@ fn read_alone<A: Allocator>(
     ensures { result ≡ alone prompt (map (λ p. p.now) args.now) }
 {
     if args.is_empty() { Some(prompt) } else { None }
+}
+
+// A prompt that begins on a new line.
+fn read_start<A: Allocator>(
+    alloc: A,
+    args: &[&[u8]],
+) -> Result<Option<FinalTermSemanticPrompt<A>>, AllocError>
+    ensures { IfOk result (λ p. p ≡ lettered 0x41 (map (λ p. p.now) args.now)) }
+{
+    match read_aid_and_click(alloc, args) {
+        Ok(Some((aid, cl))) => Ok(Some(FinalTermSemanticPrompt::FreshLineAndStartPrompt {
+            aid,
+            cl,
+        })),
+        Ok(None) => Ok(None),
+        Err(error) => Err(error),
+    }
+}
+
+// The end of a command, and a prompt that begins on a new line.
+fn read_end<A: Allocator>(
+    alloc: A,
+    args: &[&[u8]],
+) -> Result<Option<FinalTermSemanticPrompt<A>>, AllocError>
+    ensures { IfOk result (λ p. p ≡ lettered 0x4e (map (λ p. p.now) args.now)) }
+{
+    match read_aid_and_click(alloc, args) {
+        Ok(Some((aid, cl))) => {
+            Ok(Some(FinalTermSemanticPrompt::MarkEndOfCommandWithFreshLine { aid, cl }))
+        }
+        Ok(None) => Ok(None),
+        Err(error) => Err(error),
+    }
+}
+
+// A prompt of some kind.
+fn read_start_of_kind<A: Allocator>(args: &[&[u8]]) -> Option<FinalTermSemanticPrompt<A>>
+    ensures { result ≡ lettered 0x50 (map (λ p. p.now) args.now) }
+{
+    match read_kind_among(args) {
+        Some(kind) => Some(FinalTermSemanticPrompt::StartPrompt(kind)),
+        None => None,
+    }
+}
+
+// The output of a command.
+fn read_output<A: Allocator>(
+    alloc: A,
+    args: &[&[u8]],
+) -> Result<Option<FinalTermSemanticPrompt<A>>, AllocError>
+    ensures { IfOk result (λ p. p ≡ lettered 0x43 (map (λ p. p.now) args.now)) }
+{
+    match read_aid(alloc, args) {
+        Ok(Some(aid)) => Ok(Some(FinalTermSemanticPrompt::MarkEndOfInputAndStartOfOutput { aid })),
+        Ok(None) => Ok(None),
+        Err(error) => Err(error),
+    }
 }
 
 // The values of `aid` and `cl`.
@@ -128,8 +170,11 @@ fn read_status<A: Allocator>(
         }));
     };
     let status = read_i32(status).unwrap_or(0);
-    let aid = read_aid(alloc, rest)?;
-    Ok(aid.map(|aid| FinalTermSemanticPrompt::CommandStatus { status, aid }))
+    match read_aid(alloc, rest) {
+        Ok(Some(aid)) => Ok(Some(FinalTermSemanticPrompt::CommandStatus { status, aid })),
+        Ok(None) => Ok(None),
+        Err(error) => Err(error),
+    }
 }
 
 // The value of `k`.

@@ -1,6 +1,8 @@
 //! The texts of semantic prompts.
-ghost use Rattle.std.specs.Prelude.{Some};
+ghost use Rattle.std.specs.Prelude.{Some, ◌++◌};
+ghost use Rattle.std.specs.Fmt.{DisplaysOnOk};
 ghost use Rattle.esc_prompts.specs.Prompts.{aid_text, click_text, prompt_text};
+ghost use Rattle.esc_prompts.specs.declared.prompt.FinalTermSemanticPrompt.TheVariants as prompt;
 
 use crate::click::FinalTermClick;
 use crate::prompt::FinalTermSemanticPrompt;
@@ -20,14 +22,10 @@ impl<A: Allocator> fmt::Display for FinalTermSemanticPrompt<A> {
         match self {
             FinalTermSemanticPrompt::FreshLine => f.write_str("133;L"),
             FinalTermSemanticPrompt::FreshLineAndStartPrompt { aid, cl } => {
-                let aid = Aid(aid);
-                let cl = Click(*cl);
-                write!(f, "133;A{aid}{cl}")
+                write_keys("133;A", aid, *cl, f)
             }
             FinalTermSemanticPrompt::MarkEndOfCommandWithFreshLine { aid, cl } => {
-                let aid = Aid(aid);
-                let cl = Click(*cl);
-                write!(f, "133;N{aid}{cl}")
+                write_keys("133;N", aid, *cl, f)
             }
             FinalTermSemanticPrompt::StartPrompt(kind) => write!(f, "133;P;k={kind}"),
             FinalTermSemanticPrompt::MarkEndOfPromptAndStartOfInputUntilNextMarker => {
@@ -37,17 +35,42 @@ impl<A: Allocator> fmt::Display for FinalTermSemanticPrompt<A> {
                 f.write_str("133;I")
             }
             FinalTermSemanticPrompt::MarkEndOfInputAndStartOfOutput { aid } => {
-                let aid = Aid(aid);
-                write!(f, "133;C{aid}")
+                write_keys("133;C", aid, None, f)
             }
-            FinalTermSemanticPrompt::CommandStatus { status, aid: None } => {
-                write!(f, "133;D;{status}")
+            FinalTermSemanticPrompt::CommandStatus { status, aid } => {
+                write_status(*status, aid, f)
             }
-            FinalTermSemanticPrompt::CommandStatus {
-                status,
-                aid: Some(aid),
-            } => write!(f, "133;D;{status};err={status};aid={aid}"),
         }
+    }
+}
+
+// What stands before the keys, and the keys that are there.
+fn write_keys<W: fmt::Write, A: Allocator>(
+    before: &str,
+    aid: &Option<Text<A>>,
+    cl: Option<FinalTermClick>,
+    f: &mut fmt::Formatter<W>,
+) -> fmt::Result
+    ensures { DisplaysOnOk W.write_str_gives f.old result
+        (Some (before.now ++ aid_text aid.now ++ click_text cl)) f.new }
+{
+    f.write_str(before)?;
+    Aid(aid).fmt(f)?;
+    Click(cl).fmt(f)
+}
+
+// The end of a command with this status.
+fn write_status<W: fmt::Write, A: Allocator>(
+    status: i32,
+    aid: &Option<Text<A>>,
+    f: &mut fmt::Formatter<W>,
+) -> fmt::Result
+    ensures { DisplaysOnOk W.write_str_gives f.old result
+        (Some (prompt_text {A = A} (prompt.CommandStatus status aid.now))) f.new }
+{
+    match aid {
+        None => write!(f, "133;D;{status}"),
+        Some(aid) => write!(f, "133;D;{status};err={status};aid={aid}"),
     }
 }
 
