@@ -1,10 +1,12 @@
 //! The width or the height at which a file is shown (<https://iterm2.com/documentation-images.html>).
-ghost use Rattle.std.specs.Prelude.{◌≡◌, ◌*◌, ◌^◌, nat_lt, IsTrue, ◌↔◌, Some};
-ghost use Rattle.std.specs.Option.{ok_or};
-ghost use Rattle.esc_values.specs.Scalars.{when};
+ghost use Rattle.std.specs.Prelude.{◌≡◌, ◌*◌, ◌^◌, ◌++◌, nat_lt, IsTrue, ◌↔◌, Some};
+ghost use Rattle.std.specs.Fmt.{DisplaysOnOk, signed_decimal};
+ghost use Rattle.std.specs.Option.{ok_or, option_map};
+ghost use Rattle.esc_values.specs.Scalars.{signed_of, when};
 ghost use Rattle.esc_values.specs.declared.error.Error.TheVariants.{Invalid};
 ghost use Rattle.esc_iterm.specs.Dimensions.{dimension_of, dimension_text, percentage, not_negative, pixels_product, FitsPixels, pixels_of};
-ghost use Rattle.esc_iterm.specs.declared.dimension.ITermDimension.TheVariants.{Automatic};
+ghost use Rattle.esc_iterm.specs.declared.dimension.ITermDimension.TheVariants.{Automatic, Cells};
+ghost use Rattle.esc_iterm.specs.declared.dimension.ITermDimension.TheVariants.{Percent, Pixels};
 
 use esc_values::Error;
 use esc_values::scalar::read_i64;
@@ -58,18 +60,39 @@ pub(crate) fn read_dimension(text: &[u8]) -> Option<ITermDimension>
         return Some(ITermDimension::Automatic);
     }
     if let Some(number) = text.strip_suffix(b"px".as_slice()) {
-        return match read_i64(number) {
-            Some(number) => Some(ITermDimension::Pixels(number)),
-            None => None,
-        };
+        return read_pixels(number);
     }
     if let Some(number) = text.strip_suffix(b"%".as_slice()) {
-        return match read_i64(number) {
-            Some(number) => Some(ITermDimension::Percent(number)),
-            None => None,
-        };
+        return read_percent(number);
     }
-    match read_i64(text) {
+    read_cells(text)
+}
+
+// So many pixels.
+fn read_pixels(number: &[u8]) -> Option<ITermDimension>
+    ensures { result ≡ option_map Pixels (signed_of 64 number.now) }
+{
+    match read_i64(number) {
+        Some(number) => Some(ITermDimension::Pixels(number)),
+        None => None,
+    }
+}
+
+// A percentage.
+fn read_percent(number: &[u8]) -> Option<ITermDimension>
+    ensures { result ≡ option_map Percent (signed_of 64 number.now) }
+{
+    match read_i64(number) {
+        Some(number) => Some(ITermDimension::Percent(number)),
+        None => None,
+    }
+}
+
+// So many cells.
+fn read_cells(number: &[u8]) -> Option<ITermDimension>
+    ensures { result ≡ option_map Cells (signed_of 64 number.now) }
+{
+    match read_i64(number) {
         Some(number) => Some(ITermDimension::Cells(number)),
         None => None,
     }
@@ -83,10 +106,19 @@ impl fmt::Display for ITermDimension {
         match self {
             ITermDimension::Automatic => f.write_str("auto"),
             ITermDimension::Cells(number) => write!(f, "{number}"),
-            ITermDimension::Pixels(number) => write!(f, "{number}px"),
-            ITermDimension::Percent(number) => write!(f, "{number}%"),
+            ITermDimension::Pixels(number) => write_with_unit(*number, "px", f),
+            ITermDimension::Percent(number) => write_with_unit(*number, "%", f),
         }
     }
+}
+
+// A number and its unit.
+fn write_with_unit<W: fmt::Write>(number: i64, unit: &str, f: &mut fmt::Formatter<W>) -> fmt::Result
+    ensures { DisplaysOnOk W.write_str_gives f.old result
+        (Some (signed_decimal number ++ unit.now)) f.new }
+{
+    write!(f, "{number}")?;
+    f.write_str(unit)
 }
 
 impl ITermDimension {

@@ -1,6 +1,7 @@
 //! How the version of Unicode is read.
-ghost use Rattle.std.specs.Prelude.{◌≡◌, IfOk};
+ghost use Rattle.std.specs.Prelude.{◌≡◌, IfOk, Some, if◌then◌else◌};
 ghost use Rattle.esc_iterm.specs.Versions.{labelled, unlabelled, version_of};
+ghost use Rattle.esc_iterm.specs.declared.unicode_version.ITermUnicodeVersionOp.TheVariants as op;
 
 use crate::unicode_version::ITermUnicodeVersionOp;
 use esc_values::Text;
@@ -32,18 +33,24 @@ fn read_labelled<A: Allocator + Copy>(
     let Some(label) = text_in(label) else {
         return Ok(None);
     };
-    if word == b"push".as_slice() {
-        match Text::from_str(alloc, label) {
-            Ok(label) => Ok(Some(ITermUnicodeVersionOp::Push(Some(label)))),
-            Err(error) => Err(error),
-        }
-    } else if word == b"pop".as_slice() {
-        match Text::from_str(alloc, label) {
-            Ok(label) => Ok(Some(ITermUnicodeVersionOp::Pop(Some(label)))),
-            Err(error) => Err(error),
-        }
+    let is_push = word == b"push".as_slice();
+    if !is_push && word != b"pop".as_slice() {
+        return Ok(None);
+    }
+    match Text::from_str(alloc, label) {
+        Ok(label) => Ok(Some(with_label(is_push, label))),
+        Err(error) => Err(error),
+    }
+}
+
+// A version that is kept under a label, or brought back.
+fn with_label<A: Allocator>(is_push: bool, label: Text<A>) -> ITermUnicodeVersionOp<A>
+    ensures { result ≡ (if is_push then op.Push (Some label) else op.Pop (Some label)) }
+{
+    if is_push {
+        ITermUnicodeVersionOp::Push(Some(label))
     } else {
-        Ok(None)
+        ITermUnicodeVersionOp::Pop(Some(label))
     }
 }
 

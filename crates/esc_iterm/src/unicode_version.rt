@@ -2,6 +2,7 @@
 ghost use Rattle.std.specs.Prelude.{Some};
 ghost use Rattle.esc_iterm.specs.Versions.{version_text};
 
+use crate::write::write_text;
 use esc_values::Text;
 use std::alloc::{Allocator, Global};
 use std::fmt;
@@ -28,9 +29,9 @@ impl<A: Allocator> fmt::Display for ITermUnicodeVersionOp<A> {
         match self {
             ITermUnicodeVersionOp::Set(number) => write!(f, "{number}"),
             ITermUnicodeVersionOp::Push(None) => f.write_str("push"),
-            ITermUnicodeVersionOp::Push(Some(label)) => write!(f, "push {label}"),
+            ITermUnicodeVersionOp::Push(Some(label)) => write_text("push ", label, f),
             ITermUnicodeVersionOp::Pop(None) => f.write_str("pop"),
-            ITermUnicodeVersionOp::Pop(Some(label)) => write!(f, "pop {label}"),
+            ITermUnicodeVersionOp::Pop(Some(label)) => write_text("pop ", label, f),
         }
     }
 }
