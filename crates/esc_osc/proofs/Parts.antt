@@ -1,9 +1,10 @@
 -- Lists of parts that are read one after another.
-use Rattle.std.proofs.Common.{◌≡◌, ℕ, ◌<◌, ◌≤◌, List, [], ◌∷◌, ◌++◌, length, map, take, Some, None, refl, ap, arith, take_all}
+use Rattle.std.proofs.Common.{◌≡◌, ℕ, ◌<◌, ◌≤◌, List, [], ◌∷◌, ◌++◌, length, map, take, Some, None}
+use Rattle.std.proofs.Common.{refl, ap, ◌∙◌, arith, take_all}
 use Rattle.std.specs.List.{flat_map}
-use Rattle.esc_values.specs.Scalars.{utf8_of}
+use Rattle.esc_values.specs.Clear.{joined}
 use Rattle.esc_osc.specs.Colors.{pairs_of}
-use Rattle.esc_osc.specs.Reading.{selected, title_of}
+use Rattle.esc_osc.specs.Reading.{selected}
 
 pub pairs_end : {X : Type 0} (f : X → List ℕ) (left : List X) → length left < 2 → pairs_of (map f left) ≡ Some []
 pairs_end f [] h = refl
@@ -14,12 +15,12 @@ pub flat_map_map : {X : Type 0} (f : X → List ℕ) (rest : List X) → flat_ma
 flat_map_map f [] = refl
 flat_map_map f (x ∷ xs) = ap (λ t. (0x3b ∷ f x) ++ t) (flat_map_map f xs)
 
--- a title that is joined part by part
-pub title_whole : {X : Type 0} (f : X → List ℕ) (args : List X) (first : X) (rest : List X) (i : ℕ) (head bytes : List ℕ)
-    → args ≡ first ∷ rest → length rest ≤ i → head ≡ f first → bytes ≡ head ++ flat_map (λ q. 0x3b ∷ f q) (take i rest)
-    → title_of (map f args) ≡ utf8_of bytes
-title_whole f args first rest i head bytes parts all is was =
-    rw (parts, was, is, take_all i rest all, flat_map_map f rest)
+-- a part and those after it, joined part by part
+pub joined_whole : {X : Type 0} (f : X → List ℕ) (rest : List X) (i : ℕ) (first head bytes : List ℕ)
+    → length rest ≤ i → head ≡ first → bytes ≡ head ++ flat_map (λ q. 0x3b ∷ f q) (take i rest)
+    → bytes ≡ joined (first ∷ map f rest)
+joined_whole f rest i first head bytes all is was =
+    was ∙ rw (is, take_all i rest all, flat_map_map f rest)
 
 -- more parts than a selection has
 pub selected_long : {X : Type 0} (A : Type 0) (f : X → List ℕ) (args : List X) → 3 ≤ length args → selected {A = A} (map f args) ≡ None

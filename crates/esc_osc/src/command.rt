@@ -8,10 +8,10 @@ use crate::color_or_query::ColorOrQuery;
 use crate::dynamic_color_number::DynamicColorNumber;
 use crate::progress::Progress;
 use crate::selection::Selection;
-use esc_values::{Items, Text};
-use esc_links::Hyperlink;
 use esc_iterm::ITermProprietary;
+use esc_links::Hyperlink;
 use esc_prompts::FinalTermSemanticPrompt;
+use esc_values::{Items, Text};
 use std::alloc::{Allocator, Global};
 
 /// An operating system command: a control string between `ESC ]` and a string terminator, whose parts have `;`

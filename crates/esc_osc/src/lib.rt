@@ -33,10 +33,10 @@ pub use color_or_query::ColorOrQuery;
 pub use color16::Color16;
 pub use command::OperatingSystemCommand;
 pub use dynamic_color_number::DynamicColorNumber;
-pub use esc_links::{Hyperlink, Params};
 pub use esc_iterm::{
     Boxed, ITermDimension, ITermFileData, ITermProprietary, ITermUnicodeVersionOp,
 };
+pub use esc_links::{Hyperlink, Params};
 pub use esc_prompts::{FinalTermClick, FinalTermPromptKind, FinalTermSemanticPrompt};
 pub use progress::Progress;
 pub use selection::Selection;

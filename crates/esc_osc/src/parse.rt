@@ -16,16 +16,16 @@ use crate::code::OperatingSystemCommandCode;
 use crate::command::OperatingSystemCommand;
 use crate::dynamic_color_number::DynamicColorNumber;
 use crate::read_items::{
-    copied, read_colors, read_lone_text, read_numbers, read_pairs, read_texts, read_title,
+    copied, read_colors, read_lone_text, read_numbers, read_pairs, read_text, read_texts,
+    read_title,
 };
 use crate::read_progress::read_progress;
 use crate::selection::Selection;
-use esc_values::base64_text::read_base64_text;
-use esc_values::scalar::text_of;
-use esc_values::{Error, Text};
-use esc_links::Hyperlink;
 use esc_iterm::ITermProprietary;
+use esc_links::Hyperlink;
 use esc_prompts::FinalTermSemanticPrompt;
+use esc_values::base64_text::read_base64_text;
+use esc_values::{Error, Text};
 use std::alloc::{AllocError, Allocator};
 use std::str;
 
@@ -324,7 +324,7 @@ fn without_first<A: Allocator>(alloc: A, text: &str) -> Result<Option<Text<A>>, 
     let Some((_, rest)) = bytes.split_first() else {
         return Ok(Some(Text::new(alloc)));
     };
-    Ok(text_of(Vec::from_slice(alloc, rest)?))
+    read_text(alloc, rest)
 }
 
 // The link after the code, where there is one.

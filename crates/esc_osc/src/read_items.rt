@@ -1,6 +1,8 @@
 //! How lists of parts are read.
-ghost use Rattle.std.specs.Prelude.{◌≡◌, IfOk, map};
+ghost use Rattle.std.specs.Prelude.{◌≡◌, ◌∷◌, IfOk, map};
 ghost use Rattle.std.specs.Str.Lossy.{utf8_lossy};
+ghost use Rattle.esc_values.specs.Clear.{joined};
+ghost use Rattle.esc_values.specs.Scalars.{utf8_of};
 ghost use Rattle.esc_osc.specs.Colors.{colors_of, pairs_of};
 ghost use Rattle.esc_osc.specs.Reading.{lone_text, numbers_of, title_of};
 
@@ -35,12 +37,22 @@ pub(crate) fn read_title<A: Allocator + Copy>(
     let Some((first, rest)) = args.split_first() else {
         return Ok(None);
     };
+    match joined(alloc, first, rest) {
+        Ok(bytes) => Ok(text_of(bytes)),
+        Err(error) => Err(error),
+    }
+}
+
+// A part and those after it, with `;` between them.
+fn joined<A: Allocator>(alloc: A, first: &[u8], rest: &[&[u8]]) -> Result<Vec<u8, A>, AllocError>
+    ensures { IfOk result (λ b. b.items ≡ joined (first.now ∷ map (λ p. p.now) rest.now)) }
+{
     let mut bytes = Vec::from_slice(alloc, first)?;
     for part in rest {
         bytes.push(b';')?;
         bytes.extend_from_slice(part)?;
     }
-    Ok(text_of(bytes))
+    Ok(bytes)
 }
 
 // The text of one part alone.
@@ -50,13 +62,20 @@ pub(crate) fn read_lone_text<A: Allocator + Copy>(
 ) -> Result<Option<Text<A>>, AllocError>
     ensures { IfOk result (λ t. t ≡ lone_text (map (λ p. p.now) args.now)) }
 {
-    let Some((text, more)) = args.split_first() else {
-        return Ok(None);
-    };
-    if !more.is_empty() {
-        return Ok(None);
+    match args {
+        [text] => read_text(alloc, text),
+        _ => Ok(None),
     }
-    Ok(text_of(Vec::from_slice(alloc, text)?))
+}
+
+// These bytes as a text.
+pub(crate) fn read_text<A: Allocator>(alloc: A, bytes: &[u8]) -> Result<Option<Text<A>>, AllocError>
+    ensures { IfOk result (λ t. t ≡ utf8_of bytes.now) }
+{
+    match Vec::from_slice(alloc, bytes) {
+        Ok(bytes) => Ok(text_of(bytes)),
+        Err(error) => Err(error),
+    }
 }
 
 // Pairs of a number and a colour; a last lone part is dropped.

@@ -173,7 +173,7 @@ fn write_texts<W: fmt::Write, A: Allocator>(
 {
     f.write_str("777")?;
     for text in texts {
-        write!(f, ";{text}")?;
+        write_text(";", text, f)?;
     }
     Ok(())
 }
