@@ -1,7 +1,8 @@
 //! How semantic prompts are read.
-ghost use Rattle.std.specs.Prelude.{◌≡◌, IfOk, map};
+ghost use Rattle.std.specs.Prelude.{◌≡◌, IfOk, OnErr, map};
 ghost use Rattle.std.specs.Option.{option_map};
 ghost use Rattle.esc_prompts.specs.Prompts.{aid_and_click, aid_of, alone, click_in, kind_among, kind_in, lettered, prompt_of, status_of};
+ghost use Rattle.memory.specs.Refusals.{Refused};
 
 use crate::click::FinalTermClick;
 use crate::keys::read_keys;
@@ -21,7 +22,8 @@ impl<A: Allocator> FinalTermSemanticPrompt<A> {
     ///
     /// The error is that memory was refused.
     pub fn parse(alloc: A, args: &[&[u8]]) -> Result<Option<FinalTermSemanticPrompt<A>>, AllocError>
-        ensures { IfOk result (λ p. p ≡ prompt_of (map (λ p. p.now) args.now)) }
+        ensures ok { IfOk result (λ p. p ≡ prompt_of (map (λ p. p.now) args.now)) }
+        ensures refused { OnErr result (Refused A) }
     {
         let Some((first, rest)) = args.split_first() else {
             return Ok(None);
@@ -42,7 +44,8 @@ fn read_by_letter<A: Allocator>(
     letter: u8,
     args: &[&[u8]],
 ) -> Result<Option<FinalTermSemanticPrompt<A>>, AllocError>
-    ensures { IfOk result (λ p. p ≡ lettered letter (map (λ p. p.now) args.now)) }
+    ensures ok { IfOk result (λ p. p ≡ lettered letter (map (λ p. p.now) args.now)) }
+    ensures refused { OnErr result (Refused A) }
 {
     match letter {
         b'L' => Ok(read_alone(FinalTermSemanticPrompt::FreshLine, args)),
@@ -78,7 +81,8 @@ fn read_start<A: Allocator>(
     alloc: A,
     args: &[&[u8]],
 ) -> Result<Option<FinalTermSemanticPrompt<A>>, AllocError>
-    ensures { IfOk result (λ p. p ≡ lettered 0x41 (map (λ p. p.now) args.now)) }
+    ensures ok { IfOk result (λ p. p ≡ lettered 0x41 (map (λ p. p.now) args.now)) }
+    ensures refused { OnErr result (Refused A) }
 {
     match read_aid_and_click(alloc, args) {
         Ok(Some((aid, cl))) => Ok(Some(FinalTermSemanticPrompt::FreshLineAndStartPrompt {
@@ -95,7 +99,8 @@ fn read_end<A: Allocator>(
     alloc: A,
     args: &[&[u8]],
 ) -> Result<Option<FinalTermSemanticPrompt<A>>, AllocError>
-    ensures { IfOk result (λ p. p ≡ lettered 0x4e (map (λ p. p.now) args.now)) }
+    ensures ok { IfOk result (λ p. p ≡ lettered 0x4e (map (λ p. p.now) args.now)) }
+    ensures refused { OnErr result (Refused A) }
 {
     match read_aid_and_click(alloc, args) {
         Ok(Some((aid, cl))) => {
@@ -121,7 +126,8 @@ fn read_output<A: Allocator>(
     alloc: A,
     args: &[&[u8]],
 ) -> Result<Option<FinalTermSemanticPrompt<A>>, AllocError>
-    ensures { IfOk result (λ p. p ≡ lettered 0x43 (map (λ p. p.now) args.now)) }
+    ensures ok { IfOk result (λ p. p ≡ lettered 0x43 (map (λ p. p.now) args.now)) }
+    ensures refused { OnErr result (Refused A) }
 {
     match read_aid(alloc, args) {
         Ok(Some(aid)) => Ok(Some(FinalTermSemanticPrompt::MarkEndOfInputAndStartOfOutput { aid })),
@@ -135,7 +141,8 @@ fn read_aid_and_click<A: Allocator>(
     alloc: A,
     args: &[&[u8]],
 ) -> Result<Option<(Option<Text<A>>, Option<FinalTermClick>)>, AllocError>
-    ensures { IfOk result (λ f. f ≡ aid_and_click (map (λ p. p.now) args.now)) }
+    ensures ok { IfOk result (λ f. f ≡ aid_and_click (map (λ p. p.now) args.now)) }
+    ensures refused { OnErr result (Refused A) }
 {
     let Some(keys) = read_keys(args) else {
         return Ok(None);
@@ -148,7 +155,8 @@ fn read_aid_and_click<A: Allocator>(
 
 // The value of `aid`.
 fn read_aid<A: Allocator>(alloc: A, args: &[&[u8]]) -> Result<Option<Option<Text<A>>>, AllocError>
-    ensures { IfOk result (λ a. a ≡ aid_of (map (λ p. p.now) args.now)) }
+    ensures ok { IfOk result (λ a. a ≡ aid_of (map (λ p. p.now) args.now)) }
+    ensures refused { OnErr result (Refused A) }
 {
     let Some(keys) = read_keys(args) else {
         return Ok(None);
@@ -161,7 +169,8 @@ fn read_status<A: Allocator>(
     alloc: A,
     args: &[&[u8]],
 ) -> Result<Option<FinalTermSemanticPrompt<A>>, AllocError>
-    ensures { IfOk result (λ p. p ≡ status_of (map (λ p. p.now) args.now)) }
+    ensures ok { IfOk result (λ p. p ≡ status_of (map (λ p. p.now) args.now)) }
+    ensures refused { OnErr result (Refused A) }
 {
     let Some((status, rest)) = args.split_first() else {
         return Ok(Some(FinalTermSemanticPrompt::CommandStatus {
@@ -213,7 +222,8 @@ fn read_kind(word: Option<&str>) -> Option<FinalTermPromptKind>
 
 // The text, where there is one.
 fn copied<A: Allocator>(alloc: A, text: Option<&str>) -> Result<Option<Text<A>>, AllocError>
-    ensures { IfOk result (λ t. t ≡ option_map (λ s. s.now) text.entry) }
+    ensures ok { IfOk result (λ t. t ≡ option_map (λ s. s.now) text.entry) }
+    ensures refused { OnErr result (Refused A) }
 {
     match text {
         Some(text) => Ok(Some(Text::from_str(alloc, text)?)),
