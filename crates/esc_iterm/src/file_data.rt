@@ -1,6 +1,7 @@
 //! Files that are sent to the terminal (<https://iterm2.com/documentation-images.html>).
-ghost use Rattle.std.specs.Prelude.{◌≡◌, IfOk, map, Some};
+ghost use Rattle.std.specs.Prelude.{◌≡◌, IfOk, OnErr, map, Some};
 ghost use Rattle.esc_iterm.specs.Files.{file_of, file_text, plain_file};
+ghost use Rattle.memory.specs.Refusals.{Refused};
 
 use crate::dimension::ITermDimension;
 use crate::read_file::read_file;
@@ -35,7 +36,8 @@ impl<A: Allocator> ITermFileData<A> {
     /// The file that holds a copy of these bytes: with no name and no size, both dimensions automatic, its ratio kept, not
     /// inline, and with the cursor moved. The error is that memory was refused.
     pub fn new(alloc: A, content: &[u8]) -> Result<ITermFileData<A>, AllocError>
-        ensures { IfOk result (λ f. f ≡ plain_file content.now) }
+        ensures ok { IfOk result (λ f. f ≡ plain_file content.now) }
+        ensures refused { OnErr result (Refused A) }
     {
         Ok(ITermFileData::with_content(Items::from_slice(alloc, content)?))
     }
@@ -70,7 +72,8 @@ impl<A: Allocator + Copy> ITermFileData<A> {
     /// absent. `preserveAspectRatio` is true unless it is `0`; `inline` and `doNotMoveCursor` are true where they are there and
     /// not `0`.
     pub fn parse(alloc: A, args: &[&[u8]]) -> Result<Option<Self>, AllocError>
-        ensures { IfOk result (λ f. f ≡ file_of (map (λ p. p.now) args.now)) }
+        ensures ok { IfOk result (λ f. f ≡ file_of (map (λ p. p.now) args.now)) }
+        ensures refused { OnErr result (Refused A) }
     {
         read_file(alloc, args)
     }

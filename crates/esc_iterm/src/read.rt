@@ -1,5 +1,5 @@
 //! How the parts after the code are read.
-ghost use Rattle.std.specs.Prelude.{◌≡◌, IfOk, map, Some, None};
+ghost use Rattle.std.specs.Prelude.{◌≡◌, IfOk, OnErr, map, Some, None};
 ghost use Rattle.std.specs.Str.Lossy.{utf8_lossy};
 ghost use Rattle.esc_iterm.specs.ITerms.{alone, assigned, bare, cell_size, content_of, form_of, highlight_of, iterm_of, keyed, variable_of, with_one, with_two};
 ghost use Rattle.std.specs.Option.{option_map};
@@ -8,6 +8,7 @@ ghost use Rattle.esc_iterm.specs.Files.{file_of};
 ghost use Rattle.esc_iterm.specs.TextForms.{with_text};
 ghost use Rattle.esc_iterm.specs.Versions.{version_of};
 ghost use Rattle.esc_iterm.specs.declared.proprietary.ITermProprietary.TheVariants as iterm;
+ghost use Rattle.memory.specs.Refusals.{Refused};
 
 use crate::file_data::ITermFileData;
 use crate::proprietary::ITermProprietary;
@@ -24,7 +25,8 @@ impl<A: Allocator + Copy> ITermProprietary<A> {
     /// The command that the parts after the code `1337` mean, where they fit one. The error is that memory was
     /// refused.
     pub fn parse(alloc: A, args: &[&[u8]]) -> Result<Option<ITermProprietary<A>>, AllocError>
-        ensures { IfOk result (λ c. c ≡ iterm_of (map (λ p. p.now) args.now)) }
+        ensures ok { IfOk result (λ c. c ≡ iterm_of (map (λ p. p.now) args.now)) }
+        ensures refused { OnErr result (Refused A) }
     {
         let Some((first, more)) = args.split_first() else {
             return Ok(None);
@@ -41,7 +43,9 @@ fn read_file<A: Allocator + Copy>(
     alloc: A,
     args: &[&[u8]],
 ) -> Result<Option<ITermProprietary<A>>, AllocError>
-    ensures { IfOk result (λ c. c ≡ option_map iterm.File (file_of (map (λ p. p.now) args.now))) }
+    ensures ok { IfOk result
+        (λ c. c ≡ option_map iterm.File (file_of (map (λ p. p.now) args.now))) }
+    ensures refused { OnErr result (Refused A) }
 {
     match ITermFileData::parse(alloc, args) {
         Ok(Some(file)) => match Boxed::new(alloc, file) {
@@ -59,12 +63,13 @@ fn read_lossy<A: Allocator + Copy>(
     first: &[u8],
     more: &[&[u8]],
 ) -> Result<Option<ITermProprietary<A>>, AllocError>
-    ensures { IfOk result (λ c. c ≡ form_of (utf8_lossy first.now) (map (λ p. p.now) more.now)) }
+    ensures ok { IfOk result (λ c. c ≡ form_of (utf8_lossy first.now) (map (λ p. p.now) more.now)) }
+    ensures refused { OnErr result (Refused A) }
 {
     match text_in(first) {
         Some(text) => read_form(alloc, text, more),
         None => {
-            let text = String::from_utf8_lossy(alloc, first)?;
+            let text = memory::lossy(alloc, first)?;
             read_form(alloc, text.as_str(), more)
         }
     }
@@ -76,7 +81,8 @@ fn read_form<A: Allocator + Copy>(
     first: &str,
     more: &[&[u8]],
 ) -> Result<Option<ITermProprietary<A>>, AllocError>
-    ensures { IfOk result (λ c. c ≡ form_of first.now (map (λ p. p.now) more.now)) }
+    ensures ok { IfOk result (λ c. c ≡ form_of first.now (map (λ p. p.now) more.now)) }
+    ensures refused { OnErr result (Refused A) }
 {
     match key_and_value(first.as_bytes()) {
         Some((key, value)) => read_keyed(alloc, key, value, more),
@@ -90,7 +96,8 @@ fn read_bare<A: Allocator + Copy>(
     key: &str,
     more: &[&[u8]],
 ) -> Result<Option<ITermProprietary<A>>, AllocError>
-    ensures { IfOk result (λ c. c ≡ bare key.now (map (λ p. p.now) more.now)) }
+    ensures ok { IfOk result (λ c. c ≡ bare key.now (map (λ p. p.now) more.now)) }
+    ensures refused { OnErr result (Refused A) }
 {
     match more {
         [] => Ok(read_alone(key)),
@@ -120,7 +127,8 @@ fn read_keyed<A: Allocator + Copy>(
     value: &str,
     more: &[&[u8]],
 ) -> Result<Option<ITermProprietary<A>>, AllocError>
-    ensures { IfOk result (λ c. c ≡ keyed key.now value.now (map (λ p. p.now) more.now)) }
+    ensures ok { IfOk result (λ c. c ≡ keyed key.now value.now (map (λ p. p.now) more.now)) }
+    ensures refused { OnErr result (Refused A) }
 {
     match more {
         [] => read_assigned(alloc, key, value),
@@ -136,7 +144,8 @@ fn read_assigned<A: Allocator + Copy>(
     key: &str,
     value: &str,
 ) -> Result<Option<ITermProprietary<A>>, AllocError>
-    ensures { IfOk result (λ c. c ≡ assigned key.now value.now) }
+    ensures ok { IfOk result (λ c. c ≡ assigned key.now value.now) }
+    ensures refused { OnErr result (Refused A) }
 {
     match key {
         "CurrentDir" => read_plain(alloc, TextForm::CurrentDir, value),
@@ -156,7 +165,8 @@ fn read_plain<A: Allocator>(
     form: TextForm,
     text: &str,
 ) -> Result<Option<ITermProprietary<A>>, AllocError>
-    ensures { IfOk result (λ c. c ≡ Some (with_text form text.now)) }
+    ensures ok { IfOk result (λ c. c ≡ Some (with_text form text.now)) }
+    ensures refused { OnErr result (Refused A) }
 {
     match Text::from_str(alloc, text) {
         Ok(text) => Ok(Some(form.with_text(text))),
@@ -170,7 +180,8 @@ fn read_encoded<A: Allocator>(
     form: TextForm,
     content: &[u8],
 ) -> Result<Option<ITermProprietary<A>>, AllocError>
-    ensures { IfOk result (λ c. c ≡ option_map (with_text form) (base64_text_of content.now)) }
+    ensures ok { IfOk result (λ c. c ≡ option_map (with_text form) (base64_text_of content.now)) }
+    ensures refused { OnErr result (Refused A) }
 {
     match read_base64_text(alloc, content) {
         Ok(Some(text)) => Ok(Some(form.with_text(text))),
@@ -184,7 +195,8 @@ fn read_unicode_version<A: Allocator + Copy>(
     alloc: A,
     text: &[u8],
 ) -> Result<Option<ITermProprietary<A>>, AllocError>
-    ensures { IfOk result (λ c. c ≡ option_map iterm.UnicodeVersion (version_of text.now)) }
+    ensures ok { IfOk result (λ c. c ≡ option_map iterm.UnicodeVersion (version_of text.now)) }
+    ensures refused { OnErr result (Refused A) }
 {
     match read_version(alloc, text) {
         Ok(Some(version)) => Ok(Some(ITermProprietary::UnicodeVersion(version))),
@@ -209,7 +221,8 @@ fn read_variable<A: Allocator + Copy>(
     alloc: A,
     text: &str,
 ) -> Result<Option<ITermProprietary<A>>, AllocError>
-    ensures { IfOk result (λ c. c ≡ variable_of text.now) }
+    ensures ok { IfOk result (λ c. c ≡ variable_of text.now) }
+    ensures refused { OnErr result (Refused A) }
 {
     let Some((name, value)) = key_and_value(text.as_bytes()) else {
         return Ok(None);
@@ -227,7 +240,8 @@ fn set_variable<A: Allocator>(
     name: &str,
     value: Text<A>,
 ) -> Result<Option<ITermProprietary<A>>, AllocError>
-    ensures { IfOk result (λ c. c ≡ Some (iterm.SetUserVar name.now value)) }
+    ensures ok { IfOk result (λ c. c ≡ Some (iterm.SetUserVar name.now value)) }
+    ensures refused { OnErr result (Refused A) }
 {
     match Text::from_str(alloc, name) {
         Ok(name) => Ok(Some(ITermProprietary::SetUserVar { name, value })),
@@ -242,7 +256,8 @@ fn read_with_one<A: Allocator + Copy>(
     value: &str,
     second: &[u8],
 ) -> Result<Option<ITermProprietary<A>>, AllocError>
-    ensures { IfOk result (λ c. c ≡ with_one key.now value.now second.now) }
+    ensures ok { IfOk result (λ c. c ≡ with_one key.now value.now second.now) }
+    ensures refused { OnErr result (Refused A) }
 {
     if key == "ReportCellSize" {
         return Ok(read_cell_size(value.as_bytes(), second, None));
@@ -259,7 +274,8 @@ fn read_content<A: Allocator + Copy>(
     key: &str,
     content: &[u8],
 ) -> Result<Option<ITermProprietary<A>>, AllocError>
-    ensures { IfOk result (λ c. c ≡ content_of key.now content.now) }
+    ensures ok { IfOk result (λ c. c ≡ content_of key.now content.now) }
+    ensures refused { OnErr result (Refused A) }
 {
     match key {
         "Copy" => read_encoded(alloc, TextForm::Copy, content),

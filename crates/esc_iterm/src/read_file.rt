@@ -1,10 +1,11 @@
 //! How files are read.
-ghost use Rattle.std.specs.Prelude.{◌≡◌, ℕ, List, [], ◌∷◌, IfOk, map, Some};
+ghost use Rattle.std.specs.Prelude.{◌≡◌, ℕ, List, [], ◌∷◌, IfOk, OnErr, map, Some};
 ghost use Rattle.std.specs.Option.{option_map};
 ghost use Rattle.esc_values.specs.Base64.{base64_text_of};
 ghost use Rattle.esc_values.specs.Scalars.{and_then, number_of};
 ghost use Rattle.esc_iterm.specs.Files.{Values, file_of, filled, file_with, is_set, last_pairs, piece_pairs, size_in, values_after, values_of, values_with};
 ghost use Rattle.esc_iterm.specs.Keys.{values};
+ghost use Rattle.memory.specs.Refusals.{Refused};
 
 use crate::dimension::{ITermDimension, read_dimension};
 use crate::file_data::ITermFileData;
@@ -20,7 +21,8 @@ pub(crate) fn read_file<A: Allocator + Copy>(
     alloc: A,
     args: &[&[u8]],
 ) -> Result<Option<ITermFileData<A>>, AllocError>
-    ensures { IfOk result (λ f. f ≡ file_of (map (λ p. p.now) args.now)) }
+    ensures ok { IfOk result (λ f. f ≡ file_of (map (λ p. p.now) args.now)) }
+    ensures refused { OnErr result (Refused A) }
 {
     let Some((first, rest)) = args.split_first() else {
         return Ok(None);
@@ -104,7 +106,8 @@ fn make_file<A: Allocator + Copy>(
     keys: FileKeys<'_>,
     content: &[u8],
 ) -> Result<Option<ITermFileData<A>>, AllocError>
-    ensures { IfOk result (λ f. f ≡ file_with (values keys.entry) content.now) }
+    ensures ok { IfOk result (λ f. f ≡ file_with (values keys.entry) content.now) }
+    ensures refused { OnErr result (Refused A) }
 {
     match read_base64(alloc, content) {
         Ok(Some(content)) => fill_file(alloc, keys, Items::from_vec(content)),
@@ -119,7 +122,8 @@ fn fill_file<A: Allocator>(
     keys: FileKeys<'_>,
     content: Items<u8, A>,
 ) -> Result<Option<ITermFileData<A>>, AllocError>
-    ensures { IfOk result (λ f. f ≡ Some (filled (values keys.entry) content)) }
+    ensures ok { IfOk result (λ f. f ≡ Some (filled (values keys.entry) content)) }
+    ensures refused { OnErr result (Refused A) }
 {
     match read_name(alloc, keys.name) {
         Ok(name) => Ok(Some(ITermFileData {
@@ -138,7 +142,9 @@ fn fill_file<A: Allocator>(
 
 // The text of a name, where there is one in base64.
 fn read_name<A: Allocator>(alloc: A, value: Option<&str>) -> Result<Option<Text<A>>, AllocError>
-    ensures { IfOk result (λ t. t ≡ and_then (option_map (λ v. v.now) value.entry) base64_text_of) }
+    ensures ok { IfOk result
+        (λ t. t ≡ and_then (option_map (λ v. v.now) value.entry) base64_text_of) }
+    ensures refused { OnErr result (Refused A) }
 {
     match value {
         Some(value) => read_base64_text(alloc, value.as_bytes()),

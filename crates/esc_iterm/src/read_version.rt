@@ -1,7 +1,8 @@
 //! How the version of Unicode is read.
-ghost use Rattle.std.specs.Prelude.{◌≡◌, IfOk, Some, if◌then◌else◌};
+ghost use Rattle.std.specs.Prelude.{◌≡◌, IfOk, OnErr, Some, if◌then◌else◌};
 ghost use Rattle.esc_iterm.specs.Versions.{labelled, unlabelled, version_of};
 ghost use Rattle.esc_iterm.specs.declared.unicode_version.ITermUnicodeVersionOp.TheVariants as op;
+ghost use Rattle.memory.specs.Refusals.{Refused};
 
 use crate::unicode_version::ITermUnicodeVersionOp;
 use esc_values::Text;
@@ -14,7 +15,8 @@ pub(crate) fn read_version<A: Allocator + Copy>(
     alloc: A,
     text: &[u8],
 ) -> Result<Option<ITermUnicodeVersionOp<A>>, AllocError>
-    ensures { IfOk result (λ v. v ≡ version_of text.now) }
+    ensures ok { IfOk result (λ v. v ≡ version_of text.now) }
+    ensures refused { OnErr result (Refused A) }
 {
     match cut(text, b' ') {
         Some((word, label)) => read_labelled(alloc, word, label),
@@ -28,7 +30,8 @@ fn read_labelled<A: Allocator + Copy>(
     word: &[u8],
     label: &[u8],
 ) -> Result<Option<ITermUnicodeVersionOp<A>>, AllocError>
-    ensures { IfOk result (λ v. v ≡ labelled word.now label.now) }
+    ensures ok { IfOk result (λ v. v ≡ labelled word.now label.now) }
+    ensures refused { OnErr result (Refused A) }
 {
     let Some(label) = text_in(label) else {
         return Ok(None);
