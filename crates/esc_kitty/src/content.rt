@@ -104,44 +104,48 @@ impl<A: Allocator> fmt::Display for KittyImageData<A> {
 impl<A: Allocator> fmt::Debug for KittyImageData<A> {
     fn fmt<W: fmt::Write>(&self, f: &mut fmt::Formatter<W>) -> fmt::Result {
         match self {
-            KittyImageData::Direct(text) => {
-                let length = text.len();
-                write!(f, "Direct({length} bytes of data)")
-            }
-            KittyImageData::DirectBin(bytes) => {
-                let length = bytes.len();
-                write!(f, "DirectBin({length} bytes of data)")
-            }
+            KittyImageData::Direct(text) => show_length("Direct", text.len(), f),
+            KittyImageData::DirectBin(bytes) => show_length("DirectBin", bytes.len(), f),
             KittyImageData::File {
                 path,
                 data_size,
                 data_offset,
-            } => f
-                .debug_struct("File")
-                .field("path", path)
-                .field("data_offset", data_offset)
-                .field("data_size", data_size)
-                .finish(),
+            } => show_named("File", "path", path, data_size, data_offset, f),
             KittyImageData::TemporaryFile {
                 path,
                 data_size,
                 data_offset,
-            } => f
-                .debug_struct("TemporaryFile")
-                .field("path", path)
-                .field("data_offset", data_offset)
-                .field("data_size", data_size)
-                .finish(),
+            } => show_named("TemporaryFile", "path", path, data_size, data_offset, f),
             KittyImageData::SharedMem {
                 name,
                 data_size,
                 data_offset,
-            } => f
-                .debug_struct("SharedMem")
-                .field("name", name)
-                .field("data_offset", data_offset)
-                .field("data_size", data_size)
-                .finish(),
+            } => show_named("SharedMem", "name", name, data_size, data_offset, f),
         }
     }
+}
+
+// How many bytes the command itself has.
+fn show_length<W: fmt::Write>(
+    variant: &str,
+    length: usize,
+    f: &mut fmt::Formatter<W>,
+) -> fmt::Result {
+    write!(f, "{variant}({length} bytes of data)")
+}
+
+// What a command names, by the name of the field that has its path or its name.
+fn show_named<A: Allocator, W: fmt::Write>(
+    variant: &str,
+    field: &str,
+    named: &Text<A>,
+    data_size: &Option<u32>,
+    data_offset: &Option<u32>,
+    f: &mut fmt::Formatter<W>,
+) -> fmt::Result {
+    f.debug_struct(variant)
+        .field(field, named)
+        .field("data_offset", data_offset)
+        .field("data_size", data_size)
+        .finish()
 }
