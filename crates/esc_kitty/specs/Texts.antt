@@ -1,5 +1,6 @@
 -- The texts of images.
 use Rattle.std.specs.Prelude.{ℕ, ℤ, Bool, true, false, ◌&&◌, if◌then◌else◌, List, [], ◌∷◌, ◌++◌, codes, Option, Some, None}
+use Rattle.std.specs.Char.{encode_utf8}
 use Rattle.std.specs.Fmt.{decimal, signed_decimal}
 use Rattle.std.specs.Cmp.Lexicographic.{slice_cmp}
 use Rattle.std.specs.List.{flat_map, list_all}
@@ -32,10 +33,11 @@ Entry = List ℕ × Option (List ℕ)
 abbrev pub value_text : Value → Option (List ℕ)
 value_text (value.Number n) = option_map decimal n
 value_text (value.Signed z) = option_map signed_decimal z
+value_text (value.Letter c) = Some (encode_utf8 c)
 value_text (value.Word w) = option_map (λ t. t.now) w
 
 abbrev pub entry : Key → Entry
-entry k = (k.0.now, value_text k.1)
+entry k = (encode_utf8 k.0, value_text k.1)
 
 -- the keys that are written
 abbrev pub with_value : List ℕ → Option (List ℕ) → Pairs → Pairs

@@ -1,5 +1,6 @@
 //! The keys of an image with their values.
-ghost use Rattle.std.specs.Prelude.{◌≡◌, ◌==◌, IfOk, map};
+ghost use Rattle.std.specs.Prelude.{◌≡◌, ◌==◌, nat_eq, [], ◌∷◌, IfOk, map};
+ghost use Rattle.std.specs.Cmp.Lexicographic.{pointwise};
 ghost use Rattle.std.specs.List.{slice_split};
 ghost use Rattle.std.specs.Option.{option_map};
 ghost use Rattle.esc_values.specs.Cuts.{pairs_in};
@@ -15,6 +16,15 @@ use std::alloc::{AllocError, Allocator};
 pub(crate) struct Pair<'a> {
     pub(crate) key: &'a str,
     pub(crate) value: &'a str,
+}
+
+impl Pair<'_> {
+    // Whether the key is this letter.
+    fn is_at(&self, letter: u8) -> bool
+        ensures { result ≡ pointwise nat_eq self.now.key.now (letter ∷ []) }
+    {
+        matches!(self.key.as_bytes(), [it] if *it == letter)
+    }
 }
 
 // The keys of a text with their values, between `,`; none where one is no key and value.
@@ -53,12 +63,12 @@ fn read_pieces<'a, A: Allocator>(
 }
 
 // The last value of a key, where the key is there.
-pub(crate) fn value<'a>(pairs: &[Pair<'a>], key: &str) -> Option<&'a str>
-    ensures { option_map (λ v. v.now) result ≡ values pairs.now key.now }
+pub(crate) fn value<'a>(pairs: &[Pair<'a>], key: u8) -> Option<&'a str>
+    ensures { option_map (λ v. v.now) result ≡ values pairs.now (key ∷ []) }
 {
     let mut found = None;
     for pair in pairs {
-        if pair.key == key {
+        if pair.is_at(key) {
             found = Some(pair.value);
         }
     }
@@ -66,8 +76,8 @@ pub(crate) fn value<'a>(pairs: &[Pair<'a>], key: &str) -> Option<&'a str>
 }
 
 // The number of a key, where there is one that can be read.
-pub(crate) fn number(pairs: &[Pair<'_>], key: &str) -> Option<u32>
-    ensures { result ≡ number (values pairs.now) key.now }
+pub(crate) fn number(pairs: &[Pair<'_>], key: u8) -> Option<u32>
+    ensures { result ≡ number (values pairs.now) (key ∷ []) }
 {
     match value(pairs, key) {
         Some(digits) => read_u32(digits.as_bytes()),
@@ -76,8 +86,8 @@ pub(crate) fn number(pairs: &[Pair<'_>], key: &str) -> Option<u32>
 }
 
 // The signed number of a key, where there is one that can be read.
-pub(crate) fn signed(pairs: &[Pair<'_>], key: &str) -> Option<i32>
-    ensures { result ≡ signed (values pairs.now) key.now }
+pub(crate) fn signed(pairs: &[Pair<'_>], key: u8) -> Option<i32>
+    ensures { result ≡ signed (values pairs.now) (key ∷ []) }
 {
     match value(pairs, key) {
         Some(digits) => read_i32(digits.as_bytes()),
@@ -86,8 +96,8 @@ pub(crate) fn signed(pairs: &[Pair<'_>], key: &str) -> Option<i32>
 }
 
 // The number of a key, where there is one that can be read, and it is not 0.
-pub(crate) fn nonzero(pairs: &[Pair<'_>], key: &str) -> Option<u32>
-    ensures { result ≡ not_zero (number (values pairs.now) key.now) }
+pub(crate) fn nonzero(pairs: &[Pair<'_>], key: u8) -> Option<u32>
+    ensures { result ≡ not_zero (number (values pairs.now) (key ∷ [])) }
 {
     match number(pairs, key) {
         Some(0) => None,
@@ -96,8 +106,8 @@ pub(crate) fn nonzero(pairs: &[Pair<'_>], key: &str) -> Option<u32>
 }
 
 // The flag of a key, where it is one. An absent key is false.
-pub(crate) fn flag(pairs: &[Pair<'_>], key: &str) -> Option<bool>
-    ensures { result ≡ flag_of (values pairs.now key.now) }
+pub(crate) fn flag(pairs: &[Pair<'_>], key: u8) -> Option<bool>
+    ensures { result ≡ flag_of (values pairs.now (key ∷ [])) }
 {
     let Some(word) = value(pairs, key) else {
         return Some(false);

@@ -61,10 +61,10 @@ fn read_image_in<A: Allocator + Copy>(
 ) -> Result<Option<KittyImage<A>>, AllocError>
     ensures { IfOk result (λ o. o ≡ image_in (values pairs.now) payload.now) }
 {
-    let Some(verbosity) = KittyImageVerbosity::read(value(pairs, "q")) else {
+    let Some(verbosity) = KittyImageVerbosity::read(value(pairs, b'q')) else {
         return Ok(None);
     };
-    let action = value(pairs, "a").unwrap_or("t");
+    let action = value(pairs, b'a').unwrap_or("t");
     read_image_by(alloc, action, verbosity, pairs, payload)
 }
 
@@ -137,8 +137,8 @@ fn read_image_display<A: Allocator>(
         return None;
     };
     Some(KittyImage::Display {
-        image_id: number(pairs, "i"),
-        image_number: number(pairs, "I"),
+        image_id: number(pairs, b'i'),
+        image_number: number(pairs, b'I'),
         placement,
         verbosity,
     })

@@ -10,7 +10,7 @@ use crate::keys::{Pair, number, signed, value};
 pub(crate) fn read_delete(pairs: &[Pair<'_>]) -> Option<KittyImageDelete>
     ensures { result ≡ delete_of (values pairs.now) }
 {
-    let word = value(pairs, "d").unwrap_or("a");
+    let word = value(pairs, b'd').unwrap_or("a");
     read_delete_in(word.as_bytes(), pairs)
 }
 
@@ -38,10 +38,10 @@ fn read_delete_by(letter: u8, delete: bool, pairs: &[Pair<'_>]) -> Option<KittyI
     match letter {
         b'a' => Some(KittyImageDelete::All { delete }),
         b'i' => {
-            let Some(image_id) = number(pairs, "i") else {
+            let Some(image_id) = number(pairs, b'i') else {
                 return None;
             };
-            let placement_id = number(pairs, "p");
+            let placement_id = number(pairs, b'p');
             Some(KittyImageDelete::ByImageId {
                 image_id,
                 placement_id,
@@ -49,10 +49,10 @@ fn read_delete_by(letter: u8, delete: bool, pairs: &[Pair<'_>]) -> Option<KittyI
             })
         }
         b'n' => {
-            let Some(image_number) = number(pairs, "I") else {
+            let Some(image_number) = number(pairs, b'I') else {
                 return None;
             };
-            let placement_id = number(pairs, "p");
+            let placement_id = number(pairs, b'p');
             Some(KittyImageDelete::ByImageNumber {
                 image_number,
                 placement_id,
@@ -62,49 +62,49 @@ fn read_delete_by(letter: u8, delete: bool, pairs: &[Pair<'_>]) -> Option<KittyI
         b'c' => Some(KittyImageDelete::AtCursorPosition { delete }),
         b'f' => Some(KittyImageDelete::AnimationFrames { delete }),
         b'p' => {
-            let Some(x) = number(pairs, "x") else {
+            let Some(x) = number(pairs, b'x') else {
                 return None;
             };
-            let Some(y) = number(pairs, "y") else {
+            let Some(y) = number(pairs, b'y') else {
                 return None;
             };
             Some(KittyImageDelete::DeleteAt { x, y, delete })
         }
         b'q' => {
-            let Some(x) = number(pairs, "x") else {
+            let Some(x) = number(pairs, b'x') else {
                 return None;
             };
-            let Some(y) = number(pairs, "y") else {
+            let Some(y) = number(pairs, b'y') else {
                 return None;
             };
-            let Some(z) = signed(pairs, "z") else {
+            let Some(z) = signed(pairs, b'z') else {
                 return None;
             };
             Some(KittyImageDelete::DeleteAtZ { x, y, z, delete })
         }
         b'x' => {
-            let Some(x) = number(pairs, "x") else {
+            let Some(x) = number(pairs, b'x') else {
                 return None;
             };
             Some(KittyImageDelete::DeleteColumn { x, delete })
         }
         b'y' => {
-            let Some(y) = number(pairs, "y") else {
+            let Some(y) = number(pairs, b'y') else {
                 return None;
             };
             Some(KittyImageDelete::DeleteRow { y, delete })
         }
         b'z' => {
-            let Some(z) = signed(pairs, "z") else {
+            let Some(z) = signed(pairs, b'z') else {
                 return None;
             };
             Some(KittyImageDelete::DeleteZ { z, delete })
         }
         b'r' => {
-            let Some(first) = number(pairs, "x") else {
+            let Some(first) = number(pairs, b'x') else {
                 return None;
             };
-            let Some(last) = number(pairs, "y") else {
+            let Some(last) = number(pairs, b'y') else {
                 return None;
             };
             Some(KittyImageDelete::ByImageIdRange {

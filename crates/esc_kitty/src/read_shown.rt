@@ -13,20 +13,20 @@ use crate::placement::KittyImagePlacement;
 pub(crate) fn read_placement(pairs: &[Pair<'_>]) -> Option<KittyImagePlacement>
     ensures { result ≡ placement_of (values pairs.now) }
 {
-    let do_not_move_cursor = flag(pairs, "C")?;
-    let unicode_placeholder = flag(pairs, "U")?;
+    let do_not_move_cursor = flag(pairs, b'C')?;
+    let unicode_placeholder = flag(pairs, b'U')?;
     Some(KittyImagePlacement {
-        x: number(pairs, "x"),
-        y: number(pairs, "y"),
-        w: number(pairs, "w"),
-        h: number(pairs, "h"),
-        x_offset: number(pairs, "X"),
-        y_offset: number(pairs, "Y"),
-        columns: number(pairs, "c"),
-        rows: number(pairs, "r"),
-        placement_id: number(pairs, "p"),
+        x: number(pairs, b'x'),
+        y: number(pairs, b'y'),
+        w: number(pairs, b'w'),
+        h: number(pairs, b'h'),
+        x_offset: number(pairs, b'X'),
+        y_offset: number(pairs, b'Y'),
+        columns: number(pairs, b'c'),
+        rows: number(pairs, b'r'),
+        placement_id: number(pairs, b'p'),
         do_not_move_cursor,
-        z_index: signed(pairs, "z"),
+        z_index: signed(pairs, b'z'),
         unicode_placeholder,
     })
 }
@@ -35,15 +35,15 @@ pub(crate) fn read_placement(pairs: &[Pair<'_>]) -> Option<KittyImagePlacement>
 pub(crate) fn read_frame(pairs: &[Pair<'_>]) -> Option<KittyImageFrame>
     ensures { result ≡ frame_of (values pairs.now) }
 {
-    let composition_mode = KittyFrameCompositionMode::read(signed(pairs, "X"))?;
+    let composition_mode = KittyFrameCompositionMode::read(signed(pairs, b'X'))?;
     Some(KittyImageFrame {
-        x: number(pairs, "x"),
-        y: number(pairs, "y"),
-        base_frame: nonzero(pairs, "c"),
-        frame_number: nonzero(pairs, "r"),
-        duration_ms: nonzero(pairs, "z"),
+        x: number(pairs, b'x'),
+        y: number(pairs, b'y'),
+        base_frame: nonzero(pairs, b'c'),
+        frame_number: nonzero(pairs, b'r'),
+        duration_ms: nonzero(pairs, b'z'),
         composition_mode,
-        background_pixel: number(pairs, "Y"),
+        background_pixel: number(pairs, b'Y'),
     })
 }
 
@@ -51,18 +51,18 @@ pub(crate) fn read_frame(pairs: &[Pair<'_>]) -> Option<KittyImageFrame>
 pub(crate) fn read_compose(pairs: &[Pair<'_>]) -> Option<KittyImageFrameCompose>
     ensures { result ≡ compose_of (values pairs.now) }
 {
-    let composition_mode = KittyFrameCompositionMode::read(signed(pairs, "C"))?;
+    let composition_mode = KittyFrameCompositionMode::read(signed(pairs, b'C'))?;
     Some(KittyImageFrameCompose {
-        image_id: number(pairs, "i"),
-        image_number: number(pairs, "I"),
-        target_frame: nonzero(pairs, "c"),
-        source_frame: nonzero(pairs, "r"),
-        x: number(pairs, "x"),
-        y: number(pairs, "y"),
-        w: number(pairs, "w"),
-        h: number(pairs, "h"),
-        src_x: number(pairs, "X"),
-        src_y: number(pairs, "Y"),
+        image_id: number(pairs, b'i'),
+        image_number: number(pairs, b'I'),
+        target_frame: nonzero(pairs, b'c'),
+        source_frame: nonzero(pairs, b'r'),
+        x: number(pairs, b'x'),
+        y: number(pairs, b'y'),
+        w: number(pairs, b'w'),
+        h: number(pairs, b'h'),
+        src_x: number(pairs, b'X'),
+        src_y: number(pairs, b'Y'),
         composition_mode,
     })
 }

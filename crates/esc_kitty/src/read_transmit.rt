@@ -26,13 +26,13 @@ pub(crate) fn read_transmit<A: Allocator>(
 ) -> Result<Option<KittyImageTransmit<A>>, AllocError>
     ensures { IfOk result (λ o. o ≡ transmit_of (values pairs.now) payload.now) }
 {
-    let Some(format) = KittyImageFormat::read(value(pairs, "f")) else {
+    let Some(format) = KittyImageFormat::read(value(pairs, b'f')) else {
         return Ok(None);
     };
-    let Some(compression) = KittyImageCompression::read(value(pairs, "o")) else {
+    let Some(compression) = KittyImageCompression::read(value(pairs, b'o')) else {
         return Ok(None);
     };
-    let Some(more_data_follows) = flag(pairs, "m") else {
+    let Some(more_data_follows) = flag(pairs, b'm') else {
         return Ok(None);
     };
     let Some(content) = read_content(alloc, pairs, payload)? else {
@@ -41,10 +41,10 @@ pub(crate) fn read_transmit<A: Allocator>(
     Ok(Some(KittyImageTransmit {
         format,
         content,
-        width: number(pairs, "s"),
-        height: number(pairs, "v"),
-        image_id: number(pairs, "i"),
-        image_number: number(pairs, "I"),
+        width: number(pairs, b's'),
+        height: number(pairs, b'v'),
+        image_id: number(pairs, b'i'),
+        image_number: number(pairs, b'I'),
         compression,
         more_data_follows,
     }))
@@ -58,9 +58,9 @@ fn read_content<A: Allocator>(
 ) -> Result<Option<KittyImageData<A>>, AllocError>
     ensures { IfOk result (λ o. o ≡ content_of (values pairs.now) payload.now) }
 {
-    let medium = value(pairs, "t").unwrap_or("d");
-    let size = number(pairs, "S");
-    let offset = number(pairs, "O");
+    let medium = value(pairs, b't').unwrap_or("d");
+    let size = number(pairs, b'S');
+    let offset = number(pairs, b'O');
     read_content_by(alloc, medium, size, offset, payload)
 }
 

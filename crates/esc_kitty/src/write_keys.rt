@@ -12,6 +12,7 @@ use std::fmt;
 pub(crate) enum Value<'a> {
     Number(Option<u32>),
     Signed(Option<i32>),
+    Letter(char),
     Word(Option<&'a str>),
 }
 
@@ -22,6 +23,7 @@ impl Value<'_> {
         match self {
             Value::Number(number) => number.is_some(),
             Value::Signed(number) => number.is_some(),
+            Value::Letter(_) => true,
             Value::Word(word) => word.is_some(),
         }
     }
@@ -34,6 +36,7 @@ impl fmt::Display for Value<'_> {
         match self {
             Value::Number(Some(number)) => write!(f, "{number}"),
             Value::Signed(Some(number)) => write!(f, "{number}"),
+            Value::Letter(letter) => letter.fmt(f),
             Value::Word(Some(word)) => f.write_str(word),
             _ => Ok(()),
         }
@@ -42,7 +45,7 @@ impl fmt::Display for Value<'_> {
 
 // A key with its value.
 #[derive(Clone, Copy)]
-pub(crate) struct Key<'a>(pub(crate) &'a str, pub(crate) Value<'a>);
+pub(crate) struct Key<'a>(pub(crate) char, pub(crate) Value<'a>);
 
 // A key with its value, if it is written, and a `,` before it, unless it is the first.
 fn write_key<W: fmt::Write>(key: &Key<'_>, is_first: bool, f: &mut fmt::Formatter<W>) -> fmt::Result

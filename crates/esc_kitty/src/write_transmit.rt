@@ -8,7 +8,7 @@ use crate::frame::KittyImageFrame;
 use crate::placement::KittyImagePlacement;
 use crate::transmit::KittyImageTransmit;
 use crate::verbosity::KittyImageVerbosity;
-use crate::write_keys::Value::{Number, Signed, Word};
+use crate::write_keys::Value::{Letter, Number, Signed, Word};
 use crate::write_keys::{Key, flag_word, is_bare, write_keys};
 use std::alloc::Allocator;
 use std::fmt;
@@ -23,17 +23,17 @@ pub(crate) fn write_transmit<A: Allocator, W: fmt::Write>(
 {
     let content = &transmit.content;
     let keys = [
-        Key("I", Number(transmit.image_number)),
-        Key("O", Number(content.offset())),
-        Key("S", Number(content.size())),
-        Key("f", Word(KittyImageFormat::word(transmit.format))),
-        Key("i", Number(transmit.image_id)),
-        Key("m", Word(flag_word(transmit.more_data_follows))),
-        Key("o", Word(transmit.compression.word())),
-        Key("q", Word(verbosity.word())),
-        Key("s", Number(transmit.width)),
-        Key("t", Word(content.medium())),
-        Key("v", Number(transmit.height)),
+        Key('I', Number(transmit.image_number)),
+        Key('O', Number(content.offset())),
+        Key('S', Number(content.size())),
+        Key('f', Word(KittyImageFormat::word(transmit.format))),
+        Key('i', Number(transmit.image_id)),
+        Key('m', Word(flag_word(transmit.more_data_follows))),
+        Key('o', Word(transmit.compression.word())),
+        Key('q', Word(verbosity.word())),
+        Key('s', Number(transmit.width)),
+        Key('t', Word(content.medium())),
+        Key('v', Number(transmit.height)),
     ];
     write_or_action(&keys, f)
 }
@@ -57,17 +57,17 @@ pub(crate) fn write_query<A: Allocator, W: fmt::Write>(
 {
     let content = &transmit.content;
     let keys = [
-        Key("I", Number(transmit.image_number)),
-        Key("O", Number(content.offset())),
-        Key("S", Number(content.size())),
-        Key("a", Word(Some("q"))),
-        Key("f", Word(KittyImageFormat::word(transmit.format))),
-        Key("i", Number(transmit.image_id)),
-        Key("m", Word(flag_word(transmit.more_data_follows))),
-        Key("o", Word(transmit.compression.word())),
-        Key("s", Number(transmit.width)),
-        Key("t", Word(content.medium())),
-        Key("v", Number(transmit.height)),
+        Key('I', Number(transmit.image_number)),
+        Key('O', Number(content.offset())),
+        Key('S', Number(content.size())),
+        Key('a', Letter('q')),
+        Key('f', Word(KittyImageFormat::word(transmit.format))),
+        Key('i', Number(transmit.image_id)),
+        Key('m', Word(flag_word(transmit.more_data_follows))),
+        Key('o', Word(transmit.compression.word())),
+        Key('s', Number(transmit.width)),
+        Key('t', Word(content.medium())),
+        Key('v', Number(transmit.height)),
     ];
     write_keys(&keys, f)
 }
@@ -83,30 +83,30 @@ pub(crate) fn write_shown<A: Allocator, W: fmt::Write>(
 {
     let content = &transmit.content;
     let keys = [
-        Key("C", Word(flag_word(placement.do_not_move_cursor))),
-        Key("I", Number(transmit.image_number)),
-        Key("O", Number(content.offset())),
-        Key("S", Number(content.size())),
-        Key("U", Word(flag_word(placement.unicode_placeholder))),
-        Key("X", Number(placement.x_offset)),
-        Key("Y", Number(placement.y_offset)),
-        Key("a", Word(Some("T"))),
-        Key("c", Number(placement.columns)),
-        Key("f", Word(KittyImageFormat::word(transmit.format))),
-        Key("h", Number(placement.h)),
-        Key("i", Number(transmit.image_id)),
-        Key("m", Word(flag_word(transmit.more_data_follows))),
-        Key("o", Word(transmit.compression.word())),
-        Key("p", Number(placement.placement_id)),
-        Key("q", Word(verbosity.word())),
-        Key("r", Number(placement.rows)),
-        Key("s", Number(transmit.width)),
-        Key("t", Word(content.medium())),
-        Key("v", Number(transmit.height)),
-        Key("w", Number(placement.w)),
-        Key("x", Number(placement.x)),
-        Key("y", Number(placement.y)),
-        Key("z", Signed(placement.z_index)),
+        Key('C', Word(flag_word(placement.do_not_move_cursor))),
+        Key('I', Number(transmit.image_number)),
+        Key('O', Number(content.offset())),
+        Key('S', Number(content.size())),
+        Key('U', Word(flag_word(placement.unicode_placeholder))),
+        Key('X', Number(placement.x_offset)),
+        Key('Y', Number(placement.y_offset)),
+        Key('a', Letter('T')),
+        Key('c', Number(placement.columns)),
+        Key('f', Word(KittyImageFormat::word(transmit.format))),
+        Key('h', Number(placement.h)),
+        Key('i', Number(transmit.image_id)),
+        Key('m', Word(flag_word(transmit.more_data_follows))),
+        Key('o', Word(transmit.compression.word())),
+        Key('p', Number(placement.placement_id)),
+        Key('q', Word(verbosity.word())),
+        Key('r', Number(placement.rows)),
+        Key('s', Number(transmit.width)),
+        Key('t', Word(content.medium())),
+        Key('v', Number(transmit.height)),
+        Key('w', Number(placement.w)),
+        Key('x', Number(placement.x)),
+        Key('y', Number(placement.y)),
+        Key('z', Signed(placement.z_index)),
     ];
     write_keys(&keys, f)
 }
@@ -122,25 +122,25 @@ pub(crate) fn write_frame<A: Allocator, W: fmt::Write>(
 {
     let content = &transmit.content;
     let keys = [
-        Key("I", Number(transmit.image_number)),
-        Key("O", Number(content.offset())),
-        Key("S", Number(content.size())),
-        Key("X", Word(frame.composition_mode.word())),
-        Key("Y", Number(frame.background_pixel)),
-        Key("a", Word(Some("f"))),
-        Key("c", Number(frame.base_frame)),
-        Key("f", Word(KittyImageFormat::word(transmit.format))),
-        Key("i", Number(transmit.image_id)),
-        Key("m", Word(flag_word(transmit.more_data_follows))),
-        Key("o", Word(transmit.compression.word())),
-        Key("q", Word(verbosity.word())),
-        Key("r", Number(frame.frame_number)),
-        Key("s", Number(transmit.width)),
-        Key("t", Word(content.medium())),
-        Key("v", Number(transmit.height)),
-        Key("x", Number(frame.x)),
-        Key("y", Number(frame.y)),
-        Key("z", Number(frame.duration_ms)),
+        Key('I', Number(transmit.image_number)),
+        Key('O', Number(content.offset())),
+        Key('S', Number(content.size())),
+        Key('X', Word(frame.composition_mode.word())),
+        Key('Y', Number(frame.background_pixel)),
+        Key('a', Letter('f')),
+        Key('c', Number(frame.base_frame)),
+        Key('f', Word(KittyImageFormat::word(transmit.format))),
+        Key('i', Number(transmit.image_id)),
+        Key('m', Word(flag_word(transmit.more_data_follows))),
+        Key('o', Word(transmit.compression.word())),
+        Key('q', Word(verbosity.word())),
+        Key('r', Number(frame.frame_number)),
+        Key('s', Number(transmit.width)),
+        Key('t', Word(content.medium())),
+        Key('v', Number(transmit.height)),
+        Key('x', Number(frame.x)),
+        Key('y', Number(frame.y)),
+        Key('z', Number(frame.duration_ms)),
     ];
     write_keys(&keys, f)
 }

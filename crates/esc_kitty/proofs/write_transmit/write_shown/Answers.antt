@@ -1,0 +1,17 @@
+use Rattle.std.proofs.Math.Utf8.{encode}
+use Rattle.esc_kitty.proofs.write_transmit.write_shown.Goals as goal
+
+pub returns : goal.returns
+unfolding encode
+returns g c plain ok =
+    rw (
+      ← c.flag_word.ensures,
+      ← c.offset.ensures,
+      ← c.size.ensures,
+      ← c.flag_word-2.ensures,
+      ← c.word.ensures,
+      ← c.flag_word-3.ensures,
+      ← c.word-2.ensures,
+      ← c.word-3.ensures,
+      ← c.medium.ensures,
+    ) (c.write_keys.ensures plain ok)
