@@ -1,7 +1,7 @@
 //! An actor that counts.
 
-use esc_values::csi_param::CsiParam;
 use esc_frame::actor::VTActor;
+use esc_values::csi_param::CsiParam;
 use std::alloc::AllocError;
 use std::fmt;
 

@@ -1,11 +1,11 @@
 //! An actor that reads images.
 
 use crate::counted::Counted;
-use esc_values::csi_param::CsiParam;
 use esc_frame::actor::VTActor;
 use esc_kitty::{KittyImage, KittyImageData};
 use esc_sixel::SixelBuilder;
 use esc_tcap::GetTcapBuilder;
+use esc_values::csi_param::CsiParam;
 use std::alloc::{AllocError, Global};
 use std::mem;
 

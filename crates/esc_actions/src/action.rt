@@ -5,13 +5,13 @@ ghost use Rattle.esc_actions.specs.Texts.{has_text, is_left_open, is_string, is_
 
 use crate::control_code::ControlCode;
 use crate::images::are_sixels;
-use esc_values::{Boxed, Items, Text};
-use esc_sequences::{CSI, Esc, EscCode};
 use esc_device::DeviceControlMode;
 use esc_kitty::KittyImage;
 use esc_osc::OperatingSystemCommand;
+use esc_sequences::{CSI, Esc, EscCode};
 use esc_sixel::Sixel;
 use esc_tcap::TcapQuery;
+use esc_values::{Boxed, Items, Text};
 use std::alloc::{Allocator, Global};
 use std::fmt;
 use std::fmt::Display;

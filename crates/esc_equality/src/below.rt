@@ -1,9 +1,9 @@
 //! Texts, colours, entries and renditions of control sequences, escape sequences and links.
 ghost use Rattle.std.specs.Prelude.{◌≡◌, ◌↔◌, IsTrue};
 
-use esc_values::{CsiParam, RgbColor, Text};
-use esc_sequences::{Esc, EscCode, Intensity, Sgr, Underline, Unspecified};
 use esc_links::{Hyperlink, Params};
+use esc_sequences::{Esc, EscCode, Intensity, Sgr, Underline, Unspecified};
+use esc_values::{CsiParam, RgbColor, Text};
 use std::alloc::Allocator;
 
 /// Whether two texts are the same.

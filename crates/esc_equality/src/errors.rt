@@ -1,8 +1,8 @@
 //! Errors of readings and of parsers.
 ghost use Rattle.std.specs.Prelude.{◌≡◌, ◌↔◌, IsTrue};
 
-use esc_values::Error;
 use esc_frame::ParseError;
+use esc_values::Error;
 
 /// Whether two errors of a reading are the same.
 pub fn same_error(a: &Error, b: &Error) -> bool

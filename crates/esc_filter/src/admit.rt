@@ -12,9 +12,9 @@ ghost use Rattle.esc_parse.specs.Images.{is_image};
 ghost use Rattle.esc_filter.specs.Passing.{is_opener, is_whole, passes};
 
 use esc_actions::Action;
-use esc_values::CsiParam;
-use esc_sequences::{CSI, Esc};
 use esc_device::DeviceControlMode;
+use esc_sequences::{CSI, Esc};
+use esc_values::CsiParam;
 use std::alloc::Allocator;
 
 /// Says which actions may pass a filter: a [`Policy`](crate::Policy), or a rule of the caller's own.

@@ -4,9 +4,9 @@ ghost use Rattle.esc_filter.specs.Fed.{Takes};
 
 use crate::admit::{Admit, passes};
 use esc_actions::Action;
-use esc_values::CsiParam;
 use esc_normal::Spell;
 use esc_parse::Sink;
+use esc_values::CsiParam;
 use std::alloc::{AllocError, Allocator, Global};
 
 /// Appends the text of each action that passes, and drops the others.

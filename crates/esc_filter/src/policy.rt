@@ -10,9 +10,9 @@ ghost use Rattle.esc_filter.specs.Rules.{BeginsOther, is_colour, is_layout, is_l
 use crate::admit::Admit;
 use crate::screen::{is_screen, is_screen_body};
 use esc_actions::Action;
-use esc_values::CsiParam;
-use esc_sequences::CSI;
 use esc_osc::OperatingSystemCommand;
+use esc_sequences::CSI;
+use esc_values::CsiParam;
 use esc_write::is_plain_link;
 use std::alloc::Allocator;
 

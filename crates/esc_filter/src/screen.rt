@@ -9,9 +9,9 @@ ghost use Rattle.esc_filter.specs.Rules.{changes_modes, is_designation, is_inser
 
 use crate::policy::are_plain;
 use esc_actions::Action;
-use esc_values::CsiParam;
-use esc_sequences::{CSI, Esc, EscCode};
 use esc_osc::{ChangeColorPair, ColorOrQuery, OperatingSystemCommand};
+use esc_sequences::{CSI, Esc, EscCode};
+use esc_values::CsiParam;
 use std::alloc::Allocator;
 
 // Whether the action changes the screen alone.

@@ -9,10 +9,10 @@ ghost use Rattle.esc_lent.specs.Told.{param_of};
 use crate::event::EscEntry;
 use crate::numbers::{form_of, number_of_form};
 use crate::parser::EscParser;
-use esc_values::csi_param::CsiParam;
 use esc_frame::body::CsiBody;
 use esc_frame::entries::Entries;
 use esc_frame::entry_list::EntryList;
+use esc_values::csi_param::CsiParam;
 
 // An entry, as numbers.
 fn entry_of(param: CsiParam) -> EscEntry

@@ -8,9 +8,9 @@ ghost use Rattle.esc_frame.specs.Machine.Shorts.{IsBehind, IsFront, IsShort};
 ghost use Rattle.esc_lent.specs.Told.{param_of};
 
 use crate::event::EscEntry;
-use esc_values::csi_param::CsiParam;
 use esc_frame::entries::next_number;
 use esc_frame::sequence::lies_from;
+use esc_values::csi_param::CsiParam;
 
 // How far a field goes, how many entries there are then, whether a separator ended it, and else the byte after it, or 0.
 #[derive(Clone, Copy)]

@@ -13,8 +13,8 @@ use crate::event::{
     APC, CHARACTER, CONTROL, CSI, DATA_BYTE, DCS, DCS_END, ESCAPE, EscEvent, NONE, OSC,
 };
 use crate::named::Named;
-use esc_values::csi_param::CsiParam;
 use esc_frame::actor::VTActor;
+use esc_values::csi_param::CsiParam;
 use std::alloc::{AllocError, Allocator};
 use std::marker::PhantomData;
 

@@ -11,9 +11,9 @@ use crate::normalise_error::NormaliseError;
 use crate::speller::Speller;
 use crate::watched::Watched;
 use esc_actions::laws;
-use esc_values::Text;
 use esc_frame::error::ParseError;
 use esc_frame::parser::VTParser;
+use esc_values::Text;
 use std::alloc::Allocator;
 use std::io::{Read, Write};
 

@@ -11,9 +11,9 @@ ghost use Rattle.esc_osc.specs.declared.command.OperatingSystemCommand.{Operatin
 ghost use Rattle.esc_write.specs.Plain.{short_text};
 
 use esc_actions::Action;
-use esc_values::{CsiParam, Text};
 use esc_osc::OperatingSystemCommand;
 use esc_parse::Sink;
+use esc_values::{CsiParam, Text};
 use esc_write::commands::verbatim;
 use esc_write::direct::{append_entries, is_plain};
 use esc_write::encoding::write_after;

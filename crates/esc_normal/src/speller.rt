@@ -5,12 +5,12 @@ ghost use Rattle.esc_parse.specs.Fed.{Hooks};
 ghost use Rattle.esc_normal.specs.Spelled.{Spells};
 
 use crate::spell::Spell;
-use esc_values::{CsiParam, Text};
 use esc_frame::actor::VTActor;
 use esc_osc::OperatingSystemCommand;
 use esc_parse::commands::command_in;
 use esc_parse::performer::Performer;
 use esc_parse::unfinished::Unfinished;
+use esc_values::{CsiParam, Text};
 use esc_write::commands::verbatim;
 use std::alloc::{AllocError, Allocator, Global};
 

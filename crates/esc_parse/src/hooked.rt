@@ -8,9 +8,9 @@ ghost use Rattle.esc_parse.specs.Fed.{Begins, Keeps};
 
 use crate::sixel_text::SixelText;
 use esc_actions::Action;
-use esc_values::Boxed;
 use esc_device::{DeviceControlMode, EnterDeviceControlMode, ShortBuilder, StringKind};
 use esc_tcap::GetTcapBuilder;
+use esc_values::Boxed;
 use std::alloc::{AllocError, Allocator, Global};
 
 /// The string that was hooked and is unfinished.

@@ -13,13 +13,13 @@ use crate::hooked::header_action;
 use crate::sink::Sink;
 use crate::unfinished::Unfinished;
 use esc_actions::{Action, ControlCode};
-use esc_sequences::csi::short_rendition;
-use esc_values::{Boxed, CsiParam};
-use esc_sequences::{CSI, Esc};
 use esc_device::{DeviceControlMode, StringKind};
 use esc_frame::actor::VTActor;
 use esc_kitty::KittyImage;
 use esc_osc::OperatingSystemCommand;
+use esc_sequences::csi::short_rendition;
+use esc_sequences::{CSI, Esc};
+use esc_values::{Boxed, CsiParam};
 use std::alloc::{AllocError, Allocator, Global};
 
 /// Makes actions of events, and gives them to a sink.

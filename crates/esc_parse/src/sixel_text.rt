@@ -5,8 +5,8 @@ ghost use Rattle.esc_sixel.specs.Items.{items};
 ghost use Rattle.esc_sixel.specs.Meaning.{sixel_of};
 ghost use Rattle.esc_parse.specs.Sixels.{Holds, Pushes};
 
-use esc_values::Items;
 use esc_sixel::{Sixel, SixelBuilder};
+use esc_values::Items;
 use std::alloc::{AllocError, Allocator, Global};
 use std::mem;
 

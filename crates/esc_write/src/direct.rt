@@ -4,9 +4,9 @@ ghost use Rattle.esc_sequences.specs.Csis.{csi_text, unspecified};
 ghost use Rattle.esc_write.specs.Plain.{IsNumber, IsPlain};
 
 use crate::short_text::ShortText;
+use esc_sequences::BorrowedSequence;
 use esc_sequences::csi::is_unspecified;
 use esc_values::{CsiParam, Text};
-use esc_sequences::BorrowedSequence;
 use std::alloc::{AllocError, Allocator};
 
 /// Appends the text of a control sequence that has no name; a short one is gathered first.

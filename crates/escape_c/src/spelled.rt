@@ -3,10 +3,10 @@ ghost use Rattle.std.specs.Prelude.{◌≡◌, IfOk};
 ghost use Rattle.esc_actions.specs.Meaning.{meaning};
 ghost use Rattle.esc_actions.specs.Texts.{list_text};
 
-use esc_values::Text;
 use esc_frame::ParseError;
 use esc_normal::Spell;
 use esc_parse::Parser;
+use esc_values::Text;
 use std::alloc::Global;
 
 /// The normal form of these bytes.

@@ -1,7 +1,7 @@
 //! What the program's words ask for.
 
-use esc_values::scalar::read_usize;
 use esc_filter::Policy;
+use esc_values::scalar::read_usize;
 
 /// How streams are filtered.
 #[derive(Clone, Copy)]

@@ -1,8 +1,8 @@
 //! What was left out of a stream.
 use esc_actions::Action;
-use esc_values::CsiParam;
 use esc_device::DeviceControlMode;
 use esc_filter::{Admit, Policy};
+use esc_values::CsiParam;
 use std::alloc::Allocator;
 use std::cell::Cell;
 use std::io::Write;

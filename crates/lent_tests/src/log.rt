@@ -1,11 +1,11 @@
 //! A log of events, in which a run of characters or of data is the same as each by itself.
 ghost use Rattle.esc_frame.specs.Events.{Event, Hears};
 
-use esc_values::csi_param::CsiParam;
 use esc_frame::VTActor;
 use esc_lent::event::{
     APC, CHARACTER, CONTROL, CSI, DATA, DATA_BYTE, DCS, DCS_END, ESCAPE, EscEvent, OSC, TEXT,
 };
+use esc_values::csi_param::CsiParam;
 use std::alloc::{AllocError, Allocator, Global};
 
 #[derive(Drop)]
