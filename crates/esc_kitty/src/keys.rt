@@ -1,9 +1,10 @@
 //! The keys of an image with their values.
-ghost use Rattle.std.specs.Prelude.{◌≡◌, ◌==◌, nat_eq, [], ◌∷◌, IfOk, map};
+ghost use Rattle.std.specs.Prelude.{◌≡◌, ◌==◌, nat_eq, [], ◌∷◌, IfOk, OnErr, map};
 ghost use Rattle.std.specs.Cmp.Lexicographic.{pointwise};
 ghost use Rattle.std.specs.List.{slice_split};
 ghost use Rattle.std.specs.Option.{option_map};
 ghost use Rattle.esc_values.specs.Cuts.{pairs_in};
+ghost use Rattle.memory.specs.Refusals.{Refused};
 ghost use Rattle.esc_kitty.specs.Keys.{keys_of, not_zero, number, pairs, signed, values};
 ghost use Rattle.esc_kitty.specs.Words.{flag_of};
 
@@ -32,7 +33,8 @@ pub(crate) fn read_keys<A: Allocator + Copy>(
     alloc: A,
     text: &[u8],
 ) -> Result<Option<Vec<Pair<'_>, A>>, AllocError>
-    ensures { IfOk result (λ o. option_map (λ v. pairs v.items) o ≡ keys_of text.now) }
+    ensures ok { IfOk result (λ o. option_map (λ v. pairs v.items) o ≡ keys_of text.now) }
+    ensures refused { OnErr result (Refused A) }
 {
     let pieces = split_at_commas(alloc, text)?;
     read_pieces(alloc, pieces.as_slice())
@@ -40,9 +42,11 @@ pub(crate) fn read_keys<A: Allocator + Copy>(
 
 // The pieces of a text between `,`.
 fn split_at_commas<A: Allocator>(alloc: A, text: &[u8]) -> Result<Vec<&[u8], A>, AllocError>
-    ensures { IfOk result (λ v. map (λ p. p.now) v.items ≡ slice_split (λ c. c == 0x2c) text.now) }
+    ensures ok { IfOk result (λ v.
+        map (λ p. p.now) v.items ≡ slice_split (λ c. c == 0x2c) text.now) }
+    ensures refused { OnErr result (Refused A) }
 {
-    text.split(|c| *c == b',').collect(alloc)
+    memory::collect(alloc, text.split(|c| *c == b','))
 }
 
 // The pieces as keys and values; none where one is none.
@@ -50,14 +54,16 @@ fn read_pieces<'a, A: Allocator>(
     alloc: A,
     pieces: &[&'a [u8]],
 ) -> Result<Option<Vec<Pair<'a>, A>>, AllocError>
-    ensures { IfOk result (λ o. option_map (λ v. pairs v.items) o ≡ pairs_in (map (λ p. p.now) pieces.now)) }
+    ensures ok { IfOk result (λ o. option_map (λ v. pairs v.items) o
+        ≡ pairs_in (map (λ p. p.now) pieces.now)) }
+    ensures refused { OnErr result (Refused A) }
 {
     let mut pairs = Vec::new(alloc);
     for piece in pieces {
         let Some((key, value)) = key_and_value(piece) else {
             return Ok(None);
         };
-        pairs.push(Pair { key, value })?;
+        memory::push(&mut pairs, Pair { key, value })?;
     }
     Ok(Some(pairs))
 }

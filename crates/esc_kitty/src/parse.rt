@@ -1,6 +1,7 @@
 //! How images are read.
-ghost use Rattle.std.specs.Prelude.{◌≡◌, IfOk};
+ghost use Rattle.std.specs.Prelude.{◌≡◌, IfOk, OnErr};
 ghost use Rattle.std.specs.Option.{option_map};
+ghost use Rattle.memory.specs.Refusals.{Refused};
 ghost use Rattle.esc_kitty.specs.Keys.{values};
 ghost use Rattle.esc_kitty.specs.Images.{compose_of, delete_of, image_by, image_display, image_frame, image_in, image_of, image_shown, image_with, transmit_of};
 ghost use Rattle.esc_kitty.specs.declared.image.KittyImage.TheVariants as image;
@@ -24,7 +25,8 @@ impl<A: Allocator + Copy> KittyImage<A> {
     /// that is unknown is no image, nor is a deletion without a number that it needs. A payload is read only where something
     /// is transmitted, and is then text, or base64 of a text where a file or a shared memory object is named.
     pub fn parse_apc(alloc: A, bytes: &[u8]) -> Result<Option<KittyImage<A>>, AllocError>
-        ensures { IfOk result (λ o. o ≡ image_of bytes.now) }
+        ensures ok { IfOk result (λ o. o ≡ image_of bytes.now) }
+        ensures refused { OnErr result (Refused A) }
     {
         let Some((first, rest)) = bytes.split_first() else {
             return Ok(None);
@@ -45,7 +47,8 @@ fn read_image<A: Allocator + Copy>(
     keys: &[u8],
     payload: &[u8],
 ) -> Result<Option<KittyImage<A>>, AllocError>
-    ensures { IfOk result (λ o. o ≡ image_with keys.now payload.now) }
+    ensures ok { IfOk result (λ o. o ≡ image_with keys.now payload.now) }
+    ensures refused { OnErr result (Refused A) }
 {
     let Some(pairs) = read_keys(alloc, keys)? else {
         return Ok(None);
@@ -59,7 +62,8 @@ fn read_image_in<A: Allocator + Copy>(
     pairs: &[Pair<'_>],
     payload: &[u8],
 ) -> Result<Option<KittyImage<A>>, AllocError>
-    ensures { IfOk result (λ o. o ≡ image_in (values pairs.now) payload.now) }
+    ensures ok { IfOk result (λ o. o ≡ image_in (values pairs.now) payload.now) }
+    ensures refused { OnErr result (Refused A) }
 {
     let Some(verbosity) = KittyImageVerbosity::read(value(pairs, b'q')) else {
         return Ok(None);
@@ -76,7 +80,9 @@ fn read_image_by<A: Allocator + Copy>(
     pairs: &[Pair<'_>],
     payload: &[u8],
 ) -> Result<Option<KittyImage<A>>, AllocError>
-    ensures { IfOk result (λ o. o ≡ image_by action.now verbosity (values pairs.now) payload.now) }
+    ensures ok { IfOk result (λ o.
+        o ≡ image_by action.now verbosity (values pairs.now) payload.now) }
+    ensures refused { OnErr result (Refused A) }
 {
     match action {
         "t" => read_image_kept(alloc, verbosity, pairs, payload),
@@ -97,8 +103,9 @@ fn read_image_kept<A: Allocator>(
     pairs: &[Pair<'_>],
     payload: &[u8],
 ) -> Result<Option<KittyImage<A>>, AllocError>
-    ensures { IfOk result (λ o. o ≡ option_map (λ t. image.TransmitData t verbosity)
+    ensures ok { IfOk result (λ o. o ≡ option_map (λ t. image.TransmitData t verbosity)
         (transmit_of (values pairs.now) payload.now)) }
+    ensures refused { OnErr result (Refused A) }
 {
     match read_transmit(alloc, pairs, payload) {
         Ok(Some(transmit)) => Ok(Some(KittyImage::TransmitData {
@@ -116,8 +123,9 @@ fn read_image_query<A: Allocator>(
     pairs: &[Pair<'_>],
     payload: &[u8],
 ) -> Result<Option<KittyImage<A>>, AllocError>
-    ensures { IfOk result (λ o. o ≡ option_map image.Query
+    ensures ok { IfOk result (λ o. o ≡ option_map image.Query
         (transmit_of (values pairs.now) payload.now)) }
+    ensures refused { OnErr result (Refused A) }
 {
     match read_transmit(alloc, pairs, payload) {
         Ok(Some(transmit)) => Ok(Some(KittyImage::Query { transmit })),
@@ -178,7 +186,8 @@ fn read_image_shown<A: Allocator + Copy>(
     pairs: &[Pair<'_>],
     payload: &[u8],
 ) -> Result<Option<KittyImage<A>>, AllocError>
-    ensures { IfOk result (λ o. o ≡ image_shown verbosity (values pairs.now) payload.now) }
+    ensures ok { IfOk result (λ o. o ≡ image_shown verbosity (values pairs.now) payload.now) }
+    ensures refused { OnErr result (Refused A) }
 {
     let Some(placement) = read_placement(pairs) else {
         return Ok(None);
@@ -201,7 +210,8 @@ fn read_image_frame<A: Allocator + Copy>(
     pairs: &[Pair<'_>],
     payload: &[u8],
 ) -> Result<Option<KittyImage<A>>, AllocError>
-    ensures { IfOk result (λ o. o ≡ image_frame verbosity (values pairs.now) payload.now) }
+    ensures ok { IfOk result (λ o. o ≡ image_frame verbosity (values pairs.now) payload.now) }
+    ensures refused { OnErr result (Refused A) }
 {
     let Some(frame) = read_frame(pairs) else {
         return Ok(None);

@@ -1,5 +1,6 @@
 //! How an image on its way to the terminal is read.
-ghost use Rattle.std.specs.Prelude.{◌≡◌, IfOk};
+ghost use Rattle.std.specs.Prelude.{◌≡◌, IfOk, OnErr};
+ghost use Rattle.memory.specs.Refusals.{Refused};
 ghost use Rattle.esc_kitty.specs.Keys.{values};
 ghost use Rattle.std.specs.Option.{option_map};
 ghost use Rattle.esc_values.specs.Base64.{base64_text_of};
@@ -24,7 +25,8 @@ pub(crate) fn read_transmit<A: Allocator>(
     pairs: &[Pair<'_>],
     payload: &[u8],
 ) -> Result<Option<KittyImageTransmit<A>>, AllocError>
-    ensures { IfOk result (λ o. o ≡ transmit_of (values pairs.now) payload.now) }
+    ensures ok { IfOk result (λ o. o ≡ transmit_of (values pairs.now) payload.now) }
+    ensures refused { OnErr result (Refused A) }
 {
     let Some(format) = KittyImageFormat::read(value(pairs, b'f')) else {
         return Ok(None);
@@ -56,7 +58,8 @@ fn read_content<A: Allocator>(
     pairs: &[Pair<'_>],
     payload: &[u8],
 ) -> Result<Option<KittyImageData<A>>, AllocError>
-    ensures { IfOk result (λ o. o ≡ content_of (values pairs.now) payload.now) }
+    ensures ok { IfOk result (λ o. o ≡ content_of (values pairs.now) payload.now) }
+    ensures refused { OnErr result (Refused A) }
 {
     let medium = value(pairs, b't').unwrap_or("d");
     let size = number(pairs, b'S');
@@ -72,7 +75,8 @@ fn read_content_by<A: Allocator>(
     data_offset: Option<u32>,
     payload: &[u8],
 ) -> Result<Option<KittyImageData<A>>, AllocError>
-    ensures { IfOk result (λ o. o ≡ content_by medium.now data_size data_offset payload.now) }
+    ensures ok { IfOk result (λ o. o ≡ content_by medium.now data_size data_offset payload.now) }
+    ensures refused { OnErr result (Refused A) }
 {
     match medium {
         "d" => read_direct(alloc, payload),
@@ -94,7 +98,8 @@ fn read_direct<A: Allocator>(
     alloc: A,
     payload: &[u8],
 ) -> Result<Option<KittyImageData<A>>, AllocError>
-    ensures { IfOk result (λ o. o ≡ option_map Direct (utf8_of payload.now)) }
+    ensures ok { IfOk result (λ o. o ≡ option_map Direct (utf8_of payload.now)) }
+    ensures refused { OnErr result (Refused A) }
 {
     let Some(text) = text_in(payload) else {
         return Ok(None);
@@ -113,8 +118,9 @@ fn read_named<A: Allocator>(
     data_offset: Option<u32>,
     payload: &[u8],
 ) -> Result<Option<KittyImageData<A>>, AllocError>
-    ensures { IfOk result (λ o. o ≡ option_map (λ t. named medium t data_size data_offset)
+    ensures ok { IfOk result (λ o. o ≡ option_map (λ t. named medium t data_size data_offset)
         (base64_text_of payload.now)) }
+    ensures refused { OnErr result (Refused A) }
 {
     match read_base64_text(alloc, payload) {
         Ok(Some(name)) => Ok(Some(medium.named(name, data_size, data_offset))),
