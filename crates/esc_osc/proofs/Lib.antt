@@ -11,5 +11,6 @@ pub mod ReadParts
 pub mod ReadsBack
 pub mod Selections
 pub mod Written
+pub mod Turns
 pub mod Under
 pub mod NamedMarks

@@ -1,5 +1,5 @@
 //! How parts are read.
-ghost use Rattle.std.specs.Prelude.{◌≡◌, IfOk, Some, [], ◌∷◌, map, drop, codes};
+ghost use Rattle.std.specs.Prelude.{◌≡◌, IfOk, OnErr, Some, [], ◌∷◌, map, drop, codes};
 ghost use Rattle.std.specs.Option.{option_map};
 ghost use Rattle.std.specs.Str.Lossy.{utf8_lossy};
 ghost use Rattle.esc_links.specs.Hyperlinks.{link_of};
@@ -11,6 +11,7 @@ ghost use Rattle.esc_iterm.specs.ITerms.{iterm_of};
 ghost use Rattle.esc_prompts.specs.Prompts.{prompt_of};
 ghost use Rattle.esc_osc.specs.Reading.{dynamic, fitting, lone_text, meaning, named, notified, numbers_of, reading, selected, title_of};
 ghost use Rattle.esc_osc.specs.declared.command.OperatingSystemCommand.TheVariants as command;
+ghost use Rattle.memory.specs.Refusals.{Refused};
 
 use crate::code::OperatingSystemCommandCode;
 use crate::command::OperatingSystemCommand;
@@ -33,7 +34,8 @@ impl<A: Allocator + Copy> OperatingSystemCommand<A> {
     /// The command that these parts mean: the one that the code in the first part names, where the other parts
     /// fit it, else `Unspecified` of the same parts. The error is that memory was refused.
     pub fn parse(alloc: A, parts: &[&[u8]]) -> Result<OperatingSystemCommand<A>, AllocError>
-        ensures { IfOk result (λ c. c ≡ meaning (map (λ p. p.now) parts.now)) }
+        ensures ok { IfOk result (λ c. c ≡ meaning (map (λ p. p.now) parts.now)) }
+        ensures refused { OnErr result (Refused A) }
     {
         match read_fitting(alloc, parts)? {
             Some(command) => Ok(command),
@@ -47,7 +49,8 @@ fn read_fitting<A: Allocator + Copy>(
     alloc: A,
     parts: &[&[u8]],
 ) -> Result<Option<OperatingSystemCommand<A>>, AllocError>
-    ensures { IfOk result (λ c. c ≡ fitting (map (λ p. p.now) parts.now)) }
+    ensures ok { IfOk result (λ c. c ≡ fitting (map (λ p. p.now) parts.now)) }
+    ensures refused { OnErr result (Refused A) }
 {
     let Some((first, args)) = parts.split_first() else {
         return Ok(None);
@@ -61,12 +64,13 @@ fn read_lossy<A: Allocator + Copy>(
     first: &[u8],
     args: &[&[u8]],
 ) -> Result<Option<OperatingSystemCommand<A>>, AllocError>
-    ensures { IfOk result (λ c. c ≡ named (utf8_lossy first.now) (map (λ p. p.now) args.now)) }
+    ensures ok { IfOk result (λ c. c ≡ named (utf8_lossy first.now) (map (λ p. p.now) args.now)) }
+    ensures refused { OnErr result (Refused A) }
 {
     match str::from_utf8(first) {
         Ok(text) => read_named(alloc, text, args),
         Err(_) => {
-            let text = String::from_utf8_lossy(alloc, first)?;
+            let text = memory::lossy(alloc, first)?;
             read_named(alloc, text.as_str(), args)
         }
     }
@@ -78,7 +82,8 @@ fn read_named<A: Allocator + Copy>(
     first: &str,
     args: &[&[u8]],
 ) -> Result<Option<OperatingSystemCommand<A>>, AllocError>
-    ensures { IfOk result (λ c. c ≡ named first.now (map (λ p. p.now) args.now)) }
+    ensures ok { IfOk result (λ c. c ≡ named first.now (map (λ p. p.now) args.now)) }
+    ensures refused { OnErr result (Refused A) }
 {
     match code_in(first, args) {
         Some(code) => read_by_code(alloc, code, first, args),
@@ -123,7 +128,8 @@ fn read_by_code<A: Allocator + Copy>(
     first: &str,
     args: &[&[u8]],
 ) -> Result<Option<OperatingSystemCommand<A>>, AllocError>
-    ensures { IfOk result (λ c. c ≡ reading code first.now (map (λ p. p.now) args.now)) }
+    ensures ok { IfOk result (λ c. c ≡ reading code first.now (map (λ p. p.now) args.now)) }
+    ensures refused { OnErr result (Refused A) }
 {
     match code {
         OperatingSystemCommandCode::SetIconNameAndWindowTitle => read_both_names(alloc, args),
@@ -154,7 +160,10 @@ fn read_both_names<A: Allocator + Copy>(
     alloc: A,
     args: &[&[u8]],
 ) -> Result<Option<OperatingSystemCommand<A>>, AllocError>
-    ensures { IfOk result (λ c. c ≡ option_map command.SetIconNameAndWindowTitle (title_of (map (λ p. p.now) args.now))) }
+    ensures ok { IfOk result
+        (λ c. c ≡ option_map command.SetIconNameAndWindowTitle
+        (title_of (map (λ p. p.now) args.now))) }
+    ensures refused { OnErr result (Refused A) }
 {
     match read_title(alloc, args) {
         Ok(Some(read)) => Ok(Some(OperatingSystemCommand::SetIconNameAndWindowTitle(read))),
@@ -168,7 +177,9 @@ fn read_icon_name<A: Allocator + Copy>(
     alloc: A,
     args: &[&[u8]],
 ) -> Result<Option<OperatingSystemCommand<A>>, AllocError>
-    ensures { IfOk result (λ c. c ≡ option_map command.SetIconName (title_of (map (λ p. p.now) args.now))) }
+    ensures ok { IfOk result
+        (λ c. c ≡ option_map command.SetIconName (title_of (map (λ p. p.now) args.now))) }
+    ensures refused { OnErr result (Refused A) }
 {
     match read_title(alloc, args) {
         Ok(Some(read)) => Ok(Some(OperatingSystemCommand::SetIconName(read))),
@@ -182,7 +193,9 @@ fn read_window_title<A: Allocator + Copy>(
     alloc: A,
     args: &[&[u8]],
 ) -> Result<Option<OperatingSystemCommand<A>>, AllocError>
-    ensures { IfOk result (λ c. c ≡ option_map command.SetWindowTitle (title_of (map (λ p. p.now) args.now))) }
+    ensures ok { IfOk result
+        (λ c. c ≡ option_map command.SetWindowTitle (title_of (map (λ p. p.now) args.now))) }
+    ensures refused { OnErr result (Refused A) }
 {
     match read_title(alloc, args) {
         Ok(Some(read)) => Ok(Some(OperatingSystemCommand::SetWindowTitle(read))),
@@ -196,7 +209,10 @@ fn read_directory<A: Allocator + Copy>(
     alloc: A,
     args: &[&[u8]],
 ) -> Result<Option<OperatingSystemCommand<A>>, AllocError>
-    ensures { IfOk result (λ c. c ≡ option_map command.CurrentWorkingDirectory (lone_text (map (λ p. p.now) args.now))) }
+    ensures ok { IfOk result
+        (λ c. c ≡ option_map command.CurrentWorkingDirectory
+        (lone_text (map (λ p. p.now) args.now))) }
+    ensures refused { OnErr result (Refused A) }
 {
     match read_lone_text(alloc, args) {
         Ok(Some(read)) => Ok(Some(OperatingSystemCommand::CurrentWorkingDirectory(read))),
@@ -210,7 +226,9 @@ fn read_notification<A: Allocator + Copy>(
     alloc: A,
     args: &[&[u8]],
 ) -> Result<Option<OperatingSystemCommand<A>>, AllocError>
-    ensures { IfOk result (λ c. c ≡ option_map command.SystemNotification (lone_text (map (λ p. p.now) args.now))) }
+    ensures ok { IfOk result
+        (λ c. c ≡ option_map command.SystemNotification (lone_text (map (λ p. p.now) args.now))) }
+    ensures refused { OnErr result (Refused A) }
 {
     match read_lone_text(alloc, args) {
         Ok(Some(read)) => Ok(Some(OperatingSystemCommand::SystemNotification(read))),
@@ -224,7 +242,9 @@ fn read_palette<A: Allocator + Copy>(
     alloc: A,
     args: &[&[u8]],
 ) -> Result<Option<OperatingSystemCommand<A>>, AllocError>
-    ensures { IfOk result (λ c. c ≡ option_map command.ChangeColorNumber (pairs_of (map (λ p. p.now) args.now))) }
+    ensures ok { IfOk result
+        (λ c. c ≡ option_map command.ChangeColorNumber (pairs_of (map (λ p. p.now) args.now))) }
+    ensures refused { OnErr result (Refused A) }
 {
     match read_pairs(alloc, args) {
         Ok(Some(read)) => Ok(Some(OperatingSystemCommand::ChangeColorNumber(read))),
@@ -238,7 +258,9 @@ fn read_reset<A: Allocator + Copy>(
     alloc: A,
     args: &[&[u8]],
 ) -> Result<Option<OperatingSystemCommand<A>>, AllocError>
-    ensures { IfOk result (λ c. c ≡ option_map command.ResetColors (numbers_of (map (λ p. p.now) args.now))) }
+    ensures ok { IfOk result
+        (λ c. c ≡ option_map command.ResetColors (numbers_of (map (λ p. p.now) args.now))) }
+    ensures refused { OnErr result (Refused A) }
 {
     match read_numbers(alloc, args) {
         Ok(Some(read)) => Ok(Some(OperatingSystemCommand::ResetColors(read))),
@@ -252,7 +274,9 @@ fn read_extension<A: Allocator + Copy>(
     alloc: A,
     args: &[&[u8]],
 ) -> Result<Option<OperatingSystemCommand<A>>, AllocError>
-    ensures { IfOk result (λ c. c ≡ Some (command.RxvtExtension (map utf8_lossy (map (λ p. p.now) args.now)))) }
+    ensures ok { IfOk result
+        (λ c. c ≡ Some (command.RxvtExtension (map utf8_lossy (map (λ p. p.now) args.now)))) }
+    ensures refused { OnErr result (Refused A) }
 {
     match read_texts(alloc, args) {
         Ok(texts) => Ok(Some(OperatingSystemCommand::RxvtExtension(texts))),
@@ -265,7 +289,10 @@ fn read_prompt<A: Allocator + Copy>(
     alloc: A,
     args: &[&[u8]],
 ) -> Result<Option<OperatingSystemCommand<A>>, AllocError>
-    ensures { IfOk result (λ c. c ≡ option_map command.FinalTermSemanticPrompt (prompt_of (map (λ p. p.now) args.now))) }
+    ensures ok { IfOk result
+        (λ c. c ≡ option_map command.FinalTermSemanticPrompt
+        (prompt_of (map (λ p. p.now) args.now))) }
+    ensures refused { OnErr result (Refused A) }
 {
     match FinalTermSemanticPrompt::parse(alloc, args) {
         Ok(Some(read)) => Ok(Some(OperatingSystemCommand::FinalTermSemanticPrompt(read))),
@@ -279,7 +306,9 @@ fn read_proprietary<A: Allocator + Copy>(
     alloc: A,
     args: &[&[u8]],
 ) -> Result<Option<OperatingSystemCommand<A>>, AllocError>
-    ensures { IfOk result (λ c. c ≡ option_map command.ITermProprietary (iterm_of (map (λ p. p.now) args.now))) }
+    ensures ok { IfOk result
+        (λ c. c ≡ option_map command.ITermProprietary (iterm_of (map (λ p. p.now) args.now))) }
+    ensures refused { OnErr result (Refused A) }
 {
     match ITermProprietary::parse(alloc, args) {
         Ok(Some(read)) => Ok(Some(OperatingSystemCommand::ITermProprietary(read))),
@@ -293,7 +322,9 @@ fn read_sun_title<A: Allocator + Copy>(
     alloc: A,
     first: &str,
 ) -> Result<Option<OperatingSystemCommand<A>>, AllocError>
-    ensures { IfOk result (λ c. c ≡ option_map command.SetWindowTitleSun (utf8_of (drop 1 first.now))) }
+    ensures ok { IfOk result
+        (λ c. c ≡ option_map command.SetWindowTitleSun (utf8_of (drop 1 first.now))) }
+    ensures refused { OnErr result (Refused A) }
 {
     match without_first(alloc, first) {
         Ok(Some(read)) => Ok(Some(OperatingSystemCommand::SetWindowTitleSun(read))),
@@ -307,7 +338,9 @@ fn read_sun_icon_name<A: Allocator + Copy>(
     alloc: A,
     first: &str,
 ) -> Result<Option<OperatingSystemCommand<A>>, AllocError>
-    ensures { IfOk result (λ c. c ≡ option_map command.SetIconNameSun (utf8_of (drop 1 first.now))) }
+    ensures ok { IfOk result
+        (λ c. c ≡ option_map command.SetIconNameSun (utf8_of (drop 1 first.now))) }
+    ensures refused { OnErr result (Refused A) }
 {
     match without_first(alloc, first) {
         Ok(Some(read)) => Ok(Some(OperatingSystemCommand::SetIconNameSun(read))),
@@ -318,7 +351,8 @@ fn read_sun_icon_name<A: Allocator + Copy>(
 
 // A text without its first byte, where that is a text.
 fn without_first<A: Allocator>(alloc: A, text: &str) -> Result<Option<Text<A>>, AllocError>
-    ensures { IfOk result (λ t. t ≡ utf8_of (drop 1 text.now)) }
+    ensures ok { IfOk result (λ t. t ≡ utf8_of (drop 1 text.now)) }
+    ensures refused { OnErr result (Refused A) }
 {
     let bytes = text.as_bytes();
     let Some((_, rest)) = bytes.split_first() else {
@@ -332,7 +366,10 @@ fn read_link<A: Allocator + Copy>(
     alloc: A,
     args: &[&[u8]],
 ) -> Result<Option<OperatingSystemCommand<A>>, AllocError>
-    ensures { IfOk result (λ c. c ≡ option_map command.SetHyperlink (link_of (codes "8" ∷ map (λ p. p.now) args.now))) }
+    ensures ok { IfOk result
+        (λ c. c ≡ option_map command.SetHyperlink
+        (link_of (codes "8" ∷ map (λ p. p.now) args.now))) }
+    ensures refused { OnErr result (Refused A) }
 {
     let [params, uri] = args else {
         return Ok(None);
@@ -349,7 +386,10 @@ fn read_notified<A: Allocator + Copy>(
     alloc: A,
     args: &[&[u8]],
 ) -> Result<Option<OperatingSystemCommand<A>>, AllocError>
-    ensures { IfOk result (λ c. c ≡ notified (progress_of (map (λ p. p.now) args.now)) (lone_text (map (λ p. p.now) args.now))) }
+    ensures ok { IfOk result
+        (λ c. c ≡ notified (progress_of (map (λ p. p.now) args.now))
+        (lone_text (map (λ p. p.now) args.now))) }
+    ensures refused { OnErr result (Refused A) }
 {
     match read_progress(args) {
         Some(progress) => Ok(Some(OperatingSystemCommand::ConEmuProgress(progress))),
@@ -363,7 +403,10 @@ fn read_changed<A: Allocator + Copy>(
     number: DynamicColorNumber,
     args: &[&[u8]],
 ) -> Result<Option<OperatingSystemCommand<A>>, AllocError>
-    ensures { IfOk result (λ c. c ≡ option_map (command.ChangeDynamicColors number) (colors_of (map (λ p. p.now) args.now))) }
+    ensures ok { IfOk result
+        (λ c. c ≡ option_map (command.ChangeDynamicColors number)
+        (colors_of (map (λ p. p.now) args.now))) }
+    ensures refused { OnErr result (Refused A) }
 {
     match read_colors(alloc, args) {
         Ok(Some(colors)) => Ok(Some(OperatingSystemCommand::ChangeDynamicColors(number, colors))),
@@ -379,7 +422,8 @@ fn read_dynamic<A: Allocator + Copy>(
     reset: Option<DynamicColorNumber>,
     args: &[&[u8]],
 ) -> Result<Option<OperatingSystemCommand<A>>, AllocError>
-    ensures { IfOk result (λ c. c ≡ dynamic changed reset (map (λ p. p.now) args.now)) }
+    ensures ok { IfOk result (λ c. c ≡ dynamic changed reset (map (λ p. p.now) args.now)) }
+    ensures refused { OnErr result (Refused A) }
 {
     match changed {
         Some(number) => read_changed(alloc, number, args),
@@ -395,7 +439,8 @@ fn read_selected<A: Allocator + Copy>(
     alloc: A,
     args: &[&[u8]],
 ) -> Result<Option<OperatingSystemCommand<A>>, AllocError>
-    ensures { IfOk result (λ c. c ≡ selected (map (λ p. p.now) args.now)) }
+    ensures ok { IfOk result (λ c. c ≡ selected (map (λ p. p.now) args.now)) }
+    ensures refused { OnErr result (Refused A) }
 {
     match args {
         [] => Ok(None),
@@ -421,7 +466,8 @@ fn read_content<A: Allocator + Copy>(
     letters: &[u8],
     text: &[u8],
 ) -> Result<Option<OperatingSystemCommand<A>>, AllocError>
-    ensures { IfOk result (λ c. c ≡ selected (letters.now ∷ text.now ∷ [])) }
+    ensures ok { IfOk result (λ c. c ≡ selected (letters.now ∷ text.now ∷ [])) }
+    ensures refused { OnErr result (Refused A) }
 {
     let Some(selection) = Selection::from_letters(letters) else {
         return Ok(None);

@@ -1,10 +1,11 @@
 //! How lists of parts are read.
-ghost use Rattle.std.specs.Prelude.{◌≡◌, ◌∷◌, IfOk, map};
+ghost use Rattle.std.specs.Prelude.{◌≡◌, ◌∷◌, IfOk, OnErr, map};
 ghost use Rattle.std.specs.Str.Lossy.{utf8_lossy};
 ghost use Rattle.esc_values.specs.Clear.{joined};
 ghost use Rattle.esc_values.specs.Scalars.{utf8_of};
 ghost use Rattle.esc_osc.specs.Colors.{colors_of, pairs_of};
 ghost use Rattle.esc_osc.specs.Reading.{lone_text, numbers_of, title_of};
+ghost use Rattle.memory.specs.Refusals.{Refused};
 
 use crate::change_color_pair::ChangeColorPair;
 use crate::color_or_query::ColorOrQuery;
@@ -18,11 +19,12 @@ pub(crate) fn copied<A: Allocator + Copy>(
     alloc: A,
     parts: &[&[u8]],
 ) -> Result<Items<Items<u8, A>, A>, AllocError>
-    ensures { IfOk result (λ c. c ≡ map (λ p. p.now) parts.now) }
+    ensures ok { IfOk result (λ c. c ≡ map (λ p. p.now) parts.now) }
+    ensures refused { OnErr result (Refused A) }
 {
     let mut made = Vec::new(alloc);
     for part in parts {
-        made.push(Items::from_vec(Vec::from_slice(alloc, part)?))?;
+        memory::push(&mut made, Items::from_slice(alloc, part)?)?;
     }
     Ok(Items::from_vec(made))
 }
@@ -32,7 +34,8 @@ pub(crate) fn read_title<A: Allocator + Copy>(
     alloc: A,
     args: &[&[u8]],
 ) -> Result<Option<Text<A>>, AllocError>
-    ensures { IfOk result (λ t. t ≡ title_of (map (λ p. p.now) args.now)) }
+    ensures ok { IfOk result (λ t. t ≡ title_of (map (λ p. p.now) args.now)) }
+    ensures refused { OnErr result (Refused A) }
 {
     let Some((first, rest)) = args.split_first() else {
         return Ok(None);
@@ -45,12 +48,13 @@ pub(crate) fn read_title<A: Allocator + Copy>(
 
 // A part and those after it, with `;` between them.
 fn joined<A: Allocator>(alloc: A, first: &[u8], rest: &[&[u8]]) -> Result<Vec<u8, A>, AllocError>
-    ensures { IfOk result (λ b. b.items ≡ joined (first.now ∷ map (λ p. p.now) rest.now)) }
+    ensures ok { IfOk result (λ b. b.items ≡ joined (first.now ∷ map (λ p. p.now) rest.now)) }
+    ensures refused { OnErr result (Refused A) }
 {
-    let mut bytes = Vec::from_slice(alloc, first)?;
+    let mut bytes = memory::copied(alloc, first)?;
     for part in rest {
-        bytes.push(b';')?;
-        bytes.extend_from_slice(part)?;
+        memory::push(&mut bytes, b';')?;
+        memory::extend(&mut bytes, part)?;
     }
     Ok(bytes)
 }
@@ -60,7 +64,8 @@ pub(crate) fn read_lone_text<A: Allocator + Copy>(
     alloc: A,
     args: &[&[u8]],
 ) -> Result<Option<Text<A>>, AllocError>
-    ensures { IfOk result (λ t. t ≡ lone_text (map (λ p. p.now) args.now)) }
+    ensures ok { IfOk result (λ t. t ≡ lone_text (map (λ p. p.now) args.now)) }
+    ensures refused { OnErr result (Refused A) }
 {
     match args {
         [text] => read_text(alloc, text),
@@ -70,9 +75,10 @@ pub(crate) fn read_lone_text<A: Allocator + Copy>(
 
 // These bytes as a text.
 pub(crate) fn read_text<A: Allocator>(alloc: A, bytes: &[u8]) -> Result<Option<Text<A>>, AllocError>
-    ensures { IfOk result (λ t. t ≡ utf8_of bytes.now) }
+    ensures ok { IfOk result (λ t. t ≡ utf8_of bytes.now) }
+    ensures refused { OnErr result (Refused A) }
 {
-    match Vec::from_slice(alloc, bytes) {
+    match memory::copied(alloc, bytes) {
         Ok(bytes) => Ok(text_of(bytes)),
         Err(error) => Err(error),
     }
@@ -83,7 +89,8 @@ pub(crate) fn read_pairs<A: Allocator>(
     alloc: A,
     args: &[&[u8]],
 ) -> Result<Option<Items<ChangeColorPair, A>>, AllocError>
-    ensures { IfOk result (λ t. t ≡ pairs_of (map (λ p. p.now) args.now)) }
+    ensures ok { IfOk result (λ t. t ≡ pairs_of (map (λ p. p.now) args.now)) }
+    ensures refused { OnErr result (Refused A) }
 {
     let mut made = Vec::new(alloc);
     let mut left = args;
@@ -94,10 +101,13 @@ pub(crate) fn read_pairs<A: Allocator>(
         let Some(color) = read_spec(spec) else {
             return Ok(None);
         };
-        made.push(ChangeColorPair {
-            palette_index,
-            color,
-        })?;
+        memory::push(
+            &mut made,
+            ChangeColorPair {
+                palette_index,
+                color,
+            },
+        )?;
         left = rest;
     }
     Ok(Some(Items::from_vec(made)))
@@ -108,14 +118,15 @@ pub(crate) fn read_colors<A: Allocator>(
     alloc: A,
     args: &[&[u8]],
 ) -> Result<Option<Items<ColorOrQuery, A>>, AllocError>
-    ensures { IfOk result (λ t. t ≡ colors_of (map (λ p. p.now) args.now)) }
+    ensures ok { IfOk result (λ t. t ≡ colors_of (map (λ p. p.now) args.now)) }
+    ensures refused { OnErr result (Refused A) }
 {
     let mut made = Vec::new(alloc);
     for part in args {
         let Some(color) = read_spec(part) else {
             return Ok(None);
         };
-        made.push(color)?;
+        memory::push(&mut made, color)?;
     }
     Ok(Some(Items::from_vec(made)))
 }
@@ -125,7 +136,8 @@ pub(crate) fn read_numbers<A: Allocator>(
     alloc: A,
     args: &[&[u8]],
 ) -> Result<Option<Items<u8, A>>, AllocError>
-    ensures { IfOk result (λ t. t ≡ numbers_of (map (λ p. p.now) args.now)) }
+    ensures ok { IfOk result (λ t. t ≡ numbers_of (map (λ p. p.now) args.now)) }
+    ensures refused { OnErr result (Refused A) }
 {
     let mut made = Vec::new(alloc);
     for part in args {
@@ -135,7 +147,7 @@ pub(crate) fn read_numbers<A: Allocator>(
         let Some(number) = read_u8(part) else {
             return Ok(None);
         };
-        made.push(number)?;
+        memory::push(&mut made, number)?;
     }
     Ok(Some(Items::from_vec(made)))
 }
@@ -145,11 +157,12 @@ pub(crate) fn read_texts<A: Allocator + Copy>(
     alloc: A,
     args: &[&[u8]],
 ) -> Result<Items<Text<A>, A>, AllocError>
-    ensures { IfOk result (λ t. t ≡ map utf8_lossy (map (λ p. p.now) args.now)) }
+    ensures ok { IfOk result (λ t. t ≡ map utf8_lossy (map (λ p. p.now) args.now)) }
+    ensures refused { OnErr result (Refused A) }
 {
     let mut made = Vec::new(alloc);
     for part in args {
-        made.push(Text::from_string(String::from_utf8_lossy(alloc, part)?))?;
+        memory::push(&mut made, Text::from_string(memory::lossy(alloc, part)?))?;
     }
     Ok(Items::from_vec(made))
 }

@@ -2,8 +2,8 @@ use Rattle.std.proofs.Common.{sym}
 use Rattle.esc_osc.proofs.Dynamic.{other_reads}
 use Rattle.esc_osc.proofs.parse.read_by_code.Goals as goal
 
-pub returns-in_default : goal.returns-in_default
-returns-in_default g c =
+pub returns-in_default-clause-ok : goal.returns-in_default-clause-ok
+returns-in_default-clause-ok g c =
     rw (
       other_reads _ c.args.code c.args.first.now _ c.in_default.not-SetIconNameAndWindowTitle c.in_default.not-SetIconName c.in_default.not-SetWindowTitle
           c.in_default.not-SetWindowTitleSun c.in_default.not-SetIconNameSun c.in_default.not-ChangeColorNumber
@@ -12,4 +12,4 @@ returns-in_default g c =
           c.in_default.not-ITermProprietary c.in_default.not-RxvtProprietary,
       sym c.changed_by.ensures,
       sym c.reset_by.ensures,
-    ) c.read_dynamic.ensures
+    ) c.read_dynamic.ensures.ok

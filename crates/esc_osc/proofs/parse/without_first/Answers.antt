@@ -7,7 +7,7 @@ empty_title : (t : List ℕ) → length t ≡ 0 → utf8_of (drop 1 t) ≡ Some 
 empty_title [] h = rw (is_utf8-from_IsUtf8 [] IsUtf8-nil)
 empty_title (x ∷ xs) h = absurd (omega arith)
 
-pub returns-in_default : goal.returns-in_default
-returns-in_default g c =
+pub returns-in_default-clause-ok : goal.returns-in_default-clause-ok
+returns-in_default-clause-ok g c =
     let none : length c.args.text.now ≡ 0 = ap length (sym c.as_bytes-bytes.ensures.value) ∙ c.in_default.ensures.cases in
     ap Some c.new.ensures ∙ sym (empty_title _ none)
