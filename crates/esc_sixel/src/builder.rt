@@ -1,6 +1,7 @@
 //! How a sixel string is read, byte by byte.
 ghost use Rattle.std.specs.Prelude.{◌≡◌, ◌<◌, ◌≤◌, IfOk, IfSome, ℕ, ℤ, get_or, length, take, List, [], ◌∷◌, ◌++◌, OnOk, OnErr, Some, None};
 ghost use Rattle.std.specs.List.{FoldsTo, slice_get};
+ghost use Rattle.memory.specs.Refusals.{Refused};
 ghost use Rattle.esc_sixel.specs.Classes.{class_of};
 ghost use Rattle.esc_sixel.specs.Items.{items, OfRaster, OfColor};
 ghost use Rattle.esc_sixel.specs.Meaning.{sixel_of, header_pan, is_one};
@@ -102,6 +103,7 @@ impl<A: Allocator> SixelBuilder<A> {
     pub fn push(&mut self, byte: u8) -> Result<(), AllocError>
         ensures ok { (ps : List ℤ) (s : List ℕ) → LeadsTo ps s self.old → OnOk result (LeadsTo ps (s ++ byte ∷ []) self.new) }
         ensures err { OnErr result (self.new ≡ self.old) }
+        ensures refused { OnErr result (Refused A) }
     {
         match self.introducer {
             None => self.push_alone(byte),
@@ -117,12 +119,16 @@ impl<A: Allocator> SixelBuilder<A> {
         ensures ok { (ps : List ℤ) (s : List ℕ) → LeadsTo ps s self.old → OnOk result (LeadsTo ps (s ++ bytes.now) self.new) }
         ensures err { (ps : List ℤ) (s : List ℕ) → LeadsTo ps s self.old
             → OnErr result ((n : ℕ) × (n < length bytes.now) × LeadsTo ps (s ++ take n bytes.now) self.new) }
+        ensures refused { OnErr result (Refused A) }
     {
         if bytes.is_empty() {
             return Ok(());
         }
         // A byte gives one piece of data or none, but for the first after a colour.
-        make_room(&mut self.sixel.content, bytes.len().min(MOST_ROOM))?;
+        make_room(
+            &mut self.sixel.content,
+            &bytes[..bytes.len().min(MOST_ROOM)],
+        )?;
         let mut at = 0;
         while at < bytes.len() {
             at += self.push_some(&bytes[at..])?;
@@ -137,6 +143,7 @@ impl<A: Allocator> SixelBuilder<A> {
         requires { 0 < length rest.now }
         ensures ok { IfOk result (λ n. (0 < n) × (n ≤ length rest.now) × FoldsTo Pushes self.old (take n rest.now) self.new) }
         ensures err { OnErr result (self.new ≡ self.old) }
+        ensures refused { OnErr result (Refused A) }
     {
         if let None = self.introducer {
             let run = pixels_run(rest);
@@ -196,6 +203,7 @@ impl<A: Allocator> SixelBuilder<A> {
         requires closed { self.old.introducer ≡ None }
         ensures ok { IfOk result (λ n. (0 < n) × (n ≤ length rest.now) × FoldsTo Pushes self.old (take n rest.now) self.new) }
         ensures err { OnErr result (self.new ≡ self.old) }
+        ensures refused { OnErr result (Refused A) }
     {
         let (color, digits) = few_digits(&rest[1..]);
         let end = 1 + digits;
@@ -296,6 +304,7 @@ impl<A: Allocator> SixelBuilder<A> {
         ensures ok { (ps : List ℤ) (s : List ℕ) → LeadsTo ps s self.old
             → OnOk result (LeadsTo ps (s ++ 0 ∷ []) self.new × (self.new.sixel ≡ sixel_of ps (items s))) }
         ensures err { OnErr result (self.new ≡ self.old) }
+        ensures refused { OnErr result (Refused A) }
     {
         self.push(0)
     }
@@ -306,6 +315,7 @@ impl<A: Allocator> SixelBuilder<A> {
         ensures ok { (r : List ℕ) → Keeps self.old.parameters r
             → OnOk result (self.new.sixel ≡ add_to (with_item self.old.sixel (OfColor r)) next) }
         ensures err { OnErr result (self.new ≡ self.old) }
+        ensures refused { OnErr result (Refused A) }
     {
         let color = color(&self.parameters);
         self.sixel.content.push_two(color, next)
@@ -316,6 +326,7 @@ impl<A: Allocator> SixelBuilder<A> {
         ensures ok { (r : List ℕ) → Keeps self.old.parameters r
             → OnOk result (self.new.sixel ≡ add_to (with_item self.old.sixel (OfRaster r)) next) }
         ensures err { OnErr result (self.new ≡ self.old) }
+        ensures refused { OnErr result (Refused A) }
     {
         let pan = signed(&self.parameters, 0, 2);
         let pad = signed(&self.parameters, 1, 1);
@@ -354,6 +365,7 @@ impl<A: Allocator> SixelBuilder<A> {
         ensures ok { (r : List ℕ) → Keeps self.old.parameters r
             → OnOk result (self.new.sixel ≡ add_to (with_items self.old.sixel (ended (In introducer r))) next) }
         ensures err { OnErr result (self.new ≡ self.old) }
+        ensures refused { OnErr result (Refused A) }
     {
         match introducer {
             Introducer::Repeat => self.sixel.content.push_optional(next),
@@ -368,6 +380,7 @@ impl<A: Allocator> SixelBuilder<A> {
             → OnOk result ((self.new.sixel ≡ add_to (with_items self.old.sixel (ended (In introducer r))) next)
             × (self.new.introducer ≡ None)) }
         ensures err { OnErr result (self.new ≡ self.old) }
+        ensures refused { OnErr result (Refused A) }
     {
         self.end_command(introducer, next)?;
         self.introducer = None;
@@ -380,6 +393,7 @@ impl<A: Allocator> SixelBuilder<A> {
             → OnOk result ((self.new.sixel ≡ add_to (with_items self.old.sixel (ended (In introducer r))) None)
             × HoldsOpen (In begun []) self.new.introducer self.new.parameters) }
         ensures err { OnErr result (self.new ≡ self.old) }
+        ensures refused { OnErr result (Refused A) }
     {
         self.end_command(introducer, None)?;
         self.introducer = Some(begun);
@@ -393,6 +407,7 @@ impl<A: Allocator> SixelBuilder<A> {
             → OnOk result ((self.new.sixel ≡ with_items self.old.sixel (closed_by (In introducer r) (Pixels value) b))
             × (self.new.introducer ≡ None)) }
         ensures err { OnErr result (self.new ≡ self.old) }
+        ensures refused { OnErr result (Refused A) }
     {
         match introducer {
             Introducer::Repeat => {
@@ -412,6 +427,7 @@ impl<A: Allocator> SixelBuilder<A> {
             → OnOk result ((self.new.sixel ≡ with_items self.old.sixel (closed_by (In introducer r) (class_of byte) byte))
             × HoldsOpen (open_by (In introducer r) (class_of byte) byte) self.new.introducer self.new.parameters) }
         ensures err { OnErr result (self.new ≡ self.old) }
+        ensures refused { OnErr result (Refused A) }
     {
         match classify(byte) {
             Class::Digit(digit) => {
@@ -437,6 +453,7 @@ impl<A: Allocator> SixelBuilder<A> {
         ensures ok { (b : ℕ) → OnOk result ((self.new.sixel ≡ with_items self.old.sixel (alone (class_of byte) b))
             × HoldsOpen (opened (class_of byte)) self.new.introducer self.new.parameters) }
         ensures err { OnErr result (self.new ≡ self.old) }
+        ensures refused { OnErr result (Refused A) }
     {
         match classify(byte) {
             Class::Return => self.sixel.content.push(SixelData::CarriageReturn),

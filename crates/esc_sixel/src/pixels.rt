@@ -1,6 +1,7 @@
 //! Six pixels, many times.
 ghost use Rattle.std.specs.Prelude.{◌≡◌, ◌<◌, ◌≤◌, ◌+◌, ◌++◌, ◌∷◌, [], length, map, take, drop, IfSome, OnOk, OnErr, vec_len, vec_capacity};
 ghost use Rattle.std.specs.List.{All};
+ghost use Rattle.memory.specs.Refusals.{Refused};
 ghost use Rattle.esc_sixel.specs.Classes.{IsPixels, lowest};
 ghost use Rattle.esc_sixel.specs.Lines.{Ends};
 ghost use Rattle.esc_sixel.specs.Meaning.{drawn};
@@ -192,10 +193,11 @@ fn append_line<A: Allocator>(
     requires { All IsPixels line.now.run.now }
     ensures ok { OnOk result.1 (result.0 ≡ items ++ line.now.selected ∷ line.now.repeated ∷ drawn line.now.run.now) }
     ensures err { OnErr result.1 (result.0 ≡ items) }
+    ensures refused { OnErr result.1 (Refused A) }
 {
     let run = line.run;
     let mut vec = items.into_vec();
-    match vec.reserve(run.len() + 3) {
+    match memory::reserve_for(&mut vec, run, 3) {
         Ok(()) => {
             vec.push_reserved(line.selected);
             vec.push_reserved(line.repeated);
@@ -214,31 +216,35 @@ pub(crate) fn push_line<A: Allocator>(
     requires { All IsPixels line.now.run.now }
     ensures ok { OnOk result (items.new ≡ items.old ++ line.now.selected ∷ line.now.repeated ∷ drawn line.now.run.now) }
     ensures err { OnErr result (items.new ≡ items.old) }
+    ensures refused { OnErr result (Refused A) }
 {
     replace_with(items, line, append_line)
 }
 
-// Takes memory for so many items more.
+// Takes memory for as many items more as there are bytes.
 fn with_room<A: Allocator>(
     items: Items<SixelData, A>,
-    more: usize,
+    bytes: &[u8],
 ) -> (Items<SixelData, A>, Result<(), AllocError>)
-    ensures { result.0 ≡ items }
+    ensures same { result.0 ≡ items }
+    ensures refused { OnErr result.1 (Refused A) }
 {
     let mut vec = items.into_vec();
-    let result = vec.reserve(more);
+    let result = memory::reserve_for(&mut vec, bytes, 0);
     (Items::from_vec(vec), result)
 }
 
-// Takes memory for so many items more. The error is that it was refused. The items stay as they were.
+// Takes memory for as many items more as there are bytes. The error is that it was refused. The
+// items stay as they were.
 #[inline]
 pub(crate) fn make_room<A: Allocator>(
     items: &mut Items<SixelData, A>,
-    more: usize,
+    bytes: &[u8],
 ) -> Result<(), AllocError>
-    ensures { items.new ≡ items.old }
+    ensures same { items.new ≡ items.old }
+    ensures refused { OnErr result (Refused A) }
 {
-    replace_with(items, more, with_room)
+    replace_with(items, bytes, with_room)
 }
 
 // Appends these bytes as pixels. Memory for all, and for what ends their line, is taken first.
@@ -249,9 +255,10 @@ fn append<A: Allocator>(
     requires { All IsPixels run.now }
     ensures ok { OnOk result.1 (result.0 ≡ items ++ drawn run.now) }
     ensures err { OnErr result.1 (result.0 ≡ items) }
+    ensures refused { OnErr result.1 (Refused A) }
 {
     let mut vec = items.into_vec();
-    match vec.reserve(run.len() + 1) {
+    match memory::reserve_for(&mut vec, run, 1) {
         Ok(()) => (Items::from_vec(fill(vec, run)), Ok(())),
         Err(error) => (Items::from_vec(vec), Err(error)),
     }
@@ -266,6 +273,7 @@ pub(crate) fn push_pixels<A: Allocator>(
     requires { All IsPixels run.now }
     ensures ok { OnOk result (items.new ≡ items.old ++ drawn run.now) }
     ensures err { OnErr result (items.new ≡ items.old) }
+    ensures refused { OnErr result (Refused A) }
 {
     replace_with(items, run, append)
 }
