@@ -220,10 +220,15 @@ right_empty (x ∷ xs) ys e = absurd cc
 whole_is : (bs : List ℕ) (at : ℕ) → take at bs ++ take (length bs - at) (drop at bs) ≡ bs
 whole_is bs at = ap (λ l. take at bs ++ l) (rest_is bs at) ∙ take-append-drop at bs
 
+pub takes_rest : (s bs : List ℕ) (at : ℕ)
+    → MayTake ((s ++ take at bs) ++ take (length bs - at) (drop at bs)) → MayTake (s ++ bs)
+takes_rest s bs at =
+    subst MayTake (append_assoc s (take at bs) (take (length bs - at) (drop at bs))
+    ∙ ap (λ l. s ++ l) (whole_is bs at))
+
 pub wants_rest : (A : Type 0) (limit : Option ℕ) (s bs : List ℕ) (at : ℕ) → MayWant A limit (s ++ take at bs) (take (length bs - at) (drop at bs))
     → MayWant A limit s bs
-wants_rest A limit s bs at (inl g) =
-    inl (subst MayTake (append_assoc s (take at bs) (take (length bs - at) (drop at bs)) ∙ ap (λ l. s ++ l) (whole_is bs at)) g)
+wants_rest A limit s bs at (inl g) = inl (takes_rest s bs at g)
 wants_rest A limit s bs at (inr some) = inr (λ none.
     some (right_empty (yield_within limit s (take at bs)) (yield_within limit (s ++ take at bs) (take (length bs - at) (drop at bs)))
     (sym (yield_append limit s (take at bs) (take (length bs - at) (drop at bs))) ∙ ap (yield_within limit s) (whole_is bs at) ∙ none)))

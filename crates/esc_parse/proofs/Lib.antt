@@ -10,3 +10,4 @@ pub mod DataLimits
 pub mod DataRuns
 pub mod Sixels
 pub mod Images
+pub mod Paired

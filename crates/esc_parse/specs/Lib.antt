@@ -4,3 +4,4 @@ pub mod Firsts
 pub mod Collected
 pub mod Sixels
 pub mod Images
+pub mod Paired

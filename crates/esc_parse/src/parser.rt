@@ -9,6 +9,7 @@ ghost use Rattle.esc_actions.specs.Limited.{data_kept};
 ghost use Rattle.esc_parse.specs.Firsts.{IsFirst, IsFirstStop, IsStop, first};
 ghost use Rattle.esc_frame.specs.Memory.{MayTake};
 ghost use Rattle.esc_parse.specs.Given.{At, GetsAll, GetsPrefix, StopsAt};
+ghost use Rattle.esc_parse.specs.Paired.{with_value};
 ghost use Rattle.esc_actions.specs.Meaning.{MayWant, yield_within};
 ghost use Rattle.esc_actions.specs.Values.{control, value_of};
 ghost use Rattle.esc_actions.specs.Writable.{AreHandedOut, IsHandedOut};
@@ -153,8 +154,21 @@ impl<A: Allocator + Copy> Parser<A> {
             actions: Vec::new(self.alloc),
         };
         let (result, Collect { actions }) = self.parse_into(bytes, sink);
-        result?;
-        Ok(actions)
+        match result {
+            Ok(()) => Ok(actions),
+            Err(error) => Err(error),
+        }
+    }
+}
+
+// How many bytes were taken, with what came of them.
+#[inline]
+fn paired<V: Drop>(taken: Result<usize, ParseError>, value: V) -> Result<(usize, V), ParseError>
+    ensures { result ≡ with_value value taken }
+{
+    match taken {
+        Ok(taken) => Ok((taken, value)),
+        Err(error) => Err(error),
     }
 }
 
@@ -210,9 +224,8 @@ impl<A: Allocator + Copy> Parser<A> {
         ensures refused { (limit : Option ℕ) (s : List ℕ) → WasFedWithin limit s self.old → IfErr result (λ e. (e ≡ ParseError.Memory) × IsBroken self.new × MayTake (s ++ bytes.now)) }
         ensures failed { IsBroken self.old → (result ≡ Err ParseError.Failed) × IsBroken self.new }
     {
-        let (result, First { action }) = self.feed_some(bytes, First { action: None });
-        let taken = result?;
-        Ok((taken, action))
+        let (taken, First { action }) = self.feed_some(bytes, First { action: None });
+        paired(taken, action)
     }
 
     // The first action of the shortest prefix of `bytes` that adds one, and the length of the prefix.
@@ -227,15 +240,15 @@ impl<A: Allocator + Copy> Parser<A> {
         laws::yield_handed_out::<A>();
         let mut at = 0;
         'fronts: loop {
-            let (taken, first) = self.first_in(&bytes[at..])?;
-            at += taken;
-            match first {
-                Some(action) => return Ok(Some((action, at))),
-                None => {
+            match self.first_in(&bytes[at..]) {
+                Ok((taken, Some(action))) => return Ok(Some((action, at + taken))),
+                Ok((taken, None)) => {
+                    at += taken;
                     if at == bytes.len() {
                         return Ok(None);
                     }
                 }
+                Err(error) => return Err(error),
             }
         }
     }
@@ -292,9 +305,8 @@ impl<A: Allocator + Copy> Parser<A> {
         ensures refused { (limit : Option ℕ) (s : List ℕ) → WasFedWithin limit s self.old → IfErr result (λ e. (e ≡ ParseError.Memory) × IsBroken self.new × MayWant A limit s bytes.now) }
         ensures failed { IsBroken self.old → (result ≡ Err ParseError.Failed) × IsBroken self.new }
     {
-        let (result, Collect { actions }) = self.feed_some(bytes, Collect { actions });
-        let taken = result?;
-        Ok((taken, actions))
+        let (taken, Collect { actions }) = self.feed_some(bytes, Collect { actions });
+        paired(taken, actions)
     }
 
     // Whether to stop here, with these actions.
@@ -329,9 +341,13 @@ impl<A: Allocator + Copy> Parser<A> {
         let mut at = 0;
         let mut actions = Vec::new(self.alloc);
         'fronts: loop {
-            let (taken, more) = self.more_in(&bytes[at..], actions)?;
-            at += taken;
-            actions = more;
+            match self.more_in(&bytes[at..], actions) {
+                Ok((taken, more)) => {
+                    at += taken;
+                    actions = more;
+                }
+                Err(error) => return Err(error),
+            }
             if self.stops(&actions) {
                 return Ok(Some((actions, at)));
             }

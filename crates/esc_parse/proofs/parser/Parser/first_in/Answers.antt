@@ -1,15 +1,32 @@
-use Rattle.std.proofs.Common.{refl}
-use Rattle.std.proofs.lemmas.Result.{IfErr-at_err, IfOk-at_ok, err_from_is_err_and}
+use Rattle.std.proofs.Common.{◌≡◌, None, ap, refl}
+use Rattle.esc_parse.proofs.Paired.{err_paired, failed_paired, ok_paired, value_paired}
 use Rattle.esc_parse.proofs.FirstsGiven.{keeps_first, stops_itself}
 use Rattle.esc_parse.proofs.parser.Parser.first_in.Goals as goal
 
-pub returns-clause-given : goal.returns-clause-given
-returns-clause-given g c limit s h =
-    let w = IfOk-at_ok _ c.in_ok-taken.was (c.feed_some-result.ensures.given limit s h) in
-    (w.0, keeps_first _ _ _ w.1 refl)
+pub returns-clause-count : goal.returns-clause-count
+returns-clause-count g c =
+    ok_paired _ _ _ _ _ c.paired.ensures (λ n h. h) c.feed_some-taken.ensures.count
 
-pub returns-in_err-taken-clause-refused : goal.returns-in_err-taken-clause-refused
-returns-in_err-taken-clause-refused g c = λ limit s h.
-    let f = IfErr-at_err _ c.in_err-taken.was (c.feed_some-result.ensures.refused limit s h) in
-    let p = err_from_is_err_and c.from_residual.result c.from_residual.ensures.1 in
-    rw (p.1, p.2) (f.0, f.1, stops_itself _ _ _ _ _ _ f.2)
+pub returns-clause-quiet : goal.returns-clause-quiet
+returns-clause-quiet g c = λ limit s h.
+    ok_paired _ _ _ _ _ c.paired.ensures (λ n h. h) (c.feed_some-taken.ensures.quiet limit s h)
+
+pub returns-clause-failed : goal.returns-clause-failed
+returns-clause-failed g c = λ h.
+    let f = c.feed_some-taken.ensures.failed h in
+    (failed_paired _ _ _ _ c.paired.ensures f.0, f.1)
+
+pub returns-clause-given : goal.returns-clause-given
+returns-clause-given g c = λ limit s h.
+    ok_paired _ _ _ _ _ c.paired.ensures (λ n w. (w.0, keeps_first _ _ _ w.1 refl))
+    (c.feed_some-taken.ensures.given limit s h)
+
+pub returns-clause-refused : goal.returns-clause-refused
+returns-clause-refused g c = λ limit s h.
+    err_paired _ _ _ _ _ c.paired.ensures (λ e f. (f.0, f.1, stops_itself _ _ _ _ _ _ f.2))
+    (c.feed_some-taken.ensures.refused limit s h)
+
+pub returns-clause-empty : goal.returns-clause-empty
+returns-clause-empty g c = λ e.
+    value_paired _ (λ a. a ≡ None) _ _ c.paired.ensures
+    (ap (λ f. f.action) (c.feed_some-taken.ensures.empty e))

@@ -1,9 +1,8 @@
-use Rattle.std.proofs.Common.{◌≡◌, ◌+◌, ◌-◌, ◌<◌, ◌≤◌, ◌++◌, length, map, take, sym, ap, ◌∙◌, subst, arith}
+use Rattle.std.proofs.Common.{◌≡◌, ◌+◌, ◌-◌, ◌<◌, ◌≤◌, ◌++◌, length, map, take, refl, sym, ap, ◌∙◌, subst, arith}
 use Rattle.std.proofs.lemmas.List.{append-nil, take_all}
-use Rattle.std.proofs.lemmas.Result.{err_from_is_err_and}
+use Rattle.esc_parse.proofs.Paired.{ok_is_no_error, same_error}
 use Rattle.esc_parse.proofs.FirstsGiven.{fed_more, front_some, stop_handed, no_stop_up_to, no_stop_within, no_stop_yet, rest_length, values_more}
 use Rattle.esc_parse.proofs.FirstsGiven.{wants_rest, yield_nil}
-use Rattle.esc_parse.proofs.Lists.{if_err_is}
 use Rattle.esc_parse.proofs.parser.Parser.parse_first_as_vec.Goals as goal
 use Rattle.esc_parse.specs.Fed.{WasFedWithin}
 use Rattle.esc_parse.specs.Firsts.{IsStop}
@@ -26,24 +25,24 @@ pub returns-then-stops-clause-count : goal.returns-then-stops-clause-count
 returns-then-stops-clause-count g c =
     let bs = c.args.bytes.now in
     let at = c.fronts.at in
-    let n = c.in_ok-taken.taken in
+    let n = c.in-Ok.taken in
     let l = rest_length bs at in
     let had = ap length c.deref.ensures.value in
-    let some : 0 < length c.in_ok-taken.more.items = omega (arith, c.stops.ensures.some c.if-stops.true, had) in
-    let none : length bs ≡ 0 → at ≡ 0 → length c.in_ok-taken.more.items ≡ 0 = λ e z.
-    ap (λ v. length v.items) (c.in_ok-taken.ensures.empty (l ∙ omega (arith, e, z))) ∙ c.fronts.invariant.fresh z in
-    let count : 0 < length bs - at → 0 < n = λ h. c.in_ok-taken.ensures.count.1 (omega (arith, h, l)) in
-    (front_some (length bs) at n _ count some none, omega (arith, l, c.in_ok-taken.ensures.count.0, c.fronts.invariant.within))
+    let some : 0 < length c.in-Ok.more.items = omega (arith, c.stops.ensures.some c.if-stops.true, had) in
+    let none : length bs ≡ 0 → at ≡ 0 → length c.in-Ok.more.items ≡ 0 = λ e z.
+    ap (λ v. length v.items) (c.in-Ok.ensures.empty (l ∙ omega (arith, e, z))) ∙ c.fronts.invariant.fresh z in
+    let count : 0 < length bs - at → 0 < n = λ h. c.in-Ok.ensures.count.1 (omega (arith, h, l)) in
+    (front_some (length bs) at n _ count some none, omega (arith, l, c.in-Ok.ensures.count.0, c.fronts.invariant.within))
 
 pub returns-then-stops-clause-some : goal.returns-then-stops-clause-some
 returns-then-stops-clause-some g c = λ limit s h.
     let bs = c.args.bytes.now in
     let at = c.fronts.at in
-    let n = c.in_ok-taken.taken in
+    let n = c.in-Ok.taken in
     let p = c.fronts.invariant.fed limit s h in
-    let w = c.in_ok-taken.ensures.given limit (s ++ take at bs) p.0 in
+    let w = c.in-Ok.ensures.given limit (s ++ take at bs) p.0 in
     let l = rest_length bs at in
-    let m : at + n ≤ length bs = omega (arith, c.in_ok-taken.ensures.count.0, c.fronts.invariant.within) in
+    let m : at + n ≤ length bs = omega (arith, c.in-Ok.ensures.count.0, c.fronts.invariant.within) in
     let v = values_more limit s bs at n _ _ p.1 w.1 in
     let f = subst (λ x. WasFedWithin limit x c.more_in.new.self) (fed_more s bs at n) w.0 in (
       f,
@@ -51,7 +50,7 @@ returns-then-stops-clause-some g c = λ limit s h.
         within = m;
         values = v;
         stop = c.stops.ensures.yes limit s (take (at + n) bs) f (ap (map value_of) c.deref.ensures.value ∙ v) c.if-stops.true;
-        none_before = no_stop_within g.row.A.Denot limit s bs at n p.2 (c.in_ok-taken.ensures.quiet limit (s ++ take at bs) p.0);
+        none_before = no_stop_within g.row.A.Denot limit s bs at n p.2 (c.in-Ok.ensures.quiet limit (s ++ take at bs) p.0);
       },
     )
 
@@ -60,15 +59,15 @@ returns-then-stops-clause-handed_out g c =
     λ limit s h. stop_handed g.row.A.Denot c.yield_handed_out.ensures limit s c.args.bytes.now _ _ (returns-then-stops-clause-some g c limit s h).1
 
 pub returns-then-stops-clause-failed : goal.returns-then-stops-clause-failed
-returns-then-stops-clause-failed g c = λ b. let e = (c.in_ok-taken.ensures.failed (c.fronts.invariant.broken b)).0 in absurd cc
+returns-then-stops-clause-failed g c = λ b. absurd (ok_is_no_error _ _ _ refl (c.in-Ok.ensures.failed (c.fronts.invariant.broken b)).0)
 
 pub returns-then-at-bytes-clause-none : goal.returns-then-at-bytes-clause-none
 returns-then-at-bytes-clause-none g c = λ limit s h.
     let bs = c.args.bytes.now in
     let at = c.fronts.at in
-    let n = c.in_ok-taken.taken in
+    let n = c.in-Ok.taken in
     let p = c.fronts.invariant.fed limit s h in
-    let w = c.in_ok-taken.ensures.given limit (s ++ take at bs) p.0 in
+    let w = c.in-Ok.ensures.given limit (s ++ take at bs) p.0 in
     let v = values_more limit s bs at n _ _ p.1 w.1 in
     let f = subst (λ x. WasFedWithin limit x c.more_in.new.self) (fed_more s bs at n) w.0 in
     let all : take (at + n) bs ≡ bs = take_all (at + n) bs (omega arith) in
@@ -78,27 +77,37 @@ returns-then-at-bytes-clause-none g c = λ limit s h.
       λ k below.
           let within : k ≤ at + n = omega arith in
           no_stop_up_to g.row.A.Denot limit s bs (at + n)
-          (no_stop_within g.row.A.Denot limit s bs at n p.2 (c.in_ok-taken.ensures.quiet limit (s ++ take at bs) p.0)) here k within,
+          (no_stop_within g.row.A.Denot limit s bs at n p.2 (c.in-Ok.ensures.quiet limit (s ++ take at bs) p.0)) here k within,
     )
 
-pub returns-in_err-taken-clause-refused : goal.returns-in_err-taken-clause-refused
-returns-in_err-taken-clause-refused g c = λ limit s h.
-    let f = c.in_err-taken.ensures.refused limit (s ++ take c.fronts.at c.args.bytes.now) (c.fronts.invariant.fed limit s h).0 in
-    let p = err_from_is_err_and c.from_residual.result c.from_residual.ensures.1 in
-    if_err_is _ c.from_residual.result p.0 p.1 (p.2 ∙ f.0, f.1, wants_rest g.row.A.Denot limit s c.args.bytes.now c.fronts.at f.2)
+pub returns-in-Err-clause-refused : goal.returns-in-Err-clause-refused
+returns-in-Err-clause-refused g c = λ limit s h.
+    let bs = c.args.bytes.now in
+    let fed = c.fronts.invariant.fed limit s h in
+    let f = c.in-Err.ensures.refused limit (s ++ take c.fronts.at bs) fed.0 in
+    (f.0, f.1, wants_rest g.row.A.Denot limit s bs c.fronts.at f.2)
+
+pub returns-then-at-bytes-clause-failed : goal.returns-then-at-bytes-clause-failed
+returns-then-at-bytes-clause-failed g c = λ b.
+    absurd (ok_is_no_error _ _ _ refl (c.in-Ok.ensures.failed (c.fronts.invariant.broken b)).0)
+
+pub returns-in-Err-clause-failed : goal.returns-in-Err-clause-failed
+returns-in-Err-clause-failed g c = λ b.
+    let failed = c.in-Err.ensures.failed (c.fronts.invariant.broken b) in
+    (same_error _ _ _ refl failed.0, failed.1)
 
 pub fronts-preserved : goal.fronts-preserved
 fronts-preserved g c =
     let bs = c.args.bytes.now in
     let at = c.fronts.at in
-    let n = c.in_ok-taken.taken in
+    let n = c.in-Ok.taken in
     let l = rest_length bs at in record {
-      within = omega (arith, c.in_ok-taken.ensures.count.0, c.fronts.invariant.within);
-      fresh = λ e. absurd (omega (arith, e, c.in_ok-taken.ensures.count.1, c.fronts.invariant.within));
-      broken = λ b. let e = (c.in_ok-taken.ensures.failed (c.fronts.invariant.broken b)).0 in absurd cc;
+      within = omega (arith, c.in-Ok.ensures.count.0, c.fronts.invariant.within);
+      fresh = λ e. absurd (omega (arith, e, c.in-Ok.ensures.count.1, c.fronts.invariant.within));
+      broken = λ b. absurd (ok_is_no_error _ _ _ refl (c.in-Ok.ensures.failed (c.fronts.invariant.broken b)).0);
       fed = λ limit s h.
           let p = c.fronts.invariant.fed limit s h in
-          let w = c.in_ok-taken.ensures.given limit (s ++ take at bs) p.0 in
+          let w = c.in-Ok.ensures.given limit (s ++ take at bs) p.0 in
           let v = values_more limit s bs at n _ _ p.1 w.1 in
           let f = subst (λ x. WasFedWithin limit x c.more_in.new.self) (fed_more s bs at n) w.0 in
           let here : IsStop g.row.A.Denot limit s (take (at + n) bs) → ⊥ = λ stop.
@@ -106,11 +115,11 @@ fronts-preserved g c =
             f,
             v,
             no_stop_up_to g.row.A.Denot limit s bs (at + n) (no_stop_within g.row.A.Denot limit s bs at n p.2
-                (c.in_ok-taken.ensures.quiet limit (s ++ take at bs) p.0)) here,
+                (c.in-Ok.ensures.quiet limit (s ++ take at bs) p.0)) here,
           );
     }
 
 pub fronts-smaller : goal.fronts-smaller
 fronts-smaller g c =
     let l = rest_length c.args.bytes.now c.fronts.at in
-    omega (arith, c.in_ok-taken.ensures.count.0, c.in_ok-taken.ensures.count.1, c.fronts.invariant.within)
+    omega (arith, c.in-Ok.ensures.count.0, c.in-Ok.ensures.count.1, c.fronts.invariant.within)
