@@ -2,12 +2,12 @@
 //! `--check` it says by its status whether the stream is in normal form.
 #![tactic(auto)]
 
-mod run;
-mod task;
+pub mod run;
+pub mod task;
 #[cfg(test)]
 mod tests;
 
-use run::run;
+pub use run::run;
 use std::process::ExitCode;
 use std::{env, io};
 
