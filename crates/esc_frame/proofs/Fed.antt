@@ -1,5 +1,5 @@
 -- From the machine's steps to what a stream adds.
-use Rattle.std.proofs.Common.{ℕ, ◌≡◌, Bool, true, false, not, ◌||◌, ◌&&◌, List, [], ◌∷◌, ◌++◌, take, Option, Some, None, IfSome, refl, ap, sym, ◌∙◌, subst}
+use Rattle.std.proofs.Common.{ℕ, ◌≡◌, Bool, true, false, not, ◌||◌, ◌&&◌, List, [], ◌∷◌, ◌++◌, take, Option, Some, None, IfSome, inl, inr, refl, ap, sym, ◌∙◌, subst}
 use Rattle.std.specs.List.{FoldsTo}
 use Rattle.std.proofs.lemmas.Bool.{and_parts}
 use Rattle.std.proofs.lemmas.List.{append-nil}
@@ -12,12 +12,13 @@ use Rattle.esc_frame.specs.Events.Event.{Execute, Print}
 use Rattle.esc_frame.specs.Leads.{Holds}
 use Rattle.esc_frame.specs.Leads.Unfinished.{Ground}
 use Rattle.esc_frame.specs.Memory.{MayGrow}
-use Rattle.esc_frame.specs.Machine.Calls.{TellsOne}
+use Rattle.esc_frame.specs.Machine.Calls.{NoMemory, TellsOne}
 use Rattle.esc_frame.specs.Machine.Keeps.{KeepsText}
 use Rattle.esc_frame.specs.Machine.Moves.{IsStill, after_by, news_by, after_all, news_all, may_grow_in, move}
 use Rattle.esc_frame.specs.Machine.Moves.{reaches_growing, lends, is_lendable, may_grow_within}
 use Rattle.esc_frame.specs.Stream.{IsQuietWithin, LeadsToWithin, added_within}
 use Rattle.esc_frame.proofs.Given.{stops_for}
+use Rattle.memory.specs.Refusals.{Refused}
 use Rattle.esc_frame.proofs.Memory.{grows_added}
 use Rattle.esc_frame.proofs.SameMoves.{after_same}
 use Rattle.esc_frame.proofs.Still.{quiet_all}
@@ -33,30 +34,41 @@ pub given_all : {S : Type 0} (l limit : Option ℕ) → l ≡ limit → (takes :
     → FoldsTo takes old (news_all l (after_all Ground s) b) new → FoldsTo takes old (added_within limit s b) new
 given_all l limit i takes s b old new h = subst (λ es. FoldsTo takes old es new) (sym (added_is l s b) ∙ ap (λ k. added_within k s b) i) h
 
-refused_by : {S : Type 0} (l limit : Option ℕ) → l ≡ limit → (takes refuses : S → Event → S → Type 0) (s b : List ℕ) (old new : S) (own : Type 0)
-    → (own → reaches_growing (after_all Ground s) b ≡ true) → StopsAt own takes refuses old (news_all l (after_all Ground s) b) new
-    → StopsAt (MayGrow (s ++ b)) takes refuses old (added_within limit s b) new
-refused_by l limit i takes refuses s b old new own w h =
-    subst (λ es. StopsAt (MayGrow (s ++ b)) takes refuses old es new) (sym (added_is l s b) ∙ ap (λ k. added_within k s b) i)
-    (stops_for own (MayGrow (s ++ b)) takes refuses (news_all l (after_all Ground s) b) old new (λ o. grows_added s b (w o)) h)
+-- the word of the allocator, of which the store's is one too
+asked : (A : Type 0) → NoMemory (Refused A) A → Refused A
+asked A (inl r) = r
+asked A (inr r) = r
 
-pub refused_all : {S : Type 0} (l limit : Option ℕ) → l ≡ limit → (takes refuses : S → Event → S → Type 0) (s b : List ℕ) (old new : S)
-    → StopsAt (may_grow_within (after_all Ground s) b ≡ true) takes refuses old (news_all l (after_all Ground s) b) new
-    → StopsAt (MayGrow (s ++ b)) takes refuses old (added_within limit s b) new
-refused_all l limit i takes refuses s b old new h =
+refused_by : {S : Type 0} (A : Type 0) (l limit : Option ℕ) → l ≡ limit → (takes refuses : S → Event → S → Type 0)
+    (s b : List ℕ) (old new : S) (own : Type 0) → (own → reaches_growing (after_all Ground s) b ≡ true)
+    → StopsAt (own × NoMemory (Refused A) A) takes refuses old (news_all l (after_all Ground s) b) new
+    → StopsAt (MayGrow (s ++ b) × Refused A) takes refuses old (added_within limit s b) new
+refused_by A l limit i takes refuses s b old new own w h =
+    subst (λ es. StopsAt (MayGrow (s ++ b) × Refused A) takes refuses old es new)
+    (sym (added_is l s b) ∙ ap (λ k. added_within k s b) i)
+    (stops_for (own × NoMemory (Refused A) A) (MayGrow (s ++ b) × Refused A) takes refuses
+    (news_all l (after_all Ground s) b) old new (λ o. (grows_added s b (w o.0), asked A o.1)) h)
+
+pub refused_all : {S : Type 0} (A : Type 0) (l limit : Option ℕ) → l ≡ limit → (takes refuses : S → Event → S → Type 0)
+    (s b : List ℕ) (old new : S)
+    → StopsAt ((may_grow_within (after_all Ground s) b ≡ true) × NoMemory (Refused A) A) takes refuses old
+    (news_all l (after_all Ground s) b) new
+    → StopsAt (MayGrow (s ++ b) × Refused A) takes refuses old (added_within limit s b) new
+refused_all A l limit i takes refuses s b old new h =
     let u = after_all Ground s in
-    refused_by l limit i takes refuses s b old new (may_grow_within u b ≡ true)
+    refused_by A l limit i takes refuses s b old new (may_grow_within u b ≡ true)
     (λ g. (and_parts (reaches_growing u b) (not (is_lendable u b)) g).0) h
 
 -- bytes whose strings can all be lent stop only where the actor refused
-pub refused_lent : {S : Type 0} (l limit : Option ℕ) → l ≡ limit → (takes refuses : S → Event → S → Type 0) (s b : List ℕ) (old new : S)
-    → after_all Ground s ≡ Ground → lends Ground b ≡ true
-    → StopsAt (may_grow_within (after_all Ground s) b ≡ true) takes refuses old (news_all l (after_all Ground s) b) new
+pub refused_lent : {S why : Type 0} (l limit : Option ℕ) → l ≡ limit → (takes refuses : S → Event → S → Type 0)
+    (s b : List ℕ) (old new : S) → after_all Ground s ≡ Ground → lends Ground b ≡ true
+    → StopsAt ((may_grow_within (after_all Ground s) b ≡ true) × why) takes refuses old (news_all l (after_all Ground s) b) new
     → StopsAt ⊥ takes refuses old (added_within limit s b) new
-refused_lent l limit i takes refuses s b old new e k h =
+refused_lent {S} {why} l limit i takes refuses s b old new e k h =
     subst (λ es. StopsAt ⊥ takes refuses old es new) (sym (added_is l s b) ∙ ap (λ k. added_within k s b) i)
-    (stops_for (may_grow_within (after_all Ground s) b ≡ true) ⊥ takes refuses (news_all l (after_all Ground s) b) old new
-    (λ g. lent_grows_not (reaches_growing Ground b) (lends Ground b) k (subst (λ u. may_grow_within u b ≡ true) e g)) h)
+    (stops_for ((may_grow_within (after_all Ground s) b ≡ true) × why) ⊥ takes refuses
+    (news_all l (after_all Ground s) b) old new
+    (λ g. lent_grows_not (reaches_growing Ground b) (lends Ground b) k (subst (λ u. may_grow_within u b ≡ true) e g.0)) h)
   where
     lent_grows_not : (r t : Bool) → t ≡ true → (r && not (true && t)) ≡ true → ⊥
     lent_grows_not true true t g = cc
@@ -82,13 +94,15 @@ given_one l limit i takes s b c old new e h =
     given_all l limit i takes s (b ∷ []) old new
     (subst (λ es. FoldsTo takes old es new) (ap (news_by l u b) e ∙ sym (append-nil (news_by l u b (class_of b)))) h)
 
-pub refused_one : {S : Type 0} (l limit : Option ℕ) → l ≡ limit → (takes refuses : S → Event → S → Type 0) (s : List ℕ) (b : ℕ) (c : Class) (old new : S)
-    → c ≡ class_of b → StopsAt (may_grow_in (after_all Ground s) ≡ true) takes refuses old (news_by l (after_all Ground s) b c) new
-    → StopsAt (MayGrow (s ++ b ∷ [])) takes refuses old (added_within limit s (b ∷ [])) new
-refused_one l limit i takes refuses s b c old new e h =
+pub refused_one : {S : Type 0} (A : Type 0) (l limit : Option ℕ) → l ≡ limit → (takes refuses : S → Event → S → Type 0)
+    (s : List ℕ) (b : ℕ) (c : Class) (old new : S) → c ≡ class_of b
+    → StopsAt ((may_grow_in (after_all Ground s) ≡ true) × NoMemory (Refused A) A) takes refuses old
+    (news_by l (after_all Ground s) b c) new
+    → StopsAt (MayGrow (s ++ b ∷ []) × Refused A) takes refuses old (added_within limit s (b ∷ [])) new
+refused_one A l limit i takes refuses s b c old new e h =
     let u = after_all Ground s in
-    refused_by l limit i takes refuses s (b ∷ []) old new (may_grow_in u ≡ true) (or_no (may_grow_in u))
-    (subst (λ es. StopsAt (may_grow_in u ≡ true) takes refuses old es new)
+    refused_by A l limit i takes refuses s (b ∷ []) old new (may_grow_in u ≡ true) (or_no (may_grow_in u))
+    (subst (λ es. StopsAt ((may_grow_in u ≡ true) × NoMemory (Refused A) A) takes refuses old es new)
     (ap (news_by l u b) e ∙ sym (append-nil (news_by l u b (class_of b)))) h)
 
 -- bytes of one event, where nothing is unfinished before them and after them

@@ -1,6 +1,6 @@
 -- Many bytes at once.
 use Rattle.std.proofs.Common.{ℕ, suc, ◌≡◌, ◌≢◌, ◌+◌, ◌<◌, ◌≤◌, Bool, true, false, cond, ◌&&◌, List, [], ◌∷◌, ◌++◌, map, length, take, drop, get_or}
-use Rattle.std.proofs.Common.{refl, Option, None, Result, Ok, Err}
+use Rattle.std.proofs.Common.{refl, Option, None}
 use Rattle.std.proofs.Common.{ap, sym, ◌∙◌, subst, take-append-drop, length-drop, length-take, append_assoc, ◌-◌, arith}
 use Rattle.std.specs.List.{FoldsTo, prefix_len, list_all}
 use Rattle.std.proofs.Math.Seq.{take-add}
@@ -20,7 +20,7 @@ use Rattle.esc_frame.specs.Segments.{Opener, Piece}
 use Rattle.esc_frame.specs.Segments.Piece.{Sequence}
 use Rattle.esc_frame.specs.Machine.Moves.{move, ground_move, pending_move, osc_pending_move, inside, goes_on, after_by, news_by, after_all, news_all}
 use Rattle.esc_frame.specs.Machine.Moves.{may_grow_within}
-use Rattle.esc_frame.specs.Machine.Calls.{Ran, Stays, StaysFresh, TellsOne}
+use Rattle.esc_frame.specs.Machine.Calls.{Ran, StaysFresh, TellsOne}
 use Rattle.esc_frame.specs.Machine.Characters.{IsCharacter}
 use Rattle.esc_frame.proofs.Given.{folds_then, stops_then, stops_more, stops_for, refused_stops}
 use Rattle.esc_frame.proofs.Lends.{after_more, fresh_more, grows_behind}
@@ -86,13 +86,19 @@ module _ {S : Type 0} (limit : Option ℕ) (takes refuses : S → Event → S �
       (subst (λ y. StopsAt own takes refuses mid (news_all limit v y) new) (tail_is rest i) h))
 
   -- or by itself
-  pub ran_ends : StaysFresh u rest i → StopsAt (may_grow_within v (take (length rest - i) (drop i rest)) ≡ true) takes refuses mid
+  pub ran_ends : {why : Type 0} → StaysFresh u rest i
+      → StopsAt ((may_grow_within v (take (length rest - i) (drop i rest)) ≡ true) × why) takes refuses mid
       (news_all limit v (take (length rest - i) (drop i rest))) new
-      → StopsAt (may_grow_within u rest ≡ true) takes refuses old (news_all limit u rest) new
-  ran_ends fresh h =
-      ran_stop (may_grow_within u rest ≡ true)
-      (stops_for (may_grow_within v (take (length rest - i) (drop i rest)) ≡ true) (may_grow_within u rest ≡ true) takes refuses _ mid new
-      (λ g. grows_behind u rest i fresh (ap (λ x. may_grow_within x (drop i rest)) here ∙ ap (may_grow_within v) (sym (tail_is rest i)) ∙ g)) h)
+      → StopsAt ((may_grow_within u rest ≡ true) × why) takes refuses old (news_all limit u rest) new
+  ran_ends {why} fresh h =
+      ran_stop ((may_grow_within u rest ≡ true) × why)
+      (stops_for ((may_grow_within v (take (length rest - i) (drop i rest)) ≡ true) × why)
+      ((may_grow_within u rest ≡ true) × why) takes refuses _ mid new
+      (λ g. (
+        grows_behind u rest i fresh (ap (λ x. may_grow_within x (drop i rest)) here
+            ∙ ap (may_grow_within v) (sym (tail_is rest i)) ∙ g.0),
+        g.1,
+      )) h)
 
 -- in ground: n bytes of a slice to the end
 module _ {S : Type 0} (takes refuses : S → Event → S → Type 0) (is_ready : S → Type 0) (rest : List ℕ) (i : ℕ) where
@@ -117,12 +123,6 @@ module _ {S : Type 0} (takes refuses : S → Event → S → Type 0) (is_ready :
       → ((limit : Option ℕ) → StopsAt own takes refuses mid (news_all limit Ground (take (length rest - i) (drop i rest))) new)
       → (limit : Option ℕ) → StopsAt own takes refuses old (news_all limit Ground rest) new
   ran_refused {own} old mid new so h = λ limit. ran_stop limit takes refuses Ground Ground rest i old mid new so.1 (so.2 limit) own (h limit)
-
--- a weaker reason to stop
-pub stays_for : {S E : Type 0} (own other : Bool) (takes refuses : S → Event → S → Type 0) (is_ready : S → Type 0) (result : Result ℕ E) (rest : List ℕ)
-    (old new : S) → (own ≡ true → other ≡ true) → Stays own takes refuses is_ready result rest old new → Stays other takes refuses is_ready result rest old new
-stays_for own other takes refuses is_ready (Ok n) rest old new w h = h
-stays_for own other takes refuses is_ready (Err e) rest old new w h = λ limit. stops_for (own ≡ true) (other ≡ true) takes refuses _ old new w (h limit)
 
 -- what stopped within a prefix stopped within the whole
 pub stop_within : {S : Type 0} (limit : Option ℕ) (own : Type 0) (takes refuses : S → Event → S → Type 0) (u : Unfinished) (rest : List ℕ) (n : ℕ) (old new : S)

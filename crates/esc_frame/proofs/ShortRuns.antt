@@ -13,7 +13,7 @@ use Rattle.esc_frame.specs.declared.machine.Machine.{Machine}
 use Rattle.esc_frame.specs.Leads.{Holds}
 use Rattle.esc_frame.specs.Leads.Unfinished.{Ground, InCsi}
 use Rattle.esc_frame.specs.Machine.Calls.{Stays, TookSome, Quietly}
-use Rattle.esc_frame.specs.Machine.Moves.{after_all, news_all, inside, may_grow_within, IsStill}
+use Rattle.esc_frame.specs.Machine.Moves.{after_all, news_all, inside, IsStill}
 use Rattle.esc_frame.specs.Scans.{is_body_byte}
 use Rattle.esc_frame.specs.Segments.{csi_events}
 use Rattle.esc_frame.specs.Segments.Opener.{Long}
@@ -21,8 +21,8 @@ use Rattle.esc_frame.specs.Machine.Shorts.{IsShort}
 use Rattle.esc_frame.proofs.CsiRuns.{csi_opens, body_quiet, body_strip, final_by}
 use Rattle.esc_frame.proofs.Lends.{after_more, ground_fresh}
 use Rattle.esc_frame.proofs.ManyBytes.{tail_is}
-use Rattle.esc_frame.proofs.QuietRuns.{quiet_after, quiet_given, quiet_stops_for}
-use Rattle.esc_frame.proofs.Given.{refused_stops}
+use Rattle.esc_frame.proofs.QuietRuns.{quiet_after, quiet_given, quiet_stopped}
+use Rattle.esc_frame.proofs.Given.{refused_stops, stops_for}
 use Rattle.esc_frame.proofs.Streams.{news_append}
 use Rattle.esc_frame.proofs.Still.{opened_still, body_still}
 
@@ -73,9 +73,9 @@ module _ (limit : Option ℕ) (rest : List ℕ) (run : ℕ) (items : List CsiPar
       (subst (λ es. FoldsTo takes old es new) (sym short_event) (new, h, refl)))
 
   pub short_stops : {S : Type 0} (takes refuses : S → Event → S → Type 0) (old new : S) → refuses old (CsiDispatch items false (get_or rest (run + 2) 0)) new
-      → StopsAt (may_grow_within Ground rest ≡ true) takes refuses old (news_all limit Ground rest) new
+      → StopsAt ⊥ takes refuses old (news_all limit Ground rest) new
   short_stops takes refuses old new h =
-      quiet_stops_for limit takes refuses Ground (InCsi (Long []) body) rest (run + 2) _ old new short_run room refl ⊥ (λ no. absurd no)
+      quiet_stopped limit takes refuses Ground (InCsi (Long []) body) rest (run + 2) _ old new short_run room refl ⊥
       (subst (λ es. StopsAt ⊥ takes refuses old es new) (sym short_event) (refused_stops ⊥ takes refuses old new _ h))
 
   pub short_still : IsStill limit Ground rest (run + 3)
@@ -86,13 +86,18 @@ module _ (limit : Option ℕ) (rest : List ℕ) (run : ℕ) (items : List CsiPar
       (subst (λ y. list_all is_body_byte (take run y) ≡ true) (sym (tail_is rest 2)) read.body)))
 
 -- what such a call says of the machine in ground
-pub stays_took : {K A S E : Type 0} (keeps : Option ℕ → K → List ℕ → Type 0) (limit : Option ℕ) (takes refuses : S → Event → S → Type 0) (is_ready : S → Type 0)
-    (result : Result ℕ E) (rest : List ℕ) (m : Machine K A) (old new : S) → IfOk result (λ n. Holds keeps None m Ground)
-    → Stays (may_grow_within Ground rest) takes refuses is_ready result rest old new → IfOk result (λ n. 0 < n) → Quietly limit result Ground rest
-    → TookSome keeps limit takes refuses is_ready result rest m old new
-stays_took keeps limit takes refuses is_ready (Ok n) rest m old new g s p q = (
+pub stays_took : {K A S E : Type 0} (keeps : Option ℕ → K → List ℕ → Type 0) (denied : Type 0) (limit : Option ℕ)
+    (takes refuses : S → Event → S → Type 0) (is_ready : S → Type 0) (result : Result ℕ E) (rest : List ℕ)
+    (m : Machine K A) (old new : S) → IfOk result (λ n. Holds keeps None m Ground)
+    → Stays takes refuses is_ready result rest old new → IfOk result (λ n. 0 < n) → Quietly limit result Ground rest
+    → TookSome keeps denied limit takes refuses is_ready result rest m old new
+stays_took keeps denied limit takes refuses is_ready (Ok n) rest m old new g s p q = (
   (subst (Holds keeps limit m) (sym s.1) g, s.2 limit, ground_fresh Ground rest n s.1),
   q,
   (p, s.0, s.3),
 )
-stays_took keeps limit takes refuses is_ready (Err x) rest m old new g s p q = (s limit, tt, tt)
+stays_took keeps denied limit takes refuses is_ready (Err x) rest m old new g s p q = (
+  stops_for ⊥ _ takes refuses _ old new (λ no. absurd no) (s limit),
+  tt,
+  tt,
+)

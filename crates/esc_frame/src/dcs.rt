@@ -1,7 +1,7 @@
 //! The machine in device control strings.
 #![tactic(auto)]
 
-ghost use Rattle.std.specs.Prelude.{◌≡◌, ◌<◌, ◌++◌, ℕ, List, Option, [], ◌∷◌, true, length, OnOk};
+ghost use Rattle.std.specs.Prelude.{◌≡◌, ◌<◌, ◌++◌, ℕ, List, Option, [], ◌∷◌, true, length, OnOk, OnErr};
 ghost use Rattle.esc_frame.specs.Classes.{class_of, strip};
 ghost use Rattle.esc_frame.specs.Events.{Takes};
 ghost use Rattle.esc_frame.specs.Events.Event.{DcsUnhook};
@@ -12,6 +12,7 @@ ghost use Rattle.esc_frame.specs.Limits.{is_read};
 ghost use Rattle.esc_frame.specs.Machine.Keeps.{KeepsDcs, parameters_of};
 ghost use Rattle.esc_frame.specs.Machine.Moves.{telling, ground_move, inside};
 ghost use Rattle.esc_frame.specs.Segments.{Opener, hook_event};
+ghost use Rattle.memory.specs.Refusals.{Refused};
 
 use crate::actor::VTActor;
 use crate::classes::Class;
@@ -32,7 +33,7 @@ impl<K: Store, A: Allocator> Machine<K, A> {
         actor: &mut V,
     ) -> Result<()>
         requires { V.is_ready actor.old }
-        ensures moved { (o : Opener) (x : List ℕ) → class ≡ class_of b → K.keeps limit self.old.text (parameters_of (strip x)) → KeepsDcs self.old.header (strip x) → Moved K.keeps limit true V.takes V.refuses result (inside limit (InDcs o x) b class) self.new actor.old actor.new }
+        ensures moved { (o : Opener) (x : List ℕ) → class ≡ class_of b → K.keeps limit self.old.text (parameters_of (strip x)) → KeepsDcs self.old.header (strip x) → Moved K.keeps K.denied limit true V.takes V.refuses result (inside limit (InDcs o x) b class) self.new actor.old actor.new }
         ensures ready { OnOk result (V.is_ready actor.new) }
     {
         self.state = State::Dcs;
@@ -65,7 +66,7 @@ impl<K: Store, A: Allocator> Machine<K, A> {
     #[tactic(auto, using(crate::proofs::Given::hears_moved))]
     pub fn in_data<V: VTActor>(&mut self, b: u8, class: Class, actor: &mut V) -> Result<()>
         requires { V.is_ready actor.old }
-        ensures moved { (limit : Option ℕ) (o : Opener) (x : List ℕ) (f : ℕ) (d : List ℕ) → is_read limit (strip x) ≡ true → Moved K.keeps limit true V.takes V.refuses result (inside limit (InData o x f d) b class) self.new actor.old actor.new }
+        ensures moved { (limit : Option ℕ) (o : Opener) (x : List ℕ) (f : ℕ) (d : List ℕ) → is_read limit (strip x) ≡ true → Moved K.keeps K.denied limit true V.takes V.refuses result (inside limit (InData o x f d) b class) self.new actor.old actor.new }
         ensures ready { OnOk result (V.is_ready actor.new) }
     {
         self.state = State::Data;
@@ -90,7 +91,7 @@ impl<K: Store, A: Allocator> Machine<K, A> {
     // A breaker after a DCS's data.
     fn leave_data<V: VTActor>(&mut self, b: u8, class: Class, actor: &mut V) -> Result<()>
         requires { V.is_ready actor.old }
-        ensures moved { (limit : Option ℕ) → Moved K.keeps limit true V.takes V.refuses result (telling (DcsUnhook ∷ []) (ground_move b class)) self.new actor.old actor.new }
+        ensures moved { (limit : Option ℕ) → Moved K.keeps K.denied limit true V.takes V.refuses result (telling (DcsUnhook ∷ []) (ground_move b class)) self.new actor.old actor.new }
         ensures ready { OnOk result (V.is_ready actor.new) }
     {
         match actor.dcs_unhook() {
@@ -110,7 +111,7 @@ impl<K: Store, A: Allocator> Machine<K, A> {
         requires some { 0 < length rest.now }
         requires ready { V.is_ready actor.old }
         requires state { self.old.state ≡ State.Data }
-        ensures took { (u : Unfinished) → Holds K.keeps limit self.old u → Took K.keeps limit V.takes V.refuses result u rest.now self.new actor.old actor.new }
+        ensures took { (u : Unfinished) → Holds K.keeps limit self.old u → Took K.keeps K.denied limit V.takes V.refuses result u rest.now self.new actor.old actor.new }
         ensures count { Advances V.is_ready result rest.now actor.new }
     {
         let run = data_run(rest);
@@ -133,6 +134,7 @@ fn keep<K: Store>(
 ) -> Result<()>
     ensures parameters { (x : List ℕ) → K.keeps limit parameters.old (parameters_of x) → OnOk result (K.keeps limit parameters.new (parameters_of (x ++ b ∷ []))) }
     ensures header { (x : List ℕ) → KeepsDcs header.old x → KeepsDcs header.new (x ++ b ∷ []) }
+    ensures refused { OnErr result K.denied }
 {
     header.push(b);
     if is_parameter(b) {
@@ -150,15 +152,15 @@ fn is_read<K: Store>(header: &DcsHeader, parameters: &K) -> bool
 }
 
 // The hook of a header that is read, told.
-fn hook<K: Store, A: Allocator + Copy, V: VTActor>(
+fn hook<K: Store, A: Allocator, V: VTActor>(
     header: &DcsHeader,
     parameters: &K,
-    alloc: A,
+    alloc: &A,
     b: u8,
     actor: &mut V,
 ) -> Result<()>
     requires { V.is_ready actor.old }
-    ensures told { (limit : Option ℕ) (x : List ℕ) → K.keeps limit parameters.now (parameters_of x) → KeepsDcs header.now x → is_read limit x ≡ true → Takes true V.takes V.refuses result actor.old (hook_event x b ∷ []) actor.new }
+    ensures told { (limit : Option ℕ) (x : List ℕ) → K.keeps limit parameters.now (parameters_of x) → KeepsDcs header.now x → is_read limit x ≡ true → Takes (Refused A) V.takes V.refuses result actor.old (hook_event x b ∷ []) actor.new }
     ensures ready { OnOk result (V.is_ready actor.new) }
 {
     let kept = &header.intermediates;

@@ -1,10 +1,11 @@
 //! The header of a device control string, byte by byte. Its parameter bytes are kept beside it, and read at its final byte.
 #![tactic(auto)]
 
-ghost use Rattle.std.specs.Prelude.{◌≡◌, ◌++◌, ℕ, List, [], ◌∷◌, map, pos, IfOk};
+ghost use Rattle.std.specs.Prelude.{◌≡◌, ◌++◌, ℕ, List, [], ◌∷◌, map, pos, IfOk, OnErr};
 ghost use Rattle.esc_values.specs.Clear.{parts_of};
 ghost use Rattle.esc_frame.specs.Bodies.{is_dcs_parameter, is_dcs_header, held, value_behind};
 ghost use Rattle.esc_frame.specs.Machine.Keeps.{KeepsDcs, next_form_by};
+ghost use Rattle.memory.specs.Refusals.{Refused};
 
 use crate::body::Form;
 use crate::entries::next_number;
@@ -81,14 +82,16 @@ fn number_of(piece: &[u8]) -> i64
 
 /// The parameters that parameter bytes write: the numbers of the pieces between `;`.
 pub fn params_of<A: Allocator + Copy>(alloc: A, bytes: &[u8]) -> Result<Vec<i64, A>, AllocError>
-    ensures { IfOk result (λ v. v.items ≡ map (λ p. pos (held (value_behind 0 p))) (parts_of bytes.now)) }
+    ensures ok { IfOk result (λ v. v.items ≡ map (λ p. pos (held (value_behind 0 p))) (parts_of bytes.now)) }
+    ensures refused { OnErr result (Refused A) }
 {
     let pieces = split_parts(alloc, bytes)?;
     numbers_of(alloc, &pieces)
 }
 
 fn numbers_of<A: Allocator>(alloc: A, pieces: &[&[u8]]) -> Result<Vec<i64, A>, AllocError>
-    ensures { IfOk result (λ v. v.items ≡ map (λ p. pos (held (value_behind 0 p.now))) pieces.now) }
+    ensures ok { IfOk result (λ v. v.items ≡ map (λ p. pos (held (value_behind 0 p.now))) pieces.now) }
+    ensures refused { OnErr result (Refused A) }
 {
-    pieces.iter().map(|piece| number_of(piece)).collect(alloc)
+    memory::collect(alloc, pieces.iter().map(|piece| number_of(piece)))
 }

@@ -3,6 +3,7 @@
 
 ghost use Rattle.std.specs.Prelude.{ℕ, [], Option};
 ghost use Rattle.esc_frame.specs.Machine.Keeps.{KeepsText};
+ghost use Rattle.memory.specs.Refusals.{Refused};
 
 use crate::count::fits;
 use crate::store::Store;
@@ -30,6 +31,8 @@ impl<A: Allocator> Kept<A> {
 
 impl<A: Allocator> Store for Kept<A> {
     ghost keeps = { λ limit kept t. KeepsText limit kept t };
+
+    ghost denied = { Refused A };
 
     // The memory is kept.
     fn clear(&mut self) {
@@ -59,7 +62,7 @@ impl<A: Allocator> Store for Kept<A> {
             return Ok(());
         }
         if fits(limit, self.bytes.len(), text.len()) {
-            self.bytes.extend_from_slice(text)
+            memory::extend(&mut self.bytes, text)
         } else {
             self.is_over = true;
             self.bytes.clear();

@@ -12,6 +12,7 @@ ghost use Rattle.esc_frame.specs.Machine.Moves.{telling, ground_move, pair_move,
 ghost use Rattle.esc_frame.specs.Machine.TextRuns.{IsTextRun};
 ghost use Rattle.esc_frame.specs.Segments.{Opener, Piece, text_of, osc_events};
 ghost use Rattle.esc_frame.specs.Sequences.{is_from, outcome};
+ghost use Rattle.memory.specs.Refusals.{Refused};
 
 use crate::actor::VTActor;
 use crate::classes::{Class, Kind, classify};
@@ -33,7 +34,7 @@ impl<K: Store, A: Allocator> Machine<K, A> {
         actor: &mut V,
     ) -> Result<()>
         requires { V.is_ready actor.old }
-        ensures moved { (o : Opener) (ps : List Piece) → class ≡ class_of b → K.keeps limit self.old.text (text_of ps) → Moved K.keeps limit true V.takes V.refuses result (inside limit (InOsc o ps) b class) self.new actor.old actor.new }
+        ensures moved { (o : Opener) (ps : List Piece) → class ≡ class_of b → K.keeps limit self.old.text (text_of ps) → Moved K.keeps K.denied limit true V.takes V.refuses result (inside limit (InOsc o ps) b class) self.new actor.old actor.new }
         ensures ready { OnOk result (V.is_ready actor.new) }
     {
         self.state = State::Osc;
@@ -70,7 +71,7 @@ impl<K: Store, A: Allocator> Machine<K, A> {
         actor: &mut V,
     ) -> Result<()>
         requires { V.is_ready actor.old }
-        ensures moved { (o : Opener) (ps : List Piece) (f : List ℕ) → class ≡ class_of b → K.keeps limit self.old.text (text_of ps) → front_of self.old.pending ≡ f → Moved K.keeps limit true V.takes V.refuses result (osc_pending_move limit o ps f b class (outcome f b)) self.new actor.old actor.new }
+        ensures moved { (o : Opener) (ps : List Piece) (f : List ℕ) → class ≡ class_of b → K.keeps limit self.old.text (text_of ps) → front_of self.old.pending ≡ f → Moved K.keeps K.denied limit true V.takes V.refuses result (osc_pending_move limit o ps f b class (outcome f b)) self.new actor.old actor.new }
         ensures ready { OnOk result (V.is_ready actor.new) }
     {
         match self.pending.outcome(b) {
@@ -96,7 +97,7 @@ impl<K: Store, A: Allocator> Machine<K, A> {
         actor: &mut V,
     ) -> Result<()>
         requires { V.is_ready actor.old }
-        ensures moved { (o : Opener) (ps : List Piece) → K.keeps limit self.old.text (text_of ps) → Moved K.keeps limit true V.takes V.refuses result (osc_pending_move limit o ps (front_of self.old.pending) b class Outcome.Whole) self.new actor.old actor.new }
+        ensures moved { (o : Opener) (ps : List Piece) → K.keeps limit self.old.text (text_of ps) → Moved K.keeps K.denied limit true V.takes V.refuses result (osc_pending_move limit o ps (front_of self.old.pending) b class Outcome.Whole) self.new actor.old actor.new }
         ensures ready { OnOk result (V.is_ready actor.new) }
     {
         if self.pending.pairs_with(b) {
@@ -112,7 +113,7 @@ impl<K: Store, A: Allocator> Machine<K, A> {
     // A breaker after an OSC.
     fn leave_osc<V: VTActor>(&mut self, b: u8, class: Class, actor: &mut V) -> Result<()>
         requires { V.is_ready actor.old }
-        ensures moved { (limit : Option ℕ) (t : List ℕ) → K.keeps limit self.old.text t → Moved K.keeps limit true V.takes V.refuses result (telling (osc_events limit t) (ground_move b class)) self.new actor.old actor.new }
+        ensures moved { (limit : Option ℕ) (t : List ℕ) → K.keeps limit self.old.text t → Moved K.keeps K.denied limit true V.takes V.refuses result (telling (osc_events limit t) (ground_move b class)) self.new actor.old actor.new }
         ensures ready { OnOk result (V.is_ready actor.new) }
     {
         match tell_osc(&self.text, &self.alloc, actor) {
@@ -124,7 +125,7 @@ impl<K: Store, A: Allocator> Machine<K, A> {
     // A control after C2, in an OSC.
     fn leave_osc_by_pair<V: VTActor>(&mut self, b: u8, class: Class, actor: &mut V) -> Result<()>
         requires { V.is_ready actor.old }
-        ensures moved { (limit : Option ℕ) (t : List ℕ) → K.keeps limit self.old.text t → Moved K.keeps limit true V.takes V.refuses result (telling (osc_events limit t) (pair_move b class)) self.new actor.old actor.new }
+        ensures moved { (limit : Option ℕ) (t : List ℕ) → K.keeps limit self.old.text t → Moved K.keeps K.denied limit true V.takes V.refuses result (telling (osc_events limit t) (pair_move b class)) self.new actor.old actor.new }
         ensures ready { OnOk result (V.is_ready actor.new) }
     {
         match tell_osc(&self.text, &self.alloc, actor) {
@@ -145,7 +146,7 @@ impl<K: Store, A: Allocator> Machine<K, A> {
         requires escape { slice_index rest.now 0 ≡ 0x1b }
         requires bracket { slice_index rest.now 1 ≡ 0x5d }
         requires ready { V.is_ready actor.old }
-        ensures { TookSome K.keeps limit V.takes V.refuses V.is_ready result rest.now self.new actor.old actor.new }
+        ensures { TookSome K.keeps K.denied limit V.takes V.refuses V.is_ready result rest.now self.new actor.old actor.new }
     {
         match self.take_body(limit, &rest[2..], actor) {
             Ok(n) => Ok(2 + n),
@@ -164,7 +165,7 @@ impl<K: Store, A: Allocator> Machine<K, A> {
     ) -> Result<usize>
         requires some { 0 < length rest.now }
         requires ready { V.is_ready actor.old }
-        ensures took { (o : Opener) (ps : List Piece) → text_of ps ≡ [] → Took K.keeps limit V.takes V.refuses result (InOsc o ps) rest.now self.new actor.old actor.new }
+        ensures took { (o : Opener) (ps : List Piece) → text_of ps ≡ [] → Took K.keeps K.denied limit V.takes V.refuses result (InOsc o ps) rest.now self.new actor.old actor.new }
         ensures quiet { (o : Opener) (ps : List Piece) → Quietly limit result (InOsc o ps) rest.now }
         ensures count { Advances V.is_ready result rest.now actor.new }
     {
@@ -195,7 +196,7 @@ impl<K: Store, A: Allocator> Machine<K, A> {
         requires few { run ≤ length rest.now }
         requires passes { IsTextRun (take run rest.now) }
         requires ready { V.is_ready actor.old }
-        ensures took { (o : Opener) (ps : List Piece) → text_of ps ≡ [] → is_lendable (InOsc o ps) rest.now ≡ false → Took K.keeps limit V.takes V.refuses result (InOsc o ps) rest.now self.new actor.old actor.new }
+        ensures took { (o : Opener) (ps : List Piece) → text_of ps ≡ [] → is_lendable (InOsc o ps) rest.now ≡ false → Took K.keeps K.denied limit V.takes V.refuses result (InOsc o ps) rest.now self.new actor.old actor.new }
         ensures quiet { (o : Opener) (ps : List Piece) → Quietly limit result (InOsc o ps) rest.now }
         ensures count { Advances V.is_ready result rest.now actor.new }
     {
@@ -218,7 +219,7 @@ impl<K: Store, A: Allocator> Machine<K, A> {
         requires class { class ≡ class_of (slice_index rest.now run) }
         requires ends { ends_osc class ≡ true }
         requires ready { V.is_ready actor.old }
-        ensures took { (o : Opener) (ps : List Piece) → text_of ps ≡ [] → Took K.keeps limit V.takes V.refuses result (InOsc o ps) rest.now self.new actor.old actor.new }
+        ensures took { (o : Opener) (ps : List Piece) → text_of ps ≡ [] → Took K.keeps K.denied limit V.takes V.refuses result (InOsc o ps) rest.now self.new actor.old actor.new }
         ensures quiet { (o : Opener) (ps : List Piece) → Quietly limit result (InOsc o ps) rest.now }
         ensures count { Advances V.is_ready result rest.now actor.new }
     {
@@ -242,7 +243,7 @@ impl<K: Store, A: Allocator> Machine<K, A> {
         requires lead { slice_index rest.now run ≡ 0xc2 }
         requires control { is_from 0x80 0x9f (slice_index rest.now (run + 1)) ≡ true }
         requires ready { V.is_ready actor.old }
-        ensures took { (o : Opener) (ps : List Piece) → text_of ps ≡ [] → Took K.keeps limit V.takes V.refuses result (InOsc o ps) rest.now self.new actor.old actor.new }
+        ensures took { (o : Opener) (ps : List Piece) → text_of ps ≡ [] → Took K.keeps K.denied limit V.takes V.refuses result (InOsc o ps) rest.now self.new actor.old actor.new }
         ensures quiet { (o : Opener) (ps : List Piece) → Quietly limit result (InOsc o ps) rest.now }
         ensures count { Advances V.is_ready result rest.now actor.new }
     {
@@ -263,7 +264,7 @@ impl<K: Store, A: Allocator> Machine<K, A> {
         actor: &mut V,
     ) -> Result<()>
         requires { V.is_ready actor.old }
-        ensures moved { Moved K.keeps limit (not (has_few_parts text.now)) V.takes V.refuses result (telling (osc_events limit text.now) (osc_left b class)) self.new actor.old actor.new }
+        ensures moved { Moved K.keeps K.denied limit (not (has_few_parts text.now)) V.takes V.refuses result (telling (osc_events limit text.now) (osc_left b class)) self.new actor.old actor.new }
         ensures ready { OnOk result (V.is_ready actor.new) }
     {
         match tell_lent(limit, &self.alloc, text, actor) {
@@ -281,7 +282,7 @@ impl<K: Store, A: Allocator> Machine<K, A> {
         actor: &mut V,
     ) -> Result<()>
         requires { V.is_ready actor.old }
-        ensures moved { Moved K.keeps limit (not (has_few_parts text.now)) V.takes V.refuses result (telling (osc_events limit text.now) (pair_move b (class_of b))) self.new actor.old actor.new }
+        ensures moved { Moved K.keeps K.denied limit (not (has_few_parts text.now)) V.takes V.refuses result (telling (osc_events limit text.now) (pair_move b (class_of b))) self.new actor.old actor.new }
         ensures ready { OnOk result (V.is_ready actor.new) }
     {
         match tell_lent(limit, &self.alloc, text, actor) {
@@ -293,7 +294,7 @@ impl<K: Store, A: Allocator> Machine<K, A> {
     // A bell, or a breaker.
     fn leave_lent<V: VTActor>(&mut self, b: u8, class: Class, actor: &mut V) -> Result<()>
         requires { V.is_ready actor.old }
-        ensures moved { (limit : Option ℕ) (own : Bool) → Moved K.keeps limit own V.takes V.refuses result (osc_left b class) self.new actor.old actor.new }
+        ensures moved { (limit : Option ℕ) (own : Bool) → Moved K.keeps K.denied limit own V.takes V.refuses result (osc_left b class) self.new actor.old actor.new }
         ensures ready { OnOk result (V.is_ready actor.new) }
     {
         if let Class::Bell = class {
@@ -317,7 +318,7 @@ impl<K: Store, A: Allocator> Machine<K, A> {
         requires ready { V.is_ready actor.old }
         requires state { self.old.state ≡ State.Osc }
         requires whole { front_of self.old.pending ≡ [] }
-        ensures took { (o : Opener) (ps : List Piece) → K.keeps limit self.old.text (text_of ps) → Took K.keeps limit V.takes V.refuses result (InOsc o ps) rest.now self.new actor.old actor.new }
+        ensures took { (o : Opener) (ps : List Piece) → K.keeps limit self.old.text (text_of ps) → Took K.keeps K.denied limit V.takes V.refuses result (InOsc o ps) rest.now self.new actor.old actor.new }
         ensures quiet { (o : Opener) (ps : List Piece) → Quietly limit result (InOsc o ps) rest.now }
         ensures count { Advances V.is_ready result rest.now actor.new }
     {
@@ -343,7 +344,7 @@ impl<K: Store, A: Allocator> Machine<K, A> {
         requires ready { V.is_ready actor.old }
         requires state { self.old.state ≡ State.Osc }
         requires whole { front_of self.old.pending ≡ [] }
-        ensures took { (o : Opener) (ps : List Piece) → K.keeps limit self.old.text (text_of ps) → is_lendable (InOsc o ps) rest.now ≡ false → Took K.keeps limit V.takes V.refuses result (InOsc o ps) rest.now self.new actor.old actor.new }
+        ensures took { (o : Opener) (ps : List Piece) → K.keeps limit self.old.text (text_of ps) → is_lendable (InOsc o ps) rest.now ≡ false → Took K.keeps K.denied limit V.takes V.refuses result (InOsc o ps) rest.now self.new actor.old actor.new }
         ensures quiet { (o : Opener) (ps : List Piece) → Quietly limit result (InOsc o ps) rest.now }
         ensures count { Advances V.is_ready result rest.now actor.new }
     {
@@ -368,7 +369,7 @@ impl<K: Store, A: Allocator> Machine<K, A> {
         requires ready { V.is_ready actor.old }
         requires state { self.old.state ≡ State.Osc }
         requires whole { front_of self.old.pending ≡ [] }
-        ensures took { (o : Opener) (ps : List Piece) → K.keeps limit self.old.text (text_of ps ++ take run rest.now) → is_lendable (InOsc o ps) rest.now ≡ false → Took K.keeps limit V.takes V.refuses result (InOsc o ps) rest.now self.new actor.old actor.new }
+        ensures took { (o : Opener) (ps : List Piece) → K.keeps limit self.old.text (text_of ps ++ take run rest.now) → is_lendable (InOsc o ps) rest.now ≡ false → Took K.keeps K.denied limit V.takes V.refuses result (InOsc o ps) rest.now self.new actor.old actor.new }
         ensures quiet { (o : Opener) (ps : List Piece) → Quietly limit result (InOsc o ps) rest.now }
         ensures count { Advances V.is_ready result rest.now actor.new }
     {
@@ -419,12 +420,12 @@ fn is_pair_at(rest: &[u8], at: usize) -> bool
 #[inline(always)]
 fn tell_lent<A: Allocator, V: VTActor>(
     limit: Option<usize>,
-    alloc: A,
+    alloc: &A,
     text: &[u8],
     actor: &mut V,
 ) -> Result<()>
     requires { V.is_ready actor.old }
-    ensures told { Takes (not (has_few_parts text.now)) V.takes V.refuses result actor.old (osc_events limit text.now) actor.new }
+    ensures told { Takes ((not (has_few_parts text.now) ≡ true) × Refused A) V.takes V.refuses result actor.old (osc_events limit text.now) actor.new }
     ensures ready { OnOk result (V.is_ready actor.new) }
 {
     if fits(limit, 0, text.len()) {
@@ -435,9 +436,9 @@ fn tell_lent<A: Allocator, V: VTActor>(
 }
 
 // The text of an operating system command, told where it is within the limit.
-fn tell_osc<K: Store, A: Allocator, V: VTActor>(text: &K, alloc: A, actor: &mut V) -> Result<()>
+fn tell_osc<K: Store, A: Allocator, V: VTActor>(text: &K, alloc: &A, actor: &mut V) -> Result<()>
     requires { V.is_ready actor.old }
-    ensures told { (limit : Option ℕ) (t : List ℕ) → K.keeps limit text.now t → Takes true V.takes V.refuses result actor.old (osc_events limit t) actor.new }
+    ensures told { (limit : Option ℕ) (t : List ℕ) → K.keeps limit text.now t → Takes (Refused A) V.takes V.refuses result actor.old (osc_events limit t) actor.new }
     ensures ready { OnOk result (V.is_ready actor.new) }
 {
     if text.is_over() {

@@ -1,7 +1,7 @@
 //! Characters and controls in ground.
 #![tactic(auto)]
 
-ghost use Rattle.std.specs.Prelude.{◌≢◌, ◌<◌, ◌≤◌, ℕ, Option, length, take, false, slice_index, IfSome, IsSome};
+ghost use Rattle.std.specs.Prelude.{◌≢◌, ◌<◌, ◌≤◌, ℕ, Option, length, take, slice_index, IfSome, IsSome};
 ghost use Rattle.esc_frame.specs.Events.Event.{Execute, Print};
 ghost use Rattle.esc_frame.specs.Machine.Calls.{Stays, Quietly, TellsOne};
 ghost use Rattle.esc_frame.specs.Machine.Characters.{IsAhead};
@@ -58,7 +58,7 @@ pub fn execute_one<V: VTActor>(rest: &[u8], actor: &mut V) -> Result<usize>
     requires low { slice_index rest.now 0 < 0x20 }
     requires other { slice_index rest.now 0 ≢ 0x1b }
     requires ready { V.is_ready actor.old }
-    ensures { Stays false V.takes V.refuses V.is_ready result rest.now actor.old actor.new }
+    ensures { Stays V.takes V.refuses V.is_ready result rest.now actor.old actor.new }
 {
     match actor.execute_c0_or_c1(rest[0]) {
         Ok(()) => Ok(1),
@@ -80,7 +80,7 @@ fn first_wide(rest: &[u8]) -> Option<(char, usize)>
 #[inline(always)]
 pub fn print_first<V: VTActor>(rest: &[u8], actor: &mut V) -> Result<usize>
     requires { V.is_ready actor.old }
-    ensures stays { Stays false V.takes V.refuses V.is_ready result rest.now actor.old actor.new }
+    ensures stays { Stays V.takes V.refuses V.is_ready result rest.now actor.old actor.new }
     ensures quiet { (limit : Option ℕ) → Quietly limit result Ground rest.now }
 {
     match first_char(rest) {
@@ -97,7 +97,7 @@ pub fn print_first<V: VTActor>(rest: &[u8], actor: &mut V) -> Result<usize>
 pub fn print_one<V: VTActor>(rest: &[u8], actor: &mut V) -> Result<usize>
     requires some { 0 < length rest.now }
     requires ready { V.is_ready actor.old }
-    ensures { Stays false V.takes V.refuses V.is_ready result rest.now actor.old actor.new }
+    ensures { Stays V.takes V.refuses V.is_ready result rest.now actor.old actor.new }
 {
     if rest[0] < 0x20 {
         Ok(0)
@@ -113,7 +113,7 @@ pub fn print_one<V: VTActor>(rest: &[u8], actor: &mut V) -> Result<usize>
 #[inline(never)]
 fn print_long<V: VTActor>(rest: &[u8], actor: &mut V) -> Result<usize>
     requires { V.is_ready actor.old }
-    ensures { Stays false V.takes V.refuses V.is_ready result rest.now actor.old actor.new }
+    ensures { Stays V.takes V.refuses V.is_ready result rest.now actor.old actor.new }
 {
     if ahead(rest).0 == 0 {
         return Ok(0);
@@ -135,7 +135,7 @@ fn print_long<V: VTActor>(rest: &[u8], actor: &mut V) -> Result<usize>
 #[inline(always)]
 fn print_wides<V: VTActor>(rest: &[u8], actor: &mut V) -> Result<usize>
     requires { V.is_ready actor.old }
-    ensures { Stays false V.takes V.refuses V.is_ready result rest.now actor.old actor.new }
+    ensures { Stays V.takes V.refuses V.is_ready result rest.now actor.old actor.new }
 {
     let mut at = 0;
     while rest.len() - at >= 8 {
@@ -153,7 +153,7 @@ fn print_wides<V: VTActor>(rest: &[u8], actor: &mut V) -> Result<usize>
 fn print_wide<V: VTActor>(rest: &[u8], actor: &mut V) -> Result<usize>
     requires some { 8 ≤ length rest.now }
     requires ready { V.is_ready actor.old }
-    ensures { Stays false V.takes V.refuses V.is_ready result rest.now actor.old actor.new }
+    ensures { Stays V.takes V.refuses V.is_ready result rest.now actor.old actor.new }
 {
     if rest[0] < 0x80 {
         if (rest[1] | rest[3] | rest[5] | rest[7]) < 0x80 {
@@ -175,7 +175,7 @@ fn print_wide<V: VTActor>(rest: &[u8], actor: &mut V) -> Result<usize>
 #[inline(always)]
 fn print_lones<V: VTActor>(rest: &[u8], actor: &mut V) -> Result<usize>
     requires { V.is_ready actor.old }
-    ensures { Stays false V.takes V.refuses V.is_ready result rest.now actor.old actor.new }
+    ensures { Stays V.takes V.refuses V.is_ready result rest.now actor.old actor.new }
 {
     let mut at = 0;
     while rest.len() - at >= 1 {
@@ -192,7 +192,7 @@ fn print_lones<V: VTActor>(rest: &[u8], actor: &mut V) -> Result<usize>
 #[inline(always)]
 fn print_twos<V: VTActor>(rest: &[u8], actor: &mut V) -> Result<usize>
     requires { V.is_ready actor.old }
-    ensures { Stays false V.takes V.refuses V.is_ready result rest.now actor.old actor.new }
+    ensures { Stays V.takes V.refuses V.is_ready result rest.now actor.old actor.new }
 {
     let mut at = 0;
     while rest.len() - at >= 4 {
@@ -209,7 +209,7 @@ fn print_twos<V: VTActor>(rest: &[u8], actor: &mut V) -> Result<usize>
 #[inline(always)]
 fn print_threes<V: VTActor>(rest: &[u8], actor: &mut V) -> Result<usize>
     requires { V.is_ready actor.old }
-    ensures { Stays false V.takes V.refuses V.is_ready result rest.now actor.old actor.new }
+    ensures { Stays V.takes V.refuses V.is_ready result rest.now actor.old actor.new }
 {
     let mut at = 0;
     while rest.len() - at >= 3 {
@@ -227,7 +227,7 @@ fn print_threes<V: VTActor>(rest: &[u8], actor: &mut V) -> Result<usize>
 fn print_two<V: VTActor>(rest: &[u8], actor: &mut V) -> Result<usize>
     requires some { 4 ≤ length rest.now }
     requires ready { V.is_ready actor.old }
-    ensures { Stays false V.takes V.refuses V.is_ready result rest.now actor.old actor.new }
+    ensures { Stays V.takes V.refuses V.is_ready result rest.now actor.old actor.new }
 {
     if rest[0] < 0x80 {
         return print_near(rest, actor);
@@ -241,7 +241,7 @@ fn print_two<V: VTActor>(rest: &[u8], actor: &mut V) -> Result<usize>
 fn print_near<V: VTActor>(rest: &[u8], actor: &mut V) -> Result<usize>
     requires some { 4 ≤ length rest.now }
     requires ready { V.is_ready actor.old }
-    ensures { Stays false V.takes V.refuses V.is_ready result rest.now actor.old actor.new }
+    ensures { Stays V.takes V.refuses V.is_ready result rest.now actor.old actor.new }
 {
     if rest[3] < 0x80 {
         Ok(0)
@@ -255,7 +255,7 @@ fn print_near<V: VTActor>(rest: &[u8], actor: &mut V) -> Result<usize>
 fn print_three<V: VTActor>(rest: &[u8], actor: &mut V) -> Result<usize>
     requires some { 3 ≤ length rest.now }
     requires ready { V.is_ready actor.old }
-    ensures { Stays false V.takes V.refuses V.is_ready result rest.now actor.old actor.new }
+    ensures { Stays V.takes V.refuses V.is_ready result rest.now actor.old actor.new }
 {
     let (n, c) = of_three(rest[0], rest[1], rest[2]);
     print_ahead(rest, n, c, actor)
@@ -265,7 +265,7 @@ fn print_three<V: VTActor>(rest: &[u8], actor: &mut V) -> Result<usize>
 fn print_ahead<V: VTActor>(rest: &[u8], n: usize, c: char, actor: &mut V) -> Result<usize>
     requires ahead { IsAhead rest.now n c }
     requires ready { V.is_ready actor.old }
-    ensures { Stays false V.takes V.refuses V.is_ready result rest.now actor.old actor.new }
+    ensures { Stays V.takes V.refuses V.is_ready result rest.now actor.old actor.new }
 {
     if n == 0 {
         return Ok(0);
@@ -281,7 +281,7 @@ fn print_ahead<V: VTActor>(rest: &[u8], n: usize, c: char, actor: &mut V) -> Res
 fn print_lone<V: VTActor>(rest: &[u8], actor: &mut V) -> Result<usize>
     requires some { 1 ≤ length rest.now }
     requires ready { V.is_ready actor.old }
-    ensures { Stays false V.takes V.refuses V.is_ready result rest.now actor.old actor.new }
+    ensures { Stays V.takes V.refuses V.is_ready result rest.now actor.old actor.new }
 {
     if rest[0] < 0x20 || rest[0] > 0x7f {
         return Ok(0);
@@ -298,7 +298,7 @@ fn print_text<V: VTActor>(rest: &[u8], actor: &mut V) -> Result<usize>
     requires low { 0x20 ≤ slice_index rest.now 0 }
     requires high { slice_index rest.now 0 < 0x80 }
     requires ready { V.is_ready actor.old }
-    ensures { Stays false V.takes V.refuses V.is_ready result rest.now actor.old actor.new }
+    ensures { Stays V.takes V.refuses V.is_ready result rest.now actor.old actor.new }
 {
     let run = ascii_run(rest);
     match actor.print_text(&rest[..run]) {

@@ -1,7 +1,7 @@
 //! Sequences of UTF-8 that have begun.
 #![tactic(auto)]
 
-ghost use Rattle.std.specs.Prelude.{◌≡◌, ◌++◌, ℕ, List, [], ◌∷◌, ◌-◌, ◌*◌, ◌+◌, ◌≤◌, if◌then◌else◌, true, OnOk, ◌<◌, false, length};
+ghost use Rattle.std.specs.Prelude.{◌≡◌, ◌++◌, ℕ, List, [], ◌∷◌, ◌-◌, ◌*◌, ◌+◌, ◌≤◌, if◌then◌else◌, true, OnOk, OnErr, ◌<◌, false, length};
 ghost use Rattle.esc_frame.specs.Sequences.{is_from, is_second, is_sequence, is_front, is_pair, outcome, number_of};
 ghost use Rattle.esc_frame.specs.Machine.Characters.{IsAhead, IsCharacter, NoneAhead};
 ghost use Rattle.esc_frame.specs.Machine.Fronts.{front_of};
@@ -129,6 +129,7 @@ impl Pending {
     /// Appends prefix and byte to the text.
     pub fn put<K: Store>(self, limit: Option<usize>, text: &mut K, b: u8) -> Result<(), AllocError>
         ensures ok { (t : List ℕ) → K.keeps limit text.old t → OnOk result (K.keeps limit text.new (t ++ (front_of self ++ b ∷ []))) }
+        ensures refused { OnErr result K.denied }
     {
         match self {
             Pending::Nothing => text.push(limit, &[b]),

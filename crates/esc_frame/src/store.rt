@@ -1,16 +1,20 @@
 //! Where a machine keeps the text of an unfinished string.
 #![tactic(auto)]
 
-ghost use Rattle.std.specs.Prelude.{◌≡◌, ◌++◌, ℕ, List, [], Option, OnOk, true, false, not, length};
+ghost use Rattle.std.specs.Prelude.{◌≡◌, ◌++◌, ℕ, List, [], Option, OnOk, OnErr, true, false, not, length};
 ghost use Rattle.esc_frame.specs.Limits.{is_within};
 ghost use Rattle.esc_frame.specs.Segments.{is_empty};
 
 use std::alloc::AllocError;
 
-/// Keeps the text of an unfinished string, as far as a limit allows. A store says by `keeps` what it keeps.
+/// Keeps the text of an unfinished string, as far as a limit allows. A store says by `keeps` what it keeps, and by `denied`
+/// why it may fail.
 pub trait Store: Drop {
     // this text is kept, each byte of which counts; or nothing, where it is past the limit
     ghost keeps: { Option ℕ → Self → List ℕ → Type 0 };
+
+    // a request for memory was refused to it
+    ghost denied: { Type 0 };
 
     /// Begins anew.
     fn clear(&mut self)
@@ -31,5 +35,6 @@ pub trait Store: Drop {
 
     /// Takes text more, each byte of which counts.
     fn push(&mut self, limit: Option<usize>, text: &[u8]) -> Result<(), AllocError>
-        ensures { (t : List ℕ) → keeps limit self.old t → OnOk result (keeps limit self.new (t ++ text.now)) };
+        ensures ok { (t : List ℕ) → keeps limit self.old t → OnOk result (keeps limit self.new (t ++ text.now)) }
+        ensures refused { OnErr result denied };
 }

@@ -1,4 +1,4 @@
-use Rattle.std.proofs.Common.{◌≡◌, ◌<◌, ℕ, Bool, true, false, List, [], ◌∷◌, ◌==◌, length, map}
+use Rattle.std.proofs.Common.{◌≡◌, ◌<◌, ℕ, true, false, List, [], ◌∷◌, ◌==◌, length, map}
 use Rattle.std.proofs.Common.{Result, refl, ap, sym, ◌∙◌, subst, arith}
 use Rattle.std.specs.List.{slice_split}
 use Rattle.std.proofs.lemmas.Bool.Decides.{nat_tests}
@@ -6,6 +6,7 @@ use Rattle.esc_values.specs.Clear.{parts_of}
 use Rattle.esc_frame.specs.Events.{Event, Hears, Takes}
 use Rattle.esc_frame.specs.Events.Event.{OscDispatch}
 use Rattle.esc_frame.specs.Limits.{has_few_parts}
+use Rattle.memory.specs.Refusals.{Refused}
 use Rattle.esc_frame.proofs.Given.{hears_takes, stops_here}
 use Rattle.esc_frame.proofs.actor.VTActor.osc_text.Goals as goal
 
@@ -22,7 +23,7 @@ not_few : (t : List ℕ) → (length t == 0) ≡ false → 16 < length (slice_sp
 not_few t e many few =
     let same = ap length (some_parts t e) in absurd (grind (arith, nat_tests))
 
-told : {S E : Type 0} (own : Bool) (takes refuses : S → Event → S → Type 0)
+told : {S E : Type 0} (own : Type 0) (takes refuses : S → Event → S → Type 0)
     (result : Result (Unit {0}) E) (old new : S) (ps : List (List ℕ)) (t : List ℕ)
     → ps ≡ parts_of t → Hears takes refuses result old (OscDispatch ps) new
     → Takes own takes refuses result old (OscDispatch (parts_of t) ∷ []) new
@@ -32,19 +33,19 @@ told own takes refuses result old new ps t e h =
 
 pub returns-then-is_empty-clause-told : goal.returns-then-is_empty-clause-told
 returns-then-is_empty-clause-told g c =
-    told true g.Self.VTActor.takes g.Self.VTActor.refuses c.osc_dispatch.result c.args.self.now _
+    told (Refused g.row.A.Denot) g.Self.VTActor.takes g.Self.VTActor.refuses c.osc_dispatch.result c.args.self.now _
     [] c.args.text.now (no_parts c.args.text.now (sym c.is_empty.ensures ∙ c.if-is_empty.true))
     c.osc_dispatch.ensures.hears
 
 pub returns-then-is_empty-clause-few : goal.returns-then-is_empty-clause-few
 returns-then-is_empty-clause-few g c = λ few.
-    told false g.Self.VTActor.takes g.Self.VTActor.refuses c.osc_dispatch.result c.args.self.now _
+    told ⊥ g.Self.VTActor.takes g.Self.VTActor.refuses c.osc_dispatch.result c.args.self.now _
     [] c.args.text.now (no_parts c.args.text.now (sym c.is_empty.ensures ∙ c.if-is_empty.true))
     c.osc_dispatch.ensures.hears
 
 pub returns-then-parts-gt0-clause-told : goal.returns-then-parts-gt0-clause-told
 returns-then-parts-gt0-clause-told g c =
-    told true g.Self.VTActor.takes g.Self.VTActor.refuses c.osc_dispatch-then-parts-gt0.result
+    told (Refused g.row.A.Denot) g.Self.VTActor.takes g.Self.VTActor.refuses c.osc_dispatch-then-parts-gt0.result
     c.args.self.now _ (map (λ p. p.now) c.as_slice.result.now) c.args.text.now
     (ap (map (λ p. p.now)) c.as_slice.ensures ∙ c.of-parts.ensures.shown c.if-parts-gt0.true
     ∙ some_parts c.args.text.now (sym c.is_empty.ensures ∙ c.if-is_empty.false))
@@ -52,7 +53,7 @@ returns-then-parts-gt0-clause-told g c =
 
 pub returns-then-parts-gt0-clause-few : goal.returns-then-parts-gt0-clause-few
 returns-then-parts-gt0-clause-few g c = λ few.
-    told false g.Self.VTActor.takes g.Self.VTActor.refuses c.osc_dispatch-then-parts-gt0.result
+    told ⊥ g.Self.VTActor.takes g.Self.VTActor.refuses c.osc_dispatch-then-parts-gt0.result
     c.args.self.now _ (map (λ p. p.now) c.as_slice.result.now) c.args.text.now
     (ap (map (λ p. p.now)) c.as_slice.ensures ∙ c.of-parts.ensures.shown c.if-parts-gt0.true
     ∙ some_parts c.args.text.now (sym c.is_empty.ensures ∙ c.if-is_empty.false))
@@ -60,22 +61,22 @@ returns-then-parts-gt0-clause-few g c = λ few.
 
 pub returns-in-Ok-clause-told : goal.returns-in-Ok-clause-told
 returns-in-Ok-clause-told g c =
-    told true g.Self.VTActor.takes g.Self.VTActor.refuses c.osc_dispatch-in-Ok.result
+    told (Refused g.row.A.Denot) g.Self.VTActor.takes g.Self.VTActor.refuses c.osc_dispatch-in-Ok.result
     c.args.self.now _ (map (λ p. p.now) c.deref.result.now) c.args.text.now
-    (ap (map (λ p. p.now)) c.deref.ensures.value ∙ c.in-Ok.ensures)
+    (ap (map (λ p. p.now)) c.deref.ensures.value ∙ c.in-Ok.ensures.ok)
     c.osc_dispatch-in-Ok.ensures.hears
 
 pub returns-in-Ok-clause-few : goal.returns-in-Ok-clause-few
 returns-in-Ok-clause-few g c = λ few.
-    told false g.Self.VTActor.takes g.Self.VTActor.refuses c.osc_dispatch-in-Ok.result
+    told ⊥ g.Self.VTActor.takes g.Self.VTActor.refuses c.osc_dispatch-in-Ok.result
     c.args.self.now _ (map (λ p. p.now) c.deref.result.now) c.args.text.now
-    (ap (map (λ p. p.now)) c.deref.ensures.value ∙ c.in-Ok.ensures)
+    (ap (map (λ p. p.now)) c.deref.ensures.value ∙ c.in-Ok.ensures.ok)
     c.osc_dispatch-in-Ok.ensures.hears
 
 pub returns-in-Err-clause-told : goal.returns-in-Err-clause-told
 returns-in-Err-clause-told g c =
-    stops_here (true ≡ true) g.Self.VTActor.takes g.Self.VTActor.refuses
-    (OscDispatch (parts_of c.args.text.now) ∷ []) c.args.self.now refl
+    stops_here (Refused g.row.A.Denot) g.Self.VTActor.takes g.Self.VTActor.refuses
+    (OscDispatch (parts_of c.args.text.now) ∷ []) c.args.self.now c.in-Err.ensures.refused
 
 pub returns-in-Err-clause-few : goal.returns-in-Err-clause-few
 returns-in-Err-clause-few g c = λ few.

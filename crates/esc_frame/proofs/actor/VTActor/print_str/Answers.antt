@@ -1,4 +1,4 @@
-use Rattle.std.proofs.Common.{◌≡◌, false, true, map, subst, arith}
+use Rattle.std.proofs.Common.{map, subst, arith}
 use Rattle.std.specs.List.{FoldsTo}
 use Rattle.std.specs.Str.{chars}
 use Rattle.esc_frame.specs.Events.Event.{Print}
@@ -19,7 +19,7 @@ returns-in-Err-clause-told g c =
     c.as_bytes-bytes.result.now _ c.as_bytes-bytes.ensures.value c.loop-at.at _ _ c.args.self.now _
     _ c.loop-at.invariant
     (tail_next c.as_bytes-bytes.result.now c.loop-at.at _ _ c.first_of-c.ensures.next)
-    (false ≡ true) c.in-Err.ensures.hears
+    ⊥ c.in-Err.ensures.hears
 
 pub returns-clause-told : goal.returns-clause-told
 returns-clause-told g c =

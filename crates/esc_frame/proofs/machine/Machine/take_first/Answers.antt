@@ -1,9 +1,9 @@
-use Rattle.std.proofs.Common.{◌≡◌, ◌<◌, true, false, None, sym, subst, rules, take}
+use Rattle.std.proofs.Common.{◌≡◌, ◌<◌, None, sym, subst, rules, take}
 use Rattle.std.specs.List.{FoldsTo}
 use Rattle.esc_frame.specs.Leads.{Holds}
 use Rattle.esc_frame.specs.Leads.Unfinished.{Ground}
 use Rattle.esc_frame.specs.Machine.Calls.{TookSome}
-use Rattle.esc_frame.specs.Machine.Moves.{news_all, may_grow_within}
+use Rattle.esc_frame.specs.Machine.Moves.{news_all}
 use Rattle.esc_frame.proofs.Given.{stops_for}
 use Rattle.esc_frame.proofs.Lends.{ground_fresh}
 use Rattle.esc_frame.proofs.machine.Machine.take_first.Goals as goal
@@ -14,7 +14,7 @@ returns-in-Ok-eq0 g c =
     let same : c.args.actor.now ≡ c.print_first.new.actor =
     subst (λ k. FoldsTo g.V.VTActor.takes c.args.actor.now (news_all None Ground (take k c.args.rest.now)) c.print_first.new.actor) none
     (c.in-Ok-eq0.ensures.stays.2 None) in
-    subst (λ a. TookSome g.K.Store.keeps c.args.limit g.V.VTActor.takes g.V.VTActor.refuses g.V.VTActor.is_ready c.take_control.result c.args.rest.now
+    subst (λ a. TookSome g.K.Store.keeps g.K.Store.denied c.args.limit g.V.VTActor.takes g.V.VTActor.refuses g.V.VTActor.is_ready c.take_control.result c.args.rest.now
     c.take_control.new.self
     a c.take_control.new.actor)
     (sym same) c.take_control.ensures
@@ -35,7 +35,7 @@ returns-in-Ok g c =
 
 pub returns-in-Err : goal.returns-in-Err
 returns-in-Err g c = (
-  stops_for (false ≡ true) (may_grow_within Ground c.args.rest.now ≡ true) g.V.VTActor.takes g.V.VTActor.refuses _ c.args.actor.now _ (λ no. absurd cc)
+  stops_for ⊥ _ g.V.VTActor.takes g.V.VTActor.refuses _ c.args.actor.now _ (λ no. absurd no)
       (c.in-Err.ensures.stays c.args.limit),
   tt,
   tt,

@@ -1,6 +1,7 @@
-use Rattle.std.proofs.Common.{◌≡◌, false, true, refl, sym, subst, take}
+use Rattle.std.proofs.Common.{◌≡◌, true, refl, sym, subst, take}
 use Rattle.std.specs.List.{FoldsTo}
 use Rattle.esc_frame.specs.Events.{StopsAt}
+use Rattle.esc_frame.specs.Machine.Calls.{NoMemory}
 use Rattle.esc_frame.specs.Machine.Moves.{may_grow_within}
 use Rattle.esc_frame.specs.Scans.{is_data_byte}
 use Rattle.esc_frame.proofs.Given.{stops_for}
@@ -25,10 +26,10 @@ pub returns-in-Err-clause-took : goal.returns-in-Err-clause-took
 returns-in-Err-clause-took g c = λ u h.
     let q = data_holds g.K.Store.keeps c.args.limit c.args.self.now (take c.data_run-run.result c.args.rest.now)
     (all_pass is_data_byte c.args.rest.now c.data_run-run.result c.data_run-run.ensures.run) u c.requires.state h in
-    let own = may_grow_within u c.args.rest.now ≡ true in
+    let own : Type 0 = (may_grow_within u c.args.rest.now ≡ true) × NoMemory g.K.Store.denied g.row.A.Denot in
     stop_within c.args.limit own g.V.VTActor.takes g.V.VTActor.refuses u c.args.rest.now c.data_run-run.result c.args.actor.now c.dcs_put_text.new.self
-    (stops_for (false ≡ true) own g.V.VTActor.takes g.V.VTActor.refuses _ c.args.actor.now c.dcs_put_text.new.self (λ no. absurd cc)
-    (subst (λ es. StopsAt (false ≡ true) g.V.VTActor.takes g.V.VTActor.refuses c.args.actor.now es c.dcs_put_text.new.self) (sym q.1) c.in-Err.ensures.told))
+    (stops_for ⊥ own g.V.VTActor.takes g.V.VTActor.refuses _ c.args.actor.now c.dcs_put_text.new.self (λ no. absurd no)
+    (subst (λ es. StopsAt ⊥ g.V.VTActor.takes g.V.VTActor.refuses c.args.actor.now es c.dcs_put_text.new.self) (sym q.1) c.in-Err.ensures.told))
 
 pub take_one-requires-clause-between : goal.take_one-requires-clause-between
 take_one-requires-clause-between g c = rw c.requires.state refl

@@ -3,7 +3,7 @@ use Rattle.std.specs.List.{FoldsTo}
 use Rattle.esc_frame.specs.Events.{StopsAt}
 use Rattle.esc_frame.specs.Leads.{Holds}
 use Rattle.esc_frame.specs.Leads.Unfinished.{InEscape}
-use Rattle.esc_frame.specs.Machine.Calls.{StaysFresh}
+use Rattle.esc_frame.specs.Machine.Calls.{NoMemory, StaysFresh}
 use Rattle.esc_frame.specs.Machine.Moves.{after_all, news_all, may_grow_within}
 use Rattle.esc_frame.proofs.Lends.{one_fresh, one_unlent}
 use Rattle.esc_frame.proofs.QuietRuns.{quiet_took, quiet_stops}
@@ -23,7 +23,7 @@ returns-in-Ok-clause-took g c = λ u h.
 pub returns-in-Err-clause-took : goal.returns-in-Err-clause-took
 returns-in-Err-clause-took g c = λ u h.
     escape_only g.K.Store.keeps c.args.limit c.args.self.now u c.requires.state h
-    (λ v. StopsAt (may_grow_within v c.args.rest.now ≡ true) g.V.VTActor.takes g.V.VTActor.refuses c.args.actor.now
+    (λ v. StopsAt ((may_grow_within v c.args.rest.now ≡ true) × NoMemory g.K.Store.denied g.row.A.Denot) g.V.VTActor.takes g.V.VTActor.refuses c.args.actor.now
     (news_all c.args.limit v c.args.rest.now)
     c.in_escape.new.actor)
     (λ x k. quiet_stops c.args.limit g.V.VTActor.takes g.V.VTActor.refuses (InEscape x) (InEscape x) c.args.rest.now 0 _ c.args.actor.now _ (refl, refl)

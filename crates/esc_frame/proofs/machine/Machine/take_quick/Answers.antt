@@ -1,7 +1,5 @@
 use Rattle.std.proofs.Common.{◌≡◌, rules}
-use Rattle.esc_frame.specs.Leads.Unfinished.{Ground}
-use Rattle.esc_frame.proofs.Lends.{ground_fresh}
-use Rattle.esc_frame.proofs.ManyBytes.{ran_again, ran_none, ran_ends}
+use Rattle.esc_frame.proofs.ManyBytes.{ran_again, ran_none, ran_refused}
 use Rattle.esc_frame.proofs.machine.Machine.take_quick.Goals as goal
 
 pub loop-at-preserved : goal.loop-at-preserved
@@ -13,10 +11,8 @@ loop-at-preserved g c = (
 
 pub returns-in-Err-clause-stays : goal.returns-in-Err-clause-stays
 returns-in-Err-clause-stays g c =
-    let so = c.loop-at.invariant.0 in
-    λ limit. ran_ends limit g.V.VTActor.takes g.V.VTActor.refuses Ground Ground c.args.rest.now c.loop-at.at c.args.actor.now _ _ so.1 (so.2 limit)
-    (ground_fresh Ground c.args.rest.now c.loop-at.at so.1)
-    (c.in-Err.ensures.stays limit)
+    ran_refused g.V.VTActor.takes g.V.VTActor.refuses g.V.VTActor.is_ready c.args.rest.now c.loop-at.at c.args.actor.now
+    _ _ c.loop-at.invariant.0 c.in-Err.ensures.stays
 
 pub returns-in-Ok-eq0-clause-stays : goal.returns-in-Ok-eq0-clause-stays
 returns-in-Ok-eq0-clause-stays g c =

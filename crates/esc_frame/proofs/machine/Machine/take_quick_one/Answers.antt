@@ -1,16 +1,10 @@
-use Rattle.std.proofs.Common.{false}
-use Rattle.esc_frame.proofs.ManyBytes.{stays_for}
 use Rattle.esc_frame.proofs.machine.Machine.take_quick_one.Goals as goal
 
 pub returns-then-rest-ge32-clause-stays : goal.returns-then-rest-ge32-clause-stays
-returns-then-rest-ge32-clause-stays g c =
-    stays_for false _ g.V.VTActor.takes g.V.VTActor.refuses g.V.VTActor.is_ready c.print_one.result c.args.rest.now c.args.actor.now _ (λ no. absurd cc)
-    c.print_one.ensures
+returns-then-rest-ge32-clause-stays g c = c.print_one.ensures
 
 pub returns-else-rest-eq27-clause-stays : goal.returns-else-rest-eq27-clause-stays
-returns-else-rest-eq27-clause-stays g c =
-    stays_for false _ g.V.VTActor.takes g.V.VTActor.refuses g.V.VTActor.is_ready c.execute_one.result c.args.rest.now c.args.actor.now _ (λ no. absurd cc)
-    c.execute_one.ensures
+returns-else-rest-eq27-clause-stays g c = c.execute_one.ensures
 
 pub returns-then-rest-eq27-clause-ground : goal.returns-then-rest-eq27-clause-ground
 returns-then-rest-eq27-clause-ground g c = c.take_quick_csi.ensures.ground

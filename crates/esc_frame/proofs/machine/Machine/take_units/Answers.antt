@@ -1,8 +1,8 @@
-use Rattle.std.proofs.Common.{refl}
+use Rattle.std.proofs.Common.{refl, inl}
 use Rattle.esc_frame.specs.Leads.Unfinished.{InOsc}
 use Rattle.esc_frame.proofs.QuietRuns.{own_stops}
 use Rattle.esc_frame.proofs.machine.Machine.take_units.Goals as goal
 
 pub returns-in-Err-clause-took : goal.returns-in-Err-clause-took
 returns-in-Err-clause-took g c = λ o ps k not_lent. own_stops c.args.limit g.V.VTActor.takes g.V.VTActor.refuses (InOsc o ps) c.args.rest.now c.args.actor.now
-    c.requires.some refl not_lent
+    c.requires.some refl not_lent (inl c.in-Err.ensures.refused)
