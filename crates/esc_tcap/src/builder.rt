@@ -1,6 +1,7 @@
 //! How a termcap query is read, byte by byte.
-ghost use Rattle.std.specs.Prelude.{◌≡◌, ◌<◌, length, ◌++◌, ◌∷◌, [], ℕ, List, OnOk, OnErr, IfOk, map, ◌==◌};
+ghost use Rattle.std.specs.Prelude.{◌≡◌, ◌<◌, length, ◌++◌, ◌∷◌, [], ℕ, List, OnOk, OnErr, IfOk, is_ok, if◌then◌else◌, map, ◌==◌};
 ghost use Rattle.std.specs.List.{FoldsTo, slice_split};
+ghost use Rattle.memory.specs.Refusals.{Refused};
 ghost use Rattle.esc_tcap.specs.Names.{LeadsTo, Pushes, names_of, name_of};
 
 use crate::name::read_name;
@@ -35,6 +36,7 @@ impl<A: Allocator + Copy> GetTcapBuilder<A> {
     pub fn push(&mut self, byte: u8) -> Result<(), AllocError>
         ensures ok { (s : List ℕ) → LeadsTo s self.old → OnOk result (LeadsTo (s ++ byte ∷ []) self.new) }
         ensures err { OnErr result (self.new ≡ self.old) }
+        ensures refused { OnErr result (Refused A) }
     {
         self.bytes.push(byte)
     }
@@ -46,10 +48,11 @@ impl<A: Allocator + Copy> GetTcapBuilder<A> {
         ensures each { OnOk result (FoldsTo Pushes self.old bytes.now self.new) }
         ensures ok { (s : List ℕ) → LeadsTo s self.old → OnOk result (LeadsTo (s ++ bytes.now) self.new) }
         ensures err { OnErr result ((0 < length bytes.now) × (self.new ≡ self.old)) }
+        ensures refused { OnErr result (Refused A) }
     {
         let empty = Items::new(self.alloc);
         let mut all = mem::replace(&mut self.bytes, empty).into_vec();
-        let result = all.extend_from_slice(bytes);
+        let result = extend(&mut all, bytes);
         self.bytes = Items::from_vec(all);
         result
     }
@@ -57,7 +60,8 @@ impl<A: Allocator + Copy> GetTcapBuilder<A> {
     /// The names that all bytes mean, at least one. The error is that memory was refused; then nothing is handed back.
     #[tactic(auto, unfolding(crate::specs::Names::LeadsTo))]
     pub fn finish(self) -> Result<Items<Text<A>, A>, AllocError>
-        ensures { (s : List ℕ) → LeadsTo s self → IfOk result (λ ns. ns ≡ names_of s) }
+        ensures ok { (s : List ℕ) → LeadsTo s self → IfOk result (λ ns. ns ≡ names_of s) }
+        ensures refused { OnErr result (Refused A) }
     {
         let GetTcapBuilder { alloc, bytes } = self;
         let pieces = split_at_separators(alloc, bytes.as_slice())?;
@@ -65,11 +69,26 @@ impl<A: Allocator + Copy> GetTcapBuilder<A> {
     }
 }
 
+// Appends bytes. Of none it takes no memory.
+fn extend<A: Allocator>(all: &mut Vec<u8, A>, bytes: &[u8]) -> Result<(), AllocError>
+    ensures items { all.new.items
+        ≡ (if is_ok result then all.old.items ++ bytes.now else all.old.items) }
+    ensures some { OnErr result (0 < length bytes.now) }
+    ensures refused { OnErr result (Refused A) }
+{
+    if bytes.is_empty() {
+        return Ok(());
+    }
+    memory::extend(all, bytes)
+}
+
 // The pieces between `;`.
 fn split_at_separators<A: Allocator>(alloc: A, bytes: &[u8]) -> Result<Vec<&[u8], A>, AllocError>
-    ensures { IfOk result (λ v. map (λ p. p.now) v.items ≡ slice_split (λ c. c == 0x3b) bytes.now) }
+    ensures ok { IfOk result (λ v.
+        map (λ p. p.now) v.items ≡ slice_split (λ c. c == 0x3b) bytes.now) }
+    ensures refused { OnErr result (Refused A) }
 {
-    bytes.split(|b| *b == b';').collect(alloc)
+    memory::collect(alloc, bytes.split(|b| *b == b';'))
 }
 
 // What each piece means.
@@ -77,11 +96,13 @@ fn read_names<A: Allocator + Copy>(
     alloc: A,
     pieces: &[&[u8]],
 ) -> Result<Items<Text<A>, A>, AllocError>
-    ensures { IfOk result (λ ns. ns ≡ map name_of (map (λ p. p.now) pieces.now)) }
+    ensures ok { IfOk result (λ ns. ns ≡ map name_of (map (λ p. p.now) pieces.now)) }
+    ensures refused { OnErr result (Refused A) }
 {
     let mut names = Vec::new(alloc);
     for piece in pieces {
-        names.push(read_name(alloc, piece)?)?;
+        let name = read_name(alloc, piece)?;
+        memory::push(&mut names, name)?;
     }
     Ok(Items::from_vec(names))
 }

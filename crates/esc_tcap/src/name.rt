@@ -1,7 +1,8 @@
 //! How the name of a capability is read and written.
-ghost use Rattle.std.specs.Prelude.{◌≡◌, Some, IfOk};
+ghost use Rattle.std.specs.Prelude.{◌≡◌, Some, IfOk, OnErr};
 ghost use Rattle.std.specs.Fmt.{DisplaysOnOk};
 ghost use Rattle.std.specs.Str.Lossy.{utf8_lossy};
+ghost use Rattle.memory.specs.Refusals.{Refused};
 ghost use Rattle.esc_tcap.specs.Names.{name_of, hex_text, two_digits};
 
 use esc_values::Text;
@@ -12,9 +13,10 @@ use std::fmt::Display;
 
 // The name that a piece of the data means.
 pub(crate) fn read_name<A: Allocator + Copy>(alloc: A, piece: &[u8]) -> Result<Text<A>, AllocError>
-    ensures { IfOk result (λ t. t ≡ name_of piece.now) }
+    ensures ok { IfOk result (λ t. t ≡ name_of piece.now) }
+    ensures refused { OnErr result (Refused A) }
 {
-    match hex::decode(alloc, piece) {
+    match memory::decode_hex(alloc, piece) {
         Ok(bytes) => into_lossy(alloc, bytes),
         Err(FromHexError::OutOfMemory) => Err(AllocError),
         Err(FromHexError::InvalidHexCharacter { c: _, index: _ }) => lossy(alloc, piece),
@@ -25,7 +27,8 @@ pub(crate) fn read_name<A: Allocator + Copy>(alloc: A, piece: &[u8]) -> Result<T
 
 // The text of these bytes, with U+FFFD where they are not UTF-8. They are copied only then.
 fn into_lossy<A: Allocator>(alloc: A, bytes: Vec<u8, A>) -> Result<Text<A>, AllocError>
-    ensures { IfOk result (λ t. t ≡ utf8_lossy bytes.items) }
+    ensures ok { IfOk result (λ t. t ≡ utf8_lossy bytes.items) }
+    ensures refused { OnErr result (Refused A) }
 {
     match String::from_utf8(bytes) {
         Ok(string) => Ok(Text::from_string(string)),
@@ -35,9 +38,10 @@ fn into_lossy<A: Allocator>(alloc: A, bytes: Vec<u8, A>) -> Result<Text<A>, Allo
 
 // The text of these bytes, with U+FFFD where they are not UTF-8.
 fn lossy<A: Allocator>(alloc: A, bytes: &[u8]) -> Result<Text<A>, AllocError>
-    ensures { IfOk result (λ t. t ≡ utf8_lossy bytes.now) }
+    ensures ok { IfOk result (λ t. t ≡ utf8_lossy bytes.now) }
+    ensures refused { OnErr result (Refused A) }
 {
-    Ok(Text::from_string(String::from_utf8_lossy(alloc, bytes)?))
+    Ok(Text::from_string(memory::lossy(alloc, bytes)?))
 }
 
 // A name, written as the hexadecimal digits of its bytes.
