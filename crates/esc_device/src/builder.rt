@@ -1,6 +1,7 @@
 //! How a short device control is read, byte by byte.
 ghost use Rattle.std.specs.Prelude.{◌≡◌, ◌<◌, ◌++◌, ◌∷◌, [], ℕ, ℤ, List, IfOk, OnOk, OnErr, length, take};
 ghost use Rattle.std.specs.List.{FoldsTo};
+ghost use Rattle.memory.specs.Refusals.{Refused};
 ghost use Rattle.esc_device.specs.Leads.{LeadsShort, Pushes};
 ghost use Rattle.esc_device.specs.Values.{short_of};
 
@@ -24,7 +25,8 @@ impl<A: Allocator + Copy> ShortBuilder<A> {
         intermediates: &[u8],
         byte: u8,
     ) -> Result<ShortBuilder<A>, AllocError>
-        ensures { IfOk result (λ b. LeadsShort params.now intermediates.now byte [] b) }
+        ensures ok { IfOk result (λ b. LeadsShort params.now intermediates.now byte [] b) }
+        ensures refused { OnErr result (Refused A) }
     {
         Ok(ShortBuilder {
             short: ShortDeviceControl {
@@ -44,6 +46,7 @@ impl<A: Allocator> ShortBuilder<A> {
         ensures ok { (ps : List ℤ) (is : List ℕ) (f : ℕ) (d : List ℕ) → LeadsShort ps is f d self.old
             → OnOk result (LeadsShort ps is f (d ++ byte ∷ []) self.new) }
         ensures err { OnErr result (self.new ≡ self.old) }
+        ensures refused { OnErr result (Refused A) }
     {
         self.short.content.push(byte)
     }
@@ -56,6 +59,7 @@ impl<A: Allocator> ShortBuilder<A> {
             → OnOk result (LeadsShort ps is f (d ++ bytes.now) self.new) }
         ensures err { (ps : List ℤ) (is : List ℕ) (f : ℕ) (d : List ℕ) → LeadsShort ps is f d self.old
             → OnErr result ((n : ℕ) × (n < length bytes.now) × LeadsShort ps is f (d ++ take n bytes.now) self.new) }
+        ensures refused { OnErr result (Refused A) }
     {
         for byte in bytes {
             self.push(*byte)?;

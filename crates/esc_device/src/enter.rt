@@ -1,5 +1,6 @@
 //! Modes that a device control string enters.
-ghost use Rattle.std.specs.Prelude.{◌≡◌, IfOk, Some};
+ghost use Rattle.std.specs.Prelude.{◌≡◌, IfOk, OnErr, Some};
+ghost use Rattle.memory.specs.Refusals.{Refused};
 ghost use Rattle.esc_device.specs.Texts.{enter_text};
 ghost use Rattle.esc_device.specs.Values.{enter_of};
 
@@ -35,7 +36,9 @@ impl<A: Allocator + Copy> EnterDeviceControlMode<A> {
         intermediates: &[u8],
         ignored_extra_intermediates: bool,
     ) -> Result<EnterDeviceControlMode<A>, AllocError>
-        ensures { IfOk result (λ e. e ≡ enter_of byte params.now intermediates.now ignored_extra_intermediates) }
+        ensures ok { IfOk result (λ e.
+            e ≡ enter_of byte params.now intermediates.now ignored_extra_intermediates) }
+        ensures refused { OnErr result (Refused A) }
     {
         Ok(EnterDeviceControlMode {
             byte,
