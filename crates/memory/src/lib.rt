@@ -13,6 +13,8 @@ mod lists;
 mod others;
 mod texts;
 
-pub use lists::{boxed, collect, copied, extend, push, reserve, reserve_for};
+pub use lists::{
+    READ_BUFFER, boxed, collect, copied, extend, push, read_buffer, reserve, reserve_for,
+};
 pub use others::{decode_base64, decode_hex, insert};
 pub use texts::{lossy, push_char, push_display, push_str, text};

@@ -7,6 +7,9 @@ ghost use Rattle.memory.specs.Refusals.{Refused};
 use crate::answered::answered;
 use std::alloc::{AllocError, AllocFailed, Allocator};
 
+/// How many bytes one read takes at most.
+pub const READ_BUFFER: usize = 65_536;
+
 /// Appends a value, or hands it back.
 #[inline(always)]
 pub fn push<T, A: Allocator>(vec: &mut Vec<T, A>, value: T) -> Result<(), AllocFailed<T>>
@@ -52,6 +55,15 @@ pub fn reserve_for<T, U, A: Allocator>(
     ensures refused { OnErr result (Refused A) }
 {
     answered::<_, _, A>(vec.reserve(like.len().saturating_add(others)))
+}
+
+/// Zeros to read into: as many as one read takes at most.
+#[inline(always)]
+pub fn read_buffer<A: Allocator>(alloc: A) -> Result<Vec<u8, A>, AllocError>
+    ensures len { IfOk result (λ v. length v.items ≡ READ_BUFFER) }
+    ensures refused { OnErr result (Refused A) }
+{
+    answered::<_, _, A>(vec![in alloc; 0u8; READ_BUFFER])
 }
 
 /// A copy of a slice.
