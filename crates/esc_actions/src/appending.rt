@@ -1,6 +1,7 @@
 //! Lists of actions that grow at their end.
 ghost use Rattle.std.specs.Prelude.{◌≡◌, ◌++◌, ◌∷◌, [], IfErr, IfOk, Ok, OnErr, OnOk, false, map, true};
 ghost use Rattle.std.specs.Char.{encode_utf8};
+ghost use Rattle.memory.specs.Refusals.{Refused};
 ghost use Rattle.esc_actions.specs.Appending.{appended, ends_in_characters, is_characters, joined};
 ghost use Rattle.esc_actions.specs.Values.{print, value_of};
 
@@ -18,6 +19,7 @@ impl<A: Allocator + Copy> Action<A> {
     pub fn append_to(self, dest: &mut Vec<Action<A>, A>) -> Result<(), Action<A>>
         ensures appended { OnOk result (map value_of dest.new.items ≡ appended (map value_of dest.old.items) (value_of self)) }
         ensures refused { IfErr result (λ a. (a ≡ self) × (dest.new.items ≡ dest.old.items)) }
+        ensures memory_refused { OnErr result (Refused A) }
     {
         if let Action::Print(c) = &self {
             match join_last(dest, *c) {
@@ -26,7 +28,7 @@ impl<A: Allocator + Copy> Action<A> {
                 Err(_) => return Err(self),
             }
         }
-        match dest.push(self) {
+        match memory::push(dest, self) {
             Ok(()) => Ok(()),
             Err(refused) => Err(refused.value),
         }
@@ -44,6 +46,7 @@ impl<A: Allocator + Copy> Action<A> {
         requires { is_characters (value_of self.old) ≡ true }
         ensures ok { OnOk result (value_of self.new ∷ [] ≡ joined (value_of self.old) (print c)) }
         ensures err { OnErr result (self.new ≡ self.old) }
+        ensures refused { OnErr result (Refused A) }
     {
         match self {
             Action::Print(before) => {
@@ -59,7 +62,8 @@ impl<A: Allocator + Copy> Action<A> {
 
 // The text of two characters.
 fn two_characters<A: Allocator>(alloc: A, first: char, second: char) -> Result<Text<A>, AllocError>
-    ensures { IfOk result (λ t. t ≡ encode_utf8 first ++ encode_utf8 second) }
+    ensures ok { IfOk result (λ t. t ≡ encode_utf8 first ++ encode_utf8 second) }
+    ensures refused { OnErr result (Refused A) }
 {
     let mut text = Text::new(alloc);
     text.push(first)?;
@@ -74,6 +78,7 @@ fn join_last<A: Allocator + Copy>(dest: &mut Vec<Action<A>, A>, c: char) -> Resu
     ensures joined { result ≡ Ok true → map value_of dest.new.items ≡ appended (map value_of dest.old.items) (print c) }
     ensures other { result ≡ Ok false → (dest.new.items ≡ dest.old.items) × (ends_in_characters (map value_of dest.old.items) ≡ false) }
     ensures refused { OnErr result (dest.new.items ≡ dest.old.items) }
+    ensures memory_refused { OnErr result (Refused A) }
 {
     let alloc = *dest.allocator();
     let Some(mut last) = dest.pop() else {

@@ -4,7 +4,10 @@ use Rattle.esc_actions.proofs.action.Action.append_to.Goals.{in-Print+in-Ok-fals
 use Rattle.esc_actions.proofs.action.Action.append_to.Goals as goal
 
 pub returns-in-Ok-clause-appended : goal.returns-in-Ok-clause-appended
-returns-in-Ok-clause-appended g c = elim c.match-self.branch [
-  | in-Print+in-Ok-false w ↦ pushed_after_others c.args.dest.now.items c.push.new.self.items c.args.self (search rules) (search rules)
-  | in_default w ↦ pushed_no_print c.args.dest.now.items c.push.new.self.items c.args.self (search rules) (search rules)
-]
+returns-in-Ok-clause-appended g c =
+    let was = c.args.dest.now.items in
+    let now = c.push.new.vec.items in
+    elim c.match-self.branch [
+      | in-Print+in-Ok-false w ↦ pushed_after_others was now c.args.self (search rules) (search rules)
+      | in_default w ↦ pushed_no_print was now c.args.self (search rules) (search rules)
+    ]
