@@ -2,7 +2,7 @@
 use Rattle.std.proofs.Common.{ℕ, suc, Bool, false, true, ◌≡◌, ◌+◌, ◌<◌, List, [], ◌∷◌, ◌++◌}
 use Rattle.std.proofs.Common.{◌&&◌, ◌≤◌, length, map, take, drop, get_or, refl, ap, sym, ◌∙◌}
 use Rattle.std.proofs.Common.{append_assoc, append-nil, take-append-drop, arith}
-use Rattle.std.proofs.lemmas.List.Folds.{list_all-append, list_all_more}
+use Rattle.std.proofs.lemmas.List.Folds.{list_all-append, list_all-map, list_all_more}
 use Rattle.std.proofs.lemmas.List.{drop_more, length-append, length-map, map-append, take_all}
 use Rattle.std.proofs.lemmas.Str.{encode_ascii}
 use Rattle.std.specs.List.{list_all}
@@ -108,3 +108,37 @@ pub all_written : {X A : Type 0} (f : X → Value A) (follows : Bool) (text all 
     (rest : List X) → length rest ≤ 0 → text ++ texts_after follows (map f rest) ≡ all → text ≡ all
 all_written f follows text all [] none h = sym (append-nil text) ∙ h
 all_written f follows text all (x ∷ xs) none h = absurd (omega arith)
+
+-- of two tests that both succeed, each does
+both_first : (a b : Bool) → (a && b) ≡ true → a ≡ true
+both_first true b h = refl
+both_first false b h = h
+
+both_second : (a b : Bool) → (a && b) ≡ true → b ≡ true
+both_second true b h = h
+both_second false b h = absurd cc
+
+-- where each of a list passes, so do the first and each after it
+module _ {X : Type 0} (p : X → Bool) (xs : List X) (x : X) (ys : List X) (is : xs ≡ x ∷ ys)
+    (all : list_all p xs ≡ true) where
+  both_pass : (p x && list_all p ys) ≡ true
+  both_pass = sym (ap (list_all p) is) ∙ all
+
+  pub first_passes : p x ≡ true
+  first_passes = both_first (p x) (list_all p ys) both_pass
+
+  pub others_pass : list_all p ys ≡ true
+  others_pass = both_second (p x) (list_all p ys) both_pass
+
+shown_have : {A : Type 0} (run : List ℕ) (vs : List (Value A))
+    → list_all has_text (map print run ++ vs) ≡ list_all has_text vs
+shown_have [] vs = refl
+shown_have (c ∷ run) vs = shown_have run vs
+
+-- what follows a run has texts where all have
+pub rest_have : {X A : Type 0} (f : X → Value A) (xs rest : List X) (run : List ℕ)
+    → map f xs ≡ map print run ++ map f rest → list_all (λ a. has_text (f a)) xs ≡ true
+    → list_all (λ a. has_text (f a)) rest ≡ true
+rest_have f xs rest run h k =
+    sym (list_all-map has_text f rest) ∙ sym (shown_have run (map f rest))
+    ∙ ap (list_all has_text) (sym h) ∙ list_all-map has_text f xs ∙ k

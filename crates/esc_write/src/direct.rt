@@ -1,5 +1,6 @@
 //! Control sequences, appended to a text with no action made of them.
-ghost use Rattle.std.specs.Prelude.{◌≡◌, ◌++◌, IsTrue, OnOk};
+ghost use Rattle.std.specs.Prelude.{◌≡◌, ◌++◌, IsTrue, OnErr, OnOk};
+ghost use Rattle.memory.specs.Refusals.{Refused};
 ghost use Rattle.esc_sequences.specs.Csis.{csi_text, unspecified};
 ghost use Rattle.esc_write.specs.Plain.{IsNumber, IsPlain};
 
@@ -16,7 +17,9 @@ pub fn append_entries<A: Allocator>(
     parameters_truncated: bool,
     control: u8,
 ) -> Result<(), AllocError>
-    ensures { OnOk result (text.new ≡ text.old ++ csi_text (unspecified params.now parameters_truncated control)) }
+    ensures ok { OnOk result (text.new
+        ≡ text.old ++ csi_text (unspecified params.now parameters_truncated control)) }
+    ensures refused { OnErr result (Refused A) }
 {
     let mut short = ShortText::new();
     if short.push_sequence(params, control) {

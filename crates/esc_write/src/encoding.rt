@@ -1,6 +1,7 @@
 //! The text of a list of actions.
-ghost use Rattle.std.specs.Prelude.{◌≡◌, ◌<◌, ◌↔◌, ◌∷◌, ◌++◌, false, IfOk, IsErrOf, OnErr, OnOk, length, string_bytes, map};
+ghost use Rattle.std.specs.Prelude.{◌≡◌, ◌<◌, ◌↔◌, ◌∷◌, ◌++◌, false, true, IfOk, IsErrOf, OnErr, OnOk, length, string_bytes, map};
 ghost use Rattle.std.specs.List.{list_all};
+ghost use Rattle.memory.specs.Refusals.{Refused};
 ghost use Rattle.esc_actions.specs.Meaning.{meaning};
 ghost use Rattle.esc_actions.specs.Texts.{has_text, is_string, list_text, normal, text_after, texts_after, value_text};
 ghost use Rattle.esc_actions.specs.Values.{value_of};
@@ -26,6 +27,7 @@ pub fn encode<A: Allocator>(alloc: A, actions: &[Action<A>]) -> Result<String<A>
     ensures same_text { AreWritable (map value_of actions.now) → IfOk result (λ t. list_text (normal (map value_of actions.now)) ≡ string_bytes t) }
     ensures no_text { IsErrOf result EncodeError.Fmt ↔ (list_all (λ a. has_text (value_of a)) actions.now ≡ false) }
     ensures refused { IsErrOf result EncodeError.Memory → 0 < length actions.now }
+    ensures memory_refused { IsErrOf result EncodeError.Memory → Refused A }
 {
     if !have_texts(actions) {
         return Err(EncodeError::Fmt);
@@ -42,6 +44,8 @@ pub fn encode<A: Allocator>(alloc: A, actions: &[Action<A>]) -> Result<String<A>
 fn spell<A: Allocator>(alloc: A, actions: &[Action<A>]) -> Result<Text<A>, AllocError>
     ensures text { IfOk result (λ t. t ≡ list_text (map value_of actions.now)) }
     ensures refused { OnErr result (0 < length actions.now) }
+    ensures memory_refused { list_all (λ a. has_text (value_of a)) actions.now ≡ true
+        → OnErr result (Refused A) }
 {
     let mut text = Text::new(alloc);
     let mut run = ShortText::new();
@@ -67,6 +71,10 @@ fn write_some<'a, A: Allocator>(
     requires { 0 < length actions.now }
     ensures text { IfOk result (λ r. text.new ++ texts_after r.1 (map value_of r.0.now) ≡ text.old ++ texts_after follows_string (map value_of actions.now)) }
     ensures less { IfOk result (λ r. length r.0.now < length actions.now) }
+    ensures left { list_all (λ a. has_text (value_of a)) actions.now ≡ true
+        → IfOk result (λ r. list_all (λ a. has_text (value_of a)) r.0.now ≡ true) }
+    ensures refused { list_all (λ a. has_text (value_of a)) actions.now ≡ true
+        → OnErr result (Refused A) }
 {
     let rest = gather_eights(actions, run);
     if run.len() < 8 {
@@ -85,6 +93,10 @@ fn write_few<'a, A: Allocator>(
     requires { 0 < length actions.now }
     ensures text { IfOk result (λ r. text.new ++ texts_after r.1 (map value_of r.0.now) ≡ text.old ++ texts_after follows_string (map value_of actions.now)) }
     ensures less { IfOk result (λ r. length r.0.now < length actions.now) }
+    ensures left { list_all (λ a. has_text (value_of a)) actions.now ≡ true
+        → IfOk result (λ r. list_all (λ a. has_text (value_of a)) r.0.now ≡ true) }
+    ensures refused { list_all (λ a. has_text (value_of a)) actions.now ≡ true
+        → OnErr result (Refused A) }
 {
     let mut follows = follows_string;
     let mut rest = actions;
@@ -105,7 +117,10 @@ fn write_next<A: Allocator>(
     follows_string: bool,
     action: &Action<A>,
 ) -> Result<bool, AllocError>
-    ensures { IfOk result (λ f. (text.new ≡ text.old ++ text_after follows_string (value_of action.now)) × (f ≡ is_string (value_of action.now))) }
+    ensures ok { IfOk result (λ f.
+        (text.new ≡ text.old ++ text_after follows_string (value_of action.now))
+        × (f ≡ is_string (value_of action.now))) }
+    ensures refused { has_text (value_of action.now) ≡ true → OnErr result (Refused A) }
 {
     if let Action::Print(c) = action {
         text.push(*c)?;
@@ -121,7 +136,10 @@ fn write_other<A: Allocator>(
     follows_string: bool,
     action: &Action<A>,
 ) -> Result<bool, AllocError>
-    ensures { IfOk result (λ f. (text.new ≡ text.old ++ text_after follows_string (value_of action.now)) × (f ≡ is_string (value_of action.now))) }
+    ensures ok { IfOk result (λ f.
+        (text.new ≡ text.old ++ text_after follows_string (value_of action.now))
+        × (f ≡ is_string (value_of action.now))) }
+    ensures refused { has_text (value_of action.now) ≡ true → OnErr result (Refused A) }
 {
     write_after(text, follows_string, action)?;
     Ok(action.is_string())
@@ -134,7 +152,9 @@ pub fn write_after<A: Allocator>(
     follows_string: bool,
     action: &Action<A>,
 ) -> Result<(), AllocError>
-    ensures { OnOk result (text.new ≡ text.old ++ text_after follows_string (value_of action.now)) }
+    ensures ok { OnOk result (text.new
+        ≡ text.old ++ text_after follows_string (value_of action.now)) }
+    ensures refused { has_text (value_of action.now) ≡ true → OnErr result (Refused A) }
 {
     match action {
         Action::Print(c) => text.push(*c),
@@ -150,7 +170,9 @@ fn write_whole<A: Allocator>(
     follows_string: bool,
     action: &Action<A>,
 ) -> Result<(), AllocError>
-    ensures { OnOk result (text.new ≡ text.old ++ text_after follows_string (value_of action.now)) }
+    ensures ok { OnOk result (text.new
+        ≡ text.old ++ text_after follows_string (value_of action.now)) }
+    ensures refused { has_text (value_of action.now) ≡ true → OnErr result (Refused A) }
 {
     if action.is_terminator() && follows_string {
         return Ok(());
@@ -164,7 +186,8 @@ fn write_whole<A: Allocator>(
 
 // Appends the text of an action by itself.
 fn write_alone<A: Allocator>(text: &mut Text<A>, action: &Action<A>) -> Result<(), AllocError>
-    ensures { OnOk result (text.new ≡ text.old ++ value_text (value_of action.now)) }
+    ensures ok { OnOk result (text.new ≡ text.old ++ value_text (value_of action.now)) }
+    ensures refused { has_text (value_of action.now) ≡ true → OnErr result (Refused A) }
 {
     match action {
         Action::Print(c) => text.push(*c),

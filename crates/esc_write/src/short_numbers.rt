@@ -1,6 +1,7 @@
 //! Control sequences of short numbers, appended to a text from arrays of bytes whose lengths are known as the program is made.
-ghost use Rattle.std.specs.Prelude.{◌≡◌, ◌<◌, ◌≤◌, ◌∷◌, ◌++◌, [], Bool, pos, IfSome, OnOk};
+ghost use Rattle.std.specs.Prelude.{◌≡◌, ◌<◌, ◌≤◌, ◌∷◌, ◌++◌, [], Bool, pos, IfSome, OnErr, OnOk};
 ghost use Rattle.std.specs.Str.{IsAscii};
+ghost use Rattle.memory.specs.Refusals.{Refused};
 ghost use Rattle.esc_sequences.specs.Csis.{csi_text, unspecified};
 ghost use Rattle.esc_values.specs.declared.csi_param.CsiParam.TheVariants.{Integer, P};
 ghost use Rattle.esc_write.specs.Plain.{IsPlain, indexed_text, number_text, short_text};
@@ -73,7 +74,8 @@ fn append_number<A: Allocator>(
     control: u8,
 ) -> Result<(), AllocError>
     requires { control < 128 }
-    ensures { OnOk result (text.new ≡ text.old ++ number_text number control) }
+    ensures ok { OnOk result (text.new ≡ text.old ++ number_text number control) }
+    ensures refused { OnErr result (Refused A) }
 {
     if number < 10 {
         text.push_str(ascii(&[0x1b, b'[', 48 + number, control]))
@@ -100,7 +102,9 @@ fn append_one<A: Allocator>(
 ) -> Result<(), AllocError>
     requires third { numbers.third < 10 }
     requires ascii { control < 128 }
-    ensures { OnOk result (text.new ≡ text.old ++ indexed_text numbers.first numbers.second numbers.third control) }
+    ensures ok { OnOk result (text.new
+        ≡ text.old ++ indexed_text numbers.first numbers.second numbers.third control) }
+    ensures refused { OnErr result (Refused A) }
 {
     text.push_str(ascii(&[
         0x1b,
@@ -125,7 +129,9 @@ fn append_two<A: Allocator>(
     requires third_low { 10 ≤ numbers.third }
     requires third { numbers.third < 100 }
     requires ascii { control < 128 }
-    ensures { OnOk result (text.new ≡ text.old ++ indexed_text numbers.first numbers.second numbers.third control) }
+    ensures ok { OnOk result (text.new
+        ≡ text.old ++ indexed_text numbers.first numbers.second numbers.third control) }
+    ensures refused { OnErr result (Refused A) }
 {
     text.push_str(ascii(&[
         0x1b,
@@ -150,7 +156,9 @@ fn append_three<A: Allocator>(
 ) -> Result<(), AllocError>
     requires third { 100 ≤ numbers.third }
     requires ascii { control < 128 }
-    ensures { OnOk result (text.new ≡ text.old ++ indexed_text numbers.first numbers.second numbers.third control) }
+    ensures ok { OnOk result (text.new
+        ≡ text.old ++ indexed_text numbers.first numbers.second numbers.third control) }
+    ensures refused { OnErr result (Refused A) }
 {
     text.push_str(ascii(&[
         0x1b,
@@ -175,7 +183,9 @@ fn append_indexed<A: Allocator>(
     control: u8,
 ) -> Result<(), AllocError>
     requires { control < 128 }
-    ensures { OnOk result (text.new ≡ text.old ++ indexed_text numbers.first numbers.second numbers.third control) }
+    ensures ok { OnOk result (text.new
+        ≡ text.old ++ indexed_text numbers.first numbers.second numbers.third control) }
+    ensures refused { OnErr result (Refused A) }
 {
     if numbers.third < 10 {
         append_one(text, numbers, control)
@@ -219,7 +229,8 @@ impl ShortNumbers {
     #[inline(always)]
     pub fn append_to<A: Allocator>(self, text: &mut Text<A>, control: u8) -> Result<(), AllocError>
         requires { control < 128 }
-        ensures { OnOk result (text.new ≡ text.old ++ short_text self control) }
+        ensures ok { OnOk result (text.new ≡ text.old ++ short_text self control) }
+        ensures refused { OnErr result (Refused A) }
     {
         match self {
             ShortNumbers::Lone(number) => append_number(text, number, control),

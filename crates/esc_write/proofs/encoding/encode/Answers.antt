@@ -29,3 +29,7 @@ returns-then-not-have_texts-clause-no_text g c =
 
 pub returns-in-Err-clause-refused : goal.returns-in-Err-clause-refused
 returns-in-Err-clause-refused g c = λ e. c.in-Err.ensures.refused
+
+pub returns-in-Err-clause-memory_refused : goal.returns-in-Err-clause-memory_refused
+returns-in-Err-clause-memory_refused g c = λ e.
+    c.in-Err.ensures.memory_refused (sym c.have_texts.ensures ∙ c.if-not-have_texts.false)

@@ -1,6 +1,6 @@
 use Rattle.std.proofs.Common.{◌<◌, length, map, arith}
 use Rattle.esc_actions.specs.Values.{value_of}
-use Rattle.esc_write.proofs.ActionRuns.{rest_shorter, run_text}
+use Rattle.esc_write.proofs.ActionRuns.{rest_have, rest_shorter, run_text}
 use Rattle.esc_write.proofs.encoding.write_some.Goals as goal
 
 pub returns-clause-text : goal.returns-clause-text
@@ -17,3 +17,8 @@ returns-clause-less g c =
     let run = c.gather_eights-rest.new.run in
     let some : 0 < length run = omega (arith, c.len.ensures.len, c.if-len-lt8.false) in
     rest_shorter value_of c.args.actions.now c.gather_eights-rest.result.now run c.gather_eights-rest.ensures some
+
+pub returns-clause-left : goal.returns-clause-left
+returns-clause-left g c =
+    rest_have value_of c.args.actions.now c.gather_eights-rest.result.now
+    c.gather_eights-rest.new.run c.gather_eights-rest.ensures
