@@ -39,9 +39,12 @@ asked : (A : Type 0) → NoMemory (Refused A) A → Refused A
 asked A (inl r) = r
 asked A (inr r) = r
 
-refused_by : {S : Type 0} (A : Type 0) (l limit : Option ℕ) → l ≡ limit → (takes refuses : S → Event → S → Type 0)
-    (s b : List ℕ) (old new : S) (own : Type 0) → (own → reaches_growing (after_all Ground s) b ≡ true)
-    → StopsAt (own × NoMemory (Refused A) A) takes refuses old (news_all l (after_all Ground s) b) new
+refused_by : {S : Type 0} (A : Type 0) (l limit : Option ℕ) → l ≡ limit
+    → (takes refuses : S → Event → S → Type 0)
+    (s b : List ℕ) (old new : S) (own : Type 0)
+    → (own → reaches_growing (after_all Ground s) b ≡ true)
+    → StopsAt (own × NoMemory (Refused A) A) takes refuses old
+    (news_all l (after_all Ground s) b) new
     → StopsAt (MayGrow (s ++ b) × Refused A) takes refuses old (added_within limit s b) new
 refused_by A l limit i takes refuses s b old new own w h =
     subst (λ es. StopsAt (MayGrow (s ++ b) × Refused A) takes refuses old es new)
@@ -49,9 +52,11 @@ refused_by A l limit i takes refuses s b old new own w h =
     (stops_for (own × NoMemory (Refused A) A) (MayGrow (s ++ b) × Refused A) takes refuses
     (news_all l (after_all Ground s) b) old new (λ o. (grows_added s b (w o.0), asked A o.1)) h)
 
-pub refused_all : {S : Type 0} (A : Type 0) (l limit : Option ℕ) → l ≡ limit → (takes refuses : S → Event → S → Type 0)
+pub refused_all : {S : Type 0} (A : Type 0) (l limit : Option ℕ) → l ≡ limit
+    → (takes refuses : S → Event → S → Type 0)
     (s b : List ℕ) (old new : S)
-    → StopsAt ((may_grow_within (after_all Ground s) b ≡ true) × NoMemory (Refused A) A) takes refuses old
+    → StopsAt ((may_grow_within (after_all Ground s) b ≡ true) × NoMemory (Refused A) A)
+    takes refuses old
     (news_all l (after_all Ground s) b) new
     → StopsAt (MayGrow (s ++ b) × Refused A) takes refuses old (added_within limit s b) new
 refused_all A l limit i takes refuses s b old new h =
@@ -60,15 +65,18 @@ refused_all A l limit i takes refuses s b old new h =
     (λ g. (and_parts (reaches_growing u b) (not (is_lendable u b)) g).0) h
 
 -- bytes whose strings can all be lent stop only where the actor refused
-pub refused_lent : {S why : Type 0} (l limit : Option ℕ) → l ≡ limit → (takes refuses : S → Event → S → Type 0)
+pub refused_lent : {S why : Type 0} (l limit : Option ℕ) → l ≡ limit
+    → (takes refuses : S → Event → S → Type 0)
     (s b : List ℕ) (old new : S) → after_all Ground s ≡ Ground → lends Ground b ≡ true
-    → StopsAt ((may_grow_within (after_all Ground s) b ≡ true) × why) takes refuses old (news_all l (after_all Ground s) b) new
+    → StopsAt ((may_grow_within (after_all Ground s) b ≡ true) × why) takes refuses old
+    (news_all l (after_all Ground s) b) new
     → StopsAt ⊥ takes refuses old (added_within limit s b) new
 refused_lent {S} {why} l limit i takes refuses s b old new e k h =
     subst (λ es. StopsAt ⊥ takes refuses old es new) (sym (added_is l s b) ∙ ap (λ k. added_within k s b) i)
     (stops_for ((may_grow_within (after_all Ground s) b ≡ true) × why) ⊥ takes refuses
     (news_all l (after_all Ground s) b) old new
-    (λ g. lent_grows_not (reaches_growing Ground b) (lends Ground b) k (subst (λ u. may_grow_within u b ≡ true) e g.0)) h)
+    (λ g. lent_grows_not (reaches_growing Ground b) (lends Ground b) k
+    (subst (λ u. may_grow_within u b ≡ true) e g.0)) h)
   where
     lent_grows_not : (r t : Bool) → t ≡ true → (r && not (true && t)) ≡ true → ⊥
     lent_grows_not true true t g = cc
@@ -94,15 +102,19 @@ given_one l limit i takes s b c old new e h =
     given_all l limit i takes s (b ∷ []) old new
     (subst (λ es. FoldsTo takes old es new) (ap (news_by l u b) e ∙ sym (append-nil (news_by l u b (class_of b)))) h)
 
-pub refused_one : {S : Type 0} (A : Type 0) (l limit : Option ℕ) → l ≡ limit → (takes refuses : S → Event → S → Type 0)
+pub refused_one : {S : Type 0} (A : Type 0) (l limit : Option ℕ) → l ≡ limit
+    → (takes refuses : S → Event → S → Type 0)
     (s : List ℕ) (b : ℕ) (c : Class) (old new : S) → c ≡ class_of b
     → StopsAt ((may_grow_in (after_all Ground s) ≡ true) × NoMemory (Refused A) A) takes refuses old
     (news_by l (after_all Ground s) b c) new
-    → StopsAt (MayGrow (s ++ b ∷ []) × Refused A) takes refuses old (added_within limit s (b ∷ [])) new
+    → StopsAt (MayGrow (s ++ b ∷ []) × Refused A) takes refuses old
+    (added_within limit s (b ∷ [])) new
 refused_one A l limit i takes refuses s b c old new e h =
     let u = after_all Ground s in
-    refused_by A l limit i takes refuses s (b ∷ []) old new (may_grow_in u ≡ true) (or_no (may_grow_in u))
-    (subst (λ es. StopsAt ((may_grow_in u ≡ true) × NoMemory (Refused A) A) takes refuses old es new)
+    refused_by A l limit i takes refuses s (b ∷ []) old new (may_grow_in u ≡ true)
+    (or_no (may_grow_in u))
+    (subst (λ es. StopsAt ((may_grow_in u ≡ true) × NoMemory (Refused A) A)
+    takes refuses old es new)
     (ap (news_by l u b) e ∙ sym (append-nil (news_by l u b (class_of b)))) h)
 
 -- bytes of one event, where nothing is unfinished before them and after them

@@ -138,13 +138,16 @@ module _ {S : Type 0} (limit : Option ℕ) (takes refuses : S → Event → S �
         quiet_took limit takes refuses (InOsc o ps) (InOsc o (ps ++ run.0)) rest n c old new (run.2 limit o ps) room e keeps machine lent_fresh
         (subst (λ m. Holds keeps limit machine m.0 × FoldsTo takes old m.1 new) whole h)
 
-    pub lent_stops : {why : Type 0} → StopsAt ((not (has_few_parts (take n rest)) ≡ true) × why) takes refuses old
+    pub lent_stops : {why : Type 0}
+        → StopsAt ((not (has_few_parts (take n rest)) ≡ true) × why) takes refuses old
         (telling (osc_events limit (take n rest)) (osc_left (get_or rest n 0) c)).1 new
-        → StopsAt ((may_grow_within (InOsc o ps) rest ≡ true) × why) takes refuses old (news_all limit (InOsc o ps) rest) new
+        → StopsAt ((may_grow_within (InOsc o ps) rest ≡ true) × why) takes refuses old
+        (news_all limit (InOsc o ps) rest) new
     lent_stops {why} h =
         let own : Type 0 = (not (has_few_parts (take n rest)) ≡ true) × why in
         quiet_stops_for limit takes refuses (InOsc o ps) (InOsc o (ps ++ run.0)) rest n c old new (run.2 limit o ps) room e
-        own (λ g. (lent_grows g.0, g.1)) (subst (λ m. StopsAt own takes refuses old m.1 new) whole h)
+        own (λ g. (lent_grows g.0, g.1))
+        (subst (λ m. StopsAt own takes refuses old m.1 new) whole h)
 
   module _ (next : n + 1 < length rest) (lead : get_or rest n 0 ≡ 0xc2) (control : is_from 0x80 0x9f (get_or rest (n + 1) 0) ≡ true) where
     -- C2 is kept until the byte after it
@@ -193,12 +196,15 @@ module _ {S : Type 0} (limit : Option ℕ) (takes refuses : S → Event → S �
         pair_left
         (subst (λ m. Holds keeps limit machine m.0 × FoldsTo takes old m.1 new) pair_whole_move h))
 
-    pub pair_stops : {why : Type 0} → StopsAt ((not (has_few_parts (take n rest)) ≡ true) × why) takes refuses old
+    pub pair_stops : {why : Type 0}
+        → StopsAt ((not (has_few_parts (take n rest)) ≡ true) × why) takes refuses old
         (telling (osc_events limit (take n rest)) (pair_move (get_or rest (n + 1) 0) (class_of (get_or rest (n + 1) 0)))).1 new
-        → StopsAt ((may_grow_within (InOsc o ps) rest ≡ true) × why) takes refuses old (news_all limit (InOsc o ps) rest) new
+        → StopsAt ((may_grow_within (InOsc o ps) rest ≡ true) × why) takes refuses old
+        (news_all limit (InOsc o ps) rest) new
     pair_stops {why} h =
         let own : Type 0 = (not (has_few_parts (take n rest)) ≡ true) × why in
-        quiet_stops_for limit takes refuses (InOsc o ps) (InOscPending o (ps ++ run.0) (0xc2 ∷ [])) rest (n + 1) _ old new
+        quiet_stops_for limit takes refuses (InOsc o ps) (InOscPending o (ps ++ run.0) (0xc2 ∷ []))
+        rest (n + 1) _ old new
         lead_run next refl own (λ g. (pair_grows g.0, g.1))
         (subst (λ m. StopsAt own takes refuses old m.1 new) pair_whole_move h)
 
@@ -241,8 +247,10 @@ module _ {S : Type 0} (limit : Option ℕ) (takes refuses : S → Event → S �
 
   pub lent_apc_stops : {why : Type 0} → StopsAt ((false ≡ true) × why) takes refuses old
       (telling (apc_events limit (take n rest)) (ground_move (get_or rest n 0) c)).1 new
-      → StopsAt ((may_grow_within (InApc o d) rest ≡ true) × why) takes refuses old (news_all limit (InApc o d) rest) new
+      → StopsAt ((may_grow_within (InApc o d) rest ≡ true) × why) takes refuses old
+      (news_all limit (InApc o d) rest) new
   lent_apc_stops {why} h =
       quiet_stops_for limit takes refuses (InApc o d) (InApc o (d ++ take n rest)) rest n c old new
-      (apc_text limit o d (take n rest) passes) room e ((false ≡ true) × why) (λ no. let never = no.0 in absurd cc)
+      (apc_text limit o d (take n rest) passes) room e ((false ≡ true) × why)
+      (λ no. let never = no.0 in absurd cc)
       (subst (λ m. StopsAt ((false ≡ true) × why) takes refuses old m.1 new) apc_whole h)

@@ -87,9 +87,11 @@ module _ {S : Type 0} (limit : Option ℕ) (takes refuses : S → Event → S �
 
   -- or by itself
   pub ran_ends : {why : Type 0} → StaysFresh u rest i
-      → StopsAt ((may_grow_within v (take (length rest - i) (drop i rest)) ≡ true) × why) takes refuses mid
+      → StopsAt ((may_grow_within v (take (length rest - i) (drop i rest)) ≡ true) × why)
+      takes refuses mid
       (news_all limit v (take (length rest - i) (drop i rest))) new
-      → StopsAt ((may_grow_within u rest ≡ true) × why) takes refuses old (news_all limit u rest) new
+      → StopsAt ((may_grow_within u rest ≡ true) × why) takes refuses old
+      (news_all limit u rest) new
   ran_ends {why} fresh h =
       ran_stop ((may_grow_within u rest ≡ true) × why)
       (stops_for ((may_grow_within v (take (length rest - i) (drop i rest)) ≡ true) × why)

@@ -16,17 +16,20 @@ module _ {K A S E : Type 0} (keeps : Option ℕ → K → List ℕ → Type 0) (
     (limit : Option ℕ) (own : Bool) (takes refuses : S → Event → S → Type 0)
     (result : Result (Unit {0}) E) (u : Unfinished) (b : ℕ) (class : Class) (m : Machine K A) (old new : S) (so : is_breaker class ≡ true) where
   -- after what the string tells
-  pub broken_told : Moved keeps denied limit own takes refuses result (telling (leaving limit u) (ground_move b class)) m old new
+  pub broken_told : Moved keeps denied limit own takes refuses result
+      (telling (leaving limit u) (ground_move b class)) m old new
       → Moved keeps denied limit own takes refuses result (inside limit u b class) m old new
   broken_told h =
       subst (λ v. Moved keeps denied limit own takes refuses result v m old new)
       (sym (ap (λ t. if t then telling (leaving limit u) (ground_move b class) else goes_on limit u b class) so)) h
 
   -- where it tells nothing
-  pub broken : leaving limit u ≡ [] → Moved keeps denied limit own takes refuses result (ground_move b class) m old new
+  pub broken : leaving limit u ≡ []
+      → Moved keeps denied limit own takes refuses result (ground_move b class) m old new
       → Moved keeps denied limit own takes refuses result (inside limit u b class) m old new
   broken none h =
-      broken_told (subst (λ es. Moved keeps denied limit own takes refuses result (telling es (ground_move b class)) m old new) (sym none) h)
+      broken_told (subst (λ es. Moved keeps denied limit own takes refuses result
+      (telling es (ground_move b class)) m old new) (sym none) h)
 
 -- ---- in ground
 
@@ -44,13 +47,16 @@ control_move b _ h = absurd cc
 module _ {K A S E : Type 0} (keeps : Option ℕ → K → List ℕ → Type 0) (denied : Type 0)
     (limit : Option ℕ) (own : Bool) (takes refuses : S → Event → S → Type 0)
     (result : Result (Unit {0}) E) (b : ℕ) (class : Class) (m : Machine K A) (old new : S) (so : Holds keeps limit m Ground) where
-  pub text_moved : is_text class ≡ true → Hears takes refuses result old (Print b) new → Moved keeps denied limit own takes refuses result (ground_move b class) m old new
+  pub text_moved : is_text class ≡ true → Hears takes refuses result old (Print b) new
+      → Moved keeps denied limit own takes refuses result (ground_move b class) m old new
   text_moved t h =
-      subst (λ v. Moved keeps denied limit own takes refuses result v m old new) (sym (text_move b class t))
+      subst (λ v. Moved keeps denied limit own takes refuses result v m old new)
+      (sym (text_move b class t))
       (hears_moved keeps denied limit own takes refuses result Ground (Print b) m old new so h)
 
   pub control_moved : (is_control class || is_raw_control class) ≡ true → Hears takes refuses result old (Execute b) new
       → Moved keeps denied limit own takes refuses result (ground_move b class) m old new
   control_moved t h =
-      subst (λ v. Moved keeps denied limit own takes refuses result v m old new) (sym (control_move b class t))
+      subst (λ v. Moved keeps denied limit own takes refuses result v m old new)
+      (sym (control_move b class t))
       (hears_moved keeps denied limit own takes refuses result Ground (Execute b) m old new so h)

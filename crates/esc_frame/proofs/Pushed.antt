@@ -53,8 +53,10 @@ body_goes Intermediate h = (refl, refl)
 body_goes Parameter h = (refl, refl)
 body_goes _ h = absurd cc
 
-module _ {K A S E : Type 0} (keeps : Option ℕ → K → List ℕ → Type 0) (denied : Type 0) (limit : Option ℕ)
-    (takes refuses : S → Event → S → Type 0) (result : Result (Unit {0}) E) (refused : OnErr result denied)
+module _ {K A S E : Type 0} (keeps : Option ℕ → K → List ℕ → Type 0) (denied : Type 0)
+    (limit : Option ℕ)
+    (takes refuses : S → Event → S → Type 0) (result : Result (Unit {0}) E)
+    (refused : OnErr result denied)
     (m : Machine K A) (o : Opener) (b : ℕ) (c : Class) (old : S) (e : c ≡ class_of b) where
   pub osc_pushed : (ps : List Piece) → is_text c ≡ true → m.state ≡ state.Osc → front_of m.pending ≡ []
       → OnOk result (keeps limit m.text (text_of ps ++ b ∷ []))
@@ -62,18 +64,28 @@ module _ {K A S E : Type 0} (keeps : Option ℕ → K → List ℕ → Type 0) (
   osc_pushed ps h s p k = by_result result k refused
     where
       by_result : (r : Result (Unit {0}) E) → OnOk r (keeps limit m.text (text_of ps ++ b ∷ []))
-          → OnErr r denied → Moved keeps denied limit true takes refuses r (inside limit (InOsc o ps) b c) m old old
-      by_result (Ok v) k f = let t = text_goes c h in rw (t.0, t.1, inside, goes_on) ((s, subst (keeps limit m.text) (text_one ps b c e h) k, p), refl)
-      by_result (Err v) k f = let t = text_goes c h in rw (t.0, t.1, inside, goes_on) ([], [], refl, inl ((refl, inl f), refl))
+          → OnErr r denied → Moved keeps denied limit true takes refuses r
+          (inside limit (InOsc o ps) b c) m old old
+      by_result (Ok v) k f =
+          let t = text_goes c h in rw (t.0, t.1, inside, goes_on)
+          ((s, subst (keeps limit m.text) (text_one ps b c e h) k, p), refl)
+      by_result (Err v) k f =
+          let t = text_goes c h in rw (t.0, t.1, inside, goes_on)
+          ([], [], refl, inl ((refl, inl f), refl))
 
   pub apc_pushed : (d : List ℕ) → is_text c ≡ true → m.state ≡ state.Apc → OnOk result (keeps limit m.text (those is_text d ++ b ∷ []))
       → Moved keeps denied limit true takes refuses result (inside limit (InApc o d) b c) m old old
   apc_pushed d h s k = by_result result k refused
     where
       by_result : (r : Result (Unit {0}) E) → OnOk r (keeps limit m.text (those is_text d ++ b ∷ []))
-          → OnErr r denied → Moved keeps denied limit true takes refuses r (inside limit (InApc o d) b c) m old old
-      by_result (Ok v) k f = let t = text_goes c h in rw (t.0, inside, goes_on) ((s, subst (keeps limit m.text) (apc_one d b c e h) k), refl)
-      by_result (Err v) k f = let t = text_goes c h in rw (t.0, inside, goes_on) ([], [], refl, inl ((refl, inl f), refl))
+          → OnErr r denied → Moved keeps denied limit true takes refuses r
+          (inside limit (InApc o d) b c) m old old
+      by_result (Ok v) k f =
+          let t = text_goes c h in rw (t.0, inside, goes_on)
+          ((s, subst (keeps limit m.text) (apc_one d b c e h) k), refl)
+      by_result (Err v) k f =
+          let t = text_goes c h in rw (t.0, inside, goes_on)
+          ([], [], refl, inl ((refl, inl f), refl))
 
   pub dcs_pushed : (x : List ℕ) → in_body c ≡ true → m.state ≡ state.Dcs → KeepsDcs m.header (strip x ++ b ∷ [])
       → OnOk result (keeps limit m.text (parameters_of (strip x ++ b ∷ [])))
@@ -81,9 +93,12 @@ module _ {K A S E : Type 0} (keeps : Option ℕ → K → List ℕ → Type 0) (
   dcs_pushed x h s d k = by_result result k refused
     where
       by_result : (r : Result (Unit {0}) E) → OnOk r (keeps limit m.text (parameters_of (strip x ++ b ∷ [])))
-          → OnErr r denied → Moved keeps denied limit true takes refuses r (inside limit (InDcs o x) b c) m old old
+          → OnErr r denied → Moved keeps denied limit true takes refuses r
+          (inside limit (InDcs o x) b c) m old old
       by_result (Ok v) k f =
           let t = body_goes c h in
           let j = strip_one x b c e h in
           rw (t.0, t.1, inside, goes_on) ((s, subst (λ y. keeps limit m.text (parameters_of y)) j k, subst (KeepsDcs m.header) j d), refl)
-      by_result (Err v) k f = let t = body_goes c h in rw (t.0, t.1, inside, goes_on) ([], [], refl, inl ((refl, inl f), refl))
+      by_result (Err v) k f =
+          let t = body_goes c h in rw (t.0, t.1, inside, goes_on)
+          ([], [], refl, inl ((refl, inl f), refl))

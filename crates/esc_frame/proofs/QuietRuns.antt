@@ -55,28 +55,34 @@ module _ {S : Type 0} (limit : Option ℕ) (takes refuses : S → Event → S �
   )
 
   -- stopped at it
-  pub quiet_stopped : (own : Type 0) → StopsAt own takes refuses old (news_by limit v (get_or rest n 0) c) new
+  pub quiet_stopped : (own : Type 0)
+      → StopsAt own takes refuses old (news_by limit v (get_or rest n 0) c) new
       → StopsAt own takes refuses old (news_all limit u rest) new
   quiet_stopped own h =
       stop_within limit own takes refuses u rest (n + 1) old new
       (subst (λ es. StopsAt own takes refuses old es new) (sym quiet_news) h)
 
   -- for a reason for which the memory may grow
-  pub quiet_stops_for : {why : Type 0} (own : Type 0) → (own → (may_grow_within u rest ≡ true) × why)
+  pub quiet_stops_for : {why : Type 0} (own : Type 0)
+      → (own → (may_grow_within u rest ≡ true) × why)
       → StopsAt own takes refuses old (news_by limit v (get_or rest n 0) c) new
-      → StopsAt ((may_grow_within u rest ≡ true) × why) takes refuses old (news_all limit u rest) new
+      → StopsAt ((may_grow_within u rest ≡ true) × why) takes refuses old
+      (news_all limit u rest) new
   quiet_stops_for {why} own w h =
       quiet_stopped ((may_grow_within u rest ≡ true) × why)
       (stops_for own ((may_grow_within u rest ≡ true) × why) takes refuses _ old new w h)
 
   pub quiet_stops : {why : Type 0} → (may_grow_in v ≡ true → is_lendable u rest ≡ false)
-      → StopsAt ((may_grow_in v ≡ true) × why) takes refuses old (news_by limit v (get_or rest n 0) c) new
-      → StopsAt ((may_grow_within u rest ≡ true) × why) takes refuses old (news_all limit u rest) new
+      → StopsAt ((may_grow_in v ≡ true) × why) takes refuses old
+      (news_by limit v (get_or rest n 0) c) new
+      → StopsAt ((may_grow_within u rest ≡ true) × why) takes refuses old
+      (news_all limit u rest) new
   quiet_stops {why} k h =
       quiet_stops_for ((may_grow_in v ≡ true) × why) (λ g. (quiet_grows (k g.0) g.0, g.1)) h
 
 -- the machine stopped by itself, where it may, since memory was refused
-pub own_stops : {S why : Type 0} (limit : Option ℕ) (takes refuses : S → Event → S → Type 0) (u : Unfinished) (rest : List ℕ)
+pub own_stops : {S why : Type 0} (limit : Option ℕ) (takes refuses : S → Event → S → Type 0)
+    (u : Unfinished) (rest : List ℕ)
     (old : S) → 0 < length rest → may_grow_in u ≡ true → is_lendable u rest ≡ false → why
     → StopsAt ((may_grow_within u rest ≡ true) × why) takes refuses old (news_all limit u rest) old
 own_stops {S} {why} limit takes refuses u rest old some h k w =

@@ -75,7 +75,8 @@ module _ (limit : Option ℕ) (rest : List ℕ) (run : ℕ) (items : List CsiPar
   pub short_stops : {S : Type 0} (takes refuses : S → Event → S → Type 0) (old new : S) → refuses old (CsiDispatch items false (get_or rest (run + 2) 0)) new
       → StopsAt ⊥ takes refuses old (news_all limit Ground rest) new
   short_stops takes refuses old new h =
-      quiet_stopped limit takes refuses Ground (InCsi (Long []) body) rest (run + 2) _ old new short_run room refl ⊥
+      quiet_stopped limit takes refuses Ground (InCsi (Long []) body) rest (run + 2)
+      _ old new short_run room refl ⊥
       (subst (λ es. StopsAt ⊥ takes refuses old es new) (sym short_event) (refused_stops ⊥ takes refuses old new _ h))
 
   pub short_still : IsStill limit Ground rest (run + 3)
@@ -86,10 +87,13 @@ module _ (limit : Option ℕ) (rest : List ℕ) (run : ℕ) (items : List CsiPar
       (subst (λ y. list_all is_body_byte (take run y) ≡ true) (sym (tail_is rest 2)) read.body)))
 
 -- what such a call says of the machine in ground
-pub stays_took : {K A S E : Type 0} (keeps : Option ℕ → K → List ℕ → Type 0) (denied : Type 0) (limit : Option ℕ)
-    (takes refuses : S → Event → S → Type 0) (is_ready : S → Type 0) (result : Result ℕ E) (rest : List ℕ)
+pub stays_took : {K A S E : Type 0} (keeps : Option ℕ → K → List ℕ → Type 0) (denied : Type 0)
+    (limit : Option ℕ)
+    (takes refuses : S → Event → S → Type 0) (is_ready : S → Type 0) (result : Result ℕ E)
+    (rest : List ℕ)
     (m : Machine K A) (old new : S) → IfOk result (λ n. Holds keeps None m Ground)
-    → Stays takes refuses is_ready result rest old new → IfOk result (λ n. 0 < n) → Quietly limit result Ground rest
+    → Stays takes refuses is_ready result rest old new → IfOk result (λ n. 0 < n)
+    → Quietly limit result Ground rest
     → TookSome keeps denied limit takes refuses is_ready result rest m old new
 stays_took keeps denied limit takes refuses is_ready (Ok n) rest m old new g s p q = (
   (subst (Holds keeps limit m) (sym s.1) g, s.2 limit, ground_fresh Ground rest n s.1),

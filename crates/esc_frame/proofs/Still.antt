@@ -207,11 +207,13 @@ module _ (limit : Option ℕ) (u : Unfinished) (rest : List ℕ) (l : 2 < length
     opened_first : StaysFresh Ground rest 2
     opened_first = fresh_by Ground u rest 2 begin.0 (f (drop 2 rest))
 
-    pub opened_took : {K A : Type 0} (keeps : Option ℕ → K → List ℕ → Type 0) (denied : Type 0) (machine : Machine K A) (n : ℕ)
+    pub opened_took : {K A : Type 0} (keeps : Option ℕ → K → List ℕ → Type 0) (denied : Type 0)
+        (machine : Machine K A) (n : ℕ)
         → Holds keeps limit machine (after_all u (take n (take (length rest - 2) (drop 2 rest)))) × FoldsTo takes old
         (news_all limit u (take n (take (length rest - 2) (drop 2 rest)))) new × StaysFresh u (take (length rest - 2) (drop 2 rest)) n
         → IsStill limit u (take (length rest - 2) (drop 2 rest)) n → (0 < n) × (n ≤ length (take (length rest - 2) (drop 2 rest))) × is_ready new
-        → TookSome {E = Unit {0}} keeps denied limit takes refuses is_ready (Ok (2 + n)) rest machine old new
+        → TookSome {E = Unit {0}} keeps denied limit takes refuses is_ready (Ok (2 + n))
+        rest machine old new
     opened_took keeps denied machine n t q a =
         let k = tail_length rest 2 in (
           ran_took limit takes refuses Ground u rest 2 old old new begin.0 (quiet_folds takes (news_all limit Ground (take 2 rest)) old begin.1) keeps machine n
@@ -221,9 +223,11 @@ module _ (limit : Option ℕ) (u : Unfinished) (rest : List ℕ) (l : 2 < length
         )
 
     pub opened_stops : {why : Type 0}
-        → StopsAt ((may_grow_within u (take (length rest - 2) (drop 2 rest)) ≡ true) × why) takes refuses old
+        → StopsAt ((may_grow_within u (take (length rest - 2) (drop 2 rest)) ≡ true) × why)
+        takes refuses old
         (news_all limit u (take (length rest - 2) (drop 2 rest))) new
-        → StopsAt ((may_grow_within Ground rest ≡ true) × why) takes refuses old (news_all limit Ground rest) new
+        → StopsAt ((may_grow_within Ground rest ≡ true) × why) takes refuses old
+        (news_all limit Ground rest) new
     opened_stops h =
         ran_ends limit takes refuses Ground u rest 2 old old new begin.0 (quiet_folds takes (news_all limit Ground (take 2 rest)) old begin.1) opened_first h
 

@@ -33,7 +33,11 @@ impl<K: Store, A: Allocator> Machine<K, A> {
         actor: &mut V,
     ) -> Result<()>
         requires { V.is_ready actor.old }
-        ensures moved { (o : Opener) (x : List ℕ) → class ≡ class_of b → K.keeps limit self.old.text (parameters_of (strip x)) → KeepsDcs self.old.header (strip x) → Moved K.keeps K.denied limit true V.takes V.refuses result (inside limit (InDcs o x) b class) self.new actor.old actor.new }
+        ensures moved { (o : Opener) (x : List ℕ) → class ≡ class_of b
+            → K.keeps limit self.old.text (parameters_of (strip x))
+            → KeepsDcs self.old.header (strip x)
+            → Moved K.keeps K.denied limit true V.takes V.refuses result
+            (inside limit (InDcs o x) b class) self.new actor.old actor.new }
         ensures ready { OnOk result (V.is_ready actor.new) }
     {
         self.state = State::Dcs;
@@ -66,7 +70,10 @@ impl<K: Store, A: Allocator> Machine<K, A> {
     #[tactic(auto, using(crate::proofs::Given::hears_moved))]
     pub fn in_data<V: VTActor>(&mut self, b: u8, class: Class, actor: &mut V) -> Result<()>
         requires { V.is_ready actor.old }
-        ensures moved { (limit : Option ℕ) (o : Opener) (x : List ℕ) (f : ℕ) (d : List ℕ) → is_read limit (strip x) ≡ true → Moved K.keeps K.denied limit true V.takes V.refuses result (inside limit (InData o x f d) b class) self.new actor.old actor.new }
+        ensures moved { (limit : Option ℕ) (o : Opener) (x : List ℕ) (f : ℕ) (d : List ℕ)
+            → is_read limit (strip x) ≡ true
+            → Moved K.keeps K.denied limit true V.takes V.refuses result
+            (inside limit (InData o x f d) b class) self.new actor.old actor.new }
         ensures ready { OnOk result (V.is_ready actor.new) }
     {
         self.state = State::Data;
@@ -91,7 +98,8 @@ impl<K: Store, A: Allocator> Machine<K, A> {
     // A breaker after a DCS's data.
     fn leave_data<V: VTActor>(&mut self, b: u8, class: Class, actor: &mut V) -> Result<()>
         requires { V.is_ready actor.old }
-        ensures moved { (limit : Option ℕ) → Moved K.keeps K.denied limit true V.takes V.refuses result (telling (DcsUnhook ∷ []) (ground_move b class)) self.new actor.old actor.new }
+        ensures moved { (limit : Option ℕ) → Moved K.keeps K.denied limit true V.takes V.refuses
+            result (telling (DcsUnhook ∷ []) (ground_move b class)) self.new actor.old actor.new }
         ensures ready { OnOk result (V.is_ready actor.new) }
     {
         match actor.dcs_unhook() {
@@ -111,7 +119,9 @@ impl<K: Store, A: Allocator> Machine<K, A> {
         requires some { 0 < length rest.now }
         requires ready { V.is_ready actor.old }
         requires state { self.old.state ≡ State.Data }
-        ensures took { (u : Unfinished) → Holds K.keeps limit self.old u → Took K.keeps K.denied limit V.takes V.refuses result u rest.now self.new actor.old actor.new }
+        ensures took { (u : Unfinished) → Holds K.keeps limit self.old u
+            → Took K.keeps K.denied limit V.takes V.refuses result u rest.now self.new
+            actor.old actor.new }
         ensures count { Advances V.is_ready result rest.now actor.new }
     {
         let run = data_run(rest);
@@ -160,7 +170,9 @@ fn hook<K: Store, A: Allocator, V: VTActor>(
     actor: &mut V,
 ) -> Result<()>
     requires { V.is_ready actor.old }
-    ensures told { (limit : Option ℕ) (x : List ℕ) → K.keeps limit parameters.now (parameters_of x) → KeepsDcs header.now x → is_read limit x ≡ true → Takes (Refused A) V.takes V.refuses result actor.old (hook_event x b ∷ []) actor.new }
+    ensures told { (limit : Option ℕ) (x : List ℕ) → K.keeps limit parameters.now (parameters_of x)
+        → KeepsDcs header.now x → is_read limit x ≡ true
+        → Takes (Refused A) V.takes V.refuses result actor.old (hook_event x b ∷ []) actor.new }
     ensures ready { OnOk result (V.is_ready actor.new) }
 {
     let kept = &header.intermediates;

@@ -30,7 +30,10 @@ impl<K: Store, A: Allocator> Machine<K, A> {
     #[tactic(auto, using(crate::proofs::Given::hears_moved))]
     pub fn in_escape<V: VTActor>(&mut self, b: u8, class: Class, actor: &mut V) -> Result<()>
         requires { V.is_ready actor.old }
-        ensures moved { (limit : Option ℕ) (own : Bool) (x : List ℕ) → class ≡ class_of b → Keeps self.old.intermediates (strip x) → Moved K.keeps K.denied limit own V.takes V.refuses result (inside limit (InEscape x) b class) self.new actor.old actor.new }
+        ensures moved { (limit : Option ℕ) (own : Bool) (x : List ℕ) → class ≡ class_of b
+            → Keeps self.old.intermediates (strip x)
+            → Moved K.keeps K.denied limit own V.takes V.refuses result
+            (inside limit (InEscape x) b class) self.new actor.old actor.new }
         ensures ready { OnOk result (V.is_ready actor.new) }
     {
         self.state = State::Escape;
@@ -67,7 +70,9 @@ impl<K: Store, A: Allocator> Machine<K, A> {
         actor: &mut V,
     ) -> Result<usize>
         requires { V.is_ready actor.old }
-        ensures took { (u : Unfinished) → Holds K.keeps limit self.old u → Took K.keeps K.denied limit V.takes V.refuses result u rest.now self.new actor.old actor.new }
+        ensures took { (u : Unfinished) → Holds K.keeps limit self.old u
+            → Took K.keeps K.denied limit V.takes V.refuses result u rest.now self.new
+            actor.old actor.new }
         ensures count { IfOk result (λ n. (n ≤ length rest.now) × V.is_ready actor.new) }
     {
         if rest.is_empty() || rest[0] != b'\\' {
@@ -91,7 +96,9 @@ impl<K: Store, A: Allocator> Machine<K, A> {
         requires some { 0 < length rest.now }
         requires ready { V.is_ready actor.old }
         requires state { self.old.state ≡ State.Escape }
-        ensures took { (u : Unfinished) → Holds K.keeps limit self.old u → Took K.keeps K.denied limit V.takes V.refuses result u rest.now self.new actor.old actor.new }
+        ensures took { (u : Unfinished) → Holds K.keeps limit self.old u
+            → Took K.keeps K.denied limit V.takes V.refuses result u rest.now self.new
+            actor.old actor.new }
         ensures quiet { (u : Unfinished) → Quietly limit result u rest.now }
         ensures count { Advances V.is_ready result rest.now actor.new }
     {
@@ -122,7 +129,10 @@ impl<K: Store, A: Allocator> Machine<K, A> {
     #[tactic(auto, using(crate::proofs::Given::hears_moved))]
     pub fn in_csi<V: VTActor>(&mut self, b: u8, class: Class, actor: &mut V) -> Result<()>
         requires { V.is_ready actor.old }
-        ensures moved { (limit : Option ℕ) (o : Opener) (x : List ℕ) → class ≡ class_of b → KeepsBody self.old.body (strip x) → Moved K.keeps K.denied limit false V.takes V.refuses result (inside limit (InCsi o x) b class) self.new actor.old actor.new }
+        ensures moved { (limit : Option ℕ) (o : Opener) (x : List ℕ) → class ≡ class_of b
+            → KeepsBody self.old.body (strip x)
+            → Moved K.keeps K.denied limit false V.takes V.refuses result
+            (inside limit (InCsi o x) b class) self.new actor.old actor.new }
         ensures ready { OnOk result (V.is_ready actor.new) }
     {
         self.state = State::Csi;
@@ -146,7 +156,9 @@ impl<K: Store, A: Allocator> Machine<K, A> {
     #[tactic(auto, using(crate::proofs::Given::quiet_moved))]
     fn dispatch_csi<V: VTActor>(&mut self, b: u8, actor: &mut V) -> Result<()>
         requires { V.is_ready actor.old }
-        ensures moved { (limit : Option ℕ) (x : List ℕ) → KeepsBody self.old.body x → Moved K.keeps K.denied limit false V.takes V.refuses result (Ground, csi_events x b) self.new actor.old actor.new }
+        ensures moved { (limit : Option ℕ) (x : List ℕ) → KeepsBody self.old.body x
+            → Moved K.keeps K.denied limit false V.takes V.refuses result (Ground, csi_events x b)
+            self.new actor.old actor.new }
         ensures ready { OnOk result (V.is_ready actor.new) }
     {
         self.state = State::Ground;
@@ -169,7 +181,8 @@ impl<K: Store, A: Allocator> Machine<K, A> {
         requires some { 2 < length rest.now }
         requires escape { slice_index rest.now 0 ≡ 0x1b }
         requires ready { V.is_ready actor.old }
-        ensures { TookSome K.keeps K.denied limit V.takes V.refuses V.is_ready result rest.now self.new actor.old actor.new }
+        ensures { TookSome K.keeps K.denied limit V.takes V.refuses V.is_ready result rest.now
+            self.new actor.old actor.new }
     {
         if rest[1] == b'[' {
             self.take_csi(rest, actor)
@@ -213,7 +226,8 @@ impl<K: Store, A: Allocator> Machine<K, A> {
         requires escape { slice_index rest.now 0 ≡ 0x1b }
         requires bracket { slice_index rest.now 1 ≡ 0x5b }
         requires ready { V.is_ready actor.old }
-        ensures { (limit : Option ℕ) → TookSome K.keeps K.denied limit V.takes V.refuses V.is_ready result rest.now self.new actor.old actor.new }
+        ensures { (limit : Option ℕ) → TookSome K.keeps K.denied limit V.takes V.refuses V.is_ready
+            result rest.now self.new actor.old actor.new }
     {
         let run = self.short.read(&rest[2..]);
         if run == rest.len() - 2 {
@@ -261,7 +275,8 @@ impl<K: Store, A: Allocator> Machine<K, A> {
         requires escape { slice_index rest.now 0 ≡ 0x1b }
         requires bracket { slice_index rest.now 1 ≡ 0x5b }
         requires ready { V.is_ready actor.old }
-        ensures { (limit : Option ℕ) → TookSome K.keeps K.denied limit V.takes V.refuses V.is_ready result rest.now self.new actor.old actor.new }
+        ensures { (limit : Option ℕ) → TookSome K.keeps K.denied limit V.takes V.refuses V.is_ready
+            result rest.now self.new actor.old actor.new }
     {
         self.open(Kind::Csi);
         match self.take_in_csi(&rest[2..], actor) {
@@ -276,7 +291,10 @@ impl<K: Store, A: Allocator> Machine<K, A> {
         requires some { 0 < length rest.now }
         requires ready { V.is_ready actor.old }
         requires state { self.old.state ≡ State.Csi }
-        ensures took { (limit : Option ℕ) (o : Opener) (x : List ℕ) → KeepsBody self.old.body (strip x) → Took K.keeps K.denied limit V.takes V.refuses result (InCsi o x) rest.now self.new actor.old actor.new }
+        ensures took { (limit : Option ℕ) (o : Opener) (x : List ℕ)
+            → KeepsBody self.old.body (strip x)
+            → Took K.keeps K.denied limit V.takes V.refuses result (InCsi o x)
+            rest.now self.new actor.old actor.new }
         ensures quiet { (limit : Option ℕ) (o : Opener) (x : List ℕ) → Quietly limit result (InCsi o x) rest.now }
         ensures count { Advances V.is_ready result rest.now actor.new }
     {
@@ -297,7 +315,10 @@ impl<K: Store, A: Allocator> Machine<K, A> {
         requires passes { list_all is_body_byte (take run rest.now) ≡ true }
         requires ready { V.is_ready actor.old }
         requires state { self.old.state ≡ State.Csi }
-        ensures took { (limit : Option ℕ) (o : Opener) (x : List ℕ) → KeepsBody self.old.body (strip x ++ take run rest.now) → Took K.keeps K.denied limit V.takes V.refuses result (InCsi o x) rest.now self.new actor.old actor.new }
+        ensures took { (limit : Option ℕ) (o : Opener) (x : List ℕ)
+            → KeepsBody self.old.body (strip x ++ take run rest.now)
+            → Took K.keeps K.denied limit V.takes V.refuses result (InCsi o x)
+            rest.now self.new actor.old actor.new }
         ensures quiet { (limit : Option ℕ) (o : Opener) (x : List ℕ) → Quietly limit result (InCsi o x) rest.now }
         ensures count { Advances V.is_ready result rest.now actor.new }
     {
@@ -314,7 +335,10 @@ impl<K: Store, A: Allocator> Machine<K, A> {
     #[inline(always)]
     fn end_body<V: VTActor>(&mut self, b: u8, actor: &mut V) -> Result<()>
         requires { V.is_ready actor.old }
-        ensures moved { (limit : Option ℕ) (o : Opener) (x : List ℕ) → KeepsBody self.old.body (strip x) → Moved K.keeps K.denied limit false V.takes V.refuses result (inside limit (InCsi o x) b (class_of b)) self.new actor.old actor.new }
+        ensures moved { (limit : Option ℕ) (o : Opener) (x : List ℕ)
+            → KeepsBody self.old.body (strip x)
+            → Moved K.keeps K.denied limit false V.takes V.refuses result
+            (inside limit (InCsi o x) b (class_of b)) self.new actor.old actor.new }
         ensures ready { OnOk result (V.is_ready actor.new) }
     {
         if 0x40 <= b && b <= 0x7e {
@@ -329,7 +353,8 @@ impl<K: Store, A: Allocator> Machine<K, A> {
 #[tactic(auto, using(crate::proofs::Given::hears_takes))]
 fn tell_csi<V: VTActor>(body: &mut CsiBody, b: u8, actor: &mut V) -> Result<()>
     requires { V.is_ready actor.old }
-    ensures told { (x : List ℕ) → KeepsBody body.old x → Takes ⊥ V.takes V.refuses result actor.old (csi_event x b ∷ []) actor.new }
+    ensures told { (x : List ℕ) → KeepsBody body.old x
+        → Takes ⊥ V.takes V.refuses result actor.old (csi_event x b ∷ []) actor.new }
     ensures ready { OnOk result (V.is_ready actor.new) }
 {
     body.finish();

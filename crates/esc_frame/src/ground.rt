@@ -24,7 +24,9 @@ impl<K: Store, A: Allocator> Machine<K, A> {
     #[tactic(auto, using(crate::proofs::Given::hears_moved))]
     pub fn in_ground<V: VTActor>(&mut self, b: u8, class: Class, actor: &mut V) -> Result<()>
         requires { V.is_ready actor.old }
-        ensures moved { (limit : Option ℕ) (own : Bool) → Moved K.keeps K.denied limit own V.takes V.refuses result (ground_move b class) self.new actor.old actor.new }
+        ensures moved { (limit : Option ℕ) (own : Bool)
+            → Moved K.keeps K.denied limit own V.takes V.refuses result (ground_move b class)
+            self.new actor.old actor.new }
         ensures ready { OnOk result (V.is_ready actor.new) }
     {
         self.state = State::Ground;
@@ -59,7 +61,9 @@ impl<K: Store, A: Allocator> Machine<K, A> {
     #[tactic(auto, using(crate::proofs::Given::hears_moved))]
     pub fn in_pair<V: VTActor>(&mut self, b: u8, class: Class, actor: &mut V) -> Result<()>
         requires { V.is_ready actor.old }
-        ensures moved { (limit : Option ℕ) (own : Bool) → Moved K.keeps K.denied limit own V.takes V.refuses result (pair_move b class) self.new actor.old actor.new }
+        ensures moved { (limit : Option ℕ) (own : Bool)
+            → Moved K.keeps K.denied limit own V.takes V.refuses result (pair_move b class)
+            self.new actor.old actor.new }
         ensures ready { OnOk result (V.is_ready actor.new) }
     {
         self.state = State::Ground;
@@ -88,7 +92,9 @@ impl<K: Store, A: Allocator> Machine<K, A> {
     /// A byte after a prefix of a character's sequence.
     pub fn in_pending<V: VTActor>(&mut self, b: u8, class: Class, actor: &mut V) -> Result<()>
         requires { V.is_ready actor.old }
-        ensures moved { (limit : Option ℕ) (own : Bool) (f : List ℕ) → front_of self.old.pending ≡ f → Moved K.keeps K.denied limit own V.takes V.refuses result (pending_move f b class (outcome f b)) self.new actor.old actor.new }
+        ensures moved { (limit : Option ℕ) (own : Bool) (f : List ℕ) → front_of self.old.pending ≡ f
+            → Moved K.keeps K.denied limit own V.takes V.refuses result
+            (pending_move f b class (outcome f b)) self.new actor.old actor.new }
         ensures ready { OnOk result (V.is_ready actor.new) }
     {
         match self.pending.outcome(b) {
@@ -105,7 +111,9 @@ impl<K: Store, A: Allocator> Machine<K, A> {
     // A byte that breaks off a character's sequence.
     fn break_off<V: VTActor>(&mut self, b: u8, class: Class, actor: &mut V) -> Result<()>
         requires { V.is_ready actor.old }
-        ensures moved { (limit : Option ℕ) (own : Bool) → Moved K.keeps K.denied limit own V.takes V.refuses result (telling (Print 0xfffd ∷ []) (ground_move b class)) self.new actor.old actor.new }
+        ensures moved { (limit : Option ℕ) (own : Bool)
+            → Moved K.keeps K.denied limit own V.takes V.refuses result
+            (telling (Print 0xfffd ∷ []) (ground_move b class)) self.new actor.old actor.new }
         ensures ready { OnOk result (V.is_ready actor.new) }
     {
         match actor.print('\u{fffd}') {
@@ -119,7 +127,10 @@ impl<K: Store, A: Allocator> Machine<K, A> {
     fn whole<V: VTActor>(&mut self, b: u8, class: Class, actor: &mut V) -> Result<()>
         requires ready { V.is_ready actor.old }
         requires whole { is_sequence (front_of self.old.pending ++ b ∷ []) ≡ true }
-        ensures moved { (limit : Option ℕ) (own : Bool) → Moved K.keeps K.denied limit own V.takes V.refuses result (pending_move (front_of self.old.pending) b class Outcome.Whole) self.new actor.old actor.new }
+        ensures moved { (limit : Option ℕ) (own : Bool)
+            → Moved K.keeps K.denied limit own V.takes V.refuses result
+            (pending_move (front_of self.old.pending) b class Outcome.Whole)
+            self.new actor.old actor.new }
         ensures ready { OnOk result (V.is_ready actor.new) }
     {
         if self.pending.pairs_with(b) {
@@ -143,7 +154,8 @@ impl<K: Store, A: Allocator> Machine<K, A> {
         requires some { 0 < length rest.now }
         requires ready { V.is_ready actor.old }
         requires ground { Holds K.keeps limit self.old Ground }
-        ensures took { Took K.keeps K.denied limit V.takes V.refuses result Ground rest.now self.new actor.old actor.new }
+        ensures took { Took K.keeps K.denied limit V.takes V.refuses result Ground rest.now self.new
+            actor.old actor.new }
         ensures count { Advances V.is_ready result rest.now actor.new }
     {
         match self.take_quick(rest, actor) {
@@ -209,7 +221,8 @@ impl<K: Store, A: Allocator> Machine<K, A> {
         requires some { 0 < length rest.now }
         requires ready { V.is_ready actor.old }
         requires ground { Holds K.keeps limit self.old Ground }
-        ensures { TookSome K.keeps K.denied limit V.takes V.refuses V.is_ready result rest.now self.new actor.old actor.new }
+        ensures { TookSome K.keeps K.denied limit V.takes V.refuses V.is_ready result rest.now
+            self.new actor.old actor.new }
     {
         match print_first(rest, actor) {
             Ok(0) => self.take_control(limit, rest, actor),
@@ -228,7 +241,8 @@ impl<K: Store, A: Allocator> Machine<K, A> {
     ) -> Result<usize>
         requires some { 0 < length rest.now }
         requires ready { V.is_ready actor.old }
-        ensures took { Took K.keeps K.denied limit V.takes V.refuses result Ground rest.now self.new actor.old actor.new }
+        ensures took { Took K.keeps K.denied limit V.takes V.refuses result Ground rest.now self.new
+            actor.old actor.new }
         ensures count { Advances V.is_ready result rest.now actor.new }
     {
         match self.take_control(limit, rest, actor) {
@@ -250,7 +264,8 @@ impl<K: Store, A: Allocator> Machine<K, A> {
     ) -> Result<usize>
         requires some { 0 < length rest.now }
         requires ready { V.is_ready actor.old }
-        ensures { TookSome K.keeps K.denied limit V.takes V.refuses V.is_ready result rest.now self.new actor.old actor.new }
+        ensures { TookSome K.keeps K.denied limit V.takes V.refuses V.is_ready result rest.now
+            self.new actor.old actor.new }
     {
         if rest[0] == 0x1b && rest.len() > 2 {
             self.take_escape(limit, rest, actor)
@@ -264,7 +279,8 @@ impl<K: Store, A: Allocator> Machine<K, A> {
     pub fn take_one_in_ground<V: VTActor>(&mut self, rest: &[u8], actor: &mut V) -> Result<usize>
         requires some { 0 < length rest.now }
         requires ready { V.is_ready actor.old }
-        ensures { (limit : Option ℕ) → TookSome K.keeps K.denied limit V.takes V.refuses V.is_ready result rest.now self.new actor.old actor.new }
+        ensures { (limit : Option ℕ) → TookSome K.keeps K.denied limit V.takes V.refuses V.is_ready
+            result rest.now self.new actor.old actor.new }
     {
         match self.in_ground(rest[0], classify(rest[0]), actor) {
             Ok(()) => Ok(1),

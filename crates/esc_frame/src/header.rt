@@ -82,7 +82,8 @@ fn number_of(piece: &[u8]) -> i64
 
 /// The parameters that parameter bytes write: the numbers of the pieces between `;`.
 pub fn params_of<A: Allocator + Copy>(alloc: A, bytes: &[u8]) -> Result<Vec<i64, A>, AllocError>
-    ensures ok { IfOk result (λ v. v.items ≡ map (λ p. pos (held (value_behind 0 p))) (parts_of bytes.now)) }
+    ensures ok { IfOk result (λ v. v.items ≡ map (λ p. pos (held (value_behind 0 p)))
+        (parts_of bytes.now)) }
     ensures refused { OnErr result (Refused A) }
 {
     let pieces = split_parts(alloc, bytes)?;
@@ -90,7 +91,8 @@ pub fn params_of<A: Allocator + Copy>(alloc: A, bytes: &[u8]) -> Result<Vec<i64,
 }
 
 fn numbers_of<A: Allocator>(alloc: A, pieces: &[&[u8]]) -> Result<Vec<i64, A>, AllocError>
-    ensures ok { IfOk result (λ v. v.items ≡ map (λ p. pos (held (value_behind 0 p.now))) pieces.now) }
+    ensures ok { IfOk result (λ v. v.items ≡ map
+        (λ p. pos (held (value_behind 0 p.now))) pieces.now) }
     ensures refused { OnErr result (Refused A) }
 {
     memory::collect(alloc, pieces.iter().map(|piece| number_of(piece)))

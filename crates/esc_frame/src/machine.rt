@@ -152,7 +152,9 @@ impl<K: Store, A: Allocator> Machine<K, A> {
         actor: &mut V,
     ) -> Result<()>
         requires { V.is_ready actor.old }
-        ensures moved { (u : Unfinished) → class ≡ class_of b → Holds K.keeps limit self.old u → Moved K.keeps K.denied limit (may_grow_in u) V.takes V.refuses result (move limit u b class) self.new actor.old actor.new }
+        ensures moved { (u : Unfinished) → class ≡ class_of b → Holds K.keeps limit self.old u
+            → Moved K.keeps K.denied limit (may_grow_in u) V.takes V.refuses result
+            (move limit u b class) self.new actor.old actor.new }
         ensures ready { OnOk result (V.is_ready actor.new) }
     {
         match self.state {
@@ -185,7 +187,9 @@ impl<K: Store, A: Allocator> Machine<K, A> {
     ) -> Result<()>
         requires { V.is_ready actor.old }
         ensures holds { (u : Unfinished) → Holds K.keeps limit self.old u → OnOk result (Holds K.keeps limit self.new (after_all u bytes.now)) }
-        ensures told { (u : Unfinished) → Holds K.keeps limit self.old u → Takes ((may_grow_within u bytes.now ≡ true) × NoMemory K.denied A) V.takes V.refuses result actor.old (news_all limit u bytes.now) actor.new }
+        ensures told { (u : Unfinished) → Holds K.keeps limit self.old u
+            → Takes ((may_grow_within u bytes.now ≡ true) × NoMemory K.denied A)
+            V.takes V.refuses result actor.old (news_all limit u bytes.now) actor.new }
         ensures ready { OnOk result (V.is_ready actor.new) }
     {
         let mut at = 0;
@@ -209,7 +213,9 @@ impl<K: Store, A: Allocator> Machine<K, A> {
     ) -> Result<usize>
         requires some { 0 < length rest.now }
         requires ready { V.is_ready actor.old }
-        ensures took { (u : Unfinished) → Holds K.keeps limit self.old u → Took K.keeps K.denied limit V.takes V.refuses result u rest.now self.new actor.old actor.new }
+        ensures took { (u : Unfinished) → Holds K.keeps limit self.old u
+            → Took K.keeps K.denied limit V.takes V.refuses result u rest.now self.new
+            actor.old actor.new }
         ensures quiet { (u : Unfinished) → Holds K.keeps limit self.old u → Quietly limit result u rest.now }
         ensures count { Advances V.is_ready result rest.now actor.new }
     {
@@ -244,7 +250,9 @@ impl<K: Store, A: Allocator> Machine<K, A> {
     ) -> Result<usize>
         requires some { 0 < length rest.now }
         requires ready { V.is_ready actor.old }
-        ensures took { (u : Unfinished) → Holds K.keeps limit self.old u → Took K.keeps K.denied limit V.takes V.refuses result u rest.now self.new actor.old actor.new }
+        ensures took { (u : Unfinished) → Holds K.keeps limit self.old u
+            → Took K.keeps K.denied limit V.takes V.refuses result u rest.now self.new
+            actor.old actor.new }
         ensures count { Advances V.is_ready result rest.now actor.new }
     {
         match self.state {
@@ -270,7 +278,9 @@ impl<K: Store, A: Allocator> Machine<K, A> {
         requires some { 0 < length rest.now }
         requires ready { V.is_ready actor.old }
         requires between { is_between self.old.state (front_of self.old.pending) ≡ true }
-        ensures took { (u : Unfinished) → Holds K.keeps limit self.old u → Took K.keeps K.denied limit V.takes V.refuses result u rest.now self.new actor.old actor.new }
+        ensures took { (u : Unfinished) → Holds K.keeps limit self.old u
+            → Took K.keeps K.denied limit V.takes V.refuses result u rest.now self.new
+            actor.old actor.new }
         ensures quiet { (u : Unfinished) → Quietly limit result u rest.now }
         ensures count { Advances V.is_ready result rest.now actor.new }
     {

@@ -34,7 +34,10 @@ impl<K: Store, A: Allocator> Machine<K, A> {
         actor: &mut V,
     ) -> Result<()>
         requires { V.is_ready actor.old }
-        ensures moved { (o : Opener) (ps : List Piece) → class ≡ class_of b → K.keeps limit self.old.text (text_of ps) → Moved K.keeps K.denied limit true V.takes V.refuses result (inside limit (InOsc o ps) b class) self.new actor.old actor.new }
+        ensures moved { (o : Opener) (ps : List Piece) → class ≡ class_of b
+            → K.keeps limit self.old.text (text_of ps)
+            → Moved K.keeps K.denied limit true V.takes V.refuses result
+            (inside limit (InOsc o ps) b class) self.new actor.old actor.new }
         ensures ready { OnOk result (V.is_ready actor.new) }
     {
         self.state = State::Osc;
@@ -71,7 +74,10 @@ impl<K: Store, A: Allocator> Machine<K, A> {
         actor: &mut V,
     ) -> Result<()>
         requires { V.is_ready actor.old }
-        ensures moved { (o : Opener) (ps : List Piece) (f : List ℕ) → class ≡ class_of b → K.keeps limit self.old.text (text_of ps) → front_of self.old.pending ≡ f → Moved K.keeps K.denied limit true V.takes V.refuses result (osc_pending_move limit o ps f b class (outcome f b)) self.new actor.old actor.new }
+        ensures moved { (o : Opener) (ps : List Piece) (f : List ℕ) → class ≡ class_of b
+            → K.keeps limit self.old.text (text_of ps) → front_of self.old.pending ≡ f
+            → Moved K.keeps K.denied limit true V.takes V.refuses result
+            (osc_pending_move limit o ps f b class (outcome f b)) self.new actor.old actor.new }
         ensures ready { OnOk result (V.is_ready actor.new) }
     {
         match self.pending.outcome(b) {
@@ -97,7 +103,10 @@ impl<K: Store, A: Allocator> Machine<K, A> {
         actor: &mut V,
     ) -> Result<()>
         requires { V.is_ready actor.old }
-        ensures moved { (o : Opener) (ps : List Piece) → K.keeps limit self.old.text (text_of ps) → Moved K.keeps K.denied limit true V.takes V.refuses result (osc_pending_move limit o ps (front_of self.old.pending) b class Outcome.Whole) self.new actor.old actor.new }
+        ensures moved { (o : Opener) (ps : List Piece) → K.keeps limit self.old.text (text_of ps)
+            → Moved K.keeps K.denied limit true V.takes V.refuses result
+            (osc_pending_move limit o ps (front_of self.old.pending) b class Outcome.Whole)
+            self.new actor.old actor.new }
         ensures ready { OnOk result (V.is_ready actor.new) }
     {
         if self.pending.pairs_with(b) {
@@ -113,7 +122,9 @@ impl<K: Store, A: Allocator> Machine<K, A> {
     // A breaker after an OSC.
     fn leave_osc<V: VTActor>(&mut self, b: u8, class: Class, actor: &mut V) -> Result<()>
         requires { V.is_ready actor.old }
-        ensures moved { (limit : Option ℕ) (t : List ℕ) → K.keeps limit self.old.text t → Moved K.keeps K.denied limit true V.takes V.refuses result (telling (osc_events limit t) (ground_move b class)) self.new actor.old actor.new }
+        ensures moved { (limit : Option ℕ) (t : List ℕ) → K.keeps limit self.old.text t
+            → Moved K.keeps K.denied limit true V.takes V.refuses result
+            (telling (osc_events limit t) (ground_move b class)) self.new actor.old actor.new }
         ensures ready { OnOk result (V.is_ready actor.new) }
     {
         match tell_osc(&self.text, &self.alloc, actor) {
@@ -125,7 +136,9 @@ impl<K: Store, A: Allocator> Machine<K, A> {
     // A control after C2, in an OSC.
     fn leave_osc_by_pair<V: VTActor>(&mut self, b: u8, class: Class, actor: &mut V) -> Result<()>
         requires { V.is_ready actor.old }
-        ensures moved { (limit : Option ℕ) (t : List ℕ) → K.keeps limit self.old.text t → Moved K.keeps K.denied limit true V.takes V.refuses result (telling (osc_events limit t) (pair_move b class)) self.new actor.old actor.new }
+        ensures moved { (limit : Option ℕ) (t : List ℕ) → K.keeps limit self.old.text t
+            → Moved K.keeps K.denied limit true V.takes V.refuses result
+            (telling (osc_events limit t) (pair_move b class)) self.new actor.old actor.new }
         ensures ready { OnOk result (V.is_ready actor.new) }
     {
         match tell_osc(&self.text, &self.alloc, actor) {
@@ -146,7 +159,8 @@ impl<K: Store, A: Allocator> Machine<K, A> {
         requires escape { slice_index rest.now 0 ≡ 0x1b }
         requires bracket { slice_index rest.now 1 ≡ 0x5d }
         requires ready { V.is_ready actor.old }
-        ensures { TookSome K.keeps K.denied limit V.takes V.refuses V.is_ready result rest.now self.new actor.old actor.new }
+        ensures { TookSome K.keeps K.denied limit V.takes V.refuses V.is_ready result rest.now
+            self.new actor.old actor.new }
     {
         match self.take_body(limit, &rest[2..], actor) {
             Ok(n) => Ok(2 + n),
@@ -165,7 +179,9 @@ impl<K: Store, A: Allocator> Machine<K, A> {
     ) -> Result<usize>
         requires some { 0 < length rest.now }
         requires ready { V.is_ready actor.old }
-        ensures took { (o : Opener) (ps : List Piece) → text_of ps ≡ [] → Took K.keeps K.denied limit V.takes V.refuses result (InOsc o ps) rest.now self.new actor.old actor.new }
+        ensures took { (o : Opener) (ps : List Piece) → text_of ps ≡ []
+            → Took K.keeps K.denied limit V.takes V.refuses result (InOsc o ps)
+            rest.now self.new actor.old actor.new }
         ensures quiet { (o : Opener) (ps : List Piece) → Quietly limit result (InOsc o ps) rest.now }
         ensures count { Advances V.is_ready result rest.now actor.new }
     {
@@ -196,7 +212,10 @@ impl<K: Store, A: Allocator> Machine<K, A> {
         requires few { run ≤ length rest.now }
         requires passes { IsTextRun (take run rest.now) }
         requires ready { V.is_ready actor.old }
-        ensures took { (o : Opener) (ps : List Piece) → text_of ps ≡ [] → is_lendable (InOsc o ps) rest.now ≡ false → Took K.keeps K.denied limit V.takes V.refuses result (InOsc o ps) rest.now self.new actor.old actor.new }
+        ensures took { (o : Opener) (ps : List Piece) → text_of ps ≡ []
+            → is_lendable (InOsc o ps) rest.now ≡ false
+            → Took K.keeps K.denied limit V.takes V.refuses result (InOsc o ps)
+            rest.now self.new actor.old actor.new }
         ensures quiet { (o : Opener) (ps : List Piece) → Quietly limit result (InOsc o ps) rest.now }
         ensures count { Advances V.is_ready result rest.now actor.new }
     {
@@ -219,7 +238,9 @@ impl<K: Store, A: Allocator> Machine<K, A> {
         requires class { class ≡ class_of (slice_index rest.now run) }
         requires ends { ends_osc class ≡ true }
         requires ready { V.is_ready actor.old }
-        ensures took { (o : Opener) (ps : List Piece) → text_of ps ≡ [] → Took K.keeps K.denied limit V.takes V.refuses result (InOsc o ps) rest.now self.new actor.old actor.new }
+        ensures took { (o : Opener) (ps : List Piece) → text_of ps ≡ []
+            → Took K.keeps K.denied limit V.takes V.refuses result (InOsc o ps)
+            rest.now self.new actor.old actor.new }
         ensures quiet { (o : Opener) (ps : List Piece) → Quietly limit result (InOsc o ps) rest.now }
         ensures count { Advances V.is_ready result rest.now actor.new }
     {
@@ -243,7 +264,9 @@ impl<K: Store, A: Allocator> Machine<K, A> {
         requires lead { slice_index rest.now run ≡ 0xc2 }
         requires control { is_from 0x80 0x9f (slice_index rest.now (run + 1)) ≡ true }
         requires ready { V.is_ready actor.old }
-        ensures took { (o : Opener) (ps : List Piece) → text_of ps ≡ [] → Took K.keeps K.denied limit V.takes V.refuses result (InOsc o ps) rest.now self.new actor.old actor.new }
+        ensures took { (o : Opener) (ps : List Piece) → text_of ps ≡ []
+            → Took K.keeps K.denied limit V.takes V.refuses result (InOsc o ps)
+            rest.now self.new actor.old actor.new }
         ensures quiet { (o : Opener) (ps : List Piece) → Quietly limit result (InOsc o ps) rest.now }
         ensures count { Advances V.is_ready result rest.now actor.new }
     {
@@ -264,7 +287,9 @@ impl<K: Store, A: Allocator> Machine<K, A> {
         actor: &mut V,
     ) -> Result<()>
         requires { V.is_ready actor.old }
-        ensures moved { Moved K.keeps K.denied limit (not (has_few_parts text.now)) V.takes V.refuses result (telling (osc_events limit text.now) (osc_left b class)) self.new actor.old actor.new }
+        ensures moved { Moved K.keeps K.denied limit (not (has_few_parts text.now))
+            V.takes V.refuses result (telling (osc_events limit text.now) (osc_left b class))
+            self.new actor.old actor.new }
         ensures ready { OnOk result (V.is_ready actor.new) }
     {
         match tell_lent(limit, &self.alloc, text, actor) {
@@ -282,7 +307,10 @@ impl<K: Store, A: Allocator> Machine<K, A> {
         actor: &mut V,
     ) -> Result<()>
         requires { V.is_ready actor.old }
-        ensures moved { Moved K.keeps K.denied limit (not (has_few_parts text.now)) V.takes V.refuses result (telling (osc_events limit text.now) (pair_move b (class_of b))) self.new actor.old actor.new }
+        ensures moved { Moved K.keeps K.denied limit (not (has_few_parts text.now))
+            V.takes V.refuses result
+            (telling (osc_events limit text.now) (pair_move b (class_of b)))
+            self.new actor.old actor.new }
         ensures ready { OnOk result (V.is_ready actor.new) }
     {
         match tell_lent(limit, &self.alloc, text, actor) {
@@ -294,7 +322,9 @@ impl<K: Store, A: Allocator> Machine<K, A> {
     // A bell, or a breaker.
     fn leave_lent<V: VTActor>(&mut self, b: u8, class: Class, actor: &mut V) -> Result<()>
         requires { V.is_ready actor.old }
-        ensures moved { (limit : Option ℕ) (own : Bool) → Moved K.keeps K.denied limit own V.takes V.refuses result (osc_left b class) self.new actor.old actor.new }
+        ensures moved { (limit : Option ℕ) (own : Bool)
+            → Moved K.keeps K.denied limit own V.takes V.refuses result (osc_left b class)
+            self.new actor.old actor.new }
         ensures ready { OnOk result (V.is_ready actor.new) }
     {
         if let Class::Bell = class {
@@ -318,7 +348,9 @@ impl<K: Store, A: Allocator> Machine<K, A> {
         requires ready { V.is_ready actor.old }
         requires state { self.old.state ≡ State.Osc }
         requires whole { front_of self.old.pending ≡ [] }
-        ensures took { (o : Opener) (ps : List Piece) → K.keeps limit self.old.text (text_of ps) → Took K.keeps K.denied limit V.takes V.refuses result (InOsc o ps) rest.now self.new actor.old actor.new }
+        ensures took { (o : Opener) (ps : List Piece) → K.keeps limit self.old.text (text_of ps)
+            → Took K.keeps K.denied limit V.takes V.refuses result (InOsc o ps)
+            rest.now self.new actor.old actor.new }
         ensures quiet { (o : Opener) (ps : List Piece) → Quietly limit result (InOsc o ps) rest.now }
         ensures count { Advances V.is_ready result rest.now actor.new }
     {
@@ -344,7 +376,10 @@ impl<K: Store, A: Allocator> Machine<K, A> {
         requires ready { V.is_ready actor.old }
         requires state { self.old.state ≡ State.Osc }
         requires whole { front_of self.old.pending ≡ [] }
-        ensures took { (o : Opener) (ps : List Piece) → K.keeps limit self.old.text (text_of ps) → is_lendable (InOsc o ps) rest.now ≡ false → Took K.keeps K.denied limit V.takes V.refuses result (InOsc o ps) rest.now self.new actor.old actor.new }
+        ensures took { (o : Opener) (ps : List Piece) → K.keeps limit self.old.text (text_of ps)
+            → is_lendable (InOsc o ps) rest.now ≡ false
+            → Took K.keeps K.denied limit V.takes V.refuses result (InOsc o ps)
+            rest.now self.new actor.old actor.new }
         ensures quiet { (o : Opener) (ps : List Piece) → Quietly limit result (InOsc o ps) rest.now }
         ensures count { Advances V.is_ready result rest.now actor.new }
     {
@@ -369,7 +404,11 @@ impl<K: Store, A: Allocator> Machine<K, A> {
         requires ready { V.is_ready actor.old }
         requires state { self.old.state ≡ State.Osc }
         requires whole { front_of self.old.pending ≡ [] }
-        ensures took { (o : Opener) (ps : List Piece) → K.keeps limit self.old.text (text_of ps ++ take run rest.now) → is_lendable (InOsc o ps) rest.now ≡ false → Took K.keeps K.denied limit V.takes V.refuses result (InOsc o ps) rest.now self.new actor.old actor.new }
+        ensures took { (o : Opener) (ps : List Piece)
+            → K.keeps limit self.old.text (text_of ps ++ take run rest.now)
+            → is_lendable (InOsc o ps) rest.now ≡ false
+            → Took K.keeps K.denied limit V.takes V.refuses result (InOsc o ps)
+            rest.now self.new actor.old actor.new }
         ensures quiet { (o : Opener) (ps : List Piece) → Quietly limit result (InOsc o ps) rest.now }
         ensures count { Advances V.is_ready result rest.now actor.new }
     {
@@ -425,7 +464,8 @@ fn tell_lent<A: Allocator, V: VTActor>(
     actor: &mut V,
 ) -> Result<()>
     requires { V.is_ready actor.old }
-    ensures told { Takes ((not (has_few_parts text.now) ≡ true) × Refused A) V.takes V.refuses result actor.old (osc_events limit text.now) actor.new }
+    ensures told { Takes ((not (has_few_parts text.now) ≡ true) × Refused A)
+        V.takes V.refuses result actor.old (osc_events limit text.now) actor.new }
     ensures ready { OnOk result (V.is_ready actor.new) }
 {
     if fits(limit, 0, text.len()) {
@@ -438,7 +478,8 @@ fn tell_lent<A: Allocator, V: VTActor>(
 // The text of an operating system command, told where it is within the limit.
 fn tell_osc<K: Store, A: Allocator, V: VTActor>(text: &K, alloc: &A, actor: &mut V) -> Result<()>
     requires { V.is_ready actor.old }
-    ensures told { (limit : Option ℕ) (t : List ℕ) → K.keeps limit text.now t → Takes (Refused A) V.takes V.refuses result actor.old (osc_events limit t) actor.new }
+    ensures told { (limit : Option ℕ) (t : List ℕ) → K.keeps limit text.now t
+        → Takes (Refused A) V.takes V.refuses result actor.old (osc_events limit t) actor.new }
     ensures ready { OnOk result (V.is_ready actor.new) }
 {
     if text.is_over() {

@@ -138,7 +138,10 @@ impl<A: Allocator> VTParser<A> {
     pub fn parse_byte<V: VTActor>(&mut self, byte: u8, actor: &mut V) -> Result<(), ParseError>
         requires { V.is_ready actor.old }
         ensures given { (limit : Option ℕ) (s : List ℕ) → LeadsToWithin limit s self.old → OnOk result (LeadsToWithin limit (s ++ byte ∷ []) self.new × FoldsTo V.takes actor.old (added_within limit s (byte ∷ [])) actor.new) }
-        ensures refused { (limit : Option ℕ) (s : List ℕ) → LeadsToWithin limit s self.old → IfErr result (λ e. (e ≡ ParseError.Memory) × StopsAt (MayGrow (s ++ byte ∷ []) × Refused A) V.takes V.refuses actor.old (added_within limit s (byte ∷ [])) actor.new) }
+        ensures refused { (limit : Option ℕ) (s : List ℕ) → LeadsToWithin limit s self.old
+            → IfErr result (λ e. (e ≡ ParseError.Memory)
+            × StopsAt (MayGrow (s ++ byte ∷ []) × Refused A) V.takes V.refuses actor.old
+            (added_within limit s (byte ∷ [])) actor.new) }
         ensures ends { OnErr result (HasFailed self.new) }
         ensures failed { HasFailed self.old → (result ≡ Err ParseError.Failed) × (actor.new ≡ actor.old) }
         ensures ready { OnOk result (V.is_ready actor.new) }
@@ -170,7 +173,10 @@ impl<A: Allocator> VTParser<A> {
     pub fn parse<V: VTActor>(&mut self, bytes: &[u8], actor: &mut V) -> Result<(), ParseError>
         requires { V.is_ready actor.old }
         ensures given { (limit : Option ℕ) (s : List ℕ) → LeadsToWithin limit s self.old → OnOk result (LeadsToWithin limit (s ++ bytes.now) self.new × FoldsTo V.takes actor.old (added_within limit s bytes.now) actor.new) }
-        ensures refused { (limit : Option ℕ) (s : List ℕ) → LeadsToWithin limit s self.old → IfErr result (λ e. (e ≡ ParseError.Memory) × StopsAt (MayGrow (s ++ bytes.now) × Refused A) V.takes V.refuses actor.old (added_within limit s bytes.now) actor.new) }
+        ensures refused { (limit : Option ℕ) (s : List ℕ) → LeadsToWithin limit s self.old
+            → IfErr result (λ e. (e ≡ ParseError.Memory)
+            × StopsAt (MayGrow (s ++ bytes.now) × Refused A) V.takes V.refuses actor.old
+            (added_within limit s bytes.now) actor.new) }
         ensures lent { (limit : Option ℕ) (s : List ℕ) → LeadsToWithin limit s self.old → IsAtGround s → AreLent bytes.now → IfErr result (λ e. (e ≡ ParseError.Memory) × StopsAt ⊥ V.takes V.refuses actor.old (added_within limit s bytes.now) actor.new) }
         ensures ends { OnErr result (HasFailed self.new) }
         ensures failed { HasFailed self.old → (result ≡ Err ParseError.Failed) × (actor.new ≡ actor.old) }
@@ -205,7 +211,10 @@ impl<A: Allocator> VTParser<A> {
         ensures empty { length bytes.now ≡ 0 → actor.new ≡ actor.old }
         ensures given { (limit : Option ℕ) (s : List ℕ) → LeadsToWithin limit s self.old → IfOk result (λ n. LeadsToWithin limit (s ++ take n bytes.now) self.new × FoldsTo V.takes actor.old (added_within limit s (take n bytes.now)) actor.new) }
         ensures quiet { (limit : Option ℕ) (s : List ℕ) → LeadsToWithin limit s self.old → IfOk result (λ n. IsQuietWithin limit s bytes.now n) }
-        ensures refused { (limit : Option ℕ) (s : List ℕ) → LeadsToWithin limit s self.old → IfErr result (λ e. (e ≡ ParseError.Memory) × StopsAt (MayGrow (s ++ bytes.now) × Refused A) V.takes V.refuses actor.old (added_within limit s bytes.now) actor.new) }
+        ensures refused { (limit : Option ℕ) (s : List ℕ) → LeadsToWithin limit s self.old
+            → IfErr result (λ e. (e ≡ ParseError.Memory)
+            × StopsAt (MayGrow (s ++ bytes.now) × Refused A) V.takes V.refuses actor.old
+            (added_within limit s bytes.now) actor.new) }
         ensures ends { OnErr result (HasFailed self.new) }
         ensures failed { HasFailed self.old → (result ≡ Err ParseError.Failed) × (actor.new ≡ actor.old) }
         ensures ready { OnOk result (V.is_ready actor.new) }

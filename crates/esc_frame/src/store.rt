@@ -7,8 +7,8 @@ ghost use Rattle.esc_frame.specs.Segments.{is_empty};
 
 use std::alloc::AllocError;
 
-/// Keeps the text of an unfinished string, as far as a limit allows. A store says by `keeps` what it keeps, and by `denied`
-/// why it may fail.
+/// Keeps the text of an unfinished string, as far as a limit allows. A store says by `keeps` what it
+/// keeps, and by `denied` why it may fail.
 pub trait Store: Drop {
     // this text is kept, each byte of which counts; or nothing, where it is past the limit
     ghost keeps: { Option ℕ → Self → List ℕ → Type 0 };
@@ -35,6 +35,7 @@ pub trait Store: Drop {
 
     /// Takes text more, each byte of which counts.
     fn push(&mut self, limit: Option<usize>, text: &[u8]) -> Result<(), AllocError>
-        ensures ok { (t : List ℕ) → keeps limit self.old t → OnOk result (keeps limit self.new (t ++ text.now)) }
+        ensures ok { (t : List ℕ) → keeps limit self.old t
+            → OnOk result (keeps limit self.new (t ++ text.now)) }
         ensures refused { OnErr result denied };
 }

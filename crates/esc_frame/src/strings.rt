@@ -33,7 +33,10 @@ impl<K: Store, A: Allocator> Machine<K, A> {
         actor: &mut V,
     ) -> Result<()>
         requires { V.is_ready actor.old }
-        ensures moved { (o : Opener) (d : List ℕ) → class ≡ class_of b → K.keeps limit self.old.text (those is_text d) → Moved K.keeps K.denied limit true V.takes V.refuses result (inside limit (InApc o d) b class) self.new actor.old actor.new }
+        ensures moved { (o : Opener) (d : List ℕ) → class ≡ class_of b
+            → K.keeps limit self.old.text (those is_text d)
+            → Moved K.keeps K.denied limit true V.takes V.refuses result
+            (inside limit (InApc o d) b class) self.new actor.old actor.new }
         ensures ready { OnOk result (V.is_ready actor.new) }
     {
         self.state = State::Apc;
@@ -55,7 +58,9 @@ impl<K: Store, A: Allocator> Machine<K, A> {
     // A breaker after an APC.
     fn leave_apc<V: VTActor>(&mut self, b: u8, class: Class, actor: &mut V) -> Result<()>
         requires { V.is_ready actor.old }
-        ensures moved { (limit : Option ℕ) (t : List ℕ) → K.keeps limit self.old.text t → Moved K.keeps K.denied limit true V.takes V.refuses result (telling (apc_events limit t) (ground_move b class)) self.new actor.old actor.new }
+        ensures moved { (limit : Option ℕ) (t : List ℕ) → K.keeps limit self.old.text t
+            → Moved K.keeps K.denied limit true V.takes V.refuses result
+            (telling (apc_events limit t) (ground_move b class)) self.new actor.old actor.new }
         ensures ready { OnOk result (V.is_ready actor.new) }
     {
         match tell_apc(&self.text, actor) {
@@ -67,8 +72,13 @@ impl<K: Store, A: Allocator> Machine<K, A> {
     /// A byte that is passed over, but for a breaker.
     pub fn in_skip<V: VTActor>(&mut self, b: u8, class: Class, actor: &mut V) -> Result<()>
         requires { V.is_ready actor.old }
-        ensures ignored { (limit : Option ℕ) (k : Kind) (o : Opener) (d : List ℕ) → Moved K.keeps K.denied limit true V.takes V.refuses result (inside limit (InIgnored k o d) b class) self.new actor.old actor.new }
-        ensures data { (limit : Option ℕ) (o : Opener) (x : List ℕ) (f : ℕ) (d : List ℕ) → is_read limit (strip x) ≡ false → Moved K.keeps K.denied limit true V.takes V.refuses result (inside limit (InData o x f d) b class) self.new actor.old actor.new }
+        ensures ignored { (limit : Option ℕ) (k : Kind) (o : Opener) (d : List ℕ)
+            → Moved K.keeps K.denied limit true V.takes V.refuses result
+            (inside limit (InIgnored k o d) b class) self.new actor.old actor.new }
+        ensures data { (limit : Option ℕ) (o : Opener) (x : List ℕ) (f : ℕ) (d : List ℕ)
+            → is_read limit (strip x) ≡ false
+            → Moved K.keeps K.denied limit true V.takes V.refuses result
+            (inside limit (InData o x f d) b class) self.new actor.old actor.new }
         ensures ready { OnOk result (V.is_ready actor.new) }
     {
         self.state = State::Skip;
@@ -102,7 +112,9 @@ impl<K: Store, A: Allocator> Machine<K, A> {
         requires some { 0 < length rest.now }
         requires ready { V.is_ready actor.old }
         requires state { self.old.state ≡ State.Apc }
-        ensures took { (o : Opener) (d : List ℕ) → K.keeps limit self.old.text (those is_text d) → Took K.keeps K.denied limit V.takes V.refuses result (InApc o d) rest.now self.new actor.old actor.new }
+        ensures took { (o : Opener) (d : List ℕ) → K.keeps limit self.old.text (those is_text d)
+            → Took K.keeps K.denied limit V.takes V.refuses result (InApc o d)
+            rest.now self.new actor.old actor.new }
         ensures quiet { (o : Opener) (d : List ℕ) → Quietly limit result (InApc o d) rest.now }
         ensures count { Advances V.is_ready result rest.now actor.new }
     {
@@ -134,7 +146,10 @@ impl<K: Store, A: Allocator> Machine<K, A> {
         requires passes { list_all is_text_byte (take run rest.now) ≡ true }
         requires ready { V.is_ready actor.old }
         requires state { self.old.state ≡ State.Apc }
-        ensures took { (o : Opener) (d : List ℕ) → K.keeps limit self.old.text (those is_text d) → is_lendable (InApc o d) rest.now ≡ false → Took K.keeps K.denied limit V.takes V.refuses result (InApc o d) rest.now self.new actor.old actor.new }
+        ensures took { (o : Opener) (d : List ℕ) → K.keeps limit self.old.text (those is_text d)
+            → is_lendable (InApc o d) rest.now ≡ false
+            → Took K.keeps K.denied limit V.takes V.refuses result (InApc o d)
+            rest.now self.new actor.old actor.new }
         ensures quiet { (o : Opener) (d : List ℕ) → Quietly limit result (InApc o d) rest.now }
         ensures count { Advances V.is_ready result rest.now actor.new }
     {
@@ -158,7 +173,11 @@ impl<K: Store, A: Allocator> Machine<K, A> {
         requires passes { list_all is_text_byte (take run rest.now) ≡ true }
         requires ready { V.is_ready actor.old }
         requires state { self.old.state ≡ State.Apc }
-        ensures took { (o : Opener) (d : List ℕ) → K.keeps limit self.old.text (those is_text d ++ take run rest.now) → is_lendable (InApc o d) rest.now ≡ false → Took K.keeps K.denied limit V.takes V.refuses result (InApc o d) rest.now self.new actor.old actor.new }
+        ensures took { (o : Opener) (d : List ℕ)
+            → K.keeps limit self.old.text (those is_text d ++ take run rest.now)
+            → is_lendable (InApc o d) rest.now ≡ false
+            → Took K.keeps K.denied limit V.takes V.refuses result (InApc o d)
+            rest.now self.new actor.old actor.new }
         ensures quiet { (o : Opener) (d : List ℕ) → Quietly limit result (InApc o d) rest.now }
         ensures count { Advances V.is_ready result rest.now actor.new }
     {
@@ -186,7 +205,9 @@ impl<K: Store, A: Allocator> Machine<K, A> {
         requires class { class ≡ class_of (slice_index rest.now run) }
         requires ends { is_breaker class ≡ true }
         requires ready { V.is_ready actor.old }
-        ensures took { (o : Opener) (d : List ℕ) → those is_text d ≡ [] → Took K.keeps K.denied limit V.takes V.refuses result (InApc o d) rest.now self.new actor.old actor.new }
+        ensures took { (o : Opener) (d : List ℕ) → those is_text d ≡ []
+            → Took K.keeps K.denied limit V.takes V.refuses result (InApc o d)
+            rest.now self.new actor.old actor.new }
         ensures quiet { (o : Opener) (d : List ℕ) → Quietly limit result (InApc o d) rest.now }
         ensures count { Advances V.is_ready result rest.now actor.new }
     {
@@ -206,7 +227,9 @@ impl<K: Store, A: Allocator> Machine<K, A> {
         actor: &mut V,
     ) -> Result<()>
         requires { V.is_ready actor.old }
-        ensures moved { (own : Bool) → Moved K.keeps K.denied limit own V.takes V.refuses result (telling (apc_events limit text.now) (ground_move b class)) self.new actor.old actor.new }
+        ensures moved { (own : Bool) → Moved K.keeps K.denied limit own V.takes V.refuses result
+            (telling (apc_events limit text.now) (ground_move b class))
+            self.new actor.old actor.new }
         ensures ready { OnOk result (V.is_ready actor.new) }
     {
         match tell_lent_apc(limit, text, actor) {
@@ -226,7 +249,9 @@ impl<K: Store, A: Allocator> Machine<K, A> {
         requires some { 0 < length rest.now }
         requires ready { V.is_ready actor.old }
         requires state { self.old.state ≡ State.Skip }
-        ensures took { (u : Unfinished) → Holds K.keeps limit self.old u → Took K.keeps K.denied limit V.takes V.refuses result u rest.now self.new actor.old actor.new }
+        ensures took { (u : Unfinished) → Holds K.keeps limit self.old u
+            → Took K.keeps K.denied limit V.takes V.refuses result u rest.now self.new
+            actor.old actor.new }
         ensures quiet { (u : Unfinished) → Holds K.keeps limit self.old u → Quietly limit result u rest.now }
         ensures count { Advances V.is_ready result rest.now actor.new }
     {
@@ -264,7 +289,8 @@ fn is_breaker(class: Class) -> bool
 // A lent text, told where it is within the limit.
 fn tell_lent_apc<V: VTActor>(limit: Option<usize>, text: &[u8], actor: &mut V) -> Result<()>
     requires { V.is_ready actor.old }
-    ensures told { Takes ⊥ V.takes V.refuses result actor.old (apc_events limit text.now) actor.new }
+    ensures told { Takes ⊥ V.takes V.refuses result actor.old
+        (apc_events limit text.now) actor.new }
     ensures ready { OnOk result (V.is_ready actor.new) }
 {
     if fits(limit, 0, text.len()) {
@@ -278,7 +304,8 @@ fn tell_lent_apc<V: VTActor>(limit: Option<usize>, text: &[u8], actor: &mut V) -
 #[tactic(auto, using(crate::proofs::Given::hears_takes))]
 fn tell_apc<K: Store, V: VTActor>(text: &K, actor: &mut V) -> Result<()>
     requires { V.is_ready actor.old }
-    ensures told { (limit : Option ℕ) (t : List ℕ) → K.keeps limit text.now t → Takes ⊥ V.takes V.refuses result actor.old (apc_events limit t) actor.new }
+    ensures told { (limit : Option ℕ) (t : List ℕ) → K.keeps limit text.now t
+        → Takes ⊥ V.takes V.refuses result actor.old (apc_events limit t) actor.new }
     ensures ready { OnOk result (V.is_ready actor.new) }
 {
     if text.is_over() {

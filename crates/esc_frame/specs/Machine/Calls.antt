@@ -11,14 +11,17 @@ use Rattle.esc_frame.specs.Segments.{is_empty}
 use Rattle.esc_frame.specs.Leads.Unfinished.{Ground}
 use Rattle.esc_frame.specs.Machine.Moves.{Move, after_all, news_all, may_grow_within, is_fresh, is_lendable, IsStill}
 
--- A request for memory was refused: one of the store, for which it has its own word, or one to the allocator.
+-- A request for memory was refused: one of the store, for which it has its own word, or one to the
+-- allocator.
 abbrev pub NoMemory : Type 0 → Type 0 → Type 0
 NoMemory denied A = denied ⊎ Refused A
 
--- The machine made this move: it keeps what is unfinished after it, and the actor was given its events. Where the result is
--- an error the actor was given a prefix of them; the machine stopped by itself only where `own` holds and memory was refused.
+-- The machine made this move: it keeps what is unfinished after it, and the actor was given its
+-- events. Where the result is an error the actor was given a prefix of them; the machine stopped by
+-- itself only where `own` holds and memory was refused.
 abbrev pub Moved : {K A S E : Type 0} → (Option ℕ → K → List ℕ → Type 0) → Type 0 → Option ℕ → Bool
-    → (S → Event → S → Type 0) → (S → Event → S → Type 0) → Result (Unit {0}) E → Move → Machine K A → S → S
+    → (S → Event → S → Type 0) → (S → Event → S → Type 0) → Result (Unit {0}) E → Move
+    → Machine K A → S → S
     → Type 0
 Moved {K} {A} keeps denied limit own takes refuses result m machine old new =
     MatchResult result (λ _. Holds keeps limit machine m.0 × FoldsTo takes old m.1 new)
@@ -28,17 +31,21 @@ Moved {K} {A} keeps denied limit own takes refuses result m machine old new =
 abbrev pub StaysFresh : Unfinished → List ℕ → ℕ → Type 0
 StaysFresh u rest n = is_lendable u rest ≡ true → is_fresh (after_all u (take n rest)) ≡ true
 
--- The call took n bytes of the rest, where u was unfinished before: the machine keeps what is unfinished after them, and the
--- actor was given their events. Where the result is an error the actor was given a prefix of the events of the rest; the
--- machine stopped by itself only where its memory may grow and memory was refused.
+-- The call took n bytes of the rest, where u was unfinished before: the machine keeps what is
+-- unfinished after them, and the actor was given their events. Where the result is an error the actor
+-- was given a prefix of the events of the rest; the machine stopped by itself only where its memory
+-- may grow and memory was refused.
 abbrev pub Took : {K A S E : Type 0} → (Option ℕ → K → List ℕ → Type 0) → Type 0 → Option ℕ
-    → (S → Event → S → Type 0) → (S → Event → S → Type 0) → Result ℕ E → Unfinished → List ℕ → Machine K A → S → S
+    → (S → Event → S → Type 0) → (S → Event → S → Type 0) → Result ℕ E → Unfinished → List ℕ
+    → Machine K A → S → S
     → Type 0
 Took {K} {A} keeps denied limit takes refuses result u rest machine old new =
     MatchResult result
-    (λ n. Holds keeps limit machine (after_all u (take n rest)) × FoldsTo takes old (news_all limit u (take n rest)) new
+    (λ n. Holds keeps limit machine (after_all u (take n rest))
+    × FoldsTo takes old (news_all limit u (take n rest)) new
     × StaysFresh u rest n)
-    (λ _. StopsAt ((may_grow_within u rest ≡ true) × NoMemory denied A) takes refuses old (news_all limit u rest) new)
+    (λ _. StopsAt ((may_grow_within u rest ≡ true) × NoMemory denied A) takes refuses old
+    (news_all limit u rest) new)
 
 -- it took a byte at least, and no more than there are, and the actor is ready
 abbrev pub Advances : {S E : Type 0} → (S → Type 0) → Result ℕ E → List ℕ → S → Type 0
@@ -60,7 +67,8 @@ Ran takes is_ready rest n old new =
     is_ready new
 
 -- the same of a call, which stops only where the actor refuses
-abbrev pub Stays : {S E : Type 0} → (S → Event → S → Type 0) → (S → Event → S → Type 0) → (S → Type 0)
+abbrev pub Stays : {S E : Type 0} → (S → Event → S → Type 0) → (S → Event → S → Type 0)
+    → (S → Type 0)
     → Result ℕ E → List ℕ → S → S → Type 0
 Stays takes refuses is_ready result rest old new =
     MatchResult result (λ n. Ran takes is_ready rest n old new)
@@ -68,10 +76,12 @@ Stays takes refuses is_ready result rest old new =
 
 -- It took some of the bytes, in ground: one at least, and the first event among them, if any, is that of the last.
 abbrev pub TookSome : {K A S E : Type 0} → (Option ℕ → K → List ℕ → Type 0) → Type 0 → Option ℕ
-    → (S → Event → S → Type 0) → (S → Event → S → Type 0) → (S → Type 0) → Result ℕ E → List ℕ → Machine K A → S → S
+    → (S → Event → S → Type 0) → (S → Event → S → Type 0) → (S → Type 0) → Result ℕ E → List ℕ
+    → Machine K A → S → S
     → Type 0
 TookSome keeps denied limit takes refuses is_ready result rest machine old new =
-    Took keeps denied limit takes refuses result Ground rest machine old new × Quietly limit result Ground rest
+    Took keeps denied limit takes refuses result Ground rest machine old new
+    × Quietly limit result Ground rest
     × Advances is_ready result rest new
 
 -- The machine is in no OSC or APC, but where these bytes of a sequence pend in an OSC.

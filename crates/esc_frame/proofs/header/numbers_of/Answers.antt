@@ -8,5 +8,6 @@ pub returns-clause-ok : goal.returns-clause-ok
 returns-clause-ok g c =
     items_from_collect _ c.collect.ensures.ran
     (YieldsList-from_map _ (λ p. pos (held (value_behind 0 p.now)))
-    (YieldsList-from_slice c.args.pieces.now (ap iter_rest c.map.ensures.source ∙ c.iter.ensures.rest))
+    (YieldsList-from_slice c.args.pieces.now
+    (ap iter_rest c.map.ensures.source ∙ c.iter.ensures.rest))
     c.map.ensures.closure (λ x r q k. search rules))

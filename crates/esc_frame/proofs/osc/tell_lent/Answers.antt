@@ -14,11 +14,14 @@ pub returns-then-fits-clause-told : goal.returns-then-fits-clause-told
 returns-then-fits-clause-told g c =
     let t = c.args.text.now in
     let own : Type 0 = (not (has_few_parts t) ≡ true) × Refused g.row.A.Denot in
-    subst (λ es. Takes own g.V.VTActor.takes g.V.VTActor.refuses c.osc_text.result c.args.actor.now es c.osc_text.new.self)
+    subst (λ es. Takes own g.V.VTActor.takes g.V.VTActor.refuses c.osc_text.result c.args.actor.now
+    es c.osc_text.new.self)
     (osc_told c.args.limit t (within_by c.args.limit (length t) _ c.fits.ensures ∙ c.if-fits.true))
-    (takes_few (has_few_parts t) (Refused g.row.A.Denot) g.V.VTActor.takes g.V.VTActor.refuses c.osc_text.result
+    (takes_few (has_few_parts t) (Refused g.row.A.Denot)
+    g.V.VTActor.takes g.V.VTActor.refuses c.osc_text.result
     c.args.actor.now c.osc_text.new.self (OscDispatch (parts_of t) ∷ [])
-    (takes_for _ _ g.V.VTActor.takes g.V.VTActor.refuses c.osc_text.result c.args.actor.now c.osc_text.new.self
+    (takes_for _ _ g.V.VTActor.takes g.V.VTActor.refuses c.osc_text.result c.args.actor.now
+    c.osc_text.new.self
     (OscDispatch (parts_of t) ∷ []) (by_reference g.row.A.Denot) c.osc_text.ensures.told)
     c.osc_text.ensures.few)
 

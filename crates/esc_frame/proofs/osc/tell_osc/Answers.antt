@@ -16,16 +16,22 @@ not_so false u e = subst (λ v. false ≡ not v) e refl
 
 pub returns-then-is_over-clause-told : goal.returns-then-is_over-clause-told
 returns-then-is_over-clause-told g c = λ limit t k.
-    let w = not_so (is_within limit (length t)) true (sym (c.is_over.ensures limit t k) ∙ c.if-is_over.true) in
-    subst (λ es. FoldsTo g.V.VTActor.takes c.args.actor.now es c.args.actor.now) (osc_untold limit t w) refl
+    let w = not_so (is_within limit (length t)) true
+    (sym (c.is_over.ensures limit t k) ∙ c.if-is_over.true) in
+    subst (λ es. FoldsTo g.V.VTActor.takes c.args.actor.now es c.args.actor.now)
+    (osc_untold limit t w) refl
 
 pub returns-else-is_over-clause-told : goal.returns-else-is_over-clause-told
 returns-else-is_over-clause-told g c = λ limit t k.
-    let w = not_so (is_within limit (length t)) false (sym (c.is_over.ensures limit t k) ∙ c.if-is_over.false) in
+    let w = not_so (is_within limit (length t)) false
+    (sym (c.is_over.ensures limit t k) ∙ c.if-is_over.false) in
     let own : Type 0 = Refused g.row.A.Denot in
-    subst (λ es. Takes own g.V.VTActor.takes g.V.VTActor.refuses c.osc_text.result c.args.actor.now es c.osc_text.new.self)
+    subst (λ es. Takes own g.V.VTActor.takes g.V.VTActor.refuses c.osc_text.result c.args.actor.now
+    es c.osc_text.new.self)
     (osc_told limit t w)
     (subst (λ y. Takes own g.V.VTActor.takes g.V.VTActor.refuses c.osc_text.result c.args.actor.now
     (OscDispatch (parts_of y) ∷ []) c.osc_text.new.self) (c.bytes.ensures.kept limit t k w)
-    (takes_for _ _ g.V.VTActor.takes g.V.VTActor.refuses c.osc_text.result c.args.actor.now c.osc_text.new.self
-    (OscDispatch (parts_of c.bytes.result.now) ∷ []) (by_reference g.row.A.Denot) c.osc_text.ensures.told))
+    (takes_for _ _ g.V.VTActor.takes g.V.VTActor.refuses c.osc_text.result c.args.actor.now
+    c.osc_text.new.self
+    (OscDispatch (parts_of c.bytes.result.now) ∷ []) (by_reference g.row.A.Denot)
+    c.osc_text.ensures.told))

@@ -33,7 +33,8 @@ told own takes refuses result old new ps t e h =
 
 pub returns-then-is_empty-clause-told : goal.returns-then-is_empty-clause-told
 returns-then-is_empty-clause-told g c =
-    told (Refused g.row.A.Denot) g.Self.VTActor.takes g.Self.VTActor.refuses c.osc_dispatch.result c.args.self.now _
+    told (Refused g.row.A.Denot)
+    g.Self.VTActor.takes g.Self.VTActor.refuses c.osc_dispatch.result c.args.self.now _
     [] c.args.text.now (no_parts c.args.text.now (sym c.is_empty.ensures ∙ c.if-is_empty.true))
     c.osc_dispatch.ensures.hears
 
@@ -45,7 +46,8 @@ returns-then-is_empty-clause-few g c = λ few.
 
 pub returns-then-parts-gt0-clause-told : goal.returns-then-parts-gt0-clause-told
 returns-then-parts-gt0-clause-told g c =
-    told (Refused g.row.A.Denot) g.Self.VTActor.takes g.Self.VTActor.refuses c.osc_dispatch-then-parts-gt0.result
+    told (Refused g.row.A.Denot)
+    g.Self.VTActor.takes g.Self.VTActor.refuses c.osc_dispatch-then-parts-gt0.result
     c.args.self.now _ (map (λ p. p.now) c.as_slice.result.now) c.args.text.now
     (ap (map (λ p. p.now)) c.as_slice.ensures ∙ c.of-parts.ensures.shown c.if-parts-gt0.true
     ∙ some_parts c.args.text.now (sym c.is_empty.ensures ∙ c.if-is_empty.false))
@@ -61,7 +63,8 @@ returns-then-parts-gt0-clause-few g c = λ few.
 
 pub returns-in-Ok-clause-told : goal.returns-in-Ok-clause-told
 returns-in-Ok-clause-told g c =
-    told (Refused g.row.A.Denot) g.Self.VTActor.takes g.Self.VTActor.refuses c.osc_dispatch-in-Ok.result
+    told (Refused g.row.A.Denot)
+    g.Self.VTActor.takes g.Self.VTActor.refuses c.osc_dispatch-in-Ok.result
     c.args.self.now _ (map (λ p. p.now) c.deref.result.now) c.args.text.now
     (ap (map (λ p. p.now)) c.deref.ensures.value ∙ c.in-Ok.ensures.ok)
     c.osc_dispatch-in-Ok.ensures.hears

@@ -6,12 +6,15 @@ use Rattle.esc_frame.proofs.machine.Machine.break_off.Goals as goal
 
 pub returns-in-Ok-clause-moved : goal.returns-in-Ok-clause-moved
 returns-in-Ok-clause-moved g c =
-    λ limit own. moves_then g.K.Store.keeps g.K.Store.denied limit own g.V.VTActor.takes g.V.VTActor.refuses c.in_ground.result (Print 0xfffd ∷ [])
+    λ limit own. moves_then g.K.Store.keeps g.K.Store.denied limit own
+    g.V.VTActor.takes g.V.VTActor.refuses c.in_ground.result (Print 0xfffd ∷ [])
     (ground_move c.args.b c.args.class)
     c.in_ground.new.self
     c.args.actor.now _ _ (_, c.in-Ok.ensures.hears, refl) (c.in_ground.ensures.moved limit own)
 
 pub returns-in-Err-clause-moved : goal.returns-in-Err-clause-moved
 returns-in-Err-clause-moved g c =
-    λ limit own. stops_more _ g.V.VTActor.takes g.V.VTActor.refuses (Print 0xfffd ∷ []) _ c.args.actor.now _
-    (refused_stops _ g.V.VTActor.takes g.V.VTActor.refuses c.args.actor.now _ (Print 0xfffd) c.in-Err.ensures.hears)
+    λ limit own. stops_more _ g.V.VTActor.takes g.V.VTActor.refuses (Print 0xfffd ∷ [])
+    _ c.args.actor.now _
+    (refused_stops _ g.V.VTActor.takes g.V.VTActor.refuses c.args.actor.now _ (Print 0xfffd)
+    c.in-Err.ensures.hears)

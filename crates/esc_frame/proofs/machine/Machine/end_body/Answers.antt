@@ -6,6 +6,8 @@ use Rattle.esc_frame.proofs.machine.Machine.end_body.Goals as goal
 
 pub returns-then-b-le126-clause-moved : goal.returns-then-b-le126-clause-moved
 returns-then-b-le126-clause-moved g c = λ limit o x k.
-    subst (λ m. Moved g.K.Store.keeps g.K.Store.denied limit false g.V.VTActor.takes g.V.VTActor.refuses c.dispatch_csi.result m c.dispatch_csi.new.self c.args.actor.now
+    subst (λ m. Moved g.K.Store.keeps g.K.Store.denied limit false
+    g.V.VTActor.takes g.V.VTActor.refuses c.dispatch_csi.result m c.dispatch_csi.new.self
+    c.args.actor.now
     c.dispatch_csi.new.actor)
     (sym (final_by limit o x c.args.b (omega arith) (omega arith))) (c.dispatch_csi.ensures.moved limit (strip x) k)

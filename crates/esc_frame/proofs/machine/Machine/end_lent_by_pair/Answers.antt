@@ -9,10 +9,12 @@ use Rattle.esc_frame.proofs.machine.Machine.end_lent_by_pair.Goals as goal
 
 pub returns-in-Ok-clause-moved : goal.returns-in-Ok-clause-moved
 returns-in-Ok-clause-moved g c =
-    moves_then g.K.Store.keeps g.K.Store.denied c.args.limit (not (has_few_parts c.args.text.now)) g.V.VTActor.takes g.V.VTActor.refuses c.in_pair.result
+    moves_then g.K.Store.keeps g.K.Store.denied c.args.limit (not (has_few_parts c.args.text.now))
+    g.V.VTActor.takes g.V.VTActor.refuses c.in_pair.result
     (osc_events c.args.limit c.args.text.now)
     (pair_move c.args.b (class_of c.args.b)) c.in_pair.new.self c.args.actor.now _ _ c.in-Ok.ensures.told
-    (subst (λ k. Moved g.K.Store.keeps g.K.Store.denied c.args.limit (not (has_few_parts c.args.text.now)) g.V.VTActor.takes g.V.VTActor.refuses c.in_pair.result
+    (subst (λ k. Moved g.K.Store.keeps g.K.Store.denied c.args.limit
+    (not (has_few_parts c.args.text.now)) g.V.VTActor.takes g.V.VTActor.refuses c.in_pair.result
     (pair_move c.args.b k) c.in_pair.new.self c.tell_lent.new.actor
     c.in_pair.new.actor)
     c.classify.ensures (c.in_pair.ensures.moved c.args.limit
@@ -20,6 +22,8 @@ returns-in-Ok-clause-moved g c =
 
 pub returns-in-Err-clause-moved : goal.returns-in-Err-clause-moved
 returns-in-Err-clause-moved g c =
-    stops_more _ g.V.VTActor.takes g.V.VTActor.refuses (osc_events c.args.limit c.args.text.now) _ c.args.actor.now _
-    (stops_for _ _ g.V.VTActor.takes g.V.VTActor.refuses (osc_events c.args.limit c.args.text.now) c.args.actor.now _
+    stops_more _ g.V.VTActor.takes g.V.VTActor.refuses (osc_events c.args.limit c.args.text.now)
+    _ c.args.actor.now _
+    (stops_for _ _ g.V.VTActor.takes g.V.VTActor.refuses (osc_events c.args.limit c.args.text.now)
+    c.args.actor.now _
     (λ o. (o.0, inr o.1)) c.in-Err.ensures.told)

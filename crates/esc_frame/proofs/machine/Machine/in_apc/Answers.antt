@@ -9,13 +9,16 @@ use Rattle.esc_frame.proofs.machine.Machine.in_apc.Goals as goal
 pub returns-in-Cancel-clause-moved : goal.returns-in-Cancel-clause-moved
 returns-in-Cancel-clause-moved g c = λ o d e k.
     let t : is_breaker c.args.class ≡ true = search (rules, c.in-Cancel.is) in
-    broken_told g.K.Store.keeps g.K.Store.denied c.args.limit true g.V.VTActor.takes g.V.VTActor.refuses c.leave_apc.result (InApc o d) c.args.b c.args.class c.leave_apc.new.self
+    broken_told g.K.Store.keeps g.K.Store.denied c.args.limit true
+    g.V.VTActor.takes g.V.VTActor.refuses c.leave_apc.result (InApc o d)
+    c.args.b c.args.class c.leave_apc.new.self
     c.args.actor.now c.leave_apc.new.actor t (c.leave_apc.ensures.moved c.args.limit (those is_text d) k)
 
 pub returns-in-Delete-clause-moved : goal.returns-in-Delete-clause-moved
 returns-in-Delete-clause-moved g c = λ o d e k.
     let t : is_text c.args.class ≡ true = search (rules, c.in-Delete.is) in
-    apc_pushed g.K.Store.keeps g.K.Store.denied c.args.limit g.V.VTActor.takes g.V.VTActor.refuses c.push.result c.push.ensures.refused
+    apc_pushed g.K.Store.keeps g.K.Store.denied c.args.limit g.V.VTActor.takes g.V.VTActor.refuses
+    c.push.result c.push.ensures.refused
     (record c.args.self.now { state = state.Apc; text = c.push.new.self }) o
     c.args.b c.args.class
     c.args.actor.now e d t refl (c.push.ensures.ok (those is_text d) k)

@@ -13,12 +13,15 @@ use Rattle.esc_frame.proofs.machine.Machine.in_escape.Goals as goal
 pub returns-in-Cancel-clause-moved : goal.returns-in-Cancel-clause-moved
 returns-in-Cancel-clause-moved g c = λ limit own x e k.
     let t : is_breaker c.args.class ≡ true = search (rules, c.in-Cancel.is) in
-    broken g.K.Store.keeps g.K.Store.denied limit own g.V.VTActor.takes g.V.VTActor.refuses c.in_ground.result (InEscape x) c.args.b c.args.class c.in_ground.new.self
+    broken g.K.Store.keeps g.K.Store.denied limit own g.V.VTActor.takes g.V.VTActor.refuses
+    c.in_ground.result (InEscape x) c.args.b c.args.class c.in_ground.new.self
     c.args.actor.now c.in_ground.new.actor t refl (c.in_ground.ensures.moved limit own)
 
 pub returns-in-Plain-clause-moved : goal.returns-in-Plain-clause-moved
 returns-in-Plain-clause-moved g c = λ limit own x e k. elim c.in-Plain.is [
-  | inl i ↦ rw i (hears_moved g.K.Store.keeps g.K.Store.denied limit _ g.V.VTActor.takes g.V.VTActor.refuses c.execute_c0_or_c1.result (InEscape (x ++ c.args.b ∷ []))
+  | inl i ↦ rw i (hears_moved g.K.Store.keeps g.K.Store.denied limit _
+      g.V.VTActor.takes g.V.VTActor.refuses c.execute_c0_or_c1.result
+      (InEscape (x ++ c.args.b ∷ []))
       (Execute c.args.b)
       (record c.args.self.now { state = state.Escape }) c.args.actor.now _ (
         refl,
@@ -26,7 +29,9 @@ returns-in-Plain-clause-moved g c = λ limit own x e k. elim c.in-Plain.is [
             i refl) k,
       )
       c.execute_c0_or_c1.ensures.hears)
-  | inr i ↦ rw i (hears_moved g.K.Store.keeps g.K.Store.denied limit _ g.V.VTActor.takes g.V.VTActor.refuses c.execute_c0_or_c1.result (InEscape (x ++ c.args.b ∷ []))
+  | inr i ↦ rw i (hears_moved g.K.Store.keeps g.K.Store.denied limit _
+      g.V.VTActor.takes g.V.VTActor.refuses c.execute_c0_or_c1.result
+      (InEscape (x ++ c.args.b ∷ []))
       (Execute c.args.b)
       (record c.args.self.now { state = state.Escape }) c.args.actor.now _ (
         refl,

@@ -12,13 +12,15 @@ returns-in-RawOpens-clause-moved g c = λ limit own. rw c.in-RawOpens.is (c.open
 pub returns-in-Plain-clause-moved : goal.returns-in-Plain-clause-moved
 returns-in-Plain-clause-moved g c = λ limit own.
     let t : (is_control c.args.class || is_raw_control c.args.class) ≡ true = search (rules, c.in-Plain.is) in
-    control_moved g.K.Store.keeps g.K.Store.denied limit own g.V.VTActor.takes g.V.VTActor.refuses c.execute_c0_or_c1.result c.args.b c.args.class
+    control_moved g.K.Store.keeps g.K.Store.denied limit own g.V.VTActor.takes g.V.VTActor.refuses
+    c.execute_c0_or_c1.result c.args.b c.args.class
     (record c.args.self.now { state = state.Ground; pending = pending.Nothing }) c.args.actor.now c.execute_c0_or_c1.new.self (refl, refl) t
     c.execute_c0_or_c1.ensures.hears
 
 pub returns-in-Intermediate-clause-moved : goal.returns-in-Intermediate-clause-moved
 returns-in-Intermediate-clause-moved g c = λ limit own.
     let t : is_text c.args.class ≡ true = search (rules, c.in-Intermediate.is) in
-    text_moved g.K.Store.keeps g.K.Store.denied limit own g.V.VTActor.takes g.V.VTActor.refuses c.print-in-Intermediate.result c.args.b c.args.class
+    text_moved g.K.Store.keeps g.K.Store.denied limit own g.V.VTActor.takes g.V.VTActor.refuses
+    c.print-in-Intermediate.result c.args.b c.args.class
     (record c.args.self.now { state = state.Ground; pending = pending.Nothing }) c.args.actor.now c.print-in-Intermediate.new.self (refl, refl) t
     c.print-in-Intermediate.ensures.hears

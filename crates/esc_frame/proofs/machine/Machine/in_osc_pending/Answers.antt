@@ -3,5 +3,6 @@ use Rattle.esc_frame.proofs.Given.{stops_here}
 use Rattle.esc_frame.proofs.machine.Machine.in_osc_pending.Goals as goal
 
 pub returns-in-Err-clause-moved : goal.returns-in-Err-clause-moved
-returns-in-Err-clause-moved g c = λ o ps f e k j. stops_here _ g.V.VTActor.takes g.V.VTActor.refuses _ c.args.actor.now
+returns-in-Err-clause-moved g c =
+    λ o ps f e k j. stops_here _ g.V.VTActor.takes g.V.VTActor.refuses _ c.args.actor.now
     (refl, inl c.in-Err.ensures.refused)

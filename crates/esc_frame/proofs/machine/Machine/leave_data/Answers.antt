@@ -6,11 +6,15 @@ use Rattle.esc_frame.proofs.machine.Machine.leave_data.Goals as goal
 
 pub returns-in-Ok-clause-moved : goal.returns-in-Ok-clause-moved
 returns-in-Ok-clause-moved g c =
-    λ limit. moves_then g.K.Store.keeps g.K.Store.denied limit true g.V.VTActor.takes g.V.VTActor.refuses c.in_ground.result (DcsUnhook ∷ []) (ground_move c.args.b c.args.class)
+    λ limit. moves_then g.K.Store.keeps g.K.Store.denied limit true
+    g.V.VTActor.takes g.V.VTActor.refuses c.in_ground.result (DcsUnhook ∷ [])
+    (ground_move c.args.b c.args.class)
     c.in_ground.new.self
     c.args.actor.now _ _ (_, c.in-Ok.ensures.hears, refl) (c.in_ground.ensures.moved limit true)
 
 pub returns-in-Err-clause-moved : goal.returns-in-Err-clause-moved
 returns-in-Err-clause-moved g c =
-    λ limit. stops_more _ g.V.VTActor.takes g.V.VTActor.refuses (DcsUnhook ∷ []) _ c.args.actor.now _
-    (refused_stops _ g.V.VTActor.takes g.V.VTActor.refuses c.args.actor.now _ (DcsUnhook) c.in-Err.ensures.hears)
+    λ limit. stops_more _ g.V.VTActor.takes g.V.VTActor.refuses (DcsUnhook ∷ [])
+    _ c.args.actor.now _
+    (refused_stops _ g.V.VTActor.takes g.V.VTActor.refuses c.args.actor.now _ (DcsUnhook)
+    c.in-Err.ensures.hears)

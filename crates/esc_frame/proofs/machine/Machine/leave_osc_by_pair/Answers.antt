@@ -6,7 +6,8 @@ use Rattle.esc_frame.proofs.machine.Machine.leave_osc_by_pair.Goals as goal
 
 pub returns-in-Ok-clause-moved : goal.returns-in-Ok-clause-moved
 returns-in-Ok-clause-moved g c = λ limit t k.
-    moves_then g.K.Store.keeps g.K.Store.denied limit true g.V.VTActor.takes g.V.VTActor.refuses c.in_pair.result (osc_events limit t) (pair_move c.args.b c.args.class)
+    moves_then g.K.Store.keeps g.K.Store.denied limit true g.V.VTActor.takes g.V.VTActor.refuses
+    c.in_pair.result (osc_events limit t) (pair_move c.args.b c.args.class)
     c.in_pair.new.self c.args.actor.now _ _ (c.in-Ok.ensures.told limit t k) (c.in_pair.ensures.moved limit true)
 
 pub returns-in-Err-clause-moved : goal.returns-in-Err-clause-moved

@@ -7,7 +7,8 @@ use Rattle.esc_frame.proofs.machine.Machine.take.Goals as goal
 pub returns-in-Nothing-clause-took : goal.returns-in-Nothing-clause-took
 returns-in-Nothing-clause-took g c = λ u h.
     ground_only g.K.Store.keeps c.args.limit c.args.self.now u c.in-Ground.is (ap front_of c.in-Nothing.is) h
-    (λ v. Took g.K.Store.keeps g.K.Store.denied c.args.limit g.V.VTActor.takes g.V.VTActor.refuses c.take_in_ground.result v c.args.rest.now c.take_in_ground.new.self
+    (λ v. Took g.K.Store.keeps g.K.Store.denied c.args.limit g.V.VTActor.takes g.V.VTActor.refuses
+    c.take_in_ground.result v c.args.rest.now c.take_in_ground.new.self
     c.args.actor.now c.take_in_ground.new.actor)
     c.take_in_ground.ensures.took
 

@@ -6,7 +6,8 @@ returns-then-run-rest g c = c.take_long_csi.ensures
 
 pub returns-then-lies_from : goal.returns-then-lies_from
 returns-then-lies_from g c = λ limit.
-    stays_took g.K.Store.keeps g.K.Store.denied limit g.V.VTActor.takes g.V.VTActor.refuses g.V.VTActor.is_ready c.take_short_csi.result c.args.rest.now
+    stays_took g.K.Store.keeps g.K.Store.denied limit g.V.VTActor.takes g.V.VTActor.refuses
+    g.V.VTActor.is_ready c.take_short_csi.result c.args.rest.now
     c.take_short_csi.new.self c.args.actor.now c.take_short_csi.new.actor c.take_short_csi.ensures.ground c.take_short_csi.ensures.stays
     c.take_short_csi.ensures.some (c.take_short_csi.ensures.quiet limit)
 

@@ -14,7 +14,8 @@ returns-in-Ok-eq0 g c =
     let same : c.args.actor.now ≡ c.print_first.new.actor =
     subst (λ k. FoldsTo g.V.VTActor.takes c.args.actor.now (news_all None Ground (take k c.args.rest.now)) c.print_first.new.actor) none
     (c.in-Ok-eq0.ensures.stays.2 None) in
-    subst (λ a. TookSome g.K.Store.keeps g.K.Store.denied c.args.limit g.V.VTActor.takes g.V.VTActor.refuses g.V.VTActor.is_ready c.take_control.result c.args.rest.now
+    subst (λ a. TookSome g.K.Store.keeps g.K.Store.denied c.args.limit
+    g.V.VTActor.takes g.V.VTActor.refuses g.V.VTActor.is_ready c.take_control.result c.args.rest.now
     c.take_control.new.self
     a c.take_control.new.actor)
     (sym same) c.take_control.ensures

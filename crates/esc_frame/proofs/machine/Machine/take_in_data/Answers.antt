@@ -26,10 +26,13 @@ pub returns-in-Err-clause-took : goal.returns-in-Err-clause-took
 returns-in-Err-clause-took g c = λ u h.
     let q = data_holds g.K.Store.keeps c.args.limit c.args.self.now (take c.data_run-run.result c.args.rest.now)
     (all_pass is_data_byte c.args.rest.now c.data_run-run.result c.data_run-run.ensures.run) u c.requires.state h in
-    let own : Type 0 = (may_grow_within u c.args.rest.now ≡ true) × NoMemory g.K.Store.denied g.row.A.Denot in
+    let own : Type 0 = (may_grow_within u c.args.rest.now ≡ true)
+    × NoMemory g.K.Store.denied g.row.A.Denot in
     stop_within c.args.limit own g.V.VTActor.takes g.V.VTActor.refuses u c.args.rest.now c.data_run-run.result c.args.actor.now c.dcs_put_text.new.self
-    (stops_for ⊥ own g.V.VTActor.takes g.V.VTActor.refuses _ c.args.actor.now c.dcs_put_text.new.self (λ no. absurd no)
-    (subst (λ es. StopsAt ⊥ g.V.VTActor.takes g.V.VTActor.refuses c.args.actor.now es c.dcs_put_text.new.self) (sym q.1) c.in-Err.ensures.told))
+    (stops_for ⊥ own g.V.VTActor.takes g.V.VTActor.refuses _ c.args.actor.now
+    c.dcs_put_text.new.self (λ no. absurd no)
+    (subst (λ es. StopsAt ⊥ g.V.VTActor.takes g.V.VTActor.refuses c.args.actor.now es
+    c.dcs_put_text.new.self) (sym q.1) c.in-Err.ensures.told))
 
 pub take_one-requires-clause-between : goal.take_one-requires-clause-between
 take_one-requires-clause-between g c = rw c.requires.state refl

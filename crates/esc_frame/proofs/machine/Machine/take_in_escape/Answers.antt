@@ -23,7 +23,9 @@ returns-in-Ok-clause-took g c = λ u h.
 pub returns-in-Err-clause-took : goal.returns-in-Err-clause-took
 returns-in-Err-clause-took g c = λ u h.
     escape_only g.K.Store.keeps c.args.limit c.args.self.now u c.requires.state h
-    (λ v. StopsAt ((may_grow_within v c.args.rest.now ≡ true) × NoMemory g.K.Store.denied g.row.A.Denot) g.V.VTActor.takes g.V.VTActor.refuses c.args.actor.now
+    (λ v. StopsAt ((may_grow_within v c.args.rest.now ≡ true)
+    × NoMemory g.K.Store.denied g.row.A.Denot)
+    g.V.VTActor.takes g.V.VTActor.refuses c.args.actor.now
     (news_all c.args.limit v c.args.rest.now)
     c.in_escape.new.actor)
     (λ x k. quiet_stops c.args.limit g.V.VTActor.takes g.V.VTActor.refuses (InEscape x) (InEscape x) c.args.rest.now 0 _ c.args.actor.now _ (refl, refl)

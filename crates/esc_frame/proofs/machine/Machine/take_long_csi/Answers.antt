@@ -14,7 +14,8 @@ pub returns-in-Ok : goal.returns-in-Ok
 returns-in-Ok g c = λ limit.
     opened_took limit (InCsi (Long []) []) c.args.rest.now c.requires.some c.requires.escape
     (csi_opens limit c.args.rest.now (omega arith) c.requires.escape c.requires.bracket) refl g.V.VTActor.takes g.V.VTActor.refuses g.V.VTActor.is_ready
-    c.args.actor.now c.take_in_csi.new.actor (opened_fresh kind.Csi (Long [])) g.K.Store.keeps g.K.Store.denied c.take_in_csi.new.self c.in-Ok.n
+    c.args.actor.now c.take_in_csi.new.actor (opened_fresh kind.Csi (Long []))
+    g.K.Store.keeps g.K.Store.denied c.take_in_csi.new.self c.in-Ok.n
     (c.in-Ok.ensures.took limit (Long []) [] (c.open.ensures limit (Long [])).1)
     (c.in-Ok.ensures.quiet limit (Long []) []) c.in-Ok.ensures.count
 

@@ -11,7 +11,8 @@ pub returns-in-Ok : goal.returns-in-Ok
 returns-in-Ok g c =
     opened_took c.args.limit (InOsc (Long []) []) c.args.rest.now c.requires.some c.requires.escape
     (osc_opens c.args.limit c.args.rest.now (omega arith) c.requires.escape c.requires.bracket) refl g.V.VTActor.takes g.V.VTActor.refuses g.V.VTActor.is_ready
-    c.args.actor.now c.take_body.new.actor (opened_fresh kind.Osc (Long [])) g.K.Store.keeps g.K.Store.denied c.take_body.new.self c.in-Ok.n
+    c.args.actor.now c.take_body.new.actor (opened_fresh kind.Osc (Long []))
+    g.K.Store.keeps g.K.Store.denied c.take_body.new.self c.in-Ok.n
     (c.in-Ok.ensures.took (Long []) [] refl) (c.in-Ok.ensures.quiet (Long []) []) c.in-Ok.ensures.count
 
 pub returns-in-Err : goal.returns-in-Err

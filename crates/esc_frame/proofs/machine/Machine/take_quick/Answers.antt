@@ -11,7 +11,8 @@ loop-at-preserved g c = (
 
 pub returns-in-Err-clause-stays : goal.returns-in-Err-clause-stays
 returns-in-Err-clause-stays g c =
-    ran_refused g.V.VTActor.takes g.V.VTActor.refuses g.V.VTActor.is_ready c.args.rest.now c.loop-at.at c.args.actor.now
+    ran_refused g.V.VTActor.takes g.V.VTActor.refuses g.V.VTActor.is_ready c.args.rest.now
+    c.loop-at.at c.args.actor.now
     _ _ c.loop-at.invariant.0 c.in-Err.ensures.stays
 
 pub returns-in-Ok-eq0-clause-stays : goal.returns-in-Ok-eq0-clause-stays

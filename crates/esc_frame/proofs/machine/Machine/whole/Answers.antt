@@ -13,5 +13,6 @@ returns-then-pairs_with-clause-moved g c = λ limit own.
 pub returns-else-pairs_with-clause-moved : goal.returns-else-pairs_with-clause-moved
 returns-else-pairs_with-clause-moved g c = λ limit own.
     rw (sym c.pairs_with.ensures ∙ c.if-pairs_with.false, ← c.character-c.ensures)
-    (hears_moved g.K.Store.keeps g.K.Store.denied limit own g.V.VTActor.takes g.V.VTActor.refuses c.print.result Ground (Print c.character-c.result)
+    (hears_moved g.K.Store.keeps g.K.Store.denied limit own g.V.VTActor.takes g.V.VTActor.refuses
+    c.print.result Ground (Print c.character-c.result)
     (record c.args.self.now { state = state.Ground; pending = pending.Nothing }) c.args.actor.now c.print.new.self (refl, refl) c.print.ensures.hears)

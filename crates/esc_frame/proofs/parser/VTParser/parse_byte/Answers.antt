@@ -22,6 +22,7 @@ unfolding LeadsToWithin
 returns-in-Err-clause-refused g c = λ limit s (f, i, h).
     let k = c.classify.ensures in (
       refl,
-      refused_one g.row.A.Denot c.args.self.now.limit limit i g.V.VTActor.takes g.V.VTActor.refuses s c.args.byte _ c.args.actor.now c.step.new.actor k
+      refused_one g.row.A.Denot c.args.self.now.limit limit i g.V.VTActor.takes g.V.VTActor.refuses
+          s c.args.byte _ c.args.actor.now c.step.new.actor k
           (c.in-Err.ensures.moved (after_all Ground s) k h),
     )

@@ -36,6 +36,7 @@ pub returns-in-Err-clause-refused : goal.returns-in-Err-clause-refused
 unfolding LeadsToWithin
 returns-in-Err-clause-refused g c = λ limit s (f, i, h). (
   refl,
-  refused_all g.row.A.Denot c.args.self.now.limit limit i g.V.VTActor.takes g.V.VTActor.refuses s c.args.bytes.now c.args.actor.now c.take_some.new.actor
+  refused_all g.row.A.Denot c.args.self.now.limit limit i g.V.VTActor.takes g.V.VTActor.refuses s
+      c.args.bytes.now c.args.actor.now c.take_some.new.actor
       (c.in-Err.ensures.took (after_all Ground s) h),
 )
