@@ -5,6 +5,7 @@ use Rattle.esc_actions.specs.declared.action.Action.{Action}
 use Rattle.esc_parse.specs.Collected.{Gathers}
 use Rattle.esc_parse.specs.Given.{StopsAt}
 use Rattle.esc_parse.specs.declared.sink.Collect.{Collect}
+use Rattle.memory.specs.Refusals.{Refused}
 
 module _ {A : Type 0} (f : ℕ → Action A) where
   -- a list takes a run as one with the same actions does
@@ -15,6 +16,6 @@ module _ {A : Type 0} (f : ℕ → Action A) where
 
   -- and stays as it was where there is no room
   pub gathers_none : (xs : List ℕ) (p q : Collect A) → 0 < length xs → q.actions.items ≡ p.actions.items
-      → StopsAt ⊥ Gathers (λ p a q. q.actions.items ≡ p.actions.items) p (map f xs) q
-  gathers_none [] p q some e = absurd (omega arith)
-  gathers_none (x ∷ xs) p q some e = inr (inl e)
+      → Refused A → StopsAt ⊥ Gathers (λ p a q. (q.actions.items ≡ p.actions.items) × Refused A) p (map f xs) q
+  gathers_none [] p q some e r = absurd (omega arith)
+  gathers_none (x ∷ xs) p q some e r = inr (inl (e, r))

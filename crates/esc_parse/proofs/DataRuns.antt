@@ -26,6 +26,7 @@ use Rattle.esc_parse.specs.Sixels.{Pushes as PushesSixel}
 use Rattle.esc_parse.specs.declared.hooked.Hooked.{Hooked}
 use Rattle.esc_parse.specs.declared.hooked.Hooked.TheVariants as hooked
 use Rattle.esc_parse.specs.declared.performer.Performer.{Performer}
+use Rattle.memory.specs.Refusals.{Refused}
 use Rattle.esc_parse.specs.declared.sixel_text.SixelText.{SixelText}
 use Rattle.esc_parse.specs.declared.unfinished.Unfinished.{Unfinished}
 
@@ -225,9 +226,9 @@ module _ {S A : Type 0} (R Q : S → Action A → S → Type 0) where
   )
 
   pub quiet_refused : (own : Type 0) (bs : List ℕ) (p : Performer S A) (v : Unfinished A) → 0 < length bs → is_mode p.unfinished.hooked ≡ false
-      → StopsAtEvent own (Takes R Q) (Refuses R Q) p (map DcsPut bs) (kept p v)
-  quiet_refused own [] p v some k = absurd (omega arith)
-  quiet_refused own (b ∷ bs) p v some k = (
+      → Refused A → StopsAtEvent own (Takes R Q) (Refuses R Q) p (map DcsPut bs) (kept p v)
+  quiet_refused own [] p v some k w = absurd (omega arith)
+  quiet_refused own (b ∷ bs) p v some k w = (
     [],
     map DcsPut (b ∷ bs),
     refl,
@@ -238,7 +239,8 @@ module _ {S A : Type 0} (R Q : S → Action A → S → Type 0) where
       refl,
       refl,
       λ limit m h.
-          subst (λ vs. StopsAt (true ≡ true) (At value_of R) (At value_of Q) p.sink vs p.sink) (sym (gives_none limit p m b k h)) (refl, refl),
+          subst (λ vs. StopsAt ((true ≡ true) × Refused A) (At value_of R) (At value_of Q) p.sink vs p.sink)
+          (sym (gives_none limit p m b k h)) ((refl, w), refl),
     ),
   )
 
@@ -276,7 +278,8 @@ module _ {S A : Type 0} (R Q : S → Action A → S → Type 0) where
       refl,
       refl,
       λ limit m h.
-          subst (λ vs. StopsAt (true ≡ true) (At value_of R) (At value_of Q) p.sink vs s) (sym (gives_byte limit p m b k h).0) (inr (inl r)),
+          subst (λ vs. StopsAt ((true ≡ true) × Refused A) (At value_of R) (At value_of Q) p.sink vs s)
+          (sym (gives_byte limit p m b k h).0) (inr (inl r)),
     ),
   )
   given_stopped own (b ∷ bs) p s k (inr (inr (j, r, rest))) =

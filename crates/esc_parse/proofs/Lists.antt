@@ -36,10 +36,20 @@ module _ {P V : Type 0} (R Q : P → V → P → Type 0) (own : Type 0) where
   StopsAt-longer p [] ys q e = StopsAt-here p ys q e.0 e.1
   StopsAt-longer p (x ∷ xs) ys q e = elim e [ inl a ↦ inl a | inr b ↦ inr (elim b [ inl c ↦ inl c | inr d ↦ inr (d.0, d.1, StopsAt-longer d.0 xs ys q d.2) ]) ]
 
--- a giver stops by itself, or at a value
-pub stops_or_some : {P V : Type 0} (R Q : P → V → P → Type 0) (own : Type 0) (p : P) (vs : List V) (q : P) → StopsAt own R Q p vs q → own ⊎ (vs ≢ [])
-stops_or_some R Q own p [] q e = inl e.0
-stops_or_some R Q own p (v ∷ vs) q e = inr (λ z. absurd cc)
+-- A giver stops by itself, or at a value; both for the reason for which the taker refuses.
+module _ {P V : Type 0} (R Q : P → V → P → Type 0) (own why : Type 0) (says : (p : P) (v : V) (q : P) → Q p v q → why) where
+  stops_why : (p : P) (vs : List V) (q : P) → StopsAt (own × why) R Q p vs q → why
+  stops_why p [] q e = e.0.1
+  stops_why p (v ∷ vs) q (inl e) = e.0.1
+  stops_why p (v ∷ vs) q (inr (inl z)) = says p v q z
+  stops_why p (v ∷ vs) q (inr (inr (mid, t, rest))) = stops_why mid vs q rest
+
+  stops_or_some : (p : P) (vs : List V) (q : P) → StopsAt (own × why) R Q p vs q → own ⊎ (vs ≢ [])
+  stops_or_some p [] q e = inl e.0.0
+  stops_or_some p (v ∷ vs) q e = inr (λ z. absurd cc)
+
+  pub stops_wanting : (p : P) (vs : List V) (q : P) → StopsAt (own × why) R Q p vs q → (own ⊎ (vs ≢ [])) × why
+  stops_wanting p vs q e = (stops_or_some p vs q e, stops_why p vs q e)
 
 -- where nothing is refused, what was taken is a front, and the giver stopped by itself
 module _ {P V : Type 0} (R Q : P → V → P → Type 0) (own : Type 0) (never : (p : P) (v : V) (q : P) → Q p v q → ⊥) where
@@ -105,10 +115,10 @@ pub if_err_third : {T E : Type 0} (Y Z : Type 0) (r : Result T E) (A B : E → T
 if_err_third Y Z (Ok x) A B f w = tt
 if_err_third Y Z (Err e) A B f w = (w.0, w.1, f w.2)
 
-pub if_err_fourth : {T E : Type 0} (Y Z W : Type 0) (r : Result T E) (A B : E → Type 0) → (Y → Z × W) → IfErr r (λ e. A e × B e × Y)
-    → IfErr r (λ e. A e × B e × Z × W)
-if_err_fourth Y Z W (Ok x) A B f w = tt
-if_err_fourth Y Z W (Err e) A B f w = let p = f w.2 in (w.0, w.1, p.0, p.1)
+pub if_err_parts : {T E : Type 0} (Y Z W V : Type 0) (r : Result T E) (A B : E → Type 0) → (Y → (Z × W) × V)
+    → IfErr r (λ e. A e × B e × Y) → IfErr r (λ e. A e × B e × Z × W × V)
+if_err_parts Y Z W V (Ok x) A B f w = tt
+if_err_parts Y Z W V (Err e) A B f w = let p = f w.2 in (w.0, w.1, p.0.0, p.0.1, p.1)
 
 pub if_err_join : {T E : Type 0} (B Y Z : Type 0) (r : Result T E) (A : E → Type 0) → (Y → Z) → OnErr r B → IfErr r (λ e. A e × Y) → IfErr r (λ e. A e × B × Z)
 if_err_join B Y Z (Ok x) A f b w = tt

@@ -16,6 +16,7 @@ use Rattle.esc_actions.specs.Values.{Mode, after, given, value_of, wants_memory}
 use Rattle.esc_actions.specs.declared.action.Action.{Action}
 use Rattle.esc_actions.specs.declared.action.Action.TheVariants as action
 use Rattle.esc_parse.specs.declared.performer.Performer.{Performer}
+use Rattle.memory.specs.Refusals.{Refused}
 
 -- one character after another
 module _ {S V : Type 0} (print : ℕ → V) (R Q : S → V → S → Type 0) (xs : List ℕ) (i : ℕ) (l : i < length xs) (p j q : S)
@@ -67,7 +68,7 @@ module _ {S A : Type 0} (R Q : S → Action A → S → Type 0) where
 
   abbrev pub Refuses : Performer S A → Event → Performer S A → Type 0
   Refuses p e q = (limit : Option ℕ) (m : Mode) → Hooks limit p.unfinished m
-      → StopsAt (wants_memory e ≡ true) (At value_of R) (At value_of Q) p.sink (given limit m e) q.sink
+      → StopsAt ((wants_memory e ≡ true) × Refused A) (At value_of R) (At value_of Q) p.sink (given limit m e) q.sink
 
   abbrev with_sink : Performer S A → S → Performer S A
   with_sink p s = record p { sink = s }
@@ -90,10 +91,10 @@ module _ {S A : Type 0} (R Q : S → Action A → S → Type 0) where
       (record p { sink = j }, one_taken p j x t, refl) (run_stopped own xs (record p { sink = j }) s h)
 
 -- where a run is refused, its first character may be
-pub refuses_run : {S A : Type 0} (R : S → Action A → S → Type 0) (xs : List ℕ) (p q : S) → 0 < length xs
-    → StopsAt ⊥ R (λ _ _ _. Unit {0}) p (map action.Print xs) q
-refuses_run R [] p q l = absurd (omega arith)
-refuses_run R (x ∷ xs) p q l = inr (inl tt)
+pub refuses_run : {S A : Type 0} (R Q : S → Action A → S → Type 0) (xs : List ℕ) (p q : S) → 0 < length xs
+    → ((x : ℕ) → Q p (action.Print x) q) → StopsAt ⊥ R Q p (map action.Print xs) q
+refuses_run R Q [] p q l refused = absurd (omega arith)
+refuses_run R Q (x ∷ xs) p q l refused = inr (inl (refused x))
 
 -- a text has characters
 some_spelled : (cs text : List ℕ) → encode_utf8_all cs ≡ text → 0 < length text → 0 < length cs

@@ -16,6 +16,7 @@ use Rattle.esc_parse.specs.Given.{At, StopsAt}
 use Rattle.esc_actions.specs.Meaning.{mode_from, values_from, yield_within}
 use Rattle.esc_actions.specs.Values.{Mode, Value, after, given, plain, value_of, wants_memory}
 use Rattle.esc_parse.specs.declared.performer.Performer.{Performer}
+use Rattle.memory.specs.Refusals.{Refused}
 use Rattle.esc_parse.specs.declared.sink.Collect.{Collect}
 use Rattle.esc_parse.specs.declared.unfinished.Unfinished.{Unfinished}
 
@@ -24,8 +25,13 @@ module _ {S A : Type 0} (R Q : S → Value A → S → Type 0) where
   abbrev Takes : Performer S A → Event → Performer S A → Type 0
   Takes p e q = (limit : Option ℕ) (m : Mode) → Hooks limit p.unfinished m → Hooks limit q.unfinished (after m e) × FoldsTo R p.sink (given limit m e) q.sink
 
+  -- an event that wants memory, which was refused
+  abbrev Denied : Event → Type 0
+  Denied e = (wants_memory e ≡ true) × Refused A
+
   abbrev Refuses : Performer S A → Event → Performer S A → Type 0
-  Refuses p e q = (limit : Option ℕ) (m : Mode) → Hooks limit p.unfinished m → StopsAt (wants_memory e ≡ true) R Q p.sink (given limit m e) q.sink
+  Refuses p e q =
+      (limit : Option ℕ) (m : Mode) → Hooks limit p.unfinished m → StopsAt (Denied e) R Q p.sink (given limit m e) q.sink
 
   pub performs : (limit : Option ℕ) (es : List Event) (p : Performer S A) (m : Mode) (q : Performer S A) → FoldsTo Takes p es q → Hooks limit p.unfinished m
       → Hooks limit q.unfinished (mode_from m es) × FoldsTo R p.sink (values_from limit m es) q.sink
@@ -36,7 +42,7 @@ module _ {S A : Type 0} (R Q : S → Value A → S → Type 0) where
       (rest.0, FoldsTo-append R p.sink (given limit m e) j.sink (values_from limit (after m e) es) q.sink one.1 rest.1)
 
   pub performs_prefix : (limit : Option ℕ) (own : Type 0) (es : List Event) (p : Performer S A) (m : Mode) (q : Performer S A)
-      → ((before : List Event) (e : Event) (behind : List Event) → es ≡ before ++ e ∷ behind → wants_memory e ≡ true → own)
+      → ((before : List Event) (e : Event) (behind : List Event) → es ≡ before ++ e ∷ behind → Denied e → own)
       → StopsAtEvent own Takes Refuses p es q → Hooks limit p.unfinished m → StopsAt own R Q p.sink (values_from limit m es) q.sink
   performs_prefix limit own es p m q wants (front, rest, whole, stop) k =
       let all : values_from {A = A} limit m es ≡ values_from limit m front ++ values_from limit (mode_from m front) rest =
@@ -51,12 +57,12 @@ module _ {S A : Type 0} (R Q : S → Value A → S → Type 0) where
             let (mid, e, more, is, took, refused) = x in
             let run = performs limit front p m mid took k in
             let here = refused limit (mode_from m front) run.0 in
-            let own_from : wants_memory e ≡ true → own = wants front e more (whole ∙ ap (λ l. front ++ l) is) in
+            let own_from : Denied e → own = wants front e more (whole ∙ ap (λ l. front ++ l) is) in
             let Rest : List Event → Type 0 = λ l. StopsAt own R Q mid.sink (values_from limit (mode_from m front) l) q.sink in
             StopsAt-append R Q own p.sink (values_from limit m front) mid.sink (values_from limit (mode_from m front) rest) q.sink run.1
             (subst Rest (sym is)
             (StopsAt-longer R Q own mid.sink (given limit (mode_from m front) e) (values_from limit (after (mode_from m front) e) more) q.sink
-            (StopsAt-weaker R Q own (wants_memory e ≡ true) mid.sink (given limit (mode_from m front) e) q.sink own_from here)))
+            (StopsAt-weaker R Q own (Denied e) mid.sink (given limit (mode_from m front) e) q.sink own_from here)))
       ])
 
 -- an event behind s that wants memory
@@ -85,12 +91,16 @@ module _ {S A : Type 0} (R Q : S → Value A → S → Type 0) where
       )
 
   pub performs_some : (limit : Option ℕ) (s b : List ℕ) (p q : Performer S A)
-      → StopsAtEvent (MayGrow (s ++ b)) (Takes R Q) (Refuses R Q) p (added_within limit s b) q
-      → Hooks limit p.unfinished (mode_from plain (events_within limit s)) → StopsAt (MayTake (s ++ b)) R Q p.sink (yield_within limit s b) q.sink
+      → StopsAtEvent (MayGrow (s ++ b) × Refused A) (Takes R Q) (Refuses R Q) p (added_within limit s b) q
+      → Hooks limit p.unfinished (mode_from plain (events_within limit s))
+      → StopsAt (MayTake (s ++ b) × Refused A) R Q p.sink (yield_within limit s b) q.sink
   performs_some limit s b p q h k =
-      let w = performs_prefix R Q limit (MayTake (s ++ b)) (added_within limit s b) p (mode_from plain (events_within limit s)) q (added_takes limit s b)
-      (stops_for (MayGrow (s ++ b)) (MayTake (s ++ b)) (Takes R Q) (Refuses R Q) (added_within limit s b) p q (grows_takes (s ++ b)) h) k in
-      subst (λ vs. StopsAt (MayTake (s ++ b)) R Q p.sink vs q.sink) (sym (yield_is limit s b)) w
+      let own : Type 0 = MayTake (s ++ b) × Refused A in
+      let w = performs_prefix R Q limit own (added_within limit s b) p (mode_from plain (events_within limit s)) q
+      (λ before e behind is d. (added_takes limit s b before e behind is d.0, d.1))
+      (stops_for (MayGrow (s ++ b) × Refused A) own (Takes R Q) (Refuses R Q) (added_within limit s b) p q
+      (λ g. (grows_takes (s ++ b) g.0, g.1)) h) k in
+      subst (λ vs. StopsAt own R Q p.sink vs q.sink) (sym (yield_is limit s b)) w
 
 -- what a list of actions was given
 pub collects : {A : Type 0} (p : Collect A) (vs : List (Value A)) (q : Collect A)

@@ -1,7 +1,8 @@
 //! Operating system commands from their texts.
-ghost use Rattle.std.specs.Prelude.{◌≡◌, IfOk};
+ghost use Rattle.std.specs.Prelude.{◌≡◌, IfOk, OnErr};
 ghost use Rattle.esc_values.specs.Clear.{parts_of};
 ghost use Rattle.esc_osc.specs.Reading.{meaning};
+ghost use Rattle.memory.specs.Refusals.{Refused};
 
 use esc_frame::parts::Parts;
 use esc_frame::split::split_parts;
@@ -13,7 +14,8 @@ pub fn command_in<A: Allocator + Copy>(
     alloc: A,
     text: &[u8],
 ) -> Result<OperatingSystemCommand<A>, AllocError>
-    ensures { IfOk result (λ c. c ≡ meaning (parts_of text.now)) }
+    ensures ok { IfOk result (λ c. c ≡ meaning (parts_of text.now)) }
+    ensures refused { OnErr result (Refused A) }
 {
     let parts = Parts::of(text);
     if parts.count > 0 && !text.is_empty() {

@@ -1,10 +1,11 @@
 //! What is kept of a device control string while it is unfinished.
-ghost use Rattle.std.specs.Prelude.{◌≡◌, [], ◌∷◌, ℕ, IfOk, Option, option_to_list};
+ghost use Rattle.std.specs.Prelude.{◌≡◌, [], ◌∷◌, ℕ, IfOk, OnErr, Option, option_to_list};
 ghost use Rattle.std.specs.Option.{option_map};
 ghost use Rattle.esc_actions.specs.Values.{Mode, closed_gives, opened, opened_gives, value_of};
 ghost use Rattle.esc_device.specs.declared.kind.StringKind.TheVariants as kind;
 ghost use Rattle.esc_frame.specs.declared.count.Count.{Count};
 ghost use Rattle.esc_parse.specs.Fed.{Begins, Keeps};
+ghost use Rattle.memory.specs.Refusals.{Refused};
 
 use crate::sixel_text::SixelText;
 use esc_actions::Action;
@@ -39,17 +40,19 @@ pub(crate) fn begin<A: Allocator + Copy>(
     params: &[i64],
     intermediates: &[u8],
 ) -> Result<Hooked<A>, AllocError>
-    ensures { (limit : Option ℕ) → IfOk result (λ h. Begins limit h (opened kind byte params.now intermediates.now)) }
+    ensures ok { (limit : Option ℕ)
+        → IfOk result (λ h. Begins limit h (opened kind byte params.now intermediates.now)) }
+    ensures refused { OnErr result (Refused A) }
 {
     match kind {
-        StringKind::Sixel => match Box::new(alloc, SixelText::new(alloc, params)) {
+        StringKind::Sixel => match memory::boxed(alloc, SixelText::new(alloc, params)) {
             Ok(text) => Ok(Hooked::Sixel(text)),
             Err(_) => Err(AllocError),
         },
         StringKind::Termcap => Ok(Hooked::Termcap(GetTcapBuilder::new(alloc))),
         StringKind::Short => {
             let builder = ShortBuilder::new(alloc, params, intermediates, byte)?;
-            match Box::new(alloc, builder) {
+            match memory::boxed(alloc, builder) {
                 Ok(builder) => Ok(Hooked::Short(builder)),
                 Err(_) => Err(AllocError),
             }
@@ -66,7 +69,9 @@ pub(crate) fn header_action<A: Allocator + Copy>(
     intermediates: &[u8],
     ignored: bool,
 ) -> Result<Action<A>, AllocError>
-    ensures { IfOk result (λ a. value_of a ∷ [] ≡ opened_gives kind.Other byte params.now intermediates.now ignored) }
+    ensures ok { IfOk result
+        (λ a. value_of a ∷ [] ≡ opened_gives kind.Other byte params.now intermediates.now ignored) }
+    ensures refused { OnErr result (Refused A) }
 {
     let enter = EnterDeviceControlMode::from_header(alloc, byte, params, intermediates, ignored)?;
     let enter = Boxed::new(alloc, enter)?;
@@ -79,8 +84,9 @@ pub(crate) fn end<A: Allocator + Copy>(
     alloc: A,
     hooked: Hooked<A>,
 ) -> Result<Option<Action<A>>, AllocError>
-    ensures { (limit : Option ℕ) (count : Count) (m : Mode) → Keeps limit hooked count m
+    ensures ok { (limit : Option ℕ) (count : Count) (m : Mode) → Keeps limit hooked count m
         → IfOk result (λ o. option_to_list (option_map value_of o) ≡ closed_gives limit m) }
+    ensures refused { OnErr result (Refused A) }
 {
     match hooked {
         Hooked::Nothing | Hooked::Over => Ok(None),

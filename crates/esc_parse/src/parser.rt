@@ -13,6 +13,7 @@ ghost use Rattle.esc_parse.specs.Paired.{with_value};
 ghost use Rattle.esc_actions.specs.Meaning.{MayWant, yield_within};
 ghost use Rattle.esc_actions.specs.Values.{control, value_of};
 ghost use Rattle.esc_actions.specs.Writable.{AreHandedOut, IsHandedOut};
+ghost use Rattle.memory.specs.Refusals.{Refused};
 
 use crate::performer::Performer;
 use crate::sink::{Calls, Collect, First, Sink};
@@ -106,7 +107,7 @@ impl<A: Allocator + Copy> Parser<A> {
         ensures given { (limit : Option ℕ) (s : List ℕ) → WasFedWithin limit s self.old → OnOk result.0 (WasFedWithin limit (s ++ bytes.now) self.new
             × FoldsTo (At value_of S.takes) sink (yield_within limit s bytes.now) result.1) }
         ensures refused { (limit : Option ℕ) (s : List ℕ) → WasFedWithin limit s self.old → IfErr result.0 (λ e. (e ≡ ParseError.Memory) × IsBroken self.new
-            × StopsAt (MayTake (s ++ bytes.now)) (At value_of S.takes) (At value_of S.refuses) sink (yield_within limit s bytes.now) result.1) }
+            × StopsAt (MayTake (s ++ bytes.now) × Refused A) (At value_of S.takes) (At value_of S.refuses) sink (yield_within limit s bytes.now) result.1) }
         ensures failed { IsBroken self.old → (result.0 ≡ Err ParseError.Failed) × IsBroken self.new × (result.1 ≡ sink) }
     {
         let mut performer = Performer {
@@ -137,7 +138,7 @@ impl<A: Allocator + Copy> Parser<A> {
         ensures given { (limit : Option ℕ) (s : List ℕ) → WasFedWithin limit s self.old → IfOk result (λ v. WasFedWithin limit (s ++ bytes.now) self.new
             × (map value_of v.items ≡ yield_within limit s bytes.now)) }
         ensures handed_out { (limit : Option ℕ) (s : List ℕ) → WasFedWithin limit s self.old → IfOk result (λ v. AreHandedOut (map value_of v.items)) }
-        ensures refused { (limit : Option ℕ) (s : List ℕ) → WasFedWithin limit s self.old → IfErr result (λ e. (e ≡ ParseError.Memory) × IsBroken self.new × MayWant A limit s bytes.now) }
+        ensures refused { (limit : Option ℕ) (s : List ℕ) → WasFedWithin limit s self.old → IfErr result (λ e. (e ≡ ParseError.Memory) × IsBroken self.new × MayWant A limit s bytes.now × Refused A) }
         ensures failed { IsBroken self.old → (result ≡ Err ParseError.Failed) × IsBroken self.new }
     {
         laws::yield_handed_out::<A>();
@@ -147,7 +148,7 @@ impl<A: Allocator + Copy> Parser<A> {
     fn collect(&mut self, bytes: &[u8]) -> Result<Vec<Action<A>, A>, ParseError>
         ensures given { (limit : Option ℕ) (s : List ℕ) → WasFedWithin limit s self.old → IfOk result (λ v. WasFedWithin limit (s ++ bytes.now) self.new
             × (map value_of v.items ≡ yield_within limit s bytes.now)) }
-        ensures refused { (limit : Option ℕ) (s : List ℕ) → WasFedWithin limit s self.old → IfErr result (λ e. (e ≡ ParseError.Memory) × IsBroken self.new × MayWant A limit s bytes.now) }
+        ensures refused { (limit : Option ℕ) (s : List ℕ) → WasFedWithin limit s self.old → IfErr result (λ e. (e ≡ ParseError.Memory) × IsBroken self.new × MayWant A limit s bytes.now × Refused A) }
         ensures failed { IsBroken self.old → (result ≡ Err ParseError.Failed) × IsBroken self.new }
     {
         let sink = Collect {
@@ -191,7 +192,7 @@ impl<A: Allocator + Copy> Parser<A> {
             × FoldsTo (At value_of S.takes) sink (yield_within limit s (take n bytes.now)) result.1) }
         ensures quiet { (limit : Option ℕ) (s : List ℕ) → WasFedWithin limit s self.old → IfOk result.0 (λ n. IsQuietWithin limit s bytes.now n) }
         ensures refused { (limit : Option ℕ) (s : List ℕ) → WasFedWithin limit s self.old → IfErr result.0 (λ e. (e ≡ ParseError.Memory) × IsBroken self.new
-            × StopsAt (MayTake (s ++ bytes.now)) (At value_of S.takes) (At value_of S.refuses) sink (yield_within limit s bytes.now) result.1) }
+            × StopsAt (MayTake (s ++ bytes.now) × Refused A) (At value_of S.takes) (At value_of S.refuses) sink (yield_within limit s bytes.now) result.1) }
         ensures failed { IsBroken self.old → (result.0 ≡ Err ParseError.Failed) × IsBroken self.new × (result.1 ≡ sink) }
     {
         let mut performer = Performer {
@@ -221,20 +222,22 @@ impl<A: Allocator + Copy> Parser<A> {
         ensures given { (limit : Option ℕ) (s : List ℕ) → WasFedWithin limit s self.old → IfOk result (λ x. WasFedWithin limit (s ++ take x.0 bytes.now) self.new
             × (option_map value_of x.1 ≡ first (yield_within limit s (take x.0 bytes.now)))) }
         ensures quiet { (limit : Option ℕ) (s : List ℕ) → WasFedWithin limit s self.old → IfOk result (λ x. IsQuietWithin limit s bytes.now x.0) }
-        ensures refused { (limit : Option ℕ) (s : List ℕ) → WasFedWithin limit s self.old → IfErr result (λ e. (e ≡ ParseError.Memory) × IsBroken self.new × MayTake (s ++ bytes.now)) }
+        ensures refused { (limit : Option ℕ) (s : List ℕ) → WasFedWithin limit s self.old → IfErr result (λ e. (e ≡ ParseError.Memory) × IsBroken self.new × MayTake (s ++ bytes.now) × Refused A) }
         ensures failed { IsBroken self.old → (result ≡ Err ParseError.Failed) × IsBroken self.new }
     {
         let (taken, First { action }) = self.feed_some(bytes, First { action: None });
         paired(taken, action)
     }
 
-    // The first action of the shortest prefix of `bytes` that adds one, and the length of the prefix.
+    // The first action of the shortest prefix of `bytes` that adds one, and the length of the prefix, out of the way
+    // of the code that finds a character.
+    #[inline(never)]
     fn first_of(&mut self, bytes: &[u8]) -> Result<Option<(Action<A>, usize)>, ParseError>
         ensures count { IfOk result (λ r. IfSome r (λ x. (0 < x.1) × (x.1 ≤ length bytes.now))) }
         ensures some { (limit : Option ℕ) (s : List ℕ) → WasFedWithin limit s self.old → IfOk result (λ r. IfSome r (λ x. WasFedWithin limit (s ++ take x.1 bytes.now) self.new × IsFirst limit s bytes.now (value_of x.0) x.1)) }
         ensures handed_out { (limit : Option ℕ) (s : List ℕ) → WasFedWithin limit s self.old → IfOk result (λ r. IfSome r (λ x. IsHandedOut (value_of x.0))) }
         ensures none { (limit : Option ℕ) (s : List ℕ) → WasFedWithin limit s self.old → IfOk result (λ r. IfNone r (WasFedWithin limit (s ++ bytes.now) self.new × (yield_within {A = A} limit s bytes.now ≡ []))) }
-        ensures refused { (limit : Option ℕ) (s : List ℕ) → WasFedWithin limit s self.old → IfErr result (λ e. (e ≡ ParseError.Memory) × IsBroken self.new × MayTake (s ++ bytes.now)) }
+        ensures refused { (limit : Option ℕ) (s : List ℕ) → WasFedWithin limit s self.old → IfErr result (λ e. (e ≡ ParseError.Memory) × IsBroken self.new × MayTake (s ++ bytes.now) × Refused A) }
         ensures failed { IsBroken self.old → (result ≡ Err ParseError.Failed) × IsBroken self.new }
     {
         laws::yield_handed_out::<A>();
@@ -278,7 +281,7 @@ impl<A: Allocator + Copy> Parser<A> {
         ensures some { (limit : Option ℕ) (s : List ℕ) → WasFedWithin limit s self.old → IfOk result (λ r. IfSome r (λ x. WasFedWithin limit (s ++ take x.1 bytes.now) self.new × IsFirst limit s bytes.now (value_of x.0) x.1)) }
         ensures handed_out { (limit : Option ℕ) (s : List ℕ) → WasFedWithin limit s self.old → IfOk result (λ r. IfSome r (λ x. IsHandedOut (value_of x.0))) }
         ensures none { (limit : Option ℕ) (s : List ℕ) → WasFedWithin limit s self.old → IfOk result (λ r. IfNone r (WasFedWithin limit (s ++ bytes.now) self.new × (yield_within {A = A} limit s bytes.now ≡ []))) }
-        ensures refused { (limit : Option ℕ) (s : List ℕ) → WasFedWithin limit s self.old → IfErr result (λ e. (e ≡ ParseError.Memory) × IsBroken self.new × MayTake (s ++ bytes.now)) }
+        ensures refused { (limit : Option ℕ) (s : List ℕ) → WasFedWithin limit s self.old → IfErr result (λ e. (e ≡ ParseError.Memory) × IsBroken self.new × MayTake (s ++ bytes.now) × Refused A) }
         ensures failed { IsBroken self.old → (result ≡ Err ParseError.Failed) × IsBroken self.new }
     {
         laws::yield_handed_out::<A>();
@@ -302,7 +305,7 @@ impl<A: Allocator + Copy> Parser<A> {
         ensures given { (limit : Option ℕ) (s : List ℕ) → WasFedWithin limit s self.old → IfOk result (λ x. WasFedWithin limit (s ++ take x.0 bytes.now) self.new
             × (map value_of x.1.items ≡ map value_of actions.items ++ yield_within limit s (take x.0 bytes.now))) }
         ensures quiet { (limit : Option ℕ) (s : List ℕ) → WasFedWithin limit s self.old → IfOk result (λ x. IsQuietWithin limit s bytes.now x.0) }
-        ensures refused { (limit : Option ℕ) (s : List ℕ) → WasFedWithin limit s self.old → IfErr result (λ e. (e ≡ ParseError.Memory) × IsBroken self.new × MayWant A limit s bytes.now) }
+        ensures refused { (limit : Option ℕ) (s : List ℕ) → WasFedWithin limit s self.old → IfErr result (λ e. (e ≡ ParseError.Memory) × IsBroken self.new × MayWant A limit s bytes.now × Refused A) }
         ensures failed { IsBroken self.old → (result ≡ Err ParseError.Failed) × IsBroken self.new }
     {
         let (taken, Collect { actions }) = self.feed_some(bytes, Collect { actions });
@@ -334,7 +337,7 @@ impl<A: Allocator + Copy> Parser<A> {
         ensures some { (limit : Option ℕ) (s : List ℕ) → WasFedWithin limit s self.old → IfOk result (λ r. IfSome r (λ x. WasFedWithin limit (s ++ take x.1 bytes.now) self.new × IsFirstStop limit s bytes.now (map value_of x.0.items) x.1)) }
         ensures handed_out { (limit : Option ℕ) (s : List ℕ) → WasFedWithin limit s self.old → IfOk result (λ r. IfSome r (λ x. AreHandedOut (map value_of x.0.items))) }
         ensures none { (limit : Option ℕ) (s : List ℕ) → WasFedWithin limit s self.old → IfOk result (λ r. IfNone r (WasFedWithin limit (s ++ bytes.now) self.new × ((k : ℕ) → k ≤ length bytes.now → IsStop A limit s (take k bytes.now) → ⊥))) }
-        ensures refused { (limit : Option ℕ) (s : List ℕ) → WasFedWithin limit s self.old → IfErr result (λ e. (e ≡ ParseError.Memory) × IsBroken self.new × MayWant A limit s bytes.now) }
+        ensures refused { (limit : Option ℕ) (s : List ℕ) → WasFedWithin limit s self.old → IfErr result (λ e. (e ≡ ParseError.Memory) × IsBroken self.new × MayWant A limit s bytes.now × Refused A) }
         ensures failed { IsBroken self.old → (result ≡ Err ParseError.Failed) × IsBroken self.new }
     {
         laws::yield_handed_out::<A>();
@@ -377,7 +380,7 @@ impl Parser {
             × GetsAll (At value_of (λ p a q. F.step p a tt q)) callback (yield_within limit s bytes.now)) }
         ensures handed_out { (limit : Option ℕ) (s : List ℕ) → WasFedWithin limit s self.old → AreHandedOut {A = Global} (yield_within limit s bytes.now) }
         ensures refused { (limit : Option ℕ) (s : List ℕ) → WasFedWithin limit s self.old → IfErr result (λ e. (e ≡ ParseError.Memory) × IsBroken self.new
-            × MayTake (s ++ bytes.now) × GetsPrefix (At value_of (λ p a q. F.step p a tt q)) callback (yield_within limit s bytes.now)) }
+            × MayTake (s ++ bytes.now) × Refused Global × GetsPrefix (At value_of (λ p a q. F.step p a tt q)) callback (yield_within limit s bytes.now)) }
         ensures failed { IsBroken self.old → (result ≡ Err ParseError.Failed) × IsBroken self.new }
     {
         laws::yield_handed_out::<Global>();

@@ -1,5 +1,5 @@
 //! From events to actions.
-ghost use Rattle.std.specs.Prelude.{◌≡◌, ℕ, [], ◌∷◌, true, IfOk, MatchResult, OnOk, Option, map};
+ghost use Rattle.std.specs.Prelude.{◌≡◌, ℕ, [], ◌∷◌, true, IfOk, MatchResult, OnErr, OnOk, Option, map};
 ghost use Rattle.std.specs.List.{FoldsTo};
 ghost use Rattle.esc_values.specs.Clear.{parts_of};
 ghost use Rattle.esc_sequences.specs.Csis.{csi_of, csi_value};
@@ -7,6 +7,7 @@ ghost use Rattle.esc_parse.specs.Given.{At, StopsAt};
 ghost use Rattle.esc_actions.specs.Values.{Mode, after, csi, datum, given, lone, osc, value_of, wants_memory};
 ghost use Rattle.esc_osc.specs.Reading.{meaning as command_meant};
 ghost use Rattle.esc_osc.specs.declared.command.OperatingSystemCommand.{OperatingSystemCommand};
+ghost use Rattle.memory.specs.Refusals.{Refused};
 
 use crate::commands::command_in;
 use crate::hooked::header_action;
@@ -49,7 +50,7 @@ fn give_all<A: Allocator, S: Sink<Action<A>>>(
     requires { S.is_ready sink.old }
     ensures ready { OnOk result (S.is_ready sink.new) }
     ensures given { MatchResult result (λ _. FoldsTo (At value_of S.takes) sink.old (map csi (map csi_value values.items)) sink.new)
-        (λ _. StopsAt (true ≡ true) (At value_of S.takes) (At value_of S.refuses) sink.old (map csi (map csi_value values.items)) sink.new) }
+        (λ _. StopsAt (Refused A) (At value_of S.takes) (At value_of S.refuses) sink.old (map csi (map csi_value values.items)) sink.new) }
 {
     for value in values {
         sink.receive(Action::CSI(value))?;
@@ -69,7 +70,7 @@ fn give_sequence<A: Allocator + Copy, S: Sink<Action<A>>>(
     requires { S.is_ready sink.old }
     ensures ready { OnOk result (S.is_ready sink.new) }
     ensures given { MatchResult result (λ _. FoldsTo (At value_of S.takes) sink.old (map csi (csi_of params.now parameters_truncated byte)) sink.new)
-        (λ _. StopsAt (true ≡ true) (At value_of S.takes) (At value_of S.refuses) sink.old (map csi (csi_of params.now parameters_truncated byte)) sink.new) }
+        (λ _. StopsAt (Refused A) (At value_of S.takes) (At value_of S.refuses) sink.old (map csi (csi_of params.now parameters_truncated byte)) sink.new) }
 {
     match CSI::parse_one(alloc, params, parameters_truncated, byte) {
         Ok(Some(value)) => sink.receive(Action::CSI(value)),
@@ -90,7 +91,7 @@ fn give_several<A: Allocator + Copy, S: Sink<Action<A>>>(
     requires { S.is_ready sink.old }
     ensures ready { OnOk result (S.is_ready sink.new) }
     ensures given { MatchResult result (λ _. FoldsTo (At value_of S.takes) sink.old (map csi (csi_of params.now parameters_truncated byte)) sink.new)
-        (λ _. StopsAt (true ≡ true) (At value_of S.takes) (At value_of S.refuses) sink.old (map csi (csi_of params.now parameters_truncated byte)) sink.new) }
+        (λ _. StopsAt (Refused A) (At value_of S.takes) (At value_of S.refuses) sink.old (map csi (csi_of params.now parameters_truncated byte)) sink.new) }
 {
     match CSI::parse(alloc, params, parameters_truncated, byte) {
         Ok(values) => give_all(sink, values),
@@ -110,7 +111,7 @@ fn give_made<A: Allocator + Copy, S: Sink<Action<A>>>(
     requires { S.is_ready sink.old }
     ensures ready { OnOk result (S.is_ready sink.new) }
     ensures given { MatchResult result (λ _. FoldsTo (At value_of S.takes) sink.old (map csi (csi_of params.now parameters_truncated byte)) sink.new)
-        (λ _. StopsAt (true ≡ true) (At value_of S.takes) (At value_of S.refuses) sink.old (map csi (csi_of params.now parameters_truncated byte)) sink.new) }
+        (λ _. StopsAt (Refused A) (At value_of S.takes) (At value_of S.refuses) sink.old (map csi (csi_of params.now parameters_truncated byte)) sink.new) }
 {
     match short_rendition(params, parameters_truncated, byte) {
         Some(sgr) => sink.receive(Action::CSI(CSI::Sgr(sgr))),
@@ -130,7 +131,7 @@ fn give_entries<A: Allocator + Copy, S: Sink<Action<A>>>(
     requires { S.is_ready sink.old }
     ensures ready { OnOk result (S.is_ready sink.new) }
     ensures given { MatchResult result (λ _. FoldsTo (At value_of S.takes) sink.old (map csi (csi_of params.now parameters_truncated byte)) sink.new)
-        (λ _. StopsAt (true ≡ true) (At value_of S.takes) (At value_of S.refuses) sink.old (map csi (csi_of params.now parameters_truncated byte)) sink.new) }
+        (λ _. StopsAt (Refused A) (At value_of S.takes) (At value_of S.refuses) sink.old (map csi (csi_of params.now parameters_truncated byte)) sink.new) }
 {
     match sink.receive_sequence(params, parameters_truncated, byte) {
         Ok(true) => Ok(()),
@@ -147,8 +148,8 @@ fn give_command<A: Allocator + Copy, S: Sink<Action<A>>>(
 ) -> Result<(), AllocError>
     requires { S.is_ready sink.old }
     ensures ready { OnOk result (S.is_ready sink.new) }
-    ensures given { (c : OperatingSystemCommand A) → IfOk command (λ d. d ≡ c) → MatchResult result (λ _. FoldsTo (At value_of S.takes) sink.old (osc c ∷ []) sink.new)
-        (λ _. StopsAt (true ≡ true) (At value_of S.takes) (At value_of S.refuses) sink.old (osc c ∷ []) sink.new) }
+    ensures given { (c : OperatingSystemCommand A) → IfOk command (λ d. d ≡ c) → OnErr command (Refused A) → MatchResult result (λ _. FoldsTo (At value_of S.takes) sink.old (osc c ∷ []) sink.new)
+        (λ _. StopsAt (Refused A) (At value_of S.takes) (At value_of S.refuses) sink.old (osc c ∷ []) sink.new) }
 {
     match command {
         Ok(command) => match Boxed::new(alloc, command) {
@@ -168,7 +169,7 @@ fn give_text<A: Allocator + Copy, S: Sink<Action<A>>>(
     requires { S.is_ready sink.old }
     ensures ready { OnOk result (S.is_ready sink.new) }
     ensures given { MatchResult result (λ _. FoldsTo (At value_of S.takes) sink.old (osc (command_meant (parts_of text.now)) ∷ []) sink.new)
-        (λ _. StopsAt (true ≡ true) (At value_of S.takes) (At value_of S.refuses) sink.old (osc (command_meant (parts_of text.now)) ∷ []) sink.new) }
+        (λ _. StopsAt (Refused A) (At value_of S.takes) (At value_of S.refuses) sink.old (osc (command_meant (parts_of text.now)) ∷ []) sink.new) }
 {
     match sink.receive_command(text) {
         Ok(true) => Ok(()),
@@ -200,7 +201,7 @@ impl<A: Allocator + Copy, S: Sink<Action<A>>> VTActor for Performer<S, A> {
         → Hooks limit q.unfinished (after m e) × FoldsTo (At value_of S.takes) p.sink (given limit m e) q.sink };
 
     ghost refuses = { λ p e q. (limit : Option ℕ) (m : Mode) → Hooks limit p.unfinished m
-        → StopsAt (wants_memory e ≡ true) (At value_of S.takes) (At value_of S.refuses) p.sink (given limit m e) q.sink };
+        → StopsAt ((wants_memory e ≡ true) × Refused A) (At value_of S.takes) (At value_of S.refuses) p.sink (given limit m e) q.sink };
 
     ghost is_ready = { λ p. S.is_ready p.sink };
 

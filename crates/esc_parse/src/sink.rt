@@ -11,6 +11,7 @@ ghost use Rattle.esc_parse.specs.Images.{is_image};
 ghost use Rattle.esc_actions.specs.Values.{csi, osc, value_of};
 ghost use Rattle.esc_osc.specs.Reading.{meaning as command_meant};
 ghost use Rattle.esc_actions.specs.declared.action.Action.TheVariants as action;
+ghost use Rattle.memory.specs.Refusals.{Refused};
 
 use esc_actions::Action;
 use esc_values::CsiParam;
@@ -124,7 +125,8 @@ pub trait Sink<T: FromChar> {
         ensures ready { OnOk result (is_ready self.new) }
         ensures taken { IfOk result (λ b. IsTrue b → FoldsTo (By T.is_sequence takes) self.old (csi_of _params.now _parameters_truncated _control) self.new) }
         ensures left { IfOk result (λ b. b ≡ false → self.new ≡ self.old) }
-        ensures refused { OnErr result (StopsAt (true ≡ true) (By T.is_sequence takes) (By T.is_sequence refuses) self.old (csi_of _params.now _parameters_truncated _control) self.new) }
+        ensures refused { OnErr result (StopsAt ⊥ (By T.is_sequence takes) (By T.is_sequence refuses)
+            self.old (csi_of _params.now _parameters_truncated _control) self.new) }
     {
         Ok(false)
     }
@@ -136,7 +138,8 @@ pub trait Sink<T: FromChar> {
         ensures ready { OnOk result (is_ready self.new) }
         ensures taken { IfOk result (λ b. IsTrue b → FoldsTo (By T.is_command takes) self.old (parts_of _text.now ∷ []) self.new) }
         ensures left { IfOk result (λ b. b ≡ false → self.new ≡ self.old) }
-        ensures refused { OnErr result (StopsAt (true ≡ true) (By T.is_command takes) (By T.is_command refuses) self.old (parts_of _text.now ∷ []) self.new) }
+        ensures refused { OnErr result (StopsAt ⊥ (By T.is_command takes) (By T.is_command refuses)
+            self.old (parts_of _text.now ∷ []) self.new) }
     {
         Ok(false)
     }
@@ -201,22 +204,22 @@ impl<A: Allocator> Collect<A> {
     }
 }
 
-/// A refused action is dropped; those before it are kept.
+/// An action is refused where memory is: it is dropped, and those before it are kept.
 impl<A: Allocator> Sink<Action<A>> for Collect<A> {
     ghost is_ready = { λ _. Unit {0} };
 
     ghost takes = { λ p a q. q.actions.items ≡ p.actions.items ++ a ∷ [] };
 
-    ghost refuses = { λ p a q. q.actions.items ≡ p.actions.items };
+    ghost refuses = { λ p a q. (q.actions.items ≡ p.actions.items) × Refused A };
 
     fn receive(&mut self, action: Action<A>) -> Result<(), AllocError> {
-        self.actions.push(action)?;
+        memory::push(&mut self.actions, action)?;
         Ok(())
     }
 
     #[inline]
     fn receive_text(&mut self, text: &[u8]) -> Result<(), AllocError> {
-        self.actions.reserve(text.len())?;
+        memory::reserve_for(&mut self.actions, text, 0)?;
         self.push_text(text);
         Ok(())
     }

@@ -1,9 +1,10 @@
 //! What is kept of a sixel image while it is unfinished.
-ghost use Rattle.std.specs.Prelude.{◌≡◌, ℕ, ℤ, List, [], ◌∷◌, ◌++◌, IfOk, OnOk};
+ghost use Rattle.std.specs.Prelude.{◌≡◌, ℕ, ℤ, List, [], ◌∷◌, ◌++◌, IfOk, OnErr, OnOk};
 ghost use Rattle.std.specs.List.{FoldsTo};
 ghost use Rattle.esc_sixel.specs.Items.{items};
 ghost use Rattle.esc_sixel.specs.Meaning.{sixel_of};
 ghost use Rattle.esc_parse.specs.Sixels.{Holds, Pushes};
+ghost use Rattle.memory.specs.Refusals.{Refused};
 
 use esc_sixel::{Sixel, SixelBuilder};
 use esc_values::Items;
@@ -35,7 +36,9 @@ impl<A: Allocator + Copy> SixelText<A> {
     /// One more byte of the data.
     #[tactic(auto, unfolding(crate::specs::Sixels::Holds))]
     pub fn push(&mut self, byte: u8) -> Result<(), AllocError>
-        ensures { (ps : List ℤ) (s : List ℕ) → Holds ps s self.old → OnOk result (Holds ps (s ++ byte ∷ []) self.new) }
+        ensures ok { (ps : List ℤ) (s : List ℕ) → Holds ps s self.old
+            → OnOk result (Holds ps (s ++ byte ∷ []) self.new) }
+        ensures refused { OnErr result (Refused A) }
     {
         self.data.push(byte)
     }
@@ -43,11 +46,12 @@ impl<A: Allocator + Copy> SixelText<A> {
     /// More bytes of the data, as `push` of each takes them.
     #[tactic(auto, using(crate::proofs::Sixels::appended))]
     pub fn push_run(&mut self, bytes: &[u8]) -> Result<(), AllocError>
-        ensures { OnOk result (FoldsTo Pushes self.old bytes.now self.new) }
+        ensures ok { OnOk result (FoldsTo Pushes self.old bytes.now self.new) }
+        ensures refused { OnErr result (Refused A) }
     {
         let empty = Items::new(self.alloc);
         let mut all = mem::replace(&mut self.data, empty).into_vec();
-        let result = all.extend_from_slice(bytes);
+        let result = memory::extend(&mut all, bytes);
         self.data = Items::from_vec(all);
         result
     }
@@ -55,7 +59,9 @@ impl<A: Allocator + Copy> SixelText<A> {
     /// The image that the parameters and all bytes mean.
     #[tactic(auto, unfolding(crate::specs::Sixels::Holds))]
     pub fn finish(self) -> Result<Sixel<A>, AllocError>
-        ensures { (ps : List ℤ) (s : List ℕ) → Holds ps s self → IfOk result (λ x. x ≡ sixel_of ps (items s)) }
+        ensures ok { (ps : List ℤ) (s : List ℕ) → Holds ps s self
+            → IfOk result (λ x. x ≡ sixel_of ps (items s)) }
+        ensures refused { OnErr result (Refused A) }
     {
         let SixelText {
             alloc: _,

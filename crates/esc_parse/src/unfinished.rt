@@ -1,5 +1,5 @@
 //! The device control string that is unfinished.
-ghost use Rattle.std.specs.Prelude.{◌≡◌, ℕ, IfOk, IsTrue, OnOk, Option, length, min, option_to_list, true};
+ghost use Rattle.std.specs.Prelude.{◌≡◌, ℕ, IfOk, IsTrue, OnErr, OnOk, Option, length, min, option_to_list, true};
 ghost use Rattle.std.specs.List.{FoldsTo, list_all};
 ghost use Rattle.std.specs.Option.{option_map};
 ghost use Rattle.esc_frame.specs.Limits.{kept_within, most};
@@ -8,6 +8,7 @@ ghost use Rattle.esc_actions.specs.Groups.{is_entered};
 ghost use Rattle.esc_parse.specs.Fed.{HasRoom, Hooks, TakesData, is_mode};
 ghost use Rattle.esc_parse.specs.Images.{is_image};
 ghost use Rattle.esc_parse.specs.declared.hooked.Hooked.TheVariants as hooked;
+ghost use Rattle.memory.specs.Refusals.{Refused};
 
 use crate::hooked::{Hooked, begin, end};
 use esc_actions::Action;
@@ -60,7 +61,9 @@ impl<A: Allocator + Copy> Unfinished<A> {
         params: &[i64],
         intermediates: &[u8],
     ) -> Result<(), AllocError>
-        ensures { (limit : Option ℕ) (m : Mode) → Hooks limit self.old m → OnOk result (Hooks limit self.new (opened kind byte params.now intermediates.now)) }
+        ensures ok { (limit : Option ℕ) (m : Mode) → Hooks limit self.old m
+            → OnOk result (Hooks limit self.new (opened kind byte params.now intermediates.now)) }
+        ensures refused { OnErr result (Refused A) }
     {
         self.hooked = begin(alloc, kind, byte, params, intermediates)?;
         self.data.clear();
@@ -83,6 +86,7 @@ impl<A: Allocator + Copy> Unfinished<A> {
     pub fn push(&mut self, byte: u8) -> Result<(), AllocError>
         ensures hooks { (limit : Option ℕ) (m : Mode) → Hooks limit self.old m → OnOk result (Hooks limit self.new (taken m byte)) }
         ensures mode { OnOk result (is_mode self.new.hooked ≡ is_mode self.old.hooked) }
+        ensures refused { OnErr result (Refused A) }
     {
         match &mut self.hooked {
             Hooked::Nothing | Hooked::Entered | Hooked::Over => return Ok(()),
@@ -108,7 +112,8 @@ impl<A: Allocator + Copy> Unfinished<A> {
 
     /// More bytes of its data, as `push` of each takes them. They are taken at once where the limit has room for all.
     pub fn push_run(&mut self, bytes: &[u8]) -> Result<(), AllocError>
-        ensures { OnOk result (FoldsTo TakesData self.old bytes.now self.new) }
+        ensures ok { OnOk result (FoldsTo TakesData self.old bytes.now self.new) }
+        ensures refused { OnErr result (Refused A) }
     {
         if self.has_room(bytes.len()) {
             return self.push_whole(bytes);
@@ -130,7 +135,8 @@ impl<A: Allocator + Copy> Unfinished<A> {
     // More bytes of its data, for which the limit has room.
     fn push_whole(&mut self, bytes: &[u8]) -> Result<(), AllocError>
         requires { HasRoom self.old.limit self.old.data (length bytes.now) }
-        ensures { OnOk result (FoldsTo TakesData self.old bytes.now self.new) }
+        ensures ok { OnOk result (FoldsTo TakesData self.old bytes.now self.new) }
+        ensures refused { OnErr result (Refused A) }
     {
         self.data.bytes += bytes.len();
         match &mut self.hooked {
@@ -163,6 +169,7 @@ impl<A: Allocator + Copy> Unfinished<A> {
     pub fn end(&mut self, alloc: A) -> Result<Option<Action<A>>, AllocError>
         ensures hooks { (limit : Option ℕ) (m : Mode) → Hooks limit self.old m → Hooks limit self.new plain }
         ensures gives { (limit : Option ℕ) (m : Mode) → Hooks limit self.old m → IfOk result (λ o. option_to_list (option_map value_of o) ≡ closed_gives limit m) }
+        ensures refused { OnErr result (Refused A) }
     {
         end(alloc, mem::replace(&mut self.hooked, Hooked::Nothing))
     }

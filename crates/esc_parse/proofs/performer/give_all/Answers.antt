@@ -1,4 +1,4 @@
-use Rattle.std.proofs.Common.{◌≡◌, true, map, length, [], ◌∷◌, ◌++◌, refl, sym, ap, subst, ◌∙◌, append_assoc, append-nil, arith}
+use Rattle.std.proofs.Common.{◌≡◌, map, length, [], ◌∷◌, ◌++◌, refl, sym, ap, subst, ◌∙◌, append_assoc, append-nil, arith}
 use Rattle.std.proofs.lemmas.Result.{err_from_is_err_and}
 use Rattle.std.specs.List.{FoldsTo}
 use Rattle.std.specs.Vec.Iter.{into_iter_items}
@@ -8,6 +8,7 @@ use Rattle.esc_parse.proofs.performer.give_all.Goals as goal
 use Rattle.esc_parse.specs.Given.{At, StopsAt}
 use Rattle.esc_actions.specs.Values.{csi, value_of}
 use Rattle.esc_actions.specs.declared.action.Action.TheVariants as action
+use Rattle.memory.specs.Refusals.{Refused}
 
 pub loop-value-init : goal.loop-value-init
 loop-value-init g c =
@@ -43,9 +44,9 @@ returns-in_err-receive-clause-given g c =
     let all : at.yielded ++ v ∷ into_iter_items c.next.new.self ≡ c.args.values.items = rw (← steps) at.invariant.parts in
     let p = err_from_is_err_and c.from_residual.result c.from_residual.ensures.1 in
     match_err _ _ c.from_residual.result p.0 p.1
-    (subst (λ vs. StopsAt (true ≡ true) (At value_of g.S.Sink.takes) (At value_of g.S.Sink.refuses) c.args.sink.now
+    (subst (λ vs. StopsAt (Refused g.row.A.Denot) (At value_of g.S.Sink.takes) (At value_of g.S.Sink.refuses) c.args.sink.now
     (map csi (map csi_value vs)) c.receive.new.self) all
-    (stops_more (At value_of g.S.Sink.takes) (At value_of g.S.Sink.refuses) (true ≡ true) csi_value csi _ at.yielded _ v
+    (stops_more (At value_of g.S.Sink.takes) (At value_of g.S.Sink.refuses) (Refused g.row.A.Denot) csi_value csi _ at.yielded _ v
     (into_iter_items c.next.new.self) _ at.invariant.taken (action.CSI v, refl, c.in_err-receive.ensures.given)))
 
 pub returns-clause-ready : goal.returns-clause-ready

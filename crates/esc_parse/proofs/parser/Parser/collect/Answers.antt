@@ -1,6 +1,6 @@
 use Rattle.std.proofs.Common.{◌++◌, map, ap, ◌∙◌}
 use Rattle.std.proofs.lemmas.Result.{IfErr-at_err, IfOk-at_ok}
-use Rattle.esc_parse.proofs.Lists.{stops_or_some}
+use Rattle.esc_parse.proofs.Lists.{stops_wanting}
 use Rattle.esc_parse.proofs.Paired.{ok_is_no_error, same_error}
 use Rattle.esc_parse.proofs.Yields.{collects}
 use Rattle.esc_parse.proofs.parser.Parser.collect.Goals as goal
@@ -19,7 +19,8 @@ returns-in-Ok-clause-failed g c = λ h.
 pub returns-in-Err-clause-refused : goal.returns-in-Err-clause-refused
 returns-in-Err-clause-refused g c = λ limit s h.
     let f = IfErr-at_err _ c.in-Err.is (c.parse_into-result.ensures.refused limit s h) in
-    (f.0, f.1, stops_or_some _ _ _ _ _ _ f.2)
+    let w = stops_wanting _ _ _ _ (λ p v q w. w.2.1) _ _ _ f.2 in
+    (f.0, f.1, w.0, w.1)
 
 pub returns-in-Err-clause-failed : goal.returns-in-Err-clause-failed
 returns-in-Err-clause-failed g c = λ h.

@@ -1,4 +1,4 @@
-use Rattle.esc_parse.proofs.Lists.{if_err_fourth, moved, moved_prefix, on_ok_second}
+use Rattle.esc_parse.proofs.Lists.{if_err_parts, moved, moved_prefix, on_ok_second}
 use Rattle.esc_parse.proofs.parser.Parser.parse.Goals as goal
 use Rattle.esc_actions.specs.Values.{value_of}
 
@@ -9,7 +9,8 @@ returns-clause-given g c limit s h =
 
 pub returns-clause-refused : goal.returns-clause-refused
 returns-clause-refused g c limit s h =
-    if_err_fourth _ _ _ c.parse_into.result.0 _ _ (λ w. moved_prefix (λ p. p.callback) value_of (λ p a q. goal.F-step g p a tt q) _ _ _ c.parse_into.result.1 w)
+    if_err_parts _ _ _ _ c.parse_into.result.0 _ _
+    (moved_prefix (λ p. p.callback) value_of (λ p a q. goal.F-step g p a tt q) _ _ _ c.parse_into.result.1)
     (c.parse_into.ensures.refused limit s h)
 
 pub returns-clause-handed_out : goal.returns-clause-handed_out

@@ -85,7 +85,7 @@ returns-in-Err-clause-refused g c = λ limit s h.
     let bs = c.args.bytes.now in
     let fed = c.fronts.invariant.fed limit s h in
     let f = c.in-Err.ensures.refused limit (s ++ take c.fronts.at bs) fed.0 in
-    (f.0, f.1, wants_rest g.row.A.Denot limit s bs c.fronts.at f.2)
+    (f.0, f.1, wants_rest g.row.A.Denot limit s bs c.fronts.at f.2, f.3)
 
 pub returns-then-at-bytes-clause-failed : goal.returns-then-at-bytes-clause-failed
 returns-then-at-bytes-clause-failed g c = λ b.

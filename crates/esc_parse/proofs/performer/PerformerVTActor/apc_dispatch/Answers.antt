@@ -3,6 +3,7 @@ use Rattle.esc_actions.specs.Values.{value_of}
 use Rattle.esc_parse.specs.Given.{At}
 use Rattle.esc_parse.proofs.Images.{all_dropped, command_images}
 use Rattle.esc_parse.proofs.Lists.{StopsAt-here}
+use Rattle.memory.specs.Refusals.{Refused}
 use Rattle.esc_parse.proofs.performer.PerformerVTActor.apc_dispatch.Goals as goal
 
 pub returns-then-drops_images-clause-hears : goal.returns-then-drops_images-clause-hears
@@ -13,4 +14,5 @@ returns-then-drops_images-clause-hears g c = λ limit m h. (
 
 pub returns-in-Err-clause-hears : goal.returns-in-Err-clause-hears
 returns-in-Err-clause-hears g c = λ limit m h.
-    StopsAt-here (At value_of g.S.Sink.takes) (At value_of g.S.Sink.refuses) (true ≡ true) c.args.self.now.sink _ _ refl refl
+    StopsAt-here (At value_of g.S.Sink.takes) (At value_of g.S.Sink.refuses) ((true ≡ true) × Refused g.row.A.Denot)
+    c.args.self.now.sink _ _ (refl, c.in-Err.ensures.refused) refl

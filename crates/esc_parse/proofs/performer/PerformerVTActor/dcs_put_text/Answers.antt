@@ -1,4 +1,4 @@
-use Rattle.std.proofs.Common.{◌≡◌, false, sym, true}
+use Rattle.std.proofs.Common.{sym}
 use Rattle.esc_parse.proofs.DataRuns.{given_run, given_stopped, quiet_refused, quiet_run}
 use Rattle.esc_parse.proofs.performer.PerformerVTActor.dcs_put_text.Goals as goal
 
@@ -8,13 +8,14 @@ returns-in-Ok-clause-told g c =
 
 pub returns-in-Err-clause-told : goal.returns-in-Err-clause-told
 returns-in-Err-clause-told g c =
-    given_stopped g.S.Sink.takes g.S.Sink.refuses (false ≡ true) c.args.bytes.now c.args.self.now _ (sym c.if-is_entered.ensures.mode)
+    given_stopped g.S.Sink.takes g.S.Sink.refuses ⊥ c.args.bytes.now c.args.self.now _ (sym c.if-is_entered.ensures.mode)
     c.in-Err.ensures.given
 
 pub returns-in-Ok-push_run-clause-told : goal.returns-in-Ok-push_run-clause-told
 returns-in-Ok-push_run-clause-told g c =
-    quiet_run g.S.Sink.takes g.S.Sink.refuses c.args.bytes.now c.args.self.now _ (sym c.if-is_entered.ensures.mode) c.in-Ok-push_run.ensures
+    quiet_run g.S.Sink.takes g.S.Sink.refuses c.args.bytes.now c.args.self.now _ (sym c.if-is_entered.ensures.mode) c.in-Ok-push_run.ensures.ok
 
 pub returns-in-Err-push_run-clause-told : goal.returns-in-Err-push_run-clause-told
 returns-in-Err-push_run-clause-told g c =
-    quiet_refused g.S.Sink.takes g.S.Sink.refuses (false ≡ true) c.args.bytes.now c.args.self.now _ c.requires.some (sym c.if-is_entered.ensures.mode)
+    quiet_refused g.S.Sink.takes g.S.Sink.refuses ⊥ c.args.bytes.now c.args.self.now _ c.requires.some (sym c.if-is_entered.ensures.mode)
+    c.in-Err-push_run.ensures.refused

@@ -1,4 +1,4 @@
-use Rattle.std.proofs.Common.{◌≡◌, chars, false, true}
+use Rattle.std.proofs.Common.{chars}
 use Rattle.esc_parse.proofs.TextRuns.{run_stopped, run_taken}
 use Rattle.esc_parse.proofs.performer.PerformerVTActor.print_str.Goals as goal
 
@@ -7,4 +7,4 @@ returns-in-Ok-clause-told g c = run_taken g.S.Sink.takes g.S.Sink.refuses (chars
 
 pub returns-in-Err-clause-told : goal.returns-in-Err-clause-told
 returns-in-Err-clause-told g c =
-    run_stopped g.S.Sink.takes g.S.Sink.refuses (false ≡ true) (chars c.args.text.now) c.args.self.now _ c.in-Err.ensures.given
+    run_stopped g.S.Sink.takes g.S.Sink.refuses ⊥ (chars c.args.text.now) c.args.self.now _ c.in-Err.ensures.given

@@ -1,4 +1,3 @@
-use Rattle.std.proofs.Common.{◌≡◌, false, true}
 use Rattle.esc_parse.proofs.TextRuns.{run_stopped, run_taken}
 use Rattle.esc_parse.proofs.performer.PerformerVTActor.print_text.Goals as goal
 
@@ -6,4 +5,4 @@ pub returns-in-Ok-clause-told : goal.returns-in-Ok-clause-told
 returns-in-Ok-clause-told g c = run_taken g.S.Sink.takes g.S.Sink.refuses c.args.text.now c.args.self.now _ c.in-Ok.ensures.given
 
 pub returns-in-Err-clause-told : goal.returns-in-Err-clause-told
-returns-in-Err-clause-told g c = run_stopped g.S.Sink.takes g.S.Sink.refuses (false ≡ true) c.args.text.now c.args.self.now _ c.in-Err.ensures.given
+returns-in-Err-clause-told g c = run_stopped g.S.Sink.takes g.S.Sink.refuses ⊥ c.args.text.now c.args.self.now _ c.in-Err.ensures.given
