@@ -16,7 +16,7 @@ use Rattle.esc_frame.specs.Machine.Keeps.{parameters_of}
 use Rattle.esc_frame.specs.Segments.{Ending, Opener, Piece, csi_events, escape_event, executes, is_finished, opener, opener_events}
 use Rattle.esc_frame.specs.Segments.Ending.{Open, Rung, Waits}
 use Rattle.esc_frame.specs.Segments.Segment.{Osc}
-use Rattle.esc_frame.proofs.Given.{stops_more, stops_then, stops_here}
+use Rattle.esc_frame.proofs.Given.{stops_for, stops_more, stops_then, stops_here}
 use Rattle.esc_segments.specs.Parts.{is_over}
 use Rattle.esc_segments.proofs.Beginnings.{run_is}
 use Rattle.esc_segments.proofs.Executes.{executes_opener, executes_whole_csi, executes_whole_escape}
@@ -44,7 +44,8 @@ inner_is bytes x a f e =
     let l : length x ≡ length bytes - 1 - 1 = omega (arith, ap length e, length-append (a ∷ x) (f ∷ [])) in
     ap (λ y. take (length bytes - 1 - 1) (drop 1 y)) e ∙ take_at x (f ∷ []) (length bytes - 1 - 1) l
 
-module _ {S E : Type 0} (own : Bool) (takes refuses : S → Event → S → Type 0) (result : Result (Unit {0}) E) (old mid new : S) where
+module _ {S E : Type 0} (own : Type 0) (takes refuses : S → Event → S → Type 0)
+    (result : Result (Unit {0}) E) (old mid new : S) where
   -- an escape sequence
   pub escape_told : (bytes x m : List ℕ) (f l : ℕ) → bytes ≡ (0x1b ∷ x) ++ f ∷ [] → ends_escape (class_of f) ≡ true → m ≡ x → l ≡ f
       → FoldsTo takes old (executes bytes) mid → Takes own takes refuses result mid (escape_event (strip m) l ∷ []) new
@@ -74,11 +75,13 @@ module _ {S E : Type 0} (own : Bool) (takes refuses : S → Event → S → Type
 
 -- a call that was refused in the opener, and the giver that stopped after it
 module _ {S : Type 0} (own : Type 0) (takes refuses : S → Event → S → Type 0) (old new : S) where
-  pub string_stops : (k : Kind) (o : Opener) (front : List ℕ) (es : List Event) → front ≡ opener k o → StopsAt own takes refuses old (executes front) new
+  pub string_stops : (k : Kind) (o : Opener) (front : List ℕ) (es : List Event) → front ≡ opener k o
+      → StopsAt ⊥ takes refuses old (executes front) new
       → StopsAt own takes refuses old (opener_events o ++ es) new
   string_stops k o front es e h =
       stops_more own takes refuses (opener_events o) es old new
-      (subst (λ y. StopsAt own takes refuses old y new) (ap executes e ∙ executes_opener k o) h)
+      (subst (λ y. StopsAt own takes refuses old y new) (ap executes e ∙ executes_opener k o)
+      (stops_for ⊥ own takes refuses (executes front) old new (λ no. absurd no) h))
 
   pub string_halts : (k : Kind) (o : Opener) (front : List ℕ) (es : List Event) → own → front ≡ opener k o → FoldsTo takes old (executes front) new
       → StopsAt own takes refuses old (opener_events o ++ es) new

@@ -5,18 +5,28 @@ use Rattle.std.specs.List.{FoldsTo, filter}
 use Rattle.std.proofs.lemmas.List.{map-append, take_more, append-nil}
 use Rattle.std.proofs.lemmas.List.Elements.{filter-append}
 use Rattle.esc_frame.specs.Events.{Event, StopsAt, Takes}
-use Rattle.esc_frame.proofs.Given.{folds_then, stops_then, stops_more, refused_stops}
+use Rattle.esc_frame.proofs.Given.{folds_then, stops_then, stops_more, refused_stops, takes_for}
 
 -- some events, and then others
-pub takes_then : {S E : Type 0} (own : Bool) (takes refuses : S → Event → S → Type 0) (result : Result (Unit {0}) E) (xs ys : List Event) (old mid new : S)
+pub takes_then : {S E : Type 0} (own : Type 0) (takes refuses : S → Event → S → Type 0)
+    (result : Result (Unit {0}) E) (xs ys : List Event) (old mid new : S)
     → FoldsTo takes old xs mid → Takes own takes refuses result mid ys new → Takes own takes refuses result old (xs ++ ys) new
 takes_then own takes refuses (Ok v) xs ys old mid new h t = folds_then takes xs ys old mid new h t
-takes_then own takes refuses (Err v) xs ys old mid new h t = stops_then (own ≡ true) takes refuses xs ys old mid new h t
+takes_then own takes refuses (Err v) xs ys old mid new h t =
+    stops_then own takes refuses xs ys old mid new h t
 
 -- no events
-pub takes_none : {S E : Type 0} (own : Bool) (takes refuses : S → Event → S → Type 0) (result : Result (Unit {0}) E) (old new : S)
+pub takes_none : {S E : Type 0} (own : Type 0) (takes refuses : S → Event → S → Type 0)
+    (result : Result (Unit {0}) E) (old new : S)
     → Takes own takes refuses result old [] new → Takes own takes refuses result old [] new
 takes_none own takes refuses result old new t = t
+
+-- where the call stops by itself for no reason, it does so for any
+pub takes_by : {S E : Type 0} (own : Type 0) (takes refuses : S → Event → S → Type 0)
+    (result : Result (Unit {0}) E) (es : List Event) (old new : S)
+    → Takes ⊥ takes refuses result old es new → Takes own takes refuses result old es new
+takes_by own takes refuses result es old new t =
+    takes_for ⊥ own takes refuses result old new es (λ no. absurd no) t
 
 -- the bytes that pass a test, one call a byte
 module _ {S : Type 0} (takes refuses : S → Event → S → Type 0) (event : ℕ → Event) (test : ℕ → Bool) (xs : List ℕ) (i : ℕ) (h : i < length xs) (old mid new : S)

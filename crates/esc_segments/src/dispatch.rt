@@ -1,7 +1,7 @@
 //! The events of escape sequences and control sequences.
 #![tactic(auto)]
 
-ghost use Rattle.std.specs.Prelude.{◌∷◌, Bool, List, OnOk, [], false, ℕ};
+ghost use Rattle.std.specs.Prelude.{◌∷◌, Bool, List, OnOk, [], ℕ};
 ghost use Rattle.esc_frame.specs.Classes.{strip};
 ghost use Rattle.esc_frame.specs.Events.{Takes};
 ghost use Rattle.esc_frame.specs.Machine.Keeps.{Keeps, KeepsBody};
@@ -21,7 +21,7 @@ type Result<T> = std::result::Result<T, AllocError>;
 /// Executes the plain controls among the bytes, in order.
 pub fn execute_in<V: VTActor>(bytes: &[u8], actor: &mut V) -> Result<()>
     requires { V.is_ready actor.old }
-    ensures told { (own : Bool) → Takes own V.takes V.refuses result actor.old (executes bytes.now) actor.new }
+    ensures told { Takes ⊥ V.takes V.refuses result actor.old (executes bytes.now) actor.new }
     ensures ready { OnOk result (V.is_ready actor.new) }
 {
     for b in bytes {
@@ -38,7 +38,8 @@ pub fn execute_in<V: VTActor>(bytes: &[u8], actor: &mut V) -> Result<()>
 /// An escape sequence: the controls inside it, and then its dispatch.
 pub fn escape<V: VTActor>(bytes: &[u8], actor: &mut V) -> Result<()>
     requires { V.is_ready actor.old }
-    ensures told { (own finished : Bool) (x : List ℕ) (f : ℕ) → Tells own V.takes V.refuses result actor.old actor.new bytes.now finished (Escape x f) }
+    ensures told { (finished : Bool) (x : List ℕ) (f : ℕ)
+        → Tells ⊥ V.takes V.refuses result actor.old actor.new bytes.now finished (Escape x f) }
     ensures ready { OnOk result (V.is_ready actor.new) }
 {
     if bytes.len() < 2 {
@@ -54,7 +55,8 @@ pub fn escape<V: VTActor>(bytes: &[u8], actor: &mut V) -> Result<()>
 // The dispatch of an escape sequence with these intermediates and noise, and this final byte.
 fn dispatch_escape<V: VTActor>(x: &[u8], last: u8, actor: &mut V) -> Result<()>
     requires { V.is_ready actor.old }
-    ensures told { (own : Bool) → Takes own V.takes V.refuses result actor.old (escape_event (strip x.now) last ∷ []) actor.new }
+    ensures told { Takes ⊥ V.takes V.refuses result actor.old
+        (escape_event (strip x.now) last ∷ []) actor.new }
     ensures ready { OnOk result (V.is_ready actor.new) }
 {
     let kept = intermediates_of(x);
@@ -77,7 +79,8 @@ fn intermediates_of(x: &[u8]) -> Intermediates
 /// A control sequence: the controls inside it, and then its dispatch, where its body has its form.
 pub fn csi<V: VTActor>(bytes: &[u8], actor: &mut V) -> Result<()>
     requires { V.is_ready actor.old }
-    ensures told { (finished : Bool) (o : Opener) (x : List ℕ) (f : ℕ) → Tells false V.takes V.refuses result actor.old actor.new bytes.now finished (Csi o x f) }
+    ensures told { (finished : Bool) (o : Opener) (x : List ℕ) (f : ℕ)
+        → Tells ⊥ V.takes V.refuses result actor.old actor.new bytes.now finished (Csi o x f) }
     ensures ready { OnOk result (V.is_ready actor.new) }
 {
     match execute_in(bytes, actor) {
@@ -96,7 +99,8 @@ pub fn csi<V: VTActor>(bytes: &[u8], actor: &mut V) -> Result<()>
 // The dispatch of a control sequence with this body and final byte.
 fn dispatch_csi<V: VTActor>(x: &[u8], last: u8, actor: &mut V) -> Result<()>
     requires { V.is_ready actor.old }
-    ensures told { Takes false V.takes V.refuses result actor.old (csi_events (strip x.now) last) actor.new }
+    ensures told { Takes ⊥ V.takes V.refuses result actor.old
+        (csi_events (strip x.now) last) actor.new }
     ensures ready { OnOk result (V.is_ready actor.new) }
 {
     let mut body = body_of(x);
@@ -106,7 +110,8 @@ fn dispatch_csi<V: VTActor>(x: &[u8], last: u8, actor: &mut V) -> Result<()>
 // The same, of a body that was read.
 fn tell_body<V: VTActor>(body: &mut CsiBody, last: u8, actor: &mut V) -> Result<()>
     requires { V.is_ready actor.old }
-    ensures told { (x : List ℕ) → KeepsBody body.old x → Takes false V.takes V.refuses result actor.old (csi_events x last) actor.new }
+    ensures told { (x : List ℕ) → KeepsBody body.old x
+        → Takes ⊥ V.takes V.refuses result actor.old (csi_events x last) actor.new }
     ensures ready { OnOk result (V.is_ready actor.new) }
 {
     if !body.is_formed() {
@@ -136,9 +141,12 @@ fn body_of(x: &[u8]) -> CsiBody
 /// A sequence or header that is cut short: the controls inside it, but of a device control string only those in its opener.
 pub fn cut_short<V: VTActor>(bytes: &[u8], actor: &mut V) -> Result<()>
     requires { V.is_ready actor.old }
-    ensures escape { (own finished : Bool) (x : List ℕ) → Tells own V.takes V.refuses result actor.old actor.new bytes.now finished (CutEscape x) }
-    ensures csi { (own finished : Bool) (o : Opener) (x : List ℕ) → Tells own V.takes V.refuses result actor.old actor.new bytes.now finished (CutCsi o x) }
-    ensures dcs { (own finished : Bool) (o : Opener) (x : List ℕ) → Tells own V.takes V.refuses result actor.old actor.new bytes.now finished (CutDcs o x) }
+    ensures escape { (finished : Bool) (x : List ℕ)
+        → Tells ⊥ V.takes V.refuses result actor.old actor.new bytes.now finished (CutEscape x) }
+    ensures csi { (finished : Bool) (o : Opener) (x : List ℕ)
+        → Tells ⊥ V.takes V.refuses result actor.old actor.new bytes.now finished (CutCsi o x) }
+    ensures dcs { (finished : Bool) (o : Opener) (x : List ℕ)
+        → Tells ⊥ V.takes V.refuses result actor.old actor.new bytes.now finished (CutDcs o x) }
     ensures ready { OnOk result (V.is_ready actor.new) }
 {
     if opens_dcs(bytes) {

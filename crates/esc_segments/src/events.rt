@@ -1,12 +1,13 @@
 //! The events of a segment by itself.
 #![tactic(auto)]
 
-ghost use Rattle.std.specs.Prelude.{◌≡◌, ◌∷◌, Bool, List, OnOk, [], if◌then◌else◌, ℕ};
+ghost use Rattle.std.specs.Prelude.{◌≡◌, ◌∷◌, Bool, List, OnOk, [], if◌then◌else◌, true, ℕ};
 ghost use Rattle.esc_frame.specs.Events.{Takes};
 ghost use Rattle.esc_frame.specs.Events.Event.{Execute, Print};
 ghost use Rattle.esc_frame.specs.Memory.{may_grow};
 ghost use Rattle.esc_frame.specs.Segments.{HasShape, Segment as Shape, behind_c2, events_of};
 ghost use Rattle.esc_segments.specs.Items.{IsItem};
+ghost use Rattle.memory.specs.Refusals.{Refused};
 
 use crate::characters::character_of;
 use crate::dispatch::{csi, cut_short, escape, execute_in};
@@ -28,7 +29,9 @@ pub fn segment_events<A: Allocator + Copy, V: VTActor>(
     actor: &mut V,
 ) -> Result<(), AllocError>
     requires { V.is_ready actor.old }
-    ensures told { (g : Shape) (after : List ℕ) → HasShape g after → IsItem segment.now g after → Takes (may_grow g) V.takes V.refuses result actor.old (events_of g segment.now.finished) actor.new }
+    ensures told { (g : Shape) (after : List ℕ) → HasShape g after → IsItem segment.now g after
+        → Takes ((may_grow g ≡ true) × Refused A) V.takes V.refuses result actor.old
+        (events_of g segment.now.finished) actor.new }
     ensures ready { OnOk result (V.is_ready actor.new) }
 {
     let bytes = segment.bytes;
@@ -51,7 +54,8 @@ pub fn segment_events<A: Allocator + Copy, V: VTActor>(
 // A prefix of a character, which prints nothing as long as it may go on.
 fn broken<V: VTActor>(finished: bool, actor: &mut V) -> Result<(), AllocError>
     requires { V.is_ready actor.old }
-    ensures told { (own : Bool) → Takes own V.takes V.refuses result actor.old (if finished then Print 0xfffd ∷ [] else []) actor.new }
+    ensures told { Takes ⊥ V.takes V.refuses result actor.old
+        (if finished then Print 0xfffd ∷ [] else []) actor.new }
     ensures ready { OnOk result (V.is_ready actor.new) }
 {
     if finished {
@@ -64,7 +68,8 @@ fn broken<V: VTActor>(finished: bool, actor: &mut V) -> Result<(), AllocError>
 // A control, raw or after C2: its last byte.
 fn control<V: VTActor>(bytes: &[u8], actor: &mut V) -> Result<(), AllocError>
     requires { V.is_ready actor.old }
-    ensures told { (own p : Bool) (b : ℕ) → bytes.now ≡ behind_c2 p b → Takes own V.takes V.refuses result actor.old (Execute b ∷ []) actor.new }
+    ensures told { (p : Bool) (b : ℕ) → bytes.now ≡ behind_c2 p b
+        → Takes ⊥ V.takes V.refuses result actor.old (Execute b ∷ []) actor.new }
     ensures ready { OnOk result (V.is_ready actor.new) }
 {
     if bytes.is_empty() {

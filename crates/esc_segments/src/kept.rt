@@ -1,9 +1,10 @@
 //! What an operating system command keeps of its text.
 #![tactic(auto)]
 
-ghost use Rattle.std.specs.Prelude.{◌≡◌, ◌<◌, ◌≤◌, ◌++◌, IfOk, List, ℕ, drop, length, slice_index, true};
+ghost use Rattle.std.specs.Prelude.{◌≡◌, ◌<◌, ◌≤◌, ◌++◌, IfOk, List, OnErr, ℕ, drop, length, slice_index, true};
 ghost use Rattle.esc_frame.specs.Segments.{ArePieces, Ending, Piece, ending_bytes, text_bytes, text_of};
 ghost use Rattle.esc_segments.specs.Parts.{IsLeft, is_over};
+ghost use Rattle.memory.specs.Refusals.{Refused};
 
 use crate::sequence::{Ahead, sequence_ahead};
 use std::alloc::{AllocError, Allocator};
@@ -13,7 +14,10 @@ const REPLACEMENT: [u8; 3] = [0xef, 0xbf, 0xbd];
 
 /// What a text keeps whose end is known: its bytes 20 to 7F, its well-formed sequences, and U+FFFD for each broken one.
 pub fn kept_text<A: Allocator>(alloc: A, text: &[u8]) -> Result<Vec<u8, A>, AllocError>
-    ensures { (ps : List Piece) (e : Ending) (after : List ℕ) → text.now ≡ text_bytes ps ++ ending_bytes e → ArePieces ps (ending_bytes e ++ after) → is_over e ≡ true → IfOk result (λ v. v.items ≡ text_of ps) }
+    ensures ok { (ps : List Piece) (e : Ending) (after : List ℕ)
+        → text.now ≡ text_bytes ps ++ ending_bytes e → ArePieces ps (ending_bytes e ++ after)
+        → is_over e ≡ true → IfOk result (λ v. v.items ≡ text_of ps) }
+    ensures refused { OnErr result (Refused A) }
 {
     let mut kept = Vec::new(alloc);
     let mut end = 0;
@@ -28,10 +32,11 @@ fn keep_unit<A: Allocator>(kept: &mut Vec<u8, A>, text: &[u8]) -> Result<usize, 
     requires { 0 < length text.now }
     ensures kept { (after t : List ℕ) → IsLeft kept.old.items text.now after t → IfOk result (λ n. IsLeft kept.new.items (drop n text.now) after t) }
     ensures count { IfOk result (λ n. (0 < n) × (n ≤ length text.now)) }
+    ensures refused { OnErr result (Refused A) }
 {
     match text[0] {
         0x20..=0x7f => {
-            kept.push(text[0])?;
+            memory::push(kept, text[0])?;
             Ok(1)
         }
         0xc2..=0xf4 => keep_sequence(kept, text),
@@ -46,18 +51,19 @@ fn keep_sequence<A: Allocator>(kept: &mut Vec<u8, A>, text: &[u8]) -> Result<usi
     requires high { slice_index text.now 0 ≤ 0xf4 }
     ensures kept { (after t : List ℕ) → IsLeft kept.old.items text.now after t → IfOk result (λ n. IsLeft kept.new.items (drop n text.now) after t) }
     ensures count { IfOk result (λ n. (0 < n) × (n ≤ length text.now)) }
+    ensures refused { OnErr result (Refused A) }
 {
     match sequence_ahead(text) {
         Ahead::Whole(count) => {
-            kept.extend_from_slice(&text[..count])?;
+            memory::extend(kept, &text[..count])?;
             Ok(count)
         }
         Ahead::Broken(count) => {
-            kept.extend_from_slice(&REPLACEMENT)?;
+            memory::extend(kept, &REPLACEMENT)?;
             Ok(count)
         }
         Ahead::Pending => {
-            kept.extend_from_slice(&REPLACEMENT)?;
+            memory::extend(kept, &REPLACEMENT)?;
             Ok(text.len())
         }
         Ahead::Control(_) => Ok(text.len()),

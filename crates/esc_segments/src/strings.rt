@@ -1,7 +1,7 @@
 //! The events of strings.
 #![tactic(auto)]
 
-ghost use Rattle.std.specs.Prelude.{◌≡◌, ◌++◌, ◌∷◌, Bool, IfOk, List, OnOk, [], if◌then◌else◌, map, pos, true, ℕ};
+ghost use Rattle.std.specs.Prelude.{◌≡◌, ◌++◌, ◌∷◌, Bool, IfOk, List, OnErr, OnOk, [], if◌then◌else◌, map, pos, true, ℕ};
 ghost use Rattle.esc_values.specs.Clear.{parts_of};
 ghost use Rattle.esc_frame.specs.Bodies.{held, is_dcs_header, value_behind};
 ghost use Rattle.esc_frame.specs.Classes.{is_text, strip, those};
@@ -11,6 +11,7 @@ ghost use Rattle.esc_frame.specs.Machine.Keeps.{KeepsDcs, parameters_of};
 ghost use Rattle.esc_frame.specs.Segments.{Ending, Opener, Piece, hook_event, puts};
 ghost use Rattle.esc_frame.specs.Segments.Segment.{Apc, Dcs, Osc};
 ghost use Rattle.esc_segments.specs.Parts.{Tells};
+ghost use Rattle.memory.specs.Refusals.{Refused};
 
 use crate::bytes::{is_noise, is_put, is_text};
 use crate::dispatch::execute_in;
@@ -31,7 +32,9 @@ pub fn osc<A: Allocator + Copy, V: VTActor>(
     actor: &mut V,
 ) -> Result<()>
     requires { V.is_ready actor.old }
-    ensures told { (o : Opener) (ps : List Piece) (e : Ending) → Tells true V.takes V.refuses result actor.old actor.new bytes.now finished (Osc o ps e) }
+    ensures told { (o : Opener) (ps : List Piece) (e : Ending)
+        → Tells (Refused A) V.takes V.refuses result actor.old actor.new bytes.now finished
+        (Osc o ps e) }
     ensures ready { OnOk result (V.is_ready actor.new) }
 {
     let (opener, text) = split_opener(bytes);
@@ -57,7 +60,9 @@ pub fn apc<A: Allocator, V: VTActor>(
     actor: &mut V,
 ) -> Result<()>
     requires { V.is_ready actor.old }
-    ensures told { (o : Opener) (d : List ℕ) → Tells true V.takes V.refuses result actor.old actor.new bytes.now finished (Apc o d) }
+    ensures told { (o : Opener) (d : List ℕ)
+        → Tells (Refused A) V.takes V.refuses result actor.old actor.new bytes.now
+        finished (Apc o d) }
     ensures ready { OnOk result (V.is_ready actor.new) }
 {
     let (opener, content) = split_opener(bytes);
@@ -76,7 +81,8 @@ pub fn apc<A: Allocator, V: VTActor>(
 // The dispatch of the bytes 20 to 7F.
 fn dispatch_apc<A: Allocator, V: VTActor>(alloc: A, content: &[u8], actor: &mut V) -> Result<()>
     requires { V.is_ready actor.old }
-    ensures told { Takes true V.takes V.refuses result actor.old (ApcDispatch (those is_text content.now) ∷ []) actor.new }
+    ensures told { Takes (Refused A) V.takes V.refuses result actor.old
+        (ApcDispatch (those is_text content.now) ∷ []) actor.new }
     ensures ready { OnOk result (V.is_ready actor.new) }
 {
     match text_of(alloc, content) {
@@ -87,13 +93,10 @@ fn dispatch_apc<A: Allocator, V: VTActor>(alloc: A, content: &[u8], actor: &mut 
 
 // The bytes 20 to 7F.
 fn text_of<A: Allocator>(alloc: A, content: &[u8]) -> Result<Vec<u8, A>>
-    ensures { IfOk result (λ v. v.items ≡ those is_text content.now) }
+    ensures ok { IfOk result (λ v. v.items ≡ those is_text content.now) }
+    ensures refused { OnErr result (Refused A) }
 {
-    content
-        .iter()
-        .copied()
-        .filter(|b| is_text(*b))
-        .collect(alloc)
+    memory::collect(alloc, content.iter().copied().filter(|b| is_text(*b)))
 }
 
 /// A device control string: the controls in its opener, and where its header has its form the hook, its data byte by byte,
@@ -105,7 +108,9 @@ pub fn dcs<A: Allocator + Copy, V: VTActor>(
     actor: &mut V,
 ) -> Result<()>
     requires { V.is_ready actor.old }
-    ensures told { (o : Opener) (x : List ℕ) (f : ℕ) (d : List ℕ) → Tells true V.takes V.refuses result actor.old actor.new bytes.now finished (Dcs o x f d) }
+    ensures told { (o : Opener) (x : List ℕ) (f : ℕ) (d : List ℕ)
+        → Tells (Refused A) V.takes V.refuses result actor.old actor.new bytes.now finished
+        (Dcs o x f d) }
     ensures ready { OnOk result (V.is_ready actor.new) }
 {
     let (opener, body) = split_opener(bytes);
@@ -138,7 +143,7 @@ fn tell_dcs<A: Allocator + Copy, V: VTActor>(
     actor: &mut V,
 ) -> Result<()>
     requires { V.is_ready actor.old }
-    ensures told { Takes true V.takes V.refuses result actor.old
+    ensures told { Takes (Refused A) V.takes V.refuses result actor.old
         (if is_dcs_header (strip x.now) then (hook_event (strip x.now) last ∷ puts content.now) ++ (if finished then DcsUnhook ∷ [] else []) else []) actor.new }
     ensures ready { OnOk result (V.is_ready actor.new) }
 {
@@ -176,7 +181,8 @@ fn hook<A: Allocator + Copy, V: VTActor>(
     requires ready { V.is_ready actor.old }
     requires kept { KeepsDcs header.now (strip x.now) }
     requires formed { is_dcs_header (strip x.now) ≡ true }
-    ensures told { Takes true V.takes V.refuses result actor.old (hook_event (strip x.now) last ∷ []) actor.new }
+    ensures told { Takes (Refused A) V.takes V.refuses result actor.old
+        (hook_event (strip x.now) last ∷ []) actor.new }
     ensures ready { OnOk result (V.is_ready actor.new) }
 {
     match params_in(alloc, x) {
@@ -190,7 +196,9 @@ fn hook<A: Allocator + Copy, V: VTActor>(
 
 // The parameters that the bytes write.
 fn params_in<A: Allocator + Copy>(alloc: A, x: &[u8]) -> Result<Vec<i64, A>>
-    ensures { IfOk result (λ v. v.items ≡ map (λ p. pos (held (value_behind 0 p))) (parts_of (parameters_of (strip x.now)))) }
+    ensures ok { IfOk result (λ v. v.items ≡ map (λ p. pos (held (value_behind 0 p)))
+        (parts_of (parameters_of (strip x.now)))) }
+    ensures refused { OnErr result (Refused A) }
 {
     match parameter_bytes(alloc, x) {
         Ok(bytes) => params_of(alloc, &bytes),
@@ -200,18 +208,17 @@ fn params_in<A: Allocator + Copy>(alloc: A, x: &[u8]) -> Result<Vec<i64, A>>
 
 // The bytes 30 to 39 and 3B.
 fn parameter_bytes<A: Allocator>(alloc: A, x: &[u8]) -> Result<Vec<u8, A>>
-    ensures { IfOk result (λ v. v.items ≡ parameters_of x.now) }
+    ensures ok { IfOk result (λ v. v.items ≡ parameters_of x.now) }
+    ensures refused { OnErr result (Refused A) }
 {
-    x.iter()
-        .copied()
-        .filter(|b| is_parameter(*b))
-        .collect(alloc)
+    memory::collect(alloc, x.iter().copied().filter(|b| is_parameter(*b)))
 }
 
 // The data, and the unhook.
 fn put_and_end<V: VTActor>(content: &[u8], finished: bool, actor: &mut V) -> Result<()>
     requires { V.is_ready actor.old }
-    ensures told { (own : Bool) → Takes own V.takes V.refuses result actor.old (puts content.now ++ (if finished then DcsUnhook ∷ [] else [])) actor.new }
+    ensures told { Takes ⊥ V.takes V.refuses result actor.old
+        (puts content.now ++ (if finished then DcsUnhook ∷ [] else [])) actor.new }
     ensures ready { OnOk result (V.is_ready actor.new) }
 {
     match put_all(content, actor) {
@@ -223,7 +230,7 @@ fn put_and_end<V: VTActor>(content: &[u8], finished: bool, actor: &mut V) -> Res
 // The data, byte by byte.
 fn put_all<V: VTActor>(content: &[u8], actor: &mut V) -> Result<()>
     requires { V.is_ready actor.old }
-    ensures told { (own : Bool) → Takes own V.takes V.refuses result actor.old (puts content.now) actor.new }
+    ensures told { Takes ⊥ V.takes V.refuses result actor.old (puts content.now) actor.new }
     ensures ready { OnOk result (V.is_ready actor.new) }
 {
     for b in content {

@@ -1,4 +1,4 @@
-use Rattle.std.proofs.Common.{◌≡◌, true, false, [], ◌∷◌, ◌++◌, ap, ◌∙◌, subst, append_assoc}
+use Rattle.std.proofs.Common.{[], ◌∷◌, ◌++◌, ap, ◌∙◌, subst, append_assoc}
 use Rattle.esc_frame.specs.declared.classes.Kind.TheVariants as kind
 use Rattle.esc_frame.specs.Classes.{strip}
 use Rattle.esc_frame.specs.Events.{StopsAt}
@@ -13,12 +13,16 @@ returns-else-is_empty-clause-told g c = λ finished o x f after h e i.
     let bytes = c.args.bytes.now in
     let body = c.split_opener.result.1.now in
     let s = c.split_opener.ensures kind.Csi o (x ++ f ∷ []) h.0 (e ∙ append_assoc (opener kind.Csi o) x (f ∷ [])) in
-    csi_told false g.V.VTActor.takes g.V.VTActor.refuses c.dispatch_csi.result c.args.actor.now c.execute_in.new.actor c.dispatch_csi.new.actor bytes x _ o f
-    _ e h.2 (before_last body x f s.1) (last_is body x f s.1) (c.in-Ok.ensures.told false) c.dispatch_csi.ensures.told
+    csi_told ⊥ g.V.VTActor.takes g.V.VTActor.refuses c.dispatch_csi.result c.args.actor.now
+    c.execute_in.new.actor c.dispatch_csi.new.actor bytes x _ o f
+    _ e h.2 (before_last body x f s.1) (last_is body x f s.1)
+    c.in-Ok.ensures.told c.dispatch_csi.ensures.told
 
 pub returns-in-Err-clause-told : goal.returns-in-Err-clause-told
 returns-in-Err-clause-told g c = λ finished o x f after h e i.
-    stops_more (false ≡ true) g.V.VTActor.takes g.V.VTActor.refuses (opener_events o ++ executes x) (csi_events (strip x) f) c.args.actor.now
+    stops_more ⊥ g.V.VTActor.takes g.V.VTActor.refuses (opener_events o ++ executes x)
+    (csi_events (strip x) f) c.args.actor.now
     c.execute_in.new.actor
-    (subst (λ es. StopsAt (false ≡ true) g.V.VTActor.takes g.V.VTActor.refuses c.args.actor.now es c.execute_in.new.actor)
-    (ap executes e ∙ executes_whole_csi o x f h.2) (c.in-Err.ensures.told false))
+    (subst (λ es. StopsAt ⊥ g.V.VTActor.takes g.V.VTActor.refuses c.args.actor.now es
+    c.execute_in.new.actor)
+    (ap executes e ∙ executes_whole_csi o x f h.2) c.in-Err.ensures.told)

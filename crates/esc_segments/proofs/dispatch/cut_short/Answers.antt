@@ -6,17 +6,20 @@ use Rattle.esc_segments.proofs.Executes.{executes_escape, executes_opened, execu
 use Rattle.esc_segments.proofs.dispatch.cut_short.Goals as goal
 
 pub returns-then-opens_dcs-clause-dcs : goal.returns-then-opens_dcs-clause-dcs
-returns-then-opens_dcs-clause-dcs g c = λ own finished o x after h e i.
+returns-then-opens_dcs-clause-dcs g c = λ finished o x after h e i.
     let s = c.split_opener.ensures kind.Dcs o x h.0 e in
-    subst (λ es. Takes own g.V.VTActor.takes g.V.VTActor.refuses c.execute_in.result c.args.actor.now es c.execute_in.new.actor)
-    (ap executes s.0 ∙ executes_opener kind.Dcs o) (c.execute_in.ensures.told own)
+    subst (λ es. Takes ⊥ g.V.VTActor.takes g.V.VTActor.refuses c.execute_in.result c.args.actor.now
+    es c.execute_in.new.actor)
+    (ap executes s.0 ∙ executes_opener kind.Dcs o) c.execute_in.ensures.told
 
 pub returns-else-opens_dcs-clause-escape : goal.returns-else-opens_dcs-clause-escape
-returns-else-opens_dcs-clause-escape g c = λ own finished x after h e i.
-    subst (λ es. Takes own g.V.VTActor.takes g.V.VTActor.refuses c.execute_in-else-opens_dcs.result c.args.actor.now es c.execute_in-else-opens_dcs.new.actor)
-    (ap executes e ∙ executes_escape x) (c.execute_in-else-opens_dcs.ensures.told own)
+returns-else-opens_dcs-clause-escape g c = λ finished x after h e i.
+    subst (λ es. Takes ⊥ g.V.VTActor.takes g.V.VTActor.refuses c.execute_in-else-opens_dcs.result
+    c.args.actor.now es c.execute_in-else-opens_dcs.new.actor)
+    (ap executes e ∙ executes_escape x) c.execute_in-else-opens_dcs.ensures.told
 
 pub returns-else-opens_dcs-clause-csi : goal.returns-else-opens_dcs-clause-csi
-returns-else-opens_dcs-clause-csi g c = λ own finished o x after h e i.
-    subst (λ es. Takes own g.V.VTActor.takes g.V.VTActor.refuses c.execute_in-else-opens_dcs.result c.args.actor.now es c.execute_in-else-opens_dcs.new.actor)
-    (ap executes e ∙ executes_opened kind.Csi o x) (c.execute_in-else-opens_dcs.ensures.told own)
+returns-else-opens_dcs-clause-csi g c = λ finished o x after h e i.
+    subst (λ es. Takes ⊥ g.V.VTActor.takes g.V.VTActor.refuses c.execute_in-else-opens_dcs.result
+    c.args.actor.now es c.execute_in-else-opens_dcs.new.actor)
+    (ap executes e ∙ executes_opened kind.Csi o x) c.execute_in-else-opens_dcs.ensures.told

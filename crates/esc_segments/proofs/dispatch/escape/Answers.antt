@@ -1,4 +1,4 @@
-use Rattle.std.proofs.Common.{◌≡◌, true, [], ◌∷◌, ap, ◌∙◌, subst}
+use Rattle.std.proofs.Common.{[], ◌∷◌, ap, ◌∙◌, subst}
 use Rattle.esc_frame.specs.Classes.{strip}
 use Rattle.esc_frame.specs.Events.{StopsAt}
 use Rattle.esc_frame.specs.Segments.{escape_event, executes}
@@ -8,14 +8,18 @@ use Rattle.esc_segments.proofs.Executes.{executes_whole_escape}
 use Rattle.esc_segments.proofs.dispatch.escape.Goals as goal
 
 pub returns-in-Ok-clause-told : goal.returns-in-Ok-clause-told
-returns-in-Ok-clause-told g c = λ own finished x f after h e i.
+returns-in-Ok-clause-told g c = λ finished x f after h e i.
     let bytes = c.args.bytes.now in
-    escape_told own g.V.VTActor.takes g.V.VTActor.refuses c.dispatch_escape.result c.args.actor.now c.execute_in.new.actor c.dispatch_escape.new.actor
+    escape_told ⊥ g.V.VTActor.takes g.V.VTActor.refuses c.dispatch_escape.result c.args.actor.now
+    c.execute_in.new.actor c.dispatch_escape.new.actor
     bytes x _ f
-    _ e h.1 (inner_is bytes x 0x1b f e) (last_is bytes (0x1b ∷ x) f e) (c.in-Ok.ensures.told own) (c.dispatch_escape.ensures.told own)
+    _ e h.1 (inner_is bytes x 0x1b f e) (last_is bytes (0x1b ∷ x) f e)
+    c.in-Ok.ensures.told c.dispatch_escape.ensures.told
 
 pub returns-in-Err-clause-told : goal.returns-in-Err-clause-told
-returns-in-Err-clause-told g c = λ own finished x f after h e i.
-    stops_more (own ≡ true) g.V.VTActor.takes g.V.VTActor.refuses (executes x) (escape_event (strip x) f ∷ []) c.args.actor.now c.execute_in.new.actor
-    (subst (λ es. StopsAt (own ≡ true) g.V.VTActor.takes g.V.VTActor.refuses c.args.actor.now es c.execute_in.new.actor)
-    (ap executes e ∙ executes_whole_escape x f h.1) (c.in-Err.ensures.told own))
+returns-in-Err-clause-told g c = λ finished x f after h e i.
+    stops_more ⊥ g.V.VTActor.takes g.V.VTActor.refuses (executes x) (escape_event (strip x) f ∷ [])
+    c.args.actor.now c.execute_in.new.actor
+    (subst (λ es. StopsAt ⊥ g.V.VTActor.takes g.V.VTActor.refuses c.args.actor.now es
+    c.execute_in.new.actor)
+    (ap executes e ∙ executes_whole_escape x f h.1) c.in-Err.ensures.told)

@@ -1,4 +1,4 @@
-use Rattle.std.proofs.Common.{◌≡◌, true, ◌∙◌, sym, subst, map, take, ◌+◌, arith}
+use Rattle.std.proofs.Common.{◌∙◌, sym, subst, map, take, ◌+◌, arith}
 use Rattle.std.specs.List.{FoldsTo}
 use Rattle.esc_frame.specs.Classes.{class_of, is_plain, those}
 use Rattle.esc_frame.specs.Events.Event.{Execute}
@@ -7,9 +7,10 @@ use Rattle.esc_segments.proofs.dispatch.execute_in.Goals as goal
 use Rattle.esc_segments.proofs.dispatch.execute_in.Goals.{then-is_plain+in-Ok, else-is_plain}
 
 pub returns-in-Err-clause-told : goal.returns-in-Err-clause-told
-returns-in-Err-clause-told g c = λ own.
+returns-in-Err-clause-told g c =
     told_stop g.V.VTActor.takes g.V.VTActor.refuses Execute (λ b. is_plain (class_of b)) c.args.bytes.now c.loop-b.b-index (omega arith) c.args.actor.now
-    c.loop-b.actor _ c.loop-b.invariant.1 (own ≡ true) (sym c.is_plain.ensures ∙ c.if-is_plain.true) c.in-Err.ensures.hears
+    c.loop-b.actor _ c.loop-b.invariant.1 ⊥ (sym c.is_plain.ensures ∙ c.if-is_plain.true)
+    c.in-Err.ensures.hears
 
 pub loop-b-preserved : goal.loop-b-preserved
 loop-b-preserved g c =

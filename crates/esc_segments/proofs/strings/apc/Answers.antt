@@ -1,4 +1,4 @@
-use Rattle.std.proofs.Common.{◌≡◌, true, [], ◌∷◌, ◌++◌, if◌then◌else◌, sym, ap, ◌∙◌, subst}
+use Rattle.std.proofs.Common.{[], ◌∷◌, ◌++◌, if◌then◌else◌, sym, ap, ◌∙◌, subst}
 use Rattle.std.specs.List.{FoldsTo}
 use Rattle.std.proofs.lemmas.List.{append-nil}
 use Rattle.esc_frame.specs.declared.classes.Kind.TheVariants as kind
@@ -6,6 +6,7 @@ use Rattle.esc_frame.specs.Classes.{is_text, those}
 use Rattle.esc_frame.specs.Events.{Takes}
 use Rattle.esc_frame.specs.Events.Event.{ApcDispatch}
 use Rattle.esc_frame.specs.Segments.{executes, opener_events}
+use Rattle.memory.specs.Refusals.{Refused}
 use Rattle.esc_segments.proofs.Dispatching.{string_stops, string_told}
 use Rattle.esc_segments.proofs.Executes.{executes_opener}
 use Rattle.esc_segments.proofs.strings.apc.Goals as goal
@@ -13,11 +14,16 @@ use Rattle.esc_segments.proofs.strings.apc.Goals as goal
 pub returns-then-finished-clause-told : goal.returns-then-finished-clause-told
 returns-then-finished-clause-told g c = λ o d after h w i.
     let s = c.split_opener.ensures kind.Apc o d h.0 w in
-    string_told true g.V.VTActor.takes g.V.VTActor.refuses c.dispatch_apc.result c.args.actor.now c.execute_in.new.actor c.dispatch_apc.new.actor kind.Apc o
-    c.split_opener.result.0.now _ s.0 (c.in-Ok.ensures.told true)
-    (subst (λ b. Takes true g.V.VTActor.takes g.V.VTActor.refuses c.dispatch_apc.result c.execute_in.new.actor
+    string_told (Refused g.row.A.Denot)
+    g.V.VTActor.takes g.V.VTActor.refuses c.dispatch_apc.result c.args.actor.now
+    c.execute_in.new.actor c.dispatch_apc.new.actor kind.Apc o
+    c.split_opener.result.0.now _ s.0 c.in-Ok.ensures.told
+    (subst (λ b. Takes (Refused g.row.A.Denot)
+    g.V.VTActor.takes g.V.VTActor.refuses c.dispatch_apc.result c.execute_in.new.actor
     (if b then ApcDispatch (those is_text d) ∷ [] else []) c.dispatch_apc.new.actor) (sym c.if-finished.true)
-    (subst (λ t. Takes true g.V.VTActor.takes g.V.VTActor.refuses c.dispatch_apc.result c.execute_in.new.actor (ApcDispatch (those is_text t) ∷ [])
+    (subst (λ t. Takes (Refused g.row.A.Denot)
+    g.V.VTActor.takes g.V.VTActor.refuses c.dispatch_apc.result c.execute_in.new.actor
+    (ApcDispatch (those is_text t) ∷ [])
     c.dispatch_apc.new.actor) s.1 c.dispatch_apc.ensures.told))
 
 pub returns-else-finished-clause-told : goal.returns-else-finished-clause-told
@@ -26,10 +32,13 @@ returns-else-finished-clause-told g c = λ o d after h w i.
     subst (λ b. FoldsTo g.V.VTActor.takes c.args.actor.now (opener_events o ++ (if b then ApcDispatch (those is_text d) ∷ [] else [])) c.execute_in.new.actor)
     (sym c.if-finished.false)
     (subst (λ es. FoldsTo g.V.VTActor.takes c.args.actor.now es c.execute_in.new.actor)
-    (ap executes s.0 ∙ executes_opener kind.Apc o ∙ sym (append-nil (opener_events o))) (c.in-Ok.ensures.told true))
+    (ap executes s.0 ∙ executes_opener kind.Apc o ∙ sym (append-nil (opener_events o)))
+    c.in-Ok.ensures.told)
 
 pub returns-in-Err-clause-told : goal.returns-in-Err-clause-told
 returns-in-Err-clause-told g c = λ o d after h w i.
     let s = c.split_opener.ensures kind.Apc o d h.0 w in
-    string_stops (true ≡ true) g.V.VTActor.takes g.V.VTActor.refuses c.args.actor.now c.execute_in.new.actor kind.Apc o c.split_opener.result.0.now _ s.0
-    (c.in-Err.ensures.told true)
+    string_stops (Refused g.row.A.Denot)
+    g.V.VTActor.takes g.V.VTActor.refuses c.args.actor.now c.execute_in.new.actor kind.Apc o
+    c.split_opener.result.0.now _ s.0
+    c.in-Err.ensures.told

@@ -1,4 +1,4 @@
-use Rattle.std.proofs.Common.{◌≡◌, true, [], ◌∷◌, ◌++◌, if◌then◌else◌, sym, subst}
+use Rattle.std.proofs.Common.{[], ◌∷◌, ◌++◌, if◌then◌else◌, sym, subst}
 use Rattle.std.specs.List.{FoldsTo}
 use Rattle.std.proofs.lemmas.List.{append-nil}
 use Rattle.esc_frame.specs.Events.{Takes}
@@ -9,21 +9,26 @@ use Rattle.esc_segments.proofs.Told.{takes_then}
 use Rattle.esc_segments.proofs.strings.put_and_end.Goals as goal
 
 pub returns-then-finished-clause-told : goal.returns-then-finished-clause-told
-returns-then-finished-clause-told g c = λ own.
-    takes_then own g.V.VTActor.takes g.V.VTActor.refuses c.dcs_unhook.result (puts c.args.content.now) (if c.args.finished then DcsUnhook ∷ [] else [])
-    c.args.actor.now c.put_all.new.actor c.dcs_unhook.new.self (c.in-Ok.ensures.told own)
-    (subst (λ b. Takes own g.V.VTActor.takes g.V.VTActor.refuses c.dcs_unhook.result c.put_all.new.actor
+returns-then-finished-clause-told g c =
+    takes_then ⊥ g.V.VTActor.takes g.V.VTActor.refuses c.dcs_unhook.result (puts c.args.content.now)
+    (if c.args.finished then DcsUnhook ∷ [] else [])
+    c.args.actor.now c.put_all.new.actor c.dcs_unhook.new.self c.in-Ok.ensures.told
+    (subst (λ b. Takes ⊥ g.V.VTActor.takes g.V.VTActor.refuses c.dcs_unhook.result
+    c.put_all.new.actor
     (if b then DcsUnhook ∷ [] else []) c.dcs_unhook.new.self)
     (sym c.if-finished.true)
-    (hears_takes own g.V.VTActor.takes g.V.VTActor.refuses c.dcs_unhook.result c.put_all.new.actor c.dcs_unhook.new.self DcsUnhook c.dcs_unhook.ensures.hears))
+    (hears_takes ⊥ g.V.VTActor.takes g.V.VTActor.refuses c.dcs_unhook.result c.put_all.new.actor
+    c.dcs_unhook.new.self DcsUnhook c.dcs_unhook.ensures.hears))
 
 pub returns-else-finished-clause-told : goal.returns-else-finished-clause-told
-returns-else-finished-clause-told g c = λ own.
+returns-else-finished-clause-told g c =
     subst (λ b. FoldsTo g.V.VTActor.takes c.args.actor.now (puts c.args.content.now ++ (if b then DcsUnhook ∷ [] else [])) c.put_all.new.actor)
     (sym c.if-finished.false)
-    (subst (λ es. FoldsTo g.V.VTActor.takes c.args.actor.now es c.put_all.new.actor) (sym (append-nil (puts c.args.content.now))) (c.in-Ok.ensures.told own))
+    (subst (λ es. FoldsTo g.V.VTActor.takes c.args.actor.now es c.put_all.new.actor)
+    (sym (append-nil (puts c.args.content.now))) c.in-Ok.ensures.told)
 
 pub returns-in-Err-clause-told : goal.returns-in-Err-clause-told
-returns-in-Err-clause-told g c = λ own.
-    stops_more (own ≡ true) g.V.VTActor.takes g.V.VTActor.refuses (puts c.args.content.now) (if c.args.finished then DcsUnhook ∷ [] else []) c.args.actor.now
-    c.put_all.new.actor (c.in-Err.ensures.told own)
+returns-in-Err-clause-told g c =
+    stops_more ⊥ g.V.VTActor.takes g.V.VTActor.refuses (puts c.args.content.now)
+    (if c.args.finished then DcsUnhook ∷ [] else []) c.args.actor.now
+    c.put_all.new.actor c.in-Err.ensures.told
