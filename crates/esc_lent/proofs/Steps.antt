@@ -14,12 +14,16 @@ pub taken_few : {S E : Type 0} (is_ready : S → Type 0) (r : Result ℕ E) (n :
 taken_few is_ready r n true rest new ok none h = let e : n ≡ 0 = none refl in omega arith
 taken_few is_ready r n false rest new ok none h = (subst (λ x. Advances is_ready x rest new) (ok refl) h).1
 
-pub took_said : {K A S E : Type 0} (keeps : Option ℕ → K → List ℕ → Type 0) (limit : Option ℕ) (refuses : S → Event → S → Type 0) (says : S → List Event)
-    (mark : S → Bool) (r : Result ℕ E) (n : ℕ) (u : Unfinished) (rest : List ℕ) (machine : Machine K A) (old new : S) → r ≡ Ok n
-    → Took keeps limit (Adds says mark) refuses r u rest machine old new → says old ≡ [] → mark old ≡ false
+pub took_said : {K A S E : Type 0} (keeps : Option ℕ → K → List ℕ → Type 0) (denied : Type 0)
+    (limit : Option ℕ)
+    (refuses : S → Event → S → Type 0) (says : S → List Event) (mark : S → Bool) (r : Result ℕ E)
+    (n : ℕ) (u : Unfinished) (rest : List ℕ) (machine : Machine K A) (old new : S) → r ≡ Ok n
+    → Took keeps denied limit (Adds says mark) refuses r u rest machine old new → says old ≡ []
+    → mark old ≡ false
     → (says new ≡ news_all limit u (take n rest)) × (mark new ≡ false)
-took_said keeps limit refuses says mark r n u rest machine old new e h none off =
-    let t = subst (λ x. Took keeps limit (Adds says mark) refuses x u rest machine old new) e h in
+took_said keeps denied limit refuses says mark r n u rest machine old new e h none off =
+    let t = subst (λ x. Took keeps denied limit (Adds says mark) refuses x u rest machine old new)
+    e h in
     let q = all_said says mark (news_all limit u (take n rest)) old new t.1 in
     (q.0 ∙ ap (λ y. y ++ news_all limit u (take n rest)) none, q.1 off)
 

@@ -27,6 +27,9 @@ pub struct LentText<'a, N: Named> {
 impl<'a, N: Named> Store for LentText<'a, N> {
     ghost keeps = { λ limit k t. KeepsLent limit k.is_over k.count k.memory.now t };
 
+    // It fails where there is no room, and asks for no memory.
+    ghost denied = { Unit {0} };
+
     #[inline]
     fn clear(&mut self) {
         self.count = 0;

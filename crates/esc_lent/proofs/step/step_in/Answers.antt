@@ -20,7 +20,8 @@ returns-clause-told g c = λ u h f.
     let kind : old.event.now.kind ≡ 0 = ap (λ x. x.kind) c.listen-recorder.ensures.event ∙ c.requires.none in
     let holds = subst (λ r. Holds (λ limit k t. KeepsLent limit k.is_over k.count k.memory.now t) (Some r) c.load-machine.result u) (sym c.requires.room)
     (c.load-machine.ensures.holds u h) in
-    let k = took_said (λ limit k t. KeepsLent limit k.is_over k.count k.memory.now t) (Some (length c.args.memory.now)) (λ p e q. Unit {0})
+    let k = took_said (λ limit k t. KeepsLent limit k.is_over k.count k.memory.now t)
+    (Unit {0}) (Some (length c.args.memory.now)) (λ p e q. Unit {0})
     (λ s. said s.event.now s.out.now s.due_kind s.due_value) (λ s. is_run s.event.now.kind)
     c.take_some.result c.taken_of-taken.result.0 u c.args.bytes.now c.take_some.new.self old new e (c.take_some.ensures.took u holds)
     (said_nothing old.event.now old.out.now old.due_kind old.due_value kind c.listen-recorder.ensures.due) (ap is_run kind) in
@@ -35,7 +36,8 @@ returns-clause-run g c = λ u h f.
     let kind : old.event.now.kind ≡ 0 = ap (λ x. x.kind) c.listen-recorder.ensures.event ∙ c.requires.none in
     let holds = subst (λ r. Holds (λ limit k t. KeepsLent limit k.is_over k.count k.memory.now t) (Some r) c.load-machine.result u) (sym c.requires.room)
     (c.load-machine.ensures.holds u h) in
-    let k = took_said (λ limit k t. KeepsLent limit k.is_over k.count k.memory.now t) (Some (length c.args.memory.now)) (λ p e q. Unit {0})
+    let k = took_said (λ limit k t. KeepsLent limit k.is_over k.count k.memory.now t)
+    (Unit {0}) (Some (length c.args.memory.now)) (λ p e q. Unit {0})
     (λ s. said s.event.now s.out.now s.due_kind s.due_value) (λ s. is_run s.event.now.kind)
     c.take_some.result c.taken_of-taken.result.0 u c.args.bytes.now c.take_some.new.self old new e (c.take_some.ensures.took u holds)
     (said_nothing old.event.now old.out.now old.due_kind old.due_value kind c.listen-recorder.ensures.due) (ap is_run kind) in
