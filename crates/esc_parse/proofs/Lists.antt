@@ -1,6 +1,6 @@
 -- Lists, and runs of steps over them.
 use Rattle.std.proofs.Common.{◌≡◌, ◌≢◌, ◌⊎◌, ◌<◌, ◌+◌, ℕ, List, [], ◌∷◌, ◌++◌, length, map, take, get_or, arith, refl, ap, sym, ◌∙◌}
-use Rattle.std.proofs.Common.{subst, inl, inr, Result, Ok, Err, OnOk, OnErr, IfOk, IfErr, MatchResult}
+use Rattle.std.proofs.Common.{subst, inl, inr, Result, Ok, Err, OnOk, OnErr, IfOk, IfErr, IsOkAnd, MatchResult}
 use Rattle.std.specs.List.{FoldsTo, flat_map}
 use Rattle.std.proofs.lemmas.Grind.{flat_map-append}
 use Rattle.std.proofs.lemmas.List.{append-nil, take_more}
@@ -103,6 +103,10 @@ pub on_err_at : {T E X : Type 0} {e : E} (r : Result T E) → r ≡ Err e → On
 on_err_at (Ok x) is h = absurd cc
 on_err_at (Err e) is h = h
 
+pub on_err_any : {T E : Type 0} (X : Type 0) (r : Result T E) → X → OnErr r X
+on_err_any X (Ok x) h = tt
+on_err_any X (Err e) h = h
+
 pub on_ok_second : {T E : Type 0} (X Y Z : Type 0) (r : Result T E) → (Y → Z) → OnOk r (X × Y) → OnOk r (X × Z)
 on_ok_second X Y Z (Ok x) f w = (w.0, f w.1)
 on_ok_second X Y Z (Err e) f w = tt
@@ -123,6 +127,12 @@ if_err_parts Y Z W V (Err e) A B f w = let p = f w.2 in (w.0, w.1, p.0.0, p.0.1,
 pub if_err_join : {T E : Type 0} (B Y Z : Type 0) (r : Result T E) (A : E → Type 0) → (Y → Z) → OnErr r B → IfErr r (λ e. A e × Y) → IfErr r (λ e. A e × B × Z)
 if_err_join B Y Z (Ok x) A f b w = tt
 if_err_join B Y Z (Err e) A f b w = (w.0, b, f w.1)
+
+-- no error, where its cause never is
+pub is_ok_unless : {T E : Type 0} (P : T → Type 0) (B : E → Type 0) (W : Type 0) (r : Result T E) → (W → ⊥) → IfOk r P
+    → IfErr r (λ e. B e × W) → IsOkAnd r P
+is_ok_unless P B W (Ok x) never h f = h
+is_ok_unless P B W (Err e) never h f = never f.1
 
 pub if_ok_second : {T E : Type 0} (X Y Z : T → Type 0) (r : Result T E) → ((t : T) → Y t → Z t) → IfOk r (λ t. X t × Y t) → IfOk r (λ t. X t × Z t)
 if_ok_second X Y Z (Ok x) f w = (w.0, f x w.1)

@@ -65,6 +65,14 @@ module _ {S A : Type 0} (R Q : S → Value A → S → Type 0) where
             (StopsAt-weaker R Q own (Denied e) mid.sink (given limit (mode_from m front) e) q.sink own_from here)))
       ])
 
+  -- events by themselves
+  pub performs_stops : (limit : Option ℕ) {own : Type 0} (es : List Event) (p : Performer S A) (m : Mode) (q : Performer S A)
+      → StopsAtEvent (own × Refused A) Takes Refuses p es q → Hooks limit p.unfinished m
+      → StopsAt (Unit {0} × Refused A) R Q p.sink (values_from limit m es) q.sink
+  performs_stops limit {own} es p m q h =
+      performs_prefix limit (Unit {0} × Refused A) es p m q (λ before e behind is d. (tt, d.1))
+      (stops_for (own × Refused A) (Unit {0} × Refused A) Takes Refuses es p q (λ o. (tt, o.1)) h)
+
 -- an event behind s that wants memory
 pub added_takes : (limit : Option ℕ) (s b : List ℕ) (before : List Event) (e : Event) (behind : List Event)
     → added_within limit s b ≡ before ++ e ∷ behind → wants_memory e ≡ true → MayTake (s ++ b)

@@ -13,4 +13,4 @@ pub mod sixel_text;
 pub mod unfinished;
 
 pub use parser::Parser;
-pub use sink::{Collect, First, FromChar, Sink};
+pub use sink::{Calls, Collect, First, FromChar, Sink};

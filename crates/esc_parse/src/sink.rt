@@ -154,9 +154,11 @@ pub trait Sink<T: FromChar> {
     }
 }
 
-/// Calls a closure on each action.
+/// Calls a closure on each action. [`Parser::parse_into`](crate::parser::Parser::parse_into) hands it back after exactly one
+/// call for each action, in order, which the clause of [`Parser::parse`](crate::parser::Parser::parse) leaves open.
 #[derive(Drop)]
-pub(crate) struct Calls<F> {
+pub struct Calls<F> {
+    /// The closure.
     pub callback: F,
 }
 
