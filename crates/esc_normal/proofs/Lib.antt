@@ -1,3 +1,4 @@
 pub mod OwnTexts
 pub mod LoneNumbers
+pub mod HaveTexts
 pub mod Spelling

@@ -1,7 +1,7 @@
 -- What a text is given by events whose actions are not kept.
-use Rattle.std.proofs.Common.{◌≡◌, ℕ, Bool, true, false, List, [], ◌∷◌, ◌++◌, ◌<◌, length, map}
-use Rattle.std.proofs.Common.{MatchResult, OnOk, Result, Ok, Err, refl, ap, sym, ◌∙◌, subst, inl, inr}
-use Rattle.std.proofs.Common.{IfOk, append_assoc, arith}
+use Rattle.std.proofs.Common.{◌≡◌, ℕ, Bool, true, false, List, [], ◌∷◌, ◌++◌}
+use Rattle.std.proofs.Common.{MatchResult, OnErr, OnOk, Result, Ok, Err, refl, ap, sym, ◌∙◌, subst, inl, inr}
+use Rattle.std.proofs.Common.{IfOk, append_assoc}
 use Rattle.std.proofs.lemmas.List.{append-nil}
 use Rattle.std.specs.List.{FoldsTo}
 use Rattle.esc_values.specs.Clear.{framed, parts_of}
@@ -14,7 +14,9 @@ use Rattle.esc_frame.specs.Events.Event.{OscDispatch}
 use Rattle.esc_osc.specs.Commands.{command_text}
 use Rattle.esc_osc.specs.Reading.{meaning as command_meant}
 use Rattle.esc_osc.specs.declared.command.OperatingSystemCommand.{OperatingSystemCommand}
-use Rattle.esc_actions.specs.Texts.{is_string, text_after, texts_after}
+use Rattle.std.specs.List.{list_all}
+use Rattle.std.proofs.lemmas.Bool.{and_parts}
+use Rattle.esc_actions.specs.Texts.{has_text, is_string, text_after, texts_after}
 use Rattle.esc_actions.specs.Values.{Value, csi, osc, value_of}
 use Rattle.esc_actions.specs.declared.action.Action.{Action}
 use Rattle.esc_actions.specs.declared.action.Action.TheVariants as action
@@ -23,18 +25,21 @@ use Rattle.esc_parse.specs.Fed.{Hooks}
 use Rattle.esc_parse.specs.Given.{At, By, StopsAt as StopsGiven}
 use Rattle.esc_parse.specs.declared.performer.Performer.{Performer}
 use Rattle.esc_normal.proofs.LoneNumbers.{lone_number}
-use Rattle.esc_normal.specs.Spelled.{Adds, Spells}
+use Rattle.esc_normal.specs.Spelled.{Adds, Denies, Spells, Stops}
 use Rattle.esc_normal.specs.declared.spell.Spell.{Spell}
 use Rattle.esc_normal.specs.declared.speller.Speller.{Speller}
+use Rattle.memory.specs.Refusals.{Refused}
 
--- where a call may leave anything when it is refused
-pub hears_ok : {E : Type 0} (X Y : Type 0) (r : Result (Unit {0}) E) → (X → Y) → OnOk r X → MatchResult r (λ _. Y) (λ _. Unit {0})
-hears_ok X Y (Ok t) f h = f h
-hears_ok X Y (Err e) f h = tt
+-- what a result says
+pub hears_both : {E : Type 0} (X Y P Q : Type 0) (r : Result (Unit {0}) E) → (X → Y) → (P → Q) → OnOk r X → OnErr r P
+    → MatchResult r (λ _. Y) (λ _. Q)
+hears_both X Y P Q (Ok t) f k x p = f x
+hears_both X Y P Q (Err e) f k x p = k p
 
-pub match_both : {E : Type 0} (X Y P Q : Type 0) (r : Result (Unit {0}) E) → (X → Y) → Q → MatchResult r (λ _. X) (λ _. P) → MatchResult r (λ _. Y) (λ _. Q)
-match_both X Y P Q (Ok t) f q h = f h
-match_both X Y P Q (Err e) f q h = q
+pub match_both : {E : Type 0} (X Y P Q : Type 0) (r : Result (Unit {0}) E) → (X → Y) → (P → Q) → MatchResult r (λ _. X) (λ _. P)
+    → MatchResult r (λ _. Y) (λ _. Q)
+match_both X Y P Q (Ok t) f k h = f h
+match_both X Y P Q (Err e) f k h = k h
 
 abbrev wrap : {A : Type 0} → Performer (Spell A) A → Speller A
 wrap p = record { performer = p }
@@ -59,10 +64,11 @@ plain_given {A} p q es more f plain w =
     (q, (action.CSI v.0, refl, (w.0 ∙ ap (λ t. p.text ++ t) (sym v.2), w.1)), refl)
 
 pub plain_refused : {A : Type 0} (own : Type 0) (p q : Spell A) (es : List CsiParam) (more : Bool) (f : ℕ) → IsPlain es more f
-    → StopsGiven own (By IsSequence Adds) (By (IsSequence {A = A}) (λ _ _ _. Unit {0})) p (csi_of es more f) q
-plain_refused {A} own p q es more f plain =
+    → Refused A → StopsGiven own (By IsSequence Adds) (By IsSequence Denies) p (csi_of es more f) q
+plain_refused {A} own p q es more f plain r =
     let v = plain_value {A = A} es more f plain in
-    subst (λ vs. StopsGiven own (By IsSequence Adds) (By (IsSequence {A = A}) (λ _ _ _. Unit {0})) p vs q) (sym v.1) (inr (inl (action.CSI v.0, refl, tt)))
+    subst (λ vs. StopsGiven own (By IsSequence Adds) (By IsSequence Denies) p vs q) (sym v.1)
+    (inr (inl (action.CSI v.0, refl, λ _. r)))
 
 -- the action is the command that these parts mean
 abbrev pub IsCommand : {A : Type 0} → Action A → List (List ℕ) → Type 0
@@ -72,9 +78,9 @@ pub command_given : {A : Type 0} (p q : Spell A) (ps : List (List ℕ))
     → (q.text ≡ p.text ++ command_text (command_meant {A = A} ps)) × (q.follows_string ≡ true) → FoldsTo (By IsCommand Adds) p (ps ∷ []) q
 command_given p q ps w = (q, (action.OperatingSystemCommand (command_meant ps), refl, w), refl)
 
-pub command_refused : {A : Type 0} (own : Type 0) (p q : Spell A) (ps : List (List ℕ))
-    → StopsGiven own (By IsCommand Adds) (By (IsCommand {A = A}) (λ _ _ _. Unit {0})) p (ps ∷ []) q
-command_refused {A} own p q ps = inr (inl (action.OperatingSystemCommand (command_meant ps), refl, tt))
+pub command_refused : {A : Type 0} (own : Type 0) (p q : Spell A) (ps : List (List ℕ)) → Refused A
+    → StopsGiven own (By IsCommand Adds) (By IsCommand Denies) p (ps ∷ []) q
+command_refused {A} own p q ps r = inr (inl (action.OperatingSystemCommand (command_meant ps), refl, λ _. r))
 
 -- the actor that spells is a performer whose sink is a text
 pub unwrapped : {A : Type 0} (es : List Event) (a b : Speller A) → FoldsTo (λ p e q. Spells p.performer e q.performer) a es b
@@ -87,11 +93,27 @@ pub wrapped : {A : Type 0} (es : List Event) (p q : Performer (Spell A) A) → F
 wrapped [] p q e = ap wrap e
 wrapped (e ∷ es) p q (j, t, h) = (wrap j, t, wrapped es j q h)
 
--- where a run is refused, its first byte may be
-pub stopped_at_once : {A : Type 0} (event : ℕ → Event) (xs : List ℕ) (a b : Speller A) → 0 < length xs
-    → StopsAt (false ≡ true) (λ p e q. Spells p.performer e q.performer) (λ p e q. Unit {0}) a (map event xs) b
-stopped_at_once event [] a b some = absurd (omega arith)
-stopped_at_once event (x ∷ xs) a b some = ([], map event (x ∷ xs), refl, inr (a, event x, map event xs, refl, refl, tt))
+-- and stops as that one does
+module _ {A : Type 0} (own : Type 0) (es : List Event) where
+  abbrev TakesAll : Speller A → Event → Speller A → Type 0
+  TakesAll a e b = Spells a.performer e b.performer
+
+  abbrev Refuses : Speller A → Event → Speller A → Type 0
+  Refuses a e b = Stops a.performer e b.performer
+
+  pub wrapped_stops : (p q : Performer (Spell A) A) → StopsAt own Spells Stops p es q → StopsAt own TakesAll Refuses (wrap p) es (wrap q)
+  wrapped_stops p q (prefix, rest, e, inl (o, f)) = (prefix, rest, e, inl (o, wrapped prefix p q f))
+  wrapped_stops p q (prefix, rest, e, inr (m, x, more, is, f, r)) =
+      (prefix, rest, e, inr (wrap m, x, more, is, wrapped prefix p m f, r))
+
+  pub unwrapped_stops : (a b : Speller A) → StopsAt own TakesAll Refuses a es b → StopsAt own Spells Stops a.performer es b.performer
+  unwrapped_stops a b (prefix, rest, e, inl (o, f)) = (prefix, rest, e, inl (o, unwrapped prefix a b f))
+  unwrapped_stops a b (prefix, rest, e, inr (m, x, more, is, f, r)) =
+      (prefix, rest, e, inr (m.performer, x, more, is, unwrapped prefix a m f, r))
+
+-- a command that is not written, as memory is refused
+pub command_denied : {A : Type 0} (p q : Performer (Spell A) A) (ps : List (List ℕ)) → Refused A → Stops p (OscDispatch ps) q
+command_denied {A} p q ps r = λ limit m h. inr (inl (action.OperatingSystemCommand (command_meant ps), refl, λ _. r))
 
 pub command_spelled : {A : Type 0} (p q : Performer (Spell A) A) (ps : List (List ℕ)) → q.unfinished ≡ p.unfinished
     → q.sink.text ≡ p.sink.text ++ command_text (command_meant {A = A} ps) → q.sink.follows_string ≡ true → Spells p (OscDispatch ps) q
@@ -101,11 +123,13 @@ command_spelled {A} p q ps same text string = λ limit m h. (
 )
 
 -- a command that an actor that spells is told
-pub text_spelled : {A E : Type 0} (own : Bool) (r : Result (Unit {0}) E) (p : Performer (Spell A) A) (s : Spell A) (ps : List (List ℕ))
-    → OnOk r (Spells p (OscDispatch ps) (record p { sink = s }))
-    → Takes own (λ p e q. Spells p.performer e q.performer) (λ _ _ _. Unit {0}) r (wrap p) (OscDispatch ps ∷ []) (wrap (record p { sink = s }))
-text_spelled own (Ok t) p s ps h = (wrap (record p { sink = s }), h, refl)
-text_spelled own (Err e) p s ps h = ([], OscDispatch ps ∷ [], refl, inr (wrap p, OscDispatch ps, [], refl, refl, tt))
+pub text_spelled : {A E : Type 0} (own : Type 0) (r : Result (Unit {0}) E) (p : Performer (Spell A) A) (s : Spell A) (ps : List (List ℕ))
+    → OnOk r (Spells p (OscDispatch ps) (record p { sink = s })) → OnErr r (Refused A)
+    → Takes own (λ p e q. Spells p.performer e q.performer) (λ p e q. Stops p.performer e q.performer) r (wrap p)
+    (OscDispatch ps ∷ []) (wrap (record p { sink = s }))
+text_spelled own (Ok t) p s ps h k = (wrap (record p { sink = s }), h, refl)
+text_spelled own (Err e) p s ps h k =
+    ([], OscDispatch ps ∷ [], refl, inr (wrap p, OscDispatch ps, [], refl, refl, command_denied p (record p { sink = s }) ps k))
 
 -- a command that was made, and is written
 abbrev value_or : {X E : Type 0} → X → Result X E → X
@@ -136,3 +160,17 @@ spells p (v ∷ vs) q (j, (a, is, w), rest) =
     ∙ ap (λ l. l ++ texts_after j.follows_string vs) (w.0 ∙ ap (λ x. p.text ++ text_after p.follows_string x) is)
     ∙ append_assoc p.text (text_after p.follows_string v) (texts_after j.follows_string vs)
     ∙ ap (λ b. p.text ++ (text_after p.follows_string v ++ texts_after b vs)) (w.1 ∙ ap is_string is)
+
+-- what refuses an action that has a text where memory is, stops for that alone
+module _ {S A : Type 0} (R : S → Value A → S → Type 0) (own : Type 0) where
+  abbrev DeniesIt : S → Action A → S → Type 0
+  DeniesIt p a q = has_text (value_of a) ≡ true → Refused A
+
+  pub stops_denied : (p : S) (vs : List (Value A)) (q : S) → list_all has_text vs ≡ true
+      → StopsGiven (own × Refused A) R (At value_of DeniesIt) p vs q → Refused A
+  stops_denied p [] q h e = e.0.1
+  stops_denied p (v ∷ vs) q h (inl e) = e.0.1
+  stops_denied p (v ∷ vs) q h (inr (inl (a, is, denied))) =
+      denied (ap has_text is ∙ (and_parts (has_text v) (list_all has_text vs) h).0)
+  stops_denied p (v ∷ vs) q h (inr (inr (mid, t, rest))) =
+      stops_denied mid vs q (and_parts (has_text v) (list_all has_text vs) h).1 rest

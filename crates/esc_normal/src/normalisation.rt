@@ -6,6 +6,7 @@ ghost use Rattle.esc_frame.specs.Stream.{LeadsToWithin};
 ghost use Rattle.esc_actions.specs.Meaning.{meaning, meaning_within};
 ghost use Rattle.esc_actions.specs.Texts.{list_text};
 ghost use Rattle.esc_actions.specs.Writable.{AreWritable};
+ghost use Rattle.memory.specs.Refusals.{Refused};
 
 use crate::normalise_error::NormaliseError;
 use crate::speller::Speller;
@@ -16,9 +17,6 @@ use esc_frame::parser::VTParser;
 use esc_values::Text;
 use std::alloc::Allocator;
 use std::io::{Read, Write};
-
-// How much is read at a call.
-const CHUNK: usize = 65_536;
 
 /// Reads to the end, then writes what [`encode`](esc_write::encode) writes for the actions of the bytes that were read.
 /// It holds the whole input and its text.
@@ -39,6 +37,7 @@ pub fn normalise<R: Read, W: Write, A: Allocator + Copy>(
         AppendsPrefix (W.contents (inner_of writer.old)) (W.contents (inner_of writer.new)) (list_text (meaning {A = A} s))) }
     ensures read_fault { has_failed reader.old ≡ false → (IsErrOf result NormaliseError.Read ↔ IsTrue (has_failed reader.new)) }
     ensures write_fault { has_failed writer.old ≡ false → (IsErrOf result NormaliseError.Write ↔ IsTrue (has_failed writer.new)) }
+    ensures refused { IsErrOf result NormaliseError.Memory → Refused A }
 {
     normalise_within(alloc, reader, writer, None)
 }
@@ -59,6 +58,7 @@ pub fn normalise_limited<R: Read, W: Write, A: Allocator + Copy>(
         AppendsPrefix (W.contents (inner_of writer.old)) (W.contents (inner_of writer.new)) (list_text (meaning_within {A = A} (Some limit) s))) }
     ensures read_fault { has_failed reader.old ≡ false → (IsErrOf result NormaliseError.Read ↔ IsTrue (has_failed reader.new)) }
     ensures write_fault { has_failed writer.old ≡ false → (IsErrOf result NormaliseError.Write ↔ IsTrue (has_failed writer.new)) }
+    ensures refused { IsErrOf result NormaliseError.Memory → Refused A }
 {
     normalise_within(alloc, reader, writer, Some(limit))
 }
@@ -77,6 +77,7 @@ pub fn is_normal<R: Read, A: Allocator + Copy>(
     ensures normalised { (t : List ℕ) → AreWritable {A = A} (meaning t) → R.remaining (inner_of reader.old) ≡ Some (list_text (meaning {A = A} t)) → IfOk result (λ b. b ≡ true) }
     ensures read_fault { has_failed reader.old ≡ false → (IsErrOf result NormaliseError.Read ↔ IsTrue (has_failed reader.new)) }
     ensures not_write { IsErrOf result NormaliseError.Write → ⊥ }
+    ensures refused { IsErrOf result NormaliseError.Memory → Refused A }
 {
     laws::normal_once::<A>();
     is_normal_within(alloc, reader, None)
@@ -93,6 +94,7 @@ pub fn is_normal_limited<R: Read, A: Allocator + Copy>(
     ensures equal { IfOk result (λ b. IfSome (R.remaining (inner_of reader.old)) (λ s. IsTrue b ↔ (list_text (meaning_within {A = A} (Some limit) s) ≡ s))) }
     ensures read_fault { has_failed reader.old ≡ false → (IsErrOf result NormaliseError.Read ↔ IsTrue (has_failed reader.new)) }
     ensures not_write { IsErrOf result NormaliseError.Write → ⊥ }
+    ensures refused { IsErrOf result NormaliseError.Memory → Refused A }
 {
     is_normal_within(alloc, reader, Some(limit))
 }
@@ -111,6 +113,7 @@ fn normalise_within<R: Read, W: Write, A: Allocator + Copy>(
         AppendsPrefix (W.contents (inner_of writer.old)) (W.contents (inner_of writer.new)) (list_text (meaning_within {A = A} limit s))) }
     ensures read_fault { has_failed reader.old ≡ false → (IsErrOf result NormaliseError.Read ↔ IsTrue (has_failed reader.new)) }
     ensures write_fault { has_failed writer.old ≡ false → (IsErrOf result NormaliseError.Write ↔ IsTrue (has_failed writer.new)) }
+    ensures refused { IsErrOf result NormaliseError.Memory → Refused A }
 {
     let bytes = read_whole(alloc, reader)?;
     let Ok(text) = normal_text(alloc, &bytes, limit) else {
@@ -128,6 +131,7 @@ fn is_normal_within<R: Read, A: Allocator + Copy>(
     ensures equal { IfOk result (λ b. IfSome (R.remaining (inner_of reader.old)) (λ s. IsTrue b ↔ (list_text (meaning_within {A = A} limit s) ≡ s))) }
     ensures read_fault { has_failed reader.old ≡ false → (IsErrOf result NormaliseError.Read ↔ IsTrue (has_failed reader.new)) }
     ensures not_write { IsErrOf result NormaliseError.Write → ⊥ }
+    ensures refused { IsErrOf result NormaliseError.Memory → Refused A }
 {
     let stream = read_whole(alloc, reader)?;
     match normal_text(alloc, &stream, limit) {
@@ -145,8 +149,9 @@ fn read_whole<R: Read, A: Allocator + Copy>(
     ensures end { OnOk result (IsAtEnd (R.remaining (inner_of reader.new))) }
     ensures told { has_failed reader.old ≡ false → (IsErrOf result NormaliseError.Read ↔ IsTrue (has_failed reader.new)) }
     ensures not_write { IsErrOf result NormaliseError.Write → ⊥ }
+    ensures refused { IsErrOf result NormaliseError.Memory → Refused A }
 {
-    let Ok(mut chunk) = vec![in alloc; 0u8; CHUNK] else {
+    let Ok(mut chunk) = memory::read_buffer(alloc) else {
         return Err(NormaliseError::Memory);
     };
     read_by(alloc, reader, chunk.as_mut_slice())
@@ -163,13 +168,14 @@ fn read_by<R: Read, A: Allocator>(
     ensures end { OnOk result (IsAtEnd (R.remaining (inner_of reader.new))) }
     ensures told { has_failed reader.old ≡ false → (IsErrOf result NormaliseError.Read ↔ IsTrue (has_failed reader.new)) }
     ensures not_write { IsErrOf result NormaliseError.Write → ⊥ }
+    ensures refused { IsErrOf result NormaliseError.Memory → Refused A }
 {
     let mut bytes = Vec::new(alloc);
     loop {
         match reader.read(chunk) {
             Ok(0) => return Ok(bytes),
             Ok(n) => {
-                if bytes.extend_from_slice(&chunk[..n]).is_err() {
+                if memory::extend(&mut bytes, &chunk[..n]).is_err() {
                     return Err(NormaliseError::Memory);
                 }
             }
@@ -184,8 +190,10 @@ fn normal_text<A: Allocator + Copy>(
     bytes: &[u8],
     limit: Option<usize>,
 ) -> Result<Text<A>, ParseError>
-    ensures { IfOk result (λ t. t ≡ list_text (meaning_within {A = A} limit bytes.now)) }
+    ensures ok { IfOk result (λ t. t ≡ list_text (meaning_within {A = A} limit bytes.now)) }
+    ensures refused { OnErr result (Refused A) }
 {
+    laws::yield_handed_out::<A>();
     let mut framer = framer_within(alloc, limit);
     let mut speller = Speller::new(alloc, limit);
     framer.parse(bytes, &mut speller)?;

@@ -1,14 +1,16 @@
 //! The sink that writes what it takes.
-ghost use Rattle.std.specs.Prelude.{◌≡◌, ◌<◌, ◌++◌, [], Ok, OnOk, false, true};
+ghost use Rattle.std.specs.Prelude.{◌≡◌, ◌<◌, ◌++◌, [], Ok, OnErr, OnOk, false, true};
 ghost use Rattle.std.specs.List.{list_all};
 ghost use Rattle.esc_values.specs.Clear.{framed};
 ghost use Rattle.esc_sequences.specs.Csis.{csi_text, unspecified};
 ghost use Rattle.esc_frame.specs.Scans.{is_text_byte};
-ghost use Rattle.esc_actions.specs.Texts.{is_string, text_after};
+ghost use Rattle.esc_actions.specs.Texts.{has_text, is_string, text_after};
 ghost use Rattle.esc_actions.specs.Values.{value_of};
 ghost use Rattle.esc_osc.specs.Commands.{command_text};
 ghost use Rattle.esc_osc.specs.declared.command.OperatingSystemCommand.{OperatingSystemCommand};
 ghost use Rattle.esc_write.specs.Plain.{short_text};
+ghost use Rattle.esc_normal.specs.Spelled.{Denies};
+ghost use Rattle.memory.specs.Refusals.{Refused};
 
 use esc_actions::Action;
 use esc_osc::OperatingSystemCommand;
@@ -46,8 +48,9 @@ impl<A: Allocator> Spell<A> {
     // Appends the text of an action, out of the way of the code that takes characters.
     #[inline(never)]
     fn append(&mut self, action: Action<A>) -> Result<(), AllocError>
-        ensures { OnOk result ((self.new.text ≡ self.old.text ++ text_after self.old.follows_string (value_of action))
+        ensures ok { OnOk result ((self.new.text ≡ self.old.text ++ text_after self.old.follows_string (value_of action))
             × (self.new.follows_string ≡ is_string (value_of action))) }
+        ensures refused { OnErr result (has_text (value_of action) ≡ true → Refused A) }
     {
         write_after(&mut self.text, self.follows_string, &action)?;
         self.follows_string = action.is_string();
@@ -63,7 +66,9 @@ impl<A: Allocator> Spell<A> {
         parameters_truncated: bool,
         control: u8,
     ) -> Result<(), AllocError>
-        ensures { OnOk result ((self.new.text ≡ self.old.text ++ csi_text (unspecified params.now parameters_truncated control)) × (self.new.follows_string ≡ false)) }
+        ensures ok { OnOk result ((self.new.text ≡ self.old.text ++ csi_text (unspecified params.now parameters_truncated control))
+            × (self.new.follows_string ≡ false)) }
+        ensures refused { OnErr result (Refused A) }
     {
         append_entries(&mut self.text, params, parameters_truncated, control)?;
         self.follows_string = false;
@@ -74,7 +79,9 @@ impl<A: Allocator> Spell<A> {
     #[inline]
     fn write_short(&mut self, numbers: ShortNumbers, control: u8) -> Result<(), AllocError>
         requires { control < 128 }
-        ensures { OnOk result ((self.new.text ≡ self.old.text ++ short_text numbers control) × (self.new.follows_string ≡ false)) }
+        ensures ok { OnOk result ((self.new.text ≡ self.old.text ++ short_text numbers control)
+            × (self.new.follows_string ≡ false)) }
+        ensures refused { OnErr result (Refused A) }
     {
         numbers.append_to(&mut self.text, control)?;
         self.follows_string = false;
@@ -83,7 +90,9 @@ impl<A: Allocator> Spell<A> {
 
     // Appends the text of a command.
     fn write_display(&mut self, command: &OperatingSystemCommand<A>) -> Result<(), AllocError>
-        ensures { OnOk result ((self.new.text ≡ self.old.text ++ command_text command.now) × (self.new.follows_string ≡ true)) }
+        ensures ok { OnOk result ((self.new.text ≡ self.old.text ++ command_text command.now)
+            × (self.new.follows_string ≡ true)) }
+        ensures refused { OnErr result (Refused A) }
     {
         self.text.push_display(command)?;
         self.follows_string = true;
@@ -95,7 +104,9 @@ impl<A: Allocator> Spell<A> {
         &mut self,
         command: Result<OperatingSystemCommand<A>, AllocError>,
     ) -> Result<(), AllocError>
-        ensures { OnOk result ((c : OperatingSystemCommand A) × (command ≡ Ok c) × (self.new.text ≡ self.old.text ++ command_text c) × (self.new.follows_string ≡ true)) }
+        ensures ok { OnOk result ((c : OperatingSystemCommand A) × (command ≡ Ok c)
+            × (self.new.text ≡ self.old.text ++ command_text c) × (self.new.follows_string ≡ true)) }
+        ensures refused { OnErr command (Refused A) → OnErr result (Refused A) }
     {
         match command {
             Ok(command) => self.write_display(&command),
@@ -105,7 +116,8 @@ impl<A: Allocator> Spell<A> {
 
     // Appends the text of a command that is written as it came.
     pub(crate) fn write_verbatim(&mut self, text: &str) -> Result<(), AllocError>
-        ensures { OnOk result ((self.new.text ≡ self.old.text ++ framed text.now) × (self.new.follows_string ≡ true)) }
+        ensures ok { OnOk result ((self.new.text ≡ self.old.text ++ framed text.now) × (self.new.follows_string ≡ true)) }
+        ensures refused { OnErr result (Refused A) }
     {
         self.text.push_str("\x1b]")?;
         self.text.push_str(text)?;
@@ -122,7 +134,7 @@ impl<A: Allocator> Sink<Action<A>> for Spell<A> {
 
     ghost takes = { λ p a q. (q.text ≡ p.text ++ text_after p.follows_string (value_of a)) × (q.follows_string ≡ is_string (value_of a)) };
 
-    ghost refuses = { λ p a q. Unit {0} };
+    ghost refuses = { Denies };
 
     #[inline]
     fn receive(&mut self, action: Action<A>) -> Result<(), AllocError> {

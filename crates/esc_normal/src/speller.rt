@@ -2,7 +2,7 @@
 ghost use Rattle.std.specs.Prelude.{◌≡◌, [], false};
 ghost use Rattle.esc_actions.specs.Values.{plain};
 ghost use Rattle.esc_parse.specs.Fed.{Hooks};
-ghost use Rattle.esc_normal.specs.Spelled.{Spells};
+ghost use Rattle.esc_normal.specs.Spelled.{Spells, Stops};
 
 use crate::spell::Spell;
 use esc_frame::actor::VTActor;
@@ -48,7 +48,7 @@ impl<A: Allocator + Copy> Speller<A> {
 impl<A: Allocator + Copy> VTActor for Speller<A> {
     ghost takes = { λ p e q. Spells p.performer e q.performer };
 
-    ghost refuses = { λ _ _ _. Unit {0} };
+    ghost refuses = { λ p e q. Stops p.performer e q.performer };
 
     ghost is_ready = { λ _. Unit {0} };
 

@@ -13,4 +13,5 @@ returns-clause-given g c =
 pub returns-in_err-push_str-clause-given : goal.returns-in_err-push_str-clause-given
 returns-in_err-push_str-clause-given g c =
     let p = err_from_is_err_and c.from_residual.result c.from_residual.ensures.1 in
-    match_err _ _ c.from_residual.result p.0 p.1 (refuses_run _ c.args.text.now _ _ c.requires.some)
+    match_err _ _ c.from_residual.result p.0 p.1
+    (refuses_run _ _ c.args.text.now _ _ c.requires.some (λ x has. c.in_err-push_str.ensures.refused))
