@@ -19,6 +19,22 @@ has_own_text (enter e) = true
 has_own_text (datum b) = false
 has_own_text exit = false
 
+-- a value of which only its text shows whether it is writable
+abbrev pub wants_text : {A : Type 0} → Value A → Bool
+wants_text (print c) = false
+wants_text (string t) = false
+wants_text (control c) = false
+wants_text (esc e) = true
+wants_text (csi c) = true
+wants_text (osc c) = true
+wants_text (kitty i) = true
+wants_text (sixel s) = true
+wants_text (termcap ns) = true
+wants_text (short s) = true
+wants_text (enter e) = true
+wants_text (datum b) = false
+wants_text exit = false
+
 -- the letters that open a string or a control sequence after ESC: [ ] P X ^ _
 abbrev pub is_opener : ℕ → Bool
 is_opener b = (b == 0x5b) || ((b == 0x5d) || ((b == 0x50) || ((b == 0x58) || ((b == 0x5e) || (b == 0x5f)))))

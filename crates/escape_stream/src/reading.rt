@@ -1,9 +1,10 @@
 //! The actions of a segment by itself.
-ghost use Rattle.std.specs.Prelude.{◌≡◌, IfOk, List, map, ℕ};
+ghost use Rattle.std.specs.Prelude.{◌≡◌, IfOk, List, OnErr, map, ℕ};
 ghost use Rattle.esc_actions.specs.Readings.{reading};
 ghost use Rattle.esc_actions.specs.Values.{value_of};
 ghost use Rattle.esc_frame.specs.Segments.{HasShape, Segment as Shape};
 ghost use Rattle.esc_segments.specs.Items.{IsItem};
+ghost use Rattle.memory.specs.Refusals.{Refused};
 
 use esc_actions::Action;
 use esc_parse::Collect;
@@ -22,7 +23,10 @@ pub fn read_segment<A: Allocator + Copy>(
     alloc: A,
     segment: &Segment<'_>,
 ) -> Result<Vec<Action<A>, A>, AllocError>
-    ensures { (g : Shape) (after : List ℕ) → HasShape g after → IsItem segment.now g after → IfOk result (λ v. map value_of v.items ≡ reading g segment.now.finished) }
+    ensures ok { (g : Shape) (after : List ℕ) → HasShape g after → IsItem segment.now g after
+        → IfOk result (λ v. map value_of v.items ≡ reading g segment.now.finished) }
+    ensures refused { (g : Shape) (after : List ℕ) → HasShape g after → IsItem segment.now g after
+        → OnErr result (Refused A) }
 {
     let mut performer = Performer {
         sink: Collect::new(alloc),

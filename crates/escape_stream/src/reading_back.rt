@@ -1,12 +1,13 @@
 //! What the text of an action means.
-ghost use Rattle.std.specs.Prelude.{◌≡◌, ◌∷◌, ◌++◌, ◌↔◌, [], false, true, IfOk, IfSome, IsTrue, Some};
+ghost use Rattle.std.specs.Prelude.{◌≡◌, ◌∷◌, ◌++◌, ◌↔◌, [], false, true, IfOk, IfSome, IsTrue, OnErr, Some};
 ghost use Rattle.std.specs.Option.{option_map};
 ghost use Rattle.esc_actions.specs.Meaning.{meaning};
-ghost use Rattle.esc_actions.specs.Texts.{text_after};
+ghost use Rattle.esc_actions.specs.Texts.{has_text, text_after};
 ghost use Rattle.esc_actions.specs.Values.{value_of};
 ghost use Rattle.esc_actions.specs.Writable.{IsHandedOut, IsWritable};
 ghost use Rattle.escape_stream.specs.Asked.{has_own_text};
 ghost use Rattle.esc_parse.specs.Firsts.{first};
+ghost use Rattle.memory.specs.Refusals.{Refused};
 
 use crate::exceptions::is_exception;
 use esc_actions::{Action, laws};
@@ -23,7 +24,9 @@ pub(crate) fn reads_back<A: Allocator + Copy>(
     alloc: A,
     action: &Action<A>,
 ) -> Result<bool, AllocError>
-    ensures { has_own_text (value_of action.now) ≡ true → IfOk result (λ b. IsTrue b ↔ IsWritable (value_of action.now)) }
+    ensures ok { has_own_text (value_of action.now) ≡ true
+        → IfOk result (λ b. IsTrue b ↔ IsWritable (value_of action.now)) }
+    ensures refused { OnErr result (Refused A) }
 {
     if is_exception(action) {
         return Ok(false);
@@ -44,6 +47,7 @@ fn first_meant<A: Allocator + Copy>(
     ensures itself { has_own_text (value_of action.now) ≡ true → IsWritable (value_of action.now)
         → IfOk result (λ r. option_map value_of r ≡ Some (value_of action.now)) }
     ensures handed_out { IfOk result (λ r. IfSome r (λ a. IsHandedOut (value_of a))) }
+    ensures refused { OnErr result (Refused A) }
 {
     laws::reads_back::<A>();
     if !action.has_text() {
@@ -57,7 +61,8 @@ fn first_meant<A: Allocator + Copy>(
 
 // The text of the action with a string terminator after it.
 fn terminated<A: Allocator>(alloc: A, action: &Action<A>) -> Result<Text<A>, AllocError>
-    ensures { IfOk result (λ t. t ≡ text_after false (value_of action.now) ++ 0x1b ∷ 0x5c ∷ []) }
+    ensures ok { IfOk result (λ t. t ≡ text_after false (value_of action.now) ++ 0x1b ∷ 0x5c ∷ []) }
+    ensures refused { has_text (value_of action.now) ≡ true → OnErr result (Refused A) }
 {
     let mut text = Text::new(alloc);
     write_after(&mut text, false, action)?;
@@ -72,6 +77,7 @@ fn first_action<A: Allocator + Copy>(
 ) -> Result<Option<Action<A>>, AllocError>
     ensures meant { IfOk result (λ r. option_map value_of r ≡ first (meaning bytes.now)) }
     ensures handed_out { IfOk result (λ r. IfSome r (λ a. IsHandedOut (value_of a))) }
+    ensures refused { OnErr result (Refused A) }
 {
     let mut parser = Parser::new(alloc);
     match parser.parse_first(bytes) {

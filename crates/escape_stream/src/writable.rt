@@ -1,7 +1,9 @@
 //! Which actions and lists of actions read back from their text.
-ghost use Rattle.std.specs.Prelude.{◌≡◌, ◌↔◌, IfOk, IsTrue, map};
+ghost use Rattle.std.specs.Prelude.{◌≡◌, ◌↔◌, IfOk, IsTrue, OnErr, map, true};
 ghost use Rattle.esc_actions.specs.Values.{device_value, value_of};
 ghost use Rattle.esc_actions.specs.Writable.{AreWritable, IsWritable, is_within, stays_within};
+ghost use Rattle.escape_stream.specs.Asked.{wants_text};
+ghost use Rattle.memory.specs.Refusals.{Refused};
 
 use crate::clear::{is_clear, is_clear_string, is_datum, stands_alone};
 use crate::reading_back::reads_back;
@@ -16,7 +18,9 @@ use std::alloc::{AllocError, Allocator};
 /// Takes time and memory in proportion to the action's text, and none of it lasts. Of a character, a string, a control, a byte and
 /// an `Exit` it takes no memory. The error is that memory was refused.
 pub fn is_writable<A: Allocator + Copy>(alloc: A, action: &Action<A>) -> Result<bool, AllocError>
-    ensures { IfOk result (λ b. IsTrue b ↔ IsWritable (value_of action.now)) }
+    ensures ok { IfOk result (λ b. IsTrue b ↔ IsWritable (value_of action.now)) }
+    ensures refused { OnErr result (Refused A) }
+    ensures asks { OnErr result (wants_text (value_of action.now) ≡ true) }
 {
     match action {
         Action::Print(c) => Ok(is_clear(*c)),
@@ -45,7 +49,8 @@ pub fn are_writable<A: Allocator + Copy>(
     alloc: A,
     actions: &[Action<A>],
 ) -> Result<bool, AllocError>
-    ensures { IfOk result (λ b. IsTrue b ↔ AreWritable (map value_of actions.now)) }
+    ensures ok { IfOk result (λ b. IsTrue b ↔ AreWritable (map value_of actions.now)) }
+    ensures refused { OnErr result (Refused A) }
 {
     let mut within = false;
     for action in actions {

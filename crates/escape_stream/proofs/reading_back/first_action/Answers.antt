@@ -9,3 +9,6 @@ returns-in-Ok-Some-clause-meant g c =
 
 pub returns-in-Ok-None-clause-meant : goal.returns-in-Ok-None-clause-meant
 returns-in-Ok-None-clause-meant g c = nothing_given c.args.bytes.now _ _ c.in-Ok-None.field-0-is (c.in-Ok-None.ensures.none None [] c.new-parser.ensures)
+
+pub returns-clause-refused : goal.returns-clause-refused
+returns-clause-refused g c = (c.in-Err.ensures.refused None [] c.new-parser.ensures).3

@@ -8,15 +8,15 @@ loop-action-preserved g c =
     let h : c.loop-action.action-index < length c.args.actions.now = omega arith in
     turn value_of _ _ c.args.actions.now c.loop-action.action-index c.action-item.result c.action-item.is h c.loop-action.invariant _
     (c.is_in_place.ensures.0 c.if-not-is_in_place.false)
-    (c.in_ok-is_writable.ensures.0 c.if-not-branch.false) c.stays_within-within.ensures
+    (c.in_ok-is_writable.ensures.ok.0 c.if-not-branch.false) c.stays_within-within.ensures
 
-pub returns-then-not-branch : goal.returns-then-not-branch
-returns-then-not-branch g c =
+pub returns-then-not-branch-clause-ok : goal.returns-then-not-branch-clause-ok
+returns-then-not-branch-clause-ok g c =
     let h : c.loop-action.action-index < length c.args.actions.now = omega arith in
     not_itself value_of _ _ c.args.actions.now c.loop-action.action-index c.action-item.result c.action-item.is h c.loop-action.invariant
-    (λ k. false_is_not (sym c.if-not-branch.true ∙ c.in_ok-is_writable.ensures.1 k))
+    (λ k. false_is_not (sym c.if-not-branch.true ∙ c.in_ok-is_writable.ensures.ok.1 k))
 
-pub returns : goal.returns
-returns g c =
+pub returns-clause-ok : goal.returns-clause-ok
+returns-clause-ok g c =
     let h : length c.args.actions.now ≤ c.loop-action.action-index = omega arith in
     at_end value_of _ _ c.args.actions.now c.loop-action.action-index h c.loop-action.invariant
