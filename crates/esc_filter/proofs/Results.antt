@@ -1,5 +1,5 @@
 -- Results, and bytes that were read and written.
-use Rattle.std.proofs.Common.{◌≡◌, ℕ, List, [], ◌++◌, Option, refl, sym, subst, ap, ◌∙◌, append-nil, append_assoc, take, Ok, Err, OnErr, Result}
+use Rattle.std.proofs.Common.{◌≡◌, ℕ, List, [], ◌++◌, Option, refl, sym, subst, ap, ◌∙◌, append-nil, append_assoc, take, Ok, Err, IsErrOf, OnErr, Result}
 use Rattle.std.proofs.KnownBytes.{Appends-nil, Appends-trans, Consumes-trans}
 use Rattle.std.specs.Io.KnownBytes.{Appends, Consumes}
 use Rattle.esc_normal.specs.Io.{AppendsPrefix}
@@ -8,9 +8,10 @@ pub on_err_more : {T E : Type 0} (X Y : Type 0) (r : Result T E) → (X → Y) �
 on_err_more X Y (Ok t) f h = h
 on_err_more X Y (Err e) f h = f h
 
-pub on_err_any : {T E : Type 0} (X : Type 0) (r : Result T E) → X → OnErr r X
-on_err_any X (Ok t) x = tt
-on_err_any X (Err e) x = x
+-- the error of a result
+pub err_is : {T E : Type 0} (r : Result T E) (e x : E) → r ≡ Err e → IsErrOf r x → e ≡ x
+err_is (Ok t) e x is h = cc
+err_is (Err f) e x is h = cc
 
 -- a prefix of a text is one of a text that begins with it
 pub prefix_after : (a b c : Option (List ℕ)) (before more whole : List ℕ) → Appends a b before → AppendsPrefix b c more → whole ≡ before ++ more

@@ -1,5 +1,5 @@
 -- Runs of text.
-use Rattle.std.proofs.Common.{◌≡◌, ℕ, Bool, true, false, not, ◌&&◌, ◌||◌, List, [], ◌∷◌, map, refl, ap, sym, subst, ◌∙◌, ◌==◌, arith}
+use Rattle.std.proofs.Common.{◌≡◌, ℕ, Bool, true, false, not, ◌&&◌, ◌||◌, List, [], ◌∷◌, map, refl, ap, sym, subst, ◌∙◌, ◌==◌, arith, inl, inr}
 use Rattle.std.proofs.lemmas.Bool.{and_parts}
 use Rattle.std.proofs.lemmas.Bool.Decides.{nat_tests}
 use Rattle.std.specs.Char.{encode_utf8}
@@ -7,12 +7,14 @@ use Rattle.std.specs.List.{FoldsTo, list_all, list_any}
 use Rattle.std.specs.Str.{IsUtf8, chars, encode_utf8_all}
 use Rattle.std.proofs.lemmas.List.Folds.{list_all-append}
 use Rattle.std.proofs.lemmas.Str.{encode_ascii, encodes-chars}
-use Rattle.esc_normal.specs.Spelled.{Adds}
+use Rattle.esc_parse.specs.Given.{StopsAt}
+use Rattle.esc_normal.specs.Spelled.{Adds, Denies}
 use Rattle.esc_normal.specs.declared.spell.Spell.{Spell}
 use Rattle.esc_actions.specs.Values.{Value, print}
 use Rattle.esc_actions.specs.declared.action.Action.{Action}
 use Rattle.esc_actions.specs.declared.action.Action.TheVariants as action
-use Rattle.esc_filter.specs.Fed.{Takes}
+use Rattle.esc_filter.specs.Fed.{Refuses, Takes}
+use Rattle.memory.specs.Refusals.{Refused}
 use Rattle.esc_filter.specs.Passing.{passes}
 use Rattle.esc_filter.specs.declared.passing.Passing.{Passing}
 use Rattle.esc_filter.specs.Rules.{admits, is_shown}
@@ -85,3 +87,16 @@ run_passes allows (x ∷ xs) p s h (j, t, rest) =
       (one_passes (passes (allows p.policy.now) (print x)) p.spell j x k.0 t, refl),
       run_passes allows xs (record p { spell = j }) s k.1 rest,
     )
+
+-- a run of which one is refused
+run_why : {A : Type 0} (xs : List ℕ) (p q : Spell A) → StopsAt ⊥ Adds Denies p (map action.Print xs) q → Refused A
+run_why [] p q e = absurd e.0
+run_why (x ∷ xs) p q (inl e) = absurd e.0
+run_why (x ∷ xs) p q (inr (inl denied)) = denied refl
+run_why (x ∷ xs) p q (inr (inr (mid, t, rest))) = run_why xs mid q rest
+
+pub run_refused : {P A : Type 0} (allows : P → Value A → Bool) (xs : List ℕ) (p : Passing P A) (s : Spell A)
+    → StopsAt ⊥ Adds Denies p.spell (map action.Print xs) s
+    → StopsAt ⊥ (TakesBy allows) Refuses p (map action.Print xs) (record p { spell = s })
+run_refused allows [] p s e = absurd e.0
+run_refused allows (x ∷ xs) p s e = inr (inl (λ _. run_why (x ∷ xs) p.spell s e))

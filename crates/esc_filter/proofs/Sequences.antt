@@ -8,12 +8,13 @@ use Rattle.esc_sequences.specs.Csis.{CsiValue, csi_of, is_separator, put_first, 
 use Rattle.esc_sequences.specs.declared.csi.CSI.TheVariants as csi_variant
 use Rattle.esc_values.specs.declared.csi_param.CsiParam.{CsiParam}
 use Rattle.esc_sequences.specs.declared.sgr.Sgr.{Sgr}
+use Rattle.esc_actions.specs.Texts.{has_text}
 use Rattle.esc_actions.specs.Values.{Value, csi, osc, value_of}
 use Rattle.esc_actions.specs.Writable.{is_truncated}
 use Rattle.esc_actions.specs.declared.action.Action.{Action}
 use Rattle.esc_actions.specs.declared.action.Action.TheVariants as action
 use Rattle.esc_parse.specs.Given.{By, StopsAt}
-use Rattle.esc_normal.specs.Spelled.{Adds}
+use Rattle.esc_normal.specs.Spelled.{Adds, Denies}
 use Rattle.esc_normal.specs.declared.spell.Spell.{Spell}
 use Rattle.esc_osc.specs.Reading.{meaning as command_meant}
 use Rattle.esc_parse.proofs.Lists.{if_ok_more}
@@ -25,6 +26,8 @@ use Rattle.esc_filter.specs.declared.policy.Policy.{Policy}
 use Rattle.esc_filter.specs.declared.policy.Policy.TheVariants as policy
 use Rattle.esc_filter.specs.Passing.{passes}
 use Rattle.esc_filter.specs.declared.passing.Passing.{Passing}
+use Rattle.esc_filter.specs.Fed.{Refuses}
+use Rattle.memory.specs.Refusals.{Refused}
 
 -- a test that renditions pass, and a sequence of no name, passes what entries mean
 module _ (t : CsiValue → Bool) (named : (s : Sgr) → t (sgr s) ≡ true) where
@@ -118,11 +121,18 @@ module _ {P A : Type 0} (allows : P → Value A → Bool) where
       )
 
   -- one was refused
-  pub one_refused : (own : Type 0) (vs : List CsiValue) (p : Passing P A) (s : Spell A)
-      → StopsAt own (By IsSequence Adds) (By (IsSequence {A = A}) (λ _ _ _. Unit {0})) p.spell vs s
-      → StopsAt own (By IsSequence (TakesBy allows)) (By (IsSequence {A = A}) (λ _ _ _. Unit {0})) p vs (record p { spell = s })
-  one_refused own [] p s e = (e.0, ap (with_spell p) e.1)
-  one_refused own (v ∷ vs) p s e = inr (inl ((sequence_action v).0, (sequence_action v).1, tt))
+  why_refused : (vs : List CsiValue) (p q : Spell A) → StopsAt ⊥ (By IsSequence Adds) (By IsSequence Denies) p vs q → Refused A
+  why_refused [] p q e = absurd e.0
+  why_refused (v ∷ vs) p q (inl e) = absurd e.0
+  why_refused (v ∷ vs) p q (inr (inl (a, is, denied))) = denied (ap has_text is)
+  why_refused (v ∷ vs) p q (inr (inr (mid, t, rest))) = why_refused vs mid q rest
+
+  pub one_refused : (vs : List CsiValue) (p : Passing P A) (s : Spell A)
+      → StopsAt ⊥ (By IsSequence Adds) (By IsSequence Denies) p.spell vs s
+      → StopsAt ⊥ (By IsSequence (TakesBy allows)) (By IsSequence Refuses) p vs (record p { spell = s })
+  one_refused [] p s e = absurd e.0
+  one_refused (v ∷ vs) p s e =
+      inr (inl ((sequence_action v).0, (sequence_action v).1, λ _. why_refused (v ∷ vs) p.spell s e))
 
   -- what is said of a call on the text holds of the receiver
   pub passes_taken : {E : Type 0} (r : Result Bool E) (es : List CsiParam) (more : Bool) (f : ℕ) (p : Passing P A) (s : Spell A) → more ≡ false
@@ -144,10 +154,10 @@ module _ {P A : Type 0} (allows : P → Value A → Bool) where
       → IfOk r (λ b. b ≡ false → record p { spell = s } ≡ p)
   left_alone r p s t = if_ok_more _ _ r (λ b k e. ap (with_spell p) (k e)) t
 
-  pub refused_taken : {E : Type 0} (own : Type 0) (r : Result Bool E) (vs : List CsiValue) (p : Passing P A) (s : Spell A)
-      → OnErr r (StopsAt own (By IsSequence Adds) (By (IsSequence {A = A}) (λ _ _ _. Unit {0})) p.spell vs s)
-      → OnErr r (StopsAt own (By IsSequence (TakesBy allows)) (By (IsSequence {A = A}) (λ _ _ _. Unit {0})) p vs (record p { spell = s }))
-  refused_taken own r vs p s t = on_err_more _ _ r (one_refused own vs p s) t
+  pub refused_taken : {E : Type 0} (r : Result Bool E) (vs : List CsiValue) (p : Passing P A) (s : Spell A)
+      → OnErr r (StopsAt ⊥ (By IsSequence Adds) (By IsSequence Denies) p.spell vs s)
+      → OnErr r (StopsAt ⊥ (By IsSequence (TakesBy allows)) (By IsSequence Refuses) p vs (record p { spell = s }))
+  refused_taken r vs p s t = on_err_more _ _ r (one_refused vs p s) t
 
   -- the same of a command
   pub command_passes : {E : Type 0} (r : Result Bool E) (ps : List (List ℕ)) (p : Passing P A) (s : Spell A)
@@ -169,9 +179,17 @@ module _ {P A : Type 0} (allows : P → Value A → Bool) where
       let a : Action A = action.OperatingSystemCommand (command_meant ps) in
       (p, (a, refl, (stayed_one (osc (command_meant ps)) (value_of a) p.policy.now p.spell a refl h, refl)), refl)
 
-  pub command_refused : {E : Type 0} (own : Type 0) (r : Result Bool E) (X : Type 0) (ps : List (List ℕ)) (p q : Passing P A) → OnErr r X
-      → OnErr r (StopsAt own (By IsCommand (TakesBy allows)) (By (IsCommand {A = A}) (λ _ _ _. Unit {0})) p (ps ∷ []) q)
-  command_refused own r X ps p q t = on_err_more X _ r (λ _. inr (inl (action.OperatingSystemCommand (command_meant ps), refl, tt))) t
+  command_why : (ps : List (List ℕ)) (p q : Spell A) → StopsAt ⊥ (By IsCommand Adds) (By IsCommand Denies) p (ps ∷ []) q → Refused A
+  command_why ps p q (inl e) = absurd e.0
+  command_why ps p q (inr (inl (a, is, denied))) = denied (ap has_text is)
+  command_why ps p q (inr (inr (mid, t, rest))) = absurd rest.0
+
+  pub command_refused : {E : Type 0} (r : Result Bool E) (ps : List (List ℕ)) (p : Passing P A) (s : Spell A)
+      → OnErr r (StopsAt ⊥ (By IsCommand Adds) (By IsCommand Denies) p.spell (ps ∷ []) s)
+      → OnErr r (StopsAt ⊥ (By IsCommand (TakesBy allows)) (By IsCommand Refuses) p (ps ∷ []) (record p { spell = s }))
+  command_refused r ps p s t =
+      on_err_more _ _ r
+      (λ e. inr (inl (action.OperatingSystemCommand (command_meant ps), refl, λ _. command_why ps p.spell s e))) t
 
 -- what a policy admits of control sequences
 pub text_sequences : (A : Type 0) (p : Policy) (vs : List CsiValue) → p ≡ policy.Text → list_any (λ c. admits {A = A} p (csi c)) vs ≡ false

@@ -3,15 +3,20 @@ use Rattle.std.specs.Prelude.{ℕ, ◌≡◌, Bool, true, false, List, [], Some}
 use Rattle.esc_actions.specs.Values.{Value, value_of}
 use Rattle.esc_actions.specs.declared.action.Action.{Action}
 use Rattle.esc_parse.specs.Fed.{IsBroken as IsBrokenParser, WasFedWithin}
-use Rattle.esc_normal.specs.Spelled.{Adds}
+use Rattle.esc_normal.specs.Spelled.{Adds, Denies}
 use Rattle.esc_normal.specs.declared.spell.Spell.{Spell}
 use Rattle.esc_filter.specs.Passing.{passed, passes}
 use Rattle.esc_filter.specs.Texts.{ends_in_string}
 use Rattle.esc_filter.specs.declared.filter.Filter.{Filter}
+use Rattle.esc_filter.specs.declared.passing.Passing.{Passing}
 
 -- an action that passes is added to a text, and any other leaves it as it is
 abbrev pub Takes : {A : Type 0} → (Value A → Bool) → Spell A → Action A → Spell A → Type 0
 Takes admits p a q = (passes admits (value_of a) ≡ true → Adds p a q) × (passes admits (value_of a) ≡ false → q ≡ p)
+
+-- one that has a text is refused where memory is
+abbrev pub Refuses : {P A : Type 0} → Passing P A → Action A → Passing P A → Type 0
+Refuses p a q = Denies p.spell a q.spell
 
 -- the filter, of this limit and of a policy that admits these values, was fed these bytes
 abbrev pub WasFed : {P A : Type 0} → ℕ → (Value A → Bool) → List ℕ → Filter P A → Type 0

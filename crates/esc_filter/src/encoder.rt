@@ -2,6 +2,7 @@
 ghost use Rattle.std.specs.Prelude.{◌≡◌, ◌∷◌, ◌++◌, ◌↔◌, [], List, true, false, IfOk, IsErrOf, OnErr, OnOk, string_bytes};
 ghost use Rattle.esc_actions.specs.Texts.{has_text, text_after, whole_text};
 ghost use Rattle.esc_actions.specs.Values.{Value, value_of};
+ghost use Rattle.memory.specs.Refusals.{Refused};
 
 use esc_actions::Action;
 use esc_values::Text;
@@ -42,6 +43,7 @@ impl Encoder {
             × AddsTo vs (value_of action.now) (string_bytes text.old) (string_bytes text.new)) }
         ensures refused { OnErr result ((self.new ≡ self.old) × (string_bytes text.new ≡ string_bytes text.old)) }
         ensures no_text { IsErrOf result EncodeError.Fmt ↔ (has_text (value_of action.now) ≡ false) }
+        ensures memory_refused { IsErrOf result EncodeError.Memory → Refused A }
     {
         append_after(alloc, self.follows_string, action, text)?;
         self.follows_string = action.is_string();
@@ -60,12 +62,13 @@ fn append_after<A: Allocator>(
     ensures ok { OnOk result (string_bytes text.new ≡ string_bytes text.old ++ text_after follows_string (value_of action.now)) }
     ensures err { OnErr result (string_bytes text.new ≡ string_bytes text.old) }
     ensures no_text { IsErrOf result EncodeError.Fmt ↔ (has_text (value_of action.now) ≡ false) }
+    ensures memory_refused { IsErrOf result EncodeError.Memory → Refused A }
 {
     if action.is_terminator() && follows_string {
         return Ok(());
     }
     let own = own_text(alloc, action)?;
-    match text.push_str(own.as_str()) {
+    match memory::push_str(text, own.as_str()) {
         Ok(()) => Ok(()),
         Err(_) => Err(EncodeError::Memory),
     }
@@ -75,6 +78,7 @@ fn append_after<A: Allocator>(
 fn own_text<A: Allocator>(alloc: A, action: &Action<A>) -> Result<Text<A>, EncodeError>
     ensures text { IfOk result (λ t. t ≡ whole_text (value_of action.now)) }
     ensures no_text { IsErrOf result EncodeError.Fmt ↔ (has_text (value_of action.now) ≡ false) }
+    ensures memory_refused { IsErrOf result EncodeError.Memory → Refused A }
 {
     if !action.has_text() {
         return Err(EncodeError::Fmt);
@@ -88,7 +92,8 @@ fn own_text<A: Allocator>(alloc: A, action: &Action<A>) -> Result<Text<A>, Encod
 // The same, of an action that has one.
 fn spelled<A: Allocator>(alloc: A, action: &Action<A>) -> Result<Text<A>, AllocError>
     requires { has_text (value_of action.now) ≡ true }
-    ensures { IfOk result (λ t. t ≡ whole_text (value_of action.now)) }
+    ensures ok { IfOk result (λ t. t ≡ whole_text (value_of action.now)) }
+    ensures refused { OnErr result (Refused A) }
 {
     let mut text = Text::new(alloc);
     text.push_display(action)?;

@@ -1,10 +1,16 @@
 //! A filter that is fed a stream piece by piece.
-ghost use Rattle.std.specs.Prelude.{◌≡◌, ◌≤◌, ◌++◌, ℕ, List, [], IfErr, OnOk, Some};
+ghost use Rattle.std.specs.Prelude.{◌≡◌, ◌≤◌, ◌+◌, ◌++◌, ℕ, List, [], IfErr, OnOk, Some, min};
 ghost use Rattle.esc_filter.specs.Passing.{passed_text};
+ghost use Rattle.esc_actions.specs.Limited.{data_kept};
+ghost use Rattle.esc_frame.specs.Counts.{kept_of_cut};
+ghost use Rattle.esc_frame.specs.Limits.{most};
+ghost use Rattle.esc_frame.specs.Segments.{IsCut, Segment};
+ghost use Rattle.memory.specs.Refusals.{Refused};
 
 use crate::admit::Admit;
 use crate::passing::Passing;
 use crate::text::emptied;
+use esc_actions::laws;
 use esc_frame::ParseError;
 use esc_normal::Spell;
 use esc_parse::Parser;
@@ -43,15 +49,17 @@ impl<P: Admit<A>, A: Allocator + Copy> Filter<P, A> {
 
     /// Takes `bytes`. What they add to the text of the stream so far is then the [`text`](Filter::text).
     ///
-    /// `ParseError::Memory` says that a growth was refused: the text is empty, and from then on every call returns
+    /// `ParseError::Memory` says that a request for memory was refused: the text is empty, and from then on every call returns
     /// `ParseError::Failed`.
     pub fn feed(&mut self, bytes: &[u8]) -> Result<(), ParseError>
         ensures given { (limit : ℕ) (s : List ℕ) → WasFed limit (P.admits (policy_of self.old)) s self.old → OnOk result (WasFed limit (P.admits (policy_of self.old)) (s ++ bytes.now) self.new
             × (passed_text (Some limit) (P.admits (policy_of self.old)) (s ++ bytes.now) ≡ passed_text (Some limit) (P.admits (policy_of self.old)) s ++ added_by self.new)) }
         ensures policy { policy_of self.new ≡ policy_of self.old }
-        ensures refused { (limit : ℕ) (s : List ℕ) → WasFed limit (P.admits (policy_of self.old)) s self.old → IfErr result (λ e. (e ≡ ParseError.Memory) × IsBroken self.new × (added_by self.new ≡ [])) }
+        ensures refused { (limit : ℕ) (s : List ℕ) → WasFed limit (P.admits (policy_of self.old)) s self.old
+            → IfErr result (λ e. (e ≡ ParseError.Memory) × IsBroken self.new × (added_by self.new ≡ []) × Refused A) }
         ensures failed { IsBroken self.old → (result ≡ Err ParseError.Failed) × IsBroken self.new × (added_by self.new ≡ []) }
     {
+        laws::yield_handed_out::<A>();
         let Spell {
             text,
             follows_string,
@@ -80,8 +88,11 @@ impl<P: Admit<A>, A: Allocator + Copy> Filter<P, A> {
         self.spell.text.as_str()
     }
 
-    /// How many bytes are kept of the segment that is unfinished: at most the limit.
+    /// How many bytes are kept of the segment that is unfinished, as [`Parser::kept`](esc_parse::Parser::kept) counts them: at most the
+    /// limit.
     pub fn kept(&self) -> usize
+        ensures given { (limit : ℕ) (s : List ℕ) → WasFed limit (P.admits (policy_of self.now)) s self.now → (gs : List Segment)
+            → IsCut s gs → result ≡ min (kept_of_cut (Some limit) gs + data_kept (Some limit) s) most }
         ensures within { (limit : ℕ) (s : List ℕ) → WasFed limit (P.admits (policy_of self.now)) s self.now → result ≤ limit }
         ensures failed { IsBroken self.now → result ≡ 0 }
     {

@@ -5,6 +5,7 @@ ghost use Rattle.esc_normal.specs.Io.{AppendsPrefix, has_failed, inner_of};
 ghost use Rattle.esc_filter.specs.Fed.{IsFresh, WasFed, policy_of};
 ghost use Rattle.esc_filter.specs.Passing.{passed_text};
 ghost use Rattle.esc_filter.specs.Streams.{HasBegun, HasFiltered, HasWritten};
+ghost use Rattle.memory.specs.Refusals.{Refused};
 
 use crate::admit::Admit;
 use crate::filter::Filter;
@@ -13,9 +14,6 @@ use crate::laws;
 use esc_normal::Watched;
 use std::alloc::Allocator;
 use std::io::{Read, Write};
-
-// How much is read at a call.
-const CHUNK: usize = 65_536;
 
 /// Reads to the end, and writes the text of the actions that pass the policy, as it reads: after each read the text of all that was
 /// read so far is written and flushed. It holds a chunk of 64 KiB, the text of one, and at most `limit` bytes of an unfinished segment.
@@ -39,9 +37,10 @@ pub fn filter_stream<R: Read, W: Write, P: Admit<A> + Drop, A: Allocator + Copy>
         (W.contents (inner_of writer.old)) (W.contents (inner_of writer.new))) }
     ensures read_fault { has_failed reader.old ≡ false → (IsErrOf result FilterError.Read ↔ IsTrue (has_failed reader.new)) }
     ensures write_fault { has_failed writer.old ≡ false → (IsErrOf result FilterError.Write ↔ IsTrue (has_failed writer.new)) }
+    ensures refused { IsErrOf result FilterError.Memory → Refused A }
 {
     laws::passed_reads_back::<A>();
-    let Ok(mut chunk) = vec![in alloc; 0u8; CHUNK] else {
+    let Ok(mut chunk) = memory::read_buffer(alloc) else {
         return Err(FilterError::Memory);
     };
     filter_by(alloc, limit, policy, reader, writer, chunk.as_mut_slice())
@@ -66,6 +65,7 @@ fn filter_by<R: Read, W: Write, P: Admit<A> + Drop, A: Allocator + Copy>(
         (W.contents (inner_of writer.old)) (W.contents (inner_of writer.new))) }
     ensures read_fault { has_failed reader.old ≡ false → (IsErrOf result FilterError.Read ↔ IsTrue (has_failed reader.new)) }
     ensures write_fault { has_failed writer.old ≡ false → (IsErrOf result FilterError.Write ↔ IsTrue (has_failed writer.new)) }
+    ensures refused { IsErrOf result FilterError.Memory → Refused A }
 {
     let mut filter = Filter::new(alloc, limit, policy);
     filter_all(&mut filter, reader, writer, chunk)
@@ -89,6 +89,8 @@ fn filter_all<R: Read, W: Write, P: Admit<A> + Drop, A: Allocator + Copy>(
         (R.remaining (inner_of reader.old)) (R.remaining (inner_of reader.new)) (W.contents (inner_of writer.old)) (W.contents (inner_of writer.new))) }
     ensures read_fault { has_failed reader.old ≡ false → (IsErrOf result FilterError.Read ↔ IsTrue (has_failed reader.new)) }
     ensures write_fault { has_failed writer.old ≡ false → (IsErrOf result FilterError.Write ↔ IsTrue (has_failed writer.new)) }
+    ensures refused { (limit : ℕ) (policy : P) → IsFresh limit (P.admits policy) policy filter.old
+        → IsErrOf result FilterError.Memory → Refused A }
 {
     for _ in 0..u64::MAX {
         match reader.read(chunk) {
@@ -115,6 +117,8 @@ fn pass_on<W: Write, P: Admit<A> + Drop, A: Allocator + Copy>(
     ensures policy { policy_of filter.new ≡ policy_of filter.old }
     ensures no_read { IsErrOf result FilterError.Read → ⊥ }
     ensures write_fault { has_failed writer.old ≡ false → (IsErrOf result FilterError.Write ↔ IsTrue (has_failed writer.new)) }
+    ensures refused { (limit : ℕ) (s : List ℕ) → WasFed limit (P.admits (policy_of filter.old)) s filter.old
+        → IsErrOf result FilterError.Memory → Refused A }
 {
     match filter.feed(bytes) {
         Ok(()) => write_out(writer, filter.text()),

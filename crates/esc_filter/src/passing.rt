@@ -1,6 +1,6 @@
 //! What takes the actions that pass.
 ghost use Rattle.std.specs.Prelude.{◌≡◌};
-ghost use Rattle.esc_filter.specs.Fed.{Takes};
+ghost use Rattle.esc_filter.specs.Fed.{Refuses, Takes};
 
 use crate::admit::{Admit, passes};
 use esc_actions::Action;
@@ -23,7 +23,7 @@ impl<'p, P: Admit<A>, A: Allocator> Sink<Action<A>> for Passing<'p, P, A> {
 
     ghost takes = { λ p a q. Takes (P.admits p.policy.now) p.spell a q.spell × (q.policy.now ≡ p.policy.now) };
 
-    ghost refuses = { λ _ _ _. Unit {0} };
+    ghost refuses = { Refuses };
 
     #[inline]
     fn receive(&mut self, action: Action<A>) -> Result<(), AllocError> {

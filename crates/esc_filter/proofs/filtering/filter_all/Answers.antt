@@ -1,11 +1,13 @@
-use Rattle.std.proofs.Common.{rules, ◌≡◌, ◌++◌, [], Some, take, subst, sym, ap, ◌∙◌, arith}
+use Rattle.std.proofs.Common.{rules, Err, ◌≡◌, ◌++◌, [], Some, take, subst, sym, ap, ◌∙◌, arith}
 use Rattle.std.proofs.lemmas.Grind.{common_steps}
 use Rattle.std.proofs.KnownBytes.{Appends-nil, Consumes-kept, Consumes-nil, Consumes-trans}
 use Rattle.std.specs.Io.KnownBytes.{Appends}
 use Rattle.std.specs.List.{filter}
 use Rattle.esc_actions.proofs.Meanings.{meaning_nil}
 use Rattle.esc_actions.specs.Texts.{list_text}
-use Rattle.esc_filter.proofs.Results.{on_err_any, prefix_after, prefix_whole, read_none, written_more}
+use Rattle.esc_parse.proofs.Lists.{on_err_any}
+use Rattle.std.proofs.lemmas.Result.{err_from_is_err_and}
+use Rattle.esc_filter.proofs.Results.{err_is, prefix_after, prefix_whole, read_none, written_more}
 use Rattle.esc_filter.proofs.Steps.{Passes, PassesSome}
 use Rattle.esc_filter.proofs.filtering.filter_all.Goals as goal
 use Rattle.esc_filter.specs.Fed.{WasFed}
@@ -76,3 +78,11 @@ returns-in_err-pass_on-in-Ok-clause-beginning g c = λ limit policy fresh.
     (g.W.Write.contents c.loop.writer.inner) (g.W.Write.contents c.pass_on.new.writer.inner)) k.0
     (c.in_err-pass_on-in-Ok.ensures.beginning limit r.0) r.2 in
     on_err_any _ c.from_residual.result (r.0 ++ piece, Consumes-trans _ _ _ r.0 piece r.1 c.in-Ok.ensures.bytes.0, prefix_after _ _ _ _ f.0 _ r.3 f.2 f.1)
+
+pub returns-in_err-pass_on-in-Ok-clause-refused : goal.returns-in_err-pass_on-in-Ok-clause-refused
+returns-in_err-pass_on-in-Ok-clause-refused g c = λ limit policy fresh memory.
+    let k = c.loop.invariant.read limit policy fresh in
+    let p = err_from_is_err_and c.from_residual.result c.from_residual.ensures.1 in
+    c.in_err-pass_on-in-Ok.ensures.refused limit k.1.0
+    (subst (λ x. WasFed limit (g.P.Admit.admits x) k.1.0 c.loop.filter) (sym k.0) k.1.2)
+    (ap Err (sym p.2 ∙ err_is c.from_residual.result p.0 _ p.1 memory))

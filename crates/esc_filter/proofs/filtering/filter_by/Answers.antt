@@ -8,3 +8,6 @@ returns-clause-decided g c = c.filter_all.ensures.decided c.args.limit c.args.po
 
 pub returns-clause-beginning : goal.returns-clause-beginning
 returns-clause-beginning g c = c.filter_all.ensures.beginning c.args.limit c.args.policy (c.new-filter.ensures.fed, c.new-filter.ensures.policy)
+
+pub returns-clause-refused : goal.returns-clause-refused
+returns-clause-refused g c = c.filter_all.ensures.refused c.args.limit c.args.policy (c.new-filter.ensures.fed, c.new-filter.ensures.policy)

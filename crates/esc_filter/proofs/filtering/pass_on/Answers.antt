@@ -20,3 +20,6 @@ returns-in-Ok-clause-beginning g c = λ limit s h.
 pub returns-in-Err-clause-beginning : goal.returns-in-Err-clause-beginning
 returns-in-Err-clause-beginning g c = λ limit s h.
     (_, text_longer (Some limit) (g.P.Admit.admits c.args.filter.now.policy) s c.args.bytes.now, prefix_none _ _)
+
+pub returns-in-Err-clause-refused : goal.returns-in-Err-clause-refused
+returns-in-Err-clause-refused g c = λ limit s h _. (c.in-Err.ensures.refused limit s h).3

@@ -1,4 +1,4 @@
-use Rattle.std.proofs.Common.{◌≡◌, true, ◌∙◌}
+use Rattle.std.proofs.Common.{◌∙◌}
 use Rattle.esc_values.specs.Clear.{parts_of}
 use Rattle.esc_filter.proofs.Sequences.{command_passes, command_refused, command_stays, left_alone}
 use Rattle.esc_filter.proofs.passing.PassingSinkAction.receive_command.Goals as goal
@@ -14,7 +14,8 @@ returns-in-Some-true-clause-left g c =
 
 pub returns-in-Some-true-clause-refused : goal.returns-in-Some-true-clause-refused
 returns-in-Some-true-clause-refused g c =
-    command_refused g.P.Admit.admits (true ≡ true) c.receive_command.result _ (parts_of c.args.text.now) c.args.self.now _ c.receive_command.ensures.refused
+    command_refused g.P.Admit.admits c.receive_command.result (parts_of c.args.text.now) c.args.self.now
+    c.receive_command.new.self c.receive_command.ensures.refused
 
 pub returns-in-Some-false-clause-taken : goal.returns-in-Some-false-clause-taken
 returns-in-Some-false-clause-taken g c = λ _.

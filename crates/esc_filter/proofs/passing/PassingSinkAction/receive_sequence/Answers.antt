@@ -1,4 +1,4 @@
-use Rattle.std.proofs.Common.{◌≡◌, Some, ap, true}
+use Rattle.std.proofs.Common.{Some, ap}
 use Rattle.esc_sequences.specs.Csis.{csi_of}
 use Rattle.esc_filter.proofs.Sequences.{left_alone, passes_taken, refused_taken, stays_taken}
 use Rattle.esc_filter.proofs.passing.PassingSinkAction.receive_sequence.Goals as goal
@@ -15,7 +15,8 @@ returns-in-Some-true-clause-left g c =
 
 pub returns-in-Some-true-clause-refused : goal.returns-in-Some-true-clause-refused
 returns-in-Some-true-clause-refused g c =
-    refused_taken g.P.Admit.admits (true ≡ true) c.receive_sequence.result (csi_of c.args.params.now c.args.parameters_truncated c.args.control) c.args.self.now
+    refused_taken g.P.Admit.admits c.receive_sequence.result
+    (csi_of c.args.params.now c.args.parameters_truncated c.args.control) c.args.self.now
     c.receive_sequence.new.self c.receive_sequence.ensures.refused
 
 pub returns-in-Some-false-clause-taken : goal.returns-in-Some-false-clause-taken
