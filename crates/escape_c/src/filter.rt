@@ -1,9 +1,10 @@
 //! What a policy admits of a stream.
-ghost use Rattle.std.specs.Prelude.{◌≡◌, ◌≢◌, ◌↔◌, ◌++◌, IfOk, IfSome, drop, length, take};
+ghost use Rattle.std.specs.Prelude.{◌≡◌, ◌≢◌, ◌↔◌, ◌++◌, IfOk, IfSome, OnErr, drop, length, take};
 ghost use Rattle.esc_filter.specs.Fed.{added_by};
 ghost use Rattle.esc_filter.specs.Passing.{IsFiltered, passed_text};
 ghost use Rattle.esc_filter.specs.Rules.{admits};
 ghost use Rattle.escape_c.specs.Policies.{policy_numbered};
+ghost use Rattle.memory.specs.Refusals.{Refused};
 
 use crate::output::put;
 use crate::{DONE, NO_MEMORY, UNKNOWN_POLICY};
@@ -33,6 +34,7 @@ pub extern "C" fn escape_stream_filter(
         IsFiltered {A = Global} (Some limit) (admits p) bytes.now (passed_text {A = Global} (Some limit) (admits p) bytes.now)) }
     ensures unknown { result ≡ UNKNOWN_POLICY ↔ (policy_numbered policy ≡ None) }
     ensures refused { result ≢ DONE → (result ≢ NO_MEMORY → result ≡ UNKNOWN_POLICY) × (out.new ≡ out.old) × (needed.new ≡ needed.old) }
+    ensures memory { result ≡ NO_MEMORY → Refused Global }
 {
     passed_reads_back::<Global>();
     match policy_of(policy) {
@@ -66,6 +68,7 @@ fn filter_by(
     ensures needed { result ≡ DONE → needed.new ≡ length (passed_text {A = Global} (Some limit) (admits policy) bytes.now) }
     ensures written { result ≡ DONE → out.new ≡ take (length out.old) (passed_text {A = Global} (Some limit) (admits policy) bytes.now) ++ drop (needed.new) out.old }
     ensures refused { result ≢ DONE → (result ≡ NO_MEMORY) × (out.new ≡ out.old) × (needed.new ≡ needed.old) }
+    ensures memory { result ≡ NO_MEMORY → Refused Global }
     ensures known { result ≢ UNKNOWN_POLICY }
 {
     match filtered(alloc, policy, limit, bytes) {
@@ -84,7 +87,9 @@ fn filtered(
     limit: usize,
     bytes: &[u8],
 ) -> Result<Filter<Policy>, ParseError>
-    ensures { IfOk result (λ f. added_by f ≡ passed_text {A = Global} (Some limit) (admits policy) bytes.now) }
+    ensures ok { IfOk result
+        (λ f. added_by f ≡ passed_text {A = Global} (Some limit) (admits policy) bytes.now) }
+    ensures refused { OnErr result (Refused Global) }
 {
     let mut filter = Filter::new(alloc, limit, policy);
     match filter.feed(bytes) {

@@ -3,6 +3,7 @@ ghost use Rattle.std.specs.Prelude.{◌≡◌, ◌≢◌, ◌↔◌, ℕ, IsTrue
 ghost use Rattle.esc_actions.specs.Meaning.{meaning};
 ghost use Rattle.esc_actions.specs.Texts.{list_text};
 ghost use Rattle.esc_actions.specs.Writable.{AreWritable};
+ghost use Rattle.memory.specs.Refusals.{Refused};
 
 use crate::spelled::normal_text;
 use crate::{DONE, NO_MEMORY};
@@ -18,6 +19,7 @@ pub extern "C" fn escape_stream_is_normal(alloc: Global, bytes: &[u8], answer: &
     ensures equal { result ≡ DONE → (IsTrue answer.new ↔ (list_text (meaning {A = Global} bytes.now) ≡ bytes.now)) }
     ensures normalised { (t : List ℕ) → AreWritable {A = Global} (meaning t) → bytes.now ≡ list_text (meaning {A = Global} t) → result ≡ DONE → answer.new ≡ true }
     ensures refused { result ≢ DONE → (result ≡ NO_MEMORY) × (answer.new ≡ answer.old) }
+    ensures memory { result ≡ NO_MEMORY → Refused Global }
 {
     laws::normal_once::<Global>();
     match normal_text(alloc, bytes) {

@@ -2,6 +2,7 @@
 ghost use Rattle.std.specs.Prelude.{◌≡◌, ◌≢◌, ◌≤◌, ◌++◌, drop, length, take};
 ghost use Rattle.esc_actions.specs.Meaning.{meaning};
 ghost use Rattle.esc_actions.specs.Texts.{list_text};
+ghost use Rattle.memory.specs.Refusals.{Refused};
 
 use crate::output::put;
 use crate::spelled::normal_text;
@@ -21,6 +22,7 @@ pub extern "C" fn escape_stream_normal(
     ensures needed { result ≡ DONE → needed.new ≡ length (list_text (meaning {A = Global} bytes.now)) }
     ensures written { result ≡ DONE → out.new ≡ take (length out.old) (list_text (meaning {A = Global} bytes.now)) ++ drop (needed.new) out.old }
     ensures refused { result ≢ DONE → (result ≡ NO_MEMORY) × (out.new ≡ out.old) × (needed.new ≡ needed.old) }
+    ensures memory { result ≡ NO_MEMORY → Refused Global }
 {
     match normal_text(alloc, bytes) {
         Ok(text) => {

@@ -1,4 +1,4 @@
-use Rattle.std.proofs.Common.{Global, ◌≡◌, ◌++◌, [], Some, ap, sym, subst, ◌∙◌}
+use Rattle.std.proofs.Common.{Global, ◌++◌, [], Some, ap, sym, subst, ◌∙◌}
 use Rattle.std.specs.List.{filter}
 use Rattle.esc_actions.proofs.Meanings.{meaning_nil}
 use Rattle.esc_actions.specs.Texts.{list_text}
@@ -7,8 +7,8 @@ use Rattle.esc_filter.specs.Passing.{passed_text, passes}
 use Rattle.esc_filter.specs.Rules.{admits}
 use Rattle.escape_c.proofs.filter.filtered.Goals as goal
 
-pub returns-in-Ok : goal.returns-in-Ok
-returns-in-Ok c =
+pub returns-in-Ok-clause-ok : goal.returns-in-Ok-clause-ok
+returns-in-Ok-clause-ok c =
     let limit = c.args.limit in
     let new = c.new-filter.result in
     let is = c.new-filter.ensures.policy in
@@ -17,3 +17,9 @@ returns-in-Ok c =
     let nothing = ap (λ vs. list_text (filter (passes (admits {A = Global} new.policy)) vs)) (meaning_nil (Some limit)) in
     sym (ap (λ t. t ++ added_by c.feed.new.self) nothing) ∙ sym given.1
     ∙ ap (λ p. passed_text {A = Global} (Some limit) (admits p) c.args.bytes.now) is
+
+pub returns-in-Err-clause-refused : goal.returns-in-Err-clause-refused
+returns-in-Err-clause-refused c =
+    let new = c.new-filter.result in
+    let fed = subst (λ p. WasFed c.args.limit (admits {A = Global} p) [] new) (sym c.new-filter.ensures.policy) c.new-filter.ensures.fed in
+    (c.in-Err.ensures.refused c.args.limit [] fed).3
