@@ -1,7 +1,8 @@
 -- What the program's words ask for.
-use Rattle.std.specs.Prelude.{ℕ, ◌≡◌, ◌≢◌, nat_eq, if◌then◌else◌, List, [], ◌∷◌, codes, Option, Some, None}
+use Rattle.std.specs.Prelude.{ℕ, ◌≡◌, ◌≢◌, ◌<◌, IfSome, nat_eq, if◌then◌else◌, List, [], ◌∷◌, codes, Option, Some, None}
 use Rattle.std.specs.Cmp.Lexicographic.{pointwise}
 use Rattle.std.specs.Option.{option_map}
+use Rattle.std.specs.Io.KnownBytes.{Appends, IsAtEnd}
 use Rattle.esc_actions.specs.Meaning.{meaning_within}
 use Rattle.esc_actions.specs.Texts.{list_text}
 use Rattle.esc_values.specs.Scalars.{number_of}
@@ -31,3 +32,9 @@ pub record IsVerdict (A : Type 0) (limit : Option ℕ) (s : List ℕ) (n : ℕ) 
   pub equal : n ≡ 0 → list_text (meaning_within {A = A} limit s) ≡ s
   pub different : n ≡ 3 → list_text (meaning_within {A = A} limit s) ≢ s
   pub others : n ≢ 0 → n ≢ 3 → n ≡ 1
+
+-- the status n after normalising under this limit: 0 where all was read and its normal form was written, and otherwise 1
+pub record IsNormalised (A : Type 0) (limit : Option ℕ) (stream left before after : Option (List ℕ)) (n : ℕ) : Type 0 where
+  pub status : n < 2
+  pub read : n ≡ 0 → IsAtEnd left
+  pub written : n ≡ 0 → IfSome stream (λ s. Appends before after (list_text (meaning_within {A = A} limit s)))

@@ -7,6 +7,7 @@ pub mod task;
 #[cfg(test)]
 mod tests;
 
+use esc_normal::Watched;
 pub use run::run;
 use std::process::ExitCode;
 use std::{env, io};
@@ -16,7 +17,15 @@ fn main(rt: HostRuntime) -> ExitCode {
         let _ = eprintln!(rt; "escnorm: read fault");
         return ExitCode::from(1);
     };
-    let status = run(rt.alloc(), &words, rt.stdin(), rt.stdout(), rt.stderr());
+    let mut input = Watched::new(rt.stdin());
+    let mut output = Watched::new(rt.stdout());
+    let status = run(
+        rt.alloc(),
+        &words,
+        &mut input,
+        &mut output,
+        &mut rt.stderr(),
+    );
     ExitCode::from(status)
 }
 

@@ -1,7 +1,7 @@
 //! What the program does.
 ghost use Rattle.std.specs.Prelude.{◌≡◌, ◌<◌, ℕ, Option, false, IfErr, IfOk, IfSome, IsErrOf, IsTrue, None, OnOk, Some, ◌↔◌, map, string_bytes};
 ghost use Rattle.std.specs.Io.KnownBytes.{Appends, IsAtEnd, Keeps};
-ghost use Rattle.escnorm.specs.Tasks.{IsVerdict, task_of};
+ghost use Rattle.escnorm.specs.Tasks.{IsNormalised, IsVerdict, task_of};
 ghost use Rattle.esc_normal.specs.Io.{AppendsPrefix, has_failed, inner_of};
 ghost use Rattle.esc_actions.specs.Meaning.{meaning_within};
 ghost use Rattle.esc_actions.specs.Texts.{list_text};
@@ -28,17 +28,20 @@ const DIFFERENT: u8 = 3;
 /// through a parser that keeps no more bytes of a segment. Where that is hindered, status 1, with a line on `faults` that names the
 /// fault. Any other words are status 2, with the usage on `faults`, and nothing is read or written. Where a line cannot be written
 /// the status stays.
-pub fn run<A: Allocator + Copy, R: Read + Drop, W: Write + Drop, E: Write + Drop>(
+pub fn run<A: Allocator + Copy, R: Read, W: Write, E: Write>(
     alloc: A,
     words: &[String],
-    input: R,
-    output: W,
-    mut faults: E,
+    input: &mut Watched<R>,
+    output: &mut Watched<W>,
+    faults: &mut E,
 ) -> u8
-    ensures usage { task_of (map string_bytes words.now) ≡ None → result ≡ 2 }
-    ensures normalised { (limit : Option ℕ) → task_of (map string_bytes words.now) ≡ Some (Task.Normalise limit) → result < 2 }
+    ensures usage { task_of (map string_bytes words.now) ≡ None
+        → (result ≡ 2) × (input.new ≡ input.old) × (output.new ≡ output.old) }
+    ensures normalised { (limit : Option ℕ) → task_of (map string_bytes words.now) ≡ Some (Task.Normalise limit)
+        → IsNormalised A limit (R.remaining (inner_of input.old)) (R.remaining (inner_of input.new))
+        (W.contents (inner_of output.old)) (W.contents (inner_of output.new)) result }
     ensures checked { (limit : Option ℕ) → task_of (map string_bytes words.now) ≡ Some (Task.Check limit)
-        → IfSome (R.remaining input) (λ s. IsVerdict A limit s result) }
+        → IfSome (R.remaining (inner_of input.old)) (λ s. IsVerdict A limit s result) × (output.new ≡ output.old) }
 {
     let done = match Task::of(words) {
         Some(Task::Normalise(limit)) => normalised(alloc, input, output, limit),
@@ -58,32 +61,32 @@ pub fn run<A: Allocator + Copy, R: Read + Drop, W: Write + Drop, E: Write + Drop
 }
 
 // The status once the input is normalised.
-fn normalised<A: Allocator + Copy, R: Read + Drop, W: Write + Drop>(
+fn normalised<A: Allocator + Copy, R: Read, W: Write>(
     alloc: A,
-    input: R,
-    output: W,
+    input: &mut Watched<R>,
+    output: &mut Watched<W>,
     limit: Option<usize>,
 ) -> Result<u8, NormaliseError>
-    ensures { IfOk result (λ n. n ≡ 0) }
+    ensures { IfOk result (λ n. IsNormalised A limit (R.remaining (inner_of input.old)) (R.remaining (inner_of input.new))
+        (W.contents (inner_of output.old)) (W.contents (inner_of output.new)) n) }
 {
-    let mut reader = Watched::new(input);
-    let mut writer = Watched::new(output);
-    normalise_and_flush(alloc, &mut reader, &mut writer, limit)?;
-    Ok(DONE)
+    match normalise_and_flush(alloc, input, output, limit) {
+        Ok(()) => Ok(DONE),
+        Err(error) => Err(error),
+    }
 }
 
 // The status once the input is compared with its normal form.
-fn checked<A: Allocator + Copy, R: Read + Drop>(
+fn checked<A: Allocator + Copy, R: Read>(
     alloc: A,
-    input: R,
+    input: &mut Watched<R>,
     limit: Option<usize>,
 ) -> Result<u8, NormaliseError>
-    ensures { IfOk result (λ n. IfSome (R.remaining input) (λ s. IsVerdict A limit s n)) }
+    ensures { IfOk result (λ n. IfSome (R.remaining (inner_of input.old)) (λ s. IsVerdict A limit s n)) }
 {
-    let mut reader = Watched::new(input);
     let is_same = match limit {
-        None => is_normal(alloc, &mut reader)?,
-        Some(limit) => is_normal_limited(alloc, &mut reader, limit)?,
+        None => is_normal(alloc, input)?,
+        Some(limit) => is_normal_limited(alloc, input, limit)?,
     };
     if is_same { Ok(DONE) } else { Ok(DIFFERENT) }
 }

@@ -1,5 +1,6 @@
 //! Runs of the program over readers and writers that are slow, full, or fail, and with each request for memory refused in turn.
 use crate::run::run;
+use esc_normal::Watched;
 use refusing::Refusing;
 use refusing::byte_reader::ByteReader;
 use refusing::fixed_writer::FixedWriter;
@@ -72,7 +73,13 @@ fn run_over<A: Allocator + Copy>(
         fails_at,
     };
     let mut faults = FixedWriter::new(64, 64, 0);
-    let status = run(alloc, words, &mut input, &mut output, &mut faults);
+    let status = run(
+        alloc,
+        words,
+        &mut Watched::new(&mut input),
+        &mut Watched::new(&mut output),
+        &mut faults,
+    );
     Ended {
         status,
         reads: input.calls,
@@ -138,7 +145,13 @@ fn status_of(alloc: Global, words: &[String], faults: &mut FixedWriter) -> u8 {
         calls: 0,
         fails_at: 1,
     };
-    run(alloc, words, input, FixedWriter::new(64, 64, 1), faults)
+    run(
+        alloc,
+        words,
+        &mut Watched::new(input),
+        &mut Watched::new(FixedWriter::new(64, 64, 1)),
+        faults,
+    )
 }
 
 #[test]
@@ -171,7 +184,13 @@ fn the_writer_fails_at_each_call(rt: HostRuntime) {
 #[test]
 fn a_flush_that_fails_is_a_write_fault(rt: HostRuntime) {
     let mut faults = FixedWriter::new(64, 64, 0);
-    let status = run(rt.alloc(), &[], STREAM, Unflushed, &mut faults);
+    let status = run(
+        rt.alloc(),
+        &[],
+        &mut Watched::new(STREAM),
+        &mut Watched::new(Unflushed),
+        &mut faults,
+    );
     assert!(rt; status == 1 && faults.holds(b"escnorm: write fault\n"));
 }
 
