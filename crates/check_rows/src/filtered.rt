@@ -22,8 +22,8 @@ const POLICIES: [(Policy, &str); 4] = [
     (Policy::All, "as-all"),
 ];
 
-/// What each policy lets through of a stream, read whole and byte by byte; and what is written of it where a read, a write or a
-/// request for memory fails, at each of them in turn.
+/// What each policy lets through of a stream, read whole and byte by byte, and that it is flushed; and what is written of it where a
+/// read, a write or a request for memory fails, at each of them in turn.
 pub fn check_filtered(alloc: Global, row: Row, report: &mut Report) -> Result<(), Fault> {
     let bytes = row.bytes(alloc, "stream")?;
     let stream = bytes.as_slice();
@@ -39,6 +39,7 @@ pub fn check_filtered(alloc: Global, row: Row, report: &mut Report) -> Result<()
     }
     check_reads(alloc, stream, wanted.as_str())?;
     check_writes(alloc, stream, wanted.as_str())?;
+    check_flushes(alloc, stream, wanted.as_str())?;
     check_requests(alloc, stream, wanted.as_str())
 }
 
@@ -107,6 +108,20 @@ fn check_writes(alloc: Global, stream: &[u8], wanted: &str) -> Result<(), Fault>
         if result != Err(FilterError::Write) || !held.holds(&wanted.as_bytes()[..at]) {
             return Err(Fault("a write that fails changes what is written"));
         }
+    }
+    Ok(())
+}
+
+// What a read adds is flushed before the next read.
+fn check_flushes(alloc: Global, stream: &[u8], wanted: &str) -> Result<(), Fault> {
+    if wanted.len() > 64 {
+        return Ok(());
+    }
+    let mut writer = Watched::new(FixedWriter::new(64, 64, 0));
+    let mut reader = Watched::new(byte_by_byte(stream, 0));
+    let result = filter_stream(alloc, &mut reader, &mut writer, LIMIT, Policy::All);
+    if result.is_err() || writer.into_inner().flushes != stream.len() {
+        return Err(Fault("what a read adds is not flushed"));
     }
     Ok(())
 }
