@@ -33,8 +33,11 @@ pub record IsVerdict (A : Type 0) (limit : Option ℕ) (s : List ℕ) (n : ℕ) 
   pub different : n ≡ 3 → list_text (meaning_within {A = A} limit s) ≢ s
   pub others : n ≢ 0 → n ≢ 3 → n ≡ 1
 
--- the status n after normalising under this limit: 0 where all was read and its normal form was written, and otherwise 1
-pub record IsNormalised (A : Type 0) (limit : Option ℕ) (stream left before after : Option (List ℕ)) (n : ℕ) : Type 0 where
+-- the status n after normalising under this limit: 0 where all was read and its normal form was
+-- written, and otherwise 1
+pub record IsNormalised (A : Type 0) (limit : Option ℕ) (stream left before after : Option (List ℕ)) (n : ℕ)
+    : Type 0 where
   pub status : n < 2
   pub read : n ≡ 0 → IsAtEnd left
-  pub written : n ≡ 0 → IfSome stream (λ s. Appends before after (list_text (meaning_within {A = A} limit s)))
+  pub written : n ≡ 0
+      → IfSome stream (λ s. Appends before after (list_text (meaning_within {A = A} limit s)))

@@ -37,11 +37,13 @@ pub fn run<A: Allocator + Copy, R: Read, W: Write, E: Write>(
 ) -> u8
     ensures usage { task_of (map string_bytes words.now) ≡ None
         → (result ≡ 2) × (input.new ≡ input.old) × (output.new ≡ output.old) }
-    ensures normalised { (limit : Option ℕ) → task_of (map string_bytes words.now) ≡ Some (Task.Normalise limit)
+    ensures normalised { (limit : Option ℕ)
+        → task_of (map string_bytes words.now) ≡ Some (Task.Normalise limit)
         → IsNormalised A limit (R.remaining (inner_of input.old)) (R.remaining (inner_of input.new))
         (W.contents (inner_of output.old)) (W.contents (inner_of output.new)) result }
     ensures checked { (limit : Option ℕ) → task_of (map string_bytes words.now) ≡ Some (Task.Check limit)
-        → IfSome (R.remaining (inner_of input.old)) (λ s. IsVerdict A limit s result) × (output.new ≡ output.old) }
+        → IfSome (R.remaining (inner_of input.old)) (λ s. IsVerdict A limit s result)
+        × (output.new ≡ output.old) }
 {
     let done = match Task::of(words) {
         Some(Task::Normalise(limit)) => normalised(alloc, input, output, limit),
@@ -67,7 +69,8 @@ fn normalised<A: Allocator + Copy, R: Read, W: Write>(
     output: &mut Watched<W>,
     limit: Option<usize>,
 ) -> Result<u8, NormaliseError>
-    ensures { IfOk result (λ n. IsNormalised A limit (R.remaining (inner_of input.old)) (R.remaining (inner_of input.new))
+    ensures { IfOk result (λ n. IsNormalised A limit
+        (R.remaining (inner_of input.old)) (R.remaining (inner_of input.new))
         (W.contents (inner_of output.old)) (W.contents (inner_of output.new)) n) }
 {
     match normalise_and_flush(alloc, input, output, limit) {
@@ -82,7 +85,8 @@ fn checked<A: Allocator + Copy, R: Read>(
     input: &mut Watched<R>,
     limit: Option<usize>,
 ) -> Result<u8, NormaliseError>
-    ensures { IfOk result (λ n. IfSome (R.remaining (inner_of input.old)) (λ s. IsVerdict A limit s n)) }
+    ensures { IfOk result
+        (λ n. IfSome (R.remaining (inner_of input.old)) (λ s. IsVerdict A limit s n)) }
 {
     let is_same = match limit {
         None => is_normal(alloc, input)?,

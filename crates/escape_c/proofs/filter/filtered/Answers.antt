@@ -21,5 +21,6 @@ returns-in-Ok-clause-ok c =
 pub returns-in-Err-clause-refused : goal.returns-in-Err-clause-refused
 returns-in-Err-clause-refused c =
     let new = c.new-filter.result in
-    let fed = subst (λ p. WasFed c.args.limit (admits {A = Global} p) [] new) (sym c.new-filter.ensures.policy) c.new-filter.ensures.fed in
+    let fed = subst (λ p. WasFed c.args.limit (admits {A = Global} p) [] new)
+    (sym c.new-filter.ensures.policy) c.new-filter.ensures.fed in
     (c.in-Err.ensures.refused c.args.limit [] fed).3

@@ -18,5 +18,7 @@ returns-in-Ok-clause-ok c =
 
 pub returns-clause-refused : goal.returns-clause-refused
 returns-clause-refused c =
-    let f = IfErr-at_err _ c.in-Err.is (c.parse_into-result.ensures.refused None [] c.new-parser.ensures) in
-    stops_denied _ _ _ _ _ (handed_out_have_texts _ (c.yield_handed_out.ensures None [] c.args.bytes.now)) f.2
+    let f = IfErr-at_err _ c.in-Err.is
+    (c.parse_into-result.ensures.refused None [] c.new-parser.ensures) in
+    stops_denied _ _ _ _ _
+    (handed_out_have_texts _ (c.yield_handed_out.ensures None [] c.args.bytes.now)) f.2
