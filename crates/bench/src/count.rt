@@ -5,7 +5,8 @@ use esc_values::csi_param::CsiParam;
 use std::alloc::AllocError;
 use std::fmt;
 
-/// Counts the events that it is given, and adds up what is in them, so that no part of the work can be left out.
+/// Counts the events that it is given, and adds up what is in them, so that no part of the work can
+/// be left out.
 #[derive(Drop)]
 pub struct Count {
     characters: u64,

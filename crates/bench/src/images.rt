@@ -20,8 +20,8 @@ enum Open {
     Query(GetTcapBuilder),
 }
 
-/// Reads each kitty image, sixel image and termcap query of a stream, counts them, and adds up how much they hold: the bytes of a
-/// payload, the pieces of a sixel's data, the names of a query.
+/// Reads each kitty image, sixel image and termcap query of a stream, counts them, and adds up how
+/// much they hold: the bytes of a payload, the pieces of a sixel's data, the names of a query.
 #[derive(Drop)]
 pub struct Images {
     alloc: Global,

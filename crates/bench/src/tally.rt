@@ -3,7 +3,8 @@
 use crate::counted::Counted;
 use escape_stream::Action;
 
-/// Counts the actions that it is given, and adds up their characters, so that no part of the work can be left out.
+/// Counts the actions that it is given, and adds up their characters, so that no part of the work
+/// can be left out.
 #[derive(Drop)]
 pub struct Tally {
     number: u64,

@@ -1,8 +1,10 @@
-//! What the framing and the codecs of terminal escape sequences build on, under one name: the values of `esc_values`, the
-//! control and escape sequences of `esc_sequences`, and the hyperlinks of `esc_links`.
+//! What the framing and the codecs of terminal escape sequences build on, under one name: the
+//! values of `esc_values`, the control and escape sequences of `esc_sequences`, and the hyperlinks
+//! of `esc_links`.
 //!
-//! A bold character is asked for by `ESC [ 1 m`: `CSI::parse(alloc, &[CsiParam::Integer(1)], false, b'm')?` has the one value
-//! `CSI::Sgr(Sgr::Intensity(Intensity::Bold))`, which prints as the same sequence.
+//! A bold character is asked for by `ESC [ 1 m`: `CSI::parse(alloc, &[CsiParam::Integer(1)], false,
+//! b'm')?` has the one value `CSI::Sgr(Sgr::Intensity(Intensity::Bold))`, which prints as the same
+//! sequence.
 #![tactic(auto)]
 
 pub mod laws;

@@ -10,9 +10,11 @@ use Rattle.esc_frame.specs.Classes.{class_of, AllOf, in_body, is_put, ends_csi}
 use Rattle.esc_device.specs.Texts.{as_text, markers_text, others_text}
 use Rattle.esc_device.specs.Writable.{is_datum, AreData, is_high_byte}
 
-pub all_pass : (p q : ℕ → Bool) → ((b : ℕ) → p b ≡ true → q b ≡ true) → (bs : List ℕ) → list_all p bs ≡ true → list_all q bs ≡ true
+pub all_pass : (p q : ℕ → Bool) → ((b : ℕ) → p b ≡ true → q b ≡ true) → (bs : List ℕ)
+    → list_all p bs ≡ true → list_all q bs ≡ true
 all_pass p q f [] h = refl
-all_pass p q f (b ∷ bs) h = let w = and_parts (p b) (list_all p bs) h in rw (f b w.0, all_pass p q f bs w.1) refl
+all_pass p q f (b ∷ bs) h = let w = and_parts (p b) (list_all p bs) h in
+    rw (f b w.0, all_pass p q f bs w.1) refl
 
 -- headers
 pub body_byte : (b : ℕ) → is_body_byte b ≡ true → in_body (class_of b) ≡ true
@@ -85,11 +87,13 @@ put_data (b ∷ d) h k =
     rw (put_datum b q.0 w.0, put_data d q.1 w.1) refl
 
 -- texts
-small_text : (t : ℕ → Bool) → ((b : ℕ) → t b ≡ true → b < 128) → (bs : List ℕ) → list_all t bs ≡ true → as_text bs ≡ bs
+small_text : (t : ℕ → Bool) → ((b : ℕ) → t b ≡ true → b < 128) → (bs : List ℕ)
+    → list_all t bs ≡ true → as_text bs ≡ bs
 small_text t small [] h = refl
 small_text t small (b ∷ bs) h =
     let q = and_parts (t b) (list_all t bs) h in
-    ap (λ x. x ++ as_text bs) (encode_ascii b (small b q.0)) ∙ ap (λ x. b ∷ x) (small_text t small bs q.1)
+    ap (λ x. x ++ as_text bs) (encode_ascii b (small b q.0))
+    ∙ ap (λ x. b ∷ x) (small_text t small bs q.1)
 
 pub data_text : (d : List ℕ) → AreData d → as_text d ≡ d
 data_text d h = small_text is_datum datum_small d h
@@ -105,4 +109,5 @@ all_others [] h = refl
 all_others (b ∷ bs) h =
     let q = and_parts (is_intermediate_byte b) (list_all is_intermediate_byte bs) h in
     rw (intermediate_no_marker b q.0)
-    (ap (λ x. x ++ others_text bs) (encode_ascii b (intermediate_small b q.0)) ∙ ap (λ x. b ∷ x) (all_others bs q.1))
+    (ap (λ x. x ++ others_text bs) (encode_ascii b (intermediate_small b q.0))
+    ∙ ap (λ x. b ∷ x) (all_others bs q.1))

@@ -24,29 +24,40 @@ abbrev pub NotFirst : (ℕ → Bool) → List ℕ → Type 0
 NotFirst p [] = Unit {0}
 NotFirst p (b ∷ x) = p b ≡ false
 
-take_prefix : (p : ℕ → Bool) (xs ys : List ℕ) → list_all p xs ≡ true → NotFirst p ys → take_while p (xs ++ ys) ≡ xs
+take_prefix : (p : ℕ → Bool) (xs ys : List ℕ) → list_all p xs ≡ true → NotFirst p ys
+    → take_while p (xs ++ ys) ≡ xs
 take_prefix p [] [] h k = refl
 take_prefix p [] (y ∷ ys) h k = take_while-cons p y ys ∙ rw k refl
 take_prefix p (x ∷ xs) ys h k =
-    let q = and_parts (p x) (list_all p xs) h in take_while-cons p x (xs ++ ys) ∙ rw q.0 (ap (λ z. x ∷ z) (take_prefix p xs ys q.1 k))
+    let q = and_parts (p x) (list_all p xs) h in
+    take_while-cons p x (xs ++ ys) ∙ rw q.0 (ap (λ z. x ∷ z) (take_prefix p xs ys q.1 k))
 
-drop_prefix : (p : ℕ → Bool) (xs ys : List ℕ) → list_all p xs ≡ true → NotFirst p ys → drop_while p (xs ++ ys) ≡ ys
+drop_prefix : (p : ℕ → Bool) (xs ys : List ℕ) → list_all p xs ≡ true → NotFirst p ys
+    → drop_while p (xs ++ ys) ≡ ys
 drop_prefix p xs ys h k =
     append_cancel_left xs (drop_while p (xs ++ ys)) ys
-    (ap (λ z. z ++ drop_while p (xs ++ ys)) (sym (take_prefix p xs ys h k)) ∙ take-append-drop (prefix_len p (xs ++ ys)) (xs ++ ys))
+    (ap (λ z. z ++ drop_while p (xs ++ ys)) (sym (take_prefix p xs ys h k))
+    ∙ take-append-drop (prefix_len p (xs ++ ys)) (xs ++ ys))
 
 -- a header of a marker, parameter bytes and intermediates
-not_parameter : (is : List ℕ) → list_all is_intermediate_byte is ≡ true → NotFirst is_dcs_parameter is
+not_parameter : (is : List ℕ) → list_all is_intermediate_byte is ≡ true
+    → NotFirst is_dcs_parameter is
 not_parameter [] h = tt
-not_parameter (i ∷ is) h = intermediate_no_parameter i (and_parts (is_intermediate_byte i) (list_all is_intermediate_byte is) h).0
+not_parameter (i ∷ is) h =
+    intermediate_no_parameter i
+    (and_parts (is_intermediate_byte i) (list_all is_intermediate_byte is) h).0
 
 pub not_marker : (is : List ℕ) → list_all is_intermediate_byte is ≡ true → NotFirst is_marker is
 not_marker [] h = tt
-not_marker (i ∷ is) h = intermediate_no_marker i (and_parts (is_intermediate_byte i) (list_all is_intermediate_byte is) h).0
+not_marker (i ∷ is) h =
+    intermediate_no_marker i (and_parts (is_intermediate_byte i) (list_all is_intermediate_byte is)
+    h).0
 
-not_marker_first : (x is : List ℕ) → list_all is_dcs_parameter x ≡ true → list_all is_intermediate_byte is ≡ true → NotFirst is_marker (x ++ is)
+not_marker_first : (x is : List ℕ) → list_all is_dcs_parameter x ≡ true
+    → list_all is_intermediate_byte is ≡ true → NotFirst is_marker (x ++ is)
 not_marker_first [] is h k = not_marker is k
-not_marker_first (b ∷ x) is h k = parameter_no_marker b (and_parts (is_dcs_parameter b) (list_all is_dcs_parameter x) h).0
+not_marker_first (b ∷ x) is h k =
+    parameter_no_marker b (and_parts (is_dcs_parameter b) (list_all is_dcs_parameter x) h).0
 
 pub behind_mark : (m r : List ℕ) → IsMark m → NotFirst is_marker r → behind_marker (m ++ r) ≡ r
 behind_mark [] [] h k = refl
@@ -66,17 +77,21 @@ pub record Formed (m x is : List ℕ) : Type 0 where
   pub params : dcs_params (m ++ (x ++ is)) ≡ params_of x
   pub intermediates : dcs_intermediates (m ++ (x ++ is)) ≡ m ++ is
 
-pub formed : (m x is : List ℕ) → IsMark m → list_all is_dcs_parameter x ≡ true → list_all is_intermediate_byte is ≡ true → Formed m x is
+pub formed : (m x is : List ℕ) → IsMark m → list_all is_dcs_parameter x ≡ true
+    → list_all is_intermediate_byte is ≡ true → Formed m x is
 unfolding is_dcs_header dcs_params dcs_intermediates
 formed m x is hm hx hi =
     let plain = not_marker_first x is hx hi in
     let rest = not_parameter is hi in
     record {
-      form = ap (λ y. list_all is_intermediate_byte (drop_while is_dcs_parameter y)) (behind_mark m (x ++ is) hm plain)
+      form = ap (λ y. list_all is_intermediate_byte (drop_while is_dcs_parameter y))
+          (behind_mark m (x ++ is) hm plain)
           ∙ ap (list_all is_intermediate_byte) (drop_prefix is_dcs_parameter x is hx rest) ∙ hi;
-      params = ap (λ y. params_of (take_while is_dcs_parameter y)) (behind_mark m (x ++ is) hm plain)
+      params = ap (λ y. params_of (take_while is_dcs_parameter y))
+          (behind_mark m (x ++ is) hm plain)
           ∙ ap params_of (take_prefix is_dcs_parameter x is hx rest);
-      intermediates = ap (λ y. y ++ drop_while is_dcs_parameter (behind_marker (m ++ (x ++ is)))) (mark_of m (x ++ is) hm plain)
+      intermediates = ap (λ y. y ++ drop_while is_dcs_parameter (behind_marker (m ++ (x ++ is))))
+          (mark_of m (x ++ is) hm plain)
           ∙ ap (λ y. m ++ drop_while is_dcs_parameter y) (behind_mark m (x ++ is) hm plain)
           ∙ ap (λ y. m ++ y) (drop_prefix is_dcs_parameter x is hx rest);
     }
@@ -92,11 +107,19 @@ more_text ps = flat_map (λ q. 0x3b ∷ signed_decimal q) ps
 
 more_pass : (ps : List ℤ) → AreNatural ps → list_all is_dcs_parameter (more_text ps) ≡ true
 more_pass [] h = refl
-more_pass (p ∷ ps) h = rw (list_all-append is_dcs_parameter (signed_decimal p) (more_text ps), number_passes p h.0, more_pass ps h.1) refl
+more_pass (p ∷ ps) h = rw (
+  list_all-append is_dcs_parameter (signed_decimal p) (more_text ps),
+  number_passes p h.0,
+  more_pass ps h.1,
+) refl
 
 pub params_pass : (ps : List ℤ) → AreNatural ps → list_all is_dcs_parameter (params_text ps) ≡ true
 params_pass [] h = refl
-params_pass (p ∷ ps) h = rw (list_all-append is_dcs_parameter (signed_decimal p) (more_text ps), number_passes p h.0, more_pass ps h.1) refl
+params_pass (p ∷ ps) h = rw (
+  list_all-append is_dcs_parameter (signed_decimal p) (more_text ps),
+  number_passes p h.0,
+  more_pass ps h.1,
+) refl
 
 are_parts : (ps : List ℤ) → AreNatural ps → AreClearParts (map signed_decimal ps)
 are_parts [] h = tt
@@ -122,18 +145,25 @@ numbers_back [] h = refl
 numbers_back (pos n ∷ ps) h =
     let piece = decimal_piece n (omega (arith, h.0)) in
     ap (λ k. pos (held k) ∷ map number_of_piece (map signed_decimal ps)) piece.value
-    ∙ ap (λ k. pos k ∷ map number_of_piece (map signed_decimal ps)) (held_small n h.0) ∙ ap (λ r. pos n ∷ r) (numbers_back ps h.1)
+    ∙ ap (λ k. pos k ∷ map number_of_piece (map signed_decimal ps)) (held_small n h.0)
+    ∙ ap (λ r. pos n ∷ r) (numbers_back ps h.1)
 numbers_back (negsuc n ∷ ps) h = absurd h.0
 
 params_joined : (ps : List ℤ) → params_text ps ≡ joined (map signed_decimal ps)
 params_joined [] = refl
-params_joined (p ∷ ps) = ap (λ x. signed_decimal p ++ x) (sym (flat_map-map (λ q. 0x3b ∷ q) signed_decimal ps))
+params_joined (p ∷ ps) =
+    ap (λ x. signed_decimal p ++ x) (sym (flat_map-map (λ q. 0x3b ∷ q) signed_decimal ps))
 
 params_back : (ps : List ℤ) → AreNatural ps → params_of (params_text ps) ≡ ps
 params_back ps h =
-    ap params_of (params_joined ps) ∙ ap (map number_of_piece) (parts_text (map signed_decimal ps) (are_parts ps h, not_one_empty ps h)).1 ∙ numbers_back ps h
+    ap params_of (params_joined ps)
+    ∙ ap (map number_of_piece) (parts_text (map signed_decimal ps) (
+      are_parts ps h,
+      not_one_empty ps h,
+    )).1 ∙ numbers_back ps h
 
-pub headers_read_back : (m : List ℕ) (ps : List ℤ) (is : List ℕ) → IsMark m → AreNatural ps → list_all is_intermediate_byte is ≡ true → ReadsBack m ps is
+pub headers_read_back : (m : List ℕ) (ps : List ℤ) (is : List ℕ) → IsMark m → AreNatural ps
+    → list_all is_intermediate_byte is ≡ true → ReadsBack m ps is
 headers_read_back m ps is hm hp hi =
     let q = formed m (params_text ps) is hm (params_pass ps hp) hi in
     (q.form, q.params ∙ params_back ps hp, q.intermediates)

@@ -6,7 +6,8 @@ use Rattle.esc_device.specs.declared.kind.StringKind.TheVariants as kind
 -- by the intermediates, where the final byte is `q`: none, `+`, `$`, others
 abbrev pub query_kind : List ℕ → StringKind
 query_kind [] = kind.Sixel
-query_kind (i ∷ []) = if i == 0x2b then kind.Termcap else if i == 0x24 then kind.Short else kind.Other
+query_kind (i ∷ []) =
+    if i == 0x2b then kind.Termcap else if i == 0x24 then kind.Short else kind.Other
 query_kind (i ∷ j ∷ is) = kind.Other
 
 -- by the final byte, the intermediates, and whether more of these were left out

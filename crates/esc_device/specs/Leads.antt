@@ -9,4 +9,5 @@ LeadsShort ps is f d b = b.short ≡ short_of ps is f d
 
 -- a byte pushed to p makes q of it
 abbrev pub Pushes : {A : Type 0} → ShortBuilder A → ℕ → ShortBuilder A → Type 0
-Pushes p b q = (ps : List ℤ) (is : List ℕ) (f : ℕ) (d : List ℕ) → LeadsShort ps is f d p → LeadsShort ps is f (d ++ b ∷ []) q
+Pushes p b q = (ps : List ℤ) (is : List ℕ) (f : ℕ) (d : List ℕ) → LeadsShort ps is f d p
+    → LeadsShort ps is f (d ++ b ∷ []) q

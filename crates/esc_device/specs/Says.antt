@@ -26,7 +26,8 @@ header m ps is = m ++ (params_text ps ++ is)
 
 -- it is of its form, and has these parameters and intermediates
 abbrev pub ReadsBack : List ℕ → List ℤ → List ℕ → Type 0
-ReadsBack m ps is = (is_dcs_header (header m ps is) ≡ true) × (dcs_params (header m ps is) ≡ ps) × (dcs_intermediates (header m ps is) ≡ m ++ is)
+ReadsBack m ps is = (is_dcs_header (header m ps is) ≡ true) × (dcs_params (header m ps is) ≡ ps)
+    × (dcs_intermediates (header m ps is) ≡ m ++ is)
 
 -- the event of a mode's header
 abbrev pub hook_of : {A : Type 0} → EnterDeviceControlMode A → Event
@@ -36,18 +37,24 @@ hook_of e = DcsHook e.byte e.params e.intermediates e.ignored_extra_intermediate
 abbrev pub string_events : Event → List ℕ → List Event
 string_events hook d = ((hook ∷ map DcsPut d) ++ DcsUnhook ∷ []) ++ EscDispatch [] false 0x5c ∷ []
 
--- a mode's header, this data and the string terminator say the header's event, the data byte by byte, and the end
+-- a mode's header, this data and the string terminator say the header's event, the data byte by
+-- byte, and the end
 abbrev pub EnterSays : {A : Type 0} → EnterDeviceControlMode A → List ℕ → Type 0
 EnterSays e d = Says ((enter_text e ++ as_text d) ++ 0x1b ∷ 0x5c ∷ []) (string_events (hook_of e) d)
 
 abbrev pub ShortSays : {A : Type 0} → Short A → Type 0
-ShortSays s = Says (short_text s) (string_events (DcsHook s.byte s.params s.intermediates false) s.content)
+ShortSays s =
+    Says (short_text s) (string_events (DcsHook s.byte s.params s.intermediates false) s.content)
 
--- an image and the string terminator say a header of parameters alone with the final byte `q`, and data, which mean the image
+-- an image and the string terminator say a header of parameters alone with the final byte `q`, and
+-- data, which mean the image
 abbrev pub SixelSays : {A : Type 0} → Sixel A → Type 0
-SixelSays {A = A} s = (ps : List ℤ) × (d : List ℕ) × Says (sixel_text s ++ 0x1b ∷ 0x5c ∷ []) (string_events (DcsHook 0x71 ps [] false) d)
+SixelSays {A = A} s = (ps : List ℤ) × (d : List ℕ)
+    × Says (sixel_text s ++ 0x1b ∷ 0x5c ∷ []) (string_events (DcsHook 0x71 ps [] false) d)
     × (sixel_of {A = A} ps (items d) ≡ s)
 
 -- a query and the string terminator say a header of `+` and `q`, and data, which mean the names
 abbrev pub QuerySays : List (List ℕ) → Type 0
-QuerySays ns = Says (query_text ns ++ 0x1b ∷ 0x5c ∷ []) (string_events (DcsHook 0x71 [] (0x2b ∷ []) false) (names_text ns)) × (names_of (names_text ns) ≡ ns)
+QuerySays ns =
+    Says (query_text ns ++ 0x1b ∷ 0x5c ∷ []) (string_events (DcsHook 0x71 [] (0x2b ∷ []) false)
+    (names_text ns)) × (names_of (names_text ns) ≡ ns)

@@ -27,11 +27,13 @@ params_text (p ∷ ps) = signed_decimal p ++ flat_map (λ q. 0x3b ∷ signed_dec
 
 -- `ESC P`, markers, parameters, other intermediates, the final byte
 abbrev pub enter_text : {A : Type 0} → EnterDeviceControlMode A → List ℕ
-enter_text e = 0x1b ∷ codes "P" ++ markers_text e.intermediates ++ params_text e.params ++ others_text e.intermediates ++ encode_utf8 e.byte
+enter_text e = 0x1b ∷ codes "P" ++ markers_text e.intermediates ++ params_text e.params
+    ++ others_text e.intermediates ++ encode_utf8 e.byte
 
 -- `ESC P`, parameters, intermediates, the final byte, the data, `ESC \`
 abbrev pub short_text : {A : Type 0} → Short A → List ℕ
-short_text s = 0x1b ∷ codes "P" ++ params_text s.params ++ as_text s.intermediates ++ encode_utf8 s.byte ++ as_text s.content ++ 0x1b ∷ codes "\\"
+short_text s = 0x1b ∷ codes "P" ++ params_text s.params ++ as_text s.intermediates
+    ++ encode_utf8 s.byte ++ as_text s.content ++ 0x1b ∷ codes "\\"
 
 abbrev pub mode_text : {A : Type 0} → DeviceControlMode A → List ℕ
 mode_text (Enter e) = enter_text e

@@ -21,15 +21,17 @@ AreData d = list_all is_datum d ≡ true
 abbrev pub AreIntermediates : List ℕ → Type 0
 AreIntermediates is = (list_all is_intermediate_byte (behind_marker is) ≡ true) × (length is ≤ 2)
 
--- A header of its form, with parameters that are not negative and all its intermediates, and that opens no sixel image, termcap
--- query or short control.
+-- A header of its form, with parameters that are not negative and all its intermediates, and that
+-- opens no sixel image, termcap query or short control.
 abbrev pub IsWritableEnter : {A : Type 0} → EnterDeviceControlMode A → Type 0
-IsWritableEnter e = (is_final e.byte ≡ true) × AreIntermediates e.intermediates × AreNatural e.params × (e.ignored_extra_intermediates ≡ false)
+IsWritableEnter e = (is_final e.byte ≡ true) × AreIntermediates e.intermediates
+    × AreNatural e.params × (e.ignored_extra_intermediates ≡ false)
     × (kind_of e.byte e.intermediates false ≡ kind.Other)
 
 -- `$` and `q`, parameters that are not negative, and data that a text can write
 abbrev pub IsWritableShort : {A : Type 0} → Short A → Type 0
-IsWritableShort s = (s.byte ≡ 0x71) × (s.intermediates ≡ 0x24 ∷ []) × AreNatural s.params × AreData s.content
+IsWritableShort s = (s.byte ≡ 0x71) × (s.intermediates ≡ 0x24 ∷ []) × AreNatural s.params
+    × AreData s.content
 
 abbrev pub IsWritable : {A : Type 0} → DeviceControlMode A → Type 0
 IsWritable (Enter e) = IsWritableEnter e

@@ -16,8 +16,8 @@ pub struct ShortBuilder<A: Allocator = Global> {
 }
 
 impl<A: Allocator + Copy> ShortBuilder<A> {
-    /// A builder of a control with copies of these parameters and intermediates and with this final byte, before any data. The
-    /// error is that memory was refused.
+    /// A builder of a control with copies of these parameters and intermediates and with this final
+    /// byte, before any data. The error is that memory was refused.
     #[tactic(auto, unfolding(crate::specs::Leads::LeadsShort))]
     pub fn new(
         alloc: A,
@@ -40,10 +40,12 @@ impl<A: Allocator + Copy> ShortBuilder<A> {
 }
 
 impl<A: Allocator> ShortBuilder<A> {
-    /// One more byte of the data. The error is that memory was refused, and the builder stays as it was.
+    /// One more byte of the data. The error is that memory was refused, and the builder stays as it
+    /// was.
     #[tactic(auto, unfolding(crate::specs::Leads::LeadsShort))]
     pub fn push(&mut self, byte: u8) -> Result<(), AllocError>
-        ensures ok { (ps : List ℤ) (is : List ℕ) (f : ℕ) (d : List ℕ) → LeadsShort ps is f d self.old
+        ensures ok { (ps : List ℤ) (is : List ℕ) (f : ℕ) (d : List ℕ)
+            → LeadsShort ps is f d self.old
             → OnOk result (LeadsShort ps is f (d ++ byte ∷ []) self.new) }
         ensures err { OnErr result (self.new ≡ self.old) }
         ensures refused { OnErr result (Refused A) }
@@ -51,14 +53,17 @@ impl<A: Allocator> ShortBuilder<A> {
         self.short.content.push(byte)
     }
 
-    /// These bytes of the data, as `push` of each takes them. The error is that memory was refused; the builder has then taken
-    /// those before the byte that needed it, and no more.
+    /// These bytes of the data, as `push` of each takes them. The error is that memory was refused;
+    /// the builder has then taken those before the byte that needed it, and no more.
     pub fn push_run(&mut self, bytes: &[u8]) -> Result<(), AllocError>
         ensures each { OnOk result (FoldsTo Pushes self.old bytes.now self.new) }
-        ensures ok { (ps : List ℤ) (is : List ℕ) (f : ℕ) (d : List ℕ) → LeadsShort ps is f d self.old
+        ensures ok { (ps : List ℤ) (is : List ℕ) (f : ℕ) (d : List ℕ)
+            → LeadsShort ps is f d self.old
             → OnOk result (LeadsShort ps is f (d ++ bytes.now) self.new) }
-        ensures err { (ps : List ℤ) (is : List ℕ) (f : ℕ) (d : List ℕ) → LeadsShort ps is f d self.old
-            → OnErr result ((n : ℕ) × (n < length bytes.now) × LeadsShort ps is f (d ++ take n bytes.now) self.new) }
+        ensures err { (ps : List ℤ) (is : List ℕ) (f : ℕ) (d : List ℕ)
+            → LeadsShort ps is f d self.old
+            → OnErr result ((n : ℕ) × (n < length bytes.now)
+            × LeadsShort ps is f (d ++ take n bytes.now) self.new) }
         ensures refused { OnErr result (Refused A) }
     {
         for byte in bytes {
@@ -70,7 +75,8 @@ impl<A: Allocator> ShortBuilder<A> {
     /// The control of the header and all bytes. Takes no memory.
     #[tactic(auto, unfolding(crate::specs::Leads::LeadsShort))]
     pub fn finish(self) -> ShortDeviceControl<A>
-        ensures { (ps : List ℤ) (is : List ℕ) (f : ℕ) (d : List ℕ) → LeadsShort ps is f d self → result ≡ short_of ps is f d }
+        ensures { (ps : List ℤ) (is : List ℕ) (f : ℕ) (d : List ℕ) → LeadsShort ps is f d self
+            → result ≡ short_of ps is f d }
     {
         let ShortBuilder { short } = self;
         short

@@ -20,15 +20,16 @@ pub struct EnterDeviceControlMode<A: Allocator = Global> {
     pub byte: u8,
     /// The parameters. One that the header leaves out is 0.
     pub params: Items<i64, A>,
-    /// The intermediates: one from 3C to 3F, where the header begins with it, and those from 20 to 2F (hexadecimal).
+    /// The intermediates: one from 3C to 3F, where the header begins with it, and those from 20 to
+    /// 2F (hexadecimal).
     pub intermediates: Items<u8, A>,
     /// Whether the header has more than two intermediates, of which only the first two are kept.
     pub ignored_extra_intermediates: bool,
 }
 
 impl<A: Allocator + Copy> EnterDeviceControlMode<A> {
-    /// The mode of a header with this final byte and copies of these parameters and intermediates. The error is that memory was
-    /// refused.
+    /// The mode of a header with this final byte and copies of these parameters and intermediates.
+    /// The error is that memory was refused.
     pub fn from_header(
         alloc: A,
         byte: u8,
@@ -49,8 +50,8 @@ impl<A: Allocator + Copy> EnterDeviceControlMode<A> {
     }
 }
 
-/// Writes `ESC P`, the intermediates from 3C to 3F, the parameters with `;` between them, the other intermediates and the final
-/// byte. A byte is written as the character of the same number.
+/// Writes `ESC P`, the intermediates from 3C to 3F, the parameters with `;` between them, the other
+/// intermediates and the final byte. A byte is written as the character of the same number.
 ///
 /// Takes no memory, and errs only where the formatter's writer errs.
 impl<A: Allocator> Display for EnterDeviceControlMode<A> {

@@ -16,9 +16,10 @@ pub enum StringKind {
 }
 
 impl StringKind {
-    /// What a header with this final byte and these intermediates opens: with `q` a sixel image where it has no intermediates, a
-    /// termcap query where `+` is the only one, and a short control where `$` is. Every other header, and each of which
-    /// intermediates were left out, enters a mode. Takes no memory.
+    /// What a header with this final byte and these intermediates opens: with `q` a sixel image
+    /// where it has no intermediates, a termcap query where `+` is the only one, and a short
+    /// control where `$` is. Every other header, and each of which intermediates were left out,
+    /// enters a mode. Takes no memory.
     pub fn of_header(
         byte: u8,
         intermediates: &[u8],

@@ -10,7 +10,8 @@ use std::alloc::{Allocator, Global};
 use std::fmt;
 use std::fmt::{Debug, Display};
 
-/// A short device control, or a step of a device control string that enters a mode: its header, each byte of its data, and its end.
+/// A short device control, or a step of a device control string that enters a mode: its header,
+/// each byte of its data, and its end.
 #[derive(Drop)]
 #[derive_where(PartialEq, Eq)]
 pub enum DeviceControlMode<A: Allocator = Global> {
@@ -24,7 +25,8 @@ pub enum DeviceControlMode<A: Allocator = Global> {
     ShortDeviceControl(Boxed<ShortDeviceControl<A>, A>),
 }
 
-/// Writes the header, the short control with its string terminator, or the character of the byte's number; of `Exit` nothing.
+/// Writes the header, the short control with its string terminator, or the character of the byte's
+/// number; of `Exit` nothing.
 ///
 /// Takes no memory, and errs only where the formatter's writer errs.
 impl<A: Allocator> Display for DeviceControlMode<A> {

@@ -25,7 +25,8 @@ impl Display for Numbers<'_> {
 
 // With `;` before each.
 fn write_more<W: fmt::Write>(rest: &[i64], f: &mut fmt::Formatter<W>) -> fmt::Result
-    ensures { DisplaysOnOk W.write_str_gives f.old result (Some (flat_map (λ n. 0x3b ∷ signed_decimal n) rest.now)) f.new }
+    ensures { DisplaysOnOk W.write_str_gives f.old result
+        (Some (flat_map (λ n. 0x3b ∷ signed_decimal n) rest.now)) f.new }
 {
     for number in rest {
         write!(f, ";{number}")?;

@@ -10,7 +10,8 @@ use std::alloc::{Allocator, Global};
 use std::fmt;
 use std::fmt::{Debug, Display};
 
-/// A device control string that is given whole, since it is short: a request for a setting or a report of one.
+/// A device control string that is given whole, since it is short: a request for a setting or a
+/// report of one.
 #[derive(Drop)]
 #[derive_where(PartialEq, Eq)]
 pub struct ShortDeviceControl<A: Allocator = Global> {
@@ -24,8 +25,8 @@ pub struct ShortDeviceControl<A: Allocator = Global> {
     pub content: Items<u8, A>,
 }
 
-/// Writes `ESC P`, the parameters with `;` between them, the intermediates, the final byte, the data and the string terminator
-/// `ESC \`. A byte is written as the character of the same number.
+/// Writes `ESC P`, the parameters with `;` between them, the intermediates, the final byte, the
+/// data and the string terminator `ESC \`. A byte is written as the character of the same number.
 ///
 /// Takes no memory, and errs only where the formatter's writer errs.
 impl<A: Allocator> Display for ShortDeviceControl<A> {
@@ -40,8 +41,8 @@ impl<A: Allocator> Display for ShortDeviceControl<A> {
     }
 }
 
-/// Writes the fields in one line, the data as `data`, and a byte as its character and its hexadecimal number. The bracket before
-/// the data is not closed.
+/// Writes the fields in one line, the data as `data`, and a byte as its character and its
+/// hexadecimal number. The bracket before the data is not closed.
 impl<A: Allocator> Debug for ShortDeviceControl<A> {
     fn fmt<W: fmt::Write>(&self, f: &mut fmt::Formatter<W>) -> fmt::Result {
         let params = self.params.as_slice();

@@ -17,5 +17,6 @@ entry_lists = lists entry.ghosts.eq entries
 pub params : IsSame (pointwise text_pair)
 params = lists text_pair text_pairs
 
-pub hyperlinks : (T : RattleType) (G : Ghosts T.Denot) (x y : Dict) → IsSame (hyperlink.ghosts T G x y).eq
+pub hyperlinks : (T : RattleType) (G : Ghosts T.Denot) (x y : Dict)
+    → IsSame (hyperlink.ghosts T G x y).eq
 hyperlinks T G x y a b = search (params, texts, rules)

@@ -28,7 +28,8 @@ sgrs a b = search rules
 
 -- other control sequences, by their entries, whether there are more, and their final bytes
 others : (ps qs : List CsiParam) (s t : Bool) (m n : ℕ)
-    → IsTrue (pointwise entry.ghosts.eq ps qs && (beq s t && nat_eq m n)) ↔ (unspecified ps s m ≡ unspecified qs t n)
+    → IsTrue (pointwise entry.ghosts.eq ps qs && (beq s t && nat_eq m n))
+    ↔ (unspecified ps s m ≡ unspecified qs t n)
 others ps qs s t m n =
     let parts = both (entry_lists ps qs) (both (bools s t) (numbers m n)) in (
       λ h.
@@ -44,8 +45,14 @@ others ps qs s t m n =
           parts.1 (first, (second, third)),
     )
 
-pub csis : (T : RattleType) (G : Ghosts T.Denot) (x y : Dict) (a b : CSI T.Denot) → IsTrue ((csi_eq.ghosts T G x y).eq a b) ↔ (csi_value a ≡ csi_value b)
-csis T G x y (csi.Sgr a) (csi.Sgr b) = (λ h. ap sgr ((sgrs a b).0 h), λ e. let q : a ≡ b = cc in (sgrs a b).1 q)
+pub csis : (T : RattleType) (G : Ghosts T.Denot) (x y : Dict) (a b : CSI T.Denot)
+    → IsTrue ((csi_eq.ghosts T G x y).eq a b) ↔ (csi_value a ≡ csi_value b)
+csis T G x y (csi.Sgr a) (csi.Sgr b) = (
+  λ h. ap sgr ((sgrs a b).0 h),
+  λ e. let q : a ≡ b = cc in
+      (sgrs a b).1 q,
+)
 csis T G x y (csi.Sgr a) (csi.Unspecified b) = (λ h. never h, λ e. absurd cc)
 csis T G x y (csi.Unspecified a) (csi.Sgr b) = (λ h. never h, λ e. absurd cc)
-csis T G x y (csi.Unspecified a) (csi.Unspecified b) = others a.params b.params a.parameters_truncated b.parameters_truncated a.control b.control
+csis T G x y (csi.Unspecified a) (csi.Unspecified b) =
+    others a.params b.params a.parameters_truncated b.parameters_truncated a.control b.control

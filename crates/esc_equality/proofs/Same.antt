@@ -36,9 +36,14 @@ pub options : {X : Type 0} (E : X → X → Bool) → IsSame E → IsSame (optio
 options E same None None = (λ h. refl, λ e. refl)
 options E same None (Some y) = (λ h. never h, λ e. absurd cc)
 options E same (Some x) None = (λ h. never h, λ e. absurd cc)
-options E same (Some x) (Some y) = (λ h. ap Some ((same x y).0 h), λ e. let q : x ≡ y = cc in (same x y).1 q)
+options E same (Some x) (Some y) = (
+  λ h. ap Some ((same x y).0 h),
+  λ e. let q : x ≡ y = cc in
+      (same x y).1 q,
+)
 
-lists_true : {X : Type 0} (E : X → X → Bool) → IsSame E → (xs ys : List X) → pointwise E xs ys ≡ true → xs ≡ ys
+lists_true : {X : Type 0} (E : X → X → Bool) → IsSame E → (xs ys : List X)
+    → pointwise E xs ys ≡ true → xs ≡ ys
 lists_true E same [] [] h = refl
 lists_true E same [] (y ∷ ys) h = cc
 lists_true E same (x ∷ xs) [] h = cc
@@ -65,5 +70,8 @@ text_pair p q = pointwise nat_eq p.0 q.0 && pointwise nat_eq p.1 q.1
 
 pub text_pairs : IsSame text_pair
 text_pairs (a, b) (c, d) =
-    let parts = both (texts a c) (texts b d) in
-    (λ h. let e = parts.0 h in let first = e.0 in let second = e.1 in cc, λ e. parts.1 (ap (λ p. p.0) e, ap (λ p. p.1) e))
+    let parts = both (texts a c) (texts b d) in (
+      λ h. let e = parts.0 h in let first = e.0 in let second = e.1 in
+          cc,
+      λ e. parts.1 (ap (λ p. p.0) e, ap (λ p. p.1) e),
+    )

@@ -19,11 +19,15 @@ sizes = options nat_eq numbers
 grids : IsSame (option_eq int_eq)
 grids = options int_eq integers
 
-pub sixels : (T : RattleType) (G : Ghosts T.Denot) (x y : Dict) → IsSame (sixel_eq.ghosts T G x y).eq
+pub sixels : (T : RattleType) (G : Ghosts T.Denot) (x y : Dict)
+    → IsSame (sixel_eq.ghosts T G x y).eq
 sixels T G x y a b =
-    let parts = both (integers a.pan b.pan) (both (integers a.pad b.pad) (both (sizes a.pixel_width b.pixel_width)
-    (both (sizes a.pixel_height b.pixel_height) (both (bools a.background_is_transparent b.background_is_transparent)
-    (both (grids a.horizontal_grid_size b.horizontal_grid_size) (lists data_eq.ghosts.eq pieces a.content b.content)))))) in (
+    let parts = both (integers a.pan b.pan)
+    (both (integers a.pad b.pad) (both (sizes a.pixel_width b.pixel_width)
+    (both (sizes a.pixel_height b.pixel_height)
+    (both (bools a.background_is_transparent b.background_is_transparent)
+    (both (grids a.horizontal_grid_size b.horizontal_grid_size)
+    (lists data_eq.ghosts.eq pieces a.content b.content)))))) in (
       λ h.
           let e = parts.0 h in
           λ i. record {

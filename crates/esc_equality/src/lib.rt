@@ -1,7 +1,9 @@
-//! Equality is equality of values: `==` of each public type that has it is true exactly where the two are the same. Of the errors of
-//! `encode` and `normalise` their own crates say it, `esc_write` and `esc_normal`.
+//! Equality is equality of values: `==` of each public type that has it is true exactly where the
+//! two are the same. Of the errors of `encode` and `normalise` their own crates say it, `esc_write`
+//! and `esc_normal`.
 //!
-//! Most of these types derive `==`, and a derive has no clause of its own; here each is the body of a function that has one.
+//! Most of these types derive `==`, and a derive has no clause of its own; here each is the body of
+//! a function that has one.
 #![tactic(auto)]
 
 pub mod actions;

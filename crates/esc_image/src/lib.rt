@@ -1,4 +1,5 @@
-//! Images and queries: kitty images, sixel images and termcap queries, each of a crate of its own, under one name.
+//! Images and queries: kitty images, sixel images and termcap queries, each of a crate of its own,
+//! under one name.
 #![tactic(auto)]
 
 /// Kitty images: application program commands of kitty's graphics protocol.

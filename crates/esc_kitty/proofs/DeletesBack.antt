@@ -18,20 +18,26 @@ use Rattle.esc_kitty.proofs.KeysRead.{is_entry, is_value, entries_image, find, w
 use Rattle.esc_kitty.proofs.ValuesWritten.{number_value, order_value, verbosity_value}
 use Rattle.esc_kitty.proofs.Sending.{tells, acts}
 
-letter_value : (d : Bool) (small capital : List ℕ) → is_value (Some small) ≡ true → is_value (Some capital) ≡ true
+letter_value : (d : Bool) (small capital : List ℕ) → is_value (Some small) ≡ true
+    → is_value (Some capital) ≡ true
     → is_value (Some (letter d small capital)) ≡ true
 letter_value true small capital h k = k
 letter_value false small capital h k = h
 
-named_entries : (d : List ℕ) (n i p : Option ℕ) (q : KittyImageVerbosity) → is_value (Some d) ≡ true → IsNumber n → IsNumber i → IsNumber p
+named_entries : (d : List ℕ) (n i p : Option ℕ) (q : KittyImageVerbosity) → is_value (Some d) ≡ true
+    → IsNumber n → IsNumber i → IsNumber p
     → list_all is_entry (named_keys d n i p q) ≡ true
-named_entries d n i p q h hn hi hp = rw (h, number_value n hn, number_value i hi, number_value p hp, verbosity_value q) refl
+named_entries d n i p q h hn hi hp =
+    rw (h, number_value n hn, number_value i hi, number_value p hp, verbosity_value q) refl
 
-placed_entries : (d : List ℕ) (x y : Option ℕ) (z : Option ℤ) (q : KittyImageVerbosity) → is_value (Some d) ≡ true → IsNumber x → IsNumber y → IsOrder z
+placed_entries : (d : List ℕ) (x y : Option ℕ) (z : Option ℤ) (q : KittyImageVerbosity)
+    → is_value (Some d) ≡ true → IsNumber x → IsNumber y → IsOrder z
     → list_all is_entry (placed_keys d x y z q) ≡ true
-placed_entries d x y z q h hx hy hz = rw (h, verbosity_value q, number_value x hx, number_value y hy, order_value z hz) refl
+placed_entries d x y z q h hx hy hz =
+    rw (h, verbosity_value q, number_value x hx, number_value y hy, order_value z hz) refl
 
-delete_entries : (w : KittyImageDelete) (q : KittyImageVerbosity) → IsWritableDelete w → list_all is_entry (delete_keys w q) ≡ true
+delete_entries : (w : KittyImageDelete) (q : KittyImageVerbosity) → IsWritableDelete w
+    → list_all is_entry (delete_keys w q) ≡ true
 delete_entries (All d) q h =
     placed_entries (letter d (codes "a") (codes "A")) None None None q
     (letter_value d (codes "a") (codes "A") refl refl) tt tt tt
@@ -66,7 +72,8 @@ delete_entries (ByImageIdRange x y d) q h =
     placed_entries (letter d (codes "r") (codes "R")) (Some x) (Some y) None q
     (letter_value d (codes "r") (codes "R") refl refl) h.0 h.1 tt
 
-delete_some : (w : KittyImageDelete) (q : KittyImageVerbosity) → is_bare (written (delete_keys w q)) ≡ false
+delete_some : (w : KittyImageDelete) (q : KittyImageVerbosity)
+    → is_bare (written (delete_keys w q)) ≡ false
 delete_some (All d) q = refl
 delete_some (ByImageId i p d) q = refl
 delete_some (ByImageNumber n p d) q = refl
@@ -79,7 +86,8 @@ delete_some (DeleteRow y d) q = refl
 delete_some (DeleteZ z d) q = refl
 delete_some (ByImageIdRange x y d) q = refl
 
-delete_said : (w : KittyImageDelete) (q : KittyImageVerbosity) → find (codes "q") (delete_keys w q) ≡ verbosity_word q
+delete_said : (w : KittyImageDelete) (q : KittyImageVerbosity)
+    → find (codes "q") (delete_keys w q) ≡ verbosity_word q
 delete_said (All d) q = refl
 delete_said (ByImageId i p d) q = refl
 delete_said (ByImageNumber n p d) q = refl
@@ -92,7 +100,8 @@ delete_said (DeleteRow y d) q = refl
 delete_said (DeleteZ z d) q = refl
 delete_said (ByImageIdRange x y d) q = refl
 
-delete_action : (w : KittyImageDelete) (q : KittyImageVerbosity) → find (codes "a") (delete_keys w q) ≡ Some (codes "d")
+delete_action : (w : KittyImageDelete) (q : KittyImageVerbosity)
+    → find (codes "a") (delete_keys w q) ≡ Some (codes "d")
 delete_action (All d) q = refl
 delete_action (ByImageId i p d) q = refl
 delete_action (ByImageNumber n p d) q = refl
@@ -105,7 +114,8 @@ delete_action (DeleteRow y d) q = refl
 delete_action (DeleteZ z d) q = refl
 delete_action (ByImageIdRange x y d) q = refl
 
-delete_back : (w : KittyImageDelete) (q : KittyImageVerbosity) → IsWritableDelete w → delete_of (λ k. find k (delete_keys w q)) ≡ Some w
+delete_back : (w : KittyImageDelete) (q : KittyImageVerbosity) → IsWritableDelete w
+    → delete_of (λ k. find k (delete_keys w q)) ≡ Some w
 delete_back (All true) q h = refl
 delete_back (All false) q h = refl
 delete_back (ByImageId i p true) q h = rw (one_back i h.0, number_is p h.1) refl
@@ -118,8 +128,10 @@ delete_back (AnimationFrames true) q h = refl
 delete_back (AnimationFrames false) q h = refl
 delete_back (DeleteAt x y true) q h = rw (one_back x h.0, one_back y h.1) refl
 delete_back (DeleteAt x y false) q h = rw (one_back x h.0, one_back y h.1) refl
-delete_back (DeleteAtZ x y z true) q h = rw (one_back x h.0, one_back y h.1, signed_back_32 z h.2) refl
-delete_back (DeleteAtZ x y z false) q h = rw (one_back x h.0, one_back y h.1, signed_back_32 z h.2) refl
+delete_back (DeleteAtZ x y z true) q h =
+    rw (one_back x h.0, one_back y h.1, signed_back_32 z h.2) refl
+delete_back (DeleteAtZ x y z false) q h =
+    rw (one_back x h.0, one_back y h.1, signed_back_32 z h.2) refl
 delete_back (DeleteColumn x true) q h = rw (one_back x h) refl
 delete_back (DeleteColumn x false) q h = rw (one_back x h) refl
 delete_back (DeleteRow y true) q h = rw (one_back y h) refl
@@ -129,14 +141,18 @@ delete_back (DeleteZ z false) q h = rw (signed_back_32 z h) refl
 delete_back (ByImageIdRange x y true) q h = rw (one_back x h.0, one_back y h.1) refl
 delete_back (ByImageIdRange x y false) q h = rw (one_back x h.0, one_back y h.1) refl
 
-deleted_is : {A : Type 0} (v : Values) (w : KittyImageDelete) (q : KittyImageVerbosity) → delete_of v ≡ Some w
+deleted_is : {A : Type 0} (v : Values) (w : KittyImageDelete) (q : KittyImageVerbosity)
+    → delete_of v ≡ Some w
     → image_by {A = A} (codes "d") q v [] ≡ Some (image.Delete w q)
 deleted_is v w q is = rw is refl
 
-pub deleted_back : {A : Type 0} (w : KittyImageDelete) (q : KittyImageVerbosity) → IsWritableDelete w → ReadsBack {A = A} (image.Delete w q)
+pub deleted_back : {A : Type 0} (w : KittyImageDelete) (q : KittyImageVerbosity)
+    → IsWritableDelete w → ReadsBack {A = A} (image.Delete w q)
 deleted_back w q h =
     let keys = delete_keys w q in
     let v : Values = λ k. find k keys in
-    tells (image.Delete w q) (written keys) (delete_some w q) (written_pairs keys (delete_entries w q h))
-    (entries_image keys [] ∙ acts v [] q (codes "d") (delete_said w q) (ap (λ o. unwrap_or o (codes "t")) (delete_action w q))
+    tells (image.Delete w q) (written keys) (delete_some w q)
+    (written_pairs keys (delete_entries w q h))
+    (entries_image keys [] ∙ acts v [] q (codes "d") (delete_said w q)
+    (ap (λ o. unwrap_or o (codes "t")) (delete_action w q))
     ∙ deleted_is v w q (delete_back w q h))

@@ -52,7 +52,8 @@ pub compression_back : (c : KittyImageCompression) → compression_of (compressi
 compression_back compression.None = refl
 compression_back compression.Deflate = refl
 
-pub composition_back : (m : KittyFrameCompositionMode) → composition_of (and_then (composition_word m) (signed_of 32)) ≡ Some m
+pub composition_back : (m : KittyFrameCompositionMode)
+    → composition_of (and_then (composition_word m) (signed_of 32)) ≡ Some m
 composition_back AlphaBlending = refl
 composition_back Overwrite = refl
 
@@ -68,13 +69,15 @@ pub order_is : (z : Option ℤ) → IsOrder z → and_then (signed_text z) (sign
 order_is None h = refl
 order_is (Some z) h = signed_back_32 z h
 
-pub frame_number_is : (n : Option ℕ) → IsFrameNumber n → not_zero (and_then (number_text n) (number_of 32)) ≡ n
+pub frame_number_is : (n : Option ℕ) → IsFrameNumber n
+    → not_zero (and_then (number_text n) (number_of 32)) ≡ n
 frame_number_is None h = refl
 frame_number_is (Some n) h = rw (one_back n h.0, ne_eqb n 0 h.1) refl
 
 -- what an image is made of
 pub content_is : {A : Type 0} (c : KittyImageData A) → IsWritableContent c
-    → content_by {A = A} (unwrap_or (medium_word c) (codes "d")) (and_then (number_text (size_in c)) (number_of 32))
+    → content_by {A = A} (unwrap_or (medium_word c) (codes "d"))
+    (and_then (number_text (size_in c)) (number_of 32))
     (and_then (number_text (offset_in c)) (number_of 32)) (content_text c) ≡ Some c
 content_is (Direct t) h = rw (is_utf8-from_IsUtf8 t (clear_utf8 t (plain_clear t h))) refl
 content_is (DirectBin b) h = absurd h
@@ -84,10 +87,13 @@ content_is (SharedMem t s o) h = rw (base64_back t h.0, number_is s h.1, number_
 
 -- the structs
 pub transmit_back : {A : Type 0} (v : Values) (t : KittyImageTransmit A) → IsWritableTransmit t
-    → v (codes "f") ≡ format_word t.format → v (codes "o") ≡ compression_word t.compression → v (codes "m") ≡ flag_word t.more_data_follows
-    → v (codes "s") ≡ number_text t.width → v (codes "v") ≡ number_text t.height → v (codes "i") ≡ number_text t.image_id
+    → v (codes "f") ≡ format_word t.format → v (codes "o") ≡ compression_word t.compression
+    → v (codes "m") ≡ flag_word t.more_data_follows
+    → v (codes "s") ≡ number_text t.width → v (codes "v") ≡ number_text t.height
+    → v (codes "i") ≡ number_text t.image_id
     → v (codes "I") ≡ number_text t.image_number
-    → v (codes "t") ≡ medium_word t.content → v (codes "S") ≡ number_text (size_in t.content) → v (codes "O") ≡ number_text (offset_in t.content)
+    → v (codes "t") ≡ medium_word t.content → v (codes "S") ≡ number_text (size_in t.content)
+    → v (codes "O") ≡ number_text (offset_in t.content)
     → transmit_of v (content_text t.content) ≡ Some t
 transmit_back v t h ef eo em es ev ei en et ez ex =
     rw (
@@ -112,9 +118,12 @@ transmit_back v t h ef eo em es ev ei en et ez ex =
     ) refl
 
 pub placement_back : (v : Values) (p : KittyImagePlacement) → IsWritablePlacement p
-    → v (codes "C") ≡ flag_word p.do_not_move_cursor → v (codes "U") ≡ flag_word p.unicode_placeholder
-    → v (codes "x") ≡ number_text p.x → v (codes "y") ≡ number_text p.y → v (codes "w") ≡ number_text p.w → v (codes "h") ≡ number_text p.h
-    → v (codes "X") ≡ number_text p.x_offset → v (codes "Y") ≡ number_text p.y_offset → v (codes "c") ≡ number_text p.columns
+    → v (codes "C") ≡ flag_word p.do_not_move_cursor
+    → v (codes "U") ≡ flag_word p.unicode_placeholder
+    → v (codes "x") ≡ number_text p.x → v (codes "y") ≡ number_text p.y
+    → v (codes "w") ≡ number_text p.w → v (codes "h") ≡ number_text p.h
+    → v (codes "X") ≡ number_text p.x_offset → v (codes "Y") ≡ number_text p.y_offset
+    → v (codes "c") ≡ number_text p.columns
     → v (codes "r") ≡ number_text p.rows
     → v (codes "p") ≡ number_text p.placement_id → v (codes "z") ≡ signed_text p.z_index
     → placement_of v ≡ Some p
@@ -147,9 +156,11 @@ placement_back v p h e0 e1 e2 e3 e4 e5 e6 e7 e8 e9 e10 e11 =
     ) refl
 
 pub frame_back : (v : Values) (f : KittyImageFrame) → IsWritableFrame f
-    → v (codes "X") ≡ composition_word f.composition_mode → v (codes "Y") ≡ number_text f.background_pixel
+    → v (codes "X") ≡ composition_word f.composition_mode
+    → v (codes "Y") ≡ number_text f.background_pixel
     → v (codes "x") ≡ number_text f.x → v (codes "y") ≡ number_text f.y
-    → v (codes "c") ≡ number_text f.base_frame → v (codes "r") ≡ number_text f.frame_number → v (codes "z") ≡ number_text f.duration_ms
+    → v (codes "c") ≡ number_text f.base_frame → v (codes "r") ≡ number_text f.frame_number
+    → v (codes "z") ≡ number_text f.duration_ms
     → frame_of v ≡ Some f
 frame_back v f h e0 e1 e2 e3 e4 e5 e6 =
     rw (
@@ -170,9 +181,11 @@ frame_back v f h e0 e1 e2 e3 e4 e5 e6 =
     ) refl
 
 pub compose_back : (v : Values) (f : KittyImageFrameCompose) → IsWritableCompose f
-    → v (codes "C") ≡ composition_word f.composition_mode → v (codes "i") ≡ number_text f.image_id → v (codes "I") ≡ number_text f.image_number
+    → v (codes "C") ≡ composition_word f.composition_mode → v (codes "i") ≡ number_text f.image_id
+    → v (codes "I") ≡ number_text f.image_number
     → v (codes "c") ≡ number_text f.target_frame → v (codes "r") ≡ number_text f.source_frame
-    → v (codes "x") ≡ number_text f.x → v (codes "y") ≡ number_text f.y → v (codes "w") ≡ number_text f.w → v (codes "h") ≡ number_text f.h
+    → v (codes "x") ≡ number_text f.x → v (codes "y") ≡ number_text f.y
+    → v (codes "w") ≡ number_text f.w → v (codes "h") ≡ number_text f.h
     → v (codes "X") ≡ number_text f.src_x → v (codes "Y") ≡ number_text f.src_y
     → compose_of v ≡ Some f
 compose_back v f h e0 e1 e2 e3 e4 e5 e6 e7 e8 e9 e10 =

@@ -17,19 +17,22 @@ abbrev entries_ascend : List Entry → Bool
 entries_ascend [] = true
 entries_ascend (e ∷ es) = list_all (λ (d : Entry). stands_before e.0 d.0) es && entries_ascend es
 
-before_with : (n m : List ℕ) (v : Option (List ℕ)) (es : Pairs) → stands_before n m ≡ true → list_all (λ (d : List ℕ × List ℕ). stands_before n d.0) es ≡ true
+before_with : (n m : List ℕ) (v : Option (List ℕ)) (es : Pairs) → stands_before n m ≡ true
+    → list_all (λ (d : List ℕ × List ℕ). stands_before n d.0) es ≡ true
     → list_all (λ (d : List ℕ × List ℕ). stands_before n d.0) (with_value m v es) ≡ true
 before_with n m None es h k = k
 before_with n m (Some v) es h k = rw (h, k) refl
 
-before_written : (n : List ℕ) (es : List Entry) → list_all (λ (d : Entry). stands_before n d.0) es ≡ true
+before_written : (n : List ℕ) (es : List Entry)
+    → list_all (λ (d : Entry). stands_before n d.0) es ≡ true
     → list_all (λ (d : List ℕ × List ℕ). stands_before n d.0) (written es) ≡ true
 before_written n [] h = refl
 before_written n (e ∷ es) h =
     let q = and_parts (stands_before n e.0) (list_all (λ (d : Entry). stands_before n d.0) es) h in
     before_with n e.0 e.1 (written es) q.0 (before_written n es q.1)
 
-ascends_with : (n : List ℕ) (v : Option (List ℕ)) (es : Pairs) → list_all (λ (d : List ℕ × List ℕ). stands_before n d.0) es ≡ true → ascends es ≡ true
+ascends_with : (n : List ℕ) (v : Option (List ℕ)) (es : Pairs)
+    → list_all (λ (d : List ℕ × List ℕ). stands_before n d.0) es ≡ true → ascends es ≡ true
     → ascends (with_value n v es) ≡ true
 ascends_with n None es h k = k
 ascends_with n (Some v) es h k = rw (h, k) refl
@@ -44,7 +47,8 @@ or_ascends : (es : Pairs) → ascends es ≡ true → ascends (or_action es) ≡
 or_ascends [] h = refl
 or_ascends (e ∷ es) h = h
 
-delete_ascends : (w : KittyImageDelete) (q : KittyImageVerbosity) → ascends (written (delete_keys w q)) ≡ true
+delete_ascends : (w : KittyImageDelete) (q : KittyImageVerbosity)
+    → ascends (written (delete_keys w q)) ≡ true
 delete_ascends (All d) q = written_ascends (delete_keys (All d) q) refl
 delete_ascends (ByImageId i p d) q = written_ascends (delete_keys (ByImageId i p d) q) refl
 delete_ascends (ByImageNumber n p d) q = written_ascends (delete_keys (ByImageNumber n p d) q) refl
@@ -55,10 +59,12 @@ delete_ascends (DeleteAtZ x y z d) q = written_ascends (delete_keys (DeleteAtZ x
 delete_ascends (DeleteColumn x d) q = written_ascends (delete_keys (DeleteColumn x d) q) refl
 delete_ascends (DeleteRow y d) q = written_ascends (delete_keys (DeleteRow y d) q) refl
 delete_ascends (DeleteZ z d) q = written_ascends (delete_keys (DeleteZ z d) q) refl
-delete_ascends (ByImageIdRange x y d) q = written_ascends (delete_keys (ByImageIdRange x y d) q) refl
+delete_ascends (ByImageIdRange x y d) q =
+    written_ascends (delete_keys (ByImageIdRange x y d) q) refl
 
 pub keys_ascend : {A : Type 0} (i : KittyImage A) → ascends (image_keys i) ≡ true
-keys_ascend (image.TransmitData t q) = or_ascends (written (transmit_keys t q)) (written_ascends (transmit_keys t q) refl)
+keys_ascend (image.TransmitData t q) =
+    or_ascends (written (transmit_keys t q)) (written_ascends (transmit_keys t q) refl)
 keys_ascend (image.TransmitDataAndDisplay t p q) = written_ascends (shown_keys t p q) refl
 keys_ascend (image.Display i n p q) = written_ascends (display_keys i n p q) refl
 keys_ascend (image.Delete w q) = delete_ascends w q

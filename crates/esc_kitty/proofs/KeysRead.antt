@@ -29,9 +29,11 @@ abbrev pub IsWord : List ℕ → Type 0
 IsWord t = list_all is_word t ≡ true
 
 -- a text that passes a test passes one that follows from it
-pub passes : (f g : ℕ → Bool) → ((c : ℕ) → f c ≡ true → g c ≡ true) → (t : List ℕ) → list_all f t ≡ true → list_all g t ≡ true
+pub passes : (f g : ℕ → Bool) → ((c : ℕ) → f c ≡ true → g c ≡ true) → (t : List ℕ)
+    → list_all f t ≡ true → list_all g t ≡ true
 passes f g more [] h = refl
-passes f g more (c ∷ t) h = let q = and_parts (f c) (list_all f t) h in rw (more c q.0, passes f g more t q.1) refl
+passes f g more (c ∷ t) h = let q = and_parts (f c) (list_all f t) h in
+    rw (more c q.0, passes f g more t q.1) refl
 
 word_plain : (c : ℕ) → is_word c ≡ true → is_part_plain c ≡ true
 word_plain c h = (and_parts (is_part_plain c) (not (c == 0x2c)) h).0
@@ -52,7 +54,8 @@ digit_word c low high =
     let same : c - 48 + 48 ≡ c = omega arith in
     rw same at here
 
-digits_word : (ds : List ℕ) → ((k : ℕ) → k < length ds → (48 ≤ get_or ds k 0) × (get_or ds k 0 ≤ 57)) → IsWord ds
+digits_word : (ds : List ℕ) → ((k : ℕ) → k < length ds → (48 ≤ get_or ds k 0)
+    × (get_or ds k 0 ≤ 57)) → IsWord ds
 digits_word [] h = refl
 digits_word (d ∷ ds) h =
     let here = h 0 (omega arith) in
@@ -61,7 +64,8 @@ digits_word (d ∷ ds) h =
 pub decimal_word : (n : ℕ) → n < 4294967296 → IsWord (decimal n)
 decimal_word n small =
     let f = decimal_is_IsNumeral n (omega arith) in
-    digits_word (decimal n) (λ k below. let range = digit_at (decimal n) k f.0.1 below in (omega (arith, range), omega (arith, range)))
+    digits_word (decimal n) (λ k below. let range = digit_at (decimal n) k f.0.1 below in
+    (omega (arith, range), omega (arith, range)))
 
 pub signed_word : (z : ℤ) → IsSigned 32 z → IsWord (signed_decimal z)
 signed_word (pos n) h = decimal_word n (omega arith)
@@ -80,7 +84,8 @@ ArePairs (e ∷ es) = IsPair e × ArePairs es
 pair_word : (e : List ℕ × List ℕ) → IsPair e → IsWord (pair_text e)
 pair_word e h = all_append is_word e.0 (0x3d ∷ e.1) h.key h.value
 
-pair_back : (e : List ℕ × List ℕ) → IsPair e → Rattle.esc_values.specs.Cuts.key_and_value (pair_text e) ≡ Some e
+pair_back : (e : List ℕ × List ℕ) → IsPair e
+    → Rattle.esc_values.specs.Cuts.key_and_value (pair_text e) ≡ Some e
 pair_back e h = key_back e.0 e.1 (word_clear e.0 h.key) h.lacks (word_clear e.1 h.value)
 
 pairs_back : (es : Pairs) → ArePairs es → pairs_in (map pair_text es) ≡ Some es
@@ -90,30 +95,40 @@ pairs_back (e ∷ es) h = rw (pair_back e h.0, pairs_back es h.1) refl
 abbrev comma : ℕ → Bool
 comma c = c == 0x2c
 
-split_back : (e : List ℕ × List ℕ) (es : Pairs) → ArePairs (e ∷ es) → slice_split comma (keys_text (e ∷ es)) ≡ map pair_text (e ∷ es)
+split_back : (e : List ℕ × List ℕ) (es : Pairs) → ArePairs (e ∷ es)
+    → slice_split comma (keys_text (e ∷ es)) ≡ map pair_text (e ∷ es)
 split_back e [] h =
-    split_free 0x2c (pair_text e) [] [] [] (free_passes 0x2c is_word refl (pair_text e) (pair_word e h.0)) refl
+    split_free 0x2c (pair_text e) [] [] []
+    (free_passes 0x2c is_word refl (pair_text e) (pair_word e h.0)) refl
     ∙ ap (λ (p : List ℕ). p ∷ []) (append-nil (pair_text e))
 split_back e (d ∷ es) h =
-    split_free 0x2c (pair_text e) (0x2c ∷ keys_text (d ∷ es)) [] (slice_split comma (keys_text (d ∷ es))) (free_passes 0x2c is_word refl (pair_text e)
+    split_free 0x2c (pair_text e) (0x2c ∷ keys_text (d ∷ es)) []
+    (slice_split comma (keys_text (d ∷ es))) (free_passes 0x2c is_word refl (pair_text e)
     (pair_word e h.0)) refl
     ∙ ap (λ (p : List ℕ). p ∷ slice_split comma (keys_text (d ∷ es))) (append-nil (pair_text e))
     ∙ ap (λ (ps : List (List ℕ)). pair_text e ∷ ps) (split_back d es h.1)
 
-pub keys_back : (e : List ℕ × List ℕ) (es : Pairs) → ArePairs (e ∷ es) → keys_of (keys_text (e ∷ es)) ≡ Some (e ∷ es)
+pub keys_back : (e : List ℕ × List ℕ) (es : Pairs) → ArePairs (e ∷ es)
+    → keys_of (keys_text (e ∷ es)) ≡ Some (e ∷ es)
 keys_back e es h = ap pairs_in (split_back e es h) ∙ pairs_back (e ∷ es) h
 
 -- their text passes a test that words and `,` pass
-pub keys_pass : (f : ℕ → Bool) → ((c : ℕ) → is_word c ≡ true → f c ≡ true) → f 0x2c ≡ true → (es : Pairs) → ArePairs es → list_all f (keys_text es) ≡ true
+pub keys_pass : (f : ℕ → Bool) → ((c : ℕ) → is_word c ≡ true → f c ≡ true) → f 0x2c ≡ true
+    → (es : Pairs) → ArePairs es → list_all f (keys_text es) ≡ true
 keys_pass f words comma [] h = refl
-keys_pass f words comma (e ∷ []) h = all_append f (pair_text e) [] (passes is_word f words (pair_text e) (pair_word e h.0)) refl
+keys_pass f words comma (e ∷ []) h =
+    all_append f (pair_text e) [] (passes is_word f words (pair_text e) (pair_word e h.0)) refl
 keys_pass f words comma (e ∷ d ∷ es) h =
-    let more : list_all f (0x2c ∷ keys_text (d ∷ es)) ≡ true = rw (comma, keys_pass f words comma (d ∷ es) h.1) refl in
-    all_append f (pair_text e) (0x2c ∷ keys_text (d ∷ es)) (passes is_word f words (pair_text e) (pair_word e h.0)) more
+    let more : list_all f (0x2c ∷ keys_text (d ∷ es)) ≡ true =
+    rw (comma, keys_pass f words comma (d ∷ es) h.1) refl in
+    all_append f (pair_text e) (0x2c ∷ keys_text (d ∷ es))
+    (passes is_word f words (pair_text e) (pair_word e h.0)) more
 
 -- the text has no `;`
 keys_free : (es : Pairs) → ArePairs es → Free 0x3b (keys_text es)
-keys_free es h = free_passes 0x3b is_part_plain refl (keys_text es) (keys_pass is_part_plain word_plain refl es h)
+keys_free es h =
+    free_passes 0x3b is_part_plain refl (keys_text es)
+    (keys_pass is_part_plain word_plain refl es h)
 
 -- the image of keys that are written, with and without a payload
 with_keys : {A : Type 0} (es : Pairs) (payload : List ℕ) → is_bare es ≡ false → ArePairs es
@@ -125,14 +140,17 @@ pub with_payload : {A : Type 0} (es : Pairs) (payload : List ℕ) → is_bare es
     → image_of {A = A} (0x47 ∷ (keys_text es ++ 0x3b ∷ payload)) ≡ image_in (values_of es) payload
 with_payload {A = A} es payload some h =
     let cut : keys_and_payload (keys_text es ++ 0x3b ∷ payload) ≡ (keys_text es, payload) =
-    ap (λ (o : Option (List ℕ × List ℕ)). unwrap_or o (keys_text es ++ 0x3b ∷ payload, [])) (cut_there 0x3b (keys_text es) payload (keys_free es h)) in
+    ap (λ (o : Option (List ℕ × List ℕ)). unwrap_or o (keys_text es ++ 0x3b ∷ payload, []))
+    (cut_there 0x3b (keys_text es) payload (keys_free es h)) in
     ap (λ (k : List ℕ × List ℕ). image_with {A = A} k.0 k.1) cut ∙ with_keys es payload some h
 
-pub without_payload : {A : Type 0} (es : Pairs) → is_bare es ≡ false → ArePairs es → image_of {A = A} (0x47 ∷ (keys_text es ++ [])) ≡ image_in (values_of es) []
+pub without_payload : {A : Type 0} (es : Pairs) → is_bare es ≡ false → ArePairs es
+    → image_of {A = A} (0x47 ∷ (keys_text es ++ [])) ≡ image_in (values_of es) []
 without_payload {A = A} es some h =
     let cut : keys_and_payload (keys_text es) ≡ (keys_text es, []) =
     ap (λ (o : Option (List ℕ × List ℕ)). unwrap_or o (keys_text es, [])) (keys_free es h) in
-    rw (append-nil (keys_text es)) (ap (λ (k : List ℕ × List ℕ). image_with {A = A} k.0 k.1) cut ∙ with_keys es [] some h)
+    rw (append-nil (keys_text es)) (ap (λ (k : List ℕ × List ℕ). image_with {A = A} k.0 k.1) cut
+    ∙ with_keys es [] some h)
 
 -- a key without `=`, and its value where it is written: both words
 abbrev is_name : ℕ → Bool
@@ -148,9 +166,17 @@ is_entry e = list_all is_name e.0 && is_value e.1
 name_word : (c : ℕ) → is_name c ≡ true → is_word c ≡ true
 name_word c h = (and_parts (is_word c) (not (c == 0x3d)) h).0
 
-with_pairs : (n : List ℕ) (v : Option (List ℕ)) (es : Pairs) → list_all is_name n ≡ true → is_value v ≡ true → ArePairs es → ArePairs (with_value n v es)
+with_pairs : (n : List ℕ) (v : Option (List ℕ)) (es : Pairs) → list_all is_name n ≡ true
+    → is_value v ≡ true → ArePairs es → ArePairs (with_value n v es)
 with_pairs n None es k h r = r
-with_pairs n (Some v) es k h r = (record { lacks = free_passes 0x3d is_name refl n k; key = passes is_name is_word name_word n k; value = h }, r)
+with_pairs n (Some v) es k h r = (
+  record {
+    lacks = free_passes 0x3d is_name refl n k;
+    key = passes is_name is_word name_word n k;
+    value = h;
+  },
+  r,
+)
 
 pub written_pairs : (es : List Entry) → list_all is_entry es ≡ true → ArePairs (written es)
 written_pairs [] h = tt
@@ -176,17 +202,25 @@ later_later : (a b c : Option (List ℕ)) → later (later a b) c ≡ later a (l
 later_later None b c = refl
 later_later (Some v) b c = refl
 
-find_step : (k n : List ℕ) (v found r : Option (List ℕ)) (es : Pairs) (t : Bool) → pointwise nat_eq n k ≡ t
+find_step : (k n : List ℕ) (v found r : Option (List ℕ)) (es : Pairs) (t : Bool)
+    → pointwise nat_eq n k ≡ t
     → ((f : Option (List ℕ)) → last_value k f es ≡ later r f)
     → last_value k found (with_value n v es) ≡ later (if t then later r v else r) found
 find_step k n None found r es true e h = h found ∙ sym (later_later r None found)
 find_step k n None found r es false e h = h found
-find_step k n (Some v) found r es true e h = rw (e, last_value) (h (Some v) ∙ sym (later_later r (Some v) found))
+find_step k n (Some v) found r es true e h =
+    rw (e, last_value) (h (Some v) ∙ sym (later_later r (Some v) found))
 find_step k n (Some v) found r es false e h = rw (e, last_value) (h found)
 
-values_found : (k : List ℕ) (found : Option (List ℕ)) (es : List Entry) → last_value k found (written es) ≡ later (find k es) found
+values_found : (k : List ℕ) (found : Option (List ℕ)) (es : List Entry)
+    → last_value k found (written es) ≡ later (find k es) found
 values_found k found [] = refl
-values_found k found (e ∷ es) = find_step k e.0 e.1 found (find k es) (written es) (pointwise nat_eq e.0 k) refl (λ f. values_found k f es)
+values_found k found (e ∷ es) =
+    find_step k e.0 e.1 found (find k es) (written es) (pointwise nat_eq e.0 k) refl (λ f.
+    values_found k f es)
 
-pub entries_image : {A : Type 0} (es : List Entry) (payload : List ℕ) → image_in {A = A} (values_of (written es)) payload ≡ image_in (λ k. find k es) payload
-entries_image {A = A} es payload = ap (λ v. image_in {A = A} v payload) (fun_ext (λ k. values_found k None es ∙ later_none (find k es)))
+pub entries_image : {A : Type 0} (es : List Entry) (payload : List ℕ)
+    → image_in {A = A} (values_of (written es)) payload ≡ image_in (λ k. find k es) payload
+entries_image {A = A} es payload =
+    ap (λ v. image_in {A = A} v payload)
+    (fun_ext (λ k. values_found k None es ∙ later_none (find k es)))

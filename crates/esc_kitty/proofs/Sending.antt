@@ -16,29 +16,41 @@ use Rattle.esc_kitty.proofs.KeysRead.{ArePairs, keys_pass, with_payload, without
 use Rattle.esc_kitty.proofs.ValuesWritten.{word_kept}
 
 -- a list with a key that is written
-bare_with : (n : List ℕ) (v : Option (List ℕ)) (es : Pairs) → is_bare es ≡ false → is_bare (with_value n v es) ≡ false
+bare_with : (n : List ℕ) (v : Option (List ℕ)) (es : Pairs) → is_bare es ≡ false
+    → is_bare (with_value n v es) ≡ false
 bare_with n None es h = h
 bare_with n (Some v) es h = refl
 
-pub written_at : (es : List Entry) (k : ℕ) → is_bare (written (drop k es)) ≡ false → is_bare (written es) ≡ false
+pub written_at : (es : List Entry) (k : ℕ) → is_bare (written (drop k es)) ≡ false
+    → is_bare (written es) ≡ false
 written_at es zero h = h
 written_at [] (suc k) h = h
 written_at (e ∷ es) (suc k) h = bare_with e.0 e.1 (written es) (written_at es k h)
 
 -- with a payload, and without
-pub sends : {A : Type 0} (i : KittyImage A) (es : Pairs) (payload : List ℕ) → is_bare es ≡ false → ArePairs es → list_all is_kept payload ≡ true
+pub sends : {A : Type 0} (i : KittyImage A) (es : Pairs) (payload : List ℕ) → is_bare es ≡ false
+    → ArePairs es → list_all is_kept payload ≡ true
     → image_in {A = A} (values_of es) payload ≡ Some i
-    → (list_all is_kept (0x47 ∷ (keys_text es ++ 0x3b ∷ payload)) ≡ true) × (image_of {A = A} (0x47 ∷ (keys_text es ++ 0x3b ∷ payload)) ≡ Some i)
-sends i es payload some pairs kept is =
-    (all_append is_kept (keys_text es) (0x3b ∷ payload) (keys_pass is_kept word_kept refl es pairs) kept, with_payload es payload some pairs ∙ is)
+    → (list_all is_kept (0x47 ∷ (keys_text es ++ 0x3b ∷ payload)) ≡ true)
+    × (image_of {A = A} (0x47 ∷ (keys_text es ++ 0x3b ∷ payload)) ≡ Some i)
+sends i es payload some pairs kept is = (
+  all_append is_kept (keys_text es) (0x3b ∷ payload) (keys_pass is_kept word_kept refl es pairs)
+      kept,
+  with_payload es payload some pairs ∙ is,
+)
 
-pub tells : {A : Type 0} (i : KittyImage A) (es : Pairs) → is_bare es ≡ false → ArePairs es → image_in {A = A} (values_of es) [] ≡ Some i
-    → (list_all is_kept (0x47 ∷ (keys_text es ++ [])) ≡ true) × (image_of {A = A} (0x47 ∷ (keys_text es ++ [])) ≡ Some i)
-tells i es some pairs is =
-    (all_append is_kept (keys_text es) [] (keys_pass is_kept word_kept refl es pairs) refl, without_payload es some pairs ∙ is)
+pub tells : {A : Type 0} (i : KittyImage A) (es : Pairs) → is_bare es ≡ false → ArePairs es
+    → image_in {A = A} (values_of es) [] ≡ Some i
+    → (list_all is_kept (0x47 ∷ (keys_text es ++ [])) ≡ true)
+    × (image_of {A = A} (0x47 ∷ (keys_text es ++ [])) ≡ Some i)
+tells i es some pairs is = (
+  all_append is_kept (keys_text es) [] (keys_pass is_kept word_kept refl es pairs) refl,
+  without_payload es some pairs ∙ is,
+)
 
 -- the action of keys
-pub acts : {A : Type 0} (v : Values) (payload : List ℕ) (q : KittyImageVerbosity) (a : List ℕ) → v (codes "q") ≡ verbosity_word q
+pub acts : {A : Type 0} (v : Values) (payload : List ℕ) (q : KittyImageVerbosity) (a : List ℕ)
+    → v (codes "q") ≡ verbosity_word q
     → unwrap_or (v (codes "a")) (codes "t") ≡ a
     → image_in {A = A} v payload ≡ image_by a q v payload
 acts v payload q a said action = rw (said, verbosity_back q, action) refl

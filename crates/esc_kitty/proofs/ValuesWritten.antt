@@ -69,7 +69,8 @@ content_size (File t s o) h = h.1
 content_size (TemporaryFile t s o) h = h.1
 content_size (SharedMem t s o) h = h.1
 
-pub content_offset : {A : Type 0} (c : KittyImageData A) → IsWritableContent c → IsNumber (offset_in c)
+pub content_offset : {A : Type 0} (c : KittyImageData A) → IsWritableContent c
+    → IsNumber (offset_in c)
 content_offset (Direct t) h = tt
 content_offset (DirectBin b) h = tt
 content_offset (File t s o) h = h.2
@@ -77,7 +78,8 @@ content_offset (TemporaryFile t s o) h = h.2
 content_offset (SharedMem t s o) h = h.2
 
 -- the payload is kept
-pub content_kept : {A : Type 0} (c : KittyImageData A) → IsWritableContent c → list_all is_kept (content_text c) ≡ true
+pub content_kept : {A : Type 0} (c : KittyImageData A) → IsWritableContent c
+    → list_all is_kept (content_text c) ≡ true
 content_kept (Direct t) h = h
 content_kept (DirectBin b) h = absurd h
 content_kept (File t s o) h = base64_passes is_kept refl refl t (utf8_are_bytes t h.0)
@@ -86,5 +88,6 @@ content_kept (SharedMem t s o) h = base64_passes is_kept refl refl t (utf8_are_b
 
 pub word_kept : (c : ℕ) → is_word c ≡ true → is_kept c ≡ true
 word_kept c h =
-    let part = and_parts (Rattle.esc_values.proofs.PlainParts.is_part_plain c) (not (c == 0x2c)) h in
+    let part = and_parts (Rattle.esc_values.proofs.PlainParts.is_part_plain c) (not (c == 0x2c))
+    h in
     (and_parts (is_kept c) (not (c == 0x3b)) part.0).0

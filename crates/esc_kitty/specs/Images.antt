@@ -21,16 +21,19 @@ use Rattle.esc_kitty.specs.declared.image.KittyImage.{KittyImage}
 use Rattle.esc_kitty.specs.declared.image.KittyImage.TheVariants as image
 
 -- what an image is made of, by the value of `t`; the size is that of `S`, the offset that of `O`
-abbrev pub content_by : {A : Type 0} → List ℕ → Option ℕ → Option ℕ → List ℕ → Option (KittyImageData A)
+abbrev pub content_by : {A : Type 0} → List ℕ → Option ℕ → Option ℕ → List ℕ
+    → Option (KittyImageData A)
 content_by w size offset payload =
     if is w (codes "d") then option_map Direct (utf8_of payload)
     else if is w (codes "f") then option_map (λ t. File t size offset) (base64_text_of payload)
-    else if is w (codes "t") then option_map (λ t. TemporaryFile t size offset) (base64_text_of payload)
+    else if is w (codes "t") then option_map (λ t. TemporaryFile t size offset)
+    (base64_text_of payload)
     else if is w (codes "s") then option_map (λ t. SharedMem t size offset) (base64_text_of payload)
     else None
 
 abbrev pub content_of : {A : Type 0} → Values → List ℕ → Option (KittyImageData A)
-content_of v payload = content_by (unwrap_or (v (codes "t")) (codes "d")) (number v (codes "S")) (number v (codes "O")) payload
+content_of v payload = content_by (unwrap_or (v (codes "t")) (codes "d")) (number v (codes "S"))
+    (number v (codes "O")) payload
 
 -- an image on its way to the terminal
 abbrev pub transmit_of : {A : Type 0} → Values → List ℕ → Option (KittyImageTransmit A)
@@ -104,15 +107,18 @@ delete_by c d v =
     -- a
     if c == 0x61 then Some (All d)
     -- i
-    else if c == 0x69 then option_map (λ i. ByImageId i (number v (codes "p")) d) (number v (codes "i"))
+    else if c == 0x69 then option_map (λ i. ByImageId i (number v (codes "p")) d)
+    (number v (codes "i"))
     -- n
-    else if c == 0x6e then option_map (λ n. ByImageNumber n (number v (codes "p")) d) (number v (codes "I"))
+    else if c == 0x6e then option_map (λ n. ByImageNumber n (number v (codes "p")) d)
+    (number v (codes "I"))
     -- c
     else if c == 0x63 then Some (AtCursorPosition d)
     -- f
     else if c == 0x66 then Some (AnimationFrames d)
     -- p
-    else if c == 0x70 then and_then (number v (codes "x")) (λ x. option_map (λ y. DeleteAt x y d) (number v (codes "y")))
+    else if c == 0x70 then and_then (number v (codes "x")) (λ x.
+    option_map (λ y. DeleteAt x y d) (number v (codes "y")))
     -- q
     else if c == 0x71 then and_then (number v (codes "x")) (λ x. and_then (number v (codes "y"))
     (λ y. option_map (λ z. DeleteAtZ x y z d) (signed v (codes "z"))))
@@ -123,7 +129,8 @@ delete_by c d v =
     -- z
     else if c == 0x7a then option_map (λ z. DeleteZ z d) (signed v (codes "z"))
     -- r
-    else if c == 0x72 then and_then (number v (codes "x")) (λ x. option_map (λ y. ByImageIdRange x y d) (number v (codes "y")))
+    else if c == 0x72 then and_then (number v (codes "x")) (λ x.
+    option_map (λ y. ByImageIdRange x y d) (number v (codes "y")))
     else None
 
 -- the value of `d` is one letter; a capital one deletes the data too
@@ -138,18 +145,25 @@ abbrev pub delete_of : Values → Option KittyImageDelete
 delete_of v = delete_in (unwrap_or (v (codes "d")) (codes "a")) v
 
 -- an image that is kept and shown, and a frame that is kept
-abbrev pub image_shown : {A : Type 0} → KittyImageVerbosity → Values → List ℕ → Option (KittyImage A)
-image_shown q v payload = and_then (placement_of v) (λ p. option_map (λ t. image.TransmitDataAndDisplay t p q) (transmit_of v payload))
+abbrev pub image_shown : {A : Type 0} → KittyImageVerbosity → Values → List ℕ
+    → Option (KittyImage A)
+image_shown q v payload = and_then (placement_of v) (λ p.
+    option_map (λ t. image.TransmitDataAndDisplay t p q) (transmit_of v payload))
 
-abbrev pub image_frame : {A : Type 0} → KittyImageVerbosity → Values → List ℕ → Option (KittyImage A)
-image_frame q v payload = and_then (frame_of v) (λ f. option_map (λ t. image.TransmitFrame t f q) (transmit_of v payload))
+abbrev pub image_frame : {A : Type 0} → KittyImageVerbosity → Values → List ℕ
+    → Option (KittyImage A)
+image_frame q v payload =
+    and_then (frame_of v) (λ f. option_map (λ t. image.TransmitFrame t f q) (transmit_of v payload))
 
 -- a kept image that is shown
 abbrev pub image_display : {A : Type 0} → KittyImageVerbosity → Values → Option (KittyImage A)
-image_display q v = option_map (λ p. image.Display (number v (codes "i")) (number v (codes "I")) p q) (placement_of v)
+image_display q v =
+    option_map (λ p. image.Display (number v (codes "i")) (number v (codes "I")) p q)
+    (placement_of v)
 
 -- the image of keys and a payload, one line a value of `a`
-abbrev pub image_by : {A : Type 0} → List ℕ → KittyImageVerbosity → Values → List ℕ → Option (KittyImage A)
+abbrev pub image_by : {A : Type 0} → List ℕ → KittyImageVerbosity → Values → List ℕ
+    → Option (KittyImage A)
 image_by a q v payload =
     if is a (codes "t") then option_map (λ t. image.TransmitData t q) (transmit_of v payload)
     else if is a (codes "q") then option_map image.Query (transmit_of v payload)
@@ -161,20 +175,23 @@ image_by a q v payload =
     else None
 
 abbrev pub image_in : {A : Type 0} → Values → List ℕ → Option (KittyImage A)
-image_in v payload = and_then (verbosity_of (v (codes "q"))) (λ q. image_by (unwrap_or (v (codes "a")) (codes "t")) q v payload)
+image_in v payload = and_then (verbosity_of (v (codes "q"))) (λ q.
+    image_by (unwrap_or (v (codes "a")) (codes "t")) q v payload)
 
 -- the image of the text of keys and a payload
 abbrev pub image_with : {A : Type 0} → List ℕ → List ℕ → Option (KittyImage A)
 image_with keys payload = and_then (keys_of keys) (λ es. image_in (values_of es) payload)
 
--- the keys up to the first `;`, and the payload behind it; without `;` all is keys, and the payload is empty
+-- the keys up to the first `;`, and the payload behind it; without `;` all is keys, and the payload
+-- is empty
 abbrev pub keys_and_payload : List ℕ → List ℕ × List ℕ
 keys_and_payload bs = unwrap_or (cut_at 0x3b bs) (bs, [])
 
 -- the image of the data of an application program command: a `G`, keys and a payload
 abbrev pub image_of : {A : Type 0} → List ℕ → Option (KittyImage A)
 image_of [] = None
-image_of (b ∷ bs) = if b == 0x47 then image_with (keys_and_payload bs).0 (keys_and_payload bs).1 else None
+image_of (b ∷ bs) =
+    if b == 0x47 then image_with (keys_and_payload bs).0 (keys_and_payload bs).1 else None
 
 -- what is reported of a command
 abbrev pub verbosity_in : {A : Type 0} → KittyImage A → KittyImageVerbosity

@@ -112,7 +112,8 @@ number_text n = option_map decimal n
 abbrev pub signed_text : Option ℤ → Option (List ℕ)
 signed_text z = option_map signed_decimal z
 
--- The keys of each action, in the order of their bytes, each with its value where that differs from what it is without the key.
+-- The keys of each action, in the order of their bytes, each with its value where that differs from
+-- what it is without the key.
 abbrev pub transmit_keys : {A : Type 0} → KittyImageTransmit A → KittyImageVerbosity → List Entry
 transmit_keys t q =
     (codes "I", number_text t.image_number)
@@ -143,7 +144,8 @@ query_keys t =
     ∷ (codes "v", number_text t.height)
     ∷ []
 
-abbrev pub shown_keys : {A : Type 0} → KittyImageTransmit A → KittyImagePlacement → KittyImageVerbosity → List Entry
+abbrev pub shown_keys : {A : Type 0} → KittyImageTransmit A → KittyImagePlacement
+    → KittyImageVerbosity → List Entry
 shown_keys t p q =
     (codes "C", flag_word p.do_not_move_cursor)
     ∷ (codes "I", number_text t.image_number)
@@ -171,7 +173,8 @@ shown_keys t p q =
     ∷ (codes "z", signed_text p.z_index)
     ∷ []
 
-abbrev pub display_keys : Option ℕ → Option ℕ → KittyImagePlacement → KittyImageVerbosity → List Entry
+abbrev pub display_keys : Option ℕ → Option ℕ → KittyImagePlacement → KittyImageVerbosity
+    → List Entry
 display_keys i n p q =
     (codes "C", flag_word p.do_not_move_cursor)
     ∷ (codes "I", number_text n)
@@ -191,7 +194,8 @@ display_keys i n p q =
     ∷ (codes "z", signed_text p.z_index)
     ∷ []
 
-abbrev pub frame_keys : {A : Type 0} → KittyImageTransmit A → KittyImageFrame → KittyImageVerbosity → List Entry
+abbrev pub frame_keys : {A : Type 0} → KittyImageTransmit A → KittyImageFrame → KittyImageVerbosity
+    → List Entry
 frame_keys t f q =
     (codes "I", number_text t.image_number)
     ∷ (codes "O", number_text (offset_in t.content))
@@ -259,15 +263,20 @@ letter d small capital = if d then capital else small
 abbrev pub delete_keys : KittyImageDelete → KittyImageVerbosity → List Entry
 delete_keys (All d) q = placed_keys (letter d (codes "a") (codes "A")) None None None q
 delete_keys (ByImageId i p d) q = named_keys (letter d (codes "i") (codes "I")) None (Some i) p q
-delete_keys (ByImageNumber n p d) q = named_keys (letter d (codes "n") (codes "N")) (Some n) None p q
+delete_keys (ByImageNumber n p d) q =
+    named_keys (letter d (codes "n") (codes "N")) (Some n) None p q
 delete_keys (AtCursorPosition d) q = placed_keys (letter d (codes "c") (codes "C")) None None None q
 delete_keys (AnimationFrames d) q = placed_keys (letter d (codes "f") (codes "F")) None None None q
-delete_keys (DeleteAt x y d) q = placed_keys (letter d (codes "p") (codes "P")) (Some x) (Some y) None q
-delete_keys (DeleteAtZ x y z d) q = placed_keys (letter d (codes "q") (codes "Q")) (Some x) (Some y) (Some z) q
-delete_keys (DeleteColumn x d) q = placed_keys (letter d (codes "x") (codes "X")) (Some x) None None q
+delete_keys (DeleteAt x y d) q =
+    placed_keys (letter d (codes "p") (codes "P")) (Some x) (Some y) None q
+delete_keys (DeleteAtZ x y z d) q =
+    placed_keys (letter d (codes "q") (codes "Q")) (Some x) (Some y) (Some z) q
+delete_keys (DeleteColumn x d) q =
+    placed_keys (letter d (codes "x") (codes "X")) (Some x) None None q
 delete_keys (DeleteRow y d) q = placed_keys (letter d (codes "y") (codes "Y")) None (Some y) None q
 delete_keys (DeleteZ z d) q = placed_keys (letter d (codes "z") (codes "Z")) None None (Some z) q
-delete_keys (ByImageIdRange x y d) q = placed_keys (letter d (codes "r") (codes "R")) (Some x) (Some y) None q
+delete_keys (ByImageIdRange x y d) q =
+    placed_keys (letter d (codes "r") (codes "R")) (Some x) (Some y) None q
 
 -- `a=t`, where no other key is written
 abbrev pub or_action : Pairs → Pairs

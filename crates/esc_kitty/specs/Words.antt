@@ -29,7 +29,8 @@ verbosity_word Quiet = Some (codes "2")
 -- a flag: absent is false
 abbrev pub flag_of : Option (List ℕ) → Option Bool
 flag_of None = Some false
-flag_of (Some w) = if is w (codes "0") then Some false else if is w (codes "1") then Some true else None
+flag_of (Some w) =
+    if is w (codes "0") then Some false else if is w (codes "1") then Some true else None
 
 abbrev pub flag_word : Bool → Option (List ℕ)
 flag_word true = Some (codes "1")
@@ -61,7 +62,8 @@ compression_word compression.Deflate = Some (codes "z")
 -- a way to put pixels over others, which is a number: absent is blending
 abbrev pub composition_of : Option ℤ → Option KittyFrameCompositionMode
 composition_of None = Some AlphaBlending
-composition_of (Some (pos n)) = if n == 0 then Some AlphaBlending else if n == 1 then Some Overwrite else None
+composition_of (Some (pos n)) =
+    if n == 0 then Some AlphaBlending else if n == 1 then Some Overwrite else None
 composition_of (Some (negsuc n)) = None
 
 abbrev pub composition_word : KittyFrameCompositionMode → Option (List ℕ)

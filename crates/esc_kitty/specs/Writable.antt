@@ -21,7 +21,8 @@ use Rattle.esc_kitty.specs.declared.image.KittyImage.TheVariants as image
 abbrev pub is_kept : ℕ → Bool
 is_kept c = nat_le 0x20 c && nat_le c 0x7f
 
--- the numbers of the fields have 32 bits, as in each value that a program holds; those of frames are not 0
+-- the numbers of the fields have 32 bits, as in each value that a program holds; those of frames
+-- are not 0
 abbrev pub IsNumber : Option ℕ → Type 0
 IsNumber n = IfSome n (λ x. x < 2 ^ 32)
 
@@ -102,4 +103,5 @@ IsWritableImage (image.ComposeFrame f q) = IsWritableCompose f
 
 -- the text of the image has kept bytes alone behind `ESC _`, and these mean the image
 abbrev pub ReadsBack : {A : Type 0} → KittyImage A → Type 0
-ReadsBack {A = A} i = (list_all is_kept (image_body i) ≡ true) × (image_of {A = A} (image_body i) ≡ Some i)
+ReadsBack {A = A} i = (list_all is_kept (image_body i) ≡ true)
+    × (image_of {A = A} (image_body i) ≡ Some i)

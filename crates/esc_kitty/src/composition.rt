@@ -3,7 +3,8 @@ ghost use Rattle.std.specs.Prelude.{◌≡◌};
 ghost use Rattle.std.specs.Option.{option_map};
 ghost use Rattle.esc_kitty.specs.Words.{composition_of, composition_word};
 
-/// How a frame's pixels are put over others (key `X` of a frame, key `C` where frames are composed).
+/// How a frame's pixels are put over others (key `X` of a frame, key `C` where frames are
+/// composed).
 #[derive(Clone, Copy, Debug, PartialEq, Eq)]
 pub enum KittyFrameCompositionMode {
     /// `0`: the colours are blended by their alpha. This is the default.

@@ -15,7 +15,8 @@ use std::fmt::Display;
 pub enum KittyImageData<A: Allocator = Global> {
     /// `d`: the payload as it stands in the command, which is base64. It is not decoded.
     Direct(Text<A>),
-    /// Bytes that are written as base64. They are never read: what was written so reads as `Direct`.
+    /// Bytes that are written as base64. They are never read: what was written so reads as
+    /// `Direct`.
     DirectBin(Items<u8, A>),
     /// `f`: a file.
     File {
@@ -84,8 +85,8 @@ impl<A: Allocator> KittyImageData<A> {
     }
 }
 
-/// Writes the payload: the text of `Direct`, else base64 of the bytes, the path or the name. Takes no memory, and errs
-/// only where the writer behind the formatter errs.
+/// Writes the payload: the text of `Direct`, else base64 of the bytes, the path or the name. Takes
+/// no memory, and errs only where the writer behind the formatter errs.
 impl<A: Allocator> fmt::Display for KittyImageData<A> {
     ghost output = { λ c. Some (content_text c) };
 

@@ -72,7 +72,8 @@ pub enum KittyImage<A: Allocator = Global> {
 }
 
 impl<A: Allocator> KittyImage<A> {
-    /// What the terminal reports of the command. That of a `Query` is `Verbose`: an answer is what it asks for.
+    /// What the terminal reports of the command. That of a `Query` is `Verbose`: an answer is what
+    /// it asks for.
     pub fn verbosity(&self) -> KittyImageVerbosity
         ensures { result ≡ verbosity_in self.now }
     {

@@ -1,4 +1,5 @@
-//! Laws of images: what is written reads back, what is read can be written, and keys are written in order.
+//! Laws of images: what is written reads back, what is read can be written, and keys are written in
+//! order.
 ghost use Rattle.std.specs.Prelude.{◌≡◌, ℕ, true, List, Some};
 ghost use Rattle.std.specs.List.{list_all};
 ghost use Rattle.esc_kitty.specs.Images.{image_of};
@@ -8,8 +9,8 @@ ghost use Rattle.esc_kitty.specs.declared.image.KittyImage.{KittyImage};
 
 use std::alloc::Allocator;
 
-/// A writable image writes, behind `ESC _`, bytes from space to U+007F alone, so nothing that ends the command; and they
-/// are read as the image.
+/// A writable image writes, behind `ESC _`, bytes from space to U+007F alone, so nothing that ends
+/// the command; and they are read as the image.
 #[tactic(auto, using(crate::proofs::ImagesBack::reads_back))]
 pub fn reads_back<A: Allocator>()
     ensures { (i : KittyImage A) → IsWritableImage i → ReadsBack i }
@@ -18,7 +19,8 @@ pub fn reads_back<A: Allocator>()
 /// What bytes from space to U+007F are read as is writable.
 #[tactic(auto, using(crate::proofs::ImagesWritable::kept_is_writable))]
 pub fn kept_is_writable<A: Allocator>()
-    ensures { (bs : List ℕ) → list_all is_kept bs ≡ true → (i : KittyImage A) → image_of bs ≡ Some i → IsWritableImage i }
+    ensures { (bs : List ℕ) → list_all is_kept bs ≡ true → (i : KittyImage A) → image_of bs ≡ Some i
+        → IsWritableImage i }
 {}
 
 /// The keys of an image are written in the order of their bytes, each once.

@@ -1,5 +1,6 @@
-//! Images of kitty's graphics protocol (<https://sw.kovidgoyal.net/kitty/graphics-protocol/>): their values, how the data
-//! of an application program command is read as one, and how a value is written.
+//! Images of kitty's graphics protocol (<https://sw.kovidgoyal.net/kitty/graphics-protocol/>):
+//! their values, how the data of an application program command is read as one, and how a value is
+//! written.
 #![tactic(auto)]
 
 pub mod compose;

@@ -16,14 +16,16 @@ use esc_values::cut::cut;
 use std::alloc::{AllocError, Allocator};
 
 impl<A: Allocator + Copy> KittyImage<A> {
-    /// The image that the data of an application program command is; none where it is no image. The error is that memory was
-    /// refused.
+    /// The image that the data of an application program command is; none where it is no image. The
+    /// error is that memory was refused.
     ///
-    /// The data is `G`, the keys, and the payload behind the first `;`; without `;` the payload is empty. The keys are UTF-8,
-    /// with `,` between them; each has its value behind its first `=`, and a later value of a key replaces an earlier one.
-    /// Keys that the action does not use are ignored, but for `q`. A number that cannot be read counts as absent; any other value
-    /// that is unknown is no image, nor is a deletion without a number that it needs. A payload is read only where something
-    /// is transmitted, and is then text, or base64 of a text where a file or a shared memory object is named.
+    /// The data is `G`, the keys, and the payload behind the first `;`; without `;` the payload is
+    /// empty. The keys are UTF-8, with `,` between them; each has its value behind its first `=`,
+    /// and a later value of a key replaces an earlier one. Keys that the action does not use are
+    /// ignored, but for `q`. A number that cannot be read counts as absent; any other value that is
+    /// unknown is no image, nor is a deletion without a number that it needs. A payload is read
+    /// only where something is transmitted, and is then text, or base64 of a text where a file or a
+    /// shared memory object is named.
     pub fn parse_apc(alloc: A, bytes: &[u8]) -> Result<Option<KittyImage<A>>, AllocError>
         ensures ok { IfOk result (λ o. o ≡ image_of bytes.now) }
         ensures refused { OnErr result (Refused A) }

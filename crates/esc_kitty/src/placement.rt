@@ -7,9 +7,11 @@ pub struct KittyImagePlacement {
     pub x: Option<u32>,
     /// The top edge of the part of the image that is shown, in pixels, key `y`.
     pub y: Option<u32>,
-    /// The width of the part of the image that is shown, in pixels, key `w`. Where there is none, all is shown.
+    /// The width of the part of the image that is shown, in pixels, key `w`. Where there is none,
+    /// all is shown.
     pub w: Option<u32>,
-    /// The height of the part of the image that is shown, in pixels, key `h`. Where there is none, all is shown.
+    /// The height of the part of the image that is shown, in pixels, key `h`. Where there is none,
+    /// all is shown.
     pub h: Option<u32>,
     /// How far from the left edge of the first cell it is shown, in pixels, key `X`.
     pub x_offset: Option<u32>,

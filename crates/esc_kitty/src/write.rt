@@ -10,11 +10,13 @@ use crate::write_transmit::{write_frame, write_query, write_shown, write_transmi
 use std::alloc::Allocator;
 use std::fmt;
 
-/// Writes `ESC _ G`, the keys with their values in the order of their bytes, `,` between them, and, wherever something is
-/// transmitted, `;` and the payload. What ends the command is left to the caller.
+/// Writes `ESC _ G`, the keys with their values in the order of their bytes, `,` between them, and,
+/// wherever something is transmitted, `;` and the payload. What ends the command is left to the
+/// caller.
 ///
-/// A key is written where its field differs from what is read without the key; `a` always, but for `TransmitData` only where
-/// it is the only key; `d` for every deletion. Takes no memory, and errs only where the writer behind the formatter errs.
+/// A key is written where its field differs from what is read without the key; `a` always, but for
+/// `TransmitData` only where it is the only key; `d` for every deletion. Takes no memory, and errs
+/// only where the writer behind the formatter errs.
 impl<A: Allocator> fmt::Display for KittyImage<A> {
     ghost output = { λ i. Some (image_text i) };
 
@@ -30,7 +32,8 @@ fn write_image_keys<A: Allocator, W: fmt::Write>(
     image: &KittyImage<A>,
     f: &mut fmt::Formatter<W>,
 ) -> fmt::Result
-    ensures { DisplaysOnOk W.write_str_gives f.old result (Some (keys_text (image_keys image.now))) f.new }
+    ensures { DisplaysOnOk W.write_str_gives f.old result (Some (keys_text (image_keys image.now)))
+        f.new }
 {
     match image {
         KittyImage::TransmitData {

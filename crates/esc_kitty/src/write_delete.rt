@@ -16,7 +16,8 @@ pub(crate) fn write_delete<W: fmt::Write>(
     verbosity: KittyImageVerbosity,
     f: &mut fmt::Formatter<W>,
 ) -> fmt::Result
-    ensures { DisplaysOnOk W.write_str_gives f.old result (Some (keys_text (written (delete_keys what.now verbosity)))) f.new }
+    ensures { DisplaysOnOk W.write_str_gives f.old result
+        (Some (keys_text (written (delete_keys what.now verbosity)))) f.new }
 {
     match *what {
         KittyImageDelete::All { delete } => {

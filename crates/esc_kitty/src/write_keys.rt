@@ -49,7 +49,8 @@ pub(crate) struct Key<'a>(pub(crate) char, pub(crate) Value<'a>);
 
 // A key with its value, if it is written, and a `,` before it, unless it is the first.
 fn write_key<W: fmt::Write>(key: &Key<'_>, is_first: bool, f: &mut fmt::Formatter<W>) -> fmt::Result
-    ensures { DisplaysOnOk W.write_str_gives f.old result (Some (entry_text is_first (entry key.now))) f.new }
+    ensures { DisplaysOnOk W.write_str_gives f.old result
+        (Some (entry_text is_first (entry key.now))) f.new }
 {
     if !key.1.is_written() {
         return Ok(());
@@ -75,7 +76,8 @@ fn is_still_first(is_first: bool, key: &Key<'_>) -> bool
 
 // The keys that are written, with `,` between them.
 pub(crate) fn write_keys<W: fmt::Write>(keys: &[Key<'_>], f: &mut fmt::Formatter<W>) -> fmt::Result
-    ensures { DisplaysOnOk W.write_str_gives f.old result (Some (keys_text (written (map entry keys.now)))) f.new }
+    ensures { DisplaysOnOk W.write_str_gives f.old result
+        (Some (keys_text (written (map entry keys.now)))) f.new }
 {
     let mut is_first = true;
     for key in keys {

@@ -18,7 +18,9 @@ pub(crate) fn write_display<W: fmt::Write>(
     verbosity: KittyImageVerbosity,
     f: &mut fmt::Formatter<W>,
 ) -> fmt::Result
-    ensures { DisplaysOnOk W.write_str_gives f.old result (Some (keys_text (written (display_keys image_id image_number placement.now verbosity)))) f.new }
+    ensures { DisplaysOnOk W.write_str_gives f.old result
+        (Some (keys_text
+        (written (display_keys image_id image_number placement.now verbosity)))) f.new }
 {
     let keys = [
         Key('C', Word(flag_word(placement.do_not_move_cursor))),
@@ -47,7 +49,8 @@ pub(crate) fn write_compose<W: fmt::Write>(
     verbosity: KittyImageVerbosity,
     f: &mut fmt::Formatter<W>,
 ) -> fmt::Result
-    ensures { DisplaysOnOk W.write_str_gives f.old result (Some (keys_text (written (compose_keys frame.now verbosity)))) f.new }
+    ensures { DisplaysOnOk W.write_str_gives f.old result
+        (Some (keys_text (written (compose_keys frame.now verbosity)))) f.new }
 {
     let keys = [
         Key('C', Word(frame.composition_mode.word())),

@@ -19,7 +19,8 @@ pub(crate) fn write_transmit<A: Allocator, W: fmt::Write>(
     verbosity: KittyImageVerbosity,
     f: &mut fmt::Formatter<W>,
 ) -> fmt::Result
-    ensures { DisplaysOnOk W.write_str_gives f.old result (Some (keys_text (or_action (written (transmit_keys transmit.now verbosity))))) f.new }
+    ensures { DisplaysOnOk W.write_str_gives f.old result
+        (Some (keys_text (or_action (written (transmit_keys transmit.now verbosity))))) f.new }
 {
     let content = &transmit.content;
     let keys = [
@@ -40,7 +41,8 @@ pub(crate) fn write_transmit<A: Allocator, W: fmt::Write>(
 
 // The keys, or `a=t` where none is written.
 fn write_or_action<W: fmt::Write>(keys: &[Key<'_>], f: &mut fmt::Formatter<W>) -> fmt::Result
-    ensures { DisplaysOnOk W.write_str_gives f.old result (Some (keys_text (or_action (written (map entry keys.now))))) f.new }
+    ensures { DisplaysOnOk W.write_str_gives f.old result
+        (Some (keys_text (or_action (written (map entry keys.now))))) f.new }
 {
     if is_bare(keys) {
         return f.write_str("a=t");
@@ -53,7 +55,8 @@ pub(crate) fn write_query<A: Allocator, W: fmt::Write>(
     transmit: &KittyImageTransmit<A>,
     f: &mut fmt::Formatter<W>,
 ) -> fmt::Result
-    ensures { DisplaysOnOk W.write_str_gives f.old result (Some (keys_text (written (query_keys transmit.now)))) f.new }
+    ensures { DisplaysOnOk W.write_str_gives f.old result
+        (Some (keys_text (written (query_keys transmit.now)))) f.new }
 {
     let content = &transmit.content;
     let keys = [
@@ -79,7 +82,8 @@ pub(crate) fn write_shown<A: Allocator, W: fmt::Write>(
     verbosity: KittyImageVerbosity,
     f: &mut fmt::Formatter<W>,
 ) -> fmt::Result
-    ensures { DisplaysOnOk W.write_str_gives f.old result (Some (keys_text (written (shown_keys transmit.now placement.now verbosity)))) f.new }
+    ensures { DisplaysOnOk W.write_str_gives f.old result
+        (Some (keys_text (written (shown_keys transmit.now placement.now verbosity)))) f.new }
 {
     let content = &transmit.content;
     let keys = [
@@ -118,7 +122,8 @@ pub(crate) fn write_frame<A: Allocator, W: fmt::Write>(
     verbosity: KittyImageVerbosity,
     f: &mut fmt::Formatter<W>,
 ) -> fmt::Result
-    ensures { DisplaysOnOk W.write_str_gives f.old result (Some (keys_text (written (frame_keys transmit.now frame.now verbosity)))) f.new }
+    ensures { DisplaysOnOk W.write_str_gives f.old result
+        (Some (keys_text (written (frame_keys transmit.now frame.now verbosity)))) f.new }
 {
     let content = &transmit.content;
     let keys = [

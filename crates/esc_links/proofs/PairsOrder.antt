@@ -1,4 +1,5 @@
--- Pairs in the order of their keys: putting keeps the order, and pairs in order are what putting them in gives.
+-- Pairs in the order of their keys: putting keeps the order, and pairs in order are what putting
+-- them in gives.
 use Rattle.std.proofs.Common.{ℕ, ◌≡◌, ◌≢◌, List, [], ◌∷◌, ◌++◌, refl, ap, sym, ◌∙◌, append_assoc}
 use Rattle.std.specs.Cmp.Lexicographic.{slice_cmp, nat_list_cmp_total}
 use Rattle.std.specs.declared.cmp.Ordering.{Ordering}
@@ -29,7 +30,8 @@ AreBelow (d ∷ ds) es = BelowAll d.0 es × AreBelow ds es
 
 below_trans : (j k : List ℕ) (es : Pairs) → Below j k → BelowAll k es → BelowAll j es
 below_trans j k [] h all = tt
-below_trans j k (e ∷ es) h all = (nat_list_cmp_total.trans j k e.0 h all.0, below_trans j k es h all.1)
+below_trans j k (e ∷ es) h all =
+    (nat_list_cmp_total.trans j k e.0 h all.0, below_trans j k es h all.1)
 
 turned : (j k : List ℕ) → slice_cmp nat_cmp j k ≡ Greater → Below k j
 turned j k e = nat_list_cmp_total.antisymm k j ∙ ap ordering_reverse e
@@ -41,7 +43,8 @@ put_below : (j k v : List ℕ) (es : Pairs) → Below j k → BelowAll j es → 
 put_below j k v [] h all = (h, tt)
 put_below j k v (e ∷ es) h all = by (slice_cmp nat_cmp k e.0) refl (put_below j k v es h all.1)
   where
-    by : (o : Ordering) → slice_cmp nat_cmp k e.0 ≡ o → BelowAll j (put k v es) → BelowAll j (put k v (e ∷ es))
+    by : (o : Ordering) → slice_cmp nat_cmp k e.0 ≡ o → BelowAll j (put k v es)
+        → BelowAll j (put k v (e ∷ es))
     by Less is rest = rw is (h, all)
     by Equal is rest = rw is all
     by Greater is rest = rw is (all.0, rest)
@@ -50,7 +53,8 @@ pub put_ordered : (k v : List ℕ) (es : Pairs) → AreOrdered es → AreOrdered
 put_ordered k v [] h = (tt, tt)
 put_ordered k v (e ∷ es) h = by (slice_cmp nat_cmp k e.0) refl (put_ordered k v es h.1)
   where
-    by : (o : Ordering) → slice_cmp nat_cmp k e.0 ≡ o → AreOrdered (put k v es) → AreOrdered (put k v (e ∷ es))
+    by : (o : Ordering) → slice_cmp nat_cmp k e.0 ≡ o → AreOrdered (put k v es)
+        → AreOrdered (put k v (e ∷ es))
     by Less is rest = rw is ((is, below_trans k e.0 es is h.0), h)
     by Equal is rest = rw is h
     by Greater is rest = rw is (put_below e.0 k v es (turned k e.0 is) h.0, rest)
@@ -84,11 +88,13 @@ put_last : (ds : Pairs) (e : List ℕ × List ℕ) → AreBelow ds (e ∷ []) �
 put_last [] e h = refl
 put_last (d ∷ ds) e h = rw (greater d.0 e.0 h.0.0) (ap (λ es. d ∷ es) (put_last ds e h.1))
 
-below_first : (ds : Pairs) (e : List ℕ × List ℕ) (es : Pairs) → AreBelow ds (e ∷ es) → AreBelow ds (e ∷ [])
+below_first : (ds : Pairs) (e : List ℕ × List ℕ) (es : Pairs) → AreBelow ds (e ∷ es)
+    → AreBelow ds (e ∷ [])
 below_first [] e es h = tt
 below_first (d ∷ ds) e es h = ((h.0.0, tt), below_first ds e es h.1)
 
-below_more : (ds : Pairs) (e : List ℕ × List ℕ) (es : Pairs) → AreBelow ds (e ∷ es) → BelowAll e.0 es → AreBelow (ds ++ e ∷ []) es
+below_more : (ds : Pairs) (e : List ℕ × List ℕ) (es : Pairs) → AreBelow ds (e ∷ es)
+    → BelowAll e.0 es → AreBelow (ds ++ e ∷ []) es
 below_more [] e es h all = (all, tt)
 below_more (d ∷ ds) e es h all = (h.0.1, below_more ds e es h.1 all)
 

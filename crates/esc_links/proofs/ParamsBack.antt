@@ -29,20 +29,24 @@ AreGood (e ∷ es) = IsGood e × AreGood es
 
 -- a piece that is read is good
 good_piece : (t : List ℕ) → IsPiece 0x3a t → Where IsGood (key_and_value t)
-good_piece t h = where_both IsClearPair (BothFree 0x3a) (key_and_value t) (key_clear t h.0) (key_keeps (BothFree 0x3a) t (cut_keeps 0x3a 0x3d t h.1))
+good_piece t h = where_both IsClearPair (BothFree 0x3a) (key_and_value t) (key_clear t h.0)
+    (key_keeps (BothFree 0x3a) t (cut_keeps 0x3a 0x3d t h.1))
 
 good_pairs : (ts : List (List ℕ)) → ArePieces 0x3a ts → Where AreGood (pairs_in ts)
 good_pairs [] h = tt
 good_pairs (t ∷ ts) h =
     where_then IsGood AreGood (λ e. option_map (λ es. e ∷ es) (pairs_in ts))
-    (λ e good. where_map AreGood AreGood (λ es. e ∷ es) (λ es more. (good, more)) (pairs_in ts) (good_pairs ts h.1))
+    (λ e good. where_map AreGood AreGood (λ es. e ∷ es) (λ es more. (good, more)) (pairs_in ts)
+    (good_pairs ts h.1))
     (key_and_value t) (good_piece t h.0)
 
-some_pairs : (t : List ℕ) (ts : List (List ℕ)) → Where (λ qs. (q : List ℕ × List ℕ) × (more : Pairs) × (qs ≡ q ∷ more)) (pairs_in (t ∷ ts))
+some_pairs : (t : List ℕ) (ts : List (List ℕ)) → Where (λ qs. (q : List ℕ × List ℕ) × (more : Pairs)
+    × (qs ≡ q ∷ more)) (pairs_in (t ∷ ts))
 some_pairs t ts = by (key_and_value t) (pairs_in ts)
   where
     by : (o : Option (List ℕ × List ℕ)) (m : Option Pairs)
-        → Where (λ qs. (q : List ℕ × List ℕ) × (more : Pairs) × (qs ≡ q ∷ more)) (and_then o (λ e. option_map (λ es. e ∷ es) m))
+        → Where (λ qs. (q : List ℕ × List ℕ) × (more : Pairs)
+        × (qs ≡ q ∷ more)) (and_then o (λ e. option_map (λ es. e ∷ es) m))
     by None m = tt
     by (Some q) None = tt
     by (Some q) (Some more) = (q, more, refl)
@@ -52,7 +56,8 @@ put_good : (k v : List ℕ) (es : Pairs) → IsGood (k, v) → AreGood es → Ar
 put_good k v [] h all = (h, tt)
 put_good k v (e ∷ es) h all = by (slice_cmp nat_cmp k e.0) refl (put_good k v es h all.1)
   where
-    by : (o : Ordering) → slice_cmp nat_cmp k e.0 ≡ o → AreGood (put k v es) → AreGood (put k v (e ∷ es))
+    by : (o : Ordering) → slice_cmp nat_cmp k e.0 ≡ o → AreGood (put k v es)
+        → AreGood (put k v (e ∷ es))
     by Less is rest = rw is (h, all)
     by Equal is rest = rw is ((((all.0.0.0.0, h.0.0.1), all.0.0.1), (all.0.1.0, h.1.1)), all.1)
     by Greater is rest = rw is (all.0, rest)
@@ -65,44 +70,62 @@ all_good es (q ∷ qs) h k = all_good (put q.0 q.1 es) qs (put_good q.0 q.1 es k
 abbrev pub AreReadable : Pairs → Type 0
 AreReadable es = AreGood es × AreOrdered es × (es ≢ [])
 
-readable_pairs : (t : List ℕ) (ts : List (List ℕ)) → ArePieces 0x3a (t ∷ ts) → Where AreReadable (option_map (λ qs. put_all [] qs) (pairs_in (t ∷ ts)))
+readable_pairs : (t : List ℕ) (ts : List (List ℕ)) → ArePieces 0x3a (t ∷ ts)
+    → Where AreReadable (option_map (λ qs. put_all [] qs) (pairs_in (t ∷ ts)))
 readable_pairs t ts h =
-    where_map (λ qs. AreGood qs × ((q : List ℕ × List ℕ) × (more : Pairs) × (qs ≡ q ∷ more))) AreReadable (λ qs. put_all [] qs)
-    (λ qs k. (all_good [] qs tt k.0, all_ordered [] qs tt, let P : Pairs → Type 0 = λ xs. put_all [] xs ≢ [] in subst P (sym k.1.2) (all_put_some k.1.0 k.1.1)))
+    where_map (λ qs. AreGood qs × ((q : List ℕ × List ℕ) × (more : Pairs) × (qs ≡ q ∷ more)))
+    AreReadable (λ qs. put_all [] qs)
+    (λ qs k. (
+      all_good [] qs tt k.0,
+      all_ordered [] qs tt,
+      let P : Pairs
+          → Type 0 = λ xs. put_all [] xs ≢ [] in subst P (sym k.1.2) (all_put_some k.1.0 k.1.1),
+    ))
     (pairs_in (t ∷ ts))
-    (where_both AreGood (λ qs. (q : List ℕ × List ℕ) × (more : Pairs) × (qs ≡ q ∷ more)) (pairs_in (t ∷ ts)) (good_pairs (t ∷ ts) h) (some_pairs t ts))
+    (where_both AreGood (λ qs. (q : List ℕ × List ℕ) × (more : Pairs)
+    × (qs ≡ q ∷ more)) (pairs_in (t ∷ ts)) (good_pairs (t ∷ ts) h) (some_pairs t ts))
 
 -- what is read of a clear part that is not empty can be written
-readable_split : (t : List ℕ) → SplitsAt 0x3a t → Where AreReadable (option_map (λ qs. put_all [] qs) (pairs_in (slice_split is_colon t)))
+readable_split : (t : List ℕ) → SplitsAt 0x3a t
+    → Where AreReadable (option_map (λ qs. put_all [] qs) (pairs_in (slice_split is_colon t)))
 readable_split t (p, ps, is, one, more) =
-    let P : List (List ℕ) → Type 0 = λ ts. Where AreReadable (option_map (λ qs. put_all [] qs) (pairs_in ts)) in
+    let P : List (List ℕ) → Type 0 =
+    λ ts. Where AreReadable (option_map (λ qs. put_all [] qs) (pairs_in ts)) in
     subst P (sym is) (readable_pairs p ps (one, more))
 
 pub readable : (b : ℕ) (t : List ℕ) → IsClearPart (b ∷ t) → Where AreReadable (params_of (b ∷ t))
-readable b t h = readable_split (b ∷ t) (splits is_part_char 0x3a (b ∷ t) (lit< tt) (λ c ok other. ok) h)
+readable b t h =
+    readable_split (b ∷ t) (splits is_part_char 0x3a (b ∷ t) (lit< tt) (λ c ok other. ok) h)
 
 -- the text of good pairs
 pair_free : (e : List ℕ × List ℕ) → IsGood e → Free 0x3a (pair_text e)
 pair_free e h = free_append 0x3a e.0 (0x3d ∷ e.1) h.1.0 (free_more 0x3a 0x3d e.1 refl h.1.1)
 
 pair_clear : (e : List ℕ × List ℕ) → IsGood e → IsClearPart (pair_text e)
-pair_clear e h = part_append e.0 (0x3d ∷ e.1) h.0.0.0 (part_append (0x3d ∷ []) e.1 (plain_part (0x3d ∷ []) refl) h.0.0.1)
+pair_clear e h =
+    part_append e.0 (0x3d ∷ e.1) h.0.0.0 (part_append (0x3d ∷ []) e.1 (plain_part (0x3d ∷ []) refl)
+    h.0.0.1)
 
 more_clear : (es : Pairs) → AreGood es → IsClearPart (flat_map (λ d. 0x3a ∷ pair_text d) es)
 more_clear [] h = ([], refl, refl)
 more_clear (e ∷ es) h =
     part_append (0x3a ∷ pair_text e) (flat_map (λ d. 0x3a ∷ pair_text d) es)
-    (part_append (0x3a ∷ []) (pair_text e) (plain_part (0x3a ∷ []) refl) (pair_clear e h.0)) (more_clear es h.1)
+    (part_append (0x3a ∷ []) (pair_text e) (plain_part (0x3a ∷ []) refl) (pair_clear e h.0))
+    (more_clear es h.1)
 
 pub params_clear : (es : Pairs) → AreGood es → IsClearPart (params_text es)
 params_clear [] h = ([], refl, refl)
-params_clear (e ∷ es) h = part_append (pair_text e) (flat_map (λ d. 0x3a ∷ pair_text d) es) (pair_clear e h.0) (more_clear es h.1)
+params_clear (e ∷ es) h = part_append (pair_text e) (flat_map (λ d. 0x3a ∷ pair_text d) es)
+    (pair_clear e h.0) (more_clear es h.1)
 
 -- it splits into the pairs' texts
-split_pairs : (e : List ℕ × List ℕ) (es : Pairs) → AreGood (e ∷ es) → slice_split is_colon (params_text (e ∷ es)) ≡ map pair_text (e ∷ es)
-split_pairs e [] h = split_free 0x3a (pair_text e) [] [] [] (pair_free e h.0) refl ∙ ap (λ t. t ∷ []) (append-nil (pair_text e))
+split_pairs : (e : List ℕ × List ℕ) (es : Pairs) → AreGood (e ∷ es)
+    → slice_split is_colon (params_text (e ∷ es)) ≡ map pair_text (e ∷ es)
+split_pairs e [] h = split_free 0x3a (pair_text e) [] [] [] (pair_free e h.0) refl
+    ∙ ap (λ t. t ∷ []) (append-nil (pair_text e))
 split_pairs e (d ∷ es) h =
-    split_free 0x3a (pair_text e) (0x3a ∷ params_text (d ∷ es)) [] (slice_split is_colon (params_text (d ∷ es))) (pair_free e h.0) refl
+    split_free 0x3a (pair_text e) (0x3a ∷ params_text (d ∷ es)) []
+    (slice_split is_colon (params_text (d ∷ es))) (pair_free e h.0) refl
     ∙ ap (λ t. t ∷ slice_split is_colon (params_text (d ∷ es))) (append-nil (pair_text e))
     ∙ ap (λ ts. pair_text e ∷ ts) (split_pairs d es h.1)
 

@@ -1,5 +1,5 @@
--- Hyperlinks: their parameters, how they are read and written (the command OSC 8 of terminals: "Hyperlinks in terminal
--- emulators").
+-- Hyperlinks: their parameters, how they are read and written (the command OSC 8 of terminals:
+-- "Hyperlinks in terminal emulators").
 use Rattle.std.specs.Prelude.{ℕ, ◌==◌, Bool, false, List, [], ◌∷◌, ◌++◌, codes, Option, Some, None}
 use Rattle.std.specs.BTreeMap.{insert_entry}
 use Rattle.std.specs.Cmp.Lexicographic.{slice_cmp}
@@ -12,7 +12,8 @@ use Rattle.esc_values.specs.Cuts.{Pairs, pairs_in, pair_text}
 use Rattle.esc_values.specs.Scalars.{and_then, utf8_of}
 use Rattle.esc_links.specs.declared.hyperlink.Hyperlink.{Hyperlink}
 
--- the pairs with v at k: in the order of the keys' bytes, where the value of a key that is there is replaced
+-- the pairs with v at k: in the order of the keys' bytes, where the value of a key that is there is
+-- replaced
 abbrev pub put : List ℕ → List ℕ → Pairs → Pairs
 put k v es = insert_entry (slice_cmp nat_cmp) es k v
 
@@ -29,8 +30,8 @@ value_at k es = lookup (bytes_eq k) es
 abbrev pub is_colon : ℕ → Bool
 is_colon c = c == 0x3a
 
--- The parameters that a text holds between its first two `;`: keys and values between `:`, of which a later one replaces
--- an earlier one of the same key; none where it is empty.
+-- The parameters that a text holds between its first two `;`: keys and values between `:`, of which
+-- a later one replaces an earlier one of the same key; none where it is empty.
 abbrev pub params_of : List ℕ → Option Pairs
 params_of [] = Some []
 params_of (b ∷ t) = option_map (λ es. put_all [] es) (pairs_in (slice_split is_colon (b ∷ t)))
@@ -54,8 +55,8 @@ module _ {A : Type 0} where
   link_in [] [] = Some None
   link_in p uri = and_then (params_of p) (λ es. option_map (λ u. Some (link_to es u)) (utf8_of uri))
 
-  -- What the parts of a text are: three parts, of which the second has the parameters and the third the address. The
-  -- first is not looked at.
+  -- What the parts of a text are: three parts, of which the second has the parameters and the third
+  -- the address. The first is not looked at.
   abbrev pub link_of : List (List ℕ) → Option (Option (Hyperlink A))
   link_of (p0 ∷ p1 ∷ p2 ∷ []) = link_in p1 p2
   link_of _ = None

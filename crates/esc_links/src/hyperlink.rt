@@ -1,4 +1,5 @@
-//! Hyperlinks ("Hyperlinks in terminal emulators", <https://gist.github.com/egmontkob/eb114294efbcd5adb1944c9f3cb5feda>).
+//! Hyperlinks ("Hyperlinks in terminal emulators",
+//! <https://gist.github.com/egmontkob/eb114294efbcd5adb1944c9f3cb5feda>).
 ghost use Rattle.std.specs.Prelude.{◌≡◌, ◌⊎◌, [], ◌∷◌, codes, map, IfOk, IfErr, OnOk, OnErr, Some, None};
 ghost use Rattle.std.specs.Fmt.{DisplaysOnOk};
 ghost use Rattle.std.specs.List.{flat_map};
@@ -15,11 +16,13 @@ use esc_values::{Error, Text};
 use std::alloc::{AllocError, Allocator, Global};
 use std::fmt;
 
-/// A hyperlink: where the characters that follow lead to ("Hyperlinks in terminal emulators", the command OSC 8).
+/// A hyperlink: where the characters that follow lead to ("Hyperlinks in terminal emulators", the
+/// command OSC 8).
 #[derive(Drop)]
 #[derive_where(Debug, PartialEq)]
 pub struct Hyperlink<A: Allocator = Global> {
-    /// The parameters. The key `id` is that of the link: cells of one id and one address are one link.
+    /// The parameters. The key `id` is that of the link: cells of one id and one address are one
+    /// link.
     pub params: Params<A>,
     /// The address.
     pub uri: Text<A>,
@@ -47,15 +50,17 @@ impl<A: Allocator + Copy> Hyperlink<A> {
         }
     }
 
-    /// What the parts of a text between `;` are: three parts, of which the first is not looked at, the second has the
-    /// parameters and the third is the address. The parameters are `key=value` with `:` between them, each cut at its
-    /// first `=`, and a later one replaces an earlier one of the same key. Where both are empty there is no link.
+    /// What the parts of a text between `;` are: three parts, of which the first is not looked at,
+    /// the second has the parameters and the third is the address. The parameters are `key=value`
+    /// with `:` between them, each cut at its first `=`, and a later one replaces an earlier one of
+    /// the same key. Where both are empty there is no link.
     ///
-    /// The errors are `Error::Invalid`, where there are not three parts, a parameter has no `=`, or a key, a value or
-    /// the address is not UTF-8; and `Error::Memory`, where memory was refused.
+    /// The errors are `Error::Invalid`, where there are not three parts, a parameter has no `=`, or
+    /// a key, a value or the address is not UTF-8; and `Error::Memory`, where memory was refused.
     pub fn parse(alloc: A, parts: &[&[u8]]) -> Result<Option<Hyperlink<A>>, Error>
         ensures read { IfOk result (λ v. link_of (map (λ p. p.now) parts.now) ≡ Some v) }
-        ensures invalid { IfErr result (λ e. e ≡ Invalid → link_of {A = A} (map (λ p. p.now) parts.now) ≡ None) }
+        ensures invalid { IfErr result (λ e. e ≡ Invalid
+            → link_of {A = A} (map (λ p. p.now) parts.now) ≡ None) }
         ensures refused { IfErr result (λ e. (e ≡ Invalid) ⊎ Refused A) }
     {
         let [_, params, uri] = parts else {
@@ -140,7 +145,8 @@ fn put_piece<A: Allocator + Copy>(
     params: &mut Params<A>,
     piece: &[u8],
 ) -> Result<(), Error>
-    ensures read { OnOk result (option_map (λ e. put e.0 e.1 params.old) (key_and_value piece.now) ≡ Some params.new) }
+    ensures read { OnOk result (option_map (λ e. put e.0 e.1 params.old) (key_and_value piece.now)
+        ≡ Some params.new) }
     ensures invalid { IfErr result (λ e. e ≡ Invalid → key_and_value piece.now ≡ None) }
     ensures refused { IfErr result (λ e. (e ≡ Invalid) ⊎ Refused A) }
 {
@@ -170,8 +176,8 @@ fn put_texts<A: Allocator + Copy>(
     }
 }
 
-/// Writes `8;`, the parameters as `key=value` in order with `:` between them, `;` and the address. Where it returns `Ok`,
-/// all of it was written.
+/// Writes `8;`, the parameters as `key=value` in order with `:` between them, `;` and the address.
+/// Where it returns `Ok`, all of it was written.
 impl<A: Allocator> fmt::Display for Hyperlink<A> {
     ghost output = { λ h. Some (hyperlink_text h) };
 
@@ -203,7 +209,8 @@ fn write_rest<A: Allocator, W: fmt::Write>(
     mut pairs: Iter<'_, A>,
     f: &mut fmt::Formatter<W>,
 ) -> fmt::Result
-    ensures { DisplaysOnOk W.write_str_gives f.old result (Some (flat_map (λ e. 0x3a ∷ pair_text e) pairs.entry)) f.new }
+    ensures { DisplaysOnOk W.write_str_gives f.old result
+        (Some (flat_map (λ e. 0x3a ∷ pair_text e) pairs.entry)) f.new }
 {
     while let Some((key, value)) = pairs.next() {
         write!(f, ":{key}={value}")?;

@@ -6,8 +6,10 @@ ghost use Rattle.esc_values.specs.Clear.{IsClearText, AreTextParts, parts_of};
 
 use std::alloc::Allocator;
 
-/// What is read from clear parts as a hyperlink, or as none, has a clear text, whose parts are read as the same.
+/// What is read from clear parts as a hyperlink, or as none, has a clear text, whose parts are read
+/// as the same.
 pub fn link_reads_back<A: Allocator>()
-    ensures { (ps : List (List ℕ)) → AreTextParts ps → (v : Option (Hyperlink A)) → link_of ps ≡ Some v
+    ensures { (ps : List (List ℕ)) → AreTextParts ps → (v : Option (Hyperlink A))
+        → link_of ps ≡ Some v
         → IsClearText (link_text v) × (link_of (parts_of (link_text v)) ≡ Some v) }
 {}

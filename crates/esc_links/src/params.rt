@@ -14,10 +14,11 @@ use std::collections::{BTreeMap, btree_map};
 use std::fmt;
 use std::marker::Model;
 
-/// Keys with their values, in the order of the keys' UTF-8 bytes, each key once. Contracts see the pairs of their bytes.
+/// Keys with their values, in the order of the keys' UTF-8 bytes, each key once. Contracts see the
+/// pairs of their bytes.
 ///
-/// Any texts may be keys and values. Those of a link that is to be read again are clear and have no `:` or `;`, and its
-/// keys have no `=`.
+/// Any texts may be keys and values. Those of a link that is to be read again are clear and have no
+/// `:` or `;`, and its keys have no `=`.
 #[derive(Drop)]
 pub struct Params<A: Allocator = Global> {
     tree: BTreeMap<String<A>, String<A>, A>,
@@ -76,8 +77,8 @@ impl<A: Allocator> Params<A> {
 }
 
 impl<A: Allocator + Copy> Params<A> {
-    /// Puts a value at a key, in place of one that is there. The error is that memory was refused, and the parameters
-    /// stay as they were.
+    /// Puts a value at a key, in place of one that is there. The error is that memory was refused,
+    /// and the parameters stay as they were.
     pub fn insert(&mut self, key: Text<A>, value: Text<A>) -> Result<(), AllocError>
         ensures ok { OnOk result (self.new ≡ put key value self.old) }
         ensures err { OnErr result (self.new ≡ self.old) }

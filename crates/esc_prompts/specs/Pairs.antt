@@ -11,8 +11,13 @@ pub record KeyValues : Type 0 where
 
 -- the values that come last
 abbrev pub last_values : Pairs → KeyValues
-last_values es = record { aid = last_value (codes "aid") None es; cl = last_value (codes "cl") None es; k = last_value (codes "k") None es }
+last_values es = record {
+  aid = last_value (codes "aid") None es;
+  cl = last_value (codes "cl") None es;
+  k = last_value (codes "k") None es;
+}
 
--- the values of the keys in parts; an empty part is skipped; none where another part is no key and value
+-- the values of the keys in parts; an empty part is skipped; none where another part is no key and
+-- value
 abbrev pub keys_of : List (List ℕ) → Option KeyValues
 keys_of ps = option_map last_values (pairs_in (without_empty ps))

@@ -13,7 +13,8 @@ use Rattle.esc_prompts.specs.declared.prompt_kind.FinalTermPromptKind.{FinalTerm
 use Rattle.esc_prompts.specs.declared.prompt_kind.FinalTermPromptKind.TheVariants as kind
 
 -- a prompt of a letter that comes alone
-abbrev pub alone : {A : Type 0} → FinalTermSemanticPrompt A → List (List ℕ) → Option (FinalTermSemanticPrompt A)
+abbrev pub alone : {A : Type 0} → FinalTermSemanticPrompt A → List (List ℕ)
+    → Option (FinalTermSemanticPrompt A)
 alone p [] = Some p
 alone p (a ∷ args) = None
 
@@ -42,13 +43,16 @@ kind_among args = and_then (keys_of args) (λ v. kind_in v.k)
 -- a status, 0 where it is absent or is no number of 32 bits, and the value of `aid` after it
 abbrev pub status_of : {A : Type 0} → List (List ℕ) → Option (FinalTermSemanticPrompt A)
 status_of [] = Some (prompt.CommandStatus (pos 0) None)
-status_of (s ∷ args) = option_map (λ aid. prompt.CommandStatus (unwrap_or (signed_of 32 s) (pos 0)) aid) (aid_of args)
+status_of (s ∷ args) =
+    option_map (λ aid. prompt.CommandStatus (unwrap_or (signed_of 32 s) (pos 0)) aid) (aid_of args)
 
 -- what a letter makes of the parts after it, one line a letter
 abbrev pub lettered : {A : Type 0} → ℕ → List (List ℕ) → Option (FinalTermSemanticPrompt A)
 lettered c args = if c == 0x4c then alone prompt.FreshLine args
-    else if c == 0x41 then option_map (λ (f : Option (List ℕ) × Option FinalTermClick). prompt.FreshLineAndStartPrompt f.0 f.1) (aid_and_click args)
-    else if c == 0x4e then option_map (λ (f : Option (List ℕ) × Option FinalTermClick). prompt.MarkEndOfCommandWithFreshLine f.0 f.1) (aid_and_click args)
+    else if c == 0x41 then option_map (λ (f : Option (List ℕ)
+    × Option FinalTermClick). prompt.FreshLineAndStartPrompt f.0 f.1) (aid_and_click args)
+    else if c == 0x4e then option_map (λ (f : Option (List ℕ)
+    × Option FinalTermClick). prompt.MarkEndOfCommandWithFreshLine f.0 f.1) (aid_and_click args)
     else if c == 0x50 then option_map prompt.StartPrompt (kind_among args)
     else if c == 0x42 then alone prompt.MarkEndOfPromptAndStartOfInputUntilNextMarker args
     else if c == 0x49 then alone prompt.MarkEndOfPromptAndStartOfInputUntilEndOfLine args
@@ -56,7 +60,8 @@ lettered c args = if c == 0x4c then alone prompt.FreshLine args
     else if c == 0x44 then status_of args
     else None
 
--- the prompt of the parts after the code: a letter alone in the first of them, and what it makes of the others
+-- the prompt of the parts after the code: a letter alone in the first of them, and what it makes of
+-- the others
 abbrev pub prompt_of : {A : Type 0} → List (List ℕ) → Option (FinalTermSemanticPrompt A)
 prompt_of ((c ∷ []) ∷ args) = lettered c args
 prompt_of args = None
@@ -75,13 +80,15 @@ click_text (Some c) = codes ";cl=" ++ click_word c
 abbrev pub prompt_text : {A : Type 0} → FinalTermSemanticPrompt A → List ℕ
 prompt_text prompt.FreshLine = codes "133;L"
 prompt_text (prompt.FreshLineAndStartPrompt aid cl) = codes "133;A" ++ aid_text aid ++ click_text cl
-prompt_text (prompt.MarkEndOfCommandWithFreshLine aid cl) = codes "133;N" ++ aid_text aid ++ click_text cl
+prompt_text (prompt.MarkEndOfCommandWithFreshLine aid cl) =
+    codes "133;N" ++ aid_text aid ++ click_text cl
 prompt_text (prompt.StartPrompt k) = codes "133;P;k=" ++ kind_word k
 prompt_text prompt.MarkEndOfPromptAndStartOfInputUntilNextMarker = codes "133;B"
 prompt_text prompt.MarkEndOfPromptAndStartOfInputUntilEndOfLine = codes "133;I"
 prompt_text (prompt.MarkEndOfInputAndStartOfOutput aid) = codes "133;C" ++ aid_text aid
 prompt_text (prompt.CommandStatus s None) = codes "133;D;" ++ signed_decimal s
-prompt_text (prompt.CommandStatus s (Some a)) = codes "133;D;" ++ signed_decimal s ++ codes ";err=" ++ signed_decimal s ++ codes ";aid=" ++ a
+prompt_text (prompt.CommandStatus s (Some a)) =
+    codes "133;D;" ++ signed_decimal s ++ codes ";err=" ++ signed_decimal s ++ codes ";aid=" ++ a
 
 -- no value, or a clear part
 abbrev pub IsAid : Option (List ℕ) → Type 0
@@ -99,4 +106,5 @@ IsWritablePrompt p = Unit {0}
 -- the prompt's text is the code and clear parts, of which the prompt is read
 abbrev pub WritesBack : {A : Type 0} → FinalTermSemanticPrompt A → Type 0
 WritesBack {A = A} p =
-    (args : List (List ℕ)) × (prompt_text p ≡ joined (codes "133" ∷ args)) × AreClearParts args × (prompt_of {A = A} args ≡ Some p)
+    (args : List (List ℕ)) × (prompt_text p ≡ joined (codes "133" ∷ args)) × AreClearParts args
+    × (prompt_of {A = A} args ≡ Some p)

@@ -6,8 +6,8 @@ ghost use Rattle.esc_prompts.specs.Words.{click_of, click_word};
 use esc_values::Error;
 use std::fmt;
 
-/// Which movements of the cursor the shell takes where the user clicks on its input (FinalTerm; key `cl` of operating
-/// system command 133).
+/// Which movements of the cursor the shell takes where the user clicks on its input (FinalTerm; key
+/// `cl` of operating system command 133).
 #[derive(Clone, Copy, Debug, PartialEq, Eq)]
 pub enum FinalTermClick {
     /// `line`: to the left and to the right within one line.
@@ -20,12 +20,13 @@ pub enum FinalTermClick {
     SmartVertical,
 }
 
-/// The value that the word names. The error is `Invalid`, for a word that names none; the text is compared byte
-/// by byte.
+/// The value that the word names. The error is `Invalid`, for a word that names none; the text is
+/// compared byte by byte.
 impl TryFrom<&str> for FinalTermClick {
     type Error = Error;
 
-    ghost try_from_gives = { λ w r. MatchResult r (λ c. click_of w.now ≡ Some c) (λ e. (e ≡ Invalid) × (click_of w.now ≡ None)) };
+    ghost try_from_gives = { λ w r. MatchResult r (λ c. click_of w.now ≡ Some c) (λ e. (e ≡ Invalid)
+        × (click_of w.now ≡ None)) };
 
     fn try_from(word: &str) -> Result<FinalTermClick, Error> {
         match word {

@@ -15,7 +15,12 @@ pub(crate) struct Keys<'a> {
 
 // The last value of each key; none where a part that is not empty is no key and value.
 pub(crate) fn read_keys<'a>(args: &[&'a [u8]]) -> Option<Keys<'a>>
-    ensures { option_map (λ v. record { aid = option_map (λ t. t.now) v.aid; cl = option_map (λ t. t.now) v.cl; k = option_map (λ t. t.now) v.k })
+    ensures { option_map (λ v.
+        record {
+          aid = option_map (λ t. t.now) v.aid;
+          cl = option_map (λ t. t.now) v.cl;
+          k = option_map (λ t. t.now) v.k;
+        })
         result ≡ keys_of (map (λ p. p.now) args.now) }
 {
     let mut aid = None;

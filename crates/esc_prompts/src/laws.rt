@@ -1,4 +1,5 @@
-//! Laws of semantic prompts: what is written reads back, and what is read of clear parts can be written.
+//! Laws of semantic prompts: what is written reads back, and what is read of clear parts can be
+//! written.
 ghost use Rattle.std.specs.Prelude.{◌≡◌, List, ℕ, Some};
 ghost use Rattle.esc_values.specs.Clear.{AreClearParts};
 ghost use Rattle.esc_prompts.specs.Prompts.{IsWritablePrompt, WritesBack, prompt_of};
@@ -15,5 +16,6 @@ pub fn writes_back<A: Allocator>()
 /// A prompt that is read of clear parts is writable.
 #[tactic(auto, using(crate::proofs::ClearArgs::clear_is_writable))]
 pub fn clear_is_writable<A: Allocator>()
-    ensures { (args : List (List ℕ)) → AreClearParts args → (p : FinalTermSemanticPrompt A) → prompt_of args ≡ Some p → IsWritablePrompt p }
+    ensures { (args : List (List ℕ)) → AreClearParts args → (p : FinalTermSemanticPrompt A)
+        → prompt_of args ≡ Some p → IsWritablePrompt p }
 {}

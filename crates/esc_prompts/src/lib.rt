@@ -1,10 +1,14 @@
-//! Semantic prompts, by which a shell marks its prompts, its commands and their output (FinalTerm; operating system
-//! command 133): their values, how the parts after the code are read, and how a value is written.
+//! Semantic prompts, by which a shell marks its prompts, its commands and their output (FinalTerm;
+//! operating system command 133): their values, how the parts after the code are read, and how a
+//! value is written.
 //!
-//! The standard: "Semantic prompts" (<https://gitlab.freedesktop.org/Per_Bothner/specifications/blob/master/proposals/semantic-prompts.md>).
+//! The standard: "Semantic prompts"
+//! (<https://gitlab.freedesktop.org/Per_Bothner/specifications/blob/master/proposals/semantic-prompts.md>).
 //!
-//! A shell ends a command that failed with `ESC ] 133 ; D ; 1 ESC \`: `FinalTermSemanticPrompt::parse(alloc, &[b"D", b"1"])?` is
-//! `Some(FinalTermSemanticPrompt::CommandStatus { status: 1, aid: None })`, which prints as `133;D;1`.
+//! A shell ends a command that failed with `ESC ] 133 ; D ; 1 ESC \`:
+//! `FinalTermSemanticPrompt::parse(alloc, &[b"D", b"1"])?` is
+//! `Some(FinalTermSemanticPrompt::CommandStatus { status: 1, aid: None })`, which prints as
+//! `133;D;1`.
 #![tactic(auto)]
 
 pub mod click;

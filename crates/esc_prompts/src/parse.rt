@@ -15,10 +15,11 @@ use std::alloc::{AllocError, Allocator};
 impl<A: Allocator> FinalTermSemanticPrompt<A> {
     /// The prompt that these parts are, which follow the code `133`; none where they are no prompt.
     ///
-    /// The first part is a letter. `L`, `B` and `I` come alone. After `A`, `N`, `C` and `P`, and after the status
-    /// of `D`, the parts are keys and values with `=` between them, or empty; a later value of a key replaces an
-    /// earlier one, and other keys are ignored. Any other part, a word of `cl` that is unknown after `A` or `N`, or one
-    /// of `k` after `P`, is no prompt. A status that is absent, or is no number of 32 bits, is 0.
+    /// The first part is a letter. `L`, `B` and `I` come alone. After `A`, `N`, `C` and `P`, and
+    /// after the status of `D`, the parts are keys and values with `=` between them, or empty; a
+    /// later value of a key replaces an earlier one, and other keys are ignored. Any other part, a
+    /// word of `cl` that is unknown after `A` or `N`, or one of `k` after `P`, is no prompt. A
+    /// status that is absent, or is no number of 32 bits, is 0.
     ///
     /// The error is that memory was refused.
     pub fn parse(alloc: A, args: &[&[u8]]) -> Result<Option<FinalTermSemanticPrompt<A>>, AllocError>

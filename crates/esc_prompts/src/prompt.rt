@@ -5,8 +5,8 @@ use crate::prompt_kind::FinalTermPromptKind;
 use esc_values::Text;
 use std::alloc::{Allocator, Global};
 
-/// A mark that a shell writes between its prompts, the user's input, and the output of commands (FinalTerm; operating
-/// system command 133, with a letter after the code).
+/// A mark that a shell writes between its prompts, the user's input, and the output of commands
+/// (FinalTerm; operating system command 133, with a letter after the code).
 #[derive(Drop)]
 #[derive_where(Debug, PartialEq, Eq)]
 pub enum FinalTermSemanticPrompt<A: Allocator = Global> {
@@ -19,7 +19,8 @@ pub enum FinalTermSemanticPrompt<A: Allocator = Global> {
         /// What a click does, key `cl`, where it is given.
         cl: Option<FinalTermClick>,
     },
-    /// `N`: the command before ends, where one has begun with the same `aid`; then as `FreshLineAndStartPrompt`.
+    /// `N`: the command before ends, where one has begun with the same `aid`; then as
+    /// `FreshLineAndStartPrompt`.
     MarkEndOfCommandWithFreshLine {
         /// The name of the application, key `aid`, where it is given.
         aid: Option<Text<A>>,

@@ -29,12 +29,13 @@ impl Default for FinalTermPromptKind {
     }
 }
 
-/// The value that the word names. The error is `Invalid`, for a word that names none; the text is compared byte
-/// by byte.
+/// The value that the word names. The error is `Invalid`, for a word that names none; the text is
+/// compared byte by byte.
 impl TryFrom<&str> for FinalTermPromptKind {
     type Error = Error;
 
-    ghost try_from_gives = { λ w r. MatchResult r (λ k. kind_of w.now ≡ Some k) (λ e. (e ≡ Invalid) × (kind_of w.now ≡ None)) };
+    ghost try_from_gives = { λ w r. MatchResult r (λ k. kind_of w.now ≡ Some k) (λ e. (e ≡ Invalid)
+        × (kind_of w.now ≡ None)) };
 
     fn try_from(word: &str) -> Result<FinalTermPromptKind, Error> {
         match word {

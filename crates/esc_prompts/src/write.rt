@@ -11,8 +11,9 @@ use std::alloc::Allocator;
 use std::fmt;
 use std::fmt::Display;
 
-/// Writes what comes between `ESC ]` and the string terminator: the code 133, the letter, and after it the keys that
-/// are there, each after a `;`. A status is written before the keys, and with an `aid` also as the key `err`.
+/// Writes what comes between `ESC ]` and the string terminator: the code 133, the letter, and after
+/// it the keys that are there, each after a `;`. A status is written before the keys, and with an
+/// `aid` also as the key `err`.
 ///
 /// Where it returns `Ok`, all of it was written.
 impl<A: Allocator> fmt::Display for FinalTermSemanticPrompt<A> {

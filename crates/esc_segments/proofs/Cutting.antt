@@ -32,7 +32,8 @@ pub none_left : OneCut → (s : List ℕ) (gs : List Segment) → s ≡ [] → I
 none_left once s gs e c = once s gs [] c (subst (λ y. IsCut y []) (sym e) nothing)
 
 -- a segment before a cut
-are_more : (g : Segment) (hs : List Segment) → HasShape g (joined hs) → is_finished g (joined hs) ≡ true → AreSegments hs → AreSegments (g ∷ hs)
+are_more : (g : Segment) (hs : List Segment) → HasShape g (joined hs)
+    → is_finished g (joined hs) ≡ true → AreSegments hs → AreSegments (g ∷ hs)
 are_more g [] s f a = s
 are_more g (h ∷ hs) s f a = (s, f, a)
 
@@ -40,7 +41,8 @@ are_more g (h ∷ hs) s f a = (s, f, a)
 abbrev Rest : Segment → List ℕ → List ℕ → Type 0
 Rest g s t = (hs : List Segment) × IsCut t hs × IsCut s (g ∷ hs)
 
-rest_by : HasCut → (g : Segment) (s t : List ℕ) (w : Bool) → s ≡ bytes_of g ++ t → HasShape g t → w ≡ is_finished g t → (w ≡ false → t ≡ []) → Rest g s t
+rest_by : HasCut → (g : Segment) (s t : List ℕ) (w : Bool) → s ≡ bytes_of g ++ t → HasShape g t
+    → w ≡ is_finished g t → (w ≡ false → t ≡ []) → Rest g s t
 rest_by has g s t true e h f l =
     let c = has t in
     let hs = c.0 in
@@ -49,7 +51,8 @@ rest_by has g s t true e h f l =
       c.1,
       record {
         whole = e ∙ ap (λ y. bytes_of g ++ y) j;
-        each = are_more g hs (subst (λ y. HasShape g y) j h) (sym (ap (is_finished g) j) ∙ sym f) c.1.each;
+        each = are_more g hs (subst (λ y. HasShape g y) j h) (sym (ap (is_finished g) j) ∙ sym f)
+            c.1.each;
       },
     )
 rest_by has g s t false e h f l =
@@ -60,38 +63,50 @@ rest_by has g s t false e h f l =
     )
 
 -- the first segment of the one cut
-pub first_of_cut : HasCut → OneCut → (s : List ℕ) (x : Found) (t : List ℕ) (item : Item) → IsFirst s x → t ≡ drop x.len s → item.kind ≡ x.kind
+pub first_of_cut : HasCut → OneCut → (s : List ℕ) (x : Found) (t : List ℕ) (item : Item)
+    → IsFirst s x → t ≡ drop x.len s → item.kind ≡ x.kind
     → item.bytes.now ≡ take x.len s → item.finished ≡ x.finished → (gs : List Segment) → IsCut s gs
     → IsHead s gs item t
 first_of_cut has once s x t item d e k b f gs c =
     let n : length (bytes_of d.g) ≡ x.len = sym d.len in
-    let after : t ≡ d.after = e ∙ ap (drop x.len) d.whole ∙ drop_at (bytes_of d.g) d.after x.len n in
-    let bytes : item.bytes.now ≡ bytes_of d.g = b ∙ ap (take x.len) d.whole ∙ take_at (bytes_of d.g) d.after x.len n in
+    let after : t ≡ d.after =
+    e ∙ ap (drop x.len) d.whole ∙ drop_at (bytes_of d.g) d.after x.len n in
+    let bytes : item.bytes.now ≡ bytes_of d.g =
+    b ∙ ap (take x.len) d.whole ∙ take_at (bytes_of d.g) d.after x.len n in
     let r = rest_by has d.g s d.after x.finished d.whole d.shape d.finished d.last in record {
       head = d.g;
       others = r.0;
       first = once s gs (d.g ∷ r.0) c r.2;
-      item = record { kind = k ∙ d.kind; bytes = bytes; finished = f ∙ d.finished ∙ ap (is_finished d.g) (sym after) };
-      place = d.whole ∙ ap (λ y. y ++ d.after) (sym bytes) ∙ ap (λ y. item.bytes.now ++ y) (sym after);
+      item = record {
+        kind = k ∙ d.kind;
+        bytes = bytes;
+        finished = f ∙ d.finished ∙ ap (is_finished d.g) (sym after);
+      };
+      place = d.whole ∙ ap (λ y. y ++ d.after) (sym bytes)
+          ∙ ap (λ y. item.bytes.now ++ y) (sym after);
       rest = subst (λ y. IsCut y r.0) (sym after) r.1;
     }
 
 -- ---- from the first call to the last
 
-items_by : (xs : List Item) (s t u : Segments) (gs : List Segment) → Yields GivesFirst s xs t → GivesFirst t None u
+items_by : (xs : List Item) (s t u : Segments) (gs : List Segment) → Yields GivesFirst s xs t
+    → GivesFirst t None u
     → IsCut (left s) gs → AreItems xs gs
 items_by [] s t u gs y n c =
-    let e : gs ≡ [] = (n gs (subst (λ z. IsCut (left z) gs) y c)).0 in subst (λ z. AreItems [] z) (sym e) tt
+    let e : gs ≡ [] = (n gs (subst (λ z. IsCut (left z) gs) y c)).0 in
+    subst (λ z. AreItems [] z) (sym e) tt
 items_by (x ∷ xs) s t u gs (j, p, y) n c =
     let q = p gs c in
     let here = subst (λ z. IsItem x q.head z) q.rest.whole q.item in
     subst (λ z. AreItems (x ∷ xs) z) (sym q.first) (here, items_by xs j t u q.others y n q.rest)
 
-pub items_are : (s : Segments) (xs : List Item) (gs : List Segment) → Drains GivesFirst s xs → IsCut (left s) gs → AreItems xs gs
+pub items_are : (s : Segments) (xs : List Item) (gs : List Segment) → Drains GivesFirst s xs
+    → IsCut (left s) gs → AreItems xs gs
 items_are s xs gs (u, (t, y, n)) c = items_by xs s t u gs y n c
 
 -- the items' bytes are the bytes that were left
-bytes_by : HasCut → (xs : List Item) (s t u : Segments) → Yields GivesFirst s xs t → GivesFirst t None u → left s ≡ item_bytes xs
+bytes_by : HasCut → (xs : List Item) (s t u : Segments) → Yields GivesFirst s xs t
+    → GivesFirst t None u → left s ≡ item_bytes xs
 bytes_by has [] s t u y n =
     let c = has (left t) in
     let e : c.0 ≡ [] = (n c.0 c.1).0 in ap left y ∙ c.1.whole ∙ ap joined e
@@ -99,7 +114,9 @@ bytes_by has (x ∷ xs) s t u (j, p, y) n =
     let c = has (left s) in
     let q = p c.0 c.1 in q.place ∙ ap (λ z. x.bytes.now ++ z) (bytes_by has xs j t u y n)
 
-pub items_lie : HasCut → (s : Segments) (before : List Item) (x : Item) (after : List Item) → Drains GivesFirst s (before ++ x ∷ after)
+pub items_lie : HasCut → (s : Segments) (before : List Item) (x : Item) (after : List Item)
+    → Drains GivesFirst s (before ++ x ∷ after)
     → left s ≡ item_bytes before ++ (x.bytes.now ++ item_bytes after)
 items_lie has s before x after (u, (t, y, n)) =
-    bytes_by has (before ++ x ∷ after) s t u y n ∙ flat_map-append (λ z. z.bytes.now) before (x ∷ after)
+    bytes_by has (before ++ x ∷ after) s t u y n ∙ flat_map-append (λ z.
+    z.bytes.now) before (x ∷ after)

@@ -37,38 +37,53 @@ last_is body x f e =
     ap (λ i. get_or body i 0) l ∙ ap (λ y. get_or y (length x) 0) e ∙ get_or-append_seam x f [] 0
 
 -- the same after a first byte
-pub inner_is : (bytes x : List ℕ) (a f : ℕ) → bytes ≡ (a ∷ x) ++ f ∷ [] → take (length bytes - 1 - 1) (drop 1 bytes) ≡ x
+pub inner_is : (bytes x : List ℕ) (a f : ℕ) → bytes ≡ (a ∷ x) ++ f ∷ []
+    → take (length bytes - 1 - 1) (drop 1 bytes) ≡ x
 inner_is bytes x a f e =
     let one : length (f ∷ []) ≡ 1 = refl in
     let more : length (a ∷ x) ≡ 1 + length x = omega arith in
-    let l : length x ≡ length bytes - 1 - 1 = omega (arith, ap length e, length-append (a ∷ x) (f ∷ [])) in
+    let l : length x ≡ length bytes - 1 - 1 =
+    omega (arith, ap length e, length-append (a ∷ x) (f ∷ [])) in
     ap (λ y. take (length bytes - 1 - 1) (drop 1 y)) e ∙ take_at x (f ∷ []) (length bytes - 1 - 1) l
 
 module _ {S E : Type 0} (own : Type 0) (takes refuses : S → Event → S → Type 0)
     (result : Result (Unit {0}) E) (old mid new : S) where
   -- an escape sequence
-  pub escape_told : (bytes x m : List ℕ) (f l : ℕ) → bytes ≡ (0x1b ∷ x) ++ f ∷ [] → ends_escape (class_of f) ≡ true → m ≡ x → l ≡ f
-      → FoldsTo takes old (executes bytes) mid → Takes own takes refuses result mid (escape_event (strip m) l ∷ []) new
+  pub escape_told : (bytes x m : List ℕ) (f l : ℕ) → bytes ≡ (0x1b ∷ x) ++ f ∷ []
+      → ends_escape (class_of f) ≡ true → m ≡ x → l ≡ f
+      → FoldsTo takes old (executes bytes) mid
+      → Takes own takes refuses result mid (escape_event (strip m) l ∷ []) new
       → Takes own takes refuses result old (executes x ++ escape_event (strip x) f ∷ []) new
   escape_told bytes x m f l e h i j first next =
       let es : executes bytes ≡ executes x = ap executes e ∙ executes_whole_escape x f h in
-      let one : escape_event (strip m) l ≡ escape_event (strip x) f = ap (λ y. escape_event (strip y) l) i ∙ ap (escape_event (strip x)) j in
-      takes_then own takes refuses result (executes x) (escape_event (strip x) f ∷ []) old mid new (subst (λ y. FoldsTo takes old y mid) es first)
+      let one : escape_event (strip m) l ≡ escape_event (strip x) f =
+      ap (λ y. escape_event (strip y) l) i ∙ ap (escape_event (strip x)) j in
+      takes_then own takes refuses result (executes x) (escape_event (strip x) f ∷ []) old mid new
+      (subst (λ y. FoldsTo takes old y mid) es first)
       (subst (λ y. Takes own takes refuses result mid (y ∷ []) new) one next)
 
   -- a control sequence
-  pub csi_told : (bytes x m : List ℕ) (o : Opener) (f l : ℕ) → bytes ≡ opener kind.Csi o ++ x ++ f ∷ [] → ends_csi (class_of f) ≡ true → m ≡ x → l ≡ f
-      → FoldsTo takes old (executes bytes) mid → Takes own takes refuses result mid (csi_events (strip m) l) new
-      → Takes own takes refuses result old (opener_events o ++ executes x ++ csi_events (strip x) f) new
+  pub csi_told : (bytes x m : List ℕ) (o : Opener) (f l : ℕ)
+      → bytes ≡ opener kind.Csi o ++ x ++ f ∷ [] → ends_csi (class_of f) ≡ true → m ≡ x → l ≡ f
+      → FoldsTo takes old (executes bytes) mid
+      → Takes own takes refuses result mid (csi_events (strip m) l) new
+      → Takes own takes refuses result old (opener_events o ++ executes x ++ csi_events (strip x) f)
+      new
   csi_told bytes x m o f l e h i j first next =
-      let es : executes bytes ≡ opener_events o ++ executes x = ap executes e ∙ executes_whole_csi o x f h in
-      let one : csi_events (strip m) l ≡ csi_events (strip x) f = ap (λ y. csi_events (strip y) l) i ∙ ap (csi_events (strip x)) j in
-      takes_then own takes refuses result (opener_events o ++ executes x) (csi_events (strip x) f) old mid new
-      (subst (λ y. FoldsTo takes old y mid) es first) (subst (λ y. Takes own takes refuses result mid y new) one next)
+      let es : executes bytes ≡ opener_events o ++ executes x =
+      ap executes e ∙ executes_whole_csi o x f h in
+      let one : csi_events (strip m) l ≡ csi_events (strip x) f =
+      ap (λ y. csi_events (strip y) l) i ∙ ap (csi_events (strip x)) j in
+      takes_then own takes refuses result (opener_events o ++ executes x) (csi_events (strip x) f)
+      old mid new
+      (subst (λ y. FoldsTo takes old y mid) es first)
+      (subst (λ y. Takes own takes refuses result mid y new) one next)
 
   -- a string, after its opener
-  pub string_told : (k : Kind) (o : Opener) (front : List ℕ) (es : List Event) → front ≡ opener k o → FoldsTo takes old (executes front) mid
-      → Takes own takes refuses result mid es new → Takes own takes refuses result old (opener_events o ++ es) new
+  pub string_told : (k : Kind) (o : Opener) (front : List ℕ) (es : List Event) → front ≡ opener k o
+      → FoldsTo takes old (executes front) mid
+      → Takes own takes refuses result mid es new
+      → Takes own takes refuses result old (opener_events o ++ es) new
   string_told k o front es e first next =
       takes_then own takes refuses result (opener_events o) es old mid new
       (subst (λ y. FoldsTo takes old y mid) (ap executes e ∙ executes_opener k o) first) next
@@ -83,15 +98,18 @@ module _ {S : Type 0} (own : Type 0) (takes refuses : S → Event → S → Type
       (subst (λ y. StopsAt own takes refuses old y new) (ap executes e ∙ executes_opener k o)
       (stops_for ⊥ own takes refuses (executes front) old new (λ no. absurd no) h))
 
-  pub string_halts : (k : Kind) (o : Opener) (front : List ℕ) (es : List Event) → own → front ≡ opener k o → FoldsTo takes old (executes front) new
+  pub string_halts : (k : Kind) (o : Opener) (front : List ℕ) (es : List Event) → own
+      → front ≡ opener k o → FoldsTo takes old (executes front) new
       → StopsAt own takes refuses old (opener_events o ++ es) new
   string_halts k o front es w e h =
-      stops_then own takes refuses (opener_events o) es old new new (subst (λ y. FoldsTo takes old y new) (ap executes e ∙ executes_opener k o) h)
+      stops_then own takes refuses (opener_events o) es old new new
+      (subst (λ y. FoldsTo takes old y new) (ap executes e ∙ executes_opener k o) h)
       (stops_here own takes refuses es new w)
 
 -- ---- an operating system command
 
-pub over_is : (o : Opener) (ps : List Piece) (e : Ending) (after : List ℕ) (w : Bool) → w ≡ true → w ≡ is_finished (Osc o ps e) after → is_over e ≡ true
+pub over_is : (o : Opener) (ps : List Piece) (e : Ending) (after : List ℕ) (w : Bool) → w ≡ true
+    → w ≡ is_finished (Osc o ps e) after → is_over e ≡ true
 over_is o ps Open after w t f = refl
 over_is o ps Rung after w t f = refl
 over_is o ps (Waits x) after w t f = let z : true ≡ false = sym t ∙ f in absurd cc
@@ -110,31 +128,39 @@ pub record Header (body x d : List ℕ) (f run : ℕ) : Type 0 where
   pub content : take (length body - (run + 1)) (drop (run + 1) body) ≡ d
   pub room : run < length body
 
-pub header_is : (body x d : List ℕ) (f run : ℕ) → body ≡ x ++ f ∷ d → AllOf in_csi x → ends_csi (class_of f) ≡ true
+pub header_is : (body x d : List ℕ) (f run : ℕ) → body ≡ x ++ f ∷ d → AllOf in_csi x
+    → ends_csi (class_of f) ≡ true
     → run ≡ prefix_len (λ b. in_csi (class_of b)) body → Header body x d f run
 header_is body x d f run e a h r =
-    let n : run ≡ length x = r ∙ ap (prefix_len (λ b. in_csi (class_of b))) e ∙ run_is (λ b. in_csi (class_of b)) x f d a (final_no (class_of f) h) in
+    let n : run ≡ length x = r ∙ ap (prefix_len (λ b. in_csi (class_of b))) e
+    ∙ run_is (λ b. in_csi (class_of b)) x f d a (final_no (class_of f) h) in
     let one : length (f ∷ []) ≡ 1 = refl in
     let more : length (f ∷ d) ≡ 1 + length d = omega arith in
     let next : length (x ++ f ∷ []) ≡ run + 1 = omega (arith, length-append x (f ∷ [])) in record {
       header = ap (take run) e ∙ take_at x (f ∷ d) run (sym n);
-      final = ap (λ i. get_or body i 0) n ∙ ap (λ y. get_or y (length x) 0) e ∙ get_or-append_seam x f d 0;
-      content = take_rest body (run + 1) ∙ ap (drop (run + 1)) (e ∙ sym (append_assoc x (f ∷ []) d)) ∙ drop_at (x ++ f ∷ []) d (run + 1) next;
+      final = ap (λ i. get_or body i 0) n ∙ ap (λ y. get_or y (length x) 0) e
+          ∙ get_or-append_seam x f d 0;
+      content = take_rest body (run + 1) ∙ ap (drop (run + 1)) (e ∙ sym (append_assoc x (f ∷ []) d))
+          ∙ drop_at (x ++ f ∷ []) d (run + 1) next;
       room = omega (arith, ap length e, length-append x (f ∷ d));
     }
 
 -- what holds of the slices holds of them
-pub header_moves : (body x d : List ℕ) (f run : ℕ) → Header body x d f run → (P : List ℕ → ℕ → List ℕ → Type 0)
-    → P (take run body) (get_or body run 0) (take (length body - (run + 1)) (drop (run + 1) body)) → P x f d
+pub header_moves : (body x d : List ℕ) (f run : ℕ) → Header body x d f run
+    → (P : List ℕ → ℕ → List ℕ → Type 0)
+    → P (take run body) (get_or body run 0) (take (length body - (run + 1)) (drop (run + 1) body))
+    → P x f d
 header_moves body x d f run h P p =
     let back : List ℕ = take (length body - (run + 1)) (drop (run + 1) body) in
-    subst (λ z. P x f z) h.content (subst (λ z. P x z back) h.final (subst (λ z. P z (get_or body run 0) back) h.header p))
+    subst (λ z. P x f z) h.content
+    (subst (λ z. P x z back) h.final (subst (λ z. P z (get_or body run 0) back) h.header p))
 
 noise_no : (b : ℕ) → is_noise (class_of b) ≡ true → is_dcs_parameter b ≡ false
 unfolding class_of
 noise_no b h = grind (arith, nat_tests)
 
-strip_by : (b : ℕ) (x : List ℕ) (t : Bool) → is_noise (class_of b) ≡ t → parameters_of x ≡ parameters_of (strip x)
+strip_by : (b : ℕ) (x : List ℕ) (t : Bool) → is_noise (class_of b) ≡ t
+    → parameters_of x ≡ parameters_of (strip x)
     → parameters_of (b ∷ x) ≡ parameters_of (strip (b ∷ x))
 strip_by b x true e ih = rw e (rw (noise_no b e) ih)
 strip_by b x false e ih = rw e (ap (λ y. cond (is_dcs_parameter b) (b ∷ y) y) ih)

@@ -38,7 +38,8 @@ raw_code kind.Pm = refl
 raw_code kind.Apc = refl
 
 executes_append : (x y : List ℕ) → executes (x ++ y) ≡ executes x ++ executes y
-executes_append x y = ap (map Execute) (filter-append (λ b. is_plain (class_of b)) x y) ∙ map-append Execute (those is_plain x) (those is_plain y)
+executes_append x y = ap (map Execute) (filter-append (λ b. is_plain (class_of b)) x y)
+    ∙ map-append Execute (those is_plain x) (those is_plain y)
 
 executes_none : (b : ℕ) → is_plain (class_of b) ≡ false → executes (b ∷ []) ≡ []
 executes_none b h = rw h refl
@@ -47,15 +48,18 @@ executes_none b h = rw h refl
 pub executes_escape : (x : List ℕ) → executes (0x1b ∷ x) ≡ executes x
 executes_escape x = rw escape_code refl
 
-executes_before : (x : List ℕ) (f : ℕ) → is_plain (class_of f) ≡ false → executes (x ++ f ∷ []) ≡ executes x
-executes_before x f h = executes_append x (f ∷ []) ∙ ap (λ y. executes x ++ y) (executes_none f h) ∙ append-nil (executes x)
+executes_before : (x : List ℕ) (f : ℕ) → is_plain (class_of f) ≡ false
+    → executes (x ++ f ∷ []) ≡ executes x
+executes_before x f h = executes_append x (f ∷ []) ∙ ap (λ y. executes x ++ y) (executes_none f h)
+    ∙ append-nil (executes x)
 
 letter_plain : (k : Kind) → is_plain (class_of (letter_of k)) ≡ false
 letter_plain k = rw (letter_code k) refl
 
 -- an opener
 pub executes_opener : (k : Kind) (o : Opener) → executes (opener k o) ≡ opener_events o
-executes_opener k (Long n) = executes_before (0x1b ∷ n) (letter_of k) (letter_plain k) ∙ executes_escape n
+executes_opener k (Long n) =
+    executes_before (0x1b ∷ n) (letter_of k) (letter_plain k) ∙ executes_escape n
 executes_opener k Raw = rw (raw_code k) refl
 executes_opener k Pair = rw (c2_code, raw_code k) refl
 
@@ -71,12 +75,17 @@ csi_plain Final h = refl
 csi_plain _ h = absurd cc
 
 -- whole sequences
-pub executes_whole_escape : (x : List ℕ) (f : ℕ) → ends_escape (class_of f) ≡ true → executes ((0x1b ∷ x) ++ f ∷ []) ≡ executes x
-executes_whole_escape x f h = executes_before (0x1b ∷ x) f (final_plain (class_of f) h) ∙ executes_escape x
+pub executes_whole_escape : (x : List ℕ) (f : ℕ) → ends_escape (class_of f) ≡ true
+    → executes ((0x1b ∷ x) ++ f ∷ []) ≡ executes x
+executes_whole_escape x f h =
+    executes_before (0x1b ∷ x) f (final_plain (class_of f) h) ∙ executes_escape x
 
-pub executes_opened : (k : Kind) (o : Opener) (x : List ℕ) → executes (opener k o ++ x) ≡ opener_events o ++ executes x
-executes_opened k o x = executes_append (opener k o) x ∙ ap (λ y. y ++ executes x) (executes_opener k o)
+pub executes_opened : (k : Kind) (o : Opener) (x : List ℕ)
+    → executes (opener k o ++ x) ≡ opener_events o ++ executes x
+executes_opened k o x =
+    executes_append (opener k o) x ∙ ap (λ y. y ++ executes x) (executes_opener k o)
 
 pub executes_whole_csi : (o : Opener) (x : List ℕ) (f : ℕ) → ends_csi (class_of f) ≡ true
     → executes (opener kind.Csi o ++ x ++ f ∷ []) ≡ opener_events o ++ executes x
-executes_whole_csi o x f h = executes_before (opener kind.Csi o ++ x) f (csi_plain (class_of f) h) ∙ executes_opened kind.Csi o x
+executes_whole_csi o x f h = executes_before (opener kind.Csi o ++ x) f (csi_plain (class_of f) h)
+    ∙ executes_opened kind.Csi o x

@@ -9,7 +9,8 @@ use Rattle.esc_frame.specs.declared.classes.Class.{Class}
 use Rattle.esc_frame.specs.Classes.{class_of, AllOf}
 
 -- what a loop that looks for the end of a run needs
-pub ruleset runs = (prefix_len-le-length, prefix_len-drop_yes, prefix_len-drop_no, prefix_len-drop_all)
+pub ruleset runs =
+    (prefix_len-le-length, prefix_len-drop_yes, prefix_len-drop_no, prefix_len-drop_all)
 
 -- the longest prefix of a class, and what is behind it
 abbrev pub front : (Class → Bool) → List ℕ → List ℕ
@@ -25,23 +26,30 @@ in_class test = λ b. test (class_of b)
 
 take_by : (test : Class → Bool) (b : ℕ) (s : List ℕ) (n : ℕ) (t : Bool) → take n s ≡ front test s
     → take (cond t (1 + n) 0) (b ∷ s) ≡ (if t then b ∷ front test s else [])
-take_by test b s n true h = let one : 1 + n ≡ suc n = omega arith in ap (λ k. take k (b ∷ s)) one ∙ ap (λ y. b ∷ y) h
+take_by test b s n true h = let one : 1 + n ≡ suc n = omega arith in
+    ap (λ k. take k (b ∷ s)) one ∙ ap (λ y. b ∷ y) h
 take_by test b s n false h = refl
 
 drop_by : (test : Class → Bool) (b : ℕ) (s : List ℕ) (n : ℕ) (t : Bool) → drop n s ≡ rest test s
     → drop (cond t (1 + n) 0) (b ∷ s) ≡ (if t then rest test s else b ∷ s)
-drop_by test b s n true h = let one : 1 + n ≡ suc n = omega arith in ap (λ k. drop k (b ∷ s)) one ∙ h
+drop_by test b s n true h = let one : 1 + n ≡ suc n = omega arith in
+    ap (λ k. drop k (b ∷ s)) one ∙ h
 drop_by test b s n false h = refl
 
-take_front : (test : Class → Bool) (s : List ℕ) → take (prefix_len (in_class test) s) s ≡ front test s
+take_front : (test : Class → Bool) (s : List ℕ)
+    → take (prefix_len (in_class test) s) s ≡ front test s
 take_front test [] = refl
-take_front test (b ∷ s) = take_by test b s (prefix_len (in_class test) s) (test (class_of b)) (take_front test s)
+take_front test (b ∷ s) =
+    take_by test b s (prefix_len (in_class test) s) (test (class_of b)) (take_front test s)
 
-drop_front : (test : Class → Bool) (s : List ℕ) → drop (prefix_len (in_class test) s) s ≡ rest test s
+drop_front : (test : Class → Bool) (s : List ℕ)
+    → drop (prefix_len (in_class test) s) s ≡ rest test s
 drop_front test [] = refl
-drop_front test (b ∷ s) = drop_by test b s (prefix_len (in_class test) s) (test (class_of b)) (drop_front test s)
+drop_front test (b ∷ s) =
+    drop_by test b s (prefix_len (in_class test) s) (test (class_of b)) (drop_front test s)
 
-all_by : (test : Class → Bool) (b : ℕ) (s : List ℕ) (t : Bool) → test (class_of b) ≡ t → AllOf test (front test s)
+all_by : (test : Class → Bool) (b : ℕ) (s : List ℕ) (t : Bool) → test (class_of b) ≡ t
+    → AllOf test (front test s)
     → AllOf test (if t then b ∷ front test s else [])
 all_by test b s true e h = rw e h
 all_by test b s false e h = refl
@@ -58,10 +66,12 @@ pub record Split (test : Class → Bool) (s : List ℕ) (n : ℕ) : Type 0 where
   pub takes : take n s ≡ front test s
   pub drops : drop n s ≡ rest test s
 
-pub split : (test : Class → Bool) (s : List ℕ) (n : ℕ) → n ≡ prefix_len (in_class test) s → Split test s n
+pub split : (test : Class → Bool) (s : List ℕ) (n : ℕ) → n ≡ prefix_len (in_class test) s
+    → Split test s n
 split test s n e = record {
   parts = sym (take-append-drop n s);
-  passes = subst (λ x. AllOf test x) (sym (ap (λ k. take k s) e ∙ take_front test s)) (all_front test s);
+  passes = subst (λ x. AllOf test x) (sym (ap (λ k. take k s) e ∙ take_front test s))
+      (all_front test s);
   len = subst (λ k. k ≡ length (take k s)) (sym e) (sym (length-prefix_len (in_class test) s));
   takes = ap (λ k. take k s) e ∙ take_front test s;
   drops = ap (λ k. drop k s) e ∙ drop_front test s;
@@ -74,6 +84,8 @@ at_end s n e = drop_all n s (omega arith)
 pub next : (s : List ℕ) (n : ℕ) → n < length s → drop n s ≡ get_or s n 0 ∷ drop (n + 1) s
 next s n h = drop_more s n 0 h
 
-pub stops : (test : Class → Bool) (s : List ℕ) (n : ℕ) → n ≡ prefix_len (in_class test) s → n < length s → test (class_of (get_or s n 0)) ≡ false
+pub stops : (test : Class → Bool) (s : List ℕ) (n : ℕ) → n ≡ prefix_len (in_class test) s
+    → n < length s → test (class_of (get_or s n 0)) ≡ false
 stops test s n e h =
-    subst (λ k. test (class_of (get_or s k 0)) ≡ false) (sym e) (prefix_len_stops (in_class test) s 0 (subst (λ k. k < length s) e h))
+    subst (λ k. test (class_of (get_or s k 0)) ≡ false) (sym e)
+    (prefix_len_stops (in_class test) s 0 (subst (λ k. k < length s) e h))

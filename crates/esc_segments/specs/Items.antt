@@ -43,7 +43,8 @@ AreItems _ _ = ⊥
 abbrev pub left : Segments → List ℕ
 left s = s.rest.now
 
--- The item is the first segment of this cut of the bytes, and its bytes come first there; the rest is what follows, and its cut.
+-- The item is the first segment of this cut of the bytes, and its bytes come first there; the rest
+-- is what follows, and its cut.
 pub record IsHead (bytes : List ℕ) (gs : List Segment) (x : Item) (after : List ℕ) : Type 0 where
   pub head : Segment
   pub others : List Segment
@@ -52,9 +53,11 @@ pub record IsHead (bytes : List ℕ) (gs : List Segment) (x : Item) (after : Lis
   pub place : bytes ≡ x.bytes.now ++ after
   pub rest : IsCut after others
 
--- A call gives the first segment of the one cut of what was left, and leaves what follows it; or none, where nothing was left.
+-- A call gives the first segment of the one cut of what was left, and leaves what follows it; or
+-- none, where nothing was left.
 abbrev pub GivesFirst : Segments → Option Item → Segments → Type 0
-GivesFirst s r t = (gs : List Segment) → IsCut (left s) gs → MatchOption r ((gs ≡ []) × (left t ≡ [])) (λ x. IsHead (left s) gs x (left t))
+GivesFirst s r t = (gs : List Segment) → IsCut (left s) gs
+    → MatchOption r ((gs ≡ []) × (left t ≡ [])) (λ x. IsHead (left s) gs x (left t))
 
 -- the bytes of items, one after another
 abbrev pub item_bytes : List Item → List ℕ

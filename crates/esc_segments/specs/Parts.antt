@@ -9,7 +9,8 @@ abbrev pub is_over : Ending → Bool
 is_over (Waits f) = false
 is_over _ = true
 
--- These bytes are left of the text of an OSC, which these bytes follow: with what was kept before them, what they keep is t.
+-- These bytes are left of the text of an OSC, which these bytes follow: with what was kept before
+-- them, what they keep is t.
 pub record IsLeft (kept bytes after t : List ℕ) : Type 0 where
   pub pieces : List Piece
   pub ending : Ending
@@ -18,10 +19,11 @@ pub record IsLeft (kept bytes after t : List ℕ) : Type 0 where
   pub each : ArePieces pieces (ending_bytes ending ++ after)
   pub same : kept ++ text_of pieces ≡ t
 
--- An actor was given the events of this segment, where these are its bytes and this is whether it is
--- finished. By itself the call stopped only where `own` holds.
+-- An actor was given the events of this segment, where these are its bytes and this is whether it
+-- is finished. By itself the call stopped only where `own` holds.
 abbrev pub Tells : {S E : Type 0} → Type 0 → (S → Event → S → Type 0) → (S → Event → S → Type 0)
     → Result (Unit {0}) E → S → S → List ℕ → Bool → Segment
     → Type 0
 Tells own takes refuses result old new bytes finished g =
-    (after : List ℕ) → HasShape g after → bytes ≡ bytes_of g → finished ≡ is_finished g after → Takes own takes refuses result old (events_of g finished) new
+    (after : List ℕ) → HasShape g after → bytes ≡ bytes_of g → finished ≡ is_finished g after
+    → Takes own takes refuses result old (events_of g finished) new

@@ -32,7 +32,8 @@ pub record IsFirst (bytes : List ℕ) (x : Found) : Type 0 where
 
 -- behind any opener of this kind
 abbrev pub IsOpened : Kind → List ℕ → Found → Type 0
-IsOpened k body x = (o : Opener) → IsOpener o → IsFirst (opener k o ++ body) (moved (length (opener k o)) x)
+IsOpened k body x = (o : Opener) → IsOpener o
+    → IsFirst (opener k o ++ body) (moved (length (opener k o)) x)
 
 -- behind this control, raw and behind C2
 abbrev pub IsRaw : ℕ → List ℕ → Found → Type 0
@@ -41,16 +42,20 @@ IsRaw b body x = (p : Bool) → IsFirst (behind_c2 p b ++ body) (moved (length (
 -- the sequence of UTF-8 that comes first
 abbrev pub IsSequence : List ℕ → Ahead → Type 0
 IsSequence bytes (ahead.Whole n) =
-    (0 < n) × (n ≤ length bytes) × (is_sequence (take n bytes) ≡ true) × (is_pair (take n bytes) ≡ false)
+    (0 < n) × (n ≤ length bytes) × (is_sequence (take n bytes) ≡ true)
+    × (is_pair (take n bytes) ≡ false)
 IsSequence bytes (ahead.Broken n) =
-    (0 < n) × (n ≤ length bytes) × (is_front (take n bytes) ≡ true) × (is_broken_before (take n bytes) (drop n bytes) ≡ true)
+    (0 < n) × (n ≤ length bytes) × (is_front (take n bytes) ≡ true)
+    × (is_broken_before (take n bytes) (drop n bytes) ≡ true)
 IsSequence bytes ahead.Pending = is_front bytes ≡ true
-IsSequence bytes (ahead.Control b) = (is_raw (class_of b) ≡ true) × (take 2 bytes ≡ 0xc2 ∷ b ∷ []) × (2 ≤ length bytes)
+IsSequence bytes (ahead.Control b) = (is_raw (class_of b) ≡ true) × (take 2 bytes ≡ 0xc2 ∷ b ∷ [])
+    × (2 ≤ length bytes)
 
 -- what comes first in the text of an OSC
 abbrev pub IsUnit : List ℕ → TextUnit → Type 0
 IsUnit text (units.Kept n) =
-    (0 < n) × (n ≤ length text) × ((ps : List Piece) × (text_bytes ps ≡ take n text) × ArePieces ps (drop n text))
+    (0 < n) × (n ≤ length text) × ((ps : List Piece) × (text_bytes ps ≡ take n text)
+    × ArePieces ps (drop n text))
 IsUnit text units.Bell = text ≡ 0x07 ∷ drop 1 text
 IsUnit text units.Breaker = breaks_text text ≡ true
 IsUnit text units.Pending = is_front text ≡ true

@@ -67,7 +67,8 @@ pub fn is_in_header(b: u8) -> bool
     !is_breaker(b) && (b < 0x40 || 0x7f <= b)
 }
 
-/// Whether it is a unit by itself in the text of an OSC: no breaker, no BEL, and no byte C2 to F4 that begins a sequence.
+/// Whether it is a unit by itself in the text of an OSC: no breaker, no BEL, and no byte C2 to F4
+/// that begins a sequence.
 #[tactic(auto, unfolding(esc_frame::specs::Classes::class_of))]
 #[inline(always)]
 pub fn is_in_text(b: u8) -> bool

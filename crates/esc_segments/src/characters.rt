@@ -31,7 +31,8 @@ pub fn character_of(bytes: &[u8]) -> char
 
 // The character of a prefix of a sequence and its last byte.
 fn completed(front: Pending, last: u8) -> char
-    ensures { is_sequence (front_of front ++ last ∷ []) ≡ true → result ≡ number_of (front_of front ++ last ∷ []) }
+    ensures { is_sequence (front_of front ++ last ∷ []) ≡ true
+        → result ≡ number_of (front_of front ++ last ∷ []) }
 {
     match front.outcome(last) {
         Outcome::Whole => front.character(last),

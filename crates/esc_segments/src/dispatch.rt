@@ -138,7 +138,8 @@ fn body_of(x: &[u8]) -> CsiBody
     body
 }
 
-/// A sequence or header that is cut short: the controls inside it, but of a device control string only those in its opener.
+/// A sequence or header that is cut short: the controls inside it, but of a device control string
+/// only those in its opener.
 pub fn cut_short<V: VTActor>(bytes: &[u8], actor: &mut V) -> Result<()>
     requires { V.is_ready actor.old }
     ensures escape { (finished : Bool) (x : List ℕ)

@@ -18,11 +18,13 @@ use crate::strings::{apc, dcs, osc};
 use esc_frame::VTActor;
 use std::alloc::{AllocError, Allocator};
 
-/// Gives an actor the events of a segment, by splitting its bytes: those that a parser gives for it, wherever it comes in a stream.
+/// Gives an actor the events of a segment, by splitting its bytes: those that a parser gives for
+/// it, wherever it comes in a stream.
 ///
-/// The segment is one that [`Segments`](crate::Segments) gave. Of a segment that is unfinished these are the events so far. Of any
-/// other value of the type nothing is said but that the call returns. It takes memory only for a string, and only
-/// while it runs. `AllocError` says that memory was refused, here or by the actor, after a prefix of the events.
+/// The segment is one that [`Segments`](crate::Segments) gave. Of a segment that is unfinished
+/// these are the events so far. Of any other value of the type nothing is said but that the call
+/// returns. It takes memory only for a string, and only while it runs. `AllocError` says that
+/// memory was refused, here or by the actor, after a prefix of the events.
 pub fn segment_events<A: Allocator + Copy, V: VTActor>(
     alloc: A,
     segment: &Segment<'_>,

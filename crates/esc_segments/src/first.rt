@@ -81,7 +81,8 @@ fn escape(rest: &[u8]) -> Found
 // An escape sequence that opens nothing.
 fn escape_sequence(rest: &[u8], noise: usize) -> Found
     requires noise { noise ≡ prefix_len (λ b. is_noise (class_of b)) rest.now }
-    requires opens_nothing { noise < length rest.now → opens (class_of (slice_index rest.now noise)) ≡ false }
+    requires opens_nothing { noise < length rest.now
+        → opens (class_of (slice_index rest.now noise)) ≡ false }
     ensures found { IsFirst (0x1b ∷ rest.now) (moved 1 result) }
     ensures few { result.len ≤ length rest.now }
 {

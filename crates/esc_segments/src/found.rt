@@ -6,8 +6,8 @@ ghost use Rattle.esc_segments.specs.Places.{moved, found};
 
 use crate::kind::SegmentKind;
 
-/// A segment that has been found, or what of it follows its opener: its kind, how many bytes it takes, and whether it is
-/// finished.
+/// A segment that has been found, or what of it follows its opener: its kind, how many bytes it
+/// takes, and whether it is finished.
 #[derive(Clone, Copy)]
 pub struct Found {
     pub kind: SegmentKind,

@@ -3,14 +3,15 @@
 
 use crate::kind::SegmentKind;
 
-/// A segment of some bytes, as [`Segments`](crate::Segments) gives it. It borrows the bytes, not the iterator.
+/// A segment of some bytes, as [`Segments`](crate::Segments) gives it. It borrows the bytes, not
+/// the iterator.
 #[derive(Clone, Copy, PartialEq, Eq, Debug)]
 pub struct Segment<'a> {
     /// What it is.
     pub kind: SegmentKind,
     /// Its bytes, where they lie in the input. They are never empty.
     pub bytes: &'a [u8],
-    /// Whether it is finished: it ends by itself, or what follows it in the input ends it. All but the last segment of the
-    /// input are finished.
+    /// Whether it is finished: it ends by itself, or what follows it in the input ends it. All but
+    /// the last segment of the input are finished.
     pub finished: bool,
 }

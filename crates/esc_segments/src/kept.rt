@@ -12,7 +12,8 @@ use std::alloc::{AllocError, Allocator};
 // U+FFFD, in UTF-8.
 const REPLACEMENT: [u8; 3] = [0xef, 0xbf, 0xbd];
 
-/// What a text keeps whose end is known: its bytes 20 to 7F, its well-formed sequences, and U+FFFD for each broken one.
+/// What a text keeps whose end is known: its bytes 20 to 7F, its well-formed sequences, and U+FFFD
+/// for each broken one.
 pub fn kept_text<A: Allocator>(alloc: A, text: &[u8]) -> Result<Vec<u8, A>, AllocError>
     ensures ok { (ps : List Piece) (e : Ending) (after : List ℕ)
         → text.now ≡ text_bytes ps ++ ending_bytes e → ArePieces ps (ending_bytes e ++ after)
@@ -30,7 +31,8 @@ pub fn kept_text<A: Allocator>(alloc: A, text: &[u8]) -> Result<Vec<u8, A>, Allo
 // Appends what is kept of the unit that comes first, and returns its length.
 fn keep_unit<A: Allocator>(kept: &mut Vec<u8, A>, text: &[u8]) -> Result<usize, AllocError>
     requires { 0 < length text.now }
-    ensures kept { (after t : List ℕ) → IsLeft kept.old.items text.now after t → IfOk result (λ n. IsLeft kept.new.items (drop n text.now) after t) }
+    ensures kept { (after t : List ℕ) → IsLeft kept.old.items text.now after t
+        → IfOk result (λ n. IsLeft kept.new.items (drop n text.now) after t) }
     ensures count { IfOk result (λ n. (0 < n) × (n ≤ length text.now)) }
     ensures refused { OnErr result (Refused A) }
 {
@@ -49,7 +51,8 @@ fn keep_sequence<A: Allocator>(kept: &mut Vec<u8, A>, text: &[u8]) -> Result<usi
     requires some { 0 < length text.now }
     requires low { 0xc2 ≤ slice_index text.now 0 }
     requires high { slice_index text.now 0 ≤ 0xf4 }
-    ensures kept { (after t : List ℕ) → IsLeft kept.old.items text.now after t → IfOk result (λ n. IsLeft kept.new.items (drop n text.now) after t) }
+    ensures kept { (after t : List ℕ) → IsLeft kept.old.items text.now after t
+        → IfOk result (λ n. IsLeft kept.new.items (drop n text.now) after t) }
     ensures count { IfOk result (λ n. (0 < n) × (n ≤ length text.now)) }
     ensures refused { OnErr result (Refused A) }
 {

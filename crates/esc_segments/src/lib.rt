@@ -1,8 +1,9 @@
 //! The segments of terminal bytes: an iterator over the caller's slice that takes no memory.
 //!
-//! [`Segments`] gives the one cut of a stream of bytes into characters, controls, escape sequences and strings, as the parser
-//! of DEC's terminals (<https://vt100.net/emu/dec_ansi_parser>) and ECMA-48 have them, without dispatching anything: a pager,
-//! a linter or an editor can look at the bytes of each where they lie. [`laws`] says what a whole iteration gives.
+//! [`Segments`] gives the one cut of a stream of bytes into characters, controls, escape sequences
+//! and strings, as the parser of DEC's terminals (<https://vt100.net/emu/dec_ansi_parser>) and
+//! ECMA-48 have them, without dispatching anything: a pager, a linter or an editor can look at the
+//! bytes of each where they lie. [`laws`] says what a whole iteration gives.
 //!
 //! ```
 //! for segment in Segments::new(b"\x1b[1mbold") {
@@ -10,8 +11,8 @@
 //! }
 //! ```
 //!
-//! A segment outlives the iterator that gave it, and not the input: the compiler refuses a program that keeps a segment longer
-//! than the bytes that it was cut from.
+//! A segment outlives the iterator that gave it, and not the input: the compiler refuses a program
+//! that keeps a segment longer than the bytes that it was cut from.
 #![tactic(auto)]
 
 mod bytes;

@@ -24,7 +24,8 @@ use std::alloc::{AllocError, Allocator};
 
 type Result<T> = std::result::Result<T, AllocError>;
 
-/// An operating system command: the controls in its opener, and once it is finished the dispatch of its parts.
+/// An operating system command: the controls in its opener, and once it is finished the dispatch of
+/// its parts.
 pub fn osc<A: Allocator + Copy, V: VTActor>(
     alloc: A,
     bytes: &[u8],
@@ -52,7 +53,8 @@ pub fn osc<A: Allocator + Copy, V: VTActor>(
     }
 }
 
-/// An application program command: the controls in its opener, and once it is finished the dispatch of its bytes 20 to 7F.
+/// An application program command: the controls in its opener, and once it is finished the dispatch
+/// of its bytes 20 to 7F.
 pub fn apc<A: Allocator, V: VTActor>(
     alloc: A,
     bytes: &[u8],
@@ -99,8 +101,8 @@ fn text_of<A: Allocator>(alloc: A, content: &[u8]) -> Result<Vec<u8, A>>
     memory::collect(alloc, content.iter().copied().filter(|b| is_text(*b)))
 }
 
-/// A device control string: the controls in its opener, and where its header has its form the hook, its data byte by byte,
-/// and once it is finished the unhook.
+/// A device control string: the controls in its opener, and where its header has its form the hook,
+/// its data byte by byte, and once it is finished the unhook.
 pub fn dcs<A: Allocator + Copy, V: VTActor>(
     alloc: A,
     bytes: &[u8],
@@ -144,7 +146,8 @@ fn tell_dcs<A: Allocator + Copy, V: VTActor>(
 ) -> Result<()>
     requires { V.is_ready actor.old }
     ensures told { Takes (Refused A) V.takes V.refuses result actor.old
-        (if is_dcs_header (strip x.now) then (hook_event (strip x.now) last ∷ puts content.now) ++ (if finished then DcsUnhook ∷ [] else []) else []) actor.new }
+        (if is_dcs_header (strip x.now) then (hook_event (strip x.now) last ∷ puts content.now)
+        ++ (if finished then DcsUnhook ∷ [] else []) else []) actor.new }
     ensures ready { OnOk result (V.is_ready actor.new) }
 {
     let header = header_of(x);

@@ -35,7 +35,8 @@ abbrev BackWhere : Option (List CsiValue) → Type 0
 BackWhere None = Unit {0}
 BackWhere (Some vs) = ReadBack 0x6d vs
 
-put_back : (i : Option Sgr) (more : Option (List CsiValue)) → BackWhere more → BackWhere (put_first i more)
+put_back : (i : Option Sgr) (more : Option (List CsiValue)) → BackWhere more
+    → BackWhere (put_first i more)
 put_back None more h = tt
 put_back (Some s) None h = tt
 put_back (Some s) (Some vs) h = (sgr_back s, h)
@@ -46,36 +47,53 @@ renditions_back (i ∷ is) = put_back (rendition i) (renditions is) (renditions_
 
 -- one sequence as it is
 whole_back : (x : List ℕ) (f : ℕ) → is_csi_body x ≡ true → length (entries x) ≤ 256 → f < 128
-    → csi_of (entries x) false f ≡ unspecified (entries x) false f ∷ [] → ReadsBack f (unspecified (entries x) false f)
+    → csi_of (entries x) false f ≡ unspecified (entries x) false f ∷ []
+    → ReadsBack f (unspecified (entries x) false f)
 whole_back x f form few small read =
     let same = entries_back x (body_bytes x form) in (
       ap (λ t. 0x1b ∷ 0x5b ∷ (entries_text (entries x) ++ t)) (encode_ascii f small),
-      (text_bytes x (body_bytes x form), same_form x (entries_text (entries x)) same form, omega (arith, ap length same)),
+      (
+        text_bytes x (body_bytes x form),
+        same_form x (entries_text (entries x)) same form,
+        omega (arith, ap length same),
+      ),
       ap (λ es. csi_of es false f) same ∙ read,
     )
 
 -- which of both it is
-read_by : (x : List ℕ) (o : Option (List CsiValue)) → is_csi_body x ≡ true → length (entries x) ≤ 256 → BackWhere o
+read_by : (x : List ℕ) (o : Option (List CsiValue)) → is_csi_body x ≡ true
+    → length (entries x) ≤ 256 → BackWhere o
     → renditions (slice_split is_separator (entries x)) ≡ o
     → ReadBack 0x6d (unwrap_or o (unspecified (entries x) false 0x6d ∷ []))
-read_by x None form few back is = (whole_back x 0x6d form few (omega arith) (ap (λ o. unwrap_or o (unspecified (entries x) false 0x6d ∷ [])) is), tt)
+read_by x None form few back is = (
+  whole_back x 0x6d form few (omega arith)
+      (ap (λ o. unwrap_or o (unspecified (entries x) false 0x6d ∷ [])) is),
+  tt,
+)
 read_by x (Some vs) form few back is = back
 
-final_by : (x : List ℕ) (f : ℕ) (t : Bool) → (f == 0x6d) ≡ t → is_csi_body x ≡ true → length (entries x) ≤ 256 → f < 128
+final_by : (x : List ℕ) (f : ℕ) (t : Bool) → (f == 0x6d) ≡ t → is_csi_body x ≡ true
+    → length (entries x) ≤ 256 → f < 128
     → ReadBack f
-    (if t && not false then unwrap_or (renditions (slice_split is_separator (entries x))) (unspecified (entries x) false f ∷ []) else unspecified
+    (if t && not false then unwrap_or (renditions (slice_split is_separator (entries x)))
+    (unspecified (entries x) false f ∷ []) else unspecified
     (entries x) false f ∷ [])
 final_by x f true e form few small =
     let is : f ≡ 0x6d = eqb-true f 0x6d e in
-    let P : ℕ → Type 0 = λ g. ReadBack g (unwrap_or (renditions (slice_split is_separator (entries x))) (unspecified (entries x) false g ∷ [])) in
-    subst P (sym is) (read_by x (renditions (slice_split is_separator (entries x))) form few (renditions_back (slice_split is_separator (entries x))) refl)
+    let P : ℕ → Type 0 = λ g.
+    ReadBack g (unwrap_or (renditions (slice_split is_separator (entries x)))
+    (unspecified (entries x) false g ∷ [])) in
+    subst P (sym is) (read_by x (renditions (slice_split is_separator (entries x))) form few
+    (renditions_back (slice_split is_separator (entries x))) refl)
 final_by x f false e form few small = (whole_back x f form few small (rw e refl), tt)
 
-pub reads_back : (x : List ℕ) (f : ℕ) → is_csi_body x ≡ true → length (entries x) ≤ 256 → f < 128 → ReadBack f (csi_of (entries x) false f)
+pub reads_back : (x : List ℕ) (f : ℕ) → is_csi_body x ≡ true → length (entries x) ≤ 256 → f < 128
+    → ReadBack f (csi_of (entries x) false f)
 reads_back x f form few small = final_by x f (f == 0x6d) refl form few small
 
 truncated_by : (es : List CsiParam) (f : ℕ) (t : Bool)
-    → (if t && not true then unwrap_or (renditions (slice_split is_separator es)) (unspecified es true f ∷ []) else unspecified es true f ∷ [])
+    → (if t && not true then unwrap_or (renditions (slice_split is_separator es))
+    (unspecified es true f ∷ []) else unspecified es true f ∷ [])
     ≡ unspecified es true f ∷ []
 truncated_by es f true = refl
 truncated_by es f false = refl

@@ -29,12 +29,15 @@ no_digit [] = true
 no_digit (b ∷ bs) = not (is_digit b)
 
 end_by : (n b : ℕ) (r : List ℕ) (t : Bool) → not t ≡ true
-    → (if t then entries_behind (Some (10 * n + (b - 0x30))) r else Integer (pos (held n)) ∷ P b ∷ entries_behind None r)
-    ≡ Integer (pos (held n)) ∷ (if t then entries_behind (Some (b - 0x30)) r else P b ∷ entries_behind None r)
+    → (if t then entries_behind (Some (10 * n + (b - 0x30))) r else Integer (pos (held n)) ∷ P b
+    ∷ entries_behind None r)
+    ≡ Integer (pos (held n)) ∷ (if t then entries_behind (Some (b - 0x30)) r else P b
+    ∷ entries_behind None r)
 end_by n b r true h = absurd cc
 end_by n b r false h = refl
 
-end_is : (n : ℕ) (r : List ℕ) → no_digit r ≡ true → entries_behind (Some n) r ≡ Integer (pos (held n)) ∷ entries r
+end_is : (n : ℕ) (r : List ℕ) → no_digit r ≡ true
+    → entries_behind (Some n) r ≡ Integer (pos (held n)) ∷ entries r
 end_is n [] h = refl
 end_is n (b ∷ r) h = end_by n b r (is_digit b) h
 
@@ -42,7 +45,8 @@ end_is n (b ∷ r) h = end_by n b r (is_digit b) h
 run_is : (n : ℕ) (ds r : List ℕ) → are_digits ds ≡ true → no_digit r ≡ true
     → entries_behind (Some n) (ds ++ r) ≡ Integer (pos (held (value_behind n ds))) ∷ entries r
 run_is n [] r h k = end_is n r k
-run_is n (d ∷ ds) r h k = let q = and_parts (is_digit d) (are_digits ds) h in rw q.0 (run_is (10 * n + (d - 0x30)) ds r q.1 k)
+run_is n (d ∷ ds) r h k = let q = and_parts (is_digit d) (are_digits ds) h in
+    rw q.0 (run_is (10 * n + (d - 0x30)) ds r q.1 k)
 
 digits_are : (ds r : List ℕ) → 0 < length ds → are_digits ds ≡ true → no_digit r ≡ true
     → entries (ds ++ r) ≡ Integer (pos (held (value_behind 0 ds))) ∷ entries r
@@ -50,7 +54,8 @@ digits_are [] r some h k = absurd (omega arith)
 digits_are (d ∷ ds) r some h k =
     let q = and_parts (is_digit d) (are_digits ds) h in
     let same : d - 0x30 ≡ 10 * 0 + (d - 0x30) = omega arith in
-    rw q.0 (run_is (d - 0x30) ds r q.1 k ∙ ap (λ n. Integer (pos (held (value_behind n ds))) ∷ entries r) same)
+    rw q.0 (run_is (d - 0x30) ds r q.1 k ∙ ap (λ n. Integer (pos (held (value_behind n ds)))
+    ∷ entries r) same)
 
 held_small : (n : ℕ) → held n < 2 ^ 64
 held_small n = omega arith
@@ -58,10 +63,12 @@ held_small n = omega arith
 held_again : (n : ℕ) → held (held n) ≡ held n
 held_again n = omega arith
 
-number_is : (n : ℕ) (r : List ℕ) → no_digit r ≡ true → entries (decimal (held n) ++ r) ≡ Integer (pos (held n)) ∷ entries r
+number_is : (n : ℕ) (r : List ℕ) → no_digit r ≡ true
+    → entries (decimal (held n) ++ r) ≡ Integer (pos (held n)) ∷ entries r
 number_is n r k =
     let small = held_small n in
-    digits_are (decimal (held n)) r (decimal_nonempty (held n) small) (digits_decimal own (held n) small) k
+    digits_are (decimal (held n)) r (decimal_nonempty (held n) small)
+    (digits_decimal own (held n) small) k
     ∙ ap (λ m. Integer (pos (held m)) ∷ entries r) (digits_value-decimal own (held n) small)
     ∙ ap (λ m. Integer (pos m) ∷ entries r) (held_again n)
 
@@ -72,30 +79,39 @@ byte_text : (b : ℕ) (r : List ℕ) → is_body_byte b ≡ true → encode_utf8
 byte_text b r h = ap (λ t. t ++ r) (encode_ascii b (body_is_ascii b h))
 
 -- a byte that is no digit, and what follows
-other_is : (b : ℕ) (es : List CsiParam) → is_body_byte b ≡ true → is_digit b ≡ false → entries (entries_text es) ≡ es
+other_is : (b : ℕ) (es : List CsiParam) → is_body_byte b ≡ true → is_digit b ≡ false
+    → entries (entries_text es) ≡ es
     → entries (entries_text (P b ∷ es)) ≡ P b ∷ es
 other_is b es i d h = ap entries (byte_text b (entries_text es) i) ∙ rw d (ap (λ y. P b ∷ y) h)
 
 none_by : (b : ℕ) (x : List ℕ) (t : Bool) → is_digit b ≡ t → is_body_byte b ≡ true
-    → entries (entries_text (entries_behind (Some (b - 0x30)) x)) ≡ entries_behind (Some (b - 0x30)) x → entries (entries_text (entries x)) ≡ entries x
-    → entries (entries_text (if t then entries_behind (Some (b - 0x30)) x else P b ∷ entries_behind None x))
+    → entries (entries_text (entries_behind (Some (b - 0x30)) x))
+    ≡ entries_behind (Some (b - 0x30)) x → entries (entries_text (entries x)) ≡ entries x
+    → entries (entries_text (if t then entries_behind (Some (b - 0x30)) x else P b
+    ∷ entries_behind None x))
     ≡ (if t then entries_behind (Some (b - 0x30)) x else P b ∷ entries_behind None x)
 none_by b x true d i h k = h
 none_by b x false d i h k = other_is b (entries x) i d k
 
-no_digit_in_front : (b : ℕ) (es : List CsiParam) → is_body_byte b ≡ true → is_digit b ≡ false → no_digit (entries_text (P b ∷ es)) ≡ true
+no_digit_in_front : (b : ℕ) (es : List CsiParam) → is_body_byte b ≡ true → is_digit b ≡ false
+    → no_digit (entries_text (P b ∷ es)) ≡ true
 no_digit_in_front b es i d = ap no_digit (byte_text b (entries_text es) i) ∙ rw d refl
 
 some_by : (n b : ℕ) (x : List ℕ) (t : Bool) → is_digit b ≡ t → is_body_byte b ≡ true
-    → entries (entries_text (entries_behind (Some (10 * n + (b - 0x30))) x)) ≡ entries_behind (Some (10 * n + (b - 0x30))) x
+    → entries (entries_text (entries_behind (Some (10 * n + (b - 0x30))) x))
+    ≡ entries_behind (Some (10 * n + (b - 0x30))) x
     → entries (entries_text (entries x)) ≡ entries x
-    → entries (entries_text (if t then entries_behind (Some (10 * n + (b - 0x30))) x else Integer (pos (held n)) ∷ P b ∷ entries_behind None x))
-    ≡ (if t then entries_behind (Some (10 * n + (b - 0x30))) x else Integer (pos (held n)) ∷ P b ∷ entries_behind None x)
+    → entries (entries_text (if t then entries_behind (Some (10 * n + (b - 0x30))) x else Integer
+    (pos (held n)) ∷ P b ∷ entries_behind None x))
+    ≡ (if t then entries_behind (Some (10 * n + (b - 0x30))) x else Integer (pos (held n)) ∷ P b
+    ∷ entries_behind None x)
 some_by n b x true d i h k = h
 some_by n b x false d i h k =
-    number_is n (entries_text (P b ∷ entries x)) (no_digit_in_front b (entries x) i d) ∙ ap (λ y. Integer (pos (held n)) ∷ y) (other_is b (entries x) i d k)
+    number_is n (entries_text (P b ∷ entries x)) (no_digit_in_front b (entries x) i d)
+    ∙ ap (λ y. Integer (pos (held n)) ∷ y) (other_is b (entries x) i d k)
 
-back : (o : Option ℕ) (x : List ℕ) → list_all is_body_byte x ≡ true → entries (entries_text (entries_behind o x)) ≡ entries_behind o x
+back : (o : Option ℕ) (x : List ℕ) → list_all is_body_byte x ≡ true
+    → entries (entries_text (entries_behind o x)) ≡ entries_behind o x
 back None [] h = refl
 back (Some n) [] h = number_is n [] refl
 back None (b ∷ x) h = let q = and_parts (is_body_byte b) (list_all is_body_byte x) h in
@@ -103,42 +119,60 @@ back None (b ∷ x) h = let q = and_parts (is_body_byte b) (list_all is_body_byt
 back (Some n) (b ∷ x) h = let q = and_parts (is_body_byte b) (list_all is_body_byte x) h in
     some_by n b x (is_digit b) refl q.0 (back (Some (10 * n + (b - 0x30))) x q.1) (back None x q.1)
 
-pub entries_back : (x : List ℕ) → list_all is_body_byte x ≡ true → entries (entries_text (entries x)) ≡ entries x
+pub entries_back : (x : List ℕ) → list_all is_body_byte x ≡ true
+    → entries (entries_text (entries x)) ≡ entries x
 entries_back x h = back None x h
 
 -- the bytes of the text
 digits_in_body : (ds : List ℕ) → are_digits ds ≡ true → list_all is_body_byte ds ≡ true
 digits_in_body [] h = refl
-digits_in_body (d ∷ ds) h = let q = and_parts (is_digit d) (are_digits ds) h in rw (digit_in_body d q.0, digits_in_body ds q.1) refl
+digits_in_body (d ∷ ds) h = let q = and_parts (is_digit d) (are_digits ds) h in
+    rw (digit_in_body d q.0, digits_in_body ds q.1) refl
 
-number_bytes : (n : ℕ) (r : List ℕ) → list_all is_body_byte r ≡ true → list_all is_body_byte (decimal (held n) ++ r) ≡ true
+number_bytes : (n : ℕ) (r : List ℕ) → list_all is_body_byte r ≡ true
+    → list_all is_body_byte (decimal (held n) ++ r) ≡ true
 number_bytes n r h =
-    rw (list_all-append is_body_byte (decimal (held n)) r, digits_in_body (decimal (held n)) (digits_decimal own (held n) (held_small n)), h) refl
+    rw (
+      list_all-append is_body_byte (decimal (held n)) r,
+      digits_in_body (decimal (held n)) (digits_decimal own (held n) (held_small n)),
+      h,
+    ) refl
 
-other_bytes : (b : ℕ) (es : List CsiParam) → is_body_byte b ≡ true → list_all is_body_byte (entries_text es) ≡ true
+other_bytes : (b : ℕ) (es : List CsiParam) → is_body_byte b ≡ true
+    → list_all is_body_byte (entries_text es) ≡ true
     → list_all is_body_byte (entries_text (P b ∷ es)) ≡ true
 other_bytes b es i h = ap (list_all is_body_byte) (byte_text b (entries_text es) i) ∙ rw (i, h) refl
 
 bytes_none_by : (b : ℕ) (x : List ℕ) (t : Bool) → is_body_byte b ≡ true
-    → list_all is_body_byte (entries_text (entries_behind (Some (b - 0x30)) x)) ≡ true → list_all is_body_byte (entries_text (entries x)) ≡ true
-    → list_all is_body_byte (entries_text (if t then entries_behind (Some (b - 0x30)) x else P b ∷ entries_behind None x)) ≡ true
+    → list_all is_body_byte (entries_text (entries_behind (Some (b - 0x30)) x)) ≡ true
+    → list_all is_body_byte (entries_text (entries x)) ≡ true
+    → list_all is_body_byte (entries_text (if t then entries_behind (Some (b - 0x30)) x else P b
+    ∷ entries_behind None x)) ≡ true
 bytes_none_by b x true i h k = h
 bytes_none_by b x false i h k = other_bytes b (entries x) i k
 
 bytes_some_by : (n b : ℕ) (x : List ℕ) (t : Bool) → is_body_byte b ≡ true
-    → list_all is_body_byte (entries_text (entries_behind (Some (10 * n + (b - 0x30))) x)) ≡ true → list_all is_body_byte (entries_text (entries x)) ≡ true
+    → list_all is_body_byte (entries_text (entries_behind (Some (10 * n + (b - 0x30))) x)) ≡ true
+    → list_all is_body_byte (entries_text (entries x)) ≡ true
     → list_all is_body_byte
-    (entries_text (if t then entries_behind (Some (10 * n + (b - 0x30))) x else Integer (pos (held n)) ∷ P b ∷ entries_behind None x)) ≡ true
+    (entries_text (if t then entries_behind (Some (10 * n + (b - 0x30))) x else Integer
+    (pos (held n)) ∷ P b ∷ entries_behind None x)) ≡ true
 bytes_some_by n b x true i h k = h
-bytes_some_by n b x false i h k = number_bytes n (entries_text (P b ∷ entries x)) (other_bytes b (entries x) i k)
+bytes_some_by n b x false i h k =
+    number_bytes n (entries_text (P b ∷ entries x)) (other_bytes b (entries x) i k)
 
-text_bytes_behind : (o : Option ℕ) (x : List ℕ) → list_all is_body_byte x ≡ true → list_all is_body_byte (entries_text (entries_behind o x)) ≡ true
+text_bytes_behind : (o : Option ℕ) (x : List ℕ) → list_all is_body_byte x ≡ true
+    → list_all is_body_byte (entries_text (entries_behind o x)) ≡ true
 text_bytes_behind None [] h = refl
 text_bytes_behind (Some n) [] h = number_bytes n [] refl
 text_bytes_behind None (b ∷ x) h = let q = and_parts (is_body_byte b) (list_all is_body_byte x) h in
-    bytes_none_by b x (is_digit b) q.0 (text_bytes_behind (Some (b - 0x30)) x q.1) (text_bytes_behind None x q.1)
-text_bytes_behind (Some n) (b ∷ x) h = let q = and_parts (is_body_byte b) (list_all is_body_byte x) h in
-    bytes_some_by n b x (is_digit b) q.0 (text_bytes_behind (Some (10 * n + (b - 0x30))) x q.1) (text_bytes_behind None x q.1)
+    bytes_none_by b x (is_digit b) q.0 (text_bytes_behind (Some (b - 0x30)) x q.1)
+    (text_bytes_behind None x q.1)
+text_bytes_behind (Some n) (b ∷ x) h = let q =
+    and_parts (is_body_byte b) (list_all is_body_byte x) h in
+    bytes_some_by n b x (is_digit b) q.0 (text_bytes_behind (Some (10 * n + (b - 0x30))) x q.1)
+    (text_bytes_behind None x q.1)
 
-pub text_bytes : (x : List ℕ) → list_all is_body_byte x ≡ true → list_all is_body_byte (entries_text (entries x)) ≡ true
+pub text_bytes : (x : List ℕ) → list_all is_body_byte x ≡ true
+    → list_all is_body_byte (entries_text (entries x)) ≡ true
 text_bytes x h = text_bytes_behind None x h

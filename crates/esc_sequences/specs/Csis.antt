@@ -14,7 +14,8 @@ use Rattle.esc_sequences.specs.declared.sgr.Sgr.TheVariants.{Reset, Intensity, I
 use Rattle.esc_sequences.specs.declared.underline.Underline.TheVariants as underline
 use Rattle.esc_values.specs.Entries.{is_body_byte, is_csi_body, entries, entries_text}
 
--- a control sequence, without where it lies in memory: a rendition, or entries, whether there are more, and a final byte
+-- a control sequence, without where it lies in memory: a rendition, or entries, whether there are
+-- more, and a final byte
 pub data CsiValue : Type 0 where
   sgr : Sgr → CsiValue
   unspecified : List CsiParam → Bool → ℕ → CsiValue
@@ -76,12 +77,15 @@ abbrev pub is_separator : CsiParam → Bool
 is_separator (Integer n) = false
 is_separator (P b) = b == 0x3b
 
--- What entries, whether there were more of them, and a final byte are: with the final byte `m`, where none was left out
--- and the items between `;` are all renditions, these; else one sequence as it is. No entry is one empty item.
+-- What entries, whether there were more of them, and a final byte are: with the final byte `m`,
+-- where none was left out and the items between `;` are all renditions, these; else one sequence as
+-- it is. No entry is one empty item.
 abbrev pub csi_of : List CsiParam → Bool → ℕ → List CsiValue
 csi_of params truncated control =
     let whole = unspecified params truncated control ∷ [] in
-    if (control == 0x6d) && not truncated then unwrap_or (renditions (slice_split is_separator params)) whole else whole
+    if (control == 0x6d)
+    && not truncated then unwrap_or (renditions (slice_split is_separator params)) whole else
+    whole
 
 -- the number of a rendition
 abbrev pub sgr_body : Sgr → List ℕ
@@ -114,11 +118,13 @@ csi_text (unspecified es more f) = 0x1b ∷ 0x5b ∷ (entries_text es ++ encode_
 
 -- the body of a control sequence, of which no entry is left out
 abbrev pub IsWholeBody : List ℕ → Type 0
-IsWholeBody x = (list_all is_body_byte x ≡ true) × (is_csi_body x ≡ true) × (length (entries x) ≤ 256)
+IsWholeBody x = (list_all is_body_byte x ≡ true) × (is_csi_body x ≡ true)
+    × (length (entries x) ≤ 256)
 
 -- the value's text is one control sequence with this final byte, which is read as this one value
 abbrev pub ReadsBack : ℕ → CsiValue → Type 0
-ReadsBack f v = (csi_text v ≡ 0x1b ∷ 0x5b ∷ (csi_body v ++ f ∷ [])) × IsWholeBody (csi_body v) × (csi_of (entries (csi_body v)) false f ≡ v ∷ [])
+ReadsBack f v = (csi_text v ≡ 0x1b ∷ 0x5b ∷ (csi_body v ++ f ∷ [])) × IsWholeBody (csi_body v)
+    × (csi_of (entries (csi_body v)) false f ≡ v ∷ [])
 
 abbrev pub ReadBack : ℕ → List CsiValue → Type 0
 ReadBack f [] = Unit {0}

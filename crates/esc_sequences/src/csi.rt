@@ -1,5 +1,6 @@
-//! Control sequences (ECMA-48, <https://ecma-international.org/publications-and-standards/standards/ecma-48/>; xterm's
-//! list, <https://invisible-island.net/xterm/ctlseqs/ctlseqs.html>).
+//! Control sequences (ECMA-48,
+//! <https://ecma-international.org/publications-and-standards/standards/ecma-48/>; xterm's list,
+//! <https://invisible-island.net/xterm/ctlseqs/ctlseqs.html>).
 ghost use Rattle.std.specs.Prelude.{◌≡◌, ◌+◌, ◌<◌, ◌≤◌, ◌∷◌, [], length, drop, IfNone, IfOk, IfSome, IsOk, OnErr, IsTrue, false, true, is_some, map, Some};
 ghost use Rattle.std.specs.Option.{option_map};
 ghost use Rattle.std.specs.List.{position_or_len, slice_split};
@@ -13,8 +14,8 @@ use std::alloc::{AllocError, Allocator, Global};
 use std::fmt;
 use std::fmt::Display;
 
-/// A control sequence, or an item of one that has several: `ESC [`, a body of parameter and intermediate bytes, and a
-/// final byte (ECMA-48, 5.4; xterm's list of control sequences).
+/// A control sequence, or an item of one that has several: `ESC [`, a body of parameter and
+/// intermediate bytes, and a final byte (ECMA-48, 5.4; xterm's list of control sequences).
 ///
 /// Contracts see it by `csi_value`, which leaves out where it lies in memory.
 #[derive(Drop)]
@@ -26,16 +27,19 @@ pub enum CSI<A: Allocator = Global> {
     Unspecified(Boxed<Unspecified<A>, A>),
 }
 
-/// Whether what [`parse`](CSI::parse) returns for these entries is one `Unspecified` of them, which needs no value to be written:
-/// a [`BorrowedSequence`](crate::BorrowedSequence) is written as it is.
+/// Whether what [`parse`](CSI::parse) returns for these entries is one `Unspecified` of them, which
+/// needs no value to be written: a [`BorrowedSequence`](crate::BorrowedSequence) is written as it
+/// is.
 pub fn is_unspecified(params: &[CsiParam], parameters_truncated: bool, control: u8) -> bool
-    ensures { IsTrue result → csi_of params.now parameters_truncated control ≡ unspecified params.now parameters_truncated control ∷ [] }
+    ensures { IsTrue result
+        → csi_of params.now parameters_truncated control
+        ≡ unspecified params.now parameters_truncated control ∷ [] }
 {
     control != b'm' || parameters_truncated || !are_renditions(params)
 }
 
-/// The rendition that [`parse`](CSI::parse) returns, where the body is one number or nothing and this names one. It takes no
-/// memory. After `None` nothing is said of the sequence.
+/// The rendition that [`parse`](CSI::parse) returns, where the body is one number or nothing and
+/// this names one. It takes no memory. After `None` nothing is said of the sequence.
 #[inline]
 pub fn short_rendition(params: &[CsiParam], parameters_truncated: bool, control: u8) -> Option<Sgr>
     ensures { IfSome result (λ s. csi_of params.now parameters_truncated control ≡ sgr s ∷ []) }
@@ -49,7 +53,8 @@ pub fn short_rendition(params: &[CsiParam], parameters_truncated: bool, control:
 // The rendition of at most one entry.
 #[inline]
 fn lone_entry(params: &[CsiParam]) -> Option<Sgr>
-    ensures { IfSome result (λ s. renditions (slice_split is_separator params.now) ≡ Some (sgr s ∷ [])) }
+    ensures { IfSome result (λ s. renditions (slice_split is_separator params.now)
+        ≡ Some (sgr s ∷ [])) }
 {
     if params.len() > 1 {
         return None;
@@ -58,19 +63,22 @@ fn lone_entry(params: &[CsiParam]) -> Option<Sgr>
 }
 
 impl<A: Allocator + Copy> CSI<A> {
-    /// What the entries of a body and a final byte are. Where the final byte is `m`, no entry was left out, and the
-    /// entries are items between `;` that are all renditions, these renditions, in order; no entry is one empty item.
-    /// Anything else is one `Unspecified` of the same entries. The error is that memory was refused.
+    /// What the entries of a body and a final byte are. Where the final byte is `m`, no entry was
+    /// left out, and the entries are items between `;` that are all renditions, these renditions,
+    /// in order; no entry is one empty item. Anything else is one `Unspecified` of the same
+    /// entries. The error is that memory was refused.
     ///
-    /// Renditions are: nothing and 0, reset; 1 bold, 2 faint, 22 neither; 3 slanted, 23 not; 4 underlined, 21 twice, 24
-    /// not; and `4:0` to `4:5`, the kinds of underlines from none to dashes.
+    /// Renditions are: nothing and 0, reset; 1 bold, 2 faint, 22 neither; 3 slanted, 23 not; 4
+    /// underlined, 21 twice, 24 not; and `4:0` to `4:5`, the kinds of underlines from none to
+    /// dashes.
     pub fn parse(
         alloc: A,
         params: &[CsiParam],
         parameters_truncated: bool,
         control: u8,
     ) -> Result<Vec<CSI<A>, A>, AllocError>
-        ensures ok { IfOk result (λ v. map csi_value v.items ≡ csi_of params.now parameters_truncated control) }
+        ensures ok { IfOk result (λ v.
+            map csi_value v.items ≡ csi_of params.now parameters_truncated control) }
         ensures refused { OnErr result (Refused A) }
     {
         if control == b'm' && !parameters_truncated {
@@ -86,8 +94,9 @@ impl<A: Allocator + Copy> CSI<A> {
         Ok(read)
     }
 
-    /// What [`parse`](CSI::parse) returns, where that is one value, with no list made for it; `None` where there are several.
-    /// The error is that memory was refused, which renditions do not want.
+    /// What [`parse`](CSI::parse) returns, where that is one value, with no list made for it;
+    /// `None` where there are several. The error is that memory was refused, which renditions do
+    /// not want.
     #[inline]
     pub fn parse_one(
         alloc: A,
@@ -95,9 +104,12 @@ impl<A: Allocator + Copy> CSI<A> {
         parameters_truncated: bool,
         control: u8,
     ) -> Result<Option<CSI<A>>, AllocError>
-        ensures one { IfOk result (λ o. IfSome o (λ c. csi_of params.now parameters_truncated control ≡ csi_value c ∷ [])) }
-        ensures several { IfOk result (λ o. IfNone o (2 ≤ length (csi_of params.now parameters_truncated control))) }
-        ensures free { control ≡ 0x6d → parameters_truncated ≡ false → is_some (renditions (slice_split is_separator params.now)) ≡ true → IsOk result }
+        ensures one { IfOk result (λ o.
+            IfSome o (λ c. csi_of params.now parameters_truncated control ≡ csi_value c ∷ [])) }
+        ensures several { IfOk result (λ o.
+            IfNone o (2 ≤ length (csi_of params.now parameters_truncated control))) }
+        ensures free { control ≡ 0x6d → parameters_truncated ≡ false
+            → is_some (renditions (slice_split is_separator params.now)) ≡ true → IsOk result }
         ensures refused { OnErr result (Refused A) }
     {
         if control == b'm' && !parameters_truncated && are_renditions(params) {
@@ -116,7 +128,8 @@ fn as_it_stands<A: Allocator + Copy>(
     parameters_truncated: bool,
     control: u8,
 ) -> Result<CSI<A>, AllocError>
-    ensures ok { IfOk result (λ c. csi_value c ≡ unspecified params.now parameters_truncated control) }
+    ensures ok { IfOk result (λ c.
+        csi_value c ≡ unspecified params.now parameters_truncated control) }
     ensures refused { OnErr result (Refused A) }
 {
     let kept = Unspecified {
@@ -129,8 +142,10 @@ fn as_it_stands<A: Allocator + Copy>(
 
 // The rendition, where there is one item.
 fn lone_rendition(params: &[CsiParam]) -> Option<Sgr>
-    ensures one { IfSome result (λ s. renditions (slice_split is_separator params.now) ≡ Some (sgr s ∷ [])) }
-    ensures several { IfNone result (IfSome (renditions (slice_split is_separator params.now)) (λ vs. 2 ≤ length vs)) }
+    ensures one { IfSome result (λ s. renditions (slice_split is_separator params.now)
+        ≡ Some (sgr s ∷ [])) }
+    ensures several { IfNone result (IfSome (renditions (slice_split is_separator params.now)) (λ vs.
+        2 ≤ length vs)) }
 {
     if item_len(params) == params.len() {
         Sgr::from_item(params)
@@ -161,7 +176,8 @@ fn read_renditions<A: Allocator + Copy>(
     alloc: A,
     params: &[CsiParam],
 ) -> Result<Option<Vec<CSI<A>, A>>, AllocError>
-    ensures ok { IfOk result (λ o. option_map (λ v. map csi_value v.items) o ≡ renditions (slice_split is_separator params.now)) }
+    ensures ok { IfOk result (λ o. option_map (λ v. map csi_value v.items) o
+        ≡ renditions (slice_split is_separator params.now)) }
     ensures refused { OnErr result (Refused A) }
 {
     let mut read = Vec::new(alloc);
@@ -206,7 +222,8 @@ fn is_separator(param: &CsiParam) -> bool
     *param == CsiParam::P(b';')
 }
 
-/// Writes the control sequence as a terminal reads it. Where it returns `Ok`, all of it was written.
+/// Writes the control sequence as a terminal reads it. Where it returns `Ok`, all of it was
+/// written.
 impl<A: Allocator> fmt::Display for CSI<A> {
     ghost output = { λ c. Some (csi_text (csi_value c)) };
 

@@ -21,8 +21,8 @@ pub enum Esc {
 }
 
 impl Esc {
-    /// The escape sequence of an intermediate and a final byte. With no intermediate `\`, `H` and `k` have
-    /// names; everything else is `Unspecified` of the same bytes.
+    /// The escape sequence of an intermediate and a final byte. With no intermediate `\`, `H` and
+    /// `k` have names; everything else is `Unspecified` of the same bytes.
     pub fn parse(intermediate: Option<u8>, control: u8) -> Esc
         ensures { result ≡ esc_of intermediate control }
     {
@@ -49,8 +49,8 @@ impl Esc {
     }
 }
 
-/// Writes ESC, the intermediate where there is one, and the final byte. A byte is written as the character
-/// of the same number. Where it returns `Ok`, all of it was written.
+/// Writes ESC, the intermediate where there is one, and the final byte. A byte is written as the
+/// character of the same number. Where it returns `Ok`, all of it was written.
 impl fmt::Display for Esc {
     ghost output = { λ e. Some (esc_text e) };
 

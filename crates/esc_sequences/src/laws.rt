@@ -8,16 +8,19 @@ ghost use Rattle.esc_values.specs.declared.csi_param.CsiParam.{CsiParam};
 /// The text of a body's entries has these entries.
 #[tactic(auto, using(crate::proofs::EntriesText::entries_back))]
 pub fn entries_back()
-    ensures { (x : List ℕ) → list_all is_body_byte x ≡ true → entries (entries_text (entries x)) ≡ entries x }
+    ensures { (x : List ℕ) → list_all is_body_byte x ≡ true
+        → entries (entries_text (entries x)) ≡ entries x }
 {}
 
-/// Each value that is read of a body of at most 256 entries and a final byte has a text that is one control sequence:
-/// `ESC [`, a body of at most 256 entries, and the same final byte. It is read as this one value.
+/// Each value that is read of a body of at most 256 entries and a final byte has a text that is one
+/// control sequence: `ESC [`, a body of at most 256 entries, and the same final byte. It is read as
+/// this one value.
 ///
 /// Nothing is said of a body that has more entries.
 #[tactic(auto, using(crate::proofs::CsisBack::reads_back))]
 pub fn csi_reads_back()
-    ensures { (x : List ℕ) (f : ℕ) → is_csi_body x ≡ true → length (entries x) ≤ 256 → f < 128 → ReadBack f (csi_of (entries x) false f) }
+    ensures { (x : List ℕ) (f : ℕ) → is_csi_body x ≡ true → length (entries x) ≤ 256 → f < 128
+        → ReadBack f (csi_of (entries x) false f) }
 {}
 
 /// Where entries are left out, what is read is one sequence as it is.

@@ -8,8 +8,8 @@ use crate::underline::Underline;
 use esc_values::CsiParam;
 use std::fmt;
 
-/// How characters are shown from here on: one item of the control function Select Graphic Rendition (ECMA-48,
-/// 8.3.117), which has the final byte `m`.
+/// How characters are shown from here on: one item of the control function Select Graphic Rendition
+/// (ECMA-48, 8.3.117), which has the final byte `m`.
 #[derive(Clone, Copy, Debug, PartialEq, Eq)]
 pub enum Sgr {
     /// 0, or nothing: each rendition as at first.

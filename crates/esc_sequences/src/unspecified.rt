@@ -22,8 +22,8 @@ pub struct Unspecified<A: Allocator = Global> {
     pub control: u8,
 }
 
-/// Writes `ESC [`, each entry as its decimal number or its character, and the final byte. A byte is written as the
-/// character of the same number. Where it returns `Ok`, all of it was written.
+/// Writes `ESC [`, each entry as its decimal number or its character, and the final byte. A byte is
+/// written as the character of the same number. Where it returns `Ok`, all of it was written.
 impl<A: Allocator> fmt::Display for Unspecified<A> {
     ghost output = { λ u. Some (csi_text (unspecified u.params u.parameters_truncated u.control)) };
 
@@ -37,7 +37,8 @@ impl<A: Allocator> fmt::Display for Unspecified<A> {
     }
 }
 
-/// A control sequence that has no name, of entries that are kept elsewhere: it is written without a copy of them.
+/// A control sequence that has no name, of entries that are kept elsewhere: it is written without a
+/// copy of them.
 #[derive(Clone, Copy)]
 pub struct BorrowedSequence<'a> {
     /// The entries of its body.

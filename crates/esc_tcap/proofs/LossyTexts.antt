@@ -33,7 +33,8 @@ whole : (bs : List ℕ) → utf8_valid_len bs ≡ length bs → IsUtf8 bs
 whole bs e = subst IsUtf8 (ap (λ n. take n bs) e ∙ take-length bs) (valid bs)
 
 -- an invalid sequence has a byte
-either : (b : Bool) (x y : Option ℕ) (n : ℕ) → 0 < unwrap_or x n → 0 < unwrap_or y n → 0 < unwrap_or (if b then x else y) n
+either : (b : Bool) (x y : Option ℕ) (n : ℕ) → 0 < unwrap_or x n → 0 < unwrap_or y n
+    → 0 < unwrap_or (if b then x else y) n
 either true x y n p q = p
 either false x y n p q = q
 
@@ -42,17 +43,23 @@ unfolding utf8_error_len
 some_invalid bs some =
     let n = length bs in
     let third = is_in_range 0x80 0xBF (slice_index bs 2) in
-    let second = is_in_range (second_byte_min (slice_index bs 0)) (second_byte_max (slice_index bs 0)) (slice_index bs 1) in
+    let second =
+    is_in_range (second_byte_min (slice_index bs 0)) (second_byte_max (slice_index bs 0))
+    (slice_index bs 1) in
     let first = is_in_range 0xC2 0xF4 (slice_index bs 0) in
     let one : 0 < unwrap_or (Some 1) n = omega arith in
     let two : 0 < unwrap_or (Some 2) n = omega arith in
-    let three : 0 < unwrap_or (if nat_lt n 4 then None else Some 3) n = either (nat_lt n 4) None (Some 3) n some (omega arith) in
+    let three : 0 < unwrap_or (if nat_lt n 4 then None else Some 3) n =
+    either (nat_lt n 4) None (Some 3) n some (omega arith) in
     let after_two : 0 < unwrap_or (error_len_after_two bs) n =
-    either (nat_lt n 3) None (if third then (if nat_lt n 4 then None else Some 3) else Some 2) n some
+    either (nat_lt n 3) None (if third then (if nat_lt n 4 then None else Some 3) else Some 2) n
+    some
     (either third (if nat_lt n 4 then None else Some 3) (Some 2) n three two) in
     let after_one : 0 < unwrap_or (error_len_after_one bs) n =
-    either (nat_lt n 2) None (if second then error_len_after_two bs else Some 1) n some (either second (error_len_after_two bs) (Some 1) n after_two one) in
-    either (n == 0) None (error_len_of_some bs) n some (either first (error_len_after_one bs) (Some 1) n after_one one)
+    either (nat_lt n 2) None (if second then error_len_after_two bs else Some 1) n some
+    (either second (error_len_after_two bs) (Some 1) n after_two one) in
+    either (n == 0) None (error_len_of_some bs) n some
+    (either first (error_len_after_one bs) (Some 1) n after_one one)
 
 shorter : (bs : List ℕ) → utf8_valid_len bs ≢ length bs → length (after_first_chunk bs) < length bs
 shorter bs faulty =
@@ -69,7 +76,9 @@ of_length (suc k) bs h = elim (cases_Bool (utf8_valid_len bs == length bs)) [
       let faulty : utf8_valid_len bs ≢ length bs = eqb-false _ _ e in
       let less = shorter bs faulty in
       rw (utf8_lossy_step bs faulty)
-      (IsUtf8-append _ _ (valid bs) (IsUtf8-append _ _ replacement (of_length k (after_first_chunk bs) (omega (arith, less)))))
+      (IsUtf8-append _ _ (valid bs)
+      (IsUtf8-append _ _ replacement
+      (of_length k (after_first_chunk bs) (omega (arith, less)))))
 ]
 
 pub lossy_is_text : (bs : List ℕ) → IsUtf8 (utf8_lossy bs)

@@ -22,7 +22,8 @@ use Rattle.esc_tcap.specs.Names.{name_by, name_of, names_of, hex_text, names_tex
 abbrev PassDigits : (ℕ → Bool) → Type 0
 PassDigits t = all_below (λ d. t (digit_glyph false d)) 16 ≡ true
 
-digits_pass : (t : ℕ → Bool) → PassDigits t → (bs : List ℕ) → IsBytes bs → list_all t (hex_text bs) ≡ true
+digits_pass : (t : ℕ → Bool) → PassDigits t → (bs : List ℕ) → IsBytes bs
+    → list_all t (hex_text bs) ≡ true
 digits_pass t all [] h = refl
 digits_pass t all (b ∷ bs) h =
     let first = h 0 in
@@ -48,13 +49,15 @@ hex_is [] h = refl
 hex_is (b ∷ bs) h =
     let first = h 0 in
     rw (digit_is (b / 16) (omega (arith, first)), digit_is (b % 16) (omega arith))
-    (ap (λ r. slice_index lower_digits (b / 16) ∷ slice_index lower_digits (b % 16) ∷ r) (hex_is bs (λ i. h (suc i))))
+    (ap (λ r. slice_index lower_digits (b / 16) ∷ slice_index lower_digits (b % 16) ∷ r)
+    (hex_is bs (λ i. h (suc i))))
 
 -- no digit is a separator
 abbrev is_other : ℕ → Bool
 is_other b = not (b == 0x3b)
 
-other_first : (t : Bool) (bs : List ℕ) → (not t && list_all is_other bs) ≡ true → (list_all is_other bs ≡ true → ByRecursion (λ b. (b == 0x3b) ≡ false) bs)
+other_first : (t : Bool) (bs : List ℕ) → (not t && list_all is_other bs) ≡ true
+    → (list_all is_other bs ≡ true → ByRecursion (λ b. (b == 0x3b) ≡ false) bs)
     → (t ≡ false) × ByRecursion (λ b. (b == 0x3b) ≡ false) bs
 other_first false bs h more = (refl, more h)
 other_first true bs h more = cc
@@ -66,15 +69,20 @@ others (b ∷ bs) h = other_first (b == 0x3b) bs h (others bs)
 hex_lacks : (n : List ℕ) → IsUtf8 n → ByRecursion (λ b. (b == 0x3b) ≡ false) (hex_text n)
 hex_lacks n h = others (hex_text n) (digits_pass is_other refl n (utf8_bytes n h))
 
-hex_split : (n : List ℕ) (ns : List (List ℕ)) → AreTexts (n ∷ ns) → slice_split (λ c. c == 0x3b) (names_text (n ∷ ns)) ≡ map hex_text (n ∷ ns)
-hex_split n [] h = rw (append-nil (hex_text n)) (slice_split_none (λ c. c == 0x3b) (hex_text n) (All-from_recursion _ (hex_text n) (hex_lacks n h.0)))
+hex_split : (n : List ℕ) (ns : List (List ℕ)) → AreTexts (n ∷ ns)
+    → slice_split (λ c. c == 0x3b) (names_text (n ∷ ns)) ≡ map hex_text (n ∷ ns)
+hex_split n [] h =
+    rw (append-nil (hex_text n)) (slice_split_none (λ c. c == 0x3b) (hex_text n)
+    (All-from_recursion _ (hex_text n) (hex_lacks n h.0)))
 hex_split n (m ∷ ns) h =
-    slice_split_at (λ c. c == 0x3b) (hex_text n) 0x3b (names_text (m ∷ ns)) (All-from_recursion _ (hex_text n) (hex_lacks n h.0)) refl
+    slice_split_at (λ c. c == 0x3b) (hex_text n) 0x3b (names_text (m ∷ ns))
+    (All-from_recursion _ (hex_text n) (hex_lacks n h.0)) refl
     ∙ ap (λ (r : List (List ℕ)). hex_text n ∷ r) (hex_split m ns h.1)
 
 name_back : (n : List ℕ) → IsUtf8 n → name_of (hex_text n) ≡ n
 name_back n h =
-    let d : decode_of (hex_text n) ≡ Ok n = ap decode_of (hex_is n (utf8_bytes n h)) ∙ decode_of-encode_lower n (utf8_bytes n h) in
+    let d : decode_of (hex_text n) ≡ Ok n =
+    ap decode_of (hex_is n (utf8_bytes n h)) ∙ decode_of-encode_lower n (utf8_bytes n h) in
     rw d (utf8_lossy-IsUtf8 n h)
 
 names_back : (ns : List (List ℕ)) → AreTexts ns → map name_of (map hex_text ns) ≡ ns
@@ -85,19 +93,29 @@ names_back (n ∷ ns) h = rw (name_back n h.0, names_back ns h.1) refl
 hex_bytes : (n : List ℕ) → IsUtf8 n → list_all is_query_byte (hex_text n) ≡ true
 hex_bytes n h = digits_pass is_query_byte refl n (utf8_bytes n h)
 
-more_bytes : (ns : List (List ℕ)) → AreTexts ns → list_all is_query_byte (flat_map (λ m. 0x3b ∷ hex_text m) ns) ≡ true
+more_bytes : (ns : List (List ℕ)) → AreTexts ns
+    → list_all is_query_byte (flat_map (λ m. 0x3b ∷ hex_text m) ns) ≡ true
 more_bytes [] h = refl
 more_bytes (n ∷ ns) h =
-    rw (list_all-append is_query_byte (hex_text n) (flat_map (λ m. 0x3b ∷ hex_text m) ns), hex_bytes n h.0, more_bytes ns h.1) refl
+    rw (
+      list_all-append is_query_byte (hex_text n) (flat_map (λ m. 0x3b ∷ hex_text m) ns),
+      hex_bytes n h.0,
+      more_bytes ns h.1,
+    ) refl
 
 names_bytes : (ns : List (List ℕ)) → AreTexts ns → list_all is_query_byte (names_text ns) ≡ true
 names_bytes [] h = refl
 names_bytes (n ∷ ns) h =
-    rw (list_all-append is_query_byte (hex_text n) (flat_map (λ m. 0x3b ∷ hex_text m) ns), hex_bytes n h.0, more_bytes ns h.1) refl
+    rw (
+      list_all-append is_query_byte (hex_text n) (flat_map (λ m. 0x3b ∷ hex_text m) ns),
+      hex_bytes n h.0,
+      more_bytes ns h.1,
+    ) refl
 
 pub writes_back : (ns : List (List ℕ)) → AreWritable ns → WritesBack ns
 writes_back [] h = absurd (h.0 refl)
-writes_back (n ∷ ns) h = (names_bytes (n ∷ ns) h.1, ap (map name_of) (hex_split n ns h.1) ∙ names_back (n ∷ ns) h.1)
+writes_back (n ∷ ns) h =
+    (names_bytes (n ∷ ns) h.1, ap (map name_of) (hex_split n ns h.1) ∙ names_back (n ∷ ns) h.1)
 
 -- what is read can be written
 name_is_text : {E : Type 0} (p : List ℕ) (r : Result (List ℕ) E) → IsUtf8 (name_by p r)
@@ -110,5 +128,12 @@ are_texts (p ∷ ps) = (name_is_text p (decode_of p), are_texts ps)
 
 pub data_is_writable : (bs : List ℕ) → AreWritable (names_of bs)
 data_is_writable bs =
-    let pieces = slice_split (λ c. c == 0x3b) bs in
-    (λ e. omega (arith, ap length e, length-map pieces name_of, length-slice_split (λ c. c == 0x3b) bs), are_texts pieces)
+    let pieces = slice_split (λ c. c == 0x3b) bs in (
+      λ e. omega (
+        arith,
+        ap length e,
+        length-map pieces name_of,
+        length-slice_split (λ c. c == 0x3b) bs,
+      ),
+      are_texts pieces,
+    )

@@ -12,7 +12,12 @@ unfolding LeadsTo
 one p b = λ s h. ap (λ t. t ++ b ∷ []) h
 
 -- bytes that are appended are pushed one after another
-pub appended : {A : Type 0} (bs : List ℕ) (p q : GetTcapBuilder A) → q ≡ with p bs → FoldsTo Pushes p bs q
+pub appended : {A : Type 0} (bs : List ℕ) (p q : GetTcapBuilder A) → q ≡ with p bs
+    → FoldsTo Pushes p bs q
 appended [] p q e = ap (λ t. record p { bytes = t }) (sym (append-nil p.bytes)) ∙ sym e
-appended (b ∷ bs) p q e =
-    (with p (b ∷ []), one p b, appended bs (with p (b ∷ [])) q (e ∙ ap (λ t. record p { bytes = t }) (sym (append_assoc p.bytes (b ∷ []) bs))))
+appended (b ∷ bs) p q e = (
+  with p (b ∷ []),
+  one p b,
+  appended bs (with p (b ∷ [])) q
+      (e ∙ ap (λ t. record p { bytes = t }) (sym (append_assoc p.bytes (b ∷ []) bs))),
+)

@@ -7,7 +7,8 @@ use Rattle.std.specs.Str.Lossy.{utf8_lossy}
 use Rattle.hex.specs.Hex.{decode_of}
 use Rattle.esc_tcap.specs.declared.builder.GetTcapBuilder.{GetTcapBuilder}
 
--- the text of the bytes that a piece encodes in hexadecimal; of the piece itself where it is not hexadecimal
+-- the text of the bytes that a piece encodes in hexadecimal; of the piece itself where it is not
+-- hexadecimal
 abbrev pub name_by : {E : Type 0} → List ℕ → Result (List ℕ) E → List ℕ
 name_by p (Ok bytes) = utf8_lossy bytes
 name_by p (Err e) = utf8_lossy p
@@ -54,7 +55,8 @@ AreWritable ns = (ns ≢ []) × AreTexts ns
 
 -- 30-39, 3B, 61-66
 abbrev pub is_query_byte : ℕ → Bool
-is_query_byte b = (nat_le 0x30 b && nat_le b 0x39) || ((b == 0x3b) || (nat_le 0x61 b && nat_le b 0x66))
+is_query_byte b =
+    (nat_le 0x30 b && nat_le b 0x39) || ((b == 0x3b) || (nat_le 0x61 b && nat_le b 0x66))
 
 -- the names are written as digits and `;`, of which they are read
 abbrev pub WritesBack : List (List ℕ) → Type 0

@@ -9,10 +9,11 @@ use esc_values::{Items, Text};
 use std::alloc::{AllocError, Allocator, Global};
 use std::mem;
 
-/// Reads the data of a termcap query: the names of capabilities, with `;` between them. No data is one empty name.
+/// Reads the data of a termcap query: the names of capabilities, with `;` between them. No data is
+/// one empty name.
 ///
-/// A name that is hexadecimal with an even number of digits means the text of its bytes, any other its own text; what is
-/// not UTF-8 in it is read as U+FFFD.
+/// A name that is hexadecimal with an even number of digits means the text of its bytes, any other
+/// its own text; what is not UTF-8 in it is read as U+FFFD.
 #[derive(Drop)]
 pub struct GetTcapBuilder<A: Allocator = Global> {
     alloc: A,
@@ -31,22 +32,25 @@ impl<A: Allocator + Copy> GetTcapBuilder<A> {
         }
     }
 
-    /// One more byte of the data. The error is that memory was refused, and the builder stays as it was.
+    /// One more byte of the data. The error is that memory was refused, and the builder stays as it
+    /// was.
     #[tactic(auto, unfolding(crate::specs::Names::LeadsTo))]
     pub fn push(&mut self, byte: u8) -> Result<(), AllocError>
-        ensures ok { (s : List ℕ) → LeadsTo s self.old → OnOk result (LeadsTo (s ++ byte ∷ []) self.new) }
+        ensures ok { (s : List ℕ) → LeadsTo s self.old
+            → OnOk result (LeadsTo (s ++ byte ∷ []) self.new) }
         ensures err { OnErr result (self.new ≡ self.old) }
         ensures refused { OnErr result (Refused A) }
     {
         self.bytes.push(byte)
     }
 
-    /// These bytes of the data, as `push` of each takes them. The error is that memory was refused, and the builder stays as it
-    /// was; of no bytes it never comes.
+    /// These bytes of the data, as `push` of each takes them. The error is that memory was refused,
+    /// and the builder stays as it was; of no bytes it never comes.
     #[tactic(auto, unfolding(crate::specs::Names::LeadsTo), using(crate::proofs::Runs::appended))]
     pub fn push_run(&mut self, bytes: &[u8]) -> Result<(), AllocError>
         ensures each { OnOk result (FoldsTo Pushes self.old bytes.now self.new) }
-        ensures ok { (s : List ℕ) → LeadsTo s self.old → OnOk result (LeadsTo (s ++ bytes.now) self.new) }
+        ensures ok { (s : List ℕ) → LeadsTo s self.old
+            → OnOk result (LeadsTo (s ++ bytes.now) self.new) }
         ensures err { OnErr result ((0 < length bytes.now) × (self.new ≡ self.old)) }
         ensures refused { OnErr result (Refused A) }
     {
@@ -57,7 +61,8 @@ impl<A: Allocator + Copy> GetTcapBuilder<A> {
         result
     }
 
-    /// The names that all bytes mean, at least one. The error is that memory was refused; then nothing is handed back.
+    /// The names that all bytes mean, at least one. The error is that memory was refused; then
+    /// nothing is handed back.
     #[tactic(auto, unfolding(crate::specs::Names::LeadsTo))]
     pub fn finish(self) -> Result<Items<Text<A>, A>, AllocError>
         ensures ok { (s : List ℕ) → LeadsTo s self → IfOk result (λ ns. ns ≡ names_of s) }

@@ -13,8 +13,8 @@ use std::fmt;
 #[derive_where(Clone, Copy)]
 pub struct TcapQuery<'a, A: Allocator = Global>(pub &'a [Text<A>]);
 
-/// Writes `ESC P + q` and the names, with `;` between them and two lower-case digits a byte, without the string terminator.
-/// No names are written as one empty name is.
+/// Writes `ESC P + q` and the names, with `;` between them and two lower-case digits a byte,
+/// without the string terminator. No names are written as one empty name is.
 ///
 /// Takes no memory, and errs only where the formatter's writer errs.
 impl<A: Allocator> fmt::Display for TcapQuery<'_, A> {
@@ -46,7 +46,8 @@ fn write_more<W: fmt::Write, A: Allocator>(
     rest: &[Text<A>],
     f: &mut fmt::Formatter<W>,
 ) -> fmt::Result
-    ensures { DisplaysOnOk W.write_str_gives f.old result (Some (flat_map (λ n. 0x3b ∷ hex_text n) rest.now)) f.new }
+    ensures { DisplaysOnOk W.write_str_gives f.old result
+        (Some (flat_map (λ n. 0x3b ∷ hex_text n) rest.now)) f.new }
 {
     for name in rest {
         let name = Hex(name);

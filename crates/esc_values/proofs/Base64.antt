@@ -18,19 +18,26 @@ abbrev table : List ℕ
 table = standard.encode_table
 
 -- the symbols pass a test that all the symbols of the table pass
-symbol_passes : (f : ℕ → Bool) → all_below (λ i. f (slice_index table i)) 64 ≡ true → (i : ℕ) → i < 64 → f (slice_index table i) ≡ true
+symbol_passes : (f : ℕ → Bool) → all_below (λ i. f (slice_index table i)) 64 ≡ true → (i : ℕ)
+    → i < 64 → f (slice_index table i) ≡ true
 symbol_passes f all i low = all_below_at (λ j. f (slice_index table j)) 64 i all low
 
-symbols_pass : (f : ℕ → Bool) → all_below (λ i. f (slice_index table i)) 64 ≡ true → (m : List ℕ) → AreBytes m → list_all f (encode_symbols table m) ≡ true
+symbols_pass : (f : ℕ → Bool) → all_below (λ i. f (slice_index table i)) 64 ≡ true → (m : List ℕ)
+    → AreBytes m → list_all f (encode_symbols table m) ≡ true
 unfolding encode_symbols
 symbols_pass f all [] h = refl
 symbols_pass f all (a ∷ []) h =
     let small = h.0 in
-    rw (symbol_passes f all (a / 4) (omega arith), symbol_passes f all (a % 4 * 16) (omega arith)) refl
+    rw (symbol_passes f all (a / 4) (omega arith), symbol_passes f all (a % 4 * 16) (omega arith))
+    refl
 symbols_pass f all (a ∷ b ∷ []) h =
     let one = h.0 in
     let two = h.1.0 in
-    rw (symbol_passes f all (a / 4) (omega arith), symbol_passes f all (a % 4 * 16 + b / 16) (omega arith), symbol_passes f all (b % 16 * 4) (omega arith)) refl
+    rw (
+      symbol_passes f all (a / 4) (omega arith),
+      symbol_passes f all (a % 4 * 16 + b / 16) (omega arith),
+      symbol_passes f all (b % 16 * 4) (omega arith),
+    ) refl
 symbols_pass f all (a ∷ b ∷ c ∷ rest) h =
     let one = h.0 in
     let two = h.1.0 in
@@ -48,10 +55,12 @@ padding_passes f one zero = refl
 padding_passes f one (suc n) = rw (one, padding_passes f one n) refl
 
 -- the base64 of bytes passes a test that the symbols and `=` pass
-pub base64_passes : (f : ℕ → Bool) → all_below (λ i. f (slice_index table i)) 64 ≡ true → f 0x3d ≡ true → (m : List ℕ) → AreBytes m
+pub base64_passes : (f : ℕ → Bool) → all_below (λ i. f (slice_index table i)) 64 ≡ true
+    → f 0x3d ≡ true → (m : List ℕ) → AreBytes m
     → list_all f (base64_text m) ≡ true
 base64_passes f all one m h =
-    all_append f (encode_symbols table m) (replicate (padding_len (length m)) 0x3d) (symbols_pass f all m h) (padding_passes f one (padding_len (length m)))
+    all_append f (encode_symbols table m) (replicate (padding_len (length m)) 0x3d)
+    (symbols_pass f all m h) (padding_passes f one (padding_len (length m)))
 
 -- the base64 of bytes is a clear part
 pub base64_bytes_part : (m : List ℕ) → AreBytes m → IsClearPart (base64_text m)
@@ -60,7 +69,8 @@ base64_bytes_part m h = plain_part (base64_text m) (base64_passes is_part_plain 
 -- that reads back
 pub base64_bytes_back : (m : List ℕ) → IsBytes m → base64_of (base64_text m) ≡ Some m
 base64_bytes_back m h =
-    let decoded : decode_of engine_value (encode_of standard m) ≡ Ok m = decode_of-encode_of engine_value m refl h in
+    let decoded : decode_of engine_value (encode_of standard m) ≡ Ok m =
+    decode_of-encode_of engine_value m refl h in
     rw decoded
 
 -- the base64 of a text is a clear part

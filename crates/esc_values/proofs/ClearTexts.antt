@@ -39,19 +39,25 @@ parts_lossy (p ∷ ps) h = rw (part_lossy p h.0, parts_lossy ps h.1) refl
 
 -- one part after another is a part
 pub part_append : (x y : List ℕ) → IsClearPart x → IsClearPart y → IsClearPart (x ++ y)
-part_append x y (cs, all, e) (ds, more, f) =
-    (cs ++ ds, rw (list_all-append is_part_char cs ds, all, more) refl, encodes-append cs ds ∙ ap (λ t. t ++ encode_utf8_all ds) e ∙ ap (λ t. x ++ t) f)
+part_append x y (cs, all, e) (ds, more, f) = (
+  cs ++ ds,
+  rw (list_all-append is_part_char cs ds, all, more) refl,
+  encodes-append cs ds ∙ ap (λ t. t ++ encode_utf8_all ds) e ∙ ap (λ t. x ++ t) f,
+)
 
 -- what follows the first character, where that is ASCII
-behind_first : (c b : ℕ) (ds r : List ℕ) → b < 128 → c ≡ b → encode_utf8 c ++ encode_utf8_all ds ≡ b ∷ r → encode_utf8_all ds ≡ r
+behind_first : (c b : ℕ) (ds r : List ℕ) → b < 128 → c ≡ b
+    → encode_utf8 c ++ encode_utf8_all ds ≡ b ∷ r → encode_utf8_all ds ≡ r
 behind_first c b ds r small same e =
     let whole : b ∷ encode_utf8_all ds ≡ b ∷ r = rw (same, encode_ascii b small) at e in
     cc
 
-first_char : (c b : ℕ) (ds r : List ℕ) → b < 128 → encode_utf8 c ++ encode_utf8_all ds ≡ b ∷ r → 0 < length (encode_utf8 c) → c ≡ b
+first_char : (c b : ℕ) (ds r : List ℕ) → b < 128 → encode_utf8 c ++ encode_utf8_all ds ≡ b ∷ r
+    → 0 < length (encode_utf8 c) → c ≡ b
 first_char c b ds r small e some = inside_one c (encode_utf8_all ds) (b ∷ r) 0 (sym e) some small
 
-pub tail_part : (b : ℕ) (r : List ℕ) → b < 128 → ((c : ℕ) → 0 < length (encode_utf8 c)) → IsClearPart (b ∷ r) → IsClearPart r
+pub tail_part : (b : ℕ) (r : List ℕ) → b < 128 → ((c : ℕ) → 0 < length (encode_utf8 c))
+    → IsClearPart (b ∷ r) → IsClearPart r
 tail_part b r small some ([], all, e) = absurd cc
 tail_part b r small some (c ∷ ds, all, e) =
     let q = and_parts (is_part_char c) (list_all is_part_char ds) all in

@@ -32,7 +32,9 @@ free_parts b x t h =
 
 pub free_from : (b : ℕ) (t : List ℕ) → ((k : ℕ) → k < length t → get_or t k 0 ≢ b) → Free b t
 free_from b [] h = refl
-free_from b (x ∷ t) h = free_more b x t (ne_eqb x b (h 0 (omega arith))) (free_from b t (λ k below. h (suc k) (omega arith)))
+free_from b (x ∷ t) h =
+    free_more b x t (ne_eqb x b (h 0 (omega arith))) (free_from b t (λ k below.
+    h (suc k) (omega arith)))
 
 pub encode_free : (b c : ℕ) → b < 128 → c ≢ b → Free b (encode_utf8 c)
 encode_free b c small other = free_from b (encode_utf8 c) (λ k below e.
@@ -41,15 +43,18 @@ encode_free b c small other = free_from b (encode_utf8 c) (λ k below e.
 
 pub free_append : (b : ℕ) (t u : List ℕ) → Free b t → Free b u → Free b (t ++ u)
 free_append b [] u h k = k
-free_append b (x ∷ t) u h k = let q = free_parts b x t h in free_more b x (t ++ u) q.0 (free_append b t u q.1 k)
+free_append b (x ∷ t) u h k = let q = free_parts b x t h in
+    free_more b x (t ++ u) q.0 (free_append b t u q.1 k)
 
 -- a text that passes a test which b does not pass
-pub free_passes : (b : ℕ) (f : ℕ → Bool) → f b ≡ false → (t : List ℕ) → list_all f t ≡ true → Free b t
+pub free_passes : (b : ℕ) (f : ℕ → Bool) → f b ≡ false → (t : List ℕ) → list_all f t ≡ true
+    → Free b t
 free_passes b f fails [] h = refl
 free_passes b f fails (x ∷ t) h =
     let q = and_parts (f x) (list_all f t) h in
     elim (cases_Bool (x == b)) [
-      | inl held ↦ let same : x ≡ b = eqb-true x b held in let bad : f b ≡ true = subst (λ y. f y ≡ true) same q.0 in absurd cc
+      | inl held ↦ let same : x ≡ b = eqb-true x b held in let bad : f b ≡ true =
+          subst (λ y. f y ≡ true) same q.0 in absurd cc
       | inr failed ↦ free_more b x t failed (free_passes b f fails t q.1)
     ]
 
@@ -62,7 +67,8 @@ cut_lacks b [] = tt
 cut_lacks b (x ∷ t) =
     elim (cases_Bool (x == b)) [
       | inl held ↦ rw held refl
-      | inr failed ↦ rw failed (where_map (FirstFree b) (FirstFree b) (λ p. (x ∷ p.0, p.1)) (λ p h. free_more b x p.0 failed h) (cut_at b t) (cut_lacks b t))
+      | inr failed ↦ rw failed (where_map (FirstFree b) (FirstFree b) (λ p. (x ∷ p.0, p.1)) (λ p h.
+          free_more b x p.0 failed h) (cut_at b t) (cut_lacks b t))
     ]
 
 -- what is without a byte is so on both sides of a cut
@@ -76,7 +82,8 @@ cut_keeps a b (x ∷ t) h =
     elim (cases_Bool (x == b)) [
       | inl held ↦ rw held (refl, q.1)
       | inr failed ↦ rw failed
-          (where_map (BothFree a) (BothFree a) (λ p. (x ∷ p.0, p.1)) (λ p both. (free_more a x p.0 q.0 both.0, both.1)) (cut_at b t) (cut_keeps a b t q.1))
+          (where_map (BothFree a) (BothFree a) (λ p. (x ∷ p.0, p.1)) (λ p both.
+          (free_more a x p.0 q.0 both.0, both.1)) (cut_at b t) (cut_keeps a b t q.1))
     ]
 
 -- both sides of a cut are clear parts
@@ -91,13 +98,15 @@ behind_none : (o : Option (List ℕ × List ℕ)) → o ≡ Behind [] o
 behind_none None = refl
 behind_none (Some p) = refl
 
-behind_one : (a : ℕ) (x : List ℕ) (o : Option (List ℕ × List ℕ)) → option_map (λ (p : List ℕ × List ℕ). (a ∷ p.0, p.1)) (Behind x o) ≡ Behind (a ∷ x) o
+behind_one : (a : ℕ) (x : List ℕ) (o : Option (List ℕ × List ℕ))
+    → option_map (λ (p : List ℕ × List ℕ). (a ∷ p.0, p.1)) (Behind x o) ≡ Behind (a ∷ x) o
 behind_one a x None = refl
 behind_one a x (Some p) = refl
 
 cut_behind : (b : ℕ) (x r : List ℕ) → Free b x → cut_at b (x ++ r) ≡ Behind x (cut_at b r)
 cut_behind b [] r h = behind_none (cut_at b r)
-cut_behind b (a ∷ x) r h = let q = free_parts b a x h in rw (q.0, cut_behind b x r q.1) (behind_one a x (cut_at b r))
+cut_behind b (a ∷ x) r h = let q = free_parts b a x h in
+    rw (q.0, cut_behind b x r q.1) (behind_one a x (cut_at b r))
 
 cut_here : (b : ℕ) (r : List ℕ) → cut_at b (b ∷ r) ≡ Some ([], r)
 cut_here b r = rw (eq-eqb b b refl) refl
@@ -108,31 +117,42 @@ cut_there b x r h =
     let f : List ℕ → Option (List ℕ × List ℕ) = λ t. Some (t, r) in
     cut_behind b x (b ∷ r) h ∙ rw (cut_here b r) (ap f (append-nil x))
 
-part_more : (c : ℕ) (p : List ℕ) → is_part_char c ≡ true → IsClearPart p → IsClearPart (encode_utf8 c ++ p)
+part_more : (c : ℕ) (p : List ℕ) → is_part_char c ≡ true → IsClearPart p
+    → IsClearPart (encode_utf8 c ++ p)
 part_more c p ok (ds, all, e) = (c ∷ ds, rw (ok, all) refl, ap (λ t. encode_utf8 c ++ t) e)
 
 pub no_part : IsClearPart []
 no_part = ([], refl, refl)
 
-cut_chars : (b : ℕ) (cs : List ℕ) → b < 128 → list_all is_part_char cs ≡ true → Where BothClear (cut_at b (encode_utf8_all cs))
+cut_chars : (b : ℕ) (cs : List ℕ) → b < 128 → list_all is_part_char cs ≡ true
+    → Where BothClear (cut_at b (encode_utf8_all cs))
 cut_chars b [] small h = tt
 cut_chars b (c ∷ cs) small h =
     let q = and_parts (is_part_char c) (list_all is_part_char cs) h in
     elim (cases_Bool (c == b)) [
-      | inl held ↦ let same : c ≡ b = eqb-true c b held in rw (same, encode_ascii b small, cut_here b (encode_utf8_all cs)) (no_part, (cs, q.1, refl))
-      | inr failed ↦ rw (cut_behind b (encode_utf8 c) (encode_utf8_all cs) (encode_free b c small (eqb-false c b failed)))
-          (where_map BothClear BothClear (λ p. (encode_utf8 c ++ p.0, p.1)) (λ p k. (part_more c p.0 q.0 k.0, k.1)) (cut_at b (encode_utf8_all cs))
+      | inl held ↦ let same : c ≡ b = eqb-true c b held in
+          rw (same, encode_ascii b small, cut_here b (encode_utf8_all cs)) (
+            no_part,
+            (cs, q.1, refl),
+          )
+      | inr failed ↦ rw (cut_behind b (encode_utf8 c) (encode_utf8_all cs)
+          (encode_free b c small (eqb-false c b failed)))
+          (where_map BothClear BothClear (λ p. (encode_utf8 c ++ p.0, p.1)) (λ p k.
+          (part_more c p.0 q.0 k.0, k.1)) (cut_at b (encode_utf8_all cs))
           (cut_chars b cs small q.1))
     ]
 
 pub cut_clear : (b : ℕ) (t : List ℕ) → b < 128 → IsClearPart t → Where BothClear (cut_at b t)
-cut_clear b t small (cs, all, e) = let P : List ℕ → Type 0 = λ u. Where BothClear (cut_at b u) in subst P e (cut_chars b cs small all)
+cut_clear b t small (cs, all, e) = let P : List ℕ → Type 0 = λ u. Where BothClear (cut_at b u) in
+    subst P e (cut_chars b cs small all)
 
 -- splitting
-pub split_free : (b : ℕ) (x r p : List ℕ) (ps : List (List ℕ)) → Free b x → slice_split (λ c. c == b) r ≡ p ∷ ps
+pub split_free : (b : ℕ) (x r p : List ℕ) (ps : List (List ℕ)) → Free b x
+    → slice_split (λ c. c == b) r ≡ p ∷ ps
     → slice_split (λ c. c == b) (x ++ r) ≡ (x ++ p) ∷ ps
 split_free b [] r p ps h e = e
-split_free b (a ∷ x) r p ps h e = let q = free_parts b a x h in rw (q.0, split_free b x r p ps q.1 e) refl
+split_free b (a ∷ x) r p ps h e = let q = free_parts b a x h in
+    rw (q.0, split_free b x r p ps q.1 e) refl
 
 -- a clear part without b
 abbrev pub IsPiece : ℕ → List ℕ → Type 0
@@ -144,24 +164,40 @@ ArePieces b (p ∷ ps) = IsPiece b p × ArePieces b ps
 
 -- the pieces of a text between the bytes b: at least one
 abbrev pub SplitsAt : ℕ → List ℕ → Type 0
-SplitsAt b t = (p : List ℕ) × (ps : List (List ℕ)) × (slice_split (λ c. c == b) t ≡ p ∷ ps) × IsPiece b p × ArePieces b ps
+SplitsAt b t = (p : List ℕ) × (ps : List (List ℕ)) × (slice_split (λ c. c == b) t ≡ p ∷ ps)
+    × IsPiece b p × ArePieces b ps
 
-split_char : (b c : ℕ) (r : List ℕ) (q : Bool) → b < 128 → (c == b) ≡ q → (c ≢ b → is_part_char c ≡ true) → SplitsAt b r → SplitsAt b (encode_utf8 c ++ r)
+split_char : (b c : ℕ) (r : List ℕ) (q : Bool) → b < 128 → (c == b) ≡ q
+    → (c ≢ b → is_part_char c ≡ true) → SplitsAt b r → SplitsAt b (encode_utf8 c ++ r)
 split_char b c r true small e ok (p, ps, is, one, more) =
-    let same : c ≡ b = eqb-true c b e in
-    ([], p ∷ ps, rw (same, encode_ascii b small, eq-eqb b b refl, is) refl, (no_part, refl), (one, more))
+    let same : c ≡ b = eqb-true c b e in (
+      [],
+      p ∷ ps,
+      rw (same, encode_ascii b small, eq-eqb b b refl, is) refl,
+      (no_part, refl),
+      (one, more),
+    )
 split_char b c r false small e ok (p, ps, is, one, more) =
     let other = eqb-false c b e in
-    let free = encode_free b c small other in
-    (encode_utf8 c ++ p, ps, split_free b (encode_utf8 c) r p ps free is, (part_more c p (ok other) one.0, free_append b (encode_utf8 c) p free one.1), more)
+    let free = encode_free b c small other in (
+      encode_utf8 c ++ p,
+      ps,
+      split_free b (encode_utf8 c) r p ps free is,
+      (part_more c p (ok other) one.0, free_append b (encode_utf8 c) p free one.1),
+      more,
+    )
 
-split_chars : (f : ℕ → Bool) (b : ℕ) → b < 128 → ((c : ℕ) → f c ≡ true → c ≢ b → is_part_char c ≡ true) → (cs : List ℕ) → list_all f cs ≡ true
+split_chars : (f : ℕ → Bool) (b : ℕ) → b < 128
+    → ((c : ℕ) → f c ≡ true → c ≢ b → is_part_char c ≡ true) → (cs : List ℕ) → list_all f cs ≡ true
     → SplitsAt b (encode_utf8_all cs)
 split_chars f b small ok [] all = ([], [], refl, (no_part, refl), tt)
 split_chars f b small ok (c ∷ cs) all =
     let q = and_parts (f c) (list_all f cs) all in
-    split_char b c (encode_utf8_all cs) (c == b) small refl (ok c q.0) (split_chars f b small ok cs q.1)
+    split_char b c (encode_utf8_all cs) (c == b) small refl (ok c q.0)
+    (split_chars f b small ok cs q.1)
 
 -- a text whose characters, but b, are those of clear parts
-pub splits : (f : ℕ → Bool) (b : ℕ) (t : List ℕ) → b < 128 → ((c : ℕ) → f c ≡ true → c ≢ b → is_part_char c ≡ true) → IsTextOf f t → SplitsAt b t
-splits f b t small ok (cs, all, e) = let P : List ℕ → Type 0 = λ u. SplitsAt b u in subst P e (split_chars f b small ok cs all)
+pub splits : (f : ℕ → Bool) (b : ℕ) (t : List ℕ) → b < 128
+    → ((c : ℕ) → f c ≡ true → c ≢ b → is_part_char c ≡ true) → IsTextOf f t → SplitsAt b t
+splits f b t small ok (cs, all, e) = let P : List ℕ → Type 0 = λ u. SplitsAt b u in
+    subst P e (split_chars f b small ok cs all)

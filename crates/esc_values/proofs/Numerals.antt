@@ -20,7 +20,8 @@ number_back k n small fits =
     rw (without_leading_plus_none (decimal n) plain, test, f.1)
 
 -- digits pass a test that the ten digits pass
-digit_passes : (f : ℕ → Bool) → all_below (λ i. f (i + 48)) 10 ≡ true → (c : ℕ) → 48 ≤ c → c ≤ 57 → f c ≡ true
+digit_passes : (f : ℕ → Bool) → all_below (λ i. f (i + 48)) 10 ≡ true → (c : ℕ) → 48 ≤ c → c ≤ 57
+    → f c ≡ true
 digit_passes f all c low high =
     let here = all_below_at (λ i. f (i + 48)) 10 (c - 48) all (omega arith) in
     let same : c - 48 + 48 ≡ c = omega arith in
@@ -31,14 +32,20 @@ digits_from : (f : ℕ → Bool) → all_below (λ i. f (i + 48)) 10 ≡ true �
 digits_from f all [] h = refl
 digits_from f all (d ∷ ds) h =
     let here = h 0 (omega arith) in
-    rw (digit_passes f all d here.0 here.1, digits_from f all ds (λ k below. h (suc k) (omega arith))) refl
+    rw (
+      digit_passes f all d here.0 here.1,
+      digits_from f all ds (λ k below. h (suc k) (omega arith)),
+    ) refl
 
-pub decimal_passes : (f : ℕ → Bool) → all_below (λ i. f (i + 48)) 10 ≡ true → (n : ℕ) → n < 2 ^ 64 → list_all f (decimal n) ≡ true
+pub decimal_passes : (f : ℕ → Bool) → all_below (λ i. f (i + 48)) 10 ≡ true → (n : ℕ) → n < 2 ^ 64
+    → list_all f (decimal n) ≡ true
 decimal_passes f all n fits =
     let g = decimal_is_IsNumeral n fits in
-    digits_from f all (decimal n) (λ k below. let range = digit_at (decimal n) k g.0.1 below in (omega (arith, range), omega (arith, range)))
+    digits_from f all (decimal n) (λ k below. let range = digit_at (decimal n) k g.0.1 below in
+    (omega (arith, range), omega (arith, range)))
 
-pub signed_passes : (f : ℕ → Bool) → all_below (λ i. f (i + 48)) 10 ≡ true → f 45 ≡ true → (z : ℤ) → IsSigned 64 z
+pub signed_passes : (f : ℕ → Bool) → all_below (λ i. f (i + 48)) 10 ≡ true → f 45 ≡ true → (z : ℤ)
+    → IsSigned 64 z
     → list_all f (signed_decimal z) ≡ true
 signed_passes f all minus (pos n) h = decimal_passes f all n (omega arith)
 signed_passes f all minus (negsuc n) h = rw (minus, decimal_passes f all (suc n) (omega arith)) refl

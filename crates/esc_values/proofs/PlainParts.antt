@@ -28,5 +28,6 @@ part_plain_plain (c ∷ t) h =
 pub plain_part : (t : List ℕ) → list_all is_part_plain t ≡ true → IsClearPart t
 plain_part t h = (t, part_plain_char t h, plain_encodes t (part_plain_plain t h))
 
-pub all_append : (f : ℕ → Bool) (x y : List ℕ) → list_all f x ≡ true → list_all f y ≡ true → list_all f (x ++ y) ≡ true
+pub all_append : (f : ℕ → Bool) (x y : List ℕ) → list_all f x ≡ true → list_all f y ≡ true
+    → list_all f (x ++ y) ≡ true
 all_append f x y h k = rw (list_all-append f x y, h, k) refl

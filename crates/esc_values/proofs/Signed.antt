@@ -46,24 +46,36 @@ signed_fits w (negsuc n) h = rw (half_bits w) h.sfits
 
 -- the test of `signed_of`
 abbrev signed_test : ℕ → List ℕ → Bool
-signed_test k bs = nat_lt 0 (length (without_leading_sign bs)) && all_ascii_digits (without_leading_sign bs) && is_signed k (signed_digits_value 10 bs)
+signed_test k bs = nat_lt 0 (length (without_leading_sign bs))
+    && all_ascii_digits (without_leading_sign bs) && is_signed k (signed_digits_value 10 bs)
 
-numeral_from : (k : ℕ) (bs : List ℕ) → signed_test k bs ≡ true → IsNumeral 10 (without_leading_sign bs) × IsSigned k (signed_digits_value 10 bs)
+numeral_from : (k : ℕ) (bs : List ℕ) → signed_test k bs ≡ true
+    → IsNumeral 10 (without_leading_sign bs) × IsSigned k (signed_digits_value 10 bs)
 numeral_from k bs h =
     let outer =
-    and_parts (nat_lt 0 (length (without_leading_sign bs)) && all_ascii_digits (without_leading_sign bs)) (is_signed k (signed_digits_value 10 bs)) h in
-    let inner = and_parts (nat_lt 0 (length (without_leading_sign bs))) (all_ascii_digits (without_leading_sign bs)) outer.0 in
-    ((ltb-true _ _ inner.0, own.to (without_leading_sign bs) inner.1), is_signed_true k (signed_digits_value 10 bs) outer.1)
+    and_parts (nat_lt 0 (length (without_leading_sign bs))
+    && all_ascii_digits (without_leading_sign bs)) (is_signed k (signed_digits_value 10 bs))
+    h in
+    let inner = and_parts (nat_lt 0 (length (without_leading_sign bs)))
+    (all_ascii_digits (without_leading_sign bs)) outer.0 in (
+      (ltb-true _ _ inner.0, own.to (without_leading_sign bs) inner.1),
+      is_signed_true k (signed_digits_value 10 bs) outer.1,
+    )
 
-test_from : (k : ℕ) (bs : List ℕ) → IsNumeral 10 (without_leading_sign bs) → IsSigned k (signed_digits_value 10 bs) → signed_test k bs ≡ true
+test_from : (k : ℕ) (bs : List ℕ) → IsNumeral 10 (without_leading_sign bs)
+    → IsSigned k (signed_digits_value 10 bs) → signed_test k bs ≡ true
 test_from k bs f r =
-    both_true (both_true (lt-ltb _ _ f.0) (own.from (without_leading_sign bs) f.1)) (is_signed_holds k (signed_digits_value 10 bs) r)
+    both_true (both_true (lt-ltb _ _ f.0) (own.from (without_leading_sign bs) f.1))
+    (is_signed_holds k (signed_digits_value 10 bs) r)
 
-pub signed_from_parse : {E : Type 0} (w : Width) (bs : List ℕ) (r : Result ℤ E) → ParsesSigned w 10 bs r → result_ok r ≡ signed_of (bits w) bs
-signed_from_parse w bs (Ok x) h = rw (test_from (bits w) bs h.0.0 (signed_fits w (signed_digits_value 10 bs) h.0.1), h.1)
+pub signed_from_parse : {E : Type 0} (w : Width) (bs : List ℕ) (r : Result ℤ E)
+    → ParsesSigned w 10 bs r → result_ok r ≡ signed_of (bits w) bs
+signed_from_parse w bs (Ok x) h =
+    rw (test_from (bits w) bs h.0.0 (signed_fits w (signed_digits_value 10 bs) h.0.1), h.1)
 signed_from_parse w bs (Err e) h =
     elim (cases_Bool (signed_test (bits w) bs)) [
-      | inl held ↦ let f = numeral_from (bits w) bs held in absurd (h (f.0, fits_signed w (signed_digits_value 10 bs) f.1))
+      | inl held ↦ let f = numeral_from (bits w) bs held in
+          absurd (h (f.0, fits_signed w (signed_digits_value 10 bs) f.1))
       | inr failed ↦ rw failed
     ]
 
@@ -72,14 +84,16 @@ ascii_from_sign : (bs : List ℕ) → AllDigits 10 (without_leading_sign bs) →
 ascii_from_sign [] h = ascii_from_plus [] h
 ascii_from_sign (x ∷ xs) h =
     elim (cases_Bool (nat_eq x 45)) [
-      | inl minus ↦ let e : x ≡ 45 = eqb-true x 45 minus in ascii_cons x xs (omega arith) (IsAscii-from_digits xs (rw minus at h))
+      | inl minus ↦ let e : x ≡ 45 = eqb-true x 45 minus in
+          ascii_cons x xs (omega arith) (IsAscii-from_digits xs (rw minus at h))
       | inr other ↦ ascii_from_plus (x ∷ xs) (rw other at h)
     ]
 
 pub signed_none : (k : ℕ) (bs : List ℕ) → (IsUtf8 bs → ⊥) → signed_of k bs ≡ None
 signed_none k bs h =
     elim (cases_Bool (signed_test k bs)) [
-      | inl held ↦ absurd (h (IsUtf8-from_ascii bs (ascii_from_sign bs (numeral_from k bs held).0.1)))
+      | inl held ↦ absurd
+          (h (IsUtf8-from_ascii bs (ascii_from_sign bs (numeral_from k bs held).0.1)))
       | inr failed ↦ rw failed
     ]
 
@@ -92,7 +106,8 @@ signed_where k bs =
     ]
 
 -- the text of a number reads back
-unsigned_text : (ds : List ℕ) → get_or ds 0 0 ≢ 43 → get_or ds 0 0 ≢ 45 → (starts_with_minus ds ≡ false) × (without_leading_plus ds ≡ ds)
+unsigned_text : (ds : List ℕ) → get_or ds 0 0 ≢ 43 → get_or ds 0 0 ≢ 45
+    → (starts_with_minus ds ≡ false) × (without_leading_plus ds ≡ ds)
 unsigned_text ds plus minus =
     (ne_eqb (get_or ds 0 0) 45 minus, without_leading_plus_none ds plus)
 
@@ -100,18 +115,22 @@ back_pos : (k n : ℕ) → IsSigned k (pos n) → n < 2 ^ 63 → signed_of k (de
 back_pos k n small fits =
     let f = decimal_is_IsNumeral n (omega arith) in
     let range = digit_at (decimal n) 0 f.0.1 f.0.0 in
-    let t = unsigned_text (decimal n) (λ e. omega (arith, range, e)) (λ e. omega (arith, range, e)) in
+    let t = unsigned_text (decimal n) (λ e. omega (arith, range, e)) (λ e.
+    omega (arith, range, e)) in
     let value : signed_digits_value 10 (decimal n) ≡ pos n = rw (t.0, t.1) (ap pos f.1) in
     let numeral : IsNumeral 10 (without_leading_sign (decimal n)) = rw (t.0, t.1) f.0 in
     rw (test_from k (decimal n) numeral (rw value small), value)
 
-back_neg : (k n : ℕ) → IsSigned k (negsuc n) → n < 2 ^ 63 → signed_of k (45 ∷ decimal (suc n)) ≡ Some (negsuc n)
+back_neg : (k n : ℕ) → IsSigned k (negsuc n) → n < 2 ^ 63
+    → signed_of k (45 ∷ decimal (suc n)) ≡ Some (negsuc n)
 back_neg k n small fits =
     let f = decimal_is_IsNumeral (suc n) (omega arith) in
-    let value : signed_digits_value 10 (45 ∷ decimal (suc n)) ≡ negsuc n = ap (λ m. neg_ℤ (pos m)) f.1 in
+    let value : signed_digits_value 10 (45 ∷ decimal (suc n)) ≡ negsuc n =
+    ap (λ m. neg_ℤ (pos m)) f.1 in
     rw (test_from k (45 ∷ decimal (suc n)) f.0 (rw value small), value)
 
-pub signed_back : (k : ℕ) (z : ℤ) → IsSigned k z → IsSigned 64 z → signed_of k (signed_decimal z) ≡ Some z
+pub signed_back : (k : ℕ) (z : ℤ) → IsSigned k z → IsSigned 64 z
+    → signed_of k (signed_decimal z) ≡ Some z
 signed_back k (pos n) small fits = back_pos k n small fits
 signed_back k (negsuc n) small fits = back_neg k n small fits
 

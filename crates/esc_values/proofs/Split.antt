@@ -38,37 +38,49 @@ pub joined_parts : (t : List ℕ) → joined (parts_of t) ≡ t
 joined_parts [] = refl
 joined_parts (b ∷ t) = joined_split (b ∷ t)
 
-all_clear : (ps : List (List ℕ)) (t : List ℕ) → SplitsAt 0x3b t → slice_split semi t ≡ ps → AreClearParts ps
-all_clear ps t (p, more, is, one, rest) e = let P : List (List ℕ) → Type 0 = λ xs. AreClearParts xs in subst P (sym is ∙ e) (one.0, pieces_clear more rest)
+all_clear : (ps : List (List ℕ)) (t : List ℕ) → SplitsAt 0x3b t → slice_split semi t ≡ ps
+    → AreClearParts ps
+all_clear ps t (p, more, is, one, rest) e = let P : List (List ℕ) → Type 0 =
+    λ xs. AreClearParts xs in subst P (sym is ∙ e) (one.0, pieces_clear more rest)
 
 pub text_parts : (t : List ℕ) → IsClearText t → AreTextParts (parts_of t)
 text_parts [] h = (tt, λ e. cc)
-text_parts (b ∷ t) h =
-    (all_clear (slice_split semi (b ∷ t)) (b ∷ t) (split_clear (b ∷ t) h) refl, λ e. let k : b ∷ t ≡ [] = sym (joined_split (b ∷ t)) ∙ ap joined e in cc)
+text_parts (b ∷ t) h = (
+  all_clear (slice_split semi (b ∷ t)) (b ∷ t) (split_clear (b ∷ t) h) refl,
+  λ e.
+      let k : b ∷ t ≡ [] = sym (joined_split (b ∷ t)) ∙ ap joined e in cc,
+)
 
 -- a clear part is a clear text without `;`
 part_char : (c : ℕ) → is_part_char c ≡ true → (is_clear c ≡ true) × (c ≢ 0x3b)
-part_char c h = let q = and_parts (is_clear c) (not (c == 0x3b)) h in (q.0, eqb-false c 0x3b (not-true (c == 0x3b) q.1))
+part_char c h = let q = and_parts (is_clear c) (not (c == 0x3b)) h in
+    (q.0, eqb-false c 0x3b (not-true (c == 0x3b) q.1))
 
 chars_clear : (cs : List ℕ) → list_all is_part_char cs ≡ true → list_all is_clear cs ≡ true
 chars_clear [] h = refl
-chars_clear (c ∷ cs) h = let q = and_parts (is_part_char c) (list_all is_part_char cs) h in rw ((part_char c q.0).0, chars_clear cs q.1) refl
+chars_clear (c ∷ cs) h = let q = and_parts (is_part_char c) (list_all is_part_char cs) h in
+    rw ((part_char c q.0).0, chars_clear cs q.1) refl
 
 chars_free : (cs : List ℕ) → list_all is_part_char cs ≡ true → Free 0x3b (encode_utf8_all cs)
 chars_free [] h = refl
 chars_free (c ∷ cs) h =
     let q = and_parts (is_part_char c) (list_all is_part_char cs) h in
-    free_append 0x3b (encode_utf8 c) (encode_utf8_all cs) (encode_free 0x3b c (lit< tt) (part_char c q.0).1) (chars_free cs q.1)
+    free_append 0x3b (encode_utf8 c) (encode_utf8_all cs)
+    (encode_free 0x3b c (lit< tt) (part_char c q.0).1) (chars_free cs q.1)
 
 part_free : (p : List ℕ) → IsClearPart p → Free 0x3b p
-part_free p (cs, all, e) = let P : List ℕ → Type 0 = λ u. Free 0x3b u in subst P e (chars_free cs all)
+part_free p (cs, all, e) = let P : List ℕ → Type 0 = λ u. Free 0x3b u in
+    subst P e (chars_free cs all)
 
 pub part_clear : (p : List ℕ) → IsClearPart p → IsClearText p
 part_clear p (cs, all, e) = (cs, chars_clear cs all, e)
 
 pub clear_append : (x y : List ℕ) → IsClearText x → IsClearText y → IsClearText (x ++ y)
-clear_append x y (cs, all, e) (ds, more, f) =
-    (cs ++ ds, rw (list_all-append is_clear cs ds, all, more) refl, encodes-append cs ds ∙ ap (λ t. t ++ encode_utf8_all ds) e ∙ ap (λ t. x ++ t) f)
+clear_append x y (cs, all, e) (ds, more, f) = (
+  cs ++ ds,
+  rw (list_all-append is_clear cs ds, all, more) refl,
+  encodes-append cs ds ∙ ap (λ t. t ++ encode_utf8_all ds) e ∙ ap (λ t. x ++ t) f,
+)
 
 encode_is : encode_utf8_all (0x3b ∷ []) ≡ 0x3b ∷ []
 unfolding encode_utf8
@@ -85,12 +97,16 @@ behind_clear (q ∷ ps) h =
 
 pub joined_clear : (ps : List (List ℕ)) → AreClearParts ps → IsClearText (joined ps)
 joined_clear [] h = ([], refl, refl)
-joined_clear (p ∷ ps) h = clear_append p (flat_map (λ q. 0x3b ∷ q) ps) (part_clear p h.0) (behind_clear ps h.1)
+joined_clear (p ∷ ps) h =
+    clear_append p (flat_map (λ q. 0x3b ∷ q) ps) (part_clear p h.0) (behind_clear ps h.1)
 
-pub split_joined : (p : List ℕ) (ps : List (List ℕ)) → AreClearParts (p ∷ ps) → slice_split semi (joined (p ∷ ps)) ≡ p ∷ ps
-split_joined p [] h = split_free 0x3b p [] [] [] (part_free p h.0) refl ∙ ap (λ t. t ∷ []) (append-nil p)
+pub split_joined : (p : List ℕ) (ps : List (List ℕ)) → AreClearParts (p ∷ ps)
+    → slice_split semi (joined (p ∷ ps)) ≡ p ∷ ps
+split_joined p [] h =
+    split_free 0x3b p [] [] [] (part_free p h.0) refl ∙ ap (λ t. t ∷ []) (append-nil p)
 split_joined p (q ∷ ps) h =
-    split_free 0x3b p (0x3b ∷ joined (q ∷ ps)) [] (slice_split semi (joined (q ∷ ps))) (part_free p h.0) refl
+    split_free 0x3b p (0x3b ∷ joined (q ∷ ps)) [] (slice_split semi (joined (q ∷ ps)))
+    (part_free p h.0) refl
     ∙ ap (λ t. t ∷ slice_split semi (joined (q ∷ ps))) (append-nil p)
     ∙ ap (λ ts. p ∷ ts) (split_joined q ps h.1)
 
@@ -100,5 +116,6 @@ back ([] ∷ []) h = absurd (h.1 refl)
 back ([] ∷ q ∷ ps) h = split_joined [] (q ∷ ps) h.0
 back ((b ∷ p) ∷ ps) h = split_joined (b ∷ p) ps h.0
 
-pub parts_text : (ps : List (List ℕ)) → AreTextParts ps → IsClearText (joined ps) × (parts_of (joined ps) ≡ ps)
+pub parts_text : (ps : List (List ℕ)) → AreTextParts ps → IsClearText (joined ps)
+    × (parts_of (joined ps) ≡ ps)
 parts_text ps h = (joined_clear ps h.0, back ps h)

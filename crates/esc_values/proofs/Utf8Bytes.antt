@@ -20,7 +20,8 @@ encode_bytes c small = elim (cases_Bool (nat_lt c 128)) [
   | inr more ↦ rw more (elim (cases_Bool (nat_lt c 2048)) [
     | inl two ↦ let k = ltb-true c 2048 two in rw two (omega arith, (omega arith, tt))
     | inr many ↦ rw many (elim (cases_Bool (nat_lt c 65536)) [
-      | inl three ↦ let k = ltb-true c 65536 three in rw three (omega arith, (omega arith, (omega arith, tt)))
+      | inl three ↦ let k = ltb-true c 65536 three in
+          rw three (omega arith, (omega arith, (omega arith, tt)))
       | inr four ↦ rw four (omega arith, (omega arith, (omega arith, (omega arith, tt))))
     ])
   ])
@@ -34,7 +35,8 @@ encodes_bytes : (cs : List ℕ) → scalars cs ≡ true → AreBytes (encodes cs
 encodes_bytes [] h = tt
 encodes_bytes (c ∷ cs) h =
     let parts = and_parts (scalar c) (scalars cs) h in
-    bytes_append (encode c) (encodes cs) (encode_bytes c (below c parts.0)) (encodes_bytes cs parts.1)
+    bytes_append (encode c) (encodes cs) (encode_bytes c (below c parts.0))
+    (encodes_bytes cs parts.1)
 
 -- each byte by its index
 pub by_index : (bs : List ℕ) → AreBytes bs → IsBytes bs
@@ -43,10 +45,12 @@ by_index (b ∷ bs) h zero = h.0
 by_index (b ∷ bs) h (suc i) = by_index bs h.1 i
 
 pub utf8_bytes : (t : List ℕ) → IsUtf8 t → IsBytes t
-utf8_bytes t h = let P : List ℕ → Type 0 = λ bs. IsBytes bs in subst P h.1.1 (by_index (encodes h.0) (encodes_bytes h.0 h.1.0))
+utf8_bytes t h = let P : List ℕ → Type 0 = λ bs. IsBytes bs in
+    subst P h.1.1 (by_index (encodes h.0) (encodes_bytes h.0 h.1.0))
 
 pub utf8_are_bytes : (t : List ℕ) → IsUtf8 t → AreBytes t
-utf8_are_bytes t h = let P : List ℕ → Type 0 = λ bs. AreBytes bs in subst P h.1.1 (encodes_bytes h.0 h.1.0)
+utf8_are_bytes t h = let P : List ℕ → Type 0 = λ bs. AreBytes bs in
+    subst P h.1.1 (encodes_bytes h.0 h.1.0)
 
 pub from_index : (bs : List ℕ) → IsBytes bs → AreBytes bs
 from_index [] h = tt

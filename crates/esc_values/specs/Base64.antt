@@ -1,5 +1,5 @@
--- The one base64 engine (RFC 4648, section 4): the standard alphabet, padding written and required, trailing
--- bits allowed when reading.
+-- The one base64 engine (RFC 4648, section 4): the standard alphabet, padding written and required,
+-- trailing bits allowed when reading.
 use Rattle.std.specs.Prelude.{ℕ, ◌≡◌, true, List, Option}
 use Rattle.std.specs.Result.{result_ok}
 use Rattle.base64.specs.GeneralPurpose.{decode_of, encode_of, engine_symbols, engine_padding, engine_config as engine_config_of}
@@ -21,7 +21,8 @@ engine_value = standard_under engine_config
 
 -- an engine of those symbols, that padding and that configuration
 abbrev pub IsEngine : GeneralPurpose → Type 0
-IsEngine e = (engine_symbols e ≡ engine_symbols engine_value) × (engine_padding e ≡ 0x3d) × (engine_config_of e ≡ engine_config)
+IsEngine e = (engine_symbols e ≡ engine_symbols engine_value) × (engine_padding e ≡ 0x3d)
+    × (engine_config_of e ≡ engine_config)
 
 -- the bytes that a base64 text encodes
 abbrev pub base64_of : List ℕ → Option (List ℕ)

@@ -1,5 +1,6 @@
--- Clear characters, the texts that are made of them, and the parts into which such texts split at `;`.
--- A terminal takes each clear character for what it is: none of them controls, opens or ends anything.
+-- Clear characters, the texts that are made of them, and the parts into which such texts split at
+-- `;`. A terminal takes each clear character for what it is: none of them controls, opens or ends
+-- anything.
 use Rattle.std.specs.Prelude.{ℕ, ◌≡◌, ◌≢◌, Bool, true, not, nat_le, ◌==◌, ◌||◌, ◌&&◌, List, [], ◌∷◌, ◌++◌}
 use Rattle.std.specs.List.{slice_split, list_all, flat_map}
 use Rattle.std.specs.Str.{encode_utf8_all}
@@ -48,6 +49,7 @@ joined (p ∷ ps) = p ++ separated ps
 abbrev pub AreTextParts : List (List ℕ) → Type 0
 AreTextParts ps = AreClearParts ps × (ps ≢ [] ∷ [])
 
--- a text between the introducer of an operating system command, `ESC ]`, and the string terminator, `ESC \`
+-- a text between the introducer of an operating system command, `ESC ]`, and the string terminator,
+-- `ESC \`
 abbrev pub framed : List ℕ → List ℕ
 framed t = 0x1b ∷ 0x5d ∷ (t ++ 0x1b ∷ 0x5c ∷ [])

@@ -8,11 +8,13 @@ use Rattle.esc_values.specs.Scalars.{and_then, utf8_of}
 -- what comes before and after the first c
 abbrev pub cut_at : ℕ → List ℕ → Option (List ℕ × List ℕ)
 cut_at c [] = None
-cut_at c (b ∷ bs) = if b == c then Some ([], bs) else option_map (λ (p : List ℕ × List ℕ). (b ∷ p.0, p.1)) (cut_at c bs)
+cut_at c (b ∷ bs) = if b == c then Some ([], bs) else option_map (λ (p : List ℕ
+    × List ℕ). (b ∷ p.0, p.1)) (cut_at c bs)
 
 -- a key and its value: texts, with the first `=` between them
 abbrev pub key_and_value : List ℕ → Option (List ℕ × List ℕ)
-key_and_value p = and_then (cut_at 0x3d p) (λ (c : List ℕ × List ℕ). and_then (utf8_of c.0) (λ k. option_map (λ v. (k, v)) (utf8_of c.1)))
+key_and_value p = and_then (cut_at 0x3d p) (λ (c : List ℕ × List ℕ). and_then (utf8_of c.0) (λ k.
+    option_map (λ v. (k, v)) (utf8_of c.1)))
 
 -- a key, `=` and its value
 abbrev pub pair_text : List ℕ × List ℕ → List ℕ

@@ -1,5 +1,5 @@
--- The bodies of control sequences: their form and their entries (ECMA-48, section 5.4; vt100.net's parser; 3A is taken
--- as a parameter byte).
+-- The bodies of control sequences: their form and their entries (ECMA-48, section 5.4; vt100.net's
+-- parser; 3A is taken as a parameter byte).
 use Rattle.std.specs.Prelude.{ℕ, ◌+◌, ◌-◌, ◌*◌, ◌&&◌, Bool, nat_le, min, pos, if◌then◌else◌, List, [], ◌∷◌, Option, Some, None, drop}
 use Rattle.std.specs.Char.{encode_utf8}
 use Rattle.std.specs.Fmt.{signed_decimal}
@@ -57,13 +57,15 @@ abbrev pub value_behind : ℕ → List ℕ → ℕ
 value_behind n [] = n
 value_behind n (b ∷ bs) = value_behind (10 * n + (b - 0x30)) bs
 
--- the entries of a CSI's body, where n is the number of the run of digits before them, if there is one:
--- each run of digits is its number, every other byte is itself
+-- the entries of a CSI's body, where n is the number of the run of digits before them, if there is
+-- one: each run of digits is its number, every other byte is itself
 abbrev pub entries_behind : Option ℕ → List ℕ → List CsiParam
 entries_behind None [] = []
 entries_behind (Some n) [] = Integer (pos (held n)) ∷ []
-entries_behind None (b ∷ bs) = if is_digit b then entries_behind (Some (b - 0x30)) bs else P b ∷ entries_behind None bs
-entries_behind (Some n) (b ∷ bs) = if is_digit b then entries_behind (Some (10 * n + (b - 0x30))) bs else Integer (pos (held n)) ∷ P b ∷ entries_behind None bs
+entries_behind None (b ∷ bs) = if is_digit b then entries_behind (Some (b - 0x30)) bs else P b
+    ∷ entries_behind None bs
+entries_behind (Some n) (b ∷ bs) = if is_digit b then entries_behind (Some (10 * n + (b - 0x30))) bs
+    else Integer (pos (held n)) ∷ P b ∷ entries_behind None bs
 
 abbrev pub entries : List ℕ → List CsiParam
 entries x = entries_behind None x

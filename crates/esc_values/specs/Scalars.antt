@@ -18,13 +18,16 @@ utf8_of bs = when (is_utf8 bs) bs
 
 -- the number of at least one digit, where it has k bits
 abbrev pub number_in : ℕ → List ℕ → Option ℕ
-number_in k ds = when (nat_lt 0 (length ds) && all_ascii_digits ds && nat_lt (digits_value 10 ds) (2 ^ k)) (digits_value 10 ds)
+number_in k ds =
+    when (nat_lt 0 (length ds) && all_ascii_digits ds && nat_lt (digits_value 10 ds) (2 ^ k))
+    (digits_value 10 ds)
 
 -- the number of k bits that a text writes in decimal, with or without a `+`
 abbrev pub number_of : ℕ → List ℕ → Option ℕ
 number_of k bs = number_in k (without_leading_plus bs)
 
--- a number of a signed type of k bits: from - 2 ^ (k - 1), which is negsuc (2 ^ (k - 1) - 1), to 2 ^ (k - 1) - 1
+-- a number of a signed type of k bits: from - 2 ^ (k - 1), which is negsuc (2 ^ (k - 1) - 1), to 2
+-- ^ (k - 1) - 1
 abbrev pub IsSigned : ℕ → ℤ → Type 0
 IsSigned k (pos n) = n < 2 ^ (k - 1)
 IsSigned k (negsuc n) = n < 2 ^ (k - 1)
@@ -33,8 +36,10 @@ abbrev pub is_signed : ℕ → ℤ → Bool
 is_signed k (pos n) = nat_lt n (2 ^ (k - 1))
 is_signed k (negsuc n) = nat_lt n (2 ^ (k - 1))
 
--- the number of k bits that a text writes in decimal: a `-`, a `+` or no sign, and then at least one digit
+-- the number of k bits that a text writes in decimal: a `-`, a `+` or no sign, and then at least
+-- one digit
 abbrev pub signed_of : ℕ → List ℕ → Option ℤ
 signed_of k bs =
-    when (nat_lt 0 (length (without_leading_sign bs)) && all_ascii_digits (without_leading_sign bs) && is_signed k (signed_digits_value 10 bs))
+    when (nat_lt 0 (length (without_leading_sign bs)) && all_ascii_digits (without_leading_sign bs)
+    && is_signed k (signed_digits_value 10 bs))
     (signed_digits_value 10 bs)

@@ -8,8 +8,8 @@ use std::fmt;
 use std::marker::Model;
 use std::ops::Deref;
 
-/// A value that lies on the heap, so that an enum that holds it stays small. It is made from a `Box`, and gives it back,
-/// without moving the value. Contracts see the value.
+/// A value that lies on the heap, so that an enum that holds it stays small. It is made from a
+/// `Box`, and gives it back, without moving the value. Contracts see the value.
 #[derive(Drop)]
 pub struct Boxed<T, A: Allocator = Global> {
     held: Box<T, A>,

@@ -102,7 +102,8 @@ impl<T, A: Allocator> Items<T, A> {
         Ok(())
     }
 
-    /// Appends an item, where there is one. The error is that memory was refused, and the items stay as they were.
+    /// Appends an item, where there is one. The error is that memory was refused, and the items
+    /// stay as they were.
     pub fn push_optional(&mut self, item: Option<T>) -> Result<(), AllocError>
     where
         T: Drop,
@@ -116,8 +117,8 @@ impl<T, A: Allocator> Items<T, A> {
         }
     }
 
-    /// Appends an item, and another, where there is one. Memory for both is taken first. The error is that it was
-    /// refused, and the items stay as they were.
+    /// Appends an item, and another, where there is one. Memory for both is taken first. The error
+    /// is that it was refused, and the items stay as they were.
     pub fn push_two(&mut self, first: T, second: Option<T>) -> Result<(), AllocError>
     where
         T: Drop,
@@ -134,8 +135,8 @@ impl<T, A: Allocator> Items<T, A> {
         Ok(())
     }
 
-    /// Drops all items, and then has the one that is given, where there is one. Memory for it is taken first. The error
-    /// is that it was refused, and the items stay as they were.
+    /// Drops all items, and then has the one that is given, where there is one. Memory for it is
+    /// taken first. The error is that it was refused, and the items stay as they were.
     pub fn restart(&mut self, item: Option<T>) -> Result<(), AllocError>
     where
         T: Drop,
@@ -240,7 +241,8 @@ impl<T: Drop, A: Allocator> IntoIterator for Items<T, A> {
 
     type IntoIter = vec::IntoIter<T, A>;
 
-    ghost into_iter_gives = { λ v r. (into_iter_items r ≡ v) × (into_iter_len r ≡ length v) × (into_iter_len r < 2 ^ 64)
+    ghost into_iter_gives = { λ v r. (into_iter_items r ≡ v) × (into_iter_len r ≡ length v)
+        × (into_iter_len r < 2 ^ 64)
         × EveryRun (into_iter_steps {X = T} {Z = A}) (λ p. ItemsAre p (into_iter_items p.from)) };
 
     fn into_iter(self) -> vec::IntoIter<T, A> {
@@ -253,7 +255,8 @@ impl<'a, T, A: Allocator> IntoIterator for &'a Items<T, A> {
 
     type IntoIter = slice::Iter<'a, T>;
 
-    ghost into_iter_gives = { λ v it. (iter_rest it ≡ v.now) × (length (iter_rest it) < 2 ^ 64) × IterYieldsInOrder T };
+    ghost into_iter_gives = { λ v it. (iter_rest it ≡ v.now) × (length (iter_rest it) < 2 ^ 64)
+        × IterYieldsInOrder T };
 
     fn into_iter(self) -> slice::Iter<'a, T> {
         self.iter()

@@ -11,7 +11,8 @@ pub fn text_parts()
 /// Clear parts, but not one empty part, joined are a clear text that splits into them.
 #[tactic(auto, using(crate::proofs::Split::parts_text))]
 pub fn parts_text()
-    ensures { (ps : List (List ℕ)) → AreTextParts ps → IsClearText (joined ps) × (parts_of (joined ps) ≡ ps) }
+    ensures { (ps : List (List ℕ)) → AreTextParts ps → IsClearText (joined ps)
+        × (parts_of (joined ps) ≡ ps) }
 {}
 
 /// The parts of a text, joined, are the text.

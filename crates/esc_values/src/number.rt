@@ -1,4 +1,5 @@
-//! How numbers are written. Those under 256, which nearly all of them are, take no call of a general formatter.
+//! How numbers are written. Those under 256, which nearly all of them are, take no call of a
+//! general formatter.
 ghost use Rattle.std.specs.Prelude.{◌≡◌, ◌+◌, ◌<◌, ◌≤◌, ◌∷◌, [], Some};
 ghost use Rattle.std.specs.Fmt.{DisplaysOnOk, decimal, signed_decimal};
 

@@ -3,8 +3,8 @@ ghost use Rattle.std.specs.Prelude.{◌≡◌, ℕ};
 
 use std::marker::Model;
 
-/// A colour as the intensities of red, green and blue, each from 0, none, to 255, full. Contracts see the three
-/// numbers.
+/// A colour as the intensities of red, green and blue, each from 0, none, to 255, full. Contracts
+/// see the three numbers.
 #[derive(Clone, Copy, Debug, PartialEq, Eq)]
 pub struct RgbColor {
     red: u8,

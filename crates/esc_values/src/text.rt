@@ -17,8 +17,8 @@ use std::hash::{Hash, Hasher};
 use std::marker::Model;
 use std::ops::{AsDeref, DerefStr};
 
-/// A text that is well-formed UTF-8 (Unicode, Table 3-7). It is made from a `String`, and gives it back, without
-/// a copy. Contracts see its bytes.
+/// A text that is well-formed UTF-8 (Unicode, Table 3-7). It is made from a `String`, and gives it
+/// back, without a copy. Contracts see its bytes.
 #[derive(Drop)]
 pub struct Text<A: Allocator = Global> {
     string: String<A>,
@@ -97,8 +97,8 @@ impl<A: Allocator> Text<A> {
         memory::push_str(&mut self.string, s)
     }
 
-    /// Appends what Display writes of `value`. The error is that memory was refused, or that its Display erred; a part of
-    /// its text may have been appended then.
+    /// Appends what Display writes of `value`. The error is that memory was refused, or that its
+    /// Display erred; a part of its text may have been appended then.
     pub fn push_display<T: fmt::Display>(&mut self, value: &T) -> Result<(), AllocError>
         ensures text { IfSome (T.output value.now) (λ t. OnOk result (self.new ≡ self.old ++ t)) }
         ensures refused { OnErr result (Refused A) }

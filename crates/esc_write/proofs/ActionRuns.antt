@@ -16,7 +16,8 @@ use Rattle.esc_actions.specs.declared.action.Action.TheVariants as action
 module _ {X V : Type 0} (f : X → V) (show : ℕ → V) where
   -- a run that goes on
   pub more_seen : (xs rest more : List X) (run bs new : List ℕ)
-      → map f xs ≡ map show run ++ map f rest → map f rest ≡ map show bs ++ map f (drop 8 rest) → new ≡ run ++ bs → more ≡ drop 8 rest
+      → map f xs ≡ map show run ++ map f rest → map f rest ≡ map show bs ++ map f (drop 8 rest)
+      → new ≡ run ++ bs → more ≡ drop 8 rest
       → map f xs ≡ map show new ++ map f more
   more_seen xs rest more run bs new h k n m =
       h ∙ ap (λ w. map show run ++ w) k
@@ -56,11 +57,13 @@ text_unless_sixel (action.DeviceControl m) other = device_text m
 text_unless_sixel a other = refl
 
 -- all of a list: of its first n, and of what follows
-module _ {X : Type 0} (p : X → Bool) (n : ℕ) (xs front back : List X) (f : front ≡ take n xs) (b : back ≡ drop n xs) where
+module _ {X : Type 0} (p : X → Bool) (n : ℕ) (xs front back : List X) (f : front ≡ take n xs)
+    (b : back ≡ drop n xs) where
   all_split : list_all p xs ≡ (list_all p front && list_all p back)
   all_split =
       ap (list_all p) (sym (take-append-drop n xs)) ∙ list_all-append p (take n xs) (drop n xs)
-      ∙ ap (λ ys. list_all p ys && list_all p (drop n xs)) (sym f) ∙ ap (λ ys. list_all p front && list_all p ys) (sym b)
+      ∙ ap (λ ys. list_all p ys && list_all p (drop n xs)) (sym f)
+      ∙ ap (λ ys. list_all p front && list_all p ys) (sym b)
 
   pub all_back : list_all p front ≡ true → list_all p xs ≡ list_all p back
   all_back h = all_split ∙ ap (λ t. t && list_all p back) h
@@ -69,12 +72,15 @@ module _ {X : Type 0} (p : X → Bool) (n : ℕ) (xs front back : List X) (f : f
   none_front h = all_split ∙ ap (λ t. t && list_all p back) h
 
 -- the text of a run
-spelled_run : {A : Type 0} (xs : List ℕ) (vs : List (Value A)) → IsAscii xs → texts_after false (map print xs ++ vs) ≡ xs ++ texts_after false vs
+spelled_run : {A : Type 0} (xs : List ℕ) (vs : List (Value A)) → IsAscii xs
+    → texts_after false (map print xs ++ vs) ≡ xs ++ texts_after false vs
 spelled_run [] vs h = refl
-spelled_run (x ∷ xs) vs h = rw (encode_ascii x (h 0)) (ap (λ t. x ∷ t) (spelled_run xs vs (λ i. h (suc i))))
+spelled_run (x ∷ xs) vs h =
+    rw (encode_ascii x (h 0)) (ap (λ t. x ∷ t) (spelled_run xs vs (λ i. h (suc i))))
 
 -- what comes before a character does not show in its text
-print_follows : {A : Type 0} (follows : Bool) (c : ℕ) (vs ws : List (Value A)) → vs ≡ print c ∷ ws → texts_after false vs ≡ texts_after follows vs
+print_follows : {A : Type 0} (follows : Bool) (c : ℕ) (vs ws : List (Value A)) → vs ≡ print c ∷ ws
+    → texts_after false vs ≡ texts_after follows vs
 print_follows follows c vs ws h = ap (texts_after false) h ∙ ap (texts_after follows) (sym h)
 
 pub run_text : {A : Type 0} (follows : Bool) (old new shown xs : List ℕ) (vs ws : List (Value A))
@@ -89,18 +95,24 @@ run_text follows old new shown (x ∷ xs) vs ws some a h k is =
     ∙ ap (λ t. old ++ t) (print_follows follows x vs (map print xs ++ ws) h)
 
 -- the text of one action
-pub one_text : {A : Type 0} (follows ends : Bool) (old new : List ℕ) (v : Value A) (vs ws : List (Value A)) → vs ≡ v ∷ ws
-    → new ≡ old ++ text_after follows v → ends ≡ is_string v → new ++ texts_after ends ws ≡ old ++ texts_after follows vs
+pub one_text : {A : Type 0} (follows ends : Bool) (old new : List ℕ) (v : Value A)
+    (vs ws : List (Value A)) → vs ≡ v ∷ ws
+    → new ≡ old ++ text_after follows v → ends ≡ is_string v
+    → new ++ texts_after ends ws ≡ old ++ texts_after follows vs
 one_text follows ends old new v vs ws h k e =
-    ap (λ t. t ++ texts_after ends ws) k ∙ append_assoc old (text_after follows v) (texts_after ends ws)
-    ∙ ap (λ b. old ++ (text_after follows v ++ texts_after b ws)) e ∙ ap (λ vs. old ++ texts_after follows vs) (sym h)
+    ap (λ t. t ++ texts_after ends ws) k ∙ append_assoc old (text_after follows v)
+    (texts_after ends ws)
+    ∙ ap (λ b. old ++ (text_after follows v ++ texts_after b ws)) e
+    ∙ ap (λ vs. old ++ texts_after follows vs) (sym h)
 
 -- what follows a run is shorter
-pub rest_shorter : {X : Type 0} {A : Type 0} (f : X → Value A) (xs rest : List X) (run : List ℕ) → map f xs ≡ map print run ++ map f rest → 0 < length run
+pub rest_shorter : {X : Type 0} {A : Type 0} (f : X → Value A) (xs rest : List X) (run : List ℕ)
+    → map f xs ≡ map print run ++ map f rest → 0 < length run
     → length rest < length xs
 rest_shorter {X} {A} f xs rest run h some =
     let show : ℕ → Value A = λ c. print c in
-    let sizes : length (map f xs) ≡ length (map show run) + length (map f rest) = ap length h ∙ length-append (map show run) (map f rest) in
+    let sizes : length (map f xs) ≡ length (map show run) + length (map f rest) =
+    ap length h ∙ length-append (map show run) (map f rest) in
     omega (arith, sizes, length-map xs f, length-map rest f, length-map run show)
 
 -- nothing is left

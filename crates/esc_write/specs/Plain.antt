@@ -1,4 +1,5 @@
--- Control sequences and commands whose text is seen at once: that of the entries, or the text as it came.
+-- Control sequences and commands whose text is seen at once: that of the entries, or the text as it
+-- came.
 use Rattle.std.specs.Prelude.{ℕ, ℤ, ◌≡◌, ◌⊎◌, ◌==◌, Bool, false, List, [], ◌∷◌, ◌++◌, Option, codes}
 use Rattle.std.specs.Fmt.{decimal}
 use Rattle.std.specs.List.{list_any, slice_split}
@@ -28,7 +29,8 @@ number_text n f = 0x1b ∷ 0x5b ∷ (decimal n ++ f ∷ [])
 
 -- the text of one of three numbers, with `;` between them
 abbrev pub indexed_text : ℕ → ℕ → ℕ → ℕ → List ℕ
-indexed_text a b c f = 0x1b ∷ 0x5b ∷ (decimal a ++ 0x3b ∷ (decimal b ++ 0x3b ∷ (decimal c ++ f ∷ [])))
+indexed_text a b c f =
+    0x1b ∷ 0x5b ∷ (decimal a ++ 0x3b ∷ (decimal b ++ 0x3b ∷ (decimal c ++ f ∷ [])))
 
 -- the text of one that is known by its numbers
 abbrev pub short_text : ShortNumbers → ℕ → List ℕ
@@ -41,7 +43,8 @@ IsOnePart t = slice_split (λ c. c == 0x3b) t ≡ t ∷ []
 
 -- a name without `:` and an address, with `;` between them
 abbrev pub IsNameAndAddress : List ℕ → Type 0
-IsNameAndAddress t = (v : List ℕ) × (u : List ℕ) × (t ≡ v ++ 0x3b ∷ u) × (list_any is_colon v ≡ false) × IsOnePart v × IsOnePart u
+IsNameAndAddress t = (v : List ℕ) × (u : List ℕ) × (t ≡ v ++ 0x3b ∷ u)
+    × (list_any is_colon v ≡ false) × IsOnePart v × IsOnePart u
 
 -- the text of a link without parameters, or of the end of one
 abbrev pub IsBareLink : List ℕ → Type 0
@@ -57,4 +60,5 @@ IsVerbatim A t = command_text (meaning {A = A} (parts_of t)) ≡ framed t
 
 -- it is a link, or the end of one, and is written so
 abbrev pub IsPlainLink : (A : Type 0) → List ℕ → Type 0
-IsPlainLink A t = (link : Option (Hyperlink A)) × (meaning {A = A} (parts_of t) ≡ command.SetHyperlink link) × IsVerbatim A t
+IsPlainLink A t = (link : Option (Hyperlink A))
+    × (meaning {A = A} (parts_of t) ≡ command.SetHyperlink link) × IsVerbatim A t

@@ -9,7 +9,8 @@ use std::str;
 
 // Whether the text after `8;id=` is a value without `:`, a `;`, and an address without `;`.
 fn is_value_and_address<A: Allocator>(text: &[u8]) -> bool
-    ensures link { IsTrue result → IsUtf8 (codes "8;id=" ++ text.now) → IsPlainLink A (codes "8;id=" ++ text.now) }
+    ensures link { IsTrue result → IsUtf8 (codes "8;id=" ++ text.now)
+        → IsPlainLink A (codes "8;id=" ++ text.now) }
     ensures seen { IsNameAndAddress text.now → IsTrue result }
 {
     let end = mark_from(text, 0);
@@ -32,7 +33,8 @@ fn is_one_part(text: &[u8]) -> bool
 
 // What follows `8;;`.
 fn past_bare_link(text: &[u8]) -> Option<&[u8]>
-    ensures { MatchOption result ((u : List ℕ) → text.now ≢ codes "8;;" ++ u) (λ r. text.now ≡ codes "8;;" ++ r.now) }
+    ensures { MatchOption result ((u : List ℕ) → text.now ≢ codes "8;;" ++ u) (λ r.
+        text.now ≡ codes "8;;" ++ r.now) }
 {
     let [b'8', b';', b';', rest @ ..] = text else {
         return None;
@@ -42,7 +44,8 @@ fn past_bare_link(text: &[u8]) -> Option<&[u8]>
 
 // What follows `8;id=`.
 fn past_link_id(text: &[u8]) -> Option<&[u8]>
-    ensures { MatchOption result ((u : List ℕ) → text.now ≢ codes "8;id=" ++ u) (λ r. text.now ≡ codes "8;id=" ++ r.now) }
+    ensures { MatchOption result ((u : List ℕ) → text.now ≢ codes "8;id=" ++ u) (λ r.
+        text.now ≡ codes "8;id=" ++ r.now) }
 {
     let [b'8', b';', b'i', b'd', b'=', rest @ ..] = text else {
         return None;
@@ -50,9 +53,10 @@ fn past_link_id(text: &[u8]) -> Option<&[u8]>
     Some(rest)
 }
 
-/// Whether the text of an operating system command, its bytes between `ESC ]` and the terminator, is a link (OSC 8) without parameters or
-/// with `id` alone, or the end of one: `8;;` and an address, or `8;id=`, a name without `:`, `;` and an address. Such a command is written as
-/// it came, where its text is UTF-8.
+/// Whether the text of an operating system command, its bytes between `ESC ]` and the terminator,
+/// is a link (OSC 8) without parameters or with `id` alone, or the end of one: `8;;` and an
+/// address, or `8;id=`, a name without `:`, `;` and an address. Such a command is written as it
+/// came, where its text is UTF-8.
 pub fn is_plain_link<A: Allocator>(text: &[u8]) -> bool
     ensures link { IsTrue result → IsUtf8 text.now → IsPlainLink A text.now }
     ensures bare { IsBareLink text.now → IsTrue result }
@@ -67,10 +71,14 @@ pub fn is_plain_link<A: Allocator>(text: &[u8]) -> bool
     }
 }
 
-// Whether it is the letter of a mark that is written as it came, alone: a fresh line and a prompt, the end of a prompt, the start of
-// output, and so on.
+// Whether it is the letter of a mark that is written as it came, alone: a fresh line and a prompt,
+// the end of a prompt, the start of output, and so on.
 fn is_mark_alone(letter: u8) -> bool
-    ensures { result ≡ ((letter == 0x41) || ((letter == 0x42) || ((letter == 0x43) || ((letter == 0x49) || ((letter == 0x4c) || (letter == 0x4e)))))) }
+    ensures { result
+        ≡ ((letter == 0x41)
+        || ((letter == 0x42)
+        || ((letter == 0x43)
+        || ((letter == 0x49) || ((letter == 0x4c) || (letter == 0x4e)))))) }
 {
     letter == b'A'
         || letter == b'B'
@@ -151,8 +159,9 @@ fn is_title<A: Allocator>(text: &[u8]) -> bool
     is_title_code(*code)
 }
 
-/// The text of a command, where it is seen at once that the command is written as it came: a title, a link without parameters or with
-/// `id` alone, the end of a link, and the mark of a prompt without keys or with `aid` alone.
+/// The text of a command, where it is seen at once that the command is written as it came: a title,
+/// a link without parameters or with `id` alone, the end of a link, and the mark of a prompt
+/// without keys or with `aid` alone.
 pub fn verbatim<A: Allocator>(text: &[u8]) -> Option<&str>
     ensures same { IfSome result (λ t. t.now ≡ text.now) }
     ensures written { IfSome result (λ t. IsVerbatim A text.now) }

@@ -33,8 +33,8 @@ pub fn append_entries<A: Allocator>(
     }
 }
 
-/// Whether the text of a control sequence is that of its entries: it has no name, or its only entry is a number, also where that
-/// is a rendition.
+/// Whether the text of a control sequence is that of its entries: it has no name, or its only entry
+/// is a number, also where that is a rendition.
 pub fn is_plain(params: &[CsiParam], parameters_truncated: bool, control: u8) -> bool
     ensures { IsTrue result → IsPlain params.now parameters_truncated control }
 {

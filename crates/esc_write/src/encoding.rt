@@ -14,18 +14,23 @@ use esc_actions::{Action, laws};
 use esc_values::Text;
 use std::alloc::{AllocError, Allocator};
 
-/// The text of these actions: their texts, one after another. After each operating system command, kitty image, sixel image,
-/// termcap query, short device control and end of a mode comes exactly one string terminator `ESC \`; a `StringTerminator`
-/// directly after it in the list is that one, and not a second.
+/// The text of these actions: their texts, one after another. After each operating system command,
+/// kitty image, sixel image, termcap query, short device control and end of a mode comes exactly
+/// one string terminator `ESC \`; a `StringTerminator` directly after it in the list is that one,
+/// and not a second.
 ///
-/// The text of a writable list reads back as the list's normal list, and is the text of that list too. `EncodeError::Fmt` comes
-/// exactly where a sixel image of the list has a value over 63; that is seen before any memory is taken. `EncodeError::Memory`
-/// says that a growth of the text was refused. The empty list takes no memory.
+/// The text of a writable list reads back as the list's normal list, and is the text of that list
+/// too. `EncodeError::Fmt` comes exactly where a sixel image of the list has a value over 63; that
+/// is seen before any memory is taken. `EncodeError::Memory` says that a growth of the text was
+/// refused. The empty list takes no memory.
 pub fn encode<A: Allocator>(alloc: A, actions: &[Action<A>]) -> Result<String<A>, EncodeError>
     ensures text { IfOk result (λ t. string_bytes t ≡ list_text (map value_of actions.now)) }
-    ensures reads_back { AreWritable (map value_of actions.now) → IfOk result (λ t. meaning (string_bytes t) ≡ normal (map value_of actions.now)) }
-    ensures same_text { AreWritable (map value_of actions.now) → IfOk result (λ t. list_text (normal (map value_of actions.now)) ≡ string_bytes t) }
-    ensures no_text { IsErrOf result EncodeError.Fmt ↔ (list_all (λ a. has_text (value_of a)) actions.now ≡ false) }
+    ensures reads_back { AreWritable (map value_of actions.now)
+        → IfOk result (λ t. meaning (string_bytes t) ≡ normal (map value_of actions.now)) }
+    ensures same_text { AreWritable (map value_of actions.now)
+        → IfOk result (λ t. list_text (normal (map value_of actions.now)) ≡ string_bytes t) }
+    ensures no_text { IsErrOf result EncodeError.Fmt
+        ↔ (list_all (λ a. has_text (value_of a)) actions.now ≡ false) }
     ensures refused { IsErrOf result EncodeError.Memory → 0 < length actions.now }
     ensures memory_refused { IsErrOf result EncodeError.Memory → Refused A }
 {
@@ -59,8 +64,8 @@ fn spell<A: Allocator>(alloc: A, actions: &[Action<A>]) -> Result<Text<A>, Alloc
     Ok(text)
 }
 
-// Appends the text of the first of these actions: of a run of ASCII characters, or of a few actions one by one. Returns the actions
-// after them, and whether they come directly after a string action.
+// Appends the text of the first of these actions: of a run of ASCII characters, or of a few actions
+// one by one. Returns the actions after them, and whether they come directly after a string action.
 #[inline(always)]
 fn write_some<'a, A: Allocator>(
     text: &mut Text<A>,
@@ -69,7 +74,8 @@ fn write_some<'a, A: Allocator>(
     actions: &'a [Action<A>],
 ) -> Result<(&'a [Action<A>], bool), AllocError>
     requires { 0 < length actions.now }
-    ensures text { IfOk result (λ r. text.new ++ texts_after r.1 (map value_of r.0.now) ≡ text.old ++ texts_after follows_string (map value_of actions.now)) }
+    ensures text { IfOk result (λ r. text.new ++ texts_after r.1 (map value_of r.0.now) ≡ text.old
+        ++ texts_after follows_string (map value_of actions.now)) }
     ensures less { IfOk result (λ r. length r.0.now < length actions.now) }
     ensures left { list_all (λ a. has_text (value_of a)) actions.now ≡ true
         → IfOk result (λ r. list_all (λ a. has_text (value_of a)) r.0.now ≡ true) }
@@ -84,14 +90,16 @@ fn write_some<'a, A: Allocator>(
     Ok((rest, false))
 }
 
-// The same, for at most eight actions, one by one. Looking for a run again only after eight of them keeps short runs cheap.
+// The same, for at most eight actions, one by one. Looking for a run again only after eight of them
+// keeps short runs cheap.
 fn write_few<'a, A: Allocator>(
     text: &mut Text<A>,
     follows_string: bool,
     actions: &'a [Action<A>],
 ) -> Result<(&'a [Action<A>], bool), AllocError>
     requires { 0 < length actions.now }
-    ensures text { IfOk result (λ r. text.new ++ texts_after r.1 (map value_of r.0.now) ≡ text.old ++ texts_after follows_string (map value_of actions.now)) }
+    ensures text { IfOk result (λ r. text.new ++ texts_after r.1 (map value_of r.0.now) ≡ text.old
+        ++ texts_after follows_string (map value_of actions.now)) }
     ensures less { IfOk result (λ r. length r.0.now < length actions.now) }
     ensures left { list_all (λ a. has_text (value_of a)) actions.now ≡ true
         → IfOk result (λ r. list_all (λ a. has_text (value_of a)) r.0.now ≡ true) }
@@ -110,7 +118,8 @@ fn write_few<'a, A: Allocator>(
     Ok((rest, follows))
 }
 
-// Appends the text of an action, and returns whether what comes after it follows a string action. It looks for characters first.
+// Appends the text of an action, and returns whether what comes after it follows a string action.
+// It looks for characters first.
 #[inline(always)]
 fn write_next<A: Allocator>(
     text: &mut Text<A>,

@@ -1,7 +1,8 @@
 //! The numbers of a colour of the palette.
 ghost use Rattle.std.specs.Prelude.{◌<◌, ◌≤◌};
 
-/// The numbers of a colour of the palette, as `38;5;n`: of two digits and no rendition, of one digit, and of up to three.
+/// The numbers of a colour of the palette, as `38;5;n`: of two digits and no rendition, of one
+/// digit, and of up to three.
 #[derive(Clone, Copy)]
 pub struct Indexed {
     /// The first number.

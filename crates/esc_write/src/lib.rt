@@ -1,7 +1,9 @@
-//! From actions to text: [`encode`], and the texts of control sequences and commands that are written as they came.
+//! From actions to text: [`encode`], and the texts of control sequences and commands that are
+//! written as they came.
 //!
-//! The text of a list of actions is that of its values, with a string terminator after each that needs one. There is no parser
-//! here: `esc_normal` joins what this crate writes with what `esc_parse` reads.
+//! The text of a list of actions is that of its values, with a string terminator after each that
+//! needs one. There is no parser here: `esc_normal` joins what this crate writes with what
+//! `esc_parse` reads.
 #![tactic(auto)]
 
 pub mod commands;

@@ -25,7 +25,8 @@ fn ascii_of<A: Allocator>(action: &Action<A>) -> Option<u8>
 #[inline(always)]
 fn eight_of<A: Allocator>(actions: &[Action<A>]) -> Option<[u8; 8]>
     ensures few { IfSome result (λ bs. 8 ≤ length actions.now) }
-    ensures same { IfSome result (λ bs. map value_of actions.now ≡ map print bs ++ map value_of (drop 8 actions.now)) }
+    ensures same { IfSome result (λ bs. map value_of actions.now ≡ map print bs
+        ++ map value_of (drop 8 actions.now)) }
     ensures ascii { IfSome result (λ bs. IsAscii bs) }
 {
     let [
@@ -53,8 +54,8 @@ fn eight_of<A: Allocator>(actions: &[Action<A>]) -> Option<[u8; 8]>
     Some([first, second, third, fourth, fifth, sixth, seventh, eighth])
 }
 
-// Gathers the ASCII characters that are shown at the start, eight at a time, as far as there is room for them, and returns what
-// follows them.
+// Gathers the ASCII characters that are shown at the start, eight at a time, as far as there is
+// room for them, and returns what follows them.
 #[inline(always)]
 pub(crate) fn gather_eights<'a, A: Allocator>(
     actions: &'a [Action<A>],

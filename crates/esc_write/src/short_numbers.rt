@@ -1,4 +1,5 @@
-//! Control sequences of short numbers, appended to a text from arrays of bytes whose lengths are known as the program is made.
+//! Control sequences of short numbers, appended to a text from arrays of bytes whose lengths are
+//! known as the program is made.
 ghost use Rattle.std.specs.Prelude.{◌≡◌, ◌<◌, ◌≤◌, ◌∷◌, ◌++◌, [], Bool, pos, IfSome, OnErr, OnOk};
 ghost use Rattle.std.specs.Str.{IsAscii};
 ghost use Rattle.memory.specs.Refusals.{Refused};
@@ -48,7 +49,8 @@ fn lone_number(params: &[CsiParam]) -> Option<u8>
 // These numbers, where the entries are such ones, with `;` between them.
 #[inline(always)]
 fn palette_numbers(params: &[CsiParam]) -> Option<Indexed>
-    ensures entries { IfSome result (λ i. params.now ≡ Integer (pos i.first) ∷ P 0x3b ∷ Integer (pos i.second) ∷ P 0x3b ∷ Integer (pos i.third) ∷ []) }
+    ensures entries { IfSome result (λ i. params.now ≡ Integer (pos i.first) ∷ P 0x3b
+        ∷ Integer (pos i.second) ∷ P 0x3b ∷ Integer (pos i.third) ∷ []) }
 {
     let [one, CsiParam::P(b';'), two, CsiParam::P(b';'), three] = params else {
         return None;
@@ -206,11 +208,13 @@ pub enum ShortNumbers {
 }
 
 impl ShortNumbers {
-    /// What the entries are, where the control sequence is one of these, and its text that of the entries.
+    /// What the entries are, where the control sequence is one of these, and its text that of the
+    /// entries.
     #[inline(always)]
     pub fn of(params: &[CsiParam], control: u8) -> Option<ShortNumbers>
         ensures plain { IfSome result (λ s. (more : Bool) → IsPlain params.now more control) }
-        ensures text { IfSome result (λ s. (more : Bool) → csi_text (unspecified params.now more control) ≡ short_text s control) }
+        ensures text { IfSome result (λ s. (more : Bool)
+            → csi_text (unspecified params.now more control) ≡ short_text s control) }
         ensures ascii { IfSome result (λ s. control < 128) }
     {
         if control >= 128 {

@@ -8,11 +8,12 @@ use crate::short_text::{ROOM, ShortText};
 use esc_values::CsiParam;
 
 impl ShortText {
-    // Appends the text of a control sequence that has no name, where it is short: its entries are ASCII characters and numbers
-    // under 256, and there is room for it.
+    // Appends the text of a control sequence that has no name, where it is short: its entries are
+    // ASCII characters and numbers under 256, and there is room for it.
     pub(crate) fn push_sequence(&mut self, params: &[CsiParam], control: u8) -> bool
         requires { self.old ≡ [] }
-        ensures { (more : Bool) → IsTrue result → self.new ≡ csi_text (unspecified params.now more control) }
+        ensures { (more : Bool) → IsTrue result
+            → self.new ≡ csi_text (unspecified params.now more control) }
     {
         self.push(0x1b);
         self.push(b'[');

@@ -12,12 +12,14 @@ use esc_filter::{Filter, Policy, passed_reads_back};
 use esc_frame::ParseError;
 use std::alloc::Global;
 
-/// Writes to `out` the text of those actions of the stream `bytes` that the policy admits, as much of it as fits, and the length
-/// of all of it in bytes to `needed`. The whole text reads back as these actions, and as nothing else; a part of it need not.
+/// Writes to `out` the text of those actions of the stream `bytes` that the policy admits, as much
+/// of it as fits, and the length of all of it in bytes to `needed`. The whole text reads back as
+/// these actions, and as nothing else; a part of it need not.
 ///
-/// The policies are 0 text, 1 color, 2 screen and 3 all, each as [`Policy`] says; any other number is `UNKNOWN_POLICY`. Of a string
-/// with more than `limit` bytes nothing is written, as of [`Parser::with_limit`](esc_parse::Parser::with_limit). `NO_MEMORY` says
-/// that a request for memory was refused.
+/// The policies are 0 text, 1 color, 2 screen and 3 all, each as [`Policy`] says; any other number
+/// is `UNKNOWN_POLICY`. Of a string with more than `limit` bytes nothing is written, as of
+/// [`Parser::with_limit`](esc_parse::Parser::with_limit). `NO_MEMORY` says that a request for
+/// memory was refused.
 #[unsafe(no_mangle)]
 pub extern "C" fn escape_stream_filter(
     alloc: Global,
@@ -27,13 +29,18 @@ pub extern "C" fn escape_stream_filter(
     out: &mut [u8],
     needed: &mut usize,
 ) -> u32
-    ensures needed { result ≡ DONE → IfSome (policy_numbered policy) (λ p. needed.new ≡ length (passed_text {A = Global} (Some limit) (admits p) bytes.now)) }
+    ensures needed { result ≡ DONE
+        → IfSome (policy_numbered policy) (λ p.
+        needed.new ≡ length (passed_text {A = Global} (Some limit) (admits p) bytes.now)) }
     ensures written { result ≡ DONE → IfSome (policy_numbered policy) (λ p.
-        out.new ≡ take (length out.old) (passed_text {A = Global} (Some limit) (admits p) bytes.now) ++ drop (needed.new) out.old) }
+        out.new ≡ take (length out.old) (passed_text {A = Global} (Some limit) (admits p) bytes.now)
+        ++ drop (needed.new) out.old) }
     ensures filtered { result ≡ DONE → IfSome (policy_numbered policy) (λ p.
-        IsFiltered {A = Global} (Some limit) (admits p) bytes.now (passed_text {A = Global} (Some limit) (admits p) bytes.now)) }
+        IsFiltered {A = Global} (Some limit) (admits p) bytes.now
+        (passed_text {A = Global} (Some limit) (admits p) bytes.now)) }
     ensures unknown { result ≡ UNKNOWN_POLICY ↔ (policy_numbered policy ≡ None) }
-    ensures refused { result ≢ DONE → (result ≢ NO_MEMORY → result ≡ UNKNOWN_POLICY) × (out.new ≡ out.old) × (needed.new ≡ needed.old) }
+    ensures refused { result ≢ DONE → (result ≢ NO_MEMORY → result ≡ UNKNOWN_POLICY)
+        × (out.new ≡ out.old) × (needed.new ≡ needed.old) }
     ensures memory { result ≡ NO_MEMORY → Refused Global }
 {
     passed_reads_back::<Global>();
@@ -65,9 +72,14 @@ fn filter_by(
     out: &mut [u8],
     needed: &mut usize,
 ) -> u32
-    ensures needed { result ≡ DONE → needed.new ≡ length (passed_text {A = Global} (Some limit) (admits policy) bytes.now) }
-    ensures written { result ≡ DONE → out.new ≡ take (length out.old) (passed_text {A = Global} (Some limit) (admits policy) bytes.now) ++ drop (needed.new) out.old }
-    ensures refused { result ≢ DONE → (result ≡ NO_MEMORY) × (out.new ≡ out.old) × (needed.new ≡ needed.old) }
+    ensures needed { result ≡ DONE
+        → needed.new
+        ≡ length (passed_text {A = Global} (Some limit) (admits policy) bytes.now) }
+    ensures written { result ≡ DONE
+        → out.new ≡ take (length out.old) (passed_text {A = Global} (Some limit) (admits policy)
+        bytes.now) ++ drop (needed.new) out.old }
+    ensures refused { result ≢ DONE → (result ≡ NO_MEMORY) × (out.new ≡ out.old)
+        × (needed.new ≡ needed.old) }
     ensures memory { result ≡ NO_MEMORY → Refused Global }
     ensures known { result ≢ UNKNOWN_POLICY }
 {

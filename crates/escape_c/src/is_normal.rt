@@ -10,14 +10,17 @@ use crate::{DONE, NO_MEMORY};
 use esc_actions::laws;
 use std::alloc::Global;
 
-/// Writes to `answer` whether the stream `bytes` is its own normal form: the text that [`escape_stream_normal`](crate::escape_stream_normal)
-/// writes for it.
+/// Writes to `answer` whether the stream `bytes` is its own normal form: the text that
+/// [`escape_stream_normal`](crate::escape_stream_normal) writes for it.
 ///
-/// Of the normal form of a stream that means a writable list it is true. `NO_MEMORY` is the only other status.
+/// Of the normal form of a stream that means a writable list it is true. `NO_MEMORY` is the only
+/// other status.
 #[unsafe(no_mangle)]
 pub extern "C" fn escape_stream_is_normal(alloc: Global, bytes: &[u8], answer: &mut bool) -> u32
-    ensures equal { result ≡ DONE → (IsTrue answer.new ↔ (list_text (meaning {A = Global} bytes.now) ≡ bytes.now)) }
-    ensures normalised { (t : List ℕ) → AreWritable {A = Global} (meaning t) → bytes.now ≡ list_text (meaning {A = Global} t) → result ≡ DONE → answer.new ≡ true }
+    ensures equal { result ≡ DONE
+        → (IsTrue answer.new ↔ (list_text (meaning {A = Global} bytes.now) ≡ bytes.now)) }
+    ensures normalised { (t : List ℕ) → AreWritable {A = Global} (meaning t)
+        → bytes.now ≡ list_text (meaning {A = Global} t) → result ≡ DONE → answer.new ≡ true }
     ensures refused { result ≢ DONE → (result ≡ NO_MEMORY) × (answer.new ≡ answer.old) }
     ensures memory { result ≡ NO_MEMORY → Refused Global }
 {

@@ -1,8 +1,10 @@
-//! The normal form, its check and the filter of streams of terminal escape sequences, for C and for programs that link C's libraries.
+//! The normal form, its check and the filter of streams of terminal escape sequences, for C and for
+//! programs that link C's libraries.
 //!
-//! Each call takes a stream whole, and returns a status: [`DONE`], or why it was not done. A text goes into the caller's buffer, as much
-//! of it as fits, and its whole length into `needed`; so a caller makes room and calls again. After any status but `DONE` nothing was
-//! written. No state is kept between calls. `include/escape_stream.h` declares the calls for C.
+//! Each call takes a stream whole, and returns a status: [`DONE`], or why it was not done. A text
+//! goes into the caller's buffer, as much of it as fits, and its whole length into `needed`; so a
+//! caller makes room and calls again. After any status but `DONE` nothing was written. No state is
+//! kept between calls. `include/escape_stream.h` declares the calls for C.
 #![tactic(auto)]
 
 mod filter;

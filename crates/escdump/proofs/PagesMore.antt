@@ -12,16 +12,19 @@ page_piece : (s : List ℕ) (p : Piece) → is_fit p ≡ true → IsPage s → I
 page_piece s p fit (ps, all, e) = (
   ps ++ p ∷ [],
   rw (list_all-append is_fit ps (p ∷ []), all, fit) refl,
-  flat_map-append piece_text ps (p ∷ []) ∙ ap (λ t. t ++ (piece_text p ++ [])) e ∙ ap (λ t. s ++ t) (append-nil (piece_text p)),
+  flat_map-append piece_text ps (p ∷ []) ∙ ap (λ t. t ++ (piece_text p ++ [])) e
+      ∙ ap (λ t. s ++ t) (append-nil (piece_text p)),
 )
 
 pub no_page : ∥ IsPage [] ∥₁
 no_page = ∣ ([], refl, refl) ∣₁
 
 -- the text t after a push of a piece to the text s, that may be refused
-pub page_push : {U E : Type 0} (r : Result U E) (s t : List ℕ) (p : Piece) → is_fit p ≡ true → ∥ IsPage s ∥₁ → OnOk r (t ≡ s ++ piece_text p) → OnErr r (t ≡ s)
+pub page_push : {U E : Type 0} (r : Result U E) (s t : List ℕ) (p : Piece) → is_fit p ≡ true
+    → ∥ IsPage s ∥₁ → OnOk r (t ≡ s ++ piece_text p) → OnErr r (t ≡ s)
     → ∥ IsPage t ∥₁
-page_push (Ok u) s t p fit h ok err = subst (λ x. ∥ IsPage x ∥₁) (sym ok) (∥∥₁_map h (page_piece s p fit))
+page_push (Ok u) s t p fit h ok err =
+    subst (λ x. ∥ IsPage x ∥₁) (sym ok) (∥∥₁_map h (page_piece s p fit))
 page_push (Err e) s t p fit h ok err = subst (λ x. ∥ IsPage x ∥₁) (sym err) h
 
 -- pages one after another
@@ -33,7 +36,8 @@ page_append s t (ps, all, e) (qs, more, f) = (
       ∙ ap (λ x. s ++ x) f,
 )
 
-appends_more : (a b c : Option (List ℕ)) (s t : List ℕ) → Appends a b s → Appends b c t → Appends a c (s ++ t)
+appends_more : (a b c : Option (List ℕ)) (s t : List ℕ) → Appends a b s → Appends b c t
+    → Appends a c (s ++ t)
 appends_more None b c s t h k = tt
 appends_more (Some xs) None c s t h k = absurd h
 appends_more (Some xs) (Some ys) None s t h k = absurd k
@@ -59,10 +63,12 @@ pages_more a b c h k = record {
   appends = appends_more a b c h.text k.text h.appends k.appends;
 }
 
-pub page_printed : (a b c : Option (List ℕ)) (t : List ℕ) → ∥ IsPage t ∥₁ → Appends a b t → Keeps b c → AppendsPage a c
+pub page_printed : (a b c : Option (List ℕ)) (t : List ℕ) → ∥ IsPage t ∥₁ → Appends a b t
+    → Keeps b c → AppendsPage a c
 page_printed a b c t safe h k = record { text = t; safe = safe; appends = appends_kept a b c t h k }
 
 -- a last page, that may be refused
-pub pages_on : {U E : Type 0} (r : Result U E) (a b c : Option (List ℕ)) → AppendsPage a b → OnOk r (AppendsPage b c) → OnOk r (AppendsPage a c)
+pub pages_on : {U E : Type 0} (r : Result U E) (a b c : Option (List ℕ)) → AppendsPage a b
+    → OnOk r (AppendsPage b c) → OnOk r (AppendsPage a c)
 pages_on (Ok u) a b c h k = pages_more a b c h k
 pages_on (Err e) a b c h k = tt

@@ -1,4 +1,5 @@
-//! Control codes, by their names (ECMA-48, fifth edition, 8.3; those of the 1970s that it left out, of its fourth edition).
+//! Control codes, by their names (ECMA-48, fifth edition, 8.3; those of the 1970s that it left out,
+//! of its fourth edition).
 
 use crate::named::Named;
 

@@ -9,8 +9,8 @@ use std::alloc::Allocator;
 use std::fmt;
 use std::fmt::Display;
 
-// The VT510's manual (<https://vt100.net/docs/vt510-rm/chapter4.html>; DEC..), DEC's manual of ReGIS
-// (<https://vt100.net/docs/vt3xx-gp/chapter1.html>), and xterm's list
+// The VT510's manual (<https://vt100.net/docs/vt510-rm/chapter4.html>; DEC..), DEC's manual of
+// ReGIS (<https://vt100.net/docs/vt3xx-gp/chapter1.html>), and xterm's list
 // (<https://invisible-island.net/xterm/ctlseqs/ctlseqs.html>, "Device-Control functions").
 const DEVICE_CONTROLS: &[Function] = &[
     Function("$q", "DECRQSS", "ask for a setting", Numbers),

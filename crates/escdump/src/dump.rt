@@ -48,8 +48,8 @@ impl<A: Allocator + Copy> Dump<A> {
         &mut self.page
     }
 
-    /// Adds the lines of a chunk: of each run of text in it, and of each segment that is finished by it. The error is that memory was
-    /// refused.
+    /// Adds the lines of a chunk: of each run of text in it, and of each segment that is finished
+    /// by it. The error is that memory was refused.
     pub fn take(&mut self, chunk: &[u8]) -> Result<(), AllocError> {
         let mut bytes = mem::replace(&mut self.begun, Vec::new(self.alloc));
         bytes.extend_from_slice(chunk)?;
@@ -121,7 +121,8 @@ impl<A: Allocator + Copy> Dump<A> {
         Ok(())
     }
 
-    // Adds the words of the actions of these bytes. A cancel, which cannot be part of any segment but its own, ends every segment.
+    // Adds the words of the actions of these bytes. A cancel, which cannot be part of any segment
+    // but its own, ends every segment.
     fn feed(&mut self, bytes: &[u8]) -> Result<(), AllocError> {
         let words = mem::replace(&mut self.words, Words::new(self.alloc, self.options.limit));
         let (result, words) = self.parser.parse_into(bytes, words);

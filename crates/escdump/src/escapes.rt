@@ -4,8 +4,9 @@ use crate::functions::Function;
 use crate::functions::Parameters::Numbers;
 use crate::named::Named;
 
-/// Escape sequences of ECMA-48, fifth edition (the letters `@` to `_` of 5.3, and those from `` ` `` to `~` of 5.5), of ECMA-35 (the intermediates
-/// space and `%`), of the VT510's manual (<https://vt100.net/docs/vt510-rm/chapter4.html>; DEC..), and of xterm's list
+/// Escape sequences of ECMA-48, fifth edition (the letters `@` to `_` of 5.3, and those from `` `
+/// `` to `~` of 5.5), of ECMA-35 (the intermediates space and `%`), of the VT510's manual
+/// (<https://vt100.net/docs/vt510-rm/chapter4.html>; DEC..), and of xterm's list
 /// (<https://invisible-island.net/xterm/ctlseqs/ctlseqs.html>).
 pub const ESCAPES: &[Function] = &[
     Function("\\", "ST", "string terminator", Numbers),
@@ -72,7 +73,8 @@ pub const PLACES: &[Named] = &[
     Named(0x2f, "G3"),
 ];
 
-/// The character set of this final byte (the manual of the VT510, "SCS", and xterm's list, "Designate G0 Character Set").
+/// The character set of this final byte (the manual of the VT510, "SCS", and xterm's list,
+/// "Designate G0 Character Set").
 pub const SETS: &[Named] = &[
     Named(0x30, "DEC special graphics"),
     Named(0x31, "DEC alternate characters"),

@@ -1,10 +1,11 @@
 //! The table of control functions.
 //!
 //! The names are those of ECMA-48, fifth edition, chapter 8
-//! (<https://ecma-international.org/publications-and-standards/standards/ecma-48/>); of DEC's manual of the VT510
-//! (<https://vt100.net/docs/vt510-rm/chapter4.html>), which begin with DEC; of xterm's list of control sequences
-//! (<https://invisible-island.net/xterm/ctlseqs/ctlseqs.html>), which begin with XT; and, of those that end in `u`, of kitty's
-//! keyboard protocol (<https://sw.kovidgoyal.net/kitty/keyboard-protocol/>).
+//! (<https://ecma-international.org/publications-and-standards/standards/ecma-48/>); of DEC's
+//! manual of the VT510 (<https://vt100.net/docs/vt510-rm/chapter4.html>), which begin with DEC; of
+//! xterm's list of control sequences (<https://invisible-island.net/xterm/ctlseqs/ctlseqs.html>),
+//! which begin with XT; and, of those that end in `u`, of kitty's keyboard protocol
+//! (<https://sw.kovidgoyal.net/kitty/keyboard-protocol/>).
 
 use crate::functions::Parameters::{Modes, Numbers, OneOf, PrivateModes, Renditions};
 use crate::functions::{Function, function_of};
@@ -87,7 +88,8 @@ const WINDOW: &[Named] = &[
     Named(23, "pop title"),
 ];
 
-// Those without a private marker and intermediates: of the final bytes `@` to `_`, and from `` ` `` on.
+// Those without a private marker and intermediates: of the final bytes `@` to `_`, and from `` ` ``
+// on.
 const PLAIN_UPPER: &[Function] = &[
     Function("@", "ICH", "insert characters", Numbers),
     Function("A", "CUU", "cursor up", Numbers),
@@ -230,7 +232,8 @@ const INTERMEDIATE: &[Function] = &[
     Function("'~", "DECDC", "delete columns", Numbers),
 ];
 
-/// The control function with this private marker, these intermediates and this final byte, where it has a name.
+/// The control function with this private marker, these intermediates and this final byte, where it
+/// has a name.
 pub fn control_function(marks: &[u8], last: u8) -> Option<Function> {
     match marks {
         [] => plain_function(last),

@@ -36,8 +36,8 @@ impl<A: Allocator> Item<A> {
         self.length > 0 && self.kind == SegmentKind::Character
     }
 
-    /// Adds some bytes, of which as many are kept as the limit allows, and of a run of text all. The error is that memory was
-    /// refused.
+    /// Adds some bytes, of which as many are kept as the limit allows, and of a run of text all.
+    /// The error is that memory was refused.
     pub fn add(&mut self, kind: SegmentKind, bytes: &[u8], limit: usize) -> Result<(), AllocError> {
         self.kind = kind;
         self.length = self.length.saturating_add(bytes.len() as u64);

@@ -1,4 +1,5 @@
-//! Prints a stream of terminal escape sequences, read from standard input, as one readable line a run of text or sequence.
+//! Prints a stream of terminal escape sequences, read from standard input, as one readable line a
+//! run of text or sequence.
 #![tactic(auto)]
 
 mod action_words;

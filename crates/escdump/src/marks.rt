@@ -2,7 +2,8 @@
 
 use escape_stream::CsiParam;
 
-/// The private marker and intermediates of a control sequence, in order: as many as a name may have, and one more.
+/// The private marker and intermediates of a control sequence, in order: as many as a name may
+/// have, and one more.
 #[derive(Clone, Copy)]
 pub struct Marks {
     bytes: [u8; 4],
@@ -33,7 +34,8 @@ impl Marks {
     }
 }
 
-/// Whether the entry is a private marker or an intermediate: no number, and nothing that separates two.
+/// Whether the entry is a private marker or an intermediate: no number, and nothing that separates
+/// two.
 pub fn is_mark(param: CsiParam) -> bool {
     match param {
         CsiParam::P(b';') | CsiParam::P(b':') | CsiParam::Integer(_) => false,

@@ -2,7 +2,8 @@
 
 use crate::named::{Named, words_of};
 
-// Modes of ECMA-48 (fifth edition, 7.2) and of the VT510 (<https://vt100.net/docs/vt510-rm/chapter4.html>).
+// Modes of ECMA-48 (fifth edition, 7.2) and of the VT510
+// (<https://vt100.net/docs/vt510-rm/chapter4.html>).
 const MODES: &[Named] = &[
     Named(2, "KAM keyboard is locked"),
     Named(3, "CRM controls are shown"),
@@ -12,11 +13,11 @@ const MODES: &[Named] = &[
 ];
 
 // Private modes of DEC (<https://vt100.net/docs/vt510-rm/chapter4.html>) and xterm
-// (<https://invisible-island.net/xterm/ctlseqs/ctlseqs.html>, "DEC Private Mode Set"). 2026 is that of
-// <https://gist.github.com/christianparpart/d8a62cc1ab659194337d73e399004036>, 2027 that of
+// (<https://invisible-island.net/xterm/ctlseqs/ctlseqs.html>, "DEC Private Mode Set"). 2026 is that
+// of <https://gist.github.com/christianparpart/d8a62cc1ab659194337d73e399004036>, 2027 that of
 // <https://github.com/contour-terminal/terminal-unicode-core>, 2031 that of
-// <https://contour-terminal.org/vt-extensions/color-palette-update-notifications/>, and 2048 that of
-// <https://gist.github.com/rockorager/e695fb2924d36b2bcf1fff4a3704bd83>.
+// <https://contour-terminal.org/vt-extensions/color-palette-update-notifications/>, and 2048 that
+// of <https://gist.github.com/rockorager/e695fb2924d36b2bcf1fff4a3704bd83>.
 const PRIVATE_MODES: &[Named] = &[
     Named(1, "DECCKM application cursor keys"),
     Named(2, "DECANM ANSI"),

@@ -29,8 +29,8 @@ pub struct Options {
 const DEFAULT_LIMIT: usize = 1_048_576;
 
 impl Options {
-    /// The options that these words, the program's arguments, name, in any order; the last counts. None where a word is no option,
-    /// or where no number follows `--limit`.
+    /// The options that these words, the program's arguments, name, in any order; the last counts.
+    /// None where a word is no option, or where no number follows `--limit`.
     pub fn of(words: &[String]) -> Option<Options> {
         let mut options = Options {
             form: Form::Words,

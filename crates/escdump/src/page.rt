@@ -6,8 +6,8 @@ use esc_values::Text;
 use std::alloc::{AllocError, Allocator, Global};
 use std::str::Utf8Chunk;
 
-/// Lines for a terminal or a file, of which each character is shown, ends a line, or belongs to a colour that was asked for: no
-/// control or escape sequence of what was read is in them.
+/// Lines for a terminal or a file, of which each character is shown, ends a line, or belongs to a
+/// colour that was asked for: no control or escape sequence of what was read is in them.
 #[derive(Drop)]
 pub struct Page<A: Allocator = Global> {
     text: Text<A>,
@@ -53,8 +53,9 @@ impl<A: Allocator + Copy> Page<A> {
         self.text = Text::new(self.alloc);
     }
 
-    /// Appends the bytes, escaped: a well-formed character that is shown as itself, `\` as `\\`, and each other byte as `\x` with two
-    /// hexadecimal digits. Where they would go past this column, the first ones, and `..`. The error is that memory was refused.
+    /// Appends the bytes, escaped: a well-formed character that is shown as itself, `\` as `\\`,
+    /// and each other byte as `\x` with two hexadecimal digits. Where they would go past this
+    /// column, the first ones, and `..`. The error is that memory was refused.
     pub fn push(&mut self, bytes: &[u8], room: usize) -> Result<(), AllocError> {
         for chunk in bytes.utf8_chunks() {
             if !self.push_chunk(chunk, room)? {
@@ -81,7 +82,8 @@ impl<A: Allocator + Copy> Page<A> {
         Ok(true)
     }
 
-    /// Appends the bytes in a colour, escaped and within this column as before, and then spaces up to the next one.
+    /// Appends the bytes in a colour, escaped and within this column as before, and then spaces up
+    /// to the next one.
     pub fn push_colored(
         &mut self,
         color: Color,
@@ -174,8 +176,8 @@ impl<A: Allocator + Copy> Page<A> {
     }
 }
 
-// Whether the character is shown as itself: U+0020 to U+007E, and from U+00A0 on, but for those that break lines or change the
-// direction of text.
+// Whether the character is shown as itself: U+0020 to U+007E, and from U+00A0 on, but for those
+// that break lines or change the direction of text.
 fn is_shown(c: char) -> bool
     ensures { result ≡ is_shown c }
 {

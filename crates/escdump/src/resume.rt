@@ -2,8 +2,9 @@
 
 use esc_segments::{Segment, SegmentKind};
 
-/// Some bytes that are as unfinished as this segment without the bytes that are [held back](held_back): whatever follows goes on in
-/// the same way. So no byte of a long segment has to be looked at twice.
+/// Some bytes that are as unfinished as this segment without the bytes that are [held
+/// back](held_back): whatever follows goes on in the same way. So no byte of a long segment has to
+/// be looked at twice.
 pub fn resumed(segment: Segment<'_>) -> &'static [u8] {
     match segment.kind {
         SegmentKind::Osc => b"\x1b]",
@@ -15,8 +16,8 @@ pub fn resumed(segment: Segment<'_>) -> &'static [u8] {
     }
 }
 
-// The opener of a sequence that is cut short: of a control sequence, a device control string, or an escape sequence without or
-// with intermediates.
+// The opener of a sequence that is cut short: of a control sequence, a device control string, or an
+// escape sequence without or with intermediates.
 fn opening(bytes: &[u8]) -> &'static [u8] {
     match bytes {
         [0x1b, rest @ ..] => {
@@ -35,8 +36,9 @@ fn opening(bytes: &[u8]) -> &'static [u8] {
     }
 }
 
-/// How many bytes at the end of this unfinished segment may turn out to belong to the next: of a character that is begun in the text of
-/// an operating system command, since C2 may be half of a control, and of one that is begun in text.
+/// How many bytes at the end of this unfinished segment may turn out to belong to the next: of a
+/// character that is begun in the text of an operating system command, since C2 may be half of a
+/// control, and of one that is begun in text.
 pub fn held_back(segment: Segment<'_>) -> usize {
     match segment.kind {
         SegmentKind::Osc => begun_character(segment.bytes),
@@ -45,8 +47,8 @@ pub fn held_back(segment: Segment<'_>) -> usize {
     }
 }
 
-// How many bytes the text of an operating system command has from its last byte on that begins a character, where that is one of the
-// last three.
+// How many bytes the text of an operating system command has from its last byte on that begins a
+// character, where that is one of the last three.
 fn begun_character(bytes: &[u8]) -> usize {
     let opener = match bytes {
         [0xc2, ..] => 2,

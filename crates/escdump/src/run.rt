@@ -22,10 +22,12 @@ const CHUNK: usize = 4096;
 
 /// What the program does with these words, its arguments, and the status it ends with.
 ///
-/// It prints a line on `output` for each segment of `input`, in the form that the words ask for, and those of what one read gave
-/// before the next read: status 0. What it prints is a page: none of it is a control or an escape sequence that came from `input`.
-/// Where a read, a write or memory is refused, status 1, with a line on `faults` that names the fault; the lines before it are
-/// printed. Words that are no options are status 2, with the usage on `faults`, and nothing is read or printed.
+/// It prints a line on `output` for each segment of `input`, in the form that the words ask for,
+/// and those of what one read gave before the next read: status 0. What it prints is a page: none
+/// of it is a control or an escape sequence that came from `input`. Where a read, a write or memory
+/// is refused, status 1, with a line on `faults` that names the fault; the lines before it are
+/// printed. Words that are no options are status 2, with the usage on `faults`, and nothing is read
+/// or printed.
 pub fn run<A: Allocator + Copy, R: Read, W: Write, E: Write>(
     alloc: A,
     words: &[String],

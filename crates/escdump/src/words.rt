@@ -19,7 +19,8 @@ enum Last {
     Other,
 }
 
-/// The words of the actions of a segment, and the data of a mode. Both are kept as far as a limit allows.
+/// The words of the actions of a segment, and the data of a mode. Both are kept as far as a limit
+/// allows.
 #[derive(Drop)]
 pub struct Words<A: Allocator = Global> {
     /// The words.

@@ -1,5 +1,5 @@
-//! Writes what a policy admits of streams of terminal escape sequences, and nothing else, as they come: for a log or a recording of
-//! unknown origin that goes to a terminal.
+//! Writes what a policy admits of streams of terminal escape sequences, and nothing else, as they
+//! come: for a log or a recording of unknown origin that goes to a terminal.
 #![tactic(auto)]
 
 mod ended;
@@ -73,8 +73,8 @@ fn said(printed: io::Result<()>) -> u8 {
     if printed.is_ok() { DONE } else { FAULT }
 }
 
-// Filters one file after another, each a stream of its own. After one that cannot be read the others follow; where nothing can be
-// written, none does.
+// Filters one file after another, each a stream of its own. After one that cannot be read the
+// others follow; where nothing can be written, none does.
 fn filter_all(rt: &HostRuntime, options: Options, files: &[String]) -> u8 {
     if files.is_empty() {
         return match status_of(filter_file(rt, options, "-"), DONE) {
@@ -92,7 +92,8 @@ fn filter_all(rt: &HostRuntime, options: Options, files: &[String]) -> u8 {
     status
 }
 
-// The status after a stream that ended so, where it was this one before. An error where no further stream can be written.
+// The status after a stream that ended so, where it was this one before. An error where no further
+// stream can be written.
 fn status_of(ended: Ended, status: u8) -> Result<u8, u8> {
     match ended {
         Ended::Whole => Ok(status),

@@ -7,8 +7,8 @@ ghost use Rattle.std.specs.IoError.{error_kind};
 use std::io;
 use std::io::{ErrorKind, Read, Write};
 
-/// A reader or a writer around another, which notes of what kind the last error was. A call that a signal interrupts is made again,
-/// so it is no error.
+/// A reader or a writer around another, which notes of what kind the last error was. A call that a
+/// signal interrupts is made again, so it is no error.
 #[derive(Drop)]
 pub struct Noting<T> {
     inner: T,
@@ -32,7 +32,8 @@ impl<R: Read> Read for Noting<R> {
 
     fn read(&mut self, buf: &mut [u8]) -> io::Result<usize>
         ensures bound { ReadsAtMost result buf.new }
-        ensures bytes { ReadConsumes (R.remaining self.old.inner) (R.remaining self.new.inner) result buf.new }
+        ensures bytes { ReadConsumes (R.remaining self.old.inner) (R.remaining self.new.inner)
+            result buf.new }
         ensures retried { IfErr result (λ e. error_kind e ≢ ErrorKind.Interrupted) }
     {
         let result = uninterrupted_read(&mut self.inner, buf);
@@ -46,7 +47,8 @@ impl<W: Write> Write for Noting<W> {
 
     fn write(&mut self, buf: &[u8]) -> io::Result<usize>
         ensures bound { WritesAtMost result buf.now }
-        ensures bytes { WriteAppends (W.contents self.old.inner) (W.contents self.new.inner) result buf.now }
+        ensures bytes { WriteAppends (W.contents self.old.inner) (W.contents self.new.inner) result
+            buf.now }
         ensures retried { IfErr result (λ e. error_kind e ≢ ErrorKind.Interrupted) }
     {
         let result = uninterrupted_write(&mut self.inner, buf);

@@ -28,9 +28,10 @@ pub enum Task<'a> {
 const DEFAULT_LIMIT: usize = 1_048_576;
 
 impl<'a> Task<'a> {
-    /// The task that these words, the program's arguments, name. Options come first, in any order, and the last of a kind counts;
-    /// the files begin after `--`, or at the first word that is `-` or does not begin with `-`. None where a word is no option, or
-    /// what has to follow one does not.
+    /// The task that these words, the program's arguments, name. Options come first, in any order,
+    /// and the last of a kind counts; the files begin after `--`, or at the first word that is `-`
+    /// or does not begin with `-`. None where a word is no option, or what has to follow one does
+    /// not.
     pub fn of(words: &'a [String]) -> Option<Task<'a>> {
         let mut options = Options {
             policy: Policy::Color,

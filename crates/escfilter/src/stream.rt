@@ -15,8 +15,9 @@ use std::cell::Cell;
 use std::fmt::Display;
 use std::io::{ErrorKind, Read, Write};
 
-/// Writes on `writer` what the policy of the options admits of what `reader` reads, as it comes; then, where the options ask for it, a
-/// line on `faults` that names the stream and says what was left out. It returns what `filter_stream` does.
+/// Writes on `writer` what the policy of the options admits of what `reader` reads, as it comes;
+/// then, where the options ask for it, a line on `faults` that names the stream and says what was
+/// left out. It returns what `filter_stream` does.
 pub fn filter_named<A: Allocator + Copy, R: Read, W: Write, E: Write>(
     alloc: A,
     options: Options,
@@ -26,14 +27,20 @@ pub fn filter_named<A: Allocator + Copy, R: Read, W: Write, E: Write>(
     faults: &mut E,
 ) -> Result<(), FilterError>
     ensures read_all { OnOk result (IsAtEnd (R.remaining (inner_of reader.new))) }
-    ensures written { OnOk result (HasFiltered {A = A} (admits options.policy) options.limit (R.remaining (inner_of reader.old)) (R.remaining (inner_of reader.new))
+    ensures written { OnOk result (HasFiltered {A = A} (admits options.policy) options.limit
+        (R.remaining (inner_of reader.old)) (R.remaining (inner_of reader.new))
         (W.contents (inner_of writer.old)) (W.contents (inner_of writer.new))) }
-    ensures decided { IsErrOf result FilterError.Read → HasFiltered {A = A} (admits options.policy) options.limit (R.remaining (inner_of reader.old)) (R.remaining (inner_of reader.new))
+    ensures decided { IsErrOf result FilterError.Read
+        → HasFiltered {A = A} (admits options.policy) options.limit
+        (R.remaining (inner_of reader.old)) (R.remaining (inner_of reader.new))
         (W.contents (inner_of writer.old)) (W.contents (inner_of writer.new)) }
-    ensures beginning { OnErr result (HasBegun {A = A} (admits options.policy) options.limit (R.remaining (inner_of reader.old)) (R.remaining (inner_of reader.new))
+    ensures beginning { OnErr result (HasBegun {A = A} (admits options.policy) options.limit
+        (R.remaining (inner_of reader.old)) (R.remaining (inner_of reader.new))
         (W.contents (inner_of writer.old)) (W.contents (inner_of writer.new))) }
-    ensures read_fault { has_failed reader.old ≡ false → (IsErrOf result FilterError.Read ↔ IsTrue (has_failed reader.new)) }
-    ensures write_fault { has_failed writer.old ≡ false → (IsErrOf result FilterError.Write ↔ IsTrue (has_failed writer.new)) }
+    ensures read_fault { has_failed reader.old ≡ false
+        → (IsErrOf result FilterError.Read ↔ IsTrue (has_failed reader.new)) }
+    ensures write_fault { has_failed writer.old ≡ false
+        → (IsErrOf result FilterError.Write ↔ IsTrue (has_failed writer.new)) }
 {
     let tally = Cell::new(Tally::new());
     let policy = Counting {
@@ -47,8 +54,9 @@ pub fn filter_named<A: Allocator + Copy, R: Read, W: Write, E: Write>(
     result
 }
 
-/// How the stream of this name ended, with this outcome of its filter, where the last error was of this kind. A line on `faults` says
-/// what hindered it; but where nobody reads the output any more, none is written.
+/// How the stream of this name ended, with this outcome of its filter, where the last error was of
+/// this kind. A line on `faults` says what hindered it; but where nobody reads the output any more,
+/// none is written.
 pub fn ended<E: Write>(
     outcome: Result<(), FilterError>,
     kind: Option<ErrorKind>,

@@ -9,14 +9,16 @@ use std::io::Write;
 
 /// How many actions of each kind were left out, and where the first of them was.
 ///
-/// A character is an action, and so is a control, an escape or control sequence, and a string. A string terminator is none, nor is
-/// what comes between the header of a device control string and its end.
+/// A character is an action, and so is a control, an escape or control sequence, and a string. A
+/// string terminator is none, nor is what comes between the header of a device control string and
+/// its end.
 #[derive(Clone, Copy)]
 pub struct Tally {
     // all actions, passed or left out, and the line feeds that passed
     actions: u64,
     lines: u64,
-    // the number of the first that was left out, from 1 on, and of the line of the output that it would be on
+    // the number of the first that was left out, from 1 on, and of the line of the output that it
+    // would be on
     first: u64,
     first_line: u64,
     left: Kinds,
@@ -114,8 +116,9 @@ impl Kinds {
 }
 
 impl Tally {
-    /// Writes a line on `faults` that names the stream: what was left out of it, of how many actions, and the first of that, as
-    /// `escfilter: log: left out 2 OSC, 1 DCS of 57 actions, first action 17, on line 2 of the output`.
+    /// Writes a line on `faults` that names the stream: what was left out of it, of how many
+    /// actions, and the first of that, as `escfilter: log: left out 2 OSC, 1 DCS of 57 actions,
+    /// first action 17, on line 2 of the output`.
     pub fn tell<E: Write>(&self, name: &str, faults: &mut E) {
         let _ = write!(faults, "escfilter: {name}: left out");
         let mut before = " ";
@@ -152,7 +155,8 @@ impl Kinds {
     }
 }
 
-/// A policy that counts, where it is to, what passes and what is left out. No contract can say what the cell holds.
+/// A policy that counts, where it is to, what passes and what is left out. No contract can say what
+/// the cell holds.
 #[derive(Drop)]
 pub struct Counting<'t> {
     pub policy: Policy,

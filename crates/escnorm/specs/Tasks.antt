@@ -24,10 +24,11 @@ check_of (w ∷ ws) = option_map (λ n. Check (Some n)) (limit_of (w ∷ ws))
 -- no words; `--check`; and behind either `--limit` and a number
 abbrev pub task_of : List (List ℕ) → Option Task
 task_of [] = Some (Normalise None)
-task_of (w ∷ ws) = if pointwise nat_eq w (codes "--check") then check_of ws else option_map (λ n. Normalise (Some n)) (limit_of (w ∷ ws))
+task_of (w ∷ ws) = if pointwise nat_eq w (codes "--check") then check_of ws else option_map (λ n.
+    Normalise (Some n)) (limit_of (w ∷ ws))
 
--- the status n after a check of the bytes s under this limit: 0 where they are their own normal form, 3 where they are not, 1 where a
--- fault came in between
+-- the status n after a check of the bytes s under this limit: 0 where they are their own normal
+-- form, 3 where they are not, 1 where a fault came in between
 pub record IsVerdict (A : Type 0) (limit : Option ℕ) (s : List ℕ) (n : ℕ) : Type 0 where
   pub equal : n ≡ 0 → list_text (meaning_within {A = A} limit s) ≡ s
   pub different : n ≡ 3 → list_text (meaning_within {A = A} limit s) ≢ s
@@ -35,7 +36,8 @@ pub record IsVerdict (A : Type 0) (limit : Option ℕ) (s : List ℕ) (n : ℕ) 
 
 -- the status n after normalising under this limit: 0 where all was read and its normal form was
 -- written, and otherwise 1
-pub record IsNormalised (A : Type 0) (limit : Option ℕ) (stream left before after : Option (List ℕ)) (n : ℕ)
+pub record IsNormalised (A : Type 0) (limit : Option ℕ) (stream left before after : Option (List ℕ))
+    (n : ℕ)
     : Type 0 where
   pub status : n < 2
   pub read : n ≡ 0 → IsAtEnd left

@@ -23,11 +23,12 @@ const DIFFERENT: u8 = 3;
 
 /// What the program does with these words, its arguments, and the status it ends with.
 ///
-/// Without words it normalises `input` to `output`: status 0. With `--check` it compares `input` with its normal form, and
-/// writes nothing: status 0 where they are equal, 3 where they differ. With `--limit` and a number after these it does so
-/// through a parser that keeps no more bytes of a segment. Where that is hindered, status 1, with a line on `faults` that names the
-/// fault. Any other words are status 2, with the usage on `faults`, and nothing is read or written. Where a line cannot be written
-/// the status stays.
+/// Without words it normalises `input` to `output`: status 0. With `--check` it compares `input`
+/// with its normal form, and writes nothing: status 0 where they are equal, 3 where they differ.
+/// With `--limit` and a number after these it does so through a parser that keeps no more bytes of
+/// a segment. Where that is hindered, status 1, with a line on `faults` that names the fault. Any
+/// other words are status 2, with the usage on `faults`, and nothing is read or written. Where a
+/// line cannot be written the status stays.
 pub fn run<A: Allocator + Copy, R: Read, W: Write, E: Write>(
     alloc: A,
     words: &[String],
@@ -41,7 +42,8 @@ pub fn run<A: Allocator + Copy, R: Read, W: Write, E: Write>(
         → task_of (map string_bytes words.now) ≡ Some (Task.Normalise limit)
         → IsNormalised A limit (R.remaining (inner_of input.old)) (R.remaining (inner_of input.new))
         (W.contents (inner_of output.old)) (W.contents (inner_of output.new)) result }
-    ensures checked { (limit : Option ℕ) → task_of (map string_bytes words.now) ≡ Some (Task.Check limit)
+    ensures checked { (limit : Option ℕ)
+        → task_of (map string_bytes words.now) ≡ Some (Task.Check limit)
         → IfSome (R.remaining (inner_of input.old)) (λ s. IsVerdict A limit s result)
         × (output.new ≡ output.old) }
 {
@@ -104,10 +106,14 @@ fn normalise_and_flush<A: Allocator + Copy, R: Read, W: Write>(
 ) -> Result<(), NormaliseError>
     ensures read_all { OnOk result (IsAtEnd (R.remaining (inner_of reader.new))) }
     ensures written { OnOk result (IfSome (R.remaining (inner_of reader.old)) (λ s.
-        Appends (W.contents (inner_of writer.old)) (W.contents (inner_of writer.new)) (list_text (meaning_within {A = A} limit s)))) }
-    ensures nothing { IfErr result (λ e. (e ≡ NormaliseError.Write → ⊥) → Keeps (W.contents (inner_of writer.old)) (W.contents (inner_of writer.new))) }
-    ensures read_fault { has_failed reader.old ≡ false → (IsErrOf result NormaliseError.Read ↔ IsTrue (has_failed reader.new)) }
-    ensures write_fault { has_failed writer.old ≡ false → (IsErrOf result NormaliseError.Write ↔ IsTrue (has_failed writer.new)) }
+        Appends (W.contents (inner_of writer.old)) (W.contents (inner_of writer.new))
+        (list_text (meaning_within {A = A} limit s)))) }
+    ensures nothing { IfErr result (λ e. (e ≡ NormaliseError.Write → ⊥)
+        → Keeps (W.contents (inner_of writer.old)) (W.contents (inner_of writer.new))) }
+    ensures read_fault { has_failed reader.old ≡ false
+        → (IsErrOf result NormaliseError.Read ↔ IsTrue (has_failed reader.new)) }
+    ensures write_fault { has_failed writer.old ≡ false
+        → (IsErrOf result NormaliseError.Write ↔ IsTrue (has_failed writer.new)) }
 {
     match limit {
         None => normalise(alloc, reader, writer)?,

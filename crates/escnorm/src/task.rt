@@ -4,7 +4,8 @@ ghost use Rattle.escnorm.specs.Tasks.{limit_of, task_of};
 
 use esc_values::scalar::read_usize;
 
-/// What the program is asked to do, where at most so many bytes are kept of a segment; `None` is no limit.
+/// What the program is asked to do, where at most so many bytes are kept of a segment; `None` is no
+/// limit.
 #[derive(Clone, Copy)]
 pub enum Task {
     /// To write the input in normal form.
@@ -14,8 +15,8 @@ pub enum Task {
 }
 
 impl Task {
-    /// The task that these words, the program's arguments, name: no word the first, `--check` the second, and either with
-    /// `--limit` and a number after it. Any others name none.
+    /// The task that these words, the program's arguments, name: no word the first, `--check` the
+    /// second, and either with `--limit` and a number after it. Any others name none.
     pub fn of(words: &[String]) -> Option<Task>
         ensures { result ≡ task_of (map string_bytes words.now) }
     {

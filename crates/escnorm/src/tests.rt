@@ -1,4 +1,5 @@
-//! Runs of the program over readers and writers that are slow, full, or fail, and with each request for memory refused in turn.
+//! Runs of the program over readers and writers that are slow, full, or fail, and with each request
+//! for memory refused in turn.
 use crate::run::run;
 use esc_normal::Watched;
 use refusing::Refusing;

@@ -1,4 +1,5 @@
-//! The events of streams in pieces of each size are those of a parser that keeps no string longer than half the buffer.
+//! The events of streams in pieces of each size are those of a parser that keeps no string longer
+//! than half the buffer.
 ghost use Rattle.std.specs.Prelude.{◌<◌};
 
 use crate::log::Log;

@@ -110,7 +110,8 @@ impl Log {
 
 impl Log {
     fn note_osc(&mut self, text: &[u8]) -> Result<(), AllocError>
-        ensures { (e : Event) → Hears (λ _ _ _. Unit {0}) (λ _ _ _. Unit {0}) result self.old e self.new }
+        ensures { (e : Event)
+            → Hears (λ _ _ _. Unit {0}) (λ _ _ _. Unit {0}) result self.old e self.new }
     {
         self.put(OSC)?;
         self.put_bytes(text)?;
@@ -124,7 +125,8 @@ impl Log {
         intermediates: &[u8],
         has_more: bool,
     ) -> Result<(), AllocError>
-        ensures { (e : Event) → Hears (λ _ _ _. Unit {0}) (λ _ _ _. Unit {0}) result self.old e self.new }
+        ensures { (e : Event)
+            → Hears (λ _ _ _. Unit {0}) (λ _ _ _. Unit {0}) result self.old e self.new }
     {
         self.put(DCS)?;
         self.put(byte as u32)?;

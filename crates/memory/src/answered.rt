@@ -4,7 +4,8 @@ ghost use Rattle.memory.specs.Refusals.{Refused};
 
 use std::alloc::Allocator;
 
-// What a call of the library returned whose only error is that memory was refused. Nothing else may be passed to it.
+// What a call of the library returned whose only error is that memory was refused. Nothing else may
+// be passed to it.
 #[inline(always)]
 pub(crate) fn answered<T, E, A: Allocator>(answer: Result<T, E>) -> Result<T, E>
     ensures same { result ≡ answer }

@@ -13,7 +13,8 @@ pub const READ_BUFFER: usize = 65_536;
 /// Appends a value, or hands it back.
 #[inline(always)]
 pub fn push<T, A: Allocator>(vec: &mut Vec<T, A>, value: T) -> Result<(), AllocFailed<T>>
-    ensures items { vec.new.items ≡ (if is_ok result then vec.old.items ++ value ∷ [] else vec.old.items) }
+    ensures items { vec.new.items
+        ≡ (if is_ok result then vec.old.items ++ value ∷ [] else vec.old.items) }
     ensures handed_back { IfErr result (λ failed. failed.value ≡ value) }
     ensures refused { OnErr result (Refused A) }
 {
@@ -23,7 +24,8 @@ pub fn push<T, A: Allocator>(vec: &mut Vec<T, A>, value: T) -> Result<(), AllocF
 /// Appends a slice.
 #[inline(always)]
 pub fn extend<T: Copy, A: Allocator>(vec: &mut Vec<T, A>, more: &[T]) -> Result<(), AllocError>
-    ensures items { vec.new.items ≡ (if is_ok result then vec.old.items ++ more.now else vec.old.items) }
+    ensures items { vec.new.items
+        ≡ (if is_ok result then vec.old.items ++ more.now else vec.old.items) }
     ensures refused { OnErr result (Refused A) }
 {
     answered::<_, _, A>(vec.extend_from_slice(more))
@@ -87,7 +89,8 @@ where
     requires finite { IsFinite (I.remaining items) }
     ensures ran { IfOk result (λ v. (xs : List I.Item) × DrainsIf I.next_gives ⊤ items xs
         × ((v.items ≡ xs) × (vec_len v ≡ length xs))) }
-    ensures runs { IfOk result (λ v. WholeRun I.next_gives items (λ p. (v.items ≡ p.items) × (vec_len v ≡ length p.items))) }
+    ensures runs { IfOk result (λ v. WholeRun I.next_gives items (λ p. (v.items ≡ p.items)
+        × (vec_len v ≡ length p.items))) }
     ensures refused { OnErr result (Refused A) }
 {
     answered::<_, _, A>(items.collect(alloc))

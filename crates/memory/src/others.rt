@@ -48,11 +48,13 @@ pub fn decode_base64<A: Allocator>(
     }
 }
 
-/// The bytes that hexadecimal digits write, or what is wrong with these, or that memory was refused.
+/// The bytes that hexadecimal digits write, or what is wrong with these, or that memory was
+/// refused.
 #[inline(always)]
 pub fn decode_hex<A: Allocator>(alloc: A, digits: &[u8]) -> Result<Vec<u8, A>, FromHexError>
     ensures ok { IfOk result (λ v. hexadecimal.decode_of digits.now ≡ Ok v.items) }
-    ensures err { IfErr result (λ e. (e ≡ OutOfMemory) ⊎ (hexadecimal.decode_of digits.now ≡ Err e)) }
+    ensures err { IfErr result (λ e. (e ≡ OutOfMemory)
+        ⊎ (hexadecimal.decode_of digits.now ≡ Err e)) }
     ensures refused { IfErr result (λ e. e ≡ OutOfMemory → Refused A) }
 {
     match hex::decode(alloc, digits) {

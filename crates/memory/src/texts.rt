@@ -29,7 +29,8 @@ pub fn lossy<A: Allocator>(alloc: A, bytes: &[u8]) -> Result<String<A>, AllocErr
 /// Appends a text.
 #[inline(always)]
 pub fn push_str<A: Allocator>(text: &mut String<A>, more: &str) -> Result<(), AllocError>
-    ensures bytes { string_bytes text.new ≡ (if is_ok result then string_bytes text.old ++ more.now else string_bytes text.old) }
+    ensures bytes { string_bytes text.new
+        ≡ (if is_ok result then string_bytes text.old ++ more.now else string_bytes text.old) }
     ensures refused { OnErr result (Refused A) }
 {
     answered::<_, _, A>(text.push_str(more))
@@ -38,20 +39,24 @@ pub fn push_str<A: Allocator>(text: &mut String<A>, more: &str) -> Result<(), Al
 /// Appends a character.
 #[inline(always)]
 pub fn push_char<A: Allocator>(text: &mut String<A>, c: char) -> Result<(), AllocError>
-    ensures bytes { string_bytes text.new ≡ (if is_ok result then string_bytes text.old ++ encode_utf8 c else string_bytes text.old) }
+    ensures bytes { string_bytes text.new
+        ≡ (if is_ok result then string_bytes text.old
+        ++ encode_utf8 c else string_bytes text.old) }
     ensures refused { OnErr result (Refused A) }
 {
     answered::<_, _, A>(text.push(c))
 }
 
-/// Appends what Display writes of a value. Its Display may fail only where what it writes to fails, as each Display of this
-/// library does; the standard library has no word for that, so it is trusted.
+/// Appends what Display writes of a value. Its Display may fail only where what it writes to fails,
+/// as each Display of this library does; the standard library has no word for that, so it is
+/// trusted.
 #[inline(always)]
 pub fn push_display<T: fmt::Display, A: Allocator>(
     text: &mut String<A>,
     value: &T,
 ) -> Result<(), AllocError>
-    ensures text { IfSome (T.output value.now) (λ t. OnOk result (string_bytes text.new ≡ string_bytes text.old ++ t)) }
+    ensures text { IfSome (T.output value.now) (λ t.
+        OnOk result (string_bytes text.new ≡ string_bytes text.old ++ t)) }
     ensures refused { OnErr result (Refused A) }
 {
     answered::<_, _, A>(write!(*text, "{value}"))

@@ -8,7 +8,8 @@ use Rattle.esc_actions.specs.Texts.{is_terminator}
 use Rattle.esc_actions.specs.Values.{Value, print, string, control, esc, csi, osc, kitty, sixel, termcap, short, enter, datum, exit}
 use Rattle.esc_actions.specs.Writable.{is_opening, is_truncated}
 
--- a command that sets a title or the name of an icon, or shows a notification (codes 0, 1, 2, l, L, 9 and 777)
+-- a command that sets a title or the name of an icon, or shows a notification (codes 0, 1, 2, l, L,
+-- 9 and 777)
 abbrev pub is_loud : {A : Type 0} → OperatingSystemCommand A → Bool
 is_loud (command.SetIconNameAndWindowTitle t) = true
 is_loud (command.SetWindowTitle t) = true
@@ -19,9 +20,10 @@ is_loud (command.SystemNotification t) = true
 is_loud (command.RxvtExtension ts) = true
 is_loud _ = false
 
--- A value that stays: no loud command, no `ESC k`, by which screen and tmux set a title, no short control and nothing of a
--- mode, which may pass on a title, and nothing that does not read back as itself, which is an escape sequence whose letter opens
--- a string, and a truncated control sequence.
+-- A value that stays: no loud command, no `ESC k`, by which screen and tmux set a title, no short
+-- control and nothing of a mode, which may pass on a title, and nothing that does not read back as
+-- itself, which is an escape sequence whose letter opens a string, and a truncated control
+-- sequence.
 abbrev pub keeps : {A : Type 0} → Value A → Bool
 keeps (print c) = true
 keeps (string t) = true
@@ -40,10 +42,11 @@ keeps exit = false
 
 -- the letters that open a string or a control sequence after ESC: [ ] P X ^ _
 abbrev pub is_opener : ℕ → Bool
-is_opener b = (b == 0x5b) || ((b == 0x5d) || ((b == 0x50) || ((b == 0x58) || ((b == 0x5e) || (b == 0x5f)))))
+is_opener b =
+    (b == 0x5b) || ((b == 0x5d) || ((b == 0x50) || ((b == 0x58) || ((b == 0x5e) || (b == 0x5f)))))
 
--- What is left of a value after one that stays, or after one that goes. A string terminator directly after a value that
--- goes is the end of that value's string, and goes with it.
+-- What is left of a value after one that stays, or after one that goes. A string terminator
+-- directly after a value that goes is the end of that value's string, and goes with it.
 abbrev pub is_left : {A : Type 0} → Bool → Value A → Bool
 is_left after_gone v = keeps v && not (after_gone && is_terminator v)
 

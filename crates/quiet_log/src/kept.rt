@@ -9,7 +9,8 @@ ghost use Rattle.quiet_log.specs.Quiet.{is_left, is_loud, is_opener, keeps, left
 use escape_stream::{Action, CSI, Esc, EscCode, OperatingSystemCommand};
 use std::alloc::{AllocError, Allocator};
 
-/// Whether this action stays in the log: it sets no title, shows no notification, and reads back as itself.
+/// Whether this action stays in the log: it sets no title, shows no notification, and reads back as
+/// itself.
 pub fn is_kept<A: Allocator>(action: &Action<A>) -> bool
     ensures { result ≡ keeps (value_of action.now) }
 {
@@ -24,14 +25,15 @@ pub fn is_kept<A: Allocator>(action: &Action<A>) -> bool
     }
 }
 
-/// Appends the action to the list, where it is left: where it stays, and is not the terminator of one that goes. The error is that
-/// memory was refused.
+/// Appends the action to the list, where it is left: where it stays, and is not the terminator of
+/// one that goes. The error is that memory was refused.
 pub fn keep<A: Allocator>(
     kept: &mut Vec<Action<A>, A>,
     action: Action<A>,
     is_after_gone: bool,
 ) -> Result<(), AllocError>
-    ensures { OnOk result (map value_of kept.new.items ≡ map value_of kept.old.items ++ left_of is_after_gone (value_of action)) }
+    ensures { OnOk result (map value_of kept.new.items ≡ map value_of kept.old.items
+        ++ left_of is_after_gone (value_of action)) }
 {
     if is_left(&action, is_after_gone) {
         kept.push(action)?;

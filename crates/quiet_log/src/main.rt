@@ -1,5 +1,5 @@
-//! Takes the titles and the notifications out of a log: reads a stream from standard input, and writes the rest of it, in
-//! normal form, to standard output.
+//! Takes the titles and the notifications out of a log: reads a stream from standard input, and
+//! writes the rest of it, in normal form, to standard output.
 #![tactic(auto)]
 
 mod kept;

@@ -11,15 +11,17 @@ use crate::kept::{is_kept, keep};
 use escape_stream::{Action, ParseError, Parser, encode};
 use std::alloc::{AllocError, Allocator};
 
-/// The text of what `bytes` mean, without the commands that set a title or show a notification, without modes and short
-/// controls, as tmux passes on whatever a mode holds, and without what does not read back as itself. All else stays as it is, in normal form; and what stays is all that the text means, so a
-/// terminal that shows the text sets no title either.
+/// The text of what `bytes` mean, without the commands that set a title or show a notification,
+/// without modes and short controls, as tmux passes on whatever a mode holds, and without what does
+/// not read back as itself. All else stays as it is, in normal form; and what stays is all that the
+/// text means, so a terminal that shows the text sets no title either.
 ///
 /// The error is that memory was refused.
 #[tactic(auto, using(crate::proofs::WhatStays::text_said, crate::proofs::WhatStays::back_said, crate::proofs::WhatStays::silent_said))]
 pub fn quiet_text<A: Allocator + Copy>(alloc: A, bytes: &[u8]) -> Result<String<A>, AllocError>
     ensures text { IfOk result (λ t. string_bytes t ≡ list_text (quiet (meaning {A = A} bytes.now))) }
-    ensures reads_back { IfOk result (λ t. meaning (string_bytes t) ≡ normal (quiet (meaning {A = A} bytes.now))) }
+    ensures reads_back { IfOk result (λ t.
+        meaning (string_bytes t) ≡ normal (quiet (meaning {A = A} bytes.now))) }
     ensures silent { IfOk result (λ t. list_all keeps (meaning {A = A} (string_bytes t)) ≡ true) }
 {
     let Ok(actions) = actions_of(alloc, bytes) else {

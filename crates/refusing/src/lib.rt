@@ -1,8 +1,9 @@
-//! What tests refuse with: an allocator that refuses exactly one request, the one whose number it is given, and a reader and
-//! a writer that are slow and fail at one call.
+//! What tests refuse with: an allocator that refuses exactly one request, the one whose number it
+//! is given, and a reader and a writer that are slow and fail at one call.
 //!
-//! A test runs what it tests once for each number from 1 on, until a run meets no refusal. So each place that asks for
-//! memory is refused in turn, and the test sees what the caller is told and what state is left.
+//! A test runs what it tests once for each number from 1 on, until a run meets no refusal. So each
+//! place that asks for memory is refused in turn, and the test sees what the caller is told and
+//! what state is left.
 #![tactic(auto)]
 
 pub mod byte_reader;
@@ -13,10 +14,11 @@ use crate::tally::Tally;
 use std::alloc::{AllocError, Allocator};
 use std::cell::Cell;
 
-/// An allocator that passes each request on to another, and refuses the one request that `refuse_at` names.
+/// An allocator that passes each request on to another, and refuses the one request that
+/// `refuse_at` names.
 ///
-/// It is lent: `&Refusing<Global>` is an allocator and is `Copy`. A request is one for a block, for a larger one or for a
-/// smaller one. Giving a block back is no request, and is never refused.
+/// It is lent: `&Refusing<Global>` is an allocator and is `Copy`. A request is one for a block, for
+/// a larger one or for a smaller one. Giving a block back is no request, and is never refused.
 ///
 /// No contract can say what a cell holds, so the number that is refused is tested, and not proved.
 pub struct Refusing<B: Allocator> {
@@ -33,8 +35,8 @@ impl<B: Allocator> Refusing<B> {
         }
     }
 
-    /// Starts the count anew: the request with the number `at`, counted from 1 on from here, is refused, and every other one is
-    /// passed on. No request has the number 0.
+    /// Starts the count anew: the request with the number `at`, counted from 1 on from here, is
+    /// refused, and every other one is passed on. No request has the number 0.
     pub fn refuse_at(&self, at: u64) {
         self.tally.set(Tally::refusing(at));
     }

@@ -5,8 +5,8 @@ use std::alloc::{AllocError, Allocator, Global};
 use std::fmt::Debug;
 use std::test::Fail;
 
-// The actions before, whether the action that is appended is a string, and the Debug text of the list afterwards; then that of the
-// list and the action, where it is refused.
+// The actions before, whether the action that is appended is a string, and the Debug text of the
+// list afterwards; then that of the list and the action, where it is refused.
 static ROWS: [(&str, bool, &str, &str); 10] = [
     ("", false, "[Print('b')]", "[] and Print('b')"),
     (
@@ -94,7 +94,8 @@ fn last<A: Allocator>(alloc: A, is_string: bool) -> Result<Action<A>, AllocError
     }
 }
 
-// The Debug text of a list that an action was appended to, or of the list and the action that came back.
+// The Debug text of a list that an action was appended to, or of the list and the action that came
+// back.
 fn shown<T: Debug + Drop>(
     alloc: Global,
     list: Vec<T, &Refusing<Global>>,
@@ -127,8 +128,8 @@ fn refused_at(
     }
 }
 
-// With each request refused in turn, the list stays and the action comes back; with none, it is appended. The growth of a string that is
-// there is refused too.
+// With each request refused in turn, the list stays and the action comes back; with none, it is
+// appended. The growth of a string that is there is refused too.
 #[test]
 fn an_action_is_appended_or_comes_back(rt: HostRuntime) -> Result<(), Fail> {
     let heap = Refusing::new(rt.alloc());

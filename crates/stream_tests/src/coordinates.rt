@@ -3,8 +3,8 @@ use escape_stream::{CsiParam, OneBased};
 use std::alloc::{AllocError, Global};
 use std::test::Fail;
 
-// A parameter, and the coordinates that it names: where 0 stands for the first, where it stands for the last, and where it may be
-// left out.
+// A parameter, and the coordinates that it names: where 0 stands for the first, where it stands for
+// the last, and where it may be left out.
 static PARAMS: [(CsiParam, &str); 6] = [
     (CsiParam::Integer(0), " 1 4294967295 1"),
     (CsiParam::Integer(1), " 1 1 1"),

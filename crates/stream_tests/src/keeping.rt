@@ -104,8 +104,8 @@ fn kept_after(parser: &mut Parser, bytes: &[u8]) -> Result<usize, ParseError> {
     Ok(parser.kept())
 }
 
-// After how many bytes of the body a parser under this limit first keeps another number of bytes; none where it never does, and
-// nothing is kept after a cancel.
+// After how many bytes of the body a parser under this limit first keeps another number of bytes;
+// none where it never does, and nothing is kept after a cancel.
 fn first_wrong(
     mut parser: Parser,
     row: &Unfinished<'_>,

@@ -37,7 +37,8 @@ fn sinks_take_actions(rt: HostRuntime) -> Result<(), Fail> {
     Ok(())
 }
 
-// What a parser returns of these bytes where this request for memory is refused, and how many actions its sink has then.
+// What a parser returns of these bytes where this request for memory is refused, and how many
+// actions its sink has then.
 fn given<'a>(
     heap: &'a Refusing<Global>,
     parser: &mut Parser<&'a Refusing<Global>>,

@@ -12,7 +12,8 @@ pub trait Asked {
     /// What it answers while no request is refused.
     fn told(&self) -> &str;
 
-    /// What it answers over this heap. Of what takes bytes, these come all at once where `at_once` is true.
+    /// What it answers over this heap. Of what takes bytes, these come all at once where `at_once`
+    /// is true.
     fn answer(
         &self,
         alloc: Global,
@@ -24,8 +25,9 @@ pub trait Asked {
     fn admits(&self, errors: usize) -> bool;
 }
 
-/// Each row answers what it tells. Then its first request is refused, its second, and so on, until it meets no refusal: it answers the
-/// same, or an error of memory, of which there are as many as the row admits.
+/// Each row answers what it tells. Then its first request is refused, its second, and so on, until
+/// it meets no refusal: it answers the same, or an error of memory, of which there are as many as
+/// the row admits.
 pub fn check_each<T: Asked>(
     rt: &impl Abort,
     alloc: Global,

@@ -53,7 +53,8 @@ fn texts(rt: HostRuntime) -> Result<(), Fail> {
     Ok(())
 }
 
-// Bytes, their sum, and what is seen of their list: its Debug text, its items, their number, and whether there are none.
+// Bytes, their sum, and what is seen of their list: its Debug text, its items, their number, and
+// whether there are none.
 static LISTS: [(&[u8], u8, &str); 3] = [
     (&[], 0, "[] [] 0 true"),
     (&[5], 5, "[5] [5] 1 false"),
@@ -71,7 +72,8 @@ fn is_list(alloc: Global, items: &Items<u8>, sum: u8, told: &str) -> Result<bool
     Ok(added == sum && seen.as_str() == told)
 }
 
-// Whether a list of these bytes is this one, the same as another of them, and these bytes as a vector.
+// Whether a list of these bytes is this one, the same as another of them, and these bytes as a
+// vector.
 fn is_made(alloc: Global, want: &[u8], sum: u8, told: &str) -> Result<bool, AllocError> {
     let items = Items::from(want.to_vec(alloc)?);
     let is_list = is_list(alloc, &items, sum, told)?;

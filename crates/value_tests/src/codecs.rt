@@ -19,11 +19,13 @@ enum Call {
     Link,
     // The same of `Hyperlink::new_with_id` of `x` and the text.
     LinkWithId,
-    // The Display text of what `KittyImage::parse_apc` reads of the text; none where it is no image.
+    // The Display text of what `KittyImage::parse_apc` reads of the text; none where it is no
+    // image.
     Image,
     // The Debug texts of what the text is read as in base64: bytes, and a text.
     Base64,
-    // The Debug text of what `Hyperlink::parse` answers of the parts of the text, between which `;` is.
+    // The Debug text of what `Hyperlink::parse` answers of the parts of the text, between which `;`
+    // is.
     Parts,
     // The same of `FinalTermSemanticPrompt::parse`.
     Prompt,
@@ -31,8 +33,8 @@ enum Call {
     File,
 }
 
-// A call, its text, what it answers, and as many of its requests as may end in an error, at least and at most. A call copies as many
-// texts as it keeps, and nothing else.
+// A call, its text, what it answers, and as many of its requests as may end in an error, at least
+// and at most. A call copies as many texts as it keeps, and nothing else.
 struct Row<'a>(Call, &'a [u8], &'a str, (usize, usize));
 
 // Any number of requests.
@@ -110,8 +112,8 @@ static COMMANDS: [Row<'static>; 8] = [
     Row(Call::Base64, b"//8=", "Some([255, 255]) None", ANY),
 ];
 
-// Images of kitty, keys of theirs with a text that is read as it stands or in base64, and how they are written. `check_rows` has
-// tables of others.
+// Images of kitty, keys of theirs with a text that is read as it stands or in base64, and how they
+// are written. `check_rows` has tables of others.
 static IMAGES: [Row<'static>; 19] = [
     Row(Call::Image, b"Ga=d,d=a", "\x1b_Ga=d,d=a", SOME),
     Row(Call::Image, b"Ga=t;AAAA", "\x1b_Ga=t;AAAA", SOME),

@@ -4,7 +4,8 @@ use esc_sixel::SixelBuilder;
 use esc_tcap::GetTcapBuilder;
 use std::alloc::{AllocError, Allocator};
 
-/// What takes the data of a string. A push that is refused leaves it as it was, so the same push can be made again.
+/// What takes the data of a string. A push that is refused leaves it as it was, so the same push
+/// can be made again.
 pub trait Filled {
     /// Takes a byte.
     fn take(&mut self, byte: u8) -> Result<(), AllocError>;
@@ -43,7 +44,8 @@ impl<A: Allocator + Copy> Filled for ShortBuilder<A> {
     }
 }
 
-/// Gives it these bytes, one by one or all at once. Answers how many pushes were refused and made again.
+/// Gives it these bytes, one by one or all at once. Answers how many pushes were refused and made
+/// again.
 pub fn fill<B: Filled>(builder: &mut B, bytes: &[u8], at_once: bool) -> Result<usize, AllocError> {
     if at_once {
         return again(builder, bytes);

@@ -1,5 +1,5 @@
-//! Tests of the values and their codecs, of the segments of a stream, and of the allocator that refuses requests,
-//! through what their crates make public.
+//! Tests of the values and their codecs, of the segments of a stream, and of the allocator that
+//! refuses requests, through what their crates make public.
 #![tactic(auto)]
 
 #[cfg(test)]

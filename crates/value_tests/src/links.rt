@@ -7,7 +7,8 @@ use std::test::Fail;
 
 static PAIRS: [(&str, &str); 3] = [("id", "1"), ("at", "2"), ("id", "3")];
 
-// What is seen of parameters: their Debug text, their number, whether there are none, the values of `id` and `a`, and how many come.
+// What is seen of parameters: their Debug text, their number, whether there are none, the values of
+// `id` and `a`, and how many come.
 fn seen<A: Allocator>(alloc: Global, params: &Params<A>) -> Result<String, AllocError> {
     format!(in alloc;
         "{params:?} {} {} {:?} {:?} {}",
@@ -111,7 +112,8 @@ fn is_read_as(alloc: Global, params: &[u8], link: &Hyperlink) -> Result<bool, Er
     }
 }
 
-// Whether a link without a parameter, and one with an id, are read of the parameters that write them, and of no others.
+// Whether a link without a parameter, and one with an id, are read of the parameters that write
+// them, and of no others.
 fn are_told_apart(alloc: Global) -> Result<bool, Error> {
     let plain = Hyperlink::new(alloc, "x")?;
     let named = Hyperlink::new_with_id(alloc, "x", "foo")?;

@@ -1,4 +1,5 @@
-//! Data of a megabyte, and of ten. Each test ends in time only where the work for a byte does not grow.
+//! Data of a megabyte, and of ten. Each test ends in time only where the work for a byte does not
+//! grow.
 use crate::filled::fill;
 use esc_kitty::KittyImage;
 use esc_sixel::SixelBuilder;
@@ -66,8 +67,8 @@ static QUERIES: [Long<'static>; 3] = [
     },
 ];
 
-// Data of images: what stands before a piece, the piece that is repeated so many times, what follows, and the text where it is not the
-// data itself.
+// Data of images: what stands before a piece, the piece that is repeated so many times, what
+// follows, and the text where it is not the data itself.
 static IMAGES: [(&str, Long<'static>, &str, Option<&str>); 3] = [
     ("Gf=24;", AAAA, "", None),
     ("Gt=f;", QUJD, "", None),

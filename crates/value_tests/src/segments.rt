@@ -78,8 +78,9 @@ fn the_first_alone(rt: HostRuntime) {
     assert!(rt; segment.kind == SegmentKind::Csi && segment.bytes.len() == 4);
 }
 
-// What begins a stream of a million bytes and more, a piece that half a million of follow, and how many segments of what kind that is. The test ends in
-// time only where the work for a byte does not grow.
+// What begins a stream of a million bytes and more, a piece that half a million of follow, and how
+// many segments of what kind that is. The test ends in time only where the work for a byte does not
+// grow.
 static LONG: [(&str, &[u8], usize, SegmentKind); 2] = [
     ("\x1b]0;", b"\xe2a", 1, SegmentKind::Osc),
     ("", b"\xe2\x82", 500_000, SegmentKind::Broken),

@@ -26,7 +26,8 @@ fn named_sets(rt: HostRuntime) {
     assert!(rt; Selection::empty().bits() == 0 && Selection::all().bits() == 16382);
 }
 
-// The bits of two sets; those of their union, their intersection, and the bits of one alone and of the first alone.
+// The bits of two sets; those of their union, their intersection, and the bits of one alone and of
+// the first alone.
 static JOINED: [(u16, u16, [u16; 4]); 4] = [
     (0, 10, [10, 0, 10, 0]),
     (10, 8200, [8202, 8, 8194, 2]),
@@ -92,7 +93,8 @@ fn joined_sets(rt: HostRuntime) {
     }
 }
 
-// Bits; the named ones of them, and those that they lack; whether they are none, all the named ones, 10 and more, and some of 10.
+// Bits; the named ones of them, and those that they lack; whether they are none, all the named
+// ones, 10 and more, and some of 10.
 static SINGLE: [(u16, u16, u16, [bool; 4]); 10] = [
     (0, 0, 16382, [true, false, false, false]),
     (1, 0, 16382, [false, false, false, false]),

@@ -1,4 +1,5 @@
-//! Control sequences that no parser hands out, and those of several values. `check_rows` has tables of the others.
+//! Control sequences that no parser hands out, and those of several values. `check_rows` has tables
+//! of the others.
 use crate::told::check;
 use esc_below::{CSI, CsiParam};
 use std::alloc::{AllocError, Global};
@@ -11,8 +12,8 @@ const ONE: CsiParam = CsiParam::Integer(1);
 
 const THREE: CsiParam = CsiParam::Integer(3);
 
-// Entries before an `m`, whether some were left out, the Debug texts of the values that they are read as and of the value that
-// they are where they are one, and what is written of them.
+// Entries before an `m`, whether some were left out, the Debug texts of the values that they are
+// read as and of the value that they are where they are one, and what is written of them.
 static BODIES: [(&[CsiParam], bool, &str, &str); 5] = [
     (
         &[ONE],

@@ -8,7 +8,8 @@ use refusing::Refusing;
 use std::alloc::{AllocError, Allocator, Global};
 use std::test::Fail;
 
-// A header and data, and the Debug text and the text of the control, by itself or as a mode's value.
+// A header and data, and the Debug text and the text of the control, by itself or as a mode's
+// value.
 struct Row<'a> {
     byte: u8,
     params: &'a [i64],
@@ -56,7 +57,8 @@ static ROWS: [Row<'static>; 5] = [
 ];
 
 impl Row<'_> {
-    // The control of this header and data, and in `refused` how many pushes were refused and made again.
+    // The control of this header and data, and in `refused` how many pushes were refused and made
+    // again.
     fn read<A: Allocator + Copy>(
         &self,
         alloc: A,

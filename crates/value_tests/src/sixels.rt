@@ -7,7 +7,8 @@ use refusing::Refusing;
 use std::alloc::{AllocError, Allocator, Global};
 use std::test::Fail;
 
-// Parameters and data, and what they mean: the Debug text of what the image holds, the image's text, and its width and height.
+// Parameters and data, and what they mean: the Debug text of what the image holds, the image's
+// text, and its width and height.
 struct Row<'a> {
     params: &'a [i64],
     bytes: &'a [u8],
@@ -143,7 +144,8 @@ fn is_reported(heap: &Refusing<Global>, refused: usize) -> bool {
 }
 
 impl Row<'_> {
-    // The image, given byte by byte, or what is wrong: exactly one push has to report a request that is refused.
+    // The image, given byte by byte, or what is wrong: exactly one push has to report a request
+    // that is refused.
     fn by_bytes(&self, alloc: Global, heap: &Refusing<Global>) -> Result<String, AllocError> {
         let mut builder = SixelBuilder::new(heap, self.params);
         let filled = fill(&mut builder, self.bytes, false);
@@ -156,7 +158,8 @@ impl Row<'_> {
         }
     }
 
-    // The image, given at once, or an error where that is refused; then it is the image of some bytes from the first.
+    // The image, given at once, or an error where that is refused; then it is the image of some
+    // bytes from the first.
     fn by_run(&self, alloc: Global, heap: &Refusing<Global>) -> Result<String, AllocError> {
         let mut builder = SixelBuilder::new(heap, self.params);
         let taken = builder.push_run(self.bytes);
@@ -169,7 +172,8 @@ impl Row<'_> {
         }
     }
 
-    // An error where this is the Debug text of the image of some bytes from the first, but not of all.
+    // An error where this is the Debug text of the image of some bytes from the first, but not of
+    // all.
     fn refused(
         &self,
         alloc: Global,

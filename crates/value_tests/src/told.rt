@@ -27,7 +27,8 @@ impl Write for Counter {
     }
 }
 
-/// The value's Debug text and its Display text, which a writer that takes every text is given without an error.
+/// The value's Debug text and its Display text, which a writer that takes every text is given
+/// without an error.
 pub fn both_of<T: Debug + Display + Drop>(alloc: Global, value: T) -> Result<String, AllocError> {
     let mut counter = Counter { bytes: 0 };
     let is_taken = write!(counter, "{value:?} {value}").is_ok();
@@ -50,7 +51,8 @@ pub fn both_in<T: Debug + Display + Drop>(
     }
 }
 
-/// Whether this is the value's Display text, and a writer that takes every text is given it without an error.
+/// Whether this is the value's Display text, and a writer that takes every text is given it without
+/// an error.
 pub fn writes<T: Display + Drop>(alloc: Global, value: T, shown: &str) -> Result<bool, AllocError> {
     let mut counter = Counter { bytes: 0 };
     let is_taken = write!(counter, "{value}").is_ok() && counter.bytes == shown.len();
@@ -70,8 +72,8 @@ pub fn parts_of(alloc: Global, text: &[u8]) -> Result<Vec<&[u8]>, AllocError> {
     Ok(parts)
 }
 
-/// Whether these are the Debug text and the Display text of a value, around whose Debug text `name` and a parenthesis stand; alone it would
-/// have those that are told.
+/// Whether these are the Debug text and the Display text of a value, around whose Debug text `name`
+/// and a parenthesis stand; alone it would have those that are told.
 pub fn is_around(both: &str, name: &str, told: &str) -> bool {
     match both.strip_prefix(name) {
         Some(both) => both.split_once(")) ") == told.split_once(") "),

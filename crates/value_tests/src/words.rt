@@ -13,7 +13,8 @@ use std::test::Fail;
 // What a text is read as.
 #[derive(Clone, Copy)]
 enum Kind {
-    // A dimension, and the word of a click or of a prompt's kind: the Debug text, and the Display text of what it is read as.
+    // A dimension, and the word of a click or of a prompt's kind: the Debug text, and the Display
+    // text of what it is read as.
     Dimension,
     Click,
     Prompt,

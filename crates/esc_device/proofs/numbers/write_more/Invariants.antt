@@ -6,4 +6,5 @@ use Rattle.esc_device.proofs.numbers.write_more.Given as goal
 abbrev pub invariant-loop-number : goal.invariant-loop-number
 invariant-loop-number g l =
     IsPlainFormatter l.initial.f
-    → HasWritten g.W.Write.write_str_gives l.initial.f (flat_map (λ n. 0x3b ∷ signed_decimal n) (take l.number-index l.rest)) l.f
+    → HasWritten g.W.Write.write_str_gives l.initial.f
+    (flat_map (λ n. 0x3b ∷ signed_decimal n) (take l.number-index l.rest)) l.f

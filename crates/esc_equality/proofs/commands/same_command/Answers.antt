@@ -5,5 +5,6 @@ use Rattle.esc_equality.proofs.commands.same_command.Goals as goal
 
 pub returns : goal.returns
 returns g c =
-    let same = commands (param 0 g.row.A) g.A.Allocator g.A.Allocator-dict g.A.Destruct-dict c.args.a.now c.args.b.now in
+    let same = commands (param 0 g.row.A) g.A.Allocator g.A.Allocator-dict g.A.Destruct-dict
+    c.args.a.now c.args.b.now in
     (λ h. same.0 (sym c.eq.ensures ∙ h), λ e. c.eq.ensures ∙ same.1 e)

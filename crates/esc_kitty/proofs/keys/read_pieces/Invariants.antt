@@ -8,4 +8,5 @@ use Rattle.esc_kitty.proofs.keys.read_pieces.Given as goal
 abbrev pub invariant-loop-piece : goal.invariant-loop-piece
 invariant-loop-piece g l =
     pairs_in (map (λ p. p.now) l.pieces)
-    ≡ option_map (λ (more : Pairs). pairs l.pairs.items ++ more) (pairs_in (map (λ p. p.now) (drop l.piece-index l.pieces)))
+    ≡ option_map (λ (more : Pairs). pairs l.pairs.items ++ more)
+    (pairs_in (map (λ p. p.now) (drop l.piece-index l.pieces)))

@@ -4,4 +4,5 @@ use Rattle.esc_kitty.proofs.write_keys.is_bare.Given as goal
 
 -- none of the keys so far is written
 abbrev pub invariant-loop-key : goal.invariant-loop-key
-invariant-loop-key l = is_bare (written (map entry l.keys)) ≡ is_bare (written (map entry (drop l.key-index l.keys)))
+invariant-loop-key l =
+    is_bare (written (map entry l.keys)) ≡ is_bare (written (map entry (drop l.key-index l.keys)))

@@ -7,4 +7,6 @@ use Rattle.esc_kitty.proofs.write_keys.write_keys.Given as goal
 abbrev pub invariant-loop-key : goal.invariant-loop-key
 invariant-loop-key g l =
     (l.is_first ≡ is_bare (written (map entry (take l.key-index l.keys))))
-    × (IsPlainFormatter l.initial.f → HasWritten g.W.Write.write_str_gives l.initial.f (keys_text (written (map entry (take l.key-index l.keys)))) l.f)
+    × (IsPlainFormatter l.initial.f
+    → HasWritten g.W.Write.write_str_gives l.initial.f
+    (keys_text (written (map entry (take l.key-index l.keys)))) l.f)

@@ -12,7 +12,9 @@ sequence_len (a ∷ b ∷ c ∷ d ∷ []) h = (omega arith, omega arith)
 sequence_len (a ∷ b ∷ c ∷ d ∷ e ∷ x) h = absurd cc
 
 pub returns-then-bytes-eq1-clause-wide : goal.returns-then-bytes-eq1-clause-wide
-returns-then-bytes-eq1-clause-wide c = λ h. let l = sequence_len c.args.bytes.now h in absurd (omega (arith, l.0))
+returns-then-bytes-eq1-clause-wide c = λ h. let l = sequence_len c.args.bytes.now h in
+    absurd (omega (arith, l.0))
 
 pub returns-else-bytes-eq4-clause-wide : goal.returns-else-bytes-eq4-clause-wide
-returns-else-bytes-eq4-clause-wide c = λ h. let l = sequence_len c.args.bytes.now h in absurd (omega (arith, l.0, l.1))
+returns-else-bytes-eq4-clause-wide c = λ h. let l = sequence_len c.args.bytes.now h in
+    absurd (omega (arith, l.0, l.1))

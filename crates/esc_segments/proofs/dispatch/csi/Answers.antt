@@ -12,7 +12,8 @@ pub returns-else-is_empty-clause-told : goal.returns-else-is_empty-clause-told
 returns-else-is_empty-clause-told g c = λ finished o x f after h e i.
     let bytes = c.args.bytes.now in
     let body = c.split_opener.result.1.now in
-    let s = c.split_opener.ensures kind.Csi o (x ++ f ∷ []) h.0 (e ∙ append_assoc (opener kind.Csi o) x (f ∷ [])) in
+    let s = c.split_opener.ensures kind.Csi o (x ++ f ∷ []) h.0
+    (e ∙ append_assoc (opener kind.Csi o) x (f ∷ [])) in
     csi_told ⊥ g.V.VTActor.takes g.V.VTActor.refuses c.dispatch_csi.result c.args.actor.now
     c.execute_in.new.actor c.dispatch_csi.new.actor bytes x _ o f
     _ e h.2 (before_last body x f s.1) (last_is body x f s.1)

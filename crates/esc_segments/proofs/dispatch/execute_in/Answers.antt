@@ -8,7 +8,8 @@ use Rattle.esc_segments.proofs.dispatch.execute_in.Goals.{then-is_plain+in-Ok, e
 
 pub returns-in-Err-clause-told : goal.returns-in-Err-clause-told
 returns-in-Err-clause-told g c =
-    told_stop g.V.VTActor.takes g.V.VTActor.refuses Execute (λ b. is_plain (class_of b)) c.args.bytes.now c.loop-b.b-index (omega arith) c.args.actor.now
+    told_stop g.V.VTActor.takes g.V.VTActor.refuses Execute (λ b. is_plain (class_of b))
+    c.args.bytes.now c.loop-b.b-index (omega arith) c.args.actor.now
     c.loop-b.actor _ c.loop-b.invariant.1 ⊥ (sym c.is_plain.ensures ∙ c.if-is_plain.true)
     c.in-Err.ensures.hears
 
@@ -18,16 +19,22 @@ loop-b-preserved g c =
     let bytes = c.args.bytes.now in
     elim c.if-is_plain.branch [
       | then-is_plain+in-Ok w ↦ subst (λ a. g.V.VTActor.is_ready a
-          × FoldsTo g.V.VTActor.takes c.args.actor.now (map Execute (those is_plain (take (i + 1) bytes))) a)
+          × FoldsTo g.V.VTActor.takes c.args.actor.now
+          (map Execute (those is_plain (take (i + 1) bytes))) a)
           (sym w.actor-is) (
             w.in-Ok.ensures.ready,
-            told_next g.V.VTActor.takes g.V.VTActor.refuses Execute (λ b. is_plain (class_of b)) bytes i (omega arith) c.args.actor.now c.loop-b.actor _
-                c.loop-b.invariant.1 (sym c.is_plain.ensures ∙ w.if-is_plain.true) w.in-Ok.ensures.hears,
+            told_next g.V.VTActor.takes g.V.VTActor.refuses Execute (λ b. is_plain (class_of b))
+                bytes i (omega arith) c.args.actor.now c.loop-b.actor _
+                c.loop-b.invariant.1 (sym c.is_plain.ensures ∙ w.if-is_plain.true)
+                w.in-Ok.ensures.hears,
           )
-      | else-is_plain w ↦ subst (λ a. g.V.VTActor.is_ready a × FoldsTo g.V.VTActor.takes c.args.actor.now (map Execute (those is_plain (take (i + 1) bytes))) a)
+      | else-is_plain w ↦ subst (λ a. g.V.VTActor.is_ready a
+          × FoldsTo g.V.VTActor.takes c.args.actor.now
+          (map Execute (those is_plain (take (i + 1) bytes))) a)
           (sym w.actor-is) (
             c.loop-b.invariant.0,
-            told_same g.V.VTActor.takes g.V.VTActor.refuses Execute (λ b. is_plain (class_of b)) bytes i (omega arith) c.args.actor.now c.loop-b.actor
+            told_same g.V.VTActor.takes g.V.VTActor.refuses Execute (λ b. is_plain (class_of b))
+                bytes i (omega arith) c.args.actor.now c.loop-b.actor
                 c.loop-b.actor c.loop-b.invariant.1 (sym c.is_plain.ensures ∙ w.if-is_plain.false),
           )
     ]

@@ -6,4 +6,6 @@ use Rattle.esc_segments.proofs.dispatch.execute_in.Given as goal
 
 abbrev pub invariant-loop-b : goal.invariant-loop-b
 invariant-loop-b g l =
-    g.V.VTActor.is_ready l.actor × FoldsTo g.V.VTActor.takes l.initial.actor (map Execute (those is_plain (take l.b-index l.bytes))) l.actor
+    g.V.VTActor.is_ready l.actor
+    × FoldsTo g.V.VTActor.takes l.initial.actor
+    (map Execute (those is_plain (take l.b-index l.bytes))) l.actor

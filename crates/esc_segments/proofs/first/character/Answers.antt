@@ -11,17 +11,21 @@ control-requires-clause-high c = (raw_range c.in-Control.b c.in-Control.ensures.
 
 pub returns-in-Whole-clause-found : goal.returns-in-Whole-clause-found
 returns-in-Whole-clause-found c =
-    subst (λ x. IsFirst c.args.bytes.now x) (sym c.finished.ensures) (wide c.args.bytes.now c.in-Whole.count c.in-Whole.ensures)
+    subst (λ x. IsFirst c.args.bytes.now x) (sym c.finished.ensures)
+    (wide c.args.bytes.now c.in-Whole.count c.in-Whole.ensures)
 
 pub returns-in-Broken-clause-found : goal.returns-in-Broken-clause-found
 returns-in-Broken-clause-found c =
-    subst (λ x. IsFirst c.args.bytes.now x) (sym c.finished-in-Broken.ensures) (broken c.args.bytes.now c.in-Broken.count c.in-Broken.ensures)
+    subst (λ x. IsFirst c.args.bytes.now x) (sym c.finished-in-Broken.ensures)
+    (broken c.args.bytes.now c.in-Broken.count c.in-Broken.ensures)
 
 pub returns-in-Pending-clause-found : goal.returns-in-Pending-clause-found
 returns-in-Pending-clause-found c =
-    subst (λ x. IsFirst c.args.bytes.now x) (sym c.unfinished.ensures) (pending c.args.bytes.now c.in-Pending.ensures)
+    subst (λ x. IsFirst c.args.bytes.now x) (sym c.unfinished.ensures)
+    (pending c.args.bytes.now c.in-Pending.ensures)
 
 pub returns-in-Control-clause-found : goal.returns-in-Control-clause-found
 returns-in-Control-clause-found c =
     subst (λ x. IsFirst c.args.bytes.now x) (sym c.behind.ensures)
-    (pair c.args.bytes.now c.in-Control.b c.control.result c.in-Control.ensures c.control.ensures.found)
+    (pair c.args.bytes.now c.in-Control.b c.control.result c.in-Control.ensures
+    c.control.ensures.found)

@@ -25,4 +25,5 @@ returns-in_ok-extend-in-Pending-clause-kept g c = λ after t l.
     (left_pending c.args.kept.now.items text after t c.in-Pending.ensures l)
 
 pub returns-in-Control-clause-kept : goal.returns-in-Control-clause-kept
-returns-in-Control-clause-kept g c = λ after t l. absurd (left_control c.args.kept.now.items c.args.text.now after t _ c.in-Control.ensures l)
+returns-in-Control-clause-kept g c = λ after t l.
+    absurd (left_control c.args.kept.now.items c.args.text.now after t _ c.in-Control.ensures l)

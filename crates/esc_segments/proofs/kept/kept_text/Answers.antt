@@ -9,4 +9,5 @@ pub returns-clause-ok : goal.returns-clause-ok
 returns-clause-ok g c = λ ps e after w a o.
     let so = c.loop-end.invariant in
     left_none c.loop-end.kept.items after (text_of ps)
-    (subst (λ y. IsLeft c.loop-end.kept.items y after (text_of ps)) (at_end c.args.text.now c.loop-end.end (omega (arith, so.0))) (so.1 ps e after w a o))
+    (subst (λ y. IsLeft c.loop-end.kept.items y after (text_of ps))
+    (at_end c.args.text.now c.loop-end.end (omega (arith, so.0))) (so.1 ps e after w a o))

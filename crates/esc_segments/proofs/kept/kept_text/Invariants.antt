@@ -5,7 +5,8 @@ use Rattle.esc_segments.proofs.kept.kept_text.Given as goal
 
 abbrev pub invariant-loop-end : goal.invariant-loop-end
 invariant-loop-end g l =
-    (l.end ≤ length l.text) × ((ps : List Piece) (e : Ending) (after : List ℕ) → l.text ≡ text_bytes ps ++ ending_bytes e
+    (l.end ≤ length l.text) × ((ps : List Piece) (e : Ending) (after : List ℕ)
+    → l.text ≡ text_bytes ps ++ ending_bytes e
     → ArePieces ps (ending_bytes e ++ after)
     → is_over e ≡ true → IsLeft l.kept.items (drop l.end l.text) after (text_of ps))
 

@@ -12,11 +12,13 @@ returns-then-run-body-clause-found c =
 pub returns-then-is_breaker-clause-found : goal.returns-then-is_breaker-clause-found
 returns-then-is_breaker-clause-found c =
     subst (λ x. IsOpened kind.Csi c.args.body.now x) (sym c.finished.ensures)
-    (csi_broken c.args.body.now c.header_run-run.result c.header_run-run.ensures.run (omega (arith, c.header_run-run.ensures.few))
+    (csi_broken c.args.body.now c.header_run-run.result c.header_run-run.ensures.run
+    (omega (arith, c.header_run-run.ensures.few))
     (sym c.is_breaker.ensures ∙ c.if-is_breaker.true))
 
 pub returns-else-is_breaker-clause-found : goal.returns-else-is_breaker-clause-found
 returns-else-is_breaker-clause-found c =
     subst (λ x. IsOpened kind.Csi c.args.body.now x) (sym c.finished-else-is_breaker.ensures)
-    (csi_whole c.args.body.now c.header_run-run.result c.header_run-run.ensures.run (omega (arith, c.header_run-run.ensures.few))
+    (csi_whole c.args.body.now c.header_run-run.result c.header_run-run.ensures.run
+    (omega (arith, c.header_run-run.ensures.few))
     (sym c.is_breaker.ensures ∙ c.if-is_breaker.false))

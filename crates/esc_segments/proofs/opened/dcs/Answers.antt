@@ -12,10 +12,12 @@ returns-then-run-body-clause-found c =
 pub returns-then-is_breaker-clause-found : goal.returns-then-is_breaker-clause-found
 returns-then-is_breaker-clause-found c =
     subst (λ x. IsOpened kind.Dcs c.args.body.now x) (sym c.finished.ensures)
-    (dcs_broken c.args.body.now c.header_run-run.result c.header_run-run.ensures.run (omega (arith, c.header_run-run.ensures.few))
+    (dcs_broken c.args.body.now c.header_run-run.result c.header_run-run.ensures.run
+    (omega (arith, c.header_run-run.ensures.few))
     (sym c.is_breaker.ensures ∙ c.if-is_breaker.true))
 
 pub returns-else-is_breaker-clause-found : goal.returns-else-is_breaker-clause-found
 returns-else-is_breaker-clause-found c =
-    dcs_whole c.args.body.now c.header_run-run.result c.data_run.result c.header_run-run.ensures.run (omega (arith, c.header_run-run.ensures.few))
+    dcs_whole c.args.body.now c.header_run-run.result c.data_run.result c.header_run-run.ensures.run
+    (omega (arith, c.header_run-run.ensures.few))
     (sym c.is_breaker.ensures ∙ c.if-is_breaker.false) c.data_run.ensures.run

@@ -5,7 +5,9 @@ use Rattle.esc_segments.proofs.runs.header_run.Given as goal
 
 abbrev pub invariant-loop-end : goal.invariant-loop-end
 invariant-loop-end l =
-    (l.end ≤ length l.bytes) × (prefix_len (λ b. in_csi (class_of b)) l.bytes ≡ l.end + prefix_len (λ b. in_csi (class_of b)) (drop l.end l.bytes))
+    (l.end ≤ length l.bytes)
+    × (prefix_len (λ b. in_csi (class_of b)) l.bytes ≡ l.end + prefix_len (λ b.
+    in_csi (class_of b)) (drop l.end l.bytes))
 
 abbrev pub decreases-loop-end : goal.decreases-loop-end
 decreases-loop-end l = length l.bytes - l.end

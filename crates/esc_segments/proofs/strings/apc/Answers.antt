@@ -20,7 +20,8 @@ returns-then-finished-clause-told g c = λ o d after h w i.
     c.split_opener.result.0.now _ s.0 c.in-Ok.ensures.told
     (subst (λ b. Takes (Refused g.row.A.Denot)
     g.V.VTActor.takes g.V.VTActor.refuses c.dispatch_apc.result c.execute_in.new.actor
-    (if b then ApcDispatch (those is_text d) ∷ [] else []) c.dispatch_apc.new.actor) (sym c.if-finished.true)
+    (if b then ApcDispatch (those is_text d) ∷ [] else []) c.dispatch_apc.new.actor)
+    (sym c.if-finished.true)
     (subst (λ t. Takes (Refused g.row.A.Denot)
     g.V.VTActor.takes g.V.VTActor.refuses c.dispatch_apc.result c.execute_in.new.actor
     (ApcDispatch (those is_text t) ∷ [])
@@ -29,7 +30,8 @@ returns-then-finished-clause-told g c = λ o d after h w i.
 pub returns-else-finished-clause-told : goal.returns-else-finished-clause-told
 returns-else-finished-clause-told g c = λ o d after h w i.
     let s = c.split_opener.ensures kind.Apc o d h.0 w in
-    subst (λ b. FoldsTo g.V.VTActor.takes c.args.actor.now (opener_events o ++ (if b then ApcDispatch (those is_text d) ∷ [] else [])) c.execute_in.new.actor)
+    subst (λ b. FoldsTo g.V.VTActor.takes c.args.actor.now (opener_events o
+    ++ (if b then ApcDispatch (those is_text d) ∷ [] else [])) c.execute_in.new.actor)
     (sym c.if-finished.false)
     (subst (λ es. FoldsTo g.V.VTActor.takes c.args.actor.now es c.execute_in.new.actor)
     (ap executes s.0 ∙ executes_opener kind.Apc o ∙ sym (append-nil (opener_events o)))

@@ -13,9 +13,11 @@ use Rattle.esc_segments.proofs.strings.osc.Goals as goal
 
 pub returns-then-not-finished-clause-told : goal.returns-then-not-finished-clause-told
 returns-then-not-finished-clause-told g c = λ o ps e after h w i.
-    let s = c.split_opener.ensures kind.Osc o (text_bytes ps ++ ending_bytes e) h.0 (w ∙ append_assoc (opener kind.Osc o) (text_bytes ps) (ending_bytes e)) in
+    let s = c.split_opener.ensures kind.Osc o (text_bytes ps ++ ending_bytes e) h.0
+    (w ∙ append_assoc (opener kind.Osc o) (text_bytes ps) (ending_bytes e)) in
     subst (λ b. FoldsTo g.V.VTActor.takes c.args.actor.now
-    (opener_events o ++ (if b then OscDispatch (parts_of (text_of ps)) ∷ [] else [])) c.execute_in.new.actor)
+    (opener_events o ++ (if b then OscDispatch (parts_of (text_of ps)) ∷ [] else []))
+    c.execute_in.new.actor)
     (sym c.if-not-finished.true)
     (subst (λ es. FoldsTo g.V.VTActor.takes c.args.actor.now es c.execute_in.new.actor)
     (ap executes s.0 ∙ executes_opener kind.Osc o ∙ sym (append-nil (opener_events o)))
@@ -23,7 +25,8 @@ returns-then-not-finished-clause-told g c = λ o ps e after h w i.
 
 pub returns-in-Ok-kept_text-clause-told : goal.returns-in-Ok-kept_text-clause-told
 returns-in-Ok-kept_text-clause-told g c = λ o ps e after h w i.
-    let s = c.split_opener.ensures kind.Osc o (text_bytes ps ++ ending_bytes e) h.0 (w ∙ append_assoc (opener kind.Osc o) (text_bytes ps) (ending_bytes e)) in
+    let s = c.split_opener.ensures kind.Osc o (text_bytes ps ++ ending_bytes e) h.0
+    (w ∙ append_assoc (opener kind.Osc o) (text_bytes ps) (ending_bytes e)) in
     let v = over_is o ps e after c.args.finished c.if-not-finished.false i in
     let k = c.in-Ok-kept_text.ensures.ok ps e after s.1 h.1 v in
     string_told (Refused g.row.A.Denot)
@@ -32,7 +35,8 @@ returns-in-Ok-kept_text-clause-told g c = λ o ps e after h w i.
     c.split_opener.result.0.now _ s.0 c.in-Ok.ensures.told
     (subst (λ b. Takes (Refused g.row.A.Denot)
     g.V.VTActor.takes g.V.VTActor.refuses c.osc_text.result c.execute_in.new.actor
-    (if b then OscDispatch (parts_of (text_of ps)) ∷ [] else []) c.osc_text.new.self) (sym c.if-not-finished.false)
+    (if b then OscDispatch (parts_of (text_of ps)) ∷ [] else []) c.osc_text.new.self)
+    (sym c.if-not-finished.false)
     (subst (λ t. Takes (Refused g.row.A.Denot)
     g.V.VTActor.takes g.V.VTActor.refuses c.osc_text.result c.execute_in.new.actor
     (OscDispatch (parts_of t) ∷ [])
@@ -40,7 +44,8 @@ returns-in-Ok-kept_text-clause-told g c = λ o ps e after h w i.
 
 pub returns-in-Err-kept_text-clause-told : goal.returns-in-Err-kept_text-clause-told
 returns-in-Err-kept_text-clause-told g c = λ o ps e after h w i.
-    let s = c.split_opener.ensures kind.Osc o (text_bytes ps ++ ending_bytes e) h.0 (w ∙ append_assoc (opener kind.Osc o) (text_bytes ps) (ending_bytes e)) in
+    let s = c.split_opener.ensures kind.Osc o (text_bytes ps ++ ending_bytes e) h.0
+    (w ∙ append_assoc (opener kind.Osc o) (text_bytes ps) (ending_bytes e)) in
     string_halts (Refused g.row.A.Denot)
     g.V.VTActor.takes g.V.VTActor.refuses c.args.actor.now c.execute_in.new.actor kind.Osc o
     c.split_opener.result.0.now _ c.in-Err-kept_text.ensures.refused s.0
@@ -48,7 +53,8 @@ returns-in-Err-kept_text-clause-told g c = λ o ps e after h w i.
 
 pub returns-in-Err-clause-told : goal.returns-in-Err-clause-told
 returns-in-Err-clause-told g c = λ o ps e after h w i.
-    let s = c.split_opener.ensures kind.Osc o (text_bytes ps ++ ending_bytes e) h.0 (w ∙ append_assoc (opener kind.Osc o) (text_bytes ps) (ending_bytes e)) in
+    let s = c.split_opener.ensures kind.Osc o (text_bytes ps ++ ending_bytes e) h.0
+    (w ∙ append_assoc (opener kind.Osc o) (text_bytes ps) (ending_bytes e)) in
     string_stops (Refused g.row.A.Denot)
     g.V.VTActor.takes g.V.VTActor.refuses c.args.actor.now c.execute_in.new.actor kind.Osc o
     c.split_opener.result.0.now _ s.0

@@ -6,6 +6,7 @@ use Rattle.esc_segments.proofs.strings.params_in.Goals as goal
 
 pub returns-in-Ok-clause-ok : goal.returns-in-Ok-clause-ok
 returns-in-Ok-clause-ok g c =
-    subst (λ y. IfOk c.params_of.result (λ v. v.items ≡ map (λ p. pos (held (value_behind 0 p))) (parts_of y)))
+    subst (λ y. IfOk c.params_of.result (λ v.
+    v.items ≡ map (λ p. pos (held (value_behind 0 p))) (parts_of y)))
     (c.deref.ensures.value ∙ c.in-Ok.ensures.ok ∙ parameters_strip c.args.x.now)
     c.params_of.ensures.ok

@@ -8,7 +8,8 @@ use Rattle.esc_segments.proofs.strings.put_all.Goals.{then-is_put+in-Ok, else-is
 
 pub returns-in-Err-clause-told : goal.returns-in-Err-clause-told
 returns-in-Err-clause-told g c =
-    told_stop g.V.VTActor.takes g.V.VTActor.refuses DcsPut (λ b. is_put (class_of b)) c.args.content.now c.loop-b.b-index (omega arith) c.args.actor.now
+    told_stop g.V.VTActor.takes g.V.VTActor.refuses DcsPut (λ b.
+    is_put (class_of b)) c.args.content.now c.loop-b.b-index (omega arith) c.args.actor.now
     c.loop-b.actor _ c.loop-b.invariant.1 ⊥ (sym c.is_put.ensures ∙ c.if-is_put.true)
     c.in-Err.ensures.hears
 
@@ -18,16 +19,22 @@ loop-b-preserved g c =
     let content = c.args.content.now in
     elim c.if-is_put.branch [
       | then-is_put+in-Ok w ↦ subst (λ a. g.V.VTActor.is_ready a
-          × FoldsTo g.V.VTActor.takes c.args.actor.now (map DcsPut (those is_put (take (i + 1) content))) a)
+          × FoldsTo g.V.VTActor.takes c.args.actor.now
+          (map DcsPut (those is_put (take (i + 1) content))) a)
           (sym w.actor-is) (
             w.in-Ok.ensures.ready,
-            told_next g.V.VTActor.takes g.V.VTActor.refuses DcsPut (λ b. is_put (class_of b)) content i (omega arith) c.args.actor.now c.loop-b.actor _
-                c.loop-b.invariant.1 (sym c.is_put.ensures ∙ w.if-is_put.true) w.in-Ok.ensures.hears,
+            told_next g.V.VTActor.takes g.V.VTActor.refuses DcsPut (λ b.
+                is_put (class_of b)) content i (omega arith) c.args.actor.now c.loop-b.actor _
+                c.loop-b.invariant.1 (sym c.is_put.ensures ∙ w.if-is_put.true)
+                w.in-Ok.ensures.hears,
           )
-      | else-is_put w ↦ subst (λ a. g.V.VTActor.is_ready a × FoldsTo g.V.VTActor.takes c.args.actor.now (map DcsPut (those is_put (take (i + 1) content))) a)
+      | else-is_put w ↦ subst (λ a. g.V.VTActor.is_ready a
+          × FoldsTo g.V.VTActor.takes c.args.actor.now
+          (map DcsPut (those is_put (take (i + 1) content))) a)
           (sym w.actor-is) (
             c.loop-b.invariant.0,
-            told_same g.V.VTActor.takes g.V.VTActor.refuses DcsPut (λ b. is_put (class_of b)) content i (omega arith) c.args.actor.now c.loop-b.actor
+            told_same g.V.VTActor.takes g.V.VTActor.refuses DcsPut (λ b.
+                is_put (class_of b)) content i (omega arith) c.args.actor.now c.loop-b.actor
                 c.loop-b.actor c.loop-b.invariant.1 (sym c.is_put.ensures ∙ w.if-is_put.false),
           )
     ]

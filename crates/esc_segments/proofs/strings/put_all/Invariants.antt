@@ -6,4 +6,6 @@ use Rattle.esc_segments.proofs.strings.put_all.Given as goal
 
 abbrev pub invariant-loop-b : goal.invariant-loop-b
 invariant-loop-b g l =
-    g.V.VTActor.is_ready l.actor × FoldsTo g.V.VTActor.takes l.initial.actor (map DcsPut (those is_put (take l.b-index l.content))) l.actor
+    g.V.VTActor.is_ready l.actor
+    × FoldsTo g.V.VTActor.takes l.initial.actor
+    (map DcsPut (those is_put (take l.b-index l.content))) l.actor

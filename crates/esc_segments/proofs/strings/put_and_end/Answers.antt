@@ -22,7 +22,8 @@ returns-then-finished-clause-told g c =
 
 pub returns-else-finished-clause-told : goal.returns-else-finished-clause-told
 returns-else-finished-clause-told g c =
-    subst (λ b. FoldsTo g.V.VTActor.takes c.args.actor.now (puts c.args.content.now ++ (if b then DcsUnhook ∷ [] else [])) c.put_all.new.actor)
+    subst (λ b. FoldsTo g.V.VTActor.takes c.args.actor.now (puts c.args.content.now
+    ++ (if b then DcsUnhook ∷ [] else [])) c.put_all.new.actor)
     (sym c.if-finished.false)
     (subst (λ es. FoldsTo g.V.VTActor.takes c.args.actor.now es c.put_all.new.actor)
     (sym (append-nil (puts c.args.content.now))) c.in-Ok.ensures.told)

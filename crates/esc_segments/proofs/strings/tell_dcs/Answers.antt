@@ -12,13 +12,16 @@ use Rattle.esc_segments.proofs.strings.tell_dcs.Goals as goal
 pub returns-in-Ok-clause-told : goal.returns-in-Ok-clause-told
 returns-in-Ok-clause-told g c =
     let x = strip c.args.x.now in
-    let formed : true ≡ is_dcs_header x = sym c.if-not-is_formed.false ∙ c.is_formed.ensures x c.header_of-header.ensures in
+    let formed : true ≡ is_dcs_header x =
+    sym c.if-not-is_formed.false ∙ c.is_formed.ensures x c.header_of-header.ensures in
     subst (λ b. Takes (Refused g.row.A.Denot)
     g.V.VTActor.takes g.V.VTActor.refuses c.put_and_end.result c.args.actor.now
-    (if b then (hook_event x c.args.last ∷ puts c.args.content.now) ++ (if c.args.finished then DcsUnhook ∷ [] else []) else []) c.put_and_end.new.actor) formed
+    (if b then (hook_event x c.args.last ∷ puts c.args.content.now)
+    ++ (if c.args.finished then DcsUnhook ∷ [] else []) else []) c.put_and_end.new.actor) formed
     (takes_then (Refused g.row.A.Denot) g.V.VTActor.takes g.V.VTActor.refuses c.put_and_end.result
     (hook_event x c.args.last ∷ [])
-    (puts c.args.content.now ++ (if c.args.finished then DcsUnhook ∷ [] else [])) c.args.actor.now c.hook.new.actor c.put_and_end.new.actor c.in-Ok.ensures.told
+    (puts c.args.content.now ++ (if c.args.finished then DcsUnhook ∷ [] else [])) c.args.actor.now
+    c.hook.new.actor c.put_and_end.new.actor c.in-Ok.ensures.told
     (takes_by (Refused g.row.A.Denot) g.V.VTActor.takes g.V.VTActor.refuses c.put_and_end.result
     (puts c.args.content.now ++ (if c.args.finished then DcsUnhook ∷ [] else []))
     c.hook.new.actor c.put_and_end.new.actor
@@ -27,10 +30,13 @@ returns-in-Ok-clause-told g c =
 pub returns-in-Err-clause-told : goal.returns-in-Err-clause-told
 returns-in-Err-clause-told g c =
     let x = strip c.args.x.now in
-    let formed : true ≡ is_dcs_header x = sym c.if-not-is_formed.false ∙ c.is_formed.ensures x c.header_of-header.ensures in
+    let formed : true ≡ is_dcs_header x =
+    sym c.if-not-is_formed.false ∙ c.is_formed.ensures x c.header_of-header.ensures in
     subst (λ b. StopsAt (Refused g.row.A.Denot)
     g.V.VTActor.takes g.V.VTActor.refuses c.args.actor.now
-    (if b then (hook_event x c.args.last ∷ puts c.args.content.now) ++ (if c.args.finished then DcsUnhook ∷ [] else []) else []) c.hook.new.actor) formed
+    (if b then (hook_event x c.args.last ∷ puts c.args.content.now)
+    ++ (if c.args.finished then DcsUnhook ∷ [] else []) else []) c.hook.new.actor) formed
     (stops_more (Refused g.row.A.Denot) g.V.VTActor.takes g.V.VTActor.refuses
     (hook_event x c.args.last ∷ [])
-    (puts c.args.content.now ++ (if c.args.finished then DcsUnhook ∷ [] else [])) c.args.actor.now c.hook.new.actor c.in-Err.ensures.told)
+    (puts c.args.content.now ++ (if c.args.finished then DcsUnhook ∷ [] else [])) c.args.actor.now
+    c.hook.new.actor c.in-Err.ensures.told)

@@ -7,12 +7,14 @@ use Rattle.esc_segments.proofs.text.osc.Goals as goal
 pub loop-end-preserved : goal.loop-end-preserved
 loop-end-preserved c =
     let so = c.loop-end.invariant in
-    let k = kept_more c.args.text.now c.loop-end.end so.0 so.1 c.in-Kept.count c.in-Kept.ensures in (k.1, k.0)
+    let k = kept_more c.args.text.now c.loop-end.end so.0 so.1 c.in-Kept.count c.in-Kept.ensures in
+    (k.1, k.0)
 
 pub returns-in-Bell-clause-found : goal.returns-in-Bell-clause-found
 returns-in-Bell-clause-found c =
     let so = c.loop-end.invariant in
-    subst (λ x. IsOpened kind.Osc c.args.text.now x) (sym c.finished.ensures) (osc_rung c.args.text.now c.loop-end.end so.0 so.1 c.in-Bell.ensures)
+    subst (λ x. IsOpened kind.Osc c.args.text.now x) (sym c.finished.ensures)
+    (osc_rung c.args.text.now c.loop-end.end so.0 so.1 c.in-Bell.ensures)
 
 pub returns-in-Breaker-clause-found : goal.returns-in-Breaker-clause-found
 returns-in-Breaker-clause-found c =

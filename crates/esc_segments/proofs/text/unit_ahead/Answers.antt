@@ -4,13 +4,16 @@ use Rattle.esc_segments.proofs.text.unit_ahead.Goals as goal
 
 pub sequence_unit-requires-clause-low : goal.sequence_unit-requires-clause-low
 sequence_unit-requires-clause-low c =
-    (lead_first c.args.text.now c.text_run-run.result c.text_run-run.ensures.run (omega arith) c.requires c.if-text-eq7.false
+    (lead_first c.args.text.now c.text_run-run.result c.text_run-run.ensures.run (omega arith)
+    c.requires c.if-text-eq7.false
     (sym c.is_breaker.ensures ∙ c.if-is_breaker.false)).0
 
 pub sequence_unit-requires-clause-high : goal.sequence_unit-requires-clause-high
 sequence_unit-requires-clause-high c =
-    (lead_first c.args.text.now c.text_run-run.result c.text_run-run.ensures.run (omega arith) c.requires c.if-text-eq7.false
+    (lead_first c.args.text.now c.text_run-run.result c.text_run-run.ensures.run (omega arith)
+    c.requires c.if-text-eq7.false
     (sym c.is_breaker.ensures ∙ c.if-is_breaker.false)).1
 
 pub returns-then-run-gt0 : goal.returns-then-run-gt0
-returns-then-run-gt0 c = run_unit c.args.text.now c.text_run-run.result c.text_run-run.ensures.run c.if-run-gt0.true c.text_run-run.ensures.few
+returns-then-run-gt0 c = run_unit c.args.text.now c.text_run-run.result c.text_run-run.ensures.run
+    c.if-run-gt0.true c.text_run-run.ensures.few

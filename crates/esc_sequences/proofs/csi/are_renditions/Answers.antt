@@ -7,7 +7,8 @@ use Rattle.esc_sequences.proofs.csi.are_renditions.Goals as goal
 
 pub returns-in_default : goal.returns-in_default
 returns-in_default c =
-    let e : rendition (take c.item_len-len.result c.items.left.now) ≡ None = sym c.from_item.ensures ∙ c.in_default.is in
+    let e : rendition (take c.item_len-len.result c.items.left.now) ≡ None =
+    sym c.from_item.ensures ∙ c.in_default.is in
     let n : renditions (slice_split is_separator c.items.left.now) ≡ None =
     no_rendition c.items.left.now c.item_len-len.result c.item_len-len.ensures.first e in
     sym (c.items.invariant.1 ∙ ap is_some n)
@@ -15,7 +16,8 @@ returns-in_default c =
 pub items-preserved : goal.items-preserved
 items-preserved c =
     let below : c.item_len-len.result < length c.items.left.now = omega arith in
-    let turn = rest_decides c.items.left.now c.item_len-len.result _ c.item_len-len.ensures.first below (sym c.from_item.ensures ∙ c.in-Some.is) in
+    let turn = rest_decides c.items.left.now c.item_len-len.result _ c.item_len-len.ensures.first
+    below (sym c.from_item.ensures ∙ c.in-Some.is) in
     let behind = c.after_item-left.ensures in (
       omega (arith, ap length behind, length-drop (c.item_len-len.result + 1) c.items.left.now),
       c.items.invariant.1 ∙ turn

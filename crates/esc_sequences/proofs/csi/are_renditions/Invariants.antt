@@ -7,7 +7,8 @@ use Rattle.esc_sequences.proofs.csi.are_renditions.Given as goal
 abbrev pub invariant-items : goal.invariant-items
 invariant-items l =
     (length l.left ≤ length l.fn.params)
-    × (is_some (renditions (slice_split is_separator l.fn.params)) ≡ is_some (renditions (slice_split is_separator l.left)))
+    × (is_some (renditions (slice_split is_separator l.fn.params))
+    ≡ is_some (renditions (slice_split is_separator l.left)))
 
 abbrev pub decreases-items : goal.decreases-items
 decreases-items l = length l.left

@@ -8,7 +8,8 @@ use Rattle.esc_sequences.proofs.csi.read_renditions.Given as goal
 abbrev pub invariant-items : goal.invariant-items
 invariant-items g l =
     (length l.rest ≤ length l.fn.params)
-    × (renditions (slice_split is_separator l.fn.params) ≡ option_map (λ more. map csi_value l.read.items ++ more)
+    × (renditions (slice_split is_separator l.fn.params) ≡ option_map (λ more.
+    map csi_value l.read.items ++ more)
     (renditions (slice_split is_separator l.rest)))
 
 abbrev pub decreases-items : goal.decreases-items

@@ -7,4 +7,5 @@ use Rattle.esc_tcap.proofs.query.write_more.Given as goal
 abbrev pub invariant-loop-name : goal.invariant-loop-name
 invariant-loop-name g l =
     IsPlainFormatter l.initial.f
-    → HasWritten g.W.Write.write_str_gives l.initial.f (flat_map (λ n. 0x3b ∷ hex_text n) (take l.name-index l.rest)) l.f
+    → HasWritten g.W.Write.write_str_gives l.initial.f
+    (flat_map (λ n. 0x3b ∷ hex_text n) (take l.name-index l.rest)) l.f

@@ -7,4 +7,5 @@ pub returns-in_default : goal.returns-in_default
 returns-in_default c = sym (number_none 32 c.args.bytes.now c.in_default.ensures.cases.0)
 
 pub returns : goal.returns
-returns c = c.ok.ensures.value ∙ number_from_parse 32 c.in-Ok.text.now c.parse.result c.parse.ensures.value.0 ∙ ap (number_of 32) c.in-Ok.ensures.cases.0
+returns c = c.ok.ensures.value ∙ number_from_parse 32 c.in-Ok.text.now c.parse.result
+    c.parse.ensures.value.0 ∙ ap (number_of 32) c.in-Ok.ensures.cases.0

@@ -6,9 +6,11 @@ use Rattle.esc_values.proofs.scalar.text_of.Goals as goal
 
 pub returns-in-Ok : goal.returns-in-Ok
 returns-in-Ok g c =
-    let e : string_bytes c.in-Ok.string ≡ c.args.bytes.items = ap (λ v. v.items) c.in-Ok.ensures.ok in
+    let e : string_bytes c.in-Ok.string ≡ c.args.bytes.items =
+    ap (λ v. v.items) c.in-Ok.ensures.ok in
     let P : List ℕ → Type 0 = λ bs. IsUtf8 bs in
-    let held : is_utf8 c.args.bytes.items ≡ true = is_utf8-from_IsUtf8 _ (subst P e (IsUtf8-string_bytes c.in-Ok.string)) in
+    let held : is_utf8 c.args.bytes.items ≡ true =
+    is_utf8-from_IsUtf8 _ (subst P e (IsUtf8-string_bytes c.in-Ok.string)) in
     rw held (ap Some (c.from_string.ensures ∙ e))
 
 pub returns : goal.returns

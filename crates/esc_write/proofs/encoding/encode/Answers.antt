@@ -8,10 +8,12 @@ pub returns-in-Ok-clause-text : goal.returns-in-Ok-clause-text
 returns-in-Ok-clause-text g c = c.into_string.ensures ∙ c.in-Ok.ensures.text
 
 pub returns-in-Ok-clause-reads_back : goal.returns-in-Ok-clause-reads_back
-returns-in-Ok-clause-reads_back g c = λ h. ap meaning (c.into_string.ensures ∙ c.in-Ok.ensures.text) ∙ c.reads_back.ensures (map value_of c.args.actions.now) h
+returns-in-Ok-clause-reads_back g c = λ h. ap meaning (c.into_string.ensures ∙ c.in-Ok.ensures.text)
+    ∙ c.reads_back.ensures (map value_of c.args.actions.now) h
 
 pub returns-in-Ok-clause-same_text : goal.returns-in-Ok-clause-same_text
-returns-in-Ok-clause-same_text g c = λ h. c.same_text.ensures (map value_of c.args.actions.now) h ∙ sym (c.into_string.ensures ∙ c.in-Ok.ensures.text)
+returns-in-Ok-clause-same_text g c = λ h. c.same_text.ensures (map value_of c.args.actions.now) h
+    ∙ sym (c.into_string.ensures ∙ c.in-Ok.ensures.text)
 
 pub returns-in-Ok-clause-no_text : goal.returns-in-Ok-clause-no_text
 returns-in-Ok-clause-no_text g c =

@@ -7,7 +7,8 @@ use Rattle.esc_actions.specs.Values.{value_of}
 abbrev pub invariant-actions : goal.invariant-actions
 invariant-actions g l = record {
   few : length l.rest ≤ length l.actions;
-  text : l.text ++ texts_after l.follows_string (map value_of l.rest) ≡ list_text (map value_of l.actions);
+  text : l.text ++ texts_after l.follows_string (map value_of l.rest)
+      ≡ list_text (map value_of l.actions);
   have : list_all (λ a. has_text (value_of a)) l.actions ≡ true
       → list_all (λ a. has_text (value_of a)) l.rest ≡ true;
 }

@@ -11,7 +11,8 @@ few-preserved g c = record {
   less = omega (arith, ap length c.in-Some.ensures.cases.0);
   text =
       one_text c.few.follows _ c.few.text c.write_next.new.text (value_of c.in-Some.action.now)
-      (map value_of c.few.rest.now) (map value_of c.in-Some.more.now) (ap (map value_of) c.in-Some.ensures.cases.0)
+      (map value_of c.few.rest.now) (map value_of c.in-Some.more.now)
+      (ap (map value_of) c.in-Some.ensures.cases.0)
       c.in_ok-follows.ensures.ok.0 c.in_ok-follows.ensures.ok.1
       ∙ c.few.invariant.text;
   have = λ h.

@@ -7,7 +7,8 @@ use Rattle.esc_write.proofs.encoding.write_few.Given as goal
 abbrev pub invariant-few : goal.invariant-few
 invariant-few g l = record {
   less : length l.rest + l._i ≤ length l.actions;
-  text : l.text ++ texts_after l.follows (map value_of l.rest) ≡ l.initial.text ++ texts_after l.follows_string (map value_of l.actions);
+  text : l.text ++ texts_after l.follows (map value_of l.rest) ≡ l.initial.text
+      ++ texts_after l.follows_string (map value_of l.actions);
   have : list_all (λ a. has_text (value_of a)) l.actions ≡ true
       → list_all (λ a. has_text (value_of a)) l.rest ≡ true;
 }

@@ -16,7 +16,8 @@ pub returns-clause-less : goal.returns-clause-less
 returns-clause-less g c =
     let run = c.gather_eights-rest.new.run in
     let some : 0 < length run = omega (arith, c.len.ensures.len, c.if-len-lt8.false) in
-    rest_shorter value_of c.args.actions.now c.gather_eights-rest.result.now run c.gather_eights-rest.ensures some
+    rest_shorter value_of c.args.actions.now c.gather_eights-rest.result.now run
+    c.gather_eights-rest.ensures some
 
 pub returns-clause-left : goal.returns-clause-left
 returns-clause-left g c =

@@ -5,4 +5,5 @@ use Rattle.esc_actions.specs.Values.{value_of}
 use Rattle.esc_write.proofs.runs.are_without_sixels.Given as goal
 
 abbrev pub invariant-loop-action : goal.invariant-loop-action
-invariant-loop-action g l = list_all (λ a. has_text (value_of a)) (take l.action-index l.actions) ≡ true
+invariant-loop-action g l = list_all (λ a. has_text (value_of a)) (take l.action-index l.actions)
+    ≡ true

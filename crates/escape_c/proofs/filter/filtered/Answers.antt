@@ -12,9 +12,11 @@ returns-in-Ok-clause-ok c =
     let limit = c.args.limit in
     let new = c.new-filter.result in
     let is = c.new-filter.ensures.policy in
-    let fed = subst (λ p. WasFed limit (admits {A = Global} p) [] new) (sym is) c.new-filter.ensures.fed in
+    let fed = subst (λ p. WasFed limit (admits {A = Global} p) [] new) (sym is)
+    c.new-filter.ensures.fed in
     let given = c.in-Ok.ensures.given limit [] fed in
-    let nothing = ap (λ vs. list_text (filter (passes (admits {A = Global} new.policy)) vs)) (meaning_nil (Some limit)) in
+    let nothing = ap (λ vs. list_text (filter (passes (admits {A = Global} new.policy)) vs))
+    (meaning_nil (Some limit)) in
     sym (ap (λ t. t ++ added_by c.feed.new.self) nothing) ∙ sym given.1
     ∙ ap (λ p. passed_text {A = Global} (Some limit) (admits p) c.args.bytes.now) is
 

@@ -11,10 +11,13 @@ use Rattle.escape_c.proofs.spelled.normal_text.Goals as goal
 pub returns-in-Ok-clause-ok : goal.returns-in-Ok-clause-ok
 returns-in-Ok-clause-ok c =
     let empty = c.new.result in
-    let given = on_ok_at _ c.in-Ok.is (c.parse_into-result.ensures.given None [] c.new-parser.ensures) in
+    let given = on_ok_at _ c.in-Ok.is
+    (c.parse_into-result.ensures.given None [] c.new-parser.ensures) in
     let all = yield_within {A = Global} None [] c.args.bytes.now in
-    spells empty all _ given.1 ∙ ap (λ t. t ++ texts_after empty.follows_string all) c.new.ensures.text
-    ∙ ap (λ b. texts_after b all) c.new.ensures.plain ∙ ap list_text (yield_whole {A = Global} None c.args.bytes.now)
+    spells empty all _ given.1 ∙ ap (λ t. t ++ texts_after empty.follows_string all)
+    c.new.ensures.text
+    ∙ ap (λ b. texts_after b all) c.new.ensures.plain
+    ∙ ap list_text (yield_whole {A = Global} None c.args.bytes.now)
 
 pub returns-clause-refused : goal.returns-clause-refused
 returns-clause-refused c =

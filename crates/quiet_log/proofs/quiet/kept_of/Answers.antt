@@ -8,6 +8,8 @@ use Rattle.quiet_log.specs.Quiet.{quiet_after}
 pub returns : goal.returns
 returns g c =
     let at = c.loop-action in
-    let done : into_iter_items at.action-iterator ≡ [] = nothing_left _ (sym at.invariant.many ∙ c.in-None.ensures.steps.0) in
+    let done : into_iter_items at.action-iterator ≡ [] =
+    nothing_left _ (sym at.invariant.many ∙ c.in-None.ensures.steps.0) in
     sym (append-nil (map value_of at.kept.items))
-    ∙ ap (λ xs. map value_of at.kept.items ++ quiet_after at.is_after_gone (map value_of xs)) (sym done) ∙ at.invariant.left
+    ∙ ap (λ xs. map value_of at.kept.items ++ quiet_after at.is_after_gone (map value_of xs))
+    (sym done) ∙ at.invariant.left

@@ -6,6 +6,8 @@ use Rattle.quiet_log.proofs.quiet.kept_of.Given as goal
 
 abbrev pub invariant-loop-action : goal.invariant-loop-action
 invariant-loop-action g l = record {
-  left : map value_of l.kept.items ++ quiet_after l.is_after_gone (map value_of (into_iter_items l.action-iterator)) ≡ quiet (map value_of l.fn.actions.items);
+  left : map value_of l.kept.items
+      ++ quiet_after l.is_after_gone (map value_of (into_iter_items l.action-iterator))
+      ≡ quiet (map value_of l.fn.actions.items);
   many : into_iter_len l.action-iterator ≡ length (into_iter_items l.action-iterator);
 }

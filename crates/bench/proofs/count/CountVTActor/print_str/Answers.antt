@@ -6,4 +6,5 @@ use Rattle.bench.proofs.count.CountVTActor.print_str.Goals as goal
 
 pub returns-clause-told : goal.returns-clause-told
 returns-clause-told c =
-    anything_run Print (chars c.args.text.now) c.args.self.now c.add.new.self (some_chars c.args.text.now c.utf8.text c.requires.some)
+    anything_run Print (chars c.args.text.now) c.args.self.now c.add.new.self
+    (some_chars c.args.text.now c.utf8.text c.requires.some)

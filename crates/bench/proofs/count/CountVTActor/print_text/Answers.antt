@@ -3,4 +3,5 @@ use Rattle.esc_frame.specs.Events.Event.{Print}
 use Rattle.bench.proofs.count.CountVTActor.print_text.Goals as goal
 
 pub returns-clause-told : goal.returns-clause-told
-returns-clause-told c = anything_run Print c.args.text.now c.args.self.now c.add.new.self c.requires.some
+returns-clause-told c =
+    anything_run Print c.args.text.now c.args.self.now c.add.new.self c.requires.some

@@ -12,9 +12,12 @@ loop-byte-preserved g c =
     record {
       taken = λ ps is f d h.
           subst (λ t. LeadsShort ps is f t c.push.new.self)
-          (append_assoc d (take at.byte-index bytes) (get_or bytes at.byte-index 0 ∷ []) ∙ ap (λ t. d ++ t) (sym (take_more bytes at.byte-index 0 lt)))
-          (c.in_ok-push.ensures.ok ps is f (d ++ take at.byte-index bytes) (at.invariant.taken ps is f d h));
+          (append_assoc d (take at.byte-index bytes) (get_or bytes at.byte-index 0 ∷ [])
+          ∙ ap (λ t. d ++ t) (sym (take_more bytes at.byte-index 0 lt)))
+          (c.in_ok-push.ensures.ok ps is f (d ++ take at.byte-index bytes)
+          (at.invariant.taken ps is f d h));
       each = λ q k.
           at.invariant.each q
-          (subst (λ bs. FoldsTo Pushes at.self bs q) (sym (drop_more bytes at.byte-index 0 lt)) (c.push.new.self, c.in_ok-push.ensures.ok, k));
+          (subst (λ bs. FoldsTo Pushes at.self bs q) (sym (drop_more bytes at.byte-index 0 lt))
+          (c.push.new.self, c.in_ok-push.ensures.ok, k));
     }

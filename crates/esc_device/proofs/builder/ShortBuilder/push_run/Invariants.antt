@@ -8,5 +8,6 @@ abbrev pub invariant-loop-byte : goal.invariant-loop-byte
 invariant-loop-byte g l = record {
   taken : (ps : List ℤ) (is : List ℕ) (f : ℕ) (d : List ℕ) → LeadsShort ps is f d l.initial.self
       → LeadsShort ps is f (d ++ take l.byte-index l.bytes) l.self;
-  each : (q : _) → FoldsTo Pushes l.self (drop l.byte-index l.bytes) q → FoldsTo Pushes l.initial.self l.bytes q;
+  each : (q : _) → FoldsTo Pushes l.self (drop l.byte-index l.bytes) q
+      → FoldsTo Pushes l.initial.self l.bytes q;
 }

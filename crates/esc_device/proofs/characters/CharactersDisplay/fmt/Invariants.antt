@@ -6,4 +6,5 @@ use Rattle.esc_device.proofs.characters.CharactersDisplay.fmt.Given as goal
 abbrev pub invariant-loop-byte : goal.invariant-loop-byte
 invariant-loop-byte g l =
     IsPlainFormatter l.initial.f
-    → HasWritten g.W.Write.write_str_gives l.initial.f (as_text (take l.byte-index l.self.0.now)) l.f
+    → HasWritten g.W.Write.write_str_gives l.initial.f (as_text (take l.byte-index l.self.0.now))
+    l.f

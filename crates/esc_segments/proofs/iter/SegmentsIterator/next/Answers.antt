@@ -9,6 +9,11 @@ returns-then-is_empty-clause-steps c = λ gs cut.
 
 pub returns-clause-steps : goal.returns-clause-steps
 returns-clause-steps c = λ gs cut.
-    first_of_cut c.has_cut.ensures c.one_cut.ensures c.args.self.now.rest.now c.first-found.result c.split_at.result.1.now
-    record { kind = c.first-found.result.kind; bytes = c.split_at.result.0; finished = c.first-found.result.finished } c.first-found.ensures.found
+    first_of_cut c.has_cut.ensures c.one_cut.ensures c.args.self.now.rest.now c.first-found.result
+    c.split_at.result.1.now
+    record {
+      kind = c.first-found.result.kind;
+      bytes = c.split_at.result.0;
+      finished = c.first-found.result.finished;
+    } c.first-found.ensures.found
     c.split_at.ensures.back refl c.split_at.ensures.front refl gs cut

@@ -5,5 +5,6 @@ use Rattle.escdump.proofs.page.Page.end_line.Goals as goal
 
 pub invariant_of-self : goal.invariant_of-self
 invariant_of-self g c = record {
-  safe = page_push c.push_str.result c.args.self.now.text c.push_str.new.self LineEnd refl c.args.self.now.safe c.push_str.ensures.ok c.push_str.ensures.err;
+  safe = page_push c.push_str.result c.args.self.now.text c.push_str.new.self LineEnd refl
+      c.args.self.now.safe c.push_str.ensures.ok c.push_str.ensures.err;
 }

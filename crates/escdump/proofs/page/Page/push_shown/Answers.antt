@@ -4,5 +4,6 @@ use Rattle.escdump.proofs.page.Page.push_shown.Goals as goal
 
 pub invariant_of-self : goal.invariant_of-self
 invariant_of-self g c = record {
-  safe = page_push c.push.result c.args.self.now.text c.push.new.self (Shown c.args.c) c.requires c.args.self.now.safe c.push.ensures.ok c.push.ensures.err;
+  safe = page_push c.push.result c.args.self.now.text c.push.new.self (Shown c.args.c) c.requires
+      c.args.self.now.safe c.push.ensures.ok c.push.ensures.err;
 }
