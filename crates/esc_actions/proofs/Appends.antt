@@ -13,7 +13,8 @@ apart (print c) w h = absurd cc
 apart (string t) w h = absurd cc
 apart v w h = refl
 
-pub others_come_last : {A : Type 0} (vs : List (Value A)) (w : Value A) → ends_in_characters vs ≡ false → appended vs w ≡ vs ++ w ∷ []
+pub others_come_last : {A : Type 0} (vs : List (Value A)) (w : Value A)
+    → ends_in_characters vs ≡ false → appended vs w ≡ vs ++ w ∷ []
 others_come_last [] w h = refl
 others_come_last (v ∷ []) w h = apart v w h
 others_come_last (v ∷ u ∷ vs) w h = ap (λ l. v ∷ l) (others_come_last (u ∷ vs) w h)
@@ -25,12 +26,14 @@ alone (print c) w h = refl
 alone (string t) w h = refl
 alone v w h = refl
 
-comes_last : {A : Type 0} (vs : List (Value A)) (w : Value A) → ((d : ℕ) → w ≢ print d) → appended vs w ≡ vs ++ w ∷ []
+comes_last : {A : Type 0} (vs : List (Value A)) (w : Value A) → ((d : ℕ) → w ≢ print d)
+    → appended vs w ≡ vs ++ w ∷ []
 comes_last [] w h = refl
 comes_last (v ∷ []) w h = alone v w h
 comes_last (v ∷ u ∷ vs) w h = ap (λ l. v ∷ l) (comes_last (u ∷ vs) w h)
 
-no_print : {A : Type 0} (x : Action A) → ((c : ℕ) → x ≢ action.Print c) → (d : ℕ) → value_of x ≢ print d
+no_print : {A : Type 0} (x : Action A) → ((c : ℕ) → x ≢ action.Print c) → (d : ℕ)
+    → value_of x ≢ print d
 no_print (action.Print c) h d = absurd (h c refl)
 no_print (action.DeviceControl (device.Enter m)) h d = λ e. absurd cc
 no_print (action.DeviceControl device.Exit) h d = λ e. absurd cc
@@ -45,27 +48,35 @@ at_the_last [] x w = refl
 at_the_last (y ∷ []) x w = refl
 at_the_last (y ∷ z ∷ xs) x w = ap (λ l. value_of y ∷ l) (at_the_last (z ∷ xs) x w)
 
-pub ends_in : {A : Type 0} (xs : List (Action A)) (x : Action A) → ends_in_characters (map value_of (xs ++ x ∷ [])) ≡ is_characters (value_of x)
+pub ends_in : {A : Type 0} (xs : List (Action A)) (x : Action A)
+    → ends_in_characters (map value_of (xs ++ x ∷ [])) ≡ is_characters (value_of x)
 ends_in [] x = refl
 ends_in (y ∷ []) x = refl
 ends_in (y ∷ z ∷ xs) x = ends_in (z ∷ xs) x
 
 -- of lists of actions
-pub joined_said : {A : Type 0} (was now xs : List (Action A)) (x y : Action A) (w : Value A) → was ≡ xs ++ x ∷ [] → now ≡ xs ++ y ∷ []
+pub joined_said : {A : Type 0} (was now xs : List (Action A)) (x y : Action A) (w : Value A)
+    → was ≡ xs ++ x ∷ [] → now ≡ xs ++ y ∷ []
     → value_of y ∷ [] ≡ joined (value_of x) w → map value_of now ≡ appended (map value_of was) w
 joined_said was now xs x y w h k e =
-    ap (map value_of) k ∙ map-append value_of xs (y ∷ []) ∙ ap (λ l. map value_of xs ++ l) e ∙ sym (at_the_last xs x w)
+    ap (map value_of) k ∙ map-append value_of xs (y ∷ []) ∙ ap (λ l. map value_of xs ++ l) e
+    ∙ sym (at_the_last xs x w)
     ∙ ap (λ l. appended (map value_of l) w) (sym h)
 
-pub ends_said : {A : Type 0} (was xs : List (Action A)) (x : Action A) → was ≡ xs ++ x ∷ [] → is_characters (value_of x) ≡ false
+pub ends_said : {A : Type 0} (was xs : List (Action A)) (x : Action A) → was ≡ xs ++ x ∷ []
+    → is_characters (value_of x) ≡ false
     → ends_in_characters (map value_of was) ≡ false
 ends_said was xs x h e = ap (λ l. ends_in_characters (map value_of l)) h ∙ ends_in xs x ∙ e
 
-pub pushed_after_others : {A : Type 0} (was now : List (Action A)) (x : Action A) → now ≡ was ++ x ∷ [] → ends_in_characters (map value_of was) ≡ false
+pub pushed_after_others : {A : Type 0} (was now : List (Action A)) (x : Action A)
+    → now ≡ was ++ x ∷ [] → ends_in_characters (map value_of was) ≡ false
     → map value_of now ≡ appended (map value_of was) (value_of x)
-pushed_after_others was now x k e = ap (map value_of) k ∙ map-append value_of was (x ∷ []) ∙ sym (others_come_last (map value_of was) (value_of x) e)
+pushed_after_others was now x k e = ap (map value_of) k ∙ map-append value_of was (x ∷ [])
+    ∙ sym (others_come_last (map value_of was) (value_of x) e)
 
-pub pushed_no_print : {A : Type 0} (was now : List (Action A)) (x : Action A) → now ≡ was ++ x ∷ [] → ((c : ℕ) → x ≢ action.Print c)
+pub pushed_no_print : {A : Type 0} (was now : List (Action A)) (x : Action A) → now ≡ was ++ x ∷ []
+    → ((c : ℕ) → x ≢ action.Print c)
     → map value_of now ≡ appended (map value_of was) (value_of x)
 pushed_no_print was now x k e =
-    ap (map value_of) k ∙ map-append value_of was (x ∷ []) ∙ sym (comes_last (map value_of was) (value_of x) (no_print x e))
+    ap (map value_of) k ∙ map-append value_of was (x ∷ [])
+    ∙ sym (comes_last (map value_of was) (value_of x) (no_print x e))

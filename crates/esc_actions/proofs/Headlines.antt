@@ -28,5 +28,6 @@ module _ {A : Type 0}
           same_text = λ ws h e. same ws h ∙ e;
         }
 
-pub at_meaning : {A : Type 0} (s : List ℕ) (vs : List (Value A)) → vs ≡ meaning s → Headline s (meaning {A = A} s) → Headline s vs
+pub at_meaning : {A : Type 0} (s : List ℕ) (vs : List (Value A)) → vs ≡ meaning s
+    → Headline s (meaning {A = A} s) → Headline s vs
 at_meaning s vs e h = subst (λ x. Headline s x) (sym e) h

@@ -10,3 +10,4 @@ pub mod Normal
 pub mod Headlines
 pub mod Limited
 pub mod Appends
+pub mod Gathered

@@ -32,10 +32,12 @@ opener_keeps m Raw = refl
 opener_keeps m Pair = refl
 
 -- events after others that keep the mode
-after_kept : (m : Mode) (es fs : List Event) (n : Mode) → mode_from m es ≡ m → mode_from m fs ≡ n → mode_from m (es ++ fs) ≡ n
+after_kept : (m : Mode) (es fs : List Event) (n : Mode) → mode_from m es ≡ m → mode_from m fs ≡ n
+    → mode_from m (es ++ fs) ≡ n
 after_kept m es fs n e f = mode_append m es fs ∙ ap (λ x. mode_from x fs) e ∙ f
 
-csi_keeps : (x : List ℕ) (f : ℕ) (t : Bool) → is_csi_body x ≡ t → mode_from plain (csi_events x f) ≡ plain
+csi_keeps : (x : List ℕ) (f : ℕ) (t : Bool) → is_csi_body x ≡ t
+    → mode_from plain (csi_events x f) ≡ plain
 csi_keeps x f true e = rw e refl
 csi_keeps x f false e = rw e refl
 
@@ -44,16 +46,19 @@ unhooked : (m : Mode) (es : List Event) → mode_from m (es ++ DcsUnhook ∷ [])
 unhooked m es = mode_append m es (DcsUnhook ∷ [])
 
 -- an event of a whole string, where it is within the limit
-told_keeps : (e : Event) (t : Bool) → after plain e ≡ plain → mode_from plain (if t then e ∷ [] else []) ≡ plain
+told_keeps : (e : Event) (t : Bool) → after plain e ≡ plain
+    → mode_from plain (if t then e ∷ [] else []) ≡ plain
 told_keeps e true h = h
 told_keeps e false h = refl
 
-dcs_closes : (x d : List ℕ) (f : ℕ) (t : Bool) → mode_from plain (if t then (hook_event x f ∷ puts d) ++ DcsUnhook ∷ [] else []) ≡ plain
+dcs_closes : (x d : List ℕ) (f : ℕ) (t : Bool)
+    → mode_from plain (if t then (hook_event x f ∷ puts d) ++ DcsUnhook ∷ [] else []) ≡ plain
 dcs_closes x d f true = unhooked plain (hook_event x f ∷ puts d)
 dcs_closes x d f false = refl
 
 -- a finished segment leaves nothing unfinished
-pub closes : (limit : Option ℕ) (g : Segment) → mode_from plain (events_of_within limit g true) ≡ plain
+pub closes : (limit : Option ℕ) (g : Segment)
+    → mode_from plain (events_of_within limit g true) ≡ plain
 closes limit (Character b) = refl
 closes limit (Wide x) = refl
 closes limit (Broken x) = refl
@@ -61,29 +66,35 @@ closes limit (Stray b) = refl
 closes limit (Control b) = refl
 closes limit (HighControl p b) = refl
 closes limit (Terminator p b) = refl
-closes limit (Escape x f) = after_kept plain (executes x) _ plain (executes_keep plain (those is_plain x)) refl
+closes limit (Escape x f) =
+    after_kept plain (executes x) _ plain (executes_keep plain (those is_plain x)) refl
 closes limit (Csi o x f) =
     after_kept plain (opener_events o ++ executes x) (csi_events (strip x) f) plain
-    (after_kept plain (opener_events o) (executes x) plain (opener_keeps plain o) (executes_keep plain (those is_plain x)))
+    (after_kept plain (opener_events o) (executes x) plain (opener_keeps plain o)
+    (executes_keep plain (those is_plain x)))
     (csi_keeps (strip x) f (is_csi_body (strip x)) refl)
 closes limit (Osc o ps e) =
     after_kept plain (opener_events o) _ plain (opener_keeps plain o)
     (told_keeps (OscDispatch (parts_of (text_of ps))) (is_within limit (length (text_of ps))) refl)
-closes limit (Dcs o x f d) = after_kept plain (opener_events o) _ plain (opener_keeps plain o) (dcs_closes (strip x) d f (is_read limit (strip x)))
+closes limit (Dcs o x f d) = after_kept plain (opener_events o) _ plain (opener_keeps plain o)
+    (dcs_closes (strip x) d f (is_read limit (strip x)))
 closes limit (Apc o d) =
     after_kept plain (opener_events o) _ plain (opener_keeps plain o)
     (told_keeps (ApcDispatch (those is_text d)) (is_within limit (length (those is_text d))) refl)
 closes limit (Ignored k o d) = opener_keeps plain o
 closes limit (CutEscape x) = executes_keep plain (those is_plain x)
-closes limit (CutCsi o x) = after_kept plain (opener_events o) (executes x) plain (opener_keeps plain o) (executes_keep plain (those is_plain x))
+closes limit (CutCsi o x) = after_kept plain (opener_events o) (executes x) plain
+    (opener_keeps plain o) (executes_keep plain (those is_plain x))
 closes limit (CutDcs o x) = opener_keeps plain o
 
-values_of_cut : {A : Type 0} (limit : Option ℕ) (gs : List Segment) → values_from {A = A} limit plain (events_of_cut_within limit gs) ≡ readings_within limit gs
+values_of_cut : {A : Type 0} (limit : Option ℕ) (gs : List Segment)
+    → values_from {A = A} limit plain (events_of_cut_within limit gs) ≡ readings_within limit gs
 values_of_cut limit [] = refl
 values_of_cut limit (g ∷ []) = refl
 values_of_cut limit (g ∷ h ∷ gs) =
     values_append limit plain (events_of_within limit g true) (events_of_cut_within limit (h ∷ gs))
-    ∙ ap (λ m. reading_within limit g true ++ values_from limit m (events_of_cut_within limit (h ∷ gs))) (closes limit g)
+    ∙ ap (λ m. reading_within limit g true
+    ++ values_from limit m (events_of_cut_within limit (h ∷ gs))) (closes limit g)
     ∙ ap (λ x. reading_within limit g true ++ x) (values_of_cut limit (h ∷ gs))
 
 -- one segment that is finished by itself
@@ -91,24 +102,30 @@ pub one_closes : (t : List ℕ) (es : List Event) → IsOneSegment t es → mode
 one_closes t es (g, bytes, ends, shape, e) = ap (mode_from plain) (sym e) ∙ closes None g
 
 -- where no segment is unfinished, nothing is
-last_closes : (limit : Option ℕ) (g : Segment) → ends_itself g ≡ true → mode_from plain (events_of_within limit g (ends_itself g)) ≡ plain
+last_closes : (limit : Option ℕ) (g : Segment) → ends_itself g ≡ true
+    → mode_from plain (events_of_within limit g (ends_itself g)) ≡ plain
 last_closes limit g e = rw e (closes limit g)
 
-cut_closes : (limit : Option ℕ) (gs : List Segment) → AreFinished gs [] → mode_from plain (events_of_cut_within limit gs) ≡ plain
+cut_closes : (limit : Option ℕ) (gs : List Segment) → AreFinished gs []
+    → mode_from plain (events_of_cut_within limit gs) ≡ plain
 cut_closes limit [] h = refl
 cut_closes limit (g ∷ []) (shape, finished, rest) = last_closes limit g (itself g finished)
 cut_closes limit (g ∷ h ∷ gs) (shape, finished, rest) =
     mode_append plain (events_of_within limit g true) (events_of_cut_within limit (h ∷ gs))
-    ∙ ap (λ m. mode_from m (events_of_cut_within limit (h ∷ gs))) (closes limit g) ∙ cut_closes limit (h ∷ gs) rest
+    ∙ ap (λ m. mode_from m (events_of_cut_within limit (h ∷ gs))) (closes limit g)
+    ∙ cut_closes limit (h ∷ gs) rest
 
 last_osc : (limit : Option ℕ) (o : Opener) (ps : List Piece) (e : Ending)
     → mode_from plain (events_of_within limit (Osc o ps e) (ends_itself (Osc o ps e))) ≡ plain
 last_osc limit o ps Rung = closes limit (Osc o ps Rung)
 last_osc limit o ps Open = after_kept plain (opener_events o) [] plain (opener_keeps plain o) refl
-last_osc limit o ps (Waits f) = after_kept plain (opener_events o) [] plain (opener_keeps plain o) refl
+last_osc limit o ps (Waits f) =
+    after_kept plain (opener_events o) [] plain (opener_keeps plain o) refl
 
--- what is unfinished of a cut is unfinished of its last segment, of which then nothing counts but data
-last_opens : (limit : Option ℕ) (g : Segment) → (mode_from plain (events_of_within limit g (ends_itself g)) ≡ plain) ⊎ (kept_of limit g ≡ 0)
+-- what is unfinished of a cut is unfinished of its last segment, of which then nothing counts but
+-- data
+last_opens : (limit : Option ℕ) (g : Segment)
+    → (mode_from plain (events_of_within limit g (ends_itself g)) ≡ plain) ⊎ (kept_of limit g ≡ 0)
 last_opens limit (Character b) = inl refl
 last_opens limit (Wide x) = inl refl
 last_opens limit (Broken x) = inl refl
@@ -120,35 +137,48 @@ last_opens limit (Escape x f) = inr refl
 last_opens limit (Csi o x f) = inr refl
 last_opens limit (Osc o ps e) = inl (last_osc limit o ps e)
 last_opens limit (Dcs o x f d) = inr refl
-last_opens limit (Apc o d) = inl (after_kept plain (opener_events o) [] plain (opener_keeps plain o) refl)
+last_opens limit (Apc o d) =
+    inl (after_kept plain (opener_events o) [] plain (opener_keeps plain o) refl)
 last_opens limit (Ignored k o d) = inl (opener_keeps plain o)
 last_opens limit (CutEscape x) = inr refl
 last_opens limit (CutCsi o x) = inr refl
 last_opens limit (CutDcs o x) = inl (opener_keeps plain o)
 
-pub cut_opens : (limit : Option ℕ) (gs : List Segment) → (mode_from plain (events_of_cut_within limit gs) ≡ plain) ⊎ (kept_of_cut limit gs ≡ 0)
+pub cut_opens : (limit : Option ℕ) (gs : List Segment)
+    → (mode_from plain (events_of_cut_within limit gs) ≡ plain) ⊎ (kept_of_cut limit gs ≡ 0)
 cut_opens limit [] = inl refl
 cut_opens limit (g ∷ []) = last_opens limit g
 cut_opens limit (g ∷ h ∷ gs) =
-    let same : mode_from plain (events_of_cut_within limit (g ∷ h ∷ gs)) ≡ mode_from plain (events_of_cut_within limit (h ∷ gs)) =
+    let same : mode_from plain (events_of_cut_within limit (g ∷ h ∷ gs))
+    ≡ mode_from plain (events_of_cut_within limit (h ∷ gs)) =
     mode_append plain (events_of_within limit g true) (events_of_cut_within limit (h ∷ gs))
     ∙ ap (λ m. mode_from m (events_of_cut_within limit (h ∷ gs))) (closes limit g) in
     elim (cut_opens limit (h ∷ gs)) [ inl e ↦ inl (same ∙ e) | inr e ↦ inr e ]
 
 -- by the laws of the framing
-module _ (once : (limit : Option ℕ) (stream : List ℕ) (xs ys : List Event) → HasEventsWithin limit stream xs → HasEventsWithin limit stream ys → xs ≡ ys)
+module _ (once : (limit : Option ℕ) (stream : List ℕ) (xs ys : List Event)
+    → HasEventsWithin limit stream xs → HasEventsWithin limit stream ys → xs ≡ ys)
     (told : (limit : Option ℕ) (s : List ℕ) → HasEventsWithin limit s (events_within limit s)) where
-  pub events_are : (limit : Option ℕ) (s : List ℕ) (gs : List Segment) → IsCut s gs → events_within limit s ≡ events_of_cut_within limit gs
-  events_are limit s gs cut = once limit s (events_within limit s) (events_of_cut_within limit gs) (told limit s) (gs, cut, refl)
+  pub events_are : (limit : Option ℕ) (s : List ℕ) (gs : List Segment) → IsCut s gs
+      → events_within limit s ≡ events_of_cut_within limit gs
+  events_are limit s gs cut = once limit s (events_within limit s) (events_of_cut_within limit gs)
+      (told limit s) (gs, cut, refl)
 
-  pub plain_at_ground : (limit : Option ℕ) (s : List ℕ) → IsAtGround s → mode_from plain (events_within limit s) ≡ plain
-  plain_at_ground limit s (gs, cut, finished) = ap (mode_from plain) (events_are limit s gs cut) ∙ cut_closes limit gs finished
+  pub plain_at_ground : (limit : Option ℕ) (s : List ℕ) → IsAtGround s
+      → mode_from plain (events_within limit s) ≡ plain
+  plain_at_ground limit s (gs, cut, finished) =
+      ap (mode_from plain) (events_are limit s gs cut) ∙ cut_closes limit gs finished
 
   pub meaning_of_the_cut : (A : Type 0) → MeansItsCut A
   unfolding meaning_within
-  meaning_of_the_cut A limit s gs cut = ap (values_from limit plain) (events_are limit s gs cut) ∙ values_of_cut limit gs
+  meaning_of_the_cut A limit s gs cut =
+      ap (values_from limit plain) (events_are limit s gs cut) ∙ values_of_cut limit gs
 
   -- where something is unfinished, nothing is kept of the last segment but its data
   pub kept_once : (limit : Option ℕ) (s : List ℕ) (gs : List Segment) → IsCut s gs
       → (mode_from plain (events_within limit s) ≡ plain) ⊎ (kept_of_cut limit gs ≡ 0)
-  kept_once limit s gs cut = elim (cut_opens limit gs) [ inl e ↦ inl (ap (mode_from plain) (events_are limit s gs cut) ∙ e) | inr e ↦ inr e ]
+  kept_once limit s gs cut =
+      elim (cut_opens limit gs) [
+        | inl e ↦ inl (ap (mode_from plain) (events_are limit s gs cut) ∙ e)
+        | inr e ↦ inr e
+      ]

@@ -10,12 +10,15 @@ use Rattle.esc_actions.specs.Texts.{terminator}
 use Rattle.esc_actions.specs.Values.{Mode, Value, plain, entered, after, given, taken, taken_gives, closed_gives, datum}
 
 -- what bytes of data make of what is unfinished, where each is kept and gives nothing
-module _ (kept : List ℕ → Mode) (keeps : (d : List ℕ) (b : ℕ) → taken (kept d) b ≡ kept (d ++ b ∷ [])) where
+module _ (kept : List ℕ → Mode) (keeps : (d : List ℕ) (b : ℕ)
+    → taken (kept d) b ≡ kept (d ++ b ∷ [])) where
   pub puts_kept : (d x : List ℕ) → mode_from (kept x) (map DcsPut d) ≡ kept (x ++ d)
   puts_kept [] x = ap kept (sym (append-nil x))
-  puts_kept (b ∷ d) x = ap (λ m. mode_from m (map DcsPut d)) (keeps x b) ∙ puts_kept d (x ++ b ∷ []) ∙ ap kept (append_assoc x (b ∷ []) d)
+  puts_kept (b ∷ d) x = ap (λ m. mode_from m (map DcsPut d)) (keeps x b) ∙ puts_kept d (x ++ b ∷ [])
+      ∙ ap kept (append_assoc x (b ∷ []) d)
 
-  pub puts_quiet : {A : Type 0} → ((d : List ℕ) (b : ℕ) → taken_gives {A = A} (kept d) b ≡ []) → (d x : List ℕ)
+  pub puts_quiet : {A : Type 0} → ((d : List ℕ) (b : ℕ) → taken_gives {A = A} (kept d) b ≡ [])
+      → (d x : List ℕ)
       → values_from {A = A} None (kept x) (map DcsPut d) ≡ []
   puts_quiet quiet [] x = refl
   puts_quiet quiet (b ∷ d) x =
@@ -27,7 +30,8 @@ pub puts_entered : (d : List ℕ) → mode_from entered (map DcsPut d) ≡ enter
 puts_entered [] = refl
 puts_entered (b ∷ d) = puts_entered d
 
-pub puts_given : {A : Type 0} (d : List ℕ) → values_from {A = A} None entered (map DcsPut d) ≡ map datum d
+pub puts_given : {A : Type 0} (d : List ℕ)
+    → values_from {A = A} None entered (map DcsPut d) ≡ map datum d
 puts_given [] = refl
 puts_given (b ∷ d) = ap (λ x. datum b ∷ x) (puts_given d)
 
@@ -38,9 +42,12 @@ string_closes hook d =
     ∙ mode_append plain (hook ∷ map DcsPut d) (DcsUnhook ∷ [])
 
 -- and gives what the header gives, what the data gives, and what the end gives
-pub string_gives : {A : Type 0} (hook : Event) (d : List ℕ) → values_from {A = A} None plain (string_events hook d)
+pub string_gives : {A : Type 0} (hook : Event) (d : List ℕ)
+    → values_from {A = A} None plain (string_events hook d)
     ≡ ((given None plain hook ++ values_from None (after plain hook) (map DcsPut d)) ++
     (closed_gives None (mode_from (after plain hook) (map DcsPut d)) ++ [])) ++ terminator ∷ []
 string_gives hook d =
-    values_append None plain ((hook ∷ map DcsPut d) ++ DcsUnhook ∷ []) (EscDispatch [] false 0x5c ∷ [])
-    ∙ ap (λ x. x ++ terminator ∷ []) (values_append None plain (hook ∷ map DcsPut d) (DcsUnhook ∷ []))
+    values_append None plain ((hook ∷ map DcsPut d) ++ DcsUnhook ∷ []) (EscDispatch [] false 0x5c
+    ∷ [])
+    ∙ ap (λ x. x ++ terminator ∷ []) (values_append None plain (hook ∷ map DcsPut d) (DcsUnhook
+    ∷ []))

@@ -26,3 +26,22 @@ abbrev pub appended : {A : Type 0} → List (Value A) → Value A → List (Valu
 appended [] w = w ∷ []
 appended (v ∷ []) w = joined v w
 appended (v ∷ u ∷ vs) w = v ∷ appended (u ∷ vs) w
+
+-- a list with these values at its end, each appended to what the ones before it made
+abbrev pub appended_all : {A : Type 0} → List (Value A) → List (Value A) → List (Value A)
+appended_all us [] = us
+appended_all us (v ∷ vs) = appended_all (appended us v) vs
+
+-- a value and those after it, where it takes in the characters that directly follow it
+abbrev pub gathered_from : {A : Type 0} → Value A → List (Value A) → List (Value A)
+gathered_from v [] = v ∷ []
+gathered_from (print c) (print d ∷ vs) =
+    gathered_from (string (encode_utf8 c ++ encode_utf8 d)) vs
+gathered_from (string t) (print d ∷ vs) = gathered_from (string (t ++ encode_utf8 d)) vs
+gathered_from v (w ∷ vs) = v ∷ gathered_from w vs
+
+-- these values, where each run of characters, and each string with those that directly follow it,
+-- is one string
+abbrev pub gathered : {A : Type 0} → List (Value A) → List (Value A)
+gathered [] = []
+gathered (v ∷ vs) = gathered_from v vs

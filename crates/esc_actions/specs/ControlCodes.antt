@@ -69,12 +69,18 @@ code_number code.APC = 0x9f
 -- every code
 abbrev pub all_codes : List ControlCode
 all_codes =
-    code.Null ∷ code.StartOfHeading ∷ code.StartOfText ∷ code.EndOfText ∷ code.EndOfTransmission ∷ code.Enquiry ∷ code.Acknowledge ∷ code.Bell ∷ code.Backspace
-    ∷ code.HorizontalTab ∷ code.LineFeed ∷ code.VerticalTab ∷ code.FormFeed ∷ code.CarriageReturn ∷ code.ShiftOut ∷ code.ShiftIn ∷ code.DataLinkEscape
-    ∷ code.DeviceControlOne ∷ code.DeviceControlTwo ∷ code.DeviceControlThree ∷ code.DeviceControlFour ∷ code.NegativeAcknowledge ∷ code.SynchronousIdle
-    ∷ code.EndOfTransmissionBlock ∷ code.Cancel ∷ code.EndOfMedium ∷ code.Substitute ∷ code.Escape ∷ code.FileSeparator ∷ code.GroupSeparator
-    ∷ code.RecordSeparator ∷ code.UnitSeparator ∷ code.BPH ∷ code.NBH ∷ code.IND ∷ code.NEL ∷ code.SSA ∷ code.ESA ∷ code.HTS ∷ code.HTJ ∷ code.VTS ∷ code.PLD
-    ∷ code.PLU ∷ code.RI ∷ code.SS2 ∷ code.SS3 ∷ code.DCS ∷ code.PU1 ∷ code.PU2 ∷ code.STS ∷ code.CCH ∷ code.MW ∷ code.SPA ∷ code.EPA ∷ code.SOS ∷ code.SCI
+    code.Null ∷ code.StartOfHeading ∷ code.StartOfText ∷ code.EndOfText ∷ code.EndOfTransmission
+    ∷ code.Enquiry ∷ code.Acknowledge ∷ code.Bell ∷ code.Backspace
+    ∷ code.HorizontalTab ∷ code.LineFeed ∷ code.VerticalTab ∷ code.FormFeed ∷ code.CarriageReturn
+    ∷ code.ShiftOut ∷ code.ShiftIn ∷ code.DataLinkEscape
+    ∷ code.DeviceControlOne ∷ code.DeviceControlTwo ∷ code.DeviceControlThree
+    ∷ code.DeviceControlFour ∷ code.NegativeAcknowledge ∷ code.SynchronousIdle
+    ∷ code.EndOfTransmissionBlock ∷ code.Cancel ∷ code.EndOfMedium ∷ code.Substitute ∷ code.Escape
+    ∷ code.FileSeparator ∷ code.GroupSeparator
+    ∷ code.RecordSeparator ∷ code.UnitSeparator ∷ code.BPH ∷ code.NBH ∷ code.IND ∷ code.NEL
+    ∷ code.SSA ∷ code.ESA ∷ code.HTS ∷ code.HTJ ∷ code.VTS ∷ code.PLD
+    ∷ code.PLU ∷ code.RI ∷ code.SS2 ∷ code.SS3 ∷ code.DCS ∷ code.PU1 ∷ code.PU2 ∷ code.STS
+    ∷ code.CCH ∷ code.MW ∷ code.SPA ∷ code.EPA ∷ code.SOS ∷ code.SCI
     ∷ code.CSI ∷ code.ST ∷ code.OSC ∷ code.PM ∷ code.APC ∷ []
 
 -- the first of these codes with the number b

@@ -8,7 +8,8 @@ use Rattle.esc_actions.specs.Meaning.{meaning, mode_from}
 use Rattle.esc_actions.specs.Values.{Mode, Value, plain, entered, enter, datum, exit}
 use Rattle.esc_actions.specs.Writable.{AreWritable, IsWritable, is_exception, is_within, stays_within}
 
--- each value is where it may be, where `from` and `to` say whether a mode is entered before and after them
+-- each value is where it may be, where `from` and `to` say whether a mode is entered before and
+-- after them
 abbrev pub AreGrouped : {A : Type 0} → Bool → List (Value A) → Bool → Type 0
 AreGrouped from [] to = from ≡ to
 AreGrouped from (v ∷ vs) to = (is_within v ≡ from) × AreGrouped (stays_within v) vs to
@@ -18,16 +19,19 @@ is_entered entered = true
 is_entered _ = false
 
 -- whether a stream ends inside a mode
-abbrev pub ends_within : List ℕ → Bool
-ends_within s = is_entered (mode_from plain (events s))
+abbrev pub ends_in_mode : List ℕ → Bool
+ends_in_mode s = is_entered (mode_from plain (events s))
 
--- a stream none of whose values is an exception, and that does not end inside a mode, means a writable list
+-- a stream none of whose values is an exception, and that does not end inside a mode, means a
+-- writable list
 abbrev pub MeansWritable : Type 0 → Type 0
-MeansWritable A = (s : List ℕ) → list_any is_exception (meaning {A = A} s) ≡ false → ends_within s ≡ false → AreWritable {A = A} (meaning s)
+MeansWritable A = (s : List ℕ) → list_any is_exception (meaning {A = A} s) ≡ false
+    → ends_in_mode s ≡ false → AreWritable {A = A} (meaning s)
 
--- the values of any stream come in groups; the last is unfinished where the stream ends inside a mode
+-- the values of any stream come in groups; the last is unfinished where the stream ends inside a
+-- mode
 abbrev pub MeansGroups : Type 0 → Type 0
-MeansGroups A = (s : List ℕ) → AreGrouped {A = A} false (meaning s) (ends_within s)
+MeansGroups A = (s : List ℕ) → AreGrouped {A = A} false (meaning s) (ends_in_mode s)
 
 -- a value by itself, or the header of a mode with the bytes and the end
 pub data Group (A : Type 0) : Type 0 where

@@ -18,9 +18,12 @@ pub record Headline {A : Type 0} (stream : List ℕ) (vs : List (Value A)) : Typ
   pub one_cut : IsTheCut stream segments
   -- the values are the readings of these segments, in order
   pub readings_in_order : vs ≡ readings segments
-  -- each value is writable, but for the four kinds that `is_exception` names: a truncated control sequence; an escape sequence whose
-  -- letter opens something; a header of a mode without some of its intermediates; data of a mode or a short control with a byte A0-FF
+  -- each value is writable, but for the four kinds that `is_exception` names: a truncated control
+  -- sequence; an escape sequence whose letter opens something; a header of a mode without some of
+  -- its intermediates; data of a mode or a short control with a byte A0-FF
   pub handed_out_is_writable : AreHandedOut vs
-  -- where the stream is the text of a writable list, the values are its normal list, which has the same text
+  -- where the stream is the text of a writable list, the values are its normal list, which has the
+  -- same text
   pub reads_back : (ws : List (Value A)) → AreWritable ws → list_text ws ≡ stream → vs ≡ normal ws
-  pub same_text : (ws : List (Value A)) → AreWritable ws → list_text ws ≡ stream → list_text (normal ws) ≡ stream
+  pub same_text : (ws : List (Value A)) → AreWritable ws → list_text ws ≡ stream
+      → list_text (normal ws) ≡ stream

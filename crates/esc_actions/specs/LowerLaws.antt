@@ -1,5 +1,5 @@
--- What the laws of the crates below say of texts, events and values. Only private contracts cite it: the laws of this crate
--- rest on it, and it rests on calls of those laws.
+-- What the laws of the crates below say of texts, events and values. Only private contracts cite
+-- it: the laws of this crate rest on it, and it rests on calls of those laws.
 use Rattle.std.specs.Prelude.{ℕ, ◌≡◌, ◌<◌, ◌≤◌, true, false, List, [], ◌∷◌, ◌++◌, length, Option, Some, ℤ, Bool}
 use Rattle.std.specs.List.{list_all, list_any}
 use Rattle.std.specs.Char.{encode_utf8}
@@ -36,31 +36,47 @@ pub record LowerLaws (A : Type 0) : Type 0 where
   -- what texts say, whatever follows them
   pub prints : (c : ℕ) → is_clear c ≡ true → Says (encode_utf8 c) (Print c ∷ [])
   pub executes : (b : ℕ) → is_control (class_of b) ≡ true → Says (b ∷ []) (Execute b ∷ [])
-  pub executes_high : (b : ℕ) → is_raw_control (class_of b) ≡ true → Says (0xc2 ∷ b ∷ []) (Execute b ∷ [])
+  pub executes_high : (b : ℕ) → is_raw_control (class_of b) ≡ true
+      → Says (0xc2 ∷ b ∷ []) (Execute b ∷ [])
   pub one_segment : (t : List ℕ) (es : List Event) → IsOneSegment t es → Says t es
-  pub command : (t : List ℕ) → IsClearText t → Says ((0x1b ∷ 0x5d ∷ t) ++ 0x1b ∷ 0x5c ∷ []) (OscDispatch (parts_of t) ∷ EscDispatch [] false 0x5c ∷ [])
-  pub application : (t : List ℕ) → AllOf is_text t → Says ((0x1b ∷ 0x5f ∷ t) ++ 0x1b ∷ 0x5c ∷ []) (ApcDispatch t ∷ EscDispatch [] false 0x5c ∷ [])
+  pub command : (t : List ℕ) → IsClearText t
+      → Says ((0x1b ∷ 0x5d ∷ t) ++ 0x1b ∷ 0x5c ∷ []) (OscDispatch (parts_of t)
+      ∷ EscDispatch [] false 0x5c ∷ [])
+  pub application : (t : List ℕ) → AllOf is_text t
+      → Says ((0x1b ∷ 0x5f ∷ t) ++ 0x1b ∷ 0x5c ∷ []) (ApcDispatch t ∷ EscDispatch [] false 0x5c
+      ∷ [])
   -- what the events of any stream can be
   pub events_fit : (limit : Option ℕ) (s : List ℕ) → AreFit (events_within limit s)
   -- operating system commands
-  pub command_clear : (c : OperatingSystemCommand A) → IsWritableCommand c → IsClearText (inner_text c)
-  pub command_back : (c : OperatingSystemCommand A) → IsWritableCommand c → command_meant (parts_of (inner_text c)) ≡ c
-  pub command_writable : (ps : List (List ℕ)) → AreTextParts ps → IsWritableCommand {A = A} (command_meant ps)
+  pub command_clear : (c : OperatingSystemCommand A) → IsWritableCommand c
+      → IsClearText (inner_text c)
+  pub command_back : (c : OperatingSystemCommand A) → IsWritableCommand c
+      → command_meant (parts_of (inner_text c)) ≡ c
+  pub command_writable : (ps : List (List ℕ)) → AreTextParts ps
+      → IsWritableCommand {A = A} (command_meant ps)
   -- kitty's images
   pub image_back : (i : KittyImage A) → IsWritableImage i → ReadsBackImage i
-  pub image_writable : (t : List ℕ) → list_all is_kept t ≡ true → (i : KittyImage A) → image_of t ≡ Some i → IsWritableImage i
+  pub image_writable : (t : List ℕ) → list_all is_kept t ≡ true → (i : KittyImage A)
+      → image_of t ≡ Some i → IsWritableImage i
   -- control sequences
-  pub csi_back : (x : List ℕ) (f : ℕ) → is_csi_body x ≡ true → length (entries x) ≤ 256 → f < 128 → ReadBack f (csi_of (entries x) false f)
+  pub csi_back : (x : List ℕ) (f : ℕ) → is_csi_body x ≡ true → length (entries x) ≤ 256 → f < 128
+      → ReadBack f (csi_of (entries x) false f)
   pub csi_truncated : (es : List CsiParam) (f : ℕ) → csi_of es true f ≡ unspecified es true f ∷ []
   -- device control strings
-  pub mode_says : (e : EnterDeviceControlMode A) (d : List ℕ) → IsWritableEnter e → AreData d → EnterSays e d
+  pub mode_says : (e : EnterDeviceControlMode A) (d : List ℕ) → IsWritableEnter e → AreData d
+      → EnterSays e d
   pub short_says : (s : ShortDeviceControl A) → IsWritableShort s → ShortSays s
   pub sixel_says : (s : Sixel A) → IsWritableSixel s → SixelSays s
   pub query_says : (ns : List (List ℕ)) → AreWritableNames ns → QuerySays ns
-  pub header_natural : (f : ℕ) (ps : List ℤ) (is : List ℕ) (more : Bool) → IsFit (DcsHook f ps is more) → AreNatural ps
-  pub header_writable : (f : ℕ) (ps : List ℤ) (is : List ℕ) (more : Bool) → IsFit (DcsHook f ps is more) → kind_of f is more ≡ kind.Other → more ≡ false
+  pub header_natural : (f : ℕ) (ps : List ℤ) (is : List ℕ) (more : Bool)
+      → IsFit (DcsHook f ps is more) → AreNatural ps
+  pub header_writable : (f : ℕ) (ps : List ℤ) (is : List ℕ) (more : Bool)
+      → IsFit (DcsHook f ps is more) → kind_of f is more ≡ kind.Other → more ≡ false
       → IsWritableEnter {A = A} (enter_of f ps is more)
-  pub short_writable : (f : ℕ) (ps : List ℤ) (is : List ℕ) (more : Bool) (d : List ℕ) → IsFit (DcsHook f ps is more) → kind_of f is more ≡ kind.Short
-      → AllOf is_put d → list_any is_high_byte d ≡ false → IsWritableShort {A = A} (short_of ps is f d)
-  pub sixel_writable : (ps : List ℤ) (d : List ℕ) → AreNatural ps → IsWritableSixel (sixel_of {A = A} ps (items d))
+  pub short_writable : (f : ℕ) (ps : List ℤ) (is : List ℕ) (more : Bool) (d : List ℕ)
+      → IsFit (DcsHook f ps is more) → kind_of f is more ≡ kind.Short
+      → AllOf is_put d → list_any is_high_byte d ≡ false
+      → IsWritableShort {A = A} (short_of ps is f d)
+  pub sixel_writable : (ps : List ℤ) (d : List ℕ) → AreNatural ps
+      → IsWritableSixel (sixel_of {A = A} ps (items d))
   pub names_writable : (d : List ℕ) → AreWritableNames (names_of d)

@@ -5,7 +5,8 @@ use Rattle.esc_frame.specs.Memory.{MayTake}
 use Rattle.esc_frame.specs.Stream.{events_within}
 use Rattle.esc_actions.specs.Values.{Value, Mode, plain, after, given}
 
--- what events give, one after another, where m is unfinished before them and no more than the limit is kept of a string's data
+-- what events give, one after another, where m is unfinished before them and no more than the limit
+-- is kept of a string's data
 abbrev pub values_from : {A : Type 0} → Option ℕ → Mode → List Event → List (Value A)
 values_from limit m [] = []
 values_from limit m (e ∷ es) = given limit m e ++ values_from limit (after m e) es
@@ -15,14 +16,15 @@ abbrev pub mode_from : Mode → List Event → Mode
 mode_from m [] = m
 mode_from m (e ∷ es) = mode_from (after m e) es
 
--- the values of the events of the stream's one cut, the last segment of which may be unfinished, where no more than the limit is
--- kept of a segment
+-- the values of the events of the stream's one cut, the last segment of which may be unfinished,
+-- where no more than the limit is kept of a segment
 unfoldable pub meaning_within : {A : Type 0} → Option ℕ → List ℕ → List (Value A)
 meaning_within limit s = values_from limit plain (events_within limit s)
 
 -- what b adds to the meaning of s
 unfoldable pub yield_within : {A : Type 0} → Option ℕ → List ℕ → List ℕ → List (Value A)
-yield_within {A = A} limit s b = drop (length (meaning_within {A = A} limit s)) (meaning_within limit (s ++ b))
+yield_within {A = A} limit s b =
+    drop (length (meaning_within {A = A} limit s)) (meaning_within limit (s ++ b))
 
 -- the same without a limit
 abbrev pub meaning : {A : Type 0} → List ℕ → List (Value A)
@@ -31,7 +33,8 @@ meaning s = meaning_within None s
 abbrev pub yield : {A : Type 0} → List ℕ → List ℕ → List (Value A)
 yield s b = yield_within None s b
 
--- a call that is fed b after s may want memory: for an unfinished string or sequence, or for what it hands out
+-- a call that is fed b after s may want memory: for an unfinished string or sequence, or for what
+-- it hands out
 abbrev pub MayWant : Type 0 → Option ℕ → List ℕ → List ℕ → Type 0
 MayWant A limit s b = MayTake (s ++ b) ⊎ (yield_within {A = A} limit s b ≢ [])
 

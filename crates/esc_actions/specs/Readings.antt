@@ -23,4 +23,5 @@ readings gs = readings_within None gs
 
 -- a stream means the readings of its cut
 abbrev pub MeansItsCut : Type 0 → Type 0
-MeansItsCut A = (limit : Option ℕ) (s : List ℕ) (gs : List Segment) → IsCut s gs → meaning_within {A = A} limit s ≡ readings_within limit gs
+MeansItsCut A = (limit : Option ℕ) (s : List ℕ) (gs : List Segment) → IsCut s gs
+    → meaning_within {A = A} limit s ≡ readings_within limit gs

@@ -73,8 +73,8 @@ is_left_open _ = false
 abbrev pub whole_text : {A : Type 0} → Value A → List ℕ
 whole_text v = if is_left_open v then value_text v ++ 0x1b ∷ 0x5c ∷ [] else value_text v
 
--- the text of a value in a list, where `follows` says that it comes directly after a string action: there a string
--- terminator is the one that ends this action's text, and adds none
+-- the text of a value in a list, where `follows` says that it comes directly after a string action:
+-- there a string terminator is the one that ends this action's text, and adds none
 abbrev pub text_after : {A : Type 0} → Bool → Value A → List ℕ
 text_after follows v = if is_terminator v && follows then [] else whole_text v
 
@@ -91,8 +91,9 @@ abbrev pub spelled : {A : Type 0} → Value A → List (Value A)
 spelled (string t) = map print (chars t)
 spelled v = v ∷ []
 
--- the normal list: each string of characters as its characters, and a string terminator after each string action that
--- has none directly after it
+-- the normal list: each string of characters as its characters, and a string terminator after each
+-- string action that has none directly after it
 abbrev pub normal : {A : Type 0} → List (Value A) → List (Value A)
 normal [] = []
-normal (v ∷ vs) = spelled v ++ (if is_string v && not (begins_terminator vs) then terminator ∷ [] else []) ++ normal vs
+normal (v ∷ vs) = spelled v ++ (if is_string v && not (begins_terminator vs) then terminator
+    ∷ [] else []) ++ normal vs

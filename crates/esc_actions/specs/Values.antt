@@ -62,8 +62,8 @@ value_of (action.Sixel s) = sixel s
 value_of (action.XtGetTcap ns) = termcap ns
 value_of (action.DeviceControl m) = device_value m
 
--- What is unfinished between two events. It decides what the next one gives: an action that is known only at the end of a
--- string needs all that came of it.
+-- What is unfinished between two events. It decides what the next one gives: an action that is
+-- known only at the end of a string needs all that came of it.
 pub data Mode : Type 0 where
   -- nothing
   plain : Mode
@@ -111,8 +111,8 @@ after m (DcsPut b) = taken m b
 after m DcsUnhook = plain
 after m (ApcDispatch t) = m
 
--- What a header, a byte of data and the end of a string give. An image, a query and a short control are given whole at the end, and
--- only where their data is within the limit: past it none is kept.
+-- What a header, a byte of data and the end of a string give. An image, a query and a short control
+-- are given whole at the end, and only where their data is within the limit: past it none is kept.
 abbrev pub opened_gives : {A : Type 0} → StringKind → ℕ → List ℤ → List ℕ → Bool → List (Value A)
 opened_gives kind.Other f ps is more = enter (enter_of f ps is more) ∷ []
 opened_gives _ f ps is more = []
@@ -123,9 +123,12 @@ taken_gives _ b = []
 
 abbrev pub closed_gives : {A : Type 0} → Option ℕ → Mode → List (Value A)
 closed_gives limit plain = []
-closed_gives limit (in_sixel ps d) = if is_within limit (length d) then sixel (sixel_of ps (items d)) ∷ [] else []
-closed_gives limit (in_termcap d) = if is_within limit (length d) then termcap (names_of d) ∷ [] else []
-closed_gives limit (in_short ps is f d) = if is_within limit (length d) then short (short_of ps is f d) ∷ [] else []
+closed_gives limit (in_sixel ps d) =
+    if is_within limit (length d) then sixel (sixel_of ps (items d)) ∷ [] else []
+closed_gives limit (in_termcap d) =
+    if is_within limit (length d) then termcap (names_of d) ∷ [] else []
+closed_gives limit (in_short ps is f d) =
+    if is_within limit (length d) then short (short_of ps is f d) ∷ [] else []
 closed_gives limit entered = exit ∷ []
 
 -- the one of a list

@@ -20,17 +20,21 @@ use Rattle.esc_actions.specs.Values.{Value, print, string, control, esc, csi, os
 
 -- a C0 but ESC, or a C1 that neither opens nor ends a string or a sequence: 82-8F, 91-97, 9A
 abbrev pub is_lone_control : ℕ → Bool
-is_lone_control b = (nat_lt b 0x20 && not (b == 0x1b)) || ((nat_le 0x82 b && nat_le b 0x8f) || ((nat_le 0x91 b && nat_le b 0x97) || (b == 0x9a)))
+is_lone_control b = (nat_lt b 0x20 && not (b == 0x1b))
+    || ((nat_le 0x82 b && nat_le b 0x8f) || ((nat_le 0x91 b && nat_le b 0x97) || (b == 0x9a)))
 
--- A value that reads back, whatever follows its text: clear characters; a code that stands for itself; an escape
--- sequence or a control sequence whose text is one segment, finished by itself, that gives this one value; a writable
--- command, image, query, short control, header or byte of a mode; the end of a mode.
+-- A value that reads back, whatever follows its text: clear characters; a code that stands for
+-- itself; an escape sequence or a control sequence whose text is one segment, finished by itself,
+-- that gives this one value; a writable command, image, query, short control, header or byte of a
+-- mode; the end of a mode.
 abbrev pub IsWritable : {A : Type 0} → Value A → Type 0
 IsWritable (print c) = is_clear c ≡ true
 IsWritable (string t) = IsClearText t × (t ≢ [])
 IsWritable (control c) = is_lone_control (code_number c) ≡ true
-IsWritable {A = A} (esc e) = (es : List Event) × IsOneSegment (esc_text e) es × (values_from {A = A} None plain es ≡ esc e ∷ [])
-IsWritable {A = A} (csi c) = (es : List Event) × IsOneSegment (csi_text c) es × (values_from {A = A} None plain es ≡ csi c ∷ [])
+IsWritable {A = A} (esc e) = (es : List Event) × IsOneSegment (esc_text e) es
+    × (values_from {A = A} None plain es ≡ esc e ∷ [])
+IsWritable {A = A} (csi c) = (es : List Event) × IsOneSegment (csi_text c) es
+    × (values_from {A = A} None plain es ≡ csi c ∷ [])
 IsWritable (osc c) = IsWritableCommand c
 IsWritable (kitty i) = IsWritableImage i
 IsWritable (sixel s) = IsWritableSixel s
@@ -52,11 +56,12 @@ stays_within (enter e) = true
 stays_within (datum b) = true
 stays_within _ = false
 
--- writable values in groups: the header of a mode, its bytes and its end come one after another; `within` says whether a mode is
--- entered before them
+-- writable values in groups: the header of a mode, its bytes and its end come one after another;
+-- `within` says whether a mode is entered before them
 abbrev pub AreWritableFrom : {A : Type 0} → Bool → List (Value A) → Type 0
 AreWritableFrom within [] = false ≡ within
-AreWritableFrom within (v ∷ vs) = (is_within v ≡ within) × IsWritable v × AreWritableFrom (stays_within v) vs
+AreWritableFrom within (v ∷ vs) = (is_within v ≡ within) × IsWritable v
+    × AreWritableFrom (stays_within v) vs
 
 -- a writable list
 abbrev pub AreWritable : {A : Type 0} → List (Value A) → Type 0
@@ -72,7 +77,8 @@ abbrev pub is_truncated : CsiValue → Bool
 is_truncated (sgr s) = false
 is_truncated (unspecified es more f) = more
 
--- the exceptions: these two; the header of a mode of which intermediates are left out; a byte A0-FF of a mode, and a short control that has one
+-- the exceptions: these two; the header of a mode of which intermediates are left out; a byte A0-FF
+-- of a mode, and a short control that has one
 abbrev pub is_exception : {A : Type 0} → Value A → Bool
 is_exception (esc e) = is_opening e
 is_exception (csi c) = is_truncated c

@@ -35,11 +35,13 @@ pub enum Action<A: Allocator = Global> {
     /// An application program command (ECMA-48, 8.3.2) that is one of kitty's graphics protocol
     /// (<https://sw.kovidgoyal.net/kitty/graphics-protocol/>).
     KittyImage(Boxed<KittyImage<A>, A>),
-    /// A device control string (ECMA-48, 5.6) that is a sixel image (<https://vt100.net/docs/vt3xx-gp/chapter14.html>).
+    /// A device control string (ECMA-48, 5.6) that is a sixel image
+    /// (<https://vt100.net/docs/vt3xx-gp/chapter14.html>).
     Sixel(Boxed<Sixel<A>, A>),
     /// A device control string that asks for the capabilities of these names (xterm's XTGETTCAP).
     XtGetTcap(Items<Text<A>, A>),
-    /// A short device control, or a step of a device control string that enters a mode: its header, a byte of its data, its end.
+    /// A short device control, or a step of a device control string that enters a mode: its header,
+    /// a byte of its data, its end.
     DeviceControl(DeviceControlMode<A>),
 }
 
@@ -107,9 +109,10 @@ impl<A: Allocator> Action<A> {
     }
 }
 
-/// Writes the action as a terminal reads it: a control as the character of its number, a command with the string terminator
-/// that ends it, as a short device control too; an image, a query and the end of a mode without it. It errs only where the
-/// formatter's writer errs, and at a sixel image of which a value is over 63.
+/// Writes the action as a terminal reads it: a control as the character of its number, a command
+/// with the string terminator that ends it, as a short device control too; an image, a query and
+/// the end of a mode without it. It errs only where the formatter's writer errs, and at a sixel
+/// image of which a value is over 63.
 impl<A: Allocator> Display for Action<A> {
     ghost output = { λ a. value_output (value_of a) };
 

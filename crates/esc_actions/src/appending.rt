@@ -11,13 +11,14 @@ use std::alloc::{AllocError, Allocator};
 use std::mem;
 
 impl<A: Allocator + Copy> Action<A> {
-    /// Appends the action to a list. A `Print` directly after a `Print` or a `PrintString` makes one `PrintString` with it, in
-    /// its place.
+    /// Appends the action to a list. A `Print` directly after a `Print` or a `PrintString` makes
+    /// one `PrintString` with it, in its place.
     ///
     /// The error is that memory was refused: the list stays as it was, and the action comes back.
     #[tactic(auto, using(crate::proofs::Appends::pushed_after_others, crate::proofs::Appends::pushed_no_print))]
     pub fn append_to(self, dest: &mut Vec<Action<A>, A>) -> Result<(), Action<A>>
-        ensures appended { OnOk result (map value_of dest.new.items ≡ appended (map value_of dest.old.items) (value_of self)) }
+        ensures appended { OnOk result (map value_of dest.new.items ≡ appended (map value_of dest.old.items)
+            (value_of self)) }
         ensures refused { IfErr result (λ a. (a ≡ self) × (dest.new.items ≡ dest.old.items)) }
         ensures memory_refused { OnErr result (Refused A) }
     {
@@ -41,7 +42,8 @@ impl<A: Allocator + Copy> Action<A> {
         matches!(self, Action::Print(_) | Action::PrintString(_))
     }
 
-    // Appends a character to a character or a string of them. The error is that memory was refused, and it stays as it was.
+    // Appends a character to a character or a string of them. The error is that memory was refused,
+    // and it stays as it was.
     fn push_char(&mut self, alloc: A, c: char) -> Result<(), AllocError>
         requires { is_characters (value_of self.old) ≡ true }
         ensures ok { OnOk result (value_of self.new ∷ [] ≡ joined (value_of self.old) (print c)) }
@@ -71,12 +73,14 @@ fn two_characters<A: Allocator>(alloc: A, first: char, second: char) -> Result<T
     Ok(text)
 }
 
-// Lets a character join the characters at the end of the list, and returns whether there are any. The error is that memory was
-// refused, and the list stays as it was.
+// Lets a character join the characters at the end of the list, and returns whether there are any.
+// The error is that memory was refused, and the list stays as it was.
 #[tactic(auto, using(crate::proofs::Appends::joined_said, crate::proofs::Appends::ends_said))]
 fn join_last<A: Allocator + Copy>(dest: &mut Vec<Action<A>, A>, c: char) -> Result<bool, AllocError>
-    ensures joined { result ≡ Ok true → map value_of dest.new.items ≡ appended (map value_of dest.old.items) (print c) }
-    ensures other { result ≡ Ok false → (dest.new.items ≡ dest.old.items) × (ends_in_characters (map value_of dest.old.items) ≡ false) }
+    ensures joined { result ≡ Ok true
+        → map value_of dest.new.items ≡ appended (map value_of dest.old.items) (print c) }
+    ensures other { result ≡ Ok false → (dest.new.items ≡ dest.old.items)
+        × (ends_in_characters (map value_of dest.old.items) ≡ false) }
     ensures refused { OnErr result (dest.new.items ≡ dest.old.items) }
     ensures memory_refused { OnErr result (Refused A) }
 {

@@ -6,8 +6,8 @@ ghost use Rattle.esc_actions.specs.declared.control_code.ControlCode.{ControlCod
 
 use std::fmt;
 
-/// A control code of the sets C0 and C1 (ECMA-48, 5.2, 5.3 and 8.3), by its name. `as u8` gives its number: 00 to 1F, 82 to
-/// 98 or 9A to 9F, hexadecimal. 80, 81 and 99 have no name.
+/// A control code of the sets C0 and C1 (ECMA-48, 5.2, 5.3 and 8.3), by its name. `as u8` gives its
+/// number: 00 to 1F, 82 to 98 or 9A to 9F, hexadecimal. 80, 81 and 99 have no name.
 #[derive(Clone, Copy, Debug, PartialEq, Eq)]
 pub enum ControlCode {
     /// Null.
@@ -135,7 +135,8 @@ pub enum ControlCode {
 }
 
 impl ControlCode {
-    /// The code with this number, where there is one: none for 80, 81 and 99, and for what is no control.
+    /// The code with this number, where there is one: none for 80, 81 and 99, and for what is no
+    /// control.
     pub fn from_byte(byte: u8) -> Option<ControlCode>
         ensures { result ≡ code_of byte }
     {
@@ -144,7 +145,8 @@ impl ControlCode {
 
     // The same, said code by code.
     fn numbered(byte: u8) -> Option<ControlCode>
-        ensures { MatchOption result ((c : ControlCode) → byte ≢ code_number c) (λ c. byte ≡ code_number c) }
+        ensures { MatchOption result ((c : ControlCode)
+            → byte ≢ code_number c) (λ c. byte ≡ code_number c) }
     {
         match byte {
             0x00 => Some(ControlCode::Null),
@@ -220,8 +222,8 @@ impl ControlCode {
     }
 }
 
-/// Writes the character of the same number, of one byte for C0 and of two for C1. It errs only where the
-/// formatter's writer errs.
+/// Writes the character of the same number, of one byte for C0 and of two for C1. It errs only
+/// where the formatter's writer errs.
 impl fmt::Display for ControlCode {
     ghost output = { λ c. Some (encode_utf8 (code_number c)) };
 

@@ -1,13 +1,15 @@
-//! Laws of streams of actions: a stream means the readings of its one cut, what is written reads back, and what is handed
-//! out can be written. Each holds for every allocator `A`, which the type of the actions names.
-ghost use Rattle.std.specs.Prelude.{◌≡◌, ◌++◌, ◌↔◌, ◌⊎◌, List, ℕ, Option, false};
+//! Laws of streams of actions: a stream means the readings of its one cut, what is written reads
+//! back, and what is handed out can be written. Each holds for every allocator `A`, which the type
+//! of the actions names.
+ghost use Rattle.std.specs.Prelude.{◌≡◌, ◌++◌, ◌↔◌, ◌⊎◌, List, [], ℕ, Option, false};
 ghost use Rattle.std.specs.List.{list_any};
 ghost use Rattle.esc_frame.specs.Stream.{IsAtGround, events_within};
 ghost use Rattle.esc_frame.specs.Counts.{kept_of_cut};
 ghost use Rattle.esc_frame.specs.Segments.{Segment, IsCut};
+ghost use Rattle.esc_actions.specs.Appending.{appended_all, gathered};
 ghost use Rattle.esc_actions.specs.Limited.{IsWithin, data_kept};
 ghost use Rattle.esc_actions.specs.Headline.{Headline};
-ghost use Rattle.esc_actions.specs.Groups.{JoinsGroups, MeansGroups, MeansWritable, ends_within};
+ghost use Rattle.esc_actions.specs.Groups.{JoinsGroups, MeansGroups, MeansWritable, ends_in_mode};
 ghost use Rattle.esc_actions.specs.LowerLaws.{LowerLaws};
 ghost use Rattle.esc_actions.specs.Meaning.{meaning, meaning_within, mode_from, yield_within, Reads};
 ghost use Rattle.esc_actions.specs.Readings.{MeansItsCut};
@@ -18,9 +20,9 @@ ghost use Rattle.esc_actions.specs.Writable.{AreHandedOut, AreWritable, is_excep
 pub use esc_frame::laws::{has_cut, one_cut};
 use std::alloc::Allocator;
 
-/// Everything at once, for every stream: it has exactly one cut; it means the readings of the cut's segments, in order; each
-/// of these values is writable, but for the four exceptions; and where it is the text of a writable list, it means the list's
-/// normal list, which has the same text.
+/// Everything at once, for every stream: it has exactly one cut; it means the readings of the cut's
+/// segments, in order; each of these values is writable, but for the four exceptions; and where it
+/// is the text of a writable list, it means the list's normal list, which has the same text.
 pub fn headline<A: Allocator>()
     ensures { (s : List ℕ) → Headline {A = A} s (meaning s) }
 {
@@ -32,8 +34,8 @@ pub fn headline<A: Allocator>()
     same_text::<A>();
 }
 
-/// A stream means the readings of the segments of its cut, one after another, whatever limit there is: nothing is unfinished
-/// between two segments.
+/// A stream means the readings of the segments of its cut, one after another, whatever limit there
+/// is: nothing is unfinished between two segments.
 pub fn meaning_of_the_cut<A: Allocator>()
     ensures { MeansItsCut A }
 {
@@ -86,7 +88,8 @@ pub fn reads_by_itself<A: Allocator>()
 
 /// So it does under a limit within which all that counts of its segments is.
 pub fn reads_back_within<A: Allocator>()
-    ensures { (limit : Option ℕ) (vs : List (Value A)) → AreWritable vs → IsWithin limit (list_text vs) → meaning_within limit (list_text vs) ≡ normal vs }
+    ensures { (limit : Option ℕ) (vs : List (Value A)) → AreWritable vs
+        → IsWithin limit (list_text vs) → meaning_within limit (list_text vs) ≡ normal vs }
 {
     reads_back::<A>();
     esc_frame::laws::events_once();
@@ -96,7 +99,8 @@ pub fn reads_back_within<A: Allocator>()
 
 /// Of an unfinished segment one thing alone is kept: its text or header, or its data.
 pub fn keeps_once()
-    ensures { (limit : Option ℕ) (s : List ℕ) (gs : List Segment) → IsCut s gs → (kept_of_cut limit gs ≡ 0) ⊎ (data_kept limit s ≡ 0) }
+    ensures { (limit : Option ℕ) (s : List ℕ) (gs : List Segment) → IsCut s gs
+        → (kept_of_cut limit gs ≡ 0) ⊎ (data_kept limit s ≡ 0) }
 {
     esc_frame::laws::events_once_within();
     esc_frame::laws::events_of_the_cut_within();
@@ -110,7 +114,8 @@ pub fn same_text<A: Allocator>()
 
 /// Two writable lists have the same text exactly where they have the same normal list.
 pub fn same_normal<A: Allocator>()
-    ensures { (vs ws : List (Value A)) → AreWritable vs → AreWritable ws → (list_text vs ≡ list_text ws) ↔ (normal vs ≡ normal ws) }
+    ensures { (vs ws : List (Value A)) → AreWritable vs → AreWritable ws
+        → (list_text vs ≡ list_text ws) ↔ (normal vs ≡ normal ws) }
 {
     reads_back::<A>();
 }
@@ -127,9 +132,10 @@ pub fn normal_normal<A: Allocator>()
     ensures { (vs : List (Value A)) → normal (normal vs) ≡ normal vs }
 {}
 
-/// Every value that any stream means, whatever limit there is, is writable, but for an escape sequence without intermediate whose letter opens a string
-/// or a control sequence; a control sequence of which entries were left out; the header of a mode of which intermediates were
-/// left out; and a byte A0 to FF of a mode, or a short control that has one.
+/// Every value that any stream means, whatever limit there is, is writable, but for an escape
+/// sequence without intermediate whose letter opens a string or a control sequence; a control
+/// sequence of which entries were left out; the header of a mode of which intermediates were left
+/// out; and a byte A0 to FF of a mode, or a short control that has one.
 pub fn handed_out<A: Allocator>()
     ensures { (limit : Option ℕ) (s : List ℕ) → AreHandedOut {A = A} (meaning_within limit s) }
 {
@@ -146,12 +152,15 @@ pub fn yield_handed_out<A: Allocator>()
 /// What calls hand out one after another is the meaning of what they were fed, joined.
 #[tactic(auto, using(crate::proofs::Meanings::meaning_more))]
 pub fn meaning_of_more<A: Allocator>()
-    ensures { (limit : Option ℕ) (s b : List ℕ) → meaning_within {A = A} limit s ++ yield_within limit s b ≡ meaning_within limit (s ++ b) }
+    ensures { (limit : Option ℕ) (s b : List ℕ)
+        → meaning_within {A = A} limit s ++ yield_within limit s b
+        ≡ meaning_within limit (s ++ b) }
 {}
 
 /// Where no segment of a stream is unfinished, nothing is unfinished of its actions.
 pub fn plain_at_ground()
-    ensures { (limit : Option ℕ) (s : List ℕ) → IsAtGround s → mode_from plain (events_within limit s) ≡ plain }
+    ensures { (limit : Option ℕ) (s : List ℕ) → IsAtGround s
+        → mode_from plain (events_within limit s) ≡ plain }
 {
     esc_frame::laws::events_once_within();
     esc_frame::laws::events_of_the_cut_within();
@@ -179,15 +188,27 @@ pub fn means_writable<A: Allocator>()
 
 /// Where a stream means a writable list, the text of this list means a list with the same text.
 pub fn normal_once<A: Allocator>()
-    ensures { (s : List ℕ) → AreWritable {A = A} (meaning s) → list_text (meaning {A = A} (list_text (meaning {A = A} s))) ≡ list_text (meaning {A = A} s) }
+    ensures { (s : List ℕ) → AreWritable {A = A} (meaning s)
+        → list_text (meaning {A = A} (list_text (meaning {A = A} s)))
+        ≡ list_text (meaning {A = A} s) }
 {
     reads_back::<A>();
 }
 
 /// So normalising is idempotent where none of the four occurs and no mode is unfinished.
 pub fn normal_is_idempotent<A: Allocator>()
-    ensures { (s : List ℕ) → list_any is_exception (meaning {A = A} s) ≡ false → ends_within s ≡ false → list_text (meaning {A = A} (list_text (meaning {A = A} s))) ≡ list_text (meaning {A = A} s) }
+    ensures { (s : List ℕ) → list_any is_exception (meaning {A = A} s) ≡ false
+        → ends_in_mode s ≡ false
+        → list_text (meaning {A = A} (list_text (meaning {A = A} s)))
+        ≡ list_text (meaning {A = A} s) }
 {
     means_writable::<A>();
     normal_once::<A>();
 }
+
+/// Actions that are appended to an empty list one by one, as
+/// [`Action::append_to`](crate::Action::append_to) appends each, make the list in which each run of
+/// characters is one string.
+pub fn appended_one_by_one<A: Allocator>()
+    ensures { (vs : List (Value A)) → appended_all [] vs ≡ gathered vs }
+{}

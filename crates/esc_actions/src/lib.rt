@@ -1,7 +1,9 @@
-//! Actions of a terminal: what pieces of a stream ask it to do, their texts, and the laws of what streams mean.
+//! Actions of a terminal: what pieces of a stream ask it to do, their texts, and the laws of what
+//! streams mean.
 //!
-//! An [`Action`] is a value with a text. The specifications of this crate say what a stream of bytes means, as a list of such
-//! values, and what the text of a list is; its [`laws`] say how the two fit. `esc_parse` reads, and `esc_write` writes.
+//! An [`Action`] is a value with a text. The specifications of this crate say what a stream of
+//! bytes means, as a list of such values, and what the text of a list is; its [`laws`] say how the
+//! two fit. `esc_parse` reads, and `esc_write` writes.
 #![tactic(auto)]
 
 mod action;

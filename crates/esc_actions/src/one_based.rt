@@ -8,8 +8,8 @@ use esc_values::CsiParam;
 use std::fmt;
 use std::num::NonZeroU32;
 
-/// A line or a column as terminals count them, from 1 (ECMA-48, 5.4.2: an empty or a zero parameter stands for the default
-/// value, which is 1 for a coordinate).
+/// A line or a column as terminals count them, from 1 (ECMA-48, 5.4.2: an empty or a zero parameter
+/// stands for the default value, which is 1 for a coordinate).
 #[derive(Clone, Copy, Debug, PartialEq, Eq)]
 pub struct OneBased {
     value: NonZeroU32,
@@ -34,8 +34,8 @@ impl OneBased {
         OneBased::new(value + 1)
     }
 
-    /// The coordinate that a parameter names, where 0 names the first. The error is that the parameter is no number from 0 to
-    /// `u32::MAX`.
+    /// The coordinate that a parameter names, where 0 names the first. The error is that the
+    /// parameter is no number from 0 to `u32::MAX`.
     pub fn from_esc_param(param: &CsiParam) -> Result<OneBased, ()>
         ensures ok { IfOk result (λ o. coordinate 1 param.now ≡ Some (one_based o)) }
         ensures err { OnErr result (coordinate 1 param.now ≡ None) }
@@ -43,8 +43,8 @@ impl OneBased {
         OneBased::from_param(param, 1)
     }
 
-    /// The coordinate that a parameter names, where 0 names the last, `u32::MAX`. The error is that the parameter is no
-    /// number from 0 to `u32::MAX`.
+    /// The coordinate that a parameter names, where 0 names the last, `u32::MAX`. The error is that
+    /// the parameter is no number from 0 to `u32::MAX`.
     pub fn from_esc_param_with_big_default(param: &CsiParam) -> Result<OneBased, ()>
         ensures ok { IfOk result (λ o. coordinate (2 ^ 32 - 1) param.now ≡ Some (one_based o)) }
         ensures err { OnErr result (coordinate (2 ^ 32 - 1) param.now ≡ None) }
@@ -52,11 +52,13 @@ impl OneBased {
         OneBased::from_param(param, u32::MAX)
     }
 
-    /// The coordinate that a parameter names, where 0 and no parameter name the first. The error is that the parameter is no
-    /// number from 0 to `u32::MAX`.
+    /// The coordinate that a parameter names, where 0 and no parameter name the first. The error is
+    /// that the parameter is no number from 0 to `u32::MAX`.
     pub fn from_optional_esc_param(param: Option<&CsiParam>) -> Result<OneBased, ()>
-        ensures ok { IfOk result (λ o. optional_coordinate (option_map (λ p. p.now) param.entry) ≡ Some (one_based o)) }
-        ensures err { OnErr result (optional_coordinate (option_map (λ p. p.now) param.entry) ≡ None) }
+        ensures ok { IfOk result (λ o. optional_coordinate (option_map (λ p. p.now) param.entry)
+            ≡ Some (one_based o)) }
+        ensures err { OnErr result (optional_coordinate (option_map (λ p. p.now) param.entry)
+            ≡ None) }
     {
         match param {
             Some(param) => OneBased::from_param(param, 1),
@@ -95,7 +97,8 @@ impl OneBased {
     }
 }
 
-/// Writes its number, where 1 is the first, in decimal. It errs only where the formatter's writer errs.
+/// Writes its number, where 1 is the first, in decimal. It errs only where the formatter's writer
+/// errs.
 impl fmt::Display for OneBased {
     ghost output = { λ o. Some (decimal (one_based o)) };
 

@@ -8,6 +8,7 @@ returns-in-Ok-clause-appended g c =
     let was = c.args.dest.now.items in
     let now = c.push.new.vec.items in
     elim c.match-self.branch [
-      | in-Print+in-Ok-false w ↦ pushed_after_others was now c.args.self (search rules) (search rules)
+      | in-Print+in-Ok-false w ↦ pushed_after_others was now c.args.self (search rules)
+          (search rules)
       | in_default w ↦ pushed_no_print was now c.args.self (search rules) (search rules)
     ]
