@@ -3,6 +3,7 @@ use crate::call::{Call, shown};
 use crate::fault::Fault;
 use crate::readings::in_pieces;
 use crate::segments::of_segments;
+use crate::spelled::spelled;
 use crate::stream::Stream;
 use escape_stream::{
     Collect, ParseError, Parser, Watched, encode, is_normal, normalise, parse_pieces,
@@ -21,6 +22,8 @@ pub enum Asked {
     Halves,
     /// `read_segment` of each segment of a stream.
     Segments,
+    /// A sink that spells the actions of a stream, which takes one after another.
+    Spelled,
     /// `encode` of the actions of a stream.
     Text,
     /// `normalise` of a stream.
@@ -33,13 +36,14 @@ const MOST_REQUESTS: u64 = 10_000;
 
 impl Asked {
     /// All that takes memory.
-    pub const ALL: [Asked; 9] = [
+    pub const ALL: [Asked; 10] = [
         Asked::Parser(Call::List),
         Asked::Parser(Call::First),
         Asked::Parser(Call::Prefix),
         Asked::Sink,
         Asked::Halves,
         Asked::Segments,
+        Asked::Spelled,
         Asked::Text,
         Asked::Normal,
         Asked::Verdict,
@@ -53,14 +57,14 @@ impl Asked {
             }
             Asked::Parser(Call::First) => begins_with_a_string(stream.actions),
             Asked::Parser(Call::Prefix) => stream.actions != "[]" && stream.is_finished,
-            Asked::Text | Asked::Normal => !stream.text.is_empty(),
+            Asked::Spelled | Asked::Text | Asked::Normal => !stream.text.is_empty(),
             Asked::Verdict => !stream.bytes.is_empty(),
         }
     }
 
-    /// Asks with the first request refused, then with the second, and so on, until no request meets the refusal. A refusal that
-    /// a call gets by, as that of a growth that is only a hint, leaves its result as it is; any other makes it an error. Returns
-    /// how many were errors.
+    /// Asks with the first request refused, then with the second, and so on, until no request meets
+    /// the refusal. A refusal that a call gets by, as that of a growth that is only a hint, leaves
+    /// its result as it is; any other makes it an error. Returns how many were errors.
     pub fn refuse_each(self, alloc: Global, stream: &[u8]) -> Result<usize, Fault> {
         let heap = Refusing::new(alloc);
         let wanted = self.result(alloc, &heap, 0, stream)?;
@@ -93,6 +97,7 @@ impl Asked {
             Asked::Sink => given(alloc, heap, at, stream),
             Asked::Halves => read_in_halves(alloc, heap, at, stream),
             Asked::Segments => read_by_segments(alloc, heap, at, stream),
+            Asked::Spelled => spelled(alloc, heap, at, stream),
             Asked::Text => written(alloc, heap, at, stream),
             Asked::Normal => normalised(alloc, heap, at, stream),
             Asked::Verdict => judged(alloc, heap, at, stream),
@@ -137,7 +142,8 @@ fn has_failed<A: Allocator + Copy>(alloc: Global, parser: &mut Parser<A>) -> Res
     Ok(true)
 }
 
-// The Debug text of the actions that a sink is given, or of the error. Before an error a prefix of the stream's actions is given.
+// The Debug text of the actions that a sink is given, or of the error. Before an error a prefix of
+// the stream's actions is given.
 fn given(alloc: Global, heap: &Refusing<Global>, at: u64, stream: &[u8]) -> Result<String, Fault> {
     let all = in_pieces(alloc, &[stream])?;
     heap.refuse_at(at);
@@ -199,7 +205,8 @@ fn written(
     Ok(shown(alloc, encode(heap, &actions))?)
 }
 
-// The Debug text of what `normalise` returns, and of what it writes. Where it returns an error, it writes nothing.
+// The Debug text of what `normalise` returns, and of what it writes. Where it returns an error, it
+// writes nothing.
 fn normalised(
     alloc: Global,
     heap: &Refusing<Global>,

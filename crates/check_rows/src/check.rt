@@ -29,8 +29,8 @@ pub fn check_table(alloc: Global, table: &str) -> Result<Report, AllocError> {
     Ok(report)
 }
 
-// A row is a stream, or one that is read under a limit or filtered, the parts of a command, calls of one parser, streams of several
-// lengths, or streams that are made from numbers.
+// A row is a stream, or one that is read under a limit or filtered, the parts of a command, calls
+// of one parser, streams of several lengths, or streams that are made from numbers.
 fn check_row(alloc: Global, row: Row, report: &mut Report) -> Result<(), Fault> {
     if row.has("limit")? {
         check_limited(alloc, row, report)
@@ -51,7 +51,8 @@ fn check_row(alloc: Global, row: Row, report: &mut Report) -> Result<(), Fault> 
     }
 }
 
-// The bytes of a stream, its actions, and what is written of them: as it came, where the row has no text.
+// The bytes of a stream, its actions, and what is written of them: as it came, where the row has no
+// text.
 fn check_stream(alloc: Global, row: Row, report: &mut Report) -> Result<(), Fault> {
     let word = if row.has("text")? { "text" } else { "stream" };
     let is_finished = !row.has("unfinished")?;

@@ -22,8 +22,9 @@ const POLICIES: [(Policy, &str); 4] = [
     (Policy::All, "as-all"),
 ];
 
-/// What each policy lets through of a stream, read whole and byte by byte, and that it is flushed; and what is written of it where a
-/// read, a write or a request for memory fails, at each of them in turn.
+/// What each policy lets through of a stream, read whole and byte by byte, and that it is flushed;
+/// and what is written of it where a read, a write or a request for memory fails, at each of them
+/// in turn.
 pub fn check_filtered(alloc: Global, row: Row, report: &mut Report) -> Result<(), Fault> {
     let bytes = row.bytes(alloc, "stream")?;
     let stream = bytes.as_slice();

@@ -7,8 +7,8 @@ use crate::segments::is_read_alike;
 use escape_stream::{Action, Parser, Watched, is_normal_limited, normalise_limited};
 use std::alloc::Global;
 
-// A stream, the limit that it is read under, the Debug text of the list of its actions, what is written of them, and how many
-// bytes are kept after it.
+// A stream, the limit that it is read under, the Debug text of the list of its actions, what is
+// written of them, and how many bytes are kept after it.
 #[derive(Clone, Copy)]
 struct Limited<'a> {
     name: &'a str,
@@ -19,8 +19,8 @@ struct Limited<'a> {
     text: &'a str,
 }
 
-/// The actions of a stream under the limit of the row, however it is cut; what is written of them; and how many bytes are kept after
-/// it.
+/// The actions of a stream under the limit of the row, however it is cut; what is written of them;
+/// and how many bytes are kept after it.
 pub fn check_limited(alloc: Global, row: Row, report: &mut Report) -> Result<(), Fault> {
     let limit = row.number(alloc, "limit")?;
     let keeps = row.number(alloc, "keeps")?;

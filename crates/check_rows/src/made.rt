@@ -1,4 +1,5 @@
-//! Streams that are made from numbers, and two ways to read each: a parser, and the segments of the stream, each by itself.
+//! Streams that are made from numbers, and two ways to read each: a parser, and the segments of the
+//! stream, each by itself.
 use crate::fault::Fault;
 use crate::noise::make_stream;
 use crate::random::Random;
@@ -12,7 +13,8 @@ use std::alloc::{AllocError, Global};
 // How many bytes more than one a piece has at most.
 const LONGEST: u8 = 11;
 
-/// Notes the first of the streams of a row whose readings differ, with the number that it is made from.
+/// Notes the first of the streams of a row whose readings differ, with the number that it is made
+/// from.
 pub fn check_made(alloc: Global, row: Row, report: &mut Report) -> Result<(), Fault> {
     let first = row.number(alloc, "seed")? as u64;
     let count = row.number(alloc, "count")? as u64;

@@ -1,8 +1,9 @@
 //! Checks tables of streams: what each stream means, and how that is written.
 //!
-//! `check_rows TABLE..` reads each table, a text file of rows, and prints a line with its name and the count of its rows, and
-//! below it a line for each way in which a row differs from what the library does. The status is 1 where one differs.
-//! `docs/DEVELOPING.md` has the form of a row. `check_rows -` shows the actions of standard input, a line of a row for each.
+//! `check_rows TABLE..` reads each table, a text file of rows, and prints a line with its name and
+//! the count of its rows, and below it a line for each way in which a row differs from what the
+//! library does. The status is 1 where one differs. `docs/DEVELOPING.md` has the form of a row.
+//! `check_rows -` shows the actions of standard input, a line of a row for each.
 #![tactic(auto)]
 
 mod asked;
@@ -20,6 +21,7 @@ mod readings;
 mod report;
 mod row;
 mod segments;
+mod spelled;
 mod spellings;
 mod steps;
 mod stream;

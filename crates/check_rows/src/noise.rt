@@ -2,7 +2,8 @@
 use crate::random::Random;
 use std::alloc::{AllocError, Global};
 
-// What streams are made of, beside bytes by themselves: openers, ends, and what strings and sequences hold.
+// What streams are made of, beside bytes by themselves: openers, ends, and what strings and
+// sequences hold.
 const PIECES: [&[u8]; 96] = [
     b"\x1b",
     b"\x1b[",

@@ -1,7 +1,7 @@
 //! Numbers that a seed fixes.
 
-/// A generator of numbers, SplitMix64 of Steele, Lea and Flood (<https://doi.org/10.1145/2660193.2660195>): the same seed gives the
-/// same numbers everywhere.
+/// A generator of numbers, SplitMix64 of Steele, Lea and Flood
+/// (<https://doi.org/10.1145/2660193.2660195>): the same seed gives the same numbers everywhere.
 #[derive(Clone, Copy)]
 pub struct Random {
     state: u64,

@@ -100,7 +100,8 @@ pub fn first_actions(alloc: Global, stream: &[u8]) -> Result<String, Fault> {
     Err(Fault("more prefixes than bytes"))
 }
 
-// Appends where the prefix after this place ends that a call took, and the Debug text of its action. None where there is none.
+// Appends where the prefix after this place ends that a call took, and the Debug text of its
+// action. None where there is none.
 fn show_first<T: Debug + Drop>(
     shown: &mut String,
     start: usize,

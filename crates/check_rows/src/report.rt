@@ -29,7 +29,8 @@ impl Report {
         writeln!(self.lines, "  {row}: {fault}")
     }
 
-    /// Notes a difference, where what the library gives is not the wanted text. Of a long text the beginning is shown.
+    /// Notes a difference, where what the library gives is not the wanted text. Of a long text the
+    /// beginning is shown.
     pub fn expect(
         &mut self,
         row: &str,

@@ -127,8 +127,8 @@ pub fn parts_of(alloc: Global, text: &[u8]) -> Result<Vec<&[u8]>, Fault> {
     Ok(parts)
 }
 
-/// The bytes that a text stands for: `\xNN` is the byte of two hexadecimal digits, `\\` is `\`, and any other character is
-/// itself, in UTF-8.
+/// The bytes that a text stands for: `\xNN` is the byte of two hexadecimal digits, `\\` is `\`, and
+/// any other character is itself, in UTF-8.
 pub fn unescaped(alloc: Global, text: &str) -> Result<Vec<u8>, Fault> {
     let mut bytes = Vec::new(alloc);
     let mut reading = Escape::None;

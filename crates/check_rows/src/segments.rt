@@ -4,7 +4,8 @@ use crate::readings::{listed, shown};
 use escape_stream::{Action, ParseError, Parser, Segments, read_segment};
 use std::alloc::{AllocError, Allocator, Global};
 
-// What may come after bytes: nothing, or a byte that ends what is unfinished, opens a string or belongs to neither.
+// What may come after bytes: nothing, or a byte that ends what is unfinished, opens a string or
+// belongs to neither.
 const NEXT: [&[u8]; 8] = [
     b"", b"\x18", b"\x1a", b"\x1b", b"\x9c", b"\x9b", b"\x90", b"\xff",
 ];
@@ -15,8 +16,8 @@ pub fn by_segments(alloc: Global, stream: &[u8]) -> Result<String, Fault> {
     shown(alloc, Ok(actions))
 }
 
-/// Whether a parser hands out the actions of the segments, of these bytes and of these with one byte after them, whole and byte by
-/// byte.
+/// Whether a parser hands out the actions of the segments, of these bytes and of these with one
+/// byte after them, whole and byte by byte.
 pub fn is_read_alike(alloc: Global, bytes: &[u8]) -> Result<bool, Fault> {
     let mut stream = Vec::new(alloc);
     for next in NEXT {

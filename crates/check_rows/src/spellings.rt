@@ -62,7 +62,8 @@ pub fn is_displayed(alloc: Global, stream: &[u8], text: &str) -> Result<bool, Fa
     Ok(rest.is_empty() || rest == TERMINATOR)
 }
 
-// What is after the text of an action, before which a terminator may stand. A terminator may be left out.
+// What is after the text of an action, before which a terminator may stand. A terminator may be
+// left out.
 fn skip<'a>(text: &'a [u8], shown: &[u8]) -> Option<&'a [u8]> {
     if let Some(after) = text.strip_prefix(shown) {
         return Some(after);
@@ -73,7 +74,8 @@ fn skip<'a>(text: &'a [u8], shown: &[u8]) -> Option<&'a [u8]> {
     text.strip_prefix(TERMINATOR)?.strip_prefix(shown)
 }
 
-/// The Debug text of a list of the command that these parts are, between which `;` is, and its Display text.
+/// The Debug text of a list of the command that these parts are, between which `;` is, and its
+/// Display text.
 pub fn command_of(alloc: Global, text: &[u8]) -> Result<String, Fault> {
     let parts = parts_of(alloc, text)?;
     both(

@@ -20,7 +20,8 @@ pub fn check_steps(alloc: Global, row: Row, report: &mut Report) -> Result<(), F
     Ok(())
 }
 
-// Makes the call of a line, or compares what the one before it returned. Returns the Debug text that the next line has to give.
+// Makes the call of a line, or compares what the one before it returned. Returns the Debug text
+// that the next line has to give.
 fn step(
     alloc: Global,
     name: &str,

@@ -7,8 +7,8 @@ use crate::segments::{by_segments, is_read_alike};
 use crate::spellings::{encoded, encoded_bytes, is_displayed, normalised};
 use std::alloc::Global;
 
-/// A stream, the Debug text of the list of its actions, the text that `encode` writes for these, and whether its last segment is
-/// finished.
+/// A stream, the Debug text of the list of its actions, the text that `encode` writes for these,
+/// and whether its last segment is finished.
 #[derive(Clone, Copy)]
 pub struct Stream<'a> {
     pub name: &'a str,
@@ -77,7 +77,8 @@ impl Stream<'_> {
         }
     }
 
-    // Segment by segment; and each prefix, the stream itself too, both ways, also with a byte after it.
+    // Segment by segment; and each prefix, the stream itself too, both ways, also with a byte after
+    // it.
     fn check_segments(&self, alloc: Global, report: &mut Report) -> Result<(), Fault> {
         let got = by_segments(alloc, self.bytes);
         self.has_actions("read by segments", got, report)?;
