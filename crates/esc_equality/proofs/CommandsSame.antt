@@ -6,12 +6,12 @@ use mir.Syntax.{Dict}
 use Rattle.std.proofs.Common.{rules, ap, refl}
 use Rattle.esc_osc.specs.declared.command.OperatingSystemCommand.{OperatingSystemCommand}
 use Rattle.esc_osc.specs.declared.command.OperatingSystemCommand.TheVariants as command
-use Rattle.esc_osc.specs.contracts.change_color_pair.ChangeColorPairPartialEq.TheImpl as color_pair
-use Rattle.esc_osc.specs.contracts.color_or_query.ColorOrQueryPartialEq.TheImpl as color
+use Rattle.esc_osc_values.specs.contracts.change_color_pair.ChangeColorPairPartialEq.TheImpl as color_pair
+use Rattle.esc_osc_values.specs.contracts.color_or_query.ColorOrQueryPartialEq.TheImpl as color
 use Rattle.esc_osc.specs.contracts.command.OperatingSystemCommandPartialEq.TheImpl as command_eq
-use Rattle.esc_osc.specs.contracts.dynamic_color_number.DynamicColorNumberPartialEq.TheImpl as dynamic
-use Rattle.esc_osc.specs.contracts.progress.ProgressPartialEq.TheImpl as progress
-use Rattle.esc_osc.specs.contracts.selection.SelectionPartialEq.TheImpl as selection
+use Rattle.esc_osc_values.specs.contracts.dynamic_color_number.DynamicColorNumberPartialEq.TheImpl as dynamic
+use Rattle.esc_osc_values.specs.contracts.progress.ProgressPartialEq.TheImpl as progress
+use Rattle.esc_osc_values.specs.contracts.selection.SelectionPartialEq.TheImpl as selection
 use Rattle.esc_links.specs.declared.hyperlink.Hyperlink.{Hyperlink}
 use Rattle.esc_prompts.specs.contracts.prompt.FinalTermSemanticPromptPartialEq.TheImpl as prompt
 use Rattle.std.specs.Cmp.Lexicographic.{pointwise}

@@ -14,18 +14,19 @@ use Rattle.std.proofs.lemmas.Str.{IsUtf8-from_ascii, is_utf8-from_IsUtf8, utf8_l
 use Rattle.esc_values.specs.Clear.{parts_of}
 use Rattle.esc_values.specs.Base64.{base64_text_of}
 use Rattle.esc_values.specs.Scalars.{and_then}
-use Rattle.esc_osc.proofs.Codes.{code_name_digit, code_of_text}
-use Rattle.esc_osc.specs.Codes.{changed_by, code_name, code_of, reset_by}
-use Rattle.esc_osc.specs.Colors.{colors_of}
-use Rattle.esc_osc.specs.Progresses.{progress_of}
-use Rattle.esc_osc.specs.Reading.{content_of, dynamic, lone_text, meaning, named, notified, reading, selected, selection}
-use Rattle.esc_osc.specs.Selections.{selection_of}
-use Rattle.esc_osc.specs.declared.code.OperatingSystemCommandCode.{OperatingSystemCommandCode}
-use Rattle.esc_osc.specs.declared.code.OperatingSystemCommandCode.TheVariants as code
+use Rattle.esc_osc_values.proofs.Codes.{code_name_digit, code_of_text}
+use Rattle.esc_osc_values.specs.Codes.{changed_by, code_name, code_of, reset_by}
+use Rattle.esc_osc_values.specs.Colors.{colors_of}
+use Rattle.esc_osc_values.specs.Progresses.{progress_of}
+use Rattle.esc_osc.specs.Reading.{content_of, dynamic, meaning, named, notified, reading, selected}
+use Rattle.esc_osc_values.specs.Lists.{lone_text}
+use Rattle.esc_osc_values.specs.Selections.{selection, selection_of}
+use Rattle.esc_osc_values.specs.declared.code.OperatingSystemCommandCode.{OperatingSystemCommandCode}
+use Rattle.esc_osc_values.specs.declared.code.OperatingSystemCommandCode.TheVariants as code
 use Rattle.esc_osc.specs.declared.command.OperatingSystemCommand.{OperatingSystemCommand}
 use Rattle.esc_osc.specs.declared.command.OperatingSystemCommand.TheVariants as command
-use Rattle.esc_osc.specs.declared.dynamic_color_number.DynamicColorNumber.{DynamicColorNumber}
-use Rattle.esc_osc.specs.declared.progress.Progress.{Progress}
+use Rattle.esc_osc_values.specs.declared.dynamic_color_number.DynamicColorNumber.{DynamicColorNumber}
+use Rattle.esc_osc_values.specs.declared.progress.Progress.{Progress}
 use Rattle.esc_write.specs.Plain.{IsPlainLink}
 use Rattle.esc_filter.specs.Rules.{BeginsOther, is_link}
 

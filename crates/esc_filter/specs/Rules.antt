@@ -8,9 +8,9 @@ use Rattle.esc_values.specs.declared.csi_param.CsiParam.TheVariants.{Integer, P}
 use Rattle.esc_sequences.specs.declared.esc.Esc.{Esc}
 use Rattle.esc_sequences.specs.declared.esc.Esc.TheVariants as esc_variant
 use Rattle.esc_sequences.specs.declared.esc_code.EscCode.TheVariants as esc_code
-use Rattle.esc_osc.specs.declared.change_color_pair.ChangeColorPair.{ChangeColorPair}
-use Rattle.esc_osc.specs.declared.color_or_query.ColorOrQuery.{ColorOrQuery}
-use Rattle.esc_osc.specs.declared.color_or_query.ColorOrQuery.TheVariants as color
+use Rattle.esc_osc_values.specs.declared.change_color_pair.ChangeColorPair.{ChangeColorPair}
+use Rattle.esc_osc_values.specs.declared.color_or_query.ColorOrQuery.{ColorOrQuery}
+use Rattle.esc_osc_values.specs.declared.color_or_query.ColorOrQuery.TheVariants as color
 use Rattle.esc_osc.specs.declared.command.OperatingSystemCommand.{OperatingSystemCommand}
 use Rattle.esc_osc.specs.declared.command.OperatingSystemCommand.TheVariants as command
 use Rattle.esc_actions.specs.ControlCodes.{code_number}

@@ -1,14 +1,14 @@
 -- Dynamic colours, and the codes that change and reset them.
 use Rattle.std.proofs.Common.{◌≡◌, ◌≢◌, ℕ, List, Some, refl}
 use Rattle.std.specs.Option.{option_map}
-use Rattle.esc_osc.specs.Codes.{changed_by, reset_by, change_code, reset_code}
-use Rattle.esc_osc.specs.Colors.{colors_of}
+use Rattle.esc_osc_values.specs.Codes.{changed_by, reset_by, change_code, reset_code}
+use Rattle.esc_osc_values.specs.Colors.{colors_of}
 use Rattle.esc_osc.specs.Reading.{reading, dynamic}
-use Rattle.esc_osc.specs.declared.code.OperatingSystemCommandCode.{OperatingSystemCommandCode}
-use Rattle.esc_osc.specs.declared.code.OperatingSystemCommandCode.TheVariants as code
+use Rattle.esc_osc_values.specs.declared.code.OperatingSystemCommandCode.{OperatingSystemCommandCode}
+use Rattle.esc_osc_values.specs.declared.code.OperatingSystemCommandCode.TheVariants as code
 use Rattle.esc_osc.specs.declared.command.OperatingSystemCommand.TheVariants as command
-use Rattle.esc_osc.specs.declared.dynamic_color_number.DynamicColorNumber.{DynamicColorNumber}
-use Rattle.esc_osc.specs.declared.dynamic_color_number.DynamicColorNumber.TheVariants as color
+use Rattle.esc_osc_values.specs.declared.dynamic_color_number.DynamicColorNumber.{DynamicColorNumber}
+use Rattle.esc_osc_values.specs.declared.dynamic_color_number.DynamicColorNumber.TheVariants as color
 
 -- a code that has no line of its own
 pub other_reads : (A : Type 0) (c : OperatingSystemCommandCode) (t : List ℕ) (args : List (List ℕ))

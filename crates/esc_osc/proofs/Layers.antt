@@ -17,10 +17,10 @@ use Rattle.esc_prompts.specs.declared.prompt.FinalTermSemanticPrompt.{FinalTermS
 use Rattle.esc_prompts.proofs.ClearArgs as prompts_clear
 use Rattle.esc_prompts.proofs.ReadsBack as prompts_back
 use Rattle.esc_osc.proofs.Written.{Written, code_means}
-use Rattle.esc_osc.specs.Codes.{code_text}
+use Rattle.esc_osc_values.specs.Codes.{code_text}
 use Rattle.esc_osc.specs.Reading.{meaning}
 use Rattle.esc_osc.specs.Writable.{IsWritable}
-use Rattle.esc_osc.specs.declared.code.OperatingSystemCommandCode.TheVariants as code
+use Rattle.esc_osc_values.specs.declared.code.OperatingSystemCommandCode.TheVariants as code
 use Rattle.esc_osc.specs.declared.command.OperatingSystemCommand.{OperatingSystemCommand}
 use Rattle.esc_osc.specs.declared.command.OperatingSystemCommand.TheVariants as command
 

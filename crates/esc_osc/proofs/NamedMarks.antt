@@ -10,7 +10,7 @@ use Rattle.esc_values.proofs.PlainParts.{plain_part}
 use Rattle.esc_values.specs.Clear.{framed}
 use Rattle.esc_osc.specs.Commands.{command_text}
 use Rattle.esc_osc.specs.Reading.{reading}
-use Rattle.esc_osc.specs.declared.code.OperatingSystemCommandCode.TheVariants as code
+use Rattle.esc_osc_values.specs.declared.code.OperatingSystemCommandCode.TheVariants as code
 
 key_utf8 : is_utf8 (codes "aid") ≡ true
 key_utf8 = is_utf8-from_IsUtf8 (codes "aid") (part_utf8 (codes "aid") (plain_part (codes "aid") refl))

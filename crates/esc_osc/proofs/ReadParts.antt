@@ -13,23 +13,26 @@ use Rattle.esc_values.specs.Clear.{IsClearText, IsClearPart, AreClearParts, AreT
 use Rattle.esc_values.specs.Scalars.{and_then, utf8_of}
 use Rattle.esc_values.proofs.Split.{joined_clear}
 use Rattle.esc_values.proofs.ClearTexts.{part_lossy, parts_lossy, tail_part}
-use Rattle.esc_osc.proofs.Codes.{code_of_text}
-use Rattle.esc_osc.proofs.Fits.{numbers_where, colors_where, pairs_where, progress_where}
+use Rattle.esc_osc_values.proofs.Codes.{code_of_text}
+use Rattle.esc_osc_values.proofs.Fits.{numbers_where, colors_where, pairs_where, progress_where}
 use Rattle.esc_osc.proofs.Layers.{Good, prompt_good, iterm_good, link_good}
-use Rattle.esc_osc.proofs.Selections.{selection_named}
+use Rattle.esc_osc_values.proofs.Selections.{selection_named}
 use Rattle.esc_values.proofs.Where.{Where, where_map, where_then, utf8_keeps, content_where}
-use Rattle.esc_osc.specs.Codes.{code_of, code_name, code_text, changed_by, reset_by}
-use Rattle.esc_osc.specs.Colors.{colors_of, pairs_of}
-use Rattle.esc_osc.specs.Progresses.{progress_of}
-use Rattle.esc_osc.specs.Reading.{meaning, fitting, reading, title_of, lone_text, numbers_of, selection, selected, notified, dynamic}
-use Rattle.esc_osc.specs.Selections.{selection_of}
-use Rattle.esc_osc.specs.Writable.{IsWritable, AreNumbers, AreColors, ArePairs, IsNamed, IsProgress}
-use Rattle.esc_osc.specs.declared.code.OperatingSystemCommandCode.{OperatingSystemCommandCode}
-use Rattle.esc_osc.specs.declared.code.OperatingSystemCommandCode.TheVariants as code
+use Rattle.esc_osc_values.specs.Codes.{code_of, code_name, code_text, changed_by, reset_by}
+use Rattle.esc_osc_values.specs.Colors.{colors_of, pairs_of}
+use Rattle.esc_osc_values.specs.Progresses.{progress_of}
+use Rattle.esc_osc.specs.Reading.{meaning, fitting, reading, selected, notified, dynamic}
+use Rattle.esc_osc_values.specs.Lists.{title_of, lone_text, numbers_of}
+use Rattle.esc_osc_values.specs.Selections.{selection}
+use Rattle.esc_osc_values.specs.Selections.{selection_of}
+use Rattle.esc_osc.specs.Writable.{IsWritable}
+use Rattle.esc_osc_values.specs.WritableValues.{AreNumbers, AreColors, ArePairs, IsNamed, IsProgress}
+use Rattle.esc_osc_values.specs.declared.code.OperatingSystemCommandCode.{OperatingSystemCommandCode}
+use Rattle.esc_osc_values.specs.declared.code.OperatingSystemCommandCode.TheVariants as code
 use Rattle.esc_osc.specs.declared.command.OperatingSystemCommand.{OperatingSystemCommand}
 use Rattle.esc_osc.specs.declared.command.OperatingSystemCommand.TheVariants as command
-use Rattle.esc_osc.specs.declared.dynamic_color_number.DynamicColorNumber.{DynamicColorNumber}
-use Rattle.esc_osc.specs.declared.progress.Progress.{Progress}
+use Rattle.esc_osc_values.specs.declared.dynamic_color_number.DynamicColorNumber.{DynamicColorNumber}
+use Rattle.esc_osc_values.specs.declared.progress.Progress.{Progress}
 
 title_clear : (args : List (List ℕ)) → AreClearParts args → Where (λ t. IsClearText t) (title_of args)
 title_clear [] h = tt

@@ -1,78 +1,47 @@
 -- Every writable command reads back.
-use Rattle.esc_values.specs.Scalars.{number_of}
-use Rattle.std.proofs.Common.{ℕ, ◌≡◌, ◌≤◌, arith, Bool, true, false, cond, ◌==◌, List, [], ◌∷◌, ◌++◌, map, codes, Some, refl, sym, ap, ◌∙◌, subst}
+use Rattle.std.proofs.Common.{ℕ, ◌≡◌, arith, ◌==◌, List, [], ◌∷◌, ◌++◌, map, codes, Some, refl, sym, ap, ◌∙◌, subst}
 use Rattle.std.specs.Fmt.{decimal}
-use Rattle.std.specs.List.{flat_map, slice_split, onto_first}
-use Rattle.std.specs.Option.{option_map, unwrap_or}
+use Rattle.std.specs.List.{flat_map, slice_split}
+use Rattle.std.specs.Option.{option_map}
 use Rattle.std.specs.Str.{IsUtf8}
-use Rattle.std.proofs.lemmas.Bool.{le-leb}
 use Rattle.std.proofs.lemmas.List.{append-nil}
-use Rattle.std.proofs.lemmas.Str.{is_utf8-from_IsUtf8}
 use Rattle.esc_values.specs.Base64.{base64_text}
-use Rattle.esc_values.specs.Clear.{IsClearText, IsClearPart, AreClearParts, joined, separated, parts_of}
+use Rattle.esc_values.specs.Clear.{IsClearText, IsClearPart, AreClearParts, parts_of}
 use Rattle.esc_values.proofs.Base64.{base64_part, base64_back}
 use Rattle.esc_values.proofs.PlainParts.{plain_part}
-use Rattle.esc_values.proofs.Split.{joined_clear, part_clear, parts_text, text_parts, joined_split}
+use Rattle.esc_values.proofs.Split.{joined_clear, part_clear, parts_text}
 pub use Rattle.esc_values.proofs.ClearTexts.{chars_scalar, clear_utf8}
 pub use Rattle.esc_osc.proofs.ReadParts.{clear_is_writable}
 use Rattle.esc_values.proofs.ClearTexts.{part_utf8_of, part_lossy, parts_lossy, part_append}
-use Rattle.esc_osc.proofs.JoinedLossy.{lossy_joined}
-use Rattle.esc_osc.proofs.Codes.{code_of-code_text}
-use Rattle.esc_osc.proofs.Colors.{specs_are_parts, colors_back, two_parts, two_are_parts, pairs_back, pairs_joined}
+use Rattle.esc_osc_values.proofs.JoinedLossy.{lossy_joined}
+use Rattle.esc_osc_values.proofs.Codes.{code_of-code_text}
+use Rattle.esc_osc_values.proofs.Colors.{specs_are_parts, colors_back, two_parts, two_are_parts, pairs_back, pairs_joined}
 use Rattle.esc_osc.proofs.Dynamic.{change_reads, reset_reads}
 use Rattle.esc_osc.proofs.Layers.{prompted, proprietary, linked}
-use Rattle.esc_osc.proofs.Numerals.{byte_back, byte_part, decimals_are_parts, numbers_back}
-use Rattle.esc_osc.proofs.Parts.{flat_map_map}
-use Rattle.esc_osc.proofs.Selections.{selection_back, selection_part, base64_other}
+use Rattle.esc_osc_values.proofs.Numerals.{byte_part, decimals_are_parts, numbers_back, percent_back}
+use Rattle.esc_osc_values.proofs.Parts.{flat_map_map}
+use Rattle.esc_osc_values.proofs.Titles.{title_parts, title_split, title_text}
+use Rattle.esc_osc_values.proofs.Selections.{selection_back, selection_part, base64_other}
 use Rattle.esc_osc.proofs.Written.{Written, written_clear, written_back, code_part, one_written, two_written}
-use Rattle.esc_osc.specs.Codes.{code_text, change_code, reset_code}
-use Rattle.esc_osc.specs.Colors.{spec_text}
+use Rattle.esc_osc_values.specs.Codes.{code_text, change_code, reset_code}
+use Rattle.esc_osc_values.specs.Colors.{spec_text}
 use Rattle.esc_osc.specs.Commands.{inner_text, titled}
-use Rattle.esc_osc.specs.Progresses.{held}
-use Rattle.esc_osc.specs.Reading.{meaning, reading, title_of}
-use Rattle.esc_osc.specs.Selections.{selection_text}
-use Rattle.esc_osc.specs.Writable.{IsWritable, AreNumbers, AreColors, ArePairs, IsNamed, IsProgress}
-use Rattle.esc_osc.specs.declared.change_color_pair.ChangeColorPair.{ChangeColorPair}
-use Rattle.esc_osc.specs.declared.code.OperatingSystemCommandCode.{OperatingSystemCommandCode}
-use Rattle.esc_osc.specs.declared.code.OperatingSystemCommandCode.TheVariants as code
-use Rattle.esc_osc.specs.declared.color_or_query.ColorOrQuery.{ColorOrQuery}
+use Rattle.esc_osc.specs.Reading.{meaning, reading}
+use Rattle.esc_osc_values.specs.Selections.{selection_text}
+use Rattle.esc_osc.specs.Writable.{IsWritable}
+use Rattle.esc_osc_values.specs.WritableValues.{AreNumbers, AreColors, ArePairs, IsNamed, IsProgress}
+use Rattle.esc_osc_values.specs.declared.change_color_pair.ChangeColorPair.{ChangeColorPair}
+use Rattle.esc_osc_values.specs.declared.code.OperatingSystemCommandCode.{OperatingSystemCommandCode}
+use Rattle.esc_osc_values.specs.declared.code.OperatingSystemCommandCode.TheVariants as code
+use Rattle.esc_osc_values.specs.declared.color_or_query.ColorOrQuery.{ColorOrQuery}
 use Rattle.esc_osc.specs.declared.command.OperatingSystemCommand.{OperatingSystemCommand}
 use Rattle.esc_osc.specs.declared.command.OperatingSystemCommand.TheVariants as command
-use Rattle.esc_osc.specs.declared.dynamic_color_number.DynamicColorNumber.{DynamicColorNumber}
-use Rattle.esc_osc.specs.declared.progress.Progress.{Progress}
-use Rattle.esc_osc.specs.declared.progress.Progress.TheVariants as progress
-use Rattle.esc_osc.specs.declared.selection.Selection.{Selection}
+use Rattle.esc_osc_values.specs.declared.dynamic_color_number.DynamicColorNumber.{DynamicColorNumber}
+use Rattle.esc_osc_values.specs.declared.progress.Progress.{Progress}
+use Rattle.esc_osc_values.specs.declared.progress.Progress.TheVariants as progress
+use Rattle.esc_osc_values.specs.declared.selection.Selection.{Selection}
 
--- every text splits into at least one piece
-abbrev HasFirst : List (List ℕ) → Type 0
-HasFirst qs = (p : List ℕ) × (ps : List (List ℕ)) × (qs ≡ p ∷ ps)
-
-split_more : (b : ℕ) (t : List ℕ) (k : Bool) → HasFirst (slice_split (λ c. c == 0x3b) t)
-    → HasFirst (cond k ([] ∷ slice_split (λ c. c == 0x3b) t) (onto_first b (slice_split (λ c. c == 0x3b) t)))
-split_more b t true s = ([], slice_split (λ c. c == 0x3b) t, refl)
-split_more b t false (p, ps, e) = (b ∷ p, ps, ap (onto_first b) e)
-
-split_head : (t : List ℕ) → HasFirst (slice_split (λ c. c == 0x3b) t)
-split_head [] = ([], [], refl)
-split_head (b ∷ t) = split_more b t (b == 0x3b) (split_head t)
-
--- a title reads back
-title_split : (t : List ℕ) → IsUtf8 t → title_of (slice_split (λ c. c == 0x3b) t) ≡ Some t
-title_split t u =
-    let s = split_head t in
-    let j : joined (s.0 ∷ s.1) ≡ t = ap joined (sym s.2) ∙ joined_split t in
-    rw s.2 (rw (j, is_utf8-from_IsUtf8 t u) refl)
-
-title_parts : (t : List ℕ) → IsClearText t → AreClearParts (slice_split (λ c. c == 0x3b) t)
-title_parts [] h = (plain_part [] refl, tt)
-title_parts (b ∷ t) h = (text_parts (b ∷ t) h).0
-
-title_text : (t : List ℕ) → 0x3b ∷ t ≡ separated (slice_split (λ c. c == 0x3b) t)
-title_text t =
-    let s = split_head t in
-    let j : joined (s.0 ∷ s.1) ≡ t = ap joined (sym s.2) ∙ joined_split t in
-    rw s.2 (ap (λ u. 0x3b ∷ u) (sym j))
-
+-- a title after its code
 entitled : (A : Type 0) (k : OperatingSystemCommandCode) (t : List ℕ) (c : OperatingSystemCommand A) → IsClearText t → inner_text c ≡ titled k t
     → reading k (code_text k) (slice_split (λ c. c == 0x3b) t) ≡ Some c → Written A c
 entitled A k t c h is e = record {
@@ -116,9 +85,6 @@ notification A t h = record {
 }
 
 -- progress
-percent_back : (n : ℕ) → n ≤ 100 → held (unwrap_or (number_of 8 (decimal n)) 0) ≡ n
-percent_back n h = rw (byte_back n (omega arith), le-leb n 100 h) refl
-
 progressing : (A : Type 0) (p : Progress) → IsProgress p → Written A (command.ConEmuProgress p)
 progressing A progress.None h = record {
   code = code.SystemNotification;

@@ -7,11 +7,11 @@ use Rattle.esc_values.specs.Clear.{IsClearText, IsClearPart, AreClearParts, AreT
 use Rattle.esc_values.proofs.PlainParts.{plain_part}
 use Rattle.esc_values.proofs.Split.{joined_clear, parts_text}
 use Rattle.esc_values.proofs.ClearTexts.{part_utf8}
-use Rattle.esc_osc.proofs.Codes.{code_of-code_text, code_plain, code_some, code_name_text}
-use Rattle.esc_osc.specs.Codes.{code_text}
+use Rattle.esc_osc_values.proofs.Codes.{code_of-code_text, code_plain, code_some, code_name_text}
+use Rattle.esc_osc_values.specs.Codes.{code_text}
 use Rattle.esc_osc.specs.Commands.{inner_text, titled}
 use Rattle.esc_osc.specs.Reading.{meaning, fitting, reading}
-use Rattle.esc_osc.specs.declared.code.OperatingSystemCommandCode.{OperatingSystemCommandCode}
+use Rattle.esc_osc_values.specs.declared.code.OperatingSystemCommandCode.{OperatingSystemCommandCode}
 use Rattle.esc_osc.specs.declared.command.OperatingSystemCommand.{OperatingSystemCommand}
 use Rattle.esc_osc.specs.declared.command.OperatingSystemCommand.TheVariants as command
 

@@ -1,5 +1,5 @@
 -- The text of a command.
-use Rattle.std.specs.Prelude.{ℕ, ◌≡◌, ◌⊎◌, Bool, true, false, List, [], ◌∷◌, ◌++◌, codes, Option, Some, None}
+use Rattle.std.specs.Prelude.{ℕ, ◌≡◌, ◌⊎◌, Bool, true, false, List, ◌∷◌, ◌++◌, codes, Option, Some, None}
 use Rattle.std.specs.Fmt.{decimal}
 use Rattle.std.specs.List.{flat_map}
 use Rattle.std.specs.Str.Lossy.{utf8_lossy}
@@ -8,19 +8,15 @@ use Rattle.esc_values.specs.Clear.{framed}
 use Rattle.esc_links.specs.Hyperlinks.{link_text}
 use Rattle.esc_iterm.specs.ITerms.{iterm_text}
 use Rattle.esc_prompts.specs.Prompts.{prompt_text}
-use Rattle.esc_osc.specs.Codes.{code_text, change_code, reset_code}
-use Rattle.esc_osc.specs.Colors.{spec_text, pair_text}
-use Rattle.esc_osc.specs.Progresses.{progress_text}
-use Rattle.esc_osc.specs.Selections.{selection_text}
-use Rattle.esc_osc.specs.declared.code.OperatingSystemCommandCode.{OperatingSystemCommandCode}
-use Rattle.esc_osc.specs.declared.code.OperatingSystemCommandCode.TheVariants as code
+use Rattle.esc_osc_values.specs.Codes.{code_text, change_code, reset_code}
+use Rattle.esc_osc_values.specs.Colors.{spec_text, pair_text}
+use Rattle.esc_osc_values.specs.Lists.{joined_by}
+use Rattle.esc_osc_values.specs.Progresses.{progress_text}
+use Rattle.esc_osc_values.specs.Selections.{selection_text}
+use Rattle.esc_osc_values.specs.declared.code.OperatingSystemCommandCode.{OperatingSystemCommandCode}
+use Rattle.esc_osc_values.specs.declared.code.OperatingSystemCommandCode.TheVariants as code
 use Rattle.esc_osc.specs.declared.command.OperatingSystemCommand.{OperatingSystemCommand}
 use Rattle.esc_osc.specs.declared.command.OperatingSystemCommand.TheVariants as command
-
--- the texts of the items, with `;` between them
-abbrev pub joined_by : {X : Type 0} → (X → List ℕ) → List X → List ℕ
-joined_by f [] = []
-joined_by f (x ∷ xs) = f x ++ flat_map (λ y. 0x3b ∷ f y) xs
 
 -- a code, `;` and a title
 abbrev pub titled : OperatingSystemCommandCode → List ℕ → List ℕ

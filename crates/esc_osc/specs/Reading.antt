@@ -1,45 +1,24 @@
 -- What parts mean.
-use Rattle.std.specs.Prelude.{ℕ, nat_eq, ◌==◌, if◌then◌else◌, List, [], ◌∷◌, length, map, drop, codes, Option, Some, None}
+use Rattle.std.specs.Prelude.{ℕ, nat_eq, if◌then◌else◌, List, [], ◌∷◌, map, drop, codes, Option, Some, None}
 use Rattle.std.specs.Cmp.Lexicographic.{pointwise}
 use Rattle.std.specs.Option.{option_map, unwrap_or}
 use Rattle.std.specs.Str.Lossy.{utf8_lossy}
 use Rattle.esc_values.specs.Base64.{base64_text_of}
-use Rattle.esc_values.specs.Clear.{joined}
 use Rattle.esc_links.specs.Hyperlinks.{link_of}
-use Rattle.esc_values.specs.Scalars.{and_then, utf8_of, number_of}
+use Rattle.esc_values.specs.Scalars.{and_then, utf8_of}
 use Rattle.esc_iterm.specs.ITerms.{iterm_of}
 use Rattle.esc_prompts.specs.Prompts.{prompt_of}
-use Rattle.esc_osc.specs.Codes.{code_of, code_name, changed_by, reset_by}
-use Rattle.esc_osc.specs.Colors.{colors_of, pairs_of}
-use Rattle.esc_osc.specs.Progresses.{progress_of}
-use Rattle.esc_osc.specs.Selections.{selection_of}
-use Rattle.esc_osc.specs.declared.code.OperatingSystemCommandCode.{OperatingSystemCommandCode}
-use Rattle.esc_osc.specs.declared.code.OperatingSystemCommandCode.TheVariants as code
+use Rattle.esc_osc_values.specs.Codes.{code_of, code_name, changed_by, reset_by}
+use Rattle.esc_osc_values.specs.Colors.{colors_of, pairs_of}
+use Rattle.esc_osc_values.specs.Lists.{title_of, lone_text, numbers_of}
+use Rattle.esc_osc_values.specs.Progresses.{progress_of}
+use Rattle.esc_osc_values.specs.Selections.{selection_of, selection}
+use Rattle.esc_osc_values.specs.declared.code.OperatingSystemCommandCode.{OperatingSystemCommandCode}
+use Rattle.esc_osc_values.specs.declared.code.OperatingSystemCommandCode.TheVariants as code
 use Rattle.esc_osc.specs.declared.command.OperatingSystemCommand.{OperatingSystemCommand}
 use Rattle.esc_osc.specs.declared.command.OperatingSystemCommand.TheVariants as command
-use Rattle.esc_osc.specs.declared.dynamic_color_number.DynamicColorNumber.{DynamicColorNumber}
-use Rattle.esc_osc.specs.declared.progress.Progress.{Progress}
-use Rattle.esc_osc.specs.declared.selection.Selection.{Selection}
-
--- the parts joined by `;`, where there is one and they are a text
-abbrev pub title_of : List (List ℕ) → Option (List ℕ)
-title_of [] = None
-title_of (p ∷ ps) = utf8_of (joined (p ∷ ps))
-
--- the text of one part alone
-abbrev pub lone_text : List (List ℕ) → Option (List ℕ)
-lone_text (p ∷ []) = utf8_of p
-lone_text ps = None
-
--- numbers of 8 bits; an empty part is skipped
-abbrev pub numbers_of : List (List ℕ) → Option (List ℕ)
-numbers_of [] = Some []
-numbers_of (p ∷ ps) = if length p == 0 then numbers_of ps
-    else and_then (number_of 8 p) (λ n. option_map (λ more. n ∷ more) (numbers_of ps))
-
--- the selection of these bits
-abbrev pub selection : ℕ → Selection
-selection b = record { 0 = b }
+use Rattle.esc_osc_values.specs.declared.dynamic_color_number.DynamicColorNumber.{DynamicColorNumber}
+use Rattle.esc_osc_values.specs.declared.progress.Progress.{Progress}
 
 -- a selection and a base64 text
 abbrev pub content_of : {A : Type 0} → List ℕ → List ℕ → Option (OperatingSystemCommand A)

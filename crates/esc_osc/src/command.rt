@@ -2,20 +2,21 @@
 ghost use Rattle.std.specs.Prelude.{◌≡◌, IfSome, is_none};
 ghost use Rattle.esc_osc.specs.Commands.{code_under, inner_text, is_unspecified, IsUnder};
 
-use crate::change_color_pair::ChangeColorPair;
-use crate::code::OperatingSystemCommandCode;
-use crate::color_or_query::ColorOrQuery;
-use crate::dynamic_color_number::DynamicColorNumber;
-use crate::progress::Progress;
-use crate::selection::Selection;
 use esc_iterm::ITermProprietary;
 use esc_links::Hyperlink;
+use esc_osc_values::change_color_pair::ChangeColorPair;
+use esc_osc_values::code::OperatingSystemCommandCode;
+use esc_osc_values::color_or_query::ColorOrQuery;
+use esc_osc_values::dynamic_codes::{change_code, reset_code};
+use esc_osc_values::dynamic_color_number::DynamicColorNumber;
+use esc_osc_values::progress::Progress;
+use esc_osc_values::selection::Selection;
 use esc_prompts::FinalTermSemanticPrompt;
 use esc_values::{Items, Text};
 use std::alloc::{Allocator, Global};
 
-/// An operating system command: a control string between `ESC ]` and a string terminator, whose parts have `;`
-/// between them (xterm's list of control sequences, "Operating System Commands").
+/// An operating system command: a control string between `ESC ]` and a string terminator, whose
+/// parts have `;` between them (xterm's list of control sequences, "Operating System Commands").
 #[derive(Drop)]
 #[derive_where(Debug, PartialEq)]
 pub enum OperatingSystemCommand<A: Allocator = Global> {
@@ -45,7 +46,8 @@ pub enum OperatingSystemCommand<A: Allocator = Global> {
     FinalTermSemanticPrompt(FinalTermSemanticPrompt<A>),
     /// Code 4: changes colours of the palette, or asks for them.
     ChangeColorNumber(Items<ChangeColorPair, A>),
-    /// Codes 10 to 19: changes this dynamic colour and those after it, or asks for them, one a colour.
+    /// Codes 10 to 19: changes this dynamic colour and those after it, or asks for them, one a
+    /// colour.
     ChangeDynamicColors(DynamicColorNumber, Items<ColorOrQuery, A>),
     /// Codes 110 to 119: resets a dynamic colour.
     ResetDynamicColor(DynamicColorNumber),
@@ -62,7 +64,8 @@ pub enum OperatingSystemCommand<A: Allocator = Global> {
 }
 
 impl<A: Allocator> OperatingSystemCommand<A> {
-    /// The code that its text is written under; none where it is `Unspecified`, whose parts may have any.
+    /// The code that its text is written under; none where it is `Unspecified`, whose parts may
+    /// have any.
     pub fn code(&self) -> Option<OperatingSystemCommandCode>
         ensures under { IfSome result (λ c. IsUnder c (inner_text self.now)) }
         ensures none { is_none result ≡ is_unspecified self.now }
@@ -98,8 +101,8 @@ fn code_under<A: Allocator>(
             OperatingSystemCommandCode::FinalTermSemanticPrompt,
         OperatingSystemCommand::ChangeColorNumber(_) =>
             OperatingSystemCommandCode::ChangeColorNumber,
-        OperatingSystemCommand::ChangeDynamicColors(number, _) => number.change_code(),
-        OperatingSystemCommand::ResetDynamicColor(number) => number.reset_code(),
+        OperatingSystemCommand::ChangeDynamicColors(number, _) => change_code(*number),
+        OperatingSystemCommand::ResetDynamicColor(number) => reset_code(*number),
         OperatingSystemCommand::CurrentWorkingDirectory(_) =>
             OperatingSystemCommandCode::SetCurrentWorkingDirectory,
         OperatingSystemCommand::ResetColors(_) => OperatingSystemCommandCode::ResetColors,

@@ -1,15 +1,15 @@
-//! Laws of operating system commands: what is written reads back, what clear parts mean can be written, and dynamic
-//! colours have their numbers.
+//! Laws of operating system commands: what is written reads back, what clear parts mean can be
+//! written, and dynamic colours have their numbers.
 ghost use Rattle.std.specs.Prelude.{◌≡◌, List, ℕ};
 ghost use Rattle.std.specs.Fmt.{decimal};
 ghost use Rattle.esc_values.specs.Clear.{AreTextParts, IsClearText, parts_of};
-ghost use Rattle.esc_osc.specs.Codes.{change_code, code_text};
+ghost use Rattle.esc_osc_values.specs.Codes.{change_code, code_text};
 ghost use Rattle.esc_osc.specs.Commands.{inner_text};
 ghost use Rattle.esc_osc.specs.Reading.{meaning};
 ghost use Rattle.esc_osc.specs.Writable.{IsWritable};
 ghost use Rattle.esc_osc.specs.declared.command.OperatingSystemCommand.{OperatingSystemCommand};
 
-use crate::dynamic_color_number::DynamicColorNumber;
+use esc_osc_values::dynamic_color_number::DynamicColorNumber;
 use std::alloc::Allocator;
 
 /// What a writable command writes between `ESC ]` and the terminator is a clear text.
@@ -21,7 +21,8 @@ pub fn writes_clear<A: Allocator>()
 /// The parts of what a writable command writes mean that command.
 #[tactic(auto, using(crate::proofs::ReadsBack::reads_back))]
 pub fn reads_back<A: Allocator>()
-    ensures { (c : OperatingSystemCommand A) → IsWritable c → meaning (parts_of (inner_text c)) ≡ c }
+    ensures { (c : OperatingSystemCommand A) → IsWritable c
+        → meaning (parts_of (inner_text c)) ≡ c }
 {}
 
 /// What clear parts mean, but not one empty part, is writable.

@@ -4,26 +4,28 @@ ghost use Rattle.std.specs.Option.{option_map};
 ghost use Rattle.std.specs.Str.Lossy.{utf8_lossy};
 ghost use Rattle.esc_links.specs.Hyperlinks.{link_of};
 ghost use Rattle.esc_values.specs.Scalars.{utf8_of};
-ghost use Rattle.esc_osc.specs.Codes.{code_name, code_of};
-ghost use Rattle.esc_osc.specs.Colors.{colors_of, pairs_of};
-ghost use Rattle.esc_osc.specs.Progresses.{progress_of};
+ghost use Rattle.esc_osc_values.specs.Colors.{colors_of, pairs_of};
+ghost use Rattle.esc_osc_values.specs.Progresses.{progress_of};
 ghost use Rattle.esc_iterm.specs.ITerms.{iterm_of};
 ghost use Rattle.esc_prompts.specs.Prompts.{prompt_of};
-ghost use Rattle.esc_osc.specs.Reading.{dynamic, fitting, lone_text, meaning, named, notified, numbers_of, reading, selected, title_of};
+ghost use Rattle.esc_osc.specs.Reading.{dynamic, fitting, meaning, named, notified, reading, selected};
+ghost use Rattle.esc_osc_values.specs.Lists.{lone_text, numbers_of, title_of};
 ghost use Rattle.esc_osc.specs.declared.command.OperatingSystemCommand.TheVariants as command;
 ghost use Rattle.memory.specs.Refusals.{Refused};
 
-use crate::code::OperatingSystemCommandCode;
 use crate::command::OperatingSystemCommand;
-use crate::dynamic_color_number::DynamicColorNumber;
-use crate::read_items::{
-    copied, read_colors, read_lone_text, read_numbers, read_pairs, read_text, read_texts,
-    read_title,
-};
-use crate::read_progress::read_progress;
-use crate::selection::Selection;
 use esc_iterm::ITermProprietary;
 use esc_links::Hyperlink;
+use esc_osc_values::code::OperatingSystemCommandCode;
+use esc_osc_values::dynamic_codes::{changed_by, reset_by};
+use esc_osc_values::dynamic_color_number::DynamicColorNumber;
+use esc_osc_values::read_code::code_in;
+use esc_osc_values::read_items::{
+    copied, read_colors, read_lone_text, read_numbers, read_pairs, read_texts, read_title,
+    without_first,
+};
+use esc_osc_values::read_progress::read_progress;
+use esc_osc_values::read_selection::read_selection;
 use esc_prompts::FinalTermSemanticPrompt;
 use esc_values::base64_text::read_base64_text;
 use esc_values::{Error, Text};
@@ -31,8 +33,9 @@ use std::alloc::{AllocError, Allocator};
 use std::str;
 
 impl<A: Allocator + Copy> OperatingSystemCommand<A> {
-    /// The command that these parts mean: the one that the code in the first part names, where the other parts
-    /// fit it, else `Unspecified` of the same parts. The error is that memory was refused.
+    /// The command that these parts mean: the one that the code in the first part names, where the
+    /// other parts fit it, else `Unspecified` of the same parts. The error is that memory was
+    /// refused.
     pub fn parse(alloc: A, parts: &[&[u8]]) -> Result<OperatingSystemCommand<A>, AllocError>
         ensures ok { IfOk result (λ c. c ≡ meaning (map (λ p. p.now) parts.now)) }
         ensures refused { OnErr result (Refused A) }
@@ -58,7 +61,8 @@ fn read_fitting<A: Allocator + Copy>(
     read_lossy(alloc, first, args)
 }
 
-// What the code that the first part names makes of the parts after it. A part that is UTF-8 is its own lossy text.
+// What the code that the first part names makes of the parts after it. A part that is UTF-8 is its
+// own lossy text.
 fn read_lossy<A: Allocator + Copy>(
     alloc: A,
     first: &[u8],
@@ -91,36 +95,6 @@ fn read_named<A: Allocator + Copy>(
     }
 }
 
-// The code that the lossy text of the first part names, by whether it is alone.
-fn code_in(first: &str, args: &[&[u8]]) -> Option<OperatingSystemCommandCode>
-    ensures { result ≡ code_of (code_name first.now (map (λ p. p.now) args.now)) }
-{
-    if !args.is_empty() {
-        return OperatingSystemCommandCode::from_code(first);
-    }
-    code_alone(first)
-}
-
-// The code that the lossy text of an only part names.
-fn code_alone(first: &str) -> Option<OperatingSystemCommandCode>
-    ensures { result ≡ code_of (code_name first.now []) }
-{
-    if first.is_empty() {
-        return None;
-    }
-    let letter = first.as_bytes()[0];
-    if letter >= b'0' && letter <= b'9' {
-        return OperatingSystemCommandCode::from_code(first);
-    }
-    if letter == b'l' {
-        return Some(OperatingSystemCommandCode::SetWindowTitleSun);
-    }
-    if letter == b'L' {
-        return Some(OperatingSystemCommandCode::SetIconNameSun);
-    }
-    None
-}
-
 // What the code makes of the lossy text of the first part and the parts after it.
 fn read_by_code<A: Allocator + Copy>(
     alloc: A,
@@ -146,12 +120,7 @@ fn read_by_code<A: Allocator + Copy>(
         OperatingSystemCommandCode::ITermProprietary => read_proprietary(alloc, args),
         OperatingSystemCommandCode::SetWindowTitleSun => read_sun_title(alloc, first),
         OperatingSystemCommandCode::SetIconNameSun => read_sun_icon_name(alloc, first),
-        _ => read_dynamic(
-            alloc,
-            DynamicColorNumber::changed_by(code),
-            DynamicColorNumber::reset_by(code),
-            args,
-        ),
+        _ => read_dynamic(alloc, changed_by(code), reset_by(code), args),
     }
 }
 
@@ -349,18 +318,6 @@ fn read_sun_icon_name<A: Allocator + Copy>(
     }
 }
 
-// A text without its first byte, where that is a text.
-fn without_first<A: Allocator>(alloc: A, text: &str) -> Result<Option<Text<A>>, AllocError>
-    ensures ok { IfOk result (λ t. t ≡ utf8_of (drop 1 text.now)) }
-    ensures refused { OnErr result (Refused A) }
-{
-    let bytes = text.as_bytes();
-    let Some((_, rest)) = bytes.split_first() else {
-        return Ok(Some(Text::new(alloc)));
-    };
-    read_text(alloc, rest)
-}
-
 // The link after the code, where there is one.
 fn read_link<A: Allocator + Copy>(
     alloc: A,
@@ -454,7 +411,7 @@ fn read_selected<A: Allocator + Copy>(
 fn read_cleared<A: Allocator>(letters: &[u8]) -> Option<OperatingSystemCommand<A>>
     ensures { result ≡ selected (letters.now ∷ []) }
 {
-    let Some(selection) = Selection::from_letters(letters) else {
+    let Some(selection) = read_selection(letters) else {
         return None;
     };
     Some(OperatingSystemCommand::ClearSelection(selection))
@@ -469,7 +426,7 @@ fn read_content<A: Allocator + Copy>(
     ensures ok { IfOk result (λ c. c ≡ selected (letters.now ∷ text.now ∷ [])) }
     ensures refused { OnErr result (Refused A) }
 {
-    let Some(selection) = Selection::from_letters(letters) else {
+    let Some(selection) = read_selection(letters) else {
         return Ok(None);
     };
     if text == b"?".as_slice() {

@@ -27,10 +27,11 @@ use Rattle.esc_frame.proofs.Splits.{split_end, split_next}
 use Rattle.esc_osc.proofs.NamedMarks.{named_end, named_output, named_start}
 use Rattle.esc_osc.proofs.Written.{code_means}
 use Rattle.esc_osc.specs.Commands.{command_text}
-use Rattle.esc_osc.specs.Codes.{code_text}
-use Rattle.esc_osc.specs.Reading.{meaning, reading, title_of}
-use Rattle.esc_osc.specs.declared.code.OperatingSystemCommandCode.{OperatingSystemCommandCode}
-use Rattle.esc_osc.specs.declared.code.OperatingSystemCommandCode.TheVariants as code
+use Rattle.esc_osc_values.specs.Codes.{code_text}
+use Rattle.esc_osc.specs.Reading.{meaning, reading}
+use Rattle.esc_osc_values.specs.Lists.{title_of}
+use Rattle.esc_osc_values.specs.declared.code.OperatingSystemCommandCode.{OperatingSystemCommandCode}
+use Rattle.esc_osc_values.specs.declared.code.OperatingSystemCommandCode.TheVariants as code
 use Rattle.esc_osc.specs.declared.command.OperatingSystemCommand.{OperatingSystemCommand}
 use Rattle.esc_osc.specs.declared.command.OperatingSystemCommand.TheVariants as command
 use Rattle.esc_write.specs.Plain.{IsOnePart, IsPlainLink, IsVerbatim}

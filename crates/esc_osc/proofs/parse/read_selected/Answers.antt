@@ -1,5 +1,5 @@
 use Rattle.std.proofs.Common.{sym}
-use Rattle.esc_osc.proofs.Parts.{selected_long}
+use Rattle.esc_osc.proofs.Selected.{selected_long}
 use Rattle.esc_osc.proofs.parse.read_selected.Goals as goal
 
 pub returns-in_default-clause-ok : goal.returns-in_default-clause-ok

@@ -1,6 +1,0 @@
-use Rattle.bitflags.specs.Sets.{known_from}
-use Rattle.esc_osc.proofs.selection.Selection.all.Goals as goal
-
-pub returns : goal.returns
-unfolding known_from
-returns c = c.all.ensures tt

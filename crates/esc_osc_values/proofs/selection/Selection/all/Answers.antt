@@ -1,0 +1,6 @@
+use Rattle.bitflags.specs.Sets.{known_from}
+use Rattle.esc_osc_values.proofs.selection.Selection.all.Goals as goal
+
+pub returns : goal.returns
+unfolding known_from
+returns c = c.all.ensures tt

@@ -1,0 +1,180 @@
+//! How lists of parts are read.
+ghost use Rattle.std.specs.Prelude.{◌≡◌, ◌∷◌, IfOk, OnErr, drop, map};
+ghost use Rattle.std.specs.Str.Lossy.{utf8_lossy};
+ghost use Rattle.esc_values.specs.Clear.{joined};
+ghost use Rattle.esc_values.specs.Scalars.{utf8_of};
+ghost use Rattle.esc_osc_values.specs.Colors.{colors_of, pairs_of};
+ghost use Rattle.esc_osc_values.specs.Lists.{lone_text, numbers_of, title_of};
+ghost use Rattle.memory.specs.Refusals.{Refused};
+
+use crate::change_color_pair::ChangeColorPair;
+use crate::color_or_query::ColorOrQuery;
+use crate::read_color::read_spec;
+use esc_values::scalar::{read_u8, text_of};
+use esc_values::{Items, Text};
+use std::alloc::{AllocError, Allocator};
+
+/// The same parts.
+pub fn copied<A: Allocator + Copy>(
+    alloc: A,
+    parts: &[&[u8]],
+) -> Result<Items<Items<u8, A>, A>, AllocError>
+    ensures ok { IfOk result (λ c. c ≡ map (λ p. p.now) parts.now) }
+    ensures refused { OnErr result (Refused A) }
+{
+    let mut made = Vec::new(alloc);
+    for part in parts {
+        memory::push(&mut made, Items::from_slice(alloc, part)?)?;
+    }
+    Ok(Items::from_vec(made))
+}
+
+/// The parts joined by `;`, where they are a text.
+pub fn read_title<A: Allocator + Copy>(
+    alloc: A,
+    args: &[&[u8]],
+) -> Result<Option<Text<A>>, AllocError>
+    ensures ok { IfOk result (λ t. t ≡ title_of (map (λ p. p.now) args.now)) }
+    ensures refused { OnErr result (Refused A) }
+{
+    let Some((first, rest)) = args.split_first() else {
+        return Ok(None);
+    };
+    match joined(alloc, first, rest) {
+        Ok(bytes) => Ok(text_of(bytes)),
+        Err(error) => Err(error),
+    }
+}
+
+// A part and those after it, with `;` between them.
+fn joined<A: Allocator>(alloc: A, first: &[u8], rest: &[&[u8]]) -> Result<Vec<u8, A>, AllocError>
+    ensures ok { IfOk result (λ b. b.items ≡ joined (first.now ∷ map (λ p. p.now) rest.now)) }
+    ensures refused { OnErr result (Refused A) }
+{
+    let mut bytes = memory::copied(alloc, first)?;
+    for part in rest {
+        memory::push(&mut bytes, b';')?;
+        memory::extend(&mut bytes, part)?;
+    }
+    Ok(bytes)
+}
+
+/// The text of one part alone.
+pub fn read_lone_text<A: Allocator + Copy>(
+    alloc: A,
+    args: &[&[u8]],
+) -> Result<Option<Text<A>>, AllocError>
+    ensures ok { IfOk result (λ t. t ≡ lone_text (map (λ p. p.now) args.now)) }
+    ensures refused { OnErr result (Refused A) }
+{
+    match args {
+        [text] => read_text(alloc, text),
+        _ => Ok(None),
+    }
+}
+
+/// These bytes as a text.
+pub fn read_text<A: Allocator>(alloc: A, bytes: &[u8]) -> Result<Option<Text<A>>, AllocError>
+    ensures ok { IfOk result (λ t. t ≡ utf8_of bytes.now) }
+    ensures refused { OnErr result (Refused A) }
+{
+    match memory::copied(alloc, bytes) {
+        Ok(bytes) => Ok(text_of(bytes)),
+        Err(error) => Err(error),
+    }
+}
+
+/// Pairs of a number and a colour; a last lone part is dropped.
+pub fn read_pairs<A: Allocator>(
+    alloc: A,
+    args: &[&[u8]],
+) -> Result<Option<Items<ChangeColorPair, A>>, AllocError>
+    ensures ok { IfOk result (λ t. t ≡ pairs_of (map (λ p. p.now) args.now)) }
+    ensures refused { OnErr result (Refused A) }
+{
+    let mut made = Vec::new(alloc);
+    let mut left = args;
+    while let [index, spec, rest @ ..] = left {
+        let Some(palette_index) = read_u8(index) else {
+            return Ok(None);
+        };
+        let Some(color) = read_spec(spec) else {
+            return Ok(None);
+        };
+        memory::push(
+            &mut made,
+            ChangeColorPair {
+                palette_index,
+                color,
+            },
+        )?;
+        left = rest;
+    }
+    Ok(Some(Items::from_vec(made)))
+}
+
+/// Colours.
+pub fn read_colors<A: Allocator>(
+    alloc: A,
+    args: &[&[u8]],
+) -> Result<Option<Items<ColorOrQuery, A>>, AllocError>
+    ensures ok { IfOk result (λ t. t ≡ colors_of (map (λ p. p.now) args.now)) }
+    ensures refused { OnErr result (Refused A) }
+{
+    let mut made = Vec::new(alloc);
+    for part in args {
+        let Some(color) = read_spec(part) else {
+            return Ok(None);
+        };
+        memory::push(&mut made, color)?;
+    }
+    Ok(Some(Items::from_vec(made)))
+}
+
+/// Numbers; an empty part is skipped.
+pub fn read_numbers<A: Allocator>(
+    alloc: A,
+    args: &[&[u8]],
+) -> Result<Option<Items<u8, A>>, AllocError>
+    ensures ok { IfOk result (λ t. t ≡ numbers_of (map (λ p. p.now) args.now)) }
+    ensures refused { OnErr result (Refused A) }
+{
+    let mut made = Vec::new(alloc);
+    for part in args {
+        if part.is_empty() {
+            continue;
+        }
+        let Some(number) = read_u8(part) else {
+            return Ok(None);
+        };
+        memory::push(&mut made, number)?;
+    }
+    Ok(Some(Items::from_vec(made)))
+}
+
+/// The lossy texts of the parts.
+pub fn read_texts<A: Allocator + Copy>(
+    alloc: A,
+    args: &[&[u8]],
+) -> Result<Items<Text<A>, A>, AllocError>
+    ensures ok { IfOk result (λ t. t ≡ map utf8_lossy (map (λ p. p.now) args.now)) }
+    ensures refused { OnErr result (Refused A) }
+{
+    let mut made = Vec::new(alloc);
+    for part in args {
+        memory::push(&mut made, Text::from_string(memory::lossy(alloc, part)?))?;
+    }
+    Ok(Items::from_vec(made))
+}
+
+/// A text without its first byte, where that is a text.
+pub fn without_first<A: Allocator>(alloc: A, text: &str) -> Result<Option<Text<A>>, AllocError>
+    ensures ok { IfOk result (λ t. t ≡ utf8_of (drop 1 text.now)) }
+    ensures refused { OnErr result (Refused A) }
+{
+    let bytes = text.as_bytes();
+    let Some((_, rest)) = bytes.split_first() else {
+        return Ok(Some(Text::new(alloc)));
+    };
+    read_text(alloc, rest)
+}
