@@ -11,5 +11,6 @@ pub mod Pieces
 pub mod Pushed
 pub mod Runs
 pub mod Steps
+pub mod Wanted
 pub mod Written
 pub mod WritesBack

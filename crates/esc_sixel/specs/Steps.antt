@@ -1,6 +1,6 @@
 -- One byte more of sixel data: the items that no later byte changes, and the command that may go on. Only the builder is stated by it;
 -- what data means is in Items and Meaning.
-use Rattle.std.specs.Prelude.{ℕ, ℤ, ◌≡◌, if◌then◌else◌, List, [], ◌∷◌, ◌++◌, Option, Some, None, option_map, unwrap_or, option_to_list}
+use Rattle.std.specs.Prelude.{ℕ, ℤ, ◌≡◌, Bool, true, false, if◌then◌else◌, List, [], ◌∷◌, ◌++◌, Option, Some, None, option_map, unwrap_or, option_to_list}
 use Rattle.esc_sixel.specs.Classes.{class_of}
 use Rattle.esc_sixel.specs.Items.{Item, OfReturn, OfLine, OfPixels, OfRepeat, OfColor, OfRaster, OfJunk, in_run}
 use Rattle.esc_sixel.specs.Meaning.{sixel_of, raster_pan, raster_pad, raster_sizes, is_oversize, gives}
@@ -81,6 +81,26 @@ add_to s next = record s { content = s.content ++ option_to_list next }
 abbrev pub HoldsOpen : Open → Option Introducer → Parameters → Type 0
 HoldsOpen Closed i p = i ≡ None
 HoldsOpen (In m r) i p = (i ≡ Some m) × Keeps p r
+
+-- six pixels, `$` and `-`, which are data themselves
+abbrev pub is_data : Class → Bool
+is_data Return = true
+is_data Line = true
+is_data (Pixels v) = true
+is_data c = false
+
+-- whether the end of a command gives data, with what the byte after it gives, if any: a `#` gives
+-- a colour, and a `!` and a `"` nothing
+abbrev pub gives_at_end : Introducer → Bool → Bool
+gives_at_end introducer.Color more = true
+gives_at_end m more = more
+
+-- Whether a byte takes memory, where this command is open, or none: where it is data, or ends a
+-- `#`. So no digit or `;` of a command does, and outside a `#` no byte that is dropped or begins a
+-- command. It is so exactly where the items that the byte closes give data (proofs/Wanted.antt).
+abbrev pub wants_memory : Option Introducer → Class → Bool
+wants_memory None c = is_data c
+wants_memory (Some m) c = if in_run c then false else gives_at_end m (is_data c)
 
 -- a builder with these parameters that was pushed these bytes
 unfoldable pub LeadsTo : {A : Type 0} → List ℤ → List ℕ → SixelBuilder A → Type 0

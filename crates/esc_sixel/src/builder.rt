@@ -1,6 +1,7 @@
 //! How a sixel string is read, byte by byte.
-ghost use Rattle.std.specs.Prelude.{◌≡◌, ◌<◌, ◌≤◌, IfOk, IfSome, ℕ, ℤ, get_or, length, take, List, [], ◌∷◌, ◌++◌, OnOk, OnErr, Some, None};
+ghost use Rattle.std.specs.Prelude.{◌≡◌, ◌<◌, ◌≤◌, IfOk, IfSome, ℕ, ℤ, get_or, length, take, List, [], ◌∷◌, ◌++◌, OnOk, OnErr, Some, None, false, true};
 ghost use Rattle.std.specs.List.{FoldsTo, slice_get};
+ghost use Rattle.std.specs.Option.{is_some};
 ghost use Rattle.memory.specs.Refusals.{Refused};
 ghost use Rattle.esc_sixel.specs.Classes.{class_of};
 ghost use Rattle.esc_sixel.specs.Items.{items, OfRaster, OfColor};
@@ -8,6 +9,8 @@ ghost use Rattle.esc_sixel.specs.Meaning.{sixel_of, header_pan, is_one};
 ghost use Rattle.esc_sixel.specs.Runs.{Keeps};
 ghost use Rattle.esc_sixel.specs.declared.class.Class.TheVariants.{Pixels};
 ghost use Rattle.esc_sixel.specs.Steps.{add_to, ended, alone, LeadsTo, HoldsOpen, In, Pushes, closed_by, open_by, opened, with_item, with_items};
+ghost use Rattle.esc_sixel.specs.Steps.{gives_at_end, is_data, wants_memory};
+ghost use Rattle.esc_sixel.specs.declared.introducer.Introducer.TheVariants.{Color};
 
 use crate::class::{Class, classify};
 use crate::commands::{channel_of, color, repeat, signed, sizes};
@@ -98,12 +101,14 @@ impl<A: Allocator> SixelBuilder<A> {
         }
     }
 
-    /// One more byte of the data. The error is that memory was refused, and the builder stays as it was.
+    /// One more byte of the data. Takes memory only where the byte is six pixels, `$` or `-`, or ends
+    /// a `#`. The error is that it was refused, and the builder stays as it was.
     #[inline(always)]
     pub fn push(&mut self, byte: u8) -> Result<(), AllocError>
         ensures ok { (ps : List ℤ) (s : List ℕ) → LeadsTo ps s self.old → OnOk result (LeadsTo ps (s ++ byte ∷ []) self.new) }
         ensures err { OnErr result (self.new ≡ self.old) }
         ensures refused { OnErr result (Refused A) }
+        ensures asks { OnErr result (wants_memory self.old.introducer (class_of byte) ≡ true) }
     {
         match self.introducer {
             None => self.push_alone(byte),
@@ -120,6 +125,7 @@ impl<A: Allocator> SixelBuilder<A> {
         ensures err { (ps : List ℤ) (s : List ℕ) → LeadsTo ps s self.old
             → OnErr result ((n : ℕ) × (n < length bytes.now) × LeadsTo ps (s ++ take n bytes.now) self.new) }
         ensures refused { OnErr result (Refused A) }
+        ensures asks { OnErr result (0 < length bytes.now) }
     {
         if bytes.is_empty() {
             return Ok(());
@@ -298,13 +304,14 @@ impl<A: Allocator> SixelBuilder<A> {
     }
 
     /// The data ends here, and a command with it: the field `sixel` is the image that the parameters and all bytes mean.
-    /// To bytes that are pushed later, this counts as a byte that is dropped. The error is that memory was refused, and the
-    /// builder stays as it was.
+    /// To bytes that are pushed later, this counts as a byte that is dropped. Takes memory only where
+    /// a `#` is open. The error is that it was refused, and the builder stays as it was.
     pub fn finish(&mut self) -> Result<(), AllocError>
         ensures ok { (ps : List ℤ) (s : List ℕ) → LeadsTo ps s self.old
             → OnOk result (LeadsTo ps (s ++ 0 ∷ []) self.new × (self.new.sixel ≡ sixel_of ps (items s))) }
         ensures err { OnErr result (self.new ≡ self.old) }
         ensures refused { OnErr result (Refused A) }
+        ensures asks { OnErr result (self.old.introducer ≡ Some Color) }
     {
         self.push(0)
     }
@@ -327,6 +334,7 @@ impl<A: Allocator> SixelBuilder<A> {
             → OnOk result (self.new.sixel ≡ add_to (with_item self.old.sixel (OfRaster r)) next) }
         ensures err { OnErr result (self.new ≡ self.old) }
         ensures refused { OnErr result (Refused A) }
+        ensures asks { OnErr result (is_some next ≡ true) }
     {
         let pan = signed(&self.parameters, 0, 2);
         let pad = signed(&self.parameters, 1, 1);
@@ -366,6 +374,7 @@ impl<A: Allocator> SixelBuilder<A> {
             → OnOk result (self.new.sixel ≡ add_to (with_items self.old.sixel (ended (In introducer r))) next) }
         ensures err { OnErr result (self.new ≡ self.old) }
         ensures refused { OnErr result (Refused A) }
+        ensures asks { OnErr result (gives_at_end introducer (is_some next) ≡ true) }
     {
         match introducer {
             Introducer::Repeat => self.sixel.content.push_optional(next),
@@ -381,6 +390,7 @@ impl<A: Allocator> SixelBuilder<A> {
             × (self.new.introducer ≡ None)) }
         ensures err { OnErr result (self.new ≡ self.old) }
         ensures refused { OnErr result (Refused A) }
+        ensures asks { OnErr result (gives_at_end introducer (is_some next) ≡ true) }
     {
         self.end_command(introducer, next)?;
         self.introducer = None;
@@ -394,6 +404,7 @@ impl<A: Allocator> SixelBuilder<A> {
             × HoldsOpen (In begun []) self.new.introducer self.new.parameters) }
         ensures err { OnErr result (self.new ≡ self.old) }
         ensures refused { OnErr result (Refused A) }
+        ensures asks { OnErr result (gives_at_end introducer false ≡ true) }
     {
         self.end_command(introducer, None)?;
         self.introducer = Some(begun);
@@ -408,6 +419,7 @@ impl<A: Allocator> SixelBuilder<A> {
             × (self.new.introducer ≡ None)) }
         ensures err { OnErr result (self.new ≡ self.old) }
         ensures refused { OnErr result (Refused A) }
+        ensures asks { OnErr result (gives_at_end introducer true ≡ true) }
     {
         match introducer {
             Introducer::Repeat => {
@@ -428,6 +440,7 @@ impl<A: Allocator> SixelBuilder<A> {
             × HoldsOpen (open_by (In introducer r) (class_of byte) byte) self.new.introducer self.new.parameters) }
         ensures err { OnErr result (self.new ≡ self.old) }
         ensures refused { OnErr result (Refused A) }
+        ensures asks { OnErr result (wants_memory (Some introducer) (class_of byte) ≡ true) }
     {
         match classify(byte) {
             Class::Digit(digit) => {
@@ -454,6 +467,7 @@ impl<A: Allocator> SixelBuilder<A> {
             × HoldsOpen (opened (class_of byte)) self.new.introducer self.new.parameters) }
         ensures err { OnErr result (self.new ≡ self.old) }
         ensures refused { OnErr result (Refused A) }
+        ensures asks { OnErr result (is_data (class_of byte) ≡ true) }
     {
         match classify(byte) {
             Class::Return => self.sixel.content.push(SixelData::CarriageReturn),

@@ -1,7 +1,7 @@
 //! A list, which contracts see as the list of its items.
-ghost use Rattle.std.specs.Prelude.{◌≡◌, ◌<◌, ◌^◌, List, [], ◌∷◌, ◌++◌, length, IfOk, IsTrue, ◌↔◌, OnOk, OnErr, option_to_list, slice_get, slice_index_or};
+ghost use Rattle.std.specs.Prelude.{◌≡◌, ◌<◌, ◌^◌, List, [], ◌∷◌, ◌++◌, length, IfOk, IsTrue, true, ◌↔◌, OnOk, OnErr, option_to_list, slice_get, slice_index_or};
 ghost use Rattle.std.specs.List.{AllZip};
-ghost use Rattle.std.specs.Option.{option_map};
+ghost use Rattle.std.specs.Option.{is_some, option_map};
 ghost use Rattle.std.specs.Slice.Iter.{iter_rest};
 ghost use Rattle.std.specs.Iterator.Adapters.{IterYieldsInOrder};
 ghost use Rattle.std.specs.Iterator.Runs.{EveryRun, ItemsAre};
@@ -102,14 +102,15 @@ impl<T, A: Allocator> Items<T, A> {
         Ok(())
     }
 
-    /// Appends an item, where there is one. The error is that memory was refused, and the items
-    /// stay as they were.
+    /// Appends an item, where there is one, and takes memory only then. The error is that it was
+    /// refused, and the items stay as they were.
     pub fn push_optional(&mut self, item: Option<T>) -> Result<(), AllocError>
     where
         T: Drop,
         ensures ok { OnOk result (self.new ≡ self.old ++ option_to_list item) }
         ensures err { OnErr result (self.new ≡ self.old) }
         ensures refused { OnErr result (Refused A) }
+        ensures asks { OnErr result (is_some item ≡ true) }
     {
         match item {
             Some(item) => self.push(item),
@@ -136,13 +137,15 @@ impl<T, A: Allocator> Items<T, A> {
     }
 
     /// Drops all items, and then has the one that is given, where there is one. Memory for it is
-    /// taken first. The error is that it was refused, and the items stay as they were.
+    /// taken first, and none where there is none. The error is that it was refused, and the items
+    /// stay as they were.
     pub fn restart(&mut self, item: Option<T>) -> Result<(), AllocError>
     where
         T: Drop,
         ensures ok { OnOk result (self.new ≡ option_to_list item) }
         ensures err { OnErr result (self.new ≡ self.old) }
         ensures refused { OnErr result (Refused A) }
+        ensures asks { OnErr result (is_some item ≡ true) }
     {
         let Some(item) = item else {
             self.vec.clear();
