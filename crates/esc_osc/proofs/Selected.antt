@@ -3,7 +3,8 @@ use Rattle.std.proofs.Common.{◌≡◌, ℕ, ◌≤◌, List, [], ◌∷◌, le
 use Rattle.esc_osc.specs.Reading.{selected}
 
 -- more parts than a selection has
-pub selected_long : {X : Type 0} (A : Type 0) (f : X → List ℕ) (args : List X) → 3 ≤ length args → selected {A = A} (map f args) ≡ None
+pub selected_long : {X : Type 0} (A : Type 0) (f : X → List ℕ) (args : List X) → 3 ≤ length args
+    → selected {A = A} (map f args) ≡ None
 selected_long A f [] h = absurd (omega arith)
 selected_long A f (x ∷ []) h = absurd (omega arith)
 selected_long A f (x ∷ y ∷ []) h = absurd (omega arith)

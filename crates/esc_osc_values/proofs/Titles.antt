@@ -13,7 +13,8 @@ abbrev HasFirst : List (List ℕ) → Type 0
 HasFirst qs = (p : List ℕ) × (ps : List (List ℕ)) × (qs ≡ p ∷ ps)
 
 split_more : (b : ℕ) (t : List ℕ) (k : Bool) → HasFirst (slice_split (λ c. c == 0x3b) t)
-    → HasFirst (cond k ([] ∷ slice_split (λ c. c == 0x3b) t) (onto_first b (slice_split (λ c. c == 0x3b) t)))
+    → HasFirst (cond k ([] ∷ slice_split (λ c. c == 0x3b) t)
+    (onto_first b (slice_split (λ c. c == 0x3b) t)))
 split_more b t true s = ([], slice_split (λ c. c == 0x3b) t, refl)
 split_more b t false (p, ps, e) = (b ∷ p, ps, ap (onto_first b) e)
 

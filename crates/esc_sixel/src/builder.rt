@@ -101,8 +101,8 @@ impl<A: Allocator> SixelBuilder<A> {
         }
     }
 
-    /// One more byte of the data. Takes memory only where the byte is six pixels, `$` or `-`, or ends
-    /// a `#`. The error is that it was refused, and the builder stays as it was.
+    /// One more byte of the data. Takes memory only where the byte is six pixels, `$` or `-`, or
+    /// ends a `#`. The error is that it was refused, and the builder stays as it was.
     #[inline(always)]
     pub fn push(&mut self, byte: u8) -> Result<(), AllocError>
         ensures ok { (ps : List ℤ) (s : List ℕ) → LeadsTo ps s self.old → OnOk result (LeadsTo ps (s ++ byte ∷ []) self.new) }
@@ -304,8 +304,8 @@ impl<A: Allocator> SixelBuilder<A> {
     }
 
     /// The data ends here, and a command with it: the field `sixel` is the image that the parameters and all bytes mean.
-    /// To bytes that are pushed later, this counts as a byte that is dropped. Takes memory only where
-    /// a `#` is open. The error is that it was refused, and the builder stays as it was.
+    /// To bytes that are pushed later, this counts as a byte that is dropped. Takes memory only
+    /// where a `#` is open. The error is that it was refused, and the builder stays as it was.
     pub fn finish(&mut self) -> Result<(), AllocError>
         ensures ok { (ps : List ℤ) (s : List ℕ) → LeadsTo ps s self.old
             → OnOk result (LeadsTo ps (s ++ 0 ∷ []) self.new × (self.new.sixel ≡ sixel_of ps (items s))) }
