@@ -1,4 +1,4 @@
-//! How lists of parts are read.
+//! How lists of parts are read. An error is that memory was refused.
 ghost use Rattle.std.specs.Prelude.{◌≡◌, ◌∷◌, IfOk, OnErr, drop, map};
 ghost use Rattle.std.specs.Str.Lossy.{utf8_lossy};
 ghost use Rattle.esc_values.specs.Clear.{joined};

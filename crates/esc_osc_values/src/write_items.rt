@@ -22,7 +22,7 @@ use esc_values::{Items, Text};
 use std::alloc::Allocator;
 use std::fmt;
 
-/// What stands before a text, and the text.
+/// `before`, and then the text.
 pub fn write_text<W: fmt::Write, A: Allocator>(
     before: &str,
     text: &Text<A>,
