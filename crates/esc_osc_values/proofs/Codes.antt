@@ -17,7 +17,8 @@ unfolding code_of
 code_of-code_text code.SetIconNameAndWindowTitle = refl
 code_of-code_text c = refl
 
-first_named_none : (cs : List OperatingSystemCommandCode) (t : List ℕ) → ((c : OperatingSystemCommandCode) → t ≢ code_text c) → first_named cs t ≡ None
+first_named_none : (cs : List OperatingSystemCommandCode) (t : List ℕ)
+    → ((c : OperatingSystemCommandCode) → t ≢ code_text c) → first_named cs t ≡ None
 first_named_none [] t h = refl
 first_named_none (c ∷ cs) t h =
     elim (cases_Bool (pointwise nat_eq t (code_text c))) [
@@ -26,30 +27,38 @@ first_named_none (c ∷ cs) t h =
     ]
 
 pub code_of_from : (t : List ℕ) (r : Option OperatingSystemCommandCode)
-    → MatchOption r ((c : OperatingSystemCommandCode) → t ≢ code_text c) (λ c. t ≡ code_text c) → r ≡ code_of t
+    → MatchOption r ((c : OperatingSystemCommandCode) → t ≢ code_text c) (λ c. t ≡ code_text c)
+    → r ≡ code_of t
 unfolding code_of
 code_of_from t None h = sym (first_named_none all_codes t h)
 code_of_from t (Some c) h = rw h (sym (code_of-code_text c))
 
 -- a code whose text is another is passed over
-pub named_later : (cs : List OperatingSystemCommandCode) (t : List ℕ) (i : ℕ) (d : OperatingSystemCommandCode) → i < length cs
-    → pointwise nat_eq t (code_text (get_or cs i d)) ≡ false → first_named (drop (i + 1) cs) t ≡ first_named (drop i cs) t
-named_later cs t i d lt differs = sym (at_drop_more (λ ks. first_named ks t) cs i d lt ∙ rw differs refl)
+pub named_later : (cs : List OperatingSystemCommandCode) (t : List ℕ) (i : ℕ)
+    (d : OperatingSystemCommandCode) → i < length cs
+    → pointwise nat_eq t (code_text (get_or cs i d)) ≡ false
+    → first_named (drop (i + 1) cs) t ≡ first_named (drop i cs) t
+named_later cs t i d lt differs =
+    sym (at_drop_more (λ ks. first_named ks t) cs i d lt ∙ rw differs refl)
 
 -- a text that names no code is that of none
-pub code_of_none : (t : List ℕ) → code_of t ≡ None → (c : OperatingSystemCommandCode) → t ≢ code_text c
+pub code_of_none : (t : List ℕ) → code_of t ≡ None → (c : OperatingSystemCommandCode)
+    → t ≢ code_text c
 code_of_none t h c e = let found : code_of t ≡ Some c = ap code_of e ∙ code_of-code_text c in cc
 
 -- what names a code is its text
-first_named_text : (cs : List OperatingSystemCommandCode) (t : List ℕ) (c : OperatingSystemCommandCode) → first_named cs t ≡ Some c → t ≡ code_text c
+first_named_text : (cs : List OperatingSystemCommandCode) (t : List ℕ)
+    (c : OperatingSystemCommandCode) → first_named cs t ≡ Some c → t ≡ code_text c
 first_named_text [] t c h = cc
 first_named_text (d ∷ cs) t c h =
     elim (cases_Bool (pointwise nat_eq t (code_text d))) [
-      | inl held ↦ let found : Some d ≡ Some c = rw held at h in let same : d ≡ c = cc in same_text t (code_text d) (sym held) ∙ ap code_text same
+      | inl held ↦ let found : Some d ≡ Some c = rw held at h in let same : d ≡ c = cc in
+          same_text t (code_text d) (sym held) ∙ ap code_text same
       | inr failed ↦ first_named_text cs t c (rw failed at h)
     ]
 
-pub code_of_text : (t : List ℕ) (c : OperatingSystemCommandCode) → code_of t ≡ Some c → t ≡ code_text c
+pub code_of_text : (t : List ℕ) (c : OperatingSystemCommandCode) → code_of t ≡ Some c
+    → t ≡ code_text c
 unfolding code_of
 code_of_text t c h = first_named_text all_codes t c h
 
@@ -63,9 +72,11 @@ code_begins c = refl
 
 begins_not : (b : ℕ) → (b < 0x30) ⊎ (0x39 < b) → b ≢ 0x6c → b ≢ 0x4c → begins_code b ≡ false
 begins_not b (inl low) l u = rw (lt-leb 0x30 b low, ne_eqb b 0x6c l, ne_eqb b 0x4c u) refl
-begins_not b (inr high) l u = rw (lt-leb b 0x39 high, and-false (nat_le 0x30 b), ne_eqb b 0x6c l, ne_eqb b 0x4c u) refl
+begins_not b (inr high) l u =
+    rw (lt-leb b 0x39 high, and-false (nat_le 0x30 b), ne_eqb b 0x6c l, ne_eqb b 0x4c u) refl
 
-letter_differs : (b : ℕ) → (b < 0x30) ⊎ (0x39 < b) → b ≢ 0x6c → b ≢ 0x4c → (c : OperatingSystemCommandCode) → b ∷ [] ≢ code_text c
+letter_differs : (b : ℕ) → (b < 0x30) ⊎ (0x39 < b) → b ≢ 0x6c → b ≢ 0x4c
+    → (c : OperatingSystemCommandCode) → b ∷ [] ≢ code_text c
 letter_differs b h l u c =
     λ e.
     let begins : begins_code b ≡ true = ap (λ t. begins_code (get_or t 0 0)) e ∙ code_begins c in
@@ -76,15 +87,18 @@ unfolding code_of
 letter_none b h l u = first_named_none all_codes (b ∷ []) (letter_differs b h l u)
 
 -- the text that names the code
-pub code_name_more : {X : Type 0} (f : X → List ℕ) (t : List ℕ) (rest : List X) → nat_eq (length rest) 0 ≡ false → code_name t (map f rest) ≡ t
+pub code_name_more : {X : Type 0} (f : X → List ℕ) (t : List ℕ) (rest : List X)
+    → nat_eq (length rest) 0 ≡ false → code_name t (map f rest) ≡ t
 code_name_more f t [] h = cc
 code_name_more f t (x ∷ xs) h = refl
 
-pub code_name_only : {X : Type 0} (f : X → List ℕ) (t : List ℕ) (rest : List X) → nat_eq (length rest) 0 ≡ true → code_name t (map f rest) ≡ code_name t []
+pub code_name_only : {X : Type 0} (f : X → List ℕ) (t : List ℕ) (rest : List X)
+    → nat_eq (length rest) 0 ≡ true → code_name t (map f rest) ≡ code_name t []
 code_name_only f t [] h = refl
 code_name_only f t (x ∷ xs) h = absurd (let e : length (x ∷ xs) ≡ 0 = eqb-true _ _ h in omega arith)
 
-pub code_name_letter : (t : List ℕ) → 0 < length t → (get_or t 0 0 < 0x30) ⊎ (0x39 < get_or t 0 0) → code_name t [] ≡ get_or t 0 0 ∷ []
+pub code_name_letter : (t : List ℕ) → 0 < length t → (get_or t 0 0 < 0x30) ⊎ (0x39 < get_or t 0 0)
+    → code_name t [] ≡ get_or t 0 0 ∷ []
 code_name_letter [] h d = absurd (omega arith)
 code_name_letter (x ∷ xs) h (inl low) = rw (lt-leb 0x30 x low)
 code_name_letter (x ∷ xs) h (inr high) =
@@ -112,6 +126,7 @@ code_alone : (c : OperatingSystemCommandCode) → code_name (code_text c) [] ≡
 code_alone code.SetIconNameAndWindowTitle = refl
 code_alone c = refl
 
-pub code_name_text : (c : OperatingSystemCommandCode) (args : List (List ℕ)) → code_name (code_text c) args ≡ code_text c
+pub code_name_text : (c : OperatingSystemCommandCode) (args : List (List ℕ))
+    → code_name (code_text c) args ≡ code_text c
 code_name_text c [] = code_alone c
 code_name_text c (p ∷ ps) = refl

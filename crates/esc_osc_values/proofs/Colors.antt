@@ -26,21 +26,24 @@ digits : all_below reads_digit 16 ≡ true
 digits = refl
 
 digit_back : (d : ℕ) → d < 16 → hex_of (digit_glyph false d) ≡ Some d
-digit_back d small = found d (hex_of (digit_glyph false d)) (all_below_at reads_digit 16 d digits small)
+digit_back d small =
+    found d (hex_of (digit_glyph false d)) (all_below_at reads_digit 16 d digits small)
 
 -- the number that four digits make
 abbrev of_four : ℕ → ℕ → ℕ → ℕ → ℕ
 of_four a b c d = (((0 + a) * 16 + b) * 16 + c) * 16 + d
 
 four_back : (a b c d : ℕ) → a < 16 → b < 16 → c < 16 → d < 16
-    → channel_of (digit_glyph false a ∷ digit_glyph false b ∷ digit_glyph false c ∷ digit_glyph false d ∷ []) ≡ Some (65535 * of_four a b c d / 65535)
+    → channel_of (digit_glyph false a ∷ digit_glyph false b ∷ digit_glyph false c
+    ∷ digit_glyph false d ∷ []) ≡ Some (65535 * of_four a b c d / 65535)
 four_back a b c d h i j k = rw (digit_back a h, digit_back b i, digit_back c j, digit_back d k) refl
 
 channel_back : (n : ℕ) → n < 65536 → channel_of (hex4 n) ≡ Some n
 channel_back n small =
     let all : of_four (n / 4096) (n / 256 % 16) (n / 16 % 16) (n % 16) ≡ n = omega arith in
     let one : 65535 * n / 65535 ≡ n = omega arith in
-    four_back (n / 4096) (n / 256 % 16) (n / 16 % 16) (n % 16) (omega arith) (omega arith) (omega arith) (omega arith)
+    four_back (n / 4096) (n / 256 % 16) (n / 16 % 16) (n % 16) (omega arith) (omega arith)
+    (omega arith) (omega arith)
     ∙ ap (λ v. Some (65535 * v / 65535)) all ∙ ap Some one
 
 -- a digit is a plain character, and no `/`
@@ -56,13 +59,16 @@ glyphs = refl
 glyph : (d : ℕ) → d < 16 → is_glyph (digit_glyph false d) ≡ true
 glyph d small = all_below_at glyph_test 16 d glyphs small
 
-four : (a b c d : ℕ) → is_glyph a ≡ true → is_glyph b ≡ true → is_glyph c ≡ true → is_glyph d ≡ true → list_all is_glyph (a ∷ b ∷ c ∷ d ∷ []) ≡ true
+four : (a b c d : ℕ) → is_glyph a ≡ true → is_glyph b ≡ true → is_glyph c ≡ true → is_glyph d ≡ true
+    → list_all is_glyph (a ∷ b ∷ c ∷ d ∷ []) ≡ true
 four a b c d h i j k = rw (h, i, j, k) refl
 
 hex4_glyphs : (n : ℕ) → n < 65536 → list_all is_glyph (hex4 n) ≡ true
 hex4_glyphs n small =
-    four (digit_glyph false (n / 4096)) (digit_glyph false (n / 256 % 16)) (digit_glyph false (n / 16 % 16)) (digit_glyph false (n % 16))
-    (glyph (n / 4096) (omega arith)) (glyph (n / 256 % 16) (omega arith)) (glyph (n / 16 % 16) (omega arith)) (glyph (n % 16) (omega arith))
+    four (digit_glyph false (n / 4096)) (digit_glyph false (n / 256 % 16))
+    (digit_glyph false (n / 16 % 16)) (digit_glyph false (n % 16))
+    (glyph (n / 4096) (omega arith)) (glyph (n / 256 % 16) (omega arith))
+    (glyph (n / 16 % 16) (omega arith)) (glyph (n % 16) (omega arith))
 
 glyphs_plain : (t : List ℕ) → list_all is_glyph t ≡ true → list_all is_part_plain t ≡ true
 glyphs_plain [] h = refl
@@ -71,22 +77,27 @@ glyphs_plain (c ∷ t) h =
     let k = and_parts (is_part_plain c) (not (c == 0x2f)) q.0 in
     rw (k.0, glyphs_plain t q.1) refl
 
-cut_at_first : (p rest : List ℕ) → list_all is_glyph p ≡ true → cut_at 0x2f (p ++ 0x2f ∷ rest) ≡ Some (p, rest)
+cut_at_first : (p rest : List ℕ) → list_all is_glyph p ≡ true
+    → cut_at 0x2f (p ++ 0x2f ∷ rest) ≡ Some (p, rest)
 cut_at_first p rest h = cut_there 0x2f p rest (free_passes 0x2f is_glyph refl p h)
 
-rgb_of_three : (r g b : List ℕ) → list_all is_glyph r ≡ true → list_all is_glyph g ≡ true → rgb_of (r ++ 0x2f ∷ (g ++ 0x2f ∷ b)) ≡ color_from r g b
+rgb_of_three : (r g b : List ℕ) → list_all is_glyph r ≡ true → list_all is_glyph g ≡ true
+    → rgb_of (r ++ 0x2f ∷ (g ++ 0x2f ∷ b)) ≡ color_from r g b
 rgb_of_three r g b h k = rw (cut_at_first r (g ++ 0x2f ∷ b) h, cut_at_first g b k) refl
 
-three_back : (r g b : ℕ) → r < 65536 → g < 65536 → b < 65536 → color_from (hex4 r) (hex4 g) (hex4 b) ≡ Some (Color (record { red = r; green = g; blue = b }))
+three_back : (r g b : ℕ) → r < 65536 → g < 65536 → b < 65536
+    → color_from (hex4 r) (hex4 g) (hex4 b) ≡ Some (Color (record { red = r; green = g; blue = b }))
 three_back r g b h i j = rw (channel_back r h, channel_back g i, channel_back b j) refl
 
 pub spec_back : (c : ColorOrQuery) → IsColor c → spec_of (spec_text c) ≡ Some c
 spec_back (Color c) h =
-    rgb_of_three (hex4 c.red) (hex4 c.green) (hex4 c.blue) (hex4_glyphs c.red h.0) (hex4_glyphs c.green h.1)
+    rgb_of_three (hex4 c.red) (hex4 c.green) (hex4 c.blue) (hex4_glyphs c.red h.0)
+    (hex4_glyphs c.green h.1)
     ∙ three_back c.red c.green c.blue h.0 h.1 h.2
 spec_back Query h = refl
 
-rgb_plain : (r g b : List ℕ) → list_all is_part_plain r ≡ true → list_all is_part_plain g ≡ true → list_all is_part_plain b ≡ true
+rgb_plain : (r g b : List ℕ) → list_all is_part_plain r ≡ true → list_all is_part_plain g ≡ true
+    → list_all is_part_plain b ≡ true
     → list_all is_part_plain (codes "rgb:" ++ r ++ 0x2f ∷ (g ++ 0x2f ∷ b)) ≡ true
 rgb_plain r g b h i j =
     all_append is_part_plain (codes "rgb:") (r ++ 0x2f ∷ (g ++ 0x2f ∷ b)) refl
@@ -97,7 +108,8 @@ rgb_plain r g b h i j =
 pub spec_part : (c : ColorOrQuery) → IsColor c → IsClearPart (spec_text c)
 spec_part (Color c) h =
     plain_part (spec_text (Color c)) (rgb_plain (hex4 c.red) (hex4 c.green) (hex4 c.blue)
-    (glyphs_plain (hex4 c.red) (hex4_glyphs c.red h.0)) (glyphs_plain (hex4 c.green) (hex4_glyphs c.green h.1))
+    (glyphs_plain (hex4 c.red) (hex4_glyphs c.red h.0))
+    (glyphs_plain (hex4 c.green) (hex4_glyphs c.green h.1))
     (glyphs_plain (hex4 c.blue) (hex4_glyphs c.blue h.2)))
 spec_part Query h = plain_part (codes "?") refl
 
@@ -113,11 +125,14 @@ colors_back (c ∷ cs) h = rw (spec_back c h.0, colors_back cs h.1) refl
 abbrev pub two_parts : ChangeColorPair → List (List ℕ)
 two_parts p = decimal p.palette_index ∷ spec_text p.color ∷ []
 
-pub two_are_parts : (ps : List ChangeColorPair) → ArePairs ps → AreClearParts (flat_map two_parts ps)
+pub two_are_parts : (ps : List ChangeColorPair) → ArePairs ps
+    → AreClearParts (flat_map two_parts ps)
 two_are_parts [] h = tt
-two_are_parts (p ∷ ps) h = (byte_part p.palette_index h.0.0, (spec_part p.color h.0.1, two_are_parts ps h.1))
+two_are_parts (p ∷ ps) h =
+    (byte_part p.palette_index h.0.0, (spec_part p.color h.0.1, two_are_parts ps h.1))
 
-pub pairs_back : (ps : List ChangeColorPair) → ArePairs ps → pairs_of (flat_map two_parts ps) ≡ Some ps
+pub pairs_back : (ps : List ChangeColorPair) → ArePairs ps
+    → pairs_of (flat_map two_parts ps) ≡ Some ps
 pairs_back [] h = refl
 pairs_back (p ∷ ps) h =
     rw (byte_back p.palette_index h.0.0, spec_back p.color h.0.1, pairs_back ps h.1) refl
@@ -126,8 +141,10 @@ regroup : (a b x : List ℕ) → (0x3b ∷ (a ++ 0x3b ∷ b)) ++ x ≡ (0x3b ∷
 regroup a b x = ap (λ t. 0x3b ∷ t) (append_assoc a (0x3b ∷ b) x)
 
 -- each pair after a `;` is its two parts after a `;` each
-pub pairs_joined : (ps : List ChangeColorPair) → flat_map (λ p. 0x3b ∷ pair_text p) ps ≡ flat_map (λ q. 0x3b ∷ q) (flat_map two_parts ps)
+pub pairs_joined : (ps : List ChangeColorPair)
+    → flat_map (λ p. 0x3b ∷ pair_text p) ps ≡ flat_map (λ q. 0x3b ∷ q) (flat_map two_parts ps)
 pairs_joined [] = refl
 pairs_joined (p ∷ ps) =
     ap (λ t. (0x3b ∷ pair_text p) ++ t) (pairs_joined ps)
-    ∙ regroup (decimal p.palette_index) (spec_text p.color) (flat_map (λ q. 0x3b ∷ q) (flat_map two_parts ps))
+    ∙ regroup (decimal p.palette_index) (spec_text p.color)
+    (flat_map (λ q. 0x3b ∷ q) (flat_map two_parts ps))

@@ -6,7 +6,8 @@ use Rattle.esc_values.specs.Clear.{AreClearParts, joined}
 use Rattle.esc_values.proofs.ClearTexts.{part_lossy}
 use Rattle.esc_osc_values.specs.Lists.{joined_by}
 
-behind_lossy : (ps : List (List ℕ)) → AreClearParts ps → flat_map (λ y. 0x3b ∷ utf8_lossy y) ps ≡ flat_map (λ q. 0x3b ∷ q) ps
+behind_lossy : (ps : List (List ℕ)) → AreClearParts ps
+    → flat_map (λ y. 0x3b ∷ utf8_lossy y) ps ≡ flat_map (λ q. 0x3b ∷ q) ps
 behind_lossy [] h = refl
 behind_lossy (p ∷ ps) h = rw (part_lossy p h.0) (ap (λ t. (0x3b ∷ p) ++ t) (behind_lossy ps h.1))
 

@@ -24,7 +24,8 @@ decimals_are_parts (n ∷ ns) h = (byte_part n h.0, decimals_are_parts ns h.1)
 pub numbers_back : (ns : List ℕ) → AreNumbers ns → numbers_of (map decimal ns) ≡ Some ns
 numbers_back [] h = refl
 numbers_back (n ∷ ns) h =
-    let some : nat_eq (length (decimal n)) 0 ≡ false = ne_eqb _ 0 (λ e. let p = decimal_nonempty n (omega arith) in omega arith) in
+    let some : nat_eq (length (decimal n)) 0 ≡ false =
+    ne_eqb _ 0 (λ e. let p = decimal_nonempty n (omega arith) in omega arith) in
     rw (some, byte_back n h.0, numbers_back ns h.1) refl
 
 -- a percentage reads back

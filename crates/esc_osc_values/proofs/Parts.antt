@@ -5,12 +5,14 @@ use Rattle.std.specs.List.{flat_map}
 use Rattle.esc_values.specs.Clear.{joined}
 use Rattle.esc_osc_values.specs.Colors.{pairs_of}
 
-pub pairs_end : {X : Type 0} (f : X → List ℕ) (left : List X) → length left < 2 → pairs_of (map f left) ≡ Some []
+pub pairs_end : {X : Type 0} (f : X → List ℕ) (left : List X) → length left < 2
+    → pairs_of (map f left) ≡ Some []
 pairs_end f [] h = refl
 pairs_end f (x ∷ []) h = refl
 pairs_end f (x ∷ y ∷ xs) h = absurd (omega arith)
 
-pub flat_map_map : {X : Type 0} (f : X → List ℕ) (rest : List X) → flat_map (λ q. 0x3b ∷ q) (map f rest) ≡ flat_map (λ q. 0x3b ∷ f q) rest
+pub flat_map_map : {X : Type 0} (f : X → List ℕ) (rest : List X)
+    → flat_map (λ q. 0x3b ∷ q) (map f rest) ≡ flat_map (λ q. 0x3b ∷ f q) rest
 flat_map_map f [] = refl
 flat_map_map f (x ∷ xs) = ap (λ t. (0x3b ∷ f x) ++ t) (flat_map_map f xs)
 

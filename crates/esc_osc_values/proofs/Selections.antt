@@ -47,7 +47,8 @@ letters_read b (l ∷ ls) a h =
       | inr failed ↦ rw (failed, is, some) (letters_read b ls (bit_or a l.0) q.1)
     ]
 
-letters_plain : (b : ℕ) (ls : List (ℕ × ℕ)) → list_all is_letter ls ≡ true → list_all is_part_plain (flat_map (letter_text b) ls) ≡ true
+letters_plain : (b : ℕ) (ls : List (ℕ × ℕ)) → list_all is_letter ls ≡ true
+    → list_all is_part_plain (flat_map (letter_text b) ls) ≡ true
 letters_plain b [] h = refl
 letters_plain b (l ∷ ls) h =
     let q = and_parts (is_letter l) (list_all is_letter ls) h in
@@ -78,7 +79,8 @@ some_letters (c ∷ cs) b some e = e
 
 pub selection_back : (b : ℕ) → IsNamed b → selection_of (selection_text b) ≡ Some b
 selection_back b h =
-    some_letters (selection_text b) b h.1 (letters_read b letters 0 all_letters ∙ ap Some (bits_are b h.0 h.2))
+    some_letters (selection_text b) b h.1 (letters_read b letters 0 all_letters
+    ∙ ap Some (bits_are b h.0 h.2))
 
 pub selection_part : (b : ℕ) → IsNamed b → IsClearPart (selection_text b)
 selection_part b h = plain_part (selection_text b) (letters_plain b letters all_letters)
@@ -91,18 +93,22 @@ pub base64_other : (t : List ℕ) → IsUtf8 t → pointwise nat_eq (base64_text
 base64_other t h =
     elim (cases_Bool (pointwise nat_eq (base64_text t) (codes "?"))) [
       | inl held ↦
-          let none : Some t ≡ None = sym (base64_back t h) ∙ ap base64_text_of (same_text (base64_text t) (codes "?") (sym held)) ∙ no_query in
+          let none : Some t ≡ None = sym (base64_back t h)
+          ∙ ap base64_text_of (same_text (base64_text t) (codes "?") (sym held)) ∙ no_query in
           absurd cc
       | inr failed ↦ failed
     ]
 
 -- the bit of the letter at a place, and a letter that is passed over
-pub bit_here : (ls : List (ℕ × ℕ)) (c i : ℕ) (d : ℕ × ℕ) → i < length ls → (c == (get_or ls i d).1) ≡ true → letter_bit_in (drop i ls) c ≡ (get_or ls i d).0
+pub bit_here : (ls : List (ℕ × ℕ)) (c i : ℕ) (d : ℕ × ℕ) → i < length ls
+    → (c == (get_or ls i d).1) ≡ true → letter_bit_in (drop i ls) c ≡ (get_or ls i d).0
 bit_here ls c i d lt same = at_drop_more (λ ks. letter_bit_in ks c) ls i d lt ∙ rw same refl
 
-pub bit_later : (ls : List (ℕ × ℕ)) (c i : ℕ) (d : ℕ × ℕ) → i < length ls → (c == (get_or ls i d).1) ≡ false
+pub bit_later : (ls : List (ℕ × ℕ)) (c i : ℕ) (d : ℕ × ℕ) → i < length ls
+    → (c == (get_or ls i d).1) ≡ false
     → letter_bit_in (drop (i + 1) ls) c ≡ letter_bit_in (drop i ls) c
-bit_later ls c i d lt differs = sym (at_drop_more (λ ks. letter_bit_in ks c) ls i d lt ∙ rw differs refl)
+bit_later ls c i d lt differs =
+    sym (at_drop_more (λ ks. letter_bit_in ks c) ls i d lt ∙ rw differs refl)
 
 -- a named bit, or none
 abbrev is_bit : ℕ → Bool
@@ -111,7 +117,8 @@ is_bit n = (n % 2 == 0) && nat_lt n 16384
 all_bits : list_all (λ (l : ℕ × ℕ). is_bit l.0) letters ≡ true
 all_bits = refl
 
-letter_is_bit : (c : ℕ) (ls : List (ℕ × ℕ)) → list_all (λ (l : ℕ × ℕ). is_bit l.0) ls ≡ true → is_bit (letter_bit_in ls c) ≡ true
+letter_is_bit : (c : ℕ) (ls : List (ℕ × ℕ)) → list_all (λ (l : ℕ × ℕ). is_bit l.0) ls ≡ true
+    → is_bit (letter_bit_in ls c) ≡ true
 letter_is_bit c [] h = refl
 letter_is_bit c (l ∷ ls) h =
     let q = and_parts (is_bit l.0) (list_all (λ (k : ℕ × ℕ). is_bit k.0) ls) h in
@@ -121,7 +128,8 @@ letter_is_bit c (l ∷ ls) h =
     ]
 
 -- named bits with one more
-one_bit : (b n : ℕ) → b % 2 ≡ 0 → b < 16384 → n % 2 ≡ 0 → n < 16384 → (n == 0) ≡ false → IsNamed (bit_or b n)
+one_bit : (b n : ℕ) → b % 2 ≡ 0 → b < 16384 → n % 2 ≡ 0 → n < 16384 → (n == 0) ≡ false
+    → IsNamed (bit_or b n)
 one_bit b n even most also low other =
     let some : n ≢ 0 = eqb-false n 0 other in
     let least : n ≤ bit_or b n = le_or_r b n in
@@ -129,17 +137,21 @@ one_bit b n even most also low other =
     let both : bit_or b n % 2 ≡ 0 = or_mod b n 1 ∙ ap (λ k. bit_or k (n % 2)) even ∙ also in
     (both, omega arith, omega arith)
 
-one_letter : (b c : ℕ) → b % 2 ≡ 0 → b ≤ 16382 → (letter_bit c == 0) ≡ false → IsNamed (bit_or b (letter_bit c))
+one_letter : (b c : ℕ) → b % 2 ≡ 0 → b ≤ 16382 → (letter_bit c == 0) ≡ false
+    → IsNamed (bit_or b (letter_bit c))
 one_letter b c even most other =
-    let q = and_parts (letter_bit c % 2 == 0) (nat_lt (letter_bit c) 16384) (letter_is_bit c letters all_bits) in
-    one_bit b (letter_bit c) even (omega arith) (eqb-true (letter_bit c % 2) 0 q.0) (ltb-true (letter_bit c) 16384 q.1) other
+    let q = and_parts (letter_bit c % 2 == 0) (nat_lt (letter_bit c) 16384)
+    (letter_is_bit c letters all_bits) in
+    one_bit b (letter_bit c) even (omega arith) (eqb-true (letter_bit c % 2) 0 q.0)
+    (ltb-true (letter_bit c) 16384 q.1) other
 
 more_letters : (b : ℕ) (cs : List ℕ) → IsNamed b → Where IsNamed (with_letters b cs)
 more_letters b [] h = h
 more_letters b (c ∷ cs) h =
     elim (cases_Bool (letter_bit c == 0)) [
       | inl held ↦ rw held tt
-      | inr failed ↦ rw failed (more_letters (bit_or b (letter_bit c)) cs (one_letter b c h.0 h.2 failed))
+      | inr failed ↦ rw failed
+          (more_letters (bit_or b (letter_bit c)) cs (one_letter b c h.0 h.2 failed))
     ]
 
 pub selection_named : (t : List ℕ) → Where IsNamed (selection_of t)
@@ -147,5 +159,6 @@ selection_named [] = (refl, omega arith, omega arith)
 selection_named (c ∷ cs) =
     elim (cases_Bool (letter_bit c == 0)) [
       | inl held ↦ rw held tt
-      | inr failed ↦ rw failed (more_letters (bit_or 0 (letter_bit c)) cs (one_letter 0 c refl (omega arith) failed))
+      | inr failed ↦ rw failed
+          (more_letters (bit_or 0 (letter_bit c)) cs (one_letter 0 c refl (omega arith) failed))
     ]

@@ -28,7 +28,8 @@ item_first made y (Some ys) = ap Some (sym (append_assoc made (y ∷ []) ys))
 
 -- a number, an empty part, and a part that is no number
 pub number_more : {X : Type 0} (f : X → List ℕ) (args : List X) (i : ℕ) (d : X)
-    (made after : List ℕ) (n : ℕ) (all : Option (List ℕ)) → i < length args → (length (f (get_or args i d)) == 0) ≡ false
+    (made after : List ℕ) (n : ℕ) (all : Option (List ℕ)) → i < length args
+    → (length (f (get_or args i d)) == 0) ≡ false
     → number_of 8 (f (get_or args i d)) ≡ Some n → after ≡ made ++ n ∷ []
     → all ≡ made_with made (numbers_of (map f (drop i args)))
     → all ≡ made_with after (numbers_of (map f (drop (i + 1) args)))
@@ -71,7 +72,8 @@ color_wrong f args i d made all lt is so_far =
 
 -- an item that each part has
 pub mapped_more : {X Y : Type 0} (f : X → Y) (xs : List X) (i : ℕ) (d : X)
-    (made after : List Y) (y : Y) → i < length xs → y ≡ f (get_or xs i d) → after ≡ made ++ y ∷ [] → made ≡ map f (take i xs)
+    (made after : List Y) (y : Y) → i < length xs → y ≡ f (get_or xs i d) → after ≡ made ++ y ∷ []
+    → made ≡ map f (take i xs)
     → after ≡ map f (take (i + 1) xs)
 mapped_more f xs i d made after y lt is pushed so_far =
     pushed

@@ -54,20 +54,30 @@ code_text code.SetIconNameSun = codes "L"
 -- every code, in the order in which a text is compared with theirs
 abbrev pub all_codes : List OperatingSystemCommandCode
 all_codes =
-    code.SetIconNameAndWindowTitle ∷ code.SetWindowTitle ∷ code.SetIconName ∷ code.SetHyperlink ∷ code.FinalTermSemanticPrompt ∷
-    code.SetCurrentWorkingDirectory ∷ code.ManipulateSelectionData ∷ code.SetTextForegroundColor ∷ code.SetTextBackgroundColor ∷
-    code.SetTextCursorColor ∷ code.ChangeColorNumber ∷ code.SystemNotification ∷ code.ITermProprietary ∷ code.SetXWindowProperty ∷
-    code.ChangeSpecialColorNumber ∷ code.ChangeTitleTabColor ∷ code.SetMouseForegroundColor ∷ code.SetMouseBackgroundColor ∷
-    code.SetTektronixForegroundColor ∷ code.SetTektronixBackgroundColor ∷ code.SetHighlightBackgroundColor ∷
-    code.SetTektronixCursorColor ∷ code.SetHighlightForegroundColor ∷ code.SetLogFileName ∷ code.SetFont ∷ code.EmacsShell ∷
-    code.ResetColors ∷ code.ResetSpecialColor ∷ code.ResetTextForegroundColor ∷ code.ResetTextBackgroundColor ∷
+    code.SetIconNameAndWindowTitle ∷ code.SetWindowTitle ∷ code.SetIconName ∷ code.SetHyperlink
+    ∷ code.FinalTermSemanticPrompt ∷
+    code.SetCurrentWorkingDirectory ∷ code.ManipulateSelectionData ∷ code.SetTextForegroundColor
+    ∷ code.SetTextBackgroundColor ∷
+    code.SetTextCursorColor ∷ code.ChangeColorNumber ∷ code.SystemNotification
+    ∷ code.ITermProprietary ∷ code.SetXWindowProperty ∷
+    code.ChangeSpecialColorNumber ∷ code.ChangeTitleTabColor ∷ code.SetMouseForegroundColor
+    ∷ code.SetMouseBackgroundColor ∷
+    code.SetTektronixForegroundColor ∷ code.SetTektronixBackgroundColor
+    ∷ code.SetHighlightBackgroundColor ∷
+    code.SetTektronixCursorColor ∷ code.SetHighlightForegroundColor ∷ code.SetLogFileName
+    ∷ code.SetFont ∷ code.EmacsShell ∷
+    code.ResetColors ∷ code.ResetSpecialColor ∷ code.ResetTextForegroundColor
+    ∷ code.ResetTextBackgroundColor ∷
     code.ResetTextCursorColor ∷ code.ResetMouseForegroundColor ∷ code.ResetMouseBackgroundColor ∷
-    code.ResetTektronixForegroundColor ∷ code.ResetTektronixBackgroundColor ∷ code.ResetHighlightColor ∷
-    code.ResetTektronixCursorColor ∷ code.ResetHighlightForegroundColor ∷ code.RxvtProprietary ∷ code.SetWindowTitleSun ∷
+    code.ResetTektronixForegroundColor ∷ code.ResetTektronixBackgroundColor
+    ∷ code.ResetHighlightColor ∷
+    code.ResetTektronixCursorColor ∷ code.ResetHighlightForegroundColor ∷ code.RxvtProprietary
+    ∷ code.SetWindowTitleSun ∷
     code.SetIconNameSun ∷ []
 
 -- the first of these codes whose text is t
-abbrev pub first_named : List OperatingSystemCommandCode → List ℕ → Option OperatingSystemCommandCode
+abbrev pub first_named : List OperatingSystemCommandCode → List ℕ
+    → Option OperatingSystemCommandCode
 first_named [] t = None
 first_named (c ∷ cs) t = if pointwise nat_eq t (code_text c) then Some c else first_named cs t
 
@@ -75,11 +85,12 @@ first_named (c ∷ cs) t = if pointwise nat_eq t (code_text c) then Some c else 
 unfoldable pub code_of : List ℕ → Option OperatingSystemCommandCode
 code_of t = first_named all_codes t
 
--- the text that names the code, of the first part's lossy text t and the parts after it: t, or its first
--- character where t is alone and begins with no ASCII digit. A code that is no number is one ASCII character, so
--- the first byte names what the first character does.
+-- the text that names the code, of the first part's lossy text t and the parts after it: t, or its
+-- first character where t is alone and begins with no ASCII digit. A code that is no number is one
+-- ASCII character, so the first byte names what the first character does.
 abbrev pub code_name : List ℕ → List (List ℕ) → List ℕ
-code_name t [] = if nat_le 0x30 (slice_index t 0) && nat_le (slice_index t 0) 0x39 then t else take 1 t
+code_name t [] =
+    if nat_le 0x30 (slice_index t 0) && nat_le (slice_index t 0) 0x39 then t else take 1 t
 code_name t (p ∷ ps) = t
 
 -- the number of a dynamic colour, that of the code which changes it
@@ -97,9 +108,11 @@ color_number color.HighlightForegroundColor = 19
 
 -- the dynamic colours
 abbrev pub all_colors : List DynamicColorNumber
-all_colors = color.TextForegroundColor ∷ color.TextBackgroundColor ∷ color.TextCursorColor ∷ color.MouseForegroundColor ∷
+all_colors = color.TextForegroundColor ∷ color.TextBackgroundColor ∷ color.TextCursorColor
+    ∷ color.MouseForegroundColor ∷
     color.MouseBackgroundColor ∷ color.TektronixForegroundColor ∷ color.TektronixBackgroundColor ∷
-    color.HighlightBackgroundColor ∷ color.TektronixCursorColor ∷ color.HighlightForegroundColor ∷ []
+    color.HighlightBackgroundColor ∷ color.TektronixCursorColor ∷ color.HighlightForegroundColor
+    ∷ []
 
 -- the first of these colours that has the number n
 abbrev pub first_numbered : List DynamicColorNumber → ℕ → Option DynamicColorNumber

@@ -14,7 +14,8 @@ use Rattle.esc_osc_values.specs.declared.change_color_pair.ChangeColorPair.{Chan
 
 -- four lower-case hexadecimal digits
 abbrev pub hex4 : ℕ → List ℕ
-hex4 n = digit_glyph false (n / 4096) ∷ digit_glyph false (n / 256 % 16) ∷ digit_glyph false (n / 16 % 16)
+hex4 n = digit_glyph false (n / 4096) ∷ digit_glyph false (n / 256 % 16)
+    ∷ digit_glyph false (n / 16 % 16)
     ∷ digit_glyph false (n % 16) ∷ []
 
 -- a colour, or `?`
@@ -44,15 +45,19 @@ channel_of ds = if nat_lt 0 (length ds) && nat_le (length ds) 4
 abbrev pub color_from : List ℕ → List ℕ → List ℕ → Option ColorOrQuery
 color_from r g b =
     and_then (channel_of r)
-    (λ red. and_then (channel_of g) (λ green. option_map (λ blue. Color (record { red = red; green = green; blue = blue })) (channel_of b)))
+    (λ red. and_then (channel_of g) (λ green.
+    option_map (λ blue. Color (record { red = red; green = green; blue = blue }))
+    (channel_of b)))
 
 -- channels with `/` between them
 abbrev pub rgb_of : List ℕ → Option ColorOrQuery
-rgb_of bs = and_then (cut_at 0x2f bs) (λ (p : List ℕ × List ℕ). and_then (cut_at 0x2f p.1) (λ (q : List ℕ × List ℕ). color_from p.0 q.0 q.1))
+rgb_of bs = and_then (cut_at 0x2f bs) (λ (p : List ℕ
+    × List ℕ). and_then (cut_at 0x2f p.1) (λ (q : List ℕ × List ℕ). color_from p.0 q.0 q.1))
 
 -- six digits, two a channel
 abbrev pub sharp_of : List ℕ → Option ColorOrQuery
-sharp_of bs = if length bs == 6 then color_from (take 2 bs) (take 2 (drop 2 bs)) (drop 4 bs) else None
+sharp_of bs =
+    if length bs == 6 then color_from (take 2 bs) (take 2 (drop 2 bs)) (drop 4 bs) else None
 
 -- a colour: `rgb:` or `#` and its channels; or `?`
 abbrev pub spec_of : List ℕ → Option ColorOrQuery

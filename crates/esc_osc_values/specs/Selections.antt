@@ -13,7 +13,8 @@ lacking a b = bit_and a (65535 - b)
 
 -- the bits and their letters, in the order in which they are written
 abbrev pub letters : List (ℕ × ℕ)
-letters = (2, 0x63) ∷ (4, 0x70) ∷ (8, 0x73) ∷ (16, 0x30) ∷ (32, 0x31) ∷ (64, 0x32) ∷ (128, 0x33) ∷ (256, 0x34) ∷ (512, 0x35) ∷ (1024, 0x36)
+letters = (2, 0x63) ∷ (4, 0x70) ∷ (8, 0x73) ∷ (16, 0x30) ∷ (32, 0x31) ∷ (64, 0x32) ∷ (128, 0x33)
+    ∷ (256, 0x34) ∷ (512, 0x35) ∷ (1024, 0x36)
     ∷ (2048, 0x37) ∷ (4096, 0x38) ∷ (8192, 0x39) ∷ []
 
 -- the letter, where the bit is there
@@ -35,7 +36,8 @@ letter_bit c = letter_bit_in letters c
 -- the bits b and those of the letters; none where a byte is no letter
 abbrev pub with_letters : ℕ → List ℕ → Option ℕ
 with_letters b [] = Some b
-with_letters b (c ∷ cs) = if letter_bit c == 0 then None else with_letters (bit_or b (letter_bit c)) cs
+with_letters b (c ∷ cs) =
+    if letter_bit c == 0 then None else with_letters (bit_or b (letter_bit c)) cs
 
 -- the bits that a text names; the empty text names SELECT and CUT0
 abbrev pub selection_of : List ℕ → Option ℕ

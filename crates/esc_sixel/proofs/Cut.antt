@@ -49,7 +49,8 @@ abbrev without_pixels : List ℕ → List ℕ
 without_pixels [] = []
 without_pixels (b ∷ bs) = without_by (class_of b) b bs
 
-pixels_by : (b : ℕ) (bs : List ℕ) (c : Class) → class_of b ≡ c → pixels_bytes (pixels_of c) ++ without_by c b bs ≡ b ∷ bs
+pixels_by : (b : ℕ) (bs : List ℕ) (c : Class) → class_of b ≡ c
+    → pixels_bytes (pixels_of c) ++ without_by c b bs ≡ b ∷ bs
 pixels_by b bs (Pixels v) e = ap (λ x. x ∷ bs) (sym (pixels_is b v e))
 pixels_by b bs Return e = refl
 pixels_by b bs Line e = refl
@@ -68,7 +69,8 @@ rest_of Outside s = s
 rest_of InRun s = after_run s
 rest_of InRepeat s = without_pixels (after_run s)
 
-count_whole : (bs rest : List ℕ) → rest ≡ without_pixels (after_run bs) → (run_of bs ++ pixels_bytes (first_pixels (after_run bs))) ++ rest ≡ bs
+count_whole : (bs rest : List ℕ) → rest ≡ without_pixels (after_run bs)
+    → (run_of bs ++ pixels_bytes (first_pixels (after_run bs))) ++ rest ≡ bs
 count_whole bs rest e =
     append_assoc (run_of bs) (pixels_bytes (first_pixels (after_run bs))) rest
     ∙ ap (λ r. run_of bs ++ (pixels_bytes (first_pixels (after_run bs)) ++ r)) e
@@ -78,21 +80,29 @@ count_whole bs rest e =
 abbrev Joins : Place → List ℕ → Type 0
 Joins p s = flat_map bytes_of (items_at p s) ≡ rest_of p s
 
-begins_item : (b : ℕ) (bs : List ℕ) (c : Class) → class_of b ≡ c → ((p : Place) → Joins p bs) → Joins Outside (b ∷ bs)
-begins_item b bs Return e h = rw e (ap (λ r. 36 ∷ r) (h Outside) ∙ ap (λ x. x ∷ bs) (sym (return_is b e)))
-begins_item b bs Line e h = rw e (ap (λ r. 45 ∷ r) (h Outside) ∙ ap (λ x. x ∷ bs) (sym (line_is b e)))
-begins_item b bs (Pixels v) e h = rw e (ap (λ r. (v + 63) ∷ r) (h Outside) ∙ ap (λ x. x ∷ bs) (sym (pixels_is b v e)))
-begins_item b bs (Introduces introducer.Repeat) e h = rw e (ap (λ r. 33 ∷ r) (count_whole bs _ (h InRepeat)) ∙ ap (λ x. x ∷ bs) (sym (count_is b e)))
+begins_item : (b : ℕ) (bs : List ℕ) (c : Class) → class_of b ≡ c → ((p : Place) → Joins p bs)
+    → Joins Outside (b ∷ bs)
+begins_item b bs Return e h =
+    rw e (ap (λ r. 36 ∷ r) (h Outside) ∙ ap (λ x. x ∷ bs) (sym (return_is b e)))
+begins_item b bs Line e h =
+    rw e (ap (λ r. 45 ∷ r) (h Outside) ∙ ap (λ x. x ∷ bs) (sym (line_is b e)))
+begins_item b bs (Pixels v) e h =
+    rw e (ap (λ r. (v + 63) ∷ r) (h Outside) ∙ ap (λ x. x ∷ bs) (sym (pixels_is b v e)))
+begins_item b bs (Introduces introducer.Repeat) e h =
+    rw e (ap (λ r. 33 ∷ r) (count_whole bs _ (h InRepeat)) ∙ ap (λ x. x ∷ bs) (sym (count_is b e)))
 begins_item b bs (Introduces introducer.Color) e h = rw e
-    (ap (λ r. 35 ∷ (run_of bs ++ r)) (h InRun) ∙ ap (λ r. 35 ∷ r) (run_split bs) ∙ ap (λ x. x ∷ bs) (sym (color_is b e)))
+    (ap (λ r. 35 ∷ (run_of bs ++ r)) (h InRun) ∙ ap (λ r. 35 ∷ r) (run_split bs)
+    ∙ ap (λ x. x ∷ bs) (sym (color_is b e)))
 begins_item b bs (Introduces introducer.Raster) e h = rw e
-    (ap (λ r. 34 ∷ (run_of bs ++ r)) (h InRun) ∙ ap (λ r. 34 ∷ r) (run_split bs) ∙ ap (λ x. x ∷ bs) (sym (raster_is b e)))
+    (ap (λ r. 34 ∷ (run_of bs ++ r)) (h InRun) ∙ ap (λ r. 34 ∷ r) (run_split bs)
+    ∙ ap (λ x. x ∷ bs) (sym (raster_is b e)))
 begins_item b bs (Digit d) e h = rw e (ap (λ r. b ∷ r) (h Outside))
 begins_item b bs Separator e h = rw e (ap (λ r. b ∷ r) (h Outside))
 begins_item b bs Junk e h = rw e (ap (λ r. b ∷ r) (h Outside))
 
 -- after a run
-in_run_item : (b : ℕ) (bs : List ℕ) (c : Class) → class_of b ≡ c → ((p : Place) → Joins p bs) → Joins InRun (b ∷ bs)
+in_run_item : (b : ℕ) (bs : List ℕ) (c : Class) → class_of b ≡ c → ((p : Place) → Joins p bs)
+    → Joins InRun (b ∷ bs)
 in_run_item b bs (Digit d) e h = rw e (h InRun)
 in_run_item b bs Separator e h = rw e (h InRun)
 in_run_item b bs Return e h = rw e (rw e at (begins_item b bs Return e h))
@@ -101,7 +111,8 @@ in_run_item b bs (Pixels v) e h = rw e (rw e at (begins_item b bs (Pixels v) e h
 in_run_item b bs (Introduces m) e h = rw e (rw e at (begins_item b bs (Introduces m) e h))
 in_run_item b bs Junk e h = rw e (rw e at (begins_item b bs Junk e h))
 
-in_count_item : (b : ℕ) (bs : List ℕ) (c : Class) → class_of b ≡ c → ((p : Place) → Joins p bs) → Joins InRepeat (b ∷ bs)
+in_count_item : (b : ℕ) (bs : List ℕ) (c : Class) → class_of b ≡ c → ((p : Place) → Joins p bs)
+    → Joins InRepeat (b ∷ bs)
 in_count_item b bs (Digit d) e h = rw e (h InRepeat)
 in_count_item b bs Separator e h = rw e (h InRepeat)
 in_count_item b bs (Pixels v) e h = rw (e, e) (h Outside)

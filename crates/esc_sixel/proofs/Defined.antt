@@ -25,20 +25,27 @@ open_at p k = record p { introducer = Some introducer.Color; parameters = k }
 abbrev pub holding : Option ℕ → Option ℕ → Option ℕ → Option ℕ → Option ℕ → ℕ → Parameters
 holding a b c d e n = record { values = a ∷ b ∷ c ∷ d ∷ e ∷ []; count = n }
 
-pub opened : {A : Type 0} (p : SixelBuilder A) → p.introducer ≡ Some introducer.Color → p.parameters ≡ fresh → open_at p fresh ≡ p
-opened p i k = ap (λ x. record p { introducer = x; parameters = fresh }) (sym i) ∙ ap (λ x. record p { parameters = x }) (sym k)
+pub opened : {A : Type 0} (p : SixelBuilder A) → p.introducer ≡ Some introducer.Color
+    → p.parameters ≡ fresh → open_at p fresh ≡ p
+opened p i k = ap (λ x. record p { introducer = x; parameters = fresh }) (sym i)
+    ∙ ap (λ x. record p { parameters = x }) (sym k)
 
-pub renamed : {A : Type 0} (p after q of : SixelBuilder A) (xs : List ℕ) → after ≡ p → of ≡ q → FoldsTo Pushes after xs of → FoldsTo Pushes p xs q
-renamed p after q of xs e f h = subst (λ z. FoldsTo Pushes z xs q) e (subst (λ z. FoldsTo Pushes after xs z) f h)
+pub renamed : {A : Type 0} (p after q of : SixelBuilder A) (xs : List ℕ) → after ≡ p → of ≡ q
+    → FoldsTo Pushes after xs of → FoldsTo Pushes p xs q
+renamed p after q of xs e f h =
+    subst (λ z. FoldsTo Pushes z xs q) e (subst (λ z. FoldsTo Pushes after xs z) f h)
 
 -- none of five
-pub all_none : (k : Parameters) → length k.values ≡ 5 → k.count ≡ 0 → get_or k.values 0 None ≡ None → get_or k.values 1 None ≡ None
+pub all_none : (k : Parameters) → length k.values ≡ 5 → k.count ≡ 0 → get_or k.values 0 None ≡ None
+    → get_or k.values 1 None ≡ None
     → get_or k.values 2 None ≡ None
     → get_or k.values 3 None ≡ None → get_or k.values 4 None ≡ None → k ≡ fresh
 all_none k l n a b c d e = by_items k.values k.count l n a b c d e
   where
-    by_items : (xs : List (Option ℕ)) (n : ℕ) → length xs ≡ 5 → n ≡ 0 → get_or xs 0 None ≡ None → get_or xs 1 None ≡ None → get_or xs 2 None ≡ None
-        → get_or xs 3 None ≡ None → get_or xs 4 None ≡ None → let made : Parameters = record { values = xs; count = n } in made ≡ fresh
+    by_items : (xs : List (Option ℕ)) (n : ℕ) → length xs ≡ 5 → n ≡ 0 → get_or xs 0 None ≡ None
+        → get_or xs 1 None ≡ None → get_or xs 2 None ≡ None
+        → get_or xs 3 None ≡ None → get_or xs 4 None ≡ None → let made : Parameters =
+        record { values = xs; count = n } in made ≡ fresh
     by_items [] n l z a b c d e = absurd (omega (arith, l))
     by_items (u ∷ []) n l z a b c d e = absurd (omega (arith, l))
     by_items (u ∷ v ∷ []) n l z a b c d e = absurd (omega (arith, l))
@@ -59,28 +66,40 @@ keeps_next k r b e room h = rw e (record {
   count = omega (arith, h.count, semicolons_next r, room);
 })
 
-pub separator_pushed : {A : Type 0} (p : SixelBuilder A) (k : Parameters) (b : ℕ) → b ≡ 0x3b → k.count < 5
+pub separator_pushed : {A : Type 0} (p : SixelBuilder A) (k : Parameters) (b : ℕ) → b ≡ 0x3b
+    → k.count < 5
     → Pushes (open_at p k) b (open_at p (record { values = k.values; count = k.count + 1 }))
 unfolding LeadsTo
 separator_pushed p k b e room = λ ps s lead.
     rw (closed_push Closed s b, open_push Closed s b)
-    (after_some {T = Unit {0}} {E = Unit {0}} ps (closed_of Closed s) (open_of Closed s) introducer.Color (class_of b) b p.sixel p.sixel
-    (Some introducer.Color) (Some introducer.Color) k (record { values = k.values; count = k.count + 1 }) (Ok tt) lead.0 lead.1 refl
+    (after_some {T = Unit {0}} {E = Unit {0}} ps (closed_of Closed s) (open_of Closed s)
+    introducer.Color (class_of b) b p.sixel p.sixel
+    (Some introducer.Color) (Some introducer.Color) k (record {
+      values = k.values;
+      count = k.count + 1;
+    }) (Ok tt) lead.0 lead.1 refl
     (λ r h. rw (separator_class b e) (refl, (refl, keeps_next k r b e room h.1))))
 
-pub two_pushed : {A : Type 0} (p : SixelBuilder A) (k : Parameters) (b : ℕ) → b ≡ 0x32 → length k.values ≡ 5 → k.count < 5
+pub two_pushed : {A : Type 0} (p : SixelBuilder A) (k : Parameters) (b : ℕ) → b ≡ 0x32
+    → length k.values ≡ 5 → k.count < 5
     → Pushes (open_at p k) b (open_at p (more_digit k 0x32))
-two_pushed p k b e five room = rw e (digit_pushed (open_at p k) introducer.Color 0x32 refl five room refl)
+two_pushed p k b e five room =
+    rw e (digit_pushed (open_at p k) introducer.Color 0x32 refl five room refl)
 
 -- a number in place of none
-pub number_pushed : {A : Type 0} (p : SixelBuilder A) (k : Parameters) (ds : List ℕ) (n : ℕ) → length k.values ≡ 5 → k.count < 5 → 0 < length ds
-    → All IsDigit ds → n ≡ number_after (unwrap_or (get_or k.values k.count None) 0) ds → FoldsTo Pushes (open_at p k) ds (open_at p (written k n))
+pub number_pushed : {A : Type 0} (p : SixelBuilder A) (k : Parameters) (ds : List ℕ) (n : ℕ)
+    → length k.values ≡ 5 → k.count < 5 → 0 < length ds
+    → All IsDigit ds → n ≡ number_after (unwrap_or (get_or k.values k.count None) 0) ds
+    → FoldsTo Pushes (open_at p k) ds (open_at p (written k n))
 number_pushed p k ds n five room some h e =
-    let is : written k n ≡ more_digits k ds = ap (written k) e ∙ sym (digits_written k ds (omega (arith, five, room)) some) in
-    digits_pushed ds (open_at p k) (open_at p (written k n)) introducer.Color refl five (λ t. room) h (ap (open_at p) is)
+    let is : written k n ≡ more_digits k ds =
+    ap (written k) e ∙ sym (digits_written k ds (omega (arith, five, room)) some) in
+    digits_pushed ds (open_at p k) (open_at p (written k n)) introducer.Color refl five (λ t.
+    room) h (ap (open_at p) is)
 
 -- what the five numbers give
-pub defines : (r : List ℕ) (n x y z : ℕ) → n < 10000 → Keeps (holding (Some n) (Some 2) (Some x) (Some y) (Some z) 4) r
+pub defines : (r : List ℕ) (n x y z : ℕ) → n < 10000
+    → Keeps (holding (Some n) (Some 2) (Some x) (Some y) (Some z) 4) r
     → DefineColorMapRGB n (percent x, percent y, percent z) ≡ color_of r
 defines r n x y z small k =
     let four : separators r ≡ 4 = omega (arith, k.count) in
@@ -92,9 +111,11 @@ defines r n x y z small k =
     let fits : n ≡ min n 65535 = omega arith in
     rw (four, a, b, c, d, e) (ap (λ m. DefineColorMapRGB m (percent x, percent y, percent z)) fits)
 
-pub made : (n x y z : ℕ) (rgb : ℕ × ℕ × ℕ) (a b c : ℕ) → rgb ≡ (a, b, c) → a ≡ percent x → b ≡ percent y → c ≡ percent z
+pub made : (n x y z : ℕ) (rgb : ℕ × ℕ × ℕ) (a b c : ℕ) → rgb ≡ (a, b, c) → a ≡ percent x
+    → b ≡ percent y → c ≡ percent z
     → DefineColorMapRGB n rgb ≡ DefineColorMapRGB n (percent x, percent y, percent z)
 made n x y z rgb a b c e f g h = rw (e, f, g, h) refl
 
-pub is_color : (o : Option Introducer) (i : Introducer) → o ≡ Some i → i ≡ introducer.Color → o ≡ Some introducer.Color
+pub is_color : (o : Option Introducer) (i : Introducer) → o ≡ Some i → i ≡ introducer.Color
+    → o ≡ Some introducer.Color
 is_color o i e f = e ∙ ap Some f

@@ -59,7 +59,8 @@ begun_item : (b : ℕ) (bs : List ℕ) (c : Class) → class_of b ≡ c → IsIt
 begun_item b bs Return e = tt
 begun_item b bs Line e = tt
 begun_item b bs (Pixels v) e = pixels_small b v e
-begun_item b bs (Introduces introducer.Repeat) e = repeat_item (run_of bs) (first_pixels (after_run bs)) (first_small (after_run bs))
+begun_item b bs (Introduces introducer.Repeat) e =
+    repeat_item (run_of bs) (first_pixels (after_run bs)) (first_small (after_run bs))
 begun_item b bs (Introduces introducer.Color) e = tt
 begun_item b bs (Introduces introducer.Raster) e = tt
 begun_item b bs (Digit d) e = tt
@@ -84,7 +85,8 @@ items_after t (i ∷ is) h = elim (cases_Bool (list_any t (i ∷ is))) [
 channel_is : (p : ℕ) → IsChannel (percent p)
 channel_is p = (min p 100, omega arith, omega arith)
 
-choose : (b : Bool) (x y : SixelData) → IsWritableData x → IsWritableData y → IsWritableData (if b then x else y)
+choose : (b : Bool) (x y : SixelData) → IsWritableData x → IsWritableData y
+    → IsWritableData (if b then x else y)
 choose true x y h k = h
 choose false x y h k = k
 
@@ -96,11 +98,22 @@ byte_small n = omega arith
 
 color_is : (run : List ℕ) → IsWritableData (color_of run)
 color_is run =
-    let hsl = DefineColorMapHSL (min (number run 0) 65535) (min (number run 2) 65535) (min (number run 3) 255) (min (number run 4) 255) in
-    let rgb = DefineColorMapRGB (min (number run 0) 65535) (percent (number run 2), percent (number run 3), percent (number run 4)) in
+    let hsl = DefineColorMapHSL (min (number run 0) 65535) (min (number run 2) 65535)
+    (min (number run 3) 255) (min (number run 4) 255) in
+    let rgb = DefineColorMapRGB (min (number run 0) 65535) (
+      percent (number run 2),
+      percent (number run 3),
+      percent (number run 4),
+    ) in
     let select = SelectColorMapEntry (min (number run 0) 65535) in
-    let in_hsl : IsWritableData hsl = (short_small (number run 0), (short_small (number run 2), (byte_small (number run 3), byte_small (number run 4)))) in
-    let in_rgb : IsWritableData rgb = (short_small (number run 0), (channel_is (number run 2), (channel_is (number run 3), channel_is (number run 4)))) in
+    let in_hsl : IsWritableData hsl = (
+      short_small (number run 0),
+      (short_small (number run 2), (byte_small (number run 3), byte_small (number run 4))),
+    ) in
+    let in_rgb : IsWritableData rgb = (
+      short_small (number run 0),
+      (channel_is (number run 2), (channel_is (number run 3), channel_is (number run 4))),
+    ) in
     choose (nat_le 4 (separators run)) (if number run 1 == 1 then hsl else rgb) select
     (choose (number run 1 == 1) hsl rgb in_hsl in_rgb) (short_small (number run 0))
 
@@ -114,20 +127,23 @@ item_gives (OfColor r) h = (color_is r, tt)
 item_gives (OfRaster r) h = tt
 item_gives (OfJunk b) h = tt
 
-data_append : (xs ys : List SixelData) → AreWritableData xs → AreWritableData ys → AreWritableData (xs ++ ys)
+data_append : (xs ys : List SixelData) → AreWritableData xs → AreWritableData ys
+    → AreWritableData (xs ++ ys)
 data_append [] ys h k = k
 data_append (x ∷ xs) ys h k = (h.0, data_append xs ys h.1 k)
 
 items_give : (is : List Item) → AreItems is → AreWritableData (flat_map gives is)
 items_give [] h = tt
-items_give (i ∷ is) h = data_append (gives i) (flat_map gives is) (item_gives i h.0) (items_give is h.1)
+items_give (i ∷ is) h =
+    data_append (gives i) (flat_map gives is) (item_gives i h.0) (items_give is h.1)
 
 -- the last of them
 or_else : {X : Type 0} (P : X → Type 0) (o : Option X) (x : X) → Where P o → P x → P (unwrap_or o x)
 or_else P None x h k = k
 or_else P (Some y) x h k = h
 
-last_is : {X : Type 0} (P : X → Type 0) (f : Item → Option X) (x : X) (is : List Item) → P x → ((i : Item) → Where P (f i)) → P (last_of f x is)
+last_is : {X : Type 0} (P : X → Type 0) (f : Item → Option X) (x : X) (is : List Item) → P x
+    → ((i : Item) → Where P (f i)) → P (last_of f x is)
 last_is P f x [] k h = k
 last_is P f x (i ∷ is) k h = last_is P f (unwrap_or (f i) x) is (or_else P (f i) x (h i) k) h
 
@@ -175,7 +191,8 @@ size_small : (o : Option ℕ) → Where (λ m. m < 2 ^ 32) (and_then o (λ n. wh
 size_small None = tt
 size_small (Some n) = small_when n
 
-pair_by : (w h : ℕ) (b : Bool) → nat_le (w * h) 100000000 ≡ b → w < 2 ^ 32 → h < 2 ^ 32 → PairFits (when b (w, h))
+pair_by : (w h : ℕ) (b : Bool) → nat_le (w * h) 100000000 ≡ b → w < 2 ^ 32 → h < 2 ^ 32
+    → PairFits (when b (w, h))
 pair_by w h true e x y = (x, (y, leb-true (w * h) 100000000 e))
 pair_by w h false e x y = tt
 
@@ -188,7 +205,8 @@ pair_fits (Some w) (Some h) x y = pair_by w h (nat_le (w * h) 100000000) refl x 
 sizes_fit : (i : Item) → Where PairFits (raster_sizes i)
 sizes_fit (OfRaster run) =
     where_if PairFits (nat_le 3 (separators run)) (Some (sizes_of run)) None
-    (pair_fits (size_of run 2) (size_of run 3) (size_small (param run 2)) (size_small (param run 3))) tt
+    (pair_fits (size_of run 2) (size_of run 3) (size_small (param run 2))
+    (size_small (param run 3))) tt
 sizes_fit OfReturn = tt
 sizes_fit OfLine = tt
 sizes_fit (OfPixels v) = tt
@@ -202,14 +220,19 @@ grid_is (a ∷ []) h = tt
 grid_is (a ∷ b ∷ []) h = tt
 grid_is (a ∷ b ∷ z ∷ ps) h = h.1.1.0
 
-pub data_is_writable : (ps : List ℤ) (bs : List ℕ) → AreNatural ps → IsWritable (sixel_of {A = ℕ} ps (items bs))
+pub data_is_writable : (ps : List ℤ) (bs : List ℕ) → AreNatural ps
+    → IsWritable (sixel_of {A = ℕ} ps (items bs))
 data_is_writable ps bs h = (
   last_is IsNatural raster_pan (header_pan ps) (items bs) (header_is ps) pan_is,
   (
     last_is IsNatural raster_pad (pos 1) (items bs) (omega arith) pad_is,
     (
       last_is PairFits raster_sizes None (items bs) tt sizes_fit,
-      (grid_is ps h, items_give (after_last is_oversize (items bs)) (items_after is_oversize (items bs) (are_items Outside bs))),
+      (
+        grid_is ps h,
+        items_give (after_last is_oversize (items bs))
+            (items_after is_oversize (items bs) (are_items Outside bs)),
+      ),
     ),
   ),
 )

@@ -31,7 +31,8 @@ abbrev pub MeansIn : ℤ → ℤ → Option (List ℕ) → Type 0
 MeansIn pan pad None = Unit {0}
 MeansIn pan pad (Some m) = Means pan pad m
 
-means_by : (digit number n : ℕ) → is_parameter_byte digit ≡ true → semi digit ≡ false → held (value_behind 0 (digit ∷ [])) ≡ number → pan_number number ≡ n
+means_by : (digit number n : ℕ) → is_parameter_byte digit ≡ true → semi digit ≡ false
+    → held (value_behind 0 (digit ∷ [])) ≡ number → pan_number number ≡ n
     → Means (pos n) (pos 1) (digit ∷ [])
 means_by digit number n byte other value is = record {
   digit = digit;
@@ -73,7 +74,8 @@ means (negsuc n) (pos k) = elim (cases_Bool (k == 1)) [
 -- the pieces of the parameters
 lacks : (ds : List ℕ) → are_digits ds ≡ true → ByRecursion (λ b. semi b ≡ false) ds
 lacks [] h = tt
-lacks (d ∷ ds) h = let q = and_parts (is_digit d) (are_digits ds) h in (not_separator d q.0, lacks ds q.1)
+lacks (d ∷ ds) h = let q = and_parts (is_digit d) (are_digits ds) h in
+    (not_separator d q.0, lacks ds q.1)
 
 digits_alone : (ds : List ℕ) → are_digits ds ≡ true → slice_split semi ds ≡ ds ∷ []
 digits_alone ds h = slice_split_none semi ds (All-from_recursion _ ds (lacks ds h))
@@ -83,7 +85,8 @@ grid_pieces None = []
 grid_pieces (Some (pos n)) = decimal n ∷ []
 grid_pieces (Some (negsuc n)) = []
 
-background_split : (t : Bool) (g : Option ℤ) → IsGrid g → slice_split semi (background_text t g) ≡ flag_text t ∷ grid_pieces g
+background_split : (t : Bool) (g : Option ℤ) → IsGrid g
+    → slice_split semi (background_text t g) ≡ flag_text t ∷ grid_pieces g
 background_split true None h = refl
 background_split false None h = refl
 background_split true (Some (pos n)) h =
@@ -121,35 +124,44 @@ grid_is (Some (pos n)) h =
     ap (λ k. pos (held k) ∷ []) piece.value ∙ ap (λ k. pos k ∷ []) (held_small n h)
 grid_is (Some (negsuc n)) h = absurd h
 
-background_numbers : (t : Bool) (g : Option ℤ) → IsGrid g → map number_of_piece (slice_split semi (background_text t g)) ≡ flag_number t ∷ grid_list g
+background_numbers : (t : Bool) (g : Option ℤ) → IsGrid g
+    → map number_of_piece (slice_split semi (background_text t g)) ≡ flag_number t ∷ grid_list g
 background_numbers t g h =
     ap (map number_of_piece) (background_split t g h)
     ∙ ap (λ k. k ∷ map number_of_piece (grid_pieces g)) (flag_is t)
     ∙ ap (λ r. flag_number t ∷ r) (grid_is g h)
 
 -- the parameters without a first one, and with one
-pub params_plain : (t : Bool) (g : Option ℤ) → IsGrid g → params_of (0x3b ∷ background_text t g) ≡ pos 0 ∷ flag_number t ∷ grid_list g
+pub params_plain : (t : Bool) (g : Option ℤ) → IsGrid g
+    → params_of (0x3b ∷ background_text t g) ≡ pos 0 ∷ flag_number t ∷ grid_list g
 params_plain t g h = ap (λ r. pos 0 ∷ r) (background_numbers t g h)
 
-pub params_first : (d v : ℕ) (t : Bool) (g : Option ℤ) → semi d ≡ false → held (value_behind 0 (d ∷ [])) ≡ v → IsGrid g
+pub params_first : (d v : ℕ) (t : Bool) (g : Option ℤ) → semi d ≡ false
+    → held (value_behind 0 (d ∷ [])) ≡ v → IsGrid g
     → params_of (d ∷ 0x3b ∷ background_text t g) ≡ pos v ∷ flag_number t ∷ grid_list g
 params_first d v t g other value h =
-    rw other (ap (λ k. pos k ∷ map number_of_piece (slice_split semi (background_text t g))) value ∙ ap (λ r. pos v ∷ r) (background_numbers t g h))
+    rw other (ap (λ k. pos k ∷ map number_of_piece (slice_split semi (background_text t g))) value
+    ∙ ap (λ r. pos v ∷ r) (background_numbers t g h))
 
 -- what they say
-pub flag_back : (v : ℕ) (t : Bool) (g : Option ℤ) → is_one (slice_get (pos v ∷ flag_number t ∷ grid_list g) 1) ≡ t
+pub flag_back : (v : ℕ) (t : Bool) (g : Option ℤ)
+    → is_one (slice_get (pos v ∷ flag_number t ∷ grid_list g) 1) ≡ t
 flag_back v true g = refl
 flag_back v false g = refl
 
-pub grid_back : (v : ℕ) (t : Bool) (g : Option ℤ) → slice_get (pos v ∷ flag_number t ∷ grid_list g) 2 ≡ g
+pub grid_back : (v : ℕ) (t : Bool) (g : Option ℤ)
+    → slice_get (pos v ∷ flag_number t ∷ grid_list g) 2 ≡ g
 grid_back v t None = refl
 grid_back v t (Some z) = refl
 
 -- their bytes
-pub background_bytes : (t : Bool) (g : Option ℤ) → IsGrid g → list_all is_parameter_byte (background_text t g) ≡ true
+pub background_bytes : (t : Bool) (g : Option ℤ) → IsGrid g
+    → list_all is_parameter_byte (background_text t g) ≡ true
 background_bytes true None h = refl
 background_bytes false None h = refl
-background_bytes true (Some (pos n)) h = let piece = decimal_piece n (omega (arith, h)) in digit_bytes (decimal n) piece.digits
-background_bytes false (Some (pos n)) h = let piece = decimal_piece n (omega (arith, h)) in digit_bytes (decimal n) piece.digits
+background_bytes true (Some (pos n)) h = let piece = decimal_piece n (omega (arith, h)) in
+    digit_bytes (decimal n) piece.digits
+background_bytes false (Some (pos n)) h = let piece = decimal_piece n (omega (arith, h)) in
+    digit_bytes (decimal n) piece.digits
 background_bytes true (Some (negsuc n)) h = absurd h
 background_bytes false (Some (negsuc n)) h = absurd h

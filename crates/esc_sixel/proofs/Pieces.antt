@@ -44,23 +44,28 @@ pub not_separator : (b : ℕ) → is_digit b ≡ true → (b == 0x3b) ≡ false
 not_separator b d = grind (arith, nat_tests)
 
 -- the numbers of a run
-goes_on : (m : ℕ) (ds rest : List ℕ) → are_digits ds ≡ true → numbers_after (Some m) (ds ++ 0x3b ∷ rest) ≡ Some (value_behind m ds) ∷ numbers_after None rest
+goes_on : (m : ℕ) (ds rest : List ℕ) → are_digits ds ≡ true
+    → numbers_after (Some m) (ds ++ 0x3b ∷ rest) ≡ Some (value_behind m ds)
+    ∷ numbers_after None rest
 goes_on m [] rest h = refl
 goes_on m (d ∷ ds) rest h =
     let q = and_parts (is_digit d) (are_digits ds) h in
     rw (not_separator d q.0) (goes_on (10 * m + (d - 0x30)) ds rest q.1)
 
-ends_run : (m : ℕ) (ds : List ℕ) → are_digits ds ≡ true → numbers_after (Some m) ds ≡ Some (value_behind m ds) ∷ []
+ends_run : (m : ℕ) (ds : List ℕ) → are_digits ds ≡ true
+    → numbers_after (Some m) ds ≡ Some (value_behind m ds) ∷ []
 ends_run m [] h = refl
 ends_run m (d ∷ ds) h =
     let q = and_parts (is_digit d) (are_digits ds) h in
     rw (not_separator d q.0) (ends_run (10 * m + (d - 0x30)) ds q.1)
 
-piece_then : (p : List ℕ) (n : ℕ) (rest : List ℕ) → IsPiece p n → numbers_after None (p ++ 0x3b ∷ rest) ≡ Some n ∷ numbers_after None rest
+piece_then : (p : List ℕ) (n : ℕ) (rest : List ℕ) → IsPiece p n
+    → numbers_after None (p ++ 0x3b ∷ rest) ≡ Some n ∷ numbers_after None rest
 piece_then [] n rest h = absurd (let some = h.some in omega (arith, some))
 piece_then (d ∷ ds) n rest h =
     let q = and_parts (is_digit d) (are_digits ds) h.digits in
-    rw (not_separator d q.0) (goes_on (10 * 0 + (d - 0x30)) ds rest q.1 ∙ ap (λ k. Some k ∷ numbers_after None rest) h.value)
+    rw (not_separator d q.0) (goes_on (10 * 0 + (d - 0x30)) ds rest q.1
+    ∙ ap (λ k. Some k ∷ numbers_after None rest) h.value)
 
 pub piece_last : (p : List ℕ) (n : ℕ) → IsPiece p n → numbers_after None p ≡ Some n ∷ []
 piece_last [] n h = absurd (let some = h.some in omega (arith, some))
@@ -72,28 +77,33 @@ abbrev pub all_some : List ℕ → List (Option ℕ)
 all_some [] = []
 all_some (n ∷ ns) = Some n ∷ all_some ns
 
-pub run_numbers : (p : List ℕ) (ps : List (List ℕ)) (n : ℕ) (ns : List ℕ) → ArePieces (p ∷ ps) (n ∷ ns)
+pub run_numbers : (p : List ℕ) (ps : List (List ℕ)) (n : ℕ) (ns : List ℕ)
+    → ArePieces (p ∷ ps) (n ∷ ns)
     → numbers_after None (joined (p ∷ ps)) ≡ Some n ∷ all_some ns
 run_numbers p [] n [] h = ap (numbers_after None) (append-nil p) ∙ piece_last p n h.0
 run_numbers p [] n (m ∷ ns) h = absurd h.1
 run_numbers p (q ∷ ps) n [] h = absurd h.1
-run_numbers p (q ∷ ps) n (m ∷ ns) h = piece_then p n (joined (q ∷ ps)) h.0 ∙ ap (λ r. Some n ∷ r) (run_numbers q ps m ns h.1)
+run_numbers p (q ∷ ps) n (m ∷ ns) h =
+    piece_then p n (joined (q ∷ ps)) h.0 ∙ ap (λ r. Some n ∷ r) (run_numbers q ps m ns h.1)
 
 -- how many separators it has
-passes_digits : (ds rest : List ℕ) → are_digits ds ≡ true → separators (ds ++ rest) ≡ separators rest
+passes_digits : (ds rest : List ℕ) → are_digits ds ≡ true
+    → separators (ds ++ rest) ≡ separators rest
 passes_digits [] rest h = refl
 passes_digits (d ∷ ds) rest h =
     let q = and_parts (is_digit d) (are_digits ds) h in
     rw (not_separator d q.0) (passes_digits ds rest q.1)
 
-pub run_separators : (p : List ℕ) (ps : List (List ℕ)) (n : ℕ) (ns : List ℕ) → ArePieces (p ∷ ps) (n ∷ ns)
+pub run_separators : (p : List ℕ) (ps : List (List ℕ)) (n : ℕ) (ns : List ℕ)
+    → ArePieces (p ∷ ps) (n ∷ ns)
     → separators (joined (p ∷ ps)) ≡ length ps
 run_separators p [] n [] h = passes_digits p [] h.0.digits
 run_separators p [] n (m ∷ ns) h = absurd h.1
 run_separators p (q ∷ ps) n [] h = absurd h.1
 run_separators p (q ∷ ps) n (m ∷ ns) h =
     let more : separators (joined (q ∷ ps)) ≡ length ps = run_separators q ps m ns h.1 in
-    let here : separators (p ++ 0x3b ∷ joined (q ∷ ps)) ≡ separators (0x3b ∷ joined (q ∷ ps)) = passes_digits p (0x3b ∷ joined (q ∷ ps)) h.0.digits in
+    let here : separators (p ++ 0x3b ∷ joined (q ∷ ps)) ≡ separators (0x3b ∷ joined (q ∷ ps)) =
+    passes_digits p (0x3b ∷ joined (q ∷ ps)) h.0.digits in
     here ∙ (omega (arith, more))
 
 -- its bytes
@@ -109,14 +119,16 @@ digit_bytes (d ∷ ds) h =
     let q = and_parts (is_digit d) (are_digits ds) h in
     rw (parameter_byte d q.0, digit_bytes ds q.1) refl
 
-pub run_bytes : (p : List ℕ) (ps : List (List ℕ)) (n : ℕ) (ns : List ℕ) → ArePieces (p ∷ ps) (n ∷ ns)
+pub run_bytes : (p : List ℕ) (ps : List (List ℕ)) (n : ℕ) (ns : List ℕ)
+    → ArePieces (p ∷ ps) (n ∷ ns)
     → list_all is_parameter_byte (joined (p ∷ ps)) ≡ true
 run_bytes p [] n [] h = ap (list_all is_parameter_byte) (append-nil p) ∙ digit_bytes p h.0.digits
 run_bytes p [] n (m ∷ ns) h = absurd h.1
 run_bytes p (q ∷ ps) n [] h = absurd h.1
 run_bytes p (q ∷ ps) n (m ∷ ns) h =
     let more : list_all is_parameter_byte (joined (q ∷ ps)) ≡ true = run_bytes q ps m ns h.1 in
-    list_all-append is_parameter_byte p (0x3b ∷ joined (q ∷ ps)) ∙ rw (digit_bytes p h.0.digits) more
+    list_all-append is_parameter_byte p (0x3b ∷ joined (q ∷ ps))
+    ∙ rw (digit_bytes p h.0.digits) more
 
 pub data_bytes : (r : List ℕ) → list_all is_parameter_byte r ≡ true → list_all is_data_byte r ≡ true
 data_bytes [] h = refl

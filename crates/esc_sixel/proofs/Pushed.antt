@@ -33,27 +33,35 @@ on_err (Ok x) p = tt
 on_err (Err e) p = p
 
 -- one run after another
-pub folds_join : {P A : Type 0} (R : P → A → P → Type 0) (p : P) (xs ys : List A) (q r : P) → FoldsTo R p xs q → FoldsTo R q ys r → FoldsTo R p (xs ++ ys) r
+pub folds_join : {P A : Type 0} (R : P → A → P → Type 0) (p : P) (xs ys : List A) (q r : P)
+    → FoldsTo R p xs q → FoldsTo R q ys r → FoldsTo R p (xs ++ ys) r
 folds_join R p [] ys q r e f = subst (λ z. FoldsTo R z ys r) (sym e) f
 folds_join R p (x ∷ xs) ys q r (j, one, rest) f = (j, one, folds_join R j xs ys q r rest f)
 
-pub folds_more : {P A : Type 0} (R : P → A → P → Type 0) (p : P) (xs : List A) (at n : ℕ) (q r : P) → FoldsTo R p (take at xs) q
+pub folds_more : {P A : Type 0} (R : P → A → P → Type 0) (p : P) (xs : List A) (at n : ℕ) (q r : P)
+    → FoldsTo R p (take at xs) q
     → FoldsTo R q (take n (take (length xs - at) (drop at xs))) r → FoldsTo R p (take (at + n) xs) r
 folds_more R p xs at n q r e f =
     let rest = take_all (length xs - at) (drop at xs) (omega (arith, length-drop at xs)) in
     let more = subst (λ t. FoldsTo R q (take n t) r) rest f in
-    subst (λ z. FoldsTo R p z r) (sym (take-add at n xs)) (folds_join R p (take at xs) (take n (drop at xs)) q r e more)
+    subst (λ z. FoldsTo R p z r) (sym (take-add at n xs))
+    (folds_join R p (take at xs) (take n (drop at xs)) q r e more)
 
-pub folds_one : {P : Type 0} (R : P → ℕ → P → Type 0) (p : P) (xs : List ℕ) (at : ℕ) (q r : P) → at < length xs → FoldsTo R p (take at xs) q
+pub folds_one : {P : Type 0} (R : P → ℕ → P → Type 0) (p : P) (xs : List ℕ) (at : ℕ) (q r : P)
+    → at < length xs → FoldsTo R p (take at xs) q
     → R q (get_or xs at 0) r → FoldsTo R p (take (at + 1) xs) r
 folds_one R p xs at q r lt e one =
-    subst (λ z. FoldsTo R p z r) (sym (take_more xs at 0 lt)) (folds_join R p (take at xs) (get_or xs at 0 ∷ []) q r e (r, one, refl))
+    subst (λ z. FoldsTo R p z r) (sym (take_more xs at 0 lt))
+    (folds_join R p (take at xs) (get_or xs at 0 ∷ []) q r e (r, one, refl))
 
 -- what a run of bytes leads to
-pub run_leads : {A : Type 0} (ps : List ℤ) (s : List ℕ) (bs : List ℕ) (p q : SixelBuilder A) → FoldsTo Pushes p bs q → LeadsTo ps s p → LeadsTo ps (s ++ bs) q
-run_leads ps s [] p q e h = subst (λ t. LeadsTo ps t q) (sym (append-nil s)) (subst (LeadsTo ps s) e h)
+pub run_leads : {A : Type 0} (ps : List ℤ) (s : List ℕ) (bs : List ℕ) (p q : SixelBuilder A)
+    → FoldsTo Pushes p bs q → LeadsTo ps s p → LeadsTo ps (s ++ bs) q
+run_leads ps s [] p q e h =
+    subst (λ t. LeadsTo ps t q) (sym (append-nil s)) (subst (LeadsTo ps s) e h)
 run_leads ps s (b ∷ bs) p q (j, one, rest) h =
-    subst (λ t. LeadsTo ps t q) (append_assoc s (b ∷ []) bs) (run_leads ps (s ++ b ∷ []) bs j q rest (one ps s h))
+    subst (λ t. LeadsTo ps t q) (append_assoc s (b ∷ []) bs)
+    (run_leads ps (s ++ b ∷ []) bs j q rest (one ps s h))
 
 -- the image with one more piece of data
 abbrev pub with_data : {A : Type 0} → Sixel A → SixelData → Sixel A
@@ -63,24 +71,32 @@ with_data s d = record s { content = s.content ++ d ∷ [] }
 abbrev pub with_drawn : {A : Type 0} → SixelBuilder A → List ℕ → SixelBuilder A
 with_drawn p bs = record p { sixel = record p.sixel { content = p.sixel.content ++ drawn bs } }
 
-drawn_alone : {A : Type 0} (p : SixelBuilder A) (b : ℕ) (c : Class) → p.introducer ≡ None → c ≡ Pixels (b - 0x3f)
-    → ((with_drawn p (b ∷ [])).sixel ≡ with_items p.sixel (alone c b)) × HoldsOpen (opened c) p.introducer p.parameters
+drawn_alone : {A : Type 0} (p : SixelBuilder A) (b : ℕ) (c : Class) → p.introducer ≡ None
+    → c ≡ Pixels (b - 0x3f)
+    → ((with_drawn p (b ∷ [])).sixel ≡ with_items p.sixel (alone c b))
+    × HoldsOpen (opened c) p.introducer p.parameters
 drawn_alone p b c none e = rw e (refl, none)
 
-pixel_pushed : {A : Type 0} (p : SixelBuilder A) (b : ℕ) → p.introducer ≡ None → IsPixels b → Pushes p b (with_drawn p (b ∷ []))
+pixel_pushed : {A : Type 0} (p : SixelBuilder A) (b : ℕ) → p.introducer ≡ None → IsPixels b
+    → Pushes p b (with_drawn p (b ∷ []))
 unfolding LeadsTo
 pixel_pushed p b none h = λ ps s lead.
     rw (closed_push Closed s b, open_push Closed s b)
-    (after_none {T = Unit {0}} {E = Unit {0}} ps (closed_of Closed s) (open_of Closed s) (class_of b) b p.sixel (with_drawn p (b ∷ [])).sixel
-    p.introducer p.introducer p.parameters p.parameters (Ok tt) lead.0 lead.1 none (drawn_alone p b (class_of b) none (pixels_class b h)))
+    (after_none {T = Unit {0}} {E = Unit {0}} ps (closed_of Closed s) (open_of Closed s)
+    (class_of b) b p.sixel (with_drawn p (b ∷ [])).sixel
+    p.introducer p.introducer p.parameters p.parameters (Ok tt) lead.0 lead.1 none
+    (drawn_alone p b (class_of b) none (pixels_class b h)))
 
-pub pixels_pushed : {A : Type 0} (bs : List ℕ) (p q : SixelBuilder A) → p.introducer ≡ None → All IsPixels bs → q ≡ with_drawn p bs → FoldsTo Pushes p bs q
-pixels_pushed [] p q none h e = ap (λ t. record p { sixel = record p.sixel { content = t } }) (sym (append-nil p.sixel.content)) ∙ sym e
+pub pixels_pushed : {A : Type 0} (bs : List ℕ) (p q : SixelBuilder A) → p.introducer ≡ None
+    → All IsPixels bs → q ≡ with_drawn p bs → FoldsTo Pushes p bs q
+pixels_pushed [] p q none h e = ap (λ t. record p { sixel = record p.sixel { content = t } })
+    (sym (append-nil p.sixel.content)) ∙ sym e
 pixels_pushed (b ∷ bs) p q none h e = (
   with_drawn p (b ∷ []),
   pixel_pushed p b none (All-head IsPixels b bs h),
   pixels_pushed bs (with_drawn p (b ∷ [])) q none (All-tail IsPixels b bs h)
-      (e ∙ ap (λ t. record p { sixel = record p.sixel { content = t } }) (sym (append_assoc p.sixel.content (drawn (b ∷ [])) (drawn bs)))),
+      (e ∙ ap (λ t. record p { sixel = record p.sixel { content = t } })
+      (sym (append_assoc p.sixel.content (drawn (b ∷ [])) (drawn bs)))),
 )
 
 -- the end of a line outside a command
@@ -92,22 +108,30 @@ unfolding class_of
 ends_class b d (inl h) = inl (rw h.0 refl, h.1)
 ends_class b d (inr h) = inr (rw h.0 refl, h.1)
 
-ended_alone : {A : Type 0} (s : Sixel A) (b : ℕ) (c : Class) (d : SixelData) (i : Option Introducer) (k : Parameters) → i ≡ None → EndsBy c d
+ended_alone : {A : Type 0} (s : Sixel A) (b : ℕ) (c : Class) (d : SixelData) (i : Option Introducer)
+    (k : Parameters) → i ≡ None → EndsBy c d
     → (with_data s d ≡ with_items s (alone c b)) × HoldsOpen (opened c) i k
 ended_alone s b c d i k none (inl h) = rw (h.0, h.1) (refl, none)
 ended_alone s b c d i k none (inr h) = rw (h.0, h.1) (refl, none)
 
-pub line_ended : {A : Type 0} (p q : SixelBuilder A) (b : ℕ) (d : SixelData) → p.introducer ≡ None → Ends b d → q.sixel ≡ with_data p.sixel d
+pub line_ended : {A : Type 0} (p q : SixelBuilder A) (b : ℕ) (d : SixelData) → p.introducer ≡ None
+    → Ends b d → q.sixel ≡ with_data p.sixel d
     → q.introducer ≡ None → Pushes p b q
 unfolding LeadsTo
 line_ended p q b d none h e after = λ ps s lead.
-    let did = ended_alone p.sixel b (class_of b) d q.introducer q.parameters after (ends_class b d h) in
+    let did = ended_alone p.sixel b (class_of b) d q.introducer q.parameters after
+    (ends_class b d h) in
     rw (closed_push Closed s b, open_push Closed s b)
-    (after_none {T = Unit {0}} {E = Unit {0}} ps (closed_of Closed s) (open_of Closed s) (class_of b) b p.sixel q.sixel
-    p.introducer q.introducer p.parameters q.parameters (Ok tt) lead.0 lead.1 none (e ∙ did.0, did.1))
+    (after_none {T = Unit {0}} {E = Unit {0}} ps (closed_of Closed s) (open_of Closed s)
+    (class_of b) b p.sixel q.sixel
+    p.introducer q.introducer p.parameters q.parameters (Ok tt) lead.0 lead.1 none (
+      e ∙ did.0,
+      did.1,
+    ))
 
 -- a digit in a command, and more
-keeps_more : (p : Parameters) (run : List ℕ) (b : ℕ) → length p.values ≡ 5 → p.count < 5 → IsDigit b → Keeps p run → Keeps (more_digit p b) (run ++ b ∷ [])
+keeps_more : (p : Parameters) (run : List ℕ) (b : ℕ) → length p.values ≡ 5 → p.count < 5 → IsDigit b
+    → Keeps p run → Keeps (more_digit p b) (run ++ b ∷ [])
 keeps_more p run b five room h k =
     let low : b - 0x30 < 10 = digit_below b h in
     let whole : (b - 0x30) + 48 ≡ b = digit_whole b h in
@@ -123,24 +147,33 @@ keeps_more p run b five room h k =
 abbrev with_parameters : {A : Type 0} → SixelBuilder A → Parameters → SixelBuilder A
 with_parameters p k = record p { parameters = k }
 
-pub digit_pushed : {A : Type 0} (p : SixelBuilder A) (m : Introducer) (b : ℕ) → p.introducer ≡ Some m → length p.parameters.values ≡ 5 → p.parameters.count < 5
+pub digit_pushed : {A : Type 0} (p : SixelBuilder A) (m : Introducer) (b : ℕ)
+    → p.introducer ≡ Some m → length p.parameters.values ≡ 5 → p.parameters.count < 5
     → IsDigit b → Pushes p b (with_parameters p (more_digit p.parameters b))
 unfolding LeadsTo
 digit_pushed p m b some five room h = λ ps s lead.
     rw (closed_push Closed s b, open_push Closed s b)
-    (after_some {T = Unit {0}} {E = Unit {0}} ps (closed_of Closed s) (open_of Closed s) m (class_of b) b p.sixel p.sixel p.introducer p.introducer
+    (after_some {T = Unit {0}} {E = Unit {0}} ps (closed_of Closed s) (open_of Closed s) m
+    (class_of b) b p.sixel p.sixel p.introducer p.introducer
     p.parameters (more_digit p.parameters b) (Ok tt) lead.0 lead.1 some
-    (λ r k. rw (digit_class b h, closed_digit m r (b - 0x30) b) (refl, (k.0, keeps_more p.parameters r b five room h k.1))))
+    (λ r k. rw (digit_class b h, closed_digit m r (b - 0x30) b) (
+      refl,
+      (k.0, keeps_more p.parameters r b five room h k.1),
+    )))
 
-pub digits_pushed : {A : Type 0} (bs : List ℕ) (p q : SixelBuilder A) (m : Introducer) → p.introducer ≡ Some m → length p.parameters.values ≡ 5
-    → (0 < length bs → p.parameters.count < 5) → All IsDigit bs → q ≡ with_parameters p (more_digits p.parameters bs) → FoldsTo Pushes p bs q
+pub digits_pushed : {A : Type 0} (bs : List ℕ) (p q : SixelBuilder A) (m : Introducer)
+    → p.introducer ≡ Some m → length p.parameters.values ≡ 5
+    → (0 < length bs → p.parameters.count < 5) → All IsDigit bs
+    → q ≡ with_parameters p (more_digits p.parameters bs) → FoldsTo Pushes p bs q
 digits_pushed [] p q m some five room h e = sym e
 digits_pushed (b ∷ bs) p q m some five room h e =
     let more = more_digit p.parameters b in
-    let long : length more.values ≡ 5 = length-set p.parameters.values p.parameters.count _ ∙ five in (
+    let long : length more.values ≡ 5 =
+    length-set p.parameters.values p.parameters.count _ ∙ five in (
       with_parameters p more,
       digit_pushed p m b some five (room (omega arith)) (All-head IsDigit b bs h),
-      digits_pushed bs (with_parameters p more) q m some long (λ t. room (omega arith)) (All-tail IsDigit b bs h) e,
+      digits_pushed bs (with_parameters p more) q m some long (λ t.
+          room (omega arith)) (All-tail IsDigit b bs h) e,
     )
 
 -- a command begins outside one, and after a `#`
@@ -152,31 +185,39 @@ pub repeat_class : (b : ℕ) → b ≡ 0x21 → class_of b ≡ Introduces introd
 unfolding class_of
 repeat_class b e = rw e refl
 
-pub begins : {A : Type 0} (p : SixelBuilder A) (m : Introducer) (fresh : Parameters) (b : ℕ) → p.introducer ≡ None → class_of b ≡ Introduces m
+pub begins : {A : Type 0} (p : SixelBuilder A) (m : Introducer) (fresh : Parameters) (b : ℕ)
+    → p.introducer ≡ None → class_of b ≡ Introduces m
     → Keeps fresh [] → Pushes p b (record p { introducer = Some m; parameters = fresh })
 unfolding LeadsTo
 begins p m fresh b none is k = λ ps s lead.
     rw (closed_push Closed s b, open_push Closed s b)
-    (after_none {T = Unit {0}} {E = Unit {0}} ps (closed_of Closed s) (open_of Closed s) (class_of b) b p.sixel p.sixel p.introducer (Some m)
+    (after_none {T = Unit {0}} {E = Unit {0}} ps (closed_of Closed s) (open_of Closed s)
+    (class_of b) b p.sixel p.sixel p.introducer (Some m)
     p.parameters fresh (Ok tt) lead.0 lead.1 none (rw is (refl, (refl, k))))
 
-pub selected_begins : {A : Type 0} (p : SixelBuilder A) (m : Introducer) (fresh : Parameters) (b : ℕ) (d : SixelData) → p.introducer ≡ Some introducer.Color
-    → class_of b ≡ Introduces m → Keeps fresh [] → ((r : List ℕ) → Keeps p.parameters r → d ≡ color_of r)
+pub selected_begins : {A : Type 0} (p : SixelBuilder A) (m : Introducer) (fresh : Parameters)
+    (b : ℕ) (d : SixelData) → p.introducer ≡ Some introducer.Color
+    → class_of b ≡ Introduces m → Keeps fresh []
+    → ((r : List ℕ) → Keeps p.parameters r → d ≡ color_of r)
     → Pushes p b (record { sixel = with_data p.sixel d; introducer = Some m; parameters = fresh })
 unfolding LeadsTo
 selected_begins p m fresh b d some is k gives = λ ps s lead.
     rw (closed_push Closed s b, open_push Closed s b)
-    (after_some {T = Unit {0}} {E = Unit {0}} ps (closed_of Closed s) (open_of Closed s) introducer.Color (class_of b) b p.sixel (with_data p.sixel d)
+    (after_some {T = Unit {0}} {E = Unit {0}} ps (closed_of Closed s) (open_of Closed s)
+    introducer.Color (class_of b) b p.sixel (with_data p.sixel d)
     p.introducer (Some m) p.parameters fresh (Ok tt) lead.0 lead.1 some
     (λ r h. rw is (ap (with_data p.sixel) (gives r h.1), (refl, k))))
 
 -- six pixels end a `!`
-pub repeat_ends : {A : Type 0} (p q : SixelBuilder A) (b : ℕ) (d : SixelData) → p.introducer ≡ Some introducer.Repeat → IsPixels b
-    → ((r : List ℕ) → Keeps p.parameters r → d ≡ repeat_of r (b - 0x3f)) → q.sixel ≡ with_data p.sixel d → q.introducer ≡ None → Pushes p b q
+pub repeat_ends : {A : Type 0} (p q : SixelBuilder A) (b : ℕ) (d : SixelData)
+    → p.introducer ≡ Some introducer.Repeat → IsPixels b
+    → ((r : List ℕ) → Keeps p.parameters r → d ≡ repeat_of r (b - 0x3f))
+    → q.sixel ≡ with_data p.sixel d → q.introducer ≡ None → Pushes p b q
 unfolding LeadsTo
 repeat_ends p q b d some is gives e none = λ ps s lead.
     rw (closed_push Closed s b, open_push Closed s b)
-    (after_some {T = Unit {0}} {E = Unit {0}} ps (closed_of Closed s) (open_of Closed s) introducer.Repeat (class_of b) b p.sixel q.sixel
+    (after_some {T = Unit {0}} {E = Unit {0}} ps (closed_of Closed s) (open_of Closed s)
+    introducer.Repeat (class_of b) b p.sixel q.sixel
     p.introducer q.introducer p.parameters q.parameters (Ok tt) lead.0 lead.1 some
     (λ r h. rw (pixels_class b is) (e ∙ ap (with_data p.sixel) (gives r h.1), none)))
 
@@ -196,18 +237,22 @@ count_stays : (p : Parameters) (ds : List ℕ) → (more_digits p ds).count ≡ 
 count_stays p [] = refl
 count_stays p (b ∷ ds) = count_stays (more_digit p b) ds
 
-number_kept : (ds r : List ℕ) → 0 < length ds → Keeps (more_digits fresh ds) r → param r 0 ≡ Some (number_after 0 ds)
+number_kept : (ds r : List ℕ) → 0 < length ds → Keeps (more_digits fresh ds) r
+    → param r 0 ≡ Some (number_after 0 ds)
 number_kept ds r some k =
-    sym (k.values 0 (omega arith)) ∙ ap (λ (p : Parameters). get_or p.values 0 None) (digits_written fresh ds (omega arith) some)
+    sym (k.values 0 (omega arith)) ∙ ap (λ (p : Parameters). get_or p.values 0 None)
+    (digits_written fresh ds (omega arith) some)
 
-pub selects : (ds r : List ℕ) (n : ℕ) → 0 < length ds → n ≡ number_after 0 ds → n < 10000 → Keeps (more_digits fresh ds) r → SelectColorMapEntry n ≡ color_of r
+pub selects : (ds r : List ℕ) (n : ℕ) → 0 < length ds → n ≡ number_after 0 ds → n < 10000
+    → Keeps (more_digits fresh ds) r → SelectColorMapEntry n ≡ color_of r
 selects ds r n some e small k =
     let alone : separators r ≡ 0 = omega (arith, k.count, count_stays fresh ds) in
     let is : param r 0 ≡ Some n = number_kept ds r some k ∙ ap Some (sym e) in
     let fits : n ≡ min n 65535 = omega arith in
     rw (alone, is) (ap SelectColorMapEntry fits)
 
-pub repeats : (ds r : List ℕ) (n v : ℕ) → 0 < length ds → n ≡ number_after 0 ds → n < 10000 → Keeps (more_digits fresh ds) r → Repeat v n ≡ repeat_of r v
+pub repeats : (ds r : List ℕ) (n v : ℕ) → 0 < length ds → n ≡ number_after 0 ds → n < 10000
+    → Keeps (more_digits fresh ds) r → Repeat v n ≡ repeat_of r v
 repeats ds r n v some e small k =
     let is : param r 0 ≡ Some n = number_kept ds r some k ∙ ap Some (sym e) in
     let fits : n ≡ min n 4294967295 = omega arith in

@@ -46,22 +46,29 @@ same_image {A = A} s ps is a b w h t g c = λ i. record {
 held_small : (n : ℕ) → n < 2 ^ 63 → held n ≡ n
 held_small n small = omega arith
 
-param_at : (run : List ℕ) (ns : List (Option ℕ)) (k n : ℕ) → numbers_after None run ≡ ns → get_or ns k None ≡ Some n → n < 2 ^ 63 → param run k ≡ Some n
+param_at : (run : List ℕ) (ns : List (Option ℕ)) (k n : ℕ) → numbers_after None run ≡ ns
+    → get_or ns k None ≡ Some n → n < 2 ^ 63 → param run k ≡ Some n
 param_at run ns k n e f small =
-    ap (λ xs. option_map held (get_or xs k None)) e ∙ ap (option_map held) f ∙ ap Some (held_small n small)
+    ap (λ xs. option_map held (get_or xs k None)) e ∙ ap (option_map held) f
+    ∙ ap Some (held_small n small)
 
 size_at : (run : List ℕ) (k n : ℕ) → param run k ≡ Some n → n < 2 ^ 32 → size_of run k ≡ Some n
-size_at run k n e small = ap (λ o. and_then o (λ m. when (nat_lt m (2 ^ 32)) m)) e ∙ ap (λ b. when b n) (lt-ltb n (2 ^ 32) small)
+size_at run k n e small = ap (λ o. and_then o (λ m. when (nat_lt m (2 ^ 32)) m)) e
+    ∙ ap (λ b. when b n) (lt-ltb n (2 ^ 32) small)
 
-sizes_at : (run : List ℕ) (w h : ℕ) → size_of run 2 ≡ Some w → size_of run 3 ≡ Some h → w * h ≤ 100000000 → sizes_of run ≡ Some (w, h)
+sizes_at : (run : List ℕ) (w h : ℕ) → size_of run 2 ≡ Some w → size_of run 3 ≡ Some h
+    → w * h ≤ 100000000 → sizes_of run ≡ Some (w, h)
 sizes_at run w h e f room =
-    ap (λ o. and_then o (λ x. and_then (size_of run 3) (λ y. when (nat_le (x * y) 100000000) (x, y)))) e
+    ap (λ o. and_then o (λ x.
+    and_then (size_of run 3) (λ y. when (nat_le (x * y) 100000000) (x, y)))) e
     ∙ ap (λ o. and_then o (λ y. when (nat_le (w * y) 100000000) (w, y))) f
     ∙ ap (λ b. when b (w, h)) (le-leb (w * h) 100000000 room)
 
 -- data without raster attributes
-short_image : {A : Type 0} (s : Sixel A) (ps : List ℤ) → AreWritableData s.content → s.pixel_width ≡ None → s.pixel_height ≡ None
-    → header_pan ps ≡ s.pan → pos 1 ≡ s.pad → is_one (slice_get ps 1) ≡ s.background_is_transparent → slice_get ps 2 ≡ s.horizontal_grid_size
+short_image : {A : Type 0} (s : Sixel A) (ps : List ℤ) → AreWritableData s.content
+    → s.pixel_width ≡ None → s.pixel_height ≡ None
+    → header_pan ps ≡ s.pan → pos 1 ≡ s.pad → is_one (slice_get ps 1) ≡ s.background_is_transparent
+    → slice_get ps 2 ≡ s.horizontal_grid_size
     → sixel_of {A = A} ps (items (content_text s.content)) ≡ s
 short_image {A = A} s ps data_ok w h pan pad t g =
     ap (sixel_of {A = A} ps) (content_items s.content data_ok)
@@ -79,17 +86,24 @@ raster_image : {A : Type 0} (s : Sixel A) (ps : List ℤ) (run : List ℕ) → A
     → pos (unwrap_or (param run 0) 2) ≡ s.pan → pos (unwrap_or (param run 1) 1) ≡ s.pad
     → is_oversize (OfRaster run) ≡ false
     → option_map (λ (x : ℕ × ℕ). x.0) (unwrap_or (raster_sizes (OfRaster run)) None) ≡ s.pixel_width
-    → option_map (λ (x : ℕ × ℕ). x.1) (unwrap_or (raster_sizes (OfRaster run)) None) ≡ s.pixel_height
-    → is_one (slice_get ps 1) ≡ s.background_is_transparent → slice_get ps 2 ≡ s.horizontal_grid_size
+    → option_map (λ (x : ℕ × ℕ). x.1) (unwrap_or (raster_sizes (OfRaster run)) None)
+    ≡ s.pixel_height
+    → is_one (slice_get ps 1) ≡ s.background_is_transparent
+    → slice_get ps 2 ≡ s.horizontal_grid_size
     → sixel_of {A = A} ps (items (0x22 ∷ (run ++ content_text s.content))) ≡ s
 raster_image {A = A} s ps run data_ok bytes pan pad fits w h t g =
     ap (sixel_of {A = A} ps)
-    (raster_item run (content_text s.content) bytes (content_stops s.content data_ok) ∙ ap (λ r. OfRaster run ∷ r) (content_items s.content data_ok))
+    (raster_item run (content_text s.content) bytes (content_stops s.content data_ok)
+    ∙ ap (λ r. OfRaster run ∷ r) (content_items s.content data_ok))
     ∙ same_image s ps (OfRaster run ∷ map item_for s.content)
     (last_none raster_pan (pos (unwrap_or (param run 0) 2)) s.content no_pan ∙ pan)
     (last_none raster_pad (pos (unwrap_or (param run 1) 1)) s.content no_pad ∙ pad)
-    (ap (option_map (λ (x : ℕ × ℕ). x.0)) (last_none raster_sizes (unwrap_or (raster_sizes (OfRaster run)) None) s.content no_sizes) ∙ w)
-    (ap (option_map (λ (x : ℕ × ℕ). x.1)) (last_none raster_sizes (unwrap_or (raster_sizes (OfRaster run)) None) s.content no_sizes) ∙ h)
+    (ap (option_map (λ (x : ℕ × ℕ). x.0))
+    (last_none raster_sizes (unwrap_or (raster_sizes (OfRaster run)) None) s.content no_sizes)
+    ∙ w)
+    (ap (option_map (λ (x : ℕ × ℕ). x.1))
+    (last_none raster_sizes (unwrap_or (raster_sizes (OfRaster run)) None) s.content no_sizes)
+    ∙ h)
     t g
     (ap (flat_map gives) (raster_after run s.content fits) ∙ content_back s.content data_ok)
 
@@ -110,21 +124,25 @@ natural_piece : (z : ℤ) → IsNatural z → IsPiece (signed_decimal z) (natura
 natural_piece (pos n) h = decimal_piece n (omega (arith, h))
 natural_piece (negsuc n) h = absurd h
 
-number_is : (run : List ℕ) (ns : List (Option ℕ)) (k d : ℕ) (z : ℤ) → numbers_after None run ≡ ns → get_or ns k None ≡ Some (natural z) → IsNatural z
+number_is : (run : List ℕ) (ns : List (Option ℕ)) (k d : ℕ) (z : ℤ) → numbers_after None run ≡ ns
+    → get_or ns k None ≡ Some (natural z) → IsNatural z
     → pos (unwrap_or (param run k) d) ≡ z
 number_is run ns k d z e f h =
-    ap (λ o. pos (unwrap_or o d)) (param_at run ns k (natural z) e f (natural_small z h)) ∙ natural_back z h
+    ap (λ o. pos (unwrap_or o d)) (param_at run ns k (natural z) e f (natural_small z h))
+    ∙ natural_back z h
 
 -- the texts
 text_first : {A : Type 0} (s : Sixel A) (d : ℕ)
     → header_by None (Some (d ∷ [])) s ++ content_text s.content
-    ≡ 0x1b ∷ 0x50 ∷ ((d ∷ 0x3b ∷ background_text s.background_is_transparent s.horizontal_grid_size) ++ 0x71 ∷ content_text s.content)
+    ≡ 0x1b ∷ 0x50 ∷ ((d ∷ 0x3b ∷ background_text s.background_is_transparent s.horizontal_grid_size)
+    ++ 0x71 ∷ content_text s.content)
 text_first s d = simp (append_assoc, append-nil) refl
 
 text_ratio : {A : Type 0} (s : Sixel A)
     → header_by None None s ++ content_text s.content
     ≡ 0x1b ∷ 0x50 ∷ ((0x3b ∷ background_text s.background_is_transparent s.horizontal_grid_size)
-    ++ 0x71 ∷ 0x22 ∷ (joined (signed_decimal s.pan ∷ signed_decimal s.pad ∷ []) ++ content_text s.content))
+    ++ 0x71 ∷ 0x22 ∷ (joined (signed_decimal s.pan ∷ signed_decimal s.pad ∷ [])
+    ++ content_text s.content))
 text_ratio s = simp (append_assoc, append-nil) refl
 
 abbrev semi : List ℕ
@@ -136,7 +154,8 @@ opening = 0x71 ∷ 0x22 ∷ []
 pair_then : (p q r : List ℕ) → ((p ++ semi) ++ q) ++ r ≡ p ++ 0x3b ∷ (q ++ r)
 pair_then p q r = append_assoc (p ++ semi) q r ∙ append_assoc p semi (q ++ r)
 
-joined_then : (p q w h c : List ℕ) → joined (p ∷ q ∷ w ∷ h ∷ []) ++ c ≡ p ++ 0x3b ∷ (q ++ 0x3b ∷ (w ++ 0x3b ∷ (h ++ c)))
+joined_then : (p q w h c : List ℕ)
+    → joined (p ∷ q ∷ w ∷ h ∷ []) ++ c ≡ p ++ 0x3b ∷ (q ++ 0x3b ∷ (w ++ 0x3b ∷ (h ++ c)))
 joined_then p q w h c =
     append_assoc p (0x3b ∷ joined (q ∷ w ∷ h ∷ [])) c
     ∙ ap (λ r. p ++ 0x3b ∷ r) (append_assoc q (0x3b ∷ joined (w ∷ h ∷ [])) c
@@ -152,29 +171,38 @@ regroup b p q w h c =
     ∙ append_assoc (b ++ opening) ((p ++ semi) ++ q) (0x3b ∷ (((w ++ semi) ++ h) ++ c))
     ∙ append_assoc b opening (((p ++ semi) ++ q) ++ 0x3b ∷ (((w ++ semi) ++ h) ++ c))
     ∙ ap (λ r. b ++ 0x71 ∷ 0x22 ∷ r)
-    (pair_then p q (0x3b ∷ (((w ++ semi) ++ h) ++ c)) ∙ ap (λ r. p ++ 0x3b ∷ (q ++ 0x3b ∷ r)) (pair_then w h c) ∙ sym (joined_then p q w h c))
+    (pair_then p q (0x3b ∷ (((w ++ semi) ++ h) ++ c)) ∙ ap (λ r. p ++ 0x3b ∷ (q ++ 0x3b ∷ r))
+    (pair_then w h c) ∙ sym (joined_then p q w h c))
 
 text_sizes : {A : Type 0} (s : Sixel A) (w h : ℕ) (m : Option (List ℕ)) → s.pixel_height ≡ Some h
     → header_by (Some w) m s ++ content_text s.content
     ≡ 0x1b ∷ 0x50 ∷ ((0x3b ∷ background_text s.background_is_transparent s.horizontal_grid_size)
-    ++ 0x71 ∷ 0x22 ∷ (joined (signed_decimal s.pan ∷ signed_decimal s.pad ∷ decimal w ∷ decimal h ∷ []) ++ content_text s.content))
+    ++ 0x71 ∷ 0x22
+    ∷ (joined (signed_decimal s.pan ∷ signed_decimal s.pad ∷ decimal w ∷ decimal h ∷ [])
+    ++ content_text s.content))
 text_sizes s w h m e =
     let b = background_text s.background_is_transparent s.horizontal_grid_size in
     let p = signed_decimal s.pan in
     let q = signed_decimal s.pad in
     let c = content_text s.content in
-    ap (λ o. 0x1b ∷ 0x50 ∷ 0x3b ∷ (((((b ++ opening) ++ ((p ++ semi) ++ q)) ++ semi) ++ ((decimal w ++ semi) ++ decimal (unwrap_or o 0))) ++ c)) e
+    ap (λ o. 0x1b ∷ 0x50 ∷ 0x3b
+    ∷ (((((b ++ opening) ++ ((p ++ semi) ++ q)) ++ semi)
+    ++ ((decimal w ++ semi) ++ decimal (unwrap_or o 0))) ++ c)) e
     ∙ ap (λ r. 0x1b ∷ 0x50 ∷ 0x3b ∷ r) (regroup b p q (decimal w) (decimal h) c)
 
-output_is : {A : Type 0} (s : Sixel A) (text : List ℕ) → AreWritableData s.content → sixel_text s ≡ text → sixel_output s ≡ Some text
-output_is s text data_ok e = ap (λ b. if b then Some (sixel_text s) else None) (content_fits s.content data_ok) ∙ ap Some e
+output_is : {A : Type 0} (s : Sixel A) (text : List ℕ) → AreWritableData s.content
+    → sixel_text s ≡ text → sixel_output s ≡ Some text
+output_is s text data_ok e =
+    ap (λ b. if b then Some (sixel_text s) else None) (content_fits s.content data_ok) ∙ ap Some e
 
 -- raster attributes and data, as bytes
-raster_bytes : (run content : List ℕ) → list_all is_parameter_byte run ≡ true → list_all is_data_byte content ≡ true
+raster_bytes : (run content : List ℕ) → list_all is_parameter_byte run ≡ true
+    → list_all is_data_byte content ≡ true
     → list_all is_data_byte (0x22 ∷ (run ++ content)) ≡ true
 raster_bytes run content h k = list_all-append is_data_byte run content ∙ rw (data_bytes run h) k
 
-writes_first : {A : Type 0} (s : Sixel A) (m : List ℕ) → short_form s.pan s.pad ≡ Some m → Means s.pan s.pad m
+writes_first : {A : Type 0} (s : Sixel A) (m : List ℕ) → short_form s.pan s.pad ≡ Some m
+    → Means s.pan s.pad m
     → s.pixel_width ≡ None → s.pixel_height ≡ None → IsWritable s → WritesBack s
 writes_first {A = A} s m form k w h ok =
     let t = s.background_is_transparent in
@@ -186,14 +214,19 @@ writes_first {A = A} s m form k w h ok =
       k.digit ∷ 0x3b ∷ background_text t g,
       text,
       output_is s _ data_ok
-          (ap (λ o. header_by o (short_form s.pan s.pad) s ++ text) w ∙ ap (λ o. header_by None o s ++ text) (form ∙ ap Some k.is) ∙ text_first s k.digit),
-      ap (λ b. b && list_all is_parameter_byte (0x3b ∷ background_text t g)) k.byte ∙ background_bytes t g grid_ok,
+          (ap (λ o. header_by o (short_form s.pan s.pad) s ++ text) w
+          ∙ ap (λ o. header_by None o s ++ text) (form ∙ ap Some k.is) ∙ text_first s k.digit),
+      ap (λ b. b && list_all is_parameter_byte (0x3b ∷ background_text t g)) k.byte
+          ∙ background_bytes t g grid_ok,
       content_bytes s.content data_ok,
-      ap (λ x. sixel_of {A = A} x (items text)) (params_first k.digit k.number t g k.other k.value grid_ok)
-          ∙ short_image s ps data_ok w h k.pan_is k.pad_is (flag_back k.number t g) (grid_back k.number t g),
+      ap (λ x. sixel_of {A = A} x (items text)) (params_first k.digit k.number t g k.other k.value
+          grid_ok)
+          ∙ short_image s ps data_ok w h k.pan_is k.pad_is (flag_back k.number t g)
+          (grid_back k.number t g),
     )
 
-writes_ratio : {A : Type 0} (s : Sixel A) → short_form s.pan s.pad ≡ None → s.pixel_width ≡ None → s.pixel_height ≡ None → IsWritable s → WritesBack s
+writes_ratio : {A : Type 0} (s : Sixel A) → short_form s.pan s.pad ≡ None → s.pixel_width ≡ None
+    → s.pixel_height ≡ None → IsWritable s → WritesBack s
 writes_ratio {A = A} s form w h ok =
     let t = s.background_is_transparent in
     let g = s.horizontal_grid_size in
@@ -202,30 +235,40 @@ writes_ratio {A = A} s form w h ok =
     let grid_ok = ok.1.1.1.0 in
     let ps = pos 0 ∷ flag_number t ∷ grid_list g in
     let run = joined (signed_decimal s.pan ∷ signed_decimal s.pad ∷ []) in
-    let pieces : ArePieces (signed_decimal s.pan ∷ signed_decimal s.pad ∷ []) (natural s.pan ∷ natural s.pad ∷ []) =
+    let pieces : ArePieces (signed_decimal s.pan ∷ signed_decimal s.pad ∷ []) (natural s.pan
+    ∷ natural s.pad ∷ []) =
     (natural_piece s.pan ok.0, (natural_piece s.pad ok.1.0, tt)) in
     let numbers : numbers_after None run ≡ Some (natural s.pan) ∷ Some (natural s.pad) ∷ [] =
-    run_numbers (signed_decimal s.pan) (signed_decimal s.pad ∷ []) (natural s.pan) (natural s.pad ∷ []) pieces in
-    let count : separators run ≡ 1 = run_separators (signed_decimal s.pan) (signed_decimal s.pad ∷ []) (natural s.pan) (natural s.pad ∷ []) pieces in
+    run_numbers (signed_decimal s.pan) (signed_decimal s.pad ∷ []) (natural s.pan) (natural s.pad
+    ∷ []) pieces in
+    let count : separators run ≡ 1 =
+    run_separators (signed_decimal s.pan) (signed_decimal s.pad ∷ []) (natural s.pan)
+    (natural s.pad ∷ []) pieces in
     let bytes : list_all is_parameter_byte run ≡ true =
-    run_bytes (signed_decimal s.pan) (signed_decimal s.pad ∷ []) (natural s.pan) (natural s.pad ∷ []) pieces in
-    let sizes : raster_sizes (OfRaster run) ≡ None = ap (λ n. when (nat_le 3 n) (sizes_of run)) count in
-    let fits : is_oversize (OfRaster run) ≡ false = ap (λ n. nat_le 3 n && not (is_some (sizes_of run))) count in (
+    run_bytes (signed_decimal s.pan) (signed_decimal s.pad ∷ []) (natural s.pan) (natural s.pad
+    ∷ []) pieces in
+    let sizes : raster_sizes (OfRaster run) ≡ None =
+    ap (λ n. when (nat_le 3 n) (sizes_of run)) count in
+    let fits : is_oversize (OfRaster run) ≡ false =
+    ap (λ n. nat_le 3 n && not (is_some (sizes_of run))) count in (
       0x3b ∷ background_text t g,
       0x22 ∷ (run ++ text),
       output_is s _ data_ok
-          (ap (λ o. header_by o (short_form s.pan s.pad) s ++ text) w ∙ ap (λ o. header_by None o s ++ text) form ∙ text_ratio s),
+          (ap (λ o. header_by o (short_form s.pan s.pad) s ++ text) w
+          ∙ ap (λ o. header_by None o s ++ text) form ∙ text_ratio s),
       background_bytes t g grid_ok,
       raster_bytes run text bytes (content_bytes s.content data_ok),
       ap (λ x. sixel_of {A = A} x (items (0x22 ∷ (run ++ text)))) (params_plain t g grid_ok)
           ∙ raster_image s ps run data_ok bytes
-          (number_is run _ 0 2 s.pan numbers refl ok.0) (number_is run _ 1 1 s.pad numbers refl ok.1.0) fits
+          (number_is run _ 0 2 s.pan numbers refl ok.0)
+          (number_is run _ 1 1 s.pad numbers refl ok.1.0) fits
           (ap (λ o. option_map (λ (x : ℕ × ℕ). x.0) (unwrap_or o None)) sizes ∙ sym w)
           (ap (λ o. option_map (λ (x : ℕ × ℕ). x.1) (unwrap_or o None)) sizes ∙ sym h)
           (flag_back 0 t g) (grid_back 0 t g),
     )
 
-writes_sizes : {A : Type 0} (s : Sixel A) (x y : ℕ) → s.pixel_width ≡ Some x → s.pixel_height ≡ Some y → AreSizes (Some x) (Some y) → IsWritable s
+writes_sizes : {A : Type 0} (s : Sixel A) (x y : ℕ) → s.pixel_width ≡ Some x
+    → s.pixel_height ≡ Some y → AreSizes (Some x) (Some y) → IsWritable s
     → WritesBack s
 writes_sizes {A = A} s x y w h small ok =
     let t = s.background_is_transparent in
@@ -239,37 +282,55 @@ writes_sizes {A = A} s x y w h small ok =
     let texts = signed_decimal s.pad ∷ decimal x ∷ decimal y ∷ [] in
     let ns = natural s.pad ∷ x ∷ y ∷ [] in
     let run = joined (signed_decimal s.pan ∷ texts) in
-    let pieces : ArePieces (signed_decimal s.pan ∷ texts) (natural s.pan ∷ ns) =
-    (natural_piece s.pan ok.0, (natural_piece s.pad ok.1.0, (decimal_piece x (omega (arith, x_small)), (decimal_piece y (omega (arith, y_small)), tt)))) in
-    let numbers : numbers_after None run ≡ Some (natural s.pan) ∷ Some (natural s.pad) ∷ Some x ∷ Some y ∷ [] =
+    let pieces : ArePieces (signed_decimal s.pan ∷ texts) (natural s.pan ∷ ns) = (
+      natural_piece s.pan ok.0,
+      (
+        natural_piece s.pad ok.1.0,
+        (
+          decimal_piece x (omega (arith, x_small)),
+          (decimal_piece y (omega (arith, y_small)), tt),
+        ),
+      ),
+    ) in
+    let numbers : numbers_after None run ≡ Some (natural s.pan) ∷ Some (natural s.pad) ∷ Some x
+    ∷ Some y ∷ [] =
     run_numbers (signed_decimal s.pan) texts (natural s.pan) ns pieces in
-    let count : separators run ≡ 3 = run_separators (signed_decimal s.pan) texts (natural s.pan) ns pieces in
-    let bytes : list_all is_parameter_byte run ≡ true = run_bytes (signed_decimal s.pan) texts (natural s.pan) ns pieces in
-    let width : size_of run 2 ≡ Some x = size_at run 2 x (param_at run _ 2 x numbers refl (omega (arith, x_small))) x_small in
-    let height : size_of run 3 ≡ Some y = size_at run 3 y (param_at run _ 3 y numbers refl (omega (arith, y_small))) y_small in
+    let count : separators run ≡ 3 =
+    run_separators (signed_decimal s.pan) texts (natural s.pan) ns pieces in
+    let bytes : list_all is_parameter_byte run ≡ true =
+    run_bytes (signed_decimal s.pan) texts (natural s.pan) ns pieces in
+    let width : size_of run 2 ≡ Some x =
+    size_at run 2 x (param_at run _ 2 x numbers refl (omega (arith, x_small))) x_small in
+    let height : size_of run 3 ≡ Some y =
+    size_at run 3 y (param_at run _ 3 y numbers refl (omega (arith, y_small))) y_small in
     let both : sizes_of run ≡ Some (x, y) = sizes_at run x y width height small.1.1 in
-    let sizes : raster_sizes (OfRaster run) ≡ Some (Some (x, y)) = ap (λ n. when (nat_le 3 n) (sizes_of run)) count ∙ ap Some both in
+    let sizes : raster_sizes (OfRaster run) ≡ Some (Some (x, y)) =
+    ap (λ n. when (nat_le 3 n) (sizes_of run)) count ∙ ap Some both in
     let fits : is_oversize (OfRaster run) ≡ false =
     ap (λ n. nat_le 3 n && not (is_some (sizes_of run))) count ∙ ap (λ o. not (is_some o)) both in (
       0x3b ∷ background_text t g,
       0x22 ∷ (run ++ text),
-      output_is s _ data_ok (ap (λ o. header_by o (short_form s.pan s.pad) s ++ text) w ∙ text_sizes s x y (short_form s.pan s.pad) h),
+      output_is s _ data_ok (ap (λ o. header_by o (short_form s.pan s.pad) s ++ text) w
+          ∙ text_sizes s x y (short_form s.pan s.pad) h),
       background_bytes t g grid_ok,
       raster_bytes run text bytes (content_bytes s.content data_ok),
       ap (λ k. sixel_of {A = A} k (items (0x22 ∷ (run ++ text)))) (params_plain t g grid_ok)
           ∙ raster_image s ps run data_ok bytes
-          (number_is run _ 0 2 s.pan numbers refl ok.0) (number_is run _ 1 1 s.pad numbers refl ok.1.0) fits
+          (number_is run _ 0 2 s.pan numbers refl ok.0)
+          (number_is run _ 1 1 s.pad numbers refl ok.1.0) fits
           (ap (λ o. option_map (λ (k : ℕ × ℕ). k.0) (unwrap_or o None)) sizes ∙ sym w)
           (ap (λ o. option_map (λ (k : ℕ × ℕ). k.1) (unwrap_or o None)) sizes ∙ sym h)
           (flag_back 0 t g) (grid_back 0 t g),
     )
 
-by_form : {A : Type 0} (s : Sixel A) (m : Option (List ℕ)) → short_form s.pan s.pad ≡ m → MeansIn s.pan s.pad m
+by_form : {A : Type 0} (s : Sixel A) (m : Option (List ℕ)) → short_form s.pan s.pad ≡ m
+    → MeansIn s.pan s.pad m
     → s.pixel_width ≡ None → s.pixel_height ≡ None → IsWritable s → WritesBack s
 by_form s None e k w h ok = writes_ratio s e w h ok
 by_form s (Some m) e k w h ok = writes_first s m e k w h ok
 
-by_sizes : {A : Type 0} (s : Sixel A) (w h : Option ℕ) → s.pixel_width ≡ w → s.pixel_height ≡ h → AreSizes w h → IsWritable s → WritesBack s
+by_sizes : {A : Type 0} (s : Sixel A) (w h : Option ℕ) → s.pixel_width ≡ w → s.pixel_height ≡ h
+    → AreSizes w h → IsWritable s → WritesBack s
 by_sizes s None None e f k ok = by_form s (short_form s.pan s.pad) refl (means s.pan s.pad) e f ok
 by_sizes s (Some x) (Some y) e f k ok = writes_sizes s x y e f k ok
 by_sizes s None (Some y) e f k ok = absurd k

@@ -61,7 +61,8 @@ or_second true b e h = absurd cc
 run_class : (b : ℕ) → is_parameter_byte b ≡ true → in_run (class_of b) ≡ true
 run_class b h = elim (cases_Bool (is_digit b)) [
   | inl d ↦ ap in_run (digit_class b d)
-  | inr n ↦ ap (λ c. in_run (class_of c)) (eqb-true b 0x3b (or_second (is_digit b) _ n h)) ∙ ap in_run separator_class
+  | inr n ↦ ap (λ c. in_run (class_of c)) (eqb-true b 0x3b (or_second (is_digit b) _ n h))
+      ∙ ap in_run separator_class
 ]
 
 -- bytes that do not go on a run
@@ -73,26 +74,30 @@ run_ends : (rest : List ℕ) → Stops rest → run_of rest ≡ []
 run_ends [] s = refl
 run_ends (b ∷ bs) s = rw s refl
 
-run_is : (run rest : List ℕ) → list_all is_parameter_byte run ≡ true → Stops rest → run_of (run ++ rest) ≡ run
+run_is : (run rest : List ℕ) → list_all is_parameter_byte run ≡ true → Stops rest
+    → run_of (run ++ rest) ≡ run
 run_is [] rest h s = run_ends rest s
 run_is (b ∷ run) rest h s =
     let q = and_parts (is_parameter_byte b) (list_all is_parameter_byte run) h in
     rw (run_class b q.0) (ap (λ r. b ∷ r) (run_is run rest q.1 s))
 
-rest_is : (run rest : List ℕ) → list_all is_parameter_byte run ≡ true → Stops rest → after_run (run ++ rest) ≡ rest
+rest_is : (run rest : List ℕ) → list_all is_parameter_byte run ≡ true → Stops rest
+    → after_run (run ++ rest) ≡ rest
 rest_is [] [] h s = refl
 rest_is [] (b ∷ bs) h s = rw s refl
 rest_is (b ∷ run) rest h s =
     let q = and_parts (is_parameter_byte b) (list_all is_parameter_byte run) h in
     rw (run_class b q.0) (rest_is run rest q.1 s)
 
-passes : (run rest : List ℕ) → list_all is_parameter_byte run ≡ true → items_at InRun (run ++ rest) ≡ items_at InRun rest
+passes : (run rest : List ℕ) → list_all is_parameter_byte run ≡ true
+    → items_at InRun (run ++ rest) ≡ items_at InRun rest
 passes [] rest h = refl
 passes (b ∷ run) rest h =
     let q = and_parts (is_parameter_byte b) (list_all is_parameter_byte run) h in
     rw (run_class b q.0) (passes run rest q.1)
 
-passes_count : (ds rest : List ℕ) → are_digits ds ≡ true → items_at InRepeat (ds ++ rest) ≡ items_at InRepeat rest
+passes_count : (ds rest : List ℕ) → are_digits ds ≡ true
+    → items_at InRepeat (ds ++ rest) ≡ items_at InRepeat rest
 passes_count [] rest h = refl
 passes_count (d ∷ ds) rest h =
     let q = and_parts (is_digit d) (are_digits ds) h in
@@ -103,14 +108,16 @@ outside_again [] s = refl
 outside_again (b ∷ rest) s = rw s refl
 
 -- the item of each text
-pixels_item : (v : ℕ) (rest : List ℕ) → v < 64 → items_at Outside ((v + 0x3f) ∷ rest) ≡ OfPixels v ∷ items_at Outside rest
+pixels_item : (v : ℕ) (rest : List ℕ) → v < 64
+    → items_at Outside ((v + 0x3f) ∷ rest) ≡ OfPixels v ∷ items_at Outside rest
 pixels_item v rest small = rw (pixels_class v small) refl
 
 pixels_stop : (v : ℕ) (rest : List ℕ) → v < 64 → Stops ((v + 0x3f) ∷ rest)
 pixels_stop v rest small = rw (pixels_class v small) refl
 
 repeat_item : (ds : List ℕ) (v : ℕ) (rest : List ℕ) → are_digits ds ≡ true → v < 64
-    → items_at Outside (0x21 ∷ (ds ++ (v + 0x3f) ∷ rest)) ≡ OfRepeat ds (Some v) ∷ items_at Outside rest
+    → items_at Outside (0x21 ∷ (ds ++ (v + 0x3f) ∷ rest)) ≡ OfRepeat ds (Some v)
+    ∷ items_at Outside rest
 repeat_item ds v rest h small =
     let bytes = digit_bytes ds h in
     let stops = pixels_stop v rest small in
@@ -124,15 +131,24 @@ repeat_item ds v rest h small =
 
 color_item : (run rest : List ℕ) → list_all is_parameter_byte run ≡ true → Stops rest
     → items_at Outside (0x23 ∷ (run ++ rest)) ≡ OfColor run ∷ items_at Outside rest
-color_item run rest h s = rw (color_class, run_is run rest h s, passes run rest h) (ap (λ r. OfColor run ∷ r) (outside_again rest s))
+color_item run rest h s = rw (
+  color_class,
+  run_is run rest h s,
+  passes run rest h,
+) (ap (λ r. OfColor run ∷ r) (outside_again rest s))
 
 pub raster_item : (run rest : List ℕ) → list_all is_parameter_byte run ≡ true → Stops rest
     → items_at Outside (0x22 ∷ (run ++ rest)) ≡ OfRaster run ∷ items_at Outside rest
-raster_item run rest h s = rw (raster_class, run_is run rest h s, passes run rest h) (ap (λ r. OfRaster run ∷ r) (outside_again rest s))
+raster_item run rest h s = rw (
+  raster_class,
+  run_is run rest h s,
+  passes run rest h,
+) (ap (λ r. OfRaster run ∷ r) (outside_again rest s))
 
 -- the runs of colours
 abbrev rgb_texts : ℕ × ℕ × ℕ → List (List ℕ)
-rgb_texts c = codes "2" ∷ decimal (least_percent c.0) ∷ decimal (least_percent c.1) ∷ decimal (least_percent c.2) ∷ []
+rgb_texts c = codes "2" ∷ decimal (least_percent c.0) ∷ decimal (least_percent c.1)
+    ∷ decimal (least_percent c.2) ∷ []
 
 abbrev rgb_numbers : ℕ × ℕ × ℕ → List ℕ
 rgb_numbers c = 2 ∷ least_percent c.0 ∷ least_percent c.1 ∷ least_percent c.2 ∷ []
@@ -205,10 +221,12 @@ hsl_pieces n h l s w =
 channel_back : (c : ℕ) → IsChannel c → percent (held (least_percent c)) ≡ c
 channel_back c h = let low = h.1 in let is = h.2 in omega (arith, low, is)
 
-rgb_same : (a n r g b : ℕ) (c : ℕ × ℕ × ℕ) → a ≡ n → r ≡ c.0 → g ≡ c.1 → b ≡ c.2 → DefineColorMapRGB a (r, g, b) ≡ DefineColorMapRGB n c
+rgb_same : (a n r g b : ℕ) (c : ℕ × ℕ × ℕ) → a ≡ n → r ≡ c.0 → g ≡ c.1 → b ≡ c.2
+    → DefineColorMapRGB a (r, g, b) ≡ DefineColorMapRGB n c
 rgb_same a n r g b c e x y z = λ i. DefineColorMapRGB (e i) (x i, y i, z i)
 
-hsl_same : (a n b h c l d s : ℕ) → a ≡ n → b ≡ h → c ≡ l → d ≡ s → DefineColorMapHSL a b c d ≡ DefineColorMapHSL n h l s
+hsl_same : (a n b h c l d s : ℕ) → a ≡ n → b ≡ h → c ≡ l → d ≡ s
+    → DefineColorMapHSL a b c d ≡ DefineColorMapHSL n h l s
 hsl_same a n b h c l d s e x y z = λ i. DefineColorMapHSL (e i) (x i) (y i) (z i)
 
 held_short : (n : ℕ) → n < 2 ^ 16 → min (held n) 65535 ≡ n
@@ -220,25 +238,37 @@ held_byte n small = omega arith
 held_count : (n : ℕ) → n < 2 ^ 32 → min (held n) 4294967295 ≡ n
 held_count n small = omega arith
 
-rgb_back : (n : ℕ) (c : ℕ × ℕ × ℕ) → IsWritableData (DefineColorMapRGB n c) → color_of (rgb_run n c) ≡ DefineColorMapRGB n c
+rgb_back : (n : ℕ) (c : ℕ × ℕ × ℕ) → IsWritableData (DefineColorMapRGB n c)
+    → color_of (rgb_run n c) ≡ DefineColorMapRGB n c
 rgb_back n c h =
     let pieces = rgb_pieces n c h in
-    rw (run_separators (decimal n) (rgb_texts c) n (rgb_numbers c) pieces, run_numbers (decimal n) (rgb_texts c) n (rgb_numbers c) pieces)
-    (rgb_same _ n _ _ _ c (held_short n h.0) (channel_back c.0 h.1.0) (channel_back c.1 h.1.1.0) (channel_back c.2 h.1.1.1))
+    rw (
+      run_separators (decimal n) (rgb_texts c) n (rgb_numbers c) pieces,
+      run_numbers (decimal n) (rgb_texts c) n (rgb_numbers c) pieces,
+    )
+    (rgb_same _ n _ _ _ c (held_short n h.0) (channel_back c.0 h.1.0) (channel_back c.1 h.1.1.0)
+    (channel_back c.2 h.1.1.1))
 
-hsl_back : (n h l s : ℕ) → IsWritableData (DefineColorMapHSL n h l s) → color_of (hsl_run n h l s) ≡ DefineColorMapHSL n h l s
+hsl_back : (n h l s : ℕ) → IsWritableData (DefineColorMapHSL n h l s)
+    → color_of (hsl_run n h l s) ≡ DefineColorMapHSL n h l s
 hsl_back n h l s w =
     let pieces = hsl_pieces n h l s w in
-    rw (run_separators (decimal n) (hsl_texts h l s) n (hsl_numbers h l s) pieces, run_numbers (decimal n) (hsl_texts h l s) n (hsl_numbers h l s) pieces)
-    (hsl_same _ n _ h _ l _ s (held_short n w.0) (held_short h w.1.0) (held_byte l w.1.1.0) (held_byte s w.1.1.1))
+    rw (
+      run_separators (decimal n) (hsl_texts h l s) n (hsl_numbers h l s) pieces,
+      run_numbers (decimal n) (hsl_texts h l s) n (hsl_numbers h l s) pieces,
+    )
+    (hsl_same _ n _ h _ l _ s (held_short n w.0) (held_short h w.1.0) (held_byte l w.1.1.0)
+    (held_byte s w.1.1.1))
 
 select_back : (n : ℕ) → n < 2 ^ 16 → color_of (joined (decimal n ∷ [])) ≡ SelectColorMapEntry n
 select_back n small =
     let pieces : ArePieces (decimal n ∷ []) (n ∷ []) = (decimal_piece n (omega arith), tt) in
-    rw (run_separators (decimal n) [] n [] pieces, run_numbers (decimal n) [] n [] pieces) (ap SelectColorMapEntry (held_short n small))
+    rw (run_separators (decimal n) [] n [] pieces, run_numbers (decimal n) [] n [] pieces)
+    (ap SelectColorMapEntry (held_short n small))
 
 repeat_back : (n v : ℕ) → n < 2 ^ 32 → repeat_of (decimal n) v ≡ Repeat v n
-repeat_back n v small = rw (piece_last (decimal n) n (decimal_piece n (omega arith))) (ap (λ m. Repeat v m) (held_count n small))
+repeat_back n v small = rw (piece_last (decimal n) n (decimal_piece n (omega arith)))
+    (ap (λ m. Repeat v m) (held_count n small))
 
 -- the item of a piece of data
 abbrev pub item_for : SixelData → Item
@@ -263,31 +293,40 @@ content_stops (NewLine ∷ ds) h = rw line_class refl
 select_text : (n : ℕ) → data_text (SelectColorMapEntry n) ≡ 0x23 ∷ joined (decimal n ∷ [])
 select_text n = simp append-nil refl
 
-pub content_items : (ds : List SixelData) → AreWritableData ds → items_at Outside (content_text ds) ≡ map item_for ds
+pub content_items : (ds : List SixelData) → AreWritableData ds
+    → items_at Outside (content_text ds) ≡ map item_for ds
 content_items [] h = refl
-content_items (Data v ∷ ds) h = pixels_item v (content_text ds) h.0 ∙ ap (λ r. OfPixels v ∷ r) (content_items ds h.1)
+content_items (Data v ∷ ds) h =
+    pixels_item v (content_text ds) h.0 ∙ ap (λ r. OfPixels v ∷ r) (content_items ds h.1)
 content_items (Repeat v n ∷ ds) h =
     let small = h.0.0 in
     let piece = decimal_piece n (omega (arith, small)) in
-    ap (λ t. items_at Outside (0x21 ∷ t)) (append_assoc (decimal n) (pixels_text v) (content_text ds))
+    ap (λ t. items_at Outside (0x21 ∷ t))
+    (append_assoc (decimal n) (pixels_text v) (content_text ds))
     ∙ repeat_item (decimal n) v (content_text ds) piece.digits h.0.1
     ∙ ap (λ r. OfRepeat (decimal n) (Some v) ∷ r) (content_items ds h.1)
 content_items (DefineColorMapRGB n c ∷ ds) h =
     ap (λ t. items_at Outside (t ++ content_text ds)) (rgb_text n c)
-    ∙ color_item (rgb_run n c) (content_text ds) (run_bytes (decimal n) (rgb_texts c) n (rgb_numbers c) (rgb_pieces n c h.0)) (content_stops ds h.1)
+    ∙ color_item (rgb_run n c) (content_text ds)
+    (run_bytes (decimal n) (rgb_texts c) n (rgb_numbers c) (rgb_pieces n c h.0))
+    (content_stops ds h.1)
     ∙ ap (λ r. OfColor (rgb_run n c) ∷ r) (content_items ds h.1)
 content_items (DefineColorMapHSL n a l s ∷ ds) h =
     ap (λ t. items_at Outside (t ++ content_text ds)) (hsl_text n a l s)
-    ∙ color_item (hsl_run n a l s) (content_text ds) (run_bytes (decimal n) (hsl_texts a l s) n (hsl_numbers a l s) (hsl_pieces n a l s h.0))
+    ∙ color_item (hsl_run n a l s) (content_text ds)
+    (run_bytes (decimal n) (hsl_texts a l s) n (hsl_numbers a l s) (hsl_pieces n a l s h.0))
     (content_stops ds h.1)
     ∙ ap (λ r. OfColor (hsl_run n a l s) ∷ r) (content_items ds h.1)
 content_items (SelectColorMapEntry n ∷ ds) h =
     let small = h.0 in
-    let pieces : ArePieces (decimal n ∷ []) (n ∷ []) = (decimal_piece n (omega (arith, small)), tt) in
+    let pieces : ArePieces (decimal n ∷ []) (n ∷ []) =
+    (decimal_piece n (omega (arith, small)), tt) in
     ap (λ t. items_at Outside (t ++ content_text ds)) (select_text n)
-    ∙ color_item (joined (decimal n ∷ [])) (content_text ds) (run_bytes (decimal n) [] n [] pieces) (content_stops ds h.1)
+    ∙ color_item (joined (decimal n ∷ [])) (content_text ds) (run_bytes (decimal n) [] n [] pieces)
+    (content_stops ds h.1)
     ∙ ap (λ r. OfColor (joined (decimal n ∷ [])) ∷ r) (content_items ds h.1)
-content_items (CarriageReturn ∷ ds) h = rw return_class (ap (λ r. OfReturn ∷ r) (content_items ds h.1))
+content_items (CarriageReturn ∷ ds) h =
+    rw return_class (ap (λ r. OfReturn ∷ r) (content_items ds h.1))
 content_items (NewLine ∷ ds) h = rw line_class (ap (λ r. OfLine ∷ r) (content_items ds h.1))
 
 item_gives : (d : SixelData) → IsWritableData d → gives (item_for d) ≡ d ∷ []
@@ -299,9 +338,11 @@ item_gives (SelectColorMapEntry n) h = ap (λ x. x ∷ []) (select_back n h)
 item_gives CarriageReturn h = refl
 item_gives NewLine h = refl
 
-pub content_back : (ds : List SixelData) → AreWritableData ds → flat_map gives (map item_for ds) ≡ ds
+pub content_back : (ds : List SixelData) → AreWritableData ds
+    → flat_map gives (map item_for ds) ≡ ds
 content_back [] h = refl
-content_back (d ∷ ds) h = ap (λ x. x ++ flat_map gives (map item_for ds)) (item_gives d h.0) ∙ ap (λ r. d ∷ r) (content_back ds h.1)
+content_back (d ∷ ds) h = ap (λ x. x ++ flat_map gives (map item_for ds)) (item_gives d h.0)
+    ∙ ap (λ r. d ∷ r) (content_back ds h.1)
 
 -- none of them is raster attributes
 pub no_pan : (d : SixelData) → raster_pan (item_for d) ≡ None
@@ -340,25 +381,30 @@ not_oversize (SelectColorMapEntry n) = refl
 not_oversize CarriageReturn = refl
 not_oversize NewLine = refl
 
-pub last_none : {X : Type 0} (f : Item → Option X) (x : X) (ds : List SixelData) → ((d : SixelData) → f (item_for d) ≡ None) → last_of f x (map item_for ds) ≡ x
+pub last_none : {X : Type 0} (f : Item → Option X) (x : X) (ds : List SixelData)
+    → ((d : SixelData) → f (item_for d) ≡ None) → last_of f x (map item_for ds) ≡ x
 last_none f x [] h = refl
-last_none f x (d ∷ ds) h = ap (λ o. last_of f (unwrap_or o x) (map item_for ds)) (h d) ∙ last_none f x ds h
+last_none f x (d ∷ ds) h =
+    ap (λ o. last_of f (unwrap_or o x) (map item_for ds)) (h d) ∙ last_none f x ds h
 
 none_oversize : (ds : List SixelData) → list_any is_oversize (map item_for ds) ≡ false
 none_oversize [] = refl
-none_oversize (d ∷ ds) = ap (λ t. t || list_any is_oversize (map item_for ds)) (not_oversize d) ∙ none_oversize ds
+none_oversize (d ∷ ds) = ap (λ t. t || list_any is_oversize (map item_for ds)) (not_oversize d)
+    ∙ none_oversize ds
 
 all_after : (t : Item → Bool) (is : List Item) → list_any t is ≡ false → after_last t is ≡ is
 all_after t [] h = refl
 all_after t (i ∷ is) h = rw h refl
 
-pub content_after : (ds : List SixelData) → after_last is_oversize (map item_for ds) ≡ map item_for ds
+pub content_after : (ds : List SixelData)
+    → after_last is_oversize (map item_for ds) ≡ map item_for ds
 content_after ds = all_after is_oversize (map item_for ds) (none_oversize ds)
 
 pub raster_after : (run : List ℕ) (ds : List SixelData) → is_oversize (OfRaster run) ≡ false
     → after_last is_oversize (OfRaster run ∷ map item_for ds) ≡ OfRaster run ∷ map item_for ds
 raster_after run ds h =
-    all_after is_oversize (OfRaster run ∷ map item_for ds) (ap (λ t. t || list_any is_oversize (map item_for ds)) h ∙ none_oversize ds)
+    all_after is_oversize (OfRaster run ∷ map item_for ds)
+    (ap (λ t. t || list_any is_oversize (map item_for ds)) h ∙ none_oversize ds)
 
 -- the bytes of the text
 pixels_byte : (v : ℕ) → v < 64 → is_data_byte (v + 0x3f) ≡ true
@@ -372,20 +418,25 @@ text_bytes (Repeat v n) h =
     list_all-append is_data_byte (decimal n) (pixels_text v)
     ∙ rw (data_bytes (decimal n) (digit_bytes (decimal n) piece.digits), pixels_byte v h.1) refl
 text_bytes (DefineColorMapRGB n c) h =
-    ap (list_all is_data_byte) (rgb_text n c) ∙ data_bytes (rgb_run n c) (run_bytes (decimal n) (rgb_texts c) n (rgb_numbers c) (rgb_pieces n c h))
+    ap (list_all is_data_byte) (rgb_text n c)
+    ∙ data_bytes (rgb_run n c) (run_bytes (decimal n) (rgb_texts c) n (rgb_numbers c)
+    (rgb_pieces n c h))
 text_bytes (DefineColorMapHSL n a l s) h =
     ap (list_all is_data_byte) (hsl_text n a l s)
-    ∙ data_bytes (hsl_run n a l s) (run_bytes (decimal n) (hsl_texts a l s) n (hsl_numbers a l s) (hsl_pieces n a l s h))
+    ∙ data_bytes (hsl_run n a l s) (run_bytes (decimal n) (hsl_texts a l s) n (hsl_numbers a l s)
+    (hsl_pieces n a l s h))
 text_bytes (SelectColorMapEntry n) h =
     let piece = decimal_piece n (omega (arith, h)) in
     data_bytes (decimal n) (digit_bytes (decimal n) piece.digits)
 text_bytes CarriageReturn h = refl
 text_bytes NewLine h = refl
 
-pub content_bytes : (ds : List SixelData) → AreWritableData ds → list_all is_data_byte (content_text ds) ≡ true
+pub content_bytes : (ds : List SixelData) → AreWritableData ds
+    → list_all is_data_byte (content_text ds) ≡ true
 content_bytes [] h = refl
 content_bytes (d ∷ ds) h =
-    list_all-append is_data_byte (data_text d) (content_text ds) ∙ rw (text_bytes d h.0) (content_bytes ds h.1)
+    list_all-append is_data_byte (data_text d) (content_text ds)
+    ∙ rw (text_bytes d h.0) (content_bytes ds h.1)
 
 -- all values are six pixels
 data_fits : (d : SixelData) → IsWritableData d → is_sixel d ≡ true
@@ -399,4 +450,5 @@ data_fits NewLine h = refl
 
 pub content_fits : (ds : List SixelData) → AreWritableData ds → list_all is_sixel ds ≡ true
 content_fits [] h = refl
-content_fits (d ∷ ds) h = ap (λ t. t && list_all is_sixel ds) (data_fits d h.0) ∙ content_fits ds h.1
+content_fits (d ∷ ds) h =
+    ap (λ t. t && list_all is_sixel ds) (data_fits d h.0) ∙ content_fits ds h.1

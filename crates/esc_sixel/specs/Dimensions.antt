@@ -25,9 +25,11 @@ ends_line d = false
 -- the width of the widest line, where the first is n wide already
 abbrev pub widest_after : ℕ → List SixelData → ℕ
 widest_after n [] = n
-widest_after n (d ∷ ds) = if ends_line d then max n (widest_after 0 ds) else widest_after (line_after n d) ds
+widest_after n (d ∷ ds) =
+    if ends_line d then max n (widest_after 0 ds) else widest_after (line_after n d) ds
 
--- the number of the last band with a sixel, where the first band is number b, and f is the last so far
+-- the number of the last band with a sixel, where the first band is number b, and f is the last so
+-- far
 abbrev pub band_after : ℕ → SixelData → ℕ
 band_after b NewLine = b + 1
 band_after b d = b

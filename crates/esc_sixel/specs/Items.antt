@@ -6,8 +6,8 @@ use Rattle.esc_sixel.specs.declared.class.Class.{Class}
 use Rattle.esc_sixel.specs.declared.class.Class.TheVariants.{Return, Line, Pixels, Introduces, Digit, Separator}
 use Rattle.esc_sixel.specs.declared.introducer.Introducer.TheVariants as introducer
 
--- An item: a byte by itself, or an introducer with its longest run of digits and `;`. Six pixels directly after the run of a `!`
--- belong to its item.
+-- An item: a byte by itself, or an introducer with its longest run of digits and `;`. Six pixels
+-- directly after the run of a `!` belong to its item.
 pub data Item : Type 0 where
   OfReturn : Item
   OfLine : Item
@@ -43,7 +43,8 @@ abbrev pub first_pixels : List ℕ → Option ℕ
 first_pixels [] = None
 first_pixels (b ∷ bs) = pixels_of (class_of b)
 
--- where a byte is: in no run, in the run of a `!` or directly after it, in the run of another introducer
+-- where a byte is: in no run, in the run of a `!` or directly after it, in the run of another
+-- introducer
 pub data Place : Type 0 where
   Outside : Place
   InRepeat : Place

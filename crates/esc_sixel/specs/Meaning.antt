@@ -13,7 +13,8 @@ use Rattle.esc_sixel.specs.declared.sixel_data.SixelData.TheVariants.{NewLine}
 
 -- the pan that the first parameter of a header means
 abbrev pub pan_number : ℕ → ℕ
-pan_number n = if n == 0 then 2 else if n == 1 then 2 else if n == 2 then 5 else if n == 3 then 3 else if n == 4 then 3
+pan_number n = if n == 0 then 2 else if n == 1 then 2 else if n == 2 then 5 else if n == 3 then 3
+    else if n == 4 then 3
     else if n == 7 then 1 else if n == 8 then 1 else if n == 9 then 1 else 2
 
 abbrev pub header_pan : List ℤ → ℤ
@@ -32,9 +33,11 @@ size_of run k = and_then (param run k) (λ n. when (nat_lt n (2 ^ 32)) n)
 
 -- the width and the height, where both are there and their product is at most 100,000,000
 abbrev pub sizes_of : List ℕ → Option (ℕ × ℕ)
-sizes_of run = and_then (size_of run 2) (λ w. and_then (size_of run 3) (λ h. when (nat_le (w * h) 100000000) (w, h)))
+sizes_of run = and_then (size_of run 2) (λ w.
+    and_then (size_of run 3) (λ h. when (nat_le (w * h) 100000000) (w, h)))
 
--- what raster attributes say of pan, pad and sizes; the sizes only where they have three `;` or more
+-- what raster attributes say of pan, pad and sizes; the sizes only where they have three `;` or
+-- more
 abbrev pub raster_pan : Item → Option ℤ
 raster_pan (OfRaster run) = Some (pos (unwrap_or (param run 0) 2))
 raster_pan i = None
@@ -64,8 +67,13 @@ percent p = min 255 (255 * p / 100)
 abbrev pub color_of : List ℕ → SixelData
 color_of run = if nat_le 4 (separators run)
     then (if number run 1 == 1
-    then DefineColorMapHSL (min (number run 0) 65535) (min (number run 2) 65535) (min (number run 3) 255) (min (number run 4) 255)
-    else DefineColorMapRGB (min (number run 0) 65535) (percent (number run 2), percent (number run 3), percent (number run 4)))
+    then DefineColorMapHSL (min (number run 0) 65535) (min (number run 2) 65535)
+    (min (number run 3) 255) (min (number run 4) 255)
+    else DefineColorMapRGB (min (number run 0) 65535) (
+      percent (number run 2),
+      percent (number run 3),
+      percent (number run 4),
+    ))
     else SelectColorMapEntry (min (number run 0) 65535)
 
 -- a `!` and its run before six pixels
@@ -97,8 +105,9 @@ abbrev pub after_last : (Item → Bool) → List Item → List Item
 after_last t [] = []
 after_last t (i ∷ is) = if list_any t (i ∷ is) then after_last t is else i ∷ is
 
--- The image of a header's parameters and the items of the data. Pan and pad are those of the last raster attributes, and the sizes those
--- of the last that have sizes or are oversize. The data is what the items after the last oversize ones give.
+-- The image of a header's parameters and the items of the data. Pan and pad are those of the last
+-- raster attributes, and the sizes those of the last that have sizes or are oversize. The data is
+-- what the items after the last oversize ones give.
 abbrev pub sixel_of : {A : Type 0} → List ℤ → List Item → Sixel A
 sixel_of ps is = record {
   pan = last_of raster_pan (header_pan ps) is;

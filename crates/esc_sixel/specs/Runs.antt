@@ -3,13 +3,15 @@ use Rattle.std.specs.Prelude.{ℕ, ◌+◌, ◌*◌, ◌<◌, ◌≡◌, ◌-◌
 use Rattle.esc_values.specs.Entries.{held}
 use Rattle.esc_sixel.specs.declared.parameters.Parameters.{Parameters}
 
--- The numbers of the pieces between `;`, none for an empty piece. The first piece goes on one that began before the run, of which n is
--- the number, if it had digits.
+-- The numbers of the pieces between `;`, none for an empty piece. The first piece goes on one that
+-- began before the run, of which n is the number, if it had digits.
 abbrev pub numbers_after : Option ℕ → List ℕ → List (Option ℕ)
 numbers_after n [] = n ∷ []
-numbers_after n (b ∷ bs) = if b == 0x3b then n ∷ numbers_after None bs else numbers_after (Some (10 * unwrap_or n 0 + (b - 0x30))) bs
+numbers_after n (b ∷ bs) = if b == 0x3b then n ∷ numbers_after None bs else numbers_after
+    (Some (10 * unwrap_or n 0 + (b - 0x30))) bs
 
--- parameter k of a run, the first being 0, at most the greatest number of 64 bits with a sign; none where it is missing or empty
+-- parameter k of a run, the first being 0, at most the greatest number of 64 bits with a sign; none
+-- where it is missing or empty
 abbrev pub param : List ℕ → ℕ → Option ℕ
 param run k = option_map held (get_or (numbers_after None run) k None)
 
@@ -26,7 +28,8 @@ pub record Keeps (p : Parameters) (run : List ℕ) : Type 0 where
 -- the parameters with one more digit of the one that is being read, the last; and with more
 abbrev pub more_digit : Parameters → ℕ → Parameters
 more_digit p b = record {
-  values = set p.values p.count (Some (held (10 * unwrap_or (get_or p.values p.count None) 0 + (b - 0x30))));
+  values = set p.values p.count
+      (Some (held (10 * unwrap_or (get_or p.values p.count None) 0 + (b - 0x30))));
   count = p.count;
 }
 

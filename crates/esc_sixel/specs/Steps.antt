@@ -1,5 +1,5 @@
--- One byte more of sixel data: the items that no later byte changes, and the command that may go on. Only the builder is stated by it;
--- what data means is in Items and Meaning.
+-- One byte more of sixel data: the items that no later byte changes, and the command that may go
+-- on. Only the builder is stated by it; what data means is in Items and Meaning.
 use Rattle.std.specs.Prelude.{ℕ, ℤ, ◌≡◌, Bool, true, false, if◌then◌else◌, List, [], ◌∷◌, ◌++◌, Option, Some, None, option_map, unwrap_or, option_to_list}
 use Rattle.esc_sixel.specs.Classes.{class_of}
 use Rattle.esc_sixel.specs.Items.{Item, OfReturn, OfLine, OfPixels, OfRepeat, OfColor, OfRaster, OfJunk, in_run}
@@ -62,8 +62,12 @@ abbrev pub with_item : {A : Type 0} → Sixel A → Item → Sixel A
 with_item s i = record {
   pan = unwrap_or (raster_pan i) s.pan;
   pad = unwrap_or (raster_pad i) s.pad;
-  pixel_width = unwrap_or (option_map (λ (o : Option (ℕ × ℕ)). option_map (λ (s : ℕ × ℕ). s.0) o) (raster_sizes i)) s.pixel_width;
-  pixel_height = unwrap_or (option_map (λ (o : Option (ℕ × ℕ)). option_map (λ (s : ℕ × ℕ). s.1) o) (raster_sizes i)) s.pixel_height;
+  pixel_width =
+      unwrap_or (option_map (λ (o : Option (ℕ × ℕ)). option_map (λ (s : ℕ × ℕ). s.0) o)
+      (raster_sizes i)) s.pixel_width;
+  pixel_height =
+      unwrap_or (option_map (λ (o : Option (ℕ × ℕ)). option_map (λ (s : ℕ × ℕ). s.1) o)
+      (raster_sizes i)) s.pixel_height;
   background_is_transparent = s.background_is_transparent;
   horizontal_grid_size = s.horizontal_grid_size;
   content = if is_oversize i then [] else s.content ++ gives i;
@@ -104,7 +108,8 @@ wants_memory (Some m) c = if in_run c then false else gives_at_end m (is_data c)
 
 -- a builder with these parameters that was pushed these bytes
 unfoldable pub LeadsTo : {A : Type 0} → List ℤ → List ℕ → SixelBuilder A → Type 0
-LeadsTo ps s b = (b.sixel ≡ sixel_of ps (closed_of Closed s)) × HoldsOpen (open_of Closed s) b.introducer b.parameters
+LeadsTo ps s b = (b.sixel ≡ sixel_of ps (closed_of Closed s))
+    × HoldsOpen (open_of Closed s) b.introducer b.parameters
 
 -- a byte pushed to p makes q of it
 abbrev pub Pushes : {A : Type 0} → SixelBuilder A → ℕ → SixelBuilder A → Type 0

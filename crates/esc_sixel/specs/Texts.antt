@@ -26,9 +26,11 @@ pixels_text v = (v + 0x3f) ∷ []
 abbrev pub data_text : SixelData → List ℕ
 data_text (Data v) = pixels_text v
 data_text (Repeat v n) = codes "!" ++ decimal n ++ pixels_text v
-data_text (DefineColorMapRGB n c) = codes "#" ++ decimal n ++ codes ";2;" ++ decimal (least_percent c.0) ++ codes ";" ++ decimal (least_percent c.1)
+data_text (DefineColorMapRGB n c) = codes "#" ++ decimal n ++ codes ";2;"
+    ++ decimal (least_percent c.0) ++ codes ";" ++ decimal (least_percent c.1)
     ++ codes ";" ++ decimal (least_percent c.2)
-data_text (DefineColorMapHSL n h l s) = codes "#" ++ decimal n ++ codes ";1;" ++ decimal h ++ codes ";" ++ decimal l ++ codes ";" ++ decimal s
+data_text (DefineColorMapHSL n h l s) = codes "#" ++ decimal n ++ codes ";1;" ++ decimal h
+    ++ codes ";" ++ decimal l ++ codes ";" ++ decimal s
 data_text (SelectColorMapEntry n) = codes "#" ++ decimal n
 data_text CarriageReturn = codes "$"
 data_text NewLine = codes "-"
@@ -63,7 +65,8 @@ is_int (negsuc n) k = false
 -- the first parameter that means this pan and pad, if there is one
 abbrev pub short_form : ℤ → ℤ → Option (List ℕ)
 short_form pan pad = if is_int pad 1
-    then (if is_int pan 2 then Some (codes "0") else if is_int pan 5 then Some (codes "2") else if is_int pan 3 then Some (codes "3")
+    then (if is_int pan 2 then Some (codes "0") else if is_int pan 5 then Some (codes "2") else if
+    is_int pan 3 then Some (codes "3")
     else if is_int pan 1 then Some (codes "7") else None)
     else None
 
@@ -74,16 +77,20 @@ ratio_text pan pad = signed_decimal pan ++ codes ";" ++ signed_decimal pad
 abbrev pub size_text : ℕ → Option ℕ → List ℕ
 size_text w h = decimal w ++ codes ";" ++ decimal (unwrap_or h 0)
 
--- `ESC P`, the parameters, `q`, and raster attributes: with sizes where there is a width, without where no first parameter suffices
+-- `ESC P`, the parameters, `q`, and raster attributes: with sizes where there is a width, without
+-- where no first parameter suffices
 abbrev pub sized_header : {A : Type 0} → ℕ → Sixel A → List ℕ
-sized_header w s = 0x1b ∷ codes "P;" ++ background_text s.background_is_transparent s.horizontal_grid_size ++ codes "q\""
+sized_header w s = 0x1b ∷ codes "P;" ++ background_text s.background_is_transparent
+    s.horizontal_grid_size ++ codes "q\""
     ++ ratio_text s.pan s.pad ++ codes ";" ++ size_text w s.pixel_height
 
 abbrev pub short_header : {A : Type 0} → List ℕ → Sixel A → List ℕ
-short_header m s = 0x1b ∷ codes "P" ++ m ++ codes ";" ++ background_text s.background_is_transparent s.horizontal_grid_size ++ codes "q"
+short_header m s = 0x1b ∷ codes "P" ++ m ++ codes ";" ++ background_text s.background_is_transparent
+    s.horizontal_grid_size ++ codes "q"
 
 abbrev pub ratio_header : {A : Type 0} → Sixel A → List ℕ
-ratio_header s = 0x1b ∷ codes "P;" ++ background_text s.background_is_transparent s.horizontal_grid_size ++ codes "q\"" ++ ratio_text s.pan s.pad
+ratio_header s = 0x1b ∷ codes "P;" ++ background_text s.background_is_transparent
+    s.horizontal_grid_size ++ codes "q\"" ++ ratio_text s.pan s.pad
 
 abbrev pub header_by : {A : Type 0} → Option ℕ → Option (List ℕ) → Sixel A → List ℕ
 header_by (Some w) m s = sized_header w s

@@ -18,8 +18,10 @@ IsChannel c = (p : ℕ) × (p ≤ 100) × (c ≡ percent p)
 abbrev pub IsWritableData : SixelData → Type 0
 IsWritableData (Data v) = v < 64
 IsWritableData (Repeat v n) = (n < 2 ^ 32) × (v < 64)
-IsWritableData (DefineColorMapRGB n c) = (n < 2 ^ 16) × (IsChannel c.0 × (IsChannel c.1 × IsChannel c.2))
-IsWritableData (DefineColorMapHSL n h l s) = (n < 2 ^ 16) × ((h < 2 ^ 16) × ((l < 2 ^ 8) × (s < 2 ^ 8)))
+IsWritableData (DefineColorMapRGB n c) = (n < 2 ^ 16)
+    × (IsChannel c.0 × (IsChannel c.1 × IsChannel c.2))
+IsWritableData (DefineColorMapHSL n h l s) = (n < 2 ^ 16)
+    × ((h < 2 ^ 16) × ((l < 2 ^ 8) × (s < 2 ^ 8)))
 IsWritableData (SelectColorMapEntry n) = n < 2 ^ 16
 IsWritableData d = Unit {0}
 
@@ -48,7 +50,10 @@ AreSizes w h = ⊥
 
 -- an image whose numbers can be written, and are read as they are
 abbrev pub IsWritable : {A : Type 0} → Sixel A → Type 0
-IsWritable s = IsNatural s.pan × (IsNatural s.pad × (AreSizes s.pixel_width s.pixel_height × (IsGrid s.horizontal_grid_size × AreWritableData s.content)))
+IsWritable s = IsNatural s.pan
+    × (IsNatural s.pad
+    × (AreSizes s.pixel_width s.pixel_height
+    × (IsGrid s.horizontal_grid_size × AreWritableData s.content)))
 
 -- 30-39, 3B
 abbrev pub is_parameter_byte : ℕ → Bool
@@ -58,7 +63,8 @@ is_parameter_byte b = is_digit b || (b == 0x3b)
 abbrev pub is_data_byte : ℕ → Bool
 is_data_byte b = is_from 0x20 0x7e b
 
--- the parameters of a header: the numbers between `;`, an empty one being 0; none where there are no bytes
+-- the parameters of a header: the numbers between `;`, an empty one being 0; none where there are
+-- no bytes
 abbrev pub params_of : List ℕ → List ℤ
 params_of x = map (λ p. pos (held (value_behind 0 p))) (parts_of x)
 
@@ -66,4 +72,5 @@ params_of x = map (λ p. pos (held (value_behind 0 p))) (parts_of x)
 abbrev pub WritesBack : {A : Type 0} → Sixel A → Type 0
 WritesBack {A = A} s =
     (x : List ℕ) × (d : List ℕ) × (sixel_output s ≡ Some (0x1b ∷ 0x50 ∷ (x ++ 0x71 ∷ d)))
-    × (list_all is_parameter_byte x ≡ true) × (list_all is_data_byte d ≡ true) × (sixel_of {A = A} (params_of x) (items d) ≡ s)
+    × (list_all is_parameter_byte x ≡ true) × (list_all is_data_byte d ≡ true)
+    × (sixel_of {A = A} (params_of x) (items d) ≡ s)

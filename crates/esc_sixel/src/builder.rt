@@ -25,15 +25,19 @@ use std::alloc::{AllocError, Allocator, Global};
 
 /// Reads a sixel string: the parameters of its header, and then its data byte by byte.
 ///
-/// In the data `$` is a carriage return, `-` a new line, and 3F to 7E six pixels. `!`, `#` and `"` begin a command, which goes
-/// on as digits and `;` follow, its parameters, of which five count. Any other byte, and digits and `;` outside a command, are
-/// dropped. Numbers saturate.
+/// In the data `$` is a carriage return, `-` a new line, and 3F to 7E six pixels. `!`, `#` and `"`
+/// begin a command, which goes on as digits and `;` follow, its parameters, of which five count.
+/// Any other byte, and digits and `;` outside a command, are dropped. Numbers saturate.
 ///
-/// - `!` with six pixels directly after it repeats them, once where the count is missing; else it gives nothing.
-/// - `#` with four `;` or more gives a colour to a number: in hue, lightness and saturation where the second parameter is 1, else
+/// - `!` with six pixels directly after it repeats them, once where the count is missing; else it
+///   gives nothing.
+/// - `#` with four `;` or more gives a colour to a number: in hue, lightness and saturation where
+///   the second parameter is 1, else
 ///   in percentages of red, green and blue; 0 where one is missing. With fewer it selects a colour.
-/// - `"` sets pan, 2 where it is missing, and pad, 1 where it is. With three `;` or more it sets both sizes too; where one is
-///   missing or past `u32`, or the product is over 100,000,000, there are no sizes, and the data so far is dropped.
+/// - `"` sets pan, 2 where it is missing, and pad, 1 where it is. With three `;` or more it sets
+///   both sizes too; where one is
+///   missing or past `u32`, or the product is over 100,000,000, there are no sizes, and the data so
+///   far is dropped.
 #[derive(Drop)]
 pub struct SixelBuilder<A: Allocator = Global> {
     /// The image: what was pushed means it right after a `finish` that succeeded.
@@ -80,8 +84,9 @@ fn grid_of(params: &[i64]) -> Option<i64>
 impl<A: Allocator> SixelBuilder<A> {
     /// A builder of an image with these parameters of its header, before any data. Takes no memory.
     ///
-    /// The first means pan: 7, 8 and 9 mean 1; 0, 1, 5 and 6 mean 2; 3 and 4 mean 3; 2 means 5; any other, or none, 2. Where the second is 1
-    /// the background is transparent. The third is the horizontal grid size.
+    /// The first means pan: 7, 8 and 9 mean 1; 0, 1, 5 and 6 mean 2; 3 and 4 mean 3; 2 means 5; any
+    /// other, or none, 2. Where the second is 1 the background is transparent. The third is the
+    /// horizontal grid size.
     #[tactic(auto, unfolding(crate::specs::Steps::LeadsTo))]
     pub fn new(alloc: A, params: &[i64]) -> SixelBuilder<A>
         ensures { LeadsTo params.now [] result }
@@ -105,7 +110,8 @@ impl<A: Allocator> SixelBuilder<A> {
     /// ends a `#`. The error is that it was refused, and the builder stays as it was.
     #[inline(always)]
     pub fn push(&mut self, byte: u8) -> Result<(), AllocError>
-        ensures ok { (ps : List ℤ) (s : List ℕ) → LeadsTo ps s self.old → OnOk result (LeadsTo ps (s ++ byte ∷ []) self.new) }
+        ensures ok { (ps : List ℤ) (s : List ℕ) → LeadsTo ps s self.old
+            → OnOk result (LeadsTo ps (s ++ byte ∷ []) self.new) }
         ensures err { OnErr result (self.new ≡ self.old) }
         ensures refused { OnErr result (Refused A) }
         ensures asks { OnErr result (wants_memory self.old.introducer (class_of byte) ≡ true) }
@@ -116,14 +122,16 @@ impl<A: Allocator> SixelBuilder<A> {
         }
     }
 
-    /// These bytes of the data, as `push` of each takes them. Memory for what they can give is taken first, for up to 4096 pieces of
-    /// data. The error is that memory was refused; the builder has then taken none of them, or those before the bytes that needed
-    /// more of it.
+    /// These bytes of the data, as `push` of each takes them. Memory for what they can give is
+    /// taken first, for up to 4096 pieces of data. The error is that memory was refused; the
+    /// builder has then taken none of them, or those before the bytes that needed more of it.
     pub fn push_run(&mut self, bytes: &[u8]) -> Result<(), AllocError>
         ensures each { OnOk result (FoldsTo Pushes self.old bytes.now self.new) }
-        ensures ok { (ps : List ℤ) (s : List ℕ) → LeadsTo ps s self.old → OnOk result (LeadsTo ps (s ++ bytes.now) self.new) }
+        ensures ok { (ps : List ℤ) (s : List ℕ) → LeadsTo ps s self.old
+            → OnOk result (LeadsTo ps (s ++ bytes.now) self.new) }
         ensures err { (ps : List ℤ) (s : List ℕ) → LeadsTo ps s self.old
-            → OnErr result ((n : ℕ) × (n < length bytes.now) × LeadsTo ps (s ++ take n bytes.now) self.new) }
+            → OnErr result ((n : ℕ) × (n < length bytes.now)
+            × LeadsTo ps (s ++ take n bytes.now) self.new) }
         ensures refused { OnErr result (Refused A) }
         ensures asks { OnErr result (0 < length bytes.now) }
     {
@@ -142,12 +150,13 @@ impl<A: Allocator> SixelBuilder<A> {
         Ok(())
     }
 
-    // The first byte of these, or the longest prefix of six pixels outside a command, or of digits in one; returns how many it
-    // took.
+    // The first byte of these, or the longest prefix of six pixels outside a command, or of digits
+    // in one; returns how many it took.
     #[inline(always)]
     fn push_some(&mut self, rest: &[u8]) -> Result<usize, AllocError>
         requires { 0 < length rest.now }
-        ensures ok { IfOk result (λ n. (0 < n) × (n ≤ length rest.now) × FoldsTo Pushes self.old (take n rest.now) self.new) }
+        ensures ok { IfOk result (λ n. (0 < n) × (n ≤ length rest.now)
+            × FoldsTo Pushes self.old (take n rest.now) self.new) }
         ensures err { OnErr result (self.new ≡ self.old) }
         ensures refused { OnErr result (Refused A) }
     {
@@ -178,8 +187,8 @@ impl<A: Allocator> SixelBuilder<A> {
         Ok(1)
     }
 
-    // The first byte of these outside a command, where it ends a line and memory for what it gives is not refused; returns how many
-    // bytes it took.
+    // The first byte of these outside a command, where it ends a line and memory for what it gives
+    // is not refused; returns how many bytes it took.
     #[inline(always)]
     fn end_line(&mut self, rest: &[u8]) -> usize
         requires { self.old.introducer ≡ None }
@@ -192,22 +201,24 @@ impl<A: Allocator> SixelBuilder<A> {
         let Some(end) = line_end(rest[0]) else {
             return 0;
         };
-        // The pixels before it took memory for it too. Were it refused, the byte is not taken: the next step pushes it again, and
-        // returns the error.
+        // The pixels before it took memory for it too. Were it refused, the byte is not taken: the
+        // next step pushes it again, and returns the error.
         match self.sixel.content.push(end) {
             Ok(()) => 1,
             Err(_) => 0,
         }
     }
 
-    // A `#` outside a command. A `#` with its number, a `!` with its count and six pixels, and the pixels after them and what ends their
-    // line, where the first come first and their numbers have up to four digits, else the `#`; returns how many bytes it took.
+    // A `#` outside a command. A `#` with its number, a `!` with its count and six pixels, and the
+    // pixels after them and what ends their line, where the first come first and their numbers have
+    // up to four digits, else the `#`; returns how many bytes it took.
     #[inline(always)]
     fn push_selected(&mut self, rest: &[u8]) -> Result<usize, AllocError>
         requires bytes { 0 < length rest.now }
         requires begins { get_or rest.now 0 0 ≡ 0x23 }
         requires closed { self.old.introducer ≡ None }
-        ensures ok { IfOk result (λ n. (0 < n) × (n ≤ length rest.now) × FoldsTo Pushes self.old (take n rest.now) self.new) }
+        ensures ok { IfOk result (λ n. (0 < n) × (n ≤ length rest.now)
+            × FoldsTo Pushes self.old (take n rest.now) self.new) }
         ensures err { OnErr result (self.new ≡ self.old) }
         ensures refused { OnErr result (Refused A) }
     {
@@ -236,8 +247,8 @@ impl<A: Allocator> SixelBuilder<A> {
         Ok(1)
     }
 
-    // Outside a command: a `!`, its count of up to four digits and six pixels, where these come first. Gives the pixels, and how many
-    // bytes these are.
+    // Outside a command: a `!`, its count of up to four digits and six pixels, where these come
+    // first. Gives the pixels, and how many bytes these are.
     #[inline(always)]
     fn repeated(&self, rest: &[u8]) -> Option<(SixelData, usize)>
         requires bytes { 0 < length rest.now }
@@ -245,7 +256,10 @@ impl<A: Allocator> SixelBuilder<A> {
         ensures some { IfSome result (λ r. 0 < r.1) }
         ensures few { IfSome result (λ r. r.1 ≤ length rest.now) }
         ensures pushes { IfSome result (λ r. FoldsTo Pushes self.now (take r.1 rest.now)
-            (record self.now { sixel = record self.now.sixel { content = self.now.sixel.content ++ r.0 ∷ [] } })) }
+            (record self.now {
+              sixel =
+                  record self.now.sixel { content = self.now.sixel.content ++ r.0 ∷ [] };
+            })) }
     {
         if rest[0] != b'!' {
             return None;
@@ -263,14 +277,17 @@ impl<A: Allocator> SixelBuilder<A> {
         Some((pixels, last + 1))
     }
 
-    // Right after a `#`: a colour's number, `2` and its percentages, of up to four digits each, and another `#`, where these come first.
-    // Gives the colour, and how many bytes these are.
+    // Right after a `#`: a colour's number, `2` and its percentages, of up to four digits each, and
+    // another `#`, where these come first. Gives the colour, and how many bytes these are.
     #[inline(always)]
     fn defined(&self, rest: &[u8]) -> Option<(SixelData, usize)>
         ensures some { IfSome result (λ r. 0 < r.1) }
         ensures few { IfSome result (λ r. r.1 ≤ length rest.now) }
         ensures pushes { IfSome result (λ r. FoldsTo Pushes self.now (take r.1 rest.now)
-            (record self.now { sixel = record self.now.sixel { content = self.now.sixel.content ++ r.0 ∷ [] } })) }
+            (record self.now {
+              sixel =
+                  record self.now.sixel { content = self.now.sixel.content ++ r.0 ∷ [] };
+            })) }
     {
         let Some(Introducer::Color) = self.introducer else {
             return None;
@@ -303,12 +320,14 @@ impl<A: Allocator> SixelBuilder<A> {
         Some((color, after_green + digits + 1))
     }
 
-    /// The data ends here, and a command with it: the field `sixel` is the image that the parameters and all bytes mean.
-    /// To bytes that are pushed later, this counts as a byte that is dropped. Takes memory only
-    /// where a `#` is open. The error is that it was refused, and the builder stays as it was.
+    /// The data ends here, and a command with it: the field `sixel` is the image that the
+    /// parameters and all bytes mean. To bytes that are pushed later, this counts as a byte that is
+    /// dropped. Takes memory only where a `#` is open. The error is that it was refused, and the
+    /// builder stays as it was.
     pub fn finish(&mut self) -> Result<(), AllocError>
         ensures ok { (ps : List ℤ) (s : List ℕ) → LeadsTo ps s self.old
-            → OnOk result (LeadsTo ps (s ++ 0 ∷ []) self.new × (self.new.sixel ≡ sixel_of ps (items s))) }
+            → OnOk result (LeadsTo ps (s ++ 0 ∷ []) self.new
+            × (self.new.sixel ≡ sixel_of ps (items s))) }
         ensures err { OnErr result (self.new ≡ self.old) }
         ensures refused { OnErr result (Refused A) }
         ensures asks { OnErr result (self.old.introducer ≡ Some Color) }
@@ -371,7 +390,8 @@ impl<A: Allocator> SixelBuilder<A> {
         next: Option<SixelData>,
     ) -> Result<(), AllocError>
         ensures ok { (r : List ℕ) → Keeps self.old.parameters r
-            → OnOk result (self.new.sixel ≡ add_to (with_items self.old.sixel (ended (In introducer r))) next) }
+            → OnOk result (self.new.sixel
+            ≡ add_to (with_items self.old.sixel (ended (In introducer r))) next) }
         ensures err { OnErr result (self.new ≡ self.old) }
         ensures refused { OnErr result (Refused A) }
         ensures asks { OnErr result (gives_at_end introducer (is_some next) ≡ true) }
@@ -386,7 +406,8 @@ impl<A: Allocator> SixelBuilder<A> {
     // A command ends, before a byte that begins none.
     fn end(&mut self, introducer: Introducer, next: Option<SixelData>) -> Result<(), AllocError>
         ensures ok { (r : List ℕ) → Keeps self.old.parameters r
-            → OnOk result ((self.new.sixel ≡ add_to (with_items self.old.sixel (ended (In introducer r))) next)
+            → OnOk result
+            ((self.new.sixel ≡ add_to (with_items self.old.sixel (ended (In introducer r))) next)
             × (self.new.introducer ≡ None)) }
         ensures err { OnErr result (self.new ≡ self.old) }
         ensures refused { OnErr result (Refused A) }
@@ -400,7 +421,8 @@ impl<A: Allocator> SixelBuilder<A> {
     // A command ends, and another begins.
     fn end_and_begin(&mut self, introducer: Introducer, begun: Introducer) -> Result<(), AllocError>
         ensures ok { (r : List ℕ) → Keeps self.old.parameters r
-            → OnOk result ((self.new.sixel ≡ add_to (with_items self.old.sixel (ended (In introducer r))) None)
+            → OnOk result
+            ((self.new.sixel ≡ add_to (with_items self.old.sixel (ended (In introducer r))) None)
             × HoldsOpen (In begun []) self.new.introducer self.new.parameters) }
         ensures err { OnErr result (self.new ≡ self.old) }
         ensures refused { OnErr result (Refused A) }
@@ -415,7 +437,9 @@ impl<A: Allocator> SixelBuilder<A> {
     // A command ends, before six pixels.
     fn end_before_pixels(&mut self, introducer: Introducer, value: u8) -> Result<(), AllocError>
         ensures ok { (r : List ℕ) (b : ℕ) → Keeps self.old.parameters r
-            → OnOk result ((self.new.sixel ≡ with_items self.old.sixel (closed_by (In introducer r) (Pixels value) b))
+            → OnOk result
+            ((self.new.sixel
+            ≡ with_items self.old.sixel (closed_by (In introducer r) (Pixels value) b))
             × (self.new.introducer ≡ None)) }
         ensures err { OnErr result (self.new ≡ self.old) }
         ensures refused { OnErr result (Refused A) }
@@ -435,9 +459,13 @@ impl<A: Allocator> SixelBuilder<A> {
     // A byte within or after a command.
     #[inline(always)]
     fn push_after(&mut self, introducer: Introducer, byte: u8) -> Result<(), AllocError>
-        ensures ok { (r : List ℕ) → HoldsOpen (In introducer r) self.old.introducer self.old.parameters
-            → OnOk result ((self.new.sixel ≡ with_items self.old.sixel (closed_by (In introducer r) (class_of byte) byte))
-            × HoldsOpen (open_by (In introducer r) (class_of byte) byte) self.new.introducer self.new.parameters) }
+        ensures ok { (r : List ℕ)
+            → HoldsOpen (In introducer r) self.old.introducer self.old.parameters
+            → OnOk result
+            ((self.new.sixel
+            ≡ with_items self.old.sixel (closed_by (In introducer r) (class_of byte) byte))
+            × HoldsOpen (open_by (In introducer r) (class_of byte) byte) self.new.introducer
+            self.new.parameters) }
         ensures err { OnErr result (self.new ≡ self.old) }
         ensures refused { OnErr result (Refused A) }
         ensures asks { OnErr result (wants_memory (Some introducer) (class_of byte) ≡ true) }
@@ -463,7 +491,8 @@ impl<A: Allocator> SixelBuilder<A> {
     #[inline(always)]
     fn push_alone(&mut self, byte: u8) -> Result<(), AllocError>
         requires { self.old.introducer ≡ None }
-        ensures ok { (b : ℕ) → OnOk result ((self.new.sixel ≡ with_items self.old.sixel (alone (class_of byte) b))
+        ensures ok { (b : ℕ)
+            → OnOk result ((self.new.sixel ≡ with_items self.old.sixel (alone (class_of byte) b))
             × HoldsOpen (opened (class_of byte)) self.new.introducer self.new.parameters) }
         ensures err { OnErr result (self.new ≡ self.old) }
         ensures refused { OnErr result (Refused A) }

@@ -88,7 +88,8 @@ fn size(parameters: &Parameters, k: usize) -> Option<u32>
     Some(number as u32)
 }
 
-// The width and the height of raster attributes, where both have 32 bits and the image is not oversize.
+// The width and the height of raster attributes, where both have 32 bits and the image is not
+// oversize.
 pub(crate) fn sizes(parameters: &Parameters) -> Option<(u32, u32)>
     ensures { (r : List ℕ) → Keeps parameters.now r → result ≡ sizes_of r }
 {

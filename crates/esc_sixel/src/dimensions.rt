@@ -20,7 +20,8 @@ pub(crate) struct Extent {
 impl Extent {
     // So many sixels more.
     fn add(&mut self, count: u32)
-        ensures { (best n b f : ℕ) → Has self.old best n b f → Has self.new (max best (n + count)) (n + count) b b }
+        ensures { (best n b f : ℕ) → Has self.old best n b f
+            → Has self.new (max best (n + count)) (n + count) b b }
     {
         self.line = self.line.saturating_add(count);
         self.widest = self.widest.max(self.line);
@@ -30,7 +31,8 @@ impl Extent {
     // One more piece of data.
     fn step(&mut self, item: &SixelData)
         ensures { (best n b f : ℕ) → Has self.old best n b f
-            → Has self.new (max best (line_after n item.now)) (line_after n item.now) (band_after b item.now) (found_after b f item.now) }
+            → Has self.new (max best (line_after n item.now)) (line_after n item.now)
+            (band_after b item.now) (found_after b f item.now) }
     {
         match item {
             SixelData::Data(_) => self.add(1),

@@ -4,7 +4,8 @@ ghost use Rattle.std.specs.List.{All};
 ghost use Rattle.esc_sixel.specs.Classes.{IsDigit};
 ghost use Rattle.esc_sixel.specs.Lines.{number_after};
 
-// The number of the digits that come first, up to four, and how many these are. It takes none of fewer than four bytes.
+// The number of the digits that come first, up to four, and how many these are. It takes none of
+// fewer than four bytes.
 #[inline(always)]
 pub(crate) fn few_digits(rest: &[u8]) -> (u32, usize)
     ensures few { result.1 ≤ length rest.now }
@@ -30,14 +31,18 @@ pub(crate) fn few_digits(rest: &[u8]) -> (u32, usize)
     (three * 10 + u32::from(rest[3] - b'0'), 4)
 }
 
-// The number of up to four digits at this place, and how many these are, where this byte comes right after them.
+// The number of up to four digits at this place, and how many these are, where this byte comes
+// right after them.
 #[inline(always)]
 pub(crate) fn number_before(rest: &[u8], at: usize, mark: u8) -> Option<(u32, usize)>
     requires { at ≤ length rest.now }
     ensures some { IfSome result (λ r. 0 < r.1) }
-    ensures few { IfSome result (λ r. r.1 ≤ length (take (length rest.now - at) (drop at rest.now))) }
-    ensures digits { IfSome result (λ r. All IsDigit (take r.1 (take (length rest.now - at) (drop at rest.now)))) }
-    ensures number { IfSome result (λ r. r.0 ≡ number_after 0 (take r.1 (take (length rest.now - at) (drop at rest.now)))) }
+    ensures few { IfSome result (λ r.
+        r.1 ≤ length (take (length rest.now - at) (drop at rest.now))) }
+    ensures digits { IfSome result (λ r.
+        All IsDigit (take r.1 (take (length rest.now - at) (drop at rest.now)))) }
+    ensures number { IfSome result (λ r.
+        r.0 ≡ number_after 0 (take r.1 (take (length rest.now - at) (drop at rest.now)))) }
     ensures small { IfSome result (λ r. r.0 < 10000) }
     ensures within { IfSome result (λ r. at + r.1 < length rest.now) }
     ensures mark { IfSome result (λ r. slice_index rest.now (at + r.1) ≡ mark) }

@@ -1,4 +1,5 @@
-//! Laws of sixel images: the items of data are a cut of it, what is written reads back, and what is read can be written.
+//! Laws of sixel images: the items of data are a cut of it, what is written reads back, and what is
+//! read can be written.
 ghost use Rattle.std.specs.Prelude.{ℕ, ℤ, List};
 ghost use Rattle.esc_sixel.specs.Items.{IsCut, items};
 ghost use Rattle.esc_sixel.specs.Meaning.{sixel_of};
@@ -20,5 +21,6 @@ pub fn writes_back<A: Allocator>()
 
 /// What any data means after parameters that are not negative is writable.
 pub fn data_is_writable<A: Allocator>()
-    ensures { (ps : List ℤ) (bs : List ℕ) → AreNatural ps → IsWritable (sixel_of {A = A} ps (items bs)) }
+    ensures { (ps : List ℤ) (bs : List ℕ) → AreNatural ps
+        → IsWritable (sixel_of {A = A} ps (items bs)) }
 {}

@@ -1,8 +1,9 @@
-//! Sixel images: their values, how the string that a terminal is sent is read byte by byte, how a value is written, and
-//! how large an image is.
+//! Sixel images: their values, how the string that a terminal is sent is read byte by byte, how a
+//! value is written, and how large an image is.
 //!
 //! Sixel follows VT330/VT340 Programmer Reference Manual, volume 2, chapter 14
-//! (<https://vt100.net/docs/vt3xx-gp/chapter14.html>): `ESC P`, up to three parameters, `q`, and the data.
+//! (<https://vt100.net/docs/vt3xx-gp/chapter14.html>): `ESC P`, up to three parameters, `q`, and
+//! the data.
 #![tactic(auto)]
 
 pub mod builder;

@@ -52,7 +52,8 @@ impl Parameters {
     #[inline]
     pub(crate) fn digit(&mut self, digit: u8)
         requires { digit < 10 }
-        ensures { (run : List ℕ) → Keeps self.old run → Keeps self.new (run ++ (digit + 0x30) ∷ []) }
+        ensures { (run : List ℕ) → Keeps self.old run
+            → Keeps self.new (run ++ (digit + 0x30) ∷ []) }
     {
         if self.count < 5 {
             let number = with_digit(self.values[self.count].unwrap_or(0), digit);
@@ -60,8 +61,8 @@ impl Parameters {
         }
     }
 
-    // The longest prefix of digits of these bytes, as `digit` of each takes them; returns how many. It takes none past the
-    // fifth parameter.
+    // The longest prefix of digits of these bytes, as `digit` of each takes them; returns how many.
+    // It takes none past the fifth parameter.
     #[inline(always)]
     pub(crate) fn digits(&mut self, rest: &[u8]) -> usize
         ensures few { result ≤ length rest.now }

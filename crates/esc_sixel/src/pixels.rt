@@ -60,8 +60,8 @@ pub(crate) fn pixels_run(bytes: &[u8]) -> usize
     end
 }
 
-// Appends six pixels, for which there is room. The compiler joins the stores of a constant: this takes two, and a
-// `push_reserved` of the value four.
+// Appends six pixels, for which there is room. The compiler joins the stores of a constant: this
+// takes two, and a `push_reserved` of the value four.
 #[inline(always)]
 fn put<A: Allocator>(vec: &mut Vec<SixelData, A>, value: u8)
     requires { vec_len vec.old < vec_capacity vec.old }
@@ -191,7 +191,8 @@ fn append_line<A: Allocator>(
     line: &Line<'_>,
 ) -> (Items<SixelData, A>, Result<(), AllocError>)
     requires { All IsPixels line.now.run.now }
-    ensures ok { OnOk result.1 (result.0 ≡ items ++ line.now.selected ∷ line.now.repeated ∷ drawn line.now.run.now) }
+    ensures ok { OnOk result.1 (result.0 ≡ items ++ line.now.selected ∷ line.now.repeated
+        ∷ drawn line.now.run.now) }
     ensures err { OnErr result.1 (result.0 ≡ items) }
     ensures refused { OnErr result.1 (Refused A) }
 {
@@ -207,14 +208,16 @@ fn append_line<A: Allocator>(
     }
 }
 
-// Appends what begins a line. The error is that memory was refused, and the items stay as they were.
+// Appends what begins a line. The error is that memory was refused, and the items stay as they
+// were.
 #[inline(always)]
 pub(crate) fn push_line<A: Allocator>(
     items: &mut Items<SixelData, A>,
     line: &Line<'_>,
 ) -> Result<(), AllocError>
     requires { All IsPixels line.now.run.now }
-    ensures ok { OnOk result (items.new ≡ items.old ++ line.now.selected ∷ line.now.repeated ∷ drawn line.now.run.now) }
+    ensures ok { OnOk result (items.new ≡ items.old ++ line.now.selected ∷ line.now.repeated
+        ∷ drawn line.now.run.now) }
     ensures err { OnErr result (items.new ≡ items.old) }
     ensures refused { OnErr result (Refused A) }
 {
@@ -264,7 +267,8 @@ fn append<A: Allocator>(
     }
 }
 
-// Appends these bytes, which are 3F to 7E, as pixels. The error is that memory was refused, and the items stay as they were.
+// Appends these bytes, which are 3F to 7E, as pixels. The error is that memory was refused, and the
+// items stay as they were.
 #[inline]
 pub(crate) fn push_pixels<A: Allocator>(
     items: &mut Items<SixelData, A>,

@@ -34,9 +34,10 @@ pub struct Sixel<A: Allocator = Global> {
 impl<A: Allocator> Sixel<A> {
     /// Width and height in pixels.
     ///
-    /// Both sizes of the raster attributes, where both are there. Else the width of the widest line and six times the
-    /// number of the last band that has a sixel; 0 where none has. A line ends at a carriage return and at a new line, so lines
-    /// that are drawn over one another do not add up; a band ends at a new line. Both are at most `u32::MAX`. Takes no memory.
+    /// Both sizes of the raster attributes, where both are there. Else the width of the widest line
+    /// and six times the number of the last band that has a sixel; 0 where none has. A line ends at
+    /// a carriage return and at a new line, so lines that are drawn over one another do not add up;
+    /// a band ends at a new line. Both are at most `u32::MAX`. Takes no memory.
     pub fn dimensions(&self) -> (u32, u32)
         ensures { result ≡ dimensions_of self.now }
     {
@@ -50,8 +51,9 @@ impl<A: Allocator> Sixel<A> {
     }
 }
 
-/// Writes `ESC P`, the header and the data, without the string terminator. Pan and pad are the first parameter where one
-/// means them and no width is there, else raster attributes after the header; a height without a width is not written.
+/// Writes `ESC P`, the header and the data, without the string terminator. Pan and pad are the
+/// first parameter where one means them and no width is there, else raster attributes after the
+/// header; a height without a width is not written.
 ///
 /// Takes no memory. Errs where the formatter's writer errs, and where a value is over 63.
 impl<A: Allocator> fmt::Display for Sixel<A> {

@@ -8,7 +8,8 @@ use esc_values::RgbColor;
 use esc_values::number::write_natural;
 use std::fmt;
 
-/// Six pixels, one above the other, as the bits of a number from 0 to 63. The lowest bit is the top pixel.
+/// Six pixels, one above the other, as the bits of a number from 0 to 63. The lowest bit is the top
+/// pixel.
 pub type SixelValue = u8;
 
 /// A piece of sixel data.
@@ -49,11 +50,11 @@ pub enum SixelData {
     NewLine,
 }
 
-/// Writes the data as it comes in a sixel string. A channel of a colour is written as the least percentage that is read
-/// as no less.
+/// Writes the data as it comes in a sixel string. A channel of a colour is written as the least
+/// percentage that is read as no less.
 ///
-/// Takes no memory. Errs where the formatter's writer errs, and where a value is over 63; then it has written no
-/// sixel.
+/// Takes no memory. Errs where the formatter's writer errs, and where a value is over 63; then it
+/// has written no sixel.
 impl fmt::Display for SixelData {
     ghost output = { data_output };
 
@@ -119,7 +120,8 @@ fn write_selected<W: fmt::Write>(color_number: u16, f: &mut fmt::Formatter<W>) -
     write_natural(u64::from(color_number), f)
 }
 
-/// Writes each variant with its fields, as a derived Debug does, but the count of `Repeat` before its pixels.
+/// Writes each variant with its fields, as a derived Debug does, but the count of `Repeat` before
+/// its pixels.
 impl fmt::Debug for SixelData {
     fn fmt<W: fmt::Write>(&self, f: &mut fmt::Formatter<W>) -> fmt::Result {
         match self {

@@ -13,7 +13,8 @@ pub(crate) fn write_pixels<W: fmt::Write>(
     value: SixelValue,
     f: &mut fmt::Formatter<W>,
 ) -> fmt::Result
-    ensures { DisplaysOnOk W.write_str_gives f.old result (if nat_lt value 64 then Some (pixels_text value) else None) f.new }
+    ensures { DisplaysOnOk W.write_str_gives f.old result
+        (if nat_lt value 64 then Some (pixels_text value) else None) f.new }
 {
     if value > 63 {
         return Err(fmt::Error);

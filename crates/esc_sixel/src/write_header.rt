@@ -97,7 +97,8 @@ fn macro_parameter(pan: i64, pad: i64) -> Option<&'static str>
     }
 }
 
-// The introducer, the parameters, the final byte, and raster attributes where the parameters do not suffice.
+// The introducer, the parameters, the final byte, and raster attributes where the parameters do not
+// suffice.
 pub(crate) fn write_header<W: fmt::Write, A: Allocator>(
     sixel: &Sixel<A>,
     f: &mut fmt::Formatter<W>,

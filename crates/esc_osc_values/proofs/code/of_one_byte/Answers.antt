@@ -10,6 +10,8 @@ one_byte (x ∷ y ∷ xs) h = absurd (omega arith)
 
 pub returns : goal.returns
 returns c =
-    let named : MatchOption c.of_letter.result ((k : OperatingSystemCommandCode) → get_or c.args.code.now 0 0 ∷ [] ≢ code_text k)
-    (λ k. get_or c.args.code.now 0 0 ∷ [] ≡ code_text k) = rw c.as_bytes.ensures.value at c.of_letter.ensures in
+    let named : MatchOption c.of_letter.result ((k : OperatingSystemCommandCode)
+    → get_or c.args.code.now 0 0 ∷ [] ≢ code_text k)
+    (λ k. get_or c.args.code.now 0 0 ∷ [] ≡ code_text k) =
+    rw c.as_bytes.ensures.value at c.of_letter.ensures in
     rw (one_byte c.args.code.now c.requires) at named

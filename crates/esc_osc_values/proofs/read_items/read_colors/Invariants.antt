@@ -7,4 +7,5 @@ use Rattle.esc_osc_values.proofs.read_items.read_colors.Given as goal
 abbrev pub invariant-loop-part : goal.invariant-loop-part
 invariant-loop-part g l =
     colors_of (map (λ p. p.now) l.args)
-    ≡ option_map (λ (more : List ColorOrQuery). l.made.items ++ more) (colors_of (map (λ p. p.now) (drop l.part-index l.args)))
+    ≡ option_map (λ (more : List ColorOrQuery). l.made.items ++ more)
+    (colors_of (map (λ p. p.now) (drop l.part-index l.args)))

@@ -5,4 +5,5 @@ use Rattle.esc_osc_values.proofs.read_items.read_numbers.Given as goal
 
 abbrev pub invariant-loop-part : goal.invariant-loop-part
 invariant-loop-part g l =
-    numbers_of (map (λ p. p.now) l.args) ≡ option_map (λ (more : List ℕ). l.made.items ++ more) (numbers_of (map (λ p. p.now) (drop l.part-index l.args)))
+    numbers_of (map (λ p. p.now) l.args) ≡ option_map (λ (more : List ℕ). l.made.items ++ more)
+    (numbers_of (map (λ p. p.now) (drop l.part-index l.args)))

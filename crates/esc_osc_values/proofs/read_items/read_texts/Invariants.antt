@@ -4,4 +4,5 @@ use Rattle.esc_osc_values.proofs.read_items.read_texts.Given as goal
 
 abbrev pub invariant-loop-part : goal.invariant-loop-part
 invariant-loop-part g l =
-    map utf8_lossy (map (λ p. p.now) l.args) ≡ l.made.items ++ map utf8_lossy (map (λ p. p.now) (drop l.part-index l.args))
+    map utf8_lossy (map (λ p. p.now) l.args) ≡ l.made.items
+    ++ map utf8_lossy (map (λ p. p.now) (drop l.part-index l.args))

@@ -9,5 +9,6 @@ empty_title (x ∷ xs) h = absurd (omega arith)
 
 pub returns-in_default-clause-ok : goal.returns-in_default-clause-ok
 returns-in_default-clause-ok g c =
-    let none : length c.args.text.now ≡ 0 = ap length (sym c.as_bytes-bytes.ensures.value) ∙ c.in_default.ensures.cases in
+    let none : length c.args.text.now ≡ 0 =
+    ap length (sym c.as_bytes-bytes.ensures.value) ∙ c.in_default.ensures.cases in
     ap Some c.new.ensures ∙ sym (empty_title _ none)

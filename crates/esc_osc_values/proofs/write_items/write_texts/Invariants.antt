@@ -6,4 +6,5 @@ use Rattle.esc_osc_values.proofs.write_items.write_texts.Given as goal
 abbrev pub invariant-loop-text : goal.invariant-loop-text
 invariant-loop-text g l =
     IsPlainFormatter l.initial.f
-    → HasWritten g.W.Write.write_str_gives l.initial.f (flat_map (λ t. 0x3b ∷ t) (take l.text-index l.texts)) l.f
+    → HasWritten g.W.Write.write_str_gives l.initial.f
+    (flat_map (λ t. 0x3b ∷ t) (take l.text-index l.texts)) l.f

@@ -7,28 +7,42 @@ use Rattle.esc_sixel.proofs.pixels.fill.Goals as goal
 pub by_block-preserved : goal.by_block-preserved
 by_block-preserved g c = record {
   within = omega (arith, c.by_block-test.true, c.by_block.invariant.within);
-  items = drawn_more c.args.vec.items c.by_block.vec.items _ c.args.run.now c.by_block.at 8 c.by_block.invariant.items c.put_block.ensures.items;
-  room = omega (arith, c.by_block.invariant.room, c.put_block.ensures.len, c.put_block.ensures.capacity);
+  items = drawn_more c.args.vec.items c.by_block.vec.items _ c.args.run.now c.by_block.at 8
+      c.by_block.invariant.items c.put_block.ensures.items;
+  room = omega (
+    arith,
+    c.by_block.invariant.room,
+    c.put_block.ensures.len,
+    c.put_block.ensures.capacity,
+  );
 }
 
 pub by_four-preserved : goal.by_four-preserved
 by_four-preserved g c = record {
   within = omega (arith, c.by_four-test.true, c.by_four.invariant.within);
-  items = drawn_more c.args.vec.items c.by_four.vec.items _ c.args.run.now c.by_four.at 4 c.by_four.invariant.items c.put_four.ensures.items;
-  room = omega (arith, c.by_four.invariant.room, c.put_four.ensures.len, c.put_four.ensures.capacity);
+  items = drawn_more c.args.vec.items c.by_four.vec.items _ c.args.run.now c.by_four.at 4
+      c.by_four.invariant.items c.put_four.ensures.items;
+  room = omega (
+    arith,
+    c.by_four.invariant.room,
+    c.put_four.ensures.len,
+    c.put_four.ensures.capacity,
+  );
 }
 
 pub by_two-preserved : goal.by_two-preserved
 by_two-preserved g c = record {
   within = omega (arith, c.by_two-test.true, c.by_two.invariant.within);
-  items = drawn_more c.args.vec.items c.by_two.vec.items _ c.args.run.now c.by_two.at 2 c.by_two.invariant.items c.put_two.ensures.items;
+  items = drawn_more c.args.vec.items c.by_two.vec.items _ c.args.run.now c.by_two.at 2
+      c.by_two.invariant.items c.put_two.ensures.items;
   room = omega (arith, c.by_two.invariant.room, c.put_two.ensures.len, c.put_two.ensures.capacity);
 }
 
 pub loop-at-preserved : goal.loop-at-preserved
 loop-at-preserved g c = record {
   within = omega (arith, c.loop-at-test.true);
-  items = drawn_one c.args.vec.items c.loop-at.vec.items _ c.args.run.now c.loop-at.at _ c.loop-at-test.true c.loop-at.invariant.items refl c.put.ensures.items;
+  items = drawn_one c.args.vec.items c.loop-at.vec.items _ c.args.run.now c.loop-at.at _
+      c.loop-at-test.true c.loop-at.invariant.items refl c.put.ensures.items;
   room = omega (arith, c.loop-at.invariant.room, c.put.ensures.len, c.put.ensures.capacity);
 }
 
@@ -44,4 +58,5 @@ put_two-requires-clause-pixels g c = some_pixels c.args.run.now c.by_two.at 2 c.
 pub returns : goal.returns
 returns g c =
     c.loop-at.invariant.items
-    ∙ ap (λ t. c.args.vec.items ++ drawn t) (take_all c.loop-at.at c.args.run.now (omega (arith, c.loop-at-test.false)))
+    ∙ ap (λ t. c.args.vec.items ++ drawn t)
+    (take_all c.loop-at.at c.args.run.now (omega (arith, c.loop-at-test.false)))

@@ -5,4 +5,5 @@ use Rattle.esc_sixel.proofs.pixels.put.Goals as goal
 
 pub returns-in-Data-clause-items : goal.returns-in-Data-clause-items
 returns-in-Data-clause-items g c =
-    last_set c.args.vec.now.items _ (Data 0) (Data c.args.value) c.len-len.result c.push_reserved.ensures.items (c.len-len.ensures ∙ c.args.vec.now.ok.0)
+    last_set c.args.vec.now.items _ (Data 0) (Data c.args.value) c.len-len.result
+    c.push_reserved.ensures.items (c.len-len.ensures ∙ c.args.vec.now.ok.0)

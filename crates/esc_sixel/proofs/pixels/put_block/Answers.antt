@@ -14,4 +14,5 @@ returns-clause-items g c =
     let s6 = put_more xs _ _ _ _ s5 c.put-6.ensures.items in
     let s7 = put_more xs _ _ _ _ s6 c.put-7.ensures.items in
     let s8 = put_more xs _ _ _ _ s7 c.put-8.ensures.items in
-    s8 ∙ ap (λ t. xs ++ t) (eight c.values_of-values.result (omega arith) ∙ c.values_of-values.ensures)
+    s8 ∙ ap (λ t. xs ++ t) (eight c.values_of-values.result (omega arith)
+    ∙ c.values_of-values.ensures)

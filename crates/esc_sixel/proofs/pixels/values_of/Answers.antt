@@ -7,4 +7,5 @@ use Rattle.esc_sixel.proofs.pixels.values_of.Goals as goal
 pub returns : goal.returns
 returns c =
     let v = take 8 c.args.block.now in
-    ap (map Data) (zip2_splat _ v 8 0x3f (length-chunk 0 8 c.args.block.now c.requires.room)) ∙ block_drawn _ refl v c.requires.pixels
+    ap (map Data) (zip2_splat _ v 8 0x3f (length-chunk 0 8 c.args.block.now c.requires.room))
+    ∙ block_drawn _ refl v c.requires.pixels

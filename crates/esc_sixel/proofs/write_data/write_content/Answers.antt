@@ -11,12 +11,15 @@ and_both : (a b : Bool) → (a && b) ≡ true → (a ≡ true) × (b ≡ true)
 and_both true b h = (refl, h)
 and_both false b h = cc
 
-all_at : {X : Type 0} (t : X → Bool) (xs : List X) (i : ℕ) (d : X) → i < length xs → list_all t xs ≡ true → t (get_or xs i d) ≡ true
+all_at : {X : Type 0} (t : X → Bool) (xs : List X) (i : ℕ) (d : X) → i < length xs
+    → list_all t xs ≡ true → t (get_or xs i d) ≡ true
 all_at t [] i d lt h = absurd (omega arith)
 all_at t (x ∷ xs) zero d lt h = (and_both (t x) (list_all t xs) h).0
-all_at t (x ∷ xs) (suc i) d lt h = all_at t xs i d (omega arith) (and_both (t x) (list_all t xs) h).1
+all_at t (x ∷ xs) (suc i) d lt h =
+    all_at t xs i d (omega arith) (and_both (t x) (list_all t xs) h).1
 
-text_more : {X : Type 0} (f : X → List ℕ) (xs : List X) (i : ℕ) (x : X) → x ≡ get_or xs i x → i < length xs
+text_more : {X : Type 0} (f : X → List ℕ) (xs : List X) (i : ℕ) (x : X) → x ≡ get_or xs i x
+    → i < length xs
     → flat_map f (take i xs) ++ f x ≡ flat_map f (take (i + 1) xs)
 text_more f xs i x is lt =
     ap (λ y. flat_map f (take i xs) ++ f y) is
@@ -28,6 +31,8 @@ loop-item-preserved g c = λ all plain.
     let lt : i < length c.args.content.now = search rules in
     let so_far = c.loop-item.invariant all plain in
     let here : IsPlainFormatter c.loop-item.f = so_far.plain in
-    let sixel : is_sixel c.item-item.result ≡ true = ap is_sixel c.item-item.is ∙ all_at is_sixel c.args.content.now i c.item-item.result lt all in
+    let sixel : is_sixel c.item-item.result ≡ true =
+    ap is_sixel c.item-item.is ∙ all_at is_sixel c.args.content.now i c.item-item.result lt
+    all in
     put_two _ _ _ _ _ _ _ so_far ((rw sixel at c.in_ok-fmt.ensures.writes) here refl)
     (text_more data_text c.args.content.now i c.item-item.result c.item-item.is lt)

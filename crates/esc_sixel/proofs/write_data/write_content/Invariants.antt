@@ -8,4 +8,5 @@ abbrev pub invariant-loop-item : goal.invariant-loop-item
 invariant-loop-item g l =
     list_all is_sixel l.content ≡ true
     → IsPlainFormatter l.initial.f
-    → HasWritten g.W.Write.write_str_gives l.initial.f (flat_map data_text (take l.item-index l.content)) l.f
+    → HasWritten g.W.Write.write_str_gives l.initial.f
+    (flat_map data_text (take l.item-index l.content)) l.f

@@ -11,8 +11,11 @@ loop-known-init c = (refl, refl)
 pub loop-known-preserved : goal.loop-known-preserved
 loop-known-preserved c =
     let i = c.loop-known.known-index in
-    let lt : i < length all_codes = search rules in
-    (refl, named_later all_codes c.args.code.now i code.SetIconNameAndWindowTitle lt (search rules) ∙ c.loop-known.invariant.1)
+    let lt : i < length all_codes = search rules in (
+      refl,
+      named_later all_codes c.args.code.now i code.SetIconNameAndWindowTitle lt (search rules)
+          ∙ c.loop-known.invariant.1,
+    )
 
 pub returns : goal.returns
 returns c = code_of_none c.args.code.now (sym (search rules))

@@ -8,7 +8,8 @@ use Rattle.esc_osc_values.proofs.color_or_query.ChannelDisplay.fmt.Goals as goal
 -- two bytes by `{:02x}` are the four digits
 two_bytes : (n : ℕ) → n < 2 ^ 16
     → padded_integral (format_spec 32 0 4 2 (2 ^ 64 - 1)) false [] (digits 16 false (n / 256))
-    ++ padded_integral (format_spec 32 0 4 2 (2 ^ 64 - 1)) false [] (digits 16 false (n % 256)) ≡ hex4 n
+    ++ padded_integral (format_spec 32 0 4 2 (2 ^ 64 - 1)) false [] (digits 16 false (n % 256))
+    ≡ hex4 n
 two_bytes n small =
     let h : n / 256 < 256 = omega arith in
     let l : n % 256 < 256 = omega arith in

@@ -7,5 +7,6 @@ use Rattle.esc_osc_values.proofs.lossy.LossyDisplay.fmt.Given as goal
 -- what was written, with the text of the bytes that are left, is the text of all the bytes
 abbrev pub invariant-loop-chunk : goal.invariant-loop-chunk
 invariant-loop-chunk g l =
-    IsPlainFormatter l.initial.f → (done : List ℕ) × HasWritten g.W.Write.write_str_gives l.initial.f done l.f
+    IsPlainFormatter l.initial.f → (done : List ℕ)
+    × HasWritten g.W.Write.write_str_gives l.initial.f done l.f
     × (done ++ utf8_lossy (utf8_chunks_rest l.chunk-iterator) ≡ utf8_lossy l.fn.self.0.now)

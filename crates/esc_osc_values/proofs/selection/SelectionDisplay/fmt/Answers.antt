@@ -13,7 +13,8 @@ use Rattle.esc_osc_values.proofs.selection.SelectionDisplay.fmt.Goals.{then-self
 
 -- one more letter
 one_more : (b i : ℕ) → i < length letters
-    → flat_map (letter_text b) (take i letters) ++ letter_text b (get_or letters i (0, 0)) ≡ flat_map (letter_text b) (take (i + 1) letters)
+    → flat_map (letter_text b) (take i letters) ++ letter_text b (get_or letters i (0, 0))
+    ≡ flat_map (letter_text b) (take (i + 1) letters)
 one_more b i lt = flat_map_more (letter_text b) [] (take i letters) (get_or letters i (0, 0))
     ∙ ap (flat_map (letter_text b)) (sym (take_more letters i (0, 0) lt))
 
@@ -25,7 +26,8 @@ all_ascii (l ∷ ls) = nat_lt l.1 128 && all_ascii ls
 ascii_at : (ls : List (ℕ × ℕ)) (i : ℕ) → all_ascii ls ≡ true → (get_or ls i (0, 0)).1 < 128
 ascii_at [] i h = omega arith
 ascii_at (l ∷ ls) zero h = search (rules, ltb-true)
-ascii_at (l ∷ ls) (suc i) h = let t : all_ascii ls ≡ true = search (rules, ltb-true) in ascii_at ls i t
+ascii_at (l ∷ ls) (suc i) h = let t : all_ascii ls ≡ true = search (rules, ltb-true) in
+    ascii_at ls i t
 
 pub loop-bit-preserved : goal.loop-bit-preserved
 loop-bit-preserved g c = (
@@ -38,7 +40,11 @@ loop-bit-preserved g c = (
       has_written_of_eq _ _ _ _ _ (one_more c.args.self.now.0 i lt)
       (has_written_append _ _ _ _ _ _ so_far
       (elim c.if-self-bit-ne0.branch [
-        | then-self-bit-ne0+in_ok-write w ↦ rw (w.f-is, ne_eqb _ _ w.if-self-bit-ne0.true, ← encode_ascii _ (ascii_at letters i refl)) (search rules)
+        | then-self-bit-ne0+in_ok-write w ↦ rw (
+          w.f-is,
+          ne_eqb _ _ w.if-self-bit-ne0.true,
+          ← encode_ascii _ (ascii_at letters i refl),
+        ) (search rules)
         | else-self-bit-ne0 w ↦ rw (w.f-is, eq-eqb _ _ w.if-self-bit-ne0.false) (search rules)
       ])),
 )

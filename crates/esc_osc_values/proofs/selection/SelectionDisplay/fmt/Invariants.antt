@@ -8,4 +8,5 @@ abbrev pub invariant-loop-bit : goal.invariant-loop-bit
 invariant-loop-bit g l =
     (l.bit-items ≡ letters)
     × (IsPlainFormatter l.initial.f
-    → HasWritten g.W.Write.write_str_gives l.initial.f (flat_map (letter_text l.fn.self.0) (take l.bit-index letters)) l.f)
+    → HasWritten g.W.Write.write_str_gives l.initial.f
+    (flat_map (letter_text l.fn.self.0) (take l.bit-index letters)) l.f)

@@ -9,4 +9,5 @@ returns-in-Ok-clause-takes g c =
     let xs = c.args.rest.now in
     let some : 0 < length xs = search rules in
     let e = ap (λ t. record p.sixel { content = t }) c.in-Ok.ensures.ok in
-    folds_one Pushes p xs 0 p _ some refl (line_ended p _ (get_or xs 0 0) c.in-Some.end c.requires c.in-Some.ensures e c.requires)
+    folds_one Pushes p xs 0 p _ some refl (line_ended p _ (get_or xs 0 0) c.in-Some.end c.requires
+    c.in-Some.ensures e c.requires)

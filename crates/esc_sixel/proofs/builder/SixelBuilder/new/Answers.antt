@@ -17,5 +17,6 @@ pan_back (negsuc n ∷ ps) = refl
 pub returns : goal.returns
 unfolding LeadsTo
 returns g c =
-    let pan : to_z w64 (of_z w64 c.pan_of.result) ≡ header_pan c.args.params.now = rw c.pan_of.ensures (pan_back c.args.params.now) in
+    let pan : to_z w64 (of_z w64 c.pan_of.result) ≡ header_pan c.args.params.now =
+    rw c.pan_of.ensures (pan_back c.args.params.now) in
     rw (pan, c.is_transparent.ensures, c.grid_of.ensures, c.new.ensures) (refl, refl)

@@ -25,38 +25,59 @@ returns-then-rest-last-le126-clause-ok g c =
     let p1 = record p { introducer = Some introducer.Color; parameters = fresh } in
     let s1 : FoldsTo Pushes p (take 1 xs) p1 =
     folds_one Pushes p xs 0 p p1 c.requires.bytes refl
-    (begins p introducer.Color fresh (get_or xs 0 0) c.requires.closed (color_class (get_or xs 0 0) c.requires.begins) fresh_keeps) in
+    (begins p introducer.Color fresh (get_or xs 0 0) c.requires.closed
+    (color_class (get_or xs 0 0) c.requires.begins) fresh_keeps) in
     let p2 = record p1 { parameters = more_digits fresh ds } in
     let s2 : FoldsTo Pushes p (take (1 + n) xs) p2 =
-    folds_more Pushes p xs 1 n p1 p2 s1 (digits_pushed ds p1 p2 introducer.Color refl refl (λ t. omega arith) c.few_digits-color.ensures.digits refl) in
-    let p3 = record p2 { sixel = with_data p.sixel d; introducer = Some introducer.Repeat; parameters = fresh } in
+    folds_more Pushes p xs 1 n p1 p2 s1 (digits_pushed ds p1 p2 introducer.Color refl refl (λ t.
+    omega arith) c.few_digits-color.ensures.digits refl) in
+    let p3 = record p2 {
+      sixel = with_data p.sixel d;
+      introducer = Some introducer.Repeat;
+      parameters = fresh;
+    } in
     let s3 : FoldsTo Pushes p (take (1 + n + 1) xs) p3 =
-    folds_one Pushes p xs (1 + n) p2 p3 c.if-end-rest.true s2 (selected_begins p2 introducer.Repeat fresh (get_or xs (1 + n) 0) d refl
+    folds_one Pushes p xs (1 + n) p2 p3 c.if-end-rest.true s2
+    (selected_begins p2 introducer.Repeat fresh (get_or xs (1 + n) 0) d refl
     (repeat_class (get_or xs (1 + n) 0) c.if-rest-end-eq33.true) fresh_keeps
-    (λ r k. selects ds r _ (some_taken n (take (length xs - 1) (drop 1 xs)) (omega arith) c.few_digits-color.ensures.few)
+    (λ r k. selects ds r _ (some_taken n (take (length xs - 1) (drop 1 xs)) (omega arith)
+    c.few_digits-color.ensures.few)
     c.few_digits-color.ensures.number c.few_digits-color.ensures.small k)) in
     let p4 = record p3 { parameters = more_digits fresh es } in
     let s4 : FoldsTo Pushes p (take (1 + n + 1 + m) xs) p4 =
     folds_more Pushes p xs (1 + n + 1) m p3 p4 s3
-    (digits_pushed es p3 p4 introducer.Repeat refl refl (λ t. omega arith) c.few_digits-repeat_count.ensures.digits refl) in
-    let is = is_within (get_or xs (1 + n + 1 + m) 0) c.if-rest-last-ge63.true c.if-rest-last-le126.true in
+    (digits_pushed es p3 p4 introducer.Repeat refl refl (λ t.
+    omega arith) c.few_digits-repeat_count.ensures.digits refl) in
+    let is = is_within (get_or xs (1 + n + 1 + m) 0) c.if-rest-last-ge63.true
+    c.if-rest-last-le126.true in
     let p5 = record p { sixel = with_data (with_data p.sixel d) v } in
     let s5 : FoldsTo Pushes p (take (1 + n + 1 + m + 1) xs) p5 =
     folds_one Pushes p xs (1 + n + 1 + m) p4 p5 c.if-last-rest.true s4
     (repeat_ends p4 p5 (get_or xs (1 + n + 1 + m) 0) v refl is
-    (λ r k. repeats es r _ _ (some_taken m (take (length xs - (1 + n + 1)) (drop (1 + n + 1) xs)) (omega arith) c.few_digits-repeat_count.ensures.few)
-    c.few_digits-repeat_count.ensures.number c.few_digits-repeat_count.ensures.small k) refl c.requires.closed) in
+    (λ r k. repeats es r _ _ (some_taken m (take (length xs - (1 + n + 1)) (drop (1 + n + 1) xs))
+    (omega arith) c.few_digits-repeat_count.ensures.few)
+    c.few_digits-repeat_count.ensures.number c.few_digits-repeat_count.ensures.small k) refl
+    c.requires.closed) in
     let run = c.pixels_run-run.result in
     let bs = take run (take (length xs - (1 + n + 1 + m + 1)) (drop (1 + n + 1 + m + 1) xs)) in
-    let drawn_after = c.in_ok-push_line.ensures.ok ∙ sym (append_assoc p.sixel.content (d ∷ []) (v ∷ drawn bs))
+    let drawn_after =
+    c.in_ok-push_line.ensures.ok ∙ sym (append_assoc p.sixel.content (d ∷ []) (v ∷ drawn bs))
     ∙ sym (append_assoc (p.sixel.content ++ d ∷ []) (v ∷ []) (drawn bs)) in
     let s6 = folds_more Pushes p xs (1 + n + 1 + m + 1) run p5 _ s5
-    (pixels_pushed bs p5 _ c.requires.closed c.pixels_run-run.ensures.run (ap (λ t. record p { sixel = record p.sixel { content = t } }) drawn_after)) in (
+    (pixels_pushed bs p5 _ c.requires.closed c.pixels_run-run.ensures.run
+    (ap (λ t. record p { sixel = record p.sixel { content = t } }) drawn_after)) in (
       omega arith,
-      within (1 + n + 1 + m + 1) run c.end_line.result xs (omega (arith, c.if-last-rest.true)) c.pixels_run-run.ensures.few c.end_line.ensures.few,
-      folds_more Pushes p xs (1 + n + 1 + m + 1 + run) c.end_line.result _ _ s6 c.end_line.ensures.takes,
+      within (1 + n + 1 + m + 1) run c.end_line.result xs (omega (arith, c.if-last-rest.true))
+          c.pixels_run-run.ensures.few c.end_line.ensures.few,
+      folds_more Pushes p xs (1 + n + 1 + m + 1 + run) c.end_line.result _ _ s6
+          c.end_line.ensures.takes,
     )
   where
-    within : (at run k : ℕ) (xs : List ℕ) → at ≤ length xs → run ≤ length (take (length xs - at) (drop at xs))
+    within : (at run k : ℕ) (xs : List ℕ) → at ≤ length xs
+        → run ≤ length (take (length xs - at) (drop at xs))
         → k ≤ length (take (length xs - (at + run)) (drop (at + run) xs)) → at + run + k ≤ length xs
-    within at run k xs fits few more = omega (arith, length-take (length xs - at) (drop at xs), length-take (length xs - (at + run)) (drop (at + run) xs))
+    within at run k xs fits few more = omega (
+      arith,
+      length-take (length xs - at) (drop at xs),
+      length-take (length xs - (at + run)) (drop (at + run) xs),
+    )

@@ -11,13 +11,17 @@ returns-then-run-gt0-clause-ok g c =
     let xs = c.args.rest.now in
     let run = c.pixels_run-run.result in
     let n = c.end_line.result in
-    let e = ap (λ t. record p { sixel = record p.sixel { content = t } }) c.in_ok-push_pixels.ensures.ok in (
+    let e = ap (λ t. record p { sixel = record p.sixel { content = t } })
+    c.in_ok-push_pixels.ensures.ok in (
       omega arith,
       within run n xs c.pixels_run-run.ensures.few c.end_line.ensures.few,
-      folds_more Pushes p xs run n _ _ (pixels_pushed (take run xs) p _ c.in-None.is c.pixels_run-run.ensures.run e) c.end_line.ensures.takes,
+      folds_more Pushes p xs run n _ _
+          (pixels_pushed (take run xs) p _ c.in-None.is c.pixels_run-run.ensures.run e)
+          c.end_line.ensures.takes,
     )
   where
-    within : (run n : ℕ) (xs : List ℕ) → run ≤ length xs → n ≤ length (take (length xs - run) (drop run xs)) → run + n ≤ length xs
+    within : (run n : ℕ) (xs : List ℕ) → run ≤ length xs
+        → n ≤ length (take (length xs - run) (drop run xs)) → run + n ≤ length xs
     within run n xs few more = omega (arith, length-take (length xs - run) (drop run xs))
 
 pub returns-then-digits-gt0-clause-ok : goal.returns-then-digits-gt0-clause-ok
@@ -26,9 +30,11 @@ returns-then-digits-gt0-clause-ok g c =
     let five : length p.parameters.values ≡ 5 = search rules in (
       c.if-digits-gt0.true,
       c.digits-digits.ensures.few,
-      digits_pushed (take c.digits-digits.result c.args.rest.now) p _ c.in_default.field-0 c.in_default.is five
+      digits_pushed (take c.digits-digits.result c.args.rest.now) p _ c.in_default.field-0
+          c.in_default.is five
           (λ t. c.digits-digits.ensures.room c.if-digits-gt0.true)
-          c.digits-digits.ensures.digits (ap (λ k. record p { parameters = k }) c.digits-digits.ensures.taken),
+          c.digits-digits.ensures.digits
+          (ap (λ k. record p { parameters = k }) c.digits-digits.ensures.taken),
     )
 
 pub returns-in-Some-clause-ok : goal.returns-in-Some-clause-ok
@@ -37,5 +43,6 @@ returns-in-Some-clause-ok g c =
     let e = ap (λ t. record p { sixel = record p.sixel { content = t } }) c.in_ok-push.ensures.ok in (
       c.in-Some.ensures.some,
       c.in-Some.ensures.few,
-      subst (λ q. FoldsTo Pushes p (take c.in-Some.taken c.args.rest.now) q) (sym e) c.in-Some.ensures.pushes,
+      subst (λ q. FoldsTo Pushes p (take c.in-Some.taken c.args.rest.now) q) (sym e)
+          c.in-Some.ensures.pushes,
     )

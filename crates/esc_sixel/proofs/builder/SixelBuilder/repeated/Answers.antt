@@ -20,13 +20,16 @@ returns-clause-pushes g c =
     let p1 = record p { introducer = Some introducer.Repeat; parameters = fresh } in
     let s1 : FoldsTo Pushes p (take 1 xs) p1 =
     folds_one Pushes p xs 0 p p1 c.requires.bytes refl
-    (begins p introducer.Repeat fresh (get_or xs 0 0) c.requires.closed (repeat_class (get_or xs 0 0) c.if-rest-ne33.false) fresh_keeps) in
+    (begins p introducer.Repeat fresh (get_or xs 0 0) c.requires.closed
+    (repeat_class (get_or xs 0 0) c.if-rest-ne33.false) fresh_keeps) in
     let p2 = record p1 { parameters = more_digits fresh ds } in
     let s2 : FoldsTo Pushes p (take (1 + n) xs) p2 =
     folds_more Pushes p xs 1 n p1 p2 s1
-    (digits_pushed ds p1 p2 introducer.Repeat refl refl (λ t. omega arith) c.few_digits-repeat_count.ensures.digits refl) in
+    (digits_pushed ds p1 p2 introducer.Repeat refl refl (λ t.
+    omega arith) c.few_digits-repeat_count.ensures.digits refl) in
     let is = is_within b (omega arith) (omega arith) in
     let some = some_taken n tail (omega arith) c.few_digits-repeat_count.ensures.few in
     folds_one Pushes p xs (1 + n) p2 _ (omega arith) s2
     (repeat_ends p2 _ b (Repeat (b - 0x3f) c.few_digits-repeat_count.result.0) refl is
-    (λ r k. repeats ds r _ _ some c.few_digits-repeat_count.ensures.number c.few_digits-repeat_count.ensures.small k) refl c.requires.closed)
+    (λ r k. repeats ds r _ _ some c.few_digits-repeat_count.ensures.number
+    c.few_digits-repeat_count.ensures.small k) refl c.requires.closed)

@@ -10,7 +10,8 @@ abbrev pub invariant-loop-end : goal.invariant-loop-end
 invariant-loop-end l = record {
   within : l.end ≤ length l.rest;
   digits : All IsDigit (take l.end l.rest);
-  number : l.number ≡ number_after (unwrap_or (get_or l.self.values l.self.count None) 0) (take l.end l.rest);
+  number : l.number ≡ number_after (unwrap_or (get_or l.self.values l.self.count None) 0)
+      (take l.end l.rest);
 }
 
 abbrev pub decreases-loop-end : goal.decreases-loop-end
