@@ -1,28 +1,32 @@
-//! Links the proved archives, and the C code by which it takes memory. `ESCAPE_STREAM_LIB` names the
-//! folder that has them.
+//! Links the proved archives, and the C code by which the calls that take a stream whole ask for
+//! memory. `ESCAPE_STREAM_LIB` names the folder that has them; without it the crate can be checked
+//! and documented, and not linked.
 use std::env;
 use std::path::PathBuf;
 use std::process;
 
 fn main() {
     println!("cargo::rerun-if-env-changed=ESCAPE_STREAM_LIB");
+    let mut names = vec!["stream_c"];
+    if env::var_os("CARGO_FEATURE_ONESHOT").is_some() {
+        names.extend(["escape_c", "libc_c"]);
+    }
+    let archives = names.iter().map(|name| format!("lib{name}.a"));
     let Some(folder) = env::var_os("ESCAPE_STREAM_LIB").map(PathBuf::from) else {
-        stop(
-            "set ESCAPE_STREAM_LIB to the folder that has libescape_c.a, libstream_c.a and liblibc_c.a",
+        let archives = archives.collect::<Vec<_>>().join(", ");
+        println!(
+            "cargo::warning=to link it, set ESCAPE_STREAM_LIB to the folder that has {archives}"
         );
+        return;
     };
     println!("cargo::rustc-link-search=native={}", folder.display());
-    for name in ["escape_c", "stream_c", "libc_c"] {
-        let archive = folder.join(format!("lib{name}.a"));
+    for (name, archive) in names.iter().zip(archives) {
+        let archive = folder.join(archive);
         if !archive.is_file() {
-            stop(&format!("{} is not there", archive.display()));
+            eprintln!("escape-stream: {} is not there", archive.display());
+            process::exit(1);
         }
         println!("cargo::rerun-if-changed={}", archive.display());
         println!("cargo::rustc-link-lib=static={name}");
     }
-}
-
-fn stop(why: &str) -> ! {
-    eprintln!("escape-stream: {why}");
-    process::exit(1)
 }

@@ -7,8 +7,10 @@
 //! reference. A slice's pointer is never null, also where the slice is empty. An `alloc: Global`
 //! there takes no bytes, so no parameter here stands for it. The declarations are written by hand:
 //! nothing compares them with the library's.
+#[cfg(feature = "oneshot")]
 use crate::{Error, Policy};
 
+#[cfg(feature = "oneshot")]
 unsafe extern "C" {
     fn escape_stream_normal(
         bytes: *const u8,
@@ -41,9 +43,11 @@ unsafe extern "C" {
     ) -> usize;
 }
 
+#[cfg(feature = "oneshot")]
 const DONE: u32 = 0;
 
 /// Writes the normal form.
+#[cfg(feature = "oneshot")]
 pub fn normal(bytes: &[u8], out: &mut [u8]) -> Result<usize, Error> {
     let mut needed = 0;
     // SAFETY: the references are what the types ask for. Clause `written` says what `out` holds after
@@ -62,6 +66,7 @@ pub fn normal(bytes: &[u8], out: &mut [u8]) -> Result<usize, Error> {
 }
 
 /// Says whether it is the same bytes.
+#[cfg(feature = "oneshot")]
 pub fn is_normal(bytes: &[u8]) -> Result<bool, Error> {
     let mut answer = false;
     // SAFETY: the references are what the types ask for. Clause `equal` says which `bool` `answer` is
@@ -71,6 +76,7 @@ pub fn is_normal(bytes: &[u8]) -> Result<bool, Error> {
 }
 
 /// Writes what the policy admits.
+#[cfg(feature = "oneshot")]
 pub fn filter(policy: Policy, limit: usize, bytes: &[u8], out: &mut [u8]) -> Result<usize, Error> {
     let mut needed = 0;
     // SAFETY: as in `normal`, by the clauses `written`, `needed` and `refused` of this call. It takes
@@ -90,6 +96,7 @@ pub fn filter(policy: Policy, limit: usize, bytes: &[u8], out: &mut [u8]) -> Res
 }
 
 // The number of a policy, as the definition `policy_numbered` has it.
+#[cfg(feature = "oneshot")]
 fn number(policy: Policy) -> u32 {
     match policy {
         Policy::Text => 0,
@@ -100,6 +107,7 @@ fn number(policy: Policy) -> u32 {
 }
 
 // By clause `refused` the only other status is that of want of memory, where the policy is known.
+#[cfg(feature = "oneshot")]
 fn done<T>(status: u32, value: T) -> Result<T, Error> {
     if status == DONE {
         Ok(value)

@@ -1,6 +1,22 @@
 #include "escape_stream_parser.h"
 #include <stdio.h>
 
+/* A character that two reads share, or U+FFFD for what is no UTF-8, comes by itself. */
+static void put_character(uint32_t c)
+{
+    if (c < 0x80) {
+        putchar((int)c);
+        return;
+    }
+    if (c < 0x800)
+        putchar((int)(0xc0 | c >> 6));
+    else if (c < 0x10000)
+        printf("%c%c", (int)(0xe0 | c >> 12), (int)(0x80 | (c >> 6 & 0x3f)));
+    else
+        printf("%c%c%c", (int)(0xf0 | c >> 18), (int)(0x80 | (c >> 12 & 0x3f)), (int)(0x80 | (c >> 6 & 0x3f)));
+    putchar((int)(0x80 | (c & 0x3f)));
+}
+
 int main(void)
 {
     static struct escape_stream_parser parser;
@@ -20,9 +36,13 @@ int main(void)
                 return 1;
             if (event.kind == ESCAPE_STREAM_TEXT)
                 fwrite(text, 1, event.length, stdout);
+            else if (event.kind == ESCAPE_STREAM_CHARACTER)
+                put_character(event.byte);
+            else if (event.kind == ESCAPE_STREAM_CONTROL && event.byte == '\n')
+                putchar('\n');
             else if (event.kind == ESCAPE_STREAM_CSI)
                 printf("<CSI %c>", (int)event.byte);
-            else if (event.kind == ESCAPE_STREAM_OSC)
+            else if (event.kind == ESCAPE_STREAM_OSC) /* its text holds no control but DEL */
                 printf("<OSC %.*s>", (int)event.length, (const char *)text);
             next += taken;
         }

@@ -1,0 +1,104 @@
+//! The calls that take a stream whole.
+use crate::{Error, ffi};
+use alloc::vec::Vec;
+
+/// Which actions pass [`filter`]. Each policy admits all that the one before it does.
+#[derive(Clone, Copy, Debug, PartialEq, Eq, Hash)]
+pub enum Policy {
+    /// Characters but DEL; tab, line feed and carriage return.
+    Text,
+    /// And graphic renditions (SGR: colours, bold, underline ..) and hyperlinks (OSC 8).
+    Color,
+    /// And what changes the screen alone, from a list of what is known to do no more: cursor
+    /// movement, erasing, scrolling, modes of what is shown, and others. Nothing that a terminal
+    /// answers, no title, no clipboard, and nothing unknown.
+    Screen,
+    /// All that can be written by itself, so images, titles and queries too. It keeps broken input
+    /// from becoming a sequence, and does not protect from sequences that are there.
+    All,
+}
+
+/// The normal form of a stream: each of its actions, in order, in its one spelling.
+///
+/// Of a sequence that is unfinished at the end of the stream only what it has done so far is
+/// written. Where the normal form is longer than the stream, it is made twice: [`normal_into`]
+/// leaves the room to the caller.
+///
+/// Normal form is no protection: for a stream of unknown origin there is [`filter`].
+///
+/// # Errors
+///
+/// [`Error::Memory`] where a request for memory was refused.
+pub fn normal(bytes: &[u8]) -> Result<Vec<u8>, Error> {
+    whole(bytes.len(), |out| normal_into(bytes, out))
+}
+
+/// Writes the normal form of a stream to `out`, or as much of its beginning as fits, and returns
+/// the length of all of it in bytes. Every other byte of `out` stays as it was.
+///
+/// # Errors
+///
+/// [`Error::Memory`] where a request for memory was refused. Then `out` is as it was.
+pub fn normal_into(bytes: &[u8], out: &mut [u8]) -> Result<usize, Error> {
+    ffi::normal(bytes, out)
+}
+
+/// Whether a stream is its own normal form.
+///
+/// # Errors
+///
+/// [`Error::Memory`] where a request for memory was refused.
+pub fn is_normal(bytes: &[u8]) -> Result<bool, Error> {
+    ffi::is_normal(bytes)
+}
+
+/// What the policy admits of a stream, and nothing else. The text reads back as the actions that
+/// were admitted, whatever bytes follow it: no text of the stream becomes a sequence, however
+/// broken the stream is.
+///
+/// `limit` is how many bytes are kept of a string, such as a title or an image; of one with more
+/// nothing is written.
+///
+/// # Errors
+///
+/// [`Error::Memory`] where a request for memory was refused.
+pub fn filter(policy: Policy, limit: usize, bytes: &[u8]) -> Result<Vec<u8>, Error> {
+    whole(bytes.len(), |out| filter_into(policy, limit, bytes, out))
+}
+
+/// Writes what the policy admits of a stream to `out`, or as much of its beginning as fits, and
+/// returns the length of all of it in bytes. Every other byte of `out` stays as it was. What does
+/// not fit is cut anywhere, also inside a sequence: send `out` to a terminal only where all of it
+/// fits.
+///
+/// # Errors
+///
+/// [`Error::Memory`] where a request for memory was refused. Then `out` is as it was.
+pub fn filter_into(
+    policy: Policy,
+    limit: usize,
+    bytes: &[u8],
+    out: &mut [u8],
+) -> Result<usize, Error> {
+    ffi::filter(policy, limit, bytes, out)
+}
+
+// All that a call writes, where it needs about this many bytes, or once more where it needs more.
+fn whole(about: usize, call: impl Fn(&mut [u8]) -> Result<usize, Error>) -> Result<Vec<u8>, Error> {
+    let mut text = Vec::new();
+    grow(&mut text, about)?;
+    let mut needed = call(&mut text)?;
+    if needed > text.len() {
+        grow(&mut text, needed)?;
+        needed = call(&mut text)?;
+    }
+    text.truncate(needed);
+    Ok(text)
+}
+
+fn grow(text: &mut Vec<u8>, to: usize) -> Result<(), Error> {
+    text.try_reserve_exact(to - text.len())
+        .map_err(|_| Error::Memory)?;
+    text.resize(to, 0);
+    Ok(())
+}
