@@ -229,9 +229,7 @@ impl<A: Allocator + Copy> Parser<A> {
         paired(taken, action)
     }
 
-    // The first action of the shortest prefix of `bytes` that adds one, and the length of the prefix, out of the way
-    // of the code that finds a character.
-    #[inline(never)]
+    // The first action of the shortest prefix of `bytes` that adds one, and the length of the prefix.
     fn first_of(&mut self, bytes: &[u8]) -> Result<Option<(Action<A>, usize)>, ParseError>
         ensures count { IfOk result (λ r. IfSome r (λ x. (0 < x.1) × (x.1 ≤ length bytes.now))) }
         ensures some { (limit : Option ℕ) (s : List ℕ) → WasFedWithin limit s self.old → IfOk result (λ r. IfSome r (λ x. WasFedWithin limit (s ++ take x.1 bytes.now) self.new × IsFirst limit s bytes.now (value_of x.0) x.1)) }
