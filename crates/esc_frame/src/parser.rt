@@ -92,6 +92,16 @@ impl<A: Allocator> VTParser<A> {
         !self.has_failed && self.machine.is_ground()
     }
 
+    /// Whether an earlier call was refused memory. Then every call returns `ParseError::Failed`.
+    #[tactic(auto, unfolding(crate::specs::Stream::LeadsToWithin, crate::specs::Stream::HasFailed))]
+    pub fn has_failed(&self) -> bool
+        ensures failed { IsTrue result ↔ HasFailed self.now }
+        ensures fed { (limit : Option ℕ) (s : List ℕ) → LeadsToWithin limit s self.now
+            → result ≡ false }
+    {
+        self.has_failed
+    }
+
     /// The character that comes first in `bytes`, and its length in bytes, where that is seen without a change of the parser.
     /// These bytes then count as fed: they add this character and nothing else, and the parser is as before. So a caller that
     /// takes characters one at a time needs no actor for them.

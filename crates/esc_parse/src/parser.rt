@@ -371,9 +371,10 @@ impl Parser {
     /// `ParseError::Memory` says that a growth was refused, after a prefix of these actions; the parser has failed. It does
     /// not come while the stream so far holds only characters, stray and broken bytes, controls, lone terminators and
     /// escape sequences, whole or cut short: for these no memory is taken. `ParseError::Failed` says that an earlier call
-    /// had been refused a growth; the parser stays as it was.
+    /// had been refused a growth; the closure is not called then, and the parser stays as it was.
+    #[tactic(auto, unfolding(crate::specs::Fed::WasFedWithin))]
     pub fn parse<F: FnMut(Action)>(&mut self, bytes: &[u8], callback: F) -> Result<(), ParseError>
-        requires { F.IsAlwaysCallable callback }
+        requires { (IsBroken self.old → ⊥) → F.IsAlwaysCallable callback }
         ensures given { (limit : Option ℕ) (s : List ℕ) → WasFedWithin limit s self.old → OnOk result (WasFedWithin limit (s ++ bytes.now) self.new
             × GetsAll (At value_of (λ p a q. F.step p a tt q)) callback (yield_within limit s bytes.now)) }
         ensures handed_out { (limit : Option ℕ) (s : List ℕ) → WasFedWithin limit s self.old → AreHandedOut {A = Global} (yield_within limit s bytes.now) }
@@ -382,6 +383,9 @@ impl Parser {
         ensures failed { IsBroken self.old → (result ≡ Err ParseError.Failed) × IsBroken self.new }
     {
         laws::yield_handed_out::<Global>();
+        if self.framer.has_failed() {
+            return Err(ParseError::Failed);
+        }
         self.parse_into(bytes, Calls { callback }).0
     }
 }
