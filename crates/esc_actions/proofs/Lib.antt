@@ -1,6 +1,7 @@
 pub mod Controls
 pub mod Meanings
 pub mod Readings
+pub mod Alone
 pub mod ReadsBack
 pub mod HandedOut
 pub mod Groups

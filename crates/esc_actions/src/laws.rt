@@ -3,7 +3,7 @@
 //! of the actions names.
 ghost use Rattle.std.specs.Prelude.{◌≡◌, ◌++◌, ◌↔◌, ◌⊎◌, List, [], ℕ, Option, false};
 ghost use Rattle.std.specs.List.{list_any};
-ghost use Rattle.esc_frame.specs.Stream.{IsAtGround, events_within};
+ghost use Rattle.esc_frame.specs.Stream.{IsAfterFinished, IsAtGround, events_within};
 ghost use Rattle.esc_frame.specs.Counts.{kept_of_cut};
 ghost use Rattle.esc_frame.specs.Segments.{Segment, IsCut};
 ghost use Rattle.esc_actions.specs.Appending.{appended_all, gathered};
@@ -17,7 +17,7 @@ ghost use Rattle.esc_actions.specs.Texts.{list_text, normal};
 ghost use Rattle.esc_actions.specs.Values.{Value, plain};
 ghost use Rattle.esc_actions.specs.Writable.{AreHandedOut, AreWritable, is_exception};
 
-pub use esc_frame::laws::{has_cut, one_cut};
+pub use esc_frame::laws::{has_cut, has_unfinished, one_cut};
 use std::alloc::Allocator;
 
 /// Everything at once, for every stream: it has exactly one cut; it means the readings of the cut's
@@ -165,6 +165,13 @@ pub fn plain_at_ground()
     esc_frame::laws::events_once_within();
     esc_frame::laws::events_of_the_cut_within();
 }
+
+/// Finished segments have no more to do with what follows them: bytes yield after a stream what they
+/// yield after what is left of it, once some finished segments are taken off.
+pub fn yield_alone<A: Allocator>()
+    ensures { (limit : Option ℕ) (s u b : List ℕ) → IsAfterFinished s u
+        → yield_within {A = A} limit s b ≡ yield_within limit u b }
+{}
 
 /// A list is writable exactly where it is writable single values and writable groups, joined.
 pub fn writable_is_joined<A: Allocator>()

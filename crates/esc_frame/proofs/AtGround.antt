@@ -19,14 +19,14 @@ not_both : (b : Bool) → b ≡ true → b ≡ false → ⊥
 not_both true h k = cc
 not_both false h k = cc
 
-ground_if : {limit : Option ℕ} (s : List ℕ) (es : List Event) (gs : List Segment) (u : Unfinished) → Stands limit s es gs u → IsAtGround s → u ≡ Ground
+pub ground_if : {limit : Option ℕ} (s : List ℕ) (es : List Event) (gs : List Segment) (u : Unfinished) → Stands limit s es gs u → IsAtGround s → u ≡ Ground
 ground_if s es gs Ground st h = refl
 ground_if s es gs u st (hs, cut, fin) =
     let same = one_cut s hs (gs ++ last_of u ∷ []) cut (cut_last s es gs u refl st) in
     absurd (not_both (ends_itself (last_of u)) (itself (last_of u) (last_finished gs (last_of u) (subst (λ ks. AreFinished ks []) same fin)))
     (last_goes_on u refl))
 
-at_ground_if : {limit : Option ℕ} (s : List ℕ) (es : List Event) (gs : List Segment) (u : Unfinished) → Stands limit s es gs u → u ≡ Ground → IsAtGround s
+pub at_ground_if : {limit : Option ℕ} (s : List ℕ) (es : List Event) (gs : List Segment) (u : Unfinished) → Stands limit s es gs u → u ≡ Ground → IsAtGround s
 at_ground_if s es gs u st e =
     let b : open_bytes u ≡ [] = ap open_bytes e in
     let f : AreFinished gs [] = subst (λ y. AreFinished gs y) b st.finished in

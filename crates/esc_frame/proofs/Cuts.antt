@@ -56,12 +56,12 @@ last_of (InIgnored k o d) = Ignored k o d
 last_of (InOsc o ps) = Osc o ps Open
 last_of (InOscPending o ps f) = Osc o ps (Waits f)
 
-last_bytes : (u : Unfinished) → is_ground u ≡ false → open_bytes u ≡ bytes_of (last_of u)
+pub last_bytes : (u : Unfinished) → is_ground u ≡ false → open_bytes u ≡ bytes_of (last_of u)
 last_bytes Ground n = absurd cc
 last_bytes (InOsc o ps) n = sym (append-nil (osc_bytes o ps))
 last_bytes _ n = refl
 
-last_shape : (u : Unfinished) → is_ground u ≡ false → OpenShape u → HasShape (last_of u) []
+pub last_shape : (u : Unfinished) → is_ground u ≡ false → OpenShape u → HasShape (last_of u) []
 last_shape Ground n h = absurd cc
 last_shape (InOsc o ps) n h = (h.0, h.1, tt)
 last_shape (InOscPending o ps f) n h = (h.0, subst (λ y. ArePieces ps y) (sym (append-nil f)) h.1, h.2)

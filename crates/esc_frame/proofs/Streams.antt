@@ -3,8 +3,8 @@ use Rattle.std.proofs.Common.{ℕ, ◌≡◌, true, List, [], ◌∷◌, ◌++�
 use Rattle.std.proofs.lemmas.List.{append-nil}
 use Rattle.esc_frame.specs.Classes.{class_of}
 use Rattle.esc_frame.specs.Events.{Event}
-use Rattle.esc_frame.specs.Segments.{Segment, HasShape, joined, bytes_of, events_of, is_finished}
-use Rattle.esc_frame.specs.Leads.{Unfinished, Stands, AreFinished, open_bytes, finished_events, told_open}
+use Rattle.esc_frame.specs.Segments.{Segment, HasShape, joined, bytes_of, events_of_within, is_finished}
+use Rattle.esc_frame.specs.Leads.{Unfinished, Stands, AreFinished, open_bytes, finished_events, finished_events_within, told_open}
 use Rattle.esc_frame.specs.Leads.Unfinished.{Ground}
 use Rattle.esc_frame.specs.Machine.Moves.{after_by, news_by, after_all, news_all}
 use Rattle.esc_frame.specs.Stream.{events, events_within, added_within, Says}
@@ -68,9 +68,14 @@ joined-append : (gs hs : List Segment) → joined (gs ++ hs) ≡ joined gs ++ jo
 joined-append [] hs = refl
 joined-append (g ∷ gs) hs = ap (λ x. bytes_of g ++ x) (joined-append gs hs) ∙ sym (append_assoc (bytes_of g) (joined gs) (joined hs))
 
-told-append : (gs hs : List Segment) → finished_events (gs ++ hs) ≡ finished_events gs ++ finished_events hs
-told-append [] hs = refl
-told-append (g ∷ gs) hs = ap (λ x. events_of g true ++ x) (told-append gs hs) ∙ sym (append_assoc (events_of g true) (finished_events gs) (finished_events hs))
+told-append : (limit : Option ℕ) (gs hs : List Segment)
+    → finished_events_within limit (gs ++ hs)
+    ≡ finished_events_within limit gs ++ finished_events_within limit hs
+told-append limit [] hs = refl
+told-append limit (g ∷ gs) hs =
+    ap (λ x. events_of_within limit g true ++ x) (told-append limit gs hs)
+    ∙ sym (append_assoc (events_of_within limit g true) (finished_events_within limit gs)
+    (finished_events_within limit hs))
 
 regroup : (gs hs : List Segment) (r : List ℕ) → joined (gs ++ hs) ++ r ≡ joined gs ++ (joined hs ++ r)
 regroup gs hs r = ap (λ x. x ++ r) (joined-append gs hs) ∙ append_assoc (joined gs) (joined hs) r
@@ -81,22 +86,40 @@ are_append (g ∷ gs) hs r (sh, fi, f) k =
     let e = sym (regroup gs hs r) in
     (subst (λ x. HasShape g x) e sh, subst (λ x. is_finished g x ≡ true) e fi, are_append gs hs r f k)
 
+-- what follows finished segments has its own cut and its own events
+pub stands_after : (limit : Option ℕ) (gs : List Segment) (u : List ℕ) → AreFinished gs u
+    → (hs : List Segment)
+    × Stands limit (joined gs ++ u) (finished_events_within limit gs ++ events_within limit u) hs
+    (after_all Ground u)
+stands_after limit gs u f =
+    let w = stands limit u in
+    let v = after_all Ground u in
+    let st = w.1 in
+    let had = finished_events_within limit gs in
+    let got = finished_events_within limit w.0 in (
+      gs ++ w.0,
+      record {
+        whole = ap (λ x. joined gs ++ x) st.whole ∙ sym (regroup gs w.0 (open_bytes v));
+        finished =
+            are_append gs w.0 (open_bytes v) (subst (λ x. AreFinished gs x) st.whole f) st.finished;
+        shape = st.shape;
+        told =
+            ap (λ x. had ++ x) st.told ∙ sym (append_assoc had got (told_open limit v))
+            ∙ ap (λ x. x ++ told_open limit v) (sym (told-append limit gs w.0));
+      },
+    )
+
+pub events_after : (limit : Option ℕ) (gs : List Segment) (u : List ℕ) → AreFinished gs u
+    → events_within limit (joined gs ++ u)
+    ≡ finished_events_within limit gs ++ events_within limit u
+events_after limit gs u f =
+    let w = stands_after limit gs u f in
+    sym (stands_events limit (joined gs ++ u)
+    (finished_events_within limit gs ++ events_within limit u) w.0 (after_all Ground u) w.1)
+
 -- The text of segments that are finished whatever follows says their events: the one fact about the framing that a writer needs.
 pub says_segments : (gs : List Segment) → ((rest : List ℕ) → AreFinished gs rest) → Says (joined gs) (finished_events gs)
-says_segments gs f rest =
-    let w = stands None rest in
-    let u = after_all Ground rest in
-    let st = w.1 in
-    let here : AreFinished gs (joined w.0 ++ open_bytes u) = subst (λ x. AreFinished gs x) st.whole (f rest) in
-    let all : Stands None (joined gs ++ rest) (finished_events gs ++ events rest) (gs ++ w.0) u = record {
-      whole = ap (λ x. joined gs ++ x) st.whole ∙ sym (regroup gs w.0 (open_bytes u));
-      finished = are_append gs w.0 (open_bytes u) here st.finished;
-      shape = st.shape;
-      told =
-          ap (λ x. finished_events gs ++ x) st.told ∙ sym (append_assoc (finished_events gs) (finished_events w.0) (told_open None u))
-          ∙ ap (λ x. x ++ told_open None u) (sym (told-append gs w.0));
-    } in
-    sym (stands_events None (joined gs ++ rest) (finished_events gs ++ events rest) (gs ++ w.0) u all)
+says_segments gs f rest = events_after None gs rest (f rest)
 
 -- texts, one behind another
 pub says_nil : Says [] []

@@ -1,8 +1,8 @@
 -- The events of a stream, and which streams lead to a parser.
-use Rattle.std.specs.Prelude.{ℕ, ◌≡◌, ◌<◌, true, false, List, [], ◌++◌, length, take, drop, Option, None}
+use Rattle.std.specs.Prelude.{ℕ, ◌≡◌, ◌<◌, ◌⊎◌, true, false, List, [], ◌∷◌, ◌++◌, length, take, drop, Option, None}
 use Rattle.esc_frame.specs.declared.parser.VTParser.{VTParser}
 use Rattle.esc_frame.specs.Events.{Event}
-use Rattle.esc_frame.specs.Segments.{Segment, IsCut}
+use Rattle.esc_frame.specs.Segments.{Segment, IsCut, ends_itself, joined}
 use Rattle.esc_frame.specs.Leads.{AreFinished, Holds}
 use Rattle.esc_frame.specs.Leads.Unfinished.{Ground}
 use Rattle.esc_frame.specs.Machine.Keeps.{KeepsText}
@@ -30,6 +30,17 @@ HasFailed p = p.has_failed ≡ true
 -- the stream's cut has no unfinished segment
 abbrev pub IsAtGround : List ℕ → Type 0
 IsAtGround s = (gs : List Segment) × IsCut s gs × AreFinished gs []
+
+-- The stream is finished segments, and then u. So u is the stream, or what is left of it after some
+-- of its segments: at the least what is unfinished.
+abbrev pub IsAfterFinished : List ℕ → List ℕ → Type 0
+IsAfterFinished s u = (gs : List Segment) × (s ≡ joined gs ++ u) × AreFinished gs u
+
+-- u is what is unfinished of the stream: nothing, or one segment, which does not end by itself
+abbrev pub IsUnfinished : List ℕ → List ℕ → Type 0
+IsUnfinished s u =
+    IsAfterFinished s u
+    × ((u ≡ []) ⊎ ((g : Segment) × IsCut u (g ∷ []) × (ends_itself g ≡ false)))
 
 -- of the first n bytes that follow s, all but the last add no event and leave a segment unfinished
 abbrev pub IsQuietWithin : Option ℕ → List ℕ → List ℕ → ℕ → Type 0

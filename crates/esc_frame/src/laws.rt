@@ -11,10 +11,13 @@ ghost use Rattle.esc_frame.specs.Events.{Event};
 ghost use Rattle.esc_frame.specs.Events.Event.{Print, Execute, EscDispatch, OscDispatch, DcsUnhook, ApcDispatch};
 ghost use Rattle.esc_frame.specs.Segments.{Segment, IsCut, HasEvents, HasEventsWithin, joined, is_empty, csi_event, hook_event, puts};
 ghost use Rattle.esc_frame.specs.Leads.{AreFinished, finished_events};
-ghost use Rattle.esc_frame.specs.Stream.{events, events_within, added, added_within, Says, IsAtGround};
+ghost use Rattle.esc_frame.specs.Stream.{events, events_within, added, added_within, LeadsToWithin, Says, IsAfterFinished, IsAtGround, IsUnfinished};
+ghost use Rattle.esc_frame.specs.declared.parser.VTParser.{VTParser};
 ghost use Rattle.esc_frame.specs.Counts.{AreWithin};
 ghost use Rattle.esc_frame.specs.Fits.{AreFit, IsOneSegment};
 ghost use Rattle.esc_frame.specs.Memory.{may_grow, MayGrow, may_take, MayTake};
+
+use std::alloc::Allocator;
 
 /// Two cuts of a stream are one.
 #[tactic(auto, using(crate::proofs::OneCut::one_cut))]
@@ -95,6 +98,28 @@ pub fn ground_added_within()
 /// The events of any stream have these forms under a limit too.
 pub fn events_fit_within()
     ensures { (limit : Option ℕ) (s : List ℕ) → AreFit (events_within limit s) }
+{}
+
+/// Finished segments have no more to do with what follows them: a parser that was fed a stream is
+/// as one that was fed what is left of it after some of them. So each clause of a call holds of
+/// what is unfinished of the stream alone.
+#[tactic(auto, using(crate::proofs::Alone::unfinished_alone))]
+pub fn unfinished_alone<A: Allocator>()
+    ensures { (limit : Option ℕ) (s u : List ℕ) (p : VTParser A) → IsAfterFinished s u
+        → LeadsToWithin limit s p → LeadsToWithin limit u p }
+{}
+
+/// And bytes add to a stream what they add to what is left of it.
+#[tactic(auto, using(crate::proofs::Alone::added_alone))]
+pub fn added_alone()
+    ensures { (limit : Option ℕ) (s u b : List ℕ) → IsAfterFinished s u
+        → added_within limit s b ≡ added_within limit u b }
+{}
+
+/// Of every stream there is what is unfinished.
+#[tactic(auto, using(crate::proofs::Alone::has_unfinished))]
+pub fn has_unfinished()
+    ensures { (s : List ℕ) → (u : List ℕ) × IsUnfinished s u }
 {}
 
 /// No bytes say nothing.

@@ -11,3 +11,4 @@ pub mod DataRuns
 pub mod Sixels
 pub mod Images
 pub mod Paired
+pub mod Alone

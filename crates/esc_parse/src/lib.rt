@@ -6,6 +6,7 @@
 
 pub mod commands;
 pub mod hooked;
+pub mod laws;
 pub mod parser;
 pub mod performer;
 pub mod sink;

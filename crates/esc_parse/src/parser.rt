@@ -94,7 +94,8 @@ impl<A: Allocator + Copy> Parser<A> {
     ///
     /// `ParseError::Memory` says that a growth was refused, the parser's or the sink's: the sink was given a prefix of these
     /// actions, and the parser has failed. Without the sink's doing it does not come while the stream so far holds only
-    /// characters, stray and broken bytes, controls, lone terminators and escape sequences, whole or cut short.
+    /// characters, stray and broken bytes, controls, lone terminators and escape sequences, whole or cut short. Of
+    /// the stream so far what is unfinished counts alone, by the law [`unfinished_alone`](crate::laws::unfinished_alone).
     /// `ParseError::Failed` says that an earlier call had been refused a growth: the sink comes back as it was.
     #[tactic(auto, unfolding(crate::specs::Fed::WasFedWithin))]
     pub fn parse_into<S: Sink<Action<A>>>(
