@@ -1,19 +1,21 @@
 -- From events to values, and what a sink was given of them.
-use Rattle.std.proofs.Common.{◌≡◌, ℕ, true, List, [], ◌∷◌, ◌++◌, map, refl, ap, sym, ◌∙◌, subst, append_assoc, inl, inr, Option}
+use Rattle.std.proofs.Common.{◌≡◌, ℕ, Bool, true, List, [], ◌∷◌, ◌++◌, map, refl, ap, sym, ◌∙◌, subst, append_assoc, inl, inr, Option}
 use Rattle.std.proofs.lemmas.List.{append-nil, map-append}
 use Rattle.std.specs.List.{FoldsTo}
 use Rattle.esc_frame.specs.Events.{Event, StopsAt as StopsAtEvent}
-use Rattle.esc_frame.specs.Memory.{MayGrow, MayTake}
+use Rattle.esc_frame.specs.Memory.{MayGrow, MayTake, may_grow, may_take}
+use Rattle.esc_frame.specs.Segments.{Segment, events_of_within}
 use Rattle.esc_frame.specs.Stream.{events_within, added_within}
 use Rattle.esc_frame.proofs.Given.{stops_for}
 use Rattle.esc_frame.proofs.Memory.{grows_takes}
 use Rattle.esc_frame.proofs.Streams.{events_more}
 use Rattle.esc_actions.proofs.Meanings.{mode_more, values_append, yield_is}
-use Rattle.esc_parse.proofs.Grows.{event_takes}
+use Rattle.esc_parse.proofs.Grows.{event_takes, growing_takes, segment_takes}
 use Rattle.esc_parse.proofs.Lists.{FoldsTo-append, StopsAt-append, StopsAt-here, StopsAt-longer, StopsAt-weaker}
 use Rattle.esc_parse.specs.Fed.{Hooks}
 use Rattle.esc_parse.specs.Given.{At, StopsAt}
 use Rattle.esc_actions.specs.Meaning.{mode_from, values_from, yield_within}
+use Rattle.esc_actions.specs.Readings.{reading_within}
 use Rattle.esc_actions.specs.Values.{Mode, Value, after, given, plain, value_of, wants_memory}
 use Rattle.esc_parse.specs.declared.performer.Performer.{Performer}
 use Rattle.memory.specs.Refusals.{Refused}
@@ -65,13 +67,20 @@ module _ {S A : Type 0} (R Q : S → Value A → S → Type 0) where
             (StopsAt-weaker R Q own (Denied e) mid.sink (given limit (mode_from m front) e) q.sink own_from here)))
       ])
 
-  -- events by themselves
-  pub performs_stops : (limit : Option ℕ) {own : Type 0} (es : List Event) (p : Performer S A) (m : Mode) (q : Performer S A)
-      → StopsAtEvent (own × Refused A) Takes Refuses p es q → Hooks limit p.unfinished m
-      → StopsAt (Unit {0} × Refused A) R Q p.sink (values_from limit m es) q.sink
-  performs_stops limit {own} es p m q h =
-      performs_prefix limit (Unit {0} × Refused A) es p m q (λ before e behind is d. (tt, d.1))
-      (stops_for (own × Refused A) (Unit {0} × Refused A) Takes Refuses es p q (λ o. (tt, o.1)) h)
+  -- the events of a segment by itself
+  pub performs_segment : (limit : Option ℕ) (g : Segment) (finished : Bool)
+      (p q : Performer S A)
+      → StopsAtEvent ((may_grow g ≡ true) × Refused A) Takes Refuses p
+      (events_of_within limit g finished) q
+      → Hooks limit p.unfinished plain
+      → StopsAt ((may_take g ≡ true) × Refused A) R Q p.sink (reading_within limit g finished)
+      q.sink
+  performs_segment limit g finished p q h =
+      let es = events_of_within limit g finished in
+      performs_prefix limit ((may_take g ≡ true) × Refused A) es p plain q
+      (λ before e behind is d. (segment_takes limit g finished before e behind is d.0, d.1))
+      (stops_for ((may_grow g ≡ true) × Refused A) ((may_take g ≡ true) × Refused A) Takes Refuses
+      es p q (λ o. (growing_takes g o.0, o.1)) h)
 
 -- an event behind s that wants memory
 pub added_takes : (limit : Option ℕ) (s b : List ℕ) (before : List Event) (e : Event) (behind : List Event)

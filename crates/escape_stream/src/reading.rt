@@ -5,6 +5,7 @@ ghost use Rattle.esc_actions.specs.Values.{value_of};
 ghost use Rattle.esc_frame.specs.Segments.{HasShape, Segment as Shape};
 ghost use Rattle.esc_segments.specs.Items.{IsItem};
 ghost use Rattle.memory.specs.Refusals.{Refused};
+ghost use Rattle.escape_stream.specs.Reading.{MayWantToRead};
 
 use esc_actions::Action;
 use esc_parse::Collect;
@@ -13,12 +14,15 @@ use esc_parse::unfinished::Unfinished;
 use esc_segments::{Segment, segment_events};
 use std::alloc::{AllocError, Allocator};
 
-/// The actions of a segment, in order, as a [`Parser`](crate::Parser) would hand them out wherever the segment comes in a stream.
-/// They are found by splitting the segment's bytes, without a parser.
+/// The actions of a segment, in order, as a [`Parser`](crate::Parser) would hand them out wherever
+/// the segment comes in a stream. They are found by splitting the segment's bytes, without a
+/// parser.
 ///
-/// The segment is one that [`Segments`](esc_segments::Segments) gave. Of a segment that is unfinished these are the actions so far.
-/// Of any other value of the type nothing is said but that the call returns. `AllocError` says that memory was refused; then
-/// nothing is handed out.
+/// The segment is one that [`Segments`](esc_segments::Segments) gave. Of a segment that is
+/// unfinished these are the actions so far. Of any other value of the type nothing is said but that
+/// the call returns. `AllocError` says that memory was refused; then nothing is handed out. It does
+/// not come of a segment without actions, but for a string or a control sequence, whole or cut
+/// short.
 pub fn read_segment<A: Allocator + Copy>(
     alloc: A,
     segment: &Segment<'_>,
@@ -26,7 +30,7 @@ pub fn read_segment<A: Allocator + Copy>(
     ensures ok { (g : Shape) (after : List ℕ) → HasShape g after → IsItem segment.now g after
         → IfOk result (λ v. map value_of v.items ≡ reading g segment.now.finished) }
     ensures refused { (g : Shape) (after : List ℕ) → HasShape g after → IsItem segment.now g after
-        → OnErr result (Refused A) }
+        → OnErr result (MayWantToRead A g segment.now.finished × Refused A) }
 {
     let mut performer = Performer {
         sink: Collect::new(alloc),

@@ -3,7 +3,7 @@ use Rattle.esc_frame.specs.Segments.{events_of}
 use Rattle.esc_actions.specs.Readings.{reading}
 use Rattle.esc_actions.specs.Values.{plain, value_of}
 use Rattle.esc_parse.proofs.Lists.{stops_wanting}
-use Rattle.esc_parse.proofs.Yields.{collects, performs, performs_stops}
+use Rattle.esc_parse.proofs.Yields.{collects, performs, performs_segment}
 use Rattle.escape_stream.proofs.reading.read_segment.Goals as goal
 
 pub returns-in-Ok-clause-ok : goal.returns-in-Ok-clause-ok
@@ -13,5 +13,6 @@ returns-in-Ok-clause-ok g c = λ s after h i.
 
 pub returns-in-Err-clause-refused : goal.returns-in-Err-clause-refused
 returns-in-Err-clause-refused g c = λ s after h i.
-    let w = performs_stops _ _ None _ _ plain _ (c.in-Err.ensures.told s after h i) c.new-2.ensures.hooks in
-    (stops_wanting _ _ _ _ (λ p v q w. w.2.1) _ _ _ w).1
+    stops_wanting _ _ _ _ (λ p v q w. w.2.1) _ _ _
+    (performs_segment _ _ None s c.args.segment.now.finished _ _
+    (c.in-Err.ensures.told s after h i) c.new-2.ensures.hooks)
