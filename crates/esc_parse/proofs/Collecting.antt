@@ -9,13 +9,16 @@ use Rattle.memory.specs.Refusals.{Refused}
 
 module _ {A : Type 0} (f : ℕ → Action A) where
   -- a list takes a run as one with the same actions does
-  pub gathers_from : (xs : List ℕ) (p r q : Collect A) → 0 < length xs → r.actions.items ≡ p.actions.items → FoldsTo Gathers r (map f xs) q
+  pub gathers_from : (xs : List ℕ) (p r q : Collect A) → 0 < length xs
+      → r.actions.items ≡ p.actions.items → FoldsTo Gathers r (map f xs) q
       → FoldsTo Gathers p (map f xs) q
   gathers_from [] p r q some e h = absurd (omega arith)
   gathers_from (x ∷ xs) p r q some e (j, t, h) = (j, t ∙ ap (λ is. is ++ f x ∷ []) e, h)
 
   -- and stays as it was where there is no room
-  pub gathers_none : (xs : List ℕ) (p q : Collect A) → 0 < length xs → q.actions.items ≡ p.actions.items
-      → Refused A → StopsAt ⊥ Gathers (λ p a q. (q.actions.items ≡ p.actions.items) × Refused A) p (map f xs) q
+  pub gathers_none : (xs : List ℕ) (p q : Collect A) → 0 < length xs
+      → q.actions.items ≡ p.actions.items
+      → Refused A
+      → StopsAt ⊥ Gathers (λ p a q. (q.actions.items ≡ p.actions.items) × Refused A) p (map f xs) q
   gathers_none [] p q some e r = absurd (omega arith)
   gathers_none (x ∷ xs) p q some e r = inr (inl (e, r))

@@ -25,90 +25,126 @@ use Rattle.esc_actions.specs.declared.control_code.ControlCode.{ControlCode}
 use Rattle.esc_parse.specs.declared.sink.First.{First}
 
 -- the first of what a sink was given
-keeps : {A : Type 0} (p : First A) (a : Action A) (vs : List (Value A)) (q : First A) → FoldsTo (At value_of (λ p a q. q.action ≡ first_of p.action a)) p vs q
+keeps : {A : Type 0} (p : First A) (a : Action A) (vs : List (Value A)) (q : First A)
+    → FoldsTo (At value_of (λ p a q. q.action ≡ first_of p.action a)) p vs q
     → p.action ≡ Some a → q.action ≡ Some a
 keeps p a [] q e h = ap (λ x. x.action) (sym e) ∙ h
 keeps p a (v ∷ vs) q (j, (b, is, w), rest) h = keeps j a vs q rest (w ∙ ap (λ o. first_of o b) h)
 
-pub keeps_first : {A : Type 0} (p : First A) (vs : List (Value A)) (q : First A) → FoldsTo (At value_of (λ p a q. q.action ≡ first_of p.action a)) p vs q
+pub keeps_first : {A : Type 0} (p : First A) (vs : List (Value A)) (q : First A)
+    → FoldsTo (At value_of (λ p a q. q.action ≡ first_of p.action a)) p vs q
     → p.action ≡ None → option_map value_of q.action ≡ first vs
 keeps_first p [] q e h = ap (λ x. option_map value_of x.action) (sym e) ∙ ap (option_map value_of) h
-keeps_first p (v ∷ vs) q (j, (b, is, w), rest) h = ap (option_map value_of) (keeps j b vs q rest (w ∙ ap (λ o. first_of o b) h)) ∙ ap Some is
+keeps_first p (v ∷ vs) q (j, (b, is, w), rest) h =
+    ap (option_map value_of) (keeps j b vs q rest (w ∙ ap (λ o. first_of o b) h)) ∙ ap Some is
 
 -- what takes every action is stopped by the giver alone
-pub stops_itself : {P T V : Type 0} (f : T → V) (takes : P → T → P → Type 0) (own : Type 0) (p : P) (vs : List V) (q : P)
+pub stops_itself : {P T V : Type 0} (f : T → V) (takes : P → T → P → Type 0) (own : Type 0) (p : P)
+    (vs : List V) (q : P)
     → StopsAt own (At f takes) (At f (λ p a q. ⊥)) p vs q → own
 stops_itself f takes own p [] q h = h.0
 stops_itself f takes own p (v ∷ vs) q (inl h) = h.0
 stops_itself f takes own p (v ∷ vs) q (inr (inl r)) = absurd r.2
-stops_itself f takes own p (v ∷ vs) q (inr (inr (mid, t, rest))) = stops_itself f takes own mid vs q rest
+stops_itself f takes own p (v ∷ vs) q (inr (inr (mid, t, rest))) =
+    stops_itself f takes own mid vs q rest
 
 -- what bytes yield, one behind another
 pub yield_append : {A : Type 0} (limit : Option ℕ) (s b c : List ℕ)
-    → yield_within {A = A} limit s (b ++ c) ≡ yield_within limit s b ++ yield_within limit (s ++ b) c
+    → yield_within {A = A} limit s (b ++ c)
+    ≡ yield_within limit s b ++ yield_within limit (s ++ b) c
 yield_append limit s b c =
-    append_cancel_left (meaning_within limit s) (yield_within limit s (b ++ c)) (yield_within limit s b ++ yield_within limit (s ++ b) c)
-    (meaning_more limit s (b ++ c) ∙ ap (meaning_within limit) (sym (append_assoc s b c)) ∙ sym (meaning_more limit (s ++ b) c)
+    append_cancel_left (meaning_within limit s) (yield_within limit s (b ++ c))
+    (yield_within limit s b ++ yield_within limit (s ++ b) c)
+    (meaning_more limit s (b ++ c) ∙ ap (meaning_within limit) (sym (append_assoc s b c))
+    ∙ sym (meaning_more limit (s ++ b) c)
     ∙ ap (λ x. x ++ yield_within limit (s ++ b) c) (sym (meaning_more limit s b))
-    ∙ append_assoc (meaning_within limit s) (yield_within limit s b) (yield_within limit (s ++ b) c))
+    ∙ append_assoc (meaning_within limit s) (yield_within limit s b)
+    (yield_within limit (s ++ b) c))
 
 -- bytes that add no event yield nothing
-pub yield_quiet : {A : Type 0} (limit : Option ℕ) (s b : List ℕ) → added_within limit s b ≡ [] → yield_within {A = A} limit s b ≡ []
-yield_quiet limit s b e = yield_is limit s b ∙ ap (values_from limit (mode_from plain (events_within limit s))) e
+pub yield_quiet : {A : Type 0} (limit : Option ℕ) (s b : List ℕ) → added_within limit s b ≡ []
+    → yield_within {A = A} limit s b ≡ []
+yield_quiet limit s b e =
+    yield_is limit s b ∙ ap (values_from limit (mode_from plain (events_within limit s))) e
 
 left_empty : {X : Type 0} (xs ys : List X) → xs ++ ys ≡ [] → xs ≡ []
 left_empty [] ys e = refl
 left_empty (x ∷ xs) ys e = absurd cc
 
-front_empty : {A : Type 0} (limit : Option ℕ) (s b c : List ℕ) → yield_within {A = A} limit s (b ++ c) ≡ [] → yield_within {A = A} limit s b ≡ []
-front_empty limit s b c e = left_empty (yield_within limit s b) (yield_within limit (s ++ b) c) (sym (yield_append limit s b c) ∙ e)
+front_empty : {A : Type 0} (limit : Option ℕ) (s b c : List ℕ)
+    → yield_within {A = A} limit s (b ++ c) ≡ [] → yield_within {A = A} limit s b ≡ []
+front_empty limit s b c e =
+    left_empty (yield_within limit s b) (yield_within limit (s ++ b) c)
+    (sym (yield_append limit s b c) ∙ e)
 
 -- at bytes were taken, and k of the rest are
-more_is : (bs : List ℕ) (at k : ℕ) → take at bs ++ take k (take (length bs - at) (drop at bs)) ≡ take (at + k) bs
+more_is : (bs : List ℕ) (at k : ℕ)
+    → take at bs ++ take k (take (length bs - at) (drop at bs)) ≡ take (at + k) bs
 more_is bs at k = ap (λ x. take at bs ++ take k x) (rest_is bs at) ∙ sym (take-add at k bs)
 
-pub fed_more : (s bs : List ℕ) (at k : ℕ) → (s ++ take at bs) ++ take k (take (length bs - at) (drop at bs)) ≡ s ++ take (at + k) bs
-fed_more s bs at k = append_assoc s (take at bs) (take k (take (length bs - at) (drop at bs))) ∙ ap (λ x. s ++ x) (more_is bs at k)
+pub fed_more : (s bs : List ℕ) (at k : ℕ)
+    → (s ++ take at bs) ++ take k (take (length bs - at) (drop at bs)) ≡ s ++ take (at + k) bs
+fed_more s bs at k =
+    append_assoc s (take at bs) (take k (take (length bs - at) (drop at bs)))
+    ∙ ap (λ x. s ++ x) (more_is bs at k)
 
 pub yield_more : {A : Type 0} (limit : Option ℕ) (s bs : List ℕ) (at k : ℕ)
-    → yield_within {A = A} limit s (take (at + k) bs) ≡ yield_within limit s (take at bs) ++ yield_within limit (s ++ take at bs)
+    → yield_within {A = A} limit s (take (at + k) bs)
+    ≡ yield_within limit s (take at bs) ++ yield_within limit (s ++ take at bs)
     (take k (take (length bs - at) (drop at bs)))
-yield_more limit s bs at k = ap (yield_within limit s) (sym (more_is bs at k)) ∙ yield_append limit s (take at bs) (take k (take (length bs - at) (drop at bs)))
+yield_more limit s bs at k =
+    ap (yield_within limit s) (sym (more_is bs at k))
+    ∙ yield_append limit s (take at bs) (take k (take (length bs - at) (drop at bs)))
 
-pub yield_rest : {A : Type 0} (limit : Option ℕ) (s bs : List ℕ) (at k : ℕ) → yield_within {A = A} limit s (take at bs) ≡ []
-    → yield_within {A = A} limit s (take (at + k) bs) ≡ yield_within limit (s ++ take at bs) (take k (take (length bs - at) (drop at bs)))
-yield_rest limit s bs at k e = yield_more limit s bs at k ∙ ap (λ x. x ++ yield_within limit (s ++ take at bs) (take k (take (length bs - at) (drop at bs)))) e
+pub yield_rest : {A : Type 0} (limit : Option ℕ) (s bs : List ℕ) (at k : ℕ)
+    → yield_within {A = A} limit s (take at bs) ≡ []
+    → yield_within {A = A} limit s (take (at + k) bs)
+    ≡ yield_within limit (s ++ take at bs) (take k (take (length bs - at) (drop at bs)))
+yield_rest limit s bs at k e =
+    yield_more limit s bs at k
+    ∙ ap (λ x. x ++ yield_within limit (s ++ take at bs)
+    (take k (take (length bs - at) (drop at bs)))) e
 
-into_rest : (P : ℕ → Type 0) (at n k : ℕ) → k < at + n → at < k → ((j : ℕ) → 0 < j → j < n → P (at + j)) → P k
-into_rest P at n k h l behind = let e : at + (k - at) ≡ k = omega arith in subst P e (behind (k - at) (omega arith) (omega arith))
+into_rest : (P : ℕ → Type 0) (at n k : ℕ) → k < at + n → at < k
+    → ((j : ℕ) → 0 < j → j < n → P (at + j)) → P k
+into_rest P at n k h l behind = let e : at + (k - at) ≡ k =
+    omega arith in subst P e (behind (k - at) (omega arith) (omega arith))
 
-front_by : (P : ℕ → Type 0) (at n k : ℕ) → k < at + n → ((j : ℕ) → j ≤ at → P j) → ((j : ℕ) → 0 < j → j < n → P (at + j)) → (at < k) ⊎ (k ≤ at) → P k
+front_by : (P : ℕ → Type 0) (at n k : ℕ) → k < at + n → ((j : ℕ) → j ≤ at → P j)
+    → ((j : ℕ) → 0 < j → j < n → P (at + j)) → (at < k) ⊎ (k ≤ at) → P k
 front_by P at n k h before behind (inl l) = into_rest P at n k h l behind
 front_by P at n k h before behind (inr l) = before k l
 
 -- a front is one of what was taken, or reaches into the rest
-front_cases : (P : ℕ → Type 0) (at n k : ℕ) → k < at + n → ((j : ℕ) → j ≤ at → P j) → ((j : ℕ) → 0 < j → j < n → P (at + j)) → P k
+front_cases : (P : ℕ → Type 0) (at n k : ℕ) → k < at + n → ((j : ℕ) → j ≤ at → P j)
+    → ((j : ℕ) → 0 < j → j < n → P (at + j)) → P k
 front_cases P at n k h before behind = front_by P at n k h before behind (cases_lt at k)
 
-front_shorter : {A : Type 0} (limit : Option ℕ) (s bs : List ℕ) (at j : ℕ) → j ≤ at → yield_within {A = A} limit s (take at bs) ≡ []
+front_shorter : {A : Type 0} (limit : Option ℕ) (s bs : List ℕ) (at j : ℕ) → j ≤ at
+    → yield_within {A = A} limit s (take at bs) ≡ []
     → yield_within {A = A} limit s (take j bs) ≡ []
 front_shorter limit s bs at j h e =
     front_empty limit s (take j bs) (drop j (take at bs))
-    (ap (yield_within limit s) (ap (λ x. x ++ drop j (take at bs)) (sym (take-take j at bs h)) ∙ take-append-drop j (take at bs)) ∙ e)
+    (ap (yield_within limit s)
+    (ap (λ x. x ++ drop j (take at bs)) (sym (take-take j at bs h))
+    ∙ take-append-drop j (take at bs)) ∙ e)
 
-none_within : {A : Type 0} (limit : Option ℕ) (s bs : List ℕ) (at n : ℕ) → yield_within {A = A} limit s (take at bs) ≡ []
+none_within : {A : Type 0} (limit : Option ℕ) (s bs : List ℕ) (at n : ℕ)
+    → yield_within {A = A} limit s (take at bs) ≡ []
     → IsQuietWithin limit (s ++ take at bs) (take (length bs - at) (drop at bs)) n
     → (k : ℕ) → k < at + n → yield_within {A = A} limit s (take k bs) ≡ []
 none_within {A = A} limit s bs at n e q k h =
     let P : ℕ → Type 0 = λ j. yield_within {A = A} limit s (take j bs) ≡ [] in
     front_cases P at n k h (λ j l. front_shorter limit s bs at j l e)
-    (λ j l m. yield_rest limit s bs at j e ∙ yield_quiet limit (s ++ take at bs) (take j (take (length bs - at) (drop at bs))) (q j l m).0)
+    (λ j l m. yield_rest limit s bs at j e
+    ∙ yield_quiet limit (s ++ take at bs) (take j (take (length bs - at) (drop at bs))) (q j l m).0)
 
 some_same : {X : Type 0} (x y : X) → Some x ≡ Some y → x ≡ y
 some_same x y e = cc
 
 -- the first of a list that has one
-first_is : {A : Type 0} (vs : List (Value A)) (v : Value A) → Some v ≡ first vs → (others : List (Value A)) × (vs ≡ v ∷ others)
+first_is : {A : Type 0} (vs : List (Value A)) (v : Value A) → Some v ≡ first vs
+    → (others : List (Value A)) × (vs ≡ v ∷ others)
 first_is [] v e = absurd cc
 first_is (x ∷ vs) v e = (vs, ap (λ y. y ∷ vs) (some_same x v (sym e)))
 
@@ -117,55 +153,74 @@ none_is [] e = refl
 none_is (x ∷ vs) e = absurd cc
 
 -- n bytes of the rest have the first value
-pub finds_first : {A : Type 0} (limit : Option ℕ) (s bs : List ℕ) (at n : ℕ) (v : Value A) → at + n ≤ length bs → yield_within {A = A} limit s (take at bs) ≡ []
+pub finds_first : {A : Type 0} (limit : Option ℕ) (s bs : List ℕ) (at n : ℕ) (v : Value A)
+    → at + n ≤ length bs → yield_within {A = A} limit s (take at bs) ≡ []
     → IsQuietWithin limit (s ++ take at bs) (take (length bs - at) (drop at bs)) n
-    → Some v ≡ first (yield_within limit (s ++ take at bs) (take n (take (length bs - at) (drop at bs)))) → IsFirst limit s bs v (at + n)
-finds_first limit s bs at n v l e q f = let o = first_is (yield_within limit (s ++ take at bs) (take n (take (length bs - at) (drop at bs)))) v f in record {
-  within = l;
-  others = o.0;
-  first = yield_rest limit s bs at n e ∙ o.1;
-  none_before = none_within limit s bs at n e q;
-}
+    → Some v ≡ first
+    (yield_within limit (s ++ take at bs) (take n (take (length bs - at) (drop at bs))))
+    → IsFirst limit s bs v (at + n)
+finds_first limit s bs at n v l e q f = let o =
+    first_is (yield_within limit (s ++ take at bs) (take n (take (length bs - at) (drop at bs)))) v
+    f in record {
+      within = l;
+      others = o.0;
+      first = yield_rest limit s bs at n e ∙ o.1;
+      none_before = none_within limit s bs at n e q;
+    }
 
 -- or none
-pub finds_none : {A : Type 0} (limit : Option ℕ) (s bs : List ℕ) (at n : ℕ) → yield_within {A = A} limit s (take at bs) ≡ []
-    → None ≡ first {T = Value A} (yield_within limit (s ++ take at bs) (take n (take (length bs - at) (drop at bs))))
+pub finds_none : {A : Type 0} (limit : Option ℕ) (s bs : List ℕ) (at n : ℕ)
+    → yield_within {A = A} limit s (take at bs) ≡ []
+    → None ≡ first {T = Value A}
+    (yield_within limit (s ++ take at bs) (take n (take (length bs - at) (drop at bs))))
     → yield_within {A = A} limit s (take (at + n) bs) ≡ []
-finds_none limit s bs at n e f = yield_rest limit s bs at n e ∙ none_is (yield_within limit (s ++ take at bs) (take n (take (length bs - at) (drop at bs)))) f
+finds_none limit s bs at n e f =
+    yield_rest limit s bs at n e
+    ∙ none_is (yield_within limit (s ++ take at bs) (take n (take (length bs - at) (drop at bs)))) f
 
 -- no stop before the last of n bytes
-pub no_stop_within : (A : Type 0) (limit : Option ℕ) (s bs : List ℕ) (at n : ℕ) → ((k : ℕ) → k ≤ at → IsStop A limit s (take k bs) → ⊥)
+pub no_stop_within : (A : Type 0) (limit : Option ℕ) (s bs : List ℕ) (at n : ℕ)
+    → ((k : ℕ) → k ≤ at → IsStop A limit s (take k bs) → ⊥)
     → IsQuietWithin limit (s ++ take at bs) (take (length bs - at) (drop at bs)) n
     → (k : ℕ) → k < at + n → IsStop A limit s (take k bs) → ⊥
 no_stop_within A limit s bs at n before q k h =
     let P : ℕ → Type 0 = λ j. IsStop A limit s (take j bs) → ⊥ in
-    front_cases P at n k h before (λ j l m stop. (q j l m).1 (subst IsAtGround (sym (fed_more s bs at j)) stop.1))
+    front_cases P at n k h before
+    (λ j l m stop. (q j l m).1 (subst IsAtGround (sym (fed_more s bs at j)) stop.1))
 
-up_by : (A : Type 0) (limit : Option ℕ) (s bs : List ℕ) (at : ℕ) → ((k : ℕ) → k < at → IsStop A limit s (take k bs) → ⊥) → (IsStop A limit s (take at bs) → ⊥)
+up_by : (A : Type 0) (limit : Option ℕ) (s bs : List ℕ) (at : ℕ)
+    → ((k : ℕ) → k < at → IsStop A limit s (take k bs) → ⊥) → (IsStop A limit s (take at bs) → ⊥)
     → (k : ℕ) → (k ≡ at) ⊎ (k < at)
     → IsStop A limit s (take k bs) → ⊥
-up_by A limit s bs at before here k (inl e) = let P : ℕ → Type 0 = λ j. IsStop A limit s (take j bs) → ⊥ in subst P (sym e) here
+up_by A limit s bs at before here k (inl e) = let P : ℕ → Type 0 =
+    λ j. IsStop A limit s (take j bs) → ⊥ in subst P (sym e) here
 up_by A limit s bs at before here k (inr l) = before k l
 
-pub no_stop_up_to : (A : Type 0) (limit : Option ℕ) (s bs : List ℕ) (at : ℕ) → ((k : ℕ) → k < at → IsStop A limit s (take k bs) → ⊥)
+pub no_stop_up_to : (A : Type 0) (limit : Option ℕ) (s bs : List ℕ) (at : ℕ)
+    → ((k : ℕ) → k < at → IsStop A limit s (take k bs) → ⊥)
     → (IsStop A limit s (take at bs) → ⊥) → (k : ℕ) → k ≤ at
     → IsStop A limit s (take k bs) → ⊥
-no_stop_up_to A limit s bs at before here k h = up_by A limit s bs at before here k (eq-or-lt_of_le h)
+no_stop_up_to A limit s bs at before here k h =
+    up_by A limit s bs at before here k (eq-or-lt_of_le h)
 
 pub rest_length : (xs : List ℕ) (n : ℕ) → length (take (length xs - n) (drop n xs)) ≡ length xs - n
 rest_length xs n = ap length (rest_is xs n) ∙ length-drop n xs
 
 pub yield_nil : {A : Type 0} (limit : Option ℕ) (s : List ℕ) → yield_within {A = A} limit s [] ≡ []
 yield_nil limit s = append_cancel_left (meaning_within limit s) (yield_within limit s []) []
-    (meaning_more limit s [] ∙ ap (meaning_within limit) (append-nil s) ∙ sym (append-nil (meaning_within limit s)))
+    (meaning_more limit s [] ∙ ap (meaning_within limit) (append-nil s)
+    ∙ sym (append-nil (meaning_within limit s)))
 
-none_in_quiet : {A : Type 0} (limit : Option ℕ) (s bs : List ℕ) (n : ℕ) → IsQuietWithin limit s bs n → (k : ℕ) → k < n
+none_in_quiet : {A : Type 0} (limit : Option ℕ) (s bs : List ℕ) (n : ℕ) → IsQuietWithin limit s bs n
+    → (k : ℕ) → k < n
     → yield_within {A = A} limit s (take k bs) ≡ []
 none_in_quiet limit s bs n q zero h = yield_nil limit s
-none_in_quiet limit s bs n q (suc k) h = yield_quiet limit s (take (suc k) bs) (q (suc k) (omega arith) h).0
+none_in_quiet limit s bs n q (suc k) h =
+    yield_quiet limit s (take (suc k) bs) (q (suc k) (omega arith) h).0
 
 -- n bytes yield one value
-finds_one : {A : Type 0} (limit : Option ℕ) (s bs : List ℕ) (n : ℕ) (v : Value A) → n ≤ length bs → yield_within limit s (take n bs) ≡ v ∷ []
+finds_one : {A : Type 0} (limit : Option ℕ) (s bs : List ℕ) (n : ℕ) (v : Value A) → n ≤ length bs
+    → yield_within limit s (take n bs) ≡ v ∷ []
     → IsQuietWithin limit s bs n → IsFirst limit s bs v n
 finds_one limit s bs n v l e q = record {
   within = l;
@@ -174,23 +229,31 @@ finds_one limit s bs n v l e q = record {
   none_before = none_in_quiet limit s bs n q;
 }
 
-yields_by : {A : Type 0} (limit : Option ℕ) (s b : List ℕ) (x : Event) → added_within limit s b ≡ x ∷ []
-    → yield_within {A = A} limit s b ≡ values_from limit (mode_from plain (events_within limit s)) (x ∷ [])
-yields_by limit s b x e = yield_is limit s b ∙ ap (values_from limit (mode_from plain (events_within limit s))) e
+yields_by : {A : Type 0} (limit : Option ℕ) (s b : List ℕ) (x : Event)
+    → added_within limit s b ≡ x ∷ []
+    → yield_within {A = A} limit s b
+    ≡ values_from limit (mode_from plain (events_within limit s)) (x ∷ [])
+yields_by limit s b x e =
+    yield_is limit s b ∙ ap (values_from limit (mode_from plain (events_within limit s))) e
 
-pub finds_character : {A : Type 0} (limit : Option ℕ) (s bs : List ℕ) (n c : ℕ) → n ≤ length bs → added_within limit s (take n bs) ≡ Print c ∷ []
+pub finds_character : {A : Type 0} (limit : Option ℕ) (s bs : List ℕ) (n c : ℕ) → n ≤ length bs
+    → added_within limit s (take n bs) ≡ Print c ∷ []
     → IsQuietWithin limit s bs n
     → IsFirst {A = A} limit s bs (print c) n
-finds_character limit s bs n c l e q = finds_one limit s bs n (print c) l (yields_by limit s (take n bs) (Print c) e) q
+finds_character limit s bs n c l e q =
+    finds_one limit s bs n (print c) l (yields_by limit s (take n bs) (Print c) e) q
 
-finds_control : {A : Type 0} (limit : Option ℕ) (s bs : List ℕ) (b : ℕ) (c : ControlCode) → 0 < length bs → added_within limit s (take 1 bs) ≡ Execute b ∷ []
+finds_control : {A : Type 0} (limit : Option ℕ) (s bs : List ℕ) (b : ℕ) (c : ControlCode)
+    → 0 < length bs → added_within limit s (take 1 bs) ≡ Execute b ∷ []
     → code_of b ≡ Some c
     → IsFirst {A = A} limit s bs (control c) 1
 finds_control limit s bs b c l e is =
-    finds_one limit s bs 1 (control c) (omega (arith, l)) (yields_by limit s (take 1 bs) (Execute b) e ∙ rw is refl)
+    finds_one limit s bs 1 (control c) (omega (arith, l))
+    (yields_by limit s (take 1 bs) (Execute b) e ∙ rw is refl)
     (λ k low high. absurd (omega (arith, low, high)))
 
-pub control_found : (A : Type 0) (limit : Option ℕ) (s bs : List ℕ) (b : ℕ) (W : Type 0) (o : Option ControlCode) → 0 < length bs → W
+pub control_found : (A : Type 0) (limit : Option ℕ) (s bs : List ℕ) (b : ℕ) (W : Type 0)
+    (o : Option ControlCode) → 0 < length bs → W
     → added_within limit s (take 1 bs) ≡ Execute b ∷ []
     → o ≡ code_of b → IfSome o (λ c. W × IsFirst {A = A} limit s bs (control c) 1)
 control_found A limit s bs b W None l w e is = tt
@@ -201,15 +264,21 @@ pub fed_all : (s bs : List ℕ) (at n : ℕ) → length bs ≤ at + n → s ++ t
 fed_all s bs at n h = ap (λ x. s ++ x) (take_all (at + n) bs h)
 
 -- no bytes are no stop
-pub no_stop_yet : (A : Type 0) (limit : Option ℕ) (s bs : List ℕ) (k : ℕ) → k ≤ 0 → IsStop A limit s (take k bs) → ⊥
+pub no_stop_yet : (A : Type 0) (limit : Option ℕ) (s bs : List ℕ) (k : ℕ) → k ≤ 0
+    → IsStop A limit s (take k bs) → ⊥
 no_stop_yet A limit s bs k h stop =
     let z : k ≡ 0 = omega arith in
-    let e : take k bs ≡ [] = ap (λ n. take n bs) z in stop.0 (ap (yield_within limit s) e ∙ yield_nil limit s)
+    let e : take k bs ≡ [] =
+    ap (λ n. take n bs) z in stop.0 (ap (yield_within limit s) e ∙ yield_nil limit s)
 
 -- the values so far, and those of n bytes of the rest
-pub values_more : {A : Type 0} (limit : Option ℕ) (s bs : List ℕ) (at n : ℕ) (had got : List (Value A)) → had ≡ yield_within limit s (take at bs)
-    → got ≡ had ++ yield_within limit (s ++ take at bs) (take n (take (length bs - at) (drop at bs))) → got ≡ yield_within limit s (take (at + n) bs)
-values_more limit s bs at n had got e f = f ∙ ap (λ x. x ++ yield_within limit (s ++ take at bs) (take n (take (length bs - at) (drop at bs)))) e
+pub values_more : {A : Type 0} (limit : Option ℕ) (s bs : List ℕ) (at n : ℕ)
+    (had got : List (Value A)) → had ≡ yield_within limit s (take at bs)
+    → got ≡ had ++ yield_within limit (s ++ take at bs)
+    (take n (take (length bs - at) (drop at bs))) → got ≡ yield_within limit s (take (at + n) bs)
+values_more limit s bs at n had got e f =
+    f ∙ ap (λ x. x ++ yield_within limit (s ++ take at bs)
+    (take n (take (length bs - at) (drop at bs)))) e
     ∙ sym (yield_more limit s bs at n)
 
 -- what the rest may want, the whole may
@@ -226,23 +295,34 @@ takes_rest s bs at =
     subst MayTake (append_assoc s (take at bs) (take (length bs - at) (drop at bs))
     ∙ ap (λ l. s ++ l) (whole_is bs at))
 
-pub wants_rest : (A : Type 0) (limit : Option ℕ) (s bs : List ℕ) (at : ℕ) → MayWant A limit (s ++ take at bs) (take (length bs - at) (drop at bs))
+pub wants_rest : (A : Type 0) (limit : Option ℕ) (s bs : List ℕ) (at : ℕ)
+    → MayWant A limit (s ++ take at bs) (take (length bs - at) (drop at bs))
     → MayWant A limit s bs
 wants_rest A limit s bs at (inl g) = inl (takes_rest s bs at g)
 wants_rest A limit s bs at (inr some) = inr (λ none.
-    some (right_empty (yield_within limit s (take at bs)) (yield_within limit (s ++ take at bs) (take (length bs - at) (drop at bs)))
-    (sym (yield_append limit s (take at bs) (take (length bs - at) (drop at bs))) ∙ ap (yield_within limit s) (whole_is bs at) ∙ none)))
+    some (right_empty (yield_within limit s (take at bs))
+    (yield_within limit (s ++ take at bs) (take (length bs - at) (drop at bs)))
+    (sym (yield_append limit s (take at bs) (take (length bs - at) (drop at bs)))
+    ∙ ap (yield_within limit s) (whole_is bs at) ∙ none)))
 
 -- such values are handed out
-module _ (A : Type 0) (handed : (limit : Option ℕ) (s b : List ℕ) → AreHandedOut {A = A} (yield_within limit s b)) where
-  pub first_handed : (limit : Option ℕ) (s bs : List ℕ) (v : Value A) (n : ℕ) → IsFirst limit s bs v n → IsHandedOut v
-  first_handed limit s bs v n is = let P : List (Value A) → Type 0 = λ vs. AreHandedOut vs in (subst P is.first (handed limit s (take n bs))).0
+module _ (A : Type 0)
+    (handed : (limit : Option ℕ) (s b : List ℕ)
+    → AreHandedOut {A = A} (yield_within limit s b)) where
+  pub first_handed : (limit : Option ℕ) (s bs : List ℕ) (v : Value A) (n : ℕ)
+      → IsFirst limit s bs v n → IsHandedOut v
+  first_handed limit s bs v n is = let P : List (Value A) → Type 0 =
+      λ vs. AreHandedOut vs in (subst P is.first (handed limit s (take n bs))).0
 
-  pub stop_handed : (limit : Option ℕ) (s bs : List ℕ) (vs : List (Value A)) (n : ℕ) → IsFirstStop limit s bs vs n → AreHandedOut vs
-  stop_handed limit s bs vs n is = let P : List (Value A) → Type 0 = λ vs. AreHandedOut vs in subst P (sym is.values) (handed limit s (take n bs))
+  pub stop_handed : (limit : Option ℕ) (s bs : List ℕ) (vs : List (Value A)) (n : ℕ)
+      → IsFirstStop limit s bs vs n → AreHandedOut vs
+  stop_handed limit s bs vs n is = let P : List (Value A) → Type 0 =
+      λ vs. AreHandedOut vs in subst P (sym is.values) (handed limit s (take n bs))
 
 -- a front that holds something was taken of something
-pub front_some : (len at n had : ℕ) → (0 < len - at → 0 < n) → 0 < had → (len ≡ 0 → at ≡ 0 → had ≡ 0) → 0 < at + n
-front_some zero zero n had count some none = let e = none refl refl in absurd (omega (arith, e, some))
+pub front_some : (len at n had : ℕ) → (0 < len - at → 0 < n) → 0 < had
+    → (len ≡ 0 → at ≡ 0 → had ≡ 0) → 0 < at + n
+front_some zero zero n had count some none = let e =
+    none refl refl in absurd (omega (arith, e, some))
 front_some (suc len) zero n had count some none = omega (arith, count (omega arith))
 front_some len (suc at) n had count some none = omega arith

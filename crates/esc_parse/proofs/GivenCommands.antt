@@ -15,26 +15,36 @@ use Rattle.esc_parse.proofs.Lists.{StopsAt-weaker}
 use Rattle.memory.specs.Refusals.{Refused}
 
 -- what an event makes of a performer, and how it stops there
-abbrev Performs : {S A : Type 0} → (S → Action A → S → Type 0) → Performer S A → Event → Performer S A → Type 0
+abbrev Performs : {S A : Type 0} → (S → Action A → S → Type 0) → Performer S A → Event
+    → Performer S A → Type 0
 Performs takes p e q = (limit : Option ℕ) (m : Mode) → Hooks limit p.unfinished m
-    → Hooks limit q.unfinished (after m e) × FoldsTo (At value_of takes) p.sink (given limit m e) q.sink
+    → Hooks limit q.unfinished (after m e)
+    × FoldsTo (At value_of takes) p.sink (given limit m e) q.sink
 
-abbrev Stops : {S A : Type 0} → (S → Action A → S → Type 0) → (S → Action A → S → Type 0) → Performer S A → Event → Performer S A → Type 0
+abbrev Stops : {S A : Type 0} → (S → Action A → S → Type 0) → (S → Action A → S → Type 0)
+    → Performer S A → Event → Performer S A → Type 0
 Stops {S} {A} takes refuses p e q =
     (limit : Option ℕ) (m : Mode) → Hooks limit p.unfinished m
-    → StopsGiven ((wants_memory e ≡ true) × Refused A) (At value_of takes) (At value_of refuses) p.sink (given limit m e) q.sink
+    → StopsGiven ((wants_memory e ≡ true) × Refused A) (At value_of takes)
+    (At value_of refuses) p.sink (given limit m e) q.sink
 
 -- of an event that wants memory
-memory_stopped : {S A : Type 0} (takes refuses : S → Action A → S → Type 0) (p q : S) (vs : List (Value A))
+memory_stopped : {S A : Type 0} (takes refuses : S → Action A → S → Type 0) (p q : S)
+    (vs : List (Value A))
     → StopsGiven (Refused A) (At value_of takes) (At value_of refuses) p vs q
     → StopsGiven ((true ≡ true) × Refused A) (At value_of takes) (At value_of refuses) p vs q
 memory_stopped {S} {A} takes refuses p q vs h =
-    StopsAt-weaker (At value_of takes) (At value_of refuses) ((true ≡ true) × Refused A) (Refused A) p vs q (λ r. (refl, r)) h
+    StopsAt-weaker (At value_of takes) (At value_of refuses) ((true ≡ true) × Refused A)
+    (Refused A) p vs q (λ r. (refl, r)) h
 
-pub text_taken : {S A E : Type 0} (own : Type 0) (takes refuses : S → Action A → S → Type 0) (r : Result (Unit {0}) E) (p : Performer S A) (s : S)
-    (ps : List (List ℕ)) → MatchResult r (λ _. FoldsTo (At value_of takes) p.sink (osc (command_meant ps) ∷ []) s)
-    (λ _. StopsGiven (Refused A) (At value_of takes) (At value_of refuses) p.sink (osc (command_meant ps) ∷ []) s)
-    → Takes own (Performs takes) (Stops takes refuses) r p (OscDispatch ps ∷ []) (record p { sink = s })
+pub text_taken : {S A E : Type 0} (own : Type 0) (takes refuses : S → Action A → S → Type 0)
+    (r : Result (Unit {0}) E) (p : Performer S A) (s : S)
+    (ps : List (List ℕ))
+    → MatchResult r (λ _. FoldsTo (At value_of takes) p.sink (osc (command_meant ps) ∷ []) s)
+    (λ _. StopsGiven (Refused A) (At value_of takes) (At value_of refuses) p.sink
+    (osc (command_meant ps) ∷ []) s)
+    → Takes own (Performs takes) (Stops takes refuses) r p (OscDispatch ps ∷ [])
+    (record p { sink = s })
 text_taken own takes refuses (Ok t) p s ps h = (record p { sink = s }, (λ limit m k. (k, h)), refl)
 text_taken own takes refuses (Err e) p s ps h = (
   [],
@@ -52,20 +62,26 @@ text_taken own takes refuses (Err e) p s ps h = (
 )
 
 -- the same of its parts
-pub text_heard : {S A E : Type 0} (takes refuses : S → Action A → S → Type 0) (r : Result (Unit {0}) E) (p : Performer S A) (s : S)
-    (ps : List (List ℕ)) → MatchResult r (λ _. FoldsTo (At value_of takes) p.sink (osc (command_meant ps) ∷ []) s)
-    (λ _. StopsGiven (Refused A) (At value_of takes) (At value_of refuses) p.sink (osc (command_meant ps) ∷ []) s)
+pub text_heard : {S A E : Type 0} (takes refuses : S → Action A → S → Type 0)
+    (r : Result (Unit {0}) E) (p : Performer S A) (s : S)
+    (ps : List (List ℕ))
+    → MatchResult r (λ _. FoldsTo (At value_of takes) p.sink (osc (command_meant ps) ∷ []) s)
+    (λ _. StopsGiven (Refused A) (At value_of takes) (At value_of refuses) p.sink
+    (osc (command_meant ps) ∷ []) s)
     → Hears (Performs takes) (Stops takes refuses) r p (OscDispatch ps) (record p { sink = s })
 text_heard takes refuses (Ok t) p s ps h = λ limit m k. (k, h)
 text_heard takes refuses (Err e) p s ps h = λ limit m k.
     memory_stopped takes refuses p.sink s (osc (command_meant ps) ∷ []) h
 
 -- a control sequence
-pub sequence_heard : {S A E : Type 0} (takes refuses : S → Action A → S → Type 0) (r : Result (Unit {0}) E) (p : Performer S A)
+pub sequence_heard : {S A E : Type 0} (takes refuses : S → Action A → S → Type 0)
+    (r : Result (Unit {0}) E) (p : Performer S A)
     (s : S) (ps : List CsiParam) (more : Bool) (f : ℕ)
     → MatchResult r (λ _. FoldsTo (At value_of takes) p.sink (map csi (csi_of ps more f)) s)
-    (λ _. StopsGiven (Refused A) (At value_of takes) (At value_of refuses) p.sink (map csi (csi_of ps more f)) s)
-    → Hears (Performs takes) (Stops takes refuses) r p (CsiDispatch ps more f) (record p { sink = s })
+    (λ _. StopsGiven (Refused A) (At value_of takes) (At value_of refuses) p.sink
+    (map csi (csi_of ps more f)) s)
+    → Hears (Performs takes) (Stops takes refuses) r p (CsiDispatch ps more f)
+    (record p { sink = s })
 sequence_heard takes refuses (Ok t) p s ps more f h = λ limit m k. (k, h)
 sequence_heard takes refuses (Err e) p s ps more f h = λ limit m k.
     memory_stopped takes refuses p.sink s (map csi (csi_of ps more f)) h

@@ -12,7 +12,8 @@ use Rattle.esc_parse.specs.Given.{At}
 use Rattle.esc_parse.specs.Images.{is_image}
 
 -- a sink that no image changes
-module _ {S A : Type 0} (R : S → Action A → S → Type 0) (s : S) (same : (a : Action A) → is_image (value_of a) ≡ true → R s a s) where
+module _ {S A : Type 0} (R : S → Action A → S → Type 0) (s : S)
+    (same : (a : Action A) → is_image (value_of a) ≡ true → R s a s) where
   one_dropped : (v : Value A) → is_image v ≡ true → At value_of R s v s
   one_dropped (print c) h = absurd cc
   one_dropped (string t) h = absurd cc
@@ -29,7 +30,8 @@ module _ {S A : Type 0} (R : S → Action A → S → Type 0) (s : S) (same : (a
   one_dropped exit h = absurd cc
 
   -- none of several either
-  pub all_dropped : (vs : List (Value A)) → list_all is_image vs ≡ true → FoldsTo (At value_of R) s vs s
+  pub all_dropped : (vs : List (Value A)) → list_all is_image vs ≡ true
+      → FoldsTo (At value_of R) s vs s
   all_dropped [] h = refl
   all_dropped (v ∷ vs) h =
       let (first, rest) = and_parts (is_image v) (list_all is_image vs) h in
@@ -41,6 +43,7 @@ command_images None = refl
 command_images (Some i) = refl
 
 -- and so is the end of a sixel image
-pub sixel_images : {A : Type 0} (within : Bool) (x : Sixel A) → list_all is_image (if within then sixel x ∷ [] else []) ≡ true
+pub sixel_images : {A : Type 0} (within : Bool) (x : Sixel A)
+    → list_all is_image (if within then sixel x ∷ [] else []) ≡ true
 sixel_images true x = refl
 sixel_images false x = refl

@@ -14,17 +14,24 @@ pieces_more f ps i d h =
     ∙ ap (λ l. flat_map f (take i ps) ++ l) (append-nil (f (get_or ps i d))))
 
 module _ {P V : Type 0} (R : P → V → P → Type 0) where
-  pub FoldsTo-append : (p : P) (xs : List V) (j : P) (ys : List V) (q : P) → FoldsTo R p xs j → FoldsTo R j ys q → FoldsTo R p (xs ++ ys) q
+  pub FoldsTo-append : (p : P) (xs : List V) (j : P) (ys : List V) (q : P) → FoldsTo R p xs j
+      → FoldsTo R j ys q → FoldsTo R p (xs ++ ys) q
   FoldsTo-append p [] j ys q e f = subst (λ x. FoldsTo R x ys q) (sym e) f
   FoldsTo-append p (x ∷ xs) j ys q e f = (e.0, e.1, FoldsTo-append e.0 xs j ys q e.2 f)
 
 module _ {P V : Type 0} (R Q : P → V → P → Type 0) (own : Type 0) where
-  pub StopsAt-weaker : (less : Type 0) (p : P) (xs : List V) (q : P) → (less → own) → StopsAt less R Q p xs q → StopsAt own R Q p xs q
+  pub StopsAt-weaker : (less : Type 0) (p : P) (xs : List V) (q : P) → (less → own)
+      → StopsAt less R Q p xs q → StopsAt own R Q p xs q
   StopsAt-weaker less p [] q f e = (f e.0, e.1)
   StopsAt-weaker less p (x ∷ xs) q f e =
-      elim e [ inl a ↦ inl (f a.0, a.1) | inr b ↦ inr (elim b [ inl c ↦ inl c | inr d ↦ inr (d.0, d.1, StopsAt-weaker less d.0 xs q f d.2) ]) ]
+      elim e [
+        | inl a ↦ inl (f a.0, a.1)
+        | inr b ↦ inr
+            (elim b [ inl c ↦ inl c | inr d ↦ inr (d.0, d.1, StopsAt-weaker less d.0 xs q f d.2) ])
+      ]
 
-  pub StopsAt-append : (p : P) (xs : List V) (j : P) (ys : List V) (q : P) → FoldsTo R p xs j → StopsAt own R Q j ys q → StopsAt own R Q p (xs ++ ys) q
+  pub StopsAt-append : (p : P) (xs : List V) (j : P) (ys : List V) (q : P) → FoldsTo R p xs j
+      → StopsAt own R Q j ys q → StopsAt own R Q p (xs ++ ys) q
   StopsAt-append p [] j ys q e f = subst (λ x. StopsAt own R Q x ys q) (sym e) f
   StopsAt-append p (x ∷ xs) j ys q e f = inr (inr (e.0, e.1, StopsAt-append e.0 xs j ys q e.2 f))
 
@@ -32,12 +39,19 @@ module _ {P V : Type 0} (R Q : P → V → P → Type 0) (own : Type 0) where
   StopsAt-here p [] q o e = (o, e)
   StopsAt-here p (y ∷ ys) q o e = inl (o, e)
 
-  pub StopsAt-longer : (p : P) (xs ys : List V) (q : P) → StopsAt own R Q p xs q → StopsAt own R Q p (xs ++ ys) q
+  pub StopsAt-longer : (p : P) (xs ys : List V) (q : P) → StopsAt own R Q p xs q
+      → StopsAt own R Q p (xs ++ ys) q
   StopsAt-longer p [] ys q e = StopsAt-here p ys q e.0 e.1
-  StopsAt-longer p (x ∷ xs) ys q e = elim e [ inl a ↦ inl a | inr b ↦ inr (elim b [ inl c ↦ inl c | inr d ↦ inr (d.0, d.1, StopsAt-longer d.0 xs ys q d.2) ]) ]
+  StopsAt-longer p (x ∷ xs) ys q e =
+      elim e [
+        | inl a ↦ inl a
+        | inr b ↦ inr
+            (elim b [ inl c ↦ inl c | inr d ↦ inr (d.0, d.1, StopsAt-longer d.0 xs ys q d.2) ])
+      ]
 
 -- A giver stops by itself, or at a value; both for the reason for which the taker refuses.
-module _ {P V : Type 0} (R Q : P → V → P → Type 0) (own why : Type 0) (says : (p : P) (v : V) (q : P) → Q p v q → why) where
+module _ {P V : Type 0} (R Q : P → V → P → Type 0) (own why : Type 0)
+    (says : (p : P) (v : V) (q : P) → Q p v q → why) where
   stops_why : (p : P) (vs : List V) (q : P) → StopsAt (own × why) R Q p vs q → why
   stops_why p [] q e = e.0.1
   stops_why p (v ∷ vs) q (inl e) = e.0.1
@@ -48,31 +62,37 @@ module _ {P V : Type 0} (R Q : P → V → P → Type 0) (own why : Type 0) (say
   stops_or_some p [] q e = inl e.0.0
   stops_or_some p (v ∷ vs) q e = inr (λ z. absurd cc)
 
-  pub stops_wanting : (p : P) (vs : List V) (q : P) → StopsAt (own × why) R Q p vs q → (own ⊎ (vs ≢ [])) × why
+  pub stops_wanting : (p : P) (vs : List V) (q : P) → StopsAt (own × why) R Q p vs q
+      → (own ⊎ (vs ≢ [])) × why
   stops_wanting p vs q e = (stops_or_some p vs q e, stops_why p vs q e)
 
 -- where nothing is refused, what was taken is a front, and the giver stopped by itself
-module _ {P V : Type 0} (R Q : P → V → P → Type 0) (own : Type 0) (never : (p : P) (v : V) (q : P) → Q p v q → ⊥) where
+module _ {P V : Type 0} (R Q : P → V → P → Type 0) (own : Type 0)
+    (never : (p : P) (v : V) (q : P) → Q p v q → ⊥) where
   pub gets_prefix : (p : P) (vs : List V) (q : P) → StopsAt own R Q p vs q → own × GetsPrefix R p vs
   gets_prefix p [] q e = (e.0, ([], [], p, refl, refl))
   gets_prefix p (v ∷ vs) q e = elim e [
     | inl x ↦ (x.0, ([], v ∷ vs, p, refl, refl))
     | inr y ↦ elim y [
       | inl z ↦ absurd (never p v q z)
-      | inr w ↦ let s = gets_prefix w.0 vs q w.2 in let r = s.1 in (s.0, (v ∷ r.0, r.1, r.2, ap (λ l. v ∷ l) r.3, (w.0, w.1, r.4)))
+      | inr w ↦ let s = gets_prefix w.0 vs q w.2 in let r =
+          s.1 in (s.0, (v ∷ r.0, r.1, r.2, ap (λ l. v ∷ l) r.3, (w.0, w.1, r.4)))
     ]
   ]
 
 -- the same relation, seen through f
 module _ {C P T V : Type 0} (f : C → P) (g : T → V) (R : P → T → P → Type 0) where
-  pub moved : (c : C) (vs : List V) (d : C) → FoldsTo (At g (λ p a q. R (f p) a (f q))) c vs d → FoldsTo (At g R) (f c) vs (f d)
+  pub moved : (c : C) (vs : List V) (d : C) → FoldsTo (At g (λ p a q. R (f p) a (f q))) c vs d
+      → FoldsTo (At g R) (f c) vs (f d)
   moved c [] d e = ap f e
   moved c (v ∷ vs) d e = (f e.0, e.1, moved e.0 vs d e.2)
 
-  pub moved_prefix : (own : Type 0) (c : C) (vs : List V) (d : C) → StopsAt own (At g (λ p a q. R (f p) a (f q))) (At g (λ p a q. ⊥)) c vs d
+  pub moved_prefix : (own : Type 0) (c : C) (vs : List V) (d : C)
+      → StopsAt own (At g (λ p a q. R (f p) a (f q))) (At g (λ p a q. ⊥)) c vs d
       → own × GetsPrefix (At g R) (f c) vs
   moved_prefix own c vs d h =
-      let s = gets_prefix (At g (λ p a q. R (f p) a (f q))) (At g (λ p a q. ⊥)) own (λ p v q w. w.2) c vs d h in
+      let s = gets_prefix (At g (λ p a q. R (f p) a (f q))) (At g (λ p a q. ⊥)) own
+      (λ p v q w. w.2) c vs d h in
       let r = s.1 in (s.0, (r.0, r.1, f r.2, r.3, moved c r.0 r.2 r.4))
 
 -- what was given by what it is, was given as it is seen
@@ -80,15 +100,19 @@ module _ {P T V W : Type 0} (g : T → W) (f : V → W) (R Q : P → T → P →
   abbrev SeenSo : T → V → Type 0
   SeenSo t v = g t ≡ f v
 
-  pub folds_seen : (p : P) (vs : List V) (q : P) → FoldsTo (By SeenSo R) p vs q → FoldsTo (At g R) p (map f vs) q
+  pub folds_seen : (p : P) (vs : List V) (q : P) → FoldsTo (By SeenSo R) p vs q
+      → FoldsTo (At g R) p (map f vs) q
   folds_seen p [] q e = e
   folds_seen p (v ∷ vs) q (j, t, rest) = (j, t, folds_seen j vs q rest)
 
-  pub stops_seen : (own : Type 0) (p : P) (vs : List V) (q : P) → StopsAt own (By SeenSo R) (By SeenSo Q) p vs q → StopsAt own (At g R) (At g Q) p (map f vs) q
+  pub stops_seen : (own : Type 0) (p : P) (vs : List V) (q : P)
+      → StopsAt own (By SeenSo R) (By SeenSo Q) p vs q
+      → StopsAt own (At g R) (At g Q) p (map f vs) q
   stops_seen own p [] q e = e
   stops_seen own p (v ∷ vs) q (inl e) = inl e
   stops_seen own p (v ∷ vs) q (inr (inl e)) = inr (inl e)
-  stops_seen own p (v ∷ vs) q (inr (inr (j, t, rest))) = inr (inr (j, t, stops_seen own j vs q rest))
+  stops_seen own p (v ∷ vs) q (inr (inr (j, t, rest))) = inr
+      (inr (j, t, stops_seen own j vs q rest))
 
 -- results
 pub on_ok_more : {T E : Type 0} (X Y : Type 0) (r : Result T E) → (X → Y) → OnOk r X → OnOk r Y
@@ -107,51 +131,63 @@ pub on_err_any : {T E : Type 0} (X : Type 0) (r : Result T E) → X → OnErr r 
 on_err_any X (Ok x) h = tt
 on_err_any X (Err e) h = h
 
-pub on_ok_second : {T E : Type 0} (X Y Z : Type 0) (r : Result T E) → (Y → Z) → OnOk r (X × Y) → OnOk r (X × Z)
+pub on_ok_second : {T E : Type 0} (X Y Z : Type 0) (r : Result T E) → (Y → Z) → OnOk r (X × Y)
+    → OnOk r (X × Z)
 on_ok_second X Y Z (Ok x) f w = (w.0, f w.1)
 on_ok_second X Y Z (Err e) f w = tt
 
-pub if_ok_more : {T E : Type 0} (P Q : T → Type 0) (r : Result T E) → ((t : T) → P t → Q t) → IfOk r P → IfOk r Q
+pub if_ok_more : {T E : Type 0} (P Q : T → Type 0) (r : Result T E) → ((t : T) → P t → Q t)
+    → IfOk r P → IfOk r Q
 if_ok_more P Q (Ok x) f h = f x h
 if_ok_more P Q (Err e) f h = tt
 
-pub if_err_third : {T E : Type 0} (Y Z : Type 0) (r : Result T E) (A B : E → Type 0) → (Y → Z) → IfErr r (λ e. A e × B e × Y) → IfErr r (λ e. A e × B e × Z)
+pub if_err_third : {T E : Type 0} (Y Z : Type 0) (r : Result T E) (A B : E → Type 0) → (Y → Z)
+    → IfErr r (λ e. A e × B e × Y) → IfErr r (λ e. A e × B e × Z)
 if_err_third Y Z (Ok x) A B f w = tt
 if_err_third Y Z (Err e) A B f w = (w.0, w.1, f w.2)
 
-pub if_err_parts : {T E : Type 0} (Y Z W V : Type 0) (r : Result T E) (A B : E → Type 0) → (Y → (Z × W) × V)
+pub if_err_parts : {T E : Type 0} (Y Z W V : Type 0) (r : Result T E) (A B : E → Type 0)
+    → (Y → (Z × W) × V)
     → IfErr r (λ e. A e × B e × Y) → IfErr r (λ e. A e × B e × Z × W × V)
 if_err_parts Y Z W V (Ok x) A B f w = tt
 if_err_parts Y Z W V (Err e) A B f w = let p = f w.2 in (w.0, w.1, p.0.0, p.0.1, p.1)
 
-pub if_err_join : {T E : Type 0} (B Y Z : Type 0) (r : Result T E) (A : E → Type 0) → (Y → Z) → OnErr r B → IfErr r (λ e. A e × Y) → IfErr r (λ e. A e × B × Z)
+pub if_err_join : {T E : Type 0} (B Y Z : Type 0) (r : Result T E) (A : E → Type 0) → (Y → Z)
+    → OnErr r B → IfErr r (λ e. A e × Y) → IfErr r (λ e. A e × B × Z)
 if_err_join B Y Z (Ok x) A f b w = tt
 if_err_join B Y Z (Err e) A f b w = (w.0, b, f w.1)
 
 -- no error, where its cause never is
-pub is_ok_unless : {T E : Type 0} (P : T → Type 0) (B : E → Type 0) (W : Type 0) (r : Result T E) → (W → ⊥) → IfOk r P
+pub is_ok_unless : {T E : Type 0} (P : T → Type 0) (B : E → Type 0) (W : Type 0) (r : Result T E)
+    → (W → ⊥) → IfOk r P
     → IfErr r (λ e. B e × W) → IsOkAnd r P
 is_ok_unless P B W (Ok x) never h f = h
 is_ok_unless P B W (Err e) never h f = never f.1
 
-pub if_ok_second : {T E : Type 0} (X Y Z : T → Type 0) (r : Result T E) → ((t : T) → Y t → Z t) → IfOk r (λ t. X t × Y t) → IfOk r (λ t. X t × Z t)
+pub if_ok_second : {T E : Type 0} (X Y Z : T → Type 0) (r : Result T E) → ((t : T) → Y t → Z t)
+    → IfOk r (λ t. X t × Y t) → IfOk r (λ t. X t × Z t)
 if_ok_second X Y Z (Ok x) f w = (w.0, f x w.1)
 if_ok_second X Y Z (Err e) f w = tt
 
 -- a step more, and a refused one, over a list that is seen through two functions
-pub folds_more : {P C D V : Type 0} (R : P → V → P → Type 0) (f : C → D) (g : D → V) (p : P) (cs : List C) (j : P) (c : C) (q : P)
-    → FoldsTo R p (map g (map f cs)) j → R j (g (f c)) q → FoldsTo R p (map g (map f (cs ++ c ∷ []))) q
+pub folds_more : {P C D V : Type 0} (R : P → V → P → Type 0) (f : C → D) (g : D → V) (p : P)
+    (cs : List C) (j : P) (c : C) (q : P)
+    → FoldsTo R p (map g (map f cs)) j → R j (g (f c)) q
+    → FoldsTo R p (map g (map f (cs ++ c ∷ []))) q
 folds_more R f g p [] j c q e r = (q, subst (λ x. R x (g (f c)) q) (sym e) r, refl)
 folds_more R f g p (d ∷ cs) j c q e r = (e.0, e.1, folds_more R f g e.0 cs j c q e.2 r)
 
-pub stops_more : {P C D V : Type 0} (R Q : P → V → P → Type 0) (own : Type 0) (f : C → D) (g : D → V) (p : P) (cs : List C) (j : P) (c : C) (rest : List C)
+pub stops_more : {P C D V : Type 0} (R Q : P → V → P → Type 0) (own : Type 0) (f : C → D)
+    (g : D → V) (p : P) (cs : List C) (j : P) (c : C) (rest : List C)
     (q : P)
     → FoldsTo R p (map g (map f cs)) j → Q j (g (f c)) q
     → StopsAt own R Q p (map g (map f (cs ++ c ∷ rest))) q
 stops_more R Q own f g p [] j c rest q e r = inr (inl (subst (λ x. Q x (g (f c)) q) (sym e) r))
-stops_more R Q own f g p (d ∷ cs) j c rest q e r = inr (inr (e.0, e.1, stops_more R Q own f g e.0 cs j c rest q e.2 r))
+stops_more R Q own f g p (d ∷ cs) j c rest q e r = inr
+    (inr (e.0, e.1, stops_more R Q own f g e.0 cs j c rest q e.2 r))
 
-pub if_err_is : {T E : Type 0} (P : E → Type 0) (r : Result T E) (x : E) → r ≡ Err x → P x → IfErr r P
+pub if_err_is : {T E : Type 0} (P : E → Type 0) (r : Result T E) (x : E) → r ≡ Err x → P x
+    → IfErr r P
 if_err_is P (Ok t) x is h = tt
 if_err_is P (Err e) x is h = let same : x ≡ e = cc in subst P same h
 
@@ -159,6 +195,7 @@ pub nothing_left : {X : Type 0} (l : List X) → length l ≡ 0 → l ≡ []
 nothing_left [] h = refl
 nothing_left (x ∷ xs) h = absurd (omega arith)
 
-pub match_err : {T E : Type 0} (X Y : Type 0) (r : Result T E) (e : E) → r ≡ Err e → Y → MatchResult r (λ _. X) (λ _. Y)
+pub match_err : {T E : Type 0} (X Y : Type 0) (r : Result T E) (e : E) → r ≡ Err e → Y
+    → MatchResult r (λ _. X) (λ _. Y)
 match_err X Y (Ok t) e is y = absurd cc
 match_err X Y (Err f) e is y = y

@@ -2,7 +2,8 @@
 use Rattle.std.proofs.Common.{◌≡◌, Result, Ok, Err, IfOk, IfErr, subst, sym, ◌∙◌, ap}
 use Rattle.esc_parse.specs.Paired.{with_value}
 
-pub ok_paired : {T V E : Type 0} (v : V) (P : T → Type 0) (Q : T × V → Type 0) (r : Result (T × V) E)
+pub ok_paired : {T V E : Type 0} (v : V) (P : T → Type 0) (Q : T × V → Type 0)
+    (r : Result (T × V) E)
     (t : Result T E) → r ≡ with_value v t → ((x : T) → P x → Q (x, v)) → IfOk t P → IfOk r Q
 ok_paired v P Q r (Ok x) is f h = subst (λ y. IfOk y Q) (sym is) (f x h)
 ok_paired v P Q r (Err e) is f h = subst (λ y. IfOk y Q) (sym is) tt

@@ -12,7 +12,12 @@ unfolding Holds
 one p b = λ ps s h. (h.0, ap (λ t. t ++ b ∷ []) h.1)
 
 -- bytes that are appended are pushed one after another
-pub appended : {A : Type 0} (bs : List ℕ) (p q : SixelText A) → q ≡ with p bs → FoldsTo Pushes p bs q
+pub appended : {A : Type 0} (bs : List ℕ) (p q : SixelText A) → q ≡ with p bs
+    → FoldsTo Pushes p bs q
 appended [] p q e = ap (λ t. record p { «data» = t }) (sym (append-nil p.data)) ∙ sym e
-appended (b ∷ bs) p q e =
-    (with p (b ∷ []), one p b, appended bs (with p (b ∷ [])) q (e ∙ ap (λ t. record p { «data» = t }) (sym (append_assoc p.data (b ∷ []) bs))))
+appended (b ∷ bs) p q e = (
+  with p (b ∷ []),
+  one p b,
+  appended bs (with p (b ∷ [])) q
+      (e ∙ ap (λ t. record p { «data» = t }) (sym (append_assoc p.data (b ∷ []) bs))),
+)

@@ -19,79 +19,112 @@ use Rattle.esc_parse.specs.declared.performer.Performer.{Performer}
 use Rattle.memory.specs.Refusals.{Refused}
 
 -- one character after another
-module _ {S V : Type 0} (print : ℕ → V) (R Q : S → V → S → Type 0) (xs : List ℕ) (i : ℕ) (l : i < length xs) (p j q : S)
+module _ {S V : Type 0} (print : ℕ → V) (R Q : S → V → S → Type 0) (xs : List ℕ) (i : ℕ)
+    (l : i < length xs) (p j q : S)
     (so : FoldsTo R p (map print (take i xs)) j) where
   next : map print (take (i + 1) xs) ≡ map print (take i xs) ++ print (get_or xs i 0) ∷ []
   next = ap (map print) (take_more xs i 0 l) ∙ map-append print (take i xs) (get_or xs i 0 ∷ [])
 
   pub takes_next : R j (print (get_or xs i 0)) q → FoldsTo R p (map print (take (i + 1) xs)) q
-  takes_next h = subst (λ vs. FoldsTo R p vs q) (sym next) (FoldsTo-append R p (map print (take i xs)) j (print (get_or xs i 0) ∷ []) q so (q, h, refl))
+  takes_next h =
+      subst (λ vs. FoldsTo R p vs q) (sym next)
+      (FoldsTo-append R p (map print (take i xs)) j (print (get_or xs i 0) ∷ []) q so (q, h, refl))
 
   pub stops_next : Q j (print (get_or xs i 0)) q → StopsAt ⊥ R Q p (map print xs) q
   stops_next h =
       let all : map print (take (i + 1) xs) ++ map print (drop (i + 1) xs) ≡ map print xs =
-      sym (map-append print (take (i + 1) xs) (drop (i + 1) xs)) ∙ ap (map print) (take-append-drop (i + 1) xs) in
+      sym (map-append print (take (i + 1) xs) (drop (i + 1) xs))
+      ∙ ap (map print) (take-append-drop (i + 1) xs) in
       let here : StopsAt ⊥ R Q p (map print (take (i + 1) xs)) q =
-      subst (λ vs. StopsAt ⊥ R Q p vs q) (sym next) (StopsAt-append R Q ⊥ p (map print (take i xs)) j (print (get_or xs i 0) ∷ []) q so (inr (inl h))) in
-      subst (λ vs. StopsAt ⊥ R Q p vs q) all (StopsAt-longer R Q ⊥ p (map print (take (i + 1) xs)) (map print (drop (i + 1) xs)) q here)
+      subst (λ vs. StopsAt ⊥ R Q p vs q) (sym next)
+      (StopsAt-append R Q ⊥ p (map print (take i xs)) j (print (get_or xs i 0) ∷ []) q so
+      (inr (inl h))) in
+      subst (λ vs. StopsAt ⊥ R Q p vs q) all
+      (StopsAt-longer R Q ⊥ p (map print (take (i + 1) xs)) (map print (drop (i + 1) xs)) q here)
 
 -- the characters before the rest were taken
-abbrev pub HasTaken : {S V : Type 0} → (ℕ → V) → (S → V → S → Type 0) → List ℕ → List ℕ → S → S → Type 0
-HasTaken print R text rest p q = (cs : List ℕ) × (chars text ≡ cs ++ chars rest) × FoldsTo R p (map print cs) q
+abbrev pub HasTaken : {S V : Type 0} → (ℕ → V) → (S → V → S → Type 0) → List ℕ → List ℕ → S → S
+    → Type 0
+HasTaken print R text rest p q =
+    (cs : List ℕ) × (chars text ≡ cs ++ chars rest) × FoldsTo R p (map print cs) q
 
-module _ {S V : Type 0} (print : ℕ → V) (R Q : S → V → S → Type 0) (text rest later : List ℕ) (c : ℕ) (p j q : S) (u : IsUtf8 rest)
+module _ {S V : Type 0} (print : ℕ → V) (R Q : S → V → S → Type 0) (text rest later : List ℕ)
+    (c : ℕ) (p j q : S) (u : IsUtf8 rest)
     (e : rest ≡ encode_utf8 c ++ later) (so : HasTaken print R text rest p j) where
   pub char_taken : R j (print c) q → HasTaken print R text later p q
   char_taken h = (
     so.0 ++ c ∷ [],
-    so.1 ∙ ap (λ x. so.0 ++ x) (chars_past_char rest later c u e) ∙ sym (append_assoc so.0 (c ∷ []) (chars later)),
-    subst (λ vs. FoldsTo R p vs q) (sym (map-append print so.0 (c ∷ []))) (FoldsTo-append R p (map print so.0) j (print c ∷ []) q so.2 (q, h, refl)),
+    so.1 ∙ ap (λ x. so.0 ++ x) (chars_past_char rest later c u e)
+        ∙ sym (append_assoc so.0 (c ∷ []) (chars later)),
+    subst (λ vs. FoldsTo R p vs q) (sym (map-append print so.0 (c ∷ [])))
+        (FoldsTo-append R p (map print so.0) j (print c ∷ []) q so.2 (q, h, refl)),
   )
 
   pub char_stopped : Q j (print c) q → StopsAt ⊥ R Q p (map print (chars text)) q
   char_stopped h =
-      let all : map print so.0 ++ print c ∷ map print (chars later) ≡ map print (chars text) = sym (map-append print so.0 (c ∷ chars later))
-      ∙ ap (λ x. map print (so.0 ++ x)) (sym (chars_past_char rest later c u e)) ∙ ap (map print) (sym so.1) in
-      subst (λ vs. StopsAt ⊥ R Q p vs q) all (StopsAt-append R Q ⊥ p (map print so.0) j (print c ∷ map print (chars later)) q so.2 (inr (inl h)))
+      let all : map print so.0 ++ print c ∷ map print (chars later) ≡ map print (chars text) =
+      sym (map-append print so.0 (c ∷ chars later))
+      ∙ ap (λ x. map print (so.0 ++ x)) (sym (chars_past_char rest later c u e))
+      ∙ ap (map print) (sym so.1) in
+      subst (λ vs. StopsAt ⊥ R Q p vs q) all
+      (StopsAt-append R Q ⊥ p (map print so.0) j (print c ∷ map print (chars later)) q so.2
+      (inr (inl h)))
 
-pub chars_taken : {S V : Type 0} (print : ℕ → V) (R : S → V → S → Type 0) (text rest : List ℕ) (p q : S) → length rest ≡ 0
+pub chars_taken : {S V : Type 0} (print : ℕ → V) (R : S → V → S → Type 0) (text rest : List ℕ)
+    (p q : S) → length rest ≡ 0
     → HasTaken print R text rest p q → FoldsTo R p (map print (chars text)) q
 chars_taken print R text [] p q e so =
-    subst (λ x. FoldsTo R p (map print x) q) (sym (so.1 ∙ ap (λ x. so.0 ++ x) chars-nil ∙ append-nil so.0)) so.2
+    subst (λ x. FoldsTo R p (map print x) q)
+    (sym (so.1 ∙ ap (λ x. so.0 ++ x) chars-nil ∙ append-nil so.0)) so.2
 chars_taken print R text (b ∷ rest) p q e so = absurd (omega arith)
 
 -- what a sink takes as a run, its actor takes as events
 module _ {S A : Type 0} (R Q : S → Action A → S → Type 0) where
   abbrev pub Takes : Performer S A → Event → Performer S A → Type 0
   Takes p e q = (limit : Option ℕ) (m : Mode) → Hooks limit p.unfinished m
-      → Hooks limit q.unfinished (after m e) × FoldsTo (At value_of R) p.sink (given limit m e) q.sink
+      → Hooks limit q.unfinished (after m e)
+      × FoldsTo (At value_of R) p.sink (given limit m e) q.sink
 
   abbrev pub Refuses : Performer S A → Event → Performer S A → Type 0
   Refuses p e q = (limit : Option ℕ) (m : Mode) → Hooks limit p.unfinished m
-      → StopsAt ((wants_memory e ≡ true) × Refused A) (At value_of R) (At value_of Q) p.sink (given limit m e) q.sink
+      → StopsAt ((wants_memory e ≡ true) × Refused A) (At value_of R) (At value_of Q) p.sink
+      (given limit m e) q.sink
 
   abbrev with_sink : Performer S A → S → Performer S A
   with_sink p s = record p { sink = s }
 
-  one_taken : (p : Performer S A) (s : S) (x : ℕ) → R p.sink (action.Print x) s → Takes p (Print x) (record p { sink = s })
+  one_taken : (p : Performer S A) (s : S) (x : ℕ) → R p.sink (action.Print x) s
+      → Takes p (Print x) (record p { sink = s })
   one_taken p s x h = λ limit m k. (k, (s, (action.Print x, refl, h), refl))
 
-  pub run_taken : (xs : List ℕ) (p : Performer S A) (s : S) → FoldsTo R p.sink (map action.Print xs) s → FoldsTo Takes p (map Print xs) (record p { sink = s })
+  pub run_taken : (xs : List ℕ) (p : Performer S A) (s : S)
+      → FoldsTo R p.sink (map action.Print xs) s
+      → FoldsTo Takes p (map Print xs) (record p { sink = s })
   run_taken [] p s e = ap (with_sink p) e
-  run_taken (x ∷ xs) p s (j, t, h) = (record p { sink = j }, one_taken p j x t, run_taken xs (record p { sink = j }) s h)
+  run_taken (x ∷ xs) p s (j, t, h) =
+      (record p { sink = j }, one_taken p j x t, run_taken xs (record p { sink = j }) s h)
 
-  pub run_stopped : (own : Type 0) (xs : List ℕ) (p : Performer S A) (s : S) → StopsAt ⊥ R Q p.sink (map action.Print xs) s
+  pub run_stopped : (own : Type 0) (xs : List ℕ) (p : Performer S A) (s : S)
+      → StopsAt ⊥ R Q p.sink (map action.Print xs) s
       → StopsAtEvent own Takes Refuses p (map Print xs) (record p { sink = s })
   run_stopped own [] p s e = absurd e.0
   run_stopped own (x ∷ xs) p s (inl z) = absurd z.0
-  run_stopped own (x ∷ xs) p s (inr (inl h)) =
-      ([], map Print (x ∷ xs), refl, inr (p, Print x, map Print xs, refl, refl, λ limit m k. inr (inl (action.Print x, refl, h))))
+  run_stopped own (x ∷ xs) p s (inr (inl h)) = (
+    [],
+    map Print (x ∷ xs),
+    refl,
+    inr
+        (p, Print x, map Print xs, refl, refl, λ limit m k. inr (inl (action.Print x, refl, h))),
+  )
   run_stopped own (x ∷ xs) p s (inr (inr (j, t, h))) =
-      stops_then own Takes Refuses (Print x ∷ []) (map Print xs) p (record p { sink = j }) (record p { sink = s })
-      (record p { sink = j }, one_taken p j x t, refl) (run_stopped own xs (record p { sink = j }) s h)
+      stops_then own Takes Refuses (Print x ∷ []) (map Print xs) p (record p { sink = j })
+      (record p { sink = s })
+      (record p { sink = j }, one_taken p j x t, refl)
+      (run_stopped own xs (record p { sink = j }) s h)
 
 -- where a run is refused, its first character may be
-pub refuses_run : {S A : Type 0} (R Q : S → Action A → S → Type 0) (xs : List ℕ) (p q : S) → 0 < length xs
+pub refuses_run : {S A : Type 0} (R Q : S → Action A → S → Type 0) (xs : List ℕ) (p q : S)
+    → 0 < length xs
     → ((x : ℕ) → Q p (action.Print x) q) → StopsAt ⊥ R Q p (map action.Print xs) q
 refuses_run R Q [] p q l refused = absurd (omega arith)
 refuses_run R Q (x ∷ xs) p q l refused = inr (inl (refused x))

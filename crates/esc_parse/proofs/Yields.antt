@@ -25,7 +25,9 @@ use Rattle.esc_parse.specs.declared.unfinished.Unfinished.{Unfinished}
 -- what events make of an actor that gives a sink their values
 module _ {S A : Type 0} (R Q : S → Value A → S → Type 0) where
   abbrev Takes : Performer S A → Event → Performer S A → Type 0
-  Takes p e q = (limit : Option ℕ) (m : Mode) → Hooks limit p.unfinished m → Hooks limit q.unfinished (after m e) × FoldsTo R p.sink (given limit m e) q.sink
+  Takes p e q =
+      (limit : Option ℕ) (m : Mode) → Hooks limit p.unfinished m
+      → Hooks limit q.unfinished (after m e) × FoldsTo R p.sink (given limit m e) q.sink
 
   -- an event that wants memory, which was refused
   abbrev Denied : Event → Type 0
@@ -33,38 +35,53 @@ module _ {S A : Type 0} (R Q : S → Value A → S → Type 0) where
 
   abbrev Refuses : Performer S A → Event → Performer S A → Type 0
   Refuses p e q =
-      (limit : Option ℕ) (m : Mode) → Hooks limit p.unfinished m → StopsAt (Denied e) R Q p.sink (given limit m e) q.sink
+      (limit : Option ℕ) (m : Mode) → Hooks limit p.unfinished m
+      → StopsAt (Denied e) R Q p.sink (given limit m e) q.sink
 
-  pub performs : (limit : Option ℕ) (es : List Event) (p : Performer S A) (m : Mode) (q : Performer S A) → FoldsTo Takes p es q → Hooks limit p.unfinished m
+  pub performs : (limit : Option ℕ) (es : List Event) (p : Performer S A) (m : Mode)
+      (q : Performer S A) → FoldsTo Takes p es q → Hooks limit p.unfinished m
       → Hooks limit q.unfinished (mode_from m es) × FoldsTo R p.sink (values_from limit m es) q.sink
   performs limit [] p m q e k = (subst (λ x. Hooks limit x.unfinished m) e k, ap (λ x. x.sink) e)
   performs limit (e ∷ es) p m q (j, t, h) k =
       let one = t limit m k in
-      let rest = performs limit es j (after m e) q h one.0 in
-      (rest.0, FoldsTo-append R p.sink (given limit m e) j.sink (values_from limit (after m e) es) q.sink one.1 rest.1)
+      let rest = performs limit es j (after m e) q h one.0 in (
+        rest.0,
+        FoldsTo-append R p.sink (given limit m e) j.sink
+            (values_from limit (after m e) es) q.sink one.1 rest.1,
+      )
 
-  pub performs_prefix : (limit : Option ℕ) (own : Type 0) (es : List Event) (p : Performer S A) (m : Mode) (q : Performer S A)
-      → ((before : List Event) (e : Event) (behind : List Event) → es ≡ before ++ e ∷ behind → Denied e → own)
-      → StopsAtEvent own Takes Refuses p es q → Hooks limit p.unfinished m → StopsAt own R Q p.sink (values_from limit m es) q.sink
+  pub performs_prefix : (limit : Option ℕ) (own : Type 0) (es : List Event) (p : Performer S A)
+      (m : Mode) (q : Performer S A)
+      → ((before : List Event) (e : Event) (behind : List Event) → es ≡ before ++ e ∷ behind
+      → Denied e → own)
+      → StopsAtEvent own Takes Refuses p es q → Hooks limit p.unfinished m
+      → StopsAt own R Q p.sink (values_from limit m es) q.sink
   performs_prefix limit own es p m q wants (front, rest, whole, stop) k =
-      let all : values_from {A = A} limit m es ≡ values_from limit m front ++ values_from limit (mode_from m front) rest =
+      let all : values_from {A = A} limit m es
+      ≡ values_from limit m front ++ values_from limit (mode_from m front) rest =
       ap (values_from limit m) whole ∙ values_append limit m front rest in
       let Goal : List (Value A) → Type 0 = λ x. StopsAt own R Q p.sink x q.sink in
       subst Goal (sym all) (elim stop [
         | inl x ↦
             let run = performs limit front p m q x.1 k in
-            StopsAt-append R Q own p.sink (values_from limit m front) q.sink (values_from limit (mode_from m front) rest) q.sink run.1
-            (StopsAt-here R Q own q.sink (values_from limit (mode_from m front) rest) q.sink x.0 refl)
+            StopsAt-append R Q own p.sink (values_from limit m front) q.sink
+            (values_from limit (mode_from m front) rest) q.sink run.1
+            (StopsAt-here R Q own q.sink
+            (values_from limit (mode_from m front) rest) q.sink x.0 refl)
         | inr x ↦
             let (mid, e, more, is, took, refused) = x in
             let run = performs limit front p m mid took k in
             let here = refused limit (mode_from m front) run.0 in
             let own_from : Denied e → own = wants front e more (whole ∙ ap (λ l. front ++ l) is) in
-            let Rest : List Event → Type 0 = λ l. StopsAt own R Q mid.sink (values_from limit (mode_from m front) l) q.sink in
-            StopsAt-append R Q own p.sink (values_from limit m front) mid.sink (values_from limit (mode_from m front) rest) q.sink run.1
+            let Rest : List Event → Type 0 =
+            λ l. StopsAt own R Q mid.sink (values_from limit (mode_from m front) l) q.sink in
+            StopsAt-append R Q own p.sink (values_from limit m front) mid.sink
+            (values_from limit (mode_from m front) rest) q.sink run.1
             (subst Rest (sym is)
-            (StopsAt-longer R Q own mid.sink (given limit (mode_from m front) e) (values_from limit (after (mode_from m front) e) more) q.sink
-            (StopsAt-weaker R Q own (Denied e) mid.sink (given limit (mode_from m front) e) q.sink own_from here)))
+            (StopsAt-longer R Q own mid.sink (given limit (mode_from m front) e)
+            (values_from limit (after (mode_from m front) e) more) q.sink
+            (StopsAt-weaker R Q own (Denied e) mid.sink
+            (given limit (mode_from m front) e) q.sink own_from here)))
       ])
 
   -- the events of a segment by itself
@@ -83,39 +100,51 @@ module _ {S A : Type 0} (R Q : S → Value A → S → Type 0) where
       es p q (λ o. (growing_takes g o.0, o.1)) h)
 
 -- an event behind s that wants memory
-pub added_takes : (limit : Option ℕ) (s b : List ℕ) (before : List Event) (e : Event) (behind : List Event)
+pub added_takes : (limit : Option ℕ) (s b : List ℕ) (before : List Event) (e : Event)
+    (behind : List Event)
     → added_within limit s b ≡ before ++ e ∷ behind → wants_memory e ≡ true → MayTake (s ++ b)
 added_takes limit s b before e behind is h =
     event_takes limit (s ++ b) (events_within limit s ++ before) e behind
-    (sym (events_more limit s b) ∙ ap (λ l. events_within limit s ++ l) is ∙ sym (append_assoc (events_within limit s) before (e ∷ behind))) h
+    (sym (events_more limit s b) ∙ ap (λ l. events_within limit s ++ l) is
+    ∙ sym (append_assoc (events_within limit s) before (e ∷ behind))) h
 
 -- an event that leaves unfinished what was unfinished
-pub hooks_by : {A : Type 0} (limit : Option ℕ) (u : Unfinished A) (s b : List ℕ) (x : Event) → added_within limit s b ≡ x ∷ []
+pub hooks_by : {A : Type 0} (limit : Option ℕ) (u : Unfinished A) (s b : List ℕ) (x : Event)
+    → added_within limit s b ≡ x ∷ []
     → after (mode_from plain (events_within limit s)) x ≡ mode_from plain (events_within limit s)
-    → Hooks limit u (mode_from plain (events_within limit s)) → Hooks limit u (mode_from plain (events_within limit (s ++ b)))
+    → Hooks limit u (mode_from plain (events_within limit s))
+    → Hooks limit u (mode_from plain (events_within limit (s ++ b)))
 hooks_by limit u s b x e same h =
-    subst (λ m. Hooks limit u m) (sym same ∙ ap (mode_from (mode_from plain (events_within limit s))) (sym e) ∙ mode_more limit s b) h
+    subst (λ m. Hooks limit u m)
+    (sym same ∙ ap (mode_from (mode_from plain (events_within limit s))) (sym e)
+    ∙ mode_more limit s b) h
 
 -- a call that feeds b after s
 module _ {S A : Type 0} (R Q : S → Value A → S → Type 0) where
-  pub performs_fed : (limit : Option ℕ) (s b : List ℕ) (p q : Performer S A) → FoldsTo (Takes R Q) p (added_within limit s b) q
+  pub performs_fed : (limit : Option ℕ) (s b : List ℕ) (p q : Performer S A)
+      → FoldsTo (Takes R Q) p (added_within limit s b) q
       → Hooks limit p.unfinished (mode_from plain (events_within limit s))
-      → Hooks limit q.unfinished (mode_from plain (events_within limit (s ++ b))) × FoldsTo R p.sink (yield_within limit s b) q.sink
+      → Hooks limit q.unfinished (mode_from plain (events_within limit (s ++ b)))
+      × FoldsTo R p.sink (yield_within limit s b) q.sink
   performs_fed limit s b p q h k =
-      let w = performs R Q limit (added_within limit s b) p (mode_from plain (events_within limit s)) q h k in (
+      let w = performs R Q limit (added_within limit s b) p
+      (mode_from plain (events_within limit s)) q h k in (
         subst (λ m. Hooks limit q.unfinished m) (mode_more limit s b) w.0,
         subst (λ vs. FoldsTo R p.sink vs q.sink) (sym (yield_is limit s b)) w.1,
       )
 
   pub performs_some : (limit : Option ℕ) (s b : List ℕ) (p q : Performer S A)
-      → StopsAtEvent (MayGrow (s ++ b) × Refused A) (Takes R Q) (Refuses R Q) p (added_within limit s b) q
+      → StopsAtEvent (MayGrow (s ++ b) × Refused A) (Takes R Q) (Refuses R Q) p
+      (added_within limit s b) q
       → Hooks limit p.unfinished (mode_from plain (events_within limit s))
       → StopsAt (MayTake (s ++ b) × Refused A) R Q p.sink (yield_within limit s b) q.sink
   performs_some limit s b p q h k =
       let own : Type 0 = MayTake (s ++ b) × Refused A in
-      let w = performs_prefix R Q limit own (added_within limit s b) p (mode_from plain (events_within limit s)) q
+      let w = performs_prefix R Q limit own (added_within limit s b) p
+      (mode_from plain (events_within limit s)) q
       (λ before e behind is d. (added_takes limit s b before e behind is d.0, d.1))
-      (stops_for (MayGrow (s ++ b) × Refused A) own (Takes R Q) (Refuses R Q) (added_within limit s b) p q
+      (stops_for (MayGrow (s ++ b) × Refused A) own (Takes R Q) (Refuses R Q)
+      (added_within limit s b) p q
       (λ g. (grows_takes (s ++ b) g.0, g.1)) h) k in
       subst (λ vs. StopsAt own R Q p.sink vs q.sink) (sym (yield_is limit s b)) w
 
@@ -123,7 +152,8 @@ module _ {S A : Type 0} (R Q : S → Value A → S → Type 0) where
 pub collects : {A : Type 0} (p : Collect A) (vs : List (Value A)) (q : Collect A)
     → FoldsTo (At value_of (λ p a q. q.actions.items ≡ p.actions.items ++ a ∷ [])) p vs q
     → map value_of q.actions.items ≡ map value_of p.actions.items ++ vs
-collects p [] q e = ap (λ x. map value_of x.actions.items) (sym e) ∙ sym (append-nil (map value_of p.actions.items))
+collects p [] q e =
+    ap (λ x. map value_of x.actions.items) (sym e) ∙ sym (append-nil (map value_of p.actions.items))
 collects p (v ∷ vs) q e =
     collects e.0 vs q e.2
     ∙ ap (λ l. map value_of l ++ vs) e.1.2

@@ -22,7 +22,8 @@ abbrev pub Keeps : {A : Type 0} → Option ℕ → Hooked A → Count → Mode �
 Keeps limit hooked.Nothing c plain = Unit {0}
 Keeps limit (hooked.Sixel b) c (in_sixel ps d) = HoldsSixel ps d b.value × CountsData limit c d
 Keeps limit (hooked.Termcap b) c (in_termcap d) = LeadsTermcap d b × CountsData limit c d
-Keeps limit (hooked.Short b) c (in_short ps is f d) = LeadsShort ps is f d b.value × CountsData limit c d
+Keeps limit (hooked.Short b) c (in_short ps is f d) =
+    LeadsShort ps is f d b.value × CountsData limit c d
 Keeps limit hooked.Entered c entered = Unit {0}
 Keeps limit hooked.Over c m = is_within limit (data_count m) ≡ false
 Keeps limit _ c _ = ⊥
@@ -35,6 +36,10 @@ Begins limit h m = (c : Count) → Counts limit c 0 → Keeps limit h c m
 unfoldable pub Hooks : {A : Type 0} → Option ℕ → Unfinished A → Mode → Type 0
 Hooks limit u m = (u.limit ≡ limit) × Keeps limit u.hooked u.data m
 
+-- this holds of what is unfinished, under the limit, where that is kept
+abbrev pub Hooking : {A : Type 0} → Unfinished A → (Option ℕ → Mode → Type 0) → Type 0
+Hooking u P = (limit : Option ℕ) (m : Mode) → Hooks limit u m → P limit m
+
 -- what is hooked is a mode
 abbrev pub is_mode : {A : Type 0} → Hooked A → Bool
 is_mode hooked.Nothing = false
@@ -46,7 +51,8 @@ is_mode hooked.Over = false
 
 -- a byte of data makes q of p
 abbrev pub TakesData : {A : Type 0} → Unfinished A → ℕ → Unfinished A → Type 0
-TakesData p b q = (is_mode q.hooked ≡ is_mode p.hooked) × ((limit : Option ℕ) (m : Mode) → Hooks limit p m → Hooks limit q (taken m b))
+TakesData p b q =
+    (is_mode q.hooked ≡ is_mode p.hooked) × Hooking p (λ limit m. Hooks limit q (taken m b))
 
 -- so many bytes more are counted without passing the limit
 pub record HasRoom (limit : Option ℕ) (c : Count) (more : ℕ) : Type 0 where
@@ -54,10 +60,12 @@ pub record HasRoom (limit : Option ℕ) (c : Count) (more : ℕ) : Type 0 where
   pub few : c.bytes + more ≤ most
   pub within : is_within limit (c.bytes + more) ≡ true
 
--- The bytes may be what the parser was fed, which keeps no more than the limit of a segment: it has not failed, and keeps what is
--- unfinished of them.
+-- The bytes may be what the parser was fed, which keeps no more than the limit of a segment: it has
+-- not failed, and keeps what is unfinished of them.
 unfoldable pub WasFedWithin : {A : Type 0} → Option ℕ → List ℕ → Parser A → Type 0
-WasFedWithin limit s p = LeadsToWithin limit s p.framer × Hooks limit p.unfinished (mode_from plain (events_within limit s))
+WasFedWithin limit s p =
+    LeadsToWithin limit s p.framer
+    × Hooks limit p.unfinished (mode_from plain (events_within limit s))
 
 -- the same without a limit
 abbrev pub WasFed : {A : Type 0} → List ℕ → Parser A → Type 0

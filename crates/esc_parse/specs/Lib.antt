@@ -5,3 +5,4 @@ pub mod Collected
 pub mod Sixels
 pub mod Images
 pub mod Paired
+pub mod Calls

@@ -1,7 +1,8 @@
 //! From bytes to actions: the [`Parser`], and the sinks that take what it hands out.
 //!
-//! Events go to a [`Performer`](performer::Performer), which makes actions of them and keeps what is unfinished of a device control
-//! string. No text is made of actions here: `esc_write` does that, and `esc_normal` joins the two.
+//! Events go to a [`Performer`](performer::Performer), which makes actions of them and keeps what
+//! is unfinished of a device control string. No text is made of actions here: `esc_write` does
+//! that, and `esc_normal` joins the two.
 #![tactic(auto)]
 
 pub mod commands;

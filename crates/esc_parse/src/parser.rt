@@ -1,14 +1,15 @@
 //! The parser.
-ghost use Rattle.std.specs.Prelude.{◌≡◌, ◌<◌, ◌≤◌, ◌+◌, ℕ, min, List, [], ◌++◌, IfErr, IfNone, IfOk, IfSome, IsTrue, None, OnOk, Option, Some, length, map, take};
+ghost use Rattle.std.specs.Prelude.{◌≡◌, ◌<◌, ◌≤◌, ◌+◌, ℕ, min, List, [], ◌++◌, IfErr, IfOk, IfSome, IsTrue, None, OnOk, Option, Some, length, map, take};
 ghost use Rattle.std.specs.Option.{option_map};
 ghost use Rattle.esc_frame.specs.Counts.{kept_of_cut};
 ghost use Rattle.esc_frame.specs.Limits.{most};
 ghost use Rattle.esc_frame.specs.Segments.{IsCut, Segment};
 ghost use Rattle.esc_frame.specs.Stream.{IsQuietWithin};
 ghost use Rattle.esc_actions.specs.Limited.{data_kept};
-ghost use Rattle.esc_parse.specs.Firsts.{IsFirst, IsFirstStop, IsStop, first};
+ghost use Rattle.esc_parse.specs.Calls.{After, AfterYield, IfFound, IfNoneFound, IsRefused, IsSomeOf, IsStopped, IsTaken, StaysBroken, StopsIn, Yields, YieldsFirst, YieldsNone};
+ghost use Rattle.esc_parse.specs.Firsts.{IsFirstStop, IsStop, first};
 ghost use Rattle.esc_frame.specs.Memory.{MayTake};
-ghost use Rattle.esc_parse.specs.Given.{At, GetsAll, GetsPrefix, StopsAt};
+ghost use Rattle.esc_parse.specs.Given.{At, GetsAll, GetsPrefix};
 ghost use Rattle.esc_parse.specs.Paired.{with_value};
 ghost use Rattle.esc_actions.specs.Meaning.{MayWant, yield_within};
 ghost use Rattle.esc_actions.specs.Values.{control, value_of};
@@ -27,12 +28,13 @@ use std::alloc::{Allocator, Global};
 
 /// Reads a stream of bytes, in whatever chunks it comes, as actions.
 ///
-/// The stream is cut into segments as vt100.net's parser for DEC terminals cuts it, with UTF-8 read by Unicode's Table 3-7
-/// and with application program commands read like other strings. Each call hands out what its bytes add to the meaning of
-/// the bytes that earlier calls were fed, so the chunks make no difference.
+/// The stream is cut into segments as vt100.net's parser for DEC terminals cuts it, with UTF-8 read
+/// by Unicode's Table 3-7 and with application program commands read like other strings. Each call
+/// hands out what its bytes add to the meaning of the bytes that earlier calls were fed, so the
+/// chunks make no difference.
 ///
-/// Where a call returns `ParseError::Memory`, a growth was refused: from then on every call returns `ParseError::Failed`, and
-/// nothing is handed out any more.
+/// Where a call returns `ParseError::Memory`, a growth was refused: from then on every call returns
+/// `ParseError::Failed`, and nothing is handed out any more.
 #[derive(Drop)]
 pub struct Parser<A: Allocator = Global> {
     framer: VTParser<A>,
@@ -56,11 +58,13 @@ impl<A: Allocator + Copy> Parser<A> {
         }
     }
 
-    /// A parser at the beginning of a stream that keeps at most `limit` bytes of a segment. Takes no memory.
+    /// A parser at the beginning of a stream that keeps at most `limit` bytes of a segment. Takes
+    /// no memory.
     ///
-    /// An operating system command, an application program command, and a sixel image, termcap query or short control with more
-    /// data give no action, and a device control string of which the header has more parameter bytes is passed over. The segments
-    /// of the stream are the same as without a limit.
+    /// An operating system command, an application program command, and a sixel image, termcap
+    /// query or short control with more data give no action, and a device control string of which
+    /// the header has more parameter bytes is passed over. The segments of the stream are the same
+    /// as without a limit.
     #[tactic(auto, unfolding(crate::specs::Fed::WasFedWithin))]
     pub fn with_limit(alloc: A, limit: usize) -> Parser<A>
         ensures { WasFedWithin (Some limit) [] result }
@@ -72,15 +76,16 @@ impl<A: Allocator + Copy> Parser<A> {
         }
     }
 
-    /// How many bytes are kept of the segment that is unfinished: of an operating system command its text in UTF-8, of an
-    /// application program command its bytes 20 to 7F, of a device control string its parameter bytes 30 to 39 and 3B until its
-    /// final byte, and after it the data of a sixel image, termcap query or short control. It is 0 once the limit was passed, in
-    /// a mode, where no such segment is unfinished, and after a failure. Without a limit a count past [`usize::MAX`] is
-    /// returned as `usize::MAX`.
+    /// How many bytes are kept of the segment that is unfinished: of an operating system command
+    /// its text in UTF-8, of an application program command its bytes 20 to 7F, of a device control
+    /// string its parameter bytes 30 to 39 and 3B until its final byte, and after it the data of a
+    /// sixel image, termcap query or short control. It is 0 once the limit was passed, in a mode,
+    /// where no such segment is unfinished, and after a failure. Without a limit a count past
+    /// [`usize::MAX`] is returned as `usize::MAX`.
     pub fn kept(&self) -> usize
-        ensures given { (limit : Option ℕ) (s : List ℕ) → WasFedWithin limit s self.now
-            → (gs : List Segment) → IsCut s gs → result ≡ min (kept_of_cut limit gs + data_kept limit s) most }
-        ensures within { (limit : Option ℕ) (s : List ℕ) → WasFedWithin limit s self.now → IfSome limit (λ n. result ≤ n) }
+        ensures given { After self.now (λ limit s. (gs : List Segment) → IsCut s gs
+            → result ≡ min (kept_of_cut limit gs + data_kept limit s) most) }
+        ensures within { After self.now (λ limit s. IfSome limit (λ n. result ≤ n)) }
         ensures failed { IsBroken self.now → result ≡ 0 }
     {
         laws::has_cut();
@@ -90,13 +95,16 @@ impl<A: Allocator + Copy> Parser<A> {
         text.saturating_add(bytes)
     }
 
-    /// Gives the sink, in order, exactly the actions that `bytes` add to what the bytes fed before mean, and hands it back.
+    /// Gives the sink, in order, exactly the actions that `bytes` add to what the bytes fed before
+    /// mean, and hands it back.
     ///
-    /// `ParseError::Memory` says that a growth was refused, the parser's or the sink's: the sink was given a prefix of these
-    /// actions, and the parser has failed. Without the sink's doing it does not come while the stream so far holds only
-    /// characters, stray and broken bytes, controls, lone terminators and escape sequences, whole or cut short. Of
-    /// the stream so far what is unfinished counts alone, by the law [`unfinished_alone`](crate::laws::unfinished_alone).
-    /// `ParseError::Failed` says that an earlier call had been refused a growth: the sink comes back as it was.
+    /// `ParseError::Memory` says that a growth was refused, the parser's or the sink's: the sink
+    /// was given a prefix of these actions, and the parser has failed. Without the sink's doing it
+    /// does not come while the stream so far holds only characters, stray and broken bytes,
+    /// controls, lone terminators and escape sequences, whole or cut short; and of the stream so
+    /// far what is unfinished counts alone, by the law
+    /// [`unfinished_alone`](crate::laws::unfinished_alone). `ParseError::Failed` says that an
+    /// earlier call had been refused a growth: the sink comes back as it was.
     #[tactic(auto, unfolding(crate::specs::Fed::WasFedWithin))]
     pub fn parse_into<S: Sink<Action<A>>>(
         &mut self,
@@ -105,11 +113,13 @@ impl<A: Allocator + Copy> Parser<A> {
     ) -> (Result<(), ParseError>, S)
         requires { S.is_ready sink }
         ensures ready { OnOk result.0 (S.is_ready result.1) }
-        ensures given { (limit : Option ℕ) (s : List ℕ) → WasFedWithin limit s self.old → OnOk result.0 (WasFedWithin limit (s ++ bytes.now) self.new
-            × FoldsTo (At value_of S.takes) sink (yield_within limit s bytes.now) result.1) }
-        ensures refused { (limit : Option ℕ) (s : List ℕ) → WasFedWithin limit s self.old → IfErr result.0 (λ e. (e ≡ ParseError.Memory) × IsBroken self.new
-            × StopsAt (MayTake (s ++ bytes.now) × Refused A) (At value_of S.takes) (At value_of S.refuses) sink (yield_within limit s bytes.now) result.1) }
-        ensures failed { IsBroken self.old → (result.0 ≡ Err ParseError.Failed) × IsBroken self.new × (result.1 ≡ sink) }
+        ensures given { After self.old (λ limit s. OnOk result.0
+            (WasFedWithin limit (s ++ bytes.now) self.new
+            × FoldsTo (At value_of S.takes) sink (yield_within limit s bytes.now) result.1)) }
+        ensures refused { After self.old (λ limit s. IsStopped result.0 self.new
+            (StopsIn S.takes S.refuses limit s bytes.now sink result.1)) }
+        ensures failed { IsBroken self.old
+            → (result.0 ≡ Err ParseError.Failed) × IsBroken self.new × (result.1 ≡ sink) }
     {
         let mut performer = Performer {
             sink,
@@ -133,24 +143,28 @@ impl<A: Allocator + Copy> Parser<A> {
 
     /// The actions that `bytes` add to what the bytes fed before mean, in order.
     ///
-    /// `ParseError::Memory` says that a growth was refused; what came is dropped, and the parser has failed.
-    /// `ParseError::Failed` says that an earlier call had been refused one; the parser stays as it was.
+    /// `ParseError::Memory` says that a growth was refused; what came is dropped, and the parser
+    /// has failed. `ParseError::Failed` says that an earlier call had been refused one; the parser
+    /// stays as it was.
     pub fn parse_as_vec(&mut self, bytes: &[u8]) -> Result<Vec<Action<A>, A>, ParseError>
-        ensures given { (limit : Option ℕ) (s : List ℕ) → WasFedWithin limit s self.old → IfOk result (λ v. WasFedWithin limit (s ++ bytes.now) self.new
-            × (map value_of v.items ≡ yield_within limit s bytes.now)) }
-        ensures handed_out { (limit : Option ℕ) (s : List ℕ) → WasFedWithin limit s self.old → IfOk result (λ v. AreHandedOut (map value_of v.items)) }
-        ensures refused { (limit : Option ℕ) (s : List ℕ) → WasFedWithin limit s self.old → IfErr result (λ e. (e ≡ ParseError.Memory) × IsBroken self.new × MayWant A limit s bytes.now × Refused A) }
-        ensures failed { IsBroken self.old → (result ≡ Err ParseError.Failed) × IsBroken self.new }
+        ensures given { After self.old (λ limit s. IfOk result
+            (λ v. Yields limit s bytes.now self.new (map value_of v.items))) }
+        ensures handed_out { After self.old (λ limit s. IfOk result
+            (λ v. AreHandedOut (map value_of v.items))) }
+        ensures refused { After self.old (λ limit s. IsRefused result self.new
+            (MayWant A limit s bytes.now)) }
+        ensures failed { StaysBroken self.old result self.new }
     {
         laws::yield_handed_out::<A>();
         self.collect(bytes)
     }
 
     fn collect(&mut self, bytes: &[u8]) -> Result<Vec<Action<A>, A>, ParseError>
-        ensures given { (limit : Option ℕ) (s : List ℕ) → WasFedWithin limit s self.old → IfOk result (λ v. WasFedWithin limit (s ++ bytes.now) self.new
-            × (map value_of v.items ≡ yield_within limit s bytes.now)) }
-        ensures refused { (limit : Option ℕ) (s : List ℕ) → WasFedWithin limit s self.old → IfErr result (λ e. (e ≡ ParseError.Memory) × IsBroken self.new × MayWant A limit s bytes.now × Refused A) }
-        ensures failed { IsBroken self.old → (result ≡ Err ParseError.Failed) × IsBroken self.new }
+        ensures given { After self.old (λ limit s. IfOk result
+            (λ v. Yields limit s bytes.now self.new (map value_of v.items))) }
+        ensures refused { After self.old (λ limit s. IsRefused result self.new
+            (MayWant A limit s bytes.now)) }
+        ensures failed { StaysBroken self.old result self.new }
     {
         let sink = Collect {
             actions: Vec::new(self.alloc),
@@ -178,8 +192,9 @@ impl<A: Allocator + Copy> Parser<A> {
     ghost use Rattle.std.specs.List.{FoldsTo};
     ghost use Rattle.esc_parse.specs.Fed.{IsBroken, WasFed, WasFedWithin};
 
-    // Gives the sink, in order, the actions that a prefix of `bytes` adds, and hands it back, with the length of the prefix.
-    // All but the last byte of it add nothing and leave a segment unfinished.
+    // Gives the sink, in order, the actions that a prefix of `bytes` adds, and hands it back, with
+    // the length of the prefix. All but the last byte of it add nothing and leave a segment
+    // unfinished.
     #[tactic(auto, unfolding(crate::specs::Fed::WasFedWithin))]
     fn feed_some<S: Sink<Action<A>>>(
         &mut self,
@@ -187,14 +202,18 @@ impl<A: Allocator + Copy> Parser<A> {
         sink: S,
     ) -> (Result<usize, ParseError>, S)
         requires { S.is_ready sink }
-        ensures count { IfOk result.0 (λ n. (n ≤ length bytes.now) × (0 < length bytes.now → 0 < n)) }
+        ensures count { IfOk result.0 (λ n. IsTaken n bytes.now) }
         ensures empty { length bytes.now ≡ 0 → result.1 ≡ sink }
-        ensures given { (limit : Option ℕ) (s : List ℕ) → WasFedWithin limit s self.old → IfOk result.0 (λ n. WasFedWithin limit (s ++ take n bytes.now) self.new
-            × FoldsTo (At value_of S.takes) sink (yield_within limit s (take n bytes.now)) result.1) }
-        ensures quiet { (limit : Option ℕ) (s : List ℕ) → WasFedWithin limit s self.old → IfOk result.0 (λ n. IsQuietWithin limit s bytes.now n) }
-        ensures refused { (limit : Option ℕ) (s : List ℕ) → WasFedWithin limit s self.old → IfErr result.0 (λ e. (e ≡ ParseError.Memory) × IsBroken self.new
-            × StopsAt (MayTake (s ++ bytes.now) × Refused A) (At value_of S.takes) (At value_of S.refuses) sink (yield_within limit s bytes.now) result.1) }
-        ensures failed { IsBroken self.old → (result.0 ≡ Err ParseError.Failed) × IsBroken self.new × (result.1 ≡ sink) }
+        ensures given { After self.old (λ limit s. IfOk result.0 (λ n.
+            WasFedWithin limit (s ++ take n bytes.now) self.new
+            × FoldsTo (At value_of S.takes) sink (yield_within limit s (take n bytes.now))
+            result.1)) }
+        ensures quiet { After self.old (λ limit s. IfOk result.0
+            (λ n. IsQuietWithin limit s bytes.now n)) }
+        ensures refused { After self.old (λ limit s. IsStopped result.0 self.new
+            (StopsIn S.takes S.refuses limit s bytes.now sink result.1)) }
+        ensures failed { IsBroken self.old
+            → (result.0 ≡ Err ParseError.Failed) × IsBroken self.new × (result.1 ≡ sink) }
     {
         let mut performer = Performer {
             sink,
@@ -216,28 +235,37 @@ impl<A: Allocator + Copy> Parser<A> {
         }
     }
 
-    // The first action that a prefix of `bytes` adds, where it adds one, and the length of the prefix.
+    // The first action that a prefix of `bytes` adds, where it adds one, and the length of the
+    // prefix.
     fn first_in(&mut self, bytes: &[u8]) -> Result<(usize, Option<Action<A>>), ParseError>
-        ensures count { IfOk result (λ x. (x.0 ≤ length bytes.now) × (0 < length bytes.now → 0 < x.0)) }
+        ensures count { IfOk result (λ x. IsTaken x.0 bytes.now) }
         ensures empty { length bytes.now ≡ 0 → IfOk result (λ x. x.1 ≡ None) }
-        ensures given { (limit : Option ℕ) (s : List ℕ) → WasFedWithin limit s self.old → IfOk result (λ x. WasFedWithin limit (s ++ take x.0 bytes.now) self.new
-            × (option_map value_of x.1 ≡ first (yield_within limit s (take x.0 bytes.now)))) }
-        ensures quiet { (limit : Option ℕ) (s : List ℕ) → WasFedWithin limit s self.old → IfOk result (λ x. IsQuietWithin limit s bytes.now x.0) }
-        ensures refused { (limit : Option ℕ) (s : List ℕ) → WasFedWithin limit s self.old → IfErr result (λ e. (e ≡ ParseError.Memory) × IsBroken self.new × MayTake (s ++ bytes.now) × Refused A) }
-        ensures failed { IsBroken self.old → (result ≡ Err ParseError.Failed) × IsBroken self.new }
+        ensures given { After self.old (λ limit s. IfOk result (λ x.
+            WasFedWithin limit (s ++ take x.0 bytes.now) self.new
+            × (option_map value_of x.1 ≡ first (yield_within limit s (take x.0 bytes.now))))) }
+        ensures quiet { After self.old (λ limit s. IfOk result
+            (λ x. IsQuietWithin limit s bytes.now x.0)) }
+        ensures refused { After self.old (λ limit s. IsRefused result self.new
+            (MayTake (s ++ bytes.now))) }
+        ensures failed { StaysBroken self.old result self.new }
     {
         let (taken, First { action }) = self.feed_some(bytes, First { action: None });
         paired(taken, action)
     }
 
-    // The first action of the shortest prefix of `bytes` that adds one, and the length of the prefix.
+    // The first action of the shortest prefix of `bytes` that adds one, and the length of the
+    // prefix.
     fn first_of(&mut self, bytes: &[u8]) -> Result<Option<(Action<A>, usize)>, ParseError>
-        ensures count { IfOk result (λ r. IfSome r (λ x. (0 < x.1) × (x.1 ≤ length bytes.now))) }
-        ensures some { (limit : Option ℕ) (s : List ℕ) → WasFedWithin limit s self.old → IfOk result (λ r. IfSome r (λ x. WasFedWithin limit (s ++ take x.1 bytes.now) self.new × IsFirst limit s bytes.now (value_of x.0) x.1)) }
-        ensures handed_out { (limit : Option ℕ) (s : List ℕ) → WasFedWithin limit s self.old → IfOk result (λ r. IfSome r (λ x. IsHandedOut (value_of x.0))) }
-        ensures none { (limit : Option ℕ) (s : List ℕ) → WasFedWithin limit s self.old → IfOk result (λ r. IfNone r (WasFedWithin limit (s ++ bytes.now) self.new × (yield_within {A = A} limit s bytes.now ≡ []))) }
-        ensures refused { (limit : Option ℕ) (s : List ℕ) → WasFedWithin limit s self.old → IfErr result (λ e. (e ≡ ParseError.Memory) × IsBroken self.new × MayTake (s ++ bytes.now) × Refused A) }
-        ensures failed { IsBroken self.old → (result ≡ Err ParseError.Failed) × IsBroken self.new }
+        ensures count { IfFound result (λ x. IsSomeOf x.1 bytes.now) }
+        ensures some { After self.old (λ limit s. IfFound result
+            (λ x. YieldsFirst limit s bytes.now self.new (value_of x.0) x.1)) }
+        ensures handed_out { After self.old (λ limit s. IfFound result
+            (λ x. IsHandedOut (value_of x.0))) }
+        ensures none { After self.old (λ limit s. IfNoneFound result
+            (YieldsNone limit s bytes.now self.new)) }
+        ensures refused { After self.old (λ limit s. IsRefused result self.new
+            (MayTake (s ++ bytes.now))) }
+        ensures failed { StaysBroken self.old result self.new }
     {
         laws::yield_handed_out::<A>();
         let mut at = 0;
@@ -259,29 +287,35 @@ impl<A: Allocator + Copy> Parser<A> {
     #[tactic(auto, unfolding(crate::specs::Fed::WasFedWithin))]
     #[cold]
     fn first_control(&self, bytes: &[u8]) -> Option<ControlCode>
-        ensures given { (limit : Option ℕ) (s : List ℕ) → WasFedWithin limit s self.now → IfSome result (λ c. WasFedWithin limit (s ++ take 1 bytes.now) self.now × IsFirst {A = A} limit s bytes.now (control c) 1) }
+        ensures given { After self.now (λ limit s. IfSome result
+            (λ c. YieldsFirst limit s bytes.now self.now (control c) 1)) }
         ensures count { IfSome result (λ c. 0 < length bytes.now) }
         ensures failed { IsBroken self.now → result ≡ None }
     {
         ControlCode::from_byte(self.framer.first_control(bytes)?)
     }
 
-    /// The first action of the shortest prefix of `bytes` that adds one to what the bytes fed before mean, and the length of
-    /// this prefix, which is all that was fed; further actions of its last byte are dropped. `None` where `bytes` add none:
-    /// then all were fed.
+    /// The first action of the shortest prefix of `bytes` that adds one to what the bytes fed
+    /// before mean, and the length of this prefix, which is all that was fed; further actions of
+    /// its last byte are dropped. `None` where `bytes` add none: then all were fed.
     ///
-    /// `ParseError::Memory` says that a growth was refused; the parser has failed. As from [`parse`](Parser::parse), it does not
-    /// come while the stream holds only what takes no memory. `ParseError::Failed` says that an earlier call had been refused a
-    /// growth, also where `bytes` are empty.
+    /// `ParseError::Memory` says that a growth was refused; the parser has failed. As from
+    /// [`parse`](Parser::parse), it does not come while the stream holds only what takes no memory.
+    /// `ParseError::Failed` says that an earlier call had been refused a growth, also where `bytes`
+    /// are empty.
     #[tactic(auto, unfolding(crate::specs::Fed::WasFedWithin))]
     #[inline]
     pub fn parse_first(&mut self, bytes: &[u8]) -> Result<Option<(Action<A>, usize)>, ParseError>
-        ensures count { IfOk result (λ r. IfSome r (λ x. (0 < x.1) × (x.1 ≤ length bytes.now))) }
-        ensures some { (limit : Option ℕ) (s : List ℕ) → WasFedWithin limit s self.old → IfOk result (λ r. IfSome r (λ x. WasFedWithin limit (s ++ take x.1 bytes.now) self.new × IsFirst limit s bytes.now (value_of x.0) x.1)) }
-        ensures handed_out { (limit : Option ℕ) (s : List ℕ) → WasFedWithin limit s self.old → IfOk result (λ r. IfSome r (λ x. IsHandedOut (value_of x.0))) }
-        ensures none { (limit : Option ℕ) (s : List ℕ) → WasFedWithin limit s self.old → IfOk result (λ r. IfNone r (WasFedWithin limit (s ++ bytes.now) self.new × (yield_within {A = A} limit s bytes.now ≡ []))) }
-        ensures refused { (limit : Option ℕ) (s : List ℕ) → WasFedWithin limit s self.old → IfErr result (λ e. (e ≡ ParseError.Memory) × IsBroken self.new × MayTake (s ++ bytes.now) × Refused A) }
-        ensures failed { IsBroken self.old → (result ≡ Err ParseError.Failed) × IsBroken self.new }
+        ensures count { IfFound result (λ x. IsSomeOf x.1 bytes.now) }
+        ensures some { After self.old (λ limit s. IfFound result
+            (λ x. YieldsFirst limit s bytes.now self.new (value_of x.0) x.1)) }
+        ensures handed_out { After self.old (λ limit s. IfFound result
+            (λ x. IsHandedOut (value_of x.0))) }
+        ensures none { After self.old (λ limit s. IfNoneFound result
+            (YieldsNone limit s bytes.now self.new)) }
+        ensures refused { After self.old (λ limit s. IsRefused result self.new
+            (MayTake (s ++ bytes.now))) }
+        ensures failed { StaysBroken self.old result self.new }
     {
         laws::yield_handed_out::<A>();
         match self.framer.first_char(bytes) {
@@ -299,13 +333,17 @@ impl<A: Allocator + Copy> Parser<A> {
         bytes: &[u8],
         actions: Vec<Action<A>, A>,
     ) -> Result<(usize, Vec<Action<A>, A>), ParseError>
-        ensures count { IfOk result (λ x. (x.0 ≤ length bytes.now) × (0 < length bytes.now → 0 < x.0)) }
+        ensures count { IfOk result (λ x. IsTaken x.0 bytes.now) }
         ensures empty { length bytes.now ≡ 0 → IfOk result (λ x. x.1 ≡ actions) }
-        ensures given { (limit : Option ℕ) (s : List ℕ) → WasFedWithin limit s self.old → IfOk result (λ x. WasFedWithin limit (s ++ take x.0 bytes.now) self.new
-            × (map value_of x.1.items ≡ map value_of actions.items ++ yield_within limit s (take x.0 bytes.now))) }
-        ensures quiet { (limit : Option ℕ) (s : List ℕ) → WasFedWithin limit s self.old → IfOk result (λ x. IsQuietWithin limit s bytes.now x.0) }
-        ensures refused { (limit : Option ℕ) (s : List ℕ) → WasFedWithin limit s self.old → IfErr result (λ e. (e ≡ ParseError.Memory) × IsBroken self.new × MayWant A limit s bytes.now × Refused A) }
-        ensures failed { IsBroken self.old → (result ≡ Err ParseError.Failed) × IsBroken self.new }
+        ensures given { After self.old (λ limit s. IfOk result (λ x.
+            WasFedWithin limit (s ++ take x.0 bytes.now) self.new
+            × (map value_of x.1.items
+            ≡ map value_of actions.items ++ yield_within limit s (take x.0 bytes.now)))) }
+        ensures quiet { After self.old (λ limit s. IfOk result
+            (λ x. IsQuietWithin limit s bytes.now x.0)) }
+        ensures refused { After self.old (λ limit s. IsRefused result self.new
+            (MayWant A limit s bytes.now)) }
+        ensures failed { StaysBroken self.old result self.new }
     {
         let (taken, Collect { actions }) = self.feed_some(bytes, Collect { actions });
         paired(taken, actions)
@@ -315,29 +353,39 @@ impl<A: Allocator + Copy> Parser<A> {
     #[tactic(auto, unfolding(crate::specs::Fed::WasFedWithin))]
     fn stops(&self, actions: &[Action<A>]) -> bool
         ensures some { IsTrue result → 0 < length actions.now }
-        ensures yes { (limit : Option ℕ) (s b : List ℕ) → WasFedWithin limit (s ++ b) self.now → map value_of actions.now ≡ yield_within limit s b → IsTrue result → IsStop A limit s b }
-        ensures no { (limit : Option ℕ) (s b : List ℕ) → WasFedWithin limit (s ++ b) self.now → map value_of actions.now ≡ yield_within limit s b → IsStop A limit s b → IsTrue result }
+        ensures yes { AfterYield self.now (map value_of actions.now)
+            (λ limit s b. IsTrue result → IsStop A limit s b) }
+        ensures no { AfterYield self.now (map value_of actions.now)
+            (λ limit s b. IsStop A limit s b → IsTrue result) }
     {
         !actions.is_empty() && self.framer.is_ground()
     }
 
-    /// All actions of the shortest prefix of `bytes` that adds one and leaves no segment unfinished, and the length of this
-    /// prefix, which is all that was fed. So no action of what follows belongs to a sequence or a string that began before:
-    /// a string comes with its terminator. `None` where there is no such prefix: then all `bytes` were fed, and what they
+    /// All actions of the shortest prefix of `bytes` that adds one and leaves no segment
+    /// unfinished, and the length of this prefix, which is all that was fed. So no action of what
+    /// follows belongs to a sequence or a string that began before: a string comes with its
+    /// terminator. `None` where there is no such prefix: then all `bytes` were fed, and what they
     /// added is dropped.
     ///
-    /// `ParseError::Memory` says that a growth was refused; what came is dropped, and the parser has failed.
-    /// `ParseError::Failed` says that an earlier call had been refused one, also where `bytes` are empty.
+    /// `ParseError::Memory` says that a growth was refused; what came is dropped, and the parser
+    /// has failed. `ParseError::Failed` says that an earlier call had been refused one, also where
+    /// `bytes` are empty.
     pub fn parse_first_as_vec(
         &mut self,
         bytes: &[u8],
     ) -> Result<Option<(Vec<Action<A>, A>, usize)>, ParseError>
-        ensures count { IfOk result (λ r. IfSome r (λ x. (0 < x.1) × (x.1 ≤ length bytes.now))) }
-        ensures some { (limit : Option ℕ) (s : List ℕ) → WasFedWithin limit s self.old → IfOk result (λ r. IfSome r (λ x. WasFedWithin limit (s ++ take x.1 bytes.now) self.new × IsFirstStop limit s bytes.now (map value_of x.0.items) x.1)) }
-        ensures handed_out { (limit : Option ℕ) (s : List ℕ) → WasFedWithin limit s self.old → IfOk result (λ r. IfSome r (λ x. AreHandedOut (map value_of x.0.items))) }
-        ensures none { (limit : Option ℕ) (s : List ℕ) → WasFedWithin limit s self.old → IfOk result (λ r. IfNone r (WasFedWithin limit (s ++ bytes.now) self.new × ((k : ℕ) → k ≤ length bytes.now → IsStop A limit s (take k bytes.now) → ⊥))) }
-        ensures refused { (limit : Option ℕ) (s : List ℕ) → WasFedWithin limit s self.old → IfErr result (λ e. (e ≡ ParseError.Memory) × IsBroken self.new × MayWant A limit s bytes.now × Refused A) }
-        ensures failed { IsBroken self.old → (result ≡ Err ParseError.Failed) × IsBroken self.new }
+        ensures count { IfFound result (λ x. IsSomeOf x.1 bytes.now) }
+        ensures some { After self.old (λ limit s. IfFound result (λ x.
+            WasFedWithin limit (s ++ take x.1 bytes.now) self.new
+            × IsFirstStop limit s bytes.now (map value_of x.0.items) x.1)) }
+        ensures handed_out { After self.old (λ limit s. IfFound result
+            (λ x. AreHandedOut (map value_of x.0.items))) }
+        ensures none { After self.old (λ limit s. IfNoneFound result
+            (WasFedWithin limit (s ++ bytes.now) self.new
+            × ((k : ℕ) → k ≤ length bytes.now → IsStop A limit s (take k bytes.now) → ⊥))) }
+        ensures refused { After self.old (λ limit s. IsRefused result self.new
+            (MayWant A limit s bytes.now)) }
+        ensures failed { StaysBroken self.old result self.new }
     {
         laws::yield_handed_out::<A>();
         let mut at = 0;
@@ -363,25 +411,33 @@ impl<A: Allocator + Copy> Parser<A> {
 impl Parser {
     ghost use Rattle.esc_parse.specs.Fed.{IsBroken, WasFed, WasFedWithin};
 
-    /// Calls `callback` on each action that `bytes` add to what the bytes fed before mean, in order.
+    /// Calls `callback` on each action that `bytes` add to what the bytes fed before mean, in
+    /// order.
     ///
-    /// This call is for the global allocator alone, since a bound `FnMut(Action<A>)` over an allocator `A` cannot be had yet;
-    /// and its clause says that the closure got these actions, but not that it got no call more. Where either matters, use
-    /// [`parse_into`](Parser::parse_into).
+    /// This call is for the global allocator alone, since a bound `FnMut(Action<A>)` over an
+    /// allocator `A` cannot be had yet; and its clause says that the closure got these actions, but
+    /// not that it got no call more. Where either matters, use [`parse_into`](Parser::parse_into).
     ///
-    /// `ParseError::Memory` says that a growth was refused, after a prefix of these actions; the parser has failed. It does
-    /// not come while the stream so far holds only characters, stray and broken bytes, controls, lone terminators and
-    /// escape sequences, whole or cut short: for these no memory is taken. `ParseError::Failed` says that an earlier call
-    /// had been refused a growth; the closure is not called then, and the parser stays as it was.
+    /// `ParseError::Memory` says that a growth was refused, after a prefix of these actions; the
+    /// parser has failed. It does not come while the stream so far holds only characters, stray and
+    /// broken bytes, controls, lone terminators and escape sequences, whole or cut short: for these
+    /// no memory is taken. `ParseError::Failed` says that an earlier call had been refused a
+    /// growth; the closure is not called then, and the parser stays as it was.
     #[tactic(auto, unfolding(crate::specs::Fed::WasFedWithin))]
     pub fn parse<F: FnMut(Action)>(&mut self, bytes: &[u8], callback: F) -> Result<(), ParseError>
         requires { (IsBroken self.old → ⊥) → F.IsAlwaysCallable callback }
-        ensures given { (limit : Option ℕ) (s : List ℕ) → WasFedWithin limit s self.old → OnOk result (WasFedWithin limit (s ++ bytes.now) self.new
-            × GetsAll (At value_of (λ p a q. F.step p a tt q)) callback (yield_within limit s bytes.now)) }
-        ensures handed_out { (limit : Option ℕ) (s : List ℕ) → WasFedWithin limit s self.old → AreHandedOut {A = Global} (yield_within limit s bytes.now) }
-        ensures refused { (limit : Option ℕ) (s : List ℕ) → WasFedWithin limit s self.old → IfErr result (λ e. (e ≡ ParseError.Memory) × IsBroken self.new
-            × MayTake (s ++ bytes.now) × Refused Global × GetsPrefix (At value_of (λ p a q. F.step p a tt q)) callback (yield_within limit s bytes.now)) }
-        ensures failed { IsBroken self.old → (result ≡ Err ParseError.Failed) × IsBroken self.new }
+        ensures given { After self.old (λ limit s. OnOk result
+            (WasFedWithin limit (s ++ bytes.now) self.new
+            × GetsAll (At value_of (λ p a q. F.step p a tt q)) callback
+            (yield_within limit s bytes.now))) }
+        ensures handed_out { After self.old (λ limit s.
+            AreHandedOut {A = Global} (yield_within limit s bytes.now)) }
+        ensures refused { After self.old (λ limit s. IfErr result (λ e.
+            (e ≡ ParseError.Memory) × IsBroken self.new
+            × MayTake (s ++ bytes.now) × Refused Global
+            × GetsPrefix (At value_of (λ p a q. F.step p a tt q)) callback
+            (yield_within limit s bytes.now))) }
+        ensures failed { StaysBroken self.old result self.new }
     {
         laws::yield_handed_out::<Global>();
         if self.framer.has_failed() {

@@ -1,9 +1,9 @@
 //! From events to actions.
-ghost use Rattle.std.specs.Prelude.{◌≡◌, ℕ, [], ◌∷◌, true, IfOk, MatchResult, OnErr, OnOk, Option, map};
+ghost use Rattle.std.specs.Prelude.{◌≡◌, ℕ, [], ◌∷◌, true, IfOk, OnErr, OnOk, Option, map};
 ghost use Rattle.std.specs.List.{FoldsTo};
 ghost use Rattle.esc_values.specs.Clear.{parts_of};
 ghost use Rattle.esc_sequences.specs.Csis.{csi_of, csi_value};
-ghost use Rattle.esc_parse.specs.Given.{At, StopsAt};
+ghost use Rattle.esc_parse.specs.Given.{At, Gives, StopsAt};
 ghost use Rattle.esc_actions.specs.Values.{Mode, after, csi, datum, given, lone, osc, value_of, wants_memory};
 ghost use Rattle.esc_osc.specs.Reading.{meaning as command_meant};
 ghost use Rattle.esc_osc.specs.declared.command.OperatingSystemCommand.{OperatingSystemCommand};
@@ -49,8 +49,8 @@ fn give_all<A: Allocator, S: Sink<Action<A>>>(
 ) -> Result<(), AllocError>
     requires { S.is_ready sink.old }
     ensures ready { OnOk result (S.is_ready sink.new) }
-    ensures given { MatchResult result (λ _. FoldsTo (At value_of S.takes) sink.old (map csi (map csi_value values.items)) sink.new)
-        (λ _. StopsAt (Refused A) (At value_of S.takes) (At value_of S.refuses) sink.old (map csi (map csi_value values.items)) sink.new) }
+    ensures given { Gives (Refused A) S.takes S.refuses result sink.old
+        (map csi (map csi_value values.items)) sink.new }
 {
     for value in values {
         sink.receive(Action::CSI(value))?;
@@ -58,7 +58,8 @@ fn give_all<A: Allocator, S: Sink<Action<A>>>(
     Ok(())
 }
 
-// Gives the sink what a control sequence means, out of the way of the code that gives one short rendition.
+// Gives the sink what a control sequence means, out of the way of the code that gives one short
+// rendition.
 #[inline(never)]
 fn give_sequence<A: Allocator + Copy, S: Sink<Action<A>>>(
     sink: &mut S,
@@ -69,8 +70,8 @@ fn give_sequence<A: Allocator + Copy, S: Sink<Action<A>>>(
 ) -> Result<(), AllocError>
     requires { S.is_ready sink.old }
     ensures ready { OnOk result (S.is_ready sink.new) }
-    ensures given { MatchResult result (λ _. FoldsTo (At value_of S.takes) sink.old (map csi (csi_of params.now parameters_truncated byte)) sink.new)
-        (λ _. StopsAt (Refused A) (At value_of S.takes) (At value_of S.refuses) sink.old (map csi (csi_of params.now parameters_truncated byte)) sink.new) }
+    ensures given { Gives (Refused A) S.takes S.refuses result sink.old
+        (map csi (csi_of params.now parameters_truncated byte)) sink.new }
 {
     match CSI::parse_one(alloc, params, parameters_truncated, byte) {
         Ok(Some(value)) => sink.receive(Action::CSI(value)),
@@ -90,8 +91,8 @@ fn give_several<A: Allocator + Copy, S: Sink<Action<A>>>(
 ) -> Result<(), AllocError>
     requires { S.is_ready sink.old }
     ensures ready { OnOk result (S.is_ready sink.new) }
-    ensures given { MatchResult result (λ _. FoldsTo (At value_of S.takes) sink.old (map csi (csi_of params.now parameters_truncated byte)) sink.new)
-        (λ _. StopsAt (Refused A) (At value_of S.takes) (At value_of S.refuses) sink.old (map csi (csi_of params.now parameters_truncated byte)) sink.new) }
+    ensures given { Gives (Refused A) S.takes S.refuses result sink.old
+        (map csi (csi_of params.now parameters_truncated byte)) sink.new }
 {
     match CSI::parse(alloc, params, parameters_truncated, byte) {
         Ok(values) => give_all(sink, values),
@@ -110,8 +111,8 @@ fn give_made<A: Allocator + Copy, S: Sink<Action<A>>>(
 ) -> Result<(), AllocError>
     requires { S.is_ready sink.old }
     ensures ready { OnOk result (S.is_ready sink.new) }
-    ensures given { MatchResult result (λ _. FoldsTo (At value_of S.takes) sink.old (map csi (csi_of params.now parameters_truncated byte)) sink.new)
-        (λ _. StopsAt (Refused A) (At value_of S.takes) (At value_of S.refuses) sink.old (map csi (csi_of params.now parameters_truncated byte)) sink.new) }
+    ensures given { Gives (Refused A) S.takes S.refuses result sink.old
+        (map csi (csi_of params.now parameters_truncated byte)) sink.new }
 {
     match short_rendition(params, parameters_truncated, byte) {
         Some(sgr) => sink.receive(Action::CSI(CSI::Sgr(sgr))),
@@ -130,8 +131,8 @@ fn give_entries<A: Allocator + Copy, S: Sink<Action<A>>>(
 ) -> Result<(), AllocError>
     requires { S.is_ready sink.old }
     ensures ready { OnOk result (S.is_ready sink.new) }
-    ensures given { MatchResult result (λ _. FoldsTo (At value_of S.takes) sink.old (map csi (csi_of params.now parameters_truncated byte)) sink.new)
-        (λ _. StopsAt (Refused A) (At value_of S.takes) (At value_of S.refuses) sink.old (map csi (csi_of params.now parameters_truncated byte)) sink.new) }
+    ensures given { Gives (Refused A) S.takes S.refuses result sink.old
+        (map csi (csi_of params.now parameters_truncated byte)) sink.new }
 {
     match sink.receive_sequence(params, parameters_truncated, byte) {
         Ok(true) => Ok(()),
@@ -148,8 +149,9 @@ fn give_command<A: Allocator + Copy, S: Sink<Action<A>>>(
 ) -> Result<(), AllocError>
     requires { S.is_ready sink.old }
     ensures ready { OnOk result (S.is_ready sink.new) }
-    ensures given { (c : OperatingSystemCommand A) → IfOk command (λ d. d ≡ c) → OnErr command (Refused A) → MatchResult result (λ _. FoldsTo (At value_of S.takes) sink.old (osc c ∷ []) sink.new)
-        (λ _. StopsAt (Refused A) (At value_of S.takes) (At value_of S.refuses) sink.old (osc c ∷ []) sink.new) }
+    ensures given { (c : OperatingSystemCommand A) → IfOk command (λ d. d ≡ c)
+        → OnErr command (Refused A)
+        → Gives (Refused A) S.takes S.refuses result sink.old (osc c ∷ []) sink.new }
 {
     match command {
         Ok(command) => match Boxed::new(alloc, command) {
@@ -168,8 +170,8 @@ fn give_text<A: Allocator + Copy, S: Sink<Action<A>>>(
 ) -> Result<(), AllocError>
     requires { S.is_ready sink.old }
     ensures ready { OnOk result (S.is_ready sink.new) }
-    ensures given { MatchResult result (λ _. FoldsTo (At value_of S.takes) sink.old (osc (command_meant (parts_of text.now)) ∷ []) sink.new)
-        (λ _. StopsAt (Refused A) (At value_of S.takes) (At value_of S.refuses) sink.old (osc (command_meant (parts_of text.now)) ∷ []) sink.new) }
+    ensures given { Gives (Refused A) S.takes S.refuses result sink.old
+        (osc (command_meant (parts_of text.now)) ∷ []) sink.new }
 {
     match sink.receive_command(text) {
         Ok(true) => Ok(()),
@@ -182,8 +184,8 @@ fn give_text<A: Allocator + Copy, S: Sink<Action<A>>>(
 fn give_data<A: Allocator, S: Sink<Action<A>>>(sink: &mut S, bytes: &[u8]) -> Result<(), AllocError>
     requires { S.is_ready sink.old }
     ensures ready { OnOk result (S.is_ready sink.new) }
-    ensures given { MatchResult result (λ _. FoldsTo (At value_of S.takes) sink.old (map datum bytes.now) sink.new)
-        (λ _. StopsAt ⊥ (At value_of S.takes) (At value_of S.refuses) sink.old (map datum bytes.now) sink.new) }
+    ensures given { Gives ⊥ S.takes S.refuses result sink.old
+        (map datum bytes.now) sink.new }
 {
     for byte in bytes {
         match sink.receive(Action::DeviceControl(DeviceControlMode::Data(*byte))) {
@@ -198,10 +200,12 @@ impl<A: Allocator + Copy, S: Sink<Action<A>>> VTActor for Performer<S, A> {
     ghost use Rattle.esc_parse.specs.Fed.{Hooks};
 
     ghost takes = { λ p e q. (limit : Option ℕ) (m : Mode) → Hooks limit p.unfinished m
-        → Hooks limit q.unfinished (after m e) × FoldsTo (At value_of S.takes) p.sink (given limit m e) q.sink };
+        → Hooks limit q.unfinished (after m e)
+        × FoldsTo (At value_of S.takes) p.sink (given limit m e) q.sink };
 
     ghost refuses = { λ p e q. (limit : Option ℕ) (m : Mode) → Hooks limit p.unfinished m
-        → StopsAt ((wants_memory e ≡ true) × Refused A) (At value_of S.takes) (At value_of S.refuses) p.sink (given limit m e) q.sink };
+        → StopsAt ((wants_memory e ≡ true) × Refused A) (At value_of S.takes)
+        (At value_of S.refuses) p.sink (given limit m e) q.sink };
 
     ghost is_ready = { λ p. S.is_ready p.sink };
 

@@ -6,7 +6,7 @@ ghost use Rattle.esc_values.specs.Clear.{is_clear, parts_of};
 ghost use Rattle.esc_sequences.specs.Csis.{CsiValue, csi_of};
 ghost use Rattle.esc_frame.specs.Scans.{is_text_byte};
 ghost use Rattle.esc_parse.specs.Collected.{Gathers};
-ghost use Rattle.esc_parse.specs.Given.{By, StopsAt, first_of};
+ghost use Rattle.esc_parse.specs.Given.{By, Receives, StopsAt, first_of};
 ghost use Rattle.esc_parse.specs.Images.{is_image};
 ghost use Rattle.esc_actions.specs.Values.{csi, osc, value_of};
 ghost use Rattle.esc_osc.specs.Reading.{meaning as command_meant};
@@ -52,10 +52,12 @@ impl<A: Allocator> FromChar for Action<A> {
     }
 }
 
-/// What takes the actions of a stream, one after another: the receiver of [`Parser::parse_into`](crate::parser::Parser::parse_into).
+/// What takes the actions of a stream, one after another: the receiver of
+/// [`Parser::parse_into`](crate::parser::Parser::parse_into).
 ///
-/// An implementation says what an action makes of its value (`takes`), what a refused call leaves (`refuses`), and when it may
-/// be called (`is_ready`). After a call that returns `AllocError` no more calls are made.
+/// An implementation says what an action makes of its value (`takes`), what a refused call leaves
+/// (`refuses`), and when it may be called (`is_ready`). After a call that returns `AllocError` no
+/// more calls are made.
 pub trait Sink<T: FromChar> {
     // the next action may be given
     ghost is_ready: { Self → Type 0 };
@@ -70,18 +72,20 @@ pub trait Sink<T: FromChar> {
     fn receive(&mut self, action: T) -> Result<(), AllocError>
         requires { is_ready self.old }
         ensures ready { OnOk result (is_ready self.new) }
-        ensures given { MatchResult result (λ _. takes self.old action self.new) (λ _. refuses self.old action self.new) };
+        ensures given { MatchResult result (λ _. takes self.old action self.new)
+            (λ _. refuses self.old action self.new) };
 
-    /// Takes a run of text, never empty: characters 20 to 7F, one byte each. It does to the sink what a `Print` of each, one
-    /// after another, does. A sink that keeps text can take the run at once.
+    /// Takes a run of text, never empty: characters 20 to 7F, one byte each. It does to the sink
+    /// what a `Print` of each, one after another, does. A sink that keeps text can take the run at
+    /// once.
     #[inline]
     fn receive_text(&mut self, text: &[u8]) -> Result<(), AllocError>
         requires ready { is_ready self.old }
         requires some { 0 < length text.now }
         requires text { list_all is_text_byte text.now ≡ true }
         ensures ready { OnOk result (is_ready self.new) }
-        ensures given { MatchResult result (λ _. FoldsTo takes self.old (map T.print text.now) self.new)
-            (λ _. StopsAt ⊥ takes refuses self.old (map T.print text.now) self.new) }
+        ensures given { Receives ⊥ takes refuses result self.old
+            (map T.print text.now) self.new }
     {
         for b in text {
             match self.receive(T::print(*b as char)) {
@@ -92,16 +96,17 @@ pub trait Sink<T: FromChar> {
         Ok(())
     }
 
-    /// Takes a run of characters as UTF-8, never empty: none is a control of C0 or C1. It does to the sink what a `Print` of each,
-    /// one after another, does. A sink that keeps text can take the run at once.
+    /// Takes a run of characters as UTF-8, never empty: none is a control of C0 or C1. It does to
+    /// the sink what a `Print` of each, one after another, does. A sink that keeps text can take
+    /// the run at once.
     #[inline]
     fn receive_str(&mut self, text: &str) -> Result<(), AllocError>
         requires ready { is_ready self.old }
         requires some { 0 < length text.now }
         requires clear { list_all is_clear (chars text.now) ≡ true }
         ensures ready { OnOk result (is_ready self.new) }
-        ensures given { MatchResult result (λ _. FoldsTo takes self.old (map T.print (chars text.now)) self.new)
-            (λ _. StopsAt ⊥ takes refuses self.old (map T.print (chars text.now)) self.new) }
+        ensures given { Receives ⊥ takes refuses result self.old
+            (map T.print (chars text.now)) self.new }
     {
         for c in text.chars() {
             match self.receive(T::print(c)) {
@@ -112,8 +117,9 @@ pub trait Sink<T: FromChar> {
         Ok(())
     }
 
-    /// Takes the actions of a control sequence at once, from its entries, and returns whether it did: it does to the sink what
-    /// receiving each does. Where it returns false it did nothing, and they are made and received; so it does by default.
+    /// Takes the actions of a control sequence at once, from its entries, and returns whether it
+    /// did: it does to the sink what receiving each does. Where it returns false it did nothing,
+    /// and they are made and received; so it does by default.
     #[inline]
     fn receive_sequence(
         &mut self,
@@ -123,10 +129,12 @@ pub trait Sink<T: FromChar> {
     ) -> Result<bool, AllocError>
         requires { is_ready self.old }
         ensures ready { OnOk result (is_ready self.new) }
-        ensures taken { IfOk result (λ b. IsTrue b → FoldsTo (By T.is_sequence takes) self.old (csi_of _params.now _parameters_truncated _control) self.new) }
-        ensures left { IfOk result (λ b. b ≡ false → self.new ≡ self.old) }
-        ensures refused { OnErr result (StopsAt ⊥ (By T.is_sequence takes) (By T.is_sequence refuses)
+        ensures taken { IfOk result (λ b. IsTrue b → FoldsTo (By T.is_sequence takes)
             self.old (csi_of _params.now _parameters_truncated _control) self.new) }
+        ensures left { IfOk result (λ b. b ≡ false → self.new ≡ self.old) }
+        ensures refused { OnErr result (StopsAt ⊥ (By T.is_sequence takes)
+            (By T.is_sequence refuses) self.old
+            (csi_of _params.now _parameters_truncated _control) self.new) }
     {
         Ok(false)
     }
@@ -136,7 +144,8 @@ pub trait Sink<T: FromChar> {
     fn receive_command(&mut self, _text: &[u8]) -> Result<bool, AllocError>
         requires { is_ready self.old }
         ensures ready { OnOk result (is_ready self.new) }
-        ensures taken { IfOk result (λ b. IsTrue b → FoldsTo (By T.is_command takes) self.old (parts_of _text.now ∷ []) self.new) }
+        ensures taken { IfOk result (λ b. IsTrue b → FoldsTo (By T.is_command takes)
+            self.old (parts_of _text.now ∷ []) self.new) }
         ensures left { IfOk result (λ b. b ≡ false → self.new ≡ self.old) }
         ensures refused { OnErr result (StopsAt ⊥ (By T.is_command takes) (By T.is_command refuses)
             self.old (parts_of _text.now ∷ []) self.new) }
@@ -144,8 +153,8 @@ pub trait Sink<T: FromChar> {
         Ok(false)
     }
 
-    /// Whether every image, of kitty's protocol or sixel, would leave it as it is. Where it returns true, as it does not by default,
-    /// none is made and received.
+    /// Whether every image, of kitty's protocol or sixel, would leave it as it is. Where it returns
+    /// true, as it does not by default, none is made and received.
     #[inline]
     fn drops_images(&self) -> bool
         ensures { IsTrue result → (a : T) → T.is_image a → takes self.now a self.now }
@@ -154,8 +163,9 @@ pub trait Sink<T: FromChar> {
     }
 }
 
-/// Calls a closure on each action. [`Parser::parse_into`](crate::parser::Parser::parse_into) hands it back after exactly one
-/// call for each action, in order, which the clause of [`Parser::parse`](crate::parser::Parser::parse) leaves open.
+/// Calls a closure on each action. [`Parser::parse_into`](crate::parser::Parser::parse_into) hands
+/// it back after exactly one call for each action, in order, which the clause of
+/// [`Parser::parse`](crate::parser::Parser::parse) leaves open.
 #[derive(Drop)]
 pub struct Calls<F> {
     /// The closure.

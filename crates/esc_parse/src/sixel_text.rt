@@ -11,7 +11,8 @@ use esc_values::Items;
 use std::alloc::{AllocError, Allocator, Global};
 use std::mem;
 
-/// The parameters of a sixel image and its data, as it came: the image is made at the end, and only for a sink that takes images.
+/// The parameters of a sixel image and its data, as it came: the image is made at the end, and only
+/// for a sink that takes images.
 #[derive(Drop)]
 pub struct SixelText<A: Allocator = Global> {
     alloc: A,

@@ -1,11 +1,11 @@
 //! The device control string that is unfinished.
-ghost use Rattle.std.specs.Prelude.{◌≡◌, ℕ, IfOk, IsTrue, OnErr, OnOk, Option, length, min, option_to_list, true};
+ghost use Rattle.std.specs.Prelude.{◌≡◌, IfOk, IsTrue, OnErr, OnOk, Option, length, min, option_to_list, true};
 ghost use Rattle.std.specs.List.{FoldsTo, list_all};
 ghost use Rattle.std.specs.Option.{option_map};
 ghost use Rattle.esc_frame.specs.Limits.{kept_within, most};
-ghost use Rattle.esc_actions.specs.Values.{Mode, closed_gives, data_count, opened, plain, taken, value_of};
+ghost use Rattle.esc_actions.specs.Values.{closed_gives, data_count, opened, plain, taken, value_of};
 ghost use Rattle.esc_actions.specs.Groups.{is_entered};
-ghost use Rattle.esc_parse.specs.Fed.{HasRoom, Hooks, TakesData, is_mode};
+ghost use Rattle.esc_parse.specs.Fed.{HasRoom, Hooking, Hooks, TakesData, is_mode};
 ghost use Rattle.esc_parse.specs.Images.{is_image};
 ghost use Rattle.esc_parse.specs.declared.hooked.Hooked.TheVariants as hooked;
 ghost use Rattle.memory.specs.Refusals.{Refused};
@@ -61,8 +61,8 @@ impl<A: Allocator + Copy> Unfinished<A> {
         params: &[i64],
         intermediates: &[u8],
     ) -> Result<(), AllocError>
-        ensures ok { (limit : Option ℕ) (m : Mode) → Hooks limit self.old m
-            → OnOk result (Hooks limit self.new (opened kind byte params.now intermediates.now)) }
+        ensures ok { Hooking self.old (λ limit m. OnOk result
+            (Hooks limit self.new (opened kind byte params.now intermediates.now))) }
         ensures refused { OnErr result (Refused A) }
     {
         self.hooked = begin(alloc, kind, byte, params, intermediates)?;
@@ -74,7 +74,7 @@ impl<A: Allocator + Copy> Unfinished<A> {
     #[tactic(auto, unfolding(crate::specs::Fed::Hooks))]
     #[inline]
     pub fn is_entered(&self) -> bool
-        ensures entered { (limit : Option ℕ) (m : Mode) → Hooks limit self.now m → result ≡ is_entered m }
+        ensures entered { Hooking self.now (λ limit m. result ≡ is_entered m) }
         ensures mode { result ≡ is_mode self.now.hooked }
     {
         matches!(self.hooked, Hooked::Entered)
@@ -84,7 +84,8 @@ impl<A: Allocator + Copy> Unfinished<A> {
     #[tactic(auto, unfolding(crate::specs::Fed::Hooks), using(crate::proofs::DataLimits::counts_more, crate::proofs::DataLimits::passed, crate::proofs::DataLimits::over_stays))]
     #[inline]
     pub fn push(&mut self, byte: u8) -> Result<(), AllocError>
-        ensures hooks { (limit : Option ℕ) (m : Mode) → Hooks limit self.old m → OnOk result (Hooks limit self.new (taken m byte)) }
+        ensures hooks { Hooking self.old (λ limit m. OnOk result
+            (Hooks limit self.new (taken m byte))) }
         ensures mode { OnOk result (is_mode self.new.hooked ≡ is_mode self.old.hooked) }
         ensures refused { OnErr result (Refused A) }
     {
@@ -110,7 +111,8 @@ impl<A: Allocator + Copy> Unfinished<A> {
         Ok(())
     }
 
-    /// More bytes of its data, as `push` of each takes them. They are taken at once where the limit has room for all.
+    /// More bytes of its data, as `push` of each takes them. They are taken at once where the limit
+    /// has room for all.
     pub fn push_run(&mut self, bytes: &[u8]) -> Result<(), AllocError>
         ensures ok { OnOk result (FoldsTo TakesData self.old bytes.now self.new) }
         ensures refused { OnErr result (Refused A) }
@@ -151,7 +153,8 @@ impl<A: Allocator + Copy> Unfinished<A> {
     #[tactic(auto, unfolding(crate::specs::Fed::Hooks), using(crate::proofs::Images::sixel_images))]
     #[inline]
     pub fn is_sixel(&self) -> bool
-        ensures { IsTrue result → (limit : Option ℕ) (m : Mode) → Hooks limit self.now m → list_all (is_image {A = A}) (closed_gives limit m) ≡ true }
+        ensures { IsTrue result → Hooking self.now (λ limit m.
+            list_all (is_image {A = A}) (closed_gives limit m) ≡ true) }
     {
         matches!(self.hooked, Hooked::Sixel(_))
     }
@@ -159,7 +162,7 @@ impl<A: Allocator + Copy> Unfinished<A> {
     /// Drops all that is kept. Nothing is unfinished then.
     #[tactic(auto, unfolding(crate::specs::Fed::Hooks))]
     pub fn clear(&mut self)
-        ensures { (limit : Option ℕ) (m : Mode) → Hooks limit self.old m → Hooks limit self.new plain }
+        ensures { Hooking self.old (λ limit m. Hooks limit self.new plain) }
     {
         self.hooked = Hooked::Nothing;
     }
@@ -167,17 +170,20 @@ impl<A: Allocator + Copy> Unfinished<A> {
     /// The action of its end, where it has one. Nothing is unfinished then.
     #[tactic(auto, unfolding(crate::specs::Fed::Hooks))]
     pub fn end(&mut self, alloc: A) -> Result<Option<Action<A>>, AllocError>
-        ensures hooks { (limit : Option ℕ) (m : Mode) → Hooks limit self.old m → Hooks limit self.new plain }
-        ensures gives { (limit : Option ℕ) (m : Mode) → Hooks limit self.old m → IfOk result (λ o. option_to_list (option_map value_of o) ≡ closed_gives limit m) }
+        ensures hooks { Hooking self.old (λ limit m. Hooks limit self.new plain) }
+        ensures gives { Hooking self.old (λ limit m. IfOk result
+            (λ o. option_to_list (option_map value_of o) ≡ closed_gives limit m)) }
         ensures refused { OnErr result (Refused A) }
     {
         end(alloc, mem::replace(&mut self.hooked, Hooked::Nothing))
     }
 
-    /// How many bytes of its data are kept; 0 once they passed the limit, and where none have to be.
+    /// How many bytes of its data are kept; 0 once they passed the limit, and where none have to
+    /// be.
     #[tactic(auto, unfolding(crate::specs::Fed::Hooks), using(crate::proofs::DataLimits::zero_within))]
     pub fn kept(&self) -> usize
-        ensures counts { (limit : Option ℕ) (m : Mode) → Hooks limit self.now m → result ≡ min (kept_within limit (data_count m)) most }
+        ensures counts { Hooking self.now (λ limit m.
+            result ≡ min (kept_within limit (data_count m)) most) }
         ensures nothing { self.now.hooked ≡ hooked.Nothing → result ≡ 0 }
     {
         match self.hooked {

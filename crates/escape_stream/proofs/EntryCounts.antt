@@ -24,19 +24,25 @@ own = numerals_by_fold _ (search rules) value_behind (search rules)
 
 -- how many entries there are does not depend on the number before them
 any_by : (n m b : ℕ) (x : List ℕ) (t : Bool)
-    → length (entries_behind (Some (10 * n + (b - 0x30))) x) ≡ length (entries_behind (Some (10 * m + (b - 0x30))) x)
-    → length (if t then entries_behind (Some (10 * n + (b - 0x30))) x else Integer (pos (held n)) ∷ P b ∷ entries_behind None x)
-    ≡ length (if t then entries_behind (Some (10 * m + (b - 0x30))) x else Integer (pos (held m)) ∷ P b ∷ entries_behind None x)
+    → length (entries_behind (Some (10 * n + (b - 0x30))) x)
+    ≡ length (entries_behind (Some (10 * m + (b - 0x30))) x)
+    → length (if t then entries_behind (Some (10 * n + (b - 0x30))) x else Integer
+    (pos (held n)) ∷ P b ∷ entries_behind None x)
+    ≡ length (if t then entries_behind (Some (10 * m + (b - 0x30))) x else Integer
+    (pos (held m)) ∷ P b ∷ entries_behind None x)
 any_by n m b x true h = h
 any_by n m b x false h = refl
 
-any_count : (n m : ℕ) (x : List ℕ) → length (entries_behind (Some n) x) ≡ length (entries_behind (Some m) x)
+any_count : (n m : ℕ) (x : List ℕ)
+    → length (entries_behind (Some n) x) ≡ length (entries_behind (Some m) x)
 any_count n m [] = refl
-any_count n m (b ∷ x) = any_by n m b x (is_digit b) (any_count (10 * n + (b - 0x30)) (10 * m + (b - 0x30)) x)
+any_count n m (b ∷ x) =
+    any_by n m b x (is_digit b) (any_count (10 * n + (b - 0x30)) (10 * m + (b - 0x30)) x)
 
 -- a number before a text is one entry more at most
 more_by : (n b : ℕ) (x : List ℕ) (t : Bool)
-    → length (if t then entries_behind (Some (10 * n + (b - 0x30))) x else Integer (pos (held n)) ∷ P b ∷ entries_behind None x)
+    → length (if t then entries_behind (Some (10 * n + (b - 0x30))) x else Integer
+    (pos (held n)) ∷ P b ∷ entries_behind None x)
     ≤ 1 + length (if t then entries_behind (Some (b - 0x30)) x else P b ∷ entries_behind None x)
 more_by n b x true = let same = any_count (10 * n + (b - 0x30)) (b - 0x30) x in omega arith
 more_by n b x false = omega arith
@@ -47,26 +53,36 @@ one_more n (b ∷ x) = more_by n b x (is_digit b)
 
 -- two texts, one after another
 none_by : (b : ℕ) (x y : List ℕ) (t : Bool)
-    → length (entries_behind (Some (b - 0x30)) (x ++ y)) ≤ length (entries_behind (Some (b - 0x30)) x) + length (entries y)
+    → length (entries_behind (Some (b - 0x30)) (x ++ y)) ≤ length
+    (entries_behind (Some (b - 0x30)) x) + length (entries y)
     → length (entries (x ++ y)) ≤ length (entries x) + length (entries y)
-    → length (if t then entries_behind (Some (b - 0x30)) (x ++ y) else P b ∷ entries_behind None (x ++ y))
-    ≤ length (if t then entries_behind (Some (b - 0x30)) x else P b ∷ entries_behind None x) + length (entries y)
+    → length (if t then entries_behind (Some (b - 0x30)) (x ++ y) else P b ∷ entries_behind None
+    (x ++ y))
+    ≤ length (if t then entries_behind
+    (Some (b - 0x30)) x else P b ∷ entries_behind None x) + length (entries y)
 none_by b x y true h k = h
 none_by b x y false h k = omega arith
 
 some_by : (n b : ℕ) (x y : List ℕ) (t : Bool)
-    → length (entries_behind (Some (10 * n + (b - 0x30))) (x ++ y)) ≤ length (entries_behind (Some (10 * n + (b - 0x30))) x) + length (entries y)
+    → length (entries_behind (Some (10 * n + (b - 0x30))) (x ++ y)) ≤ length
+    (entries_behind (Some (10 * n + (b - 0x30))) x) + length (entries y)
     → length (entries (x ++ y)) ≤ length (entries x) + length (entries y)
-    → length (if t then entries_behind (Some (10 * n + (b - 0x30))) (x ++ y) else Integer (pos (held n)) ∷ P b ∷ entries_behind None (x ++ y))
-    ≤ length (if t then entries_behind (Some (10 * n + (b - 0x30))) x else Integer (pos (held n)) ∷ P b ∷ entries_behind None x) + length (entries y)
+    → length (if t then entries_behind (Some (10 * n + (b - 0x30))) (x ++ y) else Integer
+    (pos (held n)) ∷ P b ∷ entries_behind None (x ++ y))
+    ≤ length (if t then entries_behind (Some (10 * n + (b - 0x30))) x else Integer
+    (pos (held n)) ∷ P b ∷ entries_behind None x) + length (entries y)
 some_by n b x y true h k = h
 some_by n b x y false h k = omega arith
 
-joined_count : (o : Option ℕ) (x y : List ℕ) → length (entries_behind o (x ++ y)) ≤ length (entries_behind o x) + length (entries y)
+joined_count : (o : Option ℕ) (x y : List ℕ)
+    → length (entries_behind o (x ++ y)) ≤ length (entries_behind o x) + length (entries y)
 joined_count None [] y = omega arith
 joined_count (Some n) [] y = one_more n y
-joined_count None (b ∷ x) y = none_by b x y (is_digit b) (joined_count (Some (b - 0x30)) x y) (joined_count None x y)
-joined_count (Some n) (b ∷ x) y = some_by n b x y (is_digit b) (joined_count (Some (10 * n + (b - 0x30))) x y) (joined_count None x y)
+joined_count None (b ∷ x) y =
+    none_by b x y (is_digit b) (joined_count (Some (b - 0x30)) x y) (joined_count None x y)
+joined_count (Some n) (b ∷ x) y =
+    some_by n b x y (is_digit b) (joined_count (Some (10 * n + (b - 0x30))) x y)
+    (joined_count None x y)
 
 -- an entry that is read of a body: a number of 64 bits, or a byte 20-3F
 abbrev pub IsRead : CsiParam → Type 0
@@ -81,30 +97,37 @@ AreRead (e ∷ es) = IsRead e × AreRead es
 held_small : (n : ℕ) → held n < 2 ^ 64
 held_small n = omega arith
 
-read_none_by : (b : ℕ) (x : List ℕ) (t : Bool) → is_body_byte b ≡ true → AreRead (entries_behind (Some (b - 0x30)) x) → AreRead (entries x)
+read_none_by : (b : ℕ) (x : List ℕ) (t : Bool) → is_body_byte b ≡ true
+    → AreRead (entries_behind (Some (b - 0x30)) x) → AreRead (entries x)
     → AreRead (if t then entries_behind (Some (b - 0x30)) x else P b ∷ entries_behind None x)
 read_none_by b x true i h k = h
 read_none_by b x false i h k = (i, k)
 
-read_some_by : (n b : ℕ) (x : List ℕ) (t : Bool) → is_body_byte b ≡ true → AreRead (entries_behind (Some (10 * n + (b - 0x30))) x) → AreRead (entries x)
-    → AreRead (if t then entries_behind (Some (10 * n + (b - 0x30))) x else Integer (pos (held n)) ∷ P b ∷ entries_behind None x)
+read_some_by : (n b : ℕ) (x : List ℕ) (t : Bool) → is_body_byte b ≡ true
+    → AreRead (entries_behind (Some (10 * n + (b - 0x30))) x) → AreRead (entries x)
+    → AreRead
+    (if t then entries_behind (Some (10 * n + (b - 0x30))) x else Integer
+    (pos (held n)) ∷ P b ∷ entries_behind None x)
 read_some_by n b x true i h k = h
 read_some_by n b x false i h k = (held_small n, (i, k))
 
-read_behind : (o : Option ℕ) (x : List ℕ) → list_all is_body_byte x ≡ true → AreRead (entries_behind o x)
+read_behind : (o : Option ℕ) (x : List ℕ) → list_all is_body_byte x ≡ true
+    → AreRead (entries_behind o x)
 read_behind None [] h = tt
 read_behind (Some n) [] h = (held_small n, tt)
 read_behind None (b ∷ x) h = let q = and_parts (is_body_byte b) (list_all is_body_byte x) h in
     read_none_by b x (is_digit b) q.0 (read_behind (Some (b - 0x30)) x q.1) (read_behind None x q.1)
 read_behind (Some n) (b ∷ x) h = let q = and_parts (is_body_byte b) (list_all is_body_byte x) h in
-    read_some_by n b x (is_digit b) q.0 (read_behind (Some (10 * n + (b - 0x30))) x q.1) (read_behind None x q.1)
+    read_some_by n b x (is_digit b) q.0 (read_behind (Some (10 * n + (b - 0x30))) x q.1)
+    (read_behind None x q.1)
 
 take_read : (k : ℕ) (es : List CsiParam) → AreRead es → AreRead (take k es)
 take_read zero es h = tt
 take_read (suc k) [] h = tt
 take_read (suc k) (e ∷ es) h = (h.0, take_read k es h.1)
 
-pub first_read : (k : ℕ) (x : List ℕ) → list_all is_body_byte x ≡ true → AreRead (take k (entries x))
+pub first_read : (k : ℕ) (x : List ℕ) → list_all is_body_byte x ≡ true
+    → AreRead (take k (entries x))
 first_read k x h = take_read k (entries x) (read_behind None x h)
 
 pub take_few : (k : ℕ) (es : List CsiParam) → length (take k es) ≤ k
@@ -115,13 +138,16 @@ take_few (suc k) (e ∷ es) = let few = take_few k es in omega arith
 -- the text of one entry
 run_one : (n : ℕ) (ds : List ℕ) → are_digits ds ≡ true → length (entries_behind (Some n) ds) ≤ 1
 run_one n [] h = omega arith
-run_one n (d ∷ ds) h = let q = and_parts (is_digit d) (are_digits ds) h in rw q.0 (run_one (10 * n + (d - 0x30)) ds q.1)
+run_one n (d ∷ ds) h = let q =
+    and_parts (is_digit d) (are_digits ds) h in rw q.0 (run_one (10 * n + (d - 0x30)) ds q.1)
 
 digits_one : (ds : List ℕ) → are_digits ds ≡ true → length (entries ds) ≤ 1
 digits_one [] h = omega arith
-digits_one (d ∷ ds) h = let q = and_parts (is_digit d) (are_digits ds) h in rw q.0 (run_one (d - 0x30) ds q.1)
+digits_one (d ∷ ds) h = let q =
+    and_parts (is_digit d) (are_digits ds) h in rw q.0 (run_one (d - 0x30) ds q.1)
 
-byte_by : (b : ℕ) (t : Bool) → length (if t then entries_behind (Some (b - 0x30)) [] else P b ∷ entries_behind None []) ≤ 1
+byte_by : (b : ℕ) (t : Bool)
+    → length (if t then entries_behind (Some (b - 0x30)) [] else P b ∷ entries_behind None []) ≤ 1
 byte_by b true = omega arith
 byte_by b false = omega arith
 
@@ -148,7 +174,8 @@ texts_few (e ∷ es) h =
 -- is of bytes 20-3F
 digits_body : (ds : List ℕ) → are_digits ds ≡ true → list_all is_body_byte ds ≡ true
 digits_body [] h = refl
-digits_body (d ∷ ds) h = let q = and_parts (is_digit d) (are_digits ds) h in rw (digit_is_body d q.0, digits_body ds q.1) refl
+digits_body (d ∷ ds) h = let q =
+    and_parts (is_digit d) (are_digits ds) h in rw (digit_is_body d q.0, digits_body ds q.1) refl
 
 entry_body : (e : CsiParam) → IsRead e → list_all is_body_byte (entry_text e) ≡ true
 entry_body (Integer (pos n)) h = digits_body (decimal n) (digits_decimal own n h)
@@ -157,4 +184,9 @@ entry_body (P b) h = ap (list_all is_body_byte) (encode_ascii b (body_is_ascii b
 
 pub texts_body : (es : List CsiParam) → AreRead es → list_all is_body_byte (entries_text es) ≡ true
 texts_body [] h = refl
-texts_body (e ∷ es) h = rw (list_all-append is_body_byte (entry_text e) (entries_text es), entry_body e h.0, texts_body es h.1) refl
+texts_body (e ∷ es) h =
+    rw (
+      list_all-append is_body_byte (entry_text e) (entries_text es),
+      entry_body e h.0,
+      texts_body es h.1,
+    ) refl

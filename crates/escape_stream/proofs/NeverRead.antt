@@ -46,7 +46,8 @@ differ : (a b : ℕ) (r s : List ℕ) → (a == b) ≡ false → a ∷ r ≡ b �
 differ a b r s n e = eqb-false a b n (heads a b r s e).0
 
 -- `[` is a letter that opens: no noise, and no intermediate
-bracket : (opens (class_of 0x5b) ≡ true) × (is_noise (class_of 0x5b) ≡ false) × (in_escape (class_of 0x5b) ≡ false)
+bracket : (opens (class_of 0x5b) ≡ true) × (is_noise (class_of 0x5b) ≡ false)
+    × (in_escape (class_of 0x5b) ≡ false)
 unfolding class_of
 bracket = (refl, refl, refl)
 
@@ -74,16 +75,21 @@ abbrev no_values : (A : Type 0) → List (Value A)
 no_values A = []
 
 -- the values of controls are no sequence
-controls_none : {A : Type 0} (o : Option ControlCode) (vs : List (Value A)) (c : CsiValue) → executed o ++ vs ≡ csi c ∷ [] → vs ≡ csi c ∷ []
+controls_none : {A : Type 0} (o : Option ControlCode) (vs : List (Value A)) (c : CsiValue)
+    → executed o ++ vs ≡ csi c ∷ [] → vs ≡ csi c ∷ []
 controls_none None vs c h = h
 controls_none (Some k) vs c h = absurd cc
 
-behind_controls : {A : Type 0} (ys : List ℕ) (es : List Event) (c : CsiValue) → values_from {A = A} None plain (map Execute ys ++ es) ≡ csi c ∷ []
+behind_controls : {A : Type 0} (ys : List ℕ) (es : List Event) (c : CsiValue)
+    → values_from {A = A} None plain (map Execute ys ++ es) ≡ csi c ∷ []
     → values_from {A = A} None plain es ≡ csi c ∷ []
 behind_controls [] es c h = h
-behind_controls (y ∷ ys) es c h = behind_controls ys es c (controls_none (code_of y) (values_from None plain (map Execute ys ++ es)) c h)
+behind_controls (y ∷ ys) es c h =
+    behind_controls ys es c
+    (controls_none (code_of y) (values_from None plain (map Execute ys ++ es)) c h)
 
-no_control : (A : Type 0) (o : Option ControlCode) (c : CsiValue) → executed o ++ [] ≡ one_sequence A c → ⊥
+no_control : (A : Type 0) (o : Option ControlCode) (c : CsiValue)
+    → executed o ++ [] ≡ one_sequence A c → ⊥
 no_control A None c h = cc
 no_control A (Some k) c h = cc
 
@@ -94,13 +100,15 @@ no_value : (A : Type 0) (c : CsiValue) → no_values A ≡ one_sequence A c → 
 no_value A c h = cc
 
 -- the one value of a list of control sequences
-one_csi : (A : Type 0) (vs : List CsiValue) (c : CsiValue) → map csi vs ++ [] ≡ one_sequence A c → vs ≡ c ∷ []
+one_csi : (A : Type 0) (vs : List CsiValue) (c : CsiValue) → map csi vs ++ [] ≡ one_sequence A c
+    → vs ≡ c ∷ []
 one_csi A [] c h = absurd (no_value A c h)
 one_csi A (v ∷ []) c h = cc
 one_csi A (v ∷ w ∷ vs) c h = absurd cc
 
 dispatched : (A : Type 0) (x : List ℕ) (f : ℕ) (c : CsiValue) (t : Bool)
-    → values_from {A = A} None plain (if t then csi_event x f ∷ [] else []) ≡ csi c ∷ [] → csi_of (kept_entries x) (has_more_entries x) f ≡ c ∷ []
+    → values_from {A = A} None plain (if t then csi_event x f ∷ [] else []) ≡ csi c ∷ []
+    → csi_of (kept_entries x) (has_more_entries x) f ≡ c ∷ []
 dispatched A x f c true h = one_csi A (csi_of (kept_entries x) (has_more_entries x) f) c h
 dispatched A x f c false h = absurd (no_value A c h)
 
@@ -110,31 +118,39 @@ is_whole [] = true
 is_whole (sgr s ∷ vs) = true
 is_whole (unspecified es more f ∷ vs) = not more
 
-put_whole : (o : Option Sgr) (more : Option (List CsiValue)) (vs : List CsiValue) → put_first o more ≡ Some vs → is_whole vs ≡ true
+put_whole : (o : Option Sgr) (more : Option (List CsiValue)) (vs : List CsiValue)
+    → put_first o more ≡ Some vs → is_whole vs ≡ true
 put_whole None more vs h = absurd cc
 put_whole (Some s) None vs h = absurd cc
 put_whole (Some s) (Some ws) vs h = let e : sgr s ∷ ws ≡ vs = cc in sym (ap is_whole e)
 
-renditions_whole : (is : List (List CsiParam)) (vs : List CsiValue) → renditions is ≡ Some vs → is_whole vs ≡ true
+renditions_whole : (is : List (List CsiParam)) (vs : List CsiValue) → renditions is ≡ Some vs
+    → is_whole vs ≡ true
 renditions_whole [] vs h = let e : [] ≡ vs = cc in sym (ap is_whole e)
 renditions_whole (i ∷ is) vs h = put_whole (rendition i) (renditions is) vs h
 
-unwrapped_whole : (o : Option (List CsiValue)) (es : List CsiParam) (f : ℕ) → ((vs : List CsiValue) → o ≡ Some vs → is_whole vs ≡ true)
+unwrapped_whole : (o : Option (List CsiValue)) (es : List CsiParam) (f : ℕ)
+    → ((vs : List CsiValue) → o ≡ Some vs → is_whole vs ≡ true)
     → is_whole (unwrap_or o (unspecified es false f ∷ [])) ≡ true
 unwrapped_whole None es f h = refl
 unwrapped_whole (Some vs) es f h = h vs refl
 
 whole_by : (es : List CsiParam) (f : ℕ) (t : Bool)
-    → is_whole (if t && not false then unwrap_or (renditions (slice_split is_separator es)) (unspecified es false f ∷ [])
+    → is_whole
+    (if t && not false then unwrap_or (renditions (slice_split is_separator es))
+    (unspecified es false f ∷ [])
     else unspecified es false f ∷ []) ≡ true
-whole_by es f true = unwrapped_whole (renditions (slice_split is_separator es)) es f (renditions_whole (slice_split is_separator es))
+whole_by es f true =
+    unwrapped_whole (renditions (slice_split is_separator es)) es f
+    (renditions_whole (slice_split is_separator es))
 whole_by es f false = refl
 
 csi_whole : (es : List CsiParam) (f : ℕ) → is_whole (csi_of es false f) ≡ true
 csi_whole es f = whole_by es f (f == 0x6d)
 
 -- what a truncated value was read of
-came_of : (ks es : List CsiParam) (g f : ℕ) (more : Bool) → csi_of ks more g ≡ unspecified es true f ∷ [] → (more ≡ true) × (ks ≡ es) × (g ≡ f)
+came_of : (ks es : List CsiParam) (g f : ℕ) (more : Bool)
+    → csi_of ks more g ≡ unspecified es true f ∷ [] → (more ≡ true) × (ks ≡ es) × (g ≡ f)
 came_of ks es g f false h = absurd (false_is_not (sym (ap is_whole h) ∙ csi_whole ks g))
 came_of ks es g f true h =
     let e : unspecified ks true g ∷ [] ≡ unspecified es true f ∷ [] = sym (truncated ks g) ∙ h in
@@ -145,11 +161,13 @@ csi_final_small : (f : ℕ) → ends_csi (class_of f) ≡ true → f < 128
 unfolding class_of
 csi_final_small f h = grind (arith, nat_tests)
 
-body_byte : (b : ℕ) → in_csi (class_of b) ≡ true → is_noise (class_of b) ≡ false → is_body_byte b ≡ true
+body_byte : (b : ℕ) → in_csi (class_of b) ≡ true → is_noise (class_of b) ≡ false
+    → is_body_byte b ≡ true
 unfolding class_of
 body_byte b h k = grind (arith, nat_tests)
 
-strip_by : (b : ℕ) (x : List ℕ) (t : Bool) → is_noise (class_of b) ≡ t → in_csi (class_of b) ≡ true → list_all is_body_byte (strip x) ≡ true
+strip_by : (b : ℕ) (x : List ℕ) (t : Bool) → is_noise (class_of b) ≡ t → in_csi (class_of b) ≡ true
+    → list_all is_body_byte (strip x) ≡ true
     → list_all is_body_byte (if not t then b ∷ strip x else strip x) ≡ true
 strip_by b x true e i h = h
 strip_by b x false e i h = rw (body_byte b i e, h) refl
@@ -157,7 +175,9 @@ strip_by b x false e i h = rw (body_byte b i e, h) refl
 strip_body : (x : List ℕ) → AllOf in_csi x → list_all is_body_byte (strip x) ≡ true
 strip_body [] h = refl
 strip_body (b ∷ x) h =
-    let q = and_parts (in_csi (class_of b)) (list_all (λ c. in_csi (class_of c)) x) h in strip_by b x (is_noise (class_of b)) refl q.0 (strip_body x q.1)
+    let q = and_parts (in_csi (class_of b))
+    (list_all (λ c. in_csi (class_of c)) x) h in strip_by b x (is_noise (class_of b)) refl q.0
+    (strip_body x q.1)
 
 -- A body of which entries are left out is not the text of those that are kept.
 few_kept : (x : List ℕ) → length (kept_entries x) ≤ 256
@@ -172,7 +192,8 @@ kept_read : (x : List ℕ) → list_all is_body_byte x ≡ true → AreRead (kep
 unfolding kept_entries
 kept_read x h = first_read 256 x h
 
-not_its_text : (x : List ℕ) → AllOf in_csi x → has_more_entries (strip x) ≡ true → x ≡ entries_text (kept_entries (strip x)) → ⊥
+not_its_text : (x : List ℕ) → AllOf in_csi x → has_more_entries (strip x) ≡ true
+    → x ≡ entries_text (kept_entries (strip x)) → ⊥
 not_its_text x all more e =
     let s = strip x in
     let read = kept_read s (strip_body x all) in
@@ -181,20 +202,28 @@ not_its_text x all more e =
     let few = texts_few (kept_entries s) read in
     let most = few_kept s in
     let many = many_are s more in
-    let count : length (entries s) ≡ length (entries t) = ap (λ y. length (entries y)) same in omega arith
+    let count : length (entries s) ≡ length (entries t) =
+    ap (λ y. length (entries y)) same in omega arith
 
 -- so a control sequence that was cut at 256 entries is not read of its text
-not_read : (es : List CsiParam) (f g : ℕ) (x : List ℕ) → AllOf in_csi x → ends_csi (class_of g) ≡ true → x ++ g ∷ [] ≡ entries_text es ++ encode_utf8 f
-    → csi_of (kept_entries (strip x)) (has_more_entries (strip x)) g ≡ unspecified es true f ∷ [] → ⊥
+not_read : (es : List CsiParam) (f g : ℕ) (x : List ℕ) → AllOf in_csi x
+    → ends_csi (class_of g) ≡ true → x ++ g ∷ [] ≡ entries_text es ++ encode_utf8 f
+    → csi_of (kept_entries (strip x)) (has_more_entries (strip x)) g ≡ unspecified es true f ∷ []
+    → ⊥
 not_read es f g x all ends e h =
-    let (more, kept, final) = came_of (kept_entries (strip x)) es g f (has_more_entries (strip x)) h in
-    let last : encode_utf8 f ≡ g ∷ [] = ap encode_utf8 (sym final) ∙ encode_ascii g (csi_final_small g ends) in
-    let body : x ≡ entries_text es = append_cancel_right x (entries_text es) (g ∷ []) (e ∙ ap (λ y. entries_text es ++ y) last) in
+    let (more, kept, final) =
+    came_of (kept_entries (strip x)) es g f (has_more_entries (strip x)) h in
+    let last : encode_utf8 f ≡ g ∷ [] =
+    ap encode_utf8 (sym final) ∙ encode_ascii g (csi_final_small g ends) in
+    let body : x ≡ entries_text es =
+    append_cancel_right x (entries_text es) (g ∷ []) (e ∙ ap (λ y. entries_text es ++ y) last) in
     not_its_text x all more (body ∙ ap entries_text (sym kept))
 
 -- by cases on the segment that the text would be
-truncated_not : (A : Type 0) (es : List CsiParam) (f : ℕ) (g : Segment) → bytes_of g ≡ 0x1b ∷ 0x5b ∷ (entries_text es ++ encode_utf8 f)
-    → ends_itself g ≡ true → HasShape g [] → values_from {A = A} None plain (events_of g true) ≡ csi (unspecified es true f) ∷ [] → ⊥
+truncated_not : (A : Type 0) (es : List CsiParam) (f : ℕ) (g : Segment)
+    → bytes_of g ≡ 0x1b ∷ 0x5b ∷ (entries_text es ++ encode_utf8 f)
+    → ends_itself g ≡ true → HasShape g []
+    → values_from {A = A} None plain (events_of g true) ≡ csi (unspecified es true f) ∷ [] → ⊥
 truncated_not A es f (Character b) e ends h v = no_print A b _ v
 truncated_not A es f (Wide x) e ends h v = no_print A _ _ v
 truncated_not A es f (Broken x) e ends h v = false_is_not ends
@@ -205,15 +234,20 @@ truncated_not A es f (Terminator p b) e ends h v = no_value A _ v
 truncated_not A es f (Escape [] g) e ends h v =
     let k = (heads g 0x5b [] _ (heads 0x1b 0x1b _ _ e).1).0 in
     false_is_not (sym h.2 ∙ ap (λ c. opens (class_of c)) k ∙ bracket.0)
-truncated_not A es f (Escape (b ∷ x) g) e ends h v = no_bracket_inside b x ((heads b 0x5b _ _ (heads 0x1b 0x1b _ _ e).1).0) h.0
+truncated_not A es f (Escape (b ∷ x) g) e ends h v =
+    no_bracket_inside b x ((heads b 0x5b _ _ (heads 0x1b 0x1b _ _ e).1).0) h.0
 truncated_not A es f (Csi (Long []) x g) e ends h v =
     not_read es f g x h.1 h.2 ((heads 0x5b 0x5b _ _ (heads 0x1b 0x1b _ _ e).1).1)
-    (dispatched A (strip x) g _ (is_csi_body (strip x)) (behind_controls (those is_plain x) (csi_events (strip x) g) _ v))
-truncated_not A es f (Csi (Long (b ∷ n)) x g) e ends h v = no_bracket_noise b n ((heads b 0x5b _ _ (heads 0x1b 0x1b _ _ e).1).0) h.0
+    (dispatched A (strip x) g _ (is_csi_body (strip x))
+    (behind_controls (those is_plain x) (csi_events (strip x) g) _ v))
+truncated_not A es f (Csi (Long (b ∷ n)) x g) e ends h v =
+    no_bracket_noise b n ((heads b 0x5b _ _ (heads 0x1b 0x1b _ _ e).1).0) h.0
 truncated_not A es f (Csi Raw x g) e ends h v = differ 0x9b 0x1b _ _ refl e
 truncated_not A es f (Csi Pair x g) e ends h v = differ 0xc2 0x1b _ _ refl e
-truncated_not A es f (Osc (Long []) ps Rung) e ends h v = differ 0x5d 0x5b _ _ refl (heads 0x1b 0x1b _ _ e).1
-truncated_not A es f (Osc (Long (b ∷ n)) ps Rung) e ends h v = no_bracket_noise b n ((heads b 0x5b _ _ (heads 0x1b 0x1b _ _ e).1).0) h.0
+truncated_not A es f (Osc (Long []) ps Rung) e ends h v =
+    differ 0x5d 0x5b _ _ refl (heads 0x1b 0x1b _ _ e).1
+truncated_not A es f (Osc (Long (b ∷ n)) ps Rung) e ends h v =
+    no_bracket_noise b n ((heads b 0x5b _ _ (heads 0x1b 0x1b _ _ e).1).0) h.0
 truncated_not A es f (Osc Raw ps Rung) e ends h v = differ 0x9d 0x1b _ _ refl e
 truncated_not A es f (Osc Pair ps Rung) e ends h v = differ 0xc2 0x1b _ _ refl e
 truncated_not A es f (Osc o ps Open) e ends h v = false_is_not ends
@@ -233,7 +267,8 @@ opener_small f h = grind (arith, nat_tests)
 no_print_escape : (A : Type 0) (n : ℕ) (c : Esc) → one_print A n ≡ one_escape A c → ⊥
 no_print_escape A n c h = cc
 
-no_control_escape : (A : Type 0) (o : Option ControlCode) (c : Esc) → executed o ++ [] ≡ one_escape A c → ⊥
+no_control_escape : (A : Type 0) (o : Option ControlCode) (c : Esc)
+    → executed o ++ [] ≡ one_escape A c → ⊥
 no_control_escape A None c h = cc
 no_control_escape A (Some k) c h = cc
 
@@ -247,8 +282,10 @@ too_long x y z a b f e =
     let k = length-append (x ++ a ∷ []) y in
     let j = length-append x (a ∷ []) in omega arith
 
-opening_not : (A : Type 0) (c : Esc) (f : ℕ) (g : Segment) → opens (class_of f) ≡ true → bytes_of g ≡ 0x1b ∷ f ∷ []
-    → ends_itself g ≡ true → HasShape g [] → values_from {A = A} None plain (events_of g true) ≡ esc c ∷ [] → ⊥
+opening_not : (A : Type 0) (c : Esc) (f : ℕ) (g : Segment) → opens (class_of f) ≡ true
+    → bytes_of g ≡ 0x1b ∷ f ∷ []
+    → ends_itself g ≡ true → HasShape g []
+    → values_from {A = A} None plain (events_of g true) ≡ esc c ∷ [] → ⊥
 opening_not A c f (Character b) o e ends h v = no_print_escape A b _ v
 opening_not A c f (Wide x) o e ends h v = no_print_escape A _ _ v
 opening_not A c f (Broken x) o e ends h v = false_is_not ends
@@ -262,10 +299,12 @@ opening_not A c f (Escape [] g) o e ends h v =
 opening_not A c f (Escape (b ∷ x) g) o e ends h v =
     let n = ap length (heads 0x1b 0x1b _ _ e).1 in
     let m = length-append (b ∷ x) (g ∷ []) in omega arith
-opening_not A c f (Csi (Long n) x g) o e ends h v = too_long n x [] 0x5b g f ((heads 0x1b 0x1b _ _ e).1)
+opening_not A c f (Csi (Long n) x g) o e ends h v =
+    too_long n x [] 0x5b g f ((heads 0x1b 0x1b _ _ e).1)
 opening_not A c f (Csi Raw x g) o e ends h v = differ 0x9b 0x1b _ _ refl e
 opening_not A c f (Csi Pair x g) o e ends h v = differ 0xc2 0x1b _ _ refl e
-opening_not A c f (Osc (Long n) ps Rung) o e ends h v = too_long n _ [] 0x5d 0x07 f ((heads 0x1b 0x1b _ _ e).1)
+opening_not A c f (Osc (Long n) ps Rung) o e ends h v =
+    too_long n _ [] 0x5d 0x07 f ((heads 0x1b 0x1b _ _ e).1)
 opening_not A c f (Osc Raw ps Rung) o e ends h v = differ 0x9d 0x1b _ _ refl e
 opening_not A c f (Osc Pair ps Rung) o e ends h v = differ 0xc2 0x1b _ _ refl e
 opening_not A c f (Osc p ps Open) o e ends h v = false_is_not ends
@@ -277,15 +316,19 @@ opening_not A c f (CutEscape x) o e ends h v = false_is_not ends
 opening_not A c f (CutCsi p x) o e ends h v = false_is_not ends
 opening_not A c f (CutDcs p x) o e ends h v = false_is_not ends
 
-esc_by : (A : Type 0) (f : ℕ) (t : Bool) → opens (class_of f) ≡ t → IsWritable {A = A} (esc (esc_variant.Unspecified None f)) → opens (class_of f) ≡ false
+esc_by : (A : Type 0) (f : ℕ) (t : Bool) → opens (class_of f) ≡ t
+    → IsWritable {A = A} (esc (esc_variant.Unspecified None f)) → opens (class_of f) ≡ false
 esc_by A f false o h = o
 esc_by A f true o (es, (g, text, ends, shape, gives), values) =
-    absurd (opening_not A (esc_variant.Unspecified None f) f g o (text ∙ ap (λ t. 0x1b ∷ t) (encode_ascii f (opener_small f o))) ends shape
+    absurd (opening_not A (esc_variant.Unspecified None f) f g o
+    (text ∙ ap (λ t. 0x1b ∷ t) (encode_ascii f (opener_small f o))) ends shape
     (ap (values_from None plain) gives ∙ values))
 
-csi_by : (A : Type 0) (es : List CsiParam) (f : ℕ) (more : Bool) → IsWritable {A = A} (csi (unspecified es more f)) → more ≡ false
+csi_by : (A : Type 0) (es : List CsiParam) (f : ℕ) (more : Bool)
+    → IsWritable {A = A} (csi (unspecified es more f)) → more ≡ false
 csi_by A es f false h = refl
-csi_by A es f true (vs, (g, text, ends, shape, gives), values) = absurd (truncated_not A es f g text ends shape (ap (values_from None plain) gives ∙ values))
+csi_by A es f true (vs, (g, text, ends, shape, gives), values) =
+    absurd (truncated_not A es f g text ends shape (ap (values_from None plain) gives ∙ values))
 
 -- data
 datum_low : (b : ℕ) → is_datum b ≡ true → is_high_byte b ≡ false
@@ -293,14 +336,16 @@ datum_low b h = grind (arith, nat_tests)
 
 data_low : (d : List ℕ) → list_all is_datum d ≡ true → list_any is_high_byte d ≡ false
 data_low [] h = refl
-data_low (b ∷ d) h = let q = and_parts (is_datum b) (list_all is_datum d) h in rw (datum_low b q.0, data_low d q.1) refl
+data_low (b ∷ d) h = let q =
+    and_parts (is_datum b) (list_all is_datum d) h in rw (datum_low b q.0, data_low d q.1) refl
 
 pub not_exception : {A : Type 0} (v : Value A) → IsWritable v → is_exception v ≡ false
 not_exception (print c) h = refl
 not_exception (string t) h = refl
 not_exception (control c) h = refl
 not_exception (esc (esc_variant.Code c)) h = refl
-not_exception {A = A} (esc (esc_variant.Unspecified None f)) h = esc_by A f (opens (class_of f)) refl h
+not_exception {A = A} (esc (esc_variant.Unspecified None f)) h =
+    esc_by A f (opens (class_of f)) refl h
 not_exception (esc (esc_variant.Unspecified (Some i) f)) h = refl
 not_exception (csi (sgr s)) h = refl
 not_exception {A = A} (csi (unspecified es more f)) h = csi_by A es f more h

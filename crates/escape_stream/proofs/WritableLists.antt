@@ -7,19 +7,24 @@ use Rattle.esc_actions.specs.Writable.{AreWritableFrom, IsWritable, is_within, s
 pub false_is_not : false ≡ true → ⊥
 false_is_not e = cc
 
-one_more : {A : Type 0} (P : Type 0) (w : Bool) (v : Value A) (vs : List (Value A)) → (P ↔ AreWritableFrom w (v ∷ vs)) → is_within v ≡ w → IsWritable v
+one_more : {A : Type 0} (P : Type 0) (w : Bool) (v : Value A) (vs : List (Value A))
+    → (P ↔ AreWritableFrom w (v ∷ vs)) → is_within v ≡ w → IsWritable v
     → P ↔ AreWritableFrom (stays_within v) vs
 one_more P w v vs left e h = (λ p. (left.0 p).2, λ k. left.1 (e, h, k))
 
--- P says of the whole list that it is writable, and so it is where what is left of it is. With x, that comes next:
-module _ {T A : Type 0} (f : T → Value A) (P : Type 0) (w : Bool) (xs : List T) (i : ℕ) (x : T) (is : x ≡ get_or xs i x) (h : i < length xs)
+-- P says of the whole list that it is writable, and so it is where what is left of it is. With x,
+-- that comes next:
+module _ {T A : Type 0} (f : T → Value A) (P : Type 0) (w : Bool) (xs : List T) (i : ℕ) (x : T)
+    (is : x ≡ get_or xs i x) (h : i < length xs)
     (left : P ↔ AreWritableFrom w (map f (drop i xs))) where
   next_left : P ↔ AreWritableFrom w (f x ∷ map f (drop (i + 1) xs))
   next_left =
       let Q : List (Value A) → Type 0 = λ l. P ↔ AreWritableFrom w l in
-      subst Q (ap (map f) (drop_more xs i x h) ∙ ap (λ y. f y ∷ map f (drop (i + 1) xs)) (sym is)) left
+      subst Q (ap (map f) (drop_more xs i x h)
+      ∙ ap (λ y. f y ∷ map f (drop (i + 1) xs)) (sym is)) left
 
-  pub turn : (stays : Bool) → is_within (f x) ≡ w → IsWritable (f x) → stays ≡ stays_within (f x) → P ↔ AreWritableFrom stays (map f (drop (i + 1) xs))
+  pub turn : (stays : Bool) → is_within (f x) ≡ w → IsWritable (f x) → stays ≡ stays_within (f x)
+      → P ↔ AreWritableFrom stays (map f (drop (i + 1) xs))
   turn stays e k s =
       let R : Bool → Type 0 = λ b. P ↔ AreWritableFrom b (map f (drop (i + 1) xs)) in
       subst R (sym s) (one_more P w (f x) (map f (drop (i + 1) xs)) next_left e k)
@@ -39,7 +44,8 @@ at_none : (A P : Type 0) (w : Bool) → (P ↔ AreWritableFrom {A = A} w []) →
 at_none A P w left = (λ t. left.1 (outside w t), λ p. sym (ap not (left.0 p)))
 
 -- nothing is left
-pub at_end : {T A : Type 0} (f : T → Value A) (P : Type 0) (w : Bool) (xs : List T) (i : ℕ) → length xs ≤ i → (P ↔ AreWritableFrom w (map f (drop i xs)))
+pub at_end : {T A : Type 0} (f : T → Value A) (P : Type 0) (w : Bool) (xs : List T) (i : ℕ)
+    → length xs ≤ i → (P ↔ AreWritableFrom w (map f (drop i xs)))
     → IsTrue (not w) ↔ P
 at_end {A = A} f P w xs i h left = let Q : List (Value A) → Type 0 = λ l. P ↔ AreWritableFrom w l in
     at_none A P w (subst Q (ap (map f) (drop_all i xs h)) left)

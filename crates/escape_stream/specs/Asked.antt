@@ -2,8 +2,8 @@
 use Rattle.std.specs.Prelude.{ℕ, ◌==◌, ◌||◌, Bool, true, false}
 use Rattle.esc_actions.specs.Values.{Value, print, string, control, esc, csi, osc, kitty, sixel, termcap, short, enter, datum, exit}
 
--- a value that is the first that its own text means, where it is writable: a string of characters means its characters, and a byte
--- and the end of a mode mean nothing outside it
+-- a value that is the first that its own text means, where it is writable: a string of characters
+-- means its characters, and a byte and the end of a mode mean nothing outside it
 abbrev pub has_own_text : {A : Type 0} → Value A → Bool
 has_own_text (print c) = true
 has_own_text (string t) = false
@@ -37,4 +37,5 @@ wants_text exit = false
 
 -- the letters that open a string or a control sequence after ESC: [ ] P X ^ _
 abbrev pub is_opener : ℕ → Bool
-is_opener b = (b == 0x5b) || ((b == 0x5d) || ((b == 0x50) || ((b == 0x58) || ((b == 0x5e) || (b == 0x5f)))))
+is_opener b =
+    (b == 0x5b) || ((b == 0x5d) || ((b == 0x50) || ((b == 0x58) || ((b == 0x5e) || (b == 0x5f)))))

@@ -17,8 +17,9 @@ use esc_values::Text;
 use esc_write::encoding::write_after;
 use std::alloc::{AllocError, Allocator};
 
-// Whether the action is the first that its own text means, and no exception: of all but strings of characters, bytes and ends of
-// modes this says that it is writable. The error is that memory was refused.
+// Whether the action is the first that its own text means, and no exception: of all but strings of
+// characters, bytes and ends of modes this says that it is writable. The error is that memory was
+// refused.
 #[tactic(auto, using(crate::proofs::NeverRead::not_exception))]
 pub(crate) fn reads_back<A: Allocator + Copy>(
     alloc: A,
@@ -38,7 +39,8 @@ pub(crate) fn reads_back<A: Allocator + Copy>(
     }
 }
 
-// The first action that the text of this one means, with a string terminator after it; none where it has no text.
+// The first action that the text of this one means, with a string terminator after it; none where
+// it has no text.
 #[tactic(auto, using(crate::proofs::Backs::writable_has_text))]
 fn first_meant<A: Allocator + Copy>(
     alloc: A,

@@ -11,12 +11,13 @@ use esc_actions::Action;
 use esc_device::DeviceControlMode;
 use std::alloc::{AllocError, Allocator};
 
-/// Whether the action is writable: its text, whatever follows it, reads back as the action. A `PrintString` reads back as its
-/// characters, and is writable where there is one and all are clear; an `Enter`, a byte of data and an `Exit` read back in a group, and
-/// only there.
+/// Whether the action is writable: its text, whatever follows it, reads back as the action. A
+/// `PrintString` reads back as its characters, and is writable where there is one and all are
+/// clear; an `Enter`, a byte of data and an `Exit` read back in a group, and only there.
 ///
-/// Takes time and memory in proportion to the action's text, and none of it lasts. Of a character, a string, a control, a byte and
-/// an `Exit` it takes no memory. The error is that memory was refused.
+/// Takes time and memory in proportion to the action's text, and none of it lasts. Of a character,
+/// a string, a control, a byte and an `Exit` it takes no memory. The error is that memory was
+/// refused.
 pub fn is_writable<A: Allocator + Copy>(alloc: A, action: &Action<A>) -> Result<bool, AllocError>
     ensures ok { IfOk result (λ b. IsTrue b ↔ IsWritable (value_of action.now)) }
     ensures refused { OnErr result (Refused A) }
@@ -41,10 +42,12 @@ pub fn is_writable<A: Allocator + Copy>(alloc: A, action: &Action<A>) -> Result<
     }
 }
 
-/// Whether the list is writable: [`encode`](crate::encode) writes a text of it that reads back as its normal list. Each of its actions
-/// is writable, and `Enter`, bytes of data and `Exit` come in this order, as a group, and only so. The empty list is writable.
+/// Whether the list is writable: [`encode`](crate::encode) writes a text of it that reads back as
+/// its normal list. Each of its actions is writable, and `Enter`, bytes of data and `Exit` come in
+/// this order, as a group, and only so. The empty list is writable.
 ///
-/// Takes time in proportion to the list's text, and no more memory than one action of it. The error is that memory was refused.
+/// Takes time in proportion to the list's text, and no more memory than one action of it. The error
+/// is that memory was refused.
 pub fn are_writable<A: Allocator + Copy>(
     alloc: A,
     actions: &[Action<A>],

@@ -27,27 +27,35 @@ pub loop-value-preserved : goal.loop-value-preserved
 loop-value-preserved g c =
     let at = c.loop-value in
     let v = c.in-Some.value in
-    let steps : into_iter_items at.value-iterator ≡ v ∷ into_iter_items c.next.new.self = c.in-Some.ensures.steps.0 in
+    let steps : into_iter_items at.value-iterator ≡ v ∷ into_iter_items c.next.new.self =
+    c.in-Some.ensures.steps.0 in
     let gone = c.in-Some.ensures.steps.1 in
     let short = ap length steps in record {
       ready = c.in_ok-receive.ensures.ready;
       parts = append_assoc at.yielded (v ∷ []) _ ∙ rw (← steps) at.invariant.parts;
       many = let was = at.invariant.many in omega arith;
-      taken = folds_more (At value_of g.S.Sink.takes) csi_value csi _ at.yielded _ v _ at.invariant.taken (action.CSI v, refl, c.in_ok-receive.ensures.given);
+      taken = folds_more
+          (At value_of g.S.Sink.takes) csi_value csi _ at.yielded _ v _ at.invariant.taken
+          (action.CSI v, refl, c.in_ok-receive.ensures.given);
     }
 
 pub returns-in_err-receive-clause-given : goal.returns-in_err-receive-clause-given
 returns-in_err-receive-clause-given g c =
     let at = c.loop-value in
     let v = c.in-Some.value in
-    let steps : into_iter_items at.value-iterator ≡ v ∷ into_iter_items c.next.new.self = c.in-Some.ensures.steps.0 in
-    let all : at.yielded ++ v ∷ into_iter_items c.next.new.self ≡ c.args.values.items = rw (← steps) at.invariant.parts in
+    let steps : into_iter_items at.value-iterator ≡ v ∷ into_iter_items c.next.new.self =
+    c.in-Some.ensures.steps.0 in
+    let all : at.yielded ++ v ∷ into_iter_items c.next.new.self ≡ c.args.values.items =
+    rw (← steps) at.invariant.parts in
     let p = err_from_is_err_and c.from_residual.result c.from_residual.ensures.1 in
     match_err _ _ c.from_residual.result p.0 p.1
-    (subst (λ vs. StopsAt (Refused g.row.A.Denot) (At value_of g.S.Sink.takes) (At value_of g.S.Sink.refuses) c.args.sink.now
+    (subst (λ vs. StopsAt (Refused g.row.A.Denot) (At value_of g.S.Sink.takes)
+    (At value_of g.S.Sink.refuses) c.args.sink.now
     (map csi (map csi_value vs)) c.receive.new.self) all
-    (stops_more (At value_of g.S.Sink.takes) (At value_of g.S.Sink.refuses) (Refused g.row.A.Denot) csi_value csi _ at.yielded _ v
-    (into_iter_items c.next.new.self) _ at.invariant.taken (action.CSI v, refl, c.in_err-receive.ensures.given)))
+    (stops_more (At value_of g.S.Sink.takes) (At value_of g.S.Sink.refuses)
+    (Refused g.row.A.Denot) csi_value csi _ at.yielded _ v
+    (into_iter_items c.next.new.self) _ at.invariant.taken
+    (action.CSI v, refl, c.in_err-receive.ensures.given)))
 
 pub returns-clause-ready : goal.returns-clause-ready
 returns-clause-ready g c = c.loop-value.invariant.ready
@@ -56,6 +64,9 @@ pub returns-clause-given : goal.returns-clause-given
 returns-clause-given g c =
     let at = c.loop-value in
     let none = c.in-None.ensures.steps in
-    let empty : into_iter_items at.value-iterator ≡ [] = nothing_left _ (sym at.invariant.many ∙ none.0) in
-    let all : at.yielded ≡ c.args.values.items = sym (append-nil at.yielded) ∙ rw empty at at.invariant.parts in
-    subst (λ vs. FoldsTo (At value_of g.S.Sink.takes) c.args.sink.now (map csi (map csi_value vs)) at.sink) all at.invariant.taken
+    let empty : into_iter_items at.value-iterator ≡ [] =
+    nothing_left _ (sym at.invariant.many ∙ none.0) in
+    let all : at.yielded ≡ c.args.values.items =
+    sym (append-nil at.yielded) ∙ rw empty at at.invariant.parts in
+    subst (λ vs. FoldsTo (At value_of g.S.Sink.takes) c.args.sink.now
+    (map csi (map csi_value vs)) at.sink) all at.invariant.taken

@@ -9,13 +9,24 @@ use Rattle.esc_parse.specs.Given.{At}
 pub returns-in-Err-clause-given : goal.returns-in-Err-clause-given
 returns-in-Err-clause-given g c =
     let at = c.loop-byte in
-    stops_next datum (At value_of g.S.Sink.takes) (At value_of g.S.Sink.refuses) c.args.bytes.now at.byte-index (omega arith) c.args.sink.now _ _ at.invariant.1
-    (action.DeviceControl (device.Data (get_or c.args.bytes.now at.byte-index 0)), refl, c.in-Err.ensures.given)
+    stops_next datum (At value_of g.S.Sink.takes)
+    (At value_of g.S.Sink.refuses) c.args.bytes.now at.byte-index
+    (omega arith) c.args.sink.now _ _ at.invariant.1 (
+      action.DeviceControl (device.Data (get_or c.args.bytes.now at.byte-index 0)),
+      refl,
+      c.in-Err.ensures.given,
+    )
 
 pub loop-byte-preserved : goal.loop-byte-preserved
 loop-byte-preserved g c =
     let at = c.loop-byte in (
       c.in-Ok.ensures.ready,
-      takes_next datum (At value_of g.S.Sink.takes) (At value_of g.S.Sink.refuses) c.args.bytes.now at.byte-index (omega arith) c.args.sink.now _ _
-          at.invariant.1 (action.DeviceControl (device.Data (get_or c.args.bytes.now at.byte-index 0)), refl, c.in-Ok.ensures.given),
+      takes_next datum (At value_of g.S.Sink.takes)
+          (At value_of g.S.Sink.refuses) c.args.bytes.now at.byte-index
+          (omega arith) c.args.sink.now _ _
+          at.invariant.1 (
+            action.DeviceControl (device.Data (get_or c.args.bytes.now at.byte-index 0)),
+            refl,
+            c.in-Ok.ensures.given,
+          ),
     )

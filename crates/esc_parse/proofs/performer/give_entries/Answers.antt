@@ -6,9 +6,13 @@ use Rattle.memory.specs.Refusals.{Refused}
 
 pub returns-in-Ok-true-clause-given : goal.returns-in-Ok-true-clause-given
 returns-in-Ok-true-clause-given g c =
-    folds_seen value_of csi g.S.Sink.takes g.S.Sink.refuses c.args.sink.now _ _ (c.in-Ok-true.ensures.taken c.in-Ok-true.field-0-test)
+    folds_seen value_of csi g.S.Sink.takes g.S.Sink.refuses c.args.sink.now _ _
+    (c.in-Ok-true.ensures.taken c.in-Ok-true.field-0-test)
 
 pub returns-in-Err-clause-given : goal.returns-in-Err-clause-given
 returns-in-Err-clause-given g c =
-    StopsAt-weaker (At value_of g.S.Sink.takes) (At value_of g.S.Sink.refuses) (Refused g.row.A.Denot) ⊥ c.args.sink.now _ _
-    (λ no. absurd no) (stops_seen value_of csi g.S.Sink.takes g.S.Sink.refuses ⊥ c.args.sink.now _ _ c.in-Err.ensures.refused)
+    StopsAt-weaker (At value_of g.S.Sink.takes) (At value_of g.S.Sink.refuses)
+    (Refused g.row.A.Denot) ⊥ c.args.sink.now _ _
+    (λ no. absurd no)
+    (stops_seen value_of csi g.S.Sink.takes g.S.Sink.refuses ⊥ c.args.sink.now _ _
+    c.in-Err.ensures.refused)

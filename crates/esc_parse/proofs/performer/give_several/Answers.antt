@@ -8,6 +8,7 @@ use Rattle.memory.specs.Refusals.{Refused}
 
 pub returns-in-Err-clause-given : goal.returns-in-Err-clause-given
 returns-in-Err-clause-given g c =
-    StopsAt-here (At value_of g.S.Sink.takes) (At value_of g.S.Sink.refuses) (Refused g.row.A.Denot) c.args.sink.now
+    StopsAt-here (At value_of g.S.Sink.takes) (At value_of g.S.Sink.refuses)
+    (Refused g.row.A.Denot) c.args.sink.now
     (map csi (csi_of c.args.params.now c.args.parameters_truncated c.args.byte)) c.args.sink.now
     c.in-Err.ensures.refused refl

@@ -11,7 +11,9 @@ pub returns-in-Ok-false-clause-given : goal.returns-in-Ok-false-clause-given
 returns-in-Ok-false-clause-given g c =
     let new = c.give_command.new.sink in
     let meant = osc (command_meant (parts_of c.args.text.now)) ∷ [] in
-    subst (λ s. MatchResult c.give_command.result (λ _. FoldsTo (At value_of g.S.Sink.takes) s meant new)
-    (λ _. StopsAt (Refused g.row.A.Denot) (At value_of g.S.Sink.takes) (At value_of g.S.Sink.refuses) s meant new))
+    subst (λ s. MatchResult c.give_command.result
+    (λ _. FoldsTo (At value_of g.S.Sink.takes) s meant new)
+    (λ _. StopsAt (Refused g.row.A.Denot) (At value_of g.S.Sink.takes)
+    (At value_of g.S.Sink.refuses) s meant new))
     (c.in-Ok-false.ensures.left c.in-Ok-false.field-0-test)
     (c.give_command.ensures.given _ c.command_in.ensures.ok c.command_in.ensures.refused)

@@ -16,10 +16,13 @@ pub loop-c-preserved : goal.loop-c-preserved
 loop-c-preserved c =
     let held = c.loop-c.invariant in
     let parts = c.in-Some.ensures.steps.0 in
-    let good = sym c.is_clear.ensures ∙ c.if-not-is_clear.false in
-    (IsUtf8-past_char _ _ c.in-Some.c held.0 parts, rw (chars_past_char _ _ c.in-Some.c held.0 parts, good) at held.1)
+    let good = sym c.is_clear.ensures ∙ c.if-not-is_clear.false in (
+      IsUtf8-past_char _ _ c.in-Some.c held.0 parts,
+      rw (chars_past_char _ _ c.in-Some.c held.0 parts, good) at held.1,
+    )
 
 pub returns : goal.returns
 returns c =
     let done = nothing_left _ c.in-None.ensures.steps.0.0 in
-    sym (ap (λ t. list_all is_clear (chars t)) done ∙ ap (list_all is_clear) chars-nil) ∙ c.loop-c.invariant.1
+    sym (ap (λ t. list_all is_clear (chars t)) done ∙ ap (list_all is_clear) chars-nil)
+    ∙ c.loop-c.invariant.1

@@ -4,8 +4,10 @@ use Rattle.escape_stream.proofs.pieces.parse_pieces.Goals as goal
 
 pub returns-clause-returned : goal.returns-clause-returned
 returns-clause-returned g c =
-    if_ok_more _ _ c.join_pieces.result (λ v w. at_meaning _ _ w (c.headline.ensures _)) c.join_pieces.ensures.given
+    if_ok_more _ _ c.join_pieces.result
+    (λ v w. at_meaning _ _ w (c.headline.ensures _)) c.join_pieces.ensures.given
 
 pub returns-clause-headline : goal.returns-clause-headline
 returns-clause-headline g c = λ never.
-    is_ok_unless _ _ _ c.join_pieces.result never (returns-clause-returned g c) c.join_pieces.ensures.refused
+    is_ok_unless _ _ _ c.join_pieces.result never
+    (returns-clause-returned g c) c.join_pieces.ensures.refused

@@ -8,5 +8,6 @@ use Rattle.esc_parse.specs.Firsts.{first}
 pub returns-in-Ok-clause-itself : goal.returns-in-Ok-clause-itself
 returns-in-Ok-clause-itself g c = λ o h.
     if_ok_more _ _ c.first_action.result
-    (λ r w. w ∙ ap (λ t. first (meaning t)) (c.as_bytes.ensures ∙ c.in-Ok.ensures.ok) ∙ means_first c.reads_back.ensures _ o h)
+    (λ r w. w ∙ ap (λ t. first (meaning t)) (c.as_bytes.ensures ∙ c.in-Ok.ensures.ok)
+    ∙ means_first c.reads_back.ensures _ o h)
     c.first_action.ensures.meant

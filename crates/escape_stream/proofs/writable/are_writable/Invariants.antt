@@ -4,4 +4,6 @@ use Rattle.esc_actions.specs.Values.{value_of}
 use Rattle.esc_actions.specs.Writable.{AreWritable, AreWritableFrom}
 
 abbrev pub invariant-loop-action : goal.invariant-loop-action
-invariant-loop-action g l = AreWritable (map value_of l.actions) ↔ AreWritableFrom l.within (map value_of (drop l.action-index l.actions))
+invariant-loop-action g l =
+    AreWritable (map value_of l.actions) ↔ AreWritableFrom l.within
+    (map value_of (drop l.action-index l.actions))

@@ -9,8 +9,11 @@ use Rattle.esc_actions.specs.Values.{value_of}
 
 pub returns-in-Ok-clause-given : goal.returns-in-Ok-clause-given
 returns-in-Ok-clause-given g c = λ limit s h.
-    let w = IfOk-at_ok _ c.in-Ok.is (c.parse_into-result.ensures.given limit s h) in
-    (w.0, collects _ _ _ w.1 ∙ ap (λ l. map value_of l ++ yield_within limit s c.args.bytes.now) c.new.ensures.items)
+    let w = IfOk-at_ok _ c.in-Ok.is (c.parse_into-result.ensures.given limit s h) in (
+      w.0,
+      collects _ _ _ w.1
+          ∙ ap (λ l. map value_of l ++ yield_within limit s c.args.bytes.now) c.new.ensures.items,
+    )
 
 pub returns-in-Ok-clause-failed : goal.returns-in-Ok-clause-failed
 returns-in-Ok-clause-failed g c = λ h.

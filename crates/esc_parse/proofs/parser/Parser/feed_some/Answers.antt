@@ -13,9 +13,11 @@ pub returns-in-Ok-clause-given : goal.returns-in-Ok-clause-given
 unfolding WasFedWithin
 returns-in-Ok-clause-given g c = λ limit s h.
     let w = IfOk-at_ok _ c.in-Ok.is (c.parse_some-result.ensures.given limit s h.0) in
-    let r = performs_fed (At value_of g.S.Sink.takes) (At value_of g.S.Sink.refuses) limit s (take c.in-Ok.taken c.args.bytes.now) _
+    let r = performs_fed (At value_of g.S.Sink.takes) (At value_of g.S.Sink.refuses) limit s
+    (take c.in-Ok.taken c.args.bytes.now) _
     c.parse_some-result.new.actor w.1
-    (subst (λ u. Hooks limit u (mode_from plain (events_within limit s))) (sym c.take.ensures.taken) h.1) in ((w.0, r.0), r.1)
+    (subst (λ u. Hooks limit u (mode_from plain (events_within limit s)))
+    (sym c.take.ensures.taken) h.1) in ((w.0, r.0), r.1)
 
 pub returns-in-Err-clause-refused : goal.returns-in-Err-clause-refused
 unfolding WasFedWithin
@@ -23,6 +25,8 @@ returns-in-Err-clause-refused g c = λ limit s h.
     let w = IfErr-at_err _ c.in-Err.is (c.parse_some-result.ensures.refused limit s h.0) in (
       w.0,
       (on_err_at _ c.in-Err.is c.parse_some-result.ensures.ends, c.take.ensures.nothing),
-      performs_some (At value_of g.S.Sink.takes) (At value_of g.S.Sink.refuses) limit s c.args.bytes.now _ c.parse_some-result.new.actor w.1
-          (subst (λ u. Hooks limit u (mode_from plain (events_within limit s))) (sym c.take.ensures.taken) h.1),
+      performs_some (At value_of g.S.Sink.takes) (At value_of g.S.Sink.refuses) limit s
+          c.args.bytes.now _ c.parse_some-result.new.actor w.1
+          (subst (λ u. Hooks limit u (mode_from plain (events_within limit s)))
+          (sym c.take.ensures.taken) h.1),
     )

@@ -12,7 +12,8 @@ pub fronts-init : goal.fronts-init
 fronts-init g c = record {
   within = omega arith;
   broken = λ b. b;
-  fed = λ limit s h. (subst (λ x. WasFedWithin limit x c.args.self.now) (sym (append-nil s)) h, yield_nil limit s);
+  fed = λ limit s h.
+      (subst (λ x. WasFedWithin limit x c.args.self.now) (sym (append-nil s)) h, yield_nil limit s);
 }
 
 pub returns-in-Ok-default-Some-clause-some : goal.returns-in-Ok-default-Some-clause-some
@@ -23,16 +24,19 @@ returns-in-Ok-default-Some-clause-some g c = λ limit s h.
     let p = c.fronts.invariant.fed limit s h in
     let w = c.in-Ok-default-Some.ensures.given limit (s ++ take at bs) p.0 in
     let l = rest_length bs at in
-    let m : at + n ≤ length bs = omega (arith, c.in-Ok-default-Some.ensures.count.0, c.fronts.invariant.within) in (
+    let m : at + n ≤ length bs =
+    omega (arith, c.in-Ok-default-Some.ensures.count.0, c.fronts.invariant.within) in (
       subst (λ x. WasFedWithin limit x c.first_in.new.self) (fed_more s bs at n) w.0,
       finds_first limit s bs at n (value_of c.in-Ok-default-Some.action) m p.1
-          (c.in-Ok-default-Some.ensures.quiet limit (s ++ take at bs) p.0) (sym (ap (option_map value_of) c.in-Ok-default-Some.field-0-1-is) ∙ w.1),
+          (c.in-Ok-default-Some.ensures.quiet limit (s ++ take at bs) p.0)
+          (sym (ap (option_map value_of) c.in-Ok-default-Some.field-0-1-is) ∙ w.1),
     )
 
 pub returns-in-Ok-default-Some-clause-handed_out : goal.returns-in-Ok-default-Some-clause-handed_out
 returns-in-Ok-default-Some-clause-handed_out g c =
     λ limit s h. let is =
-    (returns-in-Ok-default-Some-clause-some g c limit s h).1 in first_handed g.row.A.Denot c.yield_handed_out.ensures limit s c.args.bytes.now
+    (returns-in-Ok-default-Some-clause-some g c limit s h).1 in first_handed g.row.A.Denot
+    c.yield_handed_out.ensures limit s c.args.bytes.now
     (value_of c.in-Ok-default-Some.action) _ is
 
 pub returns-then-at-bytes-clause-none : goal.returns-then-at-bytes-clause-none
@@ -42,9 +46,13 @@ returns-then-at-bytes-clause-none g c = λ limit s h.
     let n = c.in-Ok-default-None.taken in
     let p = c.fronts.invariant.fed limit s h in
     let w = c.in-Ok-default-None.ensures.given limit (s ++ take at bs) p.0 in
-    let e = finds_none {A = g.row.A.Denot} limit s bs at n p.1 (sym (ap (option_map value_of) c.in-Ok-default-None.field-0-1-is) ∙ w.1) in
-    let all : take (at + n) bs ≡ bs = take_all (at + n) bs (omega arith) in
-    (subst (λ x. WasFedWithin limit x c.first_in.new.self) (fed_more s bs at n ∙ ap (λ x. s ++ x) all) w.0, ap (yield_within limit s) (sym all) ∙ e)
+    let e = finds_none {A = g.row.A.Denot} limit s bs at n p.1
+    (sym (ap (option_map value_of) c.in-Ok-default-None.field-0-1-is) ∙ w.1) in
+    let all : take (at + n) bs ≡ bs = take_all (at + n) bs (omega arith) in (
+      subst (λ x. WasFedWithin limit x c.first_in.new.self)
+          (fed_more s bs at n ∙ ap (λ x. s ++ x) all) w.0,
+      ap (yield_within limit s) (sym all) ∙ e,
+    )
 
 pub fronts-preserved : goal.fronts-preserved
 fronts-preserved g c =
@@ -53,7 +61,9 @@ fronts-preserved g c =
     let n = c.in-Ok-default-None.taken in
     let l = rest_length bs at in record {
       within = omega (arith, c.in-Ok-default-None.ensures.count.0, c.fronts.invariant.within);
-      broken = λ b. absurd (ok_is_no_error _ _ _ refl (c.in-Ok-default-None.ensures.failed (c.fronts.invariant.broken b)).0);
+      broken = λ b. absurd
+          (ok_is_no_error _ _ _ refl
+          (c.in-Ok-default-None.ensures.failed (c.fronts.invariant.broken b)).0);
       fed = λ limit s h.
           let p = c.fronts.invariant.fed limit s h in
           let w = c.in-Ok-default-None.ensures.given limit (s ++ take at bs) p.0 in (

@@ -8,7 +8,8 @@ invariant-fronts g l = record {
   within : l.at ≤ length l.bytes;
   broken : IsBroken l.initial.self → IsBroken l.self;
   fed : (limit : Option ℕ) (s : List ℕ) → WasFedWithin limit s l.initial.self
-      → WasFedWithin limit (s ++ take l.at l.bytes) l.self × (yield_within {A = g.row.A.Denot} limit s (take l.at l.bytes) ≡ []);
+      → WasFedWithin limit (s ++ take l.at l.bytes) l.self
+      × (yield_within {A = g.row.A.Denot} limit s (take l.at l.bytes) ≡ []);
 }
 
 abbrev pub decreases-fronts : goal.decreases-fronts

@@ -24,7 +24,8 @@ returns-clause-given g c = λ limit s h.
 
 pub returns-clause-refused : goal.returns-clause-refused
 returns-clause-refused g c = λ limit s h.
-    err_paired _ _ _ _ _ c.paired.ensures (λ e f. let w = stops_wanting _ _ _ _ (λ p v q w. w.2.1) _ _ _ f.2 in (f.0, f.1, w.0, w.1))
+    err_paired _ _ _ _ _ c.paired.ensures (λ e f. let w =
+    stops_wanting _ _ _ _ (λ p v q w. w.2.1) _ _ _ f.2 in (f.0, f.1, w.0, w.1))
     (c.feed_some-taken.ensures.refused limit s h)
 
 pub returns-clause-empty : goal.returns-clause-empty

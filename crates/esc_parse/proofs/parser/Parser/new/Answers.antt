@@ -5,4 +5,7 @@ use Rattle.esc_parse.specs.Fed.{Hooks, WasFedWithin}
 
 pub returns : goal.returns
 unfolding WasFedWithin
-returns g c = (c.new.ensures, subst (λ m. Hooks None c.new-2.result m) (sym (mode_nil None)) c.new-2.ensures.hooks)
+returns g c = (
+  c.new.ensures,
+  subst (λ m. Hooks None c.new-2.result m) (sym (mode_nil None)) c.new-2.ensures.hooks,
+)

@@ -7,5 +7,6 @@ use Rattle.esc_actions.specs.Writable.{AreHandedOut}
 pub returns-clause-handed_out : goal.returns-clause-handed_out
 returns-clause-handed_out g c = λ limit s h.
     if_ok_more _ _ c.collect.result
-    (λ v w. let P : List (Value g.row.A.Denot) → Type 0 = λ x. AreHandedOut x in subst P (sym w.1) (c.yield_handed_out.ensures limit s c.args.bytes.now))
+    (λ v w. let P : List (Value g.row.A.Denot) → Type 0 =
+    λ x. AreHandedOut x in subst P (sym w.1) (c.yield_handed_out.ensures limit s c.args.bytes.now))
     (c.collect.ensures.given limit s h)

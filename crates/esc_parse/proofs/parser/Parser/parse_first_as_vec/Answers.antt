@@ -28,11 +28,15 @@ returns-then-stops-clause-count g c =
     let n = c.in-Ok.taken in
     let l = rest_length bs at in
     let had = ap length c.deref.ensures.value in
-    let some : 0 < length c.in-Ok.more.items = omega (arith, c.stops.ensures.some c.if-stops.true, had) in
+    let some : 0 < length c.in-Ok.more.items =
+    omega (arith, c.stops.ensures.some c.if-stops.true, had) in
     let none : length bs ≡ 0 → at ≡ 0 → length c.in-Ok.more.items ≡ 0 = λ e z.
-    ap (λ v. length v.items) (c.in-Ok.ensures.empty (l ∙ omega (arith, e, z))) ∙ c.fronts.invariant.fresh z in
-    let count : 0 < length bs - at → 0 < n = λ h. c.in-Ok.ensures.count.1 (omega (arith, h, l)) in
-    (front_some (length bs) at n _ count some none, omega (arith, l, c.in-Ok.ensures.count.0, c.fronts.invariant.within))
+    ap (λ v. length v.items) (c.in-Ok.ensures.empty (l ∙ omega (arith, e, z)))
+    ∙ c.fronts.invariant.fresh z in
+    let count : 0 < length bs - at → 0 < n = λ h. c.in-Ok.ensures.count.1 (omega (arith, h, l)) in (
+      front_some (length bs) at n _ count some none,
+      omega (arith, l, c.in-Ok.ensures.count.0, c.fronts.invariant.within),
+    )
 
 pub returns-then-stops-clause-some : goal.returns-then-stops-clause-some
 returns-then-stops-clause-some g c = λ limit s h.
@@ -42,24 +46,30 @@ returns-then-stops-clause-some g c = λ limit s h.
     let p = c.fronts.invariant.fed limit s h in
     let w = c.in-Ok.ensures.given limit (s ++ take at bs) p.0 in
     let l = rest_length bs at in
-    let m : at + n ≤ length bs = omega (arith, c.in-Ok.ensures.count.0, c.fronts.invariant.within) in
+    let m : at + n ≤ length bs =
+    omega (arith, c.in-Ok.ensures.count.0, c.fronts.invariant.within) in
     let v = values_more limit s bs at n _ _ p.1 w.1 in
     let f = subst (λ x. WasFedWithin limit x c.more_in.new.self) (fed_more s bs at n) w.0 in (
       f,
       record {
         within = m;
         values = v;
-        stop = c.stops.ensures.yes limit s (take (at + n) bs) f (ap (map value_of) c.deref.ensures.value ∙ v) c.if-stops.true;
-        none_before = no_stop_within g.row.A.Denot limit s bs at n p.2 (c.in-Ok.ensures.quiet limit (s ++ take at bs) p.0);
+        stop = c.stops.ensures.yes limit s (take (at + n) bs) f
+            (ap (map value_of) c.deref.ensures.value ∙ v) c.if-stops.true;
+        none_before =
+            no_stop_within g.row.A.Denot limit s bs at n p.2
+            (c.in-Ok.ensures.quiet limit (s ++ take at bs) p.0);
       },
     )
 
 pub returns-then-stops-clause-handed_out : goal.returns-then-stops-clause-handed_out
 returns-then-stops-clause-handed_out g c =
-    λ limit s h. stop_handed g.row.A.Denot c.yield_handed_out.ensures limit s c.args.bytes.now _ _ (returns-then-stops-clause-some g c limit s h).1
+    λ limit s h. stop_handed g.row.A.Denot c.yield_handed_out.ensures limit s c.args.bytes.now _ _
+    (returns-then-stops-clause-some g c limit s h).1
 
 pub returns-then-stops-clause-failed : goal.returns-then-stops-clause-failed
-returns-then-stops-clause-failed g c = λ b. absurd (ok_is_no_error _ _ _ refl (c.in-Ok.ensures.failed (c.fronts.invariant.broken b)).0)
+returns-then-stops-clause-failed g c =
+    λ b. absurd (ok_is_no_error _ _ _ refl (c.in-Ok.ensures.failed (c.fronts.invariant.broken b)).0)
 
 pub returns-then-at-bytes-clause-none : goal.returns-then-at-bytes-clause-none
 returns-then-at-bytes-clause-none g c = λ limit s h.
@@ -72,12 +82,14 @@ returns-then-at-bytes-clause-none g c = λ limit s h.
     let f = subst (λ x. WasFedWithin limit x c.more_in.new.self) (fed_more s bs at n) w.0 in
     let all : take (at + n) bs ≡ bs = take_all (at + n) bs (omega arith) in
     let here : IsStop g.row.A.Denot limit s (take (at + n) bs) → ⊥ = λ stop.
-    (let t = c.stops.ensures.no limit s (take (at + n) bs) f (ap (map value_of) c.deref.ensures.value ∙ v) stop in let e = c.if-stops.false in cc) in (
+    (let t = c.stops.ensures.no limit s (take (at + n) bs) f
+    (ap (map value_of) c.deref.ensures.value ∙ v) stop in let e = c.if-stops.false in cc) in (
       subst (λ x. WasFedWithin limit x c.more_in.new.self) (ap (λ x. s ++ x) all) f,
       λ k below.
           let within : k ≤ at + n = omega arith in
           no_stop_up_to g.row.A.Denot limit s bs (at + n)
-          (no_stop_within g.row.A.Denot limit s bs at n p.2 (c.in-Ok.ensures.quiet limit (s ++ take at bs) p.0)) here k within,
+          (no_stop_within g.row.A.Denot limit s bs at n p.2
+          (c.in-Ok.ensures.quiet limit (s ++ take at bs) p.0)) here k within,
     )
 
 pub returns-in-Err-clause-refused : goal.returns-in-Err-clause-refused
@@ -104,17 +116,20 @@ fronts-preserved g c =
     let l = rest_length bs at in record {
       within = omega (arith, c.in-Ok.ensures.count.0, c.fronts.invariant.within);
       fresh = λ e. absurd (omega (arith, e, c.in-Ok.ensures.count.1, c.fronts.invariant.within));
-      broken = λ b. absurd (ok_is_no_error _ _ _ refl (c.in-Ok.ensures.failed (c.fronts.invariant.broken b)).0);
+      broken = λ b. absurd
+          (ok_is_no_error _ _ _ refl (c.in-Ok.ensures.failed (c.fronts.invariant.broken b)).0);
       fed = λ limit s h.
           let p = c.fronts.invariant.fed limit s h in
           let w = c.in-Ok.ensures.given limit (s ++ take at bs) p.0 in
           let v = values_more limit s bs at n _ _ p.1 w.1 in
           let f = subst (λ x. WasFedWithin limit x c.more_in.new.self) (fed_more s bs at n) w.0 in
           let here : IsStop g.row.A.Denot limit s (take (at + n) bs) → ⊥ = λ stop.
-          (let t = c.stops.ensures.no limit s (take (at + n) bs) f (ap (map value_of) c.deref.ensures.value ∙ v) stop in let e = c.if-stops.false in cc) in (
+          (let t = c.stops.ensures.no limit s (take (at + n) bs) f
+          (ap (map value_of) c.deref.ensures.value ∙ v) stop in let e = c.if-stops.false in cc) in (
             f,
             v,
-            no_stop_up_to g.row.A.Denot limit s bs (at + n) (no_stop_within g.row.A.Denot limit s bs at n p.2
+            no_stop_up_to g.row.A.Denot limit s bs (at + n)
+                (no_stop_within g.row.A.Denot limit s bs at n p.2
                 (c.in-Ok.ensures.quiet limit (s ++ take at bs) p.0)) here,
           );
     }

@@ -11,7 +11,8 @@ invariant-fronts g l = record {
   fresh : l.at ≡ 0 → length l.actions.items ≡ 0;
   broken : IsBroken l.initial.self → IsBroken l.self;
   fed : (limit : Option ℕ) (s : List ℕ) → WasFedWithin limit s l.initial.self
-      → WasFedWithin limit (s ++ take l.at l.bytes) l.self × (map value_of l.actions.items ≡ yield_within limit s (take l.at l.bytes))
+      → WasFedWithin limit (s ++ take l.at l.bytes) l.self
+      × (map value_of l.actions.items ≡ yield_within limit s (take l.at l.bytes))
       × ((k : ℕ) → k ≤ l.at → IsStop g.row.A.Denot limit s (take k l.bytes) → ⊥);
 }
 

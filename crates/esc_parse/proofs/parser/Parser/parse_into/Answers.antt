@@ -13,8 +13,10 @@ pub returns-in-Ok-clause-given : goal.returns-in-Ok-clause-given
 unfolding WasFedWithin
 returns-in-Ok-clause-given g c = λ limit s h.
     let w = on_ok_at _ c.in-Ok.is (c.parse-result.ensures.given limit s h.0) in
-    let r = performs_fed (At value_of g.S.Sink.takes) (At value_of g.S.Sink.refuses) limit s c.args.bytes.now _ c.parse-result.new.actor w.1
-    (subst (λ u. Hooks limit u (mode_from plain (events_within limit s))) (sym c.take.ensures.taken) h.1) in ((w.0, r.0), r.1)
+    let r = performs_fed (At value_of g.S.Sink.takes) (At value_of g.S.Sink.refuses) limit s
+    c.args.bytes.now _ c.parse-result.new.actor w.1
+    (subst (λ u. Hooks limit u (mode_from plain (events_within limit s)))
+    (sym c.take.ensures.taken) h.1) in ((w.0, r.0), r.1)
 
 pub returns-in-Err-clause-refused : goal.returns-in-Err-clause-refused
 unfolding WasFedWithin
@@ -22,6 +24,8 @@ returns-in-Err-clause-refused g c = λ limit s h.
     let w = IfErr-at_err _ c.in-Err.is (c.parse-result.ensures.refused limit s h.0) in (
       w.0,
       (on_err_at _ c.in-Err.is c.parse-result.ensures.ends, c.take.ensures.nothing),
-      performs_some (At value_of g.S.Sink.takes) (At value_of g.S.Sink.refuses) limit s c.args.bytes.now _ c.parse-result.new.actor w.1
-          (subst (λ u. Hooks limit u (mode_from plain (events_within limit s))) (sym c.take.ensures.taken) h.1),
+      performs_some (At value_of g.S.Sink.takes) (At value_of g.S.Sink.refuses) limit s
+          c.args.bytes.now _ c.parse-result.new.actor w.1
+          (subst (λ u. Hooks limit u (mode_from plain (events_within limit s)))
+          (sym c.take.ensures.taken) h.1),
     )

@@ -8,7 +8,8 @@ pub returns-then-not-is_empty-clause-yes : goal.returns-then-not-is_empty-clause
 unfolding WasFedWithin
 returns-then-not-is_empty-clause-yes g c = λ limit s b h e ground. (
   λ none.
-      let few : length c.args.actions.now ≡ 0 = sym (length-map c.args.actions.now value_of) ∙ ap length (e ∙ none) in
+      let few : length c.args.actions.now ≡ 0 =
+      sym (length-map c.args.actions.now value_of) ∙ ap length (e ∙ none) in
       let empty : c.is_empty.result ≡ true = c.is_empty.ensures ∙ ap (λ n. n == 0) few in
       let some = c.if-not-is_empty.true in absurd cc,
   (c.is_ground.ensures.ground limit (s ++ b) h.0).0 ground,
@@ -16,4 +17,5 @@ returns-then-not-is_empty-clause-yes g c = λ limit s b h e ground. (
 
 pub returns-then-not-is_empty-clause-no : goal.returns-then-not-is_empty-clause-no
 unfolding WasFedWithin
-returns-then-not-is_empty-clause-no g c = λ limit s b h e stop. (c.is_ground.ensures.ground limit (s ++ b) h.0).1 stop.1
+returns-then-not-is_empty-clause-no g c =
+    λ limit s b h e stop. (c.is_ground.ensures.ground limit (s ++ b) h.0).1 stop.1

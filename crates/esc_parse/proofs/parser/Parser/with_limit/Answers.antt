@@ -5,4 +5,8 @@ use Rattle.esc_parse.specs.Fed.{Hooks, WasFedWithin}
 
 pub returns : goal.returns
 unfolding WasFedWithin
-returns g c = (c.with_limit.ensures, subst (λ m. Hooks (Some c.args.limit) c.new.result m) (sym (mode_nil (Some c.args.limit))) c.new.ensures.hooks)
+returns g c = (
+  c.with_limit.ensures,
+  subst (λ m. Hooks (Some c.args.limit) c.new.result m)
+      (sym (mode_nil (Some c.args.limit))) c.new.ensures.hooks,
+)

@@ -4,5 +4,6 @@ use Rattle.esc_parse.proofs.performer.PerformerVTActor.osc_dispatch.Goals as goa
 
 pub returns-clause-hears : goal.returns-clause-hears
 returns-clause-hears g c =
-    text_heard g.S.Sink.takes g.S.Sink.refuses c.give_command.result c.args.self.now c.give_command.new.sink (map (λ p. p.now) c.args.params.now)
+    text_heard g.S.Sink.takes g.S.Sink.refuses c.give_command.result c.args.self.now
+    c.give_command.new.sink (map (λ p. p.now) c.args.params.now)
     (c.give_command.ensures.given _ c.parse-command.ensures.ok c.parse-command.ensures.refused)

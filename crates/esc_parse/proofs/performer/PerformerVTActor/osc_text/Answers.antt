@@ -4,10 +4,12 @@ use Rattle.esc_parse.proofs.performer.PerformerVTActor.osc_text.Goals as goal
 
 pub returns-clause-told : goal.returns-clause-told
 returns-clause-told g c =
-    text_taken _ g.S.Sink.takes g.S.Sink.refuses c.give_text.result c.args.self.now c.give_text.new.sink (parts_of c.args.text.now)
+    text_taken _ g.S.Sink.takes g.S.Sink.refuses c.give_text.result c.args.self.now
+    c.give_text.new.sink (parts_of c.args.text.now)
     c.give_text.ensures.given
 
 pub returns-clause-few : goal.returns-clause-few
 returns-clause-few g c = λ _.
-    text_taken ⊥ g.S.Sink.takes g.S.Sink.refuses c.give_text.result c.args.self.now c.give_text.new.sink (parts_of c.args.text.now)
+    text_taken ⊥ g.S.Sink.takes g.S.Sink.refuses c.give_text.result c.args.self.now
+    c.give_text.new.sink (parts_of c.args.text.now)
     c.give_text.ensures.given

@@ -8,8 +8,10 @@ pub loop-b-preserved : goal.loop-b-preserved
 loop-b-preserved g c =
     let at = c.loop-b in
     let now = c.args.text.now in record {
-      room = omega (arith, at.invariant.room, c.push_reserved.ensures.len, c.push_reserved.ensures.capacity);
+      room = omega
+          (arith, at.invariant.room, c.push_reserved.ensures.len, c.push_reserved.ensures.capacity);
       given =
-          takes_next action.Print Gathers Gathers now at.b-index (omega arith) c.args.self.now _ _ at.invariant.given
+          takes_next action.Print Gathers Gathers now at.b-index
+          (omega arith) c.args.self.now _ _ at.invariant.given
           c.push_reserved.ensures.items;
     }

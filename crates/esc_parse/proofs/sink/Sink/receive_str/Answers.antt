@@ -9,16 +9,22 @@ loop-c-preserved g c =
     let step = c.in-Some.ensures.steps.0 in (
       c.in-Ok.ensures.ready,
       IsUtf8-past_char _ _ c.in-Some.c at.invariant.1 step,
-      char_taken g.T.FromChar.print g.Self.Sink.takes g.Self.Sink.refuses c.args.text.now _ _ c.in-Some.c c.args.self.now _ _ at.invariant.1 step at.invariant.2
-          (subst (λ x. g.Self.Sink.takes at.self x c.receive.new.self) c.print.ensures c.in-Ok.ensures.given),
+      char_taken g.T.FromChar.print g.Self.Sink.takes g.Self.Sink.refuses c.args.text.now _ _
+          c.in-Some.c c.args.self.now _ _ at.invariant.1 step at.invariant.2
+          (subst (λ x. g.Self.Sink.takes at.self x c.receive.new.self) c.print.ensures
+          c.in-Ok.ensures.given),
     )
 
 pub returns-in-Err-clause-given : goal.returns-in-Err-clause-given
 returns-in-Err-clause-given g c =
     let at = c.loop-c in
-    char_stopped g.T.FromChar.print g.Self.Sink.takes g.Self.Sink.refuses c.args.text.now _ _ c.in-Some.c c.args.self.now _ _ at.invariant.1
-    c.in-Some.ensures.steps.0 at.invariant.2 (subst (λ x. g.Self.Sink.refuses at.self x c.receive.new.self) c.print.ensures c.in-Err.ensures.given)
+    char_stopped g.T.FromChar.print g.Self.Sink.takes g.Self.Sink.refuses c.args.text.now _ _
+    c.in-Some.c c.args.self.now _ _ at.invariant.1
+    c.in-Some.ensures.steps.0 at.invariant.2
+    (subst (λ x. g.Self.Sink.refuses at.self x c.receive.new.self) c.print.ensures
+    c.in-Err.ensures.given)
 
 pub returns-clause-given : goal.returns-clause-given
 returns-clause-given g c =
-    chars_taken g.T.FromChar.print g.Self.Sink.takes c.args.text.now _ c.args.self.now _ c.in-None.ensures.steps.0.0 c.loop-c.invariant.2
+    chars_taken g.T.FromChar.print g.Self.Sink.takes c.args.text.now _ c.args.self.now _
+    c.in-None.ensures.steps.0.0 c.loop-c.invariant.2

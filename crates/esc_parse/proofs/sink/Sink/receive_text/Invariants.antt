@@ -3,4 +3,7 @@ use Rattle.std.specs.List.{FoldsTo}
 use Rattle.esc_parse.proofs.sink.Sink.receive_text.Given as goal
 
 abbrev pub invariant-loop-b : goal.invariant-loop-b
-invariant-loop-b g l = g.Self.Sink.is_ready l.self × FoldsTo g.Self.Sink.takes l.initial.self (map g.T.FromChar.print (take l.b-index l.text)) l.self
+invariant-loop-b g l =
+    g.Self.Sink.is_ready l.self
+    × FoldsTo g.Self.Sink.takes l.initial.self
+    (map g.T.FromChar.print (take l.b-index l.text)) l.self

@@ -9,5 +9,6 @@ loop-byte-preserved g c = λ q k.
     let at = c.loop-byte in
     let lt : at.byte-index < length c.args.bytes.now = omega arith in
     at.invariant q
-    (subst (λ bs. FoldsTo TakesData at.self bs q) (sym (drop_more c.args.bytes.now at.byte-index 0 lt))
+    (subst (λ bs. FoldsTo TakesData at.self bs q)
+    (sym (drop_more c.args.bytes.now at.byte-index 0 lt))
     (c.push.new.self, (c.in_ok-push.ensures.mode, c.in_ok-push.ensures.hooks), k))

@@ -5,4 +5,6 @@ use Rattle.esc_parse.proofs.unfinished.Unfinished.push_run.Given as goal
 
 -- each byte so far is taken
 abbrev pub invariant-loop-byte : goal.invariant-loop-byte
-invariant-loop-byte g l = (q : _) → FoldsTo TakesData l.self (drop l.byte-index l.bytes) q → FoldsTo TakesData l.initial.self l.bytes q
+invariant-loop-byte g l =
+    (q : _) → FoldsTo TakesData l.self (drop l.byte-index l.bytes) q
+    → FoldsTo TakesData l.initial.self l.bytes q

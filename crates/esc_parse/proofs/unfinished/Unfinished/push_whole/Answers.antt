@@ -18,22 +18,28 @@ pub returns-in-Termcap-clause-ok : goal.returns-in-Termcap-clause-ok
 returns-in-Termcap-clause-ok g c =
     let call = c.push_run-in-Termcap in
     on_ok_more _ _ call.result
-    (λ h. termcap_run c.args.bytes.now c.args.self.now _ c.in-Termcap.builder call.new.self c.in-Termcap.is c.requires h refl)
+    (λ h. termcap_run c.args.bytes.now c.args.self.now _ c.in-Termcap.builder call.new.self
+    c.in-Termcap.is c.requires h refl)
     call.ensures.each
 
 pub returns-in-Short-clause-ok : goal.returns-in-Short-clause-ok
 returns-in-Short-clause-ok g c =
     let call = c.push_run-in-Short in
     on_ok_more _ _ call.result
-    (λ h. short_run c.args.bytes.now c.args.self.now _ c.in-Short.builder call.new.self c.in-Short.is c.requires
-    (subst (λ b. FoldsTo PushesShort b c.args.bytes.now call.new.self) c.deref_mut-in-Short.ensures.value h) refl)
+    (λ h. short_run c.args.bytes.now c.args.self.now _ c.in-Short.builder call.new.self
+    c.in-Short.is c.requires
+    (subst (λ b. FoldsTo PushesShort b c.args.bytes.now call.new.self)
+    c.deref_mut-in-Short.ensures.value h) refl)
     call.ensures.each
 
 pub returns-in-Nothing-clause-ok : goal.returns-in-Nothing-clause-ok
-returns-in-Nothing-clause-ok g c = idle_run c.args.bytes.now c.args.self.now _ c.requires c.in-Nothing.is refl
+returns-in-Nothing-clause-ok g c =
+    idle_run c.args.bytes.now c.args.self.now _ c.requires c.in-Nothing.is refl
 
 pub returns-in-Nothing-2-clause-ok : goal.returns-in-Nothing-2-clause-ok
-returns-in-Nothing-2-clause-ok g c = idle_run c.args.bytes.now c.args.self.now _ c.requires c.in-Nothing.is refl
+returns-in-Nothing-2-clause-ok g c =
+    idle_run c.args.bytes.now c.args.self.now _ c.requires c.in-Nothing.is refl
 
 pub returns-in-Nothing-3-clause-ok : goal.returns-in-Nothing-3-clause-ok
-returns-in-Nothing-3-clause-ok g c = idle_run c.args.bytes.now c.args.self.now _ c.requires c.in-Nothing.is refl
+returns-in-Nothing-3-clause-ok g c =
+    idle_run c.args.bytes.now c.args.self.now _ c.requires c.in-Nothing.is refl

@@ -1,0 +1,78 @@
+-- What a call of a parser promises, in the words that its clauses share.
+use Rattle.std.specs.Prelude.{ℕ, ◌≡◌, ◌<◌, ◌≤◌, List, [], ◌++◌, length, take, Option, Result, Err, IfErr, IfNone, IfOk, IfSome}
+use Rattle.esc_frame.specs.Memory.{MayTake}
+use Rattle.esc_frame.specs.declared.error.ParseError.{ParseError}
+use Rattle.esc_frame.specs.declared.error.ParseError.TheVariants.{Failed, Memory}
+use Rattle.esc_actions.specs.Meaning.{yield_within}
+use Rattle.esc_actions.specs.Values.{Value, value_of}
+use Rattle.esc_actions.specs.declared.action.Action.{Action}
+use Rattle.esc_parse.specs.Fed.{IsBroken, WasFedWithin}
+use Rattle.esc_parse.specs.Firsts.{IsFirst}
+use Rattle.esc_parse.specs.Given.{At, StopsAt}
+use Rattle.esc_parse.specs.declared.parser.Parser.{Parser}
+use Rattle.memory.specs.Refusals.{Refused}
+
+-- this holds of each stream that the parser may have been fed, under its limit
+abbrev pub After : {A : Type 0} → Parser A → (Option ℕ → List ℕ → Type 0) → Type 0
+After p P = (limit : Option ℕ) (s : List ℕ) → WasFedWithin limit s p → P limit s
+
+-- this holds of each stream with the bytes b after it, all of which the parser may have been fed,
+-- where these bytes yield vs
+abbrev pub AfterYield : {A : Type 0} → Parser A → List (Value A)
+    → (Option ℕ → List ℕ → List ℕ → Type 0) → Type 0
+AfterYield p vs P =
+    (limit : Option ℕ) (s b : List ℕ) → WasFedWithin limit (s ++ b) p
+    → vs ≡ yield_within limit s b → P limit s b
+
+-- an error is `Memory`, the parser has failed then, and the call stopped so
+abbrev pub IsStopped : {A T : Type 0} → Result T ParseError → Parser A → Type 0 → Type 0
+IsStopped result p stopped = IfErr result (λ e. (e ≡ Memory) × IsBroken p × stopped)
+
+-- an error is `Memory`, the parser has failed then, and a request for memory was refused, which the
+-- call made only where `wants` holds
+abbrev pub IsRefused : {A T : Type 0} → Result T ParseError → Parser A → Type 0 → Type 0
+IsRefused {A} result p wants =
+    IfErr result (λ e. (e ≡ Memory) × IsBroken p × wants × Refused A)
+
+-- a parser that had failed before the call says so, and stays so
+abbrev pub StaysBroken : {A T : Type 0} → Parser A → Result T ParseError → Parser A → Type 0
+StaysBroken old result new = IsBroken old → (result ≡ Err Failed) × IsBroken new
+
+-- A sink of which `old` was made was given a prefix of what b adds to s, and then it was refused
+-- memory, or the parser was. By itself the parser stops only where the cut of both holds a string
+-- or a control sequence.
+abbrev pub StopsIn : {A P : Type 0} → (P → Action A → P → Type 0) → (P → Action A → P → Type 0)
+    → Option ℕ → List ℕ → List ℕ → P → P → Type 0
+StopsIn {A} takes refuses limit s b old new =
+    StopsAt (MayTake (s ++ b) × Refused A) (At value_of takes) (At value_of refuses) old
+    (yield_within limit s b) new
+
+-- after s, the parser was fed b too, which yields these values
+abbrev pub Yields : {A : Type 0} → Option ℕ → List ℕ → List ℕ → Parser A → List (Value A) → Type 0
+Yields limit s b p vs = WasFedWithin limit (s ++ b) p × (vs ≡ yield_within limit s b)
+
+-- after s, the parser was fed b too, which yields nothing
+abbrev pub YieldsNone : {A : Type 0} → Option ℕ → List ℕ → List ℕ → Parser A → Type 0
+YieldsNone {A} limit s b p =
+    WasFedWithin limit (s ++ b) p × (yield_within {A = A} limit s b ≡ [])
+
+-- after s, the parser was fed the shortest prefix of b that yields a value, and this is the first
+abbrev pub YieldsFirst : {A : Type 0} → Option ℕ → List ℕ → List ℕ → Parser A → Value A → ℕ
+    → Type 0
+YieldsFirst limit s b p v n = WasFedWithin limit (s ++ take n b) p × IsFirst limit s b v n
+
+-- this holds of what was found, where something was
+abbrev pub IfFound : {T E : Type 0} → Result (Option T) E → (T → Type 0) → Type 0
+IfFound result P = IfOk result (λ r. IfSome r P)
+
+-- this holds where nothing was found
+abbrev pub IfNoneFound : {T E : Type 0} → Result (Option T) E → Type 0 → Type 0
+IfNoneFound result P = IfOk result (λ r. IfNone r P)
+
+-- the length of a prefix of the bytes, which is not empty
+abbrev pub IsSomeOf : ℕ → List ℕ → Type 0
+IsSomeOf n b = (0 < n) × (n ≤ length b)
+
+-- the length of a prefix of the bytes, which is empty only where there are none
+abbrev pub IsTaken : ℕ → List ℕ → Type 0
+IsTaken n b = (n ≤ length b) × (0 < length b → 0 < n)
