@@ -1,5 +1,5 @@
 -- Results, and bytes that were read and written.
-use Rattle.std.proofs.Common.{◌≡◌, ℕ, List, [], ◌++◌, Option, refl, sym, subst, ap, ◌∙◌, append-nil, append_assoc, take, Ok, Err, IsErrOf, OnErr, Result}
+use Rattle.std.proofs.Common.{◌≡◌, ◌≤◌, ◌<◌, ◌+◌, ℕ, List, [], ◌++◌, Option, refl, sym, subst, ap, ◌∙◌, append-nil, append_assoc, arith, length, length-append, take, Ok, Err, IsErrOf, OnErr, Result}
 use Rattle.std.proofs.KnownBytes.{Appends-nil, Appends-trans, Consumes-trans}
 use Rattle.std.specs.Io.KnownBytes.{Appends, Consumes}
 use Rattle.esc_normal.specs.Io.{AppendsPrefix}
@@ -34,3 +34,7 @@ read_none a b c s n buf e h k = subst (λ x. Consumes a c x) (append-nil s) (Con
 -- one more piece was read, and its text written
 pub written_more : (a b c : Option (List ℕ)) (before more whole : List ℕ) → Appends a b before → Appends b c more → whole ≡ before ++ more → Appends a c whole
 written_more a b c before more whole h k e = subst (λ x. Appends a c x) (sym e) (Appends-trans a b c before more h k)
+
+-- a read that took a byte at least
+pub one_more : (n k : ℕ) (s buf : List ℕ) → n ≤ length s → 0 < k → k ≡ length (take k buf) → n + 1 ≤ length (s ++ take k buf)
+one_more n k s buf h some is = omega (arith, length-append s (take k buf))

@@ -10,10 +10,12 @@ pub enum FilterError {
     /// The writer returned an error, or took nothing. A prefix of the text of all that was read was written.
     #[error("write fault")]
     Write,
-    /// A growth was refused. The text of what was read before the last read was written.
+    /// A growth was refused. The text of what was read before the last read, which gave at most 64 KiB,
+    /// was written.
     #[error("out of memory")]
     Memory,
-    /// The stream did not end in 2^64 - 1 reads. Its text was written.
+    /// The stream did not end in 2^64 - 1 reads, each of at least one byte. The text of all that was read
+    /// was written.
     #[error("a stream without an end")]
     Endless,
 }

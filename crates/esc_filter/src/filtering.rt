@@ -4,8 +4,9 @@ ghost use Rattle.std.specs.Io.KnownBytes.{Appends, IsAtEnd};
 ghost use Rattle.esc_normal.specs.Io.{AppendsPrefix, has_failed, inner_of};
 ghost use Rattle.esc_filter.specs.Fed.{IsFresh, WasFed, policy_of};
 ghost use Rattle.esc_filter.specs.Passing.{passed_text};
-ghost use Rattle.esc_filter.specs.Streams.{HasBegun, HasFiltered, HasWritten};
+ghost use Rattle.esc_filter.specs.Streams.{HasBegun, HasFiltered, HasFilteredAtLeast, HasFilteredAllBut, HasWritten, HasWrittenAtLeast, HasWrittenAllBut};
 ghost use Rattle.memory.specs.Refusals.{Refused};
+ghost use Rattle.memory.specs.declared.lists.TheConstants.{READ_BUFFER};
 
 use crate::admit::Admit;
 use crate::filter::Filter;
@@ -15,12 +16,16 @@ use esc_normal::Watched;
 use std::alloc::Allocator;
 use std::io::{Read, Write};
 
+// How often a stream is read at most.
+const MOST_READS: u64 = u64::MAX;
+
 /// Reads to the end, and writes the text of the actions that pass the policy, as it reads: after each read the text of all that was
 /// read so far is written and flushed. It holds a chunk of 64 KiB, the text of one, and at most `limit` bytes of an unfinished segment.
 ///
-/// After `FilterError::Read` the text of all that was read was written, after `Write` and `Memory` a prefix of it. Where neither had
-/// failed before, `Read` comes exactly where the reader has failed, and `Write` exactly where the writer has. A `write` that takes
-/// nothing is a failure. `Endless` comes after 2^64 - 1 reads.
+/// After `FilterError::Read` the text of all that was read was written, after `Memory` that of all but what the last read gave, at
+/// most 64 KiB, and after `Write` a prefix of it. Where neither had failed before, `Read` comes exactly where the reader has failed,
+/// and `Write` exactly where the writer has. A `write` that takes nothing is a failure. `Endless` comes after 2^64 - 1 reads, each of
+/// at least one byte, and the text of all of them was written.
 pub fn filter_stream<R: Read, W: Write, P: Admit<A> + Drop, A: Allocator + Copy>(
     alloc: A,
     reader: &mut Watched<R>,
@@ -32,6 +37,10 @@ pub fn filter_stream<R: Read, W: Write, P: Admit<A> + Drop, A: Allocator + Copy>
     ensures written { OnOk result (HasFiltered (P.admits policy) limit (R.remaining (inner_of reader.old)) (R.remaining (inner_of reader.new))
         (W.contents (inner_of writer.old)) (W.contents (inner_of writer.new))) }
     ensures decided { IsErrOf result FilterError.Read → HasFiltered (P.admits policy) limit (R.remaining (inner_of reader.old)) (R.remaining (inner_of reader.new))
+        (W.contents (inner_of writer.old)) (W.contents (inner_of writer.new)) }
+    ensures endless { IsErrOf result FilterError.Endless → HasFilteredAtLeast MOST_READS (P.admits policy) limit (R.remaining (inner_of reader.old)) (R.remaining (inner_of reader.new))
+        (W.contents (inner_of writer.old)) (W.contents (inner_of writer.new)) }
+    ensures until_refused { IsErrOf result FilterError.Memory → HasFilteredAllBut READ_BUFFER (P.admits policy) limit (R.remaining (inner_of reader.old)) (R.remaining (inner_of reader.new))
         (W.contents (inner_of writer.old)) (W.contents (inner_of writer.new)) }
     ensures beginning { OnErr result (HasBegun (P.admits policy) limit (R.remaining (inner_of reader.old)) (R.remaining (inner_of reader.new))
         (W.contents (inner_of writer.old)) (W.contents (inner_of writer.new))) }
@@ -61,6 +70,10 @@ fn filter_by<R: Read, W: Write, P: Admit<A> + Drop, A: Allocator + Copy>(
         (W.contents (inner_of writer.old)) (W.contents (inner_of writer.new))) }
     ensures decided { IsErrOf result FilterError.Read → HasWritten {A = A} (P.admits policy) limit (R.remaining (inner_of reader.old)) (R.remaining (inner_of reader.new))
         (W.contents (inner_of writer.old)) (W.contents (inner_of writer.new)) }
+    ensures endless { IsErrOf result FilterError.Endless → HasWrittenAtLeast {A = A} MOST_READS (P.admits policy) limit (R.remaining (inner_of reader.old)) (R.remaining (inner_of reader.new))
+        (W.contents (inner_of writer.old)) (W.contents (inner_of writer.new)) }
+    ensures until_refused { IsErrOf result FilterError.Memory → HasWrittenAllBut {A = A} (length chunk.old) (P.admits policy) limit (R.remaining (inner_of reader.old)) (R.remaining (inner_of reader.new))
+        (W.contents (inner_of writer.old)) (W.contents (inner_of writer.new)) }
     ensures beginning { OnErr result (HasBegun {A = A} (P.admits policy) limit (R.remaining (inner_of reader.old)) (R.remaining (inner_of reader.new))
         (W.contents (inner_of writer.old)) (W.contents (inner_of writer.new))) }
     ensures read_fault { has_failed reader.old ≡ false → (IsErrOf result FilterError.Read ↔ IsTrue (has_failed reader.new)) }
@@ -85,6 +98,12 @@ fn filter_all<R: Read, W: Write, P: Admit<A> + Drop, A: Allocator + Copy>(
     ensures decided { (limit : ℕ) (policy : P) → IsFresh limit (P.admits policy) policy filter.old → IsErrOf result FilterError.Read
         → HasWritten {A = A} (P.admits policy) limit (R.remaining (inner_of reader.old)) (R.remaining (inner_of reader.new))
         (W.contents (inner_of writer.old)) (W.contents (inner_of writer.new)) }
+    ensures endless { (limit : ℕ) (policy : P) → IsFresh limit (P.admits policy) policy filter.old → IsErrOf result FilterError.Endless
+        → HasWrittenAtLeast {A = A} MOST_READS (P.admits policy) limit (R.remaining (inner_of reader.old)) (R.remaining (inner_of reader.new))
+        (W.contents (inner_of writer.old)) (W.contents (inner_of writer.new)) }
+    ensures until_refused { (limit : ℕ) (policy : P) → IsFresh limit (P.admits policy) policy filter.old → IsErrOf result FilterError.Memory
+        → HasWrittenAllBut {A = A} (length chunk.old) (P.admits policy) limit (R.remaining (inner_of reader.old)) (R.remaining (inner_of reader.new))
+        (W.contents (inner_of writer.old)) (W.contents (inner_of writer.new)) }
     ensures beginning { (limit : ℕ) (policy : P) → IsFresh limit (P.admits policy) policy filter.old → OnErr result (HasBegun {A = A} (P.admits policy) limit
         (R.remaining (inner_of reader.old)) (R.remaining (inner_of reader.new)) (W.contents (inner_of writer.old)) (W.contents (inner_of writer.new))) }
     ensures read_fault { has_failed reader.old ≡ false → (IsErrOf result FilterError.Read ↔ IsTrue (has_failed reader.new)) }
@@ -92,7 +111,7 @@ fn filter_all<R: Read, W: Write, P: Admit<A> + Drop, A: Allocator + Copy>(
     ensures refused { (limit : ℕ) (policy : P) → IsFresh limit (P.admits policy) policy filter.old
         → IsErrOf result FilterError.Memory → Refused A }
 {
-    for _ in 0..u64::MAX {
+    for _ in 0..MOST_READS {
         match reader.read(chunk) {
             Ok(0) => return Ok(()),
             Ok(n) => pass_on(filter, &chunk[..n], writer)?,
@@ -116,6 +135,8 @@ fn pass_on<W: Write, P: Admit<A> + Drop, A: Allocator + Copy>(
         × AppendsPrefix (W.contents (inner_of writer.old)) (W.contents (inner_of writer.new)) t) }
     ensures policy { policy_of filter.new ≡ policy_of filter.old }
     ensures no_read { IsErrOf result FilterError.Read → ⊥ }
+    ensures no_end { IsErrOf result FilterError.Endless → ⊥ }
+    ensures unwritten { IsErrOf result FilterError.Memory → writer.new ≡ writer.old }
     ensures write_fault { has_failed writer.old ≡ false → (IsErrOf result FilterError.Write ↔ IsTrue (has_failed writer.new)) }
     ensures refused { (limit : ℕ) (s : List ℕ) → WasFed limit (P.admits (policy_of filter.old)) s filter.old
         → IsErrOf result FilterError.Memory → Refused A }

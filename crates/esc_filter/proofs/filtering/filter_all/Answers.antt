@@ -1,4 +1,4 @@
-use Rattle.std.proofs.Common.{rules, Err, ◌≡◌, ◌++◌, [], Some, take, subst, sym, ap, ◌∙◌, arith}
+use Rattle.std.proofs.Common.{rules, Err, ◌≡◌, ◌≤◌, ◌<◌, ◌++◌, [], Some, length, take, subst, sym, ap, ◌∙◌, arith}
 use Rattle.std.proofs.lemmas.Grind.{common_steps}
 use Rattle.std.proofs.KnownBytes.{Appends-nil, Consumes-kept, Consumes-nil, Consumes-trans}
 use Rattle.std.specs.Io.KnownBytes.{Appends}
@@ -7,11 +7,11 @@ use Rattle.esc_actions.proofs.Meanings.{meaning_nil}
 use Rattle.esc_actions.specs.Texts.{list_text}
 use Rattle.esc_parse.proofs.Lists.{on_err_any}
 use Rattle.std.proofs.lemmas.Result.{err_from_is_err_and}
-use Rattle.esc_filter.proofs.Results.{err_is, prefix_after, prefix_whole, read_none, written_more}
+use Rattle.esc_filter.proofs.Results.{err_is, one_more, prefix_after, prefix_whole, read_none, written_more}
 use Rattle.esc_filter.proofs.Steps.{Passes, PassesSome}
 use Rattle.esc_filter.proofs.filtering.filter_all.Goals as goal
 use Rattle.esc_filter.specs.Fed.{WasFed}
-use Rattle.esc_filter.specs.Passing.{passes}
+use Rattle.esc_filter.specs.Passing.{passed_text, passes}
 
 pub loop-init : goal.loop-init
 loop-init g c = record {
@@ -25,6 +25,7 @@ loop-init g c = record {
           Consumes-nil _,
           fresh.0,
           subst (λ t. Appends (g.W.Write.contents c.args.writer.now.inner) (g.W.Write.contents c.args.writer.now.inner) t) nothing (Appends-nil _),
+          omega arith,
         ),
       );
 }
@@ -55,6 +56,7 @@ loop-preserved g c =
     let inv = c.loop.invariant in
     let admits = g.P.Admit.admits in
     let piece = take c.in-Ok.n c.read.new.buf in
+    let some : 0 < c.in-Ok.n = omega arith in
     record {
       reader = grind (arith, common_steps);
       writer = grind (arith, common_steps);
@@ -64,7 +66,13 @@ loop-preserved g c =
           let f = subst (λ p. WasFed limit (admits p) r.0 c.loop.filter → Passes limit (admits p) r.0 piece c.pass_on.new.filter
           (g.W.Write.contents c.loop.writer.inner) (g.W.Write.contents c.pass_on.new.writer.inner)) k.0 (c.in_ok-pass_on-in-Ok.ensures.given limit r.0) r.2 in (
             c.in_ok-pass_on-in-Ok.ensures.policy ∙ k.0,
-            (r.0 ++ piece, Consumes-trans _ _ _ r.0 piece r.1 c.in-Ok.ensures.bytes.0, f.0, written_more _ _ _ _ f.1.0 _ r.3 f.1.2 f.1.1),
+            (
+              r.0 ++ piece,
+              Consumes-trans _ _ _ r.0 piece r.1 c.in-Ok.ensures.bytes.0,
+              f.0,
+              written_more _ _ _ _ f.1.0 _ r.3 f.1.2 f.1.1,
+              one_more c.loop.counter c.in-Ok.n r.0 c.read.new.buf r.4 some c.in-Ok.ensures.bound.1,
+            ),
           );
     }
 
@@ -86,3 +94,24 @@ returns-in_err-pass_on-in-Ok-clause-refused g c = λ limit policy fresh memory.
     c.in_err-pass_on-in-Ok.ensures.refused limit k.1.0
     (subst (λ x. WasFed limit (g.P.Admit.admits x) k.1.0 c.loop.filter) (sym k.0) k.1.2)
     (ap Err (sym p.2 ∙ err_is c.from_residual.result p.0 _ p.1 memory))
+
+pub returns-clause-endless : goal.returns-clause-endless
+returns-clause-endless g c = λ limit policy fresh _.
+    let r = (c.loop.invariant.read limit policy fresh).1 in
+    let least : 18446744073709551615 ≤ length r.0 = omega (arith, r.4) in
+    (r.0, least, r.1, r.3)
+
+pub returns-in_err-pass_on-in-Ok-clause-until_refused : goal.returns-in_err-pass_on-in-Ok-clause-until_refused
+returns-in_err-pass_on-in-Ok-clause-until_refused g c = λ limit policy fresh memory.
+    let r = (c.loop.invariant.read limit policy fresh).1 in
+    let p = err_from_is_err_and c.from_residual.result c.from_residual.ensures.1 in
+    let piece = take c.in-Ok.n c.read.new.buf in
+    let same = c.in_err-pass_on-in-Ok.ensures.unwritten (ap Err (sym p.2 ∙ err_is c.from_residual.result p.0 _ p.1 memory)) in
+    let written = passed_text (Some limit) (g.P.Admit.admits policy) r.0 in
+    let within : length piece ≤ length c.args.chunk.now = omega (arith, c.in-Ok.ensures.bound.0, c.in-Ok.ensures.bound.1) in (
+      r.0,
+      piece,
+      within,
+      Consumes-trans _ _ _ r.0 piece r.1 c.in-Ok.ensures.bytes.0,
+      subst (λ w. Appends (g.W.Write.contents c.args.writer.now.inner) (g.W.Write.contents w.inner) written) (sym same) r.3,
+    )

@@ -11,3 +11,11 @@ returns-clause-beginning g c = c.filter_all.ensures.beginning c.args.limit c.arg
 
 pub returns-clause-refused : goal.returns-clause-refused
 returns-clause-refused g c = c.filter_all.ensures.refused c.args.limit c.args.policy (c.new-filter.ensures.fed, c.new-filter.ensures.policy)
+
+pub returns-clause-endless : goal.returns-clause-endless
+returns-clause-endless g c =
+    c.filter_all.ensures.endless c.args.limit c.args.policy (c.new-filter.ensures.fed, c.new-filter.ensures.policy)
+
+pub returns-clause-until_refused : goal.returns-clause-until_refused
+returns-clause-until_refused g c =
+    c.filter_all.ensures.until_refused c.args.limit c.args.policy (c.new-filter.ensures.fed, c.new-filter.ensures.policy)
