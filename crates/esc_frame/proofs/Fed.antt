@@ -128,20 +128,23 @@ event_fed limit p s b x (f, i, h) e k n =
       added_is limit s b ∙ ap (λ u. news_all limit u b) e ∙ n,
     )
 
-pub character_fed : {A : Type 0} (limit : Option ℕ) (p : VTParser A) (s bs : List ℕ) (o : Option (ℕ × ℕ)) → LeadsToWithin limit s p
+pub character_fed : {A : Type 0} (limit : Option ℕ) (p : VTParser A) (s bs : List ℕ)
+    (o : Option (ℕ × ℕ))
+    → LeadsToWithin limit s p
     → after_all Ground s ≡ Ground
     → IfSome o (λ x. TellsOne (take x.1 bs) (Print x.0))
-    → IfSome o (λ x. LeadsToWithin limit (s ++ take x.1 bs) p × (added_within limit s (take x.1 bs) ≡ Print x.0 ∷ []))
-character_fed limit p s bs None l e h = tt
-character_fed limit p s bs (Some x) l e k = event_fed limit p s (take x.1 bs) (Print x.0) l e k.0 (k.1 limit)
+    → IfSome o (λ x. IsStill limit Ground bs x.1)
+    → IfSome o (λ x. (LeadsToWithin limit (s ++ take x.1 bs) p
+    × (added_within limit s (take x.1 bs) ≡ Print x.0 ∷ []))
+    × IsQuietWithin limit s bs x.1)
+character_fed limit p s bs None l e h q = tt
+character_fed limit p s bs (Some x) l e k q = (
+  event_fed limit p s (take x.1 bs) (Print x.0) l e k.0 (k.1 limit),
+  quiet_all limit s bs x.1 (subst (λ u. IsStill limit u bs x.1) (sym e) q),
+)
 
 pub control_fed : {A : Type 0} (limit : Option ℕ) (p : VTParser A) (s bs : List ℕ) (o : Option ℕ) → LeadsToWithin limit s p → after_all Ground s ≡ Ground
     → IfSome o (λ b. TellsOne (take 1 bs) (Execute b))
     → IfSome o (λ b. LeadsToWithin limit (s ++ take 1 bs) p × (added_within limit s (take 1 bs) ≡ Execute b ∷ []))
 control_fed limit p s bs None l e h = tt
 control_fed limit p s bs (Some b) l e k = event_fed limit p s (take 1 bs) (Execute b) l e k.0 (k.1 limit)
-
-pub character_quiet : (limit : Option ℕ) (s bs : List ℕ) (o : Option (ℕ × ℕ)) → after_all Ground s ≡ Ground → IfSome o (λ x. IsStill limit Ground bs x.1)
-    → IfSome o (λ x. IsQuietWithin limit s bs x.1)
-character_quiet limit s bs None e h = tt
-character_quiet limit s bs (Some x) e h = quiet_all limit s bs x.1 (subst (λ u. IsStill limit u bs x.1) (sym e) h)

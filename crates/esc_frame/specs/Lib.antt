@@ -3,6 +3,7 @@ pub mod Sequences
 pub mod Bodies
 pub mod Limits
 pub mod Events
+pub mod Changed
 pub mod Segments
 pub mod Counts
 pub mod Scans
@@ -10,4 +11,5 @@ pub mod Machine
 pub mod Leads
 pub mod Stream
 pub mod Memory
+pub mod Parses
 pub mod Fits

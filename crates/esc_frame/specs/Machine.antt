@@ -9,3 +9,5 @@ pub mod Characters
 pub mod TextRuns
 pub mod Shorts
 pub mod Texts
+pub mod Makes
+pub mod Keeping

@@ -7,7 +7,8 @@ ghost use Rattle.esc_frame.specs.Limits.{is_within, kept_within, most, Counts};
 /// Whether `more` may be added to a count that is within the limit.
 #[inline(always)]
 pub fn fits(limit: Option<usize>, count: usize, more: usize) -> bool
-    ensures { (n : ℕ) → is_within limit n ≡ true → count ≡ min n most → result ≡ is_within limit (n + more) }
+    ensures { (n : ℕ) → is_within limit n ≡ true → count ≡ min n most
+        → result ≡ is_within limit (n + more) }
 {
     match limit {
         None => true,
@@ -15,8 +16,8 @@ pub fn fits(limit: Option<usize>, count: usize, more: usize) -> bool
     }
 }
 
-/// How many bytes were counted, and whether they passed the limit. The limit is given with each addition: `None` is none.
-/// Without a limit a count past [`usize::MAX`] stays there.
+/// How many bytes were counted, and whether they passed the limit. The limit is given with each
+/// addition: `None` is none. Without a limit a count past [`usize::MAX`] stays there.
 #[derive(Clone, Copy, PartialEq, Eq)]
 pub struct Count {
     /// The bytes counted; 0 once they passed the limit.
@@ -46,8 +47,8 @@ impl Count {
         *self = Count::new();
     }
 
-    /// Counts `more` bytes, and returns whether the count is still within the limit. Once it is not, it stays so until
-    /// `clear`.
+    /// Counts `more` bytes, and returns whether the count is still within the limit. Once it is
+    /// not, it stays so until `clear`.
     #[inline]
     pub fn add(&mut self, limit: Option<usize>, more: usize) -> bool
         ensures counts { (n : ℕ) → Counts limit self.old n → Counts limit self.new (n + more) }
@@ -68,7 +69,8 @@ impl Count {
 
     /// The count, and 0 once it passed the limit.
     pub fn value(self) -> usize
-        ensures { (limit : Option ℕ) (n : ℕ) → Counts limit self n → result ≡ min (kept_within limit n) most }
+        ensures { (limit : Option ℕ) (n : ℕ) → Counts limit self n
+            → result ≡ min (kept_within limit n) most }
     {
         self.bytes
     }

@@ -2,16 +2,15 @@
 #![tactic(auto)]
 
 ghost use Rattle.std.specs.Prelude.{◌≡◌, ◌<◌, ◌++◌, ℕ, List, Option, [], ◌∷◌, true, length, OnOk, OnErr};
-ghost use Rattle.esc_frame.specs.Classes.{class_of, strip};
+ghost use Rattle.esc_frame.specs.Classes.{class_of};
 ghost use Rattle.esc_frame.specs.Events.{Takes};
 ghost use Rattle.esc_frame.specs.Events.Event.{DcsUnhook};
-ghost use Rattle.esc_frame.specs.Leads.{Unfinished, Holds};
-ghost use Rattle.esc_frame.specs.Leads.Unfinished.{InDcs, InData};
-ghost use Rattle.esc_frame.specs.Machine.Calls.{Moved, Took, Advances};
 ghost use Rattle.esc_frame.specs.Limits.{is_read};
+ghost use Rattle.esc_frame.specs.Machine.Keeping.{Holding, KeepingDcs, KeepingHeader, InPassthrough};
+ghost use Rattle.esc_frame.specs.Machine.Makes.{Emits, Makes, Consumes, Advances};
 ghost use Rattle.esc_frame.specs.Machine.Keeps.{KeepsDcs, parameters_of};
-ghost use Rattle.esc_frame.specs.Machine.Moves.{telling, ground_move, inside};
-ghost use Rattle.esc_frame.specs.Segments.{Opener, hook_event};
+ghost use Rattle.esc_frame.specs.Machine.Moves.{telling, ground_move};
+ghost use Rattle.esc_frame.specs.Segments.{hook_event};
 ghost use Rattle.memory.specs.Refusals.{Refused};
 
 use crate::actor::VTActor;
@@ -33,11 +32,8 @@ impl<K: Store, A: Allocator> Machine<K, A> {
         actor: &mut V,
     ) -> Result<()>
         requires { V.is_ready actor.old }
-        ensures moved { (o : Opener) (x : List ℕ) → class ≡ class_of b
-            → K.keeps limit self.old.text (parameters_of (strip x))
-            → KeepsDcs self.old.header (strip x)
-            → Moved K.keeps K.denied limit true V.takes V.refuses result
-            (inside limit (InDcs o x) b class) self.new actor.old actor.new }
+        ensures moved { class ≡ class_of b → KeepingDcs K.Store limit self (λ u.
+            Makes K.Store V.VTActor limit true result (move limit u b class) self actor) }
         ensures ready { OnOk result (V.is_ready actor.new) }
     {
         self.state = State::Dcs;
@@ -70,10 +66,8 @@ impl<K: Store, A: Allocator> Machine<K, A> {
     #[tactic(auto, using(crate::proofs::Given::hears_moved))]
     pub fn in_data<V: VTActor>(&mut self, b: u8, class: Class, actor: &mut V) -> Result<()>
         requires { V.is_ready actor.old }
-        ensures moved { (limit : Option ℕ) (o : Opener) (x : List ℕ) (f : ℕ) (d : List ℕ)
-            → is_read limit (strip x) ≡ true
-            → Moved K.keeps K.denied limit true V.takes V.refuses result
-            (inside limit (InData o x f d) b class) self.new actor.old actor.new }
+        ensures moved { InPassthrough (λ limit u.
+            Makes K.Store V.VTActor limit true result (move limit u b class) self actor) }
         ensures ready { OnOk result (V.is_ready actor.new) }
     {
         self.state = State::Data;
@@ -98,8 +92,9 @@ impl<K: Store, A: Allocator> Machine<K, A> {
     // A breaker after a DCS's data.
     fn leave_data<V: VTActor>(&mut self, b: u8, class: Class, actor: &mut V) -> Result<()>
         requires { V.is_ready actor.old }
-        ensures moved { (limit : Option ℕ) → Moved K.keeps K.denied limit true V.takes V.refuses
-            result (telling (DcsUnhook ∷ []) (ground_move b class)) self.new actor.old actor.new }
+        ensures moved { (limit : Option ℕ)
+            → Makes K.Store V.VTActor limit true result
+            (telling (DcsUnhook ∷ []) (ground_move b class)) self actor }
         ensures ready { OnOk result (V.is_ready actor.new) }
     {
         match actor.dcs_unhook() {
@@ -119,10 +114,9 @@ impl<K: Store, A: Allocator> Machine<K, A> {
         requires some { 0 < length rest.now }
         requires ready { V.is_ready actor.old }
         requires state { self.old.state ≡ State.Data }
-        ensures took { (u : Unfinished) → Holds K.keeps limit self.old u
-            → Took K.keeps K.denied limit V.takes V.refuses result u rest.now self.new
-            actor.old actor.new }
-        ensures count { Advances V.is_ready result rest.now actor.new }
+        ensures took { Holding K.Store limit self (λ u.
+            Consumes K.Store V.VTActor limit result u rest.now self actor) }
+        ensures count { Advances V.VTActor result rest.now actor }
     {
         let run = data_run(rest);
         if run == 0 {
@@ -142,7 +136,8 @@ fn keep<K: Store>(
     parameters: &mut K,
     b: u8,
 ) -> Result<()>
-    ensures parameters { (x : List ℕ) → K.keeps limit parameters.old (parameters_of x) → OnOk result (K.keeps limit parameters.new (parameters_of (x ++ b ∷ []))) }
+    ensures parameters { (x : List ℕ) → K.keeps limit parameters.old (parameters_of x)
+        → OnOk result (K.keeps limit parameters.new (parameters_of (x ++ b ∷ []))) }
     ensures header { (x : List ℕ) → KeepsDcs header.old x → KeepsDcs header.new (x ++ b ∷ []) }
     ensures refused { OnErr result K.denied }
 {
@@ -156,7 +151,8 @@ fn keep<K: Store>(
 
 // Whether the header is hooked: its parameter bytes are within the limit, and it has its form.
 fn is_read<K: Store>(header: &DcsHeader, parameters: &K) -> bool
-    ensures { (limit : Option ℕ) (x : List ℕ) → K.keeps limit parameters.now (parameters_of x) → KeepsDcs header.now x → result ≡ is_read limit x }
+    ensures { KeepingHeader K.Store parameters.now header.now (λ limit x.
+        result ≡ is_read limit x) }
 {
     !parameters.is_over() && header.is_formed()
 }
@@ -170,9 +166,8 @@ fn hook<K: Store, A: Allocator, V: VTActor>(
     actor: &mut V,
 ) -> Result<()>
     requires { V.is_ready actor.old }
-    ensures told { (limit : Option ℕ) (x : List ℕ) → K.keeps limit parameters.now (parameters_of x)
-        → KeepsDcs header.now x → is_read limit x ≡ true
-        → Takes (Refused A) V.takes V.refuses result actor.old (hook_event x b ∷ []) actor.new }
+    ensures told { KeepingHeader K.Store parameters.now header.now (λ limit x.
+        is_read limit x ≡ true → Emits V.VTActor (Refused A) result (hook_event x b ∷ []) actor) }
     ensures ready { OnOk result (V.is_ready actor.new) }
 {
     let kept = &header.intermediates;

@@ -6,8 +6,8 @@ ghost use Rattle.std.specs.Prelude.{◌≡◌, ◌<◌, ◌++◌, [], ◌∷◌,
 use esc_values::csi_param::CsiParam;
 use std::marker::Model;
 
-/// At most 256 entries, in an array that is filled at the first of them: an empty list costs nothing to make. Contracts see
-/// the entries.
+/// At most 256 entries, in an array that is filled at the first of them: an empty list costs
+/// nothing to make. Contracts see the entries.
 #[derive(Drop)]
 pub struct EntryList {
     cells: Option<[CsiParam; 256]>,

@@ -1,21 +1,20 @@
 //! The machine in escape sequences and control sequences.
 #![tactic(auto)]
 
-ghost use Rattle.std.specs.Prelude.{◌≡◌, ◌≤◌, ◌<◌, ◌++◌, ◌+◌, ℕ, Bool, List, Option, None, [], ◌∷◌, length, take, drop, true, false, slice_index, IfOk, OnOk};
+ghost use Rattle.std.specs.Prelude.{◌≡◌, ◌≤◌, ◌<◌, ◌++◌, ◌+◌, ℕ, List, Option, None, [], ◌∷◌, length, take, drop, true, false, slice_index, IfOk, OnOk};
 ghost use Rattle.std.specs.List.{list_all};
-ghost use Rattle.esc_frame.specs.Classes.{class_of, strip};
-ghost use Rattle.esc_frame.specs.Events.{Hears};
+ghost use Rattle.esc_frame.specs.Classes.{class_of};
 ghost use Rattle.esc_frame.specs.Events.Event.{EscDispatch};
 ghost use Rattle.esc_frame.specs.Leads.{Unfinished, Holds};
-ghost use Rattle.esc_frame.specs.Leads.Unfinished.{Ground, InEscape, InCsi};
-ghost use Rattle.esc_frame.specs.Machine.Calls.{Moved, Took, TookSome, Advances, Quietly, Stays};
-ghost use Rattle.esc_frame.specs.Machine.Keeps.{Keeps, KeepsBody};
-ghost use Rattle.esc_frame.specs.Machine.Moves.{inside};
+ghost use Rattle.esc_frame.specs.Leads.Unfinished.{Ground};
+ghost use Rattle.esc_frame.specs.Machine.Calls.{Quietly};
+ghost use Rattle.esc_frame.specs.Machine.Keeping.{Holding, KeepingEscape, KeepingCsi, KeepingCsiAnd, AnyCsi};
+ghost use Rattle.esc_frame.specs.Machine.Makes.{Emits, EmitsOne, Makes, Consumes, ConsumesSome, StaysInGround, Advances};
+ghost use Rattle.esc_frame.specs.Machine.Keeps.{KeepsBody};
 ghost use Rattle.esc_frame.specs.Machine.Shorts.{IsShort};
 ghost use Rattle.esc_frame.specs.Scans.{is_body_byte};
-ghost use Rattle.esc_frame.specs.Segments.{Opener, csi_events, csi_event};
+ghost use Rattle.esc_frame.specs.Segments.{csi_events, csi_event};
 ghost use Rattle.esc_frame.specs.Sequences.{is_from};
-ghost use Rattle.esc_frame.specs.Events.{Takes};
 
 use crate::actor::VTActor;
 use crate::body::CsiBody;
@@ -30,10 +29,8 @@ impl<K: Store, A: Allocator> Machine<K, A> {
     #[tactic(auto, using(crate::proofs::Given::hears_moved))]
     pub fn in_escape<V: VTActor>(&mut self, b: u8, class: Class, actor: &mut V) -> Result<()>
         requires { V.is_ready actor.old }
-        ensures moved { (limit : Option ℕ) (own : Bool) (x : List ℕ) → class ≡ class_of b
-            → Keeps self.old.intermediates (strip x)
-            → Moved K.keeps K.denied limit own V.takes V.refuses result
-            (inside limit (InEscape x) b class) self.new actor.old actor.new }
+        ensures moved { class ≡ class_of b → KeepingEscape self (λ limit own u.
+            Makes K.Store V.VTActor limit own result (move limit u b class) self actor) }
         ensures ready { OnOk result (V.is_ready actor.new) }
     {
         self.state = State::Escape;
@@ -70,9 +67,8 @@ impl<K: Store, A: Allocator> Machine<K, A> {
         actor: &mut V,
     ) -> Result<usize>
         requires { V.is_ready actor.old }
-        ensures took { (u : Unfinished) → Holds K.keeps limit self.old u
-            → Took K.keeps K.denied limit V.takes V.refuses result u rest.now self.new
-            actor.old actor.new }
+        ensures took { Holding K.Store limit self (λ u.
+            Consumes K.Store V.VTActor limit result u rest.now self actor) }
         ensures count { IfOk result (λ n. (n ≤ length rest.now) × V.is_ready actor.new) }
     {
         if rest.is_empty() || rest[0] != b'\\' {
@@ -96,11 +92,10 @@ impl<K: Store, A: Allocator> Machine<K, A> {
         requires some { 0 < length rest.now }
         requires ready { V.is_ready actor.old }
         requires state { self.old.state ≡ State.Escape }
-        ensures took { (u : Unfinished) → Holds K.keeps limit self.old u
-            → Took K.keeps K.denied limit V.takes V.refuses result u rest.now self.new
-            actor.old actor.new }
+        ensures took { Holding K.Store limit self (λ u.
+            Consumes K.Store V.VTActor limit result u rest.now self actor) }
         ensures quiet { (u : Unfinished) → Quietly limit result u rest.now }
-        ensures count { Advances V.is_ready result rest.now actor.new }
+        ensures count { Advances V.VTActor result rest.now actor }
     {
         match self.in_escape(rest[0], classify(rest[0]), actor) {
             Ok(()) => Ok(1),
@@ -112,7 +107,9 @@ impl<K: Store, A: Allocator> Machine<K, A> {
     fn dispatch_escape<V: VTActor>(&mut self, b: u8, actor: &mut V) -> Result<()>
         requires { V.is_ready actor.old }
         ensures holds { Holds K.keeps None self.new Ground }
-        ensures told { Hears V.takes V.refuses result actor.old (EscDispatch (take self.old.intermediates.kept self.old.intermediates.bytes) self.old.intermediates.ignored b) actor.new }
+        ensures told { EmitsOne V.VTActor result
+            (EscDispatch (take self.old.intermediates.kept self.old.intermediates.bytes)
+            self.old.intermediates.ignored b) actor }
         ensures ready { OnOk result (V.is_ready actor.new) }
     {
         self.state = State::Ground;
@@ -129,10 +126,8 @@ impl<K: Store, A: Allocator> Machine<K, A> {
     #[tactic(auto, using(crate::proofs::Given::hears_moved))]
     pub fn in_csi<V: VTActor>(&mut self, b: u8, class: Class, actor: &mut V) -> Result<()>
         requires { V.is_ready actor.old }
-        ensures moved { (limit : Option ℕ) (o : Opener) (x : List ℕ) → class ≡ class_of b
-            → KeepsBody self.old.body (strip x)
-            → Moved K.keeps K.denied limit false V.takes V.refuses result
-            (inside limit (InCsi o x) b class) self.new actor.old actor.new }
+        ensures moved { class ≡ class_of b → KeepingCsi self (λ limit u.
+            Makes K.Store V.VTActor limit false result (move limit u b class) self actor) }
         ensures ready { OnOk result (V.is_ready actor.new) }
     {
         self.state = State::Csi;
@@ -157,8 +152,7 @@ impl<K: Store, A: Allocator> Machine<K, A> {
     fn dispatch_csi<V: VTActor>(&mut self, b: u8, actor: &mut V) -> Result<()>
         requires { V.is_ready actor.old }
         ensures moved { (limit : Option ℕ) (x : List ℕ) → KeepsBody self.old.body x
-            → Moved K.keeps K.denied limit false V.takes V.refuses result (Ground, csi_events x b)
-            self.new actor.old actor.new }
+            → Makes K.Store V.VTActor limit false result (Ground, csi_events x b) self actor }
         ensures ready { OnOk result (V.is_ready actor.new) }
     {
         self.state = State::Ground;
@@ -181,8 +175,7 @@ impl<K: Store, A: Allocator> Machine<K, A> {
         requires some { 2 < length rest.now }
         requires escape { slice_index rest.now 0 ≡ 0x1b }
         requires ready { V.is_ready actor.old }
-        ensures { TookSome K.keeps K.denied limit V.takes V.refuses V.is_ready result rest.now
-            self.new actor.old actor.new }
+        ensures { ConsumesSome K.Store V.VTActor limit result rest.now self actor }
     {
         if rest[1] == b'[' {
             self.take_csi(rest, actor)
@@ -200,7 +193,7 @@ impl<K: Store, A: Allocator> Machine<K, A> {
         requires ready { V.is_ready actor.old }
         requires ground { Holds K.keeps None self.old Ground }
         ensures ground { IfOk result (λ n. Holds K.keeps None self.new Ground) }
-        ensures stays { Stays V.takes V.refuses V.is_ready result rest.now actor.old actor.new }
+        ensures stays { StaysInGround V.VTActor result rest.now actor }
     {
         if rest.len() <= 2 {
             return Ok(0);
@@ -226,8 +219,8 @@ impl<K: Store, A: Allocator> Machine<K, A> {
         requires escape { slice_index rest.now 0 ≡ 0x1b }
         requires bracket { slice_index rest.now 1 ≡ 0x5b }
         requires ready { V.is_ready actor.old }
-        ensures { (limit : Option ℕ) → TookSome K.keeps K.denied limit V.takes V.refuses V.is_ready
-            result rest.now self.new actor.old actor.new }
+        ensures { (limit : Option ℕ)
+            → ConsumesSome K.Store V.VTActor limit result rest.now self actor }
     {
         let run = self.short.read(&rest[2..]);
         if run == rest.len() - 2 {
@@ -254,12 +247,13 @@ impl<K: Store, A: Allocator> Machine<K, A> {
         requires escape { slice_index rest.now 0 ≡ 0x1b }
         requires bracket { slice_index rest.now 1 ≡ 0x5b }
         requires few { run + 2 < length rest.now }
-        requires read { IsShort (take self.old.short.count self.old.short.items) (take run (drop 2 rest.now)) }
+        requires read { IsShort (take self.old.short.count self.old.short.items)
+            (take run (drop 2 rest.now)) }
         requires ends { is_from 0x40 0x7e (slice_index rest.now (run + 2)) ≡ true }
         requires ground { Holds K.keeps None self.old Ground }
         requires ready { V.is_ready actor.old }
         ensures ground { IfOk result (λ n. Holds K.keeps None self.new Ground) }
-        ensures stays { Stays V.takes V.refuses V.is_ready result rest.now actor.old actor.new }
+        ensures stays { StaysInGround V.VTActor result rest.now actor }
         ensures some { IfOk result (λ n. 0 < n) }
         ensures quiet { (limit : Option ℕ) → Quietly limit result Ground rest.now }
     {
@@ -275,8 +269,8 @@ impl<K: Store, A: Allocator> Machine<K, A> {
         requires escape { slice_index rest.now 0 ≡ 0x1b }
         requires bracket { slice_index rest.now 1 ≡ 0x5b }
         requires ready { V.is_ready actor.old }
-        ensures { (limit : Option ℕ) → TookSome K.keeps K.denied limit V.takes V.refuses V.is_ready
-            result rest.now self.new actor.old actor.new }
+        ensures { (limit : Option ℕ)
+            → ConsumesSome K.Store V.VTActor limit result rest.now self actor }
     {
         self.open(Kind::Csi);
         match self.take_in_csi(&rest[2..], actor) {
@@ -291,12 +285,10 @@ impl<K: Store, A: Allocator> Machine<K, A> {
         requires some { 0 < length rest.now }
         requires ready { V.is_ready actor.old }
         requires state { self.old.state ≡ State.Csi }
-        ensures took { (limit : Option ℕ) (o : Opener) (x : List ℕ)
-            → KeepsBody self.old.body (strip x)
-            → Took K.keeps K.denied limit V.takes V.refuses result (InCsi o x)
-            rest.now self.new actor.old actor.new }
-        ensures quiet { (limit : Option ℕ) (o : Opener) (x : List ℕ) → Quietly limit result (InCsi o x) rest.now }
-        ensures count { Advances V.is_ready result rest.now actor.new }
+        ensures took { KeepingCsi self (λ limit u.
+            Consumes K.Store V.VTActor limit result u rest.now self actor) }
+        ensures quiet { AnyCsi (λ limit u. Quietly limit result u rest.now) }
+        ensures count { Advances V.VTActor result rest.now actor }
     {
         let run = push_run(&mut self.body, rest);
         self.take_after_body(rest, run, actor)
@@ -315,12 +307,10 @@ impl<K: Store, A: Allocator> Machine<K, A> {
         requires passes { list_all is_body_byte (take run rest.now) ≡ true }
         requires ready { V.is_ready actor.old }
         requires state { self.old.state ≡ State.Csi }
-        ensures took { (limit : Option ℕ) (o : Opener) (x : List ℕ)
-            → KeepsBody self.old.body (strip x ++ take run rest.now)
-            → Took K.keeps K.denied limit V.takes V.refuses result (InCsi o x)
-            rest.now self.new actor.old actor.new }
-        ensures quiet { (limit : Option ℕ) (o : Opener) (x : List ℕ) → Quietly limit result (InCsi o x) rest.now }
-        ensures count { Advances V.is_ready result rest.now actor.new }
+        ensures took { KeepingCsiAnd (take run rest.now) self (λ limit u.
+            Consumes K.Store V.VTActor limit result u rest.now self actor) }
+        ensures quiet { AnyCsi (λ limit u. Quietly limit result u rest.now) }
+        ensures count { Advances V.VTActor result rest.now actor }
     {
         if run == rest.len() {
             return Ok(run);
@@ -335,10 +325,8 @@ impl<K: Store, A: Allocator> Machine<K, A> {
     #[inline(always)]
     fn end_body<V: VTActor>(&mut self, b: u8, actor: &mut V) -> Result<()>
         requires { V.is_ready actor.old }
-        ensures moved { (limit : Option ℕ) (o : Opener) (x : List ℕ)
-            → KeepsBody self.old.body (strip x)
-            → Moved K.keeps K.denied limit false V.takes V.refuses result
-            (inside limit (InCsi o x) b (class_of b)) self.new actor.old actor.new }
+        ensures moved { KeepingCsi self (λ limit u.
+            Makes K.Store V.VTActor limit false result (move limit u b (class_of b)) self actor) }
         ensures ready { OnOk result (V.is_ready actor.new) }
     {
         if 0x40 <= b && b <= 0x7e {
@@ -354,7 +342,7 @@ impl<K: Store, A: Allocator> Machine<K, A> {
 fn tell_csi<V: VTActor>(body: &mut CsiBody, b: u8, actor: &mut V) -> Result<()>
     requires { V.is_ready actor.old }
     ensures told { (x : List ℕ) → KeepsBody body.old x
-        → Takes ⊥ V.takes V.refuses result actor.old (csi_event x b ∷ []) actor.new }
+        → Emits V.VTActor ⊥ result (csi_event x b ∷ []) actor }
     ensures ready { OnOk result (V.is_ready actor.new) }
 {
     body.finish();
@@ -364,7 +352,8 @@ fn tell_csi<V: VTActor>(body: &mut CsiBody, b: u8, actor: &mut V) -> Result<()>
 // Pushes the run of 20-3F that comes first, and returns its length.
 #[inline(always)]
 fn push_run(body: &mut CsiBody, rest: &[u8]) -> usize
-    ensures keeps { (x : List ℕ) → KeepsBody body.old x → KeepsBody body.new (x ++ take result rest.now) }
+    ensures keeps { (x : List ℕ) → KeepsBody body.old x
+        → KeepsBody body.new (x ++ take result rest.now) }
     ensures few { result ≤ length rest.now }
     ensures run { list_all is_body_byte (take result rest.now) ≡ true }
 {
@@ -381,7 +370,8 @@ fn push_next(body: &mut CsiBody, rest: &[u8]) -> usize
     requires some { 0 < length rest.now }
     requires low { 0x20 ≤ slice_index rest.now 0 }
     requires high { slice_index rest.now 0 ≤ 0x3f }
-    ensures keeps { (x : List ℕ) → KeepsBody body.old x → KeepsBody body.new (x ++ take result rest.now) }
+    ensures keeps { (x : List ℕ) → KeepsBody body.old x
+        → KeepsBody body.new (x ++ take result rest.now) }
     ensures run { list_all is_body_byte (take result rest.now) ≡ true }
     ensures count { (0 < result) × (result ≤ length rest.now) }
 {

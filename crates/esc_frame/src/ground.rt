@@ -4,8 +4,8 @@
 ghost use Rattle.std.specs.Prelude.{◌≡◌, ◌<◌, ◌++◌, ◌∷◌, ℕ, List, Option, None, [], Bool, true, length, OnOk, IfOk};
 ghost use Rattle.esc_frame.specs.Leads.{Holds};
 ghost use Rattle.esc_frame.specs.Leads.Unfinished.{Ground};
-ghost use Rattle.esc_frame.specs.Machine.Calls.{Moved, Took, TookSome, Advances, Stays};
 ghost use Rattle.esc_frame.specs.Machine.Fronts.{front_of};
+ghost use Rattle.esc_frame.specs.Machine.Makes.{Makes, AlwaysMakes, Consumes, ConsumesSome, StaysInGround, Advances};
 ghost use Rattle.esc_frame.specs.Machine.Moves.{telling, ground_move, pair_move, pending_move};
 ghost use Rattle.esc_frame.specs.Events.Event.{Print};
 ghost use Rattle.esc_frame.specs.Sequences.{outcome, is_sequence};
@@ -24,9 +24,7 @@ impl<K: Store, A: Allocator> Machine<K, A> {
     #[tactic(auto, using(crate::proofs::Given::hears_moved))]
     pub fn in_ground<V: VTActor>(&mut self, b: u8, class: Class, actor: &mut V) -> Result<()>
         requires { V.is_ready actor.old }
-        ensures moved { (limit : Option ℕ) (own : Bool)
-            → Moved K.keeps K.denied limit own V.takes V.refuses result (ground_move b class)
-            self.new actor.old actor.new }
+        ensures moved { AlwaysMakes K.Store V.VTActor result (ground_move b class) self actor }
         ensures ready { OnOk result (V.is_ready actor.new) }
     {
         self.state = State::Ground;
@@ -61,9 +59,7 @@ impl<K: Store, A: Allocator> Machine<K, A> {
     #[tactic(auto, using(crate::proofs::Given::hears_moved))]
     pub fn in_pair<V: VTActor>(&mut self, b: u8, class: Class, actor: &mut V) -> Result<()>
         requires { V.is_ready actor.old }
-        ensures moved { (limit : Option ℕ) (own : Bool)
-            → Moved K.keeps K.denied limit own V.takes V.refuses result (pair_move b class)
-            self.new actor.old actor.new }
+        ensures moved { AlwaysMakes K.Store V.VTActor result (pair_move b class) self actor }
         ensures ready { OnOk result (V.is_ready actor.new) }
     {
         self.state = State::Ground;
@@ -93,8 +89,8 @@ impl<K: Store, A: Allocator> Machine<K, A> {
     pub fn in_pending<V: VTActor>(&mut self, b: u8, class: Class, actor: &mut V) -> Result<()>
         requires { V.is_ready actor.old }
         ensures moved { (limit : Option ℕ) (own : Bool) (f : List ℕ) → front_of self.old.pending ≡ f
-            → Moved K.keeps K.denied limit own V.takes V.refuses result
-            (pending_move f b class (outcome f b)) self.new actor.old actor.new }
+            → Makes K.Store V.VTActor limit own result
+            (pending_move f b class (outcome f b)) self actor }
         ensures ready { OnOk result (V.is_ready actor.new) }
     {
         match self.pending.outcome(b) {
@@ -111,9 +107,8 @@ impl<K: Store, A: Allocator> Machine<K, A> {
     // A byte that breaks off a character's sequence.
     fn break_off<V: VTActor>(&mut self, b: u8, class: Class, actor: &mut V) -> Result<()>
         requires { V.is_ready actor.old }
-        ensures moved { (limit : Option ℕ) (own : Bool)
-            → Moved K.keeps K.denied limit own V.takes V.refuses result
-            (telling (Print 0xfffd ∷ []) (ground_move b class)) self.new actor.old actor.new }
+        ensures moved { AlwaysMakes K.Store V.VTActor result
+            (telling (Print 0xfffd ∷ []) (ground_move b class)) self actor }
         ensures ready { OnOk result (V.is_ready actor.new) }
     {
         match actor.print('\u{fffd}') {
@@ -127,10 +122,8 @@ impl<K: Store, A: Allocator> Machine<K, A> {
     fn whole<V: VTActor>(&mut self, b: u8, class: Class, actor: &mut V) -> Result<()>
         requires ready { V.is_ready actor.old }
         requires whole { is_sequence (front_of self.old.pending ++ b ∷ []) ≡ true }
-        ensures moved { (limit : Option ℕ) (own : Bool)
-            → Moved K.keeps K.denied limit own V.takes V.refuses result
-            (pending_move (front_of self.old.pending) b class Outcome.Whole)
-            self.new actor.old actor.new }
+        ensures moved { AlwaysMakes K.Store V.VTActor result
+            (pending_move (front_of self.old.pending) b class Outcome.Whole) self actor }
         ensures ready { OnOk result (V.is_ready actor.new) }
     {
         if self.pending.pairs_with(b) {
@@ -154,9 +147,8 @@ impl<K: Store, A: Allocator> Machine<K, A> {
         requires some { 0 < length rest.now }
         requires ready { V.is_ready actor.old }
         requires ground { Holds K.keeps limit self.old Ground }
-        ensures took { Took K.keeps K.denied limit V.takes V.refuses result Ground rest.now self.new
-            actor.old actor.new }
-        ensures count { Advances V.is_ready result rest.now actor.new }
+        ensures took { Consumes K.Store V.VTActor limit result Ground rest.now self actor }
+        ensures count { Advances V.VTActor result rest.now actor }
     {
         match self.take_quick(rest, actor) {
             Ok(printed) => {
@@ -178,7 +170,7 @@ impl<K: Store, A: Allocator> Machine<K, A> {
         requires ready { V.is_ready actor.old }
         requires ground { Holds K.keeps None self.old Ground }
         ensures ground { IfOk result (λ n. Holds K.keeps None self.new Ground) }
-        ensures stays { Stays V.takes V.refuses V.is_ready result rest.now actor.old actor.new }
+        ensures stays { StaysInGround V.VTActor result rest.now actor }
     {
         let mut at = 0;
         while at < rest.len() {
@@ -191,14 +183,15 @@ impl<K: Store, A: Allocator> Machine<K, A> {
         Ok(at)
     }
 
-    // Characters, a control, or a short control sequence; nothing where something else stands there.
+    // Characters, a control, or a short control sequence; nothing where something else stands
+    // there.
     #[inline(always)]
     fn take_quick_one<V: VTActor>(&mut self, rest: &[u8], actor: &mut V) -> Result<usize>
         requires some { 0 < length rest.now }
         requires ready { V.is_ready actor.old }
         requires ground { Holds K.keeps None self.old Ground }
         ensures ground { IfOk result (λ n. Holds K.keeps None self.new Ground) }
-        ensures stays { Stays V.takes V.refuses V.is_ready result rest.now actor.old actor.new }
+        ensures stays { StaysInGround V.VTActor result rest.now actor }
     {
         if rest[0] >= 0x20 {
             return print_one(rest, actor);
@@ -221,8 +214,7 @@ impl<K: Store, A: Allocator> Machine<K, A> {
         requires some { 0 < length rest.now }
         requires ready { V.is_ready actor.old }
         requires ground { Holds K.keeps limit self.old Ground }
-        ensures { TookSome K.keeps K.denied limit V.takes V.refuses V.is_ready result rest.now
-            self.new actor.old actor.new }
+        ensures { ConsumesSome K.Store V.VTActor limit result rest.now self actor }
     {
         match print_first(rest, actor) {
             Ok(0) => self.take_control(limit, rest, actor),
@@ -241,9 +233,8 @@ impl<K: Store, A: Allocator> Machine<K, A> {
     ) -> Result<usize>
         requires some { 0 < length rest.now }
         requires ready { V.is_ready actor.old }
-        ensures took { Took K.keeps K.denied limit V.takes V.refuses result Ground rest.now self.new
-            actor.old actor.new }
-        ensures count { Advances V.is_ready result rest.now actor.new }
+        ensures took { Consumes K.Store V.VTActor limit result Ground rest.now self actor }
+        ensures count { Advances V.VTActor result rest.now actor }
     {
         match self.take_control(limit, rest, actor) {
             Ok(n) => match self.take_terminator(limit, &rest[n..], actor) {
@@ -264,8 +255,7 @@ impl<K: Store, A: Allocator> Machine<K, A> {
     ) -> Result<usize>
         requires some { 0 < length rest.now }
         requires ready { V.is_ready actor.old }
-        ensures { TookSome K.keeps K.denied limit V.takes V.refuses V.is_ready result rest.now
-            self.new actor.old actor.new }
+        ensures { ConsumesSome K.Store V.VTActor limit result rest.now self actor }
     {
         if rest[0] == 0x1b && rest.len() > 2 {
             self.take_escape(limit, rest, actor)
@@ -279,8 +269,8 @@ impl<K: Store, A: Allocator> Machine<K, A> {
     pub fn take_one_in_ground<V: VTActor>(&mut self, rest: &[u8], actor: &mut V) -> Result<usize>
         requires some { 0 < length rest.now }
         requires ready { V.is_ready actor.old }
-        ensures { (limit : Option ℕ) → TookSome K.keeps K.denied limit V.takes V.refuses V.is_ready
-            result rest.now self.new actor.old actor.new }
+        ensures { (limit : Option ℕ)
+            → ConsumesSome K.Store V.VTActor limit result rest.now self actor }
     {
         match self.in_ground(rest[0], classify(rest[0]), actor) {
             Ok(()) => Ok(1),

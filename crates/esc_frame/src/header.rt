@@ -1,4 +1,5 @@
-//! The header of a device control string, byte by byte. Its parameter bytes are kept beside it, and read at its final byte.
+//! The header of a device control string, byte by byte. Its parameter bytes are kept beside it, and
+//! read at its final byte.
 #![tactic(auto)]
 
 ghost use Rattle.std.specs.Prelude.{◌≡◌, ◌++◌, ℕ, List, [], ◌∷◌, map, pos, IfOk, OnErr};
@@ -43,7 +44,8 @@ impl DcsHeader {
         }
     }
 
-    /// Whether the header has its form: optionally a marker 3C-3F, then 30-39 and 3B, then intermediates 20-2F.
+    /// Whether the header has its form: optionally a marker 3C-3F, then 30-39 and 3B, then
+    /// intermediates 20-2F.
     pub fn is_formed(&self) -> bool
         ensures { (x : List ℕ) → KeepsDcs self.now x → result ≡ is_dcs_header x }
     {

@@ -1,4 +1,5 @@
-//! Laws over all streams: a stream has one cut, its events are those of the cut, and what texts say whatever follows them.
+//! Laws over all streams: a stream has one cut, its events are those of the cut, and what texts say
+//! whatever follows them.
 #![tactic(auto)]
 
 ghost use Rattle.std.specs.Prelude.{◌≡◌, ◌++◌, ◌&&◌, ℕ, List, Option, [], ◌∷◌, true, false};
@@ -22,7 +23,8 @@ use std::alloc::Allocator;
 /// Two cuts of a stream are one.
 #[tactic(auto, using(crate::proofs::OneCut::one_cut))]
 pub fn one_cut()
-    ensures { (stream : List ℕ) (gs hs : List Segment) → IsCut stream gs → IsCut stream hs → gs ≡ hs }
+    ensures { (stream : List ℕ) (gs hs : List Segment) → IsCut stream gs → IsCut stream hs
+        → gs ≡ hs }
 {}
 
 /// Every stream has a cut.
@@ -33,7 +35,8 @@ pub fn has_cut()
 
 /// A stream has one list of events.
 pub fn events_once()
-    ensures { (stream : List ℕ) (xs ys : List Event) → HasEvents stream xs → HasEvents stream ys → xs ≡ ys }
+    ensures { (stream : List ℕ) (xs ys : List Event) → HasEvents stream xs → HasEvents stream ys
+        → xs ≡ ys }
 {}
 
 /// The events of a stream are those of its cut.
@@ -47,7 +50,8 @@ pub fn events_more()
     ensures { (s b : List ℕ) → events s ++ added s b ≡ events (s ++ b) }
 {}
 
-/// What two pieces add, one after another, is what they add together: no cut of the input into calls changes the events.
+/// What two pieces add, one after another, is what they add together: no cut of the input into
+/// calls changes the events.
 #[tactic(auto, using(crate::proofs::Streams::added_append))]
 pub fn added_append()
     ensures { (s b c : List ℕ) → added s (b ++ c) ≡ added s b ++ added (s ++ b) c }
@@ -65,7 +69,8 @@ pub fn events_fit()
 
 /// Under a limit a stream has one list of events too.
 pub fn events_once_within()
-    ensures { (limit : Option ℕ) (stream : List ℕ) (xs ys : List Event) → HasEventsWithin limit stream xs → HasEventsWithin limit stream ys → xs ≡ ys }
+    ensures { (limit : Option ℕ) (stream : List ℕ) (xs ys : List Event)
+        → HasEventsWithin limit stream xs → HasEventsWithin limit stream ys → xs ≡ ys }
 {}
 
 /// Under a limit the events of a stream are those of its cut.
@@ -75,24 +80,28 @@ pub fn events_of_the_cut_within()
 
 /// A stream none of whose segments passes the limit has the events that it has without one.
 pub fn same_within()
-    ensures { (limit : Option ℕ) (s : List ℕ) (gs : List Segment) → IsCut s gs → AreWithin limit gs → events_within limit s ≡ events s }
+    ensures { (limit : Option ℕ) (s : List ℕ) (gs : List Segment) → IsCut s gs → AreWithin limit gs
+        → events_within limit s ≡ events s }
 {}
 
 /// Under a limit the events of a prefix come first, and then those that the rest adds.
 #[tactic(auto, using(crate::proofs::Streams::events_more))]
 pub fn events_more_within()
-    ensures { (limit : Option ℕ) (s b : List ℕ) → events_within limit s ++ added_within limit s b ≡ events_within limit (s ++ b) }
+    ensures { (limit : Option ℕ) (s b : List ℕ)
+        → events_within limit s ++ added_within limit s b ≡ events_within limit (s ++ b) }
 {}
 
 /// Under a limit, what two pieces add, one after another, is what they add together.
 #[tactic(auto, using(crate::proofs::Streams::added_append))]
 pub fn added_append_within()
-    ensures { (limit : Option ℕ) (s b c : List ℕ) → added_within limit s (b ++ c) ≡ added_within limit s b ++ added_within limit (s ++ b) c }
+    ensures { (limit : Option ℕ) (s b c : List ℕ)
+        → added_within limit s (b ++ c) ≡ added_within limit s b ++ added_within limit (s ++ b) c }
 {}
 
 /// Under a limit too, bytes after a stream with nothing unfinished add their own events.
 pub fn ground_added_within()
-    ensures { (limit : Option ℕ) (s b : List ℕ) → IsAtGround s → added_within limit s b ≡ events_within limit b }
+    ensures { (limit : Option ℕ) (s b : List ℕ) → IsAtGround s
+        → added_within limit s b ≡ events_within limit b }
 {}
 
 /// The events of any stream have these forms under a limit too.
@@ -131,7 +140,8 @@ pub fn says_nil()
 /// Texts, one after another, say their events one after another.
 #[tactic(auto, using(crate::proofs::Streams::says_append))]
 pub fn says_append()
-    ensures { (t u : List ℕ) (es fs : List Event) → Says t es → Says u fs → Says (t ++ u) (es ++ fs) }
+    ensures { (t u : List ℕ) (es fs : List Event) → Says t es → Says u fs
+        → Says (t ++ u) (es ++ fs) }
 {}
 
 /// What a text says are its events.
@@ -142,7 +152,8 @@ pub fn says_events()
 /// Segments that are finished whatever follows say their events.
 #[tactic(auto, using(crate::proofs::Streams::says_segments))]
 pub fn says_segments()
-    ensures { (gs : List Segment) → ((rest : List ℕ) → AreFinished gs rest) → Says (joined gs) (finished_events gs) }
+    ensures { (gs : List Segment) → ((rest : List ℕ) → AreFinished gs rest)
+        → Says (joined gs) (finished_events gs) }
 {}
 
 /// One segment that is finished by itself says its events.
@@ -169,41 +180,56 @@ pub fn says_high_control()
     ensures { (b : ℕ) → is_raw_control (class_of b) ≡ true → Says (0xc2 ∷ b ∷ []) (Execute b ∷ []) }
 {}
 
-/// ESC, intermediates 20-2F and a final byte 30-7E are dispatched, where the final byte does not open a sequence.
+/// ESC, intermediates 20-2F and a final byte 30-7E are dispatched, where the final byte does not
+/// open a sequence.
 #[tactic(auto, using(crate::proofs::SaysSequences::says_escape))]
 pub fn says_escape()
-    ensures { (is : List ℕ) (f : ℕ) → AllOf is_intermediate is → ends_escape (class_of f) ≡ true → (is_empty is && opens (class_of f)) ≡ false → Says ((0x1b ∷ is) ++ f ∷ []) (EscDispatch (kept_intermediates is) (has_more_intermediates is) f ∷ []) }
+    ensures { (is : List ℕ) (f : ℕ) → AllOf is_intermediate is → ends_escape (class_of f) ≡ true
+        → (is_empty is && opens (class_of f)) ≡ false
+        → Says ((0x1b ∷ is) ++ f ∷ [])
+        (EscDispatch (kept_intermediates is) (has_more_intermediates is) f ∷ []) }
 {}
 
 /// A control sequence with a body of its form and a final byte 40-7E is dispatched.
 #[tactic(auto, using(crate::proofs::SaysSequences::says_csi))]
 pub fn says_csi()
-    ensures { (x : List ℕ) (f : ℕ) → AllOf in_body x → is_csi_body x ≡ true → ends_csi (class_of f) ≡ true → Says ((0x1b ∷ 0x5b ∷ x) ++ f ∷ []) (csi_event x f ∷ []) }
+    ensures { (x : List ℕ) (f : ℕ) → AllOf in_body x → is_csi_body x ≡ true
+        → ends_csi (class_of f) ≡ true → Says ((0x1b ∷ 0x5b ∷ x) ++ f ∷ []) (csi_event x f ∷ []) }
 {}
 
-/// A clear text as an operating system command with its string terminator is dispatched whole, in parts.
+/// A clear text as an operating system command with its string terminator is dispatched whole, in
+/// parts.
 #[tactic(auto, using(crate::proofs::SaysStrings::says_osc))]
 pub fn says_osc()
-    ensures { (t : List ℕ) → IsClearText t → Says ((0x1b ∷ 0x5d ∷ t) ++ 0x1b ∷ 0x5c ∷ []) (OscDispatch (parts_of t) ∷ EscDispatch [] false 0x5c ∷ []) }
+    ensures { (t : List ℕ) → IsClearText t
+        → Says ((0x1b ∷ 0x5d ∷ t) ++ 0x1b ∷ 0x5c ∷ [])
+        (OscDispatch (parts_of t) ∷ EscDispatch [] false 0x5c ∷ []) }
 {}
 
-/// A text of 20-7F as an application program command with its string terminator is dispatched whole.
+/// A text of 20-7F as an application program command with its string terminator is dispatched
+/// whole.
 #[tactic(auto, using(crate::proofs::SaysStrings::says_apc))]
 pub fn says_apc()
-    ensures { (t : List ℕ) → AllOf is_text t → Says ((0x1b ∷ 0x5f ∷ t) ++ 0x1b ∷ 0x5c ∷ []) (ApcDispatch t ∷ EscDispatch [] false 0x5c ∷ []) }
+    ensures { (t : List ℕ) → AllOf is_text t
+        → Says ((0x1b ∷ 0x5f ∷ t) ++ 0x1b ∷ 0x5c ∷ [])
+        (ApcDispatch t ∷ EscDispatch [] false 0x5c ∷ []) }
 {}
 
-/// A device control string with a header of its form, a final byte 40-7E and data that no byte breaks off is hooked, put
-/// byte by byte and unhooked.
+/// A device control string with a header of its form, a final byte 40-7E and data that no byte
+/// breaks off is hooked, put byte by byte and unhooked.
 #[tactic(auto, using(crate::proofs::SaysStrings::says_dcs))]
 pub fn says_dcs()
-    ensures { (x d : List ℕ) (f : ℕ) → AllOf in_body x → is_dcs_header x ≡ true → ends_csi (class_of f) ≡ true → AllOf is_put d → Says ((((0x1b ∷ 0x50 ∷ []) ++ x ++ f ∷ []) ++ d) ++ 0x1b ∷ 0x5c ∷ []) (((hook_event x f ∷ puts d) ++ DcsUnhook ∷ []) ++ EscDispatch [] false 0x5c ∷ []) }
+    ensures { (x d : List ℕ) (f : ℕ) → AllOf in_body x → is_dcs_header x ≡ true
+        → ends_csi (class_of f) ≡ true → AllOf is_put d
+        → Says ((((0x1b ∷ 0x50 ∷ []) ++ x ++ f ∷ []) ++ d) ++ 0x1b ∷ 0x5c ∷ [])
+        (((hook_event x f ∷ puts d) ++ DcsUnhook ∷ []) ++ EscDispatch [] false 0x5c ∷ []) }
 {}
 
 /// Whether a stream may make a parser's memory grow shows in its cut.
 #[tactic(auto, using(crate::proofs::Memory::cut_grows))]
 pub fn cut_grows()
-    ensures { (s : List ℕ) (gs : List Segment) → IsCut s gs → MayGrow s → list_any may_grow gs ≡ true }
+    ensures { (s : List ℕ) (gs : List Segment) → IsCut s gs → MayGrow s
+        → list_any may_grow gs ≡ true }
 {}
 
 /// A stream that begins with one that may make a parser's memory grow may do so too.
@@ -215,7 +241,8 @@ pub fn more_grows()
 /// Whether a stream holds what an actor may want memory for shows in its cut.
 #[tactic(auto, using(crate::proofs::Memory::cut_takes))]
 pub fn cut_takes()
-    ensures { (s : List ℕ) (gs : List Segment) → IsCut s gs → MayTake s → list_any may_take gs ≡ true }
+    ensures { (s : List ℕ) (gs : List Segment) → IsCut s gs → MayTake s
+        → list_any may_take gs ≡ true }
 {}
 
 /// A stream that begins with one that holds it does so too.

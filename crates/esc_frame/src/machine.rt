@@ -1,5 +1,5 @@
-//! The byte machine: what it keeps of the unfinished segment, and which function takes the next bytes. Its methods stand in
-//! a file for each kind of segment.
+//! The byte machine: what it keeps of the unfinished segment, and which function takes the next
+//! bytes. Its methods stand in a file for each kind of segment.
 #![tactic(auto)]
 
 ghost use Rattle.std.specs.Prelude.{◌≡◌, ◌<◌, ℕ, Option, None, true, length, take, min, OnOk, IsTrue, ◌↔◌};
@@ -8,8 +8,10 @@ ghost use Rattle.esc_frame.specs.Events.{Takes};
 ghost use Rattle.esc_frame.specs.Leads.{Unfinished, Holds, kept_open};
 ghost use Rattle.esc_frame.specs.Leads.Unfinished.{Ground};
 ghost use Rattle.esc_frame.specs.Limits.{most};
-ghost use Rattle.esc_frame.specs.Machine.Calls.{Moved, Took, Advances, Quietly, NoMemory, is_between};
+ghost use Rattle.esc_frame.specs.Machine.Calls.{Quietly, NoMemory, is_between};
 ghost use Rattle.esc_frame.specs.Machine.Fronts.{front_of};
+ghost use Rattle.esc_frame.specs.Machine.Keeping.{Holding};
+ghost use Rattle.esc_frame.specs.Machine.Makes.{Emits, Makes, Consumes, Advances};
 ghost use Rattle.esc_frame.specs.Machine.Moves.{move, opened, may_grow_in, may_grow_within, after_all, news_all};
 ghost use Rattle.esc_frame.specs.Segments.{Opener};
 
@@ -47,8 +49,8 @@ pub enum State {
     Apc,
 }
 
-/// The machine, between any two bytes of a stream, with a store for the text of an unfinished string. The entries of a control
-/// sequence lie in it.
+/// The machine, between any two bytes of a stream, with a store for the text of an unfinished
+/// string. The entries of a control sequence lie in it.
 #[derive(Drop)]
 pub struct Machine<K: Store, A: Allocator> {
     pub state: State,
@@ -89,7 +91,8 @@ impl<K: Store, A: Allocator + Copy> Machine<K, A> {
 impl<K: Store, A: Allocator> Machine<K, A> {
     /// Whether no segment is unfinished.
     pub fn is_ground(&self) -> bool
-        ensures { (limit : Option ℕ) (u : Unfinished) → Holds K.keeps limit self.now u → IsTrue result ↔ (u ≡ Ground) }
+        ensures { (limit : Option ℕ) (u : Unfinished) → Holds K.keeps limit self.now u
+            → IsTrue result ↔ (u ≡ Ground) }
     {
         match self.state {
             State::Ground => match self.pending {
@@ -108,7 +111,8 @@ impl<K: Store, A: Allocator> Machine<K, A> {
 
     /// How many bytes are kept of the unfinished segment.
     pub fn kept(&self) -> usize
-        ensures { (limit : Option ℕ) (u : Unfinished) → Holds K.keeps limit self.now u → result ≡ min (kept_open limit u) most }
+        ensures { (limit : Option ℕ) (u : Unfinished) → Holds K.keeps limit self.now u
+            → result ≡ min (kept_open limit u) most }
     {
         match self.state {
             State::Osc | State::Dcs | State::Apc => self.text.bytes().len(),
@@ -152,9 +156,9 @@ impl<K: Store, A: Allocator> Machine<K, A> {
         actor: &mut V,
     ) -> Result<()>
         requires { V.is_ready actor.old }
-        ensures moved { (u : Unfinished) → class ≡ class_of b → Holds K.keeps limit self.old u
-            → Moved K.keeps K.denied limit (may_grow_in u) V.takes V.refuses result
-            (move limit u b class) self.new actor.old actor.new }
+        ensures moved { class ≡ class_of b → Holding K.Store limit self (λ u.
+            Makes K.Store V.VTActor limit (may_grow_in u) result
+            (move limit u b class) self actor) }
         ensures ready { OnOk result (V.is_ready actor.new) }
     {
         match self.state {
@@ -186,10 +190,11 @@ impl<K: Store, A: Allocator> Machine<K, A> {
         actor: &mut V,
     ) -> Result<()>
         requires { V.is_ready actor.old }
-        ensures holds { (u : Unfinished) → Holds K.keeps limit self.old u → OnOk result (Holds K.keeps limit self.new (after_all u bytes.now)) }
-        ensures told { (u : Unfinished) → Holds K.keeps limit self.old u
-            → Takes ((may_grow_within u bytes.now ≡ true) × NoMemory K.denied A)
-            V.takes V.refuses result actor.old (news_all limit u bytes.now) actor.new }
+        ensures holds { Holding K.Store limit self (λ u.
+            OnOk result (Holds K.keeps limit self.new (after_all u bytes.now))) }
+        ensures told { Holding K.Store limit self (λ u.
+            Emits V.VTActor ((may_grow_within u bytes.now ≡ true) × NoMemory K.denied A) result
+            (news_all limit u bytes.now) actor) }
         ensures ready { OnOk result (V.is_ready actor.new) }
     {
         let mut at = 0;
@@ -202,8 +207,8 @@ impl<K: Store, A: Allocator> Machine<K, A> {
         Ok(())
     }
 
-    /// Takes a prefix of the bytes, at least one, and returns its length: all but the last tell nothing and leave something
-    /// unfinished. After an error nothing is said of the machine.
+    /// Takes a prefix of the bytes, at least one, and returns its length: all but the last tell
+    /// nothing and leave something unfinished. After an error nothing is said of the machine.
     #[inline(always)]
     pub fn take_some<V: VTActor>(
         &mut self,
@@ -213,11 +218,10 @@ impl<K: Store, A: Allocator> Machine<K, A> {
     ) -> Result<usize>
         requires some { 0 < length rest.now }
         requires ready { V.is_ready actor.old }
-        ensures took { (u : Unfinished) → Holds K.keeps limit self.old u
-            → Took K.keeps K.denied limit V.takes V.refuses result u rest.now self.new
-            actor.old actor.new }
-        ensures quiet { (u : Unfinished) → Holds K.keeps limit self.old u → Quietly limit result u rest.now }
-        ensures count { Advances V.is_ready result rest.now actor.new }
+        ensures took { Holding K.Store limit self (λ u.
+            Consumes K.Store V.VTActor limit result u rest.now self actor) }
+        ensures quiet { Holding K.Store limit self (λ u. Quietly limit result u rest.now) }
+        ensures count { Advances V.VTActor result rest.now actor }
     {
         match self.state {
             State::Ground => match self.pending {
@@ -250,10 +254,9 @@ impl<K: Store, A: Allocator> Machine<K, A> {
     ) -> Result<usize>
         requires some { 0 < length rest.now }
         requires ready { V.is_ready actor.old }
-        ensures took { (u : Unfinished) → Holds K.keeps limit self.old u
-            → Took K.keeps K.denied limit V.takes V.refuses result u rest.now self.new
-            actor.old actor.new }
-        ensures count { Advances V.is_ready result rest.now actor.new }
+        ensures took { Holding K.Store limit self (λ u.
+            Consumes K.Store V.VTActor limit result u rest.now self actor) }
+        ensures count { Advances V.VTActor result rest.now actor }
     {
         match self.state {
             State::Ground => match self.pending {
@@ -278,11 +281,10 @@ impl<K: Store, A: Allocator> Machine<K, A> {
         requires some { 0 < length rest.now }
         requires ready { V.is_ready actor.old }
         requires between { is_between self.old.state (front_of self.old.pending) ≡ true }
-        ensures took { (u : Unfinished) → Holds K.keeps limit self.old u
-            → Took K.keeps K.denied limit V.takes V.refuses result u rest.now self.new
-            actor.old actor.new }
+        ensures took { Holding K.Store limit self (λ u.
+            Consumes K.Store V.VTActor limit result u rest.now self actor) }
         ensures quiet { (u : Unfinished) → Quietly limit result u rest.now }
-        ensures count { Advances V.is_ready result rest.now actor.new }
+        ensures count { Advances V.VTActor result rest.now actor }
     {
         match self.step(limit, rest[0], classify(rest[0]), actor) {
             Ok(()) => Ok(1),

@@ -1,14 +1,14 @@
 //! The machine in operating system commands.
 #![tactic(auto)]
 
-ghost use Rattle.std.specs.Prelude.{◌≡◌, ◌≤◌, ◌<◌, ◌++◌, ℕ, Bool, List, Option, [], ◌+◌, true, false, not, length, take, slice_index, OnOk, IsTrue};
+ghost use Rattle.std.specs.Prelude.{◌≡◌, ◌≤◌, ◌<◌, List, [], ◌+◌, true, false, not, length, take, slice_index, OnOk, IsTrue};
 ghost use Rattle.esc_frame.specs.Classes.{class_of};
-ghost use Rattle.esc_frame.specs.Events.{Takes};
-ghost use Rattle.esc_frame.specs.Leads.Unfinished.{InOsc};
 ghost use Rattle.esc_frame.specs.Limits.{has_few_parts};
-ghost use Rattle.esc_frame.specs.Machine.Calls.{Moved, Took, TookSome, Advances, Quietly};
+ghost use Rattle.esc_frame.specs.Machine.Calls.{Quietly};
 ghost use Rattle.esc_frame.specs.Machine.Fronts.{front_of};
-ghost use Rattle.esc_frame.specs.Machine.Moves.{telling, ground_move, pair_move, inside, osc_pending_move, osc_left, ends_osc, is_lendable};
+ghost use Rattle.esc_frame.specs.Machine.Keeping.{Unlent, KeepingText, KeepingOsc, KeepingOscAnd, KeepingOscPending, FreshOsc, AnyOsc};
+ghost use Rattle.esc_frame.specs.Machine.Makes.{Emits, Makes, AlwaysMakes, Consumes, ConsumesSome, Advances};
+ghost use Rattle.esc_frame.specs.Machine.Moves.{telling, ground_move, pair_move, osc_pending_move, osc_left, ends_osc};
 ghost use Rattle.esc_frame.specs.Machine.TextRuns.{IsTextRun};
 ghost use Rattle.esc_frame.specs.Segments.{Opener, Piece, text_of, osc_events};
 ghost use Rattle.esc_frame.specs.Sequences.{is_from, outcome};
@@ -34,10 +34,8 @@ impl<K: Store, A: Allocator> Machine<K, A> {
         actor: &mut V,
     ) -> Result<()>
         requires { V.is_ready actor.old }
-        ensures moved { (o : Opener) (ps : List Piece) → class ≡ class_of b
-            → K.keeps limit self.old.text (text_of ps)
-            → Moved K.keeps K.denied limit true V.takes V.refuses result
-            (inside limit (InOsc o ps) b class) self.new actor.old actor.new }
+        ensures moved { class ≡ class_of b → KeepingOsc K.Store limit self (λ u.
+            Makes K.Store V.VTActor limit true result (move limit u b class) self actor) }
         ensures ready { OnOk result (V.is_ready actor.new) }
     {
         self.state = State::Osc;
@@ -74,10 +72,8 @@ impl<K: Store, A: Allocator> Machine<K, A> {
         actor: &mut V,
     ) -> Result<()>
         requires { V.is_ready actor.old }
-        ensures moved { (o : Opener) (ps : List Piece) (f : List ℕ) → class ≡ class_of b
-            → K.keeps limit self.old.text (text_of ps) → front_of self.old.pending ≡ f
-            → Moved K.keeps K.denied limit true V.takes V.refuses result
-            (osc_pending_move limit o ps f b class (outcome f b)) self.new actor.old actor.new }
+        ensures moved { class ≡ class_of b → KeepingOscPending K.Store limit self (λ u.
+            Makes K.Store V.VTActor limit true result (move limit u b class) self actor) }
         ensures ready { OnOk result (V.is_ready actor.new) }
     {
         match self.pending.outcome(b) {
@@ -104,9 +100,9 @@ impl<K: Store, A: Allocator> Machine<K, A> {
     ) -> Result<()>
         requires { V.is_ready actor.old }
         ensures moved { (o : Opener) (ps : List Piece) → K.keeps limit self.old.text (text_of ps)
-            → Moved K.keeps K.denied limit true V.takes V.refuses result
+            → Makes K.Store V.VTActor limit true result
             (osc_pending_move limit o ps (front_of self.old.pending) b class Outcome.Whole)
-            self.new actor.old actor.new }
+            self actor }
         ensures ready { OnOk result (V.is_ready actor.new) }
     {
         if self.pending.pairs_with(b) {
@@ -122,9 +118,9 @@ impl<K: Store, A: Allocator> Machine<K, A> {
     // A breaker after an OSC.
     fn leave_osc<V: VTActor>(&mut self, b: u8, class: Class, actor: &mut V) -> Result<()>
         requires { V.is_ready actor.old }
-        ensures moved { (limit : Option ℕ) (t : List ℕ) → K.keeps limit self.old.text t
-            → Moved K.keeps K.denied limit true V.takes V.refuses result
-            (telling (osc_events limit t) (ground_move b class)) self.new actor.old actor.new }
+        ensures moved { KeepingText K.Store self.old.text (λ limit t.
+            Makes K.Store V.VTActor limit true result
+            (telling (osc_events limit t) (ground_move b class)) self actor) }
         ensures ready { OnOk result (V.is_ready actor.new) }
     {
         match tell_osc(&self.text, &self.alloc, actor) {
@@ -136,9 +132,9 @@ impl<K: Store, A: Allocator> Machine<K, A> {
     // A control after C2, in an OSC.
     fn leave_osc_by_pair<V: VTActor>(&mut self, b: u8, class: Class, actor: &mut V) -> Result<()>
         requires { V.is_ready actor.old }
-        ensures moved { (limit : Option ℕ) (t : List ℕ) → K.keeps limit self.old.text t
-            → Moved K.keeps K.denied limit true V.takes V.refuses result
-            (telling (osc_events limit t) (pair_move b class)) self.new actor.old actor.new }
+        ensures moved { KeepingText K.Store self.old.text (λ limit t.
+            Makes K.Store V.VTActor limit true result
+            (telling (osc_events limit t) (pair_move b class)) self actor) }
         ensures ready { OnOk result (V.is_ready actor.new) }
     {
         match tell_osc(&self.text, &self.alloc, actor) {
@@ -159,8 +155,7 @@ impl<K: Store, A: Allocator> Machine<K, A> {
         requires escape { slice_index rest.now 0 ≡ 0x1b }
         requires bracket { slice_index rest.now 1 ≡ 0x5d }
         requires ready { V.is_ready actor.old }
-        ensures { TookSome K.keeps K.denied limit V.takes V.refuses V.is_ready result rest.now
-            self.new actor.old actor.new }
+        ensures { ConsumesSome K.Store V.VTActor limit result rest.now self actor }
     {
         match self.take_body(limit, &rest[2..], actor) {
             Ok(n) => Ok(2 + n),
@@ -168,8 +163,8 @@ impl<K: Store, A: Allocator> Machine<K, A> {
         }
     }
 
-    // What follows the opener, or else no byte that counts: a text that ends in these bytes is lent to the actor from there,
-    // any other is kept.
+    // What follows the opener, or else no byte that counts: a text that ends in these bytes is lent
+    // to the actor from there, any other is kept.
     #[inline(always)]
     fn take_body<V: VTActor>(
         &mut self,
@@ -179,11 +174,10 @@ impl<K: Store, A: Allocator> Machine<K, A> {
     ) -> Result<usize>
         requires some { 0 < length rest.now }
         requires ready { V.is_ready actor.old }
-        ensures took { (o : Opener) (ps : List Piece) → text_of ps ≡ []
-            → Took K.keeps K.denied limit V.takes V.refuses result (InOsc o ps)
-            rest.now self.new actor.old actor.new }
-        ensures quiet { (o : Opener) (ps : List Piece) → Quietly limit result (InOsc o ps) rest.now }
-        ensures count { Advances V.is_ready result rest.now actor.new }
+        ensures took { FreshOsc (λ u.
+            Consumes K.Store V.VTActor limit result u rest.now self actor) }
+        ensures quiet { AnyOsc (λ u. Quietly limit result u rest.now) }
+        ensures count { Advances V.VTActor result rest.now actor }
     {
         let run = units_run(rest);
         if run == rest.len() {
@@ -212,12 +206,10 @@ impl<K: Store, A: Allocator> Machine<K, A> {
         requires few { run ≤ length rest.now }
         requires passes { IsTextRun (take run rest.now) }
         requires ready { V.is_ready actor.old }
-        ensures took { (o : Opener) (ps : List Piece) → text_of ps ≡ []
-            → is_lendable (InOsc o ps) rest.now ≡ false
-            → Took K.keeps K.denied limit V.takes V.refuses result (InOsc o ps)
-            rest.now self.new actor.old actor.new }
-        ensures quiet { (o : Opener) (ps : List Piece) → Quietly limit result (InOsc o ps) rest.now }
-        ensures count { Advances V.is_ready result rest.now actor.new }
+        ensures took { FreshOsc (Unlent rest.now (λ u.
+            Consumes K.Store V.VTActor limit result u rest.now self actor)) }
+        ensures quiet { AnyOsc (λ u. Quietly limit result u rest.now) }
+        ensures count { Advances V.VTActor result rest.now actor }
     {
         self.open(Kind::Osc);
         self.take_units(limit, rest, run, actor)
@@ -238,11 +230,10 @@ impl<K: Store, A: Allocator> Machine<K, A> {
         requires class { class ≡ class_of (slice_index rest.now run) }
         requires ends { ends_osc class ≡ true }
         requires ready { V.is_ready actor.old }
-        ensures took { (o : Opener) (ps : List Piece) → text_of ps ≡ []
-            → Took K.keeps K.denied limit V.takes V.refuses result (InOsc o ps)
-            rest.now self.new actor.old actor.new }
-        ensures quiet { (o : Opener) (ps : List Piece) → Quietly limit result (InOsc o ps) rest.now }
-        ensures count { Advances V.is_ready result rest.now actor.new }
+        ensures took { FreshOsc (λ u.
+            Consumes K.Store V.VTActor limit result u rest.now self actor) }
+        ensures quiet { AnyOsc (λ u. Quietly limit result u rest.now) }
+        ensures count { Advances V.VTActor result rest.now actor }
     {
         match self.end_lent(limit, &rest[..run], rest[run], class, actor) {
             Ok(()) => Ok(run + 1),
@@ -264,11 +255,10 @@ impl<K: Store, A: Allocator> Machine<K, A> {
         requires lead { slice_index rest.now run ≡ 0xc2 }
         requires control { is_from 0x80 0x9f (slice_index rest.now (run + 1)) ≡ true }
         requires ready { V.is_ready actor.old }
-        ensures took { (o : Opener) (ps : List Piece) → text_of ps ≡ []
-            → Took K.keeps K.denied limit V.takes V.refuses result (InOsc o ps)
-            rest.now self.new actor.old actor.new }
-        ensures quiet { (o : Opener) (ps : List Piece) → Quietly limit result (InOsc o ps) rest.now }
-        ensures count { Advances V.is_ready result rest.now actor.new }
+        ensures took { FreshOsc (λ u.
+            Consumes K.Store V.VTActor limit result u rest.now self actor) }
+        ensures quiet { AnyOsc (λ u. Quietly limit result u rest.now) }
+        ensures count { Advances V.VTActor result rest.now actor }
     {
         match self.end_lent_by_pair(limit, &rest[..run], rest[run + 1], actor) {
             Ok(()) => Ok(run + 2),
@@ -287,9 +277,8 @@ impl<K: Store, A: Allocator> Machine<K, A> {
         actor: &mut V,
     ) -> Result<()>
         requires { V.is_ready actor.old }
-        ensures moved { Moved K.keeps K.denied limit (not (has_few_parts text.now))
-            V.takes V.refuses result (telling (osc_events limit text.now) (osc_left b class))
-            self.new actor.old actor.new }
+        ensures moved { Makes K.Store V.VTActor limit (not (has_few_parts text.now)) result
+            (telling (osc_events limit text.now) (osc_left b class)) self actor }
         ensures ready { OnOk result (V.is_ready actor.new) }
     {
         match tell_lent(limit, &self.alloc, text, actor) {
@@ -307,10 +296,8 @@ impl<K: Store, A: Allocator> Machine<K, A> {
         actor: &mut V,
     ) -> Result<()>
         requires { V.is_ready actor.old }
-        ensures moved { Moved K.keeps K.denied limit (not (has_few_parts text.now))
-            V.takes V.refuses result
-            (telling (osc_events limit text.now) (pair_move b (class_of b)))
-            self.new actor.old actor.new }
+        ensures moved { Makes K.Store V.VTActor limit (not (has_few_parts text.now)) result
+            (telling (osc_events limit text.now) (pair_move b (class_of b))) self actor }
         ensures ready { OnOk result (V.is_ready actor.new) }
     {
         match tell_lent(limit, &self.alloc, text, actor) {
@@ -322,9 +309,7 @@ impl<K: Store, A: Allocator> Machine<K, A> {
     // A bell, or a breaker.
     fn leave_lent<V: VTActor>(&mut self, b: u8, class: Class, actor: &mut V) -> Result<()>
         requires { V.is_ready actor.old }
-        ensures moved { (limit : Option ℕ) (own : Bool)
-            → Moved K.keeps K.denied limit own V.takes V.refuses result (osc_left b class)
-            self.new actor.old actor.new }
+        ensures moved { AlwaysMakes K.Store V.VTActor result (osc_left b class) self actor }
         ensures ready { OnOk result (V.is_ready actor.new) }
     {
         if let Class::Bell = class {
@@ -348,11 +333,10 @@ impl<K: Store, A: Allocator> Machine<K, A> {
         requires ready { V.is_ready actor.old }
         requires state { self.old.state ≡ State.Osc }
         requires whole { front_of self.old.pending ≡ [] }
-        ensures took { (o : Opener) (ps : List Piece) → K.keeps limit self.old.text (text_of ps)
-            → Took K.keeps K.denied limit V.takes V.refuses result (InOsc o ps)
-            rest.now self.new actor.old actor.new }
-        ensures quiet { (o : Opener) (ps : List Piece) → Quietly limit result (InOsc o ps) rest.now }
-        ensures count { Advances V.is_ready result rest.now actor.new }
+        ensures took { KeepingOsc K.Store limit self (λ u.
+            Consumes K.Store V.VTActor limit result u rest.now self actor) }
+        ensures quiet { AnyOsc (λ u. Quietly limit result u rest.now) }
+        ensures count { Advances V.VTActor result rest.now actor }
     {
         if self.text.is_new() {
             return self.take_body(limit, rest, actor);
@@ -376,12 +360,10 @@ impl<K: Store, A: Allocator> Machine<K, A> {
         requires ready { V.is_ready actor.old }
         requires state { self.old.state ≡ State.Osc }
         requires whole { front_of self.old.pending ≡ [] }
-        ensures took { (o : Opener) (ps : List Piece) → K.keeps limit self.old.text (text_of ps)
-            → is_lendable (InOsc o ps) rest.now ≡ false
-            → Took K.keeps K.denied limit V.takes V.refuses result (InOsc o ps)
-            rest.now self.new actor.old actor.new }
-        ensures quiet { (o : Opener) (ps : List Piece) → Quietly limit result (InOsc o ps) rest.now }
-        ensures count { Advances V.is_ready result rest.now actor.new }
+        ensures took { KeepingOsc K.Store limit self (Unlent rest.now (λ u.
+            Consumes K.Store V.VTActor limit result u rest.now self actor)) }
+        ensures quiet { AnyOsc (λ u. Quietly limit result u rest.now) }
+        ensures count { Advances V.VTActor result rest.now actor }
     {
         match self.text.push(limit, &rest[..run]) {
             Ok(()) => self.take_after_text(limit, rest, run, actor),
@@ -404,13 +386,10 @@ impl<K: Store, A: Allocator> Machine<K, A> {
         requires ready { V.is_ready actor.old }
         requires state { self.old.state ≡ State.Osc }
         requires whole { front_of self.old.pending ≡ [] }
-        ensures took { (o : Opener) (ps : List Piece)
-            → K.keeps limit self.old.text (text_of ps ++ take run rest.now)
-            → is_lendable (InOsc o ps) rest.now ≡ false
-            → Took K.keeps K.denied limit V.takes V.refuses result (InOsc o ps)
-            rest.now self.new actor.old actor.new }
-        ensures quiet { (o : Opener) (ps : List Piece) → Quietly limit result (InOsc o ps) rest.now }
-        ensures count { Advances V.is_ready result rest.now actor.new }
+        ensures took { KeepingOscAnd K.Store limit (take run rest.now) self (Unlent rest.now (λ u.
+            Consumes K.Store V.VTActor limit result u rest.now self actor)) }
+        ensures quiet { AnyOsc (λ u. Quietly limit result u rest.now) }
+        ensures count { Advances V.VTActor result rest.now actor }
     {
         if run == rest.len() {
             return Ok(run);
@@ -449,8 +428,11 @@ fn ends_osc(class: Class) -> bool
 #[inline(always)]
 fn is_pair_at(rest: &[u8], at: usize) -> bool
     requires { at < length rest.now }
-    ensures some { IsTrue result → (at + 1 < length rest.now) × (slice_index rest.now at ≡ 0xc2) × (is_from 0x80 0x9f (slice_index rest.now (at + 1)) ≡ true) }
-    ensures none { result ≡ false → at + 1 < length rest.now → slice_index rest.now at ≡ 0xc2 → is_from 0x80 0x9f (slice_index rest.now (at + 1)) ≡ false }
+    ensures some { IsTrue result
+        → (at + 1 < length rest.now) × (slice_index rest.now at ≡ 0xc2)
+        × (is_from 0x80 0x9f (slice_index rest.now (at + 1)) ≡ true) }
+    ensures none { result ≡ false → at + 1 < length rest.now → slice_index rest.now at ≡ 0xc2
+        → is_from 0x80 0x9f (slice_index rest.now (at + 1)) ≡ false }
 {
     rest[at] == 0xc2 && rest.len() - at > 1 && lies_from(0x80, 0x9f, rest[at + 1])
 }
@@ -464,8 +446,8 @@ fn tell_lent<A: Allocator, V: VTActor>(
     actor: &mut V,
 ) -> Result<()>
     requires { V.is_ready actor.old }
-    ensures told { Takes ((not (has_few_parts text.now) ≡ true) × Refused A)
-        V.takes V.refuses result actor.old (osc_events limit text.now) actor.new }
+    ensures told { Emits V.VTActor ((not (has_few_parts text.now) ≡ true) × Refused A) result
+        (osc_events limit text.now) actor }
     ensures ready { OnOk result (V.is_ready actor.new) }
 {
     if fits(limit, 0, text.len()) {
@@ -478,8 +460,8 @@ fn tell_lent<A: Allocator, V: VTActor>(
 // The text of an operating system command, told where it is within the limit.
 fn tell_osc<K: Store, A: Allocator, V: VTActor>(text: &K, alloc: &A, actor: &mut V) -> Result<()>
     requires { V.is_ready actor.old }
-    ensures told { (limit : Option ℕ) (t : List ℕ) → K.keeps limit text.now t
-        → Takes (Refused A) V.takes V.refuses result actor.old (osc_events limit t) actor.new }
+    ensures told { KeepingText K.Store text.now (λ limit t.
+        Emits V.VTActor (Refused A) result (osc_events limit t) actor) }
     ensures ready { OnOk result (V.is_ready actor.new) }
 {
     if text.is_over() {

@@ -1,16 +1,12 @@
 //! The parser.
 #![tactic(auto)]
 
-ghost use Rattle.std.specs.Prelude.{◌≡◌, ◌≢◌, ◌<◌, ◌≤◌, ◌++◌, ◌∷◌, [], ℕ, List, length, take, IsTrue, ◌↔◌, OnOk, OnErr, IfOk, IfErr, IfSome, IsSome, Option, None, Some, min, false, slice_index};
-ghost use Rattle.esc_frame.specs.Counts.{kept_of_cut};
+ghost use Rattle.std.specs.Prelude.{◌≡◌, ◌≢◌, ◌<◌, ◌≤◌, ◌∷◌, [], length, take, IsTrue, ◌↔◌, IfSome, IsSome, None, Some, false};
 ghost use Rattle.esc_frame.specs.Limits.{most};
-ghost use Rattle.esc_frame.specs.Segments.{Segment, IsCut};
-ghost use Rattle.std.specs.List.{FoldsTo};
-ghost use Rattle.esc_frame.specs.Events.{StopsAt};
 ghost use Rattle.esc_frame.specs.Events.Event.{Execute, Print};
-ghost use Rattle.esc_frame.specs.Memory.{MayGrow, AreLent};
-ghost use Rattle.memory.specs.Refusals.{Refused};
-ghost use Rattle.esc_frame.specs.Stream.{added_within, LeadsTo, LeadsToWithin, HasFailed, IsAtGround, IsQuietWithin};
+ghost use Rattle.esc_frame.specs.Parses.{After, AfterGround, FirstByte, AddsOne, Parses, ParsesSome, IsRefused, IsRefusedByActor, TakesSome, Leaves, IsKeptOf};
+ghost use Rattle.esc_frame.specs.Memory.{AreLent};
+ghost use Rattle.esc_frame.specs.Stream.{LeadsTo, LeadsToWithin, HasFailed, IsAtGround, IsQuietWithin};
 
 use crate::actor::VTActor;
 use crate::classes::classify;
@@ -20,14 +16,15 @@ use crate::machine::Machine;
 use crate::printing::{first_char, first_control};
 use std::alloc::{Allocator, Global};
 
-/// Splits a stream of bytes, which comes in any pieces, into the events of its segments, and gives them to an actor: the
-/// machine of <https://vt100.net/emu/dec_ansi_parser>, with UTF-8 in text and in operating system commands, and with
-/// application program commands handed out.
+/// Splits a stream of bytes, which comes in any pieces, into the events of its segments, and gives
+/// them to an actor: the machine of <https://vt100.net/emu/dec_ansi_parser>, with UTF-8 in text and
+/// in operating system commands, and with application program commands handed out.
 ///
-/// Neither the stream nor its events are kept, but what is unfinished: of an escape sequence two intermediates, of a
-/// control sequence 256 entries, of an operating system command or an application program command its text, of a device
-/// control string its header. [`with_limit`](VTParser::with_limit) bounds what is kept of such a string. Intermediates and entries lie
-/// in the parser, in some 4 KB: only a string takes memory.
+/// Neither the stream nor its events are kept, but what is unfinished: of an escape sequence two
+/// intermediates, of a control sequence 256 entries, of an operating system command or an
+/// application program command its text, of a device control string its header.
+/// [`with_limit`](VTParser::with_limit) bounds what is kept of such a string. Intermediates and
+/// entries lie in the parser, in some 4 KB: only a string takes memory.
 #[derive(Drop)]
 pub struct VTParser<A: Allocator = Global> {
     machine: Machine<Kept<A>, A>,
@@ -36,7 +33,8 @@ pub struct VTParser<A: Allocator = Global> {
 }
 
 impl<A: Allocator> VTParser<A> {
-    /// A parser at the beginning of a stream. It takes no memory before a string begins that it keeps.
+    /// A parser at the beginning of a stream. It takes no memory before a string begins that it
+    /// keeps.
     #[tactic(auto, unfolding(crate::specs::Stream::LeadsToWithin))]
     pub fn new(alloc: A) -> Self
     where
@@ -50,10 +48,11 @@ impl<A: Allocator> VTParser<A> {
         }
     }
 
-    /// A parser at the beginning of a stream that keeps at most `limit` bytes of a string: of the text of an operating system
-    /// command in UTF-8, of the bytes 20 to 7F of an application program command, or of the bytes 30 to 39 and 3B of a device
-    /// control string's header. Once a string passes the limit, what was kept of it is let go, and it is not dispatched or
-    /// hooked; what follows it is parsed as by a parser without a limit.
+    /// A parser at the beginning of a stream that keeps at most `limit` bytes of a string: of the
+    /// text of an operating system command in UTF-8, of the bytes 20 to 7F of an application
+    /// program command, or of the bytes 30 to 39 and 3B of a device control string's header. Once a
+    /// string passes the limit, what was kept of it is let go, and it is not dispatched or hooked;
+    /// what follows it is parsed as by a parser without a limit.
     #[tactic(auto, unfolding(crate::specs::Stream::LeadsToWithin))]
     pub fn with_limit(alloc: A, limit: usize) -> Self
     where
@@ -67,13 +66,14 @@ impl<A: Allocator> VTParser<A> {
         }
     }
 
-    /// How many bytes of the unfinished string are kept, counted as for [`with_limit`](VTParser::with_limit). It is 0 where
-    /// the string passed the limit, where none of the three is unfinished, and after a failure. Without a limit a count past
-    /// [`usize::MAX`] is returned as `usize::MAX`.
+    /// How many bytes of the unfinished string are kept, counted as for
+    /// [`with_limit`](VTParser::with_limit). It is 0 where the string passed the limit, where none
+    /// of the three is unfinished, and after a failure. Without a limit a count past [`usize::MAX`]
+    /// is returned as `usize::MAX`.
     #[tactic(auto, unfolding(crate::specs::Stream::LeadsToWithin, crate::specs::Stream::HasFailed))]
     pub fn kept(&self) -> usize
-        ensures given { (limit : Option ℕ) (s : List ℕ) → LeadsToWithin limit s self.now → (gs : List Segment) → IsCut s gs → result ≡ min (kept_of_cut limit gs) most }
-        ensures within { (limit : Option ℕ) (s : List ℕ) → LeadsToWithin limit s self.now → IfSome limit (λ n. result ≤ n) }
+        ensures given { After self.now (IsKeptOf result) }
+        ensures within { After self.now (λ limit s. IfSome limit (λ n. result ≤ n)) }
         ensures failed { HasFailed self.now → result ≡ 0 }
     {
         if self.has_failed {
@@ -86,7 +86,7 @@ impl<A: Allocator> VTParser<A> {
     /// Whether the bytes so far leave no unfinished segment. After a failure it is false.
     #[tactic(auto, unfolding(crate::specs::Stream::LeadsToWithin, crate::specs::Stream::HasFailed))]
     pub fn is_ground(&self) -> bool
-        ensures ground { (limit : Option ℕ) (s : List ℕ) → LeadsToWithin limit s self.now → IsTrue result ↔ IsAtGround s }
+        ensures ground { After self.now (λ limit s. IsTrue result ↔ IsAtGround s) }
         ensures failed { HasFailed self.now → result ≡ false }
     {
         !self.has_failed && self.machine.is_ground()
@@ -102,18 +102,21 @@ impl<A: Allocator> VTParser<A> {
         self.has_failed
     }
 
-    /// The character that comes first in `bytes`, and its length in bytes, where that is seen without a change of the parser.
-    /// These bytes then count as fed: they add this character and nothing else, and the parser is as before. So a caller that
-    /// takes characters one at a time needs no actor for them.
+    /// The character that comes first in `bytes`, and its length in bytes, where that is seen
+    /// without a change of the parser. These bytes then count as fed: they add this character and
+    /// nothing else, and the parser is as before. So a caller that takes characters one at a time
+    /// needs no actor for them.
     ///
-    /// After `None` nothing counts as fed, and a call of another kind goes on. It is always `None` after a failure, and never
-    /// where no segment is unfinished and the first byte is 20 to 7F.
+    /// After `None` nothing counts as fed, and a call of another kind goes on. It is always `None`
+    /// after a failure, and never where no segment is unfinished and the first byte is 20 to 7F.
     #[inline]
     pub fn first_char(&self, bytes: &[u8]) -> Option<(char, usize)>
         ensures count { IfSome result (λ x. (0 < x.1) × (x.1 ≤ length bytes.now)) }
-        ensures given { (limit : Option ℕ) (s : List ℕ) → LeadsToWithin limit s self.now → IfSome result (λ x. LeadsToWithin limit (s ++ take x.1 bytes.now) self.now × (added_within limit s (take x.1 bytes.now) ≡ Print x.0 ∷ [])) }
-        ensures quiet { (limit : Option ℕ) (s : List ℕ) → LeadsToWithin limit s self.now → IfSome result (λ x. IsQuietWithin limit s bytes.now x.1) }
-        ensures text { (limit : Option ℕ) (s : List ℕ) → LeadsToWithin limit s self.now → IsAtGround s → 0 < length bytes.now → 0x20 ≤ slice_index bytes.now 0 → slice_index bytes.now 0 < 0x80 → IsSome result }
+        ensures given { After self.now (λ limit s. IfSome result (λ x.
+            AddsOne limit s (take x.1 bytes.now) (Print x.0) self.now
+            × IsQuietWithin limit s bytes.now x.1)) }
+        ensures text { AfterGround self.now (λ limit s.
+            FirstByte bytes.now (λ b. 0x20 ≤ b → b < 0x80 → IsSome result)) }
         ensures failed { HasFailed self.now → result ≡ None }
     {
         if self.is_ground() {
@@ -123,15 +126,19 @@ impl<A: Allocator> VTParser<A> {
         }
     }
 
-    /// The control, 00 to 1F but not ESC, that comes first in `bytes`, where that is seen without a change of the parser. As
-    /// with [`first_char`](VTParser::first_char), this byte then counts as fed, and adds this control and nothing else.
+    /// The control, 00 to 1F but not ESC, that comes first in `bytes`, where that is seen without a
+    /// change of the parser. As with [`first_char`](VTParser::first_char), this byte then counts as
+    /// fed, and adds this control and nothing else.
     ///
-    /// It is always `None` after a failure, and never where no segment is unfinished and the first byte is such a control.
+    /// It is always `None` after a failure, and never where no segment is unfinished and the first
+    /// byte is such a control.
     #[inline]
     pub fn first_control(&self, bytes: &[u8]) -> Option<u8>
         ensures count { IfSome result (λ b. 0 < length bytes.now) }
-        ensures given { (limit : Option ℕ) (s : List ℕ) → LeadsToWithin limit s self.now → IfSome result (λ b. LeadsToWithin limit (s ++ take 1 bytes.now) self.now × (added_within limit s (take 1 bytes.now) ≡ Execute b ∷ [])) }
-        ensures control { (limit : Option ℕ) (s : List ℕ) → LeadsToWithin limit s self.now → IsAtGround s → 0 < length bytes.now → slice_index bytes.now 0 < 0x20 → slice_index bytes.now 0 ≢ 0x1b → IsSome result }
+        ensures given { After self.now (λ limit s. IfSome result (λ b.
+            AddsOne limit s (take 1 bytes.now) (Execute b) self.now)) }
+        ensures control { AfterGround self.now (λ limit s.
+            FirstByte bytes.now (λ b. b < 0x20 → b ≢ 0x1b → IsSome result)) }
         ensures failed { HasFailed self.now → result ≡ None }
     {
         if !self.is_ground() {
@@ -140,21 +147,18 @@ impl<A: Allocator> VTParser<A> {
         first_control(bytes)
     }
 
-    /// Takes the next byte of the stream, and gives the actor, in order, what it adds to the events of the bytes before.
+    /// Takes the next byte of the stream, and gives the actor, in order, what it adds to the events
+    /// of the bytes before.
     ///
-    /// The error is `Memory` where the actor refused a call, or where memory for a string was refused: no control sequence takes
-    /// any. A prefix of these events was given then, and every later call returns `Failed` and gives nothing.
+    /// The error is `Memory` where the actor refused a call, or where memory for a string was
+    /// refused: no control sequence takes any. A prefix of these events was given then, and every
+    /// later call returns `Failed` and gives nothing.
     #[tactic(auto, unfolding(crate::specs::Stream::LeadsToWithin, crate::specs::Stream::HasFailed))]
     pub fn parse_byte<V: VTActor>(&mut self, byte: u8, actor: &mut V) -> Result<(), ParseError>
         requires { V.is_ready actor.old }
-        ensures given { (limit : Option ℕ) (s : List ℕ) → LeadsToWithin limit s self.old → OnOk result (LeadsToWithin limit (s ++ byte ∷ []) self.new × FoldsTo V.takes actor.old (added_within limit s (byte ∷ [])) actor.new) }
-        ensures refused { (limit : Option ℕ) (s : List ℕ) → LeadsToWithin limit s self.old
-            → IfErr result (λ e. (e ≡ ParseError.Memory)
-            × StopsAt (MayGrow (s ++ byte ∷ []) × Refused A) V.takes V.refuses actor.old
-            (added_within limit s (byte ∷ [])) actor.new) }
-        ensures ends { OnErr result (HasFailed self.new) }
-        ensures failed { HasFailed self.old → (result ≡ Err ParseError.Failed) × (actor.new ≡ actor.old) }
-        ensures ready { OnOk result (V.is_ready actor.new) }
+        ensures given { After self.old (Parses V.VTActor result (byte ∷ []) self actor) }
+        ensures refused { After self.old (IsRefused A V.VTActor result (byte ∷ []) actor) }
+        ensures after { Leaves V.VTActor result self actor }
     {
         if self.has_failed {
             return Err(ParseError::Failed);
@@ -168,29 +172,28 @@ impl<A: Allocator> VTParser<A> {
         }
     }
 
-    /// Takes the next bytes of the stream, as many as there are, and gives the actor, in order, what they add to the
-    /// events of the bytes before. However a stream is cut into calls, its events are the same.
+    /// Takes the next bytes of the stream, as many as there are, and gives the actor, in order,
+    /// what they add to the events of the bytes before. However a stream is cut into calls, its
+    /// events are the same.
     ///
-    /// The error is `Memory` where the actor refused a call, or where memory for a string was refused: no control sequence takes
-    /// any. A prefix of these events was given then, and every later call returns `Failed` and gives nothing.
+    /// The error is `Memory` where the actor refused a call, or where memory for a string was
+    /// refused: no control sequence takes any. A prefix of these events was given then, and every
+    /// later call returns `Failed` and gives nothing.
     ///
-    /// Two strings that stand whole in `bytes` are given to the actor as slices of `bytes` and take no memory: an operating
-    /// system command of at most 16 parts with a text of bytes 20 to 7F and well-formed UTF-8 alone, and an application program
-    /// command with a text of bytes 20 to 7F alone. So where no segment is unfinished before and after these bytes, and they
-    /// hold such commands, text, controls, escape sequences and control sequences alone, the error comes only of a call that
-    /// the actor refused.
+    /// Two strings that stand whole in `bytes` are given to the actor as slices of `bytes` and take
+    /// no memory: an operating system command of at most 16 parts with a text of bytes 20 to 7F and
+    /// well-formed UTF-8 alone, and an application program command with a text of bytes 20 to 7F
+    /// alone. So where no segment is unfinished before and after these bytes, and they hold such
+    /// commands, text, controls, escape sequences and control sequences alone, the error comes only
+    /// of a call that the actor refused.
     #[tactic(auto, unfolding(crate::specs::Stream::LeadsToWithin, crate::specs::Stream::HasFailed))]
     pub fn parse<V: VTActor>(&mut self, bytes: &[u8], actor: &mut V) -> Result<(), ParseError>
         requires { V.is_ready actor.old }
-        ensures given { (limit : Option ℕ) (s : List ℕ) → LeadsToWithin limit s self.old → OnOk result (LeadsToWithin limit (s ++ bytes.now) self.new × FoldsTo V.takes actor.old (added_within limit s bytes.now) actor.new) }
-        ensures refused { (limit : Option ℕ) (s : List ℕ) → LeadsToWithin limit s self.old
-            → IfErr result (λ e. (e ≡ ParseError.Memory)
-            × StopsAt (MayGrow (s ++ bytes.now) × Refused A) V.takes V.refuses actor.old
-            (added_within limit s bytes.now) actor.new) }
-        ensures lent { (limit : Option ℕ) (s : List ℕ) → LeadsToWithin limit s self.old → IsAtGround s → AreLent bytes.now → IfErr result (λ e. (e ≡ ParseError.Memory) × StopsAt ⊥ V.takes V.refuses actor.old (added_within limit s bytes.now) actor.new) }
-        ensures ends { OnErr result (HasFailed self.new) }
-        ensures failed { HasFailed self.old → (result ≡ Err ParseError.Failed) × (actor.new ≡ actor.old) }
-        ensures ready { OnOk result (V.is_ready actor.new) }
+        ensures given { After self.old (Parses V.VTActor result bytes.now self actor) }
+        ensures refused { After self.old (IsRefused A V.VTActor result bytes.now actor) }
+        ensures lent { AfterGround self.old (λ limit s. AreLent bytes.now
+            → IsRefusedByActor V.VTActor result bytes.now actor limit s) }
+        ensures after { Leaves V.VTActor result self actor }
     {
         if self.has_failed {
             return Err(ParseError::Failed);
@@ -204,12 +207,14 @@ impl<A: Allocator> VTParser<A> {
         }
     }
 
-    /// Takes a prefix of the bytes, at least one byte where there is one, and returns its length. All but the
-    /// last of them add no event and leave a segment unfinished. So a caller can stop at the first event, or at the first
-    /// place where no segment is unfinished, and give the bytes after it to a later call.
+    /// Takes a prefix of the bytes, at least one byte where there is one, and returns its length.
+    /// All but the last of them add no event and leave a segment unfinished. So a caller can stop
+    /// at the first event, or at the first place where no segment is unfinished, and give the bytes
+    /// after it to a later call.
     ///
-    /// The error is `Memory` where the actor refused a call, or where memory for a string was refused: a prefix of the events that
-    /// the bytes add was given then, and every later call returns `Failed` and gives nothing.
+    /// The error is `Memory` where the actor refused a call, or where memory for a string was
+    /// refused: a prefix of the events that the bytes add was given then, and every later call
+    /// returns `Failed` and gives nothing.
     #[tactic(auto, unfolding(crate::specs::Stream::LeadsToWithin, crate::specs::Stream::HasFailed))]
     pub fn parse_some<V: VTActor>(
         &mut self,
@@ -217,17 +222,10 @@ impl<A: Allocator> VTParser<A> {
         actor: &mut V,
     ) -> Result<usize, ParseError>
         requires { V.is_ready actor.old }
-        ensures count { IfOk result (λ n. (n ≤ length bytes.now) × (0 < length bytes.now → 0 < n)) }
-        ensures empty { length bytes.now ≡ 0 → actor.new ≡ actor.old }
-        ensures given { (limit : Option ℕ) (s : List ℕ) → LeadsToWithin limit s self.old → IfOk result (λ n. LeadsToWithin limit (s ++ take n bytes.now) self.new × FoldsTo V.takes actor.old (added_within limit s (take n bytes.now)) actor.new) }
-        ensures quiet { (limit : Option ℕ) (s : List ℕ) → LeadsToWithin limit s self.old → IfOk result (λ n. IsQuietWithin limit s bytes.now n) }
-        ensures refused { (limit : Option ℕ) (s : List ℕ) → LeadsToWithin limit s self.old
-            → IfErr result (λ e. (e ≡ ParseError.Memory)
-            × StopsAt (MayGrow (s ++ bytes.now) × Refused A) V.takes V.refuses actor.old
-            (added_within limit s bytes.now) actor.new) }
-        ensures ends { OnErr result (HasFailed self.new) }
-        ensures failed { HasFailed self.old → (result ≡ Err ParseError.Failed) × (actor.new ≡ actor.old) }
-        ensures ready { OnOk result (V.is_ready actor.new) }
+        ensures count { TakesSome result bytes.now actor }
+        ensures given { After self.old (ParsesSome V.VTActor result bytes.now self actor) }
+        ensures refused { After self.old (IsRefused A V.VTActor result bytes.now actor) }
+        ensures after { Leaves V.VTActor result self actor }
     {
         if self.has_failed {
             return Err(ParseError::Failed);

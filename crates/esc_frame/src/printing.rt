@@ -3,9 +3,10 @@
 
 ghost use Rattle.std.specs.Prelude.{◌≢◌, ◌<◌, ◌≤◌, ℕ, Option, length, take, slice_index, IfSome, IsSome};
 ghost use Rattle.esc_frame.specs.Events.Event.{Execute, Print};
-ghost use Rattle.esc_frame.specs.Machine.Calls.{Stays, Quietly, TellsOne};
+ghost use Rattle.esc_frame.specs.Machine.Calls.{Quietly, TellsOne};
 ghost use Rattle.esc_frame.specs.Machine.Characters.{IsAhead};
 ghost use Rattle.esc_frame.specs.Leads.Unfinished.{Ground};
+ghost use Rattle.esc_frame.specs.Machine.Makes.{StaysInGround};
 ghost use Rattle.esc_frame.specs.Machine.Moves.{IsStill};
 
 use crate::actor::VTActor;
@@ -13,14 +14,15 @@ use crate::machine::Result;
 use crate::scans::{ascii_run, free_run};
 use crate::sequence::{ahead, of_four, of_three, of_two};
 
-/// The character that comes first and is whole, and its length; `None` where there is none, or where that is not seen at
-/// once: fewer than three bytes follow a first byte from 80 on.
+/// The character that comes first and is whole, and its length; `None` where there is none, or
+/// where that is not seen at once: fewer than three bytes follow a first byte from 80 on.
 #[inline(always)]
 pub fn first_char(rest: &[u8]) -> Option<(char, usize)>
     ensures count { IfSome result (λ x. (0 < x.1) × (x.1 ≤ length rest.now)) }
     ensures prints { IfSome result (λ x. TellsOne (take x.1 rest.now) (Print x.0)) }
     ensures quiet { (limit : Option ℕ) → IfSome result (λ x. IsStill limit Ground rest.now x.1) }
-    ensures text { 0 < length rest.now → 0x20 ≤ slice_index rest.now 0 → slice_index rest.now 0 < 0x80 → IsSome result }
+    ensures text { 0 < length rest.now → 0x20 ≤ slice_index rest.now 0
+        → slice_index rest.now 0 < 0x80 → IsSome result }
 {
     if rest.is_empty() {
         return None;
@@ -39,7 +41,8 @@ pub fn first_char(rest: &[u8]) -> Option<(char, usize)>
 pub fn first_control(rest: &[u8]) -> Option<u8>
     ensures count { IfSome result (λ b. 0 < length rest.now) }
     ensures executes { IfSome result (λ b. TellsOne (take 1 rest.now) (Execute b)) }
-    ensures control { 0 < length rest.now → slice_index rest.now 0 < 0x20 → slice_index rest.now 0 ≢ 0x1b → IsSome result }
+    ensures control { 0 < length rest.now → slice_index rest.now 0 < 0x20
+        → slice_index rest.now 0 ≢ 0x1b → IsSome result }
 {
     if rest.is_empty() {
         return None;
@@ -58,7 +61,7 @@ pub fn execute_one<V: VTActor>(rest: &[u8], actor: &mut V) -> Result<usize>
     requires low { slice_index rest.now 0 < 0x20 }
     requires other { slice_index rest.now 0 ≢ 0x1b }
     requires ready { V.is_ready actor.old }
-    ensures { Stays V.takes V.refuses V.is_ready result rest.now actor.old actor.new }
+    ensures { StaysInGround V.VTActor result rest.now actor }
 {
     match actor.execute_c0_or_c1(rest[0]) {
         Ok(()) => Ok(1),
@@ -80,7 +83,7 @@ fn first_wide(rest: &[u8]) -> Option<(char, usize)>
 #[inline(always)]
 pub fn print_first<V: VTActor>(rest: &[u8], actor: &mut V) -> Result<usize>
     requires { V.is_ready actor.old }
-    ensures stays { Stays V.takes V.refuses V.is_ready result rest.now actor.old actor.new }
+    ensures stays { StaysInGround V.VTActor result rest.now actor }
     ensures quiet { (limit : Option ℕ) → Quietly limit result Ground rest.now }
 {
     match first_char(rest) {
@@ -97,7 +100,7 @@ pub fn print_first<V: VTActor>(rest: &[u8], actor: &mut V) -> Result<usize>
 pub fn print_one<V: VTActor>(rest: &[u8], actor: &mut V) -> Result<usize>
     requires some { 0 < length rest.now }
     requires ready { V.is_ready actor.old }
-    ensures { Stays V.takes V.refuses V.is_ready result rest.now actor.old actor.new }
+    ensures { StaysInGround V.VTActor result rest.now actor }
 {
     if rest[0] < 0x20 {
         Ok(0)
@@ -108,12 +111,13 @@ pub fn print_one<V: VTActor>(rest: &[u8], actor: &mut V) -> Result<usize>
     }
 }
 
-// A long run of text as it is; or the sequences that come first, where it is short or not well-formed. A stream that is not
-// UTF-8 mostly shows that at once. It is out of the way of the code for plain text.
+// A long run of text as it is; or the sequences that come first, where it is short or not
+// well-formed. A stream that is not UTF-8 mostly shows that at once. It is out of the way of the
+// code for plain text.
 #[inline(never)]
 fn print_long<V: VTActor>(rest: &[u8], actor: &mut V) -> Result<usize>
     requires { V.is_ready actor.old }
-    ensures { Stays V.takes V.refuses V.is_ready result rest.now actor.old actor.new }
+    ensures { StaysInGround V.VTActor result rest.now actor }
 {
     if ahead(rest).0 == 0 {
         return Ok(0);
@@ -135,7 +139,7 @@ fn print_long<V: VTActor>(rest: &[u8], actor: &mut V) -> Result<usize>
 #[inline(always)]
 fn print_wides<V: VTActor>(rest: &[u8], actor: &mut V) -> Result<usize>
     requires { V.is_ready actor.old }
-    ensures { Stays V.takes V.refuses V.is_ready result rest.now actor.old actor.new }
+    ensures { StaysInGround V.VTActor result rest.now actor }
 {
     let mut at = 0;
     while rest.len() - at >= 8 {
@@ -153,7 +157,7 @@ fn print_wides<V: VTActor>(rest: &[u8], actor: &mut V) -> Result<usize>
 fn print_wide<V: VTActor>(rest: &[u8], actor: &mut V) -> Result<usize>
     requires some { 8 ≤ length rest.now }
     requires ready { V.is_ready actor.old }
-    ensures { Stays V.takes V.refuses V.is_ready result rest.now actor.old actor.new }
+    ensures { StaysInGround V.VTActor result rest.now actor }
 {
     if rest[0] < 0x80 {
         if (rest[1] | rest[3] | rest[5] | rest[7]) < 0x80 {
@@ -175,7 +179,7 @@ fn print_wide<V: VTActor>(rest: &[u8], actor: &mut V) -> Result<usize>
 #[inline(always)]
 fn print_lones<V: VTActor>(rest: &[u8], actor: &mut V) -> Result<usize>
     requires { V.is_ready actor.old }
-    ensures { Stays V.takes V.refuses V.is_ready result rest.now actor.old actor.new }
+    ensures { StaysInGround V.VTActor result rest.now actor }
 {
     let mut at = 0;
     while rest.len() - at >= 1 {
@@ -192,7 +196,7 @@ fn print_lones<V: VTActor>(rest: &[u8], actor: &mut V) -> Result<usize>
 #[inline(always)]
 fn print_twos<V: VTActor>(rest: &[u8], actor: &mut V) -> Result<usize>
     requires { V.is_ready actor.old }
-    ensures { Stays V.takes V.refuses V.is_ready result rest.now actor.old actor.new }
+    ensures { StaysInGround V.VTActor result rest.now actor }
 {
     let mut at = 0;
     while rest.len() - at >= 4 {
@@ -209,7 +213,7 @@ fn print_twos<V: VTActor>(rest: &[u8], actor: &mut V) -> Result<usize>
 #[inline(always)]
 fn print_threes<V: VTActor>(rest: &[u8], actor: &mut V) -> Result<usize>
     requires { V.is_ready actor.old }
-    ensures { Stays V.takes V.refuses V.is_ready result rest.now actor.old actor.new }
+    ensures { StaysInGround V.VTActor result rest.now actor }
 {
     let mut at = 0;
     while rest.len() - at >= 3 {
@@ -227,7 +231,7 @@ fn print_threes<V: VTActor>(rest: &[u8], actor: &mut V) -> Result<usize>
 fn print_two<V: VTActor>(rest: &[u8], actor: &mut V) -> Result<usize>
     requires some { 4 ≤ length rest.now }
     requires ready { V.is_ready actor.old }
-    ensures { Stays V.takes V.refuses V.is_ready result rest.now actor.old actor.new }
+    ensures { StaysInGround V.VTActor result rest.now actor }
 {
     if rest[0] < 0x80 {
         return print_near(rest, actor);
@@ -241,7 +245,7 @@ fn print_two<V: VTActor>(rest: &[u8], actor: &mut V) -> Result<usize>
 fn print_near<V: VTActor>(rest: &[u8], actor: &mut V) -> Result<usize>
     requires some { 4 ≤ length rest.now }
     requires ready { V.is_ready actor.old }
-    ensures { Stays V.takes V.refuses V.is_ready result rest.now actor.old actor.new }
+    ensures { StaysInGround V.VTActor result rest.now actor }
 {
     if rest[3] < 0x80 {
         Ok(0)
@@ -255,7 +259,7 @@ fn print_near<V: VTActor>(rest: &[u8], actor: &mut V) -> Result<usize>
 fn print_three<V: VTActor>(rest: &[u8], actor: &mut V) -> Result<usize>
     requires some { 3 ≤ length rest.now }
     requires ready { V.is_ready actor.old }
-    ensures { Stays V.takes V.refuses V.is_ready result rest.now actor.old actor.new }
+    ensures { StaysInGround V.VTActor result rest.now actor }
 {
     let (n, c) = of_three(rest[0], rest[1], rest[2]);
     print_ahead(rest, n, c, actor)
@@ -265,7 +269,7 @@ fn print_three<V: VTActor>(rest: &[u8], actor: &mut V) -> Result<usize>
 fn print_ahead<V: VTActor>(rest: &[u8], n: usize, c: char, actor: &mut V) -> Result<usize>
     requires ahead { IsAhead rest.now n c }
     requires ready { V.is_ready actor.old }
-    ensures { Stays V.takes V.refuses V.is_ready result rest.now actor.old actor.new }
+    ensures { StaysInGround V.VTActor result rest.now actor }
 {
     if n == 0 {
         return Ok(0);
@@ -281,7 +285,7 @@ fn print_ahead<V: VTActor>(rest: &[u8], n: usize, c: char, actor: &mut V) -> Res
 fn print_lone<V: VTActor>(rest: &[u8], actor: &mut V) -> Result<usize>
     requires some { 1 ≤ length rest.now }
     requires ready { V.is_ready actor.old }
-    ensures { Stays V.takes V.refuses V.is_ready result rest.now actor.old actor.new }
+    ensures { StaysInGround V.VTActor result rest.now actor }
 {
     if rest[0] < 0x20 || rest[0] > 0x7f {
         return Ok(0);
@@ -298,7 +302,7 @@ fn print_text<V: VTActor>(rest: &[u8], actor: &mut V) -> Result<usize>
     requires low { 0x20 ≤ slice_index rest.now 0 }
     requires high { slice_index rest.now 0 < 0x80 }
     requires ready { V.is_ready actor.old }
-    ensures { Stays V.takes V.refuses V.is_ready result rest.now actor.old actor.new }
+    ensures { StaysInGround V.VTActor result rest.now actor }
 {
     let run = ascii_run(rest);
     match actor.print_text(&rest[..run]) {

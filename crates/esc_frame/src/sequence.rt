@@ -51,7 +51,8 @@ fn is_second_byte(a: u8, b: u8) -> bool
 }
 
 fn chosen(whole: bool, more: bool) -> Outcome
-    ensures { result ≡ (if whole then Outcome.Whole else if more then Outcome.More else Outcome.Broken) }
+    ensures { result ≡
+        (if whole then Outcome.Whole else if more then Outcome.More else Outcome.Broken) }
 {
     if whole {
         Outcome::Whole
@@ -91,7 +92,8 @@ impl Pending {
     /// The prefix with the byte.
     #[tactic(auto, unfolding(crate::specs::Sequences::is_front))]
     pub fn with(self, b: u8) -> Pending
-        ensures { is_front (front_of self ++ b ∷ []) ≡ true → front_of result ≡ front_of self ++ b ∷ [] }
+        ensures { is_front (front_of self ++ b ∷ []) ≡ true
+            → front_of result ≡ front_of self ++ b ∷ [] }
     {
         match self {
             Pending::Nothing => Pending::One(b),
@@ -128,7 +130,8 @@ impl Pending {
 
     /// Appends prefix and byte to the text.
     pub fn put<K: Store>(self, limit: Option<usize>, text: &mut K, b: u8) -> Result<(), AllocError>
-        ensures ok { (t : List ℕ) → K.keeps limit text.old t → OnOk result (K.keeps limit text.new (t ++ (front_of self ++ b ∷ []))) }
+        ensures ok { (t : List ℕ) → K.keeps limit text.old t
+            → OnOk result (K.keeps limit text.new (t ++ (front_of self ++ b ∷ []))) }
         ensures refused { OnErr result K.denied }
     {
         match self {
@@ -189,7 +192,8 @@ fn four(a: u8, b: u8, c: u8, d: u8) -> char
     }
 }
 
-/// The character of the whole sequence, no control, that comes first, and its length; length 0 where none does.
+/// The character of the whole sequence, no control, that comes first, and its length; length 0
+/// where none does.
 #[inline(always)]
 pub fn ahead(rest: &[u8]) -> (usize, char)
     ensures ahead { IsAhead rest.now result.0 result.1 }

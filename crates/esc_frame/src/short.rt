@@ -18,7 +18,8 @@ pub struct Short {
     ghost fits: { count ≤ 32 },
 }
 
-// The number that the digits write that come first, at least one, and how many they are. Most numbers have at most three.
+// The number that the digits write that come first, at least one, and how many they are. Most
+// numbers have at most three.
 #[inline(always)]
 fn read_number(rest: &[u8]) -> (u64, usize)
     requires some { 0 < length rest.now }
@@ -88,7 +89,8 @@ impl Short {
     fn push(&mut self, entry: CsiParam)
         requires { self.old.count < 32 }
         ensures count { self.new.count ≡ self.old.count + 1 }
-        ensures shown { take self.new.count self.new.items ≡ take self.old.count self.old.items ++ entry ∷ [] }
+        ensures shown { take self.new.count self.new.items ≡ take self.old.count self.old.items
+            ++ entry ∷ [] }
     {
         self.items[self.count] = entry;
         self.count += 1;
@@ -99,7 +101,8 @@ impl Short {
         requires room { self.old.count < 32 }
         requires small { number ≤ 0x7fff_ffff_ffff_ffff }
         ensures count { self.new.count ≡ self.old.count + 1 }
-        ensures shown { take self.new.count self.new.items ≡ take self.old.count self.old.items ++ CsiParam.Integer (pos number) ∷ [] }
+        ensures shown { take self.new.count self.new.items ≡ take self.old.count self.old.items
+            ++ CsiParam.Integer (pos number) ∷ [] }
     {
         self.push(CsiParam::Integer(number as i64))
     }
@@ -113,7 +116,8 @@ impl Short {
         requires high { slice_index rest.now 0 ≤ 0x39 }
         ensures count { (0 < result) × (result ≤ length rest.now) }
         ensures entries { self.new.count ≡ self.old.count + 1 }
-        ensures keeps { (x : List ℕ) → IsFront (take self.old.count self.old.items) x → IsBehind (take self.new.count self.new.items) (x ++ take result rest.now) }
+        ensures keeps { (x : List ℕ) → IsFront (take self.old.count self.old.items) x
+            → IsBehind (take self.new.count self.new.items) (x ++ take result rest.now) }
     {
         let (number, end) = read_number(rest);
         self.push_integer(number);
@@ -125,7 +129,9 @@ impl Short {
     fn push_mark(&mut self, b: u8) -> bool
         requires room { self.old.count < 32 }
         ensures entries { self.new.count ≤ self.old.count + 1 }
-        ensures mark { result ≡ true → (x : List ℕ) → IsBehind (take self.old.count self.old.items) x → IsFront (take self.new.count self.new.items) (x ++ b ∷ []) }
+        ensures mark { result ≡ true → (x : List ℕ)
+            → IsBehind (take self.old.count self.old.items) x
+            → IsFront (take self.new.count self.new.items) (x ++ b ∷ []) }
         ensures other { result ≡ false → self.new ≡ self.old }
     {
         if lies_from(0x3a, 0x3b, b) {
@@ -161,8 +167,13 @@ impl Short {
         requires some { 0 < length rest.now }
         ensures few { result.0 ≤ length rest.now }
         ensures entries { self.new.count ≤ self.old.count + 2 }
-        ensures goes_on { result.1 ≡ true → (0 < result.0) × ((x : List ℕ) → IsFront (take self.old.count self.old.items) x → IsFront (take self.new.count self.new.items) (x ++ take result.0 rest.now)) }
-        ensures ends { result.1 ≡ false → (x : List ℕ) → IsFront (take self.old.count self.old.items) x → IsBehind (take self.new.count self.new.items) (x ++ take result.0 rest.now) }
+        ensures goes_on { result.1 ≡ true
+            → (0 < result.0)
+            × ((x : List ℕ) → IsFront (take self.old.count self.old.items) x
+            → IsFront (take self.new.count self.new.items) (x ++ take result.0 rest.now)) }
+        ensures ends { result.1 ≡ false → (x : List ℕ)
+            → IsFront (take self.old.count self.old.items) x
+            → IsBehind (take self.new.count self.new.items) (x ++ take result.0 rest.now) }
     {
         if b'0' <= rest[0] && rest[0] <= b'9' {
             let n = self.push_number(rest);
@@ -181,8 +192,8 @@ impl Short {
         }
     }
 
-    /// Reads the body that comes first, as far as it has a marker, numbers and separators and at most 32 entries, and returns
-    /// its length.
+    /// Reads the body that comes first, as far as it has a marker, numbers and separators and at
+    /// most 32 entries, and returns its length.
     #[inline(always)]
     pub fn read(&mut self, rest: &[u8]) -> usize
         ensures few { result ≤ length rest.now }

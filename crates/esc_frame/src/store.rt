@@ -7,8 +7,8 @@ ghost use Rattle.esc_frame.specs.Segments.{is_empty};
 
 use std::alloc::AllocError;
 
-/// Keeps the text of an unfinished string, as far as a limit allows. A store says by `keeps` what it
-/// keeps, and by `denied` why it may fail.
+/// Keeps the text of an unfinished string, as far as a limit allows. A store says by `keeps` what
+/// it keeps, and by `denied` why it may fail.
 pub trait Store: Drop {
     // this text is kept, each byte of which counts; or nothing, where it is past the limit
     ghost keeps: { Option ℕ → Self → List ℕ → Type 0 };
@@ -26,12 +26,15 @@ pub trait Store: Drop {
 
     /// Whether there were more bytes than the limit.
     fn is_over(&self) -> bool
-        ensures { (limit : Option ℕ) (t : List ℕ) → keeps limit self.now t → result ≡ not (is_within limit (length t)) };
+        ensures { (limit : Option ℕ) (t : List ℕ) → keeps limit self.now t
+            → result ≡ not (is_within limit (length t)) };
 
     /// The text; no byte of it where it is past the limit.
     fn bytes(&self) -> &[u8]
-        ensures kept { (limit : Option ℕ) (t : List ℕ) → keeps limit self.now t → is_within limit (length t) ≡ true → result.now ≡ t }
-        ensures none { (limit : Option ℕ) (t : List ℕ) → keeps limit self.now t → is_within limit (length t) ≡ false → result.now ≡ [] };
+        ensures kept { (limit : Option ℕ) (t : List ℕ) → keeps limit self.now t
+            → is_within limit (length t) ≡ true → result.now ≡ t }
+        ensures none { (limit : Option ℕ) (t : List ℕ) → keeps limit self.now t
+            → is_within limit (length t) ≡ false → result.now ≡ [] };
 
     /// Takes text more, each byte of which counts.
     fn push(&mut self, limit: Option<usize>, text: &[u8]) -> Result<(), AllocError>

@@ -1,19 +1,16 @@
-//! The machine in application program commands, and in what is passed over: SOS and PM strings, and device control strings
-//! whose header has another form.
+//! The machine in application program commands, and in what is passed over: SOS and PM strings, and
+//! device control strings whose header has another form.
 #![tactic(auto)]
 
-ghost use Rattle.std.specs.Prelude.{◌≡◌, ◌≤◌, ◌<◌, ◌++◌, ℕ, Bool, List, [], Option, true, false, length, take, slice_index, OnOk};
+ghost use Rattle.std.specs.Prelude.{◌≡◌, ◌≤◌, ◌<◌, Bool, true, false, length, take, slice_index, OnOk};
 ghost use Rattle.std.specs.List.{list_all};
-ghost use Rattle.esc_frame.specs.declared.classes.Kind.{Kind};
-ghost use Rattle.esc_frame.specs.Classes.{class_of, strip, those, is_text, is_breaker};
-ghost use Rattle.esc_frame.specs.Events.{Takes};
-ghost use Rattle.esc_frame.specs.Leads.{Unfinished, Holds};
-ghost use Rattle.esc_frame.specs.Leads.Unfinished.{InData, InApc, InIgnored};
-ghost use Rattle.esc_frame.specs.Machine.Calls.{Moved, Took, Advances, Quietly};
-ghost use Rattle.esc_frame.specs.Limits.{is_read};
-ghost use Rattle.esc_frame.specs.Machine.Moves.{telling, ground_move, inside, is_lendable};
+ghost use Rattle.esc_frame.specs.Classes.{class_of, is_breaker};
+ghost use Rattle.esc_frame.specs.Machine.Calls.{Quietly};
+ghost use Rattle.esc_frame.specs.Machine.Keeping.{Holding, Unlent, KeepingText, KeepingApc, KeepingApcAnd, FreshApc, AnyApc, InDcsIgnore, InIgnoredString};
+ghost use Rattle.esc_frame.specs.Machine.Makes.{Emits, Makes, Consumes, Advances};
+ghost use Rattle.esc_frame.specs.Machine.Moves.{telling, ground_move};
 ghost use Rattle.esc_frame.specs.Scans.{is_text_byte};
-ghost use Rattle.esc_frame.specs.Segments.{Opener, apc_events};
+ghost use Rattle.esc_frame.specs.Segments.{apc_events};
 
 use crate::actor::VTActor;
 use crate::classes::{Class, classify};
@@ -33,10 +30,8 @@ impl<K: Store, A: Allocator> Machine<K, A> {
         actor: &mut V,
     ) -> Result<()>
         requires { V.is_ready actor.old }
-        ensures moved { (o : Opener) (d : List ℕ) → class ≡ class_of b
-            → K.keeps limit self.old.text (those is_text d)
-            → Moved K.keeps K.denied limit true V.takes V.refuses result
-            (inside limit (InApc o d) b class) self.new actor.old actor.new }
+        ensures moved { class ≡ class_of b → KeepingApc K.Store limit self (λ u.
+            Makes K.Store V.VTActor limit true result (move limit u b class) self actor) }
         ensures ready { OnOk result (V.is_ready actor.new) }
     {
         self.state = State::Apc;
@@ -58,9 +53,9 @@ impl<K: Store, A: Allocator> Machine<K, A> {
     // A breaker after an APC.
     fn leave_apc<V: VTActor>(&mut self, b: u8, class: Class, actor: &mut V) -> Result<()>
         requires { V.is_ready actor.old }
-        ensures moved { (limit : Option ℕ) (t : List ℕ) → K.keeps limit self.old.text t
-            → Moved K.keeps K.denied limit true V.takes V.refuses result
-            (telling (apc_events limit t) (ground_move b class)) self.new actor.old actor.new }
+        ensures moved { KeepingText K.Store self.old.text (λ limit t.
+            Makes K.Store V.VTActor limit true result
+            (telling (apc_events limit t) (ground_move b class)) self actor) }
         ensures ready { OnOk result (V.is_ready actor.new) }
     {
         match tell_apc(&self.text, actor) {
@@ -72,13 +67,10 @@ impl<K: Store, A: Allocator> Machine<K, A> {
     /// A byte that is passed over, but for a breaker.
     pub fn in_skip<V: VTActor>(&mut self, b: u8, class: Class, actor: &mut V) -> Result<()>
         requires { V.is_ready actor.old }
-        ensures ignored { (limit : Option ℕ) (k : Kind) (o : Opener) (d : List ℕ)
-            → Moved K.keeps K.denied limit true V.takes V.refuses result
-            (inside limit (InIgnored k o d) b class) self.new actor.old actor.new }
-        ensures data { (limit : Option ℕ) (o : Opener) (x : List ℕ) (f : ℕ) (d : List ℕ)
-            → is_read limit (strip x) ≡ false
-            → Moved K.keeps K.denied limit true V.takes V.refuses result
-            (inside limit (InData o x f d) b class) self.new actor.old actor.new }
+        ensures ignored { InIgnoredString (λ limit u.
+            Makes K.Store V.VTActor limit true result (move limit u b class) self actor) }
+        ensures data { InDcsIgnore (λ limit u.
+            Makes K.Store V.VTActor limit true result (move limit u b class) self actor) }
         ensures ready { OnOk result (V.is_ready actor.new) }
     {
         self.state = State::Skip;
@@ -100,8 +92,8 @@ impl<K: Store, A: Allocator> Machine<K, A> {
         }
     }
 
-    /// The run of 20-7F in an application program command, and the byte after it: a text that begins and ends in these bytes
-    /// is lent to the actor from there, any other is kept.
+    /// The run of 20-7F in an application program command, and the byte after it: a text that
+    /// begins and ends in these bytes is lent to the actor from there, any other is kept.
     #[inline(always)]
     pub fn take_in_apc<V: VTActor>(
         &mut self,
@@ -112,11 +104,10 @@ impl<K: Store, A: Allocator> Machine<K, A> {
         requires some { 0 < length rest.now }
         requires ready { V.is_ready actor.old }
         requires state { self.old.state ≡ State.Apc }
-        ensures took { (o : Opener) (d : List ℕ) → K.keeps limit self.old.text (those is_text d)
-            → Took K.keeps K.denied limit V.takes V.refuses result (InApc o d)
-            rest.now self.new actor.old actor.new }
-        ensures quiet { (o : Opener) (d : List ℕ) → Quietly limit result (InApc o d) rest.now }
-        ensures count { Advances V.is_ready result rest.now actor.new }
+        ensures took { KeepingApc K.Store limit self (λ u.
+            Consumes K.Store V.VTActor limit result u rest.now self actor) }
+        ensures quiet { AnyApc (λ u. Quietly limit result u rest.now) }
+        ensures count { Advances V.VTActor result rest.now actor }
     {
         let run = ascii_run(rest);
         if run == rest.len() {
@@ -146,12 +137,10 @@ impl<K: Store, A: Allocator> Machine<K, A> {
         requires passes { list_all is_text_byte (take run rest.now) ≡ true }
         requires ready { V.is_ready actor.old }
         requires state { self.old.state ≡ State.Apc }
-        ensures took { (o : Opener) (d : List ℕ) → K.keeps limit self.old.text (those is_text d)
-            → is_lendable (InApc o d) rest.now ≡ false
-            → Took K.keeps K.denied limit V.takes V.refuses result (InApc o d)
-            rest.now self.new actor.old actor.new }
-        ensures quiet { (o : Opener) (d : List ℕ) → Quietly limit result (InApc o d) rest.now }
-        ensures count { Advances V.is_ready result rest.now actor.new }
+        ensures took { KeepingApc K.Store limit self (Unlent rest.now (λ u.
+            Consumes K.Store V.VTActor limit result u rest.now self actor)) }
+        ensures quiet { AnyApc (λ u. Quietly limit result u rest.now) }
+        ensures count { Advances V.VTActor result rest.now actor }
     {
         match self.text.push(limit, &rest[..run]) {
             Ok(()) => self.take_after_apc(limit, rest, run, actor),
@@ -173,13 +162,10 @@ impl<K: Store, A: Allocator> Machine<K, A> {
         requires passes { list_all is_text_byte (take run rest.now) ≡ true }
         requires ready { V.is_ready actor.old }
         requires state { self.old.state ≡ State.Apc }
-        ensures took { (o : Opener) (d : List ℕ)
-            → K.keeps limit self.old.text (those is_text d ++ take run rest.now)
-            → is_lendable (InApc o d) rest.now ≡ false
-            → Took K.keeps K.denied limit V.takes V.refuses result (InApc o d)
-            rest.now self.new actor.old actor.new }
-        ensures quiet { (o : Opener) (d : List ℕ) → Quietly limit result (InApc o d) rest.now }
-        ensures count { Advances V.is_ready result rest.now actor.new }
+        ensures took { KeepingApcAnd K.Store limit (take run rest.now) self (Unlent rest.now (λ u.
+            Consumes K.Store V.VTActor limit result u rest.now self actor)) }
+        ensures quiet { AnyApc (λ u. Quietly limit result u rest.now) }
+        ensures count { Advances V.VTActor result rest.now actor }
     {
         if run == rest.len() {
             return Ok(run);
@@ -205,11 +191,10 @@ impl<K: Store, A: Allocator> Machine<K, A> {
         requires class { class ≡ class_of (slice_index rest.now run) }
         requires ends { is_breaker class ≡ true }
         requires ready { V.is_ready actor.old }
-        ensures took { (o : Opener) (d : List ℕ) → those is_text d ≡ []
-            → Took K.keeps K.denied limit V.takes V.refuses result (InApc o d)
-            rest.now self.new actor.old actor.new }
-        ensures quiet { (o : Opener) (d : List ℕ) → Quietly limit result (InApc o d) rest.now }
-        ensures count { Advances V.is_ready result rest.now actor.new }
+        ensures took { FreshApc (λ u.
+            Consumes K.Store V.VTActor limit result u rest.now self actor) }
+        ensures quiet { AnyApc (λ u. Quietly limit result u rest.now) }
+        ensures count { Advances V.VTActor result rest.now actor }
     {
         match self.end_lent_apc(limit, &rest[..run], rest[run], class, actor) {
             Ok(()) => Ok(run + 1),
@@ -227,9 +212,9 @@ impl<K: Store, A: Allocator> Machine<K, A> {
         actor: &mut V,
     ) -> Result<()>
         requires { V.is_ready actor.old }
-        ensures moved { (own : Bool) → Moved K.keeps K.denied limit own V.takes V.refuses result
-            (telling (apc_events limit text.now) (ground_move b class))
-            self.new actor.old actor.new }
+        ensures moved { (own : Bool)
+            → Makes K.Store V.VTActor limit own result
+            (telling (apc_events limit text.now) (ground_move b class)) self actor }
         ensures ready { OnOk result (V.is_ready actor.new) }
     {
         match tell_lent_apc(limit, text, actor) {
@@ -249,11 +234,10 @@ impl<K: Store, A: Allocator> Machine<K, A> {
         requires some { 0 < length rest.now }
         requires ready { V.is_ready actor.old }
         requires state { self.old.state ≡ State.Skip }
-        ensures took { (u : Unfinished) → Holds K.keeps limit self.old u
-            → Took K.keeps K.denied limit V.takes V.refuses result u rest.now self.new
-            actor.old actor.new }
-        ensures quiet { (u : Unfinished) → Holds K.keeps limit self.old u → Quietly limit result u rest.now }
-        ensures count { Advances V.is_ready result rest.now actor.new }
+        ensures took { Holding K.Store limit self (λ u.
+            Consumes K.Store V.VTActor limit result u rest.now self actor) }
+        ensures quiet { Holding K.Store limit self (λ u. Quietly limit result u rest.now) }
+        ensures count { Advances V.VTActor result rest.now actor }
     {
         let run = ascii_run(rest);
         if run == 0 {
@@ -289,8 +273,7 @@ fn is_breaker(class: Class) -> bool
 // A lent text, told where it is within the limit.
 fn tell_lent_apc<V: VTActor>(limit: Option<usize>, text: &[u8], actor: &mut V) -> Result<()>
     requires { V.is_ready actor.old }
-    ensures told { Takes ⊥ V.takes V.refuses result actor.old
-        (apc_events limit text.now) actor.new }
+    ensures told { Emits V.VTActor ⊥ result (apc_events limit text.now) actor }
     ensures ready { OnOk result (V.is_ready actor.new) }
 {
     if fits(limit, 0, text.len()) {
@@ -304,8 +287,8 @@ fn tell_lent_apc<V: VTActor>(limit: Option<usize>, text: &[u8], actor: &mut V) -
 #[tactic(auto, using(crate::proofs::Given::hears_takes))]
 fn tell_apc<K: Store, V: VTActor>(text: &K, actor: &mut V) -> Result<()>
     requires { V.is_ready actor.old }
-    ensures told { (limit : Option ℕ) (t : List ℕ) → K.keeps limit text.now t
-        → Takes ⊥ V.takes V.refuses result actor.old (apc_events limit t) actor.new }
+    ensures told { KeepingText K.Store text.now (λ limit t.
+        Emits V.VTActor ⊥ result (apc_events limit t) actor) }
     ensures ready { OnOk result (V.is_ready actor.new) }
 {
     if text.is_over() {

@@ -7,7 +7,7 @@ use Rattle.esc_frame.proofs.Moving.{broken_told}
 use Rattle.esc_frame.proofs.machine.Machine.in_apc.Goals as goal
 
 pub returns-in-Cancel-clause-moved : goal.returns-in-Cancel-clause-moved
-returns-in-Cancel-clause-moved g c = λ o d e k.
+returns-in-Cancel-clause-moved g c = λ e o d k.
     let t : is_breaker c.args.class ≡ true = search (rules, c.in-Cancel.is) in
     broken_told g.K.Store.keeps g.K.Store.denied c.args.limit true
     g.V.VTActor.takes g.V.VTActor.refuses c.leave_apc.result (InApc o d)
@@ -15,7 +15,7 @@ returns-in-Cancel-clause-moved g c = λ o d e k.
     c.args.actor.now c.leave_apc.new.actor t (c.leave_apc.ensures.moved c.args.limit (those is_text d) k)
 
 pub returns-in-Delete-clause-moved : goal.returns-in-Delete-clause-moved
-returns-in-Delete-clause-moved g c = λ o d e k.
+returns-in-Delete-clause-moved g c = λ e o d k.
     let t : is_text c.args.class ≡ true = search (rules, c.in-Delete.is) in
     apc_pushed g.K.Store.keeps g.K.Store.denied c.args.limit g.V.VTActor.takes g.V.VTActor.refuses
     c.push.result c.push.ensures.refused

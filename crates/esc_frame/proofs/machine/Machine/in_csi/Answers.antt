@@ -10,14 +10,14 @@ use Rattle.esc_frame.proofs.Moving.{broken}
 use Rattle.esc_frame.proofs.machine.Machine.in_csi.Goals as goal
 
 pub returns-in-Cancel-clause-moved : goal.returns-in-Cancel-clause-moved
-returns-in-Cancel-clause-moved g c = λ limit o x e k.
+returns-in-Cancel-clause-moved g c = λ e limit o x k.
     let t : is_breaker c.args.class ≡ true = search (rules, c.in-Cancel.is) in
     broken g.K.Store.keeps g.K.Store.denied limit false g.V.VTActor.takes g.V.VTActor.refuses
     c.in_ground.result (InCsi o x) c.args.b c.args.class c.in_ground.new.self
     c.args.actor.now c.in_ground.new.actor t refl (c.in_ground.ensures.moved limit false)
 
 pub returns-in-Plain-clause-moved : goal.returns-in-Plain-clause-moved
-returns-in-Plain-clause-moved g c = λ limit o x e k. elim c.in-Plain.is [
+returns-in-Plain-clause-moved g c = λ e limit o x k. elim c.in-Plain.is [
   | inl i ↦ rw i (hears_moved g.K.Store.keeps g.K.Store.denied limit _
       g.V.VTActor.takes g.V.VTActor.refuses c.execute_c0_or_c1.result (InCsi o (x ++ c.args.b ∷ []))
       (Execute c.args.b)

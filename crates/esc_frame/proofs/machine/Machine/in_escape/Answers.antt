@@ -11,14 +11,14 @@ use Rattle.esc_frame.proofs.Moving.{broken}
 use Rattle.esc_frame.proofs.machine.Machine.in_escape.Goals as goal
 
 pub returns-in-Cancel-clause-moved : goal.returns-in-Cancel-clause-moved
-returns-in-Cancel-clause-moved g c = λ limit own x e k.
+returns-in-Cancel-clause-moved g c = λ e limit own x k.
     let t : is_breaker c.args.class ≡ true = search (rules, c.in-Cancel.is) in
     broken g.K.Store.keeps g.K.Store.denied limit own g.V.VTActor.takes g.V.VTActor.refuses
     c.in_ground.result (InEscape x) c.args.b c.args.class c.in_ground.new.self
     c.args.actor.now c.in_ground.new.actor t refl (c.in_ground.ensures.moved limit own)
 
 pub returns-in-Plain-clause-moved : goal.returns-in-Plain-clause-moved
-returns-in-Plain-clause-moved g c = λ limit own x e k. elim c.in-Plain.is [
+returns-in-Plain-clause-moved g c = λ e limit own x k. elim c.in-Plain.is [
   | inl i ↦ rw i (hears_moved g.K.Store.keeps g.K.Store.denied limit _
       g.V.VTActor.takes g.V.VTActor.refuses c.execute_c0_or_c1.result
       (InEscape (x ++ c.args.b ∷ []))
@@ -42,4 +42,4 @@ returns-in-Plain-clause-moved g c = λ limit own x e k. elim c.in-Plain.is [
 ]
 
 pub returns-then-self-eq0-clause-moved : goal.returns-then-self-eq0-clause-moved
-returns-then-self-eq0-clause-moved g c = λ limit own x e k. let h = c.open.ensures limit (Long x) in search (rules, h)
+returns-then-self-eq0-clause-moved g c = λ e limit own x k. let h = c.open.ensures limit (Long x) in search (rules, h)

@@ -9,7 +9,7 @@ use Rattle.esc_frame.proofs.Moving.{broken_told}
 use Rattle.esc_frame.proofs.machine.Machine.in_osc.Goals as goal
 
 pub returns-in-Cancel-clause-moved : goal.returns-in-Cancel-clause-moved
-returns-in-Cancel-clause-moved g c = λ o ps e k.
+returns-in-Cancel-clause-moved g c = λ e o ps k.
     let t : is_breaker c.args.class ≡ true = search (rules, c.in-Cancel.is) in
     broken_told g.K.Store.keeps g.K.Store.denied c.args.limit true
     g.V.VTActor.takes g.V.VTActor.refuses c.leave_osc.result (InOsc o ps)
@@ -17,7 +17,7 @@ returns-in-Cancel-clause-moved g c = λ o ps e k.
     c.args.actor.now c.leave_osc.new.actor t (c.leave_osc.ensures.moved c.args.limit (text_of ps) k)
 
 pub returns-in-Intermediate-clause-moved : goal.returns-in-Intermediate-clause-moved
-returns-in-Intermediate-clause-moved g c = λ o ps e k.
+returns-in-Intermediate-clause-moved g c = λ e o ps k.
     let t : is_text c.args.class ≡ true = search (rules, c.in-Intermediate.is) in
     osc_pushed g.K.Store.keeps g.K.Store.denied c.args.limit g.V.VTActor.takes g.V.VTActor.refuses
     c.push.result c.push.ensures.refused

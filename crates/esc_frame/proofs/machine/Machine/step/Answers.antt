@@ -6,37 +6,37 @@ use Rattle.esc_frame.proofs.States.{ground_only, escape_only, csi_only, osc_only
 use Rattle.esc_frame.proofs.machine.Machine.step.Goals as goal
 
 pub returns-in-Nothing-pending-clause-moved : goal.returns-in-Nothing-pending-clause-moved
-returns-in-Nothing-pending-clause-moved g c = λ u e h.
+returns-in-Nothing-pending-clause-moved g c = λ e u h.
     osc_only g.K.Store.keeps c.args.limit c.args.self.now u c.in-Osc.is (ap front_of c.in-Nothing-pending.is) h
     (λ v. Moved g.K.Store.keeps g.K.Store.denied c.args.limit (may_grow_in v)
     g.V.VTActor.takes g.V.VTActor.refuses c.in_osc.result
     (move c.args.limit v c.args.b c.args.class)
     c.in_osc.new.self c.args.actor.now
     c.in_osc.new.actor)
-    (λ o ps k. c.in_osc.ensures.moved o ps e k.1)
+    (λ o ps k. c.in_osc.ensures.moved e o ps k.1)
 
 pub returns-in-Dcs-clause-moved : goal.returns-in-Dcs-clause-moved
-returns-in-Dcs-clause-moved g c = λ u e h.
+returns-in-Dcs-clause-moved g c = λ e u h.
     dcs_only g.K.Store.keeps c.args.limit c.args.self.now u c.in-Dcs.is h
     (λ v. Moved g.K.Store.keeps g.K.Store.denied c.args.limit (may_grow_in v)
     g.V.VTActor.takes g.V.VTActor.refuses c.in_dcs.result
     (move c.args.limit v c.args.b c.args.class)
     c.in_dcs.new.self c.args.actor.now
     c.in_dcs.new.actor)
-    (λ o x k. c.in_dcs.ensures.moved o x e k.1 k.2)
+    (λ o x k. c.in_dcs.ensures.moved e o x k.1 k.2)
 
 pub returns-in-Apc-clause-moved : goal.returns-in-Apc-clause-moved
-returns-in-Apc-clause-moved g c = λ u e h.
+returns-in-Apc-clause-moved g c = λ e u h.
     apc_only g.K.Store.keeps c.args.limit c.args.self.now u c.in-Apc.is h
     (λ v. Moved g.K.Store.keeps g.K.Store.denied c.args.limit (may_grow_in v)
     g.V.VTActor.takes g.V.VTActor.refuses c.in_apc.result
     (move c.args.limit v c.args.b c.args.class)
     c.in_apc.new.self c.args.actor.now
     c.in_apc.new.actor)
-    (λ o d k. c.in_apc.ensures.moved o d e k.1)
+    (λ o d k. c.in_apc.ensures.moved e o d k.1)
 
 pub returns-in-Nothing-clause-moved : goal.returns-in-Nothing-clause-moved
-returns-in-Nothing-clause-moved g c = λ u e h.
+returns-in-Nothing-clause-moved g c = λ e u h.
     ground_only g.K.Store.keeps c.args.limit c.args.self.now u c.in-Ground.is (ap front_of c.in-Nothing.is) h
     (λ v. Moved g.K.Store.keeps g.K.Store.denied c.args.limit (may_grow_in v)
     g.V.VTActor.takes g.V.VTActor.refuses c.in_ground.result
@@ -46,21 +46,21 @@ returns-in-Nothing-clause-moved g c = λ u e h.
     (c.in_ground.ensures.moved c.args.limit false)
 
 pub returns-in-Escape-clause-moved : goal.returns-in-Escape-clause-moved
-returns-in-Escape-clause-moved g c = λ u e h.
+returns-in-Escape-clause-moved g c = λ e u h.
     escape_only g.K.Store.keeps c.args.limit c.args.self.now u c.in-Escape.is h
     (λ v. Moved g.K.Store.keeps g.K.Store.denied c.args.limit (may_grow_in v)
     g.V.VTActor.takes g.V.VTActor.refuses c.in_escape.result
     (move c.args.limit v c.args.b c.args.class)
     c.in_escape.new.self c.args.actor.now
     c.in_escape.new.actor)
-    (λ x k. c.in_escape.ensures.moved c.args.limit false x e k.1)
+    (λ x k. c.in_escape.ensures.moved e c.args.limit false x k.1)
 
 pub returns-in-Csi-clause-moved : goal.returns-in-Csi-clause-moved
-returns-in-Csi-clause-moved g c = λ u e h.
+returns-in-Csi-clause-moved g c = λ e u h.
     csi_only g.K.Store.keeps c.args.limit c.args.self.now u c.in-Csi.is h
     (λ v. Moved g.K.Store.keeps g.K.Store.denied c.args.limit (may_grow_in v)
     g.V.VTActor.takes g.V.VTActor.refuses c.in_csi.result
     (move c.args.limit v c.args.b c.args.class)
     c.in_csi.new.self c.args.actor.now
     c.in_csi.new.actor)
-    (λ o x k. c.in_csi.ensures.moved c.args.limit o x e k.1)
+    (λ o x k. c.in_csi.ensures.moved e c.args.limit o x k.1)

@@ -23,7 +23,7 @@ returns-in-Ok-clause-took g c = λ o d k not_lent.
     c.in_apc.new.actor
     (apc_text c.args.limit o d xs c.requires.passes) (omega arith) c.classify.ensures g.K.Store.keeps c.in_apc.new.self
     (unlent_fresh (InApc o d) c.args.rest.now (c.args.run + 1) not_lent)
-    (c.in-Ok.ensures.moved o (d ++ xs) c.classify.ensures (subst (g.K.Store.keeps c.args.limit c.args.self.now.text) (sym (apc_kept d xs c.requires.passes)) k))
+    (c.in-Ok.ensures.moved c.classify.ensures o (d ++ xs) (subst (g.K.Store.keeps c.args.limit c.args.self.now.text) (sym (apc_kept d xs c.requires.passes)) k))
 
 pub returns-in-Err-clause-took : goal.returns-in-Err-clause-took
 returns-in-Err-clause-took g c = λ o d k not_lent.
@@ -31,7 +31,7 @@ returns-in-Err-clause-took g c = λ o d k not_lent.
     quiet_stops c.args.limit g.V.VTActor.takes g.V.VTActor.refuses (InApc o d) (InApc o (d ++ xs)) c.args.rest.now c.args.run _ c.args.actor.now
     c.in_apc.new.actor
     (apc_text c.args.limit o d xs c.requires.passes) (omega arith) c.classify.ensures (λ may. not_lent)
-    (c.in-Err.ensures.moved o (d ++ xs) c.classify.ensures
+    (c.in-Err.ensures.moved c.classify.ensures o (d ++ xs)
     (subst (g.K.Store.keeps c.args.limit c.args.self.now.text) (sym (apc_kept d xs c.requires.passes)) k))
 
 pub returns-then-run-rest-clause-quiet : goal.returns-then-run-rest-clause-quiet

@@ -23,7 +23,7 @@ returns-in-Ok-clause-took g c = λ o ps k not_lent.
     c.in_osc.new.actor
     (run.2 c.args.limit o ps) (omega arith) c.classify.ensures g.K.Store.keeps c.in_osc.new.self
     (unlent_fresh (InOsc o ps) c.args.rest.now (c.args.run + 1) not_lent)
-    (c.in-Ok.ensures.moved o (ps ++ run.0) c.classify.ensures (subst (g.K.Store.keeps c.args.limit c.args.self.now.text) (run_text ps run) k))
+    (c.in-Ok.ensures.moved c.classify.ensures o (ps ++ run.0) (subst (g.K.Store.keeps c.args.limit c.args.self.now.text) (run_text ps run) k))
 
 pub returns-in-Err-clause-took : goal.returns-in-Err-clause-took
 returns-in-Err-clause-took g c = λ o ps k not_lent.
@@ -31,7 +31,7 @@ returns-in-Err-clause-took g c = λ o ps k not_lent.
     quiet_stops c.args.limit g.V.VTActor.takes g.V.VTActor.refuses (InOsc o ps) (InOsc o (ps ++ run.0)) c.args.rest.now c.args.run _ c.args.actor.now
     c.in_osc.new.actor
     (run.2 c.args.limit o ps) (omega arith) c.classify.ensures (λ may. not_lent)
-    (c.in-Err.ensures.moved o (ps ++ run.0) c.classify.ensures (subst (g.K.Store.keeps c.args.limit c.args.self.now.text) (run_text ps run) k))
+    (c.in-Err.ensures.moved c.classify.ensures o (ps ++ run.0) (subst (g.K.Store.keeps c.args.limit c.args.self.now.text) (run_text ps run) k))
 
 pub returns-then-run-rest-clause-quiet : goal.returns-then-run-rest-clause-quiet
 returns-then-run-rest-clause-quiet g c = λ o ps.

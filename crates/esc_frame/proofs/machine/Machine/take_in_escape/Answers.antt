@@ -18,7 +18,7 @@ returns-in-Ok-clause-took g c = λ u h.
     (λ x k. quiet_took c.args.limit g.V.VTActor.takes g.V.VTActor.refuses (InEscape x) (InEscape x) c.args.rest.now 0 _ c.args.actor.now _ (refl, refl)
     c.requires.some c.classify.ensures
     g.K.Store.keeps c.in_escape.new.self (one_fresh (InEscape x) c.args.rest.now refl)
-    (c.in-Ok.ensures.moved c.args.limit false x c.classify.ensures k.1))
+    (c.in-Ok.ensures.moved c.classify.ensures c.args.limit false x k.1))
 
 pub returns-in-Err-clause-took : goal.returns-in-Err-clause-took
 returns-in-Err-clause-took g c = λ u h.
@@ -30,4 +30,4 @@ returns-in-Err-clause-took g c = λ u h.
     c.in_escape.new.actor)
     (λ x k. quiet_stops c.args.limit g.V.VTActor.takes g.V.VTActor.refuses (InEscape x) (InEscape x) c.args.rest.now 0 _ c.args.actor.now _ (refl, refl)
     c.requires.some c.classify.ensures (one_unlent (InEscape x) c.args.rest.now refl)
-    (c.in-Err.ensures.moved c.args.limit false x c.classify.ensures k.1))
+    (c.in-Err.ensures.moved c.classify.ensures c.args.limit false x k.1))

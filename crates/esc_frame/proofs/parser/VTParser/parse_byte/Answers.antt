@@ -12,9 +12,9 @@ returns-in-Ok-clause-given g c = λ limit s (f, i, h).
     let b = c.args.byte in
     let u = after_all Ground s in
     let k = c.classify.ensures in (
-      (f, i, kept_one KeepsText c.args.self.now.limit c.step.new.self s b _ k (c.in-Ok.ensures.moved u k h).0),
+      (f, i, kept_one KeepsText c.args.self.now.limit c.step.new.self s b _ k (c.in-Ok.ensures.moved k u h).0),
       given_one c.args.self.now.limit limit i g.V.VTActor.takes s b _ c.args.actor.now c.step.new.actor k
-          (c.in-Ok.ensures.moved u k h).1,
+          (c.in-Ok.ensures.moved k u h).1,
     )
 
 pub returns-in-Err-clause-refused : goal.returns-in-Err-clause-refused
@@ -24,5 +24,5 @@ returns-in-Err-clause-refused g c = λ limit s (f, i, h).
       refl,
       refused_one g.row.A.Denot c.args.self.now.limit limit i g.V.VTActor.takes g.V.VTActor.refuses
           s c.args.byte _ c.args.actor.now c.step.new.actor k
-          (c.in-Err.ensures.moved (after_all Ground s) k h),
+          (c.in-Err.ensures.moved k (after_all Ground s) h),
     )

@@ -1,4 +1,4 @@
-use Rattle.std.proofs.Common.{[], take, refl, subst}
+use Rattle.std.proofs.Common.{[], take, refl, subst, arith}
 use Rattle.esc_frame.specs.Leads.Unfinished.{Ground}
 use Rattle.esc_frame.specs.Machine.Keeps.{KeepsText}
 use Rattle.esc_frame.specs.Machine.Moves.{after_all}
@@ -11,9 +11,12 @@ pub returns-then-is_empty-clause-given : goal.returns-then-is_empty-clause-given
 unfolding LeadsToWithin
 returns-then-is_empty-clause-given g c =
     λ limit s (f, i, h). (
-      (f, i, kept_all KeepsText c.args.self.now.limit c.args.self.now.machine s [] h),
-      given_all c.args.self.now.limit limit i g.V.VTActor.takes s
-          [] c.args.actor.now c.args.actor.now refl,
+      (
+        (f, i, kept_all KeepsText c.args.self.now.limit c.args.self.now.machine s [] h),
+        given_all c.args.self.now.limit limit i g.V.VTActor.takes s
+            [] c.args.actor.now c.args.actor.now refl,
+      ),
+      λ k some few. absurd (omega (arith, some, few)),
     )
 
 pub returns-in-Ok-clause-given : goal.returns-in-Ok-clause-given
@@ -21,16 +24,20 @@ unfolding LeadsToWithin
 returns-in-Ok-clause-given g c = λ limit s (f, i, h).
     let bs = take c.in-Ok.n c.args.bytes.now in
     let u = after_all Ground s in (
-      (f, i, kept_all KeepsText c.args.self.now.limit c.take_some.new.self s bs (c.in-Ok.ensures.took u h).0),
-      given_all c.args.self.now.limit limit i g.V.VTActor.takes s bs c.args.actor.now c.take_some.new.actor
-          (c.in-Ok.ensures.took u h).1,
+      (
+        (
+          f,
+          i,
+          kept_all KeepsText c.args.self.now.limit c.take_some.new.self s bs
+              (c.in-Ok.ensures.took u h).0,
+        ),
+        given_all c.args.self.now.limit limit i g.V.VTActor.takes s bs c.args.actor.now
+            c.take_some.new.actor (c.in-Ok.ensures.took u h).1,
+      ),
+      subst (λ l. IsQuietWithin l s c.args.bytes.now c.in-Ok.n) i
+          (quiet_all c.args.self.now.limit s c.args.bytes.now c.in-Ok.n
+          (c.in-Ok.ensures.quiet u h)),
     )
-
-pub returns-in-Ok-clause-quiet : goal.returns-in-Ok-clause-quiet
-unfolding LeadsToWithin
-returns-in-Ok-clause-quiet g c = λ limit s (f, i, h).
-    subst (λ l. IsQuietWithin l s c.args.bytes.now c.in-Ok.n) i
-    (quiet_all c.args.self.now.limit s c.args.bytes.now c.in-Ok.n (c.in-Ok.ensures.quiet (after_all Ground s) h))
 
 pub returns-in-Err-clause-refused : goal.returns-in-Err-clause-refused
 unfolding LeadsToWithin

@@ -14,19 +14,24 @@ unfolding WasFedWithin
 returns-in-Ok-clause-given g c = λ limit s h.
     let w = IfOk-at_ok _ c.in-Ok.is (c.parse_some-result.ensures.given limit s h.0) in
     let r = performs_fed (At value_of g.S.Sink.takes) (At value_of g.S.Sink.refuses) limit s
-    (take c.in-Ok.taken c.args.bytes.now) _
-    c.parse_some-result.new.actor w.1
-    (subst (λ u. Hooks limit u (mode_from plain (events_within limit s)))
-    (sym c.take.ensures.taken) h.1) in ((w.0, r.0), r.1)
+        (take c.in-Ok.taken c.args.bytes.now) _
+    c.parse_some-result.new.actor w.0.1
+    (subst (λ u. Hooks limit u (mode_from plain (events_within limit s))) (sym c.take.ensures.taken)
+        h.1) in ((w.0.0, r.0), r.1)
+
+pub returns-in-Ok-clause-quiet : goal.returns-in-Ok-clause-quiet
+unfolding WasFedWithin
+returns-in-Ok-clause-quiet g c = λ limit s h.
+    (IfOk-at_ok _ c.in-Ok.is (c.parse_some-result.ensures.given limit s h.0)).1
 
 pub returns-in-Err-clause-refused : goal.returns-in-Err-clause-refused
 unfolding WasFedWithin
 returns-in-Err-clause-refused g c = λ limit s h.
     let w = IfErr-at_err _ c.in-Err.is (c.parse_some-result.ensures.refused limit s h.0) in (
       w.0,
-      (on_err_at _ c.in-Err.is c.parse_some-result.ensures.ends, c.take.ensures.nothing),
+      (on_err_at _ c.in-Err.is c.parse_some-result.ensures.after.ends, c.take.ensures.nothing),
       performs_some (At value_of g.S.Sink.takes) (At value_of g.S.Sink.refuses) limit s
           c.args.bytes.now _ c.parse_some-result.new.actor w.1
           (subst (λ u. Hooks limit u (mode_from plain (events_within limit s)))
-          (sym c.take.ensures.taken) h.1),
+              (sym c.take.ensures.taken) h.1),
     )

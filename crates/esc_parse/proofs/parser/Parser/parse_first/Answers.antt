@@ -8,13 +8,11 @@ use Rattle.esc_parse.proofs.parser.Parser.parse_first.Goals as goal
 pub returns-in-Some-clause-some : goal.returns-in-Some-clause-some
 unfolding WasFedWithin
 returns-in-Some-clause-some g c = λ limit s h.
-    let given = c.in-Some.ensures.given limit s h.0 in (
-      (
-        given.0,
-        hooks_by limit _ s (take c.in-Some.n c.args.bytes.now) (Print c.in-Some.c) given.1 refl h.1,
-      ),
+    let (given, quiet) = c.in-Some.ensures.given limit s h.0 in (
+      (given.0, hooks_by limit _ s (take c.in-Some.n c.args.bytes.now) (Print c.in-Some.c) given.1
+          refl h.1),
       finds_character limit s c.args.bytes.now c.in-Some.n c.in-Some.c c.in-Some.ensures.count.1
-          given.1 (c.in-Some.ensures.quiet limit s h.0),
+          given.1 quiet,
     )
 
 pub returns-in-Some-clause-handed_out : goal.returns-in-Some-clause-handed_out

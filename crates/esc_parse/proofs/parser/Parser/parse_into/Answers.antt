@@ -23,9 +23,9 @@ unfolding WasFedWithin
 returns-in-Err-clause-refused g c = λ limit s h.
     let w = IfErr-at_err _ c.in-Err.is (c.parse-result.ensures.refused limit s h.0) in (
       w.0,
-      (on_err_at _ c.in-Err.is c.parse-result.ensures.ends, c.take.ensures.nothing),
+      (on_err_at _ c.in-Err.is c.parse-result.ensures.after.ends, c.take.ensures.nothing),
       performs_some (At value_of g.S.Sink.takes) (At value_of g.S.Sink.refuses) limit s
           c.args.bytes.now _ c.parse-result.new.actor w.1
           (subst (λ u. Hooks limit u (mode_from plain (events_within limit s)))
-          (sym c.take.ensures.taken) h.1),
+              (sym c.take.ensures.taken) h.1),
     )

@@ -1,0 +1,159 @@
+-- What a call is given: a promise P of each thing that the machine may keep before it. Only private
+-- contracts cite it.
+use Rattle.std.specs.Prelude.{ℕ, ◌≡◌, true, false, List, [], ◌++◌, Bool, Option}
+use Rattle.esc_frame.specs.declared.classes.Kind.{Kind}
+use Rattle.esc_frame.specs.declared.header.DcsHeader.{DcsHeader}
+use Rattle.esc_frame.specs.declared.machine.Machine.{Machine}
+use Rattle.esc_frame.specs.declared.store.Store.{Ghosts as Keeper}
+use Rattle.esc_frame.specs.Changed.{Changed}
+use Rattle.esc_frame.specs.Classes.{strip, those, is_text}
+use Rattle.esc_frame.specs.Leads.{Unfinished, Holds}
+use Rattle.esc_frame.specs.Leads.Unfinished.{InEscape, InCsi, InOsc, InOscPending, InDcs, InData, InApc, InIgnored}
+use Rattle.esc_frame.specs.Limits.{is_read}
+use Rattle.esc_frame.specs.Machine.Fronts.{front_of}
+use Rattle.esc_frame.specs.Machine.Keeps.{Keeps, KeepsBody, KeepsDcs, parameters_of}
+use Rattle.esc_frame.specs.Machine.Moves.{is_lendable}
+use Rattle.esc_frame.specs.Segments.{Opener, Piece, text_of}
+
+-- whatever is unfinished
+abbrev pub Holding : {K A : Type 0} → Keeper K → Option ℕ → Changed (Machine K A)
+    → (Unfinished → Type 0)
+    → Type 0
+Holding K limit self P = (u : Unfinished) → Holds K.keeps limit self.entry.now u → P u
+
+-- where not all strings in the rest can be lent
+abbrev pub Unlent : List ℕ → (Unfinished → Type 0) → Unfinished → Type 0
+Unlent rest P u = is_lendable u rest ≡ false → P u
+
+-- any text that the store keeps
+abbrev pub KeepingText : {K : Type 0} → Keeper K → K → (Option ℕ → List ℕ → Type 0) → Type 0
+KeepingText K store P = (limit : Option ℕ) (t : List ℕ) → K.keeps limit store t → P limit t
+
+-- ---- escape: the intermediates, under any limit, whoever may stop it
+
+abbrev pub KeepingEscape : {K A : Type 0} → Changed (Machine K A)
+    → (Option ℕ → Bool → Unfinished → Type 0)
+    → Type 0
+KeepingEscape self P =
+    (limit : Option ℕ) (own : Bool) (x : List ℕ) → Keeps self.entry.now.intermediates (strip x)
+    → P limit own (InEscape x)
+
+-- ---- csi: the entries, under any limit
+
+abbrev pub KeepingCsi : {K A : Type 0} → Changed (Machine K A) → (Option ℕ → Unfinished → Type 0)
+    → Type 0
+KeepingCsi self P =
+    (limit : Option ℕ) (o : Opener) (x : List ℕ) → KeepsBody self.entry.now.body (strip x)
+    → P limit (InCsi o x)
+
+-- of which these bytes come next, and are kept already
+abbrev pub KeepingCsiAnd : {K A : Type 0} → List ℕ → Changed (Machine K A)
+    → (Option ℕ → Unfinished → Type 0)
+    → Type 0
+KeepingCsiAnd more self P =
+    (limit : Option ℕ) (o : Opener) (x : List ℕ)
+    → KeepsBody self.entry.now.body (strip x ++ more)
+    → P limit (InCsi o x)
+
+-- whatever is kept of it
+abbrev pub AnyCsi : (Option ℕ → Unfinished → Type 0) → Type 0
+AnyCsi P = (limit : Option ℕ) (o : Opener) (x : List ℕ) → P limit (InCsi o x)
+
+-- ---- osc string: the text
+
+abbrev pub KeepingOsc : {K A : Type 0} → Keeper K → Option ℕ → Changed (Machine K A)
+    → (Unfinished → Type 0)
+    → Type 0
+KeepingOsc K limit self P =
+    (o : Opener) (ps : List Piece) → K.keeps limit self.entry.now.text (text_of ps)
+    → P (InOsc o ps)
+
+-- of which these bytes come next, and are kept already
+abbrev pub KeepingOscAnd : {K A : Type 0} → Keeper K → Option ℕ → List ℕ → Changed (Machine K A)
+    → (Unfinished → Type 0)
+    → Type 0
+KeepingOscAnd K limit more self P =
+    (o : Opener) (ps : List Piece) → K.keeps limit self.entry.now.text (text_of ps ++ more)
+    → P (InOsc o ps)
+
+-- in which a UTF-8 sequence has begun
+abbrev pub KeepingOscPending : {K A : Type 0} → Keeper K → Option ℕ → Changed (Machine K A)
+    → (Unfinished → Type 0)
+    → Type 0
+KeepingOscPending K limit self P =
+    (o : Opener) (ps : List Piece) (f : List ℕ)
+    → K.keeps limit self.entry.now.text (text_of ps) → front_of self.entry.now.pending ≡ f
+    → P (InOscPending o ps f)
+
+-- of which no text has come
+abbrev pub FreshOsc : (Unfinished → Type 0) → Type 0
+FreshOsc P = (o : Opener) (ps : List Piece) → text_of ps ≡ [] → P (InOsc o ps)
+
+-- whatever is kept of it
+abbrev pub AnyOsc : (Unfinished → Type 0) → Type 0
+AnyOsc P = (o : Opener) (ps : List Piece) → P (InOsc o ps)
+
+-- ---- apc string: the text
+
+abbrev pub KeepingApc : {K A : Type 0} → Keeper K → Option ℕ → Changed (Machine K A)
+    → (Unfinished → Type 0)
+    → Type 0
+KeepingApc K limit self P =
+    (o : Opener) (d : List ℕ) → K.keeps limit self.entry.now.text (those is_text d)
+    → P (InApc o d)
+
+-- of which these bytes come next, and are kept already
+abbrev pub KeepingApcAnd : {K A : Type 0} → Keeper K → Option ℕ → List ℕ → Changed (Machine K A)
+    → (Unfinished → Type 0)
+    → Type 0
+KeepingApcAnd K limit more self P =
+    (o : Opener) (d : List ℕ) → K.keeps limit self.entry.now.text (those is_text d ++ more)
+    → P (InApc o d)
+
+-- of which no text has come
+abbrev pub FreshApc : (Unfinished → Type 0) → Type 0
+FreshApc P = (o : Opener) (d : List ℕ) → those is_text d ≡ [] → P (InApc o d)
+
+-- whatever is kept of it
+abbrev pub AnyApc : (Unfinished → Type 0) → Type 0
+AnyApc P = (o : Opener) (d : List ℕ) → P (InApc o d)
+
+-- ---- dcs entry, param and intermediate: the header
+
+abbrev pub KeepingDcs : {K A : Type 0} → Keeper K → Option ℕ → Changed (Machine K A)
+    → (Unfinished → Type 0)
+    → Type 0
+KeepingDcs K limit self P =
+    (o : Opener) (x : List ℕ) → K.keeps limit self.entry.now.text (parameters_of (strip x))
+    → KeepsDcs self.entry.now.header (strip x)
+    → P (InDcs o x)
+
+-- a header within a store and a `DcsHeader`
+abbrev pub KeepingHeader : {K : Type 0} → Keeper K → K → DcsHeader → (Option ℕ → List ℕ → Type 0)
+    → Type 0
+KeepingHeader K parameters header P =
+    (limit : Option ℕ) (x : List ℕ) → K.keeps limit parameters (parameters_of x)
+    → KeepsDcs header x
+    → P limit x
+
+-- ---- dcs passthrough: after a header that was hooked
+
+abbrev pub InPassthrough : (Option ℕ → Unfinished → Type 0) → Type 0
+InPassthrough P =
+    (limit : Option ℕ) (o : Opener) (x : List ℕ) (f : ℕ) (d : List ℕ)
+    → is_read limit (strip x) ≡ true
+    → P limit (InData o x f d)
+
+-- ---- dcs ignore: after a header that was not
+
+abbrev pub InDcsIgnore : (Option ℕ → Unfinished → Type 0) → Type 0
+InDcsIgnore P =
+    (limit : Option ℕ) (o : Opener) (x : List ℕ) (f : ℕ) (d : List ℕ)
+    → is_read limit (strip x) ≡ false
+    → P limit (InData o x f d)
+
+-- ---- sos and pm strings, of which nothing is kept
+
+abbrev pub InIgnoredString : (Option ℕ → Unfinished → Type 0) → Type 0
+InIgnoredString P =
+    (limit : Option ℕ) (k : Kind) (o : Opener) (d : List ℕ) → P limit (InIgnored k o d)

@@ -1,0 +1,62 @@
+-- What a call does, said of a store and an actor (`K.Store`, `V.VTActor`), and of the machine and
+-- the actor before the call and after it (`self`, `actor`). Only private contracts cite it.
+use Rattle.std.specs.Prelude.{ℕ, Bool, List, Option, Result}
+use Rattle.esc_frame.specs.declared.actor.VTActor.{Ghosts as Actor}
+use Rattle.esc_frame.specs.declared.machine.Machine.{Machine}
+use Rattle.esc_frame.specs.declared.store.Store.{Ghosts as Keeper}
+use Rattle.esc_frame.specs.Changed.{Changed}
+use Rattle.esc_frame.specs.Events.{Event, Hears, Takes}
+use Rattle.esc_frame.specs.Leads.{Unfinished}
+use Rattle.esc_frame.specs.Machine.Calls as calls
+use Rattle.esc_frame.specs.Machine.Moves.{Move}
+
+-- the actor was given this event, or refused it where the result is an error
+abbrev pub EmitsOne : {S E : Type 0} → Actor S → Result (Unit {0}) E → Event → Changed S → Type 0
+EmitsOne V result event actor =
+    Hears V.takes V.refuses result actor.entry.now event actor.exit.now
+
+-- these events, or a prefix of them after an error, which is the actor's unless `own` holds
+abbrev pub Emits : {S E : Type 0} → Actor S → Type 0 → Result (Unit {0}) E → List Event → Changed S
+    → Type 0
+Emits V own result events actor =
+    Takes own V.takes V.refuses result actor.entry.now events actor.exit.now
+
+-- one move: what is unfinished then is kept, and the events are emitted
+abbrev pub Makes : {K A S E : Type 0} → Keeper K → Actor S → Option ℕ → Bool
+    → Result (Unit {0}) E → Move → Changed (Machine K A) → Changed S
+    → Type 0
+Makes K V limit own result move self actor =
+    calls.Moved K.keeps K.denied limit own V.takes V.refuses result move self.exit.now
+    actor.entry.now actor.exit.now
+
+-- the same under any limit, whoever may stop it
+abbrev pub AlwaysMakes : {K A S E : Type 0} → Keeper K → Actor S
+    → Result (Unit {0}) E → Move → Changed (Machine K A) → Changed S
+    → Type 0
+AlwaysMakes K V result move self actor =
+    (limit : Option ℕ) (own : Bool) → Makes K V limit own result move self actor
+
+-- the moves of the first n bytes of the rest, n being the result, where u was unfinished before
+abbrev pub Consumes : {K A S E : Type 0} → Keeper K → Actor S → Option ℕ
+    → Result ℕ E → Unfinished → List ℕ → Changed (Machine K A) → Changed S
+    → Type 0
+Consumes K V limit result u rest self actor =
+    calls.Took K.keeps K.denied limit V.takes V.refuses result u rest self.exit.now
+    actor.entry.now actor.exit.now
+
+-- the same in ground, of one byte at least, none of which but the last emits an event
+abbrev pub ConsumesSome : {K A S E : Type 0} → Keeper K → Actor S → Option ℕ
+    → Result ℕ E → List ℕ → Changed (Machine K A) → Changed S
+    → Type 0
+ConsumesSome K V limit result rest self actor =
+    calls.TookSome K.keeps K.denied limit V.takes V.refuses V.is_ready result rest self.exit.now
+    actor.entry.now actor.exit.now
+
+-- bytes that leave nothing unfinished in ground: their events are emitted
+abbrev pub StaysInGround : {S E : Type 0} → Actor S → Result ℕ E → List ℕ → Changed S → Type 0
+StaysInGround V result rest actor =
+    calls.Stays V.takes V.refuses V.is_ready result rest actor.entry.now actor.exit.now
+
+-- one byte at least was consumed, and no more than there are, and the actor is ready
+abbrev pub Advances : {S E : Type 0} → Actor S → Result ℕ E → List ℕ → Changed S → Type 0
+Advances V result rest actor = calls.Advances V.is_ready result rest actor.exit.now

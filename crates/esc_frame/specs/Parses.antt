@@ -1,0 +1,101 @@
+-- What a call of a parser promises. Here b are the bytes of the call, s is a stream that the parser
+-- may have been fed before, and `self` and `actor` are each the value before the call and after it.
+use Rattle.std.specs.Prelude.{ℕ, ◌≡◌, ◌<◌, ◌≤◌, List, [], ◌∷◌, ◌++◌, take, length, min, slice_index, Option, Result, Err, OnOk, OnErr, IfOk, IfErr}
+use Rattle.std.specs.List.{FoldsTo}
+use Rattle.memory.specs.Refusals.{Refused}
+use Rattle.esc_frame.specs.declared.actor.VTActor.{Ghosts as Actor}
+use Rattle.esc_frame.specs.declared.error.ParseError.{ParseError}
+use Rattle.esc_frame.specs.declared.error.ParseError.TheVariants.{Memory, Failed}
+use Rattle.esc_frame.specs.declared.parser.VTParser.{VTParser}
+use Rattle.esc_frame.specs.Changed.{Changed}
+use Rattle.esc_frame.specs.Counts.{kept_of_cut}
+use Rattle.esc_frame.specs.Events.{Event, StopsAt}
+use Rattle.esc_frame.specs.Limits.{most}
+use Rattle.esc_frame.specs.Memory.{MayGrow}
+use Rattle.esc_frame.specs.Segments.{Segment, IsCut}
+use Rattle.esc_frame.specs.Stream.{LeadsToWithin, HasFailed, added_within, IsAtGround, IsQuietWithin}
+
+-- this holds of each stream that the parser may have been fed, under its limit
+abbrev pub After : {A : Type 0} → VTParser A → (Option ℕ → List ℕ → Type 0) → Type 0
+After p P = (limit : Option ℕ) (s : List ℕ) → LeadsToWithin limit s p → P limit s
+
+-- the same where no segment is unfinished
+abbrev pub AfterGround : {A : Type 0} → VTParser A → (Option ℕ → List ℕ → Type 0) → Type 0
+AfterGround p P = After p (λ limit s. IsAtGround s → P limit s)
+
+-- this holds of the first byte, where there is one
+abbrev pub FirstByte : List ℕ → (ℕ → Type 0) → Type 0
+FirstByte b P = 0 < length b → P (slice_index b 0)
+
+-- b then counts as fed, and adds this event alone
+abbrev pub AddsOne : {A : Type 0} → Option ℕ → List ℕ → List ℕ → Event → VTParser A → Type 0
+AddsOne limit s b event p =
+    LeadsToWithin limit (s ++ b) p × (added_within limit s b ≡ event ∷ [])
+
+-- b then counts as fed, and the actor was given the events that it adds
+abbrev pub Feeds : {A S : Type 0} → Actor S → Option ℕ → List ℕ → List ℕ
+    → Changed (VTParser A) → Changed S
+    → Type 0
+Feeds V limit s b self actor =
+    LeadsToWithin limit (s ++ b) self.exit.now
+    × FoldsTo V.takes actor.entry.now (added_within limit s b) actor.exit.now
+
+-- this is so of all of b, but for an error
+abbrev pub Parses : {A S T : Type 0} → Actor S → Result T ParseError → List ℕ
+    → Changed (VTParser A) → Changed S
+    → Option ℕ → List ℕ
+    → Type 0
+Parses V result b self actor limit s = OnOk result (Feeds V limit s b self actor)
+
+-- This is so of the first n bytes of b, n being the result, but for an error; and all but the last
+-- of them add no event and leave a segment unfinished.
+abbrev pub ParsesSome : {A S : Type 0} → Actor S → Result ℕ ParseError → List ℕ
+    → Changed (VTParser A) → Changed S
+    → Option ℕ → List ℕ
+    → Type 0
+ParsesSome V result b self actor limit s =
+    IfOk result (λ n. Feeds V limit s (take n b) self actor × IsQuietWithin limit s b n)
+
+-- An error is `Memory`: of what b adds the actor was given a prefix, and refused the next event,
+-- or the parser stopped by itself, which it does only for this reason.
+abbrev pub StopsFor : {S T : Type 0} → Type 0 → Actor S → Result T ParseError → List ℕ
+    → Changed S → Option ℕ → List ℕ
+    → Type 0
+StopsFor reason V result b actor limit s =
+    IfErr result (λ e. (e ≡ Memory)
+    × StopsAt reason V.takes V.refuses actor.entry.now (added_within limit s b) actor.exit.now)
+
+-- the reason is that the allocator A refused memory, for a string that begins before the end of b
+abbrev pub IsRefused : {S T : Type 0} → Type 0 → Actor S → Result T ParseError → List ℕ
+    → Changed S → Option ℕ → List ℕ
+    → Type 0
+IsRefused A V result b actor limit s =
+    StopsFor (MayGrow (s ++ b) × Refused A) V result b actor limit s
+
+-- there is no such reason: the actor refused
+abbrev pub IsRefusedByActor : {S T : Type 0} → Actor S → Result T ParseError → List ℕ
+    → Changed S → Option ℕ → List ℕ
+    → Type 0
+IsRefusedByActor V result b actor limit s = StopsFor ⊥ V result b actor limit s
+
+-- a byte at least is taken, where there is one, and no more than there are
+pub record TakesSome {S : Type 0} (result : Result ℕ ParseError) (b : List ℕ)
+    (actor : Changed S) : Type 0 where
+  pub count : IfOk result (λ n. (n ≤ length b) × (0 < length b → 0 < n))
+  -- and where there is none, the actor is as it was
+  pub empty : length b ≡ 0 → actor.exit.now ≡ actor.entry.now
+
+-- what a call leaves
+pub record Leaves {A S T : Type 0} (V : Actor S) (result : Result T ParseError)
+    (self : Changed (VTParser A)) (actor : Changed S) : Type 0 where
+  -- an error is for good
+  pub ends : OnErr result (HasFailed self.exit.now)
+  -- after it a call returns `Failed`, and leaves the actor as it was
+  pub failed : HasFailed self.entry.now
+      → (result ≡ Err Failed) × (actor.exit.now ≡ actor.entry.now)
+  -- after any other call the actor is ready for the next
+  pub ready : OnOk result (V.is_ready actor.exit.now)
+
+-- the count of what is kept of the last segment, up to the greatest that a `usize` holds
+abbrev pub IsKeptOf : ℕ → Option ℕ → List ℕ → Type 0
+IsKeptOf n limit s = (gs : List Segment) → IsCut s gs → n ≡ min (kept_of_cut limit gs) most
