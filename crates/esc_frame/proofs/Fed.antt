@@ -12,13 +12,14 @@ use Rattle.esc_frame.specs.Events.Event.{Execute, Print}
 use Rattle.esc_frame.specs.Leads.{Holds}
 use Rattle.esc_frame.specs.Leads.Unfinished.{Ground}
 use Rattle.esc_frame.specs.Memory.{MayGrow}
-use Rattle.esc_frame.specs.Machine.Calls.{NoMemory, TellsOne}
+use Rattle.esc_frame.specs.Machine.Calls.{TellsOne, Fails}
 use Rattle.esc_frame.specs.Machine.Keeps.{KeepsText}
 use Rattle.esc_frame.specs.Machine.Moves.{IsStill, after_by, news_by, after_all, news_all, may_grow_in, move}
 use Rattle.esc_frame.specs.Machine.Moves.{reaches_growing, lends, is_lendable, may_grow_within}
 use Rattle.esc_frame.specs.Stream.{IsQuietWithin, LeadsToWithin, added_within}
 use Rattle.esc_frame.proofs.Given.{stops_for}
 use Rattle.memory.specs.Refusals.{Refused}
+use Rattle.memory.specs.Refusals.References.{by_reference}
 use Rattle.esc_frame.proofs.Memory.{grows_added}
 use Rattle.esc_frame.proofs.SameMoves.{after_same}
 use Rattle.esc_frame.proofs.Still.{quiet_all}
@@ -35,27 +36,29 @@ pub given_all : {S : Type 0} (l limit : Option ℕ) → l ≡ limit → (takes :
 given_all l limit i takes s b old new h = subst (λ es. FoldsTo takes old es new) (sym (added_is l s b) ∙ ap (λ k. added_within k s b) i) h
 
 -- the word of the allocator, of which the store's is one too
-asked : (A : Type 0) → NoMemory (Refused A) A → Refused A
-asked A (inl r) = r
-asked A (inr r) = r
+asked : (A : Type 0) (limit : Option ℕ) → Fails (λ _. Refused A) (λ w _. w) A limit → Refused A
+asked A limit (inl r) = r
+asked A limit (inr (t, w, r)) = by_reference A r
 
 refused_by : {S : Type 0} (A : Type 0) (l limit : Option ℕ) → l ≡ limit
     → (takes refuses : S → Event → S → Type 0)
     (s b : List ℕ) (old new : S) (own : Type 0)
     → (own → reaches_growing (after_all Ground s) b ≡ true)
-    → StopsAt (own × NoMemory (Refused A) A) takes refuses old
+    → StopsAt (own × Fails (λ _. Refused A) (λ w _. w) A l) takes refuses old
     (news_all l (after_all Ground s) b) new
     → StopsAt (MayGrow (s ++ b) × Refused A) takes refuses old (added_within limit s b) new
 refused_by A l limit i takes refuses s b old new own w h =
     subst (λ es. StopsAt (MayGrow (s ++ b) × Refused A) takes refuses old es new)
     (sym (added_is l s b) ∙ ap (λ k. added_within k s b) i)
-    (stops_for (own × NoMemory (Refused A) A) (MayGrow (s ++ b) × Refused A) takes refuses
-    (news_all l (after_all Ground s) b) old new (λ o. (grows_added s b (w o.0), asked A o.1)) h)
+    (stops_for (own × Fails (λ _. Refused A) (λ w _. w) A l)
+    (MayGrow (s ++ b) × Refused A) takes refuses
+    (news_all l (after_all Ground s) b) old new (λ o. (grows_added s b (w o.0), asked A l o.1)) h)
 
 pub refused_all : {S : Type 0} (A : Type 0) (l limit : Option ℕ) → l ≡ limit
     → (takes refuses : S → Event → S → Type 0)
     (s b : List ℕ) (old new : S)
-    → StopsAt ((may_grow_within (after_all Ground s) b ≡ true) × NoMemory (Refused A) A)
+    → StopsAt ((may_grow_within (after_all Ground s) b ≡ true)
+    × Fails (λ _. Refused A) (λ w _. w) A l)
     takes refuses old
     (news_all l (after_all Ground s) b) new
     → StopsAt (MayGrow (s ++ b) × Refused A) takes refuses old (added_within limit s b) new
@@ -105,7 +108,8 @@ given_one l limit i takes s b c old new e h =
 pub refused_one : {S : Type 0} (A : Type 0) (l limit : Option ℕ) → l ≡ limit
     → (takes refuses : S → Event → S → Type 0)
     (s : List ℕ) (b : ℕ) (c : Class) (old new : S) → c ≡ class_of b
-    → StopsAt ((may_grow_in (after_all Ground s) ≡ true) × NoMemory (Refused A) A) takes refuses old
+    → StopsAt ((may_grow_in (after_all Ground s) ≡ true) × Fails (λ _. Refused A) (λ w _. w) A l)
+    takes refuses old
     (news_by l (after_all Ground s) b c) new
     → StopsAt (MayGrow (s ++ b ∷ []) × Refused A) takes refuses old
     (added_within limit s (b ∷ [])) new
@@ -113,7 +117,7 @@ refused_one A l limit i takes refuses s b c old new e h =
     let u = after_all Ground s in
     refused_by A l limit i takes refuses s (b ∷ []) old new (may_grow_in u ≡ true)
     (or_no (may_grow_in u))
-    (subst (λ es. StopsAt ((may_grow_in u ≡ true) × NoMemory (Refused A) A)
+    (subst (λ es. StopsAt ((may_grow_in u ≡ true) × Fails (λ _. Refused A) (λ w _. w) A l)
     takes refuses old es new)
     (ap (news_by l u b) e ∙ sym (append-nil (news_by l u b (class_of b)))) h)
 

@@ -12,7 +12,7 @@ use Rattle.esc_frame.specs.Machine.Calls.{Moved}
 use Rattle.esc_frame.specs.Machine.Moves.{telling, leaving, begins, ground_move, goes_on, inside}
 use Rattle.esc_frame.proofs.Given.{hears_moved}
 
-module _ {K A S E : Type 0} (keeps : Option ℕ → K → List ℕ → Type 0) (denied : Type 0)
+module _ {K A S E : Type 0} (keeps : Option ℕ → K → List ℕ → Type 0) (denied : Option ℕ → Type 0)
     (limit : Option ℕ) (own : Bool) (takes refuses : S → Event → S → Type 0)
     (result : Result (Unit {0}) E) (u : Unfinished) (b : ℕ) (class : Class) (m : Machine K A) (old new : S) (so : is_breaker class ≡ true) where
   -- after what the string tells
@@ -44,7 +44,7 @@ control_move b Cancel h = refl
 control_move b RawControl h = refl
 control_move b _ h = absurd cc
 
-module _ {K A S E : Type 0} (keeps : Option ℕ → K → List ℕ → Type 0) (denied : Type 0)
+module _ {K A S E : Type 0} (keeps : Option ℕ → K → List ℕ → Type 0) (denied : Option ℕ → Type 0)
     (limit : Option ℕ) (own : Bool) (takes refuses : S → Event → S → Type 0)
     (result : Result (Unit {0}) E) (b : ℕ) (class : Class) (m : Machine K A) (old new : S) (so : Holds keeps limit m Ground) where
   pub text_moved : is_text class ≡ true → Hears takes refuses result old (Print b) new

@@ -10,7 +10,7 @@ use Rattle.esc_frame.specs.declared.machine.State.TheVariants as state
 use Rattle.esc_frame.specs.Classes.{class_of, strip, those, is_text, is_noise, is_breaker, in_body, in_csi, in_osc}
 use Rattle.esc_frame.specs.Events.{Event}
 use Rattle.esc_frame.specs.Leads.Unfinished.{InOsc, InApc, InDcs}
-use Rattle.esc_frame.specs.Machine.Calls.{Moved}
+use Rattle.esc_frame.specs.Machine.Calls.{Moved, Fails}
 use Rattle.esc_frame.specs.Machine.Fronts.{front_of}
 use Rattle.esc_frame.specs.Machine.Keeps.{KeepsDcs, parameters_of}
 use Rattle.esc_frame.specs.Machine.Moves.{inside, goes_on}
@@ -53,18 +53,20 @@ body_goes Intermediate h = (refl, refl)
 body_goes Parameter h = (refl, refl)
 body_goes _ h = absurd cc
 
-module _ {K A S E : Type 0} (keeps : Option ℕ → K → List ℕ → Type 0) (denied : Type 0)
+module _ {K A S E : Type 0} (keeps : Option ℕ → K → List ℕ → Type 0) (denied : Option ℕ → Type 0)
+    (stops : Type 0 → List ℕ → Type 0)
     (limit : Option ℕ)
     (takes refuses : S → Event → S → Type 0) (result : Result (Unit {0}) E)
-    (refused : OnErr result denied)
+    (refused : OnErr result (denied limit))
     (m : Machine K A) (o : Opener) (b : ℕ) (c : Class) (old : S) (e : c ≡ class_of b) where
   pub osc_pushed : (ps : List Piece) → is_text c ≡ true → m.state ≡ state.Osc → front_of m.pending ≡ []
       → OnOk result (keeps limit m.text (text_of ps ++ b ∷ []))
-      → Moved keeps denied limit true takes refuses result (inside limit (InOsc o ps) b c) m old old
+      → Moved keeps (Fails denied stops A) limit true takes refuses result
+      (inside limit (InOsc o ps) b c) m old old
   osc_pushed ps h s p k = by_result result k refused
     where
       by_result : (r : Result (Unit {0}) E) → OnOk r (keeps limit m.text (text_of ps ++ b ∷ []))
-          → OnErr r denied → Moved keeps denied limit true takes refuses r
+          → OnErr r (denied limit) → Moved keeps (Fails denied stops A) limit true takes refuses r
           (inside limit (InOsc o ps) b c) m old old
       by_result (Ok v) k f =
           let t = text_goes c h in rw (t.0, t.1, inside, goes_on)
@@ -74,11 +76,12 @@ module _ {K A S E : Type 0} (keeps : Option ℕ → K → List ℕ → Type 0) (
           ([], [], refl, inl ((refl, inl f), refl))
 
   pub apc_pushed : (d : List ℕ) → is_text c ≡ true → m.state ≡ state.Apc → OnOk result (keeps limit m.text (those is_text d ++ b ∷ []))
-      → Moved keeps denied limit true takes refuses result (inside limit (InApc o d) b c) m old old
+      → Moved keeps (Fails denied stops A) limit true takes refuses result
+      (inside limit (InApc o d) b c) m old old
   apc_pushed d h s k = by_result result k refused
     where
       by_result : (r : Result (Unit {0}) E) → OnOk r (keeps limit m.text (those is_text d ++ b ∷ []))
-          → OnErr r denied → Moved keeps denied limit true takes refuses r
+          → OnErr r (denied limit) → Moved keeps (Fails denied stops A) limit true takes refuses r
           (inside limit (InApc o d) b c) m old old
       by_result (Ok v) k f =
           let t = text_goes c h in rw (t.0, inside, goes_on)
@@ -89,11 +92,12 @@ module _ {K A S E : Type 0} (keeps : Option ℕ → K → List ℕ → Type 0) (
 
   pub dcs_pushed : (x : List ℕ) → in_body c ≡ true → m.state ≡ state.Dcs → KeepsDcs m.header (strip x ++ b ∷ [])
       → OnOk result (keeps limit m.text (parameters_of (strip x ++ b ∷ [])))
-      → Moved keeps denied limit true takes refuses result (inside limit (InDcs o x) b c) m old old
+      → Moved keeps (Fails denied stops A) limit true takes refuses result
+      (inside limit (InDcs o x) b c) m old old
   dcs_pushed x h s d k = by_result result k refused
     where
       by_result : (r : Result (Unit {0}) E) → OnOk r (keeps limit m.text (parameters_of (strip x ++ b ∷ [])))
-          → OnErr r denied → Moved keeps denied limit true takes refuses r
+          → OnErr r (denied limit) → Moved keeps (Fails denied stops A) limit true takes refuses r
           (inside limit (InDcs o x) b c) m old old
       by_result (Ok v) k f =
           let t = body_goes c h in

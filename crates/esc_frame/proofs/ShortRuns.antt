@@ -87,7 +87,8 @@ module _ (limit : Option ℕ) (rest : List ℕ) (run : ℕ) (items : List CsiPar
       (subst (λ y. list_all is_body_byte (take run y) ≡ true) (sym (tail_is rest 2)) read.body)))
 
 -- what such a call says of the machine in ground
-pub stays_took : {K A S E : Type 0} (keeps : Option ℕ → K → List ℕ → Type 0) (denied : Type 0)
+pub stays_took : {K A S E : Type 0} (keeps : Option ℕ → K → List ℕ → Type 0)
+    (denied : Option ℕ → Type 0)
     (limit : Option ℕ)
     (takes refuses : S → Event → S → Type 0) (is_ready : S → Type 0) (result : Result ℕ E)
     (rest : List ℕ)

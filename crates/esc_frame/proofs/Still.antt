@@ -207,7 +207,8 @@ module _ (limit : Option ℕ) (u : Unfinished) (rest : List ℕ) (l : 2 < length
     opened_first : StaysFresh Ground rest 2
     opened_first = fresh_by Ground u rest 2 begin.0 (f (drop 2 rest))
 
-    pub opened_took : {K A : Type 0} (keeps : Option ℕ → K → List ℕ → Type 0) (denied : Type 0)
+    pub opened_took : {K A : Type 0} (keeps : Option ℕ → K → List ℕ → Type 0)
+        (denied : Option ℕ → Type 0)
         (machine : Machine K A) (n : ℕ)
         → Holds keeps limit machine (after_all u (take n (take (length rest - 2) (drop 2 rest)))) × FoldsTo takes old
         (news_all limit u (take n (take (length rest - 2) (drop 2 rest)))) new × StaysFresh u (take (length rest - 2) (drop 2 rest)) n

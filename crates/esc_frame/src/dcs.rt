@@ -6,25 +6,25 @@ ghost use Rattle.esc_frame.specs.Classes.{class_of};
 ghost use Rattle.esc_frame.specs.Events.{Takes};
 ghost use Rattle.esc_frame.specs.Events.Event.{DcsUnhook};
 ghost use Rattle.esc_frame.specs.Limits.{is_read};
+ghost use Rattle.esc_frame.specs.Machine.Calls.{Stops};
 ghost use Rattle.esc_frame.specs.Machine.Keeping.{Holding, KeepingDcs, KeepingHeader, InPassthrough};
 ghost use Rattle.esc_frame.specs.Machine.Makes.{Emits, Makes, Consumes, Advances};
 ghost use Rattle.esc_frame.specs.Machine.Keeps.{KeepsDcs, parameters_of};
-ghost use Rattle.esc_frame.specs.Machine.Moves.{telling, ground_move};
+ghost use Rattle.esc_frame.specs.Machine.Moves.{telling, ground_move, move};
 ghost use Rattle.esc_frame.specs.Segments.{hook_event};
-ghost use Rattle.memory.specs.Refusals.{Refused};
 
-use crate::actor::VTActor;
 use crate::classes::Class;
 use crate::header::{DcsHeader, is_parameter};
 use crate::machine::{Machine, Result, State};
 use crate::scans::data_run;
 use crate::store::Store;
+use crate::taker::Taker;
 use std::alloc::Allocator;
 
 impl<K: Store, A: Allocator> Machine<K, A> {
     /// A byte after a DCS's opener and x.
     #[tactic(auto, using(crate::proofs::Given::takes_moved))]
-    pub fn in_dcs<V: VTActor>(
+    pub fn in_dcs<V: Taker>(
         &mut self,
         limit: Option<usize>,
         b: u8,
@@ -33,7 +33,7 @@ impl<K: Store, A: Allocator> Machine<K, A> {
     ) -> Result<()>
         requires { V.is_ready actor.old }
         ensures moved { class ≡ class_of b → KeepingDcs K.Store limit self (λ u.
-            Makes K.Store V.VTActor limit true result (move limit u b class) self actor) }
+            Makes K.Store V.Taker limit true result (move limit u b class) self actor) }
         ensures ready { OnOk result (V.is_ready actor.new) }
     {
         self.state = State::Dcs;
@@ -64,10 +64,10 @@ impl<K: Store, A: Allocator> Machine<K, A> {
 
     /// A byte of a DCS's data, whose header has its form.
     #[tactic(auto, using(crate::proofs::Given::hears_moved))]
-    pub fn in_data<V: VTActor>(&mut self, b: u8, class: Class, actor: &mut V) -> Result<()>
+    pub fn in_data<V: Taker>(&mut self, b: u8, class: Class, actor: &mut V) -> Result<()>
         requires { V.is_ready actor.old }
         ensures moved { InPassthrough (λ limit u.
-            Makes K.Store V.VTActor limit true result (move limit u b class) self actor) }
+            Makes K.Store V.Taker limit true result (move limit u b class) self actor) }
         ensures ready { OnOk result (V.is_ready actor.new) }
     {
         self.state = State::Data;
@@ -90,10 +90,10 @@ impl<K: Store, A: Allocator> Machine<K, A> {
     }
 
     // A breaker after a DCS's data.
-    fn leave_data<V: VTActor>(&mut self, b: u8, class: Class, actor: &mut V) -> Result<()>
+    fn leave_data<V: Taker>(&mut self, b: u8, class: Class, actor: &mut V) -> Result<()>
         requires { V.is_ready actor.old }
         ensures moved { (limit : Option ℕ)
-            → Makes K.Store V.VTActor limit true result
+            → Makes K.Store V.Taker limit true result
             (telling (DcsUnhook ∷ []) (ground_move b class)) self actor }
         ensures ready { OnOk result (V.is_ready actor.new) }
     {
@@ -105,7 +105,7 @@ impl<K: Store, A: Allocator> Machine<K, A> {
 
     /// The run of 20-7E in the data of a device control string.
     #[inline(always)]
-    pub fn take_in_data<V: VTActor>(
+    pub fn take_in_data<V: Taker>(
         &mut self,
         limit: Option<usize>,
         rest: &[u8],
@@ -115,8 +115,8 @@ impl<K: Store, A: Allocator> Machine<K, A> {
         requires ready { V.is_ready actor.old }
         requires state { self.old.state ≡ State.Data }
         ensures took { Holding K.Store limit self (λ u.
-            Consumes K.Store V.VTActor limit result u rest.now self actor) }
-        ensures count { Advances V.VTActor result rest.now actor }
+            Consumes K.Store V.Taker limit result u rest.now self actor) }
+        ensures count { Advances V.Taker result rest.now actor }
     {
         let run = data_run(rest);
         if run == 0 {
@@ -139,7 +139,7 @@ fn keep<K: Store>(
     ensures parameters { (x : List ℕ) → K.keeps limit parameters.old (parameters_of x)
         → OnOk result (K.keeps limit parameters.new (parameters_of (x ++ b ∷ []))) }
     ensures header { (x : List ℕ) → KeepsDcs header.old x → KeepsDcs header.new (x ++ b ∷ []) }
-    ensures refused { OnErr result K.denied }
+    ensures refused { OnErr result (K.denied limit) }
 {
     header.push(b);
     if is_parameter(b) {
@@ -158,7 +158,7 @@ fn is_read<K: Store>(header: &DcsHeader, parameters: &K) -> bool
 }
 
 // The hook of a header that is read, told.
-fn hook<K: Store, A: Allocator, V: VTActor>(
+fn hook<K: Store, A: Allocator, V: Taker>(
     header: &DcsHeader,
     parameters: &K,
     alloc: &A,
@@ -167,7 +167,7 @@ fn hook<K: Store, A: Allocator, V: VTActor>(
 ) -> Result<()>
     requires { V.is_ready actor.old }
     ensures told { KeepingHeader K.Store parameters.now header.now (λ limit x.
-        is_read limit x ≡ true → Emits V.VTActor (Refused A) result (hook_event x b ∷ []) actor) }
+        is_read limit x ≡ true → Emits V.Taker (Stops V.stops A limit) result (hook_event x b ∷ []) actor) }
     ensures ready { OnOk result (V.is_ready actor.new) }
 {
     let kept = &header.intermediates;

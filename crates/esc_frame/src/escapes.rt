@@ -13,24 +13,25 @@ ghost use Rattle.esc_frame.specs.Machine.Makes.{Emits, EmitsOne, Makes, Consumes
 ghost use Rattle.esc_frame.specs.Machine.Keeps.{KeepsBody};
 ghost use Rattle.esc_frame.specs.Machine.Shorts.{IsShort};
 ghost use Rattle.esc_frame.specs.Scans.{is_body_byte};
+ghost use Rattle.esc_frame.specs.Machine.Moves.{move};
 ghost use Rattle.esc_frame.specs.Segments.{csi_events, csi_event};
 ghost use Rattle.esc_frame.specs.Sequences.{is_from};
 
-use crate::actor::VTActor;
 use crate::body::CsiBody;
 use crate::classes::{Class, Kind, classify};
 use crate::machine::{Machine, Result, State};
 use crate::sequence::{Pending, lies_from};
 use crate::store::Store;
+use crate::taker::Taker;
 use std::alloc::Allocator;
 
 impl<K: Store, A: Allocator> Machine<K, A> {
     /// A byte after ESC x.
     #[tactic(auto, using(crate::proofs::Given::hears_moved))]
-    pub fn in_escape<V: VTActor>(&mut self, b: u8, class: Class, actor: &mut V) -> Result<()>
+    pub fn in_escape<V: Taker>(&mut self, b: u8, class: Class, actor: &mut V) -> Result<()>
         requires { V.is_ready actor.old }
         ensures moved { class ≡ class_of b → KeepingEscape self (λ limit own u.
-            Makes K.Store V.VTActor limit own result (move limit u b class) self actor) }
+            Makes K.Store V.Taker limit own result (move limit u b class) self actor) }
         ensures ready { OnOk result (V.is_ready actor.new) }
     {
         self.state = State::Escape;
@@ -60,7 +61,7 @@ impl<K: Store, A: Allocator> Machine<K, A> {
 
     /// The `\` after an ESC that ended a string; else nothing.
     #[inline(always)]
-    pub fn take_terminator<V: VTActor>(
+    pub fn take_terminator<V: Taker>(
         &mut self,
         limit: Option<usize>,
         rest: &[u8],
@@ -68,7 +69,7 @@ impl<K: Store, A: Allocator> Machine<K, A> {
     ) -> Result<usize>
         requires { V.is_ready actor.old }
         ensures took { Holding K.Store limit self (λ u.
-            Consumes K.Store V.VTActor limit result u rest.now self actor) }
+            Consumes K.Store V.Taker limit result u rest.now self actor) }
         ensures count { IfOk result (λ n. (n ≤ length rest.now) × V.is_ready actor.new) }
     {
         if rest.is_empty() || rest[0] != b'\\' {
@@ -83,7 +84,7 @@ impl<K: Store, A: Allocator> Machine<K, A> {
 
     /// A byte in an escape sequence.
     #[inline(always)]
-    pub fn take_in_escape<V: VTActor>(
+    pub fn take_in_escape<V: Taker>(
         &mut self,
         limit: Option<usize>,
         rest: &[u8],
@@ -93,9 +94,9 @@ impl<K: Store, A: Allocator> Machine<K, A> {
         requires ready { V.is_ready actor.old }
         requires state { self.old.state ≡ State.Escape }
         ensures took { Holding K.Store limit self (λ u.
-            Consumes K.Store V.VTActor limit result u rest.now self actor) }
+            Consumes K.Store V.Taker limit result u rest.now self actor) }
         ensures quiet { (u : Unfinished) → Quietly limit result u rest.now }
-        ensures count { Advances V.VTActor result rest.now actor }
+        ensures count { Advances V.Taker result rest.now actor }
     {
         match self.in_escape(rest[0], classify(rest[0]), actor) {
             Ok(()) => Ok(1),
@@ -104,10 +105,10 @@ impl<K: Store, A: Allocator> Machine<K, A> {
     }
 
     // The final byte of an escape sequence.
-    fn dispatch_escape<V: VTActor>(&mut self, b: u8, actor: &mut V) -> Result<()>
+    fn dispatch_escape<V: Taker>(&mut self, b: u8, actor: &mut V) -> Result<()>
         requires { V.is_ready actor.old }
         ensures holds { Holds K.keeps None self.new Ground }
-        ensures told { EmitsOne V.VTActor result
+        ensures told { EmitsOne V.Taker result
             (EscDispatch (take self.old.intermediates.kept self.old.intermediates.bytes)
             self.old.intermediates.ignored b) actor }
         ensures ready { OnOk result (V.is_ready actor.new) }
@@ -124,10 +125,10 @@ impl<K: Store, A: Allocator> Machine<K, A> {
 
     /// A byte after a CSI's opener and x.
     #[tactic(auto, using(crate::proofs::Given::hears_moved))]
-    pub fn in_csi<V: VTActor>(&mut self, b: u8, class: Class, actor: &mut V) -> Result<()>
+    pub fn in_csi<V: Taker>(&mut self, b: u8, class: Class, actor: &mut V) -> Result<()>
         requires { V.is_ready actor.old }
         ensures moved { class ≡ class_of b → KeepingCsi self (λ limit u.
-            Makes K.Store V.VTActor limit false result (move limit u b class) self actor) }
+            Makes K.Store V.Taker limit false result (move limit u b class) self actor) }
         ensures ready { OnOk result (V.is_ready actor.new) }
     {
         self.state = State::Csi;
@@ -149,10 +150,10 @@ impl<K: Store, A: Allocator> Machine<K, A> {
 
     // The final byte of a CSI.
     #[tactic(auto, using(crate::proofs::Given::quiet_moved))]
-    fn dispatch_csi<V: VTActor>(&mut self, b: u8, actor: &mut V) -> Result<()>
+    fn dispatch_csi<V: Taker>(&mut self, b: u8, actor: &mut V) -> Result<()>
         requires { V.is_ready actor.old }
         ensures moved { (limit : Option ℕ) (x : List ℕ) → KeepsBody self.old.body x
-            → Makes K.Store V.VTActor limit false result (Ground, csi_events x b) self actor }
+            → Makes K.Store V.Taker limit false result (Ground, csi_events x b) self actor }
         ensures ready { OnOk result (V.is_ready actor.new) }
     {
         self.state = State::Ground;
@@ -166,7 +167,7 @@ impl<K: Store, A: Allocator> Machine<K, A> {
 
     /// ESC and at least two bytes more, in ground.
     #[inline(always)]
-    pub fn take_escape<V: VTActor>(
+    pub fn take_escape<V: Taker>(
         &mut self,
         limit: Option<usize>,
         rest: &[u8],
@@ -175,7 +176,7 @@ impl<K: Store, A: Allocator> Machine<K, A> {
         requires some { 2 < length rest.now }
         requires escape { slice_index rest.now 0 ≡ 0x1b }
         requires ready { V.is_ready actor.old }
-        ensures { ConsumesSome K.Store V.VTActor limit result rest.now self actor }
+        ensures { ConsumesSome K.Store V.Taker limit result rest.now self actor }
     {
         if rest[1] == b'[' {
             self.take_csi(rest, actor)
@@ -188,12 +189,12 @@ impl<K: Store, A: Allocator> Machine<K, A> {
 
     /// A control sequence that is short and stands whole at the start of the bytes; else nothing.
     #[inline(always)]
-    pub fn take_quick_csi<V: VTActor>(&mut self, rest: &[u8], actor: &mut V) -> Result<usize>
+    pub fn take_quick_csi<V: Taker>(&mut self, rest: &[u8], actor: &mut V) -> Result<usize>
         requires escape { slice_index rest.now 0 ≡ 0x1b }
         requires ready { V.is_ready actor.old }
         requires ground { Holds K.keeps None self.old Ground }
         ensures ground { IfOk result (λ n. Holds K.keeps None self.new Ground) }
-        ensures stays { StaysInGround V.VTActor result rest.now actor }
+        ensures stays { StaysInGround V.Taker result rest.now actor }
     {
         if rest.len() <= 2 {
             return Ok(0);
@@ -214,13 +215,13 @@ impl<K: Store, A: Allocator> Machine<K, A> {
 
     // A control sequence: at once, where it is short and stands whole in the bytes.
     #[inline(always)]
-    fn take_csi<V: VTActor>(&mut self, rest: &[u8], actor: &mut V) -> Result<usize>
+    fn take_csi<V: Taker>(&mut self, rest: &[u8], actor: &mut V) -> Result<usize>
         requires some { 2 < length rest.now }
         requires escape { slice_index rest.now 0 ≡ 0x1b }
         requires bracket { slice_index rest.now 1 ≡ 0x5b }
         requires ready { V.is_ready actor.old }
         ensures { (limit : Option ℕ)
-            → ConsumesSome K.Store V.VTActor limit result rest.now self actor }
+            → ConsumesSome K.Store V.Taker limit result rest.now self actor }
     {
         let run = self.short.read(&rest[2..]);
         if run == rest.len() - 2 {
@@ -237,12 +238,7 @@ impl<K: Store, A: Allocator> Machine<K, A> {
 
     // A control sequence whose entries were read.
     #[inline(always)]
-    fn take_short_csi<V: VTActor>(
-        &mut self,
-        rest: &[u8],
-        run: usize,
-        actor: &mut V,
-    ) -> Result<usize>
+    fn take_short_csi<V: Taker>(&mut self, rest: &[u8], run: usize, actor: &mut V) -> Result<usize>
         requires some { 2 < length rest.now }
         requires escape { slice_index rest.now 0 ≡ 0x1b }
         requires bracket { slice_index rest.now 1 ≡ 0x5b }
@@ -253,7 +249,7 @@ impl<K: Store, A: Allocator> Machine<K, A> {
         requires ground { Holds K.keeps None self.old Ground }
         requires ready { V.is_ready actor.old }
         ensures ground { IfOk result (λ n. Holds K.keeps None self.new Ground) }
-        ensures stays { StaysInGround V.VTActor result rest.now actor }
+        ensures stays { StaysInGround V.Taker result rest.now actor }
         ensures some { IfOk result (λ n. 0 < n) }
         ensures quiet { (limit : Option ℕ) → Quietly limit result Ground rest.now }
     {
@@ -264,13 +260,13 @@ impl<K: Store, A: Allocator> Machine<K, A> {
     }
 
     // A control sequence, up to its final byte or what else is not of its body.
-    fn take_long_csi<V: VTActor>(&mut self, rest: &[u8], actor: &mut V) -> Result<usize>
+    fn take_long_csi<V: Taker>(&mut self, rest: &[u8], actor: &mut V) -> Result<usize>
         requires some { 2 < length rest.now }
         requires escape { slice_index rest.now 0 ≡ 0x1b }
         requires bracket { slice_index rest.now 1 ≡ 0x5b }
         requires ready { V.is_ready actor.old }
         ensures { (limit : Option ℕ)
-            → ConsumesSome K.Store V.VTActor limit result rest.now self actor }
+            → ConsumesSome K.Store V.Taker limit result rest.now self actor }
     {
         self.open(Kind::Csi);
         match self.take_in_csi(&rest[2..], actor) {
@@ -281,14 +277,14 @@ impl<K: Store, A: Allocator> Machine<K, A> {
 
     /// The run of 20-3F in a control sequence, and the byte after it.
     #[inline(always)]
-    pub fn take_in_csi<V: VTActor>(&mut self, rest: &[u8], actor: &mut V) -> Result<usize>
+    pub fn take_in_csi<V: Taker>(&mut self, rest: &[u8], actor: &mut V) -> Result<usize>
         requires some { 0 < length rest.now }
         requires ready { V.is_ready actor.old }
         requires state { self.old.state ≡ State.Csi }
         ensures took { KeepingCsi self (λ limit u.
-            Consumes K.Store V.VTActor limit result u rest.now self actor) }
+            Consumes K.Store V.Taker limit result u rest.now self actor) }
         ensures quiet { AnyCsi (λ limit u. Quietly limit result u rest.now) }
-        ensures count { Advances V.VTActor result rest.now actor }
+        ensures count { Advances V.Taker result rest.now actor }
     {
         let run = push_run(&mut self.body, rest);
         self.take_after_body(rest, run, actor)
@@ -296,21 +292,16 @@ impl<K: Store, A: Allocator> Machine<K, A> {
 
     // The byte after a run in a control sequence that was kept.
     #[inline(always)]
-    fn take_after_body<V: VTActor>(
-        &mut self,
-        rest: &[u8],
-        run: usize,
-        actor: &mut V,
-    ) -> Result<usize>
+    fn take_after_body<V: Taker>(&mut self, rest: &[u8], run: usize, actor: &mut V) -> Result<usize>
         requires some { 0 < length rest.now }
         requires few { run ≤ length rest.now }
         requires passes { list_all is_body_byte (take run rest.now) ≡ true }
         requires ready { V.is_ready actor.old }
         requires state { self.old.state ≡ State.Csi }
         ensures took { KeepingCsiAnd (take run rest.now) self (λ limit u.
-            Consumes K.Store V.VTActor limit result u rest.now self actor) }
+            Consumes K.Store V.Taker limit result u rest.now self actor) }
         ensures quiet { AnyCsi (λ limit u. Quietly limit result u rest.now) }
-        ensures count { Advances V.VTActor result rest.now actor }
+        ensures count { Advances V.Taker result rest.now actor }
     {
         if run == rest.len() {
             return Ok(run);
@@ -323,10 +314,10 @@ impl<K: Store, A: Allocator> Machine<K, A> {
 
     // A byte of a control sequence, which most often is its final byte.
     #[inline(always)]
-    fn end_body<V: VTActor>(&mut self, b: u8, actor: &mut V) -> Result<()>
+    fn end_body<V: Taker>(&mut self, b: u8, actor: &mut V) -> Result<()>
         requires { V.is_ready actor.old }
         ensures moved { KeepingCsi self (λ limit u.
-            Makes K.Store V.VTActor limit false result (move limit u b (class_of b)) self actor) }
+            Makes K.Store V.Taker limit false result (move limit u b (class_of b)) self actor) }
         ensures ready { OnOk result (V.is_ready actor.new) }
     {
         if 0x40 <= b && b <= 0x7e {
@@ -339,10 +330,10 @@ impl<K: Store, A: Allocator> Machine<K, A> {
 
 // A control sequence whose body has its form, told.
 #[tactic(auto, using(crate::proofs::Given::hears_takes))]
-fn tell_csi<V: VTActor>(body: &mut CsiBody, b: u8, actor: &mut V) -> Result<()>
+fn tell_csi<V: Taker>(body: &mut CsiBody, b: u8, actor: &mut V) -> Result<()>
     requires { V.is_ready actor.old }
     ensures told { (x : List ℕ) → KeepsBody body.old x
-        → Emits V.VTActor ⊥ result (csi_event x b ∷ []) actor }
+        → Emits V.Taker ⊥ result (csi_event x b ∷ []) actor }
     ensures ready { OnOk result (V.is_ready actor.new) }
 {
     body.finish();

@@ -10,21 +10,21 @@ ghost use Rattle.esc_frame.specs.Machine.Moves.{telling, ground_move, pair_move,
 ghost use Rattle.esc_frame.specs.Events.Event.{Print};
 ghost use Rattle.esc_frame.specs.Sequences.{outcome, is_sequence};
 
-use crate::actor::VTActor;
 use crate::classes::{Class, classify};
 use crate::intermediates::Intermediates;
 use crate::machine::{Machine, Result, State};
 use crate::printing::{execute_one, print_first, print_one};
 use crate::sequence::{Outcome, Pending};
 use crate::store::Store;
+use crate::taker::Taker;
 use std::alloc::Allocator;
 
 impl<K: Store, A: Allocator> Machine<K, A> {
     /// A byte in ground, with nothing pending.
     #[tactic(auto, using(crate::proofs::Given::hears_moved))]
-    pub fn in_ground<V: VTActor>(&mut self, b: u8, class: Class, actor: &mut V) -> Result<()>
+    pub fn in_ground<V: Taker>(&mut self, b: u8, class: Class, actor: &mut V) -> Result<()>
         requires { V.is_ready actor.old }
-        ensures moved { AlwaysMakes K.Store V.VTActor result (ground_move b class) self actor }
+        ensures moved { AlwaysMakes K.Store V.Taker result (ground_move b class) self actor }
         ensures ready { OnOk result (V.is_ready actor.new) }
     {
         self.state = State::Ground;
@@ -57,9 +57,9 @@ impl<K: Store, A: Allocator> Machine<K, A> {
 
     /// A control after C2.
     #[tactic(auto, using(crate::proofs::Given::hears_moved))]
-    pub fn in_pair<V: VTActor>(&mut self, b: u8, class: Class, actor: &mut V) -> Result<()>
+    pub fn in_pair<V: Taker>(&mut self, b: u8, class: Class, actor: &mut V) -> Result<()>
         requires { V.is_ready actor.old }
-        ensures moved { AlwaysMakes K.Store V.VTActor result (pair_move b class) self actor }
+        ensures moved { AlwaysMakes K.Store V.Taker result (pair_move b class) self actor }
         ensures ready { OnOk result (V.is_ready actor.new) }
     {
         self.state = State::Ground;
@@ -86,10 +86,10 @@ impl<K: Store, A: Allocator> Machine<K, A> {
     }
 
     /// A byte after a prefix of a character's sequence.
-    pub fn in_pending<V: VTActor>(&mut self, b: u8, class: Class, actor: &mut V) -> Result<()>
+    pub fn in_pending<V: Taker>(&mut self, b: u8, class: Class, actor: &mut V) -> Result<()>
         requires { V.is_ready actor.old }
         ensures moved { (limit : Option ℕ) (own : Bool) (f : List ℕ) → front_of self.old.pending ≡ f
-            → Makes K.Store V.VTActor limit own result
+            → Makes K.Store V.Taker limit own result
             (pending_move f b class (outcome f b)) self actor }
         ensures ready { OnOk result (V.is_ready actor.new) }
     {
@@ -105,9 +105,9 @@ impl<K: Store, A: Allocator> Machine<K, A> {
     }
 
     // A byte that breaks off a character's sequence.
-    fn break_off<V: VTActor>(&mut self, b: u8, class: Class, actor: &mut V) -> Result<()>
+    fn break_off<V: Taker>(&mut self, b: u8, class: Class, actor: &mut V) -> Result<()>
         requires { V.is_ready actor.old }
-        ensures moved { AlwaysMakes K.Store V.VTActor result
+        ensures moved { AlwaysMakes K.Store V.Taker result
             (telling (Print 0xfffd ∷ []) (ground_move b class)) self actor }
         ensures ready { OnOk result (V.is_ready actor.new) }
     {
@@ -119,10 +119,10 @@ impl<K: Store, A: Allocator> Machine<K, A> {
 
     // A byte that completes a sequence.
     #[tactic(auto, using(crate::proofs::Given::hears_moved))]
-    fn whole<V: VTActor>(&mut self, b: u8, class: Class, actor: &mut V) -> Result<()>
+    fn whole<V: Taker>(&mut self, b: u8, class: Class, actor: &mut V) -> Result<()>
         requires ready { V.is_ready actor.old }
         requires whole { is_sequence (front_of self.old.pending ++ b ∷ []) ≡ true }
-        ensures moved { AlwaysMakes K.Store V.VTActor result
+        ensures moved { AlwaysMakes K.Store V.Taker result
             (pending_move (front_of self.old.pending) b class Outcome.Whole) self actor }
         ensures ready { OnOk result (V.is_ready actor.new) }
     {
@@ -138,7 +138,7 @@ impl<K: Store, A: Allocator> Machine<K, A> {
 
     /// Characters, and what follows them.
     #[inline(always)]
-    pub fn take_in_ground<V: VTActor>(
+    pub fn take_in_ground<V: Taker>(
         &mut self,
         limit: Option<usize>,
         rest: &[u8],
@@ -147,8 +147,8 @@ impl<K: Store, A: Allocator> Machine<K, A> {
         requires some { 0 < length rest.now }
         requires ready { V.is_ready actor.old }
         requires ground { Holds K.keeps limit self.old Ground }
-        ensures took { Consumes K.Store V.VTActor limit result Ground rest.now self actor }
-        ensures count { Advances V.VTActor result rest.now actor }
+        ensures took { Consumes K.Store V.Taker limit result Ground rest.now self actor }
+        ensures count { Advances V.Taker result rest.now actor }
     {
         match self.take_quick(rest, actor) {
             Ok(printed) => {
@@ -166,11 +166,11 @@ impl<K: Store, A: Allocator> Machine<K, A> {
 
     // Characters, controls and short control sequences, as long as they come.
     #[inline(always)]
-    fn take_quick<V: VTActor>(&mut self, rest: &[u8], actor: &mut V) -> Result<usize>
+    fn take_quick<V: Taker>(&mut self, rest: &[u8], actor: &mut V) -> Result<usize>
         requires ready { V.is_ready actor.old }
         requires ground { Holds K.keeps None self.old Ground }
         ensures ground { IfOk result (λ n. Holds K.keeps None self.new Ground) }
-        ensures stays { StaysInGround V.VTActor result rest.now actor }
+        ensures stays { StaysInGround V.Taker result rest.now actor }
     {
         let mut at = 0;
         while at < rest.len() {
@@ -186,12 +186,12 @@ impl<K: Store, A: Allocator> Machine<K, A> {
     // Characters, a control, or a short control sequence; nothing where something else stands
     // there.
     #[inline(always)]
-    fn take_quick_one<V: VTActor>(&mut self, rest: &[u8], actor: &mut V) -> Result<usize>
+    fn take_quick_one<V: Taker>(&mut self, rest: &[u8], actor: &mut V) -> Result<usize>
         requires some { 0 < length rest.now }
         requires ready { V.is_ready actor.old }
         requires ground { Holds K.keeps None self.old Ground }
         ensures ground { IfOk result (λ n. Holds K.keeps None self.new Ground) }
-        ensures stays { StaysInGround V.VTActor result rest.now actor }
+        ensures stays { StaysInGround V.Taker result rest.now actor }
     {
         if rest[0] >= 0x20 {
             return print_one(rest, actor);
@@ -205,7 +205,7 @@ impl<K: Store, A: Allocator> Machine<K, A> {
 
     /// One character, or what else stands in ground.
     #[inline(always)]
-    pub fn take_first<V: VTActor>(
+    pub fn take_first<V: Taker>(
         &mut self,
         limit: Option<usize>,
         rest: &[u8],
@@ -214,7 +214,7 @@ impl<K: Store, A: Allocator> Machine<K, A> {
         requires some { 0 < length rest.now }
         requires ready { V.is_ready actor.old }
         requires ground { Holds K.keeps limit self.old Ground }
-        ensures { ConsumesSome K.Store V.VTActor limit result rest.now self actor }
+        ensures { ConsumesSome K.Store V.Taker limit result rest.now self actor }
     {
         match print_first(rest, actor) {
             Ok(0) => self.take_control(limit, rest, actor),
@@ -225,7 +225,7 @@ impl<K: Store, A: Allocator> Machine<K, A> {
 
     // A byte, or a sequence that ESC begins, and the terminator of a command.
     #[inline(always)]
-    fn take_string<V: VTActor>(
+    fn take_string<V: Taker>(
         &mut self,
         limit: Option<usize>,
         rest: &[u8],
@@ -233,8 +233,8 @@ impl<K: Store, A: Allocator> Machine<K, A> {
     ) -> Result<usize>
         requires some { 0 < length rest.now }
         requires ready { V.is_ready actor.old }
-        ensures took { Consumes K.Store V.VTActor limit result Ground rest.now self actor }
-        ensures count { Advances V.VTActor result rest.now actor }
+        ensures took { Consumes K.Store V.Taker limit result Ground rest.now self actor }
+        ensures count { Advances V.Taker result rest.now actor }
     {
         match self.take_control(limit, rest, actor) {
             Ok(n) => match self.take_terminator(limit, &rest[n..], actor) {
@@ -247,7 +247,7 @@ impl<K: Store, A: Allocator> Machine<K, A> {
 
     // A byte, or a sequence that ESC begins, in ground.
     #[inline(always)]
-    fn take_control<V: VTActor>(
+    fn take_control<V: Taker>(
         &mut self,
         limit: Option<usize>,
         rest: &[u8],
@@ -255,7 +255,7 @@ impl<K: Store, A: Allocator> Machine<K, A> {
     ) -> Result<usize>
         requires some { 0 < length rest.now }
         requires ready { V.is_ready actor.old }
-        ensures { ConsumesSome K.Store V.VTActor limit result rest.now self actor }
+        ensures { ConsumesSome K.Store V.Taker limit result rest.now self actor }
     {
         if rest[0] == 0x1b && rest.len() > 2 {
             self.take_escape(limit, rest, actor)
@@ -266,11 +266,11 @@ impl<K: Store, A: Allocator> Machine<K, A> {
 
     /// One byte in ground.
     #[inline(always)]
-    pub fn take_one_in_ground<V: VTActor>(&mut self, rest: &[u8], actor: &mut V) -> Result<usize>
+    pub fn take_one_in_ground<V: Taker>(&mut self, rest: &[u8], actor: &mut V) -> Result<usize>
         requires some { 0 < length rest.now }
         requires ready { V.is_ready actor.old }
         ensures { (limit : Option ℕ)
-            → ConsumesSome K.Store V.VTActor limit result rest.now self actor }
+            → ConsumesSome K.Store V.Taker limit result rest.now self actor }
     {
         match self.in_ground(rest[0], classify(rest[0]), actor) {
             Ok(()) => Ok(1),

@@ -32,7 +32,7 @@ impl<A: Allocator> Kept<A> {
 impl<A: Allocator> Store for Kept<A> {
     ghost keeps = { λ limit kept t. KeepsText limit kept t };
 
-    ghost denied = { Refused A };
+    ghost denied = { λ _. Refused A };
 
     // The memory is kept.
     fn clear(&mut self) {

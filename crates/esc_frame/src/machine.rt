@@ -8,14 +8,13 @@ ghost use Rattle.esc_frame.specs.Events.{Takes};
 ghost use Rattle.esc_frame.specs.Leads.{Unfinished, Holds, kept_open};
 ghost use Rattle.esc_frame.specs.Leads.Unfinished.{Ground};
 ghost use Rattle.esc_frame.specs.Limits.{most};
-ghost use Rattle.esc_frame.specs.Machine.Calls.{Quietly, NoMemory, is_between};
+ghost use Rattle.esc_frame.specs.Machine.Calls.{Quietly, Fails, is_between};
 ghost use Rattle.esc_frame.specs.Machine.Fronts.{front_of};
 ghost use Rattle.esc_frame.specs.Machine.Keeping.{Holding};
 ghost use Rattle.esc_frame.specs.Machine.Makes.{Emits, Makes, Consumes, Advances};
 ghost use Rattle.esc_frame.specs.Machine.Moves.{move, opened, may_grow_in, may_grow_within, after_all, news_all};
 ghost use Rattle.esc_frame.specs.Segments.{Opener};
 
-use crate::actor::VTActor;
 use crate::body::CsiBody;
 use crate::classes::{Class, Kind, classify};
 use crate::header::DcsHeader;
@@ -23,6 +22,7 @@ use crate::intermediates::Intermediates;
 use crate::sequence::Pending;
 use crate::short::Short;
 use crate::store::Store;
+use crate::taker::Taker;
 use std::alloc::{AllocError, Allocator};
 
 /// The error is that the actor refused a call, or that a request for memory was refused.
@@ -148,7 +148,7 @@ impl<K: Store, A: Allocator> Machine<K, A> {
     }
 
     /// Takes a byte.
-    pub fn step<V: VTActor>(
+    pub fn step<V: Taker>(
         &mut self,
         limit: Option<usize>,
         b: u8,
@@ -157,7 +157,7 @@ impl<K: Store, A: Allocator> Machine<K, A> {
     ) -> Result<()>
         requires { V.is_ready actor.old }
         ensures moved { class ≡ class_of b → Holding K.Store limit self (λ u.
-            Makes K.Store V.VTActor limit (may_grow_in u) result
+            Makes K.Store V.Taker limit (may_grow_in u) result
             (move limit u b class) self actor) }
         ensures ready { OnOk result (V.is_ready actor.new) }
     {
@@ -183,7 +183,7 @@ impl<K: Store, A: Allocator> Machine<K, A> {
     }
 
     /// Takes the bytes, one after another. After an error nothing is said of the machine.
-    pub fn take_all<V: VTActor>(
+    pub fn take_all<V: Taker>(
         &mut self,
         limit: Option<usize>,
         bytes: &[u8],
@@ -193,7 +193,7 @@ impl<K: Store, A: Allocator> Machine<K, A> {
         ensures holds { Holding K.Store limit self (λ u.
             OnOk result (Holds K.keeps limit self.new (after_all u bytes.now))) }
         ensures told { Holding K.Store limit self (λ u.
-            Emits V.VTActor ((may_grow_within u bytes.now ≡ true) × NoMemory K.denied A) result
+            Emits V.Taker ((may_grow_within u bytes.now ≡ true) × Fails K.denied V.stops A limit) result
             (news_all limit u bytes.now) actor) }
         ensures ready { OnOk result (V.is_ready actor.new) }
     {
@@ -210,7 +210,7 @@ impl<K: Store, A: Allocator> Machine<K, A> {
     /// Takes a prefix of the bytes, at least one, and returns its length: all but the last tell
     /// nothing and leave something unfinished. After an error nothing is said of the machine.
     #[inline(always)]
-    pub fn take_some<V: VTActor>(
+    pub fn take_some<V: Taker>(
         &mut self,
         limit: Option<usize>,
         rest: &[u8],
@@ -219,9 +219,9 @@ impl<K: Store, A: Allocator> Machine<K, A> {
         requires some { 0 < length rest.now }
         requires ready { V.is_ready actor.old }
         ensures took { Holding K.Store limit self (λ u.
-            Consumes K.Store V.VTActor limit result u rest.now self actor) }
+            Consumes K.Store V.Taker limit result u rest.now self actor) }
         ensures quiet { Holding K.Store limit self (λ u. Quietly limit result u rest.now) }
-        ensures count { Advances V.VTActor result rest.now actor }
+        ensures count { Advances V.Taker result rest.now actor }
     {
         match self.state {
             State::Ground => match self.pending {
@@ -246,17 +246,12 @@ impl<K: Store, A: Allocator> Machine<K, A> {
 
     // Takes a prefix of the bytes, at least one, and returns its length.
     #[inline(always)]
-    fn take<V: VTActor>(
-        &mut self,
-        limit: Option<usize>,
-        rest: &[u8],
-        actor: &mut V,
-    ) -> Result<usize>
+    fn take<V: Taker>(&mut self, limit: Option<usize>, rest: &[u8], actor: &mut V) -> Result<usize>
         requires some { 0 < length rest.now }
         requires ready { V.is_ready actor.old }
         ensures took { Holding K.Store limit self (λ u.
-            Consumes K.Store V.VTActor limit result u rest.now self actor) }
-        ensures count { Advances V.VTActor result rest.now actor }
+            Consumes K.Store V.Taker limit result u rest.now self actor) }
+        ensures count { Advances V.Taker result rest.now actor }
     {
         match self.state {
             State::Ground => match self.pending {
@@ -272,7 +267,7 @@ impl<K: Store, A: Allocator> Machine<K, A> {
     }
 
     /// One byte.
-    pub fn take_one<V: VTActor>(
+    pub fn take_one<V: Taker>(
         &mut self,
         limit: Option<usize>,
         rest: &[u8],
@@ -282,9 +277,9 @@ impl<K: Store, A: Allocator> Machine<K, A> {
         requires ready { V.is_ready actor.old }
         requires between { is_between self.old.state (front_of self.old.pending) ≡ true }
         ensures took { Holding K.Store limit self (λ u.
-            Consumes K.Store V.VTActor limit result u rest.now self actor) }
+            Consumes K.Store V.Taker limit result u rest.now self actor) }
         ensures quiet { (u : Unfinished) → Quietly limit result u rest.now }
-        ensures count { Advances V.VTActor result rest.now actor }
+        ensures count { Advances V.Taker result rest.now actor }
     {
         match self.step(limit, rest[0], classify(rest[0]), actor) {
             Ok(()) => Ok(1),

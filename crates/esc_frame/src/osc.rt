@@ -4,29 +4,28 @@
 ghost use Rattle.std.specs.Prelude.{◌≡◌, ◌≤◌, ◌<◌, List, [], ◌+◌, true, false, not, length, take, slice_index, OnOk, IsTrue};
 ghost use Rattle.esc_frame.specs.Classes.{class_of};
 ghost use Rattle.esc_frame.specs.Limits.{has_few_parts};
-ghost use Rattle.esc_frame.specs.Machine.Calls.{Quietly};
+ghost use Rattle.esc_frame.specs.Machine.Calls.{Quietly, Stops};
 ghost use Rattle.esc_frame.specs.Machine.Fronts.{front_of};
 ghost use Rattle.esc_frame.specs.Machine.Keeping.{Unlent, KeepingText, KeepingOsc, KeepingOscAnd, KeepingOscPending, FreshOsc, AnyOsc};
 ghost use Rattle.esc_frame.specs.Machine.Makes.{Emits, Makes, AlwaysMakes, Consumes, ConsumesSome, Advances};
-ghost use Rattle.esc_frame.specs.Machine.Moves.{telling, ground_move, pair_move, osc_pending_move, osc_left, ends_osc};
+ghost use Rattle.esc_frame.specs.Machine.Moves.{telling, ground_move, pair_move, osc_pending_move, osc_left, ends_osc, move};
 ghost use Rattle.esc_frame.specs.Machine.TextRuns.{IsTextRun};
 ghost use Rattle.esc_frame.specs.Segments.{Opener, Piece, text_of, osc_events};
 ghost use Rattle.esc_frame.specs.Sequences.{is_from, outcome};
-ghost use Rattle.memory.specs.Refusals.{Refused};
 
-use crate::actor::VTActor;
 use crate::classes::{Class, Kind, classify};
 use crate::count::fits;
 use crate::machine::{Machine, Result, State};
 use crate::scans::units_run;
 use crate::sequence::{Outcome, Pending, lies_from};
 use crate::store::Store;
+use crate::taker::Taker;
 use std::alloc::Allocator;
 
 impl<K: Store, A: Allocator> Machine<K, A> {
     /// A byte after an OSC's units, with nothing pending.
     #[tactic(auto, using(crate::proofs::Given::takes_moved))]
-    pub fn in_osc<V: VTActor>(
+    pub fn in_osc<V: Taker>(
         &mut self,
         limit: Option<usize>,
         b: u8,
@@ -35,7 +34,7 @@ impl<K: Store, A: Allocator> Machine<K, A> {
     ) -> Result<()>
         requires { V.is_ready actor.old }
         ensures moved { class ≡ class_of b → KeepingOsc K.Store limit self (λ u.
-            Makes K.Store V.VTActor limit true result (move limit u b class) self actor) }
+            Makes K.Store V.Taker limit true result (move limit u b class) self actor) }
         ensures ready { OnOk result (V.is_ready actor.new) }
     {
         self.state = State::Osc;
@@ -64,7 +63,7 @@ impl<K: Store, A: Allocator> Machine<K, A> {
     }
 
     /// A byte after a prefix of a sequence, in an OSC.
-    pub fn in_osc_pending<V: VTActor>(
+    pub fn in_osc_pending<V: Taker>(
         &mut self,
         limit: Option<usize>,
         b: u8,
@@ -73,7 +72,7 @@ impl<K: Store, A: Allocator> Machine<K, A> {
     ) -> Result<()>
         requires { V.is_ready actor.old }
         ensures moved { class ≡ class_of b → KeepingOscPending K.Store limit self (λ u.
-            Makes K.Store V.VTActor limit true result (move limit u b class) self actor) }
+            Makes K.Store V.Taker limit true result (move limit u b class) self actor) }
         ensures ready { OnOk result (V.is_ready actor.new) }
     {
         match self.pending.outcome(b) {
@@ -91,7 +90,7 @@ impl<K: Store, A: Allocator> Machine<K, A> {
     }
 
     // A byte that completes a sequence in an OSC.
-    fn whole_in_osc<V: VTActor>(
+    fn whole_in_osc<V: Taker>(
         &mut self,
         limit: Option<usize>,
         b: u8,
@@ -100,7 +99,7 @@ impl<K: Store, A: Allocator> Machine<K, A> {
     ) -> Result<()>
         requires { V.is_ready actor.old }
         ensures moved { (o : Opener) (ps : List Piece) → K.keeps limit self.old.text (text_of ps)
-            → Makes K.Store V.VTActor limit true result
+            → Makes K.Store V.Taker limit true result
             (osc_pending_move limit o ps (front_of self.old.pending) b class Outcome.Whole)
             self actor }
         ensures ready { OnOk result (V.is_ready actor.new) }
@@ -116,10 +115,10 @@ impl<K: Store, A: Allocator> Machine<K, A> {
     }
 
     // A breaker after an OSC.
-    fn leave_osc<V: VTActor>(&mut self, b: u8, class: Class, actor: &mut V) -> Result<()>
+    fn leave_osc<V: Taker>(&mut self, b: u8, class: Class, actor: &mut V) -> Result<()>
         requires { V.is_ready actor.old }
         ensures moved { KeepingText K.Store self.old.text (λ limit t.
-            Makes K.Store V.VTActor limit true result
+            Makes K.Store V.Taker limit true result
             (telling (osc_events limit t) (ground_move b class)) self actor) }
         ensures ready { OnOk result (V.is_ready actor.new) }
     {
@@ -130,10 +129,10 @@ impl<K: Store, A: Allocator> Machine<K, A> {
     }
 
     // A control after C2, in an OSC.
-    fn leave_osc_by_pair<V: VTActor>(&mut self, b: u8, class: Class, actor: &mut V) -> Result<()>
+    fn leave_osc_by_pair<V: Taker>(&mut self, b: u8, class: Class, actor: &mut V) -> Result<()>
         requires { V.is_ready actor.old }
         ensures moved { KeepingText K.Store self.old.text (λ limit t.
-            Makes K.Store V.VTActor limit true result
+            Makes K.Store V.Taker limit true result
             (telling (osc_events limit t) (pair_move b class)) self actor) }
         ensures ready { OnOk result (V.is_ready actor.new) }
     {
@@ -145,7 +144,7 @@ impl<K: Store, A: Allocator> Machine<K, A> {
 
     /// An operating system command, up to its end or what else its text does not keep as it is.
     #[inline(always)]
-    pub fn take_osc<V: VTActor>(
+    pub fn take_osc<V: Taker>(
         &mut self,
         limit: Option<usize>,
         rest: &[u8],
@@ -155,7 +154,7 @@ impl<K: Store, A: Allocator> Machine<K, A> {
         requires escape { slice_index rest.now 0 ≡ 0x1b }
         requires bracket { slice_index rest.now 1 ≡ 0x5d }
         requires ready { V.is_ready actor.old }
-        ensures { ConsumesSome K.Store V.VTActor limit result rest.now self actor }
+        ensures { ConsumesSome K.Store V.Taker limit result rest.now self actor }
     {
         match self.take_body(limit, &rest[2..], actor) {
             Ok(n) => Ok(2 + n),
@@ -166,7 +165,7 @@ impl<K: Store, A: Allocator> Machine<K, A> {
     // What follows the opener, or else no byte that counts: a text that ends in these bytes is lent
     // to the actor from there, any other is kept.
     #[inline(always)]
-    fn take_body<V: VTActor>(
+    fn take_body<V: Taker>(
         &mut self,
         limit: Option<usize>,
         rest: &[u8],
@@ -175,9 +174,9 @@ impl<K: Store, A: Allocator> Machine<K, A> {
         requires some { 0 < length rest.now }
         requires ready { V.is_ready actor.old }
         ensures took { FreshOsc (λ u.
-            Consumes K.Store V.VTActor limit result u rest.now self actor) }
+            Consumes K.Store V.Taker limit result u rest.now self actor) }
         ensures quiet { AnyOsc (λ u. Quietly limit result u rest.now) }
-        ensures count { Advances V.VTActor result rest.now actor }
+        ensures count { Advances V.Taker result rest.now actor }
     {
         let run = units_run(rest);
         if run == rest.len() {
@@ -195,7 +194,7 @@ impl<K: Store, A: Allocator> Machine<K, A> {
     }
 
     // A text that is kept from its first byte on.
-    fn keep_body<V: VTActor>(
+    fn keep_body<V: Taker>(
         &mut self,
         limit: Option<usize>,
         rest: &[u8],
@@ -207,9 +206,9 @@ impl<K: Store, A: Allocator> Machine<K, A> {
         requires passes { IsTextRun (take run rest.now) }
         requires ready { V.is_ready actor.old }
         ensures took { FreshOsc (Unlent rest.now (λ u.
-            Consumes K.Store V.VTActor limit result u rest.now self actor)) }
+            Consumes K.Store V.Taker limit result u rest.now self actor)) }
         ensures quiet { AnyOsc (λ u. Quietly limit result u rest.now) }
-        ensures count { Advances V.VTActor result rest.now actor }
+        ensures count { Advances V.Taker result rest.now actor }
     {
         self.open(Kind::Osc);
         self.take_units(limit, rest, run, actor)
@@ -217,7 +216,7 @@ impl<K: Store, A: Allocator> Machine<K, A> {
 
     // A text, and the byte of this class that ends it.
     #[inline(always)]
-    fn take_lent<V: VTActor>(
+    fn take_lent<V: Taker>(
         &mut self,
         limit: Option<usize>,
         rest: &[u8],
@@ -231,9 +230,9 @@ impl<K: Store, A: Allocator> Machine<K, A> {
         requires ends { ends_osc class ≡ true }
         requires ready { V.is_ready actor.old }
         ensures took { FreshOsc (λ u.
-            Consumes K.Store V.VTActor limit result u rest.now self actor) }
+            Consumes K.Store V.Taker limit result u rest.now self actor) }
         ensures quiet { AnyOsc (λ u. Quietly limit result u rest.now) }
-        ensures count { Advances V.VTActor result rest.now actor }
+        ensures count { Advances V.Taker result rest.now actor }
     {
         match self.end_lent(limit, &rest[..run], rest[run], class, actor) {
             Ok(()) => Ok(run + 1),
@@ -243,7 +242,7 @@ impl<K: Store, A: Allocator> Machine<K, A> {
 
     // A text, and the control after C2 that ends it.
     #[inline(never)]
-    fn take_lent_by_pair<V: VTActor>(
+    fn take_lent_by_pair<V: Taker>(
         &mut self,
         limit: Option<usize>,
         rest: &[u8],
@@ -256,9 +255,9 @@ impl<K: Store, A: Allocator> Machine<K, A> {
         requires control { is_from 0x80 0x9f (slice_index rest.now (run + 1)) ≡ true }
         requires ready { V.is_ready actor.old }
         ensures took { FreshOsc (λ u.
-            Consumes K.Store V.VTActor limit result u rest.now self actor) }
+            Consumes K.Store V.Taker limit result u rest.now self actor) }
         ensures quiet { AnyOsc (λ u. Quietly limit result u rest.now) }
-        ensures count { Advances V.VTActor result rest.now actor }
+        ensures count { Advances V.Taker result rest.now actor }
     {
         match self.end_lent_by_pair(limit, &rest[..run], rest[run + 1], actor) {
             Ok(()) => Ok(run + 2),
@@ -268,7 +267,7 @@ impl<K: Store, A: Allocator> Machine<K, A> {
 
     // What ends a command whose text is lent.
     #[inline(always)]
-    fn end_lent<V: VTActor>(
+    fn end_lent<V: Taker>(
         &mut self,
         limit: Option<usize>,
         text: &[u8],
@@ -277,7 +276,7 @@ impl<K: Store, A: Allocator> Machine<K, A> {
         actor: &mut V,
     ) -> Result<()>
         requires { V.is_ready actor.old }
-        ensures moved { Makes K.Store V.VTActor limit (not (has_few_parts text.now)) result
+        ensures moved { Makes K.Store V.Taker limit (not (has_few_parts text.now)) result
             (telling (osc_events limit text.now) (osc_left b class)) self actor }
         ensures ready { OnOk result (V.is_ready actor.new) }
     {
@@ -288,7 +287,7 @@ impl<K: Store, A: Allocator> Machine<K, A> {
     }
 
     // A control after C2 that ends a command whose text is lent.
-    fn end_lent_by_pair<V: VTActor>(
+    fn end_lent_by_pair<V: Taker>(
         &mut self,
         limit: Option<usize>,
         text: &[u8],
@@ -296,7 +295,7 @@ impl<K: Store, A: Allocator> Machine<K, A> {
         actor: &mut V,
     ) -> Result<()>
         requires { V.is_ready actor.old }
-        ensures moved { Makes K.Store V.VTActor limit (not (has_few_parts text.now)) result
+        ensures moved { Makes K.Store V.Taker limit (not (has_few_parts text.now)) result
             (telling (osc_events limit text.now) (pair_move b (class_of b))) self actor }
         ensures ready { OnOk result (V.is_ready actor.new) }
     {
@@ -307,9 +306,9 @@ impl<K: Store, A: Allocator> Machine<K, A> {
     }
 
     // A bell, or a breaker.
-    fn leave_lent<V: VTActor>(&mut self, b: u8, class: Class, actor: &mut V) -> Result<()>
+    fn leave_lent<V: Taker>(&mut self, b: u8, class: Class, actor: &mut V) -> Result<()>
         requires { V.is_ready actor.old }
-        ensures moved { AlwaysMakes K.Store V.VTActor result (osc_left b class) self actor }
+        ensures moved { AlwaysMakes K.Store V.Taker result (osc_left b class) self actor }
         ensures ready { OnOk result (V.is_ready actor.new) }
     {
         if let Class::Bell = class {
@@ -323,7 +322,7 @@ impl<K: Store, A: Allocator> Machine<K, A> {
 
     /// The units that an operating system command keeps as they are, and the byte after them.
     #[inline(never)]
-    pub fn take_in_osc<V: VTActor>(
+    pub fn take_in_osc<V: Taker>(
         &mut self,
         limit: Option<usize>,
         rest: &[u8],
@@ -334,9 +333,9 @@ impl<K: Store, A: Allocator> Machine<K, A> {
         requires state { self.old.state ≡ State.Osc }
         requires whole { front_of self.old.pending ≡ [] }
         ensures took { KeepingOsc K.Store limit self (λ u.
-            Consumes K.Store V.VTActor limit result u rest.now self actor) }
+            Consumes K.Store V.Taker limit result u rest.now self actor) }
         ensures quiet { AnyOsc (λ u. Quietly limit result u rest.now) }
-        ensures count { Advances V.VTActor result rest.now actor }
+        ensures count { Advances V.Taker result rest.now actor }
     {
         if self.text.is_new() {
             return self.take_body(limit, rest, actor);
@@ -347,7 +346,7 @@ impl<K: Store, A: Allocator> Machine<K, A> {
 
     // A run of units, which is kept, and the byte after them.
     #[inline(always)]
-    fn take_units<V: VTActor>(
+    fn take_units<V: Taker>(
         &mut self,
         limit: Option<usize>,
         rest: &[u8],
@@ -361,9 +360,9 @@ impl<K: Store, A: Allocator> Machine<K, A> {
         requires state { self.old.state ≡ State.Osc }
         requires whole { front_of self.old.pending ≡ [] }
         ensures took { KeepingOsc K.Store limit self (Unlent rest.now (λ u.
-            Consumes K.Store V.VTActor limit result u rest.now self actor)) }
+            Consumes K.Store V.Taker limit result u rest.now self actor)) }
         ensures quiet { AnyOsc (λ u. Quietly limit result u rest.now) }
-        ensures count { Advances V.VTActor result rest.now actor }
+        ensures count { Advances V.Taker result rest.now actor }
     {
         match self.text.push(limit, &rest[..run]) {
             Ok(()) => self.take_after_text(limit, rest, run, actor),
@@ -373,7 +372,7 @@ impl<K: Store, A: Allocator> Machine<K, A> {
 
     // The byte after units of an operating system command that were kept.
     #[inline(always)]
-    fn take_after_text<V: VTActor>(
+    fn take_after_text<V: Taker>(
         &mut self,
         limit: Option<usize>,
         rest: &[u8],
@@ -387,9 +386,9 @@ impl<K: Store, A: Allocator> Machine<K, A> {
         requires state { self.old.state ≡ State.Osc }
         requires whole { front_of self.old.pending ≡ [] }
         ensures took { KeepingOscAnd K.Store limit (take run rest.now) self (Unlent rest.now (λ u.
-            Consumes K.Store V.VTActor limit result u rest.now self actor)) }
+            Consumes K.Store V.Taker limit result u rest.now self actor)) }
         ensures quiet { AnyOsc (λ u. Quietly limit result u rest.now) }
-        ensures count { Advances V.VTActor result rest.now actor }
+        ensures count { Advances V.Taker result rest.now actor }
     {
         if run == rest.len() {
             return Ok(run);
@@ -439,14 +438,14 @@ fn is_pair_at(rest: &[u8], at: usize) -> bool
 
 // A lent text, told where it is within the limit.
 #[inline(always)]
-fn tell_lent<A: Allocator, V: VTActor>(
+fn tell_lent<A: Allocator, V: Taker>(
     limit: Option<usize>,
     alloc: &A,
     text: &[u8],
     actor: &mut V,
 ) -> Result<()>
     requires { V.is_ready actor.old }
-    ensures told { Emits V.VTActor ((not (has_few_parts text.now) ≡ true) × Refused A) result
+    ensures told { Emits V.Taker ((not (has_few_parts text.now) ≡ true) × Stops V.stops A limit) result
         (osc_events limit text.now) actor }
     ensures ready { OnOk result (V.is_ready actor.new) }
 {
@@ -458,10 +457,10 @@ fn tell_lent<A: Allocator, V: VTActor>(
 }
 
 // The text of an operating system command, told where it is within the limit.
-fn tell_osc<K: Store, A: Allocator, V: VTActor>(text: &K, alloc: &A, actor: &mut V) -> Result<()>
+fn tell_osc<K: Store, A: Allocator, V: Taker>(text: &K, alloc: &A, actor: &mut V) -> Result<()>
     requires { V.is_ready actor.old }
     ensures told { KeepingText K.Store text.now (λ limit t.
-        Emits V.VTActor (Refused A) result (osc_events limit t) actor) }
+        Emits V.Taker (Stops V.stops A limit) result (osc_events limit t) actor) }
     ensures ready { OnOk result (V.is_ready actor.new) }
 {
     if text.is_over() {

@@ -9,10 +9,10 @@ ghost use Rattle.esc_frame.specs.Leads.Unfinished.{Ground};
 ghost use Rattle.esc_frame.specs.Machine.Makes.{StaysInGround};
 ghost use Rattle.esc_frame.specs.Machine.Moves.{IsStill};
 
-use crate::actor::VTActor;
 use crate::machine::Result;
 use crate::scans::{ascii_run, free_run};
 use crate::sequence::{ahead, of_four, of_three, of_two};
+use crate::taker::Taker;
 
 /// The character that comes first and is whole, and its length; `None` where there is none, or
 /// where that is not seen at once: fewer than three bytes follow a first byte from 80 on.
@@ -56,12 +56,12 @@ pub fn first_control(rest: &[u8]) -> Option<u8>
 
 /// The control that comes first.
 #[inline(always)]
-pub fn execute_one<V: VTActor>(rest: &[u8], actor: &mut V) -> Result<usize>
+pub fn execute_one<V: Taker>(rest: &[u8], actor: &mut V) -> Result<usize>
     requires some { 0 < length rest.now }
     requires low { slice_index rest.now 0 < 0x20 }
     requires other { slice_index rest.now 0 ≢ 0x1b }
     requires ready { V.is_ready actor.old }
-    ensures { StaysInGround V.VTActor result rest.now actor }
+    ensures { StaysInGround V.Taker result rest.now actor }
 {
     match actor.execute_c0_or_c1(rest[0]) {
         Ok(()) => Ok(1),
@@ -81,9 +81,9 @@ fn first_wide(rest: &[u8]) -> Option<(char, usize)>
 
 /// The character that comes first, where it is whole; else nothing.
 #[inline(always)]
-pub fn print_first<V: VTActor>(rest: &[u8], actor: &mut V) -> Result<usize>
+pub fn print_first<V: Taker>(rest: &[u8], actor: &mut V) -> Result<usize>
     requires { V.is_ready actor.old }
-    ensures stays { StaysInGround V.VTActor result rest.now actor }
+    ensures stays { StaysInGround V.Taker result rest.now actor }
     ensures quiet { (limit : Option ℕ) → Quietly limit result Ground rest.now }
 {
     match first_char(rest) {
@@ -97,10 +97,10 @@ pub fn print_first<V: VTActor>(rest: &[u8], actor: &mut V) -> Result<usize>
 
 /// A run of text, or sequences, that come first.
 #[inline(always)]
-pub fn print_one<V: VTActor>(rest: &[u8], actor: &mut V) -> Result<usize>
+pub fn print_one<V: Taker>(rest: &[u8], actor: &mut V) -> Result<usize>
     requires some { 0 < length rest.now }
     requires ready { V.is_ready actor.old }
-    ensures { StaysInGround V.VTActor result rest.now actor }
+    ensures { StaysInGround V.Taker result rest.now actor }
 {
     if rest[0] < 0x20 {
         Ok(0)
@@ -115,9 +115,9 @@ pub fn print_one<V: VTActor>(rest: &[u8], actor: &mut V) -> Result<usize>
 // well-formed. A stream that is not UTF-8 mostly shows that at once. It is out of the way of the
 // code for plain text.
 #[inline(never)]
-fn print_long<V: VTActor>(rest: &[u8], actor: &mut V) -> Result<usize>
+fn print_long<V: Taker>(rest: &[u8], actor: &mut V) -> Result<usize>
     requires { V.is_ready actor.old }
-    ensures { StaysInGround V.VTActor result rest.now actor }
+    ensures { StaysInGround V.Taker result rest.now actor }
 {
     if ahead(rest).0 == 0 {
         return Ok(0);
@@ -137,9 +137,9 @@ fn print_long<V: VTActor>(rest: &[u8], actor: &mut V) -> Result<usize>
 
 // The sequences that come first, and short runs of text between them; a longer run is left.
 #[inline(always)]
-fn print_wides<V: VTActor>(rest: &[u8], actor: &mut V) -> Result<usize>
+fn print_wides<V: Taker>(rest: &[u8], actor: &mut V) -> Result<usize>
     requires { V.is_ready actor.old }
-    ensures { StaysInGround V.VTActor result rest.now actor }
+    ensures { StaysInGround V.Taker result rest.now actor }
 {
     let mut at = 0;
     while rest.len() - at >= 8 {
@@ -154,10 +154,10 @@ fn print_wides<V: VTActor>(rest: &[u8], actor: &mut V) -> Result<usize>
 
 // Sequences that come first, or text that a sequence follows soon.
 #[inline(always)]
-fn print_wide<V: VTActor>(rest: &[u8], actor: &mut V) -> Result<usize>
+fn print_wide<V: Taker>(rest: &[u8], actor: &mut V) -> Result<usize>
     requires some { 8 ≤ length rest.now }
     requires ready { V.is_ready actor.old }
-    ensures { StaysInGround V.VTActor result rest.now actor }
+    ensures { StaysInGround V.Taker result rest.now actor }
 {
     if rest[0] < 0x80 {
         if (rest[1] | rest[3] | rest[5] | rest[7]) < 0x80 {
@@ -177,9 +177,9 @@ fn print_wide<V: VTActor>(rest: &[u8], actor: &mut V) -> Result<usize>
 
 // The bytes of text that come first, one at a time.
 #[inline(always)]
-fn print_lones<V: VTActor>(rest: &[u8], actor: &mut V) -> Result<usize>
+fn print_lones<V: Taker>(rest: &[u8], actor: &mut V) -> Result<usize>
     requires { V.is_ready actor.old }
-    ensures { StaysInGround V.VTActor result rest.now actor }
+    ensures { StaysInGround V.Taker result rest.now actor }
 {
     let mut at = 0;
     while rest.len() - at >= 1 {
@@ -194,9 +194,9 @@ fn print_lones<V: VTActor>(rest: &[u8], actor: &mut V) -> Result<usize>
 
 // The sequences of two bytes that come first, and single bytes of text between them.
 #[inline(always)]
-fn print_twos<V: VTActor>(rest: &[u8], actor: &mut V) -> Result<usize>
+fn print_twos<V: Taker>(rest: &[u8], actor: &mut V) -> Result<usize>
     requires { V.is_ready actor.old }
-    ensures { StaysInGround V.VTActor result rest.now actor }
+    ensures { StaysInGround V.Taker result rest.now actor }
 {
     let mut at = 0;
     while rest.len() - at >= 4 {
@@ -211,9 +211,9 @@ fn print_twos<V: VTActor>(rest: &[u8], actor: &mut V) -> Result<usize>
 
 // The sequences of three bytes that come first.
 #[inline(always)]
-fn print_threes<V: VTActor>(rest: &[u8], actor: &mut V) -> Result<usize>
+fn print_threes<V: Taker>(rest: &[u8], actor: &mut V) -> Result<usize>
     requires { V.is_ready actor.old }
-    ensures { StaysInGround V.VTActor result rest.now actor }
+    ensures { StaysInGround V.Taker result rest.now actor }
 {
     let mut at = 0;
     while rest.len() - at >= 3 {
@@ -228,10 +228,10 @@ fn print_threes<V: VTActor>(rest: &[u8], actor: &mut V) -> Result<usize>
 
 // A sequence of two bytes.
 #[inline(always)]
-fn print_two<V: VTActor>(rest: &[u8], actor: &mut V) -> Result<usize>
+fn print_two<V: Taker>(rest: &[u8], actor: &mut V) -> Result<usize>
     requires some { 4 ≤ length rest.now }
     requires ready { V.is_ready actor.old }
-    ensures { StaysInGround V.VTActor result rest.now actor }
+    ensures { StaysInGround V.Taker result rest.now actor }
 {
     if rest[0] < 0x80 {
         return print_near(rest, actor);
@@ -242,10 +242,10 @@ fn print_two<V: VTActor>(rest: &[u8], actor: &mut V) -> Result<usize>
 
 // A byte of text that a sequence follows soon.
 #[inline(always)]
-fn print_near<V: VTActor>(rest: &[u8], actor: &mut V) -> Result<usize>
+fn print_near<V: Taker>(rest: &[u8], actor: &mut V) -> Result<usize>
     requires some { 4 ≤ length rest.now }
     requires ready { V.is_ready actor.old }
-    ensures { StaysInGround V.VTActor result rest.now actor }
+    ensures { StaysInGround V.Taker result rest.now actor }
 {
     if rest[3] < 0x80 {
         Ok(0)
@@ -256,20 +256,20 @@ fn print_near<V: VTActor>(rest: &[u8], actor: &mut V) -> Result<usize>
 
 // A sequence of three bytes.
 #[inline(always)]
-fn print_three<V: VTActor>(rest: &[u8], actor: &mut V) -> Result<usize>
+fn print_three<V: Taker>(rest: &[u8], actor: &mut V) -> Result<usize>
     requires some { 3 ≤ length rest.now }
     requires ready { V.is_ready actor.old }
-    ensures { StaysInGround V.VTActor result rest.now actor }
+    ensures { StaysInGround V.Taker result rest.now actor }
 {
     let (n, c) = of_three(rest[0], rest[1], rest[2]);
     print_ahead(rest, n, c, actor)
 }
 
 #[inline(always)]
-fn print_ahead<V: VTActor>(rest: &[u8], n: usize, c: char, actor: &mut V) -> Result<usize>
+fn print_ahead<V: Taker>(rest: &[u8], n: usize, c: char, actor: &mut V) -> Result<usize>
     requires ahead { IsAhead rest.now n c }
     requires ready { V.is_ready actor.old }
-    ensures { StaysInGround V.VTActor result rest.now actor }
+    ensures { StaysInGround V.Taker result rest.now actor }
 {
     if n == 0 {
         return Ok(0);
@@ -282,10 +282,10 @@ fn print_ahead<V: VTActor>(rest: &[u8], n: usize, c: char, actor: &mut V) -> Res
 
 // A byte of text.
 #[inline(always)]
-fn print_lone<V: VTActor>(rest: &[u8], actor: &mut V) -> Result<usize>
+fn print_lone<V: Taker>(rest: &[u8], actor: &mut V) -> Result<usize>
     requires some { 1 ≤ length rest.now }
     requires ready { V.is_ready actor.old }
-    ensures { StaysInGround V.VTActor result rest.now actor }
+    ensures { StaysInGround V.Taker result rest.now actor }
 {
     if rest[0] < 0x20 || rest[0] > 0x7f {
         return Ok(0);
@@ -297,12 +297,12 @@ fn print_lone<V: VTActor>(rest: &[u8], actor: &mut V) -> Result<usize>
 }
 
 #[inline(always)]
-fn print_text<V: VTActor>(rest: &[u8], actor: &mut V) -> Result<usize>
+fn print_text<V: Taker>(rest: &[u8], actor: &mut V) -> Result<usize>
     requires some { 0 < length rest.now }
     requires low { 0x20 ≤ slice_index rest.now 0 }
     requires high { slice_index rest.now 0 < 0x80 }
     requires ready { V.is_ready actor.old }
-    ensures { StaysInGround V.VTActor result rest.now actor }
+    ensures { StaysInGround V.Taker result rest.now actor }
 {
     let run = ascii_run(rest);
     match actor.print_text(&rest[..run]) {

@@ -132,7 +132,7 @@ impl Pending {
     pub fn put<K: Store>(self, limit: Option<usize>, text: &mut K, b: u8) -> Result<(), AllocError>
         ensures ok { (t : List ℕ) → K.keeps limit text.old t
             → OnOk result (K.keeps limit text.new (t ++ (front_of self ++ b ∷ []))) }
-        ensures refused { OnErr result K.denied }
+        ensures refused { OnErr result (K.denied limit) }
     {
         match self {
             Pending::Nothing => text.push(limit, &[b]),

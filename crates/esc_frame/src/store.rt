@@ -13,8 +13,8 @@ pub trait Store: Drop {
     // this text is kept, each byte of which counts; or nothing, where it is past the limit
     ghost keeps: { Option ℕ → Self → List ℕ → Type 0 };
 
-    // a request for memory was refused to it
-    ghost denied: { Type 0 };
+    // why it may fail under this limit: a request for memory was refused to it
+    ghost denied: { Option ℕ → Type 0 };
 
     /// Begins anew.
     fn clear(&mut self)
@@ -40,5 +40,5 @@ pub trait Store: Drop {
     fn push(&mut self, limit: Option<usize>, text: &[u8]) -> Result<(), AllocError>
         ensures ok { (t : List ℕ) → keeps limit self.old t
             → OnOk result (keeps limit self.new (t ++ text.now)) }
-        ensures refused { OnErr result denied };
+        ensures refused { OnErr result (denied limit) };
 }

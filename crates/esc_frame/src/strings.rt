@@ -8,21 +8,21 @@ ghost use Rattle.esc_frame.specs.Classes.{class_of, is_breaker};
 ghost use Rattle.esc_frame.specs.Machine.Calls.{Quietly};
 ghost use Rattle.esc_frame.specs.Machine.Keeping.{Holding, Unlent, KeepingText, KeepingApc, KeepingApcAnd, FreshApc, AnyApc, InDcsIgnore, InIgnoredString};
 ghost use Rattle.esc_frame.specs.Machine.Makes.{Emits, Makes, Consumes, Advances};
-ghost use Rattle.esc_frame.specs.Machine.Moves.{telling, ground_move};
+ghost use Rattle.esc_frame.specs.Machine.Moves.{telling, ground_move, move};
 ghost use Rattle.esc_frame.specs.Scans.{is_text_byte};
 ghost use Rattle.esc_frame.specs.Segments.{apc_events};
 
-use crate::actor::VTActor;
 use crate::classes::{Class, classify};
 use crate::count::fits;
 use crate::machine::{Machine, Result, State};
 use crate::scans::ascii_run;
 use crate::store::Store;
+use crate::taker::Taker;
 use std::alloc::Allocator;
 
 impl<K: Store, A: Allocator> Machine<K, A> {
     /// A byte of an APC.
-    pub fn in_apc<V: VTActor>(
+    pub fn in_apc<V: Taker>(
         &mut self,
         limit: Option<usize>,
         b: u8,
@@ -31,7 +31,7 @@ impl<K: Store, A: Allocator> Machine<K, A> {
     ) -> Result<()>
         requires { V.is_ready actor.old }
         ensures moved { class ≡ class_of b → KeepingApc K.Store limit self (λ u.
-            Makes K.Store V.VTActor limit true result (move limit u b class) self actor) }
+            Makes K.Store V.Taker limit true result (move limit u b class) self actor) }
         ensures ready { OnOk result (V.is_ready actor.new) }
     {
         self.state = State::Apc;
@@ -51,10 +51,10 @@ impl<K: Store, A: Allocator> Machine<K, A> {
     }
 
     // A breaker after an APC.
-    fn leave_apc<V: VTActor>(&mut self, b: u8, class: Class, actor: &mut V) -> Result<()>
+    fn leave_apc<V: Taker>(&mut self, b: u8, class: Class, actor: &mut V) -> Result<()>
         requires { V.is_ready actor.old }
         ensures moved { KeepingText K.Store self.old.text (λ limit t.
-            Makes K.Store V.VTActor limit true result
+            Makes K.Store V.Taker limit true result
             (telling (apc_events limit t) (ground_move b class)) self actor) }
         ensures ready { OnOk result (V.is_ready actor.new) }
     {
@@ -65,12 +65,12 @@ impl<K: Store, A: Allocator> Machine<K, A> {
     }
 
     /// A byte that is passed over, but for a breaker.
-    pub fn in_skip<V: VTActor>(&mut self, b: u8, class: Class, actor: &mut V) -> Result<()>
+    pub fn in_skip<V: Taker>(&mut self, b: u8, class: Class, actor: &mut V) -> Result<()>
         requires { V.is_ready actor.old }
         ensures ignored { InIgnoredString (λ limit u.
-            Makes K.Store V.VTActor limit true result (move limit u b class) self actor) }
+            Makes K.Store V.Taker limit true result (move limit u b class) self actor) }
         ensures data { InDcsIgnore (λ limit u.
-            Makes K.Store V.VTActor limit true result (move limit u b class) self actor) }
+            Makes K.Store V.Taker limit true result (move limit u b class) self actor) }
         ensures ready { OnOk result (V.is_ready actor.new) }
     {
         self.state = State::Skip;
@@ -95,7 +95,7 @@ impl<K: Store, A: Allocator> Machine<K, A> {
     /// The run of 20-7F in an application program command, and the byte after it: a text that
     /// begins and ends in these bytes is lent to the actor from there, any other is kept.
     #[inline(always)]
-    pub fn take_in_apc<V: VTActor>(
+    pub fn take_in_apc<V: Taker>(
         &mut self,
         limit: Option<usize>,
         rest: &[u8],
@@ -105,9 +105,9 @@ impl<K: Store, A: Allocator> Machine<K, A> {
         requires ready { V.is_ready actor.old }
         requires state { self.old.state ≡ State.Apc }
         ensures took { KeepingApc K.Store limit self (λ u.
-            Consumes K.Store V.VTActor limit result u rest.now self actor) }
+            Consumes K.Store V.Taker limit result u rest.now self actor) }
         ensures quiet { AnyApc (λ u. Quietly limit result u rest.now) }
-        ensures count { Advances V.VTActor result rest.now actor }
+        ensures count { Advances V.Taker result rest.now actor }
     {
         let run = ascii_run(rest);
         if run == rest.len() {
@@ -125,7 +125,7 @@ impl<K: Store, A: Allocator> Machine<K, A> {
     }
 
     // A run in an application program command, which is kept, and the byte after it.
-    fn keep_apc<V: VTActor>(
+    fn keep_apc<V: Taker>(
         &mut self,
         limit: Option<usize>,
         rest: &[u8],
@@ -138,9 +138,9 @@ impl<K: Store, A: Allocator> Machine<K, A> {
         requires ready { V.is_ready actor.old }
         requires state { self.old.state ≡ State.Apc }
         ensures took { KeepingApc K.Store limit self (Unlent rest.now (λ u.
-            Consumes K.Store V.VTActor limit result u rest.now self actor)) }
+            Consumes K.Store V.Taker limit result u rest.now self actor)) }
         ensures quiet { AnyApc (λ u. Quietly limit result u rest.now) }
-        ensures count { Advances V.VTActor result rest.now actor }
+        ensures count { Advances V.Taker result rest.now actor }
     {
         match self.text.push(limit, &rest[..run]) {
             Ok(()) => self.take_after_apc(limit, rest, run, actor),
@@ -150,7 +150,7 @@ impl<K: Store, A: Allocator> Machine<K, A> {
 
     // The byte after a run in an application program command that was kept.
     #[inline(always)]
-    fn take_after_apc<V: VTActor>(
+    fn take_after_apc<V: Taker>(
         &mut self,
         limit: Option<usize>,
         rest: &[u8],
@@ -163,9 +163,9 @@ impl<K: Store, A: Allocator> Machine<K, A> {
         requires ready { V.is_ready actor.old }
         requires state { self.old.state ≡ State.Apc }
         ensures took { KeepingApcAnd K.Store limit (take run rest.now) self (Unlent rest.now (λ u.
-            Consumes K.Store V.VTActor limit result u rest.now self actor)) }
+            Consumes K.Store V.Taker limit result u rest.now self actor)) }
         ensures quiet { AnyApc (λ u. Quietly limit result u rest.now) }
-        ensures count { Advances V.VTActor result rest.now actor }
+        ensures count { Advances V.Taker result rest.now actor }
     {
         if run == rest.len() {
             return Ok(run);
@@ -178,7 +178,7 @@ impl<K: Store, A: Allocator> Machine<K, A> {
 
     // A text, and the breaker of this class that ends it.
     #[inline(always)]
-    fn take_lent_apc<V: VTActor>(
+    fn take_lent_apc<V: Taker>(
         &mut self,
         limit: Option<usize>,
         rest: &[u8],
@@ -192,9 +192,9 @@ impl<K: Store, A: Allocator> Machine<K, A> {
         requires ends { is_breaker class ≡ true }
         requires ready { V.is_ready actor.old }
         ensures took { FreshApc (λ u.
-            Consumes K.Store V.VTActor limit result u rest.now self actor) }
+            Consumes K.Store V.Taker limit result u rest.now self actor) }
         ensures quiet { AnyApc (λ u. Quietly limit result u rest.now) }
-        ensures count { Advances V.VTActor result rest.now actor }
+        ensures count { Advances V.Taker result rest.now actor }
     {
         match self.end_lent_apc(limit, &rest[..run], rest[run], class, actor) {
             Ok(()) => Ok(run + 1),
@@ -203,7 +203,7 @@ impl<K: Store, A: Allocator> Machine<K, A> {
     }
 
     // A breaker after an application program command whose text is lent.
-    fn end_lent_apc<V: VTActor>(
+    fn end_lent_apc<V: Taker>(
         &mut self,
         limit: Option<usize>,
         text: &[u8],
@@ -213,7 +213,7 @@ impl<K: Store, A: Allocator> Machine<K, A> {
     ) -> Result<()>
         requires { V.is_ready actor.old }
         ensures moved { (own : Bool)
-            → Makes K.Store V.VTActor limit own result
+            → Makes K.Store V.Taker limit own result
             (telling (apc_events limit text.now) (ground_move b class)) self actor }
         ensures ready { OnOk result (V.is_ready actor.new) }
     {
@@ -225,7 +225,7 @@ impl<K: Store, A: Allocator> Machine<K, A> {
 
     /// The run of 20-7F in what is passed over.
     #[inline(always)]
-    pub fn take_in_skip<V: VTActor>(
+    pub fn take_in_skip<V: Taker>(
         &mut self,
         limit: Option<usize>,
         rest: &[u8],
@@ -235,9 +235,9 @@ impl<K: Store, A: Allocator> Machine<K, A> {
         requires ready { V.is_ready actor.old }
         requires state { self.old.state ≡ State.Skip }
         ensures took { Holding K.Store limit self (λ u.
-            Consumes K.Store V.VTActor limit result u rest.now self actor) }
+            Consumes K.Store V.Taker limit result u rest.now self actor) }
         ensures quiet { Holding K.Store limit self (λ u. Quietly limit result u rest.now) }
-        ensures count { Advances V.VTActor result rest.now actor }
+        ensures count { Advances V.Taker result rest.now actor }
     {
         let run = ascii_run(rest);
         if run == 0 {
@@ -271,9 +271,9 @@ fn is_breaker(class: Class) -> bool
 }
 
 // A lent text, told where it is within the limit.
-fn tell_lent_apc<V: VTActor>(limit: Option<usize>, text: &[u8], actor: &mut V) -> Result<()>
+fn tell_lent_apc<V: Taker>(limit: Option<usize>, text: &[u8], actor: &mut V) -> Result<()>
     requires { V.is_ready actor.old }
-    ensures told { Emits V.VTActor ⊥ result (apc_events limit text.now) actor }
+    ensures told { Emits V.Taker ⊥ result (apc_events limit text.now) actor }
     ensures ready { OnOk result (V.is_ready actor.new) }
 {
     if fits(limit, 0, text.len()) {
@@ -285,10 +285,10 @@ fn tell_lent_apc<V: VTActor>(limit: Option<usize>, text: &[u8], actor: &mut V) -
 
 // The text of an APC, told where it is within the limit.
 #[tactic(auto, using(crate::proofs::Given::hears_takes))]
-fn tell_apc<K: Store, V: VTActor>(text: &K, actor: &mut V) -> Result<()>
+fn tell_apc<K: Store, V: Taker>(text: &K, actor: &mut V) -> Result<()>
     requires { V.is_ready actor.old }
     ensures told { KeepingText K.Store text.now (λ limit t.
-        Emits V.VTActor ⊥ result (apc_events limit t) actor) }
+        Emits V.Taker ⊥ result (apc_events limit t) actor) }
     ensures ready { OnOk result (V.is_ready actor.new) }
 {
     if text.is_over() {

@@ -1,7 +1,9 @@
 -- What a call says of the machine and the actor. Only private contracts cite it.
 use Rattle.std.specs.Prelude.{ℕ, ◌≡◌, ◌≤◌, ◌<◌, Bool, true, false, not, List, [], ◌∷◌, length, take, Option, Result, MatchResult, IfOk, ◌⊎◌}
 use Rattle.std.specs.List.{FoldsTo}
+use denote.Bor.{Bor}
 use Rattle.memory.specs.Refusals.{Refused}
+use Rattle.esc_frame.specs.Limits.{is_within}
 use Rattle.esc_frame.specs.declared.machine.Machine.{Machine}
 use Rattle.esc_frame.specs.declared.machine.State.{State}
 use Rattle.esc_frame.specs.declared.machine.State.TheVariants as state
@@ -11,21 +13,26 @@ use Rattle.esc_frame.specs.Segments.{is_empty}
 use Rattle.esc_frame.specs.Leads.Unfinished.{Ground}
 use Rattle.esc_frame.specs.Machine.Moves.{Move, after_all, news_all, may_grow_within, is_fresh, is_lendable, IsStill}
 
--- A request for memory was refused: one of the store, for which it has its own word, or one to the
--- allocator.
-abbrev pub NoMemory : Type 0 → Type 0 → Type 0
-NoMemory denied A = denied ⊎ Refused A
+-- The actor stopped by itself at a text of a string within the limit, which it was given with a
+-- reference to an allocator.
+abbrev pub Stops : (Type 0 → List ℕ → Type 0) → Type 0 → Option ℕ → Type 0
+Stops stops A limit = (t : List ℕ) × (is_within limit (length t) ≡ true) × stops (Refused (Bor A)) t
+
+-- Why a machine may stop by itself under a limit: its store failed, or the actor stopped.
+abbrev pub Fails : (Option ℕ → Type 0) → (Type 0 → List ℕ → Type 0) → Type 0 → Option ℕ → Type 0
+Fails denied stops A limit = denied limit ⊎ Stops stops A limit
 
 -- The machine made this move: it keeps what is unfinished after it, and the actor was given its
 -- events. Where the result is an error the actor was given a prefix of them; the machine stopped by
--- itself only where `own` holds and memory was refused.
-abbrev pub Moved : {K A S E : Type 0} → (Option ℕ → K → List ℕ → Type 0) → Type 0 → Option ℕ → Bool
+-- itself only where `own` holds, for the reason `denied`.
+abbrev pub Moved : {K A S E : Type 0} → (Option ℕ → K → List ℕ → Type 0) → (Option ℕ → Type 0)
+    → Option ℕ → Bool
     → (S → Event → S → Type 0) → (S → Event → S → Type 0) → Result (Unit {0}) E → Move
     → Machine K A → S → S
     → Type 0
 Moved {K} {A} keeps denied limit own takes refuses result m machine old new =
     MatchResult result (λ _. Holds keeps limit machine m.0 × FoldsTo takes old m.1 new)
-    (λ _. StopsAt ((own ≡ true) × NoMemory denied A) takes refuses old m.1 new)
+    (λ _. StopsAt ((own ≡ true) × denied limit) takes refuses old m.1 new)
 
 -- where all strings in the rest can be lent, none of them is begun after its first n bytes but for its opener
 abbrev pub StaysFresh : Unfinished → List ℕ → ℕ → Type 0
@@ -35,7 +42,8 @@ StaysFresh u rest n = is_lendable u rest ≡ true → is_fresh (after_all u (tak
 -- unfinished after them, and the actor was given their events. Where the result is an error the actor
 -- was given a prefix of the events of the rest; the machine stopped by itself only where its memory
 -- may grow and memory was refused.
-abbrev pub Took : {K A S E : Type 0} → (Option ℕ → K → List ℕ → Type 0) → Type 0 → Option ℕ
+abbrev pub Took : {K A S E : Type 0} → (Option ℕ → K → List ℕ → Type 0) → (Option ℕ → Type 0)
+    → Option ℕ
     → (S → Event → S → Type 0) → (S → Event → S → Type 0) → Result ℕ E → Unfinished → List ℕ
     → Machine K A → S → S
     → Type 0
@@ -44,7 +52,7 @@ Took {K} {A} keeps denied limit takes refuses result u rest machine old new =
     (λ n. Holds keeps limit machine (after_all u (take n rest))
     × FoldsTo takes old (news_all limit u (take n rest)) new
     × StaysFresh u rest n)
-    (λ _. StopsAt ((may_grow_within u rest ≡ true) × NoMemory denied A) takes refuses old
+    (λ _. StopsAt ((may_grow_within u rest ≡ true) × denied limit) takes refuses old
     (news_all limit u rest) new)
 
 -- it took a byte at least, and no more than there are, and the actor is ready
@@ -75,7 +83,8 @@ Stays takes refuses is_ready result rest old new =
     (λ _. (limit : Option ℕ) → StopsAt ⊥ takes refuses old (news_all limit Ground rest) new)
 
 -- It took some of the bytes, in ground: one at least, and the first event among them, if any, is that of the last.
-abbrev pub TookSome : {K A S E : Type 0} → (Option ℕ → K → List ℕ → Type 0) → Type 0 → Option ℕ
+abbrev pub TookSome : {K A S E : Type 0} → (Option ℕ → K → List ℕ → Type 0) → (Option ℕ → Type 0)
+    → Option ℕ
     → (S → Event → S → Type 0) → (S → Event → S → Type 0) → (S → Type 0) → Result ℕ E → List ℕ
     → Machine K A → S → S
     → Type 0

@@ -1,7 +1,7 @@
--- What a call does, said of a store and an actor (`K.Store`, `V.VTActor`), and of the machine and
+-- What a call does, said of a store and an actor (`K.Store`, `V.Taker`), and of the machine and
 -- the actor before the call and after it (`self`, `actor`). Only private contracts cite it.
 use Rattle.std.specs.Prelude.{ℕ, Bool, List, Option, Result}
-use Rattle.esc_frame.specs.declared.actor.VTActor.{Ghosts as Actor}
+use Rattle.esc_frame.specs.declared.taker.Taker.{Ghosts as Actor}
 use Rattle.esc_frame.specs.declared.machine.Machine.{Machine}
 use Rattle.esc_frame.specs.declared.store.Store.{Ghosts as Keeper}
 use Rattle.esc_frame.specs.Changed.{Changed}
@@ -25,8 +25,8 @@ Emits V own result events actor =
 abbrev pub Makes : {K A S E : Type 0} → Keeper K → Actor S → Option ℕ → Bool
     → Result (Unit {0}) E → Move → Changed (Machine K A) → Changed S
     → Type 0
-Makes K V limit own result move self actor =
-    calls.Moved K.keeps K.denied limit own V.takes V.refuses result move self.exit.now
+Makes {A} K V limit own result move self actor =
+    calls.Moved K.keeps (calls.Fails K.denied V.stops A) limit own V.takes V.refuses result move self.exit.now
     actor.entry.now actor.exit.now
 
 -- the same under any limit, whoever may stop it
@@ -40,16 +40,16 @@ AlwaysMakes K V result move self actor =
 abbrev pub Consumes : {K A S E : Type 0} → Keeper K → Actor S → Option ℕ
     → Result ℕ E → Unfinished → List ℕ → Changed (Machine K A) → Changed S
     → Type 0
-Consumes K V limit result u rest self actor =
-    calls.Took K.keeps K.denied limit V.takes V.refuses result u rest self.exit.now
+Consumes {A} K V limit result u rest self actor =
+    calls.Took K.keeps (calls.Fails K.denied V.stops A) limit V.takes V.refuses result u rest self.exit.now
     actor.entry.now actor.exit.now
 
 -- the same in ground, of one byte at least, none of which but the last emits an event
 abbrev pub ConsumesSome : {K A S E : Type 0} → Keeper K → Actor S → Option ℕ
     → Result ℕ E → List ℕ → Changed (Machine K A) → Changed S
     → Type 0
-ConsumesSome K V limit result rest self actor =
-    calls.TookSome K.keeps K.denied limit V.takes V.refuses V.is_ready result rest self.exit.now
+ConsumesSome {A} K V limit result rest self actor =
+    calls.TookSome K.keeps (calls.Fails K.denied V.stops A) limit V.takes V.refuses V.is_ready result rest self.exit.now
     actor.entry.now actor.exit.now
 
 -- bytes that leave nothing unfinished in ground: their events are emitted

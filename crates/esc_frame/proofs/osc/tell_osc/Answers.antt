@@ -4,8 +4,7 @@ use Rattle.esc_values.specs.Clear.{parts_of}
 use Rattle.esc_frame.specs.Events.{Takes}
 use Rattle.esc_frame.specs.Events.Event.{OscDispatch}
 use Rattle.esc_frame.specs.Limits.{is_within}
-use Rattle.memory.specs.Refusals.{Refused}
-use Rattle.memory.specs.Refusals.References.{by_reference}
+use Rattle.esc_frame.specs.Machine.Calls.{Stops}
 use Rattle.esc_frame.proofs.Given.{takes_for}
 use Rattle.esc_frame.proofs.Lent.{osc_told, osc_untold}
 use Rattle.esc_frame.proofs.osc.tell_osc.Goals as goal
@@ -18,20 +17,22 @@ pub returns-then-is_over-clause-told : goal.returns-then-is_over-clause-told
 returns-then-is_over-clause-told g c = λ limit t k.
     let w = not_so (is_within limit (length t)) true
     (sym (c.is_over.ensures limit t k) ∙ c.if-is_over.true) in
-    subst (λ es. FoldsTo g.V.VTActor.takes c.args.actor.now es c.args.actor.now)
+    subst (λ es. FoldsTo g.V.Taker.takes c.args.actor.now es c.args.actor.now)
     (osc_untold limit t w) refl
 
 pub returns-else-is_over-clause-told : goal.returns-else-is_over-clause-told
 returns-else-is_over-clause-told g c = λ limit t k.
     let w = not_so (is_within limit (length t)) false
     (sym (c.is_over.ensures limit t k) ∙ c.if-is_over.false) in
-    let own : Type 0 = Refused g.row.A.Denot in
-    subst (λ es. Takes own g.V.VTActor.takes g.V.VTActor.refuses c.osc_text.result c.args.actor.now
+    let own : Type 0 = Stops g.V.Taker.stops g.row.A.Denot limit in
+    let kept = c.bytes.ensures.kept limit t k w in
+    subst (λ es. Takes own g.V.Taker.takes g.V.Taker.refuses c.osc_text.result c.args.actor.now
     es c.osc_text.new.self)
     (osc_told limit t w)
-    (subst (λ y. Takes own g.V.VTActor.takes g.V.VTActor.refuses c.osc_text.result c.args.actor.now
-    (OscDispatch (parts_of y) ∷ []) c.osc_text.new.self) (c.bytes.ensures.kept limit t k w)
-    (takes_for _ _ g.V.VTActor.takes g.V.VTActor.refuses c.osc_text.result c.args.actor.now
+    (subst (λ y. Takes own g.V.Taker.takes g.V.Taker.refuses c.osc_text.result c.args.actor.now
+    (OscDispatch (parts_of y) ∷ []) c.osc_text.new.self) kept
+    (takes_for _ _ g.V.Taker.takes g.V.Taker.refuses c.osc_text.result c.args.actor.now
     c.osc_text.new.self
-    (OscDispatch (parts_of c.bytes.result.now) ∷ []) (by_reference g.row.A.Denot)
+    (OscDispatch (parts_of c.bytes.result.now) ∷ [])
+    (λ y. (c.bytes.result.now, subst (λ x. is_within limit (length x) ≡ true) (sym kept) w, y))
     c.osc_text.ensures.told))

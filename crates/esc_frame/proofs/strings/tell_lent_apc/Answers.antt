@@ -9,15 +9,15 @@ use Rattle.esc_frame.proofs.strings.tell_lent_apc.Goals as goal
 pub returns-then-fits-clause-told : goal.returns-then-fits-clause-told
 returns-then-fits-clause-told g c =
     let t = c.args.text.now in
-    subst (λ es. Takes ⊥ g.V.VTActor.takes g.V.VTActor.refuses c.apc_dispatch.result
+    subst (λ es. Takes ⊥ g.V.Taker.takes g.V.Taker.refuses c.apc_dispatch.result
     c.args.actor.now es c.apc_dispatch.new.self)
     (apc_told c.args.limit t (within_by c.args.limit (length t) _ c.fits.ensures ∙ c.if-fits.true))
-    (hears_takes ⊥ g.V.VTActor.takes g.V.VTActor.refuses c.apc_dispatch.result c.args.actor.now
+    (hears_takes ⊥ g.V.Taker.takes g.V.Taker.refuses c.apc_dispatch.result c.args.actor.now
     c.apc_dispatch.new.self (ApcDispatch t)
     c.apc_dispatch.ensures.hears)
 
 pub returns-else-fits-clause-told : goal.returns-else-fits-clause-told
 returns-else-fits-clause-told g c =
     let t = c.args.text.now in
-    subst (λ es. FoldsTo g.V.VTActor.takes c.args.actor.now es c.args.actor.now)
+    subst (λ es. FoldsTo g.V.Taker.takes c.args.actor.now es c.args.actor.now)
     (apc_untold c.args.limit t (within_by c.args.limit (length t) _ c.fits.ensures ∙ c.if-fits.false)) refl

@@ -2,19 +2,21 @@ use Rattle.std.proofs.Common.{[], ◌∷◌, refl}
 use Rattle.esc_frame.specs.Events.Event.{Print}
 use Rattle.esc_frame.specs.Machine.Moves.{ground_move}
 use Rattle.esc_frame.proofs.Given.{moves_then, refused_stops, stops_more}
+use Rattle.esc_frame.specs.Machine.Calls.{Fails}
 use Rattle.esc_frame.proofs.machine.Machine.break_off.Goals as goal
 
 pub returns-in-Ok-clause-moved : goal.returns-in-Ok-clause-moved
 returns-in-Ok-clause-moved g c =
-    λ limit own. moves_then g.K.Store.keeps g.K.Store.denied limit own
-    g.V.VTActor.takes g.V.VTActor.refuses c.in_ground.result (Print 0xfffd ∷ [])
+    λ limit own. moves_then g.K.Store.keeps (Fails g.K.Store.denied g.V.Taker.stops g.row.A.Denot)
+    limit own
+    g.V.Taker.takes g.V.Taker.refuses c.in_ground.result (Print 0xfffd ∷ [])
     (ground_move c.args.b c.args.class)
     c.in_ground.new.self
     c.args.actor.now _ _ (_, c.in-Ok.ensures.hears, refl) (c.in_ground.ensures.moved limit own)
 
 pub returns-in-Err-clause-moved : goal.returns-in-Err-clause-moved
 returns-in-Err-clause-moved g c =
-    λ limit own. stops_more _ g.V.VTActor.takes g.V.VTActor.refuses (Print 0xfffd ∷ [])
+    λ limit own. stops_more _ g.V.Taker.takes g.V.Taker.refuses (Print 0xfffd ∷ [])
     _ c.args.actor.now _
-    (refused_stops _ g.V.VTActor.takes g.V.VTActor.refuses c.args.actor.now _ (Print 0xfffd)
+    (refused_stops _ g.V.Taker.takes g.V.Taker.refuses c.args.actor.now _ (Print 0xfffd)
     c.in-Err.ensures.hears)

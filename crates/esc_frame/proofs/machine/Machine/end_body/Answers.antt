@@ -1,13 +1,14 @@
 use Rattle.std.proofs.Common.{false, sym, subst, arith}
 use Rattle.esc_frame.specs.Classes.{strip}
-use Rattle.esc_frame.specs.Machine.Calls.{Moved}
+use Rattle.esc_frame.specs.Machine.Calls.{Moved, Fails}
 use Rattle.esc_frame.proofs.CsiRuns.{final_by}
 use Rattle.esc_frame.proofs.machine.Machine.end_body.Goals as goal
 
 pub returns-then-b-le126-clause-moved : goal.returns-then-b-le126-clause-moved
 returns-then-b-le126-clause-moved g c = λ limit o x k.
-    subst (λ m. Moved g.K.Store.keeps g.K.Store.denied limit false
-    g.V.VTActor.takes g.V.VTActor.refuses c.dispatch_csi.result m c.dispatch_csi.new.self
+    subst (λ m. Moved g.K.Store.keeps (Fails g.K.Store.denied g.V.Taker.stops g.row.A.Denot)
+    limit false
+    g.V.Taker.takes g.V.Taker.refuses c.dispatch_csi.result m c.dispatch_csi.new.self
     c.args.actor.now
     c.dispatch_csi.new.actor)
     (sym (final_by limit o x c.args.b (omega arith) (omega arith))) (c.dispatch_csi.ensures.moved limit (strip x) k)

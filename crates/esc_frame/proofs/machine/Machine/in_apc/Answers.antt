@@ -4,20 +4,23 @@ use Rattle.esc_frame.specs.Classes.{is_breaker, is_text, those}
 use Rattle.esc_frame.specs.Leads.Unfinished.{InApc}
 use Rattle.esc_frame.proofs.Pushed.{apc_pushed}
 use Rattle.esc_frame.proofs.Moving.{broken_told}
+use Rattle.esc_frame.specs.Machine.Calls.{Fails}
 use Rattle.esc_frame.proofs.machine.Machine.in_apc.Goals as goal
 
 pub returns-in-Cancel-clause-moved : goal.returns-in-Cancel-clause-moved
 returns-in-Cancel-clause-moved g c = λ e o d k.
     let t : is_breaker c.args.class ≡ true = search (rules, c.in-Cancel.is) in
-    broken_told g.K.Store.keeps g.K.Store.denied c.args.limit true
-    g.V.VTActor.takes g.V.VTActor.refuses c.leave_apc.result (InApc o d)
+    broken_told g.K.Store.keeps (Fails g.K.Store.denied g.V.Taker.stops g.row.A.Denot)
+    c.args.limit true
+    g.V.Taker.takes g.V.Taker.refuses c.leave_apc.result (InApc o d)
     c.args.b c.args.class c.leave_apc.new.self
     c.args.actor.now c.leave_apc.new.actor t (c.leave_apc.ensures.moved c.args.limit (those is_text d) k)
 
 pub returns-in-Delete-clause-moved : goal.returns-in-Delete-clause-moved
 returns-in-Delete-clause-moved g c = λ e o d k.
     let t : is_text c.args.class ≡ true = search (rules, c.in-Delete.is) in
-    apc_pushed g.K.Store.keeps g.K.Store.denied c.args.limit g.V.VTActor.takes g.V.VTActor.refuses
+    apc_pushed g.K.Store.keeps g.K.Store.denied g.V.Taker.stops c.args.limit
+    g.V.Taker.takes g.V.Taker.refuses
     c.push.result c.push.ensures.refused
     (record c.args.self.now { state = state.Apc; text = c.push.new.self }) o
     c.args.b c.args.class

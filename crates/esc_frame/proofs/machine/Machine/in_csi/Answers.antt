@@ -7,24 +7,28 @@ use Rattle.esc_frame.specs.Machine.Keeps.{KeepsBody}
 use Rattle.esc_frame.proofs.Bytes.{noise_strip}
 use Rattle.esc_frame.proofs.Given.{hears_moved}
 use Rattle.esc_frame.proofs.Moving.{broken}
+use Rattle.esc_frame.specs.Machine.Calls.{Fails}
 use Rattle.esc_frame.proofs.machine.Machine.in_csi.Goals as goal
 
 pub returns-in-Cancel-clause-moved : goal.returns-in-Cancel-clause-moved
 returns-in-Cancel-clause-moved g c = λ e limit o x k.
     let t : is_breaker c.args.class ≡ true = search (rules, c.in-Cancel.is) in
-    broken g.K.Store.keeps g.K.Store.denied limit false g.V.VTActor.takes g.V.VTActor.refuses
+    broken g.K.Store.keeps (Fails g.K.Store.denied g.V.Taker.stops g.row.A.Denot)
+    limit false g.V.Taker.takes g.V.Taker.refuses
     c.in_ground.result (InCsi o x) c.args.b c.args.class c.in_ground.new.self
     c.args.actor.now c.in_ground.new.actor t refl (c.in_ground.ensures.moved limit false)
 
 pub returns-in-Plain-clause-moved : goal.returns-in-Plain-clause-moved
 returns-in-Plain-clause-moved g c = λ e limit o x k. elim c.in-Plain.is [
-  | inl i ↦ rw i (hears_moved g.K.Store.keeps g.K.Store.denied limit _
-      g.V.VTActor.takes g.V.VTActor.refuses c.execute_c0_or_c1.result (InCsi o (x ++ c.args.b ∷ []))
+  | inl i ↦ rw i (hears_moved g.K.Store.keeps (Fails g.K.Store.denied g.V.Taker.stops g.row.A.Denot)
+      limit _
+      g.V.Taker.takes g.V.Taker.refuses c.execute_c0_or_c1.result (InCsi o (x ++ c.args.b ∷ []))
       (Execute c.args.b)
       (record c.args.self.now { state = state.Csi }) c.args.actor.now _ (refl, subst (KeepsBody c.args.self.now.body) (noise_strip x c.args.b _ _ e i refl) k)
       c.execute_c0_or_c1.ensures.hears)
-  | inr i ↦ rw i (hears_moved g.K.Store.keeps g.K.Store.denied limit _
-      g.V.VTActor.takes g.V.VTActor.refuses c.execute_c0_or_c1.result (InCsi o (x ++ c.args.b ∷ []))
+  | inr i ↦ rw i (hears_moved g.K.Store.keeps (Fails g.K.Store.denied g.V.Taker.stops g.row.A.Denot)
+      limit _
+      g.V.Taker.takes g.V.Taker.refuses c.execute_c0_or_c1.result (InCsi o (x ++ c.args.b ∷ []))
       (Execute c.args.b)
       (record c.args.self.now { state = state.Csi }) c.args.actor.now _ (refl, subst (KeepsBody c.args.self.now.body) (noise_strip x c.args.b _ _ e i refl) k)
       c.execute_c0_or_c1.ensures.hears)

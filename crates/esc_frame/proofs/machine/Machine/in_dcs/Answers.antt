@@ -4,19 +4,22 @@ use Rattle.esc_frame.specs.Classes.{in_body, is_breaker, strip}
 use Rattle.esc_frame.specs.Leads.Unfinished.{InDcs}
 use Rattle.esc_frame.proofs.Pushed.{dcs_pushed}
 use Rattle.esc_frame.proofs.Moving.{broken}
+use Rattle.esc_frame.specs.Machine.Calls.{Fails}
 use Rattle.esc_frame.proofs.machine.Machine.in_dcs.Goals as goal
 
 pub returns-in-Cancel-clause-moved : goal.returns-in-Cancel-clause-moved
 returns-in-Cancel-clause-moved g c = λ e o x k d.
     let t : is_breaker c.args.class ≡ true = search (rules, c.in-Cancel.is) in
-    broken g.K.Store.keeps g.K.Store.denied c.args.limit true g.V.VTActor.takes g.V.VTActor.refuses
+    broken g.K.Store.keeps (Fails g.K.Store.denied g.V.Taker.stops g.row.A.Denot)
+    c.args.limit true g.V.Taker.takes g.V.Taker.refuses
     c.in_ground.result (InDcs o x) c.args.b c.args.class c.in_ground.new.self
     c.args.actor.now c.in_ground.new.actor t refl (c.in_ground.ensures.moved c.args.limit true)
 
 pub returns-in-Intermediate-clause-moved : goal.returns-in-Intermediate-clause-moved
 returns-in-Intermediate-clause-moved g c = λ e o x k d.
     let t : in_body c.args.class ≡ true = search (rules, c.in-Intermediate.is) in
-    dcs_pushed g.K.Store.keeps g.K.Store.denied c.args.limit g.V.VTActor.takes g.V.VTActor.refuses
+    dcs_pushed g.K.Store.keeps g.K.Store.denied g.V.Taker.stops c.args.limit
+    g.V.Taker.takes g.V.Taker.refuses
     c.keep.result c.keep.ensures.refused
     (record c.args.self.now { state = state.Dcs; header = c.keep.new.header; text = c.keep.new.parameters }) o c.args.b c.args.class
     c.args.actor.now e x t refl (c.keep.ensures.header (strip x) d) (c.keep.ensures.parameters (strip x) k)

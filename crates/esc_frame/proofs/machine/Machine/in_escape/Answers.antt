@@ -8,19 +8,22 @@ use Rattle.esc_frame.specs.Machine.Keeps.{Keeps}
 use Rattle.esc_frame.proofs.Bytes.{noise_strip}
 use Rattle.esc_frame.proofs.Given.{hears_moved}
 use Rattle.esc_frame.proofs.Moving.{broken}
+use Rattle.esc_frame.specs.Machine.Calls.{Fails}
 use Rattle.esc_frame.proofs.machine.Machine.in_escape.Goals as goal
 
 pub returns-in-Cancel-clause-moved : goal.returns-in-Cancel-clause-moved
 returns-in-Cancel-clause-moved g c = λ e limit own x k.
     let t : is_breaker c.args.class ≡ true = search (rules, c.in-Cancel.is) in
-    broken g.K.Store.keeps g.K.Store.denied limit own g.V.VTActor.takes g.V.VTActor.refuses
+    broken g.K.Store.keeps (Fails g.K.Store.denied g.V.Taker.stops g.row.A.Denot)
+    limit own g.V.Taker.takes g.V.Taker.refuses
     c.in_ground.result (InEscape x) c.args.b c.args.class c.in_ground.new.self
     c.args.actor.now c.in_ground.new.actor t refl (c.in_ground.ensures.moved limit own)
 
 pub returns-in-Plain-clause-moved : goal.returns-in-Plain-clause-moved
 returns-in-Plain-clause-moved g c = λ e limit own x k. elim c.in-Plain.is [
-  | inl i ↦ rw i (hears_moved g.K.Store.keeps g.K.Store.denied limit _
-      g.V.VTActor.takes g.V.VTActor.refuses c.execute_c0_or_c1.result
+  | inl i ↦ rw i (hears_moved g.K.Store.keeps (Fails g.K.Store.denied g.V.Taker.stops g.row.A.Denot)
+      limit _
+      g.V.Taker.takes g.V.Taker.refuses c.execute_c0_or_c1.result
       (InEscape (x ++ c.args.b ∷ []))
       (Execute c.args.b)
       (record c.args.self.now { state = state.Escape }) c.args.actor.now _ (
@@ -29,8 +32,9 @@ returns-in-Plain-clause-moved g c = λ e limit own x k. elim c.in-Plain.is [
             i refl) k,
       )
       c.execute_c0_or_c1.ensures.hears)
-  | inr i ↦ rw i (hears_moved g.K.Store.keeps g.K.Store.denied limit _
-      g.V.VTActor.takes g.V.VTActor.refuses c.execute_c0_or_c1.result
+  | inr i ↦ rw i (hears_moved g.K.Store.keeps (Fails g.K.Store.denied g.V.Taker.stops g.row.A.Denot)
+      limit _
+      g.V.Taker.takes g.V.Taker.refuses c.execute_c0_or_c1.result
       (InEscape (x ++ c.args.b ∷ []))
       (Execute c.args.b)
       (record c.args.self.now { state = state.Escape }) c.args.actor.now _ (

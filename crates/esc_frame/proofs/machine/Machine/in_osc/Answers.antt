@@ -6,20 +6,23 @@ use Rattle.esc_frame.specs.Leads.Unfinished.{InOsc}
 use Rattle.esc_frame.specs.Segments.{text_of}
 use Rattle.esc_frame.proofs.Pushed.{osc_pushed}
 use Rattle.esc_frame.proofs.Moving.{broken_told}
+use Rattle.esc_frame.specs.Machine.Calls.{Fails}
 use Rattle.esc_frame.proofs.machine.Machine.in_osc.Goals as goal
 
 pub returns-in-Cancel-clause-moved : goal.returns-in-Cancel-clause-moved
 returns-in-Cancel-clause-moved g c = λ e o ps k.
     let t : is_breaker c.args.class ≡ true = search (rules, c.in-Cancel.is) in
-    broken_told g.K.Store.keeps g.K.Store.denied c.args.limit true
-    g.V.VTActor.takes g.V.VTActor.refuses c.leave_osc.result (InOsc o ps)
+    broken_told g.K.Store.keeps (Fails g.K.Store.denied g.V.Taker.stops g.row.A.Denot)
+    c.args.limit true
+    g.V.Taker.takes g.V.Taker.refuses c.leave_osc.result (InOsc o ps)
     c.args.b c.args.class c.leave_osc.new.self
     c.args.actor.now c.leave_osc.new.actor t (c.leave_osc.ensures.moved c.args.limit (text_of ps) k)
 
 pub returns-in-Intermediate-clause-moved : goal.returns-in-Intermediate-clause-moved
 returns-in-Intermediate-clause-moved g c = λ e o ps k.
     let t : is_text c.args.class ≡ true = search (rules, c.in-Intermediate.is) in
-    osc_pushed g.K.Store.keeps g.K.Store.denied c.args.limit g.V.VTActor.takes g.V.VTActor.refuses
+    osc_pushed g.K.Store.keeps g.K.Store.denied g.V.Taker.stops c.args.limit
+    g.V.Taker.takes g.V.Taker.refuses
     c.push.result c.push.ensures.refused
     (record c.args.self.now { state = state.Osc; pending = pending.Nothing; text = c.push.new.self }) o c.args.b c.args.class c.args.actor.now e ps t refl
     refl (c.push.ensures.ok (text_of ps) k)

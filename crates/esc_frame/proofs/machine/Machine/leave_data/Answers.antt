@@ -2,19 +2,21 @@ use Rattle.std.proofs.Common.{true, [], ◌∷◌, refl}
 use Rattle.esc_frame.specs.Events.Event.{DcsUnhook}
 use Rattle.esc_frame.specs.Machine.Moves.{ground_move}
 use Rattle.esc_frame.proofs.Given.{moves_then, refused_stops, stops_more}
+use Rattle.esc_frame.specs.Machine.Calls.{Fails}
 use Rattle.esc_frame.proofs.machine.Machine.leave_data.Goals as goal
 
 pub returns-in-Ok-clause-moved : goal.returns-in-Ok-clause-moved
 returns-in-Ok-clause-moved g c =
-    λ limit. moves_then g.K.Store.keeps g.K.Store.denied limit true
-    g.V.VTActor.takes g.V.VTActor.refuses c.in_ground.result (DcsUnhook ∷ [])
+    λ limit. moves_then g.K.Store.keeps (Fails g.K.Store.denied g.V.Taker.stops g.row.A.Denot)
+    limit true
+    g.V.Taker.takes g.V.Taker.refuses c.in_ground.result (DcsUnhook ∷ [])
     (ground_move c.args.b c.args.class)
     c.in_ground.new.self
     c.args.actor.now _ _ (_, c.in-Ok.ensures.hears, refl) (c.in_ground.ensures.moved limit true)
 
 pub returns-in-Err-clause-moved : goal.returns-in-Err-clause-moved
 returns-in-Err-clause-moved g c =
-    λ limit. stops_more _ g.V.VTActor.takes g.V.VTActor.refuses (DcsUnhook ∷ [])
+    λ limit. stops_more _ g.V.Taker.takes g.V.Taker.refuses (DcsUnhook ∷ [])
     _ c.args.actor.now _
-    (refused_stops _ g.V.VTActor.takes g.V.VTActor.refuses c.args.actor.now _ (DcsUnhook)
+    (refused_stops _ g.V.Taker.takes g.V.Taker.refuses c.args.actor.now _ (DcsUnhook)
     c.in-Err.ensures.hears)

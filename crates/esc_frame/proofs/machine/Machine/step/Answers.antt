@@ -1,5 +1,5 @@
 use Rattle.std.proofs.Common.{ap, false}
-use Rattle.esc_frame.specs.Machine.Calls.{Moved}
+use Rattle.esc_frame.specs.Machine.Calls.{Moved, Fails}
 use Rattle.esc_frame.specs.Machine.Fronts.{front_of}
 use Rattle.esc_frame.specs.Machine.Moves.{move, may_grow_in}
 use Rattle.esc_frame.proofs.States.{ground_only, escape_only, csi_only, osc_only, dcs_only, apc_only}
@@ -8,8 +8,9 @@ use Rattle.esc_frame.proofs.machine.Machine.step.Goals as goal
 pub returns-in-Nothing-pending-clause-moved : goal.returns-in-Nothing-pending-clause-moved
 returns-in-Nothing-pending-clause-moved g c = λ e u h.
     osc_only g.K.Store.keeps c.args.limit c.args.self.now u c.in-Osc.is (ap front_of c.in-Nothing-pending.is) h
-    (λ v. Moved g.K.Store.keeps g.K.Store.denied c.args.limit (may_grow_in v)
-    g.V.VTActor.takes g.V.VTActor.refuses c.in_osc.result
+    (λ v. Moved g.K.Store.keeps (Fails g.K.Store.denied g.V.Taker.stops g.row.A.Denot)
+    c.args.limit (may_grow_in v)
+    g.V.Taker.takes g.V.Taker.refuses c.in_osc.result
     (move c.args.limit v c.args.b c.args.class)
     c.in_osc.new.self c.args.actor.now
     c.in_osc.new.actor)
@@ -18,8 +19,9 @@ returns-in-Nothing-pending-clause-moved g c = λ e u h.
 pub returns-in-Dcs-clause-moved : goal.returns-in-Dcs-clause-moved
 returns-in-Dcs-clause-moved g c = λ e u h.
     dcs_only g.K.Store.keeps c.args.limit c.args.self.now u c.in-Dcs.is h
-    (λ v. Moved g.K.Store.keeps g.K.Store.denied c.args.limit (may_grow_in v)
-    g.V.VTActor.takes g.V.VTActor.refuses c.in_dcs.result
+    (λ v. Moved g.K.Store.keeps (Fails g.K.Store.denied g.V.Taker.stops g.row.A.Denot)
+    c.args.limit (may_grow_in v)
+    g.V.Taker.takes g.V.Taker.refuses c.in_dcs.result
     (move c.args.limit v c.args.b c.args.class)
     c.in_dcs.new.self c.args.actor.now
     c.in_dcs.new.actor)
@@ -28,8 +30,9 @@ returns-in-Dcs-clause-moved g c = λ e u h.
 pub returns-in-Apc-clause-moved : goal.returns-in-Apc-clause-moved
 returns-in-Apc-clause-moved g c = λ e u h.
     apc_only g.K.Store.keeps c.args.limit c.args.self.now u c.in-Apc.is h
-    (λ v. Moved g.K.Store.keeps g.K.Store.denied c.args.limit (may_grow_in v)
-    g.V.VTActor.takes g.V.VTActor.refuses c.in_apc.result
+    (λ v. Moved g.K.Store.keeps (Fails g.K.Store.denied g.V.Taker.stops g.row.A.Denot)
+    c.args.limit (may_grow_in v)
+    g.V.Taker.takes g.V.Taker.refuses c.in_apc.result
     (move c.args.limit v c.args.b c.args.class)
     c.in_apc.new.self c.args.actor.now
     c.in_apc.new.actor)
@@ -38,8 +41,9 @@ returns-in-Apc-clause-moved g c = λ e u h.
 pub returns-in-Nothing-clause-moved : goal.returns-in-Nothing-clause-moved
 returns-in-Nothing-clause-moved g c = λ e u h.
     ground_only g.K.Store.keeps c.args.limit c.args.self.now u c.in-Ground.is (ap front_of c.in-Nothing.is) h
-    (λ v. Moved g.K.Store.keeps g.K.Store.denied c.args.limit (may_grow_in v)
-    g.V.VTActor.takes g.V.VTActor.refuses c.in_ground.result
+    (λ v. Moved g.K.Store.keeps (Fails g.K.Store.denied g.V.Taker.stops g.row.A.Denot)
+    c.args.limit (may_grow_in v)
+    g.V.Taker.takes g.V.Taker.refuses c.in_ground.result
     (move c.args.limit v c.args.b c.args.class)
     c.in_ground.new.self c.args.actor.now
     c.in_ground.new.actor)
@@ -48,8 +52,9 @@ returns-in-Nothing-clause-moved g c = λ e u h.
 pub returns-in-Escape-clause-moved : goal.returns-in-Escape-clause-moved
 returns-in-Escape-clause-moved g c = λ e u h.
     escape_only g.K.Store.keeps c.args.limit c.args.self.now u c.in-Escape.is h
-    (λ v. Moved g.K.Store.keeps g.K.Store.denied c.args.limit (may_grow_in v)
-    g.V.VTActor.takes g.V.VTActor.refuses c.in_escape.result
+    (λ v. Moved g.K.Store.keeps (Fails g.K.Store.denied g.V.Taker.stops g.row.A.Denot)
+    c.args.limit (may_grow_in v)
+    g.V.Taker.takes g.V.Taker.refuses c.in_escape.result
     (move c.args.limit v c.args.b c.args.class)
     c.in_escape.new.self c.args.actor.now
     c.in_escape.new.actor)
@@ -58,8 +63,9 @@ returns-in-Escape-clause-moved g c = λ e u h.
 pub returns-in-Csi-clause-moved : goal.returns-in-Csi-clause-moved
 returns-in-Csi-clause-moved g c = λ e u h.
     csi_only g.K.Store.keeps c.args.limit c.args.self.now u c.in-Csi.is h
-    (λ v. Moved g.K.Store.keeps g.K.Store.denied c.args.limit (may_grow_in v)
-    g.V.VTActor.takes g.V.VTActor.refuses c.in_csi.result
+    (λ v. Moved g.K.Store.keeps (Fails g.K.Store.denied g.V.Taker.stops g.row.A.Denot)
+    c.args.limit (may_grow_in v)
+    g.V.Taker.takes g.V.Taker.refuses c.in_csi.result
     (move c.args.limit v c.args.b c.args.class)
     c.in_csi.new.self c.args.actor.now
     c.in_csi.new.actor)

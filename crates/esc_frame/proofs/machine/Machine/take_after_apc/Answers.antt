@@ -19,7 +19,7 @@ returns-then-run-rest-clause-took g c = λ o d k not_lent.
 pub returns-in-Ok-clause-took : goal.returns-in-Ok-clause-took
 returns-in-Ok-clause-took g c = λ o d k not_lent.
     let xs = take c.args.run c.args.rest.now in
-    quiet_took c.args.limit g.V.VTActor.takes g.V.VTActor.refuses (InApc o d) (InApc o (d ++ xs)) c.args.rest.now c.args.run _ c.args.actor.now
+    quiet_took c.args.limit g.V.Taker.takes g.V.Taker.refuses (InApc o d) (InApc o (d ++ xs)) c.args.rest.now c.args.run _ c.args.actor.now
     c.in_apc.new.actor
     (apc_text c.args.limit o d xs c.requires.passes) (omega arith) c.classify.ensures g.K.Store.keeps c.in_apc.new.self
     (unlent_fresh (InApc o d) c.args.rest.now (c.args.run + 1) not_lent)
@@ -28,7 +28,7 @@ returns-in-Ok-clause-took g c = λ o d k not_lent.
 pub returns-in-Err-clause-took : goal.returns-in-Err-clause-took
 returns-in-Err-clause-took g c = λ o d k not_lent.
     let xs = take c.args.run c.args.rest.now in
-    quiet_stops c.args.limit g.V.VTActor.takes g.V.VTActor.refuses (InApc o d) (InApc o (d ++ xs)) c.args.rest.now c.args.run _ c.args.actor.now
+    quiet_stops c.args.limit g.V.Taker.takes g.V.Taker.refuses (InApc o d) (InApc o (d ++ xs)) c.args.rest.now c.args.run _ c.args.actor.now
     c.in_apc.new.actor
     (apc_text c.args.limit o d xs c.requires.passes) (omega arith) c.classify.ensures (λ may. not_lent)
     (c.in-Err.ensures.moved c.classify.ensures o (d ++ xs)

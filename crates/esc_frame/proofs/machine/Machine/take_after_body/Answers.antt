@@ -19,7 +19,7 @@ returns-then-run-rest-clause-took g c = λ limit o x k.
 pub returns-in-Ok-clause-took : goal.returns-in-Ok-clause-took
 returns-in-Ok-clause-took g c = λ limit o x k.
     let xs : List ℕ = take c.args.run c.args.rest.now in
-    quiet_took limit g.V.VTActor.takes g.V.VTActor.refuses (InCsi o x) (InCsi o (x ++ xs)) c.args.rest.now c.args.run _ c.args.actor.now c.end_body.new.actor
+    quiet_took limit g.V.Taker.takes g.V.Taker.refuses (InCsi o x) (InCsi o (x ++ xs)) c.args.rest.now c.args.run _ c.args.actor.now c.end_body.new.actor
     (body_quiet limit o x xs c.requires.passes) (omega arith) refl g.K.Store.keeps c.end_body.new.self
     (body_fresh o x c.args.rest.now c.args.run c.requires.passes (omega arith))
     (c.in-Ok.ensures.moved limit o (x ++ xs) (subst (KeepsBody c.args.self.now.body) (sym (body_strip x xs c.requires.passes)) k))
@@ -27,7 +27,7 @@ returns-in-Ok-clause-took g c = λ limit o x k.
 pub returns-in-Err-clause-took : goal.returns-in-Err-clause-took
 returns-in-Err-clause-took g c = λ limit o x k.
     let xs : List ℕ = take c.args.run c.args.rest.now in
-    quiet_stops limit g.V.VTActor.takes g.V.VTActor.refuses (InCsi o x) (InCsi o (x ++ xs)) c.args.rest.now c.args.run _ c.args.actor.now c.end_body.new.actor
+    quiet_stops limit g.V.Taker.takes g.V.Taker.refuses (InCsi o x) (InCsi o (x ++ xs)) c.args.rest.now c.args.run _ c.args.actor.now c.end_body.new.actor
     (body_quiet limit o x xs c.requires.passes) (omega arith) refl (λ may. absurd cc)
     (c.in-Err.ensures.moved limit o (x ++ xs) (subst (KeepsBody c.args.self.now.body) (sym (body_strip x xs c.requires.passes)) k))
 

@@ -19,7 +19,7 @@ returns-then-run-rest-clause-took g c = λ o ps k not_lent.
 pub returns-in-Ok-clause-took : goal.returns-in-Ok-clause-took
 returns-in-Ok-clause-took g c = λ o ps k not_lent.
     let run = c.requires.passes in
-    quiet_took c.args.limit g.V.VTActor.takes g.V.VTActor.refuses (InOsc o ps) (InOsc o (ps ++ run.0)) c.args.rest.now c.args.run _ c.args.actor.now
+    quiet_took c.args.limit g.V.Taker.takes g.V.Taker.refuses (InOsc o ps) (InOsc o (ps ++ run.0)) c.args.rest.now c.args.run _ c.args.actor.now
     c.in_osc.new.actor
     (run.2 c.args.limit o ps) (omega arith) c.classify.ensures g.K.Store.keeps c.in_osc.new.self
     (unlent_fresh (InOsc o ps) c.args.rest.now (c.args.run + 1) not_lent)
@@ -28,7 +28,7 @@ returns-in-Ok-clause-took g c = λ o ps k not_lent.
 pub returns-in-Err-clause-took : goal.returns-in-Err-clause-took
 returns-in-Err-clause-took g c = λ o ps k not_lent.
     let run = c.requires.passes in
-    quiet_stops c.args.limit g.V.VTActor.takes g.V.VTActor.refuses (InOsc o ps) (InOsc o (ps ++ run.0)) c.args.rest.now c.args.run _ c.args.actor.now
+    quiet_stops c.args.limit g.V.Taker.takes g.V.Taker.refuses (InOsc o ps) (InOsc o (ps ++ run.0)) c.args.rest.now c.args.run _ c.args.actor.now
     c.in_osc.new.actor
     (run.2 c.args.limit o ps) (omega arith) c.classify.ensures (λ may. not_lent)
     (c.in-Err.ensures.moved c.classify.ensures o (ps ++ run.0) (subst (g.K.Store.keeps c.args.limit c.args.self.now.text) (run_text ps run) k))

@@ -2,7 +2,7 @@ use Rattle.std.proofs.Common.{◌≡◌, ◌<◌, None, sym, subst, rules, take}
 use Rattle.std.specs.List.{FoldsTo}
 use Rattle.esc_frame.specs.Leads.{Holds}
 use Rattle.esc_frame.specs.Leads.Unfinished.{Ground}
-use Rattle.esc_frame.specs.Machine.Calls.{TookSome}
+use Rattle.esc_frame.specs.Machine.Calls.{TookSome, Fails}
 use Rattle.esc_frame.specs.Machine.Moves.{news_all}
 use Rattle.esc_frame.proofs.Given.{stops_for}
 use Rattle.esc_frame.proofs.Lends.{ground_fresh}
@@ -12,10 +12,11 @@ pub returns-in-Ok-eq0 : goal.returns-in-Ok-eq0
 returns-in-Ok-eq0 g c =
     let none : c.in-Ok-eq0.field-0 ≡ 0 = search rules in
     let same : c.args.actor.now ≡ c.print_first.new.actor =
-    subst (λ k. FoldsTo g.V.VTActor.takes c.args.actor.now (news_all None Ground (take k c.args.rest.now)) c.print_first.new.actor) none
+    subst (λ k. FoldsTo g.V.Taker.takes c.args.actor.now (news_all None Ground (take k c.args.rest.now)) c.print_first.new.actor) none
     (c.in-Ok-eq0.ensures.stays.2 None) in
-    subst (λ a. TookSome g.K.Store.keeps g.K.Store.denied c.args.limit
-    g.V.VTActor.takes g.V.VTActor.refuses g.V.VTActor.is_ready c.take_control.result c.args.rest.now
+    subst (λ a. TookSome g.K.Store.keeps (Fails g.K.Store.denied g.V.Taker.stops g.row.A.Denot)
+    c.args.limit
+    g.V.Taker.takes g.V.Taker.refuses g.V.Taker.is_ready c.take_control.result c.args.rest.now
     c.take_control.new.self
     a c.take_control.new.actor)
     (sym same) c.take_control.ensures
@@ -36,7 +37,7 @@ returns-in-Ok g c =
 
 pub returns-in-Err : goal.returns-in-Err
 returns-in-Err g c = (
-  stops_for ⊥ _ g.V.VTActor.takes g.V.VTActor.refuses _ c.args.actor.now _ (λ no. absurd no)
+  stops_for ⊥ _ g.V.Taker.takes g.V.Taker.refuses _ c.args.actor.now _ (λ no. absurd no)
       (c.in-Err.ensures.stays c.args.limit),
   tt,
   tt,

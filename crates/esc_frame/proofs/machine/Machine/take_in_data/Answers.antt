@@ -1,7 +1,7 @@
 use Rattle.std.proofs.Common.{◌≡◌, true, refl, sym, subst, take}
 use Rattle.std.specs.List.{FoldsTo}
 use Rattle.esc_frame.specs.Events.{StopsAt}
-use Rattle.esc_frame.specs.Machine.Calls.{NoMemory}
+use Rattle.esc_frame.specs.Machine.Calls.{Fails}
 use Rattle.esc_frame.specs.Machine.Moves.{may_grow_within}
 use Rattle.esc_frame.specs.Scans.{is_data_byte}
 use Rattle.esc_frame.proofs.Given.{stops_for}
@@ -18,7 +18,7 @@ returns-in-Ok-clause-took g c = λ u h.
     let q = data_holds g.K.Store.keeps c.args.limit c.args.self.now (take c.data_run-run.result c.args.rest.now)
     (all_pass is_data_byte c.args.rest.now c.data_run-run.result c.data_run-run.ensures.run) u c.requires.state h in (
       q.0,
-      subst (λ es. FoldsTo g.V.VTActor.takes c.args.actor.now es c.dcs_put_text.new.self) (sym q.1) c.in-Ok.ensures.told,
+      subst (λ es. FoldsTo g.V.Taker.takes c.args.actor.now es c.dcs_put_text.new.self) (sym q.1) c.in-Ok.ensures.told,
       data_fresh g.K.Store.keeps c.args.limit c.args.self.now u c.args.rest.now c.data_run-run.result c.requires.state h,
     )
 
@@ -27,11 +27,11 @@ returns-in-Err-clause-took g c = λ u h.
     let q = data_holds g.K.Store.keeps c.args.limit c.args.self.now (take c.data_run-run.result c.args.rest.now)
     (all_pass is_data_byte c.args.rest.now c.data_run-run.result c.data_run-run.ensures.run) u c.requires.state h in
     let own : Type 0 = (may_grow_within u c.args.rest.now ≡ true)
-    × NoMemory g.K.Store.denied g.row.A.Denot in
-    stop_within c.args.limit own g.V.VTActor.takes g.V.VTActor.refuses u c.args.rest.now c.data_run-run.result c.args.actor.now c.dcs_put_text.new.self
-    (stops_for ⊥ own g.V.VTActor.takes g.V.VTActor.refuses _ c.args.actor.now
+    × Fails g.K.Store.denied g.V.Taker.stops g.row.A.Denot c.args.limit in
+    stop_within c.args.limit own g.V.Taker.takes g.V.Taker.refuses u c.args.rest.now c.data_run-run.result c.args.actor.now c.dcs_put_text.new.self
+    (stops_for ⊥ own g.V.Taker.takes g.V.Taker.refuses _ c.args.actor.now
     c.dcs_put_text.new.self (λ no. absurd no)
-    (subst (λ es. StopsAt ⊥ g.V.VTActor.takes g.V.VTActor.refuses c.args.actor.now es
+    (subst (λ es. StopsAt ⊥ g.V.Taker.takes g.V.Taker.refuses c.args.actor.now es
     c.dcs_put_text.new.self) (sym q.1) c.in-Err.ensures.told))
 
 pub take_one-requires-clause-between : goal.take_one-requires-clause-between

@@ -10,7 +10,7 @@ returns-clause-took g c = λ u h.
     let q = skip_holds g.K.Store.keeps c.args.limit c.args.self.now (take c.ascii_run-run.result c.args.rest.now)
     (prefix_passes c.args.rest.now c.ascii_run-run.result c.ascii_run-run.ensures.run) u c.requires.state h in (
       q.0,
-      quiet_folds g.V.VTActor.takes _ c.args.actor.now q.1,
+      quiet_folds g.V.Taker.takes _ c.args.actor.now q.1,
       skip_fresh g.K.Store.keeps c.args.limit c.args.self.now u c.args.rest.now c.ascii_run-run.result c.requires.state h,
     )
 

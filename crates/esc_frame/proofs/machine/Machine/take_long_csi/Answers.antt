@@ -5,6 +5,7 @@ use Rattle.esc_frame.proofs.CsiRuns.{csi_opens}
 use Rattle.esc_frame.specs.declared.classes.Kind.TheVariants as kind
 use Rattle.esc_frame.proofs.Lends.{opened_fresh}
 use Rattle.esc_frame.proofs.Still.{opened_took, opened_stops}
+use Rattle.esc_frame.specs.Machine.Calls.{Fails}
 use Rattle.esc_frame.proofs.machine.Machine.take_long_csi.Goals as goal
 
 pub take_in_csi-requires-clause-state : goal.take_in_csi-requires-clause-state
@@ -13,16 +14,17 @@ take_in_csi-requires-clause-state g c = (c.open.ensures None (Long [])).0
 pub returns-in-Ok : goal.returns-in-Ok
 returns-in-Ok g c = λ limit.
     opened_took limit (InCsi (Long []) []) c.args.rest.now c.requires.some c.requires.escape
-    (csi_opens limit c.args.rest.now (omega arith) c.requires.escape c.requires.bracket) refl g.V.VTActor.takes g.V.VTActor.refuses g.V.VTActor.is_ready
+    (csi_opens limit c.args.rest.now (omega arith) c.requires.escape c.requires.bracket) refl g.V.Taker.takes g.V.Taker.refuses g.V.Taker.is_ready
     c.args.actor.now c.take_in_csi.new.actor (opened_fresh kind.Csi (Long []))
-    g.K.Store.keeps g.K.Store.denied c.take_in_csi.new.self c.in-Ok.n
+    g.K.Store.keeps (Fails g.K.Store.denied g.V.Taker.stops g.row.A.Denot)
+    c.take_in_csi.new.self c.in-Ok.n
     (c.in-Ok.ensures.took limit (Long []) [] (c.open.ensures limit (Long [])).1)
     (c.in-Ok.ensures.quiet limit (Long []) []) c.in-Ok.ensures.count
 
 pub returns-in-Err : goal.returns-in-Err
 returns-in-Err g c = λ limit. (
   opened_stops limit (InCsi (Long []) []) c.args.rest.now c.requires.some c.requires.escape
-      (csi_opens limit c.args.rest.now (omega arith) c.requires.escape c.requires.bracket) refl g.V.VTActor.takes g.V.VTActor.refuses g.V.VTActor.is_ready
+      (csi_opens limit c.args.rest.now (omega arith) c.requires.escape c.requires.bracket) refl g.V.Taker.takes g.V.Taker.refuses g.V.Taker.is_ready
       c.args.actor.now c.take_in_csi.new.actor (opened_fresh kind.Csi (Long [])) (c.in-Err.ensures.took limit (Long []) [] (c.open.ensures limit (Long [])).1),
   tt,
   tt,

@@ -5,21 +5,23 @@ use Rattle.esc_frame.proofs.CsiRuns.{osc_opens}
 use Rattle.esc_frame.specs.declared.classes.Kind.TheVariants as kind
 use Rattle.esc_frame.proofs.Lends.{opened_fresh}
 use Rattle.esc_frame.proofs.Still.{opened_took, opened_stops}
+use Rattle.esc_frame.specs.Machine.Calls.{Fails}
 use Rattle.esc_frame.proofs.machine.Machine.take_osc.Goals as goal
 
 pub returns-in-Ok : goal.returns-in-Ok
 returns-in-Ok g c =
     opened_took c.args.limit (InOsc (Long []) []) c.args.rest.now c.requires.some c.requires.escape
-    (osc_opens c.args.limit c.args.rest.now (omega arith) c.requires.escape c.requires.bracket) refl g.V.VTActor.takes g.V.VTActor.refuses g.V.VTActor.is_ready
+    (osc_opens c.args.limit c.args.rest.now (omega arith) c.requires.escape c.requires.bracket) refl g.V.Taker.takes g.V.Taker.refuses g.V.Taker.is_ready
     c.args.actor.now c.take_body.new.actor (opened_fresh kind.Osc (Long []))
-    g.K.Store.keeps g.K.Store.denied c.take_body.new.self c.in-Ok.n
+    g.K.Store.keeps (Fails g.K.Store.denied g.V.Taker.stops g.row.A.Denot)
+    c.take_body.new.self c.in-Ok.n
     (c.in-Ok.ensures.took (Long []) [] refl) (c.in-Ok.ensures.quiet (Long []) []) c.in-Ok.ensures.count
 
 pub returns-in-Err : goal.returns-in-Err
 returns-in-Err g c = (
   opened_stops c.args.limit (InOsc (Long []) []) c.args.rest.now c.requires.some c.requires.escape
-      (osc_opens c.args.limit c.args.rest.now (omega arith) c.requires.escape c.requires.bracket) refl g.V.VTActor.takes g.V.VTActor.refuses
-      g.V.VTActor.is_ready
+      (osc_opens c.args.limit c.args.rest.now (omega arith) c.requires.escape c.requires.bracket) refl g.V.Taker.takes g.V.Taker.refuses
+      g.V.Taker.is_ready
       c.args.actor.now c.take_body.new.actor (opened_fresh kind.Osc (Long [])) (c.in-Err.ensures.took (Long []) [] refl),
   tt,
   tt,

@@ -1,5 +1,5 @@
 use Rattle.std.proofs.Common.{ap}
-use Rattle.esc_frame.specs.Machine.Calls.{Took, Quietly}
+use Rattle.esc_frame.specs.Machine.Calls.{Took, Quietly, Fails}
 use Rattle.esc_frame.specs.Machine.Fronts.{front_of}
 use Rattle.esc_frame.proofs.States.{ground_only, osc_only, csi_only, apc_only}
 use Rattle.esc_frame.proofs.machine.Machine.take_some.Goals as goal
@@ -7,7 +7,8 @@ use Rattle.esc_frame.proofs.machine.Machine.take_some.Goals as goal
 pub returns-in-Nothing-clause-took : goal.returns-in-Nothing-clause-took
 returns-in-Nothing-clause-took g c = λ u h.
     ground_only g.K.Store.keeps c.args.limit c.args.self.now u c.in-Ground.is (ap front_of c.in-Nothing.is) h
-    (λ v. Took g.K.Store.keeps g.K.Store.denied c.args.limit g.V.VTActor.takes g.V.VTActor.refuses
+    (λ v. Took g.K.Store.keeps (Fails g.K.Store.denied g.V.Taker.stops g.row.A.Denot)
+    c.args.limit g.V.Taker.takes g.V.Taker.refuses
     c.take_first.result v c.args.rest.now c.take_first.new.self c.args.actor.now
     c.take_first.new.actor)
     c.take_first.ensures.0
@@ -23,7 +24,8 @@ returns-in-Nothing-clause-count g c = c.take_first.ensures.2
 pub returns-in-Csi-clause-took : goal.returns-in-Csi-clause-took
 returns-in-Csi-clause-took g c = λ u h.
     csi_only g.K.Store.keeps c.args.limit c.args.self.now u c.in-Csi.is h
-    (λ v. Took g.K.Store.keeps g.K.Store.denied c.args.limit g.V.VTActor.takes g.V.VTActor.refuses
+    (λ v. Took g.K.Store.keeps (Fails g.K.Store.denied g.V.Taker.stops g.row.A.Denot)
+    c.args.limit g.V.Taker.takes g.V.Taker.refuses
     c.take_in_csi.result v c.args.rest.now c.take_in_csi.new.self c.args.actor.now
     c.take_in_csi.new.actor)
     (λ o x k. c.take_in_csi.ensures.took c.args.limit o x k.1)
@@ -39,7 +41,8 @@ returns-in-Csi-clause-count g c = c.take_in_csi.ensures.count
 pub returns-in-Nothing-pending-clause-took : goal.returns-in-Nothing-pending-clause-took
 returns-in-Nothing-pending-clause-took g c = λ u h.
     osc_only g.K.Store.keeps c.args.limit c.args.self.now u c.in-Osc.is (ap front_of c.in-Nothing-pending.is) h
-    (λ v. Took g.K.Store.keeps g.K.Store.denied c.args.limit g.V.VTActor.takes g.V.VTActor.refuses
+    (λ v. Took g.K.Store.keeps (Fails g.K.Store.denied g.V.Taker.stops g.row.A.Denot)
+    c.args.limit g.V.Taker.takes g.V.Taker.refuses
     c.take_in_osc.result v c.args.rest.now c.take_in_osc.new.self c.args.actor.now
     c.take_in_osc.new.actor)
     (λ o ps k. c.take_in_osc.ensures.took o ps k.1)
@@ -55,7 +58,8 @@ returns-in-Nothing-pending-clause-count g c = c.take_in_osc.ensures.count
 pub returns-in-Apc-clause-took : goal.returns-in-Apc-clause-took
 returns-in-Apc-clause-took g c = λ u h.
     apc_only g.K.Store.keeps c.args.limit c.args.self.now u c.in-Apc.is h
-    (λ v. Took g.K.Store.keeps g.K.Store.denied c.args.limit g.V.VTActor.takes g.V.VTActor.refuses
+    (λ v. Took g.K.Store.keeps (Fails g.K.Store.denied g.V.Taker.stops g.row.A.Denot)
+    c.args.limit g.V.Taker.takes g.V.Taker.refuses
     c.take_in_apc.result v c.args.rest.now c.take_in_apc.new.self c.args.actor.now
     c.take_in_apc.new.actor)
     (λ o d k. c.take_in_apc.ensures.took o d k.1)

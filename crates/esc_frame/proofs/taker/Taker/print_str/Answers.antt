@@ -1,0 +1,41 @@
+use Rattle.std.proofs.Common.{map, subst, arith}
+use Rattle.std.specs.List.{FoldsTo}
+use Rattle.std.specs.Str.{chars}
+use Rattle.esc_frame.specs.Events.Event.{Print}
+use Rattle.esc_frame.proofs.FirstChars.{next_within, tail_next, tail_some, tail_clear}
+use Rattle.esc_frame.proofs.Spelled.{next_spelled, stop_given, all_spelled}
+use Rattle.esc_frame.proofs.taker.Taker.print_str.Goals as goal
+
+pub loop-at-preserved : goal.loop-at-preserved
+loop-at-preserved g c =
+    next_spelled g.Self.Taker.takes g.Self.Taker.refuses g.Self.Taker.is_ready
+    c.as_bytes-bytes.result.now c.loop-at.at _ _ c.args.self.now _ _ c.loop-at.invariant
+    (tail_next c.as_bytes-bytes.result.now c.loop-at.at _ _ c.first_of-c.ensures.next)
+    c.in-Ok.ensures.hears c.in-Ok.ensures.ready
+
+pub returns-in-Err-clause-told : goal.returns-in-Err-clause-told
+returns-in-Err-clause-told g c =
+    stop_given g.Self.Taker.takes g.Self.Taker.refuses g.Self.Taker.is_ready
+    c.as_bytes-bytes.result.now _ c.as_bytes-bytes.ensures.value c.loop-at.at _ _ c.args.self.now _
+    _ c.loop-at.invariant
+    (tail_next c.as_bytes-bytes.result.now c.loop-at.at _ _ c.first_of-c.ensures.next)
+    ⊥ c.in-Err.ensures.hears
+
+pub returns-clause-told : goal.returns-clause-told
+returns-clause-told g c =
+    subst (λ y. FoldsTo g.Self.Taker.takes c.args.self.now (map Print (chars y)) c.loop-at.self) c.as_bytes-bytes.ensures.value
+    (all_spelled g.Self.Taker.takes g.Self.Taker.refuses g.Self.Taker.is_ready c.as_bytes-bytes.result.now c.loop-at.at c.args.self.now _
+    (omega arith) c.loop-at.invariant)
+
+pub first_of-c-requires-clause-some : goal.first_of-c-requires-clause-some
+first_of-c-requires-clause-some g c =
+    tail_some c.as_bytes-bytes.result.now c.loop-at.at c.loop-at-test.true
+
+pub first_of-c-requires-clause-clear : goal.first_of-c-requires-clause-clear
+first_of-c-requires-clause-clear g c =
+    tail_clear c.as_bytes-bytes.result.now c.loop-at.at c.loop-at.invariant.1
+
+pub overflow_add-at : goal.overflow_add-at
+overflow_add-at g c =
+    let w = next_within c.as_bytes-bytes.result.now c.loop-at.at _ _ c.loop-at-test.true
+    c.first_of-c.ensures.next in omega arith

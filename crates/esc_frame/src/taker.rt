@@ -1,0 +1,274 @@
+//! What a machine gives its events.
+#![tactic(auto)]
+
+ghost use Rattle.std.specs.Prelude.{◌≡◌, ◌<◌, [], ◌∷◌, ℕ, List, length, map, pos, OnOk, true};
+ghost use Rattle.std.specs.List.{list_all};
+ghost use Rattle.std.specs.Str.{chars};
+ghost use Rattle.esc_values.specs.Clear.{is_clear, parts_of};
+ghost use Rattle.esc_frame.specs.Bodies.{held, value_behind};
+ghost use Rattle.esc_frame.specs.Events.{Event, Hears, Takes};
+ghost use Rattle.esc_frame.specs.Limits.{has_few_parts};
+ghost use Rattle.esc_frame.specs.Scans.{is_text_byte, is_data_byte};
+ghost use Rattle.memory.specs.Refusals.{Refused};
+ghost use Rattle.esc_frame.specs.Events.Event.{Print, Execute, EscDispatch, CsiDispatch, OscDispatch, DcsHook, DcsPut, DcsUnhook, ApcDispatch};
+
+use crate::actor::VTActor;
+use crate::texts::first_of;
+use esc_values::csi_param::CsiParam;
+use std::alloc::{AllocError, Allocator};
+
+/// What a machine gives its events, one call an event. Every [`VTActor`] is one. A type that takes the texts of strings as they
+/// are, and asks for no memory, can say so here, by `stops`, which a `VTActor` cannot: its default methods make lists.
+pub trait Taker {
+    // what an event may make of a value
+    ghost takes: { Self → Event → Self → Type 0 };
+
+    // what a refused call may leave
+    ghost refuses: { Self → Event → Self → Type 0 };
+
+    // the next call may be made
+    ghost is_ready: { Self → Type 0 };
+
+    // why a call that was given this text and an allocator may stop by itself; the first says that
+    // the allocator refused a request
+    ghost stops: { Type 0 → List ℕ → Type 0 };
+
+    /// A character.
+    fn print(&mut self, c: char) -> Result<(), AllocError>
+        requires { is_ready self.old }
+        ensures hears { Hears takes refuses result self.old (Print c) self.new }
+        ensures ready { OnOk result (is_ready self.new) };
+
+    /// A run of characters 20 to 7F, one byte each, never empty.
+    #[inline(always)]
+    fn print_text(&mut self, text: &[u8]) -> Result<(), AllocError>
+        requires ready { is_ready self.old }
+        requires some { 0 < length text.now }
+        requires text { list_all is_text_byte text.now ≡ true }
+        ensures told { Takes ⊥ takes refuses result self.old (map Print text.now) self.new }
+        ensures ready { OnOk result (is_ready self.new) }
+    {
+        for b in text {
+            match self.print(*b as char) {
+                Ok(()) => {}
+                Err(e) => return Err(e),
+            }
+        }
+        Ok(())
+    }
+
+    /// A run of characters as UTF-8, never empty: none is a control.
+    #[inline(always)]
+    fn print_str(&mut self, text: &str) -> Result<(), AllocError>
+        requires ready { is_ready self.old }
+        requires some { 0 < length text.now }
+        requires clear { list_all is_clear (chars text.now) ≡ true }
+        ensures told { Takes ⊥ takes refuses result self.old (map Print (chars text.now)) self.new }
+        ensures ready { OnOk result (is_ready self.new) }
+    {
+        let bytes = text.as_bytes();
+        let mut at = 0;
+        while at < bytes.len() {
+            let (c, n) = first_of(&bytes[at..]);
+            match self.print(c) {
+                Ok(()) => at += n,
+                Err(e) => return Err(e),
+            }
+        }
+        Ok(())
+    }
+
+    /// A control of C0 or C1.
+    fn execute_c0_or_c1(&mut self, control: u8) -> Result<(), AllocError>
+        requires { is_ready self.old }
+        ensures hears { Hears takes refuses result self.old (Execute control) self.new }
+        ensures ready { OnOk result (is_ready self.new) };
+
+    /// A device control string begins, with its parameter bytes as they came.
+    fn dcs_header<A: Allocator + Copy>(
+        &mut self,
+        alloc: A,
+        byte: u8,
+        parameters: &[u8],
+        intermediates: &[u8],
+        ignored_extra_intermediates: bool,
+    ) -> Result<(), AllocError>
+        requires { is_ready self.old }
+        ensures told { Takes (stops (Refused A) parameters.now) takes refuses result self.old
+            (DcsHook byte (map (λ p. pos (held (value_behind 0 p))) (parts_of parameters.now))
+            intermediates.now ignored_extra_intermediates ∷ []) self.new }
+        ensures ready { OnOk result (is_ready self.new) };
+
+    /// A byte of its data.
+    fn dcs_put(&mut self, byte: u8) -> Result<(), AllocError>
+        requires { is_ready self.old }
+        ensures hears { Hears takes refuses result self.old (DcsPut byte) self.new }
+        ensures ready { OnOk result (is_ready self.new) };
+
+    /// A run of its data, bytes 20 to 7E, never empty.
+    #[inline(always)]
+    fn dcs_put_text(&mut self, bytes: &[u8]) -> Result<(), AllocError>
+        requires ready { is_ready self.old }
+        requires some { 0 < length bytes.now }
+        requires bytes { list_all is_data_byte bytes.now ≡ true }
+        ensures told { Takes ⊥ takes refuses result self.old (map DcsPut bytes.now) self.new }
+        ensures ready { OnOk result (is_ready self.new) }
+    {
+        for b in bytes {
+            match self.dcs_put(*b) {
+                Ok(()) => {}
+                Err(e) => return Err(e),
+            }
+        }
+        Ok(())
+    }
+
+    /// It ends.
+    fn dcs_unhook(&mut self) -> Result<(), AllocError>
+        requires { is_ready self.old }
+        ensures hears { Hears takes refuses result self.old DcsUnhook self.new }
+        ensures ready { OnOk result (is_ready self.new) };
+
+    /// An escape sequence.
+    fn esc_dispatch(
+        &mut self,
+        params: &[i64],
+        intermediates: &[u8],
+        ignored_extra_intermediates: bool,
+        byte: u8,
+    ) -> Result<(), AllocError>
+        requires ready { is_ready self.old }
+        requires no_params { params.now ≡ [] }
+        ensures hears { Hears takes refuses result self.old
+            (EscDispatch intermediates.now ignored_extra_intermediates byte) self.new }
+        ensures ready { OnOk result (is_ready self.new) };
+
+    /// A control sequence.
+    fn csi_dispatch(
+        &mut self,
+        params: &[CsiParam],
+        parameters_truncated: bool,
+        byte: u8,
+    ) -> Result<(), AllocError>
+        requires { is_ready self.old }
+        ensures hears { Hears takes refuses result self.old
+            (CsiDispatch params.now parameters_truncated byte) self.new }
+        ensures ready { OnOk result (is_ready self.new) };
+
+    /// The text of an operating system command, whole.
+    fn osc_text<A: Allocator>(&mut self, alloc: A, text: &[u8]) -> Result<(), AllocError>
+        requires { is_ready self.old }
+        ensures told { Takes (stops (Refused A) text.now) takes refuses result self.old
+            (OscDispatch (parts_of text.now) ∷ []) self.new }
+        ensures few { has_few_parts text.now ≡ true
+            → Takes ⊥ takes refuses result self.old
+            (OscDispatch (parts_of text.now) ∷ []) self.new }
+        ensures ready { OnOk result (is_ready self.new) };
+
+    /// The text of an application program command.
+    fn apc_dispatch(&mut self, text: &[u8]) -> Result<(), AllocError>
+        requires { is_ready self.old }
+        ensures hears { Hears takes refuses result self.old (ApcDispatch text.now) self.new }
+        ensures ready { OnOk result (is_ready self.new) };
+}
+
+impl<V: VTActor> Taker for V {
+    ghost takes = { V.takes };
+
+    ghost refuses = { V.refuses };
+
+    ghost is_ready = { V.is_ready };
+
+    ghost stops = { λ refused _. refused };
+
+    #[inline(always)]
+    fn print(&mut self, c: char) -> Result<(), AllocError> {
+        VTActor::print(self, c)
+    }
+
+    #[inline(always)]
+    fn print_text(&mut self, text: &[u8]) -> Result<(), AllocError> {
+        VTActor::print_text(self, text)
+    }
+
+    #[inline(always)]
+    fn print_str(&mut self, text: &str) -> Result<(), AllocError> {
+        VTActor::print_str(self, text)
+    }
+
+    #[inline(always)]
+    fn execute_c0_or_c1(&mut self, control: u8) -> Result<(), AllocError> {
+        VTActor::execute_c0_or_c1(self, control)
+    }
+
+    #[inline(always)]
+    fn dcs_header<A: Allocator + Copy>(
+        &mut self,
+        alloc: A,
+        byte: u8,
+        parameters: &[u8],
+        intermediates: &[u8],
+        ignored_extra_intermediates: bool,
+    ) -> Result<(), AllocError> {
+        VTActor::dcs_header(
+            self,
+            alloc,
+            byte,
+            parameters,
+            intermediates,
+            ignored_extra_intermediates,
+        )
+    }
+
+    #[inline(always)]
+    fn dcs_put(&mut self, byte: u8) -> Result<(), AllocError> {
+        VTActor::dcs_put(self, byte)
+    }
+
+    #[inline(always)]
+    fn dcs_put_text(&mut self, bytes: &[u8]) -> Result<(), AllocError> {
+        VTActor::dcs_put_text(self, bytes)
+    }
+
+    #[inline(always)]
+    fn dcs_unhook(&mut self) -> Result<(), AllocError> {
+        VTActor::dcs_unhook(self)
+    }
+
+    #[inline(always)]
+    fn esc_dispatch(
+        &mut self,
+        params: &[i64],
+        intermediates: &[u8],
+        ignored_extra_intermediates: bool,
+        byte: u8,
+    ) -> Result<(), AllocError> {
+        VTActor::esc_dispatch(
+            self,
+            params,
+            intermediates,
+            ignored_extra_intermediates,
+            byte,
+        )
+    }
+
+    #[inline(always)]
+    fn csi_dispatch(
+        &mut self,
+        params: &[CsiParam],
+        parameters_truncated: bool,
+        byte: u8,
+    ) -> Result<(), AllocError> {
+        VTActor::csi_dispatch(self, params, parameters_truncated, byte)
+    }
+
+    #[inline(always)]
+    fn osc_text<A: Allocator>(&mut self, alloc: A, text: &[u8]) -> Result<(), AllocError> {
+        VTActor::osc_text(self, alloc, text)
+    }
+
+    #[inline(always)]
+    fn apc_dispatch(&mut self, text: &[u8]) -> Result<(), AllocError> {
+        VTActor::apc_dispatch(self, text)
+    }
+}
