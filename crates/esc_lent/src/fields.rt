@@ -12,7 +12,8 @@ use esc_frame::entries::next_number;
 use esc_frame::sequence::lies_from;
 use esc_values::csi_param::CsiParam;
 
-// How far a field goes, how many entries there are then, whether a separator ended it, and else the byte after it, or 0.
+// How far a field goes, how many entries there are then, whether a separator ended it, and else the
+// byte after it, or 0.
 #[derive(Clone, Copy)]
 struct Field {
     length: usize,
@@ -21,7 +22,8 @@ struct Field {
     after: u8,
 }
 
-/// How far a body goes, how many entries it has, and the byte after it, or 0 where there is none or there are too many entries.
+/// How far a body goes, how many entries it has, and the byte after it, or 0 where there is none or
+/// there are too many entries.
 #[derive(Clone, Copy)]
 pub struct Body {
     pub length: usize,
@@ -33,7 +35,8 @@ pub struct Body {
 #[inline(always)]
 fn put(entries: &mut [EscEntry], count: usize, entry: EscEntry)
     requires { count < length entries.old }
-    ensures { map param_of (take (count + 1) entries.new) ≡ map param_of (take count entries.old) ++ param_of entry ∷ [] }
+    ensures { map param_of (take (count + 1) entries.new) ≡ map param_of (take count entries.old)
+        ++ param_of entry ∷ [] }
 {
     entries[count] = entry;
 }
@@ -42,7 +45,8 @@ fn put(entries: &mut [EscEntry], count: usize, entry: EscEntry)
 #[inline(always)]
 fn put_byte(entries: &mut [EscEntry], count: usize, byte: u8)
     requires { count < length entries.old }
-    ensures { map param_of (take (count + 1) entries.new) ≡ map param_of (take count entries.old) ++ CsiParam.P byte ∷ [] }
+    ensures { map param_of (take (count + 1) entries.new) ≡ map param_of (take count entries.old)
+        ++ CsiParam.P byte ∷ [] }
 {
     let entry = EscEntry {
         number: 0,
@@ -57,7 +61,8 @@ fn put_byte(entries: &mut [EscEntry], count: usize, byte: u8)
 fn put_integer(entries: &mut [EscEntry], count: usize, number: u64)
     requires room { count < length entries.old }
     requires small { number ≤ 0x7fff_ffff_ffff_ffff }
-    ensures { map param_of (take (count + 1) entries.new) ≡ map param_of (take count entries.old) ++ CsiParam.Integer (pos number) ∷ [] }
+    ensures { map param_of (take (count + 1) entries.new) ≡ map param_of (take count entries.old)
+        ++ CsiParam.Integer (pos number) ∷ [] }
 {
     let entry = EscEntry {
         number: number as i64,
@@ -67,8 +72,9 @@ fn put_integer(entries: &mut [EscEntry], count: usize, number: u64)
     put(entries, count, entry)
 }
 
-// The number that the digits write that come first, at least one, how many they are, and the byte after them, or 0. Most numbers
-// have at most three digits; of others only the first is read, but where `any` says so.
+// The number that the digits write that come first, at least one, how many they are, and the byte
+// after them, or 0. Most numbers have at most three digits; of others only the first is read, but
+// where `any` says so.
 #[inline(always)]
 fn read_number(rest: &[u8], any: bool) -> (u64, usize, u8)
     requires some { 0 < length rest.now }
@@ -78,7 +84,8 @@ fn read_number(rest: &[u8], any: bool) -> (u64, usize, u8)
     ensures digits { list_all is_digit (take result.1 rest.now) ≡ true }
     ensures value { result.0 ≡ held (value_behind 0 (take result.1 rest.now)) }
     ensures small { result.0 ≤ 0x7fff_ffff_ffff_ffff }
-    ensures after { 0 < result.2 → (result.1 < length rest.now) × (slice_index rest.now result.1 ≡ result.2) }
+    ensures after { 0 < result.2 → (result.1 < length rest.now)
+        × (slice_index rest.now result.1 ≡ result.2) }
 {
     let one = next_number(0, rest[0] - b'0');
     if rest.len() < 4 {
@@ -116,7 +123,8 @@ fn read_any_number(rest: &[u8]) -> (u64, usize, u8)
     ensures digits { list_all is_digit (take result.1 rest.now) ≡ true }
     ensures value { result.0 ≡ held (value_behind 0 (take result.1 rest.now)) }
     ensures small { result.0 ≤ 0x7fff_ffff_ffff_ffff }
-    ensures after { 0 < result.2 → (result.1 < length rest.now) × (slice_index rest.now result.1 ≡ result.2) }
+    ensures after { 0 < result.2 → (result.1 < length rest.now)
+        × (slice_index rest.now result.1 ≡ result.2) }
 {
     let mut number = next_number(0, rest[0] - b'0');
     let mut end = 1;
@@ -139,8 +147,10 @@ fn put_number(entries: &mut [EscEntry], count: usize, rest: &[u8], any: bool) ->
     requires low { 0x30 ≤ slice_index rest.now 0 }
     requires high { slice_index rest.now 0 ≤ 0x39 }
     ensures count { (0 < result.0) × (result.0 ≤ length rest.now) }
-    ensures after { 0 < result.1 → (result.0 < length rest.now) × (slice_index rest.now result.0 ≡ result.1) }
-    ensures keeps { (x : List ℕ) → IsFront (map param_of (take count entries.old)) x → IsBehind (map param_of (take (count + 1) entries.new)) (x ++ take result.0 rest.now) }
+    ensures after { 0 < result.1 → (result.0 < length rest.now)
+        × (slice_index rest.now result.0 ≡ result.1) }
+    ensures keeps { (x : List ℕ) → IsFront (map param_of (take count entries.old)) x
+        → IsBehind (map param_of (take (count + 1) entries.new)) (x ++ take result.0 rest.now) }
 {
     let (number, length, after) = read_number(rest, any);
     put_integer(entries, count, number);
@@ -152,7 +162,9 @@ fn put_number(entries: &mut [EscEntry], count: usize, rest: &[u8], any: bool) ->
 fn put_mark(entries: &mut [EscEntry], count: usize, b: u8, any: bool) -> bool
     requires room { count < length entries.old }
     ensures some { result ≡ true → 0 < b }
-    ensures mark { result ≡ true → (x : List ℕ) → IsBehind (map param_of (take count entries.old)) x → IsFront (map param_of (take (count + 1) entries.new)) (x ++ b ∷ []) }
+    ensures mark { result ≡ true → (x : List ℕ)
+        → IsBehind (map param_of (take count entries.old)) x
+        → IsFront (map param_of (take (count + 1) entries.new)) (x ++ b ∷ []) }
     ensures other { result ≡ false → entries.new ≡ entries.old }
 {
     if b == b';' {
@@ -193,9 +205,16 @@ fn put_field(entries: &mut [EscEntry], count: usize, rest: &[u8], any: bool) -> 
     requires some { 0 < length rest.now }
     ensures few { result.length ≤ length rest.now }
     ensures entries { (result.count ≤ count + 2) }
-    ensures goes_on { result.goes_on ≡ true → (0 < result.length) × ((x : List ℕ) → IsFront (map param_of (take count entries.old)) x → IsFront (map param_of (take result.count entries.new)) (x ++ take result.length rest.now)) }
-    ensures ends { result.goes_on ≡ false → (x : List ℕ) → IsFront (map param_of (take count entries.old)) x → IsBehind (map param_of (take result.count entries.new)) (x ++ take result.length rest.now) }
-    ensures after { 0 < result.after → (result.length < length rest.now) × (slice_index rest.now result.length ≡ result.after) }
+    ensures goes_on { result.goes_on ≡ true → (0 < result.length) × ((x : List ℕ)
+        → IsFront (map param_of (take count entries.old)) x
+        → IsFront (map param_of (take result.count entries.new)) (x
+        ++ take result.length rest.now)) }
+    ensures ends { result.goes_on ≡ false → (x : List ℕ)
+        → IsFront (map param_of (take count entries.old)) x
+        → IsBehind (map param_of (take result.count entries.new)) (x
+        ++ take result.length rest.now) }
+    ensures after { 0 < result.after → (result.length < length rest.now)
+        × (slice_index rest.now result.length ≡ result.after) }
 {
     if b'0' <= rest[0] && rest[0] <= b'9' {
         let (n, after) = put_number(entries, count, rest, any);
@@ -239,15 +258,18 @@ fn least(any: bool) -> usize
     if any { 1 } else { 4 }
 }
 
-/// Reads the body that comes first, as far as it has a marker, numbers and separators and there is room for its entries. What is seldom,
-/// which is the separator 3A, numbers of more than three digits and the last bytes of all, it reads only where `any` says so.
+/// Reads the body that comes first, as far as it has a marker, numbers and separators and there is
+/// room for its entries. What is seldom, which is the separator 3A, numbers of more than three
+/// digits and the last bytes of all, it reads only where `any` says so.
 #[inline(always)]
 pub fn read_body(entries: &mut [EscEntry], rest: &[u8], any: bool) -> Body
     requires { length entries.old ≡ 256 }
     ensures few { result.length ≤ length rest.now }
     ensures count { result.count ≤ 256 }
-    ensures keeps { IsShort (map param_of (take result.count entries.new)) (take result.length rest.now) }
-    ensures after { 0 < result.after → (result.length < length rest.now) × (slice_index rest.now result.length ≡ result.after) }
+    ensures keeps { IsShort (map param_of (take result.count entries.new)) (take result.length
+        rest.now) }
+    ensures after { 0 < result.after → (result.length < length rest.now)
+        × (slice_index rest.now result.length ≡ result.after) }
 {
     let mut count = put_marker(entries, rest);
     let mut at = count;

@@ -47,7 +47,8 @@ pub fn load<'a, N: Named>(
 ) -> Machine<LentText<'a, N>, NoMemory>
     requires same { memory.ghost_name ≡ N.kept }
     requires room { length memory.old ≡ N.room }
-    ensures holds { (u : Unfinished) → KeptIn parser.now memory.old u → Holds ⟦<LentText<'a, N> as Store>⟧.keeps (Some N.room) result u }
+    ensures holds { (u : Unfinished) → KeptIn parser.now memory.old u
+        → Holds ⟦<LentText<'a, N> as Store>⟧.keeps (Some N.room) result u }
 {
     let count = parser.text.min(memory.len());
     Machine {

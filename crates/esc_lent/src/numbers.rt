@@ -11,6 +11,12 @@ use esc_frame::body::Form;
 use esc_frame::machine::State;
 use esc_frame::sequence::Pending;
 
+/// The number of a parser between segments.
+pub const GROUND: u32 = 0;
+
+/// The number of a parser in an escape sequence.
+pub const ESCAPED: u32 = 1;
+
 pub fn state_of(number: u32) -> State
     ensures { result ≡ state_numbered number }
 {

@@ -7,24 +7,27 @@ ghost use Rattle.esc_lent.specs.declared.parser.EscParser.{EscParser as Parser};
 ghost use Rattle.esc_lent.specs.Runs.{IsTextRun, Tells, TellsEvent};
 ghost use Rattle.esc_lent.specs.Told.{is_run, param_of, sent};
 
-use crate::event::{CONTROL, CSI, EscEvent, TEXT};
+use crate::event::{CONTROL, CSI, EscEvent, FAILED, NONE, TEXT};
 use crate::fields::read_body;
+use crate::numbers::GROUND;
 use crate::parser::EscParser;
 use crate::runs::ascii_text;
 use esc_frame::sequence::lies_from;
 
-/// Notes the control, or the short control sequence, whole in the bytes, that comes first in ground; nothing where
-/// something else comes.
+/// Notes the control, or the short control sequence, whole in the bytes, that comes first in
+/// ground; nothing where something else comes.
 #[inline(always)]
 pub fn note_quick(parser: &EscParser, bytes: &[u8], event: &mut EscEvent) -> usize
     requires some { 0 < length bytes.now }
-    requires none { event.old.kind ≡ 0 }
+    requires none { event.old.kind ≡ NONE }
     requires count { event.old.count ≤ 256 }
     ensures few { result ≤ length bytes.now }
     ensures none { result ≡ 0 → event.new ≡ record event.old { entries = event.new.entries } }
-    ensures some { 0 < result → (event.new.kind ≢ 0) × (event.new.kind ≢ 12) × (is_run event.new.kind ≡ false) }
-    ensures within { (event.new.count ≤ 256) × (event.new.kept ≡ event.old.kept) × (event.new.length ≡ event.old.length) × (event.new.start ≡ event.old.start) }
-    ensures ground { 0 < result → (parser.now.state ≡ 0) × (parser.now.pending ≡ 0) }
+    ensures some { 0 < result → (event.new.kind ≢ NONE) × (event.new.kind ≢ FAILED)
+        × (is_run event.new.kind ≡ false) }
+    ensures within { (event.new.count ≤ 256) × (event.new.kept ≡ event.old.kept)
+        × (event.new.length ≡ event.old.length) × (event.new.start ≡ event.old.start) }
+    ensures ground { 0 < result → (parser.now.state ≡ GROUND) × (parser.now.pending ≡ 0) }
     ensures tells { 0 < result → TellsEvent event.new (take result bytes.now) }
 {
     if parser.state != 0 || parser.pending != 0 {
@@ -41,17 +44,22 @@ pub fn note_quick(parser: &EscParser, bytes: &[u8], event: &mut EscEvent) -> usi
     }
 }
 
-/// Notes the run of bytes 20 to 7F, or the control, that comes first in ground; nothing where something else comes.
+/// Notes the run of bytes 20 to 7F, or the control, that comes first in ground; nothing where
+/// something else comes.
 #[inline(always)]
 pub fn note_plain(bytes: &[u8], event: &mut EscEvent) -> usize
     requires some { 0 < length bytes.now }
     requires other { slice_index bytes.now 0 ≢ 0x1b }
     ensures few { result ≤ length bytes.now }
     ensures none { result ≡ 0 → event.new ≡ event.old }
-    ensures some { 0 < result → (event.new.kind ≢ 0) × (event.new.kind ≢ 12) × (event.new.count ≡ 0) × (event.new.kept ≡ 0) × (event.new.start ≡ 0) }
-    ensures text { 0 < result → event.new.kind ≡ 1 → (event.new.length ≡ result) × IsTextRun (take result bytes.now) }
-    ensures control { 0 < result → event.new.kind ≢ 1 → (is_run event.new.kind ≡ false) × (event.new.length ≡ 0) }
-    ensures tells { 0 < result → (p : Parser) (out : List ℕ) (limit : ℕ) → p.state ≡ 0 → p.pending ≡ 0 → Tells p p event.new out limit bytes.now (take result bytes.now) }
+    ensures some { 0 < result → (event.new.kind ≢ NONE) × (event.new.kind ≢ FAILED)
+        × (event.new.count ≡ 0) × (event.new.kept ≡ 0) × (event.new.start ≡ 0) }
+    ensures text { 0 < result → event.new.kind ≡ TEXT → (event.new.length ≡ result)
+        × IsTextRun (take result bytes.now) }
+    ensures control { 0 < result → event.new.kind ≢ TEXT → (is_run event.new.kind ≡ false)
+        × (event.new.length ≡ 0) }
+    ensures tells { 0 < result → (p : Parser) (out : List ℕ) (limit : ℕ) → p.state ≡ GROUND
+        → p.pending ≡ 0 → Tells p p event.new out limit bytes.now (take result bytes.now) }
 {
     if bytes[0] < 0x20 {
         put_plain(event, CONTROL, 0, bytes[0]);
@@ -79,15 +87,16 @@ fn put_plain(event: &mut EscEvent, kind: u32, run: usize, byte: u8)
     event.count = 0;
 }
 
-/// A control sequence of few entries: of a common form, or of any. They are written where the event keeps them, also where it turns out
-/// to be none.
+/// A control sequence of few entries: of a common form, or of any. They are written where the event
+/// keeps them, also where it turns out to be none.
 #[inline(always)]
 pub fn note_csi(bytes: &[u8], event: &mut EscEvent, any: bool) -> usize
     requires escape { slice_index bytes.now 0 ≡ 0x1b }
     ensures few { result ≤ length bytes.now }
     ensures none { result ≡ 0 → event.new ≡ record event.old { entries = event.new.entries } }
-    ensures some { 0 < result → event.new.kind ≡ 5 }
-    ensures within { (0 < result → event.new.count ≤ 256) × (event.new.kept ≡ event.old.kept) × (event.new.length ≡ event.old.length) × (event.new.start ≡ event.old.start) }
+    ensures some { 0 < result → event.new.kind ≡ CSI }
+    ensures within { (0 < result → event.new.count ≤ 256) × (event.new.kept ≡ event.old.kept)
+        × (event.new.length ≡ event.old.length) × (event.new.start ≡ event.old.start) }
     ensures tells { 0 < result → TellsEvent event.new (take result bytes.now) }
 {
     if bytes.len() <= 2 {
@@ -108,10 +117,12 @@ pub fn note_csi(bytes: &[u8], event: &mut EscEvent, any: bool) -> usize
 // The final byte of a control sequence whose entries, so many, were written.
 #[inline(always)]
 fn end_csi(event: &mut EscEvent, count: usize, byte: u8)
-    ensures said { (out : List ℕ) → sent event.new out ≡ CsiDispatch (map param_of (take count event.old.entries)) false byte ∷ [] }
-    ensures kind { event.new.kind ≡ 5 }
+    ensures said { (out : List ℕ) → sent event.new out
+        ≡ CsiDispatch (map param_of (take count event.old.entries)) false byte ∷ [] }
+    ensures kind { event.new.kind ≡ CSI }
     ensures count { event.new.count ≡ count }
-    ensures within { (event.new.kept ≡ event.old.kept) × (event.new.length ≡ event.old.length) × (event.new.start ≡ event.old.start) }
+    ensures within { (event.new.kept ≡ event.old.kept) × (event.new.length ≡ event.old.length)
+        × (event.new.start ≡ event.old.start) }
 {
     event.count = count;
     event.has_more = false;

@@ -6,7 +6,8 @@ ghost use Rattle.esc_lent.specs.Runs.{IsTextRun};
 
 use esc_frame::scans::{ascii_run, free_run};
 
-/// How many of the bytes, from the first, are a run of characters that is seen at once. It need not be the longest.
+/// How many of the bytes, from the first, are a run of characters that is seen at once. It need not
+/// be the longest.
 #[inline(always)]
 pub fn text_run(bytes: &[u8]) -> usize
     requires { 0 < length bytes.now }

@@ -1,4 +1,5 @@
-//! Commands that lie whole in the bytes, and the final byte of an escape sequence, noted without a machine.
+//! Commands that lie whole in the bytes, and the final byte of an escape sequence, noted without a
+//! machine.
 #![tactic(auto)]
 
 ghost use Rattle.std.specs.Prelude.{◌≡◌, ◌≢◌, ◌≤◌, ◌<◌, ◌∷◌, [], ℕ, List, false, length, take, slice_index};
@@ -6,7 +7,8 @@ ghost use Rattle.esc_frame.specs.Events.Event.{EscDispatch};
 ghost use Rattle.esc_lent.specs.Runs.{Notes, IsDueAs, closes_escape};
 ghost use Rattle.esc_lent.specs.Told.{is_run, sent, text_of};
 
-use crate::event::{ESCAPE, EscEvent, OSC};
+use crate::event::{ESCAPE, EscEvent, FAILED, NONE, OSC, TEXT};
+use crate::numbers::{ESCAPED, GROUND};
 use crate::parser::EscParser;
 use esc_frame::classes::{Class, classify};
 use esc_frame::scans::units_run;
@@ -28,7 +30,8 @@ fn put_text(out: &mut [u8], event: &mut EscEvent, kind: u32, text: &[u8])
 // After an ESC of which nothing more has come.
 #[inline(always)]
 fn escape(parser: &mut EscParser)
-    ensures state { (parser.new.state ≡ 1) × (parser.new.kept ≡ 0) × (parser.new.has_more ≡ false) }
+    ensures state { (parser.new.state ≡ ESCAPED) × (parser.new.kept ≡ 0)
+        × (parser.new.has_more ≡ false) }
     ensures due { IsDueAs parser.new parser.old }
 {
     parser.state = 1;
@@ -36,8 +39,8 @@ fn escape(parser: &mut EscParser)
     parser.has_more = false;
 }
 
-// An operating system command that ends by BEL, or by an ESC, which begins the next sequence. A text for which there is no room is
-// left to the machine.
+// An operating system command that ends by BEL, or by an ESC, which begins the next sequence. A
+// text for which there is no room is left to the machine.
 #[inline(never)]
 fn note_osc(
     parser: &mut EscParser,
@@ -49,13 +52,14 @@ fn note_osc(
     requires some { 2 < length bytes.now }
     requires escape { slice_index bytes.now 0 ≡ 0x1b }
     requires bracket { slice_index bytes.now 1 ≡ 0x5d }
-    requires ground { (parser.old.state ≡ 0) × (parser.old.pending ≡ 0) }
+    requires ground { (parser.old.state ≡ GROUND) × (parser.old.pending ≡ 0) }
     ensures few { result ≤ length bytes.now }
     ensures none { result ≡ 0 → (parser.new ≡ parser.old) × (event.new ≡ event.old) }
-    ensures some { 0 < result → (event.new.kind ≡ 6) × (event.new.length ≤ length out.old) }
+    ensures some { 0 < result → (event.new.kind ≡ OSC) × (event.new.length ≤ length out.old) }
     ensures within { (event.new.count ≡ event.old.count) × (event.new.kept ≡ event.old.kept) }
     ensures due { IsDueAs parser.new parser.old }
-    ensures notes { 0 < result → Notes parser.old parser.new event.new out.new limit (take result bytes.now) }
+    ensures notes { 0 < result
+        → Notes parser.old parser.new event.new out.new limit (take result bytes.now) }
 {
     let run = units_run(&bytes[2..]);
     if run == bytes.len() - 2 || run > limit || run > out.len() {
@@ -77,13 +81,14 @@ fn note_osc(
 #[inline(always)]
 fn note_final(parser: &mut EscParser, bytes: &[u8], event: &mut EscEvent) -> usize
     requires some { 0 < length bytes.now }
-    requires state { parser.old.state ≡ 1 }
+    requires state { parser.old.state ≡ ESCAPED }
     ensures few { result ≤ 1 }
     ensures none { result ≡ 0 → (parser.new ≡ parser.old) × (event.new ≡ event.old) }
-    ensures some { 0 < result → (event.new.kind ≡ 4) × (event.new.kept ≡ 0) }
+    ensures some { 0 < result → (event.new.kind ≡ ESCAPE) × (event.new.kept ≡ 0) }
     ensures within { (event.new.count ≡ event.old.count) × (event.new.length ≡ event.old.length) }
     ensures due { IsDueAs parser.new parser.old }
-    ensures notes { 0 < result → (out : List ℕ) (limit : ℕ) → Notes parser.old parser.new event.new out limit (take result bytes.now) }
+    ensures notes { 0 < result → (out : List ℕ) (limit : ℕ)
+        → Notes parser.old parser.new event.new out limit (take result bytes.now) }
 {
     if parser.kept > 0 {
         return 0;
@@ -124,7 +129,7 @@ fn closes_escape(class: Class) -> bool
 #[inline(always)]
 fn put_final(event: &mut EscEvent, byte: u8)
     ensures said { (out : List ℕ) → sent event.new out ≡ EscDispatch [] false byte ∷ [] }
-    ensures some { (event.new.kind ≡ 4) × (event.new.kept ≡ 0) }
+    ensures some { (event.new.kind ≡ ESCAPE) × (event.new.kept ≡ 0) }
     ensures within { (event.new.count ≡ event.old.count) × (event.new.length ≡ event.old.length) }
 {
     event.kind = ESCAPE;
@@ -133,8 +138,8 @@ fn put_final(event: &mut EscEvent, byte: u8)
     event.byte = byte as u32;
 }
 
-/// Notes the command that lies whole in the bytes, or the final byte of an escape sequence, that comes first; nothing where
-/// something else comes.
+/// Notes the command that lies whole in the bytes, or the final byte of an escape sequence, that
+/// comes first; nothing where something else comes.
 #[inline(always)]
 pub fn note_string(
     parser: &mut EscParser,
@@ -144,13 +149,17 @@ pub fn note_string(
     event: &mut EscEvent,
 ) -> usize
     requires some { 0 < length bytes.now }
-    requires within { (event.old.count ≤ 256) × (event.old.kept ≤ 2) × (event.old.length ≤ length out.old) }
+    requires within { (event.old.count ≤ 256) × (event.old.kept ≤ 2)
+        × (event.old.length ≤ length out.old) }
     ensures few { result ≤ length bytes.now }
     ensures none { result ≡ 0 → (parser.new ≡ parser.old) × (event.new ≡ event.old) }
-    ensures some { 0 < result → (event.new.kind ≢ 0) × (event.new.kind ≢ 1) × (event.new.kind ≢ 12) × (is_run event.new.kind ≡ false) }
-    ensures within { (event.new.count ≤ 256) × (event.new.kept ≤ 2) × (event.new.length ≤ length out.old) }
+    ensures some { 0 < result → (event.new.kind ≢ NONE) × (event.new.kind ≢ TEXT)
+        × (event.new.kind ≢ FAILED) × (is_run event.new.kind ≡ false) }
+    ensures within { (event.new.count ≤ 256) × (event.new.kept ≤ 2)
+        × (event.new.length ≤ length out.old) }
     ensures due { IsDueAs parser.new parser.old }
-    ensures notes { 0 < result → Notes parser.old parser.new event.new out.new limit (take result bytes.now) }
+    ensures notes { 0 < result
+        → Notes parser.old parser.new event.new out.new limit (take result bytes.now) }
 {
     if parser.state == 1 {
         return note_final(parser, bytes, event);

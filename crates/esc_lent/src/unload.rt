@@ -67,9 +67,12 @@ fn put_place(parser: &mut EscParser, state: State, pending: Pending, text: usize
 
 // What is kept in some states alone.
 fn put_parts<K: Store>(parser: &mut EscParser, machine: &Machine<K, NoMemory>)
-    ensures first { (x : List ℕ) → machine.now.state ≡ State.Escape → Keeps machine.now.intermediates x → FirstIn parser.new x }
-    ensures body { (x : List ℕ) → machine.now.state ≡ State.Csi → KeepsBody machine.now.body x → BodyIn parser.new x }
-    ensures header { (x : List ℕ) → machine.now.state ≡ State.Dcs → KeepsDcs machine.now.header x → HeaderIn parser.new x }
+    ensures first { (x : List ℕ) → machine.now.state ≡ State.Escape
+        → Keeps machine.now.intermediates x → FirstIn parser.new x }
+    ensures body { (x : List ℕ) → machine.now.state ≡ State.Csi → KeepsBody machine.now.body x
+        → BodyIn parser.new x }
+    ensures header { (x : List ℕ) → machine.now.state ≡ State.Dcs → KeepsDcs machine.now.header x
+        → HeaderIn parser.new x }
     ensures due_kind { parser.new.due_kind ≡ parser.old.due_kind }
     ensures due_value { parser.new.due_value ≡ parser.old.due_value }
     ensures failed { parser.new.has_failed ≡ parser.old.has_failed }
@@ -84,7 +87,9 @@ fn put_parts<K: Store>(parser: &mut EscParser, machine: &Machine<K, NoMemory>)
 
 /// Keeps a machine in a parser's numbers, and in the memory that it was lent.
 pub fn unload<'a, N: Named>(parser: &mut EscParser, machine: &Machine<LentText<'a, N>, NoMemory>)
-    ensures kept { (u : Unfinished) → Holds ⟦<LentText<'a, N> as Store>⟧.keeps (Some N.room) machine.now u → KeptIn parser.new machine.now.text.memory.now u }
+    ensures kept { (u : Unfinished)
+        → Holds ⟦<LentText<'a, N> as Store>⟧.keeps (Some N.room) machine.now u
+        → KeptIn parser.new machine.now.text.memory.now u }
     ensures due_kind { parser.new.due_kind ≡ parser.old.due_kind }
     ensures due_value { parser.new.due_value ≡ parser.old.due_value }
     ensures failed { parser.new.has_failed ≡ parser.old.has_failed }
