@@ -47,7 +47,8 @@ use core::fmt;
 pub enum Error {
     /// A request for memory was refused. Nothing was written.
     Memory,
-    /// A [`Parser`] failed, and gives nothing any more. No clause excludes it, and no test has met it.
+    /// A [`Parser`] failed, and gives nothing any more. The clause `sound` of the library's call
+    /// excludes it.
     Failed,
 }
 

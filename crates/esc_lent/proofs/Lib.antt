@@ -7,3 +7,5 @@ pub mod Steps
 pub mod Taken
 pub mod TextRuns
 pub mod Whole
+pub mod Notable
+pub mod Noted

@@ -1,31 +1,27 @@
 -- What a step of the machine took and told.
-use Rattle.std.proofs.Common.{ℕ, ◌≡◌, ◌≤◌, Bool, true, false, List, [], ◌++◌, take, length, Result, Ok, refl, ap, ◌∙◌, subst, Option, arith}
-use Rattle.esc_frame.specs.Events.{Event}
+use Rattle.std.proofs.Common.{ℕ, ◌≡◌, ◌≢◌, ◌≤◌, ◌<◌, ◌||◌, Bool, true, false, List, [], ◌++◌, take, length, Result, Ok, Err, refl, ap, ◌∙◌, subst, Option, Some, arith}
 use Rattle.esc_frame.specs.Leads.{Unfinished}
-use Rattle.esc_frame.specs.Machine.Calls.{Took, Advances}
+use Rattle.esc_frame.specs.Machine.Calls.{Took, Fails, Advances, Quietly}
 use Rattle.esc_frame.specs.Machine.Moves.{news_all}
 use Rattle.esc_frame.specs.declared.machine.Machine.{Machine}
 use Rattle.esc_lent.specs.declared.event.EscEvent.{EscEvent}
-use Rattle.esc_lent.specs.Told.{said}
-use Rattle.esc_lent.proofs.Folds.{Adds, all_said}
+use Rattle.esc_lent.specs.Noted.{IsSound, GivesSound}
+use Rattle.esc_lent.specs.Told.{said, is_run}
+use Rattle.esc_lent.proofs.Notable.{still_notable, goes_through}
+use Rattle.esc_lent.proofs.Noted.{Notes, all_noted, all_run, all_sound, none_lost}
 
 pub taken_few : {S E : Type 0} (is_ready : S → Type 0) (r : Result ℕ E) (n : ℕ) (b : Bool) (rest : List ℕ) (new : S)
     → (b ≡ false → r ≡ Ok n) → (b ≡ true → n ≡ 0) → Advances is_ready r rest new → n ≤ length rest
 taken_few is_ready r n true rest new ok none h = let e : n ≡ 0 = none refl in omega arith
 taken_few is_ready r n false rest new ok none h = (subst (λ x. Advances is_ready x rest new) (ok refl) h).1
 
-pub took_said : {K A S E : Type 0} (keeps : Option ℕ → K → List ℕ → Type 0) (denied : Type 0)
-    (limit : Option ℕ)
-    (refuses : S → Event → S → Type 0) (says : S → List Event) (mark : S → Bool) (r : Result ℕ E)
-    (n : ℕ) (u : Unfinished) (rest : List ℕ) (machine : Machine K A) (old new : S) → r ≡ Ok n
-    → Took keeps denied limit (Adds says mark) refuses r u rest machine old new → says old ≡ []
-    → mark old ≡ false
-    → (says new ≡ news_all limit u (take n rest)) × (mark new ≡ false)
-took_said keeps denied limit refuses says mark r n u rest machine old new e h none off =
-    let t = subst (λ x. Took keeps denied limit (Adds says mark) refuses x u rest machine old new)
-    e h in
-    let q = all_said says mark (news_all limit u (take n rest)) old new t.1 in
-    (q.0 ∙ ap (λ y. y ++ news_all limit u (take n rest)) none, q.1 off)
+-- neither holds
+pub or_parts : (a b : Bool) → (a || b) ≡ false → (a ≡ false) × (b ≡ false)
+or_parts false b h = (refl, h)
+or_parts true b h = absurd cc
+
+pub or_none : (a b : Bool) → a ≡ false → b ≡ false → (a || b) ≡ false
+or_none a b h k = rw (h, k) refl
 
 pub said_same : (e f : EscEvent) (o p : List ℕ) (k j v w : ℕ) → e ≡ f → o ≡ p → k ≡ j → v ≡ w → said e o k v ≡ said f p j w
 said_same e f o p k j v w a b c d =
@@ -34,3 +30,42 @@ said_same e f o p k j v w a b c d =
 -- nothing was noted yet
 pub said_nothing : (e : EscEvent) (o : List ℕ) (k v : ℕ) → e.kind ≡ 0 → k ≡ 0 → said e o k v ≡ []
 said_nothing e o k v a b = rw (a, b) refl
+
+-- What a step from nothing noted took. The machine's store has room for what is within the limit.
+module _ {K A S E : Type 0} (keeps : Option ℕ → K → List ℕ → Type 0) (event : S → EscEvent)
+    (out : S → List ℕ) (due value : S → ℕ) (lost : S → Bool) (room place : ℕ) (u : Unfinished)
+    (rest : List ℕ) (machine : Machine K A) (old new : S) (kind : (event old).kind ≡ 0)
+    (none : due old ≡ 0) where
+  abbrev pub StepTook : Option ℕ → Result ℕ E → Type 0
+  StepTook limit r =
+      Took keeps (Fails (λ l. l ≢ Some room) (λ _ t. place < length t) A) limit
+      (Notes event out due value lost place) (λ _ _ _. ⊥) r u rest machine old new
+
+  pub took_said : (limit : Option ℕ) (r : Result ℕ E) (n : ℕ) → r ≡ Ok n → StepTook limit r
+      → lost new ≡ false
+      → (said (event new) (out new) (due new) (value new) ≡ news_all limit u (take n rest))
+      × (is_run (event new).kind ≡ false)
+  took_said limit r n e took l =
+      let t = subst (StepTook limit) e took in
+      let es = news_all limit u (take n rest) in
+      let q = all_noted event out due value lost place es old new t.1 l in (
+        q.1
+            ∙ ap (λ y. y ++ es) (said_nothing (event old) (out old) (due old) (value old) kind none),
+        all_run event out due value lost place es old new t.1 (ap is_run kind),
+      )
+
+  pub took_sound : (limit : Option ℕ) (r : Result ℕ E) → limit ≡ Some room → StepTook limit r
+      → Quietly limit r u rest → room ≤ place → lost old ≡ false → IsSound (event old) place
+      → (n : ℕ) × (r ≡ Ok n) × (lost new ≡ false) × GivesSound (event new) (due new) place
+  took_sound limit r same took still less kept sound =
+      by_result r (subst (λ l. StepTook l r) same took) (subst (λ l. Quietly l r u rest) same still)
+    where
+      by_result : (r : Result ℕ E) → StepTook (Some room) r → Quietly (Some room) r u rest
+          → (n : ℕ) × (r ≡ Ok n) × (lost new ≡ false) × GivesSound (event new) (due new) place
+      by_result (Ok n) t q =
+          let es = news_all (Some room) u (take n rest) in
+          let w =
+          none_lost event out due value lost place es old new
+          (still_notable room place less u rest n q) t.1 kept kind none in
+          (n, refl, w.0, (all_sound event out due value lost place es old new t.1 sound, w.1))
+      by_result (Err x) t q = absurd (goes_through room place less _ A _ _ old new t)

@@ -59,6 +59,9 @@ escape_at b e = sym (ap class_of e ∙ escape_class)
 pub within : (limit n : ℕ) → n ≤ limit → is_within (Some limit) n ≡ true
 within limit n h = grind (arith, nat_tests)
 
+pub within_only : (limit n : ℕ) → is_within (Some limit) n ≡ true → n ≤ limit
+within_only limit n h = grind (arith, nat_tests)
+
 module _ (limit : Option ℕ) (rest : List ℕ) (run : ℕ) (some : 2 < length rest) (e : get_or rest 0 0 ≡ 0x1b) (b : get_or rest 1 0 ≡ 0x5d)
     (units : IsTextRun (take run (drop 2 rest))) (room : run + 2 < length rest) where
   abbrev text : List ℕ

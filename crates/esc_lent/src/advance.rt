@@ -7,6 +7,7 @@ ghost use Rattle.esc_frame.specs.Leads.{Unfinished};
 ghost use Rattle.esc_frame.specs.Machine.Moves.{after_all, news_all};
 ghost use Rattle.esc_lent.specs.Runs.{Tells, IsDueAs};
 ghost use Rattle.esc_lent.specs.States.{KeptIn};
+ghost use Rattle.esc_lent.specs.Noted.{IsSound};
 ghost use Rattle.esc_lent.specs.Told.{told_by, due_of, is_run};
 
 use crate::event::{CHARACTER, CONTROL, DATA, EscEvent, FAILED, NONE, TEXT};
@@ -17,18 +18,24 @@ use crate::step::step;
 use crate::strings::note_string;
 use esc_frame::scans::data_run;
 
-// The run of characters, or of data, that comes first, where the parser is where one may come. It changes no state.
+// The run of characters, or of data, that comes first, where the parser is where one may come. It
+// changes no state.
 #[inline(always)]
 fn run_ahead(parser: &EscParser, bytes: &[u8], event: &mut EscEvent) -> usize
     requires some { 0 < length bytes.now }
-    requires none { event.old.kind ≡ 0 }
+    requires none { event.old.kind ≡ NONE }
     ensures few { result ≤ length bytes.now }
     ensures none { result ≡ 0 → event.new ≡ event.old }
-    ensures some { 0 < result → (event.new.kind ≢ 0) × (event.new.kind ≢ 12) × (is_run event.new.kind ≡ true) }
-    ensures within { (event.new.count ≡ event.old.count) × (event.new.kept ≡ event.old.kept) × (event.new.start ≡ event.old.start) × (0 < result → event.new.length ≡ result) }
-    ensures utf8 { event.new.kind ≡ 1 → IsUtf8 (take event.new.length bytes.now) }
-    ensures kept { 0 < result → (u : Unfinished) (memory : List ℕ) → KeptIn parser.now memory u → KeptIn parser.now memory (after_all u (take result bytes.now)) }
-    ensures told { 0 < result → (u : Unfinished) (memory out : List ℕ) → KeptIn parser.now memory u → told_by event.new out (take event.new.length bytes.now) ≡ news_all (Some (length memory)) u (take result bytes.now) }
+    ensures some { 0 < result → (event.new.kind ≢ NONE) × (event.new.kind ≢ FAILED)
+        × (is_run event.new.kind ≡ true) }
+    ensures within { (event.new.count ≡ event.old.count) × (event.new.kept ≡ event.old.kept)
+        × (event.new.start ≡ event.old.start) × (0 < result → event.new.length ≡ result) }
+    ensures utf8 { event.new.kind ≡ TEXT → IsUtf8 (take event.new.length bytes.now) }
+    ensures kept { 0 < result → (u : Unfinished) (memory : List ℕ) → KeptIn parser.now memory u
+        → KeptIn parser.now memory (after_all u (take result bytes.now)) }
+    ensures told { 0 < result → (u : Unfinished) (memory out : List ℕ)
+        → KeptIn parser.now memory u → told_by event.new out (take event.new.length bytes.now)
+        ≡ news_all (Some (length memory)) u (take result bytes.now) }
 {
     if parser.state == 0 && parser.pending == 0 {
         note_run(event, TEXT, text_run(bytes))
@@ -45,7 +52,8 @@ fn note_run(event: &mut EscEvent, kind: u32, run: usize) -> usize
     ensures length { result ≡ run }
     ensures some { 0 < run → (event.new.kind ≡ kind) × (event.new.length ≡ run) }
     ensures none { run ≡ 0 → event.new ≡ event.old }
-    ensures within { (event.new.count ≡ event.old.count) × (event.new.kept ≡ event.old.kept) × (event.new.start ≡ event.old.start) }
+    ensures within { (event.new.count ≡ event.old.count) × (event.new.kept ≡ event.old.kept)
+        × (event.new.start ≡ event.old.start) }
 {
     if run > 0 {
         event.kind = kind;
@@ -54,20 +62,23 @@ fn note_run(event: &mut EscEvent, kind: u32, run: usize) -> usize
     run
 }
 
-// Notes the run, the control or the short control sequence that comes first, where one may come; nothing where something else comes.
+// Notes the run, the control or the short control sequence that comes first, where one may come;
+// nothing where something else comes.
 #[inline(always)]
 fn note_first(parser: &EscParser, bytes: &[u8], event: &mut EscEvent) -> usize
     requires some { 0 < length bytes.now }
-    requires none { event.old.kind ≡ 0 }
+    requires none { event.old.kind ≡ NONE }
     requires within { (event.old.count ≤ 256) × (event.old.kept ≤ 2) }
     ensures few { result ≤ length bytes.now }
     ensures none { result ≡ 0 → event.new ≡ record event.old { entries = event.new.entries } }
-    ensures some { 0 < result → (event.new.kind ≢ 0) × (event.new.kind ≢ 12) }
-    ensures within { (event.new.count ≤ 256) × (event.new.kept ≤ 2) × (event.new.start ≡ event.old.start) }
+    ensures some { 0 < result → (event.new.kind ≢ NONE) × (event.new.kind ≢ FAILED) }
+    ensures within { (event.new.count ≤ 256) × (event.new.kept ≤ 2)
+        × (event.new.start ≡ event.old.start) }
     ensures text { is_run event.new.kind ≡ false → event.new.length ≡ event.old.length }
     ensures run { is_run event.new.kind ≡ true → event.new.length ≤ result }
-    ensures utf8 { event.new.kind ≡ 1 → IsUtf8 (take event.new.length bytes.now) }
-    ensures tells { 0 < result → (out : List ℕ) (limit : ℕ) → Tells parser.now parser.now event.new out limit bytes.now (take result bytes.now) }
+    ensures utf8 { event.new.kind ≡ TEXT → IsUtf8 (take event.new.length bytes.now) }
+    ensures tells { 0 < result → (out : List ℕ) (limit : ℕ)
+        → Tells parser.now parser.now event.new out limit bytes.now (take result bytes.now) }
 {
     let run = run_ahead(parser, bytes, event);
     if run > 0 {
@@ -76,8 +87,8 @@ fn note_first(parser: &EscParser, bytes: &[u8], event: &mut EscEvent) -> usize
     note_quick(parser, bytes, event)
 }
 
-/// Notes what comes first, where that needs no machine: a run, a control, or a sequence or a command that lies whole in the bytes.
-/// Nothing where something else comes.
+/// Notes what comes first, where that needs no machine: a run, a control, or a sequence or a
+/// command that lies whole in the bytes. Nothing where something else comes.
 #[inline(always)]
 pub fn ahead(
     parser: &mut EscParser,
@@ -87,17 +98,20 @@ pub fn ahead(
     event: &mut EscEvent,
 ) -> usize
     requires some { 0 < length bytes.now }
-    requires none { event.old.kind ≡ 0 }
-    requires within { (event.old.count ≤ 256) × (event.old.kept ≤ 2) × (event.old.length ≤ length out.old) }
+    requires none { event.old.kind ≡ NONE }
+    requires within { (event.old.count ≤ 256) × (event.old.kept ≤ 2)
+        × (event.old.length ≤ length out.old) }
     ensures few { result ≤ length bytes.now }
-    ensures none { result ≡ 0 → (parser.new ≡ parser.old) × (event.new ≡ record event.old { entries = event.new.entries }) }
-    ensures some { 0 < result → (event.new.kind ≢ 0) × (event.new.kind ≢ 12) }
+    ensures none { result ≡ 0 → (parser.new ≡ parser.old)
+        × (event.new ≡ record event.old { entries = event.new.entries }) }
+    ensures some { 0 < result → (event.new.kind ≢ NONE) × (event.new.kind ≢ FAILED) }
     ensures within { (event.new.count ≤ 256) × (event.new.kept ≤ 2) }
     ensures text { is_run event.new.kind ≡ false → event.new.length ≤ length out.old }
     ensures run { is_run event.new.kind ≡ true → event.new.length ≤ result }
-    ensures utf8 { event.new.kind ≡ 1 → IsUtf8 (take event.new.length bytes.now) }
+    ensures utf8 { event.new.kind ≡ TEXT → IsUtf8 (take event.new.length bytes.now) }
     ensures due { IsDueAs parser.new parser.old }
-    ensures tells { 0 < result → Tells parser.old parser.new event.new out.new limit bytes.now (take result bytes.now) }
+    ensures tells { 0 < result
+        → Tells parser.old parser.new event.new out.new limit bytes.now (take result bytes.now) }
 {
     let first = note_first(parser, bytes, event);
     if first > 0 {
@@ -106,8 +120,8 @@ pub fn ahead(
     note_string(parser, limit, out, bytes, event)
 }
 
-/// Takes a prefix of the bytes, at least one, and notes what they give; a run lies at the first of them. After a failure nothing
-/// counts as taken.
+/// Takes a prefix of the bytes, at least one, and notes what they give; a run lies at the first of
+/// them. After a failure nothing counts as taken. No sound state fails.
 pub fn advance(
     parser: &mut EscParser,
     memory: &mut [u8],
@@ -116,20 +130,27 @@ pub fn advance(
     event: &mut EscEvent,
 ) -> usize
     requires some { 0 < length bytes.now }
-    requires none { event.old.kind ≡ 0 }
+    requires none { event.old.kind ≡ NONE }
     requires due { due_of parser.old.due_kind parser.old.due_value ≡ [] }
-    requires within { (event.old.count ≤ 256) × (event.old.kept ≤ 2) × (event.old.length ≤ length out.old) }
+    requires within { (event.old.count ≤ 256) × (event.old.kept ≤ 2)
+        × (event.old.length ≤ length out.old) }
     ensures few { result ≤ length bytes.now }
     ensures within { (event.new.count ≤ 256) × (event.new.kept ≤ 2) }
     ensures text { is_run event.new.kind ≡ false → event.new.length ≤ length out.old }
     ensures run { is_run event.new.kind ≡ true → event.new.length ≤ result }
-    ensures utf8 { event.new.kind ≡ 1 → IsUtf8 (take event.new.length bytes.now) }
-    ensures some { event.new.kind ≢ 12 → 0 < result }
-    ensures kept { (u : Unfinished) → KeptIn parser.old memory.old u → event.new.kind ≢ 12 → KeptIn parser.new memory.new (after_all u (take result bytes.now)) }
-    ensures told { (u : Unfinished) → KeptIn parser.old memory.old u → event.new.kind ≢ 12 → told_by event.new out.new (take event.new.length bytes.now) ++ due_of parser.new.due_kind parser.new.due_value ≡ news_all (Some (length memory.old)) u (take result bytes.now) }
-    ensures due { event.new.kind ≡ 0 → due_of parser.new.due_kind parser.new.due_value ≡ [] }
-    ensures failed { event.new.kind ≡ 12 → parser.new.has_failed ≡ true }
-    ensures goes_on { event.new.kind ≢ 12 → parser.new.has_failed ≡ parser.old.has_failed }
+    ensures utf8 { event.new.kind ≡ TEXT → IsUtf8 (take event.new.length bytes.now) }
+    ensures some { event.new.kind ≢ FAILED → 0 < result }
+    ensures kept { (u : Unfinished) → KeptIn parser.old memory.old u → event.new.kind ≢ FAILED
+        → KeptIn parser.new memory.new (after_all u (take result bytes.now)) }
+    ensures told { (u : Unfinished) → KeptIn parser.old memory.old u → event.new.kind ≢ FAILED
+        → told_by event.new out.new (take event.new.length bytes.now)
+        ++ due_of parser.new.due_kind parser.new.due_value
+        ≡ news_all (Some (length memory.old)) u (take result bytes.now) }
+    ensures due { event.new.kind ≡ NONE → due_of parser.new.due_kind parser.new.due_value ≡ [] }
+    ensures failed { event.new.kind ≡ FAILED → parser.new.has_failed ≡ true }
+    ensures goes_on { event.new.kind ≢ FAILED → parser.new.has_failed ≡ parser.old.has_failed }
+    ensures sound { (u : Unfinished) → KeptIn parser.old memory.old u
+        → length memory.old ≤ length out.old → event.new.kind ≢ FAILED }
 {
     let first = ahead(parser, memory.len(), out, bytes, event);
     if first > 0 {
@@ -147,14 +168,16 @@ pub fn advance(
 
 // Whether a character or a control is still to be handed out.
 fn gives_due(parser: &EscParser) -> bool
-    ensures { result ≡ false → due_of parser.now.due_kind parser.now.due_value ≡ [] }
+    ensures none { result ≡ false → due_of parser.now.due_kind parser.now.due_value ≡ [] }
+    ensures some { parser.now.due_kind ≡ NONE → result ≡ false }
 {
     parser.due_kind == CHARACTER || parser.due_kind == CONTROL
 }
 
-// Whether the event is no run and no failure, and its counts are within bounds.
+// Whether the event is no run and no failure, and its counts and its text are within bounds.
 fn is_sound(event: &EscEvent, room: usize) -> bool
-    ensures { IsTrue result → (event.now.count ≤ 256) × (event.now.kept ≤ 2) × (event.now.length ≤ room) × (is_run event.now.kind ≡ false) × (event.now.kind ≢ 12) }
+    ensures sound { IsTrue result → IsSound event.now room }
+    ensures all { IsSound event.now room → IsTrue result }
 {
     event.kind != TEXT
         && event.kind != DATA

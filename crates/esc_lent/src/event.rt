@@ -24,7 +24,8 @@ pub const CSI: u32 = 5;
 /// An operating system command: its text, as a place in the buffer.
 pub const OSC: u32 = 6;
 
-/// A device control string begins: its final byte, its intermediates, and its parameter bytes as a place in the buffer.
+/// A device control string begins: its final byte, its intermediates, and its parameter bytes as a
+/// place in the buffer.
 pub const DCS: u32 = 7;
 
 /// A run of its data, as a place in the bytes of the call.
@@ -39,7 +40,7 @@ pub const DCS_END: u32 = 10;
 /// An application program command: its text, as a place in the buffer.
 pub const APC: u32 = 11;
 
-/// The parser failed: nothing more comes of it.
+/// The parser failed: nothing more comes of it. A state that its own calls reached never fails.
 pub const FAILED: u32 = 12;
 
 /// An entry of a control sequence: a number, or a byte 3A to 3F or 20 to 2F.
@@ -109,7 +110,7 @@ impl EscEvent {
 
     /// Makes it no event. Its entries and its intermediates stay, and are not counted.
     pub fn clear(&mut self)
-        ensures kind { self.new.kind ≡ 0 }
+        ensures kind { self.new.kind ≡ NONE }
         ensures start { self.new.start ≡ 0 }
         ensures length { self.new.length ≡ 0 }
         ensures kept { self.new.kept ≡ 0 }

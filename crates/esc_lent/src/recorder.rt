@@ -1,40 +1,43 @@
 //! What notes the events of a call.
 #![tactic(auto)]
 
-ghost use Rattle.std.specs.Prelude.{◌≡◌, ◌≤◌, ◌<◌, ◌++◌, ◌∷◌, [], false, length, ℕ, List, IsTrue, OnOk};
+ghost use Rattle.std.specs.Prelude.{◌≡◌, ◌≢◌, ◌≤◌, ◌<◌, ◌∷◌, [], true, false, length, ℕ, List, IsTrue};
 ghost use Rattle.esc_values.specs.Clear.{parts_of};
-ghost use Rattle.esc_frame.specs.Bodies.{held, value_behind};
-ghost use Rattle.esc_frame.specs.Events.{Hears};
 ghost use Rattle.esc_frame.specs.Events.Event.{Print, Execute, EscDispatch, CsiDispatch, OscDispatch, DcsHook};
-ghost use Rattle.esc_lent.specs.Told.{said, sent, is_run, text_of, intermediates_of, parameters_of};
+ghost use Rattle.esc_lent.specs.Noted.{Adds};
+ghost use Rattle.esc_lent.specs.Told.{sent, text_of, intermediates_of, parameters_of};
 
 use crate::entries::put_entries;
 use crate::event::{
     APC, CHARACTER, CONTROL, CSI, DATA_BYTE, DCS, DCS_END, ESCAPE, EscEvent, NONE, OSC,
 };
 use crate::named::Named;
-use esc_frame::actor::VTActor;
+use esc_frame::taker::Taker;
 use esc_values::csi_param::CsiParam;
 use std::alloc::{AllocError, Allocator};
 use std::marker::PhantomData;
 
-/// Notes the first event, and the second where that is a character or a control; it refuses any other. A text goes to `out`.
+/// Notes the first event, and the second where that is a character or a control. A text goes to
+/// `out`. Of an event for which there is no place it notes that it was lost.
 #[derive(Drop)]
 pub struct Recorder<'b, 'c, N: Named> {
     pub event: &'c mut EscEvent,
     pub out: &'b mut [u8],
     pub due_kind: u32,
     pub due_value: u32,
+    pub is_lost: bool,
     pub of: PhantomData<N>,
     ghost same_event: { event.ghost_name ≡ N.event },
     ghost same_out: { out.ghost_name ≡ N.out },
+    ghost place: { length out.now ≡ N.place },
 }
 
 /// Notes a control sequence.
 pub fn put_csi(event: &mut EscEvent, params: &[CsiParam], parameters_truncated: bool, byte: u8)
     requires { length params.now ≤ 256 }
-    ensures said { (out : List ℕ) → sent event.new out ≡ CsiDispatch params.now parameters_truncated byte ∷ [] }
-    ensures kind { event.new.kind ≡ 5 }
+    ensures said { (out : List ℕ) → sent event.new out
+        ≡ CsiDispatch params.now parameters_truncated byte ∷ [] }
+    ensures kind { event.new.kind ≡ CSI }
     ensures count { event.new.count ≡ length params.now }
     ensures kept { event.new.kept ≡ event.old.kept }
     ensures length { event.new.length ≡ event.old.length }
@@ -54,6 +57,8 @@ fn put_intermediates(event: &mut EscEvent, intermediates: &[u8], has_more: bool,
     ensures byte { event.new.byte ≡ byte }
     ensures kind { event.new.kind ≡ event.old.kind }
     ensures text { event.new.length ≡ event.old.length }
+    ensures counts { (event.new.count ≡ event.old.count)
+        × (event.new.kept ≡ length intermediates.now) }
 {
     event.intermediates[..intermediates.len()].copy_from_slice(intermediates);
     event.kept = intermediates.len();
@@ -64,8 +69,11 @@ fn put_intermediates(event: &mut EscEvent, intermediates: &[u8], has_more: bool,
 // Notes an escape sequence.
 fn put_escape(event: &mut EscEvent, intermediates: &[u8], has_more: bool, byte: u8)
     requires { length intermediates.now ≤ 2 }
-    ensures said { (out : List ℕ) → sent event.new out ≡ EscDispatch intermediates.now has_more byte ∷ [] }
-    ensures kind { event.new.kind ≡ 4 }
+    ensures said { (out : List ℕ) → sent event.new out
+        ≡ EscDispatch intermediates.now has_more byte ∷ [] }
+    ensures kind { event.new.kind ≡ ESCAPE }
+    ensures counts { (event.new.count ≡ event.old.count) × (event.new.length ≡ event.old.length) }
+    ensures kept { event.new.kept ≡ length intermediates.now }
 {
     event.kind = ESCAPE;
     put_intermediates(event, intermediates, has_more, byte);
@@ -74,100 +82,110 @@ fn put_escape(event: &mut EscEvent, intermediates: &[u8], has_more: bool, byte: 
 impl<'b, 'c, N: Named> Recorder<'b, 'c, N> {
     // Whether nothing was noted.
     fn is_new(&self) -> bool
-        ensures kind { IsTrue result → self.now.event.now.kind ≡ 0 }
-        ensures due { IsTrue result → self.now.due_kind ≡ 0 }
+        ensures kind { IsTrue result → self.now.event.now.kind ≡ NONE }
+        ensures due { IsTrue result → self.now.due_kind ≡ NONE }
+        ensures some { result ≡ false → self.now.event.now.kind ≡ NONE → self.now.due_kind ≢ NONE }
     {
         self.event.kind == NONE && self.due_kind == NONE
     }
 
     // Notes a character or a control.
-    fn note(&mut self, kind: u32, value: u32) -> Result<(), AllocError>
-        ensures character { OnOk result (kind ≡ 2 → said self.new.event.now self.new.out.now self.new.due_kind self.new.due_value ≡ said self.old.event.now self.old.out.now self.old.due_kind self.old.due_value ++ Print value ∷ []) }
-        ensures control { OnOk result (kind ≡ 3 → said self.new.event.now self.new.out.now self.new.due_kind self.new.due_value ≡ said self.old.event.now self.old.out.now self.old.due_kind self.old.due_value ++ Execute value ∷ []) }
-        ensures run { OnOk result (is_run kind ≡ false → is_run self.old.event.now.kind ≡ false → is_run self.new.event.now.kind ≡ false) }
+    fn note(&mut self, kind: u32, value: u32)
+        ensures character { kind ≡ CHARACTER → Adds N.place self.old.event.now self.old.out.now
+            self.old.due_kind self.old.due_value self.old.is_lost (Print value) self.new.event.now
+            self.new.out.now self.new.due_kind self.new.due_value self.new.is_lost }
+        ensures control { kind ≡ CONTROL → Adds N.place self.old.event.now self.old.out.now
+            self.old.due_kind self.old.due_value self.old.is_lost (Execute value) self.new.event.now
+            self.new.out.now self.new.due_kind self.new.due_value self.new.is_lost }
     {
         if self.due_kind != NONE {
-            return Err(AllocError);
-        }
-        if self.event.kind == NONE {
+            self.is_lost = true;
+        } else if self.event.kind == NONE {
             self.event.kind = kind;
             self.event.byte = value;
         } else {
             self.due_kind = kind;
             self.due_value = value;
         }
-        Ok(())
     }
 
-    // Notes a text.
-    fn put(&mut self, kind: u32, text: &[u8]) -> Result<(), AllocError>
-        ensures kind { OnOk result (self.new.event.now.kind ≡ kind) }
-        ensures text { OnOk result (text_of self.new.event.now self.new.out.now ≡ text.now) }
-        ensures due { OnOk result (self.new.due_kind ≡ 0) }
-        ensures before { OnOk result ((self.old.event.now.kind ≡ 0) × (self.old.due_kind ≡ 0)) }
+    // Notes a text, or that it was lost, for want of a place or as another event was noted.
+    fn put(&mut self, kind: u32, text: &[u8]) -> bool
+        ensures kind { result ≡ true → self.new.event.now.kind ≡ kind }
+        ensures text { result ≡ true → text_of self.new.event.now self.new.out.now ≡ text.now }
+        ensures length { result ≡ true → self.new.event.now.length ≤ N.place }
+        ensures due { result ≡ true → (self.new.due_kind ≡ NONE)
+            × (self.new.is_lost ≡ self.old.is_lost) }
+        ensures before { result ≡ true → (self.old.event.now.kind ≡ NONE)
+            × (self.old.due_kind ≡ NONE) }
+        ensures counts { (self.new.event.now.count ≡ self.old.event.now.count)
+            × (self.new.event.now.kept ≡ self.old.event.now.kept) }
+        ensures lost { result ≡ false → (self.new.is_lost ≡ true)
+            × (self.new.event.now ≡ self.old.event.now) × (self.new.due_kind ≡ self.old.due_kind) }
+        ensures only { result ≡ false → self.old.event.now.kind ≡ NONE → self.old.due_kind ≡ NONE
+            → N.place < length text.now }
     {
         if !self.is_new() || text.len() > self.out.len() {
-            return Err(AllocError);
+            self.is_lost = true;
+            return false;
         }
         self.out[..text.len()].copy_from_slice(text);
         self.event.length = text.len();
         self.event.kind = kind;
-        Ok(())
+        true
     }
 
     // Notes a command.
-    fn note_osc(&mut self, text: &[u8]) -> Result<(), AllocError>
-        ensures { Hears (λ p e q. (said q.event.now q.out.now q.due_kind q.due_value ≡ said p.event.now p.out.now p.due_kind p.due_value ++ e ∷ []) × (is_run p.event.now.kind ≡ false → is_run q.event.now.kind ≡ false)) (λ _ _ _. Unit {0}) result self.old (OscDispatch (parts_of text.now)) self.new }
+    #[tactic(auto, using(crate::proofs::Noted::parts_room))]
+    fn note_osc(&mut self, text: &[u8])
+        ensures { Adds N.place self.old.event.now self.old.out.now self.old.due_kind
+            self.old.due_value self.old.is_lost (OscDispatch (parts_of text.now))
+            self.new.event.now self.new.out.now self.new.due_kind self.new.due_value
+            self.new.is_lost }
     {
-        self.put(OSC, text)
+        self.put(OSC, text);
     }
 
-    // Notes a header.
-    fn note_header(
-        &mut self,
-        byte: u8,
-        parameters: &[u8],
-        intermediates: &[u8],
-        has_more: bool,
-    ) -> Result<(), AllocError>
-        ensures { Hears (λ p e q. (said q.event.now q.out.now q.due_kind q.due_value ≡ said p.event.now p.out.now p.due_kind p.due_value ++ e ∷ []) × (is_run p.event.now.kind ≡ false → is_run q.event.now.kind ≡ false)) (λ _ _ _. Unit {0}) result self.old (DcsHook byte (parameters_of parameters.now) intermediates.now has_more) self.new }
+    // Notes a header, for whose parameter bytes there is a place.
+    fn note_header(&mut self, byte: u8, parameters: &[u8], intermediates: &[u8], has_more: bool)
+        requires { length parameters.now ≤ N.place }
+        ensures { Adds N.place self.old.event.now self.old.out.now self.old.due_kind
+            self.old.due_value self.old.is_lost
+            (DcsHook byte (parameters_of parameters.now) intermediates.now has_more)
+            self.new.event.now self.new.out.now self.new.due_kind self.new.due_value
+            self.new.is_lost }
     {
         if intermediates.len() > 2 {
-            return Err(AllocError);
+            self.is_lost = true;
+        } else if self.put(DCS, parameters) {
+            let event = &mut *self.event;
+            put_intermediates(event, intermediates, has_more, byte);
         }
-        self.put(DCS, parameters)?;
-        let event = &mut *self.event;
-        put_intermediates(event, intermediates, has_more, byte);
-        Ok(())
     }
 }
 
-impl<'b, 'c, N: Named> VTActor for Recorder<'b, 'c, N> {
-    ghost takes = { λ p e q. (said q.event.now q.out.now q.due_kind q.due_value ≡ said p.event.now p.out.now p.due_kind p.due_value ++ e ∷ []) × (is_run p.event.now.kind ≡ false → is_run q.event.now.kind ≡ false) };
+impl<'b, 'c, N: Named> Taker for Recorder<'b, 'c, N> {
+    ghost takes = { λ p e q. Adds N.place p.event.now p.out.now p.due_kind p.due_value p.is_lost e
+        q.event.now q.out.now q.due_kind q.due_value q.is_lost };
 
-    ghost refuses = { λ _ _ _. Unit {0} };
+    ghost refuses = { λ _ _ _. ⊥ };
 
     ghost is_ready = { λ _. Unit {0} };
 
+    // It stops by itself where there is no place for the text.
+    ghost stops = { λ _ t. N.place < length t };
+
     fn print(&mut self, c: char) -> Result<(), AllocError> {
-        self.note(CHARACTER, c as u32)
+        self.note(CHARACTER, c as u32);
+        Ok(())
     }
 
     fn execute_c0_or_c1(&mut self, control: u8) -> Result<(), AllocError> {
-        self.note(CONTROL, control as u32)
+        self.note(CONTROL, control as u32);
+        Ok(())
     }
 
-    fn dcs_hook(
-        &mut self,
-        _byte: u8,
-        _params: &[i64],
-        _intermediates: &[u8],
-        _ignored_extra_intermediates: bool,
-    ) -> Result<(), AllocError> {
-        Err(AllocError)
-    }
-
-    #[tactic(auto, using(crate::proofs::Folds::hears_both))]
+    #[tactic(auto, using(crate::proofs::Noted::stops_first, crate::proofs::Noted::takes_first))]
     fn dcs_header<A: Allocator + Copy>(
         &mut self,
         _alloc: A,
@@ -176,23 +194,29 @@ impl<'b, 'c, N: Named> VTActor for Recorder<'b, 'c, N> {
         intermediates: &[u8],
         ignored_extra_intermediates: bool,
     ) -> Result<(), AllocError> {
-        self.note_header(byte, parameters, intermediates, ignored_extra_intermediates)
+        if parameters.len() > self.out.len() {
+            return Err(AllocError);
+        }
+        self.note_header(byte, parameters, intermediates, ignored_extra_intermediates);
+        Ok(())
     }
 
     fn dcs_put(&mut self, byte: u8) -> Result<(), AllocError> {
-        if !self.is_new() {
-            return Err(AllocError);
+        if self.is_new() {
+            self.event.kind = DATA_BYTE;
+            self.event.byte = byte as u32;
+        } else {
+            self.is_lost = true;
         }
-        self.event.kind = DATA_BYTE;
-        self.event.byte = byte as u32;
         Ok(())
     }
 
     fn dcs_unhook(&mut self) -> Result<(), AllocError> {
-        if !self.is_new() {
-            return Err(AllocError);
+        if self.is_new() {
+            self.event.kind = DCS_END;
+        } else {
+            self.is_lost = true;
         }
-        self.event.kind = DCS_END;
         Ok(())
     }
 
@@ -203,11 +227,12 @@ impl<'b, 'c, N: Named> VTActor for Recorder<'b, 'c, N> {
         ignored_extra_intermediates: bool,
         byte: u8,
     ) -> Result<(), AllocError> {
-        if !self.is_new() || intermediates.len() > 2 {
-            return Err(AllocError);
+        if self.is_new() && intermediates.len() <= 2 {
+            let event = &mut *self.event;
+            put_escape(event, intermediates, ignored_extra_intermediates, byte);
+        } else {
+            self.is_lost = true;
         }
-        let event = &mut *self.event;
-        put_escape(event, intermediates, ignored_extra_intermediates, byte);
         Ok(())
     }
 
@@ -217,24 +242,23 @@ impl<'b, 'c, N: Named> VTActor for Recorder<'b, 'c, N> {
         parameters_truncated: bool,
         byte: u8,
     ) -> Result<(), AllocError> {
-        if !self.is_new() || params.len() > 256 {
-            return Err(AllocError);
+        if self.is_new() && params.len() <= 256 {
+            let event = &mut *self.event;
+            put_csi(event, params, parameters_truncated, byte);
+        } else {
+            self.is_lost = true;
         }
-        let event = &mut *self.event;
-        put_csi(event, params, parameters_truncated, byte);
         Ok(())
     }
 
-    fn osc_dispatch(&mut self, _params: &[&[u8]]) -> Result<(), AllocError> {
-        Err(AllocError)
-    }
-
-    #[tactic(auto, using(crate::proofs::Folds::hears_both))]
+    #[tactic(auto, using(crate::proofs::Noted::takes_first))]
     fn osc_text<A: Allocator>(&mut self, _alloc: A, text: &[u8]) -> Result<(), AllocError> {
-        self.note_osc(text)
+        self.note_osc(text);
+        Ok(())
     }
 
     fn apc_dispatch(&mut self, text: &[u8]) -> Result<(), AllocError> {
-        self.put(APC, text)
+        self.put(APC, text);
+        Ok(())
     }
 }

@@ -1,10 +1,11 @@
 //! One step of the machine, on what is lent for a call.
 #![tactic(auto)]
 
-ghost use Rattle.std.specs.Prelude.{◌≡◌, ◌≤◌, ◌<◌, true, false, length, take, Some, Option};
+ghost use Rattle.std.specs.Prelude.{◌≡◌, ◌≤◌, ◌<◌, ◌||◌, ℕ, true, false, length, take, Some, Ok};
 ghost use Rattle.esc_frame.specs.Leads.{Unfinished};
 ghost use Rattle.esc_frame.specs.Machine.Moves.{after_all, news_all};
 ghost use Rattle.esc_lent.specs.States.{KeptIn};
+ghost use Rattle.esc_lent.specs.Noted.{IsSound, GivesSound};
 ghost use Rattle.esc_lent.specs.Told.{said, is_run};
 
 use crate::event::{EscEvent, NONE};
@@ -42,17 +43,26 @@ fn step_in<'a, 'b, 'c, N: Named>(
     requires memory { memory.ghost_name ≡ N.kept }
     requires room { length memory.old ≡ N.room }
     requires out { out.ghost_name ≡ N.out }
+    requires place { length out.old ≡ N.place }
     requires event { event.ghost_name ≡ N.event }
-    requires none { event.old.kind ≡ 0 }
+    requires none { event.old.kind ≡ NONE }
     ensures memory { result.memory.ghost_name ≡ memory.entry.ghost_name }
     ensures room { length result.memory.now ≡ length memory.old }
     ensures out { result.out.ghost_name ≡ out.entry.ghost_name }
     ensures event { result.event.ghost_name ≡ event.entry.ghost_name }
     ensures few { result.taken ≤ length bytes.now }
     ensures some { result.has_failed ≡ false → 0 < result.taken }
-    ensures kept { (u : Unfinished) → KeptIn parser.old memory.old u → result.has_failed ≡ false → KeptIn parser.new result.memory.now (after_all u (take result.taken bytes.now)) }
-    ensures told { (u : Unfinished) → KeptIn parser.old memory.old u → result.has_failed ≡ false → said result.event.now result.out.now parser.new.due_kind parser.new.due_value ≡ news_all (Some (length memory.old)) u (take result.taken bytes.now) }
-    ensures run { (u : Unfinished) → KeptIn parser.old memory.old u → result.has_failed ≡ false → is_run result.event.now.kind ≡ false }
+    ensures kept { (u : Unfinished) → KeptIn parser.old memory.old u → result.has_failed ≡ false
+        → KeptIn parser.new result.memory.now (after_all u (take result.taken bytes.now)) }
+    ensures told { (u : Unfinished) → KeptIn parser.old memory.old u → result.has_failed ≡ false
+        → said result.event.now result.out.now parser.new.due_kind parser.new.due_value
+        ≡ news_all (Some (length memory.old)) u (take result.taken bytes.now) }
+    ensures run { (u : Unfinished) → KeptIn parser.old memory.old u → result.has_failed ≡ false
+        → is_run result.event.now.kind ≡ false }
+    ensures sound { (u : Unfinished) → KeptIn parser.old memory.old u
+        → length memory.old ≤ length out.old → IsSound event.old (length out.old)
+        → (result.has_failed ≡ false)
+        × GivesSound result.event.now parser.new.due_kind (length out.old) }
     ensures before { parser.new.has_failed ≡ parser.old.has_failed }
 {
     let limit = memory.len();
@@ -68,6 +78,7 @@ fn step_in<'a, 'b, 'c, N: Named>(
 // How many bytes were taken, and whether that failed.
 fn taken_of(outcome: Result<usize, AllocError>) -> (usize, bool)
     ensures ok { result.1 ≡ false → outcome ≡ Ok (result.0) }
+    ensures fails { (n : ℕ) → outcome ≡ Ok n → result.1 ≡ false }
     ensures none { result.1 ≡ true → result.0 ≡ 0 }
 {
     match outcome {
@@ -79,16 +90,19 @@ fn taken_of(outcome: Result<usize, AllocError>) -> (usize, bool)
 // Notes nothing yet.
 fn listen<'b, 'c, N: Named>(out: &'b mut [u8], event: &'c mut EscEvent) -> Recorder<'b, 'c, N>
     requires out { out.ghost_name ≡ N.out }
+    requires place { length out.old ≡ N.place }
     requires event { event.ghost_name ≡ N.event }
     ensures out { result.out.now ≡ out.old }
     ensures event { result.event.now ≡ event.old }
-    ensures due { result.due_kind ≡ 0 }
+    ensures due { result.due_kind ≡ NONE }
+    ensures lost { result.is_lost ≡ false }
 {
     Recorder {
         event,
         out,
         due_kind: NONE,
         due_value: 0,
+        is_lost: false,
         of: PhantomData,
     }
 }
@@ -108,7 +122,7 @@ fn let_go<'a, 'b, 'c, N: Named>(
     ensures event { result.event.ghost_name ≡ N.event }
     ensures event_now { result.event.now ≡ recorder.entry.event.now }
     ensures taken { result.taken ≡ taken }
-    ensures failed { result.has_failed ≡ has_failed }
+    ensures failed { result.has_failed ≡ (has_failed || recorder.entry.is_lost) }
 {
     let Machine {
         state: _,
@@ -131,6 +145,7 @@ fn let_go<'a, 'b, 'c, N: Named>(
         out,
         due_kind: _,
         due_value: _,
+        is_lost,
         of: _,
     } = recorder;
     Lend {
@@ -138,12 +153,13 @@ fn let_go<'a, 'b, 'c, N: Named>(
         out,
         event,
         taken,
-        has_failed,
+        has_failed: has_failed | is_lost,
     }
 }
 
-/// Takes a prefix of the bytes, at least one, and notes what they give. Returns how many bytes were taken, and whether that failed. It is
-/// out of the way of what needs no machine.
+/// Takes a prefix of the bytes, at least one, and notes what they give. Returns how many bytes were
+/// taken, and whether that failed, which it does at no sound state. It is out of the way of what
+/// needs no machine.
 #[inline(never)]
 pub fn step(
     parser: &mut EscParser,
@@ -153,12 +169,19 @@ pub fn step(
     bytes: &[u8],
 ) -> (usize, bool)
     requires some { 0 < length bytes.now }
-    requires none { event.old.kind ≡ 0 }
+    requires none { event.old.kind ≡ NONE }
     ensures few { result.0 ≤ length bytes.now }
     ensures some { result.1 ≡ false → 0 < result.0 }
-    ensures kept { (u : Unfinished) → KeptIn parser.old memory.old u → result.1 ≡ false → KeptIn parser.new memory.new (after_all u (take result.0 bytes.now)) }
-    ensures told { (u : Unfinished) → KeptIn parser.old memory.old u → result.1 ≡ false → said event.new out.new parser.new.due_kind parser.new.due_value ≡ news_all (Some (length memory.old)) u (take result.0 bytes.now) }
-    ensures run { (u : Unfinished) → KeptIn parser.old memory.old u → result.1 ≡ false → is_run event.new.kind ≡ false }
+    ensures kept { (u : Unfinished) → KeptIn parser.old memory.old u → result.1 ≡ false
+        → KeptIn parser.new memory.new (after_all u (take result.0 bytes.now)) }
+    ensures told { (u : Unfinished) → KeptIn parser.old memory.old u → result.1 ≡ false
+        → said event.new out.new parser.new.due_kind parser.new.due_value
+        ≡ news_all (Some (length memory.old)) u (take result.0 bytes.now) }
+    ensures run { (u : Unfinished) → KeptIn parser.old memory.old u → result.1 ≡ false
+        → is_run event.new.kind ≡ false }
+    ensures sound { (u : Unfinished) → KeptIn parser.old memory.old u
+        → length memory.old ≤ length out.old → IsSound event.old (length out.old)
+        → (result.1 ≡ false) × GivesSound event.new parser.new.due_kind (length out.old) }
     ensures before { parser.new.has_failed ≡ parser.old.has_failed }
 {
     let lend = step_in::<Brand>(parser, memory, out, event, bytes);

@@ -1,7 +1,7 @@
 //! What is kept of a string, in memory that was lent.
 #![tactic(auto)]
 
-ghost use Rattle.std.specs.Prelude.{◌≡◌, ◌≤◌, ◌++◌, ℕ, List, [], Option, OnOk, true, false, take, length};
+ghost use Rattle.std.specs.Prelude.{◌≡◌, ◌≢◌, ◌≤◌, ◌++◌, ℕ, List, [], Option, Some, OnOk, true, false, take, length};
 ghost use Rattle.esc_frame.specs.Limits.{is_within};
 ghost use Rattle.esc_lent.specs.Texts.{KeepsLent};
 
@@ -27,8 +27,8 @@ pub struct LentText<'a, N: Named> {
 impl<'a, N: Named> Store for LentText<'a, N> {
     ghost keeps = { λ limit k t. KeepsLent limit k.is_over k.count k.memory.now t };
 
-    // It fails where there is no room, and asks for no memory.
-    ghost denied = { Unit {0} };
+    // It asks for no memory, and where the limit is its room it never fails.
+    ghost denied = { λ limit. limit ≢ Some N.room };
 
     #[inline]
     fn clear(&mut self) {

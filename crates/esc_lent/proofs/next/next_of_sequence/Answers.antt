@@ -1,20 +1,29 @@
-use Rattle.std.proofs.Common.{take, length, ap, ◌∙◌}
+use Rattle.std.proofs.Common.{rules, take, length, ap, ◌∙◌}
 use Rattle.esc_lent.specs.States.{lower, upper}
 use Rattle.esc_lent.specs.Told.{due_of, is_run}
 use Rattle.esc_lent.proofs.Ahead.{event_tells}
 use Rattle.esc_lent.proofs.Taken.{at_first}
 use Rattle.esc_lent.proofs.next.next_of_sequence.Goals as goal
 
-pub returns-then-taken-gt0-clause-given : goal.returns-then-taken-gt0-clause-given
-returns-then-taken-gt0-clause-given c = λ s es h ne.
-    let p = c.args.parser.now in
-    let bs = c.args.bytes.now in
-    let n = c.note_csi-taken.result in
-    let e = c.note_csi-taken.new.event in
-    let memory = lower c.args.buffer.now in
-    let out = upper c.args.buffer.now in
-    let csi = c.note_csi-taken.ensures in
-    let some = c.if-taken-gt0.true in
-    let plain = c.requires.plain in
-    at_first s bs n es p memory e out (csi.within.3 ∙ c.settle.ensures.0) (ap (λ k. due_of k p.due_value) plain.1)
-    (event_tells p e (take n bs) plain.2 plain.3 (ap is_run (csi.some some)) (csi.tells some) out (length memory) bs) h
+pub returns-then-taken-gt0-clause-holds : goal.returns-then-taken-gt0-clause-holds
+returns-then-taken-gt0-clause-holds c = record {
+  few = search rules;
+  within = search rules;
+  utf8 = search rules;
+  given = λ s es h ne.
+      let p = c.args.parser.now in
+      let bs = c.args.bytes.now in
+      let n = c.note_csi-taken.result in
+      let e = c.note_csi-taken.new.event in
+      let memory = lower c.args.buffer.now in
+      let out = upper c.args.buffer.now in
+      let csi = c.note_csi-taken.ensures in
+      let some = c.if-taken-gt0.true in
+      let plain = c.requires.plain in
+      at_first s bs n es p memory e out (csi.within.3 ∙ c.settle.ensures.0) (ap (λ k. due_of k p.due_value) plain.1)
+      (event_tells p e (take n bs) plain.2 plain.3 (ap is_run (csi.some some)) (csi.tells some) out (length memory) bs) h;
+  all = search rules;
+  moves = search rules;
+  failed = search rules;
+  again = search rules;
+}

@@ -1,25 +1,32 @@
-use Rattle.std.proofs.Common.{◌≡◌, ◌++◌, length, take, drop, ◌-◌, ap, sym, ◌∙◌, subst, Some, arith}
+use Rattle.std.proofs.Common.{rules, ◌≡◌, ◌++◌, length, take, drop, ◌-◌, ap, sym, ◌∙◌, subst, Some, arith}
 use Rattle.esc_frame.specs.Machine.Moves.{after_all, news_all}
 use Rattle.esc_lent.specs.States.{KeptIn}
 use Rattle.esc_lent.specs.Told.{due_of, is_run}
 use Rattle.esc_lent.proofs.Taken.{utf8_placed, after_both, news_both, told_placed, says_nothing}
 use Rattle.esc_lent.proofs.next.take_on.Goals as goal
 
-pub returns-then-event-ne-NONE-clause-kept : goal.returns-then-event-ne-NONE-clause-kept
-returns-then-event-ne-NONE-clause-kept c = λ u h ne.
-    subst (KeptIn c.advance-taken.new.parser c.advance-taken.new.memory) (sym (after_both c.args.bytes.now c.loop-at.at c.advance-taken.result u))
-    (c.advance-taken.ensures.kept _ (c.loop-at.invariant.kept u h).0 ne)
-
-pub returns-then-event-ne-NONE-clause-told : goal.returns-then-event-ne-NONE-clause-told
-returns-then-event-ne-NONE-clause-told c = λ u h ne.
-    let bs = c.args.bytes.now in
-    let at = c.loop-at.at in
-    let i = c.loop-at.invariant.kept u h in
-    let e = c.advance-taken.new.event in
-    ap (λ y. y ++ due_of c.advance-taken.new.parser.due_kind c.advance-taken.new.parser.due_value) (told_placed bs at 0 e c.advance-taken.new.out)
-    ∙ c.advance-taken.ensures.told _ i.0 ne
-    ∙ ap (λ k. news_all (Some k) (after_all u (take at bs)) (take c.advance-taken.result (take (length bs - at) (drop at bs)))) c.loop-at.auto.memory
-    ∙ sym (news_both bs at c.advance-taken.result (Some (length c.args.memory.now)) u i.1)
+pub returns-then-event-ne-NONE-clause-holds : goal.returns-then-event-ne-NONE-clause-holds
+returns-then-event-ne-NONE-clause-holds c = record {
+  few = search rules;
+  within = search rules;
+  utf8 = λ k. utf8_placed c.args.bytes.now c.loop-at.at 0 c.advance-taken.new.event (c.advance-taken.ensures.utf8 k);
+  some = search rules;
+  all = search rules;
+  kept = λ u h ne.
+      subst (KeptIn c.advance-taken.new.parser c.advance-taken.new.memory) (sym (after_both c.args.bytes.now c.loop-at.at c.advance-taken.result u))
+      (c.advance-taken.ensures.kept _ (c.loop-at.invariant.kept u h).0 ne);
+  says = λ u h ne.
+      let bs = c.args.bytes.now in
+      let at = c.loop-at.at in
+      let i = c.loop-at.invariant.kept u h in
+      let e = c.advance-taken.new.event in
+      ap (λ y. y ++ due_of c.advance-taken.new.parser.due_kind c.advance-taken.new.parser.due_value) (told_placed bs at 0 e c.advance-taken.new.out)
+      ∙ c.advance-taken.ensures.told _ i.0 ne
+      ∙ ap (λ k. news_all (Some k) (after_all u (take at bs)) (take c.advance-taken.result (take (length bs - at) (drop at bs)))) c.loop-at.auto.memory
+      ∙ sym (news_both bs at c.advance-taken.result (Some (length c.args.memory.now)) u i.1);
+  failed = search rules;
+  goes_on = search rules;
+}
 
 pub loop-at-preserved : goal.loop-at-preserved
 loop-at-preserved c =
@@ -50,5 +57,7 @@ loop-at-preserved c =
       failed = c.advance-taken.ensures.goes_on ne ∙ c.loop-at.invariant.failed;
     }
 
-pub returns-then-event-ne-NONE-clause-utf8 : goal.returns-then-event-ne-NONE-clause-utf8
-returns-then-event-ne-NONE-clause-utf8 c = λ k. utf8_placed c.args.bytes.now c.loop-at.at 0 c.advance-taken.new.event (c.advance-taken.ensures.utf8 k)
+pub returns-then-event-ne-NONE-clause-sound : goal.returns-then-event-ne-NONE-clause-sound
+returns-then-event-ne-NONE-clause-sound c = λ u h less.
+    c.advance-taken.ensures.sound _ (c.loop-at.invariant.kept u h).0
+    (omega (arith, less, c.loop-at.auto.memory, c.loop-at.auto.out))

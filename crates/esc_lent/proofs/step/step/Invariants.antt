@@ -6,5 +6,6 @@ ghosts-step_in a = record {
   kept = a.memory.ghost_name;
   room = length a.memory.now;
   out = a.out.ghost_name;
+  place = length a.out.now;
   event = a.event.ghost_name;
 }

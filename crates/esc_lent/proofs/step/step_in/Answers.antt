@@ -1,9 +1,10 @@
 use Rattle.std.proofs.Common.{◌≡◌, ◌≤◌, length, take, ap, sym, ◌∙◌, subst, Some}
 use Rattle.esc_frame.specs.Leads.{Holds}
 use Rattle.esc_frame.specs.Machine.Moves.{news_all}
+use Rattle.esc_lent.specs.Noted.{IsSound, GivesSound}
 use Rattle.esc_lent.specs.Texts.{KeepsLent}
-use Rattle.esc_lent.specs.Told.{said, is_run}
-use Rattle.esc_lent.proofs.Steps.{taken_few, took_said, said_same, said_nothing}
+use Rattle.esc_lent.specs.Told.{is_run}
+use Rattle.esc_lent.proofs.Steps.{taken_few, took_said, took_sound, said_same, or_parts, or_none}
 use Rattle.esc_lent.proofs.step.step_in.Goals as goal
 
 pub returns-clause-few : goal.returns-clause-few
@@ -16,15 +17,16 @@ pub returns-clause-told : goal.returns-clause-told
 returns-clause-told g c = λ u h f.
     let old = c.listen-recorder.result in
     let new = c.take_some.new.actor in
-    let e = c.taken_of-taken.ensures.ok (sym c.let_go.ensures.failed ∙ f) in
+    let no = or_parts c.taken_of-taken.result.1 new.is_lost (sym c.let_go.ensures.failed ∙ f) in
     let kind : old.event.now.kind ≡ 0 = ap (λ x. x.kind) c.listen-recorder.ensures.event ∙ c.requires.none in
     let holds = subst (λ r. Holds (λ limit k t. KeepsLent limit k.is_over k.count k.memory.now t) (Some r) c.load-machine.result u) (sym c.requires.room)
     (c.load-machine.ensures.holds u h) in
     let k = took_said (λ limit k t. KeepsLent limit k.is_over k.count k.memory.now t)
-    (Unit {0}) (Some (length c.args.memory.now)) (λ p e q. Unit {0})
-    (λ s. said s.event.now s.out.now s.due_kind s.due_value) (λ s. is_run s.event.now.kind)
-    c.take_some.result c.taken_of-taken.result.0 u c.args.bytes.now c.take_some.new.self old new e (c.take_some.ensures.took u holds)
-    (said_nothing old.event.now old.out.now old.due_kind old.due_value kind c.listen-recorder.ensures.due) (ap is_run kind) in
+    (λ s. s.event.now) (λ s. s.out.now) (λ s. s.due_kind) (λ s. s.due_value) (λ s. s.is_lost)
+    g.N.Named.room g.N.Named.place u c.args.bytes.now c.take_some.new.self old new kind
+    c.listen-recorder.ensures.due (Some (length c.args.memory.now)) c.take_some.result
+    c.taken_of-taken.result.0 (c.taken_of-taken.ensures.ok no.0) (c.take_some.ensures.took u holds)
+    no.1 in
     said_same _ _ _ _ _ _ _ _ c.let_go.ensures.event_now c.let_go.ensures.out_now c.unload.ensures.due_kind c.unload.ensures.due_value ∙ k.0
     ∙ ap (λ n. news_all (Some (length c.args.memory.now)) u (take n c.args.bytes.now)) (sym c.let_go.ensures.taken)
 
@@ -32,13 +34,38 @@ pub returns-clause-run : goal.returns-clause-run
 returns-clause-run g c = λ u h f.
     let old = c.listen-recorder.result in
     let new = c.take_some.new.actor in
-    let e = c.taken_of-taken.ensures.ok (sym c.let_go.ensures.failed ∙ f) in
+    let no = or_parts c.taken_of-taken.result.1 new.is_lost (sym c.let_go.ensures.failed ∙ f) in
     let kind : old.event.now.kind ≡ 0 = ap (λ x. x.kind) c.listen-recorder.ensures.event ∙ c.requires.none in
     let holds = subst (λ r. Holds (λ limit k t. KeepsLent limit k.is_over k.count k.memory.now t) (Some r) c.load-machine.result u) (sym c.requires.room)
     (c.load-machine.ensures.holds u h) in
     let k = took_said (λ limit k t. KeepsLent limit k.is_over k.count k.memory.now t)
-    (Unit {0}) (Some (length c.args.memory.now)) (λ p e q. Unit {0})
-    (λ s. said s.event.now s.out.now s.due_kind s.due_value) (λ s. is_run s.event.now.kind)
-    c.take_some.result c.taken_of-taken.result.0 u c.args.bytes.now c.take_some.new.self old new e (c.take_some.ensures.took u holds)
-    (said_nothing old.event.now old.out.now old.due_kind old.due_value kind c.listen-recorder.ensures.due) (ap is_run kind) in
+    (λ s. s.event.now) (λ s. s.out.now) (λ s. s.due_kind) (λ s. s.due_value) (λ s. s.is_lost)
+    g.N.Named.room g.N.Named.place u c.args.bytes.now c.take_some.new.self old new kind
+    c.listen-recorder.ensures.due (Some (length c.args.memory.now)) c.take_some.result
+    c.taken_of-taken.result.0 (c.taken_of-taken.ensures.ok no.0) (c.take_some.ensures.took u holds)
+    no.1 in
     ap (λ x. is_run x.kind) c.let_go.ensures.event_now ∙ k.1
+
+pub returns-clause-sound : goal.returns-clause-sound
+returns-clause-sound g c = λ u h less bounds.
+    let old = c.listen-recorder.result in
+    let new = c.take_some.new.actor in
+    let room = c.requires.room in
+    let place = c.requires.place in
+    let kind : old.event.now.kind ≡ 0 = ap (λ x. x.kind) c.listen-recorder.ensures.event ∙ c.requires.none in
+    let holds = subst (λ r. Holds (λ limit k t. KeepsLent limit k.is_over k.count k.memory.now t) (Some r) c.load-machine.result u) (sym room)
+    (c.load-machine.ensures.holds u h) in
+    let fits = subst (λ r. r ≤ g.N.Named.place) room (subst (λ p. length c.args.memory.now ≤ p) place less) in
+    let before = subst (λ p. IsSound old.event.now p) place
+    (subst (λ e. IsSound e (length c.args.out.now)) (sym c.listen-recorder.ensures.event) bounds) in
+    let k = took_sound (λ limit k t. KeepsLent limit k.is_over k.count k.memory.now t)
+    (λ s. s.event.now) (λ s. s.out.now) (λ s. s.due_kind) (λ s. s.due_value) (λ s. s.is_lost)
+    g.N.Named.room g.N.Named.place u c.args.bytes.now c.take_some.new.self old new kind
+    c.listen-recorder.ensures.due (Some (length c.args.memory.now)) c.take_some.result
+    (ap Some room) (c.take_some.ensures.took u holds) (c.take_some.ensures.quiet u holds) fits
+    c.listen-recorder.ensures.lost before in (
+      c.let_go.ensures.failed ∙ or_none c.taken_of-taken.result.1 new.is_lost (c.taken_of-taken.ensures.fails k.0 k.1) k.2,
+      subst (λ e. GivesSound e c.unload.new.parser.due_kind (length c.args.out.now)) (sym c.let_go.ensures.event_now)
+          (subst (λ d. GivesSound new.event.now d (length c.args.out.now)) (sym c.unload.ensures.due_kind)
+          (subst (λ p. GivesSound new.event.now new.due_kind p) (sym place) k.3)),
+    )
