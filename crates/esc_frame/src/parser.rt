@@ -96,8 +96,7 @@ impl<A: Allocator> VTParser<A> {
     #[tactic(auto, unfolding(crate::specs::Stream::LeadsToWithin, crate::specs::Stream::HasFailed))]
     pub fn has_failed(&self) -> bool
         ensures failed { IsTrue result ↔ HasFailed self.now }
-        ensures fed { (limit : Option ℕ) (s : List ℕ) → LeadsToWithin limit s self.now
-            → result ≡ false }
+        ensures fed { After self.now (λ limit s. result ≡ false) }
     {
         self.has_failed
     }
