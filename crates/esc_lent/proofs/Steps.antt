@@ -50,7 +50,8 @@ module _ {K A S E : Type 0} (keeps : Option ℕ → K → List ℕ → Type 0) (
       let es = news_all limit u (take n rest) in
       let q = all_noted event out due value lost place es old new t.1 l in (
         q.1
-            ∙ ap (λ y. y ++ es) (said_nothing (event old) (out old) (due old) (value old) kind none),
+            ∙ ap (λ y. y ++ es) (said_nothing (event old) (out old) (due old)
+            (value old) kind none),
         all_run event out due value lost place es old new t.1 (ap is_run kind),
       )
 

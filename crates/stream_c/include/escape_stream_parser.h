@@ -45,8 +45,9 @@ extern "C" {
  * DATA_BYTE  a byte of its data, `byte`
  * DCS_END    it ends
  * APC        an application program command: `text`
- * FAILED     something else wrote the parser, or the lower half of the buffer, or the buffer is not that of the calls before: no
- *            call of the parser gives anything else from then on. Where the caller keeps to the rules above it is proved never to come
+ * FAILED     something else wrote the parser or the lower half of the buffer, or the buffer is not
+ *            that of the calls before; from then on no call of the parser gives anything else.
+ *            Where the caller keeps to the rules above it never comes, as is proved
  */
 #define ESCAPE_STREAM_NONE UINT32_C(0)
 #define ESCAPE_STREAM_TEXT UINT32_C(1)

@@ -16,7 +16,8 @@ returns-then-taken-gt0-clause-holds c = record {
       let some = c.if-taken-gt0.true in
       let plain = c.if-is_plain.ensures refl in
       let note = c.note_plain-taken in
-      at_first s c.args.bytes.now note.result es p memory note.new.event out (note.ensures.some some).4 (ap (λ k. due_of k p.due_value) plain.1)
+      at_first s c.args.bytes.now note.result es p memory note.new.event out
+      (note.ensures.some some).4 (ap (λ k. due_of k p.due_value) plain.1)
       (note.ensures.tells some p out (length memory) plain.2 plain.3) h;
   all = search rules;
   moves = search rules;

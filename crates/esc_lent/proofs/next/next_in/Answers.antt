@@ -11,8 +11,10 @@ returns-then-give_due-clause-holds c = record {
   within = search rules;
   utf8 = search rules;
   given = λ s es h ne.
-      at_due s c.args.bytes.now es c.args.parser.now c.give_due.new.parser c.args.memory.now _ c.give_due.ensures.failed
-      (c.give_due.ensures.told c.args.out.now c.args.bytes.now) c.give_due.ensures.due (c.give_due.ensures.kept c.args.memory.now) h;
+      at_due s c.args.bytes.now es c.args.parser.now c.give_due.new.parser c.args.memory.now _
+      c.give_due.ensures.failed
+      (c.give_due.ensures.told c.args.out.now c.args.bytes.now) c.give_due.ensures.due
+      (c.give_due.ensures.kept c.args.memory.now) h;
   all = search rules;
   moves = search rules;
   failed = search rules;
@@ -25,12 +27,16 @@ returns-clause-holds c = record {
   within = search rules;
   utf8 = search rules;
   given = λ s es h ne.
-      let was : due_of c.args.parser.now.due_kind c.args.parser.now.due_value ≡ [] = sym (c.give_due.ensures.told c.args.out.now [])
-      ∙ says_nothing c.give_due.new.event c.args.out.now _ (c.give_due.ensures.none c.if-give_due.false) in
-      at_more s c.args.bytes.now c.take_next.result es c.args.parser.now c.take_next.new.parser c.args.memory.now c.take_next.new.memory _ c.take_next.auto.memory
+      let was : due_of c.args.parser.now.due_kind c.args.parser.now.due_value ≡ [] = sym
+      (c.give_due.ensures.told c.args.out.now [])
+      ∙ says_nothing c.give_due.new.event c.args.out.now _
+      (c.give_due.ensures.none c.if-give_due.false) in
+      at_more s c.args.bytes.now c.take_next.result es c.args.parser.now c.take_next.new.parser
+      c.args.memory.now c.take_next.new.memory _ c.take_next.auto.memory
       (c.take_next.ensures.holds.goes_on ne ∙ c.give_due.ensures.failed) was
       (λ u k. c.take_next.ensures.holds.kept u (c.give_due.ensures.kept c.args.memory.now u k) ne)
-      (λ u k. c.take_next.ensures.holds.says u (c.give_due.ensures.kept c.args.memory.now u k) ne) h;
+      (λ u k. c.take_next.ensures.holds.says u (c.give_due.ensures.kept c.args.memory.now u k) ne)
+      h;
   all = search rules;
   moves = search rules;
   failed = search rules;

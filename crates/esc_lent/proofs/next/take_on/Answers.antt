@@ -9,20 +9,24 @@ pub returns-then-event-ne-NONE-clause-holds : goal.returns-then-event-ne-NONE-cl
 returns-then-event-ne-NONE-clause-holds c = record {
   few = search rules;
   within = search rules;
-  utf8 = λ k. utf8_placed c.args.bytes.now c.loop-at.at 0 c.advance-taken.new.event (c.advance-taken.ensures.utf8 k);
+  utf8 = λ k. utf8_placed c.args.bytes.now c.loop-at.at 0 c.advance-taken.new.event
+      (c.advance-taken.ensures.utf8 k);
   some = search rules;
   all = search rules;
   kept = λ u h ne.
-      subst (KeptIn c.advance-taken.new.parser c.advance-taken.new.memory) (sym (after_both c.args.bytes.now c.loop-at.at c.advance-taken.result u))
+      subst (KeptIn c.advance-taken.new.parser c.advance-taken.new.memory)
+      (sym (after_both c.args.bytes.now c.loop-at.at c.advance-taken.result u))
       (c.advance-taken.ensures.kept _ (c.loop-at.invariant.kept u h).0 ne);
   says = λ u h ne.
       let bs = c.args.bytes.now in
       let at = c.loop-at.at in
       let i = c.loop-at.invariant.kept u h in
       let e = c.advance-taken.new.event in
-      ap (λ y. y ++ due_of c.advance-taken.new.parser.due_kind c.advance-taken.new.parser.due_value) (told_placed bs at 0 e c.advance-taken.new.out)
+      ap (λ y. y ++ due_of c.advance-taken.new.parser.due_kind
+      c.advance-taken.new.parser.due_value) (told_placed bs at 0 e c.advance-taken.new.out)
       ∙ c.advance-taken.ensures.told _ i.0 ne
-      ∙ ap (λ k. news_all (Some k) (after_all u (take at bs)) (take c.advance-taken.result (take (length bs - at) (drop at bs)))) c.loop-at.auto.memory
+      ∙ ap (λ k. news_all (Some k) (after_all u (take at bs))
+      (take c.advance-taken.result (take (length bs - at) (drop at bs)))) c.loop-at.auto.memory
       ∙ sym (news_both bs at c.advance-taken.result (Some (length c.args.memory.now)) u i.1);
   failed = search rules;
   goes_on = search rules;

@@ -18,7 +18,8 @@ returns-clause-told g c = λ u h f.
     let old = c.listen-recorder.result in
     let new = c.take_some.new.actor in
     let no = or_parts c.taken_of-taken.result.1 new.is_lost (sym c.let_go.ensures.failed ∙ f) in
-    let kind : old.event.now.kind ≡ 0 = ap (λ x. x.kind) c.listen-recorder.ensures.event ∙ c.requires.none in
+    let kind : old.event.now.kind ≡ 0 = ap (λ x. x.kind) c.listen-recorder.ensures.event
+    ∙ c.requires.none in
     let holds = subst (λ r. Holds (λ limit k t. KeepsLent limit k.is_over k.count k.memory.now t) (Some r) c.load-machine.result u) (sym c.requires.room)
     (c.load-machine.ensures.holds u h) in
     let k = took_said (λ limit k t. KeepsLent limit k.is_over k.count k.memory.now t)
@@ -35,7 +36,8 @@ returns-clause-run g c = λ u h f.
     let old = c.listen-recorder.result in
     let new = c.take_some.new.actor in
     let no = or_parts c.taken_of-taken.result.1 new.is_lost (sym c.let_go.ensures.failed ∙ f) in
-    let kind : old.event.now.kind ≡ 0 = ap (λ x. x.kind) c.listen-recorder.ensures.event ∙ c.requires.none in
+    let kind : old.event.now.kind ≡ 0 = ap (λ x. x.kind) c.listen-recorder.ensures.event
+    ∙ c.requires.none in
     let holds = subst (λ r. Holds (λ limit k t. KeepsLent limit k.is_over k.count k.memory.now t) (Some r) c.load-machine.result u) (sym c.requires.room)
     (c.load-machine.ensures.holds u h) in
     let k = took_said (λ limit k t. KeepsLent limit k.is_over k.count k.memory.now t)
@@ -52,10 +54,13 @@ returns-clause-sound g c = λ u h less bounds.
     let new = c.take_some.new.actor in
     let room = c.requires.room in
     let place = c.requires.place in
-    let kind : old.event.now.kind ≡ 0 = ap (λ x. x.kind) c.listen-recorder.ensures.event ∙ c.requires.none in
-    let holds = subst (λ r. Holds (λ limit k t. KeepsLent limit k.is_over k.count k.memory.now t) (Some r) c.load-machine.result u) (sym room)
+    let kind : old.event.now.kind ≡ 0 = ap (λ x. x.kind) c.listen-recorder.ensures.event
+    ∙ c.requires.none in
+    let holds = subst (λ r. Holds (λ limit k t. KeepsLent limit k.is_over k.count k.memory.now t)
+    (Some r) c.load-machine.result u) (sym room)
     (c.load-machine.ensures.holds u h) in
-    let fits = subst (λ r. r ≤ g.N.Named.place) room (subst (λ p. length c.args.memory.now ≤ p) place less) in
+    let fits = subst (λ r. r ≤ g.N.Named.place) room
+    (subst (λ p. length c.args.memory.now ≤ p) place less) in
     let before = subst (λ p. IsSound old.event.now p) place
     (subst (λ e. IsSound e (length c.args.out.now)) (sym c.listen-recorder.ensures.event) bounds) in
     let k = took_sound (λ limit k t. KeepsLent limit k.is_over k.count k.memory.now t)
@@ -64,8 +69,11 @@ returns-clause-sound g c = λ u h less bounds.
     c.listen-recorder.ensures.due (Some (length c.args.memory.now)) c.take_some.result
     (ap Some room) (c.take_some.ensures.took u holds) (c.take_some.ensures.quiet u holds) fits
     c.listen-recorder.ensures.lost before in (
-      c.let_go.ensures.failed ∙ or_none c.taken_of-taken.result.1 new.is_lost (c.taken_of-taken.ensures.fails k.0 k.1) k.2,
-      subst (λ e. GivesSound e c.unload.new.parser.due_kind (length c.args.out.now)) (sym c.let_go.ensures.event_now)
-          (subst (λ d. GivesSound new.event.now d (length c.args.out.now)) (sym c.unload.ensures.due_kind)
+      c.let_go.ensures.failed ∙ or_none c.taken_of-taken.result.1 new.is_lost
+          (c.taken_of-taken.ensures.fails k.0 k.1) k.2,
+      subst (λ e. GivesSound e c.unload.new.parser.due_kind (length c.args.out.now))
+          (sym c.let_go.ensures.event_now)
+          (subst (λ d. GivesSound new.event.now d (length c.args.out.now))
+          (sym c.unload.ensures.due_kind)
           (subst (λ p. GivesSound new.event.now new.due_kind p) (sym place) k.3)),
     )
