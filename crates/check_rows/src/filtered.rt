@@ -1,5 +1,6 @@
 //! What a filter writes of a stream.
 use crate::fault::Fault;
+use crate::questions::check_questions;
 use crate::report::Report;
 use crate::row::Row;
 use esc_filter::{FilterError, Policy, filter_stream};
@@ -22,9 +23,9 @@ const POLICIES: [(Policy, &str); 4] = [
     (Policy::All, "as-all"),
 ];
 
-/// What each policy lets through of a stream, read whole and byte by byte, and that it is flushed;
-/// and what is written of it where a read, a write or a request for memory fails, at each of them
-/// in turn.
+/// What each policy lets through of a stream, read whole and byte by byte, that it is flushed, and
+/// that a policy is asked once of each action; and what is written of it where a read, a write or a
+/// request for memory fails, at each of them in turn.
 pub fn check_filtered(alloc: Global, row: Row, report: &mut Report) -> Result<(), Fault> {
     let bytes = row.bytes(alloc, "stream")?;
     let stream = bytes.as_slice();
@@ -41,6 +42,7 @@ pub fn check_filtered(alloc: Global, row: Row, report: &mut Report) -> Result<()
     check_reads(alloc, stream, wanted.as_str())?;
     check_writes(alloc, stream, wanted.as_str())?;
     check_flushes(alloc, stream, wanted.as_str())?;
+    check_questions(alloc, stream, LIMIT)?;
     check_requests(alloc, stream, wanted.as_str())
 }
 

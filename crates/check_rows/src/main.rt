@@ -16,6 +16,7 @@ mod limited;
 mod line;
 mod made;
 mod noise;
+mod questions;
 mod random;
 mod readings;
 mod report;

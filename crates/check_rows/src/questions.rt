@@ -1,0 +1,103 @@
+//! How often a filter asks its policy.
+use crate::fault::Fault;
+use crate::segments::whole;
+use esc_filter::{Admit, filter_stream};
+use escape_stream::{Action, Watched};
+use std::alloc::Global;
+use std::cell::Cell;
+
+// How many actions are done with, how many of them the policy was asked of, and whether one came that
+// was not due.
+#[derive(Clone, Copy, PartialEq, Eq)]
+struct Progress {
+    done: usize,
+    asked: usize,
+    differs: bool,
+}
+
+// Admits all or nothing, and expects each of the actions once, in order.
+#[derive(Drop)]
+struct Expecting<'a> {
+    admits_all: bool,
+    actions: &'a [Action],
+    progress: &'a Cell<Progress>,
+}
+
+impl Expecting<'_> {
+    // Notes an action that came: whether it is the one that is due, whether it was asked of, and whether
+    // it is done with.
+    fn note(&self, action: &Action, is_asked: bool, is_done: bool) {
+        let Progress {
+            done,
+            asked,
+            differs,
+        } = self.progress.get();
+        let is_due = match self.actions.get(done) {
+            Some(due) => due == action,
+            None => false,
+        };
+        self.progress.set(Progress {
+            done: done.saturating_add(usize::from(is_done)),
+            asked: asked.saturating_add(usize::from(is_asked)),
+            differs: differs || !is_due,
+        });
+    }
+}
+
+impl Admit<Global> for Expecting<'_> {
+    ghost admits = { λ e _. e.admits_all };
+
+    fn admits(&self, action: &Action) -> bool {
+        self.note(action, true, self.admits_all);
+        self.admits_all
+    }
+
+    fn leaves_out(&self, action: &Action) {
+        self.note(action, false, true);
+    }
+}
+
+/// A policy that admits all is asked of each action that can be written by itself, and shown each other
+/// one; a policy that admits none is asked of the same, and shown each: once, in order.
+pub fn check_questions(alloc: Global, stream: &[u8], limit: usize) -> Result<(), Fault> {
+    let actions = whole(alloc, stream)?;
+    let all = asked_of(alloc, stream, limit, &actions, true);
+    let none = asked_of(alloc, stream, limit, &actions, false);
+    if all.differs || all.done != actions.len() || all != none {
+        return Err(Fault("a policy is not asked of each action once"));
+    }
+    Ok(())
+}
+
+// What a policy that admits all or nothing is asked of.
+fn asked_of(
+    alloc: Global,
+    stream: &[u8],
+    limit: usize,
+    actions: &[Action],
+    admits_all: bool,
+) -> Progress {
+    let progress = Cell::new(Progress {
+        done: 0,
+        asked: 0,
+        differs: false,
+    });
+    let policy = Expecting {
+        admits_all,
+        actions,
+        progress: &progress,
+    };
+    let mut reader = Watched::new(stream);
+    let mut writer = Watched::new(Vec::new(alloc));
+    let ending = filter_stream(alloc, &mut reader, &mut writer, limit, policy);
+    let Progress {
+        done,
+        asked,
+        differs,
+    } = progress.get();
+    Progress {
+        done,
+        asked,
+        differs: differs || ending.is_err(),
+    }
+}
