@@ -23,7 +23,8 @@ datum_has_text d h = refl
 
 data_have_text : (ds : List SixelData) → AreWritableData ds → list_all is_sixel ds ≡ true
 data_have_text [] h = refl
-data_have_text (d ∷ ds) h = and_from (is_sixel d) (list_all is_sixel ds) (datum_has_text d h.0) (data_have_text ds h.1)
+data_have_text (d ∷ ds) h = and_from (is_sixel d) (list_all is_sixel ds) (datum_has_text d h.0)
+    (data_have_text ds h.1)
 
 pub writable_has_text : {A : Type 0} (v : Value A) → IsWritable v → has_text v ≡ true
 writable_has_text (print c) h = refl
@@ -33,7 +34,8 @@ writable_has_text (esc e) h = refl
 writable_has_text (csi c) h = refl
 writable_has_text (osc c) h = refl
 writable_has_text (kitty i) h = refl
-writable_has_text (sixel s) (pan, (pad, (sizes, (grid, content)))) = data_have_text s.content content
+writable_has_text (sixel s) (pan, (pad, (sizes, (grid, content)))) =
+    data_have_text s.content content
 writable_has_text (termcap ns) h = refl
 writable_has_text (short s) h = refl
 writable_has_text (enter e) h = refl
@@ -56,7 +58,9 @@ handed_out_has_text (enter e) h = refl
 handed_out_has_text (datum b) h = refl
 handed_out_has_text exit h = refl
 
-pub handed_out_have_texts : {A : Type 0} (vs : List (Value A)) → AreHandedOut vs → list_all has_text vs ≡ true
+pub handed_out_have_texts : {A : Type 0} (vs : List (Value A)) → AreHandedOut vs
+    → list_all has_text vs ≡ true
 handed_out_have_texts [] h = refl
 handed_out_have_texts (v ∷ vs) h =
-    and_from (has_text v) (list_all has_text vs) (handed_out_has_text v h.0) (handed_out_have_texts vs h.1)
+    and_from (has_text v) (list_all has_text vs) (handed_out_has_text v h.0)
+    (handed_out_have_texts vs h.1)

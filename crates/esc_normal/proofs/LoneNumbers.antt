@@ -1,4 +1,5 @@
--- A control sequence of one number has the text of its entry, whether it is a rendition or has no name.
+-- A control sequence of one number has the text of its entry, whether it is a rendition or has no
+-- name.
 use Rattle.std.proofs.Common.{ℕ, ◌≡◌, Bool, true, false, not, ◌&&◌, ◌==◌, if◌then◌else◌, [], ◌∷◌, ◌++◌, Option, Some, None, inl, inr, refl, ap, sym, ◌∙◌, lit≤}
 use Rattle.std.specs.Prelude.{ℤ, pos, negsuc, unwrap_or, ◌⊎◌}
 use Rattle.std.specs.Fmt.{decimal, signed_decimal}
@@ -17,16 +18,20 @@ use Rattle.esc_sequences.specs.Csis.{csi_of, csi_text, csi_value, named, numbere
 use Rattle.esc_values.proofs.Digits.{decimal_one, decimal_two}
 
 -- a test of a chain of tests
-tested : (b : Bool) (x s : Sgr) (o : Option Sgr) → (if b then Some x else o) ≡ Some s → ((b ≡ true) × (x ≡ s)) ⊎ (o ≡ Some s)
+tested : (b : Bool) (x s : Sgr) (o : Option Sgr) → (if b then Some x else o) ≡ Some s
+    → ((b ≡ true) × (x ≡ s)) ⊎ (o ≡ Some s)
 tested true x s o h = inl (refl, ap (λ i. unwrap_or i x) h)
 tested false x s o h = inr h
 
-one_by : (n m : ℕ) (x s : Sgr) (o : Option Sgr) → (((n == m) ≡ true) × (x ≡ s)) ⊎ (o ≡ Some s) → sgr_body x ≡ decimal m
+one_by : (n m : ℕ) (x s : Sgr) (o : Option Sgr) → (((n == m) ≡ true) × (x ≡ s)) ⊎ (o ≡ Some s)
+    → sgr_body x ≡ decimal m
     → (o ≡ Some s → sgr_body s ≡ decimal n) → sgr_body s ≡ decimal n
-one_by n m x s o (inl h) body rest = ap sgr_body (sym h.1) ∙ body ∙ ap decimal (sym (eqb-true n m h.0))
+one_by n m x s o (inl h) body rest = ap sgr_body (sym h.1) ∙ body
+    ∙ ap decimal (sym (eqb-true n m h.0))
 one_by n m x s o (inr h) body rest = rest h
 
-one : (n m : ℕ) (x s : Sgr) (o : Option Sgr) → (if n == m then Some x else o) ≡ Some s → sgr_body x ≡ decimal m
+one : (n m : ℕ) (x s : Sgr) (o : Option Sgr) → (if n == m then Some x else o) ≡ Some s
+    → sgr_body x ≡ decimal m
     → (o ≡ Some s → sgr_body s ≡ decimal n) → sgr_body s ≡ decimal n
 one n m x s o h body rest = one_by n m x s o (tested (n == m) x s o h) body rest
 
@@ -44,7 +49,8 @@ named_body n s h =
     one n 23 (Italic false) s _ h5 (sym (decimal_two 23 (lit≤ tt) (lit≤ tt))) (λ h6.
     one n 4 (Underline underline.Single) s _ h6 (sym (decimal_one 4 (lit≤ tt))) (λ h7.
     one n 21 (Underline underline.Double) s _ h7 (sym (decimal_two 21 (lit≤ tt) (lit≤ tt))) (λ h8.
-    one n 24 (Underline underline.None) s _ h8 (sym (decimal_two 24 (lit≤ tt) (lit≤ tt))) (λ h9. absurd (none_some s h9))))))))))
+    one n 24 (Underline underline.None) s _ h8 (sym (decimal_two 24 (lit≤ tt) (lit≤ tt)))
+    (λ h9. absurd (none_some s h9))))))))))
 
 signed_body : (n : ℤ) (s : Sgr) → numbered n ≡ Some s → sgr_body s ≡ signed_decimal n
 signed_body (pos n) s h = named_body n s h
@@ -57,19 +63,25 @@ IsLone A n more f = (c : CSI A) × (csi_of (Integer n ∷ []) more f ≡ csi_val
 
 module _ {A : Type 0} (n : ℤ) (more : Bool) (f : ℕ) where
   abbrev nameless : CSI A
-  nameless = csi_variant.Unspecified (record { params = Integer n ∷ []; parameters_truncated = more; control = f })
+  nameless =
+      csi_variant.Unspecified
+      (record { params = Integer n ∷ []; parameters_truncated = more; control = f })
 
-  by_number : (o : Option Sgr) → numbered n ≡ o → ((f == 0x6d) && not more) ≡ true → f ≡ 0x6d → IsLone A n more f
+  by_number : (o : Option Sgr) → numbered n ≡ o → ((f == 0x6d) && not more) ≡ true → f ≡ 0x6d
+      → IsLone A n more f
   by_number None is e m = (nameless, rw (e, is) refl, refl)
   by_number (Some s) is e m = (
     csi_variant.Sgr s,
     rw (e, is) refl,
-    ap (λ t. 0x1b ∷ 0x5b ∷ (t ++ 0x6d ∷ [])) (signed_body n s is ∙ sym (append-nil (signed_decimal n)))
-        ∙ ap (λ t. 0x1b ∷ 0x5b ∷ ((signed_decimal n ++ []) ++ t)) (sym (ap encode_utf8 m ∙ encode_ascii 0x6d (lit≤ tt))),
+    ap (λ t. 0x1b ∷ 0x5b ∷ (t ++ 0x6d ∷ [])) (signed_body n s is
+        ∙ sym (append-nil (signed_decimal n)))
+        ∙ ap (λ t. 0x1b ∷ 0x5b ∷ ((signed_decimal n ++ []) ++ t))
+        (sym (ap encode_utf8 m ∙ encode_ascii 0x6d (lit≤ tt))),
   )
 
   by_final : (t : Bool) → ((f == 0x6d) && not more) ≡ t → IsLone A n more f
-  by_final true e = by_number (numbered n) refl e (eqb-true f 0x6d (and_parts (f == 0x6d) (not more) e).0)
+  by_final true e = by_number (numbered n) refl e
+      (eqb-true f 0x6d (and_parts (f == 0x6d) (not more) e).0)
   by_final false e = (nameless, rw e refl, refl)
 
   pub lone_number : IsLone A n more f

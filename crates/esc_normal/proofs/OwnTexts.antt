@@ -19,36 +19,52 @@ text_small : (b : ℕ) → is_text_byte b ≡ true → b < 128
 text_small b h = grind (arith, nat_tests)
 
 abbrev SpellTakes : {A : Type 0} → Spell A → Action A → Spell A → Type 0
-SpellTakes p a q = (q.text ≡ p.text ++ text_after p.follows_string (value_of a)) × (q.follows_string ≡ is_string (value_of a))
+SpellTakes p a q = (q.text ≡ p.text ++ text_after p.follows_string (value_of a))
+    × (q.follows_string ≡ is_string (value_of a))
 
-spells_text : {A : Type 0} (x : ℕ) (xs : List ℕ) (p : Spell A) → list_all is_text_byte (x ∷ xs) ≡ true
-    → FoldsTo SpellTakes p (map action.Print (x ∷ xs)) (record { text = p.text ++ x ∷ xs; follows_string = false })
+spells_text : {A : Type 0} (x : ℕ) (xs : List ℕ) (p : Spell A)
+    → list_all is_text_byte (x ∷ xs) ≡ true
+    → FoldsTo SpellTakes p (map action.Print (x ∷ xs))
+    (record { text = p.text ++ x ∷ xs; follows_string = false })
 spells_text x [] p h =
-    let e = encode_ascii x (text_small x (and_parts (is_text_byte x) true h).0) in
-    (record { text = p.text ++ x ∷ []; follows_string = false }, (ap (λ t. p.text ++ t) (sym e), refl), refl)
+    let e = encode_ascii x (text_small x (and_parts (is_text_byte x) true h).0) in (
+      record { text = p.text ++ x ∷ []; follows_string = false },
+      (ap (λ t. p.text ++ t) (sym e), refl),
+      refl,
+    )
 spells_text {A = A} x (y ∷ ys) p h =
     let k = and_parts (is_text_byte x) (list_all is_text_byte (y ∷ ys)) h in
     let e = encode_ascii x (text_small x k.0) in
     let j : Spell A = record { text = p.text ++ x ∷ []; follows_string = false } in
-    let Goal : List ℕ → Type 0 = λ t. FoldsTo SpellTakes j (map action.Print (y ∷ ys)) (record { text = t; follows_string = false }) in
-    (j, (ap (λ t. p.text ++ t) (sym e), refl), subst Goal (append_assoc p.text (x ∷ []) (y ∷ ys)) (spells_text y ys j k.1))
+    let Goal : List ℕ → Type 0 = λ t. FoldsTo SpellTakes j (map action.Print (y ∷ ys))
+    (record { text = t; follows_string = false }) in (
+      j,
+      (ap (λ t. p.text ++ t) (sym e), refl),
+      subst Goal (append_assoc p.text (x ∷ []) (y ∷ ys))
+          (spells_text y ys j k.1),
+    )
 
-pub spells_run : {A : Type 0} (xs : List ℕ) (p q : Spell A) → 0 < length xs → list_all is_text_byte xs ≡ true
-    → q ≡ record { text = p.text ++ xs; follows_string = false } → FoldsTo SpellTakes p (map action.Print xs) q
+pub spells_run : {A : Type 0} (xs : List ℕ) (p q : Spell A) → 0 < length xs
+    → list_all is_text_byte xs ≡ true
+    → q ≡ record { text = p.text ++ xs; follows_string = false }
+    → FoldsTo SpellTakes p (map action.Print xs) q
 spells_run [] p q l h e = absurd (omega arith)
-spells_run (x ∷ xs) p q l h e = subst (λ s. FoldsTo SpellTakes p (map action.Print (x ∷ xs)) s) (sym e) (spells_text x xs p h)
+spells_run (x ∷ xs) p q l h e = subst (λ s. FoldsTo SpellTakes p (map action.Print (x ∷ xs)) s)
+    (sym e) (spells_text x xs p h)
 
 -- a run of text is UTF-8
 text_ascii : (xs : List ℕ) → list_all is_text_byte xs ≡ true → IsAscii xs
 text_ascii [] h = IsAscii-nil
-text_ascii (x ∷ xs) h = let k = and_parts (is_text_byte x) (list_all is_text_byte xs) h in IsAscii-cons x xs (text_small x k.0) (text_ascii xs k.1)
+text_ascii (x ∷ xs) h = let k = and_parts (is_text_byte x) (list_all is_text_byte xs) h in
+    IsAscii-cons x xs (text_small x k.0) (text_ascii xs k.1)
 
 pub text_utf8 : (xs : List ℕ) → list_all is_text_byte xs ≡ true → IsUtf8 xs
 text_utf8 xs h = IsUtf8-from_ascii xs (text_ascii xs h)
 
 -- a run of characters is its own text
 spells_chars : {A : Type 0} (c : ℕ) (cs : List ℕ) (p : Spell A)
-    → FoldsTo SpellTakes p (map action.Print (c ∷ cs)) (record { text = p.text ++ encode_utf8_all (c ∷ cs); follows_string = false })
+    → FoldsTo SpellTakes p (map action.Print (c ∷ cs))
+    (record { text = p.text ++ encode_utf8_all (c ∷ cs); follows_string = false })
 spells_chars c [] p = (
   record { text = p.text ++ encode_utf8 c; follows_string = false },
   (refl, refl),
@@ -57,16 +73,26 @@ spells_chars c [] p = (
 )
 spells_chars {A = A} c (d ∷ ds) p =
     let j : Spell A = record { text = p.text ++ encode_utf8 c; follows_string = false } in
-    let Goal : List ℕ → Type 0 = λ t. FoldsTo SpellTakes j (map action.Print (d ∷ ds)) (record { text = t; follows_string = false }) in
-    (j, (refl, refl), subst Goal (append_assoc p.text (encode_utf8 c) (encode_utf8_all (d ∷ ds))) (spells_chars d ds j))
+    let Goal : List ℕ → Type 0 = λ t. FoldsTo SpellTakes j (map action.Print (d ∷ ds))
+    (record { text = t; follows_string = false }) in (
+      j,
+      (refl, refl),
+      subst Goal (append_assoc p.text (encode_utf8 c) (encode_utf8_all (d ∷ ds)))
+          (spells_chars d ds j),
+    )
 
-spells_all : {A : Type 0} (cs text : List ℕ) (p : Spell A) → encode_utf8_all cs ≡ text → 0 < length text
-    → FoldsTo SpellTakes p (map action.Print cs) (record { text = p.text ++ text; follows_string = false })
+spells_all : {A : Type 0} (cs text : List ℕ) (p : Spell A) → encode_utf8_all cs ≡ text
+    → 0 < length text
+    → FoldsTo SpellTakes p (map action.Print cs)
+    (record { text = p.text ++ text; follows_string = false })
 spells_all [] text p e l = absurd (omega (arith, ap length e))
 spells_all (c ∷ cs) text p e l =
-    subst (λ t. FoldsTo SpellTakes p (map action.Print (c ∷ cs)) (record { text = p.text ++ t; follows_string = false })) e (spells_chars c cs p)
+    subst (λ t. FoldsTo SpellTakes p (map action.Print (c ∷ cs))
+    (record { text = p.text ++ t; follows_string = false })) e (spells_chars c cs p)
 
 pub spells_str : {A : Type 0} (text : List ℕ) (p q : Spell A) → 0 < length text → IsUtf8 text
-    → q ≡ record { text = p.text ++ text; follows_string = false } → FoldsTo SpellTakes p (map action.Print (chars text)) q
+    → q ≡ record { text = p.text ++ text; follows_string = false }
+    → FoldsTo SpellTakes p (map action.Print (chars text)) q
 spells_str text p q l u e =
-    subst (λ s. FoldsTo SpellTakes p (map action.Print (chars text)) s) (sym e) (spells_all (chars text) text p (encodes-chars text u) l)
+    subst (λ s. FoldsTo SpellTakes p (map action.Print (chars text)) s) (sym e)
+    (spells_all (chars text) text p (encodes-chars text u) l)

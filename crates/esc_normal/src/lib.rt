@@ -1,4 +1,5 @@
-//! From a stream to the text of what it means: [`normalise`] and [`is_normal`], and [`Spell`], the sink that writes what it takes.
+//! From a stream to the text of what it means: [`normalise`] and [`is_normal`], and [`Spell`], the
+//! sink that writes what it takes.
 //!
 //! What `esc_parse` reads is written as `esc_write` writes it, with no list of actions in between.
 #![tactic(auto)]

@@ -1,7 +1,6 @@
 //! From a stream to the text of what it means.
-ghost use Rattle.std.specs.Prelude.{◌≡◌, ℕ, List, [], true, false, Some, ◌++◌, IfOk, IfErr, OnOk, OnErr, IfSome, IsTrue, IsErrOf, ◌↔◌, ◌<◌, length};
-ghost use Rattle.std.specs.Io.KnownBytes.{Keeps, Appends, IsAtEnd};
-ghost use Rattle.esc_normal.specs.Io.{AppendsPrefix, has_failed, inner_of};
+ghost use Rattle.std.specs.Prelude.{◌≡◌, ℕ, List, [], true, Some, IfOk, IfErr, OnOk, OnErr, IfSome, IsTrue, IsErrOf, ◌↔◌, ◌<◌, length};
+ghost use Rattle.esc_normal.specs.Io.{FailsWith, IsReadWhole, Writes, WritesNothing, WritesPrefix, had};
 ghost use Rattle.esc_frame.specs.Stream.{LeadsToWithin};
 ghost use Rattle.esc_actions.specs.Meaning.{meaning, meaning_within};
 ghost use Rattle.esc_actions.specs.Texts.{list_text};
@@ -18,64 +17,71 @@ use esc_values::Text;
 use std::alloc::Allocator;
 use std::io::{Read, Write};
 
-/// Reads to the end, then writes what [`encode`](esc_write::encode) writes for the actions of the bytes that were read.
-/// It holds the whole input and its text.
+/// Reads to the end, then writes what [`encode`](esc_write::encode) writes for the actions of the
+/// bytes that were read. It holds the whole input and its text.
 ///
-/// After `NormaliseError::Read` or `Memory` nothing was written, after `Write` a prefix of the text. Where neither had failed
-/// before, `Read` comes exactly where the reader has failed, and `Write` exactly where the writer has. A `write` that takes
-/// nothing is a failure. A reader that never ends leads to `Memory`, once no more bytes can be held.
+/// After `NormaliseError::Read` or `Memory` nothing was written, after `Write` a prefix of the
+/// text. Where neither had failed before, `Read` comes exactly where the reader has failed, and
+/// `Write` exactly where the writer has. A `write` that takes nothing is a failure. A reader that
+/// never ends leads to `Memory`, once no more bytes can be held.
 pub fn normalise<R: Read, W: Write, A: Allocator + Copy>(
     alloc: A,
     reader: &mut Watched<R>,
     writer: &mut Watched<W>,
 ) -> Result<(), NormaliseError>
-    ensures read_all { OnOk result (IsAtEnd (R.remaining (inner_of reader.new))) }
-    ensures written { OnOk result (IfSome (R.remaining (inner_of reader.old)) (λ s.
-        Appends (W.contents (inner_of writer.old)) (W.contents (inner_of writer.new)) (list_text (meaning {A = A} s)))) }
-    ensures nothing { IfErr result (λ e. (e ≡ NormaliseError.Write → ⊥) → Keeps (W.contents (inner_of writer.old)) (W.contents (inner_of writer.new))) }
-    ensures beginning { IsErrOf result NormaliseError.Write → IfSome (R.remaining (inner_of reader.old)) (λ s.
-        AppendsPrefix (W.contents (inner_of writer.old)) (W.contents (inner_of writer.new)) (list_text (meaning {A = A} s))) }
-    ensures read_fault { has_failed reader.old ≡ false → (IsErrOf result NormaliseError.Read ↔ IsTrue (has_failed reader.new)) }
-    ensures write_fault { has_failed writer.old ≡ false → (IsErrOf result NormaliseError.Write ↔ IsTrue (has_failed writer.new)) }
+    ensures read_all { OnOk result (IsReadWhole R.Read reader) }
+    ensures written { OnOk result (IfSome (had R.Read reader) (λ s.
+        Writes W.Write (list_text (meaning {A = A} s)) writer)) }
+    ensures nothing { IfErr result (λ e. (e ≡ NormaliseError.Write → ⊥)
+        → WritesNothing W.Write writer) }
+    ensures beginning { IsErrOf result NormaliseError.Write → IfSome (had R.Read reader) (λ s.
+        WritesPrefix W.Write (list_text (meaning {A = A} s)) writer) }
+    ensures read_fault { FailsWith result NormaliseError.Read reader }
+    ensures write_fault { FailsWith result NormaliseError.Write writer }
     ensures refused { IsErrOf result NormaliseError.Memory → Refused A }
 {
     normalise_within(alloc, reader, writer, None)
 }
 
 /// [`normalise`] through a parser that keeps at most `limit` bytes of a segment, as
-/// [`Parser::with_limit`](esc_parse::Parser::with_limit) makes it. It still holds the whole input and its text.
+/// [`Parser::with_limit`](esc_parse::Parser::with_limit) makes it. It still holds the whole input
+/// and its text.
 pub fn normalise_limited<R: Read, W: Write, A: Allocator + Copy>(
     alloc: A,
     reader: &mut Watched<R>,
     writer: &mut Watched<W>,
     limit: usize,
 ) -> Result<(), NormaliseError>
-    ensures read_all { OnOk result (IsAtEnd (R.remaining (inner_of reader.new))) }
-    ensures written { OnOk result (IfSome (R.remaining (inner_of reader.old)) (λ s.
-        Appends (W.contents (inner_of writer.old)) (W.contents (inner_of writer.new)) (list_text (meaning_within {A = A} (Some limit) s)))) }
-    ensures nothing { IfErr result (λ e. (e ≡ NormaliseError.Write → ⊥) → Keeps (W.contents (inner_of writer.old)) (W.contents (inner_of writer.new))) }
-    ensures beginning { IsErrOf result NormaliseError.Write → IfSome (R.remaining (inner_of reader.old)) (λ s.
-        AppendsPrefix (W.contents (inner_of writer.old)) (W.contents (inner_of writer.new)) (list_text (meaning_within {A = A} (Some limit) s))) }
-    ensures read_fault { has_failed reader.old ≡ false → (IsErrOf result NormaliseError.Read ↔ IsTrue (has_failed reader.new)) }
-    ensures write_fault { has_failed writer.old ≡ false → (IsErrOf result NormaliseError.Write ↔ IsTrue (has_failed writer.new)) }
+    ensures read_all { OnOk result (IsReadWhole R.Read reader) }
+    ensures written { OnOk result (IfSome (had R.Read reader) (λ s.
+        Writes W.Write (list_text (meaning_within {A = A} (Some limit) s)) writer)) }
+    ensures nothing { IfErr result (λ e. (e ≡ NormaliseError.Write → ⊥)
+        → WritesNothing W.Write writer) }
+    ensures beginning { IsErrOf result NormaliseError.Write → IfSome (had R.Read reader) (λ s.
+        WritesPrefix W.Write (list_text (meaning_within {A = A} (Some limit) s)) writer) }
+    ensures read_fault { FailsWith result NormaliseError.Read reader }
+    ensures write_fault { FailsWith result NormaliseError.Write writer }
     ensures refused { IsErrOf result NormaliseError.Memory → Refused A }
 {
     normalise_within(alloc, reader, writer, Some(limit))
 }
 
-/// Whether the bytes that the reader still has are the text that [`normalise`] writes for them. Reads to the end. It holds the
-/// whole input and its text.
+/// Whether the bytes that the reader still has are the text that [`normalise`] writes for them.
+/// Reads to the end. It holds the whole input and its text.
 ///
-/// Of a text that `normalise` wrote for a stream that means a writable list, it is true. The error is `NormaliseError::Read` or
-/// `Memory`. Where the reader had not failed before, `Read` comes exactly where it has.
+/// Of a text that `normalise` wrote for a stream that means a writable list, it is true. The error
+/// is `NormaliseError::Read` or `Memory`. Where the reader had not failed before, `Read` comes
+/// exactly where it has.
 pub fn is_normal<R: Read, A: Allocator + Copy>(
     alloc: A,
     reader: &mut Watched<R>,
 ) -> Result<bool, NormaliseError>
-    ensures read_all { OnOk result (IsAtEnd (R.remaining (inner_of reader.new))) }
-    ensures equal { IfOk result (λ b. IfSome (R.remaining (inner_of reader.old)) (λ s. IsTrue b ↔ (list_text (meaning {A = A} s) ≡ s))) }
-    ensures normalised { (t : List ℕ) → AreWritable {A = A} (meaning t) → R.remaining (inner_of reader.old) ≡ Some (list_text (meaning {A = A} t)) → IfOk result (λ b. b ≡ true) }
-    ensures read_fault { has_failed reader.old ≡ false → (IsErrOf result NormaliseError.Read ↔ IsTrue (has_failed reader.new)) }
+    ensures read_all { OnOk result (IsReadWhole R.Read reader) }
+    ensures equal { IfOk result (λ b. IfSome (had R.Read reader)
+        (λ s. IsTrue b ↔ (list_text (meaning {A = A} s) ≡ s))) }
+    ensures normalised { (t : List ℕ) → AreWritable {A = A} (meaning t)
+        → had R.Read reader ≡ Some (list_text (meaning {A = A} t)) → IfOk result (λ b. b ≡ true) }
+    ensures read_fault { FailsWith result NormaliseError.Read reader }
     ensures not_write { IsErrOf result NormaliseError.Write → ⊥ }
     ensures refused { IsErrOf result NormaliseError.Memory → Refused A }
 {
@@ -83,16 +89,18 @@ pub fn is_normal<R: Read, A: Allocator + Copy>(
     is_normal_within(alloc, reader, None)
 }
 
-/// Whether the bytes that the reader still has are the text that [`normalise_limited`] writes for them under this limit. Reads to
-/// the end. It holds the whole input and its text. The errors are those of [`is_normal`].
+/// Whether the bytes that the reader still has are the text that [`normalise_limited`] writes for
+/// them under this limit. Reads to the end. It holds the whole input and its text. The errors are
+/// those of [`is_normal`].
 pub fn is_normal_limited<R: Read, A: Allocator + Copy>(
     alloc: A,
     reader: &mut Watched<R>,
     limit: usize,
 ) -> Result<bool, NormaliseError>
-    ensures read_all { OnOk result (IsAtEnd (R.remaining (inner_of reader.new))) }
-    ensures equal { IfOk result (λ b. IfSome (R.remaining (inner_of reader.old)) (λ s. IsTrue b ↔ (list_text (meaning_within {A = A} (Some limit) s) ≡ s))) }
-    ensures read_fault { has_failed reader.old ≡ false → (IsErrOf result NormaliseError.Read ↔ IsTrue (has_failed reader.new)) }
+    ensures read_all { OnOk result (IsReadWhole R.Read reader) }
+    ensures equal { IfOk result (λ b. IfSome (had R.Read reader)
+        (λ s. IsTrue b ↔ (list_text (meaning_within {A = A} (Some limit) s) ≡ s))) }
+    ensures read_fault { FailsWith result NormaliseError.Read reader }
     ensures not_write { IsErrOf result NormaliseError.Write → ⊥ }
     ensures refused { IsErrOf result NormaliseError.Memory → Refused A }
 {
@@ -105,14 +113,15 @@ fn normalise_within<R: Read, W: Write, A: Allocator + Copy>(
     writer: &mut Watched<W>,
     limit: Option<usize>,
 ) -> Result<(), NormaliseError>
-    ensures read_all { OnOk result (IsAtEnd (R.remaining (inner_of reader.new))) }
-    ensures written { OnOk result (IfSome (R.remaining (inner_of reader.old)) (λ s.
-        Appends (W.contents (inner_of writer.old)) (W.contents (inner_of writer.new)) (list_text (meaning_within {A = A} limit s)))) }
-    ensures nothing { IfErr result (λ e. (e ≡ NormaliseError.Write → ⊥) → Keeps (W.contents (inner_of writer.old)) (W.contents (inner_of writer.new))) }
-    ensures beginning { IsErrOf result NormaliseError.Write → IfSome (R.remaining (inner_of reader.old)) (λ s.
-        AppendsPrefix (W.contents (inner_of writer.old)) (W.contents (inner_of writer.new)) (list_text (meaning_within {A = A} limit s))) }
-    ensures read_fault { has_failed reader.old ≡ false → (IsErrOf result NormaliseError.Read ↔ IsTrue (has_failed reader.new)) }
-    ensures write_fault { has_failed writer.old ≡ false → (IsErrOf result NormaliseError.Write ↔ IsTrue (has_failed writer.new)) }
+    ensures read_all { OnOk result (IsReadWhole R.Read reader) }
+    ensures written { OnOk result (IfSome (had R.Read reader) (λ s.
+        Writes W.Write (list_text (meaning_within {A = A} limit s)) writer)) }
+    ensures nothing { IfErr result (λ e. (e ≡ NormaliseError.Write → ⊥)
+        → WritesNothing W.Write writer) }
+    ensures beginning { IsErrOf result NormaliseError.Write → IfSome (had R.Read reader) (λ s.
+        WritesPrefix W.Write (list_text (meaning_within {A = A} limit s)) writer) }
+    ensures read_fault { FailsWith result NormaliseError.Read reader }
+    ensures write_fault { FailsWith result NormaliseError.Write writer }
     ensures refused { IsErrOf result NormaliseError.Memory → Refused A }
 {
     let bytes = read_whole(alloc, reader)?;
@@ -127,9 +136,10 @@ fn is_normal_within<R: Read, A: Allocator + Copy>(
     reader: &mut Watched<R>,
     limit: Option<usize>,
 ) -> Result<bool, NormaliseError>
-    ensures read_all { OnOk result (IsAtEnd (R.remaining (inner_of reader.new))) }
-    ensures equal { IfOk result (λ b. IfSome (R.remaining (inner_of reader.old)) (λ s. IsTrue b ↔ (list_text (meaning_within {A = A} limit s) ≡ s))) }
-    ensures read_fault { has_failed reader.old ≡ false → (IsErrOf result NormaliseError.Read ↔ IsTrue (has_failed reader.new)) }
+    ensures read_all { OnOk result (IsReadWhole R.Read reader) }
+    ensures equal { IfOk result (λ b. IfSome (had R.Read reader)
+        (λ s. IsTrue b ↔ (list_text (meaning_within {A = A} limit s) ≡ s))) }
+    ensures read_fault { FailsWith result NormaliseError.Read reader }
     ensures not_write { IsErrOf result NormaliseError.Write → ⊥ }
     ensures refused { IsErrOf result NormaliseError.Memory → Refused A }
 {
@@ -145,9 +155,9 @@ fn read_whole<R: Read, A: Allocator + Copy>(
     alloc: A,
     reader: &mut Watched<R>,
 ) -> Result<Vec<u8, A>, NormaliseError>
-    ensures bytes { IfOk result (λ v. IfSome (R.remaining (inner_of reader.old)) (λ xs. v.items ≡ xs)) }
-    ensures end { OnOk result (IsAtEnd (R.remaining (inner_of reader.new))) }
-    ensures told { has_failed reader.old ≡ false → (IsErrOf result NormaliseError.Read ↔ IsTrue (has_failed reader.new)) }
+    ensures bytes { IfOk result (λ v. IfSome (had R.Read reader) (λ xs. v.items ≡ xs)) }
+    ensures end { OnOk result (IsReadWhole R.Read reader) }
+    ensures told { FailsWith result NormaliseError.Read reader }
     ensures not_write { IsErrOf result NormaliseError.Write → ⊥ }
     ensures refused { IsErrOf result NormaliseError.Memory → Refused A }
 {
@@ -164,9 +174,9 @@ fn read_by<R: Read, A: Allocator>(
     chunk: &mut [u8],
 ) -> Result<Vec<u8, A>, NormaliseError>
     requires { 0 < length chunk.old }
-    ensures bytes { IfOk result (λ v. IfSome (R.remaining (inner_of reader.old)) (λ xs. v.items ≡ xs)) }
-    ensures end { OnOk result (IsAtEnd (R.remaining (inner_of reader.new))) }
-    ensures told { has_failed reader.old ≡ false → (IsErrOf result NormaliseError.Read ↔ IsTrue (has_failed reader.new)) }
+    ensures bytes { IfOk result (λ v. IfSome (had R.Read reader) (λ xs. v.items ≡ xs)) }
+    ensures end { OnOk result (IsReadWhole R.Read reader) }
+    ensures told { FailsWith result NormaliseError.Read reader }
     ensures not_write { IsErrOf result NormaliseError.Write → ⊥ }
     ensures refused { IsErrOf result NormaliseError.Memory → Refused A }
 {
@@ -212,10 +222,10 @@ fn framer_within<A: Allocator + Copy>(alloc: A, limit: Option<usize>) -> VTParse
 
 // Writes all of the bytes.
 fn write_whole<W: Write>(writer: &mut Watched<W>, bytes: &[u8]) -> Result<(), NormaliseError>
-    ensures whole { OnOk result (Appends (W.contents (inner_of writer.old)) (W.contents (inner_of writer.new)) bytes.now) }
-    ensures beginning { OnErr result (AppendsPrefix (W.contents (inner_of writer.old)) (W.contents (inner_of writer.new)) bytes.now) }
+    ensures whole { OnOk result (Writes W.Write bytes.now writer) }
+    ensures beginning { OnErr result (WritesPrefix W.Write bytes.now writer) }
     ensures fault { IfErr result (λ e. e ≡ NormaliseError.Write) }
-    ensures told { has_failed writer.old ≡ false → (IsErrOf result NormaliseError.Write ↔ IsTrue (has_failed writer.new)) }
+    ensures told { FailsWith result NormaliseError.Write writer }
 {
     if writer.write_whole(bytes) {
         Ok(())

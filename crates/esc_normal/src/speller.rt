@@ -14,8 +14,8 @@ use esc_values::{CsiParam, Text};
 use esc_write::commands::verbatim;
 use std::alloc::{AllocError, Allocator, Global};
 
-/// Appends the texts of the actions that events give, as a [`Performer`] with a [`Spell`] does. A command is written at once, so that
-/// no memory is taken for its action.
+/// Appends the texts of the actions that events give, as a [`Performer`] with a [`Spell`] does. A
+/// command is written at once, so that no memory is taken for its action.
 #[derive(Drop)]
 pub(crate) struct Speller<A: Allocator = Global> {
     pub performer: Performer<Spell<A>, A>,

@@ -1,14 +1,13 @@
 //! Readers and writers that remember a failure.
 ghost use Rattle.std.specs.Prelude.{◌≡◌, false, ◌||◌, is_err, length, OnOk, Ok, IsTrue, IsErr, ◌⊎◌, ◌<◌, ◌↔◌};
-ghost use Rattle.esc_normal.specs.Io.{AppendsPrefix};
 ghost use Rattle.std.specs.Io.{ReadsAtMost, WritesAtMost};
 ghost use Rattle.std.specs.Io.KnownBytes.{ReadConsumes, WriteAppends, Keeps, Appends, Consumes};
 
 use std::io;
 use std::io::{Read, Write};
 
-/// A reader or a writer around another, which remembers whether a call has failed. It passes each call on and returns what
-/// the inner call returned.
+/// A reader or a writer around another, which remembers whether a call has failed. It passes each
+/// call on and returns what the inner call returned.
 #[derive(Drop)]
 pub struct Watched<T> {
     inner: T,
@@ -46,14 +45,15 @@ impl<T> Watched<T> {
 }
 
 impl<W: Write> Watched<W> {
-    ghost use Rattle.esc_normal.specs.Io.{has_failed, inner_of};
+    ghost use Rattle.esc_normal.specs.Io.{Writes, WritesPrefix, has_failed};
 
-    /// Writes all of the bytes, in as many calls as the inner writer needs, and returns whether it took them. Where it returns false the
-    /// inner writer took a prefix of them, and has failed.
+    /// Writes all of the bytes, in as many calls as the inner writer needs, and returns whether it
+    /// took them. Where it returns false the inner writer took a prefix of them, and has failed.
     pub fn write_whole(&mut self, bytes: &[u8]) -> bool
-        ensures whole { IsTrue result → Appends (W.contents (inner_of self.old)) (W.contents (inner_of self.new)) bytes.now }
-        ensures beginning { result ≡ false → AppendsPrefix (W.contents (inner_of self.old)) (W.contents (inner_of self.new)) bytes.now }
-        ensures told { has_failed self.old ≡ false → (result ≡ false ↔ IsTrue (has_failed self.new)) }
+        ensures whole { IsTrue result → Writes W.Write bytes.now self }
+        ensures beginning { result ≡ false → WritesPrefix W.Write bytes.now self }
+        ensures told { has_failed self.old ≡ false
+            → (result ≡ false ↔ IsTrue (has_failed self.new)) }
     {
         let mut rest = bytes;
         while !rest.is_empty() {
@@ -73,7 +73,8 @@ impl<R: Read> Read for Watched<R> {
 
     fn read(&mut self, buf: &mut [u8]) -> io::Result<usize>
         ensures bound { ReadsAtMost result buf.new }
-        ensures bytes { ReadConsumes (R.remaining self.old.inner) (R.remaining self.new.inner) result buf.new }
+        ensures bytes { ReadConsumes (R.remaining self.old.inner)
+            (R.remaining self.new.inner) result buf.new }
         ensures told { self.new.failed ≡ self.old.failed || is_err result }
     {
         let result = self.inner.read(buf);
@@ -84,7 +85,8 @@ impl<R: Read> Read for Watched<R> {
     }
 
     fn read_exact(&mut self, buf: &mut [u8]) -> io::Result<()>
-        ensures bytes { OnOk result (Consumes (R.remaining self.old.inner) (R.remaining self.new.inner) buf.new) }
+        ensures bytes { OnOk result (Consumes (R.remaining self.old.inner)
+            (R.remaining self.new.inner) buf.new) }
         ensures told { self.new.failed ≡ self.old.failed || is_err result }
     {
         let result = self.inner.read_exact(buf);
@@ -101,8 +103,10 @@ impl<W: Write> Write for Watched<W> {
 
     fn write(&mut self, buf: &[u8]) -> io::Result<usize>
         ensures bound { WritesAtMost result buf.now }
-        ensures bytes { WriteAppends (W.contents self.old.inner) (W.contents self.new.inner) result buf.now }
-        ensures told { IsTrue self.new.failed ↔ (IsTrue self.old.failed ⊎ (IsErr result ⊎ ((result ≡ Ok 0) × (0 < length buf.now)))) }
+        ensures bytes { WriteAppends (W.contents self.old.inner)
+            (W.contents self.new.inner) result buf.now }
+        ensures told { IsTrue self.new.failed
+            ↔ (IsTrue self.old.failed ⊎ (IsErr result ⊎ ((result ≡ Ok 0) × (0 < length buf.now)))) }
     {
         let result = self.inner.write(buf);
         match &result {
@@ -125,7 +129,8 @@ impl<W: Write> Write for Watched<W> {
     }
 
     fn write_all(&mut self, buf: &[u8]) -> io::Result<()>
-        ensures bytes { OnOk result (Appends (W.contents self.old.inner) (W.contents self.new.inner) buf.now) }
+        ensures bytes { OnOk result (Appends (W.contents self.old.inner)
+            (W.contents self.new.inner) buf.now) }
         ensures told { self.new.failed ≡ self.old.failed || is_err result }
     {
         let result = self.inner.write_all(buf);

@@ -19,21 +19,25 @@ returns-clause-ok g c =
     let limit = c.args.limit in
     let from = c.new-speller.result.performer in
     let to = c.parse.new.actor.performer in
-    let fed = IfOk-at_ok _ c.in_ok-parse.was (c.parse.ensures.given limit [] c.framer_within-framer.ensures) in
+    let fed = IfOk-at_ok _ c.in_ok-parse.was
+    (c.parse.ensures.given limit [] c.framer_within-framer.ensures) in
     let hooks : Hooks limit from.unfinished (mode_from plain (events_within limit [])) =
     subst (λ m. Hooks limit from.unfinished m) (sym (mode_nil limit)) c.new-speller.ensures.hooks in
     let w = performs_fed (At value_of Adds) (At value_of Denies) limit [] c.args.bytes.now from to
     (unwrapped (added_within limit [] c.args.bytes.now) _ _ fed.1) hooks in
     let all = yield_within {A = g.row.A.Denot} limit [] c.args.bytes.now in
-    c.into_text.ensures ∙ spells _ _ _ w.1 ∙ ap (λ l. l ++ texts_after from.sink.follows_string all) c.new-speller.ensures.text
-    ∙ ap (λ b. texts_after b all) c.new-speller.ensures.plain ∙ ap list_text (yield_whole limit c.args.bytes.now)
+    c.into_text.ensures ∙ spells _ _ _ w.1 ∙ ap (λ l. l ++ texts_after from.sink.follows_string all)
+    c.new-speller.ensures.text
+    ∙ ap (λ b. texts_after b all) c.new-speller.ensures.plain
+    ∙ ap list_text (yield_whole limit c.args.bytes.now)
 
 pub returns-in_err-parse-clause-refused : goal.returns-in_err-parse-clause-refused
 returns-in_err-parse-clause-refused g c =
     let limit = c.args.limit in
     let from = c.new-speller.result.performer in
     let to = c.parse.new.actor.performer in
-    let stopped = IfErr-at_err _ c.in_err-parse.was (c.parse.ensures.refused limit [] c.framer_within-framer.ensures) in
+    let stopped = IfErr-at_err _ c.in_err-parse.was
+    (c.parse.ensures.refused limit [] c.framer_within-framer.ensures) in
     let hooks : Hooks limit from.unfinished (mode_from plain (events_within limit [])) =
     subst (λ m. Hooks limit from.unfinished m) (sym (mode_nil limit)) c.new-speller.ensures.hooks in
     on_err_any _ c.from_residual.result

@@ -7,7 +7,8 @@ pub returns-in-Ok-clause-taken : goal.returns-in-Ok-clause-taken
 returns-in-Ok-clause-taken g c = λ _.
     let text = c.args.self.now.text in
     command_given c.args.self.now _ (parts_of c.args.text.now) (
-      c.in-Ok.ensures.ok.0 ∙ ap (λ t. text ++ framed t) c.in-Some.ensures.same ∙ ap (λ t. text ++ t) (sym c.in-Some.ensures.written),
+      c.in-Ok.ensures.ok.0 ∙ ap (λ t. text ++ framed t) c.in-Some.ensures.same
+          ∙ ap (λ t. text ++ t) (sym c.in-Some.ensures.written),
       c.in-Ok.ensures.ok.1,
     )
 

@@ -5,18 +5,24 @@ use Rattle.esc_normal.proofs.spell.SpellSinkAction.receive_sequence.Goals as goa
 pub returns-in-Ok-clause-taken : goal.returns-in-Ok-clause-taken
 returns-in-Ok-clause-taken g c = λ _.
     let more = c.args.parameters_truncated in
-    plain_given c.args.self.now _ c.args.params.now more c.args.control (c.in-Some.ensures.plain more)
-    (c.in-Ok.ensures.ok.0 ∙ ap (λ t. c.args.self.now.text ++ t) (sym (c.in-Some.ensures.text more)), c.in-Ok.ensures.ok.1)
+    plain_given c.args.self.now _ c.args.params.now more c.args.control
+    (c.in-Some.ensures.plain more) (
+      c.in-Ok.ensures.ok.0 ∙ ap (λ t. c.args.self.now.text ++ t)
+          (sym (c.in-Some.ensures.text more)),
+      c.in-Ok.ensures.ok.1,
+    )
 
 pub returns-in-Err-clause-refused : goal.returns-in-Err-clause-refused
 returns-in-Err-clause-refused g c =
     let more = c.args.parameters_truncated in
-    plain_refused ⊥ c.args.self.now _ c.args.params.now more c.args.control (c.in-Some.ensures.plain more)
+    plain_refused ⊥ c.args.self.now _ c.args.params.now more c.args.control
+    (c.in-Some.ensures.plain more)
     c.in-Err.ensures.refused
 
 pub returns-in-Ok-write_sequence-clause-taken : goal.returns-in-Ok-write_sequence-clause-taken
 returns-in-Ok-write_sequence-clause-taken g c = λ _.
-    plain_given c.args.self.now _ c.args.params.now c.args.parameters_truncated c.args.control (c.is_plain.ensures c.if-not-is_plain.false)
+    plain_given c.args.self.now _ c.args.params.now c.args.parameters_truncated c.args.control
+    (c.is_plain.ensures c.if-not-is_plain.false)
     c.in-Ok-write_sequence.ensures.ok
 
 pub returns-in-Err-write_sequence-clause-refused : goal.returns-in-Err-write_sequence-clause-refused

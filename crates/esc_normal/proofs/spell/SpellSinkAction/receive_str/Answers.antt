@@ -14,5 +14,6 @@ pub returns-in_err-push_str-clause-given : goal.returns-in_err-push_str-clause-g
 returns-in_err-push_str-clause-given g c =
     let p = err_from_is_err_and c.from_residual.result c.from_residual.ensures.1 in
     match_err _ _ c.from_residual.result p.0 p.1
-    (refuses_run _ _ (chars c.args.text.now) _ _ (some_chars c.args.text.now c.utf8.text c.requires.some)
+    (refuses_run _ _ (chars c.args.text.now) _ _
+    (some_chars c.args.text.now c.utf8.text c.requires.some)
     (λ x has. c.in_err-push_str.ensures.refused))

@@ -8,10 +8,12 @@ use Rattle.esc_normal.proofs.spell.SpellSinkAction.receive_text.Goals as goal
 pub returns-clause-given : goal.returns-clause-given
 returns-clause-given g c =
     spells_run c.args.text.now c.args.self.now _ c.requires.some c.requires.text
-    (ap (λ t. record { text = t; follows_string = false }) (c.in_ok-push_str.ensures.ok ∙ ap (λ x. c.args.self.now.text ++ x) c.as_str.ensures))
+    (ap (λ t. record { text = t; follows_string = false })
+    (c.in_ok-push_str.ensures.ok ∙ ap (λ x. c.args.self.now.text ++ x) c.as_str.ensures))
 
 pub returns-in_err-push_str-clause-given : goal.returns-in_err-push_str-clause-given
 returns-in_err-push_str-clause-given g c =
     let p = err_from_is_err_and c.from_residual.result c.from_residual.ensures.1 in
     match_err _ _ c.from_residual.result p.0 p.1
-    (refuses_run _ _ c.args.text.now _ _ c.requires.some (λ x has. c.in_err-push_str.ensures.refused))
+    (refuses_run _ _ c.args.text.now _ _ c.requires.some
+    (λ x has. c.in_err-push_str.ensures.refused))

@@ -7,5 +7,6 @@ pub returns-clause-told : goal.returns-clause-told
 returns-clause-told g c =
     let p = c.args.self.now.performer in
     let q = c.dcs_put_text.new.self in
-    match_both _ _ _ _ c.dcs_put_text.result (wrapped (map DcsPut c.args.bytes.now) p q) (wrapped_stops ⊥ (map DcsPut c.args.bytes.now) p q)
+    match_both _ _ _ _ c.dcs_put_text.result (wrapped (map DcsPut c.args.bytes.now) p q)
+    (wrapped_stops ⊥ (map DcsPut c.args.bytes.now) p q)
     c.dcs_put_text.ensures.told

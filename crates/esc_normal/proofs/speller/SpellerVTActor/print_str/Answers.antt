@@ -8,4 +8,5 @@ returns-clause-told g c =
     let p = c.args.self.now.performer in
     let q = c.print_str.new.self in
     let es = map Print (chars c.args.text.now) in
-    match_both _ _ _ _ c.print_str.result (wrapped es p q) (wrapped_stops ⊥ es p q) c.print_str.ensures.told
+    match_both _ _ _ _ c.print_str.result (wrapped es p q)
+    (wrapped_stops ⊥ es p q) c.print_str.ensures.told

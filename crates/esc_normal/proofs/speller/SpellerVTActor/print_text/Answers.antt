@@ -7,5 +7,6 @@ pub returns-clause-told : goal.returns-clause-told
 returns-clause-told g c =
     let p = c.args.self.now.performer in
     let q = c.print_text.new.self in
-    match_both _ _ _ _ c.print_text.result (wrapped (map Print c.args.text.now) p q) (wrapped_stops ⊥ (map Print c.args.text.now) p q)
+    match_both _ _ _ _ c.print_text.result (wrapped (map Print c.args.text.now) p q)
+    (wrapped_stops ⊥ (map Print c.args.text.now) p q)
     c.print_text.ensures.told
