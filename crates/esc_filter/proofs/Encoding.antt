@@ -7,7 +7,8 @@ use Rattle.esc_filter.specs.Encoding.{AddsTo}
 use Rattle.esc_filter.specs.Texts.{ends_in_string}
 
 -- a value by itself has its whole text
-not_after : {A : Type 0} (b : Bool) (v : Value A) → (if b && false then [] else whole_text v) ≡ whole_text v
+not_after : {A : Type 0} (b : Bool) (v : Value A)
+    → (if b && false then [] else whole_text v) ≡ whole_text v
 not_after true v = refl
 not_after false v = refl
 
@@ -15,17 +16,21 @@ pub alone_text : {A : Type 0} (v : Value A) → list_text (v ∷ []) ≡ whole_t
 alone_text v = append-nil (text_after false v) ∙ not_after (is_terminator v) v
 
 -- where it is no terminator after a string, it has it in a list too
-pub text_follows : {A : Type 0} (b : Bool) (v : Value A) → is_terminator v && b ≡ false → text_after b v ≡ whole_text v
+pub text_follows : {A : Type 0} (b : Bool) (v : Value A) → is_terminator v && b ≡ false
+    → text_after b v ≡ whole_text v
 text_follows b v h = ap (λ x. if x then [] else whole_text v) h
 
-pub adds_one : {A : Type 0} (follows : Bool) (vs : List (Value A)) (v : Value A) (old new : List ℕ) → follows ≡ ends_in_string false vs
+pub adds_one : {A : Type 0} (follows : Bool) (vs : List (Value A)) (v : Value A) (old new : List ℕ)
+    → follows ≡ ends_in_string false vs
     → new ≡ old ++ text_after follows v → AddsTo vs v old new
 adds_one follows vs v old new e w = (
   text_after follows v,
   texts_more false vs (v ∷ [])
-      ∙ ap (λ t. list_text vs ++ t) (append-nil (text_after (ends_in_string false vs) v) ∙ ap (λ b. text_after b v) (sym e)),
+      ∙ ap (λ t. list_text vs ++ t) (append-nil (text_after (ends_in_string false vs) v)
+      ∙ ap (λ b. text_after b v) (sym e)),
   w,
 )
 
-pub ends_one : {A : Type 0} (vs : List (Value A)) (v : Value A) → ends_in_string false (vs ++ v ∷ []) ≡ is_string v
+pub ends_one : {A : Type 0} (vs : List (Value A)) (v : Value A)
+    → ends_in_string false (vs ++ v ∷ []) ≡ is_string v
 ends_one vs v = ends_more false vs (v ∷ [])

@@ -13,7 +13,8 @@ use Rattle.esc_filter.specs.declared.policy.Policy.{Policy}
 use Rattle.esc_filter.specs.declared.policy.Policy.TheVariants as policy
 
 -- no image is text, colour or what changes the screen alone
-is_none : {A : Type 0} (v : Value A) → is_image v ≡ true → (is_text v ≡ false) × (is_colour v ≡ false) × (is_screen v ≡ false)
+is_none : {A : Type 0} (v : Value A) → is_image v ≡ true → (is_text v ≡ false)
+    × (is_colour v ≡ false) × (is_screen v ≡ false)
 is_none (print c) h = absurd cc
 is_none (string t) h = absurd cc
 is_none (control c) h = absurd cc
@@ -43,7 +44,9 @@ module _ {A : Type 0} (p : Policy) (v : Value A) where
       subst (λ x. admits x v ≡ false) (sym e) (rw (t, c, s) refl)
 
 -- what is not admitted leaves a text as it is
-pub passed_over : {A : Type 0} (admits : Value A → Bool) (p : Spell A) (a : Action A) → admits (value_of a) ≡ false → Takes admits p a p
+pub passed_over : {A : Type 0} (admits : Value A → Bool) (p : Spell A) (a : Action A)
+    → admits (value_of a) ≡ false → Takes admits p a p
 passed_over admits p a h =
-    let stays : passes admits (value_of a) ≡ false = and_right (is_whole (value_of a)) (admits (value_of a)) h in
+    let stays : passes admits (value_of a) ≡ false = and_right (is_whole (value_of a))
+    (admits (value_of a)) h in
     (λ e. absurd cc, λ _. refl)

@@ -12,5 +12,7 @@ same = refl
 
 pub opens_by_letter : (b : ℕ) → b < 256 → is_opener b ≡ opens (class_of b)
 opens_by_letter b h =
-    sym (get_or-map-range_with_len is_opener 0 256 b b false (omega arith) (omega arith)) ∙ ap (λ t. get_or t b false) (sym same)
-    ∙ get_or-map-range_with_len (λ x. opens (class_of x)) 0 256 b b false (omega arith) (omega arith)
+    sym (get_or-map-range_with_len is_opener 0 256 b b false (omega arith) (omega arith))
+    ∙ ap (λ t. get_or t b false) (sym same)
+    ∙ get_or-map-range_with_len (λ x. opens (class_of x)) 0 256 b b false (omega arith)
+    (omega arith)

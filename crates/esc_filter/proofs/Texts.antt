@@ -11,30 +11,39 @@ use Rattle.esc_filter.specs.Texts.{ends_in_string}
 
 -- one list after another
 pub texts_more : {A : Type 0} (follows : Bool) (vs ws : List (Value A))
-    → texts_after follows (vs ++ ws) ≡ texts_after follows vs ++ texts_after (ends_in_string follows vs) ws
+    → texts_after follows (vs ++ ws) ≡ texts_after follows vs
+    ++ texts_after (ends_in_string follows vs) ws
 texts_more follows [] ws = refl
 texts_more follows (v ∷ vs) ws =
     ap (λ t. text_after follows v ++ t) (texts_more (is_string v) vs ws)
-    ∙ sym (append_assoc (text_after follows v) (texts_after (is_string v) vs) (texts_after (ends_in_string (is_string v) vs) ws))
+    ∙ sym (append_assoc (text_after follows v) (texts_after (is_string v) vs)
+    (texts_after (ends_in_string (is_string v) vs) ws))
 
-pub ends_more : {A : Type 0} (follows : Bool) (vs ws : List (Value A)) → ends_in_string follows (vs ++ ws) ≡ ends_in_string (ends_in_string follows vs) ws
+pub ends_more : {A : Type 0} (follows : Bool) (vs ws : List (Value A))
+    → ends_in_string follows (vs ++ ws) ≡ ends_in_string (ends_in_string follows vs) ws
 ends_more follows [] ws = refl
 ends_more follows (v ∷ vs) ws = ends_more (is_string v) vs ws
 
 -- what passes of a longer stream
 pub passed_longer : {A : Type 0} (limit : Option ℕ) (admits : Value A → Bool) (s b : List ℕ)
-    → passed limit admits (s ++ b) ≡ passed limit admits s ++ filter (passes admits) (yield_within limit s b)
+    → passed limit admits (s ++ b) ≡ passed limit admits s ++ filter (passes admits)
+    (yield_within limit s b)
 passed_longer limit admits s b =
-    ap (filter (passes admits)) (sym (meaning_more limit s b)) ∙ filter-append (passes admits) (meaning_within limit s) (yield_within limit s b)
+    ap (filter (passes admits)) (sym (meaning_more limit s b))
+    ∙ filter-append (passes admits) (meaning_within limit s) (yield_within limit s b)
 
 pub text_longer : {A : Type 0} (limit : Option ℕ) (admits : Value A → Bool) (s b : List ℕ)
-    → passed_text limit admits (s ++ b) ≡ passed_text limit admits s ++ texts_after (ends_in_string false (passed limit admits s))
+    → passed_text limit admits (s ++ b) ≡ passed_text limit admits s
+    ++ texts_after (ends_in_string false (passed limit admits s))
     (filter (passes admits) (yield_within limit s b))
 text_longer limit admits s b =
-    ap list_text (passed_longer limit admits s b) ∙ texts_more false (passed limit admits s) (filter (passes admits) (yield_within limit s b))
+    ap list_text (passed_longer limit admits s b)
+    ∙ texts_more false (passed limit admits s) (filter (passes admits) (yield_within limit s b))
 
 pub end_longer : {A : Type 0} (limit : Option ℕ) (admits : Value A → Bool) (s b : List ℕ)
-    → ends_in_string false (passed limit admits (s ++ b)) ≡ ends_in_string (ends_in_string false (passed limit admits s))
+    → ends_in_string false (passed limit admits (s ++ b)) ≡ ends_in_string
+    (ends_in_string false (passed limit admits s))
     (filter (passes admits) (yield_within limit s b))
 end_longer limit admits s b =
-    ap (ends_in_string false) (passed_longer limit admits s b) ∙ ends_more false (passed limit admits s) (filter (passes admits) (yield_within limit s b))
+    ap (ends_in_string false) (passed_longer limit admits s b)
+    ∙ ends_more false (passed limit admits s) (filter (passes admits) (yield_within limit s b))

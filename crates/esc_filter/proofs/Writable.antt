@@ -9,7 +9,8 @@ use Rattle.esc_actions.specs.Writable.{AreHandedOut, AreWritable, AreWritableFro
 use Rattle.esc_filter.specs.Passing.{IsFiltered, is_mode_step, is_whole, passed, passed_text, passes}
 
 -- what is no step of a mode may be where no mode is entered, and enters none
-no_step : {A : Type 0} (v : Value A) → is_mode_step v ≡ false → (is_within v ≡ false) × (stays_within v ≡ false)
+no_step : {A : Type 0} (v : Value A) → is_mode_step v ≡ false → (is_within v ≡ false)
+    × (stays_within v ≡ false)
 no_step (print c) e = (refl, refl)
 no_step (string t) e = (refl, refl)
 no_step (control c) e = (refl, refl)
@@ -24,12 +25,15 @@ no_step (enter e) h = absurd cc
 no_step (datum b) h = absurd cc
 no_step exit h = absurd cc
 
-one_writable : {A : Type 0} (b : Bool) (v : Value A) (vs : List (Value A)) → (b ≡ true → (is_within v ≡ false) × IsWritable v × (stays_within v ≡ false))
+one_writable : {A : Type 0} (b : Bool) (v : Value A) (vs : List (Value A))
+    → (b ≡ true → (is_within v ≡ false) × IsWritable v × (stays_within v ≡ false))
     → AreWritable vs → AreWritable (cond b (v ∷ vs) vs)
-one_writable true v vs f h = let k = f refl in (k.0, k.1, subst (λ b. AreWritableFrom b vs) (sym k.2) h)
+one_writable true v vs f h = let k = f refl in
+    (k.0, k.1, subst (λ b. AreWritableFrom b vs) (sym k.2) h)
 one_writable false v vs f h = h
 
-pub filtered_writable : {A : Type 0} (admits : Value A → Bool) (vs : List (Value A)) → AreHandedOut vs → AreWritable (filter (passes admits) vs)
+pub filtered_writable : {A : Type 0} (admits : Value A → Bool) (vs : List (Value A))
+    → AreHandedOut vs → AreWritable (filter (passes admits) vs)
 filtered_writable admits [] h = refl
 filtered_writable admits (v ∷ vs) h =
     one_writable (passes admits v) v (filter (passes admits) vs)
@@ -40,10 +44,19 @@ filtered_writable admits (v ∷ vs) h =
     (outside.0, h.0 (not-true (is_exception v) parts.0), outside.1))
     (filtered_writable admits vs h.1)
 
-pub is_filtered : {A : Type 0} → ((limit : Option ℕ) (s : List ℕ) → AreHandedOut {A = A} (meaning_within limit s))
+pub is_filtered : {A : Type 0} → ((limit : Option ℕ) (s : List ℕ)
+    → AreHandedOut {A = A} (meaning_within limit s))
     → ((vs : List (Value A)) → AreWritable vs → meaning (list_text vs) ≡ normal vs)
     → ((vs : List (Value A)) → AreWritable vs → Reads (list_text vs) (normal vs))
-    → (limit : Option ℕ) (admits : Value A → Bool) (s : List ℕ) → IsFiltered limit admits s (passed_text limit admits s)
+    → (limit : Option ℕ) (admits : Value A → Bool) (s : List ℕ)
+    → IsFiltered limit admits s (passed_text limit admits s)
 is_filtered out back itself limit admits s =
-    let w : AreWritable (passed limit admits s) = filtered_writable admits (meaning_within limit s) (out limit s) in
-    record { text = refl; writable = w; reads_back = back (passed limit admits s) w; whatever_follows = itself (passed limit admits s) w }
+    let w : AreWritable (passed limit admits s) = filtered_writable admits (meaning_within limit s)
+    (out limit s) in
+    record {
+      text = refl;
+      writable = w;
+      reads_back =
+          back (passed limit admits s) w;
+      whatever_follows = itself (passed limit admits s) w;
+    }

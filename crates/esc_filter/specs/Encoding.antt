@@ -15,4 +15,5 @@ HasWritten vs e = e.follows_string ≡ ends_in_string false vs
 
 -- a text grows by what the list's text grows by with v at its end
 abbrev pub AddsTo : {A : Type 0} → List (Value A) → Value A → List ℕ → List ℕ → Type 0
-AddsTo vs v old new = (t : List ℕ) × (list_text (vs ++ v ∷ []) ≡ list_text vs ++ t) × (new ≡ old ++ t)
+AddsTo vs v old new = (t : List ℕ) × (list_text (vs ++ v ∷ []) ≡ list_text vs ++ t)
+    × (new ≡ old ++ t)

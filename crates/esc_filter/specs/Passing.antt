@@ -15,7 +15,8 @@ is_mode_step _ = false
 
 -- the letters that open a string or a control sequence after ESC: [ ] P X ^ _
 abbrev pub is_opener : ℕ → Bool
-is_opener b = (b == 0x5b) || ((b == 0x5d) || ((b == 0x50) || ((b == 0x58) || ((b == 0x5e) || (b == 0x5f)))))
+is_opener b = (b == 0x5b)
+    || ((b == 0x5d) || ((b == 0x50) || ((b == 0x58) || ((b == 0x5e) || (b == 0x5f)))))
 
 -- what a parser hands out and can be written by itself: no exception, and no step of a mode
 abbrev pub is_whole : {A : Type 0} → Value A → Bool
@@ -34,7 +35,8 @@ abbrev pub passed_text : {A : Type 0} → Option ℕ → (Value A → Bool) → 
 passed_text limit admits s = list_text (passed limit admits s)
 
 -- What holds of the text t that a filter wrote for the stream s:
-pub record IsFiltered {A : Type 0} (limit : Option ℕ) (admits : Value A → Bool) (s t : List ℕ) : Type 0 where
+pub record IsFiltered {A : Type 0} (limit : Option ℕ) (admits : Value A → Bool)
+    (s t : List ℕ) : Type 0 where
   -- it is the text of the values of the stream that pass
   pub text : t ≡ passed_text limit admits s
   -- all of these can be written

@@ -66,11 +66,15 @@ is_colour _ = false
 abbrev pub is_screen_control : ℕ → Bool
 is_screen_control n = is_from 0x07 0x0f n
 
--- With plain entries: `@` and `A` to `M` (insert; up, down, right, left; lines; column; place; tabs; erase in screen and line; insert and
--- delete lines), `P` `S` `X` `Z` (delete, scroll, erase, back a tab), backquote `a` `b` (column, repeat), `d` `e` `f` `g` (row, place, tab stops),
--- `r` `s` `u` (margins, save and restore the cursor)
+-- With plain entries: `@` and `A` to `M` (insert; up, down, right, left; lines; column; place;
+-- tabs; erase in screen and line; insert and delete lines), `P` `S` `X` `Z` (delete, scroll, erase,
+-- back a tab), backquote `a` `b` (column, repeat), `d` `e` `f` `g` (row, place, tab stops), `r` `s`
+-- `u` (margins, save and restore the cursor)
 abbrev pub moves_or_erases : ℕ → Bool
-moves_or_erases f = is_from 0x40 0x4d f || ((f == 0x50) || ((f == 0x53) || ((f == 0x58) || ((f == 0x5a) || (is_from 0x60 0x62 f || (is_from 0x64 0x67 f
+moves_or_erases f = is_from 0x40 0x4d f
+    ||
+    ((f == 0x50)
+    || ((f == 0x53) || ((f == 0x58) || ((f == 0x5a) || (is_from 0x60 0x62 f || (is_from 0x64 0x67 f
     || ((f == 0x72) || ((f == 0x73) || (f == 0x75)))))))))
 
 -- `T` scrolls down where it has at most one entry; with more it asks for the mouse
@@ -93,10 +97,13 @@ is_insert_mode (Integer (pos n)) = n == 4
 is_insert_mode (Integer (negsuc n)) = false
 is_insert_mode (P b) = false
 
--- a private mode of what is shown: reverse video 5, origin 6, wrapping 7, a cursor that blinks 12, the cursor 25, the other screen 47, 1047 and
--- 1049, the cursor's place 1048, margins 69, synchronized output 2026
+-- a private mode of what is shown: reverse video 5, origin 6, wrapping 7, a cursor that blinks 12,
+-- the cursor 25, the other screen 47, 1047 and 1049, the cursor's place 1048, margins 69,
+-- synchronized output 2026
 abbrev pub is_screen_mode : ℕ → Bool
-is_screen_mode n = is_from 5 7 n || ((n == 12) || ((n == 25) || ((n == 47) || ((n == 69) || (is_from 1047 1049 n || (n == 2026))))))
+is_screen_mode n = is_from 5 7 n
+    ||
+    ((n == 12) || ((n == 25) || ((n == 47) || ((n == 69) || (is_from 1047 1049 n || (n == 2026))))))
 
 -- the number of such a mode, or `;`
 abbrev pub is_mode_entry : CsiParam → Bool
@@ -104,9 +111,11 @@ is_mode_entry (Integer (pos n)) = is_screen_mode n
 is_mode_entry (Integer (negsuc n)) = false
 is_mode_entry (P b) = b == 0x3b
 
--- with the private marker `?`: `J` and `K` erase what is not protected; `h` and `l` change modes, where each is one of what is shown
+-- with the private marker `?`: `J` and `K` erase what is not protected; `h` and `l` change modes,
+-- where each is one of what is shown
 abbrev pub is_private : List CsiParam → ℕ → Bool
-is_private es f = (((f == 0x4a) || (f == 0x4b)) && list_all is_plain_entry es) || (changes_modes f && list_all is_mode_entry es)
+is_private es f = (((f == 0x4a) || (f == 0x4b)) && list_all is_plain_entry es)
+    || (changes_modes f && list_all is_mode_entry es)
 
 -- the private marker `?`
 abbrev pub is_marked : CsiParam → Bool
@@ -128,8 +137,10 @@ is_shape (Integer n ∷ es) = is_lone is_space es
 is_shape (P b ∷ es) = is_lone is_space (P b ∷ es)
 
 abbrev pub is_screen_body : List CsiParam → ℕ → Bool
-is_screen_body es f = (moves_or_erases f && list_all is_plain_entry es) || ((scrolls_down es f && list_all is_plain_entry es)
-    || ((changes_modes f && is_lone is_insert_mode es) || (is_privately_marked es f || ((f == 0x71) && is_shape es))))
+is_screen_body es f = (moves_or_erases f && list_all is_plain_entry es)
+    || ((scrolls_down es f && list_all is_plain_entry es)
+    || ((changes_modes f && is_lone is_insert_mode es)
+    || (is_privately_marked es f || ((f == 0x71) && is_shape es))))
 
 abbrev pub is_screen_sequence : CsiValue → Bool
 is_screen_sequence (sgr s) = true
@@ -139,9 +150,11 @@ is_screen_sequence (unspecified es more f) = is_screen_body es f
 abbrev pub is_line_move : ℕ → Bool
 is_line_move f = (f == 0x37) || ((f == 0x38) || ((f == 0x44) || ((f == 0x45) || (f == 0x4d))))
 
--- after `(` `)` `*` `+` the character sets `0`, `A` and `B`; after `#` large lines `3` to `6`, and the test pattern `8`
+-- after `(` `)` `*` `+` the character sets `0`, `A` and `B`; after `#` large lines `3` to `6`, and
+-- the test pattern `8`
 abbrev pub is_designation : ℕ → ℕ → Bool
-is_designation i f = (is_from 0x28 0x2b i && ((f == 0x30) || ((f == 0x41) || (f == 0x42)))) || ((i == 0x23) && (is_from 0x33 0x36 f || (f == 0x38)))
+is_designation i f = (is_from 0x28 0x2b i && ((f == 0x30) || ((f == 0x41) || (f == 0x42))))
+    || ((i == 0x23) && (is_from 0x33 0x36 f || (f == 0x38)))
 
 abbrev pub is_screen_escape : Esc → Bool
 is_screen_escape (esc_variant.Code esc_code.HorizontalTabSet) = true

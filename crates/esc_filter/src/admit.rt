@@ -17,22 +17,24 @@ use esc_sequences::{CSI, Esc};
 use esc_values::CsiParam;
 use std::alloc::Allocator;
 
-/// Says which actions may pass a filter: a [`Policy`](crate::Policy), or a rule of the caller's own.
+/// Says which actions may pass a filter: a [`Policy`](crate::Policy), or a rule of the caller's
+/// own.
 ///
-/// A filter asks it only of actions that can be written by themselves. So an implementation cannot let through what would read back
-/// as something else.
+/// A filter asks it only of actions that can be written by themselves. So an implementation cannot
+/// let through what would read back as something else.
 pub trait Admit<A: Allocator> {
     // the values that it admits
     ghost admits: { Self → Value A → Bool };
 
-    /// Whether the action may pass. It is asked of each action once, in order, but for the characters of a run that
-    /// [`admits_text`](Admit::admits_text) lets through, and those of which
-    /// [`admits_sequence`](Admit::admits_sequence) or [`admits_command`](Admit::admits_command) knows it.
+    /// Whether the action may pass. It is asked of each action once, in order, but for the
+    /// characters of a run that [`admits_text`](Admit::admits_text) lets through, and those of
+    /// which [`admits_sequence`](Admit::admits_sequence) or
+    /// [`admits_command`](Admit::admits_command) knows it.
     fn admits(&self, action: &Action<A>) -> bool
         ensures { result ≡ admits self.now (value_of action.now) };
 
-    /// Whether each character of a run of text, 20 to 7F and one byte each, may pass. Where it returns false, each of them is asked of
-    /// by itself; so it does by default.
+    /// Whether each character of a run of text, 20 to 7F and one byte each, may pass. Where it
+    /// returns false, each of them is asked of by itself; so it does by default.
     #[inline]
     fn admits_text(&self, _text: &[u8]) -> bool
         ensures { IsTrue result → list_all (λ c. admits self.now (print c)) _text.now ≡ true }
@@ -43,18 +45,22 @@ pub trait Admit<A: Allocator> {
     /// The same of a run of characters as UTF-8.
     #[inline]
     fn admits_str(&self, _text: &str) -> bool
-        ensures { IsTrue result → list_all (λ c. admits self.now (print c)) (chars _text.now) ≡ true }
+        ensures { IsTrue result → list_all (λ c. admits self.now (print c))
+            (chars _text.now) ≡ true }
     {
         false
     }
 
-    /// Whether the actions of a control sequence pass, of which no entry was left out: true where each is admitted, and false where
-    /// none is and [`leaves_out`](Admit::leaves_out) need not be shown them. They are not made then. Where it returns `None`, each is made
-    /// and asked of by itself; so it does by default.
+    /// Whether the actions of a control sequence pass, of which no entry was left out: true where
+    /// each is admitted, and false where none is and [`leaves_out`](Admit::leaves_out) need not be
+    /// shown them. They are not made then. Where it returns `None`, each is made and asked of by
+    /// itself; so it does by default.
     #[inline]
     fn admits_sequence(&self, _params: &[CsiParam], _control: u8) -> Option<bool>
-        ensures passes { result ≡ Some true → list_all (λ c. admits self.now (csi c)) (csi_of _params.now false _control) ≡ true }
-        ensures stays { result ≡ Some false → list_any (λ c. admits self.now (csi c)) (csi_of _params.now false _control) ≡ false }
+        ensures passes { result ≡ Some true → list_all (λ c. admits self.now (csi c))
+            (csi_of _params.now false _control) ≡ true }
+        ensures stays { result ≡ Some false → list_any (λ c. admits self.now (csi c))
+            (csi_of _params.now false _control) ≡ false }
     {
         None
     }
@@ -62,12 +68,14 @@ pub trait Admit<A: Allocator> {
     /// The same of the operating system command of this text, whose parts are between `;`.
     #[inline]
     fn admits_command(&self, _text: &[u8]) -> Option<bool>
-        ensures { IfSome result (λ b. admits self.now (osc (command_meant (parts_of _text.now))) ≡ b) }
+        ensures { IfSome result (λ b.
+            admits self.now (osc (command_meant (parts_of _text.now))) ≡ b) }
     {
         None
     }
 
-    /// Whether an image, of kitty's protocol or sixel, may be admitted. Where it returns false, as it does not by default, none is made.
+    /// Whether an image, of kitty's protocol or sixel, may be admitted. Where it returns false, as
+    /// it does not by default, none is made.
     #[inline]
     fn admits_images(&self) -> bool
         ensures { result ≡ false → (v : Value A) → is_image v ≡ true → admits self.now v ≡ false }
@@ -75,9 +83,10 @@ pub trait Admit<A: Allocator> {
         true
     }
 
-    /// Is shown each action that does not pass, also one that no policy is asked of, but for those of which
-    /// [`admits_sequence`](Admit::admits_sequence), [`admits_command`](Admit::admits_command) or [`admits_images`](Admit::admits_images)
-    /// returns false. It does nothing, unless an implementation does.
+    /// Is shown each action that does not pass, also one that no policy is asked of, but for those
+    /// of which [`admits_sequence`](Admit::admits_sequence),
+    /// [`admits_command`](Admit::admits_command) or [`admits_images`](Admit::admits_images) returns
+    /// false. It does nothing, unless an implementation does.
     fn leaves_out(&self, _action: &Action<A>) {}
 }
 

@@ -9,8 +9,9 @@ use esc_values::Text;
 use esc_write::EncodeError;
 use std::alloc::{AllocError, Allocator};
 
-/// Writes actions one at a time, as [`encode`](esc_write::encode) writes all of them. It keeps one bit: whether the last of
-/// them was a string, so that a string terminator which comes next writes nothing.
+/// Writes actions one at a time, as [`encode`](esc_write::encode) writes all of them. It keeps one
+/// bit: whether the last of them was a string, so that a string terminator which comes next writes
+/// nothing.
 #[derive(Clone, Copy, Debug, PartialEq, Eq)]
 pub struct Encoder {
     follows_string: bool,
@@ -28,21 +29,25 @@ impl Encoder {
         }
     }
 
-    /// Appends what the action adds to the text of those before it. A string is ended at once, and a string terminator directly
-    /// after it adds nothing.
+    /// Appends what the action adds to the text of those before it. A string is ended at once, and
+    /// a string terminator directly after it adds nothing.
     ///
-    /// `EncodeError::Fmt` comes exactly where the action is a sixel image with a value over 63, and `EncodeError::Memory` says that
-    /// a growth was refused. After an error the text and the encoder are as they were, so the text ends where an action ends.
+    /// `EncodeError::Fmt` comes exactly where the action is a sixel image with a value over 63, and
+    /// `EncodeError::Memory` says that a growth was refused. After an error the text and the
+    /// encoder are as they were, so the text ends where an action ends.
     pub fn append<A: Allocator>(
         &mut self,
         alloc: A,
         action: &Action<A>,
         text: &mut String<A>,
     ) -> Result<(), EncodeError>
-        ensures written { (vs : List (Value A)) → HasWritten vs self.old → OnOk result (HasWritten (vs ++ value_of action.now ∷ []) self.new
+        ensures written { (vs : List (Value A)) → HasWritten vs self.old
+            → OnOk result (HasWritten (vs ++ value_of action.now ∷ []) self.new
             × AddsTo vs (value_of action.now) (string_bytes text.old) (string_bytes text.new)) }
-        ensures refused { OnErr result ((self.new ≡ self.old) × (string_bytes text.new ≡ string_bytes text.old)) }
-        ensures no_text { IsErrOf result EncodeError.Fmt ↔ (has_text (value_of action.now) ≡ false) }
+        ensures refused { OnErr result ((self.new ≡ self.old)
+            × (string_bytes text.new ≡ string_bytes text.old)) }
+        ensures no_text { IsErrOf result EncodeError.Fmt
+            ↔ (has_text (value_of action.now) ≡ false) }
         ensures memory_refused { IsErrOf result EncodeError.Memory → Refused A }
     {
         append_after(alloc, self.follows_string, action, text)?;
@@ -59,7 +64,8 @@ fn append_after<A: Allocator>(
     action: &Action<A>,
     text: &mut String<A>,
 ) -> Result<(), EncodeError>
-    ensures ok { OnOk result (string_bytes text.new ≡ string_bytes text.old ++ text_after follows_string (value_of action.now)) }
+    ensures ok { OnOk result (string_bytes text.new ≡ string_bytes text.old
+        ++ text_after follows_string (value_of action.now)) }
     ensures err { OnErr result (string_bytes text.new ≡ string_bytes text.old) }
     ensures no_text { IsErrOf result EncodeError.Fmt ↔ (has_text (value_of action.now) ≡ false) }
     ensures memory_refused { IsErrOf result EncodeError.Memory → Refused A }

@@ -1,6 +1,5 @@
 //! A filter that is fed a stream piece by piece.
-ghost use Rattle.std.specs.Prelude.{◌≡◌, ◌≤◌, ◌+◌, ◌++◌, ℕ, List, [], IfErr, OnOk, Some, min};
-ghost use Rattle.esc_filter.specs.Passing.{passed_text};
+ghost use Rattle.std.specs.Prelude.{◌≡◌, ◌≤◌, ◌+◌, List, [], IfErr, OnOk, Some, min};
 ghost use Rattle.esc_actions.specs.Limited.{data_kept};
 ghost use Rattle.esc_frame.specs.Counts.{kept_of_cut};
 ghost use Rattle.esc_frame.specs.Limits.{most};
@@ -17,10 +16,11 @@ use esc_parse::Parser;
 use std::alloc::{Allocator, Global};
 use std::mem;
 
-/// Takes a stream in whatever pieces it comes, and gives for each the text that it adds: that of the actions which pass the policy.
+/// Takes a stream in whatever pieces it comes, and gives for each the text that it adds: that of
+/// the actions which pass the policy.
 ///
-/// It keeps what a parser keeps of an unfinished segment, at most the limit, the text of the piece before, and whether a string
-/// terminator that comes next ends a string that was written already.
+/// It keeps what a parser keeps of an unfinished segment, at most the limit, the text of the piece
+/// before, and whether a string terminator that comes next ends a string that was written already.
 #[derive(Drop)]
 pub struct Filter<P, A: Allocator = Global> {
     parser: Parser<A>,
@@ -30,7 +30,7 @@ pub struct Filter<P, A: Allocator = Global> {
 }
 
 impl<P: Admit<A>, A: Allocator + Copy> Filter<P, A> {
-    ghost use Rattle.esc_filter.specs.Fed.{IsBroken, WasFed, added_by, policy_of};
+    ghost use Rattle.esc_filter.specs.Fed.{After, IsBroken, TakesIn, WasFed, added_by, policy_of};
 
     /// A filter at the beginning of a stream, which keeps at most `limit` bytes of a segment, as
     /// [`Parser::with_limit`](esc_parse::Parser::with_limit) does. Takes no memory.
@@ -47,17 +47,19 @@ impl<P: Admit<A>, A: Allocator + Copy> Filter<P, A> {
         }
     }
 
-    /// Takes `bytes`. What they add to the text of the stream so far is then the [`text`](Filter::text).
+    /// Takes `bytes`. What they add to the text of the stream so far is then the
+    /// [`text`](Filter::text).
     ///
-    /// `ParseError::Memory` says that a request for memory was refused: the text is empty, and from then on every call returns
-    /// `ParseError::Failed`.
+    /// `ParseError::Memory` says that a request for memory was refused: the text is empty, and from
+    /// then on every call returns `ParseError::Failed`.
     pub fn feed(&mut self, bytes: &[u8]) -> Result<(), ParseError>
-        ensures given { (limit : ℕ) (s : List ℕ) → WasFed limit (P.admits (policy_of self.old)) s self.old → OnOk result (WasFed limit (P.admits (policy_of self.old)) (s ++ bytes.now) self.new
-            × (passed_text (Some limit) (P.admits (policy_of self.old)) (s ++ bytes.now) ≡ passed_text (Some limit) (P.admits (policy_of self.old)) s ++ added_by self.new)) }
+        ensures given { After P.Admit self.old (λ limit admits s.
+            OnOk result (TakesIn admits limit s bytes.now self.new)) }
         ensures policy { policy_of self.new ≡ policy_of self.old }
-        ensures refused { (limit : ℕ) (s : List ℕ) → WasFed limit (P.admits (policy_of self.old)) s self.old
-            → IfErr result (λ e. (e ≡ ParseError.Memory) × IsBroken self.new × (added_by self.new ≡ []) × Refused A) }
-        ensures failed { IsBroken self.old → (result ≡ Err ParseError.Failed) × IsBroken self.new × (added_by self.new ≡ []) }
+        ensures refused { After P.Admit self.old (λ limit admits s. IfErr result (λ e.
+            (e ≡ ParseError.Memory) × IsBroken self.new × (added_by self.new ≡ []) × Refused A)) }
+        ensures failed { IsBroken self.old → (result ≡ Err ParseError.Failed) × IsBroken self.new
+            × (added_by self.new ≡ []) }
     {
         laws::yield_handed_out::<A>();
         let Spell {
@@ -88,12 +90,12 @@ impl<P: Admit<A>, A: Allocator + Copy> Filter<P, A> {
         self.spell.text.as_str()
     }
 
-    /// How many bytes are kept of the segment that is unfinished, as [`Parser::kept`](esc_parse::Parser::kept) counts them: at most the
-    /// limit.
+    /// How many bytes are kept of the segment that is unfinished, as
+    /// [`Parser::kept`](esc_parse::Parser::kept) counts them: at most the limit.
     pub fn kept(&self) -> usize
-        ensures given { (limit : ℕ) (s : List ℕ) → WasFed limit (P.admits (policy_of self.now)) s self.now → (gs : List Segment)
-            → IsCut s gs → result ≡ min (kept_of_cut (Some limit) gs + data_kept (Some limit) s) most }
-        ensures within { (limit : ℕ) (s : List ℕ) → WasFed limit (P.admits (policy_of self.now)) s self.now → result ≤ limit }
+        ensures given { After P.Admit self.now (λ limit admits s. (gs : List Segment) → IsCut s gs
+            → result ≡ min (kept_of_cut (Some limit) gs + data_kept (Some limit) s) most) }
+        ensures within { After P.Admit self.now (λ limit admits s. result ≤ limit) }
         ensures failed { IsBroken self.now → result ≡ 0 }
     {
         self.parser.kept()

@@ -1,4 +1,5 @@
-//! Laws of what passes a filter. Each holds for every allocator `A`, which the type of the actions names.
+//! Laws of what passes a filter. Each holds for every allocator `A`, which the type of the actions
+//! names.
 ghost use Rattle.std.specs.Prelude.{◌≡◌, ◌++◌, ℕ, Bool, List, Option};
 ghost use Rattle.std.specs.List.{filter};
 ghost use Rattle.esc_actions.specs.Meaning.{yield_within};
@@ -10,7 +11,8 @@ use std::alloc::Allocator;
 
 /// The text of what passes of a stream reads back as what passes, whatever is admitted.
 pub fn passed_reads_back<A: Allocator>()
-    ensures { (limit : Option ℕ) (admits : Value A → Bool) (s : List ℕ) → IsFiltered limit admits s (passed_text limit admits s) }
+    ensures { (limit : Option ℕ) (admits : Value A → Bool) (s : List ℕ)
+        → IsFiltered limit admits s (passed_text limit admits s) }
 {
     laws::handed_out::<A>();
     laws::reads_back::<A>();
@@ -19,7 +21,9 @@ pub fn passed_reads_back<A: Allocator>()
 
 /// What passes of a stream passes of each longer one, and comes first in it.
 pub fn passed_more<A: Allocator>()
-    ensures { (limit : Option ℕ) (admits : Value A → Bool) (s b : List ℕ) → passed limit admits (s ++ b) ≡ passed limit admits s ++ filter (passes admits) (yield_within limit s b) }
+    ensures { (limit : Option ℕ) (admits : Value A → Bool) (s b : List ℕ)
+        → passed limit admits (s ++ b) ≡ passed limit admits s ++ filter (passes admits)
+        (yield_within limit s b) }
 {
     laws::meaning_of_more::<A>();
 }

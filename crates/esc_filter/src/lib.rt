@@ -1,8 +1,10 @@
-//! A filter for terminal streams of unknown origin: of what a stream means only what a policy admits is written, as it comes.
+//! A filter for terminal streams of unknown origin: of what a stream means only what a policy
+//! admits is written, as it comes.
 //!
-//! [`filter`] reads a stream and writes the text of those of its actions that a [`Policy`], or an [`Admit`] of the caller's own,
-//! admits; [`Filter`] does it piece by piece. What is written reads back as these actions and as nothing else, so no text of the
-//! stream becomes a sequence, however broken it is. [`Encoder`] writes actions one at a time.
+//! [`filter`] reads a stream and writes the text of those of its actions that a [`Policy`], or an
+//! [`Admit`] of the caller's own, admits; [`Filter`] does it piece by piece. What is written reads
+//! back as these actions and as nothing else, so no text of the stream becomes a sequence, however
+//! broken it is. [`Encoder`] writes actions one at a time.
 #![tactic(auto)]
 
 mod admit;
@@ -20,6 +22,6 @@ pub use admit::Admit;
 pub use encoder::Encoder;
 pub use filter::Filter;
 pub use filter_error::FilterError;
-pub use filtering::filter_stream;
+pub use filtering::{MOST_READS, filter_stream};
 pub use laws::{passed_more, passed_reads_back};
 pub use policy::Policy;

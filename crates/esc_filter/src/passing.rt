@@ -21,7 +21,8 @@ pub(crate) struct Passing<'p, P, A: Allocator = Global> {
 impl<'p, P: Admit<A>, A: Allocator> Sink<Action<A>> for Passing<'p, P, A> {
     ghost is_ready = { λ _. Unit {0} };
 
-    ghost takes = { λ p a q. Takes (P.admits p.policy.now) p.spell a q.spell × (q.policy.now ≡ p.policy.now) };
+    ghost takes = { λ p a q. Takes (P.admits p.policy.now) p.spell a q.spell
+        × (q.policy.now ≡ p.policy.now) };
 
     ghost refuses = { Refuses };
 
@@ -63,7 +64,8 @@ impl<'p, P: Admit<A>, A: Allocator> Sink<Action<A>> for Passing<'p, P, A> {
         Ok(())
     }
 
-    // What passes is appended from its entries where the text can be, and what does not is passed over; neither is made.
+    // What passes is appended from its entries where the text can be, and what does not is passed
+    // over; neither is made.
     #[inline]
     fn receive_sequence(
         &mut self,

@@ -23,13 +23,15 @@ pub enum Policy {
     Text,
     /// And graphic renditions (SGR) and hyperlinks.
     Color,
-    /// And what changes the screen alone: the controls 07 to 0F; cursor movement, erasing, inserting, deleting, scrolling, margins and tab
-    /// stops; modes of what is shown, character sets, the cursor's shape, and colours of the palette. It is a list of what is known to be
-    /// so: nothing that a terminal answers, nothing that changes what keys, mouse or terminal send, no title, clipboard, notification, file,
-    /// directory, print, device control string or application program command is on it, and nothing unknown.
+    /// And what changes the screen alone: the controls 07 to 0F; cursor movement, erasing,
+    /// inserting, deleting, scrolling, margins and tab stops; modes of what is shown, character
+    /// sets, the cursor's shape, and colours of the palette. It is a list of what is known to be
+    /// so: nothing that a terminal answers, nothing that changes what keys, mouse or terminal send,
+    /// no title, clipboard, notification, file, directory, print, device control string or
+    /// application program command is on it, and nothing unknown.
     Screen,
-    /// All that can be written by itself, C1 controls, images and queries too. It keeps broken input from becoming a sequence,
-    /// and does not protect from sequences that are there.
+    /// All that can be written by itself, C1 controls, images and queries too. It keeps broken
+    /// input from becoming a sequence, and does not protect from sequences that are there.
     All,
 }
 
@@ -90,7 +92,8 @@ impl<A: Allocator> Admit<A> for Policy {
     }
 }
 
-// Whether the command of this text is a link; known where it begins with a digit other than 8, and where it is a plain link in ASCII.
+// Whether the command of this text is a link; known where it begins with a digit other than 8, and
+// where it is a plain link in ASCII.
 #[inline]
 fn link_passes<A: Allocator>(text: &[u8]) -> Option<bool>
     ensures { IfSome result (λ b. is_link (command_meant {A = A} (parts_of text.now)) ≡ b) }
@@ -114,12 +117,15 @@ fn has_other_code(text: &[u8]) -> bool
     first.is_ascii_digit() && *first != b'8'
 }
 
-// Whether what a control sequence means is renditions; not known where the final byte is `m` and the entries are no plain ones.
+// Whether what a control sequence means is renditions; not known where the final byte is `m` and
+// the entries are no plain ones.
 #[tactic(auto, using(crate::proofs::Sequences::renditions_pass, crate::proofs::Sequences::no_rendition))]
 #[inline]
 fn colour_passes(params: &[CsiParam], control: u8) -> Option<bool>
-    ensures passes { result ≡ Some true → list_all is_rendition (csi_of params.now false control) ≡ true }
-    ensures stays { result ≡ Some false → list_any is_rendition (csi_of params.now false control) ≡ false }
+    ensures passes { result ≡ Some true → list_all is_rendition
+        (csi_of params.now false control) ≡ true }
+    ensures stays { result ≡ Some false → list_any is_rendition
+        (csi_of params.now false control) ≡ false }
 {
     if control != b'm' {
         return Some(false);
@@ -131,8 +137,10 @@ fn colour_passes(params: &[CsiParam], control: u8) -> Option<bool>
 #[tactic(auto, using(crate::proofs::Sequences::screen_all, crate::proofs::Sequences::screen_one, crate::proofs::Sequences::screen_none))]
 #[inline]
 fn screen_passes(params: &[CsiParam], control: u8) -> Option<bool>
-    ensures passes { result ≡ Some true → list_all (λ c. is_rendition c || is_screen_sequence c) (csi_of params.now false control) ≡ true }
-    ensures stays { result ≡ Some false → list_any (λ c. is_rendition c || is_screen_sequence c) (csi_of params.now false control) ≡ false }
+    ensures passes { result ≡ Some true → list_all (λ c. is_rendition c || is_screen_sequence c)
+        (csi_of params.now false control) ≡ true }
+    ensures stays { result ≡ Some false → list_any (λ c. is_rendition c || is_screen_sequence c)
+        (csi_of params.now false control) ≡ false }
 {
     if control != b'm' {
         return Some(is_screen_body(params, control));

@@ -1,4 +1,5 @@
-//! What changes the screen alone (xterm's list of control sequences, <https://invisible-island.net/xterm/ctlseqs/ctlseqs.html>).
+//! What changes the screen alone (xterm's list of control sequences,
+//! <https://invisible-island.net/xterm/ctlseqs/ctlseqs.html>).
 ghost use Rattle.std.specs.Prelude.{◌≡◌};
 ghost use Rattle.std.specs.List.{list_all};
 ghost use Rattle.esc_sequences.specs.Csis.{csi_value};

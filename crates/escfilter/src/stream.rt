@@ -1,9 +1,9 @@
 //! One stream, from its reader to the output.
-ghost use Rattle.std.specs.Prelude.{◌≡◌, ◌↔◌, false, IsErrOf, IsTrue, OnErr, OnOk};
-ghost use Rattle.std.specs.Io.KnownBytes.{IsAtEnd};
+ghost use Rattle.std.specs.Prelude.{◌≡◌, IsErrOf, OnErr, OnOk};
 ghost use Rattle.esc_filter.specs.Rules.{admits};
-ghost use Rattle.esc_normal.specs.Io.{has_failed, inner_of};
-ghost use Rattle.esc_filter.specs.Streams.{HasBegun, HasFiltered};
+ghost use Rattle.esc_normal.specs.Io.{FailsWith, IsReadWhole};
+ghost use Rattle.esc_filter.specs.Streams.{HasBegun, HasFiltered, HasFilteredAllBut, HasFilteredAtLeast, most_a_read};
+ghost use Rattle.esc_filter.specs.declared.filtering.TheConstants.{MOST_READS};
 
 use crate::ended::Ended;
 use crate::options::Options;
@@ -26,21 +26,19 @@ pub fn filter_named<A: Allocator + Copy, R: Read, W: Write, E: Write>(
     writer: &mut Watched<W>,
     faults: &mut E,
 ) -> Result<(), FilterError>
-    ensures read_all { OnOk result (IsAtEnd (R.remaining (inner_of reader.new))) }
-    ensures written { OnOk result (HasFiltered {A = A} (admits options.policy) options.limit
-        (R.remaining (inner_of reader.old)) (R.remaining (inner_of reader.new))
-        (W.contents (inner_of writer.old)) (W.contents (inner_of writer.new))) }
+    ensures read_all { OnOk result (IsReadWhole R.Read reader) }
+    ensures written { OnOk result
+        (HasFiltered {A = A} R.Read W.Write (admits options.policy) options.limit reader writer) }
     ensures decided { IsErrOf result FilterError.Read
-        → HasFiltered {A = A} (admits options.policy) options.limit
-        (R.remaining (inner_of reader.old)) (R.remaining (inner_of reader.new))
-        (W.contents (inner_of writer.old)) (W.contents (inner_of writer.new)) }
-    ensures beginning { OnErr result (HasBegun {A = A} (admits options.policy) options.limit
-        (R.remaining (inner_of reader.old)) (R.remaining (inner_of reader.new))
-        (W.contents (inner_of writer.old)) (W.contents (inner_of writer.new))) }
-    ensures read_fault { has_failed reader.old ≡ false
-        → (IsErrOf result FilterError.Read ↔ IsTrue (has_failed reader.new)) }
-    ensures write_fault { has_failed writer.old ≡ false
-        → (IsErrOf result FilterError.Write ↔ IsTrue (has_failed writer.new)) }
+        → HasFiltered {A = A} R.Read W.Write (admits options.policy) options.limit reader writer }
+    ensures endless { IsErrOf result FilterError.Endless → HasFilteredAtLeast {A = A}
+        R.Read W.Write MOST_READS (admits options.policy) options.limit reader writer }
+    ensures until_refused { IsErrOf result FilterError.Memory → HasFilteredAllBut {A = A}
+        R.Read W.Write most_a_read (admits options.policy) options.limit reader writer }
+    ensures beginning { OnErr result
+        (HasBegun {A = A} R.Read W.Write (admits options.policy) options.limit reader writer) }
+    ensures read_fault { FailsWith result FilterError.Read reader }
+    ensures write_fault { FailsWith result FilterError.Write writer }
 {
     let tally = Cell::new(Tally::new());
     let policy = Counting {

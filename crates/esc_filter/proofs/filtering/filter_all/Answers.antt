@@ -18,13 +18,15 @@ loop-init g c = record {
   reader = λ h. h;
   writer = λ h. h;
   read = λ limit policy fresh.
-      let nothing = ap (λ vs. list_text (filter (passes (g.P.Admit.admits policy)) vs)) (sym (meaning_nil (Some limit))) in (
+      let nothing = ap (λ vs. list_text (filter (passes (g.P.Admit.admits policy)) vs))
+      (sym (meaning_nil (Some limit))) in (
         fresh.1,
         (
           [],
           Consumes-nil _,
           fresh.0,
-          subst (λ t. Appends (g.W.Write.contents c.args.writer.now.inner) (g.W.Write.contents c.args.writer.now.inner) t) nothing (Appends-nil _),
+          subst (λ t. Appends (g.W.Write.contents c.args.writer.now.inner)
+              (g.W.Write.contents c.args.writer.now.inner) t) nothing (Appends-nil _),
           omega arith,
         ),
       );
@@ -63,8 +65,10 @@ loop-preserved g c =
       read = λ limit policy fresh.
           let k = inv.read limit policy fresh in
           let r = k.1 in
-          let f = subst (λ p. WasFed limit (admits p) r.0 c.loop.filter → Passes limit (admits p) r.0 piece c.pass_on.new.filter
-          (g.W.Write.contents c.loop.writer.inner) (g.W.Write.contents c.pass_on.new.writer.inner)) k.0 (c.in_ok-pass_on-in-Ok.ensures.given limit r.0) r.2 in (
+          let f = subst (λ p. WasFed limit (admits p) r.0 c.loop.filter
+          → Passes limit (admits p) r.0 piece c.pass_on.new.filter
+          (g.W.Write.contents c.loop.writer.inner) (g.W.Write.contents c.pass_on.new.writer.inner))
+          k.0 (c.in_ok-pass_on-in-Ok.ensures.given limit r.0) r.2 in (
             c.in_ok-pass_on-in-Ok.ensures.policy ∙ k.0,
             (
               r.0 ++ piece,
@@ -76,16 +80,22 @@ loop-preserved g c =
           );
     }
 
-pub returns-in_err-pass_on-in-Ok-clause-beginning : goal.returns-in_err-pass_on-in-Ok-clause-beginning
+pub returns-in_err-pass_on-in-Ok-clause-beginning
+    : goal.returns-in_err-pass_on-in-Ok-clause-beginning
 returns-in_err-pass_on-in-Ok-clause-beginning g c = λ limit policy fresh.
     let k = c.loop.invariant.read limit policy fresh in
     let r = k.1 in
     let admits = g.P.Admit.admits in
     let piece = take c.in-Ok.n c.read.new.buf in
-    let f = subst (λ p. WasFed limit (admits p) r.0 c.loop.filter → PassesSome limit (admits p) r.0 piece
+    let f = subst (λ p. WasFed limit (admits p) r.0 c.loop.filter
+    → PassesSome limit (admits p) r.0 piece
     (g.W.Write.contents c.loop.writer.inner) (g.W.Write.contents c.pass_on.new.writer.inner)) k.0
     (c.in_err-pass_on-in-Ok.ensures.beginning limit r.0) r.2 in
-    on_err_any _ c.from_residual.result (r.0 ++ piece, Consumes-trans _ _ _ r.0 piece r.1 c.in-Ok.ensures.bytes.0, prefix_after _ _ _ _ f.0 _ r.3 f.2 f.1)
+    on_err_any _ c.from_residual.result (
+      r.0 ++ piece,
+      Consumes-trans _ _ _ r.0 piece r.1 c.in-Ok.ensures.bytes.0,
+      prefix_after _ _ _ _ f.0 _ r.3 f.2 f.1,
+    )
 
 pub returns-in_err-pass_on-in-Ok-clause-refused : goal.returns-in_err-pass_on-in-Ok-clause-refused
 returns-in_err-pass_on-in-Ok-clause-refused g c = λ limit policy fresh memory.
@@ -101,17 +111,21 @@ returns-clause-endless g c = λ limit policy fresh _.
     let least : 18446744073709551615 ≤ length r.0 = omega (arith, r.4) in
     (r.0, least, r.1, r.3)
 
-pub returns-in_err-pass_on-in-Ok-clause-until_refused : goal.returns-in_err-pass_on-in-Ok-clause-until_refused
+pub returns-in_err-pass_on-in-Ok-clause-until_refused
+    : goal.returns-in_err-pass_on-in-Ok-clause-until_refused
 returns-in_err-pass_on-in-Ok-clause-until_refused g c = λ limit policy fresh memory.
     let r = (c.loop.invariant.read limit policy fresh).1 in
     let p = err_from_is_err_and c.from_residual.result c.from_residual.ensures.1 in
     let piece = take c.in-Ok.n c.read.new.buf in
-    let same = c.in_err-pass_on-in-Ok.ensures.unwritten (ap Err (sym p.2 ∙ err_is c.from_residual.result p.0 _ p.1 memory)) in
+    let same = c.in_err-pass_on-in-Ok.ensures.unwritten
+    (ap Err (sym p.2 ∙ err_is c.from_residual.result p.0 _ p.1 memory)) in
     let written = passed_text (Some limit) (g.P.Admit.admits policy) r.0 in
-    let within : length piece ≤ length c.args.chunk.now = omega (arith, c.in-Ok.ensures.bound.0, c.in-Ok.ensures.bound.1) in (
+    let within : length piece ≤ length c.args.chunk.now =
+    omega (arith, c.in-Ok.ensures.bound.0, c.in-Ok.ensures.bound.1) in (
       r.0,
       piece,
       within,
       Consumes-trans _ _ _ r.0 piece r.1 c.in-Ok.ensures.bytes.0,
-      subst (λ w. Appends (g.W.Write.contents c.args.writer.now.inner) (g.W.Write.contents w.inner) written) (sym same) r.3,
+      subst (λ w. Appends (g.W.Write.contents c.args.writer.now.inner)
+          (g.W.Write.contents w.inner) written) (sym same) r.3,
     )

@@ -8,9 +8,13 @@ abbrev pub invariant-loop : goal.invariant-loop
 invariant-loop g l = record {
   reader : l.fn.reader.failed ≡ false → l.reader.failed ≡ false;
   writer : l.fn.writer.failed ≡ false → l.writer.failed ≡ false;
-  read : (limit : ℕ) (policy : g.row.P.Denot) → IsFresh limit (g.P.Admit.admits policy) policy l.fn.filter
-      → (policy_of l.filter ≡ policy) × ((s : List ℕ) × Consumes (g.R.Read.remaining l.fn.reader.inner) (g.R.Read.remaining l.reader.inner) s
+  read : (limit : ℕ) (policy : g.row.P.Denot)
+      → IsFresh limit (g.P.Admit.admits policy) policy l.fn.filter
+      → (policy_of l.filter ≡ policy)
+      × ((s : List ℕ) × Consumes (g.R.Read.remaining l.fn.reader.inner)
+      (g.R.Read.remaining l.reader.inner) s
       × WasFed limit (g.P.Admit.admits policy) s l.filter
-      × Appends (g.W.Write.contents l.fn.writer.inner) (g.W.Write.contents l.writer.inner) (passed_text (Some limit) (g.P.Admit.admits policy) s)
+      × Appends (g.W.Write.contents l.fn.writer.inner) (g.W.Write.contents l.writer.inner)
+      (passed_text (Some limit) (g.P.Admit.admits policy) s)
       × (l.counter ≤ length s));
 }

@@ -12,14 +12,27 @@ pub returns-clause-written : goal.returns-clause-written
 returns-clause-written g c =
     let admits = g.P.Admit.admits c.args.policy in
     on_ok_more _ _ c.filter_by.result
-    (λ w. (w.0, passed_text (Some c.args.limit) admits w.0, w.1, w.2, c.passed_reads_back.ensures (Some c.args.limit) admits w.0))
+    (λ w. (
+      w.0,
+      passed_text (Some c.args.limit) admits w.0,
+      w.1,
+      w.2,
+      c.passed_reads_back.ensures
+          (Some c.args.limit) admits w.0,
+    ))
     c.filter_by.ensures.written
 
 pub returns-clause-decided : goal.returns-clause-decided
 returns-clause-decided g c = λ e.
     let admits = g.P.Admit.admits c.args.policy in
-    let w = c.filter_by.ensures.decided e in
-    (w.0, passed_text (Some c.args.limit) admits w.0, w.1, w.2, c.passed_reads_back.ensures (Some c.args.limit) admits w.0)
+    let w = c.filter_by.ensures.decided e in (
+      w.0,
+      passed_text (Some c.args.limit) admits w.0,
+      w.1,
+      w.2,
+      c.passed_reads_back.ensures
+          (Some c.args.limit) admits w.0,
+    )
 
 pub returns-clause-endless : goal.returns-clause-endless
 returns-clause-endless g c = λ e.
@@ -51,7 +64,8 @@ returns-clause-until_refused g c = λ e.
 pub returns-in_default-clause-until_refused : goal.returns-in_default-clause-until_refused
 returns-in_default-clause-until_refused g c = λ _.
     let admits = g.P.Admit.admits c.args.policy in
-    let nothing = ap (λ vs. list_text (filter (passes admits) vs)) (sym (meaning_nil (Some c.args.limit))) in
+    let nothing = ap (λ vs. list_text (filter (passes admits) vs))
+    (sym (meaning_nil (Some c.args.limit))) in
     let held = g.W.Write.contents c.args.writer.now.inner in (
       [],
       [],

@@ -8,5 +8,7 @@ use Rattle.esc_filter.specs.Texts.{ends_in_string}
 pub returns-clause-fed : goal.returns-clause-fed
 returns-clause-fed g c = (
   c.with_limit.ensures,
-  c.new.ensures.plain ∙ ap (λ vs. ends_in_string false (filter (passes (g.P.Admit.admits c.args.policy)) vs)) (sym (meaning_nil (Some c.args.limit))),
+  c.new.ensures.plain
+      ∙ ap (λ vs. ends_in_string false (filter (passes (g.P.Admit.admits c.args.policy)) vs))
+      (sym (meaning_nil (Some c.args.limit))),
 )

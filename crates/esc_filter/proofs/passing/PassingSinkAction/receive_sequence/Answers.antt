@@ -5,13 +5,16 @@ use Rattle.esc_filter.proofs.passing.PassingSinkAction.receive_sequence.Goals as
 
 pub returns-in-Some-true-clause-taken : goal.returns-in-Some-true-clause-taken
 returns-in-Some-true-clause-taken g c =
-    passes_taken g.P.Admit.admits c.receive_sequence.result c.args.params.now c.args.parameters_truncated c.args.control c.args.self.now
+    passes_taken g.P.Admit.admits c.receive_sequence.result c.args.params.now
+    c.args.parameters_truncated c.args.control c.args.self.now
     c.receive_sequence.new.self
-    c.if-parameters_truncated.false (c.in-Some-true.ensures.passes (ap Some c.in-Some-true.field-0-test)) c.receive_sequence.ensures.taken
+    c.if-parameters_truncated.false (c.in-Some-true.ensures.passes
+    (ap Some c.in-Some-true.field-0-test)) c.receive_sequence.ensures.taken
 
 pub returns-in-Some-true-clause-left : goal.returns-in-Some-true-clause-left
 returns-in-Some-true-clause-left g c =
-    left_alone g.P.Admit.admits c.receive_sequence.result c.args.self.now c.receive_sequence.new.self c.receive_sequence.ensures.left
+    left_alone g.P.Admit.admits c.receive_sequence.result c.args.self.now
+    c.receive_sequence.new.self c.receive_sequence.ensures.left
 
 pub returns-in-Some-true-clause-refused : goal.returns-in-Some-true-clause-refused
 returns-in-Some-true-clause-refused g c =
@@ -21,5 +24,6 @@ returns-in-Some-true-clause-refused g c =
 
 pub returns-in-Some-false-clause-taken : goal.returns-in-Some-false-clause-taken
 returns-in-Some-false-clause-taken g c = λ _.
-    stays_taken g.P.Admit.admits c.args.params.now c.args.parameters_truncated c.args.control c.args.self.now c.if-parameters_truncated.false
+    stays_taken g.P.Admit.admits c.args.params.now c.args.parameters_truncated c.args.control
+    c.args.self.now c.if-parameters_truncated.false
     (c.in-Some-false.ensures.stays (ap Some c.in-Some-false.field-0-test))

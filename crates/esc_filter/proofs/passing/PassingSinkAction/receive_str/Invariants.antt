@@ -7,4 +7,5 @@ use Rattle.esc_filter.proofs.passing.PassingSinkAction.receive_str.Given as goal
 
 abbrev pub invariant-loop-c : goal.invariant-loop-c
 invariant-loop-c g l =
-    IsUtf8 (chars_rest l.c-iterator) × HasTaken Print (TakesBy g.P.Admit.admits) l.fn.text (chars_rest l.c-iterator) l.initial.self l.self
+    IsUtf8 (chars_rest l.c-iterator) × HasTaken Print (TakesBy g.P.Admit.admits) l.fn.text
+    (chars_rest l.c-iterator) l.initial.self l.self

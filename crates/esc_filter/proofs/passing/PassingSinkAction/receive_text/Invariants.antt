@@ -5,4 +5,5 @@ use Rattle.esc_filter.proofs.Runs.{TakesBy}
 use Rattle.esc_filter.proofs.passing.PassingSinkAction.receive_text.Given as goal
 
 abbrev pub invariant-loop-byte : goal.invariant-loop-byte
-invariant-loop-byte g l = FoldsTo (TakesBy g.P.Admit.admits) l.initial.self (map Print (take l.byte-index l.text)) l.self
+invariant-loop-byte g l = FoldsTo (TakesBy g.P.Admit.admits) l.initial.self
+    (map Print (take l.byte-index l.text)) l.self

@@ -6,4 +6,5 @@ use Rattle.esc_filter.proofs.policy.PolicyAdmit.admits_str.Goals as goal
 
 pub returns : goal.returns
 returns g c = λ t.
-    str_admitted _ c.args.self.now c.args.text.now c.utf8.text (ap (list_all is_shown) (sym c.as_bytes.ensures.value) ∙ sym c.are_shown.ensures ∙ t)
+    str_admitted _ c.args.self.now c.args.text.now c.utf8.text
+    (ap (list_all is_shown) (sym c.as_bytes.ensures.value) ∙ sym c.are_shown.ensures ∙ t)
