@@ -1,7 +1,8 @@
 -- Results, and bytes that were read and written.
-use Rattle.std.proofs.Common.{◌≡◌, ◌≤◌, ◌<◌, ◌+◌, ℕ, List, [], ◌++◌, Option, refl, sym, subst, ap, ◌∙◌, append-nil, append_assoc, arith, length, length-append, take, Ok, Err, IsErrOf, OnErr, Result}
+use Rattle.std.proofs.Common.{◌≡◌, ◌≤◌, ◌<◌, ◌+◌, ℕ, List, [], ◌∷◌, ◌++◌, Option, inl, inr, refl, sym, subst, ap, ◌∙◌, append-nil, append_assoc, arith, length, length-append, take, Ok, Err, IsErrOf, OnErr, Result}
 use Rattle.std.proofs.KnownBytes.{Appends-nil, Appends-trans, Consumes-trans}
 use Rattle.std.specs.Io.KnownBytes.{Appends, Consumes}
+use Rattle.esc_parse.specs.Given.{StopsAt}
 use Rattle.esc_normal.specs.Io.{AppendsPrefix}
 
 pub on_err_more : {T E : Type 0} (X Y : Type 0) (r : Result T E) → (X → Y) → OnErr r X → OnErr r Y
@@ -14,10 +15,16 @@ err_is (Ok t) e x is h = cc
 err_is (Err f) e x is h = cc
 
 -- a prefix of a text is one of a text that begins with it
-pub prefix_after : (a b c : Option (List ℕ)) (before more whole : List ℕ) → Appends a b before → AppendsPrefix b c more → whole ≡ before ++ more
+pub prefix_after : (a b c : Option (List ℕ)) (before more whole : List ℕ) → Appends a b before
+    → AppendsPrefix b c more → whole ≡ before ++ more
     → AppendsPrefix a c whole
-prefix_after a b c before more whole h (p, r, is, w) e =
-    (before ++ p, r, e ∙ ap (λ x. before ++ x) is ∙ sym (append_assoc before p r), Appends-trans a b c before p h w)
+prefix_after a b c before more whole h (p, r, is, w) e = (
+  before ++ p,
+  r,
+  e ∙ ap (λ x. before ++ x) is
+      ∙ sym (append_assoc before p r),
+  Appends-trans a b c before p h w,
+)
 
 -- all of it is one
 pub prefix_whole : (a b : Option (List ℕ)) (t : List ℕ) → Appends a b t → AppendsPrefix a b t
@@ -28,13 +35,28 @@ pub prefix_none : (a : Option (List ℕ)) (t : List ℕ) → AppendsPrefix a a t
 prefix_none a t = ([], t, refl, Appends-nil a)
 
 -- a read that took nothing
-pub read_none : (a b c : Option (List ℕ)) (s : List ℕ) (n : ℕ) (buf : List ℕ) → n ≡ 0 → Consumes a b s → Consumes b c (take n buf) → Consumes a c s
-read_none a b c s n buf e h k = subst (λ x. Consumes a c x) (append-nil s) (Consumes-trans a b c s [] h (subst (λ m. Consumes b c (take m buf)) e k))
+pub read_none : (a b c : Option (List ℕ)) (s : List ℕ) (n : ℕ) (buf : List ℕ) → n ≡ 0
+    → Consumes a b s → Consumes b c (take n buf) → Consumes a c s
+read_none a b c s n buf e h k = subst (λ x. Consumes a c x) (append-nil s)
+    (Consumes-trans a b c s [] h (subst (λ m. Consumes b c (take m buf)) e k))
 
 -- one more piece was read, and its text written
-pub written_more : (a b c : Option (List ℕ)) (before more whole : List ℕ) → Appends a b before → Appends b c more → whole ≡ before ++ more → Appends a c whole
-written_more a b c before more whole h k e = subst (λ x. Appends a c x) (sym e) (Appends-trans a b c before more h k)
+pub written_more : (a b c : Option (List ℕ)) (before more whole : List ℕ) → Appends a b before
+    → Appends b c more → whole ≡ before ++ more → Appends a c whole
+written_more a b c before more whole h k e = subst (λ x. Appends a c x) (sym e)
+    (Appends-trans a b c before more h k)
 
 -- a read that took a byte at least
-pub one_more : (n k : ℕ) (s buf : List ℕ) → n ≤ length s → 0 < k → k ≡ length (take k buf) → n + 1 ≤ length (s ++ take k buf)
+pub one_more : (n k : ℕ) (s buf : List ℕ) → n ≤ length s → 0 < k → k ≡ length (take k buf)
+    → n + 1 ≤ length (s ++ take k buf)
 one_more n k s buf h some is = omega (arith, length-append s (take k buf))
+
+-- a giver that does not stop by itself stops at a value, for the reason for which that is refused
+pub stops_for : {P V : Type 0} (R Q : P → V → P → Type 0) (why : Type 0)
+    → ((p : P) (v : V) (q : P) → Q p v q → why)
+    → (p : P) (vs : List V) (q : P) → StopsAt ⊥ R Q p vs q → why
+stops_for R Q why says p [] q e = absurd e.0
+stops_for R Q why says p (v ∷ vs) q (inl e) = absurd e.0
+stops_for R Q why says p (v ∷ vs) q (inr (inl z)) = says p v q z
+stops_for R Q why says p (v ∷ vs) q (inr (inr (mid, t, rest))) =
+    stops_for R Q why says mid vs q rest

@@ -19,7 +19,7 @@ use Rattle.esc_normal.specs.declared.spell.Spell.{Spell}
 use Rattle.esc_osc.specs.Reading.{meaning as command_meant}
 use Rattle.esc_parse.proofs.Lists.{if_ok_more}
 use Rattle.esc_normal.proofs.Spelling.{IsCommand, IsSequence}
-use Rattle.esc_filter.proofs.Results.{on_err_more}
+use Rattle.esc_filter.proofs.Results.{on_err_more, stops_for}
 use Rattle.esc_filter.proofs.Runs.{TakesBy}
 use Rattle.esc_filter.specs.Rules.{admits, is_plain_entry, is_rendition, is_screen_body, is_screen_sequence}
 use Rattle.esc_filter.specs.declared.policy.Policy.{Policy}
@@ -31,59 +31,84 @@ use Rattle.memory.specs.Refusals.{Refused}
 
 -- a test that renditions pass, and a sequence of no name, passes what entries mean
 module _ (t : CsiValue → Bool) (named : (s : Sgr) → t (sgr s) ≡ true) where
-  each_put : (o : Option Sgr) (more : Option (List CsiValue)) (vs : List CsiValue) → ((ws : List CsiValue) → more ≡ Some ws → list_all t ws ≡ true)
+  each_put : (o : Option Sgr) (more : Option (List CsiValue)) (vs : List CsiValue)
+      → ((ws : List CsiValue) → more ≡ Some ws → list_all t ws ≡ true)
       → put_first o more ≡ Some vs → list_all t vs ≡ true
   each_put None more vs f h = absurd cc
   each_put (Some s) None vs f h = absurd cc
-  each_put (Some s) (Some ws) vs f h = let e : sgr s ∷ ws ≡ vs = cc in subst (λ l. list_all t l ≡ true) e (rw (named s, f ws refl) refl)
+  each_put (Some s) (Some ws) vs f h = let e : sgr s ∷ ws ≡ vs = cc in
+      subst (λ l. list_all t l ≡ true) e (rw (named s, f ws refl) refl)
 
-  each_rendition : (is : List (List CsiParam)) (vs : List CsiValue) → renditions is ≡ Some vs → list_all t vs ≡ true
+  each_rendition : (is : List (List CsiParam)) (vs : List CsiValue) → renditions is ≡ Some vs
+      → list_all t vs ≡ true
   each_rendition [] vs h = let e : [] ≡ vs = cc in subst (λ l. list_all t l ≡ true) e refl
   each_rendition (i ∷ is) vs h = each_put (rendition i) (renditions is) vs (each_rendition is) h
 
-  each_unwrapped : (o : Option (List CsiValue)) (u : CsiValue) → ((vs : List CsiValue) → o ≡ Some vs → list_all t vs ≡ true) → t u ≡ true
+  each_unwrapped : (o : Option (List CsiValue)) (u : CsiValue)
+      → ((vs : List CsiValue) → o ≡ Some vs → list_all t vs ≡ true) → t u ≡ true
       → list_all t (unwrap_or o (u ∷ [])) ≡ true
   each_unwrapped None u f h = rw h refl
   each_unwrapped (Some vs) u f h = f vs refl
 
-  each_by : (b : Bool) (o : Option (List CsiValue)) (u : CsiValue) → ((vs : List CsiValue) → o ≡ Some vs → list_all t vs ≡ true) → t u ≡ true
+  each_by : (b : Bool) (o : Option (List CsiValue)) (u : CsiValue)
+      → ((vs : List CsiValue) → o ≡ Some vs → list_all t vs ≡ true) → t u ≡ true
       → list_all t (if b && not false then unwrap_or o (u ∷ []) else u ∷ []) ≡ true
   each_by true o u f h = each_unwrapped o u f h
   each_by false o u f h = rw h refl
 
-  pub each_of : (es : List CsiParam) (f : ℕ) → t (unspecified es false f) ≡ true → list_all t (csi_of es false f) ≡ true
-  each_of es f h = each_by (f == 0x6d) (renditions (slice_split is_separator es)) (unspecified es false f) (each_rendition (slice_split is_separator es)) h
+  pub each_of : (es : List CsiParam) (f : ℕ) → t (unspecified es false f) ≡ true
+      → list_all t (csi_of es false f) ≡ true
+  each_of es f h = each_by (f == 0x6d) (renditions (slice_split is_separator es))
+      (unspecified es false f) (each_rendition (slice_split is_separator es)) h
 
 -- with another final byte than `m` it is one sequence of no name
-pub nameless : (es : List CsiParam) (f : ℕ) → (f == 0x6d) ≡ false → csi_of es false f ≡ unspecified es false f ∷ []
+pub nameless : (es : List CsiParam) (f : ℕ) → (f == 0x6d) ≡ false
+    → csi_of es false f ≡ unspecified es false f ∷ []
 nameless es f h = rw h refl
 
-pub none_of : (t : CsiValue → Bool) → ((c : CsiValue) → t c ≡ false) → (vs : List CsiValue) → list_any t vs ≡ false
+pub none_of : (t : CsiValue → Bool) → ((c : CsiValue) → t c ≡ false) → (vs : List CsiValue)
+    → list_any t vs ≡ false
 none_of t f [] = refl
 none_of t f (v ∷ vs) = rw (f v, none_of t f vs) refl
 
 -- none of them is truncated
-pub each_whole : (es : List CsiParam) (f : ℕ) → list_all (λ c. not (is_truncated c)) (csi_of es false f) ≡ true
+pub each_whole : (es : List CsiParam) (f : ℕ)
+    → list_all (λ c. not (is_truncated c)) (csi_of es false f) ≡ true
 each_whole es f = each_of (λ c. not (is_truncated c)) (λ s. refl) es f refl
 
 -- an action that is this sequence
 sequence_action : {A : Type 0} (c : CsiValue) → (a : Action A) × IsSequence a c
 sequence_action (sgr s) = (action.CSI (csi_variant.Sgr s), refl)
-sequence_action (unspecified es more f) = (action.CSI (csi_variant.Unspecified (record { params = es; parameters_truncated = more; control = f })), refl)
+sequence_action (unspecified es more f) = (
+  action.CSI
+      (csi_variant.Unspecified (record { params = es; parameters_truncated = more; control = f })),
+  refl,
+)
 
 module _ {P A : Type 0} (allows : P → Value A → Bool) where
   abbrev with_spell : Passing P A → Spell A → Passing P A
   with_spell p s = record p { spell = s }
 
-  passed_one : (v w : Value A) (k : P) (p q : Spell A) (a : Action A) → w ≡ v → passes (allows k) v ≡ true → Adds p a q
+  passed_one : (v w : Value A) (k : P) (p q : Spell A) (a : Action A) → w ≡ v
+      → passes (allows k) v ≡ true → Adds p a q
       → (passes (allows k) w ≡ true → Adds p a q) × (passes (allows k) w ≡ false → q ≡ p)
-  passed_one v w k p q a is h t = (λ _. t, λ e. let no : passes (allows k) w ≡ true = ap (passes (allows k)) is ∙ h in absurd cc)
+  passed_one v w k p q a is h t = (
+    λ _. t,
+    λ e. let no : passes (allows k) w ≡ true =
+        ap (passes (allows k)) is ∙ h in absurd cc,
+  )
 
-  stayed_one : (v w : Value A) (k : P) (p : Spell A) (a : Action A) → w ≡ v → passes (allows k) v ≡ false
+  stayed_one : (v w : Value A) (k : P) (p : Spell A) (a : Action A) → w ≡ v
+      → passes (allows k) v ≡ false
       → (passes (allows k) w ≡ true → Adds p a p) × (passes (allows k) w ≡ false → p ≡ p)
-  stayed_one v w k p a is h = (λ e. let no : passes (allows k) w ≡ false = ap (passes (allows k)) is ∙ h in absurd cc, λ _. refl)
+  stayed_one v w k p a is h = (
+    λ e. let no : passes (allows k) w ≡ false = ap (passes (allows k)) is
+        ∙ h in absurd cc,
+    λ _. refl,
+  )
 
-  whole_passes : (c : CsiValue) (k : P) → not (is_truncated c) ≡ true → allows k (csi c) ≡ true → passes (allows k) (csi c) ≡ true
+  whole_passes : (c : CsiValue) (k : P) → not (is_truncated c) ≡ true → allows k (csi c) ≡ true
+      → passes (allows k) (csi c) ≡ true
   whole_passes c k e h = rw (e, h) refl
 
   unadmitted : (c : CsiValue) (k : P) → allows k (csi c) ≡ false → passes (allows k) (csi c) ≡ false
@@ -92,15 +117,26 @@ module _ {P A : Type 0} (allows : P → Value A → Bool) where
   unadmitted (unspecified es false f) k h = h
 
   -- each is admitted, and was added
-  pub all_pass : (vs : List CsiValue) (p : Passing P A) (s : Spell A) → list_all (λ c. not (is_truncated c)) vs ≡ true
-      → list_all (λ c. allows p.policy.now (csi c)) vs ≡ true → FoldsTo (By IsSequence Adds) p.spell vs s
+  pub all_pass : (vs : List CsiValue) (p : Passing P A) (s : Spell A)
+      → list_all (λ c. not (is_truncated c)) vs ≡ true
+      → list_all (λ c. allows p.policy.now (csi c)) vs ≡ true
+      → FoldsTo (By IsSequence Adds) p.spell vs s
       → FoldsTo (By IsSequence (TakesBy allows)) p vs (record p { spell = s })
   all_pass [] p s w h e = ap (with_spell p) e
   all_pass (v ∷ vs) p s w h (j, (a, is, t), rest) =
       let l = and_parts (not (is_truncated v)) (list_all (λ c. not (is_truncated c)) vs) w in
-      let k = and_parts (allows p.policy.now (csi v)) (list_all (λ c. allows p.policy.now (csi c)) vs) h in (
+      let k = and_parts (allows p.policy.now (csi v))
+      (list_all (λ c. allows p.policy.now (csi c)) vs) h in (
         record p { spell = j },
-        (a, is, (passed_one (csi v) (value_of a) p.policy.now p.spell j a is (whole_passes v p.policy.now l.0 k.0) t, refl)),
+        (
+          a,
+          is,
+          (
+            passed_one (csi v) (value_of a) p.policy.now p.spell j a is
+                (whole_passes v p.policy.now l.0 k.0) t,
+            refl,
+          ),
+        ),
         all_pass vs (record p { spell = j }) s l.1 k.1 rest,
       )
 
@@ -109,109 +145,169 @@ module _ {P A : Type 0} (allows : P → Value A → Bool) where
   any_parts false b h = (refl, h)
 
   -- none is admitted
-  pub none_pass : (vs : List CsiValue) (p : Passing P A) → list_any (λ c. allows p.policy.now (csi c)) vs ≡ false
+  pub none_pass : (vs : List CsiValue) (p : Passing P A)
+      → list_any (λ c. allows p.policy.now (csi c)) vs ≡ false
       → FoldsTo (By IsSequence (TakesBy allows)) p vs p
   none_pass [] p h = refl
   none_pass (v ∷ vs) p h =
-      let k = any_parts (allows p.policy.now (csi v)) (list_any (λ c. allows p.policy.now (csi c)) vs) h in
+      let k = any_parts (allows p.policy.now (csi v))
+      (list_any (λ c. allows p.policy.now (csi c)) vs) h in
       let a = sequence_action v in (
         p,
-        (a.0, a.1, (stayed_one (csi v) (value_of a.0) p.policy.now p.spell a.0 a.1 (unadmitted v p.policy.now k.0), refl)),
+        (
+          a.0,
+          a.1,
+          (
+            stayed_one (csi v) (value_of a.0) p.policy.now p.spell a.0 a.1
+                (unadmitted v p.policy.now k.0),
+            refl,
+          ),
+        ),
         none_pass vs p k.1,
       )
 
-  -- one was refused
-  why_refused : (vs : List CsiValue) (p q : Spell A) → StopsAt ⊥ (By IsSequence Adds) (By IsSequence Denies) p vs q → Refused A
-  why_refused [] p q e = absurd e.0
-  why_refused (v ∷ vs) p q (inl e) = absurd e.0
-  why_refused (v ∷ vs) p q (inr (inl (a, is, denied))) = denied (ap has_text is)
-  why_refused (v ∷ vs) p q (inr (inr (mid, t, rest))) = why_refused vs mid q rest
+  -- a value is refused for want of memory, as each has a text
+  sequence_why : (p : Spell A) (v : CsiValue) (q : Spell A) → By IsSequence Denies p v q → Refused A
+  sequence_why p v q (a, is, denied) = denied (ap has_text is)
 
   pub one_refused : (vs : List CsiValue) (p : Passing P A) (s : Spell A)
       → StopsAt ⊥ (By IsSequence Adds) (By IsSequence Denies) p.spell vs s
-      → StopsAt ⊥ (By IsSequence (TakesBy allows)) (By IsSequence Refuses) p vs (record p { spell = s })
+      → StopsAt ⊥ (By IsSequence (TakesBy allows)) (By IsSequence Refuses) p vs
+      (record p { spell = s })
   one_refused [] p s e = absurd e.0
   one_refused (v ∷ vs) p s e =
-      inr (inl ((sequence_action v).0, (sequence_action v).1, λ _. why_refused (v ∷ vs) p.spell s e))
+      inr
+      (inl (
+        (sequence_action v).0,
+        (sequence_action v).1,
+        λ _. stops_for (By IsSequence Adds) (By IsSequence Denies) (Refused A) sequence_why p.spell
+            (v ∷ vs) s e,
+      ))
 
   -- what is said of a call on the text holds of the receiver
-  pub passes_taken : {E : Type 0} (r : Result Bool E) (es : List CsiParam) (more : Bool) (f : ℕ) (p : Passing P A) (s : Spell A) → more ≡ false
+  pub passes_taken : {E : Type 0} (r : Result Bool E) (es : List CsiParam) (more : Bool) (f : ℕ)
+      (p : Passing P A) (s : Spell A) → more ≡ false
       → list_all (λ c. allows p.policy.now (csi c)) (csi_of es false f) ≡ true
       → IfOk r (λ b. IsTrue b → FoldsTo (By IsSequence Adds) p.spell (csi_of es more f) s)
-      → IfOk r (λ b. IsTrue b → FoldsTo (By IsSequence (TakesBy allows)) p (csi_of es more f) (record p { spell = s }))
+      → IfOk r (λ b. IsTrue b → FoldsTo (By IsSequence (TakesBy allows)) p (csi_of es more f)
+      (record p { spell = s }))
   passes_taken r es more f p s m h t =
       if_ok_more _ _ r
       (λ b k e.
-      subst (λ x. FoldsTo (By IsSequence (TakesBy allows)) p (csi_of es x f) (record p { spell = s })) (sym m)
-      (all_pass (csi_of es false f) p s (each_whole es f) h (subst (λ x. FoldsTo (By IsSequence Adds) p.spell (csi_of es x f) s) m (k e))))
+      subst (λ x. FoldsTo (By IsSequence (TakesBy allows)) p (csi_of es x f)
+      (record p { spell = s })) (sym m)
+      (all_pass (csi_of es false f) p s (each_whole es f) h
+      (subst (λ x. FoldsTo (By IsSequence Adds) p.spell (csi_of es x f) s) m (k e))))
       t
 
   pub stays_taken : (es : List CsiParam) (more : Bool) (f : ℕ) (p : Passing P A) → more ≡ false
-      → list_any (λ c. allows p.policy.now (csi c)) (csi_of es false f) ≡ false → FoldsTo (By IsSequence (TakesBy allows)) p (csi_of es more f) p
-  stays_taken es more f p m h = subst (λ x. FoldsTo (By IsSequence (TakesBy allows)) p (csi_of es x f) p) (sym m) (none_pass (csi_of es false f) p h)
+      → list_any (λ c. allows p.policy.now (csi c)) (csi_of es false f) ≡ false
+      → FoldsTo (By IsSequence (TakesBy allows)) p (csi_of es more f) p
+  stays_taken es more f p m h = subst (λ x. FoldsTo (By IsSequence (TakesBy allows)) p
+      (csi_of es x f) p) (sym m) (none_pass (csi_of es false f) p h)
 
-  pub left_alone : {E : Type 0} (r : Result Bool E) (p : Passing P A) (s : Spell A) → IfOk r (λ b. b ≡ false → s ≡ p.spell)
+  pub left_alone : {E : Type 0} (r : Result Bool E) (p : Passing P A) (s : Spell A)
+      → IfOk r (λ b. b ≡ false → s ≡ p.spell)
       → IfOk r (λ b. b ≡ false → record p { spell = s } ≡ p)
   left_alone r p s t = if_ok_more _ _ r (λ b k e. ap (with_spell p) (k e)) t
 
-  pub refused_taken : {E : Type 0} (r : Result Bool E) (vs : List CsiValue) (p : Passing P A) (s : Spell A)
+  pub refused_taken : {E : Type 0} (r : Result Bool E) (vs : List CsiValue) (p : Passing P A)
+      (s : Spell A)
       → OnErr r (StopsAt ⊥ (By IsSequence Adds) (By IsSequence Denies) p.spell vs s)
-      → OnErr r (StopsAt ⊥ (By IsSequence (TakesBy allows)) (By IsSequence Refuses) p vs (record p { spell = s }))
+      → OnErr r (StopsAt ⊥ (By IsSequence (TakesBy allows)) (By IsSequence Refuses) p vs
+      (record p { spell = s }))
   refused_taken r vs p s t = on_err_more _ _ r (one_refused vs p s) t
 
   -- the same of a command
-  pub command_passes : {E : Type 0} (r : Result Bool E) (ps : List (List ℕ)) (p : Passing P A) (s : Spell A)
-      → allows p.policy.now (osc (command_meant ps)) ≡ true → IfOk r (λ b. IsTrue b → FoldsTo (By IsCommand Adds) p.spell (ps ∷ []) s)
-      → IfOk r (λ b. IsTrue b → FoldsTo (By IsCommand (TakesBy allows)) p (ps ∷ []) (record p { spell = s }))
+  pub command_passes : {E : Type 0} (r : Result Bool E) (ps : List (List ℕ)) (p : Passing P A)
+      (s : Spell A)
+      → allows p.policy.now (osc (command_meant ps)) ≡ true
+      → IfOk r (λ b. IsTrue b → FoldsTo (By IsCommand Adds) p.spell (ps ∷ []) s)
+      → IfOk r (λ b. IsTrue b → FoldsTo (By IsCommand (TakesBy allows)) p (ps ∷ [])
+      (record p { spell = s }))
   command_passes r ps p s h t =
       if_ok_more _ _ r
       (λ b k e.
       let w = k e in (
         record p { spell = w.0 },
-        (w.1.0, w.1.1, (passed_one (osc (command_meant ps)) (value_of w.1.0) p.policy.now p.spell w.0 w.1.0 w.1.1 h w.1.2, refl)),
+        (
+          w.1.0,
+          w.1.1,
+          (
+            passed_one (osc (command_meant ps))
+                (value_of w.1.0) p.policy.now p.spell w.0 w.1.0 w.1.1 h w.1.2,
+            refl,
+          ),
+        ),
         ap (with_spell p) w.2,
       ))
       t
 
-  pub command_stays : (ps : List (List ℕ)) (p : Passing P A) → allows p.policy.now (osc (command_meant ps)) ≡ false
+  pub command_stays : (ps : List (List ℕ)) (p : Passing P A)
+      → allows p.policy.now (osc (command_meant ps)) ≡ false
       → FoldsTo (By IsCommand (TakesBy allows)) p (ps ∷ []) p
   command_stays ps p h =
-      let a : Action A = action.OperatingSystemCommand (command_meant ps) in
-      (p, (a, refl, (stayed_one (osc (command_meant ps)) (value_of a) p.policy.now p.spell a refl h, refl)), refl)
+      let a : Action A = action.OperatingSystemCommand (command_meant ps) in (
+        p,
+        (
+          a,
+          refl,
+          (
+            stayed_one (osc (command_meant ps)) (value_of a) p.policy.now p.spell a refl h,
+            refl,
+          ),
+        ),
+        refl,
+      )
 
-  command_why : (ps : List (List ℕ)) (p q : Spell A) → StopsAt ⊥ (By IsCommand Adds) (By IsCommand Denies) p (ps ∷ []) q → Refused A
-  command_why ps p q (inl e) = absurd e.0
-  command_why ps p q (inr (inl (a, is, denied))) = denied (ap has_text is)
-  command_why ps p q (inr (inr (mid, t, rest))) = absurd rest.0
+  command_why : (p : Spell A) (ps : List (List ℕ)) (q : Spell A) → By IsCommand Denies p ps q
+      → Refused A
+  command_why p ps q (a, is, denied) = denied (ap has_text is)
 
-  pub command_refused : {E : Type 0} (r : Result Bool E) (ps : List (List ℕ)) (p : Passing P A) (s : Spell A)
+  pub command_refused : {E : Type 0} (r : Result Bool E) (ps : List (List ℕ)) (p : Passing P A)
+      (s : Spell A)
       → OnErr r (StopsAt ⊥ (By IsCommand Adds) (By IsCommand Denies) p.spell (ps ∷ []) s)
-      → OnErr r (StopsAt ⊥ (By IsCommand (TakesBy allows)) (By IsCommand Refuses) p (ps ∷ []) (record p { spell = s }))
+      → OnErr r (StopsAt ⊥ (By IsCommand (TakesBy allows)) (By IsCommand Refuses) p (ps ∷ [])
+      (record p { spell = s }))
   command_refused r ps p s t =
       on_err_more _ _ r
-      (λ e. inr (inl (action.OperatingSystemCommand (command_meant ps), refl, λ _. command_why ps p.spell s e))) t
+      (λ e. inr
+      (inl (
+        action.OperatingSystemCommand (command_meant ps),
+        refl,
+        λ _.
+            stops_for (By IsCommand Adds) (By IsCommand Denies) (Refused A) command_why p.spell
+            (ps ∷ []) s e,
+      ))) t
 
 -- what a policy admits of control sequences
-pub text_sequences : (A : Type 0) (p : Policy) (vs : List CsiValue) → p ≡ policy.Text → list_any (λ c. admits {A = A} p (csi c)) vs ≡ false
-text_sequences A p vs e = subst (λ x. list_any (λ c. admits {A = A} x (csi c)) vs ≡ false) (sym e) (none_of (λ c. false) (λ c. refl) vs)
+pub text_sequences : (A : Type 0) (p : Policy) (vs : List CsiValue) → p ≡ policy.Text
+    → list_any (λ c. admits {A = A} p (csi c)) vs ≡ false
+text_sequences A p vs e = subst (λ x. list_any (λ c. admits {A = A} x (csi c)) vs ≡ false) (sym e)
+    (none_of (λ c. false) (λ c. refl) vs)
 
 every : (vs : List CsiValue) → list_all (λ c. true) vs ≡ true
 every [] = refl
 every (v ∷ vs) = every vs
 
-pub all_sequences : (A : Type 0) (p : Policy) (vs : List CsiValue) → p ≡ policy.All → list_all (λ c. admits {A = A} p (csi c)) vs ≡ true
-all_sequences A p vs e = subst (λ x. list_all (λ c. admits {A = A} x (csi c)) vs ≡ true) (sym e) (every vs)
+pub all_sequences : (A : Type 0) (p : Policy) (vs : List CsiValue) → p ≡ policy.All
+    → list_all (λ c. admits {A = A} p (csi c)) vs ≡ true
+all_sequences A p vs e = subst (λ x. list_all (λ c. admits {A = A} x (csi c)) vs ≡ true) (sym e)
+    (every vs)
 
 -- renditions pass, and so does what changes the screen alone
-pub renditions_pass : (es : List CsiParam) (f : ℕ) → f ≡ 0x6d → list_all is_plain_entry es ≡ true → list_all is_rendition (csi_of es false f) ≡ true
+pub renditions_pass : (es : List CsiParam) (f : ℕ) → f ≡ 0x6d → list_all is_plain_entry es ≡ true
+    → list_all is_rendition (csi_of es false f) ≡ true
 renditions_pass es f m h = each_of is_rendition (λ s. refl) es f (rw (m, h) refl)
 
-pub no_rendition : (es : List CsiParam) (f : ℕ) → (f == 0x6d) ≡ false → list_any is_rendition (csi_of es false f) ≡ false
+pub no_rendition : (es : List CsiParam) (f : ℕ) → (f == 0x6d) ≡ false
+    → list_any is_rendition (csi_of es false f) ≡ false
 no_rendition es f h = rw (nameless es f h, h) refl
 
 pub screen_all : (es : List CsiParam) (f : ℕ) → f ≡ 0x6d → list_all is_plain_entry es ≡ true
     → list_all (λ c. is_rendition c || is_screen_sequence c) (csi_of es false f) ≡ true
-screen_all es f m h = each_of (λ c. is_rendition c || is_screen_sequence c) (λ s. refl) es f (rw (m, h) refl)
+screen_all es f m h = each_of (λ c. is_rendition c || is_screen_sequence c) (λ s. refl) es f
+    (rw (m, h) refl)
 
 pub screen_one : (es : List CsiParam) (f : ℕ) → (f == 0x6d) ≡ false → is_screen_body es f ≡ true
     → list_all (λ c. is_rendition c || is_screen_sequence c) (csi_of es false f) ≡ true
