@@ -17,8 +17,8 @@ impl<A: Allocator + Copy> Action<A> {
     /// The error is that memory was refused: the list stays as it was, and the action comes back.
     #[tactic(auto, using(crate::proofs::Appends::pushed_after_others, crate::proofs::Appends::pushed_no_print))]
     pub fn append_to(self, dest: &mut Vec<Action<A>, A>) -> Result<(), Action<A>>
-        ensures appended { OnOk result (map value_of dest.new.items ≡ appended (map value_of dest.old.items)
-            (value_of self)) }
+        ensures appended { OnOk result (map value_of dest.new.items
+            ≡ appended (map value_of dest.old.items) (value_of self)) }
         ensures refused { IfErr result (λ a. (a ≡ self) × (dest.new.items ≡ dest.old.items)) }
         ensures memory_refused { OnErr result (Refused A) }
     {

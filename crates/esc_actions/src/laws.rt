@@ -166,8 +166,8 @@ pub fn plain_at_ground()
     esc_frame::laws::events_of_the_cut_within();
 }
 
-/// Finished segments have no more to do with what follows them: bytes yield after a stream what they
-/// yield after what is left of it, once some finished segments are taken off.
+/// Finished segments have no more to do with what follows them: bytes yield after a stream what
+/// they yield after what is left of it, once some finished segments are taken off.
 pub fn yield_alone<A: Allocator>()
     ensures { (limit : Option ℕ) (s u b : List ℕ) → IsAfterFinished s u
         → yield_within {A = A} limit s b ≡ yield_within limit u b }

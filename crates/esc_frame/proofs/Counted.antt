@@ -39,16 +39,24 @@ module _ (limit : Option ℕ) where
   open_kept Ground n = absurd cc
   open_kept _ n = refl
 
-  kept_by : (s : List ℕ) (es : List Event) (gs hs : List Segment) (u : Unfinished) → Stands limit s es gs u → IsCut s hs
+  kept_by : (s : List ℕ) (es : List Event) (gs hs : List Segment) (u : Unfinished)
+      → Stands limit s es gs u → IsCut s hs
       → kept_of_cut limit hs ≡ kept_open limit u
   kept_by s es gs hs Ground st cut =
-      ap (kept_of_cut limit) (one_cut s hs gs cut (record { whole = st.whole ∙ append-nil (joined gs); each = are_closed gs st.finished }))
+      ap (kept_of_cut limit)
+      (one_cut s hs gs cut (record {
+        whole = st.whole ∙ append-nil (joined gs);
+        each = are_closed gs st.finished;
+      }))
       ∙ closed_kept gs st.finished
   kept_by s es gs hs u st cut =
-      ap (kept_of_cut limit) (one_cut s hs (gs ++ last_of u ∷ []) cut (cut_last s es gs u refl st)) ∙ last_kept gs (last_of u) ∙ open_kept u refl
+      ap (kept_of_cut limit) (one_cut s hs (gs ++ last_of u ∷ []) cut (cut_last s es gs u refl st))
+      ∙ last_kept gs (last_of u) ∙ open_kept u refl
 
-  pub kept_is : (s : List ℕ) (gs : List Segment) → IsCut s gs → kept_of_cut limit gs ≡ kept_open limit (after_all Ground s)
-  kept_is s gs cut = let w = stands limit s in kept_by s (events_within limit s) w.0 gs (after_all Ground s) w.1 cut
+  pub kept_is : (s : List ℕ) (gs : List Segment) → IsCut s gs
+      → kept_of_cut limit gs ≡ kept_open limit (after_all Ground s)
+  kept_is s gs cut = let w = stands limit s in
+      kept_by s (events_within limit s) w.0 gs (after_all Ground s) w.1 cut
 
 -- no more is kept than the limit
 within_by : (limit n : ℕ) (t : Bool) → nat_le n limit ≡ t → kept_within (Some limit) n ≤ limit
@@ -65,7 +73,9 @@ open_within limit _ = omega arith
 least : (n k m l : ℕ) → k ≡ min n m → n ≤ l → k ≤ l
 least n k m l e h = omega (arith, e, h)
 
-pub kept_fits : (l limit : Option ℕ) → l ≡ limit → (u : Unfinished) (k : ℕ) → k ≡ min (kept_open l u) most → IfSome limit (λ n. k ≤ n)
+pub kept_fits : (l limit : Option ℕ) → l ≡ limit → (u : Unfinished) (k : ℕ)
+    → k ≡ min (kept_open l u) most → IfSome limit (λ n. k ≤ n)
 kept_fits l None i u k e = tt
 kept_fits l (Some n) i u k e =
-    let same : k ≡ min (kept_open (Some n) u) most = e ∙ ap (λ x. min (kept_open x u) most) i in least (kept_open (Some n) u) k most n same (open_within n u)
+    let same : k ≡ min (kept_open (Some n) u) most = e ∙ ap (λ x. min (kept_open x u) most) i in
+    least (kept_open (Some n) u) k most n same (open_within n u)

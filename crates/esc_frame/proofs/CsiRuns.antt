@@ -17,13 +17,20 @@ use Rattle.esc_frame.specs.Machine.Moves.{inside, goes_on, noise, after_all, new
 use Rattle.esc_frame.proofs.ManyBytes.{quiet_run, tail_is}
 
 body_byte : (b : ℕ) → is_body_byte b ≡ true
-    → (is_breaker (class_of b) ≡ false) × (in_csi (class_of b) ≡ true) × (is_plain (class_of b) ≡ false) × (is_noise (class_of b) ≡ false)
+    → (is_breaker (class_of b) ≡ false) × (in_csi (class_of b) ≡ true)
+    × (is_plain (class_of b) ≡ false) × (is_noise (class_of b) ≡ false)
 unfolding class_of
-body_byte b h = (grind (arith, nat_tests), grind (arith, nat_tests), grind (arith, nat_tests), grind (arith, nat_tests))
+body_byte b h = (
+  grind (arith, nat_tests),
+  grind (arith, nat_tests),
+  grind (arith, nat_tests),
+  grind (arith, nat_tests),
+)
 
 pub body_quiet : (limit : Option ℕ) (o : Opener) (x ys : List ℕ) → list_all is_body_byte ys ≡ true
     → (after_all (InCsi o x) ys ≡ InCsi o (x ++ ys)) × (news_all limit (InCsi o x) ys ≡ [])
-body_quiet limit o = quiet_run limit (InCsi o) is_body_byte (λ d b h. let p = body_byte b h in rw (p.0, p.1, p.2, inside, goes_on, noise) refl)
+body_quiet limit o = quiet_run limit (InCsi o) is_body_byte (λ d b h. let p = body_byte b h in
+    rw (p.0, p.1, p.2, inside, goes_on, noise) refl)
 
 body_alone : (ys : List ℕ) → list_all is_body_byte ys ≡ true → strip ys ≡ ys
 body_alone [] h = refl
@@ -32,7 +39,8 @@ body_alone (b ∷ ys) h =
     rw (body_byte b k.0).3 (ap (λ zs. b ∷ zs) (body_alone ys k.1))
 
 pub body_strip : (x ys : List ℕ) → list_all is_body_byte ys ≡ true → strip (x ++ ys) ≡ strip x ++ ys
-body_strip x ys h = filter-append (λ b. not (is_noise (class_of b))) x ys ∙ ap (λ y. strip x ++ y) (body_alone ys h)
+body_strip x ys h = filter-append (λ b. not (is_noise (class_of b))) x ys
+    ∙ ap (λ y. strip x ++ y) (body_alone ys h)
 
 -- ---- ESC [ and ESC ]
 
@@ -49,30 +57,42 @@ unfolding class_of
 osc_class = refl
 
 -- the first two bytes of a list
-two_first : (rest : List ℕ) (a b : ℕ) → 2 ≤ length rest → get_or rest 0 0 ≡ a → get_or rest 1 0 ≡ b → take 2 rest ≡ a ∷ b ∷ []
+two_first : (rest : List ℕ) (a b : ℕ) → 2 ≤ length rest → get_or rest 0 0 ≡ a → get_or rest 1 0 ≡ b
+    → take 2 rest ≡ a ∷ b ∷ []
 two_first [] a b h p q = absurd (omega arith)
 two_first (x ∷ []) a b h p q = absurd (omega arith)
 two_first (x ∷ y ∷ r) a b h p q = ap (λ z. z ∷ y ∷ []) p ∙ ap (λ z. a ∷ z ∷ []) q
 
-csi_begins : (limit : Option ℕ) → (after_all Ground (0x1b ∷ 0x5b ∷ []) ≡ InCsi (Long []) []) × (news_all limit Ground (0x1b ∷ 0x5b ∷ []) ≡ [])
+csi_begins : (limit : Option ℕ) → (after_all Ground (0x1b ∷ 0x5b ∷ []) ≡ InCsi (Long []) [])
+    × (news_all limit Ground (0x1b ∷ 0x5b ∷ []) ≡ [])
 csi_begins limit = rw (escape_class, csi_class) (refl, refl)
 
-osc_begins : (limit : Option ℕ) → (after_all Ground (0x1b ∷ 0x5d ∷ []) ≡ InOsc (Long []) []) × (news_all limit Ground (0x1b ∷ 0x5d ∷ []) ≡ [])
+osc_begins : (limit : Option ℕ) → (after_all Ground (0x1b ∷ 0x5d ∷ []) ≡ InOsc (Long []) [])
+    × (news_all limit Ground (0x1b ∷ 0x5d ∷ []) ≡ [])
 osc_begins limit = rw (escape_class, osc_class) (refl, refl)
 
-pub csi_opens : (limit : Option ℕ) (rest : List ℕ) → 2 ≤ length rest → get_or rest 0 0 ≡ 0x1b → get_or rest 1 0 ≡ 0x5b
-    → (after_all Ground (take 2 rest) ≡ InCsi (Long []) []) × (news_all limit Ground (take 2 rest) ≡ [])
-csi_opens limit rest h p q = let e = two_first rest 0x1b 0x5b h p q in
-    (ap (after_all Ground) e ∙ (csi_begins limit).0, ap (news_all limit Ground) e ∙ (csi_begins limit).1)
+pub csi_opens : (limit : Option ℕ) (rest : List ℕ) → 2 ≤ length rest → get_or rest 0 0 ≡ 0x1b
+    → get_or rest 1 0 ≡ 0x5b
+    → (after_all Ground (take 2 rest) ≡ InCsi (Long []) [])
+    × (news_all limit Ground (take 2 rest) ≡ [])
+csi_opens limit rest h p q = let e = two_first rest 0x1b 0x5b h p q in (
+  ap (after_all Ground) e ∙ (csi_begins limit).0,
+  ap (news_all limit Ground) e ∙ (csi_begins limit).1,
+)
 
-pub osc_opens : (limit : Option ℕ) (rest : List ℕ) → 2 ≤ length rest → get_or rest 0 0 ≡ 0x1b → get_or rest 1 0 ≡ 0x5d
-    → (after_all Ground (take 2 rest) ≡ InOsc (Long []) []) × (news_all limit Ground (take 2 rest) ≡ [])
-osc_opens limit rest h p q = let e = two_first rest 0x1b 0x5d h p q in
-    (ap (after_all Ground) e ∙ (osc_begins limit).0, ap (news_all limit Ground) e ∙ (osc_begins limit).1)
+pub osc_opens : (limit : Option ℕ) (rest : List ℕ) → 2 ≤ length rest → get_or rest 0 0 ≡ 0x1b
+    → get_or rest 1 0 ≡ 0x5d
+    → (after_all Ground (take 2 rest) ≡ InOsc (Long []) [])
+    × (news_all limit Ground (take 2 rest) ≡ [])
+osc_opens limit rest h p q = let e = two_first rest 0x1b 0x5d h p q in (
+  ap (after_all Ground) e ∙ (osc_begins limit).0,
+  ap (news_all limit Ground) e ∙ (osc_begins limit).1,
+)
 
 -- ---- the final byte
 
-final_byte : (b : ℕ) → 0x40 ≤ b → b ≤ 0x7e → (is_breaker (class_of b) ≡ false) × (in_csi (class_of b) ≡ false)
+final_byte : (b : ℕ) → 0x40 ≤ b → b ≤ 0x7e → (is_breaker (class_of b) ≡ false)
+    × (in_csi (class_of b) ≡ false)
 unfolding class_of
 final_byte b l h = (grind (arith, nat_tests), grind (arith, nat_tests))
 
@@ -81,11 +101,14 @@ pub final_by : (limit : Option ℕ) (o : Opener) (x : List ℕ) (b : ℕ) → 0x
 final_by limit o x b l h = let p = final_byte b l h in rw (p.0, p.1, goes_on) refl
 
 -- a run, and one in the slice after it
-pub run_joins : (rest : List ℕ) (i n : ℕ) → take i rest ++ take n (take (length rest - i) (drop i rest)) ≡ take (i + n) rest
+pub run_joins : (rest : List ℕ) (i n : ℕ)
+    → take i rest ++ take n (take (length rest - i) (drop i rest)) ≡ take (i + n) rest
 run_joins rest i n = ap (λ y. take i rest ++ take n y) (tail_is rest i) ∙ sym (take-add i n rest)
 
 pub passes_more : (rest : List ℕ) (i n : ℕ) → list_all is_body_byte (take i rest) ≡ true
-    → list_all is_body_byte (take n (take (length rest - i) (drop i rest))) ≡ true → list_all is_body_byte (take (i + n) rest) ≡ true
+    → list_all is_body_byte (take n (take (length rest - i) (drop i rest))) ≡ true
+    → list_all is_body_byte (take (i + n) rest) ≡ true
 passes_more rest i n h k =
-    ap (list_all is_body_byte) (sym (run_joins rest i n)) ∙ list_all-append is_body_byte (take i rest) (take n (take (length rest - i) (drop i rest)))
+    ap (list_all is_body_byte) (sym (run_joins rest i n))
+    ∙ list_all-append is_body_byte (take i rest) (take n (take (length rest - i) (drop i rest)))
     ∙ rw (h, k) refl

@@ -18,17 +18,27 @@ use Rattle.esc_frame.proofs.Grows.{joined_end}
 use Rattle.esc_frame.proofs.SameMoves.{after_same}
 use Rattle.esc_frame.proofs.Step.{byte_step}
 
-pub are_push : (gs : List Segment) (g : Segment) → AreFinished gs (bytes_of g) → HasShape g [] → AreSegments (gs ++ g ∷ [])
+pub are_push : (gs : List Segment) (g : Segment) → AreFinished gs (bytes_of g) → HasShape g []
+    → AreSegments (gs ++ g ∷ [])
 are_push [] g f s = s
-are_push (h ∷ []) g (sh, fh, r) s = let e = sym (append-nil (bytes_of g)) in (subst (λ x. HasShape h x) e sh, subst (λ x. is_finished h x ≡ true) e fh, s)
+are_push (h ∷ []) g (sh, fh, r) s = let e = sym (append-nil (bytes_of g)) in
+    (subst (λ x. HasShape h x) e sh, subst (λ x. is_finished h x ≡ true) e fh, s)
 are_push (h ∷ k ∷ gs) g (sh, fh, r) s =
-    let e = sym (joined_end (k ∷ gs) g) in (subst (λ x. HasShape h x) e sh, subst (λ x. is_finished h x ≡ true) e fh, are_push (k ∷ gs) g r s)
+    let e = sym (joined_end (k ∷ gs) g) in (
+      subst (λ x. HasShape h x) e sh,
+      subst (λ x. is_finished h x ≡ true) e fh,
+      are_push (k ∷ gs) g r s,
+    )
 
 pub are_closed : (gs : List Segment) → AreFinished gs [] → AreSegments gs
 are_closed [] f = tt
 are_closed (h ∷ []) (sh, fh, r) = sh
 are_closed (h ∷ k ∷ gs) (sh, fh, r) =
-    let e = append-nil (joined (k ∷ gs)) in (subst (λ x. HasShape h x) e sh, subst (λ x. is_finished h x ≡ true) e fh, are_closed (k ∷ gs) r)
+    let e = append-nil (joined (k ∷ gs)) in (
+      subst (λ x. HasShape h x) e sh,
+      subst (λ x. is_finished h x ≡ true) e fh,
+      are_closed (k ∷ gs) r,
+    )
 
 -- what is finished before nothing is finished by itself
 pub itself : (h : Segment) → is_finished h [] ≡ true → ends_itself h ≡ true
@@ -37,7 +47,8 @@ itself (Osc o ps Rung) f = refl
 itself (Osc o ps (Waits x)) f = f
 itself _ f = f
 
-data_told : (ds bs : List Event) (w : Bool) → ds ++ (if w then bs else []) ≡ ds ++ (if w then bs ++ [] else [])
+data_told : (ds bs : List Event) (w : Bool)
+    → ds ++ (if w then bs else []) ≡ ds ++ (if w then bs ++ [] else [])
 data_told ds bs true = ap (λ y. ds ++ y) (sym (append-nil bs))
 data_told ds bs false = refl
 
@@ -64,7 +75,8 @@ last_bytes _ n = refl
 pub last_shape : (u : Unfinished) → is_ground u ≡ false → OpenShape u → HasShape (last_of u) []
 last_shape Ground n h = absurd cc
 last_shape (InOsc o ps) n h = (h.0, h.1, tt)
-last_shape (InOscPending o ps f) n h = (h.0, subst (λ y. ArePieces ps y) (sym (append-nil f)) h.1, h.2)
+last_shape (InOscPending o ps f) n h =
+    (h.0, subst (λ y. ArePieces ps y) (sym (append-nil f)) h.1, h.2)
 last_shape _ n h = h
 
 pub last_goes_on : (u : Unfinished) → is_ground u ≡ false → ends_itself (last_of u) ≡ false
@@ -72,41 +84,53 @@ last_goes_on Ground n = absurd cc
 last_goes_on _ n = refl
 
 module _ (limit : Option ℕ) where
-  events_push : (gs : List Segment) (g : Segment) → events_of_cut_within limit (gs ++ g ∷ []) ≡ finished_events_within limit gs ++ events_of_within limit g
+  events_push : (gs : List Segment) (g : Segment)
+      → events_of_cut_within limit (gs ++ g ∷ []) ≡ finished_events_within limit gs
+      ++ events_of_within limit g
       (ends_itself g)
   events_push [] g = refl
-  events_push (h ∷ []) g = ap (λ x. x ++ events_of_within limit g (ends_itself g)) (sym (append-nil (events_of_within limit h true)))
+  events_push (h ∷ []) g = ap (λ x. x ++ events_of_within limit g (ends_itself g))
+      (sym (append-nil (events_of_within limit h true)))
   events_push (h ∷ k ∷ gs) g =
       ap (λ x. events_of_within limit h true ++ x) (events_push (k ∷ gs) g)
-      ∙ sym (append_assoc (events_of_within limit h true) (finished_events_within limit (k ∷ gs)) (events_of_within limit g (ends_itself g)))
+      ∙ sym (append_assoc (events_of_within limit h true) (finished_events_within limit (k ∷ gs))
+      (events_of_within limit g (ends_itself g)))
 
-  last_told : (h : Segment) → ends_itself h ≡ true → events_of_within limit h (ends_itself h) ≡ events_of_within limit h true ++ []
+  last_told : (h : Segment) → ends_itself h ≡ true
+      → events_of_within limit h (ends_itself h) ≡ events_of_within limit h true ++ []
   last_told h e = rw e (sym (append-nil (events_of_within limit h true)))
 
-  events_closed : (gs : List Segment) → AreFinished gs [] → events_of_cut_within limit gs ≡ finished_events_within limit gs
+  events_closed : (gs : List Segment) → AreFinished gs []
+      → events_of_cut_within limit gs ≡ finished_events_within limit gs
   events_closed [] f = refl
   events_closed (h ∷ []) (sh, fh, r) = last_told h (itself h fh)
-  events_closed (h ∷ k ∷ gs) (sh, fh, r) = ap (λ x. events_of_within limit h true ++ x) (events_closed (k ∷ gs) r)
+  events_closed (h ∷ k ∷ gs) (sh, fh, r) =
+      ap (λ x. events_of_within limit h true ++ x) (events_closed (k ∷ gs) r)
 
-  last_events : (u : Unfinished) → is_ground u ≡ false → told_open limit u ≡ events_of_within limit (last_of u) (ends_itself (last_of u))
+  last_events : (u : Unfinished) → is_ground u ≡ false
+      → told_open limit u ≡ events_of_within limit (last_of u) (ends_itself (last_of u))
   last_events Ground n = absurd cc
-  last_events (InData o x f d) n = data_told (opener_events o) (hook_event (strip x) f ∷ puts d) (is_read limit (strip x))
+  last_events (InData o x f d) n =
+      data_told (opener_events o) (hook_event (strip x) f ∷ puts d) (is_read limit (strip x))
   last_events (InApc o d) n = sym (append-nil (opener_events o))
   last_events (InOsc o ps) n = sym (append-nil (opener_events o))
   last_events (InOscPending o ps f) n = sym (append-nil (opener_events o))
   last_events _ n = refl
 
 module _ {limit : Option ℕ} where
-  pub cut_last : (s : List ℕ) (es : List Event) (gs : List Segment) (u : Unfinished) → is_ground u ≡ false → Stands limit s es gs u
+  pub cut_last : (s : List ℕ) (es : List Event) (gs : List Segment) (u : Unfinished)
+      → is_ground u ≡ false → Stands limit s es gs u
       → IsCut s (gs ++ last_of u ∷ [])
   cut_last s es gs u n st =
       let j = last_bytes u n in
       record {
         whole = st.whole ∙ ap (λ y. joined gs ++ y) j ∙ sym (joined_end gs (last_of u));
-        each = are_push gs (last_of u) (subst (λ y. AreFinished gs y) j st.finished) (last_shape u n st.shape);
+        each = are_push gs (last_of u) (subst (λ y. AreFinished gs y) j st.finished)
+            (last_shape u n st.shape);
       }
 
-  pub stands_tells : (s : List ℕ) (es : List Event) (gs : List Segment) (u : Unfinished) → Stands limit s es gs u → HasEventsWithin limit s es
+  pub stands_tells : (s : List ℕ) (es : List Event) (gs : List Segment) (u : Unfinished)
+      → Stands limit s es gs u → HasEventsWithin limit s es
   stands_tells s es gs Ground st = (
     gs,
     record { whole = st.whole ∙ append-nil (joined gs); each = are_closed gs st.finished },
@@ -116,11 +140,13 @@ module _ {limit : Option ℕ} where
   stands_tells s es gs u st = (
     gs ++ last_of u ∷ [],
     cut_last s es gs u refl st,
-    st.told ∙ ap (λ y. finished_events_within limit gs ++ y) (last_events limit u refl) ∙ sym (events_push limit gs (last_of u)),
+    st.told ∙ ap (λ y. finished_events_within limit gs ++ y) (last_events limit u refl)
+        ∙ sym (events_push limit gs (last_of u)),
   )
 
   -- more bytes on a cut take a cut, with the events that the machine tells
-  pub run_stands : (bs s : List ℕ) (es : List Event) (gs : List Segment) (u : Unfinished) → Stands limit s es gs u
+  pub run_stands : (bs s : List ℕ) (es : List Event) (gs : List Segment) (u : Unfinished)
+      → Stands limit s es gs u
       → (hs : List Segment) × Stands limit (s ++ bs) (es ++ news_all limit u bs) hs (after_all u bs)
   run_stands [] s es gs u st = (
     gs,
@@ -131,23 +157,30 @@ module _ {limit : Option ℕ} where
       let g = byte_step limit s es gs u b st in
       let n = news_by limit u b (class_of b) in
       let v = after_by u b (class_of b) in
-      let r = run_stands bs (s ++ b ∷ []) (es ++ n) g.0 v (subst (λ w. Stands limit (s ++ b ∷ []) (es ++ n) g.0 w) (after_same limit u b (class_of b)) g.1) in (
+      let r = run_stands bs (s ++ b ∷ []) (es ++ n) g.0 v
+      (subst (λ w. Stands limit (s ++ b ∷ []) (es ++ n) g.0 w)
+      (after_same limit u b (class_of b)) g.1) in (
         r.0,
-        subst (λ x. Stands limit x (es ++ (n ++ news_all limit v bs)) r.0 (after_all v bs)) (append_assoc s (b ∷ []) bs)
-            (subst (λ x. Stands limit ((s ++ b ∷ []) ++ bs) x r.0 (after_all v bs)) (append_assoc es n (news_all limit v bs)) r.1),
+        subst (λ x. Stands limit x (es ++ (n ++ news_all limit v bs)) r.0 (after_all v bs))
+            (append_assoc s (b ∷ []) bs)
+            (subst (λ x. Stands limit ((s ++ b ∷ []) ++ bs) x r.0 (after_all v bs))
+            (append_assoc es n (news_all limit v bs)) r.1),
       )
 
   nothing_stands : Stands limit [] [] [] Ground
   nothing_stands = record { whole = refl; finished = tt; shape = tt; told = refl }
 
 -- every stream stands where the machine comes to, told its events
-pub stands : (limit : Option ℕ) (s : List ℕ) → (gs : List Segment) × Stands limit s (events_within limit s) gs (after_all Ground s)
+pub stands : (limit : Option ℕ) (s : List ℕ) → (gs : List Segment)
+    × Stands limit s (events_within limit s) gs (after_all Ground s)
 unfolding events_within
 stands limit s = run_stands s [] [] [] Ground nothing_stands
 
 -- every stream has a cut, and its events are those of the cut
-pub events_of_the_cut : (limit : Option ℕ) (s : List ℕ) → HasEventsWithin limit s (events_within limit s)
-events_of_the_cut limit s = let w = stands limit s in stands_tells s (events_within limit s) w.0 (after_all Ground s) w.1
+pub events_of_the_cut : (limit : Option ℕ) (s : List ℕ)
+    → HasEventsWithin limit s (events_within limit s)
+events_of_the_cut limit s = let w = stands limit s in
+    stands_tells s (events_within limit s) w.0 (after_all Ground s) w.1
 
 pub has_cut : (s : List ℕ) → (gs : List Segment) × IsCut s gs
 has_cut s = let t = events_of_the_cut None s in (t.0, t.1)

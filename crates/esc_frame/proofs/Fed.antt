@@ -26,14 +26,18 @@ use Rattle.esc_frame.proofs.Still.{quiet_all}
 use Rattle.esc_frame.proofs.Streams.{after_append, added_is}
 
 -- what many bytes say, of the stream
-pub kept_all : {K A : Type 0} (keeps : Option ℕ → K → List ℕ → Type 0) (limit : Option ℕ) (m : Machine K A) (s b : List ℕ)
+pub kept_all : {K A : Type 0} (keeps : Option ℕ → K → List ℕ
+    → Type 0) (limit : Option ℕ) (m : Machine K A) (s b : List ℕ)
     → Holds keeps limit m (after_all (after_all Ground s) b)
     → Holds keeps limit m (after_all Ground (s ++ b))
 kept_all keeps limit m s b h = subst (λ u. Holds keeps limit m u) (sym (after_append Ground s b)) h
 
-pub given_all : {S : Type 0} (l limit : Option ℕ) → l ≡ limit → (takes : S → Event → S → Type 0) (s b : List ℕ) (old new : S)
-    → FoldsTo takes old (news_all l (after_all Ground s) b) new → FoldsTo takes old (added_within limit s b) new
-given_all l limit i takes s b old new h = subst (λ es. FoldsTo takes old es new) (sym (added_is l s b) ∙ ap (λ k. added_within k s b) i) h
+pub given_all : {S : Type 0} (l limit : Option ℕ) → l ≡ limit
+    → (takes : S → Event → S → Type 0) (s b : List ℕ) (old new : S)
+    → FoldsTo takes old (news_all l (after_all Ground s) b) new
+    → FoldsTo takes old (added_within limit s b) new
+given_all l limit i takes s b old new h =
+    subst (λ es. FoldsTo takes old es new) (sym (added_is l s b) ∙ ap (λ k. added_within k s b) i) h
 
 -- the word of the allocator, of which the store's is one too
 asked : (A : Type 0) (limit : Option ℕ) → Fails (λ _. Refused A) (λ w _. w) A limit → Refused A
@@ -75,7 +79,8 @@ pub refused_lent : {S why : Type 0} (l limit : Option ℕ) → l ≡ limit
     (news_all l (after_all Ground s) b) new
     → StopsAt ⊥ takes refuses old (added_within limit s b) new
 refused_lent {S} {why} l limit i takes refuses s b old new e k h =
-    subst (λ es. StopsAt ⊥ takes refuses old es new) (sym (added_is l s b) ∙ ap (λ k. added_within k s b) i)
+    subst (λ es. StopsAt ⊥ takes refuses old es new) (sym (added_is l s b)
+    ∙ ap (λ k. added_within k s b) i)
     (stops_for ((may_grow_within (after_all Ground s) b ≡ true) × why) ⊥ takes refuses
     (news_all l (after_all Ground s) b) old new
     (λ g. lent_grows_not (reaches_growing Ground b) (lends Ground b) k
@@ -91,19 +96,24 @@ or_no : (t : Bool) → t ≡ true → (t || false) ≡ true
 or_no true h = refl
 or_no false h = h
 
-pub kept_one : {K A : Type 0} (keeps : Option ℕ → K → List ℕ → Type 0) (limit : Option ℕ) (m : Machine K A) (s : List ℕ) (b : ℕ) (c : Class) → c ≡ class_of b
+pub kept_one : {K A : Type 0} (keeps : Option ℕ → K → List ℕ
+    → Type 0) (limit : Option ℕ) (m : Machine K A) (s : List ℕ) (b : ℕ) (c : Class) → c ≡ class_of b
     → Holds keeps limit m (move limit (after_all Ground s) b c).0
     → Holds keeps limit m (after_all Ground (s ++ b ∷ []))
 kept_one keeps limit m s b c e h =
     let u = after_all Ground s in
-    kept_all keeps limit m s (b ∷ []) (subst (λ k. Holds keeps limit m (after_by u b k)) e (subst (λ w. Holds keeps limit m w) (after_same limit u b c) h))
+    kept_all keeps limit m s (b ∷ []) (subst (λ k. Holds keeps limit m (after_by u b k)) e
+    (subst (λ w. Holds keeps limit m w) (after_same limit u b c) h))
 
-pub given_one : {S : Type 0} (l limit : Option ℕ) → l ≡ limit → (takes : S → Event → S → Type 0) (s : List ℕ) (b : ℕ) (c : Class) (old new : S)
-    → c ≡ class_of b → FoldsTo takes old (news_by l (after_all Ground s) b c) new → FoldsTo takes old (added_within limit s (b ∷ [])) new
+pub given_one : {S : Type 0} (l limit : Option ℕ) → l ≡ limit
+    → (takes : S → Event → S → Type 0) (s : List ℕ) (b : ℕ) (c : Class) (old new : S)
+    → c ≡ class_of b → FoldsTo takes old (news_by l (after_all Ground s) b c) new
+    → FoldsTo takes old (added_within limit s (b ∷ [])) new
 given_one l limit i takes s b c old new e h =
     let u = after_all Ground s in
     given_all l limit i takes s (b ∷ []) old new
-    (subst (λ es. FoldsTo takes old es new) (ap (news_by l u b) e ∙ sym (append-nil (news_by l u b (class_of b)))) h)
+    (subst (λ es. FoldsTo takes old es new) (ap (news_by l u b) e
+    ∙ sym (append-nil (news_by l u b (class_of b)))) h)
 
 pub refused_one : {S : Type 0} (A : Type 0) (l limit : Option ℕ) → l ≡ limit
     → (takes refuses : S → Event → S → Type 0)
@@ -122,13 +132,21 @@ refused_one A l limit i takes refuses s b c old new e h =
     (ap (news_by l u b) e ∙ sym (append-nil (news_by l u b (class_of b)))) h)
 
 -- bytes of one event, where nothing is unfinished before them and after them
-event_fed : {A : Type 0} (limit : Option ℕ) (p : VTParser A) (s b : List ℕ) (x : Event) → LeadsToWithin limit s p → after_all Ground s ≡ Ground
+event_fed : {A : Type 0} (limit : Option ℕ) (p : VTParser A) (s b : List ℕ) (x : Event)
+    → LeadsToWithin limit s p → after_all Ground s ≡ Ground
     → after_all Ground b ≡ Ground
-    → news_all limit Ground b ≡ x ∷ [] → LeadsToWithin limit (s ++ b) p × (added_within limit s b ≡ x ∷ [])
+    → news_all limit Ground b ≡ x ∷ [] → LeadsToWithin limit (s ++ b) p
+    × (added_within limit s b ≡ x ∷ [])
 unfolding LeadsToWithin
 event_fed limit p s b x (f, i, h) e k n =
-    let same : after_all Ground s ≡ after_all (after_all Ground s) b = e ∙ sym k ∙ ap (λ u. after_all u b) (sym e) in (
-      (f, i, kept_all KeepsText p.limit p.machine s b (subst (λ u. Holds KeepsText p.limit p.machine u) same h)),
+    let same : after_all Ground s ≡ after_all (after_all Ground s) b =
+    e ∙ sym k ∙ ap (λ u. after_all u b) (sym e) in (
+      (
+        f,
+        i,
+        kept_all KeepsText p.limit p.machine s b
+            (subst (λ u. Holds KeepsText p.limit p.machine u) same h),
+      ),
       added_is limit s b ∙ ap (λ u. news_all limit u b) e ∙ n,
     )
 
@@ -147,8 +165,11 @@ character_fed limit p s bs (Some x) l e k q = (
   quiet_all limit s bs x.1 (subst (λ u. IsStill limit u bs x.1) (sym e) q),
 )
 
-pub control_fed : {A : Type 0} (limit : Option ℕ) (p : VTParser A) (s bs : List ℕ) (o : Option ℕ) → LeadsToWithin limit s p → after_all Ground s ≡ Ground
+pub control_fed : {A : Type 0} (limit : Option ℕ) (p : VTParser A) (s bs : List ℕ) (o : Option ℕ)
+    → LeadsToWithin limit s p → after_all Ground s ≡ Ground
     → IfSome o (λ b. TellsOne (take 1 bs) (Execute b))
-    → IfSome o (λ b. LeadsToWithin limit (s ++ take 1 bs) p × (added_within limit s (take 1 bs) ≡ Execute b ∷ []))
+    → IfSome o (λ b. LeadsToWithin limit (s ++ take 1 bs) p
+    × (added_within limit s (take 1 bs) ≡ Execute b ∷ []))
 control_fed limit p s bs None l e h = tt
-control_fed limit p s bs (Some b) l e k = event_fed limit p s (take 1 bs) (Execute b) l e k.0 (k.1 limit)
+control_fed limit p s bs (Some b) l e k =
+    event_fed limit p s (take 1 bs) (Execute b) l e k.0 (k.1 limit)

@@ -43,7 +43,8 @@ plain_control Plain h = refl
 plain_control Bell h = refl
 plain_control _ h = absurd cc
 
-executes_more : (b : ℕ) (x : List ℕ) (t : Bool) → is_plain (class_of b) ≡ t → AreFit (executes x) → AreFit (executes (b ∷ x))
+executes_more : (b : ℕ) (x : List ℕ) (t : Bool) → is_plain (class_of b) ≡ t → AreFit (executes x)
+    → AreFit (executes (b ∷ x))
 executes_more b x true e h = rw e (plain_control (class_of b) e, h)
 executes_more b x false e h = rw e h
 
@@ -79,9 +80,12 @@ kept_clear (BrokenOff x) r h = (0xfffd ∷ [], refl, ap (λ y. y ++ []) replacem
 
 text_clear : (ps : List Piece) (r : List ℕ) → ArePieces ps r → IsClearText (text_of ps)
 text_clear [] r h = ([], refl, refl)
-text_clear (p ∷ ps) r h = clear_append (kept_of p) (text_of ps) (kept_clear p (text_bytes ps ++ r) h.0) (text_clear ps r h.1)
+text_clear (p ∷ ps) r h =
+    clear_append (kept_of p) (text_of ps) (kept_clear p (text_bytes ps ++ r) h.0)
+    (text_clear ps r h.1)
 
-fit_osc : (ps : List Piece) (r : List ℕ) → ArePieces ps r → IsFit (OscDispatch (parts_of (text_of ps)))
+fit_osc : (ps : List Piece) (r : List ℕ) → ArePieces ps r
+    → IsFit (OscDispatch (parts_of (text_of ps)))
 fit_osc ps r h = text_parts (text_of ps) (text_clear ps r h)
 
 -- intermediates
@@ -89,7 +93,8 @@ intermediate_if : (c : Class) → in_escape c ≡ true → is_noise c ≡ false 
 intermediate_if Intermediate h k = refl
 intermediate_if _ h k = absurd cc
 
-strip_intermediates_more : (b : ℕ) (x : List ℕ) (t : Bool) → is_noise (class_of b) ≡ t → in_escape (class_of b) ≡ true → AllOf is_intermediate (strip x)
+strip_intermediates_more : (b : ℕ) (x : List ℕ) (t : Bool) → is_noise (class_of b) ≡ t
+    → in_escape (class_of b) ≡ true → AllOf is_intermediate (strip x)
     → AllOf is_intermediate (strip (b ∷ x))
 strip_intermediates_more b x true e h k = rw e k
 strip_intermediates_more b x false e h k = rw (e, intermediate_if (class_of b) h e, k) refl
@@ -104,8 +109,10 @@ take_intermediates : (x : List ℕ) → AllOf is_intermediate x → AllOf is_int
 take_intermediates [] h = refl
 take_intermediates (a ∷ []) h = h
 take_intermediates (a ∷ b ∷ x) h =
-    let q = and_parts (is_intermediate (class_of a)) (is_intermediate (class_of b) && list_all (λ b. is_intermediate (class_of b)) x) h in
-    let r = and_parts (is_intermediate (class_of b)) (list_all (λ b. is_intermediate (class_of b)) x) q.1 in rw (q.0, r.0) refl
+    let q = and_parts (is_intermediate (class_of a)) (is_intermediate (class_of b) && list_all (λ b.
+    is_intermediate (class_of b)) x) h in
+    let r = and_parts (is_intermediate (class_of b))
+    (list_all (λ b. is_intermediate (class_of b)) x) q.1 in rw (q.0, r.0) refl
 
 -- the events of a segment
 maybe : (t : Bool) (es : List Event) → AreFit es → AreFit (if t then es else [])
@@ -113,7 +120,8 @@ maybe true es h = h
 maybe false es h = tt
 
 -- data
-put_more : (b : ℕ) (d : List ℕ) (t : Bool) → is_put (class_of b) ≡ t → AreFit (puts d) → AreFit (puts (b ∷ d))
+put_more : (b : ℕ) (d : List ℕ) (t : Bool) → is_put (class_of b) ≡ t → AreFit (puts d)
+    → AreFit (puts (b ∷ d))
 put_more b d true e h = rw e (e, h)
 put_more b d false e h = rw e h
 
@@ -121,7 +129,8 @@ fit_puts : (d : List ℕ) → AreFit (puts d)
 fit_puts [] = tt
 fit_puts (b ∷ d) = put_more b d (is_put (class_of b)) refl (fit_puts d)
 
-text_one : (b : ℕ) (d : List ℕ) (t : Bool) → is_text (class_of b) ≡ t → AllOf is_text (those is_text d) → AllOf is_text (those is_text (b ∷ d))
+text_one : (b : ℕ) (d : List ℕ) (t : Bool) → is_text (class_of b) ≡ t
+    → AllOf is_text (those is_text d) → AllOf is_text (those is_text (b ∷ d))
 text_one b d true e h = rw (e, e, h) refl
 text_one b d false e h = rw e h
 
@@ -135,7 +144,8 @@ body_if Intermediate h k = refl
 body_if Parameter h k = refl
 body_if _ h k = absurd cc
 
-strip_body_more : (b : ℕ) (x : List ℕ) (t : Bool) → is_noise (class_of b) ≡ t → in_csi (class_of b) ≡ true → AllOf in_body (strip x)
+strip_body_more : (b : ℕ) (x : List ℕ) (t : Bool) → is_noise (class_of b) ≡ t
+    → in_csi (class_of b) ≡ true → AllOf in_body (strip x)
     → AllOf in_body (strip (b ∷ x))
 strip_body_more b x true e h k = rw e k
 strip_body_more b x false e h k = rw (e, body_if (class_of b) h e, k) refl
@@ -143,56 +153,75 @@ strip_body_more b x false e h k = rw (e, body_if (class_of b) h e, k) refl
 strip_body : (x : List ℕ) → AllOf in_csi x → AllOf in_body (strip x)
 strip_body [] h = refl
 strip_body (b ∷ x) h =
-    let q = and_parts (in_csi (class_of b)) (list_all (λ b. in_csi (class_of b)) x) h in strip_body_more b x (is_noise (class_of b)) refl q.0 (strip_body x q.1)
+    let q = and_parts (in_csi (class_of b)) (list_all (λ b. in_csi (class_of b)) x) h in
+    strip_body_more b x (is_noise (class_of b)) refl q.0 (strip_body x q.1)
 
-fit_csi_if : (x : List ℕ) (f : ℕ) (t : Bool) → is_csi_body x ≡ t → AllOf in_body x → ends_csi (class_of f) ≡ true
+fit_csi_if : (x : List ℕ) (f : ℕ) (t : Bool) → is_csi_body x ≡ t → AllOf in_body x
+    → ends_csi (class_of f) ≡ true
     → AreFit (if t then csi_event x f ∷ [] else [])
 fit_csi_if x f true e h k = ((x, h, e, refl, k), tt)
 fit_csi_if x f false e h k = tt
 
-fit_csi : (x : List ℕ) (f : ℕ) → AllOf in_body x → ends_csi (class_of f) ≡ true → AreFit (csi_events x f)
+fit_csi : (x : List ℕ) (f : ℕ) → AllOf in_body x → ends_csi (class_of f) ≡ true
+    → AreFit (csi_events x f)
 fit_csi x f h k = fit_csi_if x f (is_csi_body x) refl h k
 
 module _ (limit : Option ℕ) where
   has_form : (x : List ℕ) → is_read limit x ≡ true → is_dcs_header x ≡ true
   has_form x e = (and_parts (is_within limit (header_count x)) (is_dcs_header x) e).1
 
-  fit_hook : (x d : List ℕ) (f : ℕ) (more : List Event) (t : Bool) → is_read limit x ≡ t → AllOf in_body x → ends_csi (class_of f) ≡ true → AreFit more
+  fit_hook : (x d : List ℕ) (f : ℕ) (more : List Event) (t : Bool) → is_read limit x ≡ t
+      → AllOf in_body x → ends_csi (class_of f) ≡ true → AreFit more
       → AreFit (if t then (hook_event x f ∷ puts d) ++ more else [])
-  fit_hook x d f more true e h k m = ((x, h, has_form x e, refl, k), fit_append (puts d) more (fit_puts d) m)
+  fit_hook x d f more true e h k m =
+      ((x, h, has_form x e, refl, k), fit_append (puts d) more (fit_puts d) m)
   fit_hook x d f more false e h k m = tt
 
-  fit_segment : (g : Segment) (r : List ℕ) (f : Bool) → HasShape g r → AreFit (events_of_within limit g f)
+  fit_segment : (g : Segment) (r : List ℕ) (f : Bool) → HasShape g r
+      → AreFit (events_of_within limit g f)
   fit_segment (Character b) r f h = ((text_is b h).0, tt)
   fit_segment (Wide x) r f h = ((spelled x h.0 h.1).0, tt)
   fit_segment (Broken x) r f h = maybe f (Print 0xfffd ∷ []) (refl, tt)
   fit_segment (Stray b) r f h = (refl, tt)
-  fit_segment (Control b) r f h = (or_left (is_control (class_of b)) (is_raw_control (class_of b)) h, tt)
-  fit_segment (HighControl p b) r f h = (or_right (is_control (class_of b)) (is_raw_control (class_of b)) h, tt)
+  fit_segment (Control b) r f h =
+      (or_left (is_control (class_of b)) (is_raw_control (class_of b)) h, tt)
+  fit_segment (HighControl p b) r f h =
+      (or_right (is_control (class_of b)) (is_raw_control (class_of b)) h, tt)
   fit_segment (Terminator p b) r f h = tt
   fit_segment (EscapeOf x b) r f h =
-      fit_append (executes x) _ (fit_executes x) (let i = strip_intermediates x h.0 in ((take_intermediates (strip x) i, h.1, (strip x, i, refl, h.2)), tt))
+      fit_append (executes x) _ (fit_executes x) (let i = strip_intermediates x h.0 in
+      ((take_intermediates (strip x) i, h.1, (strip x, i, refl, h.2)), tt))
   fit_segment (Csi o x b) r f h =
-      fit_append (opener_events o ++ executes x) _ (fit_append (opener_events o) (executes x) (fit_opener o) (fit_executes x))
+      fit_append (opener_events o ++ executes x) _
+      (fit_append (opener_events o) (executes x) (fit_opener o) (fit_executes x))
       (fit_csi (strip x) b (strip_body x h.1) h.2)
   fit_segment (Osc o ps e) r f h =
-      fit_append (opener_events o) _ (fit_opener o) (maybe f (osc_events limit (text_of ps)) (maybe (is_within limit (length (text_of ps)))
+      fit_append (opener_events o) _ (fit_opener o)
+      (maybe f (osc_events limit (text_of ps)) (maybe (is_within limit (length (text_of ps)))
       (OscDispatch (parts_of (text_of ps)) ∷ []) (fit_osc ps (ending_bytes e ++ r) h.1, tt)))
   fit_segment (Dcs o x b d) r f h =
-      fit_append (opener_events o) _ (fit_opener o) (fit_hook (strip x) d b (if f then DcsUnhook ∷ [] else []) (is_read limit (strip x)) refl
+      fit_append (opener_events o) _ (fit_opener o)
+      (fit_hook (strip x) d b (if f then DcsUnhook ∷ [] else []) (is_read limit (strip x)) refl
       (strip_body x h.1) h.2 (maybe f (DcsUnhook ∷ []) (tt, tt)))
-  fit_segment (Apc o d) r f h = fit_append (opener_events o) _ (fit_opener o) (maybe f (apc_events limit (those is_text d))
-      (maybe (is_within limit (length (those is_text d))) (ApcDispatch (those is_text d) ∷ []) (those_text d, tt)))
+  fit_segment (Apc o d) r f h =
+      fit_append (opener_events o) _ (fit_opener o) (maybe f (apc_events limit (those is_text d))
+      (maybe (is_within limit (length (those is_text d))) (ApcDispatch (those is_text d) ∷ [])
+      (those_text d, tt)))
   fit_segment (Ignored k o d) r f h = fit_opener o
   fit_segment (CutDcs o x) r f h = fit_opener o
   fit_segment (CutEscape x) r f h = fit_executes x
-  fit_segment (CutCsi o x) r f h = fit_append (opener_events o) (executes x) (fit_opener o) (fit_executes x)
+  fit_segment (CutCsi o x) r f h =
+      fit_append (opener_events o) (executes x) (fit_opener o) (fit_executes x)
 
-  fit_before : (gs : List Segment) (r : List ℕ) → AreFinished gs r → AreFit (finished_events_within limit gs)
+  fit_before : (gs : List Segment) (r : List ℕ) → AreFinished gs r
+      → AreFit (finished_events_within limit gs)
   fit_before [] r h = tt
-  fit_before (g ∷ gs) r h = fit_append (events_of_within limit g true) (finished_events_within limit gs) (fit_segment g _ true h.0) (fit_before gs r h.2)
+  fit_before (g ∷ gs) r h =
+      fit_append (events_of_within limit g true) (finished_events_within limit gs)
+      (fit_segment g _ true h.0) (fit_before gs r h.2)
 
-  fit_data : (x d : List ℕ) (f : ℕ) (t : Bool) → is_read limit x ≡ t → AllOf in_body x → ends_csi (class_of f) ≡ true
+  fit_data : (x d : List ℕ) (f : ℕ) (t : Bool) → is_read limit x ≡ t → AllOf in_body x
+      → ends_csi (class_of f) ≡ true
       → AreFit (if t then hook_event x f ∷ puts d else [])
   fit_data x d f true e h k = ((x, h, has_form x e, refl, k), fit_puts d)
   fit_data x d f false e h k = tt
@@ -205,7 +234,9 @@ module _ (limit : Option ℕ) where
   fit_open (InOsc o ps) h = fit_opener o
   fit_open (InOscPending o ps f) h = fit_opener o
   fit_open (InDcs o x) h = fit_opener o
-  fit_open (InData o x f d) h = fit_append (opener_events o) _ (fit_opener o) (fit_data (strip x) d f (is_read limit (strip x)) refl (strip_body x h.1) h.2)
+  fit_open (InData o x f d) h =
+      fit_append (opener_events o) _ (fit_opener o)
+      (fit_data (strip x) d f (is_read limit (strip x)) refl (strip_body x h.1) h.2)
   fit_open (InApc o d) h = fit_opener o
   fit_open (InIgnored k o d) h = fit_opener o
 
@@ -213,5 +244,6 @@ pub events_fit : (limit : Option ℕ) (s : List ℕ) → AreFit (events_within l
 events_fit limit s =
     let w = stands limit s in
     let u = after_all Ground s in
-    subst AreFit (sym w.1.told) (fit_append (finished_events_within limit w.0) (told_open limit u) (fit_before limit w.0 _ w.1.finished)
+    subst AreFit (sym w.1.told) (fit_append (finished_events_within limit w.0) (told_open limit u)
+    (fit_before limit w.0 _ w.1.finished)
     (fit_open limit u w.1.shape))

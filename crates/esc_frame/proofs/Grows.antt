@@ -15,7 +15,8 @@ use Rattle.esc_frame.specs.Leads.Unfinished.{Ground}
 
 -- ---- what follows may grow
 
-broken_more : (f t : List ℕ) (b : ℕ) → is_broken_before f t ≡ true → is_broken_before f (t ++ b ∷ []) ≡ true
+broken_more : (f t : List ℕ) (b : ℕ) → is_broken_before f t ≡ true
+    → is_broken_before f (t ++ b ∷ []) ≡ true
 broken_more f [] b h = absurd cc
 broken_more f (x ∷ t) b h = h
 
@@ -38,16 +39,26 @@ piece_more (One c) t b h = h
 piece_more (Sequence x) t b h = h
 piece_more (BrokenOff x) t b h = (h.0, broken_more x t b h.1)
 
-pub pieces_more : (ps : List Piece) (t : List ℕ) (b : ℕ) → ArePieces ps t → ArePieces ps (t ++ b ∷ [])
+pub pieces_more : (ps : List Piece) (t : List ℕ) (b : ℕ) → ArePieces ps t
+    → ArePieces ps (t ++ b ∷ [])
 pieces_more [] t b h = tt
-pieces_more (p ∷ ps) t b (h, r) =
-    (subst (λ x. IsPiece p x) (append_assoc (text_bytes ps) t (b ∷ [])) (piece_more p (text_bytes ps ++ t) b h), pieces_more ps t b r)
+pieces_more (p ∷ ps) t b (h, r) = (
+  subst (λ x. IsPiece p x) (append_assoc (text_bytes ps) t (b ∷ []))
+      (piece_more p (text_bytes ps ++ t) b h),
+  pieces_more ps t b r,
+)
 
 shape_more : (g : Segment) (t : List ℕ) (b : ℕ) → HasShape g t → HasShape g (t ++ b ∷ [])
-shape_more (Osc o ps e) t b h = (h.0, subst (λ x. ArePieces ps x) (append_assoc (ending_bytes e) t (b ∷ [])) (pieces_more ps (ending_bytes e ++ t) b h.1), h.2)
+shape_more (Osc o ps e) t b h = (
+  h.0,
+  subst (λ x. ArePieces ps x) (append_assoc (ending_bytes e) t (b ∷ []))
+      (pieces_more ps (ending_bytes e ++ t) b h.1),
+  h.2,
+)
 shape_more _ t b h = h
 
-finished_more : (g : Segment) (t : List ℕ) (b : ℕ) → is_finished g t ≡ true → is_finished g (t ++ b ∷ []) ≡ true
+finished_more : (g : Segment) (t : List ℕ) (b : ℕ) → is_finished g t ≡ true
+    → is_finished g (t ++ b ∷ []) ≡ true
 finished_more (Osc o ps Open) t b h = text_more t b h
 finished_more (Osc o ps Rung) t b h = refl
 finished_more (Osc o ps (Waits f)) t b h = h
@@ -60,7 +71,8 @@ finished_more (CutDcs o x) t b h = breaks_more t b h
 finished_more (CutCsi o x) t b h = breaks_more t b h
 finished_more _ t b h = h
 
-pub finished_before : (gs : List Segment) (t : List ℕ) (b : ℕ) → AreFinished gs t → AreFinished gs (t ++ b ∷ [])
+pub finished_before : (gs : List Segment) (t : List ℕ) (b : ℕ) → AreFinished gs t
+    → AreFinished gs (t ++ b ∷ [])
 finished_before [] t b h = tt
 finished_before (g ∷ gs) t b (s, f, r) =
     let e = append_assoc (joined gs) t (b ∷ []) in (
@@ -71,90 +83,123 @@ finished_before (g ∷ gs) t b (s, f, r) =
 
 -- ---- one more at the end
 
-pub text_push : (ps : List Piece) (p : Piece) (t : List ℕ) → text_bytes (ps ++ p ∷ []) ++ t ≡ text_bytes ps ++ (piece_bytes p ++ t)
+pub text_push : (ps : List Piece) (p : Piece) (t : List ℕ)
+    → text_bytes (ps ++ p ∷ []) ++ t ≡ text_bytes ps ++ (piece_bytes p ++ t)
 text_push [] p t = ap (λ x. x ++ t) (append-nil (piece_bytes p))
 text_push (q ∷ ps) p t =
-    append_assoc (piece_bytes q) (text_bytes (ps ++ p ∷ [])) t ∙ ap (λ x. piece_bytes q ++ x) (text_push ps p t)
+    append_assoc (piece_bytes q) (text_bytes (ps ++ p ∷ [])) t
+    ∙ ap (λ x. piece_bytes q ++ x) (text_push ps p t)
     ∙ sym (append_assoc (piece_bytes q) (text_bytes ps) (piece_bytes p ++ t))
 
-pub text_end : (ps : List Piece) (p : Piece) → text_bytes (ps ++ p ∷ []) ≡ text_bytes ps ++ piece_bytes p
-text_end ps p = sym (append-nil (text_bytes (ps ++ p ∷ []))) ∙ text_push ps p [] ∙ ap (λ x. text_bytes ps ++ x) (append-nil (piece_bytes p))
+pub text_end : (ps : List Piece) (p : Piece)
+    → text_bytes (ps ++ p ∷ []) ≡ text_bytes ps ++ piece_bytes p
+text_end ps p = sym (append-nil (text_bytes (ps ++ p ∷ []))) ∙ text_push ps p []
+    ∙ ap (λ x. text_bytes ps ++ x) (append-nil (piece_bytes p))
 
-pub pieces_push : (ps : List Piece) (p : Piece) (t : List ℕ) → ArePieces ps (piece_bytes p ++ t) → IsPiece p t → ArePieces (ps ++ p ∷ []) t
+pub pieces_push : (ps : List Piece) (p : Piece) (t : List ℕ) → ArePieces ps (piece_bytes p ++ t)
+    → IsPiece p t → ArePieces (ps ++ p ∷ []) t
 pieces_push [] p t h i = (i, tt)
-pieces_push (q ∷ ps) p t (h, r) i = (subst (λ x. IsPiece q x) (sym (text_push ps p t)) h, pieces_push ps p t r i)
+pieces_push (q ∷ ps) p t (h, r) i =
+    (subst (λ x. IsPiece q x) (sym (text_push ps p t)) h, pieces_push ps p t r i)
 
-joined_push : (gs : List Segment) (g : Segment) (t : List ℕ) → joined (gs ++ g ∷ []) ++ t ≡ joined gs ++ (bytes_of g ++ t)
+joined_push : (gs : List Segment) (g : Segment) (t : List ℕ)
+    → joined (gs ++ g ∷ []) ++ t ≡ joined gs ++ (bytes_of g ++ t)
 joined_push [] g t = ap (λ x. x ++ t) (append-nil (bytes_of g))
 joined_push (h ∷ gs) g t =
-    append_assoc (bytes_of h) (joined (gs ++ g ∷ [])) t ∙ ap (λ x. bytes_of h ++ x) (joined_push gs g t)
+    append_assoc (bytes_of h) (joined (gs ++ g ∷ [])) t
+    ∙ ap (λ x. bytes_of h ++ x) (joined_push gs g t)
     ∙ sym (append_assoc (bytes_of h) (joined gs) (bytes_of g ++ t))
 
 pub joined_end : (gs : List Segment) (g : Segment) → joined (gs ++ g ∷ []) ≡ joined gs ++ bytes_of g
-joined_end gs g = sym (append-nil (joined (gs ++ g ∷ []))) ∙ joined_push gs g [] ∙ ap (λ x. joined gs ++ x) (append-nil (bytes_of g))
+joined_end gs g = sym (append-nil (joined (gs ++ g ∷ []))) ∙ joined_push gs g []
+    ∙ ap (λ x. joined gs ++ x) (append-nil (bytes_of g))
 
-finished_push : (gs : List Segment) (g : Segment) (t : List ℕ) → AreFinished gs (bytes_of g ++ t) → HasShape g t → is_finished g t ≡ true
+finished_push : (gs : List Segment) (g : Segment) (t : List ℕ) → AreFinished gs (bytes_of g ++ t)
+    → HasShape g t → is_finished g t ≡ true
     → AreFinished (gs ++ g ∷ []) t
 finished_push [] g t h s f = (s, f, tt)
-finished_push (h ∷ gs) g t (s, f, r) sg fg =
-    (subst (λ x. HasShape h x) (sym (joined_push gs g t)) s, subst (λ x. is_finished h x ≡ true) (sym (joined_push gs g t)) f, finished_push gs g t r sg fg)
+finished_push (h ∷ gs) g t (s, f, r) sg fg = (
+  subst (λ x. HasShape h x) (sym (joined_push gs g t)) s,
+  subst (λ x. is_finished h x ≡ true) (sym (joined_push gs g t)) f,
+  finished_push gs g t r sg fg,
+)
 
 -- ---- one byte more
 
 -- The stream is finished segments and then these bytes, which have told this.
-pub record Base (limit : Option ℕ) (stream : List ℕ) (events : List Event) (gs : List Segment) (last : List ℕ) (told_last : List Event) : Type 0 where
+pub record Base (limit : Option ℕ) (stream : List ℕ) (events : List Event) (gs : List Segment)
+    (last : List ℕ) (told_last : List Event) : Type 0 where
   pub whole : stream ≡ joined gs ++ last
   pub finished : AreFinished gs last
   pub told : events ≡ finished_events_within limit gs ++ told_last
 
 -- Of a stream the finished segments are all but these last bytes.
-pub record Meets (limit : Option ℕ) (stream : List ℕ) (events : List Event) (gs : List Segment) (last : List ℕ) : Type 0 where
+pub record Meets (limit : Option ℕ) (stream : List ℕ) (events : List Event) (gs : List Segment)
+    (last : List ℕ) : Type 0 where
   pub whole : stream ≡ joined gs ++ last
   pub finished : AreFinished gs last
   pub told : events ≡ finished_events_within limit gs
 
 told_push : (limit : Option ℕ) (gs : List Segment) (g : Segment)
-    → finished_events_within limit (gs ++ g ∷ []) ≡ finished_events_within limit gs ++ events_of_within limit g true
+    → finished_events_within limit (gs ++ g ∷ []) ≡ finished_events_within limit gs
+    ++ events_of_within limit g true
 told_push limit [] g = append-nil (events_of_within limit g true)
 told_push limit (h ∷ gs) g = ap (λ x. events_of_within limit h true ++ x) (told_push limit gs g)
-    ∙ sym (append_assoc (events_of_within limit h true) (finished_events_within limit gs) (events_of_within limit g true))
+    ∙ sym (append_assoc (events_of_within limit h true) (finished_events_within limit gs)
+    (events_of_within limit g true))
 
 module _ {limit : Option ℕ} where
-  pub base : (s : List ℕ) (es : List Event) (gs : List Segment) (u : Unfinished) → Stands limit s es gs u
+  pub base : (s : List ℕ) (es : List Event) (gs : List Segment) (u : Unfinished)
+      → Stands limit s es gs u
       → Base limit s es gs (open_bytes u) (told_open limit u)
   base s es gs u st = record { whole = st.whole; finished = st.finished; told = st.told }
 
   -- the last segment takes the byte
-  pub grows : (stream : List ℕ) (events : List Event) (gs : List Segment) (last : List ℕ) (ts : List Event) (v : Unfinished) (b : ℕ) (news : List Event)
+  pub grows : (stream : List ℕ) (events : List Event) (gs : List Segment) (last : List ℕ)
+      (ts : List Event) (v : Unfinished) (b : ℕ) (news : List Event)
       → Base limit stream events gs last ts
       → open_bytes v ≡ last ++ b ∷ [] → OpenShape v → told_open limit v ≡ ts ++ news
       → Stands limit (stream ++ b ∷ []) (events ++ news) gs v
   grows stream events gs last ts v b news st j s t = record {
-    whole = ap (λ x. x ++ b ∷ []) st.whole ∙ append_assoc (joined gs) last (b ∷ []) ∙ ap (λ x. joined gs ++ x) (sym j);
+    whole = ap (λ x. x ++ b ∷ []) st.whole ∙ append_assoc (joined gs) last (b ∷ [])
+        ∙ ap (λ x. joined gs ++ x) (sym j);
     finished = subst (λ x. AreFinished gs x) (sym j) (finished_before gs last b st.finished);
     shape = s;
-    told = ap (λ x. x ++ news) st.told ∙ append_assoc (finished_events_within limit gs) ts news ∙ ap (λ x. finished_events_within limit gs ++ x) (sym t);
+    told = ap (λ x. x ++ news) st.told ∙ append_assoc (finished_events_within limit gs) ts news
+        ∙ ap (λ x. finished_events_within limit gs ++ x) (sym t);
   }
 
   -- the last segment is finished before these last bytes
-  pub leaves : (stream : List ℕ) (events : List Event) (gs : List Segment) (last : List ℕ) (ts : List Event) (g : Segment) (b : ℕ) (rest : List ℕ)
+  pub leaves : (stream : List ℕ) (events : List Event) (gs : List Segment) (last : List ℕ)
+      (ts : List Event) (g : Segment) (b : ℕ) (rest : List ℕ)
       (news : List Event)
       → Base limit stream events gs last ts
-      → bytes_of g ++ rest ≡ last ++ b ∷ [] → HasShape g rest → is_finished g rest ≡ true → events_of_within limit g true ≡ ts ++ news
+      → bytes_of g ++ rest ≡ last ++ b ∷ [] → HasShape g rest → is_finished g rest ≡ true
+      → events_of_within limit g true ≡ ts ++ news
       → Meets limit (stream ++ b ∷ []) (events ++ news) (gs ++ g ∷ []) rest
   leaves stream events gs last ts g b rest news st j s f t = record {
-    whole = ap (λ x. x ++ b ∷ []) st.whole ∙ append_assoc (joined gs) last (b ∷ []) ∙ ap (λ x. joined gs ++ x) (sym j) ∙ sym (joined_push gs g rest);
-    finished = finished_push gs g rest (subst (λ x. AreFinished gs x) (sym j) (finished_before gs last b st.finished)) s f;
-    told = ap (λ x. x ++ news) st.told ∙ append_assoc (finished_events_within limit gs) ts news ∙ ap (λ x. finished_events_within limit gs ++ x) (sym t)
+    whole = ap (λ x. x ++ b ∷ []) st.whole ∙ append_assoc (joined gs) last (b ∷ [])
+        ∙ ap (λ x. joined gs ++ x) (sym j) ∙ sym (joined_push gs g rest);
+    finished = finished_push gs g rest
+        (subst (λ x. AreFinished gs x) (sym j) (finished_before gs last b st.finished)) s f;
+    told = ap (λ x. x ++ news) st.told ∙ append_assoc (finished_events_within limit gs) ts news
+        ∙ ap (λ x. finished_events_within limit gs ++ x) (sym t)
         ∙ sym (told_push limit gs g);
   }
 
   -- nothing is left over
-  pub ends : (stream : List ℕ) (events : List Event) (gs : List Segment) → Meets limit stream events gs [] → Stands limit stream events gs Ground
-  ends stream events gs m = record { whole = m.whole; finished = m.finished; shape = tt; told = m.told ∙ sym (append-nil (finished_events_within limit gs)) }
+  pub ends : (stream : List ℕ) (events : List Event) (gs : List Segment)
+      → Meets limit stream events gs [] → Stands limit stream events gs Ground
+  ends stream events gs m = record {
+    whole = m.whole;
+    finished = m.finished;
+    shape = tt;
+    told = m.told ∙ sym (append-nil (finished_events_within limit gs));
+  }
 
   -- what told nothing may be anew
-  pub meets : (stream : List ℕ) (events : List Event) (gs : List Segment) (last : List ℕ) (b : ℕ) → Base limit stream events gs last []
+  pub meets : (stream : List ℕ) (events : List Event) (gs : List Segment) (last : List ℕ) (b : ℕ)
+      → Base limit stream events gs last []
       → Meets limit (stream ++ b ∷ []) events gs (last ++ b ∷ [])
   meets stream events gs last b st = record {
     whole = ap (λ x. x ++ b ∷ []) st.whole ∙ append_assoc (joined gs) last (b ∷ []);
@@ -163,21 +208,26 @@ module _ {limit : Option ℕ} where
   }
 
   -- the last bytes are a segment
-  pub alone : (stream : List ℕ) (events : List Event) (gs : List Segment) (g : Segment) (last : List ℕ) (news : List Event) → Meets limit stream events gs last
-      → bytes_of g ≡ last → HasShape g [] → is_finished g [] ≡ true → events_of_within limit g true ≡ news
+  pub alone : (stream : List ℕ) (events : List Event) (gs : List Segment) (g : Segment)
+      (last : List ℕ) (news : List Event) → Meets limit stream events gs last
+      → bytes_of g ≡ last → HasShape g [] → is_finished g [] ≡ true
+      → events_of_within limit g true ≡ news
       → Stands limit stream (events ++ news) (gs ++ g ∷ []) Ground
   alone stream events gs g last news m j s f t =
       let e : last ≡ bytes_of g ++ [] = sym j ∙ sym (append-nil (bytes_of g)) in record {
         whole = m.whole ∙ ap (λ x. joined gs ++ x) e ∙ sym (joined_push gs g []);
         finished = finished_push gs g [] (subst (λ x. AreFinished gs x) e m.finished) s f;
         shape = tt;
-        told = ap (λ x. x ++ news) m.told ∙ ap (λ x. finished_events_within limit gs ++ x) (sym t) ∙ sym (told_push limit gs g)
+        told = ap (λ x. x ++ news) m.told ∙ ap (λ x. finished_events_within limit gs ++ x) (sym t)
+            ∙ sym (told_push limit gs g)
             ∙ sym (append-nil (finished_events_within limit (gs ++ g ∷ [])));
       }
 
   -- the last bytes begin a segment
-  pub begins : (stream : List ℕ) (events : List Event) (gs : List Segment) (u : Unfinished) (last : List ℕ) → Meets limit stream events gs last
-      → open_bytes u ≡ last → OpenShape u → told_open limit u ≡ [] → Stands limit stream (events ++ []) gs u
+  pub begins : (stream : List ℕ) (events : List Event) (gs : List Segment) (u : Unfinished)
+      (last : List ℕ) → Meets limit stream events gs last
+      → open_bytes u ≡ last → OpenShape u → told_open limit u ≡ []
+      → Stands limit stream (events ++ []) gs u
   begins stream events gs u last m j s t = record {
     whole = m.whole ∙ ap (λ x. joined gs ++ x) (sym j);
     finished = subst (λ x. AreFinished gs x) (sym j) m.finished;

@@ -22,7 +22,8 @@ use Rattle.esc_frame.proofs.Forms.{drop_while-cons, formed_by}
 
 -- ---- its form
 
-pub header_formed : (x : List ℕ) → is_formed (form_by is_dcs_parameter form.Empty x) ≡ is_dcs_header x
+pub header_formed : (x : List ℕ)
+    → is_formed (form_by is_dcs_parameter form.Empty x) ≡ is_dcs_header x
 unfolding is_dcs_header
 header_formed x = formed_by is_dcs_parameter x
 
@@ -30,7 +31,8 @@ header_formed x = formed_by is_dcs_parameter x
 other_parameter : (b : ℕ) → (b == 0x3a) ≡ false → is_csi_parameter b ≡ is_dcs_parameter b
 other_parameter b h = grind (arith, nat_tests)
 
-pub next_other : (f : Form) (b : ℕ) → (b == 0x3a) ≡ false → next_form f b ≡ next_form_by is_dcs_parameter f b
+pub next_other : (f : Form) (b : ℕ) → (b == 0x3a) ≡ false
+    → next_form f b ≡ next_form_by is_dcs_parameter f b
 next_other form.Empty b h = rw (other_parameter b h) refl
 next_other form.Parameters b h = rw (other_parameter b h) refl
 next_other form.Intermediates b h = refl
@@ -50,7 +52,8 @@ intermediate_no b h = grind (arith, nat_tests)
 marker_no : (b : ℕ) → is_marker b ≡ true → is_dcs_parameter b ≡ false
 marker_no b h = grind (arith, nat_tests)
 
-intermediates_kept : (x : List ℕ) → list_all is_intermediate_byte x ≡ true → (parameters_of x ≡ []) × (others_of x ≡ x)
+intermediates_kept : (x : List ℕ) → list_all is_intermediate_byte x ≡ true → (parameters_of x ≡ [])
+    × (others_of x ≡ x)
 intermediates_kept [] h = (refl, refl)
 intermediates_kept (b ∷ x) h =
     let k = and_parts (is_intermediate_byte b) (list_all is_intermediate_byte x) h in
@@ -58,46 +61,59 @@ intermediates_kept (b ∷ x) h =
 
 body_by : (b : ℕ) (x : List ℕ) (t : Bool) → is_dcs_parameter b ≡ t
     → (list_all is_intermediate_byte (drop_while is_dcs_parameter x) ≡ true
-    → (parameters_of x ≡ take_while is_dcs_parameter x) × (others_of x ≡ drop_while is_dcs_parameter x))
+    → (parameters_of x ≡ take_while is_dcs_parameter x)
+    × (others_of x ≡ drop_while is_dcs_parameter x))
     → list_all is_intermediate_byte (if t then drop_while is_dcs_parameter x else b ∷ x) ≡ true
-    → (cond t (b ∷ parameters_of x) (parameters_of x) ≡ (if t then b ∷ take_while is_dcs_parameter x else []))
-    × (cond (not t) (b ∷ others_of x) (others_of x) ≡ (if t then drop_while is_dcs_parameter x else b ∷ x))
+    → (cond t (b ∷ parameters_of x) (parameters_of x)
+    ≡ (if t then b ∷ take_while is_dcs_parameter x else []))
+    × (cond (not t) (b ∷ others_of x) (others_of x)
+    ≡ (if t then drop_while is_dcs_parameter x else b ∷ x))
 body_by b x true e more h = let q = more h in (ap (λ y. b ∷ y) q.0, q.1)
 body_by b x false e more h =
     let k = and_parts (is_intermediate_byte b) (list_all is_intermediate_byte x) h in
     let q = intermediates_kept x k.1 in (q.0, ap (λ y. b ∷ y) q.1)
 
 body_kept : (x : List ℕ) → list_all is_intermediate_byte (drop_while is_dcs_parameter x) ≡ true
-    → (parameters_of x ≡ take_while is_dcs_parameter x) × (others_of x ≡ drop_while is_dcs_parameter x)
+    → (parameters_of x ≡ take_while is_dcs_parameter x)
+    × (others_of x ≡ drop_while is_dcs_parameter x)
 body_kept [] h = (refl, refl)
 body_kept (b ∷ x) h =
     let d = drop_while-cons is_dcs_parameter b x in
-    let q = body_by b x (is_dcs_parameter b) refl (body_kept x) (ap (list_all is_intermediate_byte) (sym d) ∙ h) in
+    let q = body_by b x (is_dcs_parameter b) refl (body_kept x)
+    (ap (list_all is_intermediate_byte) (sym d) ∙ h) in
     (q.0 ∙ sym (take_while-cons is_dcs_parameter b x), q.1 ∙ sym d)
 
 marked_by : (b : ℕ) (x : List ℕ) (t : Bool) → is_marker b ≡ t
     → list_all is_intermediate_byte (drop_while is_dcs_parameter (if t then x else b ∷ x)) ≡ true
     → (parameters_of (b ∷ x) ≡ take_while is_dcs_parameter (if t then x else b ∷ x))
-    × (others_of (b ∷ x) ≡ (if t then b ∷ [] else []) ++ drop_while is_dcs_parameter (if t then x else b ∷ x))
+    × (others_of (b ∷ x) ≡ (if t then b ∷ [] else [])
+    ++ drop_while is_dcs_parameter (if t then x else b ∷ x))
 marked_by b x true m h = let q = body_kept x h in rw (marker_no b m) (q.0, ap (λ y. b ∷ y) q.1)
 marked_by b x false m h = body_kept (b ∷ x) h
 
 -- with a byte more
-pub parameters_push : (x : List ℕ) (b : ℕ) → is_dcs_parameter b ≡ true → parameters_of x ++ b ∷ [] ≡ parameters_of (x ++ b ∷ [])
+pub parameters_push : (x : List ℕ) (b : ℕ) → is_dcs_parameter b ≡ true
+    → parameters_of x ++ b ∷ [] ≡ parameters_of (x ++ b ∷ [])
 parameters_push x b h = sym (filter-append is_dcs_parameter x (b ∷ []) ∙ rw h refl)
 
-pub parameters_same : (x : List ℕ) (b : ℕ) → is_dcs_parameter b ≡ false → parameters_of x ≡ parameters_of (x ++ b ∷ [])
-parameters_same x b h = sym (filter-append is_dcs_parameter x (b ∷ []) ∙ rw h (append-nil (parameters_of x)))
+pub parameters_same : (x : List ℕ) (b : ℕ) → is_dcs_parameter b ≡ false
+    → parameters_of x ≡ parameters_of (x ++ b ∷ [])
+parameters_same x b h =
+    sym (filter-append is_dcs_parameter x (b ∷ []) ∙ rw h (append-nil (parameters_of x)))
 
-pub others_push : (x : List ℕ) (b : ℕ) → is_dcs_parameter b ≡ false → others_of x ++ b ∷ [] ≡ others_of (x ++ b ∷ [])
+pub others_push : (x : List ℕ) (b : ℕ) → is_dcs_parameter b ≡ false
+    → others_of x ++ b ∷ [] ≡ others_of (x ++ b ∷ [])
 others_push x b h = sym (filter-append (λ b. not (is_dcs_parameter b)) x (b ∷ []) ∙ rw h refl)
 
-pub others_same : (x : List ℕ) (b : ℕ) → is_dcs_parameter b ≡ true → others_of x ≡ others_of (x ++ b ∷ [])
-others_same x b h = sym (filter-append (λ b. not (is_dcs_parameter b)) x (b ∷ []) ∙ rw h (append-nil (others_of x)))
+pub others_same : (x : List ℕ) (b : ℕ) → is_dcs_parameter b ≡ true
+    → others_of x ≡ others_of (x ++ b ∷ [])
+others_same x b h = sym (filter-append (λ b. not (is_dcs_parameter b)) x (b ∷ [])
+    ∙ rw h (append-nil (others_of x)))
 
 -- of a header that has its form
 pub header_kept : (x : List ℕ) → is_dcs_header x ≡ true
-    → (parameters_of x ≡ take_while is_dcs_parameter (behind_marker x)) × (others_of x ≡ dcs_intermediates x)
+    → (parameters_of x ≡ take_while is_dcs_parameter (behind_marker x))
+    × (others_of x ≡ dcs_intermediates x)
 unfolding is_dcs_header dcs_intermediates
 header_kept [] h = (refl, refl)
 header_kept (b ∷ x) h = marked_by b x (is_marker b) refl h
@@ -105,18 +121,23 @@ header_kept (b ∷ x) h = marked_by b x (is_marker b) refl h
 params_are : (x bytes : List ℕ) (ns : List ℤ) → is_dcs_header x ≡ true → bytes ≡ parameters_of x
     → ns ≡ map (λ p. pos (held (value_behind 0 p))) (parts_of bytes) → ns ≡ dcs_params x
 unfolding dcs_params
-params_are x bytes ns h e n = n ∙ ap (λ y. map (λ p. pos (held (value_behind 0 p))) (parts_of y)) (e ∙ (header_kept x h).0)
+params_are x bytes ns h e n =
+    n ∙ ap (λ y. map (λ p. pos (held (value_behind 0 p))) (parts_of y)) (e ∙ (header_kept x h).0)
 
 -- its hook, from what is kept
-pub hook_is : (h : DcsHeader) (x bytes is : List ℕ) (ns : List ℤ) (b : ℕ) → is_dcs_header x ≡ true → KeepsDcs h x → bytes ≡ parameters_of x
-    → ns ≡ map (λ p. pos (held (value_behind 0 p))) (parts_of bytes) → is ≡ take h.intermediates.kept h.intermediates.bytes
+pub hook_is : (h : DcsHeader) (x bytes is : List ℕ) (ns : List ℤ) (b : ℕ) → is_dcs_header x ≡ true
+    → KeepsDcs h x → bytes ≡ parameters_of x
+    → ns ≡ map (λ p. pos (held (value_behind 0 p))) (parts_of bytes)
+    → is ≡ take h.intermediates.kept h.intermediates.bytes
     → DcsHook b ns is h.intermediates.ignored ≡ hook_event x b
 hook_is h x bytes is ns b f k e n i =
     let o = (header_kept x f).1 in
     ap (λ y. DcsHook b y is h.intermediates.ignored) (params_are x bytes ns f e n)
     ∙ ap (λ y. DcsHook b (dcs_params x) y h.intermediates.ignored) (i ∙ k.0.0 ∙ ap (take 2) o)
-    ∙ ap (λ t. DcsHook b (dcs_params x) (take 2 (dcs_intermediates x)) t) (k.0.1 ∙ ap (λ y. nat_lt 2 (length y)) o)
+    ∙ ap (λ t. DcsHook b (dcs_params x) (take 2 (dcs_intermediates x)) t)
+    (k.0.1 ∙ ap (λ y. nat_lt 2 (length y)) o)
 
 -- a header that is read is within the limit, and has its form
-pub read_parts : (limit : Option ℕ) (x : List ℕ) → is_read limit x ≡ true → (is_within limit (length (parameters_of x)) ≡ true) × (is_dcs_header x ≡ true)
+pub read_parts : (limit : Option ℕ) (x : List ℕ) → is_read limit x ≡ true
+    → (is_within limit (length (parameters_of x)) ≡ true) × (is_dcs_header x ≡ true)
 read_parts limit x r = and_parts (is_within limit (header_count x)) (is_dcs_header x) r

@@ -36,10 +36,12 @@ no_drop rest n l = none (drop n rest) (omega (arith, length-drop n rest))
 -- ---- an operating system command
 
 -- that no byte ends
-pub unended : (o : Opener) (ps : List Piece) (rest : List ℕ) (n : ℕ) → IsTextRun (take n rest) → length rest ≤ n → is_lendable (InOsc o ps) rest ≡ false
+pub unended : (o : Opener) (ps : List Piece) (rest : List ℕ) (n : ℕ) → IsTextRun (take n rest)
+    → length rest ≤ n → is_lendable (InOsc o ps) rest ≡ false
 unended o ps rest n run l =
     no_if (is_lendable (InOsc o ps) rest) (λ h.
-    let k : false ≡ true = lends_all (InOsc o ps) (InOsc o (ps ++ run.0)) rest n (run.2 None o ps).0 (no_drop rest n l)
+    let k : false ≡ true =
+    lends_all (InOsc o ps) (InOsc o (ps ++ run.0)) rest n (run.2 None o ps).0 (no_drop rest n l)
     (and_parts (is_empty (text_of ps)) (lends (InOsc o ps) rest) h).1 in cc)
 
 no_text : (b : ℕ) → is_text_byte b ≡ false → is_text (class_of b) ≡ false
@@ -47,13 +49,15 @@ unfolding class_of
 no_text b h = grind (arith, nat_tests)
 
 -- neither text nor an end, but a byte that passes
-only_lead : (ps : List Piece) (c : Class) → is_text c ≡ false → ends_osc c ≡ false → passes_osc ps c ≡ true → c ≡ Lead
+only_lead : (ps : List Piece) (c : Class) → is_text c ≡ false → ends_osc c ≡ false
+    → passes_osc ps c ≡ true → c ≡ Lead
 only_lead ps Lead t e p = refl
 only_lead ps _ t e p = absurd cc
 
 pair_bytes : (a b : ℕ) → is_pair (a ∷ b ∷ []) ≡ true → (a ≡ 0xc2) × (is_from 0x80 0x9f b ≡ true)
 unfolding is_pair
-pair_bytes a b h = let k = and_parts (a == 0xc2) (is_from 0x80 0x9f b) h in (grind (arith, nat_tests), k.1)
+pair_bytes a b h = let k = and_parts (a == 0xc2) (is_from 0x80 0x9f b) h in
+    (grind (arith, nat_tests), k.1)
 
 -- ---- bytes in which no unit comes first
 
@@ -62,13 +66,15 @@ lends_next : (u : Unfinished) (b : ℕ) (bs : List ℕ) → lends u (b ∷ bs) �
 lends_next u b bs h =
     let v : Unfinished = after_by u b (class_of b) in
     let k = and_parts (all_pass u (b ∷ bs)) (is_ground (after_all u (b ∷ bs))) h in
-    let p = and_parts (passes u b (class_of b)) (all_pass v bs) k.0 in (p.0, both (all_pass v bs) (is_ground (after_all v bs)) p.1 k.1)
+    let p = and_parts (passes u b (class_of b)) (all_pass v bs) k.0 in
+    (p.0, both (all_pass v bs) (is_ground (after_all v bs)) p.1 k.1)
 
 -- no byte that comes next makes it a control
 abbrev NoPair : List ℕ → List ℕ → Type 0
 NoPair f s = (b : ℕ) (t : List ℕ) → s ≡ b ∷ t → is_pair (f ++ b ∷ []) ≡ false
 
-long_no_pair : (f : List ℕ) (b c : ℕ) → is_empty f ≡ false → is_pair ((f ++ b ∷ []) ++ c ∷ []) ≡ false
+long_no_pair : (f : List ℕ) (b c : ℕ) → is_empty f ≡ false
+    → is_pair ((f ++ b ∷ []) ++ c ∷ []) ≡ false
 unfolding is_pair
 long_no_pair [] b c n = absurd cc
 long_no_pair (a ∷ []) b c n = refl
@@ -80,8 +86,10 @@ some_more [] b = refl
 some_more (a ∷ f) b = refl
 
 -- a byte that completes no sequence and passes makes the prefix longer
-longer : (o : Opener) (ps : List Piece) (f : List ℕ) (b : ℕ) (s : List ℕ) (t : Bool) → is_sequence (f ++ b ∷ []) ≡ false → is_front (f ++ b ∷ []) ≡ t
-    → passes_pending ps f b (outcome f b) ≡ true → lends (osc_pending_move None o ps f b (class_of b) (outcome f b)).0 s ≡ true
+longer : (o : Opener) (ps : List Piece) (f : List ℕ) (b : ℕ) (s : List ℕ) (t : Bool)
+    → is_sequence (f ++ b ∷ []) ≡ false → is_front (f ++ b ∷ []) ≡ t
+    → passes_pending ps f b (outcome f b) ≡ true
+    → lends (osc_pending_move None o ps f b (class_of b) (outcome f b)).0 s ≡ true
     → lends (InOscPending o ps (f ++ b ∷ [])) s ≡ true
 longer o ps f b s true w e p h =
     let k : outcome f b ≡ outcomes.More = rw (w, e) refl in
@@ -91,7 +99,8 @@ longer o ps f b s false w e p h =
     let no : false ≡ true = subst (λ x. passes_pending ps f b x ≡ true) k p in absurd cc
 
 -- a prefix of a sequence there is not completed
-uncompleted : (o : Opener) (ps : List Piece) (f s : List ℕ) → is_empty f ≡ false → NoneAhead (f ++ s) → NoPair f s
+uncompleted : (o : Opener) (ps : List Piece) (f s : List ℕ) → is_empty f ≡ false
+    → NoneAhead (f ++ s) → NoPair f s
     → lends (InOscPending o ps f) s ≡ true → ⊥
 uncompleted o ps f [] n none np h = let k : false ≡ true = h in cc
 uncompleted o ps f (b ∷ s) n none np h =
@@ -99,43 +108,55 @@ uncompleted o ps f (b ∷ s) n none np h =
     let k = lends_next (InOscPending o ps f) b s h in
     let w : is_sequence (f ++ b ∷ []) ≡ false = no_if (is_sequence (f ++ b ∷ []))
     (λ i. not_both (is_pair (f ++ b ∷ [])) (none (f ++ b ∷ []) s (sym e) i) (np b s refl)) in
-    uncompleted o ps (f ++ b ∷ []) s (some_more f b) (subst NoneAhead (sym e) none) (λ c t i. long_no_pair f b c n)
+    uncompleted o ps (f ++ b ∷ []) s (some_more f b) (subst NoneAhead (sym e) none) (λ c t i.
+    long_no_pair f b c n)
     (longer o ps f b s (is_front (f ++ b ∷ [])) w refl k.0 k.1)
 
 -- where neither a unit nor an end of the text comes first, it cannot be lent
-no_unit : (o : Opener) (ps : List Piece) (a : ℕ) (s : List ℕ) → NoUnitAhead (a ∷ s) → ends_osc (class_of a) ≡ false → NoPair (a ∷ []) s
+no_unit : (o : Opener) (ps : List Piece) (a : ℕ) (s : List ℕ) → NoUnitAhead (a ∷ s)
+    → ends_osc (class_of a) ≡ false → NoPair (a ∷ []) s
     → lends (InOsc o ps) (a ∷ s) ≡ true → ⊥
 no_unit o ps a s stops ends np h =
     let k = lends_next (InOsc o ps) a s h in
     let lead : class_of a ≡ Lead = only_lead ps (class_of a) (no_text a stops.0) ends k.0 in
-    uncompleted o ps (a ∷ []) s refl stops.1 np (subst (λ c. lends (after_by (InOsc o ps) a c) s ≡ true) lead k.1)
+    uncompleted o ps (a ∷ []) s refl stops.1 np
+    (subst (λ c. lends (after_by (InOsc o ps) a c) s ≡ true) lead k.1)
 
 -- that no byte and no control after C2 ends where its run does
-module _ (o : Opener) (ps : List Piece) (rest : List ℕ) (n : ℕ) (run : IsTextRun (take n rest)) (room : n < length rest)
-    (stops : NoUnitAhead (drop n rest)) (c : Class) (e : c ≡ class_of (get_or rest n 0)) (ends : ends_osc c ≡ false)
-    (none : n + 1 < length rest → get_or rest n 0 ≡ 0xc2 → is_from 0x80 0x9f (get_or rest (n + 1) 0) ≡ false) where
+module _ (o : Opener) (ps : List Piece) (rest : List ℕ) (n : ℕ) (run : IsTextRun (take n rest))
+    (room : n < length rest)
+    (stops : NoUnitAhead (drop n rest)) (c : Class) (e : c ≡ class_of (get_or rest n 0))
+    (ends : ends_osc c ≡ false)
+    (none : n + 1 < length rest → get_or rest n 0 ≡ 0xc2
+    → is_from 0x80 0x9f (get_or rest (n + 1) 0) ≡ false) where
   tail : drop n rest ≡ get_or rest n 0 ∷ drop (n + 1) rest
   tail = drop_more rest n 0 room
 
   -- the byte after it
-  next_is : (b : ℕ) (t : List ℕ) → drop (n + 1) rest ≡ b ∷ t → (n + 1 < length rest) × (get_or rest (n + 1) 0 ≡ b)
+  next_is : (b : ℕ) (t : List ℕ) → drop (n + 1) rest ≡ b ∷ t → (n + 1 < length rest)
+      × (get_or rest (n + 1) 0 ≡ b)
   next_is b t i =
       let l : n + 1 < length rest = omega (arith, length-drop (n + 1) rest, ap length i) in
-      let k : get_or rest (n + 1) 0 ∷ drop (n + 1 + 1) rest ≡ b ∷ t = sym (drop_more rest (n + 1) 0 l) ∙ i in (l, cc)
+      let k : get_or rest (n + 1) 0 ∷ drop (n + 1 + 1) rest ≡ b ∷ t =
+      sym (drop_more rest (n + 1) 0 l) ∙ i in (l, cc)
 
   no_control : NoPair (get_or rest n 0 ∷ []) (drop (n + 1) rest)
   no_control b t i =
       no_if (is_pair (get_or rest n 0 ∷ b ∷ [])) (λ p.
       let k = pair_bytes (get_or rest n 0) b p in
-      let j = next_is b t i in not_both (is_from 0x80 0x9f b) k.1 (subst (λ x. is_from 0x80 0x9f x ≡ false) j.1 (none j.0 k.0)))
+      let j = next_is b t i in
+      not_both (is_from 0x80 0x9f b) k.1
+      (subst (λ x. is_from 0x80 0x9f x ≡ false) j.1 (none j.0 k.0)))
 
   pub unclosed : is_lendable (InOsc o ps) rest ≡ false
   unclosed =
       no_if (is_lendable (InOsc o ps) rest) (λ h.
       let l = (and_parts (is_empty (text_of ps)) (lends (InOsc o ps) rest) h).1 in
-      no_unit o (ps ++ run.0) (get_or rest n 0) (drop (n + 1) rest) (subst NoUnitAhead tail stops) (ap ends_osc (sym e) ∙ ends) no_control
+      no_unit o (ps ++ run.0) (get_or rest n 0) (drop (n + 1) rest) (subst NoUnitAhead tail stops)
+      (ap ends_osc (sym e) ∙ ends) no_control
       (subst (λ y. lends (InOsc o (ps ++ run.0)) y ≡ true) tail
-      (subst (λ w. lends w (drop n rest) ≡ true) (run.2 None o ps).0 (lends_behind (InOsc o ps) rest n l))))
+      (subst (λ w. lends w (drop n rest) ≡ true) (run.2 None o ps).0
+      (lends_behind (InOsc o ps) rest n l))))
 
 -- ---- an application program command
 
@@ -146,16 +167,21 @@ module _ (o : Opener) (d rest : List ℕ) (n : ℕ) (run : n ≡ prefix_len is_t
   pub apc_unended : length rest ≤ n → is_lendable (InApc o d) rest ≡ false
   apc_unended l =
       no_if (is_lendable (InApc o d) rest) (λ h.
-      let k : false ≡ true = lends_all (InApc o d) (InApc o (d ++ take n rest)) rest n apc_after (no_drop rest n l)
+      let k : false ≡ true =
+      lends_all (InApc o d) (InApc o (d ++ take n rest)) rest n apc_after (no_drop rest n l)
       (and_parts (is_empty (those is_text d)) (lends (InApc o d) rest) h).1 in cc)
 
   stop : n < length rest → is_text (class_of (get_or rest n 0)) ≡ false
   stop l =
       no_text (get_or rest n 0)
-      (ap (λ k. is_text_byte (get_or rest k 0)) run ∙ prefix_len_stops is_text_byte rest 0 (subst (λ k. k < length rest) run l))
+      (ap (λ k. is_text_byte (get_or rest k 0)) run ∙ prefix_len_stops is_text_byte rest 0
+      (subst (λ k. k < length rest) run l))
 
-  pub apc_unclosed : n < length rest → is_breaker (class_of (get_or rest n 0)) ≡ false → is_lendable (InApc o d) rest ≡ false
+  pub apc_unclosed : n < length rest → is_breaker (class_of (get_or rest n 0)) ≡ false
+      → is_lendable (InApc o d) rest ≡ false
   apc_unclosed l b =
       no_if (is_lendable (InApc o d) rest) (λ h.
-      let p = lends_at (InApc o d) (InApc o (d ++ take n rest)) rest n apc_after l (and_parts (is_empty (those is_text d)) (lends (InApc o d) rest) h).1 in
-      not_both (is_text (class_of (get_or rest n 0)) || is_breaker (class_of (get_or rest n 0))) p (rw (stop l, b) refl))
+      let p = lends_at (InApc o d) (InApc o (d ++ take n rest)) rest n apc_after l
+      (and_parts (is_empty (those is_text d)) (lends (InApc o d) rest) h).1 in
+      not_both (is_text (class_of (get_or rest n 0)) || is_breaker (class_of (get_or rest n 0))) p
+      (rw (stop l, b) refl))

@@ -51,98 +51,130 @@ not_both false h k = cc
 
 -- ---- after some bytes
 
-pub after_more : (u : Unfinished) (rest : List ℕ) (i n : ℕ) → after_all u (take (i + n) rest) ≡ after_all (after_all u (take i rest)) (take n (drop i rest))
-after_more u rest i n = ap (after_all u) (take-add i n rest) ∙ after_append u (take i rest) (take n (drop i rest))
+pub after_more : (u : Unfinished) (rest : List ℕ) (i n : ℕ)
+    → after_all u (take (i + n) rest) ≡ after_all (after_all u (take i rest)) (take n (drop i rest))
+after_more u rest i n =
+    ap (after_all u) (take-add i n rest) ∙ after_append u (take i rest) (take n (drop i rest))
 
-pub passes_append : (u : Unfinished) (xs ys : List ℕ) → all_pass u (xs ++ ys) ≡ (all_pass u xs && all_pass (after_all u xs) ys)
+pub passes_append : (u : Unfinished) (xs ys : List ℕ)
+    → all_pass u (xs ++ ys) ≡ (all_pass u xs && all_pass (after_all u xs) ys)
 passes_append u [] ys = refl
 passes_append u (x ∷ xs) ys =
     let v : Unfinished = after_by u x (class_of x) in
-    ap (λ t. passes u x (class_of x) && t) (passes_append v xs ys) ∙ and_assoc (passes u x (class_of x)) (all_pass v xs) (all_pass (after_all v xs) ys)
+    ap (λ t. passes u x (class_of x) && t) (passes_append v xs ys)
+    ∙ and_assoc (passes u x (class_of x)) (all_pass v xs) (all_pass (after_all v xs) ys)
 
-pub lends_behind : (u : Unfinished) (rest : List ℕ) (n : ℕ) → lends u rest ≡ true → lends (after_all u (take n rest)) (drop n rest) ≡ true
+pub lends_behind : (u : Unfinished) (rest : List ℕ) (n : ℕ) → lends u rest ≡ true
+    → lends (after_all u (take n rest)) (drop n rest) ≡ true
 lends_behind u rest n h =
     let xs : List ℕ = take n rest in
     let ys : List ℕ = drop n rest in
     let e : xs ++ ys ≡ rest = take-append-drop n rest in
     let k = and_parts (all_pass u rest) (is_ground (after_all u rest)) h in
-    let p : (all_pass u xs && all_pass (after_all u xs) ys) ≡ true = sym (passes_append u xs ys) ∙ ap (all_pass u) e ∙ k.0 in
-    let g : is_ground (after_all (after_all u xs) ys) ≡ true = ap is_ground (sym (after_append u xs ys) ∙ ap (after_all u) e) ∙ k.1 in
-    both (all_pass (after_all u xs) ys) (is_ground (after_all (after_all u xs) ys)) (and_parts (all_pass u xs) (all_pass (after_all u xs) ys) p).1 g
+    let p : (all_pass u xs && all_pass (after_all u xs) ys) ≡ true =
+    sym (passes_append u xs ys) ∙ ap (all_pass u) e ∙ k.0 in
+    let g : is_ground (after_all (after_all u xs) ys) ≡ true =
+    ap is_ground (sym (after_append u xs ys) ∙ ap (after_all u) e) ∙ k.1 in
+    both (all_pass (after_all u xs) ys) (is_ground (after_all (after_all u xs) ys))
+    (and_parts (all_pass u xs) (all_pass (after_all u xs) ys) p).1 g
 
 -- the next byte passes
-lends_first : (v : Unfinished) (b : ℕ) (bs : List ℕ) → lends v (b ∷ bs) ≡ true → passes v b (class_of b) ≡ true
+lends_first : (v : Unfinished) (b : ℕ) (bs : List ℕ) → lends v (b ∷ bs) ≡ true
+    → passes v b (class_of b) ≡ true
 lends_first v b bs h =
-    (and_parts (passes v b (class_of b)) (all_pass (after_by v b (class_of b)) bs) (and_parts (all_pass v (b ∷ bs)) (is_ground (after_all v (b ∷ bs))) h).0).0
+    (and_parts (passes v b (class_of b)) (all_pass (after_by v b (class_of b)) bs)
+    (and_parts (all_pass v (b ∷ bs)) (is_ground (after_all v (b ∷ bs))) h).0).0
 
-pub lends_at : (u v : Unfinished) (rest : List ℕ) (n : ℕ) → after_all u (take n rest) ≡ v → n < length rest → lends u rest ≡ true
+pub lends_at : (u v : Unfinished) (rest : List ℕ) (n : ℕ) → after_all u (take n rest) ≡ v
+    → n < length rest → lends u rest ≡ true
     → passes v (get_or rest n 0) (class_of (get_or rest n 0)) ≡ true
 lends_at u v rest n e l h =
     lends_first v (get_or rest n 0) (drop (n + 1) rest)
-    (subst (λ y. lends v y ≡ true) (drop_more rest n 0 l) (subst (λ w. lends w (drop n rest) ≡ true) e (lends_behind u rest n h)))
+    (subst (λ y. lends v y ≡ true) (drop_more rest n 0 l)
+    (subst (λ w. lends w (drop n rest) ≡ true) e (lends_behind u rest n h)))
 
 -- and where no byte is left, nothing is unfinished
-pub lends_all : (u v : Unfinished) (rest : List ℕ) (n : ℕ) → after_all u (take n rest) ≡ v → drop n rest ≡ [] → lends u rest ≡ true → is_ground v ≡ true
+pub lends_all : (u v : Unfinished) (rest : List ℕ) (n : ℕ) → after_all u (take n rest) ≡ v
+    → drop n rest ≡ [] → lends u rest ≡ true → is_ground v ≡ true
 lends_all u v rest n e l h =
-    let k : lends v [] ≡ true = subst (λ y. lends v y ≡ true) l (subst (λ w. lends w (drop n rest) ≡ true) e (lends_behind u rest n h)) in
+    let k : lends v [] ≡ true =
+    subst (λ y. lends v y ≡ true) l
+    (subst (λ w. lends w (drop n rest) ≡ true) e (lends_behind u rest n h)) in
     (and_parts true (is_ground v) k).1
 
 -- ---- growing
 
-pub reaches_append : (u : Unfinished) (xs ys : List ℕ) → reaches_growing u (xs ++ ys) ≡ (reaches_growing u xs || reaches_growing (after_all u xs) ys)
+pub reaches_append : (u : Unfinished) (xs ys : List ℕ)
+    → reaches_growing u (xs ++ ys) ≡ (reaches_growing u xs || reaches_growing (after_all u xs) ys)
 reaches_append u [] ys = refl
 reaches_append u (x ∷ xs) ys =
     let v : Unfinished = after_by u x (class_of x) in
-    ap (λ t. may_grow_in u || t) (reaches_append v xs ys) ∙ or_assoc (may_grow_in u) (reaches_growing v xs) (reaches_growing (after_all v xs) ys)
+    ap (λ t. may_grow_in u || t) (reaches_append v xs ys)
+    ∙ or_assoc (may_grow_in u) (reaches_growing v xs) (reaches_growing (after_all v xs) ys)
 
-pub reaches_behind : (u : Unfinished) (rest : List ℕ) (n : ℕ) → reaches_growing (after_all u (take n rest)) (drop n rest) ≡ true
+pub reaches_behind : (u : Unfinished) (rest : List ℕ) (n : ℕ)
+    → reaches_growing (after_all u (take n rest)) (drop n rest) ≡ true
     → reaches_growing u rest ≡ true
 reaches_behind u rest n h =
-    ap (reaches_growing u) (sym (take-append-drop n rest)) ∙ reaches_append u (take n rest) (drop n rest)
-    ∙ or_right (reaches_growing u (take n rest)) (reaches_growing (after_all u (take n rest)) (drop n rest)) h
+    ap (reaches_growing u) (sym (take-append-drop n rest))
+    ∙ reaches_append u (take n rest) (drop n rest)
+    ∙ or_right (reaches_growing u (take n rest))
+    (reaches_growing (after_all u (take n rest)) (drop n rest)) h
 
-pub reaches_first : (u : Unfinished) (rest : List ℕ) → 0 < length rest → may_grow_in u ≡ true → reaches_growing u rest ≡ true
+pub reaches_first : (u : Unfinished) (rest : List ℕ) → 0 < length rest → may_grow_in u ≡ true
+    → reaches_growing u rest ≡ true
 reaches_first u [] l h = absurd (omega arith)
-reaches_first u (b ∷ bs) l h = or_left (may_grow_in u) (reaches_growing (after_by u b (class_of b)) bs) h
+reaches_first u (b ∷ bs) l h =
+    or_left (may_grow_in u) (reaches_growing (after_by u b (class_of b)) bs) h
 
 -- where the strings cannot all be lent
-pub grows_by : (u : Unfinished) (rest : List ℕ) → reaches_growing u rest ≡ true → is_lendable u rest ≡ false → may_grow_within u rest ≡ true
+pub grows_by : (u : Unfinished) (rest : List ℕ) → reaches_growing u rest ≡ true
+    → is_lendable u rest ≡ false → may_grow_within u rest ≡ true
 grows_by u rest h k = rw (h, k) refl
 
 -- the bytes after a prefix may make the machine's memory grow, so the bytes may
 pub grows_behind : (u : Unfinished) (rest : List ℕ) (n : ℕ) → StaysFresh u rest n
-    → may_grow_within (after_all u (take n rest)) (drop n rest) ≡ true → may_grow_within u rest ≡ true
+    → may_grow_within (after_all u (take n rest)) (drop n rest) ≡ true
+    → may_grow_within u rest ≡ true
 grows_behind u rest n f h =
     let v : Unfinished = after_all u (take n rest) in
     let ys : List ℕ = drop n rest in
     let k = and_parts (reaches_growing v ys) (not (is_lendable v ys)) h in
     grows_by u rest (reaches_behind u rest n k.0)
     (no_if (is_lendable u rest) (λ l. not_so (is_lendable v ys) k.1
-    (both (is_fresh v) (lends v ys) (f l) (lends_behind u rest n (and_parts (is_fresh u) (lends u rest) l).1))))
+    (both (is_fresh v) (lends v ys) (f l)
+    (lends_behind u rest n (and_parts (is_fresh u) (lends u rest) l).1))))
 
 -- ---- fresh
 
-pub unlent_fresh : (u : Unfinished) (rest : List ℕ) (n : ℕ) → is_lendable u rest ≡ false → StaysFresh u rest n
+pub unlent_fresh : (u : Unfinished) (rest : List ℕ) (n : ℕ) → is_lendable u rest ≡ false
+    → StaysFresh u rest n
 unlent_fresh u rest n h = λ l. absurd (not_both (is_lendable u rest) l h)
 
-pub fresh_more : (u : Unfinished) (rest : List ℕ) (i n : ℕ) → StaysFresh u rest i → StaysFresh (after_all u (take i rest)) (drop i rest) n
+pub fresh_more : (u : Unfinished) (rest : List ℕ) (i n : ℕ) → StaysFresh u rest i
+    → StaysFresh (after_all u (take i rest)) (drop i rest) n
     → StaysFresh u rest (i + n)
 fresh_more u rest i n f g = λ l.
     let v : Unfinished = after_all u (take i rest) in
-    let k = both (is_fresh v) (lends v (drop i rest)) (f l) (lends_behind u rest i (and_parts (is_fresh u) (lends u rest) l).1) in
+    let k = both (is_fresh v) (lends v (drop i rest)) (f l)
+    (lends_behind u rest i (and_parts (is_fresh u) (lends u rest) l).1) in
     ap is_fresh (after_more u rest i n) ∙ g k
 
 -- by what is unfinished after the bytes
 pub fresh_by : (u v : Unfinished) (rest : List ℕ) (n : ℕ) → after_all u (take n rest) ≡ v
     → (lends v (drop n rest) ≡ true → is_fresh v ≡ true) → StaysFresh u rest n
 fresh_by u v rest n e f = λ l.
-    ap is_fresh e ∙ f (subst (λ w. lends w (drop n rest) ≡ true) e (lends_behind u rest n (and_parts (is_fresh u) (lends u rest) l).1))
+    ap is_fresh e
+    ∙ f (subst (λ w. lends w (drop n rest) ≡ true) e
+    (lends_behind u rest n (and_parts (is_fresh u) (lends u rest) l).1))
 
-pub ground_fresh : (u : Unfinished) (rest : List ℕ) (n : ℕ) → after_all u (take n rest) ≡ Ground → StaysFresh u rest n
+pub ground_fresh : (u : Unfinished) (rest : List ℕ) (n : ℕ) → after_all u (take n rest) ≡ Ground
+    → StaysFresh u rest n
 ground_fresh u rest n e = λ l. ap is_fresh e
 
 -- what opens here is fresh, or cannot be lent
-pub opened_fresh : (k : Kind) (o : Opener) (rest : List ℕ) → lends (opened k o) rest ≡ true → is_fresh (opened k o) ≡ true
+pub opened_fresh : (k : Kind) (o : Opener) (rest : List ℕ) → lends (opened k o) rest ≡ true
+    → is_fresh (opened k o) ≡ true
 opened_fresh kind.Osc o rest h = refl
 opened_fresh kind.Apc o rest h = refl
 opened_fresh kind.Csi o rest h = refl
@@ -153,42 +185,53 @@ opened_fresh kind.Sos o (b ∷ bs) h = absurd cc
 opened_fresh kind.Pm o [] h = absurd cc
 opened_fresh kind.Pm o (b ∷ bs) h = absurd cc
 
-pub begun_fresh : (b : ℕ) (c : Class) (rest : List ℕ) → lends (ground_move b c).0 rest ≡ true → is_fresh (ground_move b c).0 ≡ true
+pub begun_fresh : (b : ℕ) (c : Class) (rest : List ℕ) → lends (ground_move b c).0 rest ≡ true
+    → is_fresh (ground_move b c).0 ≡ true
 begun_fresh b (RawOpens k) rest h = opened_fresh k Raw rest h
 begun_fresh b _ rest h = refl
 
-pub pair_fresh : (b : ℕ) (c : Class) (rest : List ℕ) → lends (pair_move b c).0 rest ≡ true → is_fresh (pair_move b c).0 ≡ true
+pub pair_fresh : (b : ℕ) (c : Class) (rest : List ℕ) → lends (pair_move b c).0 rest ≡ true
+    → is_fresh (pair_move b c).0 ≡ true
 pair_fresh b (RawOpens k) rest h = opened_fresh k Pair rest h
 pair_fresh b _ rest h = refl
 
-whole_fresh : (f : List ℕ) (b : ℕ) (c : Class) (rest : List ℕ) (t : Bool) → is_pair (f ++ b ∷ []) ≡ t
-    → lends (pending_move f b c outcomes.Whole).0 rest ≡ true → is_fresh (pending_move f b c outcomes.Whole).0 ≡ true
+whole_fresh : (f : List ℕ) (b : ℕ) (c : Class) (rest : List ℕ) (t : Bool)
+    → is_pair (f ++ b ∷ []) ≡ t
+    → lends (pending_move f b c outcomes.Whole).0 rest ≡ true
+    → is_fresh (pending_move f b c outcomes.Whole).0 ≡ true
 whole_fresh f b c rest true e = rw (e, pending_move) (λ h. pair_fresh b c rest h)
 whole_fresh f b c rest false e = rw (e, pending_move) (λ h. refl)
 
-pending_fresh : (f : List ℕ) (b : ℕ) (c : Class) (rest : List ℕ) (w : Outcome) → lends (pending_move f b c w).0 rest ≡ true
+pending_fresh : (f : List ℕ) (b : ℕ) (c : Class) (rest : List ℕ) (w : Outcome)
+    → lends (pending_move f b c w).0 rest ≡ true
     → is_fresh (pending_move f b c w).0 ≡ true
 pending_fresh f b c rest outcomes.Whole h = whole_fresh f b c rest (is_pair (f ++ b ∷ [])) refl h
 pending_fresh f b c rest outcomes.More h = refl
 pending_fresh f b c rest outcomes.Broken h = begun_fresh b c rest h
 
 opens_fresh : (x : List ℕ) (b : ℕ) (k : Kind) (rest : List ℕ) (t : Bool) → is_empty (strip x) ≡ t
-    → lends (final_escape x b (Opens k)).0 rest ≡ true → is_fresh (final_escape x b (Opens k)).0 ≡ true
+    → lends (final_escape x b (Opens k)).0 rest ≡ true
+    → is_fresh (final_escape x b (Opens k)).0 ≡ true
 opens_fresh x b k rest true e = rw (e, final_escape) (λ h. opened_fresh k (Long x) rest h)
 opens_fresh x b k rest false e = rw (e, final_escape) (λ h. refl)
 
-final_fresh : (x : List ℕ) (b : ℕ) (c : Class) (rest : List ℕ) → lends (final_escape x b c).0 rest ≡ true → is_fresh (final_escape x b c).0 ≡ true
+final_fresh : (x : List ℕ) (b : ℕ) (c : Class) (rest : List ℕ)
+    → lends (final_escape x b c).0 rest ≡ true → is_fresh (final_escape x b c).0 ≡ true
 final_fresh x b (Opens k) rest h = opens_fresh x b k rest (is_empty (strip x)) refl h
 final_fresh x b _ rest h = refl
 
-escape_fresh : (x : List ℕ) (b : ℕ) (c : Class) (rest : List ℕ) (t w : Bool) → is_breaker c ≡ t → in_escape c ≡ w
-    → lends (inside None (InEscape x) b c).0 rest ≡ true → is_fresh (inside None (InEscape x) b c).0 ≡ true
+escape_fresh : (x : List ℕ) (b : ℕ) (c : Class) (rest : List ℕ) (t w : Bool) → is_breaker c ≡ t
+    → in_escape c ≡ w
+    → lends (inside None (InEscape x) b c).0 rest ≡ true
+    → is_fresh (inside None (InEscape x) b c).0 ≡ true
 escape_fresh x b c rest true w e k = rw (e, inside) (λ h. begun_fresh b c rest h)
 escape_fresh x b c rest false true e k = rw (e, k, inside, goes_on) (λ h. refl)
 escape_fresh x b c rest false false e k = rw (e, k, inside, goes_on) (λ h. final_fresh x b c rest h)
 
-pub csi_fresh : (o : Opener) (x : List ℕ) (b : ℕ) (c : Class) (rest : List ℕ) (t w : Bool) → is_breaker c ≡ t → in_csi c ≡ w
-    → lends (inside None (InCsi o x) b c).0 rest ≡ true → is_fresh (inside None (InCsi o x) b c).0 ≡ true
+pub csi_fresh : (o : Opener) (x : List ℕ) (b : ℕ) (c : Class) (rest : List ℕ) (t w : Bool)
+    → is_breaker c ≡ t → in_csi c ≡ w
+    → lends (inside None (InCsi o x) b c).0 rest ≡ true
+    → is_fresh (inside None (InCsi o x) b c).0 ≡ true
 csi_fresh o x b c rest true w e k = rw (e, inside) (λ h. begun_fresh b c rest h)
 csi_fresh o x b c rest false true e k = rw (e, k, inside, goes_on) (λ h. refl)
 csi_fresh o x b c rest false false e k = rw (e, k, inside, goes_on) (λ h. refl)
@@ -206,14 +249,17 @@ one_fresh Ground (b ∷ bs) s l = begun_fresh b (class_of b) bs l
 one_fresh (Pending f) [] s l = refl
 one_fresh (Pending f) (b ∷ bs) s l = pending_fresh f b (class_of b) bs (outcome f b) l
 one_fresh (InEscape x) [] s l = refl
-one_fresh (InEscape x) (b ∷ bs) s l = escape_fresh x b (class_of b) bs (is_breaker (class_of b)) (in_escape (class_of b)) refl refl l
+one_fresh (InEscape x) (b ∷ bs) s l =
+    escape_fresh x b (class_of b) bs (is_breaker (class_of b)) (in_escape (class_of b)) refl refl l
 one_fresh (InCsi o x) [] s l = refl
-one_fresh (InCsi o x) (b ∷ bs) s l = csi_fresh o x b (class_of b) bs (is_breaker (class_of b)) (in_csi (class_of b)) refl refl l
+one_fresh (InCsi o x) (b ∷ bs) s l =
+    csi_fresh o x b (class_of b) bs (is_breaker (class_of b)) (in_csi (class_of b)) refl refl l
 one_fresh (InOsc o ps) rest s l = absurd cc
 one_fresh (InApc o d) rest s l = absurd cc
 one_fresh _ rest s l = absurd cc
 
-pub one_unlent : (u : Unfinished) (rest : List ℕ) → is_string u ≡ false → may_grow_in u ≡ true → is_lendable u rest ≡ false
+pub one_unlent : (u : Unfinished) (rest : List ℕ) → is_string u ≡ false → may_grow_in u ≡ true
+    → is_lendable u rest ≡ false
 one_unlent Ground rest s g = absurd cc
 one_unlent (Pending f) rest s g = absurd cc
 one_unlent (InEscape x) rest s g = absurd cc

@@ -1,4 +1,5 @@
--- What a byte does that breaks off a sequence or a string, or that is a character or a control in ground.
+-- What a byte does that breaks off a sequence or a string, or that is a character or a control in
+-- ground.
 use Rattle.std.proofs.Common.{ℕ, ◌≡◌, Bool, true, ◌||◌, List, [], ◌∷◌, Option, Result, if◌then◌else◌, refl, ap, sym, subst}
 use Rattle.esc_frame.specs.declared.classes.Class.{Class}
 use Rattle.esc_frame.specs.declared.classes.Class.TheVariants.{Plain, Bell, Cancel, RawControl}
@@ -14,14 +15,16 @@ use Rattle.esc_frame.proofs.Given.{hears_moved}
 
 module _ {K A S E : Type 0} (keeps : Option ℕ → K → List ℕ → Type 0) (denied : Option ℕ → Type 0)
     (limit : Option ℕ) (own : Bool) (takes refuses : S → Event → S → Type 0)
-    (result : Result (Unit {0}) E) (u : Unfinished) (b : ℕ) (class : Class) (m : Machine K A) (old new : S) (so : is_breaker class ≡ true) where
+    (result : Result (Unit {0}) E) (u : Unfinished) (b : ℕ) (class : Class) (m : Machine K A)
+    (old new : S) (so : is_breaker class ≡ true) where
   -- after what the string tells
   pub broken_told : Moved keeps denied limit own takes refuses result
       (telling (leaving limit u) (ground_move b class)) m old new
       → Moved keeps denied limit own takes refuses result (inside limit u b class) m old new
   broken_told h =
       subst (λ v. Moved keeps denied limit own takes refuses result v m old new)
-      (sym (ap (λ t. if t then telling (leaving limit u) (ground_move b class) else goes_on limit u b class) so)) h
+      (sym (ap (λ t. if t then telling (leaving limit u) (ground_move b class) else goes_on limit u
+      b class) so)) h
 
   -- where it tells nothing
   pub broken : leaving limit u ≡ []
@@ -33,11 +36,14 @@ module _ {K A S E : Type 0} (keeps : Option ℕ → K → List ℕ → Type 0) (
 
 -- ---- in ground
 
-text_move : (b : ℕ) (class : Class) → is_text class ≡ true → ground_move b class ≡ (Ground, Print b ∷ [])
+text_move : (b : ℕ) (class : Class) → is_text class ≡ true
+    → ground_move b class ≡ (Ground, Print b ∷ [])
 text_move b class h =
-    ap (λ t. if t then (Ground, Print b ∷ []) else if is_control class || is_raw_control class then (Ground, Execute b ∷ []) else begins b class) h
+    ap (λ t. if t then (Ground, Print b ∷ []) else if is_control class
+    || is_raw_control class then (Ground, Execute b ∷ []) else begins b class) h
 
-control_move : (b : ℕ) (class : Class) → (is_control class || is_raw_control class) ≡ true → ground_move b class ≡ (Ground, Execute b ∷ [])
+control_move : (b : ℕ) (class : Class) → (is_control class || is_raw_control class) ≡ true
+    → ground_move b class ≡ (Ground, Execute b ∷ [])
 control_move b Plain h = refl
 control_move b Bell h = refl
 control_move b Cancel h = refl
@@ -46,7 +52,8 @@ control_move b _ h = absurd cc
 
 module _ {K A S E : Type 0} (keeps : Option ℕ → K → List ℕ → Type 0) (denied : Option ℕ → Type 0)
     (limit : Option ℕ) (own : Bool) (takes refuses : S → Event → S → Type 0)
-    (result : Result (Unit {0}) E) (b : ℕ) (class : Class) (m : Machine K A) (old new : S) (so : Holds keeps limit m Ground) where
+    (result : Result (Unit {0}) E) (b : ℕ) (class : Class) (m : Machine K A) (old new : S)
+    (so : Holds keeps limit m Ground) where
   pub text_moved : is_text class ≡ true → Hears takes refuses result old (Print b) new
       → Moved keeps denied limit own takes refuses result (ground_move b class) m old new
   text_moved t h =
@@ -54,7 +61,8 @@ module _ {K A S E : Type 0} (keeps : Option ℕ → K → List ℕ → Type 0) (
       (sym (text_move b class t))
       (hears_moved keeps denied limit own takes refuses result Ground (Print b) m old new so h)
 
-  pub control_moved : (is_control class || is_raw_control class) ≡ true → Hears takes refuses result old (Execute b) new
+  pub control_moved : (is_control class || is_raw_control class) ≡ true
+      → Hears takes refuses result old (Execute b) new
       → Moved keeps denied limit own takes refuses result (ground_move b class) m old new
   control_moved t h =
       subst (λ v. Moved keeps denied limit own takes refuses result v m old new)

@@ -18,13 +18,15 @@ use Rattle.esc_frame.proofs.First.Found.{OneSegment, OscBehind}
 
 -- an OSC, or found whole
 abbrev pub OscOrWhole : Segment → Type 0
-OscOrWhole g = ((o : Opener) × (ps : List Piece) × (e : Ending) × (g ≡ Osc o ps e)) ⊎ ((r : List ℕ) → found g r ≡ OneSegment g)
+OscOrWhole g = ((o : Opener) × (ps : List Piece) × (e : Ending) × (g ≡ Osc o ps e))
+    ⊎ ((r : List ℕ) → found g r ≡ OneSegment g)
 
 osc_or_whole : (g : Segment) → OscOrWhole g
 osc_or_whole (Osc o ps e) = inl (o, ps, e, refl)
 osc_or_whole _ = inr (λ r. refl)
 
-may_end : (o : Opener) (ps : List Piece) (e : Ending) (r : List ℕ) → MayFollow (Osc o ps e) r → MayEnd e r
+may_end : (o : Opener) (ps : List Piece) (e : Ending) (r : List ℕ) → MayFollow (Osc o ps e) r
+    → MayEnd e r
 may_end o ps Open [] m = tt
 may_end o ps Open (b ∷ r) m = m
 may_end o ps Rung r m = tt
@@ -39,31 +41,41 @@ abbrev behind_in : Found → List ℕ
 behind_in (OscBehind o r) = r
 behind_in (OneSegment g) = []
 
-osc_same : (o u : Opener) (ps qs : List Piece) (e f : Ending) (r t : List ℕ) → HasShape (Osc o ps e) r → HasShape (Osc u qs f) t → MayFollow (Osc o ps e) r
-    → MayFollow (Osc u qs f) t → found (Osc o ps e) r ≡ found (Osc u qs f) t → Osc o ps e ≡ Osc u qs f
+osc_same : (o u : Opener) (ps qs : List Piece) (e f : Ending) (r t : List ℕ)
+    → HasShape (Osc o ps e) r → HasShape (Osc u qs f) t → MayFollow (Osc o ps e) r
+    → MayFollow (Osc u qs f) t → found (Osc o ps e) r ≡ found (Osc u qs f) t
+    → Osc o ps e ≡ Osc u qs f
 osc_same o u ps qs e f r t a b m n h =
-    let units = units_same ps qs e f r t a.1 b.1 a.2 b.2 (may_end o ps e r m) (may_end u qs f t n) (ap behind_in h) in
+    let units = units_same ps qs e f r t a.1 b.1 a.2 b.2 (may_end o ps e r m) (may_end u qs f t n)
+    (ap behind_in h) in
     let same : o ≡ u = ap opener_in h in
     let l = units.0 in
     let k = units.1 in cc
 
-segment_by : (g h : Segment) (r t : List ℕ) → HasShape g r → HasShape h t → MayFollow g r → MayFollow h t → found g r ≡ found h t → OscOrWhole g → OscOrWhole h
+segment_by : (g h : Segment) (r t : List ℕ) → HasShape g r → HasShape h t → MayFollow g r
+    → MayFollow h t → found g r ≡ found h t → OscOrWhole g → OscOrWhole h
     → g ≡ h
 segment_by g h r t a b m n e (inl (o, ps, x, i)) (inl (u, qs, y, j)) =
-    let P : Segment → Segment → Type 0 = λ g h. HasShape g r → HasShape h t → MayFollow g r → MayFollow h t → found g r ≡ found h t → g ≡ h in
-    subst (λ k. P k h) (sym i) (subst (λ k. P (Osc o ps x) k) (sym j) (osc_same o u ps qs x y r t)) a b m n e
+    let P : Segment → Segment → Type 0 = λ g h. HasShape g r → HasShape h t → MayFollow g r
+    → MayFollow h t → found g r ≡ found h t → g ≡ h in
+    subst (λ k. P k h) (sym i) (subst (λ k. P (Osc o ps x) k) (sym j) (osc_same o u ps qs x y r t))
+    a b m n e
 segment_by g h r t a b m n e (inl (o, ps, x, i)) (inr k) =
-    let p : OscBehind o (text_bytes ps ++ (ending_bytes x ++ r)) ≡ OneSegment h = ap (λ z. found z r) (sym i) ∙ e ∙ k t in absurd cc
+    let p : OscBehind o (text_bytes ps ++ (ending_bytes x ++ r)) ≡ OneSegment h =
+    ap (λ z. found z r) (sym i) ∙ e ∙ k t in absurd cc
 segment_by g h r t a b m n e (inr k) (inl (o, ps, x, i)) =
-    let p : OneSegment g ≡ OscBehind o (text_bytes ps ++ (ending_bytes x ++ t)) = sym (k r) ∙ e ∙ ap (λ z. found z t) i in absurd cc
-segment_by g h r t a b m n e (inr k) (inr l) = let p : OneSegment g ≡ OneSegment h = sym (k r) ∙ e ∙ l t in cc
+    let p : OneSegment g ≡ OscBehind o (text_bytes ps ++ (ending_bytes x ++ t)) =
+    sym (k r) ∙ e ∙ ap (λ z. found z t) i in absurd cc
+segment_by g h r t a b m n e (inr k) (inr l) = let p : OneSegment g ≡ OneSegment h =
+    sym (k r) ∙ e ∙ l t in cc
 
 pub finished_follows : (g : Segment) (t : List ℕ) → is_finished g t ≡ true → MayFollow g t
 finished_follows g [] h = tt
 finished_follows g (b ∷ r) h = h
 
 -- the parts of a cut
-pub head_of : (g : Segment) (gs : List Segment) → AreSegments (g ∷ gs) → HasShape g (joined gs) × MayFollow g (joined gs) × AreSegments gs
+pub head_of : (g : Segment) (gs : List Segment) → AreSegments (g ∷ gs) → HasShape g (joined gs)
+    × MayFollow g (joined gs) × AreSegments gs
 head_of g [] a = (a, tt, tt)
 head_of g (h ∷ gs) (s, f, r) = (s, finished_follows g (joined (h ∷ gs)) f, r)
 
@@ -84,23 +96,27 @@ has_byte (HighControl true b) r t s = refl
 has_byte (HighControl false b) r t s = refl
 has_byte (Terminator true b) r t s = refl
 has_byte (Terminator false b) r t s = refl
-has_byte (Csi o x f) r t s = ap is_cons (append_assoc (opener kind.Csi o ++ x) (f ∷ []) t) ∙ opener_cons kind.Csi o x (f ∷ t)
+has_byte (Csi o x f) r t s = ap is_cons (append_assoc (opener kind.Csi o ++ x) (f ∷ []) t)
+    ∙ opener_cons kind.Csi o x (f ∷ t)
 has_byte (CutCsi o x) r t s = opener_cons kind.Csi o x t
 has_byte (CutDcs o x) r t s = opener_cons kind.Dcs o x t
 has_byte (Apc o d) r t s = opener_cons kind.Apc o d t
 has_byte (Ignored k o d) r t s = opener_cons k o d t
 has_byte (Dcs o x f d) r t s =
-    ap is_cons (append_assoc (opener kind.Dcs o ++ x ++ f ∷ []) d t ∙ append_assoc (opener kind.Dcs o ++ x) (f ∷ []) (d ++ t))
+    ap is_cons (append_assoc (opener kind.Dcs o ++ x ++ f ∷ []) d t
+    ∙ append_assoc (opener kind.Dcs o ++ x) (f ∷ []) (d ++ t))
     ∙ opener_cons kind.Dcs o x (f ∷ (d ++ t))
 has_byte (Osc o ps e) r t s =
-    ap is_cons (append_assoc (opener kind.Osc o ++ text_bytes ps) (ending_bytes e) t) ∙ opener_cons kind.Osc o (text_bytes ps) (ending_bytes e ++ t)
+    ap is_cons (append_assoc (opener kind.Osc o ++ text_bytes ps) (ending_bytes e) t)
+    ∙ opener_cons kind.Osc o (text_bytes ps) (ending_bytes e ++ t)
 has_byte _ r t s = refl
 
 not_none : (g : Segment) (r t : List ℕ) → HasShape g r → [] ≡ bytes_of g ++ t → ⊥
 not_none g r t s e = let h : false ≡ true = ap is_cons e ∙ has_byte g r t s in cc
 
 -- the same bytes are the same segments
-pub one_list : (gs hs : List Segment) → AreSegments gs → AreSegments hs → joined gs ≡ joined hs → gs ≡ hs
+pub one_list : (gs hs : List Segment) → AreSegments gs → AreSegments hs → joined gs ≡ joined hs
+    → gs ≡ hs
 one_list [] [] a b e = refl
 one_list [] (h ∷ hs) a b e = absurd (not_none h (joined hs) (joined hs) (head_of h hs b).0 e)
 one_list (g ∷ gs) [] a b e = absurd (not_none g (joined gs) (joined gs) (head_of g gs a).0 (sym e))
@@ -108,8 +124,10 @@ one_list (g ∷ gs) (h ∷ hs) a b e =
     let p = head_of g gs a in
     let q = head_of h hs b in
     let same : g ≡ h = segment_by g h (joined gs) (joined hs) p.0 q.0 p.1 q.1
-    (sym (first_is g (joined gs) p.0 p.1) ∙ ap first e ∙ first_is h (joined hs) q.0 q.1) (osc_or_whole g) (osc_or_whole h) in
-    let rests : joined gs ≡ joined hs = append_cancel_left (bytes_of h) (joined gs) (joined hs) (ap (λ k. bytes_of k ++ joined gs) (sym same) ∙ e) in
+    (sym (first_is g (joined gs) p.0 p.1) ∙ ap first e ∙ first_is h (joined hs) q.0 q.1)
+    (osc_or_whole g) (osc_or_whole h) in
+    let rests : joined gs ≡ joined hs = append_cancel_left (bytes_of h) (joined gs) (joined hs)
+    (ap (λ k. bytes_of k ++ joined gs) (sym same) ∙ e) in
     ap (λ k. k ∷ gs) same ∙ ap (λ ks. h ∷ ks) (one_list gs hs p.2 q.2 rests)
 
 -- two cuts of one stream are one
@@ -117,5 +135,7 @@ pub one_cut : (s : List ℕ) (gs hs : List Segment) → IsCut s gs → IsCut s h
 one_cut s gs hs a b = one_list gs hs a.each b.each (sym a.whole ∙ b.whole)
 
 -- a stream tells one list of events
-pub events_once : (limit : Option ℕ) (s : List ℕ) (xs ys : List Event) → HasEventsWithin limit s xs → HasEventsWithin limit s ys → xs ≡ ys
-events_once limit s xs ys (gs, a, p) (hs, b, q) = p ∙ ap (events_of_cut_within limit) (one_cut s gs hs a b) ∙ sym q
+pub events_once : (limit : Option ℕ) (s : List ℕ) (xs ys : List Event) → HasEventsWithin limit s xs
+    → HasEventsWithin limit s ys → xs ≡ ys
+events_once limit s xs ys (gs, a, p) (hs, b, q) =
+    p ∙ ap (events_of_cut_within limit) (one_cut s gs hs a b) ∙ sym q

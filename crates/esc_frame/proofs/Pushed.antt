@@ -17,28 +17,39 @@ use Rattle.esc_frame.specs.Machine.Moves.{inside, goes_on}
 use Rattle.esc_frame.specs.Segments.{Opener, Piece, text_of, kept_of}
 use Rattle.esc_frame.specs.Segments.Piece.{One, Sequence}
 
-text_byte : (b : ℕ) (c : Class) → c ≡ class_of b → is_text c ≡ true → those is_text (b ∷ []) ≡ b ∷ []
+text_byte : (b : ℕ) (c : Class) → c ≡ class_of b → is_text c ≡ true
+    → those is_text (b ∷ []) ≡ b ∷ []
 text_byte b c e h = rw (subst (λ k. is_text k ≡ true) e h) refl
 
-text_one : (ps : List Piece) (b : ℕ) (c : Class) → c ≡ class_of b → is_text c ≡ true → text_of ps ++ b ∷ [] ≡ text_of (ps ++ One b ∷ [])
+text_one : (ps : List Piece) (b : ℕ) (c : Class) → c ≡ class_of b → is_text c ≡ true
+    → text_of ps ++ b ∷ [] ≡ text_of (ps ++ One b ∷ [])
 text_one ps b c e h =
-    sym (flat_map-append kept_of ps (One b ∷ []) ∙ ap (λ y. text_of ps ++ y) (append-nil (kept_of (One b)) ∙ text_byte b c e h))
+    sym (flat_map-append kept_of ps (One b ∷ [])
+    ∙ ap (λ y. text_of ps ++ y) (append-nil (kept_of (One b)) ∙ text_byte b c e h))
 
-pub text_sequence : (ps : List Piece) (x : List ℕ) → text_of ps ++ x ≡ text_of (ps ++ Sequence x ∷ [])
-text_sequence ps x = sym (flat_map-append kept_of ps (Sequence x ∷ []) ∙ ap (λ y. text_of ps ++ y) (append-nil x))
+pub text_sequence : (ps : List Piece) (x : List ℕ)
+    → text_of ps ++ x ≡ text_of (ps ++ Sequence x ∷ [])
+text_sequence ps x =
+    sym (flat_map-append kept_of ps (Sequence x ∷ []) ∙ ap (λ y. text_of ps ++ y) (append-nil x))
 
-apc_one : (d : List ℕ) (b : ℕ) (c : Class) → c ≡ class_of b → is_text c ≡ true → those is_text d ++ b ∷ [] ≡ those is_text (d ++ b ∷ [])
-apc_one d b c e h = sym (filter-append (λ b. is_text (class_of b)) d (b ∷ []) ∙ ap (λ y. those is_text d ++ y) (text_byte b c e h))
+apc_one : (d : List ℕ) (b : ℕ) (c : Class) → c ≡ class_of b → is_text c ≡ true
+    → those is_text d ++ b ∷ [] ≡ those is_text (d ++ b ∷ [])
+apc_one d b c e h =
+    sym (filter-append (λ b. is_text (class_of b)) d (b ∷ [])
+    ∙ ap (λ y. those is_text d ++ y) (text_byte b c e h))
 
 kept_in_body : (c : Class) → in_body c ≡ true → not (is_noise c) ≡ true
 kept_in_body Intermediate h = refl
 kept_in_body Parameter h = refl
 kept_in_body _ h = absurd cc
 
-strip_one : (x : List ℕ) (b : ℕ) (c : Class) → c ≡ class_of b → in_body c ≡ true → strip x ++ b ∷ [] ≡ strip (x ++ b ∷ [])
+strip_one : (x : List ℕ) (b : ℕ) (c : Class) → c ≡ class_of b → in_body c ≡ true
+    → strip x ++ b ∷ [] ≡ strip (x ++ b ∷ [])
 strip_one x b c e h =
-    let k : not (is_noise (class_of b)) ≡ true = subst (λ i. not (is_noise i) ≡ true) e (kept_in_body c h) in
-    sym (filter-append (λ b. not (is_noise (class_of b))) x (b ∷ []) ∙ ap (λ y. strip x ++ y) (rw k refl))
+    let k : not (is_noise (class_of b)) ≡ true =
+    subst (λ i. not (is_noise i) ≡ true) e (kept_in_body c h) in
+    sym (filter-append (λ b. not (is_noise (class_of b))) x (b ∷ [])
+    ∙ ap (λ y. strip x ++ y) (rw k refl))
 
 text_goes : (c : Class) → is_text c ≡ true → (is_breaker c ≡ false) × (in_osc c ≡ true)
 text_goes Intermediate h = (refl, refl)
@@ -59,7 +70,8 @@ module _ {K A S E : Type 0} (keeps : Option ℕ → K → List ℕ → Type 0) (
     (takes refuses : S → Event → S → Type 0) (result : Result (Unit {0}) E)
     (refused : OnErr result (denied limit))
     (m : Machine K A) (o : Opener) (b : ℕ) (c : Class) (old : S) (e : c ≡ class_of b) where
-  pub osc_pushed : (ps : List Piece) → is_text c ≡ true → m.state ≡ state.Osc → front_of m.pending ≡ []
+  pub osc_pushed : (ps : List Piece) → is_text c ≡ true → m.state ≡ state.Osc
+      → front_of m.pending ≡ []
       → OnOk result (keeps limit m.text (text_of ps ++ b ∷ []))
       → Moved keeps (Fails denied stops A) limit true takes refuses result
       (inside limit (InOsc o ps) b c) m old old
@@ -75,12 +87,14 @@ module _ {K A S E : Type 0} (keeps : Option ℕ → K → List ℕ → Type 0) (
           let t = text_goes c h in rw (t.0, t.1, inside, goes_on)
           ([], [], refl, inl ((refl, inl f), refl))
 
-  pub apc_pushed : (d : List ℕ) → is_text c ≡ true → m.state ≡ state.Apc → OnOk result (keeps limit m.text (those is_text d ++ b ∷ []))
+  pub apc_pushed : (d : List ℕ) → is_text c ≡ true → m.state ≡ state.Apc
+      → OnOk result (keeps limit m.text (those is_text d ++ b ∷ []))
       → Moved keeps (Fails denied stops A) limit true takes refuses result
       (inside limit (InApc o d) b c) m old old
   apc_pushed d h s k = by_result result k refused
     where
-      by_result : (r : Result (Unit {0}) E) → OnOk r (keeps limit m.text (those is_text d ++ b ∷ []))
+      by_result : (r : Result (Unit {0}) E)
+          → OnOk r (keeps limit m.text (those is_text d ++ b ∷ []))
           → OnErr r (denied limit) → Moved keeps (Fails denied stops A) limit true takes refuses r
           (inside limit (InApc o d) b c) m old old
       by_result (Ok v) k f =
@@ -90,19 +104,28 @@ module _ {K A S E : Type 0} (keeps : Option ℕ → K → List ℕ → Type 0) (
           let t = text_goes c h in rw (t.0, inside, goes_on)
           ([], [], refl, inl ((refl, inl f), refl))
 
-  pub dcs_pushed : (x : List ℕ) → in_body c ≡ true → m.state ≡ state.Dcs → KeepsDcs m.header (strip x ++ b ∷ [])
+  pub dcs_pushed : (x : List ℕ) → in_body c ≡ true → m.state ≡ state.Dcs
+      → KeepsDcs m.header (strip x ++ b ∷ [])
       → OnOk result (keeps limit m.text (parameters_of (strip x ++ b ∷ [])))
       → Moved keeps (Fails denied stops A) limit true takes refuses result
       (inside limit (InDcs o x) b c) m old old
   dcs_pushed x h s d k = by_result result k refused
     where
-      by_result : (r : Result (Unit {0}) E) → OnOk r (keeps limit m.text (parameters_of (strip x ++ b ∷ [])))
+      by_result : (r : Result (Unit {0}) E)
+          → OnOk r (keeps limit m.text (parameters_of (strip x ++ b ∷ [])))
           → OnErr r (denied limit) → Moved keeps (Fails denied stops A) limit true takes refuses r
           (inside limit (InDcs o x) b c) m old old
       by_result (Ok v) k f =
           let t = body_goes c h in
           let j = strip_one x b c e h in
-          rw (t.0, t.1, inside, goes_on) ((s, subst (λ y. keeps limit m.text (parameters_of y)) j k, subst (KeepsDcs m.header) j d), refl)
+          rw (t.0, t.1, inside, goes_on) (
+            (
+              s,
+              subst (λ y. keeps limit m.text (parameters_of y)) j k,
+              subst (KeepsDcs m.header) j d,
+            ),
+            refl,
+          )
       by_result (Err v) k f =
           let t = body_goes c h in rw (t.0, t.1, inside, goes_on)
           ([], [], refl, inl ((refl, inl f), refl))

@@ -18,38 +18,51 @@ use Rattle.esc_frame.proofs.Lends.{grows_by, reaches_behind, reaches_first}
 use Rattle.esc_frame.proofs.ManyBytes.{stop_within}
 
 -- no events leave the actor as it was
-pub quiet_folds : {S : Type 0} (takes : S → Event → S → Type 0) (es : List Event) (old : S) → es ≡ [] → FoldsTo takes old es old
+pub quiet_folds : {S : Type 0} (takes : S → Event → S → Type 0) (es : List Event) (old : S)
+    → es ≡ [] → FoldsTo takes old es old
 quiet_folds takes es old e = subst (λ xs. FoldsTo takes old xs old) (sym e) refl
 
 -- ---- a run that tells nothing, and the byte after it
 
-module _ {S : Type 0} (limit : Option ℕ) (takes refuses : S → Event → S → Type 0) (u v : Unfinished) (rest : List ℕ) (n : ℕ) (c : Class) (old new : S)
+module _ {S : Type 0} (limit : Option ℕ) (takes refuses : S → Event → S
+    → Type 0) (u v : Unfinished) (rest : List ℕ) (n : ℕ) (c : Class) (old new : S)
     (run : (after_all u (take n rest) ≡ v) × (news_all limit u (take n rest) ≡ []))
     (room : n < length rest) (e : c ≡ class_of (get_or rest n 0)) where
   pub quiet_after : after_all u (take (n + 1) rest) ≡ after_by v (get_or rest n 0) c
   quiet_after =
-      ap (after_all u) (take_more rest n 0 room) ∙ after_append u (take n rest) (get_or rest n 0 ∷ [])
-      ∙ ap (λ w. after_by w (get_or rest n 0) (class_of (get_or rest n 0))) run.0 ∙ ap (after_by v (get_or rest n 0)) (sym e)
+      ap (after_all u) (take_more rest n 0 room) ∙ after_append u (take n rest) (get_or rest n 0
+      ∷ [])
+      ∙ ap (λ w. after_by w (get_or rest n 0) (class_of (get_or rest n 0))) run.0
+      ∙ ap (after_by v (get_or rest n 0)) (sym e)
 
   pub quiet_news : news_all limit u (take (n + 1) rest) ≡ news_by limit v (get_or rest n 0) c
   quiet_news =
-      ap (news_all limit u) (take_more rest n 0 room) ∙ news_append limit u (take n rest) (get_or rest n 0 ∷ [])
-      ∙ ap (λ es. es ++ news_all limit (after_all u (take n rest)) (get_or rest n 0 ∷ [])) run.1 ∙ ap (λ w. news_all limit w (get_or rest n 0 ∷ [])) run.0
-      ∙ append-nil (news_by limit v (get_or rest n 0) (class_of (get_or rest n 0))) ∙ ap (news_by limit v (get_or rest n 0)) (sym e)
+      ap (news_all limit u) (take_more rest n 0 room)
+      ∙ news_append limit u (take n rest) (get_or rest n 0 ∷ [])
+      ∙ ap (λ es. es ++ news_all limit (after_all u (take n rest)) (get_or rest n 0 ∷ [])) run.1
+      ∙ ap (λ w. news_all limit w (get_or rest n 0 ∷ [])) run.0
+      ∙ append-nil (news_by limit v (get_or rest n 0) (class_of (get_or rest n 0)))
+      ∙ ap (news_by limit v (get_or rest n 0)) (sym e)
 
   quiet_grows : is_lendable u rest ≡ false → may_grow_in v ≡ true → may_grow_within u rest ≡ true
   quiet_grows k h =
       let some : 0 < length (drop n rest) = omega (arith, length-drop n rest) in
-      grows_by u rest (reaches_behind u rest n (ap (λ x. reaches_growing x (drop n rest)) run.0 ∙ reaches_first v (drop n rest) some h)) k
+      grows_by u rest (reaches_behind u rest n (ap (λ x. reaches_growing x (drop n rest)) run.0
+      ∙ reaches_first v (drop n rest) some h)) k
 
-  pub quiet_given : FoldsTo takes old (news_by limit v (get_or rest n 0) c) new → FoldsTo takes old (news_all limit u (take (n + 1) rest)) new
+  pub quiet_given : FoldsTo takes old (news_by limit v (get_or rest n 0) c) new
+      → FoldsTo takes old (news_all limit u (take (n + 1) rest)) new
   quiet_given h = subst (λ es. FoldsTo takes old es new) (sym quiet_news) h
 
-  pub quiet_took : {K A : Type 0} (keeps : Option ℕ → K → List ℕ → Type 0) (machine : Machine K A) → StaysFresh u rest (n + 1)
-      → Holds keeps limit machine (move limit v (get_or rest n 0) c).0 × FoldsTo takes old (move limit v (get_or rest n 0) c).1 new
-      → Holds keeps limit machine (after_all u (take (n + 1) rest)) × FoldsTo takes old (news_all limit u (take (n + 1) rest)) new × StaysFresh u rest (n + 1)
+  pub quiet_took : {K A : Type 0} (keeps : Option ℕ → K → List ℕ → Type 0) (machine : Machine K A)
+      → StaysFresh u rest (n + 1)
+      → Holds keeps limit machine (move limit v (get_or rest n 0) c).0
+      × FoldsTo takes old (move limit v (get_or rest n 0) c).1 new
+      → Holds keeps limit machine (after_all u (take (n + 1) rest))
+      × FoldsTo takes old (news_all limit u (take (n + 1) rest)) new × StaysFresh u rest (n + 1)
   quiet_took keeps machine fresh h = (
-    subst (λ w. Holds keeps limit machine w) (after_same limit v (get_or rest n 0) c ∙ sym quiet_after) h.0,
+    subst (λ w. Holds keeps limit machine w) (after_same limit v (get_or rest n 0) c
+        ∙ sym quiet_after) h.0,
     quiet_given h.1,
     fresh,
   )

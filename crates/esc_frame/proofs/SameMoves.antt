@@ -13,11 +13,13 @@ use Rattle.esc_frame.specs.Leads.Unfinished.{InEscape, InCsi, InOsc, InOscPendin
 use Rattle.esc_frame.specs.Machine.Moves.{move, inside, goes_on, final_osc, osc_pending_move, after_by}
 
 module _ (limit : Option ℕ) where
-  dcs_same : (o : Opener) (x : List ℕ) (b : ℕ) (c : Class) (w : Bool) → in_csi c ≡ w → (goes_on limit (InDcs o x) b c).0 ≡ (goes_on None (InDcs o x) b c).0
+  dcs_same : (o : Opener) (x : List ℕ) (b : ℕ) (c : Class) (w : Bool) → in_csi c ≡ w
+      → (goes_on limit (InDcs o x) b c).0 ≡ (goes_on None (InDcs o x) b c).0
   dcs_same o x b c true e = rw (e, goes_on) refl
   dcs_same o x b c false e = rw (e, goes_on) refl
 
-  final_same : (o : Opener) (ps : List Piece) (b : ℕ) (c : Class) → (final_osc limit o ps b c).0 ≡ (final_osc None o ps b c).0
+  final_same : (o : Opener) (ps : List Piece) (b : ℕ) (c : Class)
+      → (final_osc limit o ps b c).0 ≡ (final_osc None o ps b c).0
   final_same o ps b Lead = refl
   final_same o ps b _ = refl
 
@@ -26,20 +28,25 @@ module _ (limit : Option ℕ) where
   osc_same o ps b c true e = rw (e, goes_on) refl
   osc_same o ps b c false e = rw (e, goes_on) (final_same o ps b c)
 
-  goes_same : (u : Unfinished) (b : ℕ) (c : Class) → (goes_on limit u b c).0 ≡ (goes_on None u b c).0
+  goes_same : (u : Unfinished) (b : ℕ) (c : Class)
+      → (goes_on limit u b c).0 ≡ (goes_on None u b c).0
   goes_same (InDcs o x) b c = dcs_same o x b c (in_csi c) refl
   goes_same (InOsc o ps) b c = osc_same o ps b c (in_osc c) refl
   goes_same _ b c = refl
 
-  inside_by : (u : Unfinished) (b : ℕ) (c : Class) (t : Bool) → is_breaker c ≡ t → (inside limit u b c).0 ≡ (inside None u b c).0
+  inside_by : (u : Unfinished) (b : ℕ) (c : Class) (t : Bool) → is_breaker c ≡ t
+      → (inside limit u b c).0 ≡ (inside None u b c).0
   inside_by u b c true e = rw (e, inside) refl
   inside_by u b c false e = rw (e, inside) (goes_same u b c)
 
-  inside_same : (u : Unfinished) (b : ℕ) (c : Class) → (inside limit u b c).0 ≡ (inside None u b c).0
+  inside_same : (u : Unfinished) (b : ℕ) (c : Class)
+      → (inside limit u b c).0 ≡ (inside None u b c).0
   inside_same u b c = inside_by u b c (is_breaker c) refl
 
-  whole_same : (o : Opener) (ps : List Piece) (f : List ℕ) (b : ℕ) (c : Class) (t : Bool) → is_pair (f ++ b ∷ []) ≡ t
-      → (osc_pending_move limit o ps f b c outcomes.Whole).0 ≡ (osc_pending_move None o ps f b c outcomes.Whole).0
+  whole_same : (o : Opener) (ps : List Piece) (f : List ℕ) (b : ℕ) (c : Class) (t : Bool)
+      → is_pair (f ++ b ∷ []) ≡ t
+      → (osc_pending_move limit o ps f b c outcomes.Whole).0
+      ≡ (osc_pending_move None o ps f b c outcomes.Whole).0
   whole_same o ps f b c true e = rw (e, osc_pending_move) refl
   whole_same o ps f b c false e = rw (e, osc_pending_move) refl
 

@@ -21,12 +21,15 @@ use Rattle.esc_frame.proofs.Streams.{says_segments}
 use Rattle.esc_frame.proofs.Characters.{spells_clear, clear_cases}
 
 pub says_by : (t u : List ℕ) (es fs : List Event) → t ≡ u → es ≡ fs → Says t es → Says u fs
-says_by t u es fs e f h rest = ap (λ x. events (x ++ rest)) (sym e) ∙ h rest ∙ ap (λ x. x ++ events rest) f
+says_by t u es fs e f h rest =
+    ap (λ x. events (x ++ rest)) (sym e) ∙ h rest ∙ ap (λ x. x ++ events rest) f
 
 -- one segment
-pub says_one : (g : Segment) → ((rest : List ℕ) → HasShape g rest × (is_finished g rest ≡ true)) → Says (bytes_of g) (events_of g true)
+pub says_one : (g : Segment) → ((rest : List ℕ) → HasShape g rest × (is_finished g rest ≡ true))
+    → Says (bytes_of g) (events_of g true)
 says_one g h =
-    says_by (joined (g ∷ [])) (bytes_of g) (finished_events (g ∷ [])) (events_of g true) (append-nil (bytes_of g)) (append-nil (events_of g true))
+    says_by (joined (g ∷ [])) (bytes_of g) (finished_events (g ∷ [])) (events_of g true)
+    (append-nil (bytes_of g)) (append-nil (events_of g true))
     (says_segments (g ∷ []) (λ rest. ((h rest).0, (h rest).1, tt)))
 
 -- ASCII text
@@ -36,20 +39,25 @@ text_from c l h = grind (arith, nat_tests)
 
 pub says_print : (c : ℕ) → is_clear c ≡ true → Says (encode_utf8 c) (Print c ∷ [])
 says_print c h = let q = clear_cases c h in elim q.1 [
-  | inl l ↦ let t = text_from c l.0 l.1 in says_by (c ∷ []) (encode_utf8 c) (Print c ∷ []) (Print c ∷ []) (sym (encode_ascii c l.1)) refl
+  | inl l ↦ let t = text_from c l.0 l.1 in
+      says_by (c ∷ []) (encode_utf8 c) (Print c ∷ []) (Print c ∷ []) (sym (encode_ascii c l.1)) refl
       (says_one (Character c) (λ rest. (t, refl)))
-  | inr l ↦ let w = spells_clear c q.0 l in says_by (encode_utf8 c) (encode_utf8 c) (events_of (Wide (encode_utf8 c)) true) (Print c ∷ []) refl
+  | inr l ↦ let w = spells_clear c q.0 l in
+      says_by (encode_utf8 c) (encode_utf8 c) (events_of (Wide (encode_utf8 c)) true) (Print c ∷ [])
+      refl
       (ap (λ n. Print n ∷ []) w.2) (says_one (Wide (encode_utf8 c)) (λ rest. ((w.0, w.1), refl)))
 ]
 
 pub says_control : (b : ℕ) → is_control (class_of b) ≡ true → Says (b ∷ []) (Execute b ∷ [])
 says_control b h = says_one (Control b) (λ rest. (h, refl))
 
-pub says_high_control : (b : ℕ) → is_raw_control (class_of b) ≡ true → Says (0xc2 ∷ b ∷ []) (Execute b ∷ [])
+pub says_high_control : (b : ℕ) → is_raw_control (class_of b) ≡ true
+    → Says (0xc2 ∷ b ∷ []) (Execute b ∷ [])
 says_high_control b h = says_one (HighControl true b) (λ rest. (h, refl))
 
 -- what is finished by itself is so whatever follows
-head_same : (f t x y : List ℕ) → is_broken_before f (t ++ 0x07 ∷ x) ≡ true → is_broken_before f (t ++ 0x07 ∷ y) ≡ true
+head_same : (f t x y : List ℕ) → is_broken_before f (t ++ 0x07 ∷ x) ≡ true
+    → is_broken_before f (t ++ 0x07 ∷ y) ≡ true
 head_same f [] x y h = h
 head_same f (b ∷ t) x y h = h
 
@@ -62,7 +70,8 @@ pieces_anyway : (ps : List Piece) (x y : List ℕ) → ArePieces ps (0x07 ∷ x)
 pieces_anyway [] x y h = tt
 pieces_anyway (p ∷ ps) x y h = (piece_anyway p (text_bytes ps) x y h.0, pieces_anyway ps x y h.1)
 
-itself : (g : Segment) (rest : List ℕ) → ends_itself g ≡ true → HasShape g [] → HasShape g rest × (is_finished g rest ≡ true)
+itself : (g : Segment) (rest : List ℕ) → ends_itself g ≡ true → HasShape g [] → HasShape g rest
+    × (is_finished g rest ≡ true)
 itself (Osc o ps Rung) rest e h = ((h.0, pieces_anyway ps [] rest h.1, h.2), refl)
 itself (Osc o ps Open) rest e h = absurd cc
 itself (Osc o ps (Waits f)) rest e h = absurd cc
@@ -76,4 +85,6 @@ itself (Ignored k o d) rest e h = absurd cc
 itself _ rest e h = (h, refl)
 
 pub says_itself : (t : List ℕ) (es : List Event) → IsOneSegment t es → Says t es
-says_itself t es (g, bytes, ends, shape, told) = says_by (bytes_of g) t (events_of g true) es bytes told (says_one g (λ rest. itself g rest ends shape))
+says_itself t es (g, bytes, ends, shape, told) =
+    says_by (bytes_of g) t (events_of g true) es bytes told
+    (says_one g (λ rest. itself g rest ends shape))

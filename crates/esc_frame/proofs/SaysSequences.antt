@@ -19,13 +19,16 @@ use Rattle.esc_frame.specs.Stream.{Says}
 use Rattle.esc_frame.proofs.Says.{says_by, says_one}
 
 -- a test that another implies, byte by byte
-pub all_by : (p q : Class → Bool) → ((c : Class) → p c ≡ true → q c ≡ true) → (x : List ℕ) → AllOf p x → AllOf q x
+pub all_by : (p q : Class → Bool) → ((c : Class) → p c ≡ true → q c ≡ true) → (x : List ℕ)
+    → AllOf p x → AllOf q x
 all_by p q f [] h = refl
-all_by p q f (b ∷ x) h = let w = and_parts (p (class_of b)) (list_all (λ b. p (class_of b)) x) h in rw (f (class_of b) w.0, all_by p q f x w.1) refl
+all_by p q f (b ∷ x) h = let w = and_parts (p (class_of b)) (list_all (λ b. p (class_of b)) x) h in
+    rw (f (class_of b) w.0, all_by p q f x w.1) refl
 
 pub all_those : (p : Class → Bool) (x : List ℕ) → AllOf p x → those p x ≡ x
 all_those p [] h = refl
-all_those p (b ∷ x) h = let w = and_parts (p (class_of b)) (list_all (λ b. p (class_of b)) x) h in rw w.0 (ap (λ y. b ∷ y) (all_those p x w.1))
+all_those p (b ∷ x) h = let w = and_parts (p (class_of b)) (list_all (λ b. p (class_of b)) x) h in
+    rw w.0 (ap (λ y. b ∷ y) (all_those p x w.1))
 
 -- bytes 20-3F, of which none is noise and none a control
 body_csi : (c : Class) → in_body c ≡ true → in_csi c ≡ true
@@ -47,12 +50,14 @@ pub body_in : (x : List ℕ) → AllOf in_body x → AllOf in_csi x
 body_in x h = all_by in_body in_csi body_csi x h
 
 pub body_strip : (x : List ℕ) → AllOf in_body x → strip x ≡ x
-body_strip x h = all_those (λ c. not (is_noise c)) x (all_by in_body (λ c. not (is_noise c)) body_kept x h)
+body_strip x h =
+    all_those (λ c. not (is_noise c)) x (all_by in_body (λ c. not (is_noise c)) body_kept x h)
 
 body_executes : (x : List ℕ) → AllOf in_body x → executes x ≡ []
 body_executes [] h = refl
 body_executes (b ∷ x) h =
-    let w = and_parts (in_body (class_of b)) (list_all (λ b. in_body (class_of b)) x) h in rw (body_silent (class_of b) w.0) (body_executes x w.1)
+    let w = and_parts (in_body (class_of b)) (list_all (λ b. in_body (class_of b)) x) h in
+    rw (body_silent (class_of b) w.0) (body_executes x w.1)
 
 intermediate_body : (c : Class) → is_intermediate c ≡ true → in_body c ≡ true
 intermediate_body Intermediate h = refl
@@ -63,16 +68,21 @@ intermediate_escape Intermediate h = refl
 intermediate_escape _ h = absurd cc
 
 -- an escape sequence of intermediates and a final byte that opens nothing
-pub says_escape : (x : List ℕ) (f : ℕ) → AllOf is_intermediate x → ends_escape (class_of f) ≡ true → (is_empty x && opens (class_of f)) ≡ false
-    → Says ((0x1b ∷ x) ++ f ∷ []) (EscDispatch (kept_intermediates x) (has_more_intermediates x) f ∷ [])
+pub says_escape : (x : List ℕ) (f : ℕ) → AllOf is_intermediate x → ends_escape (class_of f) ≡ true
+    → (is_empty x && opens (class_of f)) ≡ false
+    → Says ((0x1b ∷ x) ++ f ∷ []) (EscDispatch (kept_intermediates x) (has_more_intermediates x) f
+    ∷ [])
 says_escape x f hx hf ho =
     let body = all_by is_intermediate in_body intermediate_body x hx in
     let kept = body_strip x body in
     says_by ((0x1b ∷ x) ++ f ∷ []) ((0x1b ∷ x) ++ f ∷ []) (events_of (EscapeOf x f) true)
-    (EscDispatch (kept_intermediates x) (has_more_intermediates x) f ∷ []) refl (rw (body_executes x body, kept) refl)
-    (says_one (EscapeOf x f) (λ rest. ((all_by is_intermediate in_escape intermediate_escape x hx, hf, rw kept ho), refl)))
+    (EscDispatch (kept_intermediates x) (has_more_intermediates x) f ∷ []) refl
+    (rw (body_executes x body, kept) refl)
+    (says_one (EscapeOf x f) (λ rest.
+    ((all_by is_intermediate in_escape intermediate_escape x hx, hf, rw kept ho), refl)))
 
-csi_dispatched : (x : List ℕ) (f : ℕ) (t : Bool) → t ≡ true → (if t then csi_event x f ∷ [] else []) ≡ csi_event x f ∷ []
+csi_dispatched : (x : List ℕ) (f : ℕ) (t : Bool) → t ≡ true
+    → (if t then csi_event x f ∷ [] else []) ≡ csi_event x f ∷ []
 csi_dispatched x f true e = refl
 csi_dispatched x f false e = absurd cc
 
@@ -83,18 +93,27 @@ body_class b h = grind (arith, nat_tests)
 
 pub body_of : (x : List ℕ) → list_all is_body_byte x ≡ true → AllOf in_body x
 body_of [] h = refl
-body_of (b ∷ x) h = let w = and_parts (is_body_byte b) (list_all is_body_byte x) h in rw (body_class b w.0, body_of x w.1) refl
+body_of (b ∷ x) h = let w = and_parts (is_body_byte b) (list_all is_body_byte x) h in
+    rw (body_class b w.0, body_of x w.1) refl
 
 -- a control sequence with a body of its form is one segment
-pub one_csi : (x : List ℕ) (f : ℕ) → AllOf in_body x → is_csi_body x ≡ true → ends_csi (class_of f) ≡ true
+pub one_csi : (x : List ℕ) (f : ℕ) → AllOf in_body x → is_csi_body x ≡ true
+    → ends_csi (class_of f) ≡ true
     → IsOneSegment ((0x1b ∷ 0x5b ∷ x) ++ f ∷ []) (csi_event x f ∷ [])
-one_csi x f hx hb hf =
-    (Csi (Long []) x f, refl, refl, (refl, body_in x hx, hf), rw (body_executes x hx, body_strip x hx) (csi_dispatched x f (is_csi_body x) hb))
+one_csi x f hx hb hf = (
+  Csi (Long []) x f,
+  refl,
+  refl,
+  (refl, body_in x hx, hf),
+  rw (body_executes x hx, body_strip x hx) (csi_dispatched x f (is_csi_body x) hb),
+)
 
 -- and says what this body dispatches
-pub says_csi : (x : List ℕ) (f : ℕ) → AllOf in_body x → is_csi_body x ≡ true → ends_csi (class_of f) ≡ true
+pub says_csi : (x : List ℕ) (f : ℕ) → AllOf in_body x → is_csi_body x ≡ true
+    → ends_csi (class_of f) ≡ true
     → Says ((0x1b ∷ 0x5b ∷ x) ++ f ∷ []) (csi_event x f ∷ [])
 says_csi x f hx hb hf =
-    says_by (bytes_of (Csi (Long []) x f)) ((0x1b ∷ 0x5b ∷ x) ++ f ∷ []) (events_of (Csi (Long []) x f) true) (csi_event x f ∷ []) refl
+    says_by (bytes_of (Csi (Long []) x f)) ((0x1b ∷ 0x5b ∷ x) ++ f ∷ [])
+    (events_of (Csi (Long []) x f) true) (csi_event x f ∷ []) refl
     (rw (body_executes x hx, body_strip x hx) (csi_dispatched x f (is_csi_body x) hb))
     (says_one (Csi (Long []) x f) (λ rest. ((refl, body_in x hx, hf), refl)))

@@ -26,20 +26,27 @@ use Rattle.esc_frame.proofs.Given.{refused_stops, stops_for}
 use Rattle.esc_frame.proofs.Streams.{news_append}
 use Rattle.esc_frame.proofs.Still.{opened_still, body_still}
 
-module _ (limit : Option ℕ) (rest : List ℕ) (run : ℕ) (items : List CsiParam) (some : 2 < length rest) (e : get_or rest 0 0 ≡ 0x1b) (b : get_or rest 1 0 ≡ 0x5b)
-    (room : run + 2 < length rest) (read : IsShort items (take run (drop 2 rest))) (final : is_from 0x40 0x7e (get_or rest (run + 2) 0) ≡ true) where
+module _ (limit : Option ℕ) (rest : List ℕ) (run : ℕ) (items : List CsiParam) (some : 2
+    < length rest) (e : get_or rest 0 0 ≡ 0x1b) (b : get_or rest 1 0 ≡ 0x5b)
+    (room : run + 2 < length rest) (read : IsShort items (take run (drop 2 rest)))
+    (final : is_from 0x40 0x7e (get_or rest (run + 2) 0) ≡ true) where
   abbrev body : List ℕ
   body = take run (drop 2 rest)
 
   -- the opener and the body
-  short_run : (after_all Ground (take (run + 2) rest) ≡ InCsi (Long []) body) × (news_all limit Ground (take (run + 2) rest) ≡ [])
+  short_run : (after_all Ground (take (run + 2) rest) ≡ InCsi (Long []) body)
+      × (news_all limit Ground (take (run + 2) rest) ≡ [])
   short_run =
       let begin = csi_opens limit rest (omega arith) e b in
       let q = body_quiet limit (Long []) [] body read.body in
       let back : run + 2 ≡ 2 + run = omega arith in (
-        ap (λ n. after_all Ground (take n rest)) back ∙ after_more Ground rest 2 run ∙ ap (λ u. after_all u body) begin.0 ∙ q.0,
-        ap (λ n. news_all limit Ground (take n rest)) back ∙ ap (news_all limit Ground) (take-add 2 run rest) ∙ news_append limit Ground (take 2 rest) body ∙ ap
-            (λ es. es ++ news_all limit (after_all Ground (take 2 rest)) body) begin.1 ∙ ap (λ u. news_all limit u body) begin.0 ∙ q.1,
+        ap (λ n. after_all Ground (take n rest)) back ∙ after_more Ground rest 2 run
+            ∙ ap (λ u. after_all u body) begin.0 ∙ q.0,
+        ap (λ n. news_all limit Ground (take n rest)) back
+            ∙ ap (news_all limit Ground) (take-add 2 run rest)
+            ∙ news_append limit Ground (take 2 rest) body ∙ ap
+            (λ es. es ++ news_all limit (after_all Ground (take 2 rest)) body) begin.1
+            ∙ ap (λ u. news_all limit u body) begin.0 ∙ q.1,
       )
 
   low : 0x40 ≤ get_or rest (run + 2) 0
@@ -54,35 +61,42 @@ module _ (limit : Option ℕ) (rest : List ℕ) (run : ℕ) (items : List CsiPar
   pub short_after : after_all Ground (take (run + 3) rest) ≡ Ground
   short_after =
       ap (λ n. after_all Ground (take n rest)) three
-      ∙ quiet_after {S = Unit {0}} limit (λ _ _ _. Unit {0}) (λ _ _ _. Unit {0}) Ground (InCsi (Long []) body) rest (run + 2) _ tt tt short_run room refl
+      ∙ quiet_after {S = Unit {0}} limit (λ _ _ _. Unit {0}) (λ _ _ _.
+      Unit {0}) Ground (InCsi (Long []) body) rest (run + 2) _ tt tt short_run room refl
       ∙ ap (λ m. m.0) (final_by limit (Long []) body (get_or rest (run + 2) 0) low high)
 
   -- the event
-  short_event : (inside limit (InCsi (Long []) body) (get_or rest (run + 2) 0) (class_of (get_or rest (run + 2) 0))).1
+  short_event : (inside limit (InCsi (Long []) body) (get_or rest (run + 2) 0)
+      (class_of (get_or rest (run + 2) 0))).1
       ≡ CsiDispatch items false (get_or rest (run + 2) 0) ∷ []
   short_event =
       ap (λ m. m.1) (final_by limit (Long []) body (get_or rest (run + 2) 0) low high)
       ∙ ap (λ x. csi_events x (get_or rest (run + 2) 0)) (body_strip [] body read.body)
       ∙ rw (read.form, sym read.kept, sym read.more) refl
 
-  pub short_given : {S : Type 0} (takes refuses : S → Event → S → Type 0) (old new : S) → takes old (CsiDispatch items false (get_or rest (run + 2) 0)) new
+  pub short_given : {S : Type 0} (takes refuses : S → Event → S → Type 0) (old new : S)
+      → takes old (CsiDispatch items false (get_or rest (run + 2) 0)) new
       → FoldsTo takes old (news_all limit Ground (take (run + 3) rest)) new
   short_given takes refuses old new h =
       subst (λ n. FoldsTo takes old (news_all limit Ground (take n rest)) new) (sym three)
-      (quiet_given limit takes refuses Ground (InCsi (Long []) body) rest (run + 2) _ old new short_run room refl
+      (quiet_given limit takes refuses Ground (InCsi (Long []) body) rest (run + 2) _ old new
+      short_run room refl
       (subst (λ es. FoldsTo takes old es new) (sym short_event) (new, h, refl)))
 
-  pub short_stops : {S : Type 0} (takes refuses : S → Event → S → Type 0) (old new : S) → refuses old (CsiDispatch items false (get_or rest (run + 2) 0)) new
+  pub short_stops : {S : Type 0} (takes refuses : S → Event → S → Type 0) (old new : S)
+      → refuses old (CsiDispatch items false (get_or rest (run + 2) 0)) new
       → StopsAt ⊥ takes refuses old (news_all limit Ground rest) new
   short_stops takes refuses old new h =
       quiet_stopped limit takes refuses Ground (InCsi (Long []) body) rest (run + 2)
       _ old new short_run room refl ⊥
-      (subst (λ es. StopsAt ⊥ takes refuses old es new) (sym short_event) (refused_stops ⊥ takes refuses old new _ h))
+      (subst (λ es. StopsAt ⊥ takes refuses old es new) (sym short_event)
+      (refused_stops ⊥ takes refuses old new _ h))
 
   pub short_still : IsStill limit Ground rest (run + 3)
   short_still =
       let back : 2 + (run + 1) ≡ run + 3 = omega arith in
-      subst (IsStill limit Ground rest) back (opened_still limit (InCsi (Long []) []) rest some e (csi_opens limit rest (omega arith) e b) refl (run + 1)
+      subst (IsStill limit Ground rest) back (opened_still limit (InCsi (Long []) []) rest some e
+      (csi_opens limit rest (omega arith) e b) refl (run + 1)
       (body_still limit (Long []) [] (take (length rest - 2) (drop 2 rest)) run
       (subst (λ y. list_all is_body_byte (take run y) ≡ true) (sym (tail_is rest 2)) read.body)))
 

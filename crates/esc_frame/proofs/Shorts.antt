@@ -28,42 +28,55 @@ early_digit form.Parameters h = refl
 early_digit form.Intermediates h = absurd cc
 early_digit form.Malformed h = absurd cc
 
-number_entries : (x ys : List ℕ) → 0 < length ys → list_all is_digit ys ≡ true → number_of_run None x ≡ None
+number_entries : (x ys : List ℕ) → 0 < length ys → list_all is_digit ys ≡ true
+    → number_of_run None x ≡ None
     → entries (x ++ ys) ≡ entries x ++ Integer (pos (held (value_behind 0 ys))) ∷ []
 number_entries x ys some d none =
-    let before : entries x ≡ closed_of None x = halves None x ∙ ap (λ o. closed_of None x ++ shown o) none ∙ append-nil (closed_of None x) in
-    let value : number_of_run None (x ++ ys) ≡ Some (value_behind 0 ys) = digits_value x ys some d ∙ ap (λ o. Some (value_behind (number_at o) ys)) none in
-    halves None (x ++ ys) ∙ ap (λ c. c ++ shown (number_of_run None (x ++ ys))) (digits_entries x ys some d) ∙ ap (λ o. closed_of None x ++ shown o) value
+    let before : entries x ≡ closed_of None x =
+    halves None x ∙ ap (λ o. closed_of None x ++ shown o) none
+    ∙ append-nil (closed_of None x) in
+    let value : number_of_run None (x ++ ys) ≡ Some (value_behind 0 ys) =
+    digits_value x ys some d ∙ ap (λ o. Some (value_behind (number_at o) ys)) none in
+    halves None (x ++ ys) ∙ ap (λ c. c ++ shown (number_of_run None (x ++ ys)))
+    (digits_entries x ys some d) ∙ ap (λ o. closed_of None x ++ shown o) value
     ∙ ap (λ es. es ++ Integer (pos (held (value_behind 0 ys))) ∷ []) (sym before)
 
-pub number_behind : (items new : List CsiParam) (x ys : List ℕ) (n : ℕ) → 0 < length ys → list_all is_digit ys ≡ true → n ≡ held (value_behind 0 ys)
+pub number_behind : (items new : List CsiParam) (x ys : List ℕ) (n : ℕ) → 0 < length ys
+    → list_all is_digit ys ≡ true → n ≡ held (value_behind 0 ys)
     → new ≡ items ++ Integer (pos n) ∷ [] → IsFront items x → IsBehind new (x ++ ys)
 number_behind items new x ys n some d v e f = record {
   all =
-      e ∙ ap (λ m. items ++ Integer (pos m) ∷ []) v ∙ ap (λ es. es ++ Integer (pos (held (value_behind 0 ys))) ∷ []) f.so.all
+      e ∙ ap (λ m. items ++ Integer (pos m) ∷ []) v
+      ∙ ap (λ es. es ++ Integer (pos (held (value_behind 0 ys))) ∷ []) f.so.all
       ∙ sym (number_entries x ys some d f.closed);
   form = ap is_early (digits_forms x ys some d) ∙ early_digit (form_from form.Empty x) f.so.form;
   body = list_all-append is_body_byte x ys ∙ rw (f.so.body, digits_in_body ys d) refl;
 }
 
 -- a separator
-early_mark : (f : Form) (b : ℕ) → 0x3a ≤ b → b ≤ 0x3b → is_early f ≡ true → is_early (next_form f b) ≡ true
+early_mark : (f : Form) (b : ℕ) → 0x3a ≤ b → b ≤ 0x3b → is_early f ≡ true
+    → is_early (next_form f b) ≡ true
 early_mark form.Empty b l h e =
     let m : is_marker b ≡ false = grind (arith, nat_tests) in
     let p : is_csi_parameter b ≡ true = grind (arith, nat_tests) in rw (m, p) refl
-early_mark form.Parameters b l h e = let p : is_csi_parameter b ≡ true = grind (arith, nat_tests) in rw p refl
+early_mark form.Parameters b l h e = let p : is_csi_parameter b ≡ true = grind (arith, nat_tests) in
+    rw p refl
 early_mark form.Intermediates b l h e = absurd cc
 early_mark form.Malformed b l h e = absurd cc
 
-other_entries : (x : List ℕ) (b : ℕ) → is_digit b ≡ false → entries (x ++ b ∷ []) ≡ entries x ++ P b ∷ []
+other_entries : (x : List ℕ) (b : ℕ) → is_digit b ≡ false
+    → entries (x ++ b ∷ []) ≡ entries x ++ P b ∷ []
 other_entries x b d =
-    halves None (x ++ b ∷ []) ∙ ap (λ o. closed_of None (x ++ b ∷ []) ++ shown o) (number_other x b d) ∙ append-nil (closed_of None (x ++ b ∷ []))
+    halves None (x ++ b ∷ []) ∙ ap (λ o. closed_of None (x ++ b ∷ []) ++ shown o)
+    (number_other x b d) ∙ append-nil (closed_of None (x ++ b ∷ []))
     ∙ closed_other x b d ∙ ap (λ es. es ++ P b ∷ []) (sym (halves None x))
 
-body_one : (x : List ℕ) (b : ℕ) → is_body_byte b ≡ true → list_all is_body_byte x ≡ true → list_all is_body_byte (x ++ b ∷ []) ≡ true
+body_one : (x : List ℕ) (b : ℕ) → is_body_byte b ≡ true → list_all is_body_byte x ≡ true
+    → list_all is_body_byte (x ++ b ∷ []) ≡ true
 body_one x b h k = list_all-append is_body_byte x (b ∷ []) ∙ rw (k, h) refl
 
-pub mark_front : (items new : List CsiParam) (x : List ℕ) (b : ℕ) → is_from 0x3a 0x3b b ≡ true → new ≡ items ++ P b ∷ [] → IsBehind items x
+pub mark_front : (items new : List CsiParam) (x : List ℕ) (b : ℕ) → is_from 0x3a 0x3b b ≡ true
+    → new ≡ items ++ P b ∷ [] → IsBehind items x
     → IsFront new (x ++ b ∷ [])
 mark_front items new x b m e f =
     let l : 0x3a ≤ b = grind (arith, nat_tests) in
@@ -72,7 +85,8 @@ mark_front items new x b m e f =
     let y : is_body_byte b ≡ true = grind (arith, nat_tests) in record {
       so = record {
         all = e ∙ ap (λ es. es ++ P b ∷ []) f.all ∙ sym (other_entries x b d);
-        form = ap is_early (form_push form.Empty x b) ∙ early_mark (form_from form.Empty x) b l h f.form;
+        form = ap is_early (form_push form.Empty x b) ∙ early_mark (form_from form.Empty x) b l h
+            f.form;
         body = body_one x b y f.body;
       };
       closed = number_other x b d;
@@ -85,7 +99,8 @@ early_formed form.Parameters h = refl
 early_formed form.Intermediates h = absurd cc
 early_formed form.Malformed h = absurd cc
 
-pub ends_short : (items : List CsiParam) (x : List ℕ) → length items ≤ 256 → IsBehind items x → IsShort items x
+pub ends_short : (items : List CsiParam) (x : List ℕ) → length items ≤ 256 → IsBehind items x
+    → IsShort items x
 unfolding kept_entries has_more_entries
 ends_short items x l f =
     let n : length (entries x) ≤ 256 = omega (arith, ap length f.all) in record {
@@ -98,14 +113,18 @@ ends_short items x l f =
 -- ---- a field: digits, if any, and a separator after them
 
 -- the separator behind the first n bytes of the rest
-pub field_closed : (items : List CsiParam) (x rest : List ℕ) (n : ℕ) → n < length rest → IsFront items ((x ++ take n rest) ++ get_or rest n 0 ∷ [])
+pub field_closed : (items : List CsiParam) (x rest : List ℕ) (n : ℕ) → n < length rest
+    → IsFront items ((x ++ take n rest) ++ get_or rest n 0 ∷ [])
     → IsFront items (x ++ take (n + 1) rest)
 field_closed items x rest n l f =
-    subst (IsFront items) (append_assoc x (take n rest) (get_or rest n 0 ∷ []) ∙ ap (λ ys. x ++ ys) (sym (take_more rest n 0 l))) f
+    subst (IsFront items) (append_assoc x (take n rest) (get_or rest n 0 ∷ [])
+    ∙ ap (λ ys. x ++ ys) (sym (take_more rest n 0 l))) f
 
 -- a separator alone
-pub mark_closed : (items : List CsiParam) (x rest : List ℕ) → 0 < length rest → IsFront items (x ++ get_or rest 0 0 ∷ []) → IsFront items (x ++ take 1 rest)
-mark_closed items x rest l f = subst (IsFront items) (ap (λ ys. x ++ ys) (sym (take_more rest 0 0 l))) f
+pub mark_closed : (items : List CsiParam) (x rest : List ℕ) → 0 < length rest
+    → IsFront items (x ++ get_or rest 0 0 ∷ []) → IsFront items (x ++ take 1 rest)
+mark_closed items x rest l f =
+    subst (IsFront items) (ap (λ ys. x ++ ys) (sym (take_more rest 0 0 l))) f
 
 -- neither
 pub none_behind : (items : List CsiParam) (x : List ℕ) → IsFront items x → IsBehind items (x ++ [])

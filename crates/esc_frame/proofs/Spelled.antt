@@ -16,38 +16,48 @@ use Rattle.esc_frame.proofs.ClearRuns.{chars_next, chars_stop, chars_done}
 clear_past : (x : List ℕ) (c n : ℕ) → IsClearText x → IsNext x c n → IsClearText (drop n x)
 clear_past x c n t e = (
   IsUtf8-past_char x (drop n x) c t.0 e.0,
-  (and_parts (is_clear c) (list_all is_clear (chars (drop n x))) (ap (list_all is_clear) (sym (chars_past_char x (drop n x) c t.0 e.0)) ∙ t.1)).1,
+  (and_parts (is_clear c) (list_all is_clear (chars (drop n x)))
+      (ap (list_all is_clear) (sym (chars_past_char x (drop n x) c t.0 e.0)) ∙ t.1)).1,
 )
 
 drops : (x : List ℕ) (i n : ℕ) → drop n (drop i x) ≡ drop (i + n) x
 drops x i n = drop-drop n i x
 
-module _ {S : Type 0} (takes refuses : S → Event → S → Type 0) (is_ready : S → Type 0) (text : List ℕ) where
+module _ {S : Type 0} (takes refuses : S → Event → S → Type 0) (is_ready : S
+    → Type 0) (text : List ℕ) where
   pub none_spelled : (s : S) → IsClearText text → is_ready s → HasSpelled takes is_ready text 0 s s
   none_spelled s t r = (omega arith, t, ([], refl, refl), r)
 
-  pub next_spelled : (at c n : ℕ) (old mid new : S) → HasSpelled takes is_ready text at old mid → IsNext (drop at text) c n → takes mid (Print c) new
+  pub next_spelled : (at c n : ℕ) (old mid new : S) → HasSpelled takes is_ready text at old mid
+      → IsNext (drop at text) c n → takes mid (Print c) new
       → is_ready new
       → HasSpelled takes is_ready text (at + n) old new
   next_spelled at c n old mid new h e g r = (
     omega (arith, h.0, e.1, length-drop at text),
     subst IsClearText (drops text at n) (clear_past (drop at text) c n h.1 e),
     subst (λ y. HasTaken takes text y old new) (drops text at n)
-        (chars_next takes text (drop at text) (drop n (drop at text)) c old mid new h.1.0 e.0 h.2 g),
+        (chars_next takes text (drop at text) (drop n (drop at text)) c old mid new h.1.0 e.0 h.2
+        g),
     r,
   )
 
-  pub stop_spelled : (at c n : ℕ) (old mid new : S) → HasSpelled takes is_ready text at old mid → IsNext (drop at text) c n → (own : Type 0)
+  pub stop_spelled : (at c n : ℕ) (old mid new : S) → HasSpelled takes is_ready text at old mid
+      → IsNext (drop at text) c n → (own : Type 0)
       → refuses mid (Print c) new → StopsAt own takes refuses old (map Print (chars text)) new
   stop_spelled at c n old mid new h e own g =
-      chars_stop takes refuses text (drop at text) (drop n (drop at text)) c old mid new h.1.0 e.0 h.2 own g
+      chars_stop takes refuses text (drop at text) (drop n (drop at text)) c old mid new h.1.0 e.0
+      h.2 own g
 
   -- the same of the text that these bytes are
-  pub stop_given : (t : List ℕ) → text ≡ t → (at c n : ℕ) (old mid new : S) → HasSpelled takes is_ready text at old mid → IsNext (drop at text) c n
+  pub stop_given : (t : List ℕ) → text ≡ t → (at c n : ℕ) (old mid new : S)
+      → HasSpelled takes is_ready text at old mid → IsNext (drop at text) c n
       → (own : Type 0)
       → refuses mid (Print c) new → StopsAt own takes refuses old (map Print (chars t)) new
   stop_given t same at c n old mid new h e own g =
-      subst (λ y. StopsAt own takes refuses old (map Print (chars y)) new) same (stop_spelled at c n old mid new h e own g)
+      subst (λ y. StopsAt own takes refuses old (map Print (chars y)) new) same
+      (stop_spelled at c n old mid new h e own g)
 
-  pub all_spelled : (at : ℕ) (old new : S) → length text ≤ at → HasSpelled takes is_ready text at old new → FoldsTo takes old (map Print (chars text)) new
-  all_spelled at old new l h = chars_done takes text (drop at text) old new (omega (arith, l, length-drop at text)) h.2
+  pub all_spelled : (at : ℕ) (old new : S) → length text ≤ at
+      → HasSpelled takes is_ready text at old new → FoldsTo takes old (map Print (chars text)) new
+  all_spelled at old new l h =
+      chars_done takes text (drop at text) old new (omega (arith, l, length-drop at text)) h.2

@@ -40,17 +40,24 @@ Still limit u ys = (news_all limit u ys ≡ []) × (is_ground (after_all u ys) �
 pub one_still : (limit : Option ℕ) (u : Unfinished) (rest : List ℕ) → IsStill limit u rest 1
 one_still limit u rest = λ k a b. absurd (omega arith)
 
-pub less_still : (limit : Option ℕ) (u : Unfinished) (rest : List ℕ) (m n : ℕ) → m ≤ n → IsStill limit u rest n → IsStill limit u rest m
+pub less_still : (limit : Option ℕ) (u : Unfinished) (rest : List ℕ) (m n : ℕ) → m ≤ n
+    → IsStill limit u rest n → IsStill limit u rest m
 less_still limit u rest m n l h = λ k a b. h k a (omega arith)
 
 -- ---- fronts of a run
 
-front_passes : (p : ℕ → Bool) (rest : List ℕ) (run k : ℕ) → k ≤ run → list_all p (take run rest) ≡ true → list_all p (take k rest) ≡ true
+front_passes : (p : ℕ → Bool) (rest : List ℕ) (run k : ℕ) → k ≤ run
+    → list_all p (take run rest) ≡ true → list_all p (take k rest) ≡ true
 front_passes p rest run k l h =
-    let split : take k (take run rest) ++ drop k (take run rest) ≡ take run rest = take-append-drop k (take run rest) in
-    let all : (list_all p (take k (take run rest)) && list_all p (drop k (take run rest))) ≡ true = sym
-    (list_all-append p (take k (take run rest)) (drop k (take run rest))) ∙ ap (list_all p) split ∙ h in
-    ap (list_all p) (sym (take-take k run rest l)) ∙ (and_parts (list_all p (take k (take run rest))) (list_all p (drop k (take run rest))) all).0
+    let split : take k (take run rest) ++ drop k (take run rest) ≡ take run rest =
+    take-append-drop k (take run rest) in
+    let all : (list_all p (take k (take run rest)) && list_all p (drop k (take run rest))) ≡ true =
+    sym
+    (list_all-append p (take k (take run rest)) (drop k (take run rest))) ∙ ap (list_all p) split
+    ∙ h in
+    ap (list_all p) (sym (take-take k run rest l))
+    ∙ (and_parts (list_all p (take k (take run rest))) (list_all p (drop k (take run rest)))
+    all).0
 
 no_first : (xs ys : List Event) → xs ++ ys ≡ [] → xs ≡ []
 no_first [] ys h = refl
@@ -60,32 +67,40 @@ no_second : (xs ys : List Event) → xs ++ ys ≡ [] → ys ≡ []
 no_second [] ys h = h
 no_second (x ∷ xs) ys h = absurd cc
 
-front_tells_not : (limit : Option ℕ) (u : Unfinished) (rest : List ℕ) (run k : ℕ) → k ≤ run → news_all limit u (take run rest) ≡ []
+front_tells_not : (limit : Option ℕ) (u : Unfinished) (rest : List ℕ) (run k : ℕ) → k ≤ run
+    → news_all limit u (take run rest) ≡ []
     → news_all limit u (take k rest) ≡ []
 front_tells_not limit u rest run k l h =
     let xs : List ℕ = take k (take run rest) in
     let ys : List ℕ = drop k (take run rest) in
-    let e : news_all limit u xs ++ news_all limit (after_all u xs) ys ≡ [] = sym (news_append limit u xs ys) ∙ ap (news_all limit u)
+    let e : news_all limit u xs ++ news_all limit (after_all u xs) ys ≡ [] =
+    sym (news_append limit u xs ys) ∙ ap (news_all limit u)
     (take-append-drop k (take run rest)) ∙ h in
-    ap (news_all limit u) (sym (take-take k run rest l)) ∙ no_first (news_all limit u xs) (news_all limit (after_all u xs) ys) e
+    ap (news_all limit u) (sym (take-take k run rest l))
+    ∙ no_first (news_all limit u xs) (news_all limit (after_all u xs) ys) e
 
 -- ---- the body of a control sequence, and the byte behind it
 
-pub body_still : (limit : Option ℕ) (o : Opener) (x rest : List ℕ) (run : ℕ) → list_all is_body_byte (take run rest) ≡ true
+pub body_still : (limit : Option ℕ) (o : Opener) (x rest : List ℕ) (run : ℕ)
+    → list_all is_body_byte (take run rest) ≡ true
     → IsStill limit (InCsi o x) rest (run + 1)
 body_still limit o x rest run h = λ k a b.
-    let q = body_quiet limit o x (take k rest) (front_passes is_body_byte rest run k (omega arith) h) in
+    let q = body_quiet limit o x (take k rest) (front_passes is_body_byte rest run k (omega arith)
+    h) in
     (q.1, ap is_ground q.0)
 
-pub body_fresh : (o : Opener) (x rest : List ℕ) (run : ℕ) → list_all is_body_byte (take run rest) ≡ true → run < length rest
+pub body_fresh : (o : Opener) (x rest : List ℕ) (run : ℕ)
+    → list_all is_body_byte (take run rest) ≡ true → run < length rest
     → StaysFresh (InCsi o x) rest (run + 1)
 body_fresh o x rest run h room =
     let y : List ℕ = x ++ take run rest in
     let b : ℕ = get_or rest run 0 in
     fresh_by (InCsi o x) (after_by (InCsi o y) b (class_of b)) rest (run + 1)
-    (quiet_after {S = Unit {0}} None (λ _ _ _. Unit {0}) (λ _ _ _. Unit {0}) (InCsi o x) (InCsi o y) rest run (class_of b) tt tt
+    (quiet_after {S = Unit {0}} None (λ _ _ _. Unit {0}) (λ _ _ _. Unit {0}) (InCsi o x) (InCsi o y)
+    rest run (class_of b) tt tt
     (body_quiet None o x (take run rest) h) room refl)
-    (csi_fresh o y b (class_of b) (drop (run + 1) rest) (is_breaker (class_of b)) (in_csi (class_of b)) refl refl)
+    (csi_fresh o y b (class_of b) (drop (run + 1) rest) (is_breaker (class_of b))
+    (in_csi (class_of b)) refl refl)
 
 -- ---- an operating system command: without a limit, to leave it tells its event
 
@@ -98,98 +113,133 @@ osc_no_ground : (u : Unfinished) → is_osc u ≡ true → is_ground u ≡ false
 osc_no_ground Ground h = absurd cc
 osc_no_ground _ h = refl
 
-final_stays : (o : Opener) (ps : List Piece) (b : ℕ) (c : Class) → (final_osc None o ps b c).1 ≡ [] → is_osc (final_osc None o ps b c).0 ≡ true
+final_stays : (o : Opener) (ps : List Piece) (b : ℕ) (c : Class) → (final_osc None o ps b c).1 ≡ []
+    → is_osc (final_osc None o ps b c).0 ≡ true
 final_stays o ps b Lead h = refl
 final_stays o ps b _ h = absurd cc
 
-text_stays : (o : Opener) (ps : List Piece) (b : ℕ) (c : Class) (t w : Bool) → is_breaker c ≡ t → in_osc c ≡ w → (inside None (InOsc o ps) b c).1 ≡ []
+text_stays : (o : Opener) (ps : List Piece) (b : ℕ) (c : Class) (t w : Bool) → is_breaker c ≡ t
+    → in_osc c ≡ w → (inside None (InOsc o ps) b c).1 ≡ []
     → is_osc (inside None (InOsc o ps) b c).0 ≡ true
 text_stays o ps b c true w e k = rw (e, inside) (λ h. absurd cc)
 text_stays o ps b c false true e k = rw (e, k, inside, goes_on) (λ h. refl)
 text_stays o ps b c false false e k = rw (e, k, inside, goes_on) (final_stays o ps b c)
 
-whole_stays : (o : Opener) (ps : List Piece) (f : List ℕ) (b : ℕ) (c : Class) (t : Bool) → is_pair (f ++ b ∷ []) ≡ t
-    → (osc_pending_move None o ps f b c outcomes.Whole).1 ≡ [] → is_osc (osc_pending_move None o ps f b c outcomes.Whole).0 ≡ true
+whole_stays : (o : Opener) (ps : List Piece) (f : List ℕ) (b : ℕ) (c : Class) (t : Bool)
+    → is_pair (f ++ b ∷ []) ≡ t
+    → (osc_pending_move None o ps f b c outcomes.Whole).1 ≡ []
+    → is_osc (osc_pending_move None o ps f b c outcomes.Whole).0 ≡ true
 whole_stays o ps f b c true e = rw (e, osc_pending_move) (λ h. absurd cc)
 whole_stays o ps f b c false e = rw (e, osc_pending_move) (λ h. refl)
 
-pending_stays : (o : Opener) (ps : List Piece) (f : List ℕ) (b : ℕ) (c : Class) (w : Outcome) → (osc_pending_move None o ps f b c w).1 ≡ []
+pending_stays : (o : Opener) (ps : List Piece) (f : List ℕ) (b : ℕ) (c : Class) (w : Outcome)
+    → (osc_pending_move None o ps f b c w).1 ≡ []
     → is_osc (osc_pending_move None o ps f b c w).0 ≡ true
 pending_stays o ps f b c outcomes.Whole h = whole_stays o ps f b c (is_pair (f ++ b ∷ [])) refl h
 pending_stays o ps f b c outcomes.More h = refl
-pending_stays o ps f b c outcomes.Broken h = text_stays o (ps ++ BrokenOff f ∷ []) b c (is_breaker c) (in_osc c) refl refl h
+pending_stays o ps f b c outcomes.Broken h =
+    text_stays o (ps ++ BrokenOff f ∷ []) b c (is_breaker c) (in_osc c) refl refl h
 
-stays_by : (u : Unfinished) (b : ℕ) → is_osc u ≡ true → news_by None u b (class_of b) ≡ [] → is_osc (after_by u b (class_of b)) ≡ true
-stays_by (InOsc o ps) b h e = text_stays o ps b (class_of b) (is_breaker (class_of b)) (in_osc (class_of b)) refl refl e
+stays_by : (u : Unfinished) (b : ℕ) → is_osc u ≡ true → news_by None u b (class_of b) ≡ []
+    → is_osc (after_by u b (class_of b)) ≡ true
+stays_by (InOsc o ps) b h e =
+    text_stays o ps b (class_of b) (is_breaker (class_of b)) (in_osc (class_of b)) refl refl e
 stays_by (InOscPending o ps f) b h e = pending_stays o ps f b (class_of b) (outcome f b) e
 stays_by _ b h e = absurd cc
 
-stays : (u : Unfinished) (ys : List ℕ) → is_osc u ≡ true → news_all None u ys ≡ [] → is_osc (after_all u ys) ≡ true
+stays : (u : Unfinished) (ys : List ℕ) → is_osc u ≡ true → news_all None u ys ≡ []
+    → is_osc (after_all u ys) ≡ true
 stays u [] h e = h
 stays u (b ∷ ys) h e =
     let v : Unfinished = after_by u b (class_of b) in
-    let first : news_by None u b (class_of b) ≡ [] = no_first (news_by None u b (class_of b)) (news_all None v ys) e in
-    let behind : news_all None v ys ≡ [] = no_second (news_by None u b (class_of b)) (news_all None v ys) e in stays v ys (stays_by u b h first) behind
+    let first : news_by None u b (class_of b) ≡ [] =
+    no_first (news_by None u b (class_of b)) (news_all None v ys) e in
+    let behind : news_all None v ys ≡ [] =
+    no_second (news_by None u b (class_of b)) (news_all None v ys) e in
+    stays v ys (stays_by u b h first) behind
 
 -- a run of text tells nothing whatever the limit, and so is never left
 pub text_still : (limit : Option ℕ) (o : Opener) (ps : List Piece) (rest : List ℕ) (run : ℕ)
-    → ((any : Option ℕ) → news_all any (InOsc o ps) (take run rest) ≡ []) → IsStill limit (InOsc o ps) rest (run + 1)
+    → ((any : Option ℕ) → news_all any (InOsc o ps) (take run rest) ≡ [])
+    → IsStill limit (InOsc o ps) rest (run + 1)
 text_still limit o ps rest run h = λ k a b.
-    let e : (any : Option ℕ) → news_all any (InOsc o ps) (take k rest) ≡ [] = λ any. front_tells_not any (InOsc o ps) rest run k (omega arith) (h any) in
-    (e limit, osc_no_ground (after_all (InOsc o ps) (take k rest)) (stays (InOsc o ps) (take k rest) refl (e None)))
+    let e : (any : Option ℕ) → news_all any (InOsc o ps) (take k rest) ≡ [] =
+    λ any. front_tells_not any (InOsc o ps) rest run k (omega arith) (h any) in (
+      e limit,
+      osc_no_ground (after_all (InOsc o ps) (take k rest))
+          (stays (InOsc o ps) (take k rest) refl (e None)),
+    )
 
 -- ---- runs in the strings that a breaker ends
 
-holds_no_ground : {K A : Type 0} (keeps : Option ℕ → K → List ℕ → Type 0) (limit : Option ℕ) (m : Machine K A) (u : Unfinished) → Holds keeps limit m u
+holds_no_ground : {K A : Type 0} (keeps : Option ℕ → K → List ℕ
+    → Type 0) (limit : Option ℕ) (m : Machine K A) (u : Unfinished) → Holds keeps limit m u
     → (m.state ≡ state.Ground → ⊥) → is_ground u ≡ false
 holds_no_ground keeps limit m Ground h n = absurd (n h.0)
 holds_no_ground keeps limit m _ h n = refl
 
-pub apc_end_still : (limit : Option ℕ) (o : Opener) (d rest : List ℕ) (run : ℕ) → list_all is_text_byte (take run rest) ≡ true
+pub apc_end_still : (limit : Option ℕ) (o : Opener) (d rest : List ℕ) (run : ℕ)
+    → list_all is_text_byte (take run rest) ≡ true
     → IsStill limit (InApc o d) rest (run + 1)
 apc_end_still limit o d rest run h = λ k a b.
-    let q = apc_text limit o d (take k rest) (front_passes is_text_byte rest run k (omega arith) h) in
+    let q = apc_text limit o d (take k rest) (front_passes is_text_byte rest run k (omega arith)
+    h) in
     (q.1, ap is_ground q.0)
 
-module _ {K A : Type 0} (keeps : Option ℕ → K → List ℕ → Type 0) (limit : Option ℕ) (m : Machine K A) (u : Unfinished) (rest : List ℕ) (run : ℕ)
+module _ {K A : Type 0} (keeps : Option ℕ → K → List ℕ
+    → Type 0) (limit : Option ℕ) (m : Machine K A) (u : Unfinished) (rest : List ℕ) (run : ℕ)
     (e : run ≡ prefix_len is_text_byte rest)
     (h : Holds keeps limit m u) where
   pub skip_still : m.state ≡ state.Skip → IsStill limit u rest run
   skip_still s = λ k a b.
-      let q = skip_holds keeps limit m (take k rest) (front_passes is_text_byte rest run k (omega arith) (prefix_passes rest run e)) u s h in
+      let q = skip_holds keeps limit m (take k rest)
+      (front_passes is_text_byte rest run k (omega arith) (prefix_passes rest run e)) u s h in
       (q.1, holds_no_ground keeps limit m (after_all u (take k rest)) q.0 (λ g. cc))
 
 -- ---- bytes that tell nothing, and what follows them
 
-module _ (limit : Option ℕ) (u v : Unfinished) (rest : List ℕ) (i n : ℕ) (here : after_all u (take i rest) ≡ v) (none : news_all limit u (take i rest) ≡ [])
+module _ (limit : Option ℕ) (u v : Unfinished) (rest : List ℕ) (i n : ℕ)
+    (here : after_all u (take i rest) ≡ v) (none : news_all limit u (take i rest) ≡ [])
   where
-    behind_still : IsStill limit v (take (length rest - i) (drop i rest)) n → (j : ℕ) → 0 < j → j < n → Still limit u (take (i + j) rest)
+    behind_still : IsStill limit v (take (length rest - i) (drop i rest)) n → (j : ℕ) → 0 < j
+        → j < n → Still limit u (take (i + j) rest)
     behind_still h j a b =
-        let m : Still limit v (take j (drop i rest)) = subst (λ y. Still limit v (take j y)) (tail_is rest i) (h j a b) in (
-          ap (news_all limit u) (take-add i j rest) ∙ news_append limit u (take i rest) (take j (drop i rest)) ∙ ap
+        let m : Still limit v (take j (drop i rest)) =
+        subst (λ y. Still limit v (take j y)) (tail_is rest i) (h j a b) in (
+          ap (news_all limit u) (take-add i j rest)
+              ∙ news_append limit u (take i rest) (take j (drop i rest)) ∙ ap
               (λ es. es ++ news_all limit (after_all u (take i rest)) (take j (drop i rest))) none
               ∙ ap (λ w. news_all limit w (take j (drop i rest))) here ∙ m.0,
-          ap is_ground (after_more u rest i j ∙ ap (λ w. after_all w (take j (drop i rest))) here) ∙ m.1,
+          ap is_ground (after_more u rest i j ∙ ap (λ w. after_all w (take j (drop i rest))) here)
+              ∙ m.1,
         )
 
-    still_at : IsStill limit u rest (i + 1) → IsStill limit v (take (length rest - i) (drop i rest)) n → (k : ℕ) → 0 < k → k < i + n → ((i < k) ⊎ (k ≤ i))
+    still_at : IsStill limit u rest (i + 1)
+        → IsStill limit v (take (length rest - i) (drop i rest)) n → (k : ℕ) → 0 < k → k < i + n
+        → ((i < k) ⊎ (k ≤ i))
         → Still limit u (take k rest)
     still_at f h k a b (inl l) =
-        let e : i + (k - i) ≡ k = omega arith in subst (λ j. Still limit u (take j rest)) e (behind_still h (k - i) (omega arith) (omega arith))
+        let e : i + (k - i) ≡ k = omega arith in
+        subst (λ j. Still limit u (take j rest)) e
+        (behind_still h (k - i) (omega arith) (omega arith))
     still_at f h k a b (inr l) = f k a (omega arith)
 
-    pub more_still : IsStill limit u rest (i + 1) → IsStill limit v (take (length rest - i) (drop i rest)) n → IsStill limit u rest (i + n)
+    pub more_still : IsStill limit u rest (i + 1)
+        → IsStill limit v (take (length rest - i) (drop i rest)) n → IsStill limit u rest (i + n)
     more_still f h = λ k a b. still_at f h k a b (cases_lt i k)
 
 -- ESC and the byte that opens
 escape_alone : (limit : Option ℕ) → Still limit Ground (0x1b ∷ [])
 escape_alone limit = rw escape_class (refl, refl)
 
-escape_first : (limit : Option ℕ) (rest : List ℕ) → 2 < length rest → get_or rest 0 0 ≡ 0x1b → Still limit Ground (take 1 rest)
+escape_first : (limit : Option ℕ) (rest : List ℕ) → 2 < length rest → get_or rest 0 0 ≡ 0x1b
+    → Still limit Ground (take 1 rest)
 escape_first limit [] l e = absurd (omega arith)
-escape_first limit (x ∷ rest) l e = subst (λ y. Still limit Ground (y ∷ [])) (sym e) (escape_alone limit)
+escape_first limit (x ∷ rest) l e =
+    subst (λ y. Still limit Ground (y ∷ [])) (sym e) (escape_alone limit)
 
-opens_at : (limit : Option ℕ) (rest : List ℕ) → 2 < length rest → get_or rest 0 0 ≡ 0x1b → Still limit Ground (take 2 rest) → (k : ℕ) → 0 < k → k < 3
+opens_at : (limit : Option ℕ) (rest : List ℕ) → 2 < length rest → get_or rest 0 0 ≡ 0x1b
+    → Still limit Ground (take 2 rest) → (k : ℕ) → 0 < k → k < 3
     → Still limit Ground (take k rest)
 opens_at limit rest l e h zero a b = absurd (omega arith)
 opens_at limit rest l e h (suc zero) a b = escape_first limit rest l e
@@ -197,12 +247,20 @@ opens_at limit rest l e h (suc (suc zero)) a b = h
 opens_at limit rest l e h (suc (suc (suc k))) a b = absurd (omega arith)
 
 -- ESC and a byte that opens, and what a call takes of the bytes after them
-module _ (limit : Option ℕ) (u : Unfinished) (rest : List ℕ) (l : 2 < length rest) (e : get_or rest 0 0 ≡ 0x1b)
-    (begin : (after_all Ground (take 2 rest) ≡ u) × (news_all limit Ground (take 2 rest) ≡ [])) (o : is_ground u ≡ false) where
-  pub opened_still : (n : ℕ) → IsStill limit u (take (length rest - 2) (drop 2 rest)) n → IsStill limit Ground rest (2 + n)
-  opened_still n h = more_still limit Ground u rest 2 n begin.0 begin.1 (opens_at limit rest l e (begin.1, ap is_ground begin.0 ∙ o)) h
+module _ (limit : Option ℕ) (u : Unfinished) (rest : List ℕ) (l : 2 < length rest)
+    (e : get_or rest 0 0 ≡ 0x1b)
+    (begin : (after_all Ground (take 2 rest) ≡ u)
+    × (news_all limit Ground (take 2 rest) ≡ [])) (o : is_ground u ≡ false) where
+  pub opened_still : (n : ℕ) → IsStill limit u (take (length rest - 2) (drop 2 rest)) n
+      → IsStill limit Ground rest (2 + n)
+  opened_still n h =
+      more_still limit Ground u rest 2 n begin.0 begin.1 (opens_at limit rest l e (
+        begin.1,
+        ap is_ground begin.0 ∙ o,
+      )) h
 
-  module _ {S : Type 0} (takes refuses : S → Event → S → Type 0) (is_ready : S → Type 0) (old new : S)
+  module _ {S : Type 0} (takes refuses : S → Event → S → Type 0) (is_ready : S
+      → Type 0) (old new : S)
       (f : (r : List ℕ) → lends u r ≡ true → is_fresh u ≡ true) where
     opened_first : StaysFresh Ground rest 2
     opened_first = fresh_by Ground u rest 2 begin.0 (f (drop 2 rest))
@@ -210,14 +268,18 @@ module _ (limit : Option ℕ) (u : Unfinished) (rest : List ℕ) (l : 2 < length
     pub opened_took : {K A : Type 0} (keeps : Option ℕ → K → List ℕ → Type 0)
         (denied : Option ℕ → Type 0)
         (machine : Machine K A) (n : ℕ)
-        → Holds keeps limit machine (after_all u (take n (take (length rest - 2) (drop 2 rest)))) × FoldsTo takes old
-        (news_all limit u (take n (take (length rest - 2) (drop 2 rest)))) new × StaysFresh u (take (length rest - 2) (drop 2 rest)) n
-        → IsStill limit u (take (length rest - 2) (drop 2 rest)) n → (0 < n) × (n ≤ length (take (length rest - 2) (drop 2 rest))) × is_ready new
+        → Holds keeps limit machine (after_all u (take n (take (length rest - 2) (drop 2 rest))))
+        × FoldsTo takes old
+        (news_all limit u (take n (take (length rest - 2) (drop 2 rest)))) new
+        × StaysFresh u (take (length rest - 2) (drop 2 rest)) n
+        → IsStill limit u (take (length rest - 2) (drop 2 rest)) n → (0 < n)
+        × (n ≤ length (take (length rest - 2) (drop 2 rest))) × is_ready new
         → TookSome {E = Unit {0}} keeps denied limit takes refuses is_ready (Ok (2 + n))
         rest machine old new
     opened_took keeps denied machine n t q a =
         let k = tail_length rest 2 in (
-          ran_took limit takes refuses Ground u rest 2 old old new begin.0 (quiet_folds takes (news_all limit Ground (take 2 rest)) old begin.1) keeps machine n
+          ran_took limit takes refuses Ground u rest 2 old old new begin.0
+              (quiet_folds takes (news_all limit Ground (take 2 rest)) old begin.1) keeps machine n
               opened_first t,
           opened_still n q,
           (omega (arith, a.0), omega (arith, a.1), a.2),
@@ -230,33 +292,58 @@ module _ (limit : Option ℕ) (u : Unfinished) (rest : List ℕ) (l : 2 < length
         → StopsAt ((may_grow_within Ground rest ≡ true) × why) takes refuses old
         (news_all limit Ground rest) new
     opened_stops h =
-        ran_ends limit takes refuses Ground u rest 2 old old new begin.0 (quiet_folds takes (news_all limit Ground (take 2 rest)) old begin.1) opened_first h
+        ran_ends limit takes refuses Ground u rest 2 old old new begin.0
+        (quiet_folds takes (news_all limit Ground (take 2 rest)) old begin.1) opened_first h
 
 -- ---- a whole sequence in ground
 
-two_still : (limit : Option ℕ) (a b : ℕ) (k : ℕ) → is_sequence (a ∷ b ∷ []) ≡ true → 0 < k → k < 2 → Still limit Ground (take k (a ∷ b ∷ []))
+two_still : (limit : Option ℕ) (a b : ℕ) (k : ℕ) → is_sequence (a ∷ b ∷ []) ≡ true → 0 < k → k < 2
+    → Still limit Ground (take k (a ∷ b ∷ []))
 two_still limit a b zero s l m = absurd (omega arith)
-two_still limit a b (suc zero) s l m = rw (lead_class a (two_parts a b s), after_by, news_by, move, pending_move, outcome) (refl, refl)
+two_still limit a b (suc zero) s l m = rw (
+  lead_class a (two_parts a b s),
+  after_by,
+  news_by,
+  move,
+  pending_move,
+  outcome,
+) (refl, refl)
 two_still limit a b (suc (suc k)) s l m = absurd (omega arith)
 
-three_still : (limit : Option ℕ) (a b c : ℕ) (k : ℕ) → is_sequence (a ∷ b ∷ c ∷ []) ≡ true → 0 < k → k < 3 → Still limit Ground (take k (a ∷ b ∷ c ∷ []))
+three_still : (limit : Option ℕ) (a b c : ℕ) (k : ℕ) → is_sequence (a ∷ b ∷ c ∷ []) ≡ true → 0 < k
+    → k < 3 → Still limit Ground (take k (a ∷ b ∷ c ∷ []))
 three_still limit a b c zero s l m = absurd (omega arith)
-three_still limit a b c (suc zero) s l m = let t = three_parts a b c s in rw (lead_class a t.0, after_by, news_by, move, pending_move, outcome) (refl, refl)
+three_still limit a b c (suc zero) s l m = let t = three_parts a b c s in
+    rw (lead_class a t.0, after_by, news_by, move, pending_move, outcome) (refl, refl)
 three_still limit a b c (suc (suc zero)) s l m = let t = three_parts a b c s
     in rw (lead_class a t.0, t.1, t.2, after_by, news_by, move, pending_move, outcome) (refl, refl)
 three_still limit a b c (suc (suc (suc k))) s l m = absurd (omega arith)
 
-four_still : (limit : Option ℕ) (a b c d : ℕ) (k : ℕ) → is_sequence (a ∷ b ∷ c ∷ d ∷ []) ≡ true → 0 < k → k < 4
+four_still : (limit : Option ℕ) (a b c d : ℕ) (k : ℕ) → is_sequence (a ∷ b ∷ c ∷ d ∷ []) ≡ true
+    → 0 < k → k < 4
     → Still limit Ground (take k (a ∷ b ∷ c ∷ d ∷ []))
 four_still limit a b c d zero s l m = absurd (omega arith)
-four_still limit a b c d (suc zero) s l m = let t = four_parts a b c d s in rw (lead_class a t.0, after_by, news_by, move, pending_move, outcome) (refl, refl)
+four_still limit a b c d (suc zero) s l m = let t = four_parts a b c d s in
+    rw (lead_class a t.0, after_by, news_by, move, pending_move, outcome) (refl, refl)
 four_still limit a b c d (suc (suc zero)) s l m = let t = four_parts a b c d s
     in rw (lead_class a t.0, t.1, t.2, after_by, news_by, move, pending_move, outcome) (refl, refl)
 four_still limit a b c d (suc (suc (suc zero))) s l m = let t = four_parts a b c d s
-    in rw (lead_class a t.0, t.1, t.2, t.3, t.4, after_by, news_by, move, pending_move, outcome) (refl, refl)
+    in rw (
+      lead_class a t.0,
+      t.1,
+      t.2,
+      t.3,
+      t.4,
+      after_by,
+      news_by,
+      move,
+      pending_move,
+      outcome,
+    ) (refl, refl)
 four_still limit a b c d (suc (suc (suc (suc k)))) s l m = absurd (omega arith)
 
-sequence_still : (limit : Option ℕ) (x : List ℕ) (k : ℕ) → is_sequence x ≡ true → 0 < k → k < length x → Still limit Ground (take k x)
+sequence_still : (limit : Option ℕ) (x : List ℕ) (k : ℕ) → is_sequence x ≡ true → 0 < k
+    → k < length x → Still limit Ground (take k x)
 unfolding is_sequence
 sequence_still limit [] k s l m = absurd cc
 sequence_still limit (a ∷ []) k s l m = absurd cc
@@ -265,14 +352,17 @@ sequence_still limit (a ∷ b ∷ c ∷ []) k s l m = three_still limit a b c k 
 sequence_still limit (a ∷ b ∷ c ∷ d ∷ []) k s l m = four_still limit a b c d k s l m
 sequence_still limit (a ∷ b ∷ c ∷ d ∷ e ∷ x) k s l m = absurd cc
 
-pub character_still : (limit : Option ℕ) (rest : List ℕ) (n c : ℕ) → n ≤ length rest → IsCharacter (take n rest) c → IsStill limit Ground rest n
+pub character_still : (limit : Option ℕ) (rest : List ℕ) (n c : ℕ) → n ≤ length rest
+    → IsCharacter (take n rest) c → IsStill limit Ground rest n
 character_still limit rest n c l h = λ k a b.
     let long : length (take n rest) ≡ n = length-take-le n rest l in
-    subst (Still limit Ground) (take-take k n rest (omega arith)) (sequence_still limit (take n rest) k h.0 a (omega arith))
+    subst (Still limit Ground) (take-take k n rest (omega arith))
+    (sequence_still limit (take n rest) k h.0 a (omega arith))
 
 -- ---- of the stream
 
-pub quiet_all : (limit : Option ℕ) (s b : List ℕ) (n : ℕ) → IsStill limit (after_all Ground s) b n → IsQuietWithin limit s b n
+pub quiet_all : (limit : Option ℕ) (s b : List ℕ) (n : ℕ) → IsStill limit (after_all Ground s) b n
+    → IsQuietWithin limit s b n
 quiet_all limit s b n h = λ k l m.
     let q = h k l m in (
       added_is limit s (take k b) ∙ q.0,

@@ -12,22 +12,28 @@ use Rattle.esc_frame.proofs.Cuts.{stands_tells, stands, events_of_the_cut}
 use Rattle.esc_frame.proofs.OneCut.{events_once}
 
 -- what stands told the stream's events
-pub stands_events : (limit : Option ℕ) (s : List ℕ) (es : List Event) (gs : List Segment) (u : Unfinished) → Stands limit s es gs u → es ≡ events_within limit s
-stands_events limit s es gs u st = events_once limit s es (events_within limit s) (stands_tells s es gs u st) (events_of_the_cut limit s)
+pub stands_events : (limit : Option ℕ) (s : List ℕ) (es : List Event) (gs : List Segment)
+    (u : Unfinished) → Stands limit s es gs u → es ≡ events_within limit s
+stands_events limit s es gs u st =
+    events_once limit s es (events_within limit s) (stands_tells s es gs u st)
+    (events_of_the_cut limit s)
 
 drop_front : {X : Type 0} (xs ys : List X) → drop (length xs) (xs ++ ys) ≡ ys
 drop_front [] ys = refl
 drop_front (x ∷ xs) ys = drop_front xs ys
 
 -- the events of a front are a front of the events
-pub added_from : (limit : Option ℕ) (s b : List ℕ) (news : List Event) → events_within limit s ++ news ≡ events_within limit (s ++ b)
+pub added_from : (limit : Option ℕ) (s b : List ℕ) (news : List Event)
+    → events_within limit s ++ news ≡ events_within limit (s ++ b)
     → added_within limit s b ≡ news
 unfolding added_within
-added_from limit s b news e = ap (drop (length (events_within limit s))) (sym e) ∙ drop_front (events_within limit s) news
+added_from limit s b news e =
+    ap (drop (length (events_within limit s))) (sym e) ∙ drop_front (events_within limit s) news
 
 -- ---- the machine, some bytes and then more
 
-pub after_append : (u : Unfinished) (xs ys : List ℕ) → after_all u (xs ++ ys) ≡ after_all (after_all u xs) ys
+pub after_append : (u : Unfinished) (xs ys : List ℕ)
+    → after_all u (xs ++ ys) ≡ after_all (after_all u xs) ys
 after_append u [] ys = refl
 after_append u (b ∷ xs) ys = after_append (after_by u b (class_of b)) xs ys
 
@@ -37,12 +43,14 @@ news_append limit u [] ys = refl
 news_append limit u (b ∷ xs) ys =
     let v = after_by u b (class_of b) in
     ap (λ z. news_by limit u b (class_of b) ++ z) (news_append limit v xs ys)
-    ∙ sym (append_assoc (news_by limit u b (class_of b)) (news_all limit v xs) (news_all limit (after_all v xs) ys))
+    ∙ sym (append_assoc (news_by limit u b (class_of b)) (news_all limit v xs)
+    (news_all limit (after_all v xs) ys))
 
 -- ---- the events of a stream and of more of it
 
 module _ (limit : Option ℕ) where
-  events_then : (s b : List ℕ) → events_within limit s ++ news_all limit (after_all Ground s) b ≡ events_within limit (s ++ b)
+  events_then : (s b : List ℕ) → events_within limit s ++ news_all limit (after_all Ground s) b
+      ≡ events_within limit (s ++ b)
   unfolding events_within
   events_then s b = sym (news_append limit Ground s b)
 
@@ -50,14 +58,18 @@ module _ (limit : Option ℕ) where
   pub added_is : (s b : List ℕ) → added_within limit s b ≡ news_all limit (after_all Ground s) b
   added_is s b = added_from limit s b (news_all limit (after_all Ground s) b) (events_then s b)
 
-  pub events_more : (s b : List ℕ) → events_within limit s ++ added_within limit s b ≡ events_within limit (s ++ b)
+  pub events_more : (s b : List ℕ)
+      → events_within limit s ++ added_within limit s b ≡ events_within limit (s ++ b)
   events_more s b = ap (λ x. events_within limit s ++ x) (added_is s b) ∙ events_then s b
 
-  pub added_append : (s b c : List ℕ) → added_within limit s (b ++ c) ≡ added_within limit s b ++ added_within limit (s ++ b) c
+  pub added_append : (s b c : List ℕ)
+      → added_within limit s (b ++ c) ≡ added_within limit s b ++ added_within limit (s ++ b) c
   added_append s b c =
       added_from limit s (b ++ c) (added_within limit s b ++ added_within limit (s ++ b) c)
-      (sym (append_assoc (events_within limit s) (added_within limit s b) (added_within limit (s ++ b) c))
-      ∙ ap (λ x. x ++ added_within limit (s ++ b) c) (events_more s b) ∙ events_more (s ++ b) c ∙ ap (events_within limit) (append_assoc s b c))
+      (sym (append_assoc (events_within limit s) (added_within limit s b)
+      (added_within limit (s ++ b) c))
+      ∙ ap (λ x. x ++ added_within limit (s ++ b) c) (events_more s b) ∙ events_more (s ++ b) c
+      ∙ ap (events_within limit) (append_assoc s b c))
 
 pub events_nil : events [] ≡ []
 unfolding events_within
@@ -66,7 +78,8 @@ events_nil = refl
 -- finished segments before others
 joined-append : (gs hs : List Segment) → joined (gs ++ hs) ≡ joined gs ++ joined hs
 joined-append [] hs = refl
-joined-append (g ∷ gs) hs = ap (λ x. bytes_of g ++ x) (joined-append gs hs) ∙ sym (append_assoc (bytes_of g) (joined gs) (joined hs))
+joined-append (g ∷ gs) hs = ap (λ x. bytes_of g ++ x) (joined-append gs hs)
+    ∙ sym (append_assoc (bytes_of g) (joined gs) (joined hs))
 
 told-append : (limit : Option ℕ) (gs hs : List Segment)
     → finished_events_within limit (gs ++ hs)
@@ -77,14 +90,19 @@ told-append limit (g ∷ gs) hs =
     ∙ sym (append_assoc (events_of_within limit g true) (finished_events_within limit gs)
     (finished_events_within limit hs))
 
-regroup : (gs hs : List Segment) (r : List ℕ) → joined (gs ++ hs) ++ r ≡ joined gs ++ (joined hs ++ r)
+regroup : (gs hs : List Segment) (r : List ℕ)
+    → joined (gs ++ hs) ++ r ≡ joined gs ++ (joined hs ++ r)
 regroup gs hs r = ap (λ x. x ++ r) (joined-append gs hs) ∙ append_assoc (joined gs) (joined hs) r
 
-are_append : (gs hs : List Segment) (r : List ℕ) → AreFinished gs (joined hs ++ r) → AreFinished hs r → AreFinished (gs ++ hs) r
+are_append : (gs hs : List Segment) (r : List ℕ) → AreFinished gs (joined hs ++ r)
+    → AreFinished hs r → AreFinished (gs ++ hs) r
 are_append [] hs r f k = k
 are_append (g ∷ gs) hs r (sh, fi, f) k =
-    let e = sym (regroup gs hs r) in
-    (subst (λ x. HasShape g x) e sh, subst (λ x. is_finished g x ≡ true) e fi, are_append gs hs r f k)
+    let e = sym (regroup gs hs r) in (
+      subst (λ x. HasShape g x) e sh,
+      subst (λ x. is_finished g x ≡ true) e fi,
+      are_append gs hs r f k,
+    )
 
 -- what follows finished segments has its own cut and its own events
 pub stands_after : (limit : Option ℕ) (gs : List Segment) (u : List ℕ) → AreFinished gs u
@@ -117,16 +135,21 @@ events_after limit gs u f =
     sym (stands_events limit (joined gs ++ u)
     (finished_events_within limit gs ++ events_within limit u) w.0 (after_all Ground u) w.1)
 
--- The text of segments that are finished whatever follows says their events: the one fact about the framing that a writer needs.
-pub says_segments : (gs : List Segment) → ((rest : List ℕ) → AreFinished gs rest) → Says (joined gs) (finished_events gs)
+-- The text of segments that are finished whatever follows says their events: the one fact about the
+-- framing that a writer needs.
+pub says_segments : (gs : List Segment) → ((rest : List ℕ) → AreFinished gs rest)
+    → Says (joined gs) (finished_events gs)
 says_segments gs f rest = events_after None gs rest (f rest)
 
 -- texts, one behind another
 pub says_nil : Says [] []
 says_nil rest = refl
 
-pub says_append : (t u : List ℕ) (es fs : List Event) → Says t es → Says u fs → Says (t ++ u) (es ++ fs)
-says_append t u es fs h k rest = ap events (append_assoc t u rest) ∙ h (u ++ rest) ∙ ap (λ x. es ++ x) (k rest) ∙ sym (append_assoc es fs (events rest))
+pub says_append : (t u : List ℕ) (es fs : List Event) → Says t es → Says u fs
+    → Says (t ++ u) (es ++ fs)
+says_append t u es fs h k rest = ap events (append_assoc t u rest) ∙ h (u ++ rest)
+    ∙ ap (λ x. es ++ x) (k rest) ∙ sym (append_assoc es fs (events rest))
 
 pub says_events : (t : List ℕ) (es : List Event) → Says t es → events t ≡ es
-says_events t es h = ap events (sym (append-nil t)) ∙ h [] ∙ ap (λ x. es ++ x) events_nil ∙ append-nil es
+says_events t es h = ap events (sym (append-nil t)) ∙ h [] ∙ ap (λ x. es ++ x) events_nil
+    ∙ append-nil es

@@ -9,7 +9,8 @@ use Rattle.esc_frame.specs.Stream.{events_within, events}
 use Rattle.esc_frame.proofs.Cuts.{events_of_the_cut}
 use Rattle.esc_frame.proofs.OneCut.{events_once}
 
-same_events : (limit : Option ℕ) (g : Segment) (f : Bool) → is_within limit (count_of g) ≡ true → events_of_within limit g f ≡ events_of g f
+same_events : (limit : Option ℕ) (g : Segment) (f : Bool) → is_within limit (count_of g) ≡ true
+    → events_of_within limit g f ≡ events_of g f
 same_events limit (Osc o ps e) f h = rw h refl
 same_events limit (Apc o d) f h = rw h refl
 same_events limit (Dcs o x b d) f h = rw h refl
@@ -27,13 +28,21 @@ same_events limit (CutCsi o x) f h = refl
 same_events limit (CutDcs o x) f h = refl
 same_events limit (Ignored k o d) f h = refl
 
-same_cut : (limit : Option ℕ) (gs : List Segment) → AreWithin limit gs → events_of_cut_within limit gs ≡ events_of_cut gs
+same_cut : (limit : Option ℕ) (gs : List Segment) → AreWithin limit gs
+    → events_of_cut_within limit gs ≡ events_of_cut gs
 same_cut limit [] h = refl
 same_cut limit (g ∷ []) h = same_events limit g (ends_itself g) h.0
-same_cut limit (g ∷ k ∷ gs) h = ap (λ es. es ++ events_of_cut_within limit (k ∷ gs)) (same_events limit g true h.0)
+same_cut limit (g ∷ k ∷ gs) h =
+    ap (λ es. es ++ events_of_cut_within limit (k ∷ gs)) (same_events limit g true h.0)
     ∙ ap (λ es. events_of g true ++ es) (same_cut limit (k ∷ gs) h.1)
 
-pub same_within : (limit : Option ℕ) (s : List ℕ) (gs : List Segment) → IsCut s gs → AreWithin limit gs → events_within limit s ≡ events s
+pub same_within : (limit : Option ℕ) (s : List ℕ) (gs : List Segment) → IsCut s gs
+    → AreWithin limit gs → events_within limit s ≡ events s
 same_within limit s gs cut h =
-    events_once limit s (events_within limit s) (events_of_cut_within limit gs) (events_of_the_cut limit s) (gs, cut, refl)
-    ∙ same_cut limit gs h ∙ events_once None s (events_of_cut gs) (events s) (gs, cut, refl) (events_of_the_cut None s)
+    events_once limit s (events_within limit s) (events_of_cut_within limit gs)
+    (events_of_the_cut limit s) (gs, cut, refl)
+    ∙ same_cut limit gs h ∙ events_once None s (events_of_cut gs) (events s) (
+      gs,
+      cut,
+      refl,
+    ) (events_of_the_cut None s)

@@ -6,9 +6,9 @@ use Rattle.esc_frame.specs.Segments.{Segment, text_of}
 use Rattle.esc_frame.specs.Segments.Segment.{Osc, Apc, Dcs, CutDcs}
 use Rattle.esc_frame.specs.Segments.Ending.{Rung}
 
--- What is kept of an unfinished segment, in bytes, and nothing once it has passed the limit: of an OSC its text in UTF-8, a
--- sequence that is broken off being the three bytes of U+FFFD; of an APC its bytes 20-7F; of a DCS's header its bytes
--- 30-39 and 3B.
+-- What is kept of an unfinished segment, in bytes, and nothing once it has passed the limit: of an
+-- OSC its text in UTF-8, a sequence that is broken off being the three bytes of U+FFFD; of an APC
+-- its bytes 20-7F; of a DCS's header its bytes 30-39 and 3B.
 abbrev pub kept_of : Option ℕ → Segment → ℕ
 kept_of limit (Osc o ps Rung) = 0
 kept_of limit (Osc o ps e) = kept_within limit (length (text_of ps))

@@ -1,5 +1,5 @@
--- What is unfinished of a stream, and what the machine keeps of it. Private contracts cite it; the public relation is
--- `LeadsTo` of Stream.
+-- What is unfinished of a stream, and what the machine keeps of it. Private contracts cite it; the
+-- public relation is `LeadsTo` of Stream.
 use Rattle.std.specs.Prelude.{ℕ, ◌≡◌, true, false, if◌then◌else◌, List, [], ◌∷◌, ◌++◌, Option, None, length}
 use Rattle.std.specs.List.{flat_map}
 use Rattle.esc_frame.specs.declared.classes.Kind.{Kind}
@@ -62,20 +62,28 @@ OpenShape (InOscPending o ps f) = IsOpener o × ArePieces ps f × (is_front f �
 -- each has its shape and is finished where these bytes follow the last
 abbrev pub AreFinished : List Segment → List ℕ → Type 0
 AreFinished [] rest = Unit {0}
-AreFinished (g ∷ gs) rest = HasShape g (joined gs ++ rest) × (is_finished g (joined gs ++ rest) ≡ true) × AreFinished gs rest
+AreFinished (g ∷ gs) rest = HasShape g (joined gs ++ rest)
+    × (is_finished g (joined gs ++ rest) ≡ true) × AreFinished gs rest
 
--- what the machine keeps of the unfinished segment, of a string no more than the limit; `keeps` says what its store keeps of a text
-abbrev pub Holds : {K A : Type 0} → (Option ℕ → K → List ℕ → Type 0) → Option ℕ → Machine K A → Unfinished → Type 0
+-- what the machine keeps of the unfinished segment, of a string no more than the limit; `keeps`
+-- says what its store keeps of a text
+abbrev pub Holds : {K A : Type 0} → (Option ℕ → K → List ℕ → Type 0) → Option ℕ → Machine K A
+    → Unfinished → Type 0
 Holds keeps limit m Ground = (m.state ≡ state.Ground) × (front_of m.pending ≡ [])
-Holds keeps limit m (Pending f) = (m.state ≡ state.Ground) × (front_of m.pending ≡ f) × (is_empty f ≡ false)
+Holds keeps limit m (Pending f) = (m.state ≡ state.Ground) × (front_of m.pending ≡ f)
+    × (is_empty f ≡ false)
 Holds keeps limit m (InEscape x) = (m.state ≡ state.Escape) × Keeps m.intermediates (strip x)
 Holds keeps limit m (InCsi o x) = (m.state ≡ state.Csi) × KeepsBody m.body (strip x)
-Holds keeps limit m (InDcs o x) = (m.state ≡ state.Dcs) × keeps limit m.text (parameters_of (strip x)) × KeepsDcs m.header (strip x)
-Holds keeps limit m (InData o x f d) = m.state ≡ (if is_read limit (strip x) then state.Data else state.Skip)
+Holds keeps limit m (InDcs o x) = (m.state ≡ state.Dcs)
+    × keeps limit m.text (parameters_of (strip x)) × KeepsDcs m.header (strip x)
+Holds keeps limit m (InData o x f d) =
+    m.state ≡ (if is_read limit (strip x) then state.Data else state.Skip)
 Holds keeps limit m (InApc o d) = (m.state ≡ state.Apc) × keeps limit m.text (those is_text d)
 Holds keeps limit m (InIgnored k o d) = m.state ≡ state.Skip
-Holds keeps limit m (InOsc o ps) = (m.state ≡ state.Osc) × keeps limit m.text (text_of ps) × (front_of m.pending ≡ [])
-Holds keeps limit m (InOscPending o ps f) = (m.state ≡ state.Osc) × keeps limit m.text (text_of ps) × (front_of m.pending ≡ f) × (is_empty f ≡ false)
+Holds keeps limit m (InOsc o ps) = (m.state ≡ state.Osc) × keeps limit m.text (text_of ps)
+    × (front_of m.pending ≡ [])
+Holds keeps limit m (InOscPending o ps f) = (m.state ≡ state.Osc) × keeps limit m.text (text_of ps)
+    × (front_of m.pending ≡ f) × (is_empty f ≡ false)
 
 -- the count of what is kept of it
 abbrev pub kept_open : Option ℕ → Unfinished → ℕ
@@ -99,14 +107,16 @@ told_open limit (Pending f) = []
 told_open limit (InEscape x) = executes x
 told_open limit (InCsi o x) = opener_events o ++ executes x
 told_open limit (InDcs o x) = opener_events o
-told_open limit (InData o x f d) = opener_events o ++ (if is_read limit (strip x) then hook_event (strip x) f ∷ puts d else [])
+told_open limit (InData o x f d) =
+    opener_events o ++ (if is_read limit (strip x) then hook_event (strip x) f ∷ puts d else [])
 told_open limit (InApc o d) = opener_events o
 told_open limit (InIgnored k o d) = opener_events o
 told_open limit (InOsc o ps) = opener_events o
 told_open limit (InOscPending o ps f) = opener_events o
 
 -- the stream has a cut with these finished segments and this unfinished one, and told these events
-pub record Stands (limit : Option ℕ) (stream : List ℕ) (events : List Event) (gs : List Segment) (u : Unfinished) : Type 0 where
+pub record Stands (limit : Option ℕ) (stream : List ℕ) (events : List Event) (gs : List Segment)
+    (u : Unfinished) : Type 0 where
   pub whole : stream ≡ joined gs ++ open_bytes u
   pub finished : AreFinished gs (open_bytes u)
   pub shape : OpenShape u

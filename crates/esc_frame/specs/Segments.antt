@@ -92,7 +92,8 @@ pub data Segment : Type 0 where
   Apc : Opener → List ℕ → Segment
   -- a start of string or a privacy message: opener, data
   Ignored : Kind → Opener → List ℕ → Segment
-  -- an escape sequence, a control sequence or a device control's header, cut short before its final byte
+  -- an escape sequence, a control sequence or a device control's header, cut short before its final
+  -- byte
   CutEscape : List ℕ → Segment
   CutCsi : Opener → List ℕ → Segment
   CutDcs : Opener → List ℕ → Segment
@@ -137,11 +138,13 @@ HasShape (Stray b) after = is_high (class_of b) ≡ true
 HasShape (Control b) after = is_control (class_of b) ≡ true
 HasShape (HighControl p b) after = is_raw_control (class_of b) ≡ true
 HasShape (Terminator p b) after = is_terminator (class_of b) ≡ true
-HasShape (Escape x f) after = AllOf in_escape x × (ends_escape (class_of f) ≡ true) × ((is_empty (strip x) && opens (class_of f)) ≡ false)
+HasShape (Escape x f) after = AllOf in_escape x × (ends_escape (class_of f) ≡ true)
+    × ((is_empty (strip x) && opens (class_of f)) ≡ false)
 HasShape (Csi o x f) after = IsOpener o × AllOf in_csi x × (ends_csi (class_of f) ≡ true)
 HasShape (Osc o ps e) after = IsOpener o × ArePieces ps (ending_bytes e ++ after) × IsEnding e
 HasShape (CutEscape x) after = AllOf in_escape x
-HasShape (Dcs o x f d) after = IsOpener o × AllOf in_csi x × (ends_csi (class_of f) ≡ true) × AllOf in_data d
+HasShape (Dcs o x f d) after = IsOpener o × AllOf in_csi x × (ends_csi (class_of f) ≡ true)
+    × AllOf in_data d
 HasShape (Apc o d) after = IsOpener o × AllOf in_data d
 HasShape (Ignored k o d) after = (is_ignored k ≡ true) × IsOpener o × AllOf in_data d
 HasShape (CutDcs o x) after = IsOpener o × AllOf in_csi x
@@ -194,7 +197,8 @@ joined gs = flat_map bytes_of gs
 abbrev pub AreSegments : List Segment → Type 0
 AreSegments [] = Unit {0}
 AreSegments (g ∷ []) = HasShape g []
-AreSegments (g ∷ h ∷ gs) = HasShape g (joined (h ∷ gs)) × (is_finished g (joined (h ∷ gs)) ≡ true) × AreSegments (h ∷ gs)
+AreSegments (g ∷ h ∷ gs) = HasShape g (joined (h ∷ gs)) × (is_finished g (joined (h ∷ gs)) ≡ true)
+    × AreSegments (h ∷ gs)
 
 -- a cut of the stream
 pub record IsCut (stream : List ℕ) (gs : List Segment) : Type 0 where
@@ -231,12 +235,14 @@ csi_events x f = if is_csi_body x then csi_event x f ∷ [] else []
 
 -- the hook of a device control string with this header
 abbrev pub hook_event : List ℕ → ℕ → Event
-hook_event x f = DcsHook f (dcs_params x) (kept_intermediates (dcs_intermediates x)) (has_more_intermediates (dcs_intermediates x))
+hook_event x f = DcsHook f (dcs_params x) (kept_intermediates (dcs_intermediates x))
+    (has_more_intermediates (dcs_intermediates x))
 
 abbrev pub puts : List ℕ → List Event
 puts d = map DcsPut (those is_put d)
 
--- what an OSC with this text, and an APC with these bytes, dispatches where it is finished: nothing past the limit
+-- what an OSC with this text, and an APC with these bytes, dispatches where it is finished: nothing
+-- past the limit
 abbrev pub osc_events : Option ℕ → List ℕ → List Event
 osc_events limit t = if is_within limit (length t) then OscDispatch (parts_of t) ∷ [] else []
 
@@ -253,12 +259,16 @@ events_of_within limit (Control b) finished = Execute b ∷ []
 events_of_within limit (HighControl p b) finished = Execute b ∷ []
 events_of_within limit (Terminator p b) finished = []
 events_of_within limit (Escape x f) finished = executes x ++ escape_event (strip x) f ∷ []
-events_of_within limit (Csi o x f) finished = opener_events o ++ executes x ++ csi_events (strip x) f
-events_of_within limit (Osc o ps e) finished = opener_events o ++ (if finished then osc_events limit (text_of ps) else [])
+events_of_within limit (Csi o x f) finished =
+    opener_events o ++ executes x ++ csi_events (strip x) f
+events_of_within limit (Osc o ps e) finished =
+    opener_events o ++ (if finished then osc_events limit (text_of ps) else [])
 events_of_within limit (CutEscape x) finished = executes x
 events_of_within limit (Dcs o x f d) finished =
-    opener_events o ++ (if is_read limit (strip x) then (hook_event (strip x) f ∷ puts d) ++ (if finished then DcsUnhook ∷ [] else []) else [])
-events_of_within limit (Apc o d) finished = opener_events o ++ (if finished then apc_events limit (those is_text d) else [])
+    opener_events o ++ (if is_read limit (strip x) then (hook_event (strip x) f ∷ puts d)
+    ++ (if finished then DcsUnhook ∷ [] else []) else [])
+events_of_within limit (Apc o d) finished =
+    opener_events o ++ (if finished then apc_events limit (those is_text d) else [])
 events_of_within limit (Ignored k o d) finished = opener_events o
 events_of_within limit (CutDcs o x) finished = opener_events o
 events_of_within limit (CutCsi o x) finished = opener_events o ++ executes x
@@ -266,11 +276,13 @@ events_of_within limit (CutCsi o x) finished = opener_events o ++ executes x
 abbrev pub events_of_cut_within : Option ℕ → List Segment → List Event
 events_of_cut_within limit [] = []
 events_of_cut_within limit (g ∷ []) = events_of_within limit g (ends_itself g)
-events_of_cut_within limit (g ∷ h ∷ gs) = events_of_within limit g true ++ events_of_cut_within limit (h ∷ gs)
+events_of_cut_within limit (g ∷ h ∷ gs) =
+    events_of_within limit g true ++ events_of_cut_within limit (h ∷ gs)
 
 -- what a stream tells: the events of its cut
 abbrev pub HasEventsWithin : Option ℕ → List ℕ → List Event → Type 0
-HasEventsWithin limit stream events = (gs : List Segment) × IsCut stream gs × (events ≡ events_of_cut_within limit gs)
+HasEventsWithin limit stream events = (gs : List Segment) × IsCut stream gs
+    × (events ≡ events_of_cut_within limit gs)
 
 -- the same without a limit
 abbrev pub events_of : Segment → Bool → List Event

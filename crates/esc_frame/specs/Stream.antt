@@ -8,9 +8,10 @@ use Rattle.esc_frame.specs.Leads.Unfinished.{Ground}
 use Rattle.esc_frame.specs.Machine.Keeps.{KeepsText}
 use Rattle.esc_frame.specs.Machine.Moves.{after_all, news_all}
 
--- The events of a stream, where of each string no more is kept than the limit: of a longer one nothing is told. The laws
--- `events_of_the_cut_within` and `events_once_within` fix it: they are those that the stream's one cut tells, and no others.
--- Nothing above this crate uses more of its body, which takes byte after byte as the code does.
+-- The events of a stream, where of each string no more is kept than the limit: of a longer one
+-- nothing is told. The laws `events_of_the_cut_within` and `events_once_within` fix it: they are
+-- those that the stream's one cut tells, and no others. Nothing above this crate uses more of its
+-- body, which takes byte after byte as the code does.
 unfoldable pub events_within : Option ℕ → List ℕ → List Event
 events_within limit s = news_all limit Ground s
 
@@ -18,10 +19,11 @@ events_within limit s = news_all limit Ground s
 unfoldable pub added_within : Option ℕ → List ℕ → List ℕ → List Event
 added_within limit s b = drop (length (events_within limit s)) (events_within limit (s ++ b))
 
--- The stream may be what the parser was fed, which keeps no more of a string than the limit: it keeps what is unfinished
--- of the stream, and has not failed.
+-- The stream may be what the parser was fed, which keeps no more of a string than the limit: it
+-- keeps what is unfinished of the stream, and has not failed.
 unfoldable pub LeadsToWithin : {A : Type 0} → Option ℕ → List ℕ → VTParser A → Type 0
-LeadsToWithin limit s p = (p.has_failed ≡ false) × (p.limit ≡ limit) × Holds KeepsText p.limit p.machine (after_all Ground s)
+LeadsToWithin limit s p = (p.has_failed ≡ false) × (p.limit ≡ limit)
+    × Holds KeepsText p.limit p.machine (after_all Ground s)
 
 -- an earlier call of the parser was refused memory
 unfoldable pub HasFailed : {A : Type 0} → VTParser A → Type 0
@@ -44,7 +46,8 @@ IsUnfinished s u =
 
 -- of the first n bytes that follow s, all but the last add no event and leave a segment unfinished
 abbrev pub IsQuietWithin : Option ℕ → List ℕ → List ℕ → ℕ → Type 0
-IsQuietWithin limit s b n = (k : ℕ) → 0 < k → k < n → (added_within limit s (take k b) ≡ []) × (IsAtGround (s ++ take k b) → ⊥)
+IsQuietWithin limit s b n = (k : ℕ) → 0 < k → k < n → (added_within limit s (take k b) ≡ [])
+    × (IsAtGround (s ++ take k b) → ⊥)
 
 -- ---- without a limit
 

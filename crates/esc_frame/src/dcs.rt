@@ -167,7 +167,8 @@ fn hook<K: Store, A: Allocator, V: Taker>(
 ) -> Result<()>
     requires { V.is_ready actor.old }
     ensures told { KeepingHeader K.Store parameters.now header.now (λ limit x.
-        is_read limit x ≡ true → Emits V.Taker (Stops V.stops A limit) result (hook_event x b ∷ []) actor) }
+        is_read limit x ≡ true
+        → Emits V.Taker (Stops V.stops A limit) result (hook_event x b ∷ []) actor) }
     ensures ready { OnOk result (V.is_ready actor.new) }
 {
     let kept = &header.intermediates;

@@ -193,7 +193,8 @@ impl<K: Store, A: Allocator> Machine<K, A> {
         ensures holds { Holding K.Store limit self (λ u.
             OnOk result (Holds K.keeps limit self.new (after_all u bytes.now))) }
         ensures told { Holding K.Store limit self (λ u.
-            Emits V.Taker ((may_grow_within u bytes.now ≡ true) × Fails K.denied V.stops A limit) result
+            Emits V.Taker ((may_grow_within u bytes.now ≡ true)
+            × Fails K.denied V.stops A limit) result
             (news_all limit u bytes.now) actor) }
         ensures ready { OnOk result (V.is_ready actor.new) }
     {

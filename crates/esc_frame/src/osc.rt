@@ -445,7 +445,8 @@ fn tell_lent<A: Allocator, V: Taker>(
     actor: &mut V,
 ) -> Result<()>
     requires { V.is_ready actor.old }
-    ensures told { Emits V.Taker ((not (has_few_parts text.now) ≡ true) × Stops V.stops A limit) result
+    ensures told { Emits V.Taker ((not (has_few_parts text.now) ≡ true)
+        × Stops V.stops A limit) result
         (osc_events limit text.now) actor }
     ensures ready { OnOk result (V.is_ready actor.new) }
 {

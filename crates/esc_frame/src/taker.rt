@@ -17,8 +17,9 @@ use crate::texts::first_of;
 use esc_values::csi_param::CsiParam;
 use std::alloc::{AllocError, Allocator};
 
-/// What a machine gives its events, one call an event. Every [`VTActor`] is one. A type that takes the texts of strings as they
-/// are, and asks for no memory, can say so here, by `stops`, which a `VTActor` cannot: its default methods make lists.
+/// What a machine gives its events, one call an event. Every [`VTActor`] is one. A type that takes
+/// the texts of strings as they are, and asks for no memory, can say so here, by `stops`, which a
+/// `VTActor` cannot: its default methods make lists.
 pub trait Taker {
     // what an event may make of a value
     ghost takes: { Self → Event → Self → Type 0 };

@@ -32,28 +32,34 @@ end_back d e same =
     let len : length (d ++ e) - length e ≡ length d = omega (arith, length-append d e) in
     rw (len, drop-append_seam d e, take-append_seam d e, same) refl
 
-no_end : (f : ℕ → Bool) (t : List ℕ) (c : ℕ) (e : List ℕ) → list_all f t ≡ true → f c ≡ false → before_end (c ∷ e) t ≡ None
+no_end : (f : ℕ → Bool) (t : List ℕ) (c : ℕ) (e : List ℕ) → list_all f t ≡ true → f c ≡ false
+    → before_end (c ∷ e) t ≡ None
 no_end f t c e h other =
-    rw (differs f (drop (length t - length (c ∷ e)) t) c e (drop_passes f (length t - length (c ∷ e)) t h) other) refl
+    rw (differs f (drop (length t - length (c ∷ e)) t) c e
+    (drop_passes f (length t - length (c ∷ e)) t h) other) refl
 
 -- a text that begins with a number is not `auto`
-not_auto : (d u : List ℕ) → list_all is_number d ≡ true → 0 < length d → pointwise nat_eq (d ++ u) (codes "auto") ≡ false
+not_auto : (d u : List ℕ) → list_all is_number d ≡ true → 0 < length d
+    → pointwise nat_eq (d ++ u) (codes "auto") ≡ false
 not_auto [] u h some = absurd (omega arith)
 not_auto (c ∷ d) u h some = elim (cases_Bool (nat_eq c 97)) [
   | inl same ↦ absurd (let k = eqb-true c 97 same in let bad = rw k at h in cc)
   | inr other ↦ rw other refl
 ]
 
-read_cells : (t : List ℕ) (r : Option ITermDimension) → pointwise nat_eq t (codes "auto") ≡ false → before_end (codes "px") t ≡ None
+read_cells : (t : List ℕ) (r : Option ITermDimension) → pointwise nat_eq t (codes "auto") ≡ false
+    → before_end (codes "px") t ≡ None
     → before_end (codes "%") t ≡ None
     → option_map Cells (signed_of 64 t) ≡ r → dimension_of t ≡ r
 read_cells t r a p q e = rw (a, p, q) e
 
-read_pixels : (t n : List ℕ) (r : Option ITermDimension) → pointwise nat_eq t (codes "auto") ≡ false → before_end (codes "px") t ≡ Some n
+read_pixels : (t n : List ℕ) (r : Option ITermDimension) → pointwise nat_eq t (codes "auto") ≡ false
+    → before_end (codes "px") t ≡ Some n
     → option_map Pixels (signed_of 64 n) ≡ r → dimension_of t ≡ r
 read_pixels t n r a p e = rw (a, p) e
 
-read_percent : (t n : List ℕ) (r : Option ITermDimension) → pointwise nat_eq t (codes "auto") ≡ false → before_end (codes "px") t ≡ None
+read_percent : (t n : List ℕ) (r : Option ITermDimension)
+    → pointwise nat_eq t (codes "auto") ≡ false → before_end (codes "px") t ≡ None
     → before_end (codes "%") t ≡ Some n
     → option_map Percent (signed_of 64 n) ≡ r → dimension_of t ≡ r
 read_percent t n r a p q e = rw (a, p, q) e
@@ -79,15 +85,19 @@ dimension_back (Percent z) h =
     let wide : list_all is_percent t ≡ true = signed_passes is_percent refl refl z h in
     read_percent (t ++ codes "%") t (Some (Percent z))
     (not_auto t (codes "%") plain (signed_some z h))
-    (no_end is_percent (t ++ codes "%") 112 (120 ∷ []) (all_append is_percent t (codes "%") wide refl) refl)
+    (no_end is_percent (t ++ codes "%") 112 (120 ∷ [])
+    (all_append is_percent t (codes "%") wide refl) refl)
     (end_back t (codes "%") refl)
     (ap (option_map Percent) (signed_back_64 z h))
 
 -- what is read
 measured_where : (p q : Option (List ℕ)) (t : List ℕ) → Where (λ d. IsDimension d) (measured p q t)
-measured_where (Some n) q t = where_map (λ z. IsSigned 64 z) (λ d. IsDimension d) Pixels (λ z h. h) (signed_of 64 n) (signed_where 64 n)
-measured_where None (Some n) t = where_map (λ z. IsSigned 64 z) (λ d. IsDimension d) Percent (λ z h. h) (signed_of 64 n) (signed_where 64 n)
-measured_where None None t = where_map (λ z. IsSigned 64 z) (λ d. IsDimension d) Cells (λ z h. h) (signed_of 64 t) (signed_where 64 t)
+measured_where (Some n) q t = where_map (λ z. IsSigned 64 z) (λ d. IsDimension d) Pixels (λ z h.
+    h) (signed_of 64 n) (signed_where 64 n)
+measured_where None (Some n) t = where_map (λ z. IsSigned 64 z) (λ d. IsDimension d) Percent (λ z h.
+    h) (signed_of 64 n) (signed_where 64 n)
+measured_where None None t = where_map (λ z. IsSigned 64 z) (λ d. IsDimension d) Cells (λ z h.
+    h) (signed_of 64 t) (signed_where 64 t)
 
 pub dimension_where : (t : List ℕ) → Where (λ d. IsDimension d) (dimension_of t)
 dimension_where t =

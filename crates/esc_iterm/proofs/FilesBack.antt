@@ -38,27 +38,43 @@ keys_are : (ks : List (List ℕ × Option (List ℕ))) → AreKeys ks → ArePie
 keys_are [] h = tt
 keys_are (k ∷ ks) h = pieces_append (key_pair k.0 k.1) (key_pairs ks) h.0 (keys_are ks h.1)
 
-size_key : (o : Option ℕ) → IfSome o (λ n. n < 2 ^ 64) → ArePieces (key_pair (codes "size") (option_map decimal o))
+size_key : (o : Option ℕ) → IfSome o (λ n. n < 2 ^ 64)
+    → ArePieces (key_pair (codes "size") (option_map decimal o))
 size_key None h = tt
-size_key (Some n) h = (record { lacks = refl; key = refl; value = decimal_passes is_key_plain refl n h }, tt)
+size_key (Some n) h =
+    (record { lacks = refl; key = refl; value = decimal_passes is_key_plain refl n h }, tt)
 
-name_key : (o : Option (List ℕ)) → IfSome o (λ t. IsUtf8 t) → ArePieces (key_pair (codes "name") (option_map base64_text o))
+name_key : (o : Option (List ℕ)) → IfSome o (λ t. IsUtf8 t)
+    → ArePieces (key_pair (codes "name") (option_map base64_text o))
 name_key None h = tt
-name_key (Some t) h = (record { lacks = refl; key = refl; value = base64_passes is_key_plain refl refl t (utf8_are_bytes t h) }, tt)
+name_key (Some t) h = (
+  record {
+    lacks = refl;
+    key = refl;
+    value = base64_passes is_key_plain refl refl t (utf8_are_bytes t h);
+  },
+  tt,
+)
 
-width_text : (d : ITermDimension) (v : List ℕ) → IsDimension d → written_dimension d ≡ Some v → list_all is_key_plain v ≡ true
+width_text : (d : ITermDimension) (v : List ℕ) → IsDimension d → written_dimension d ≡ Some v
+    → list_all is_key_plain v ≡ true
 width_text Automatic v h e = absurd cc
-width_text (Cells n) v h e = let k : signed_decimal n ≡ v = cc in rw (← k) (signed_passes is_key_plain refl refl n h)
+width_text (Cells n) v h e = let k : signed_decimal n ≡ v = cc in
+    rw (← k) (signed_passes is_key_plain refl refl n h)
 width_text (Pixels n) v h e = let k : signed_decimal n ++ codes "px" ≡ v = cc in
-    rw (← k) (all_append is_key_plain (signed_decimal n) (codes "px") (signed_passes is_key_plain refl refl n h) refl)
+    rw (← k) (all_append is_key_plain (signed_decimal n) (codes "px")
+    (signed_passes is_key_plain refl refl n h) refl)
 width_text (Percent n) v h e = let k : signed_decimal n ++ codes "%" ≡ v = cc in
-    rw (← k) (all_append is_key_plain (signed_decimal n) (codes "%") (signed_passes is_key_plain refl refl n h) refl)
+    rw (← k) (all_append is_key_plain (signed_decimal n) (codes "%")
+    (signed_passes is_key_plain refl refl n h) refl)
 
-width_key : (o : Option (List ℕ)) → ((v : List ℕ) → o ≡ Some v → list_all is_key_plain v ≡ true) → ArePieces (key_pair (codes "width") o)
+width_key : (o : Option (List ℕ)) → ((v : List ℕ) → o ≡ Some v → list_all is_key_plain v ≡ true)
+    → ArePieces (key_pair (codes "width") o)
 width_key None h = tt
 width_key (Some v) h = (record { lacks = refl; key = refl; value = h v refl }, tt)
 
-height_key : (o : Option (List ℕ)) → ((v : List ℕ) → o ≡ Some v → list_all is_key_plain v ≡ true) → ArePieces (key_pair (codes "height") o)
+height_key : (o : Option (List ℕ)) → ((v : List ℕ) → o ≡ Some v → list_all is_key_plain v ≡ true)
+    → ArePieces (key_pair (codes "height") o)
 height_key None h = tt
 height_key (Some v) h = (record { lacks = refl; key = refl; value = h v refl }, tt)
 
@@ -83,18 +99,23 @@ file_keys f h = (
       width_key (written_dimension f.width) (λ v e. width_text f.width v h.2 e),
       (
         height_key (written_dimension f.height) (λ v e. width_text f.height v h.3 e),
-        (ratio_key (not f.preserve_aspect_ratio), (inline_key f.inline, (cursor_key f.do_not_move_cursor, tt))),
+        (
+          ratio_key (not f.preserve_aspect_ratio),
+          (inline_key f.inline, (cursor_key f.do_not_move_cursor, tt)),
+        ),
       ),
     ),
   ),
 )
 
 -- what is read of them
-name_back : (o : Option (List ℕ)) → IfSome o (λ t. IsUtf8 t) → and_then (option_map base64_text o) base64_text_of ≡ o
+name_back : (o : Option (List ℕ)) → IfSome o (λ t. IsUtf8 t)
+    → and_then (option_map base64_text o) base64_text_of ≡ o
 name_back None h = refl
 name_back (Some t) h = base64_back t h
 
-size_back : (o : Option ℕ) → IfSome o (λ n. n < 2 ^ 64) → and_then (option_map decimal o) (number_of 64) ≡ o
+size_back : (o : Option ℕ) → IfSome o (λ n. n < 2 ^ 64)
+    → and_then (option_map decimal o) (number_of 64) ≡ o
 size_back None h = refl
 size_back (Some n) h = number_back 64 n h h
 
@@ -124,31 +145,61 @@ values_in f = record {
   do_not_move_cursor = when f.do_not_move_cursor (codes "1");
 }
 
-pub same_values : (n n' s s' w w' h h' r r' i i' c c' : Option (List ℕ)) → n ≡ n' → s ≡ s' → w ≡ w' → h ≡ h' → r ≡ r' → i ≡ i' → c ≡ c'
-    → ◌≡◌ {A = Values} (record { name = n; size = s; width = w; height = h; preserve_aspect_ratio = r; inline = i; do_not_move_cursor = c })
-    (record { name = n'; size = s'; width = w'; height = h'; preserve_aspect_ratio = r'; inline = i'; do_not_move_cursor = c' })
-same_values n n' s s' w w' h h' r r' i i' c c' e1 e2 e3 e4 e5 e6 e7 = rw (e1, e2, e3, e4, e5, e6, e7) refl
+pub same_values : (n n' s s' w w' h h' r r' i i' c c' : Option (List ℕ)) → n ≡ n' → s ≡ s' → w ≡ w'
+    → h ≡ h' → r ≡ r' → i ≡ i' → c ≡ c'
+    → ◌≡◌ {A = Values} (record {
+      name = n;
+      size = s;
+      width = w;
+      height = h;
+      preserve_aspect_ratio =
+          r;
+      inline = i;
+      do_not_move_cursor = c;
+    })
+    (record {
+      name = n';
+      size = s';
+      width = w';
+      height = h';
+      preserve_aspect_ratio = r';
+      inline = i';
+      do_not_move_cursor = c';
+    })
+same_values n n' s s' w w' h h' r r' i i' c c' e1 e2 e3 e4 e5 e6 e7 =
+    rw (e1, e2, e3, e4, e5, e6, e7) refl
 
-values_are : {A : Type 0} (f : ITermFileData A) → values_after no_values (key_pairs (written_keys f)) ≡ values_in f
+values_are : {A : Type 0} (f : ITermFileData A)
+    → values_after no_values (key_pairs (written_keys f)) ≡ values_in f
 values_are f =
     let ks = written_keys f in
-    let name : last_value (codes "name") None (key_pairs ks) ≡ option_map base64_text f.name = last_value_in (codes "name") None ks
+    let name : last_value (codes "name") None (key_pairs ks) ≡ option_map base64_text f.name =
+    last_value_in (codes "name") None ks
     ∙ or_none (option_map base64_text f.name) in
-    let size : last_value (codes "size") None (key_pairs ks) ≡ option_map decimal f.size = last_value_in (codes "size") None ks
+    let size : last_value (codes "size") None (key_pairs ks) ≡ option_map decimal f.size =
+    last_value_in (codes "size") None ks
     ∙ or_none (option_map decimal f.size) in
-    let width : last_value (codes "width") None (key_pairs ks) ≡ written_dimension f.width = last_value_in (codes "width") None ks
+    let width : last_value (codes "width") None (key_pairs ks) ≡ written_dimension f.width =
+    last_value_in (codes "width") None ks
     ∙ or_none (written_dimension f.width) in
-    let height : last_value (codes "height") None (key_pairs ks) ≡ written_dimension f.height = last_value_in (codes "height") None ks
+    let height : last_value (codes "height") None (key_pairs ks) ≡ written_dimension f.height =
+    last_value_in (codes "height") None ks
     ∙ or_none (written_dimension f.height) in
-    let ratio : last_value (codes "preserveAspectRatio") None (key_pairs ks) ≡ when (not f.preserve_aspect_ratio) (codes "0") =
-    last_value_in (codes "preserveAspectRatio") None ks ∙ or_none (when (not f.preserve_aspect_ratio) (codes "0")) in
-    let inline : last_value (codes "inline") None (key_pairs ks) ≡ when f.inline (codes "1") = last_value_in (codes "inline") None ks
+    let ratio : last_value (codes "preserveAspectRatio") None (key_pairs ks)
+    ≡ when (not f.preserve_aspect_ratio) (codes "0") =
+    last_value_in (codes "preserveAspectRatio") None ks
+    ∙ or_none (when (not f.preserve_aspect_ratio) (codes "0")) in
+    let inline : last_value (codes "inline") None (key_pairs ks) ≡ when f.inline (codes "1") =
+    last_value_in (codes "inline") None ks
     ∙ or_none (when f.inline (codes "1")) in
-    let cursor : last_value (codes "doNotMoveCursor") None (key_pairs ks) ≡ when f.do_not_move_cursor (codes "1") =
-    last_value_in (codes "doNotMoveCursor") None ks ∙ or_none (when f.do_not_move_cursor (codes "1")) in
+    let cursor : last_value (codes "doNotMoveCursor") None (key_pairs ks)
+    ≡ when f.do_not_move_cursor (codes "1") =
+    last_value_in (codes "doNotMoveCursor") None ks
+    ∙ or_none (when f.do_not_move_cursor (codes "1")) in
     same_values _ _ _ _ _ _ _ _ _ _ _ _ _ _ name size width height ratio inline cursor
 
-filled_back : {A : Type 0} (f : ITermFileData A) → IsWritableFile f → file_with {A = A} (values_in f) (base64_text f.content) ≡ Some f
+filled_back : {A : Type 0} (f : ITermFileData A) → IsWritableFile f
+    → file_with {A = A} (values_in f) (base64_text f.content) ≡ Some f
 filled_back f h =
     rw (
       base64_bytes_back f.content h.4,
@@ -163,10 +214,13 @@ filled_back f h =
 
 -- the file of what is in the pieces
 abbrev made : {A : Type 0} → Option (Pairs × List ℕ) → Option (ITermFileData A)
-made o = and_then (option_map (λ (m : Pairs × List ℕ). (values_after no_values m.0, m.1)) o) (λ (m : Values × List ℕ). file_with m.0 m.1)
+made o = and_then (option_map (λ (m : Pairs × List ℕ). (values_after no_values m.0, m.1)) o)
+    (λ (m : Values × List ℕ). file_with m.0 m.1)
 
-back_of : {A : Type 0} (f : ITermFileData A) (es : Pairs) (b : List ℕ) → ArePieces es → list_all is_part_plain (0x3a ∷ b) ≡ true
-    → file_with {A = A} (values_after no_values es) b ≡ Some f → file_text f ≡ codes "File=" ++ (joined (map pair_text es) ++ 0x3a ∷ b) → FileBack f
+back_of : {A : Type 0} (f : ITermFileData A) (es : Pairs) (b : List ℕ) → ArePieces es
+    → list_all is_part_plain (0x3a ∷ b) ≡ true
+    → file_with {A = A} (values_after no_values es) b ≡ Some f
+    → file_text f ≡ codes "File=" ++ (joined (map pair_text es) ++ 0x3a ∷ b) → FileBack f
 back_of {A = A} f [] b h plain is text = (
   ended (codes "File=" ++ []) [] (0x3a ∷ b),
   text ∙ sym (joined_ended (codes "File=" ++ []) [] (0x3a ∷ b)),
@@ -176,16 +230,21 @@ back_of {A = A} f [] b h plain is text = (
 )
 back_of {A = A} f (e ∷ es) b h plain is text = (
   ended (codes "File=" ++ pair_text e) (map pair_text es) (0x3a ∷ b),
-  text ∙ ap (λ u. codes "File=" ++ u) (append_assoc (pair_text e) (separated (map pair_text es)) (0x3a ∷ b))
+  text ∙ ap (λ u. codes "File=" ++ u) (append_assoc (pair_text e) (separated (map pair_text es))
+      (0x3a ∷ b))
       ∙ sym (joined_ended (codes "File=" ++ pair_text e) (map pair_text es) (0x3a ∷ b)),
   ended_some (codes "File=" ++ pair_text e) (map pair_text es) (0x3a ∷ b),
-  ended_clear (codes "File=" ++ pair_text e) (map pair_text es) (0x3a ∷ b) (key_plain_part (pair_text e) (piece_plain e h.0)) (pieces_plain es h.1) plain,
-  file_of_ended {A = A} (pair_text e) (map pair_text es) (0x3a ∷ b) ∙ ap (made {A = A}) (pairs_back e es b h.0 h.1) ∙ is,
+  ended_clear (codes "File=" ++ pair_text e) (map pair_text es) (0x3a ∷ b)
+      (key_plain_part (pair_text e) (piece_plain e h.0)) (pieces_plain es h.1) plain,
+  file_of_ended {A = A} (pair_text e) (map pair_text es) (0x3a ∷ b)
+      ∙ ap (made {A = A}) (pairs_back e es b h.0 h.1) ∙ is,
 )
 
 pub file_back : {A : Type 0} (f : ITermFileData A) → IsWritableFile f → FileBack f
 file_back {A = A} f h =
-    back_of f (key_pairs (written_keys f)) (base64_text f.content) (keys_are (written_keys f) (file_keys f h))
+    back_of f (key_pairs (written_keys f)) (base64_text f.content)
+    (keys_are (written_keys f) (file_keys f h))
     (base64_passes is_part_plain refl refl f.content (from_index f.content h.4))
     (ap (λ v. file_with {A = A} v (base64_text f.content)) (values_are f) ∙ filled_back f h)
-    (ap (λ ps. codes "File=" ++ (joined ps ++ 0x3a ∷ base64_text f.content)) (key_pieces_are (written_keys f)))
+    (ap (λ ps. codes "File=" ++ (joined ps ++ 0x3a ∷ base64_text f.content))
+    (key_pieces_are (written_keys f)))

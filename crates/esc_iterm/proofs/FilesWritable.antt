@@ -15,37 +15,50 @@ use Rattle.esc_iterm.specs.declared.file_data.ITermFileData.{ITermFileData}
 use Rattle.esc_iterm.proofs.DecodedBytes.{decoded_are_bytes}
 use Rattle.esc_iterm.proofs.DimensionsBack.{dimension_where}
 
-automatic_where : (o : Option ITermDimension) → Where (λ d. IsDimension d) o → IsDimension (unwrap_or o Automatic)
+automatic_where : (o : Option ITermDimension) → Where (λ d. IsDimension d) o
+    → IsDimension (unwrap_or o Automatic)
 automatic_where None h = tt
 automatic_where (Some d) h = h
 
 size_where : (v : Option (List ℕ)) → IsDimension (size_in v)
 size_where v = automatic_where (and_then v dimension_of)
-    (where_then (λ (t : List ℕ). Anything t) (λ d. IsDimension d) dimension_of (λ t h. dimension_where t) v (anything v))
+    (where_then (λ (t : List ℕ). Anything t) (λ d. IsDimension d) dimension_of (λ t h.
+    dimension_where t) v (anything v))
 
-filled_where : (A : Type 0) (v : Values) (bs : List ℕ) → IsBytes bs → IsWritableFile (filled {A = A} v bs)
+filled_where : (A : Type 0) (v : Values) (bs : List ℕ) → IsBytes bs
+    → IsWritableFile (filled {A = A} v bs)
 filled_where A v bs h = (
-  where_then (λ (t : List ℕ). Anything t) (λ t. IsUtf8 t) base64_text_of (λ t k. content_where t) v.name (anything v.name),
-  where_then (λ (t : List ℕ). Anything t) (λ n. n < 2 ^ 64) (number_of 64) (λ t k. number_where 64 t) v.size (anything v.size),
+  where_then (λ (t : List ℕ). Anything t) (λ t. IsUtf8 t) base64_text_of (λ t k.
+      content_where t) v.name (anything v.name),
+  where_then (λ (t : List ℕ). Anything t) (λ n. n < 2 ^ 64) (number_of 64) (λ t k.
+      number_where 64 t) v.size (anything v.size),
   size_where v.width,
   size_where v.height,
   h,
 )
 
-file_with_where : (A : Type 0) (v : Values) (t : List ℕ) → Where (λ f. IsWritableFile f) (file_with {A = A} v t)
+file_with_where : (A : Type 0) (v : Values) (t : List ℕ)
+    → Where (λ f. IsWritableFile f) (file_with {A = A} v t)
 file_with_where A v t =
-    where_map (λ m. IsBytes m) (λ f. IsWritableFile f) (filled {A = A} v) (λ m h. filled_where A v m h) (base64_of t)
+    where_map (λ m. IsBytes m) (λ f. IsWritableFile f) (filled {A = A} v) (λ m h.
+    filled_where A v m h) (base64_of t)
     (where_from (λ m. IsBytes m) (base64_of t) (λ m e. decoded_are_bytes t m e))
 
-file_from_where : (A : Type 0) (ps : List (List ℕ)) → Where (λ f. IsWritableFile f) (file_from {A = A} ps)
+file_from_where : (A : Type 0) (ps : List (List ℕ))
+    → Where (λ f. IsWritableFile f) (file_from {A = A} ps)
 file_from_where A ps =
-    where_then (λ (m : Values × List ℕ). Anything m) (λ f. IsWritableFile f) (λ (m : Values × List ℕ). file_with {A = A} m.0 m.1)
+    where_then (λ (m : Values × List ℕ). Anything m) (λ f. IsWritableFile f) (λ (m : Values
+    × List ℕ). file_with {A = A} m.0 m.1)
     (λ m h. file_with_where A m.0 m.1) (values_of ps) (anything (values_of ps))
 
-file_where : (A : Type 0) (args : List (List ℕ)) → Where (λ f. IsWritableFile f) (file_of {A = A} args)
+file_where : (A : Type 0) (args : List (List ℕ))
+    → Where (λ f. IsWritableFile f) (file_of {A = A} args)
 file_where A [] = tt
 file_where A (p ∷ ps) =
-    where_if (λ f. IsWritableFile f) (starts_with nat_eq p (codes "File=")) (file_from {A = A} (drop 5 p ∷ ps)) None (file_from_where A (drop 5 p ∷ ps)) tt
+    where_if (λ f. IsWritableFile f) (starts_with nat_eq p (codes "File="))
+    (file_from {A = A} (drop 5 p ∷ ps)) None (file_from_where A (drop 5 p ∷ ps)) tt
 
-pub file_is_writable : {A : Type 0} (args : List (List ℕ)) (f : ITermFileData A) → file_of args ≡ Some f → IsWritableFile f
-file_is_writable {A = A} args f e = let P : Option (ITermFileData A) → Type 0 = λ o. Where (λ g. IsWritableFile g) o in subst P e (file_where A args)
+pub file_is_writable : {A : Type 0} (args : List (List ℕ)) (f : ITermFileData A)
+    → file_of args ≡ Some f → IsWritableFile f
+file_is_writable {A = A} args f e = let P : Option (ITermFileData A) → Type 0 =
+    λ o. Where (λ g. IsWritableFile g) o in subst P e (file_where A args)

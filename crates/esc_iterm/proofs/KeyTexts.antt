@@ -26,16 +26,19 @@ signed_some (pos n) h = decimal_nonempty n (omega arith)
 signed_some (negsuc n) h = omega arith
 
 -- a text that passes a test differs from one that begins with a character that does not
-pub differs : (f : ℕ → Bool) (u : List ℕ) (c : ℕ) (e : List ℕ) → list_all f u ≡ true → f c ≡ false → pointwise nat_eq u (c ∷ e) ≡ false
+pub differs : (f : ℕ → Bool) (u : List ℕ) (c : ℕ) (e : List ℕ) → list_all f u ≡ true → f c ≡ false
+    → pointwise nat_eq u (c ∷ e) ≡ false
 differs f [] c e h fails = refl
 differs f (x ∷ u) c e h fails =
     let q = and_parts (f x) (list_all f u) h in
     elim (cases_Bool (nat_eq x c)) [
-      | inl same ↦ absurd (let k : x ≡ c = eqb-true x c same in let one = q.0 in let bad : f c ≡ true = rw k at one in cc)
+      | inl same ↦ absurd (let k : x ≡ c = eqb-true x c same in let one = q.0 in
+          let bad : f c ≡ true = rw k at one in cc)
       | inr other ↦ rw other refl
     ]
 
-pub drop_passes : (f : ℕ → Bool) (n : ℕ) (t : List ℕ) → list_all f t ≡ true → list_all f (drop n t) ≡ true
+pub drop_passes : (f : ℕ → Bool) (n : ℕ) (t : List ℕ) → list_all f t ≡ true
+    → list_all f (drop n t) ≡ true
 drop_passes f zero t h = h
 drop_passes f (suc n) [] h = refl
 drop_passes f (suc n) (c ∷ t) h = drop_passes f n t (and_parts (f c) (list_all f t) h).1

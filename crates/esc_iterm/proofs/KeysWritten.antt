@@ -13,11 +13,14 @@ abbrev pub is_nothing : List (List ℕ) → Bool
 is_nothing [] = true
 is_nothing (p ∷ ps) = false
 
-pieces_push : (es : List (List ℕ × Option (List ℕ))) (e : List ℕ × Option (List ℕ)) → key_pieces (es ++ e ∷ []) ≡ key_pieces es ++ key_piece e.0 e.1
+pieces_push : (es : List (List ℕ × Option (List ℕ))) (e : List ℕ × Option (List ℕ))
+    → key_pieces (es ++ e ∷ []) ≡ key_pieces es ++ key_piece e.0 e.1
 pieces_push [] e = append-nil (key_piece e.0 e.1)
-pieces_push (d ∷ es) e = ap (λ t. key_piece d.0 d.1 ++ t) (pieces_push es e) ∙ sym (append_assoc (key_piece d.0 d.1) (key_pieces es) (key_piece e.0 e.1))
+pieces_push (d ∷ es) e = ap (λ t. key_piece d.0 d.1 ++ t) (pieces_push es e)
+    ∙ sym (append_assoc (key_piece d.0 d.1) (key_pieces es) (key_piece e.0 e.1))
 
-text_push : (ps : List (List ℕ)) (k : List ℕ) (o : Option (List ℕ)) → joined (ps ++ key_piece k o) ≡ joined ps ++ pieces_after (is_nothing ps) (key_piece k o)
+text_push : (ps : List (List ℕ)) (k : List ℕ) (o : Option (List ℕ))
+    → joined (ps ++ key_piece k o) ≡ joined ps ++ pieces_after (is_nothing ps) (key_piece k o)
 text_push [] k o = refl
 text_push (p ∷ ps) k None = rw (append-nil ps) (sym (append-nil (joined (p ∷ ps))))
 text_push (p ∷ ps) k (Some v) =
@@ -25,32 +28,41 @@ text_push (p ∷ ps) k (Some v) =
     ∙ sym (append_assoc p (separated ps) (0x3b ∷ pair_text (k, v)))
     ∙ ap (λ t. joined (p ∷ ps) ++ 0x3b ∷ t) (sym (append-nil (pair_text (k, v))))
 
-first_push : (ps : List (List ℕ)) (k : List ℕ) (o : Option (List ℕ)) → is_nothing (ps ++ key_piece k o) ≡ (is_nothing ps && not (is_some o))
+first_push : (ps : List (List ℕ)) (k : List ℕ) (o : Option (List ℕ))
+    → is_nothing (ps ++ key_piece k o) ≡ (is_nothing ps && not (is_some o))
 first_push [] k None = refl
 first_push [] k (Some v) = refl
 first_push (p ∷ ps) k o = refl
 
-pieces_more : {X : Type 0} (f : X → List ℕ × Option (List ℕ)) (keys : List X) (i : ℕ) (d : X) → i < length keys
-    → key_pieces (map f (take (i + 1) keys)) ≡ key_pieces (map f (take i keys)) ++ key_piece (f (get_or keys i d)).0 (f (get_or keys i d)).1
+pieces_more : {X : Type 0} (f : X → List ℕ × Option (List ℕ)) (keys : List X) (i : ℕ) (d : X)
+    → i < length keys
+    → key_pieces (map f (take (i + 1) keys)) ≡ key_pieces (map f (take i keys))
+    ++ key_piece (f (get_or keys i d)).0 (f (get_or keys i d)).1
 pieces_more f keys i d lt =
     ap (λ xs. key_pieces (map f xs)) (take_more keys i d lt)
     ∙ ap key_pieces (map-append f (take i keys) (get_or keys i d ∷ []))
     ∙ pieces_push (map f (take i keys)) (f (get_or keys i d))
 
 -- the text of the keys so far and one more, where first tells whether none of them is written
-pub text_more : {X : Type 0} (f : X → List ℕ × Option (List ℕ)) (keys : List X) (i : ℕ) (d : X) (first : Bool) → i < length keys
+pub text_more : {X : Type 0} (f : X → List ℕ
+    × Option (List ℕ)) (keys : List X) (i : ℕ) (d : X) (first : Bool) → i < length keys
     → first ≡ is_nothing (key_pieces (map f (take i keys)))
-    → joined (key_pieces (map f (take i keys))) ++ pieces_after first (key_piece (f (get_or keys i d)).0 (f (get_or keys i d)).1)
+    → joined (key_pieces (map f (take i keys)))
+    ++ pieces_after first (key_piece (f (get_or keys i d)).0 (f (get_or keys i d)).1)
     ≡ joined (key_pieces (map f (take (i + 1) keys)))
 text_more f keys i d first lt is =
     let k = f (get_or keys i d) in
     ap (λ b. joined (key_pieces (map f (take i keys))) ++ pieces_after b (key_piece k.0 k.1)) is
-    ∙ sym (ap joined (pieces_more f keys i d lt) ∙ text_push (key_pieces (map f (take i keys))) k.0 k.1)
+    ∙ sym (ap joined (pieces_more f keys i d lt) ∙ text_push (key_pieces (map f (take i keys))) k.0
+    k.1)
 
-pub first_more : {X : Type 0} (f : X → List ℕ × Option (List ℕ)) (keys : List X) (i : ℕ) (d : X) (first after : Bool) → i < length keys
+pub first_more : {X : Type 0} (f : X → List ℕ
+    × Option (List ℕ)) (keys : List X) (i : ℕ) (d : X) (first after : Bool) → i < length keys
     → first ≡ is_nothing (key_pieces (map f (take i keys)))
-    → after ≡ (first && not (is_some (f (get_or keys i d)).1)) → after ≡ is_nothing (key_pieces (map f (take (i + 1) keys)))
+    → after ≡ (first && not (is_some (f (get_or keys i d)).1))
+    → after ≡ is_nothing (key_pieces (map f (take (i + 1) keys)))
 first_more f keys i d first after lt was is =
     let k = f (get_or keys i d) in
     is ∙ ap (λ b. b && not (is_some k.1)) was
-    ∙ sym (ap is_nothing (pieces_more f keys i d lt) ∙ first_push (key_pieces (map f (take i keys))) k.0 k.1)
+    ∙ sym (ap is_nothing (pieces_more f keys i d lt) ∙ first_push (key_pieces (map f (take i keys)))
+    k.0 k.1)

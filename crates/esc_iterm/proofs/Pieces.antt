@@ -32,14 +32,16 @@ pair_back : (e : List ℕ × List ℕ) → IsPiece e → key_and_value (pair_tex
 pair_back e h = key_back e.0 e.1 (plain_clear e.0 h.key) h.lacks (plain_clear e.1 h.value)
 
 some_length : (k v : List ℕ) → (length (k ++ 0x3d ∷ v) == 0) ≡ false
-some_length k v = ne_eqb (length (k ++ 0x3d ∷ v)) 0 (λ e. omega (arith, e, length-append k (0x3d ∷ v)))
+some_length k v =
+    ne_eqb (length (k ++ 0x3d ∷ v)) 0 (λ e. omega (arith, e, length-append k (0x3d ∷ v)))
 
 one_back : (e : List ℕ × List ℕ) → IsPiece e → piece_pairs (pair_text e) ≡ Some (e ∷ [])
 one_back e h = rw (some_length e.0 e.1, pair_back e h) refl
 
 last_back : (e : List ℕ × List ℕ) → IsPiece e → last_pairs (pair_text e) ≡ Some (e ∷ [])
 last_back e h =
-    ap (λ (c : Option (List ℕ × List ℕ)). if is_some c then pairs_in (pair_text e ∷ []) else Some []) (cut_there 0x3d e.0 e.1 h.lacks)
+    ap (λ (c : Option (List ℕ × List ℕ)). if is_some c then pairs_in (pair_text e ∷ []) else Some
+    []) (cut_there 0x3d e.0 e.1 h.lacks)
     ∙ ap (λ (o : Option (List ℕ × List ℕ)). and_then o (λ d. Some (d ∷ []))) (pair_back e h)
 
 pub piece_plain : (e : List ℕ × List ℕ) → IsPiece e → list_all is_key_plain (pair_text e) ≡ true
@@ -54,16 +56,23 @@ abbrev pub put_before : Pairs → Option (Pairs × List ℕ) → Option (Pairs �
 put_before es o = option_map (λ (m : Pairs × List ℕ). (es ++ m.0, m.1)) o
 
 pairs_more : (p q : List ℕ) (ps : List (List ℕ)) (t : List ℕ)
-    → pairs_of (p ∷ ended q ps t) ≡ and_then (piece_pairs p) (λ es. put_before es (pairs_of (ended q ps t)))
+    → pairs_of (p ∷ ended q ps t) ≡ and_then (piece_pairs p) (λ es.
+    put_before es (pairs_of (ended q ps t)))
 pairs_more p q [] t = refl
 pairs_more p q (r ∷ ps) t = refl
 
 pub pairs_back : (e : List ℕ × List ℕ) (es : Pairs) (b : List ℕ) → IsPiece e → ArePieces es
     → pairs_of (ended (pair_text e) (map pair_text es) (0x3a ∷ b)) ≡ Some (e ∷ es, b)
-pairs_back e [] b h k = rw (cut_there 0x3a (pair_text e) b (free_passes 0x3a is_key_plain refl (pair_text e) (piece_plain e h)), last_back e h) refl
+pairs_back e [] b h k =
+    rw (
+      cut_there 0x3a (pair_text e) b (free_passes 0x3a is_key_plain refl (pair_text e)
+          (piece_plain e h)),
+      last_back e h,
+    ) refl
 pairs_back e (g ∷ es) b h k =
     pairs_more (pair_text e) (pair_text g) (map pair_text es) (0x3a ∷ b)
-    ∙ ap (λ o. and_then o (λ xs. put_before xs (pairs_of (ended (pair_text g) (map pair_text es) (0x3a ∷ b))))) (one_back e h)
+    ∙ ap (λ o. and_then o (λ xs.
+    put_before xs (pairs_of (ended (pair_text g) (map pair_text es) (0x3a ∷ b))))) (one_back e h)
     ∙ ap (put_before (e ∷ [])) (pairs_back g es b k.0 k.1)
 
 -- the parts of a file
@@ -73,13 +82,19 @@ file_of_ended p [] t = refl
 file_of_ended p (q ∷ ps) t = refl
 
 -- the text of the parts
-separated_ended : (p : List ℕ) (ps : List (List ℕ)) (t : List ℕ) → separated (ended p ps t) ≡ 0x3b ∷ (p ++ (separated ps ++ t))
+separated_ended : (p : List ℕ) (ps : List (List ℕ)) (t : List ℕ)
+    → separated (ended p ps t) ≡ 0x3b ∷ (p ++ (separated ps ++ t))
 separated_ended p [] t = ap (λ u. 0x3b ∷ u) (append-nil (p ++ t))
-separated_ended p (q ∷ ps) t = ap (λ u. 0x3b ∷ (p ++ u)) (separated_ended q ps t ∙ ap (λ u. 0x3b ∷ u) (sym (append_assoc q (separated ps) t)))
+separated_ended p (q ∷ ps) t =
+    ap (λ u. 0x3b ∷ (p ++ u)) (separated_ended q ps t
+    ∙ ap (λ u. 0x3b ∷ u) (sym (append_assoc q (separated ps) t)))
 
-pub joined_ended : (p : List ℕ) (ps : List (List ℕ)) (t : List ℕ) → joined (ended p ps t) ≡ p ++ (separated ps ++ t)
+pub joined_ended : (p : List ℕ) (ps : List (List ℕ)) (t : List ℕ)
+    → joined (ended p ps t) ≡ p ++ (separated ps ++ t)
 joined_ended p [] t = append-nil (p ++ t)
-joined_ended p (q ∷ ps) t = ap (λ u. p ++ u) (separated_ended q ps t ∙ ap (λ u. 0x3b ∷ u) (sym (append_assoc q (separated ps) t)))
+joined_ended p (q ∷ ps) t =
+    ap (λ u. p ++ u) (separated_ended q ps t
+    ∙ ap (λ u. 0x3b ∷ u) (sym (append_assoc q (separated ps) t)))
 
 pub ended_some : (p : List ℕ) (ps : List (List ℕ)) (t : List ℕ) → ended p ps t ≢ []
 ended_some p [] t = λ e. cc
@@ -90,7 +105,8 @@ abbrev pub ArePlain : List (List ℕ) → Type 0
 ArePlain [] = Unit {0}
 ArePlain (p ∷ ps) = (list_all is_part_plain p ≡ true) × ArePlain ps
 
-pub ended_clear : (p : List ℕ) (ps : List (List ℕ)) (t : List ℕ) → list_all is_part_plain p ≡ true → ArePlain ps → list_all is_part_plain t ≡ true
+pub ended_clear : (p : List ℕ) (ps : List (List ℕ)) (t : List ℕ) → list_all is_part_plain p ≡ true
+    → ArePlain ps → list_all is_part_plain t ≡ true
     → AreClearParts (ended p ps t)
 ended_clear p [] t h k last = (plain_part (p ++ t) (all_append is_part_plain p t h last), tt)
 ended_clear p (q ∷ ps) t h k last = (plain_part p h, ended_clear q ps t k.0 k.1 last)
@@ -108,12 +124,14 @@ abbrev pub key_pairs : List (List ℕ × Option (List ℕ)) → Pairs
 key_pairs [] = []
 key_pairs (k ∷ ks) = key_pair k.0 k.1 ++ key_pairs ks
 
-by_value : (k : List ℕ) (o : Option (List ℕ)) (ps : List (List ℕ)) (es : Pairs) → ps ≡ map pair_text es
+by_value : (k : List ℕ) (o : Option (List ℕ)) (ps : List (List ℕ)) (es : Pairs)
+    → ps ≡ map pair_text es
     → key_piece k o ++ ps ≡ map pair_text (key_pair k o ++ es)
 by_value k None ps es h = h
 by_value k (Some v) ps es h = ap (λ xs. pair_text (k, v) ∷ xs) h
 
-pub key_pieces_are : (ks : List (List ℕ × Option (List ℕ))) → key_pieces ks ≡ map pair_text (key_pairs ks)
+pub key_pieces_are : (ks : List (List ℕ × Option (List ℕ)))
+    → key_pieces ks ≡ map pair_text (key_pairs ks)
 key_pieces_are [] = refl
 key_pieces_are (k ∷ ks) = by_value k.0 k.1 (key_pieces ks) (key_pairs ks) (key_pieces_are ks)
 
@@ -124,18 +142,23 @@ or_found (Some v) found = Some v
 
 abbrev pub last_in : List ℕ → Option (List ℕ) → List (List ℕ × Option (List ℕ)) → Option (List ℕ)
 last_in k found [] = found
-last_in k found (e ∷ es) = last_in k (if pointwise nat_eq e.0 k then or_found e.1 found else found) es
+last_in k found (e ∷ es) =
+    last_in k (if pointwise nat_eq e.0 k then or_found e.1 found else found) es
 
 same_found : (b : Bool) (found : Option (List ℕ)) → (if b then found else found) ≡ found
 same_found true found = refl
 same_found false found = refl
 
-last_by_value : (k : List ℕ) (found : Option (List ℕ)) (c : List ℕ) (o : Option (List ℕ)) (es : Pairs)
-    → last_value k found (key_pair c o ++ es) ≡ last_value k (if pointwise nat_eq c k then or_found o found else found) es
-last_by_value k found c None es = ap (λ x. last_value k x es) (sym (same_found (pointwise nat_eq c k) found))
+last_by_value : (k : List ℕ) (found : Option (List ℕ)) (c : List ℕ) (o : Option (List ℕ))
+    (es : Pairs)
+    → last_value k found (key_pair c o ++ es)
+    ≡ last_value k (if pointwise nat_eq c k then or_found o found else found) es
+last_by_value k found c None es =
+    ap (λ x. last_value k x es) (sym (same_found (pointwise nat_eq c k) found))
 last_by_value k found c (Some v) es = refl
 
-pub last_value_in : (k : List ℕ) (found : Option (List ℕ)) (ks : List (List ℕ × Option (List ℕ))) → last_value k found (key_pairs ks) ≡ last_in k found ks
+pub last_value_in : (k : List ℕ) (found : Option (List ℕ)) (ks : List (List ℕ × Option (List ℕ)))
+    → last_value k found (key_pairs ks) ≡ last_in k found ks
 last_value_in k found [] = refl
 last_value_in k found (c ∷ ks) =
     last_by_value k found c.0 c.1 (key_pairs ks)

@@ -19,7 +19,8 @@ use Rattle.esc_iterm.specs.Tenths.{tenth_of, tenths_in, tenths_from, tenths_of, 
 pub decimal_lacks : (c n : ℕ) → c < 48 → n < 2 ^ 64 → Free c (decimal n)
 decimal_lacks c n low fits =
     let f = decimal_is_IsNumeral n fits in
-    free_from c (decimal n) (λ k below e. let range = digit_at (decimal n) k f.0.1 below in omega (arith, range, e, low))
+    free_from c (decimal n) (λ k below e. let range = digit_at (decimal n) k f.0.1 below in
+    omega (arith, range, e, low))
 
 whole_back : (n : ℕ) → n < 2 ^ 32 → number_in 32 (decimal n) ≡ Some n
 whole_back n small =
@@ -39,14 +40,22 @@ tenth_back d small = rw (decimal_digit d small) (digit_back (48 + d) d refl smal
 
 pub tenths_back : (n : ℕ) → n < 2 ^ 32 → tenths_of (tenths_text n) ≡ Some n
 tenths_back n small =
-    let cut = cut_there 0x2e (decimal (n / 10)) (decimal (n % 10)) (decimal_lacks 0x2e (n / 10) (omega arith) (omega arith)) in
+    let cut = cut_there 0x2e (decimal (n / 10)) (decimal (n % 10))
+    (decimal_lacks 0x2e (n / 10) (omega arith) (omega arith)) in
     let same : 10 * (n / 10) + n % 10 ≡ n = omega arith in
-    rw (cut, whole_back (n / 10) (omega arith), tenth_back (n % 10) (omega arith), same, lt-ltb n (2 ^ 32) small) refl
+    rw (
+      cut,
+      whole_back (n / 10) (omega arith),
+      tenth_back (n % 10) (omega arith),
+      same,
+      lt-ltb n (2 ^ 32) small,
+    ) refl
 
 pub tenths_part : (n : ℕ) → n < 2 ^ 32 → IsClearPart (tenths_text n)
 tenths_part n small =
     part_append (decimal (n / 10)) (0x2e ∷ decimal (n % 10)) (decimal_part (n / 10) (omega arith))
-    (part_append (0x2e ∷ []) (decimal (n % 10)) (plain_part (0x2e ∷ []) refl) (decimal_part (n % 10) (omega arith)))
+    (part_append (0x2e ∷ []) (decimal (n % 10)) (plain_part (0x2e ∷ []) refl)
+    (decimal_part (n % 10) (omega arith)))
 
 -- what is read has 32 bits
 abbrev pub IsSmall : ℕ → Type 0
@@ -61,8 +70,10 @@ when_small n =
 
 in_where : (whole tenth : List ℕ) → Where (λ m. IsSmall m) (tenths_in whole tenth)
 in_where whole tenth =
-    where_then (λ (n : ℕ). Anything n) (λ m. IsSmall m) (λ n. and_then (tenth_of tenth) (λ d. when (nat_lt (10 * n + d) (2 ^ 32)) (10 * n + d)))
-    (λ n h. where_then (λ (d : ℕ). Anything d) (λ m. IsSmall m) (λ d. when (nat_lt (10 * n + d) (2 ^ 32)) (10 * n + d))
+    where_then (λ (n : ℕ). Anything n) (λ m. IsSmall m) (λ n.
+    and_then (tenth_of tenth) (λ d. when (nat_lt (10 * n + d) (2 ^ 32)) (10 * n + d)))
+    (λ n h. where_then (λ (d : ℕ). Anything d) (λ m. IsSmall m) (λ d.
+    when (nat_lt (10 * n + d) (2 ^ 32)) (10 * n + d))
     (λ d k. when_small (10 * n + d)) (tenth_of tenth) (anything (tenth_of tenth)))
     (number_in 32 whole) (anything (number_in 32 whole))
 

@@ -9,7 +9,8 @@ use Rattle.esc_iterm.specs.declared.dimension.ITermDimension.TheVariants.{Automa
 
 -- what comes before this end of a text; none where the text does not end so
 abbrev pub before_end : List ℕ → List ℕ → Option (List ℕ)
-before_end e t = when (pointwise nat_eq (drop (length t - length e) t) e) (take (length t - length e) t)
+before_end e t =
+    when (pointwise nat_eq (drop (length t - length e) t) e) (take (length t - length e) t)
 
 -- by what comes before `px`, else by what comes before `%`, else by the text: a number of 64 bits
 abbrev pub measured : Option (List ℕ) → Option (List ℕ) → List ℕ → Option ITermDimension
@@ -45,7 +46,8 @@ not_negative (negsuc n) = 0
 abbrev pub percentage : ℤ → ℕ
 percentage n = min (not_negative n) 100
 
--- the pixels of a dimension, or a hundred times them for a percentage: of a size of a cell, and how many cells the window has
+-- the pixels of a dimension, or a hundred times them for a percentage: of a size of a cell, and how
+-- many cells the window has
 abbrev pub pixels_product : ITermDimension → ℕ → ℕ → ℕ
 pixels_product Automatic cell_size num_cells = 0
 pixels_product (Cells n) cell_size num_cells = not_negative n * cell_size
@@ -61,4 +63,5 @@ abbrev pub pixels_of : ITermDimension → ℕ → ℕ → Option ℕ
 pixels_of Automatic cell_size num_cells = None
 pixels_of (Cells n) cell_size num_cells = Some (pixels_product (Cells n) cell_size num_cells)
 pixels_of (Pixels n) cell_size num_cells = Some (pixels_product (Pixels n) cell_size num_cells)
-pixels_of (Percent n) cell_size num_cells = Some (pixels_product (Percent n) cell_size num_cells / 100)
+pixels_of (Percent n) cell_size num_cells =
+    Some (pixels_product (Percent n) cell_size num_cells / 100)

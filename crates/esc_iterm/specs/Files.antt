@@ -16,7 +16,8 @@ use Rattle.esc_iterm.specs.declared.dimension.ITermDimension.{ITermDimension}
 use Rattle.esc_iterm.specs.declared.dimension.ITermDimension.TheVariants.{Automatic, Cells, Pixels, Percent}
 use Rattle.esc_iterm.specs.declared.file_data.ITermFileData.{ITermFileData}
 
--- the pair of a piece before the last: none in an empty piece; any other piece without `=` does not fit
+-- the pair of a piece before the last: none in an empty piece; any other piece without `=` does not
+-- fit
 abbrev pub piece_pairs : List ℕ → Option Pairs
 piece_pairs p = pairs_in (without_empty (p ∷ []))
 
@@ -24,12 +25,15 @@ piece_pairs p = pairs_in (without_empty (p ∷ []))
 abbrev pub last_pairs : List ℕ → Option Pairs
 last_pairs p = if is_some (cut_at 0x3d p) then pairs_in (p ∷ []) else Some []
 
--- The pairs of the pieces, and what follows the first `:` of the last piece. None where there is no piece, the last one has
--- no `:`, or one does not fit.
+-- The pairs of the pieces, and what follows the first `:` of the last piece. None where there is no
+-- piece, the last one has no `:`, or one does not fit.
 abbrev pub pairs_of : List (List ℕ) → Option (Pairs × List ℕ)
 pairs_of [] = None
-pairs_of (p ∷ []) = and_then (cut_at 0x3a p) (λ (c : List ℕ × List ℕ). option_map (λ es. (es, c.1)) (last_pairs c.0))
-pairs_of (p ∷ q ∷ ps) = and_then (piece_pairs p) (λ es. option_map (λ (m : Pairs × List ℕ). (es ++ m.0, m.1)) (pairs_of (q ∷ ps)))
+pairs_of (p ∷ []) =
+    and_then (cut_at 0x3a p) (λ (c : List ℕ
+    × List ℕ). option_map (λ es. (es, c.1)) (last_pairs c.0))
+pairs_of (p ∷ q ∷ ps) = and_then (piece_pairs p) (λ es.
+    option_map (λ (m : Pairs × List ℕ). (es ++ m.0, m.1)) (pairs_of (q ∷ ps)))
 
 -- the values of the keys that are read, where they are there
 pub record Values : Type 0 where
@@ -64,7 +68,8 @@ values_after v es = record {
   do_not_move_cursor = last_value (codes "doNotMoveCursor") v.do_not_move_cursor es;
 }
 
--- these values, with those of the keys of the pieces, and what follows the first `:` of the last piece
+-- these values, with those of the keys of the pieces, and what follows the first `:` of the last
+-- piece
 abbrev pub values_with : Values → List (List ℕ) → Option (Values × List ℕ)
 values_with v ps = option_map (λ (m : Pairs × List ℕ). (values_after v m.0, m.1)) (pairs_of ps)
 
@@ -114,8 +119,8 @@ file_with v t = option_map (filled v) (base64_of t)
 abbrev pub file_from : {A : Type 0} → List (List ℕ) → Option (ITermFileData A)
 file_from ps = and_then (values_of ps) (λ (m : Values × List ℕ). file_with m.0 m.1)
 
--- The file of the parts after the code `1337`. The first begins with `File=`; what follows that, and each further part, is a
--- piece.
+-- The file of the parts after the code `1337`. The first begins with `File=`; what follows that,
+-- and each further part, is a piece.
 abbrev pub file_of : {A : Type 0} → List (List ℕ) → Option (ITermFileData A)
 file_of [] = None
 file_of (p ∷ ps) = if starts_with nat_eq p (codes "File=") then file_from (drop 5 p ∷ ps) else None
@@ -126,7 +131,8 @@ written_dimension (Cells n) = Some (dimension_text (Cells n))
 written_dimension (Pixels n) = Some (dimension_text (Pixels n))
 written_dimension (Percent n) = Some (dimension_text (Percent n))
 
--- the keys in the order in which they are written, each with its value where that differs from what it is without the key
+-- the keys in the order in which they are written, each with its value where that differs from what
+-- it is without the key
 abbrev pub written_keys : {A : Type 0} → ITermFileData A → List (List ℕ × Option (List ℕ))
 written_keys f =
     (codes "size", option_map decimal f.size)
@@ -155,12 +161,16 @@ pieces_after false ps = separated ps
 
 -- the text of a file, which is what follows `1337;`
 abbrev pub file_text : {A : Type 0} → ITermFileData A → List ℕ
-file_text f = codes "File=" ++ (joined (key_pieces (written_keys f)) ++ 0x3a ∷ base64_text f.content)
+file_text f =
+    codes "File=" ++ (joined (key_pieces (written_keys f)) ++ 0x3a ∷ base64_text f.content)
 
--- A file as a program can hold it: its name is a text, its size and the numbers of its dimensions have 64 bits, its content is bytes.
+-- A file as a program can hold it: its name is a text, its size and the numbers of its dimensions
+-- have 64 bits, its content is bytes.
 abbrev pub IsWritableFile : {A : Type 0} → ITermFileData A → Type 0
-IsWritableFile f = IfSome f.name (λ t. IsUtf8 t) × IfSome f.size (λ n. n < 2 ^ 64) × IsDimension f.width × IsDimension f.height × IsBytes f.content
+IsWritableFile f = IfSome f.name (λ t. IsUtf8 t) × IfSome f.size (λ n. n < 2 ^ 64)
+    × IsDimension f.width × IsDimension f.height × IsBytes f.content
 
 -- its text is that of clear parts, at least one, which are read as the file
 abbrev pub FileBack : {A : Type 0} → ITermFileData A → Type 0
-FileBack f = (args : List (List ℕ)) × (file_text f ≡ joined args) × (args ≢ []) × AreClearParts args × (file_of args ≡ Some f)
+FileBack f = (args : List (List ℕ)) × (file_text f ≡ joined args) × (args ≢ []) × AreClearParts args
+    × (file_of args ≡ Some f)

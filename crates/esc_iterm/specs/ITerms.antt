@@ -1,4 +1,5 @@
--- iTerm2's proprietary commands: how the parts after their code are read, and what is written of them.
+-- iTerm2's proprietary commands: how the parts after their code are read, and what is written of
+-- them.
 use Rattle.std.specs.Prelude.{ℕ, ◌==◌, Bool, true, false, nat_eq, if◌then◌else◌, List, [], ◌∷◌, ◌++◌, length, codes, Option, Some, None}
 use Rattle.std.specs.Cmp.Lexicographic.{pointwise}
 use Rattle.std.specs.List.{starts_with}
@@ -30,7 +31,9 @@ highlight_of v = if pointwise nat_eq v (codes "yes") then Some (iterm.HighlightC
 
 -- a variable: its name, an `=` and its value in base64
 abbrev pub variable_of : {A : Type 0} → List ℕ → Option (ITermProprietary A)
-variable_of v = and_then (key_and_value v) (λ (e : List ℕ × List ℕ). option_map (λ t. iterm.SetUserVar e.0 t) (base64_text_of e.1))
+variable_of v =
+    and_then (key_and_value v) (λ (e : List ℕ
+    × List ℕ). option_map (λ t. iterm.SetUserVar e.0 t) (base64_text_of e.1))
 
 -- a keyword and its argument in one part
 abbrev pub assigned : {A : Type 0} → List ℕ → List ℕ → Option (ITermProprietary A)
@@ -39,19 +42,23 @@ assigned k v = if pointwise nat_eq k (codes "CurrentDir") then Some (iterm.Curre
     else if pointwise nat_eq k (codes "CopyToClipboard") then Some (iterm.CopyToClipboard v)
     else if pointwise nat_eq k (codes "HighlightCursorLine") then highlight_of v
     else if pointwise nat_eq k (codes "SetUserVar") then variable_of v
-    else if pointwise nat_eq k (codes "SetBadgeFormat") then option_map iterm.SetBadgeFormat (base64_text_of v)
-    else if pointwise nat_eq k (codes "UnicodeVersion") then option_map iterm.UnicodeVersion (version_of v)
+    else if pointwise nat_eq k (codes "SetBadgeFormat") then option_map iterm.SetBadgeFormat
+    (base64_text_of v)
+    else if pointwise nat_eq k (codes "UnicodeVersion") then option_map iterm.UnicodeVersion
+    (version_of v)
     else None
 
 -- a keyword with nothing after it, and a base64 text in the next part
 abbrev pub content_of : {A : Type 0} → List ℕ → List ℕ → Option (ITermProprietary A)
 content_of k b = if pointwise nat_eq k (codes "Copy") then option_map iterm.Copy (base64_text_of b)
-    else if pointwise nat_eq k (codes "SetBadgeFormat") then option_map iterm.SetBadgeFormat (base64_text_of b)
+    else if pointwise nat_eq k (codes "SetBadgeFormat") then option_map iterm.SetBadgeFormat
+    (base64_text_of b)
     else None
 
 -- a height, a width and the scale that was found
 abbrev pub cell_size : {A : Type 0} → List ℕ → List ℕ → Option ℕ → Option (ITermProprietary A)
-cell_size h w s = and_then (tenths_of h) (λ height. option_map (λ width. iterm.ReportCellSize height width s) (tenths_of w))
+cell_size h w s = and_then (tenths_of h) (λ height.
+    option_map (λ width. iterm.ReportCellSize height width s) (tenths_of w))
 
 -- a height, a width and a scale
 abbrev pub scaled_size : {A : Type 0} → List ℕ → List ℕ → List ℕ → Option (ITermProprietary A)
@@ -80,7 +87,8 @@ keyed k v (b ∷ []) = with_one k v b
 keyed k v (b ∷ c ∷ []) = with_two k v b c
 keyed k v (b ∷ c ∷ d ∷ more) = None
 
-abbrev pub form_from : {A : Type 0} → List ℕ → Option (List ℕ × List ℕ) → List (List ℕ) → Option (ITermProprietary A)
+abbrev pub form_from : {A : Type 0} → List ℕ → Option (List ℕ × List ℕ) → List (List ℕ)
+    → Option (ITermProprietary A)
 form_from t None more = bare t more
 form_from t (Some e) more = keyed e.0 e.1 more
 
@@ -88,11 +96,13 @@ form_from t (Some e) more = keyed e.0 e.1 more
 abbrev pub form_of : {A : Type 0} → List ℕ → List (List ℕ) → Option (ITermProprietary A)
 form_of t more = form_from t (key_and_value t) more
 
--- What the parts after the code mean; none where they fit no form. The keyword is that of the lossy text of the first
--- part. `File=` is ASCII, so it begins the lossy text just where it begins the part.
+-- What the parts after the code mean; none where they fit no form. The keyword is that of the lossy
+-- text of the first part. `File=` is ASCII, so it begins the lossy text just where it begins the
+-- part.
 abbrev pub iterm_of : {A : Type 0} → List (List ℕ) → Option (ITermProprietary A)
 iterm_of [] = None
-iterm_of (p ∷ more) = if starts_with nat_eq p (codes "File=") then option_map iterm.File (file_of (p ∷ more)) else form_of (utf8_lossy p) more
+iterm_of (p ∷ more) = if starts_with nat_eq p (codes "File=") then option_map iterm.File
+    (file_of (p ∷ more)) else form_of (utf8_lossy p) more
 
 -- `yes` or `no`
 abbrev pub flag_text : Bool → List ℕ
@@ -115,7 +125,8 @@ form_text (iterm.CopyToClipboard t) = codes "CopyToClipboard=" ++ t
 form_text iterm.EndCopy = codes "EndCopy"
 form_text (iterm.HighlightCursorLine b) = codes "HighlightCursorLine=" ++ flag_text b
 form_text iterm.RequestCellSize = codes "ReportCellSize"
-form_text (iterm.ReportCellSize h w s) = codes "ReportCellSize=" ++ (tenths_text h ++ 0x3b ∷ (tenths_text w ++ scale_text s))
+form_text (iterm.ReportCellSize h w s) =
+    codes "ReportCellSize=" ++ (tenths_text h ++ 0x3b ∷ (tenths_text w ++ scale_text s))
 form_text (iterm.Copy t) = codes "Copy=;" ++ base64_text t
 form_text (iterm.ReportVariable t) = codes "ReportVariable=" ++ base64_text t
 form_text (iterm.SetUserVar n t) = codes "SetUserVar=" ++ n ++ 0x3d ∷ base64_text t

@@ -13,7 +13,8 @@ tenth_of (d ∷ e ∷ ds) = None
 
 -- the tenths of the digits before the point and what follows it, where they have 32 bits
 abbrev pub tenths_in : List ℕ → List ℕ → Option ℕ
-tenths_in whole tenth = and_then (number_in 32 whole) (λ n. and_then (tenth_of tenth) (λ d. when (nat_lt (10 * n + d) (2 ^ 32)) (10 * n + d)))
+tenths_in whole tenth = and_then (number_in 32 whole) (λ n.
+    and_then (tenth_of tenth) (λ d. when (nat_lt (10 * n + d) (2 ^ 32)) (10 * n + d)))
 
 abbrev pub tenths_from : List ℕ → Option (List ℕ × List ℕ) → Option ℕ
 tenths_from t None = tenths_in t []

@@ -10,7 +10,8 @@ use Rattle.esc_iterm.specs.declared.unicode_version.ITermUnicodeVersionOp.TheVar
 
 -- a word and a label
 abbrev pub labelled : {A : Type 0} → List ℕ → List ℕ → Option (ITermUnicodeVersionOp A)
-labelled w l = if pointwise nat_eq w (codes "push") then option_map (λ t. version.Push (Some t)) (utf8_of l)
+labelled w l =
+    if pointwise nat_eq w (codes "push") then option_map (λ t. version.Push (Some t)) (utf8_of l)
     else if pointwise nat_eq w (codes "pop") then option_map (λ t. version.Pop (Some t)) (utf8_of l)
     else None
 
@@ -20,7 +21,8 @@ unlabelled w = if pointwise nat_eq w (codes "push") then Some (version.Push None
     else if pointwise nat_eq w (codes "pop") then Some (version.Pop None)
     else option_map version.Set (number_of 8 w)
 
-abbrev pub version_from : {A : Type 0} → List ℕ → Option (List ℕ × List ℕ) → Option (ITermUnicodeVersionOp A)
+abbrev pub version_from : {A : Type 0} → List ℕ → Option (List ℕ × List ℕ)
+    → Option (ITermUnicodeVersionOp A)
 version_from t None = unlabelled t
 version_from t (Some c) = labelled c.0 c.1
 

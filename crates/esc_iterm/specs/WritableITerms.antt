@@ -26,8 +26,8 @@ abbrev pub IsScale : Option ℕ → Type 0
 IsScale None = Unit {0}
 IsScale (Some s) = s < 2 ^ 32
 
--- directories, profiles and clipboards are clear parts, names of variables clear parts without `=`, texts in base64 any
--- text, numbers of 32 bits; the report of a variable is not read
+-- directories, profiles and clipboards are clear parts, names of variables clear parts without `=`,
+-- texts in base64 any text, numbers of 32 bits; the report of a variable is not read
 abbrev pub IsWritableITerm : {A : Type 0} → ITermProprietary A → Type 0
 IsWritableITerm (iterm.CurrentDir t) = IsClearPart t
 IsWritableITerm (iterm.SetProfile t) = IsClearPart t
@@ -43,4 +43,5 @@ IsWritableITerm c = Unit {0}
 
 -- the command is written as its code and clear parts, and these parts mean it
 abbrev pub WritesBack : {A : Type 0} → ITermProprietary A → Type 0
-WritesBack c = (args : List (List ℕ)) × (iterm_text c ≡ joined (codes "1337" ∷ args)) × AreClearParts args × (iterm_of args ≡ Some c)
+WritesBack c = (args : List (List ℕ)) × (iterm_text c ≡ joined (codes "1337" ∷ args))
+    × AreClearParts args × (iterm_of args ≡ Some c)

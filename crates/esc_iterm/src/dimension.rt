@@ -1,4 +1,5 @@
-//! The width or the height at which a file is shown (<https://iterm2.com/documentation-images.html>).
+//! The width or the height at which a file is shown
+//! (<https://iterm2.com/documentation-images.html>).
 ghost use Rattle.std.specs.Prelude.{◌≡◌, ◌*◌, ◌^◌, ◌++◌, nat_lt, IsTrue, ◌↔◌, Some};
 ghost use Rattle.std.specs.Fmt.{DisplaysOnOk, signed_decimal};
 ghost use Rattle.std.specs.Option.{ok_or, option_map};
@@ -13,10 +14,12 @@ use esc_values::scalar::read_i64;
 use std::fmt;
 use std::str::FromStr;
 
-/// The width or the height at which a file is shown (iTerm2's documentation, "Inline Images Protocol").
+/// The width or the height at which a file is shown (iTerm2's documentation, "Inline Images
+/// Protocol").
 ///
-/// Its text is `auto`, or a number, followed by `px` for pixels, `%` for a percentage of the window and nothing for
-/// cells. The number is one of an `i64` in decimal: at least one ASCII digit, with a `-`, a `+` or no sign before them.
+/// Its text is `auto`, or a number, followed by `px` for pixels, `%` for a percentage of the window
+/// and nothing for cells. The number is one of an `i64` in decimal: at least one ASCII digit, with
+/// a `-`, a `+` or no sign before them.
 #[derive(Clone, Copy, Debug, PartialEq, Eq)]
 pub enum ITermDimension {
     /// As large as the file itself is.
@@ -98,7 +101,8 @@ fn read_cells(number: &[u8]) -> Option<ITermDimension>
     }
 }
 
-/// Writes the text of the dimension, which reads back. Where it returns `Ok`, all of it was written.
+/// Writes the text of the dimension, which reads back. Where it returns `Ok`, all of it was
+/// written.
 impl fmt::Display for ITermDimension {
     ghost output = { λ d. Some (dimension_text d) };
 
@@ -122,9 +126,10 @@ fn write_with_unit<W: fmt::Write>(number: i64, unit: &str, f: &mut fmt::Formatte
 }
 
 impl ITermDimension {
-    /// How many pixels it is, where a cell has `cell_size` pixels in this direction and the window has `num_cells` cells:
-    /// none where it is automatic; so many times `cell_size` for cells; the number itself for pixels; for a percentage
-    /// that part of the window, rounded down. The caller has seen that it fits, by `fits_pixels`.
+    /// How many pixels it is, where a cell has `cell_size` pixels in this direction and the window
+    /// has `num_cells` cells: none where it is automatic; so many times `cell_size` for cells; the
+    /// number itself for pixels; for a percentage that part of the window, rounded down. The caller
+    /// has seen that it fits, by `fits_pixels`.
     pub fn to_pixels(&self, cell_size: usize, num_cells: usize) -> Option<usize>
         requires { FitsPixels self.now cell_size num_cells }
         ensures { result ≡ pixels_of self.now cell_size num_cells }
@@ -136,9 +141,9 @@ impl ITermDimension {
         }
     }
 
-    /// Whether `to_pixels` may be asked with these sizes: whether the product that it needs fits a `usize`, which has 64 bits.
-    /// That is the product of the cells and their size; of a percentage, the number of cells and their size, before it is
-    /// divided by 100.
+    /// Whether `to_pixels` may be asked with these sizes: whether the product that it needs fits a
+    /// `usize`, which has 64 bits. That is the product of the cells and their size; of a
+    /// percentage, the number of cells and their size, before it is divided by 100.
     pub fn fits_pixels(&self, cell_size: usize, num_cells: usize) -> bool
         ensures { IsTrue result ↔ FitsPixels self.now cell_size num_cells }
     {
@@ -147,7 +152,8 @@ impl ITermDimension {
 
     // The product that has to fit, where it does.
     fn product(&self, cell_size: usize, num_cells: usize) -> Option<usize>
-        ensures { result ≡ when (nat_lt (pixels_product self.now cell_size num_cells) (2 ^ 64)) (pixels_product self.now cell_size num_cells) }
+        ensures { result ≡ when (nat_lt (pixels_product self.now cell_size num_cells) (2 ^ 64))
+            (pixels_product self.now cell_size num_cells) }
     {
         match self {
             ITermDimension::Automatic => Some(0),

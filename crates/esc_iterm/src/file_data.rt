@@ -10,7 +10,8 @@ use esc_values::{Items, Text};
 use std::alloc::{AllocError, Allocator, Global};
 use std::fmt;
 
-/// A file that is sent to the terminal, to be stored or shown (iTerm2's documentation, "Inline Images Protocol").
+/// A file that is sent to the terminal, to be stored or shown (iTerm2's documentation, "Inline
+/// Images Protocol").
 #[derive(Drop)]
 #[derive_where(Debug, PartialEq, Eq)]
 pub struct ITermFileData<A: Allocator = Global> {
@@ -33,8 +34,9 @@ pub struct ITermFileData<A: Allocator = Global> {
 }
 
 impl<A: Allocator> ITermFileData<A> {
-    /// The file that holds a copy of these bytes: with no name and no size, both dimensions automatic, its ratio kept, not
-    /// inline, and with the cursor moved. The error is that memory was refused.
+    /// The file that holds a copy of these bytes: with no name and no size, both dimensions
+    /// automatic, its ratio kept, not inline, and with the cursor moved. The error is that memory
+    /// was refused.
     pub fn new(alloc: A, content: &[u8]) -> Result<ITermFileData<A>, AllocError>
         ensures ok { IfOk result (λ f. f ≡ plain_file content.now) }
         ensures refused { OnErr result (Refused A) }
@@ -42,7 +44,8 @@ impl<A: Allocator> ITermFileData<A> {
         Ok(ITermFileData::with_content(Items::from_slice(alloc, content)?))
     }
 
-    /// The file that holds these bytes, else as [`new`](ITermFileData::new) makes it, without taking memory.
+    /// The file that holds these bytes, else as [`new`](ITermFileData::new) makes it, without
+    /// taking memory.
     pub fn with_content(content: Items<u8, A>) -> ITermFileData<A>
         ensures { result ≡ plain_file content }
     {
@@ -60,17 +63,18 @@ impl<A: Allocator> ITermFileData<A> {
 }
 
 impl<A: Allocator + Copy> ITermFileData<A> {
-    /// Reads a file from the parts of an operating system command after its code `1337`; none where they are no file.
-    /// The error is that memory was refused.
+    /// Reads a file from the parts of an operating system command after its code `1337`; none where
+    /// they are no file. The error is that memory was refused.
     ///
-    /// The first part begins with `File=`. The pieces are what follows that, and each further part. The last piece
-    /// has a `:`, and after its first `:` the content in base64; before it, and in each other piece, is a key with its
-    /// value after the first `=`, as texts. An empty piece is skipped, and so is a last piece without `=`. Of a key that comes
-    /// more than once the last value counts; unknown keys are skipped.
+    /// The first part begins with `File=`. The pieces are what follows that, and each further part.
+    /// The last piece has a `:`, and after its first `:` the content in base64; before it, and in
+    /// each other piece, is a key with its value after the first `=`, as texts. An empty piece is
+    /// skipped, and so is a last piece without `=`. Of a key that comes more than once the last
+    /// value counts; unknown keys are skipped.
     ///
-    /// `name` is a base64 text, `size` a number, `width` and `height` are dimensions; one that cannot be read counts as
-    /// absent. `preserveAspectRatio` is true unless it is `0`; `inline` and `doNotMoveCursor` are true where they are there and
-    /// not `0`.
+    /// `name` is a base64 text, `size` a number, `width` and `height` are dimensions; one that
+    /// cannot be read counts as absent. `preserveAspectRatio` is true unless it is `0`; `inline`
+    /// and `doNotMoveCursor` are true where they are there and not `0`.
     pub fn parse(alloc: A, args: &[&[u8]]) -> Result<Option<Self>, AllocError>
         ensures ok { IfOk result (λ f. f ≡ file_of (map (λ p. p.now) args.now)) }
         ensures refused { OnErr result (Refused A) }
@@ -79,9 +83,10 @@ impl<A: Allocator + Copy> ITermFileData<A> {
     }
 }
 
-/// Writes `File=`; the keys `size`, `name`, `width`, `height`, `preserveAspectRatio`, `inline` and `doNotMoveCursor` with
-/// their values, `;` between them, in this order and each only where its value differs from what it is without the key;
-/// `:`, and the content in base64. Where it returns `Ok`, all of it was written.
+/// Writes `File=`; the keys `size`, `name`, `width`, `height`, `preserveAspectRatio`, `inline` and
+/// `doNotMoveCursor` with their values, `;` between them, in this order and each only where its
+/// value differs from what it is without the key; `:`, and the content in base64. Where it returns
+/// `Ok`, all of it was written.
 impl<A: Allocator> fmt::Display for ITermFileData<A> {
     ghost output = { λ f. Some (file_text f) };
 

@@ -21,5 +21,6 @@ pub fn file_back<A: Allocator>()
 
 /// What parts are read as has only numbers of 64 bits, bytes, and a name that is a text.
 pub fn file_is_writable<A: Allocator>()
-    ensures { (args : List (List ℕ)) → (f : ITermFileData A) → file_of args ≡ Some f → IsWritableFile f }
+    ensures { (args : List (List ℕ)) → (f : ITermFileData A) → file_of args ≡ Some f
+        → IsWritableFile f }
 {}

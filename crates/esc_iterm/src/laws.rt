@@ -1,4 +1,5 @@
-//! Laws of iTerm2's proprietary commands: what is written reads back, and what clear parts mean can be written.
+//! Laws of iTerm2's proprietary commands: what is written reads back, and what clear parts mean can
+//! be written.
 ghost use Rattle.std.specs.Prelude.{◌≡◌, List, ℕ, Some};
 ghost use Rattle.esc_values.specs.Clear.{AreClearParts};
 ghost use Rattle.esc_iterm.specs.ITerms.{iterm_of};
@@ -7,7 +8,8 @@ ghost use Rattle.esc_iterm.specs.declared.proprietary.ITermProprietary.{ITermPro
 
 use std::alloc::Allocator;
 
-/// A writable command is written as the code `1337` and clear parts, with `;` between them, and these parts mean it.
+/// A writable command is written as the code `1337` and clear parts, with `;` between them, and
+/// these parts mean it.
 #[tactic(auto, using(crate::proofs::ITermsBack::writes_back))]
 pub fn writes_back<A: Allocator>()
     ensures { (c : ITermProprietary A) → IsWritableITerm c → WritesBack c }
@@ -16,5 +18,6 @@ pub fn writes_back<A: Allocator>()
 /// What clear parts mean is writable.
 #[tactic(auto, using(crate::proofs::ITermsClear::clear_is_writable))]
 pub fn clear_is_writable<A: Allocator>()
-    ensures { (args : List (List ℕ)) → AreClearParts args → (c : ITermProprietary A) → iterm_of args ≡ Some c → IsWritableITerm c }
+    ensures { (args : List (List ℕ)) → AreClearParts args → (c : ITermProprietary A)
+        → iterm_of args ≡ Some c → IsWritableITerm c }
 {}

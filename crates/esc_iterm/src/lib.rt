@@ -1,10 +1,14 @@
-//! iTerm2's proprietary commands: their values, how the parts after their code are read, and how a value is written.
+//! iTerm2's proprietary commands: their values, how the parts after their code are read, and how a
+//! value is written.
 //!
-//! The standards: iTerm2's documentation, "Proprietary Escape Codes" (<https://iterm2.com/documentation-escape-codes.html>) and
-//! "Inline Images Protocol" (<https://iterm2.com/documentation-images.html>).
+//! The standards: iTerm2's documentation, "Proprietary Escape Codes"
+//! (<https://iterm2.com/documentation-escape-codes.html>) and "Inline Images Protocol"
+//! (<https://iterm2.com/documentation-images.html>).
 //!
-//! A program shows a picture with `ESC ] 1337 ; File=inline=1:aGk= ESC \`: `ITermProprietary::parse(alloc, &[b"File=inline=1:aGk="])?`
-//! is `Some(ITermProprietary::File(file))`, where `file.inline` is true and `file.content` holds the bytes of `hi`.
+//! A program shows a picture with `ESC ] 1337 ; File=inline=1:aGk= ESC \`:
+//! `ITermProprietary::parse(alloc, &[b"File=inline=1:aGk="])?` is
+//! `Some(ITermProprietary::File(file))`, where `file.inline` is true and `file.content` holds the
+//! bytes of `hi`.
 #![tactic(auto)]
 
 pub mod dimension;

@@ -4,8 +4,8 @@ use crate::unicode_version::ITermUnicodeVersionOp;
 use esc_values::{Boxed, Text};
 use std::alloc::{Allocator, Global};
 
-/// A proprietary command of iTerm2: the operating system command 1337 (iTerm2's documentation, "Proprietary Escape
-/// Codes").
+/// A proprietary command of iTerm2: the operating system command 1337 (iTerm2's documentation,
+/// "Proprietary Escape Codes").
 #[derive(Drop)]
 #[derive_where(Debug, PartialEq, Eq)]
 pub enum ITermProprietary<A: Allocator = Global> {
@@ -19,8 +19,8 @@ pub enum ITermProprietary<A: Allocator = Global> {
     CurrentDir(Text<A>),
     /// Changes the session's profile to that of this name.
     SetProfile(Text<A>),
-    /// Puts the text that follows, up to `EndCopy`, into this pasteboard: `rule`, `find`, `font`, or the general one
-    /// where the name is empty.
+    /// Puts the text that follows, up to `EndCopy`, into this pasteboard: `rule`, `find`, `font`,
+    /// or the general one where the name is empty.
     CopyToClipboard(Text<A>),
     /// Ends the text that `CopyToClipboard` began.
     EndCopy,

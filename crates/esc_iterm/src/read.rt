@@ -22,8 +22,8 @@ use esc_values::{Boxed, Text};
 use std::alloc::{AllocError, Allocator};
 
 impl<A: Allocator + Copy> ITermProprietary<A> {
-    /// The command that the parts after the code `1337` mean, where they fit one. The error is that memory was
-    /// refused.
+    /// The command that the parts after the code `1337` mean, where they fit one. The error is that
+    /// memory was refused.
     pub fn parse(alloc: A, args: &[&[u8]]) -> Result<Option<ITermProprietary<A>>, AllocError>
         ensures ok { IfOk result (λ c. c ≡ iterm_of (map (λ p. p.now) args.now)) }
         ensures refused { OnErr result (Refused A) }

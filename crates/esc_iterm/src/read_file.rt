@@ -38,7 +38,8 @@ pub(crate) fn read_file<A: Allocator + Copy>(
 
 // The values of the keys, and what follows the first `:` of the last piece.
 fn read_pieces<'a>(first: &'a [u8], rest: &[&'a [u8]]) -> Option<(FileKeys<'a>, &'a [u8])>
-    ensures { option_map {U = Values × List ℕ} (λ r. (values r.0, r.1.now)) result ≡ values_of (first.now ∷ map (λ p. p.now) rest.now) }
+    ensures { option_map {U = Values × List ℕ} (λ r. (values r.0, r.1.now)) result
+        ≡ values_of (first.now ∷ map (λ p. p.now) rest.now) }
 {
     let mut keys = FileKeys {
         name: None,
@@ -76,7 +77,8 @@ fn read_end<'a>(keys: FileKeys<'a>, piece: &'a [u8]) -> Option<(FileKeys<'a>, &'
 
 // The values, and those of a piece before the last.
 fn read_piece<'a>(keys: FileKeys<'a>, piece: &'a [u8]) -> Option<FileKeys<'a>>
-    ensures { option_map values result ≡ option_map (values_after (values keys.entry)) (piece_pairs piece.now) }
+    ensures { option_map values result ≡ option_map (values_after (values keys.entry))
+        (piece_pairs piece.now) }
 {
     if piece.is_empty() {
         return Some(keys);
@@ -89,7 +91,8 @@ fn read_piece<'a>(keys: FileKeys<'a>, piece: &'a [u8]) -> Option<FileKeys<'a>>
 
 // The values, and those of the last piece.
 fn read_last<'a>(keys: FileKeys<'a>, piece: &'a [u8]) -> Option<FileKeys<'a>>
-    ensures { option_map values result ≡ option_map (values_after (values keys.entry)) (last_pairs piece.now) }
+    ensures { option_map values result ≡ option_map (values_after (values keys.entry))
+        (last_pairs piece.now) }
 {
     if cut(piece, b'=').is_none() {
         return Some(keys);

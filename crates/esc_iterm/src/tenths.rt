@@ -7,8 +7,8 @@ use esc_values::cut::cut;
 use esc_values::scalar::read_u32;
 use std::fmt;
 
-/// The tenths that these bytes write, where they fit: at least one ASCII digit, then optionally a point and at most one
-/// digit after it, and nothing else. `12`, `12.` and `12.0` are 120.
+/// The tenths that these bytes write, where they fit: at least one ASCII digit, then optionally a
+/// point and at most one digit after it, and nothing else. `12`, `12.` and `12.0` are 120.
 pub fn read_tenths(text: &[u8]) -> Option<u32>
     ensures { result ≡ tenths_of text.now }
 {

@@ -1,4 +1,5 @@
-//! The version of Unicode whose widths are used (<https://iterm2.com/documentation-escape-codes.html>, "Unicode Version").
+//! The version of Unicode whose widths are used
+//! (<https://iterm2.com/documentation-escape-codes.html>, "Unicode Version").
 ghost use Rattle.std.specs.Prelude.{Some};
 ghost use Rattle.esc_iterm.specs.Versions.{version_text};
 
@@ -7,8 +8,8 @@ use esc_values::Text;
 use std::alloc::{Allocator, Global};
 use std::fmt;
 
-/// What is done to the version of Unicode by which characters have their widths (iTerm2's documentation, "Unicode
-/// Version").
+/// What is done to the version of Unicode by which characters have their widths (iTerm2's
+/// documentation, "Unicode Version").
 #[derive(Drop)]
 #[derive_where(Debug, PartialEq, Eq)]
 pub enum ITermUnicodeVersionOp<A: Allocator = Global> {
@@ -20,8 +21,8 @@ pub enum ITermUnicodeVersionOp<A: Allocator = Global> {
     Pop(Option<Text<A>>),
 }
 
-/// Writes the number, or `push` or `pop`, with a space and the label where there is one. Where it returns
-/// `Ok`, all of it was written.
+/// Writes the number, or `push` or `pop`, with a space and the label where there is one. Where it
+/// returns `Ok`, all of it was written.
 impl<A: Allocator> fmt::Display for ITermUnicodeVersionOp<A> {
     ghost output = { λ v. Some (version_text v) };
 

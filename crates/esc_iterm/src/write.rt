@@ -15,8 +15,8 @@ use std::alloc::Allocator;
 use std::fmt;
 use std::fmt::Display;
 
-/// Writes what comes between `ESC ]` and the terminator: `1337;` and the form of the command. Where it returns `Ok`, all
-/// of it was written.
+/// Writes what comes between `ESC ]` and the terminator: `1337;` and the form of the command. Where
+/// it returns `Ok`, all of it was written.
 impl<A: Allocator> fmt::Display for ITermProprietary<A> {
     ghost output = { λ c. Some (iterm_text c) };
 

@@ -65,7 +65,8 @@ pub(crate) fn write_keys<W: fmt::Write, A: Allocator>(
     file: &ITermFileData<A>,
     f: &mut fmt::Formatter<W>,
 ) -> fmt::Result
-    ensures { DisplaysOnOk W.write_str_gives f.old result (Some (joined (key_pieces (written_keys file.now)))) f.new }
+    ensures { DisplaysOnOk W.write_str_gives f.old result
+        (Some (joined (key_pieces (written_keys file.now)))) f.new }
 {
     let keys = [
         Key("size", Value::Size(file.size)),
@@ -87,7 +88,8 @@ pub(crate) fn write_keys<W: fmt::Write, A: Allocator>(
 
 // The keys that are written, with `;` between them.
 fn write_each<W: fmt::Write>(keys: &[Key<'_>], f: &mut fmt::Formatter<W>) -> fmt::Result
-    ensures { DisplaysOnOk W.write_str_gives f.old result (Some (joined (key_pieces (map entry keys.now)))) f.new }
+    ensures { DisplaysOnOk W.write_str_gives f.old result
+        (Some (joined (key_pieces (map entry keys.now)))) f.new }
 {
     let mut is_first = true;
     for key in keys {
@@ -99,7 +101,8 @@ fn write_each<W: fmt::Write>(keys: &[Key<'_>], f: &mut fmt::Formatter<W>) -> fmt
 
 // A key with its value, where it is written, and a `;` before it, unless it is the first.
 fn write_key<W: fmt::Write>(is_first: bool, key: &Key<'_>, f: &mut fmt::Formatter<W>) -> fmt::Result
-    ensures { DisplaysOnOk W.write_str_gives f.old result (Some (pieces_after is_first (key_piece key.now.0.now (value_text key.now.1)))) f.new }
+    ensures { DisplaysOnOk W.write_str_gives f.old result
+        (Some (pieces_after is_first (key_piece key.now.0.now (value_text key.now.1)))) f.new }
 {
     if !key.1.is_written() {
         return Ok(());
@@ -145,7 +148,8 @@ pub(crate) fn write_content<W: fmt::Write, A: Allocator>(
     content: &Items<u8, A>,
     f: &mut fmt::Formatter<W>,
 ) -> fmt::Result
-    ensures { DisplaysOnOk W.write_str_gives f.old result (Some (0x3a ∷ base64_text content.now)) f.new }
+    ensures { DisplaysOnOk W.write_str_gives f.old result (Some (0x3a ∷ base64_text content.now))
+        f.new }
 {
     let content = Encoded(content.as_slice());
     write!(f, ":{content}")

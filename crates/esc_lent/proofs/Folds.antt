@@ -15,8 +15,10 @@ module _ {S : Type 0} (says : S → List Event) (mark : S → Bool) where
   abbrev pub Adds : S → Event → S → Type 0
   Adds p e q = (says q ≡ says p ++ e ∷ []) × (mark p ≡ false → mark q ≡ false)
 
-  pub all_said : (es : List Event) (old new : S) → FoldsTo Adds old es new → (says new ≡ says old ++ es) × (mark old ≡ false → mark new ≡ false)
-  all_said [] old new e = (ap says (sym e) ∙ sym (append-nil (says old)), λ h. subst (λ s. mark s ≡ false) e h)
+  pub all_said : (es : List Event) (old new : S) → FoldsTo Adds old es new
+      → (says new ≡ says old ++ es) × (mark old ≡ false → mark new ≡ false)
+  all_said [] old new e =
+      (ap says (sym e) ∙ sym (append-nil (says old)), λ h. subst (λ s. mark s ≡ false) e h)
   all_said (x ∷ es) old new (j, a, r) =
       let q = all_said es j new r in
       (q.0 ∙ ap (λ y. y ++ es) a.0 ∙ append_assoc (says old) (x ∷ []) es, λ h. q.1 (a.1 h))

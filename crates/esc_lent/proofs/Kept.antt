@@ -34,12 +34,15 @@ module _ (p : EscParser) (memory : List ℕ) (zero : p.state ≡ 0) (none : p.pe
 
   pub ground_only : (u : Unfinished) → KeptIn p memory u → u ≡ Ground
   ground_only Ground h = refl
-  ground_only (Pending f) h = let e : f ≡ [] = sym h.1 ∙ no_bytes in let k : is_empty f ≡ true = ap is_empty e in cc
+  ground_only (Pending f) h = let e : f ≡ [] = sym h.1 ∙ no_bytes in let k : is_empty f ≡ true =
+      ap is_empty e in cc
   ground_only (InEscape x) h = cc
   ground_only (InCsi o x) h = cc
   ground_only (InDcs o x) h = cc
   ground_only (InData o x f d) h =
-      elim (is_read (Some (length memory)) (strip x)) as (λ b. state_numbered p.state ≡ (if b then state.Data else state.Skip) → InData o x f d ≡ Ground) [
+      elim (is_read (Some (length memory)) (strip x)) as (λ b.
+      state_numbered p.state ≡ (if b then state.Data else state.Skip)
+      → InData o x f d ≡ Ground) [
         | true ↦ λ e. cc
         | false ↦ λ e. cc
       ] h
@@ -50,7 +53,8 @@ module _ (p : EscParser) (memory : List ℕ) (zero : p.state ≡ 0) (none : p.pe
 
 -- data whose header was read
 module _ (p : EscParser) (memory : List ℕ) (five : p.state ≡ 5) (P : Unfinished → Type 0)
-    (read : (o : Opener) (x : List ℕ) (f : ℕ) (d : List ℕ) → is_read (Some (length memory)) (strip x) ≡ true → P (InData o x f d)) where
+    (read : (o : Opener) (x : List ℕ) (f : ℕ) (d : List ℕ)
+    → is_read (Some (length memory)) (strip x) ≡ true → P (InData o x f d)) where
   at_data : state_numbered p.state ≡ state.Data
   at_data = ap state_numbered five
 
@@ -62,7 +66,8 @@ module _ (p : EscParser) (memory : List ℕ) (five : p.state ≡ 5) (P : Unfinis
   data_only (InDcs o x) h = absurd cc
   data_only (InData o x f d) h =
       elim (is_read (Some (length memory)) (strip x)) as
-      (λ b. is_read (Some (length memory)) (strip x) ≡ b → state_numbered p.state ≡ (if b then state.Data else state.Skip) → P (InData o x f d)) [
+      (λ b. is_read (Some (length memory)) (strip x) ≡ b
+      → state_numbered p.state ≡ (if b then state.Data else state.Skip) → P (InData o x f d)) [
         | true ↦ λ r e. read o x f d r
         | false ↦ λ r e. absurd cc
       ] refl h
@@ -73,42 +78,62 @@ module _ (p : EscParser) (memory : List ℕ) (five : p.state ≡ 5) (P : Unfinis
 
 -- ---- runs
 
-module _ (p : EscParser) (memory : List ℕ) (zero : p.state ≡ 0) (none : p.pending ≡ 0) (bytes : List ℕ) (run n : ℕ) (same : n ≡ run)
+module _ (p : EscParser) (memory : List ℕ) (zero : p.state ≡ 0) (none : p.pending ≡ 0)
+    (bytes : List ℕ) (run n : ℕ) (same : n ≡ run)
     (text : IsTextRun (take run bytes)) (u : Unfinished) (h : KeptIn p memory u) where
-  does : (after_all Ground (take run bytes) ≡ Ground) × (news_all (Some (length memory)) Ground (take run bytes) ≡ map Print (chars (take run bytes)))
+  does : (after_all Ground (take run bytes) ≡ Ground)
+      × (news_all (Some (length memory)) Ground (take run bytes)
+      ≡ map Print (chars (take run bytes)))
   does = clear_text_run (Some (length memory)) (take run bytes) text.0 text.1
 
   pub text_keeps : KeptIn p memory (after_all u (take n bytes))
   text_keeps =
       let g = ground_only p memory zero none u h in
-      let e : after_all u (take n bytes) ≡ u = ap (λ v. after_all v (take n bytes)) g ∙ ap (λ k. after_all Ground (take k bytes)) same ∙ does.0 ∙ sym g in
+      let e : after_all u (take n bytes) ≡ u = ap (λ v. after_all v (take n bytes)) g
+      ∙ ap (λ k. after_all Ground (take k bytes)) same ∙ does.0 ∙ sym g in
       subst (KeptIn p memory) (sym e) h
 
   pub text_tells : (e : EscEvent) (out : List ℕ) → e.kind ≡ 1 → e.length ≡ run
       → told_by e out (take e.length bytes) ≡ news_all (Some (length memory)) u (take n bytes)
   text_tells e out kind long =
-      rw (kind, long) (sym (ap (λ v. news_all (Some (length memory)) v (take n bytes)) (ground_only p memory zero none u h)
+      rw (kind, long)
+      (sym (ap (λ v. news_all (Some (length memory)) v (take n bytes))
+      (ground_only p memory zero none u h)
       ∙ ap (λ k. news_all (Some (length memory)) Ground (take k bytes)) same ∙ does.1))
 
-module _ (p : EscParser) (memory : List ℕ) (five : p.state ≡ 5) (bytes : List ℕ) (run n : ℕ) (same : n ≡ run)
+module _ (p : EscParser) (memory : List ℕ) (five : p.state ≡ 5) (bytes : List ℕ) (run n : ℕ)
+    (same : n ≡ run)
     (is : run ≡ prefix_len is_data_byte bytes) where
   passes : list_all is_data_byte (take n bytes) ≡ true
-  passes = subst (λ k. list_all is_data_byte (take k bytes) ≡ true) (sym (same ∙ is)) (run_passes is_data_byte bytes)
+  passes = subst (λ k. list_all is_data_byte (take k bytes) ≡ true) (sym (same ∙ is))
+      (run_passes is_data_byte bytes)
 
-  pub data_keeps : (u : Unfinished) → KeptIn p memory u → KeptIn p memory (after_all u (take n bytes))
+  pub data_keeps : (u : Unfinished) → KeptIn p memory u
+      → KeptIn p memory (after_all u (take n bytes))
   data_keeps u h =
       data_only p memory five (λ v. KeptIn p memory (after_all v (take n bytes)))
-      (λ o x f d r. rw ((data_text (Some (length memory)) o x f d (take n bytes) r passes).0, r) (ap state_numbered five)) u h
+      (λ o x f d r. rw (
+        (data_text (Some (length memory)) o x f d (take n bytes) r passes).0,
+        r,
+      ) (ap state_numbered five)) u h
 
-  pub data_tells : (u : Unfinished) → KeptIn p memory u → (e : EscEvent) (out : List ℕ) → e.kind ≡ 8 → e.length ≡ run
+  pub data_tells : (u : Unfinished) → KeptIn p memory u → (e : EscEvent) (out : List ℕ) → e.kind ≡ 8
+      → e.length ≡ run
       → told_by e out (take e.length bytes) ≡ news_all (Some (length memory)) u (take n bytes)
   data_tells u h e out kind long =
-      data_only p memory five (λ v. told_by e out (take e.length bytes) ≡ news_all (Some (length memory)) v (take n bytes))
-      (λ o x f d r. rw (kind, long, ← same) (sym (data_text (Some (length memory)) o x f d (take n bytes) r passes).1)) u h
+      data_only p memory five (λ v. told_by e out (take e.length bytes)
+      ≡ news_all (Some (length memory)) v (take n bytes))
+      (λ o x f d r.
+      rw (
+        kind,
+        long,
+        ← same,
+      ) (sym (data_text (Some (length memory)) o x f d (take n bytes) r passes).1)) u h
 
 -- ---- what is still to be handed out is no part of what is kept
 
-pub kept_due : (p : EscParser) (kind : ℕ) (memory : List ℕ) (u : Unfinished) → KeptIn p memory u → KeptIn (record p { due_kind = kind }) memory u
+pub kept_due : (p : EscParser) (kind : ℕ) (memory : List ℕ) (u : Unfinished) → KeptIn p memory u
+    → KeptIn (record p { due_kind = kind }) memory u
 kept_due p kind memory Ground h = h
 kept_due p kind memory (Pending f) h = h
 kept_due p kind memory (InEscape x) h = h

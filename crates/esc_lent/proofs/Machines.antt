@@ -12,7 +12,8 @@ use Rattle.esc_lent.specs.declared.parser.EscParser.{EscParser}
 use Rattle.esc_lent.specs.Numbers.{state_numbered}
 use Rattle.esc_lent.specs.States.{KeptIn, FirstIn, BodyIn, HeaderIn, TextIn, begun_in}
 
-module _ {K A : Type 0} (keeps : Option ℕ → K → List ℕ → Type 0) (m : Machine K A) (p : EscParser) (memory : List ℕ) (room : ℕ)
+module _ {K A : Type 0} (keeps : Option ℕ → K → List ℕ
+    → Type 0) (m : Machine K A) (p : EscParser) (memory : List ℕ) (room : ℕ)
     (all : length memory ≡ room) where
   -- numbers that were kept of a machine
   module _ (states : state_numbered p.state ≡ m.state) (begun : begun_in p ≡ front_of m.pending)
@@ -26,7 +27,9 @@ module _ {K A : Type 0} (keeps : Option ℕ → K → List ℕ → Type 0) (m : 
     stored (InEscape x) h = (states ∙ h.0, first (strip x) h.0 h.1)
     stored (InCsi o x) h = (states ∙ h.0, body (strip x) h.0 h.1)
     stored (InDcs o x) h = (states ∙ h.0, text _ h.1, header (strip x) h.0 h.2)
-    stored (InData o x f d) h = states ∙ h ∙ ap (λ n. if is_read (Some n) (strip x) then state.Data else state.Skip) (sym all)
+    stored (InData o x f d) h =
+        states ∙ h ∙ ap (λ n. if is_read (Some n) (strip x) then state.Data else state.Skip)
+        (sym all)
     stored (InApc o d) h = (states ∙ h.0, text _ h.1)
     stored (InIgnored k o d) h = states ∙ h
     stored (InOsc o ps) h = (states ∙ h.0, text _ h.1, begun ∙ h.2)
@@ -44,7 +47,8 @@ module _ {K A : Type 0} (keeps : Option ℕ → K → List ℕ → Type 0) (m : 
     loaded (InEscape x) h = (states ∙ h.0, first (strip x) h.1)
     loaded (InCsi o x) h = (states ∙ h.0, body (strip x) h.0 h.1)
     loaded (InDcs o x) h = (states ∙ h.0, text _ h.1, header (strip x) h.2)
-    loaded (InData o x f d) h = states ∙ h ∙ ap (λ n. if is_read (Some n) (strip x) then state.Data else state.Skip) all
+    loaded (InData o x f d) h =
+        states ∙ h ∙ ap (λ n. if is_read (Some n) (strip x) then state.Data else state.Skip) all
     loaded (InApc o d) h = (states ∙ h.0, text _ h.1)
     loaded (InIgnored k o d) h = states ∙ h
     loaded (InOsc o ps) h = (states ∙ h.0, text _ h.1, begun ∙ h.2)

@@ -8,37 +8,44 @@ use Rattle.esc_lent.specs.States.{FirstIn, BodyIn, NumberIn}
 use Rattle.esc_lent.specs.Numbers.{form_numbered}
 use Rattle.esc_lent.specs.Told.{param_of}
 
-pub first_loaded : (p : EscParser) (i : Intermediates) (x : List ℕ) → i.bytes ≡ p.intermediates → i.kept ≡ min p.kept 2 → i.ignored ≡ p.has_more → FirstIn p x
+pub first_loaded : (p : EscParser) (i : Intermediates) (x : List ℕ) → i.bytes ≡ p.intermediates
+    → i.kept ≡ min p.kept 2 → i.ignored ≡ p.has_more → FirstIn p x
     → Keeps i x
 first_loaded p i x b k m h =
     let few : p.kept ≤ 2 = omega (arith, length-take 2 x, h.2) in
     let same : i.kept ≡ p.kept = omega arith in
     (rw (b, same) h.0, m ∙ h.1, same ∙ h.2)
 
-pub first_stored : (p : EscParser) (i : Intermediates) (x : List ℕ) → p.intermediates ≡ i.bytes → p.kept ≡ i.kept → p.has_more ≡ i.ignored → Keeps i x
+pub first_stored : (p : EscParser) (i : Intermediates) (x : List ℕ) → p.intermediates ≡ i.bytes
+    → p.kept ≡ i.kept → p.has_more ≡ i.ignored → Keeps i x
     → FirstIn p x
 first_stored p i x b k m h = (rw (b, k) h.0, m ∙ h.1, k ∙ h.2)
 
 -- ---- the body of a control sequence
 
-number_loaded : (p : EscParser) (b : CsiBody) (o : Option ℕ) → b.entries.is_open ≡ p.is_open → b.entries.number ≡ min p.number 0x7fff_ffff_ffff_ffff
+number_loaded : (p : EscParser) (b : CsiBody) (o : Option ℕ) → b.entries.is_open ≡ p.is_open
+    → b.entries.number ≡ min p.number 0x7fff_ffff_ffff_ffff
     → NumberIn p o → IsNumber b.entries o
 number_loaded p b None e n h = e ∙ h
 number_loaded p b (Some k) e n h = (e ∙ h.0, omega (arith, h.1))
 
-number_stored : (p : EscParser) (b : CsiBody) (o : Option ℕ) → p.is_open ≡ b.entries.is_open → p.number ≡ b.entries.number
+number_stored : (p : EscParser) (b : CsiBody) (o : Option ℕ) → p.is_open ≡ b.entries.is_open
+    → p.number ≡ b.entries.number
     → IsNumber b.entries o → NumberIn p o
 number_stored p b None e n h = e ∙ h
 number_stored p b (Some k) e n h = (e ∙ h.0, n ∙ h.1)
 
-pub body_loaded : (p : EscParser) (b : CsiBody) (x : List ℕ) → b.entries.items ≡ map param_of (take (min p.count 256) p.entries) → b.entries.limit ≡ 256
-    → b.entries.is_truncated ≡ p.is_truncated → b.entries.is_open ≡ p.is_open → b.entries.number ≡ min p.number 0x7fff_ffff_ffff_ffff
+pub body_loaded : (p : EscParser) (b : CsiBody) (x : List ℕ)
+    → b.entries.items ≡ map param_of (take (min p.count 256) p.entries) → b.entries.limit ≡ 256
+    → b.entries.is_truncated ≡ p.is_truncated → b.entries.is_open ≡ p.is_open
+    → b.entries.number ≡ min p.number 0x7fff_ffff_ffff_ffff
     → b.form ≡ form_numbered p.form → BodyIn p x → KeepsBody b x
 body_loaded p b x items limit more opened number form h =
     let few : min p.count 256 ≡ p.count = omega (arith, h.0) in (
       (
         record {
-          kept = items ∙ ap (λ n. map param_of (take n p.entries)) few ∙ h.1.kept ∙ ap (λ n. take n (closed_of None x)) (sym limit);
+          kept = items ∙ ap (λ n. map param_of (take n p.entries)) few ∙ h.1.kept
+              ∙ ap (λ n. take n (closed_of None x)) (sym limit);
           more = more ∙ h.1.more ∙ ap (λ n. nat_lt n (length (closed_of None x))) (sym limit);
         },
         number_loaded p b (number_of_run None x) opened number h.2,
@@ -47,13 +54,16 @@ body_loaded p b x items limit more opened number form h =
       form ∙ h.3,
     )
 
-pub body_stored : (p : EscParser) (b : CsiBody) (x : List ℕ) → map param_of (take p.count p.entries) ≡ b.entries.items → p.count ≡ length b.entries.items
-    → p.is_truncated ≡ b.entries.is_truncated → p.is_open ≡ b.entries.is_open → p.number ≡ b.entries.number
+pub body_stored : (p : EscParser) (b : CsiBody) (x : List ℕ)
+    → map param_of (take p.count p.entries) ≡ b.entries.items → p.count ≡ length b.entries.items
+    → p.is_truncated ≡ b.entries.is_truncated → p.is_open ≡ b.entries.is_open
+    → p.number ≡ b.entries.number
     → form_numbered p.form ≡ b.form → KeepsBody b x → BodyIn p x
 body_stored p b x items count more opened number form h =
     let a = h.0.0 in
     let limit = h.0.2 in
-    let kept : b.entries.items ≡ take 256 (closed_of None x) = a.kept ∙ ap (λ n. take n (closed_of None x)) limit in (
+    let kept : b.entries.items ≡ take 256 (closed_of None x) =
+    a.kept ∙ ap (λ n. take n (closed_of None x)) limit in (
       omega (arith, count, ap length kept, length-take 256 (closed_of None x)),
       record {
         kept = items ∙ kept;

@@ -10,10 +10,12 @@ use Rattle.esc_lent.specs.Told.{said, is_run}
 use Rattle.esc_lent.proofs.Notable.{still_notable, goes_through}
 use Rattle.esc_lent.proofs.Noted.{Notes, all_noted, all_run, all_sound, none_lost}
 
-pub taken_few : {S E : Type 0} (is_ready : S → Type 0) (r : Result ℕ E) (n : ℕ) (b : Bool) (rest : List ℕ) (new : S)
+pub taken_few : {S E : Type 0} (is_ready : S
+    → Type 0) (r : Result ℕ E) (n : ℕ) (b : Bool) (rest : List ℕ) (new : S)
     → (b ≡ false → r ≡ Ok n) → (b ≡ true → n ≡ 0) → Advances is_ready r rest new → n ≤ length rest
 taken_few is_ready r n true rest new ok none h = let e : n ≡ 0 = none refl in omega arith
-taken_few is_ready r n false rest new ok none h = (subst (λ x. Advances is_ready x rest new) (ok refl) h).1
+taken_few is_ready r n false rest new ok none h =
+    (subst (λ x. Advances is_ready x rest new) (ok refl) h).1
 
 -- neither holds
 pub or_parts : (a b : Bool) → (a || b) ≡ false → (a ≡ false) × (b ≡ false)
@@ -23,9 +25,11 @@ or_parts true b h = absurd cc
 pub or_none : (a b : Bool) → a ≡ false → b ≡ false → (a || b) ≡ false
 or_none a b h k = rw (h, k) refl
 
-pub said_same : (e f : EscEvent) (o p : List ℕ) (k j v w : ℕ) → e ≡ f → o ≡ p → k ≡ j → v ≡ w → said e o k v ≡ said f p j w
+pub said_same : (e f : EscEvent) (o p : List ℕ) (k j v w : ℕ) → e ≡ f → o ≡ p → k ≡ j → v ≡ w
+    → said e o k v ≡ said f p j w
 said_same e f o p k j v w a b c d =
-    ap (λ x. said x o k v) a ∙ ap (λ x. said f x k v) b ∙ ap (λ x. said f p x v) c ∙ ap (λ x. said f p j x) d
+    ap (λ x. said x o k v) a ∙ ap (λ x. said f x k v) b ∙ ap (λ x. said f p x v) c
+    ∙ ap (λ x. said f p j x) d
 
 -- nothing was noted yet
 pub said_nothing : (e : EscEvent) (o : List ℕ) (k v : ℕ) → e.kind ≡ 0 → k ≡ 0 → said e o k v ≡ []

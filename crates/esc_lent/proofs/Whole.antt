@@ -32,15 +32,21 @@ use Rattle.esc_lent.proofs.Kept.{ground_only}
 
 -- ---- what a parser keeps of nothing, and of an ESC alone
 
-pub in_ground : (q : EscParser) (memory : List ℕ) → q.state ≡ 0 → q.pending ≡ 0 → KeptIn q memory Ground
-in_ground q memory zero none = (ap state_numbered zero, ap (λ n. begun n q.first q.second q.third) none)
+pub in_ground : (q : EscParser) (memory : List ℕ) → q.state ≡ 0 → q.pending ≡ 0
+    → KeptIn q memory Ground
+in_ground q memory zero none =
+    (ap state_numbered zero, ap (λ n. begun n q.first q.second q.third) none)
 
-pub in_escape : (q : EscParser) (memory : List ℕ) → q.state ≡ 1 → q.kept ≡ 0 → q.has_more ≡ false → KeptIn q memory (InEscape [])
-in_escape q memory one none more = let first : FirstIn q [] = (ap (λ n. take n q.intermediates) none, more, none) in (ap state_numbered one, first)
+pub in_escape : (q : EscParser) (memory : List ℕ) → q.state ≡ 1 → q.kept ≡ 0 → q.has_more ≡ false
+    → KeptIn q memory (InEscape [])
+in_escape q memory one none more = let first : FirstIn q [] =
+    (ap (λ n. take n q.intermediates) none, more, none) in (ap state_numbered one, first)
 
 -- from ground
-pub from_ground : (p q : EscParser) (e : EscEvent) (out : List ℕ) (limit : ℕ) (x : List ℕ) (v : Unfinished) → p.state ≡ 0 → p.pending ≡ 0
-    → after_all Ground x ≡ v → sent e out ≡ news_all (Some limit) Ground x → ((memory : List ℕ) → KeptIn q memory v) → Notes p q e out limit x
+pub from_ground : (p q : EscParser) (e : EscEvent) (out : List ℕ) (limit : ℕ) (x : List ℕ)
+    (v : Unfinished) → p.state ≡ 0 → p.pending ≡ 0
+    → after_all Ground x ≡ v → sent e out ≡ news_all (Some limit) Ground x
+    → ((memory : List ℕ) → KeptIn q memory v) → Notes p q e out limit x
 from_ground p q e out limit x v zero none after news keeps = λ u memory room h.
     let g = ground_only p memory zero none u h in (
       subst (KeptIn q memory) (sym (ap (λ w. after_all w x) g ∙ after)) (keeps memory),
@@ -62,35 +68,45 @@ within limit n h = grind (arith, nat_tests)
 pub within_only : (limit n : ℕ) → is_within (Some limit) n ≡ true → n ≤ limit
 within_only limit n h = grind (arith, nat_tests)
 
-module _ (limit : Option ℕ) (rest : List ℕ) (run : ℕ) (some : 2 < length rest) (e : get_or rest 0 0 ≡ 0x1b) (b : get_or rest 1 0 ≡ 0x5d)
+module _ (limit : Option ℕ) (rest : List ℕ) (run : ℕ) (some : 2 < length rest) (e : get_or rest 0 0
+    ≡ 0x1b) (b : get_or rest 1 0 ≡ 0x5d)
     (units : IsTextRun (take run (drop 2 rest))) (room : run + 2 < length rest) where
   abbrev text : List ℕ
   text = take run (drop 2 rest)
 
   -- the opener and the text
-  osc_run : (after_all Ground (take (run + 2) rest) ≡ InOsc (Long []) units.0) × (news_all limit Ground (take (run + 2) rest) ≡ [])
+  osc_run : (after_all Ground (take (run + 2) rest) ≡ InOsc (Long []) units.0)
+      × (news_all limit Ground (take (run + 2) rest) ≡ [])
   osc_run =
       let begin = osc_opens limit rest (omega arith) e b in
       let q = units.2 limit (Long []) [] in
       let back : run + 2 ≡ 2 + run = omega arith in (
-        ap (λ n. after_all Ground (take n rest)) back ∙ after_more Ground rest 2 run ∙ ap (λ u. after_all u text) begin.0 ∙ q.0,
-        ap (λ n. news_all limit Ground (take n rest)) back ∙ ap (news_all limit Ground) (take-add 2 run rest) ∙ news_append limit Ground (take 2 rest) text
-            ∙ ap (λ es. es ++ news_all limit (after_all Ground (take 2 rest)) text) begin.1 ∙ ap (λ u. news_all limit u text) begin.0 ∙ q.1,
+        ap (λ n. after_all Ground (take n rest)) back ∙ after_more Ground rest 2 run
+            ∙ ap (λ u. after_all u text) begin.0 ∙ q.0,
+        ap (λ n. news_all limit Ground (take n rest)) back
+            ∙ ap (news_all limit Ground) (take-add 2 run rest)
+            ∙ news_append limit Ground (take 2 rest) text
+            ∙ ap (λ es. es ++ news_all limit (after_all Ground (take 2 rest)) text) begin.1
+            ∙ ap (λ u. news_all limit u text) begin.0 ∙ q.1,
       )
 
   three : run + 3 ≡ run + 2 + 1
   three = omega arith
 
   module _ (c : Class) (is : c ≡ class_of (get_or rest (run + 2) 0)) where
-    osc_after : after_all Ground (take (run + 3) rest) ≡ after_by (InOsc (Long []) units.0) (get_or rest (run + 2) 0) c
+    osc_after : after_all Ground (take (run + 3) rest)
+        ≡ after_by (InOsc (Long []) units.0) (get_or rest (run + 2) 0) c
     osc_after =
         ap (λ n. after_all Ground (take n rest)) three
-        ∙ quiet_after {S = Unit {0}} limit (λ _ _ _. Unit {0}) (λ _ _ _. Unit {0}) Ground (InOsc (Long []) units.0) rest (run + 2) c tt tt osc_run room is
+        ∙ quiet_after {S = Unit {0}} limit (λ _ _ _. Unit {0}) (λ _ _ _.
+        Unit {0}) Ground (InOsc (Long []) units.0) rest (run + 2) c tt tt osc_run room is
 
-    osc_news : news_all limit Ground (take (run + 3) rest) ≡ news_by limit (InOsc (Long []) units.0) (get_or rest (run + 2) 0) c
+    osc_news : news_all limit Ground (take (run + 3) rest) ≡ news_by limit (InOsc (Long []) units.0)
+        (get_or rest (run + 2) 0) c
     osc_news =
         ap (λ n. news_all limit Ground (take n rest)) three
-        ∙ quiet_news {S = Unit {0}} limit (λ _ _ _. Unit {0}) (λ _ _ _. Unit {0}) Ground (InOsc (Long []) units.0) rest (run + 2) c tt tt osc_run room is
+        ∙ quiet_news {S = Unit {0}} limit (λ _ _ _. Unit {0}) (λ _ _ _.
+        Unit {0}) Ground (InOsc (Long []) units.0) rest (run + 2) c tt tt osc_run room is
 
   -- the event
   module _ (fits : is_within limit (length text) ≡ true) where
@@ -98,12 +114,18 @@ module _ (limit : Option ℕ) (rest : List ℕ) (run : ℕ) (some : 2 < length r
     told = ap (osc_events limit) units.1 ∙ sym (osc_told limit text fits)
 
     pub bell_ends : get_or rest (run + 2) 0 ≡ 0x07
-        → (after_all Ground (take (run + 3) rest) ≡ Ground) × (news_all limit Ground (take (run + 3) rest) ≡ OscDispatch (parts_of text) ∷ [])
+        → (after_all Ground (take (run + 3) rest) ≡ Ground)
+        × (news_all limit Ground (take (run + 3) rest) ≡ OscDispatch (parts_of text) ∷ [])
     bell_ends h = let k = bell_class _ h in (osc_after Bell k, osc_news Bell k ∙ told)
 
     pub escape_ends : get_or rest (run + 2) 0 ≡ 0x1b
-        → (after_all Ground (take (run + 3) rest) ≡ InEscape []) × (news_all limit Ground (take (run + 3) rest) ≡ OscDispatch (parts_of text) ∷ [])
-    escape_ends h = let k = escape_at _ h in (osc_after Escape k, osc_news Escape k ∙ append-nil (osc_events limit (segments.text_of units.0)) ∙ told)
+        → (after_all Ground (take (run + 3) rest) ≡ InEscape [])
+        × (news_all limit Ground (take (run + 3) rest) ≡ OscDispatch (parts_of text) ∷ [])
+    escape_ends h = let k = escape_at _ h in (
+      osc_after Escape k,
+      osc_news Escape k ∙ append-nil (osc_events limit (segments.text_of units.0)) ∙ told,
+    )
 
-pub osc_said : (e : EscEvent) (out t : List ℕ) → e.kind ≡ 6 → text_of e out ≡ t → sent e out ≡ OscDispatch (parts_of t) ∷ []
+pub osc_said : (e : EscEvent) (out t : List ℕ) → e.kind ≡ 6 → text_of e out ≡ t
+    → sent e out ≡ OscDispatch (parts_of t) ∷ []
 osc_said e out t kind h = rw kind (ap (λ y. OscDispatch (parts_of y) ∷ []) h)

@@ -17,12 +17,14 @@ use Rattle.esc_lent.specs.Told.{sent, told_by}
 abbrev pub IsTextRun : List ℕ → Type 0
 IsTextRun x = IsUtf8 x × (list_all is_clear (chars x) ≡ true)
 
--- In ground these bytes give the events that this one says, whatever the limit, and leave nothing unfinished.
+-- In ground these bytes give the events that this one says, whatever the limit, and leave nothing
+-- unfinished.
 abbrev pub TellsEvent : EscEvent → List ℕ → Type 0
-TellsEvent e x = (after_all Ground x ≡ Ground) × ((limit : Option ℕ) (out : List ℕ) → sent e out ≡ news_all limit Ground x)
+TellsEvent e x = (after_all Ground x ≡ Ground)
+    × ((limit : Option ℕ) (out : List ℕ) → sent e out ≡ news_all limit Ground x)
 
--- From the one parser to the other these bytes were taken, where so much of a string can be kept: the later one keeps what is unfinished
--- after them, and the event says what they give.
+-- From the one parser to the other these bytes were taken, where so much of a string can be kept:
+-- the later one keeps what is unfinished after them, and the event says what they give.
 abbrev pub Notes : EscParser → EscParser → EscEvent → List ℕ → ℕ → List ℕ → Type 0
 Notes old new e out limit x =
     (u : Unfinished) (memory : List ℕ) → length memory ≡ limit → KeptIn old memory u
@@ -32,12 +34,15 @@ Notes old new e out limit x =
 abbrev pub Tells : EscParser → EscParser → EscEvent → List ℕ → ℕ → List ℕ → List ℕ → Type 0
 Tells old new e out limit bytes x =
     (u : Unfinished) (memory : List ℕ) → length memory ≡ limit → KeptIn old memory u
-    → KeptIn new memory (after_all u x) × (told_by e out (take e.length bytes) ≡ news_all (Some limit) u x)
+    → KeptIn new memory (after_all u x)
+    × (told_by e out (take e.length bytes) ≡ news_all (Some limit) u x)
 
 -- what is still to be handed out, and whether the parser failed, is as before
 abbrev pub IsDueAs : EscParser → EscParser → Type 0
-IsDueAs new old = (new.due_kind ≡ old.due_kind) × (new.due_value ≡ old.due_value) × (new.has_failed ≡ old.has_failed)
+IsDueAs new old = (new.due_kind ≡ old.due_kind) × (new.due_value ≡ old.due_value)
+    × (new.has_failed ≡ old.has_failed)
 
--- 30 to 7E but for the letters that open a string or a control sequence: it ends an escape sequence of an ESC alone
+-- 30 to 7E but for the letters that open a string or a control sequence: it ends an escape sequence
+-- of an ESC alone
 abbrev pub closes_escape : Class → Bool
 closes_escape c = ends_escape c && not (opens c)

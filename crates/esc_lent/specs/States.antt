@@ -22,7 +22,8 @@ begun_in p = begun p.pending p.first p.second p.third
 
 -- the first two of these bytes, and whether there are more
 abbrev pub FirstIn : EscParser → List ℕ → Type 0
-FirstIn p x = (take p.kept p.intermediates ≡ take 2 x) × (p.has_more ≡ nat_lt 2 (length x)) × (p.kept ≡ length (take 2 x))
+FirstIn p x = (take p.kept p.intermediates ≡ take 2 x) × (p.has_more ≡ nat_lt 2 (length x))
+    × (p.kept ≡ length (take 2 x))
 
 -- the number of the run of digits at the end
 abbrev pub NumberIn : EscParser → Option ℕ → Type 0
@@ -32,32 +33,44 @@ NumberIn p (Some n) = (p.is_open ≡ true) × (p.number ≡ held n)
 -- the entries and the form of the body of a control sequence so far
 abbrev pub BodyIn : EscParser → List ℕ → Type 0
 BodyIn p x =
-    (p.count ≤ 256) × AreFirst (map param_of (take p.count p.entries)) p.is_truncated 256 (closed_of None x) × NumberIn p (number_of_run None x)
+    (p.count ≤ 256)
+    × AreFirst (map param_of (take p.count p.entries)) p.is_truncated 256 (closed_of None x)
+    × NumberIn p (number_of_run None x)
     × (form_numbered p.form ≡ form_from form.Empty x)
 
--- the form of the header of a device control string so far, and its bytes that are no parameter bytes
+-- the form of the header of a device control string so far, and its bytes that are no parameter
+-- bytes
 abbrev pub HeaderIn : EscParser → List ℕ → Type 0
-HeaderIn p x = FirstIn p (others_of x) × (form_numbered p.form ≡ form_by is_dcs_parameter form.Empty x)
+HeaderIn p x = FirstIn p (others_of x)
+    × (form_numbered p.form ≡ form_by is_dcs_parameter form.Empty x)
 
 abbrev pub TextIn : EscParser → List ℕ → List ℕ → Type 0
 TextIn p memory t = KeepsLent (Some (length memory)) p.is_over p.text memory t
 
--- What the parser, and the memory that it was lent, keep of what is unfinished: of a string no more than the memory has room for.
+-- What the parser, and the memory that it was lent, keep of what is unfinished: of a string no more
+-- than the memory has room for.
 abbrev pub KeptIn : EscParser → List ℕ → Unfinished → Type 0
 KeptIn p memory Ground = (state_numbered p.state ≡ state.Ground) × (begun_in p ≡ [])
-KeptIn p memory (Pending f) = (state_numbered p.state ≡ state.Ground) × (begun_in p ≡ f) × (is_empty f ≡ false)
+KeptIn p memory (Pending f) = (state_numbered p.state ≡ state.Ground) × (begun_in p ≡ f)
+    × (is_empty f ≡ false)
 KeptIn p memory (InEscape x) = (state_numbered p.state ≡ state.Escape) × FirstIn p (strip x)
 KeptIn p memory (InCsi o x) = (state_numbered p.state ≡ state.Csi) × BodyIn p (strip x)
-KeptIn p memory (InDcs o x) = (state_numbered p.state ≡ state.Dcs) × TextIn p memory (parameters_of (strip x)) × HeaderIn p (strip x)
-KeptIn p memory (InData o x f d) = state_numbered p.state ≡ (if is_read (Some (length memory)) (strip x) then state.Data else state.Skip)
-KeptIn p memory (InApc o d) = (state_numbered p.state ≡ state.Apc) × TextIn p memory (those is_text d)
+KeptIn p memory (InDcs o x) = (state_numbered p.state ≡ state.Dcs)
+    × TextIn p memory (parameters_of (strip x)) × HeaderIn p (strip x)
+KeptIn p memory (InData o x f d) = state_numbered p.state
+    ≡ (if is_read (Some (length memory)) (strip x) then state.Data else state.Skip)
+KeptIn p memory (InApc o d) = (state_numbered p.state ≡ state.Apc)
+    × TextIn p memory (those is_text d)
 KeptIn p memory (InIgnored k o d) = state_numbered p.state ≡ state.Skip
-KeptIn p memory (InOsc o ps) = (state_numbered p.state ≡ state.Osc) × TextIn p memory (text_of ps) × (begun_in p ≡ [])
+KeptIn p memory (InOsc o ps) = (state_numbered p.state ≡ state.Osc) × TextIn p memory (text_of ps)
+    × (begun_in p ≡ [])
 KeptIn p memory (InOscPending o ps f) =
-    (state_numbered p.state ≡ state.Osc) × TextIn p memory (text_of ps) × (begun_in p ≡ f) × (is_empty f ≡ false)
+    (state_numbered p.state ≡ state.Osc) × TextIn p memory (text_of ps) × (begun_in p ≡ f)
+    × (is_empty f ≡ false)
 
--- The parser may have been fed this stream, and have handed out these events: it keeps what is unfinished of the stream, and the
--- events of the stream, of which no string is longer than the memory, are those and the one that is still to be handed out.
+-- The parser may have been fed this stream, and have handed out these events: it keeps what is
+-- unfinished of the stream, and the events of the stream, of which no string is longer than the
+-- memory, are those and the one that is still to be handed out.
 unfoldable pub IsAt : List ℕ → List Event → EscParser → List ℕ → Type 0
 IsAt s es p memory =
     (p.has_failed ≡ false) × KeptIn p memory (after_all Ground s)

@@ -41,9 +41,11 @@ sent e out =
     if e.kind == 2 then Print e.byte ∷ []
     else if e.kind == 3 then Execute e.byte ∷ []
     else if e.kind == 4 then EscDispatch (intermediates_of e) e.has_more e.byte ∷ []
-    else if e.kind == 5 then CsiDispatch (map param_of (take e.count e.entries)) e.has_more e.byte ∷ []
+    else if e.kind == 5 then CsiDispatch (map param_of (take e.count e.entries)) e.has_more e.byte
+    ∷ []
     else if e.kind == 6 then OscDispatch (parts_of (text_of e out)) ∷ []
-    else if e.kind == 7 then DcsHook e.byte (parameters_of (text_of e out)) (intermediates_of e) e.has_more ∷ []
+    else if e.kind == 7 then DcsHook e.byte (parameters_of (text_of e out)) (intermediates_of e)
+    e.has_more ∷ []
     else if e.kind == 9 then DcsPut e.byte ∷ []
     else if e.kind == 10 then DcsUnhook ∷ []
     else if e.kind == 11 then ApcDispatch (text_of e out) ∷ []
@@ -58,14 +60,16 @@ told e out bytes = told_by e out (placed e bytes)
 
 -- a character or a control that is still to be handed out
 abbrev pub due_of : ℕ → ℕ → List Event
-due_of kind value = if kind == 2 then Print value ∷ [] else if kind == 3 then Execute value ∷ [] else []
+due_of kind value = if kind == 2 then Print value ∷ [] else if kind == 3 then Execute value
+    ∷ [] else []
 
 -- an event that is no run, and what is to be handed out after it
 abbrev pub said : EscEvent → List ℕ → ℕ → ℕ → List Event
 said e out kind value = sent e out ++ due_of kind value
 
--- The counts and places of an event: of entries and intermediates no more than the arrays hold, a text within the room that it was
--- copied to, and a run within the bytes that were taken.
+-- The counts and places of an event: of entries and intermediates no more than the arrays hold, a
+-- text within the room that it was copied to, and a run within the bytes that were taken.
 abbrev pub IsWithin : EscEvent → ℕ → ℕ → Type 0
 IsWithin e room taken =
-    (e.count ≤ 256) × (e.kept ≤ 2) × (is_run e.kind ≡ false → e.length ≤ room) × (is_run e.kind ≡ true → e.start + e.length ≤ taken)
+    (e.count ≤ 256) × (e.kept ≤ 2) × (is_run e.kind ≡ false → e.length ≤ room)
+    × (is_run e.kind ≡ true → e.start + e.length ≤ taken)

@@ -23,8 +23,9 @@ use esc_write::short_numbers::ShortNumbers;
 use std::alloc::{AllocError, Allocator, Global};
 use std::str;
 
-/// Appends the text of each action to a text: what [`encode`](esc_write::encode) writes for all of them, without a list
-/// of them. Each action that a string terminator ends gets one string terminator, and one directly after it in the stream is that one.
+/// Appends the text of each action to a text: what [`encode`](esc_write::encode) writes for all of
+/// them, without a list of them. Each action that a string terminator ends gets one string
+/// terminator, and one directly after it in the stream is that one.
 #[derive(Drop)]
 pub struct Spell<A: Allocator = Global> {
     /// The text so far.
@@ -48,7 +49,8 @@ impl<A: Allocator> Spell<A> {
     // Appends the text of an action, out of the way of the code that takes characters.
     #[inline(never)]
     fn append(&mut self, action: Action<A>) -> Result<(), AllocError>
-        ensures ok { OnOk result ((self.new.text ≡ self.old.text ++ text_after self.old.follows_string (value_of action))
+        ensures ok { OnOk result
+            ((self.new.text ≡ self.old.text ++ text_after self.old.follows_string (value_of action))
             × (self.new.follows_string ≡ is_string (value_of action))) }
         ensures refused { OnErr result (has_text (value_of action) ≡ true → Refused A) }
     {
@@ -66,7 +68,9 @@ impl<A: Allocator> Spell<A> {
         parameters_truncated: bool,
         control: u8,
     ) -> Result<(), AllocError>
-        ensures ok { OnOk result ((self.new.text ≡ self.old.text ++ csi_text (unspecified params.now parameters_truncated control))
+        ensures ok { OnOk result
+            ((self.new.text ≡ self.old.text
+            ++ csi_text (unspecified params.now parameters_truncated control))
             × (self.new.follows_string ≡ false)) }
         ensures refused { OnErr result (Refused A) }
     {
@@ -105,7 +109,8 @@ impl<A: Allocator> Spell<A> {
         command: Result<OperatingSystemCommand<A>, AllocError>,
     ) -> Result<(), AllocError>
         ensures ok { OnOk result ((c : OperatingSystemCommand A) × (command ≡ Ok c)
-            × (self.new.text ≡ self.old.text ++ command_text c) × (self.new.follows_string ≡ true)) }
+            × (self.new.text ≡ self.old.text ++ command_text c)
+            × (self.new.follows_string ≡ true)) }
         ensures refused { OnErr command (Refused A) → OnErr result (Refused A) }
     {
         match command {
@@ -116,7 +121,8 @@ impl<A: Allocator> Spell<A> {
 
     // Appends the text of a command that is written as it came.
     pub(crate) fn write_verbatim(&mut self, text: &str) -> Result<(), AllocError>
-        ensures ok { OnOk result ((self.new.text ≡ self.old.text ++ framed text.now) × (self.new.follows_string ≡ true)) }
+        ensures ok { OnOk result ((self.new.text ≡ self.old.text ++ framed text.now)
+            × (self.new.follows_string ≡ true)) }
         ensures refused { OnErr result (Refused A) }
     {
         self.text.push_str("\x1b]")?;
@@ -127,12 +133,13 @@ impl<A: Allocator> Spell<A> {
     }
 }
 
-/// After a refused call the text ends somewhere within that action's text. A sixel image with a value over 63, which has no text,
-/// is refused too; no parser hands one out.
+/// After a refused call the text ends somewhere within that action's text. A sixel image with a
+/// value over 63, which has no text, is refused too; no parser hands one out.
 impl<A: Allocator> Sink<Action<A>> for Spell<A> {
     ghost is_ready = { λ _. Unit {0} };
 
-    ghost takes = { λ p a q. (q.text ≡ p.text ++ text_after p.follows_string (value_of a)) × (q.follows_string ≡ is_string (value_of a)) };
+    ghost takes = { λ p a q. (q.text ≡ p.text ++ text_after p.follows_string (value_of a))
+        × (q.follows_string ≡ is_string (value_of a)) };
 
     ghost refuses = { Denies };
 

@@ -27,25 +27,40 @@ pub other_reads : (A : Type 0) (c : OperatingSystemCommandCode) (t : List ℕ) (
     → c ≢ code.ITermProprietary
     → c ≢ code.RxvtProprietary
     → reading {A = A} c t args ≡ dynamic (changed_by c) (reset_by c) args
-other_reads A code.SetIconNameAndWindowTitle t args n0 n1 n2 n3 n4 n5 n6 n7 n8 n9 n10 n11 n12 n13 = absurd (n0 refl)
-other_reads A code.SetIconName t args n0 n1 n2 n3 n4 n5 n6 n7 n8 n9 n10 n11 n12 n13 = absurd (n1 refl)
-other_reads A code.SetWindowTitle t args n0 n1 n2 n3 n4 n5 n6 n7 n8 n9 n10 n11 n12 n13 = absurd (n2 refl)
-other_reads A code.ChangeColorNumber t args n0 n1 n2 n3 n4 n5 n6 n7 n8 n9 n10 n11 n12 n13 = absurd (n5 refl)
-other_reads A code.SetCurrentWorkingDirectory t args n0 n1 n2 n3 n4 n5 n6 n7 n8 n9 n10 n11 n12 n13 = absurd (n6 refl)
-other_reads A code.SetHyperlink t args n0 n1 n2 n3 n4 n5 n6 n7 n8 n9 n10 n11 n12 n13 = absurd (n7 refl)
-other_reads A code.SystemNotification t args n0 n1 n2 n3 n4 n5 n6 n7 n8 n9 n10 n11 n12 n13 = absurd (n8 refl)
-other_reads A code.ManipulateSelectionData t args n0 n1 n2 n3 n4 n5 n6 n7 n8 n9 n10 n11 n12 n13 = absurd (n9 refl)
-other_reads A code.ResetColors t args n0 n1 n2 n3 n4 n5 n6 n7 n8 n9 n10 n11 n12 n13 = absurd (n10 refl)
-other_reads A code.FinalTermSemanticPrompt t args n0 n1 n2 n3 n4 n5 n6 n7 n8 n9 n10 n11 n12 n13 = absurd (n11 refl)
-other_reads A code.RxvtProprietary t args n0 n1 n2 n3 n4 n5 n6 n7 n8 n9 n10 n11 n12 n13 = absurd (n13 refl)
-other_reads A code.ITermProprietary t args n0 n1 n2 n3 n4 n5 n6 n7 n8 n9 n10 n11 n12 n13 = absurd (n12 refl)
-other_reads A code.SetWindowTitleSun t args n0 n1 n2 n3 n4 n5 n6 n7 n8 n9 n10 n11 n12 n13 = absurd (n3 refl)
-other_reads A code.SetIconNameSun t args n0 n1 n2 n3 n4 n5 n6 n7 n8 n9 n10 n11 n12 n13 = absurd (n4 refl)
+other_reads A code.SetIconNameAndWindowTitle t args n0 n1 n2 n3 n4 n5 n6 n7 n8 n9 n10 n11 n12 n13 =
+    absurd (n0 refl)
+other_reads A code.SetIconName t args n0 n1 n2 n3 n4 n5 n6 n7 n8 n9 n10 n11 n12 n13 =
+    absurd (n1 refl)
+other_reads A code.SetWindowTitle t args n0 n1 n2 n3 n4 n5 n6 n7 n8 n9 n10 n11 n12 n13 =
+    absurd (n2 refl)
+other_reads A code.ChangeColorNumber t args n0 n1 n2 n3 n4 n5 n6 n7 n8 n9 n10 n11 n12 n13 =
+    absurd (n5 refl)
+other_reads A code.SetCurrentWorkingDirectory t args n0 n1 n2 n3 n4 n5 n6 n7 n8 n9 n10 n11 n12 n13 =
+    absurd (n6 refl)
+other_reads A code.SetHyperlink t args n0 n1 n2 n3 n4 n5 n6 n7 n8 n9 n10 n11 n12 n13 =
+    absurd (n7 refl)
+other_reads A code.SystemNotification t args n0 n1 n2 n3 n4 n5 n6 n7 n8 n9 n10 n11 n12 n13 =
+    absurd (n8 refl)
+other_reads A code.ManipulateSelectionData t args n0 n1 n2 n3 n4 n5 n6 n7 n8 n9 n10 n11 n12 n13 =
+    absurd (n9 refl)
+other_reads A code.ResetColors t args n0 n1 n2 n3 n4 n5 n6 n7 n8 n9 n10 n11 n12 n13 =
+    absurd (n10 refl)
+other_reads A code.FinalTermSemanticPrompt t args n0 n1 n2 n3 n4 n5 n6 n7 n8 n9 n10 n11 n12 n13 =
+    absurd (n11 refl)
+other_reads A code.RxvtProprietary t args n0 n1 n2 n3 n4 n5 n6 n7 n8 n9 n10 n11 n12 n13 =
+    absurd (n13 refl)
+other_reads A code.ITermProprietary t args n0 n1 n2 n3 n4 n5 n6 n7 n8 n9 n10 n11 n12 n13 =
+    absurd (n12 refl)
+other_reads A code.SetWindowTitleSun t args n0 n1 n2 n3 n4 n5 n6 n7 n8 n9 n10 n11 n12 n13 =
+    absurd (n3 refl)
+other_reads A code.SetIconNameSun t args n0 n1 n2 n3 n4 n5 n6 n7 n8 n9 n10 n11 n12 n13 =
+    absurd (n4 refl)
 other_reads A c t args n0 n1 n2 n3 n4 n5 n6 n7 n8 n9 n10 n11 n12 n13 = refl
 
 -- the codes of a dynamic colour
 pub change_reads : (A : Type 0) (n : DynamicColorNumber) (t : List ℕ) (args : List (List ℕ))
-    → reading {A = A} (change_code n) t args ≡ option_map (command.ChangeDynamicColors n) (colors_of args)
+    → reading {A = A} (change_code n) t args ≡ option_map (command.ChangeDynamicColors n)
+    (colors_of args)
 change_reads A color.TextForegroundColor t args = refl
 change_reads A n t args = refl
 

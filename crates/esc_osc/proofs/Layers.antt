@@ -29,7 +29,8 @@ abbrev pub Good : (A : Type 0) → OperatingSystemCommand A → Type 0
 Good A c = IsWritable {A = A} c
 
 -- prompts
-pub prompted : (A : Type 0) (p : FinalTermSemanticPrompt A) → IsWritablePrompt p → Written A (command.FinalTermSemanticPrompt p)
+pub prompted : (A : Type 0) (p : FinalTermSemanticPrompt A) → IsWritablePrompt p
+    → Written A (command.FinalTermSemanticPrompt p)
 prompted A p h = let w = prompts_back.writes_back p h in record {
   code = code.FinalTermSemanticPrompt;
   args = w.0;
@@ -38,13 +39,17 @@ prompted A p h = let w = prompts_back.writes_back p h in record {
   reads = ap (option_map command.FinalTermSemanticPrompt) w.3;
 }
 
-pub prompt_good : (A : Type 0) (args : List (List ℕ)) → AreClearParts args → Where (Good A) (option_map command.FinalTermSemanticPrompt (prompt_of args))
+pub prompt_good : (A : Type 0) (args : List (List ℕ)) → AreClearParts args
+    → Where (Good A) (option_map command.FinalTermSemanticPrompt (prompt_of args))
 prompt_good A args k =
-    where_map (λ (p : FinalTermSemanticPrompt A). IsWritablePrompt p) (Good A) command.FinalTermSemanticPrompt (λ p w. w) (prompt_of args)
-    (where_from (λ (p : FinalTermSemanticPrompt A). IsWritablePrompt p) (prompt_of args) (prompts_clear.clear_is_writable args k))
+    where_map (λ (p : FinalTermSemanticPrompt A). IsWritablePrompt p) (Good A)
+    command.FinalTermSemanticPrompt (λ p w. w) (prompt_of args)
+    (where_from (λ (p : FinalTermSemanticPrompt A). IsWritablePrompt p) (prompt_of args)
+    (prompts_clear.clear_is_writable args k))
 
 -- commands of iTerm2
-pub proprietary : (A : Type 0) (c : ITermProprietary A) → IsWritableITerm c → Written A (command.ITermProprietary c)
+pub proprietary : (A : Type 0) (c : ITermProprietary A) → IsWritableITerm c
+    → Written A (command.ITermProprietary c)
 proprietary A c h = let w = iterms_back.writes_back c h in record {
   code = code.ITermProprietary;
   args = w.0;
@@ -53,27 +58,35 @@ proprietary A c h = let w = iterms_back.writes_back c h in record {
   reads = ap (option_map command.ITermProprietary) w.3;
 }
 
-pub iterm_good : (A : Type 0) (args : List (List ℕ)) → AreClearParts args → Where (Good A) (option_map command.ITermProprietary (iterm_of args))
+pub iterm_good : (A : Type 0) (args : List (List ℕ)) → AreClearParts args
+    → Where (Good A) (option_map command.ITermProprietary (iterm_of args))
 iterm_good A args k =
-    where_map (λ (c : ITermProprietary A). IsWritableITerm c) (Good A) command.ITermProprietary (λ c w. w) (iterm_of args)
-    (where_from (λ (c : ITermProprietary A). IsWritableITerm c) (iterm_of args) (iterms_clear.clear_is_writable args k))
+    where_map (λ (c : ITermProprietary A). IsWritableITerm c) (Good A) command.ITermProprietary
+    (λ c w. w) (iterm_of args)
+    (where_from (λ (c : ITermProprietary A). IsWritableITerm c) (iterm_of args)
+    (iterms_clear.clear_is_writable args k))
 
 -- links
-link_means : (A : Type 0) (v : Option (Hyperlink A)) (args : List (List ℕ)) → parts_of (link_text v) ≡ code_text code.SetHyperlink ∷ args
-    → link_of (parts_of (link_text v)) ≡ Some v → meaning (parts_of (link_text v)) ≡ command.SetHyperlink v
+link_means : (A : Type 0) (v : Option (Hyperlink A)) (args : List (List ℕ))
+    → parts_of (link_text v) ≡ code_text code.SetHyperlink ∷ args
+    → link_of (parts_of (link_text v)) ≡ Some v
+    → meaning (parts_of (link_text v)) ≡ command.SetHyperlink v
 link_means A v args is reads =
-    let back : link_of (code_text code.SetHyperlink ∷ args) ≡ Some v = ap link_of (sym is) ∙ reads in
+    let back : link_of (code_text code.SetHyperlink ∷ args) ≡ Some v =
+    ap link_of (sym is) ∙ reads in
     ap (meaning {A = A}) is
     ∙ ap (λ r. unwrap_or r (command.Unspecified (code_text code.SetHyperlink ∷ args)))
     (code_means code.SetHyperlink args ∙ ap (option_map command.SetHyperlink) back)
 
-pub linked : (A : Type 0) (v : Option (Hyperlink A)) → IsClearText (link_text v) → link_of (parts_of (link_text v)) ≡ Some v
+pub linked : (A : Type 0) (v : Option (Hyperlink A)) → IsClearText (link_text v)
+    → link_of (parts_of (link_text v)) ≡ Some v
     → meaning (parts_of (link_text v)) ≡ command.SetHyperlink v
 linked A v clear reads =
     let p = link_parts (parts_of (link_text v)) (text_parts (link_text v) clear) v reads in
     link_means A v (p.0 ∷ p.1 ∷ []) p.3 reads
 
-pub link_good : (A : Type 0) (t : List ℕ) (args : List (List ℕ)) → IsClearPart t → AreClearParts args
+pub link_good : (A : Type 0) (t : List ℕ) (args : List (List ℕ)) → IsClearPart t
+    → AreClearParts args
     → Where (Good A) (option_map command.SetHyperlink (link_of (t ∷ args)))
 link_good A t [] h k = tt
 link_good A t (a ∷ more) h k =

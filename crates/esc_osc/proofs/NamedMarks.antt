@@ -13,22 +13,28 @@ use Rattle.esc_osc.specs.Reading.{reading}
 use Rattle.esc_osc_values.specs.declared.code.OperatingSystemCommandCode.TheVariants as code
 
 key_utf8 : is_utf8 (codes "aid") ≡ true
-key_utf8 = is_utf8-from_IsUtf8 (codes "aid") (part_utf8 (codes "aid") (plain_part (codes "aid") refl))
+key_utf8 = is_utf8-from_IsUtf8 (codes "aid")
+    (part_utf8 (codes "aid") (plain_part (codes "aid") refl))
 
 some_length : (name : List ℕ) → (length (codes "aid=" ++ name) == 0) ≡ false
 some_length name = ne_eqb (length (codes "aid=" ++ name)) 0 (λ e. omega (arith, e))
 
 pub named_start : (A : Type 0) (name : List ℕ) → IsUtf8 name
-    → option_map command_text (reading {A = A} code.FinalTermSemanticPrompt (codes "133") (codes "A" ∷ (codes "aid=" ++ name) ∷ []))
+    → option_map command_text (reading {A = A} code.FinalTermSemanticPrompt (codes "133") (codes "A"
+    ∷ (codes "aid=" ++ name) ∷ []))
     ≡ Some (framed (codes "133;A;aid=" ++ name))
-named_start A name u = rw (some_length name, is_utf8-from_IsUtf8 name u, key_utf8, append-nil name) refl
+named_start A name u =
+    rw (some_length name, is_utf8-from_IsUtf8 name u, key_utf8, append-nil name) refl
 
 pub named_output : (A : Type 0) (name : List ℕ) → IsUtf8 name
-    → option_map command_text (reading {A = A} code.FinalTermSemanticPrompt (codes "133") (codes "C" ∷ (codes "aid=" ++ name) ∷ []))
+    → option_map command_text (reading {A = A} code.FinalTermSemanticPrompt (codes "133") (codes "C"
+    ∷ (codes "aid=" ++ name) ∷ []))
     ≡ Some (framed (codes "133;C;aid=" ++ name))
 named_output A name u = rw (some_length name, is_utf8-from_IsUtf8 name u, key_utf8) refl
 
 pub named_end : (A : Type 0) (name : List ℕ) → IsUtf8 name
-    → option_map command_text (reading {A = A} code.FinalTermSemanticPrompt (codes "133") (codes "N" ∷ (codes "aid=" ++ name) ∷ []))
+    → option_map command_text (reading {A = A} code.FinalTermSemanticPrompt (codes "133") (codes "N"
+    ∷ (codes "aid=" ++ name) ∷ []))
     ≡ Some (framed (codes "133;N;aid=" ++ name))
-named_end A name u = rw (some_length name, is_utf8-from_IsUtf8 name u, key_utf8, append-nil name) refl
+named_end A name u =
+    rw (some_length name, is_utf8-from_IsUtf8 name u, key_utf8, append-nil name) refl

@@ -42,7 +42,8 @@ use Rattle.esc_osc_values.specs.declared.progress.Progress.TheVariants as progre
 use Rattle.esc_osc_values.specs.declared.selection.Selection.{Selection}
 
 -- a title after its code
-entitled : (A : Type 0) (k : OperatingSystemCommandCode) (t : List ℕ) (c : OperatingSystemCommand A) → IsClearText t → inner_text c ≡ titled k t
+entitled : (A : Type 0) (k : OperatingSystemCommandCode) (t : List ℕ) (c : OperatingSystemCommand A)
+    → IsClearText t → inner_text c ≡ titled k t
     → reading k (code_text k) (slice_split (λ c. c == 0x3b) t) ≡ Some c → Written A c
 entitled A k t c h is e = record {
   code = k;
@@ -53,20 +54,27 @@ entitled A k t c h is e = record {
 }
 
 -- a text after a letter
-letter_part : (c : OperatingSystemCommandCode) (t : List ℕ) → IsClearPart t → IsClearPart (code_text c ++ t)
+letter_part : (c : OperatingSystemCommandCode) (t : List ℕ) → IsClearPart t
+    → IsClearPart (code_text c ++ t)
 letter_part c t h = part_append (code_text c) t (code_part c) h
 
 one_part : (b : ℕ) (t : List ℕ) → IsClearPart (b ∷ t) → parts_of (b ∷ t) ≡ (b ∷ t) ∷ []
-one_part b t h = ap parts_of (sym (append-nil (b ∷ t))) ∙ (parts_text ((b ∷ t) ∷ []) ((h, tt), λ e. cc)).1
+one_part b t h =
+    ap parts_of (sym (append-nil (b ∷ t))) ∙ (parts_text ((b ∷ t) ∷ []) ((h, tt), λ e. cc)).1
 
-window_means : (A : Type 0) (t : List ℕ) → IsClearPart (0x6c ∷ t) → IsClearPart t → meaning {A = A} ((0x6c ∷ t) ∷ []) ≡ command.SetWindowTitleSun t
-window_means A t h k = rw (part_lossy (0x6c ∷ t) h, code_of-code_text code.SetWindowTitleSun, part_utf8_of t k) refl
+window_means : (A : Type 0) (t : List ℕ) → IsClearPart (0x6c ∷ t) → IsClearPart t
+    → meaning {A = A} ((0x6c ∷ t) ∷ []) ≡ command.SetWindowTitleSun t
+window_means A t h k =
+    rw (part_lossy (0x6c ∷ t) h, code_of-code_text code.SetWindowTitleSun, part_utf8_of t k) refl
 
-icon_means : (A : Type 0) (t : List ℕ) → IsClearPart (0x4c ∷ t) → IsClearPart t → meaning {A = A} ((0x4c ∷ t) ∷ []) ≡ command.SetIconNameSun t
-icon_means A t h k = rw (part_lossy (0x4c ∷ t) h, code_of-code_text code.SetIconNameSun, part_utf8_of t k) refl
+icon_means : (A : Type 0) (t : List ℕ) → IsClearPart (0x4c ∷ t) → IsClearPart t
+    → meaning {A = A} ((0x4c ∷ t) ∷ []) ≡ command.SetIconNameSun t
+icon_means A t h k =
+    rw (part_lossy (0x4c ∷ t) h, code_of-code_text code.SetIconNameSun, part_utf8_of t k) refl
 
 -- one text after the code
-directory : (A : Type 0) (t : List ℕ) → IsClearPart t → Written A (command.CurrentWorkingDirectory t)
+directory : (A : Type 0) (t : List ℕ) → IsClearPart t
+    → Written A (command.CurrentWorkingDirectory t)
 directory A t h = record {
   code = code.SetCurrentWorkingDirectory;
   args = t ∷ [];
@@ -97,14 +105,20 @@ progressing A (progress.SetPercentage n) h = record {
   code = code.SystemNotification;
   args = codes "4" ∷ codes "1" ∷ decimal n ∷ [];
   text = ap (λ x. codes "9;4;1;" ++ x) (sym (append-nil (decimal n)));
-  clear = (plain_part (codes "4") refl, (plain_part (codes "1") refl, (byte_part n (omega arith), tt)));
+  clear = (
+    plain_part (codes "4") refl,
+    (plain_part (codes "1") refl, (byte_part n (omega arith), tt)),
+  );
   reads = ap (λ k. Some (command.ConEmuProgress (progress.SetPercentage k))) (percent_back n h);
 }
 progressing A (progress.SetError n) h = record {
   code = code.SystemNotification;
   args = codes "4" ∷ codes "2" ∷ decimal n ∷ [];
   text = ap (λ x. codes "9;4;2;" ++ x) (sym (append-nil (decimal n)));
-  clear = (plain_part (codes "4") refl, (plain_part (codes "2") refl, (byte_part n (omega arith), tt)));
+  clear = (
+    plain_part (codes "4") refl,
+    (plain_part (codes "2") refl, (byte_part n (omega arith), tt)),
+  );
   reads = ap (λ k. Some (command.ConEmuProgress (progress.SetError k))) (percent_back n h);
 }
 progressing A progress.SetIndeterminate h = record {
@@ -141,7 +155,8 @@ queried A s h = record {
   reads = rw (selection_back s.0 h) refl;
 }
 
-filled : (A : Type 0) (s : Selection) (t : List ℕ) → IsNamed s.0 → IsUtf8 t → Written A (command.SetSelection s t)
+filled : (A : Type 0) (s : Selection) (t : List ℕ) → IsNamed s.0 → IsUtf8 t
+    → Written A (command.SetSelection s t)
 filled A s t h u = record {
   code = code.ManipulateSelectionData;
   args = selection_text s.0 ∷ base64_text t ∷ [];
@@ -151,7 +166,8 @@ filled A s t h u = record {
 }
 
 -- colours
-palette : (A : Type 0) (ps : List ChangeColorPair) → ArePairs ps → Written A (command.ChangeColorNumber ps)
+palette : (A : Type 0) (ps : List ChangeColorPair) → ArePairs ps
+    → Written A (command.ChangeColorNumber ps)
 palette A [] h = record {
   code = code.ChangeColorNumber;
   args = [] ∷ [];
@@ -167,13 +183,15 @@ palette A (p ∷ ps) h = record {
   reads = ap (option_map command.ChangeColorNumber) (pairs_back (p ∷ ps) h);
 }
 
-changed : (A : Type 0) (n : DynamicColorNumber) (cs : List ColorOrQuery) → AreColors cs → Written A (command.ChangeDynamicColors n cs)
+changed : (A : Type 0) (n : DynamicColorNumber) (cs : List ColorOrQuery) → AreColors cs
+    → Written A (command.ChangeDynamicColors n cs)
 changed A n cs h = record {
   code = change_code n;
   args = map spec_text cs;
   text = ap (λ t. code_text (change_code n) ++ t) (sym (flat_map_map spec_text cs));
   clear = specs_are_parts cs h;
-  reads = change_reads A n (code_text (change_code n)) (map spec_text cs) ∙ ap (option_map (command.ChangeDynamicColors n)) (colors_back cs h);
+  reads = change_reads A n (code_text (change_code n)) (map spec_text cs)
+      ∙ ap (option_map (command.ChangeDynamicColors n)) (colors_back cs h);
 }
 
 restored : (A : Type 0) (n : DynamicColorNumber) → Written A (command.ResetDynamicColor n)
@@ -194,7 +212,8 @@ numbered A ns h = record {
   reads = ap (option_map command.ResetColors) (numbers_back ns h);
 }
 
-extension : (A : Type 0) (ts : List (List ℕ)) → AreClearParts ts → Written A (command.RxvtExtension ts)
+extension : (A : Type 0) (ts : List (List ℕ)) → AreClearParts ts
+    → Written A (command.RxvtExtension ts)
 extension A ts h = record {
   code = code.RxvtProprietary;
   args = ts;
@@ -215,15 +234,23 @@ back {A = A} (command.SetIconNameAndWindowTitle t) h =
     by A _ (entitled A code.SetIconNameAndWindowTitle t (command.SetIconNameAndWindowTitle t) h refl
     (ap (option_map command.SetIconNameAndWindowTitle) (title_split t (clear_utf8 t h))))
 back {A = A} (command.SetWindowTitle t) h =
-    by A _ (entitled A code.SetWindowTitle t (command.SetWindowTitle t) h refl (ap (option_map command.SetWindowTitle) (title_split t (clear_utf8 t h))))
+    by A _ (entitled A code.SetWindowTitle t (command.SetWindowTitle t) h refl
+    (ap (option_map command.SetWindowTitle) (title_split t (clear_utf8 t h))))
 back {A = A} (command.SetWindowTitleSun t) h =
-    let part = letter_part code.SetWindowTitleSun t h in
-    (part_clear (0x6c ∷ t) part, ap (meaning {A = A}) (one_part 0x6c t part) ∙ window_means A t part h)
+    let part = letter_part code.SetWindowTitleSun t h in (
+      part_clear (0x6c ∷ t) part,
+      ap (meaning {A = A}) (one_part 0x6c t part)
+          ∙ window_means A t part h,
+    )
 back {A = A} (command.SetIconName t) h =
-    by A _ (entitled A code.SetIconName t (command.SetIconName t) h refl (ap (option_map command.SetIconName) (title_split t (clear_utf8 t h))))
+    by A _ (entitled A code.SetIconName t (command.SetIconName t) h refl
+    (ap (option_map command.SetIconName) (title_split t (clear_utf8 t h))))
 back {A = A} (command.SetIconNameSun t) h =
-    let part = letter_part code.SetIconNameSun t h in
-    (part_clear (0x4c ∷ t) part, ap (meaning {A = A}) (one_part 0x4c t part) ∙ icon_means A t part h)
+    let part = letter_part code.SetIconNameSun t h in (
+      part_clear (0x4c ∷ t) part,
+      ap (meaning {A = A}) (one_part 0x4c t part)
+          ∙ icon_means A t part h,
+    )
 back {A = A} (command.SetHyperlink v) h = (h.0, linked A v h.0 h.1)
 back {A = A} (command.ClearSelection s) h = by A _ (cleared A s h)
 back {A = A} (command.QuerySelection s) h = by A _ (queried A s h)
@@ -241,11 +268,14 @@ back {A = A} (command.ConEmuProgress p) h = by A _ (progressing A p h)
 back {A = A} (command.Unspecified ps) h =
     let P : List ℕ → Type 0 = λ u. IsClearText u in (
       subst P (sym (lossy_joined ps h.0.0)) (joined_clear ps h.0.0),
-      ap (λ x. meaning {A = A} (parts_of x)) (lossy_joined ps h.0.0) ∙ ap (meaning {A = A}) (parts_text ps h.0).1 ∙ h.1,
+      ap (λ x. meaning {A = A} (parts_of x)) (lossy_joined ps h.0.0)
+          ∙ ap (meaning {A = A}) (parts_text ps h.0).1 ∙ h.1,
     )
 
-pub writes_clear : {A : Type 0} (c : OperatingSystemCommand A) → IsWritable c → IsClearText (inner_text c)
+pub writes_clear : {A : Type 0} (c : OperatingSystemCommand A) → IsWritable c
+    → IsClearText (inner_text c)
 writes_clear c h = (back c h).0
 
-pub reads_back : {A : Type 0} (c : OperatingSystemCommand A) → IsWritable c → meaning (parts_of (inner_text c)) ≡ c
+pub reads_back : {A : Type 0} (c : OperatingSystemCommand A) → IsWritable c
+    → meaning (parts_of (inner_text c)) ≡ c
 reads_back c h = (back c h).1

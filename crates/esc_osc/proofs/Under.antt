@@ -13,11 +13,13 @@ use Rattle.esc_osc.specs.declared.command.OperatingSystemCommand.{OperatingSyste
 use Rattle.esc_osc.specs.declared.command.OperatingSystemCommand.TheVariants as command
 
 -- a list of items, each after a `;`
-listed_under : {X : Type 0} (k : OperatingSystemCommandCode) (f : X → List ℕ) (xs : List X) → IsUnder k (listed k f xs)
+listed_under : {X : Type 0} (k : OperatingSystemCommandCode) (f : X → List ℕ) (xs : List X)
+    → IsUnder k (listed k f xs)
 listed_under k f [] = inl (append-nil (code_text k))
 listed_under k f (x ∷ xs) = inr (inl (f x ++ flat_map (λ y. 0x3b ∷ f y) xs, refl))
 
-prompt_under : {A : Type 0} (p : FinalTermSemanticPrompt A) → IsUnder code.FinalTermSemanticPrompt (prompt_text p)
+prompt_under : {A : Type 0} (p : FinalTermSemanticPrompt A)
+    → IsUnder code.FinalTermSemanticPrompt (prompt_text p)
 prompt_under prompt.FreshLine = inr (inl (_, refl))
 prompt_under (prompt.FreshLineAndStartPrompt aid cl) = inr (inl (_, refl))
 prompt_under (prompt.MarkEndOfCommandWithFreshLine aid cl) = inr (inl (_, refl))
@@ -28,7 +30,8 @@ prompt_under (prompt.MarkEndOfInputAndStartOfOutput aid) = inr (inl (_, refl))
 prompt_under (prompt.CommandStatus s None) = inr (inl (_, refl))
 prompt_under (prompt.CommandStatus s (Some a)) = inr (inl (_, refl))
 
-pub under : {A : Type 0} (c : OperatingSystemCommand A) → IfSome (code_under c) (λ k. IsUnder k (inner_text c))
+pub under : {A : Type 0} (c : OperatingSystemCommand A)
+    → IfSome (code_under c) (λ k. IsUnder k (inner_text c))
 under (command.SetIconNameAndWindowTitle t) = inr (inl (_, refl))
 under (command.SetWindowTitle t) = inr (inl (_, refl))
 under (command.SetWindowTitleSun t) = inr (inr (inl refl, (_, refl)))

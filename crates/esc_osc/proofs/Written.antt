@@ -19,8 +19,13 @@ pub code_part : (k : OperatingSystemCommandCode) → IsClearPart (code_text k)
 code_part k = plain_part (code_text k) (code_plain k)
 
 -- what a code reads
-pub code_means : {A : Type 0} (k : OperatingSystemCommandCode) (args : List (List ℕ)) → fitting {A = A} (code_text k ∷ args) ≡ reading k (code_text k) args
-code_means k args = rw (utf8_lossy-IsUtf8 (code_text k) (part_utf8 (code_text k) (code_part k)), code_name_text k args, code_of-code_text k) refl
+pub code_means : {A : Type 0} (k : OperatingSystemCommandCode) (args : List (List ℕ))
+    → fitting {A = A} (code_text k ∷ args) ≡ reading k (code_text k) args
+code_means k args = rw (
+  utf8_lossy-IsUtf8 (code_text k) (part_utf8 (code_text k) (code_part k)),
+  code_name_text k args,
+  code_of-code_text k,
+) refl
 
 -- a command's text is that of a code and clear parts, from which the code reads the command
 pub record Written (A : Type 0) (c : OperatingSystemCommand A) : Type 0 where
@@ -33,23 +38,30 @@ pub record Written (A : Type 0) (c : OperatingSystemCommand A) : Type 0 where
 some_text : (k : OperatingSystemCommandCode) (args : List (List ℕ)) → code_text k ∷ args ≢ [] ∷ []
 some_text k args e = let none : code_text k ≡ [] = cc in code_some k none
 
-written_parts : (k : OperatingSystemCommandCode) (args : List (List ℕ)) → AreClearParts args → AreTextParts (code_text k ∷ args)
+written_parts : (k : OperatingSystemCommandCode) (args : List (List ℕ)) → AreClearParts args
+    → AreTextParts (code_text k ∷ args)
 written_parts k args h = ((code_part k, h), some_text k args)
 
-pub written_clear : (A : Type 0) (c : OperatingSystemCommand A) → Written A c → IsClearText (inner_text c)
+pub written_clear : (A : Type 0) (c : OperatingSystemCommand A) → Written A c
+    → IsClearText (inner_text c)
 written_clear A c w =
     let P : List ℕ → Type 0 = λ u. IsClearText u in
     subst P (sym w.text) (joined_clear (code_text w.code ∷ w.args) (code_part w.code, w.clear))
 
-pub written_back : (A : Type 0) (c : OperatingSystemCommand A) → Written A c → meaning (parts_of (inner_text c)) ≡ c
+pub written_back : (A : Type 0) (c : OperatingSystemCommand A) → Written A c
+    → meaning (parts_of (inner_text c)) ≡ c
 written_back A c w =
     ap (λ x. meaning {A = A} (parts_of x)) w.text
-    ∙ ap (meaning {A = A}) (parts_text (code_text w.code ∷ w.args) (written_parts w.code w.args w.clear)).1
-    ∙ ap (λ r. unwrap_or r (command.Unspecified (code_text w.code ∷ w.args))) (code_means w.code w.args ∙ w.reads)
+    ∙ ap (meaning {A = A})
+    (parts_text (code_text w.code ∷ w.args) (written_parts w.code w.args w.clear)).1
+    ∙ ap (λ r. unwrap_or r (command.Unspecified (code_text w.code ∷ w.args)))
+    (code_means w.code w.args ∙ w.reads)
 
 -- one part after the code, and two
-pub one_written : (k : OperatingSystemCommandCode) (t : List ℕ) → titled k t ≡ joined (code_text k ∷ t ∷ [])
+pub one_written : (k : OperatingSystemCommandCode) (t : List ℕ)
+    → titled k t ≡ joined (code_text k ∷ t ∷ [])
 one_written k t = ap (λ x. code_text k ++ 0x3b ∷ x) (sym (append-nil t))
 
-pub two_written : (k : OperatingSystemCommandCode) (x y : List ℕ) → titled k (x ++ 0x3b ∷ y) ≡ joined (code_text k ∷ x ∷ y ∷ [])
+pub two_written : (k : OperatingSystemCommandCode) (x y : List ℕ)
+    → titled k (x ++ 0x3b ∷ y) ≡ joined (code_text k ∷ x ∷ y ∷ [])
 two_written k x y = ap (λ z. code_text k ++ 0x3b ∷ (x ++ 0x3b ∷ z)) (sym (append-nil y))

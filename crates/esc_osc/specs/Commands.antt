@@ -35,8 +35,10 @@ inner_text (command.SetIconName t) = titled code.SetIconName t
 inner_text (command.SetIconNameSun t) = code_text code.SetIconNameSun ++ t
 inner_text (command.SetHyperlink h) = link_text h
 inner_text (command.ClearSelection s) = titled code.ManipulateSelectionData (selection_text s.0)
-inner_text (command.QuerySelection s) = titled code.ManipulateSelectionData (selection_text s.0 ++ codes ";?")
-inner_text (command.SetSelection s t) = titled code.ManipulateSelectionData (selection_text s.0 ++ 0x3b ∷ base64_text t)
+inner_text (command.QuerySelection s) =
+    titled code.ManipulateSelectionData (selection_text s.0 ++ codes ";?")
+inner_text (command.SetSelection s t) =
+    titled code.ManipulateSelectionData (selection_text s.0 ++ 0x3b ∷ base64_text t)
 inner_text (command.SystemNotification t) = titled code.SystemNotification t
 inner_text (command.ITermProprietary c) = iterm_text c
 inner_text (command.FinalTermSemanticPrompt p) = prompt_text p
@@ -53,7 +55,8 @@ inner_text (command.Unspecified ps) = joined_by utf8_lossy ps
 abbrev pub IsLetter : OperatingSystemCommandCode → Type 0
 IsLetter c = (c ≡ code.SetWindowTitleSun) ⊎ (c ≡ code.SetIconNameSun)
 
--- a text is written under a code: it is that of the code, alone, before a `;`, or before the title of a letter
+-- a text is written under a code: it is that of the code, alone, before a `;`, or before the title
+-- of a letter
 abbrev pub IsUnder : OperatingSystemCommandCode → List ℕ → Type 0
 IsUnder c t = (t ≡ code_text c)
     ⊎ (((rest : List ℕ) × (t ≡ titled c rest))

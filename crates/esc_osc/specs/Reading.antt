@@ -22,7 +22,8 @@ use Rattle.esc_osc_values.specs.declared.progress.Progress.{Progress}
 
 -- a selection and a base64 text
 abbrev pub content_of : {A : Type 0} → List ℕ → List ℕ → Option (OperatingSystemCommand A)
-content_of s t = and_then (selection_of s) (λ b. option_map (λ text. command.SetSelection (selection b) text) (base64_text_of t))
+content_of s t = and_then (selection_of s) (λ b.
+    option_map (λ text. command.SetSelection (selection b) text) (base64_text_of t))
 
 -- a selection alone, with `?`, or with a text
 abbrev pub selected : {A : Type 0} → List (List ℕ) → Option (OperatingSystemCommand A)
@@ -32,29 +33,35 @@ selected (s ∷ t ∷ []) = if pointwise nat_eq t (codes "?")
 selected ps = None
 
 -- the progress of a task, else a notification
-abbrev pub notified : {A : Type 0} → Option Progress → Option (List ℕ) → Option (OperatingSystemCommand A)
+abbrev pub notified : {A : Type 0} → Option Progress → Option (List ℕ)
+    → Option (OperatingSystemCommand A)
 notified (Some p) t = Some (command.ConEmuProgress p)
 notified None t = option_map command.SystemNotification t
 
 -- a dynamic colour that is changed, else one that is reset
-abbrev pub dynamic : {A : Type 0} → Option DynamicColorNumber → Option DynamicColorNumber → List (List ℕ) → Option (OperatingSystemCommand A)
+abbrev pub dynamic : {A : Type 0} → Option DynamicColorNumber → Option DynamicColorNumber
+    → List (List ℕ) → Option (OperatingSystemCommand A)
 dynamic (Some n) r args = option_map (command.ChangeDynamicColors n) (colors_of args)
 dynamic None (Some n) args = Some (command.ResetDynamicColor n)
 dynamic None None args = None
 
--- what a code makes of the lossy text of the first part and the parts after it, one line a code; none where they
--- do not fit it
-abbrev pub reading : {A : Type 0} → OperatingSystemCommandCode → List ℕ → List (List ℕ) → Option (OperatingSystemCommand A)
-reading code.SetIconNameAndWindowTitle t args = option_map command.SetIconNameAndWindowTitle (title_of args)
+-- what a code makes of the lossy text of the first part and the parts after it, one line a code;
+-- none where they do not fit it
+abbrev pub reading : {A : Type 0} → OperatingSystemCommandCode → List ℕ → List (List ℕ)
+    → Option (OperatingSystemCommand A)
+reading code.SetIconNameAndWindowTitle t args =
+    option_map command.SetIconNameAndWindowTitle (title_of args)
 reading code.SetIconName t args = option_map command.SetIconName (title_of args)
 reading code.SetWindowTitle t args = option_map command.SetWindowTitle (title_of args)
 reading code.ChangeColorNumber t args = option_map command.ChangeColorNumber (pairs_of args)
-reading code.SetCurrentWorkingDirectory t args = option_map command.CurrentWorkingDirectory (lone_text args)
+reading code.SetCurrentWorkingDirectory t args =
+    option_map command.CurrentWorkingDirectory (lone_text args)
 reading code.SetHyperlink t args = option_map command.SetHyperlink (link_of (t ∷ args))
 reading code.SystemNotification t args = notified (progress_of args) (lone_text args)
 reading code.ManipulateSelectionData t args = selected args
 reading code.ResetColors t args = option_map command.ResetColors (numbers_of args)
-reading code.FinalTermSemanticPrompt t args = option_map command.FinalTermSemanticPrompt (prompt_of args)
+reading code.FinalTermSemanticPrompt t args =
+    option_map command.FinalTermSemanticPrompt (prompt_of args)
 reading code.RxvtProprietary t args = Some (command.RxvtExtension (map utf8_lossy args))
 reading code.ITermProprietary t args = option_map command.ITermProprietary (iterm_of args)
 reading code.SetWindowTitleSun t args = option_map command.SetWindowTitleSun (utf8_of (drop 1 t))

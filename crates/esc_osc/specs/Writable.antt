@@ -10,16 +10,18 @@ use Rattle.esc_osc.specs.Reading.{meaning}
 use Rattle.esc_osc.specs.declared.command.OperatingSystemCommand.{OperatingSystemCommand}
 use Rattle.esc_osc.specs.declared.command.OperatingSystemCommand.TheVariants as command
 
--- a title of clear characters, other texts without `;`; a link whose text is clear and reads as the link; a selection of
--- named bits, at least one, with any text; a percentage to 100; any colours and numbers, which have 16 and 8 bits; a
--- writable prompt or command of iTerm2; or clear parts, not one empty part, that mean no other command
+-- a title of clear characters, other texts without `;`; a link whose text is clear and reads as the
+-- link; a selection of named bits, at least one, with any text; a percentage to 100; any colours
+-- and numbers, which have 16 and 8 bits; a writable prompt or command of iTerm2; or clear parts,
+-- not one empty part, that mean no other command
 abbrev pub IsWritable : {A : Type 0} → OperatingSystemCommand A → Type 0
 IsWritable (command.SetIconNameAndWindowTitle t) = IsClearText t
 IsWritable (command.SetWindowTitle t) = IsClearText t
 IsWritable (command.SetWindowTitleSun t) = IsClearPart t
 IsWritable (command.SetIconName t) = IsClearText t
 IsWritable (command.SetIconNameSun t) = IsClearPart t
-IsWritable (command.SetHyperlink h) = IsClearText (link_text h) × (link_of (parts_of (link_text h)) ≡ Some h)
+IsWritable (command.SetHyperlink h) = IsClearText (link_text h)
+    × (link_of (parts_of (link_text h)) ≡ Some h)
 IsWritable (command.ClearSelection s) = IsNamed s.0
 IsWritable (command.QuerySelection s) = IsNamed s.0
 IsWritable (command.SetSelection s t) = IsNamed s.0 × IsUtf8 t
@@ -33,4 +35,5 @@ IsWritable (command.CurrentWorkingDirectory t) = IsClearPart t
 IsWritable (command.ResetColors ns) = AreNumbers ns
 IsWritable (command.RxvtExtension ts) = AreClearParts ts
 IsWritable (command.ConEmuProgress p) = IsProgress p
-IsWritable {A = A} (command.Unspecified ps) = AreTextParts ps × (meaning {A = A} ps ≡ command.Unspecified ps)
+IsWritable {A = A} (command.Unspecified ps) = AreTextParts ps
+    × (meaning {A = A} ps ≡ command.Unspecified ps)

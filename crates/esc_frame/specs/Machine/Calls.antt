@@ -34,14 +34,15 @@ Moved {K} {A} keeps denied limit own takes refuses result m machine old new =
     MatchResult result (λ _. Holds keeps limit machine m.0 × FoldsTo takes old m.1 new)
     (λ _. StopsAt ((own ≡ true) × denied limit) takes refuses old m.1 new)
 
--- where all strings in the rest can be lent, none of them is begun after its first n bytes but for its opener
+-- where all strings in the rest can be lent, none of them is begun after its first n bytes but for
+-- its opener
 abbrev pub StaysFresh : Unfinished → List ℕ → ℕ → Type 0
 StaysFresh u rest n = is_lendable u rest ≡ true → is_fresh (after_all u (take n rest)) ≡ true
 
 -- The call took n bytes of the rest, where u was unfinished before: the machine keeps what is
--- unfinished after them, and the actor was given their events. Where the result is an error the actor
--- was given a prefix of the events of the rest; the machine stopped by itself only where its memory
--- may grow and memory was refused.
+-- unfinished after them, and the actor was given their events. Where the result is an error the
+-- actor was given a prefix of the events of the rest; the machine stopped by itself only where its
+-- memory may grow and memory was refused.
 abbrev pub Took : {K A S E : Type 0} → (Option ℕ → K → List ℕ → Type 0) → (Option ℕ → Type 0)
     → Option ℕ
     → (S → Event → S → Type 0) → (S → Event → S → Type 0) → Result ℕ E → Unfinished → List ℕ
@@ -65,13 +66,16 @@ Quietly limit result u rest = IfOk result (λ n. IsStill limit u rest n)
 
 -- in ground these bytes tell one event, whatever the limit, and leave nothing unfinished
 abbrev pub TellsOne : List ℕ → Event → Type 0
-TellsOne x e = (after_all Ground x ≡ Ground) × ((limit : Option ℕ) → news_all limit Ground x ≡ e ∷ [])
+TellsOne x e = (after_all Ground x ≡ Ground)
+    × ((limit : Option ℕ) → news_all limit Ground x ≡ e ∷ [])
 
--- N bytes of the rest were taken in ground: whatever the limit, nothing is unfinished after them, the actor was given their
--- events, and is ready.
-abbrev pub Ran : {S : Type 0} → (S → Event → S → Type 0) → (S → Type 0) → List ℕ → ℕ → S → S → Type 0
+-- N bytes of the rest were taken in ground: whatever the limit, nothing is unfinished after them,
+-- the actor was given their events, and is ready.
+abbrev pub Ran : {S : Type 0} → (S → Event → S → Type 0) → (S → Type 0) → List ℕ → ℕ → S → S
+    → Type 0
 Ran takes is_ready rest n old new =
-    (n ≤ length rest) × (after_all Ground (take n rest) ≡ Ground) × ((limit : Option ℕ) → FoldsTo takes old (news_all limit Ground (take n rest)) new) ×
+    (n ≤ length rest) × (after_all Ground (take n rest) ≡ Ground)
+    × ((limit : Option ℕ) → FoldsTo takes old (news_all limit Ground (take n rest)) new) ×
     is_ready new
 
 -- the same of a call, which stops only where the actor refuses
@@ -82,7 +86,8 @@ Stays takes refuses is_ready result rest old new =
     MatchResult result (λ n. Ran takes is_ready rest n old new)
     (λ _. (limit : Option ℕ) → StopsAt ⊥ takes refuses old (news_all limit Ground rest) new)
 
--- It took some of the bytes, in ground: one at least, and the first event among them, if any, is that of the last.
+-- It took some of the bytes, in ground: one at least, and the first event among them, if any, is
+-- that of the last.
 abbrev pub TookSome : {K A S E : Type 0} → (Option ℕ → K → List ℕ → Type 0) → (Option ℕ → Type 0)
     → Option ℕ
     → (S → Event → S → Type 0) → (S → Event → S → Type 0) → (S → Type 0) → Result ℕ E → List ℕ

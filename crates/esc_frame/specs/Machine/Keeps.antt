@@ -1,4 +1,5 @@
--- What the machine's small parts keep of the bytes that they were given. Only private contracts cite it.
+-- What the machine's small parts keep of the bytes that they were given. Only private contracts
+-- cite it.
 use Rattle.std.specs.Prelude.{ℕ, ◌≡◌, ◌+◌, ◌-◌, ◌*◌, Bool, true, false, not, nat_lt, if◌then◌else◌, List, [], ◌∷◌, ◌++◌, length, take, Option, Some, None}
 use Rattle.std.specs.Prelude.{pos, vec_capacity}
 use Rattle.std.specs.List.{filter}
@@ -16,7 +17,8 @@ use Rattle.esc_frame.specs.Bodies.{is_digit, held, is_marker, is_csi_parameter, 
 
 -- the first two of these bytes are kept, and whether there are more
 abbrev pub Keeps : Intermediates → List ℕ → Type 0
-Keeps i bytes = (take i.kept i.bytes ≡ take 2 bytes) × (i.ignored ≡ nat_lt 2 (length bytes)) × (i.kept ≡ length (take 2 bytes))
+Keeps i bytes = (take i.kept i.bytes ≡ take 2 bytes) × (i.ignored ≡ nat_lt 2 (length bytes))
+    × (i.kept ≡ length (take 2 bytes))
 
 -- the entries that no further digit can change, and the number of the run of digits at the end
 abbrev pub shown : Option ℕ → List CsiParam
@@ -48,19 +50,25 @@ IsNumber e None = e.is_open ≡ false
 IsNumber e (Some n) = (e.is_open ≡ true) × (e.number ≡ held n)
 
 -- these are the first entries of the list, as many as are kept, and whether it has more
-pub record AreFirst (items : List CsiParam) (truncated : Bool) (limit : ℕ) (all : List CsiParam) : Type 0 where
+pub record AreFirst (items : List CsiParam) (truncated : Bool) (limit : ℕ)
+    (all : List CsiParam) : Type 0 where
   pub kept : items ≡ take limit all
   pub more : truncated ≡ nat_lt limit (length all)
 
 abbrev pub KeepsEntries : Entries → List ℕ → Type 0
-KeepsEntries e x = AreFirst e.items e.is_truncated e.limit (closed_of None x) × IsNumber e (number_of_run None x) × (e.limit ≡ 256)
+KeepsEntries e x = AreFirst e.items e.is_truncated e.limit (closed_of None x)
+    × IsNumber e (number_of_run None x) × (e.limit ≡ 256)
 
--- how far a body, or a header, has come in its form, byte by byte, where these are its parameter bytes
+-- how far a body, or a header, has come in its form, byte by byte, where these are its parameter
+-- bytes
 abbrev pub next_form_by : (ℕ → Bool) → Form → ℕ → Form
 next_form_by p form.Empty b =
-    if is_marker b then form.Parameters else if p b then form.Parameters else if is_intermediate_byte b then form.Intermediates else form.Malformed
-next_form_by p form.Parameters b = if p b then form.Parameters else if is_intermediate_byte b then form.Intermediates else form.Malformed
-next_form_by p form.Intermediates b = if is_intermediate_byte b then form.Intermediates else form.Malformed
+    if is_marker b then form.Parameters else if p b then form.Parameters else if
+    is_intermediate_byte b then form.Intermediates else form.Malformed
+next_form_by p form.Parameters b = if p b then form.Parameters else if is_intermediate_byte b then
+    form.Intermediates else form.Malformed
+next_form_by p form.Intermediates b =
+    if is_intermediate_byte b then form.Intermediates else form.Malformed
 next_form_by p form.Malformed b = form.Malformed
 
 abbrev pub form_by : (ℕ → Bool) → Form → List ℕ → Form
@@ -82,7 +90,8 @@ is_formed _ = true
 abbrev pub KeepsBody : CsiBody → List ℕ → Type 0
 KeepsBody e x = KeepsEntries e.entries x × (e.form ≡ form_from form.Empty x)
 
--- this text is kept, each byte of which counts; or nothing, not even memory, where it is past the limit
+-- this text is kept, each byte of which counts; or nothing, not even memory, where it is past the
+-- limit
 pub record KeepsText {A : Type 0} (limit : Option ℕ) (k : Kept A) (text : List ℕ) : Type 0 where
   pub over : k.is_over ≡ not (is_within limit (length text))
   pub kept : k.is_over ≡ false → k.bytes.items ≡ text
@@ -98,4 +107,5 @@ others_of x = filter (λ b. not (is_dcs_parameter b)) x
 
 -- the form of a DCS's header so far, and its bytes that are no parameter bytes
 abbrev pub KeepsDcs : DcsHeader → List ℕ → Type 0
-KeepsDcs h x = Keeps h.intermediates (others_of x) × (h.form ≡ form_by is_dcs_parameter form.Empty x)
+KeepsDcs h x = Keeps h.intermediates (others_of x)
+    × (h.form ≡ form_by is_dcs_parameter form.Empty x)

@@ -26,7 +26,8 @@ abbrev pub Makes : {K A S E : Type 0} → Keeper K → Actor S → Option ℕ �
     → Result (Unit {0}) E → Move → Changed (Machine K A) → Changed S
     → Type 0
 Makes {A} K V limit own result move self actor =
-    calls.Moved K.keeps (calls.Fails K.denied V.stops A) limit own V.takes V.refuses result move self.exit.now
+    calls.Moved K.keeps (calls.Fails K.denied V.stops A) limit own V.takes V.refuses result move
+    self.exit.now
     actor.entry.now actor.exit.now
 
 -- the same under any limit, whoever may stop it
@@ -41,7 +42,8 @@ abbrev pub Consumes : {K A S E : Type 0} → Keeper K → Actor S → Option ℕ
     → Result ℕ E → Unfinished → List ℕ → Changed (Machine K A) → Changed S
     → Type 0
 Consumes {A} K V limit result u rest self actor =
-    calls.Took K.keeps (calls.Fails K.denied V.stops A) limit V.takes V.refuses result u rest self.exit.now
+    calls.Took K.keeps (calls.Fails K.denied V.stops A) limit V.takes V.refuses result u rest
+    self.exit.now
     actor.entry.now actor.exit.now
 
 -- the same in ground, of one byte at least, none of which but the last emits an event
@@ -49,7 +51,8 @@ abbrev pub ConsumesSome : {K A S E : Type 0} → Keeper K → Actor S → Option
     → Result ℕ E → List ℕ → Changed (Machine K A) → Changed S
     → Type 0
 ConsumesSome {A} K V limit result rest self actor =
-    calls.TookSome K.keeps (calls.Fails K.denied V.stops A) limit V.takes V.refuses V.is_ready result rest self.exit.now
+    calls.TookSome K.keeps (calls.Fails K.denied V.stops A) limit V.takes V.refuses V.is_ready
+    result rest self.exit.now
     actor.entry.now actor.exit.now
 
 -- bytes that leave nothing unfinished in ground: their events are emitted

@@ -1,4 +1,5 @@
--- The byte machine: what one byte makes of what is unfinished, and what it tells. Only private contracts cite it.
+-- The byte machine: what one byte makes of what is unfinished, and what it tells. Only private
+-- contracts cite it.
 use Rattle.std.specs.Prelude.{ℕ, ◌≡◌, ◌<◌, Bool, true, false, not, ◌||◌, ◌&&◌, if◌then◌else◌, List, [], ◌∷◌, ◌++◌, take, Option, None}
 use Rattle.esc_frame.specs.declared.classes.Class.{Class}
 use Rattle.esc_frame.specs.declared.classes.Class.TheVariants.{Escape, Opens, RawOpens, High, Lead, Bell}
@@ -41,7 +42,8 @@ begins b High = (Ground, Print 0xfffd ∷ [])
 begins b _ = (Ground, [])
 
 abbrev pub ground_move : ℕ → Class → Move
-ground_move b c = if is_text c then (Ground, Print b ∷ []) else if is_control c || is_raw_control c then (Ground, Execute b ∷ []) else begins b c
+ground_move b c = if is_text c then (Ground, Print b ∷ []) else if is_control c
+    || is_raw_control c then (Ground, Execute b ∷ []) else begins b c
 
 -- after C2: 80-9F
 abbrev pub pair_move : ℕ → Class → Move
@@ -54,7 +56,8 @@ noise b c = if is_plain c then Execute b ∷ [] else []
 
 -- the final byte of an escape sequence, or what it opens
 abbrev pub final_escape : List ℕ → ℕ → Class → Move
-final_escape x b (Opens k) = if is_empty (strip x) then (opened k (Long x), []) else (Ground, escape_event (strip x) b ∷ [])
+final_escape x b (Opens k) =
+    if is_empty (strip x) then (opened k (Long x), []) else (Ground, escape_event (strip x) b ∷ [])
 final_escape x b _ = (Ground, escape_event (strip x) b ∷ [])
 
 -- the hook of a header that is read
@@ -76,18 +79,24 @@ final_osc limit o ps b _ = (Ground, leaving limit (InOsc o ps))
 
 -- a byte that breaks off no sequence or string
 abbrev pub goes_on : Option ℕ → Unfinished → ℕ → Class → Move
-goes_on limit (InEscape x) b c = if in_escape c then (InEscape (x ++ b ∷ []), noise b c) else final_escape x b c
-goes_on limit (InCsi o x) b c = if in_csi c then (InCsi o (x ++ b ∷ []), noise b c) else (Ground, csi_events (strip x) b)
-goes_on limit (InDcs o x) b c = if in_csi c then (InDcs o (x ++ b ∷ []), []) else (InData o x b [], hooks limit x b)
-goes_on limit (InData o x f d) b c = (InData o x f (d ++ b ∷ []), if is_read limit (strip x) && is_put c then DcsPut b ∷ [] else [])
+goes_on limit (InEscape x) b c =
+    if in_escape c then (InEscape (x ++ b ∷ []), noise b c) else final_escape x b c
+goes_on limit (InCsi o x) b c =
+    if in_csi c then (InCsi o (x ++ b ∷ []), noise b c) else (Ground, csi_events (strip x) b)
+goes_on limit (InDcs o x) b c =
+    if in_csi c then (InDcs o (x ++ b ∷ []), []) else (InData o x b [], hooks limit x b)
+goes_on limit (InData o x f d) b c =
+    (InData o x f (d ++ b ∷ []), if is_read limit (strip x) && is_put c then DcsPut b ∷ [] else [])
 goes_on limit (InApc o d) b c = (InApc o (d ++ b ∷ []), [])
 goes_on limit (InIgnored k o d) b c = (InIgnored k o (d ++ b ∷ []), [])
-goes_on limit (InOsc o ps) b c = if in_osc c then (InOsc o (ps ++ One b ∷ []), []) else final_osc limit o ps b c
+goes_on limit (InOsc o ps) b c =
+    if in_osc c then (InOsc o (ps ++ One b ∷ []), []) else final_osc limit o ps b c
 goes_on limit u b c = (u, [])
 
 -- a byte in a sequence or a string: a breaker breaks it off, and does what it does in ground
 abbrev pub inside : Option ℕ → Unfinished → ℕ → Class → Move
-inside limit u b c = if is_breaker c then telling (leaving limit u) (ground_move b c) else goes_on limit u b c
+inside limit u b c =
+    if is_breaker c then telling (leaving limit u) (ground_move b c) else goes_on limit u b c
 
 -- a byte that ends an operating system command: a bell, which belongs to it, or a breaker
 abbrev pub ends_osc : Class → Bool
@@ -100,16 +109,19 @@ osc_left b c = ground_move b c
 
 -- a byte after a prefix of a sequence
 abbrev pub pending_move : List ℕ → ℕ → Class → Outcome → Move
-pending_move f b c outcomes.Whole = if is_pair (f ++ b ∷ []) then pair_move b c else (Ground, Print (number_of (f ++ b ∷ [])) ∷ [])
+pending_move f b c outcomes.Whole =
+    if is_pair (f ++ b ∷ []) then pair_move b c else (Ground, Print (number_of (f ++ b ∷ [])) ∷ [])
 pending_move f b c outcomes.More = (Pending (f ++ b ∷ []), [])
 pending_move f b c outcomes.Broken = telling (Print 0xfffd ∷ []) (ground_move b c)
 
 -- the same in an OSC
 abbrev pub osc_pending_move : Option ℕ → Opener → List Piece → List ℕ → ℕ → Class → Outcome → Move
 osc_pending_move limit o ps f b c outcomes.Whole =
-    if is_pair (f ++ b ∷ []) then telling (leaving limit (InOscPending o ps f)) (pair_move b c) else (InOsc o (ps ++ Sequence (f ++ b ∷ []) ∷ []), [])
+    if is_pair (f ++ b ∷ []) then telling (leaving limit (InOscPending o ps f)) (pair_move b c) else
+    (InOsc o (ps ++ Sequence (f ++ b ∷ []) ∷ []), [])
 osc_pending_move limit o ps f b c outcomes.More = (InOscPending o ps (f ++ b ∷ []), [])
-osc_pending_move limit o ps f b c outcomes.Broken = inside limit (InOsc o (ps ++ BrokenOff f ∷ [])) b c
+osc_pending_move limit o ps f b c outcomes.Broken =
+    inside limit (InOsc o (ps ++ BrokenOff f ∷ [])) b c
 
 -- what a byte of this class makes of what is unfinished
 abbrev pub move : Option ℕ → Unfinished → ℕ → Class → Move
@@ -133,7 +145,8 @@ after_all u (b ∷ bs) = after_all (after_by u b (class_of b)) bs
 
 abbrev pub news_all : Option ℕ → Unfinished → List ℕ → List Event
 news_all limit u [] = []
-news_all limit u (b ∷ bs) = news_by limit u b (class_of b) ++ news_all limit (after_by u b (class_of b)) bs
+news_all limit u (b ∷ bs) =
+    news_by limit u b (class_of b) ++ news_all limit (after_by u b (class_of b)) bs
 
 abbrev pub is_ground : Unfinished → Bool
 is_ground Ground = true
@@ -163,7 +176,8 @@ passes_osc ps c = is_text c || (ends_osc c && has_few_parts (text_of ps))
 
 -- a byte after a prefix of a sequence there
 abbrev pub passes_pending : List Piece → List ℕ → ℕ → Outcome → Bool
-passes_pending ps f b outcomes.Whole = if is_pair (f ++ b ∷ []) then has_few_parts (text_of ps) else true
+passes_pending ps f b outcomes.Whole =
+    if is_pair (f ++ b ∷ []) then has_few_parts (text_of ps) else true
 passes_pending ps f b outcomes.More = true
 passes_pending ps f b outcomes.Broken = false
 
@@ -205,7 +219,8 @@ may_grow_within u bs = reaches_growing u bs && not (is_lendable u bs)
 
 -- ---- prefixes that stop at the first event
 
--- Of the first n bytes of the rest, where u was unfinished before, all but the last tell nothing and leave something
--- unfinished.
+-- Of the first n bytes of the rest, where u was unfinished before, all but the last tell nothing
+-- and leave something unfinished.
 abbrev pub IsStill : Option ℕ → Unfinished → List ℕ → ℕ → Type 0
-IsStill limit u rest n = (k : ℕ) → 0 < k → k < n → (news_all limit u (take k rest) ≡ []) × (is_ground (after_all u (take k rest)) ≡ false)
+IsStill limit u rest n = (k : ℕ) → 0 < k → k < n → (news_all limit u (take k rest) ≡ [])
+    × (is_ground (after_all u (take k rest)) ≡ false)

@@ -12,6 +12,7 @@ IsTextRun x =
     (qs : List Piece) × (text_of qs ≡ x) × ((limit : Option ℕ) (o : Opener) (ps : List Piece)
     → (after_all (InOsc o ps) x ≡ InOsc o (ps ++ qs)) × (news_all limit (InOsc o ps) x ≡ []))
 
--- the bytes begin with no unit that the text keeps as it is: neither 20-7F nor a whole sequence that is no control
+-- the bytes begin with no unit that the text keeps as it is: neither 20-7F nor a whole sequence
+-- that is no control
 abbrev pub NoUnitAhead : List ℕ → Type 0
 NoUnitAhead rest = (is_text_byte (slice_index rest 0) ≡ false) × NoneAhead rest

@@ -13,6 +13,8 @@ loop-end-preserved c =
     let l = tail_length rest i in (
       omega (arith, c.push_next-end.ensures.count),
       passes_more rest i n so.1 c.push_next-end.ensures.run,
-      λ x h. subst (λ y. KeepsBody c.push_next-end.new.body y) (append_assoc x (take i rest) (take n (take (length rest - i) (drop i rest))) ∙ ap (λ y. x ++ y)
+      λ x h. subst (λ y. KeepsBody c.push_next-end.new.body y)
+          (append_assoc x (take i rest) (take n (take (length rest - i) (drop i rest)))
+          ∙ ap (λ y. x ++ y)
           (run_joins rest i n)) (c.push_next-end.ensures.keeps (x ++ take i rest) (so.2 x h)),
     )

@@ -30,4 +30,5 @@ pub returns-else-fits-clause-told : goal.returns-else-fits-clause-told
 returns-else-fits-clause-told g c =
     let t = c.args.text.now in
     subst (λ es. FoldsTo g.V.Taker.takes c.args.actor.now es c.args.actor.now)
-    (osc_untold c.args.limit t (within_by c.args.limit (length t) _ c.fits.ensures ∙ c.if-fits.false)) refl
+    (osc_untold c.args.limit t (within_by c.args.limit (length t) _ c.fits.ensures
+    ∙ c.if-fits.false)) refl

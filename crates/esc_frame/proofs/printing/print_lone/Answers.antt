@@ -8,13 +8,15 @@ returns-in-Ok g c =
     let one = one_text c.args.rest.now (omega arith) (grind (arith, nat_tests)) in (
       c.requires.some,
       one.0,
-      event_given g.V.Taker.takes g.V.Taker.refuses c.args.rest.now 1 _ c.args.actor.now _ one c.in-Ok.ensures.hears,
+      event_given g.V.Taker.takes g.V.Taker.refuses c.args.rest.now 1 _ c.args.actor.now _ one
+          c.in-Ok.ensures.hears,
       c.in-Ok.ensures.ready,
     )
 
 pub returns-in-Err : goal.returns-in-Err
 returns-in-Err g c =
-    event_stops g.V.Taker.takes g.V.Taker.refuses c.args.rest.now 1 _ c.args.actor.now _ (one_text c.args.rest.now (omega arith) (grind (
+    event_stops g.V.Taker.takes g.V.Taker.refuses c.args.rest.now 1 _ c.args.actor.now _
+    (one_text c.args.rest.now (omega arith) (grind (
       arith,
       nat_tests,
     ))) _ c.in-Err.ensures.hears

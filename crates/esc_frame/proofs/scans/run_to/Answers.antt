@@ -6,9 +6,12 @@ use Rattle.esc_frame.proofs.scans.run_to.Goals as goal
 
 pub returns-then-run-lt16 : goal.returns-then-run-lt16
 returns-then-run-lt16 c =
-    let e = run_short (is_from 0x20 c.args.last) 16 c.args.bytes.now 0 _ (omega arith) c.run_in_lanes-run.ensures c.if-run-lt16.true (omega arith) in
-    let l = prefix_len-le-length (is_from 0x20 c.args.last) c.args.bytes.now in record { run = omega (arith, e); few = omega arith }
+    let e = run_short (is_from 0x20 c.args.last) 16 c.args.bytes.now 0 _ (omega arith)
+    c.run_in_lanes-run.ensures c.if-run-lt16.true (omega arith) in
+    let l = prefix_len-le-length (is_from 0x20 c.args.last) c.args.bytes.now in
+    record { run = omega (arith, e); few = omega arith }
 
 pub run_from-requires-clause-part : goal.run_from-requires-clause-part
 run_from-requires-clause-part c =
-    run_full (is_from 0x20 c.args.last) 16 c.args.bytes.now 0 _ (omega arith) c.run_in_lanes-run.ensures c.if-run-lt16.false (omega arith)
+    run_full (is_from 0x20 c.args.last) 16 c.args.bytes.now 0 _ (omega arith)
+    c.run_in_lanes-run.ensures c.if-run-lt16.false (omega arith)

@@ -6,7 +6,8 @@ pub returns-then-rest-lt2-clause-none : goal.returns-then-rest-lt2-clause-none
 returns-then-rest-lt2-clause-none c = λ zero. none_of_one c.args.rest.now (omega arith)
 
 pub returns-then-rest-lt224-clause-none : goal.returns-then-rest-lt224-clause-none
-returns-then-rest-lt224-clause-none c = λ zero. none_of_two c.args.rest.now (omega arith) (c.of_two.ensures.none zero)
+returns-then-rest-lt224-clause-none c =
+    λ zero. none_of_two c.args.rest.now (omega arith) (c.of_two.ensures.none zero)
 
 pub returns-then-rest-lt3-clause-none : goal.returns-then-rest-lt3-clause-none
 returns-then-rest-lt3-clause-none c = λ zero.
@@ -14,4 +15,5 @@ returns-then-rest-lt3-clause-none c = λ zero.
 
 pub returns-else-rest-lt3-clause-none : goal.returns-else-rest-lt3-clause-none
 returns-else-rest-lt3-clause-none c = λ zero.
-    none_of_three c.args.rest.now (omega arith) (λ high. c.requires) (λ room. c.of_three.ensures.none zero)
+    none_of_three c.args.rest.now (omega arith) (λ high. c.requires) (λ room.
+    c.of_three.ensures.none zero)

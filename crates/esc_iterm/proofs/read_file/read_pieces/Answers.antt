@@ -7,9 +7,13 @@ use Rattle.esc_iterm.proofs.ReadPieces.{all_values, turn, stop}
 use Rattle.esc_iterm.proofs.read_file.read_pieces.Goals as goal
 
 -- the piece that is read, and those that are left
-next_piece : (v : Values) (p : List ℕ) (xs : List (Bor (List ℕ))) (i : ℕ) (d : Bor (List ℕ)) → i < length xs
-    → all_values v (pairs_of (p ∷ map (λ x. x.now) (drop i xs))) ≡ all_values v (pairs_of (p ∷ (get_or xs i d).now ∷ map (λ x. x.now) (drop (i + 1) xs)))
-next_piece v p xs i d lt = at_drop_more (λ (ys : List (Bor (List ℕ))). all_values v (pairs_of (p ∷ map (λ x. x.now) ys))) xs i d lt
+next_piece : (v : Values) (p : List ℕ) (xs : List (Bor (List ℕ))) (i : ℕ) (d : Bor (List ℕ))
+    → i < length xs
+    → all_values v (pairs_of (p ∷ map (λ x. x.now) (drop i xs)))
+    ≡ all_values v (pairs_of (p ∷ (get_or xs i d).now ∷ map (λ x. x.now) (drop (i + 1) xs)))
+next_piece v p xs i d lt =
+    at_drop_more (λ (ys : List (Bor (List ℕ))). all_values v (pairs_of (p ∷ map (λ x. x.now) ys)))
+    xs i d lt
 
 abbrev no_piece : Bor (List ℕ)
 no_piece = record { ref_ptr = (0, 0); now = [] }
@@ -18,9 +22,11 @@ pub returns-in_default : goal.returns-in_default
 returns-in_default c =
     let i = c.loop-next.next-index in
     let lt : i < length c.args.rest.now = search rules in
-    let fails : None ≡ option_map (values_after (values c.loop-next.keys)) (piece_pairs c.loop-next.piece.now) =
+    let fails : None ≡ option_map (values_after (values c.loop-next.keys))
+    (piece_pairs c.loop-next.piece.now) =
     sym (ap (option_map values) c.in_default.is) ∙ c.read_piece.ensures in
-    stop (values c.loop-next.keys) c.loop-next.piece.now (get_or c.args.rest.now i no_piece).now (map (λ x. x.now) (drop (i + 1) c.args.rest.now)) fails
+    stop (values c.loop-next.keys) c.loop-next.piece.now (get_or c.args.rest.now i no_piece).now
+    (map (λ x. x.now) (drop (i + 1) c.args.rest.now)) fails
     ∙ sym (next_piece (values c.loop-next.keys) c.loop-next.piece.now c.args.rest.now i no_piece lt)
     ∙ c.loop-next.invariant
 
@@ -28,9 +34,11 @@ pub loop-next-preserved : goal.loop-next-preserved
 loop-next-preserved c =
     let i = c.loop-next.next-index in
     let lt : i < length c.args.rest.now = search rules in
-    let reads : Some (values c.in-Some.read) ≡ option_map (values_after (values c.loop-next.keys)) (piece_pairs c.loop-next.piece.now) =
+    let reads : Some (values c.in-Some.read) ≡ option_map (values_after (values c.loop-next.keys))
+    (piece_pairs c.loop-next.piece.now) =
     sym (ap (option_map values) c.in-Some.is) ∙ c.read_piece.ensures in
-    turn (values c.loop-next.keys) (values c.in-Some.read) c.loop-next.piece.now (get_or c.args.rest.now i no_piece).now
+    turn (values c.loop-next.keys) (values c.in-Some.read) c.loop-next.piece.now
+    (get_or c.args.rest.now i no_piece).now
     (map (λ x. x.now) (drop (i + 1) c.args.rest.now)) reads
     ∙ sym (next_piece (values c.loop-next.keys) c.loop-next.piece.now c.args.rest.now i no_piece lt)
     ∙ c.loop-next.invariant

@@ -10,9 +10,11 @@ loop-key-preserved g c =
     let i = c.loop-key.key-index in
     let keys = c.args.keys.now in
     let lt : i < length keys = search rules in (
-      first_more entry keys i _ c.loop-key.is_first _ lt c.loop-key.invariant.0 c.is_still_first-is_first.ensures,
+      first_more entry keys i _ c.loop-key.is_first _ lt c.loop-key.invariant.0
+          c.is_still_first-is_first.ensures,
       λ plain.
           let so_far = c.loop-key.invariant.1 plain in
           let here : IsPlainFormatter c.loop-key.f = so_far.plain in
-          put_two _ _ _ _ _ _ _ so_far (c.in_ok-write_key.ensures here refl) (text_more entry keys i _ c.loop-key.is_first lt c.loop-key.invariant.0),
+          put_two _ _ _ _ _ _ _ so_far (c.in_ok-write_key.ensures here refl)
+          (text_more entry keys i _ c.loop-key.is_first lt c.loop-key.invariant.0),
     )

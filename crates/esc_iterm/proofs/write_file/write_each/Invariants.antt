@@ -10,4 +10,6 @@ use Rattle.esc_iterm.proofs.write_file.write_each.Given as goal
 abbrev pub invariant-loop-key : goal.invariant-loop-key
 invariant-loop-key g l =
     (l.is_first ≡ is_nothing (key_pieces (map entry (take l.key-index l.keys))))
-    × (IsPlainFormatter l.initial.f → HasWritten g.W.Write.write_str_gives l.initial.f (joined (key_pieces (map entry (take l.key-index l.keys)))) l.f)
+    × (IsPlainFormatter l.initial.f
+    → HasWritten g.W.Write.write_str_gives l.initial.f
+    (joined (key_pieces (map entry (take l.key-index l.keys)))) l.f)

@@ -5,32 +5,40 @@ use Rattle.esc_lent.proofs.advance.run_ahead.Goals as goal
 
 pub returns-then-parser-eq0-2-clause-kept : goal.returns-then-parser-eq0-2-clause-kept
 returns-then-parser-eq0-2-clause-kept c = λ some u memory h.
-    text_keeps c.args.parser.now memory c.if-parser-eq0.true c.if-parser-eq0-2.true c.args.bytes.now c.text_run.result c.note_run.result
+    text_keeps c.args.parser.now memory c.if-parser-eq0.true c.if-parser-eq0-2.true c.args.bytes.now
+    c.text_run.result c.note_run.result
     c.note_run.ensures.length c.text_run.ensures.run u h
 
 pub returns-then-parser-eq0-2-clause-told : goal.returns-then-parser-eq0-2-clause-told
 returns-then-parser-eq0-2-clause-told c = λ some u memory out h.
     let k = c.note_run.ensures.some (subst (λ n. 0 < n) c.note_run.ensures.length some) in
-    text_tells c.args.parser.now memory c.if-parser-eq0.true c.if-parser-eq0-2.true c.args.bytes.now c.text_run.result c.note_run.result
+    text_tells c.args.parser.now memory c.if-parser-eq0.true c.if-parser-eq0-2.true c.args.bytes.now
+    c.text_run.result c.note_run.result
     c.note_run.ensures.length c.text_run.ensures.run u h c.note_run.new.event out k.0 k.1
 
 pub returns-then-parser-eq5-clause-kept : goal.returns-then-parser-eq5-clause-kept
 returns-then-parser-eq5-clause-kept c = λ some u memory h.
-    data_keeps c.args.parser.now memory c.if-parser-eq5.true c.args.bytes.now c.data_run.result c.note_run-then-parser-eq5.result
+    data_keeps c.args.parser.now memory c.if-parser-eq5.true c.args.bytes.now c.data_run.result
+    c.note_run-then-parser-eq5.result
     c.note_run-then-parser-eq5.ensures.length c.data_run.ensures.run u h
 
 pub returns-then-parser-eq5-clause-told : goal.returns-then-parser-eq5-clause-told
 returns-then-parser-eq5-clause-told c = λ some u memory out h.
-    let k = c.note_run-then-parser-eq5.ensures.some (subst (λ n. 0 < n) c.note_run-then-parser-eq5.ensures.length some) in
-    data_tells c.args.parser.now memory c.if-parser-eq5.true c.args.bytes.now c.data_run.result c.note_run-then-parser-eq5.result
-    c.note_run-then-parser-eq5.ensures.length c.data_run.ensures.run u h c.note_run-then-parser-eq5.new.event out k.0 k.1
+    let k = c.note_run-then-parser-eq5.ensures.some
+    (subst (λ n. 0 < n) c.note_run-then-parser-eq5.ensures.length some) in
+    data_tells c.args.parser.now memory c.if-parser-eq5.true c.args.bytes.now c.data_run.result
+    c.note_run-then-parser-eq5.result
+    c.note_run-then-parser-eq5.ensures.length c.data_run.ensures.run u h
+    c.note_run-then-parser-eq5.new.event out k.0 k.1
 
 pub returns-then-parser-eq0-2-clause-utf8 : goal.returns-then-parser-eq0-2-clause-utf8
 returns-then-parser-eq0-2-clause-utf8 c =
-    text_utf8 c.note_run.new.event c.args.event.now c.args.bytes.now c.requires.none c.text_run.result c.note_run.ensures.some c.note_run.ensures.none
+    text_utf8 c.note_run.new.event c.args.event.now c.args.bytes.now c.requires.none
+    c.text_run.result c.note_run.ensures.some c.note_run.ensures.none
     c.text_run.ensures.run
 
 pub returns-then-parser-eq5-clause-utf8 : goal.returns-then-parser-eq5-clause-utf8
 returns-then-parser-eq5-clause-utf8 c =
-    data_utf8 c.note_run-then-parser-eq5.new.event c.args.event.now c.args.bytes.now c.requires.none c.data_run.result c.note_run-then-parser-eq5.ensures.some
+    data_utf8 c.note_run-then-parser-eq5.new.event c.args.event.now c.args.bytes.now c.requires.none
+    c.data_run.result c.note_run-then-parser-eq5.ensures.some
     c.note_run-then-parser-eq5.ensures.none

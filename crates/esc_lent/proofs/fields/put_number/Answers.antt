@@ -5,4 +5,5 @@ use Rattle.esc_lent.proofs.fields.put_number.Goals as goal
 pub returns-clause-keeps : goal.returns-clause-keeps
 returns-clause-keeps c = λ x f.
     let r = c.read_number-number.ensures in
-    number_behind _ _ x _ _ (taken_some c.args.rest.now _ r.count.0 r.count.1) r.digits r.value c.put_integer.ensures f
+    number_behind _ _ x _ _ (taken_some c.args.rest.now _ r.count.0 r.count.1) r.digits r.value
+    c.put_integer.ensures f

@@ -37,7 +37,11 @@ loop-at-preserved c =
     )
 
 pub returns-else-count-lt255-clause-keeps : goal.returns-else-count-lt255-clause-keeps
-returns-else-count-lt255-clause-keeps c = ends_short _ _ (few c.loop-at.entries c.loop-at.count c.loop-at.invariant.1) c.loop-at.invariant.2.so
+returns-else-count-lt255-clause-keeps c =
+    ends_short _ _ (few c.loop-at.entries c.loop-at.count c.loop-at.invariant.1)
+    c.loop-at.invariant.2.so
 
 pub returns-after-loop-at-clause-keeps : goal.returns-after-loop-at-clause-keeps
-returns-after-loop-at-clause-keeps c = ends_short _ _ (few c.loop-at.entries c.loop-at.count c.loop-at.invariant.1) c.loop-at.invariant.2.so
+returns-after-loop-at-clause-keeps c =
+    ends_short _ _ (few c.loop-at.entries c.loop-at.count c.loop-at.invariant.1)
+    c.loop-at.invariant.2.so

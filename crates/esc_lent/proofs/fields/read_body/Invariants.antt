@@ -4,7 +4,8 @@ use Rattle.esc_lent.specs.Told.{param_of}
 use Rattle.esc_lent.proofs.fields.read_body.Given as goal
 
 abbrev pub invariant-loop-at : goal.invariant-loop-at
-invariant-loop-at l = (l.at ≤ length l.rest) × (l.count ≤ 256) × IsFront (map param_of (take l.count l.entries)) (take l.at l.rest)
+invariant-loop-at l = (l.at ≤ length l.rest) × (l.count ≤ 256)
+    × IsFront (map param_of (take l.count l.entries)) (take l.at l.rest)
 
 abbrev pub decreases-loop-at : goal.decreases-loop-at
 decreases-loop-at l = length l.rest - l.at

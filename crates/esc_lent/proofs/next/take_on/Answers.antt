@@ -50,12 +50,15 @@ loop-at-preserved c =
       due = due;
       kept = λ u h.
           let i = c.loop-at.invariant.kept u h in (
-            subst (KeptIn c.advance-taken.new.parser c.advance-taken.new.memory) (sym (after_both bs at c.advance-taken.result u))
+            subst (KeptIn c.advance-taken.new.parser c.advance-taken.new.memory)
+                (sym (after_both bs at c.advance-taken.result u))
                 (c.advance-taken.ensures.kept _ i.0 ne),
             news_both bs at c.advance-taken.result (Some (length c.args.memory.now)) u i.1
-                ∙ ap (λ k. news_all (Some k) (after_all u (take at bs)) tail) (sym c.loop-at.auto.memory)
+                ∙ ap (λ k. news_all (Some k) (after_all u (take at bs)) tail)
+                (sym c.loop-at.auto.memory)
                 ∙ sym (c.advance-taken.ensures.told _ i.0 ne)
-                ∙ ap (λ y. y ++ due_of c.advance-taken.new.parser.due_kind c.advance-taken.new.parser.due_value)
+                ∙ ap (λ y. y ++ due_of c.advance-taken.new.parser.due_kind
+                c.advance-taken.new.parser.due_value)
                 (says_nothing c.advance-taken.new.event c.advance-taken.new.out _ none) ∙ due,
           );
       failed = c.advance-taken.ensures.goes_on ne ∙ c.loop-at.invariant.failed;

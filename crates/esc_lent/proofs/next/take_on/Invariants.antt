@@ -9,9 +9,11 @@ abbrev pub invariant-loop-at : goal.invariant-loop-at
 invariant-loop-at l = record {
   within : l.at ≤ length l.bytes;
   none : l.event.kind ≡ 0;
-  within_event : (l.event.count ≤ 256) × (l.event.kept ≤ 2) × (l.event.length ≤ length l.initial.out);
+  within_event : (l.event.count ≤ 256) × (l.event.kept ≤ 2)
+      × (l.event.length ≤ length l.initial.out);
   due : due_of l.parser.due_kind l.parser.due_value ≡ [];
-  kept : (u : Unfinished) → KeptIn l.initial.parser l.initial.memory u → KeptIn l.parser l.memory (after_all u (take l.at l.bytes))
+  kept : (u : Unfinished) → KeptIn l.initial.parser l.initial.memory u
+      → KeptIn l.parser l.memory (after_all u (take l.at l.bytes))
       × (news_all (Some (length l.initial.memory)) u (take l.at l.bytes) ≡ []);
   failed : l.parser.has_failed ≡ l.initial.parser.has_failed;
 }

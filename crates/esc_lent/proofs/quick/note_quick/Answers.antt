@@ -4,4 +4,5 @@ use Rattle.esc_lent.proofs.quick.note_quick.Goals as goal
 
 pub returns-else-bytes-eq27-clause-tells : goal.returns-else-bytes-eq27-clause-tells
 returns-else-bytes-eq27-clause-tells c = λ some.
-    let one = one_control c.args.bytes.now c.requires.some c.if-bytes-ge32.false c.if-bytes-eq27.false in (one.0, λ limit out. sym (one.1 limit))
+    let one = one_control c.args.bytes.now c.requires.some c.if-bytes-ge32.false
+    c.if-bytes-eq27.false in (one.0, λ limit out. sym (one.1 limit))

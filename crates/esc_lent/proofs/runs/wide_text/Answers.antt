@@ -2,7 +2,8 @@ use Rattle.esc_lent.proofs.TextRuns.{free_is_run, no_run}
 use Rattle.esc_lent.proofs.runs.wide_text.Goals as goal
 
 pub returns-in-Ok-clause-run : goal.returns-in-Ok-clause-run
-returns-in-Ok-clause-run c = free_is_run c.args.bytes.now c.free_run-run.result c.free_run-run.ensures.run c.in-Ok.ensures.1
+returns-in-Ok-clause-run c =
+    free_is_run c.args.bytes.now c.free_run-run.result c.free_run-run.ensures.run c.in-Ok.ensures.1
 
 pub returns-in-Err-clause-run : goal.returns-in-Err-clause-run
 returns-in-Err-clause-run c = no_run

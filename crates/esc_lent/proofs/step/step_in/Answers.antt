@@ -9,7 +9,8 @@ use Rattle.esc_lent.proofs.step.step_in.Goals as goal
 
 pub returns-clause-few : goal.returns-clause-few
 returns-clause-few g c =
-    let n = taken_few (λ s. Unit {0}) c.take_some.result c.taken_of-taken.result.0 c.taken_of-taken.result.1 c.args.bytes.now c.take_some.new.actor
+    let n = taken_few (λ s. Unit {0}) c.take_some.result c.taken_of-taken.result.0
+    c.taken_of-taken.result.1 c.args.bytes.now c.take_some.new.actor
     c.taken_of-taken.ensures.ok c.taken_of-taken.ensures.none c.take_some.ensures.count in
     subst (λ k. k ≤ length c.args.bytes.now) (sym c.let_go.ensures.taken) n
 
@@ -20,7 +21,9 @@ returns-clause-told g c = λ u h f.
     let no = or_parts c.taken_of-taken.result.1 new.is_lost (sym c.let_go.ensures.failed ∙ f) in
     let kind : old.event.now.kind ≡ 0 = ap (λ x. x.kind) c.listen-recorder.ensures.event
     ∙ c.requires.none in
-    let holds = subst (λ r. Holds (λ limit k t. KeepsLent limit k.is_over k.count k.memory.now t) (Some r) c.load-machine.result u) (sym c.requires.room)
+    let holds = subst (λ r.
+    Holds (λ limit k t. KeepsLent limit k.is_over k.count k.memory.now t) (Some r)
+    c.load-machine.result u) (sym c.requires.room)
     (c.load-machine.ensures.holds u h) in
     let k = took_said (λ limit k t. KeepsLent limit k.is_over k.count k.memory.now t)
     (λ s. s.event.now) (λ s. s.out.now) (λ s. s.due_kind) (λ s. s.due_value) (λ s. s.is_lost)
@@ -28,8 +31,10 @@ returns-clause-told g c = λ u h f.
     c.listen-recorder.ensures.due (Some (length c.args.memory.now)) c.take_some.result
     c.taken_of-taken.result.0 (c.taken_of-taken.ensures.ok no.0) (c.take_some.ensures.took u holds)
     no.1 in
-    said_same _ _ _ _ _ _ _ _ c.let_go.ensures.event_now c.let_go.ensures.out_now c.unload.ensures.due_kind c.unload.ensures.due_value ∙ k.0
-    ∙ ap (λ n. news_all (Some (length c.args.memory.now)) u (take n c.args.bytes.now)) (sym c.let_go.ensures.taken)
+    said_same _ _ _ _ _ _ _ _ c.let_go.ensures.event_now c.let_go.ensures.out_now
+    c.unload.ensures.due_kind c.unload.ensures.due_value ∙ k.0
+    ∙ ap (λ n. news_all (Some (length c.args.memory.now)) u (take n c.args.bytes.now))
+    (sym c.let_go.ensures.taken)
 
 pub returns-clause-run : goal.returns-clause-run
 returns-clause-run g c = λ u h f.
@@ -38,7 +43,9 @@ returns-clause-run g c = λ u h f.
     let no = or_parts c.taken_of-taken.result.1 new.is_lost (sym c.let_go.ensures.failed ∙ f) in
     let kind : old.event.now.kind ≡ 0 = ap (λ x. x.kind) c.listen-recorder.ensures.event
     ∙ c.requires.none in
-    let holds = subst (λ r. Holds (λ limit k t. KeepsLent limit k.is_over k.count k.memory.now t) (Some r) c.load-machine.result u) (sym c.requires.room)
+    let holds = subst (λ r.
+    Holds (λ limit k t. KeepsLent limit k.is_over k.count k.memory.now t) (Some r)
+    c.load-machine.result u) (sym c.requires.room)
     (c.load-machine.ensures.holds u h) in
     let k = took_said (λ limit k t. KeepsLent limit k.is_over k.count k.memory.now t)
     (λ s. s.event.now) (λ s. s.out.now) (λ s. s.due_kind) (λ s. s.due_value) (λ s. s.is_lost)

@@ -23,8 +23,10 @@ returns-in-Err-clause-told g c =
 
 pub returns-clause-told : goal.returns-clause-told
 returns-clause-told g c =
-    subst (λ y. FoldsTo g.Self.VTActor.takes c.args.self.now (map Print (chars y)) c.loop-at.self) c.as_bytes-bytes.ensures.value
-    (all_spelled g.Self.VTActor.takes g.Self.VTActor.refuses g.Self.VTActor.is_ready c.as_bytes-bytes.result.now c.loop-at.at c.args.self.now _
+    subst (λ y. FoldsTo g.Self.VTActor.takes c.args.self.now (map Print (chars y)) c.loop-at.self)
+    c.as_bytes-bytes.ensures.value
+    (all_spelled g.Self.VTActor.takes g.Self.VTActor.refuses g.Self.VTActor.is_ready
+    c.as_bytes-bytes.result.now c.loop-at.at c.args.self.now _
     (omega arith) c.loop-at.invariant)
 
 pub first_of-c-requires-clause-some : goal.first_of-c-requires-clause-some

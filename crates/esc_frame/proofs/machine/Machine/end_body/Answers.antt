@@ -11,4 +11,5 @@ returns-then-b-le126-clause-moved g c = λ limit o x k.
     g.V.Taker.takes g.V.Taker.refuses c.dispatch_csi.result m c.dispatch_csi.new.self
     c.args.actor.now
     c.dispatch_csi.new.actor)
-    (sym (final_by limit o x c.args.b (omega arith) (omega arith))) (c.dispatch_csi.ensures.moved limit (strip x) k)
+    (sym (final_by limit o x c.args.b (omega arith) (omega arith)))
+    (c.dispatch_csi.ensures.moved limit (strip x) k)

@@ -12,7 +12,8 @@ returns-in-Ok-clause-moved g c =
     c.args.limit (not (has_few_parts c.args.text.now))
     g.V.Taker.takes g.V.Taker.refuses c.leave_lent.result
     (osc_events c.args.limit c.args.text.now)
-    (osc_left c.args.b c.args.class) c.leave_lent.new.self c.args.actor.now _ _ c.in-Ok.ensures.told (c.leave_lent.ensures.moved c.args.limit
+    (osc_left c.args.b c.args.class) c.leave_lent.new.self c.args.actor.now _ _ c.in-Ok.ensures.told
+    (c.leave_lent.ensures.moved c.args.limit
     (not (has_few_parts c.args.text.now)))
 
 pub returns-in-Err-clause-moved : goal.returns-in-Err-clause-moved

@@ -13,7 +13,8 @@ returns-in-Ok-clause-moved g c =
     c.args.limit (not (has_few_parts c.args.text.now))
     g.V.Taker.takes g.V.Taker.refuses c.in_pair.result
     (osc_events c.args.limit c.args.text.now)
-    (pair_move c.args.b (class_of c.args.b)) c.in_pair.new.self c.args.actor.now _ _ c.in-Ok.ensures.told
+    (pair_move c.args.b (class_of c.args.b)) c.in_pair.new.self c.args.actor.now _ _
+    c.in-Ok.ensures.told
     (subst (λ k. Moved g.K.Store.keeps (Fails g.K.Store.denied g.V.Taker.stops g.row.A.Denot)
     c.args.limit
     (not (has_few_parts c.args.text.now)) g.V.Taker.takes g.V.Taker.refuses c.in_pair.result

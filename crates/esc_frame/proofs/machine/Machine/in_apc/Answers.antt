@@ -14,7 +14,8 @@ returns-in-Cancel-clause-moved g c = λ e o d k.
     c.args.limit true
     g.V.Taker.takes g.V.Taker.refuses c.leave_apc.result (InApc o d)
     c.args.b c.args.class c.leave_apc.new.self
-    c.args.actor.now c.leave_apc.new.actor t (c.leave_apc.ensures.moved c.args.limit (those is_text d) k)
+    c.args.actor.now c.leave_apc.new.actor t
+    (c.leave_apc.ensures.moved c.args.limit (those is_text d) k)
 
 pub returns-in-Delete-clause-moved : goal.returns-in-Delete-clause-moved
 returns-in-Delete-clause-moved g c = λ e o d k.

@@ -24,12 +24,18 @@ returns-in-Plain-clause-moved g c = λ e limit o x k. elim c.in-Plain.is [
       limit _
       g.V.Taker.takes g.V.Taker.refuses c.execute_c0_or_c1.result (InCsi o (x ++ c.args.b ∷ []))
       (Execute c.args.b)
-      (record c.args.self.now { state = state.Csi }) c.args.actor.now _ (refl, subst (KeepsBody c.args.self.now.body) (noise_strip x c.args.b _ _ e i refl) k)
+      (record c.args.self.now { state = state.Csi }) c.args.actor.now _ (
+        refl,
+        subst (KeepsBody c.args.self.now.body) (noise_strip x c.args.b _ _ e i refl) k,
+      )
       c.execute_c0_or_c1.ensures.hears)
   | inr i ↦ rw i (hears_moved g.K.Store.keeps (Fails g.K.Store.denied g.V.Taker.stops g.row.A.Denot)
       limit _
       g.V.Taker.takes g.V.Taker.refuses c.execute_c0_or_c1.result (InCsi o (x ++ c.args.b ∷ []))
       (Execute c.args.b)
-      (record c.args.self.now { state = state.Csi }) c.args.actor.now _ (refl, subst (KeepsBody c.args.self.now.body) (noise_strip x c.args.b _ _ e i refl) k)
+      (record c.args.self.now { state = state.Csi }) c.args.actor.now _ (
+        refl,
+        subst (KeepsBody c.args.self.now.body) (noise_strip x c.args.b _ _ e i refl) k,
+      )
       c.execute_c0_or_c1.ensures.hears)
 ]

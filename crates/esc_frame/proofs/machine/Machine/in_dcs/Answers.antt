@@ -21,5 +21,10 @@ returns-in-Intermediate-clause-moved g c = λ e o x k d.
     dcs_pushed g.K.Store.keeps g.K.Store.denied g.V.Taker.stops c.args.limit
     g.V.Taker.takes g.V.Taker.refuses
     c.keep.result c.keep.ensures.refused
-    (record c.args.self.now { state = state.Dcs; header = c.keep.new.header; text = c.keep.new.parameters }) o c.args.b c.args.class
-    c.args.actor.now e x t refl (c.keep.ensures.header (strip x) d) (c.keep.ensures.parameters (strip x) k)
+    (record c.args.self.now {
+      state = state.Dcs;
+      header = c.keep.new.header;
+      text = c.keep.new.parameters;
+    }) o c.args.b c.args.class
+    c.args.actor.now e x t refl (c.keep.ensures.header (strip x) d)
+    (c.keep.ensures.parameters (strip x) k)

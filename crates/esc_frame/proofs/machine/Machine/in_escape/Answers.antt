@@ -46,4 +46,5 @@ returns-in-Plain-clause-moved g c = λ e limit own x k. elim c.in-Plain.is [
 ]
 
 pub returns-then-self-eq0-clause-moved : goal.returns-then-self-eq0-clause-moved
-returns-then-self-eq0-clause-moved g c = λ e limit own x k. let h = c.open.ensures limit (Long x) in search (rules, h)
+returns-then-self-eq0-clause-moved g c = λ e limit own x k. let h = c.open.ensures limit (Long x) in
+    search (rules, h)

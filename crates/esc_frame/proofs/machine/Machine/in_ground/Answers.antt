@@ -8,15 +8,18 @@ use Rattle.esc_frame.specs.Machine.Calls.{Fails}
 use Rattle.esc_frame.proofs.machine.Machine.in_ground.Goals as goal
 
 pub returns-in-RawOpens-clause-moved : goal.returns-in-RawOpens-clause-moved
-returns-in-RawOpens-clause-moved g c = λ limit own. rw c.in-RawOpens.is (c.open.ensures limit Raw, refl)
+returns-in-RawOpens-clause-moved g c =
+    λ limit own. rw c.in-RawOpens.is (c.open.ensures limit Raw, refl)
 
 pub returns-in-Plain-clause-moved : goal.returns-in-Plain-clause-moved
 returns-in-Plain-clause-moved g c = λ limit own.
-    let t : (is_control c.args.class || is_raw_control c.args.class) ≡ true = search (rules, c.in-Plain.is) in
+    let t : (is_control c.args.class || is_raw_control c.args.class) ≡ true =
+    search (rules, c.in-Plain.is) in
     control_moved g.K.Store.keeps (Fails g.K.Store.denied g.V.Taker.stops g.row.A.Denot)
     limit own g.V.Taker.takes g.V.Taker.refuses
     c.execute_c0_or_c1.result c.args.b c.args.class
-    (record c.args.self.now { state = state.Ground; pending = pending.Nothing }) c.args.actor.now c.execute_c0_or_c1.new.self (refl, refl) t
+    (record c.args.self.now { state = state.Ground; pending = pending.Nothing }) c.args.actor.now
+    c.execute_c0_or_c1.new.self (refl, refl) t
     c.execute_c0_or_c1.ensures.hears
 
 pub returns-in-Intermediate-clause-moved : goal.returns-in-Intermediate-clause-moved
@@ -25,5 +28,6 @@ returns-in-Intermediate-clause-moved g c = λ limit own.
     text_moved g.K.Store.keeps (Fails g.K.Store.denied g.V.Taker.stops g.row.A.Denot)
     limit own g.V.Taker.takes g.V.Taker.refuses
     c.print-in-Intermediate.result c.args.b c.args.class
-    (record c.args.self.now { state = state.Ground; pending = pending.Nothing }) c.args.actor.now c.print-in-Intermediate.new.self (refl, refl) t
+    (record c.args.self.now { state = state.Ground; pending = pending.Nothing }) c.args.actor.now
+    c.print-in-Intermediate.new.self (refl, refl) t
     c.print-in-Intermediate.ensures.hears

@@ -24,5 +24,9 @@ returns-in-Intermediate-clause-moved g c = λ e o ps k.
     osc_pushed g.K.Store.keeps g.K.Store.denied g.V.Taker.stops c.args.limit
     g.V.Taker.takes g.V.Taker.refuses
     c.push.result c.push.ensures.refused
-    (record c.args.self.now { state = state.Osc; pending = pending.Nothing; text = c.push.new.self }) o c.args.b c.args.class c.args.actor.now e ps t refl
+    (record c.args.self.now {
+      state = state.Osc;
+      pending = pending.Nothing;
+      text = c.push.new.self;
+    }) o c.args.b c.args.class c.args.actor.now e ps t refl
     refl (c.push.ensures.ok (text_of ps) k)

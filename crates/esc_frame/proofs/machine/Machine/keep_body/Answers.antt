@@ -10,4 +10,5 @@ take_units-requires-clause-whole g c = (c.open.ensures c.args.limit (Long [])).2
 
 pub returns-clause-took : goal.returns-clause-took
 returns-clause-took g c = λ o ps none.
-    c.take_units.ensures.took o ps (subst (g.K.Store.keeps c.args.limit c.open.new.self.text) (sym none) (c.open.ensures c.args.limit (Long [])).1)
+    c.take_units.ensures.took o ps (subst (g.K.Store.keeps c.args.limit c.open.new.self.text)
+    (sym none) (c.open.ensures c.args.limit (Long [])).1)

@@ -7,7 +7,8 @@ use Rattle.esc_frame.proofs.machine.Machine.step.Goals as goal
 
 pub returns-in-Nothing-pending-clause-moved : goal.returns-in-Nothing-pending-clause-moved
 returns-in-Nothing-pending-clause-moved g c = λ e u h.
-    osc_only g.K.Store.keeps c.args.limit c.args.self.now u c.in-Osc.is (ap front_of c.in-Nothing-pending.is) h
+    osc_only g.K.Store.keeps c.args.limit c.args.self.now u c.in-Osc.is
+    (ap front_of c.in-Nothing-pending.is) h
     (λ v. Moved g.K.Store.keeps (Fails g.K.Store.denied g.V.Taker.stops g.row.A.Denot)
     c.args.limit (may_grow_in v)
     g.V.Taker.takes g.V.Taker.refuses c.in_osc.result
@@ -40,7 +41,8 @@ returns-in-Apc-clause-moved g c = λ e u h.
 
 pub returns-in-Nothing-clause-moved : goal.returns-in-Nothing-clause-moved
 returns-in-Nothing-clause-moved g c = λ e u h.
-    ground_only g.K.Store.keeps c.args.limit c.args.self.now u c.in-Ground.is (ap front_of c.in-Nothing.is) h
+    ground_only g.K.Store.keeps c.args.limit c.args.self.now u c.in-Ground.is
+    (ap front_of c.in-Nothing.is) h
     (λ v. Moved g.K.Store.keeps (Fails g.K.Store.denied g.V.Taker.stops g.row.A.Denot)
     c.args.limit (may_grow_in v)
     g.V.Taker.takes g.V.Taker.refuses c.in_ground.result

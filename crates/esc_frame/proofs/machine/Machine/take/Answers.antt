@@ -6,7 +6,8 @@ use Rattle.esc_frame.proofs.machine.Machine.take.Goals as goal
 
 pub returns-in-Nothing-clause-took : goal.returns-in-Nothing-clause-took
 returns-in-Nothing-clause-took g c = λ u h.
-    ground_only g.K.Store.keeps c.args.limit c.args.self.now u c.in-Ground.is (ap front_of c.in-Nothing.is) h
+    ground_only g.K.Store.keeps c.args.limit c.args.self.now u c.in-Ground.is
+    (ap front_of c.in-Nothing.is) h
     (λ v. Took g.K.Store.keeps (Fails g.K.Store.denied g.V.Taker.stops g.row.A.Denot)
     c.args.limit g.V.Taker.takes g.V.Taker.refuses
     c.take_in_ground.result v c.args.rest.now c.take_in_ground.new.self
@@ -17,4 +18,5 @@ pub returns-in-Data-clause-took : goal.returns-in-Data-clause-took
 returns-in-Data-clause-took g c = c.take_in_data.ensures.took
 
 pub returns-in-Escape : goal.returns-in-Escape
-returns-in-Escape g c = record { took = c.take_some.ensures.took; count = c.take_some.ensures.count }
+returns-in-Escape g c =
+    record { took = c.take_some.ensures.took; count = c.take_some.ensures.count }

@@ -11,7 +11,11 @@ returns-then-run-rest-clause-took g c = λ o d k not_lent.
     let xs = take c.args.run c.args.rest.now in
     let q = apc_text c.args.limit o d xs c.requires.passes in
     let fresh = unlent_fresh (InApc o d) c.args.rest.now c.args.run not_lent in (
-      rw q.0 (c.requires.state, subst (g.K.Store.keeps c.args.limit c.args.self.now.text) (sym (apc_kept d xs c.requires.passes)) k),
+      rw q.0 (
+        c.requires.state,
+        subst (g.K.Store.keeps c.args.limit c.args.self.now.text)
+            (sym (apc_kept d xs c.requires.passes)) k,
+      ),
       rw q.1 refl,
       fresh,
     )
@@ -19,20 +23,27 @@ returns-then-run-rest-clause-took g c = λ o d k not_lent.
 pub returns-in-Ok-clause-took : goal.returns-in-Ok-clause-took
 returns-in-Ok-clause-took g c = λ o d k not_lent.
     let xs = take c.args.run c.args.rest.now in
-    quiet_took c.args.limit g.V.Taker.takes g.V.Taker.refuses (InApc o d) (InApc o (d ++ xs)) c.args.rest.now c.args.run _ c.args.actor.now
+    quiet_took c.args.limit g.V.Taker.takes g.V.Taker.refuses (InApc o d) (InApc o (d ++ xs))
+    c.args.rest.now c.args.run _ c.args.actor.now
     c.in_apc.new.actor
-    (apc_text c.args.limit o d xs c.requires.passes) (omega arith) c.classify.ensures g.K.Store.keeps c.in_apc.new.self
+    (apc_text c.args.limit o d xs c.requires.passes) (omega arith) c.classify.ensures
+    g.K.Store.keeps c.in_apc.new.self
     (unlent_fresh (InApc o d) c.args.rest.now (c.args.run + 1) not_lent)
-    (c.in-Ok.ensures.moved c.classify.ensures o (d ++ xs) (subst (g.K.Store.keeps c.args.limit c.args.self.now.text) (sym (apc_kept d xs c.requires.passes)) k))
+    (c.in-Ok.ensures.moved c.classify.ensures o (d ++ xs)
+    (subst (g.K.Store.keeps c.args.limit c.args.self.now.text)
+    (sym (apc_kept d xs c.requires.passes)) k))
 
 pub returns-in-Err-clause-took : goal.returns-in-Err-clause-took
 returns-in-Err-clause-took g c = λ o d k not_lent.
     let xs = take c.args.run c.args.rest.now in
-    quiet_stops c.args.limit g.V.Taker.takes g.V.Taker.refuses (InApc o d) (InApc o (d ++ xs)) c.args.rest.now c.args.run _ c.args.actor.now
+    quiet_stops c.args.limit g.V.Taker.takes g.V.Taker.refuses (InApc o d) (InApc o (d ++ xs))
+    c.args.rest.now c.args.run _ c.args.actor.now
     c.in_apc.new.actor
-    (apc_text c.args.limit o d xs c.requires.passes) (omega arith) c.classify.ensures (λ may. not_lent)
+    (apc_text c.args.limit o d xs c.requires.passes) (omega arith) c.classify.ensures (λ may.
+    not_lent)
     (c.in-Err.ensures.moved c.classify.ensures o (d ++ xs)
-    (subst (g.K.Store.keeps c.args.limit c.args.self.now.text) (sym (apc_kept d xs c.requires.passes)) k))
+    (subst (g.K.Store.keeps c.args.limit c.args.self.now.text)
+    (sym (apc_kept d xs c.requires.passes)) k))
 
 pub returns-then-run-rest-clause-quiet : goal.returns-then-run-rest-clause-quiet
 returns-then-run-rest-clause-quiet g c = λ o d.
@@ -40,4 +51,5 @@ returns-then-run-rest-clause-quiet g c = λ o d.
     (apc_end_still c.args.limit o d c.args.rest.now c.args.run c.requires.passes)
 
 pub returns-in-Ok-clause-quiet : goal.returns-in-Ok-clause-quiet
-returns-in-Ok-clause-quiet g c = λ o d. apc_end_still c.args.limit o d c.args.rest.now c.args.run c.requires.passes
+returns-in-Ok-clause-quiet g c =
+    λ o d. apc_end_still c.args.limit o d c.args.rest.now c.args.run c.requires.passes

@@ -11,7 +11,10 @@ pub returns-then-run-rest-clause-took : goal.returns-then-run-rest-clause-took
 returns-then-run-rest-clause-took g c = λ limit o x k.
     let xs : List ℕ = take c.args.run c.args.rest.now in
     let q = body_quiet limit o x xs c.requires.passes in (
-      rw q.0 (c.requires.state, subst (KeepsBody c.args.self.now.body) (sym (body_strip x xs c.requires.passes)) k),
+      rw q.0 (
+        c.requires.state,
+        subst (KeepsBody c.args.self.now.body) (sym (body_strip x xs c.requires.passes)) k,
+      ),
       rw q.1 refl,
       λ l. ap is_fresh q.0,
     )
@@ -19,22 +22,29 @@ returns-then-run-rest-clause-took g c = λ limit o x k.
 pub returns-in-Ok-clause-took : goal.returns-in-Ok-clause-took
 returns-in-Ok-clause-took g c = λ limit o x k.
     let xs : List ℕ = take c.args.run c.args.rest.now in
-    quiet_took limit g.V.Taker.takes g.V.Taker.refuses (InCsi o x) (InCsi o (x ++ xs)) c.args.rest.now c.args.run _ c.args.actor.now c.end_body.new.actor
-    (body_quiet limit o x xs c.requires.passes) (omega arith) refl g.K.Store.keeps c.end_body.new.self
+    quiet_took limit g.V.Taker.takes g.V.Taker.refuses (InCsi o x) (InCsi o (x ++ xs))
+    c.args.rest.now c.args.run _ c.args.actor.now c.end_body.new.actor
+    (body_quiet limit o x xs c.requires.passes) (omega arith) refl g.K.Store.keeps
+    c.end_body.new.self
     (body_fresh o x c.args.rest.now c.args.run c.requires.passes (omega arith))
-    (c.in-Ok.ensures.moved limit o (x ++ xs) (subst (KeepsBody c.args.self.now.body) (sym (body_strip x xs c.requires.passes)) k))
+    (c.in-Ok.ensures.moved limit o (x ++ xs)
+    (subst (KeepsBody c.args.self.now.body) (sym (body_strip x xs c.requires.passes)) k))
 
 pub returns-in-Err-clause-took : goal.returns-in-Err-clause-took
 returns-in-Err-clause-took g c = λ limit o x k.
     let xs : List ℕ = take c.args.run c.args.rest.now in
-    quiet_stops limit g.V.Taker.takes g.V.Taker.refuses (InCsi o x) (InCsi o (x ++ xs)) c.args.rest.now c.args.run _ c.args.actor.now c.end_body.new.actor
+    quiet_stops limit g.V.Taker.takes g.V.Taker.refuses (InCsi o x) (InCsi o (x ++ xs))
+    c.args.rest.now c.args.run _ c.args.actor.now c.end_body.new.actor
     (body_quiet limit o x xs c.requires.passes) (omega arith) refl (λ may. absurd cc)
-    (c.in-Err.ensures.moved limit o (x ++ xs) (subst (KeepsBody c.args.self.now.body) (sym (body_strip x xs c.requires.passes)) k))
+    (c.in-Err.ensures.moved limit o (x ++ xs)
+    (subst (KeepsBody c.args.self.now.body) (sym (body_strip x xs c.requires.passes)) k))
 
 pub returns-then-run-rest-clause-quiet : goal.returns-then-run-rest-clause-quiet
 returns-then-run-rest-clause-quiet g c =
-    λ limit o x. less_still limit (InCsi o x) c.args.rest.now c.args.run (c.args.run + 1) (omega arith)
+    λ limit o x. less_still limit (InCsi o x) c.args.rest.now c.args.run (c.args.run + 1)
+    (omega arith)
     (body_still limit o x c.args.rest.now c.args.run c.requires.passes)
 
 pub returns-in-Ok-clause-quiet : goal.returns-in-Ok-clause-quiet
-returns-in-Ok-clause-quiet g c = λ limit o x. body_still limit o x c.args.rest.now c.args.run c.requires.passes
+returns-in-Ok-clause-quiet g c =
+    λ limit o x. body_still limit o x c.args.rest.now c.args.run c.requires.passes

@@ -11,7 +11,11 @@ returns-then-run-rest-clause-took g c = λ o ps k not_lent.
     let run = c.requires.passes in
     let q = run.2 c.args.limit o ps in
     let fresh = unlent_fresh (InOsc o ps) c.args.rest.now c.args.run not_lent in (
-      rw q.0 (c.requires.state, subst (g.K.Store.keeps c.args.limit c.args.self.now.text) (run_text ps run) k, c.requires.whole),
+      rw q.0 (
+        c.requires.state,
+        subst (g.K.Store.keeps c.args.limit c.args.self.now.text) (run_text ps run) k,
+        c.requires.whole,
+      ),
       rw q.1 refl,
       fresh,
     )
@@ -19,24 +23,31 @@ returns-then-run-rest-clause-took g c = λ o ps k not_lent.
 pub returns-in-Ok-clause-took : goal.returns-in-Ok-clause-took
 returns-in-Ok-clause-took g c = λ o ps k not_lent.
     let run = c.requires.passes in
-    quiet_took c.args.limit g.V.Taker.takes g.V.Taker.refuses (InOsc o ps) (InOsc o (ps ++ run.0)) c.args.rest.now c.args.run _ c.args.actor.now
+    quiet_took c.args.limit g.V.Taker.takes g.V.Taker.refuses (InOsc o ps) (InOsc o (ps ++ run.0))
+    c.args.rest.now c.args.run _ c.args.actor.now
     c.in_osc.new.actor
     (run.2 c.args.limit o ps) (omega arith) c.classify.ensures g.K.Store.keeps c.in_osc.new.self
     (unlent_fresh (InOsc o ps) c.args.rest.now (c.args.run + 1) not_lent)
-    (c.in-Ok.ensures.moved c.classify.ensures o (ps ++ run.0) (subst (g.K.Store.keeps c.args.limit c.args.self.now.text) (run_text ps run) k))
+    (c.in-Ok.ensures.moved c.classify.ensures o (ps ++ run.0)
+    (subst (g.K.Store.keeps c.args.limit c.args.self.now.text) (run_text ps run) k))
 
 pub returns-in-Err-clause-took : goal.returns-in-Err-clause-took
 returns-in-Err-clause-took g c = λ o ps k not_lent.
     let run = c.requires.passes in
-    quiet_stops c.args.limit g.V.Taker.takes g.V.Taker.refuses (InOsc o ps) (InOsc o (ps ++ run.0)) c.args.rest.now c.args.run _ c.args.actor.now
+    quiet_stops c.args.limit g.V.Taker.takes g.V.Taker.refuses (InOsc o ps) (InOsc o (ps ++ run.0))
+    c.args.rest.now c.args.run _ c.args.actor.now
     c.in_osc.new.actor
     (run.2 c.args.limit o ps) (omega arith) c.classify.ensures (λ may. not_lent)
-    (c.in-Err.ensures.moved c.classify.ensures o (ps ++ run.0) (subst (g.K.Store.keeps c.args.limit c.args.self.now.text) (run_text ps run) k))
+    (c.in-Err.ensures.moved c.classify.ensures o (ps ++ run.0)
+    (subst (g.K.Store.keeps c.args.limit c.args.self.now.text) (run_text ps run) k))
 
 pub returns-then-run-rest-clause-quiet : goal.returns-then-run-rest-clause-quiet
 returns-then-run-rest-clause-quiet g c = λ o ps.
     less_still c.args.limit (InOsc o ps) c.args.rest.now c.args.run (c.args.run + 1) (omega arith)
-    (text_still c.args.limit o ps c.args.rest.now c.args.run (λ any. (c.requires.passes.2 any o ps).1))
+    (text_still c.args.limit o ps c.args.rest.now c.args.run (λ any.
+    (c.requires.passes.2 any o ps).1))
 
 pub returns-in-Ok-clause-quiet : goal.returns-in-Ok-clause-quiet
-returns-in-Ok-clause-quiet g c = λ o ps. text_still c.args.limit o ps c.args.rest.now c.args.run (λ any. (c.requires.passes.2 any o ps).1)
+returns-in-Ok-clause-quiet g c = λ o ps.
+    text_still c.args.limit o ps c.args.rest.now c.args.run (λ any.
+    (c.requires.passes.2 any o ps).1)

@@ -13,7 +13,8 @@ loop-at-preserved g c =
       λ u h.
           let p = c.loop-at.invariant.2 u h in
           let v = after_all u (take i bs) in
-          ran_took c.args.limit g.V.Taker.takes g.V.Taker.refuses u v bs i c.args.actor.now _ _ refl p.1 g.K.Store.keeps c.take.new.self c.in-Ok.n p.2
+          ran_took c.args.limit g.V.Taker.takes g.V.Taker.refuses u v bs i c.args.actor.now _ _ refl
+          p.1 g.K.Store.keeps c.take.new.self c.in-Ok.n p.2
           (c.in-Ok.ensures.took v p.0),
     )
 
@@ -23,4 +24,5 @@ returns-in-Err-clause-told g c = λ u h.
     let bs = c.args.bytes.now in
     let p = c.loop-at.invariant.2 u h in
     let v = after_all u (take i bs) in
-    ran_ends c.args.limit g.V.Taker.takes g.V.Taker.refuses u v bs i c.args.actor.now _ _ refl p.1 p.2 (c.in-Err.ensures.took v p.0)
+    ran_ends c.args.limit g.V.Taker.takes g.V.Taker.refuses u v bs i c.args.actor.now _ _ refl p.1
+    p.2 (c.in-Err.ensures.took v p.0)

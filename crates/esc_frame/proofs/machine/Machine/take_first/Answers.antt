@@ -12,7 +12,8 @@ pub returns-in-Ok-eq0 : goal.returns-in-Ok-eq0
 returns-in-Ok-eq0 g c =
     let none : c.in-Ok-eq0.field-0 ≡ 0 = search rules in
     let same : c.args.actor.now ≡ c.print_first.new.actor =
-    subst (λ k. FoldsTo g.V.Taker.takes c.args.actor.now (news_all None Ground (take k c.args.rest.now)) c.print_first.new.actor) none
+    subst (λ k. FoldsTo g.V.Taker.takes c.args.actor.now
+    (news_all None Ground (take k c.args.rest.now)) c.print_first.new.actor) none
     (c.in-Ok-eq0.ensures.stays.2 None) in
     subst (λ a. TookSome g.K.Store.keeps (Fails g.K.Store.denied g.V.Taker.stops g.row.A.Denot)
     c.args.limit
@@ -26,7 +27,8 @@ returns-in-Ok g c =
     let so = c.in-Ok.ensures.stays in
     let some : 0 < c.in-Ok.n = search rules in (
       (
-        subst (λ u. Holds g.K.Store.keeps c.args.limit c.args.self.now u) (sym so.1) c.requires.ground,
+        subst (λ u. Holds g.K.Store.keeps c.args.limit c.args.self.now u) (sym so.1)
+            c.requires.ground,
         so.2 c.args.limit,
         ground_fresh Ground c.args.rest.now
             c.in-Ok.n so.1,

@@ -5,26 +5,33 @@ use Rattle.esc_frame.proofs.StringRuns.{prefix_passes}
 use Rattle.esc_frame.proofs.machine.Machine.take_in_apc.Goals as goal
 
 pub keep_apc-requires-clause-passes : goal.keep_apc-requires-clause-passes
-keep_apc-requires-clause-passes g c = prefix_passes c.args.rest.now c.ascii_run-run.result c.ascii_run-run.ensures.run
+keep_apc-requires-clause-passes g c =
+    prefix_passes c.args.rest.now c.ascii_run-run.result c.ascii_run-run.ensures.run
 
 pub take_lent_apc-requires-clause-passes : goal.take_lent_apc-requires-clause-passes
-take_lent_apc-requires-clause-passes g c = prefix_passes c.args.rest.now c.ascii_run-run.result c.ascii_run-run.ensures.run
+take_lent_apc-requires-clause-passes g c =
+    prefix_passes c.args.rest.now c.ascii_run-run.result c.ascii_run-run.ensures.run
 
 pub returns-then-run-rest-clause-took : goal.returns-then-run-rest-clause-took
 returns-then-run-rest-clause-took g c = λ o d k.
-    c.keep_apc.ensures.took o d k (apc_unended o d c.args.rest.now c.ascii_run-run.result c.ascii_run-run.ensures.run (omega arith))
+    c.keep_apc.ensures.took o d k (apc_unended o d c.args.rest.now c.ascii_run-run.result
+    c.ascii_run-run.ensures.run (omega arith))
 
 pub keep_apc-requires-then-not-is_new-clause-passes : goal.keep_apc-requires-then-not-is_new-clause-passes
-keep_apc-requires-then-not-is_new-clause-passes g c = prefix_passes c.args.rest.now c.ascii_run-run.result c.ascii_run-run.ensures.run
+keep_apc-requires-then-not-is_new-clause-passes g c =
+    prefix_passes c.args.rest.now c.ascii_run-run.result c.ascii_run-run.ensures.run
 
 pub keep_apc-requires-else-is_breaker-clause-passes : goal.keep_apc-requires-else-is_breaker-clause-passes
-keep_apc-requires-else-is_breaker-clause-passes g c = prefix_passes c.args.rest.now c.ascii_run-run.result c.ascii_run-run.ensures.run
+keep_apc-requires-else-is_breaker-clause-passes g c =
+    prefix_passes c.args.rest.now c.ascii_run-run.result c.ascii_run-run.ensures.run
 
 pub returns-else-is_breaker-clause-took : goal.returns-else-is_breaker-clause-took
 returns-else-is_breaker-clause-took g c = λ o d k.
     c.keep_apc-else-is_breaker.ensures.took o d k
-    (apc_unclosed o d c.args.rest.now c.ascii_run-run.result c.ascii_run-run.ensures.run (omega arith)
-    (ap is_breaker (sym c.classify-class.ensures) ∙ sym c.is_breaker.ensures ∙ c.if-is_breaker.false))
+    (apc_unclosed o d c.args.rest.now c.ascii_run-run.result c.ascii_run-run.ensures.run
+    (omega arith)
+    (ap is_breaker (sym c.classify-class.ensures) ∙ sym c.is_breaker.ensures
+    ∙ c.if-is_breaker.false))
 
 pub returns-then-run-rest-clause-quiet : goal.returns-then-run-rest-clause-quiet
 returns-then-run-rest-clause-quiet g c = c.keep_apc.ensures.quiet

@@ -11,24 +11,32 @@ use Rattle.esc_frame.proofs.StringRuns.{data_holds, all_pass}
 use Rattle.esc_frame.proofs.machine.Machine.take_in_data.Goals as goal
 
 pub dcs_put_text-requires-clause-bytes : goal.dcs_put_text-requires-clause-bytes
-dcs_put_text-requires-clause-bytes g c = all_pass is_data_byte c.args.rest.now c.data_run-run.result c.data_run-run.ensures.run
+dcs_put_text-requires-clause-bytes g c =
+    all_pass is_data_byte c.args.rest.now c.data_run-run.result c.data_run-run.ensures.run
 
 pub returns-in-Ok-clause-took : goal.returns-in-Ok-clause-took
 returns-in-Ok-clause-took g c = λ u h.
-    let q = data_holds g.K.Store.keeps c.args.limit c.args.self.now (take c.data_run-run.result c.args.rest.now)
-    (all_pass is_data_byte c.args.rest.now c.data_run-run.result c.data_run-run.ensures.run) u c.requires.state h in (
+    let q = data_holds g.K.Store.keeps c.args.limit c.args.self.now
+    (take c.data_run-run.result c.args.rest.now)
+    (all_pass is_data_byte c.args.rest.now c.data_run-run.result c.data_run-run.ensures.run) u
+    c.requires.state h in (
       q.0,
-      subst (λ es. FoldsTo g.V.Taker.takes c.args.actor.now es c.dcs_put_text.new.self) (sym q.1) c.in-Ok.ensures.told,
-      data_fresh g.K.Store.keeps c.args.limit c.args.self.now u c.args.rest.now c.data_run-run.result c.requires.state h,
+      subst (λ es. FoldsTo g.V.Taker.takes c.args.actor.now es c.dcs_put_text.new.self) (sym q.1)
+          c.in-Ok.ensures.told,
+      data_fresh g.K.Store.keeps c.args.limit c.args.self.now u c.args.rest.now
+          c.data_run-run.result c.requires.state h,
     )
 
 pub returns-in-Err-clause-took : goal.returns-in-Err-clause-took
 returns-in-Err-clause-took g c = λ u h.
-    let q = data_holds g.K.Store.keeps c.args.limit c.args.self.now (take c.data_run-run.result c.args.rest.now)
-    (all_pass is_data_byte c.args.rest.now c.data_run-run.result c.data_run-run.ensures.run) u c.requires.state h in
+    let q = data_holds g.K.Store.keeps c.args.limit c.args.self.now
+    (take c.data_run-run.result c.args.rest.now)
+    (all_pass is_data_byte c.args.rest.now c.data_run-run.result c.data_run-run.ensures.run) u
+    c.requires.state h in
     let own : Type 0 = (may_grow_within u c.args.rest.now ≡ true)
     × Fails g.K.Store.denied g.V.Taker.stops g.row.A.Denot c.args.limit in
-    stop_within c.args.limit own g.V.Taker.takes g.V.Taker.refuses u c.args.rest.now c.data_run-run.result c.args.actor.now c.dcs_put_text.new.self
+    stop_within c.args.limit own g.V.Taker.takes g.V.Taker.refuses u c.args.rest.now
+    c.data_run-run.result c.args.actor.now c.dcs_put_text.new.self
     (stops_for ⊥ own g.V.Taker.takes g.V.Taker.refuses _ c.args.actor.now
     c.dcs_put_text.new.self (λ no. absurd no)
     (subst (λ es. StopsAt ⊥ g.V.Taker.takes g.V.Taker.refuses c.args.actor.now es

@@ -13,9 +13,12 @@ use Rattle.esc_frame.proofs.machine.Machine.take_in_escape.Goals as goal
 pub returns-in-Ok-clause-took : goal.returns-in-Ok-clause-took
 returns-in-Ok-clause-took g c = λ u h.
     escape_only g.K.Store.keeps c.args.limit c.args.self.now u c.requires.state h
-    (λ v. Holds g.K.Store.keeps c.args.limit c.in_escape.new.self (after_all v (take 1 c.args.rest.now))
-    × FoldsTo g.V.Taker.takes c.args.actor.now (news_all c.args.limit v (take 1 c.args.rest.now)) c.in_escape.new.actor × StaysFresh v c.args.rest.now 1)
-    (λ x k. quiet_took c.args.limit g.V.Taker.takes g.V.Taker.refuses (InEscape x) (InEscape x) c.args.rest.now 0 _ c.args.actor.now _ (refl, refl)
+    (λ v. Holds g.K.Store.keeps c.args.limit c.in_escape.new.self
+    (after_all v (take 1 c.args.rest.now))
+    × FoldsTo g.V.Taker.takes c.args.actor.now (news_all c.args.limit v (take 1 c.args.rest.now))
+    c.in_escape.new.actor × StaysFresh v c.args.rest.now 1)
+    (λ x k. quiet_took c.args.limit g.V.Taker.takes g.V.Taker.refuses (InEscape x) (InEscape x)
+    c.args.rest.now 0 _ c.args.actor.now _ (refl, refl)
     c.requires.some c.classify.ensures
     g.K.Store.keeps c.in_escape.new.self (one_fresh (InEscape x) c.args.rest.now refl)
     (c.in-Ok.ensures.moved c.classify.ensures c.args.limit false x k.1))
@@ -28,6 +31,7 @@ returns-in-Err-clause-took g c = λ u h.
     g.V.Taker.takes g.V.Taker.refuses c.args.actor.now
     (news_all c.args.limit v c.args.rest.now)
     c.in_escape.new.actor)
-    (λ x k. quiet_stops c.args.limit g.V.Taker.takes g.V.Taker.refuses (InEscape x) (InEscape x) c.args.rest.now 0 _ c.args.actor.now _ (refl, refl)
+    (λ x k. quiet_stops c.args.limit g.V.Taker.takes g.V.Taker.refuses (InEscape x) (InEscape x)
+    c.args.rest.now 0 _ c.args.actor.now _ (refl, refl)
     c.requires.some c.classify.ensures (one_unlent (InEscape x) c.args.rest.now refl)
     (c.in-Err.ensures.moved c.classify.ensures c.args.limit false x k.1))

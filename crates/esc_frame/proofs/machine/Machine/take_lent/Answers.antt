@@ -4,13 +4,18 @@ use Rattle.esc_frame.proofs.machine.Machine.take_lent.Goals as goal
 
 pub returns-in-Ok-clause-took : goal.returns-in-Ok-clause-took
 returns-in-Ok-clause-took g c = λ o ps none.
-    lent_took c.args.limit g.V.Taker.takes g.V.Taker.refuses o ps c.args.rest.now c.args.run c.args.actor.now c.end_lent.new.actor none c.requires.passes
-    c.requires.few c.args.class c.requires.class c.requires.ends g.K.Store.keeps c.end_lent.new.self c.in-Ok.ensures.moved
+    lent_took c.args.limit g.V.Taker.takes g.V.Taker.refuses o ps c.args.rest.now c.args.run
+    c.args.actor.now c.end_lent.new.actor none c.requires.passes
+    c.requires.few c.args.class c.requires.class c.requires.ends g.K.Store.keeps c.end_lent.new.self
+    c.in-Ok.ensures.moved
 
 pub returns-in-Ok-clause-quiet : goal.returns-in-Ok-clause-quiet
-returns-in-Ok-clause-quiet g c = λ o ps. text_still c.args.limit o ps c.args.rest.now c.args.run (λ any. (c.requires.passes.2 any o ps).1)
+returns-in-Ok-clause-quiet g c = λ o ps.
+    text_still c.args.limit o ps c.args.rest.now c.args.run (λ any.
+    (c.requires.passes.2 any o ps).1)
 
 pub returns-in-Err-clause-took : goal.returns-in-Err-clause-took
 returns-in-Err-clause-took g c = λ o ps none.
-    lent_stops c.args.limit g.V.Taker.takes g.V.Taker.refuses o ps c.args.rest.now c.args.run c.args.actor.now c.end_lent.new.actor none c.requires.passes
+    lent_stops c.args.limit g.V.Taker.takes g.V.Taker.refuses o ps c.args.rest.now c.args.run
+    c.args.actor.now c.end_lent.new.actor none c.requires.passes
     c.requires.few c.args.class c.requires.class c.requires.ends c.in-Err.ensures.moved

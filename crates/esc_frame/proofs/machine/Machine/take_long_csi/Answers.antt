@@ -14,7 +14,8 @@ take_in_csi-requires-clause-state g c = (c.open.ensures None (Long [])).0
 pub returns-in-Ok : goal.returns-in-Ok
 returns-in-Ok g c = λ limit.
     opened_took limit (InCsi (Long []) []) c.args.rest.now c.requires.some c.requires.escape
-    (csi_opens limit c.args.rest.now (omega arith) c.requires.escape c.requires.bracket) refl g.V.Taker.takes g.V.Taker.refuses g.V.Taker.is_ready
+    (csi_opens limit c.args.rest.now (omega arith) c.requires.escape c.requires.bracket) refl
+    g.V.Taker.takes g.V.Taker.refuses g.V.Taker.is_ready
     c.args.actor.now c.take_in_csi.new.actor (opened_fresh kind.Csi (Long []))
     g.K.Store.keeps (Fails g.K.Store.denied g.V.Taker.stops g.row.A.Denot)
     c.take_in_csi.new.self c.in-Ok.n
@@ -24,8 +25,10 @@ returns-in-Ok g c = λ limit.
 pub returns-in-Err : goal.returns-in-Err
 returns-in-Err g c = λ limit. (
   opened_stops limit (InCsi (Long []) []) c.args.rest.now c.requires.some c.requires.escape
-      (csi_opens limit c.args.rest.now (omega arith) c.requires.escape c.requires.bracket) refl g.V.Taker.takes g.V.Taker.refuses g.V.Taker.is_ready
-      c.args.actor.now c.take_in_csi.new.actor (opened_fresh kind.Csi (Long [])) (c.in-Err.ensures.took limit (Long []) [] (c.open.ensures limit (Long [])).1),
+      (csi_opens limit c.args.rest.now (omega arith) c.requires.escape c.requires.bracket) refl
+      g.V.Taker.takes g.V.Taker.refuses g.V.Taker.is_ready
+      c.args.actor.now c.take_in_csi.new.actor (opened_fresh kind.Csi (Long []))
+      (c.in-Err.ensures.took limit (Long []) [] (c.open.ensures limit (Long [])).1),
   tt,
   tt,
 )

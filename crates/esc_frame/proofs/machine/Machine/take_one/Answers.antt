@@ -6,12 +6,17 @@ use Rattle.esc_frame.proofs.machine.Machine.take_one.Goals as goal
 
 pub returns-in-Ok-clause-took : goal.returns-in-Ok-clause-took
 returns-in-Ok-clause-took g c = λ u h.
-    quiet_took c.args.limit g.V.Taker.takes g.V.Taker.refuses u u c.args.rest.now 0 _ c.args.actor.now _ (refl, refl) c.requires.some c.classify.ensures
-    g.K.Store.keeps c.step.new.self (one_fresh u c.args.rest.now (no_string g.K.Store.keeps c.args.limit c.args.self.now u h c.requires.between))
+    quiet_took c.args.limit g.V.Taker.takes g.V.Taker.refuses u u c.args.rest.now 0 _
+    c.args.actor.now _ (refl, refl) c.requires.some c.classify.ensures
+    g.K.Store.keeps c.step.new.self
+    (one_fresh u c.args.rest.now (no_string g.K.Store.keeps c.args.limit c.args.self.now u h
+    c.requires.between))
     (c.in-Ok.ensures.moved c.classify.ensures u h)
 
 pub returns-in-Err-clause-took : goal.returns-in-Err-clause-took
 returns-in-Err-clause-took g c = λ u h.
-    quiet_stops c.args.limit g.V.Taker.takes g.V.Taker.refuses u u c.args.rest.now 0 _ c.args.actor.now _ (refl, refl) c.requires.some c.classify.ensures
-    (one_unlent u c.args.rest.now (no_string g.K.Store.keeps c.args.limit c.args.self.now u h c.requires.between))
+    quiet_stops c.args.limit g.V.Taker.takes g.V.Taker.refuses u u c.args.rest.now 0 _
+    c.args.actor.now _ (refl, refl) c.requires.some c.classify.ensures
+    (one_unlent u c.args.rest.now (no_string g.K.Store.keeps c.args.limit c.args.self.now u h
+    c.requires.between))
     (c.in-Err.ensures.moved c.classify.ensures u h)

@@ -7,7 +7,8 @@ use Rattle.esc_frame.proofs.machine.Machine.take_one_in_ground.Goals as goal
 
 pub returns-in-Ok : goal.returns-in-Ok
 returns-in-Ok g c = λ limit. (
-  quiet_took limit g.V.Taker.takes g.V.Taker.refuses Ground Ground c.args.rest.now 0 _ c.args.actor.now _ (refl, refl) c.requires.some c.classify.ensures
+  quiet_took limit g.V.Taker.takes g.V.Taker.refuses Ground Ground c.args.rest.now 0 _
+      c.args.actor.now _ (refl, refl) c.requires.some c.classify.ensures
       g.K.Store.keeps c.in_ground.new.self (one_fresh Ground c.args.rest.now refl)
       (c.in-Ok.ensures.moved limit false),
   one_still limit Ground c.args.rest.now,
@@ -16,7 +17,8 @@ returns-in-Ok g c = λ limit. (
 
 pub returns-in-Err : goal.returns-in-Err
 returns-in-Err g c = λ limit. (
-  quiet_stops limit g.V.Taker.takes g.V.Taker.refuses Ground Ground c.args.rest.now 0 _ c.args.actor.now _ (refl, refl) c.requires.some c.classify.ensures
+  quiet_stops limit g.V.Taker.takes g.V.Taker.refuses Ground Ground c.args.rest.now 0 _
+      c.args.actor.now _ (refl, refl) c.requires.some c.classify.ensures
       (one_unlent Ground c.args.rest.now refl)
       (c.in-Err.ensures.moved limit false),
   tt,

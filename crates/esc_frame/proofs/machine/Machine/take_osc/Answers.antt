@@ -11,18 +11,22 @@ use Rattle.esc_frame.proofs.machine.Machine.take_osc.Goals as goal
 pub returns-in-Ok : goal.returns-in-Ok
 returns-in-Ok g c =
     opened_took c.args.limit (InOsc (Long []) []) c.args.rest.now c.requires.some c.requires.escape
-    (osc_opens c.args.limit c.args.rest.now (omega arith) c.requires.escape c.requires.bracket) refl g.V.Taker.takes g.V.Taker.refuses g.V.Taker.is_ready
+    (osc_opens c.args.limit c.args.rest.now (omega arith) c.requires.escape c.requires.bracket) refl
+    g.V.Taker.takes g.V.Taker.refuses g.V.Taker.is_ready
     c.args.actor.now c.take_body.new.actor (opened_fresh kind.Osc (Long []))
     g.K.Store.keeps (Fails g.K.Store.denied g.V.Taker.stops g.row.A.Denot)
     c.take_body.new.self c.in-Ok.n
-    (c.in-Ok.ensures.took (Long []) [] refl) (c.in-Ok.ensures.quiet (Long []) []) c.in-Ok.ensures.count
+    (c.in-Ok.ensures.took (Long []) [] refl) (c.in-Ok.ensures.quiet (Long []) [])
+    c.in-Ok.ensures.count
 
 pub returns-in-Err : goal.returns-in-Err
 returns-in-Err g c = (
   opened_stops c.args.limit (InOsc (Long []) []) c.args.rest.now c.requires.some c.requires.escape
-      (osc_opens c.args.limit c.args.rest.now (omega arith) c.requires.escape c.requires.bracket) refl g.V.Taker.takes g.V.Taker.refuses
+      (osc_opens c.args.limit c.args.rest.now (omega arith) c.requires.escape c.requires.bracket)
+      refl g.V.Taker.takes g.V.Taker.refuses
       g.V.Taker.is_ready
-      c.args.actor.now c.take_body.new.actor (opened_fresh kind.Osc (Long [])) (c.in-Err.ensures.took (Long []) [] refl),
+      c.args.actor.now c.take_body.new.actor (opened_fresh kind.Osc (Long []))
+      (c.in-Err.ensures.took (Long []) [] refl),
   tt,
   tt,
 )

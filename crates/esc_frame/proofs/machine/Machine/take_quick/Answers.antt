@@ -4,7 +4,8 @@ use Rattle.esc_frame.proofs.machine.Machine.take_quick.Goals as goal
 
 pub loop-at-preserved : goal.loop-at-preserved
 loop-at-preserved g c = (
-  ran_again g.V.Taker.takes g.V.Taker.refuses g.V.Taker.is_ready c.args.rest.now c.loop-at.at c.in-Ok.n c.args.actor.now _ _ c.loop-at.invariant.0
+  ran_again g.V.Taker.takes g.V.Taker.refuses g.V.Taker.is_ready c.args.rest.now c.loop-at.at
+      c.in-Ok.n c.args.actor.now _ _ c.loop-at.invariant.0
       c.in-Ok.ensures.stays,
   c.in-Ok.ensures.ground,
 )
@@ -18,5 +19,6 @@ returns-in-Err-clause-stays g c =
 pub returns-in-Ok-eq0-clause-stays : goal.returns-in-Ok-eq0-clause-stays
 returns-in-Ok-eq0-clause-stays g c =
     let none : c.in-Ok-eq0.field-0 ≡ 0 = search rules in
-    ran_none g.V.Taker.takes g.V.Taker.refuses g.V.Taker.is_ready c.args.rest.now c.loop-at.at c.in-Ok-eq0.field-0 c.args.actor.now _ _ none
+    ran_none g.V.Taker.takes g.V.Taker.refuses g.V.Taker.is_ready c.args.rest.now c.loop-at.at
+    c.in-Ok-eq0.field-0 c.args.actor.now _ _ none
     c.loop-at.invariant.0 c.in-Ok-eq0.ensures.stays

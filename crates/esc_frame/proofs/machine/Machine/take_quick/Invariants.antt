@@ -5,7 +5,8 @@ use Rattle.esc_frame.specs.Machine.Calls.{Ran}
 use Rattle.esc_frame.proofs.machine.Machine.take_quick.Given as goal
 
 abbrev pub invariant-loop-at : goal.invariant-loop-at
-invariant-loop-at g l = Ran g.V.Taker.takes g.V.Taker.is_ready l.rest l.at l.initial.actor l.actor × Holds g.K.Store.keeps None l.self Ground
+invariant-loop-at g l = Ran g.V.Taker.takes g.V.Taker.is_ready l.rest l.at l.initial.actor l.actor
+    × Holds g.K.Store.keeps None l.self Ground
 
 abbrev pub decreases-loop-at : goal.decreases-loop-at
 decreases-loop-at g l = length l.rest - l.at

@@ -6,21 +6,31 @@ use Rattle.esc_frame.proofs.machine.Machine.take_short_csi.Goals as goal
 pub returns-in-Ok-clause-stays : goal.returns-in-Ok-clause-stays
 returns-in-Ok-clause-stays g c = (
   omega arith,
-  short_after None c.args.rest.now c.args.run _ c.requires.some c.requires.escape c.requires.bracket c.requires.few c.requires.read c.requires.ends,
-  λ limit. short_given limit c.args.rest.now c.args.run _ c.requires.some c.requires.escape c.requires.bracket c.requires.few c.requires.read c.requires.ends
+  short_after None c.args.rest.now c.args.run _ c.requires.some c.requires.escape c.requires.bracket
+      c.requires.few c.requires.read c.requires.ends,
+  λ limit. short_given limit c.args.rest.now c.args.run _ c.requires.some c.requires.escape
+      c.requires.bracket c.requires.few c.requires.read c.requires.ends
       g.V.Taker.takes g.V.Taker.refuses c.args.actor.now c.csi_dispatch.new.self
-      (subst (λ es. g.V.Taker.takes c.args.actor.now (CsiDispatch es false (get_or c.args.rest.now (c.args.run + 2) 0)) c.csi_dispatch.new.self)
+      (subst (λ es.
+      g.V.Taker.takes c.args.actor.now
+      (CsiDispatch es false (get_or c.args.rest.now (c.args.run + 2) 0))
+      c.csi_dispatch.new.self)
       c.as_slice.ensures c.in-Ok.ensures.hears),
   c.in-Ok.ensures.ready,
 )
 
 pub returns-in-Ok-clause-quiet : goal.returns-in-Ok-clause-quiet
-returns-in-Ok-clause-quiet g c = λ limit. short_still limit c.args.rest.now c.args.run _ c.requires.some c.requires.escape c.requires.bracket c.requires.few
+returns-in-Ok-clause-quiet g c = λ limit.
+    short_still limit c.args.rest.now c.args.run _ c.requires.some c.requires.escape
+    c.requires.bracket c.requires.few
     c.requires.read c.requires.ends
 
 pub returns-in-Err-clause-stays : goal.returns-in-Err-clause-stays
 returns-in-Err-clause-stays g c =
-    λ limit. short_stops limit c.args.rest.now c.args.run _ c.requires.some c.requires.escape c.requires.bracket c.requires.few c.requires.read c.requires.ends
+    λ limit. short_stops limit c.args.rest.now c.args.run _ c.requires.some c.requires.escape
+    c.requires.bracket c.requires.few c.requires.read c.requires.ends
     g.V.Taker.takes g.V.Taker.refuses c.args.actor.now c.csi_dispatch.new.self
-    (subst (λ es. g.V.Taker.refuses c.args.actor.now (CsiDispatch es false (get_or c.args.rest.now (c.args.run + 2) 0)) c.csi_dispatch.new.self)
+    (subst (λ es.
+    g.V.Taker.refuses c.args.actor.now
+    (CsiDispatch es false (get_or c.args.rest.now (c.args.run + 2) 0)) c.csi_dispatch.new.self)
     c.as_slice.ensures c.in-Err.ensures.hears)

@@ -6,7 +6,8 @@ use Rattle.esc_frame.proofs.machine.Machine.take_some.Goals as goal
 
 pub returns-in-Nothing-clause-took : goal.returns-in-Nothing-clause-took
 returns-in-Nothing-clause-took g c = λ u h.
-    ground_only g.K.Store.keeps c.args.limit c.args.self.now u c.in-Ground.is (ap front_of c.in-Nothing.is) h
+    ground_only g.K.Store.keeps c.args.limit c.args.self.now u c.in-Ground.is
+    (ap front_of c.in-Nothing.is) h
     (λ v. Took g.K.Store.keeps (Fails g.K.Store.denied g.V.Taker.stops g.row.A.Denot)
     c.args.limit g.V.Taker.takes g.V.Taker.refuses
     c.take_first.result v c.args.rest.now c.take_first.new.self c.args.actor.now
@@ -15,7 +16,9 @@ returns-in-Nothing-clause-took g c = λ u h.
 
 pub returns-in-Nothing-clause-quiet : goal.returns-in-Nothing-clause-quiet
 returns-in-Nothing-clause-quiet g c = λ u h.
-    ground_only g.K.Store.keeps c.args.limit c.args.self.now u c.in-Ground.is (ap front_of c.in-Nothing.is) h (λ v. Quietly c.args.limit c.take_first.result v c.args.rest.now)
+    ground_only g.K.Store.keeps c.args.limit c.args.self.now u c.in-Ground.is
+    (ap front_of c.in-Nothing.is) h (λ v.
+    Quietly c.args.limit c.take_first.result v c.args.rest.now)
     c.take_first.ensures.1
 
 pub returns-in-Nothing-clause-count : goal.returns-in-Nothing-clause-count
@@ -32,7 +35,8 @@ returns-in-Csi-clause-took g c = λ u h.
 
 pub returns-in-Csi-clause-quiet : goal.returns-in-Csi-clause-quiet
 returns-in-Csi-clause-quiet g c = λ u h.
-    csi_only g.K.Store.keeps c.args.limit c.args.self.now u c.in-Csi.is h (λ v. Quietly c.args.limit c.take_in_csi.result v c.args.rest.now)
+    csi_only g.K.Store.keeps c.args.limit c.args.self.now u c.in-Csi.is h (λ v.
+    Quietly c.args.limit c.take_in_csi.result v c.args.rest.now)
     (λ o x k. c.take_in_csi.ensures.quiet c.args.limit o x)
 
 pub returns-in-Csi-clause-count : goal.returns-in-Csi-clause-count
@@ -40,7 +44,8 @@ returns-in-Csi-clause-count g c = c.take_in_csi.ensures.count
 
 pub returns-in-Nothing-pending-clause-took : goal.returns-in-Nothing-pending-clause-took
 returns-in-Nothing-pending-clause-took g c = λ u h.
-    osc_only g.K.Store.keeps c.args.limit c.args.self.now u c.in-Osc.is (ap front_of c.in-Nothing-pending.is) h
+    osc_only g.K.Store.keeps c.args.limit c.args.self.now u c.in-Osc.is
+    (ap front_of c.in-Nothing-pending.is) h
     (λ v. Took g.K.Store.keeps (Fails g.K.Store.denied g.V.Taker.stops g.row.A.Denot)
     c.args.limit g.V.Taker.takes g.V.Taker.refuses
     c.take_in_osc.result v c.args.rest.now c.take_in_osc.new.self c.args.actor.now
@@ -49,7 +54,9 @@ returns-in-Nothing-pending-clause-took g c = λ u h.
 
 pub returns-in-Nothing-pending-clause-quiet : goal.returns-in-Nothing-pending-clause-quiet
 returns-in-Nothing-pending-clause-quiet g c = λ u h.
-    osc_only g.K.Store.keeps c.args.limit c.args.self.now u c.in-Osc.is (ap front_of c.in-Nothing-pending.is) h (λ v. Quietly c.args.limit c.take_in_osc.result v c.args.rest.now)
+    osc_only g.K.Store.keeps c.args.limit c.args.self.now u c.in-Osc.is
+    (ap front_of c.in-Nothing-pending.is) h (λ v.
+    Quietly c.args.limit c.take_in_osc.result v c.args.rest.now)
     (λ o ps k. c.take_in_osc.ensures.quiet o ps)
 
 pub returns-in-Nothing-pending-clause-count : goal.returns-in-Nothing-pending-clause-count
@@ -66,7 +73,9 @@ returns-in-Apc-clause-took g c = λ u h.
 
 pub returns-in-Apc-clause-quiet : goal.returns-in-Apc-clause-quiet
 returns-in-Apc-clause-quiet g c = λ u h.
-    apc_only g.K.Store.keeps c.args.limit c.args.self.now u c.in-Apc.is h (λ v. Quietly c.args.limit c.take_in_apc.result v c.args.rest.now) (λ o d k. c.take_in_apc.ensures.quiet o d)
+    apc_only g.K.Store.keeps c.args.limit c.args.self.now u c.in-Apc.is h (λ v.
+    Quietly c.args.limit c.take_in_apc.result v c.args.rest.now) (λ o d k.
+    c.take_in_apc.ensures.quiet o d)
 
 pub returns-in-Apc-clause-count : goal.returns-in-Apc-clause-count
 returns-in-Apc-clause-count g c = c.take_in_apc.ensures.count

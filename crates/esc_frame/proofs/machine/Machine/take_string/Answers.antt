@@ -8,7 +8,8 @@ pub returns-in-Ok-take_terminator-clause-took : goal.returns-in-Ok-take_terminat
 returns-in-Ok-take_terminator-clause-took g c =
     let so = c.in-Ok.ensures.0 in
     let u = after_all Ground (take c.in-Ok.n c.args.rest.now) in
-    ran_took c.args.limit g.V.Taker.takes g.V.Taker.refuses Ground u c.args.rest.now c.in-Ok.n c.args.actor.now _ _ refl so.1 g.K.Store.keeps
+    ran_took c.args.limit g.V.Taker.takes g.V.Taker.refuses Ground u c.args.rest.now c.in-Ok.n
+    c.args.actor.now _ _ refl so.1 g.K.Store.keeps
     c.take_terminator.new.self
     c.in-Ok-take_terminator.more so.2
     (c.in-Ok-take_terminator.ensures.took u so.0)
@@ -17,5 +18,6 @@ pub returns-in-Err-take_terminator-clause-took : goal.returns-in-Err-take_termin
 returns-in-Err-take_terminator-clause-took g c =
     let so = c.in-Ok.ensures.0 in
     let u = after_all Ground (take c.in-Ok.n c.args.rest.now) in
-    ran_ends c.args.limit g.V.Taker.takes g.V.Taker.refuses Ground u c.args.rest.now c.in-Ok.n c.args.actor.now _ _ refl so.1 so.2
+    ran_ends c.args.limit g.V.Taker.takes g.V.Taker.refuses Ground u c.args.rest.now c.in-Ok.n
+    c.args.actor.now _ _ refl so.1 so.2
     (c.in-Err-take_terminator.ensures.took u so.0)

@@ -17,4 +17,5 @@ returns-else-pairs_with-clause-moved g c = λ limit own.
     (hears_moved g.K.Store.keeps (Fails g.K.Store.denied g.V.Taker.stops g.row.A.Denot)
     limit own g.V.Taker.takes g.V.Taker.refuses
     c.print.result Ground (Print c.character-c.result)
-    (record c.args.self.now { state = state.Ground; pending = pending.Nothing }) c.args.actor.now c.print.new.self (refl, refl) c.print.ensures.hears)
+    (record c.args.self.now { state = state.Ground; pending = pending.Nothing }) c.args.actor.now
+    c.print.new.self (refl, refl) c.print.ensures.hears)

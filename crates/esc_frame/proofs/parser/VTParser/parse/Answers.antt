@@ -13,8 +13,14 @@ unfolding LeadsToWithin
 returns-in-Ok-clause-given g c = λ limit s (f, i, h).
     let bs = c.args.bytes.now in
     let u = after_all Ground s in (
-      (f, i, kept_all KeepsText c.args.self.now.limit c.take_all.new.self s bs (c.in-Ok.ensures.holds u h)),
-      given_all c.args.self.now.limit limit i g.V.VTActor.takes s bs c.args.actor.now c.take_all.new.actor
+      (
+        f,
+        i,
+        kept_all KeepsText c.args.self.now.limit c.take_all.new.self s bs
+            (c.in-Ok.ensures.holds u h),
+      ),
+      given_all c.args.self.now.limit limit i g.V.VTActor.takes s bs c.args.actor.now
+          c.take_all.new.actor
           (c.in-Ok.ensures.told u h),
     )
 
@@ -31,7 +37,8 @@ pub returns-in-Err-clause-lent : goal.returns-in-Err-clause-lent
 unfolding LeadsToWithin
 returns-in-Err-clause-lent g c = λ limit s (f, i, h) at lent. (
   refl,
-  refused_lent c.args.self.now.limit limit i g.V.VTActor.takes g.V.VTActor.refuses s c.args.bytes.now c.args.actor.now c.take_all.new.actor (to_ground s at)
+  refused_lent c.args.self.now.limit limit i g.V.VTActor.takes g.V.VTActor.refuses s
+      c.args.bytes.now c.args.actor.now c.take_all.new.actor (to_ground s at)
       (lent_lends c.args.bytes.now lent)
       (c.in-Err.ensures.told (after_all Ground s) h),
 )

@@ -12,8 +12,14 @@ returns-in-Ok-clause-given g c = λ limit s (f, i, h).
     let b = c.args.byte in
     let u = after_all Ground s in
     let k = c.classify.ensures in (
-      (f, i, kept_one KeepsText c.args.self.now.limit c.step.new.self s b _ k (c.in-Ok.ensures.moved k u h).0),
-      given_one c.args.self.now.limit limit i g.V.VTActor.takes s b _ c.args.actor.now c.step.new.actor k
+      (
+        f,
+        i,
+        kept_one KeepsText c.args.self.now.limit c.step.new.self s b _ k
+            (c.in-Ok.ensures.moved k u h).0,
+      ),
+      given_one c.args.self.now.limit limit i g.V.VTActor.takes s b _ c.args.actor.now
+          c.step.new.actor k
           (c.in-Ok.ensures.moved k u h).1,
     )
 

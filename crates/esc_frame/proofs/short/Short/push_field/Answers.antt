@@ -25,13 +25,15 @@ returns-else-push_mark-clause-goes_on c = λ no. absurd (false≢true no)
 
 pub returns-else-push_mark-clause-ends : goal.returns-else-push_mark-clause-ends
 returns-else-push_mark-clause-ends c = λ _ x f.
-    subst (λ s. IsBehind (take s.count s.items) (x ++ take c.push_number-n.result c.args.rest.now)) (sym (c.push_mark.ensures.other c.if-push_mark.false))
+    subst (λ s. IsBehind (take s.count s.items) (x ++ take c.push_number-n.result c.args.rest.now))
+    (sym (c.push_mark.ensures.other c.if-push_mark.false))
     (c.push_number-n.ensures.keeps x f)
 
 pub returns-then-push_mark-2-clause-goes_on : goal.returns-then-push_mark-2-clause-goes_on
 returns-then-push_mark-2-clause-goes_on c = λ _. (
   omega arith,
-  λ x f. mark_closed _ x c.args.rest.now c.requires.some (c.push_mark-else-rest-ge48.ensures.mark c.if-push_mark-2.true x f.so),
+  λ x f. mark_closed _ x c.args.rest.now c.requires.some
+      (c.push_mark-else-rest-ge48.ensures.mark c.if-push_mark-2.true x f.so),
 )
 
 pub returns-then-push_mark-2-clause-ends : goal.returns-then-push_mark-2-clause-ends
@@ -42,5 +44,6 @@ returns-else-push_mark-2-clause-goes_on c = λ no. absurd (false≢true no)
 
 pub returns-else-push_mark-2-clause-ends : goal.returns-else-push_mark-2-clause-ends
 returns-else-push_mark-2-clause-ends c = λ _ x f.
-    subst (λ s. IsBehind (take s.count s.items) (x ++ take 0 c.args.rest.now)) (sym (c.push_mark-else-rest-ge48.ensures.other c.if-push_mark-2.false))
+    subst (λ s. IsBehind (take s.count s.items) (x ++ take 0 c.args.rest.now))
+    (sym (c.push_mark-else-rest-ge48.ensures.other c.if-push_mark-2.false))
     (none_behind _ x f)

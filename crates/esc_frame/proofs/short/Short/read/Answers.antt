@@ -12,7 +12,8 @@ returns-then-not-goes_on-clause-keeps c =
     let s = c.push_field-n.new.self in
     let no : c.push_field-n.result.1 ≡ false = search rules in
     ends_short _ _ (omega (arith, length-take s.count s.items, s.fits))
-    (subst (λ y. IsBehind (take s.count s.items) y) (run_joins rest i _) (c.push_field-n.ensures.ends no (take i rest) c.loop-at.invariant.1))
+    (subst (λ y. IsBehind (take s.count s.items) y) (run_joins rest i _)
+    (c.push_field-n.ensures.ends no (take i rest) c.loop-at.invariant.1))
 
 pub loop-at-preserved : goal.loop-at-preserved
 loop-at-preserved c =
@@ -22,11 +23,14 @@ loop-at-preserved c =
     let yes : c.push_field-n.result.1 ≡ true = search rules in
     let l = tail_length rest i in (
       omega (arith, c.push_field-n.ensures.few),
-      subst (λ y. IsFront (take s.count s.items) y) (run_joins rest i _) ((c.push_field-n.ensures.goes_on yes).1 (take i rest) c.loop-at.invariant.1),
+      subst (λ y. IsFront (take s.count s.items) y) (run_joins rest i _)
+          ((c.push_field-n.ensures.goes_on yes).1 (take i rest) c.loop-at.invariant.1),
     )
 
 pub returns-else-self-lt31-clause-keeps : goal.returns-else-self-lt31-clause-keeps
-returns-else-self-lt31-clause-keeps c = let s = c.loop-at.self in ends_short _ _ (omega (arith, length-take s.count s.items, s.fits)) c.loop-at.invariant.1.so
+returns-else-self-lt31-clause-keeps c = let s = c.loop-at.self in
+    ends_short _ _ (omega (arith, length-take s.count s.items, s.fits)) c.loop-at.invariant.1.so
 
 pub returns-after-loop-at-clause-keeps : goal.returns-after-loop-at-clause-keeps
-returns-after-loop-at-clause-keeps c = let s = c.loop-at.self in ends_short _ _ (omega (arith, length-take s.count s.items, s.fits)) c.loop-at.invariant.1.so
+returns-after-loop-at-clause-keeps c = let s = c.loop-at.self in
+    ends_short _ _ (omega (arith, length-take s.count s.items, s.fits)) c.loop-at.invariant.1.so

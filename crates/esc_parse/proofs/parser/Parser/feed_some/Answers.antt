@@ -14,10 +14,10 @@ unfolding WasFedWithin
 returns-in-Ok-clause-given g c = λ limit s h.
     let w = IfOk-at_ok _ c.in-Ok.is (c.parse_some-result.ensures.given limit s h.0) in
     let r = performs_fed (At value_of g.S.Sink.takes) (At value_of g.S.Sink.refuses) limit s
-        (take c.in-Ok.taken c.args.bytes.now) _
+    (take c.in-Ok.taken c.args.bytes.now) _
     c.parse_some-result.new.actor w.0.1
     (subst (λ u. Hooks limit u (mode_from plain (events_within limit s))) (sym c.take.ensures.taken)
-        h.1) in ((w.0.0, r.0), r.1)
+    h.1) in ((w.0.0, r.0), r.1)
 
 pub returns-in-Ok-clause-quiet : goal.returns-in-Ok-clause-quiet
 unfolding WasFedWithin
@@ -33,5 +33,5 @@ returns-in-Err-clause-refused g c = λ limit s h.
       performs_some (At value_of g.S.Sink.takes) (At value_of g.S.Sink.refuses) limit s
           c.args.bytes.now _ c.parse_some-result.new.actor w.1
           (subst (λ u. Hooks limit u (mode_from plain (events_within limit s)))
-              (sym c.take.ensures.taken) h.1),
+          (sym c.take.ensures.taken) h.1),
     )

@@ -9,8 +9,11 @@ pub returns-in-Some-clause-some : goal.returns-in-Some-clause-some
 unfolding WasFedWithin
 returns-in-Some-clause-some g c = λ limit s h.
     let (given, quiet) = c.in-Some.ensures.given limit s h.0 in (
-      (given.0, hooks_by limit _ s (take c.in-Some.n c.args.bytes.now) (Print c.in-Some.c) given.1
-          refl h.1),
+      (
+        given.0,
+        hooks_by limit _ s (take c.in-Some.n c.args.bytes.now) (Print c.in-Some.c) given.1
+            refl h.1,
+      ),
       finds_character limit s c.args.bytes.now c.in-Some.n c.in-Some.c c.in-Some.ensures.count.1
           given.1 quiet,
     )

@@ -27,5 +27,5 @@ returns-in-Err-clause-refused g c = λ limit s h.
       performs_some (At value_of g.S.Sink.takes) (At value_of g.S.Sink.refuses) limit s
           c.args.bytes.now _ c.parse-result.new.actor w.1
           (subst (λ u. Hooks limit u (mode_from plain (events_within limit s)))
-              (sym c.take.ensures.taken) h.1),
+          (sym c.take.ensures.taken) h.1),
     )
