@@ -1,10 +1,16 @@
 //! A filter for terminal streams of unknown origin: of what a stream means only what a policy
 //! admits is written, as it comes.
 //!
-//! [`filter`] reads a stream and writes the text of those of its actions that a [`Policy`], or an
-//! [`Admit`] of the caller's own, admits; [`Filter`] does it piece by piece. What is written reads
-//! back as these actions and as nothing else, so no text of the stream becomes a sequence, however
-//! broken it is. [`Encoder`] writes actions one at a time.
+//! [`filter_stream`] reads a stream and writes the text of those of its actions that a [`Policy`],
+//! or an [`Admit`] of the caller's own, admits; [`Filter`] does it piece by piece. What is written
+//! reads back as these actions and as nothing else, so no text of the stream becomes a sequence,
+//! however broken it is. [`Encoder`] writes actions one at a time.
+//!
+//! ```text
+//! let mut filter = Filter::new(alloc, 65_536, Policy::Color);
+//! filter.feed(b"\x1b]0;title\x07\x1b[1mbold")?;
+//! filter.text()       // "\x1b[1mbold"
+//! ```
 #![tactic(auto)]
 
 mod admit;
