@@ -18,7 +18,19 @@ is_loud (command.SetIconName t) = true
 is_loud (command.SetIconNameSun t) = true
 is_loud (command.SystemNotification t) = true
 is_loud (command.RxvtExtension ts) = true
-is_loud _ = false
+is_loud (command.SetHyperlink l) = false
+is_loud (command.ClearSelection s) = false
+is_loud (command.QuerySelection s) = false
+is_loud (command.SetSelection s t) = false
+is_loud (command.ITermProprietary c) = false
+is_loud (command.FinalTermSemanticPrompt p) = false
+is_loud (command.ChangeColorNumber ps) = false
+is_loud (command.ChangeDynamicColors n cs) = false
+is_loud (command.ResetDynamicColor n) = false
+is_loud (command.CurrentWorkingDirectory t) = false
+is_loud (command.ResetColors is) = false
+is_loud (command.ConEmuProgress p) = false
+is_loud (command.Unspecified ps) = false
 
 -- A value that stays: no loud command, no `ESC k`, by which screen and tmux set a title, no short
 -- control and nothing of a mode, which may pass on a title, and nothing that does not read back as

@@ -67,7 +67,19 @@ fn is_loud<A: Allocator>(command: &OperatingSystemCommand<A>) -> bool
         | OperatingSystemCommand::SetIconNameSun(_)
         | OperatingSystemCommand::SystemNotification(_)
         | OperatingSystemCommand::RxvtExtension(_) => true,
-        _ => false,
+        OperatingSystemCommand::SetHyperlink(_)
+        | OperatingSystemCommand::ClearSelection(_)
+        | OperatingSystemCommand::QuerySelection(_)
+        | OperatingSystemCommand::SetSelection(_, _)
+        | OperatingSystemCommand::ITermProprietary(_)
+        | OperatingSystemCommand::FinalTermSemanticPrompt(_)
+        | OperatingSystemCommand::ChangeColorNumber(_)
+        | OperatingSystemCommand::ChangeDynamicColors(_, _)
+        | OperatingSystemCommand::ResetDynamicColor(_)
+        | OperatingSystemCommand::CurrentWorkingDirectory(_)
+        | OperatingSystemCommand::ResetColors(_)
+        | OperatingSystemCommand::ConEmuProgress(_)
+        | OperatingSystemCommand::Unspecified(_) => false,
     }
 }
 
