@@ -3,7 +3,8 @@
 use crate::command_words::write_command;
 use crate::controls::CONTROLS;
 use crate::csi_words::write_csi;
-use crate::device_words::{write_enter, write_kitty, write_query, write_short, write_sixel};
+use crate::device_words::kitty::write_kitty;
+use crate::device_words::{write_enter, write_query, write_short, write_sixel};
 use crate::escapes::{ESCAPES, PLACES, SETS};
 use crate::functions::{Function, function_of};
 use crate::named::words_of;

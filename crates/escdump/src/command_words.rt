@@ -1,9 +1,14 @@
 //! Operating system commands in words.
 
-use crate::writing::{write_between, write_debug, write_quoted, write_words};
+mod iterm;
+mod prompts;
+
+use crate::command_words::iterm::write_iterm;
+use crate::command_words::prompts::write_prompt;
+use crate::writing::{write_between, write_escaped, write_quoted, write_text, write_words};
 use escape_stream::osc::{
-    ChangeColorPair, ColorOrQuery, DynamicColorNumber, Hyperlink, OperatingSystemCommand, Params,
-    Progress, Selection,
+    ChangeColorPair, ColorOrQuery, DynamicColorNumber, Hyperlink,
+    OperatingSystemCommand as Command, Params, Progress, Selection,
 };
 use escape_stream::{Items, Text};
 use std::alloc::Allocator;
@@ -12,48 +17,45 @@ use std::{fmt, str};
 
 /// Writes an operating system command in words.
 pub fn write_command<A: Allocator, W: fmt::Write>(
-    command: &OperatingSystemCommand<A>,
+    command: &Command<A>,
     f: &mut fmt::Formatter<W>,
 ) -> fmt::Result {
     match command {
-        OperatingSystemCommand::SetIconNameAndWindowTitle(text) => {
-            write_text("OSC 0 icon name and window title", text, f)
+        Command::SetIconNameAndWindowTitle(text) => {
+            write_text("OSC 0 icon name and window title", text.as_str(), f)
         }
-        OperatingSystemCommand::SetIconName(text) => write_text("OSC 1 icon name", text, f),
-        OperatingSystemCommand::SetWindowTitle(text) => write_text("OSC 2 window title", text, f),
-        OperatingSystemCommand::SetWindowTitleSun(text) => write_text(
-            "OSC l window title",
-            text,
-            f,
-        ),
-        OperatingSystemCommand::SetIconNameSun(text) => write_text("OSC L icon name", text, f),
-        OperatingSystemCommand::SystemNotification(text) => write_text(
-            "OSC 9 notification",
-            text,
-            f,
-        ),
-        OperatingSystemCommand::CurrentWorkingDirectory(text) => {
-            write_text("OSC 7 working directory", text, f)
+        Command::SetIconName(text) => write_text("OSC 1 icon name", text.as_str(), f),
+        Command::SetWindowTitle(text) => write_text("OSC 2 window title", text.as_str(), f),
+        Command::SetWindowTitleSun(text) => write_text("OSC l window title", text.as_str(), f),
+        Command::SetIconNameSun(text) => write_text("OSC L icon name", text.as_str(), f),
+        Command::SystemNotification(text) => write_text("OSC 9 notification", text.as_str(), f),
+        Command::CurrentWorkingDirectory(text) => {
+            write_text("OSC 7 working directory", text.as_str(), f)
         }
-        OperatingSystemCommand::SetHyperlink(link) => write_link(link.as_ref(), f),
-        OperatingSystemCommand::ClearSelection(at) => write_selection(at, " is cleared", f),
-        OperatingSystemCommand::QuerySelection(at) => write_selection(at, " is asked for", f),
-        OperatingSystemCommand::SetSelection(at, text) => {
-            write_selection(at, " is set to", f)?;
-            write_text("", text, f)
-        }
-        other => write_other(other, f),
+        Command::SetHyperlink(link) => write_link(link.as_ref(), f),
+        Command::ClearSelection(at) => write_selection(at, " is cleared", f),
+        Command::QuerySelection(at) => write_selection(at, " is asked for", f),
+        Command::SetSelection(at, text) => write_selected(at, text.as_str(), f),
+        Command::ChangeColorNumber(pairs) => write_pairs(pairs.as_slice(), f),
+        Command::ChangeDynamicColors(number, colors) => write_colors(*number, colors.as_slice(), f),
+        Command::ResetDynamicColor(number) => write_reset(*number, f),
+        Command::ResetColors(indexes) => write_indexes(indexes.as_slice(), f),
+        Command::RxvtExtension(parts) => write_texts(parts.as_slice(), f),
+        Command::ConEmuProgress(progress) => write_progress(progress, f),
+        Command::ITermProprietary(command) => write_iterm(command, f),
+        Command::FinalTermSemanticPrompt(prompt) => write_prompt(prompt, f),
+        Command::Unspecified(parts) => write_parts(parts.as_slice(), f),
     }
 }
 
-// A text, after what it is.
-fn write_text<A: Allocator, W: fmt::Write>(
-    what: &str,
-    text: &Text<A>,
+// The text that the clipboard is set to.
+fn write_selected<W: fmt::Write>(
+    at: &Selection,
+    text: &str,
     f: &mut fmt::Formatter<W>,
 ) -> fmt::Result {
-    f.write_str(what)?;
-    write_between(" \"", text, "\"", f)
+    write_selection(at, " is set to", f)?;
+    write_text("", text, f)
 }
 
 // The clipboard, and what is done to it.
@@ -66,37 +68,6 @@ fn write_selection<W: fmt::Write>(
     f.write_str(done)
 }
 
-// A command with colours, parts or numbers, or of another program.
-fn write_other<A: Allocator, W: fmt::Write>(
-    command: &OperatingSystemCommand<A>,
-    f: &mut fmt::Formatter<W>,
-) -> fmt::Result {
-    match command {
-        OperatingSystemCommand::ChangeColorNumber(pairs) => write_pairs(pairs.as_slice(), f),
-        OperatingSystemCommand::ChangeDynamicColors(number, colors) => write_colors(
-            *number,
-            colors.as_slice(),
-            f,
-        ),
-        OperatingSystemCommand::ResetDynamicColor(number) => write_reset(*number, f),
-        OperatingSystemCommand::ResetColors(indexes) => write_indexes(indexes.as_slice(), f),
-        OperatingSystemCommand::RxvtExtension(parts) => write_texts(parts.as_slice(), f),
-        OperatingSystemCommand::ConEmuProgress(progress) => write_progress(progress, f),
-        OperatingSystemCommand::ITermProprietary(command) => write_debug(
-            "OSC 1337 iTerm2 ",
-            command,
-            f,
-        ),
-        OperatingSystemCommand::FinalTermSemanticPrompt(prompt) => write_debug(
-            "OSC 133 prompt ",
-            prompt,
-            f,
-        ),
-        OperatingSystemCommand::Unspecified(parts) => write_parts(parts.as_slice(), f),
-        _ => Ok(()),
-    }
-}
-
 // A link, or the end of one.
 fn write_link<A: Allocator, W: fmt::Write>(
     link: Option<&Hyperlink<A>>,
@@ -105,7 +76,7 @@ fn write_link<A: Allocator, W: fmt::Write>(
     let Some(link) = link else {
         return f.write_str("OSC 8 hyperlink ends");
     };
-    write_text("OSC 8 hyperlink", &link.uri, f)?;
+    write_text("OSC 8 hyperlink", link.uri.as_str(), f)?;
     write_params(&link.params, f)
 }
 
@@ -115,9 +86,18 @@ fn write_params<A: Allocator, W: fmt::Write>(
     f: &mut fmt::Formatter<W>,
 ) -> fmt::Result {
     for (key, value) in params {
-        write_words(&[" ", key, "=", value], f)?;
+        write_param(key, value, f)?;
     }
     Ok(())
+}
+
+// A parameter of a link.
+fn write_param<W: fmt::Write>(key: &str, value: &str, f: &mut fmt::Formatter<W>) -> fmt::Result {
+    f.write_str(" \"")?;
+    write_escaped(key, f)?;
+    f.write_str("=")?;
+    write_escaped(value, f)?;
+    f.write_str("\"")
 }
 
 // Colours of the palette.
@@ -220,12 +200,11 @@ fn write_parts<A: Allocator, W: fmt::Write>(
     parts: &[Items<u8, A>],
     f: &mut fmt::Formatter<W>,
 ) -> fmt::Result {
-    f.write_str("OSC")?;
-    let mut separator = " ";
+    let mut separator = "OSC \"";
     for part in parts {
-        let text = str::from_utf8(part.as_slice()).unwrap_or("\u{fffd}");
-        write_words(&[separator, text], f)?;
+        f.write_str(separator)?;
+        write_escaped(str::from_utf8(part.as_slice()).unwrap_or("\u{fffd}"), f)?;
         separator = ";";
     }
-    f.write_str(", not interpreted")
+    f.write_str("\", not interpreted")
 }

@@ -6,7 +6,7 @@ use crate::marks::{Marks, is_mark};
 use crate::modes::mode_words;
 use crate::named::words_of;
 use crate::renditions::{rendition_words, write_renditions};
-use crate::writing::{write_between, write_words};
+use crate::writing::{write_between, write_escaped_char, write_words};
 use escape_stream::csi::Unspecified;
 use escape_stream::{CSI, CsiParam};
 use std::alloc::Allocator;
@@ -45,12 +45,10 @@ fn write_named<W: fmt::Write>(
     let marks = Marks::of(params);
     match control_function(marks.as_bytes(), last) {
         Some(function) => write_function(function, params, f),
-        None => write_between(
-            "CSI without a name, of the final byte ",
-            &char::from(last),
-            "",
-            f,
-        ),
+        None => {
+            f.write_str("CSI without a name, of the final byte ")?;
+            write_escaped_char(char::from(last), f)
+        }
     }
 }
 
@@ -113,7 +111,7 @@ fn write_entry<W: fmt::Write>(param: CsiParam, f: &mut fmt::Formatter<W>) -> fmt
     }
 }
 
-// Modes, private ones or not, by their numbers, each with what holds while it is set.
+// Modes, private ones or not, by their numbers, each with its words.
 fn write_modes<W: fmt::Write>(
     params: &[CsiParam],
     is_private: bool,

@@ -1,9 +1,10 @@
 //! Device control strings and images in words.
 
+pub mod kitty;
+
 use crate::functions::Parameters::Numbers;
 use crate::functions::{Function, function_of};
-use crate::writing::{write_between, write_debug, write_quoted, write_words};
-use escape_stream::apc::{KittyImage, KittyImageTransmit};
+use crate::writing::{write_between, write_escaped_char, write_quoted, write_words};
 use escape_stream::{EnterDeviceControlMode, ShortDeviceControl, Sixel, Text};
 use std::alloc::Allocator;
 use std::fmt;
@@ -83,7 +84,7 @@ pub fn write_short<A: Allocator, W: fmt::Write>(
     write_header(short.intermediates.as_slice(), short.byte, &[], f)?;
     f.write_str(" \"")?;
     for byte in short.content.as_slice() {
-        f.write_char(char::from(*byte))?;
+        write_escaped_char(char::from(*byte), f)?;
     }
     f.write_str("\"")
 }
@@ -105,73 +106,4 @@ pub fn write_sixel<A: Allocator, W: fmt::Write>(
     let (width, height) = image.dimensions();
     write_between("DCS sixel image, width ", &width, ", height ", f)?;
     height.fmt(f)
-}
-
-/// Writes a command of kitty's graphics protocol in words.
-pub fn write_kitty<A: Allocator, W: fmt::Write>(
-    image: &KittyImage<A>,
-    f: &mut fmt::Formatter<W>,
-) -> fmt::Result {
-    f.write_str("APC kitty image ")?;
-    match image {
-        KittyImage::TransmitData { transmit, .. } => write_image("transmit", transmit, f),
-        KittyImage::TransmitDataAndDisplay { transmit, .. } => write_image(
-            "transmit and display",
-            transmit,
-            f,
-        ),
-        KittyImage::Query { transmit } => write_image("query", transmit, f),
-        KittyImage::TransmitFrame { transmit, .. } => write_image("frame", transmit, f),
-        KittyImage::Display {
-            image_id,
-            image_number,
-            ..
-        } => {
-            f.write_str("display")?;
-            write_numbers(*image_id, *image_number, f)
-        }
-        KittyImage::Delete { what, .. } => write_debug("delete ", what, f),
-        KittyImage::ComposeFrame { frame, .. } => write_debug("compose ", frame, f),
-    }
-}
-
-// An image that is sent: what is done with it, its size, its format and its numbers.
-fn write_image<A: Allocator, W: fmt::Write>(
-    done: &str,
-    image: &KittyImageTransmit<A>,
-    f: &mut fmt::Formatter<W>,
-) -> fmt::Result {
-    f.write_str(done)?;
-    write_number(", width ", image.width, f)?;
-    write_number(", height ", image.height, f)?;
-    if let Some(format) = image.format {
-        write_debug(", ", &format, f)?;
-    }
-    write_numbers(image.image_id, image.image_number, f)?;
-    if image.more_data_follows {
-        return f.write_str(", more data follows");
-    }
-    Ok(())
-}
-
-// The numbers of an image.
-fn write_numbers<W: fmt::Write>(
-    id: Option<u32>,
-    number: Option<u32>,
-    f: &mut fmt::Formatter<W>,
-) -> fmt::Result {
-    write_number(", id ", id, f)?;
-    write_number(", number ", number, f)
-}
-
-// A number after its name, where there is one.
-fn write_number<W: fmt::Write>(
-    name: &str,
-    number: Option<u32>,
-    f: &mut fmt::Formatter<W>,
-) -> fmt::Result {
-    match number {
-        Some(number) => write_between(name, &number, "", f),
-        None => Ok(()),
-    }
 }

@@ -156,7 +156,7 @@ impl<A: Allocator + Copy> Dump<A> {
         match self.options.form {
             Form::Segments => self.add_segment(is_finished),
             Form::Words => self.add_words(is_finished),
-            _ => self.push_bytes(),
+            Form::Bytes | Form::Help => self.push_bytes(),
         }
     }
 
@@ -212,7 +212,7 @@ impl<A: Allocator + Copy> Dump<A> {
             self.page
                 .push(self.item.kind_words().as_bytes(), usize::MAX)?;
         }
-        self.page.push(self.words.text.as_bytes(), usize::MAX)?;
+        self.page.push_words(self.words.text.as_str())?;
         if self.words.data.is_empty() {
             return Ok(());
         }

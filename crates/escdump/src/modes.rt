@@ -1,15 +1,15 @@
-//! Modes, by their numbers: what holds while each is set.
+//! Modes, by their numbers: nouns for what each is, which read true after "set" and after "reset".
 
 use crate::named::{Named, words_of};
 
 // Modes of ECMA-48 (fifth edition, 7.2) and of the VT510
 // (<https://vt100.net/docs/vt510-rm/chapter4.html>).
 const MODES: &[Named] = &[
-    Named(2, "KAM keyboard is locked"),
-    Named(3, "CRM controls are shown"),
-    Named(4, "IRM characters are inserted"),
-    Named(12, "SRM no local echo"),
-    Named(20, "LNM line feed is new line"),
+    Named(2, "KAM keyboard lock"),
+    Named(3, "CRM visible controls"),
+    Named(4, "IRM insertion of characters"),
+    Named(12, "SRM suppression of local echo"),
+    Named(20, "LNM line feed as new line"),
 ];
 
 // Private modes of DEC (<https://vt100.net/docs/vt510-rm/chapter4.html>) and xterm
@@ -32,11 +32,11 @@ const PRIVATE_MODES: &[Named] = &[
     Named(12, "blinking cursor"),
     Named(18, "DECPFF print form feed"),
     Named(19, "DECPEX print full screen"),
-    Named(25, "DECTCEM cursor is shown"),
+    Named(25, "DECTCEM visible cursor"),
     Named(30, "scrollbar"),
     Named(35, "font-shifting keys"),
     Named(38, "DECTEK Tektronix"),
-    Named(40, "80 and 132 columns allowed"),
+    Named(40, "permission to change between 80 and 132 columns"),
     Named(41, "more(1) fix"),
     Named(42, "DECNRCM national character sets"),
     Named(44, "margin bell"),
@@ -44,10 +44,10 @@ const PRIVATE_MODES: &[Named] = &[
     Named(46, "logging"),
     Named(47, "alternate screen"),
     Named(66, "DECNKM application keypad"),
-    Named(67, "DECBKM backarrow key sends backspace"),
+    Named(67, "DECBKM backarrow key as backspace"),
     Named(69, "DECLRMM left and right margins"),
     Named(80, "DECSDM sixel display"),
-    Named(95, "DECNCSM no clearing on column change"),
+    Named(95, "DECNCSM protection from clearing on column change"),
     Named(1000, "mouse buttons"),
     Named(1001, "mouse highlights"),
     Named(1002, "mouse buttons and drags"),
@@ -61,21 +61,24 @@ const PRIVATE_MODES: &[Named] = &[
     Named(1014, "fast scroll"),
     Named(1015, "mouse as urxvt"),
     Named(1016, "mouse as SGR in pixels"),
-    Named(1034, "Meta sets the eighth bit"),
+    Named(1034, "eighth bit for Meta"),
     Named(1035, "special modifiers for Alt and NumLock"),
-    Named(1036, "Meta sends ESC"),
-    Named(1037, "Delete key sends DEL"),
-    Named(1039, "Alt sends ESC"),
-    Named(1040, "selection is kept"),
-    Named(1041, "selection is the clipboard"),
-    Named(1042, "bell is urgent"),
-    Named(1043, "bell raises the window"),
-    Named(1044, "clipboard is kept"),
+    Named(1036, "ESC for Meta"),
+    Named(1037, "DEL for the Delete key"),
+    Named(1039, "ESC for Alt"),
+    Named(1040, "keeping of the selection"),
+    Named(1041, "clipboard as selection"),
+    Named(1042, "urgency hint on bell"),
+    Named(1043, "raising of the window on bell"),
+    Named(1044, "keeping of the clipboard"),
     Named(1045, "extended reverse wraparound"),
-    Named(1046, "alternate screen allowed"),
+    Named(1046, "permission to change to the alternate screen"),
     Named(1047, "alternate screen, cleared at its end"),
-    Named(1048, "cursor is saved"),
-    Named(1049, "alternate screen, cleared, and cursor is saved"),
+    Named(1048, "saved cursor"),
+    Named(
+        1049,
+        "alternate screen, cleared at its start, with saved cursor",
+    ),
     Named(1050, "function keys of terminfo"),
     Named(1051, "function keys of Sun"),
     Named(1052, "function keys of HP"),
@@ -89,7 +92,7 @@ const PRIVATE_MODES: &[Named] = &[
     Named(2048, "reports of the size"),
 ];
 
-/// What holds while the mode of this number is set, where it has words.
+/// What the mode of this number is, where it has words.
 pub fn mode_words(number: i64, is_private: bool) -> Option<&'static str> {
     if is_private {
         private_mode_words(number)

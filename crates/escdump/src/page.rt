@@ -57,8 +57,18 @@ impl<A: Allocator + Copy> Page<A> {
     /// and each other byte as `\x` with two hexadecimal digits. Where they would go past this
     /// column, the first ones, and `..`. The error is that memory was refused.
     pub fn push(&mut self, bytes: &[u8], room: usize) -> Result<(), AllocError> {
+        self.push_escaped(bytes, room, false)
+    }
+
+    // Appends the bytes in this way, inside quotes also each `"` as `\"`.
+    fn push_escaped(
+        &mut self,
+        bytes: &[u8],
+        room: usize,
+        is_quoted: bool,
+    ) -> Result<(), AllocError> {
         for chunk in bytes.utf8_chunks() {
-            if !self.push_chunk(chunk, room)? {
+            if !self.push_chunk(chunk, room, is_quoted)? {
                 return self.cut();
             }
         }
@@ -66,10 +76,18 @@ impl<A: Allocator + Copy> Page<A> {
     }
 
     // Appends some of the bytes, as far as there is room, and returns whether there is.
-    fn push_chunk(&mut self, chunk: Utf8Chunk<'_>, room: usize) -> Result<bool, AllocError> {
+    fn push_chunk(
+        &mut self,
+        chunk: Utf8Chunk<'_>,
+        room: usize,
+        is_quoted: bool,
+    ) -> Result<bool, AllocError> {
         for c in chunk.valid().chars() {
             if self.columns >= room {
                 return Ok(false);
+            }
+            if c == '\\' || (is_quoted && c == '"') {
+                self.push_shown('\\')?;
             }
             self.push_char(c)?;
         }
@@ -97,11 +115,20 @@ impl<A: Allocator + Copy> Page<A> {
         self.pad(columns)
     }
 
-    /// Appends bytes after others, and a quote, escaped.
+    /// Appends bytes after others, and a quote, escaped as before, and each `"` among them as `\"`.
     pub fn push_quoted(&mut self, before: &[u8], bytes: &[u8]) -> Result<(), AllocError> {
         self.push(before, usize::MAX)?;
-        self.push(bytes, usize::MAX)?;
+        self.push_escaped(bytes, usize::MAX, true)?;
         self.push(b"\"", usize::MAX)
+    }
+
+    /// Appends words, in whose texts each `\` and `"` has a `\` before it already. What is not
+    /// shown as itself is escaped.
+    pub fn push_words(&mut self, words: &str) -> Result<(), AllocError> {
+        for c in words.chars() {
+            self.push_char(c)?;
+        }
+        Ok(())
     }
 
     // Marks that bytes are left out.
@@ -110,12 +137,9 @@ impl<A: Allocator + Copy> Page<A> {
         self.push_shown('.')
     }
 
-    // Appends a character, escaped.
+    // Appends a character, as itself where it is shown, else its bytes.
     fn push_char(&mut self, c: char) -> Result<(), AllocError> {
-        if c == '\\' {
-            self.push_shown('\\')?;
-            self.push_shown('\\')
-        } else if is_shown(c) {
+        if is_shown(c) {
             self.push_shown(c)
         } else {
             let mut bytes = [0u8; 4];

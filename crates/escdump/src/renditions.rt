@@ -101,25 +101,32 @@ fn underlined(kind: i64) -> &'static str {
 /// A rendition in words.
 pub fn rendition_words(sgr: Sgr) -> &'static str {
     match sgr {
-        Sgr::Underline(Underline::Curly) => underlined(3),
-        Sgr::Underline(Underline::Dotted) => underlined(4),
-        Sgr::Underline(Underline::Dashed) => underlined(5),
-        other => written(number_of_rendition(other)),
+        Sgr::Reset => written(0),
+        Sgr::Intensity(intensity) => written(number_of_intensity(intensity)),
+        Sgr::Italic(true) => written(3),
+        Sgr::Italic(false) => written(23),
+        Sgr::Underline(underline) => underlined(number_of_underline(underline)),
     }
 }
 
-// The number of a rendition, for an underline of a kind of its own that of any.
-fn number_of_rendition(sgr: Sgr) -> i64 {
-    match sgr {
-        Sgr::Reset => 0,
-        Sgr::Intensity(Intensity::Bold) => 1,
-        Sgr::Intensity(Intensity::Half) => 2,
-        Sgr::Intensity(Intensity::Normal) => 22,
-        Sgr::Italic(true) => 3,
-        Sgr::Italic(false) => 23,
-        Sgr::Underline(Underline::None) => 24,
-        Sgr::Underline(Underline::Double) => 21,
-        Sgr::Underline(_) => 4,
+// The number of an intensity.
+fn number_of_intensity(intensity: Intensity) -> i64 {
+    match intensity {
+        Intensity::Bold => 1,
+        Intensity::Half => 2,
+        Intensity::Normal => 22,
+    }
+}
+
+// The number of a kind of underline, after `4:`.
+fn number_of_underline(underline: Underline) -> i64 {
+    match underline {
+        Underline::None => 0,
+        Underline::Single => 1,
+        Underline::Double => 2,
+        Underline::Curly => 3,
+        Underline::Dotted => 4,
+        Underline::Dashed => 5,
     }
 }
 

@@ -12,7 +12,13 @@ pub fn resumed(segment: Segment<'_>) -> &'static [u8] {
         SegmentKind::Ignored => b"\x1bX",
         SegmentKind::Dcs => b"\x1bPp",
         SegmentKind::CutShort => opening(segment.bytes),
-        _ => b"",
+        SegmentKind::Character
+        | SegmentKind::Broken
+        | SegmentKind::Stray
+        | SegmentKind::Control
+        | SegmentKind::Terminator
+        | SegmentKind::Escape
+        | SegmentKind::Csi => b"",
     }
 }
 
@@ -43,7 +49,16 @@ pub fn held_back(segment: Segment<'_>) -> usize {
     match segment.kind {
         SegmentKind::Osc => begun_character(segment.bytes),
         SegmentKind::Broken => segment.bytes.len(),
-        _ => 0,
+        SegmentKind::Character
+        | SegmentKind::Stray
+        | SegmentKind::Control
+        | SegmentKind::Terminator
+        | SegmentKind::Escape
+        | SegmentKind::Csi
+        | SegmentKind::Dcs
+        | SegmentKind::Apc
+        | SegmentKind::Ignored
+        | SegmentKind::CutShort => 0,
     }
 }
 

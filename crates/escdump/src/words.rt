@@ -23,7 +23,7 @@ enum Last {
 /// allows.
 #[derive(Drop)]
 pub struct Words<A: Allocator = Global> {
-    /// The words.
+    /// The words. A text of the stream stands in quotes, and has a `\` before each `"` and `\`.
     pub text: Text<A>,
     /// The data of a mode.
     pub data: Vec<u8, A>,
@@ -79,7 +79,14 @@ impl<A: Allocator> Words<A> {
             Action::Control(ControlCode::Cancel) if self.is_ending => Ok(()),
             _ if self.text.len() > self.limit => Ok(()),
             Action::CSI(CSI::Sgr(sgr)) => self.add_rendition(*sgr),
-            other => self.add(other),
+            Action::CSI(CSI::Unspecified(_))
+            | Action::Control(_)
+            | Action::Esc(_)
+            | Action::OperatingSystemCommand(_)
+            | Action::KittyImage(_)
+            | Action::Sixel(_)
+            | Action::XtGetTcap(_)
+            | Action::DeviceControl(_) => self.add(action),
         }
     }
 
