@@ -1,0 +1,40 @@
+//! How a stream ends, and what a program says and returns of it.
+
+use crate::showing::Shown;
+use std::fmt::Display;
+use std::io::Write;
+
+/// How a stream ended.
+#[derive(Clone, Copy, Debug, PartialEq, Eq)]
+pub enum Ended {
+    /// It was read to its end, and what comes of it was written.
+    Whole,
+    /// It could not be read to its end, or memory was refused.
+    Unread,
+    /// What comes of it could not be written.
+    Unwritten,
+    /// Nobody reads what is written any more.
+    Closed,
+}
+
+const FAULT: u8 = 1;
+
+// That of a program which the signal SIGPIPE ends, as a shell gives it: 128 and 13.
+const CLOSED: u8 = 141;
+
+/// The status after a stream that ended so, where it was this one before. An error where no further
+/// stream can be written.
+pub fn status_after(ended: Ended, status: u8) -> Result<u8, u8> {
+    match ended {
+        Ended::Whole => Ok(status),
+        Ended::Unread => Ok(FAULT),
+        Ended::Unwritten => Err(FAULT),
+        Ended::Closed => Err(CLOSED),
+    }
+}
+
+/// Writes a line on `faults`: what hindered a program at the stream of this name.
+pub fn tell<D: Display + Drop, E: Write>(program: &str, name: &str, hindrance: D, faults: &mut E) {
+    let name = Shown(name);
+    let _ = writeln!(faults, "{program}: {name}: {hindrance}");
+}

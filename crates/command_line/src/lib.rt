@@ -1,0 +1,17 @@
+//! What the programs have in common: how their words are read, how a word is shown, and how a
+//! stream that they read ends.
+#![tactic(auto)]
+
+mod ending;
+mod nearness;
+mod reading;
+mod showing;
+mod sizes;
+mod table;
+mod wrong;
+
+pub use ending::{Ended, status_after, tell};
+pub use reading::{Found, Given, read};
+pub use showing::{Shown, is_shown};
+pub use table::{Known, Takes};
+pub use wrong::Wrong;

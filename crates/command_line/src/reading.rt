@@ -1,0 +1,184 @@
+//! From a program's words to its options and its files.
+ghost use Rattle.std.specs.Prelude.{◌≤◌, IfOk, length};
+
+use crate::nearness::{nearest_name, nearest_word};
+use crate::sizes::size_of;
+use crate::table::{Known, Takes, option_named};
+use crate::wrong::{A_SIZE, Wrong};
+use std::alloc::{Allocator, Global};
+
+/// The options and the files that a program's words name, each in order.
+#[derive(Drop)]
+pub struct Found<'a, A: Allocator = Global> {
+    /// The options.
+    pub options: Vec<Given, A>,
+    /// The files.
+    pub files: Vec<&'a str, A>,
+}
+
+/// An option that was given.
+#[derive(Clone, Copy)]
+pub struct Given {
+    /// Its name in the table.
+    pub name: &'static str,
+    /// The word that it takes, one of those in the table; empty where it takes none.
+    pub word: &'static str,
+    /// The size that it takes; 0 where it takes none.
+    pub size: usize,
+}
+
+/// The options and files that these words, a program's arguments, name, by the table of its
+/// options; or the first word that is wrong.
+///
+/// A word that begins with `-` is an option, but for `-` itself, which is a file, and `--`, after
+/// which all words are files. What an option takes is the next word, whatever it is, or follows the
+/// name after `=`.
+pub fn read<'a, A: Allocator + Copy>(
+    alloc: A,
+    known: &[Known],
+    words: &'a [String],
+) -> Result<Found<'a, A>, Wrong<'a>> {
+    let mut found = Found {
+        options: Vec::new(alloc),
+        files: Vec::new(alloc),
+    };
+    match read_into(&mut found, known, words) {
+        Ok(()) => Ok(found),
+        Err(wrong) => Err(wrong),
+    }
+}
+
+// Adds the options and files that these words name.
+fn read_into<'a, A: Allocator + Copy>(
+    found: &mut Found<'a, A>,
+    known: &[Known],
+    words: &'a [String],
+) -> Result<(), Wrong<'a>> {
+    let mut rest = words;
+    while let Some((word, after)) = rest.split_first() {
+        if word.as_str() == "--" {
+            return add_files(&mut found.files, after);
+        }
+        rest = add_word(found, known, word.as_str(), after)?;
+    }
+    Ok(())
+}
+
+// Adds the option or the file that a word names, with what it takes of the words after it; returns
+// the words after these.
+fn add_word<'a, A: Allocator + Copy>(
+    found: &mut Found<'a, A>,
+    known: &[Known],
+    word: &'a str,
+    after: &'a [String],
+) -> Result<&'a [String], Wrong<'a>>
+    ensures { IfOk result (λ rest. length rest.now ≤ length after.now) }
+{
+    if word == "-" || !word.starts_with('-') {
+        return match found.files.push(word) {
+            Ok(()) => Ok(after),
+            Err(_) => Err(Wrong::Memory),
+        };
+    }
+    let (given, after) = option_of(known, word, after)?;
+    match found.options.push(given) {
+        Ok(()) => Ok(after),
+        Err(_) => Err(Wrong::Memory),
+    }
+}
+
+// Adds each of these words as a file.
+fn add_files<'a, A: Allocator + Copy>(
+    files: &mut Vec<&'a str, A>,
+    words: &'a [String],
+) -> Result<(), Wrong<'a>> {
+    for word in words {
+        match files.push(word.as_str()) {
+            Ok(()) => {}
+            Err(_) => return Err(Wrong::Memory),
+        }
+    }
+    Ok(())
+}
+
+// The option that a word names, with what it takes of the words after it, and the words after
+// these.
+fn option_of<'a>(
+    known: &[Known],
+    word: &'a str,
+    after: &'a [String],
+) -> Result<(Given, &'a [String]), Wrong<'a>>
+    ensures { IfOk result (λ x. length x.1.now ≤ length after.now) }
+{
+    let (name, joined) = match word.split_once('=') {
+        Some((name, value)) => (name, Some(value)),
+        None => (word, None),
+    };
+    let Some(option) = option_named(known, name) else {
+        return Err(Wrong::Name(name, nearest_name(known, name)));
+    };
+    match joined {
+        Some(value) => Ok((given_joined(option, value)?, after)),
+        None => given_before(option, after),
+    }
+}
+
+// An option with a value after `=`.
+fn given_joined<'a>(option: Known, value: &'a str) -> Result<Given, Wrong<'a>> {
+    match option.takes {
+        Takes::Nothing => Err(Wrong::Something(option.name)),
+        _ => given_with(option, value),
+    }
+}
+
+// An option with what it takes of the words after it, and the words after these.
+fn given_before<'a>(option: Known, after: &'a [String]) -> Result<(Given, &'a [String]), Wrong<'a>>
+    ensures { IfOk result (λ x. length x.1.now ≤ length after.now) }
+{
+    let called = match option.takes {
+        Takes::Nothing => return Ok((taken(option, "", 0), after)),
+        Takes::Size => A_SIZE,
+        Takes::OneOf(called, _) => called,
+    };
+    match after.split_first() {
+        Some((value, after)) => Ok((given_with(option, value.as_str())?, after)),
+        None => Err(Wrong::Nothing(option.name, called)),
+    }
+}
+
+// An option with this value.
+fn given_with<'a>(option: Known, value: &'a str) -> Result<Given, Wrong<'a>> {
+    match option.takes {
+        Takes::Nothing => Ok(taken(option, "", 0)),
+        Takes::Size => match size_of(value) {
+            Some(size) => Ok(taken(option, "", size)),
+            None => Err(Wrong::Size(option.name, value)),
+        },
+        Takes::OneOf(called, words) => match word_in(words, value) {
+            Some(word) => Ok(taken(option, word, 0)),
+            None => {
+                let near = nearest_word(words, value);
+                Err(Wrong::Value(option.name, called, value, near))
+            }
+        },
+    }
+}
+
+// The option, with a word or a size.
+fn taken(option: Known, word: &'static str, size: usize) -> Given {
+    Given {
+        name: option.name,
+        word,
+        size,
+    }
+}
+
+// This word, where it is one of the list.
+fn word_in(words: &[&'static str], value: &str) -> Option<&'static str> {
+    for word in words {
+        if *word == value {
+            return Some(*word);
+        }
+    }
+    None
+}

@@ -1,0 +1,33 @@
+//! The options that a program has.
+
+/// An option that a program has.
+#[derive(Clone, Copy)]
+pub struct Known {
+    /// Its name, as `--limit`.
+    pub name: &'static str,
+    /// Its letter, as `-h`; empty where it has none.
+    pub letter: &'static str,
+    /// What it takes.
+    pub takes: Takes,
+}
+
+/// What an option takes.
+#[derive(Clone, Copy)]
+pub enum Takes {
+    /// Nothing.
+    Nothing,
+    /// A size, in bytes.
+    Size,
+    /// One of these words, and what they are called.
+    OneOf(&'static str, &'static [&'static str]),
+}
+
+// The option of this name or letter.
+pub fn option_named(known: &[Known], name: &str) -> Option<Known> {
+    for option in known {
+        if option.name == name || option.letter == name {
+            return Some(*option);
+        }
+    }
+    None
+}

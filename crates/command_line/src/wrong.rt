@@ -1,0 +1,90 @@
+//! What is wrong with a program's words.
+
+use crate::showing::Shown;
+use std::fmt;
+use std::fmt::Display;
+
+/// What is wrong with a program's words: the first wrong one.
+#[derive(Clone, Copy)]
+pub enum Wrong<'a> {
+    /// No option has this name. The nearest one that there is, where one is near.
+    Name(&'a str, Option<&'static str>),
+    /// This option does not take this value. What its values are called, and the nearest one, where
+    /// one is near.
+    Value(&'static str, &'static str, &'a str, Option<&'static str>),
+    /// This option takes a size, and this value is none.
+    Size(&'static str, &'a str),
+    /// This option takes something, as its values are called, and no word follows it.
+    Nothing(&'static str, &'static str),
+    /// This option takes nothing, and a value stands after `=`.
+    Something(&'static str),
+    /// No word is wrong: memory was refused.
+    Memory,
+}
+
+/// What a size is called.
+pub const A_SIZE: &str = "size, as 64K";
+
+impl<'a> Wrong<'a> {
+    /// Whether no word is wrong, and memory was refused.
+    pub fn is_fault(self) -> bool {
+        match self {
+            Wrong::Memory => true,
+            _ => false,
+        }
+    }
+}
+
+impl<'a> Display for Wrong<'a> {
+    fn fmt<W: fmt::Write>(&self, f: &mut fmt::Formatter<W>) -> fmt::Result {
+        match *self {
+            Wrong::Name(name, near) => write_name(name, near, f),
+            Wrong::Value(name, called, value, near) => {
+                write_texts(&[name, ": unknown ", called, " \""], f)?;
+                write_value(value, near, f)
+            }
+            Wrong::Size(name, value) => {
+                write_texts(&[name, " wants a ", A_SIZE, ", and not \""], f)?;
+                write_value(value, None, f)
+            }
+            Wrong::Nothing(name, called) => write_texts(&[name, " wants a ", called], f),
+            Wrong::Something(name) => write_texts(&[name, " takes no value"], f),
+            Wrong::Memory => f.write_str("out of memory"),
+        }
+    }
+}
+
+// Writes an unknown option, and the nearest one.
+fn write_name<W: fmt::Write>(
+    name: &str,
+    near: Option<&'static str>,
+    f: &mut fmt::Formatter<W>,
+) -> fmt::Result {
+    f.write_str("unknown option ")?;
+    Shown(name).fmt(f)?;
+    match near {
+        Some(near) => write_texts(&[" (did you mean ", near, "?)"], f),
+        None => Ok(()),
+    }
+}
+
+// Writes the rest of a value between quotes, and the nearest one.
+fn write_value<W: fmt::Write>(
+    value: &str,
+    near: Option<&'static str>,
+    f: &mut fmt::Formatter<W>,
+) -> fmt::Result {
+    Shown(value).fmt(f)?;
+    match near {
+        Some(near) => write_texts(&["\" (did you mean \"", near, "\"?)"], f),
+        None => f.write_str("\""),
+    }
+}
+
+// Writes each of these texts.
+fn write_texts<W: fmt::Write>(texts: &[&str], f: &mut fmt::Formatter<W>) -> fmt::Result {
+    for text in texts {
+        f.write_str(text)?;
+    }
+    Ok(())
+}
