@@ -2,21 +2,20 @@
 //! come: for a log or a recording of unknown origin that goes to a terminal.
 #![tactic(auto)]
 
-mod ended;
 mod noting;
 mod options;
 mod stream;
 mod tally;
 
-use ended::Ended;
+use command_line::{Ended, Wrong, status_after, tell};
 use esc_normal::Watched;
 use noting::Noting;
-use options::{Options, Task};
+use options::{Kind, Options, Task};
 use std::fs::File;
 use std::io::Read;
 use std::process::ExitCode;
 use std::{env, io};
-use stream::{ended, filter_named, tell};
+use stream::{PROGRAM, ended, filter_named};
 
 const DONE: u8 = 0;
 
@@ -24,43 +23,58 @@ const FAULT: u8 = 1;
 
 const USAGE_FAULT: u8 = 2;
 
-// That of a program which the signal SIGPIPE ends, as a shell gives it: 128 and 13.
-const CLOSED: u8 = 141;
-
-const USAGE: &str =
-    "usage: escfilter [--allow text|color|screen|all] [--limit n] [--report] [--] [FILE..]";
+const USAGE: &str = "\
+usage: escfilter [--allow text|color|screen|all] [--limit size] [--report] [-h|--help] \
+[-V|--version] [--] [FILE..]";
 
 const HELP: &str = "\
 Writes what the policy admits of each FILE, or of standard input, as it is read.
 
   --allow text    characters, tab, line feed and carriage return
-  --allow color   and colours, renditions and links (the default)
+  --allow color   and colours, renditions and links (the default); colour is the same
   --allow screen  and what changes the screen alone
   --allow all     and all that can be written by itself, queries too
-  --limit n       the most bytes of an unfinished sequence that are kept (1048576)
+  --limit size    the most bytes of an unfinished sequence that are kept (1MiB): a number,
+                  as 65536, or 64K, 1M or 1G, also as 64KiB, in powers of 1024
   --report        says on standard error what was left out
-  --help          prints this
-  --version       prints the version
+  -h, --help      prints this
+  -V, --version   prints the version
+  --              the words after it are files
 
-FILE - is standard input. Status: 0 all was filtered, 1 a fault, 2 usage, 141 the output was closed.";
+A value follows its option, or '='. FILE - is standard input.
+Status: 0 all was filtered, 1 a fault, 2 usage, 141 the output was closed.";
 
-const VERSION: &str = "escfilter 0.1";
+const VERSION: &str = "escfilter 0.1.0";
 
 fn main(rt: HostRuntime) -> ExitCode {
     let Ok(words) = arguments(&rt) else {
         let _ = eprintln!(rt; "escfilter: the arguments cannot be read");
         return ExitCode::from(FAULT);
     };
-    let status = match Task::of(&words) {
-        Some(Task::Filter(options, files)) => filter_all(&rt, options, files),
-        Some(Task::Help) => said(println!(rt; "{USAGE}\n\n{HELP}")),
-        Some(Task::Version) => said(println!(rt; "{VERSION}")),
-        None => {
-            let _ = eprintln!(rt; "{USAGE}");
-            USAGE_FAULT
-        }
+    let status = match Task::of(rt.alloc(), &words) {
+        Ok(task) => done(&rt, task.kind, task.options, &task.files),
+        Err(wrong) => refused(&rt, wrong),
     };
     ExitCode::from(status)
+}
+
+// Does what the words ask for.
+fn done(rt: &HostRuntime, kind: Kind, options: Options, files: &[&str]) -> u8 {
+    match kind {
+        Kind::Filter => filter_all(rt, options, files),
+        Kind::Help => said(println!(rt; "{USAGE}\n\n{HELP}")),
+        Kind::Version => said(println!(rt; "{VERSION}")),
+    }
+}
+
+// Says what is wrong with the words.
+fn refused(rt: &HostRuntime, wrong: Wrong<'_>) -> u8 {
+    let _ = eprintln!(rt; "escfilter: {wrong}");
+    if wrong.is_fault() {
+        return FAULT;
+    }
+    let _ = eprintln!(rt; "{USAGE}");
+    USAGE_FAULT
 }
 
 // The words after the program's name.
@@ -75,32 +89,16 @@ fn said(printed: io::Result<()>) -> u8 {
 
 // Filters one file after another, each a stream of its own. After one that cannot be read the
 // others follow; where nothing can be written, none does.
-fn filter_all(rt: &HostRuntime, options: Options, files: &[String]) -> u8 {
-    if files.is_empty() {
-        return match status_of(filter_file(rt, options, "-"), DONE) {
-            Ok(status) => status,
-            Err(status) => status,
-        };
-    }
+fn filter_all(rt: &HostRuntime, options: Options, files: &[&str]) -> u8 {
+    let files: &[&str] = if files.is_empty() { &["-"] } else { files };
     let mut status = DONE;
     for file in files {
-        match status_of(filter_file(rt, options, file.as_str()), status) {
+        match status_after(filter_file(rt, options, *file), status) {
             Ok(next) => status = next,
             Err(last) => return last,
         }
     }
     status
-}
-
-// The status after a stream that ended so, where it was this one before. An error where no further
-// stream can be written.
-fn status_of(ended: Ended, status: u8) -> Result<u8, u8> {
-    match ended {
-        Ended::Whole => Ok(status),
-        Ended::Unread => Ok(FAULT),
-        Ended::Unwritten => Err(FAULT),
-        Ended::Closed => Err(CLOSED),
-    }
 }
 
 // Filters the file of this name, or standard input where it is `-`.
@@ -111,7 +109,7 @@ fn filter_file(rt: &HostRuntime, options: Options, name: &str) -> Ended {
     match File::open(rt, name) {
         Ok(input) => filter_input(rt, options, name, input),
         Err(error) => {
-            tell(name, error, &mut rt.stderr());
+            tell(PROGRAM, name, error, &mut rt.stderr());
             Ended::Unread
         }
     }

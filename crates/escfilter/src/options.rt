@@ -1,7 +1,8 @@
 //! What the program's words ask for.
 
+use command_line::{Found, Known, Takes, Wrong, read};
 use esc_filter::Policy;
-use esc_values::scalar::read_usize;
+use std::alloc::{Allocator, Global};
 
 /// How streams are filtered.
 #[derive(Clone, Copy)]
@@ -16,68 +17,98 @@ pub struct Options {
 
 /// What the program does.
 #[derive(Clone, Copy)]
-pub enum Task<'a> {
-    /// It filters these files, or standard input where there is none.
-    Filter(Options, &'a [String]),
+pub enum Kind {
+    /// It filters files, or standard input where there is none.
+    Filter,
     /// It prints what it does.
     Help,
     /// It prints its version.
     Version,
 }
 
+/// What the program's words ask for.
+#[derive(Drop)]
+pub struct Task<'a, A: Allocator = Global> {
+    /// What the program does.
+    pub kind: Kind,
+    /// How streams are filtered.
+    pub options: Options,
+    /// The files.
+    pub files: Vec<&'a str, A>,
+}
+
 const DEFAULT_LIMIT: usize = 1_048_576;
 
-impl<'a> Task<'a> {
-    /// The task that these words, the program's arguments, name. Options come first, in any order,
-    /// and the last of a kind counts; the files begin after `--`, or at the first word that is `-`
-    /// or does not begin with `-`. None where a word is no option, or what has to follow one does
-    /// not.
-    pub fn of(words: &'a [String]) -> Option<Task<'a>> {
+const KNOWN: &[Known] = &[
+    Known {
+        name: "--allow",
+        letter: "",
+        takes: Takes::OneOf("policy", &["text", "color", "colour", "screen", "all"]),
+    },
+    Known {
+        name: "--limit",
+        letter: "",
+        takes: Takes::Size,
+    },
+    Known {
+        name: "--report",
+        letter: "",
+        takes: Takes::Nothing,
+    },
+    Known {
+        name: "--help",
+        letter: "-h",
+        takes: Takes::Nothing,
+    },
+    Known {
+        name: "--version",
+        letter: "-V",
+        takes: Takes::Nothing,
+    },
+];
+
+impl<'a, A: Allocator + Copy> Task<'a, A> {
+    /// The task that these words, the program's arguments, name; of an option that is given twice
+    /// the last counts.
+    pub fn of(alloc: A, words: &'a [String]) -> Result<Task<'a, A>, Wrong<'a>> {
+        match read(alloc, KNOWN, words) {
+            Ok(found) => Ok(Task::from_found(found)),
+            Err(wrong) => Err(wrong),
+        }
+    }
+
+    // The task that these options and files name.
+    fn from_found(found: Found<'a, A>) -> Task<'a, A> {
+        let mut kind = Kind::Filter;
         let mut options = Options {
             policy: Policy::Color,
             limit: DEFAULT_LIMIT,
             reports: false,
         };
-        let mut rest = words;
-        while let Some((word, after)) = rest.split_first() {
-            if is_file(word.as_str()) {
-                break;
-            }
-            rest = after;
-            match word.as_str() {
-                "--help" => return Some(Task::Help),
-                "--version" => return Some(Task::Version),
+        for given in &found.options {
+            match given.name {
+                "--allow" => options.policy = policy_of(given.word),
+                "--limit" => options.limit = given.size,
                 "--report" => options.reports = true,
-                "--" => break,
-                "--allow" => {
-                    let (name, after) = after.split_first()?;
-                    options.policy = policy_of(name.as_str())?;
-                    rest = after;
-                }
-                "--limit" => {
-                    let (number, after) = after.split_first()?;
-                    options.limit = read_usize(number.as_bytes())?;
-                    rest = after;
-                }
-                _ => return None,
+                "--help" => kind = Kind::Help,
+                "--version" => kind = Kind::Version,
+                _ => {}
             }
         }
-        Some(Task::Filter(options, rest))
+        Task {
+            kind,
+            options,
+            files: found.files,
+        }
     }
 }
 
-// Whether the word is a file, and no option.
-fn is_file(word: &str) -> bool {
-    word == "-" || !word.starts_with("-")
-}
-
-// The policy of this name.
-fn policy_of(name: &str) -> Option<Policy> {
+// The policy of this name, which is one of those in the table.
+fn policy_of(name: &str) -> Policy {
     match name {
-        "text" => Some(Policy::Text),
-        "color" => Some(Policy::Color),
-        "screen" => Some(Policy::Screen),
-        "all" => Some(Policy::All),
-        _ => None,
+        "text" => Policy::Text,
+        "screen" => Policy::Screen,
+        "all" => Policy::All,
+        _ => Policy::Color,
     }
 }

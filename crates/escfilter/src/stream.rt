@@ -5,15 +5,17 @@ ghost use Rattle.esc_normal.specs.Io.{FailsWith, IsReadWhole};
 ghost use Rattle.esc_filter.specs.Streams.{HasBegun, HasFiltered, HasFilteredAllBut, HasFilteredAtLeast, most_a_read};
 ghost use Rattle.esc_filter.specs.declared.filtering.TheConstants.{MOST_READS};
 
-use crate::ended::Ended;
 use crate::options::Options;
 use crate::tally::{Counting, Tally};
+use command_line::{Ended, tell};
 use esc_filter::{FilterError, filter_stream};
 use esc_normal::Watched;
 use std::alloc::Allocator;
 use std::cell::Cell;
-use std::fmt::Display;
 use std::io::{ErrorKind, Read, Write};
+
+/// The program's name.
+pub const PROGRAM: &str = "escfilter";
 
 /// Writes on `writer` what the policy of the options admits of what `reader` reads, as it comes;
 /// then, where the options ask for it, a line on `faults` that names the stream and says what was
@@ -71,8 +73,8 @@ pub fn ended<E: Write>(
         return unwritten(kind, faults);
     }
     match kind {
-        Some(kind) => tell(name, kind, faults),
-        None => tell(name, error, faults),
+        Some(kind) => tell(PROGRAM, name, kind, faults),
+        None => tell(PROGRAM, name, error, faults),
     }
     Ended::Unread
 }
@@ -83,13 +85,8 @@ fn unwritten<E: Write>(kind: Option<ErrorKind>, faults: &mut E) -> Ended
 {
     match kind {
         Some(ErrorKind::BrokenPipe) => return Ended::Closed,
-        Some(kind) => tell("standard output", kind, faults),
-        None => tell("standard output", "takes nothing", faults),
+        Some(kind) => tell(PROGRAM, "standard output", kind, faults),
+        None => tell(PROGRAM, "standard output", "takes nothing", faults),
     }
     Ended::Unwritten
-}
-
-/// Writes a line on `faults`: what the stream of this name was hindered by.
-pub fn tell<D: Display + Drop, E: Write>(name: &str, hindrance: D, faults: &mut E) {
-    let _ = writeln!(faults, "escfilter: {name}: {hindrance}");
 }

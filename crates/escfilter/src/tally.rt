@@ -1,4 +1,5 @@
 //! What was left out of a stream.
+use command_line::Shown;
 use esc_actions::Action;
 use esc_device::DeviceControlMode;
 use esc_filter::{Admit, Policy};
@@ -120,7 +121,7 @@ impl Tally {
     /// actions, and the first of that, as `escfilter: log: left out 2 OSC, 1 DCS of 57 actions,
     /// first action 17, on line 2 of the output`.
     pub fn tell<E: Write>(&self, name: &str, faults: &mut E) {
-        let _ = write!(faults, "escfilter: {name}: left out");
+        let _ = write!(faults, "escfilter: {}: left out", Shown(name));
         let mut before = " ";
         for (count, kind) in self.left.by_kind() {
             if count > 0 {
