@@ -156,7 +156,7 @@ impl<A: Allocator + Copy> Dump<A> {
         match self.options.form {
             Form::Segments => self.add_segment(is_finished),
             Form::Words => self.add_words(is_finished),
-            Form::Bytes | Form::Help => self.push_bytes(),
+            Form::Bytes => self.push_bytes(),
         }
     }
 

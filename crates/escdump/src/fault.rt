@@ -1,17 +1,14 @@
-//! What hinders the program.
+//! What hinders the program at a stream.
 
-use thiserror::Error;
+use std::io::ErrorKind;
 
-/// What hinders the program.
-#[derive(Debug, Drop, Error)]
+/// What hinders the program at a stream.
+#[derive(Clone, Copy)]
 pub enum Fault {
-    /// A read failed.
-    #[error("read fault")]
-    Read,
-    /// A write or a flush failed.
-    #[error("write fault")]
-    Write,
+    /// A read failed, with an error of this kind.
+    Read(ErrorKind),
+    /// A write or a flush failed, with an error of this kind.
+    Write(ErrorKind),
     /// Memory was refused.
-    #[error("out of memory")]
     Memory,
 }

@@ -1,5 +1,4 @@
-//! Prints a stream of terminal escape sequences, read from standard input, as one readable line a
-//! run of text or sequence.
+//! Prints streams of terminal escape sequences as one readable line a run of text or sequence.
 #![tactic(auto)]
 
 mod action_words;
@@ -24,26 +23,127 @@ mod run;
 mod words;
 mod writing;
 
-use run::run;
+use command_line::{Ended, Wrong, status_after, tell};
+use options::{Kind, Options, Task};
+use run::{PROGRAM, dump_named, ended, say};
+use std::fs::File;
+use std::io::Read;
 use std::process::ExitCode;
 use std::{env, io};
 
+const DONE: u8 = 0;
+
+const FAULT: u8 = 1;
+
+const USAGE_FAULT: u8 = 2;
+
+const USAGE: &str = "\
+usage: escdump [--segments] [--escape] [--limit size] [--color] [-h|--help] [-V|--version] \
+[--] [FILE..]";
+
+const HELP: &str = "\n\
+Prints each FILE, or standard input, as a readable line for each sequence and run of text.
+
+  --segments      a line has the place, the length, the kind and the bytes of a segment
+  --escape        a line has the place and the bytes, in place of the words
+  --limit size    the most bytes of a sequence or string that are kept (1MiB): a number,
+                  as 65536, or 64K, 1M or 1G, also as 64KiB, in powers of 1024
+  --color         prints the place and the bytes in colours; --colour is the same
+  -h, --help      prints this
+  -V, --version   prints the version
+  --              the words after it are files
+
+A value follows its option, or '='. FILE - is standard input.
+Status: 0 all was printed, 1 a fault, 2 usage, 141 the output was closed.";
+
+const VERSION: &str = "escdump 0.1.0";
+
 fn main(rt: HostRuntime) -> ExitCode {
     let Ok(words) = arguments(&rt) else {
-        let _ = eprintln!(rt; "escdump: read fault");
-        return ExitCode::from(1);
+        let _ = eprintln!(rt; "escdump: the arguments cannot be read");
+        return ExitCode::from(FAULT);
     };
-    let status = run(
-        rt.alloc(),
-        &words,
-        &mut rt.stdin(),
-        &mut rt.stdout(),
-        &mut rt.stderr(),
-    );
+    let status = match Task::of(rt.alloc(), &words) {
+        Ok(task) => done(&rt, task.kind, task.options, &task.files),
+        Err(wrong) => refused(&rt, wrong),
+    };
     ExitCode::from(status)
 }
 
-// The words behind the program's name.
+// The words after the program's name.
 fn arguments(rt: &HostRuntime) -> io::Result<Vec<String>> {
     Ok(env::args(rt)?.skip(1).collect(rt.alloc())?)
+}
+
+// Does what the words ask for.
+fn done(rt: &HostRuntime, kind: Kind, options: Options, files: &[&str]) -> u8 {
+    match kind {
+        Kind::Dump => dump_all(rt, options, files),
+        Kind::Help => said(rt, &[USAGE, HELP]),
+        Kind::Version => said(rt, &[VERSION]),
+    }
+}
+
+// Says what is wrong with the words.
+fn refused(rt: &HostRuntime, wrong: Wrong<'_>) -> u8 {
+    let _ = eprintln!(rt; "escdump: {wrong}");
+    if wrong.is_fault() {
+        return FAULT;
+    }
+    let _ = eprintln!(rt; "{USAGE}");
+    USAGE_FAULT
+}
+
+// Prints the lines of these texts.
+fn said(rt: &HostRuntime, texts: &[&str]) -> u8 {
+    let done = say(rt.alloc(), texts, &mut rt.stdout());
+    match status_after(ended(done, "standard output", &mut rt.stderr()), DONE) {
+        Ok(status) => status,
+        Err(status) => status,
+    }
+}
+
+// Prints one file after another, each a stream of its own. After one that cannot be read the others
+// follow; where nothing can be written, none does.
+fn dump_all(rt: &HostRuntime, options: Options, files: &[&str]) -> u8 {
+    let files: &[&str] = if files.is_empty() { &["-"] } else { files };
+    let mut status = DONE;
+    for file in files {
+        match status_after(dump_file(rt, options, *file), status) {
+            Ok(next) => status = next,
+            Err(last) => return last,
+        }
+    }
+    status
+}
+
+// Prints the file of this name, or standard input where it is `-`.
+fn dump_file(rt: &HostRuntime, options: Options, name: &str) -> Ended {
+    if name == "-" {
+        return dump_input(rt, options, "standard input", rt.stdin());
+    }
+    match File::open(rt, name) {
+        Ok(input) => dump_input(rt, options, name, input),
+        Err(error) => {
+            tell(PROGRAM, name, error, &mut rt.stderr());
+            Ended::Unread
+        }
+    }
+}
+
+// Prints a stream that has this name to standard output.
+fn dump_input<R: Read + Drop>(
+    rt: &HostRuntime,
+    options: Options,
+    name: &str,
+    mut input: R,
+) -> Ended {
+    dump_named(
+        rt.alloc(),
+        options,
+        name,
+        &mut input,
+        &mut rt.stdout(),
+        &mut rt.stderr(),
+    )
 }

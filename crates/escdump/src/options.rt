@@ -1,6 +1,7 @@
 //! What the program's words ask for.
 
-use esc_values::scalar::read_usize;
+use command_line::{Found, Known, Takes, Wrong, read};
+use std::alloc::{Allocator, Global};
 
 /// What a line is printed of.
 #[derive(Clone, Copy)]
@@ -11,11 +12,9 @@ pub enum Form {
     Segments,
     /// A run of text, or a sequence with its bytes alone.
     Bytes,
-    /// Nothing: the usage is printed.
-    Help,
 }
 
-/// What the program's words ask for.
+/// How streams are printed.
 #[derive(Clone, Copy)]
 pub struct Options {
     /// What a line is printed of.
@@ -26,33 +25,101 @@ pub struct Options {
     pub is_colored: bool,
 }
 
+/// What the program does.
+#[derive(Clone, Copy)]
+pub enum Kind {
+    /// It prints files, or standard input where there is none.
+    Dump,
+    /// It prints what it does.
+    Help,
+    /// It prints its version.
+    Version,
+}
+
+/// What the program's words ask for.
+#[derive(Drop)]
+pub struct Task<'a, A: Allocator = Global> {
+    /// What the program does.
+    pub kind: Kind,
+    /// How streams are printed.
+    pub options: Options,
+    /// The files.
+    pub files: Vec<&'a str, A>,
+}
+
 const DEFAULT_LIMIT: usize = 1_048_576;
 
-impl Options {
-    /// The options that these words, the program's arguments, name, in any order; the last counts.
-    /// None where a word is no option, or where no number follows `--limit`.
-    pub fn of(words: &[String]) -> Option<Options> {
+const KNOWN: &[Known] = &[
+    Known {
+        name: "--segments",
+        letter: "",
+        takes: Takes::Nothing,
+    },
+    Known {
+        name: "--escape",
+        letter: "",
+        takes: Takes::Nothing,
+    },
+    Known {
+        name: "--limit",
+        letter: "",
+        takes: Takes::Size,
+    },
+    Known {
+        name: "--color",
+        letter: "",
+        takes: Takes::Nothing,
+    },
+    Known {
+        name: "--colour",
+        letter: "",
+        takes: Takes::Nothing,
+    },
+    Known {
+        name: "--help",
+        letter: "-h",
+        takes: Takes::Nothing,
+    },
+    Known {
+        name: "--version",
+        letter: "-V",
+        takes: Takes::Nothing,
+    },
+];
+
+impl<'a, A: Allocator + Copy> Task<'a, A> {
+    /// The task that these words, the program's arguments, name; of an option that is given twice,
+    /// and of `--segments` and `--escape`, the last counts.
+    pub fn of(alloc: A, words: &'a [String]) -> Result<Task<'a, A>, Wrong<'a>> {
+        match read(alloc, KNOWN, words) {
+            Ok(found) => Ok(Task::from_found(found)),
+            Err(wrong) => Err(wrong),
+        }
+    }
+
+    // The task that these options and files name.
+    fn from_found(found: Found<'a, A>) -> Task<'a, A> {
+        let mut kind = Kind::Dump;
         let mut options = Options {
             form: Form::Words,
             limit: DEFAULT_LIMIT,
             is_colored: false,
         };
-        let mut is_limit = false;
-        for word in words {
-            if is_limit {
-                options.limit = read_usize(word.as_bytes())?;
-                is_limit = false;
-            } else {
-                match word.as_str() {
-                    "--segments" => options.form = Form::Segments,
-                    "--escape" => options.form = Form::Bytes,
-                    "--help" => options.form = Form::Help,
-                    "--color" => options.is_colored = true,
-                    "--limit" => is_limit = true,
-                    _ => return None,
-                }
+        for given in &found.options {
+            match given.name {
+                "--segments" => options.form = Form::Segments,
+                "--escape" => options.form = Form::Bytes,
+                "--limit" => options.limit = given.size,
+                "--color" | "--colour" => options.is_colored = true,
+                "--help" => kind = Kind::Help,
+                "--version" => kind = Kind::Version,
+                _ => {}
             }
         }
-        if is_limit { None } else { Some(options) }
+        Task {
+            kind,
+            options,
+            files: found.files,
+        }
     }
 }

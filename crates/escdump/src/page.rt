@@ -1,7 +1,9 @@
 //! Lines that are safe to print.
 ghost use Rattle.std.specs.Prelude.{◌≡◌, ◌<◌, true};
-ghost use Rattle.escdump.specs.Pages.{IsPage, is_shown};
+ghost use Rattle.command_line.specs.Characters.{is_shown};
+ghost use Rattle.escdump.specs.Pages.{IsPage};
 
+use command_line::is_shown;
 use esc_values::Text;
 use std::alloc::{AllocError, Allocator, Global};
 use std::str::Utf8Chunk;
@@ -198,21 +200,6 @@ impl<A: Allocator + Copy> Page<A> {
         self.columns = 0;
         self.text.push_str("\n")
     }
-}
-
-// Whether the character is shown as itself: U+0020 to U+007E, and from U+00A0 on, but for those
-// that break lines or change the direction of text.
-fn is_shown(c: char) -> bool
-    ensures { result ≡ is_shown c }
-{
-    let number = c as u32;
-    (0x20 <= number && number <= 0x7e)
-        || (0xa0 <= number
-            && !(0x200b <= number && number <= 0x200f)
-            && !(0x2028 <= number && number <= 0x202e)
-            && !(0x2060 <= number && number <= 0x206f)
-            && number != 0x61c
-            && number != 0xfeff)
 }
 
 // The digit of a number below 16.

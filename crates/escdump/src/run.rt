@@ -1,66 +1,92 @@
-//! What the program does.
+//! One stream, from its reader to the output.
 ghost use Rattle.std.specs.Prelude.{◌≡◌, ◌≤◌, IfOk, OnOk, length};
 ghost use Rattle.escdump.specs.Pages.{AppendsPage};
 
 use crate::dump::Dump;
 use crate::fault::Fault;
-use crate::options::{Form, Options};
+use crate::options::Options;
 use crate::page::Page;
+use command_line::{Ended, tell};
 use std::alloc::{AllocError, Allocator};
 use std::io::{ErrorKind, Read, Write};
 
-const DONE: u8 = 0;
-
-const FAULT: u8 = 1;
-
-const USAGE_FAULT: u8 = 2;
-
-const USAGE: &str = "usage: escdump [--segments] [--escape] [--limit n] [--color] [--help]";
+/// The program's name.
+pub const PROGRAM: &str = "escdump";
 
 // How much is read at a call.
 const CHUNK: usize = 4096;
 
-/// What the program does with these words, its arguments, and the status it ends with.
+/// Prints a line on `output` for each segment of `input`, a stream of this name, in the form that
+/// the options ask for, and those of what one read gave before the next read.
 ///
-/// It prints a line on `output` for each segment of `input`, in the form that the words ask for,
-/// and those of what one read gave before the next read: status 0. What it prints is a page: none
-/// of it is a control or an escape sequence that came from `input`. Where a read, a write or memory
-/// is refused, status 1, with a line on `faults` that names the fault; the lines before it are
-/// printed. Words that are no options are status 2, with the usage on `faults`, and nothing is read
-/// or printed.
-pub fn run<A: Allocator + Copy, R: Read, W: Write, E: Write>(
+/// What it prints is a page: none of it is a control or an escape sequence that came from `input`.
+/// Where a read, a write or memory is refused, a line on `faults` says so; but where nobody reads
+/// the output any more, none is written. The lines before it are printed.
+pub fn dump_named<A: Allocator + Copy, R: Read, W: Write, E: Write>(
     alloc: A,
-    words: &[String],
+    options: Options,
+    name: &str,
     input: &mut R,
     output: &mut W,
     faults: &mut E,
-) -> u8
-    ensures safe { result ≡ 0 → AppendsPage (W.contents output.old) (W.contents output.new) }
+) -> Ended
+    ensures safe { result ≡ Ended.Whole
+        → AppendsPage (W.contents output.old) (W.contents output.new) }
 {
-    let Some(options) = Options::of(words) else {
-        let _ = writeln!(faults, "{USAGE}");
-        return USAGE_FAULT;
-    };
-    let done = match options.form {
-        Form::Help => help(alloc, output),
-        _ => dump(alloc, options, input, output),
-    };
-    match done {
-        Ok(()) => DONE,
-        Err(fault) => {
-            let _ = writeln!(faults, "escdump: {fault}");
-            FAULT
-        }
-    }
+    let done = dump(alloc, options, input, output);
+    ended(done, name, faults)
 }
 
-// Prints the usage.
-fn help<A: Allocator + Copy, W: Write>(alloc: A, output: &mut W) -> Result<(), Fault>
+/// Prints the lines of these texts. The error is what hinders it.
+pub fn say<A: Allocator + Copy, W: Write>(
+    alloc: A,
+    texts: &[&str],
+    output: &mut W,
+) -> Result<(), Fault>
     ensures { OnOk result (AppendsPage (W.contents output.old) (W.contents output.new)) }
 {
     let mut page = Page::new(alloc, false);
-    let taken = page.push_line(USAGE);
+    let taken = push_texts(texts, &mut page);
     print(&mut page, taken, output)
+}
+
+// Appends the lines of these texts.
+fn push_texts<A: Allocator + Copy>(texts: &[&str], page: &mut Page<A>) -> Result<(), AllocError> {
+    for text in texts {
+        push_lines(*text, page)?;
+    }
+    Ok(())
+}
+
+// Appends the lines of a text.
+fn push_lines<A: Allocator + Copy>(text: &str, page: &mut Page<A>) -> Result<(), AllocError> {
+    for line in text.lines() {
+        page.push_line(line)?;
+    }
+    Ok(())
+}
+
+/// How the stream of this name ended, where this hindered it. A line on `faults` says what; but
+/// where nobody reads the output any more, none is written.
+pub fn ended<E: Write>(done: Result<(), Fault>, name: &str, faults: &mut E) -> Ended
+    ensures { result ≡ Ended.Whole → done ≡ Ok tt }
+{
+    match done {
+        Ok(()) => Ended::Whole,
+        Err(Fault::Write(ErrorKind::BrokenPipe)) => Ended::Closed,
+        Err(Fault::Write(kind)) => {
+            tell(PROGRAM, "standard output", kind, faults);
+            Ended::Unwritten
+        }
+        Err(Fault::Read(kind)) => {
+            tell(PROGRAM, name, kind, faults);
+            Ended::Unread
+        }
+        Err(Fault::Memory) => {
+            tell(PROGRAM, name, "out of memory", faults);
+            Ended::Unread
+        }
+    }
 }
 
 // Reads the stream to its end, and prints its lines, those of a chunk before the next is read.
@@ -106,13 +132,14 @@ fn read_some<R: Read>(input: &mut R, chunk: &mut [u8]) -> Result<usize, Fault>
         match input.read(chunk) {
             Ok(count) => return Ok(count),
             Err(error) => {
-                if error.kind() != ErrorKind::Interrupted {
-                    return Err(Fault::Read);
+                let kind = error.kind();
+                if kind != ErrorKind::Interrupted {
+                    return Err(Fault::Read(kind));
                 }
             }
         }
     }
-    Err(Fault::Read)
+    Err(Fault::Read(ErrorKind::TimedOut))
 }
 
 // Prints the lines, flushes and drops them, also where memory was refused after them.
@@ -126,12 +153,12 @@ fn print<A: Allocator + Copy, W: Write>(
 {
     match output.write_all(page.as_bytes()) {
         Ok(()) => {}
-        Err(_) => return Err(Fault::Write),
+        Err(error) => return Err(Fault::Write(error.kind())),
     }
     page.clear();
     match output.flush() {
         Ok(()) => {}
-        Err(_) => return Err(Fault::Write),
+        Err(error) => return Err(Fault::Write(error.kind())),
     }
     match taken {
         Ok(()) => Ok(()),
