@@ -8,6 +8,8 @@ mod reading;
 mod showing;
 mod sizes;
 mod table;
+#[cfg(test)]
+mod tests;
 mod wrong;
 
 pub use ending::{Ended, status_after, tell};
