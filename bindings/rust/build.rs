@@ -1,3 +1,4 @@
+// SPDX-License-Identifier: MIT
 //! Links the proved archives, and the C code by which the calls that take a stream whole ask for
 //! memory. `ESCAPE_STREAM_LIB` names the folder that has them; without it the crate can be checked
 //! and documented, and not linked.

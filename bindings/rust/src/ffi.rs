@@ -1,3 +1,4 @@
+// SPDX-License-Identifier: MIT
 //! The calls of the proved libraries, `crates/escape_c` and `crates/stream_c`. Each block below rests
 //! on contracts there, which the names of clauses point to.
 //!

@@ -1,3 +1,4 @@
+// SPDX-License-Identifier: MIT
 //! The normal form of streams of terminal escape sequences, and a filter for streams of unknown
 //! origin.
 //!

@@ -1,3 +1,4 @@
+// SPDX-License-Identifier: MIT
 //! The calls that take a stream whole.
 use crate::{Error, ffi};
 use alloc::vec::Vec;

@@ -1,3 +1,4 @@
+// SPDX-License-Identifier: MIT
 //! The parameters of a sequence, as the crate `vte` hands them out.
 use core::fmt;
 

@@ -1,3 +1,4 @@
+// SPDX-License-Identifier: MIT
 //! A parser that takes a stream in pieces.
 use crate::{Error, ffi};
 use alloc::boxed::Box;

@@ -1,3 +1,4 @@
+// SPDX-License-Identifier: MIT
 //! The calls of the crate `vte`, version 0.15, over the proved [parser](crate::Parser), for programs
 //! that are written for it.
 //!

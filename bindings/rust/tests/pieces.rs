@@ -1,3 +1,4 @@
+// SPDX-License-Identifier: MIT
 //! The events of streams in pieces of each size are those of the whole.
 use escape_stream::{Event, Parser};
 

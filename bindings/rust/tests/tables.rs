@@ -1,3 +1,4 @@
+// SPDX-License-Identifier: MIT
 //! Checks the calls against the tables of streams that the proved programs are checked against.
 //! docs/DEVELOPING.md has their form.
 use escape_stream::{Policy, filter, filter_into, is_normal, normal, normal_into};

@@ -1,3 +1,4 @@
+// SPDX-License-Identifier: MIT
 //! The calls of the module `vte`: those of version 0.15 of the crate of that name, but for the streams
 //! that docs/EMBEDDING.md lists, and however a stream is cut.
 use escape_stream::vte::{Params, Parser, Perform};

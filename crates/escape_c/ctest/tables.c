@@ -1,3 +1,4 @@
+/* SPDX-License-Identifier: MIT */
 /*
  * Checks the calls of escape_stream.h against tables of streams, text files whose form docs/DEVELOPING.md gives.
  *

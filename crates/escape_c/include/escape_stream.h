@@ -1,3 +1,4 @@
+/* SPDX-License-Identifier: MIT */
 /*
  * escape_stream.h - streams of terminal escape sequences: their normal form, and a filter
  *

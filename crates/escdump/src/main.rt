@@ -1,3 +1,4 @@
+// SPDX-License-Identifier: MIT
 //! Prints streams of terminal escape sequences as one readable line a run of text or sequence.
 #![tactic(auto)]
 

@@ -1,3 +1,4 @@
+// SPDX-License-Identifier: MIT
 //! Writes what a policy admits of streams of terminal escape sequences, and nothing else, as they
 //! come: for a log or a recording of unknown origin that goes to a terminal.
 #![tactic(auto)]

@@ -1,3 +1,4 @@
+// SPDX-License-Identifier: MIT
 //! Reads a stream of terminal escape sequences from standard input, and writes it in normal form to
 //! standard output; with `--check` it says by its status whether the stream is in normal form.
 #![tactic(auto)]

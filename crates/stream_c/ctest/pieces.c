@@ -1,3 +1,4 @@
+/* SPDX-License-Identifier: MIT */
 /*
  * Checks escape_stream_parser.h: the events of streams in pieces of each size, and those of each stream by itself.
  *

@@ -1,3 +1,4 @@
+/* SPDX-License-Identifier: MIT */
 /*
  * escape_stream_parser.h - a parser of terminal escape sequences that takes a stream in pieces and takes no memory
  *
