@@ -30,6 +30,15 @@ unsafe extern "C" {
         capacity: usize,
         needed: *mut usize,
     ) -> u32;
+    fn escape_stream_filter_begin(filter: *mut Filter, policy: u32, limit: usize) -> u32;
+    fn escape_stream_filter_feed(filter: *mut Filter, bytes: *const u8, length: usize) -> u32;
+    fn escape_stream_filter_text(
+        filter: *mut Filter,
+        from: usize,
+        out: *mut u8,
+        capacity: usize,
+    ) -> usize;
+    fn escape_stream_filter_end(filter: *mut Filter);
 }
 
 unsafe extern "C" {
@@ -46,6 +55,9 @@ unsafe extern "C" {
 
 #[cfg(feature = "oneshot")]
 const DONE: u32 = 0;
+
+#[cfg(feature = "oneshot")]
+const NOT_BEGUN: u32 = 3;
 
 /// Writes the normal form.
 #[cfg(feature = "oneshot")]
@@ -114,6 +126,58 @@ fn done<T>(status: u32, value: T) -> Result<T, Error> {
         Ok(value)
     } else {
         Err(Error::Memory)
+    }
+}
+
+/// A filter of a stream in pieces. Its fields are the library's. What it points to is in use by it
+/// alone, since it is never copied; it is not `Send`, for the library does not say that another
+/// thread may have it.
+#[cfg(feature = "oneshot")]
+#[repr(C)]
+#[derive(Debug)]
+pub struct Filter {
+    is_begun: bool,
+    state: *mut u8,
+}
+
+#[cfg(feature = "oneshot")]
+impl Filter {
+    /// One that is not begun.
+    pub fn ended() -> Filter {
+        Filter {
+            is_begun: false,
+            state: core::ptr::null_mut(),
+        }
+    }
+
+    /// Begins a stream.
+    pub fn begin(&mut self, policy: Policy, limit: usize) -> Result<(), Error> {
+        // SAFETY: the reference is what the type asks for, and the filter is as a call or `ended` left
+        // it: where it is begun, its pointer is one that a call put there.
+        let status = unsafe { escape_stream_filter_begin(self, number(policy), limit) };
+        done(status, ())
+    }
+
+    /// Takes a piece.
+    pub fn feed(&mut self, bytes: &[u8]) -> Result<(), Error> {
+        // SAFETY: as in `begin`. By clause `refused` there is no other status than these.
+        match unsafe { escape_stream_filter_feed(self, bytes.as_ptr(), bytes.len()) } {
+            NOT_BEGUN => Err(Error::Failed),
+            status => done(status, ()),
+        }
+    }
+
+    /// Writes the text that the last piece added, from a byte of it on, and says how much.
+    pub fn text(&mut self, from: usize, out: &mut [u8]) -> usize {
+        // SAFETY: as in `begin`. Clause `written` says what `out` holds, initialized all of it, and that
+        // the count is within it.
+        unsafe { escape_stream_filter_text(self, from, out.as_mut_ptr(), out.len()) }
+    }
+
+    /// Gives back what it took.
+    pub fn end(&mut self) {
+        // SAFETY: as in `begin`.
+        unsafe { escape_stream_filter_end(self) }
     }
 }
 

@@ -3,10 +3,11 @@
 //! origin.
 //!
 //! A stream is bytes as a program writes them to a terminal. Any bytes are a stream; each call
-//! takes one whole, but those of a [`Parser`], which takes it in pieces. The module [`vte`] has that
-//! parser with the calls of the crate `vte`. The work is done by a library that is proved: what each
+//! takes one whole, but those of a [`Filter`], a writer, and of a [`Parser`], which take it in
+//! pieces. The module [`vte`] has that parser with the calls of the crate `vte`. The work is done by a library that is proved: what each
 //! call writes is what its contract says, for every stream. This crate is not proved. Its module
-//! `ffi` is its one place with unsafe code. It is `no_std`, over `alloc`.
+//! `ffi` is its one place with unsafe code. Without the feature `std`, a default, it is `no_std`,
+//! over `alloc`, and has [`PieceFilter`] in the place of [`Filter`].
 //!
 //! Without the feature `oneshot`, a default, there are the parsers alone, and of the archives
 //! `libstream_c.a` is enough.
@@ -26,18 +27,28 @@
 #![warn(missing_docs)]
 
 extern crate alloc;
+#[cfg(all(feature = "oneshot", feature = "std"))]
+extern crate std;
 
 #[allow(unsafe_code)]
 mod ffi;
+#[cfg(feature = "oneshot")]
+mod filter;
 #[cfg(feature = "oneshot")]
 mod oneshot;
 mod params;
 mod parser;
 pub mod vte;
+#[cfg(all(feature = "oneshot", feature = "std"))]
+mod writer;
 
+#[cfg(feature = "oneshot")]
+pub use filter::PieceFilter;
 #[cfg(feature = "oneshot")]
 pub use oneshot::{Policy, filter, filter_into, is_normal, normal, normal_into};
 pub use parser::{Entry, Event, Parser};
+#[cfg(all(feature = "oneshot", feature = "std"))]
+pub use writer::Filter;
 
 use core::error;
 use core::fmt;
@@ -48,8 +59,8 @@ use core::fmt;
 pub enum Error {
     /// A request for memory was refused. Nothing was written.
     Memory,
-    /// A [`Parser`] failed, and gives nothing any more. The clause `sound` of the library's call
-    /// excludes it.
+    /// A [`Parser`] failed, and gives nothing any more: the clause `sound` of the library's call
+    /// excludes it. Or a filter in pieces was refused memory before.
     Failed,
 }
 
@@ -57,7 +68,7 @@ impl fmt::Display for Error {
     fn fmt(&self, f: &mut fmt::Formatter<'_>) -> fmt::Result {
         match self {
             Error::Memory => f.write_str("out of memory"),
-            Error::Failed => f.write_str("the parser failed"),
+            Error::Failed => f.write_str("an earlier call failed"),
         }
     }
 }

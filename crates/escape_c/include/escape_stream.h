@@ -3,8 +3,8 @@
  * escape_stream.h - streams of terminal escape sequences: their normal form, and a filter
  *
  * A stream is bytes as a program writes them to a terminal: UTF-8 text, control characters, and the control functions of
- * ECMA-48 and xterm, such as colours, cursor movements and titles. Any bytes are a stream. Each call takes one whole, and
- * nothing is kept between calls.
+ * ECMA-48 and xterm, such as colours, cursor movements and titles. Any bytes are a stream. Each of the first three calls takes
+ * one whole, and keeps nothing. A filter in pieces, escape_stream_filter_begin and the calls after it, takes one as it comes.
  *
  *     cc -I crates/escape_c/include program.c libescape_c.a liblibc_c.a
  *
@@ -19,7 +19,8 @@
  *   - malloc, realloc and free are of one allocator, and align a block to each power of two up to 16 that divides its size.
  *   - The call is made neither in a signal handler, nor in the child of a process with threads that has only forked.
  *
- * Calls may run in several threads at once. None starts a thread, takes a lock, reads a clock or touches a file.
+ * Calls may run in several threads at once, but those of one filter in pieces in one thread alone. None starts a thread, takes a
+ * lock, reads a clock or touches a file.
  */
 #ifndef ESCAPE_STREAM_H
 #define ESCAPE_STREAM_H
@@ -32,6 +33,12 @@
 extern "C" {
 #endif
 
+/* The version of this library: that of the header and of the archive beside it. */
+#define ESCAPE_STREAM_VERSION "0.1.0"
+#define ESCAPE_STREAM_VERSION_MAJOR 0
+#define ESCAPE_STREAM_VERSION_MINOR 1
+#define ESCAPE_STREAM_VERSION_PATCH 0
+
 /*
  * The statuses. After each but ESCAPE_STREAM_DONE nothing was written: `out`, `*needed` and `*answer` are as they were. Later
  * versions may add some, so treat one that you do not know as an error.
@@ -39,9 +46,10 @@ extern "C" {
 #define ESCAPE_STREAM_DONE UINT32_C(0)           /* the call was done */
 #define ESCAPE_STREAM_NO_MEMORY UINT32_C(1)      /* a request for memory was refused */
 #define ESCAPE_STREAM_UNKNOWN_POLICY UINT32_C(2) /* no policy has this number */
+#define ESCAPE_STREAM_NOT_BEGUN UINT32_C(3)      /* the filter in pieces was not begun, or has ended */
 
 /*
- * The policies of escape_stream_filter. Each admits all that the one before it does.
+ * The policies of escape_stream_filter and escape_stream_filter_begin. Each admits all that the one before it does.
  *
  * TEXT     characters but DEL; tab, line feed and carriage return
  * COLOR    and graphic renditions (SGR: colours, bold, underline ..) and hyperlinks (OSC 8)
@@ -138,6 +146,57 @@ uint32_t escape_stream_is_normal(const uint8_t *bytes, size_t length, bool *answ
  */
 uint32_t escape_stream_filter(uint32_t policy, size_t limit, const uint8_t *bytes, size_t length, uint8_t *out,
                               size_t capacity, size_t *needed);
+
+/*
+ * A filter of a stream that comes in pieces. It lies in the caller's memory; what it keeps of the stream is in blocks that it
+ * takes and escape_stream_filter_end gives back. Its fields are its own: read and write nothing of it, but set it to zero before
+ * the first call, as by = {0}. A copy of it is the same filter, so go on with one of the two.
+ */
+struct escape_stream_filter {
+    bool is_begun;
+    void *state;
+};
+
+/*
+ * Begins a stream, of which at most `limit` bytes are kept of a string. A filter that was begun before is ended first.
+ *
+ * ESCAPE_STREAM_DONE, ESCAPE_STREAM_UNKNOWN_POLICY and ESCAPE_STREAM_NO_MEMORY are the statuses. After the last two the filter is
+ * not begun, and keeps nothing.
+ */
+uint32_t escape_stream_filter_begin(struct escape_stream_filter *filter, uint32_t policy, size_t limit);
+
+/*
+ * Takes the next piece of the stream, in whatever pieces it comes. What it adds to the text is then what escape_stream_filter_text
+ * gives; that of the piece before is gone. The texts of all pieces, one after another, are what escape_stream_filter writes of
+ * the pieces one after another. A sequence that the end of the stream cuts adds nothing.
+ *
+ * ESCAPE_STREAM_NO_MEMORY: the filter has ended, as by escape_stream_filter_end. The texts before it are the beginning of what
+ * the whole stream would have given. ESCAPE_STREAM_NOT_BEGUN is the only other status but ESCAPE_STREAM_DONE.
+ */
+uint32_t escape_stream_filter_feed(struct escape_stream_filter *filter, const uint8_t *bytes, size_t length);
+
+/*
+ * Writes the text that the last piece added, from its byte `from` on, to the beginning of `out`, as much as there is room for, and
+ * returns how many bytes these are: 0 at the end of the text, and where the filter is not begun. Every other byte of `out` is as
+ * it was. It changes nothing, so a text can be read twice.
+ *
+ * Example: what passes of standard input, as it comes.
+ *
+ *     struct escape_stream_filter filter = {0};
+ *     uint8_t bytes[4096], out[4096] = {0};
+ *     size_t length, count;
+ *     uint32_t status = escape_stream_filter_begin(&filter, ESCAPE_STREAM_POLICY_COLOR, 1048576);
+ *     while (status == ESCAPE_STREAM_DONE && (length = fread(bytes, 1, sizeof bytes, stdin)) > 0) {
+ *         status = escape_stream_filter_feed(&filter, bytes, length);
+ *         for (size_t from = 0; (count = escape_stream_filter_text(&filter, from, out, sizeof out)) > 0; from += count)
+ *             fwrite(out, 1, count, stdout);
+ *     }
+ *     escape_stream_filter_end(&filter);
+ */
+size_t escape_stream_filter_text(struct escape_stream_filter *filter, size_t from, uint8_t *out, size_t capacity);
+
+/* Ends a filter, and gives back what it took. One that is not begun stays so. */
+void escape_stream_filter_end(struct escape_stream_filter *filter);
 
 #ifdef __cplusplus
 }

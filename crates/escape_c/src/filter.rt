@@ -50,8 +50,8 @@ pub extern "C" fn escape_stream_filter(
     }
 }
 
-// The policy of this number.
-fn policy_of(number: u32) -> Option<Policy>
+/// The policy of this number.
+pub(crate) fn policy_of(number: u32) -> Option<Policy>
     ensures { result ≡ policy_numbered number }
 {
     match number {

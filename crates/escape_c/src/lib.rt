@@ -3,19 +3,30 @@
 //!
 //! Each call takes a stream whole, and returns a status: [`DONE`], or why it was not done. A text
 //! goes into the caller's buffer, as much of it as fits, and its whole length into `needed`; so a
-//! caller makes room and calls again. After any status but `DONE` nothing was written. No state is
-//! kept between calls. `include/escape_stream.h` declares the calls for C.
+//! caller makes room and calls again. After any status but `DONE` nothing was written. These calls
+//! keep nothing. The filter in pieces is a [`PieceFilter`] of the caller's, with a block behind it.
+//! `include/escape_stream.h` declares the calls for C.
 #![tactic(auto)]
 
 mod filter;
+mod held;
 mod is_normal;
 mod normal;
 mod output;
+mod parts;
+mod piece_filter;
+mod pieces;
 mod spelled;
+mod state;
 
 pub use filter::escape_stream_filter;
 pub use is_normal::escape_stream_is_normal;
 pub use normal::escape_stream_normal;
+pub use piece_filter::PieceFilter;
+pub use pieces::{
+    escape_stream_filter_begin, escape_stream_filter_end, escape_stream_filter_feed,
+    escape_stream_filter_text,
+};
 
 /// The call was done.
 pub const DONE: u32 = 0;
@@ -25,3 +36,6 @@ pub const NO_MEMORY: u32 = 1;
 
 /// No policy has this number. Nothing was written.
 pub const UNKNOWN_POLICY: u32 = 2;
+
+/// The filter in pieces was not begun, or has ended. Nothing was taken.
+pub const NOT_BEGUN: u32 = 3;

@@ -31,6 +31,12 @@
 extern "C" {
 #endif
 
+/* The version of this library: that of the header and of the archive beside it. */
+#define ESCAPE_STREAM_VERSION "0.1.0"
+#define ESCAPE_STREAM_VERSION_MAJOR 0
+#define ESCAPE_STREAM_VERSION_MINOR 1
+#define ESCAPE_STREAM_VERSION_PATCH 0
+
 /*
  * The kinds of events, and what goes with them. `byte` is a number, `text` the bytes of escape_stream_text.
  *

@@ -1,0 +1,86 @@
+// SPDX-License-Identifier: MIT
+//! A filter of a stream that comes in pieces.
+use crate::{Error, Policy, ffi};
+
+/// How many bytes are kept of a string, where no limit is given.
+const DEFAULT_LIMIT: usize = 1_048_576;
+
+/// A filter of a stream that comes in pieces. It keeps what is unfinished, at most its limit, and
+/// stays in the thread that made it. With the feature `std` there is [`Filter`](crate::Filter), a
+/// writer.
+///
+/// ```
+/// use escape_stream::{PieceFilter, Policy};
+///
+/// let mut text = Vec::new();
+/// let mut filter = PieceFilter::new(Policy::Color)?;
+/// for piece in [&b"a\x1b]0;a ti"[..], b"tle\x07\x1b[3", b"1mred"] {
+///     filter.feed(piece)?;
+///     filter.text(|part| text.extend_from_slice(part));
+/// }
+/// assert_eq!(text, b"a\x1b[31mred");
+/// # Ok::<(), escape_stream::Error>(())
+/// ```
+#[derive(Debug)]
+pub struct PieceFilter {
+    raw: ffi::Filter,
+}
+
+impl PieceFilter {
+    /// A filter at the beginning of a stream, which keeps at most 1,048,576 bytes of a string.
+    ///
+    /// # Errors
+    ///
+    /// [`Error::Memory`] where a request for memory was refused.
+    pub fn new(policy: Policy) -> Result<PieceFilter, Error> {
+        PieceFilter::with_limit(policy, DEFAULT_LIMIT)
+    }
+
+    /// The same with another limit: of a string with more bytes nothing is written.
+    ///
+    /// # Errors
+    ///
+    /// [`Error::Memory`] where a request for memory was refused.
+    pub fn with_limit(policy: Policy, limit: usize) -> Result<PieceFilter, Error> {
+        let mut raw = ffi::Filter::ended();
+        raw.begin(policy, limit)?;
+        Ok(PieceFilter { raw })
+    }
+
+    /// Takes the next piece of the stream. What it adds to the text is then what
+    /// [`text`](PieceFilter::text) gives, and that of the piece before is gone.
+    ///
+    /// # Errors
+    ///
+    /// [`Error::Memory`] where a request for memory was refused, and from then on
+    /// [`Error::Failed`]. The texts before are the beginning of what the stream would have given.
+    pub fn feed(&mut self, piece: &[u8]) -> Result<(), Error> {
+        self.raw.feed(piece)
+    }
+
+    /// Calls `act` with the text that the last piece added, in parts.
+    pub fn text(&mut self, mut act: impl FnMut(&[u8])) {
+        let mut room = [0; 4096];
+        let mut from = 0;
+        loop {
+            let count = self.text_from(from, &mut room);
+            if count == 0 {
+                return;
+            }
+            act(&room[..count]);
+            from += count;
+        }
+    }
+
+    /// Writes the text that the last piece added, from its byte `from` on, to the beginning of
+    /// `out`, as much as fits, and returns how many bytes these are: 0 at the end of the text.
+    pub fn text_from(&mut self, from: usize, out: &mut [u8]) -> usize {
+        self.raw.text(from, out)
+    }
+}
+
+impl Drop for PieceFilter {
+    fn drop(&mut self) {
+        self.raw.end();
+    }
+}

@@ -1,0 +1,23 @@
+-- What is kept behind a pointer.
+use base.Fml.{Fml, ftrue}
+use base.Stored.{Coded}
+use denote.RawPtr.{Ptr}
+use Rattle.std.specs.Prelude.{Bool, true, false, Option, None, Some}
+use Rattle.std.specs.Box.Ownership.{box_owns}
+use Rattle.std.specs.Coded.{coded_option}
+use Rattle.libc.specs.Heap.{chunk}
+use Rattle.escape_c.specs.contracts.state.State.{the_row}
+
+-- a block with this state, and the right to free it; or nothing
+abbrev pub held_owns : Ptr → Option the_row.Denot → Fml
+held_owns p None = ftrue
+held_owns p (Some state) = box_owns chunk the_row p state
+
+-- how the logic stores a state, or none
+abbrev pub state_coded : Coded (Option the_row.Denot)
+state_coded = coded_option the_row.coded
+
+-- whether there is one
+abbrev pub is_there : {T : Type 0} → Option T → Bool
+is_there None = false
+is_there (Some x) = true
