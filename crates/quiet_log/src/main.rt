@@ -1,17 +1,17 @@
 //! Takes the titles and the notifications out of a log: reads a stream from standard input, and
-//! writes the rest of it, in normal form, to standard output.
+//! writes the rest of it, as it comes, to standard output.
 #![tactic(auto)]
 
-mod kept;
 mod quiet;
 
-use crate::quiet::quiet_text;
-use std::io;
-use std::io::{Read, Write};
+use crate::quiet::Quiet;
+use esc_filter::{FilterError, filter_stream};
+use esc_normal::Watched;
 
-fn main(rt: HostRuntime) -> io::Result<()> {
-    let mut bytes = Vec::new(rt.alloc());
-    rt.stdin().read_to_end(&mut bytes)?;
-    let text = quiet_text(rt.alloc(), &bytes)?;
-    rt.stdout().write_all(text.as_bytes())
+const LIMIT: usize = 1_048_576;
+
+fn main(rt: HostRuntime) -> Result<(), FilterError> {
+    let mut reader = Watched::new(rt.stdin());
+    let mut writer = Watched::new(rt.stdout());
+    filter_stream(rt.alloc(), &mut reader, &mut writer, LIMIT, Quiet)
 }

@@ -1,61 +1,64 @@
-//! A log without titles and notifications.
-ghost use Rattle.std.specs.Prelude.{◌≡◌, true, IfOk, map, string_bytes};
-ghost use Rattle.std.specs.List.{list_all};
-ghost use Rattle.esc_actions.specs.Meaning.{meaning};
-ghost use Rattle.esc_actions.specs.Texts.{list_text, normal};
+//! The policy of a quiet log.
+ghost use Rattle.std.specs.Prelude.{◌≡◌};
 ghost use Rattle.esc_actions.specs.Values.{value_of};
-ghost use Rattle.esc_actions.specs.Writable.{AreHandedOut};
-ghost use Rattle.quiet_log.specs.Quiet.{keeps, quiet};
+ghost use Rattle.quiet_log.specs.Quiet.{is_loud, keeps};
 
-use crate::kept::{is_kept, keep};
-use escape_stream::{Action, ParseError, Parser, encode};
-use std::alloc::{AllocError, Allocator};
+use esc_actions::Action;
+use esc_filter::Admit;
+use esc_osc::OperatingSystemCommand;
+use esc_sequences::{Esc, EscCode};
+use std::alloc::Allocator;
 
-/// The text of what `bytes` mean, without the commands that set a title or show a notification,
-/// without modes and short controls, as tmux passes on whatever a mode holds, and without what does
-/// not read back as itself. All else stays as it is, in normal form; and what stays is all that the
-/// text means, so a terminal that shows the text sets no title either.
-///
-/// The error is that memory was refused.
-#[tactic(auto, using(crate::proofs::WhatStays::text_said, crate::proofs::WhatStays::back_said, crate::proofs::WhatStays::silent_said))]
-pub fn quiet_text<A: Allocator + Copy>(alloc: A, bytes: &[u8]) -> Result<String<A>, AllocError>
-    ensures text { IfOk result (λ t. string_bytes t ≡ list_text (quiet (meaning {A = A} bytes.now))) }
-    ensures reads_back { IfOk result (λ t.
-        meaning (string_bytes t) ≡ normal (quiet (meaning {A = A} bytes.now))) }
-    ensures silent { IfOk result (λ t. list_all keeps (meaning {A = A} (string_bytes t)) ≡ true) }
-{
-    let Ok(actions) = actions_of(alloc, bytes) else {
-        return Err(AllocError);
-    };
-    let kept = kept_of(alloc, actions)?;
-    let Ok(text) = encode(alloc, &kept) else {
-        return Err(AllocError);
-    };
-    Ok(text)
-}
+/// Admits what sets no title and shows no notification.
+#[derive(Clone, Copy)]
+pub struct Quiet;
 
-// The actions of these bytes.
-fn actions_of<A: Allocator + Copy>(alloc: A, bytes: &[u8]) -> Result<Vec<Action<A>, A>, ParseError>
-    ensures meant { IfOk result (λ v. map value_of v.items ≡ meaning bytes.now) }
-    ensures handed_out { IfOk result (λ v. AreHandedOut (map value_of v.items)) }
-{
-    let mut parser = Parser::new(alloc);
-    parser.parse_as_vec(bytes)
-}
+impl<A: Allocator> Admit<A> for Quiet {
+    ghost admits = { λ _ v. keeps v };
 
-// What is left of these actions.
-fn kept_of<A: Allocator + Copy>(
-    alloc: A,
-    actions: Vec<Action<A>, A>,
-) -> Result<Vec<Action<A>, A>, AllocError>
-    ensures { IfOk result (λ v. map value_of v.items ≡ quiet (map value_of actions.items)) }
-{
-    let mut kept = Vec::new(alloc);
-    let mut is_after_gone = false;
-    for action in actions {
-        let stays = is_kept(&action);
-        keep(&mut kept, action, is_after_gone)?;
-        is_after_gone = !stays;
+    fn admits(&self, action: &Action<A>) -> bool {
+        is_kept(action)
     }
-    Ok(kept)
+}
+
+// Whether this action stays in the log.
+fn is_kept<A: Allocator>(action: &Action<A>) -> bool
+    ensures { result ≡ keeps (value_of action.now) }
+{
+    match action {
+        Action::Print(_) | Action::PrintString(_) | Action::Control(_) => true,
+        Action::Esc(Esc::Code(EscCode::TmuxTitle | EscCode::StringTerminator)) => false,
+        Action::Esc(_) | Action::CSI(_) => true,
+        Action::OperatingSystemCommand(command) => !is_loud(command.as_ref()),
+        Action::KittyImage(_) | Action::Sixel(_) | Action::XtGetTcap(_) => true,
+        Action::DeviceControl(_) => false,
+    }
+}
+
+// Whether the command sets a title or the name of an icon, or shows a notification.
+fn is_loud<A: Allocator>(command: &OperatingSystemCommand<A>) -> bool
+    ensures { result ≡ is_loud command.now }
+{
+    match command {
+        OperatingSystemCommand::SetIconNameAndWindowTitle(_)
+        | OperatingSystemCommand::SetWindowTitle(_)
+        | OperatingSystemCommand::SetWindowTitleSun(_)
+        | OperatingSystemCommand::SetIconName(_)
+        | OperatingSystemCommand::SetIconNameSun(_)
+        | OperatingSystemCommand::SystemNotification(_)
+        | OperatingSystemCommand::RxvtExtension(_) => true,
+        OperatingSystemCommand::SetHyperlink(_)
+        | OperatingSystemCommand::ClearSelection(_)
+        | OperatingSystemCommand::QuerySelection(_)
+        | OperatingSystemCommand::SetSelection(_, _)
+        | OperatingSystemCommand::ITermProprietary(_)
+        | OperatingSystemCommand::FinalTermSemanticPrompt(_)
+        | OperatingSystemCommand::ChangeColorNumber(_)
+        | OperatingSystemCommand::ChangeDynamicColors(_, _)
+        | OperatingSystemCommand::ResetDynamicColor(_)
+        | OperatingSystemCommand::CurrentWorkingDirectory(_)
+        | OperatingSystemCommand::ResetColors(_)
+        | OperatingSystemCommand::ConEmuProgress(_)
+        | OperatingSystemCommand::Unspecified(_) => false,
+    }
 }

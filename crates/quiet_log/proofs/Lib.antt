@@ -1,2 +1,0 @@
-pub mod Openers
-pub mod WhatStays
