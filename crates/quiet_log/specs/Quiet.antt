@@ -30,9 +30,10 @@ is_loud (command.ResetColors is) = false
 is_loud (command.ConEmuProgress p) = false
 is_loud (command.Unspecified ps) = false
 
--- A value that is admitted: no loud command, no `ESC k`, by which screen and tmux set a title, and no
--- short control and nothing of a mode, which may pass on a title. A string terminator is not: that of
--- a string that passes is written with the string, and that of one that does not goes with it.
+-- A value that is admitted: no loud command, no `ESC k`, by which screen and tmux set a title, and
+-- no short control and nothing of a mode, which may pass on a title. A string terminator is not:
+-- that of a string that passes is written with the string, and that of one that does not goes with
+-- it.
 abbrev pub keeps : {A : Type 0} → Value A → Bool
 keeps (print c) = true
 keeps (string t) = true
