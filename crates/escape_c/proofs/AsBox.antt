@@ -76,21 +76,25 @@ module _ {M : Type 1} {𝓤 : Ura M} {𝓛 : Logic 𝓤} {K : Type 0} {Γ : List
 
     -- and is put together
     pub held_in : K → (b o : ℕ) (x : R.Denot)
-        → Step K 𝓛 (‵ (Held.own_val (record { at = block_ptr b o; state = Some x }) (word (vptr b o) ∷
-        [])) ∷ Γ) G
+        → Step K 𝓛
+        (‵ (Held.own_val (record { at = block_ptr b o; state = Some x }) (word (vptr b o) ∷ []))
+        ∷ Γ) G
         (‵ (box_owns chunk R (block_ptr b o) x) ∷ Γ) G
     held_in t b o x = step (λ s.
         nothing t $ feq_i t (List Val) (vptr b o ∷ []) (vptr b o ∷ []) refl $ fjoin t $
         feq_i t (List Val) (word (vptr b o) ∷ []) (word (vptr b o) ∷ []) refl $ fjoin t $
-        fpack t (Valss (RawPtr ∷ [])) (within (shape held.the_type) (block_ptr b o, tt) (word (vptr b
-        o) ∷ [])) (vptr b o ∷ [], tt) $
+        fpack t (Valss (RawPtr ∷ []))
+        (within (shape held.the_type) (block_ptr b o, tt) (word (vptr b o) ∷ []))
+        (vptr b o ∷ [], tt) $
         fjoin t $ s)
 
     -- no block
-    pub held_none : K → (p : Ptr) → Step K 𝓛 (‵ (Held.own_val (record { at = p; state = None }) (word
-        (ptr_val p) ∷ [])) ∷ Γ) G Γ G
+    pub held_none : K → (p : Ptr)
+        → Step K 𝓛
+        (‵ (Held.own_val (record { at = p; state = None }) (word (ptr_val p) ∷ [])) ∷ Γ) G Γ G
     held_none t p = step (λ s.
-        nothing t $ nothing t $ feq_i t (List Val) (ptr_val p ∷ []) (ptr_val p ∷ []) refl $ fjoin t $
+        nothing t $ nothing t $
+        feq_i t (List Val) (ptr_val p ∷ []) (ptr_val p ∷ []) refl $ fjoin t $
         feq_i t (List Val) (word (ptr_val p) ∷ []) (word (ptr_val p) ∷ []) refl $ fjoin t $
         fpack t (Valss (RawPtr ∷ [])) (within (shape held.the_type) (p, tt) (word (ptr_val p) ∷ []))
         (ptr_val p ∷ [], tt) $

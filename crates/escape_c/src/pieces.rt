@@ -91,8 +91,8 @@ pub extern "C" fn escape_stream_filter_feed(
     }
 }
 
-/// Copies the text that the last piece added, from its byte `from` on, to the beginning of `out`, as
-/// much as fits, and leaves the rest of `out` as it is. Returns how many bytes these are.
+/// Copies the text that the last piece added, from its byte `from` on, to the beginning of `out`,
+/// as much as fits, and leaves the rest of `out` as it is. Returns how many bytes these are.
 #[unsafe(no_mangle)]
 pub extern "C" fn escape_stream_filter_text(
     alloc: Global,
