@@ -1,9 +1,10 @@
-//! What the programs have in common: how their words are read, how a word is shown, and how a
-//! stream that they read ends.
+//! What the programs have in common: how their words are read, how a word is shown, how a stream
+//! that they read ends, and whether it is their output.
 #![tactic(auto)]
 
 mod ending;
 mod nearness;
+mod output;
 mod reading;
 mod showing;
 mod sizes;
@@ -13,6 +14,7 @@ mod tests;
 mod wrong;
 
 pub use ending::{Ended, status_after, tell};
+pub use output::{IS_OUTPUT, is_output};
 pub use reading::{Found, Given, read};
 pub use showing::{Shown, is_shown};
 pub use table::{Known, Takes};

@@ -24,10 +24,11 @@ mod run;
 mod words;
 mod writing;
 
-use command_line::{Ended, Wrong, status_after, tell};
+use command_line::{Ended, IS_OUTPUT, Wrong, is_output, status_after, tell};
 use options::{Kind, Options, Task};
 use run::{PROGRAM, dump_named, ended, say};
-use std::fs::File;
+use std::fmt::Display;
+use std::fs::{File, metadata};
 use std::io::Read;
 use std::process::ExitCode;
 use std::{env, io};
@@ -121,15 +122,23 @@ fn dump_all(rt: &HostRuntime, options: Options, files: &[&str]) -> u8 {
 // Prints the file of this name, or standard input where it is `-`.
 fn dump_file(rt: &HostRuntime, options: Options, name: &str) -> Ended {
     if name == "-" {
-        return dump_input(rt, options, "standard input", rt.stdin());
+        let name = "standard input";
+        if is_output(rt, metadata(rt, "/dev/stdin")) {
+            return unread(rt, name, IS_OUTPUT);
+        }
+        return dump_input(rt, options, name, rt.stdin());
     }
     match File::open(rt, name) {
+        Ok(input) if is_output(rt, input.metadata()) => unread(rt, name, IS_OUTPUT),
         Ok(input) => dump_input(rt, options, name, input),
-        Err(error) => {
-            tell(PROGRAM, name, error, &mut rt.stderr());
-            Ended::Unread
-        }
+        Err(error) => unread(rt, name, error),
     }
+}
+
+// Says what hinders it to read the stream of this name.
+fn unread<D: Display + Drop>(rt: &HostRuntime, name: &str, hindrance: D) -> Ended {
+    tell(PROGRAM, name, hindrance, &mut rt.stderr());
+    Ended::Unread
 }
 
 // Prints a stream that has this name to standard output.
