@@ -8,8 +8,10 @@ use std::os::unix::fs::MetadataExt;
 pub const IS_OUTPUT: &str = "the output is this file";
 
 /// Whether standard output is the regular file of which this is known. What were read of it would
-/// be what was written, with no end. It is not, where nothing is known of one of them; what is known
-/// of standard output is what the system says of `/dev/stdout`.
+/// be what was written, with no end.
+///
+/// It is not, where nothing is known of one of them; what is known of standard output is what the
+/// system says of `/dev/stdout`.
 pub fn is_output<F: Files>(files: &F, input: io::Result<Metadata>) -> bool {
     let Ok(input) = input else {
         return false;
