@@ -1,0 +1,3 @@
+pub mod Keyed
+pub mod Functions
+pub mod Packed

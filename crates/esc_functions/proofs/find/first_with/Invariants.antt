@@ -1,0 +1,7 @@
+use Rattle.std.proofs.Common.{◌≡◌, drop}
+use Rattle.esc_functions.specs.Rows.{first_keyed}
+use Rattle.esc_functions.proofs.find.first_with.Given as goal
+
+-- what is left decides
+abbrev pub invariant-loop-row : goal.invariant-loop-row
+invariant-loop-row g l = first_keyed l.rows l.key ≡ first_keyed (drop l.row-index l.rows) l.key

@@ -1,0 +1,10 @@
+use Rattle.std.proofs.Common.{◌≡◌, ◌<◌, ◌^◌, drop}
+use Rattle.esc_functions.specs.Rows.{packed}
+use Rattle.esc_functions.specs.Functions.{marks}
+use Rattle.esc_functions.proofs.marks.packed_marks.Given as goal
+
+-- what is left, packed after what was read, is the whole
+abbrev pub invariant-loop-entry : goal.invariant-loop-entry
+invariant-loop-entry l =
+    (packed 1 (marks l.entries) ≡ packed l.packed (marks (drop l.entry-index l.entries)))
+    × (l.packed < 2 ^ 24)

@@ -1,0 +1,4 @@
+pub mod Rows
+pub mod Parameters
+pub mod Functions
+pub mod Effects

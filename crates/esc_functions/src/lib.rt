@@ -1,0 +1,30 @@
+//! Control functions by name: one table of what control sequences ask for.
+//!
+//! The standards: ECMA-48
+//! (<https://ecma-international.org/publications-and-standards/standards/ecma-48/>), DEC's manual
+//! of the VT510 (<https://vt100.net/docs/vt510-rm/chapter4.html>), xterm's list of control
+//! sequences (<https://invisible-island.net/xterm/ctlseqs/ctlseqs.html>) and kitty's protocols
+//! (<https://sw.kovidgoyal.net/kitty/protocol-extensions/>).
+//!
+//! Of `ESC [ 3 ; 4 H` the entries are `3`, `;` and `4`, and `ControlFunction::of_entries(entries,
+//! b'H')` is `Some(ControlFunction::CUP)`, whose `words` are "cursor position" and whose `row` says
+//! that it changes the screen alone and has two parameters, a line and a column.
+#![tactic(auto)]
+
+pub mod control_function;
+mod control_table;
+pub mod effect;
+mod find;
+pub mod laws;
+mod marks;
+pub mod parameter;
+pub mod parameters;
+pub mod row;
+pub mod standard;
+
+pub use control_function::ControlFunction;
+pub use effect::Effect;
+pub use parameter::Parameter;
+pub use parameters::Parameters;
+pub use row::Row;
+pub use standard::Standard;

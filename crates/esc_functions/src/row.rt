@@ -1,0 +1,22 @@
+//! A row of a table of control functions.
+
+use crate::effect::Effect;
+use crate::parameters::Parameters;
+use crate::standard::Standard;
+
+/// A row of a table of control functions, without its words.
+#[derive(Clone, Copy)]
+pub struct Row<F> {
+    /// The function.
+    pub function: F,
+    /// The bytes of its sequence but its parameters, with no `ESC` and no `[`, as digits to the
+    /// base 256 after a 1; after a 2 where another function has the same bytes and fewer
+    /// parameters.
+    pub key: u32,
+    /// What it changes, and whether a terminal answers it.
+    pub effect: Effect,
+    /// Its parameters.
+    pub parameters: Parameters,
+    /// The standard that has it.
+    pub standard: Standard,
+}

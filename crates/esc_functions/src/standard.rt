@@ -1,0 +1,36 @@
+//! Where a function comes from.
+
+/// The standard, or the terminal, that has a control function first.
+#[derive(Clone, Copy, Debug, PartialEq, Eq)]
+pub enum Standard {
+    /// ECMA-35, character code structure, sixth edition.
+    Ecma35,
+    /// ECMA-48, control functions, fifth edition; where it left some out, the fourth.
+    Ecma48,
+    /// DEC's VT100 to VT132.
+    Vt100,
+    /// DEC's VT220 and VT240.
+    Vt220,
+    /// DEC's VT320.
+    Vt320,
+    /// DEC's VT330 and VT340.
+    Vt340,
+    /// DEC's VT420.
+    Vt420,
+    /// DEC's VT510 and VT520.
+    Vt510,
+    /// DEC's VT525.
+    Vt525,
+    /// SCO's console, and ANSI.SYS.
+    Sco,
+    /// Hewlett-Packard's terminals.
+    Hp,
+    /// xterm.
+    Xterm,
+    /// kitty.
+    Kitty,
+    /// mintty.
+    Mintty,
+    /// GNU screen, and tmux.
+    Screen,
+}
