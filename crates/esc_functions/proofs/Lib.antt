@@ -1,3 +1,4 @@
 pub mod Keyed
 pub mod Functions
 pub mod Packed
+pub mod Escapes

@@ -2,3 +2,5 @@ pub mod Rows
 pub mod Parameters
 pub mod Functions
 pub mod Effects
+pub mod Escapes
+pub mod EscapeEffects

@@ -1,8 +1,11 @@
 //! Laws of control functions: no two answer to one sequence.
 ghost use Rattle.std.specs.Prelude.{◌≡◌, ℕ, Some, false, true};
 ghost use Rattle.esc_functions.specs.Effects.{changes_screen, is_answered};
+ghost use Rattle.esc_functions.specs.EscapeEffects.{changes_screen as escape_changes_screen, is_answered as escape_is_answered};
+ghost use Rattle.esc_functions.specs.Escapes.{function_of as escape_function_of, key_of as escape_key_of};
 ghost use Rattle.esc_functions.specs.Functions.{function_of, key_of};
 ghost use Rattle.esc_functions.specs.declared.control_function.ControlFunction.{ControlFunction};
+ghost use Rattle.esc_functions.specs.declared.escape_function.EscapeFunction.{EscapeFunction};
 
 /// The key of a function is found, and is that of this function.
 #[tactic(auto, using(crate::proofs::Functions::found_by_key))]
@@ -20,4 +23,22 @@ pub fn has_its_key()
 #[tactic(auto, using(crate::proofs::Functions::not_both))]
 pub fn screen_is_not_answered()
     ensures { (f : ControlFunction) → is_answered f ≡ true → changes_screen f ≡ false }
+{}
+
+/// The key of a function of escape sequences is found, and is that of this function.
+#[tactic(auto, using(crate::proofs::Escapes::found_by_key))]
+pub fn escape_found_by_key()
+    ensures { (f : EscapeFunction) → escape_function_of (escape_key_of f) ≡ Some f }
+{}
+
+/// What is found by a key has this key.
+#[tactic(auto, using(crate::proofs::Escapes::has_its_key))]
+pub fn escape_has_its_key()
+    ensures { (k : ℕ) (f : EscapeFunction) → escape_function_of k ≡ Some f → escape_key_of f ≡ k }
+{}
+
+/// No function of escape sequences that a terminal answers changes the screen alone.
+#[tactic(auto, using(crate::proofs::Escapes::not_both))]
+pub fn escape_screen_is_not_answered()
+    ensures { (f : EscapeFunction) → escape_is_answered f ≡ true → escape_changes_screen f ≡ false }
 {}

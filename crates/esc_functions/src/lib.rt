@@ -1,4 +1,5 @@
-//! Control functions by name: one table of what control sequences ask for.
+//! Control functions by name: a table of what control sequences ask for, and one of escape sequences
+//! and C1 controls.
 //!
 //! The standards: ECMA-48
 //! (<https://ecma-international.org/publications-and-standards/standards/ecma-48/>), DEC's manual
@@ -14,6 +15,8 @@
 pub mod control_function;
 mod control_table;
 pub mod effect;
+pub mod escape_function;
+mod escape_table;
 mod find;
 pub mod laws;
 mod marks;
@@ -24,6 +27,7 @@ pub mod standard;
 
 pub use control_function::ControlFunction;
 pub use effect::Effect;
+pub use escape_function::EscapeFunction;
 pub use parameter::Parameter;
 pub use parameters::Parameters;
 pub use row::Row;

@@ -1,0 +1,309 @@
+//! The table of control functions of escape sequences.
+//!
+//! The names are those of ECMA-48, fifth edition, 5.3, 5.5 and 8.3
+//! (<https://ecma-international.org/publications-and-standards/standards/ecma-48/>), of ECMA-35,
+//! sixth edition, 13 and 14
+//! (<https://ecma-international.org/publications-and-standards/standards/ecma-35/>), of the VT510's
+//! manual (<https://vt100.net/docs/vt510-rm/chapter4.html>), which begin with DEC, and of xterm's
+//! list (<https://invisible-island.net/xterm/ctlseqs/ctlseqs.html>).
+ghost use Rattle.std.specs.Prelude.{◌≡◌, ◌<◌};
+ghost use Rattle.esc_functions.specs.Effects.{is_answered_effect, is_screen_effect};
+ghost use Rattle.esc_functions.specs.EscapeEffects.{changes_screen, is_answered};
+ghost use Rattle.esc_functions.specs.Escapes.{designates, function_of, key_of, named, named_c1, place, rows_of, sequence_key};
+
+use crate::effect::Effect;
+use crate::escape_function::EscapeFunction;
+use crate::find::{first_with, part};
+use crate::parameters::Parameters;
+use crate::row::Row;
+use crate::standard::Standard;
+use esc_sequences::{Esc, EscCode};
+
+// A row a line: the function, and its name where that is another; the bytes of its sequence after
+// ESC; what it changes; which standard has it; what it does. One with an intermediate alone
+// designates a set, which its final byte names.
+//
+// The rows are in the order of their last bytes, and in that of `EscapeFunction`.
+macro_rules! functions {
+    ($each:ident) => {
+        $each![
+            CZD, [b'!'], Other, Ecma35, "designate the C0 set";
+            C1D, [b'"'], Other, Ecma35, "designate the C1 set";
+            GZDM4, [b'$'], Other, Ecma35, "designate a set of several bytes as G0";
+            IRR, [b'&'], Other, Ecma35, "identify revised registration";
+            GZD4, [b'('], Other, Ecma35, "designate G0";
+            G1D4, [b')'], Other, Ecma35, "designate G1";
+            G2D4, [b'*'], Other, Ecma35, "designate G2";
+            G3D4, [b'+'], Other, Ecma35, "designate G3";
+            G1D6, [b'-'], Other, Ecma35, "designate G1, a set of 96";
+            G2D6, [b'.'], Other, Ecma35, "designate G2, a set of 96";
+            G3D6, [b'/'], Other, Ecma35, "designate G3, a set of 96";
+            DECDHLT = "DECDHL", [b'#', b'3'], Screen, Vt100, "line of double height, top half";
+            DECDHLB = "DECDHL", [b'#', b'4'], Screen, Vt100, "line of double height, bottom half";
+            DECSWL, [b'#', b'5'], Screen, Vt100, "line of single width";
+            DECBI, [b'6'], Screen, Vt420, "back index";
+            DECDWL, [b'#', b'6'], Screen, Vt100, "line of double width";
+            DECSC, [b'7'], Screen, Vt100, "save cursor";
+            DECRC, [b'8'], Screen, Vt100, "restore cursor";
+            DECALN, [b'#', b'8'], Screen, Vt100, "screen alignment pattern";
+            DECFI, [b'9'], Screen, Vt420, "forward index";
+            VT52EXIT, [b'<'], Other, Vt100, "leave VT52 mode";
+            DECKPAM, [b'='], Other, Vt100, "application keypad";
+            DECKPNM, [b'>'], Other, Vt100, "numeric keypad";
+            PAD, [b'@'], Other, Ecma48, "padding character";
+            DOCS_DEFAULT = "DOCS", [b'%', b'@'], Other, Ecma35, "default character set";
+            HOP, [b'A'], Other, Ecma48, "high octet preset";
+            BPH, [b'B'], Other, Ecma48, "break permitted here";
+            NBH, [b'C'], Other, Ecma48, "no break here";
+            IND, [b'D'], Screen, Ecma48, "index";
+            NEL, [b'E'], Screen, Ecma48, "next line";
+            SSA, [b'F'], Other, Ecma48, "start of selected area";
+            S7C1T, [b' ', b'F'], Other, Vt220, "controls of seven bits";
+            ESA, [b'G'], Other, Ecma48, "end of selected area";
+            S8C1T, [b' ', b'G'], Other, Vt220, "controls of eight bits";
+            DOCS_UTF8 = "DOCS", [b'%', b'G'], Other, Ecma35, "UTF-8";
+            HTS, [b'H'], Screen, Ecma48, "set tab stop";
+            HTJ, [b'I'], Other, Ecma48, "tab with justification";
+            VTS, [b'J'], Other, Ecma48, "set line tab stop";
+            PLD, [b'K'], Other, Ecma48, "partial line forward";
+            PLU, [b'L'], Other, Ecma48, "partial line backward";
+            ACS1 = "ACS", [b' ', b'L'], Other, Ecma48, "conformance level one";
+            RI, [b'M'], Screen, Ecma48, "reverse line feed";
+            ACS2 = "ACS", [b' ', b'M'], Other, Ecma48, "conformance level two";
+            SS2, [b'N'], Other, Ecma48, "single shift two";
+            ACS3 = "ACS", [b' ', b'N'], Other, Ecma48, "conformance level three";
+            SS3, [b'O'], Other, Ecma48, "single shift three";
+            DCS, [b'P'], Other, Ecma48, "device control string";
+            PU1, [b'Q'], Other, Ecma48, "private use one";
+            PU2, [b'R'], Other, Ecma48, "private use two";
+            STS, [b'S'], Other, Ecma48, "set transmit state";
+            CCH, [b'T'], Other, Ecma48, "cancel character";
+            MW, [b'U'], Other, Ecma48, "message waiting";
+            SPA, [b'V'], Other, Ecma48, "start of guarded area";
+            EPA, [b'W'], Other, Ecma48, "end of guarded area";
+            SOS, [b'X'], Other, Ecma48, "start of string";
+            SGC, [b'Y'], Other, Ecma48, "single graphic character introducer";
+            DECID, [b'Z'], Answered, Vt100,
+                "identify terminal; in ECMA-48 SCI, single character introducer";
+            CSI, [b'['], Other, Ecma48, "control sequence introducer";
+            ST, [b'\\'], Other, Ecma48, "string terminator";
+            OSC, [b']'], Other, Ecma48, "operating system command";
+            PM, [b'^'], Other, Ecma48, "privacy message";
+            APC, [b'_'], Other, Ecma48, "application program command";
+            DMI, [b'`'], Other, Ecma48, "disable manual input";
+            INT, [b'a'], Other, Ecma48, "interrupt";
+            EMI, [b'b'], Other, Ecma48, "enable manual input";
+            RIS, [b'c'], Other, Ecma48, "reset to initial state";
+            CMD, [b'd'], Other, Ecma48, "coding method delimiter";
+            VISIBLEBELL, [b'g'], Other, Screen, "visible bell of screen";
+            TITLE, [b'k'], Other, Screen, "title of screen and tmux; its text follows";
+            MEMORYLOCK, [b'l'], Other, Hp, "lock lines above the cursor";
+            MEMORYUNLOCK, [b'm'], Other, Hp, "unlock lines";
+            LS2, [b'n'], Other, Ecma48, "locking shift two";
+            LS3, [b'o'], Other, Ecma48, "locking shift three";
+            LS3R, [b'|'], Other, Ecma48, "locking shift three right";
+            LS2R, [b'}'], Other, Ecma48, "locking shift two right";
+            LS1R, [b'~'], Other, Ecma48, "locking shift one right";
+        ]
+    };
+}
+
+macro_rules! name {
+    ($f:ident) => {
+        stringify!($f)
+    };
+    ($f:ident = $name:literal) => {
+        $name
+    };
+}
+
+macro_rules! key {
+    ($c:literal) => {
+        0x100 + $c as u32
+    };
+    ($a:literal, $c:literal) => {
+        (0x100 + $a as u32) * 0x100 + $c as u32
+    };
+    ($a:literal, $b:literal, $c:literal) => {
+        ((0x100 + $a as u32) * 0x100 + $b as u32) * 0x100 + $c as u32
+    };
+    (long $c:literal) => {
+        0x200 + $c as u32
+    };
+}
+
+macro_rules! rows {
+    ($($f:ident $(= $name:literal)?, [$($b:tt)+], $effect:ident, $standard:ident,
+        $words:literal);+ $(;)?) => {
+        [$(Row {
+            function: EscapeFunction::$f,
+            key: key!($($b)+),
+            effect: Effect::$effect,
+            parameters: Parameters::Nothing,
+            standard: Standard::$standard,
+        }),+]
+    };
+}
+
+macro_rules! names {
+    ($($f:ident $(= $name:literal)?, [$($b:tt)+], $effect:ident, $standard:ident,
+        $words:literal);+ $(;)?) => {
+        [$(name!($f $(= $name)?)),+]
+    };
+}
+
+macro_rules! words {
+    ($($f:ident $(= $name:literal)?, [$($b:tt)+], $effect:ident, $standard:ident,
+        $words:literal);+ $(;)?) => {
+        [$($words),+]
+    };
+}
+
+macro_rules! starts {
+    ($($f:ident),+; $end:literal) => {
+        [$(EscapeFunction::$f as u16),+, $end]
+    };
+}
+
+static ROWS: [Row<EscapeFunction>; 76] = functions!(rows);
+
+static NAMES: [&str; 76] = functions!(names);
+
+static WORDS: [&str; 76] = functions!(words);
+
+// The place of the first row of each last byte, space to `~`, and how many rows there are.
+static STARTS: [u16; 96] = starts![
+    CZD, CZD, C1D, GZDM4, GZDM4, IRR, IRR, GZD4, GZD4, G1D4, G2D4, G3D4, G1D6, G1D6, G2D6, G3D6,
+    DECDHLT, DECDHLT, DECDHLT, DECDHLT, DECDHLB, DECSWL, DECBI, DECSC, DECRC, DECFI, VT52EXIT,
+    VT52EXIT, VT52EXIT, DECKPAM, DECKPNM, PAD, PAD, HOP, BPH, NBH, IND, NEL, SSA, ESA, HTS, HTJ,
+    VTS, PLD, PLU, RI, SS2, SS3, DCS, PU1, PU2, STS, CCH, MW, SPA, EPA, SOS, SGC, DECID, CSI, ST,
+    OSC, PM, APC, DMI, INT, EMI, RIS, CMD, VISIBLEBELL, VISIBLEBELL, VISIBLEBELL, TITLE, TITLE,
+    TITLE, TITLE, MEMORYLOCK, MEMORYUNLOCK, LS2, LS3, LS3R, LS3R, LS3R, LS3R, LS3R, LS3R, LS3R,
+    LS3R, LS3R, LS3R, LS3R, LS3R, LS3R, LS2R, LS1R; 76
+];
+
+impl EscapeFunction {
+    /// The function of an escape sequence, where it has a name.
+    pub fn of(esc: Esc) -> Option<EscapeFunction>
+        ensures { result ≡ named esc }
+    {
+        match esc {
+            Esc::Code(EscCode::StringTerminator) => Some(EscapeFunction::ST),
+            Esc::Code(EscCode::HorizontalTabSet) => Some(EscapeFunction::HTS),
+            Esc::Code(EscCode::TmuxTitle) => Some(EscapeFunction::TITLE),
+            Esc::Unspecified {
+                intermediate,
+                control,
+            } => EscapeFunction::of_bytes(intermediate, control),
+        }
+    }
+
+    /// The function of an escape sequence with this intermediate, if there is one, and this final
+    /// byte, where it has a name.
+    pub fn of_bytes(intermediate: Option<u8>, last: u8) -> Option<EscapeFunction>
+        ensures { result ≡ function_of (sequence_key intermediate last) }
+    {
+        match intermediate {
+            None => with_key(0x100 + last as u32),
+            Some(byte) => {
+                if designates(byte) {
+                    with_key(0x100 + byte as u32)
+                } else {
+                    with_key((0x100 + byte as u32) * 0x100 + last as u32)
+                }
+            }
+        }
+    }
+
+    /// The function of a C1 control, 80 to 9F (hexadecimal): that of ESC and the byte 40 less
+    /// (ECMA-48, 5.3). Of another code `None`.
+    pub fn of_c1(code: u8) -> Option<EscapeFunction>
+        ensures { result ≡ named_c1 code }
+    {
+        if code < 0x80 {
+            return None;
+        }
+        if code > 0x9f {
+            return None;
+        }
+        with_key(0x100 + (code - 0x40) as u32)
+    }
+
+    /// Its row of the table.
+    #[inline]
+    pub fn row(self) -> &'static Row<EscapeFunction>
+        ensures function { result.now.function ≡ self }
+        ensures key { result.now.key ≡ key_of self }
+        ensures screen { is_screen_effect result.now.effect ≡ changes_screen self }
+        ensures answered { is_answered_effect result.now.effect ≡ is_answered self }
+    {
+        &ROWS[place(self)]
+    }
+
+    /// Its name, as the standards abbreviate it.
+    pub fn name(self) -> &'static str {
+        NAMES[place(self)]
+    }
+
+    /// What it does, in words.
+    pub fn words(self) -> &'static str {
+        WORDS[place(self)]
+    }
+
+    /// Whether it changes the screen alone.
+    #[inline]
+    pub fn changes_screen(self) -> bool
+        ensures { result ≡ changes_screen self }
+    {
+        self.row().effect.is_screen()
+    }
+
+    /// Whether a terminal answers it.
+    #[inline]
+    pub fn is_answered(self) -> bool
+        ensures { result ≡ is_answered self }
+    {
+        self.row().effect.is_answered()
+    }
+}
+
+// The place of its row.
+#[inline(always)]
+fn place(function: EscapeFunction) -> usize
+    ensures place { result ≡ place function }
+    ensures below { result < 76 }
+{
+    function as usize
+}
+
+// Whether the intermediate designates a set, which the final byte names.
+fn designates(byte: u8) -> bool
+    ensures { result ≡ designates byte }
+{
+    matches!(byte, b'!' | b'"' | b'$' | b'&' | b'('..=b'+' | b'-'..=b'/')
+}
+
+// The function that has this key.
+#[tactic(auto, using(crate::proofs::Escapes::too_low, crate::proofs::Escapes::too_high, crate::proofs::Escapes::in_rows))]
+#[inline]
+fn with_key(key: u32) -> Option<EscapeFunction>
+    ensures { result ≡ function_of key }
+{
+    let last = key % 0x100;
+    if last < 0x20 {
+        return None;
+    }
+    if last > 0x7e {
+        return None;
+    }
+    first_with(rows_of((last - 0x20) as usize), key)
+}
+
+// The rows of a last byte, from space on.
+#[inline]
+fn rows_of(index: usize) -> &'static [Row<EscapeFunction>]
+    requires { index < 95 }
+    ensures { result.now ≡ rows_of index }
+{
+    part(&ROWS, &STARTS, index)
+}
