@@ -4,3 +4,5 @@ pub mod Functions
 pub mod Effects
 pub mod Escapes
 pub mod EscapeEffects
+pub mod Modes
+pub mod PrivateModes

@@ -1,7 +1,8 @@
 //! A row by its key.
 ghost use Rattle.std.specs.Prelude.{◌≡◌, ◌<◌, ◌≤◌, ◌+◌, get_or, length};
-ghost use Rattle.esc_functions.specs.Rows.{first_keyed, group};
+ghost use Rattle.esc_functions.specs.Rows.{first_keyed, first_numbered, group};
 
+use crate::mode_row::ModeRow;
 use crate::row::Row;
 
 // The function of the first row that has this key.
@@ -29,4 +30,16 @@ pub(crate) fn part<'a, F>(rows: &'a [Row<F>], starts: &[u16], index: usize) -> &
     let start = starts[index] as usize;
     let end = starts[index + 1] as usize;
     &rows[start..end]
+}
+
+// The mode of the first row that has this number.
+pub(crate) fn numbered<M: Copy>(rows: &[ModeRow<M>], number: u32) -> Option<M>
+    ensures { result ≡ first_numbered rows.now number }
+{
+    for row in rows {
+        if row.number == number {
+            return Some(row.mode);
+        }
+    }
+    None
 }

@@ -1,9 +1,13 @@
-//! Laws of control functions: no two answer to one sequence.
+//! Laws of control functions and modes: no two answer to one sequence, or have one number.
 ghost use Rattle.std.specs.Prelude.{◌≡◌, ℕ, Some, false, true};
 ghost use Rattle.esc_functions.specs.Effects.{changes_screen, is_answered};
 ghost use Rattle.esc_functions.specs.EscapeEffects.{changes_screen as escape_changes_screen, is_answered as escape_is_answered};
 ghost use Rattle.esc_functions.specs.Escapes.{function_of as escape_function_of, key_of as escape_key_of};
 ghost use Rattle.esc_functions.specs.Functions.{function_of, key_of};
+ghost use Rattle.esc_functions.specs.Modes.{mode_of, number_of};
+ghost use Rattle.esc_functions.specs.PrivateModes.{mode_of as private_mode_of, number_of as private_number_of};
+ghost use Rattle.esc_functions.specs.declared.mode.Mode.{Mode};
+ghost use Rattle.esc_functions.specs.declared.private_mode.PrivateMode.{PrivateMode};
 ghost use Rattle.esc_functions.specs.declared.control_function.ControlFunction.{ControlFunction};
 ghost use Rattle.esc_functions.specs.declared.escape_function.EscapeFunction.{EscapeFunction};
 
@@ -41,4 +45,28 @@ pub fn escape_has_its_key()
 #[tactic(auto, using(crate::proofs::Escapes::not_both))]
 pub fn escape_screen_is_not_answered()
     ensures { (f : EscapeFunction) → escape_is_answered f ≡ true → escape_changes_screen f ≡ false }
+{}
+
+/// The number of a mode is found, and is that of this mode.
+#[tactic(auto, using(crate::proofs::Modes::found_by_number))]
+pub fn mode_found()
+    ensures { (m : Mode) → mode_of (number_of m) ≡ Some m }
+{}
+
+/// What is found by a number has this number.
+#[tactic(auto, using(crate::proofs::Modes::has_its_number))]
+pub fn mode_has_its_number()
+    ensures { (n : ℕ) (m : Mode) → mode_of n ≡ Some m → number_of m ≡ n }
+{}
+
+/// The number of a private mode is found, and is that of this mode.
+#[tactic(auto, using(crate::proofs::PrivateModes::found_by_number))]
+pub fn private_mode_found()
+    ensures { (m : PrivateMode) → private_mode_of (private_number_of m) ≡ Some m }
+{}
+
+/// What is found by a number has this number.
+#[tactic(auto, using(crate::proofs::PrivateModes::has_its_number))]
+pub fn private_mode_has_its_number()
+    ensures { (n : ℕ) (m : PrivateMode) → private_mode_of n ≡ Some m → private_number_of m ≡ n }
 {}

@@ -1,5 +1,5 @@
-//! Control functions by name: a table of what control sequences ask for, and one of escape sequences
-//! and C1 controls.
+//! Control functions by name: tables of what control sequences, escape sequences and C1 controls ask
+//! for, and of modes.
 //!
 //! The standards: ECMA-48
 //! (<https://ecma-international.org/publications-and-standards/standards/ecma-48/>), DEC's manual
@@ -20,15 +20,22 @@ mod escape_table;
 mod find;
 pub mod laws;
 mod marks;
+pub mod mode;
+mod mode_row;
+mod mode_table;
 pub mod parameter;
 pub mod parameters;
+pub mod private_mode;
+mod private_mode_table;
 pub mod row;
 pub mod standard;
 
 pub use control_function::ControlFunction;
 pub use effect::Effect;
 pub use escape_function::EscapeFunction;
+pub use mode::Mode;
 pub use parameter::Parameter;
 pub use parameters::Parameters;
+pub use private_mode::PrivateMode;
 pub use row::Row;
 pub use standard::Standard;

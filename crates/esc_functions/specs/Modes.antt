@@ -1,0 +1,25 @@
+-- Modes of ECMA-48.
+use Rattle.std.specs.Prelude.{ℕ, Bool, true, false, List, map, get_or, Option}
+use Rattle.esc_functions.specs.Rows.{first_numbered}
+use Rattle.esc_functions.specs.declared.mode.Mode.{Mode}
+use Rattle.esc_functions.specs.declared.mode.Mode.TheVariants as variant
+use Rattle.esc_functions.specs.declared.mode_table.TheConstants.{ROWS}
+use Rattle.esc_functions.specs.contracts.mode.Mode.{the_type}
+use denote.Enum.Declared.{tag_of}
+
+-- the place of a mode's row: modes and rows are in one order
+unfoldable pub place : Mode → ℕ
+place m = tag_of the_type m
+
+-- the number of a mode, which its row has
+unfoldable pub number_of : Mode → ℕ
+number_of m = get_or (map (λ r. r.number) ROWS) (place m) 0
+
+-- the mode of a number
+unfoldable pub mode_of : ℕ → Option Mode
+mode_of n = first_numbered ROWS n
+
+-- those that change the screen alone
+unfoldable pub changes_screen : Mode → Bool
+changes_screen variant.IRM = true
+changes_screen _ = false

@@ -1,0 +1,35 @@
+-- Private modes.
+use Rattle.std.specs.Prelude.{ℕ, Bool, true, false, List, map, get_or, Option}
+use Rattle.esc_functions.specs.Rows.{first_numbered}
+use Rattle.esc_functions.specs.declared.private_mode.PrivateMode.{PrivateMode}
+use Rattle.esc_functions.specs.declared.private_mode.PrivateMode.TheVariants as variant
+use Rattle.esc_functions.specs.declared.private_mode_table.TheConstants.{ROWS}
+use Rattle.esc_functions.specs.contracts.private_mode.PrivateMode.{the_type}
+use denote.Enum.Declared.{tag_of}
+
+-- the place of a mode's row: modes and rows are in one order
+unfoldable pub place : PrivateMode → ℕ
+place m = tag_of the_type m
+
+-- the number of a mode, which its row has
+unfoldable pub number_of : PrivateMode → ℕ
+number_of m = get_or (map (λ r. r.number) ROWS) (place m) 0
+
+-- the mode of a number
+unfoldable pub mode_of : ℕ → Option PrivateMode
+mode_of n = first_numbered ROWS n
+
+-- those that change the screen alone
+unfoldable pub changes_screen : PrivateMode → Bool
+changes_screen variant.DECSCNM = true
+changes_screen variant.DECOM = true
+changes_screen variant.DECAWM = true
+changes_screen variant.BlinkingCursor = true
+changes_screen variant.DECTCEM = true
+changes_screen variant.DECGRPM = true
+changes_screen variant.DECLRMM = true
+changes_screen variant.ClearedAlternateScreen = true
+changes_screen variant.SavedCursor = true
+changes_screen variant.AlternateScreenWithCursor = true
+changes_screen variant.SynchronizedOutput = true
+changes_screen _ = false

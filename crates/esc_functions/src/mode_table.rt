@@ -1,0 +1,123 @@
+//! The table of modes of ECMA-48.
+//!
+//! The names are those of ECMA-48, fifth edition, 7.2, of its fourth edition (EBM, LNM) and of the
+//! VT510's manual (CRM, <https://vt100.net/docs/vt510-rm/chapter4.html>).
+ghost use Rattle.std.specs.Prelude.{◌≡◌, ◌<◌};
+ghost use Rattle.esc_functions.specs.Effects.{is_screen_effect};
+ghost use Rattle.esc_functions.specs.Modes.{changes_screen, mode_of, number_of, place};
+
+use crate::effect::Effect;
+use crate::find::numbered;
+use crate::mode::Mode;
+use crate::mode_row::ModeRow;
+
+// A row a line: the mode, its number, whether it changes the screen alone, and what is set and
+// reset. The rows are in the order of the numbers, and in that of `Mode`.
+macro_rules! modes {
+    ($each:ident) => {
+        $each![
+            GATM, 1, Other, "transfer of guarded areas";
+            KAM, 2, Other, "keyboard lock";
+            CRM, 3, Other, "visible controls";
+            IRM, 4, Screen, "insertion of characters";
+            SRTM, 5, Other, "status report transfer";
+            ERM, 6, Other, "erasure of protected areas";
+            VEM, 7, Other, "insertion above the line";
+            BDSM, 8, Other, "bidirectional support";
+            DCSM, 9, Other, "device component for the cursor";
+            HEM, 10, Other, "insertion before the character";
+            PUM, 11, Other, "units of position";
+            SRM, 12, Other, "suppression of local echo";
+            FEAM, 13, Other, "storage of format effectors";
+            FETM, 14, Other, "exclusion of format effectors from transfer";
+            MATM, 15, Other, "transfer of all selected areas";
+            TTM, 16, Other, "transfer as far as the cursor";
+            SATM, 17, Other, "transfer of selected areas alone";
+            TSM, 18, Other, "tabulation for each line";
+            EBM, 19, Other, "editing of all pages";
+            LNM, 20, Other, "line feed as new line";
+            GRCM, 21, Other, "rendition that adds up";
+            ZDM, 22, Other, "zero as a default";
+        ]
+    };
+}
+
+macro_rules! rows {
+    ($($f:ident, $number:literal, $effect:ident, $words:literal);+ $(;)?) => {
+        [$(ModeRow {
+            mode: Mode::$f,
+            number: $number,
+            effect: Effect::$effect,
+        }),+]
+    };
+}
+
+macro_rules! names {
+    ($($f:ident, $number:literal, $effect:ident, $words:literal);+ $(;)?) => {
+        [$(stringify!($f)),+]
+    };
+}
+
+macro_rules! words {
+    ($($f:ident, $number:literal, $effect:ident, $words:literal);+ $(;)?) => {
+        [$($words),+]
+    };
+}
+
+static ROWS: [ModeRow<Mode>; 22] = modes!(rows);
+
+static NAMES: [&str; 22] = modes!(names);
+
+static WORDS: [&str; 22] = modes!(words);
+
+impl Mode {
+    /// The mode of this number, where it has a name.
+    pub fn of_number(number: u32) -> Option<Mode>
+        ensures { result ≡ mode_of number }
+    {
+        numbered(&ROWS, number)
+    }
+
+    // Its row of the table.
+    #[inline]
+    fn row(self) -> &'static ModeRow<Mode>
+        ensures number { result.now.number ≡ number_of self }
+        ensures screen { is_screen_effect result.now.effect ≡ changes_screen self }
+    {
+        &ROWS[place(self)]
+    }
+
+    /// Its number.
+    pub fn number(self) -> u32
+        ensures { result ≡ number_of self }
+    {
+        self.row().number
+    }
+
+    /// Its name.
+    pub fn name(self) -> &'static str {
+        NAMES[place(self)]
+    }
+
+    /// What is set and reset, in words: a noun, which reads true after "set" and after "reset".
+    pub fn words(self) -> &'static str {
+        WORDS[place(self)]
+    }
+
+    /// Whether setting and resetting it changes the screen alone.
+    #[inline]
+    pub fn changes_screen(self) -> bool
+        ensures { result ≡ changes_screen self }
+    {
+        self.row().effect.is_screen()
+    }
+}
+
+// The place of its row.
+#[inline(always)]
+fn place(mode: Mode) -> usize
+    ensures place { result ≡ place mode }
+    ensures below { result < 22 }
+{
+    mode as usize
+}
