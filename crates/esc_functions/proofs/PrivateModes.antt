@@ -1,11 +1,11 @@
 -- Private modes. Each has its row.
-use Rattle.std.proofs.Common.{◌≡◌, ℕ, ◌<◌, true, ◌==◌, map, get_or, Option, Some, None, zero-add, refl, sym, ap, ◌∙◌}
+use Rattle.std.proofs.Common.{◌≡◌, ℕ, ◌<◌, true, ◌==◌, map, get_or, Some, zero-add, refl, sym, ap, ◌∙◌}
 use Rattle.std.specs.List.{range_with_len, list_all}
 use Rattle.std.proofs.lemmas.List.{get_or-map}
 use Rattle.std.proofs.lemmas.List.FromFn.{get_or-range_with_len}
 use Rattle.std.proofs.lemmas.Bool.{eqb-true}
 use denote.Enum.Bare.{tag_one}
-use denote.Enum.Declared.{tag_of, variants}
+use denote.Enum.Declared.{variants}
 use denote.Enum.Enum.{tag_below}
 use Rattle.esc_functions.specs.declared.mode_row.ModeRow.{ModeRow}
 use Rattle.esc_functions.specs.declared.effect.Effect.TheVariants as effect

@@ -1,5 +1,5 @@
 -- Modes of ECMA-48.
-use Rattle.std.specs.Prelude.{ℕ, Bool, true, false, List, map, get_or, Option}
+use Rattle.std.specs.Prelude.{ℕ, Bool, true, false, map, get_or, Option}
 use Rattle.esc_functions.specs.Rows.{first_numbered}
 use Rattle.esc_functions.specs.declared.mode.Mode.{Mode}
 use Rattle.esc_functions.specs.declared.mode.Mode.TheVariants as variant

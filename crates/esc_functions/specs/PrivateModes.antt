@@ -1,5 +1,5 @@
 -- Private modes.
-use Rattle.std.specs.Prelude.{ℕ, Bool, true, false, List, map, get_or, Option}
+use Rattle.std.specs.Prelude.{ℕ, Bool, true, false, map, get_or, Option}
 use Rattle.esc_functions.specs.Rows.{first_numbered}
 use Rattle.esc_functions.specs.declared.private_mode.PrivateMode.{PrivateMode}
 use Rattle.esc_functions.specs.declared.private_mode.PrivateMode.TheVariants as variant

@@ -7,16 +7,16 @@
 //! (<https://invisible-island.net/xterm/ctlseqs/ctlseqs.html>), which begin with XT or SCO; and, of
 //! what kitty (<https://sw.kovidgoyal.net/kitty/protocol-extensions/>) and mintty
 //! (<https://github.com/mintty/mintty/wiki/CtrlSeqs>) added, of their own words.
-ghost use Rattle.std.specs.Prelude.{◌≡◌, ◌<◌, ◌^◌, ◌+◌, ◌*◌, []};
+ghost use Rattle.std.specs.Prelude.{◌≡◌, ◌<◌, ◌+◌, ◌*◌, []};
 ghost use Rattle.esc_sequences.specs.Csis.{csi_value};
 ghost use Rattle.esc_functions.specs.Effects.{changes_screen, is_answered, is_screen_effect, is_answered_effect};
-ghost use Rattle.esc_functions.specs.Functions.{function_of, is_long, key_of, key_with, lead, named, place, put_mark, rows_of, sequence_key};
+ghost use Rattle.esc_functions.specs.Functions.{function_of, key_of, named, place, put_mark, rows_of, sequence_key};
 ghost use Rattle.esc_functions.specs.Rows.{packed};
 
 use crate::control_function::ControlFunction;
 use crate::effect::Effect;
 use crate::find::{first_with, part};
-use crate::marks::packed_marks;
+use crate::marks::{key_with, marks_of, packed_marks};
 use crate::parameters::Parameters;
 use crate::row::Row;
 use crate::standard::Standard;
@@ -438,49 +438,6 @@ fn place(function: ControlFunction) -> usize
     ensures below { result < 221 }
 {
     function as usize
-}
-
-// These marks, packed.
-fn marks_of(marker: Option<u8>, intermediate: Option<u8>) -> u32
-    ensures same { result ≡ packed 1 (put_mark marker (put_mark intermediate [])) }
-    ensures few { result < 2 ^ 24 }
-{
-    match (marker, intermediate) {
-        (None, None) => 1,
-        (Some(a), None) => 0x100 + a as u32,
-        (None, Some(b)) => 0x100 + b as u32,
-        (Some(a), Some(b)) => (0x100 + a as u32) * 0x100 + b as u32,
-    }
-}
-
-// The key of a sequence of these marks, with so many entries and this final byte.
-#[inline]
-fn key_with(marks: u32, count: usize, last: u8) -> u32
-    requires { marks < 2 ^ 24 }
-    ensures { result ≡ key_with marks count last }
-{
-    lead(marks, count, last) * 0x100 + last as u32
-}
-
-// What that key begins with.
-#[inline]
-fn lead(marks: u32, count: usize, last: u8) -> u32
-    requires { marks < 2 ^ 24 }
-    ensures same { result ≡ lead marks count last }
-    ensures few { result < 2 ^ 24 }
-{
-    if marks != 1 {
-        return marks;
-    }
-    if is_long(last, count) { 2 } else { 1 }
-}
-
-// Whether a sequence with so many entries has the second function of its final byte.
-#[inline]
-fn is_long(last: u8, count: usize) -> bool
-    ensures { result ≡ is_long last count }
-{
-    (last == b'T' && count >= 2) || ((last == b's' || last == b'u') && count >= 1)
 }
 
 // The function that has this key.

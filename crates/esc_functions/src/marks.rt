@@ -1,6 +1,6 @@
-//! The private marker and the intermediates of a control sequence.
-ghost use Rattle.std.specs.Prelude.{◌≡◌, ◌<◌, ◌≤◌, ◌^◌, IfNone, IfSome};
-ghost use Rattle.esc_functions.specs.Functions.{mark_of, marks};
+//! The private marker and the intermediates of a control sequence, and its key.
+ghost use Rattle.std.specs.Prelude.{◌≡◌, ◌<◌, ◌≤◌, ◌^◌, ◌+◌, ◌*◌, [], IfNone, IfSome};
+ghost use Rattle.esc_functions.specs.Functions.{is_long, key_with, lead, mark_of, marks, put_mark};
 ghost use Rattle.esc_functions.specs.Rows.{packed};
 
 use esc_values::CsiParam;
@@ -35,4 +35,47 @@ fn mark_of(entry: CsiParam) -> Option<u8>
         CsiParam::P(b';') | CsiParam::P(b':') | CsiParam::Integer(_) => None,
         CsiParam::P(byte) => Some(byte),
     }
+}
+
+// These marks, packed.
+pub(crate) fn marks_of(marker: Option<u8>, intermediate: Option<u8>) -> u32
+    ensures same { result ≡ packed 1 (put_mark marker (put_mark intermediate [])) }
+    ensures few { result < 2 ^ 24 }
+{
+    match (marker, intermediate) {
+        (None, None) => 1,
+        (Some(a), None) => 0x100 + a as u32,
+        (None, Some(b)) => 0x100 + b as u32,
+        (Some(a), Some(b)) => (0x100 + a as u32) * 0x100 + b as u32,
+    }
+}
+
+// The key of a sequence of these marks, with so many entries and this final byte.
+#[inline]
+pub(crate) fn key_with(marks: u32, count: usize, last: u8) -> u32
+    requires { marks < 2 ^ 24 }
+    ensures { result ≡ key_with marks count last }
+{
+    lead(marks, count, last) * 0x100 + last as u32
+}
+
+// What that key begins with.
+#[inline]
+fn lead(marks: u32, count: usize, last: u8) -> u32
+    requires { marks < 2 ^ 24 }
+    ensures same { result ≡ lead marks count last }
+    ensures few { result < 2 ^ 24 }
+{
+    if marks != 1 {
+        return marks;
+    }
+    if is_long(last, count) { 2 } else { 1 }
+}
+
+// Whether a sequence with so many entries has the second function of its final byte.
+#[inline]
+fn is_long(last: u8, count: usize) -> bool
+    ensures { result ≡ is_long last count }
+{
+    (last == b'T' && count >= 2) || ((last == b's' || last == b'u') && count >= 1)
 }
