@@ -1,15 +1,14 @@
 //! Requests for memory that are refused, each in turn.
-use crate::call::{Call, shown};
-use crate::fault::Fault;
-use crate::readings::in_pieces;
-use crate::segments::of_segments;
-use crate::spelled::spelled;
+use crate::call::Call;
+use crate::reading::Reading;
+use crate::report::Report;
+use crate::spelling::spelled;
 use crate::stream::Stream;
-use escape_stream::{
-    Collect, ParseError, Parser, Watched, encode, is_normal, normalise, parse_pieces,
-};
+use crate::texts::{encoded, shown, written};
+use escape_stream::{Collect, ParseError, Parser, Watched, is_normal, normalise};
 use refusing::Refusing;
 use std::alloc::{AllocError, Allocator, Global};
+use std::fmt::Debug;
 
 /// What takes memory.
 #[derive(Clone, Copy)]
@@ -51,12 +50,13 @@ impl Asked {
 
     /// Whether it takes memory for this stream.
     pub fn grows(self, stream: &Stream) -> bool {
+        let has_actions = stream.actions != "Ok([])";
         match self {
             Asked::Parser(Call::List) | Asked::Sink | Asked::Halves | Asked::Segments => {
-                stream.actions != "[]"
+                has_actions
             }
             Asked::Parser(Call::First) => begins_with_a_string(stream.actions),
-            Asked::Parser(Call::Prefix) => stream.actions != "[]" && stream.is_finished,
+            Asked::Parser(Call::Prefix) => has_actions && stream.is_finished,
             Asked::Spelled | Asked::Text | Asked::Normal => !stream.text.is_empty(),
             Asked::Verdict => !stream.bytes.is_empty(),
         }
@@ -65,23 +65,31 @@ impl Asked {
     /// Asks with the first request refused, then with the second, and so on, until no request meets
     /// the refusal. A refusal that a call gets by, as that of a growth that is only a hint, leaves
     /// its result as it is; any other makes it an error. Returns how many were errors.
-    pub fn refuse_each(self, alloc: Global, stream: &[u8]) -> Result<usize, Fault> {
+    pub fn refuse_each(
+        self,
+        alloc: Global,
+        stream: &Stream,
+        report: &mut Report,
+    ) -> Result<usize, AllocError> {
         let heap = Refusing::new(alloc);
         let wanted = self.result(alloc, &heap, 0, stream)?;
         let mut errors = 0usize;
         for at in 1..MOST_REQUESTS {
             let result = self.result(alloc, &heap, at, stream)?;
-            if result.as_str() != wanted.as_str() {
-                if result.as_str() != "Err(Memory)" || !heap.has_refused() {
-                    return Err(Fault("a refused request changes the result"));
-                }
+            let is_refused = heap.has_refused();
+            if is_refused && result.as_str() == "Err(Memory)" {
                 errors = errors.saturating_add(1);
+            } else if result.as_str() != wanted.as_str() {
+                let what = "a refused request changes the result";
+                report.expect(stream.name, what, wanted.as_str(), Ok(result))?;
+                return Ok(errors);
             }
-            if !heap.has_refused() {
+            if !is_refused {
                 return Ok(errors);
             }
         }
-        Err(Fault("too many requests"))
+        report.note(stream.name, "too many requests")?;
+        Ok(errors)
     }
 
     // The Debug text of the result where the request of this number is refused.
@@ -90,23 +98,30 @@ impl Asked {
         alloc: Global,
         heap: &Refusing<Global>,
         at: u64,
-        stream: &[u8],
-    ) -> Result<String, Fault> {
+        stream: &Stream,
+    ) -> Result<String, AllocError> {
+        heap.refuse_at(at);
         match self {
-            Asked::Parser(call) => parsed(alloc, heap, at, call, stream),
-            Asked::Sink => given(alloc, heap, at, stream),
-            Asked::Halves => read_in_halves(alloc, heap, at, stream),
-            Asked::Segments => read_by_segments(alloc, heap, at, stream),
+            Asked::Parser(call) => parsed(alloc, heap, call, stream.bytes),
+            Asked::Sink => given(alloc, heap, stream),
+            Asked::Halves => shown(alloc, Reading::Halves.read(heap, stream.bytes)),
+            Asked::Segments => shown(alloc, Reading::Segments.read(heap, stream.bytes)),
             Asked::Spelled => spelled(alloc, heap, at, stream),
-            Asked::Text => written(alloc, heap, at, stream),
-            Asked::Normal => normalised(alloc, heap, at, stream),
-            Asked::Verdict => judged(alloc, heap, at, stream),
+            Asked::Text => text(alloc, heap, at, stream.bytes),
+            Asked::Normal => normalised(alloc, heap, stream.bytes),
+            Asked::Verdict => shown(alloc, is_normal(heap, &mut Watched::new(stream.bytes))),
         }
     }
 }
 
 // How a list of actions begins, and a first action that has no data.
-static WITHOUT_DATA: [&str; 5] = ["[]", "[Print(", "[Control(", "[Esc(", "[CSI("];
+static WITHOUT_DATA: [&str; 5] = [
+    "Ok([]",
+    "Ok([Print(",
+    "Ok([Control(",
+    "Ok([Esc(",
+    "Ok([CSI(",
+];
 
 // Whether the first action of a list is that of a string, whose data takes memory.
 fn begins_with_a_string(actions: &str) -> bool {
@@ -114,117 +129,88 @@ fn begins_with_a_string(actions: &str) -> bool {
 }
 
 // The Debug text of what the call returns. A parser that was refused memory has failed.
-fn parsed(
+fn parsed<A: Allocator + Copy>(
     alloc: Global,
-    heap: &Refusing<Global>,
-    at: u64,
+    heap: A,
     call: Call,
     stream: &[u8],
-) -> Result<String, Fault> {
-    heap.refuse_at(at);
+) -> Result<String, AllocError> {
     let mut parser = Parser::new(heap);
-    let result = call.shown(alloc, &mut parser, stream)?;
-    if result.as_str() == "Err(Memory)" && !has_failed(alloc, &mut parser)? {
-        return Err(Fault("a parser goes on after a refusal"));
+    let text = call.shown(alloc, &mut parser, stream);
+    checked(alloc, text, &mut parser)
+}
+
+// The text of a call, or that of a parser that goes on where the call was refused memory.
+fn checked<A: Allocator + Copy>(
+    alloc: Global,
+    text: Result<String, AllocError>,
+    parser: &mut Parser<A>,
+) -> Result<String, AllocError> {
+    let text = text?;
+    if text.as_str() == "Err(Memory)" && !has_failed(alloc, parser) {
+        return String::from_str(alloc, "a parser that goes on after a refusal");
     }
-    Ok(result)
+    Ok(text)
 }
 
 // Whether each call of the parser says that it has failed.
-fn has_failed<A: Allocator + Copy>(alloc: Global, parser: &mut Parser<A>) -> Result<bool, Fault> {
-    for bytes in [b"b".as_slice(), b"".as_slice()] {
-        for later in Call::ALL {
-            if later.shown(alloc, parser, bytes)?.as_str() != "Err(Failed)" {
-                return Ok(false);
-            }
+fn has_failed<A: Allocator + Copy>(alloc: Global, parser: &mut Parser<A>) -> bool {
+    for call in Call::ALL {
+        if !call.fails(alloc, parser, b"b") || !call.fails(alloc, parser, b"") {
+            return false;
         }
     }
-    Ok(true)
+    true
 }
 
 // The Debug text of the actions that a sink is given, or of the error. Before an error a prefix of
 // the stream's actions is given.
-fn given(alloc: Global, heap: &Refusing<Global>, at: u64, stream: &[u8]) -> Result<String, Fault> {
-    let all = in_pieces(alloc, &[stream])?;
-    heap.refuse_at(at);
-    let (result, sink) = Parser::new(heap).parse_into(stream, Collect::new(heap));
-    let given = shown(alloc, sink.actions);
-    given_of(alloc, all.as_str(), given, result)
+fn given<A: Allocator + Copy>(
+    alloc: Global,
+    heap: A,
+    stream: &Stream,
+) -> Result<String, AllocError> {
+    let (ending, sink) = Parser::new(heap).parse_into(stream.bytes, Collect::new(heap));
+    given_of(alloc, stream.actions, ending, sink.actions)
 }
 
 // The text of the actions that were given, of all that the stream has, or that of the error.
-fn given_of(
+fn given_of<T: Debug + Drop>(
     alloc: Global,
     all: &str,
-    given: Result<String, AllocError>,
     ending: Result<(), ParseError>,
-) -> Result<String, Fault> {
-    let given = given?;
+    actions: T,
+) -> Result<String, AllocError> {
+    let given = format!(in alloc; "Ok({actions:?})")?;
     if ending.is_ok() {
         return Ok(given);
     }
-    match given.strip_suffix("]") {
-        Some(given) if all.starts_with(given) => Ok(shown(alloc, ending)?),
-        _ => Err(Fault("what came before a refusal is no prefix")),
+    match given.strip_suffix("])") {
+        Some(given) if all.starts_with(given) => shown(alloc, ending),
+        _ => Ok(given),
     }
-}
-
-// The Debug text of what `parse_pieces` returns of the two halves of the stream.
-fn read_in_halves(
-    alloc: Global,
-    heap: &Refusing<Global>,
-    at: u64,
-    stream: &[u8],
-) -> Result<String, Fault> {
-    heap.refuse_at(at);
-    let (begins, ends) = stream.split_at(stream.len() / 2);
-    Ok(shown(alloc, parse_pieces(heap, &[begins, ends]))?)
-}
-
-// The Debug text of the actions of the stream's segments.
-fn read_by_segments(
-    alloc: Global,
-    heap: &Refusing<Global>,
-    at: u64,
-    stream: &[u8],
-) -> Result<String, Fault> {
-    heap.refuse_at(at);
-    Ok(shown(alloc, of_segments(heap, stream))?)
 }
 
 // The Debug text of what `encode` returns of the stream's actions.
-fn written(
+fn text<A: Allocator + Copy>(
     alloc: Global,
-    heap: &Refusing<Global>,
+    heap: &Refusing<A>,
     at: u64,
     stream: &[u8],
-) -> Result<String, Fault> {
+) -> Result<String, AllocError> {
     heap.refuse_at(0);
-    let actions = parse_pieces(heap, &[stream])?;
+    let actions = Reading::Whole.read(heap, stream);
     heap.refuse_at(at);
-    Ok(shown(alloc, encode(heap, &actions))?)
+    encoded(alloc, heap, actions)
 }
 
-// The Debug text of what `normalise` returns, and of what it writes. Where it returns an error, it
-// writes nothing.
-fn normalised(
+/// The text of what `normalise` returns and writes.
+pub fn normalised<A: Allocator + Copy>(
     alloc: Global,
-    heap: &Refusing<Global>,
-    at: u64,
+    heap: A,
     stream: &[u8],
-) -> Result<String, Fault> {
-    heap.refuse_at(at);
+) -> Result<String, AllocError> {
     let mut normal = Watched::new(Vec::new(alloc));
-    let result = normalise(heap, &mut Watched::new(stream), &mut normal);
-    let text = normal.into_inner();
-    if text.is_empty() {
-        return Ok(shown(alloc, result)?);
-    }
-    Ok(format!(in alloc; "{result:?} {text:?}")?)
-}
-
-// The Debug text of what `is_normal` returns.
-fn judged(alloc: Global, heap: &Refusing<Global>, at: u64, stream: &[u8]) -> Result<String, Fault> {
-    heap.refuse_at(at);
-    Ok(shown(alloc, is_normal(heap, &mut Watched::new(stream)))?)
+    let ending = normalise(heap, &mut Watched::new(stream), &mut normal);
+    written(alloc, ending, normal.into_inner())
 }

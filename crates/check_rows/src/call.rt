@@ -1,10 +1,10 @@
 //! The calls of a parser that return actions.
+use crate::texts::shown;
 use escape_stream::Parser;
 use std::alloc::{AllocError, Allocator, Global};
-use std::fmt::Debug;
 
 /// A call of a parser.
-#[derive(Clone, Copy, PartialEq)]
+#[derive(Clone, Copy)]
 pub enum Call {
     /// `parse_as_vec`.
     List,
@@ -31,9 +31,17 @@ impl Call {
             Call::Prefix => shown(alloc, parser.parse_first_as_vec(bytes)),
         }
     }
-}
 
-/// The Debug text of a value.
-pub fn shown<T: Debug + Drop>(alloc: Global, value: T) -> Result<String, AllocError> {
-    format!(in alloc; "{value:?}")
+    /// Whether the call of these bytes says that the parser has failed.
+    pub fn fails<A: Allocator + Copy>(
+        self,
+        alloc: Global,
+        parser: &mut Parser<A>,
+        bytes: &[u8],
+    ) -> bool {
+        match self.shown(alloc, parser, bytes) {
+            Ok(text) => text.as_str() == "Err(Failed)",
+            Err(_) => false,
+        }
+    }
 }

@@ -8,8 +8,8 @@ use escape_stream::Watched;
 use refusing::Refusing;
 use refusing::byte_reader::ByteReader;
 use refusing::fixed_writer::FixedWriter;
-use std::alloc::{Allocator, Global};
-use std::io::Read;
+use std::alloc::{AllocError, Allocator, Global};
+use std::io::{Read, Write};
 
 const LIMIT: usize = 1_048_576;
 
@@ -26,12 +26,12 @@ const POLICIES: [(Policy, &str); 4] = [
 /// What each policy lets through of a stream, read whole and byte by byte, that it is flushed, and
 /// that a policy is asked once of each action; and what is written of it where a read, a write or a
 /// request for memory fails, at each of them in turn.
-pub fn check_filtered(alloc: Global, row: Row, report: &mut Report) -> Result<(), Fault> {
+pub fn check_filtered(alloc: Global, row: &Row, report: &mut Report) -> Result<(), Fault> {
     let bytes = row.bytes(alloc, "stream")?;
     let stream = bytes.as_slice();
     let mut wanted = String::new(alloc);
     for (policy, word) in POLICIES {
-        if row.has(word)? {
+        if row.has(word) {
             wanted = row.text(alloc, word)?;
         }
         let whole = filtered(alloc, stream, policy);
@@ -54,61 +54,63 @@ fn byte_by_byte(stream: &[u8], fails_at: usize) -> ByteReader<'_> {
     }
 }
 
-// How a filter ended, and what it wrote.
-#[derive(Drop)]
-struct Outcome {
-    ending: Result<(), FilterError>,
-    text: Vec<u8>,
+// How a filter ends, and its writer then.
+fn run<A: Allocator + Copy, R: Read + Drop, W: Write + Drop>(
+    heap: A,
+    reader: R,
+    writer: W,
+    policy: Policy,
+) -> (Result<(), FilterError>, W) {
+    let mut reader = Watched::new(reader);
+    let mut writer = Watched::new(writer);
+    let ending = filter_stream(heap, &mut reader, &mut writer, LIMIT, policy);
+    (ending, writer.into_inner())
 }
 
 // What passes of a stream.
-fn filtered<R: Read + Drop>(alloc: Global, reader: R, policy: Policy) -> Result<String, Fault> {
-    let written = written(alloc, alloc, reader, policy);
-    if written.ending.is_err() {
-        return Err(Fault("a stream could not be filtered"));
-    }
-    match String::from_utf8(written.text) {
-        Ok(text) => Ok(text),
-        Err(_) => Err(Fault("what passes is no UTF-8")),
+fn filtered<R: Read + Drop>(
+    alloc: Global,
+    reader: R,
+    policy: Policy,
+) -> Result<String, AllocError> {
+    let (ending, text) = run(alloc, reader, Vec::new(alloc), policy);
+    match String::from_utf8(text) {
+        Ok(text) if ending.is_ok() => Ok(text),
+        _ => String::from_str(alloc, "a stream that cannot be filtered"),
     }
 }
 
-// How a filter ended, and what it wrote.
-fn written<A: Allocator + Copy, R: Read + Drop>(
-    alloc: Global,
-    heap: A,
-    reader: R,
-    policy: Policy,
-) -> Outcome {
-    let mut writer = Watched::new(Vec::new(alloc));
-    let mut reader = Watched::new(reader);
-    let ending = filter_stream(heap, &mut reader, &mut writer, LIMIT, policy);
-    Outcome {
-        ending,
-        text: writer.into_inner(),
+// Whether a filter ended with this error.
+fn is_fault(ending: Result<(), FilterError>, wanted: FilterError) -> bool {
+    match ending {
+        Ok(()) => false,
+        Err(error) => error == wanted,
     }
 }
 
 // A read that fails is an error, and what was written is a prefix.
 fn check_reads(alloc: Global, stream: &[u8], wanted: &str) -> Result<(), Fault> {
     for at in 1..=stream.len().saturating_add(1) {
-        let written = written(alloc, alloc, byte_by_byte(stream, at), Policy::All);
-        let is_prefix = wanted.as_bytes().starts_with(&written.text);
-        if written.ending != Err(FilterError::Read) || !is_prefix {
+        if !is_read_fault(alloc, stream, at, wanted) {
             return Err(Fault("a read that fails changes what is written"));
         }
     }
     Ok(())
 }
 
+// The same of a read with this number.
+fn is_read_fault(alloc: Global, stream: &[u8], at: usize, wanted: &str) -> bool {
+    let reader = byte_by_byte(stream, at);
+    let (ending, text) = run(alloc, reader, Vec::new(alloc), Policy::All);
+    is_fault(ending, FilterError::Read) && wanted.as_bytes().starts_with(&text)
+}
+
 // A writer that fails, of one byte a call, is an error, and it holds what it took before.
 fn check_writes(alloc: Global, stream: &[u8], wanted: &str) -> Result<(), Fault> {
     for at in 0..wanted.len().min(64) {
-        let mut writer = Watched::new(FixedWriter::new(64, 1, at.saturating_add(1)));
-        let mut reader = Watched::new(stream);
-        let result = filter_stream(alloc, &mut reader, &mut writer, LIMIT, Policy::All);
-        let held = writer.into_inner();
-        if result != Err(FilterError::Write) || !held.holds(&wanted.as_bytes()[..at]) {
+        let writer = FixedWriter::new(64, 1, at.saturating_add(1));
+        let (ending, held) = run(alloc, stream, writer, Policy::All);
+        if !is_fault(ending, FilterError::Write) || !held.holds(&wanted.as_bytes()[..at]) {
             return Err(Fault("a write that fails changes what is written"));
         }
     }
@@ -120,10 +122,9 @@ fn check_flushes(alloc: Global, stream: &[u8], wanted: &str) -> Result<(), Fault
     if wanted.len() > 64 {
         return Ok(());
     }
-    let mut writer = Watched::new(FixedWriter::new(64, 64, 0));
-    let mut reader = Watched::new(byte_by_byte(stream, 0));
-    let result = filter_stream(alloc, &mut reader, &mut writer, LIMIT, Policy::All);
-    if result.is_err() || writer.into_inner().flushes != stream.len() {
+    let writer = FixedWriter::new(64, 64, 0);
+    let (ending, held) = run(alloc, byte_by_byte(stream, 0), writer, Policy::All);
+    if ending.is_err() || held.flushes != stream.len() {
         return Err(Fault("what a read adds is not flushed"));
     }
     Ok(())
@@ -134,12 +135,7 @@ fn check_requests(alloc: Global, stream: &[u8], wanted: &str) -> Result<(), Faul
     let heap = Refusing::new(alloc);
     for at in 1..MOST_REQUESTS {
         heap.refuse_at(at);
-        let written = written(alloc, &heap, stream, Policy::All);
-        let is_right = match written.ending {
-            Ok(()) => written.text.as_slice() == wanted.as_bytes(),
-            Err(error) => error == FilterError::Memory && written.text.is_empty(),
-        };
-        if !is_right {
+        if !is_unchanged(alloc, &heap, stream, wanted) {
             return Err(Fault("a refused request changes what is written"));
         }
         if !heap.has_refused() {
@@ -147,4 +143,13 @@ fn check_requests(alloc: Global, stream: &[u8], wanted: &str) -> Result<(), Faul
         }
     }
     Err(Fault("too many requests"))
+}
+
+// Whether a filter over this heap writes the text, or nothing where it is refused memory.
+fn is_unchanged<A: Allocator + Copy>(alloc: Global, heap: A, stream: &[u8], wanted: &str) -> bool {
+    let (ending, text) = run(heap, stream, Vec::new(alloc), Policy::All);
+    if ending.is_ok() {
+        return text.as_slice() == wanted.as_bytes();
+    }
+    is_fault(ending, FilterError::Memory) && text.is_empty()
 }

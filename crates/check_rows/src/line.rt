@@ -10,31 +10,8 @@ pub struct Line<'a> {
 }
 
 // The words that lines begin with.
-const WORDS: [&str; 23] = [
-    "row",
-    "stream",
-    "parts",
-    "action",
-    "more",
-    "kept",
-    "text",
-    "unfinished",
-    "first",
-    "prefix",
-    "gives",
-    "begins",
-    "piece",
-    "ends",
-    "times",
-    "limit",
-    "keeps",
-    "as-text",
-    "as-color",
-    "as-screen",
-    "as-all",
-    "seed",
-    "count",
-];
+const WORDS: &str = "row stream parts action more kept text unfinished first prefix gives begins \
+piece ends times limit keeps as-text as-color as-screen as-all seed count";
 
 impl<'a> Line<'a> {
     /// Reads a line. None where it is empty or a comment.
@@ -42,18 +19,40 @@ impl<'a> Line<'a> {
         if line.is_empty() || line.starts_with('#') {
             return Ok(None);
         }
-        let (head, text) = line.split_once(' ').unwrap_or((line, ""));
-        let (word, count) = head.split_once('*').unwrap_or((head, "1"));
-        if !WORDS.contains(&word) {
+        let (head, text) = cut(line, ' ', "");
+        let (word, count) = cut(head, '*', "1");
+        if !is_word(word) {
             return Err(Fault("a line begins with no word of a row"));
         }
-        let Ok(times) = count.parse::<usize>() else {
-            return Err(Fault("a count is no number"));
-        };
         Ok(Some(Line {
             word,
-            times,
+            times: number(count)?,
             text: text.trim_start(),
         }))
+    }
+}
+
+// What is on either side of the first mark; without one the text and the other.
+fn cut<'a>(text: &'a str, mark: char, other: &'a str) -> (&'a str, &'a str) {
+    match text.split_once(mark) {
+        Some(parts) => parts,
+        None => (text, other),
+    }
+}
+
+fn is_word(word: &str) -> bool {
+    for known in WORDS.split(' ') {
+        if known == word {
+            return true;
+        }
+    }
+    false
+}
+
+/// The number that a text is.
+pub fn number(text: &str) -> Result<usize, Fault> {
+    match text.parse::<usize>() {
+        Ok(number) => Ok(number),
+        Err(_) => Err(Fault("a number cannot be read")),
     }
 }

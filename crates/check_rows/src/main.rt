@@ -11,6 +11,8 @@ mod call;
 mod check;
 mod fault;
 mod filtered;
+mod firsts;
+mod gathered;
 mod lengths;
 mod limited;
 mod line;
@@ -18,19 +20,17 @@ mod made;
 mod noise;
 mod questions;
 mod random;
-mod readings;
+mod reading;
 mod report;
 mod row;
-mod segments;
-mod spelled;
-mod spellings;
+mod spelling;
 mod steps;
 mod stream;
+mod texts;
+mod unescaped;
 
 use crate::check::check_table;
-use crate::fault::Fault;
-use crate::readings::action_lines;
-use escape_stream::Parser;
+use crate::texts::action_lines;
 use std::io::Read;
 use std::process::ExitCode;
 use std::{env, fs, io};
@@ -61,13 +61,13 @@ fn check_named(rt: &HostRuntime, table: &str) -> io::Result<usize> {
 fn show_actions(rt: &HostRuntime) -> io::Result<usize> {
     let mut bytes = Vec::new(rt.alloc());
     rt.stdin().read_to_end(&mut bytes)?;
-    match action_lines(rt.alloc(), Parser::new(rt.alloc()).parse_as_vec(&bytes)) {
-        Ok(lines) => {
+    match action_lines(rt.alloc(), &bytes)? {
+        Some(lines) => {
             print!(rt; "{lines}")?;
             Ok(0)
         }
-        Err(Fault(what)) => {
-            println!(rt; "{what}")?;
+        None => {
+            println!(rt; "the parser failed")?;
             Ok(1)
         }
     }

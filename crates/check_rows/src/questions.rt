@@ -1,6 +1,6 @@
 //! How often a filter asks its policy.
 use crate::fault::Fault;
-use crate::segments::whole;
+use crate::reading::Reading;
 use esc_filter::{Admit, filter_stream};
 use escape_stream::{Action, Watched};
 use std::alloc::Global;
@@ -60,13 +60,22 @@ impl Admit<Global> for Expecting<'_> {
 /// A policy that admits all is asked of each action that can be written by itself, and shown each other
 /// one; a policy that admits none is asked of the same, and shown each: once, in order.
 pub fn check_questions(alloc: Global, stream: &[u8], limit: usize) -> Result<(), Fault> {
-    let actions = whole(alloc, stream)?;
-    let all = asked_of(alloc, stream, limit, &actions, true);
-    let none = asked_of(alloc, stream, limit, &actions, false);
-    if all.differs || all.done != actions.len() || all != none {
-        return Err(Fault("a policy is not asked of each action once"));
+    let actions = Reading::Whole.read(alloc, stream);
+    let is_right = match &actions {
+        Ok(actions) => are_asked_once(alloc, stream, limit, actions),
+        Err(_) => false,
+    };
+    if is_right {
+        return Ok(());
     }
-    Ok(())
+    Err(Fault("a policy is not asked of each action once"))
+}
+
+// Whether a policy is asked once of each of these actions of the stream.
+fn are_asked_once(alloc: Global, stream: &[u8], limit: usize, actions: &[Action]) -> bool {
+    let all = asked_of(alloc, stream, limit, actions, true);
+    let none = asked_of(alloc, stream, limit, actions, false);
+    !all.differs && all.done == actions.len() && all == none
 }
 
 // What a policy that admits all or nothing is asked of.

@@ -1,5 +1,4 @@
 //! What differs.
-use crate::fault::Fault;
 use std::alloc::{AllocError, Global};
 
 // How many characters of a text are shown.
@@ -36,15 +35,15 @@ impl Report {
         row: &str,
         what: &str,
         wanted: &str,
-        got: Result<String, Fault>,
-    ) -> Result<(), Fault> {
+        got: Result<String, AllocError>,
+    ) -> Result<(), AllocError> {
         let got = got?;
-        if wanted != got.as_str() {
-            self.note(row, what)?;
-            self.show("wanted", wanted)?;
-            self.show("got   ", got.as_str())?;
+        if wanted == got.as_str() {
+            return Ok(());
         }
-        Ok(())
+        self.note(row, what)?;
+        self.show("wanted", wanted)?;
+        self.show("got   ", got.as_str())
     }
 
     // Shows the beginning of a text, and its control characters by their numbers.

@@ -1,52 +1,46 @@
 //! Rows.
 use crate::fault::Fault;
-use crate::line::Line;
-use std::alloc::Global;
+use crate::line::{Line, number};
+use crate::unescaped::unescaped;
+use std::alloc::{AllocError, Global};
 
 /// A row: its name, and its lines.
-#[derive(Clone, Copy)]
+#[derive(Drop)]
 pub struct Row<'a> {
     pub name: &'a str,
-    pub lines: &'a str,
+    pub lines: Vec<Line<'a>>,
 }
 
 impl<'a> Row<'a> {
     /// Reads the lines of a block. None where it has comments alone.
-    pub fn read(block: &'a str) -> Result<Option<Row<'a>>, Fault> {
-        for line in block.lines() {
-            if let Some(line) = Line::read(line)? {
-                if line.word != "row" {
-                    return Err(Fault("a block does not begin with a row"));
-                }
-                return Ok(Some(Row {
-                    name: line.text,
-                    lines: block,
-                }));
-            }
+    pub fn read(alloc: Global, block: &'a str) -> Result<Option<Row<'a>>, Fault> {
+        let lines = lines_of(alloc, block)?;
+        match lines.first() {
+            None => Ok(None),
+            Some(line) if line.word == "row" => Ok(Some(Row {
+                name: line.text,
+                lines,
+            })),
+            Some(_) => Err(Fault("a block does not begin with a row")),
         }
-        Ok(None)
     }
 
     /// Whether it has a line of this word.
-    pub fn has(&self, word: &str) -> Result<bool, Fault> {
-        for line in self.lines.lines() {
-            if let Some(line) = Line::read(line)? {
-                if line.word == word {
-                    return Ok(true);
-                }
+    pub fn has(&self, word: &str) -> bool {
+        for line in &self.lines {
+            if line.word == word {
+                return true;
             }
         }
-        Ok(false)
+        false
     }
 
     /// The bytes of all its lines of this word.
     pub fn bytes(&self, alloc: Global, word: &str) -> Result<Vec<u8>, Fault> {
         let mut bytes = Vec::new(alloc);
-        for line in self.lines.lines() {
-            if let Some(line) = Line::read(line)? {
-                if line.word == word {
-                    add_bytes(alloc, line, &mut bytes)?;
-                }
+        for line in &self.lines {
+            if line.word == word {
+                add_bytes(alloc, line, &mut bytes)?;
             }
         }
         Ok(bytes)
@@ -60,33 +54,49 @@ impl<'a> Row<'a> {
         }
     }
 
-    /// The number that it has behind a word, and 0 where it has none.
-    pub fn number(&self, alloc: Global, word: &str) -> Result<usize, Fault> {
-        if !self.has(word)? {
-            return Ok(0);
-        }
-        match self.text(alloc, word)?.as_str().parse::<usize>() {
-            Ok(number) => Ok(number),
-            Err(_) => Err(Fault("a line has no number")),
-        }
+    /// What is written of its actions: its stream, where it has no text.
+    pub fn written(&self, alloc: Global) -> Result<String, Fault> {
+        let word = if self.has("text") { "text" } else { "stream" };
+        self.text(alloc, word)
     }
 
-    /// The Debug text of the list of its actions.
+    /// The number after a word, and 0 where it has none.
+    pub fn number(&self, alloc: Global, word: &str) -> Result<usize, Fault> {
+        if !self.has(word) {
+            return Ok(0);
+        }
+        let text = self.text(alloc, word)?;
+        number(text.as_str())
+    }
+
+    /// The Debug text of the list of its actions, as a call returns it.
     pub fn actions(&self, alloc: Global) -> Result<String, Fault> {
         let mut list = String::new(alloc);
-        list.push('[')?;
-        for line in self.lines.lines() {
-            if let Some(line) = Line::read(line)? {
-                add_action(alloc, line, &mut list)?;
-            }
+        list.push_str(BEGINS)?;
+        for line in &self.lines {
+            add_action(alloc, line, &mut list)?;
         }
-        list.push(']')?;
+        list.push_str("])")?;
         Ok(list)
     }
 }
 
+// How a list of actions begins.
+const BEGINS: &str = "Ok([";
+
+// The lines of a block.
+fn lines_of(alloc: Global, block: &str) -> Result<Vec<Line<'_>>, Fault> {
+    let mut lines = Vec::new(alloc);
+    for line in block.lines() {
+        if let Some(line) = Line::read(line)? {
+            lines.push(line)?;
+        }
+    }
+    Ok(lines)
+}
+
 // Adds the bytes of a line, as often as it says.
-fn add_bytes(alloc: Global, line: Line, bytes: &mut Vec<u8>) -> Result<(), Fault> {
+fn add_bytes(alloc: Global, line: &Line, bytes: &mut Vec<u8>) -> Result<(), Fault> {
     let text = unescaped(alloc, line.text)?;
     for _ in 0..line.times {
         bytes.extend_from_slice(&text)?;
@@ -95,18 +105,34 @@ fn add_bytes(alloc: Global, line: Line, bytes: &mut Vec<u8>) -> Result<(), Fault
 }
 
 // Adds what a line says of the actions to their list.
-fn add_action(alloc: Global, line: Line, list: &mut String) -> Result<(), Fault> {
-    if (line.word == "action" || line.word == "kept") && list.len() > 1 {
-        list.push_str(", ")?;
-    }
+fn add_action(alloc: Global, line: &Line, list: &mut String) -> Result<(), Fault> {
     match line.word {
-        "action" | "more" => {
-            for _ in 0..line.times {
-                list.push_str(line.text)?;
-            }
+        "action" => {
+            add_comma(list)?;
+            add_text(line, list)?;
         }
-        "kept" => add_kept(alloc, line.text, list)?,
+        "more" => add_text(line, list)?,
+        "kept" => {
+            add_comma(list)?;
+            add_kept(alloc, line.text, list)?;
+        }
         _ => {}
+    }
+    Ok(())
+}
+
+// Adds a comma where an action is before it.
+fn add_comma(list: &mut String) -> Result<(), AllocError> {
+    if list.len() > BEGINS.len() {
+        return list.push_str(", ");
+    }
+    Ok(())
+}
+
+// Adds the text of a line, as often as it says.
+fn add_text(line: &Line, list: &mut String) -> Result<(), AllocError> {
+    for _ in 0..line.times {
+        list.push_str(line.text)?;
     }
     Ok(())
 }
@@ -125,54 +151,4 @@ pub fn parts_of(alloc: Global, text: &[u8]) -> Result<Vec<&[u8]>, Fault> {
         parts.push(part)?;
     }
     Ok(parts)
-}
-
-/// The bytes that a text stands for: `\xNN` is the byte of two hexadecimal digits, `\\` is `\`, and
-/// any other character is itself, in UTF-8.
-pub fn unescaped(alloc: Global, text: &str) -> Result<Vec<u8>, Fault> {
-    let mut bytes = Vec::new(alloc);
-    let mut reading = Escape::None;
-    for byte in text.bytes() {
-        let (read, next) = reading.take(byte)?;
-        if let Some(byte) = read {
-            bytes.push(byte)?;
-        }
-        reading = next;
-    }
-    match reading {
-        Escape::None => Ok(bytes),
-        _ => Err(Fault("an escape that is cut short")),
-    }
-}
-
-// How much of an escape has been read.
-#[derive(Clone, Copy)]
-enum Escape {
-    None,
-    Begun,
-    NoDigit,
-    Digit(u8),
-}
-
-impl Escape {
-    // The byte that ends with this one, if one does, and what has been read then.
-    fn take(self, byte: u8) -> Result<(Option<u8>, Escape), Fault> {
-        match (self, byte) {
-            (Escape::None, b'\\') => Ok((None, Escape::Begun)),
-            (Escape::None, _) | (Escape::Begun, b'\\') => Ok((Some(byte), Escape::None)),
-            (Escape::Begun, b'x') => Ok((None, Escape::NoDigit)),
-            (Escape::Begun, _) => Err(Fault("a \\ that begins no escape")),
-            (Escape::NoDigit, _) => Ok((None, Escape::Digit(digit(byte)?))),
-            (Escape::Digit(high), _) => Ok((Some(high << 4 | digit(byte)?), Escape::None)),
-        }
-    }
-}
-
-// The value of a hexadecimal digit.
-fn digit(byte: u8) -> Result<u8, Fault> {
-    match byte {
-        b'0'..=b'9' => Ok(byte - b'0'),
-        b'a'..=b'f' => Ok(byte - b'a' + 10),
-        _ => Err(Fault("a \\x without two digits, 0 to 9 or a to f")),
-    }
 }

@@ -1,58 +1,68 @@
 //! Calls of one parser, one after another.
 use crate::call::Call;
 use crate::fault::Fault;
-use crate::line::Line;
+use crate::reading::is_read_alike;
 use crate::report::Report;
-use crate::row::{Row, unescaped};
-use crate::segments::is_read_alike;
+use crate::row::Row;
+use crate::unescaped::unescaped;
 use escape_stream::Parser;
-use std::alloc::Global;
+use std::alloc::{AllocError, Global};
 
 /// Makes the calls of a row, and compares what each returns.
-pub fn check_steps(alloc: Global, row: Row, report: &mut Report) -> Result<(), Fault> {
+pub fn check_steps(alloc: Global, row: &Row, report: &mut Report) -> Result<(), Fault> {
+    let given = given(alloc, row)?;
+    let wanted = wanted(alloc, row)?;
+    report.expect(row.name, "the calls", wanted.as_str(), Ok(given))?;
+    check_segments(alloc, row, report)
+}
+
+// A line for what each call returns.
+fn given(alloc: Global, row: &Row) -> Result<String, Fault> {
     let mut parser = Parser::new(alloc);
-    let mut shown = String::new(alloc);
-    for line in row.lines.lines() {
-        if let Some(line) = Line::read(line)? {
-            shown = step(alloc, row.name, line, &mut parser, shown, report)?;
+    let mut given = String::new(alloc);
+    match make(alloc, row, &mut parser, &mut given) {
+        Ok(()) => Ok(given),
+        Err(fault) => Err(fault),
+    }
+}
+
+// A line for what each call has to return.
+fn wanted(alloc: Global, row: &Row) -> Result<String, Fault> {
+    let mut wanted = String::new(alloc);
+    for line in &row.lines {
+        if line.word == "gives" {
+            add_line(&mut wanted, line.text)?;
+        }
+    }
+    Ok(wanted)
+}
+
+// Makes the calls, and adds a line for what each returns.
+fn make(alloc: Global, row: &Row, parser: &mut Parser, given: &mut String) -> Result<(), Fault> {
+    for line in &row.lines {
+        if let Some(call) = called(line.word) {
+            let bytes = unescaped(alloc, line.text)?;
+            let shown = call.shown(alloc, parser, &bytes)?;
+            add_line(given, shown.as_str())?;
         }
     }
     Ok(())
 }
 
-// Makes the call of a line, or compares what the one before it returned. Returns the Debug text
-// that the next line has to give.
-fn step(
-    alloc: Global,
-    name: &str,
-    line: Line,
-    parser: &mut Parser,
-    shown: String,
-    report: &mut Report,
-) -> Result<String, Fault> {
-    if line.word == "gives" {
-        report.expect(name, "a call", line.text, Ok(shown))?;
-        return Ok(String::new(alloc));
-    }
-    match called(line.word) {
-        Some(call) => {
-            let bytes = unescaped(alloc, line.text)?;
-            check_segments(alloc, name, &bytes, report)?;
-            Ok(call.shown(alloc, parser, &bytes)?)
-        }
-        None => Ok(shown),
-    }
+fn add_line(lines: &mut String, line: &str) -> Result<(), AllocError> {
+    lines.push_str(line)?;
+    lines.push('\n')
 }
 
-// The bytes of a call, as a stream of their own, by a parser and by its segments.
-fn check_segments(
-    alloc: Global,
-    name: &str,
-    bytes: &[u8],
-    report: &mut Report,
-) -> Result<(), Fault> {
-    if !is_read_alike(alloc, bytes)? {
-        report.note(name, "read otherwise by segments")?;
+// The bytes of each call, as a stream of their own, by a parser and by its segments.
+fn check_segments(alloc: Global, row: &Row, report: &mut Report) -> Result<(), Fault> {
+    for line in &row.lines {
+        if called(line.word).is_some() {
+            let bytes = unescaped(alloc, line.text)?;
+            if !is_read_alike(alloc, &bytes)? {
+                report.note(row.name, "read otherwise by segments")?;
+            }
+        }
     }
     Ok(())
 }

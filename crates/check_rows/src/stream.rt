@@ -1,20 +1,21 @@
 //! A stream, what it means, and the text of that.
-use crate::asked::Asked;
-use crate::fault::Fault;
-use crate::readings::{added_actions, by_bytes, by_calls, by_prefixes, first_actions, in_pieces};
+use crate::asked::{Asked, normalised};
+use crate::firsts::finds_firsts;
+use crate::reading::{Reading, by_calls, is_read_alike};
 use crate::report::Report;
-use crate::segments::{by_segments, is_read_alike};
-use crate::spellings::{encoded, encoded_bytes, is_displayed, normalised};
-use std::alloc::Global;
+use crate::texts::{encoded, is_displayed, shown};
+use std::alloc::{AllocError, Global};
 
-/// A stream, the Debug text of the list of its actions, the text that `encode` writes for these,
-/// and whether its last segment is finished.
+/// A stream, the Debug text of the list of its actions, as a call returns it, the text that
+/// `encode` writes for these, this text as `encode` returns it, and whether the stream's last
+/// segment is finished.
 #[derive(Clone, Copy)]
 pub struct Stream<'a> {
     pub name: &'a str,
     pub bytes: &'a [u8],
     pub actions: &'a str,
     pub text: &'a str,
+    pub written: &'a str,
     pub is_finished: bool,
 }
 
@@ -29,25 +30,24 @@ const EACH_BYTE_UP_TO: usize = 200_000;
 
 impl Stream<'_> {
     /// Notes each way in which the library reads or writes it otherwise.
-    pub fn check(&self, alloc: Global, report: &mut Report) -> Result<(), Fault> {
+    pub fn check(&self, alloc: Global, report: &mut Report) -> Result<(), AllocError> {
         self.check_pieces(alloc, report)?;
         self.check_calls(alloc, report)?;
-        self.check_segments(alloc, report)?;
+        self.check_prefixes(alloc, report)?;
         self.check_text(alloc, report)?;
         self.check_memory(alloc, report)
     }
 
     // In one piece, and in two pieces, cut at each place.
-    fn check_pieces(&self, alloc: Global, report: &mut Report) -> Result<(), Fault> {
-        self.has_actions("read whole", in_pieces(alloc, &[self.bytes]), report)?;
+    fn check_pieces(&self, alloc: Global, report: &mut Report) -> Result<(), AllocError> {
+        self.is_read(alloc, "read whole", Reading::Whole, report)?;
+        self.is_read(alloc, "read by segments", Reading::Segments, report)?;
         if self.bytes.len() > CUT_UP_TO {
             return Ok(());
         }
         let differences = report.differences;
-        for at in 0..self.bytes.len() {
-            let (begins, ends) = self.bytes.split_at(at);
-            let got = in_pieces(alloc, &[begins, ends]);
-            self.has_actions("read in two pieces", got, report)?;
+        for at in 0..=self.bytes.len() {
+            self.is_read(alloc, "read in two pieces", Reading::Cut(at), report)?;
             if report.differences > differences {
                 break;
             }
@@ -56,32 +56,24 @@ impl Stream<'_> {
     }
 
     // Byte by byte, and by the calls that return the actions of a prefix.
-    fn check_calls(&self, alloc: Global, report: &mut Report) -> Result<(), Fault> {
+    fn check_calls(&self, alloc: Global, report: &mut Report) -> Result<(), AllocError> {
         if self.bytes.len() > EACH_BYTE_UP_TO {
             return Ok(());
         }
-        self.has_actions("read byte by byte", by_bytes(alloc, self.bytes), report)?;
-        self.has_actions("given to a closure", by_calls(alloc, self.bytes), report)?;
+        self.is_read(alloc, "read byte by byte", Reading::Bytes, report)?;
         if self.is_finished {
-            self.has_actions("read by prefixes", by_prefixes(alloc, self.bytes), report)?;
+            self.is_read(alloc, "read by prefixes", Reading::Prefixes, report)?;
         }
-        self.check_first(alloc, report)
+        let got = shown(alloc, by_calls(alloc, self.bytes));
+        report.expect(self.name, "given to a closure", self.actions, got)?;
+        if !finds_firsts(alloc, self.bytes) {
+            report.note(self.name, "first actions differ")?;
+        }
+        Ok(())
     }
 
-    // The first action of each call.
-    fn check_first(&self, alloc: Global, report: &mut Report) -> Result<(), Fault> {
-        let first = first_actions(alloc, self.bytes);
-        match added_actions(alloc, self.bytes) {
-            Ok(added) => report.expect(self.name, "first actions", added.as_str(), first),
-            Err(fault) => Err(fault),
-        }
-    }
-
-    // Segment by segment; and each prefix, the stream itself too, both ways, also with a byte after
-    // it.
-    fn check_segments(&self, alloc: Global, report: &mut Report) -> Result<(), Fault> {
-        let got = by_segments(alloc, self.bytes);
-        self.has_actions("read by segments", got, report)?;
+    // Each prefix, the stream itself too, also with a byte after it, by its segments and a parser.
+    fn check_prefixes(&self, alloc: Global, report: &mut Report) -> Result<(), AllocError> {
         let len = self.bytes.len();
         if len > EACH_BYTE_UP_TO {
             return Ok(());
@@ -89,34 +81,35 @@ impl Stream<'_> {
         let first = if len > PREFIXES_UP_TO { len } else { 0 };
         for end in first..=len {
             if !is_read_alike(alloc, &self.bytes[..end])? {
-                return Ok(report.note(self.name, "a prefix is read otherwise by segments")?);
+                return report.note(self.name, "a prefix is read otherwise by segments");
             }
         }
         Ok(())
     }
 
     // The text of the actions, and what is read of it again.
-    fn check_text(&self, alloc: Global, report: &mut Report) -> Result<(), Fault> {
-        self.has_text("written", encoded(alloc, self.bytes), report)?;
-        self.has_text(
-            "written again",
-            encoded_bytes(alloc, self.text.as_bytes()),
-            report,
-        )?;
-        self.has_text("normalised", normalised(alloc, self.bytes), report)?;
-        if !is_displayed(alloc, self.bytes, self.text)? {
+    fn check_text(&self, alloc: Global, report: &mut Report) -> Result<(), AllocError> {
+        let got = encoded(alloc, alloc, Reading::Whole.read(alloc, self.bytes));
+        report.expect(self.name, "written", self.written, got)?;
+        let again = Reading::Bytes.read(alloc, self.text.as_bytes());
+        let got = encoded(alloc, alloc, again);
+        report.expect(self.name, "written again", self.written, got)?;
+        let got = normalised(alloc, alloc, self.bytes);
+        report.expect(self.name, "normalised", self.written, got)?;
+        let actions = Reading::Halves.read(alloc, self.bytes);
+        if !is_displayed(alloc, actions, self.text)? {
             report.note(self.name, "displayed otherwise")?;
         }
         Ok(())
     }
 
     // Each request for memory is refused in turn.
-    fn check_memory(&self, alloc: Global, report: &mut Report) -> Result<(), Fault> {
+    fn check_memory(&self, alloc: Global, report: &mut Report) -> Result<(), AllocError> {
         if self.bytes.len() > CUT_UP_TO {
             return Ok(());
         }
         for asked in Asked::ALL {
-            let errors = asked.refuse_each(alloc, self.bytes)?;
+            let errors = asked.refuse_each(alloc, self, report)?;
             if errors == 0 && asked.grows(self) {
                 report.note(self.name, "no refused request makes an error")?;
             }
@@ -124,21 +117,15 @@ impl Stream<'_> {
         Ok(())
     }
 
-    fn has_actions(
+    // Whether the stream has these actions, read in this way.
+    fn is_read(
         &self,
+        alloc: Global,
         how: &str,
-        got: Result<String, Fault>,
+        reading: Reading,
         report: &mut Report,
-    ) -> Result<(), Fault> {
+    ) -> Result<(), AllocError> {
+        let got = shown(alloc, reading.read(alloc, self.bytes));
         report.expect(self.name, how, self.actions, got)
-    }
-
-    fn has_text(
-        &self,
-        how: &str,
-        got: Result<String, Fault>,
-        report: &mut Report,
-    ) -> Result<(), Fault> {
-        report.expect(self.name, how, self.text, got)
     }
 }
