@@ -230,8 +230,8 @@ pub struct Parser {
     number: u64,
     text: usize,
     is_over: bool,
-    due_kind: u32,
-    due_value: u32,
+    queued_kind: u32,
+    queued_value: u32,
     has_failed: bool,
 }
 
@@ -269,8 +269,8 @@ pub fn begun() -> Parser {
         number: 0,
         text: 0,
         is_over: false,
-        due_kind: 0,
-        due_value: 0,
+        queued_kind: 0,
+        queued_value: 0,
         has_failed: false,
     };
     // SAFETY: the reference is what the type asks for.

@@ -13,7 +13,7 @@ pub struct Count {
     controls: u64,
     escapes: u64,
     control_sequences: u64,
-    entries: u64,
+    csi_params: u64,
     commands: u64,
     parts: u64,
     device_strings: u64,
@@ -40,7 +40,7 @@ impl Count {
             controls: 0,
             escapes: 0,
             control_sequences: 0,
-            entries: 0,
+            csi_params: 0,
             commands: 0,
             parts: 0,
             device_strings: 0,
@@ -67,7 +67,7 @@ impl fmt::Display for Count {
         write!(
             f,
             "{} CSI of {} entries, {} OSC of {} parts, ",
-            self.control_sequences, self.entries, self.commands, self.parts
+            self.control_sequences, self.csi_params, self.commands, self.parts
         )?;
         write!(
             f,
@@ -178,7 +178,7 @@ impl VTActor for Count {
         byte: u8,
     ) -> Result<(), AllocError> {
         self.control_sequences = self.control_sequences.wrapping_add(1);
-        self.entries = self.entries.wrapping_add(params.len() as u64);
+        self.csi_params = self.csi_params.wrapping_add(params.len() as u64);
         self.add(byte as u64);
         Ok(())
     }

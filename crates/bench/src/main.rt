@@ -49,7 +49,7 @@ fn main(rt: HostRuntime) -> Result<ExitCode> {
     Ok(ExitCode::from(0))
 }
 
-/// What the words behind the program's name ask for.
+/// What the words after the program's name ask for.
 fn arguments(rt: &HostRuntime) -> Result<Option<Wanted>> {
     let mut wanted = Wanted::new(rt.alloc());
     for word in env::args(rt)?.skip(1) {

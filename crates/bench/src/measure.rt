@@ -18,9 +18,9 @@ pub enum Measure {
     Framing,
     /// The actions of a stream, counted.
     Parse,
-    /// The first actions of the fronts of a stream, counted.
+    /// The first actions of the prefixes of a stream, counted.
     ParseFirst,
-    /// The actions of the fronts of a stream that leave no segment unfinished, counted.
+    /// The actions of the prefixes of a stream that leave no segment unfinished, counted.
     ParseFirstAsVec,
     /// The text of a stream's actions.
     Encode,
@@ -71,7 +71,7 @@ impl Measure {
             Measure::Framing => framing(alloc, &input.bytes),
             Measure::Parse => parse(alloc, &input.bytes),
             Measure::ParseFirst => first_actions(alloc, &input.bytes),
-            Measure::ParseFirstAsVec => fronts(alloc, &input.bytes),
+            Measure::ParseFirstAsVec => prefixes(alloc, &input.bytes),
             Measure::Encode => Ok(Counted::Bytes(encode(alloc, &input.actions)?.len())),
             Measure::Normalise => normal(alloc, &input.bytes),
             Measure::Images => images(alloc, &input.bytes),
@@ -124,7 +124,7 @@ fn first_actions(alloc: Global, bytes: &[u8]) -> Result<Counted> {
     Ok(tally.counted())
 }
 
-fn fronts(alloc: Global, bytes: &[u8]) -> Result<Counted> {
+fn prefixes(alloc: Global, bytes: &[u8]) -> Result<Counted> {
     let mut tally = Tally::new();
     let mut parser = Parser::new(alloc);
     let mut rest = bytes;

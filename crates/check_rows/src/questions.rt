@@ -6,8 +6,8 @@ use escape_stream::{Action, Watched};
 use std::alloc::Global;
 use std::cell::Cell;
 
-// How many actions are done with, how many of them the policy was asked of, and whether one came that
-// was not due.
+// How many actions are done with, how many of them the policy was asked of, and whether one came
+// that was not due.
 #[derive(Clone, Copy, PartialEq, Eq)]
 struct Progress {
     done: usize,
@@ -24,8 +24,8 @@ struct Expecting<'a> {
 }
 
 impl Expecting<'_> {
-    // Notes an action that came: whether it is the one that is due, whether it was asked of, and whether
-    // it is done with.
+    // Notes an action that came: whether it is the one that is due, whether it was asked of, and
+    // whether it is done with.
     fn note(&self, action: &Action, is_asked: bool, is_done: bool) {
         let Progress {
             done,
@@ -57,8 +57,8 @@ impl Admit<Global> for Expecting<'_> {
     }
 }
 
-/// A policy that admits all is asked of each action that can be written by itself, and shown each other
-/// one; a policy that admits none is asked of the same, and shown each: once, in order.
+/// A policy that admits all is asked of each action that can be written by itself, and shown each
+/// other one; a policy that admits none is asked of the same, and shown each: once, in order.
 pub fn check_questions(alloc: Global, stream: &[u8], limit: usize) -> Result<(), Fault> {
     let actions = Reading::Whole.read(alloc, stream);
     let is_right = match &actions {

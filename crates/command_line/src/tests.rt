@@ -124,10 +124,10 @@ const ROWS: [(&str, &str); 46] = [
 
 #[test]
 fn words_are_read(rt: HostRuntime) -> Result<(), Fail> {
-    for (line, told) in ROWS {
+    for (line, emitted) in ROWS {
         let words = words_of(rt.alloc(), line)?;
         let text = text_of(rt.alloc(), read(rt.alloc(), KNOWN, &words))?;
-        assert_eq!(rt; text.as_str(), told);
+        assert_eq!(rt; text.as_str(), emitted);
     }
     Ok(())
 }

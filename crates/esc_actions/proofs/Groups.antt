@@ -2,7 +2,7 @@
 use Rattle.std.proofs.Common.{ℕ, ℤ, ◌≡◌, Bool, true, false, ◌||◌, if◌then◌else◌, List, [], ◌∷◌, ◌++◌, map, Option, Some, None, refl, ap, sym, ◌∙◌, subst}
 use Rattle.esc_sequences.specs.Csis.{CsiValue}
 use Rattle.esc_frame.specs.Bodies.{is_csi_body, is_dcs_header}
-use Rattle.esc_frame.specs.Classes.{is_plain, is_put, is_text, those, strip}
+use Rattle.esc_frame.specs.Classes.{is_c0, is_put, is_text, those, strip}
 use Rattle.esc_frame.specs.Events.{Event}
 use Rattle.esc_frame.specs.Events.Event.{Execute, DcsPut, DcsUnhook, ApcDispatch}
 use Rattle.esc_frame.specs.Segments.{Segment, HasEvents, Opener, events_of, events_of_cut, ends_itself, opener_events, executes, csi_event, csi_events}
@@ -52,9 +52,9 @@ groups_append A m es fs h k =
     (values_from None (mode_from m es) fs) (is_entered (mode_from (mode_from m es) fs)) h k))
 
 -- where the first of them leave nothing unfinished
-groups_behind : (A : Type 0) (es fs : List Event) → mode_from plain es ≡ plain → Groups A plain es
+groups_after : (A : Type 0) (es fs : List Event) → mode_from plain es ≡ plain → Groups A plain es
     → Groups A plain fs → Groups A plain (es ++ fs)
-groups_behind A es fs e h k = groups_append A plain es fs h (subst (λ m. Groups A m fs) (sym e) k)
+groups_after A es fs e h k = groups_append A plain es fs h (subst (λ m. Groups A m fs) (sym e) k)
 
 executed_grouped : (A : Type 0) (o : Option ControlCode)
     → AreGrouped {A = A} false (executed o) false
@@ -82,7 +82,7 @@ executes_grouped A (b ∷ bs) =
     (executes_grouped A bs)
 
 opener_grouped : (A : Type 0) (o : Opener) → Groups A plain (opener_events o)
-opener_grouped A (Long n) = executes_grouped A (those is_plain n)
+opener_grouped A (Long n) = executes_grouped A (those is_c0 n)
 opener_grouped A Raw = refl
 opener_grouped A Pair = refl
 
@@ -132,60 +132,61 @@ dcs_grouped A x d f true false =
     groups_append A plain (hook_event x f ∷ puts d) [] (data_grouped A x d f) refl
 dcs_grouped A x d f false finished = refl
 
-told_grouped : (A : Type 0) (e : Event) (finished : Bool) → Groups A plain (e ∷ [])
+emitted_grouped : (A : Type 0) (e : Event) (finished : Bool) → Groups A plain (e ∷ [])
     → Groups A plain (if finished then e ∷ [] else [])
-told_grouped A e true h = h
-told_grouped A e false h = refl
+emitted_grouped A e true h = h
+emitted_grouped A e false h = refl
 
 segment_grouped : (A : Type 0) (g : Segment) (finished : Bool)
     → Groups A plain (events_of g finished)
 segment_grouped A (Character b) finished = (refl, refl)
 segment_grouped A (Wide x) finished = (refl, refl)
-segment_grouped A (Broken x) finished = told_grouped A _ finished (refl, refl)
+segment_grouped A (Broken x) finished = emitted_grouped A _ finished (refl, refl)
 segment_grouped A (Stray b) finished = (refl, refl)
 segment_grouped A (Control b) finished = executes_grouped A (b ∷ [])
 segment_grouped A (HighControl p b) finished = executes_grouped A (b ∷ [])
 segment_grouped A (Terminator p b) finished = refl
 segment_grouped A (Escape x f) finished =
-    groups_behind A (executes x) _ (executes_keep plain (those is_plain x))
-    (executes_grouped A (those is_plain x))
+    groups_after A (executes x) _ (executes_keep plain (those is_c0 x))
+    (executes_grouped A (those is_c0 x))
     (refl, refl)
 segment_grouped A (Csi o x f) finished =
     groups_append A plain (opener_events o ++ executes x) (csi_events (strip x) f)
-    (groups_behind A (opener_events o) (executes x) (opener_keeps plain o) (opener_grouped A o)
-    (executes_grouped A (those is_plain x)))
+    (groups_after A (opener_events o) (executes x) (opener_keeps plain o) (opener_grouped A o)
+    (executes_grouped A (those is_c0 x)))
     (subst (λ m. Groups A m (csi_events (strip x) f))
     (sym (mode_append plain (opener_events o) (executes x)
     ∙ ap (λ m. mode_from m (executes x)) (opener_keeps plain o)
-    ∙ executes_keep plain (those is_plain x)))
+    ∙ executes_keep plain (those is_c0 x)))
     (csi_grouped A (strip x) f (is_csi_body (strip x))))
 segment_grouped A (Osc o ps e) finished =
-    groups_behind A (opener_events o) _ (opener_keeps plain o) (opener_grouped A o)
-    (told_grouped A _ finished (refl, refl))
+    groups_after A (opener_events o) _ (opener_keeps plain o) (opener_grouped A o)
+    (emitted_grouped A _ finished (refl, refl))
 segment_grouped A (Dcs o x f d) finished =
-    groups_behind A (opener_events o) _ (opener_keeps plain o) (opener_grouped A o)
+    groups_after A (opener_events o) _ (opener_keeps plain o) (opener_grouped A o)
     (dcs_grouped A (strip x) d f (is_dcs_header (strip x)) finished)
 segment_grouped A (Apc o d) finished =
-    groups_behind A (opener_events o) _ (opener_keeps plain o) (opener_grouped A o)
-    (told_grouped A _ finished (apc_grouped A (those is_text d)))
+    groups_after A (opener_events o) _ (opener_keeps plain o) (opener_grouped A o)
+    (emitted_grouped A _ finished (apc_grouped A (those is_text d)))
 segment_grouped A (Ignored k o d) finished = opener_grouped A o
-segment_grouped A (CutEscape x) finished = executes_grouped A (those is_plain x)
+segment_grouped A (CutEscape x) finished = executes_grouped A (those is_c0 x)
 segment_grouped A (CutCsi o x) finished =
-    groups_behind A (opener_events o) (executes x) (opener_keeps plain o) (opener_grouped A o)
-    (executes_grouped A (those is_plain x))
+    groups_after A (opener_events o) (executes x) (opener_keeps plain o) (opener_grouped A o)
+    (executes_grouped A (those is_c0 x))
 segment_grouped A (CutDcs o x) finished = opener_grouped A o
 
 cut_grouped : (A : Type 0) (gs : List Segment) → Groups A plain (events_of_cut gs)
 cut_grouped A [] = refl
 cut_grouped A (g ∷ []) = segment_grouped A g (ends_itself g)
-cut_grouped A (g ∷ h ∷ gs) = groups_behind A (events_of g true) (events_of_cut (h ∷ gs))
+cut_grouped A (g ∷ h ∷ gs) = groups_after A (events_of g true) (events_of_cut (h ∷ gs))
     (closes None g) (segment_grouped A g true) (cut_grouped A (h ∷ gs))
 
 -- by the law of the framing
-module _ (told : (s : List ℕ) → HasEvents s (events s)) where
+module _ (emitted : (s : List ℕ) → HasEvents s (events s)) where
   pub means_groups : (A : Type 0) → MeansGroups A
   unfolding meaning_within
-  means_groups A s = let t = told s in subst (λ es. Groups A plain es) (sym t.2) (cut_grouped A t.0)
+  means_groups A s = let t = emitted s in
+      subst (λ es. Groups A plain es) (sym t.2) (cut_grouped A t.0)
 
 -- values in groups, none of them an exception, are a writable list
 or_false : (a b : Bool) → (a || b) ≡ false → (a ≡ false) × (b ≡ false)

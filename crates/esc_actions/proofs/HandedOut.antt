@@ -8,7 +8,7 @@ use Rattle.std.proofs.lemmas.Str.{encode_ascii}
 use Rattle.esc_sequences.specs.declared.esc.Esc.TheVariants as esc_variant
 use Rattle.esc_sequences.specs.Csis.{CsiValue, csi_body, csi_of, ReadBack, ReadsBack}
 use Rattle.esc_sequences.specs.Escs.{esc_of, esc_text}
-use Rattle.esc_values.specs.Entries.{entries}
+use Rattle.esc_values.specs.Params.{csi_params}
 use Rattle.esc_values.specs.declared.csi_param.CsiParam.{CsiParam}
 use Rattle.esc_device.specs.Kinds.{kind_of}
 use Rattle.esc_device.specs.Values.{short_of}
@@ -19,8 +19,8 @@ use Rattle.esc_sixel.specs.Items.{items}
 use Rattle.esc_sixel.specs.Meaning.{sixel_of}
 use Rattle.esc_sixel.specs.Writable.{AreNatural}
 use Rattle.esc_tcap.specs.Names.{names_of}
-use Rattle.esc_frame.specs.Classes.{class_of, AllOf, is_control, is_raw_control, is_intermediate, is_put, is_text, ends_csi, ends_escape, opens}
-use Rattle.esc_frame.specs.Bodies.{is_csi_body, kept_entries, has_more_entries}
+use Rattle.esc_frame.specs.Classes.{class_of, AllOf, is_control, is_c1, is_intermediate, is_put, is_text, ends_csi, ends_escape, opens}
+use Rattle.esc_frame.specs.Bodies.{is_csi_body, kept_csi_params, has_more_csi_params}
 use Rattle.esc_frame.specs.Events.{Event}
 use Rattle.esc_frame.specs.Events.Event.{Print, Execute, EscDispatch, CsiDispatch, OscDispatch, DcsHook, DcsPut, DcsUnhook, ApcDispatch}
 use Rattle.esc_frame.specs.Fits.{IsFit, AreFit, IsOneSegment}
@@ -50,23 +50,23 @@ hands_append : {A : Type 0} (vs ws : List (Value A)) → AreHandedOut vs → Are
 hands_append [] ws h k = k
 hands_append (v ∷ vs) ws h k = (h.0, hands_append vs ws h.1 k)
 
-hands_behind : {A : Type 0} (vs ws : List (Value A)) → AreHandedOut (vs ++ ws) → AreHandedOut ws
-hands_behind [] ws h = h
-hands_behind (v ∷ vs) ws h = hands_behind vs ws h.1
+hands_after : {A : Type 0} (vs ws : List (Value A)) → AreHandedOut (vs ++ ws) → AreHandedOut ws
+hands_after [] ws h = h
+hands_after (v ∷ vs) ws h = hands_after vs ws h.1
 
 -- controls
-low_code : (b : ℕ) → b < 128 → (is_control (class_of b) || is_raw_control (class_of b)) ≡ true
+low_code : (b : ℕ) → b < 128 → (is_control (class_of b) || is_c1 (class_of b)) ≡ true
     → (nat_lt b 0x20 && not (b == 0x1b)) ≡ true
 unfolding class_of
 low_code b l h = grind (arith, nat_tests)
 
-high_small : (b : ℕ) → 128 ≤ b → (is_control (class_of b) || is_raw_control (class_of b)) ≡ true
+high_small : (b : ℕ) → 128 ≤ b → (is_control (class_of b) || is_c1 (class_of b)) ≡ true
     → (b ≤ 0x9f) × (b ≢ 0x90) × (b ≢ 0x98)
 unfolding class_of
 high_small b l h =
     (grind (arith, nat_tests), λ e. grind (arith, nat_tests), λ e. grind (arith, nat_tests))
 
-high_opens : (b : ℕ) → 128 ≤ b → (is_control (class_of b) || is_raw_control (class_of b)) ≡ true
+high_opens : (b : ℕ) → 128 ≤ b → (is_control (class_of b) || is_c1 (class_of b)) ≡ true
     → (b ≢ 0x9b) × (b ≢ 0x9c) × (b ≢ 0x9d) × (b ≢ 0x9e) × (b ≢ 0x9f)
 unfolding class_of
 high_opens b l h = (
@@ -90,7 +90,7 @@ other_code : (b : ℕ) → 128 ≤ b → b ≤ 0x9f → b ≢ 0x80 → b ≢ 0x8
 other_code b l h h0 h1 h2 h3 h4 h5 h6 h7 h8 h9 = grind (arith, nat_tests)
 
 executed_lone : (b : ℕ) (c : ControlCode)
-    → (is_control (class_of b) || is_raw_control (class_of b)) ≡ true → code_of b ≡ Some c
+    → (is_control (class_of b) || is_c1 (class_of b)) ≡ true → code_of b ≡ Some c
     → is_lone_control b ≡ true
 executed_lone b c h k = elim (cases_lt b 128) [
   | inl l ↦ rw (low_code b l h) refl
@@ -178,13 +178,13 @@ esc_handed (i ∷ []) f all h o = let q =
 esc_handed (i ∷ j ∷ is) f all h o = with_none f h o
 
 -- control sequences
-few_kept : (x : List ℕ) → length (entries x) ≤ 256 → (kept_entries x ≡ entries x)
-    × (has_more_entries x ≡ false)
-unfolding kept_entries has_more_entries
-few_kept x h = (take_all 256 (entries x) h, grind (arith, nat_tests))
+few_kept : (x : List ℕ) → length (csi_params x) ≤ 256 → (kept_csi_params x ≡ csi_params x)
+    × (has_more_csi_params x ≡ false)
+unfolding kept_csi_params has_more_csi_params
+few_kept x h = (take_all 256 (csi_params x) h, grind (arith, nat_tests))
 
-few_are : (x : List ℕ) → has_more_entries x ≡ false → length (entries x) ≤ 256
-unfolding has_more_entries
+few_are : (x : List ℕ) → has_more_csi_params x ≡ false → length (csi_params x) ≤ 256
+unfolding has_more_csi_params
 few_are x h = grind (arith, nat_tests)
 
 csi_small : (f : ℕ) → ends_csi (class_of f) ≡ true → f < 128
@@ -209,15 +209,16 @@ all_handed A f [] ends h = tt
 all_handed A f (v ∷ vs) ends h = (λ whole. csi_writable A f v ends h.0, all_handed A f vs ends h.1)
 
 body_handed : (A : Type 0) (low : LowerLaws A) (x : List ℕ) (f : ℕ) (more : Bool)
-    → has_more_entries x ≡ more → is_csi_body x ≡ true
-    → ends_csi (class_of f) ≡ true → AreHandedOut {A = A} (map csi (csi_of (kept_entries x) more f))
+    → has_more_csi_params x ≡ more → is_csi_body x ≡ true
+    → ends_csi (class_of f) ≡ true
+    → AreHandedOut {A = A} (map csi (csi_of (kept_csi_params x) more f))
 body_handed A low x f true e form ends =
     let P : List CsiValue → Type 0 = λ vs. AreHandedOut {A = A} (map csi vs) in
-    subst P (sym (low.csi_truncated (kept_entries x) f)) (λ whole. absurd cc, tt)
+    subst P (sym (low.csi_truncated (kept_csi_params x) f)) (λ whole. absurd cc, tt)
 body_handed A low x f false e form ends =
     let few = few_are x e in
     let P : List CsiParam → Type 0 = λ es. AreHandedOut {A = A} (map csi (csi_of es false f)) in
-    subst P (sym (few_kept x few).0) (all_handed A f (csi_of (entries x) false f) ends
+    subst P (sym (few_kept x few).0) (all_handed A f (csi_of (csi_params x) false f) ends
     (low.csi_back x f form few (csi_small f ends)))
 
 csi_handed : (A : Type 0) (low : LowerLaws A) (es : List CsiParam) (more : Bool) (f : ℕ)
@@ -225,7 +226,7 @@ csi_handed : (A : Type 0) (low : LowerLaws A) (es : List CsiParam) (more : Bool)
     → AreHandedOut {A = A} (given None plain (CsiDispatch es more f))
 csi_handed A low es more f (x, bytes, form, is, ends) =
     let P : Event → Type 0 = λ e. AreHandedOut {A = A} (given None plain e) in
-    subst P (sym is) (body_handed A low x f (has_more_entries x) refl form ends)
+    subst P (sym is) (body_handed A low x f (has_more_csi_params x) refl form ends)
 
 -- images
 text_byte : (b : ℕ) → is_text (class_of b) ≡ true → is_kept b ≡ true
@@ -360,5 +361,5 @@ pub yield_handed : (A : Type 0)
     → (limit : Option ℕ) (s b : List ℕ) → AreHandedOut {A = A} (yield_within limit s b)
 yield_handed A handed limit s b =
     let P : List (Value A) → Type 0 = λ x. AreHandedOut x in
-    hands_behind (meaning_within limit s) (yield_within limit s b)
+    hands_after (meaning_within limit s) (yield_within limit s b)
     (subst P (sym (meaning_more limit s b)) (handed limit (s ++ b)))

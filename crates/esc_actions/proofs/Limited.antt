@@ -5,7 +5,7 @@ use Rattle.std.proofs.lemmas.List.{append-nil}
 use Rattle.std.specs.List.{list_all}
 use Rattle.esc_values.specs.Clear.{parts_of}
 use Rattle.esc_frame.specs.Bodies.{is_csi_body, is_dcs_header}
-use Rattle.esc_frame.specs.Classes.{is_plain, is_put, is_text, those, strip}
+use Rattle.esc_frame.specs.Classes.{is_c0, is_put, is_text, those, strip}
 use Rattle.esc_frame.specs.Counts.{AreWithin}
 use Rattle.esc_frame.specs.Events.{Event}
 use Rattle.esc_frame.specs.Events.Event.{Print, Execute, EscDispatch, CsiDispatch, OscDispatch, DcsHook, DcsPut, DcsUnhook, ApcDispatch}
@@ -87,7 +87,7 @@ both_go_on (e ∷ es) fs h k = let q = and_parts (goes_on e) (list_all goes_on e
     rw (q.0, both_go_on es fs q.1 k) refl
 
 opener_goes_on : (o : Opener) → list_all goes_on (opener_events o) ≡ true
-opener_goes_on (Long n) = executes_go_on (those is_plain n)
+opener_goes_on (Long n) = executes_go_on (those is_c0 n)
 opener_goes_on Raw = refl
 opener_goes_on Pair = refl
 
@@ -153,35 +153,35 @@ segment_same limit (HighControl p b) finished h = refl
 segment_same limit (Terminator p b) finished h = refl
 segment_same limit (Escape x f) finished h =
     all_same limit plain (events_of (Escape x f) finished)
-    (both_go_on (executes x) (escape_event (strip x) f ∷ []) (executes_go_on (those is_plain x))
+    (both_go_on (executes x) (escape_event (strip x) f ∷ []) (executes_go_on (those is_c0 x))
     refl)
 segment_same limit (Csi o x f) finished h =
     all_same limit plain (events_of (Csi o x f) finished)
     (both_go_on (opener_events o ++ executes x) (csi_events (strip x) f)
     (both_go_on (opener_events o) (executes x) (opener_goes_on o)
-    (executes_go_on (those is_plain x)))
+    (executes_go_on (those is_c0 x)))
     (one_goes_on (csi_event (strip x) f) (is_csi_body (strip x)) refl))
 segment_same limit (Osc o ps e) finished h =
-    let told = OscDispatch (parts_of (text_of ps)) in
+    let emitted = OscDispatch (parts_of (text_of ps)) in
     all_same limit plain (events_of (Osc o ps e) finished)
-    (both_go_on (opener_events o) (if finished then told ∷ [] else []) (opener_goes_on o)
-    (one_goes_on told finished refl))
+    (both_go_on (opener_events o) (if finished then emitted ∷ [] else []) (opener_goes_on o)
+    (one_goes_on emitted finished refl))
 segment_same limit (Dcs o x f d) finished h =
     dcs_same limit o (hook_event (strip x) f ∷ puts d) (is_dcs_header (strip x)) finished
     (puts_go_on (those is_put d)) h
 segment_same limit (Apc o d) finished h =
-    let told = ApcDispatch (those is_text d) in
+    let emitted = ApcDispatch (those is_text d) in
     all_same limit plain (events_of (Apc o d) finished)
-    (both_go_on (opener_events o) (if finished then told ∷ [] else []) (opener_goes_on o)
-    (one_goes_on told finished refl))
+    (both_go_on (opener_events o) (if finished then emitted ∷ [] else []) (opener_goes_on o)
+    (one_goes_on emitted finished refl))
 segment_same limit (Ignored k o d) finished h =
     all_same limit plain (opener_events o) (opener_goes_on o)
 segment_same limit (CutEscape x) finished h =
-    all_same limit plain (executes x) (executes_go_on (those is_plain x))
+    all_same limit plain (executes x) (executes_go_on (those is_c0 x))
 segment_same limit (CutCsi o x) finished h =
     all_same limit plain (opener_events o ++ executes x)
     (both_go_on (opener_events o) (executes x) (opener_goes_on o)
-    (executes_go_on (those is_plain x)))
+    (executes_go_on (those is_c0 x)))
 segment_same limit (CutDcs o x) finished h =
     all_same limit plain (opener_events o) (opener_goes_on o)
 
@@ -203,7 +203,7 @@ cut_same limit (g ∷ h ∷ gs) k =
 
 -- by the laws of the framing
 module _ (once : (s : List ℕ) (xs ys : List Event) → HasEvents s xs → HasEvents s ys
-    → xs ≡ ys) (told : (s : List ℕ) → HasEvents s (events s))
+    → xs ≡ ys) (emitted : (s : List ℕ) → HasEvents s (events s))
     (same : (limit : Option ℕ) (s : List ℕ) (gs : List Segment) → IsCut s gs → AreWithin limit gs
     → events_within limit s ≡ events s) where
   pub same_meaning : (A : Type 0) (limit : Option ℕ) (s : List ℕ) → IsWithin limit s
@@ -211,7 +211,7 @@ module _ (once : (s : List ℕ) (xs ys : List Event) → HasEvents s xs → HasE
   unfolding meaning_within
   same_meaning A limit s (gs, cut, counts, data_counts) =
       let are : events s ≡ events_of_cut gs =
-      once s (events s) (events_of_cut gs) (told s) (gs, cut, refl) in
+      once s (events s) (events_of_cut gs) (emitted s) (gs, cut, refl) in
       ap (values_from limit plain) (same limit s gs cut counts ∙ are)
       ∙ cut_same limit gs data_counts ∙ ap (values_from None plain) (sym are)
 

@@ -99,38 +99,38 @@ esc_writable : {A : Type 0} (p t : Bool) (e : Esc) (vs : List (Value A)) → fal
 esc_writable p true e vs is h k = subst (λ q. AreWritableFrom q vs) is k
 esc_writable p false e vs is h k = (is, h, k)
 
-behind_writable : {A : Type 0} (p b : Bool) (vs : List (Value A)) → AreWritableFrom p vs
+after_writable : {A : Type 0} (p b : Bool) (vs : List (Value A)) → AreWritableFrom p vs
     → AreWritableFrom p (meant_after b vs)
-behind_writable p b [] h = h
-behind_writable p b (print c ∷ vs) h = (h.0, h.1, behind_writable false false vs h.2)
-behind_writable {A = A} p b (string t ∷ vs) h =
+after_writable p b [] h = h
+after_writable p b (print c ∷ vs) h = (h.0, h.1, after_writable false false vs h.2)
+after_writable {A = A} p b (string t ∷ vs) h =
     let P : Bool → Type 0 =
     λ q. AreWritableFrom {A = A} q ((map print (chars t) ++ []) ++ meant_after false vs) in
     subst P h.0 (string_writable t (meant_after false vs) h.1.0
-    (behind_writable false false vs h.2))
-behind_writable p b (control c ∷ vs) h = (h.0, h.1, behind_writable false false vs h.2)
-behind_writable {A = A} p b (esc e ∷ vs) h =
+    (after_writable false false vs h.2))
+after_writable p b (control c ∷ vs) h = (h.0, h.1, after_writable false false vs h.2)
+after_writable {A = A} p b (esc e ∷ vs) h =
     esc_writable p (is_terminator {A = A} (esc e) && b) e (meant_after false vs) h.0 h.1
-    (behind_writable false false vs h.2)
-behind_writable p b (csi c ∷ vs) h = (h.0, h.1, behind_writable false false vs h.2)
-behind_writable p b (osc c ∷ vs) h =
-    (h.0, h.1, (refl, terminator_writable, behind_writable false true vs h.2))
-behind_writable p b (kitty i ∷ vs) h =
-    (h.0, h.1, (refl, terminator_writable, behind_writable false true vs h.2))
-behind_writable p b (sixel s ∷ vs) h =
-    (h.0, h.1, (refl, terminator_writable, behind_writable false true vs h.2))
-behind_writable p b (termcap d ∷ vs) h =
-    (h.0, h.1, (refl, terminator_writable, behind_writable false true vs h.2))
-behind_writable p b (short s ∷ vs) h =
-    (h.0, h.1, (refl, terminator_writable, behind_writable false true vs h.2))
-behind_writable p b (enter e ∷ vs) h = (h.0, h.1, behind_writable true false vs h.2)
-behind_writable p b (datum c ∷ vs) h = (h.0, h.1, behind_writable true false vs h.2)
-behind_writable p b (exit ∷ vs) h =
-    (h.0, h.1, (refl, terminator_writable, behind_writable false true vs h.2))
+    (after_writable false false vs h.2)
+after_writable p b (csi c ∷ vs) h = (h.0, h.1, after_writable false false vs h.2)
+after_writable p b (osc c ∷ vs) h =
+    (h.0, h.1, (refl, terminator_writable, after_writable false true vs h.2))
+after_writable p b (kitty i ∷ vs) h =
+    (h.0, h.1, (refl, terminator_writable, after_writable false true vs h.2))
+after_writable p b (sixel s ∷ vs) h =
+    (h.0, h.1, (refl, terminator_writable, after_writable false true vs h.2))
+after_writable p b (termcap d ∷ vs) h =
+    (h.0, h.1, (refl, terminator_writable, after_writable false true vs h.2))
+after_writable p b (short s ∷ vs) h =
+    (h.0, h.1, (refl, terminator_writable, after_writable false true vs h.2))
+after_writable p b (enter e ∷ vs) h = (h.0, h.1, after_writable true false vs h.2)
+after_writable p b (datum c ∷ vs) h = (h.0, h.1, after_writable true false vs h.2)
+after_writable p b (exit ∷ vs) h =
+    (h.0, h.1, (refl, terminator_writable, after_writable false true vs h.2))
 
 pub normal_writable : {A : Type 0} (vs : List (Value A)) → AreWritable vs → AreWritable (normal vs)
 normal_writable {A = A} vs h = let P : List (Value A) → Type 0 = λ x. AreWritable x in
-    subst P (meant_normal vs) (behind_writable false false vs h)
+    subst P (meant_normal vs) (after_writable false false vs h)
 
 -- and its own normal list
 chars_meant : {A : Type 0} (cs : List ℕ) (vs : List (Value A))

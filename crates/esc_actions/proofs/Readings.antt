@@ -1,7 +1,7 @@
 -- Nothing is unfinished between two segments, so a stream means the readings of its cut.
 use Rattle.std.proofs.Common.{ℕ, ◌≡◌, Bool, true, false, if◌then◌else◌, List, [], ◌∷◌, ◌++◌, map, length, Option, None, ◌⊎◌, inl, inr, refl, ap, sym, ◌∙◌}
 use Rattle.esc_frame.specs.Bodies.{is_csi_body}
-use Rattle.esc_frame.specs.Classes.{is_plain, is_text, those, strip}
+use Rattle.esc_frame.specs.Classes.{is_c0, is_text, those, strip}
 use Rattle.esc_frame.specs.Events.{Event}
 use Rattle.esc_frame.specs.Events.Event.{Execute, OscDispatch, DcsUnhook, ApcDispatch}
 use Rattle.esc_frame.specs.Segments.{Segment, IsCut, HasEventsWithin, Opener, Piece, Ending, events_of_within, events_of_cut_within, ends_itself, opener_events}
@@ -27,7 +27,7 @@ executes_keep m [] = refl
 executes_keep m (b ∷ bs) = executes_keep m bs
 
 pub opener_keeps : (m : Mode) (o : Opener) → mode_from m (opener_events o) ≡ m
-opener_keeps m (Long n) = executes_keep m (those is_plain n)
+opener_keeps m (Long n) = executes_keep m (those is_c0 n)
 opener_keeps m Raw = refl
 opener_keeps m Pair = refl
 
@@ -46,10 +46,10 @@ unhooked : (m : Mode) (es : List Event) → mode_from m (es ++ DcsUnhook ∷ [])
 unhooked m es = mode_append m es (DcsUnhook ∷ [])
 
 -- an event of a whole string, where it is within the limit
-told_keeps : (e : Event) (t : Bool) → after plain e ≡ plain
+emitted_keeps : (e : Event) (t : Bool) → after plain e ≡ plain
     → mode_from plain (if t then e ∷ [] else []) ≡ plain
-told_keeps e true h = h
-told_keeps e false h = refl
+emitted_keeps e true h = h
+emitted_keeps e false h = refl
 
 dcs_closes : (x d : List ℕ) (f : ℕ) (t : Bool)
     → mode_from plain (if t then (hook_event x f ∷ puts d) ++ DcsUnhook ∷ [] else []) ≡ plain
@@ -67,24 +67,26 @@ closes limit (Control b) = refl
 closes limit (HighControl p b) = refl
 closes limit (Terminator p b) = refl
 closes limit (Escape x f) =
-    after_kept plain (executes x) _ plain (executes_keep plain (those is_plain x)) refl
+    after_kept plain (executes x) _ plain (executes_keep plain (those is_c0 x)) refl
 closes limit (Csi o x f) =
     after_kept plain (opener_events o ++ executes x) (csi_events (strip x) f) plain
     (after_kept plain (opener_events o) (executes x) plain (opener_keeps plain o)
-    (executes_keep plain (those is_plain x)))
+    (executes_keep plain (those is_c0 x)))
     (csi_keeps (strip x) f (is_csi_body (strip x)) refl)
 closes limit (Osc o ps e) =
     after_kept plain (opener_events o) _ plain (opener_keeps plain o)
-    (told_keeps (OscDispatch (parts_of (text_of ps))) (is_within limit (length (text_of ps))) refl)
+    (emitted_keeps (OscDispatch (parts_of (text_of ps)))
+    (is_within limit (length (text_of ps))) refl)
 closes limit (Dcs o x f d) = after_kept plain (opener_events o) _ plain (opener_keeps plain o)
     (dcs_closes (strip x) d f (is_read limit (strip x)))
 closes limit (Apc o d) =
     after_kept plain (opener_events o) _ plain (opener_keeps plain o)
-    (told_keeps (ApcDispatch (those is_text d)) (is_within limit (length (those is_text d))) refl)
+    (emitted_keeps (ApcDispatch (those is_text d))
+    (is_within limit (length (those is_text d))) refl)
 closes limit (Ignored k o d) = opener_keeps plain o
-closes limit (CutEscape x) = executes_keep plain (those is_plain x)
+closes limit (CutEscape x) = executes_keep plain (those is_c0 x)
 closes limit (CutCsi o x) = after_kept plain (opener_events o) (executes x) plain
-    (opener_keeps plain o) (executes_keep plain (those is_plain x))
+    (opener_keeps plain o) (executes_keep plain (those is_c0 x))
 closes limit (CutDcs o x) = opener_keeps plain o
 
 values_of_cut : {A : Type 0} (limit : Option ℕ) (gs : List Segment)
@@ -158,11 +160,12 @@ cut_opens limit (g ∷ h ∷ gs) =
 -- by the laws of the framing
 module _ (once : (limit : Option ℕ) (stream : List ℕ) (xs ys : List Event)
     → HasEventsWithin limit stream xs → HasEventsWithin limit stream ys → xs ≡ ys)
-    (told : (limit : Option ℕ) (s : List ℕ) → HasEventsWithin limit s (events_within limit s)) where
+    (emitted : (limit : Option ℕ) (s : List ℕ)
+    → HasEventsWithin limit s (events_within limit s)) where
   pub events_are : (limit : Option ℕ) (s : List ℕ) (gs : List Segment) → IsCut s gs
       → events_within limit s ≡ events_of_cut_within limit gs
   events_are limit s gs cut = once limit s (events_within limit s) (events_of_cut_within limit gs)
-      (told limit s) (gs, cut, refl)
+      (emitted limit s) (gs, cut, refl)
 
   pub plain_at_ground : (limit : Option ℕ) (s : List ℕ) → IsAtGround s
       → mode_from plain (events_within limit s) ≡ plain

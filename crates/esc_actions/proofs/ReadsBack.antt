@@ -24,7 +24,7 @@ use Rattle.esc_device.specs.declared.short.ShortDeviceControl.{ShortDeviceContro
 use Rattle.esc_sixel.specs.Writable.{IsWritable as IsWritableSixel}
 use Rattle.esc_sixel.specs.declared.sixel.Sixel.{Sixel}
 use Rattle.esc_tcap.specs.Names.{names_text, AreWritable as AreWritableNames}
-use Rattle.esc_frame.specs.Classes.{class_of, AllOf, is_control, is_raw_control, is_text}
+use Rattle.esc_frame.specs.Classes.{class_of, AllOf, is_control, is_c1, is_text}
 use Rattle.esc_frame.specs.Events.{Event}
 use Rattle.esc_frame.specs.Events.Event.{Print, Execute, EscDispatch, OscDispatch, DcsHook, ApcDispatch}
 use Rattle.esc_frame.specs.Stream.{Says, events}
@@ -50,7 +50,7 @@ use Rattle.esc_actions.specs.Values.{Mode, in_sixel, in_termcap, in_short, after
 use Rattle.esc_actions.specs.Writable.{IsWritable, AreWritable, AreWritableFrom, is_lone_control, is_within, stays_within}
 use Rattle.esc_actions.specs.declared.control_code.ControlCode.{ControlCode}
 
--- texts, one behind another
+-- texts, one after another
 reads_by : {A : Type 0} (t u : List ℕ) (vs ws : List (Value A)) → t ≡ u → vs ≡ ws → Reads t vs
     → Reads u ws
 reads_by t u vs ws e f h rest =
@@ -101,7 +101,7 @@ low_control : (b : ℕ) → b < 128 → is_lone_control b ≡ true → is_contro
 unfolding class_of
 low_control b l h = grind (arith, nat_tests)
 
-high_control : (b : ℕ) → 128 ≤ b → is_lone_control b ≡ true → is_raw_control (class_of b) ≡ true
+high_control : (b : ℕ) → 128 ≤ b → is_lone_control b ≡ true → is_c1 (class_of b) ≡ true
 unfolding class_of
 high_control b l h = grind (arith, nat_tests)
 
@@ -135,7 +135,7 @@ reads_control {A = A} low c h =
           (low.executes_high b (high_control b l h)))
     ]
 
--- what the text of one value means by itself: its characters, and behind a string action the
+-- what the text of one value means by itself: its characters, and after a string action the
 -- terminator
 abbrev pub meant : {A : Type 0} → Value A → List (Value A)
 meant v = spelled v ++ (if is_string v then terminator ∷ [] else [])
@@ -321,7 +321,7 @@ text_more [] b = append-nil (encode_utf8 b)
 text_more (c ∷ d) b = ap (λ x. encode_utf8 c ++ x) (text_more d b)
     ∙ sym (append_assoc (encode_utf8 c) (as_text d) (encode_utf8 b))
 
--- outside an entered mode; and inside one, behind its header and these bytes
+-- outside an entered mode; and inside one, after its header and these bytes
 abbrev Both : {A : Type 0} → List (Value A) → Type 0
 Both {A = A} vs =
     ((b : Bool) → AreWritableFrom false vs → Reads (texts_after b vs) (meant_after b vs))
@@ -437,9 +437,9 @@ reads_both low (exit ∷ vs) = (
       exit_step low e d vs w a ((reads_both low vs).0 true h.2),
 )
 
-reads_behind : {A : Type 0} (low : LowerLaws A) (b : Bool) (vs : List (Value A)) → AreWritable vs
+reads_after : {A : Type 0} (low : LowerLaws A) (b : Bool) (vs : List (Value A)) → AreWritable vs
     → Reads (texts_after b vs) (meant_after b vs)
-reads_behind low b vs h = (reads_both low vs).0 b h
+reads_after low b vs h = (reads_both low vs).0 b h
 
 -- the same, as the normal list
 abbrev after_string : {A : Type 0} → List (Value A) → List (Value A)
@@ -449,7 +449,7 @@ abbrev AsNormal : {A : Type 0} → List (Value A) → Type 0
 AsNormal vs = (meant_after false vs ≡ normal vs)
     × (terminator ∷ meant_after true vs ≡ after_string vs)
 
--- behind a string action: a terminator, unless one stands there
+-- after a string action: a terminator, unless one stands there
 string_normal : {A : Type 0} (v : Value A) (vs : List (Value A)) (t : Bool)
     → v ∷ (terminator ∷ meant_after true vs) ≡ v
     ∷ ((if not t then terminator ∷ [] else []) ++ normal vs)
@@ -514,7 +514,7 @@ meant_normal vs = (as_normal vs).0
 pub reads_back : {A : Type 0} → LowerLaws A → (vs : List (Value A)) → AreWritable vs
     → meaning (list_text vs) ≡ normal vs
 reads_back low vs h =
-    reads_whole (list_text vs) (meant_after false vs) (reads_behind low false vs h)
+    reads_whole (list_text vs) (meant_after false vs) (reads_after low false vs h)
     ∙ meant_normal vs
 
 -- whatever follows
@@ -522,4 +522,4 @@ pub reads_by_itself : {A : Type 0} → LowerLaws A → (vs : List (Value A)) →
     → Reads (list_text vs) (normal vs)
 reads_by_itself low vs h =
     reads_by (list_text vs) (list_text vs) (meant_after false vs) (normal vs) refl (meant_normal vs)
-    (reads_behind low false vs h)
+    (reads_after low false vs h)

@@ -5,7 +5,7 @@ use Rattle.std.specs.List.{list_all, list_any}
 use Rattle.std.specs.Char.{encode_utf8}
 use Rattle.esc_values.specs.Clear.{is_clear, IsClearText, AreTextParts, parts_of}
 use Rattle.esc_sequences.specs.Csis.{csi_of, ReadBack, unspecified}
-use Rattle.esc_values.specs.Entries.{entries, is_csi_body}
+use Rattle.esc_values.specs.Params.{csi_params, is_csi_body}
 use Rattle.esc_values.specs.declared.csi_param.CsiParam.{CsiParam}
 use Rattle.esc_device.specs.Kinds.{kind_of}
 use Rattle.esc_device.specs.Says.{EnterSays, ShortSays, SixelSays, QuerySays}
@@ -14,7 +14,7 @@ use Rattle.esc_device.specs.Writable.{AreData, IsWritableEnter, IsWritableShort,
 use Rattle.esc_device.specs.declared.enter.EnterDeviceControlMode.{EnterDeviceControlMode}
 use Rattle.esc_device.specs.declared.kind.StringKind.TheVariants as kind
 use Rattle.esc_device.specs.declared.short.ShortDeviceControl.{ShortDeviceControl}
-use Rattle.esc_frame.specs.Classes.{class_of, AllOf, is_control, is_raw_control, is_put, is_text}
+use Rattle.esc_frame.specs.Classes.{class_of, AllOf, is_control, is_c1, is_put, is_text}
 use Rattle.esc_frame.specs.Events.{Event}
 use Rattle.esc_frame.specs.Events.Event.{Print, Execute, EscDispatch, OscDispatch, DcsHook, ApcDispatch}
 use Rattle.esc_frame.specs.Fits.{IsFit, AreFit, IsOneSegment}
@@ -36,7 +36,7 @@ pub record LowerLaws (A : Type 0) : Type 0 where
   -- what texts say, whatever follows them
   pub prints : (c : ℕ) → is_clear c ≡ true → Says (encode_utf8 c) (Print c ∷ [])
   pub executes : (b : ℕ) → is_control (class_of b) ≡ true → Says (b ∷ []) (Execute b ∷ [])
-  pub executes_high : (b : ℕ) → is_raw_control (class_of b) ≡ true
+  pub executes_high : (b : ℕ) → is_c1 (class_of b) ≡ true
       → Says (0xc2 ∷ b ∷ []) (Execute b ∷ [])
   pub one_segment : (t : List ℕ) (es : List Event) → IsOneSegment t es → Says t es
   pub command : (t : List ℕ) → IsClearText t
@@ -59,8 +59,8 @@ pub record LowerLaws (A : Type 0) : Type 0 where
   pub image_writable : (t : List ℕ) → list_all is_kept t ≡ true → (i : KittyImage A)
       → image_of t ≡ Some i → IsWritableImage i
   -- control sequences
-  pub csi_back : (x : List ℕ) (f : ℕ) → is_csi_body x ≡ true → length (entries x) ≤ 256 → f < 128
-      → ReadBack f (csi_of (entries x) false f)
+  pub csi_back : (x : List ℕ) (f : ℕ) → is_csi_body x ≡ true → length (csi_params x) ≤ 256 → f < 128
+      → ReadBack f (csi_of (csi_params x) false f)
   pub csi_truncated : (es : List CsiParam) (f : ℕ) → csi_of es true f ≡ unspecified es true f ∷ []
   -- device control strings
   pub mode_says : (e : EnterDeviceControlMode A) (d : List ℕ) → IsWritableEnter e → AreData d

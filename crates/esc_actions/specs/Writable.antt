@@ -72,7 +72,7 @@ abbrev pub is_opening : Esc → Bool
 is_opening (esc_variant.Unspecified None f) = opens (class_of f)
 is_opening _ = false
 
--- a control sequence of which entries are left out
+-- a control sequence of which parameters are left out
 abbrev pub is_truncated : CsiValue → Bool
 is_truncated (sgr s) = false
 is_truncated (unspecified es more f) = more

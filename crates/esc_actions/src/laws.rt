@@ -134,8 +134,8 @@ pub fn normal_normal<A: Allocator>()
 
 /// Every value that any stream means, whatever limit there is, is writable, but for an escape
 /// sequence without intermediate whose letter opens a string or a control sequence; a control
-/// sequence of which entries were left out; the header of a mode of which intermediates were left
-/// out; and a byte A0 to FF of a mode, or a short control that has one.
+/// sequence of which parameters were left out; the header of a mode of which intermediates were
+/// left out; and a byte A0 to FF of a mode, or a short control that has one.
 pub fn handed_out<A: Allocator>()
     ensures { (limit : Option ℕ) (s : List ℕ) → AreHandedOut {A = A} (meaning_within limit s) }
 {

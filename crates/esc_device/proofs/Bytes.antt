@@ -4,10 +4,10 @@ use Rattle.std.proofs.lemmas.Bool.{and_parts}
 use Rattle.std.proofs.lemmas.Bool.Decides.{nat_tests}
 use Rattle.std.proofs.lemmas.Str.{encode_ascii}
 use Rattle.std.specs.List.{list_all, list_any}
-use Rattle.esc_values.specs.Entries.{is_body_byte, is_final, is_intermediate_byte, is_marker}
+use Rattle.esc_values.specs.Params.{is_body_byte, is_final, is_intermediate_byte, is_private_prefix}
 use Rattle.esc_frame.specs.Bodies.{is_dcs_parameter}
 use Rattle.esc_frame.specs.Classes.{class_of, AllOf, in_body, is_put, ends_csi}
-use Rattle.esc_device.specs.Texts.{as_text, markers_text, others_text}
+use Rattle.esc_device.specs.Texts.{as_text, private_prefixes_text, others_text}
 use Rattle.esc_device.specs.Writable.{is_datum, AreData, is_high_byte}
 
 pub all_pass : (p q : ℕ → Bool) → ((b : ℕ) → p b ≡ true → q b ≡ true) → (bs : List ℕ)
@@ -21,8 +21,8 @@ pub body_byte : (b : ℕ) → is_body_byte b ≡ true → in_body (class_of b) �
 unfolding class_of
 body_byte b h = grind (arith, nat_tests)
 
-pub marker_in_body : (b : ℕ) → is_marker b ≡ true → is_body_byte b ≡ true
-marker_in_body b h = grind (arith, nat_tests)
+pub private_prefix_in_body : (b : ℕ) → is_private_prefix b ≡ true → is_body_byte b ≡ true
+private_prefix_in_body b h = grind (arith, nat_tests)
 
 pub parameter_in_body : (b : ℕ) → is_dcs_parameter b ≡ true → is_body_byte b ≡ true
 parameter_in_body b h = grind (arith, nat_tests)
@@ -36,17 +36,18 @@ in_body_all bs h = all_pass is_body_byte (λ b. in_body (class_of b)) body_byte 
 pub intermediate_small : (b : ℕ) → is_intermediate_byte b ≡ true → b < 128
 intermediate_small b h = grind (arith, nat_tests)
 
-pub marker_small : (b : ℕ) → is_marker b ≡ true → b < 128
-marker_small b h = grind (arith, nat_tests)
+pub private_prefix_small : (b : ℕ) → is_private_prefix b ≡ true → b < 128
+private_prefix_small b h = grind (arith, nat_tests)
 
-pub intermediate_no_marker : (b : ℕ) → is_intermediate_byte b ≡ true → is_marker b ≡ false
-intermediate_no_marker b h = grind (arith, nat_tests)
+pub intermediate_no_private_prefix : (b : ℕ) → is_intermediate_byte b ≡ true
+    → is_private_prefix b ≡ false
+intermediate_no_private_prefix b h = grind (arith, nat_tests)
 
 pub intermediate_no_parameter : (b : ℕ) → is_intermediate_byte b ≡ true → is_dcs_parameter b ≡ false
 intermediate_no_parameter b h = grind (arith, nat_tests)
 
-pub parameter_no_marker : (b : ℕ) → is_dcs_parameter b ≡ true → is_marker b ≡ false
-parameter_no_marker b h = grind (arith, nat_tests)
+pub parameter_no_private_prefix : (b : ℕ) → is_dcs_parameter b ≡ true → is_private_prefix b ≡ false
+parameter_no_private_prefix b h = grind (arith, nat_tests)
 
 -- final bytes
 pub final_ends : (f : ℕ) → is_final f ≡ true → ends_csi (class_of f) ≡ true
@@ -98,16 +99,17 @@ small_text t small (b ∷ bs) h =
 pub data_text : (d : List ℕ) → AreData d → as_text d ≡ d
 data_text d h = small_text is_datum datum_small d h
 
-pub no_markers : (bs : List ℕ) → list_all is_intermediate_byte bs ≡ true → markers_text bs ≡ []
-no_markers [] h = refl
-no_markers (b ∷ bs) h =
+pub no_private_prefixes : (bs : List ℕ) → list_all is_intermediate_byte bs ≡ true
+    → private_prefixes_text bs ≡ []
+no_private_prefixes [] h = refl
+no_private_prefixes (b ∷ bs) h =
     let q = and_parts (is_intermediate_byte b) (list_all is_intermediate_byte bs) h in
-    rw (intermediate_no_marker b q.0) (no_markers bs q.1)
+    rw (intermediate_no_private_prefix b q.0) (no_private_prefixes bs q.1)
 
 pub all_others : (bs : List ℕ) → list_all is_intermediate_byte bs ≡ true → others_text bs ≡ bs
 all_others [] h = refl
 all_others (b ∷ bs) h =
     let q = and_parts (is_intermediate_byte b) (list_all is_intermediate_byte bs) h in
-    rw (intermediate_no_marker b q.0)
+    rw (intermediate_no_private_prefix b q.0)
     (ap (λ x. x ++ others_text bs) (encode_ascii b (intermediate_small b q.0))
     ∙ ap (λ x. b ∷ x) (all_others bs q.1))

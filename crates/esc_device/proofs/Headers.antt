@@ -1,4 +1,4 @@
--- The header that a marker, parameters and intermediates write is read as these.
+-- The header that a private prefix, parameters and intermediates write is read as these.
 use Rattle.std.proofs.Common.{ℕ, ℤ, pos, negsuc, ◌≡◌, ◌≢◌, ◌<◌, ◌^◌, Bool, true, false, List, [], ◌∷◌, ◌++◌, length, map, refl, ap, sym, ◌∙◌}
 use Rattle.std.proofs.Common.{take-append-drop, arith}
 use Rattle.std.specs.Fmt.{decimal, signed_decimal}
@@ -9,13 +9,13 @@ use Rattle.std.proofs.lemmas.List.{append_cancel_left}
 use Rattle.std.proofs.lemmas.List.Folds.{list_all-append, flat_map-map}
 use Rattle.std.proofs.lemmas.List.Sums.{take_while-cons}
 use Rattle.esc_values.specs.Clear.{AreClearParts, joined}
-use Rattle.esc_values.specs.Entries.{is_marker, is_intermediate_byte, behind_marker, drop_while, held, value_behind}
+use Rattle.esc_values.specs.Params.{is_private_prefix, is_intermediate_byte, after_private_prefix, drop_while, held, value_after}
 use Rattle.esc_values.proofs.Numerals.{decimal_part, decimal_passes}
 use Rattle.esc_values.proofs.Split.{parts_text}
-use Rattle.esc_frame.specs.Bodies.{is_dcs_parameter, is_dcs_header, dcs_params, dcs_intermediates, marker_of}
+use Rattle.esc_frame.specs.Bodies.{is_dcs_parameter, is_dcs_header, dcs_params, dcs_intermediates, private_prefix_of}
 use Rattle.esc_sixel.specs.Writable.{IsNatural, AreNatural, params_of}
 use Rattle.esc_sixel.proofs.Pieces.{decimal_piece}
-use Rattle.esc_device.proofs.Bytes.{intermediate_no_marker, intermediate_no_parameter, parameter_no_marker}
+use Rattle.esc_device.proofs.Bytes.{intermediate_no_private_prefix, intermediate_no_parameter, parameter_no_private_prefix}
 use Rattle.esc_device.specs.Says.{IsMark, ReadsBack}
 use Rattle.esc_device.specs.Texts.{params_text}
 
@@ -39,7 +39,7 @@ drop_prefix p xs ys h k =
     (ap (λ z. z ++ drop_while p (xs ++ ys)) (sym (take_prefix p xs ys h k))
     ∙ take-append-drop (prefix_len p (xs ++ ys)) (xs ++ ys))
 
--- a header of a marker, parameter bytes and intermediates
+-- a header of a private prefix, parameter bytes and intermediates
 not_parameter : (is : List ℕ) → list_all is_intermediate_byte is ≡ true
     → NotFirst is_dcs_parameter is
 not_parameter [] h = tt
@@ -47,25 +47,28 @@ not_parameter (i ∷ is) h =
     intermediate_no_parameter i
     (and_parts (is_intermediate_byte i) (list_all is_intermediate_byte is) h).0
 
-pub not_marker : (is : List ℕ) → list_all is_intermediate_byte is ≡ true → NotFirst is_marker is
-not_marker [] h = tt
-not_marker (i ∷ is) h =
-    intermediate_no_marker i (and_parts (is_intermediate_byte i) (list_all is_intermediate_byte is)
+pub not_private_prefix : (is : List ℕ) → list_all is_intermediate_byte is ≡ true
+    → NotFirst is_private_prefix is
+not_private_prefix [] h = tt
+not_private_prefix (i ∷ is) h =
+    intermediate_no_private_prefix i
+    (and_parts (is_intermediate_byte i) (list_all is_intermediate_byte is)
     h).0
 
-not_marker_first : (x is : List ℕ) → list_all is_dcs_parameter x ≡ true
-    → list_all is_intermediate_byte is ≡ true → NotFirst is_marker (x ++ is)
-not_marker_first [] is h k = not_marker is k
-not_marker_first (b ∷ x) is h k =
-    parameter_no_marker b (and_parts (is_dcs_parameter b) (list_all is_dcs_parameter x) h).0
+not_private_prefix_first : (x is : List ℕ) → list_all is_dcs_parameter x ≡ true
+    → list_all is_intermediate_byte is ≡ true → NotFirst is_private_prefix (x ++ is)
+not_private_prefix_first [] is h k = not_private_prefix is k
+not_private_prefix_first (b ∷ x) is h k =
+    parameter_no_private_prefix b (and_parts (is_dcs_parameter b) (list_all is_dcs_parameter x) h).0
 
-pub behind_mark : (m r : List ℕ) → IsMark m → NotFirst is_marker r → behind_marker (m ++ r) ≡ r
-behind_mark [] [] h k = refl
-behind_mark [] (b ∷ r) h k = rw k refl
-behind_mark (i ∷ []) r h k = rw h refl
-behind_mark (i ∷ j ∷ x) r h k = absurd h
+pub after_mark : (m r : List ℕ) → IsMark m → NotFirst is_private_prefix r
+    → after_private_prefix (m ++ r) ≡ r
+after_mark [] [] h k = refl
+after_mark [] (b ∷ r) h k = rw k refl
+after_mark (i ∷ []) r h k = rw h refl
+after_mark (i ∷ j ∷ x) r h k = absurd h
 
-mark_of : (m r : List ℕ) → IsMark m → NotFirst is_marker r → marker_of (m ++ r) ≡ m
+mark_of : (m r : List ℕ) → IsMark m → NotFirst is_private_prefix r → private_prefix_of (m ++ r) ≡ m
 mark_of [] [] h k = refl
 mark_of [] (b ∷ r) h k = rw k refl
 mark_of (i ∷ []) r h k = rw h refl
@@ -81,18 +84,19 @@ pub formed : (m x is : List ℕ) → IsMark m → list_all is_dcs_parameter x �
     → list_all is_intermediate_byte is ≡ true → Formed m x is
 unfolding is_dcs_header dcs_params dcs_intermediates
 formed m x is hm hx hi =
-    let plain = not_marker_first x is hx hi in
+    let plain = not_private_prefix_first x is hx hi in
     let rest = not_parameter is hi in
     record {
       form = ap (λ y. list_all is_intermediate_byte (drop_while is_dcs_parameter y))
-          (behind_mark m (x ++ is) hm plain)
+          (after_mark m (x ++ is) hm plain)
           ∙ ap (list_all is_intermediate_byte) (drop_prefix is_dcs_parameter x is hx rest) ∙ hi;
       params = ap (λ y. params_of (take_while is_dcs_parameter y))
-          (behind_mark m (x ++ is) hm plain)
+          (after_mark m (x ++ is) hm plain)
           ∙ ap params_of (take_prefix is_dcs_parameter x is hx rest);
-      intermediates = ap (λ y. y ++ drop_while is_dcs_parameter (behind_marker (m ++ (x ++ is))))
+      intermediates =
+          ap (λ y. y ++ drop_while is_dcs_parameter (after_private_prefix (m ++ (x ++ is))))
           (mark_of m (x ++ is) hm plain)
-          ∙ ap (λ y. m ++ drop_while is_dcs_parameter y) (behind_mark m (x ++ is) hm plain)
+          ∙ ap (λ y. m ++ drop_while is_dcs_parameter y) (after_mark m (x ++ is) hm plain)
           ∙ ap (λ y. m ++ y) (drop_prefix is_dcs_parameter x is hx rest);
     }
 
@@ -135,7 +139,7 @@ not_one_empty (pos n ∷ ps) h e =
 not_one_empty (negsuc n ∷ ps) h e = absurd h.0
 
 abbrev number_of_piece : List ℕ → ℤ
-number_of_piece p = pos (held (value_behind 0 p))
+number_of_piece p = pos (held (value_after 0 p))
 
 held_small : (n : ℕ) → n < 2 ^ 63 → held n ≡ n
 held_small n small = omega arith

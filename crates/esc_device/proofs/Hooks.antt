@@ -5,14 +5,14 @@ use Rattle.std.specs.List.{list_all, list_any, take_while}
 use Rattle.std.proofs.lemmas.Bool.{cases_Bool, eqb-true}
 use Rattle.std.proofs.lemmas.Bool.Decides.{nat_tests}
 use Rattle.esc_values.specs.Clear.{parts_of}
-use Rattle.esc_values.specs.Entries.{is_marker, is_intermediate_byte, behind_marker, drop_while, held, value_behind}
-use Rattle.esc_frame.specs.Bodies.{is_dcs_parameter, is_dcs_header, dcs_params, dcs_intermediates, marker_of}
+use Rattle.esc_values.specs.Params.{is_private_prefix, is_intermediate_byte, after_private_prefix, drop_while, held, value_after}
+use Rattle.esc_frame.specs.Bodies.{is_dcs_parameter, is_dcs_header, dcs_params, dcs_intermediates, private_prefix_of}
 use Rattle.esc_frame.specs.Classes.{AllOf, is_put}
 use Rattle.esc_frame.specs.Events.Event.{DcsHook}
 use Rattle.esc_frame.specs.Fits.{IsFit}
 use Rattle.esc_sixel.specs.Writable.{AreNatural}
 use Rattle.esc_device.proofs.Bytes.{ends_final, put_data}
-use Rattle.esc_device.proofs.Headers.{behind_mark, not_marker}
+use Rattle.esc_device.proofs.Headers.{after_mark, not_private_prefix}
 use Rattle.esc_device.specs.Kinds.{kind_of, query_kind}
 use Rattle.esc_device.specs.Says.{IsMark}
 use Rattle.esc_device.specs.Values.{enter_of, short_of}
@@ -21,13 +21,13 @@ use Rattle.esc_device.specs.declared.kind.StringKind.TheVariants as kind
 
 -- parameters
 are_natural : (pieces : List (List ℕ))
-    → AreNatural (map (λ p. pos (held (value_behind 0 p))) pieces)
+    → AreNatural (map (λ p. pos (held (value_after 0 p))) pieces)
 are_natural [] = tt
 are_natural (p ∷ ps) = (omega arith, are_natural ps)
 
 header_natural : (x : List ℕ) → AreNatural (dcs_params x)
 unfolding dcs_params
-header_natural x = are_natural (parts_of (take_while is_dcs_parameter (behind_marker x)))
+header_natural x = are_natural (parts_of (take_while is_dcs_parameter (after_private_prefix x)))
 
 -- what a header event says of its header
 pub hook_parts : (f g : ℕ) (ps qs : List ℤ) (is js : List ℕ) (s t : Bool)
@@ -42,9 +42,9 @@ params_are_natural f ps is more (x, body, form, same, ends) =
     subst AreNatural (sym q.1) (header_natural x)
 
 -- intermediates
-is_mark : (x : List ℕ) → IsMark (marker_of x)
+is_mark : (x : List ℕ) → IsMark (private_prefix_of x)
 is_mark [] = tt
-is_mark (b ∷ x) = elim (cases_Bool (is_marker b)) [
+is_mark (b ∷ x) = elim (cases_Bool (is_private_prefix b)) [
   | inl e ↦ rw e e
   | inr e ↦ rw e tt
 ]
@@ -53,12 +53,12 @@ kept_whole : (is : List ℕ) → nat_lt 2 (length is) ≡ false → (take 2 is �
 kept_whole is h = let few : length is ≤ 2 = grind (arith, nat_tests) in (take_all 2 is few, few)
 
 of_header : (x : List ℕ) → is_dcs_header x ≡ true
-    → list_all is_intermediate_byte (behind_marker (dcs_intermediates x)) ≡ true
+    → list_all is_intermediate_byte (after_private_prefix (dcs_intermediates x)) ≡ true
 unfolding is_dcs_header dcs_intermediates
 of_header x h =
-    let rest = drop_while is_dcs_parameter (behind_marker x) in
+    let rest = drop_while is_dcs_parameter (after_private_prefix x) in
     ap (list_all is_intermediate_byte)
-    (behind_mark (marker_of x) rest (is_mark x) (not_marker rest h)) ∙ h
+    (after_mark (private_prefix_of x) rest (is_mark x) (not_private_prefix rest h)) ∙ h
 
 whole_intermediates : (x is : List ℕ) → is_dcs_header x ≡ true → is ≡ take 2 (dcs_intermediates x)
     → nat_lt 2 (length (dcs_intermediates x)) ≡ false

@@ -6,7 +6,7 @@ use Rattle.std.specs.Char.{encode_utf8}
 use Rattle.std.proofs.lemmas.Bool.Decides.{nat_tests}
 use Rattle.std.proofs.lemmas.List.Folds.{list_all-append}
 use Rattle.std.proofs.lemmas.Str.{encode_ascii}
-use Rattle.esc_values.specs.Entries.{is_body_byte, is_final, is_marker, is_intermediate_byte, behind_marker}
+use Rattle.esc_values.specs.Params.{is_body_byte, is_final, is_private_prefix, is_intermediate_byte, after_private_prefix}
 use Rattle.esc_frame.specs.Bodies.{is_dcs_parameter, is_dcs_header, dcs_params, dcs_intermediates}
 use Rattle.esc_frame.specs.Classes.{is_put}
 use Rattle.esc_frame.specs.Events.Event.{DcsHook}
@@ -21,11 +21,11 @@ use Rattle.esc_sixel.specs.declared.sixel.Sixel.{Sixel}
 use Rattle.esc_sixel.proofs.WritesBack.{writes_back as sixel_writes_back}
 use Rattle.esc_tcap.specs.Names.{names_text, query_text, is_query_byte, AreWritable as AreWritableNames}
 use Rattle.esc_tcap.proofs.ReadsBack.{writes_back as query_writes_back}
-use Rattle.esc_device.proofs.Bytes.{all_pass, in_body_all, marker_in_body, parameter_in_body, intermediate_in_body, marker_small, final_ends, final_small}
-use Rattle.esc_device.proofs.Bytes.{data_put, data_text, no_markers, all_others}
+use Rattle.esc_device.proofs.Bytes.{all_pass, in_body_all, private_prefix_in_body, parameter_in_body, intermediate_in_body, private_prefix_small, final_ends, final_small}
+use Rattle.esc_device.proofs.Bytes.{data_put, data_text, no_private_prefixes, all_others}
 use Rattle.esc_device.proofs.Headers.{formed, params_pass, headers_read_back}
 use Rattle.esc_device.specs.Says.{IsMark, header, string_events, EnterSays, ShortSays, SixelSays, QuerySays}
-use Rattle.esc_device.specs.Texts.{as_text, params_text, markers_text, others_text, enter_text, short_text}
+use Rattle.esc_device.specs.Texts.{as_text, params_text, private_prefixes_text, others_text, enter_text, short_text}
 use Rattle.esc_device.specs.Writable.{is_datum, AreData, IsWritableEnter, IsWritableShort}
 use Rattle.esc_device.specs.declared.enter.EnterDeviceControlMode.{EnterDeviceControlMode}
 use Rattle.esc_device.specs.declared.short.ShortDeviceControl.{ShortDeviceControl as Short}
@@ -66,17 +66,17 @@ says_as x d t is f ps hx form hf hd same e k few =
     (string_events (DcsHook f ps is false) d)
     same (ap (λ h. string_events h d) (hook_is x is f ps e k few)) (says_string x d f hx form hf hd)
 
--- the intermediates of a mode: a marker or none, and others
+-- the intermediates of a mode: a private prefix or none, and others
 record Split (is : List ℕ) : Type 0 where
   mark : List ℕ
   rest : List ℕ
   is_mark : IsMark mark
   intermediate : list_all is_intermediate_byte rest ≡ true
   whole : mark ++ rest ≡ is
-  markers : markers_text is ≡ mark
+  private_prefixes : private_prefixes_text is ≡ mark
   others : others_text is ≡ rest
 
-split_first : (b : ℕ) (x : List ℕ) (t : Bool) → is_marker b ≡ t
+split_first : (b : ℕ) (x : List ℕ) (t : Bool) → is_private_prefix b ≡ t
     → list_all is_intermediate_byte (if t then x else b ∷ x) ≡ true → Split (b ∷ x)
 split_first b x true e h = record {
   mark = b ∷ [];
@@ -84,8 +84,9 @@ split_first b x true e h = record {
   is_mark = e;
   intermediate = h;
   whole = refl;
-  markers = rw e (ap (λ y. y ++ markers_text x) (encode_ascii b (marker_small b e))
-      ∙ ap (λ y. b ∷ y) (no_markers x h));
+  private_prefixes =
+      rw e (ap (λ y. y ++ private_prefixes_text x) (encode_ascii b (private_prefix_small b e))
+      ∙ ap (λ y. b ∷ y) (no_private_prefixes x h));
   others = rw e (all_others x h);
 }
 split_first b x false e h = record {
@@ -94,26 +95,26 @@ split_first b x false e h = record {
   is_mark = tt;
   intermediate = h;
   whole = refl;
-  markers = no_markers (b ∷ x) h;
+  private_prefixes = no_private_prefixes (b ∷ x) h;
   others = all_others (b ∷ x) h;
 }
 
-split : (is : List ℕ) → list_all is_intermediate_byte (behind_marker is) ≡ true → Split is
+split : (is : List ℕ) → list_all is_intermediate_byte (after_private_prefix is) ≡ true → Split is
 split [] h = record {
   mark = [];
   rest = [];
   is_mark = tt;
   intermediate = refl;
   whole = refl;
-  markers = refl;
+  private_prefixes = refl;
   others = refl;
 }
-split (b ∷ x) h = split_first b x (is_marker b) refl h
+split (b ∷ x) h = split_first b x (is_private_prefix b) refl h
 
 -- the bytes of headers
 mark_in_body : (m : List ℕ) → IsMark m → list_all is_body_byte m ≡ true
 mark_in_body [] h = refl
-mark_in_body (b ∷ []) h = rw (marker_in_body b h) refl
+mark_in_body (b ∷ []) h = rw (private_prefix_in_body b h) refl
 mark_in_body (b ∷ c ∷ x) h = absurd h
 
 header_in_body : (m : List ℕ) (ps : List ℤ) (is : List ℕ) → IsMark m → AreNatural ps
@@ -154,8 +155,8 @@ enter_says e d (final, (inner, few), natural, whole, kind) hd =
     let says = says_as x d ((enter_text e ++ as_text d) ++ 0x1b ∷ 0x5c ∷ []) e.intermediates e.byte
     e.params
     (header_in_body s.mark e.params s.rest s.is_mark natural s.intermediate) q.0 final hd
-    (spelled s.mark (params_text e.params) s.rest (markers_text e.intermediates)
-    (others_text e.intermediates) d e.byte s.markers s.others
+    (spelled s.mark (params_text e.params) s.rest (private_prefixes_text e.intermediates)
+    (others_text e.intermediates) d e.byte s.private_prefixes s.others
     (final_small e.byte final) hd)
     q.1 (q.2 ∙ s.whole) few in
     let P : Bool
@@ -217,7 +218,8 @@ sixel_says s h =
     written (list_all is_sixel s.content) (sixel_text s) (0x1b ∷ 0x50 ∷ (x ++ 0x71 ∷ d))
     output in
     let spells : string_text x 0x71 d ≡ sixel_text s ++ 0x1b ∷ 0x5c ∷ [] =
-    ap (λ y. y ++ 0x1b ∷ 0x5c ∷ []) (append_assoc ((0x1b ∷ 0x50 ∷ []) ++ x) (0x71 ∷ []) d ∙ text) in (
+    ap (λ y. y ++ 0x1b ∷ 0x5c ∷ [])
+    (append_assoc ((0x1b ∷ 0x50 ∷ []) ++ x) (0x71 ∷ []) d ∙ text) in (
       params_of x,
       d,
       says_as x d (sixel_text s ++ 0x1b ∷ 0x5c ∷ []) [] 0x71 (params_of x)

@@ -1,6 +1,6 @@
 -- The events of device control strings, and the headers of their texts.
 use Rattle.std.specs.Prelude.{ℕ, ℤ, ◌≡◌, true, false, List, [], ◌∷◌, ◌++◌, map}
-use Rattle.esc_values.specs.Entries.{is_marker}
+use Rattle.esc_values.specs.Params.{is_private_prefix}
 use Rattle.esc_frame.specs.Bodies.{is_dcs_header, dcs_params, dcs_intermediates}
 use Rattle.esc_frame.specs.Events.{Event}
 use Rattle.esc_frame.specs.Events.Event.{EscDispatch, DcsHook, DcsPut, DcsUnhook}
@@ -14,13 +14,13 @@ use Rattle.esc_device.specs.Texts.{as_text, params_text, enter_text, short_text}
 use Rattle.esc_device.specs.declared.enter.EnterDeviceControlMode.{EnterDeviceControlMode}
 use Rattle.esc_device.specs.declared.short.ShortDeviceControl.{ShortDeviceControl as Short}
 
--- no marker, or one
+-- no private prefix, or one
 abbrev pub IsMark : List ℕ → Type 0
 IsMark [] = Unit {0}
-IsMark (i ∷ []) = is_marker i ≡ true
+IsMark (i ∷ []) = is_private_prefix i ≡ true
 IsMark (i ∷ j ∷ is) = ⊥
 
--- a header between `ESC P` and the final byte: a marker, parameters, intermediates
+-- a header between `ESC P` and the final byte: a private prefix, parameters, intermediates
 abbrev pub header : List ℕ → List ℤ → List ℕ → List ℕ
 header m ps is = m ++ (params_text ps ++ is)
 

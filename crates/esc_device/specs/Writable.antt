@@ -1,7 +1,7 @@
 -- Which modes and short controls read back from their texts.
 use Rattle.std.specs.Prelude.{ℕ, ◌≡◌, ◌≤◌, nat_lt, nat_le, ◌==◌, ◌&&◌, ◌||◌, Bool, true, false, List, [], ◌∷◌, length}
 use Rattle.std.specs.List.{list_all}
-use Rattle.esc_values.specs.Entries.{is_final, is_intermediate_byte, behind_marker}
+use Rattle.esc_values.specs.Params.{is_final, is_intermediate_byte, after_private_prefix}
 use Rattle.esc_sixel.specs.Writable.{AreNatural}
 use Rattle.esc_device.specs.Kinds.{kind_of}
 use Rattle.esc_device.specs.declared.enter.EnterDeviceControlMode.{EnterDeviceControlMode}
@@ -17,9 +17,10 @@ is_datum b = nat_lt b 0x18 || ((b == 0x19) || (nat_le 0x1c b && nat_lt b 0x7f))
 abbrev pub AreData : List ℕ → Type 0
 AreData d = list_all is_datum d ≡ true
 
--- optionally a marker 3C-3F, then 20-2F, at most two together
+-- optionally a private prefix 3C-3F, then 20-2F, at most two together
 abbrev pub AreIntermediates : List ℕ → Type 0
-AreIntermediates is = (list_all is_intermediate_byte (behind_marker is) ≡ true) × (length is ≤ 2)
+AreIntermediates is = (list_all is_intermediate_byte (after_private_prefix is) ≡ true)
+    × (length is ≤ 2)
 
 -- A header of its form, with parameters that are not negative and all its intermediates, and that
 -- opens no sixel image, termcap query or short control.

@@ -14,7 +14,7 @@ impl Debug for ByteName {
     }
 }
 
-// Each with a comma behind it.
+// Each with a comma after it.
 #[derive(Clone, Copy)]
 pub(crate) struct ByteNames<'a>(pub(crate) &'a [u8]);
 

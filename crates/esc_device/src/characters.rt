@@ -1,8 +1,8 @@
 //! Bytes, written as the characters of the same numbers.
 ghost use Rattle.std.specs.Prelude.{◌≡◌, Some};
 ghost use Rattle.std.specs.Fmt.{DisplaysOnOk};
-ghost use Rattle.esc_values.specs.Entries.{is_marker};
-ghost use Rattle.esc_device.specs.Texts.{as_text, markers_text, others_text};
+ghost use Rattle.esc_values.specs.Params.{is_private_prefix};
+ghost use Rattle.esc_device.specs.Texts.{as_text, private_prefixes_text, others_text};
 
 use std::fmt;
 use std::fmt::Display;
@@ -23,8 +23,8 @@ impl Display for Characters<'_> {
     }
 }
 
-fn is_marker(byte: u8) -> bool
-    ensures { result ≡ is_marker byte }
+fn is_private_prefix(byte: u8) -> bool
+    ensures { result ≡ is_private_prefix byte }
 {
     0x3c <= byte && byte <= 0x3f
 }
@@ -34,11 +34,11 @@ fn is_marker(byte: u8) -> bool
 pub(crate) struct Markers<'a>(pub(crate) &'a [u8]);
 
 impl Display for Markers<'_> {
-    ghost output = { λ c. Some (markers_text c.0.now) };
+    ghost output = { λ c. Some (private_prefixes_text c.0.now) };
 
     fn fmt<W: fmt::Write>(&self, f: &mut fmt::Formatter<W>) -> fmt::Result {
         for byte in self.0 {
-            if is_marker(*byte) {
+            if is_private_prefix(*byte) {
                 let byte = char::from(*byte);
                 write!(f, "{byte}")?;
             }
@@ -56,7 +56,7 @@ impl Display for Others<'_> {
 
     fn fmt<W: fmt::Write>(&self, f: &mut fmt::Formatter<W>) -> fmt::Result {
         for byte in self.0 {
-            if !is_marker(*byte) {
+            if !is_private_prefix(*byte) {
                 let byte = char::from(*byte);
                 write!(f, "{byte}")?;
             }

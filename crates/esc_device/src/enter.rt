@@ -58,11 +58,11 @@ impl<A: Allocator> Display for EnterDeviceControlMode<A> {
     ghost output = { λ e. Some (enter_text e) };
 
     fn fmt<W: fmt::Write>(&self, f: &mut fmt::Formatter<W>) -> fmt::Result {
-        let markers = Markers(self.intermediates.as_slice());
+        let private_prefixes = Markers(self.intermediates.as_slice());
         let params = Numbers(self.params.as_slice());
         let others = Others(self.intermediates.as_slice());
         let byte = char::from(self.byte);
-        write!(f, "\x1bP{markers}{params}{others}{byte}")
+        write!(f, "\x1bP{private_prefixes}{params}{others}{byte}")
     }
 }
 

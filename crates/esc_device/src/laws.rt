@@ -2,7 +2,7 @@
 //! header and data, whatever follows it, and what is read can be written.
 ghost use Rattle.std.specs.Prelude.{◌≡◌, ℕ, ℤ, Bool, true, false, List};
 ghost use Rattle.std.specs.List.{list_all, list_any};
-ghost use Rattle.esc_values.specs.Entries.{is_intermediate_byte};
+ghost use Rattle.esc_values.specs.Params.{is_intermediate_byte};
 ghost use Rattle.esc_frame.specs.Classes.{AllOf, is_put};
 ghost use Rattle.esc_frame.specs.Events.Event.{DcsHook};
 ghost use Rattle.esc_frame.specs.Fits.{IsFit};
@@ -19,7 +19,7 @@ ghost use Rattle.esc_device.specs.declared.short.ShortDeviceControl.{ShortDevice
 
 use std::alloc::Allocator;
 
-/// A header that is written as an optional marker, parameters that are not negative and
+/// A header that is written as an optional private prefix, parameters that are not negative and
 /// intermediates is read as these.
 pub fn headers_read_back()
     ensures { (m : List ℕ) (ps : List ℤ) (is : List ℕ) → IsMark m → AreNatural ps

@@ -1,4 +1,4 @@
--- Equal entries, parameters and links are the same.
+-- Equal parameters, parameters and links are the same.
 use Rattle.std.specs.Cmp.Lexicographic.{pointwise}
 use Rattle.std.proofs.Common.{rules}
 use Rattle.std.specs.declared.alloc.Allocator.{Ghosts}
@@ -8,11 +8,11 @@ use Rattle.esc_links.specs.contracts.hyperlink.HyperlinkPartialEq.TheImpl as hyp
 use Rattle.esc_values.specs.contracts.csi_param.CsiParamPartialEq.TheImpl as entry
 use Rattle.esc_equality.proofs.Same.{IsSame, lists, text_pair, text_pairs, texts}
 
-entries : IsSame entry.ghosts.eq
-entries x y = search rules
+csi_params : IsSame entry.ghosts.eq
+csi_params x y = search rules
 
-pub entry_lists : IsSame (pointwise entry.ghosts.eq)
-entry_lists = lists entry.ghosts.eq entries
+pub param_lists : IsSame (pointwise entry.ghosts.eq)
+param_lists = lists entry.ghosts.eq csi_params
 
 pub params : IsSame (pointwise text_pair)
 params = lists text_pair text_pairs

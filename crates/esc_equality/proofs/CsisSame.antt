@@ -17,7 +17,7 @@ use Rattle.esc_actions.specs.contracts.control_code.ControlCodePartialEq.TheImpl
 use Rattle.esc_sequences.specs.declared.csi.CSI.TheVariants as csi
 use Rattle.esc_sequences.specs.contracts.csi.CSIPartialEq.TheImpl as csi_eq
 use Rattle.esc_sequences.specs.contracts.sgr.SgrPartialEq.TheImpl as sgr_eq
-use Rattle.esc_equality.proofs.BelowSame.{entry_lists}
+use Rattle.esc_equality.proofs.BelowSame.{param_lists}
 use Rattle.esc_equality.proofs.Same.{IsSame, bools, both, never, numbers}
 
 pub codes : IsSame code_eq.ghosts.eq
@@ -26,12 +26,12 @@ codes a b = (same_true the_type tt a b, true_same the_type a b)
 pub sgrs : IsSame sgr_eq.ghosts.eq
 sgrs a b = search rules
 
--- other control sequences, by their entries, whether there are more, and their final bytes
+-- other control sequences, by their parameters, whether there are more, and their final bytes
 others : (ps qs : List CsiParam) (s t : Bool) (m n : ℕ)
     → IsTrue (pointwise entry.ghosts.eq ps qs && (beq s t && nat_eq m n))
     ↔ (unspecified ps s m ≡ unspecified qs t n)
 others ps qs s t m n =
-    let parts = both (entry_lists ps qs) (both (bools s t) (numbers m n)) in (
+    let parts = both (param_lists ps qs) (both (bools s t) (numbers m n)) in (
       λ h.
           let e = parts.0 h in
           let first = e.0 in

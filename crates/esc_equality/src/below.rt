@@ -1,4 +1,4 @@
-//! Texts, colours, entries and renditions of control sequences, escape sequences and links.
+//! Texts, colours, parameters and renditions of control sequences, escape sequences and links.
 ghost use Rattle.std.specs.Prelude.{◌≡◌, ◌↔◌, IsTrue};
 
 use esc_links::{Hyperlink, Params};
@@ -20,7 +20,7 @@ pub fn same_rgb_color(a: &RgbColor, b: &RgbColor) -> bool
     a == b
 }
 
-/// Whether two entries of control sequences are the same.
+/// Whether two parameters of control sequences are the same.
 pub fn same_csi_param(a: &CsiParam, b: &CsiParam) -> bool
     ensures { IsTrue result ↔ (a.now ≡ b.now) }
 {
@@ -49,7 +49,7 @@ pub fn same_sgr(a: &Sgr, b: &Sgr) -> bool
 }
 
 /// Whether two control sequences that are no renditions are the same.
-#[tactic(auto, using(crate::proofs::BelowSame::entry_lists))]
+#[tactic(auto, using(crate::proofs::BelowSame::param_lists))]
 pub fn same_unspecified<A: Allocator>(a: &Unspecified<A>, b: &Unspecified<A>) -> bool
     ensures { IsTrue result ↔ (a.now ≡ b.now) }
 {

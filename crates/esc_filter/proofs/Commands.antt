@@ -111,7 +111,7 @@ other_named : (t : List ℕ) → t ≢ codes "8" → (c : OperatingSystemCommand
     → c ≢ code.SetHyperlink
 other_named t other c h e = other (code_of_text t code.SetHyperlink (h ∙ ap Some e))
 
--- a front of one byte of ASCII is valid
+-- a prefix of one byte of ASCII is valid
 one_valid : (b : ℕ) (p : List ℕ) (m : ℕ) → b < 128 → 1 ≤ m → 1 ≤ valid_len_up_to (b ∷ p) m
 one_valid b p zero small some = absurd (omega (arith, some))
 one_valid b p (suc zero) small some =

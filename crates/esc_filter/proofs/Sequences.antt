@@ -1,4 +1,4 @@
--- Control sequences that are taken from their entries.
+-- Control sequences that are taken from their parameters.
 use Rattle.std.proofs.Common.{◌≡◌, ℕ, Bool, true, false, not, ◌&&◌, ◌==◌, if◌then◌else◌, List, [], ◌∷◌, Option, Some, None, refl, sym, subst, ap, ◌∙◌, inl, inr}
 use Rattle.std.proofs.Common.{IfOk, OnErr, Result, ◌||◌}
 use Rattle.std.specs.Prelude.{IsTrue, unwrap_or}
@@ -21,7 +21,7 @@ use Rattle.esc_parse.proofs.Lists.{if_ok_more}
 use Rattle.esc_normal.proofs.Spelling.{IsCommand, IsSequence}
 use Rattle.esc_filter.proofs.Results.{on_err_more, stops_for}
 use Rattle.esc_filter.proofs.Runs.{TakesBy}
-use Rattle.esc_filter.specs.Rules.{admits, is_plain_entry, is_rendition, is_screen_body, is_screen_sequence}
+use Rattle.esc_filter.specs.Rules.{admits, is_plain_param, is_rendition, is_screen_body, is_screen_sequence}
 use Rattle.esc_filter.specs.declared.policy.Policy.{Policy}
 use Rattle.esc_filter.specs.declared.policy.Policy.TheVariants as policy
 use Rattle.esc_filter.specs.Passing.{passes}
@@ -29,7 +29,7 @@ use Rattle.esc_filter.specs.declared.passing.Passing.{Passing}
 use Rattle.esc_filter.specs.Fed.{Refuses}
 use Rattle.memory.specs.Refusals.{Refused}
 
--- a test that renditions pass, and a sequence of no name, passes what entries mean
+-- a test that renditions pass, and a sequence of no name, passes what parameters mean
 module _ (t : CsiValue → Bool) (named : (s : Sgr) → t (sgr s) ≡ true) where
   each_put : (o : Option Sgr) (more : Option (List CsiValue)) (vs : List CsiValue)
       → ((ws : List CsiValue) → more ≡ Some ws → list_all t ws ≡ true)
@@ -296,7 +296,7 @@ all_sequences A p vs e = subst (λ x. list_all (λ c. admits {A = A} x (csi c)) 
     (every vs)
 
 -- renditions pass, and so does what changes the screen alone
-pub renditions_pass : (es : List CsiParam) (f : ℕ) → f ≡ 0x6d → list_all is_plain_entry es ≡ true
+pub renditions_pass : (es : List CsiParam) (f : ℕ) → f ≡ 0x6d → list_all is_plain_param es ≡ true
     → list_all is_rendition (csi_of es false f) ≡ true
 renditions_pass es f m h = each_of is_rendition (λ s. refl) es f (rw (m, h) refl)
 
@@ -304,7 +304,7 @@ pub no_rendition : (es : List CsiParam) (f : ℕ) → (f == 0x6d) ≡ false
     → list_any is_rendition (csi_of es false f) ≡ false
 no_rendition es f h = rw (nameless es f h, h) refl
 
-pub screen_all : (es : List CsiParam) (f : ℕ) → f ≡ 0x6d → list_all is_plain_entry es ≡ true
+pub screen_all : (es : List CsiParam) (f : ℕ) → f ≡ 0x6d → list_all is_plain_param es ≡ true
     → list_all (λ c. is_rendition c || is_screen_sequence c) (csi_of es false f) ≡ true
 screen_all es f m h = each_of (λ c. is_rendition c || is_screen_sequence c) (λ s. refl) es f
     (rw (m, h) refl)

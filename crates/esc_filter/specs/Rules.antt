@@ -2,7 +2,7 @@
 use Rattle.std.specs.Prelude.{ℕ, ◌≡◌, ◌≢◌, ◌≤◌, Bool, true, false, not, pos, negsuc, ◌==◌, nat_le, ◌&&◌, ◌||◌, List, [], ◌∷◌, length, Some, None}
 use Rattle.std.specs.List.{list_all}
 use Rattle.esc_sequences.specs.Csis.{CsiValue, sgr, unspecified}
-use Rattle.esc_values.specs.Entries.{is_from}
+use Rattle.esc_values.specs.Params.{is_from}
 use Rattle.esc_values.specs.declared.csi_param.CsiParam.{CsiParam}
 use Rattle.esc_values.specs.declared.csi_param.CsiParam.TheVariants.{Integer, P}
 use Rattle.esc_sequences.specs.declared.esc.Esc.{Esc}
@@ -36,15 +36,15 @@ is_text _ = false
 
 -- Color: renditions and links.
 
--- a number, `;` or `:`, and so neither a private marker nor an intermediate
-abbrev pub is_plain_entry : CsiParam → Bool
-is_plain_entry (Integer n) = true
-is_plain_entry (P b) = (b == 0x3b) || (b == 0x3a)
+-- a number, `;` or `:`, and so neither a private prefix nor an intermediate
+abbrev pub is_plain_param : CsiParam → Bool
+is_plain_param (Integer n) = true
+is_plain_param (P b) = (b == 0x3b) || (b == 0x3a)
 
--- a graphic rendition: final byte `m`, with plain entries alone
+-- a graphic rendition: final byte `m`, with plain parameters alone
 abbrev pub is_rendition : CsiValue → Bool
 is_rendition (sgr s) = true
-is_rendition (unspecified es more f) = (f == 0x6d) && list_all is_plain_entry es
+is_rendition (unspecified es more f) = (f == 0x6d) && list_all is_plain_param es
 
 -- a link, or the end of one
 abbrev pub is_link : {A : Type 0} → OperatingSystemCommand A → Bool
@@ -66,7 +66,7 @@ is_colour _ = false
 abbrev pub is_screen_control : ℕ → Bool
 is_screen_control n = is_from 0x07 0x0f n
 
--- With plain entries: `@` and `A` to `M` (insert; up, down, right, left; lines; column; place;
+-- With plain parameters: `@` and `A` to `M` (insert; up, down, right, left; lines; column; place;
 -- tabs; erase in screen and line; insert and delete lines), `P` `S` `X` `Z` (delete, scroll, erase,
 -- back a tab), backquote `a` `b` (column, repeat), `d` `e` `f` `g` (row, place, tab stops), `r` `s`
 -- `u` (margins, save and restore the cursor)
@@ -77,7 +77,7 @@ moves_or_erases f = is_from 0x40 0x4d f
     || ((f == 0x53) || ((f == 0x58) || ((f == 0x5a) || (is_from 0x60 0x62 f || (is_from 0x64 0x67 f
     || ((f == 0x72) || ((f == 0x73) || (f == 0x75)))))))))
 
--- `T` scrolls down where it has at most one entry; with more it asks for the mouse
+-- `T` scrolls down where it has at most one parameter; with more it asks for the mouse
 abbrev pub scrolls_down : List CsiParam → ℕ → Bool
 scrolls_down es f = (f == 0x54) && nat_le (length es) 1
 
@@ -85,7 +85,7 @@ scrolls_down es f = (f == 0x54) && nat_le (length es) 1
 abbrev pub changes_modes : ℕ → Bool
 changes_modes f = (f == 0x68) || (f == 0x6c)
 
--- one entry, which passes the test
+-- one parameter, which passes the test
 abbrev pub is_lone : (CsiParam → Bool) → List CsiParam → Bool
 is_lone test [] = false
 is_lone test (e ∷ []) = test e
@@ -106,18 +106,18 @@ is_screen_mode n = is_from 5 7 n
     ((n == 12) || ((n == 25) || ((n == 47) || ((n == 69) || (is_from 1047 1049 n || (n == 2026))))))
 
 -- the number of such a mode, or `;`
-abbrev pub is_mode_entry : CsiParam → Bool
-is_mode_entry (Integer (pos n)) = is_screen_mode n
-is_mode_entry (Integer (negsuc n)) = false
-is_mode_entry (P b) = b == 0x3b
+abbrev pub is_mode_param : CsiParam → Bool
+is_mode_param (Integer (pos n)) = is_screen_mode n
+is_mode_param (Integer (negsuc n)) = false
+is_mode_param (P b) = b == 0x3b
 
--- with the private marker `?`: `J` and `K` erase what is not protected; `h` and `l` change modes,
+-- with the private prefix `?`: `J` and `K` erase what is not protected; `h` and `l` change modes,
 -- where each is one of what is shown
 abbrev pub is_private : List CsiParam → ℕ → Bool
-is_private es f = (((f == 0x4a) || (f == 0x4b)) && list_all is_plain_entry es)
-    || (changes_modes f && list_all is_mode_entry es)
+is_private es f = (((f == 0x4a) || (f == 0x4b)) && list_all is_plain_param es)
+    || (changes_modes f && list_all is_mode_param es)
 
--- the private marker `?`
+-- the private prefix `?`
 abbrev pub is_marked : CsiParam → Bool
 is_marked (Integer n) = false
 is_marked (P b) = b == 0x3f
@@ -137,8 +137,8 @@ is_shape (Integer n ∷ es) = is_lone is_space es
 is_shape (P b ∷ es) = is_lone is_space (P b ∷ es)
 
 abbrev pub is_screen_body : List CsiParam → ℕ → Bool
-is_screen_body es f = (moves_or_erases f && list_all is_plain_entry es)
-    || ((scrolls_down es f && list_all is_plain_entry es)
+is_screen_body es f = (moves_or_erases f && list_all is_plain_param es)
+    || ((scrolls_down es f && list_all is_plain_param es)
     || ((changes_modes f && is_lone is_insert_mode es)
     || (is_privately_marked es f || ((f == 0x71) && is_shape es))))
 

@@ -51,10 +51,10 @@ pub trait Admit<A: Allocator> {
         false
     }
 
-    /// Whether the actions of a control sequence pass, of which no entry was left out: true where
-    /// each is admitted, and false where none is and [`leaves_out`](Admit::leaves_out) need not be
-    /// shown them. They are not made then. Where it returns `None`, each is made and asked of by
-    /// itself; so it does by default.
+    /// Whether the actions of a control sequence pass, of which no parameter was left out: true
+    /// where each is admitted, and false where none is and [`leaves_out`](Admit::leaves_out) need
+    /// not be shown them. They are not made then. Where it returns `None`, each is made and asked
+    /// of by itself; so it does by default.
     #[inline]
     fn admits_sequence(&self, _params: &[CsiParam], _control: u8) -> Option<bool>
         ensures passes { result ≡ Some true → list_all (λ c. admits self.now (csi c))
@@ -161,7 +161,7 @@ fn is_opener(letter: u8) -> bool
         || letter == b'_'
 }
 
-// Whether entries of the control sequence were left out.
+// Whether parameters of the control sequence were left out.
 fn is_truncated<A: Allocator>(csi: &CSI<A>) -> bool
     ensures { result ≡ is_truncated (csi_value csi.now) }
 {

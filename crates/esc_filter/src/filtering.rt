@@ -149,7 +149,7 @@ fn write_out<W: Write>(writer: &mut Watched<W>, text: &str) -> Result<(), Filter
     ensures whole { OnOk result (Writes W.Write text.now writer) }
     ensures beginning { OnErr result (WritesPrefix W.Write text.now writer) }
     ensures fault { IfErr result (λ e. e ≡ FilterError.Write) }
-    ensures told { FailsWith result FilterError.Write writer }
+    ensures emitted { FailsWith result FilterError.Write writer }
 {
     if !writer.write_whole(text.as_bytes()) {
         return Err(FilterError::Write);

@@ -64,8 +64,8 @@ impl<'p, P: Admit<A>, A: Allocator> Sink<Action<A>> for Passing<'p, P, A> {
         Ok(())
     }
 
-    // What passes is appended from its entries where the text can be, and what does not is passed
-    // over; neither is made.
+    // What passes is appended from its parameters where the text can be, and what does not is
+    // passed over; neither is made.
     #[inline]
     fn receive_sequence(
         &mut self,

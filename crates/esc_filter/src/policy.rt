@@ -5,7 +5,7 @@ ghost use Rattle.esc_values.specs.Clear.{parts_of};
 ghost use Rattle.esc_sequences.specs.Csis.{csi_of, csi_value};
 ghost use Rattle.esc_actions.specs.Values.{value_of};
 ghost use Rattle.esc_osc.specs.Reading.{meaning as command_meant};
-ghost use Rattle.esc_filter.specs.Rules.{BeginsOther, is_colour, is_layout, is_link, is_plain_entry, is_rendition, is_screen_sequence, is_shown, is_text};
+ghost use Rattle.esc_filter.specs.Rules.{BeginsOther, is_colour, is_layout, is_link, is_plain_param, is_rendition, is_screen_sequence, is_shown, is_text};
 
 use crate::admit::Admit;
 use crate::screen::{is_screen, is_screen_body};
@@ -118,7 +118,7 @@ fn has_other_code(text: &[u8]) -> bool
 }
 
 // Whether what a control sequence means is renditions; not known where the final byte is `m` and
-// the entries are no plain ones.
+// the parameters are no plain ones.
 #[tactic(auto, using(crate::proofs::Sequences::renditions_pass, crate::proofs::Sequences::no_rendition))]
 #[inline]
 fn colour_passes(params: &[CsiParam], control: u8) -> Option<bool>
@@ -202,7 +202,7 @@ fn is_rendition<A: Allocator>(csi: &CSI<A>) -> bool
 // Whether all are numbers, `;` or `:`. A number, and a colour of the palette, are seen at once.
 #[inline]
 pub(crate) fn are_plain(params: &[CsiParam]) -> bool
-    ensures { result ≡ list_all is_plain_entry params.now }
+    ensures { result ≡ list_all is_plain_param params.now }
 {
     match params {
         [CsiParam::Integer(_)] => true,
@@ -213,13 +213,13 @@ pub(crate) fn are_plain(params: &[CsiParam]) -> bool
             CsiParam::P(b';'),
             CsiParam::Integer(_),
         ] => true,
-        _ => params.iter().all(is_plain_entry),
+        _ => params.iter().all(is_plain_param),
     }
 }
 
 // Whether it is a number, `;` or `:`.
-fn is_plain_entry(param: &CsiParam) -> bool
-    ensures { result ≡ is_plain_entry param.now }
+fn is_plain_param(param: &CsiParam) -> bool
+    ensures { result ≡ is_plain_param param.now }
 {
     match param {
         CsiParam::Integer(_) => true,

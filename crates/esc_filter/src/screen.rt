@@ -3,10 +3,10 @@
 ghost use Rattle.std.specs.Prelude.{◌≡◌};
 ghost use Rattle.std.specs.List.{list_all};
 ghost use Rattle.esc_sequences.specs.Csis.{csi_value};
-ghost use Rattle.esc_values.specs.Entries.{is_from};
+ghost use Rattle.esc_values.specs.Params.{is_from};
 ghost use Rattle.esc_values.specs.declared.csi_param.CsiParam.TheVariants.{Integer};
 ghost use Rattle.esc_actions.specs.Values.{value_of};
-ghost use Rattle.esc_filter.specs.Rules.{changes_modes, is_designation, is_insert_mode, is_line_move, is_lone, is_mode_entry, is_palette, is_private, is_privately_marked, is_screen, is_screen_body, is_screen_control, is_screen_escape, is_screen_sequence, is_set, is_set_pair, is_shape, is_space, moves_or_erases, scrolls_down};
+ghost use Rattle.esc_filter.specs.Rules.{changes_modes, is_designation, is_insert_mode, is_line_move, is_lone, is_mode_param, is_palette, is_private, is_privately_marked, is_screen, is_screen_body, is_screen_control, is_screen_escape, is_screen_sequence, is_set, is_set_pair, is_shape, is_space, moves_or_erases, scrolls_down};
 
 use crate::policy::are_plain;
 use esc_actions::Action;
@@ -121,7 +121,7 @@ fn changes_modes(control: u8) -> bool
     control == b'h' || control == b'l'
 }
 
-// Whether the entries are the number of insert mode.
+// Whether the parameters are the number of insert mode.
 fn is_insert_mode(params: &[CsiParam]) -> bool
     ensures { result ≡ is_lone is_insert_mode params.now }
 {
@@ -131,7 +131,7 @@ fn is_insert_mode(params: &[CsiParam]) -> bool
     rest.is_empty() && *first == CsiParam::Integer(4)
 }
 
-// Whether the sequence has the private marker, and changes the screen alone.
+// Whether the sequence has the private prefix, and changes the screen alone.
 fn is_privately_marked(params: &[CsiParam], control: u8) -> bool
     ensures { result ≡ is_privately_marked params.now control }
 {
@@ -141,7 +141,7 @@ fn is_privately_marked(params: &[CsiParam], control: u8) -> bool
     *first == CsiParam::P(b'?') && is_private(rest, control)
 }
 
-// Whether the sequence, which has the private marker, changes the screen alone.
+// Whether the sequence, which has the private prefix, changes the screen alone.
 fn is_private(params: &[CsiParam], control: u8) -> bool
     ensures { result ≡ is_private params.now control }
 {
@@ -151,14 +151,14 @@ fn is_private(params: &[CsiParam], control: u8) -> bool
 
 // Whether all are numbers of private modes of what is shown, or `;`.
 fn are_screen_modes(params: &[CsiParam]) -> bool
-    ensures { result ≡ list_all is_mode_entry params.now }
+    ensures { result ≡ list_all is_mode_param params.now }
 {
-    params.iter().all(is_mode_entry)
+    params.iter().all(is_mode_param)
 }
 
 // Whether it is the number of a private mode of what is shown, or `;`.
-fn is_mode_entry(param: &CsiParam) -> bool
-    ensures { result ≡ is_mode_entry param.now }
+fn is_mode_param(param: &CsiParam) -> bool
+    ensures { result ≡ is_mode_param param.now }
 {
     match param {
         CsiParam::Integer(number) => is_screen_mode(*number),
@@ -168,7 +168,7 @@ fn is_mode_entry(param: &CsiParam) -> bool
 
 // Whether it is the number of a private mode of what is shown.
 fn is_screen_mode(number: i64) -> bool
-    ensures { result ≡ is_mode_entry (Integer number) }
+    ensures { result ≡ is_mode_param (Integer number) }
 {
     (5 <= number && number <= 7)
         || number == 12
@@ -179,7 +179,7 @@ fn is_screen_mode(number: i64) -> bool
         || number == 2026
 }
 
-// Whether the entries are a space, before which there may be a number.
+// Whether the parameters are a space, before which there may be a number.
 fn is_shape(params: &[CsiParam]) -> bool
     ensures { result ≡ is_shape params.now }
 {
@@ -192,7 +192,7 @@ fn is_shape(params: &[CsiParam]) -> bool
     }
 }
 
-// Whether the entries are a space.
+// Whether the parameters are a space.
 fn is_space(params: &[CsiParam]) -> bool
     ensures { result ≡ is_lone is_space params.now }
 {

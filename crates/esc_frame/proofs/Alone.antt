@@ -5,16 +5,16 @@ use Rattle.esc_frame.specs.Events.{Event}
 use Rattle.esc_frame.specs.Segments.{Segment, joined, bytes_of}
 use Rattle.esc_frame.specs.Segments.Segment.{Broken, Osc, CutEscape, CutCsi, CutDcs, Dcs, Apc, Ignored}
 use Rattle.esc_frame.specs.Segments.Ending.{Open, Waits}
-use Rattle.esc_frame.specs.Leads.{Unfinished, Holds, OpenShape, Stands, open_bytes}
+use Rattle.esc_frame.specs.Leads.{Unfinished, Holds, OpenShape, HasCut, open_bytes}
 use Rattle.esc_frame.specs.Leads.{AreFinished, finished_events_within}
 use Rattle.esc_frame.specs.Leads.Unfinished.{Ground, Pending, InEscape, InCsi, InOsc, InOscPending, InDcs, InData, InApc, InIgnored}
 use Rattle.esc_frame.specs.Machine.Keeps.{KeepsText}
-use Rattle.esc_frame.specs.Machine.Moves.{after_all, news_all, is_ground}
+use Rattle.esc_frame.specs.Machine.Moves.{after_all, events_all, is_ground}
 use Rattle.esc_frame.specs.Stream.{IsAfterFinished, IsUnfinished, LeadsToWithin, added_within, events_within}
 use Rattle.esc_frame.proofs.AtGround.{at_ground_if, ground_if}
 use Rattle.esc_frame.proofs.Cuts.{cut_last, last_bytes, last_goes_on, last_of, last_shape, stands}
 use Rattle.esc_frame.proofs.OneCut.{one_cut}
-use Rattle.esc_frame.proofs.Streams.{added_is, events_after, stands_after}
+use Rattle.esc_frame.proofs.Streams.{added_is, events_after, cut_after}
 
 -- ---- the last segment of a cut
 
@@ -50,7 +50,7 @@ open_is u n = refl
 
 open_same : {limit : Option ℕ} (s : List ℕ) (es fs : List Event) (gs hs : List Segment)
     (u v : Unfinished)
-    → is_ground u ≡ false → Stands limit s es gs u → Stands limit s fs hs v → u ≡ v
+    → is_ground u ≡ false → HasCut limit s es gs u → HasCut limit s fs hs v → u ≡ v
 open_same s es fs gs hs u Ground n st ts =
     ground_if s es gs u st (at_ground_if s fs hs Ground ts refl)
 open_same s es fs gs hs u v n st ts =
@@ -62,7 +62,7 @@ open_same s es fs gs hs u v n st ts =
 
 one_end : {limit : Option ℕ} (s : List ℕ) (es fs : List Event) (gs hs : List Segment)
     (u v : Unfinished)
-    → Stands limit s es gs u → Stands limit s fs hs v → u ≡ v
+    → HasCut limit s es gs u → HasCut limit s fs hs v → u ≡ v
 one_end s es fs gs hs Ground v st ts =
     sym (ground_if s fs hs v ts (at_ground_if s es gs Ground st refl))
 one_end s es fs gs hs u v st ts = open_same s es fs gs hs u v refl st ts
@@ -74,7 +74,7 @@ after_finished : (gs : List Segment) (u : List ℕ) → AreFinished gs u
 after_finished gs u f =
     let s = joined gs ++ u in
     let one = stands None s in
-    let two = stands_after None gs u f in
+    let two = cut_after None gs u f in
     one_end s (events_within None s)
     (finished_events_within None gs ++ events_within None u) one.0 two.0
     (after_all Ground s) (after_all Ground u) one.1 two.1
@@ -91,7 +91,8 @@ unfinished_alone limit s u p h (f, i, k) =
 pub added_alone : (limit : Option ℕ) (s u b : List ℕ) → IsAfterFinished s u
     → added_within limit s b ≡ added_within limit u b
 added_alone limit s u b h =
-    added_is limit s b ∙ ap (λ v. news_all limit v b) (after_alone s u h) ∙ sym (added_is limit u b)
+    added_is limit s b ∙ ap (λ v. events_all limit v b) (after_alone s u h)
+    ∙ sym (added_is limit u b)
 
 pub events_alone : (limit : Option ℕ) (s u : List ℕ) (h : IsAfterFinished s u)
     → events_within limit s ≡ finished_events_within limit h.0 ++ events_within limit u

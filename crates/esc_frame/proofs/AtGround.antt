@@ -3,9 +3,9 @@ use Rattle.std.proofs.Common.{ℕ, Option, None, ◌≡◌, Bool, true, false, L
 use Rattle.std.proofs.lemmas.List.{append-nil}
 use Rattle.esc_frame.specs.Events.{Event}
 use Rattle.esc_frame.specs.Segments.{Segment, joined, ends_itself, is_finished}
-use Rattle.esc_frame.specs.Leads.{Unfinished, Stands, AreFinished, open_bytes}
+use Rattle.esc_frame.specs.Leads.{Unfinished, HasCut, AreFinished, open_bytes}
 use Rattle.esc_frame.specs.Leads.Unfinished.{Ground}
-use Rattle.esc_frame.specs.Machine.Moves.{after_all, news_all}
+use Rattle.esc_frame.specs.Machine.Moves.{after_all, events_all}
 use Rattle.esc_frame.specs.Stream.{IsAtGround, events_within, added_within}
 use Rattle.esc_frame.proofs.Cuts.{are_closed, last_of, last_goes_on, cut_last, itself, stands}
 use Rattle.esc_frame.proofs.OneCut.{one_cut}
@@ -21,7 +21,7 @@ not_both true h k = cc
 not_both false h k = cc
 
 pub ground_if : {limit : Option ℕ} (s : List ℕ) (es : List Event) (gs : List Segment)
-    (u : Unfinished) → Stands limit s es gs u → IsAtGround s → u ≡ Ground
+    (u : Unfinished) → HasCut limit s es gs u → IsAtGround s → u ≡ Ground
 ground_if s es gs Ground st h = refl
 ground_if s es gs u st (hs, cut, fin) =
     let same = one_cut s hs (gs ++ last_of u ∷ []) cut (cut_last s es gs u refl st) in
@@ -31,7 +31,7 @@ ground_if s es gs u st (hs, cut, fin) =
     (last_goes_on u refl))
 
 pub at_ground_if : {limit : Option ℕ} (s : List ℕ) (es : List Event) (gs : List Segment)
-    (u : Unfinished) → Stands limit s es gs u → u ≡ Ground → IsAtGround s
+    (u : Unfinished) → HasCut limit s es gs u → u ≡ Ground → IsAtGround s
 at_ground_if s es gs u st e =
     let b : open_bytes u ≡ [] = ap open_bytes e in
     let f : AreFinished gs [] = subst (λ y. AreFinished gs y) b st.finished in (
@@ -52,8 +52,8 @@ pub from_ground : (s : List ℕ) → after_all Ground s ≡ Ground → IsAtGroun
 from_ground s e = let w = stands None s in
     at_ground_if s (events_within None s) w.0 (after_all Ground s) w.1 e
 
--- behind it, bytes add their own events
+-- after it, bytes add their own events
 pub ground_added : (limit : Option ℕ) (s b : List ℕ) → IsAtGround s
     → added_within limit s b ≡ events_within limit b
 unfolding events_within
-ground_added limit s b h = added_is limit s b ∙ ap (λ u. news_all limit u b) (to_ground s h)
+ground_added limit s b h = added_is limit s b ∙ ap (λ u. events_all limit u b) (to_ground s h)

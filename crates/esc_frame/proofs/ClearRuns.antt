@@ -15,22 +15,22 @@ use Rattle.esc_frame.specs.Scans.{is_text_byte, is_free_byte, IsFreeTo}
 use Rattle.esc_frame.specs.Events.{Event, StopsAt}
 use Rattle.esc_frame.specs.Events.Event.{Print}
 use Rattle.esc_frame.specs.Leads.Unfinished.{Ground}
-use Rattle.esc_frame.specs.Machine.Calls.{TellsOne}
+use Rattle.esc_frame.specs.Machine.Calls.{EmitsOne}
 use Rattle.esc_frame.specs.Machine.Texts.{HasTaken}
-use Rattle.esc_frame.specs.Machine.Moves.{after_all, news_all}
+use Rattle.esc_frame.specs.Machine.Moves.{after_all, events_all}
 use Rattle.esc_frame.proofs.Characters.{clear_cases, clear_from, spells_clear}
 use Rattle.esc_frame.proofs.ManyBytes.{text_run, character_does, stop_within}
 use Rattle.esc_frame.proofs.Given.{folds_then, stops_then, stops_more, refused_stops}
-use Rattle.esc_frame.proofs.Streams.{after_append, news_append}
+use Rattle.esc_frame.proofs.Streams.{after_append, events_append}
 use Rattle.std.proofs.lemmas.Bool.Decides.{nat_tests}
 
 text_byte : (c : ℕ) → 0x20 ≤ c → c < 128 → list_all is_text_byte (c ∷ []) ≡ true
 text_byte c l h = let k : is_text_byte c ≡ true = grind (arith, nat_tests) in rw k refl
 
 -- a clear character
-clear_does : (c : ℕ) → is_clear c ≡ true → TellsOne (encode_utf8 c) (Print c)
+clear_does : (c : ℕ) → is_clear c ≡ true → EmitsOne (encode_utf8 c) (Print c)
 clear_does c h = let q = clear_cases c h in elim q.1 [
-  | inl l ↦ subst (λ x. TellsOne x (Print c)) (sym (encode_ascii c l.1))
+  | inl l ↦ subst (λ x. EmitsOne x (Print c)) (sym (encode_ascii c l.1))
       (let p = text_byte c l.0 l.1 in
       ((text_run None (c ∷ []) p).0, λ limit. (text_run limit (c ∷ []) p).1))
   | inr l ↦ let s = spells_clear c q.0 l in character_does (encode_utf8 c) c (s.0, s.1, sym s.2)
@@ -39,7 +39,7 @@ clear_does c h = let q = clear_cases c h in elim q.1 [
 -- clear characters
 pub clear_run : (limit : Option ℕ) (cs : List ℕ) → list_all is_clear cs ≡ true
     → (after_all Ground (encode_utf8_all cs) ≡ Ground)
-    × (news_all limit Ground (encode_utf8_all cs) ≡ map Print cs)
+    × (events_all limit Ground (encode_utf8_all cs) ≡ map Print cs)
 clear_run limit [] h = (refl, refl)
 clear_run limit (c ∷ cs) h =
     let k = and_parts (is_clear c) (list_all is_clear cs) h in
@@ -47,19 +47,20 @@ clear_run limit (c ∷ cs) h =
     let more = clear_run limit cs k.1 in (
       after_append Ground (encode_utf8 c) (encode_utf8_all cs)
           ∙ ap (λ u. after_all u (encode_utf8_all cs)) one.0 ∙ more.0,
-      news_append limit Ground (encode_utf8 c) (encode_utf8_all cs)
-          ∙ ap (λ u. news_all limit Ground (encode_utf8 c) ++ news_all limit u (encode_utf8_all cs))
+      events_append limit Ground (encode_utf8 c) (encode_utf8_all cs)
+          ∙ ap (λ u. events_all limit Ground (encode_utf8 c)
+          ++ events_all limit u (encode_utf8_all cs))
           one.0
-          ∙ ap (λ es. es ++ news_all limit Ground (encode_utf8_all cs)) (one.1 limit)
+          ∙ ap (λ es. es ++ events_all limit Ground (encode_utf8_all cs)) (one.1 limit)
           ∙ ap (λ es. Print c ∷ es) more.1,
     )
 
 -- a text of clear characters
 pub clear_text_run : (limit : Option ℕ) (x : List ℕ) → IsUtf8 x → list_all is_clear (chars x) ≡ true
-    → (after_all Ground x ≡ Ground) × (news_all limit Ground x ≡ map Print (chars x))
+    → (after_all Ground x ≡ Ground) × (events_all limit Ground x ≡ map Print (chars x))
 clear_text_run limit x u h =
     subst (λ y. (after_all Ground y ≡ Ground)
-    × (news_all limit Ground y ≡ map Print (chars x))) (encodes-chars x u)
+    × (events_all limit Ground y ≡ map Print (chars x))) (encodes-chars x u)
     (clear_run limit (chars x) h)
 
 -- ---- bytes without controls
@@ -181,7 +182,7 @@ module _ {S : Type 0} (takes refuses : S → Event → S
 
   pub str_given : FoldsTo takes old (map Print (chars text)) new
       → (after_all Ground (take n rest) ≡ Ground)
-      × ((limit : Option ℕ) → FoldsTo takes old (news_all limit Ground (take n rest)) new)
+      × ((limit : Option ℕ) → FoldsTo takes old (events_all limit Ground (take n rest)) new)
   str_given f = (
     (clear_text_run None (take n rest) u all_clear).0,
     λ limit. subst (λ es. FoldsTo takes old es new)
@@ -189,7 +190,7 @@ module _ {S : Type 0} (takes refuses : S → Event → S
   )
 
   pub str_stops : (own : Type 0) → StopsAt own takes refuses old (map Print (chars text)) new
-      → (limit : Option ℕ) → StopsAt own takes refuses old (news_all limit Ground rest) new
+      → (limit : Option ℕ) → StopsAt own takes refuses old (events_all limit Ground rest) new
   str_stops own f = λ limit.
       stop_within limit own takes refuses Ground rest n old new
       (subst (λ es. StopsAt own takes refuses old es new)

@@ -9,7 +9,7 @@ use Rattle.esc_frame.specs.Limits.{most, kept_within, header_count}
 use Rattle.esc_frame.specs.Segments.{Segment, IsCut, ends_itself, joined, text_of}
 use Rattle.esc_frame.specs.Segments.Segment.{Osc, CutDcs, Apc}
 use Rattle.esc_frame.specs.Segments.Ending.{Open, Rung, Waits}
-use Rattle.esc_frame.specs.Leads.{Unfinished, AreFinished, Stands, kept_open}
+use Rattle.esc_frame.specs.Leads.{Unfinished, AreFinished, HasCut, kept_open}
 use Rattle.esc_frame.specs.Leads.Unfinished.{Ground, InOsc, InOscPending, InDcs, InApc}
 use Rattle.esc_frame.specs.Machine.Moves.{after_all, is_ground}
 use Rattle.esc_frame.specs.Stream.{events_within}
@@ -40,7 +40,7 @@ module _ (limit : Option ℕ) where
   open_kept _ n = refl
 
   kept_by : (s : List ℕ) (es : List Event) (gs hs : List Segment) (u : Unfinished)
-      → Stands limit s es gs u → IsCut s hs
+      → HasCut limit s es gs u → IsCut s hs
       → kept_of_cut limit hs ≡ kept_open limit u
   kept_by s es gs hs Ground st cut =
       ap (kept_of_cut limit)

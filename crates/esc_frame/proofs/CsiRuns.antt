@@ -6,19 +6,19 @@ use Rattle.std.proofs.lemmas.List.Elements.{filter-append}
 use Rattle.std.proofs.lemmas.List.Folds.{list_all-append}
 use Rattle.std.proofs.lemmas.Bool.{and_parts}
 use Rattle.std.proofs.lemmas.Bool.Decides.{nat_tests}
-use Rattle.esc_frame.specs.declared.classes.Class.TheVariants.{Escape, Opens}
+use Rattle.esc_frame.specs.declared.classes.Class.TheVariants.{Escape, Introducer}
 use Rattle.esc_frame.specs.declared.classes.Kind.TheVariants as kind
-use Rattle.esc_frame.specs.Classes.{class_of, is_breaker, is_noise, is_plain, in_csi, strip}
+use Rattle.esc_frame.specs.Classes.{class_of, is_breaker, is_noise, is_c0, in_csi, strip}
 use Rattle.esc_frame.specs.Scans.{is_body_byte}
 use Rattle.esc_frame.specs.Segments.{Opener, csi_events}
 use Rattle.esc_frame.specs.Segments.Opener.{Long}
 use Rattle.esc_frame.specs.Leads.Unfinished.{Ground, InCsi, InOsc}
-use Rattle.esc_frame.specs.Machine.Moves.{inside, goes_on, noise, after_all, news_all}
+use Rattle.esc_frame.specs.Machine.Moves.{inside, goes_on, noise, after_all, events_all}
 use Rattle.esc_frame.proofs.ManyBytes.{quiet_run, tail_is}
 
 body_byte : (b : ℕ) → is_body_byte b ≡ true
     → (is_breaker (class_of b) ≡ false) × (in_csi (class_of b) ≡ true)
-    × (is_plain (class_of b) ≡ false) × (is_noise (class_of b) ≡ false)
+    × (is_c0 (class_of b) ≡ false) × (is_noise (class_of b) ≡ false)
 unfolding class_of
 body_byte b h = (
   grind (arith, nat_tests),
@@ -28,7 +28,7 @@ body_byte b h = (
 )
 
 pub body_quiet : (limit : Option ℕ) (o : Opener) (x ys : List ℕ) → list_all is_body_byte ys ≡ true
-    → (after_all (InCsi o x) ys ≡ InCsi o (x ++ ys)) × (news_all limit (InCsi o x) ys ≡ [])
+    → (after_all (InCsi o x) ys ≡ InCsi o (x ++ ys)) × (events_all limit (InCsi o x) ys ≡ [])
 body_quiet limit o = quiet_run limit (InCsi o) is_body_byte (λ d b h. let p = body_byte b h in
     rw (p.0, p.1, p.2, inside, goes_on, noise) refl)
 
@@ -48,11 +48,11 @@ pub escape_class : class_of 0x1b ≡ Escape
 unfolding class_of
 escape_class = refl
 
-csi_class : class_of 0x5b ≡ Opens kind.Csi
+csi_class : class_of 0x5b ≡ Introducer kind.Csi
 unfolding class_of
 csi_class = refl
 
-osc_class : class_of 0x5d ≡ Opens kind.Osc
+osc_class : class_of 0x5d ≡ Introducer kind.Osc
 unfolding class_of
 osc_class = refl
 
@@ -64,29 +64,29 @@ two_first (x ∷ []) a b h p q = absurd (omega arith)
 two_first (x ∷ y ∷ r) a b h p q = ap (λ z. z ∷ y ∷ []) p ∙ ap (λ z. a ∷ z ∷ []) q
 
 csi_begins : (limit : Option ℕ) → (after_all Ground (0x1b ∷ 0x5b ∷ []) ≡ InCsi (Long []) [])
-    × (news_all limit Ground (0x1b ∷ 0x5b ∷ []) ≡ [])
+    × (events_all limit Ground (0x1b ∷ 0x5b ∷ []) ≡ [])
 csi_begins limit = rw (escape_class, csi_class) (refl, refl)
 
 osc_begins : (limit : Option ℕ) → (after_all Ground (0x1b ∷ 0x5d ∷ []) ≡ InOsc (Long []) [])
-    × (news_all limit Ground (0x1b ∷ 0x5d ∷ []) ≡ [])
+    × (events_all limit Ground (0x1b ∷ 0x5d ∷ []) ≡ [])
 osc_begins limit = rw (escape_class, osc_class) (refl, refl)
 
 pub csi_opens : (limit : Option ℕ) (rest : List ℕ) → 2 ≤ length rest → get_or rest 0 0 ≡ 0x1b
     → get_or rest 1 0 ≡ 0x5b
     → (after_all Ground (take 2 rest) ≡ InCsi (Long []) [])
-    × (news_all limit Ground (take 2 rest) ≡ [])
+    × (events_all limit Ground (take 2 rest) ≡ [])
 csi_opens limit rest h p q = let e = two_first rest 0x1b 0x5b h p q in (
   ap (after_all Ground) e ∙ (csi_begins limit).0,
-  ap (news_all limit Ground) e ∙ (csi_begins limit).1,
+  ap (events_all limit Ground) e ∙ (csi_begins limit).1,
 )
 
 pub osc_opens : (limit : Option ℕ) (rest : List ℕ) → 2 ≤ length rest → get_or rest 0 0 ≡ 0x1b
     → get_or rest 1 0 ≡ 0x5d
     → (after_all Ground (take 2 rest) ≡ InOsc (Long []) [])
-    × (news_all limit Ground (take 2 rest) ≡ [])
+    × (events_all limit Ground (take 2 rest) ≡ [])
 osc_opens limit rest h p q = let e = two_first rest 0x1b 0x5d h p q in (
   ap (after_all Ground) e ∙ (osc_begins limit).0,
-  ap (news_all limit Ground) e ∙ (osc_begins limit).1,
+  ap (events_all limit Ground) e ∙ (osc_begins limit).1,
 )
 
 -- ---- the final byte

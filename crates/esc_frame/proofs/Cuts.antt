@@ -10,9 +10,9 @@ use Rattle.esc_frame.specs.Segments.{is_finished, opener_events, hook_event, put
 use Rattle.esc_frame.specs.Segments.Segment.{Broken, Osc, CutEscape, CutCsi, CutDcs, Dcs}
 use Rattle.esc_frame.specs.Segments.Segment.{Apc, Ignored}
 use Rattle.esc_frame.specs.Segments.Ending.{Open, Rung, Waits}
-use Rattle.esc_frame.specs.Leads.{Unfinished, OpenShape, AreFinished, open_bytes, osc_bytes, Stands, finished_events_within, told_open}
+use Rattle.esc_frame.specs.Leads.{Unfinished, OpenShape, AreFinished, open_bytes, osc_bytes, HasCut, finished_events_within, emitted_open}
 use Rattle.esc_frame.specs.Leads.Unfinished.{Ground, Pending, InEscape, InCsi, InOsc, InOscPending, InDcs, InData, InApc, InIgnored}
-use Rattle.esc_frame.specs.Machine.Moves.{after_by, news_by, after_all, news_all, is_ground}
+use Rattle.esc_frame.specs.Machine.Moves.{after_by, events_by, after_all, events_all, is_ground}
 use Rattle.esc_frame.specs.Stream.{events_within}
 use Rattle.esc_frame.proofs.Grows.{joined_end}
 use Rattle.esc_frame.proofs.SameMoves.{after_same}
@@ -47,10 +47,10 @@ itself (Osc o ps Rung) f = refl
 itself (Osc o ps (Waits x)) f = f
 itself _ f = f
 
-data_told : (ds bs : List Event) (w : Bool)
+data_emitted : (ds bs : List Event) (w : Bool)
     → ds ++ (if w then bs else []) ≡ ds ++ (if w then bs ++ [] else [])
-data_told ds bs true = ap (λ y. ds ++ y) (sym (append-nil bs))
-data_told ds bs false = refl
+data_emitted ds bs true = ap (λ y. ds ++ y) (sym (append-nil bs))
+data_emitted ds bs false = refl
 
 -- ---- the last segment, where it is unfinished
 
@@ -96,22 +96,22 @@ module _ (limit : Option ℕ) where
       ∙ sym (append_assoc (events_of_within limit h true) (finished_events_within limit (k ∷ gs))
       (events_of_within limit g (ends_itself g)))
 
-  last_told : (h : Segment) → ends_itself h ≡ true
+  last_emitted : (h : Segment) → ends_itself h ≡ true
       → events_of_within limit h (ends_itself h) ≡ events_of_within limit h true ++ []
-  last_told h e = rw e (sym (append-nil (events_of_within limit h true)))
+  last_emitted h e = rw e (sym (append-nil (events_of_within limit h true)))
 
   events_closed : (gs : List Segment) → AreFinished gs []
       → events_of_cut_within limit gs ≡ finished_events_within limit gs
   events_closed [] f = refl
-  events_closed (h ∷ []) (sh, fh, r) = last_told h (itself h fh)
+  events_closed (h ∷ []) (sh, fh, r) = last_emitted h (itself h fh)
   events_closed (h ∷ k ∷ gs) (sh, fh, r) =
       ap (λ x. events_of_within limit h true ++ x) (events_closed (k ∷ gs) r)
 
   last_events : (u : Unfinished) → is_ground u ≡ false
-      → told_open limit u ≡ events_of_within limit (last_of u) (ends_itself (last_of u))
+      → emitted_open limit u ≡ events_of_within limit (last_of u) (ends_itself (last_of u))
   last_events Ground n = absurd cc
   last_events (InData o x f d) n =
-      data_told (opener_events o) (hook_event (strip x) f ∷ puts d) (is_read limit (strip x))
+      data_emitted (opener_events o) (hook_event (strip x) f ∷ puts d) (is_read limit (strip x))
   last_events (InApc o d) n = sym (append-nil (opener_events o))
   last_events (InOsc o ps) n = sym (append-nil (opener_events o))
   last_events (InOscPending o ps f) n = sym (append-nil (opener_events o))
@@ -119,7 +119,7 @@ module _ (limit : Option ℕ) where
 
 module _ {limit : Option ℕ} where
   pub cut_last : (s : List ℕ) (es : List Event) (gs : List Segment) (u : Unfinished)
-      → is_ground u ≡ false → Stands limit s es gs u
+      → is_ground u ≡ false → HasCut limit s es gs u
       → IsCut s (gs ++ last_of u ∷ [])
   cut_last s es gs u n st =
       let j = last_bytes u n in
@@ -129,58 +129,59 @@ module _ {limit : Option ℕ} where
             (last_shape u n st.shape);
       }
 
-  pub stands_tells : (s : List ℕ) (es : List Event) (gs : List Segment) (u : Unfinished)
-      → Stands limit s es gs u → HasEventsWithin limit s es
-  stands_tells s es gs Ground st = (
+  pub cut_emits : (s : List ℕ) (es : List Event) (gs : List Segment) (u : Unfinished)
+      → HasCut limit s es gs u → HasEventsWithin limit s es
+  cut_emits s es gs Ground st = (
     gs,
     record { whole = st.whole ∙ append-nil (joined gs); each = are_closed gs st.finished },
-    st.told ∙ append-nil (finished_events_within limit gs) ∙ sym
+    st.emitted ∙ append-nil (finished_events_within limit gs) ∙ sym
         (events_closed limit gs st.finished),
   )
-  stands_tells s es gs u st = (
+  cut_emits s es gs u st = (
     gs ++ last_of u ∷ [],
     cut_last s es gs u refl st,
-    st.told ∙ ap (λ y. finished_events_within limit gs ++ y) (last_events limit u refl)
+    st.emitted ∙ ap (λ y. finished_events_within limit gs ++ y) (last_events limit u refl)
         ∙ sym (events_push limit gs (last_of u)),
   )
 
-  -- more bytes on a cut take a cut, with the events that the machine tells
-  pub run_stands : (bs s : List ℕ) (es : List Event) (gs : List Segment) (u : Unfinished)
-      → Stands limit s es gs u
-      → (hs : List Segment) × Stands limit (s ++ bs) (es ++ news_all limit u bs) hs (after_all u bs)
-  run_stands [] s es gs u st = (
+  -- more bytes on a cut take a cut, with the events that the machine emits
+  pub run_cut : (bs s : List ℕ) (es : List Event) (gs : List Segment) (u : Unfinished)
+      → HasCut limit s es gs u
+      → (hs : List Segment)
+      × HasCut limit (s ++ bs) (es ++ events_all limit u bs) hs (after_all u bs)
+  run_cut [] s es gs u st = (
     gs,
-    subst (λ x. Stands limit x (es ++ []) gs u) (sym (append-nil s))
-        (subst (λ x. Stands limit s x gs u) (sym (append-nil es)) st),
+    subst (λ x. HasCut limit x (es ++ []) gs u) (sym (append-nil s))
+        (subst (λ x. HasCut limit s x gs u) (sym (append-nil es)) st),
   )
-  run_stands (b ∷ bs) s es gs u st =
+  run_cut (b ∷ bs) s es gs u st =
       let g = byte_step limit s es gs u b st in
-      let n = news_by limit u b (class_of b) in
+      let n = events_by limit u b (class_of b) in
       let v = after_by u b (class_of b) in
-      let r = run_stands bs (s ++ b ∷ []) (es ++ n) g.0 v
-      (subst (λ w. Stands limit (s ++ b ∷ []) (es ++ n) g.0 w)
+      let r = run_cut bs (s ++ b ∷ []) (es ++ n) g.0 v
+      (subst (λ w. HasCut limit (s ++ b ∷ []) (es ++ n) g.0 w)
       (after_same limit u b (class_of b)) g.1) in (
         r.0,
-        subst (λ x. Stands limit x (es ++ (n ++ news_all limit v bs)) r.0 (after_all v bs))
+        subst (λ x. HasCut limit x (es ++ (n ++ events_all limit v bs)) r.0 (after_all v bs))
             (append_assoc s (b ∷ []) bs)
-            (subst (λ x. Stands limit ((s ++ b ∷ []) ++ bs) x r.0 (after_all v bs))
-            (append_assoc es n (news_all limit v bs)) r.1),
+            (subst (λ x. HasCut limit ((s ++ b ∷ []) ++ bs) x r.0 (after_all v bs))
+            (append_assoc es n (events_all limit v bs)) r.1),
       )
 
-  nothing_stands : Stands limit [] [] [] Ground
-  nothing_stands = record { whole = refl; finished = tt; shape = tt; told = refl }
+  nothing_cut : HasCut limit [] [] [] Ground
+  nothing_cut = record { whole = refl; finished = tt; shape = tt; emitted = refl }
 
--- every stream stands where the machine comes to, told its events
+-- every stream stands where the machine comes to, emitted its events
 pub stands : (limit : Option ℕ) (s : List ℕ) → (gs : List Segment)
-    × Stands limit s (events_within limit s) gs (after_all Ground s)
+    × HasCut limit s (events_within limit s) gs (after_all Ground s)
 unfolding events_within
-stands limit s = run_stands s [] [] [] Ground nothing_stands
+stands limit s = run_cut s [] [] [] Ground nothing_cut
 
 -- every stream has a cut, and its events are those of the cut
 pub events_of_the_cut : (limit : Option ℕ) (s : List ℕ)
     → HasEventsWithin limit s (events_within limit s)
 events_of_the_cut limit s = let w = stands limit s in
-    stands_tells s (events_within limit s) w.0 (after_all Ground s) w.1
+    cut_emits s (events_within limit s) w.0 (after_all Ground s) w.1
 
 pub has_cut : (s : List ℕ) → (gs : List Segment) × IsCut s gs
 has_cut s = let t = events_of_the_cut None s in (t.0, t.1)

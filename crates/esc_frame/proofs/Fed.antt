@@ -12,10 +12,10 @@ use Rattle.esc_frame.specs.Events.Event.{Execute, Print}
 use Rattle.esc_frame.specs.Leads.{Holds}
 use Rattle.esc_frame.specs.Leads.Unfinished.{Ground}
 use Rattle.esc_frame.specs.Memory.{MayGrow}
-use Rattle.esc_frame.specs.Machine.Calls.{TellsOne, Fails}
+use Rattle.esc_frame.specs.Machine.Calls.{EmitsOne, Fails}
 use Rattle.esc_frame.specs.Machine.Keeps.{KeepsText}
-use Rattle.esc_frame.specs.Machine.Moves.{IsStill, after_by, news_by, after_all, news_all, may_grow_in, move}
-use Rattle.esc_frame.specs.Machine.Moves.{reaches_growing, lends, is_lendable, may_grow_within}
+use Rattle.esc_frame.specs.Machine.Moves.{IsStill, after_by, events_by, after_all, events_all, may_grow_in, move}
+use Rattle.esc_frame.specs.Machine.Moves.{reaches_growing, borrows, is_borrowable, may_grow_within}
 use Rattle.esc_frame.specs.Stream.{IsQuietWithin, LeadsToWithin, added_within}
 use Rattle.esc_frame.proofs.Given.{stops_for}
 use Rattle.memory.specs.Refusals.{Refused}
@@ -34,7 +34,7 @@ kept_all keeps limit m s b h = subst (λ u. Holds keeps limit m u) (sym (after_a
 
 pub given_all : {S : Type 0} (l limit : Option ℕ) → l ≡ limit
     → (takes : S → Event → S → Type 0) (s b : List ℕ) (old new : S)
-    → FoldsTo takes old (news_all l (after_all Ground s) b) new
+    → FoldsTo takes old (events_all l (after_all Ground s) b) new
     → FoldsTo takes old (added_within limit s b) new
 given_all l limit i takes s b old new h =
     subst (λ es. FoldsTo takes old es new) (sym (added_is l s b) ∙ ap (λ k. added_within k s b) i) h
@@ -49,14 +49,14 @@ refused_by : {S : Type 0} (A : Type 0) (l limit : Option ℕ) → l ≡ limit
     (s b : List ℕ) (old new : S) (own : Type 0)
     → (own → reaches_growing (after_all Ground s) b ≡ true)
     → StopsAt (own × Fails (λ _. Refused A) (λ w _. w) A l) takes refuses old
-    (news_all l (after_all Ground s) b) new
+    (events_all l (after_all Ground s) b) new
     → StopsAt (MayGrow (s ++ b) × Refused A) takes refuses old (added_within limit s b) new
 refused_by A l limit i takes refuses s b old new own w h =
     subst (λ es. StopsAt (MayGrow (s ++ b) × Refused A) takes refuses old es new)
     (sym (added_is l s b) ∙ ap (λ k. added_within k s b) i)
     (stops_for (own × Fails (λ _. Refused A) (λ w _. w) A l)
     (MayGrow (s ++ b) × Refused A) takes refuses
-    (news_all l (after_all Ground s) b) old new (λ o. (grows_added s b (w o.0), asked A l o.1)) h)
+    (events_all l (after_all Ground s) b) old new (λ o. (grows_added s b (w o.0), asked A l o.1)) h)
 
 pub refused_all : {S : Type 0} (A : Type 0) (l limit : Option ℕ) → l ≡ limit
     → (takes refuses : S → Event → S → Type 0)
@@ -64,32 +64,32 @@ pub refused_all : {S : Type 0} (A : Type 0) (l limit : Option ℕ) → l ≡ lim
     → StopsAt ((may_grow_within (after_all Ground s) b ≡ true)
     × Fails (λ _. Refused A) (λ w _. w) A l)
     takes refuses old
-    (news_all l (after_all Ground s) b) new
+    (events_all l (after_all Ground s) b) new
     → StopsAt (MayGrow (s ++ b) × Refused A) takes refuses old (added_within limit s b) new
 refused_all A l limit i takes refuses s b old new h =
     let u = after_all Ground s in
     refused_by A l limit i takes refuses s b old new (may_grow_within u b ≡ true)
-    (λ g. (and_parts (reaches_growing u b) (not (is_lendable u b)) g).0) h
+    (λ g. (and_parts (reaches_growing u b) (not (is_borrowable u b)) g).0) h
 
 -- bytes whose strings can all be lent stop only where the actor refused
-pub refused_lent : {S why : Type 0} (l limit : Option ℕ) → l ≡ limit
+pub refused_borrowed : {S why : Type 0} (l limit : Option ℕ) → l ≡ limit
     → (takes refuses : S → Event → S → Type 0)
-    (s b : List ℕ) (old new : S) → after_all Ground s ≡ Ground → lends Ground b ≡ true
+    (s b : List ℕ) (old new : S) → after_all Ground s ≡ Ground → borrows Ground b ≡ true
     → StopsAt ((may_grow_within (after_all Ground s) b ≡ true) × why) takes refuses old
-    (news_all l (after_all Ground s) b) new
+    (events_all l (after_all Ground s) b) new
     → StopsAt ⊥ takes refuses old (added_within limit s b) new
-refused_lent {S} {why} l limit i takes refuses s b old new e k h =
+refused_borrowed {S} {why} l limit i takes refuses s b old new e k h =
     subst (λ es. StopsAt ⊥ takes refuses old es new) (sym (added_is l s b)
     ∙ ap (λ k. added_within k s b) i)
     (stops_for ((may_grow_within (after_all Ground s) b ≡ true) × why) ⊥ takes refuses
-    (news_all l (after_all Ground s) b) old new
-    (λ g. lent_grows_not (reaches_growing Ground b) (lends Ground b) k
+    (events_all l (after_all Ground s) b) old new
+    (λ g. borrowed_grows_not (reaches_growing Ground b) (borrows Ground b) k
     (subst (λ u. may_grow_within u b ≡ true) e g.0)) h)
   where
-    lent_grows_not : (r t : Bool) → t ≡ true → (r && not (true && t)) ≡ true → ⊥
-    lent_grows_not true true t g = cc
-    lent_grows_not false true t g = cc
-    lent_grows_not r false t g = cc
+    borrowed_grows_not : (r t : Bool) → t ≡ true → (r && not (true && t)) ≡ true → ⊥
+    borrowed_grows_not true true t g = cc
+    borrowed_grows_not false true t g = cc
+    borrowed_grows_not r false t g = cc
 
 -- one byte is a list of one
 or_no : (t : Bool) → t ≡ true → (t || false) ≡ true
@@ -107,20 +107,20 @@ kept_one keeps limit m s b c e h =
 
 pub given_one : {S : Type 0} (l limit : Option ℕ) → l ≡ limit
     → (takes : S → Event → S → Type 0) (s : List ℕ) (b : ℕ) (c : Class) (old new : S)
-    → c ≡ class_of b → FoldsTo takes old (news_by l (after_all Ground s) b c) new
+    → c ≡ class_of b → FoldsTo takes old (events_by l (after_all Ground s) b c) new
     → FoldsTo takes old (added_within limit s (b ∷ [])) new
 given_one l limit i takes s b c old new e h =
     let u = after_all Ground s in
     given_all l limit i takes s (b ∷ []) old new
-    (subst (λ es. FoldsTo takes old es new) (ap (news_by l u b) e
-    ∙ sym (append-nil (news_by l u b (class_of b)))) h)
+    (subst (λ es. FoldsTo takes old es new) (ap (events_by l u b) e
+    ∙ sym (append-nil (events_by l u b (class_of b)))) h)
 
 pub refused_one : {S : Type 0} (A : Type 0) (l limit : Option ℕ) → l ≡ limit
     → (takes refuses : S → Event → S → Type 0)
     (s : List ℕ) (b : ℕ) (c : Class) (old new : S) → c ≡ class_of b
     → StopsAt ((may_grow_in (after_all Ground s) ≡ true) × Fails (λ _. Refused A) (λ w _. w) A l)
     takes refuses old
-    (news_by l (after_all Ground s) b c) new
+    (events_by l (after_all Ground s) b c) new
     → StopsAt (MayGrow (s ++ b ∷ []) × Refused A) takes refuses old
     (added_within limit s (b ∷ [])) new
 refused_one A l limit i takes refuses s b c old new e h =
@@ -129,13 +129,13 @@ refused_one A l limit i takes refuses s b c old new e h =
     (or_no (may_grow_in u))
     (subst (λ es. StopsAt ((may_grow_in u ≡ true) × Fails (λ _. Refused A) (λ w _. w) A l)
     takes refuses old es new)
-    (ap (news_by l u b) e ∙ sym (append-nil (news_by l u b (class_of b)))) h)
+    (ap (events_by l u b) e ∙ sym (append-nil (events_by l u b (class_of b)))) h)
 
 -- bytes of one event, where nothing is unfinished before them and after them
 event_fed : {A : Type 0} (limit : Option ℕ) (p : VTParser A) (s b : List ℕ) (x : Event)
     → LeadsToWithin limit s p → after_all Ground s ≡ Ground
     → after_all Ground b ≡ Ground
-    → news_all limit Ground b ≡ x ∷ [] → LeadsToWithin limit (s ++ b) p
+    → events_all limit Ground b ≡ x ∷ [] → LeadsToWithin limit (s ++ b) p
     × (added_within limit s b ≡ x ∷ [])
 unfolding LeadsToWithin
 event_fed limit p s b x (f, i, h) e k n =
@@ -147,14 +147,14 @@ event_fed limit p s b x (f, i, h) e k n =
         kept_all KeepsText p.limit p.machine s b
             (subst (λ u. Holds KeepsText p.limit p.machine u) same h),
       ),
-      added_is limit s b ∙ ap (λ u. news_all limit u b) e ∙ n,
+      added_is limit s b ∙ ap (λ u. events_all limit u b) e ∙ n,
     )
 
 pub character_fed : {A : Type 0} (limit : Option ℕ) (p : VTParser A) (s bs : List ℕ)
     (o : Option (ℕ × ℕ))
     → LeadsToWithin limit s p
     → after_all Ground s ≡ Ground
-    → IfSome o (λ x. TellsOne (take x.1 bs) (Print x.0))
+    → IfSome o (λ x. EmitsOne (take x.1 bs) (Print x.0))
     → IfSome o (λ x. IsStill limit Ground bs x.1)
     → IfSome o (λ x. (LeadsToWithin limit (s ++ take x.1 bs) p
     × (added_within limit s (take x.1 bs) ≡ Print x.0 ∷ []))
@@ -167,7 +167,7 @@ character_fed limit p s bs (Some x) l e k q = (
 
 pub control_fed : {A : Type 0} (limit : Option ℕ) (p : VTParser A) (s bs : List ℕ) (o : Option ℕ)
     → LeadsToWithin limit s p → after_all Ground s ≡ Ground
-    → IfSome o (λ b. TellsOne (take 1 bs) (Execute b))
+    → IfSome o (λ b. EmitsOne (take 1 bs) (Execute b))
     → IfSome o (λ b. LeadsToWithin limit (s ++ take 1 bs) p
     × (added_within limit s (take 1 bs) ≡ Execute b ∷ []))
 control_fed limit p s bs None l e h = tt

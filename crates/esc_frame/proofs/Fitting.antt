@@ -9,8 +9,8 @@ use Rattle.std.specs.List.{list_all}
 use Rattle.esc_values.specs.Clear.{is_clear, IsClearText, parts_of}
 use Rattle.esc_values.proofs.Split.{clear_append, text_parts}
 use Rattle.esc_frame.specs.declared.classes.Class.{Class}
-use Rattle.esc_frame.specs.declared.classes.Class.TheVariants.{Plain, Bell, Intermediate, Parameter}
-use Rattle.esc_frame.specs.Classes.{class_of, AllOf, those, strip, is_text, is_plain, is_noise, is_intermediate, in_escape, is_control, is_raw_control, is_put}
+use Rattle.esc_frame.specs.declared.classes.Class.TheVariants.{C0, Bell, Intermediate, Parameter}
+use Rattle.esc_frame.specs.Classes.{class_of, AllOf, those, strip, is_text, is_c0, is_noise, is_intermediate, in_escape, is_control, is_c1, is_put}
 use Rattle.esc_frame.specs.Classes.{in_csi, in_body, ends_csi}
 use Rattle.esc_frame.specs.Bodies.{is_csi_body, is_dcs_header}
 use Rattle.esc_frame.specs.Limits.{is_within, is_read, header_count}
@@ -24,7 +24,7 @@ use Rattle.esc_frame.specs.Segments.Segment.{CutCsi}
 use Rattle.esc_frame.specs.Segments.Segment.{Escape as EscapeOf}
 use Rattle.esc_frame.specs.Segments.Opener.{Long, Raw, Pair}
 use Rattle.esc_frame.specs.Segments.Piece.{One, Sequence, BrokenOff}
-use Rattle.esc_frame.specs.Leads.{Unfinished, AreFinished, OpenShape, finished_events_within, told_open}
+use Rattle.esc_frame.specs.Leads.{Unfinished, AreFinished, OpenShape, finished_events_within, emitted_open}
 use Rattle.esc_frame.specs.Leads.Unfinished.{Ground, Pending, InEscape, InCsi, InDcs, InData, InApc, InIgnored, InOsc, InOscPending}
 use Rattle.esc_frame.specs.Machine.Moves.{after_all}
 use Rattle.esc_frame.specs.Stream.{events_within}
@@ -38,19 +38,19 @@ fit_append [] fs h k = k
 fit_append (e ∷ es) fs h k = (h.0, fit_append es fs h.1 k)
 
 -- controls inside
-plain_control : (c : Class) → is_plain c ≡ true → (is_control c || is_raw_control c) ≡ true
-plain_control Plain h = refl
+plain_control : (c : Class) → is_c0 c ≡ true → (is_control c || is_c1 c) ≡ true
+plain_control C0 h = refl
 plain_control Bell h = refl
 plain_control _ h = absurd cc
 
-executes_more : (b : ℕ) (x : List ℕ) (t : Bool) → is_plain (class_of b) ≡ t → AreFit (executes x)
+executes_more : (b : ℕ) (x : List ℕ) (t : Bool) → is_c0 (class_of b) ≡ t → AreFit (executes x)
     → AreFit (executes (b ∷ x))
 executes_more b x true e h = rw e (plain_control (class_of b) e, h)
 executes_more b x false e h = rw e h
 
 fit_executes : (x : List ℕ) → AreFit (executes x)
 fit_executes [] = tt
-fit_executes (b ∷ x) = executes_more b x (is_plain (class_of b)) refl (fit_executes x)
+fit_executes (b ∷ x) = executes_more b x (is_c0 (class_of b)) refl (fit_executes x)
 
 fit_opener : (o : Opener) → AreFit (opener_events o)
 fit_opener (Long n) = fit_executes n
@@ -184,9 +184,9 @@ module _ (limit : Option ℕ) where
   fit_segment (Broken x) r f h = maybe f (Print 0xfffd ∷ []) (refl, tt)
   fit_segment (Stray b) r f h = (refl, tt)
   fit_segment (Control b) r f h =
-      (or_left (is_control (class_of b)) (is_raw_control (class_of b)) h, tt)
+      (or_left (is_control (class_of b)) (is_c1 (class_of b)) h, tt)
   fit_segment (HighControl p b) r f h =
-      (or_right (is_control (class_of b)) (is_raw_control (class_of b)) h, tt)
+      (or_right (is_control (class_of b)) (is_c1 (class_of b)) h, tt)
   fit_segment (Terminator p b) r f h = tt
   fit_segment (EscapeOf x b) r f h =
       fit_append (executes x) _ (fit_executes x) (let i = strip_intermediates x h.0 in
@@ -226,7 +226,7 @@ module _ (limit : Option ℕ) where
   fit_data x d f true e h k = ((x, h, has_form x e, refl, k), fit_puts d)
   fit_data x d f false e h k = tt
 
-  fit_open : (u : Unfinished) → OpenShape u → AreFit (told_open limit u)
+  fit_open : (u : Unfinished) → OpenShape u → AreFit (emitted_open limit u)
   fit_open Ground h = tt
   fit_open (Pending f) h = tt
   fit_open (InEscape x) h = fit_executes x
@@ -244,6 +244,7 @@ pub events_fit : (limit : Option ℕ) (s : List ℕ) → AreFit (events_within l
 events_fit limit s =
     let w = stands limit s in
     let u = after_all Ground s in
-    subst AreFit (sym w.1.told) (fit_append (finished_events_within limit w.0) (told_open limit u)
+    subst AreFit (sym w.1.emitted)
+    (fit_append (finished_events_within limit w.0) (emitted_open limit u)
     (fit_before limit w.0 _ w.1.finished)
     (fit_open limit u w.1.shape))

@@ -10,7 +10,7 @@ use Rattle.esc_frame.specs.Segments.Segment.{Broken, Osc, CutEscape, CutCsi, Cut
 use Rattle.esc_frame.specs.Segments.Segment.{Apc, Ignored}
 use Rattle.esc_frame.specs.Segments.Ending.{Open, Rung, Waits}
 use Rattle.esc_frame.specs.Segments.Piece.{One, Sequence, BrokenOff}
-use Rattle.esc_frame.specs.Leads.{Unfinished, AreFinished, OpenShape, open_bytes, Stands, finished_events_within, told_open}
+use Rattle.esc_frame.specs.Leads.{Unfinished, AreFinished, OpenShape, open_bytes, HasCut, finished_events_within, emitted_open}
 use Rattle.esc_frame.specs.Leads.Unfinished.{Ground}
 
 -- ---- what follows may grow
@@ -126,111 +126,115 @@ finished_push (h ∷ gs) g t (s, f, r) sg fg = (
 
 -- ---- one byte more
 
--- The stream is finished segments and then these bytes, which have told this.
+-- The stream is finished segments and then these bytes, which have emitted this.
 pub record Base (limit : Option ℕ) (stream : List ℕ) (events : List Event) (gs : List Segment)
-    (last : List ℕ) (told_last : List Event) : Type 0 where
+    (last : List ℕ) (emitted_last : List Event) : Type 0 where
   pub whole : stream ≡ joined gs ++ last
   pub finished : AreFinished gs last
-  pub told : events ≡ finished_events_within limit gs ++ told_last
+  pub emitted : events ≡ finished_events_within limit gs ++ emitted_last
 
 -- Of a stream the finished segments are all but these last bytes.
 pub record Meets (limit : Option ℕ) (stream : List ℕ) (events : List Event) (gs : List Segment)
     (last : List ℕ) : Type 0 where
   pub whole : stream ≡ joined gs ++ last
   pub finished : AreFinished gs last
-  pub told : events ≡ finished_events_within limit gs
+  pub emitted : events ≡ finished_events_within limit gs
 
-told_push : (limit : Option ℕ) (gs : List Segment) (g : Segment)
+emitted_push : (limit : Option ℕ) (gs : List Segment) (g : Segment)
     → finished_events_within limit (gs ++ g ∷ []) ≡ finished_events_within limit gs
     ++ events_of_within limit g true
-told_push limit [] g = append-nil (events_of_within limit g true)
-told_push limit (h ∷ gs) g = ap (λ x. events_of_within limit h true ++ x) (told_push limit gs g)
+emitted_push limit [] g = append-nil (events_of_within limit g true)
+emitted_push limit (h ∷ gs) g =
+    ap (λ x. events_of_within limit h true ++ x) (emitted_push limit gs g)
     ∙ sym (append_assoc (events_of_within limit h true) (finished_events_within limit gs)
     (events_of_within limit g true))
 
 module _ {limit : Option ℕ} where
   pub base : (s : List ℕ) (es : List Event) (gs : List Segment) (u : Unfinished)
-      → Stands limit s es gs u
-      → Base limit s es gs (open_bytes u) (told_open limit u)
-  base s es gs u st = record { whole = st.whole; finished = st.finished; told = st.told }
+      → HasCut limit s es gs u
+      → Base limit s es gs (open_bytes u) (emitted_open limit u)
+  base s es gs u st = record { whole = st.whole; finished = st.finished; emitted = st.emitted }
 
   -- the last segment takes the byte
   pub grows : (stream : List ℕ) (events : List Event) (gs : List Segment) (last : List ℕ)
-      (ts : List Event) (v : Unfinished) (b : ℕ) (news : List Event)
+      (ts : List Event) (v : Unfinished) (b : ℕ) (new_events : List Event)
       → Base limit stream events gs last ts
-      → open_bytes v ≡ last ++ b ∷ [] → OpenShape v → told_open limit v ≡ ts ++ news
-      → Stands limit (stream ++ b ∷ []) (events ++ news) gs v
-  grows stream events gs last ts v b news st j s t = record {
+      → open_bytes v ≡ last ++ b ∷ [] → OpenShape v → emitted_open limit v ≡ ts ++ new_events
+      → HasCut limit (stream ++ b ∷ []) (events ++ new_events) gs v
+  grows stream events gs last ts v b new_events st j s t = record {
     whole = ap (λ x. x ++ b ∷ []) st.whole ∙ append_assoc (joined gs) last (b ∷ [])
         ∙ ap (λ x. joined gs ++ x) (sym j);
     finished = subst (λ x. AreFinished gs x) (sym j) (finished_before gs last b st.finished);
     shape = s;
-    told = ap (λ x. x ++ news) st.told ∙ append_assoc (finished_events_within limit gs) ts news
+    emitted = ap (λ x. x ++ new_events) st.emitted
+        ∙ append_assoc (finished_events_within limit gs) ts new_events
         ∙ ap (λ x. finished_events_within limit gs ++ x) (sym t);
   }
 
   -- the last segment is finished before these last bytes
   pub leaves : (stream : List ℕ) (events : List Event) (gs : List Segment) (last : List ℕ)
       (ts : List Event) (g : Segment) (b : ℕ) (rest : List ℕ)
-      (news : List Event)
+      (new_events : List Event)
       → Base limit stream events gs last ts
       → bytes_of g ++ rest ≡ last ++ b ∷ [] → HasShape g rest → is_finished g rest ≡ true
-      → events_of_within limit g true ≡ ts ++ news
-      → Meets limit (stream ++ b ∷ []) (events ++ news) (gs ++ g ∷ []) rest
-  leaves stream events gs last ts g b rest news st j s f t = record {
+      → events_of_within limit g true ≡ ts ++ new_events
+      → Meets limit (stream ++ b ∷ []) (events ++ new_events) (gs ++ g ∷ []) rest
+  leaves stream events gs last ts g b rest new_events st j s f t = record {
     whole = ap (λ x. x ++ b ∷ []) st.whole ∙ append_assoc (joined gs) last (b ∷ [])
         ∙ ap (λ x. joined gs ++ x) (sym j) ∙ sym (joined_push gs g rest);
     finished = finished_push gs g rest
         (subst (λ x. AreFinished gs x) (sym j) (finished_before gs last b st.finished)) s f;
-    told = ap (λ x. x ++ news) st.told ∙ append_assoc (finished_events_within limit gs) ts news
+    emitted = ap (λ x. x ++ new_events) st.emitted
+        ∙ append_assoc (finished_events_within limit gs) ts new_events
         ∙ ap (λ x. finished_events_within limit gs ++ x) (sym t)
-        ∙ sym (told_push limit gs g);
+        ∙ sym (emitted_push limit gs g);
   }
 
   -- nothing is left over
   pub ends : (stream : List ℕ) (events : List Event) (gs : List Segment)
-      → Meets limit stream events gs [] → Stands limit stream events gs Ground
+      → Meets limit stream events gs [] → HasCut limit stream events gs Ground
   ends stream events gs m = record {
     whole = m.whole;
     finished = m.finished;
     shape = tt;
-    told = m.told ∙ sym (append-nil (finished_events_within limit gs));
+    emitted = m.emitted ∙ sym (append-nil (finished_events_within limit gs));
   }
 
-  -- what told nothing may be anew
+  -- what emitted nothing may be anew
   pub meets : (stream : List ℕ) (events : List Event) (gs : List Segment) (last : List ℕ) (b : ℕ)
       → Base limit stream events gs last []
       → Meets limit (stream ++ b ∷ []) events gs (last ++ b ∷ [])
   meets stream events gs last b st = record {
     whole = ap (λ x. x ++ b ∷ []) st.whole ∙ append_assoc (joined gs) last (b ∷ []);
     finished = finished_before gs last b st.finished;
-    told = st.told ∙ append-nil (finished_events_within limit gs);
+    emitted = st.emitted ∙ append-nil (finished_events_within limit gs);
   }
 
   -- the last bytes are a segment
   pub alone : (stream : List ℕ) (events : List Event) (gs : List Segment) (g : Segment)
-      (last : List ℕ) (news : List Event) → Meets limit stream events gs last
+      (last : List ℕ) (new_events : List Event) → Meets limit stream events gs last
       → bytes_of g ≡ last → HasShape g [] → is_finished g [] ≡ true
-      → events_of_within limit g true ≡ news
-      → Stands limit stream (events ++ news) (gs ++ g ∷ []) Ground
-  alone stream events gs g last news m j s f t =
+      → events_of_within limit g true ≡ new_events
+      → HasCut limit stream (events ++ new_events) (gs ++ g ∷ []) Ground
+  alone stream events gs g last new_events m j s f t =
       let e : last ≡ bytes_of g ++ [] = sym j ∙ sym (append-nil (bytes_of g)) in record {
         whole = m.whole ∙ ap (λ x. joined gs ++ x) e ∙ sym (joined_push gs g []);
         finished = finished_push gs g [] (subst (λ x. AreFinished gs x) e m.finished) s f;
         shape = tt;
-        told = ap (λ x. x ++ news) m.told ∙ ap (λ x. finished_events_within limit gs ++ x) (sym t)
-            ∙ sym (told_push limit gs g)
+        emitted = ap (λ x. x ++ new_events) m.emitted
+            ∙ ap (λ x. finished_events_within limit gs ++ x) (sym t)
+            ∙ sym (emitted_push limit gs g)
             ∙ sym (append-nil (finished_events_within limit (gs ++ g ∷ [])));
       }
 
   -- the last bytes begin a segment
   pub begins : (stream : List ℕ) (events : List Event) (gs : List Segment) (u : Unfinished)
       (last : List ℕ) → Meets limit stream events gs last
-      → open_bytes u ≡ last → OpenShape u → told_open limit u ≡ []
-      → Stands limit stream (events ++ []) gs u
+      → open_bytes u ≡ last → OpenShape u → emitted_open limit u ≡ []
+      → HasCut limit stream (events ++ []) gs u
   begins stream events gs u last m j s t = record {
     whole = m.whole ∙ ap (λ x. joined gs ++ x) (sym j);
     finished = subst (λ x. AreFinished gs x) (sym j) m.finished;
     shape = s;
-    told = ap (λ x. x ++ []) m.told ∙ ap (λ x. finished_events_within limit gs ++ x) (sym t);
+    emitted = ap (λ x. x ++ []) m.emitted ∙ ap (λ x. finished_events_within limit gs ++ x) (sym t);
   }

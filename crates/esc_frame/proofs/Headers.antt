@@ -12,8 +12,8 @@ use Rattle.esc_values.specs.Clear.{parts_of}
 use Rattle.esc_frame.specs.declared.body.Form.{Form}
 use Rattle.esc_frame.specs.declared.body.Form.TheVariants as form
 use Rattle.esc_frame.specs.declared.header.DcsHeader.{DcsHeader}
-use Rattle.esc_frame.specs.Bodies.{is_marker, is_intermediate_byte, is_csi_parameter, is_dcs_parameter, is_dcs_header, behind_marker, drop_while}
-use Rattle.esc_frame.specs.Bodies.{held, value_behind, dcs_params, dcs_intermediates}
+use Rattle.esc_frame.specs.Bodies.{is_private_prefix, is_intermediate_byte, is_csi_parameter, is_dcs_parameter, is_dcs_header, after_private_prefix, drop_while}
+use Rattle.esc_frame.specs.Bodies.{held, value_after, dcs_params, dcs_intermediates}
 use Rattle.esc_frame.specs.Events.Event.{DcsHook}
 use Rattle.esc_frame.specs.Limits.{is_within, is_read, header_count}
 use Rattle.esc_frame.specs.Machine.Keeps.{KeepsDcs, next_form_by, next_form, form_by, is_formed, parameters_of, others_of}
@@ -49,8 +49,8 @@ next_colon form.Malformed = refl
 intermediate_no : (b : ℕ) → is_intermediate_byte b ≡ true → is_dcs_parameter b ≡ false
 intermediate_no b h = grind (arith, nat_tests)
 
-marker_no : (b : ℕ) → is_marker b ≡ true → is_dcs_parameter b ≡ false
-marker_no b h = grind (arith, nat_tests)
+private_prefix_no : (b : ℕ) → is_private_prefix b ≡ true → is_dcs_parameter b ≡ false
+private_prefix_no b h = grind (arith, nat_tests)
 
 intermediates_kept : (x : List ℕ) → list_all is_intermediate_byte x ≡ true → (parameters_of x ≡ [])
     × (others_of x ≡ x)
@@ -83,12 +83,13 @@ body_kept (b ∷ x) h =
     (ap (list_all is_intermediate_byte) (sym d) ∙ h) in
     (q.0 ∙ sym (take_while-cons is_dcs_parameter b x), q.1 ∙ sym d)
 
-marked_by : (b : ℕ) (x : List ℕ) (t : Bool) → is_marker b ≡ t
+marked_by : (b : ℕ) (x : List ℕ) (t : Bool) → is_private_prefix b ≡ t
     → list_all is_intermediate_byte (drop_while is_dcs_parameter (if t then x else b ∷ x)) ≡ true
     → (parameters_of (b ∷ x) ≡ take_while is_dcs_parameter (if t then x else b ∷ x))
     × (others_of (b ∷ x) ≡ (if t then b ∷ [] else [])
     ++ drop_while is_dcs_parameter (if t then x else b ∷ x))
-marked_by b x true m h = let q = body_kept x h in rw (marker_no b m) (q.0, ap (λ y. b ∷ y) q.1)
+marked_by b x true m h = let q = body_kept x h in
+    rw (private_prefix_no b m) (q.0, ap (λ y. b ∷ y) q.1)
 marked_by b x false m h = body_kept (b ∷ x) h
 
 -- with a byte more
@@ -112,22 +113,22 @@ others_same x b h = sym (filter-append (λ b. not (is_dcs_parameter b)) x (b ∷
 
 -- of a header that has its form
 pub header_kept : (x : List ℕ) → is_dcs_header x ≡ true
-    → (parameters_of x ≡ take_while is_dcs_parameter (behind_marker x))
+    → (parameters_of x ≡ take_while is_dcs_parameter (after_private_prefix x))
     × (others_of x ≡ dcs_intermediates x)
 unfolding is_dcs_header dcs_intermediates
 header_kept [] h = (refl, refl)
-header_kept (b ∷ x) h = marked_by b x (is_marker b) refl h
+header_kept (b ∷ x) h = marked_by b x (is_private_prefix b) refl h
 
 params_are : (x bytes : List ℕ) (ns : List ℤ) → is_dcs_header x ≡ true → bytes ≡ parameters_of x
-    → ns ≡ map (λ p. pos (held (value_behind 0 p))) (parts_of bytes) → ns ≡ dcs_params x
+    → ns ≡ map (λ p. pos (held (value_after 0 p))) (parts_of bytes) → ns ≡ dcs_params x
 unfolding dcs_params
 params_are x bytes ns h e n =
-    n ∙ ap (λ y. map (λ p. pos (held (value_behind 0 p))) (parts_of y)) (e ∙ (header_kept x h).0)
+    n ∙ ap (λ y. map (λ p. pos (held (value_after 0 p))) (parts_of y)) (e ∙ (header_kept x h).0)
 
 -- its hook, from what is kept
 pub hook_is : (h : DcsHeader) (x bytes is : List ℕ) (ns : List ℤ) (b : ℕ) → is_dcs_header x ≡ true
     → KeepsDcs h x → bytes ≡ parameters_of x
-    → ns ≡ map (λ p. pos (held (value_behind 0 p))) (parts_of bytes)
+    → ns ≡ map (λ p. pos (held (value_after 0 p))) (parts_of bytes)
     → is ≡ take h.intermediates.kept h.intermediates.bytes
     → DcsHook b ns is h.intermediates.ignored ≡ hook_event x b
 hook_is h x bytes is ns b f k e n i =

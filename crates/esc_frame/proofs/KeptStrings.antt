@@ -13,13 +13,13 @@ use Rattle.esc_frame.specs.Classes.{class_of, is_text, is_breaker, those}
 use Rattle.esc_frame.specs.Leads.{Unfinished}
 use Rattle.esc_frame.specs.Leads.Unfinished.{InApc, InOsc, InOscPending}
 use Rattle.esc_frame.specs.Machine.Characters.{NoneAhead}
-use Rattle.esc_frame.specs.Machine.Moves.{after_by, after_all, all_pass, is_ground, lends, is_lendable, osc_pending_move, ends_osc}
+use Rattle.esc_frame.specs.Machine.Moves.{after_by, after_all, all_pass, is_ground, borrows, is_borrowable, osc_pending_move, ends_osc}
 use Rattle.esc_frame.specs.Machine.Moves.{passes, passes_osc, passes_pending}
 use Rattle.esc_frame.specs.Machine.TextRuns.{IsTextRun, NoUnitAhead}
 use Rattle.esc_frame.specs.Scans.{is_text_byte}
 use Rattle.esc_frame.specs.Segments.{Opener, Piece, text_of, is_empty}
-use Rattle.esc_frame.specs.Sequences.{is_from, is_sequence, is_front, is_pair, outcome}
-use Rattle.esc_frame.proofs.Lends.{both, lends_all, lends_at, lends_behind, no_if, not_both}
+use Rattle.esc_frame.specs.Sequences.{is_from, is_sequence, is_prefix, is_pair, outcome}
+use Rattle.esc_frame.proofs.Borrows.{both, borrows_all, borrows_at, borrows_after, no_if, not_both}
 use Rattle.esc_frame.proofs.StringRuns.{apc_text, prefix_passes}
 
 pub empty_is : (t : List ℕ) → is_empty t ≡ true → t ≡ []
@@ -37,12 +37,12 @@ no_drop rest n l = none (drop n rest) (omega (arith, length-drop n rest))
 
 -- that no byte ends
 pub unended : (o : Opener) (ps : List Piece) (rest : List ℕ) (n : ℕ) → IsTextRun (take n rest)
-    → length rest ≤ n → is_lendable (InOsc o ps) rest ≡ false
+    → length rest ≤ n → is_borrowable (InOsc o ps) rest ≡ false
 unended o ps rest n run l =
-    no_if (is_lendable (InOsc o ps) rest) (λ h.
+    no_if (is_borrowable (InOsc o ps) rest) (λ h.
     let k : false ≡ true =
-    lends_all (InOsc o ps) (InOsc o (ps ++ run.0)) rest n (run.2 None o ps).0 (no_drop rest n l)
-    (and_parts (is_empty (text_of ps)) (lends (InOsc o ps) rest) h).1 in cc)
+    borrows_all (InOsc o ps) (InOsc o (ps ++ run.0)) rest n (run.2 None o ps).0 (no_drop rest n l)
+    (and_parts (is_empty (text_of ps)) (borrows (InOsc o ps) rest) h).1 in cc)
 
 no_text : (b : ℕ) → is_text_byte b ≡ false → is_text (class_of b) ≡ false
 unfolding class_of
@@ -61,9 +61,9 @@ pair_bytes a b h = let k = and_parts (a == 0xc2) (is_from 0x80 0x9f b) h in
 
 -- ---- bytes in which no unit comes first
 
-lends_next : (u : Unfinished) (b : ℕ) (bs : List ℕ) → lends u (b ∷ bs) ≡ true
-    → (passes u b (class_of b) ≡ true) × (lends (after_by u b (class_of b)) bs ≡ true)
-lends_next u b bs h =
+borrows_next : (u : Unfinished) (b : ℕ) (bs : List ℕ) → borrows u (b ∷ bs) ≡ true
+    → (passes u b (class_of b) ≡ true) × (borrows (after_by u b (class_of b)) bs ≡ true)
+borrows_next u b bs h =
     let v : Unfinished = after_by u b (class_of b) in
     let k = and_parts (all_pass u (b ∷ bs)) (is_ground (after_all u (b ∷ bs))) h in
     let p = and_parts (passes u b (class_of b)) (all_pass v bs) k.0 in
@@ -87,13 +87,13 @@ some_more (a ∷ f) b = refl
 
 -- a byte that completes no sequence and passes makes the prefix longer
 longer : (o : Opener) (ps : List Piece) (f : List ℕ) (b : ℕ) (s : List ℕ) (t : Bool)
-    → is_sequence (f ++ b ∷ []) ≡ false → is_front (f ++ b ∷ []) ≡ t
+    → is_sequence (f ++ b ∷ []) ≡ false → is_prefix (f ++ b ∷ []) ≡ t
     → passes_pending ps f b (outcome f b) ≡ true
-    → lends (osc_pending_move None o ps f b (class_of b) (outcome f b)).0 s ≡ true
-    → lends (InOscPending o ps (f ++ b ∷ [])) s ≡ true
+    → borrows (osc_pending_move None o ps f b (class_of b) (outcome f b)).0 s ≡ true
+    → borrows (InOscPending o ps (f ++ b ∷ [])) s ≡ true
 longer o ps f b s true w e p h =
     let k : outcome f b ≡ outcomes.More = rw (w, e) refl in
-    subst (λ x. lends (osc_pending_move None o ps f b (class_of b) x).0 s ≡ true) k h
+    subst (λ x. borrows (osc_pending_move None o ps f b (class_of b) x).0 s ≡ true) k h
 longer o ps f b s false w e p h =
     let k : outcome f b ≡ outcomes.Broken = rw (w, e) refl in
     let no : false ≡ true = subst (λ x. passes_pending ps f b x ≡ true) k p in absurd cc
@@ -101,26 +101,26 @@ longer o ps f b s false w e p h =
 -- a prefix of a sequence there is not completed
 uncompleted : (o : Opener) (ps : List Piece) (f s : List ℕ) → is_empty f ≡ false
     → NoneAhead (f ++ s) → NoPair f s
-    → lends (InOscPending o ps f) s ≡ true → ⊥
+    → borrows (InOscPending o ps f) s ≡ true → ⊥
 uncompleted o ps f [] n none np h = let k : false ≡ true = h in cc
 uncompleted o ps f (b ∷ s) n none np h =
     let e : (f ++ b ∷ []) ++ s ≡ f ++ b ∷ s = append_assoc f (b ∷ []) s in
-    let k = lends_next (InOscPending o ps f) b s h in
+    let k = borrows_next (InOscPending o ps f) b s h in
     let w : is_sequence (f ++ b ∷ []) ≡ false = no_if (is_sequence (f ++ b ∷ []))
     (λ i. not_both (is_pair (f ++ b ∷ [])) (none (f ++ b ∷ []) s (sym e) i) (np b s refl)) in
     uncompleted o ps (f ++ b ∷ []) s (some_more f b) (subst NoneAhead (sym e) none) (λ c t i.
     long_no_pair f b c n)
-    (longer o ps f b s (is_front (f ++ b ∷ [])) w refl k.0 k.1)
+    (longer o ps f b s (is_prefix (f ++ b ∷ [])) w refl k.0 k.1)
 
 -- where neither a unit nor an end of the text comes first, it cannot be lent
 no_unit : (o : Opener) (ps : List Piece) (a : ℕ) (s : List ℕ) → NoUnitAhead (a ∷ s)
     → ends_osc (class_of a) ≡ false → NoPair (a ∷ []) s
-    → lends (InOsc o ps) (a ∷ s) ≡ true → ⊥
+    → borrows (InOsc o ps) (a ∷ s) ≡ true → ⊥
 no_unit o ps a s stops ends np h =
-    let k = lends_next (InOsc o ps) a s h in
+    let k = borrows_next (InOsc o ps) a s h in
     let lead : class_of a ≡ Lead = only_lead ps (class_of a) (no_text a stops.0) ends k.0 in
     uncompleted o ps (a ∷ []) s refl stops.1 np
-    (subst (λ c. lends (after_by (InOsc o ps) a c) s ≡ true) lead k.1)
+    (subst (λ c. borrows (after_by (InOsc o ps) a c) s ≡ true) lead k.1)
 
 -- that no byte and no control after C2 ends where its run does
 module _ (o : Opener) (ps : List Piece) (rest : List ℕ) (n : ℕ) (run : IsTextRun (take n rest))
@@ -148,15 +148,15 @@ module _ (o : Opener) (ps : List Piece) (rest : List ℕ) (n : ℕ) (run : IsTex
       not_both (is_from 0x80 0x9f b) k.1
       (subst (λ x. is_from 0x80 0x9f x ≡ false) j.1 (none j.0 k.0)))
 
-  pub unclosed : is_lendable (InOsc o ps) rest ≡ false
+  pub unclosed : is_borrowable (InOsc o ps) rest ≡ false
   unclosed =
-      no_if (is_lendable (InOsc o ps) rest) (λ h.
-      let l = (and_parts (is_empty (text_of ps)) (lends (InOsc o ps) rest) h).1 in
+      no_if (is_borrowable (InOsc o ps) rest) (λ h.
+      let l = (and_parts (is_empty (text_of ps)) (borrows (InOsc o ps) rest) h).1 in
       no_unit o (ps ++ run.0) (get_or rest n 0) (drop (n + 1) rest) (subst NoUnitAhead tail stops)
       (ap ends_osc (sym e) ∙ ends) no_control
-      (subst (λ y. lends (InOsc o (ps ++ run.0)) y ≡ true) tail
-      (subst (λ w. lends w (drop n rest) ≡ true) (run.2 None o ps).0
-      (lends_behind (InOsc o ps) rest n l))))
+      (subst (λ y. borrows (InOsc o (ps ++ run.0)) y ≡ true) tail
+      (subst (λ w. borrows w (drop n rest) ≡ true) (run.2 None o ps).0
+      (borrows_after (InOsc o ps) rest n l))))
 
 -- ---- an application program command
 
@@ -164,12 +164,12 @@ module _ (o : Opener) (d rest : List ℕ) (n : ℕ) (run : n ≡ prefix_len is_t
   apc_after : after_all (InApc o d) (take n rest) ≡ InApc o (d ++ take n rest)
   apc_after = (apc_text None o d (take n rest) (prefix_passes rest n run)).0
 
-  pub apc_unended : length rest ≤ n → is_lendable (InApc o d) rest ≡ false
+  pub apc_unended : length rest ≤ n → is_borrowable (InApc o d) rest ≡ false
   apc_unended l =
-      no_if (is_lendable (InApc o d) rest) (λ h.
+      no_if (is_borrowable (InApc o d) rest) (λ h.
       let k : false ≡ true =
-      lends_all (InApc o d) (InApc o (d ++ take n rest)) rest n apc_after (no_drop rest n l)
-      (and_parts (is_empty (those is_text d)) (lends (InApc o d) rest) h).1 in cc)
+      borrows_all (InApc o d) (InApc o (d ++ take n rest)) rest n apc_after (no_drop rest n l)
+      (and_parts (is_empty (those is_text d)) (borrows (InApc o d) rest) h).1 in cc)
 
   stop : n < length rest → is_text (class_of (get_or rest n 0)) ≡ false
   stop l =
@@ -178,10 +178,10 @@ module _ (o : Opener) (d rest : List ℕ) (n : ℕ) (run : n ≡ prefix_len is_t
       (subst (λ k. k < length rest) run l))
 
   pub apc_unclosed : n < length rest → is_breaker (class_of (get_or rest n 0)) ≡ false
-      → is_lendable (InApc o d) rest ≡ false
+      → is_borrowable (InApc o d) rest ≡ false
   apc_unclosed l b =
-      no_if (is_lendable (InApc o d) rest) (λ h.
-      let p = lends_at (InApc o d) (InApc o (d ++ take n rest)) rest n apc_after l
-      (and_parts (is_empty (those is_text d)) (lends (InApc o d) rest) h).1 in
+      no_if (is_borrowable (InApc o d) rest) (λ h.
+      let p = borrows_at (InApc o d) (InApc o (d ++ take n rest)) rest n apc_after l
+      (and_parts (is_empty (those is_text d)) (borrows (InApc o d) rest) h).1 in
       not_both (is_text (class_of (get_or rest n 0)) || is_breaker (class_of (get_or rest n 0))) p
       (rw (stop l, b) refl))

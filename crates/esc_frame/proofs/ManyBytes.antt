@@ -10,7 +10,7 @@ use Rattle.std.proofs.lemmas.Bool.Decides.{nat_tests}
 use Rattle.esc_frame.specs.declared.classes.Class.TheVariants.{Lead}
 use Rattle.esc_frame.specs.Classes.{class_of, is_control, is_text}
 use Rattle.esc_frame.specs.Scans.{is_text_byte}
-use Rattle.esc_frame.specs.Sequences.{is_sequence, is_front, is_pair, number_of, outcome, is_from, is_second, is_tail}
+use Rattle.esc_frame.specs.Sequences.{is_sequence, is_prefix, is_pair, number_of, outcome, is_from, is_second, is_tail}
 use Rattle.esc_frame.specs.Events.{Event, StopsAt}
 use Rattle.esc_frame.specs.Events.Event.{Execute, Print}
 use Rattle.esc_frame.specs.declared.machine.Machine.{Machine}
@@ -18,39 +18,40 @@ use Rattle.esc_frame.specs.Leads.{Unfinished, Holds}
 use Rattle.esc_frame.specs.Leads.Unfinished.{Ground, InOsc}
 use Rattle.esc_frame.specs.Segments.{Opener, Piece}
 use Rattle.esc_frame.specs.Segments.Piece.{Sequence}
-use Rattle.esc_frame.specs.Machine.Moves.{move, ground_move, pending_move, osc_pending_move, inside, goes_on, after_by, news_by, after_all, news_all}
+use Rattle.esc_frame.specs.Machine.Moves.{move, ground_move, pending_move, osc_pending_move, inside, goes_on, after_by, events_by, after_all, events_all}
 use Rattle.esc_frame.specs.Machine.Moves.{may_grow_within}
-use Rattle.esc_frame.specs.Machine.Calls.{Ran, StaysFresh, TellsOne}
+use Rattle.esc_frame.specs.Machine.Calls.{Ran, StaysFresh, EmitsOne}
 use Rattle.esc_frame.specs.Machine.Characters.{IsCharacter}
 use Rattle.esc_frame.proofs.Given.{folds_then, stops_then, stops_more, stops_for, refused_stops}
-use Rattle.esc_frame.proofs.Lends.{after_more, fresh_more, grows_behind}
+use Rattle.esc_frame.proofs.Borrows.{after_more, fresh_more, grows_after}
 use Rattle.esc_frame.proofs.SameMoves.{after_same}
-use Rattle.esc_frame.proofs.Streams.{news_append}
+use Rattle.esc_frame.proofs.Streams.{events_append}
 
 -- ---- one run after another
 
 module _ {S : Type 0} (limit : Option ℕ) (takes refuses : S → Event → S
     → Type 0) (u : Unfinished) (rest : List ℕ) (i : ℕ) (old mid new : S)
-    (so : FoldsTo takes old (news_all limit u (take i rest)) mid) where
+    (so : FoldsTo takes old (events_all limit u (take i rest)) mid) where
   -- n bytes more
   pub given_more : (n : ℕ)
-      → FoldsTo takes mid (news_all limit (after_all u (take i rest)) (take n (drop i rest))) new
-      → FoldsTo takes old (news_all limit u (take (i + n) rest)) new
+      → FoldsTo takes mid (events_all limit (after_all u (take i rest)) (take n (drop i rest))) new
+      → FoldsTo takes old (events_all limit u (take (i + n) rest)) new
   given_more n h =
       subst (λ es. FoldsTo takes old es new)
-      (sym (ap (news_all limit u) (take-add i n rest)
-      ∙ news_append limit u (take i rest) (take n (drop i rest))))
-      (folds_then takes (news_all limit u (take i rest)) _ old mid new so h)
+      (sym (ap (events_all limit u) (take-add i n rest)
+      ∙ events_append limit u (take i rest) (take n (drop i rest))))
+      (folds_then takes (events_all limit u (take i rest)) _ old mid new so h)
 
   -- stopped within the bytes after them
   pub given_stop : (own : Type 0)
-      → StopsAt own takes refuses mid (news_all limit (after_all u (take i rest)) (drop i rest)) new
-      → StopsAt own takes refuses old (news_all limit u rest) new
+      → StopsAt own takes refuses mid
+      (events_all limit (after_all u (take i rest)) (drop i rest)) new
+      → StopsAt own takes refuses old (events_all limit u rest) new
   given_stop own h =
       subst (λ es. StopsAt own takes refuses old es new)
-      (sym (news_append limit u (take i rest) (drop i rest))
-      ∙ ap (news_all limit u) (take-append-drop i rest))
-      (stops_then own takes refuses (news_all limit u (take i rest)) _ old mid new so h)
+      (sym (events_append limit u (take i rest) (drop i rest))
+      ∙ ap (events_all limit u) (take-append-drop i rest))
+      (stops_then own takes refuses (events_all limit u (take i rest)) _ old mid new so h)
 
 -- a slice to the end
 pub tail_is : (rest : List ℕ) (i : ℕ) → take (length rest - i) (drop i rest) ≡ drop i rest
@@ -62,32 +63,34 @@ tail_length rest i = ap length (tail_is rest i) ∙ length-drop i rest
 
 module _ {S : Type 0} (limit : Option ℕ) (takes refuses : S → Event → S
     → Type 0) (u v : Unfinished) (rest : List ℕ) (i : ℕ) (old mid new : S)
-    (here : after_all u (take i rest) ≡ v) (so : FoldsTo takes old (news_all limit u (take i rest))
+    (here : after_all u (take i rest) ≡ v)
+    (so : FoldsTo takes old (events_all limit u (take i rest))
     mid) where
   -- a call took n bytes of a slice to the end
   pub ran_more : (w : Unfinished) (n : ℕ)
       → (after_all v (take n (take (length rest - i) (drop i rest))) ≡ w)
-      × FoldsTo takes mid (news_all limit v (take n (take (length rest - i) (drop i rest)))) new
+      × FoldsTo takes mid (events_all limit v (take n (take (length rest - i) (drop i rest)))) new
       → (after_all u (take (i + n) rest) ≡ w)
-      × FoldsTo takes old (news_all limit u (take (i + n) rest)) new
+      × FoldsTo takes old (events_all limit u (take (i + n) rest)) new
   ran_more w n (a, g) =
       let e : take n (take (length rest - i) (drop i rest)) ≡ take n (drop i rest) =
       ap (take n) (tail_is rest i) in (
         after_more u rest i n ∙ ap (λ x. after_all x (take n (drop i rest))) here
             ∙ ap (after_all v) (sym e) ∙ a,
         given_more limit takes refuses u rest i old mid new so n
-            (subst (λ x. FoldsTo takes mid (news_all limit x (take n (drop i rest))) new) (sym here)
-            (subst (λ y. FoldsTo takes mid (news_all limit v y) new) e g)),
+            (subst (λ x. FoldsTo takes mid (events_all limit x (take n (drop i rest))) new)
+            (sym here)
+            (subst (λ y. FoldsTo takes mid (events_all limit v y) new) e g)),
       )
 
   pub ran_took : {K A : Type 0} (keeps : Option ℕ → K → List ℕ
       → Type 0) (machine : Machine K A) (n : ℕ) → StaysFresh u rest i
       → Holds keeps limit machine (after_all v (take n (take (length rest - i) (drop i rest))))
       × FoldsTo takes mid
-      (news_all limit v (take n (take (length rest - i) (drop i rest)))) new
+      (events_all limit v (take n (take (length rest - i) (drop i rest)))) new
       × StaysFresh v (take (length rest - i) (drop i rest)) n
       → Holds keeps limit machine (after_all u (take (i + n) rest))
-      × FoldsTo takes old (news_all limit u (take (i + n) rest)) new × StaysFresh u rest (i + n)
+      × FoldsTo takes old (events_all limit u (take (i + n) rest)) new × StaysFresh u rest (i + n)
   ran_took keeps machine n fresh (h, f, g) =
       let r = ran_more (after_all v (take n (take (length rest - i) (drop i rest)))) n (refl, f) in (
         subst (λ w. Holds keeps limit machine w) (sym r.0) h,
@@ -98,27 +101,28 @@ module _ {S : Type 0} (limit : Option ℕ) (takes refuses : S → Event → S
 
   -- or stopped within it, by a refused call
   pub ran_stop : (own : Type 0)
-      → StopsAt own takes refuses mid (news_all limit v (take (length rest - i) (drop i rest))) new
-      → StopsAt own takes refuses old (news_all limit u rest) new
+      → StopsAt own takes refuses mid
+      (events_all limit v (take (length rest - i) (drop i rest))) new
+      → StopsAt own takes refuses old (events_all limit u rest) new
   ran_stop own h =
       given_stop limit takes refuses u rest i old mid new so own
-      (subst (λ x. StopsAt own takes refuses mid (news_all limit x (drop i rest)) new)
+      (subst (λ x. StopsAt own takes refuses mid (events_all limit x (drop i rest)) new)
       (sym here)
-      (subst (λ y. StopsAt own takes refuses mid (news_all limit v y) new) (tail_is rest i) h))
+      (subst (λ y. StopsAt own takes refuses mid (events_all limit v y) new) (tail_is rest i) h))
 
   -- or by itself
   pub ran_ends : {why : Type 0} → StaysFresh u rest i
       → StopsAt ((may_grow_within v (take (length rest - i) (drop i rest)) ≡ true) × why)
       takes refuses mid
-      (news_all limit v (take (length rest - i) (drop i rest))) new
+      (events_all limit v (take (length rest - i) (drop i rest))) new
       → StopsAt ((may_grow_within u rest ≡ true) × why) takes refuses old
-      (news_all limit u rest) new
+      (events_all limit u rest) new
   ran_ends {why} fresh h =
       ran_stop ((may_grow_within u rest ≡ true) × why)
       (stops_for ((may_grow_within v (take (length rest - i) (drop i rest)) ≡ true) × why)
       ((may_grow_within u rest ≡ true) × why) takes refuses _ mid new
       (λ g. (
-        grows_behind u rest i fresh (ap (λ x. may_grow_within x (drop i rest)) here
+        grows_after u rest i fresh (ap (λ x. may_grow_within x (drop i rest)) here
             ∙ ap (may_grow_within v) (sym (tail_is rest i)) ∙ g.0),
         g.1,
       )) h)
@@ -146,39 +150,40 @@ module _ {S : Type 0} (takes refuses : S → Event → S → Type 0) (is_ready :
   ran_none n old mid new e so h =
       let same : mid ≡ new =
       subst (λ k. FoldsTo takes mid
-      (news_all None Ground (take k (take (length rest - i) (drop i rest)))) new) e
+      (events_all None Ground (take k (take (length rest - i) (drop i rest)))) new) e
       (h.2 None) in (
         so.0,
         so.1,
-        λ limit. subst (λ x. FoldsTo takes old (news_all limit Ground (take i rest)) x)
+        λ limit. subst (λ x. FoldsTo takes old (events_all limit Ground (take i rest)) x)
             same (so.2 limit),
         h.3,
       )
 
   pub ran_refused : {own : Type 0} (old mid new : S) → Ran takes is_ready rest i old mid
       → ((limit : Option ℕ)
-      → StopsAt own takes refuses mid (news_all limit Ground (take (length rest - i) (drop i rest)))
+      → StopsAt own takes refuses mid
+      (events_all limit Ground (take (length rest - i) (drop i rest)))
       new)
-      → (limit : Option ℕ) → StopsAt own takes refuses old (news_all limit Ground rest) new
+      → (limit : Option ℕ) → StopsAt own takes refuses old (events_all limit Ground rest) new
   ran_refused {own} old mid new so h = λ limit.
       ran_stop limit takes refuses Ground Ground rest i old mid new so.1 (so.2 limit) own (h limit)
 
 -- what stopped within a prefix stopped within the whole
 pub stop_within : {S : Type 0} (limit : Option ℕ) (own : Type 0) (takes refuses : S → Event → S
     → Type 0) (u : Unfinished) (rest : List ℕ) (n : ℕ) (old new : S)
-    → StopsAt own takes refuses old (news_all limit u (take n rest)) new
-    → StopsAt own takes refuses old (news_all limit u rest) new
+    → StopsAt own takes refuses old (events_all limit u (take n rest)) new
+    → StopsAt own takes refuses old (events_all limit u rest) new
 stop_within limit own takes refuses u rest n old new h =
     subst (λ es. StopsAt own takes refuses old es new)
-    (sym (news_append limit u (take n rest) (drop n rest))
-    ∙ ap (news_all limit u) (take-append-drop n rest))
-    (stops_more own takes refuses (news_all limit u (take n rest)) _ old new h)
+    (sym (events_append limit u (take n rest) (drop n rest))
+    ∙ ap (events_all limit u) (take-append-drop n rest))
+    (stops_more own takes refuses (events_all limit u (take n rest)) _ old new h)
 
 -- bytes that the unfinished takes without a word
 pub quiet_run : (limit : Option ℕ) (f : List ℕ → Unfinished) (p : ℕ → Bool)
     → ((d : List ℕ) (b : ℕ) → p b ≡ true → move limit (f d) b (class_of b) ≡ (f (d ++ b ∷ []), []))
     → (d ys : List ℕ) → list_all p ys ≡ true → (after_all (f d) ys ≡ f (d ++ ys))
-    × (news_all limit (f d) ys ≡ [])
+    × (events_all limit (f d) ys ≡ [])
 quiet_run limit f p does d [] h = (ap f (sym (append-nil d)), refl)
 quiet_run limit f p does d (b ∷ ys) h =
     let k = and_parts (p b) (list_all p ys) h in
@@ -186,8 +191,8 @@ quiet_run limit f p does d (b ∷ ys) h =
     let w : after_by (f d) b (class_of b) ≡ f (d ++ b ∷ []) =
     sym (after_same limit (f d) b (class_of b)) ∙ ap (λ m. m.0) (does d b k.0) in (
       ap (λ v. after_all v ys) w ∙ q.0 ∙ ap f (append_assoc d (b ∷ []) ys),
-      ap (λ m. m.1 ++ news_all limit (after_by (f d) b (class_of b)) ys) (does d b k.0)
-          ∙ ap (λ v. news_all limit v ys) w ∙ q.1,
+      ap (λ m. m.1 ++ events_all limit (after_by (f d) b (class_of b)) ys) (does d b k.0)
+          ∙ ap (λ v. events_all limit v ys) w ∙ q.1,
     )
 
 -- ---- text in ground
@@ -214,12 +219,12 @@ text_move : (b : ℕ) → is_text_byte b ≡ true → ground_move b (class_of b)
 text_move b h = rw (text_class b h, ground_move) refl
 
 pub text_run : (limit : Option ℕ) (xs : List ℕ) → list_all is_text_byte xs ≡ true
-    → (after_all Ground xs ≡ Ground) × (news_all limit Ground xs ≡ map Print xs)
+    → (after_all Ground xs ≡ Ground) × (events_all limit Ground xs ≡ map Print xs)
 text_run limit [] h = (refl, refl)
 text_run limit (x ∷ xs) h =
     let k = and_parts (is_text_byte x) (list_all is_text_byte xs) h in
     let q = text_run limit xs k.1 in
-    rw (text_move x k.0, after_by, news_by, move) (q.0, ap (λ es. Print x ∷ es) q.1)
+    rw (text_move x k.0, after_by, events_by, move) (q.0, ap (λ es. Print x ∷ es) q.1)
 
 -- ---- a whole sequence in ground
 
@@ -257,11 +262,11 @@ unfolding is_sequence
 two_parts a b h = let k = and_parts (is_from 0xc2 0xdf a) (is_tail b) h in
     lower a 0xc2 0xdf k.0 (omega arith) (omega arith)
 
--- three bytes: the first two are a front
+-- three bytes: the first two are a prefix
 pub three_parts : (a b c : ℕ) → is_sequence (a ∷ b ∷ c ∷ []) ≡ true
     → (is_from 0xc2 0xf4 a ≡ true) × (is_sequence (a ∷ b ∷ []) ≡ false)
-    × (is_front (a ∷ b ∷ []) ≡ true)
-unfolding is_sequence is_front
+    × (is_prefix (a ∷ b ∷ []) ≡ true)
+unfolding is_sequence is_prefix
 three_parts a b c h =
     let k = both3 (is_from 0xe0 0xef a) (is_second a b) (is_tail c) h in
     let no : is_from 0xc2 0xdf a ≡ false = above a 0xe0 0xef k.0 (omega arith) in
@@ -270,9 +275,9 @@ three_parts a b c h =
 
 pub four_parts : (a b c d : ℕ) → is_sequence (a ∷ b ∷ c ∷ d ∷ []) ≡ true
     → (is_from 0xc2 0xf4 a ≡ true) × (is_sequence (a ∷ b ∷ []) ≡ false)
-    × (is_front (a ∷ b ∷ []) ≡ true) × (is_sequence (a ∷ b ∷ c ∷ []) ≡ false) ×
-    (is_front (a ∷ b ∷ c ∷ []) ≡ true)
-unfolding is_sequence is_front
+    × (is_prefix (a ∷ b ∷ []) ≡ true) × (is_sequence (a ∷ b ∷ c ∷ []) ≡ false) ×
+    (is_prefix (a ∷ b ∷ c ∷ []) ≡ true)
+unfolding is_sequence is_prefix
 four_parts a b c d h =
     let k = both4 (is_from 0xf0 0xf4 a) (is_second a b) (is_tail c) (is_tail d) h in
     let no : is_from 0xc2 0xdf a ≡ false = above a 0xf0 0xf4 k.0 (omega arith) in
@@ -286,27 +291,27 @@ four_parts a b c d h =
     )
 
 prints_two : (a b : ℕ) → is_sequence (a ∷ b ∷ []) ≡ true → is_pair (a ∷ b ∷ []) ≡ false
-    → TellsOne (a ∷ b ∷ []) (Print (number_of (a ∷ b ∷ [])))
+    → EmitsOne (a ∷ b ∷ []) (Print (number_of (a ∷ b ∷ [])))
 prints_two a b s p = rw (
   lead_class a (two_parts a b s),
   s,
   p,
   after_by,
-  news_by,
+  events_by,
   move,
   pending_move,
   outcome,
 ) (refl, λ limit. refl)
 
 prints_three : (a b c : ℕ) → is_sequence (a ∷ b ∷ c ∷ []) ≡ true → is_pair (a ∷ b ∷ c ∷ []) ≡ false
-    → TellsOne (a ∷ b ∷ c ∷ []) (Print (number_of (a ∷ b ∷ c ∷ [])))
+    → EmitsOne (a ∷ b ∷ c ∷ []) (Print (number_of (a ∷ b ∷ c ∷ [])))
 prints_three a b c s p = let t = three_parts a b c s in
-    rw (lead_class a t.0, t.1, t.2, s, p, after_by, news_by, move, pending_move, outcome)
+    rw (lead_class a t.0, t.1, t.2, s, p, after_by, events_by, move, pending_move, outcome)
     (refl, λ limit. refl)
 
 prints_four : (a b c d : ℕ) → is_sequence (a ∷ b ∷ c ∷ d ∷ []) ≡ true
     → is_pair (a ∷ b ∷ c ∷ d ∷ []) ≡ false
-    → TellsOne (a ∷ b ∷ c ∷ d ∷ []) (Print (number_of (a ∷ b ∷ c ∷ d ∷ [])))
+    → EmitsOne (a ∷ b ∷ c ∷ d ∷ []) (Print (number_of (a ∷ b ∷ c ∷ d ∷ [])))
 prints_four a b c d s p = let t = four_parts a b c d s
     in rw (
       lead_class a t.0,
@@ -317,14 +322,14 @@ prints_four a b c d s p = let t = four_parts a b c d s
       s,
       p,
       after_by,
-      news_by,
+      events_by,
       move,
       pending_move,
       outcome,
     ) (refl, λ limit. refl)
 
 sequence_prints : (x : List ℕ) → is_sequence x ≡ true → is_pair x ≡ false
-    → TellsOne x (Print (number_of x))
+    → EmitsOne x (Print (number_of x))
 unfolding is_sequence
 sequence_prints [] s p = none s
 sequence_prints (a ∷ []) s p = none s
@@ -333,7 +338,7 @@ sequence_prints (a ∷ b ∷ d ∷ []) s p = prints_three a b d s p
 sequence_prints (a ∷ b ∷ d ∷ e ∷ []) s p = prints_four a b d e s p
 sequence_prints (a ∷ b ∷ d ∷ e ∷ f ∷ x) s p = none s
 
-pub character_does : (x : List ℕ) (c : ℕ) → IsCharacter x c → TellsOne x (Print c)
+pub character_does : (x : List ℕ) (c : ℕ) → IsCharacter x c → EmitsOne x (Print c)
 character_does x c (s, p, k) = let q = sequence_prints x s p in
     (q.0, λ limit. q.1 limit ∙ ap (λ n. Print n ∷ []) (sym k))
 
@@ -342,13 +347,13 @@ character_does x c (s, p, k) = let q = sequence_prints x s p in
 osc_two : (limit : Option ℕ) (o : Opener) (ps : List Piece) (a b : ℕ)
     → is_sequence (a ∷ b ∷ []) ≡ true → is_pair (a ∷ b ∷ []) ≡ false
     → (after_all (InOsc o ps) (a ∷ b ∷ []) ≡ InOsc o (ps ++ Sequence (a ∷ b ∷ []) ∷ []))
-    × (news_all limit (InOsc o ps) (a ∷ b ∷ []) ≡ [])
+    × (events_all limit (InOsc o ps) (a ∷ b ∷ []) ≡ [])
 osc_two limit o ps a b s p = rw (
   lead_class a (two_parts a b s),
   s,
   p,
   after_by,
-  news_by,
+  events_by,
   move,
   inside,
   goes_on,
@@ -359,7 +364,7 @@ osc_two limit o ps a b s p = rw (
 osc_three : (limit : Option ℕ) (o : Opener) (ps : List Piece) (a b c : ℕ)
     → is_sequence (a ∷ b ∷ c ∷ []) ≡ true → is_pair (a ∷ b ∷ c ∷ []) ≡ false
     → (after_all (InOsc o ps) (a ∷ b ∷ c ∷ []) ≡ InOsc o (ps ++ Sequence (a ∷ b ∷ c ∷ []) ∷ []))
-    × (news_all limit (InOsc o ps) (a ∷ b ∷ c ∷ []) ≡ [])
+    × (events_all limit (InOsc o ps) (a ∷ b ∷ c ∷ []) ≡ [])
 osc_three limit o ps a b c s p = let t = three_parts a b c s
     in rw (
       lead_class a t.0,
@@ -368,7 +373,7 @@ osc_three limit o ps a b c s p = let t = three_parts a b c s
       s,
       p,
       after_by,
-      news_by,
+      events_by,
       move,
       inside,
       goes_on,
@@ -380,7 +385,7 @@ osc_four : (limit : Option ℕ) (o : Opener) (ps : List Piece) (a b c d : ℕ)
     → is_sequence (a ∷ b ∷ c ∷ d ∷ []) ≡ true → is_pair (a ∷ b ∷ c ∷ d ∷ []) ≡ false
     → (after_all (InOsc o ps) (a ∷ b ∷ c ∷ d ∷ [])
     ≡ InOsc o (ps ++ Sequence (a ∷ b ∷ c ∷ d ∷ []) ∷ []))
-    × (news_all limit (InOsc o ps) (a ∷ b ∷ c ∷ d ∷ []) ≡ [])
+    × (events_all limit (InOsc o ps) (a ∷ b ∷ c ∷ d ∷ []) ≡ [])
 osc_four limit o ps a b c d s p = let t = four_parts a b c d s
     in rw (
       lead_class a t.0,
@@ -391,7 +396,7 @@ osc_four limit o ps a b c d s p = let t = four_parts a b c d s
       s,
       p,
       after_by,
-      news_by,
+      events_by,
       move,
       inside,
       goes_on,
@@ -402,7 +407,7 @@ osc_four limit o ps a b c d s p = let t = four_parts a b c d s
 pub osc_sequence : (limit : Option ℕ) (o : Opener) (ps : List Piece) (x : List ℕ)
     → is_sequence x ≡ true → is_pair x ≡ false
     → (after_all (InOsc o ps) x ≡ InOsc o (ps ++ Sequence x ∷ []))
-    × (news_all limit (InOsc o ps) x ≡ [])
+    × (events_all limit (InOsc o ps) x ≡ [])
 unfolding is_sequence
 osc_sequence limit o ps [] s p = none s
 osc_sequence limit o ps (a ∷ []) s p = none s
@@ -418,7 +423,7 @@ module _ {S : Type 0} (takes refuses : S → Event → S
   pub text_given : n ≡ prefix_len is_text_byte rest
       → FoldsTo takes old (map Print (take n rest)) new
       → (after_all Ground (take n rest) ≡ Ground)
-      × ((limit : Option ℕ) → FoldsTo takes old (news_all limit Ground (take n rest)) new)
+      × ((limit : Option ℕ) → FoldsTo takes old (events_all limit Ground (take n rest)) new)
   text_given e f =
       let p : list_all is_text_byte (take n rest) ≡ true =
       subst (λ k. list_all is_text_byte (take k rest) ≡ true) (sym e)
@@ -430,7 +435,7 @@ module _ {S : Type 0} (takes refuses : S → Event → S
 
   pub text_stops : (own : Type 0) → n ≡ prefix_len is_text_byte rest
       → StopsAt own takes refuses old (map Print (take n rest)) new
-      → (limit : Option ℕ) → StopsAt own takes refuses old (news_all limit Ground rest) new
+      → (limit : Option ℕ) → StopsAt own takes refuses old (events_all limit Ground rest) new
   text_stops own e f = λ limit.
       let p : list_all is_text_byte (take n rest) ≡ true =
       subst (λ k. list_all is_text_byte (take k rest) ≡ true) (sym e)
@@ -454,7 +459,7 @@ some_run (x ∷ rest) l low high =
 
 -- one byte of text
 pub one_text : (rest : List ℕ) → 0 < length rest → is_text_byte (get_or rest 0 0) ≡ true
-    → TellsOne (take 1 rest) (Print (get_or rest 0 0))
+    → EmitsOne (take 1 rest) (Print (get_or rest 0 0))
 one_text [] l h = absurd (omega arith)
 one_text (x ∷ rest) l h = let p : list_all is_text_byte (x ∷ []) ≡ true = rw h refl in
     ((text_run None (x ∷ []) p).0, λ limit. (text_run limit (x ∷ []) p).1)
@@ -467,21 +472,22 @@ control_class b low other = (grind (arith, nat_tests), grind (arith, nat_tests))
 
 pub one_control : (rest : List ℕ) → 0 < length rest → get_or rest 0 0 < 0x20
     → get_or rest 0 0 ≢ 0x1b
-    → TellsOne (take 1 rest) (Execute (get_or rest 0 0))
+    → EmitsOne (take 1 rest) (Execute (get_or rest 0 0))
 one_control [] l low other = absurd (omega arith)
 one_control (b ∷ rest) l low other = let k = control_class b low other in
-    rw (k.0, k.1, after_by, news_by, ground_move) (refl, λ limit. refl)
+    rw (k.0, k.1, after_by, events_by, ground_move) (refl, λ limit. refl)
 
 -- bytes that tell one event
 module _ {S : Type 0} (takes refuses : S → Event → S
-    → Type 0) (rest : List ℕ) (n : ℕ) (e : Event) (old new : S) (one : TellsOne (take n rest) e)
+    → Type 0) (rest : List ℕ) (n : ℕ) (e : Event) (old new : S) (one : EmitsOne (take n rest) e)
   where
     pub event_given : takes old e new → (limit : Option ℕ)
-        → FoldsTo takes old (news_all limit Ground (take n rest)) new
-    event_given g = λ limit. subst (λ es. FoldsTo takes old es new) (sym (one.1 limit)) (new, g, refl)
+        → FoldsTo takes old (events_all limit Ground (take n rest)) new
+    event_given g =
+        λ limit. subst (λ es. FoldsTo takes old es new) (sym (one.1 limit)) (new, g, refl)
 
     pub event_stops : (own : Type 0) → refuses old e new → (limit : Option ℕ)
-        → StopsAt own takes refuses old (news_all limit Ground rest) new
+        → StopsAt own takes refuses old (events_all limit Ground rest) new
     event_stops own r = λ limit.
         stop_within limit own takes refuses Ground rest n old new
         (subst (λ es. StopsAt own takes refuses old es new) (sym (one.1 limit))

@@ -14,14 +14,14 @@ use Rattle.esc_frame.specs.Segments.Segment.{CutCsi, CutDcs, Csi, Osc, Dcs, Apc}
 use Rattle.esc_frame.specs.Segments.Segment.{Ignored}
 use Rattle.esc_frame.specs.Segments.Opener.{Long, Raw, Pair}
 use Rattle.esc_frame.specs.Memory.{may_grow, MayGrow, may_take, MayTake}
-use Rattle.esc_frame.specs.Leads.{Unfinished, Stands, AreFinished}
+use Rattle.esc_frame.specs.Leads.{Unfinished, HasCut, AreFinished}
 use Rattle.esc_frame.specs.Leads.Unfinished.{Ground, Pending, InEscape, InCsi}
 use Rattle.esc_frame.specs.Machine.Moves.{after_by, after_all, may_grow_in, reaches_growing}
 use Rattle.esc_frame.specs.Stream.{events}
 use Rattle.esc_frame.proofs.Grows.{finished_before}
 use Rattle.esc_frame.proofs.Cuts.{has_cut, last_of, cut_last, stands}
-use Rattle.esc_frame.proofs.First.{Found, found, first, first_is, opened_first, opener_first, csi_of, dcs_of, front}
-use Rattle.esc_frame.proofs.First.Found.{OneSegment, OscBehind}
+use Rattle.esc_frame.proofs.First.{Found, found, first, first_is, opened_first, opener_first, csi_of, dcs_of, prefix}
+use Rattle.esc_frame.proofs.First.Found.{OneSegment, OscAfter}
 use Rattle.esc_frame.proofs.OneCut.{head_of, one_cut}
 use Rattle.esc_frame.proofs.Streams.{after_append}
 
@@ -120,7 +120,7 @@ module _ (w : Bool) where
   -- and an opener begins such a segment
   abbrev found_holds : Found → Bool
   found_holds (OneSegment g) = holds w g
-  found_holds (OscBehind o r) = true
+  found_holds (OscAfter o r) = true
 
   if_both : (t : Bool) (g h : Segment) → holds w g ≡ true → holds w h ≡ true
       → found_holds (if t then OneSegment g else OneSegment h) ≡ true
@@ -134,7 +134,7 @@ module _ (w : Bool) where
   dcs_holds : (o : Opener) (x r : List ℕ) → found_holds (dcs_of o x r) ≡ true
   dcs_holds o x [] = refl
   dcs_holds o x (f ∷ r) =
-      if_both (is_breaker (class_of f)) (CutDcs o x) (Dcs o x f (front in_data r)) refl refl
+      if_both (is_breaker (class_of f)) (CutDcs o x) (Dcs o x f (prefix in_data r)) refl refl
 
   opened_holds : (k : Kind) (o : Opener) (r : List ℕ) → opens_one w k ≡ true
       → found_holds (opened_first k o r) ≡ true
@@ -149,7 +149,7 @@ module _ (w : Bool) where
   found_is (Osc o ps e) r = refl
   found_is _ r = refl
 
-  -- the first segment behind an opener is one
+  -- the first segment after an opener is one
   first_holds : (k : Kind) (o : Opener) (r : List ℕ) (gs : List Segment) → opens_one w k ≡ true
       → IsOpener o → AreSegments gs
       → joined gs ≡ opener k o ++ r → list_any (holds w) gs ≡ true
@@ -175,9 +175,9 @@ module _ (w : Bool) where
   cut_cons g [] f a h = absurd cc
   cut_cons g (k ∷ hs) f a h = (f.0, f.1, a)
 
-  holds_behind : (g : Segment) (s : List ℕ) → AreFinished (g ∷ []) s → Holding s
+  holds_after : (g : Segment) (s : List ℕ) → AreFinished (g ∷ []) s → Holding s
       → Holding (bytes_of g ++ s)
-  holds_behind g s f (hs, cut, h) = (
+  holds_after g s f (hs, cut, h) = (
     g ∷ hs,
     record {
       whole = ap (λ x. bytes_of g ++ x) cut.whole;
@@ -198,7 +198,7 @@ module _ (w : Bool) where
       subst Holding e (opens_hold p.0 p.1 (p.2 ++ (joined gs ++ t)) p.5 p.3)
   more_by g [] t a (inr h) = let e : false ≡ true = h.0 in absurd cc
   more_by g (k ∷ gs) t a (inr h) =
-      holds_behind g (joined (k ∷ gs) ++ t) (finished_before_all (g ∷ []) t (joined (k ∷ gs)) (
+      holds_after g (joined (k ∷ gs) ++ t) (finished_before_all (g ∷ []) t (joined (k ∷ gs)) (
         a.0,
         a.1,
         tt,
@@ -228,7 +228,7 @@ pub more_takes : (s t : List ℕ) → MayTake s → MayTake (s ++ t)
 more_takes s t (gs, cut, h) = let m = more_holds true s t (gs, cut, sym (all_take gs) ∙ h) in
     (m.0, m.1, all_take m.0 ∙ m.2)
 
--- any cut of the stream tells
+-- any cut of the stream emits
 pub cut_grows : (s : List ℕ) (gs : List Segment) → IsCut s gs → MayGrow s
     → list_any may_grow gs ≡ true
 cut_grows s gs cut (hs, other, h) = ap (list_any may_grow) (one_cut s gs hs cut other) ∙ h
@@ -263,7 +263,7 @@ last_grows (k ∷ gs) g h =
 
 -- where a byte may make the machine's memory grow, the unfinished segment is such a one
 open_grows : {limit : Option ℕ} (s : List ℕ) (es : List Event) (gs : List Segment) (u : Unfinished)
-    → Stands limit s es gs u → may_grow_in u ≡ true → MayGrow s
+    → HasCut limit s es gs u → may_grow_in u ≡ true → MayGrow s
 open_grows s es gs Ground st h = absurd cc
 open_grows s es gs (Pending f) st h = absurd cc
 open_grows s es gs (InEscape x) st h = absurd cc

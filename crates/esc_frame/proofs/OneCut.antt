@@ -11,10 +11,10 @@ use Rattle.esc_frame.specs.Segments.Segment.{Wide, Broken, HighControl, Terminat
 use Rattle.esc_frame.specs.Segments.Segment.{Ignored}
 use Rattle.esc_frame.specs.Segments.Opener.{Long, Raw, Pair}
 use Rattle.esc_frame.specs.Segments.Ending.{Open, Rung, Waits}
-use Rattle.esc_frame.proofs.Scan.{lead_of, front_lead, sequence_lead}
+use Rattle.esc_frame.proofs.Scan.{lead_of, prefix_lead, sequence_lead}
 use Rattle.esc_frame.proofs.Units.{MayEnd, units_same}
 use Rattle.esc_frame.proofs.First.{Found, MayFollow, found, first, first_is, is_cons}
-use Rattle.esc_frame.proofs.First.Found.{OneSegment, OscBehind}
+use Rattle.esc_frame.proofs.First.Found.{OneSegment, OscAfter}
 
 -- an OSC, or found whole
 abbrev pub OscOrWhole : Segment → Type 0
@@ -34,12 +34,12 @@ may_end o ps (Waits f) [] m = refl
 may_end o ps (Waits f) (b ∷ r) m = absurd cc
 
 abbrev opener_in : Found → Opener
-opener_in (OscBehind o r) = o
+opener_in (OscAfter o r) = o
 opener_in (OneSegment g) = Raw
 
-abbrev behind_in : Found → List ℕ
-behind_in (OscBehind o r) = r
-behind_in (OneSegment g) = []
+abbrev after_in : Found → List ℕ
+after_in (OscAfter o r) = r
+after_in (OneSegment g) = []
 
 osc_same : (o u : Opener) (ps qs : List Piece) (e f : Ending) (r t : List ℕ)
     → HasShape (Osc o ps e) r → HasShape (Osc u qs f) t → MayFollow (Osc o ps e) r
@@ -47,7 +47,7 @@ osc_same : (o u : Opener) (ps qs : List Piece) (e f : Ending) (r t : List ℕ)
     → Osc o ps e ≡ Osc u qs f
 osc_same o u ps qs e f r t a b m n h =
     let units = units_same ps qs e f r t a.1 b.1 a.2 b.2 (may_end o ps e r m) (may_end u qs f t n)
-    (ap behind_in h) in
+    (ap after_in h) in
     let same : o ≡ u = ap opener_in h in
     let l = units.0 in
     let k = units.1 in cc
@@ -61,10 +61,10 @@ segment_by g h r t a b m n e (inl (o, ps, x, i)) (inl (u, qs, y, j)) =
     subst (λ k. P k h) (sym i) (subst (λ k. P (Osc o ps x) k) (sym j) (osc_same o u ps qs x y r t))
     a b m n e
 segment_by g h r t a b m n e (inl (o, ps, x, i)) (inr k) =
-    let p : OscBehind o (text_bytes ps ++ (ending_bytes x ++ r)) ≡ OneSegment h =
+    let p : OscAfter o (text_bytes ps ++ (ending_bytes x ++ r)) ≡ OneSegment h =
     ap (λ z. found z r) (sym i) ∙ e ∙ k t in absurd cc
 segment_by g h r t a b m n e (inr k) (inl (o, ps, x, i)) =
-    let p : OneSegment g ≡ OscBehind o (text_bytes ps ++ (ending_bytes x ++ t)) =
+    let p : OneSegment g ≡ OscAfter o (text_bytes ps ++ (ending_bytes x ++ t)) =
     sym (k r) ∙ e ∙ ap (λ z. found z t) i in absurd cc
 segment_by g h r t a b m n e (inr k) (inr l) = let p : OneSegment g ≡ OneSegment h =
     sym (k r) ∙ e ∙ l t in cc
@@ -79,10 +79,10 @@ pub head_of : (g : Segment) (gs : List Segment) → AreSegments (g ∷ gs) → H
 head_of g [] a = (a, tt, tt)
 head_of g (h ∷ gs) (s, f, r) = (s, finished_follows g (joined (h ∷ gs)) f, r)
 
-front_cons : (f t : List ℕ) → lead_of (f ++ t) ≡ true → is_cons (f ++ t) ≡ true
-front_cons [] [] h = absurd cc
-front_cons [] (b ∷ t) h = refl
-front_cons (a ∷ f) t h = refl
+prefix_cons : (f t : List ℕ) → lead_of (f ++ t) ≡ true → is_cons (f ++ t) ≡ true
+prefix_cons [] [] h = absurd cc
+prefix_cons [] (b ∷ t) h = refl
+prefix_cons (a ∷ f) t h = refl
 
 opener_cons : (k : Kind) (o : Opener) (x t : List ℕ) → is_cons ((opener k o ++ x) ++ t) ≡ true
 opener_cons k (Long n) x t = refl
@@ -90,8 +90,8 @@ opener_cons k Raw x t = refl
 opener_cons k Pair x t = refl
 
 has_byte : (g : Segment) (r t : List ℕ) → HasShape g r → is_cons (bytes_of g ++ t) ≡ true
-has_byte (Wide x) r t s = front_cons x t (sequence_lead x t s.0)
-has_byte (Broken x) r t s = front_cons x t (front_lead x t s)
+has_byte (Wide x) r t s = prefix_cons x t (sequence_lead x t s.0)
+has_byte (Broken x) r t s = prefix_cons x t (prefix_lead x t s)
 has_byte (HighControl true b) r t s = refl
 has_byte (HighControl false b) r t s = refl
 has_byte (Terminator true b) r t s = refl
@@ -134,7 +134,7 @@ one_list (g ∷ gs) (h ∷ hs) a b e =
 pub one_cut : (s : List ℕ) (gs hs : List Segment) → IsCut s gs → IsCut s hs → gs ≡ hs
 one_cut s gs hs a b = one_list gs hs a.each b.each (sym a.whole ∙ b.whole)
 
--- a stream tells one list of events
+-- a stream emits one list of events
 pub events_once : (limit : Option ℕ) (s : List ℕ) (xs ys : List Event) → HasEventsWithin limit s xs
     → HasEventsWithin limit s ys → xs ≡ ys
 events_once limit s xs ys (gs, a, p) (hs, b, q) =

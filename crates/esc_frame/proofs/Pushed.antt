@@ -4,14 +4,14 @@ use Rattle.std.proofs.lemmas.List.{append-nil}
 use Rattle.std.proofs.lemmas.List.Concat.{flat_map-append}
 use Rattle.std.proofs.lemmas.List.Elements.{filter-append}
 use Rattle.esc_frame.specs.declared.classes.Class.{Class}
-use Rattle.esc_frame.specs.declared.classes.Class.TheVariants.{Intermediate, Parameter, Opens, Final, Delete}
+use Rattle.esc_frame.specs.declared.classes.Class.TheVariants.{Intermediate, Parameter, Introducer, Final, Delete}
 use Rattle.esc_frame.specs.declared.machine.Machine.{Machine}
 use Rattle.esc_frame.specs.declared.machine.State.TheVariants as state
 use Rattle.esc_frame.specs.Classes.{class_of, strip, those, is_text, is_noise, is_breaker, in_body, in_csi, in_osc}
 use Rattle.esc_frame.specs.Events.{Event}
 use Rattle.esc_frame.specs.Leads.Unfinished.{InOsc, InApc, InDcs}
 use Rattle.esc_frame.specs.Machine.Calls.{Moved, Fails}
-use Rattle.esc_frame.specs.Machine.Fronts.{front_of}
+use Rattle.esc_frame.specs.Machine.Prefixes.{prefix_of}
 use Rattle.esc_frame.specs.Machine.Keeps.{KeepsDcs, parameters_of}
 use Rattle.esc_frame.specs.Machine.Moves.{inside, goes_on}
 use Rattle.esc_frame.specs.Segments.{Opener, Piece, text_of, kept_of}
@@ -54,7 +54,7 @@ strip_one x b c e h =
 text_goes : (c : Class) → is_text c ≡ true → (is_breaker c ≡ false) × (in_osc c ≡ true)
 text_goes Intermediate h = (refl, refl)
 text_goes Parameter h = (refl, refl)
-text_goes (Opens k) h = (refl, refl)
+text_goes (Introducer k) h = (refl, refl)
 text_goes Final h = (refl, refl)
 text_goes Delete h = (refl, refl)
 text_goes _ h = absurd cc
@@ -71,7 +71,7 @@ module _ {K A S E : Type 0} (keeps : Option ℕ → K → List ℕ → Type 0) (
     (refused : OnErr result (denied limit))
     (m : Machine K A) (o : Opener) (b : ℕ) (c : Class) (old : S) (e : c ≡ class_of b) where
   pub osc_pushed : (ps : List Piece) → is_text c ≡ true → m.state ≡ state.Osc
-      → front_of m.pending ≡ []
+      → prefix_of m.pending ≡ []
       → OnOk result (keeps limit m.text (text_of ps ++ b ∷ []))
       → Moved keeps (Fails denied stops A) limit true takes refuses result
       (inside limit (InOsc o ps) b c) m old old

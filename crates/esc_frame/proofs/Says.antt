@@ -5,7 +5,7 @@ use Rattle.std.proofs.lemmas.Str.{encode_ascii}
 use Rattle.std.proofs.lemmas.Bool.Decides.{nat_tests}
 use Rattle.std.specs.Char.{encode_utf8}
 use Rattle.esc_values.specs.Clear.{is_clear}
-use Rattle.esc_frame.specs.Classes.{class_of, is_text, is_control, is_raw_control}
+use Rattle.esc_frame.specs.Classes.{class_of, is_text, is_control, is_c1}
 use Rattle.esc_frame.specs.Sequences.{is_broken_before}
 use Rattle.esc_frame.specs.Events.{Event}
 use Rattle.esc_frame.specs.Events.Event.{Print, Execute}
@@ -51,7 +51,7 @@ says_print c h = let q = clear_cases c h in elim q.1 [
 pub says_control : (b : ℕ) → is_control (class_of b) ≡ true → Says (b ∷ []) (Execute b ∷ [])
 says_control b h = says_one (Control b) (λ rest. (h, refl))
 
-pub says_high_control : (b : ℕ) → is_raw_control (class_of b) ≡ true
+pub says_high_control : (b : ℕ) → is_c1 (class_of b) ≡ true
     → Says (0xc2 ∷ b ∷ []) (Execute b ∷ [])
 says_high_control b h = says_one (HighControl true b) (λ rest. (h, refl))
 
@@ -85,6 +85,6 @@ itself (Ignored k o d) rest e h = absurd cc
 itself _ rest e h = (h, refl)
 
 pub says_itself : (t : List ℕ) (es : List Event) → IsOneSegment t es → Says t es
-says_itself t es (g, bytes, ends, shape, told) =
-    says_by (bytes_of g) t (events_of g true) es bytes told
+says_itself t es (g, bytes, ends, shape, emitted) =
+    says_by (bytes_of g) t (events_of g true) es bytes emitted
     (says_one g (λ rest. itself g rest ends shape))

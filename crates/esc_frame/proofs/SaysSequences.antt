@@ -5,7 +5,7 @@ use Rattle.std.proofs.lemmas.Bool.{and_parts}
 use Rattle.std.proofs.lemmas.Bool.Decides.{nat_tests}
 use Rattle.esc_frame.specs.declared.classes.Class.{Class}
 use Rattle.esc_frame.specs.declared.classes.Class.TheVariants.{Intermediate, Parameter}
-use Rattle.esc_frame.specs.Classes.{class_of, AllOf, those, strip, is_plain, is_noise, is_intermediate, in_body, in_escape, in_csi, ends_escape, ends_csi}
+use Rattle.esc_frame.specs.Classes.{class_of, AllOf, those, strip, is_c0, is_noise, is_intermediate, in_body, in_escape, in_csi, ends_escape, ends_csi}
 use Rattle.esc_frame.specs.Classes.{opens}
 use Rattle.esc_frame.specs.Bodies.{is_csi_body, kept_intermediates, has_more_intermediates}
 use Rattle.esc_frame.specs.Scans.{is_body_byte}
@@ -41,7 +41,7 @@ body_kept Intermediate h = refl
 body_kept Parameter h = refl
 body_kept _ h = absurd cc
 
-body_silent : (c : Class) → in_body c ≡ true → is_plain c ≡ false
+body_silent : (c : Class) → in_body c ≡ true → is_c0 c ≡ false
 body_silent Intermediate h = refl
 body_silent Parameter h = refl
 body_silent _ h = absurd cc

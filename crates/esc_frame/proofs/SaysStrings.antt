@@ -8,7 +8,7 @@ use Rattle.std.proofs.lemmas.Str.{encode_ascii}
 use Rattle.std.proofs.lemmas.Bool.{and_parts}
 use Rattle.esc_values.specs.Clear.{is_clear, IsClearText, parts_of}
 use Rattle.esc_frame.specs.declared.classes.Class.{Class}
-use Rattle.esc_frame.specs.declared.classes.Class.TheVariants.{Intermediate, Parameter, Opens, Final, Delete}
+use Rattle.esc_frame.specs.declared.classes.Class.TheVariants.{Intermediate, Parameter, Introducer, Final, Delete}
 use Rattle.esc_frame.specs.Classes.{class_of, AllOf, is_text, is_put, in_osc, in_data, in_body, ends_csi}
 use Rattle.esc_frame.specs.Bodies.{is_dcs_header}
 use Rattle.esc_frame.specs.Events.Event.{EscDispatch, OscDispatch, DcsUnhook, ApcDispatch}
@@ -32,7 +32,7 @@ backslash_ends = (refl, refl, refl)
 text_in_osc : (c : Class) → is_text c ≡ true → in_osc c ≡ true
 text_in_osc Intermediate h = refl
 text_in_osc Parameter h = refl
-text_in_osc (Opens k) h = refl
+text_in_osc (Introducer k) h = refl
 text_in_osc Final h = refl
 text_in_osc Delete h = refl
 text_in_osc _ h = absurd cc
@@ -44,7 +44,7 @@ escape_breaks rest = refl
 text_data : (c : Class) → is_text c ≡ true → in_data c ≡ true
 text_data Intermediate h = refl
 text_data Parameter h = refl
-text_data (Opens k) h = refl
+text_data (Introducer k) h = refl
 text_data Final h = refl
 text_data Delete h = refl
 text_data _ h = absurd cc

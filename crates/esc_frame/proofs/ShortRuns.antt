@@ -4,7 +4,7 @@ use Rattle.std.proofs.Common.{Option, None, Result, Ok, Err, IfOk}
 use Rattle.std.specs.List.{FoldsTo, list_all}
 use Rattle.std.proofs.Math.Seq.{take-add}
 use Rattle.std.proofs.lemmas.Bool.Decides.{nat_tests}
-use Rattle.esc_values.specs.Entries.{is_from}
+use Rattle.esc_values.specs.Params.{is_from}
 use Rattle.esc_values.specs.declared.csi_param.CsiParam.{CsiParam}
 use Rattle.esc_frame.specs.Classes.{class_of}
 use Rattle.esc_frame.specs.Events.{Event, StopsAt}
@@ -13,17 +13,17 @@ use Rattle.esc_frame.specs.declared.machine.Machine.{Machine}
 use Rattle.esc_frame.specs.Leads.{Holds}
 use Rattle.esc_frame.specs.Leads.Unfinished.{Ground, InCsi}
 use Rattle.esc_frame.specs.Machine.Calls.{Stays, TookSome, Quietly}
-use Rattle.esc_frame.specs.Machine.Moves.{after_all, news_all, inside, IsStill}
+use Rattle.esc_frame.specs.Machine.Moves.{after_all, events_all, inside, IsStill}
 use Rattle.esc_frame.specs.Scans.{is_body_byte}
 use Rattle.esc_frame.specs.Segments.{csi_events}
 use Rattle.esc_frame.specs.Segments.Opener.{Long}
 use Rattle.esc_frame.specs.Machine.Shorts.{IsShort}
 use Rattle.esc_frame.proofs.CsiRuns.{csi_opens, body_quiet, body_strip, final_by}
-use Rattle.esc_frame.proofs.Lends.{after_more, ground_fresh}
+use Rattle.esc_frame.proofs.Borrows.{after_more, ground_fresh}
 use Rattle.esc_frame.proofs.ManyBytes.{tail_is}
 use Rattle.esc_frame.proofs.QuietRuns.{quiet_after, quiet_given, quiet_stopped}
 use Rattle.esc_frame.proofs.Given.{refused_stops, stops_for}
-use Rattle.esc_frame.proofs.Streams.{news_append}
+use Rattle.esc_frame.proofs.Streams.{events_append}
 use Rattle.esc_frame.proofs.Still.{opened_still, body_still}
 
 module _ (limit : Option ℕ) (rest : List ℕ) (run : ℕ) (items : List CsiParam) (some : 2
@@ -35,18 +35,18 @@ module _ (limit : Option ℕ) (rest : List ℕ) (run : ℕ) (items : List CsiPar
 
   -- the opener and the body
   short_run : (after_all Ground (take (run + 2) rest) ≡ InCsi (Long []) body)
-      × (news_all limit Ground (take (run + 2) rest) ≡ [])
+      × (events_all limit Ground (take (run + 2) rest) ≡ [])
   short_run =
       let begin = csi_opens limit rest (omega arith) e b in
       let q = body_quiet limit (Long []) [] body read.body in
       let back : run + 2 ≡ 2 + run = omega arith in (
         ap (λ n. after_all Ground (take n rest)) back ∙ after_more Ground rest 2 run
             ∙ ap (λ u. after_all u body) begin.0 ∙ q.0,
-        ap (λ n. news_all limit Ground (take n rest)) back
-            ∙ ap (news_all limit Ground) (take-add 2 run rest)
-            ∙ news_append limit Ground (take 2 rest) body ∙ ap
-            (λ es. es ++ news_all limit (after_all Ground (take 2 rest)) body) begin.1
-            ∙ ap (λ u. news_all limit u body) begin.0 ∙ q.1,
+        ap (λ n. events_all limit Ground (take n rest)) back
+            ∙ ap (events_all limit Ground) (take-add 2 run rest)
+            ∙ events_append limit Ground (take 2 rest) body ∙ ap
+            (λ es. es ++ events_all limit (after_all Ground (take 2 rest)) body) begin.1
+            ∙ ap (λ u. events_all limit u body) begin.0 ∙ q.1,
       )
 
   low : 0x40 ≤ get_or rest (run + 2) 0
@@ -76,16 +76,16 @@ module _ (limit : Option ℕ) (rest : List ℕ) (run : ℕ) (items : List CsiPar
 
   pub short_given : {S : Type 0} (takes refuses : S → Event → S → Type 0) (old new : S)
       → takes old (CsiDispatch items false (get_or rest (run + 2) 0)) new
-      → FoldsTo takes old (news_all limit Ground (take (run + 3) rest)) new
+      → FoldsTo takes old (events_all limit Ground (take (run + 3) rest)) new
   short_given takes refuses old new h =
-      subst (λ n. FoldsTo takes old (news_all limit Ground (take n rest)) new) (sym three)
+      subst (λ n. FoldsTo takes old (events_all limit Ground (take n rest)) new) (sym three)
       (quiet_given limit takes refuses Ground (InCsi (Long []) body) rest (run + 2) _ old new
       short_run room refl
       (subst (λ es. FoldsTo takes old es new) (sym short_event) (new, h, refl)))
 
   pub short_stops : {S : Type 0} (takes refuses : S → Event → S → Type 0) (old new : S)
       → refuses old (CsiDispatch items false (get_or rest (run + 2) 0)) new
-      → StopsAt ⊥ takes refuses old (news_all limit Ground rest) new
+      → StopsAt ⊥ takes refuses old (events_all limit Ground rest) new
   short_stops takes refuses old new h =
       quiet_stopped limit takes refuses Ground (InCsi (Long []) body) rest (run + 2)
       _ old new short_run room refl ⊥

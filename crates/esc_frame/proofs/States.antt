@@ -8,11 +8,11 @@ use Rattle.esc_frame.specs.Limits.{is_read}
 use Rattle.esc_frame.specs.Classes.{strip}
 use Rattle.esc_frame.specs.Leads.{Unfinished, Holds}
 use Rattle.esc_frame.specs.Leads.Unfinished.{Ground, Pending, InEscape, InCsi, InDcs, InData, InApc, InIgnored, InOsc, InOscPending}
-use Rattle.esc_frame.specs.Machine.Fronts.{front_of}
+use Rattle.esc_frame.specs.Machine.Prefixes.{prefix_of}
 use Rattle.esc_frame.specs.Machine.Calls.{StaysFresh, is_between}
-use Rattle.esc_frame.specs.Machine.Moves.{is_fresh, lends}
+use Rattle.esc_frame.specs.Machine.Moves.{is_fresh, borrows}
 use Rattle.esc_frame.specs.Segments.{Opener, Piece, is_empty}
-use Rattle.esc_frame.proofs.Lends.{is_string, unlent_fresh}
+use Rattle.esc_frame.proofs.Borrows.{is_string, unborrowed_fresh}
 
 abbrev state_of : Option ℕ → Unfinished → State
 state_of limit Ground = state.Ground
@@ -20,9 +20,9 @@ state_of limit (Pending f) = state.Ground
 state_of limit (InEscape x) = state.Escape
 state_of limit (InCsi o x) = state.Csi
 state_of limit (InDcs o x) = state.Dcs
-state_of limit (InData o x f d) = if is_read limit (strip x) then state.Data else state.Skip
+state_of limit (InData o x f d) = if is_read limit (strip x) then state.Data else state.Ignored
 state_of limit (InApc o d) = state.Apc
-state_of limit (InIgnored k o d) = state.Skip
+state_of limit (InIgnored k o d) = state.Ignored
 state_of limit (InOsc o ps) = state.Osc
 state_of limit (InOscPending o ps f) = state.Osc
 
@@ -33,28 +33,29 @@ held keeps limit m (InData o x f d) h = h
 held keeps limit m (InIgnored k o d) h = h
 held keeps limit m _ h = h.0
 
-is_data : (t : Bool) → state.Data ≡ (if t then state.Data else state.Skip) → t ≡ true
+is_data : (t : Bool) → state.Data ≡ (if t then state.Data else state.Ignored) → t ≡ true
 is_data true h = refl
 is_data false h = absurd cc
 
-is_skip : (t : Bool) → state.Skip ≡ (if t then state.Data else state.Skip) → t ≡ false
+is_skip : (t : Bool) → state.Ignored ≡ (if t then state.Data else state.Ignored) → t ≡ false
 is_skip true h = absurd cc
 is_skip false h = refl
 
 -- neither of the two states
 abbrev is_other : State → Bool
 is_other state.Data = false
-is_other state.Skip = false
+is_other state.Ignored = false
 is_other _ = true
 
-not_data : (s : State) (t : Bool) → is_other s ≡ true → s ≡ (if t then state.Data else state.Skip)
+not_data : (s : State) (t : Bool) → is_other s ≡ true
+    → s ≡ (if t then state.Data else state.Ignored)
     → ⊥
 not_data s true o e = let k : false ≡ true = ap is_other (sym e) ∙ o in cc
 not_data s false o e = let k : false ≡ true = ap is_other (sym e) ∙ o in cc
 
 module _ {K A : Type 0} (keeps : Option ℕ → K → List ℕ
     → Type 0) (limit : Option ℕ) (m : Machine K A) where
-  osc_in : (u : Unfinished) → state.Osc ≡ state_of limit u → front_of m.pending ≡ []
+  osc_in : (u : Unfinished) → state.Osc ≡ state_of limit u → prefix_of m.pending ≡ []
       → Holds keeps limit m u → (Q : Unfinished → Type 0)
       → ((o : Opener) (ps : List Piece) → Holds keeps limit m (InOsc o ps) → Q (InOsc o ps)) → Q u
   osc_in (InOsc o ps) e p h Q q = q o ps h
@@ -71,7 +72,7 @@ module _ {K A : Type 0} (keeps : Option ℕ → K → List ℕ
       absurd (not_data state.Escape (is_read limit (strip x)) refl e)
   escape_in _ e h Q q = absurd cc
 
-  ground_in : (u : Unfinished) → state.Ground ≡ state_of limit u → front_of m.pending ≡ []
+  ground_in : (u : Unfinished) → state.Ground ≡ state_of limit u → prefix_of m.pending ≡ []
       → Holds keeps limit m u → (Q : Unfinished → Type 0) → Q Ground
       → Q u
   ground_in Ground e p h Q q = q
@@ -108,7 +109,7 @@ module _ {K A : Type 0} (keeps : Option ℕ → K → List ℕ
   data_in (InData o x f d) e Q q = q o x f d (is_data (is_read limit (strip x)) e)
   data_in _ e Q q = absurd cc
 
-  skip_in : (u : Unfinished) → state.Skip ≡ state_of limit u → (Q : Unfinished → Type 0)
+  skip_in : (u : Unfinished) → state.Ignored ≡ state_of limit u → (Q : Unfinished → Type 0)
       → ((o : Opener) (x : List ℕ) (f : ℕ) (d : List ℕ) → is_read limit (strip x) ≡ false
       → Q (InData o x f d))
       → ((k : Kind) (o : Opener) (d : List ℕ) → Q (InIgnored k o d)) → Q u
@@ -117,12 +118,12 @@ module _ {K A : Type 0} (keeps : Option ℕ → K → List ℕ
   skip_in _ e Q q r = absurd cc
 
   -- what holds of all that may be unfinished in a state holds of what is
-  pub osc_only : (u : Unfinished) → m.state ≡ state.Osc → front_of m.pending ≡ []
+  pub osc_only : (u : Unfinished) → m.state ≡ state.Osc → prefix_of m.pending ≡ []
       → Holds keeps limit m u → (Q : Unfinished → Type 0)
       → ((o : Opener) (ps : List Piece) → Holds keeps limit m (InOsc o ps) → Q (InOsc o ps)) → Q u
   osc_only u s p h = osc_in u (sym s ∙ held keeps limit m u h) p h
 
-  pub ground_only : (u : Unfinished) → m.state ≡ state.Ground → front_of m.pending ≡ []
+  pub ground_only : (u : Unfinished) → m.state ≡ state.Ground → prefix_of m.pending ≡ []
       → Holds keeps limit m u → (Q : Unfinished → Type 0) → Q Ground → Q u
   ground_only u s p h = ground_in u (sym s ∙ held keeps limit m u h) p h
 
@@ -152,7 +153,7 @@ module _ {K A : Type 0} (keeps : Option ℕ → K → List ℕ
       → Q (InData o x f d)) → Q u
   data_only u s h = data_in u (sym s ∙ held keeps limit m u h)
 
-  pub skip_only : (u : Unfinished) → m.state ≡ state.Skip → Holds keeps limit m u
+  pub skip_only : (u : Unfinished) → m.state ≡ state.Ignored → Holds keeps limit m u
       → (Q : Unfinished → Type 0)
       → ((o : Opener) (x : List ℕ) (f : ℕ) (d : List ℕ) → is_read limit (strip x) ≡ false
       → Q (InData o x f d))
@@ -161,26 +162,31 @@ module _ {K A : Type 0} (keeps : Option ℕ → K → List ℕ
 
   -- what is unfinished where a byte is taken by itself
   pub no_string : (u : Unfinished) → Holds keeps limit m u
-      → is_between m.state (front_of m.pending) ≡ true → is_string u ≡ false
+      → is_between m.state (prefix_of m.pending) ≡ true → is_string u ≡ false
   no_string (InOsc o ps) h k =
-      let e : is_between m.state (front_of m.pending) ≡ false =
-      ap (λ s. is_between s (front_of m.pending)) h.0 ∙ ap (λ f. not (is_empty f)) h.2 in
+      let e : is_between m.state (prefix_of m.pending) ≡ false =
+      ap (λ s. is_between s (prefix_of m.pending)) h.0 ∙ ap (λ f. not (is_empty f)) h.2 in
       let n : true ≡ false = sym k ∙ e in cc
   no_string (InApc o d) h k = let n : true ≡ false =
-      sym k ∙ ap (λ s. is_between s (front_of m.pending)) h.0 in cc
+      sym k ∙ ap (λ s. is_between s (prefix_of m.pending)) h.0 in cc
   no_string _ h k = refl
 
   -- nothing is fresh in what is passed over, nor in the data of a device control string
-  skip_unlent : (u : Unfinished) → m.state ≡ state.Skip → Holds keeps limit m u → is_fresh u ≡ false
-  skip_unlent u s h = skip_only u s h (λ v. is_fresh v ≡ false) (λ o x f d e. refl) (λ k o d. refl)
+  skip_unborrowed : (u : Unfinished) → m.state ≡ state.Ignored → Holds keeps limit m u
+      → is_fresh u ≡ false
+  skip_unborrowed u s h =
+      skip_only u s h (λ v. is_fresh v ≡ false) (λ o x f d e. refl) (λ k o d. refl)
 
-  data_unlent : (u : Unfinished) → m.state ≡ state.Data → Holds keeps limit m u → is_fresh u ≡ false
-  data_unlent u s h = data_only u s h (λ v. is_fresh v ≡ false) (λ o x f d e. refl)
+  data_unborrowed : (u : Unfinished) → m.state ≡ state.Data → Holds keeps limit m u
+      → is_fresh u ≡ false
+  data_unborrowed u s h = data_only u s h (λ v. is_fresh v ≡ false) (λ o x f d e. refl)
 
-  pub skip_fresh : (u : Unfinished) (rest : List ℕ) (n : ℕ) → m.state ≡ state.Skip
+  pub skip_fresh : (u : Unfinished) (rest : List ℕ) (n : ℕ) → m.state ≡ state.Ignored
       → Holds keeps limit m u → StaysFresh u rest n
-  skip_fresh u rest n s h = unlent_fresh u rest n (ap (λ t. t && lends u rest) (skip_unlent u s h))
+  skip_fresh u rest n s h =
+      unborrowed_fresh u rest n (ap (λ t. t && borrows u rest) (skip_unborrowed u s h))
 
   pub data_fresh : (u : Unfinished) (rest : List ℕ) (n : ℕ) → m.state ≡ state.Data
       → Holds keeps limit m u → StaysFresh u rest n
-  data_fresh u rest n s h = unlent_fresh u rest n (ap (λ t. t && lends u rest) (data_unlent u s h))
+  data_fresh u rest n s h =
+      unborrowed_fresh u rest n (ap (λ t. t && borrows u rest) (data_unborrowed u s h))

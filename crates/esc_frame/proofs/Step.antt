@@ -2,8 +2,8 @@
 use Rattle.std.proofs.Common.{ℕ, ◌≡◌, Bool, true, false, not, if◌then◌else◌, ◌&&◌, List, [], ◌∷◌, ◌++◌, refl, ap, sym, ◌∙◌, subst, append_assoc, Option}
 use Rattle.std.proofs.lemmas.List.{append-nil}
 use Rattle.esc_frame.specs.declared.classes.Class.{Class}
-use Rattle.esc_frame.specs.declared.classes.Class.TheVariants.{Plain, Bell, Cancel, Escape, Intermediate, Parameter, Opens, Final, Delete, RawControl, RawOpens}
-use Rattle.esc_frame.specs.declared.classes.Class.TheVariants.{RawTerminator, High, Lead}
+use Rattle.esc_frame.specs.declared.classes.Class.TheVariants.{C0, Bell, Cancel, Escape, Intermediate, Parameter, Introducer, Final, Delete, C1, C1Introducer}
+use Rattle.esc_frame.specs.declared.classes.Class.TheVariants.{C1Terminator, High, Lead}
 use Rattle.esc_frame.specs.declared.classes.Kind.{Kind}
 use Rattle.esc_frame.specs.declared.classes.Kind.TheVariants as kind
 use Rattle.esc_frame.specs.declared.sequence.Outcome.{Outcome}
@@ -23,11 +23,11 @@ use Rattle.esc_frame.specs.Segments.Segment.{Escape as EscapeOf}
 use Rattle.esc_frame.specs.Segments.Opener.{Long, Raw, Pair}
 use Rattle.esc_frame.specs.Segments.Ending.{Open, Rung}
 use Rattle.esc_frame.specs.Segments.Piece.{One, Sequence, BrokenOff}
-use Rattle.esc_frame.specs.Leads.{Unfinished, OpenShape, open_bytes, osc_bytes, Stands, told_open}
+use Rattle.esc_frame.specs.Leads.{Unfinished, OpenShape, open_bytes, osc_bytes, HasCut, emitted_open}
 use Rattle.esc_frame.specs.Leads.Unfinished.{Ground, Pending, InEscape, InCsi, InOsc, InOscPending, InDcs, InData, InApc, InIgnored}
-use Rattle.esc_frame.specs.Machine.Moves.{Move, telling, opened, ground_move, pair_move, noise, final_escape, hooks, final_osc, leaving, goes_on, pending_move}
+use Rattle.esc_frame.specs.Machine.Moves.{Move, emitting, opened, ground_move, pair_move, noise, final_escape, hooks, final_osc, leaving, goes_on, pending_move}
 use Rattle.esc_frame.specs.Machine.Moves.{osc_pending_move, move}
-use Rattle.esc_frame.proofs.Bytes.{all_push, executes_push, puts_push, is_escape, is_bell, is_letter, is_raw_letter, lead_front, pair_is, outcome_whole}
+use Rattle.esc_frame.proofs.Bytes.{all_push, executes_push, puts_push, is_escape, is_bell, is_letter, is_raw_letter, lead_prefix, pair_is, outcome_whole}
 use Rattle.esc_frame.proofs.Bytes.{outcome_more, outcome_broken, all_noise}
 use Rattle.esc_frame.proofs.Grows.{Base, base, grows, Meets, leaves, ends, meets, alone, begins, pieces_more, pieces_push, text_end}
 
@@ -53,7 +53,7 @@ opened_shape kind.Apc o h = (h, refl)
 
 -- what is no breaker and not of a body is a final byte
 body_ends : (c : Class) → is_breaker c ≡ false → in_csi c ≡ false → ends_csi c ≡ true
-body_ends (Opens k) h n = refl
+body_ends (Introducer k) h n = refl
 body_ends Final h n = refl
 body_ends _ h n = absurd cc
 
@@ -64,11 +64,11 @@ lead_code = refl
 pair_breaks : (b : ℕ) → is_raw (class_of b) ≡ true → breaks_text (0xc2 ∷ b ∷ []) ≡ true
 pair_breaks b h = rw (lead_code, h) refl
 
--- what follows the header has told, and tells more
-told_more : (ds bs cs : List Event) (w : Bool)
+-- what follows the header has emitted, and emits more
+emitted_more : (ds bs cs : List Event) (w : Bool)
     → ds ++ (if w then bs ++ cs else []) ≡ (ds ++ (if w then bs else [])) ++ (if w then cs else [])
-told_more ds bs cs true = sym (append_assoc ds bs cs)
-told_more ds bs cs false = sym (append-nil (ds ++ []))
+emitted_more ds bs cs true = sym (append_assoc ds bs cs)
+emitted_more ds bs cs false = sym (append-nil (ds ++ []))
 
 put_by : (w t : Bool) (b : ℕ)
     → (if w then (if t then DcsPut b ∷ [] else []) else []) ≡ (if w && t then DcsPut b ∷ [] else [])
@@ -81,22 +81,22 @@ not_true t h = rw h refl
 module _ (limit : Option ℕ) where
   -- a cut of the longer stream, after a move
   abbrev pub Goes : List ℕ → List Event → Move → Type 0
-  Goes stream es m = (hs : List Segment) × Stands limit stream (es ++ m.1) hs m.0
+  Goes stream es m = (hs : List Segment) × HasCut limit stream (es ++ m.1) hs m.0
 
   -- ---- ground
 
-  opened_told : (k : Kind) (o : Opener) → told_open limit (opened k o) ≡ opener_events o
-  opened_told kind.Csi o = append-nil (opener_events o)
-  opened_told kind.Osc o = refl
-  opened_told kind.Dcs o = refl
-  opened_told kind.Sos o = refl
-  opened_told kind.Pm o = refl
-  opened_told kind.Apc o = refl
+  opened_emitted : (k : Kind) (o : Opener) → emitted_open limit (opened k o) ≡ opener_events o
+  opened_emitted kind.Csi o = append-nil (opener_events o)
+  opened_emitted kind.Osc o = refl
+  opened_emitted kind.Dcs o = refl
+  opened_emitted kind.Sos o = refl
+  opened_emitted kind.Pm o = refl
+  opened_emitted kind.Apc o = refl
 
   ground_step : (w : List ℕ) (es : List Event) (gs : List Segment) (b : ℕ) (c : Class)
       → class_of b ≡ c → Meets limit w es gs (b ∷ [])
       → Goes w es (ground_move b c)
-  ground_step w es gs b Plain e m =
+  ground_step w es gs b C0 e m =
       (_, alone w es gs (Control b) (b ∷ []) (Execute b ∷ []) m refl (rw e refl) refl refl)
   ground_step w es gs b Bell e m =
       (_, alone w es gs (Control b) (b ∷ []) (Execute b ∷ []) m refl (rw e refl) refl refl)
@@ -111,54 +111,54 @@ module _ (limit : Option ℕ) where
       (_, alone w es gs (Character b) (b ∷ []) (Print b ∷ []) m refl (rw e refl) refl refl)
   ground_step w es gs b Parameter e m =
       (_, alone w es gs (Character b) (b ∷ []) (Print b ∷ []) m refl (rw e refl) refl refl)
-  ground_step w es gs b (Opens k) e m =
+  ground_step w es gs b (Introducer k) e m =
       (_, alone w es gs (Character b) (b ∷ []) (Print b ∷ []) m refl (rw e refl) refl refl)
   ground_step w es gs b Final e m =
       (_, alone w es gs (Character b) (b ∷ []) (Print b ∷ []) m refl (rw e refl) refl refl)
   ground_step w es gs b Delete e m =
       (_, alone w es gs (Character b) (b ∷ []) (Print b ∷ []) m refl (rw e refl) refl refl)
-  ground_step w es gs b RawControl e m = (
+  ground_step w es gs b C1 e m = (
     _,
     alone w es gs (HighControl false b) (b ∷ []) (Execute b ∷ []) m refl (rw e refl) refl
         refl,
   )
-  ground_step w es gs b (RawOpens k) e m = (
+  ground_step w es gs b (C1Introducer k) e m = (
     gs,
     begins w es gs (opened k Raw) (b ∷ []) m (opened_bytes k Raw
         ∙ ap (λ x. x ∷ []) (sym (is_raw_letter b k e))) (opened_shape k Raw tt)
-        (opened_told k Raw),
+        (opened_emitted k Raw),
   )
-  ground_step w es gs b RawTerminator e m =
+  ground_step w es gs b C1Terminator e m =
       (_, alone w es gs (Terminator false b) (b ∷ []) [] m refl (rw e refl) refl refl)
   ground_step w es gs b High e m =
       (_, alone w es gs (Stray b) (b ∷ []) (Print 0xfffd ∷ []) m refl (rw e refl) refl refl)
   ground_step w es gs b Lead e m =
-      (gs, begins w es gs (Pending (b ∷ [])) (b ∷ []) m refl (lead_front b e) refl)
+      (gs, begins w es gs (Pending (b ∷ [])) (b ∷ []) m refl (lead_prefix b e) refl)
 
   -- after C2
   pair_step : (w : List ℕ) (es : List Event) (gs : List Segment) (b : ℕ) (c : Class)
       → class_of b ≡ c → is_raw c ≡ true → Meets limit w es gs (0xc2 ∷ b ∷ [])
       → Goes w es (pair_move b c)
-  pair_step w es gs b RawControl e h m = (
+  pair_step w es gs b C1 e h m = (
     _,
     alone w es gs (HighControl true b) (0xc2 ∷ b ∷ []) (Execute b ∷ []) m refl (rw e refl)
         refl refl,
   )
-  pair_step w es gs b (RawOpens k) e h m = (
+  pair_step w es gs b (C1Introducer k) e h m = (
     gs,
     begins w es gs (opened k Pair) (0xc2 ∷ b ∷ []) m (opened_bytes k Pair
         ∙ ap (λ x. 0xc2 ∷ x ∷ []) (sym (is_raw_letter b k e))) (opened_shape k Pair tt)
-        (opened_told k Pair),
+        (opened_emitted k Pair),
   )
-  pair_step w es gs b RawTerminator e h m =
+  pair_step w es gs b C1Terminator e h m =
       (_, alone w es gs (Terminator true b) (0xc2 ∷ b ∷ []) [] m refl (rw e refl) refl refl)
   pair_step w es gs b _ e h m = absurd cc
 
   -- the events of two steps
   joins : (w : List ℕ) (es first : List Event) (m : Move) → Goes w (es ++ first) m
-      → Goes w es (telling first m)
+      → Goes w es (emitting first m)
   joins w es first m h =
-      (h.0, subst (λ x. Stands limit w x h.0 m.0) (append_assoc es first m.1) h.1)
+      (h.0, subst (λ x. HasCut limit w x h.0 m.0) (append_assoc es first m.1) h.1)
 
   -- what is unfinished is left, and the byte stands in ground
   break_step : (s : List ℕ) (es : List Event) (gs : List Segment) (last : List ℕ) (ts : List Event)
@@ -166,7 +166,7 @@ module _ (limit : Option ℕ) where
       → class_of b ≡ c → Base limit s es gs last ts
       → bytes_of g ≡ last → HasShape g (b ∷ []) → is_finished g (b ∷ []) ≡ true
       → events_of_within limit g true ≡ ts ++ first
-      → Goes (s ++ b ∷ []) es (telling first (ground_move b c))
+      → Goes (s ++ b ∷ []) es (emitting first (ground_move b c))
   break_step s es gs last ts g first b c e st j sh f t =
       joins (s ++ b ∷ []) es first (ground_move b c)
       (ground_step (s ++ b ∷ []) (es ++ first) (gs ++ g ∷ []) b c e
@@ -174,22 +174,22 @@ module _ (limit : Option ℕ) where
 
   -- the byte is the last of a segment
   closes : (s : List ℕ) (es : List Event) (gs : List Segment) (last : List ℕ) (ts : List Event)
-      (g : Segment) (b : ℕ) (news : List Event)
+      (g : Segment) (b : ℕ) (new_events : List Event)
       → Base limit s es gs last ts
       → bytes_of g ≡ last ++ b ∷ [] → HasShape g [] → is_finished g [] ≡ true
-      → events_of_within limit g true ≡ ts ++ news
-      → Goes (s ++ b ∷ []) es (Ground, news)
-  closes s es gs last ts g b news st j sh f t = (
+      → events_of_within limit g true ≡ ts ++ new_events
+      → Goes (s ++ b ∷ []) es (Ground, new_events)
+  closes s es gs last ts g b new_events st j sh f t = (
     gs ++ g ∷ [],
-    ends (s ++ b ∷ []) (es ++ news) (gs ++ g ∷ [])
-        (leaves s es gs last ts g b [] news st (append-nil (bytes_of g) ∙ j) sh f t),
+    ends (s ++ b ∷ []) (es ++ new_events) (gs ++ g ∷ [])
+        (leaves s es gs last ts g b [] new_events st (append-nil (bytes_of g) ∙ j) sh f t),
   )
 
   -- ---- a prefix of a sequence in ground
 
   whole_step : (s : List ℕ) (es : List Event) (gs : List Segment) (f : List ℕ) (b : ℕ) (t : Bool)
       → is_pair (f ++ b ∷ []) ≡ t → is_sequence (f ++ b ∷ []) ≡ true
-      → Stands limit s es gs (Pending f)
+      → HasCut limit s es gs (Pending f)
       → Goes (s ++ b ∷ []) es (if t then pair_move b (class_of b) else (
         Ground,
         Print (number_of (f ++ b ∷ [])) ∷ [],
@@ -204,7 +204,7 @@ module _ (limit : Option ℕ) where
       (meets s es gs f b (base s es gs (Pending f) st)))
 
   pending_step : (s : List ℕ) (es : List Event) (gs : List Segment) (f : List ℕ) (b : ℕ)
-      (t : Outcome) → outcome f b ≡ t → Stands limit s es gs (Pending f)
+      (t : Outcome) → outcome f b ≡ t → HasCut limit s es gs (Pending f)
       → Goes (s ++ b ∷ []) es (pending_move f b (class_of b) t)
   pending_step s es gs f b outcomes.Whole e st =
       whole_step s es gs f b (is_pair (f ++ b ∷ [])) refl (outcome_whole f b e) st
@@ -222,7 +222,7 @@ module _ (limit : Option ℕ) where
 
   escape_closes : (s : List ℕ) (es : List Event) (gs : List Segment) (x : List ℕ) (b : ℕ)
       (c : Class) → class_of b ≡ c → ends_escape c ≡ true
-      → (is_empty (strip x) && opens c) ≡ false → Stands limit s es gs (InEscape x)
+      → (is_empty (strip x) && opens c) ≡ false → HasCut limit s es gs (InEscape x)
       → Goes (s ++ b ∷ []) es (Ground, escape_event (strip x) b ∷ [])
   escape_closes s es gs x b c e h k st =
       closes s es gs (0x1b ∷ x) (executes x) (EscapeOf x b) b (escape_event (strip x) b ∷ [])
@@ -230,8 +230,8 @@ module _ (limit : Option ℕ) where
       (st.shape, rw e h, rw e k) refl refl
 
   opens_step : (s : List ℕ) (es : List Event) (gs : List Segment) (x : List ℕ) (b : ℕ) (k : Kind)
-      (t : Bool) → is_empty (strip x) ≡ t → class_of b ≡ Opens k
-      → Stands limit s es gs (InEscape x)
+      (t : Bool) → is_empty (strip x) ≡ t → class_of b ≡ Introducer k
+      → HasCut limit s es gs (InEscape x)
       → Goes (s ++ b ∷ []) es (if t then (opened k (Long x), []) else (
         Ground,
         escape_event (strip x) b ∷ [],
@@ -241,14 +241,15 @@ module _ (limit : Option ℕ) where
     grows s es gs (0x1b ∷ x) (executes x) (opened k (Long x)) b [] (base s es gs (InEscape x) st)
         (opened_bytes k (Long x) ∙ ap (λ y. (0x1b ∷ x) ++ y ∷ []) (sym (is_letter b k e)))
         (opened_shape k (Long x) (all_noise x h))
-        (opened_told k (Long x) ∙ sym (append-nil (executes x))),
+        (opened_emitted k (Long x) ∙ sym (append-nil (executes x))),
   )
-  opens_step s es gs x b k false h e st = escape_closes s es gs x b (Opens k) e refl (rw h refl) st
+  opens_step s es gs x b k false h e st =
+      escape_closes s es gs x b (Introducer k) e refl (rw h refl) st
 
   final_step : (s : List ℕ) (es : List Event) (gs : List Segment) (x : List ℕ) (b : ℕ) (c : Class)
       → class_of b ≡ c → is_breaker c ≡ false → in_escape c ≡ false
-      → Stands limit s es gs (InEscape x) → Goes (s ++ b ∷ []) es (final_escape x b c)
-  final_step s es gs x b (Opens k) e h n st =
+      → HasCut limit s es gs (InEscape x) → Goes (s ++ b ∷ []) es (final_escape x b c)
+  final_step s es gs x b (Introducer k) e h n st =
       opens_step s es gs x b k (is_empty (strip x)) refl e st
   final_step s es gs x b Parameter e h n st =
       escape_closes s es gs x b Parameter e refl (and_no (is_empty (strip x))) st
@@ -258,8 +259,8 @@ module _ (limit : Option ℕ) where
 
   escape_step : (s : List ℕ) (es : List Event) (gs : List Segment) (x : List ℕ) (b : ℕ) (c : Class)
       (t w : Bool) → class_of b ≡ c → is_breaker c ≡ t
-      → in_escape c ≡ w → Stands limit s es gs (InEscape x)
-      → Goes (s ++ b ∷ []) es (if t then telling [] (ground_move b c) else if w then
+      → in_escape c ≡ w → HasCut limit s es gs (InEscape x)
+      → Goes (s ++ b ∷ []) es (if t then emitting [] (ground_move b c) else if w then
       (InEscape (x ++ b ∷ []), noise b c) else final_escape x b c)
   escape_step s es gs x b c true w e h n st =
       break_step s es gs (0x1b ∷ x) (executes x) (CutEscape x) [] b c e
@@ -277,8 +278,8 @@ module _ (limit : Option ℕ) where
 
   csi_step : (s : List ℕ) (es : List Event) (gs : List Segment) (o : Opener) (x : List ℕ) (b : ℕ)
       (c : Class) (t w : Bool) → class_of b ≡ c → is_breaker c ≡ t
-      → in_csi c ≡ w → Stands limit s es gs (InCsi o x)
-      → Goes (s ++ b ∷ []) es (if t then telling [] (ground_move b c) else if w then
+      → in_csi c ≡ w → HasCut limit s es gs (InCsi o x)
+      → Goes (s ++ b ∷ []) es (if t then emitting [] (ground_move b c) else if w then
       (InCsi o (x ++ b ∷ []), noise b c) else (Ground, csi_events (strip x) b))
   csi_step s es gs o x b c true w e h n st =
       break_step s es gs (opener kind.Csi o ++ x) (opener_events o ++ executes x) (CutCsi o x) [] b
@@ -317,7 +318,7 @@ module _ (limit : Option ℕ) where
   final_osc_step s es gs o ps b Lead e h n st = (
     gs,
     grows s es gs (osc_bytes o ps) (opener_events o) (InOscPending o ps (b ∷ [])) b [] st.0 refl
-        (st.1, st.2, lead_front b e)
+        (st.1, st.2, lead_prefix b e)
         (sym (append-nil (opener_events o))),
   )
   final_osc_step s es gs o ps b _ e h n st = absurd cc
@@ -325,7 +326,7 @@ module _ (limit : Option ℕ) where
   osc_step : (s : List ℕ) (es : List Event) (gs : List Segment) (o : Opener) (ps : List Piece)
       (b : ℕ) (c : Class) (t w : Bool) → class_of b ≡ c
       → is_breaker c ≡ t → in_osc c ≡ w → OscBase s es gs o ps b
-      → Goes (s ++ b ∷ []) es (if t then telling (osc_events limit (text_of ps)) (ground_move b c)
+      → Goes (s ++ b ∷ []) es (if t then emitting (osc_events limit (text_of ps)) (ground_move b c)
       else if w then (InOsc o (ps ++ One b ∷ []), []) else
       final_osc limit o ps b c)
   osc_step s es gs o ps b c true w e h n st =
@@ -344,8 +345,8 @@ module _ (limit : Option ℕ) where
 
   osc_whole_step : (s : List ℕ) (es : List Event) (gs : List Segment) (o : Opener) (ps : List Piece)
       (f : List ℕ) (b : ℕ) (t : Bool) → is_pair (f ++ b ∷ []) ≡ t
-      → is_sequence (f ++ b ∷ []) ≡ true → Stands limit s es gs (InOscPending o ps f)
-      → Goes (s ++ b ∷ []) es (if t then telling (osc_events limit (text_of ps))
+      → is_sequence (f ++ b ∷ []) ≡ true → HasCut limit s es gs (InOscPending o ps f)
+      → Goes (s ++ b ∷ []) es (if t then emitting (osc_events limit (text_of ps))
       (pair_move b (class_of b)) else
       (InOsc o (ps ++ Sequence (f ++ b ∷ []) ∷ []), []))
   osc_whole_step s es gs o ps f b false p q st = (
@@ -381,7 +382,7 @@ module _ (limit : Option ℕ) where
 
   osc_pending_step : (s : List ℕ) (es : List Event) (gs : List Segment) (o : Opener)
       (ps : List Piece) (f : List ℕ) (b : ℕ) (t : Outcome) → outcome f b ≡ t
-      → Stands limit s es gs (InOscPending o ps f)
+      → HasCut limit s es gs (InOscPending o ps f)
       → Goes (s ++ b ∷ []) es (osc_pending_move limit o ps f b (class_of b) t)
   osc_pending_step s es gs o ps f b outcomes.Whole e st =
       osc_whole_step s es gs o ps f b (is_pair (f ++ b ∷ [])) refl (outcome_whole f b e) st
@@ -412,8 +413,8 @@ module _ (limit : Option ℕ) where
 
   dcs_step : (s : List ℕ) (es : List Event) (gs : List Segment) (o : Opener) (x : List ℕ) (b : ℕ)
       (c : Class) (t w : Bool) → class_of b ≡ c → is_breaker c ≡ t
-      → in_csi c ≡ w → Stands limit s es gs (InDcs o x)
-      → Goes (s ++ b ∷ []) es (if t then telling [] (ground_move b c) else if w then
+      → in_csi c ≡ w → HasCut limit s es gs (InDcs o x)
+      → Goes (s ++ b ∷ []) es (if t then emitting [] (ground_move b c) else if w then
       (InDcs o (x ++ b ∷ []), []) else (InData o x b [], hooks limit x b))
   dcs_step s es gs o x b c true w e h n st =
       break_step s es gs (opener kind.Dcs o ++ x) (opener_events o) (CutDcs o x) [] b c e
@@ -437,18 +438,19 @@ module _ (limit : Option ℕ) where
 
   data_step : (s : List ℕ) (es : List Event) (gs : List Segment) (o : Opener) (x : List ℕ) (f : ℕ)
       (d : List ℕ) (b : ℕ) (c : Class) (t : Bool) → class_of b ≡ c
-      → is_breaker c ≡ t → Stands limit s es gs (InData o x f d)
-      → Goes (s ++ b ∷ []) es (if t then telling (leaving limit (InData o x f d)) (ground_move b c)
+      → is_breaker c ≡ t → HasCut limit s es gs (InData o x f d)
+      → Goes (s ++ b ∷ []) es (if t then emitting (leaving limit (InData o x f d)) (ground_move b c)
       else goes_on limit (InData o x f d) b c)
   data_step s es gs o x f d b c true e h st =
-      break_step s es gs (bytes_of (Dcs o x f d)) (told_open limit (InData o x f d)) (Dcs o x f d)
+      break_step s es gs (bytes_of (Dcs o x f d)) (emitted_open limit (InData o x f d))
+      (Dcs o x f d)
       (leaving limit (InData o x f d)) b c e
       (base s es gs (InData o x f d) st) refl st.shape (rw (e, h) refl)
-      (told_more (opener_events o) (hook_event (strip x) f ∷ puts d) (DcsUnhook ∷ [])
+      (emitted_more (opener_events o) (hook_event (strip x) f ∷ puts d) (DcsUnhook ∷ [])
       (is_read limit (strip x)))
   data_step s es gs o x f d b c false e h st = (
     gs,
-    grows s es gs (bytes_of (Dcs o x f d)) (told_open limit (InData o x f d))
+    grows s es gs (bytes_of (Dcs o x f d)) (emitted_open limit (InData o x f d))
         (InData o x f (d ++ b ∷ [])) b
         (if is_read limit (strip x) && is_put c then DcsPut b ∷ [] else [])
         (base s es gs (InData o x f d) st)
@@ -459,10 +461,10 @@ module _ (limit : Option ℕ) where
           all_push in_data d b c e st.shape.3 (not_true (is_breaker c) h),
         )
         (ap (λ y. opener_events o ++ (if is_read limit (strip x) then hook_event (strip x) f
-        ∷ y else [])) (puts_push d b c e) ∙ told_more (opener_events o)
+        ∷ y else [])) (puts_push d b c e) ∙ emitted_more (opener_events o)
         (hook_event (strip x) f ∷ puts d) (if is_put c then DcsPut b ∷ [] else [])
         (is_read limit (strip x))
-        ∙ ap (λ y. told_open limit (InData o x f d) ++ y)
+        ∙ ap (λ y. emitted_open limit (InData o x f d) ++ y)
         (put_by (is_read limit (strip x)) (is_put c) b)),
   )
 
@@ -470,8 +472,8 @@ module _ (limit : Option ℕ) where
 
   apc_step : (s : List ℕ) (es : List Event) (gs : List Segment) (o : Opener) (d : List ℕ) (b : ℕ)
       (c : Class) (t : Bool) → class_of b ≡ c → is_breaker c ≡ t
-      → Stands limit s es gs (InApc o d)
-      → Goes (s ++ b ∷ []) es (if t then telling (leaving limit (InApc o d)) (ground_move b c) else
+      → HasCut limit s es gs (InApc o d)
+      → Goes (s ++ b ∷ []) es (if t then emitting (leaving limit (InApc o d)) (ground_move b c) else
       goes_on limit (InApc o d) b c)
   apc_step s es gs o d b c true e h st =
       break_step s es gs (opener kind.Apc o ++ d) (opener_events o) (Apc o d)
@@ -490,8 +492,8 @@ module _ (limit : Option ℕ) where
 
   ignored_step : (s : List ℕ) (es : List Event) (gs : List Segment) (k : Kind) (o : Opener)
       (d : List ℕ) (b : ℕ) (c : Class) (t : Bool) → class_of b ≡ c
-      → is_breaker c ≡ t → Stands limit s es gs (InIgnored k o d)
-      → Goes (s ++ b ∷ []) es (if t then telling [] (ground_move b c) else goes_on limit
+      → is_breaker c ≡ t → HasCut limit s es gs (InIgnored k o d)
+      → Goes (s ++ b ∷ []) es (if t then emitting [] (ground_move b c) else goes_on limit
       (InIgnored k o d) b c)
   ignored_step s es gs k o d b c true e h st =
       break_step s es gs (opener k o ++ d) (opener_events o) (Ignored k o d) [] b c e
@@ -511,7 +513,7 @@ module _ (limit : Option ℕ) where
 
   -- one byte more on a cut takes a cut, with those events more
   pub byte_step : (s : List ℕ) (es : List Event) (gs : List Segment) (u : Unfinished) (b : ℕ)
-      → Stands limit s es gs u
+      → HasCut limit s es gs u
       → Goes (s ++ b ∷ []) es (move limit u b (class_of b))
   byte_step s es gs Ground b st = ground_step (s ++ b ∷ []) es gs b (class_of b) refl
       (meets s es gs [] b (base s es gs Ground st))

@@ -18,8 +18,8 @@ use Rattle.esc_frame.specs.Machine.Characters.{IsCharacter}
 use Rattle.esc_frame.specs.Events.{Event, StopsAt}
 use Rattle.esc_frame.specs.Leads.{Unfinished, Holds}
 use Rattle.esc_frame.specs.Leads.Unfinished.{Ground, InCsi, InApc, InOsc, InOscPending}
-use Rattle.esc_frame.specs.Machine.Moves.{move, after_by, news_by, pending_move, inside, goes_on, final_osc, osc_pending_move, after_all}
-use Rattle.esc_frame.specs.Machine.Moves.{news_all, is_ground, is_fresh, lends, may_grow_within, IsStill}
+use Rattle.esc_frame.specs.Machine.Moves.{move, after_by, events_by, pending_move, inside, goes_on, final_osc, osc_pending_move, after_all}
+use Rattle.esc_frame.specs.Machine.Moves.{events_all, is_ground, is_fresh, borrows, may_grow_within, IsStill}
 use Rattle.esc_frame.specs.Scans.{is_body_byte, is_text_byte}
 use Rattle.esc_frame.specs.Segments.{Opener, Piece}
 use Rattle.esc_frame.specs.Segments.Piece.{BrokenOff}
@@ -27,15 +27,15 @@ use Rattle.esc_frame.specs.Sequences.{is_sequence, is_pair, outcome}
 use Rattle.esc_frame.specs.Stream.{IsQuietWithin}
 use Rattle.esc_frame.proofs.AtGround.{to_ground}
 use Rattle.esc_frame.proofs.CsiRuns.{body_quiet, escape_class}
-use Rattle.esc_frame.proofs.Lends.{after_more, csi_fresh, fresh_by, not_both}
+use Rattle.esc_frame.proofs.Borrows.{after_more, csi_fresh, fresh_by, not_both}
 use Rattle.esc_frame.proofs.ManyBytes.{tail_is, tail_length, ran_took, ran_ends, lead_class, two_parts, three_parts, four_parts}
 use Rattle.esc_frame.proofs.QuietRuns.{quiet_after, quiet_folds}
 use Rattle.esc_frame.proofs.StringRuns.{apc_text, skip_holds, prefix_passes}
-use Rattle.esc_frame.proofs.Streams.{after_append, news_append, added_is}
+use Rattle.esc_frame.proofs.Streams.{after_append, events_append, added_is}
 
--- what a front of k bytes is to be
+-- what a prefix of k bytes is to be
 abbrev Still : Option ℕ → Unfinished → List ℕ → Type 0
-Still limit u ys = (news_all limit u ys ≡ []) × (is_ground (after_all u ys) ≡ false)
+Still limit u ys = (events_all limit u ys ≡ []) × (is_ground (after_all u ys) ≡ false)
 
 pub one_still : (limit : Option ℕ) (u : Unfinished) (rest : List ℕ) → IsStill limit u rest 1
 one_still limit u rest = λ k a b. absurd (omega arith)
@@ -44,11 +44,11 @@ pub less_still : (limit : Option ℕ) (u : Unfinished) (rest : List ℕ) (m n : 
     → IsStill limit u rest n → IsStill limit u rest m
 less_still limit u rest m n l h = λ k a b. h k a (omega arith)
 
--- ---- fronts of a run
+-- ---- prefixes of a run
 
-front_passes : (p : ℕ → Bool) (rest : List ℕ) (run k : ℕ) → k ≤ run
+passes_before : (p : ℕ → Bool) (rest : List ℕ) (run k : ℕ) → k ≤ run
     → list_all p (take run rest) ≡ true → list_all p (take k rest) ≡ true
-front_passes p rest run k l h =
+passes_before p rest run k l h =
     let split : take k (take run rest) ++ drop k (take run rest) ≡ take run rest =
     take-append-drop k (take run rest) in
     let all : (list_all p (take k (take run rest)) && list_all p (drop k (take run rest))) ≡ true =
@@ -67,25 +67,25 @@ no_second : (xs ys : List Event) → xs ++ ys ≡ [] → ys ≡ []
 no_second [] ys h = h
 no_second (x ∷ xs) ys h = absurd cc
 
-front_tells_not : (limit : Option ℕ) (u : Unfinished) (rest : List ℕ) (run k : ℕ) → k ≤ run
-    → news_all limit u (take run rest) ≡ []
-    → news_all limit u (take k rest) ≡ []
-front_tells_not limit u rest run k l h =
+prefix_emits_not : (limit : Option ℕ) (u : Unfinished) (rest : List ℕ) (run k : ℕ) → k ≤ run
+    → events_all limit u (take run rest) ≡ []
+    → events_all limit u (take k rest) ≡ []
+prefix_emits_not limit u rest run k l h =
     let xs : List ℕ = take k (take run rest) in
     let ys : List ℕ = drop k (take run rest) in
-    let e : news_all limit u xs ++ news_all limit (after_all u xs) ys ≡ [] =
-    sym (news_append limit u xs ys) ∙ ap (news_all limit u)
+    let e : events_all limit u xs ++ events_all limit (after_all u xs) ys ≡ [] =
+    sym (events_append limit u xs ys) ∙ ap (events_all limit u)
     (take-append-drop k (take run rest)) ∙ h in
-    ap (news_all limit u) (sym (take-take k run rest l))
-    ∙ no_first (news_all limit u xs) (news_all limit (after_all u xs) ys) e
+    ap (events_all limit u) (sym (take-take k run rest l))
+    ∙ no_first (events_all limit u xs) (events_all limit (after_all u xs) ys) e
 
--- ---- the body of a control sequence, and the byte behind it
+-- ---- the body of a control sequence, and the byte after it
 
 pub body_still : (limit : Option ℕ) (o : Opener) (x rest : List ℕ) (run : ℕ)
     → list_all is_body_byte (take run rest) ≡ true
     → IsStill limit (InCsi o x) rest (run + 1)
 body_still limit o x rest run h = λ k a b.
-    let q = body_quiet limit o x (take k rest) (front_passes is_body_byte rest run k (omega arith)
+    let q = body_quiet limit o x (take k rest) (passes_before is_body_byte rest run k (omega arith)
     h) in
     (q.1, ap is_ground q.0)
 
@@ -102,7 +102,7 @@ body_fresh o x rest run h room =
     (csi_fresh o y b (class_of b) (drop (run + 1) rest) (is_breaker (class_of b))
     (in_csi (class_of b)) refl refl)
 
--- ---- an operating system command: without a limit, to leave it tells its event
+-- ---- an operating system command: without a limit, to leave it emits its event
 
 abbrev is_osc : Unfinished → Bool
 is_osc (InOsc o ps) = true
@@ -140,31 +140,31 @@ pending_stays o ps f b c outcomes.More h = refl
 pending_stays o ps f b c outcomes.Broken h =
     text_stays o (ps ++ BrokenOff f ∷ []) b c (is_breaker c) (in_osc c) refl refl h
 
-stays_by : (u : Unfinished) (b : ℕ) → is_osc u ≡ true → news_by None u b (class_of b) ≡ []
+stays_by : (u : Unfinished) (b : ℕ) → is_osc u ≡ true → events_by None u b (class_of b) ≡ []
     → is_osc (after_by u b (class_of b)) ≡ true
 stays_by (InOsc o ps) b h e =
     text_stays o ps b (class_of b) (is_breaker (class_of b)) (in_osc (class_of b)) refl refl e
 stays_by (InOscPending o ps f) b h e = pending_stays o ps f b (class_of b) (outcome f b) e
 stays_by _ b h e = absurd cc
 
-stays : (u : Unfinished) (ys : List ℕ) → is_osc u ≡ true → news_all None u ys ≡ []
+stays : (u : Unfinished) (ys : List ℕ) → is_osc u ≡ true → events_all None u ys ≡ []
     → is_osc (after_all u ys) ≡ true
 stays u [] h e = h
 stays u (b ∷ ys) h e =
     let v : Unfinished = after_by u b (class_of b) in
-    let first : news_by None u b (class_of b) ≡ [] =
-    no_first (news_by None u b (class_of b)) (news_all None v ys) e in
-    let behind : news_all None v ys ≡ [] =
-    no_second (news_by None u b (class_of b)) (news_all None v ys) e in
-    stays v ys (stays_by u b h first) behind
+    let first : events_by None u b (class_of b) ≡ [] =
+    no_first (events_by None u b (class_of b)) (events_all None v ys) e in
+    let later : events_all None v ys ≡ [] =
+    no_second (events_by None u b (class_of b)) (events_all None v ys) e in
+    stays v ys (stays_by u b h first) later
 
--- a run of text tells nothing whatever the limit, and so is never left
+-- a run of text emits nothing whatever the limit, and so is never left
 pub text_still : (limit : Option ℕ) (o : Opener) (ps : List Piece) (rest : List ℕ) (run : ℕ)
-    → ((any : Option ℕ) → news_all any (InOsc o ps) (take run rest) ≡ [])
+    → ((any : Option ℕ) → events_all any (InOsc o ps) (take run rest) ≡ [])
     → IsStill limit (InOsc o ps) rest (run + 1)
 text_still limit o ps rest run h = λ k a b.
-    let e : (any : Option ℕ) → news_all any (InOsc o ps) (take k rest) ≡ [] =
-    λ any. front_tells_not any (InOsc o ps) rest run k (omega arith) (h any) in (
+    let e : (any : Option ℕ) → events_all any (InOsc o ps) (take k rest) ≡ [] =
+    λ any. prefix_emits_not any (InOsc o ps) rest run k (omega arith) (h any) in (
       e limit,
       osc_no_ground (after_all (InOsc o ps) (take k rest))
           (stays (InOsc o ps) (take k rest) refl (e None)),
@@ -182,7 +182,7 @@ pub apc_end_still : (limit : Option ℕ) (o : Opener) (d rest : List ℕ) (run :
     → list_all is_text_byte (take run rest) ≡ true
     → IsStill limit (InApc o d) rest (run + 1)
 apc_end_still limit o d rest run h = λ k a b.
-    let q = apc_text limit o d (take k rest) (front_passes is_text_byte rest run k (omega arith)
+    let q = apc_text limit o d (take k rest) (passes_before is_text_byte rest run k (omega arith)
     h) in
     (q.1, ap is_ground q.0)
 
@@ -190,26 +190,26 @@ module _ {K A : Type 0} (keeps : Option ℕ → K → List ℕ
     → Type 0) (limit : Option ℕ) (m : Machine K A) (u : Unfinished) (rest : List ℕ) (run : ℕ)
     (e : run ≡ prefix_len is_text_byte rest)
     (h : Holds keeps limit m u) where
-  pub skip_still : m.state ≡ state.Skip → IsStill limit u rest run
+  pub skip_still : m.state ≡ state.Ignored → IsStill limit u rest run
   skip_still s = λ k a b.
       let q = skip_holds keeps limit m (take k rest)
-      (front_passes is_text_byte rest run k (omega arith) (prefix_passes rest run e)) u s h in
+      (passes_before is_text_byte rest run k (omega arith) (prefix_passes rest run e)) u s h in
       (q.1, holds_no_ground keeps limit m (after_all u (take k rest)) q.0 (λ g. cc))
 
 -- ---- bytes that tell nothing, and what follows them
 
 module _ (limit : Option ℕ) (u v : Unfinished) (rest : List ℕ) (i n : ℕ)
-    (here : after_all u (take i rest) ≡ v) (none : news_all limit u (take i rest) ≡ [])
+    (here : after_all u (take i rest) ≡ v) (none : events_all limit u (take i rest) ≡ [])
   where
-    behind_still : IsStill limit v (take (length rest - i) (drop i rest)) n → (j : ℕ) → 0 < j
+    after_still : IsStill limit v (take (length rest - i) (drop i rest)) n → (j : ℕ) → 0 < j
         → j < n → Still limit u (take (i + j) rest)
-    behind_still h j a b =
+    after_still h j a b =
         let m : Still limit v (take j (drop i rest)) =
         subst (λ y. Still limit v (take j y)) (tail_is rest i) (h j a b) in (
-          ap (news_all limit u) (take-add i j rest)
-              ∙ news_append limit u (take i rest) (take j (drop i rest)) ∙ ap
-              (λ es. es ++ news_all limit (after_all u (take i rest)) (take j (drop i rest))) none
-              ∙ ap (λ w. news_all limit w (take j (drop i rest))) here ∙ m.0,
+          ap (events_all limit u) (take-add i j rest)
+              ∙ events_append limit u (take i rest) (take j (drop i rest)) ∙ ap
+              (λ es. es ++ events_all limit (after_all u (take i rest)) (take j (drop i rest))) none
+              ∙ ap (λ w. events_all limit w (take j (drop i rest))) here ∙ m.0,
           ap is_ground (after_more u rest i j ∙ ap (λ w. after_all w (take j (drop i rest))) here)
               ∙ m.1,
         )
@@ -221,7 +221,7 @@ module _ (limit : Option ℕ) (u v : Unfinished) (rest : List ℕ) (i n : ℕ)
     still_at f h k a b (inl l) =
         let e : i + (k - i) ≡ k = omega arith in
         subst (λ j. Still limit u (take j rest)) e
-        (behind_still h (k - i) (omega arith) (omega arith))
+        (after_still h (k - i) (omega arith) (omega arith))
     still_at f h k a b (inr l) = f k a (omega arith)
 
     pub more_still : IsStill limit u rest (i + 1)
@@ -250,7 +250,7 @@ opens_at limit rest l e h (suc (suc (suc k))) a b = absurd (omega arith)
 module _ (limit : Option ℕ) (u : Unfinished) (rest : List ℕ) (l : 2 < length rest)
     (e : get_or rest 0 0 ≡ 0x1b)
     (begin : (after_all Ground (take 2 rest) ≡ u)
-    × (news_all limit Ground (take 2 rest) ≡ [])) (o : is_ground u ≡ false) where
+    × (events_all limit Ground (take 2 rest) ≡ [])) (o : is_ground u ≡ false) where
   pub opened_still : (n : ℕ) → IsStill limit u (take (length rest - 2) (drop 2 rest)) n
       → IsStill limit Ground rest (2 + n)
   opened_still n h =
@@ -261,7 +261,7 @@ module _ (limit : Option ℕ) (u : Unfinished) (rest : List ℕ) (l : 2 < length
 
   module _ {S : Type 0} (takes refuses : S → Event → S → Type 0) (is_ready : S
       → Type 0) (old new : S)
-      (f : (r : List ℕ) → lends u r ≡ true → is_fresh u ≡ true) where
+      (f : (r : List ℕ) → borrows u r ≡ true → is_fresh u ≡ true) where
     opened_first : StaysFresh Ground rest 2
     opened_first = fresh_by Ground u rest 2 begin.0 (f (drop 2 rest))
 
@@ -270,7 +270,7 @@ module _ (limit : Option ℕ) (u : Unfinished) (rest : List ℕ) (l : 2 < length
         (machine : Machine K A) (n : ℕ)
         → Holds keeps limit machine (after_all u (take n (take (length rest - 2) (drop 2 rest))))
         × FoldsTo takes old
-        (news_all limit u (take n (take (length rest - 2) (drop 2 rest)))) new
+        (events_all limit u (take n (take (length rest - 2) (drop 2 rest)))) new
         × StaysFresh u (take (length rest - 2) (drop 2 rest)) n
         → IsStill limit u (take (length rest - 2) (drop 2 rest)) n → (0 < n)
         × (n ≤ length (take (length rest - 2) (drop 2 rest))) × is_ready new
@@ -279,7 +279,8 @@ module _ (limit : Option ℕ) (u : Unfinished) (rest : List ℕ) (l : 2 < length
     opened_took keeps denied machine n t q a =
         let k = tail_length rest 2 in (
           ran_took limit takes refuses Ground u rest 2 old old new begin.0
-              (quiet_folds takes (news_all limit Ground (take 2 rest)) old begin.1) keeps machine n
+              (quiet_folds takes (events_all limit Ground (take 2 rest)) old begin.1) keeps machine
+              n
               opened_first t,
           opened_still n q,
           (omega (arith, a.0), omega (arith, a.1), a.2),
@@ -288,12 +289,12 @@ module _ (limit : Option ℕ) (u : Unfinished) (rest : List ℕ) (l : 2 < length
     pub opened_stops : {why : Type 0}
         → StopsAt ((may_grow_within u (take (length rest - 2) (drop 2 rest)) ≡ true) × why)
         takes refuses old
-        (news_all limit u (take (length rest - 2) (drop 2 rest))) new
+        (events_all limit u (take (length rest - 2) (drop 2 rest))) new
         → StopsAt ((may_grow_within Ground rest ≡ true) × why) takes refuses old
-        (news_all limit Ground rest) new
+        (events_all limit Ground rest) new
     opened_stops h =
         ran_ends limit takes refuses Ground u rest 2 old old new begin.0
-        (quiet_folds takes (news_all limit Ground (take 2 rest)) old begin.1) opened_first h
+        (quiet_folds takes (events_all limit Ground (take 2 rest)) old begin.1) opened_first h
 
 -- ---- a whole sequence in ground
 
@@ -303,7 +304,7 @@ two_still limit a b zero s l m = absurd (omega arith)
 two_still limit a b (suc zero) s l m = rw (
   lead_class a (two_parts a b s),
   after_by,
-  news_by,
+  events_by,
   move,
   pending_move,
   outcome,
@@ -314,9 +315,10 @@ three_still : (limit : Option ℕ) (a b c : ℕ) (k : ℕ) → is_sequence (a �
     → k < 3 → Still limit Ground (take k (a ∷ b ∷ c ∷ []))
 three_still limit a b c zero s l m = absurd (omega arith)
 three_still limit a b c (suc zero) s l m = let t = three_parts a b c s in
-    rw (lead_class a t.0, after_by, news_by, move, pending_move, outcome) (refl, refl)
+    rw (lead_class a t.0, after_by, events_by, move, pending_move, outcome) (refl, refl)
 three_still limit a b c (suc (suc zero)) s l m = let t = three_parts a b c s
-    in rw (lead_class a t.0, t.1, t.2, after_by, news_by, move, pending_move, outcome) (refl, refl)
+    in rw (lead_class a t.0, t.1, t.2, after_by, events_by, move, pending_move, outcome)
+    (refl, refl)
 three_still limit a b c (suc (suc (suc k))) s l m = absurd (omega arith)
 
 four_still : (limit : Option ℕ) (a b c d : ℕ) (k : ℕ) → is_sequence (a ∷ b ∷ c ∷ d ∷ []) ≡ true
@@ -324,9 +326,10 @@ four_still : (limit : Option ℕ) (a b c d : ℕ) (k : ℕ) → is_sequence (a �
     → Still limit Ground (take k (a ∷ b ∷ c ∷ d ∷ []))
 four_still limit a b c d zero s l m = absurd (omega arith)
 four_still limit a b c d (suc zero) s l m = let t = four_parts a b c d s in
-    rw (lead_class a t.0, after_by, news_by, move, pending_move, outcome) (refl, refl)
+    rw (lead_class a t.0, after_by, events_by, move, pending_move, outcome) (refl, refl)
 four_still limit a b c d (suc (suc zero)) s l m = let t = four_parts a b c d s
-    in rw (lead_class a t.0, t.1, t.2, after_by, news_by, move, pending_move, outcome) (refl, refl)
+    in rw (lead_class a t.0, t.1, t.2, after_by, events_by, move, pending_move, outcome)
+    (refl, refl)
 four_still limit a b c d (suc (suc (suc zero))) s l m = let t = four_parts a b c d s
     in rw (
       lead_class a t.0,
@@ -335,7 +338,7 @@ four_still limit a b c d (suc (suc (suc zero))) s l m = let t = four_parts a b c
       t.3,
       t.4,
       after_by,
-      news_by,
+      events_by,
       move,
       pending_move,
       outcome,

@@ -4,31 +4,32 @@ use Rattle.std.proofs.lemmas.List.{append-nil}
 use Rattle.esc_frame.specs.Classes.{class_of}
 use Rattle.esc_frame.specs.Events.{Event}
 use Rattle.esc_frame.specs.Segments.{Segment, HasShape, joined, bytes_of, events_of_within, is_finished}
-use Rattle.esc_frame.specs.Leads.{Unfinished, Stands, AreFinished, open_bytes, finished_events, finished_events_within, told_open}
+use Rattle.esc_frame.specs.Leads.{Unfinished, HasCut, AreFinished, open_bytes, finished_events, finished_events_within, emitted_open}
 use Rattle.esc_frame.specs.Leads.Unfinished.{Ground}
-use Rattle.esc_frame.specs.Machine.Moves.{after_by, news_by, after_all, news_all}
+use Rattle.esc_frame.specs.Machine.Moves.{after_by, events_by, after_all, events_all}
 use Rattle.esc_frame.specs.Stream.{events, events_within, added_within, Says}
-use Rattle.esc_frame.proofs.Cuts.{stands_tells, stands, events_of_the_cut}
+use Rattle.esc_frame.proofs.Cuts.{cut_emits, stands, events_of_the_cut}
 use Rattle.esc_frame.proofs.OneCut.{events_once}
 
--- what stands told the stream's events
-pub stands_events : (limit : Option ℕ) (s : List ℕ) (es : List Event) (gs : List Segment)
-    (u : Unfinished) → Stands limit s es gs u → es ≡ events_within limit s
-stands_events limit s es gs u st =
-    events_once limit s es (events_within limit s) (stands_tells s es gs u st)
+-- what is cut so far emitted the stream's events
+pub cut_events : (limit : Option ℕ) (s : List ℕ) (es : List Event) (gs : List Segment)
+    (u : Unfinished) → HasCut limit s es gs u → es ≡ events_within limit s
+cut_events limit s es gs u st =
+    events_once limit s es (events_within limit s) (cut_emits s es gs u st)
     (events_of_the_cut limit s)
 
-drop_front : {X : Type 0} (xs ys : List X) → drop (length xs) (xs ++ ys) ≡ ys
-drop_front [] ys = refl
-drop_front (x ∷ xs) ys = drop_front xs ys
+drop_prefix : {X : Type 0} (xs ys : List X) → drop (length xs) (xs ++ ys) ≡ ys
+drop_prefix [] ys = refl
+drop_prefix (x ∷ xs) ys = drop_prefix xs ys
 
--- the events of a front are a front of the events
-pub added_from : (limit : Option ℕ) (s b : List ℕ) (news : List Event)
-    → events_within limit s ++ news ≡ events_within limit (s ++ b)
-    → added_within limit s b ≡ news
+-- the events of a prefix are a prefix of the events
+pub added_from : (limit : Option ℕ) (s b : List ℕ) (new_events : List Event)
+    → events_within limit s ++ new_events ≡ events_within limit (s ++ b)
+    → added_within limit s b ≡ new_events
 unfolding added_within
-added_from limit s b news e =
-    ap (drop (length (events_within limit s))) (sym e) ∙ drop_front (events_within limit s) news
+added_from limit s b new_events e =
+    ap (drop (length (events_within limit s))) (sym e)
+    ∙ drop_prefix (events_within limit s) new_events
 
 -- ---- the machine, some bytes and then more
 
@@ -37,26 +38,26 @@ pub after_append : (u : Unfinished) (xs ys : List ℕ)
 after_append u [] ys = refl
 after_append u (b ∷ xs) ys = after_append (after_by u b (class_of b)) xs ys
 
-pub news_append : (limit : Option ℕ) (u : Unfinished) (xs ys : List ℕ)
-    → news_all limit u (xs ++ ys) ≡ news_all limit u xs ++ news_all limit (after_all u xs) ys
-news_append limit u [] ys = refl
-news_append limit u (b ∷ xs) ys =
+pub events_append : (limit : Option ℕ) (u : Unfinished) (xs ys : List ℕ)
+    → events_all limit u (xs ++ ys) ≡ events_all limit u xs ++ events_all limit (after_all u xs) ys
+events_append limit u [] ys = refl
+events_append limit u (b ∷ xs) ys =
     let v = after_by u b (class_of b) in
-    ap (λ z. news_by limit u b (class_of b) ++ z) (news_append limit v xs ys)
-    ∙ sym (append_assoc (news_by limit u b (class_of b)) (news_all limit v xs)
-    (news_all limit (after_all v xs) ys))
+    ap (λ z. events_by limit u b (class_of b) ++ z) (events_append limit v xs ys)
+    ∙ sym (append_assoc (events_by limit u b (class_of b)) (events_all limit v xs)
+    (events_all limit (after_all v xs) ys))
 
 -- ---- the events of a stream and of more of it
 
 module _ (limit : Option ℕ) where
-  events_then : (s b : List ℕ) → events_within limit s ++ news_all limit (after_all Ground s) b
+  events_then : (s b : List ℕ) → events_within limit s ++ events_all limit (after_all Ground s) b
       ≡ events_within limit (s ++ b)
   unfolding events_within
-  events_then s b = sym (news_append limit Ground s b)
+  events_then s b = sym (events_append limit Ground s b)
 
-  -- what more bytes add is what the machine tells of them
-  pub added_is : (s b : List ℕ) → added_within limit s b ≡ news_all limit (after_all Ground s) b
-  added_is s b = added_from limit s b (news_all limit (after_all Ground s) b) (events_then s b)
+  -- what more bytes add is what the machine emits of them
+  pub added_is : (s b : List ℕ) → added_within limit s b ≡ events_all limit (after_all Ground s) b
+  added_is s b = added_from limit s b (events_all limit (after_all Ground s) b) (events_then s b)
 
   pub events_more : (s b : List ℕ)
       → events_within limit s ++ added_within limit s b ≡ events_within limit (s ++ b)
@@ -81,12 +82,12 @@ joined-append [] hs = refl
 joined-append (g ∷ gs) hs = ap (λ x. bytes_of g ++ x) (joined-append gs hs)
     ∙ sym (append_assoc (bytes_of g) (joined gs) (joined hs))
 
-told-append : (limit : Option ℕ) (gs hs : List Segment)
+emitted-append : (limit : Option ℕ) (gs hs : List Segment)
     → finished_events_within limit (gs ++ hs)
     ≡ finished_events_within limit gs ++ finished_events_within limit hs
-told-append limit [] hs = refl
-told-append limit (g ∷ gs) hs =
-    ap (λ x. events_of_within limit g true ++ x) (told-append limit gs hs)
+emitted-append limit [] hs = refl
+emitted-append limit (g ∷ gs) hs =
+    ap (λ x. events_of_within limit g true ++ x) (emitted-append limit gs hs)
     ∙ sym (append_assoc (events_of_within limit g true) (finished_events_within limit gs)
     (finished_events_within limit hs))
 
@@ -105,11 +106,11 @@ are_append (g ∷ gs) hs r (sh, fi, f) k =
     )
 
 -- what follows finished segments has its own cut and its own events
-pub stands_after : (limit : Option ℕ) (gs : List Segment) (u : List ℕ) → AreFinished gs u
+pub cut_after : (limit : Option ℕ) (gs : List Segment) (u : List ℕ) → AreFinished gs u
     → (hs : List Segment)
-    × Stands limit (joined gs ++ u) (finished_events_within limit gs ++ events_within limit u) hs
+    × HasCut limit (joined gs ++ u) (finished_events_within limit gs ++ events_within limit u) hs
     (after_all Ground u)
-stands_after limit gs u f =
+cut_after limit gs u f =
     let w = stands limit u in
     let v = after_all Ground u in
     let st = w.1 in
@@ -121,9 +122,9 @@ stands_after limit gs u f =
         finished =
             are_append gs w.0 (open_bytes v) (subst (λ x. AreFinished gs x) st.whole f) st.finished;
         shape = st.shape;
-        told =
-            ap (λ x. had ++ x) st.told ∙ sym (append_assoc had got (told_open limit v))
-            ∙ ap (λ x. x ++ told_open limit v) (sym (told-append limit gs w.0));
+        emitted =
+            ap (λ x. had ++ x) st.emitted ∙ sym (append_assoc had got (emitted_open limit v))
+            ∙ ap (λ x. x ++ emitted_open limit v) (sym (emitted-append limit gs w.0));
       },
     )
 
@@ -131,8 +132,8 @@ pub events_after : (limit : Option ℕ) (gs : List Segment) (u : List ℕ) → A
     → events_within limit (joined gs ++ u)
     ≡ finished_events_within limit gs ++ events_within limit u
 events_after limit gs u f =
-    let w = stands_after limit gs u f in
-    sym (stands_events limit (joined gs ++ u)
+    let w = cut_after limit gs u f in
+    sym (cut_events limit (joined gs ++ u)
     (finished_events_within limit gs ++ events_within limit u) w.0 (after_all Ground u) w.1)
 
 -- The text of segments that are finished whatever follows says their events: the one fact about the
@@ -141,7 +142,7 @@ pub says_segments : (gs : List Segment) → ((rest : List ℕ) → AreFinished g
     → Says (joined gs) (finished_events gs)
 says_segments gs f rest = events_after None gs rest (f rest)
 
--- texts, one behind another
+-- texts, one after another
 pub says_nil : Says [] []
 says_nil rest = refl
 

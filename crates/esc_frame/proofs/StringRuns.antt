@@ -21,11 +21,11 @@ use Rattle.esc_frame.specs.Segments.{Opener, Piece, text_of, kept_of}
 use Rattle.esc_frame.specs.Segments.Piece.{One, Sequence}
 use Rattle.esc_frame.specs.Leads.{Unfinished, Holds}
 use Rattle.esc_frame.specs.Leads.Unfinished.{InData, InApc, InIgnored, InOsc}
-use Rattle.esc_frame.specs.Machine.Moves.{inside, goes_on, after_by, news_by, after_all, news_all}
+use Rattle.esc_frame.specs.Machine.Moves.{inside, goes_on, after_by, events_by, after_all, events_all}
 use Rattle.esc_frame.specs.Machine.TextRuns.{IsTextRun}
 use Rattle.esc_frame.proofs.ManyBytes.{quiet_run, text_class, run_passes, osc_sequence, tail_is}
 use Rattle.esc_frame.proofs.States.{data_only, skip_only}
-use Rattle.esc_frame.proofs.Streams.{after_append, news_append}
+use Rattle.esc_frame.proofs.Streams.{after_append, events_append}
 
 -- ---- an operating system command
 
@@ -38,12 +38,12 @@ text_byte b h = (grind (arith, nat_tests), grind (arith, nat_tests))
 osc_text : (limit : Option ℕ) (o : Opener) (ps : List Piece) (ys : List ℕ)
     → list_all is_text_byte ys ≡ true
     → (after_all (InOsc o ps) ys ≡ InOsc o (ps ++ map One ys))
-    × (news_all limit (InOsc o ps) ys ≡ [])
+    × (events_all limit (InOsc o ps) ys ≡ [])
 osc_text limit o ps [] h = (ap (InOsc o) (sym (append-nil ps)), refl)
 osc_text limit o ps (b ∷ ys) h =
     let k = and_parts (is_text_byte b) (list_all is_text_byte ys) h in
     let q = osc_text limit o (ps ++ One b ∷ []) ys k.1 in let p = text_byte b k.0 in
-    rw (p.0, p.1, after_by, news_by, inside, goes_on) (
+    rw (p.0, p.1, after_by, events_by, inside, goes_on) (
       q.0
           ∙ ap (InOsc o) (append_assoc ps (One b ∷ []) (map One ys)),
       q.1,
@@ -75,9 +75,9 @@ runs_append x y (qs, t, f) (rs, v, g) = (
       let b = g limit o (ps ++ qs) in (
         after_append (InOsc o ps) x y ∙ ap (λ u. after_all u y) a.0 ∙ b.0
             ∙ ap (InOsc o) (append_assoc ps qs rs),
-        news_append limit (InOsc o ps) x y
-            ∙ ap (λ es. es ++ news_all limit (after_all (InOsc o ps) x) y) a.1
-            ∙ ap (λ u. news_all limit u y) a.0 ∙ b.1,
+        events_append limit (InOsc o ps) x y
+            ∙ ap (λ es. es ++ events_all limit (after_all (InOsc o ps) x) y) a.1
+            ∙ ap (λ u. events_all limit u y) a.0 ∙ b.1,
       ),
 )
 
@@ -121,7 +121,7 @@ run_text ps (qs, t, f) = ap (λ z. text_of ps ++ z) (sym t) ∙ sym (flat_map-ap
 -- ---- the strings that a breaker ends
 
 pub apc_text : (limit : Option ℕ) (o : Opener) (d ys : List ℕ) → list_all is_text_byte ys ≡ true
-    → (after_all (InApc o d) ys ≡ InApc o (d ++ ys)) × (news_all limit (InApc o d) ys ≡ [])
+    → (after_all (InApc o d) ys ≡ InApc o (d ++ ys)) × (events_all limit (InApc o d) ys ≡ [])
 apc_text limit o =
     quiet_run limit (InApc o) is_text_byte (λ d b h. rw ((text_byte b h).0, inside) refl)
 
@@ -146,7 +146,7 @@ data_byte b h = (grind (arith, nat_tests), grind (arith, nat_tests))
 pub data_text : (limit : Option ℕ) (o : Opener) (x : List ℕ) (f : ℕ) (d ys : List ℕ)
     → is_read limit (strip x) ≡ true → list_all is_data_byte ys ≡ true
     → (after_all (InData o x f d) ys ≡ InData o x f (d ++ ys))
-    × (news_all limit (InData o x f d) ys ≡ map DcsPut ys)
+    × (events_all limit (InData o x f d) ys ≡ map DcsPut ys)
 data_text limit o x f d [] e h = (ap (InData o x f) (sym (append-nil d)), refl)
 data_text limit o x f d (b ∷ ys) e h =
     let k = and_parts (is_data_byte b) (list_all is_data_byte ys) h in
@@ -157,7 +157,7 @@ data_text limit o x f d (b ∷ ys) e h =
       p.0,
       p.1,
       after_by,
-      news_by,
+      events_by,
       inside,
       goes_on,
     ) (
@@ -170,14 +170,14 @@ data_text limit o x f d (b ∷ ys) e h =
 skip_data : (limit : Option ℕ) (o : Opener) (x : List ℕ) (f : ℕ) (d ys : List ℕ)
     → is_read limit (strip x) ≡ false → list_all is_text_byte ys ≡ true
     → (after_all (InData o x f d) ys ≡ InData o x f (d ++ ys))
-    × (news_all limit (InData o x f d) ys ≡ [])
+    × (events_all limit (InData o x f d) ys ≡ [])
 skip_data limit o x f d ys e = quiet_run limit (InData o x f) is_text_byte (λ d b h.
     rw (e, (text_byte b h).0, inside, goes_on) refl) d ys
 
 skip_ignored : (limit : Option ℕ) (i : Kind) (o : Opener) (d ys : List ℕ)
     → list_all is_text_byte ys ≡ true
     → (after_all (InIgnored i o d) ys ≡ InIgnored i o (d ++ ys))
-    × (news_all limit (InIgnored i o d) ys ≡ [])
+    × (events_all limit (InIgnored i o d) ys ≡ [])
 skip_ignored limit i o =
     quiet_run limit (InIgnored i o) is_text_byte (λ d b h. rw ((text_byte b h).0, inside) refl)
 
@@ -186,11 +186,11 @@ skip_ignored limit i o =
 module _ {K A : Type 0} (keeps : Option ℕ → K → List ℕ
     → Type 0) (limit : Option ℕ) (m : Machine K A) (ys : List ℕ) (p : list_all is_text_byte ys
     ≡ true) where
-  pub skip_holds : (u : Unfinished) → m.state ≡ state.Skip → Holds keeps limit m u
-      → Holds keeps limit m (after_all u ys) × (news_all limit u ys ≡ [])
+  pub skip_holds : (u : Unfinished) → m.state ≡ state.Ignored → Holds keeps limit m u
+      → Holds keeps limit m (after_all u ys) × (events_all limit u ys ≡ [])
   skip_holds u s h =
       skip_only keeps limit m u s h (λ v. Holds keeps limit m (after_all v ys)
-      × (news_all limit v ys ≡ []))
+      × (events_all limit v ys ≡ []))
       (λ o x f d e. let q = skip_data limit o x f d ys e p in rw (q.0, q.1) (rw (e, s) refl, refl))
       (λ k o d. let q = skip_ignored limit k o d ys p in rw (q.0, q.1) (s, refl))
 
@@ -198,8 +198,8 @@ pub data_holds : {K A : Type 0} (keeps : Option ℕ → K → List ℕ
     → Type 0) (limit : Option ℕ) (m : Machine K A) (ys : List ℕ) → list_all is_data_byte ys ≡ true
     → (u : Unfinished) → m.state ≡ state.Data
     → Holds keeps limit m u → Holds keeps limit m (after_all u ys)
-    × (news_all limit u ys ≡ map DcsPut ys)
+    × (events_all limit u ys ≡ map DcsPut ys)
 data_holds keeps limit m ys p u s h =
     data_only keeps limit m u s h (λ v. Holds keeps limit m (after_all v ys)
-    × (news_all limit v ys ≡ map DcsPut ys))
+    × (events_all limit v ys ≡ map DcsPut ys))
     (λ o x f d e. let q = data_text limit o x f d ys e p in rw (q.0, q.1) (rw (e, s) refl, refl))

@@ -2,6 +2,6 @@
 use Rattle.std.specs.Borrow.{MutBor}
 use denote.Triple.Both.{Both}
 
--- a value behind a `&mut`, before a call and after it
+-- a value after a `&mut`, before a call and after it
 abbrev pub Changed : Type 0 → Type 0
 Changed T = Both (MutBor T) (MutBor T)

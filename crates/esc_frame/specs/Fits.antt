@@ -1,7 +1,7 @@
 -- What the events of any stream can be, and texts that are one segment.
 use Rattle.std.specs.Prelude.{ℕ, ◌≡◌, true, false, ◌||◌, ◌&&◌, List, [], ◌∷◌}
 use Rattle.esc_values.specs.Clear.{is_clear, AreTextParts}
-use Rattle.esc_frame.specs.Classes.{class_of, AllOf, in_body, is_control, is_raw_control, is_intermediate, ends_escape, opens, ends_csi, is_put, is_text}
+use Rattle.esc_frame.specs.Classes.{class_of, AllOf, in_body, is_control, is_c1, is_intermediate, ends_escape, opens, ends_csi, is_put, is_text}
 use Rattle.esc_frame.specs.Bodies.{is_csi_body, is_dcs_header}
 use Rattle.esc_frame.specs.Events.{Event}
 use Rattle.esc_frame.specs.Events.Event.{Print, Execute, EscDispatch, CsiDispatch, OscDispatch, DcsHook, DcsPut, DcsUnhook, ApcDispatch}
@@ -12,7 +12,7 @@ use Rattle.esc_frame.specs.Segments.{Segment, HasShape, bytes_of, events_of, end
 -- data; a text of 20-7F
 abbrev pub IsFit : Event → Type 0
 IsFit (Print c) = is_clear c ≡ true
-IsFit (Execute b) = (is_control (class_of b) || is_raw_control (class_of b)) ≡ true
+IsFit (Execute b) = (is_control (class_of b) || is_c1 (class_of b)) ≡ true
 IsFit (EscDispatch is more f) =
     AllOf is_intermediate is × (ends_escape (class_of f) ≡ true) ×
     ((x : List ℕ) × AllOf is_intermediate x × (EscDispatch is more f ≡ escape_event x f)

@@ -7,9 +7,9 @@ use Rattle.esc_frame.specs.declared.classes.Kind.TheVariants as kind
 use Rattle.esc_frame.specs.declared.machine.State.TheVariants as state
 use Rattle.esc_frame.specs.declared.machine.Machine.{Machine}
 use Rattle.esc_frame.specs.Classes.{strip, those, is_text}
-use Rattle.esc_frame.specs.Sequences.{is_front}
+use Rattle.esc_frame.specs.Sequences.{is_prefix}
 use Rattle.esc_frame.specs.Limits.{is_read, kept_within, header_count}
-use Rattle.esc_frame.specs.Machine.Fronts.{front_of}
+use Rattle.esc_frame.specs.Machine.Prefixes.{prefix_of}
 use Rattle.esc_frame.specs.Machine.Keeps.{Keeps, KeepsBody, KeepsDcs, parameters_of}
 use Rattle.esc_frame.specs.Events.{Event}
 use Rattle.esc_frame.specs.Segments.{Segment, Opener, Piece, opener, opener_events, text_of, text_bytes, HasShape, IsOpener, ArePieces, is_finished, is_empty}
@@ -19,7 +19,7 @@ use Rattle.esc_frame.specs.Segments.Segment.{CutEscape, CutCsi, CutDcs, Dcs, Apc
 -- the last segment, where it is unfinished, taken apart
 pub data Unfinished : Type 0 where
   Ground : Unfinished
-  -- a front of a sequence
+  -- a prefix of a sequence
   Pending : List ℕ → Unfinished
   InEscape : List ℕ → Unfinished
   InCsi : Opener → List ℕ → Unfinished
@@ -28,7 +28,7 @@ pub data Unfinished : Type 0 where
   InApc : Opener → List ℕ → Unfinished
   InIgnored : Kind → Opener → List ℕ → Unfinished
   InOsc : Opener → List Piece → Unfinished
-  -- a front stands behind the units
+  -- a prefix stands after the units
   InOscPending : Opener → List Piece → List ℕ → Unfinished
 
 abbrev pub osc_bytes : Opener → List Piece → List ℕ
@@ -49,7 +49,7 @@ open_bytes (InOscPending o ps f) = osc_bytes o ps ++ f
 
 abbrev pub OpenShape : Unfinished → Type 0
 OpenShape Ground = Unit {0}
-OpenShape (Pending f) = is_front f ≡ true
+OpenShape (Pending f) = is_prefix f ≡ true
 OpenShape (InEscape x) = HasShape (CutEscape x) []
 OpenShape (InCsi o x) = HasShape (CutCsi o x) []
 OpenShape (InDcs o x) = HasShape (CutDcs o x) []
@@ -57,7 +57,7 @@ OpenShape (InData o x f d) = HasShape (Dcs o x f d) []
 OpenShape (InApc o d) = HasShape (Apc o d) []
 OpenShape (InIgnored k o d) = HasShape (Ignored k o d) []
 OpenShape (InOsc o ps) = IsOpener o × ArePieces ps []
-OpenShape (InOscPending o ps f) = IsOpener o × ArePieces ps f × (is_front f ≡ true)
+OpenShape (InOscPending o ps f) = IsOpener o × ArePieces ps f × (is_prefix f ≡ true)
 
 -- each has its shape and is finished where these bytes follow the last
 abbrev pub AreFinished : List Segment → List ℕ → Type 0
@@ -69,21 +69,21 @@ AreFinished (g ∷ gs) rest = HasShape g (joined gs ++ rest)
 -- says what its store keeps of a text
 abbrev pub Holds : {K A : Type 0} → (Option ℕ → K → List ℕ → Type 0) → Option ℕ → Machine K A
     → Unfinished → Type 0
-Holds keeps limit m Ground = (m.state ≡ state.Ground) × (front_of m.pending ≡ [])
-Holds keeps limit m (Pending f) = (m.state ≡ state.Ground) × (front_of m.pending ≡ f)
+Holds keeps limit m Ground = (m.state ≡ state.Ground) × (prefix_of m.pending ≡ [])
+Holds keeps limit m (Pending f) = (m.state ≡ state.Ground) × (prefix_of m.pending ≡ f)
     × (is_empty f ≡ false)
 Holds keeps limit m (InEscape x) = (m.state ≡ state.Escape) × Keeps m.intermediates (strip x)
 Holds keeps limit m (InCsi o x) = (m.state ≡ state.Csi) × KeepsBody m.body (strip x)
 Holds keeps limit m (InDcs o x) = (m.state ≡ state.Dcs)
     × keeps limit m.text (parameters_of (strip x)) × KeepsDcs m.header (strip x)
 Holds keeps limit m (InData o x f d) =
-    m.state ≡ (if is_read limit (strip x) then state.Data else state.Skip)
+    m.state ≡ (if is_read limit (strip x) then state.Data else state.Ignored)
 Holds keeps limit m (InApc o d) = (m.state ≡ state.Apc) × keeps limit m.text (those is_text d)
-Holds keeps limit m (InIgnored k o d) = m.state ≡ state.Skip
+Holds keeps limit m (InIgnored k o d) = m.state ≡ state.Ignored
 Holds keeps limit m (InOsc o ps) = (m.state ≡ state.Osc) × keeps limit m.text (text_of ps)
-    × (front_of m.pending ≡ [])
+    × (prefix_of m.pending ≡ [])
 Holds keeps limit m (InOscPending o ps f) = (m.state ≡ state.Osc) × keeps limit m.text (text_of ps)
-    × (front_of m.pending ≡ f) × (is_empty f ≡ false)
+    × (prefix_of m.pending ≡ f) × (is_empty f ≡ false)
 
 -- the count of what is kept of it
 abbrev pub kept_open : Option ℕ → Unfinished → ℕ
@@ -93,31 +93,32 @@ kept_open limit (InApc o d) = kept_within limit (length (those is_text d))
 kept_open limit (InDcs o x) = kept_within limit (header_count (strip x))
 kept_open limit _ = 0
 
--- what the finished segments have told
+-- what the finished segments have emitted
 abbrev pub finished_events_within : Option ℕ → List Segment → List Event
 finished_events_within limit gs = flat_map (λ g. events_of_within limit g true) gs
 
 abbrev pub finished_events : List Segment → List Event
 finished_events gs = finished_events_within None gs
 
--- what the unfinished segment has told
-abbrev pub told_open : Option ℕ → Unfinished → List Event
-told_open limit Ground = []
-told_open limit (Pending f) = []
-told_open limit (InEscape x) = executes x
-told_open limit (InCsi o x) = opener_events o ++ executes x
-told_open limit (InDcs o x) = opener_events o
-told_open limit (InData o x f d) =
+-- what the unfinished segment has emitted
+abbrev pub emitted_open : Option ℕ → Unfinished → List Event
+emitted_open limit Ground = []
+emitted_open limit (Pending f) = []
+emitted_open limit (InEscape x) = executes x
+emitted_open limit (InCsi o x) = opener_events o ++ executes x
+emitted_open limit (InDcs o x) = opener_events o
+emitted_open limit (InData o x f d) =
     opener_events o ++ (if is_read limit (strip x) then hook_event (strip x) f ∷ puts d else [])
-told_open limit (InApc o d) = opener_events o
-told_open limit (InIgnored k o d) = opener_events o
-told_open limit (InOsc o ps) = opener_events o
-told_open limit (InOscPending o ps f) = opener_events o
+emitted_open limit (InApc o d) = opener_events o
+emitted_open limit (InIgnored k o d) = opener_events o
+emitted_open limit (InOsc o ps) = opener_events o
+emitted_open limit (InOscPending o ps f) = opener_events o
 
--- the stream has a cut with these finished segments and this unfinished one, and told these events
-pub record Stands (limit : Option ℕ) (stream : List ℕ) (events : List Event) (gs : List Segment)
+-- the stream has a cut with these finished segments and this unfinished one, and emitted these
+-- events
+pub record HasCut (limit : Option ℕ) (stream : List ℕ) (events : List Event) (gs : List Segment)
     (u : Unfinished) : Type 0 where
   pub whole : stream ≡ joined gs ++ open_bytes u
   pub finished : AreFinished gs (open_bytes u)
   pub shape : OpenShape u
-  pub told : events ≡ finished_events_within limit gs ++ told_open limit u
+  pub emitted : events ≡ finished_events_within limit gs ++ emitted_open limit u

@@ -2,7 +2,7 @@
 -- cites these but through `LeadsTo` and the body of `events` in Stream; the laws say all that the
 -- crates above use.
 pub mod Cells
-pub mod Fronts
+pub mod Prefixes
 pub mod Keeps
 pub mod Moves
 pub mod Calls

@@ -3,17 +3,17 @@ use Rattle.std.specs.Prelude.{ℕ, ◌≡◌, ◌&&◌, ◌||◌, Bool, true, fa
 use Rattle.std.specs.List.{flat_map}
 use Rattle.esc_frame.specs.declared.classes.Kind.{Kind}
 use Rattle.esc_frame.specs.declared.classes.Kind.TheVariants as kind
-use Rattle.esc_frame.specs.Classes.{class_of, AllOf, those, strip, is_plain, is_raw, is_breaker, is_noise, is_control, is_raw_control, is_terminator, is_text}
+use Rattle.esc_frame.specs.Classes.{class_of, AllOf, those, strip, is_c0, is_raw, is_breaker, is_noise, is_control, is_c1, is_terminator, is_text}
 use Rattle.esc_frame.specs.Classes.{is_high, in_escape, ends_escape, opens, in_csi, ends_csi, in_osc, in_data, is_put, is_ignored, letter_of, raw_of}
-use Rattle.esc_frame.specs.Sequences.{is_sequence, is_front, is_pair, is_broken_before, number_of}
+use Rattle.esc_frame.specs.Sequences.{is_sequence, is_prefix, is_pair, is_broken_before, number_of}
 use Rattle.esc_values.specs.Clear.{parts_of}
 use Rattle.esc_frame.specs.Events.{Event}
 use Rattle.esc_frame.specs.Events.Event.{Print, Execute, EscDispatch, CsiDispatch, OscDispatch, DcsHook, DcsPut, DcsUnhook, ApcDispatch}
 use Rattle.esc_frame.specs.Limits.{is_within, is_read}
-use Rattle.esc_frame.specs.Bodies.{is_csi_body, kept_entries, has_more_entries, dcs_params, dcs_intermediates, kept_intermediates}
+use Rattle.esc_frame.specs.Bodies.{is_csi_body, kept_csi_params, has_more_csi_params, dcs_params, dcs_intermediates, kept_intermediates}
 use Rattle.esc_frame.specs.Bodies.{has_more_intermediates}
 
--- ESC, noise and the letter; or the control, raw or behind C2
+-- ESC, noise and the letter; or the control, raw or after C2
 pub data Opener : Type 0 where
   Long : List ℕ → Opener
   Raw : Opener
@@ -44,7 +44,7 @@ piece_bytes (BrokenOff x) = x
 abbrev pub IsPiece : Piece → List ℕ → Type 0
 IsPiece (One b) after = in_osc (class_of b) ≡ true
 IsPiece (Sequence x) after = (is_sequence x ≡ true) × (is_pair x ≡ false)
-IsPiece (BrokenOff x) after = (is_front x ≡ true) × (is_broken_before x after ≡ true)
+IsPiece (BrokenOff x) after = (is_prefix x ≡ true) × (is_broken_before x after ≡ true)
 
 abbrev pub text_bytes : List Piece → List ℕ
 text_bytes ps = flat_map piece_bytes ps
@@ -70,15 +70,15 @@ pub data Segment : Type 0 where
   Character : ℕ → Segment
   -- a character: a well-formed sequence that is no control
   Wide : List ℕ → Segment
-  -- a proper front of a sequence, broken off or pending
+  -- a proper prefix of a sequence, broken off or pending
   Broken : List ℕ → Segment
   -- a stray byte: A0-C1, F5-FF
   Stray : ℕ → Segment
   -- a C0 that stands alone
   Control : ℕ → Segment
-  -- a C1 that stands alone, raw (false) or behind C2 (true)
+  -- a C1 that stands alone, raw (false) or after C2 (true)
   HighControl : Bool → ℕ → Segment
-  -- a string terminator that stands alone, raw (false) or behind C2 (true)
+  -- a string terminator that stands alone, raw (false) or after C2 (true)
   Terminator : Bool → ℕ → Segment
   -- ESC, intermediates and noise, the final byte
   Escape : List ℕ → ℕ → Segment
@@ -98,9 +98,9 @@ pub data Segment : Type 0 where
   CutCsi : Opener → List ℕ → Segment
   CutDcs : Opener → List ℕ → Segment
 
-abbrev pub behind_c2 : Bool → ℕ → List ℕ
-behind_c2 true b = 0xc2 ∷ b ∷ []
-behind_c2 false b = b ∷ []
+abbrev pub after_c2 : Bool → ℕ → List ℕ
+after_c2 true b = 0xc2 ∷ b ∷ []
+after_c2 false b = b ∷ []
 
 abbrev pub bytes_of : Segment → List ℕ
 bytes_of (Character b) = b ∷ []
@@ -108,8 +108,8 @@ bytes_of (Wide x) = x
 bytes_of (Broken x) = x
 bytes_of (Stray b) = b ∷ []
 bytes_of (Control b) = b ∷ []
-bytes_of (HighControl p b) = behind_c2 p b
-bytes_of (Terminator p b) = behind_c2 p b
+bytes_of (HighControl p b) = after_c2 p b
+bytes_of (Terminator p b) = after_c2 p b
 bytes_of (Escape x f) = (0x1b ∷ x) ++ f ∷ []
 bytes_of (Csi o x f) = opener kind.Csi o ++ x ++ f ∷ []
 bytes_of (Osc o ps e) = opener kind.Osc o ++ text_bytes ps ++ ending_bytes e
@@ -127,16 +127,16 @@ is_empty (_ ∷ _) = false
 abbrev pub IsEnding : Ending → Type 0
 IsEnding Open = Unit {0}
 IsEnding Rung = Unit {0}
-IsEnding (Waits f) = is_front f ≡ true
+IsEnding (Waits f) = is_prefix f ≡ true
 
 -- it has its shape where these bytes follow
 abbrev pub HasShape : Segment → List ℕ → Type 0
 HasShape (Character b) after = is_text (class_of b) ≡ true
 HasShape (Wide x) after = (is_sequence x ≡ true) × (is_pair x ≡ false)
-HasShape (Broken x) after = is_front x ≡ true
+HasShape (Broken x) after = is_prefix x ≡ true
 HasShape (Stray b) after = is_high (class_of b) ≡ true
 HasShape (Control b) after = is_control (class_of b) ≡ true
-HasShape (HighControl p b) after = is_raw_control (class_of b) ≡ true
+HasShape (HighControl p b) after = is_c1 (class_of b) ≡ true
 HasShape (Terminator p b) after = is_terminator (class_of b) ≡ true
 HasShape (Escape x f) after = AllOf in_escape x × (ends_escape (class_of f) ≡ true)
     × ((is_empty (strip x) && opens (class_of f)) ≡ false)
@@ -206,7 +206,7 @@ pub record IsCut (stream : List ℕ) (gs : List Segment) : Type 0 where
   pub each : AreSegments gs
 
 abbrev pub executes : List ℕ → List Event
-executes bytes = map Execute (those is_plain bytes)
+executes bytes = map Execute (those is_c0 bytes)
 
 abbrev pub opener_events : Opener → List Event
 opener_events (Long n) = executes n
@@ -228,7 +228,7 @@ escape_event x f = EscDispatch (kept_intermediates x) (has_more_intermediates x)
 
 -- what a control sequence with this body dispatches: nothing where the body is of another form
 abbrev pub csi_event : List ℕ → ℕ → Event
-csi_event x f = CsiDispatch (kept_entries x) (has_more_entries x) f
+csi_event x f = CsiDispatch (kept_csi_params x) (has_more_csi_params x) f
 
 abbrev pub csi_events : List ℕ → ℕ → List Event
 csi_events x f = if is_csi_body x then csi_event x f ∷ [] else []
@@ -279,7 +279,7 @@ events_of_cut_within limit (g ∷ []) = events_of_within limit g (ends_itself g)
 events_of_cut_within limit (g ∷ h ∷ gs) =
     events_of_within limit g true ++ events_of_cut_within limit (h ∷ gs)
 
--- what a stream tells: the events of its cut
+-- what a stream emits: the events of its cut
 abbrev pub HasEventsWithin : Option ℕ → List ℕ → List Event → Type 0
 HasEventsWithin limit stream events = (gs : List Segment) × IsCut stream gs
     × (events ≡ events_of_cut_within limit gs)

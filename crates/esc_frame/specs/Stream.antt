@@ -6,14 +6,14 @@ use Rattle.esc_frame.specs.Segments.{Segment, IsCut, ends_itself, joined}
 use Rattle.esc_frame.specs.Leads.{AreFinished, Holds}
 use Rattle.esc_frame.specs.Leads.Unfinished.{Ground}
 use Rattle.esc_frame.specs.Machine.Keeps.{KeepsText}
-use Rattle.esc_frame.specs.Machine.Moves.{after_all, news_all}
+use Rattle.esc_frame.specs.Machine.Moves.{after_all, events_all}
 
 -- The events of a stream, where of each string no more is kept than the limit: of a longer one
--- nothing is told. The laws `events_of_the_cut_within` and `events_once_within` fix it: they are
--- those that the stream's one cut tells, and no others. Nothing above this crate uses more of its
+-- nothing is emitted. The laws `events_of_the_cut_within` and `events_once_within` fix it: they are
+-- those that the stream's one cut emits, and no others. Nothing above this crate uses more of its
 -- body, which takes byte after byte as the code does.
 unfoldable pub events_within : Option ℕ → List ℕ → List Event
-events_within limit s = news_all limit Ground s
+events_within limit s = events_all limit Ground s
 
 -- what b adds to the events of s
 unfoldable pub added_within : Option ℕ → List ℕ → List ℕ → List Event

@@ -10,7 +10,7 @@ ghost use Rattle.esc_frame.specs.Machine.Calls.{Stops};
 ghost use Rattle.esc_frame.specs.Machine.Keeping.{Holding, KeepingDcs, KeepingHeader, InPassthrough};
 ghost use Rattle.esc_frame.specs.Machine.Makes.{Emits, Makes, Consumes, Advances};
 ghost use Rattle.esc_frame.specs.Machine.Keeps.{KeepsDcs, parameters_of};
-ghost use Rattle.esc_frame.specs.Machine.Moves.{telling, ground_move, move};
+ghost use Rattle.esc_frame.specs.Machine.Moves.{emitting, ground_move, move};
 ghost use Rattle.esc_frame.specs.Segments.{hook_event};
 
 use crate::classes::Class;
@@ -40,22 +40,22 @@ impl<K: Store, A: Allocator> Machine<K, A> {
         match class {
             Class::Cancel
             | Class::Escape
-            | Class::RawControl
-            | Class::RawOpens(_)
-            | Class::RawTerminator => { self.in_ground(b, class, actor) }
-            Class::Plain | Class::Bell | Class::Delete | Class::High | Class::Lead => Ok(()),
+            | Class::C1
+            | Class::C1Introducer(_)
+            | Class::C1Terminator => { self.in_ground(b, class, actor) }
+            Class::C0 | Class::Bell | Class::Delete | Class::High | Class::Lead => Ok(()),
             Class::Intermediate | Class::Parameter => keep(
                 limit,
                 &mut self.header,
                 &mut self.text,
                 b,
             ),
-            Class::Opens(_) | Class::Final => {
+            Class::Introducer(_) | Class::Final => {
                 if is_read(&self.header, &self.text) {
                     self.state = State::Data;
                     hook(&self.header, &self.text, &self.alloc, b, actor)
                 } else {
-                    self.state = State::Skip;
+                    self.state = State::Ignored;
                     Ok(())
                 }
             }
@@ -63,7 +63,7 @@ impl<K: Store, A: Allocator> Machine<K, A> {
     }
 
     /// A byte of a DCS's data, whose header has its form.
-    #[tactic(auto, using(crate::proofs::Given::hears_moved))]
+    #[tactic(auto, using(crate::proofs::Given::receives_moved))]
     pub fn in_data<V: Taker>(&mut self, b: u8, class: Class, actor: &mut V) -> Result<()>
         requires { V.is_ready actor.old }
         ensures moved { InPassthrough (λ limit u.
@@ -74,17 +74,17 @@ impl<K: Store, A: Allocator> Machine<K, A> {
         match class {
             Class::Cancel
             | Class::Escape
-            | Class::RawControl
-            | Class::RawOpens(_)
-            | Class::RawTerminator => { self.leave_data(b, class, actor) }
+            | Class::C1
+            | Class::C1Introducer(_)
+            | Class::C1Terminator => { self.leave_data(b, class, actor) }
             Class::Delete => Ok(()),
-            Class::Plain
+            Class::C0
             | Class::Bell
             | Class::High
             | Class::Lead
             | Class::Intermediate
             | Class::Parameter
-            | Class::Opens(_)
+            | Class::Introducer(_)
             | Class::Final => actor.dcs_put(b),
         }
     }
@@ -94,7 +94,7 @@ impl<K: Store, A: Allocator> Machine<K, A> {
         requires { V.is_ready actor.old }
         ensures moved { (limit : Option ℕ)
             → Makes K.Store V.Taker limit true result
-            (telling (DcsUnhook ∷ []) (ground_move b class)) self actor }
+            (emitting (DcsUnhook ∷ []) (ground_move b class)) self actor }
         ensures ready { OnOk result (V.is_ready actor.new) }
     {
         match actor.dcs_unhook() {
@@ -157,7 +157,7 @@ fn is_read<K: Store>(header: &DcsHeader, parameters: &K) -> bool
     !parameters.is_over() && header.is_formed()
 }
 
-// The hook of a header that is read, told.
+// The hook of a header that is read, emitted.
 fn hook<K: Store, A: Allocator, V: Taker>(
     header: &DcsHeader,
     parameters: &K,
@@ -166,7 +166,7 @@ fn hook<K: Store, A: Allocator, V: Taker>(
     actor: &mut V,
 ) -> Result<()>
     requires { V.is_ready actor.old }
-    ensures told { KeepingHeader K.Store parameters.now header.now (λ limit x.
+    ensures emitted { KeepingHeader K.Store parameters.now header.now (λ limit x.
         is_read limit x ≡ true
         → Emits V.Taker (Stops V.stops A limit) result (hook_event x b ∷ []) actor) }
     ensures ready { OnOk result (V.is_ready actor.new) }

@@ -27,7 +27,7 @@ use std::alloc::Allocator;
 
 impl<K: Store, A: Allocator> Machine<K, A> {
     /// A byte after ESC x.
-    #[tactic(auto, using(crate::proofs::Given::hears_moved))]
+    #[tactic(auto, using(crate::proofs::Given::receives_moved))]
     pub fn in_escape<V: Taker>(&mut self, b: u8, class: Class, actor: &mut V) -> Result<()>
         requires { V.is_ready actor.old }
         ensures moved { class ≡ class_of b → KeepingEscape self (λ limit own u.
@@ -38,17 +38,17 @@ impl<K: Store, A: Allocator> Machine<K, A> {
         match class {
             Class::Cancel
             | Class::Escape
-            | Class::RawControl
-            | Class::RawOpens(_)
-            | Class::RawTerminator => { self.in_ground(b, class, actor) }
-            Class::Plain | Class::Bell => actor.execute_c0_or_c1(b),
+            | Class::C1
+            | Class::C1Introducer(_)
+            | Class::C1Terminator => { self.in_ground(b, class, actor) }
+            Class::C0 | Class::Bell => actor.execute_c0_or_c1(b),
             Class::Delete | Class::High | Class::Lead => Ok(()),
             Class::Intermediate => {
                 self.intermediates.push(b);
                 Ok(())
             }
             Class::Parameter | Class::Final => self.dispatch_escape(b, actor),
-            Class::Opens(kind) => {
+            Class::Introducer(kind) => {
                 if self.intermediates.kept == 0 {
                     self.open(kind);
                     Ok(())
@@ -108,7 +108,7 @@ impl<K: Store, A: Allocator> Machine<K, A> {
     fn dispatch_escape<V: Taker>(&mut self, b: u8, actor: &mut V) -> Result<()>
         requires { V.is_ready actor.old }
         ensures holds { Holds K.keeps None self.new Ground }
-        ensures told { EmitsOne V.Taker result
+        ensures emitted { EmitsOne V.Taker result
             (EscDispatch (take self.old.intermediates.kept self.old.intermediates.bytes)
             self.old.intermediates.ignored b) actor }
         ensures ready { OnOk result (V.is_ready actor.new) }
@@ -124,7 +124,7 @@ impl<K: Store, A: Allocator> Machine<K, A> {
     }
 
     /// A byte after a CSI's opener and x.
-    #[tactic(auto, using(crate::proofs::Given::hears_moved))]
+    #[tactic(auto, using(crate::proofs::Given::receives_moved))]
     pub fn in_csi<V: Taker>(&mut self, b: u8, class: Class, actor: &mut V) -> Result<()>
         requires { V.is_ready actor.old }
         ensures moved { class ≡ class_of b → KeepingCsi self (λ limit u.
@@ -135,16 +135,16 @@ impl<K: Store, A: Allocator> Machine<K, A> {
         match class {
             Class::Cancel
             | Class::Escape
-            | Class::RawControl
-            | Class::RawOpens(_)
-            | Class::RawTerminator => { self.in_ground(b, class, actor) }
-            Class::Plain | Class::Bell => actor.execute_c0_or_c1(b),
+            | Class::C1
+            | Class::C1Introducer(_)
+            | Class::C1Terminator => { self.in_ground(b, class, actor) }
+            Class::C0 | Class::Bell => actor.execute_c0_or_c1(b),
             Class::Delete | Class::High | Class::Lead => Ok(()),
             Class::Intermediate | Class::Parameter => {
                 self.body.push(b);
                 Ok(())
             }
-            Class::Opens(_) | Class::Final => self.dispatch_csi(b, actor),
+            Class::Introducer(_) | Class::Final => self.dispatch_csi(b, actor),
         }
     }
 
@@ -159,7 +159,7 @@ impl<K: Store, A: Allocator> Machine<K, A> {
         self.state = State::Ground;
         self.pending = Pending::Nothing;
         if self.body.is_formed() {
-            tell_csi(&mut self.body, b, actor)
+            emit_csi(&mut self.body, b, actor)
         } else {
             Ok(())
         }
@@ -236,7 +236,7 @@ impl<K: Store, A: Allocator> Machine<K, A> {
         }
     }
 
-    // A control sequence whose entries were read.
+    // A control sequence whose parameters were read.
     #[inline(always)]
     fn take_short_csi<V: Taker>(&mut self, rest: &[u8], run: usize, actor: &mut V) -> Result<usize>
         requires some { 2 < length rest.now }
@@ -328,16 +328,20 @@ impl<K: Store, A: Allocator> Machine<K, A> {
     }
 }
 
-// A control sequence whose body has its form, told.
-#[tactic(auto, using(crate::proofs::Given::hears_takes))]
-fn tell_csi<V: Taker>(body: &mut CsiBody, b: u8, actor: &mut V) -> Result<()>
+// A control sequence whose body has its form, emitted.
+#[tactic(auto, using(crate::proofs::Given::receives_takes))]
+fn emit_csi<V: Taker>(body: &mut CsiBody, b: u8, actor: &mut V) -> Result<()>
     requires { V.is_ready actor.old }
-    ensures told { (x : List ℕ) → KeepsBody body.old x
+    ensures emitted { (x : List ℕ) → KeepsBody body.old x
         → Emits V.Taker ⊥ result (csi_event x b ∷ []) actor }
     ensures ready { OnOk result (V.is_ready actor.new) }
 {
     body.finish();
-    actor.csi_dispatch(body.entries.items.as_slice(), body.entries.is_truncated, b)
+    actor.csi_dispatch(
+        body.csi_params.items.as_slice(),
+        body.csi_params.is_truncated,
+        b,
+    )
 }
 
 // Pushes the run of 20-3F that comes first, and returns its length.

@@ -4,9 +4,9 @@
 ghost use Rattle.std.specs.Prelude.{◌≡◌, ◌<◌, ◌++◌, ◌∷◌, ℕ, List, Option, None, [], Bool, true, length, OnOk, IfOk};
 ghost use Rattle.esc_frame.specs.Leads.{Holds};
 ghost use Rattle.esc_frame.specs.Leads.Unfinished.{Ground};
-ghost use Rattle.esc_frame.specs.Machine.Fronts.{front_of};
+ghost use Rattle.esc_frame.specs.Machine.Prefixes.{prefix_of};
 ghost use Rattle.esc_frame.specs.Machine.Makes.{Makes, AlwaysMakes, Consumes, ConsumesSome, StaysInGround, Advances};
-ghost use Rattle.esc_frame.specs.Machine.Moves.{telling, ground_move, pair_move, pending_move};
+ghost use Rattle.esc_frame.specs.Machine.Moves.{emitting, ground_move, pair_move, pending_move};
 ghost use Rattle.esc_frame.specs.Events.Event.{Print};
 ghost use Rattle.esc_frame.specs.Sequences.{outcome, is_sequence};
 
@@ -21,7 +21,7 @@ use std::alloc::Allocator;
 
 impl<K: Store, A: Allocator> Machine<K, A> {
     /// A byte in ground, with nothing pending.
-    #[tactic(auto, using(crate::proofs::Given::hears_moved))]
+    #[tactic(auto, using(crate::proofs::Given::receives_moved))]
     pub fn in_ground<V: Taker>(&mut self, b: u8, class: Class, actor: &mut V) -> Result<()>
         requires { V.is_ready actor.old }
         ensures moved { AlwaysMakes K.Store V.Taker result (ground_move b class) self actor }
@@ -30,18 +30,17 @@ impl<K: Store, A: Allocator> Machine<K, A> {
         self.state = State::Ground;
         self.pending = Pending::Nothing;
         match class {
-            Class::Plain | Class::Bell | Class::Cancel | Class::RawControl =>
-                actor.execute_c0_or_c1(b),
+            Class::C0 | Class::Bell | Class::Cancel | Class::C1 => actor.execute_c0_or_c1(b),
             Class::Escape => {
                 self.intermediates = Intermediates::new();
                 self.state = State::Escape;
                 Ok(())
             }
-            Class::RawOpens(kind) => {
+            Class::C1Introducer(kind) => {
                 self.open(kind);
                 Ok(())
             }
-            Class::RawTerminator => Ok(()),
+            Class::C1Terminator => Ok(()),
             Class::Lead => {
                 self.pending = Pending::One(b);
                 Ok(())
@@ -49,14 +48,14 @@ impl<K: Store, A: Allocator> Machine<K, A> {
             Class::High => actor.print('\u{fffd}'),
             Class::Intermediate
             | Class::Parameter
-            | Class::Opens(_)
+            | Class::Introducer(_)
             | Class::Final
             | Class::Delete => { actor.print(b as char) }
         }
     }
 
     /// A control after C2.
-    #[tactic(auto, using(crate::proofs::Given::hears_moved))]
+    #[tactic(auto, using(crate::proofs::Given::receives_moved))]
     pub fn in_pair<V: Taker>(&mut self, b: u8, class: Class, actor: &mut V) -> Result<()>
         requires { V.is_ready actor.old }
         ensures moved { AlwaysMakes K.Store V.Taker result (pair_move b class) self actor }
@@ -65,13 +64,13 @@ impl<K: Store, A: Allocator> Machine<K, A> {
         self.state = State::Ground;
         self.pending = Pending::Nothing;
         match class {
-            Class::RawControl => actor.execute_c0_or_c1(b),
-            Class::RawOpens(kind) => {
+            Class::C1 => actor.execute_c0_or_c1(b),
+            Class::C1Introducer(kind) => {
                 self.open(kind);
                 Ok(())
             }
-            Class::RawTerminator
-            | Class::Plain
+            Class::C1Terminator
+            | Class::C0
             | Class::Bell
             | Class::Cancel
             | Class::Escape
@@ -79,7 +78,7 @@ impl<K: Store, A: Allocator> Machine<K, A> {
             | Class::High
             | Class::Intermediate
             | Class::Parameter
-            | Class::Opens(_)
+            | Class::Introducer(_)
             | Class::Final
             | Class::Delete => Ok(()),
         }
@@ -88,7 +87,8 @@ impl<K: Store, A: Allocator> Machine<K, A> {
     /// A byte after a prefix of a character's sequence.
     pub fn in_pending<V: Taker>(&mut self, b: u8, class: Class, actor: &mut V) -> Result<()>
         requires { V.is_ready actor.old }
-        ensures moved { (limit : Option ℕ) (own : Bool) (f : List ℕ) → front_of self.old.pending ≡ f
+        ensures moved { (limit : Option ℕ) (own : Bool) (f : List ℕ)
+            → prefix_of self.old.pending ≡ f
             → Makes K.Store V.Taker limit own result
             (pending_move f b class (outcome f b)) self actor }
         ensures ready { OnOk result (V.is_ready actor.new) }
@@ -108,7 +108,7 @@ impl<K: Store, A: Allocator> Machine<K, A> {
     fn break_off<V: Taker>(&mut self, b: u8, class: Class, actor: &mut V) -> Result<()>
         requires { V.is_ready actor.old }
         ensures moved { AlwaysMakes K.Store V.Taker result
-            (telling (Print 0xfffd ∷ []) (ground_move b class)) self actor }
+            (emitting (Print 0xfffd ∷ []) (ground_move b class)) self actor }
         ensures ready { OnOk result (V.is_ready actor.new) }
     {
         match actor.print('\u{fffd}') {
@@ -118,12 +118,12 @@ impl<K: Store, A: Allocator> Machine<K, A> {
     }
 
     // A byte that completes a sequence.
-    #[tactic(auto, using(crate::proofs::Given::hears_moved))]
+    #[tactic(auto, using(crate::proofs::Given::receives_moved))]
     fn whole<V: Taker>(&mut self, b: u8, class: Class, actor: &mut V) -> Result<()>
         requires ready { V.is_ready actor.old }
-        requires whole { is_sequence (front_of self.old.pending ++ b ∷ []) ≡ true }
+        requires whole { is_sequence (prefix_of self.old.pending ++ b ∷ []) ≡ true }
         ensures moved { AlwaysMakes K.Store V.Taker result
-            (pending_move (front_of self.old.pending) b class Outcome.Whole) self actor }
+            (pending_move (prefix_of self.old.pending) b class Outcome.Whole) self actor }
         ensures ready { OnOk result (V.is_ready actor.new) }
     {
         if self.pending.pairs_with(b) {

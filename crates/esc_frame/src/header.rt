@@ -4,12 +4,12 @@
 
 ghost use Rattle.std.specs.Prelude.{◌≡◌, ◌++◌, ℕ, List, [], ◌∷◌, map, pos, IfOk, OnErr};
 ghost use Rattle.esc_values.specs.Clear.{parts_of};
-ghost use Rattle.esc_frame.specs.Bodies.{is_dcs_parameter, is_dcs_header, held, value_behind};
+ghost use Rattle.esc_frame.specs.Bodies.{is_dcs_parameter, is_dcs_header, held, value_after};
 ghost use Rattle.esc_frame.specs.Machine.Keeps.{KeepsDcs, next_form_by};
 ghost use Rattle.memory.specs.Refusals.{Refused};
 
 use crate::body::Form;
-use crate::entries::next_number;
+use crate::csi_params::next_number;
 use crate::intermediates::Intermediates;
 use crate::sequence::lies_from;
 use crate::split::split_parts;
@@ -19,7 +19,7 @@ use std::alloc::{AllocError, Allocator};
 #[derive(Drop)]
 pub struct DcsHeader {
     pub form: Form,
-    // its marker and its intermediates, and what else is no parameter byte
+    // its private prefix and its intermediates, and what else is no parameter byte
     pub intermediates: Intermediates,
 }
 
@@ -44,7 +44,7 @@ impl DcsHeader {
         }
     }
 
-    /// Whether the header has its form: optionally a marker 3C-3F, then 30-39 and 3B, then
+    /// Whether the header has its form: optionally a private prefix 3C-3F, then 30-39 and 3B, then
     /// intermediates 20-2F.
     pub fn is_formed(&self) -> bool
         ensures { (x : List ℕ) → KeepsDcs self.now x → result ≡ is_dcs_header x }
@@ -73,7 +73,7 @@ pub fn is_parameter(byte: u8) -> bool
 
 // The number of a piece, held at the greatest `i64`.
 fn number_of(piece: &[u8]) -> i64
-    ensures { result ≡ pos (held (value_behind 0 piece.now)) }
+    ensures { result ≡ pos (held (value_after 0 piece.now)) }
 {
     let mut number = 0;
     for b in piece {
@@ -84,7 +84,7 @@ fn number_of(piece: &[u8]) -> i64
 
 /// The parameters that parameter bytes write: the numbers of the pieces between `;`.
 pub fn params_of<A: Allocator + Copy>(alloc: A, bytes: &[u8]) -> Result<Vec<i64, A>, AllocError>
-    ensures ok { IfOk result (λ v. v.items ≡ map (λ p. pos (held (value_behind 0 p)))
+    ensures ok { IfOk result (λ v. v.items ≡ map (λ p. pos (held (value_after 0 p)))
         (parts_of bytes.now)) }
     ensures refused { OnErr result (Refused A) }
 {
@@ -94,7 +94,7 @@ pub fn params_of<A: Allocator + Copy>(alloc: A, bytes: &[u8]) -> Result<Vec<i64,
 
 fn numbers_of<A: Allocator>(alloc: A, pieces: &[&[u8]]) -> Result<Vec<i64, A>, AllocError>
     ensures ok { IfOk result (λ v. v.items ≡ map
-        (λ p. pos (held (value_behind 0 p.now))) pieces.now) }
+        (λ p. pos (held (value_after 0 p.now))) pieces.now) }
     ensures refused { OnErr result (Refused A) }
 {
     memory::collect(alloc, pieces.iter().map(|piece| number_of(piece)))

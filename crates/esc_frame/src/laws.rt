@@ -6,7 +6,7 @@ ghost use Rattle.std.specs.Prelude.{◌≡◌, ◌++◌, ◌&&◌, ℕ, List, Op
 ghost use Rattle.std.specs.Char.{encode_utf8};
 ghost use Rattle.std.specs.List.{list_any};
 ghost use Rattle.esc_values.specs.Clear.{is_clear, IsClearText, parts_of};
-ghost use Rattle.esc_frame.specs.Classes.{class_of, AllOf, is_control, is_raw_control, is_intermediate, is_text, is_put, in_body, ends_escape, ends_csi, opens};
+ghost use Rattle.esc_frame.specs.Classes.{class_of, AllOf, is_control, is_c1, is_intermediate, is_text, is_put, in_body, ends_escape, ends_csi, opens};
 ghost use Rattle.esc_frame.specs.Bodies.{is_csi_body, is_dcs_header, kept_intermediates, has_more_intermediates};
 ghost use Rattle.esc_frame.specs.Events.{Event};
 ghost use Rattle.esc_frame.specs.Events.Event.{Print, Execute, EscDispatch, OscDispatch, DcsUnhook, ApcDispatch};
@@ -177,7 +177,7 @@ pub fn says_control()
 /// A C1 control that opens and ends nothing is executed, in UTF-8.
 #[tactic(auto, using(crate::proofs::Says::says_high_control))]
 pub fn says_high_control()
-    ensures { (b : ℕ) → is_raw_control (class_of b) ≡ true → Says (0xc2 ∷ b ∷ []) (Execute b ∷ []) }
+    ensures { (b : ℕ) → is_c1 (class_of b) ≡ true → Says (0xc2 ∷ b ∷ []) (Execute b ∷ []) }
 {}
 
 /// ESC, intermediates 20-2F and a final byte 30-7E are dispatched, where the final byte does not

@@ -9,10 +9,10 @@ ghost use Rattle.esc_frame.specs.Leads.{Unfinished, Holds, kept_open};
 ghost use Rattle.esc_frame.specs.Leads.Unfinished.{Ground};
 ghost use Rattle.esc_frame.specs.Limits.{most};
 ghost use Rattle.esc_frame.specs.Machine.Calls.{Quietly, Fails, is_between};
-ghost use Rattle.esc_frame.specs.Machine.Fronts.{front_of};
+ghost use Rattle.esc_frame.specs.Machine.Prefixes.{prefix_of};
 ghost use Rattle.esc_frame.specs.Machine.Keeping.{Holding};
 ghost use Rattle.esc_frame.specs.Machine.Makes.{Emits, Makes, Consumes, Advances};
-ghost use Rattle.esc_frame.specs.Machine.Moves.{move, opened, may_grow_in, may_grow_within, after_all, news_all};
+ghost use Rattle.esc_frame.specs.Machine.Moves.{move, opened, may_grow_in, may_grow_within, after_all, events_all};
 ghost use Rattle.esc_frame.specs.Segments.{Opener};
 
 use crate::body::CsiBody;
@@ -44,13 +44,13 @@ pub enum State {
     /// In its data.
     Data,
     /// In what is passed over until a breaker.
-    Skip,
+    Ignored,
     /// In an application program command.
     Apc,
 }
 
 /// The machine, between any two bytes of a stream, with a store for the text of an unfinished
-/// string. The entries of a control sequence lie in it.
+/// string. The parameters of a control sequence lie in it.
 #[derive(Drop)]
 pub struct Machine<K: Store, A: Allocator> {
     pub state: State,
@@ -104,7 +104,7 @@ impl<K: Store, A: Allocator> Machine<K, A> {
             | State::Osc
             | State::Dcs
             | State::Data
-            | State::Skip
+            | State::Ignored
             | State::Apc => false,
         }
     }
@@ -116,7 +116,7 @@ impl<K: Store, A: Allocator> Machine<K, A> {
     {
         match self.state {
             State::Osc | State::Dcs | State::Apc => self.text.bytes().len(),
-            State::Ground | State::Escape | State::Csi | State::Data | State::Skip => 0,
+            State::Ground | State::Escape | State::Csi | State::Data | State::Ignored => 0,
         }
     }
 
@@ -139,7 +139,7 @@ impl<K: Store, A: Allocator> Machine<K, A> {
                 self.text.clear();
                 self.state = State::Dcs;
             }
-            Kind::Sos | Kind::Pm => self.state = State::Skip,
+            Kind::Sos | Kind::Pm => self.state = State::Ignored,
             Kind::Apc => {
                 self.text.clear();
                 self.state = State::Apc;
@@ -177,7 +177,7 @@ impl<K: Store, A: Allocator> Machine<K, A> {
             },
             State::Dcs => self.in_dcs(limit, b, class, actor),
             State::Data => self.in_data(b, class, actor),
-            State::Skip => self.in_skip(b, class, actor),
+            State::Ignored => self.in_ignored(b, class, actor),
             State::Apc => self.in_apc(limit, b, class, actor),
         }
     }
@@ -192,10 +192,10 @@ impl<K: Store, A: Allocator> Machine<K, A> {
         requires { V.is_ready actor.old }
         ensures holds { Holding K.Store limit self (λ u.
             OnOk result (Holds K.keeps limit self.new (after_all u bytes.now))) }
-        ensures told { Holding K.Store limit self (λ u.
+        ensures emitted { Holding K.Store limit self (λ u.
             Emits V.Taker ((may_grow_within u bytes.now ≡ true)
             × Fails K.denied V.stops A limit) result
-            (news_all limit u bytes.now) actor) }
+            (events_all limit u bytes.now) actor) }
         ensures ready { OnOk result (V.is_ready actor.new) }
     {
         let mut at = 0;
@@ -239,7 +239,7 @@ impl<K: Store, A: Allocator> Machine<K, A> {
                 ),
             },
             State::Apc => self.take_in_apc(limit, rest, actor),
-            State::Skip => self.take_in_skip(limit, rest, actor),
+            State::Ignored => self.take_in_ignored(limit, rest, actor),
             State::Escape => self.take_in_escape(limit, rest, actor),
             State::Dcs | State::Data => self.take_one(limit, rest, actor),
         }
@@ -262,7 +262,7 @@ impl<K: Store, A: Allocator> Machine<K, A> {
                 ),
             },
             State::Data => self.take_in_data(limit, rest, actor),
-            State::Escape | State::Csi | State::Osc | State::Dcs | State::Skip | State::Apc =>
+            State::Escape | State::Csi | State::Osc | State::Dcs | State::Ignored | State::Apc =>
                 self.take_some(limit, rest, actor),
         }
     }
@@ -276,7 +276,7 @@ impl<K: Store, A: Allocator> Machine<K, A> {
     ) -> Result<usize>
         requires some { 0 < length rest.now }
         requires ready { V.is_ready actor.old }
-        requires between { is_between self.old.state (front_of self.old.pending) ≡ true }
+        requires between { is_between self.old.state (prefix_of self.old.pending) ≡ true }
         ensures took { Holding K.Store limit self (λ u.
             Consumes K.Store V.Taker limit result u rest.now self actor) }
         ensures quiet { (u : Unfinished) → Quietly limit result u rest.now }

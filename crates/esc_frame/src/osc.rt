@@ -5,10 +5,10 @@ ghost use Rattle.std.specs.Prelude.{◌≡◌, ◌≤◌, ◌<◌, List, [], ◌
 ghost use Rattle.esc_frame.specs.Classes.{class_of};
 ghost use Rattle.esc_frame.specs.Limits.{has_few_parts};
 ghost use Rattle.esc_frame.specs.Machine.Calls.{Quietly, Stops};
-ghost use Rattle.esc_frame.specs.Machine.Fronts.{front_of};
-ghost use Rattle.esc_frame.specs.Machine.Keeping.{Unlent, KeepingText, KeepingOsc, KeepingOscAnd, KeepingOscPending, FreshOsc, AnyOsc};
+ghost use Rattle.esc_frame.specs.Machine.Prefixes.{prefix_of};
+ghost use Rattle.esc_frame.specs.Machine.Keeping.{Unborrowed, KeepingText, KeepingOsc, KeepingOscAnd, KeepingOscPending, FreshOsc, AnyOsc};
 ghost use Rattle.esc_frame.specs.Machine.Makes.{Emits, Makes, AlwaysMakes, Consumes, ConsumesSome, Advances};
-ghost use Rattle.esc_frame.specs.Machine.Moves.{telling, ground_move, pair_move, osc_pending_move, osc_left, ends_osc, move};
+ghost use Rattle.esc_frame.specs.Machine.Moves.{emitting, ground_move, pair_move, osc_pending_move, osc_left, ends_osc, move};
 ghost use Rattle.esc_frame.specs.Machine.TextRuns.{IsTextRun};
 ghost use Rattle.esc_frame.specs.Segments.{Opener, Piece, text_of, osc_events};
 ghost use Rattle.esc_frame.specs.Sequences.{is_from, outcome};
@@ -42,21 +42,21 @@ impl<K: Store, A: Allocator> Machine<K, A> {
         match class {
             Class::Cancel
             | Class::Escape
-            | Class::RawControl
-            | Class::RawOpens(_)
-            | Class::RawTerminator => { self.leave_osc(b, class, actor) }
+            | Class::C1
+            | Class::C1Introducer(_)
+            | Class::C1Terminator => { self.leave_osc(b, class, actor) }
             Class::Bell => {
                 self.state = State::Ground;
-                tell_osc(&self.text, &self.alloc, actor)
+                emit_osc(&self.text, &self.alloc, actor)
             }
-            Class::Plain | Class::High => Ok(()),
+            Class::C0 | Class::High => Ok(()),
             Class::Lead => {
                 self.pending = Pending::One(b);
                 Ok(())
             }
             Class::Intermediate
             | Class::Parameter
-            | Class::Opens(_)
+            | Class::Introducer(_)
             | Class::Final
             | Class::Delete => { self.text.push(limit, &[b]) }
         }
@@ -100,7 +100,7 @@ impl<K: Store, A: Allocator> Machine<K, A> {
         requires { V.is_ready actor.old }
         ensures moved { (o : Opener) (ps : List Piece) → K.keeps limit self.old.text (text_of ps)
             → Makes K.Store V.Taker limit true result
-            (osc_pending_move limit o ps (front_of self.old.pending) b class Outcome.Whole)
+            (osc_pending_move limit o ps (prefix_of self.old.pending) b class Outcome.Whole)
             self actor }
         ensures ready { OnOk result (V.is_ready actor.new) }
     {
@@ -119,10 +119,10 @@ impl<K: Store, A: Allocator> Machine<K, A> {
         requires { V.is_ready actor.old }
         ensures moved { KeepingText K.Store self.old.text (λ limit t.
             Makes K.Store V.Taker limit true result
-            (telling (osc_events limit t) (ground_move b class)) self actor) }
+            (emitting (osc_events limit t) (ground_move b class)) self actor) }
         ensures ready { OnOk result (V.is_ready actor.new) }
     {
-        match tell_osc(&self.text, &self.alloc, actor) {
+        match emit_osc(&self.text, &self.alloc, actor) {
             Ok(()) => self.in_ground(b, class, actor),
             Err(e) => Err(e),
         }
@@ -133,10 +133,10 @@ impl<K: Store, A: Allocator> Machine<K, A> {
         requires { V.is_ready actor.old }
         ensures moved { KeepingText K.Store self.old.text (λ limit t.
             Makes K.Store V.Taker limit true result
-            (telling (osc_events limit t) (pair_move b class)) self actor) }
+            (emitting (osc_events limit t) (pair_move b class)) self actor) }
         ensures ready { OnOk result (V.is_ready actor.new) }
     {
-        match tell_osc(&self.text, &self.alloc, actor) {
+        match emit_osc(&self.text, &self.alloc, actor) {
             Ok(()) => self.in_pair(b, class, actor),
             Err(e) => Err(e),
         }
@@ -184,10 +184,10 @@ impl<K: Store, A: Allocator> Machine<K, A> {
         }
         let class = classify(rest[run]);
         if ends_osc(class) {
-            return self.take_lent(limit, rest, run, class, actor);
+            return self.take_borrowed(limit, rest, run, class, actor);
         }
         if is_pair_at(rest, run) {
-            self.take_lent_by_pair(limit, rest, run, actor)
+            self.take_borrowed_by_pair(limit, rest, run, actor)
         } else {
             self.keep_body(limit, rest, run, actor)
         }
@@ -205,7 +205,7 @@ impl<K: Store, A: Allocator> Machine<K, A> {
         requires few { run ≤ length rest.now }
         requires passes { IsTextRun (take run rest.now) }
         requires ready { V.is_ready actor.old }
-        ensures took { FreshOsc (Unlent rest.now (λ u.
+        ensures took { FreshOsc (Unborrowed rest.now (λ u.
             Consumes K.Store V.Taker limit result u rest.now self actor)) }
         ensures quiet { AnyOsc (λ u. Quietly limit result u rest.now) }
         ensures count { Advances V.Taker result rest.now actor }
@@ -216,7 +216,7 @@ impl<K: Store, A: Allocator> Machine<K, A> {
 
     // A text, and the byte of this class that ends it.
     #[inline(always)]
-    fn take_lent<V: Taker>(
+    fn take_borrowed<V: Taker>(
         &mut self,
         limit: Option<usize>,
         rest: &[u8],
@@ -234,7 +234,7 @@ impl<K: Store, A: Allocator> Machine<K, A> {
         ensures quiet { AnyOsc (λ u. Quietly limit result u rest.now) }
         ensures count { Advances V.Taker result rest.now actor }
     {
-        match self.end_lent(limit, &rest[..run], rest[run], class, actor) {
+        match self.end_borrowed(limit, &rest[..run], rest[run], class, actor) {
             Ok(()) => Ok(run + 1),
             Err(e) => Err(e),
         }
@@ -242,7 +242,7 @@ impl<K: Store, A: Allocator> Machine<K, A> {
 
     // A text, and the control after C2 that ends it.
     #[inline(never)]
-    fn take_lent_by_pair<V: Taker>(
+    fn take_borrowed_by_pair<V: Taker>(
         &mut self,
         limit: Option<usize>,
         rest: &[u8],
@@ -259,7 +259,7 @@ impl<K: Store, A: Allocator> Machine<K, A> {
         ensures quiet { AnyOsc (λ u. Quietly limit result u rest.now) }
         ensures count { Advances V.Taker result rest.now actor }
     {
-        match self.end_lent_by_pair(limit, &rest[..run], rest[run + 1], actor) {
+        match self.end_borrowed_by_pair(limit, &rest[..run], rest[run + 1], actor) {
             Ok(()) => Ok(run + 2),
             Err(e) => Err(e),
         }
@@ -267,7 +267,7 @@ impl<K: Store, A: Allocator> Machine<K, A> {
 
     // What ends a command whose text is lent.
     #[inline(always)]
-    fn end_lent<V: Taker>(
+    fn end_borrowed<V: Taker>(
         &mut self,
         limit: Option<usize>,
         text: &[u8],
@@ -277,17 +277,17 @@ impl<K: Store, A: Allocator> Machine<K, A> {
     ) -> Result<()>
         requires { V.is_ready actor.old }
         ensures moved { Makes K.Store V.Taker limit (not (has_few_parts text.now)) result
-            (telling (osc_events limit text.now) (osc_left b class)) self actor }
+            (emitting (osc_events limit text.now) (osc_left b class)) self actor }
         ensures ready { OnOk result (V.is_ready actor.new) }
     {
-        match tell_lent(limit, &self.alloc, text, actor) {
-            Ok(()) => self.leave_lent(b, class, actor),
+        match emit_borrowed(limit, &self.alloc, text, actor) {
+            Ok(()) => self.leave_borrowed(b, class, actor),
             Err(e) => Err(e),
         }
     }
 
     // A control after C2 that ends a command whose text is lent.
-    fn end_lent_by_pair<V: Taker>(
+    fn end_borrowed_by_pair<V: Taker>(
         &mut self,
         limit: Option<usize>,
         text: &[u8],
@@ -296,17 +296,17 @@ impl<K: Store, A: Allocator> Machine<K, A> {
     ) -> Result<()>
         requires { V.is_ready actor.old }
         ensures moved { Makes K.Store V.Taker limit (not (has_few_parts text.now)) result
-            (telling (osc_events limit text.now) (pair_move b (class_of b))) self actor }
+            (emitting (osc_events limit text.now) (pair_move b (class_of b))) self actor }
         ensures ready { OnOk result (V.is_ready actor.new) }
     {
-        match tell_lent(limit, &self.alloc, text, actor) {
+        match emit_borrowed(limit, &self.alloc, text, actor) {
             Ok(()) => self.in_pair(b, classify(b), actor),
             Err(e) => Err(e),
         }
     }
 
     // A bell, or a breaker.
-    fn leave_lent<V: Taker>(&mut self, b: u8, class: Class, actor: &mut V) -> Result<()>
+    fn leave_borrowed<V: Taker>(&mut self, b: u8, class: Class, actor: &mut V) -> Result<()>
         requires { V.is_ready actor.old }
         ensures moved { AlwaysMakes K.Store V.Taker result (osc_left b class) self actor }
         ensures ready { OnOk result (V.is_ready actor.new) }
@@ -331,7 +331,7 @@ impl<K: Store, A: Allocator> Machine<K, A> {
         requires some { 0 < length rest.now }
         requires ready { V.is_ready actor.old }
         requires state { self.old.state ≡ State.Osc }
-        requires whole { front_of self.old.pending ≡ [] }
+        requires whole { prefix_of self.old.pending ≡ [] }
         ensures took { KeepingOsc K.Store limit self (λ u.
             Consumes K.Store V.Taker limit result u rest.now self actor) }
         ensures quiet { AnyOsc (λ u. Quietly limit result u rest.now) }
@@ -358,8 +358,8 @@ impl<K: Store, A: Allocator> Machine<K, A> {
         requires passes { IsTextRun (take run rest.now) }
         requires ready { V.is_ready actor.old }
         requires state { self.old.state ≡ State.Osc }
-        requires whole { front_of self.old.pending ≡ [] }
-        ensures took { KeepingOsc K.Store limit self (Unlent rest.now (λ u.
+        requires whole { prefix_of self.old.pending ≡ [] }
+        ensures took { KeepingOsc K.Store limit self (Unborrowed rest.now (λ u.
             Consumes K.Store V.Taker limit result u rest.now self actor)) }
         ensures quiet { AnyOsc (λ u. Quietly limit result u rest.now) }
         ensures count { Advances V.Taker result rest.now actor }
@@ -384,8 +384,9 @@ impl<K: Store, A: Allocator> Machine<K, A> {
         requires passes { IsTextRun (take run rest.now) }
         requires ready { V.is_ready actor.old }
         requires state { self.old.state ≡ State.Osc }
-        requires whole { front_of self.old.pending ≡ [] }
-        ensures took { KeepingOscAnd K.Store limit (take run rest.now) self (Unlent rest.now (λ u.
+        requires whole { prefix_of self.old.pending ≡ [] }
+        ensures took { KeepingOscAnd K.Store limit (take run rest.now) self
+            (Unborrowed rest.now (λ u.
             Consumes K.Store V.Taker limit result u rest.now self actor)) }
         ensures quiet { AnyOsc (λ u. Quietly limit result u rest.now) }
         ensures count { Advances V.Taker result rest.now actor }
@@ -409,15 +410,15 @@ fn ends_osc(class: Class) -> bool
         Class::Bell
         | Class::Cancel
         | Class::Escape
-        | Class::RawControl
-        | Class::RawOpens(_)
-        | Class::RawTerminator => true,
-        Class::Plain
+        | Class::C1
+        | Class::C1Introducer(_)
+        | Class::C1Terminator => true,
+        Class::C0
         | Class::High
         | Class::Lead
         | Class::Intermediate
         | Class::Parameter
-        | Class::Opens(_)
+        | Class::Introducer(_)
         | Class::Final
         | Class::Delete => false,
     }
@@ -436,16 +437,16 @@ fn is_pair_at(rest: &[u8], at: usize) -> bool
     rest[at] == 0xc2 && rest.len() - at > 1 && lies_from(0x80, 0x9f, rest[at + 1])
 }
 
-// A lent text, told where it is within the limit.
+// A lent text, emitted where it is within the limit.
 #[inline(always)]
-fn tell_lent<A: Allocator, V: Taker>(
+fn emit_borrowed<A: Allocator, V: Taker>(
     limit: Option<usize>,
     alloc: &A,
     text: &[u8],
     actor: &mut V,
 ) -> Result<()>
     requires { V.is_ready actor.old }
-    ensures told { Emits V.Taker ((not (has_few_parts text.now) ≡ true)
+    ensures emitted { Emits V.Taker ((not (has_few_parts text.now) ≡ true)
         × Stops V.stops A limit) result
         (osc_events limit text.now) actor }
     ensures ready { OnOk result (V.is_ready actor.new) }
@@ -457,10 +458,10 @@ fn tell_lent<A: Allocator, V: Taker>(
     }
 }
 
-// The text of an operating system command, told where it is within the limit.
-fn tell_osc<K: Store, A: Allocator, V: Taker>(text: &K, alloc: &A, actor: &mut V) -> Result<()>
+// The text of an operating system command, emitted where it is within the limit.
+fn emit_osc<K: Store, A: Allocator, V: Taker>(text: &K, alloc: &A, actor: &mut V) -> Result<()>
     requires { V.is_ready actor.old }
-    ensures told { KeepingText K.Store text.now (λ limit t.
+    ensures emitted { KeepingText K.Store text.now (λ limit t.
         Emits V.Taker (Stops V.stops A limit) result (osc_events limit t) actor) }
     ensures ready { OnOk result (V.is_ready actor.new) }
 {

@@ -5,7 +5,7 @@ ghost use Rattle.std.specs.Prelude.{◌≡◌, ◌≢◌, ◌<◌, ◌≤◌, �
 ghost use Rattle.esc_frame.specs.Limits.{most};
 ghost use Rattle.esc_frame.specs.Events.Event.{Execute, Print};
 ghost use Rattle.esc_frame.specs.Parses.{After, AfterGround, FirstByte, AddsOne, Parses, ParsesSome, IsRefused, IsRefusedByActor, TakesSome, Leaves, IsKeptOf};
-ghost use Rattle.esc_frame.specs.Memory.{AreLent};
+ghost use Rattle.esc_frame.specs.Memory.{AreBorrowed};
 ghost use Rattle.esc_frame.specs.Stream.{LeadsTo, LeadsToWithin, HasFailed, IsAtGround, IsQuietWithin};
 
 use crate::actor::VTActor;
@@ -21,10 +21,10 @@ use std::alloc::{Allocator, Global};
 /// in operating system commands, and with application program commands handed out.
 ///
 /// Neither the stream nor its events are kept, but what is unfinished: of an escape sequence two
-/// intermediates, of a control sequence 256 entries, of an operating system command or an
+/// intermediates, of a control sequence 256 parameters, of an operating system command or an
 /// application program command its text, of a device control string its header.
 /// [`with_limit`](VTParser::with_limit) bounds what is kept of such a string. Intermediates and
-/// entries lie in the parser, in some 4 KB: only a string takes memory.
+/// parameters lie in the parser, in some 4 KB: only a string takes memory.
 #[derive(Drop)]
 pub struct VTParser<A: Allocator = Global> {
     machine: Machine<Kept<A>, A>,
@@ -190,7 +190,7 @@ impl<A: Allocator> VTParser<A> {
         requires { V.is_ready actor.old }
         ensures given { After self.old (Parses V.VTActor result bytes.now self actor) }
         ensures refused { After self.old (IsRefused A V.VTActor result bytes.now actor) }
-        ensures lent { AfterGround self.old (λ limit s. AreLent bytes.now
+        ensures borrowed { AfterGround self.old (λ limit s. AreBorrowed bytes.now
             → IsRefusedByActor V.VTActor result bytes.now actor limit s) }
         ensures after { Leaves V.VTActor result self actor }
     {

@@ -2,9 +2,9 @@
 #![tactic(auto)]
 
 ghost use Rattle.std.specs.Prelude.{◌≡◌, ◌++◌, ℕ, List, [], ◌∷◌, ◌-◌, ◌*◌, ◌+◌, ◌≤◌, if◌then◌else◌, true, OnOk, OnErr, ◌<◌, false, length};
-ghost use Rattle.esc_frame.specs.Sequences.{is_from, is_second, is_sequence, is_front, is_pair, outcome, number_of};
+ghost use Rattle.esc_frame.specs.Sequences.{is_from, is_second, is_sequence, is_prefix, is_pair, outcome, number_of};
 ghost use Rattle.esc_frame.specs.Machine.Characters.{IsAhead, IsCharacter, NoneAhead};
-ghost use Rattle.esc_frame.specs.Machine.Fronts.{front_of};
+ghost use Rattle.esc_frame.specs.Machine.Prefixes.{prefix_of};
 
 use crate::store::Store;
 use std::alloc::AllocError;
@@ -65,9 +65,9 @@ fn chosen(whole: bool, more: bool) -> Outcome
 
 impl Pending {
     /// What the byte makes of the prefix.
-    #[tactic(auto, unfolding(crate::specs::Sequences::is_sequence, crate::specs::Sequences::is_front))]
+    #[tactic(auto, unfolding(crate::specs::Sequences::is_sequence, crate::specs::Sequences::is_prefix))]
     pub fn outcome(self, b: u8) -> Outcome
-        ensures { result ≡ outcome (front_of self) b }
+        ensures { result ≡ outcome (prefix_of self) b }
     {
         match self {
             Pending::Nothing => chosen(false, lies_from(0xc2, 0xf4, b)),
@@ -90,10 +90,10 @@ impl Pending {
     }
 
     /// The prefix with the byte.
-    #[tactic(auto, unfolding(crate::specs::Sequences::is_front))]
+    #[tactic(auto, unfolding(crate::specs::Sequences::is_prefix))]
     pub fn with(self, b: u8) -> Pending
-        ensures { is_front (front_of self ++ b ∷ []) ≡ true
-            → front_of result ≡ front_of self ++ b ∷ [] }
+        ensures { is_prefix (prefix_of self ++ b ∷ []) ≡ true
+            → prefix_of result ≡ prefix_of self ++ b ∷ [] }
     {
         match self {
             Pending::Nothing => Pending::One(b),
@@ -106,7 +106,7 @@ impl Pending {
     /// Whether prefix and byte are C2 80 to C2 9F.
     #[tactic(auto, unfolding(crate::specs::Sequences::is_pair))]
     pub fn pairs_with(self, b: u8) -> bool
-        ensures { result ≡ is_pair (front_of self ++ b ∷ []) }
+        ensures { result ≡ is_pair (prefix_of self ++ b ∷ []) }
     {
         match self {
             Pending::One(a) => a == 0xc2 && lies_from(0x80, 0x9f, b),
@@ -117,8 +117,8 @@ impl Pending {
     /// The character of prefix and byte.
     #[tactic(auto, unfolding(crate::specs::Sequences::is_sequence, crate::specs::Sequences::number_of))]
     pub fn character(self, b: u8) -> char
-        requires { is_sequence (front_of self ++ b ∷ []) ≡ true }
-        ensures { result ≡ number_of (front_of self ++ b ∷ []) }
+        requires { is_sequence (prefix_of self ++ b ∷ []) ≡ true }
+        ensures { result ≡ number_of (prefix_of self ++ b ∷ []) }
     {
         match self {
             Pending::Nothing => '\u{fffd}',
@@ -131,7 +131,7 @@ impl Pending {
     /// Appends prefix and byte to the text.
     pub fn put<K: Store>(self, limit: Option<usize>, text: &mut K, b: u8) -> Result<(), AllocError>
         ensures ok { (t : List ℕ) → K.keeps limit text.old t
-            → OnOk result (K.keeps limit text.new (t ++ (front_of self ++ b ∷ []))) }
+            → OnOk result (K.keeps limit text.new (t ++ (prefix_of self ++ b ∷ []))) }
         ensures refused { OnErr result (K.denied limit) }
     {
         match self {

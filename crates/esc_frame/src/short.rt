@@ -3,14 +3,14 @@
 
 ghost use Rattle.std.specs.Prelude.{◌≡◌, ◌<◌, ◌≤◌, ◌+◌, ◌-◌, ◌++◌, true, false, ℕ, List, [], ◌∷◌, length, take, slice_index, pos};
 ghost use Rattle.std.specs.List.{list_all};
-ghost use Rattle.esc_frame.specs.Bodies.{is_digit, held, value_behind};
-ghost use Rattle.esc_frame.specs.Machine.Shorts.{IsBehind, IsFront, IsShort};
+ghost use Rattle.esc_frame.specs.Bodies.{is_digit, held, value_after};
+ghost use Rattle.esc_frame.specs.Machine.Shorts.{IsAfter, IsPrefix, IsShort};
 
-use crate::entries::next_number;
+use crate::csi_params::next_number;
 use crate::sequence::lies_from;
 use esc_values::csi_param::CsiParam;
 
-/// At most 32 entries. They take no memory.
+/// At most 32 parameters. They take no memory.
 #[derive(Drop)]
 pub struct Short {
     pub items: [CsiParam; 32],
@@ -27,7 +27,7 @@ fn read_number(rest: &[u8]) -> (u64, usize)
     requires high { slice_index rest.now 0 ≤ 0x39 }
     ensures count { (0 < result.1) × (result.1 ≤ length rest.now) }
     ensures digits { list_all is_digit (take result.1 rest.now) ≡ true }
-    ensures value { result.0 ≡ held (value_behind 0 (take result.1 rest.now)) }
+    ensures value { result.0 ≡ held (value_after 0 (take result.1 rest.now)) }
     ensures small { result.0 ≤ 0x7fff_ffff_ffff_ffff }
 {
     if rest.len() < 4 {
@@ -56,7 +56,7 @@ fn read_any_number(rest: &[u8]) -> (u64, usize)
     requires high { slice_index rest.now 0 ≤ 0x39 }
     ensures count { (0 < result.1) × (result.1 ≤ length rest.now) }
     ensures digits { list_all is_digit (take result.1 rest.now) ≡ true }
-    ensures value { result.0 ≡ held (value_behind 0 (take result.1 rest.now)) }
+    ensures value { result.0 ≡ held (value_after 0 (take result.1 rest.now)) }
     ensures small { result.0 ≤ 0x7fff_ffff_ffff_ffff }
 {
     let mut number = next_number(0, rest[0] - b'0');
@@ -69,7 +69,7 @@ fn read_any_number(rest: &[u8]) -> (u64, usize)
 }
 
 impl Short {
-    /// No entries.
+    /// No parameters.
     pub fn new() -> Self {
         Short {
             items: [CsiParam::P(0); 32],
@@ -77,7 +77,7 @@ impl Short {
         }
     }
 
-    /// The entries, in order.
+    /// The parameters, in order.
     #[inline(always)]
     pub fn as_slice(&self) -> &[CsiParam]
         ensures { result.now ≡ take self.now.count self.now.items }
@@ -115,9 +115,9 @@ impl Short {
         requires low { 0x30 ≤ slice_index rest.now 0 }
         requires high { slice_index rest.now 0 ≤ 0x39 }
         ensures count { (0 < result) × (result ≤ length rest.now) }
-        ensures entries { self.new.count ≡ self.old.count + 1 }
-        ensures keeps { (x : List ℕ) → IsFront (take self.old.count self.old.items) x
-            → IsBehind (take self.new.count self.new.items) (x ++ take result rest.now) }
+        ensures csi_params { self.new.count ≡ self.old.count + 1 }
+        ensures keeps { (x : List ℕ) → IsPrefix (take self.old.count self.old.items) x
+            → IsAfter (take self.new.count self.new.items) (x ++ take result rest.now) }
     {
         let (number, end) = read_number(rest);
         self.push_integer(number);
@@ -128,10 +128,10 @@ impl Short {
     #[inline(always)]
     fn push_mark(&mut self, b: u8) -> bool
         requires room { self.old.count < 32 }
-        ensures entries { self.new.count ≤ self.old.count + 1 }
+        ensures csi_params { self.new.count ≤ self.old.count + 1 }
         ensures mark { result ≡ true → (x : List ℕ)
-            → IsBehind (take self.old.count self.old.items) x
-            → IsFront (take self.new.count self.new.items) (x ++ b ∷ []) }
+            → IsAfter (take self.old.count self.old.items) x
+            → IsPrefix (take self.new.count self.new.items) (x ++ b ∷ []) }
         ensures other { result ≡ false → self.new ≡ self.old }
     {
         if lies_from(0x3a, 0x3b, b) {
@@ -142,12 +142,12 @@ impl Short {
         }
     }
 
-    // A marker, 3C to 3F, if one comes first.
+    // A private prefix, 3C to 3F, if one comes first.
     #[inline(always)]
-    fn push_marker(&mut self, rest: &[u8]) -> usize
+    fn push_private_prefix(&mut self, rest: &[u8]) -> usize
         requires none { self.old.count ≡ 0 }
         ensures few { (result ≤ length rest.now) × (self.new.count ≡ result) × (result ≤ 1) }
-        ensures keeps { IsFront (take self.new.count self.new.items) (take result rest.now) }
+        ensures keeps { IsPrefix (take self.new.count self.new.items) (take result rest.now) }
     {
         if rest.is_empty() {
             return 0;
@@ -166,14 +166,14 @@ impl Short {
         requires room { self.old.count < 31 }
         requires some { 0 < length rest.now }
         ensures few { result.0 ≤ length rest.now }
-        ensures entries { self.new.count ≤ self.old.count + 2 }
+        ensures csi_params { self.new.count ≤ self.old.count + 2 }
         ensures goes_on { result.1 ≡ true
             → (0 < result.0)
-            × ((x : List ℕ) → IsFront (take self.old.count self.old.items) x
-            → IsFront (take self.new.count self.new.items) (x ++ take result.0 rest.now)) }
+            × ((x : List ℕ) → IsPrefix (take self.old.count self.old.items) x
+            → IsPrefix (take self.new.count self.new.items) (x ++ take result.0 rest.now)) }
         ensures ends { result.1 ≡ false → (x : List ℕ)
-            → IsFront (take self.old.count self.old.items) x
-            → IsBehind (take self.new.count self.new.items) (x ++ take result.0 rest.now) }
+            → IsPrefix (take self.old.count self.old.items) x
+            → IsAfter (take self.new.count self.new.items) (x ++ take result.0 rest.now) }
     {
         if b'0' <= rest[0] && rest[0] <= b'9' {
             let n = self.push_number(rest);
@@ -192,15 +192,15 @@ impl Short {
         }
     }
 
-    /// Reads the body that comes first, as far as it has a marker, numbers and separators and at
-    /// most 32 entries, and returns its length.
+    /// Reads the body that comes first, as far as it has a private prefix, numbers and separators
+    /// and at most 32 parameters, and returns its length.
     #[inline(always)]
     pub fn read(&mut self, rest: &[u8]) -> usize
         ensures few { result ≤ length rest.now }
         ensures keeps { IsShort (take self.new.count self.new.items) (take result rest.now) }
     {
         self.count = 0;
-        let mut at = self.push_marker(rest);
+        let mut at = self.push_private_prefix(rest);
         while at < rest.len() && self.count < 31 {
             let (n, goes_on) = self.push_field(&rest[at..]);
             if !goes_on {

@@ -6,9 +6,9 @@ ghost use Rattle.std.specs.Prelude.{◌≡◌, ◌≤◌, ◌<◌, Bool, true, f
 ghost use Rattle.std.specs.List.{list_all};
 ghost use Rattle.esc_frame.specs.Classes.{class_of, is_breaker};
 ghost use Rattle.esc_frame.specs.Machine.Calls.{Quietly};
-ghost use Rattle.esc_frame.specs.Machine.Keeping.{Holding, Unlent, KeepingText, KeepingApc, KeepingApcAnd, FreshApc, AnyApc, InDcsIgnore, InIgnoredString};
+ghost use Rattle.esc_frame.specs.Machine.Keeping.{Holding, Unborrowed, KeepingText, KeepingApc, KeepingApcAnd, FreshApc, AnyApc, InDcsIgnore, InIgnoredString};
 ghost use Rattle.esc_frame.specs.Machine.Makes.{Emits, Makes, Consumes, Advances};
-ghost use Rattle.esc_frame.specs.Machine.Moves.{telling, ground_move, move};
+ghost use Rattle.esc_frame.specs.Machine.Moves.{emitting, ground_move, move};
 ghost use Rattle.esc_frame.specs.Scans.{is_text_byte};
 ghost use Rattle.esc_frame.specs.Segments.{apc_events};
 
@@ -38,14 +38,14 @@ impl<K: Store, A: Allocator> Machine<K, A> {
         match class {
             Class::Cancel
             | Class::Escape
-            | Class::RawControl
-            | Class::RawOpens(_)
-            | Class::RawTerminator => { self.leave_apc(b, class, actor) }
-            Class::Plain | Class::Bell | Class::High | Class::Lead => Ok(()),
+            | Class::C1
+            | Class::C1Introducer(_)
+            | Class::C1Terminator => { self.leave_apc(b, class, actor) }
+            Class::C0 | Class::Bell | Class::High | Class::Lead => Ok(()),
             Class::Delete
             | Class::Intermediate
             | Class::Parameter
-            | Class::Opens(_)
+            | Class::Introducer(_)
             | Class::Final => { self.text.push(limit, &[b]) }
         }
     }
@@ -55,17 +55,17 @@ impl<K: Store, A: Allocator> Machine<K, A> {
         requires { V.is_ready actor.old }
         ensures moved { KeepingText K.Store self.old.text (λ limit t.
             Makes K.Store V.Taker limit true result
-            (telling (apc_events limit t) (ground_move b class)) self actor) }
+            (emitting (apc_events limit t) (ground_move b class)) self actor) }
         ensures ready { OnOk result (V.is_ready actor.new) }
     {
-        match tell_apc(&self.text, actor) {
+        match emit_apc(&self.text, actor) {
             Ok(()) => self.in_ground(b, class, actor),
             Err(e) => Err(e),
         }
     }
 
     /// A byte that is passed over, but for a breaker.
-    pub fn in_skip<V: Taker>(&mut self, b: u8, class: Class, actor: &mut V) -> Result<()>
+    pub fn in_ignored<V: Taker>(&mut self, b: u8, class: Class, actor: &mut V) -> Result<()>
         requires { V.is_ready actor.old }
         ensures ignored { InIgnoredString (λ limit u.
             Makes K.Store V.Taker limit true result (move limit u b class) self actor) }
@@ -73,21 +73,21 @@ impl<K: Store, A: Allocator> Machine<K, A> {
             Makes K.Store V.Taker limit true result (move limit u b class) self actor) }
         ensures ready { OnOk result (V.is_ready actor.new) }
     {
-        self.state = State::Skip;
+        self.state = State::Ignored;
         match class {
             Class::Cancel
             | Class::Escape
-            | Class::RawControl
-            | Class::RawOpens(_)
-            | Class::RawTerminator => { self.in_ground(b, class, actor) }
+            | Class::C1
+            | Class::C1Introducer(_)
+            | Class::C1Terminator => { self.in_ground(b, class, actor) }
             Class::Delete
-            | Class::Plain
+            | Class::C0
             | Class::Bell
             | Class::High
             | Class::Lead
             | Class::Intermediate
             | Class::Parameter
-            | Class::Opens(_)
+            | Class::Introducer(_)
             | Class::Final => Ok(()),
         }
     }
@@ -118,7 +118,7 @@ impl<K: Store, A: Allocator> Machine<K, A> {
         }
         let class = classify(rest[run]);
         if is_breaker(class) {
-            self.take_lent_apc(limit, rest, run, class, actor)
+            self.take_borrowed_apc(limit, rest, run, class, actor)
         } else {
             self.keep_apc(limit, rest, run, actor)
         }
@@ -137,7 +137,7 @@ impl<K: Store, A: Allocator> Machine<K, A> {
         requires passes { list_all is_text_byte (take run rest.now) ≡ true }
         requires ready { V.is_ready actor.old }
         requires state { self.old.state ≡ State.Apc }
-        ensures took { KeepingApc K.Store limit self (Unlent rest.now (λ u.
+        ensures took { KeepingApc K.Store limit self (Unborrowed rest.now (λ u.
             Consumes K.Store V.Taker limit result u rest.now self actor)) }
         ensures quiet { AnyApc (λ u. Quietly limit result u rest.now) }
         ensures count { Advances V.Taker result rest.now actor }
@@ -162,7 +162,8 @@ impl<K: Store, A: Allocator> Machine<K, A> {
         requires passes { list_all is_text_byte (take run rest.now) ≡ true }
         requires ready { V.is_ready actor.old }
         requires state { self.old.state ≡ State.Apc }
-        ensures took { KeepingApcAnd K.Store limit (take run rest.now) self (Unlent rest.now (λ u.
+        ensures took { KeepingApcAnd K.Store limit (take run rest.now) self
+            (Unborrowed rest.now (λ u.
             Consumes K.Store V.Taker limit result u rest.now self actor)) }
         ensures quiet { AnyApc (λ u. Quietly limit result u rest.now) }
         ensures count { Advances V.Taker result rest.now actor }
@@ -178,7 +179,7 @@ impl<K: Store, A: Allocator> Machine<K, A> {
 
     // A text, and the breaker of this class that ends it.
     #[inline(always)]
-    fn take_lent_apc<V: Taker>(
+    fn take_borrowed_apc<V: Taker>(
         &mut self,
         limit: Option<usize>,
         rest: &[u8],
@@ -196,14 +197,14 @@ impl<K: Store, A: Allocator> Machine<K, A> {
         ensures quiet { AnyApc (λ u. Quietly limit result u rest.now) }
         ensures count { Advances V.Taker result rest.now actor }
     {
-        match self.end_lent_apc(limit, &rest[..run], rest[run], class, actor) {
+        match self.end_borrowed_apc(limit, &rest[..run], rest[run], class, actor) {
             Ok(()) => Ok(run + 1),
             Err(e) => Err(e),
         }
     }
 
     // A breaker after an application program command whose text is lent.
-    fn end_lent_apc<V: Taker>(
+    fn end_borrowed_apc<V: Taker>(
         &mut self,
         limit: Option<usize>,
         text: &[u8],
@@ -214,10 +215,10 @@ impl<K: Store, A: Allocator> Machine<K, A> {
         requires { V.is_ready actor.old }
         ensures moved { (own : Bool)
             → Makes K.Store V.Taker limit own result
-            (telling (apc_events limit text.now) (ground_move b class)) self actor }
+            (emitting (apc_events limit text.now) (ground_move b class)) self actor }
         ensures ready { OnOk result (V.is_ready actor.new) }
     {
-        match tell_lent_apc(limit, text, actor) {
+        match emit_borrowed_apc(limit, text, actor) {
             Ok(()) => self.in_ground(b, class, actor),
             Err(e) => Err(e),
         }
@@ -225,7 +226,7 @@ impl<K: Store, A: Allocator> Machine<K, A> {
 
     /// The run of 20-7F in what is passed over.
     #[inline(always)]
-    pub fn take_in_skip<V: Taker>(
+    pub fn take_in_ignored<V: Taker>(
         &mut self,
         limit: Option<usize>,
         rest: &[u8],
@@ -233,7 +234,7 @@ impl<K: Store, A: Allocator> Machine<K, A> {
     ) -> Result<usize>
         requires some { 0 < length rest.now }
         requires ready { V.is_ready actor.old }
-        requires state { self.old.state ≡ State.Skip }
+        requires state { self.old.state ≡ State.Ignored }
         ensures took { Holding K.Store limit self (λ u.
             Consumes K.Store V.Taker limit result u rest.now self actor) }
         ensures quiet { Holding K.Store limit self (λ u. Quietly limit result u rest.now) }
@@ -253,27 +254,24 @@ fn is_breaker(class: Class) -> bool
     ensures { result ≡ is_breaker class }
 {
     match class {
-        Class::Cancel
-        | Class::Escape
-        | Class::RawControl
-        | Class::RawOpens(_)
-        | Class::RawTerminator => true,
-        Class::Plain
+        Class::Cancel | Class::Escape | Class::C1 | Class::C1Introducer(_) | Class::C1Terminator =>
+            true,
+        Class::C0
         | Class::Bell
         | Class::High
         | Class::Lead
         | Class::Intermediate
         | Class::Parameter
-        | Class::Opens(_)
+        | Class::Introducer(_)
         | Class::Final
         | Class::Delete => false,
     }
 }
 
-// A lent text, told where it is within the limit.
-fn tell_lent_apc<V: Taker>(limit: Option<usize>, text: &[u8], actor: &mut V) -> Result<()>
+// A lent text, emitted where it is within the limit.
+fn emit_borrowed_apc<V: Taker>(limit: Option<usize>, text: &[u8], actor: &mut V) -> Result<()>
     requires { V.is_ready actor.old }
-    ensures told { Emits V.Taker ⊥ result (apc_events limit text.now) actor }
+    ensures emitted { Emits V.Taker ⊥ result (apc_events limit text.now) actor }
     ensures ready { OnOk result (V.is_ready actor.new) }
 {
     if fits(limit, 0, text.len()) {
@@ -283,11 +281,11 @@ fn tell_lent_apc<V: Taker>(limit: Option<usize>, text: &[u8], actor: &mut V) -> 
     }
 }
 
-// The text of an APC, told where it is within the limit.
-#[tactic(auto, using(crate::proofs::Given::hears_takes))]
-fn tell_apc<K: Store, V: Taker>(text: &K, actor: &mut V) -> Result<()>
+// The text of an APC, emitted where it is within the limit.
+#[tactic(auto, using(crate::proofs::Given::receives_takes))]
+fn emit_apc<K: Store, V: Taker>(text: &K, actor: &mut V) -> Result<()>
     requires { V.is_ready actor.old }
-    ensures told { KeepingText K.Store text.now (λ limit t.
+    ensures emitted { KeepingText K.Store text.now (λ limit t.
         Emits V.Taker ⊥ result (apc_events limit t) actor) }
     ensures ready { OnOk result (V.is_ready actor.new) }
 {

@@ -5,8 +5,8 @@ ghost use Rattle.std.specs.Prelude.{◌≡◌, ◌<◌, [], ◌∷◌, ℕ, List
 ghost use Rattle.std.specs.List.{list_all};
 ghost use Rattle.std.specs.Str.{chars};
 ghost use Rattle.esc_values.specs.Clear.{is_clear, parts_of};
-ghost use Rattle.esc_frame.specs.Bodies.{held, value_behind};
-ghost use Rattle.esc_frame.specs.Events.{Event, Hears, Takes};
+ghost use Rattle.esc_frame.specs.Bodies.{held, value_after};
+ghost use Rattle.esc_frame.specs.Events.{Event, Receives, Takes};
 ghost use Rattle.esc_frame.specs.Limits.{has_few_parts};
 ghost use Rattle.esc_frame.specs.Scans.{is_text_byte, is_data_byte};
 ghost use Rattle.memory.specs.Refusals.{Refused};
@@ -37,7 +37,7 @@ pub trait Taker {
     /// A character.
     fn print(&mut self, c: char) -> Result<(), AllocError>
         requires { is_ready self.old }
-        ensures hears { Hears takes refuses result self.old (Print c) self.new }
+        ensures receives { Receives takes refuses result self.old (Print c) self.new }
         ensures ready { OnOk result (is_ready self.new) };
 
     /// A run of characters 20 to 7F, one byte each, never empty.
@@ -46,7 +46,7 @@ pub trait Taker {
         requires ready { is_ready self.old }
         requires some { 0 < length text.now }
         requires text { list_all is_text_byte text.now ≡ true }
-        ensures told { Takes ⊥ takes refuses result self.old (map Print text.now) self.new }
+        ensures emitted { Takes ⊥ takes refuses result self.old (map Print text.now) self.new }
         ensures ready { OnOk result (is_ready self.new) }
     {
         for b in text {
@@ -64,7 +64,8 @@ pub trait Taker {
         requires ready { is_ready self.old }
         requires some { 0 < length text.now }
         requires clear { list_all is_clear (chars text.now) ≡ true }
-        ensures told { Takes ⊥ takes refuses result self.old (map Print (chars text.now)) self.new }
+        ensures emitted { Takes ⊥ takes refuses result self.old
+            (map Print (chars text.now)) self.new }
         ensures ready { OnOk result (is_ready self.new) }
     {
         let bytes = text.as_bytes();
@@ -82,7 +83,7 @@ pub trait Taker {
     /// A control of C0 or C1.
     fn execute_c0_or_c1(&mut self, control: u8) -> Result<(), AllocError>
         requires { is_ready self.old }
-        ensures hears { Hears takes refuses result self.old (Execute control) self.new }
+        ensures receives { Receives takes refuses result self.old (Execute control) self.new }
         ensures ready { OnOk result (is_ready self.new) };
 
     /// A device control string begins, with its parameter bytes as they came.
@@ -95,15 +96,15 @@ pub trait Taker {
         ignored_extra_intermediates: bool,
     ) -> Result<(), AllocError>
         requires { is_ready self.old }
-        ensures told { Takes (stops (Refused A) parameters.now) takes refuses result self.old
-            (DcsHook byte (map (λ p. pos (held (value_behind 0 p))) (parts_of parameters.now))
+        ensures emitted { Takes (stops (Refused A) parameters.now) takes refuses result self.old
+            (DcsHook byte (map (λ p. pos (held (value_after 0 p))) (parts_of parameters.now))
             intermediates.now ignored_extra_intermediates ∷ []) self.new }
         ensures ready { OnOk result (is_ready self.new) };
 
     /// A byte of its data.
     fn dcs_put(&mut self, byte: u8) -> Result<(), AllocError>
         requires { is_ready self.old }
-        ensures hears { Hears takes refuses result self.old (DcsPut byte) self.new }
+        ensures receives { Receives takes refuses result self.old (DcsPut byte) self.new }
         ensures ready { OnOk result (is_ready self.new) };
 
     /// A run of its data, bytes 20 to 7E, never empty.
@@ -112,7 +113,7 @@ pub trait Taker {
         requires ready { is_ready self.old }
         requires some { 0 < length bytes.now }
         requires bytes { list_all is_data_byte bytes.now ≡ true }
-        ensures told { Takes ⊥ takes refuses result self.old (map DcsPut bytes.now) self.new }
+        ensures emitted { Takes ⊥ takes refuses result self.old (map DcsPut bytes.now) self.new }
         ensures ready { OnOk result (is_ready self.new) }
     {
         for b in bytes {
@@ -127,7 +128,7 @@ pub trait Taker {
     /// It ends.
     fn dcs_unhook(&mut self) -> Result<(), AllocError>
         requires { is_ready self.old }
-        ensures hears { Hears takes refuses result self.old DcsUnhook self.new }
+        ensures receives { Receives takes refuses result self.old DcsUnhook self.new }
         ensures ready { OnOk result (is_ready self.new) };
 
     /// An escape sequence.
@@ -140,7 +141,7 @@ pub trait Taker {
     ) -> Result<(), AllocError>
         requires ready { is_ready self.old }
         requires no_params { params.now ≡ [] }
-        ensures hears { Hears takes refuses result self.old
+        ensures receives { Receives takes refuses result self.old
             (EscDispatch intermediates.now ignored_extra_intermediates byte) self.new }
         ensures ready { OnOk result (is_ready self.new) };
 
@@ -152,14 +153,14 @@ pub trait Taker {
         byte: u8,
     ) -> Result<(), AllocError>
         requires { is_ready self.old }
-        ensures hears { Hears takes refuses result self.old
+        ensures receives { Receives takes refuses result self.old
             (CsiDispatch params.now parameters_truncated byte) self.new }
         ensures ready { OnOk result (is_ready self.new) };
 
     /// The text of an operating system command, whole.
     fn osc_text<A: Allocator>(&mut self, alloc: A, text: &[u8]) -> Result<(), AllocError>
         requires { is_ready self.old }
-        ensures told { Takes (stops (Refused A) text.now) takes refuses result self.old
+        ensures emitted { Takes (stops (Refused A) text.now) takes refuses result self.old
             (OscDispatch (parts_of text.now) ∷ []) self.new }
         ensures few { has_few_parts text.now ≡ true
             → Takes ⊥ takes refuses result self.old
@@ -169,7 +170,7 @@ pub trait Taker {
     /// The text of an application program command.
     fn apc_dispatch(&mut self, text: &[u8]) -> Result<(), AllocError>
         requires { is_ready self.old }
-        ensures hears { Hears takes refuses result self.old (ApcDispatch text.now) self.new }
+        ensures receives { Receives takes refuses result self.old (ApcDispatch text.now) self.new }
         ensures ready { OnOk result (is_ready self.new) };
 }
 

@@ -5,7 +5,7 @@ use Rattle.std.proofs.lemmas.List.{get_or-map}
 use Rattle.std.proofs.lemmas.List.FromFn.{get_or-range_with_len, get_or-map-range_with_len}
 use Rattle.std.proofs.lemmas.Bool.{cases_Bool, and_parts, eqb-true, ltb-true, leb-true, lt-leb, le-leb, ne_eqb}
 use Rattle.std.proofs.Math.Bool.{and-false}
-use Rattle.esc_values.specs.Entries.{is_from}
+use Rattle.esc_values.specs.Params.{is_from}
 use denote.Enum.Bare.{tag_one}
 use denote.Enum.Declared.{variants}
 use denote.Enum.Enum.{tag_below}

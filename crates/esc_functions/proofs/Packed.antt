@@ -1,11 +1,11 @@
--- The marks of entries, packed.
+-- The marks of parameters, packed.
 use Rattle.std.proofs.Common.{◌≡◌, ℕ, ◌+◌, ◌*◌, ◌<◌, ◌≤◌, ◌^◌, List, [], ◌∷◌, length, drop, get_or, Some, None, ap, ◌∙◌, arith}
 use Rattle.std.proofs.lemmas.List.{at_drop_more}
 use Rattle.esc_values.specs.declared.csi_param.CsiParam.{CsiParam}
 use Rattle.esc_functions.specs.Rows.{packed}
 use Rattle.esc_functions.specs.Functions.{mark_of, marks, put_mark}
 
--- what an entry adds
+-- what a parameter adds
 packed_next : (p : ℕ) (es : List CsiParam) (i : ℕ) (e : CsiParam) → i < length es
     → packed p (marks (drop i es))
     ≡ packed p (put_mark (mark_of (get_or es i e)) (marks (drop (i + 1) es)))

@@ -33,11 +33,13 @@ row_has m d =
     ∙ ap (λ t. get_or t (place m) 0) in_order ∙ get_or-range_with_len 0 134 (place m) 0 (below m)
     ∙ zero-add (place m))
 
-pub row_number : (m : PrivateMode) (d : ModeRow PrivateMode) → (get_or ROWS (place m) d).number ≡ number_of m
+pub row_number : (m : PrivateMode) (d : ModeRow PrivateMode)
+    → (get_or ROWS (place m) d).number ≡ number_of m
 unfolding number_of
 row_number m d = sym (get_or-map (λ r. r.number) ROWS (place m) d 0 (below m))
 
-row_fact : {A : Type 0} (g h : ModeRow PrivateMode → A) → map g ROWS ≡ map h ROWS → (m : PrivateMode)
+row_fact : {A : Type 0} (g h : ModeRow PrivateMode → A) → map g ROWS ≡ map h ROWS
+    → (m : PrivateMode)
     (d : ModeRow PrivateMode) → g (get_or ROWS (place m) d) ≡ h (get_or ROWS (place m) d)
 row_fact g h e m d =
     sym (get_or-map g ROWS (place m) d (g d) (below m))
@@ -71,7 +73,8 @@ numbers_are_theirs : list_all (λ r. number_of r.mode == r.number) ROWS ≡ true
 unfolding number_of place
 numbers_are_theirs = refl
 
-in_table : (n : ℕ) (m : PrivateMode) → Numbered (λ r. number_of r.mode == r.number) n m → number_of m ≡ n
+in_table : (n : ℕ) (m : PrivateMode) → Numbered (λ r. number_of r.mode == r.number) n m
+    → number_of m ≡ n
 in_table n m h =
     ap number_of (sym h.named) ∙ eqb-true (number_of h.row.mode) h.row.number h.passes ∙ h.numbered
 

@@ -1,6 +1,6 @@
 -- The control functions of escape sequences and C1 controls, and their keys.
 use Rattle.std.specs.Prelude.{ℕ, ◌+◌, ◌-◌, ◌*◌, ◌%◌, Bool, ◌==◌, ◌||◌, if◌then◌else◌, List, map, get_or, Option, Some, None}
-use Rattle.esc_values.specs.Entries.{is_from}
+use Rattle.esc_values.specs.Params.{is_from}
 use Rattle.esc_functions.specs.Rows.{first_keyed, group}
 use Rattle.esc_functions.specs.declared.row.Row.{Row}
 use Rattle.esc_functions.specs.declared.escape_function.EscapeFunction.{EscapeFunction}

@@ -1,6 +1,6 @@
 -- The control functions of control sequences, and their keys.
 use Rattle.std.specs.Prelude.{ℕ, ◌+◌, ◌-◌, ◌*◌, ◌%◌, Bool, ◌==◌, ◌&&◌, ◌||◌, nat_le, if◌then◌else◌, List, [], ◌∷◌, map, length, get_or, Option, Some, None}
-use Rattle.esc_values.specs.Entries.{is_from}
+use Rattle.esc_values.specs.Params.{is_from}
 use Rattle.esc_values.specs.declared.csi_param.CsiParam.{CsiParam}
 use Rattle.esc_values.specs.declared.csi_param.CsiParam.TheVariants.{Integer, P}
 use Rattle.esc_functions.specs.Rows.{packed, first_keyed, group}
@@ -29,7 +29,7 @@ unfoldable pub function_of : ℕ → Option ControlFunction
 function_of k =
     if is_from 0x40 0x7e (k % 256) then first_keyed (rows_of (k % 256 - 0x40)) k else None
 
--- a private marker or an intermediate: any byte of a body but digits, `;` and `:`
+-- a private prefix or an intermediate: any byte of a body but digits, `;` and `:`
 abbrev pub mark_of : CsiParam → Option ℕ
 mark_of (Integer n) = None
 mark_of (P b) = if (b == 0x3b) || (b == 0x3a) then None else Some b
@@ -44,26 +44,26 @@ marks [] = []
 marks (e ∷ es) = put_mark (mark_of e) (marks es)
 
 -- three final bytes have two functions each, which differ in how much they say: `T` scrolls down,
--- and with more than one entry tracks a highlight; `s` and `u` save and restore the cursor, and
--- with any entry set margins and report a key
+-- and with more than one parameter tracks a highlight; `s` and `u` save and restore the cursor, and
+-- with any parameter set margins and report a key
 abbrev pub is_long : ℕ → ℕ → Bool
 is_long last n = ((last == 0x54) && nat_le 2 n)
     || (((last == 0x73) || (last == 0x75)) && nat_le 1 n)
 
--- what the key of a sequence begins with, of its marks, packed, its count of entries and its final
--- byte
+-- what the key of a sequence begins with, of its marks, packed, its count of parameters and its
+-- final byte
 abbrev pub lead : ℕ → ℕ → ℕ → ℕ
 lead m n last = if (m == 1) && is_long last n then 2 else m
 
 abbrev pub key_with : ℕ → ℕ → ℕ → ℕ
 key_with m n last = 256 * lead m n last + last
 
--- the key of a sequence of these entries and this final byte
+-- the key of a sequence of these parameters and this final byte
 abbrev pub sequence_key : List CsiParam → ℕ → ℕ
 sequence_key es last = key_with (packed 1 (marks es)) (length es) last
 
--- the function of a control sequence; none where entries were left out, since an intermediate may
--- be among them
+-- the function of a control sequence; none where parameters were left out, since an intermediate
+-- may be among them
 abbrev pub named : CsiValue → Option ControlFunction
 named (sgr s) = Some variant.SGR
 named (unspecified es more last) = if more then None else function_of (sequence_key es last)

@@ -46,7 +46,8 @@ each_of has.Rectangle = parameter.Line ∷ parameter.Column ∷ parameter.LastLi
 each_of has.RectangleRenditions = parameter.Line ∷ parameter.Column ∷ parameter.LastLine
     ∷ parameter.LastColumn ∷ parameter.Rendition ∷ []
 each_of has.Copy = parameter.Line ∷ parameter.Column ∷ parameter.LastLine
-    ∷ parameter.LastColumn ∷ parameter.Page ∷ parameter.Line ∷ parameter.Column ∷ parameter.Page ∷ []
+    ∷ parameter.LastColumn ∷ parameter.Page ∷ parameter.Line ∷ parameter.Column ∷ parameter.Page
+    ∷ []
 each_of has.Fill = parameter.Number ∷ parameter.Line ∷ parameter.Column ∷ parameter.LastLine
     ∷ parameter.LastColumn ∷ []
 each_of has.Checksum = parameter.Number ∷ parameter.Page ∷ parameter.Line ∷ parameter.Column

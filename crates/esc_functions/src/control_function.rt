@@ -1,8 +1,9 @@
 //! The control functions of control sequences.
 
 /// A control function that a control sequence asks for, by the standards' abbreviation of its name.
-/// Its row of the table has all else: [`row`](ControlFunction::row), [`name`](ControlFunction::name)
-/// and [`words`](ControlFunction::words); the whole table is in docs/FUNCTIONS.md.
+/// Its row of the table has all else: [`row`](ControlFunction::row),
+/// [`name`](ControlFunction::name) and [`words`](ControlFunction::words); the whole table is in
+/// docs/FUNCTIONS.md.
 ///
 /// Where two sequences have one name, as DECRQM of modes of ECMA-48 and of private modes, one has a
 /// name of its own here.

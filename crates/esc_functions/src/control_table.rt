@@ -28,8 +28,8 @@ use std::alloc::Allocator;
 // parameters; what it changes; what parameters it has; which standard has it; what it does. `long`
 // is of the second function of its final byte, which has more parameters.
 //
-// The rows are in the order of the final bytes, each without marker and intermediates first, and in
-// that of `ControlFunction`.
+// The rows are in the order of the final bytes, each without private prefix and intermediates
+// first, and in that of `ControlFunction`.
 macro_rules! functions {
     ($each:ident) => {
         $each![
@@ -362,35 +362,35 @@ impl ControlFunction {
                 if sequence.parameters_truncated {
                     return None;
                 }
-                ControlFunction::of_entries(sequence.params.as_slice(), sequence.control)
+                ControlFunction::of_csi_params(sequence.params.as_slice(), sequence.control)
             }
         }
     }
 
-    /// The function of a control sequence with all of these entries and this final byte, where it
-    /// has a name.
+    /// The function of a control sequence with all of these parameters and this final byte, where
+    /// it has a name.
     #[tactic(auto, using(crate::proofs::Functions::no_function_with))]
     #[inline]
-    pub fn of_entries(entries: &[CsiParam], last: u8) -> Option<ControlFunction>
-        ensures { result ≡ function_of (sequence_key entries.now last) }
+    pub fn of_csi_params(csi_params: &[CsiParam], last: u8) -> Option<ControlFunction>
+        ensures { result ≡ function_of (sequence_key csi_params.now last) }
     {
-        match packed_marks(entries) {
-            Some(marks) => with_key(key_with(marks, entries.len(), last)),
+        match packed_marks(csi_params) {
+            Some(marks) => with_key(key_with(marks, csi_params.len(), last)),
             None => None,
         }
     }
 
-    /// The function of a control sequence with this private marker, this intermediate and this
+    /// The function of a control sequence with this private prefix, this intermediate and this
     /// final byte, and with no parameters, where it has a name.
     pub fn of_bytes(
-        marker: Option<u8>,
+        private_prefix: Option<u8>,
         intermediate: Option<u8>,
         last: u8,
     ) -> Option<ControlFunction>
         ensures { result
-            ≡ function_of (256 * packed 1 (put_mark marker (put_mark intermediate [])) + last) }
+            ≡ function_of (256 * packed 1 (put_mark private_prefix (put_mark intermediate [])) + last) }
     {
-        with_key(marks_of(marker, intermediate) * 0x100 + last as u32)
+        with_key(marks_of(private_prefix, intermediate) * 0x100 + last as u32)
     }
 
     /// Its row of the table.

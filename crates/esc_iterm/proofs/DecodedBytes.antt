@@ -99,7 +99,7 @@ push_low pad at st i b r e h = elim (cases_Bool (b == pad)) [
     | inr late ↦ let k = rw (same, late) at e in rw (← k) h
   ]
   | inr other ↦ elim (cases_Bool (nat_lt 0 st.padding_count)) [
-    | inl behind ↦ let k = rw (other, behind) at e in rw (← k) tt
+    | inl later ↦ let k = rw (other, later) at e in rw (← k) tt
     | inr before ↦ elim (cases_Bool (slice_index table b == 255)) [
       | inl none ↦ let k = rw (other, before, none) at e in rw (← k) tt
       | inr some ↦ let k = rw (other, before, some) at e in

@@ -43,7 +43,7 @@ pieces_more f keys i d lt =
     ∙ ap key_pieces (map-append f (take i keys) (get_or keys i d ∷ []))
     ∙ pieces_push (map f (take i keys)) (f (get_or keys i d))
 
--- the text of the keys so far and one more, where first tells whether none of them is written
+-- the text of the keys so far and one more, where first says whether none of them is written
 pub text_more : {X : Type 0} (f : X → List ℕ
     × Option (List ℕ)) (keys : List X) (i : ℕ) (d : X) (first : Bool) → i < length keys
     → first ≡ is_nothing (key_pieces (map f (take i keys)))

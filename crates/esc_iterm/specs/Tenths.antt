@@ -2,7 +2,7 @@
 use Rattle.std.specs.Prelude.{ℕ, ◌+◌, ◌-◌, ◌*◌, ◌^◌, ◌/◌, ◌%◌, nat_lt, List, [], ◌∷◌, ◌++◌, Option, Some, None}
 use Rattle.std.specs.Fmt.{decimal}
 use Rattle.esc_values.specs.Cuts.{cut_at}
-use Rattle.esc_values.specs.Entries.{is_digit}
+use Rattle.esc_values.specs.Params.{is_digit}
 use Rattle.esc_values.specs.Scalars.{and_then, when, number_in}
 
 -- at most one digit after the point; none is 0

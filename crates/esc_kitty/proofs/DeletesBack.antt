@@ -16,7 +16,7 @@ use Rattle.esc_kitty.specs.declared.image.KittyImage.TheVariants as image
 use Rattle.esc_kitty.proofs.FieldsBack.{number_is, one_back}
 use Rattle.esc_kitty.proofs.KeysRead.{is_entry, is_value, entries_image, find, written_pairs}
 use Rattle.esc_kitty.proofs.ValuesWritten.{number_value, order_value, verbosity_value}
-use Rattle.esc_kitty.proofs.Sending.{tells, acts}
+use Rattle.esc_kitty.proofs.Sending.{emits, acts}
 
 letter_value : (d : Bool) (small capital : List ℕ) → is_value (Some small) ≡ true
     → is_value (Some capital) ≡ true
@@ -151,7 +151,7 @@ pub deleted_back : {A : Type 0} (w : KittyImageDelete) (q : KittyImageVerbosity)
 deleted_back w q h =
     let keys = delete_keys w q in
     let v : Values = λ k. find k keys in
-    tells (image.Delete w q) (written keys) (delete_some w q)
+    emits (image.Delete w q) (written keys) (delete_some w q)
     (written_pairs keys (delete_entries w q h))
     (entries_image keys [] ∙ acts v [] q (codes "d") (delete_said w q)
     (ap (λ o. unwrap_or o (codes "t")) (delete_action w q))

@@ -19,7 +19,7 @@ use Rattle.esc_kitty.proofs.FieldsBack.{compose_back, frame_back, number_is, pla
 use Rattle.esc_kitty.proofs.KeysRead.{is_entry, ArePairs, entries_image, find, written_pairs}
 use Rattle.esc_kitty.proofs.ValuesWritten.{number_value, frame_value, order_value, flag_value, verbosity_value, format_value, compression_value}
 use Rattle.esc_kitty.proofs.ValuesWritten.{composition_value, medium_value, content_size, content_offset, content_kept}
-use Rattle.esc_kitty.proofs.Sending.{written_at, sends, tells, acts}
+use Rattle.esc_kitty.proofs.Sending.{written_at, sends, emits, acts}
 use Rattle.esc_kitty.proofs.DeletesBack.{deleted_back}
 
 -- TransmitData
@@ -233,7 +233,7 @@ displayed_back : {A : Type 0} (i n : Option ℕ) (p : KittyImagePlacement) (q : 
 displayed_back i n p q hi hn k =
     let keys = display_keys i n p q in
     let v : Values = λ k. find k keys in
-    tells (image.Display i n p q) (written keys) (written_at keys 5 refl)
+    emits (image.Display i n p q) (written keys) (written_at keys 5 refl)
     (written_pairs keys (display_entries i n p q hi hn k))
     (entries_image keys [] ∙ acts v [] q (codes "p") refl refl
     ∙ displayed_is v i n p q hi hn refl refl (placement_back v p k refl refl refl refl refl refl
@@ -265,7 +265,7 @@ composed_back f q h =
     let v : Values = λ k. find k keys in
     let composed : compose_of v ≡ Some f =
     compose_back v f h refl refl refl refl refl refl refl refl refl refl refl in
-    tells (image.ComposeFrame f q) (written keys) (written_at keys 4 refl)
+    emits (image.ComposeFrame f q) (written keys) (written_at keys 4 refl)
     (written_pairs keys (compose_entries f q h))
     (entries_image keys [] ∙ acts v [] q (codes "c") refl refl ∙ rw composed refl)
 

@@ -43,7 +43,7 @@ written_more f keys i d lt =
     ∙ ap written (map-append f (take i keys) (get_or keys i d ∷ []))
     ∙ written_push (map f (take i keys)) (f (get_or keys i d))
 
--- the text of the keys so far, where first tells whether none of them is written
+-- the text of the keys so far, where first says whether none of them is written
 pub text_more : {X : Type 0} (f : X → Entry) (keys : List X) (i : ℕ) (d : X) (first : Bool)
     → i < length keys → first ≡ is_bare (written (map f (take i keys)))
     → keys_text (written (map f (take i keys))) ++ entry_text first (f (get_or keys i d))

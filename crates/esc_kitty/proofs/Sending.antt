@@ -39,11 +39,11 @@ sends i es payload some pairs kept is = (
   with_payload es payload some pairs ∙ is,
 )
 
-pub tells : {A : Type 0} (i : KittyImage A) (es : Pairs) → is_bare es ≡ false → ArePairs es
+pub emits : {A : Type 0} (i : KittyImage A) (es : Pairs) → is_bare es ≡ false → ArePairs es
     → image_in {A = A} (values_of es) [] ≡ Some i
     → (list_all is_kept (0x47 ∷ (keys_text es ++ [])) ≡ true)
     × (image_of {A = A} (0x47 ∷ (keys_text es ++ [])) ≡ Some i)
-tells i es some pairs is = (
+emits i es some pairs is = (
   all_append is_kept (keys_text es) [] (keys_pass is_kept word_kept refl es pairs) refl,
   without_payload es some pairs ∙ is,
 )

@@ -182,7 +182,7 @@ image_in v payload = and_then (verbosity_of (v (codes "q"))) (λ q.
 abbrev pub image_with : {A : Type 0} → List ℕ → List ℕ → Option (KittyImage A)
 image_with keys payload = and_then (keys_of keys) (λ es. image_in (values_of es) payload)
 
--- the keys up to the first `;`, and the payload behind it; without `;` all is keys, and the payload
+-- the keys up to the first `;`, and the payload after it; without `;` all is keys, and the payload
 -- is empty
 abbrev pub keys_and_payload : List ℕ → List ℕ × List ℕ
 keys_and_payload bs = unwrap_or (cut_at 0x3b bs) (bs, [])

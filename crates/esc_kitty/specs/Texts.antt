@@ -54,12 +54,12 @@ keys_text [] = []
 keys_text (e ∷ es) = pair_text e ++ flat_map (λ d. 0x2c ∷ pair_text d) es
 
 -- in the order of their bytes, each once
-abbrev pub stands_before : List ℕ → List ℕ → Bool
-stands_before n m = is_lt (slice_cmp nat_cmp n m)
+abbrev pub cut_before : List ℕ → List ℕ → Bool
+cut_before n m = is_lt (slice_cmp nat_cmp n m)
 
 abbrev pub ascends : Pairs → Bool
 ascends [] = true
-ascends (e ∷ es) = list_all (λ (d : List ℕ × List ℕ). stands_before e.0 d.0) es && ascends es
+ascends (e ∷ es) = list_all (λ (d : List ℕ × List ℕ). cut_before e.0 d.0) es && ascends es
 
 -- whether none is written
 abbrev pub is_bare : Pairs → Bool

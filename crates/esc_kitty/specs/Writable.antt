@@ -101,7 +101,7 @@ IsWritableImage (image.Query t) = IsWritableTransmit t
 IsWritableImage (image.TransmitFrame t f q) = IsWritableTransmit t × IsWritableFrame f
 IsWritableImage (image.ComposeFrame f q) = IsWritableCompose f
 
--- the text of the image has kept bytes alone behind `ESC _`, and these mean the image
+-- the text of the image has kept bytes alone after `ESC _`, and these mean the image
 abbrev pub ReadsBack : {A : Type 0} → KittyImage A → Type 0
 ReadsBack {A = A} i = (list_all is_kept (image_body i) ≡ true)
     × (image_of {A = A} (image_body i) ≡ Some i)

@@ -60,7 +60,7 @@ impl<A: Allocator> KittyImageData<A> {
         }
     }
 
-    // The number of bytes, where it is told.
+    // The number of bytes, where it is emitted.
     pub(crate) fn size(&self) -> Option<u32>
         ensures { result ≡ size_in self.now }
     {
@@ -72,7 +72,7 @@ impl<A: Allocator> KittyImageData<A> {
         }
     }
 
-    // The number of bytes before them, where it is told.
+    // The number of bytes before them, where it is emitted.
     pub(crate) fn offset(&self) -> Option<u32>
         ensures { result ≡ offset_in self.now }
     {
@@ -86,7 +86,7 @@ impl<A: Allocator> KittyImageData<A> {
 }
 
 /// Writes the payload: the text of `Direct`, else base64 of the bytes, the path or the name. Takes
-/// no memory, and errs only where the writer behind the formatter errs.
+/// no memory, and errs only where the writer below the formatter errs.
 impl<A: Allocator> fmt::Display for KittyImageData<A> {
     ghost output = { λ c. Some (content_text c) };
 

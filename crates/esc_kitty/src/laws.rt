@@ -9,7 +9,7 @@ ghost use Rattle.esc_kitty.specs.declared.image.KittyImage.{KittyImage};
 
 use std::alloc::Allocator;
 
-/// A writable image writes, behind `ESC _`, bytes from space to U+007F alone, so nothing that ends
+/// A writable image writes, after `ESC _`, bytes from space to U+007F alone, so nothing that ends
 /// the command; and they are read as the image.
 #[tactic(auto, using(crate::proofs::ImagesBack::reads_back))]
 pub fn reads_back<A: Allocator>()

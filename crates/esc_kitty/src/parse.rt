@@ -19,8 +19,8 @@ impl<A: Allocator + Copy> KittyImage<A> {
     /// The image that the data of an application program command is; none where it is no image. The
     /// error is that memory was refused.
     ///
-    /// The data is `G`, the keys, and the payload behind the first `;`; without `;` the payload is
-    /// empty. The keys are UTF-8, with `,` between them; each has its value behind its first `=`,
+    /// The data is `G`, the keys, and the payload after the first `;`; without `;` the payload is
+    /// empty. The keys are UTF-8, with `,` between them; each has its value after its first `=`,
     /// and a later value of a key replaces an earlier one. Keys that the action does not use are
     /// ignored, but for `q`. A number that cannot be read counts as absent; any other value that is
     /// unknown is no image, nor is a deletion without a number that it needs. A payload is read

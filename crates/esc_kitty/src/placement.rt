@@ -23,7 +23,7 @@ pub struct KittyImagePlacement {
     pub rows: Option<u32>,
     /// The id of the placement, key `p`.
     pub placement_id: Option<u32>,
-    /// Whether the cursor stays where it is, key `C`. Else it moves behind the image.
+    /// Whether the cursor stays where it is, key `C`. Else it moves after the image.
     pub do_not_move_cursor: bool,
     /// Its order above and below others, key `z`. Below 0 it is shown below the text.
     pub z_index: Option<i32>,

@@ -16,7 +16,7 @@ use std::fmt;
 ///
 /// A key is written where its field differs from what is read without the key; `a` always, but for
 /// `TransmitData` only where it is the only key; `d` for every deletion. Takes no memory, and errs
-/// only where the writer behind the formatter errs.
+/// only where the writer below the formatter errs.
 impl<A: Allocator> fmt::Display for KittyImage<A> {
     ghost output = { λ i. Some (image_text i) };
 

@@ -4,61 +4,61 @@ use Rattle.esc_values.specs.declared.csi_param.CsiParam.{CsiParam}
 use Rattle.esc_frame.specs.Events.{Event}
 use Rattle.esc_frame.specs.Events.Event.{CsiDispatch, Execute}
 use Rattle.esc_frame.specs.Leads.Unfinished.{Ground}
-use Rattle.esc_frame.specs.Machine.Moves.{after_all, news_all}
+use Rattle.esc_frame.specs.Machine.Moves.{after_all, events_all}
 use Rattle.esc_frame.specs.Machine.Shorts.{IsShort}
 use Rattle.esc_frame.specs.Sequences.{is_from}
 use Rattle.esc_frame.proofs.ManyBytes.{one_control}
 use Rattle.esc_frame.proofs.ShortRuns.{short_after, short_given}
 use Rattle.esc_lent.specs.declared.event.EscEvent.{EscEvent}
 use Rattle.esc_lent.specs.declared.parser.EscParser.{EscParser}
-use Rattle.esc_lent.specs.Runs.{IsTextRun, Tells, TellsEvent}
+use Rattle.esc_lent.specs.Runs.{IsTextRun, Emits, EmitsEvent}
 use Rattle.esc_lent.specs.States.{KeptIn}
-use Rattle.esc_lent.specs.Told.{sent, is_run}
+use Rattle.esc_lent.specs.Emitted.{sent, is_run}
 use Rattle.esc_lent.proofs.Folds.{Adds, all_said}
-use Rattle.esc_lent.proofs.Kept.{ground_only, text_keeps, text_tells}
+use Rattle.esc_lent.proofs.Kept.{ground_only, text_keeps, text_emits}
 
-pub csi_tells : (e : EscEvent) (bytes : List ℕ) (run : ℕ) (items : List CsiParam) → 2 < length bytes
+pub csi_emits : (e : EscEvent) (bytes : List ℕ) (run : ℕ) (items : List CsiParam) → 2 < length bytes
     → get_or bytes 0 0 ≡ 0x1b → get_or bytes 1 0 ≡ 0x5b
     → run + 2 < length bytes → IsShort items (take run (drop 2 bytes))
     → is_from 0x40 0x7e (get_or bytes (run + 2) 0) ≡ true
     → ((out : List ℕ) → sent e out ≡ CsiDispatch items false (get_or bytes (run + 2) 0) ∷ [])
-    → TellsEvent e (take (run + 3) bytes)
-csi_tells e bytes run items some a b room short final says =
+    → EmitsEvent e (take (run + 3) bytes)
+csi_emits e bytes run items some a b room short final says =
     let event : List Event = CsiDispatch items false (get_or bytes (run + 2) 0) ∷ [] in (
       short_after None bytes run items some a b room short final,
       λ limit out.
-          says out ∙ (all_said (λ s. s) (λ s. true) (news_all limit Ground (take (run + 3) bytes))
+          says out ∙ (all_said (λ s. s) (λ s. true) (events_all limit Ground (take (run + 3) bytes))
           [] event
           (short_given limit bytes run items some a b room short final (Adds (λ s. s) (λ s. true))
           (λ _ _ _. Unit {0}) [] event (refl, λ h. h))).0,
     )
 
 -- an event that is no run, of bytes in ground
-pub event_tells : (p : EscParser) (e : EscEvent) (x : List ℕ) → p.state ≡ 0 → p.pending ≡ 0
-    → is_run e.kind ≡ false → TellsEvent e x
-    → (out : List ℕ) (limit : ℕ) (bytes : List ℕ) → Tells p p e out limit bytes x
-event_tells p e x zero none off tells out limit bytes = λ u memory room h.
+pub event_emits : (p : EscParser) (e : EscEvent) (x : List ℕ) → p.state ≡ 0 → p.pending ≡ 0
+    → is_run e.kind ≡ false → EmitsEvent e x
+    → (out : List ℕ) (limit : ℕ) (bytes : List ℕ) → Emits p p e out limit bytes x
+event_emits p e x zero none off emits out limit bytes = λ u memory room h.
     let g = ground_only p memory zero none u h in (
-      subst (KeptIn p memory) (sym (ap (λ v. after_all v x) g ∙ tells.0 ∙ sym g)) h,
-      rw off (tells.1 (Some limit) out ∙ sym (ap (λ v. news_all (Some limit) v x) g)),
+      subst (KeptIn p memory) (sym (ap (λ v. after_all v x) g ∙ emits.0 ∙ sym g)) h,
+      rw off (emits.1 (Some limit) out ∙ sym (ap (λ v. events_all (Some limit) v x) g)),
     )
 
 -- a run of characters there
-pub run_tells : (p : EscParser) (e : EscEvent) (bytes : List ℕ) (run : ℕ) → p.state ≡ 0
+pub run_emits : (p : EscParser) (e : EscEvent) (bytes : List ℕ) (run : ℕ) → p.state ≡ 0
     → p.pending ≡ 0 → e.kind ≡ 1 → e.length ≡ run
     → IsTextRun (take run bytes) → (out : List ℕ) (limit : ℕ)
-    → Tells p p e out limit bytes (take run bytes)
-run_tells p e bytes run zero none kind long text out limit = λ u memory room h. (
+    → Emits p p e out limit bytes (take run bytes)
+run_emits p e bytes run zero none kind long text out limit = λ u memory room h. (
   text_keeps p memory zero none bytes run run refl text u h,
-  text_tells p memory zero none bytes run run refl text u h e out kind long
-      ∙ ap (λ k. news_all (Some k) u (take run bytes)) room,
+  text_emits p memory zero none bytes run run refl text u h e out kind long
+      ∙ ap (λ k. events_all (Some k) u (take run bytes)) room,
 )
 
 -- a control there
-pub control_tells : (e : EscEvent) (bytes : List ℕ) → 0 < length bytes → get_or bytes 0 0 < 0x20
+pub control_emits : (e : EscEvent) (bytes : List ℕ) → 0 < length bytes → get_or bytes 0 0 < 0x20
     → get_or bytes 0 0 ≢ 0x1b → e.kind ≡ 3
-    → e.byte ≡ get_or bytes 0 0 → TellsEvent e (take 1 bytes)
-control_tells e bytes some low other kind byte =
+    → e.byte ≡ get_or bytes 0 0 → EmitsEvent e (take 1 bytes)
+control_emits e bytes some low other kind byte =
     let one = one_control bytes some low other in (
       one.0,
       λ limit out. rw kind (ap (λ b. Execute b ∷ []) byte ∙ sym (one.1 limit)),

@@ -2,13 +2,14 @@
 use Rattle.std.proofs.Common.{◌≡◌, Bool, false, List, [], ◌∷◌, ◌++◌, Result, ap, sym, ◌∙◌, subst, append_assoc}
 use Rattle.std.proofs.lemmas.List.{append-nil}
 use Rattle.std.specs.List.{FoldsTo}
-use Rattle.esc_frame.specs.Events.{Event, Hears, Takes}
-use Rattle.esc_frame.proofs.Given.{hears_takes}
+use Rattle.esc_frame.specs.Events.{Event, Receives, Takes}
+use Rattle.esc_frame.proofs.Given.{receives_takes}
 
-pub hears_both : {S E : Type 0} (own : Type 0) (takes refuses : S → Event → S → Type 0)
+pub receives_both : {S E : Type 0} (own : Type 0) (takes refuses : S → Event → S → Type 0)
     (result : Result (Unit {0}) E) (old new : S) (e : Event)
-    → Hears takes refuses result old e new → Takes own takes refuses result old (e ∷ []) new
-hears_both own takes refuses result old new e h = hears_takes own takes refuses result old new e h
+    → Receives takes refuses result old e new → Takes own takes refuses result old (e ∷ []) new
+receives_both own takes refuses result old new e h =
+    receives_takes own takes refuses result old new e h
 
 -- where each event is added to what was said, and a mark stays off
 module _ {S : Type 0} (says : S → List Event) (mark : S → Bool) where

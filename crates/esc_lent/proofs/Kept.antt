@@ -7,7 +7,7 @@ use Rattle.esc_frame.specs.Events.Event.{Print}
 use Rattle.esc_frame.specs.Leads.{Unfinished}
 use Rattle.esc_frame.specs.Leads.Unfinished.{Ground, Pending, InEscape, InCsi, InOsc, InOscPending, InDcs, InData, InApc, InIgnored}
 use Rattle.esc_frame.specs.Limits.{is_read}
-use Rattle.esc_frame.specs.Machine.Moves.{after_all, news_all}
+use Rattle.esc_frame.specs.Machine.Moves.{after_all, events_all}
 use Rattle.esc_frame.specs.Scans.{is_data_byte}
 use Rattle.esc_frame.specs.Segments.{Opener, is_empty}
 use Rattle.esc_frame.specs.declared.machine.State.TheVariants as state
@@ -15,7 +15,7 @@ use Rattle.esc_frame.proofs.ClearRuns.{clear_text_run}
 use Rattle.esc_frame.proofs.ManyBytes.{run_passes}
 use Rattle.esc_frame.proofs.StringRuns.{data_text}
 use Rattle.esc_lent.specs.declared.event.EscEvent.{EscEvent}
-use Rattle.esc_lent.specs.Told.{told_by}
+use Rattle.esc_lent.specs.Emitted.{emitted_by}
 use Rattle.esc_lent.specs.declared.parser.EscParser.{EscParser}
 use Rattle.esc_lent.specs.Numbers.{state_numbered, begun}
 use Rattle.esc_lent.specs.Runs.{IsTextRun}
@@ -29,7 +29,7 @@ module _ (p : EscParser) (memory : List ℕ) (zero : p.state ≡ 0) (none : p.pe
   no_bytes : begun_in p ≡ []
   no_bytes = ap (λ n. begun n p.first p.second p.third) none
 
-  skips : (b : Bool) → state_numbered p.state ≡ (if b then state.Data else state.Skip) → Unit {0}
+  skips : (b : Bool) → state_numbered p.state ≡ (if b then state.Data else state.Ignored) → Unit {0}
   skips b e = tt
 
   pub ground_only : (u : Unfinished) → KeptIn p memory u → u ≡ Ground
@@ -41,7 +41,7 @@ module _ (p : EscParser) (memory : List ℕ) (zero : p.state ≡ 0) (none : p.pe
   ground_only (InDcs o x) h = cc
   ground_only (InData o x f d) h =
       elim (is_read (Some (length memory)) (strip x)) as (λ b.
-      state_numbered p.state ≡ (if b then state.Data else state.Skip)
+      state_numbered p.state ≡ (if b then state.Data else state.Ignored)
       → InData o x f d ≡ Ground) [
         | true ↦ λ e. cc
         | false ↦ λ e. cc
@@ -67,7 +67,7 @@ module _ (p : EscParser) (memory : List ℕ) (five : p.state ≡ 5) (P : Unfinis
   data_only (InData o x f d) h =
       elim (is_read (Some (length memory)) (strip x)) as
       (λ b. is_read (Some (length memory)) (strip x) ≡ b
-      → state_numbered p.state ≡ (if b then state.Data else state.Skip) → P (InData o x f d)) [
+      → state_numbered p.state ≡ (if b then state.Data else state.Ignored) → P (InData o x f d)) [
         | true ↦ λ r e. read o x f d r
         | false ↦ λ r e. absurd cc
       ] refl h
@@ -82,7 +82,7 @@ module _ (p : EscParser) (memory : List ℕ) (zero : p.state ≡ 0) (none : p.pe
     (bytes : List ℕ) (run n : ℕ) (same : n ≡ run)
     (text : IsTextRun (take run bytes)) (u : Unfinished) (h : KeptIn p memory u) where
   does : (after_all Ground (take run bytes) ≡ Ground)
-      × (news_all (Some (length memory)) Ground (take run bytes)
+      × (events_all (Some (length memory)) Ground (take run bytes)
       ≡ map Print (chars (take run bytes)))
   does = clear_text_run (Some (length memory)) (take run bytes) text.0 text.1
 
@@ -93,13 +93,13 @@ module _ (p : EscParser) (memory : List ℕ) (zero : p.state ≡ 0) (none : p.pe
       ∙ ap (λ k. after_all Ground (take k bytes)) same ∙ does.0 ∙ sym g in
       subst (KeptIn p memory) (sym e) h
 
-  pub text_tells : (e : EscEvent) (out : List ℕ) → e.kind ≡ 1 → e.length ≡ run
-      → told_by e out (take e.length bytes) ≡ news_all (Some (length memory)) u (take n bytes)
-  text_tells e out kind long =
+  pub text_emits : (e : EscEvent) (out : List ℕ) → e.kind ≡ 1 → e.length ≡ run
+      → emitted_by e out (take e.length bytes) ≡ events_all (Some (length memory)) u (take n bytes)
+  text_emits e out kind long =
       rw (kind, long)
-      (sym (ap (λ v. news_all (Some (length memory)) v (take n bytes))
+      (sym (ap (λ v. events_all (Some (length memory)) v (take n bytes))
       (ground_only p memory zero none u h)
-      ∙ ap (λ k. news_all (Some (length memory)) Ground (take k bytes)) same ∙ does.1))
+      ∙ ap (λ k. events_all (Some (length memory)) Ground (take k bytes)) same ∙ does.1))
 
 module _ (p : EscParser) (memory : List ℕ) (five : p.state ≡ 5) (bytes : List ℕ) (run n : ℕ)
     (same : n ≡ run)
@@ -117,12 +117,12 @@ module _ (p : EscParser) (memory : List ℕ) (five : p.state ≡ 5) (bytes : Lis
         r,
       ) (ap state_numbered five)) u h
 
-  pub data_tells : (u : Unfinished) → KeptIn p memory u → (e : EscEvent) (out : List ℕ) → e.kind ≡ 8
+  pub data_emits : (u : Unfinished) → KeptIn p memory u → (e : EscEvent) (out : List ℕ) → e.kind ≡ 8
       → e.length ≡ run
-      → told_by e out (take e.length bytes) ≡ news_all (Some (length memory)) u (take n bytes)
-  data_tells u h e out kind long =
-      data_only p memory five (λ v. told_by e out (take e.length bytes)
-      ≡ news_all (Some (length memory)) v (take n bytes))
+      → emitted_by e out (take e.length bytes) ≡ events_all (Some (length memory)) u (take n bytes)
+  data_emits u h e out kind long =
+      data_only p memory five (λ v. emitted_by e out (take e.length bytes)
+      ≡ events_all (Some (length memory)) v (take n bytes))
       (λ o x f d r.
       rw (
         kind,
@@ -132,15 +132,15 @@ module _ (p : EscParser) (memory : List ℕ) (five : p.state ≡ 5) (bytes : Lis
 
 -- ---- what is still to be handed out is no part of what is kept
 
-pub kept_due : (p : EscParser) (kind : ℕ) (memory : List ℕ) (u : Unfinished) → KeptIn p memory u
-    → KeptIn (record p { due_kind = kind }) memory u
-kept_due p kind memory Ground h = h
-kept_due p kind memory (Pending f) h = h
-kept_due p kind memory (InEscape x) h = h
-kept_due p kind memory (InCsi o x) h = h
-kept_due p kind memory (InDcs o x) h = h
-kept_due p kind memory (InData o x f d) h = h
-kept_due p kind memory (InApc o d) h = h
-kept_due p kind memory (InIgnored k o d) h = h
-kept_due p kind memory (InOsc o ps) h = h
-kept_due p kind memory (InOscPending o ps f) h = h
+pub kept_queued : (p : EscParser) (kind : ℕ) (memory : List ℕ) (u : Unfinished) → KeptIn p memory u
+    → KeptIn (record p { queued_kind = kind }) memory u
+kept_queued p kind memory Ground h = h
+kept_queued p kind memory (Pending f) h = h
+kept_queued p kind memory (InEscape x) h = h
+kept_queued p kind memory (InCsi o x) h = h
+kept_queued p kind memory (InDcs o x) h = h
+kept_queued p kind memory (InData o x f d) h = h
+kept_queued p kind memory (InApc o d) h = h
+kept_queued p kind memory (InIgnored k o d) h = h
+kept_queued p kind memory (InOsc o ps) h = h
+kept_queued p kind memory (InOscPending o ps f) h = h

@@ -4,7 +4,7 @@ use Rattle.esc_frame.specs.Classes.{strip}
 use Rattle.esc_frame.specs.Leads.{Unfinished, Holds}
 use Rattle.esc_frame.specs.Leads.Unfinished.{Ground, Pending, InEscape, InCsi, InOsc, InOscPending, InDcs, InData, InApc, InIgnored}
 use Rattle.esc_frame.specs.Limits.{is_read}
-use Rattle.esc_frame.specs.Machine.Fronts.{front_of}
+use Rattle.esc_frame.specs.Machine.Prefixes.{prefix_of}
 use Rattle.esc_frame.specs.Machine.Keeps.{Keeps, KeepsBody, KeepsDcs}
 use Rattle.esc_frame.specs.declared.machine.Machine.{Machine}
 use Rattle.esc_frame.specs.declared.machine.State.TheVariants as state
@@ -16,7 +16,7 @@ module _ {K A : Type 0} (keeps : Option ℕ → K → List ℕ
     → Type 0) (m : Machine K A) (p : EscParser) (memory : List ℕ) (room : ℕ)
     (all : length memory ≡ room) where
   -- numbers that were kept of a machine
-  module _ (states : state_numbered p.state ≡ m.state) (begun : begun_in p ≡ front_of m.pending)
+  module _ (states : state_numbered p.state ≡ m.state) (begun : begun_in p ≡ prefix_of m.pending)
       (first : (x : List ℕ) → m.state ≡ state.Escape → Keeps m.intermediates x → FirstIn p x)
       (body : (x : List ℕ) → m.state ≡ state.Csi → KeepsBody m.body x → BodyIn p x)
       (header : (x : List ℕ) → m.state ≡ state.Dcs → KeepsDcs m.header x → HeaderIn p x)
@@ -28,7 +28,7 @@ module _ {K A : Type 0} (keeps : Option ℕ → K → List ℕ
     stored (InCsi o x) h = (states ∙ h.0, body (strip x) h.0 h.1)
     stored (InDcs o x) h = (states ∙ h.0, text _ h.1, header (strip x) h.0 h.2)
     stored (InData o x f d) h =
-        states ∙ h ∙ ap (λ n. if is_read (Some n) (strip x) then state.Data else state.Skip)
+        states ∙ h ∙ ap (λ n. if is_read (Some n) (strip x) then state.Data else state.Ignored)
         (sym all)
     stored (InApc o d) h = (states ∙ h.0, text _ h.1)
     stored (InIgnored k o d) h = states ∙ h
@@ -36,7 +36,7 @@ module _ {K A : Type 0} (keeps : Option ℕ → K → List ℕ
     stored (InOscPending o ps f) h = (states ∙ h.0, text _ h.1, begun ∙ h.2, h.3)
 
   -- a machine that was made of numbers
-  module _ (states : m.state ≡ state_numbered p.state) (begun : front_of m.pending ≡ begun_in p)
+  module _ (states : m.state ≡ state_numbered p.state) (begun : prefix_of m.pending ≡ begun_in p)
       (first : (x : List ℕ) → FirstIn p x → Keeps m.intermediates x)
       (body : (x : List ℕ) → state_numbered p.state ≡ state.Csi → BodyIn p x → KeepsBody m.body x)
       (header : (x : List ℕ) → HeaderIn p x → KeepsDcs m.header x)
@@ -48,7 +48,7 @@ module _ {K A : Type 0} (keeps : Option ℕ → K → List ℕ
     loaded (InCsi o x) h = (states ∙ h.0, body (strip x) h.0 h.1)
     loaded (InDcs o x) h = (states ∙ h.0, text _ h.1, header (strip x) h.2)
     loaded (InData o x f d) h =
-        states ∙ h ∙ ap (λ n. if is_read (Some n) (strip x) then state.Data else state.Skip) all
+        states ∙ h ∙ ap (λ n. if is_read (Some n) (strip x) then state.Data else state.Ignored) all
     loaded (InApc o d) h = (states ∙ h.0, text _ h.1)
     loaded (InIgnored k o d) h = states ∙ h
     loaded (InOsc o ps) h = (states ∙ h.0, text _ h.1, begun ∙ h.2)

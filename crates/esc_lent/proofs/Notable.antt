@@ -6,24 +6,24 @@ use Rattle.std.proofs.lemmas.List.{append-nil}
 use Rattle.esc_values.specs.Clear.{parts_of}
 use Rattle.esc_values.proofs.Split.{joined_parts}
 use Rattle.esc_frame.specs.declared.classes.Class.{Class}
-use Rattle.esc_frame.specs.declared.classes.Class.TheVariants.{Escape, Opens, RawControl, RawOpens, RawTerminator, Lead}
+use Rattle.esc_frame.specs.declared.classes.Class.TheVariants.{Escape, Introducer, C1, C1Introducer, C1Terminator, Lead}
 use Rattle.esc_frame.specs.declared.sequence.Outcome.{Outcome}
 use Rattle.esc_frame.specs.declared.sequence.Outcome.TheVariants as outcomes
-use Rattle.esc_frame.specs.Bodies.{is_csi_body, entries, kept_entries, dcs_intermediates}
-use Rattle.esc_frame.specs.Classes.{class_of, strip, those, is_text, is_breaker, is_plain, in_escape, in_csi, in_osc, is_put}
+use Rattle.esc_frame.specs.Bodies.{is_csi_body, csi_params, kept_csi_params, dcs_intermediates}
+use Rattle.esc_frame.specs.Classes.{class_of, strip, those, is_text, is_breaker, is_c0, in_escape, in_csi, in_osc, is_put}
 use Rattle.esc_frame.specs.Events.{Event, StopsAt}
 use Rattle.esc_frame.specs.Events.Event.{Print, Execute, OscDispatch, DcsPut, DcsUnhook, ApcDispatch}
 use Rattle.esc_frame.specs.Leads.{Unfinished}
 use Rattle.esc_frame.specs.Leads.Unfinished.{Ground, Pending, InEscape, InCsi, InOsc, InOscPending, InDcs, InData, InApc, InIgnored}
 use Rattle.esc_frame.specs.Limits.{is_within, is_read}
 use Rattle.esc_frame.specs.Machine.Calls.{Fails}
-use Rattle.esc_frame.specs.Machine.Moves.{Move, opened, telling, ground_move, pair_move, noise, final_escape, hooks, leaving, final_osc, goes_on, inside}
-use Rattle.esc_frame.specs.Machine.Moves.{pending_move, osc_pending_move, after_all, news_all, news_by, IsStill}
+use Rattle.esc_frame.specs.Machine.Moves.{Move, opened, emitting, ground_move, pair_move, noise, final_escape, hooks, leaving, final_osc, goes_on, inside}
+use Rattle.esc_frame.specs.Machine.Moves.{pending_move, osc_pending_move, after_all, events_all, events_by, IsStill}
 use Rattle.esc_frame.specs.Segments.{Opener, Piece, text_of, is_empty, escape_event, csi_event, csi_events, hook_event}
 use Rattle.esc_frame.specs.Segments.Opener.{Long}
 use Rattle.esc_frame.specs.Segments.Piece.{One, Sequence, BrokenOff}
 use Rattle.esc_frame.specs.Sequences.{is_pair, number_of, outcome}
-use Rattle.esc_frame.proofs.Streams.{news_append}
+use Rattle.esc_frame.proofs.Streams.{events_append}
 use Rattle.esc_lent.specs.Noted.{HasRoom, can_wait, AreNotable}
 use Rattle.esc_lent.proofs.Whole.{within_only}
 
@@ -80,13 +80,13 @@ module _ (room place : ℕ) (less : room ≤ place) where
 
   ground_waits : (b : ℕ) (c : Class) → Waits (ground_move b c).1
   ground_waits b Escape = tt
-  ground_waits b (RawOpens k) = tt
-  ground_waits b RawTerminator = tt
+  ground_waits b (C1Introducer k) = tt
+  ground_waits b C1Terminator = tt
   ground_waits b Lead = tt
   ground_waits b _ = refl
 
   pair_waits : (b : ℕ) (c : Class) → Waits (pair_move b c).1
-  pair_waits b RawControl = refl
+  pair_waits b C1 = refl
   pair_waits b _ = tt
 
   -- ---- a byte in a sequence or a string
@@ -117,17 +117,17 @@ module _ (room place : ℕ) (less : room ≤ place) where
   pick false m n a b = b
 
   noise_first : (b : ℕ) (c : Class) → First (noise b c)
-  noise_first b c = if_first (is_plain c) (Execute b) (λ _. tt)
+  noise_first b c = if_first (is_c0 c) (Execute b) (λ _. tt)
 
   final_first : (x : List ℕ) (b : ℕ) (c : Class) → First (final_escape x b c).1
-  final_first x b (Opens k) =
+  final_first x b (Introducer k) =
       pick (is_empty (strip x)) (opened k (Long x), []) (Ground, escape_event (strip x) b ∷ []) tt
       (escape_room (strip x) b)
   final_first x b _ = escape_room (strip x) b
 
-  csi_room : (x : List ℕ) → length (kept_entries x) ≤ 256
-  unfolding kept_entries
-  csi_room x = omega (arith, length-take 256 (entries x))
+  csi_room : (x : List ℕ) → length (kept_csi_params x) ≤ 256
+  unfolding kept_csi_params
+  csi_room x = omega (arith, length-take 256 (csi_params x))
 
   csi_first : (x : List ℕ) (b : ℕ) → First (csi_events x b)
   csi_first x b = if_first (is_csi_body x) (csi_event x b) (λ _. csi_room x)
@@ -170,7 +170,7 @@ module _ (room place : ℕ) (less : room ≤ place) where
 
   inside_notable : (u : Unfinished) (b : ℕ) (c : Class) → AreNotable place (inside limit u b c).1
   inside_notable u b c =
-      choose (is_breaker c) (telling (leaving limit u) (ground_move b c)) (goes_on limit u b c)
+      choose (is_breaker c) (emitting (leaving limit u) (ground_move b c)) (goes_on limit u b c)
       (both (leaving limit u) (ground_move b c).1 (leaving_first u) (ground_waits b c))
       (first_notable (goes_on limit u b c).1 (goes_first u b c))
 
@@ -192,7 +192,8 @@ module _ (room place : ℕ) (less : room ≤ place) where
       (w : Outcome)
       → AreNotable place (osc_pending_move limit o ps f b c w).1
   osc_pending_notable o ps f b c outcomes.Whole =
-      choose (is_pair (f ++ b ∷ [])) (telling (leaving limit (InOscPending o ps f)) (pair_move b c))
+      choose (is_pair (f ++ b ∷ []))
+      (emitting (leaving limit (InOscPending o ps f)) (pair_move b c))
       (InOsc o (ps ++ Sequence (f ++ b ∷ []) ∷ []), [])
       (both (leaving limit (InOscPending o ps f)) (pair_move b c).1
       (leaving_first (InOscPending o ps f)) (pair_waits b c)) tt
@@ -200,7 +201,7 @@ module _ (room place : ℕ) (less : room ≤ place) where
   osc_pending_notable o ps f b c outcomes.Broken =
       inside_notable (InOsc o (ps ++ BrokenOff f ∷ [])) b c
 
-  move_notable : (u : Unfinished) (b : ℕ) (c : Class) → AreNotable place (news_by limit u b c)
+  move_notable : (u : Unfinished) (b : ℕ) (c : Class) → AreNotable place (events_by limit u b c)
   move_notable Ground b c = waits_notable (ground_move b c).1 (ground_waits b c)
   move_notable (Pending f) b c = pending_notable f b c (outcome f b)
   move_notable (InOscPending o ps f) b c = osc_pending_notable o ps f b c (outcome f b)
@@ -214,29 +215,30 @@ module _ (room place : ℕ) (less : room ≤ place) where
 
   -- ---- bytes of which all but the last give nothing
 
-  one_notable : (u : Unfinished) (x : List ℕ) → length x ≤ 1 → AreNotable place (news_all limit u x)
+  one_notable : (u : Unfinished) (x : List ℕ) → length x ≤ 1
+      → AreNotable place (events_all limit u x)
   one_notable u [] h = tt
   one_notable u (b ∷ []) h =
-      subst (AreNotable place) (sym (append-nil (news_by limit u b (class_of b))))
+      subst (AreNotable place) (sym (append-nil (events_by limit u b (class_of b))))
       (move_notable u b (class_of b))
   one_notable u (b ∷ c ∷ x) h = absurd (omega (arith, h))
 
   quiet : (u : Unfinished) (rest : List ℕ) (m : ℕ) → IsStill limit u rest (suc m)
-      → news_all limit u (take m rest) ≡ []
+      → events_all limit u (take m rest) ≡ []
   quiet u rest zero h = refl
   quiet u rest (suc m) h = (h (suc m) (omega arith) (omega arith)).0
 
   pub still_notable : (u : Unfinished) (rest : List ℕ) (n : ℕ) → IsStill limit u rest n
-      → AreNotable place (news_all limit u (take n rest))
+      → AreNotable place (events_all limit u (take n rest))
   still_notable u rest zero h = tt
   still_notable u rest (suc m) h =
       let xs = take m rest in
       let ys = take 1 (drop m rest) in
       let next : suc m ≡ m + 1 = omega arith in
       let split : take (suc m) rest ≡ xs ++ ys = ap (λ k. take k rest) next ∙ take-add m 1 rest in
-      let is : news_all limit u (take (suc m) rest) ≡ news_all limit (after_all u xs) ys =
-      ap (news_all limit u) split ∙ news_append limit u xs ys
-      ∙ ap (λ es. es ++ news_all limit (after_all u xs) ys) (quiet u rest m h) in
+      let is : events_all limit u (take (suc m) rest) ≡ events_all limit (after_all u xs) ys =
+      ap (events_all limit u) split ∙ events_append limit u xs ys
+      ∙ ap (λ es. es ++ events_all limit (after_all u xs) ys) (quiet u rest m h) in
       subst (AreNotable place) (sym is)
       (one_notable (after_all u xs) ys (omega (arith, length-take 1 (drop m rest))))
 
@@ -245,7 +247,7 @@ module _ (room place : ℕ) (less : room ≤ place) where
       (es : List Event) (old new : S)
       → StopsAt (grows × Fails (λ l. l ≢ Some room) (λ _ t. place < length t) A limit) takes
       (λ _ _ _. ⊥) old es new → ⊥
-  goes_through grows A takes es old new (front, rest, e, inl ((g, inl other), f)) = other refl
-  goes_through grows A takes es old new (front, rest, e, inl ((g, inr (t, within, long)), f)) =
+  goes_through grows A takes es old new (prefix, rest, e, inl ((g, inl other), f)) = other refl
+  goes_through grows A takes es old new (prefix, rest, e, inl ((g, inr (t, within, long)), f)) =
       let fits : length t ≤ place = text_room (length t) within in omega (arith, fits, long)
-  goes_through grows A takes es old new (front, rest, e, inr (mid, x, more, is, f, never)) = never
+  goes_through grows A takes es old new (prefix, rest, e, inr (mid, x, more, is, f, never)) = never

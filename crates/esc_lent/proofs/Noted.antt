@@ -9,7 +9,7 @@ use Rattle.esc_frame.specs.Events.{Event, StopsAt}
 use Rattle.esc_frame.specs.Limits.{is_within, most}
 use Rattle.esc_lent.specs.declared.event.EscEvent.{EscEvent}
 use Rattle.esc_lent.specs.Noted.{Adds, AreNotable, IsSound}
-use Rattle.esc_lent.specs.Told.{said, is_run}
+use Rattle.esc_lent.specs.Emitted.{said, is_run}
 use Rattle.esc_lent.proofs.Whole.{within, within_only}
 
 pub parts_room : (place : ℕ) (t : List ℕ) → length (joined (parts_of t)) ≤ place → length t ≤ place
@@ -36,15 +36,16 @@ pub stops_first : {S : Type 0} (own : Type 0) (takes refuses : S → Event → S
     (old : S) → own → StopsAt own takes refuses old (e ∷ []) old
 stops_first own takes refuses e old o = ([], e ∷ [], refl, inl (o, refl))
 
-module _ {S : Type 0} (event : S → EscEvent) (out : S → List ℕ) (due value : S → ℕ)
+module _ {S : Type 0} (event : S → EscEvent) (out : S → List ℕ) (queued value : S → ℕ)
     (lost : S → Bool) (place : ℕ) where
   abbrev pub Notes : S → Event → S → Type 0
   Notes p x q =
-      Adds place (event p) (out p) (due p) (value p) (lost p) x (event q) (out q) (due q) (value q)
+      Adds place (event p) (out p) (queued p) (value p) (lost p) x (event q) (out q) (queued q)
+      (value q)
       (lost q)
 
   abbrev pub says : S → List Event
-  says p = said (event p) (out p) (due p) (value p)
+  says p = said (event p) (out p) (queued p) (value p)
 
   pub all_noted : (es : List Event) (old new : S) → FoldsTo Notes old es new → lost new ≡ false
       → (lost old ≡ false) × (says new ≡ says old ++ es)
@@ -67,9 +68,9 @@ module _ {S : Type 0} (event : S → EscEvent) (out : S → List ℕ) (due value
 
   -- of notable events none is lost
   pub none_lost : (es : List Event) (old new : S) → AreNotable place es → FoldsTo Notes old es new
-      → lost old ≡ false → (event old).kind ≡ 0 → due old ≡ 0
-      → (lost new ≡ false) × ((event new).kind ≡ 0 → due new ≡ 0)
-  none_lost [] old new n e l k d = (ap lost (sym e) ∙ l, λ _. ap due (sym e) ∙ d)
+      → lost old ≡ false → (event old).kind ≡ 0 → queued old ≡ 0
+      → (lost new ≡ false) × ((event new).kind ≡ 0 → queued new ≡ 0)
+  none_lost [] old new n e l k d = (ap lost (sym e) ∙ l, λ _. ap queued (sym e) ∙ d)
   none_lost (x ∷ []) old new n (j, a, e) l k d =
       let q = a.6 n l k d in
       (ap lost (sym e) ∙ q.0, λ z. absurd (q.1 (ap (λ s. (event s).kind) e ∙ z)))

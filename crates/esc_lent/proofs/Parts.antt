@@ -6,7 +6,7 @@ use Rattle.esc_frame.specs.Machine.Keeps.{Keeps, KeepsBody, IsNumber, closed_of,
 use Rattle.esc_lent.specs.declared.parser.EscParser.{EscParser}
 use Rattle.esc_lent.specs.States.{FirstIn, BodyIn, NumberIn}
 use Rattle.esc_lent.specs.Numbers.{form_numbered}
-use Rattle.esc_lent.specs.Told.{param_of}
+use Rattle.esc_lent.specs.Emitted.{param_of}
 
 pub first_loaded : (p : EscParser) (i : Intermediates) (x : List ℕ) → i.bytes ≡ p.intermediates
     → i.kept ≡ min p.kept 2 → i.ignored ≡ p.has_more → FirstIn p x
@@ -23,28 +23,29 @@ first_stored p i x b k m h = (rw (b, k) h.0, m ∙ h.1, k ∙ h.2)
 
 -- ---- the body of a control sequence
 
-number_loaded : (p : EscParser) (b : CsiBody) (o : Option ℕ) → b.entries.is_open ≡ p.is_open
-    → b.entries.number ≡ min p.number 0x7fff_ffff_ffff_ffff
-    → NumberIn p o → IsNumber b.entries o
+number_loaded : (p : EscParser) (b : CsiBody) (o : Option ℕ) → b.csi_params.is_open ≡ p.is_open
+    → b.csi_params.number ≡ min p.number 0x7fff_ffff_ffff_ffff
+    → NumberIn p o → IsNumber b.csi_params o
 number_loaded p b None e n h = e ∙ h
 number_loaded p b (Some k) e n h = (e ∙ h.0, omega (arith, h.1))
 
-number_stored : (p : EscParser) (b : CsiBody) (o : Option ℕ) → p.is_open ≡ b.entries.is_open
-    → p.number ≡ b.entries.number
-    → IsNumber b.entries o → NumberIn p o
+number_stored : (p : EscParser) (b : CsiBody) (o : Option ℕ) → p.is_open ≡ b.csi_params.is_open
+    → p.number ≡ b.csi_params.number
+    → IsNumber b.csi_params o → NumberIn p o
 number_stored p b None e n h = e ∙ h
 number_stored p b (Some k) e n h = (e ∙ h.0, n ∙ h.1)
 
 pub body_loaded : (p : EscParser) (b : CsiBody) (x : List ℕ)
-    → b.entries.items ≡ map param_of (take (min p.count 256) p.entries) → b.entries.limit ≡ 256
-    → b.entries.is_truncated ≡ p.is_truncated → b.entries.is_open ≡ p.is_open
-    → b.entries.number ≡ min p.number 0x7fff_ffff_ffff_ffff
+    → b.csi_params.items ≡ map param_of (take (min p.count 256) p.csi_params)
+    → b.csi_params.limit ≡ 256
+    → b.csi_params.is_truncated ≡ p.is_truncated → b.csi_params.is_open ≡ p.is_open
+    → b.csi_params.number ≡ min p.number 0x7fff_ffff_ffff_ffff
     → b.form ≡ form_numbered p.form → BodyIn p x → KeepsBody b x
 body_loaded p b x items limit more opened number form h =
     let few : min p.count 256 ≡ p.count = omega (arith, h.0) in (
       (
         record {
-          kept = items ∙ ap (λ n. map param_of (take n p.entries)) few ∙ h.1.kept
+          kept = items ∙ ap (λ n. map param_of (take n p.csi_params)) few ∙ h.1.kept
               ∙ ap (λ n. take n (closed_of None x)) (sym limit);
           more = more ∙ h.1.more ∙ ap (λ n. nat_lt n (length (closed_of None x))) (sym limit);
         },
@@ -55,14 +56,15 @@ body_loaded p b x items limit more opened number form h =
     )
 
 pub body_stored : (p : EscParser) (b : CsiBody) (x : List ℕ)
-    → map param_of (take p.count p.entries) ≡ b.entries.items → p.count ≡ length b.entries.items
-    → p.is_truncated ≡ b.entries.is_truncated → p.is_open ≡ b.entries.is_open
-    → p.number ≡ b.entries.number
+    → map param_of (take p.count p.csi_params) ≡ b.csi_params.items
+    → p.count ≡ length b.csi_params.items
+    → p.is_truncated ≡ b.csi_params.is_truncated → p.is_open ≡ b.csi_params.is_open
+    → p.number ≡ b.csi_params.number
     → form_numbered p.form ≡ b.form → KeepsBody b x → BodyIn p x
 body_stored p b x items count more opened number form h =
     let a = h.0.0 in
     let limit = h.0.2 in
-    let kept : b.entries.items ≡ take 256 (closed_of None x) =
+    let kept : b.csi_params.items ≡ take 256 (closed_of None x) =
     a.kept ∙ ap (λ n. take n (closed_of None x)) limit in (
       omega (arith, count, ap length kept, length-take 256 (closed_of None x)),
       record {

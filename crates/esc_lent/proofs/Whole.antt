@@ -12,22 +12,22 @@ use Rattle.esc_frame.specs.Events.Event.{OscDispatch}
 use Rattle.esc_frame.specs.Leads.{Unfinished}
 use Rattle.esc_frame.specs.Leads.Unfinished.{Ground, InEscape, InOsc}
 use Rattle.esc_frame.specs.Limits.{is_within}
-use Rattle.esc_frame.specs.Machine.Moves.{after_all, news_all, after_by, news_by}
+use Rattle.esc_frame.specs.Machine.Moves.{after_all, events_all, after_by, events_by}
 use Rattle.esc_frame.specs.Machine.TextRuns.{IsTextRun}
 use Rattle.esc_frame.specs.Segments as segments
 use Rattle.esc_frame.specs.Segments.{osc_events, escape_event}
 use Rattle.esc_frame.specs.Segments.Opener.{Long}
 use Rattle.esc_frame.proofs.CsiRuns.{osc_opens, escape_class}
-use Rattle.esc_frame.proofs.Lends.{after_more}
-use Rattle.esc_frame.proofs.Lent.{osc_told}
-use Rattle.esc_frame.proofs.QuietRuns.{quiet_after, quiet_news}
-use Rattle.esc_frame.proofs.Streams.{news_append}
+use Rattle.esc_frame.proofs.Borrows.{after_more}
+use Rattle.esc_frame.proofs.Borrowed.{osc_emitted}
+use Rattle.esc_frame.proofs.QuietRuns.{quiet_after, quiet_events}
+use Rattle.esc_frame.proofs.Streams.{events_append}
 use Rattle.esc_lent.specs.declared.event.EscEvent.{EscEvent}
 use Rattle.esc_lent.specs.declared.parser.EscParser.{EscParser}
 use Rattle.esc_lent.specs.Numbers.{state_numbered, begun}
 use Rattle.esc_lent.specs.Runs.{Notes}
 use Rattle.esc_lent.specs.States.{KeptIn, FirstIn}
-use Rattle.esc_lent.specs.Told.{sent, text_of}
+use Rattle.esc_lent.specs.Emitted.{sent, text_of}
 use Rattle.esc_lent.proofs.Kept.{ground_only}
 
 -- ---- what a parser keeps of nothing, and of an ESC alone
@@ -45,12 +45,12 @@ in_escape q memory one none more = let first : FirstIn q [] =
 -- from ground
 pub from_ground : (p q : EscParser) (e : EscEvent) (out : List ℕ) (limit : ℕ) (x : List ℕ)
     (v : Unfinished) → p.state ≡ 0 → p.pending ≡ 0
-    → after_all Ground x ≡ v → sent e out ≡ news_all (Some limit) Ground x
+    → after_all Ground x ≡ v → sent e out ≡ events_all (Some limit) Ground x
     → ((memory : List ℕ) → KeptIn q memory v) → Notes p q e out limit x
-from_ground p q e out limit x v zero none after news keeps = λ u memory room h.
+from_ground p q e out limit x v zero none after new_events keeps = λ u memory room h.
     let g = ground_only p memory zero none u h in (
       subst (KeptIn q memory) (sym (ap (λ w. after_all w x) g ∙ after)) (keeps memory),
-      news ∙ sym (ap (λ w. news_all (Some limit) w x) g),
+      new_events ∙ sym (ap (λ w. events_all (Some limit) w x) g),
     )
 
 -- ---- an operating system command
@@ -76,18 +76,18 @@ module _ (limit : Option ℕ) (rest : List ℕ) (run : ℕ) (some : 2 < length r
 
   -- the opener and the text
   osc_run : (after_all Ground (take (run + 2) rest) ≡ InOsc (Long []) units.0)
-      × (news_all limit Ground (take (run + 2) rest) ≡ [])
+      × (events_all limit Ground (take (run + 2) rest) ≡ [])
   osc_run =
       let begin = osc_opens limit rest (omega arith) e b in
       let q = units.2 limit (Long []) [] in
       let back : run + 2 ≡ 2 + run = omega arith in (
         ap (λ n. after_all Ground (take n rest)) back ∙ after_more Ground rest 2 run
             ∙ ap (λ u. after_all u text) begin.0 ∙ q.0,
-        ap (λ n. news_all limit Ground (take n rest)) back
-            ∙ ap (news_all limit Ground) (take-add 2 run rest)
-            ∙ news_append limit Ground (take 2 rest) text
-            ∙ ap (λ es. es ++ news_all limit (after_all Ground (take 2 rest)) text) begin.1
-            ∙ ap (λ u. news_all limit u text) begin.0 ∙ q.1,
+        ap (λ n. events_all limit Ground (take n rest)) back
+            ∙ ap (events_all limit Ground) (take-add 2 run rest)
+            ∙ events_append limit Ground (take 2 rest) text
+            ∙ ap (λ es. es ++ events_all limit (after_all Ground (take 2 rest)) text) begin.1
+            ∙ ap (λ u. events_all limit u text) begin.0 ∙ q.1,
       )
 
   three : run + 3 ≡ run + 2 + 1
@@ -101,29 +101,30 @@ module _ (limit : Option ℕ) (rest : List ℕ) (run : ℕ) (some : 2 < length r
         ∙ quiet_after {S = Unit {0}} limit (λ _ _ _. Unit {0}) (λ _ _ _.
         Unit {0}) Ground (InOsc (Long []) units.0) rest (run + 2) c tt tt osc_run room is
 
-    osc_news : news_all limit Ground (take (run + 3) rest) ≡ news_by limit (InOsc (Long []) units.0)
+    osc_adds : events_all limit Ground (take (run + 3) rest)
+        ≡ events_by limit (InOsc (Long []) units.0)
         (get_or rest (run + 2) 0) c
-    osc_news =
-        ap (λ n. news_all limit Ground (take n rest)) three
-        ∙ quiet_news {S = Unit {0}} limit (λ _ _ _. Unit {0}) (λ _ _ _.
+    osc_adds =
+        ap (λ n. events_all limit Ground (take n rest)) three
+        ∙ quiet_events {S = Unit {0}} limit (λ _ _ _. Unit {0}) (λ _ _ _.
         Unit {0}) Ground (InOsc (Long []) units.0) rest (run + 2) c tt tt osc_run room is
 
   -- the event
   module _ (fits : is_within limit (length text) ≡ true) where
-    told : osc_events limit (segments.text_of units.0) ≡ OscDispatch (parts_of text) ∷ []
-    told = ap (osc_events limit) units.1 ∙ sym (osc_told limit text fits)
+    emitted : osc_events limit (segments.text_of units.0) ≡ OscDispatch (parts_of text) ∷ []
+    emitted = ap (osc_events limit) units.1 ∙ sym (osc_emitted limit text fits)
 
     pub bell_ends : get_or rest (run + 2) 0 ≡ 0x07
         → (after_all Ground (take (run + 3) rest) ≡ Ground)
-        × (news_all limit Ground (take (run + 3) rest) ≡ OscDispatch (parts_of text) ∷ [])
-    bell_ends h = let k = bell_class _ h in (osc_after Bell k, osc_news Bell k ∙ told)
+        × (events_all limit Ground (take (run + 3) rest) ≡ OscDispatch (parts_of text) ∷ [])
+    bell_ends h = let k = bell_class _ h in (osc_after Bell k, osc_adds Bell k ∙ emitted)
 
     pub escape_ends : get_or rest (run + 2) 0 ≡ 0x1b
         → (after_all Ground (take (run + 3) rest) ≡ InEscape [])
-        × (news_all limit Ground (take (run + 3) rest) ≡ OscDispatch (parts_of text) ∷ [])
+        × (events_all limit Ground (take (run + 3) rest) ≡ OscDispatch (parts_of text) ∷ [])
     escape_ends h = let k = escape_at _ h in (
       osc_after Escape k,
-      osc_news Escape k ∙ append-nil (osc_events limit (segments.text_of units.0)) ∙ told,
+      osc_adds Escape k ∙ append-nil (osc_events limit (segments.text_of units.0)) ∙ emitted,
     )
 
 pub osc_said : (e : EscEvent) (out t : List ℕ) → e.kind ≡ 6 → text_of e out ≡ t

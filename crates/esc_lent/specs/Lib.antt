@@ -1,4 +1,4 @@
-pub mod Told
+pub mod Emitted
 pub mod Texts
 pub mod Numbers
 pub mod States

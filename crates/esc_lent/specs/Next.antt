@@ -5,13 +5,13 @@ use Rattle.std.specs.Str.{IsUtf8}
 use denote.Triple.Both.{Both}
 use Rattle.esc_frame.specs.Events.{Event}
 use Rattle.esc_frame.specs.Leads.{Unfinished}
-use Rattle.esc_frame.specs.Machine.Moves.{after_all, news_all}
+use Rattle.esc_frame.specs.Machine.Moves.{after_all, events_all}
 use Rattle.esc_lent.specs.declared.event.EscEvent.{EscEvent}
 use Rattle.esc_lent.specs.declared.event.TheConstants.{NONE, TEXT, FAILED}
 use Rattle.esc_lent.specs.declared.numbers.TheConstants.{GROUND}
 use Rattle.esc_lent.specs.declared.parser.EscParser.{EscParser}
 use Rattle.esc_lent.specs.States.{KeptIn, IsAt, lower, upper}
-use Rattle.esc_lent.specs.Told.{told, due_of, placed, IsWithin}
+use Rattle.esc_lent.specs.Emitted.{emitted, queued_of, placed, IsWithin}
 
 -- a parser before a call and after it
 abbrev pub ParserChange : Type 0
@@ -29,8 +29,8 @@ abbrev pub both : List ℕ → List ℕ → Halves
 both memory out = record { memory = memory; out = out }
 
 -- the event that the parser still has to hand out, if there is one
-abbrev pub due_in : EscParser → List Event
-due_in p = due_of p.due_kind p.due_value
+abbrev pub queued_in : EscParser → List Event
+queued_in p = queued_of p.queued_kind p.queued_value
 
 -- A call for the next event took so many of the bytes.
 pub record Next (parser : ParserChange) (old new : Halves) (bytes : List ℕ) (event : EscEvent)
@@ -44,20 +44,20 @@ pub record Next (parser : ParserChange) (old new : Halves) (bytes : List ℕ) (e
   -- the parser is where it was, and these bytes further, and has handed out the event
   pub given : (s : List ℕ) (es : List Event) → IsAt s es parser.entry.now old.memory
       → event.kind ≢ FAILED
-      → IsAt (s ++ take taken bytes) (es ++ told event new.out bytes) parser.exit.now new.memory
+      → IsAt (s ++ take taken bytes) (es ++ emitted event new.out bytes) parser.exit.now new.memory
   -- where there is no event, all bytes were taken
-  pub all : event.kind ≡ NONE → (taken ≡ length bytes) × (due_in parser.exit.now ≡ [])
-  -- a call that takes none of some bytes hands out what was due, so the next one takes some
+  pub all : event.kind ≡ NONE → (taken ≡ length bytes) × (queued_in parser.exit.now ≡ [])
+  -- a call that takes none of some bytes hands out what was queued, so the next one takes some
   pub moves : taken ≡ 0 → 0 < length bytes → event.kind ≢ FAILED
-      → (due_in parser.entry.now ≢ []) × (due_in parser.exit.now ≡ [])
+      → (queued_in parser.entry.now ≢ []) × (queued_in parser.exit.now ≡ [])
   -- once failed it stays so
   pub failed : event.kind ≡ FAILED → parser.exit.now.has_failed ≡ true
   pub again : parser.entry.now.has_failed ≡ true → event.kind ≡ FAILED
 
--- Nothing is due, and nothing is noted of an event that is within its room.
+-- Nothing is queued, and nothing is noted of an event that is within its room.
 pub record IsReady (parser : EscParser) (event : EscEvent) (room : ℕ) : Type 0 where
   pub none : event.kind ≡ NONE
-  pub due : due_in parser ≡ []
+  pub queued : queued_in parser ≡ []
   pub within : (event.count ≤ 256) × (event.kept ≤ 2) × (event.length ≤ room)
 
 -- A call of a parser that is ready took bytes up to the first event, or all of them.
@@ -67,16 +67,16 @@ pub record ToEvent (parser : ParserChange) (old new : Halves) (bytes : List ℕ)
   pub within : IsWithin event (length old.out) taken
   pub utf8 : event.kind ≡ TEXT → IsUtf8 (placed event bytes)
   pub some : event.kind ≢ FAILED → 0 < length bytes → 0 < taken
-  pub all : event.kind ≡ NONE → (taken ≡ length bytes) × (due_in parser.exit.now ≡ [])
-  -- what is kept of what is unfinished, and what the event and what is due say
+  pub all : event.kind ≡ NONE → (taken ≡ length bytes) × (queued_in parser.exit.now ≡ [])
+  -- what is kept of what is unfinished, and what the event and what is queued say
   pub kept : (u : Unfinished) → KeptIn parser.entry.now old.memory u → event.kind ≢ FAILED
       → KeptIn parser.exit.now new.memory (after_all u (take taken bytes))
   pub says : (u : Unfinished) → KeptIn parser.entry.now old.memory u → event.kind ≢ FAILED
-      → told event new.out bytes ++ due_in parser.exit.now
-      ≡ news_all (Some (length old.memory)) u (take taken bytes)
+      → emitted event new.out bytes ++ queued_in parser.exit.now
+      ≡ events_all (Some (length old.memory)) u (take taken bytes)
   pub failed : event.kind ≡ FAILED → parser.exit.now.has_failed ≡ true
   pub goes_on : event.kind ≢ FAILED → parser.exit.now.has_failed ≡ parser.entry.now.has_failed
 
--- It is at the beginning of a segment, it has not failed, and nothing is due.
+-- It is at the beginning of a segment, it has not failed, and nothing is queued.
 abbrev pub IsPlain : EscParser → Type 0
-IsPlain p = (p.has_failed ≡ false) × (p.due_kind ≡ NONE) × (p.state ≡ GROUND) × (p.pending ≡ 0)
+IsPlain p = (p.has_failed ≡ false) × (p.queued_kind ≡ NONE) × (p.state ≡ GROUND) × (p.pending ≡ 0)

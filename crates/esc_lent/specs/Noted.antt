@@ -5,7 +5,7 @@ use Rattle.esc_frame.specs.Events.{Event}
 use Rattle.esc_frame.specs.Events.Event.{Print, Execute, EscDispatch, CsiDispatch, OscDispatch, DcsHook, ApcDispatch}
 use Rattle.esc_lent.specs.declared.event.EscEvent.{EscEvent}
 use Rattle.esc_lent.specs.declared.event.TheConstants.{NONE, FAILED}
-use Rattle.esc_lent.specs.Told.{said, is_run}
+use Rattle.esc_lent.specs.Emitted.{said, is_run}
 
 -- The arrays of an event, and a place of so many bytes for a text, have room for it. Of the header
 -- of a device control string it says only the numbers, and so nothing of the place.
@@ -30,8 +30,8 @@ AreNotable place (e ∷ []) = HasRoom place e
 AreNotable place (e ∷ d ∷ []) = HasRoom place e × (can_wait d ≡ true)
 AreNotable place _ = ⊥
 
--- An event came, and what was noted, what is due, and whether an event was lost, became these. It
--- was added to what is said, if none was lost. A first event that has room is not lost, nor is a
+-- An event came, and what was noted, what is queued, and whether an event was lost, became these.
+-- It was added to what is said, if none was lost. A first event that has room is not lost, nor is a
 -- character or a control after it.
 abbrev pub Adds : ℕ → EscEvent → List ℕ → ℕ → ℕ → Bool → Event → EscEvent → List ℕ → ℕ → ℕ → Bool
     → Type 0
@@ -53,6 +53,6 @@ IsSound e place =
     (is_run e.kind ≡ false) × (e.kind ≢ FAILED) × (e.count ≤ 256) × (e.kept ≤ 2)
     × (e.length ≤ place)
 
--- What a step from a sound state gives: a sound event, and nothing that is due where it is none.
+-- What a step from a sound state gives: a sound event, and nothing that is queued where it is none.
 abbrev pub GivesSound : EscEvent → ℕ → ℕ → Type 0
-GivesSound e due place = IsSound e place × (e.kind ≡ NONE → due ≡ NONE)
+GivesSound e queued place = IsSound e place × (e.kind ≡ NONE → queued ≡ NONE)

@@ -9,7 +9,8 @@ abbrev pub state_numbered : ℕ → State
 state_numbered n =
     if n == 1 then state.Escape else if n == 2 then state.Csi else if n == 3 then state.Osc else if
     n == 4 then state.Dcs
-    else if n == 5 then state.Data else if n == 6 then state.Skip else if n == 7 then state.Apc else
+    else if n == 5 then state.Data else if n == 6 then state.Ignored else if n == 7
+    then state.Apc else
     state.Ground
 
 abbrev pub form_numbered : ℕ → Form

@@ -7,11 +7,11 @@ use Rattle.esc_frame.specs.Classes.{ends_escape, opens}
 use Rattle.esc_frame.specs.declared.classes.Class.{Class}
 use Rattle.esc_frame.specs.Leads.{Unfinished}
 use Rattle.esc_frame.specs.Leads.Unfinished.{Ground}
-use Rattle.esc_frame.specs.Machine.Moves.{after_all, news_all}
+use Rattle.esc_frame.specs.Machine.Moves.{after_all, events_all}
 use Rattle.esc_lent.specs.declared.event.EscEvent.{EscEvent}
 use Rattle.esc_lent.specs.declared.parser.EscParser.{EscParser}
 use Rattle.esc_lent.specs.States.{KeptIn}
-use Rattle.esc_lent.specs.Told.{sent, told_by}
+use Rattle.esc_lent.specs.Emitted.{sent, emitted_by}
 
 -- well-formed, and without controls
 abbrev pub IsTextRun : List ℕ → Type 0
@@ -19,27 +19,27 @@ IsTextRun x = IsUtf8 x × (list_all is_clear (chars x) ≡ true)
 
 -- In ground these bytes give the events that this one says, whatever the limit, and leave nothing
 -- unfinished.
-abbrev pub TellsEvent : EscEvent → List ℕ → Type 0
-TellsEvent e x = (after_all Ground x ≡ Ground)
-    × ((limit : Option ℕ) (out : List ℕ) → sent e out ≡ news_all limit Ground x)
+abbrev pub EmitsEvent : EscEvent → List ℕ → Type 0
+EmitsEvent e x = (after_all Ground x ≡ Ground)
+    × ((limit : Option ℕ) (out : List ℕ) → sent e out ≡ events_all limit Ground x)
 
 -- From the one parser to the other these bytes were taken, where so much of a string can be kept:
 -- the later one keeps what is unfinished after them, and the event says what they give.
 abbrev pub Notes : EscParser → EscParser → EscEvent → List ℕ → ℕ → List ℕ → Type 0
 Notes old new e out limit x =
     (u : Unfinished) (memory : List ℕ) → length memory ≡ limit → KeptIn old memory u
-    → KeptIn new memory (after_all u x) × (sent e out ≡ news_all (Some limit) u x)
+    → KeptIn new memory (after_all u x) × (sent e out ≡ events_all (Some limit) u x)
 
 -- the same of any event, where a run lies at the first of the bytes of the call
-abbrev pub Tells : EscParser → EscParser → EscEvent → List ℕ → ℕ → List ℕ → List ℕ → Type 0
-Tells old new e out limit bytes x =
+abbrev pub Emits : EscParser → EscParser → EscEvent → List ℕ → ℕ → List ℕ → List ℕ → Type 0
+Emits old new e out limit bytes x =
     (u : Unfinished) (memory : List ℕ) → length memory ≡ limit → KeptIn old memory u
     → KeptIn new memory (after_all u x)
-    × (told_by e out (take e.length bytes) ≡ news_all (Some limit) u x)
+    × (emitted_by e out (take e.length bytes) ≡ events_all (Some limit) u x)
 
 -- what is still to be handed out, and whether the parser failed, is as before
 abbrev pub IsDueAs : EscParser → EscParser → Type 0
-IsDueAs new old = (new.due_kind ≡ old.due_kind) × (new.due_value ≡ old.due_value)
+IsDueAs new old = (new.queued_kind ≡ old.queued_kind) × (new.queued_value ≡ old.queued_value)
     × (new.has_failed ≡ old.has_failed)
 
 -- 30 to 7E but for the letters that open a string or a control sequence: it ends an escape sequence

@@ -14,8 +14,8 @@ use Rattle.esc_frame.specs.Segments.{text_of, is_empty}
 use Rattle.esc_frame.specs.Stream.{events_within}
 use Rattle.esc_lent.specs.declared.parser.EscParser.{EscParser}
 use Rattle.esc_lent.specs.Numbers.{state_numbered, form_numbered, begun}
-use Rattle.esc_lent.specs.Texts.{KeepsLent}
-use Rattle.esc_lent.specs.Told.{param_of, due_of}
+use Rattle.esc_lent.specs.Texts.{KeepsBorrowed}
+use Rattle.esc_lent.specs.Emitted.{param_of, queued_of}
 
 abbrev pub begun_in : EscParser → List ℕ
 begun_in p = begun p.pending p.first p.second p.third
@@ -30,11 +30,11 @@ abbrev pub NumberIn : EscParser → Option ℕ → Type 0
 NumberIn p None = p.is_open ≡ false
 NumberIn p (Some n) = (p.is_open ≡ true) × (p.number ≡ held n)
 
--- the entries and the form of the body of a control sequence so far
+-- the parameters and the form of the body of a control sequence so far
 abbrev pub BodyIn : EscParser → List ℕ → Type 0
 BodyIn p x =
     (p.count ≤ 256)
-    × AreFirst (map param_of (take p.count p.entries)) p.is_truncated 256 (closed_of None x)
+    × AreFirst (map param_of (take p.count p.csi_params)) p.is_truncated 256 (closed_of None x)
     × NumberIn p (number_of_run None x)
     × (form_numbered p.form ≡ form_from form.Empty x)
 
@@ -45,7 +45,7 @@ HeaderIn p x = FirstIn p (others_of x)
     × (form_numbered p.form ≡ form_by is_dcs_parameter form.Empty x)
 
 abbrev pub TextIn : EscParser → List ℕ → List ℕ → Type 0
-TextIn p memory t = KeepsLent (Some (length memory)) p.is_over p.text memory t
+TextIn p memory t = KeepsBorrowed (Some (length memory)) p.is_over p.text memory t
 
 -- What the parser, and the memory that it was lent, keep of what is unfinished: of a string no more
 -- than the memory has room for.
@@ -58,10 +58,10 @@ KeptIn p memory (InCsi o x) = (state_numbered p.state ≡ state.Csi) × BodyIn p
 KeptIn p memory (InDcs o x) = (state_numbered p.state ≡ state.Dcs)
     × TextIn p memory (parameters_of (strip x)) × HeaderIn p (strip x)
 KeptIn p memory (InData o x f d) = state_numbered p.state
-    ≡ (if is_read (Some (length memory)) (strip x) then state.Data else state.Skip)
+    ≡ (if is_read (Some (length memory)) (strip x) then state.Data else state.Ignored)
 KeptIn p memory (InApc o d) = (state_numbered p.state ≡ state.Apc)
     × TextIn p memory (those is_text d)
-KeptIn p memory (InIgnored k o d) = state_numbered p.state ≡ state.Skip
+KeptIn p memory (InIgnored k o d) = state_numbered p.state ≡ state.Ignored
 KeptIn p memory (InOsc o ps) = (state_numbered p.state ≡ state.Osc) × TextIn p memory (text_of ps)
     × (begun_in p ≡ [])
 KeptIn p memory (InOscPending o ps f) =
@@ -74,7 +74,7 @@ KeptIn p memory (InOscPending o ps f) =
 unfoldable pub IsAt : List ℕ → List Event → EscParser → List ℕ → Type 0
 IsAt s es p memory =
     (p.has_failed ≡ false) × KeptIn p memory (after_all Ground s)
-    × (events_within (Some (length memory)) s ≡ es ++ due_of p.due_kind p.due_value)
+    × (events_within (Some (length memory)) s ≡ es ++ queued_of p.queued_kind p.queued_value)
 
 -- ---- the two halves of a buffer
 

@@ -4,7 +4,7 @@ use Rattle.esc_frame.specs.Limits.{is_within}
 
 -- The first bytes of the memory are this text, each byte of which counts; or nothing is said of
 -- them, where it is past the limit.
-abbrev pub KeepsLent : Option ℕ → Bool → ℕ → List ℕ → List ℕ → Type 0
-KeepsLent limit is_over count memory t =
+abbrev pub KeepsBorrowed : Option ℕ → Bool → ℕ → List ℕ → List ℕ → Type 0
+KeepsBorrowed limit is_over count memory t =
     (is_over ≡ not (is_within limit (length t)))
     × (is_over ≡ false → (count ≡ length t) × (take count memory ≡ t))

@@ -4,11 +4,11 @@
 ghost use Rattle.std.specs.Prelude.{◌≡◌, ◌≤◌, ◌<◌, ◌≢◌, ◌++◌, [], ℕ, List, true, false, length, take, Some, Option, IsTrue};
 ghost use Rattle.std.specs.Str.{IsUtf8};
 ghost use Rattle.esc_frame.specs.Leads.{Unfinished};
-ghost use Rattle.esc_frame.specs.Machine.Moves.{after_all, news_all};
-ghost use Rattle.esc_lent.specs.Runs.{Tells, IsDueAs};
+ghost use Rattle.esc_frame.specs.Machine.Moves.{after_all, events_all};
+ghost use Rattle.esc_lent.specs.Runs.{Emits, IsDueAs};
 ghost use Rattle.esc_lent.specs.States.{KeptIn};
 ghost use Rattle.esc_lent.specs.Noted.{IsSound};
-ghost use Rattle.esc_lent.specs.Told.{told_by, due_of, is_run};
+ghost use Rattle.esc_lent.specs.Emitted.{emitted_by, queued_of, is_run};
 
 use crate::event::{CHARACTER, CONTROL, DATA, EscEvent, FAILED, NONE, TEXT};
 use crate::parser::EscParser;
@@ -33,9 +33,9 @@ fn run_ahead(parser: &EscParser, bytes: &[u8], event: &mut EscEvent) -> usize
     ensures utf8 { event.new.kind ≡ TEXT → IsUtf8 (take event.new.length bytes.now) }
     ensures kept { 0 < result → (u : Unfinished) (memory : List ℕ) → KeptIn parser.now memory u
         → KeptIn parser.now memory (after_all u (take result bytes.now)) }
-    ensures told { 0 < result → (u : Unfinished) (memory out : List ℕ)
-        → KeptIn parser.now memory u → told_by event.new out (take event.new.length bytes.now)
-        ≡ news_all (Some (length memory)) u (take result bytes.now) }
+    ensures emitted { 0 < result → (u : Unfinished) (memory out : List ℕ)
+        → KeptIn parser.now memory u → emitted_by event.new out (take event.new.length bytes.now)
+        ≡ events_all (Some (length memory)) u (take result bytes.now) }
 {
     if parser.state == 0 && parser.pending == 0 {
         note_run(event, TEXT, text_run(bytes))
@@ -70,15 +70,15 @@ fn note_first(parser: &EscParser, bytes: &[u8], event: &mut EscEvent) -> usize
     requires none { event.old.kind ≡ NONE }
     requires within { (event.old.count ≤ 256) × (event.old.kept ≤ 2) }
     ensures few { result ≤ length bytes.now }
-    ensures none { result ≡ 0 → event.new ≡ record event.old { entries = event.new.entries } }
+    ensures none { result ≡ 0 → event.new ≡ record event.old { csi_params = event.new.csi_params } }
     ensures some { 0 < result → (event.new.kind ≢ NONE) × (event.new.kind ≢ FAILED) }
     ensures within { (event.new.count ≤ 256) × (event.new.kept ≤ 2)
         × (event.new.start ≡ event.old.start) }
     ensures text { is_run event.new.kind ≡ false → event.new.length ≡ event.old.length }
     ensures run { is_run event.new.kind ≡ true → event.new.length ≤ result }
     ensures utf8 { event.new.kind ≡ TEXT → IsUtf8 (take event.new.length bytes.now) }
-    ensures tells { 0 < result → (out : List ℕ) (limit : ℕ)
-        → Tells parser.now parser.now event.new out limit bytes.now (take result bytes.now) }
+    ensures emits { 0 < result → (out : List ℕ) (limit : ℕ)
+        → Emits parser.now parser.now event.new out limit bytes.now (take result bytes.now) }
 {
     let run = run_ahead(parser, bytes, event);
     if run > 0 {
@@ -103,15 +103,15 @@ pub fn ahead(
         × (event.old.length ≤ length out.old) }
     ensures few { result ≤ length bytes.now }
     ensures none { result ≡ 0 → (parser.new ≡ parser.old)
-        × (event.new ≡ record event.old { entries = event.new.entries }) }
+        × (event.new ≡ record event.old { csi_params = event.new.csi_params }) }
     ensures some { 0 < result → (event.new.kind ≢ NONE) × (event.new.kind ≢ FAILED) }
     ensures within { (event.new.count ≤ 256) × (event.new.kept ≤ 2) }
     ensures text { is_run event.new.kind ≡ false → event.new.length ≤ length out.old }
     ensures run { is_run event.new.kind ≡ true → event.new.length ≤ result }
     ensures utf8 { event.new.kind ≡ TEXT → IsUtf8 (take event.new.length bytes.now) }
-    ensures due { IsDueAs parser.new parser.old }
-    ensures tells { 0 < result
-        → Tells parser.old parser.new event.new out.new limit bytes.now (take result bytes.now) }
+    ensures queued { IsDueAs parser.new parser.old }
+    ensures emits { 0 < result
+        → Emits parser.old parser.new event.new out.new limit bytes.now (take result bytes.now) }
 {
     let first = note_first(parser, bytes, event);
     if first > 0 {
@@ -131,7 +131,7 @@ pub fn advance(
 ) -> usize
     requires some { 0 < length bytes.now }
     requires none { event.old.kind ≡ NONE }
-    requires due { due_of parser.old.due_kind parser.old.due_value ≡ [] }
+    requires queued { queued_of parser.old.queued_kind parser.old.queued_value ≡ [] }
     requires within { (event.old.count ≤ 256) × (event.old.kept ≤ 2)
         × (event.old.length ≤ length out.old) }
     ensures few { result ≤ length bytes.now }
@@ -142,11 +142,12 @@ pub fn advance(
     ensures some { event.new.kind ≢ FAILED → 0 < result }
     ensures kept { (u : Unfinished) → KeptIn parser.old memory.old u → event.new.kind ≢ FAILED
         → KeptIn parser.new memory.new (after_all u (take result bytes.now)) }
-    ensures told { (u : Unfinished) → KeptIn parser.old memory.old u → event.new.kind ≢ FAILED
-        → told_by event.new out.new (take event.new.length bytes.now)
-        ++ due_of parser.new.due_kind parser.new.due_value
-        ≡ news_all (Some (length memory.old)) u (take result bytes.now) }
-    ensures due { event.new.kind ≡ NONE → due_of parser.new.due_kind parser.new.due_value ≡ [] }
+    ensures emitted { (u : Unfinished) → KeptIn parser.old memory.old u → event.new.kind ≢ FAILED
+        → emitted_by event.new out.new (take event.new.length bytes.now)
+        ++ queued_of parser.new.queued_kind parser.new.queued_value
+        ≡ events_all (Some (length memory.old)) u (take result bytes.now) }
+    ensures queued { event.new.kind ≡ NONE
+        → queued_of parser.new.queued_kind parser.new.queued_value ≡ [] }
     ensures failed { event.new.kind ≡ FAILED → parser.new.has_failed ≡ true }
     ensures goes_on { event.new.kind ≢ FAILED → parser.new.has_failed ≡ parser.old.has_failed }
     ensures sound { (u : Unfinished) → KeptIn parser.old memory.old u
@@ -157,7 +158,7 @@ pub fn advance(
         return first;
     }
     let (taken, has_failed) = step(parser, memory, out, event, bytes);
-    if has_failed || !is_sound(event, out.len()) || (event.kind == NONE && gives_due(parser)) {
+    if has_failed || !is_sound(event, out.len()) || (event.kind == NONE && gives_queued(parser)) {
         event.clear();
         event.kind = FAILED;
         parser.has_failed = true;
@@ -167,11 +168,11 @@ pub fn advance(
 }
 
 // Whether a character or a control is still to be handed out.
-fn gives_due(parser: &EscParser) -> bool
-    ensures none { result ≡ false → due_of parser.now.due_kind parser.now.due_value ≡ [] }
-    ensures some { parser.now.due_kind ≡ NONE → result ≡ false }
+fn gives_queued(parser: &EscParser) -> bool
+    ensures none { result ≡ false → queued_of parser.now.queued_kind parser.now.queued_value ≡ [] }
+    ensures some { parser.now.queued_kind ≡ NONE → result ≡ false }
 {
-    parser.due_kind == CHARACTER || parser.due_kind == CONTROL
+    parser.queued_kind == CHARACTER || parser.queued_kind == CONTROL
 }
 
 // Whether the event is no run and no failure, and its counts and its text are within bounds.

@@ -18,7 +18,7 @@ pub const CONTROL: u32 = 3;
 /// An escape sequence: its intermediates, and its final byte.
 pub const ESCAPE: u32 = 4;
 
-/// A control sequence: its entries, and its final byte.
+/// A control sequence: its parameters, and its final byte.
 pub const CSI: u32 = 5;
 
 /// An operating system command: its text, as a place in the buffer.
@@ -43,11 +43,11 @@ pub const APC: u32 = 11;
 /// The parser failed: nothing more comes of it. A state that its own calls reached never fails.
 pub const FAILED: u32 = 12;
 
-/// An entry of a control sequence: a number, or a byte 3A to 3F or 20 to 2F.
+/// A parameter of a control sequence: a number, or a byte 3A to 3F or 20 to 2F.
 #[repr(C)]
 #[derive(Clone, Copy)]
 pub struct EscEntry {
-    /// The number, where the entry is no byte.
+    /// The number, where the parameter is no byte.
     pub number: i64,
     /// The byte, where it is one.
     pub byte: u8,
@@ -83,11 +83,11 @@ pub struct EscEvent {
     /// The first two intermediates, and how many of them there are.
     pub intermediates: [u8; 2],
     pub kept: usize,
-    /// Whether more intermediates, or more entries, came than are kept.
+    /// Whether more intermediates, or more parameters, came than are kept.
     pub has_more: bool,
-    /// The first 256 entries, and how many of them there are.
+    /// The first 256 parameters, and how many of them there are.
     pub count: usize,
-    pub entries: [EscEntry; 256],
+    pub csi_params: [EscEntry; 256],
 }
 
 impl EscEvent {
@@ -104,11 +104,11 @@ impl EscEvent {
             kept: 0,
             has_more: false,
             count: 0,
-            entries: [EscEntry::none(); 256],
+            csi_params: [EscEntry::none(); 256],
         }
     }
 
-    /// Makes it no event. Its entries and its intermediates stay, and are not counted.
+    /// Makes it no event. Its parameters and its intermediates stay, and are not counted.
     pub fn clear(&mut self)
         ensures kind { self.new.kind ≡ NONE }
         ensures start { self.new.start ≡ 0 }

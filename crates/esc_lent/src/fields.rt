@@ -1,19 +1,19 @@
-//! The body of a short control sequence, read straight into the entries of an event.
+//! The body of a short control sequence, read straight into the parameters of an event.
 #![tactic(auto)]
 
 ghost use Rattle.std.specs.Prelude.{◌≡◌, ◌<◌, ◌≤◌, ◌+◌, ◌++◌, true, false, ℕ, List, ◌∷◌, [], length, map, take, slice_index, pos};
 ghost use Rattle.std.specs.List.{list_all};
-ghost use Rattle.esc_frame.specs.Bodies.{is_digit, held, value_behind};
-ghost use Rattle.esc_frame.specs.Machine.Shorts.{IsBehind, IsFront, IsShort};
-ghost use Rattle.esc_lent.specs.Told.{param_of};
+ghost use Rattle.esc_frame.specs.Bodies.{is_digit, held, value_after};
+ghost use Rattle.esc_frame.specs.Machine.Shorts.{IsAfter, IsPrefix, IsShort};
+ghost use Rattle.esc_lent.specs.Emitted.{param_of};
 
 use crate::event::EscEntry;
-use esc_frame::entries::next_number;
+use esc_frame::csi_params::next_number;
 use esc_frame::sequence::lies_from;
 use esc_values::csi_param::CsiParam;
 
-// How far a field goes, how many entries there are then, whether a separator ended it, and else the
-// byte after it, or 0.
+// How far a field goes, how many parameters there are then, whether a separator ended it, and else
+// the byte after it, or 0.
 #[derive(Clone, Copy)]
 struct Field {
     length: usize,
@@ -22,8 +22,8 @@ struct Field {
     after: u8,
 }
 
-/// How far a body goes, how many entries it has, and the byte after it, or 0 where there is none or
-/// there are too many entries.
+/// How far a body goes, how many parameters it has, and the byte after it, or 0 where there is none
+/// or there are too many parameters.
 #[derive(Clone, Copy)]
 pub struct Body {
     pub length: usize,
@@ -31,21 +31,23 @@ pub struct Body {
     pub after: u8,
 }
 
-// The entry after those that there are.
+// The parameter after those that there are.
 #[inline(always)]
-fn put(entries: &mut [EscEntry], count: usize, entry: EscEntry)
-    requires { count < length entries.old }
-    ensures { map param_of (take (count + 1) entries.new) ≡ map param_of (take count entries.old)
+fn put(csi_params: &mut [EscEntry], count: usize, entry: EscEntry)
+    requires { count < length csi_params.old }
+    ensures { map param_of (take (count + 1) csi_params.new)
+        ≡ map param_of (take count csi_params.old)
         ++ param_of entry ∷ [] }
 {
-    entries[count] = entry;
+    csi_params[count] = entry;
 }
 
-// A byte that is an entry by itself.
+// A byte that is a parameter by itself.
 #[inline(always)]
-fn put_byte(entries: &mut [EscEntry], count: usize, byte: u8)
-    requires { count < length entries.old }
-    ensures { map param_of (take (count + 1) entries.new) ≡ map param_of (take count entries.old)
+fn put_byte(csi_params: &mut [EscEntry], count: usize, byte: u8)
+    requires { count < length csi_params.old }
+    ensures { map param_of (take (count + 1) csi_params.new)
+        ≡ map param_of (take count csi_params.old)
         ++ CsiParam.P byte ∷ [] }
 {
     let entry = EscEntry {
@@ -53,15 +55,16 @@ fn put_byte(entries: &mut [EscEntry], count: usize, byte: u8)
         byte,
         is_byte: true,
     };
-    put(entries, count, entry)
+    put(csi_params, count, entry)
 }
 
 // A number.
 #[inline(always)]
-fn put_integer(entries: &mut [EscEntry], count: usize, number: u64)
-    requires room { count < length entries.old }
+fn put_integer(csi_params: &mut [EscEntry], count: usize, number: u64)
+    requires room { count < length csi_params.old }
     requires small { number ≤ 0x7fff_ffff_ffff_ffff }
-    ensures { map param_of (take (count + 1) entries.new) ≡ map param_of (take count entries.old)
+    ensures { map param_of (take (count + 1) csi_params.new)
+        ≡ map param_of (take count csi_params.old)
         ++ CsiParam.Integer (pos number) ∷ [] }
 {
     let entry = EscEntry {
@@ -69,7 +72,7 @@ fn put_integer(entries: &mut [EscEntry], count: usize, number: u64)
         byte: 0,
         is_byte: false,
     };
-    put(entries, count, entry)
+    put(csi_params, count, entry)
 }
 
 // The number that the digits write that come first, at least one, how many they are, and the byte
@@ -82,7 +85,7 @@ fn read_number(rest: &[u8], any: bool) -> (u64, usize, u8)
     requires high { slice_index rest.now 0 ≤ 0x39 }
     ensures count { (0 < result.1) × (result.1 ≤ length rest.now) }
     ensures digits { list_all is_digit (take result.1 rest.now) ≡ true }
-    ensures value { result.0 ≡ held (value_behind 0 (take result.1 rest.now)) }
+    ensures value { result.0 ≡ held (value_after 0 (take result.1 rest.now)) }
     ensures small { result.0 ≤ 0x7fff_ffff_ffff_ffff }
     ensures after { 0 < result.2 → (result.1 < length rest.now)
         × (slice_index rest.now result.1 ≡ result.2) }
@@ -121,7 +124,7 @@ fn read_any_number(rest: &[u8]) -> (u64, usize, u8)
     requires high { slice_index rest.now 0 ≤ 0x39 }
     ensures count { (0 < result.1) × (result.1 ≤ length rest.now) }
     ensures digits { list_all is_digit (take result.1 rest.now) ≡ true }
-    ensures value { result.0 ≡ held (value_behind 0 (take result.1 rest.now)) }
+    ensures value { result.0 ≡ held (value_after 0 (take result.1 rest.now)) }
     ensures small { result.0 ≤ 0x7fff_ffff_ffff_ffff }
     ensures after { 0 < result.2 → (result.1 < length rest.now)
         × (slice_index rest.now result.1 ≡ result.2) }
@@ -141,57 +144,57 @@ fn read_any_number(rest: &[u8]) -> (u64, usize, u8)
 
 // The digits that come first: how many they are, and the byte after them, or 0.
 #[inline(always)]
-fn put_number(entries: &mut [EscEntry], count: usize, rest: &[u8], any: bool) -> (usize, u8)
-    requires room { count < length entries.old }
+fn put_number(csi_params: &mut [EscEntry], count: usize, rest: &[u8], any: bool) -> (usize, u8)
+    requires room { count < length csi_params.old }
     requires some { 0 < length rest.now }
     requires low { 0x30 ≤ slice_index rest.now 0 }
     requires high { slice_index rest.now 0 ≤ 0x39 }
     ensures count { (0 < result.0) × (result.0 ≤ length rest.now) }
     ensures after { 0 < result.1 → (result.0 < length rest.now)
         × (slice_index rest.now result.0 ≡ result.1) }
-    ensures keeps { (x : List ℕ) → IsFront (map param_of (take count entries.old)) x
-        → IsBehind (map param_of (take (count + 1) entries.new)) (x ++ take result.0 rest.now) }
+    ensures keeps { (x : List ℕ) → IsPrefix (map param_of (take count csi_params.old)) x
+        → IsAfter (map param_of (take (count + 1) csi_params.new)) (x ++ take result.0 rest.now) }
 {
     let (number, length, after) = read_number(rest, any);
-    put_integer(entries, count, number);
+    put_integer(csi_params, count, number);
     (length, after)
 }
 
 // A separator, 3B or, where `any` says so, 3A. False where this is none, and then nothing is taken.
 #[inline(always)]
-fn put_mark(entries: &mut [EscEntry], count: usize, b: u8, any: bool) -> bool
-    requires room { count < length entries.old }
+fn put_mark(csi_params: &mut [EscEntry], count: usize, b: u8, any: bool) -> bool
+    requires room { count < length csi_params.old }
     ensures some { result ≡ true → 0 < b }
     ensures mark { result ≡ true → (x : List ℕ)
-        → IsBehind (map param_of (take count entries.old)) x
-        → IsFront (map param_of (take (count + 1) entries.new)) (x ++ b ∷ []) }
-    ensures other { result ≡ false → entries.new ≡ entries.old }
+        → IsAfter (map param_of (take count csi_params.old)) x
+        → IsPrefix (map param_of (take (count + 1) csi_params.new)) (x ++ b ∷ []) }
+    ensures other { result ≡ false → csi_params.new ≡ csi_params.old }
 {
     if b == b';' {
-        put_byte(entries, count, b';');
+        put_byte(csi_params, count, b';');
         true
     } else if !any {
         false
     } else if b == b':' {
-        put_byte(entries, count, b':');
+        put_byte(csi_params, count, b':');
         true
     } else {
         false
     }
 }
 
-// A marker, 3C to 3F, if one comes first.
+// A private prefix, 3C to 3F, if one comes first.
 #[inline(always)]
-fn put_marker(entries: &mut [EscEntry], rest: &[u8]) -> usize
-    requires { 0 < length entries.old }
+fn put_private_prefix(csi_params: &mut [EscEntry], rest: &[u8]) -> usize
+    requires { 0 < length csi_params.old }
     ensures few { (result ≤ length rest.now) × (result ≤ 1) }
-    ensures keeps { IsFront (map param_of (take result entries.new)) (take result rest.now) }
+    ensures keeps { IsPrefix (map param_of (take result csi_params.new)) (take result rest.now) }
 {
     if rest.is_empty() {
         return 0;
     }
     if lies_from(0x3c, 0x3f, rest[0]) {
-        put_byte(entries, 0, rest[0]);
+        put_byte(csi_params, 0, rest[0]);
         1
     } else {
         0
@@ -200,25 +203,25 @@ fn put_marker(entries: &mut [EscEntry], rest: &[u8]) -> usize
 
 // The digits that come first, if any, and a separator after them.
 #[inline(always)]
-fn put_field(entries: &mut [EscEntry], count: usize, rest: &[u8], any: bool) -> Field
-    requires room { count + 1 < length entries.old }
+fn put_field(csi_params: &mut [EscEntry], count: usize, rest: &[u8], any: bool) -> Field
+    requires room { count + 1 < length csi_params.old }
     requires some { 0 < length rest.now }
     ensures few { result.length ≤ length rest.now }
-    ensures entries { (result.count ≤ count + 2) }
+    ensures csi_params { (result.count ≤ count + 2) }
     ensures goes_on { result.goes_on ≡ true → (0 < result.length) × ((x : List ℕ)
-        → IsFront (map param_of (take count entries.old)) x
-        → IsFront (map param_of (take result.count entries.new)) (x
+        → IsPrefix (map param_of (take count csi_params.old)) x
+        → IsPrefix (map param_of (take result.count csi_params.new)) (x
         ++ take result.length rest.now)) }
     ensures ends { result.goes_on ≡ false → (x : List ℕ)
-        → IsFront (map param_of (take count entries.old)) x
-        → IsBehind (map param_of (take result.count entries.new)) (x
+        → IsPrefix (map param_of (take count csi_params.old)) x
+        → IsAfter (map param_of (take result.count csi_params.new)) (x
         ++ take result.length rest.now) }
     ensures after { 0 < result.after → (result.length < length rest.now)
         × (slice_index rest.now result.length ≡ result.after) }
 {
     if b'0' <= rest[0] && rest[0] <= b'9' {
-        let (n, after) = put_number(entries, count, rest, any);
-        if put_mark(entries, count + 1, after, any) {
+        let (n, after) = put_number(csi_params, count, rest, any);
+        if put_mark(csi_params, count + 1, after, any) {
             Field {
                 length: n + 1,
                 count: count + 2,
@@ -233,7 +236,7 @@ fn put_field(entries: &mut [EscEntry], count: usize, rest: &[u8], any: bool) -> 
                 after,
             }
         }
-    } else if put_mark(entries, count, rest[0], any) {
+    } else if put_mark(csi_params, count, rest[0], any) {
         Field {
             length: 1,
             count: count + 1,
@@ -258,23 +261,23 @@ fn least(any: bool) -> usize
     if any { 1 } else { 4 }
 }
 
-/// Reads the body that comes first, as far as it has a marker, numbers and separators and there is
-/// room for its entries. What is seldom, which is the separator 3A, numbers of more than three
-/// digits and the last bytes of all, it reads only where `any` says so.
+/// Reads the body that comes first, as far as it has a private prefix, numbers and separators and
+/// there is room for its parameters. What is seldom, which is the separator 3A, numbers of more
+/// than three digits and the last bytes of all, it reads only where `any` says so.
 #[inline(always)]
-pub fn read_body(entries: &mut [EscEntry], rest: &[u8], any: bool) -> Body
-    requires { length entries.old ≡ 256 }
+pub fn read_body(csi_params: &mut [EscEntry], rest: &[u8], any: bool) -> Body
+    requires { length csi_params.old ≡ 256 }
     ensures few { result.length ≤ length rest.now }
     ensures count { result.count ≤ 256 }
-    ensures keeps { IsShort (map param_of (take result.count entries.new)) (take result.length
+    ensures keeps { IsShort (map param_of (take result.count csi_params.new)) (take result.length
         rest.now) }
     ensures after { 0 < result.after → (result.length < length rest.now)
         × (slice_index rest.now result.length ≡ result.after) }
 {
-    let mut count = put_marker(entries, rest);
+    let mut count = put_private_prefix(csi_params, rest);
     let mut at = count;
     while rest.len() - at >= least(any) && count < 255 {
-        let field = put_field(entries, count, &rest[at..], any);
+        let field = put_field(csi_params, count, &rest[at..], any);
         at += field.length;
         count = field.count;
         if !field.goes_on {

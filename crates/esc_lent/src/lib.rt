@@ -2,7 +2,7 @@
 #![tactic(auto)]
 
 pub mod advance;
-pub mod entries;
+pub mod csi_params;
 pub mod event;
 pub mod fields;
 pub mod load;

@@ -6,12 +6,12 @@ ghost use Rattle.esc_frame.specs.Leads.{Unfinished, Holds};
 ghost use Rattle.esc_frame.specs.Machine.Keeps.{Keeps, KeepsDcs};
 ghost use Rattle.esc_lent.specs.States.{FirstIn, HeaderIn, KeptIn};
 
-use crate::entries::body_in;
+use crate::csi_params::body_in;
 use crate::named::Named;
 use crate::no_memory::NoMemory;
 use crate::numbers::{form_of, pending_in, state_of};
 use crate::parser::EscParser;
-use crate::text::LentText;
+use crate::text::BorrowedText;
 use esc_frame::body::CsiBody;
 use esc_frame::header::DcsHeader;
 use esc_frame::intermediates::Intermediates;
@@ -44,11 +44,11 @@ fn header_in(parser: &EscParser) -> DcsHeader
 pub fn load<'a, N: Named>(
     parser: &EscParser,
     memory: &'a mut [u8],
-) -> Machine<LentText<'a, N>, NoMemory>
+) -> Machine<BorrowedText<'a, N>, NoMemory>
     requires same { memory.ghost_name ≡ N.kept }
     requires room { length memory.old ≡ N.room }
     ensures holds { (u : Unfinished) → KeptIn parser.now memory.old u
-        → Holds ⟦<LentText<'a, N> as Store>⟧.keeps (Some N.room) result u }
+        → Holds ⟦<BorrowedText<'a, N> as Store>⟧.keeps (Some N.room) result u }
 {
     let count = parser.text.min(memory.len());
     Machine {
@@ -62,7 +62,7 @@ pub fn load<'a, N: Named>(
         },
         short: Short::new(),
         header: header_in(parser),
-        text: LentText {
+        text: BorrowedText {
             memory,
             count,
             is_over: parser.is_over,

@@ -6,7 +6,7 @@ ghost use Rattle.esc_frame.specs.Events.{Event};
 ghost use Rattle.esc_frame.specs.Leads.{Unfinished};
 ghost use Rattle.esc_lent.specs.Next.{Next, IsReady, ToEvent, IsPlain, both, halves};
 ghost use Rattle.esc_lent.specs.States.{KeptIn, IsAt, lower};
-ghost use Rattle.esc_lent.specs.Told.{told, due_of, is_run};
+ghost use Rattle.esc_lent.specs.Emitted.{emitted, queued_of, is_run};
 
 use crate::advance::{advance, ahead};
 use crate::event::{CHARACTER, CONTROL, EscEvent, FAILED, NONE, TEXT};
@@ -15,11 +15,11 @@ use crate::quick::{note_csi, note_plain};
 
 // Hands out the character or the control that is still to be handed out, if there is one.
 #[inline(always)]
-fn give_due(parser: &mut EscParser, event: &mut EscEvent) -> bool
+fn give_queued(parser: &mut EscParser, event: &mut EscEvent) -> bool
     requires { event.old.kind ≡ NONE }
-    ensures told { (out : List ℕ) (bytes : List ℕ)
-        → told event.new out bytes ≡ due_of parser.old.due_kind parser.old.due_value }
-    ensures due { due_of parser.new.due_kind parser.new.due_value ≡ [] }
+    ensures emitted { (out : List ℕ) (bytes : List ℕ)
+        → emitted event.new out bytes ≡ queued_of parser.old.queued_kind parser.old.queued_value }
+    ensures queued { queued_of parser.new.queued_kind parser.new.queued_value ≡ [] }
     ensures kept { (memory : List ℕ) (u : Unfinished) → KeptIn parser.old memory u
         → KeptIn parser.new memory u }
     ensures failed { parser.new.has_failed ≡ parser.old.has_failed }
@@ -27,17 +27,17 @@ fn give_due(parser: &mut EscParser, event: &mut EscEvent) -> bool
         × (is_run event.new.kind ≡ false) }
     ensures within { (event.new.count ≡ event.old.count) × (event.new.kept ≡ event.old.kept)
         × (event.new.length ≡ event.old.length) }
-    ensures was { result ≡ true → due_of parser.old.due_kind parser.old.due_value ≢ [] }
+    ensures was { result ≡ true → queued_of parser.old.queued_kind parser.old.queued_value ≢ [] }
     ensures none { result ≡ false → event.new.kind ≡ NONE }
 {
-    if parser.due_kind == NONE {
+    if parser.queued_kind == NONE {
         return false;
     }
-    let kind = parser.due_kind;
-    parser.due_kind = NONE;
+    let kind = parser.queued_kind;
+    parser.queued_kind = NONE;
     if kind == CHARACTER || kind == CONTROL {
         event.kind = kind;
-        event.byte = parser.due_value;
+        event.byte = parser.queued_value;
         true
     } else {
         false
@@ -117,7 +117,7 @@ fn next_in(
         event.kind = FAILED;
         return 0;
     }
-    if give_due(parser, event) {
+    if give_queued(parser, event) {
         return 0;
     }
     take_next(parser, memory, out, bytes, event)
@@ -133,7 +133,7 @@ pub fn next(parser: &mut EscParser, buffer: &mut [u8], bytes: &[u8], event: &mut
     ensures sound { (s : List ℕ) (es : List Event) → IsAt s es parser.old (lower buffer.old)
         → event.new.kind ≢ FAILED }
 {
-    if is_plain(parser) && bytes.len() >= AHEAD {
+    if is_idle(parser) && bytes.len() >= AHEAD {
         if bytes[0] == 0x1b {
             return next_of_sequence(parser, buffer, bytes, event);
         }
@@ -147,10 +147,10 @@ pub fn next(parser: &mut EscParser, buffer: &mut [u8], bytes: &[u8], event: &mut
 
 // Whether the parser stands between sequences, and nothing is still to be handed out.
 #[inline(always)]
-fn is_plain(parser: &EscParser) -> bool
+fn is_idle(parser: &EscParser) -> bool
     ensures { IsTrue result → IsPlain parser.now }
 {
-    !parser.has_failed & (parser.due_kind == NONE) & (parser.state == 0) & (parser.pending == 0)
+    !parser.has_failed & (parser.queued_kind == NONE) & (parser.state == 0) & (parser.pending == 0)
 }
 
 // So many bytes are looked at with no thought of their end.

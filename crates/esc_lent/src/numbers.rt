@@ -2,7 +2,7 @@
 #![tactic(auto)]
 
 ghost use Rattle.std.specs.Prelude.{◌≡◌};
-ghost use Rattle.esc_frame.specs.Machine.Fronts.{front_of};
+ghost use Rattle.esc_frame.specs.Machine.Prefixes.{prefix_of};
 ghost use Rattle.esc_lent.specs.Numbers.{state_numbered, form_numbered, begun};
 ghost use Rattle.esc_lent.specs.States.{begun_in};
 
@@ -26,7 +26,7 @@ pub fn state_of(number: u32) -> State
         3 => State::Osc,
         4 => State::Dcs,
         5 => State::Data,
-        6 => State::Skip,
+        6 => State::Ignored,
         7 => State::Apc,
         _ => State::Ground,
     }
@@ -42,7 +42,7 @@ pub fn number_of_state(state: State) -> u32
         State::Osc => 3,
         State::Dcs => 4,
         State::Data => 5,
-        State::Skip => 6,
+        State::Ignored => 6,
         State::Apc => 7,
     }
 }
@@ -71,7 +71,7 @@ pub fn number_of_form(form: Form) -> u32
 
 /// The bytes of a character that have come.
 pub fn pending_in(parser: &EscParser) -> Pending
-    ensures { front_of result ≡ begun_in parser.now }
+    ensures { prefix_of result ≡ begun_in parser.now }
 {
     match parser.pending {
         1 => Pending::One(parser.first),
@@ -83,7 +83,7 @@ pub fn pending_in(parser: &EscParser) -> Pending
 
 /// How many they are, and each of them, or 0.
 pub fn numbers_of_pending(pending: Pending) -> (u32, u8, u8, u8)
-    ensures { begun result.0 result.1 result.2 result.3 ≡ front_of pending }
+    ensures { begun result.0 result.1 result.2 result.3 ≡ prefix_of pending }
 {
     match pending {
         Pending::Nothing => (0, 0, 0, 0),

@@ -23,9 +23,9 @@ pub struct EscParser {
     pub has_more: bool,
     /// How far the body of a control sequence, or that header, has come in its form.
     pub form: u32,
-    /// The entries of a control sequence.
+    /// The parameters of a control sequence.
     pub count: usize,
-    pub entries: [EscEntry; 256],
+    pub csi_params: [EscEntry; 256],
     pub is_truncated: bool,
     /// The number at their end.
     pub is_open: bool,
@@ -34,8 +34,8 @@ pub struct EscParser {
     pub text: usize,
     pub is_over: bool,
     /// A character or a control that is still to be handed out.
-    pub due_kind: u32,
-    pub due_value: u32,
+    pub queued_kind: u32,
+    pub queued_value: u32,
     /// Whether it failed.
     pub has_failed: bool,
 }
@@ -57,14 +57,14 @@ impl EscParser {
             has_more: false,
             form: 0,
             count: 0,
-            entries: [EscEntry::none(); 256],
+            csi_params: [EscEntry::none(); 256],
             is_truncated: false,
             is_open: false,
             number: 0,
             text: 0,
             is_over: false,
-            due_kind: 0,
-            due_value: 0,
+            queued_kind: 0,
+            queued_value: 0,
             has_failed: false,
         }
     }

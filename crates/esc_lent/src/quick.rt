@@ -4,8 +4,8 @@
 ghost use Rattle.std.specs.Prelude.{◌≡◌, ◌≢◌, ◌≤◌, ◌<◌, ◌∷◌, [], ℕ, List, false, length, map, take, slice_index};
 ghost use Rattle.esc_frame.specs.Events.Event.{CsiDispatch};
 ghost use Rattle.esc_lent.specs.declared.parser.EscParser.{EscParser as Parser};
-ghost use Rattle.esc_lent.specs.Runs.{IsTextRun, Tells, TellsEvent};
-ghost use Rattle.esc_lent.specs.Told.{is_run, param_of, sent};
+ghost use Rattle.esc_lent.specs.Runs.{IsTextRun, Emits, EmitsEvent};
+ghost use Rattle.esc_lent.specs.Emitted.{is_run, param_of, sent};
 
 use crate::event::{CONTROL, CSI, EscEvent, FAILED, NONE, TEXT};
 use crate::fields::read_body;
@@ -22,13 +22,13 @@ pub fn note_quick(parser: &EscParser, bytes: &[u8], event: &mut EscEvent) -> usi
     requires none { event.old.kind ≡ NONE }
     requires count { event.old.count ≤ 256 }
     ensures few { result ≤ length bytes.now }
-    ensures none { result ≡ 0 → event.new ≡ record event.old { entries = event.new.entries } }
+    ensures none { result ≡ 0 → event.new ≡ record event.old { csi_params = event.new.csi_params } }
     ensures some { 0 < result → (event.new.kind ≢ NONE) × (event.new.kind ≢ FAILED)
         × (is_run event.new.kind ≡ false) }
     ensures within { (event.new.count ≤ 256) × (event.new.kept ≡ event.old.kept)
         × (event.new.length ≡ event.old.length) × (event.new.start ≡ event.old.start) }
     ensures ground { 0 < result → (parser.now.state ≡ GROUND) × (parser.now.pending ≡ 0) }
-    ensures tells { 0 < result → TellsEvent event.new (take result bytes.now) }
+    ensures emits { 0 < result → EmitsEvent event.new (take result bytes.now) }
 {
     if parser.state != 0 || parser.pending != 0 {
         return 0;
@@ -58,8 +58,8 @@ pub fn note_plain(bytes: &[u8], event: &mut EscEvent) -> usize
         × IsTextRun (take result bytes.now) }
     ensures control { 0 < result → event.new.kind ≢ TEXT → (is_run event.new.kind ≡ false)
         × (event.new.length ≡ 0) }
-    ensures tells { 0 < result → (p : Parser) (out : List ℕ) (limit : ℕ) → p.state ≡ GROUND
-        → p.pending ≡ 0 → Tells p p event.new out limit bytes.now (take result bytes.now) }
+    ensures emits { 0 < result → (p : Parser) (out : List ℕ) (limit : ℕ) → p.state ≡ GROUND
+        → p.pending ≡ 0 → Emits p p event.new out limit bytes.now (take result bytes.now) }
 {
     if bytes[0] < 0x20 {
         put_plain(event, CONTROL, 0, bytes[0]);
@@ -72,7 +72,7 @@ pub fn note_plain(bytes: &[u8], event: &mut EscEvent) -> usize
     run
 }
 
-// An event without entries and intermediates.
+// An event without parameters and intermediates.
 #[inline(always)]
 fn put_plain(event: &mut EscEvent, kind: u32, run: usize, byte: u8)
     ensures kind { (event.new.kind ≡ kind) × (event.new.byte ≡ byte) }
@@ -87,17 +87,17 @@ fn put_plain(event: &mut EscEvent, kind: u32, run: usize, byte: u8)
     event.count = 0;
 }
 
-/// A control sequence of few entries: of a common form, or of any. They are written where the event
-/// keeps them, also where it turns out to be none.
+/// A control sequence of few parameters: of a common form, or of any. They are written where the
+/// event keeps them, also where it turns out to be none.
 #[inline(always)]
 pub fn note_csi(bytes: &[u8], event: &mut EscEvent, any: bool) -> usize
     requires escape { slice_index bytes.now 0 ≡ 0x1b }
     ensures few { result ≤ length bytes.now }
-    ensures none { result ≡ 0 → event.new ≡ record event.old { entries = event.new.entries } }
+    ensures none { result ≡ 0 → event.new ≡ record event.old { csi_params = event.new.csi_params } }
     ensures some { 0 < result → event.new.kind ≡ CSI }
     ensures within { (0 < result → event.new.count ≤ 256) × (event.new.kept ≡ event.old.kept)
         × (event.new.length ≡ event.old.length) × (event.new.start ≡ event.old.start) }
-    ensures tells { 0 < result → TellsEvent event.new (take result bytes.now) }
+    ensures emits { 0 < result → EmitsEvent event.new (take result bytes.now) }
 {
     if bytes.len() <= 2 {
         return 0;
@@ -105,7 +105,7 @@ pub fn note_csi(bytes: &[u8], event: &mut EscEvent, any: bool) -> usize
     if bytes[1] != b'[' {
         return 0;
     }
-    let body = read_body(&mut event.entries, &bytes[2..], any);
+    let body = read_body(&mut event.csi_params, &bytes[2..], any);
     if lies_from(0x40, 0x7e, body.after) {
         end_csi(event, body.count, body.after);
         body.length + 3
@@ -114,11 +114,11 @@ pub fn note_csi(bytes: &[u8], event: &mut EscEvent, any: bool) -> usize
     }
 }
 
-// The final byte of a control sequence whose entries, so many, were written.
+// The final byte of a control sequence whose parameters, so many, were written.
 #[inline(always)]
 fn end_csi(event: &mut EscEvent, count: usize, byte: u8)
     ensures said { (out : List ℕ) → sent event.new out
-        ≡ CsiDispatch (map param_of (take count event.old.entries)) false byte ∷ [] }
+        ≡ CsiDispatch (map param_of (take count event.old.csi_params)) false byte ∷ [] }
     ensures kind { event.new.kind ≡ CSI }
     ensures count { event.new.count ≡ count }
     ensures within { (event.new.kept ≡ event.old.kept) × (event.new.length ≡ event.old.length)

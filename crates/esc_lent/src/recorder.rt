@@ -5,9 +5,9 @@ ghost use Rattle.std.specs.Prelude.{◌≡◌, ◌≢◌, ◌≤◌, ◌<◌, �
 ghost use Rattle.esc_values.specs.Clear.{parts_of};
 ghost use Rattle.esc_frame.specs.Events.Event.{Print, Execute, EscDispatch, CsiDispatch, OscDispatch, DcsHook};
 ghost use Rattle.esc_lent.specs.Noted.{Adds};
-ghost use Rattle.esc_lent.specs.Told.{sent, text_of, intermediates_of, parameters_of};
+ghost use Rattle.esc_lent.specs.Emitted.{sent, text_of, intermediates_of, parameters_of};
 
-use crate::entries::put_entries;
+use crate::csi_params::put_csi_params;
 use crate::event::{
     APC, CHARACTER, CONTROL, CSI, DATA_BYTE, DCS, DCS_END, ESCAPE, EscEvent, NONE, OSC,
 };
@@ -23,8 +23,8 @@ use std::marker::PhantomData;
 pub struct Recorder<'b, 'c, N: Named> {
     pub event: &'c mut EscEvent,
     pub out: &'b mut [u8],
-    pub due_kind: u32,
-    pub due_value: u32,
+    pub queued_kind: u32,
+    pub queued_value: u32,
     pub is_lost: bool,
     pub of: PhantomData<N>,
     ghost same_event: { event.ghost_name ≡ N.event },
@@ -42,7 +42,7 @@ pub fn put_csi(event: &mut EscEvent, params: &[CsiParam], parameters_truncated: 
     ensures kept { event.new.kept ≡ event.old.kept }
     ensures length { event.new.length ≡ event.old.length }
 {
-    put_entries(&mut event.entries, params);
+    put_csi_params(&mut event.csi_params, params);
     event.count = params.len();
     event.has_more = parameters_truncated;
     event.byte = byte as u32;
@@ -83,29 +83,32 @@ impl<'b, 'c, N: Named> Recorder<'b, 'c, N> {
     // Whether nothing was noted.
     fn is_new(&self) -> bool
         ensures kind { IsTrue result → self.now.event.now.kind ≡ NONE }
-        ensures due { IsTrue result → self.now.due_kind ≡ NONE }
-        ensures some { result ≡ false → self.now.event.now.kind ≡ NONE → self.now.due_kind ≢ NONE }
+        ensures queued { IsTrue result → self.now.queued_kind ≡ NONE }
+        ensures some { result ≡ false → self.now.event.now.kind ≡ NONE
+            → self.now.queued_kind ≢ NONE }
     {
-        self.event.kind == NONE && self.due_kind == NONE
+        self.event.kind == NONE && self.queued_kind == NONE
     }
 
     // Notes a character or a control.
     fn note(&mut self, kind: u32, value: u32)
         ensures character { kind ≡ CHARACTER → Adds N.place self.old.event.now self.old.out.now
-            self.old.due_kind self.old.due_value self.old.is_lost (Print value) self.new.event.now
-            self.new.out.now self.new.due_kind self.new.due_value self.new.is_lost }
+            self.old.queued_kind self.old.queued_value self.old.is_lost (Print value)
+            self.new.event.now
+            self.new.out.now self.new.queued_kind self.new.queued_value self.new.is_lost }
         ensures control { kind ≡ CONTROL → Adds N.place self.old.event.now self.old.out.now
-            self.old.due_kind self.old.due_value self.old.is_lost (Execute value) self.new.event.now
-            self.new.out.now self.new.due_kind self.new.due_value self.new.is_lost }
+            self.old.queued_kind self.old.queued_value self.old.is_lost (Execute value)
+            self.new.event.now
+            self.new.out.now self.new.queued_kind self.new.queued_value self.new.is_lost }
     {
-        if self.due_kind != NONE {
+        if self.queued_kind != NONE {
             self.is_lost = true;
         } else if self.event.kind == NONE {
             self.event.kind = kind;
             self.event.byte = value;
         } else {
-            self.due_kind = kind;
-            self.due_value = value;
+            self.queued_kind = kind;
+            self.queued_value = value;
         }
     }
 
@@ -114,15 +117,16 @@ impl<'b, 'c, N: Named> Recorder<'b, 'c, N> {
         ensures kind { result ≡ true → self.new.event.now.kind ≡ kind }
         ensures text { result ≡ true → text_of self.new.event.now self.new.out.now ≡ text.now }
         ensures length { result ≡ true → self.new.event.now.length ≤ N.place }
-        ensures due { result ≡ true → (self.new.due_kind ≡ NONE)
+        ensures queued { result ≡ true → (self.new.queued_kind ≡ NONE)
             × (self.new.is_lost ≡ self.old.is_lost) }
         ensures before { result ≡ true → (self.old.event.now.kind ≡ NONE)
-            × (self.old.due_kind ≡ NONE) }
+            × (self.old.queued_kind ≡ NONE) }
         ensures counts { (self.new.event.now.count ≡ self.old.event.now.count)
             × (self.new.event.now.kept ≡ self.old.event.now.kept) }
         ensures lost { result ≡ false → (self.new.is_lost ≡ true)
-            × (self.new.event.now ≡ self.old.event.now) × (self.new.due_kind ≡ self.old.due_kind) }
-        ensures only { result ≡ false → self.old.event.now.kind ≡ NONE → self.old.due_kind ≡ NONE
+            × (self.new.event.now ≡ self.old.event.now)
+            × (self.new.queued_kind ≡ self.old.queued_kind) }
+        ensures only { result ≡ false → self.old.event.now.kind ≡ NONE → self.old.queued_kind ≡ NONE
             → N.place < length text.now }
     {
         if !self.is_new() || text.len() > self.out.len() {
@@ -138,9 +142,9 @@ impl<'b, 'c, N: Named> Recorder<'b, 'c, N> {
     // Notes a command.
     #[tactic(auto, using(crate::proofs::Noted::parts_room))]
     fn note_osc(&mut self, text: &[u8])
-        ensures { Adds N.place self.old.event.now self.old.out.now self.old.due_kind
-            self.old.due_value self.old.is_lost (OscDispatch (parts_of text.now))
-            self.new.event.now self.new.out.now self.new.due_kind self.new.due_value
+        ensures { Adds N.place self.old.event.now self.old.out.now self.old.queued_kind
+            self.old.queued_value self.old.is_lost (OscDispatch (parts_of text.now))
+            self.new.event.now self.new.out.now self.new.queued_kind self.new.queued_value
             self.new.is_lost }
     {
         self.put(OSC, text);
@@ -149,10 +153,10 @@ impl<'b, 'c, N: Named> Recorder<'b, 'c, N> {
     // Notes a header, for whose parameter bytes there is a place.
     fn note_header(&mut self, byte: u8, parameters: &[u8], intermediates: &[u8], has_more: bool)
         requires { length parameters.now ≤ N.place }
-        ensures { Adds N.place self.old.event.now self.old.out.now self.old.due_kind
-            self.old.due_value self.old.is_lost
+        ensures { Adds N.place self.old.event.now self.old.out.now self.old.queued_kind
+            self.old.queued_value self.old.is_lost
             (DcsHook byte (parameters_of parameters.now) intermediates.now has_more)
-            self.new.event.now self.new.out.now self.new.due_kind self.new.due_value
+            self.new.event.now self.new.out.now self.new.queued_kind self.new.queued_value
             self.new.is_lost }
     {
         if intermediates.len() > 2 {
@@ -165,8 +169,9 @@ impl<'b, 'c, N: Named> Recorder<'b, 'c, N> {
 }
 
 impl<'b, 'c, N: Named> Taker for Recorder<'b, 'c, N> {
-    ghost takes = { λ p e q. Adds N.place p.event.now p.out.now p.due_kind p.due_value p.is_lost e
-        q.event.now q.out.now q.due_kind q.due_value q.is_lost };
+    ghost takes = { λ p e q. Adds N.place p.event.now p.out.now p.queued_kind p.queued_value
+        p.is_lost e
+        q.event.now q.out.now q.queued_kind q.queued_value q.is_lost };
 
     ghost refuses = { λ _ _ _. ⊥ };
 

@@ -3,10 +3,10 @@
 
 ghost use Rattle.std.specs.Prelude.{◌≡◌, ◌≤◌, ◌<◌, ◌||◌, ℕ, true, false, length, take, Some, Ok};
 ghost use Rattle.esc_frame.specs.Leads.{Unfinished};
-ghost use Rattle.esc_frame.specs.Machine.Moves.{after_all, news_all};
+ghost use Rattle.esc_frame.specs.Machine.Moves.{after_all, events_all};
 ghost use Rattle.esc_lent.specs.States.{KeptIn};
 ghost use Rattle.esc_lent.specs.Noted.{IsSound, GivesSound};
-ghost use Rattle.esc_lent.specs.Told.{said, is_run};
+ghost use Rattle.esc_lent.specs.Emitted.{said, is_run};
 
 use crate::event::{EscEvent, NONE};
 use crate::load::load;
@@ -14,7 +14,7 @@ use crate::named::Named;
 use crate::no_memory::NoMemory;
 use crate::parser::EscParser;
 use crate::recorder::Recorder;
-use crate::text::LentText;
+use crate::text::BorrowedText;
 use crate::unload::unload;
 use esc_frame::machine::Machine;
 use std::alloc::AllocError;
@@ -22,7 +22,7 @@ use std::marker::{Brand, PhantomData};
 
 /// What was lent for a step, and how the step went.
 #[derive(Drop)]
-pub struct Lend<'a, 'b, 'c> {
+pub struct Borrow<'a, 'b, 'c> {
     pub memory: &'a mut [u8],
     pub out: &'b mut [u8],
     pub event: &'c mut EscEvent,
@@ -38,7 +38,7 @@ fn step_in<'a, 'b, 'c, N: Named>(
     out: &'b mut [u8],
     event: &'c mut EscEvent,
     bytes: &[u8],
-) -> Lend<'a, 'b, 'c>
+) -> Borrow<'a, 'b, 'c>
     requires some { 0 < length bytes.now }
     requires memory { memory.ghost_name ≡ N.kept }
     requires room { length memory.old ≡ N.room }
@@ -54,23 +54,23 @@ fn step_in<'a, 'b, 'c, N: Named>(
     ensures some { result.has_failed ≡ false → 0 < result.taken }
     ensures kept { (u : Unfinished) → KeptIn parser.old memory.old u → result.has_failed ≡ false
         → KeptIn parser.new result.memory.now (after_all u (take result.taken bytes.now)) }
-    ensures told { (u : Unfinished) → KeptIn parser.old memory.old u → result.has_failed ≡ false
-        → said result.event.now result.out.now parser.new.due_kind parser.new.due_value
-        ≡ news_all (Some (length memory.old)) u (take result.taken bytes.now) }
+    ensures emitted { (u : Unfinished) → KeptIn parser.old memory.old u → result.has_failed ≡ false
+        → said result.event.now result.out.now parser.new.queued_kind parser.new.queued_value
+        ≡ events_all (Some (length memory.old)) u (take result.taken bytes.now) }
     ensures run { (u : Unfinished) → KeptIn parser.old memory.old u → result.has_failed ≡ false
         → is_run result.event.now.kind ≡ false }
     ensures sound { (u : Unfinished) → KeptIn parser.old memory.old u
         → length memory.old ≤ length out.old → IsSound event.old (length out.old)
         → (result.has_failed ≡ false)
-        × GivesSound result.event.now parser.new.due_kind (length out.old) }
+        × GivesSound result.event.now parser.new.queued_kind (length out.old) }
     ensures before { parser.new.has_failed ≡ parser.old.has_failed }
 {
     let limit = memory.len();
-    let mut machine: Machine<LentText<'a, N>, NoMemory> = load(parser, memory);
+    let mut machine: Machine<BorrowedText<'a, N>, NoMemory> = load(parser, memory);
     let mut recorder: Recorder<'b, 'c, N> = listen(out, event);
     let (taken, has_failed) = taken_of(machine.take_some(Some(limit), bytes, &mut recorder));
-    parser.due_kind = recorder.due_kind;
-    parser.due_value = recorder.due_value;
+    parser.queued_kind = recorder.queued_kind;
+    parser.queued_value = recorder.queued_value;
     unload(parser, &machine);
     let_go(machine, recorder, taken, has_failed)
 }
@@ -94,14 +94,14 @@ fn listen<'b, 'c, N: Named>(out: &'b mut [u8], event: &'c mut EscEvent) -> Recor
     requires event { event.ghost_name ≡ N.event }
     ensures out { result.out.now ≡ out.old }
     ensures event { result.event.now ≡ event.old }
-    ensures due { result.due_kind ≡ NONE }
+    ensures queued { result.queued_kind ≡ NONE }
     ensures lost { result.is_lost ≡ false }
 {
     Recorder {
         event,
         out,
-        due_kind: NONE,
-        due_value: 0,
+        queued_kind: NONE,
+        queued_value: 0,
         is_lost: false,
         of: PhantomData,
     }
@@ -109,11 +109,11 @@ fn listen<'b, 'c, N: Named>(out: &'b mut [u8], event: &'c mut EscEvent) -> Recor
 
 // Gives back what was lent.
 fn let_go<'a, 'b, 'c, N: Named>(
-    machine: Machine<LentText<'a, N>, NoMemory>,
+    machine: Machine<BorrowedText<'a, N>, NoMemory>,
     recorder: Recorder<'b, 'c, N>,
     taken: usize,
     has_failed: bool,
-) -> Lend<'a, 'b, 'c>
+) -> Borrow<'a, 'b, 'c>
     ensures memory { result.memory.ghost_name ≡ N.kept }
     ensures memory_now { result.memory.now ≡ machine.entry.text.memory.now }
     ensures room { length result.memory.now ≡ N.room }
@@ -134,7 +134,7 @@ fn let_go<'a, 'b, 'c, N: Named>(
         text,
         alloc: _,
     } = machine;
-    let LentText {
+    let BorrowedText {
         memory,
         count: _,
         is_over: _,
@@ -143,12 +143,12 @@ fn let_go<'a, 'b, 'c, N: Named>(
     let Recorder {
         event,
         out,
-        due_kind: _,
-        due_value: _,
+        queued_kind: _,
+        queued_value: _,
         is_lost,
         of: _,
     } = recorder;
-    Lend {
+    Borrow {
         memory,
         out,
         event,
@@ -174,16 +174,16 @@ pub fn step(
     ensures some { result.1 ≡ false → 0 < result.0 }
     ensures kept { (u : Unfinished) → KeptIn parser.old memory.old u → result.1 ≡ false
         → KeptIn parser.new memory.new (after_all u (take result.0 bytes.now)) }
-    ensures told { (u : Unfinished) → KeptIn parser.old memory.old u → result.1 ≡ false
-        → said event.new out.new parser.new.due_kind parser.new.due_value
-        ≡ news_all (Some (length memory.old)) u (take result.0 bytes.now) }
+    ensures emitted { (u : Unfinished) → KeptIn parser.old memory.old u → result.1 ≡ false
+        → said event.new out.new parser.new.queued_kind parser.new.queued_value
+        ≡ events_all (Some (length memory.old)) u (take result.0 bytes.now) }
     ensures run { (u : Unfinished) → KeptIn parser.old memory.old u → result.1 ≡ false
         → is_run event.new.kind ≡ false }
     ensures sound { (u : Unfinished) → KeptIn parser.old memory.old u
         → length memory.old ≤ length out.old → IsSound event.old (length out.old)
-        → (result.1 ≡ false) × GivesSound event.new parser.new.due_kind (length out.old) }
+        → (result.1 ≡ false) × GivesSound event.new parser.new.queued_kind (length out.old) }
     ensures before { parser.new.has_failed ≡ parser.old.has_failed }
 {
-    let lend = step_in::<Brand>(parser, memory, out, event, bytes);
-    (lend.taken, lend.has_failed)
+    let borrow = step_in::<Brand>(parser, memory, out, event, bytes);
+    (borrow.taken, borrow.has_failed)
 }

@@ -5,7 +5,7 @@
 ghost use Rattle.std.specs.Prelude.{◌≡◌, ◌≢◌, ◌≤◌, ◌<◌, ◌∷◌, [], ℕ, List, false, length, take, slice_index};
 ghost use Rattle.esc_frame.specs.Events.Event.{EscDispatch};
 ghost use Rattle.esc_lent.specs.Runs.{Notes, IsDueAs, closes_escape};
-ghost use Rattle.esc_lent.specs.Told.{is_run, sent, text_of};
+ghost use Rattle.esc_lent.specs.Emitted.{is_run, sent, text_of};
 
 use crate::event::{ESCAPE, EscEvent, FAILED, NONE, OSC, TEXT};
 use crate::numbers::{ESCAPED, GROUND};
@@ -32,7 +32,7 @@ fn put_text(out: &mut [u8], event: &mut EscEvent, kind: u32, text: &[u8])
 fn escape(parser: &mut EscParser)
     ensures state { (parser.new.state ≡ ESCAPED) × (parser.new.kept ≡ 0)
         × (parser.new.has_more ≡ false) }
-    ensures due { IsDueAs parser.new parser.old }
+    ensures queued { IsDueAs parser.new parser.old }
 {
     parser.state = 1;
     parser.kept = 0;
@@ -57,7 +57,7 @@ fn note_osc(
     ensures none { result ≡ 0 → (parser.new ≡ parser.old) × (event.new ≡ event.old) }
     ensures some { 0 < result → (event.new.kind ≡ OSC) × (event.new.length ≤ length out.old) }
     ensures within { (event.new.count ≡ event.old.count) × (event.new.kept ≡ event.old.kept) }
-    ensures due { IsDueAs parser.new parser.old }
+    ensures queued { IsDueAs parser.new parser.old }
     ensures notes { 0 < result
         → Notes parser.old parser.new event.new out.new limit (take result bytes.now) }
 {
@@ -86,7 +86,7 @@ fn note_final(parser: &mut EscParser, bytes: &[u8], event: &mut EscEvent) -> usi
     ensures none { result ≡ 0 → (parser.new ≡ parser.old) × (event.new ≡ event.old) }
     ensures some { 0 < result → (event.new.kind ≡ ESCAPE) × (event.new.kept ≡ 0) }
     ensures within { (event.new.count ≡ event.old.count) × (event.new.length ≡ event.old.length) }
-    ensures due { IsDueAs parser.new parser.old }
+    ensures queued { IsDueAs parser.new parser.old }
     ensures notes { 0 < result → (out : List ℕ) (limit : ℕ)
         → Notes parser.old parser.new event.new out limit (take result bytes.now) }
 {
@@ -110,16 +110,16 @@ fn closes_escape(class: Class) -> bool
 {
     match class {
         Class::Parameter | Class::Final => true,
-        Class::Plain
+        Class::C0
         | Class::Bell
         | Class::Cancel
         | Class::Escape
         | Class::Intermediate
-        | Class::Opens(_)
+        | Class::Introducer(_)
         | Class::Delete
-        | Class::RawControl
-        | Class::RawOpens(_)
-        | Class::RawTerminator
+        | Class::C1
+        | Class::C1Introducer(_)
+        | Class::C1Terminator
         | Class::High
         | Class::Lead => false,
     }
@@ -157,7 +157,7 @@ pub fn note_string(
         × (event.new.kind ≢ FAILED) × (is_run event.new.kind ≡ false) }
     ensures within { (event.new.count ≤ 256) × (event.new.kept ≤ 2)
         × (event.new.length ≤ length out.old) }
-    ensures due { IsDueAs parser.new parser.old }
+    ensures queued { IsDueAs parser.new parser.old }
     ensures notes { 0 < result
         → Notes parser.old parser.new event.new out.new limit (take result bytes.now) }
 {

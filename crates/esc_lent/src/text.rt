@@ -3,7 +3,7 @@
 
 ghost use Rattle.std.specs.Prelude.{◌≡◌, ◌≢◌, ◌≤◌, ◌++◌, ℕ, List, [], Option, Some, OnOk, true, false, take, length};
 ghost use Rattle.esc_frame.specs.Limits.{is_within};
-ghost use Rattle.esc_lent.specs.Texts.{KeepsLent};
+ghost use Rattle.esc_lent.specs.Texts.{KeepsBorrowed};
 
 use crate::named::Named;
 use esc_frame::count::fits;
@@ -13,7 +13,7 @@ use std::marker::PhantomData;
 
 /// The text at the beginning of memory that was lent. It refuses what has no room there.
 #[derive(Drop)]
-pub struct LentText<'a, N: Named> {
+pub struct BorrowedText<'a, N: Named> {
     pub memory: &'a mut [u8],
     pub count: usize,
     /// Whether there was more than the limit.
@@ -24,8 +24,8 @@ pub struct LentText<'a, N: Named> {
     ghost fits: { count ≤ N.room },
 }
 
-impl<'a, N: Named> Store for LentText<'a, N> {
-    ghost keeps = { λ limit k t. KeepsLent limit k.is_over k.count k.memory.now t };
+impl<'a, N: Named> Store for BorrowedText<'a, N> {
+    ghost keeps = { λ limit k t. KeepsBorrowed limit k.is_over k.count k.memory.now t };
 
     // It asks for no memory, and where the limit is its room it never fails.
     ghost denied = { λ limit. limit ≢ Some N.room };

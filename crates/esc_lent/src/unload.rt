@@ -3,17 +3,17 @@
 
 ghost use Rattle.std.specs.Prelude.{◌≡◌, ◌≤◌, ℕ, List, length, Some, Option, true};
 ghost use Rattle.esc_frame.specs.Leads.{Unfinished, Holds};
-ghost use Rattle.esc_frame.specs.Machine.Fronts.{front_of};
+ghost use Rattle.esc_frame.specs.Machine.Prefixes.{prefix_of};
 ghost use Rattle.esc_frame.specs.Machine.Keeps.{Keeps, KeepsBody, KeepsDcs};
 ghost use Rattle.esc_lent.specs.Numbers.{state_numbered};
 ghost use Rattle.esc_lent.specs.States.{FirstIn, HeaderIn, BodyIn, KeptIn, begun_in};
 
-use crate::entries::put_body;
+use crate::csi_params::put_body;
 use crate::named::Named;
 use crate::no_memory::NoMemory;
 use crate::numbers::{number_of_form, number_of_state, numbers_of_pending};
 use crate::parser::EscParser;
-use crate::text::LentText;
+use crate::text::BorrowedText;
 use esc_frame::header::DcsHeader;
 use esc_frame::intermediates::Intermediates;
 use esc_frame::machine::{Machine, State};
@@ -23,8 +23,8 @@ use esc_frame::store::Store;
 #[tactic(auto, using(crate::proofs::Parts::first_stored))]
 fn put_first(parser: &mut EscParser, first: &Intermediates)
     ensures first { (x : List ℕ) → Keeps first.now x → FirstIn parser.new x }
-    ensures due_kind { parser.new.due_kind ≡ parser.old.due_kind }
-    ensures due_value { parser.new.due_value ≡ parser.old.due_value }
+    ensures queued_kind { parser.new.queued_kind ≡ parser.old.queued_kind }
+    ensures queued_value { parser.new.queued_value ≡ parser.old.queued_value }
     ensures failed { parser.new.has_failed ≡ parser.old.has_failed }
 {
     parser.intermediates = first.bytes;
@@ -34,8 +34,8 @@ fn put_first(parser: &mut EscParser, first: &Intermediates)
 
 fn put_header(parser: &mut EscParser, header: &DcsHeader)
     ensures header { (x : List ℕ) → KeepsDcs header.now x → HeaderIn parser.new x }
-    ensures due_kind { parser.new.due_kind ≡ parser.old.due_kind }
-    ensures due_value { parser.new.due_value ≡ parser.old.due_value }
+    ensures queued_kind { parser.new.queued_kind ≡ parser.old.queued_kind }
+    ensures queued_value { parser.new.queued_value ≡ parser.old.queued_value }
     ensures failed { parser.new.has_failed ≡ parser.old.has_failed }
 {
     put_first(parser, &header.intermediates);
@@ -45,14 +45,14 @@ fn put_header(parser: &mut EscParser, header: &DcsHeader)
 // The numbers that are kept in each state.
 fn put_place(parser: &mut EscParser, state: State, pending: Pending, text: usize, is_over: bool)
     ensures state { state_numbered parser.new.state ≡ state }
-    ensures begun { begun_in parser.new ≡ front_of pending }
+    ensures begun { begun_in parser.new ≡ prefix_of pending }
     ensures text { parser.new.text ≡ text }
     ensures over { parser.new.is_over ≡ is_over }
     ensures first { (x : List ℕ) → FirstIn parser.old x → FirstIn parser.new x }
     ensures header { (x : List ℕ) → HeaderIn parser.old x → HeaderIn parser.new x }
     ensures body { (x : List ℕ) → BodyIn parser.old x → BodyIn parser.new x }
-    ensures due_kind { parser.new.due_kind ≡ parser.old.due_kind }
-    ensures due_value { parser.new.due_value ≡ parser.old.due_value }
+    ensures queued_kind { parser.new.queued_kind ≡ parser.old.queued_kind }
+    ensures queued_value { parser.new.queued_value ≡ parser.old.queued_value }
     ensures failed { parser.new.has_failed ≡ parser.old.has_failed }
 {
     let (count, first, second, third) = numbers_of_pending(pending);
@@ -73,25 +73,28 @@ fn put_parts<K: Store>(parser: &mut EscParser, machine: &Machine<K, NoMemory>)
         → BodyIn parser.new x }
     ensures header { (x : List ℕ) → machine.now.state ≡ State.Dcs → KeepsDcs machine.now.header x
         → HeaderIn parser.new x }
-    ensures due_kind { parser.new.due_kind ≡ parser.old.due_kind }
-    ensures due_value { parser.new.due_value ≡ parser.old.due_value }
+    ensures queued_kind { parser.new.queued_kind ≡ parser.old.queued_kind }
+    ensures queued_value { parser.new.queued_value ≡ parser.old.queued_value }
     ensures failed { parser.new.has_failed ≡ parser.old.has_failed }
 {
     match machine.state {
         State::Escape => put_first(parser, &machine.intermediates),
         State::Csi => put_body(parser, &machine.body),
         State::Dcs => put_header(parser, &machine.header),
-        State::Ground | State::Osc | State::Data | State::Skip | State::Apc => {}
+        State::Ground | State::Osc | State::Data | State::Ignored | State::Apc => {}
     }
 }
 
 /// Keeps a machine in a parser's numbers, and in the memory that it was lent.
-pub fn unload<'a, N: Named>(parser: &mut EscParser, machine: &Machine<LentText<'a, N>, NoMemory>)
+pub fn unload<'a, N: Named>(
+    parser: &mut EscParser,
+    machine: &Machine<BorrowedText<'a, N>, NoMemory>,
+)
     ensures kept { (u : Unfinished)
-        → Holds ⟦<LentText<'a, N> as Store>⟧.keeps (Some N.room) machine.now u
+        → Holds ⟦<BorrowedText<'a, N> as Store>⟧.keeps (Some N.room) machine.now u
         → KeptIn parser.new machine.now.text.memory.now u }
-    ensures due_kind { parser.new.due_kind ≡ parser.old.due_kind }
-    ensures due_value { parser.new.due_value ≡ parser.old.due_value }
+    ensures queued_kind { parser.new.queued_kind ≡ parser.old.queued_kind }
+    ensures queued_value { parser.new.queued_value ≡ parser.old.queued_value }
     ensures failed { parser.new.has_failed ≡ parser.old.has_failed }
 {
     put_parts(parser, machine);

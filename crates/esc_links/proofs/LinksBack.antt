@@ -115,12 +115,12 @@ module _ {A : Type 0} where
       (r.2, ap link_of r.3 ∙ r.4)
 
   -- the text of any link, and of none, begins with the part `8`
-  abbrev pub behind_code : Option (Hyperlink A) → List ℕ
-  behind_code None = 0x3b ∷ []
-  behind_code (Some h) = params_text h.params ++ 0x3b ∷ h.uri
+  abbrev pub after_code : Option (Hyperlink A) → List ℕ
+  after_code None = 0x3b ∷ []
+  after_code (Some h) = params_text h.params ++ 0x3b ∷ h.uri
 
   pub code_first : (v : Option (Hyperlink A))
-      → parts_of (link_text v) ≡ codes "8" ∷ slice_split (λ c. c == 0x3b) (behind_code v)
+      → parts_of (link_text v) ≡ codes "8" ∷ slice_split (λ c. c == 0x3b) (after_code v)
   code_first None = refl
   code_first (Some h) = refl
 
@@ -136,6 +136,6 @@ module _ {A : Type 0} where
       → (p1 : List ℕ) × (p2 : List ℕ) × (parts_of (link_text v) ≡ codes "8" ∷ p1 ∷ p2 ∷ [])
       × (link_in p1 p2 ≡ Some v)
   written_parts v e =
-      let r = three_parts v (slice_split (λ c. c == 0x3b) (behind_code v))
+      let r = three_parts v (slice_split (λ c. c == 0x3b) (after_code v))
       (ap link_of (sym (code_first v)) ∙ e) in
       (r.0, r.1, code_first v ∙ ap (λ ps. codes "8" ∷ ps) r.2, r.3)

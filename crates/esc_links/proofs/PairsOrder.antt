@@ -98,13 +98,13 @@ below_more : (ds : Pairs) (e : List ℕ × List ℕ) (es : Pairs) → AreBelow d
 below_more [] e es h all = (all, tt)
 below_more (d ∷ ds) e es h all = (h.0.1, below_more ds e es h.1 all)
 
-all_behind : (ds es : Pairs) → AreBelow ds es → AreOrdered es → put_all ds es ≡ ds ++ es
-all_behind ds [] h o = sym (append-nil ds)
-all_behind ds (e ∷ es) h o =
+all_after : (ds es : Pairs) → AreBelow ds es → AreOrdered es → put_all ds es ≡ ds ++ es
+all_after ds [] h o = sym (append-nil ds)
+all_after ds (e ∷ es) h o =
     ap (λ xs. put_all xs es) (put_last ds e (below_first ds e es h))
-    ∙ all_behind (ds ++ e ∷ []) es (below_more ds e es h o.0) o.1
+    ∙ all_after (ds ++ e ∷ []) es (below_more ds e es h o.0) o.1
     ∙ append_assoc ds (e ∷ []) es
 
 -- pairs in order, put in, are these pairs
 pub all_back : (es : Pairs) → AreOrdered es → put_all [] es ≡ es
-all_back es o = all_behind [] es tt o
+all_back es o = all_after [] es tt o

@@ -106,7 +106,8 @@ impl<'a, A: Allocator> IntoIterator for &'a Params<A> {
 impl<A: Allocator> PartialEq for Params<A> {
     ghost eq = { pointwise (λ p q. pointwise nat_eq p.0 q.0 && pointwise nat_eq p.1 q.1) };
 
-    ghost laws = { lists_per (and_per (on_per (λ p. p.0) (partial_equiv_from_equiv nat_list_eq_equiv))
+    ghost laws = { lists_per
+        (and_per (on_per (λ p. p.0) (partial_equiv_from_equiv nat_list_eq_equiv))
         (on_per (λ p. p.1) (partial_equiv_from_equiv nat_list_eq_equiv))) };
 
     fn eq(&self, other: &Self) -> bool {

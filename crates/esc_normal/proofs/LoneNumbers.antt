@@ -1,5 +1,5 @@
--- A control sequence of one number has the text of its entry, whether it is a rendition or has no
--- name.
+-- A control sequence of one number has the text of its parameter, whether it is a rendition or has
+-- no name.
 use Rattle.std.proofs.Common.{ℕ, ◌≡◌, Bool, true, false, not, ◌&&◌, ◌==◌, if◌then◌else◌, [], ◌∷◌, ◌++◌, Option, Some, None, inl, inr, refl, ap, sym, ◌∙◌, lit≤}
 use Rattle.std.specs.Prelude.{ℤ, pos, negsuc, unwrap_or, ◌⊎◌}
 use Rattle.std.specs.Fmt.{decimal, signed_decimal}
@@ -56,7 +56,7 @@ signed_body : (n : ℤ) (s : Sgr) → numbered n ≡ Some s → sgr_body s ≡ s
 signed_body (pos n) s h = named_body n s h
 signed_body (negsuc n) s h = absurd (none_some s h)
 
--- what the sequence is, with the text of its entry
+-- what the sequence is, with the text of its parameter
 abbrev IsLone : Type 0 → ℤ → Bool → ℕ → Type 0
 IsLone A n more f = (c : CSI A) × (csi_of (Integer n ∷ []) more f ≡ csi_value c ∷ [])
     × (csi_text (csi_value c) ≡ csi_text (unspecified (Integer n ∷ []) more f))

@@ -31,11 +31,11 @@ use Rattle.esc_normal.specs.declared.speller.Speller.{Speller}
 use Rattle.memory.specs.Refusals.{Refused}
 
 -- what a result says
-pub hears_both : {E : Type 0} (X Y P Q : Type 0) (r : Result (Unit {0}) E) → (X → Y) → (P → Q)
+pub receives_both : {E : Type 0} (X Y P Q : Type 0) (r : Result (Unit {0}) E) → (X → Y) → (P → Q)
     → OnOk r X → OnErr r P
     → MatchResult r (λ _. Y) (λ _. Q)
-hears_both X Y P Q (Ok t) f k x p = f x
-hears_both X Y P Q (Err e) f k x p = k p
+receives_both X Y P Q (Ok t) f k x p = f x
+receives_both X Y P Q (Err e) f k x p = k p
 
 pub match_both : {E : Type 0} (X Y P Q : Type 0) (r : Result (Unit {0}) E) → (X → Y) → (P → Q)
     → MatchResult r (λ _. X) (λ _. P)
@@ -46,7 +46,7 @@ match_both X Y P Q (Err e) f k h = k h
 abbrev wrap : {A : Type 0} → Performer (Spell A) A → Speller A
 wrap p = record { performer = p }
 
--- a control sequence whose text is that of its entries is one value of this text
+-- a control sequence whose text is that of its parameters is one value of this text
 plain_value : {A : Type 0} (es : List CsiParam) (more : Bool) (f : ℕ) → IsPlain es more f
     → (c : CSI A) × (csi_of es more f ≡ csi_value c ∷ [])
     × (csi_text (csi_value c) ≡ csi_text (unspecified es more f))
@@ -146,7 +146,7 @@ command_spelled {A} p q ps same text string = λ limit m h. (
   (q.sink, (action.OperatingSystemCommand (command_meant ps), refl, (text, string)), refl),
 )
 
--- a command that an actor that spells is told
+-- a command that an actor that spells is emitted
 pub text_spelled : {A E : Type 0} (own : Type 0) (r : Result (Unit {0}) E)
     (p : Performer (Spell A) A) (s : Spell A) (ps : List (List ℕ))
     → OnOk r (Spells p (OscDispatch ps) (record p { sink = s })) → OnErr r (Refused A)

@@ -21,38 +21,39 @@ AppendsPrefix old new bs = (prefix : List ℕ) × (rest : List ℕ) × (bs ≡ p
     × Appends old new prefix
 
 -- a watched reader or writer that a call is lent: before it, and after it
-abbrev pub Lent : Type 0 → Type 0
-Lent T = Both (MutBor (Watched T)) (MutBor (Watched T))
+abbrev pub Borrowed : Type 0 → Type 0
+Borrowed T = Both (MutBor (Watched T)) (MutBor (Watched T))
 
 -- the bytes that the reader had before the call, where they are known
-abbrev pub had : {R : Type 0} → Reader R → Lent R → Option (List ℕ)
+abbrev pub had : {R : Type 0} → Reader R → Borrowed R → Option (List ℕ)
 had R reader = R.remaining (inner_of reader.entry.now)
 
 -- of what it could read nothing is left
-abbrev pub IsReadWhole : {R : Type 0} → Reader R → Lent R → Type 0
+abbrev pub IsReadWhole : {R : Type 0} → Reader R → Borrowed R → Type 0
 IsReadWhole R reader = IsAtEnd (R.remaining (inner_of reader.exit.now))
 
 -- it gave these bytes
-abbrev pub Reads : {R : Type 0} → Reader R → List ℕ → Lent R → Type 0
+abbrev pub Reads : {R : Type 0} → Reader R → List ℕ → Borrowed R → Type 0
 Reads R s reader =
     Consumes (R.remaining (inner_of reader.entry.now)) (R.remaining (inner_of reader.exit.now)) s
 
 -- it took nothing
-abbrev pub WritesNothing : {W : Type 0} → Writer W → Lent W → Type 0
+abbrev pub WritesNothing : {W : Type 0} → Writer W → Borrowed W → Type 0
 WritesNothing W writer =
     Keeps (W.contents (inner_of writer.entry.now)) (W.contents (inner_of writer.exit.now))
 
 -- it took these bytes
-abbrev pub Writes : {W : Type 0} → Writer W → List ℕ → Lent W → Type 0
+abbrev pub Writes : {W : Type 0} → Writer W → List ℕ → Borrowed W → Type 0
 Writes W t writer =
     Appends (W.contents (inner_of writer.entry.now)) (W.contents (inner_of writer.exit.now)) t
 
 -- it took a prefix of these bytes
-abbrev pub WritesPrefix : {W : Type 0} → Writer W → List ℕ → Lent W → Type 0
+abbrev pub WritesPrefix : {W : Type 0} → Writer W → List ℕ → Borrowed W → Type 0
 WritesPrefix W t writer =
     AppendsPrefix (W.contents (inner_of writer.entry.now)) (W.contents (inner_of writer.exit.now)) t
 
 -- where it had not failed before, the result is this error exactly where it has failed now
-abbrev pub FailsWith : {T X E : Type 0} → Result X E → E → Lent T → Type 0
-FailsWith result error lent =
-    has_failed lent.entry.now ≡ false → (IsErrOf result error ↔ IsTrue (has_failed lent.exit.now))
+abbrev pub FailsWith : {T X E : Type 0} → Result X E → E → Borrowed T → Type 0
+FailsWith result error borrowed =
+    has_failed borrowed.entry.now ≡ false
+    → (IsErrOf result error ↔ IsTrue (has_failed borrowed.exit.now))

@@ -157,7 +157,7 @@ fn read_whole<R: Read, A: Allocator + Copy>(
 ) -> Result<Vec<u8, A>, NormaliseError>
     ensures bytes { IfOk result (λ v. IfSome (had R.Read reader) (λ xs. v.items ≡ xs)) }
     ensures end { OnOk result (IsReadWhole R.Read reader) }
-    ensures told { FailsWith result NormaliseError.Read reader }
+    ensures emitted { FailsWith result NormaliseError.Read reader }
     ensures not_write { IsErrOf result NormaliseError.Write → ⊥ }
     ensures refused { IsErrOf result NormaliseError.Memory → Refused A }
 {
@@ -176,7 +176,7 @@ fn read_by<R: Read, A: Allocator>(
     requires { 0 < length chunk.old }
     ensures bytes { IfOk result (λ v. IfSome (had R.Read reader) (λ xs. v.items ≡ xs)) }
     ensures end { OnOk result (IsReadWhole R.Read reader) }
-    ensures told { FailsWith result NormaliseError.Read reader }
+    ensures emitted { FailsWith result NormaliseError.Read reader }
     ensures not_write { IsErrOf result NormaliseError.Write → ⊥ }
     ensures refused { IsErrOf result NormaliseError.Memory → Refused A }
 {
@@ -225,7 +225,7 @@ fn write_whole<W: Write>(writer: &mut Watched<W>, bytes: &[u8]) -> Result<(), No
     ensures whole { OnOk result (Writes W.Write bytes.now writer) }
     ensures beginning { OnErr result (WritesPrefix W.Write bytes.now writer) }
     ensures fault { IfErr result (λ e. e ≡ NormaliseError.Write) }
-    ensures told { FailsWith result NormaliseError.Write writer }
+    ensures emitted { FailsWith result NormaliseError.Write writer }
 {
     if writer.write_whole(bytes) {
         Ok(())

@@ -17,7 +17,7 @@ use esc_osc::OperatingSystemCommand;
 use esc_parse::Sink;
 use esc_values::{CsiParam, Text};
 use esc_write::commands::verbatim;
-use esc_write::direct::{append_entries, is_plain};
+use esc_write::direct::{append_csi_params, is_plain};
 use esc_write::encoding::write_after;
 use esc_write::short_numbers::ShortNumbers;
 use std::alloc::{AllocError, Allocator, Global};
@@ -74,7 +74,7 @@ impl<A: Allocator> Spell<A> {
             × (self.new.follows_string ≡ false)) }
         ensures refused { OnErr result (Refused A) }
     {
-        append_entries(&mut self.text, params, parameters_truncated, control)?;
+        append_csi_params(&mut self.text, params, parameters_truncated, control)?;
         self.follows_string = false;
         Ok(())
     }
@@ -174,7 +174,7 @@ impl<A: Allocator> Sink<Action<A>> for Spell<A> {
         Ok(())
     }
 
-    // Appends it where its text is that of its entries.
+    // Appends it where its text is that of its parameters.
     fn receive_sequence(
         &mut self,
         params: &[CsiParam],

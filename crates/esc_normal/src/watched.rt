@@ -52,7 +52,7 @@ impl<W: Write> Watched<W> {
     pub fn write_whole(&mut self, bytes: &[u8]) -> bool
         ensures whole { IsTrue result → Writes W.Write bytes.now self }
         ensures beginning { result ≡ false → WritesPrefix W.Write bytes.now self }
-        ensures told { has_failed self.old ≡ false
+        ensures emitted { has_failed self.old ≡ false
             → (result ≡ false ↔ IsTrue (has_failed self.new)) }
     {
         let mut rest = bytes;
@@ -75,7 +75,7 @@ impl<R: Read> Read for Watched<R> {
         ensures bound { ReadsAtMost result buf.new }
         ensures bytes { ReadConsumes (R.remaining self.old.inner)
             (R.remaining self.new.inner) result buf.new }
-        ensures told { self.new.failed ≡ self.old.failed || is_err result }
+        ensures emitted { self.new.failed ≡ self.old.failed || is_err result }
     {
         let result = self.inner.read(buf);
         if result.is_err() {
@@ -87,7 +87,7 @@ impl<R: Read> Read for Watched<R> {
     fn read_exact(&mut self, buf: &mut [u8]) -> io::Result<()>
         ensures bytes { OnOk result (Consumes (R.remaining self.old.inner)
             (R.remaining self.new.inner) buf.new) }
-        ensures told { self.new.failed ≡ self.old.failed || is_err result }
+        ensures emitted { self.new.failed ≡ self.old.failed || is_err result }
     {
         let result = self.inner.read_exact(buf);
         if result.is_err() {
@@ -105,7 +105,7 @@ impl<W: Write> Write for Watched<W> {
         ensures bound { WritesAtMost result buf.now }
         ensures bytes { WriteAppends (W.contents self.old.inner)
             (W.contents self.new.inner) result buf.now }
-        ensures told { IsTrue self.new.failed
+        ensures emitted { IsTrue self.new.failed
             ↔ (IsTrue self.old.failed ⊎ (IsErr result ⊎ ((result ≡ Ok 0) × (0 < length buf.now)))) }
     {
         let result = self.inner.write(buf);
@@ -119,7 +119,7 @@ impl<W: Write> Write for Watched<W> {
 
     fn flush(&mut self) -> io::Result<()>
         ensures bytes { Keeps (W.contents self.old.inner) (W.contents self.new.inner) }
-        ensures told { self.new.failed ≡ self.old.failed || is_err result }
+        ensures emitted { self.new.failed ≡ self.old.failed || is_err result }
     {
         let result = self.inner.flush();
         if result.is_err() {
@@ -131,7 +131,7 @@ impl<W: Write> Write for Watched<W> {
     fn write_all(&mut self, buf: &[u8]) -> io::Result<()>
         ensures bytes { OnOk result (Appends (W.contents self.old.inner)
             (W.contents self.new.inner) buf.now) }
-        ensures told { self.new.failed ≡ self.old.failed || is_err result }
+        ensures emitted { self.new.failed ≡ self.old.failed || is_err result }
     {
         let result = self.inner.write_all(buf);
         if result.is_err() {

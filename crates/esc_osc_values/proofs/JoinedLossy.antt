@@ -6,11 +6,11 @@ use Rattle.esc_values.specs.Clear.{AreClearParts, joined}
 use Rattle.esc_values.proofs.ClearTexts.{part_lossy}
 use Rattle.esc_osc_values.specs.Lists.{joined_by}
 
-behind_lossy : (ps : List (List ℕ)) → AreClearParts ps
+after_lossy : (ps : List (List ℕ)) → AreClearParts ps
     → flat_map (λ y. 0x3b ∷ utf8_lossy y) ps ≡ flat_map (λ q. 0x3b ∷ q) ps
-behind_lossy [] h = refl
-behind_lossy (p ∷ ps) h = rw (part_lossy p h.0) (ap (λ t. (0x3b ∷ p) ++ t) (behind_lossy ps h.1))
+after_lossy [] h = refl
+after_lossy (p ∷ ps) h = rw (part_lossy p h.0) (ap (λ t. (0x3b ∷ p) ++ t) (after_lossy ps h.1))
 
 pub lossy_joined : (ps : List (List ℕ)) → AreClearParts ps → joined_by utf8_lossy ps ≡ joined ps
 lossy_joined [] h = refl
-lossy_joined (p ∷ ps) h = rw (part_lossy p h.0) (ap (λ t. p ++ t) (behind_lossy ps h.1))
+lossy_joined (p ∷ ps) h = rw (part_lossy p h.0) (ap (λ t. p ++ t) (after_lossy ps h.1))

@@ -1,4 +1,4 @@
--- Exact fronts: what a turn of a loop that looks for one knows.
+-- Exact prefixes: what a turn of a loop that looks for one knows.
 use Rattle.std.proofs.Common.{◌≡◌, ℕ, zero, suc, ◌+◌, ◌-◌, ◌<◌, ◌≤◌, List, [], ◌∷◌, ◌++◌, length, take, drop, Option, Some, None, IfSome, refl, ap, sym, ◌∙◌}
 use Rattle.std.proofs.Common.{subst, append_assoc, take-append-drop, take_all, length-drop, arith, ◌⊎◌, inl, inr}
 use Rattle.std.proofs.Math.Seq.{take-add}
@@ -11,7 +11,7 @@ use Rattle.esc_frame.specs.Events.{Event}
 use Rattle.esc_frame.specs.Events.Event.{Execute, Print}
 use Rattle.esc_frame.specs.Memory.{MayTake}
 use Rattle.esc_frame.specs.Stream.{added_within, events_within, IsAtGround, IsQuietWithin}
-use Rattle.esc_parse.proofs.Fronts.{rest_is}
+use Rattle.esc_parse.proofs.Prefixes.{rest_is}
 use Rattle.esc_actions.proofs.Meanings.{meaning_more, yield_is}
 use Rattle.esc_parse.specs.Firsts.{first, IsFirst, IsFirstStop, IsStop}
 use Rattle.esc_parse.specs.Given.{At, StopsAt, first_of}
@@ -48,7 +48,7 @@ stops_itself f takes own p (v ∷ vs) q (inr (inl r)) = absurd r.2
 stops_itself f takes own p (v ∷ vs) q (inr (inr (mid, t, rest))) =
     stops_itself f takes own mid vs q rest
 
--- what bytes yield, one behind another
+-- what bytes yield, one after another
 pub yield_append : {A : Type 0} (limit : Option ℕ) (s b c : List ℕ)
     → yield_within {A = A} limit s (b ++ c)
     ≡ yield_within limit s b ++ yield_within limit (s ++ b) c
@@ -71,9 +71,9 @@ left_empty : {X : Type 0} (xs ys : List X) → xs ++ ys ≡ [] → xs ≡ []
 left_empty [] ys e = refl
 left_empty (x ∷ xs) ys e = absurd cc
 
-front_empty : {A : Type 0} (limit : Option ℕ) (s b c : List ℕ)
+prefix_empty : {A : Type 0} (limit : Option ℕ) (s b c : List ℕ)
     → yield_within {A = A} limit s (b ++ c) ≡ [] → yield_within {A = A} limit s b ≡ []
-front_empty limit s b c e =
+prefix_empty limit s b c e =
     left_empty (yield_within limit s b) (yield_within limit (s ++ b) c)
     (sym (yield_append limit s b c) ∙ e)
 
@@ -107,24 +107,24 @@ yield_rest limit s bs at k e =
 
 into_rest : (P : ℕ → Type 0) (at n k : ℕ) → k < at + n → at < k
     → ((j : ℕ) → 0 < j → j < n → P (at + j)) → P k
-into_rest P at n k h l behind = let e : at + (k - at) ≡ k =
-    omega arith in subst P e (behind (k - at) (omega arith) (omega arith))
+into_rest P at n k h l later = let e : at + (k - at) ≡ k =
+    omega arith in subst P e (later (k - at) (omega arith) (omega arith))
 
-front_by : (P : ℕ → Type 0) (at n k : ℕ) → k < at + n → ((j : ℕ) → j ≤ at → P j)
+prefix_by : (P : ℕ → Type 0) (at n k : ℕ) → k < at + n → ((j : ℕ) → j ≤ at → P j)
     → ((j : ℕ) → 0 < j → j < n → P (at + j)) → (at < k) ⊎ (k ≤ at) → P k
-front_by P at n k h before behind (inl l) = into_rest P at n k h l behind
-front_by P at n k h before behind (inr l) = before k l
+prefix_by P at n k h before later (inl l) = into_rest P at n k h l later
+prefix_by P at n k h before later (inr l) = before k l
 
--- a front is one of what was taken, or reaches into the rest
-front_cases : (P : ℕ → Type 0) (at n k : ℕ) → k < at + n → ((j : ℕ) → j ≤ at → P j)
+-- a prefix is one of what was taken, or reaches into the rest
+prefix_cases : (P : ℕ → Type 0) (at n k : ℕ) → k < at + n → ((j : ℕ) → j ≤ at → P j)
     → ((j : ℕ) → 0 < j → j < n → P (at + j)) → P k
-front_cases P at n k h before behind = front_by P at n k h before behind (cases_lt at k)
+prefix_cases P at n k h before later = prefix_by P at n k h before later (cases_lt at k)
 
-front_shorter : {A : Type 0} (limit : Option ℕ) (s bs : List ℕ) (at j : ℕ) → j ≤ at
+prefix_shorter : {A : Type 0} (limit : Option ℕ) (s bs : List ℕ) (at j : ℕ) → j ≤ at
     → yield_within {A = A} limit s (take at bs) ≡ []
     → yield_within {A = A} limit s (take j bs) ≡ []
-front_shorter limit s bs at j h e =
-    front_empty limit s (take j bs) (drop j (take at bs))
+prefix_shorter limit s bs at j h e =
+    prefix_empty limit s (take j bs) (drop j (take at bs))
     (ap (yield_within limit s)
     (ap (λ x. x ++ drop j (take at bs)) (sym (take-take j at bs h))
     ∙ take-append-drop j (take at bs)) ∙ e)
@@ -135,7 +135,7 @@ none_within : {A : Type 0} (limit : Option ℕ) (s bs : List ℕ) (at n : ℕ)
     → (k : ℕ) → k < at + n → yield_within {A = A} limit s (take k bs) ≡ []
 none_within {A = A} limit s bs at n e q k h =
     let P : ℕ → Type 0 = λ j. yield_within {A = A} limit s (take j bs) ≡ [] in
-    front_cases P at n k h (λ j l. front_shorter limit s bs at j l e)
+    prefix_cases P at n k h (λ j l. prefix_shorter limit s bs at j l e)
     (λ j l m. yield_rest limit s bs at j e
     ∙ yield_quiet limit (s ++ take at bs) (take j (take (length bs - at) (drop at bs))) (q j l m).0)
 
@@ -185,7 +185,7 @@ pub no_stop_within : (A : Type 0) (limit : Option ℕ) (s bs : List ℕ) (at n :
     → (k : ℕ) → k < at + n → IsStop A limit s (take k bs) → ⊥
 no_stop_within A limit s bs at n before q k h =
     let P : ℕ → Type 0 = λ j. IsStop A limit s (take j bs) → ⊥ in
-    front_cases P at n k h before
+    prefix_cases P at n k h before
     (λ j l m stop. (q j l m).1 (subst IsAtGround (sym (fed_more s bs at j)) stop.1))
 
 up_by : (A : Type 0) (limit : Option ℕ) (s bs : List ℕ) (at : ℕ)
@@ -319,10 +319,10 @@ module _ (A : Type 0)
   stop_handed limit s bs vs n is = let P : List (Value A) → Type 0 =
       λ vs. AreHandedOut vs in subst P (sym is.values) (handed limit s (take n bs))
 
--- a front that holds something was taken of something
-pub front_some : (len at n had : ℕ) → (0 < len - at → 0 < n) → 0 < had
+-- a prefix that holds something was taken of something
+pub prefix_some : (len at n had : ℕ) → (0 < len - at → 0 < n) → 0 < had
     → (len ≡ 0 → at ≡ 0 → had ≡ 0) → 0 < at + n
-front_some zero zero n had count some none = let e =
+prefix_some zero zero n had count some none = let e =
     none refl refl in absurd (omega (arith, e, some))
-front_some (suc len) zero n had count some none = omega (arith, count (omega arith))
-front_some len (suc at) n had count some none = omega arith
+prefix_some (suc len) zero n had count some none = omega (arith, count (omega arith))
+prefix_some len (suc at) n had count some none = omega arith

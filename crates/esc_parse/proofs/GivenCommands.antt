@@ -1,7 +1,7 @@
 -- A command that a performer gives its sink.
 use Rattle.std.proofs.Common.{◌≡◌, ℕ, Bool, true, List, [], ◌∷◌, map, MatchResult, Option, Result, Ok, Err, refl, inr}
 use Rattle.std.specs.List.{FoldsTo}
-use Rattle.esc_frame.specs.Events.{Event, Hears, Takes}
+use Rattle.esc_frame.specs.Events.{Event, Receives, Takes}
 use Rattle.esc_values.specs.declared.csi_param.CsiParam.{CsiParam}
 use Rattle.esc_sequences.specs.Csis.{csi_of}
 use Rattle.esc_frame.specs.Events.Event.{CsiDispatch, OscDispatch}
@@ -68,7 +68,7 @@ pub text_heard : {S A E : Type 0} (takes refuses : S → Action A → S → Type
     → MatchResult r (λ _. FoldsTo (At value_of takes) p.sink (osc (command_meant ps) ∷ []) s)
     (λ _. StopsGiven (Refused A) (At value_of takes) (At value_of refuses) p.sink
     (osc (command_meant ps) ∷ []) s)
-    → Hears (Performs takes) (Stops takes refuses) r p (OscDispatch ps) (record p { sink = s })
+    → Receives (Performs takes) (Stops takes refuses) r p (OscDispatch ps) (record p { sink = s })
 text_heard takes refuses (Ok t) p s ps h = λ limit m k. (k, h)
 text_heard takes refuses (Err e) p s ps h = λ limit m k.
     memory_stopped takes refuses p.sink s (osc (command_meant ps) ∷ []) h
@@ -80,7 +80,7 @@ pub sequence_heard : {S A E : Type 0} (takes refuses : S → Action A → S → 
     → MatchResult r (λ _. FoldsTo (At value_of takes) p.sink (map csi (csi_of ps more f)) s)
     (λ _. StopsGiven (Refused A) (At value_of takes) (At value_of refuses) p.sink
     (map csi (csi_of ps more f)) s)
-    → Hears (Performs takes) (Stops takes refuses) r p (CsiDispatch ps more f)
+    → Receives (Performs takes) (Stops takes refuses) r p (CsiDispatch ps more f)
     (record p { sink = s })
 sequence_heard takes refuses (Ok t) p s ps more f h = λ limit m k. (k, h)
 sequence_heard takes refuses (Err e) p s ps more f h = λ limit m k.

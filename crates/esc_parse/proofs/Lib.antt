@@ -1,7 +1,7 @@
 pub mod Lists
 pub mod Grows
 pub mod Yields
-pub mod Fronts
+pub mod Prefixes
 pub mod FirstsGiven
 pub mod TextRuns
 pub mod Collecting

@@ -66,7 +66,7 @@ module _ {P V : Type 0} (R Q : P → V → P → Type 0) (own why : Type 0)
       → (own ⊎ (vs ≢ [])) × why
   stops_wanting p vs q e = (stops_or_some p vs q e, stops_why p vs q e)
 
--- where nothing is refused, what was taken is a front, and the giver stopped by itself
+-- where nothing is refused, what was taken is a prefix, and the giver stopped by itself
 module _ {P V : Type 0} (R Q : P → V → P → Type 0) (own : Type 0)
     (never : (p : P) (v : V) (q : P) → Q p v q → ⊥) where
   pub gets_prefix : (p : P) (vs : List V) (q : P) → StopsAt own R Q p vs q → own × GetsPrefix R p vs

@@ -52,36 +52,37 @@ module _ {S A : Type 0} (R Q : S → Value A → S → Type 0) where
 
   pub performs_prefix : (limit : Option ℕ) (own : Type 0) (es : List Event) (p : Performer S A)
       (m : Mode) (q : Performer S A)
-      → ((before : List Event) (e : Event) (behind : List Event) → es ≡ before ++ e ∷ behind
+      → ((before : List Event) (e : Event) (later : List Event) → es ≡ before ++ e ∷ later
       → Denied e → own)
       → StopsAtEvent own Takes Refuses p es q → Hooks limit p.unfinished m
       → StopsAt own R Q p.sink (values_from limit m es) q.sink
-  performs_prefix limit own es p m q wants (front, rest, whole, stop) k =
+  performs_prefix limit own es p m q wants (prefix, rest, whole, stop) k =
       let all : values_from {A = A} limit m es
-      ≡ values_from limit m front ++ values_from limit (mode_from m front) rest =
-      ap (values_from limit m) whole ∙ values_append limit m front rest in
+      ≡ values_from limit m prefix ++ values_from limit (mode_from m prefix) rest =
+      ap (values_from limit m) whole ∙ values_append limit m prefix rest in
       let Goal : List (Value A) → Type 0 = λ x. StopsAt own R Q p.sink x q.sink in
       subst Goal (sym all) (elim stop [
         | inl x ↦
-            let run = performs limit front p m q x.1 k in
-            StopsAt-append R Q own p.sink (values_from limit m front) q.sink
-            (values_from limit (mode_from m front) rest) q.sink run.1
+            let run = performs limit prefix p m q x.1 k in
+            StopsAt-append R Q own p.sink (values_from limit m prefix) q.sink
+            (values_from limit (mode_from m prefix) rest) q.sink run.1
             (StopsAt-here R Q own q.sink
-            (values_from limit (mode_from m front) rest) q.sink x.0 refl)
+            (values_from limit (mode_from m prefix) rest) q.sink x.0 refl)
         | inr x ↦
             let (mid, e, more, is, took, refused) = x in
-            let run = performs limit front p m mid took k in
-            let here = refused limit (mode_from m front) run.0 in
-            let own_from : Denied e → own = wants front e more (whole ∙ ap (λ l. front ++ l) is) in
+            let run = performs limit prefix p m mid took k in
+            let here = refused limit (mode_from m prefix) run.0 in
+            let own_from : Denied e
+            → own = wants prefix e more (whole ∙ ap (λ l. prefix ++ l) is) in
             let Rest : List Event → Type 0 =
-            λ l. StopsAt own R Q mid.sink (values_from limit (mode_from m front) l) q.sink in
-            StopsAt-append R Q own p.sink (values_from limit m front) mid.sink
-            (values_from limit (mode_from m front) rest) q.sink run.1
+            λ l. StopsAt own R Q mid.sink (values_from limit (mode_from m prefix) l) q.sink in
+            StopsAt-append R Q own p.sink (values_from limit m prefix) mid.sink
+            (values_from limit (mode_from m prefix) rest) q.sink run.1
             (subst Rest (sym is)
-            (StopsAt-longer R Q own mid.sink (given limit (mode_from m front) e)
-            (values_from limit (after (mode_from m front) e) more) q.sink
+            (StopsAt-longer R Q own mid.sink (given limit (mode_from m prefix) e)
+            (values_from limit (after (mode_from m prefix) e) more) q.sink
             (StopsAt-weaker R Q own (Denied e) mid.sink
-            (given limit (mode_from m front) e) q.sink own_from here)))
+            (given limit (mode_from m prefix) e) q.sink own_from here)))
       ])
 
   -- the events of a segment by itself
@@ -95,18 +96,18 @@ module _ {S A : Type 0} (R Q : S → Value A → S → Type 0) where
   performs_segment limit g finished p q h =
       let es = events_of_within limit g finished in
       performs_prefix limit ((may_take g ≡ true) × Refused A) es p plain q
-      (λ before e behind is d. (segment_takes limit g finished before e behind is d.0, d.1))
+      (λ before e later is d. (segment_takes limit g finished before e later is d.0, d.1))
       (stops_for ((may_grow g ≡ true) × Refused A) ((may_take g ≡ true) × Refused A) Takes Refuses
       es p q (λ o. (growing_takes g o.0, o.1)) h)
 
--- an event behind s that wants memory
+-- an event after s that wants memory
 pub added_takes : (limit : Option ℕ) (s b : List ℕ) (before : List Event) (e : Event)
-    (behind : List Event)
-    → added_within limit s b ≡ before ++ e ∷ behind → wants_memory e ≡ true → MayTake (s ++ b)
-added_takes limit s b before e behind is h =
-    event_takes limit (s ++ b) (events_within limit s ++ before) e behind
+    (later : List Event)
+    → added_within limit s b ≡ before ++ e ∷ later → wants_memory e ≡ true → MayTake (s ++ b)
+added_takes limit s b before e later is h =
+    event_takes limit (s ++ b) (events_within limit s ++ before) e later
     (sym (events_more limit s b) ∙ ap (λ l. events_within limit s ++ l) is
-    ∙ sym (append_assoc (events_within limit s) before (e ∷ behind))) h
+    ∙ sym (append_assoc (events_within limit s) before (e ∷ later))) h
 
 -- an event that leaves unfinished what was unfinished
 pub hooks_by : {A : Type 0} (limit : Option ℕ) (u : Unfinished A) (s b : List ℕ) (x : Event)
@@ -142,7 +143,7 @@ module _ {S A : Type 0} (R Q : S → Value A → S → Type 0) where
       let own : Type 0 = MayTake (s ++ b) × Refused A in
       let w = performs_prefix R Q limit own (added_within limit s b) p
       (mode_from plain (events_within limit s)) q
-      (λ before e behind is d. (added_takes limit s b before e behind is d.0, d.1))
+      (λ before e later is d. (added_takes limit s b before e later is d.0, d.1))
       (stops_for (MayGrow (s ++ b) × Refused A) own (Takes R Q) (Refuses R Q)
       (added_within limit s b) p q
       (λ g. (grows_takes (s ++ b) g.0, g.1)) h) k in

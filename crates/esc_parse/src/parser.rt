@@ -269,7 +269,7 @@ impl<A: Allocator + Copy> Parser<A> {
     {
         laws::yield_handed_out::<A>();
         let mut at = 0;
-        'fronts: loop {
+        'prefixes: loop {
             match self.first_in(&bytes[at..]) {
                 Ok((taken, Some(action))) => return Ok(Some((action, at + taken))),
                 Ok((taken, None)) => {
@@ -390,7 +390,7 @@ impl<A: Allocator + Copy> Parser<A> {
         laws::yield_handed_out::<A>();
         let mut at = 0;
         let mut actions = Vec::new(self.alloc);
-        'fronts: loop {
+        'prefixes: loop {
             match self.more_in(&bytes[at..], actions) {
                 Ok((taken, more)) => {
                     at += taken;

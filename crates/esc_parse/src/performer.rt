@@ -120,9 +120,9 @@ fn give_made<A: Allocator + Copy, S: Sink<Action<A>>>(
     }
 }
 
-// The same, where the sink may take it from its entries.
+// The same, where the sink may take it from its parameters.
 #[inline]
-fn give_entries<A: Allocator + Copy, S: Sink<Action<A>>>(
+fn give_csi_params<A: Allocator + Copy, S: Sink<Action<A>>>(
     sink: &mut S,
     alloc: A,
     params: &[CsiParam],
@@ -313,7 +313,7 @@ impl<A: Allocator + Copy, S: Sink<Action<A>>> VTActor for Performer<S, A> {
         parameters_truncated: bool,
         byte: u8,
     ) -> Result<(), AllocError> {
-        give_entries(
+        give_csi_params(
             &mut self.sink,
             self.alloc,
             params,

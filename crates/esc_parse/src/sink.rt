@@ -117,7 +117,7 @@ pub trait Sink<T: FromChar> {
         Ok(())
     }
 
-    /// Takes the actions of a control sequence at once, from its entries, and returns whether it
+    /// Takes the actions of a control sequence at once, from its parameters, and returns whether it
     /// did: it does to the sink what receiving each does. Where it returns false it did nothing,
     /// and they are made and received; so it does by default.
     #[inline]

@@ -114,10 +114,10 @@ noise_len bytes noise p n body letter a s e =
     )
 
 -- the bytes, split where the opener ends
-pub split_is : (bytes front back : List ℕ) (n : ℕ) → front ≡ take n bytes → back ≡ drop n bytes
+pub split_is : (bytes prefix back : List ℕ) (n : ℕ) → prefix ≡ take n bytes → back ≡ drop n bytes
     → (p body : List ℕ) → n ≡ length p → bytes ≡ p ++ body
-    → (front ≡ p) × (back ≡ body)
-split_is bytes front back n f b p body l e =
+    → (prefix ≡ p) × (back ≡ body)
+split_is bytes prefix back n f b p body l e =
     (f ∙ ap (take n) e ∙ take_at p body n (sym l), b ∙ ap (drop n) e ∙ drop_at p body n (sym l))
 
 -- ---- which opener it is

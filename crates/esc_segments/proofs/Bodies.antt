@@ -9,8 +9,8 @@ use Rattle.std.proofs.lemmas.Bool.Decides.{nat_tests}
 use Rattle.esc_segments.specs.declared.kind.SegmentKind.TheVariants as kinds
 use Rattle.esc_segments.specs.Places.{found, IsOpened}
 use Rattle.esc_frame.specs.declared.classes.Class.{Class}
-use Rattle.esc_frame.specs.declared.classes.Class.TheVariants.{Cancel, Escape, Opens, Final, RawControl, RawOpens}
-use Rattle.esc_frame.specs.declared.classes.Class.TheVariants.{RawTerminator}
+use Rattle.esc_frame.specs.declared.classes.Class.TheVariants.{Cancel, Escape, Introducer, Final, C1, C1Introducer}
+use Rattle.esc_frame.specs.declared.classes.Class.TheVariants.{C1Terminator}
 use Rattle.esc_frame.specs.declared.classes.Kind.{Kind}
 use Rattle.esc_frame.specs.declared.classes.Kind.TheVariants as kind
 use Rattle.esc_frame.specs.Classes.{class_of, AllOf, in_csi, ends_csi, in_data, is_breaker, is_ignored}
@@ -18,7 +18,7 @@ use Rattle.esc_frame.specs.Segments.{opener, breaks}
 use Rattle.esc_frame.specs.Segments.Segment.{Csi, Dcs, Apc, Ignored, CutCsi, CutDcs}
 use Rattle.esc_segments.proofs.Prefixes.{Split, split, at_end, next, stops}
 
--- ---- bytes behind others
+-- ---- bytes after others
 
 pub joins : (p s x t : List ℕ) → s ≡ x ++ t → p ++ s ≡ (p ++ x) ++ t
 joins p s x t e = ap (λ y. p ++ y) e ∙ sym (append_assoc p x t)
@@ -47,16 +47,16 @@ pub not_true : (t : List ℕ) → true ≡ false → t ≡ []
 not_true t e = absurd cc
 
 ends_by : (c : Class) → in_csi c ≡ false → is_breaker c ≡ false → ends_csi c ≡ true
-ends_by (Opens k) h i = refl
+ends_by (Introducer k) h i = refl
 ends_by Final h i = refl
 ends_by _ h i = absurd cc
 
 breaks_by : (c : Class) → in_data c ≡ false → is_breaker c ≡ true
 breaks_by Cancel h = refl
 breaks_by Escape h = refl
-breaks_by RawControl h = refl
-breaks_by (RawOpens k) h = refl
-breaks_by RawTerminator h = refl
+breaks_by C1 h = refl
+breaks_by (C1Introducer k) h = refl
+breaks_by C1Terminator h = refl
 breaks_by _ h = absurd cc
 
 -- ---- a header, cut short

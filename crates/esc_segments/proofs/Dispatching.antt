@@ -6,7 +6,7 @@ use Rattle.std.proofs.Math.Seq.{get_or-append_seam}
 use Rattle.std.proofs.lemmas.List.{take_at, drop_at, take_rest}
 use Rattle.std.proofs.lemmas.Bool.Decides.{nat_tests}
 use Rattle.esc_frame.specs.declared.classes.Class.{Class}
-use Rattle.esc_frame.specs.declared.classes.Class.TheVariants.{Opens, Final}
+use Rattle.esc_frame.specs.declared.classes.Class.TheVariants.{Introducer, Final}
 use Rattle.esc_frame.specs.declared.classes.Kind.{Kind}
 use Rattle.esc_frame.specs.declared.classes.Kind.TheVariants as kind
 use Rattle.esc_frame.specs.Bodies.{is_dcs_parameter}
@@ -20,7 +20,7 @@ use Rattle.esc_frame.proofs.Given.{stops_for, stops_more, stops_then, stops_here
 use Rattle.esc_segments.specs.Parts.{is_over}
 use Rattle.esc_segments.proofs.Beginnings.{run_is}
 use Rattle.esc_segments.proofs.Executes.{executes_opener, executes_whole_csi, executes_whole_escape}
-use Rattle.esc_segments.proofs.Told.{takes_then}
+use Rattle.esc_segments.proofs.Emitted.{takes_then}
 
 -- ---- the last byte, and those before it
 
@@ -49,12 +49,12 @@ inner_is bytes x a f e =
 module _ {S E : Type 0} (own : Type 0) (takes refuses : S → Event → S → Type 0)
     (result : Result (Unit {0}) E) (old mid new : S) where
   -- an escape sequence
-  pub escape_told : (bytes x m : List ℕ) (f l : ℕ) → bytes ≡ (0x1b ∷ x) ++ f ∷ []
+  pub escape_emitted : (bytes x m : List ℕ) (f l : ℕ) → bytes ≡ (0x1b ∷ x) ++ f ∷ []
       → ends_escape (class_of f) ≡ true → m ≡ x → l ≡ f
       → FoldsTo takes old (executes bytes) mid
       → Takes own takes refuses result mid (escape_event (strip m) l ∷ []) new
       → Takes own takes refuses result old (executes x ++ escape_event (strip x) f ∷ []) new
-  escape_told bytes x m f l e h i j first next =
+  escape_emitted bytes x m f l e h i j first next =
       let es : executes bytes ≡ executes x = ap executes e ∙ executes_whole_escape x f h in
       let one : escape_event (strip m) l ≡ escape_event (strip x) f =
       ap (λ y. escape_event (strip y) l) i ∙ ap (escape_event (strip x)) j in
@@ -63,13 +63,13 @@ module _ {S E : Type 0} (own : Type 0) (takes refuses : S → Event → S → Ty
       (subst (λ y. Takes own takes refuses result mid (y ∷ []) new) one next)
 
   -- a control sequence
-  pub csi_told : (bytes x m : List ℕ) (o : Opener) (f l : ℕ)
+  pub csi_emitted : (bytes x m : List ℕ) (o : Opener) (f l : ℕ)
       → bytes ≡ opener kind.Csi o ++ x ++ f ∷ [] → ends_csi (class_of f) ≡ true → m ≡ x → l ≡ f
       → FoldsTo takes old (executes bytes) mid
       → Takes own takes refuses result mid (csi_events (strip m) l) new
       → Takes own takes refuses result old (opener_events o ++ executes x ++ csi_events (strip x) f)
       new
-  csi_told bytes x m o f l e h i j first next =
+  csi_emitted bytes x m o f l e h i j first next =
       let es : executes bytes ≡ opener_events o ++ executes x =
       ap executes e ∙ executes_whole_csi o x f h in
       let one : csi_events (strip m) l ≡ csi_events (strip x) f =
@@ -80,28 +80,30 @@ module _ {S E : Type 0} (own : Type 0) (takes refuses : S → Event → S → Ty
       (subst (λ y. Takes own takes refuses result mid y new) one next)
 
   -- a string, after its opener
-  pub string_told : (k : Kind) (o : Opener) (front : List ℕ) (es : List Event) → front ≡ opener k o
-      → FoldsTo takes old (executes front) mid
+  pub string_emitted : (k : Kind) (o : Opener) (prefix : List ℕ) (es : List Event)
+      → prefix ≡ opener k o
+      → FoldsTo takes old (executes prefix) mid
       → Takes own takes refuses result mid es new
       → Takes own takes refuses result old (opener_events o ++ es) new
-  string_told k o front es e first next =
+  string_emitted k o prefix es e first next =
       takes_then own takes refuses result (opener_events o) es old mid new
       (subst (λ y. FoldsTo takes old y mid) (ap executes e ∙ executes_opener k o) first) next
 
 -- a call that was refused in the opener, and the giver that stopped after it
 module _ {S : Type 0} (own : Type 0) (takes refuses : S → Event → S → Type 0) (old new : S) where
-  pub string_stops : (k : Kind) (o : Opener) (front : List ℕ) (es : List Event) → front ≡ opener k o
-      → StopsAt ⊥ takes refuses old (executes front) new
+  pub string_stops : (k : Kind) (o : Opener) (prefix : List ℕ) (es : List Event)
+      → prefix ≡ opener k o
+      → StopsAt ⊥ takes refuses old (executes prefix) new
       → StopsAt own takes refuses old (opener_events o ++ es) new
-  string_stops k o front es e h =
+  string_stops k o prefix es e h =
       stops_more own takes refuses (opener_events o) es old new
       (subst (λ y. StopsAt own takes refuses old y new) (ap executes e ∙ executes_opener k o)
-      (stops_for ⊥ own takes refuses (executes front) old new (λ no. absurd no) h))
+      (stops_for ⊥ own takes refuses (executes prefix) old new (λ no. absurd no) h))
 
-  pub string_halts : (k : Kind) (o : Opener) (front : List ℕ) (es : List Event) → own
-      → front ≡ opener k o → FoldsTo takes old (executes front) new
+  pub string_halts : (k : Kind) (o : Opener) (prefix : List ℕ) (es : List Event) → own
+      → prefix ≡ opener k o → FoldsTo takes old (executes prefix) new
       → StopsAt own takes refuses old (opener_events o ++ es) new
-  string_halts k o front es w e h =
+  string_halts k o prefix es w e h =
       stops_then own takes refuses (opener_events o) es old new new
       (subst (λ y. FoldsTo takes old y new) (ap executes e ∙ executes_opener k o) h)
       (stops_here own takes refuses es new w)
@@ -117,7 +119,7 @@ over_is o ps (Waits x) after w t f = let z : true ≡ false = sym t ∙ f in abs
 -- ---- a device control string
 
 final_no : (c : Class) → ends_csi c ≡ true → in_csi c ≡ false
-final_no (Opens k) h = refl
+final_no (Introducer k) h = refl
 final_no Final h = refl
 final_no _ h = absurd cc
 

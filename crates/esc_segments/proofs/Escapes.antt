@@ -10,17 +10,17 @@ use Rattle.esc_segments.specs.declared.sequence.Ahead.TheVariants as ahead
 use Rattle.esc_segments.specs.Items.{kind_of}
 use Rattle.esc_segments.specs.Places.{found, moved, IsFirst, IsOpened, IsRaw, IsSequence}
 use Rattle.esc_frame.specs.declared.classes.Class.{Class}
-use Rattle.esc_frame.specs.declared.classes.Class.TheVariants.{Plain, Bell, Parameter, Opens, Final, Delete, RawControl, RawOpens}
-use Rattle.esc_frame.specs.declared.classes.Class.TheVariants.{RawTerminator, High, Lead}
+use Rattle.esc_frame.specs.declared.classes.Class.TheVariants.{C0, Bell, Parameter, Introducer, Final, Delete, C1, C1Introducer}
+use Rattle.esc_frame.specs.declared.classes.Class.TheVariants.{C1Terminator, High, Lead}
 use Rattle.esc_frame.specs.declared.classes.Kind.{Kind}
 use Rattle.esc_frame.specs.declared.classes.Kind.TheVariants as kind
 use Rattle.esc_frame.specs.Classes.{class_of, strip, is_noise, in_escape, ends_escape, is_breaker, opens, letter_of, raw_of}
-use Rattle.esc_frame.specs.Classes.{is_text, is_high, is_control, is_raw_control, is_terminator, is_raw}
-use Rattle.esc_frame.specs.Segments.{Segment, HasShape, opener, bytes_of, is_finished, is_empty, breaks, behind_c2}
+use Rattle.esc_frame.specs.Classes.{is_text, is_high, is_control, is_c1, is_terminator, is_raw}
+use Rattle.esc_frame.specs.Segments.{Segment, HasShape, opener, bytes_of, is_finished, is_empty, breaks, after_c2}
 use Rattle.esc_frame.specs.Segments.Segment.{Character, Wide, Broken, Stray, Control, HighControl, Terminator, CutEscape}
 use Rattle.esc_frame.specs.Segments.Segment.{Escape as EscapeOf}
 use Rattle.esc_frame.specs.Segments.Opener.{Long, Raw, Pair}
-use Rattle.esc_segments.proofs.Prefixes.{Split, split, front, rest, at_end, next, stops}
+use Rattle.esc_segments.proofs.Prefixes.{Split, split, prefix, rest, at_end, next, stops}
 use Rattle.esc_segments.proofs.Bodies.{no_breaker, breaker, not_true}
 
 -- ---- the same segment of the same bytes
@@ -154,7 +154,7 @@ raw_high b h = grind (arith, nat_tests)
 pub raw_range : (b : ℕ) → is_raw (class_of b) ≡ true → (0x80 ≤ b) × (b ≤ 0x9f)
 raw_range b h = (raw_low b h, raw_high b h)
 
-raw_letter : (b : ℕ) (k : Kind) → class_of b ≡ RawOpens k → b ≡ raw_of k
+raw_letter : (b : ℕ) (k : Kind) → class_of b ≡ C1Introducer k → b ≡ raw_of k
 unfolding class_of
 raw_letter b kind.Csi e = grind (arith, nat_tests)
 raw_letter b kind.Osc e = grind (arith, nat_tests)
@@ -163,7 +163,7 @@ raw_letter b kind.Sos e = grind (arith, nat_tests)
 raw_letter b kind.Pm e = grind (arith, nat_tests)
 raw_letter b kind.Apc e = grind (arith, nat_tests)
 
-letter : (b : ℕ) (k : Kind) → class_of b ≡ Opens k → b ≡ letter_of k
+letter : (b : ℕ) (k : Kind) → class_of b ≡ Introducer k → b ≡ letter_of k
 unfolding class_of
 letter b kind.Csi e = grind (arith, nat_tests)
 letter b kind.Osc e = grind (arith, nat_tests)
@@ -181,7 +181,7 @@ raw_opens kind.Sos = refl
 raw_opens kind.Pm = refl
 raw_opens kind.Apc = refl
 
-is_st : (b : ℕ) → class_of b ≡ RawTerminator → b ≡ 0x9c
+is_st : (b : ℕ) → class_of b ≡ C1Terminator → b ≡ 0x9c
 unfolding class_of
 is_st b e = grind (arith, nat_tests)
 
@@ -190,17 +190,17 @@ unfolding class_of
 st_class = refl
 
 raw_by : (b : ℕ) (c : Class) → class_of b ≡ c → is_raw c ≡ true
-    → opens (class_of (b - 0x40)) ≡ false → (b ≡ 0x9c → ⊥) → is_raw_control c ≡ true
-raw_by b RawControl e h n m = refl
-raw_by b (RawOpens k) e h n m =
+    → opens (class_of (b - 0x40)) ≡ false → (b ≡ 0x9c → ⊥) → is_c1 c ≡ true
+raw_by b C1 e h n m = refl
+raw_by b (C1Introducer k) e h n m =
     let i : opens (class_of (b - 0x40)) ≡ true =
     ap (λ y. opens (class_of (y - 0x40))) (raw_letter b k e) ∙ raw_opens k in
     let z : true ≡ false = sym i ∙ n in absurd cc
-raw_by b RawTerminator e h n m = absurd (m (is_st b e))
+raw_by b C1Terminator e h n m = absurd (m (is_st b e))
 raw_by b _ e h n m = absurd cc
 
-control_by : (b : ℕ) (body : List ℕ) → is_raw_control (class_of b) ≡ true → (p : Bool)
-    → IsFirst (behind_c2 p b ++ body) (moved (length (behind_c2 p b)) (found kinds.Control 0 true))
+control_by : (b : ℕ) (body : List ℕ) → is_c1 (class_of b) ≡ true → (p : Bool)
+    → IsFirst (after_c2 p b ++ body) (moved (length (after_c2 p b)) (found kinds.Control 0 true))
 control_by b body h true = alone (HighControl true b) (0xc2 ∷ b ∷ body) body 2 refl h refl refl
 control_by b body h false = alone (HighControl false b) (b ∷ body) body 1 refl h refl refl
 
@@ -210,8 +210,8 @@ pub raw_control : (b : ℕ) (body : List ℕ) → 0x80 ≤ b → b ≤ 0x9f → 
 raw_control b body l h m n = control_by b body (raw_by b (class_of b) refl (raw_from b l h) n m)
 
 terminator_by : (b : ℕ) (body : List ℕ) → is_terminator (class_of b) ≡ true → (p : Bool)
-    → IsFirst (behind_c2 p b ++ body)
-    (moved (length (behind_c2 p b)) (found kinds.Terminator 0 true))
+    → IsFirst (after_c2 p b ++ body)
+    (moved (length (after_c2 p b)) (found kinds.Terminator 0 true))
 terminator_by b body h true = alone (Terminator true b) (0xc2 ∷ b ∷ body) body 2 refl h refl refl
 terminator_by b body h false = alone (Terminator false b) (b ∷ body) body 1 refl h refl refl
 
@@ -222,7 +222,7 @@ raw_terminator b body e =
 
 -- the letter of a byte that opens
 letter_by : (b : ℕ) (c : Class) → class_of b ≡ c → opens c ≡ true → (k : Kind) × (b ≡ letter_of k)
-letter_by b (Opens k) e h = (k, letter b k e)
+letter_by b (Introducer k) e h = (k, letter b k e)
 letter_by b _ e h = absurd cc
 
 pub letter_is : (b : ℕ) → opens (class_of b) ≡ true → (k : Kind) × (b ≡ letter_of k)
@@ -237,7 +237,7 @@ raw_is b kind.Pm e = omega arith
 raw_is b kind.Apc e = omega arith
 
 opened_by : (k : Kind) (body : List ℕ) (x : Found) → IsOpened k body x → (p : Bool)
-    → IsFirst (behind_c2 p (raw_of k) ++ body) (moved (length (behind_c2 p (raw_of k))) x)
+    → IsFirst (after_c2 p (raw_of k) ++ body) (moved (length (after_c2 p (raw_of k))) x)
 opened_by k body x h true = h Pair tt
 opened_by k body x h false = h Raw tt
 
@@ -275,7 +275,7 @@ escape_opened s n x e h o f =
 -- ---- an escape sequence
 
 noise_in : (c : Class) → is_noise c ≡ true → in_escape c ≡ true
-noise_in Plain h = refl
+noise_in C0 h = refl
 noise_in Bell h = refl
 noise_in Delete h = refl
 noise_in High h = refl
@@ -284,7 +284,7 @@ noise_in _ h = absurd cc
 
 final_by : (c : Class) → in_escape c ≡ false → is_breaker c ≡ false → ends_escape c ≡ true
 final_by Parameter h i = refl
-final_by (Opens k) h i = refl
+final_by (Introducer k) h i = refl
 final_by Final h i = refl
 final_by _ h i = absurd cc
 
@@ -296,10 +296,10 @@ OpensNothing (b ∷ _) = opens (class_of b) ≡ false
 closed_by : (b : ℕ) (s u : List ℕ) (f : ℕ) (t w : Bool) → is_noise (class_of b) ≡ t
     → in_escape (class_of b) ≡ w
     → (rest in_escape s ≡ f ∷ u → OpensNothing (rest is_noise s)
-    → (is_empty (strip (front in_escape s)) && opens (class_of f)) ≡ false)
+    → (is_empty (strip (prefix in_escape s)) && opens (class_of f)) ≡ false)
     → (if w then rest in_escape s else b ∷ s) ≡ f ∷ u
     → OpensNothing (if t then rest is_noise s else b ∷ s)
-    → (is_empty (strip (if w then b ∷ front in_escape s else [])) && opens (class_of f)) ≡ false
+    → (is_empty (strip (if w then b ∷ prefix in_escape s else [])) && opens (class_of f)) ≡ false
 closed_by b s u f true true n i so e h = rw n (so e h)
 closed_by b s u f true false n i so e h = let z : true ≡ false =
     sym (noise_in (class_of b) n) ∙ i in absurd cc
@@ -308,7 +308,7 @@ closed_by b s u f false false n i so e h = let j : b ≡ f = cc in
     subst (λ y. opens (class_of y) ≡ false) j h
 
 closed : (s u : List ℕ) (f : ℕ) → rest in_escape s ≡ f ∷ u → OpensNothing (rest is_noise s)
-    → (is_empty (strip (front in_escape s)) && opens (class_of f)) ≡ false
+    → (is_empty (strip (prefix in_escape s)) && opens (class_of f)) ≡ false
 closed [] u f e h = absurd cc
 closed (b ∷ s) u f e h =
     closed_by b s u f (is_noise (class_of b)) (in_escape (class_of b)) refl refl (closed s u f) e h

@@ -3,10 +3,10 @@ use Rattle.std.proofs.Common.{ℕ, ◌≡◌, true, false, List, [], ◌∷◌, 
 use Rattle.std.proofs.lemmas.List.{map-append, append-nil}
 use Rattle.std.proofs.lemmas.List.Elements.{filter-append}
 use Rattle.esc_frame.specs.declared.classes.Class.{Class}
-use Rattle.esc_frame.specs.declared.classes.Class.TheVariants.{Escape, Parameter, Opens, Final, RawOpens, Lead}
+use Rattle.esc_frame.specs.declared.classes.Class.TheVariants.{Escape, Parameter, Introducer, Final, C1Introducer, Lead}
 use Rattle.esc_frame.specs.declared.classes.Kind.{Kind}
 use Rattle.esc_frame.specs.declared.classes.Kind.TheVariants as kind
-use Rattle.esc_frame.specs.Classes.{class_of, is_plain, ends_escape, ends_csi, letter_of, raw_of, those}
+use Rattle.esc_frame.specs.Classes.{class_of, is_c0, ends_escape, ends_csi, letter_of, raw_of, those}
 use Rattle.esc_frame.specs.Events.Event.{Execute}
 use Rattle.esc_frame.specs.Segments.{Opener, executes, opener, opener_events}
 use Rattle.esc_frame.specs.Segments.Opener.{Long, Raw, Pair}
@@ -19,7 +19,7 @@ pub c2_code : class_of 0xc2 ≡ Lead
 unfolding class_of
 c2_code = refl
 
-pub letter_code : (k : Kind) → class_of (letter_of k) ≡ Opens k
+pub letter_code : (k : Kind) → class_of (letter_of k) ≡ Introducer k
 unfolding class_of
 letter_code kind.Csi = refl
 letter_code kind.Osc = refl
@@ -28,7 +28,7 @@ letter_code kind.Sos = refl
 letter_code kind.Pm = refl
 letter_code kind.Apc = refl
 
-pub raw_code : (k : Kind) → class_of (raw_of k) ≡ RawOpens k
+pub raw_code : (k : Kind) → class_of (raw_of k) ≡ C1Introducer k
 unfolding class_of
 raw_code kind.Csi = refl
 raw_code kind.Osc = refl
@@ -38,22 +38,22 @@ raw_code kind.Pm = refl
 raw_code kind.Apc = refl
 
 executes_append : (x y : List ℕ) → executes (x ++ y) ≡ executes x ++ executes y
-executes_append x y = ap (map Execute) (filter-append (λ b. is_plain (class_of b)) x y)
-    ∙ map-append Execute (those is_plain x) (those is_plain y)
+executes_append x y = ap (map Execute) (filter-append (λ b. is_c0 (class_of b)) x y)
+    ∙ map-append Execute (those is_c0 x) (those is_c0 y)
 
-executes_none : (b : ℕ) → is_plain (class_of b) ≡ false → executes (b ∷ []) ≡ []
+executes_none : (b : ℕ) → is_c0 (class_of b) ≡ false → executes (b ∷ []) ≡ []
 executes_none b h = rw h refl
 
 -- after ESC, and before a byte that is not executed
 pub executes_escape : (x : List ℕ) → executes (0x1b ∷ x) ≡ executes x
 executes_escape x = rw escape_code refl
 
-executes_before : (x : List ℕ) (f : ℕ) → is_plain (class_of f) ≡ false
+executes_before : (x : List ℕ) (f : ℕ) → is_c0 (class_of f) ≡ false
     → executes (x ++ f ∷ []) ≡ executes x
 executes_before x f h = executes_append x (f ∷ []) ∙ ap (λ y. executes x ++ y) (executes_none f h)
     ∙ append-nil (executes x)
 
-letter_plain : (k : Kind) → is_plain (class_of (letter_of k)) ≡ false
+letter_plain : (k : Kind) → is_c0 (class_of (letter_of k)) ≡ false
 letter_plain k = rw (letter_code k) refl
 
 -- an opener
@@ -63,14 +63,14 @@ executes_opener k (Long n) =
 executes_opener k Raw = rw (raw_code k) refl
 executes_opener k Pair = rw (c2_code, raw_code k) refl
 
-final_plain : (c : Class) → ends_escape c ≡ true → is_plain c ≡ false
+final_plain : (c : Class) → ends_escape c ≡ true → is_c0 c ≡ false
 final_plain Parameter h = refl
-final_plain (Opens k) h = refl
+final_plain (Introducer k) h = refl
 final_plain Final h = refl
 final_plain _ h = absurd cc
 
-csi_plain : (c : Class) → ends_csi c ≡ true → is_plain c ≡ false
-csi_plain (Opens k) h = refl
+csi_plain : (c : Class) → ends_csi c ≡ true → is_c0 c ≡ false
+csi_plain (Introducer k) h = refl
 csi_plain Final h = refl
 csi_plain _ h = absurd cc
 

@@ -6,11 +6,11 @@ use Rattle.std.proofs.lemmas.Bool.Decides.{nat_tests}
 use Rattle.esc_frame.specs.declared.classes.Class.{Class}
 use Rattle.esc_frame.specs.declared.classes.Class.TheVariants.{Bell, Lead}
 use Rattle.esc_frame.specs.Classes.{class_of, in_osc, is_text, those}
-use Rattle.esc_frame.specs.Sequences.{is_pair, is_front, is_broken_before}
+use Rattle.esc_frame.specs.Sequences.{is_pair, is_prefix, is_broken_before}
 use Rattle.esc_frame.specs.Segments.{Ending, Piece, ArePieces, ending_bytes, text_bytes, text_of}
 use Rattle.esc_frame.specs.Segments.Ending.{Open, Rung, Waits}
 use Rattle.esc_frame.specs.Segments.Piece.{One, Sequence, BrokenOff}
-use Rattle.esc_frame.proofs.Scan.{begun, is_lead, lead_of, begun_waits, begun_breaks, begun_sequence, front_lead, sequence_lead}
+use Rattle.esc_frame.proofs.Scan.{begun, is_lead, lead_of, begun_waits, begun_breaks, begun_sequence, prefix_lead, sequence_lead}
 use Rattle.esc_frame.proofs.Scan.Begun.{Complete, Halted, Waiting}
 use Rattle.esc_frame.proofs.Units.{raw_in}
 use Rattle.esc_segments.specs.declared.sequence.Ahead.TheVariants as ahead
@@ -86,7 +86,7 @@ text_by kept b s after t (Sequence x ∷ ps) e h o w a q =
 text_by kept b s after t (BrokenOff x ∷ ps) e h o w a q =
     let z = append_assoc x (text_bytes ps) (ending_bytes e) in
     let l : lead_of (b ∷ s) ≡ true = ap lead_of (w ∙ z)
-    ∙ front_lead x (text_bytes ps ++ ending_bytes e) a.0.0 in
+    ∙ prefix_lead x (text_bytes ps ++ ending_bytes e) a.0.0 in
     absurd (text_no_lead (class_of b) h l)
 
 pub left_text : (kept : List ℕ) (b : ℕ) (s after t : List ℕ) → is_text (class_of b) ≡ true
@@ -131,7 +131,7 @@ skip_by kept b s after t (Sequence x ∷ ps) e h n o w a q =
 skip_by kept b s after t (BrokenOff x ∷ ps) e h n o w a q =
     let z = append_assoc x (text_bytes ps) (ending_bytes e) in
     let l : lead_of (b ∷ s) ≡ true = ap lead_of (w ∙ z)
-    ∙ front_lead x (text_bytes ps ++ ending_bytes e) a.0.0 in absurd (no_lead (class_of b) n l)
+    ∙ prefix_lead x (text_bytes ps ++ ending_bytes e) a.0.0 in absurd (no_lead (class_of b) n l)
 
 pub left_skip : (kept : List ℕ) (b : ℕ) (s after t : List ℕ) → is_text (class_of b) ≡ false
     → is_lead (class_of b) ≡ false → IsLeft kept (b ∷ s) after t
@@ -150,7 +150,7 @@ pub data LeadUnit (kept text after t : List ℕ) : Type 0 where
   Ended : (x : List ℕ) → begun text ≡ Waiting x → IsLeft (kept ++ mark) [] after t
       → LeadUnit kept text after t
 
-broken_by : (kept text x r after rest t : List ℕ) → is_front x ≡ true
+broken_by : (kept text x r after rest t : List ℕ) → is_prefix x ≡ true
     → is_broken_before x (r ++ rest) ≡ true → text ≡ x ++ r → IsLeft (kept ++ mark) r after t
     → LeadUnit kept text after t
 broken_by kept text x [] after rest t h k w l =
@@ -238,7 +238,7 @@ pub left_broken : (kept text after t : List ℕ) (n : ℕ) → IsSequence text (
     → IsLeft (kept ++ mark) (drop n text) after t
 left_broken kept text after t n (p, m, s, q) l =
     let h : lead_of text ≡ true =
-    sym (ap lead_of (parted n text)) ∙ front_lead (take n text) (drop n text) s in
+    sym (ap lead_of (parted n text)) ∙ prefix_lead (take n text) (drop n text) s in
     let e : begun text ≡ Halted (take n text) =
     sym (ap begun (parted n text)) ∙ begun_breaks (take n text) (drop n text) s q in
     broken_unit kept text after t n m e (lead_unit kept text after t h l)
@@ -258,7 +258,7 @@ pub left_pending : (kept text after t : List ℕ) → IsSequence text ahead.Pend
     → IsLeft kept text after t
     → IsLeft (kept ++ mark) (drop (length text) text) after t
 left_pending kept text after t s l =
-    let h : lead_of text ≡ true = ap lead_of (sym (append-nil text)) ∙ front_lead text [] s in
+    let h : lead_of text ≡ true = ap lead_of (sym (append-nil text)) ∙ prefix_lead text [] s in
     moved (kept ++ mark) [] (drop (length text) text) after t (nothing_after text)
     (pending_unit kept text after t (begun_waits text s) (lead_unit kept text after t h l))
 
@@ -297,7 +297,7 @@ done_by kept after t (Sequence x ∷ ps) e o w a q =
     absurd cc
 done_by kept after t (BrokenOff x ∷ ps) e o w a q =
     let z : false ≡ true = ap lead_of (w ∙ append_assoc x (text_bytes ps) (ending_bytes e))
-    ∙ front_lead x (text_bytes ps ++ ending_bytes e) a.0.0 in
+    ∙ prefix_lead x (text_bytes ps ++ ending_bytes e) a.0.0 in
     absurd cc
 
 pub left_none : (kept after t : List ℕ) → IsLeft kept [] after t → kept ≡ t

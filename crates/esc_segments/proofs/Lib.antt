@@ -4,7 +4,7 @@ pub mod Texts
 pub mod Sequences
 pub mod Escapes
 pub mod Cutting
-pub mod Told
+pub mod Emitted
 pub mod Executes
 pub mod Beginnings
 pub mod KeptUnits

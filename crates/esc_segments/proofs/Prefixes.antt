@@ -12,10 +12,10 @@ use Rattle.esc_frame.specs.Classes.{class_of, AllOf}
 pub ruleset runs =
     (prefix_len-le-length, prefix_len-drop_yes, prefix_len-drop_no, prefix_len-drop_all)
 
--- the longest prefix of a class, and what is behind it
-abbrev pub front : (Class → Bool) → List ℕ → List ℕ
-front test [] = []
-front test (b ∷ s) = if test (class_of b) then b ∷ front test s else []
+-- the longest prefix of a class, and what is after it
+abbrev pub prefix : (Class → Bool) → List ℕ → List ℕ
+prefix test [] = []
+prefix test (b ∷ s) = if test (class_of b) then b ∷ prefix test s else []
 
 abbrev pub rest : (Class → Bool) → List ℕ → List ℕ
 rest test [] = []
@@ -24,8 +24,8 @@ rest test (b ∷ s) = if test (class_of b) then rest test s else b ∷ s
 abbrev in_class : (Class → Bool) → ℕ → Bool
 in_class test = λ b. test (class_of b)
 
-take_by : (test : Class → Bool) (b : ℕ) (s : List ℕ) (n : ℕ) (t : Bool) → take n s ≡ front test s
-    → take (cond t (1 + n) 0) (b ∷ s) ≡ (if t then b ∷ front test s else [])
+take_by : (test : Class → Bool) (b : ℕ) (s : List ℕ) (n : ℕ) (t : Bool) → take n s ≡ prefix test s
+    → take (cond t (1 + n) 0) (b ∷ s) ≡ (if t then b ∷ prefix test s else [])
 take_by test b s n true h = let one : 1 + n ≡ suc n = omega arith in
     ap (λ k. take k (b ∷ s)) one ∙ ap (λ y. b ∷ y) h
 take_by test b s n false h = refl
@@ -36,45 +36,45 @@ drop_by test b s n true h = let one : 1 + n ≡ suc n = omega arith in
     ap (λ k. drop k (b ∷ s)) one ∙ h
 drop_by test b s n false h = refl
 
-take_front : (test : Class → Bool) (s : List ℕ)
-    → take (prefix_len (in_class test) s) s ≡ front test s
-take_front test [] = refl
-take_front test (b ∷ s) =
-    take_by test b s (prefix_len (in_class test) s) (test (class_of b)) (take_front test s)
+take_prefix : (test : Class → Bool) (s : List ℕ)
+    → take (prefix_len (in_class test) s) s ≡ prefix test s
+take_prefix test [] = refl
+take_prefix test (b ∷ s) =
+    take_by test b s (prefix_len (in_class test) s) (test (class_of b)) (take_prefix test s)
 
-drop_front : (test : Class → Bool) (s : List ℕ)
+drop_prefix : (test : Class → Bool) (s : List ℕ)
     → drop (prefix_len (in_class test) s) s ≡ rest test s
-drop_front test [] = refl
-drop_front test (b ∷ s) =
-    drop_by test b s (prefix_len (in_class test) s) (test (class_of b)) (drop_front test s)
+drop_prefix test [] = refl
+drop_prefix test (b ∷ s) =
+    drop_by test b s (prefix_len (in_class test) s) (test (class_of b)) (drop_prefix test s)
 
 all_by : (test : Class → Bool) (b : ℕ) (s : List ℕ) (t : Bool) → test (class_of b) ≡ t
-    → AllOf test (front test s)
-    → AllOf test (if t then b ∷ front test s else [])
+    → AllOf test (prefix test s)
+    → AllOf test (if t then b ∷ prefix test s else [])
 all_by test b s true e h = rw e h
 all_by test b s false e h = refl
 
-all_front : (test : Class → Bool) (s : List ℕ) → AllOf test (front test s)
-all_front test [] = refl
-all_front test (b ∷ s) = all_by test b s (test (class_of b)) refl (all_front test s)
+all_prefix : (test : Class → Bool) (s : List ℕ) → AllOf test (prefix test s)
+all_prefix test [] = refl
+all_prefix test (b ∷ s) = all_by test b s (test (class_of b)) refl (all_prefix test s)
 
 -- the bytes, split where the run ends
 pub record Split (test : Class → Bool) (s : List ℕ) (n : ℕ) : Type 0 where
   pub parts : s ≡ take n s ++ drop n s
   pub passes : AllOf test (take n s)
   pub len : n ≡ length (take n s)
-  pub takes : take n s ≡ front test s
+  pub takes : take n s ≡ prefix test s
   pub drops : drop n s ≡ rest test s
 
 pub split : (test : Class → Bool) (s : List ℕ) (n : ℕ) → n ≡ prefix_len (in_class test) s
     → Split test s n
 split test s n e = record {
   parts = sym (take-append-drop n s);
-  passes = subst (λ x. AllOf test x) (sym (ap (λ k. take k s) e ∙ take_front test s))
-      (all_front test s);
+  passes = subst (λ x. AllOf test x) (sym (ap (λ k. take k s) e ∙ take_prefix test s))
+      (all_prefix test s);
   len = subst (λ k. k ≡ length (take k s)) (sym e) (sym (length-prefix_len (in_class test) s));
-  takes = ap (λ k. take k s) e ∙ take_front test s;
-  drops = ap (λ k. drop k s) e ∙ drop_front test s;
+  takes = ap (λ k. take k s) e ∙ take_prefix test s;
+  drops = ap (λ k. drop k s) e ∙ drop_prefix test s;
 }
 
 -- where it ends with the bytes, and before them

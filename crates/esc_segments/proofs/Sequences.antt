@@ -5,7 +5,7 @@ use Rattle.std.proofs.lemmas.Bool.Decides.{nat_tests}
 use Rattle.esc_segments.specs.declared.sequence.Ahead.TheVariants as ahead
 use Rattle.esc_segments.specs.Places.{IsSequence}
 use Rattle.esc_frame.specs.Classes.{class_of, is_raw}
-use Rattle.esc_frame.specs.Sequences.{is_from, is_second, is_tail, is_sequence, is_front, is_pair}
+use Rattle.esc_frame.specs.Sequences.{is_from, is_second, is_tail, is_sequence, is_prefix, is_pair}
 
 from_is : (l h b : ℕ) → l ≤ b → b ≤ h → is_from l h b ≡ true
 from_is l h b p q = grind (arith, nat_tests)
@@ -41,7 +41,7 @@ raw_from b l h = grind (arith, nat_tests)
 
 pub one_pending : (s : List ℕ) → length s ≡ 1 → 0xc2 ≤ get_or s 0 0 → get_or s 0 0 ≤ 0xf4
     → IsSequence s ahead.Pending
-unfolding is_front
+unfolding is_prefix
 one_pending [] l low high = absurd (omega arith)
 one_pending (a ∷ []) l low high = from_is 0xc2 0xf4 a low high
 one_pending (a ∷ b ∷ s) l low high = absurd (omega arith)
@@ -49,7 +49,7 @@ one_pending (a ∷ b ∷ s) l low high = absurd (omega arith)
 pub one_broken : (s : List ℕ) → 1 < length s → 0xe0 ≤ get_or s 0 0 → get_or s 0 0 ≤ 0xf4
     → is_second (get_or s 0 0) (get_or s 1 0) ≡ false
     → IsSequence s (ahead.Broken 1)
-unfolding is_front is_sequence
+unfolding is_prefix is_sequence
 one_broken [] l low high second = absurd (omega arith)
 one_broken (a ∷ []) l low high second = absurd (omega arith)
 one_broken (a ∷ b ∷ s) l low high second = (
@@ -66,7 +66,7 @@ one_broken (a ∷ b ∷ s) l low high second = (
 pub two_broken : (s : List ℕ) → 1 < length s → 0xc2 ≤ get_or s 0 0 → get_or s 0 0 ≤ 0xdf
     → is_from 0x80 0xbf (get_or s 1 0) ≡ false
     → IsSequence s (ahead.Broken 1)
-unfolding is_front is_sequence
+unfolding is_prefix is_sequence
 two_broken [] l low high tail = absurd (omega arith)
 two_broken (a ∷ []) l low high tail = absurd (omega arith)
 two_broken (a ∷ b ∷ s) l low high tail = (
@@ -128,7 +128,7 @@ two_control (a ∷ b ∷ s) l tail is raw =
 pub two_pending : (s : List ℕ) → length s ≡ 2 → 0xe0 ≤ get_or s 0 0 → get_or s 0 0 ≤ 0xf4
     → is_second (get_or s 0 0) (get_or s 1 0) ≡ true
     → IsSequence s ahead.Pending
-unfolding is_front
+unfolding is_prefix
 two_pending [] l low high second = absurd (omega arith)
 two_pending (a ∷ []) l low high second = absurd (omega arith)
 two_pending (a ∷ b ∷ []) l low high second =
@@ -138,7 +138,7 @@ two_pending (a ∷ b ∷ c ∷ s) l low high second = absurd (omega arith)
 pub three_broken : (s : List ℕ) → 2 < length s → 0xe0 ≤ get_or s 0 0 → get_or s 0 0 ≤ 0xf4
     → is_second (get_or s 0 0) (get_or s 1 0) ≡ true
     → is_from 0x80 0xbf (get_or s 2 0) ≡ false → IsSequence s (ahead.Broken 2)
-unfolding is_front is_sequence
+unfolding is_prefix is_sequence
 three_broken [] l low high second tail = absurd (omega arith)
 three_broken (a ∷ []) l low high second tail = absurd (omega arith)
 three_broken (a ∷ b ∷ []) l low high second tail = absurd (omega arith)
@@ -172,8 +172,8 @@ three_whole (a ∷ b ∷ c ∷ s) l low high second tail = (
 
 module _ (a b c : ℕ) (low : 0xf0 ≤ a) (high : a ≤ 0xf4) (second : is_second a b ≡ true)
     (third : is_from 0x80 0xbf c ≡ true) where
-  three : is_front (a ∷ b ∷ c ∷ []) ≡ true
-  unfolding is_front
+  three : is_prefix (a ∷ b ∷ c ∷ []) ≡ true
+  unfolding is_prefix
   three =
       both (is_from 0xf0 0xf4 a && is_second a b) (is_tail c)
       (both (is_from 0xf0 0xf4 a) (is_second a b) (from_is 0xf0 0xf4 a low high) second) third
@@ -194,7 +194,7 @@ module _ (a b c : ℕ) (low : 0xf0 ≤ a) (high : a ≤ 0xf4) (second : is_secon
 
   four_broken_by : (d : ℕ) (s : List ℕ) → is_from 0x80 0xbf d ≡ false
       → IsSequence (a ∷ b ∷ c ∷ d ∷ s) (ahead.Broken 3)
-  unfolding is_sequence is_front
+  unfolding is_sequence is_prefix
   four_broken_by d s tail = (
     omega arith,
     omega arith,

@@ -16,7 +16,7 @@ use Rattle.esc_frame.specs.declared.classes.Class.TheVariants.{Bell}
 use Rattle.esc_frame.specs.declared.classes.Class.TheVariants.{Lead}
 use Rattle.esc_frame.specs.declared.classes.Kind.TheVariants as kind
 use Rattle.esc_frame.specs.Classes.{class_of, AllOf, in_osc, is_breaker, is_raw}
-use Rattle.esc_frame.specs.Sequences.{is_front}
+use Rattle.esc_frame.specs.Sequences.{is_prefix}
 use Rattle.esc_frame.specs.Segments.{Piece, IsPiece, ArePieces, opener, text_bytes, breaks_text}
 use Rattle.esc_frame.specs.Segments.{piece_bytes}
 use Rattle.esc_frame.specs.Segments.Segment.{Osc}
@@ -208,7 +208,7 @@ module _ (text : List ℕ) (n : ℕ) (room : n ≤ length text) (so : IsText tex
       → IsOpened kind.Osc text (found kinds.Osc (length text) false)
   osc_waits h = λ o io.
       let p = opener kind.Osc o in
-      let i : is_front (drop n text) ≡ true = subst (λ y. is_front y ≡ true) (tail text n) h in
+      let i : is_prefix (drop n text) ≡ true = subst (λ y. is_prefix y ≡ true) (tail text n) h in
       let z = append-nil (drop n text) in record {
         g = Osc o so.0 (Waits (drop n text));
         after = [];

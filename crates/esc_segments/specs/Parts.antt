@@ -21,9 +21,9 @@ pub record IsLeft (kept bytes after t : List ℕ) : Type 0 where
 
 -- An actor was given the events of this segment, where these are its bytes and this is whether it
 -- is finished. By itself the call stopped only where `own` holds.
-abbrev pub Tells : {S E : Type 0} → Type 0 → (S → Event → S → Type 0) → (S → Event → S → Type 0)
+abbrev pub Emits : {S E : Type 0} → Type 0 → (S → Event → S → Type 0) → (S → Event → S → Type 0)
     → Result (Unit {0}) E → S → S → List ℕ → Bool → Segment
     → Type 0
-Tells own takes refuses result old new bytes finished g =
+Emits own takes refuses result old new bytes finished g =
     (after : List ℕ) → HasShape g after → bytes ≡ bytes_of g → finished ≡ is_finished g after
     → Takes own takes refuses result old (events_of g finished) new

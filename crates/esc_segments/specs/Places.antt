@@ -8,8 +8,8 @@ use Rattle.esc_segments.specs.declared.text.Unit.{Unit as TextUnit}
 use Rattle.esc_segments.specs.declared.text.Unit.TheVariants as units
 use Rattle.esc_frame.specs.declared.classes.Kind.{Kind}
 use Rattle.esc_frame.specs.Classes.{class_of, is_raw}
-use Rattle.esc_frame.specs.Sequences.{is_sequence, is_front, is_pair, is_broken_before}
-use Rattle.esc_frame.specs.Segments.{Segment, Opener, Piece, IsOpener, HasShape, ArePieces, opener, bytes_of, text_bytes, is_finished, breaks_text, behind_c2}
+use Rattle.esc_frame.specs.Sequences.{is_sequence, is_prefix, is_pair, is_broken_before}
+use Rattle.esc_frame.specs.Segments.{Segment, Opener, Piece, IsOpener, HasShape, ArePieces, opener, bytes_of, text_bytes, is_finished, breaks_text, after_c2}
 use Rattle.esc_segments.specs.Items.{kind_of}
 
 abbrev pub found : SegmentKind → ℕ → Bool → Found
@@ -30,14 +30,14 @@ pub record IsFirst (bytes : List ℕ) (x : Found) : Type 0 where
   pub finished : x.finished ≡ is_finished g after
   pub last : x.finished ≡ false → after ≡ []
 
--- behind any opener of this kind
+-- after any opener of this kind
 abbrev pub IsOpened : Kind → List ℕ → Found → Type 0
 IsOpened k body x = (o : Opener) → IsOpener o
     → IsFirst (opener k o ++ body) (moved (length (opener k o)) x)
 
--- behind this control, raw and behind C2
+-- after this control, raw and after C2
 abbrev pub IsRaw : ℕ → List ℕ → Found → Type 0
-IsRaw b body x = (p : Bool) → IsFirst (behind_c2 p b ++ body) (moved (length (behind_c2 p b)) x)
+IsRaw b body x = (p : Bool) → IsFirst (after_c2 p b ++ body) (moved (length (after_c2 p b)) x)
 
 -- the sequence of UTF-8 that comes first
 abbrev pub IsSequence : List ℕ → Ahead → Type 0
@@ -45,9 +45,9 @@ IsSequence bytes (ahead.Whole n) =
     (0 < n) × (n ≤ length bytes) × (is_sequence (take n bytes) ≡ true)
     × (is_pair (take n bytes) ≡ false)
 IsSequence bytes (ahead.Broken n) =
-    (0 < n) × (n ≤ length bytes) × (is_front (take n bytes) ≡ true)
+    (0 < n) × (n ≤ length bytes) × (is_prefix (take n bytes) ≡ true)
     × (is_broken_before (take n bytes) (drop n bytes) ≡ true)
-IsSequence bytes ahead.Pending = is_front bytes ≡ true
+IsSequence bytes ahead.Pending = is_prefix bytes ≡ true
 IsSequence bytes (ahead.Control b) = (is_raw (class_of b) ≡ true) × (take 2 bytes ≡ 0xc2 ∷ b ∷ [])
     × (2 ≤ length bytes)
 
@@ -58,7 +58,7 @@ IsUnit text (units.Kept n) =
     × ArePieces ps (drop n text))
 IsUnit text units.Bell = text ≡ 0x07 ∷ drop 1 text
 IsUnit text units.Breaker = breaks_text text ≡ true
-IsUnit text units.Pending = is_front text ≡ true
+IsUnit text units.Pending = is_prefix text ≡ true
 
 -- whole units come first, so many bytes
 abbrev pub IsText : List ℕ → ℕ → Type 0

@@ -2,7 +2,7 @@
 #![tactic(auto)]
 
 ghost use Rattle.std.specs.Prelude.{◌≡◌};
-ghost use Rattle.esc_frame.specs.Classes.{class_of, is_breaker, is_noise, is_plain, is_text, is_put, in_escape, in_csi, in_osc, opens};
+ghost use Rattle.esc_frame.specs.Classes.{class_of, is_breaker, is_noise, is_c0, is_text, is_put, in_escape, in_csi, in_osc, opens};
 
 /// Whether the byte ends what stands before it: 18, 1A, 1B, 80 to 9F.
 #[tactic(auto, unfolding(esc_frame::specs::Classes::class_of))]
@@ -25,8 +25,8 @@ pub fn is_noise(b: u8) -> bool
 /// Whether it is a control that is executed also inside a sequence: any below 20 but 18, 1A, 1B.
 #[tactic(auto, unfolding(esc_frame::specs::Classes::class_of))]
 #[inline(always)]
-pub fn is_plain(b: u8) -> bool
-    ensures { result ≡ is_plain (class_of b) }
+pub fn is_c0(b: u8) -> bool
+    ensures { result ≡ is_c0 (class_of b) }
 {
     b < 0x20 && !is_breaker(b)
 }

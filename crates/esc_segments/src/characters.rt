@@ -3,7 +3,7 @@
 
 ghost use Rattle.std.specs.Prelude.{◌≡◌, ◌++◌, ℕ, [], ◌∷◌, true};
 ghost use Rattle.esc_frame.specs.Classes.{class_of, is_text};
-ghost use Rattle.esc_frame.specs.Machine.Fronts.{front_of};
+ghost use Rattle.esc_frame.specs.Machine.Prefixes.{prefix_of};
 ghost use Rattle.esc_frame.specs.Sequences.{is_sequence, number_of};
 
 use esc_frame::sequence::{Outcome, Pending};
@@ -30,12 +30,12 @@ pub fn character_of(bytes: &[u8]) -> char
 }
 
 // The character of a prefix of a sequence and its last byte.
-fn completed(front: Pending, last: u8) -> char
-    ensures { is_sequence (front_of front ++ last ∷ []) ≡ true
-        → result ≡ number_of (front_of front ++ last ∷ []) }
+fn completed(prefix: Pending, last: u8) -> char
+    ensures { is_sequence (prefix_of prefix ++ last ∷ []) ≡ true
+        → result ≡ number_of (prefix_of prefix ++ last ∷ []) }
 {
-    match front.outcome(last) {
-        Outcome::Whole => front.character(last),
+    match prefix.outcome(last) {
+        Outcome::Whole => prefix.character(last),
         Outcome::More | Outcome::Broken => REPLACEMENT,
     }
 }

@@ -7,9 +7,9 @@ ghost use Rattle.esc_frame.specs.Events.{Takes};
 ghost use Rattle.esc_frame.specs.Machine.Keeps.{Keeps, KeepsBody};
 ghost use Rattle.esc_frame.specs.Segments.{Opener, csi_events, escape_event, executes};
 ghost use Rattle.esc_frame.specs.Segments.Segment.{Csi, CutCsi, CutDcs, CutEscape, Escape};
-ghost use Rattle.esc_segments.specs.Parts.{Tells};
+ghost use Rattle.esc_segments.specs.Parts.{Emits};
 
-use crate::bytes::{is_noise, is_plain};
+use crate::bytes::{is_c0, is_noise};
 use crate::openers::{opens_dcs, split_opener};
 use esc_frame::VTActor;
 use esc_frame::body::CsiBody;
@@ -21,11 +21,11 @@ type Result<T> = std::result::Result<T, AllocError>;
 /// Executes the plain controls among the bytes, in order.
 pub fn execute_in<V: VTActor>(bytes: &[u8], actor: &mut V) -> Result<()>
     requires { V.is_ready actor.old }
-    ensures told { Takes ⊥ V.takes V.refuses result actor.old (executes bytes.now) actor.new }
+    ensures emitted { Takes ⊥ V.takes V.refuses result actor.old (executes bytes.now) actor.new }
     ensures ready { OnOk result (V.is_ready actor.new) }
 {
     for b in bytes {
-        if is_plain(*b) {
+        if is_c0(*b) {
             match actor.execute_c0_or_c1(*b) {
                 Ok(()) => {}
                 Err(e) => return Err(e),
@@ -38,8 +38,8 @@ pub fn execute_in<V: VTActor>(bytes: &[u8], actor: &mut V) -> Result<()>
 /// An escape sequence: the controls inside it, and then its dispatch.
 pub fn escape<V: VTActor>(bytes: &[u8], actor: &mut V) -> Result<()>
     requires { V.is_ready actor.old }
-    ensures told { (finished : Bool) (x : List ℕ) (f : ℕ)
-        → Tells ⊥ V.takes V.refuses result actor.old actor.new bytes.now finished (Escape x f) }
+    ensures emitted { (finished : Bool) (x : List ℕ) (f : ℕ)
+        → Emits ⊥ V.takes V.refuses result actor.old actor.new bytes.now finished (Escape x f) }
     ensures ready { OnOk result (V.is_ready actor.new) }
 {
     if bytes.len() < 2 {
@@ -55,7 +55,7 @@ pub fn escape<V: VTActor>(bytes: &[u8], actor: &mut V) -> Result<()>
 // The dispatch of an escape sequence with these intermediates and noise, and this final byte.
 fn dispatch_escape<V: VTActor>(x: &[u8], last: u8, actor: &mut V) -> Result<()>
     requires { V.is_ready actor.old }
-    ensures told { Takes ⊥ V.takes V.refuses result actor.old
+    ensures emitted { Takes ⊥ V.takes V.refuses result actor.old
         (escape_event (strip x.now) last ∷ []) actor.new }
     ensures ready { OnOk result (V.is_ready actor.new) }
 {
@@ -79,8 +79,8 @@ fn intermediates_of(x: &[u8]) -> Intermediates
 /// A control sequence: the controls inside it, and then its dispatch, where its body has its form.
 pub fn csi<V: VTActor>(bytes: &[u8], actor: &mut V) -> Result<()>
     requires { V.is_ready actor.old }
-    ensures told { (finished : Bool) (o : Opener) (x : List ℕ) (f : ℕ)
-        → Tells ⊥ V.takes V.refuses result actor.old actor.new bytes.now finished (Csi o x f) }
+    ensures emitted { (finished : Bool) (o : Opener) (x : List ℕ) (f : ℕ)
+        → Emits ⊥ V.takes V.refuses result actor.old actor.new bytes.now finished (Csi o x f) }
     ensures ready { OnOk result (V.is_ready actor.new) }
 {
     match execute_in(bytes, actor) {
@@ -99,18 +99,18 @@ pub fn csi<V: VTActor>(bytes: &[u8], actor: &mut V) -> Result<()>
 // The dispatch of a control sequence with this body and final byte.
 fn dispatch_csi<V: VTActor>(x: &[u8], last: u8, actor: &mut V) -> Result<()>
     requires { V.is_ready actor.old }
-    ensures told { Takes ⊥ V.takes V.refuses result actor.old
+    ensures emitted { Takes ⊥ V.takes V.refuses result actor.old
         (csi_events (strip x.now) last) actor.new }
     ensures ready { OnOk result (V.is_ready actor.new) }
 {
     let mut body = body_of(x);
-    tell_body(&mut body, last, actor)
+    emit_body(&mut body, last, actor)
 }
 
 // The same, of a body that was read.
-fn tell_body<V: VTActor>(body: &mut CsiBody, last: u8, actor: &mut V) -> Result<()>
+fn emit_body<V: VTActor>(body: &mut CsiBody, last: u8, actor: &mut V) -> Result<()>
     requires { V.is_ready actor.old }
-    ensures told { (x : List ℕ) → KeepsBody body.old x
+    ensures emitted { (x : List ℕ) → KeepsBody body.old x
         → Takes ⊥ V.takes V.refuses result actor.old (csi_events x last) actor.new }
     ensures ready { OnOk result (V.is_ready actor.new) }
 {
@@ -119,8 +119,8 @@ fn tell_body<V: VTActor>(body: &mut CsiBody, last: u8, actor: &mut V) -> Result<
     }
     body.finish();
     actor.csi_dispatch(
-        body.entries.items.as_slice(),
-        body.entries.is_truncated,
+        body.csi_params.items.as_slice(),
+        body.csi_params.is_truncated,
         last,
     )
 }
@@ -143,11 +143,11 @@ fn body_of(x: &[u8]) -> CsiBody
 pub fn cut_short<V: VTActor>(bytes: &[u8], actor: &mut V) -> Result<()>
     requires { V.is_ready actor.old }
     ensures escape { (finished : Bool) (x : List ℕ)
-        → Tells ⊥ V.takes V.refuses result actor.old actor.new bytes.now finished (CutEscape x) }
+        → Emits ⊥ V.takes V.refuses result actor.old actor.new bytes.now finished (CutEscape x) }
     ensures csi { (finished : Bool) (o : Opener) (x : List ℕ)
-        → Tells ⊥ V.takes V.refuses result actor.old actor.new bytes.now finished (CutCsi o x) }
+        → Emits ⊥ V.takes V.refuses result actor.old actor.new bytes.now finished (CutCsi o x) }
     ensures dcs { (finished : Bool) (o : Opener) (x : List ℕ)
-        → Tells ⊥ V.takes V.refuses result actor.old actor.new bytes.now finished (CutDcs o x) }
+        → Emits ⊥ V.takes V.refuses result actor.old actor.new bytes.now finished (CutDcs o x) }
     ensures ready { OnOk result (V.is_ready actor.new) }
 {
     if opens_dcs(bytes) {

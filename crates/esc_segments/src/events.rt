@@ -5,7 +5,7 @@ ghost use Rattle.std.specs.Prelude.{◌≡◌, ◌∷◌, Bool, List, OnOk, [], 
 ghost use Rattle.esc_frame.specs.Events.{Takes};
 ghost use Rattle.esc_frame.specs.Events.Event.{Execute, Print};
 ghost use Rattle.esc_frame.specs.Memory.{may_grow};
-ghost use Rattle.esc_frame.specs.Segments.{HasShape, Segment as Shape, behind_c2, events_of};
+ghost use Rattle.esc_frame.specs.Segments.{HasShape, Segment as Shape, after_c2, events_of};
 ghost use Rattle.esc_segments.specs.Items.{IsItem};
 ghost use Rattle.memory.specs.Refusals.{Refused};
 
@@ -31,7 +31,7 @@ pub fn segment_events<A: Allocator + Copy, V: VTActor>(
     actor: &mut V,
 ) -> Result<(), AllocError>
     requires { V.is_ready actor.old }
-    ensures told { (g : Shape) (after : List ℕ) → HasShape g after → IsItem segment.now g after
+    ensures emitted { (g : Shape) (after : List ℕ) → HasShape g after → IsItem segment.now g after
         → Takes ((may_grow g ≡ true) × Refused A) V.takes V.refuses result actor.old
         (events_of g segment.now.finished) actor.new }
     ensures ready { OnOk result (V.is_ready actor.new) }
@@ -56,7 +56,7 @@ pub fn segment_events<A: Allocator + Copy, V: VTActor>(
 // A prefix of a character, which prints nothing as long as it may go on.
 fn broken<V: VTActor>(finished: bool, actor: &mut V) -> Result<(), AllocError>
     requires { V.is_ready actor.old }
-    ensures told { Takes ⊥ V.takes V.refuses result actor.old
+    ensures emitted { Takes ⊥ V.takes V.refuses result actor.old
         (if finished then Print 0xfffd ∷ [] else []) actor.new }
     ensures ready { OnOk result (V.is_ready actor.new) }
 {
@@ -70,7 +70,7 @@ fn broken<V: VTActor>(finished: bool, actor: &mut V) -> Result<(), AllocError>
 // A control, raw or after C2: its last byte.
 fn control<V: VTActor>(bytes: &[u8], actor: &mut V) -> Result<(), AllocError>
     requires { V.is_ready actor.old }
-    ensures told { (p : Bool) (b : ℕ) → bytes.now ≡ behind_c2 p b
+    ensures emitted { (p : Bool) (b : ℕ) → bytes.now ≡ after_c2 p b
         → Takes ⊥ V.takes V.refuses result actor.old (Execute b ∷ []) actor.new }
     ensures ready { OnOk result (V.is_ready actor.new) }
 {

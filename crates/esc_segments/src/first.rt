@@ -22,10 +22,10 @@ pub fn first(bytes: &[u8]) -> Found
 {
     match bytes[0] {
         0x00..=0x1a => Found::finished(SegmentKind::Control, 1),
-        0x1b => escape(&bytes[1..]).behind(1),
+        0x1b => escape(&bytes[1..]).later(1),
         0x1c..=0x1f => Found::finished(SegmentKind::Control, 1),
         0x20..=0x7f => Found::finished(SegmentKind::Character, 1),
-        0x80..=0x9f => control(bytes[0], &bytes[1..]).behind(1),
+        0x80..=0x9f => control(bytes[0], &bytes[1..]).later(1),
         0xa0..=0xc1 => Found::finished(SegmentKind::Stray, 1),
         0xc2..=0xf4 => character(bytes),
         0xf5..=0xff => Found::finished(SegmentKind::Stray, 1),
@@ -45,7 +45,7 @@ fn character(bytes: &[u8]) -> Found
         Ahead::Whole(count) => Found::finished(SegmentKind::Character, count),
         Ahead::Broken(count) => Found::finished(SegmentKind::Broken, count),
         Ahead::Pending => Found::unfinished(SegmentKind::Broken, bytes.len()),
-        Ahead::Control(b) => control(b, &bytes[2..]).behind(2),
+        Ahead::Control(b) => control(b, &bytes[2..]).later(2),
     }
 }
 
@@ -72,7 +72,7 @@ fn escape(rest: &[u8]) -> Found
 {
     let noise = noise_run(rest);
     if noise < rest.len() && is_letter(rest[noise]) {
-        opened(rest[noise], &rest[noise + 1..]).behind(noise + 1)
+        opened(rest[noise], &rest[noise + 1..]).later(noise + 1)
     } else {
         escape_sequence(rest, noise)
     }

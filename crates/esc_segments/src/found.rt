@@ -42,7 +42,7 @@ impl Found {
 
     /// The segment with so many bytes more before it.
     #[inline(always)]
-    pub fn behind(self, count: usize) -> Found
+    pub fn later(self, count: usize) -> Found
         requires { count + self.len < 2 ^ 64 }
         ensures { result ≡ moved count self }
     {

@@ -3,14 +3,14 @@
 
 ghost use Rattle.std.specs.Prelude.{◌≡◌, ◌++◌, ◌∷◌, Bool, IfOk, List, OnErr, OnOk, [], if◌then◌else◌, map, pos, true, ℕ};
 ghost use Rattle.esc_values.specs.Clear.{parts_of};
-ghost use Rattle.esc_frame.specs.Bodies.{held, is_dcs_header, value_behind};
+ghost use Rattle.esc_frame.specs.Bodies.{held, is_dcs_header, value_after};
 ghost use Rattle.esc_frame.specs.Classes.{is_text, strip, those};
 ghost use Rattle.esc_frame.specs.Events.{Takes};
 ghost use Rattle.esc_frame.specs.Events.Event.{ApcDispatch, DcsUnhook};
 ghost use Rattle.esc_frame.specs.Machine.Keeps.{KeepsDcs, parameters_of};
 ghost use Rattle.esc_frame.specs.Segments.{Ending, Opener, Piece, hook_event, puts};
 ghost use Rattle.esc_frame.specs.Segments.Segment.{Apc, Dcs, Osc};
-ghost use Rattle.esc_segments.specs.Parts.{Tells};
+ghost use Rattle.esc_segments.specs.Parts.{Emits};
 ghost use Rattle.memory.specs.Refusals.{Refused};
 
 use crate::bytes::{is_noise, is_put, is_text};
@@ -33,8 +33,8 @@ pub fn osc<A: Allocator + Copy, V: VTActor>(
     actor: &mut V,
 ) -> Result<()>
     requires { V.is_ready actor.old }
-    ensures told { (o : Opener) (ps : List Piece) (e : Ending)
-        → Tells (Refused A) V.takes V.refuses result actor.old actor.new bytes.now finished
+    ensures emitted { (o : Opener) (ps : List Piece) (e : Ending)
+        → Emits (Refused A) V.takes V.refuses result actor.old actor.new bytes.now finished
         (Osc o ps e) }
     ensures ready { OnOk result (V.is_ready actor.new) }
 {
@@ -62,8 +62,8 @@ pub fn apc<A: Allocator, V: VTActor>(
     actor: &mut V,
 ) -> Result<()>
     requires { V.is_ready actor.old }
-    ensures told { (o : Opener) (d : List ℕ)
-        → Tells (Refused A) V.takes V.refuses result actor.old actor.new bytes.now
+    ensures emitted { (o : Opener) (d : List ℕ)
+        → Emits (Refused A) V.takes V.refuses result actor.old actor.new bytes.now
         finished (Apc o d) }
     ensures ready { OnOk result (V.is_ready actor.new) }
 {
@@ -83,7 +83,7 @@ pub fn apc<A: Allocator, V: VTActor>(
 // The dispatch of the bytes 20 to 7F.
 fn dispatch_apc<A: Allocator, V: VTActor>(alloc: A, content: &[u8], actor: &mut V) -> Result<()>
     requires { V.is_ready actor.old }
-    ensures told { Takes (Refused A) V.takes V.refuses result actor.old
+    ensures emitted { Takes (Refused A) V.takes V.refuses result actor.old
         (ApcDispatch (those is_text content.now) ∷ []) actor.new }
     ensures ready { OnOk result (V.is_ready actor.new) }
 {
@@ -110,8 +110,8 @@ pub fn dcs<A: Allocator + Copy, V: VTActor>(
     actor: &mut V,
 ) -> Result<()>
     requires { V.is_ready actor.old }
-    ensures told { (o : Opener) (x : List ℕ) (f : ℕ) (d : List ℕ)
-        → Tells (Refused A) V.takes V.refuses result actor.old actor.new bytes.now finished
+    ensures emitted { (o : Opener) (x : List ℕ) (f : ℕ) (d : List ℕ)
+        → Emits (Refused A) V.takes V.refuses result actor.old actor.new bytes.now finished
         (Dcs o x f d) }
     ensures ready { OnOk result (V.is_ready actor.new) }
 {
@@ -122,7 +122,7 @@ pub fn dcs<A: Allocator + Copy, V: VTActor>(
             if run == body.len() {
                 return Ok(());
             }
-            tell_dcs(
+            emit_dcs(
                 alloc,
                 &body[..run],
                 body[run],
@@ -136,7 +136,7 @@ pub fn dcs<A: Allocator + Copy, V: VTActor>(
 }
 
 // The hook, the data and the unhook of a string with this header, final byte and data.
-fn tell_dcs<A: Allocator + Copy, V: VTActor>(
+fn emit_dcs<A: Allocator + Copy, V: VTActor>(
     alloc: A,
     x: &[u8],
     last: u8,
@@ -145,7 +145,7 @@ fn tell_dcs<A: Allocator + Copy, V: VTActor>(
     actor: &mut V,
 ) -> Result<()>
     requires { V.is_ready actor.old }
-    ensures told { Takes (Refused A) V.takes V.refuses result actor.old
+    ensures emitted { Takes (Refused A) V.takes V.refuses result actor.old
         (if is_dcs_header (strip x.now) then (hook_event (strip x.now) last ∷ puts content.now)
         ++ (if finished then DcsUnhook ∷ [] else []) else []) actor.new }
     ensures ready { OnOk result (V.is_ready actor.new) }
@@ -184,7 +184,7 @@ fn hook<A: Allocator + Copy, V: VTActor>(
     requires ready { V.is_ready actor.old }
     requires kept { KeepsDcs header.now (strip x.now) }
     requires formed { is_dcs_header (strip x.now) ≡ true }
-    ensures told { Takes (Refused A) V.takes V.refuses result actor.old
+    ensures emitted { Takes (Refused A) V.takes V.refuses result actor.old
         (hook_event (strip x.now) last ∷ []) actor.new }
     ensures ready { OnOk result (V.is_ready actor.new) }
 {
@@ -199,7 +199,7 @@ fn hook<A: Allocator + Copy, V: VTActor>(
 
 // The parameters that the bytes write.
 fn params_in<A: Allocator + Copy>(alloc: A, x: &[u8]) -> Result<Vec<i64, A>>
-    ensures ok { IfOk result (λ v. v.items ≡ map (λ p. pos (held (value_behind 0 p)))
+    ensures ok { IfOk result (λ v. v.items ≡ map (λ p. pos (held (value_after 0 p)))
         (parts_of (parameters_of (strip x.now)))) }
     ensures refused { OnErr result (Refused A) }
 {
@@ -220,7 +220,7 @@ fn parameter_bytes<A: Allocator>(alloc: A, x: &[u8]) -> Result<Vec<u8, A>>
 // The data, and the unhook.
 fn put_and_end<V: VTActor>(content: &[u8], finished: bool, actor: &mut V) -> Result<()>
     requires { V.is_ready actor.old }
-    ensures told { Takes ⊥ V.takes V.refuses result actor.old
+    ensures emitted { Takes ⊥ V.takes V.refuses result actor.old
         (puts content.now ++ (if finished then DcsUnhook ∷ [] else [])) actor.new }
     ensures ready { OnOk result (V.is_ready actor.new) }
 {
@@ -233,7 +233,7 @@ fn put_and_end<V: VTActor>(content: &[u8], finished: bool, actor: &mut V) -> Res
 // The data, byte by byte.
 fn put_all<V: VTActor>(content: &[u8], actor: &mut V) -> Result<()>
     requires { V.is_ready actor.old }
-    ensures told { Takes ⊥ V.takes V.refuses result actor.old (puts content.now) actor.new }
+    ensures emitted { Takes ⊥ V.takes V.refuses result actor.old (puts content.now) actor.new }
     ensures ready { OnOk result (V.is_ready actor.new) }
 {
     for b in content {

@@ -1,4 +1,4 @@
 pub mod Bodies
 pub mod CsisBack
-pub mod EntriesText
+pub mod ParamsText
 pub mod Renditions

@@ -12,10 +12,10 @@ use Rattle.esc_sequences.specs.declared.intensity.Intensity.TheVariants as inten
 use Rattle.esc_sequences.specs.declared.sgr.Sgr.{Sgr}
 use Rattle.esc_sequences.specs.declared.sgr.Sgr.TheVariants.{Reset, Intensity, Italic, Underline}
 use Rattle.esc_sequences.specs.declared.underline.Underline.TheVariants as underline
-use Rattle.esc_values.specs.Entries.{is_body_byte, is_csi_body, entries, entries_text}
+use Rattle.esc_values.specs.Params.{is_body_byte, is_csi_body, csi_params, csi_params_text}
 
--- a control sequence, without where it lies in memory: a rendition, or entries, whether there are
--- more, and a final byte
+-- a control sequence, without where it lies in memory: a rendition, or parameters, whether there
+-- are more, and a final byte
 pub data CsiValue : Type 0 where
   sgr : Sgr → CsiValue
   unspecified : List CsiParam → Bool → ℕ → CsiValue
@@ -77,9 +77,9 @@ abbrev pub is_separator : CsiParam → Bool
 is_separator (Integer n) = false
 is_separator (P b) = b == 0x3b
 
--- What entries, whether there were more of them, and a final byte are: with the final byte `m`,
+-- What parameters, whether there were more of them, and a final byte are: with the final byte `m`,
 -- where none was left out and the items between `;` are all renditions, these; else one sequence as
--- it is. No entry is one empty item.
+-- it is. No parameter is one empty item.
 abbrev pub csi_of : List CsiParam → Bool → ℕ → List CsiValue
 csi_of params truncated control =
     let whole = unspecified params truncated control ∷ [] in
@@ -109,22 +109,22 @@ sgr_text s = 0x1b ∷ 0x5b ∷ (sgr_body s ++ 0x6d ∷ [])
 -- what comes between `ESC [` and the final byte
 abbrev pub csi_body : CsiValue → List ℕ
 csi_body (sgr s) = sgr_body s
-csi_body (unspecified es more f) = entries_text es
+csi_body (unspecified es more f) = csi_params_text es
 
 -- the text of a control sequence
 abbrev pub csi_text : CsiValue → List ℕ
 csi_text (sgr s) = sgr_text s
-csi_text (unspecified es more f) = 0x1b ∷ 0x5b ∷ (entries_text es ++ encode_utf8 f)
+csi_text (unspecified es more f) = 0x1b ∷ 0x5b ∷ (csi_params_text es ++ encode_utf8 f)
 
--- the body of a control sequence, of which no entry is left out
+-- the body of a control sequence, of which no parameter is left out
 abbrev pub IsWholeBody : List ℕ → Type 0
 IsWholeBody x = (list_all is_body_byte x ≡ true) × (is_csi_body x ≡ true)
-    × (length (entries x) ≤ 256)
+    × (length (csi_params x) ≤ 256)
 
 -- the value's text is one control sequence with this final byte, which is read as this one value
 abbrev pub ReadsBack : ℕ → CsiValue → Type 0
 ReadsBack f v = (csi_text v ≡ 0x1b ∷ 0x5b ∷ (csi_body v ++ f ∷ [])) × IsWholeBody (csi_body v)
-    × (csi_of (entries (csi_body v)) false f ≡ v ∷ [])
+    × (csi_of (csi_params (csi_body v)) false f ≡ v ∷ [])
 
 abbrev pub ReadBack : ℕ → List CsiValue → Type 0
 ReadBack f [] = Unit {0}

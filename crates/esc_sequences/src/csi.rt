@@ -27,9 +27,9 @@ pub enum CSI<A: Allocator = Global> {
     Unspecified(Boxed<Unspecified<A>, A>),
 }
 
-/// Whether what [`parse`](CSI::parse) returns for these entries is one `Unspecified` of them, which
-/// needs no value to be written: a [`BorrowedSequence`](crate::BorrowedSequence) is written as it
-/// is.
+/// Whether what [`parse`](CSI::parse) returns for these parameters is one `Unspecified` of them,
+/// which needs no value to be written: a [`BorrowedSequence`](crate::BorrowedSequence) is written
+/// as it is.
 pub fn is_unspecified(params: &[CsiParam], parameters_truncated: bool, control: u8) -> bool
     ensures { IsTrue result
         → csi_of params.now parameters_truncated control
@@ -47,12 +47,12 @@ pub fn short_rendition(params: &[CsiParam], parameters_truncated: bool, control:
     if control != b'm' || parameters_truncated {
         return None;
     }
-    lone_entry(params)
+    lone_param(params)
 }
 
-// The rendition of at most one entry.
+// The rendition of at most one parameter.
 #[inline]
-fn lone_entry(params: &[CsiParam]) -> Option<Sgr>
+fn lone_param(params: &[CsiParam]) -> Option<Sgr>
     ensures { IfSome result (λ s. renditions (slice_split is_separator params.now)
         ≡ Some (sgr s ∷ [])) }
 {
@@ -63,10 +63,10 @@ fn lone_entry(params: &[CsiParam]) -> Option<Sgr>
 }
 
 impl<A: Allocator + Copy> CSI<A> {
-    /// What the entries of a body and a final byte are. Where the final byte is `m`, no entry was
-    /// left out, and the entries are items between `;` that are all renditions, these renditions,
-    /// in order; no entry is one empty item. Anything else is one `Unspecified` of the same
-    /// entries. The error is that memory was refused.
+    /// What the parameters of a body and a final byte are. Where the final byte is `m`, no
+    /// parameter was left out, and the parameters are items between `;` that are all renditions,
+    /// these renditions, in order; no parameter is one empty item. Anything else is one
+    /// `Unspecified` of the same parameters. The error is that memory was refused.
     ///
     /// Renditions are: nothing and 0, reset; 1 bold, 2 faint, 22 neither; 3 slanted, 23 not; 4
     /// underlined, 21 twice, 24 not; and `4:0` to `4:5`, the kinds of underlines from none to
@@ -89,7 +89,7 @@ impl<A: Allocator + Copy> CSI<A> {
         let mut read = Vec::new(alloc);
         memory::push(
             &mut read,
-            as_it_stands(alloc, params, parameters_truncated, control)?,
+            as_it_came(alloc, params, parameters_truncated, control)?,
         )?;
         Ok(read)
     }
@@ -115,14 +115,14 @@ impl<A: Allocator + Copy> CSI<A> {
         if control == b'm' && !parameters_truncated && are_renditions(params) {
             return Ok(lone_rendition(params).map(|sgr| CSI::Sgr(sgr)));
         }
-        let read = as_it_stands(alloc, params, parameters_truncated, control)?;
+        let read = as_it_came(alloc, params, parameters_truncated, control)?;
         Ok(Some(read))
     }
 }
 
 // The sequence as it is.
 #[inline]
-fn as_it_stands<A: Allocator + Copy>(
+fn as_it_came<A: Allocator + Copy>(
     alloc: A,
     params: &[CsiParam],
     parameters_truncated: bool,
@@ -144,7 +144,8 @@ fn as_it_stands<A: Allocator + Copy>(
 fn lone_rendition(params: &[CsiParam]) -> Option<Sgr>
     ensures one { IfSome result (λ s. renditions (slice_split is_separator params.now)
         ≡ Some (sgr s ∷ [])) }
-    ensures several { IfNone result (IfSome (renditions (slice_split is_separator params.now)) (λ vs.
+    ensures several { IfNone result
+        (IfSome (renditions (slice_split is_separator params.now)) (λ vs.
         2 ≤ length vs)) }
 {
     if item_len(params) == params.len() {
@@ -195,7 +196,7 @@ fn read_renditions<A: Allocator + Copy>(
     }
 }
 
-// How many entries the first item has.
+// How many parameters the first item has.
 fn item_len(params: &[CsiParam]) -> usize
     ensures first { result ≡ position_or_len is_separator params.now }
     ensures few { result ≤ length params.now }
@@ -207,7 +208,7 @@ fn item_len(params: &[CsiParam]) -> usize
     len
 }
 
-// What follows an item of this many entries and the `;` that ends it.
+// What follows an item of this many parameters and the `;` that ends it.
 fn after_item(params: &[CsiParam], len: usize) -> &[CsiParam]
     requires { len < length params.now }
     ensures { result.now ≡ drop (len + 1) params.now }

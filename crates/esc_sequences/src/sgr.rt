@@ -23,7 +23,7 @@ pub enum Sgr {
 }
 
 impl Sgr {
-    // The rendition of an item: the entries between two `;`.
+    // The rendition of an item: the parameters between two `;`.
     #[inline]
     pub(crate) fn from_item(item: &[CsiParam]) -> Option<Sgr>
         ensures { result ≡ rendition item.now }
@@ -67,7 +67,7 @@ fn by_number(number: i64) -> Option<Sgr>
     }
 }
 
-// The rendition of this entry after `4:`.
+// The rendition of this parameter after `4:`.
 fn underline_of(kind: CsiParam) -> Option<Sgr>
     ensures { result ≡ underlined kind }
 {

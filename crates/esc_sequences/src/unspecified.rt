@@ -2,7 +2,7 @@
 ghost use Rattle.std.specs.Prelude.{Some};
 ghost use Rattle.std.specs.Fmt.{DisplaysOnOk};
 ghost use Rattle.esc_sequences.specs.Csis.{csi_text, unspecified};
-ghost use Rattle.esc_values.specs.Entries.{entry_text, entries_text};
+ghost use Rattle.esc_values.specs.Params.{param_text, csi_params_text};
 
 use esc_values::number::write_number;
 use esc_values::{CsiParam, Items};
@@ -14,16 +14,17 @@ use std::fmt::Display;
 #[derive(Drop)]
 #[derive_where(Debug, PartialEq)]
 pub struct Unspecified<A: Allocator = Global> {
-    /// The entries of its body.
+    /// The parameters of its body.
     pub params: Items<CsiParam, A>,
-    /// Whether the body has more entries, which are not kept.
+    /// Whether the body has more parameters, which are not kept.
     pub parameters_truncated: bool,
     /// The final byte, 40 to 7E (hexadecimal).
     pub control: u8,
 }
 
-/// Writes `ESC [`, each entry as its decimal number or its character, and the final byte. A byte is
-/// written as the character of the same number. Where it returns `Ok`, all of it was written.
+/// Writes `ESC [`, each parameter as its decimal number or its character, and the final byte. A
+/// byte is written as the character of the same number. Where it returns `Ok`, all of it was
+/// written.
 impl<A: Allocator> fmt::Display for Unspecified<A> {
     ghost output = { λ u. Some (csi_text (unspecified u.params u.parameters_truncated u.control)) };
 
@@ -37,42 +38,44 @@ impl<A: Allocator> fmt::Display for Unspecified<A> {
     }
 }
 
-/// A control sequence that has no name, of entries that are kept elsewhere: it is written without a
-/// copy of them.
+/// A control sequence that has no name, of parameters that are kept elsewhere: it is written
+/// without a copy of them.
 #[derive(Clone, Copy)]
 pub struct BorrowedSequence<'a> {
-    /// The entries of its body.
+    /// The parameters of its body.
     pub params: &'a [CsiParam],
-    /// Whether the body has more entries, which are not kept.
+    /// Whether the body has more parameters, which are not kept.
     pub parameters_truncated: bool,
     /// The final byte, 40 to 7E (hexadecimal).
     pub control: u8,
 }
 
-/// Writes what [`Unspecified`] of the same entries writes.
+/// Writes what [`Unspecified`] of the same parameters writes.
 impl<'a> fmt::Display for BorrowedSequence<'a> {
-    ghost output = { λ u. Some (csi_text (unspecified u.params.now u.parameters_truncated u.control)) };
+    ghost output = { λ u. Some
+        (csi_text (unspecified u.params.now u.parameters_truncated u.control)) };
 
     fn fmt<W: fmt::Write>(&self, f: &mut fmt::Formatter<W>) -> fmt::Result {
         f.write_str("\x1b[")?;
-        write_entries(self.params, f)?;
+        write_csi_params(self.params, f)?;
         f.write_char(char::from(self.control))
     }
 }
 
-// The entries, one after another.
-fn write_entries<W: fmt::Write>(params: &[CsiParam], f: &mut fmt::Formatter<W>) -> fmt::Result
-    ensures { DisplaysOnOk W.write_str_gives f.old result (Some (entries_text params.now)) f.new }
+// The parameters, one after another.
+fn write_csi_params<W: fmt::Write>(params: &[CsiParam], f: &mut fmt::Formatter<W>) -> fmt::Result
+    ensures { DisplaysOnOk W.write_str_gives f.old result
+        (Some (csi_params_text params.now)) f.new }
 {
     for param in params {
-        write_entry(*param, f)?;
+        write_param(*param, f)?;
     }
     Ok(())
 }
 
-// An entry, as its decimal number or its character.
-fn write_entry<W: fmt::Write>(param: CsiParam, f: &mut fmt::Formatter<W>) -> fmt::Result
-    ensures { DisplaysOnOk W.write_str_gives f.old result (Some (entry_text param)) f.new }
+// A parameter, as its decimal number or its character.
+fn write_param<W: fmt::Write>(param: CsiParam, f: &mut fmt::Formatter<W>) -> fmt::Result
+    ensures { DisplaysOnOk W.write_str_gives f.old result (Some (param_text param)) f.new }
 {
     match param {
         CsiParam::Integer(number) => write_number(number, f),

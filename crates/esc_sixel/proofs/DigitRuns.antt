@@ -5,7 +5,7 @@ use Rattle.std.specs.Option.{unwrap_or}
 use Rattle.std.proofs.lemmas.Bool.Decides.{nat_tests}
 use Rattle.std.proofs.lemmas.List.{get_or-set_same, length-set, set-set, take_more}
 use Rattle.std.proofs.lemmas.List.Elements.{All-append, All-nil, All-cons}
-use Rattle.esc_values.specs.Entries.{held}
+use Rattle.esc_values.specs.Params.{held}
 use Rattle.esc_sixel.specs.Classes.{IsDigit}
 use Rattle.esc_sixel.specs.Lines.{number_after}
 use Rattle.esc_sixel.specs.Runs.{more_digit, more_digits}

@@ -6,7 +6,7 @@ use Rattle.std.specs.Option.{option_map, unwrap_or}
 use Rattle.std.proofs.lemmas.Bool.{leb-true, cases_Bool}
 use Rattle.std.proofs.lemmas.Bool.Decides.{nat_tests}
 use borrow.Author.Tests.{ltb-true}
-use Rattle.esc_values.specs.Entries.{held}
+use Rattle.esc_values.specs.Params.{held}
 use Rattle.esc_values.specs.Scalars.{and_then, when}
 use Rattle.esc_values.proofs.Where.{Where, where_if}
 use Rattle.esc_sixel.specs.Classes.{class_of}

@@ -6,7 +6,7 @@ use Rattle.std.specs.Fmt.{decimal}
 use Rattle.std.proofs.lemmas.Bool.{eqb-true, cases_Bool, and_parts}
 use Rattle.std.proofs.lemmas.List.Elements.{All-from_recursion}
 use Rattle.std.proofs.lemmas.List.Splits.{slice_split_none}
-use Rattle.esc_values.specs.Entries.{held, value_behind, is_digit}
+use Rattle.esc_values.specs.Params.{held, value_after, is_digit}
 use Rattle.esc_sixel.proofs.Pieces.{are_digits, decimal_piece, digit_bytes, not_separator}
 use Rattle.esc_sixel.specs.Meaning.{pan_number, is_one}
 use Rattle.esc_sixel.specs.Texts.{flag_text, background_text, short_form}
@@ -22,7 +22,7 @@ pub record Means (pan pad : ℤ) (m : List ℕ) : Type 0 where
   pub is : m ≡ digit ∷ []
   pub byte : is_parameter_byte digit ≡ true
   pub other : semi digit ≡ false
-  pub value : held (value_behind 0 (digit ∷ [])) ≡ number
+  pub value : held (value_after 0 (digit ∷ [])) ≡ number
   pub pan_is : pos (pan_number number) ≡ pan
   pub pad_is : pos 1 ≡ pad
 
@@ -32,7 +32,7 @@ MeansIn pan pad None = Unit {0}
 MeansIn pan pad (Some m) = Means pan pad m
 
 means_by : (digit number n : ℕ) → is_parameter_byte digit ≡ true → semi digit ≡ false
-    → held (value_behind 0 (digit ∷ [])) ≡ number → pan_number number ≡ n
+    → held (value_after 0 (digit ∷ [])) ≡ number → pan_number number ≡ n
     → Means (pos n) (pos 1) (digit ∷ [])
 means_by digit number n byte other value is = record {
   digit = digit;
@@ -108,7 +108,7 @@ grid_list None = []
 grid_list (Some z) = z ∷ []
 
 abbrev number_of_piece : List ℕ → ℤ
-number_of_piece p = pos (held (value_behind 0 p))
+number_of_piece p = pos (held (value_after 0 p))
 
 flag_is : (t : Bool) → number_of_piece (flag_text t) ≡ flag_number t
 flag_is true = refl
@@ -137,7 +137,7 @@ pub params_plain : (t : Bool) (g : Option ℤ) → IsGrid g
 params_plain t g h = ap (λ r. pos 0 ∷ r) (background_numbers t g h)
 
 pub params_first : (d v : ℕ) (t : Bool) (g : Option ℤ) → semi d ≡ false
-    → held (value_behind 0 (d ∷ [])) ≡ v → IsGrid g
+    → held (value_after 0 (d ∷ [])) ≡ v → IsGrid g
     → params_of (d ∷ 0x3b ∷ background_text t g) ≡ pos v ∷ flag_number t ∷ grid_list g
 params_first d v t g other value h =
     rw other (ap (λ k. pos k ∷ map number_of_piece (slice_split semi (background_text t g))) value

@@ -9,7 +9,7 @@ use Rattle.std.proofs.lemmas.Fmt.{digits_decimal, digits_value-decimal, decimal_
 use Rattle.std.proofs.lemmas.List.Folds.{list_all-append}
 use Rattle.std.proofs.lemmas.Str.Parse.{IsNumeralModel, numerals_by_fold}
 use Rattle.esc_values.specs.Clear.{joined}
-use Rattle.esc_values.specs.Entries.{is_digit, value_behind}
+use Rattle.esc_values.specs.Params.{is_digit, value_after}
 use Rattle.esc_sixel.specs.Runs.{numbers_after, separators}
 use Rattle.esc_sixel.specs.Writable.{is_parameter_byte, is_data_byte}
 
@@ -17,14 +17,14 @@ abbrev pub are_digits : List ℕ → Bool
 are_digits [] = true
 are_digits (b ∷ bs) = is_digit b && are_digits bs
 
-own : IsNumeralModel (λ ds. are_digits ds ≡ true) (value_behind 0)
-own = numerals_by_fold _ (search rules) value_behind (search rules)
+own : IsNumeralModel (λ ds. are_digits ds ≡ true) (value_after 0)
+own = numerals_by_fold _ (search rules) value_after (search rules)
 
 -- digits that write a number
 pub record IsPiece (p : List ℕ) (n : ℕ) : Type 0 where
   pub digits : are_digits p ≡ true
   pub some : 0 < length p
-  pub value : value_behind 0 p ≡ n
+  pub value : value_after 0 p ≡ n
 
 pub decimal_piece : (n : ℕ) → n < 2 ^ 64 → IsPiece (decimal n) n
 decimal_piece n small = record {
@@ -45,7 +45,7 @@ not_separator b d = grind (arith, nat_tests)
 
 -- the numbers of a run
 goes_on : (m : ℕ) (ds rest : List ℕ) → are_digits ds ≡ true
-    → numbers_after (Some m) (ds ++ 0x3b ∷ rest) ≡ Some (value_behind m ds)
+    → numbers_after (Some m) (ds ++ 0x3b ∷ rest) ≡ Some (value_after m ds)
     ∷ numbers_after None rest
 goes_on m [] rest h = refl
 goes_on m (d ∷ ds) rest h =
@@ -53,7 +53,7 @@ goes_on m (d ∷ ds) rest h =
     rw (not_separator d q.0) (goes_on (10 * m + (d - 0x30)) ds rest q.1)
 
 ends_run : (m : ℕ) (ds : List ℕ) → are_digits ds ≡ true
-    → numbers_after (Some m) ds ≡ Some (value_behind m ds) ∷ []
+    → numbers_after (Some m) ds ≡ Some (value_after m ds) ∷ []
 ends_run m [] h = refl
 ends_run m (d ∷ ds) h =
     let q = and_parts (is_digit d) (are_digits ds) h in

@@ -7,7 +7,7 @@ use Rattle.std.proofs.lemmas.List.{length-set, length-take, take_all, take_more}
 use Rattle.std.proofs.Math.Seq.{take-add}
 use Rattle.std.specs.List.{FoldsTo, All}
 use Rattle.std.proofs.lemmas.List.Elements.{All-head, All-tail}
-use Rattle.esc_values.specs.Entries.{held}
+use Rattle.esc_values.specs.Params.{held}
 use Rattle.esc_sixel.specs.Classes.{class_of, IsDigit, IsPixels}
 use Rattle.esc_sixel.specs.Lines.{Ends, fresh, number_after}
 use Rattle.esc_sixel.specs.Runs.{Keeps, param, separators, more_digit, more_digits}

@@ -6,7 +6,7 @@ use Rattle.std.proofs.lemmas.Bool.{eqb-false, eqb-true, cases_Bool}
 use Rattle.std.proofs.lemmas.List.{get_or-set_same, get_or-set_other}
 use Rattle.std.proofs.lemmas.Bool.{ne_eqb}
 use Rattle.esc_sixel.specs.Runs.{numbers_after, param, separators}
-use Rattle.esc_values.specs.Entries.{held}
+use Rattle.esc_values.specs.Params.{held}
 
 next_end : (n : Option ℕ) (k : ℕ) → get_or (n ∷ None ∷ []) k None ≡ get_or (n ∷ []) k None
 next_end n zero = refl

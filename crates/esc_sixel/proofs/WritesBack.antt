@@ -8,7 +8,7 @@ use Rattle.std.specs.Fmt.{decimal, signed_decimal}
 use Rattle.std.proofs.lemmas.Bool.{le-leb}
 use Rattle.std.proofs.lemmas.List.Folds.{list_all-append}
 use Rattle.esc_values.specs.Clear.{joined}
-use Rattle.esc_values.specs.Entries.{held}
+use Rattle.esc_values.specs.Params.{held}
 use Rattle.esc_values.specs.Scalars.{and_then, when}
 use Rattle.esc_sixel.proofs.Headers.{Means, MeansIn, means, flag_number, grid_list, params_plain, params_first, flag_back, grid_back, background_bytes}
 use Rattle.esc_sixel.proofs.Pieces.{IsPiece, ArePieces, decimal_piece, run_numbers, run_separators, run_bytes, data_bytes}

@@ -8,7 +8,7 @@ use Rattle.std.proofs.lemmas.Bool.{eqb-true, cases_Bool, and_parts}
 use Rattle.std.proofs.lemmas.Bool.Decides.{nat_tests}
 use Rattle.std.proofs.lemmas.List.Folds.{list_all-append}
 use Rattle.esc_values.specs.Clear.{joined}
-use Rattle.esc_values.specs.Entries.{held, is_digit}
+use Rattle.esc_values.specs.Params.{held, is_digit}
 use Rattle.esc_sixel.proofs.Pieces.{are_digits, ArePieces, IsPiece, decimal_piece, piece_last, run_numbers, run_separators, run_bytes, digit_bytes, data_bytes}
 use Rattle.esc_sixel.specs.Classes.{class_of}
 use Rattle.esc_sixel.specs.Items.{Item, OfReturn, OfLine, OfPixels, OfRepeat, OfColor, OfRaster, Outside, InRepeat, InRun, in_run, run_of, after_run, items_at}

@@ -1,7 +1,7 @@
 -- What a byte is to sixel data.
 use Rattle.std.specs.Prelude.{ℕ, ◌≡◌, ◌-◌, ◌==◌, Bool, true, nat_lt, if◌then◌else◌}
 use Rattle.std.specs.Int.{w64, trailing_zeros}
-use Rattle.esc_values.specs.Entries.{is_digit, is_from}
+use Rattle.esc_values.specs.Params.{is_digit, is_from}
 use Rattle.esc_sixel.specs.declared.class.Class.{Class}
 use Rattle.esc_sixel.specs.declared.class.Class.TheVariants.{Return, Line, Pixels, Introduces, Digit, Separator, Junk}
 use Rattle.esc_sixel.specs.declared.introducer.Introducer.TheVariants as introducer

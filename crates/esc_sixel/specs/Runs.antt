@@ -1,6 +1,6 @@
 -- The parameters of a command: what its run of digits and `;` says.
 use Rattle.std.specs.Prelude.{ℕ, ◌+◌, ◌*◌, ◌<◌, ◌≡◌, ◌-◌, ◌==◌, min, if◌then◌else◌, List, [], ◌∷◌, get_or, set, Option, Some, None, option_map, unwrap_or}
-use Rattle.esc_values.specs.Entries.{held}
+use Rattle.esc_values.specs.Params.{held}
 use Rattle.esc_sixel.specs.declared.parameters.Parameters.{Parameters}
 
 -- The numbers of the pieces between `;`, none for an empty piece. The first piece goes on one that

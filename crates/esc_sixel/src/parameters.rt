@@ -4,7 +4,7 @@ ghost use Rattle.std.specs.List.{All};
 ghost use Rattle.esc_sixel.specs.Classes.{IsDigit};
 ghost use Rattle.esc_sixel.specs.Lines.{fresh};
 ghost use Rattle.esc_sixel.specs.Runs.{Keeps, more_digits, param, separators};
-ghost use Rattle.esc_values.specs.Entries.{held};
+ghost use Rattle.esc_values.specs.Params.{held};
 
 // The first five parameters of a run of digits and `;`. Takes no memory.
 #[derive(Clone, Copy)]

@@ -46,9 +46,9 @@ part_append x y (cs, all, e) (ds, more, f) = (
 )
 
 -- what follows the first character, where that is ASCII
-behind_first : (c b : ℕ) (ds r : List ℕ) → b < 128 → c ≡ b
+after_first : (c b : ℕ) (ds r : List ℕ) → b < 128 → c ≡ b
     → encode_utf8 c ++ encode_utf8_all ds ≡ b ∷ r → encode_utf8_all ds ≡ r
-behind_first c b ds r small same e =
+after_first c b ds r small same e =
     let whole : b ∷ encode_utf8_all ds ≡ b ∷ r = rw (same, encode_ascii b small) at e in
     cc
 
@@ -61,4 +61,4 @@ pub tail_part : (b : ℕ) (r : List ℕ) → b < 128 → ((c : ℕ) → 0 < leng
 tail_part b r small some ([], all, e) = absurd cc
 tail_part b r small some (c ∷ ds, all, e) =
     let q = and_parts (is_part_char c) (list_all is_part_char ds) all in
-    (ds, q.1, behind_first c b ds r small (first_char c b ds r small e (some c)) e)
+    (ds, q.1, after_first c b ds r small (first_char c b ds r small e (some c)) e)

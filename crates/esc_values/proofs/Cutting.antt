@@ -91,22 +91,22 @@ abbrev pub BothClear : List ℕ × List ℕ → Type 0
 BothClear p = IsClearPart p.0 × IsClearPart p.1
 
 -- what comes before the cut, with x before it
-abbrev Behind : List ℕ → Option (List ℕ × List ℕ) → Option (List ℕ × List ℕ)
-Behind x o = option_map (λ (p : List ℕ × List ℕ). (x ++ p.0, p.1)) o
+abbrev After : List ℕ → Option (List ℕ × List ℕ) → Option (List ℕ × List ℕ)
+After x o = option_map (λ (p : List ℕ × List ℕ). (x ++ p.0, p.1)) o
 
-behind_none : (o : Option (List ℕ × List ℕ)) → o ≡ Behind [] o
-behind_none None = refl
-behind_none (Some p) = refl
+after_none : (o : Option (List ℕ × List ℕ)) → o ≡ After [] o
+after_none None = refl
+after_none (Some p) = refl
 
-behind_one : (a : ℕ) (x : List ℕ) (o : Option (List ℕ × List ℕ))
-    → option_map (λ (p : List ℕ × List ℕ). (a ∷ p.0, p.1)) (Behind x o) ≡ Behind (a ∷ x) o
-behind_one a x None = refl
-behind_one a x (Some p) = refl
+after_one : (a : ℕ) (x : List ℕ) (o : Option (List ℕ × List ℕ))
+    → option_map (λ (p : List ℕ × List ℕ). (a ∷ p.0, p.1)) (After x o) ≡ After (a ∷ x) o
+after_one a x None = refl
+after_one a x (Some p) = refl
 
-cut_behind : (b : ℕ) (x r : List ℕ) → Free b x → cut_at b (x ++ r) ≡ Behind x (cut_at b r)
-cut_behind b [] r h = behind_none (cut_at b r)
-cut_behind b (a ∷ x) r h = let q = free_parts b a x h in
-    rw (q.0, cut_behind b x r q.1) (behind_one a x (cut_at b r))
+cut_after : (b : ℕ) (x r : List ℕ) → Free b x → cut_at b (x ++ r) ≡ After x (cut_at b r)
+cut_after b [] r h = after_none (cut_at b r)
+cut_after b (a ∷ x) r h = let q = free_parts b a x h in
+    rw (q.0, cut_after b x r q.1) (after_one a x (cut_at b r))
 
 cut_here : (b : ℕ) (r : List ℕ) → cut_at b (b ∷ r) ≡ Some ([], r)
 cut_here b r = rw (eq-eqb b b refl) refl
@@ -115,7 +115,7 @@ cut_here b r = rw (eq-eqb b b refl) refl
 pub cut_there : (b : ℕ) (x r : List ℕ) → Free b x → cut_at b (x ++ b ∷ r) ≡ Some (x, r)
 cut_there b x r h =
     let f : List ℕ → Option (List ℕ × List ℕ) = λ t. Some (t, r) in
-    cut_behind b x (b ∷ r) h ∙ rw (cut_here b r) (ap f (append-nil x))
+    cut_after b x (b ∷ r) h ∙ rw (cut_here b r) (ap f (append-nil x))
 
 part_more : (c : ℕ) (p : List ℕ) → is_part_char c ≡ true → IsClearPart p
     → IsClearPart (encode_utf8 c ++ p)
@@ -135,7 +135,7 @@ cut_chars b (c ∷ cs) small h =
             no_part,
             (cs, q.1, refl),
           )
-      | inr failed ↦ rw (cut_behind b (encode_utf8 c) (encode_utf8_all cs)
+      | inr failed ↦ rw (cut_after b (encode_utf8 c) (encode_utf8_all cs)
           (encode_free b c small (eqb-false c b failed)))
           (where_map BothClear BothClear (λ p. (encode_utf8 c ++ p.0, p.1)) (λ p k.
           (part_more c p.0 q.0 k.0, k.1)) (cut_at b (encode_utf8_all cs))

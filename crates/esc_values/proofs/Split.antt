@@ -89,16 +89,16 @@ encode_is = refl
 semi_clear : IsClearText (0x3b ∷ [])
 semi_clear = (0x3b ∷ [], refl, encode_is)
 
-behind_clear : (ps : List (List ℕ)) → AreClearParts ps → IsClearText (flat_map (λ q. 0x3b ∷ q) ps)
-behind_clear [] h = ([], refl, refl)
-behind_clear (q ∷ ps) h =
+after_clear : (ps : List (List ℕ)) → AreClearParts ps → IsClearText (flat_map (λ q. 0x3b ∷ q) ps)
+after_clear [] h = ([], refl, refl)
+after_clear (q ∷ ps) h =
     clear_append (0x3b ∷ []) (q ++ flat_map (λ q. 0x3b ∷ q) ps) semi_clear
-    (clear_append q (flat_map (λ q. 0x3b ∷ q) ps) (part_clear q h.0) (behind_clear ps h.1))
+    (clear_append q (flat_map (λ q. 0x3b ∷ q) ps) (part_clear q h.0) (after_clear ps h.1))
 
 pub joined_clear : (ps : List (List ℕ)) → AreClearParts ps → IsClearText (joined ps)
 joined_clear [] h = ([], refl, refl)
 joined_clear (p ∷ ps) h =
-    clear_append p (flat_map (λ q. 0x3b ∷ q) ps) (part_clear p h.0) (behind_clear ps h.1)
+    clear_append p (flat_map (λ q. 0x3b ∷ q) ps) (part_clear p h.0) (after_clear ps h.1)
 
 pub split_joined : (p : List ℕ) (ps : List (List ℕ)) → AreClearParts (p ∷ ps)
     → slice_split semi (joined (p ∷ ps)) ≡ p ∷ ps

@@ -1,5 +1,5 @@
 pub mod Base64
 pub mod Clear
 pub mod Cuts
-pub mod Entries
+pub mod Params
 pub mod Scalars

@@ -1,10 +1,11 @@
 //! Values that the framing and the codecs share: texts, lists and boxes that contracts see as plain
 //! values, the error of a reading that may fail, numbers, colours of three channels, base64, a text
-//! cut at a byte, and an entry of a control sequence's parameters.
+//! cut at a byte, and a parameter of a control sequence's parameters.
 //!
-//! A list that takes memory of the allocator it owns: `let mut entries = Items::from_slice(alloc,
-//! &[CsiParam::Integer(1)])?;` and `entries.push(CsiParam::P(b';'))?;` hold `1` and `;`, and print
-//! as such.
+//! A list that takes memory of the allocator it owns: `let mut parameters =
+//! Items::from_slice(alloc,
+//! &[CsiParam::Integer(1)])?;` and `parameters.push(CsiParam::P(b';'))?;` hold `1` and `;`, and
+//! print as such.
 //!
 //! A user of this library takes these names from `esc_below` or `escape_stream`.
 #![tactic(auto)]

@@ -57,19 +57,19 @@ text_unless_sixel (action.DeviceControl m) other = device_text m
 text_unless_sixel a other = refl
 
 -- all of a list: of its first n, and of what follows
-module _ {X : Type 0} (p : X → Bool) (n : ℕ) (xs front back : List X) (f : front ≡ take n xs)
+module _ {X : Type 0} (p : X → Bool) (n : ℕ) (xs prefix back : List X) (f : prefix ≡ take n xs)
     (b : back ≡ drop n xs) where
-  all_split : list_all p xs ≡ (list_all p front && list_all p back)
+  all_split : list_all p xs ≡ (list_all p prefix && list_all p back)
   all_split =
       ap (list_all p) (sym (take-append-drop n xs)) ∙ list_all-append p (take n xs) (drop n xs)
       ∙ ap (λ ys. list_all p ys && list_all p (drop n xs)) (sym f)
-      ∙ ap (λ ys. list_all p front && list_all p ys) (sym b)
+      ∙ ap (λ ys. list_all p prefix && list_all p ys) (sym b)
 
-  pub all_back : list_all p front ≡ true → list_all p xs ≡ list_all p back
+  pub all_back : list_all p prefix ≡ true → list_all p xs ≡ list_all p back
   all_back h = all_split ∙ ap (λ t. t && list_all p back) h
 
-  pub none_front : list_all p front ≡ false → list_all p xs ≡ false
-  none_front h = all_split ∙ ap (λ t. t && list_all p back) h
+  pub none_prefix : list_all p prefix ≡ false → list_all p xs ≡ false
+  none_prefix h = all_split ∙ ap (λ t. t && list_all p back) h
 
 -- the text of a run
 spelled_run : {A : Type 0} (xs : List ℕ) (vs : List (Value A)) → IsAscii xs

@@ -1,5 +1,5 @@
--- Control sequences and commands whose text is seen at once: that of the entries, or the text as it
--- came.
+-- Control sequences and commands whose text is seen at once: that of the parameters, or the text as
+-- it came.
 use Rattle.std.specs.Prelude.{ℕ, ℤ, ◌≡◌, ◌⊎◌, ◌==◌, Bool, false, List, [], ◌∷◌, ◌++◌, Option, codes}
 use Rattle.std.specs.Fmt.{decimal}
 use Rattle.std.specs.List.{list_any, slice_split}
@@ -15,11 +15,11 @@ use Rattle.esc_osc.specs.declared.command.OperatingSystemCommand.TheVariants as 
 use Rattle.esc_write.specs.declared.short_numbers.ShortNumbers.{ShortNumbers}
 use Rattle.esc_write.specs.declared.short_numbers.ShortNumbers.TheVariants as short
 
--- one entry, which is a number
+-- one parameter, which is a number
 abbrev pub IsNumber : List CsiParam → Type 0
 IsNumber es = (n : ℤ) × (es ≡ Integer n ∷ [])
 
--- a control sequence whose text is that of its entries, by its form
+-- a control sequence whose text is that of its parameters, by its form
 abbrev pub IsPlain : List CsiParam → Bool → ℕ → Type 0
 IsPlain es more f = IsNumber es ⊎ (csi_of es more f ≡ unspecified es more f ∷ [])
 

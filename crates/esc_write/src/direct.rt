@@ -11,7 +11,7 @@ use esc_values::{CsiParam, Text};
 use std::alloc::{AllocError, Allocator};
 
 /// Appends the text of a control sequence that has no name; a short one is gathered first.
-pub fn append_entries<A: Allocator>(
+pub fn append_csi_params<A: Allocator>(
     text: &mut Text<A>,
     params: &[CsiParam],
     parameters_truncated: bool,
@@ -33,15 +33,15 @@ pub fn append_entries<A: Allocator>(
     }
 }
 
-/// Whether the text of a control sequence is that of its entries: it has no name, or its only entry
-/// is a number, also where that is a rendition.
+/// Whether the text of a control sequence is that of its parameters: it has no name, or its only
+/// parameter is a number, also where that is a rendition.
 pub fn is_plain(params: &[CsiParam], parameters_truncated: bool, control: u8) -> bool
     ensures { IsTrue result → IsPlain params.now parameters_truncated control }
 {
     is_number(params) || is_unspecified(params, parameters_truncated, control)
 }
 
-// Whether the only entry is a number.
+// Whether the only parameter is a number.
 fn is_number(params: &[CsiParam]) -> bool
     ensures { IsTrue result → IsNumber params.now }
 {

@@ -154,7 +154,7 @@ fn write_other<A: Allocator>(
     Ok(action.is_string())
 }
 
-/// Appends the text of an action. A string terminator directly behind a string action adds none.
+/// Appends the text of an action. A string terminator directly after a string action adds none.
 #[inline]
 pub fn write_after<A: Allocator>(
     text: &mut Text<A>,

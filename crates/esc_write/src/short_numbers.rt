@@ -21,7 +21,7 @@ fn ascii(bytes: &[u8]) -> &str
     unsafe { str::from_utf8_unchecked(bytes) }
 }
 
-// The number that an entry is, where it is below 256.
+// The number that a parameter is, where it is below 256.
 #[inline(always)]
 fn small_number(param: CsiParam) -> Option<u8>
     ensures { IfSome result (λ n. param ≡ Integer (pos n)) }
@@ -35,7 +35,7 @@ fn small_number(param: CsiParam) -> Option<u8>
     }
 }
 
-// The number that is the only entry, where it is below 256.
+// The number that is the only parameter, where it is below 256.
 #[inline(always)]
 fn lone_number(params: &[CsiParam]) -> Option<u8>
     ensures { IfSome result (λ n. params.now ≡ Integer (pos n) ∷ []) }
@@ -46,10 +46,10 @@ fn lone_number(params: &[CsiParam]) -> Option<u8>
     small_number(*param)
 }
 
-// These numbers, where the entries are such ones, with `;` between them.
+// These numbers, where the parameters are such ones, with `;` between them.
 #[inline(always)]
 fn palette_numbers(params: &[CsiParam]) -> Option<Indexed>
-    ensures entries { IfSome result (λ i. params.now ≡ Integer (pos i.first) ∷ P 0x3b
+    ensures csi_params { IfSome result (λ i. params.now ≡ Integer (pos i.first) ∷ P 0x3b
         ∷ Integer (pos i.second) ∷ P 0x3b ∷ Integer (pos i.third) ∷ []) }
 {
     let [one, CsiParam::P(b';'), two, CsiParam::P(b';'), three] = params else {
@@ -208,8 +208,8 @@ pub enum ShortNumbers {
 }
 
 impl ShortNumbers {
-    /// What the entries are, where the control sequence is one of these, and its text that of the
-    /// entries.
+    /// What the parameters are, where the control sequence is one of these, and its text that of
+    /// the parameters.
     #[inline(always)]
     pub fn of(params: &[CsiParam], control: u8) -> Option<ShortNumbers>
         ensures plain { IfSome result (λ s. (more : Bool) → IsPlain params.now more control) }

@@ -2,14 +2,14 @@
 ghost use Rattle.std.specs.Prelude.{◌≡◌, ◌+◌, ◌<◌, ◌≤◌, ◌++◌, ◌∷◌, [], Bool, IsTrue, length};
 ghost use Rattle.std.specs.Fmt.{decimal};
 ghost use Rattle.esc_sequences.specs.Csis.{csi_text, unspecified};
-ghost use Rattle.esc_values.specs.Entries.{entry_text};
+ghost use Rattle.esc_values.specs.Params.{param_text};
 
 use crate::short_text::{ROOM, ShortText};
 use esc_values::CsiParam;
 
 impl ShortText {
-    // Appends the text of a control sequence that has no name, where it is short: its entries are
-    // ASCII characters and numbers under 256, and there is room for it.
+    // Appends the text of a control sequence that has no name, where it is short: its parameters
+    // are ASCII characters and numbers under 256, and there is room for it.
     pub(crate) fn push_sequence(&mut self, params: &[CsiParam], control: u8) -> bool
         requires { self.old ≡ [] }
         ensures { (more : Bool) → IsTrue result
@@ -18,7 +18,7 @@ impl ShortText {
         self.push(0x1b);
         self.push(b'[');
         for param in params {
-            if !self.push_entry(*param) {
+            if !self.push_param(*param) {
                 return false;
             }
         }
@@ -29,10 +29,10 @@ impl ShortText {
         true
     }
 
-    // Appends the text of an entry, where that is short and there is room for three bytes.
+    // Appends the text of a parameter, where that is short and there is room for three bytes.
     #[inline(always)]
-    fn push_entry(&mut self, param: CsiParam) -> bool
-        ensures { IsTrue result → self.new ≡ self.old ++ entry_text param }
+    fn push_param(&mut self, param: CsiParam) -> bool
+        ensures { IsTrue result → self.new ≡ self.old ++ param_text param }
     {
         if self.len() > ROOM - 3 {
             return false;

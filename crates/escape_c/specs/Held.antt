@@ -1,4 +1,4 @@
--- What is kept behind a pointer.
+-- What is kept after a pointer.
 use base.Fml.{Fml, ftrue}
 use base.Stored.{Coded}
 use denote.RawPtr.{Ptr}

@@ -4,7 +4,7 @@
 //! Each call takes a stream whole, and returns a status: [`DONE`], or why it was not done. A text
 //! goes into the caller's buffer, as much of it as fits, and its whole length into `needed`; so a
 //! caller makes room and calls again. After any status but `DONE` nothing was written. These calls
-//! keep nothing. The filter in pieces is a [`PieceFilter`] of the caller's, with a block behind it.
+//! keep nothing. The filter in pieces is a [`PieceFilter`] of the caller's, with a block after it.
 //! `include/escape_stream.h` declares the calls for C.
 #![tactic(auto)]
 

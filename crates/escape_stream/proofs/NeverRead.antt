@@ -10,14 +10,14 @@ use Rattle.std.proofs.lemmas.Bool.Decides.{nat_tests}
 use Rattle.std.proofs.lemmas.List.{append_cancel_right, length-append}
 use Rattle.std.proofs.lemmas.Str.{encode_ascii}
 use Rattle.esc_sequences.specs.Csis.{CsiValue, sgr, unspecified, csi_of, is_separator, put_first, rendition, renditions}
-use Rattle.esc_values.specs.Entries.{entries, entries_text, is_body_byte, is_csi_body}
+use Rattle.esc_values.specs.Params.{csi_params, csi_params_text, is_body_byte, is_csi_body}
 use Rattle.esc_values.specs.declared.csi_param.CsiParam.{CsiParam}
 use Rattle.esc_sequences.specs.declared.esc.Esc.{Esc}
 use Rattle.esc_sequences.specs.declared.esc.Esc.TheVariants as esc_variant
 use Rattle.esc_sequences.specs.declared.sgr.Sgr.{Sgr}
 use Rattle.esc_sequences.proofs.CsisBack.{truncated}
 use Rattle.esc_device.specs.Writable.{is_datum, is_high_byte}
-use Rattle.esc_frame.specs.Bodies.{kept_entries, has_more_entries}
+use Rattle.esc_frame.specs.Bodies.{kept_csi_params, has_more_csi_params}
 use Rattle.esc_frame.specs.Classes.{class_of, AllOf, strip, is_noise, in_csi, in_escape, ends_csi, opens}
 use Rattle.esc_frame.specs.Events.{Event}
 use Rattle.esc_frame.specs.Events.Event.{Execute}
@@ -26,14 +26,14 @@ use Rattle.esc_frame.specs.Segments.Opener.{Long, Raw, Pair}
 use Rattle.esc_frame.specs.Segments.Ending.{Open, Rung, Waits}
 use Rattle.esc_frame.specs.Segments.Segment.{Character, Wide, Broken, Stray, Control, HighControl, Terminator, Escape, Csi, Osc, Dcs, Apc, Ignored}
 use Rattle.esc_frame.specs.Segments.Segment.{CutEscape, CutCsi, CutDcs}
-use Rattle.esc_frame.specs.Classes.{those, is_plain}
+use Rattle.esc_frame.specs.Classes.{those, is_c0}
 use Rattle.esc_frame.proofs.CsiRuns.{body_strip}
 use Rattle.esc_actions.specs.ControlCodes.{code_of}
 use Rattle.esc_actions.specs.Meaning.{values_from}
 use Rattle.esc_actions.specs.Values.{Value, print, string, control, esc, csi, osc, kitty, sixel, termcap, short, enter, datum, exit, executed, plain}
 use Rattle.esc_actions.specs.Writable.{IsWritable, is_exception}
 use Rattle.esc_actions.specs.declared.control_code.ControlCode.{ControlCode}
-use Rattle.escape_stream.proofs.EntryCounts.{AreRead, first_read, take_few, texts_body, texts_few}
+use Rattle.escape_stream.proofs.ParamCounts.{AreRead, first_read, take_few, texts_body, texts_few}
 
 false_is_not : false ≡ true → ⊥
 false_is_not e = cc
@@ -80,12 +80,12 @@ controls_none : {A : Type 0} (o : Option ControlCode) (vs : List (Value A)) (c :
 controls_none None vs c h = h
 controls_none (Some k) vs c h = absurd cc
 
-behind_controls : {A : Type 0} (ys : List ℕ) (es : List Event) (c : CsiValue)
+after_controls : {A : Type 0} (ys : List ℕ) (es : List Event) (c : CsiValue)
     → values_from {A = A} None plain (map Execute ys ++ es) ≡ csi c ∷ []
     → values_from {A = A} None plain es ≡ csi c ∷ []
-behind_controls [] es c h = h
-behind_controls (y ∷ ys) es c h =
-    behind_controls ys es c
+after_controls [] es c h = h
+after_controls (y ∷ ys) es c h =
+    after_controls ys es c
     (controls_none (code_of y) (values_from None plain (map Execute ys ++ es)) c h)
 
 no_control : (A : Type 0) (o : Option ControlCode) (c : CsiValue)
@@ -108,11 +108,11 @@ one_csi A (v ∷ w ∷ vs) c h = absurd cc
 
 dispatched : (A : Type 0) (x : List ℕ) (f : ℕ) (c : CsiValue) (t : Bool)
     → values_from {A = A} None plain (if t then csi_event x f ∷ [] else []) ≡ csi c ∷ []
-    → csi_of (kept_entries x) (has_more_entries x) f ≡ c ∷ []
-dispatched A x f c true h = one_csi A (csi_of (kept_entries x) (has_more_entries x) f) c h
+    → csi_of (kept_csi_params x) (has_more_csi_params x) f ≡ c ∷ []
+dispatched A x f c true h = one_csi A (csi_of (kept_csi_params x) (has_more_csi_params x) f) c h
 dispatched A x f c false h = absurd (no_value A c h)
 
--- of a body of which no entry is left out, no value says that one is
+-- of a body of which no parameter is left out, no value says that one is
 abbrev is_whole : List CsiValue → Bool
 is_whole [] = true
 is_whole (sgr s ∷ vs) = true
@@ -179,49 +179,51 @@ strip_body (b ∷ x) h =
     (list_all (λ c. in_csi (class_of c)) x) h in strip_by b x (is_noise (class_of b)) refl q.0
     (strip_body x q.1)
 
--- A body of which entries are left out is not the text of those that are kept.
-few_kept : (x : List ℕ) → length (kept_entries x) ≤ 256
-unfolding kept_entries
-few_kept x = take_few 256 (entries x)
+-- A body of which parameters are left out is not the text of those that are kept.
+few_kept : (x : List ℕ) → length (kept_csi_params x) ≤ 256
+unfolding kept_csi_params
+few_kept x = take_few 256 (csi_params x)
 
-many_are : (x : List ℕ) → has_more_entries x ≡ true → 256 < length (entries x)
-unfolding has_more_entries
+many_are : (x : List ℕ) → has_more_csi_params x ≡ true → 256 < length (csi_params x)
+unfolding has_more_csi_params
 many_are x h = grind (arith, nat_tests)
 
-kept_read : (x : List ℕ) → list_all is_body_byte x ≡ true → AreRead (kept_entries x)
-unfolding kept_entries
+kept_read : (x : List ℕ) → list_all is_body_byte x ≡ true → AreRead (kept_csi_params x)
+unfolding kept_csi_params
 kept_read x h = first_read 256 x h
 
-not_its_text : (x : List ℕ) → AllOf in_csi x → has_more_entries (strip x) ≡ true
-    → x ≡ entries_text (kept_entries (strip x)) → ⊥
+not_its_text : (x : List ℕ) → AllOf in_csi x → has_more_csi_params (strip x) ≡ true
+    → x ≡ csi_params_text (kept_csi_params (strip x)) → ⊥
 not_its_text x all more e =
     let s = strip x in
     let read = kept_read s (strip_body x all) in
-    let t = entries_text (kept_entries s) in
-    let same : s ≡ t = ap strip e ∙ body_strip [] t (texts_body (kept_entries s) read) in
-    let few = texts_few (kept_entries s) read in
+    let t = csi_params_text (kept_csi_params s) in
+    let same : s ≡ t = ap strip e ∙ body_strip [] t (texts_body (kept_csi_params s) read) in
+    let few = texts_few (kept_csi_params s) read in
     let most = few_kept s in
     let many = many_are s more in
-    let count : length (entries s) ≡ length (entries t) =
-    ap (λ y. length (entries y)) same in omega arith
+    let count : length (csi_params s) ≡ length (csi_params t) =
+    ap (λ y. length (csi_params y)) same in omega arith
 
--- so a control sequence that was cut at 256 entries is not read of its text
+-- so a control sequence that was cut at 256 parameters is not read of its text
 not_read : (es : List CsiParam) (f g : ℕ) (x : List ℕ) → AllOf in_csi x
-    → ends_csi (class_of g) ≡ true → x ++ g ∷ [] ≡ entries_text es ++ encode_utf8 f
-    → csi_of (kept_entries (strip x)) (has_more_entries (strip x)) g ≡ unspecified es true f ∷ []
+    → ends_csi (class_of g) ≡ true → x ++ g ∷ [] ≡ csi_params_text es ++ encode_utf8 f
+    → csi_of (kept_csi_params (strip x)) (has_more_csi_params (strip x)) g ≡ unspecified es true f
+    ∷ []
     → ⊥
 not_read es f g x all ends e h =
     let (more, kept, final) =
-    came_of (kept_entries (strip x)) es g f (has_more_entries (strip x)) h in
+    came_of (kept_csi_params (strip x)) es g f (has_more_csi_params (strip x)) h in
     let last : encode_utf8 f ≡ g ∷ [] =
     ap encode_utf8 (sym final) ∙ encode_ascii g (csi_final_small g ends) in
-    let body : x ≡ entries_text es =
-    append_cancel_right x (entries_text es) (g ∷ []) (e ∙ ap (λ y. entries_text es ++ y) last) in
-    not_its_text x all more (body ∙ ap entries_text (sym kept))
+    let body : x ≡ csi_params_text es =
+    append_cancel_right x (csi_params_text es) (g ∷ [])
+    (e ∙ ap (λ y. csi_params_text es ++ y) last) in
+    not_its_text x all more (body ∙ ap csi_params_text (sym kept))
 
 -- by cases on the segment that the text would be
 truncated_not : (A : Type 0) (es : List CsiParam) (f : ℕ) (g : Segment)
-    → bytes_of g ≡ 0x1b ∷ 0x5b ∷ (entries_text es ++ encode_utf8 f)
+    → bytes_of g ≡ 0x1b ∷ 0x5b ∷ (csi_params_text es ++ encode_utf8 f)
     → ends_itself g ≡ true → HasShape g []
     → values_from {A = A} None plain (events_of g true) ≡ csi (unspecified es true f) ∷ [] → ⊥
 truncated_not A es f (Character b) e ends h v = no_print A b _ v
@@ -239,7 +241,7 @@ truncated_not A es f (Escape (b ∷ x) g) e ends h v =
 truncated_not A es f (Csi (Long []) x g) e ends h v =
     not_read es f g x h.1 h.2 ((heads 0x5b 0x5b _ _ (heads 0x1b 0x1b _ _ e).1).1)
     (dispatched A (strip x) g _ (is_csi_body (strip x))
-    (behind_controls (those is_plain x) (csi_events (strip x) g) _ v))
+    (after_controls (those is_c0 x) (csi_events (strip x) g) _ v))
 truncated_not A es f (Csi (Long (b ∷ n)) x g) e ends h v =
     no_bracket_noise b n ((heads b 0x5b _ _ (heads 0x1b 0x1b _ _ e).1).0) h.0
 truncated_not A es f (Csi Raw x g) e ends h v = differ 0x9b 0x1b _ _ refl e

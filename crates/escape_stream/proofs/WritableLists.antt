@@ -1,4 +1,4 @@
--- What is found of a list that is gone through from its front.
+-- What is found of a list that is gone through from its prefix.
 use Rattle.std.proofs.Common.{ℕ, ◌≡◌, ◌<◌, ◌≤◌, ◌+◌, ◌↔◌, Bool, true, false, not, List, [], ◌∷◌, length, map, drop, get_or, IsTrue, refl, sym, ap, subst, ◌∙◌}
 use Rattle.std.proofs.lemmas.List.{drop_all, drop_more}
 use Rattle.esc_actions.specs.Values.{Value}

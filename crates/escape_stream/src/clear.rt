@@ -40,7 +40,7 @@ fn are_clear(text: &str) -> bool
 }
 
 // Whether the control stands alone: it opens and ends no sequence and no string.
-pub(crate) fn stands_alone(code: ControlCode) -> bool
+pub(crate) fn cut_alone(code: ControlCode) -> bool
     ensures { result ≡ is_lone_control (code_number code) }
 {
     is_lone_control(code.as_char())

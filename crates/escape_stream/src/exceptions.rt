@@ -56,7 +56,7 @@ fn is_opener(letter: u8) -> bool
         || letter == b'_'
 }
 
-// Whether entries of the control sequence were left out.
+// Whether parameters of the control sequence were left out.
 fn is_truncated<A: Allocator>(csi: &CSI<A>) -> bool
     ensures { result ≡ is_truncated (csi_value csi.now) }
 {

@@ -5,7 +5,7 @@ ghost use Rattle.esc_actions.specs.Writable.{AreWritable, IsWritable, is_within,
 ghost use Rattle.escape_stream.specs.Asked.{wants_text};
 ghost use Rattle.memory.specs.Refusals.{Refused};
 
-use crate::clear::{is_clear, is_clear_string, is_datum, stands_alone};
+use crate::clear::{cut_alone, is_clear, is_clear_string, is_datum};
 use crate::reading_back::reads_back;
 use esc_actions::Action;
 use esc_device::DeviceControlMode;
@@ -26,7 +26,7 @@ pub fn is_writable<A: Allocator + Copy>(alloc: A, action: &Action<A>) -> Result<
     match action {
         Action::Print(c) => Ok(is_clear(*c)),
         Action::PrintString(text) => Ok(is_clear_string(text.as_str())),
-        Action::Control(code) => Ok(stands_alone(*code)),
+        Action::Control(code) => Ok(cut_alone(*code)),
         Action::DeviceControl(DeviceControlMode::Data(byte)) => Ok(is_datum(*byte)),
         Action::DeviceControl(DeviceControlMode::Exit) => Ok(true),
         Action::Esc(_)

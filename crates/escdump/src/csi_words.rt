@@ -36,7 +36,7 @@ fn write_sequence<A: Allocator, W: fmt::Write>(
     Ok(())
 }
 
-// The function of these entries and this final byte, where it has a name.
+// The function of these parameters and this final byte, where it has a name.
 fn write_named<W: fmt::Write>(
     params: &[CsiParam],
     last: u8,
@@ -62,11 +62,11 @@ fn write_function<W: fmt::Write>(
     write_words(&["CSI ", name, " ", words], f)?;
     match parameters {
         Parameters::Renditions => write_renditions(params, f),
-        Parameters::Numbers => write_entries(params, f),
+        Parameters::Numbers => write_csi_params(params, f),
         Parameters::Modes => write_modes(params, false, f),
         Parameters::PrivateModes => write_modes(params, true, f),
         Parameters::OneOf(table) => {
-            write_entries(params, f)?;
+            write_csi_params(params, f)?;
             write_choice(words_of(table, first_number(params)), f)
         }
     }
@@ -90,13 +90,16 @@ fn first_number(params: &[CsiParam]) -> i64 {
     0
 }
 
-/// Writes the numbers of some entries and what separates them, after a space.
-pub fn write_entries<W: fmt::Write>(params: &[CsiParam], f: &mut fmt::Formatter<W>) -> fmt::Result {
+/// Writes the numbers of some parameters and what separates them, after a space.
+pub fn write_csi_params<W: fmt::Write>(
+    params: &[CsiParam],
+    f: &mut fmt::Formatter<W>,
+) -> fmt::Result {
     let mut space = " ";
     for param in params {
         if !is_mark(*param) {
             f.write_str(space)?;
-            write_entry(*param, f)?;
+            write_param(*param, f)?;
             space = "";
         }
     }
@@ -104,7 +107,7 @@ pub fn write_entries<W: fmt::Write>(params: &[CsiParam], f: &mut fmt::Formatter<
 }
 
 // A number, or what separates two.
-fn write_entry<W: fmt::Write>(param: CsiParam, f: &mut fmt::Formatter<W>) -> fmt::Result {
+fn write_param<W: fmt::Write>(param: CsiParam, f: &mut fmt::Formatter<W>) -> fmt::Result {
     match param {
         CsiParam::Integer(number) => number.fmt(f),
         CsiParam::P(byte) => f.write_char(char::from(byte)),

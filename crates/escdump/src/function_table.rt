@@ -88,7 +88,7 @@ const WINDOW: &[Named] = &[
     Named(23, "pop title"),
 ];
 
-// Those without a private marker and intermediates: of the final bytes `@` to `_`, and from `` ` ``
+// Those without a private prefix and intermediates: of the final bytes `@` to `_`, and from `` ` ``
 // on.
 const PLAIN_UPPER: &[Function] = &[
     Function("@", "ICH", "insert characters", Numbers),
@@ -148,7 +148,7 @@ const PLAIN_LOWER: &[Function] = &[
     Function("~", "DECFNK", "function key", OneOf(KEYS)),
 ];
 
-// Those with a private marker.
+// Those with a private prefix.
 const PRIVATE: &[Function] = &[
     Function(
         "?J",
@@ -232,7 +232,7 @@ const INTERMEDIATE: &[Function] = &[
     Function("'~", "DECDC", "delete columns", Numbers),
 ];
 
-/// The control function with this private marker, these intermediates and this final byte, where it
+/// The control function with this private prefix, these intermediates and this final byte, where it
 /// has a name.
 pub fn control_function(marks: &[u8], last: u8) -> Option<Function> {
     match marks {

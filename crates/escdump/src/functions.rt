@@ -17,7 +17,7 @@ pub enum Parameters {
     OneOf(&'static [Named]),
 }
 
-/// A function: the private marker, intermediates and final byte of its sequence; its name; what it
+/// A function: the private prefix, intermediates and final byte of its sequence; its name; what it
 /// does, unless its parameters say it; what its parameters are.
 #[derive(Clone, Copy)]
 pub struct Function(
@@ -27,8 +27,8 @@ pub struct Function(
     pub Parameters,
 );
 
-/// The function of the table with this marker, these intermediates and this final byte, where it
-/// has one.
+/// The function of the table with this private prefix, these intermediates and this final byte,
+/// where it has one.
 pub fn function_of(table: &[Function], marks: &[u8], last: u8) -> Option<Function> {
     for function in table {
         if let Some((end, before)) = function.0.as_bytes().split_last() {

@@ -2,7 +2,7 @@
 
 use escape_stream::CsiParam;
 
-/// The private marker and intermediates of a control sequence, in order: as many as a name may
+/// The private prefix and intermediates of a control sequence, in order: as many as a name may
 /// have, and one more.
 #[derive(Clone, Copy)]
 pub struct Marks {
@@ -11,7 +11,7 @@ pub struct Marks {
 }
 
 impl Marks {
-    /// Those of these entries.
+    /// Those of these parameters.
     pub fn of(params: &[CsiParam]) -> Marks {
         let mut marks = Marks {
             bytes: [0; 4],
@@ -34,8 +34,8 @@ impl Marks {
     }
 }
 
-/// Whether the entry is a private marker or an intermediate: no number, and nothing that separates
-/// two.
+/// Whether the parameter is a private prefix or an intermediate: no number, and nothing that
+/// separates two.
 pub fn is_mark(param: CsiParam) -> bool {
     match param {
         CsiParam::P(b';') | CsiParam::P(b':') | CsiParam::Integer(_) => false,

@@ -1,6 +1,6 @@
 //! Renditions in words.
 
-use crate::csi_words::write_entries;
+use crate::csi_words::write_csi_params;
 use crate::named::{Named, words_of};
 use crate::renditions::Due::{Kind, Numbers, Rendition};
 use crate::writing::write_between;
@@ -141,7 +141,7 @@ enum Due {
     Numbers(u8),
 }
 
-/// Writes the renditions of the entries of a control sequence, in words.
+/// Writes the renditions of the parameters of a control sequence, in words.
 pub fn write_renditions<W: fmt::Write>(
     params: &[CsiParam],
     f: &mut fmt::Formatter<W>,
@@ -191,7 +191,7 @@ fn write_rendition<W: fmt::Write>(
     }
     f.write_str(written(first))?;
     if let [_, CsiParam::P(b':'), rest @ ..] = item {
-        write_entries(rest, f)?;
+        write_csi_params(rest, f)?;
         return Ok(Rendition);
     }
     match first {

@@ -16,12 +16,12 @@ limit_of (w ∷ []) = None
 limit_of (v ∷ w ∷ []) = if pointwise nat_eq v (codes "--limit") then number_of 64 w else None
 limit_of (u ∷ v ∷ w ∷ ws) = None
 
--- the words behind `--check`
+-- the words after `--check`
 abbrev pub check_of : List (List ℕ) → Option Task
 check_of [] = Some (Check None)
 check_of (w ∷ ws) = option_map (λ n. Check (Some n)) (limit_of (w ∷ ws))
 
--- no words; `--check`; and behind either `--limit` and a number
+-- no words; `--check`; and after either `--limit` and a number
 abbrev pub task_of : List (List ℕ) → Option Task
 task_of [] = Some (Normalise None)
 task_of (w ∷ ws) = if pointwise nat_eq w (codes "--check") then check_of ws else option_map (λ n.

@@ -1,5 +1,5 @@
 //! A log of events, in which a run of characters or of data is the same as each by itself.
-ghost use Rattle.esc_frame.specs.Events.{Event, Hears};
+ghost use Rattle.esc_frame.specs.Events.{Event, Receives};
 
 use esc_frame::VTActor;
 use esc_lent::event::{
@@ -66,7 +66,7 @@ impl Log {
             self.put(event.byte)?;
         }
         if event.kind == CSI {
-            self.note_entries(event)?;
+            self.note_csi_params(event)?;
         }
         if event.kind == OSC || event.kind == APC || event.kind == DCS {
             self.put_bytes(text)?;
@@ -93,9 +93,9 @@ impl Log {
         }
     }
 
-    fn note_entries(&mut self, event: &EscEvent) -> Result<(), AllocError> {
+    fn note_csi_params(&mut self, event: &EscEvent) -> Result<(), AllocError> {
         let count = event.count.min(256);
-        for entry in &event.entries[..count] {
+        for entry in &event.csi_params[..count] {
             if entry.is_byte {
                 self.put(1)?;
                 self.put(entry.byte as u32)?;
@@ -111,7 +111,7 @@ impl Log {
 impl Log {
     fn note_osc(&mut self, text: &[u8]) -> Result<(), AllocError>
         ensures { (e : Event)
-            → Hears (λ _ _ _. Unit {0}) (λ _ _ _. Unit {0}) result self.old e self.new }
+            → Receives (λ _ _ _. Unit {0}) (λ _ _ _. Unit {0}) result self.old e self.new }
     {
         self.put(OSC)?;
         self.put_bytes(text)?;
@@ -126,7 +126,7 @@ impl Log {
         has_more: bool,
     ) -> Result<(), AllocError>
         ensures { (e : Event)
-            → Hears (λ _ _ _. Unit {0}) (λ _ _ _. Unit {0}) result self.old e self.new }
+            → Receives (λ _ _ _. Unit {0}) (λ _ _ _. Unit {0}) result self.old e self.new }
     {
         self.put(DCS)?;
         self.put(byte as u32)?;
@@ -163,7 +163,7 @@ impl VTActor for Log {
         Ok(())
     }
 
-    #[tactic(auto, using(esc_lent::proofs::Folds::hears_both))]
+    #[tactic(auto, using(esc_lent::proofs::Folds::receives_both))]
     fn dcs_header<A: Allocator + Copy>(
         &mut self,
         _alloc: A,
@@ -220,7 +220,7 @@ impl VTActor for Log {
         self.put_more(parameters_truncated)
     }
 
-    #[tactic(auto, using(esc_lent::proofs::Folds::hears_both))]
+    #[tactic(auto, using(esc_lent::proofs::Folds::receives_both))]
     fn osc_text<A: Allocator>(&mut self, _alloc: A, text: &[u8]) -> Result<(), AllocError> {
         self.note_osc(text)
     }

@@ -2,7 +2,7 @@
 //! is given, and a reader and a writer that are slow and fail at one call.
 //!
 //! A test runs what it tests once for each number from 1 on, until a run meets no refusal. So each
-//! place that asks for memory is refused in turn, and the test sees what the caller is told and
+//! place that asks for memory is refused in turn, and the test sees what the caller is emitted and
 //! what state is left.
 #![tactic(auto)]
 

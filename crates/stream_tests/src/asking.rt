@@ -15,7 +15,7 @@ enum Made {
     Characters(&'static str),
     Control(ControlCode),
     Escape(Option<u8>, u8),
-    // A control sequence without entries, whether entries were left out, and its final byte.
+    // A control sequence without parameters, whether parameters were left out, and its final byte.
     Sequence(bool, u8),
     Title(&'static str),
     // A sixel image with this value.

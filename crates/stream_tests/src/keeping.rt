@@ -70,7 +70,7 @@ static ROWS: [Unfinished<'static>; 8] = [
 ];
 
 impl Counts {
-    // What counts of the bytes behind the opener.
+    // What counts of the bytes after the opener.
     fn of(self, bytes: &[u8]) -> usize {
         if let Counts::Characters = self {
             return match str::from_utf8(bytes) {

@@ -1,5 +1,5 @@
 //! Calls that take memory, with each of their requests refused in turn.
-use crate::told::check;
+use crate::emitted::check;
 use refusing::Refusing;
 use std::alloc::{AllocError, Global};
 use std::process::Abort;
@@ -10,7 +10,7 @@ const MOST_REQUESTS: u64 = 100;
 /// A row of a table: a call over a heap, and what it answers.
 pub trait Asked {
     /// What it answers while no request is refused.
-    fn told(&self) -> &str;
+    fn emitted(&self) -> &str;
 
     /// What it answers over this heap. Of what takes bytes, these come all at once where `at_once`
     /// is true.
@@ -25,7 +25,7 @@ pub trait Asked {
     fn admits(&self, errors: usize) -> bool;
 }
 
-/// Each row answers what it tells. Then its first request is refused, its second, and so on, until
+/// Each row answers what it emits. Then its first request is refused, its second, and so on, until
 /// it meets no refusal: it answers the same, or an error of memory, of which there are as many as
 /// the row admits.
 pub fn check_each<T: Asked>(
@@ -37,7 +37,7 @@ pub fn check_each<T: Asked>(
     let heap = Refusing::new(alloc);
     for row in rows {
         let errors = errors_of(rt, alloc, &heap, row, at_once)?;
-        check(rt, row.admits(errors), row.told());
+        check(rt, row.admits(errors), row.emitted());
     }
     Ok(())
 }
@@ -53,8 +53,8 @@ fn errors_of<T: Asked>(
     let mut errors = 0usize;
     for at in 0..MOST_REQUESTS {
         heap.refuse_at(at);
-        if !is_told(rt, row.answer(alloc, heap, at_once), row.told()) {
-            check(rt, heap.has_refused(), row.told());
+        if !is_emitted(rt, row.answer(alloc, heap, at_once), row.emitted()) {
+            check(rt, heap.has_refused(), row.emitted());
             errors = errors.saturating_add(1);
         }
         if at > 0 && !heap.has_refused() {
@@ -65,13 +65,17 @@ fn errors_of<T: Asked>(
 }
 
 // Whether this is the answer; any other is an error of memory.
-fn is_told(rt: &impl Abort, answer: Result<String, AllocError>, told: &str) -> bool {
+fn is_emitted(rt: &impl Abort, answer: Result<String, AllocError>, emitted: &str) -> bool {
     let Ok(answer) = answer else {
         return false;
     };
-    let is_told = answer.as_str() == told;
-    check(rt, is_told || is_refusal(answer.as_str()), answer.as_str());
-    is_told
+    let is_emitted = answer.as_str() == emitted;
+    check(
+        rt,
+        is_emitted || is_refusal(answer.as_str()),
+        answer.as_str(),
+    );
+    is_emitted
 }
 
 // Whether the answer says that memory is wanted.

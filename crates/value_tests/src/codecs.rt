@@ -1,6 +1,6 @@
 //! Calls that read or make a value, and take memory for it.
 use crate::asked::{Asked, check_each};
-use crate::told::{both_in, parts_of, told_of};
+use crate::emitted::{both_in, emitted_of, parts_of};
 use esc_below::base64_text::{read_base64, read_base64_text};
 use esc_below::scalar::text_in;
 use esc_below::{Hyperlink, Text};
@@ -152,7 +152,7 @@ static IMAGES: [Row<'static>; 19] = [
 ];
 
 impl Asked for Row<'_> {
-    fn told(&self) -> &str {
+    fn emitted(&self) -> &str {
         self.2
     }
 
@@ -197,9 +197,9 @@ impl Row<'_> {
         parts: &[&[u8]],
     ) -> Result<String, AllocError> {
         match self.0 {
-            Call::Prompt => told_of(alloc, FinalTermSemanticPrompt::parse(heap, parts)),
-            Call::File => told_of(alloc, ITermFileData::parse(heap, parts)),
-            _ => told_of(alloc, Hyperlink::parse(heap, parts)),
+            Call::Prompt => emitted_of(alloc, FinalTermSemanticPrompt::parse(heap, parts)),
+            Call::File => emitted_of(alloc, ITermFileData::parse(heap, parts)),
+            _ => emitted_of(alloc, Hyperlink::parse(heap, parts)),
         }
     }
 }

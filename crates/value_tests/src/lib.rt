@@ -9,6 +9,8 @@ mod below;
 #[cfg(test)]
 mod codecs;
 #[cfg(test)]
+mod emitted;
+#[cfg(test)]
 mod filled;
 #[cfg(test)]
 mod heap;
@@ -36,8 +38,6 @@ mod sequences;
 mod shorts;
 #[cfg(test)]
 mod sixels;
-#[cfg(test)]
-mod told;
 #[cfg(test)]
 mod too_large;
 #[cfg(test)]

@@ -1,5 +1,5 @@
 //! Hyperlinks and their parameters.
-use crate::told::check;
+use crate::emitted::check;
 use esc_below::{Error, Hyperlink, Params, Text};
 use refusing::Refusing;
 use std::alloc::{AllocError, Allocator, Global};
@@ -41,9 +41,9 @@ fn put<A: Allocator + Copy>(
 #[test]
 fn parameters(rt: HostRuntime) -> Result<(), Fail> {
     let mut params = Params::new(rt.alloc());
-    for (count, told) in SEEN.iter().enumerate() {
+    for (count, emitted) in SEEN.iter().enumerate() {
         let seen = seen(rt.alloc(), &params)?;
-        check(&rt, seen.as_str() == *told, told);
+        check(&rt, seen.as_str() == *emitted, emitted);
         if let Some((key, value)) = PAIRS.get(count) {
             put(rt.alloc(), &mut params, key, value)?;
         }
@@ -114,7 +114,7 @@ fn is_read_as(alloc: Global, params: &[u8], link: &Hyperlink) -> Result<bool, Er
 
 // Whether a link without a parameter, and one with an id, are read of the parameters that write
 // them, and of no others.
-fn are_told_apart(alloc: Global) -> Result<bool, Error> {
+fn are_emitted_apart(alloc: Global) -> Result<bool, Error> {
     let plain = Hyperlink::new(alloc, "x")?;
     let named = Hyperlink::new_with_id(alloc, "x", "foo")?;
     let are_read = is_read_as(alloc, b"", &plain)? && is_read_as(alloc, b"id=foo", &named)?;
@@ -124,5 +124,5 @@ fn are_told_apart(alloc: Global) -> Result<bool, Error> {
 
 #[test]
 fn links_are_read(rt: HostRuntime) {
-    assert!(rt; matches!(are_told_apart(rt.alloc()), Ok(true)));
+    assert!(rt; matches!(are_emitted_apart(rt.alloc()), Ok(true)));
 }

@@ -1,5 +1,5 @@
 //! Values that a program makes.
-use crate::told::{both_of, check, told_of, writes};
+use crate::emitted::{both_of, check, emitted_of, writes};
 use esc_below::{Items, Text};
 use esc_iterm::dimension::ITermDimension;
 use esc_iterm::{Boxed, ITermProprietary};
@@ -23,8 +23,8 @@ fn a_report_is_written(rt: HostRuntime) -> Result<(), Fail> {
 #[test]
 fn boxes(rt: HostRuntime) -> Result<(), Fail> {
     let boxed = Boxed::from(Box::new(rt.alloc(), 7u8)?);
-    let told = told_of(rt.alloc(), &boxed)?;
-    assert!(rt; boxed == Boxed::new(rt.alloc(), 7u8)? && told.as_str() == "7");
+    let emitted = emitted_of(rt.alloc(), &boxed)?;
+    assert!(rt; boxed == Boxed::new(rt.alloc(), 7u8)? && emitted.as_str() == "7");
     assert!(rt; *boxed.as_ref() == 7 && *boxed.into_box() == 7);
     Ok(())
 }
@@ -95,18 +95,18 @@ static IMAGES: [(bool, &str); 2] = [
 ];
 
 // Whether an image of this content is verbose, and has these texts.
-fn is_image(alloc: Global, content: KittyImageData, told: &str) -> Result<bool, AllocError> {
+fn is_image(alloc: Global, content: KittyImageData, emitted: &str) -> Result<bool, AllocError> {
     let image = transmit(content);
     let is_verbose = image.verbosity() == KittyImageVerbosity::Verbose;
     let both = both_of(alloc, image)?;
-    Ok(is_verbose && both.as_str() == told)
+    Ok(is_verbose && both.as_str() == emitted)
 }
 
 #[test]
 fn images(rt: HostRuntime) -> Result<(), Fail> {
-    for (is_text, told) in &IMAGES {
+    for (is_text, emitted) in &IMAGES {
         let content = content(rt.alloc(), *is_text)?;
-        check(&rt, is_image(rt.alloc(), content, told)?, told);
+        check(&rt, is_image(rt.alloc(), content, emitted)?, emitted);
     }
     Ok(())
 }

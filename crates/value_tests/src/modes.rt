@@ -1,6 +1,6 @@
 //! Modes that are entered, as they are written and shown.
 use crate::asked::{Asked, check_each};
-use crate::told::{both_in, both_of, check, is_around};
+use crate::emitted::{both_in, both_of, check, is_around};
 use esc_below::Boxed;
 use esc_device::{DeviceControlMode, EnterDeviceControlMode};
 use refusing::Refusing;
@@ -13,7 +13,7 @@ struct Row<'a> {
     params: &'a [i64],
     intermediates: &'a [u8],
     ignored: bool,
-    told: &'a str,
+    emitted: &'a str,
 }
 
 static ROWS: [Row<'static>; 6] = [
@@ -22,42 +22,42 @@ static ROWS: [Row<'static>; 6] = [
         params: &[],
         intermediates: b"",
         ignored: false,
-        told: "EnterDeviceControlMode(params: [], intermediates: [], byte: 'p' 0x70, ignored_extra_intermediates=false) \x1bPp",
+        emitted: "EnterDeviceControlMode(params: [], intermediates: [], byte: 'p' 0x70, ignored_extra_intermediates=false) \x1bPp",
     },
     Row {
         byte: b'p',
         params: &[1, 2],
         intermediates: b"?",
         ignored: false,
-        told: "EnterDeviceControlMode(params: [1, 2], intermediates: ['?' 0x3f, ], byte: 'p' 0x70, ignored_extra_intermediates=false) \x1bP?1;2p",
+        emitted: "EnterDeviceControlMode(params: [1, 2], intermediates: ['?' 0x3f, ], byte: 'p' 0x70, ignored_extra_intermediates=false) \x1bP?1;2p",
     },
     Row {
         byte: b'|',
         params: &[0, 9223372036854775807],
         intermediates: b">!",
         ignored: false,
-        told: "EnterDeviceControlMode(params: [0, 9223372036854775807], intermediates: ['>' 0x3e, '!' 0x21, ], byte: '|' 0x7c, ignored_extra_intermediates=false) \x1bP>0;9223372036854775807!|",
+        emitted: "EnterDeviceControlMode(params: [0, 9223372036854775807], intermediates: ['>' 0x3e, '!' 0x21, ], byte: '|' 0x7c, ignored_extra_intermediates=false) \x1bP>0;9223372036854775807!|",
     },
     Row {
         byte: b's',
         params: &[1000],
         intermediates: b"=",
         ignored: true,
-        told: "EnterDeviceControlMode(params: [1000], intermediates: ['=' 0x3d, ], byte: 's' 0x73, ignored_extra_intermediates=true) \x1bP=1000s",
+        emitted: "EnterDeviceControlMode(params: [1000], intermediates: ['=' 0x3d, ], byte: 's' 0x73, ignored_extra_intermediates=true) \x1bP=1000s",
     },
     Row {
         byte: b'p',
         params: &[7],
         intermediates: b"!<",
         ignored: false,
-        told: "EnterDeviceControlMode(params: [7], intermediates: ['!' 0x21, '<' 0x3c, ], byte: 'p' 0x70, ignored_extra_intermediates=false) \x1bP<7!p",
+        emitted: "EnterDeviceControlMode(params: [7], intermediates: ['!' 0x21, '<' 0x3c, ], byte: 'p' 0x70, ignored_extra_intermediates=false) \x1bP<7!p",
     },
     Row {
         byte: 0xe9,
         params: &[-3],
         intermediates: b"\n",
         ignored: false,
-        told: "EnterDeviceControlMode(params: [-3], intermediates: ['\\n' 0xa, ], byte: 'é' 0xe9, ignored_extra_intermediates=false) \x1bP-3\né",
+        emitted: "EnterDeviceControlMode(params: [-3], intermediates: ['\\n' 0xa, ], byte: 'é' 0xe9, ignored_extra_intermediates=false) \x1bP-3\né",
     },
 ];
 
@@ -78,8 +78,8 @@ impl Row<'_> {
 }
 
 impl Asked for Row<'_> {
-    fn told(&self) -> &str {
-        self.told
+    fn emitted(&self) -> &str {
+        self.emitted
     }
 
     fn answer(
@@ -121,9 +121,13 @@ fn equal_headers(rt: HostRuntime) -> Result<(), Fail> {
     let alloc = rt.alloc();
     for row in &ROWS {
         let enter = row.enter(alloc)?;
-        check(&rt, is_itself(&enter, row.enter(alloc)?), row.told);
+        check(&rt, is_itself(&enter, row.enter(alloc)?), row.emitted);
         let step = step_of(alloc, enter)?;
-        check(&rt, is_around(step.as_str(), "Enter(", row.told), row.told);
+        check(
+            &rt,
+            is_around(step.as_str(), "Enter(", row.emitted),
+            row.emitted,
+        );
     }
     Ok(())
 }
@@ -151,13 +155,13 @@ fn is_same<T: PartialEq + Drop>(one: T, same: T, other: T) -> bool {
 
 #[test]
 fn steps(rt: HostRuntime) -> Result<(), Fail> {
-    for (byte, told) in &STEPS {
+    for (byte, emitted) in &STEPS {
         let both = both_of(rt.alloc(), step(*byte))?;
-        check(&rt, both.as_str() == *told, told);
+        check(&rt, both.as_str() == *emitted, emitted);
         check(
             &rt,
             is_same(step(*byte), step(*byte), step(Some(b'x'))),
-            told,
+            emitted,
         );
     }
     Ok(())

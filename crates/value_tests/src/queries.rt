@@ -27,14 +27,14 @@ static ROWS: [Row<'static>; 7] = [
     Row(b"544", "[\"544\"] \x1bP+q353434"),
 ];
 
-// What is told of names.
-fn told<A: Allocator>(alloc: Global, names: &[Text<A>]) -> Result<String, AllocError> {
+// What is emitted of names.
+fn emitted<A: Allocator>(alloc: Global, names: &[Text<A>]) -> Result<String, AllocError> {
     let query = TcapQuery(names);
     format!(in alloc; "{names:?} {query}")
 }
 
 impl Asked for Row<'_> {
-    fn told(&self) -> &str {
+    fn emitted(&self) -> &str {
         self.1
     }
 
@@ -49,7 +49,7 @@ impl Asked for Row<'_> {
         let names = builder.finish();
         match (filled, names) {
             (Ok(refused), Ok(names)) if refused == 0 || heap.has_refused() => {
-                told(alloc, names.as_slice())
+                emitted(alloc, names.as_slice())
             }
             _ => Err(AllocError),
         }

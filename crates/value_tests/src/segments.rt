@@ -1,5 +1,5 @@
 //! The segments of streams.
-use crate::told::check;
+use crate::emitted::check;
 use esc_segments::{Segment, SegmentKind, Segments};
 use std::alloc::{AllocError, Global};
 use std::test::Fail;
@@ -46,20 +46,25 @@ static STREAMS: [(&[u8], &str); 11] = [
 ];
 
 // The segments of a stream.
-fn told(alloc: Global, stream: &[u8]) -> Result<String, AllocError> {
-    let mut told = String::new(alloc);
+fn emitted(alloc: Global, stream: &[u8]) -> Result<String, AllocError> {
+    let mut emitted = String::new(alloc);
     for segment in Segments::new(stream) {
         let note = if segment.finished { "" } else { ", unfinished" };
-        write!(told, "{:?} {}{note}. ", segment.kind, segment.bytes.len())?;
+        write!(
+            emitted,
+            "{:?} {}{note}. ",
+            segment.kind,
+            segment.bytes.len()
+        )?;
     }
-    Ok(told)
+    Ok(emitted)
 }
 
 #[test]
 fn segments(rt: HostRuntime) -> Result<(), Fail> {
     for (stream, wanted) in &STREAMS {
-        let told = told(rt.alloc(), stream)?;
-        check(&rt, told.as_str() == *wanted, wanted);
+        let emitted = emitted(rt.alloc(), stream)?;
+        check(&rt, emitted.as_str() == *wanted, wanted);
     }
     Ok(())
 }

@@ -1,6 +1,6 @@
 //! Control sequences that no parser hands out, and those of several values. `check_rows` has tables
 //! of the others.
-use crate::told::check;
+use crate::emitted::check;
 use esc_below::{CSI, CsiParam};
 use std::alloc::{AllocError, Global};
 use std::fmt::{Debug, Display};
@@ -12,7 +12,7 @@ const ONE: CsiParam = CsiParam::Integer(1);
 
 const THREE: CsiParam = CsiParam::Integer(3);
 
-// Entries before an `m`, whether some were left out, the Debug texts of the values that they are
+// Params before an `m`, whether some were left out, the Debug texts of the values that they are
 // read as and of the value that they are where they are one, and what is written of them.
 static BODIES: [(&[CsiParam], bool, &str, &str); 5] = [
     (
@@ -47,8 +47,8 @@ static BODIES: [(&[CsiParam], bool, &str, &str); 5] = [
     ),
 ];
 
-// The Debug texts of the values that the entries are read as, and of the lone one.
-fn told_of<T: Debug + Drop, U: Debug + Drop>(
+// The Debug texts of the values that the parameters are read as, and of the lone one.
+fn emitted_of<T: Debug + Drop, U: Debug + Drop>(
     alloc: Global,
     list: Result<T, AllocError>,
     one: Result<U, AllocError>,
@@ -74,11 +74,11 @@ fn text_of<T: Display + Drop>(
 #[test]
 fn bodies(rt: HostRuntime) -> Result<(), Fail> {
     let alloc = rt.alloc();
-    for (params, is_truncated, told, text) in &BODIES {
+    for (params, is_truncated, emitted, text) in &BODIES {
         let list = CSI::parse(alloc, params, *is_truncated, b'm');
         let one = CSI::parse_one(alloc, params, *is_truncated, b'm');
-        let read = told_of(alloc, list, one)?;
-        check(&rt, read.as_str() == *told, told);
+        let read = emitted_of(alloc, list, one)?;
+        check(&rt, read.as_str() == *emitted, emitted);
         let list = CSI::parse(alloc, params, *is_truncated, b'm');
         let written = text_of(alloc, list)?;
         check(&rt, written.as_str() == *text, text);

@@ -1,7 +1,7 @@
 //! Short controls, as they are read, written and shown.
 use crate::asked::{Asked, check_each};
+use crate::emitted::{both_in, both_of, check, is_around};
 use crate::filled::fill;
-use crate::told::{both_in, both_of, check, is_around};
 use esc_below::Boxed;
 use esc_device::{DeviceControlMode, ShortBuilder, ShortDeviceControl};
 use refusing::Refusing;
@@ -15,7 +15,7 @@ struct Row<'a> {
     params: &'a [i64],
     intermediates: &'a [u8],
     content: &'a [u8],
-    told: &'a str,
+    emitted: &'a str,
 }
 
 static ROWS: [Row<'static>; 5] = [
@@ -24,35 +24,35 @@ static ROWS: [Row<'static>; 5] = [
         params: &[1],
         intermediates: b"$",
         content: b"m",
-        told: "ShortDeviceControl(params: [1], intermediates: ['$' 0x24, ], byte: 'q' 0x71, data=['m' 0x6d, ) \x1bP1$qm\x1b\\",
+        emitted: "ShortDeviceControl(params: [1], intermediates: ['$' 0x24, ], byte: 'q' 0x71, data=['m' 0x6d, ) \x1bP1$qm\x1b\\",
     },
     Row {
         byte: b'q',
         params: &[],
         intermediates: b"$",
         content: b"",
-        told: "ShortDeviceControl(params: [], intermediates: ['$' 0x24, ], byte: 'q' 0x71, data=[) \x1bP$q\x1b\\",
+        emitted: "ShortDeviceControl(params: [], intermediates: ['$' 0x24, ], byte: 'q' 0x71, data=[) \x1bP$q\x1b\\",
     },
     Row {
         byte: b'q',
         params: &[0, 5],
         intermediates: b"$",
         content: b"\"p;",
-        told: "ShortDeviceControl(params: [0, 5], intermediates: ['$' 0x24, ], byte: 'q' 0x71, data=['\"' 0x22, 'p' 0x70, ';' 0x3b, ) \x1bP0;5$q\"p;\x1b\\",
+        emitted: "ShortDeviceControl(params: [0, 5], intermediates: ['$' 0x24, ], byte: 'q' 0x71, data=['\"' 0x22, 'p' 0x70, ';' 0x3b, ) \x1bP0;5$q\"p;\x1b\\",
     },
     Row {
         byte: b'q',
         params: &[],
         intermediates: b"$",
         content: b"m\xc2",
-        told: "ShortDeviceControl(params: [], intermediates: ['$' 0x24, ], byte: 'q' 0x71, data=['m' 0x6d, 'Â' 0xc2, ) \x1bP$qmÂ\x1b\\",
+        emitted: "ShortDeviceControl(params: [], intermediates: ['$' 0x24, ], byte: 'q' 0x71, data=['m' 0x6d, 'Â' 0xc2, ) \x1bP$qmÂ\x1b\\",
     },
     Row {
         byte: b'p',
         params: &[3],
         intermediates: b"?",
         content: b"a",
-        told: "ShortDeviceControl(params: [3], intermediates: ['?' 0x3f, ], byte: 'p' 0x70, data=['a' 0x61, ) \x1bP3?pa\x1b\\",
+        emitted: "ShortDeviceControl(params: [3], intermediates: ['?' 0x3f, ], byte: 'p' 0x70, data=['a' 0x61, ) \x1bP3?pa\x1b\\",
     },
 ];
 
@@ -79,8 +79,8 @@ impl Row<'_> {
 }
 
 impl Asked for Row<'_> {
-    fn told(&self) -> &str {
-        self.told
+    fn emitted(&self) -> &str {
+        self.emitted
     }
 
     fn answer(
@@ -121,8 +121,8 @@ fn value_of(alloc: Global, short: ShortDeviceControl) -> Result<String, AllocErr
 fn controls_as_values(rt: HostRuntime) -> Result<(), Fail> {
     for row in &ROWS {
         let value = value_of(rt.alloc(), row.read(rt.alloc(), false, &mut 0)?)?;
-        let is_around = is_around(value.as_str(), "ShortDeviceControl(", row.told);
-        check(&rt, is_around, row.told);
+        let is_around = is_around(value.as_str(), "ShortDeviceControl(", row.emitted);
+        check(&rt, is_around, row.emitted);
     }
     Ok(())
 }

@@ -1,7 +1,7 @@
 //! Sixel images as they are read, measured and written.
 use crate::asked::{Asked, check_each};
+use crate::emitted::emitted_of;
 use crate::filled::fill;
-use crate::told::told_of;
 use esc_sixel::{Sixel, SixelBuilder};
 use refusing::Refusing;
 use std::alloc::{AllocError, Allocator, Global};
@@ -12,7 +12,7 @@ use std::test::Fail;
 struct Row<'a> {
     params: &'a [i64],
     bytes: &'a [u8],
-    told: &'a str,
+    emitted: &'a str,
 }
 
 static ROWS: [Row<'static>; 17] = [
@@ -20,108 +20,108 @@ static ROWS: [Row<'static>; 17] = [
     Row {
         params: &[],
         bytes: b"@\"1;1;20000;20000?",
-        told: "[Data(0)] \x1bP7;0q? (1, 6)",
+        emitted: "[Data(0)] \x1bP7;0q? (1, 6)",
     },
     // percentages
     Row {
         params: &[],
         bytes: b"\"4;3#1;2;50;150;33!@",
-        told: "[DefineColorMapRGB { color_number: 1, rgb: RgbColor { red: 127, green: 255, blue: 84 } }, Repeat { repeat_count: 1, content: 1 }] \x1bP;0q\"4;3#1;2;50;100;33!1@ (1, 6)",
+        emitted: "[DefineColorMapRGB { color_number: 1, rgb: RgbColor { red: 127, green: 255, blue: 84 } }, Repeat { repeat_count: 1, content: 1 }] \x1bP;0q\"4;3#1;2;50;100;33!1@ (1, 6)",
     },
     // three parameters
     Row {
         params: &[1, 2, 3],
         bytes: b"@",
-        told: "[Data(1)] \x1bP0;0;3q@ (1, 6)",
+        emitted: "[Data(1)] \x1bP0;0;3q@ (1, 6)",
     },
     // a count that is missing
     Row {
         params: &[],
         bytes: b"!~",
-        told: "[Repeat { repeat_count: 1, content: 63 }] \x1bP0;0q!1~ (1, 6)",
+        emitted: "[Repeat { repeat_count: 1, content: 63 }] \x1bP0;0q!1~ (1, 6)",
     },
     // three separators of a colour
     Row {
         params: &[],
         bytes: b"#1;2;1;1~",
-        told: "[SelectColorMapEntry(1), Data(63)] \x1bP0;0q#1~ (1, 6)",
+        emitted: "[SelectColorMapEntry(1), Data(63)] \x1bP0;0q#1~ (1, 6)",
     },
     // a raster without a height
     Row {
         params: &[],
         bytes: b"@\"1;1;5;?",
-        told: "[Data(0)] \x1bP7;0q? (1, 6)",
+        emitted: "[Data(0)] \x1bP7;0q? (1, 6)",
     },
     // a raster of two parameters
     Row {
         params: &[7, 1],
         bytes: b"@\"5;1-?",
-        told: "[Data(1), NewLine, Data(0)] \x1bP2;1q@-? (1, 12)",
+        emitted: "[Data(1), NewLine, Data(0)] \x1bP2;1q@-? (1, 12)",
     },
     // a raster with sizes
     Row {
         params: &[],
         bytes: b"\"1;2;30;40@",
-        told: "[Data(1)] \x1bP;0q\"1;2;30;40@ (30, 40)",
+        emitted: "[Data(1)] \x1bP;0q\"1;2;30;40@ (30, 40)",
     },
     // an empty first piece
     Row {
         params: &[],
         bytes: b"!;5~",
-        told: "[Repeat { repeat_count: 1, content: 63 }] \x1bP0;0q!1~ (1, 6)",
+        emitted: "[Repeat { repeat_count: 1, content: 63 }] \x1bP0;0q!1~ (1, 6)",
     },
     // a count of none
     Row {
         params: &[],
         bytes: b"-!0~",
-        told: "[NewLine, Repeat { repeat_count: 0, content: 63 }] \x1bP0;0q-!0~ (0, 12)",
+        emitted: "[NewLine, Repeat { repeat_count: 0, content: 63 }] \x1bP0;0q-!0~ (0, 12)",
     },
     // a count that is too large
     Row {
         params: &[],
         bytes: b"!99999999999999999999~~",
-        told: "[Repeat { repeat_count: 4294967295, content: 63 }, Data(63)] \x1bP0;0q!4294967295~~ (4294967295, 6)",
+        emitted: "[Repeat { repeat_count: 4294967295, content: 63 }, Data(63)] \x1bP0;0q!4294967295~~ (4294967295, 6)",
     },
     // a percentage that is too large
     Row {
         params: &[],
         bytes: b"#1;2;9223372036854775807;0;0",
-        told: "[DefineColorMapRGB { color_number: 1, rgb: RgbColor { red: 255, green: 0, blue: 0 } }] \x1bP0;0q#1;2;100;0;0 (0, 0)",
+        emitted: "[DefineColorMapRGB { color_number: 1, rgb: RgbColor { red: 255, green: 0, blue: 0 } }] \x1bP0;0q#1;2;100;0;0 (0, 0)",
     },
     // hue, lightness and saturation
     Row {
         params: &[],
         bytes: b"#70000;1;360;300;7;9;9",
-        told: "[DefineColorMapHSL { color_number: 65535, hue_angle: 360, lightness: 255, saturation: 7 }] \x1bP0;0q#65535;1;360;255;7 (0, 0)",
+        emitted: "[DefineColorMapHSL { color_number: 65535, hue_angle: 360, lightness: 255, saturation: 7 }] \x1bP0;0q#65535;1;360;255;7 (0, 0)",
     },
     // a count without pixels
     Row {
         params: &[],
         bytes: b"!5$!6#2-",
-        told: "[CarriageReturn, SelectColorMapEntry(2), NewLine] \x1bP0;0q$#2- (0, 0)",
+        emitted: "[CarriageReturn, SelectColorMapEntry(2), NewLine] \x1bP0;0q$#2- (0, 0)",
     },
     // junk
     Row {
         params: &[],
         bytes: b" 1;2\n~\x7f",
-        told: "[Data(63)] \x1bP0;0q~ (1, 6)",
+        emitted: "[Data(63)] \x1bP0;0q~ (1, 6)",
     },
     // lines over one another
     Row {
         params: &[],
         bytes: b"~~~$~~",
-        told: "[Data(63), Data(63), Data(63), CarriageReturn, Data(63), Data(63)] \x1bP0;0q~~~$~~ (3, 6)",
+        emitted: "[Data(63), Data(63), Data(63), CarriageReturn, Data(63), Data(63)] \x1bP0;0q~~~$~~ (3, 6)",
     },
     // a greeting: two colours over one another, of two bands
     Row {
         params: &[],
         bytes: b"#0;2;0;0;0#1;2;100;100;0#2;2;0;100;0#1~~@@vv@@~~@@~~$#2??}}GG}}??}}??-#1!14@",
-        told: "[DefineColorMapRGB { color_number: 0, rgb: RgbColor { red: 0, green: 0, blue: 0 } }, DefineColorMapRGB { color_number: 1, rgb: RgbColor { red: 255, green: 255, blue: 0 } }, DefineColorMapRGB { color_number: 2, rgb: RgbColor { red: 0, green: 255, blue: 0 } }, SelectColorMapEntry(1), Data(63), Data(63), Data(1), Data(1), Data(55), Data(55), Data(1), Data(1), Data(63), Data(63), Data(1), Data(1), Data(63), Data(63), CarriageReturn, SelectColorMapEntry(2), Data(0), Data(0), Data(62), Data(62), Data(8), Data(8), Data(62), Data(62), Data(0), Data(0), Data(62), Data(62), Data(0), Data(0), NewLine, SelectColorMapEntry(1), Repeat { repeat_count: 14, content: 1 }] \x1bP0;0q#0;2;0;0;0#1;2;100;100;0#2;2;0;100;0#1~~@@vv@@~~@@~~$#2??}}GG}}??}}??-#1!14@ (14, 12)",
+        emitted: "[DefineColorMapRGB { color_number: 0, rgb: RgbColor { red: 0, green: 0, blue: 0 } }, DefineColorMapRGB { color_number: 1, rgb: RgbColor { red: 255, green: 255, blue: 0 } }, DefineColorMapRGB { color_number: 2, rgb: RgbColor { red: 0, green: 255, blue: 0 } }, SelectColorMapEntry(1), Data(63), Data(63), Data(1), Data(1), Data(55), Data(55), Data(1), Data(1), Data(63), Data(63), Data(1), Data(1), Data(63), Data(63), CarriageReturn, SelectColorMapEntry(2), Data(0), Data(0), Data(62), Data(62), Data(8), Data(8), Data(62), Data(62), Data(0), Data(0), Data(62), Data(62), Data(0), Data(0), NewLine, SelectColorMapEntry(1), Repeat { repeat_count: 14, content: 1 }] \x1bP0;0q#0;2;0;0;0#1;2;100;100;0#2;2;0;100;0#1~~@@vv@@~~@@~~$#2??}}GG}}??}}??-#1!14@ (14, 12)",
     },
 ];
 
-// What is told of an image.
-fn told<A: Allocator>(alloc: Global, sixel: &Sixel<A>) -> Result<String, AllocError> {
+// What is emitted of an image.
+fn emitted<A: Allocator>(alloc: Global, sixel: &Sixel<A>) -> Result<String, AllocError> {
     let (width, height) = sixel.dimensions();
     let content = &sixel.content;
     format!(in alloc; "{content:?} {sixel} ({width}, {height})")
@@ -152,7 +152,7 @@ impl Row<'_> {
         let ended = end(&mut builder);
         match (filled, ended) {
             (Ok(refused), Ok(last)) if is_reported(heap, refused.saturating_add(last)) => {
-                told(alloc, &builder.sixel)
+                emitted(alloc, &builder.sixel)
             }
             _ => String::from_str(alloc, "another number of pushes was refused"),
         }
@@ -163,11 +163,11 @@ impl Row<'_> {
     fn by_run(&self, alloc: Global, heap: &Refusing<Global>) -> Result<String, AllocError> {
         let mut builder = SixelBuilder::new(heap, self.params);
         let taken = builder.push_run(self.bytes);
-        let is_told = taken.is_err() == heap.has_refused();
+        let is_emitted = taken.is_err() == heap.has_refused();
         let ended = end(&mut builder);
-        let debug = told_of(alloc, &builder.sixel);
+        let debug = emitted_of(alloc, &builder.sixel);
         match (taken, ended) {
-            (Ok(()), Ok(_)) if is_told => told(alloc, &builder.sixel),
+            (Ok(()), Ok(_)) if is_emitted => emitted(alloc, &builder.sixel),
             _ => self.refused(alloc, debug),
         }
     }
@@ -196,14 +196,14 @@ fn prefix(alloc: Global, params: &[i64], bytes: &[u8]) -> Result<String, AllocEr
     let filled = fill(&mut builder, bytes, false);
     let ended = end(&mut builder);
     match (filled, ended) {
-        (Ok(_), Ok(_)) => told_of(alloc, &builder.sixel),
+        (Ok(_), Ok(_)) => emitted_of(alloc, &builder.sixel),
         _ => Err(AllocError),
     }
 }
 
 impl Asked for Row<'_> {
-    fn told(&self) -> &str {
-        self.told
+    fn emitted(&self) -> &str {
+        self.emitted
     }
 
     fn answer(

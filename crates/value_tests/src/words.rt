@@ -1,5 +1,5 @@
 //! Words and numbers, as they are read, and written again.
-use crate::told::{both_of, check, told_of};
+use crate::emitted::{both_of, check, emitted_of};
 use esc_below::cut::{cut, key_and_value};
 use esc_below::scalar::{read_i32, read_i64, read_u8, read_u32, read_usize, text_in};
 use esc_iterm::dimension::ITermDimension;
@@ -35,7 +35,7 @@ fn read_as<T: Debug + Display + Drop, E: Debug + Drop>(
 ) -> Result<String, AllocError> {
     match read {
         Ok(value) => both_of(alloc, value),
-        Err(error) => told_of(alloc, error),
+        Err(error) => emitted_of(alloc, error),
     }
 }
 
@@ -268,9 +268,9 @@ fn words(rt: HostRuntime) -> Result<(), Fail> {
         (Kind::Code, CODES.as_slice()),
     ];
     for (kind, rows) in tables {
-        for (text, told) in rows {
+        for (text, emitted) in rows {
             let read = kind.read(rt.alloc(), text)?;
-            check(&rt, read.as_str() == *told, told);
+            check(&rt, read.as_str() == *emitted, emitted);
         }
     }
     Ok(())

@@ -11,7 +11,7 @@ use Rattle.esc_frame.specs.Events.{Event, StopsAt}
 use Rattle.esc_frame.specs.Leads.{Unfinished, Holds}
 use Rattle.esc_frame.specs.Segments.{is_empty}
 use Rattle.esc_frame.specs.Leads.Unfinished.{Ground}
-use Rattle.esc_frame.specs.Machine.Moves.{Move, after_all, news_all, may_grow_within, is_fresh, is_lendable, IsStill}
+use Rattle.esc_frame.specs.Machine.Moves.{Move, after_all, events_all, may_grow_within, is_fresh, is_borrowable, IsStill}
 
 -- The actor stopped by itself at a text of a string within the limit, which it was given with a
 -- reference to an allocator.
@@ -37,7 +37,7 @@ Moved {K} {A} keeps denied limit own takes refuses result m machine old new =
 -- where all strings in the rest can be lent, none of them is begun after its first n bytes but for
 -- its opener
 abbrev pub StaysFresh : Unfinished → List ℕ → ℕ → Type 0
-StaysFresh u rest n = is_lendable u rest ≡ true → is_fresh (after_all u (take n rest)) ≡ true
+StaysFresh u rest n = is_borrowable u rest ≡ true → is_fresh (after_all u (take n rest)) ≡ true
 
 -- The call took n bytes of the rest, where u was unfinished before: the machine keeps what is
 -- unfinished after them, and the actor was given their events. Where the result is an error the
@@ -51,10 +51,10 @@ abbrev pub Took : {K A S E : Type 0} → (Option ℕ → K → List ℕ → Type
 Took {K} {A} keeps denied limit takes refuses result u rest machine old new =
     MatchResult result
     (λ n. Holds keeps limit machine (after_all u (take n rest))
-    × FoldsTo takes old (news_all limit u (take n rest)) new
+    × FoldsTo takes old (events_all limit u (take n rest)) new
     × StaysFresh u rest n)
     (λ _. StopsAt ((may_grow_within u rest ≡ true) × denied limit) takes refuses old
-    (news_all limit u rest) new)
+    (events_all limit u rest) new)
 
 -- it took a byte at least, and no more than there are, and the actor is ready
 abbrev pub Advances : {S E : Type 0} → (S → Type 0) → Result ℕ E → List ℕ → S → Type 0
@@ -65,9 +65,9 @@ abbrev pub Quietly : {E : Type 0} → Option ℕ → Result ℕ E → Unfinished
 Quietly limit result u rest = IfOk result (λ n. IsStill limit u rest n)
 
 -- in ground these bytes tell one event, whatever the limit, and leave nothing unfinished
-abbrev pub TellsOne : List ℕ → Event → Type 0
-TellsOne x e = (after_all Ground x ≡ Ground)
-    × ((limit : Option ℕ) → news_all limit Ground x ≡ e ∷ [])
+abbrev pub EmitsOne : List ℕ → Event → Type 0
+EmitsOne x e = (after_all Ground x ≡ Ground)
+    × ((limit : Option ℕ) → events_all limit Ground x ≡ e ∷ [])
 
 -- N bytes of the rest were taken in ground: whatever the limit, nothing is unfinished after them,
 -- the actor was given their events, and is ready.
@@ -75,7 +75,7 @@ abbrev pub Ran : {S : Type 0} → (S → Event → S → Type 0) → (S → Type
     → Type 0
 Ran takes is_ready rest n old new =
     (n ≤ length rest) × (after_all Ground (take n rest) ≡ Ground)
-    × ((limit : Option ℕ) → FoldsTo takes old (news_all limit Ground (take n rest)) new) ×
+    × ((limit : Option ℕ) → FoldsTo takes old (events_all limit Ground (take n rest)) new) ×
     is_ready new
 
 -- the same of a call, which stops only where the actor refuses
@@ -84,7 +84,7 @@ abbrev pub Stays : {S E : Type 0} → (S → Event → S → Type 0) → (S → 
     → Result ℕ E → List ℕ → S → S → Type 0
 Stays takes refuses is_ready result rest old new =
     MatchResult result (λ n. Ran takes is_ready rest n old new)
-    (λ _. (limit : Option ℕ) → StopsAt ⊥ takes refuses old (news_all limit Ground rest) new)
+    (λ _. (limit : Option ℕ) → StopsAt ⊥ takes refuses old (events_all limit Ground rest) new)
 
 -- It took some of the bytes, in ground: one at least, and the first event among them, if any, is
 -- that of the last.

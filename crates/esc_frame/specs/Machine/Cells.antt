@@ -1,8 +1,8 @@
--- The array of a list of entries. Only private contracts cite it.
+-- The array of a list of parameters. Only private contracts cite it.
 use Rattle.std.specs.Prelude.{ℕ, ◌≡◌, ◌≤◌, List, [], length, take, Option, Some, None}
 use Rattle.esc_values.specs.declared.csi_param.CsiParam.{CsiParam}
 
--- the entries: the first n cells of the array, if it is filled
+-- the parameters: the first n cells of the array, if it is filled
 abbrev pub first_cells : ℕ → Option (List CsiParam) → List CsiParam
 first_cells n None = []
 first_cells n (Some cells) = take n cells

@@ -10,9 +10,9 @@ use Rattle.esc_frame.specs.Classes.{strip, those, is_text}
 use Rattle.esc_frame.specs.Leads.{Unfinished, Holds}
 use Rattle.esc_frame.specs.Leads.Unfinished.{InEscape, InCsi, InOsc, InOscPending, InDcs, InData, InApc, InIgnored}
 use Rattle.esc_frame.specs.Limits.{is_read}
-use Rattle.esc_frame.specs.Machine.Fronts.{front_of}
+use Rattle.esc_frame.specs.Machine.Prefixes.{prefix_of}
 use Rattle.esc_frame.specs.Machine.Keeps.{Keeps, KeepsBody, KeepsDcs, parameters_of}
-use Rattle.esc_frame.specs.Machine.Moves.{is_lendable}
+use Rattle.esc_frame.specs.Machine.Moves.{is_borrowable}
 use Rattle.esc_frame.specs.Segments.{Opener, Piece, text_of}
 
 -- whatever is unfinished
@@ -22,8 +22,8 @@ abbrev pub Holding : {K A : Type 0} → Keeper K → Option ℕ → Changed (Mac
 Holding K limit self P = (u : Unfinished) → Holds K.keeps limit self.entry.now u → P u
 
 -- where not all strings in the rest can be lent
-abbrev pub Unlent : List ℕ → (Unfinished → Type 0) → Unfinished → Type 0
-Unlent rest P u = is_lendable u rest ≡ false → P u
+abbrev pub Unborrowed : List ℕ → (Unfinished → Type 0) → Unfinished → Type 0
+Unborrowed rest P u = is_borrowable u rest ≡ false → P u
 
 -- any text that the store keeps
 abbrev pub KeepingText : {K : Type 0} → Keeper K → K → (Option ℕ → List ℕ → Type 0) → Type 0
@@ -38,7 +38,7 @@ KeepingEscape self P =
     (limit : Option ℕ) (own : Bool) (x : List ℕ) → Keeps self.entry.now.intermediates (strip x)
     → P limit own (InEscape x)
 
--- ---- csi: the entries, under any limit
+-- ---- csi: the parameters, under any limit
 
 abbrev pub KeepingCsi : {K A : Type 0} → Changed (Machine K A) → (Option ℕ → Unfinished → Type 0)
     → Type 0
@@ -82,7 +82,7 @@ abbrev pub KeepingOscPending : {K A : Type 0} → Keeper K → Option ℕ → Ch
     → Type 0
 KeepingOscPending K limit self P =
     (o : Opener) (ps : List Piece) (f : List ℕ)
-    → K.keeps limit self.entry.now.text (text_of ps) → front_of self.entry.now.pending ≡ f
+    → K.keeps limit self.entry.now.text (text_of ps) → prefix_of self.entry.now.pending ≡ f
     → P (InOscPending o ps f)
 
 -- of which no text has come

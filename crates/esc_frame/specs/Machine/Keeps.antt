@@ -6,21 +6,21 @@ use Rattle.std.specs.List.{filter}
 use Rattle.esc_values.specs.declared.csi_param.CsiParam.{CsiParam}
 use Rattle.esc_values.specs.declared.csi_param.CsiParam.TheVariants.{Integer, P}
 use Rattle.esc_frame.specs.declared.intermediates.Intermediates.{Intermediates}
-use Rattle.esc_frame.specs.declared.entries.Entries.{Entries}
+use Rattle.esc_frame.specs.declared.csi_params.Params.{Params}
 use Rattle.esc_frame.specs.declared.kept.Kept.{Kept}
 use Rattle.esc_frame.specs.declared.body.CsiBody.{CsiBody}
 use Rattle.esc_frame.specs.declared.body.Form.{Form}
 use Rattle.esc_frame.specs.declared.header.DcsHeader.{DcsHeader}
 use Rattle.esc_frame.specs.declared.body.Form.TheVariants as form
 use Rattle.esc_frame.specs.Limits.{is_within}
-use Rattle.esc_frame.specs.Bodies.{is_digit, held, is_marker, is_csi_parameter, is_dcs_parameter, is_intermediate_byte}
+use Rattle.esc_frame.specs.Bodies.{is_digit, held, is_private_prefix, is_csi_parameter, is_dcs_parameter, is_intermediate_byte}
 
 -- the first two of these bytes are kept, and whether there are more
 abbrev pub Keeps : Intermediates → List ℕ → Type 0
 Keeps i bytes = (take i.kept i.bytes ≡ take 2 bytes) × (i.ignored ≡ nat_lt 2 (length bytes))
     × (i.kept ≡ length (take 2 bytes))
 
--- the entries that no further digit can change, and the number of the run of digits at the end
+-- the parameters that no further digit can change, and the number of the run of digits at the end
 abbrev pub shown : Option ℕ → List CsiParam
 shown None = []
 shown (Some n) = Integer (pos (held n)) ∷ []
@@ -45,17 +45,17 @@ abbrev pub closed_of : Option ℕ → List ℕ → List CsiParam
 closed_of o [] = []
 closed_of o (b ∷ bs) = closed_by o b ++ closed_of (next_number_of o b) bs
 
-abbrev pub IsNumber : Entries → Option ℕ → Type 0
+abbrev pub IsNumber : Params → Option ℕ → Type 0
 IsNumber e None = e.is_open ≡ false
 IsNumber e (Some n) = (e.is_open ≡ true) × (e.number ≡ held n)
 
--- these are the first entries of the list, as many as are kept, and whether it has more
+-- these are the first parameters of the list, as many as are kept, and whether it has more
 pub record AreFirst (items : List CsiParam) (truncated : Bool) (limit : ℕ)
     (all : List CsiParam) : Type 0 where
   pub kept : items ≡ take limit all
   pub more : truncated ≡ nat_lt limit (length all)
 
-abbrev pub KeepsEntries : Entries → List ℕ → Type 0
+abbrev pub KeepsEntries : Params → List ℕ → Type 0
 KeepsEntries e x = AreFirst e.items e.is_truncated e.limit (closed_of None x)
     × IsNumber e (number_of_run None x) × (e.limit ≡ 256)
 
@@ -63,7 +63,7 @@ KeepsEntries e x = AreFirst e.items e.is_truncated e.limit (closed_of None x)
 -- bytes
 abbrev pub next_form_by : (ℕ → Bool) → Form → ℕ → Form
 next_form_by p form.Empty b =
-    if is_marker b then form.Parameters else if p b then form.Parameters else if
+    if is_private_prefix b then form.Parameters else if p b then form.Parameters else if
     is_intermediate_byte b then form.Intermediates else form.Malformed
 next_form_by p form.Parameters b = if p b then form.Parameters else if is_intermediate_byte b then
     form.Intermediates else form.Malformed
@@ -86,9 +86,9 @@ abbrev pub is_formed : Form → Bool
 is_formed form.Malformed = false
 is_formed _ = true
 
--- the entries and the form of a body so far
+-- the parameters and the form of a body so far
 abbrev pub KeepsBody : CsiBody → List ℕ → Type 0
-KeepsBody e x = KeepsEntries e.entries x × (e.form ≡ form_from form.Empty x)
+KeepsBody e x = KeepsEntries e.csi_params x × (e.form ≡ form_from form.Empty x)
 
 -- this text is kept, each byte of which counts; or nothing, not even memory, where it is past the
 -- limit

@@ -5,7 +5,7 @@ use Rattle.esc_frame.specs.declared.taker.Taker.{Ghosts as Actor}
 use Rattle.esc_frame.specs.declared.machine.Machine.{Machine}
 use Rattle.esc_frame.specs.declared.store.Store.{Ghosts as Keeper}
 use Rattle.esc_frame.specs.Changed.{Changed}
-use Rattle.esc_frame.specs.Events.{Event, Hears, Takes}
+use Rattle.esc_frame.specs.Events.{Event, Receives, Takes}
 use Rattle.esc_frame.specs.Leads.{Unfinished}
 use Rattle.esc_frame.specs.Machine.Calls as calls
 use Rattle.esc_frame.specs.Machine.Moves.{Move}
@@ -13,7 +13,7 @@ use Rattle.esc_frame.specs.Machine.Moves.{Move}
 -- the actor was given this event, or refused it where the result is an error
 abbrev pub EmitsOne : {S E : Type 0} → Actor S → Result (Unit {0}) E → Event → Changed S → Type 0
 EmitsOne V result event actor =
-    Hears V.takes V.refuses result actor.entry.now event actor.exit.now
+    Receives V.takes V.refuses result actor.entry.now event actor.exit.now
 
 -- these events, or a prefix of them after an error, which is the actor's unless `own` holds
 abbrev pub Emits : {S E : Type 0} → Actor S → Type 0 → Result (Unit {0}) E → List Event → Changed S

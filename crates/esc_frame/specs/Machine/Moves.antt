@@ -1,14 +1,14 @@
--- The byte machine: what one byte makes of what is unfinished, and what it tells. Only private
+-- The byte machine: what one byte makes of what is unfinished, and what it emits. Only private
 -- contracts cite it.
 use Rattle.std.specs.Prelude.{ℕ, ◌≡◌, ◌<◌, Bool, true, false, not, ◌||◌, ◌&&◌, if◌then◌else◌, List, [], ◌∷◌, ◌++◌, take, Option, None}
 use Rattle.esc_frame.specs.declared.classes.Class.{Class}
-use Rattle.esc_frame.specs.declared.classes.Class.TheVariants.{Escape, Opens, RawOpens, High, Lead, Bell}
+use Rattle.esc_frame.specs.declared.classes.Class.TheVariants.{Escape, Introducer, C1Introducer, High, Lead, Bell}
 use Rattle.esc_frame.specs.declared.classes.Kind.{Kind}
 use Rattle.esc_frame.specs.declared.classes.Kind.TheVariants as kind
 use Rattle.esc_frame.specs.declared.sequence.Outcome.{Outcome}
 use Rattle.esc_frame.specs.declared.sequence.Outcome.TheVariants as outcomes
 use Rattle.esc_frame.specs.Sequences.{is_pair, number_of, outcome}
-use Rattle.esc_frame.specs.Classes.{class_of, strip, those, is_text, is_breaker, is_plain, is_control, is_raw_control, in_escape, in_csi, in_osc, is_put}
+use Rattle.esc_frame.specs.Classes.{class_of, strip, those, is_text, is_breaker, is_c0, is_control, is_c1, in_escape, in_csi, in_osc, is_put}
 use Rattle.esc_frame.specs.Events.{Event}
 use Rattle.esc_frame.specs.Events.Event.{Print, Execute, DcsPut, DcsUnhook}
 use Rattle.esc_frame.specs.Limits.{is_read, has_few_parts}
@@ -18,13 +18,13 @@ use Rattle.esc_frame.specs.Segments.Piece.{One, Sequence, BrokenOff}
 use Rattle.esc_frame.specs.Leads.{Unfinished}
 use Rattle.esc_frame.specs.Leads.Unfinished.{Ground, Pending, InEscape, InCsi, InOsc, InOscPending, InDcs, InData, InApc, InIgnored}
 
--- what is unfinished after a byte, and the events that the byte tells
+-- what is unfinished after a byte, and the events that the byte emits
 abbrev pub Move : Type 0
 Move = Unfinished × List Event
 
 -- these events, and then what a byte does
-abbrev pub telling : List Event → Move → Move
-telling es m = (m.0, es ++ m.1)
+abbrev pub emitting : List Event → Move → Move
+emitting es m = (m.0, es ++ m.1)
 
 abbrev pub opened : Kind → Opener → Unfinished
 opened kind.Csi o = InCsi o []
@@ -36,27 +36,27 @@ opened k o = InIgnored k o []
 -- a byte in ground that is no character and no control
 abbrev pub begins : ℕ → Class → Move
 begins b Escape = (InEscape [], [])
-begins b (RawOpens k) = (opened k Raw, [])
+begins b (C1Introducer k) = (opened k Raw, [])
 begins b Lead = (Pending (b ∷ []), [])
 begins b High = (Ground, Print 0xfffd ∷ [])
 begins b _ = (Ground, [])
 
 abbrev pub ground_move : ℕ → Class → Move
 ground_move b c = if is_text c then (Ground, Print b ∷ []) else if is_control c
-    || is_raw_control c then (Ground, Execute b ∷ []) else begins b c
+    || is_c1 c then (Ground, Execute b ∷ []) else begins b c
 
 -- after C2: 80-9F
 abbrev pub pair_move : ℕ → Class → Move
-pair_move b (RawOpens k) = (opened k Pair, [])
-pair_move b c = (Ground, if is_raw_control c then Execute b ∷ [] else [])
+pair_move b (C1Introducer k) = (opened k Pair, [])
+pair_move b c = (Ground, if is_c1 c then Execute b ∷ [] else [])
 
 -- a control in a sequence that goes on
 abbrev pub noise : ℕ → Class → List Event
-noise b c = if is_plain c then Execute b ∷ [] else []
+noise b c = if is_c0 c then Execute b ∷ [] else []
 
 -- the final byte of an escape sequence, or what it opens
 abbrev pub final_escape : List ℕ → ℕ → Class → Move
-final_escape x b (Opens k) =
+final_escape x b (Introducer k) =
     if is_empty (strip x) then (opened k (Long x), []) else (Ground, escape_event (strip x) b ∷ [])
 final_escape x b _ = (Ground, escape_event (strip x) b ∷ [])
 
@@ -64,7 +64,7 @@ final_escape x b _ = (Ground, escape_event (strip x) b ∷ [])
 abbrev pub hooks : Option ℕ → List ℕ → ℕ → List Event
 hooks limit x b = if is_read limit (strip x) then hook_event (strip x) b ∷ [] else []
 
--- what a sequence or a string tells where it is left
+-- what a sequence or a string emits where it is left
 abbrev pub leaving : Option ℕ → Unfinished → List Event
 leaving limit (InData o x f d) = if is_read limit (strip x) then DcsUnhook ∷ [] else []
 leaving limit (InApc o d) = apc_events limit (those is_text d)
@@ -96,7 +96,7 @@ goes_on limit u b c = (u, [])
 -- a byte in a sequence or a string: a breaker breaks it off, and does what it does in ground
 abbrev pub inside : Option ℕ → Unfinished → ℕ → Class → Move
 inside limit u b c =
-    if is_breaker c then telling (leaving limit u) (ground_move b c) else goes_on limit u b c
+    if is_breaker c then emitting (leaving limit u) (ground_move b c) else goes_on limit u b c
 
 -- a byte that ends an operating system command: a bell, which belongs to it, or a breaker
 abbrev pub ends_osc : Class → Bool
@@ -112,12 +112,13 @@ abbrev pub pending_move : List ℕ → ℕ → Class → Outcome → Move
 pending_move f b c outcomes.Whole =
     if is_pair (f ++ b ∷ []) then pair_move b c else (Ground, Print (number_of (f ++ b ∷ [])) ∷ [])
 pending_move f b c outcomes.More = (Pending (f ++ b ∷ []), [])
-pending_move f b c outcomes.Broken = telling (Print 0xfffd ∷ []) (ground_move b c)
+pending_move f b c outcomes.Broken = emitting (Print 0xfffd ∷ []) (ground_move b c)
 
 -- the same in an OSC
 abbrev pub osc_pending_move : Option ℕ → Opener → List Piece → List ℕ → ℕ → Class → Outcome → Move
 osc_pending_move limit o ps f b c outcomes.Whole =
-    if is_pair (f ++ b ∷ []) then telling (leaving limit (InOscPending o ps f)) (pair_move b c) else
+    if is_pair (f ++ b ∷ [])
+    then emitting (leaving limit (InOscPending o ps f)) (pair_move b c) else
     (InOsc o (ps ++ Sequence (f ++ b ∷ []) ∷ []), [])
 osc_pending_move limit o ps f b c outcomes.More = (InOscPending o ps (f ++ b ∷ []), [])
 osc_pending_move limit o ps f b c outcomes.Broken =
@@ -134,8 +135,8 @@ move limit u b c = inside limit u b c
 abbrev pub after_by : Unfinished → ℕ → Class → Unfinished
 after_by u b c = (move None u b c).0
 
-abbrev pub news_by : Option ℕ → Unfinished → ℕ → Class → List Event
-news_by limit u b c = (move limit u b c).1
+abbrev pub events_by : Option ℕ → Unfinished → ℕ → Class → List Event
+events_by limit u b c = (move limit u b c).1
 
 -- ---- many bytes, one after another
 
@@ -143,10 +144,10 @@ abbrev pub after_all : Unfinished → List ℕ → Unfinished
 after_all u [] = u
 after_all u (b ∷ bs) = after_all (after_by u b (class_of b)) bs
 
-abbrev pub news_all : Option ℕ → Unfinished → List ℕ → List Event
-news_all limit u [] = []
-news_all limit u (b ∷ bs) =
-    news_by limit u b (class_of b) ++ news_all limit (after_by u b (class_of b)) bs
+abbrev pub events_all : Option ℕ → Unfinished → List ℕ → List Event
+events_all limit u [] = []
+events_all limit u (b ∷ bs) =
+    events_by limit u b (class_of b) ++ events_all limit (after_by u b (class_of b)) bs
 
 abbrev pub is_ground : Unfinished → Bool
 is_ground Ground = true
@@ -197,8 +198,8 @@ all_pass u [] = true
 all_pass u (b ∷ bs) = passes u b (class_of b) && all_pass (after_by u b (class_of b)) bs
 
 -- all strings in these bytes can be lent, and nothing is unfinished after them
-abbrev pub lends : Unfinished → List ℕ → Bool
-lends u bs = all_pass u bs && is_ground (after_all u bs)
+abbrev pub borrows : Unfinished → List ℕ → Bool
+borrows u bs = all_pass u bs && is_ground (after_all u bs)
 
 -- no byte of a string that counts has come
 abbrev pub is_fresh : Unfinished → Bool
@@ -210,17 +211,17 @@ is_fresh (InOsc o ps) = is_empty (text_of ps)
 is_fresh (InApc o d) = is_empty (those is_text d)
 is_fresh _ = false
 
-abbrev pub is_lendable : Unfinished → List ℕ → Bool
-is_lendable u bs = is_fresh u && lends u bs
+abbrev pub is_borrowable : Unfinished → List ℕ → Bool
+is_borrowable u bs = is_fresh u && borrows u bs
 
 -- these bytes may make the machine's memory grow
 abbrev pub may_grow_within : Unfinished → List ℕ → Bool
-may_grow_within u bs = reaches_growing u bs && not (is_lendable u bs)
+may_grow_within u bs = reaches_growing u bs && not (is_borrowable u bs)
 
 -- ---- prefixes that stop at the first event
 
 -- Of the first n bytes of the rest, where u was unfinished before, all but the last tell nothing
 -- and leave something unfinished.
 abbrev pub IsStill : Option ℕ → Unfinished → List ℕ → ℕ → Type 0
-IsStill limit u rest n = (k : ℕ) → 0 < k → k < n → (news_all limit u (take k rest) ≡ [])
+IsStill limit u rest n = (k : ℕ) → 0 < k → k < n → (events_all limit u (take k rest) ≡ [])
     × (is_ground (after_all u (take k rest)) ≡ false)

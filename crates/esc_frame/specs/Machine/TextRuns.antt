@@ -4,13 +4,13 @@ use Rattle.esc_frame.specs.Scans.{is_text_byte}
 use Rattle.esc_frame.specs.Segments.{Opener, Piece, text_of}
 use Rattle.esc_frame.specs.Leads.Unfinished.{InOsc}
 use Rattle.esc_frame.specs.Machine.Characters.{NoneAhead}
-use Rattle.esc_frame.specs.Machine.Moves.{after_all, news_all}
+use Rattle.esc_frame.specs.Machine.Moves.{after_all, events_all}
 
 -- the bytes are whole units of the text, which keeps them as they are
 abbrev pub IsTextRun : List ℕ → Type 0
 IsTextRun x =
     (qs : List Piece) × (text_of qs ≡ x) × ((limit : Option ℕ) (o : Opener) (ps : List Piece)
-    → (after_all (InOsc o ps) x ≡ InOsc o (ps ++ qs)) × (news_all limit (InOsc o ps) x ≡ []))
+    → (after_all (InOsc o ps) x ≡ InOsc o (ps ++ qs)) × (events_all limit (InOsc o ps) x ≡ []))
 
 -- the bytes begin with no unit that the text keeps as it is: neither 20-7F nor a whole sequence
 -- that is no control

@@ -6,8 +6,8 @@ use Rattle.esc_frame.proofs.Given.{takes_one}
 use Rattle.esc_frame.proofs.Headers.{hook_is, read_parts}
 use Rattle.esc_frame.proofs.dcs.hook.Goals as goal
 
-pub returns-clause-told : goal.returns-clause-told
-returns-clause-told g c = λ limit x h k r.
+pub returns-clause-emitted : goal.returns-clause-emitted
+returns-clause-emitted g c = λ limit x h k r.
     let p = read_parts limit x r in
     let e = c.bytes.ensures.kept limit (parameters_of x) h p.0 in
     takes_one _ (Stops g.V.Taker.stops g.row.A.Denot limit)
@@ -18,4 +18,4 @@ returns-clause-told g c = λ limit x h k r.
       c.bytes.result.now,
       subst (λ y. is_within limit (length y) ≡ true) (sym e) p.0,
       w,
-    )) c.dcs_header.ensures.told
+    )) c.dcs_header.ensures.emitted

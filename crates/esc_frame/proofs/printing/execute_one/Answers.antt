@@ -7,7 +7,7 @@ returns-in-Ok g c =
       c.requires.some,
       one.0,
       event_given g.V.Taker.takes g.V.Taker.refuses c.args.rest.now 1 _ c.args.actor.now _ one
-          c.in-Ok.ensures.hears,
+          c.in-Ok.ensures.receives,
       c.in-Ok.ensures.ready,
     )
 
@@ -15,4 +15,4 @@ pub returns-in-Err : goal.returns-in-Err
 returns-in-Err g c =
     event_stops g.V.Taker.takes g.V.Taker.refuses c.args.rest.now 1 _ c.args.actor.now _
     (one_control c.args.rest.now c.requires.some c.requires.low
-    c.requires.other) _ c.in-Err.ensures.hears
+    c.requires.other) _ c.in-Err.ensures.receives

@@ -9,7 +9,7 @@ returns-in-Ok g c =
       one.0,
       event_given g.V.Taker.takes g.V.Taker.refuses c.args.rest.now c.args.n _ c.args.actor.now _
           one
-          c.in-Ok.ensures.hears,
+          c.in-Ok.ensures.receives,
       c.in-Ok.ensures.ready,
     )
 
@@ -17,4 +17,4 @@ pub returns-in-Err : goal.returns-in-Err
 returns-in-Err g c =
     event_stops g.V.Taker.takes g.V.Taker.refuses c.args.rest.now c.args.n _ c.args.actor.now _
     (character_does _ _ (c.requires.ahead (omega arith)).1)
-    _ c.in-Err.ensures.hears
+    _ c.in-Err.ensures.receives

@@ -9,7 +9,7 @@ returns-in-Ok g c =
       c.requires.some,
       one.0,
       event_given g.V.Taker.takes g.V.Taker.refuses c.args.rest.now 1 _ c.args.actor.now _ one
-          c.in-Ok.ensures.hears,
+          c.in-Ok.ensures.receives,
       c.in-Ok.ensures.ready,
     )
 
@@ -19,4 +19,4 @@ returns-in-Err g c =
     (one_text c.args.rest.now (omega arith) (grind (
       arith,
       nat_tests,
-    ))) _ c.in-Err.ensures.hears
+    ))) _ c.in-Err.ensures.receives

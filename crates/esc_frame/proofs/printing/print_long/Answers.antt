@@ -11,11 +11,13 @@ pub returns-in-Ok-print_str : goal.returns-in-Ok-print_str
 returns-in-Ok-print_str g c =
     let run = str_given g.V.Taker.takes g.V.Taker.refuses c.args.rest.now c.in-Ok.text.now
     c.free_run-run.result c.args.actor.now c.print_str.new.self
-    c.free_run-run.ensures.run c.in-Ok.ensures.0 c.in-Ok.ensures.1 c.in-Ok-print_str.ensures.told in
+    c.free_run-run.ensures.run c.in-Ok.ensures.0 c.in-Ok.ensures.1
+    c.in-Ok-print_str.ensures.emitted in
     (c.free_run-run.ensures.few, run.0, run.1, c.in-Ok-print_str.ensures.ready)
 
 pub returns-in-Err-print_str : goal.returns-in-Err-print_str
 returns-in-Err-print_str g c =
     str_stops g.V.Taker.takes g.V.Taker.refuses c.args.rest.now c.in-Ok.text.now
     c.free_run-run.result c.args.actor.now c.print_str.new.self
-    c.free_run-run.ensures.run c.in-Ok.ensures.0 c.in-Ok.ensures.1 _ c.in-Err-print_str.ensures.told
+    c.free_run-run.ensures.run c.in-Ok.ensures.0 c.in-Ok.ensures.1 _
+    c.in-Err-print_str.ensures.emitted

@@ -7,13 +7,13 @@ use Rattle.esc_frame.proofs.printing.print_text.Goals as goal
 pub returns-in-Ok : goal.returns-in-Ok
 returns-in-Ok g c =
     let run = text_given g.V.Taker.takes g.V.Taker.refuses c.args.rest.now _ c.args.actor.now _
-    c.ascii_run-run.ensures.run c.in-Ok.ensures.told in
+    c.ascii_run-run.ensures.run c.in-Ok.ensures.emitted in
     (c.ascii_run-run.ensures.few, run.0, run.1, c.in-Ok.ensures.ready)
 
 pub returns-in-Err : goal.returns-in-Err
 returns-in-Err g c =
     text_stops g.V.Taker.takes g.V.Taker.refuses c.args.rest.now _ c.args.actor.now _ _
-    c.ascii_run-run.ensures.run c.in-Err.ensures.told
+    c.ascii_run-run.ensures.run c.in-Err.ensures.emitted
 
 pub print_text-requires-clause-text : goal.print_text-requires-clause-text
 print_text-requires-clause-text g c =

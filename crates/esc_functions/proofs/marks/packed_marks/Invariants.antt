@@ -6,5 +6,5 @@ use Rattle.esc_functions.proofs.marks.packed_marks.Given as goal
 -- what is left, packed after what was read, is the whole
 abbrev pub invariant-loop-entry : goal.invariant-loop-entry
 invariant-loop-entry l =
-    (packed 1 (marks l.entries) ≡ packed l.packed (marks (drop l.entry-index l.entries)))
+    (packed 1 (marks l.csi_params) ≡ packed l.packed (marks (drop l.entry-index l.csi_params)))
     × (l.packed < 2 ^ 24)

@@ -1,6 +1,6 @@
 use Rattle.std.proofs.Common.{◌<◌, subst}
 use Rattle.esc_lent.proofs.TextRuns.{text_utf8, data_utf8}
-use Rattle.esc_lent.proofs.Kept.{text_keeps, text_tells, data_keeps, data_tells}
+use Rattle.esc_lent.proofs.Kept.{text_keeps, text_emits, data_keeps, data_emits}
 use Rattle.esc_lent.proofs.advance.run_ahead.Goals as goal
 
 pub returns-then-parser-eq0-2-clause-kept : goal.returns-then-parser-eq0-2-clause-kept
@@ -9,10 +9,10 @@ returns-then-parser-eq0-2-clause-kept c = λ some u memory h.
     c.text_run.result c.note_run.result
     c.note_run.ensures.length c.text_run.ensures.run u h
 
-pub returns-then-parser-eq0-2-clause-told : goal.returns-then-parser-eq0-2-clause-told
-returns-then-parser-eq0-2-clause-told c = λ some u memory out h.
+pub returns-then-parser-eq0-2-clause-emitted : goal.returns-then-parser-eq0-2-clause-emitted
+returns-then-parser-eq0-2-clause-emitted c = λ some u memory out h.
     let k = c.note_run.ensures.some (subst (λ n. 0 < n) c.note_run.ensures.length some) in
-    text_tells c.args.parser.now memory c.if-parser-eq0.true c.if-parser-eq0-2.true c.args.bytes.now
+    text_emits c.args.parser.now memory c.if-parser-eq0.true c.if-parser-eq0-2.true c.args.bytes.now
     c.text_run.result c.note_run.result
     c.note_run.ensures.length c.text_run.ensures.run u h c.note_run.new.event out k.0 k.1
 
@@ -22,11 +22,11 @@ returns-then-parser-eq5-clause-kept c = λ some u memory h.
     c.note_run-then-parser-eq5.result
     c.note_run-then-parser-eq5.ensures.length c.data_run.ensures.run u h
 
-pub returns-then-parser-eq5-clause-told : goal.returns-then-parser-eq5-clause-told
-returns-then-parser-eq5-clause-told c = λ some u memory out h.
+pub returns-then-parser-eq5-clause-emitted : goal.returns-then-parser-eq5-clause-emitted
+returns-then-parser-eq5-clause-emitted c = λ some u memory out h.
     let k = c.note_run-then-parser-eq5.ensures.some
     (subst (λ n. 0 < n) c.note_run-then-parser-eq5.ensures.length some) in
-    data_tells c.args.parser.now memory c.if-parser-eq5.true c.args.bytes.now c.data_run.result
+    data_emits c.args.parser.now memory c.if-parser-eq5.true c.args.bytes.now c.data_run.result
     c.note_run-then-parser-eq5.result
     c.note_run-then-parser-eq5.ensures.length c.data_run.ensures.run u h
     c.note_run-then-parser-eq5.new.event out k.0 k.1

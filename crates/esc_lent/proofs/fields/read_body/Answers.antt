@@ -1,25 +1,28 @@
 use Rattle.std.proofs.Common.{◌≡◌, ◌≤◌, false, true, take, map, length, length-take, List, ℕ, subst, arith, rules}
 use Rattle.std.proofs.lemmas.List.{length-map}
-use Rattle.esc_frame.specs.Machine.Shorts.{IsBehind, IsFront}
+use Rattle.esc_frame.specs.Machine.Shorts.{IsAfter, IsPrefix}
 use Rattle.esc_frame.proofs.CsiRuns.{run_joins}
 use Rattle.esc_frame.proofs.ManyBytes.{tail_length}
 use Rattle.esc_frame.proofs.Shorts.{ends_short}
 use Rattle.esc_lent.specs.declared.event.EscEntry.{EscEntry}
-use Rattle.esc_lent.specs.Told.{param_of}
+use Rattle.esc_lent.specs.Emitted.{param_of}
 use Rattle.esc_lent.proofs.fields.read_body.Goals as goal
 
-few : (entries : List EscEntry) (n : ℕ) → n ≤ 256 → length (map param_of (take n entries)) ≤ 256
-few entries n h = omega (arith, length-map (take n entries) param_of, length-take n entries)
+few : (csi_params : List EscEntry) (n : ℕ) → n ≤ 256
+    → length (map param_of (take n csi_params)) ≤ 256
+few csi_params n h =
+    omega (arith, length-map (take n csi_params) param_of, length-take n csi_params)
 
 pub returns-then-not-field-clause-keeps : goal.returns-then-not-field-clause-keeps
 returns-then-not-field-clause-keeps c =
     let rest = c.args.rest.now in
     let i = c.loop-at.at in
     let field = c.put_field-field.result in
-    let entries = c.put_field-field.new.entries in
+    let csi_params = c.put_field-field.new.csi_params in
     let no : field.goes_on ≡ false = search rules in
-    ends_short _ _ (few entries field.count (omega (arith, c.put_field-field.ensures.entries)))
-    (subst (λ y. IsBehind (map param_of (take field.count entries)) y) (run_joins rest i _)
+    ends_short _ _
+    (few csi_params field.count (omega (arith, c.put_field-field.ensures.csi_params)))
+    (subst (λ y. IsAfter (map param_of (take field.count csi_params)) y) (run_joins rest i _)
     (c.put_field-field.ensures.ends no (take i rest) c.loop-at.invariant.2))
 
 pub loop-at-preserved : goal.loop-at-preserved
@@ -27,21 +30,21 @@ loop-at-preserved c =
     let rest = c.args.rest.now in
     let i = c.loop-at.at in
     let field = c.put_field-field.result in
-    let entries = c.put_field-field.new.entries in
+    let csi_params = c.put_field-field.new.csi_params in
     let yes : field.goes_on ≡ true = search rules in
     let l = tail_length rest i in (
       omega (arith, c.put_field-field.ensures.few),
-      omega (arith, c.put_field-field.ensures.entries),
-      subst (λ y. IsFront (map param_of (take field.count entries)) y) (run_joins rest i _)
+      omega (arith, c.put_field-field.ensures.csi_params),
+      subst (λ y. IsPrefix (map param_of (take field.count csi_params)) y) (run_joins rest i _)
           ((c.put_field-field.ensures.goes_on yes).1 (take i rest) c.loop-at.invariant.2),
     )
 
 pub returns-else-count-lt255-clause-keeps : goal.returns-else-count-lt255-clause-keeps
 returns-else-count-lt255-clause-keeps c =
-    ends_short _ _ (few c.loop-at.entries c.loop-at.count c.loop-at.invariant.1)
+    ends_short _ _ (few c.loop-at.csi_params c.loop-at.count c.loop-at.invariant.1)
     c.loop-at.invariant.2.so
 
 pub returns-after-loop-at-clause-keeps : goal.returns-after-loop-at-clause-keeps
 returns-after-loop-at-clause-keeps c =
-    ends_short _ _ (few c.loop-at.entries c.loop-at.count c.loop-at.invariant.1)
+    ends_short _ _ (few c.loop-at.csi_params c.loop-at.count c.loop-at.invariant.1)
     c.loop-at.invariant.2.so

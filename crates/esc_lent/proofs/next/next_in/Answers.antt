@@ -1,20 +1,20 @@
 use Rattle.std.proofs.Common.{rules, ◌≡◌, [], sym, ◌∙◌}
 use Rattle.std.proofs.lemmas.Bool.{false≢true}
 use Rattle.esc_lent.specs.States.{IsAt}
-use Rattle.esc_lent.specs.Told.{due_of}
-use Rattle.esc_lent.proofs.Taken.{at_more, at_due, says_nothing}
+use Rattle.esc_lent.specs.Emitted.{queued_of}
+use Rattle.esc_lent.proofs.Taken.{at_more, at_queued, says_nothing}
 use Rattle.esc_lent.proofs.next.next_in.Goals as goal
 
-pub returns-then-give_due-clause-holds : goal.returns-then-give_due-clause-holds
-returns-then-give_due-clause-holds c = record {
+pub returns-then-give_queued-clause-holds : goal.returns-then-give_queued-clause-holds
+returns-then-give_queued-clause-holds c = record {
   few = search rules;
   within = search rules;
   utf8 = search rules;
   given = λ s es h ne.
-      at_due s c.args.bytes.now es c.args.parser.now c.give_due.new.parser c.args.memory.now _
-      c.give_due.ensures.failed
-      (c.give_due.ensures.told c.args.out.now c.args.bytes.now) c.give_due.ensures.due
-      (c.give_due.ensures.kept c.args.memory.now) h;
+      at_queued s c.args.bytes.now es c.args.parser.now c.give_queued.new.parser c.args.memory.now _
+      c.give_queued.ensures.failed
+      (c.give_queued.ensures.emitted c.args.out.now c.args.bytes.now) c.give_queued.ensures.queued
+      (c.give_queued.ensures.kept c.args.memory.now) h;
   all = search rules;
   moves = search rules;
   failed = search rules;
@@ -27,15 +27,17 @@ returns-clause-holds c = record {
   within = search rules;
   utf8 = search rules;
   given = λ s es h ne.
-      let was : due_of c.args.parser.now.due_kind c.args.parser.now.due_value ≡ [] = sym
-      (c.give_due.ensures.told c.args.out.now [])
-      ∙ says_nothing c.give_due.new.event c.args.out.now _
-      (c.give_due.ensures.none c.if-give_due.false) in
+      let was : queued_of c.args.parser.now.queued_kind c.args.parser.now.queued_value ≡ [] = sym
+      (c.give_queued.ensures.emitted c.args.out.now [])
+      ∙ says_nothing c.give_queued.new.event c.args.out.now _
+      (c.give_queued.ensures.none c.if-give_queued.false) in
       at_more s c.args.bytes.now c.take_next.result es c.args.parser.now c.take_next.new.parser
       c.args.memory.now c.take_next.new.memory _ c.take_next.auto.memory
-      (c.take_next.ensures.holds.goes_on ne ∙ c.give_due.ensures.failed) was
-      (λ u k. c.take_next.ensures.holds.kept u (c.give_due.ensures.kept c.args.memory.now u k) ne)
-      (λ u k. c.take_next.ensures.holds.says u (c.give_due.ensures.kept c.args.memory.now u k) ne)
+      (c.take_next.ensures.holds.goes_on ne ∙ c.give_queued.ensures.failed) was
+      (λ u k. c.take_next.ensures.holds.kept u
+      (c.give_queued.ensures.kept c.args.memory.now u k) ne)
+      (λ u k. c.take_next.ensures.holds.says u
+      (c.give_queued.ensures.kept c.args.memory.now u k) ne)
       h;
   all = search rules;
   moves = search rules;
@@ -50,4 +52,4 @@ returns-then-parser-clause-sound c = λ s es h less. absurd (false≢true (sym h
 pub returns-clause-sound : goal.returns-clause-sound
 unfolding IsAt
 returns-clause-sound c = λ s es h less.
-    c.take_next.ensures.sound _ (c.give_due.ensures.kept c.args.memory.now _ h.1) less
+    c.take_next.ensures.sound _ (c.give_queued.ensures.kept c.args.memory.now _ h.1) less

@@ -1,7 +1,7 @@
 use Rattle.std.proofs.Common.{rules, take, length, ap, ◌∙◌}
 use Rattle.esc_lent.specs.States.{lower, upper}
-use Rattle.esc_lent.specs.Told.{due_of, is_run}
-use Rattle.esc_lent.proofs.Ahead.{event_tells}
+use Rattle.esc_lent.specs.Emitted.{queued_of, is_run}
+use Rattle.esc_lent.proofs.Ahead.{event_emits}
 use Rattle.esc_lent.proofs.Taken.{at_first}
 use Rattle.esc_lent.proofs.next.next_of_sequence.Goals as goal
 
@@ -21,8 +21,8 @@ returns-then-taken-gt0-clause-holds c = record {
       let some = c.if-taken-gt0.true in
       let plain = c.requires.plain in
       at_first s bs n es p memory e out (csi.within.3 ∙ c.settle.ensures.0)
-      (ap (λ k. due_of k p.due_value) plain.1)
-      (event_tells p e (take n bs) plain.2 plain.3 (ap is_run (csi.some some)) (csi.tells some) out
+      (ap (λ k. queued_of k p.queued_value) plain.1)
+      (event_emits p e (take n bs) plain.2 plain.3 (ap is_run (csi.some some)) (csi.emits some) out
       (length memory) bs) h;
   all = search rules;
   moves = search rules;

@@ -1,8 +1,8 @@
 use Rattle.std.proofs.Common.{rules, ◌≡◌, ◌++◌, length, take, drop, ◌-◌, ap, sym, ◌∙◌, subst, Some, arith}
-use Rattle.esc_frame.specs.Machine.Moves.{after_all, news_all}
+use Rattle.esc_frame.specs.Machine.Moves.{after_all, events_all}
 use Rattle.esc_lent.specs.States.{KeptIn}
-use Rattle.esc_lent.specs.Told.{due_of, is_run}
-use Rattle.esc_lent.proofs.Taken.{utf8_placed, after_both, news_both, told_placed, says_nothing}
+use Rattle.esc_lent.specs.Emitted.{queued_of, is_run}
+use Rattle.esc_lent.proofs.Taken.{utf8_placed, after_both, events_both, emitted_placed, says_nothing}
 use Rattle.esc_lent.proofs.next.take_on.Goals as goal
 
 pub returns-then-event-ne-NONE-clause-holds : goal.returns-then-event-ne-NONE-clause-holds
@@ -22,12 +22,12 @@ returns-then-event-ne-NONE-clause-holds c = record {
       let at = c.loop-at.at in
       let i = c.loop-at.invariant.kept u h in
       let e = c.advance-taken.new.event in
-      ap (λ y. y ++ due_of c.advance-taken.new.parser.due_kind
-      c.advance-taken.new.parser.due_value) (told_placed bs at 0 e c.advance-taken.new.out)
-      ∙ c.advance-taken.ensures.told _ i.0 ne
-      ∙ ap (λ k. news_all (Some k) (after_all u (take at bs))
+      ap (λ y. y ++ queued_of c.advance-taken.new.parser.queued_kind
+      c.advance-taken.new.parser.queued_value) (emitted_placed bs at 0 e c.advance-taken.new.out)
+      ∙ c.advance-taken.ensures.emitted _ i.0 ne
+      ∙ ap (λ k. events_all (Some k) (after_all u (take at bs))
       (take c.advance-taken.result (take (length bs - at) (drop at bs)))) c.loop-at.auto.memory
-      ∙ sym (news_both bs at c.advance-taken.result (Some (length c.args.memory.now)) u i.1);
+      ∙ sym (events_both bs at c.advance-taken.result (Some (length c.args.memory.now)) u i.1);
   failed = search rules;
   goes_on = search rules;
 }
@@ -39,7 +39,7 @@ loop-at-preserved c =
     let tail = take c.advance-taken.result (take (length bs - at) (drop at bs)) in
     let none : c.advance-taken.new.event.kind ≡ 0 = c.if-event-ne-NONE.false in
     let ne : c.advance-taken.new.event.kind ≡ 12 → ⊥ = λ e. omega arith in
-    let due = c.advance-taken.ensures.due none in record {
+    let queued = c.advance-taken.ensures.queued none in record {
       within = omega (arith, c.advance-taken.ensures.few);
       none = none;
       within_event = (
@@ -47,19 +47,19 @@ loop-at-preserved c =
         c.advance-taken.ensures.within.1,
         omega (arith, c.advance-taken.ensures.text (ap is_run none), c.loop-at.auto.out),
       );
-      due = due;
+      queued = queued;
       kept = λ u h.
           let i = c.loop-at.invariant.kept u h in (
             subst (KeptIn c.advance-taken.new.parser c.advance-taken.new.memory)
                 (sym (after_both bs at c.advance-taken.result u))
                 (c.advance-taken.ensures.kept _ i.0 ne),
-            news_both bs at c.advance-taken.result (Some (length c.args.memory.now)) u i.1
-                ∙ ap (λ k. news_all (Some k) (after_all u (take at bs)) tail)
+            events_both bs at c.advance-taken.result (Some (length c.args.memory.now)) u i.1
+                ∙ ap (λ k. events_all (Some k) (after_all u (take at bs)) tail)
                 (sym c.loop-at.auto.memory)
-                ∙ sym (c.advance-taken.ensures.told _ i.0 ne)
-                ∙ ap (λ y. y ++ due_of c.advance-taken.new.parser.due_kind
-                c.advance-taken.new.parser.due_value)
-                (says_nothing c.advance-taken.new.event c.advance-taken.new.out _ none) ∙ due,
+                ∙ sym (c.advance-taken.ensures.emitted _ i.0 ne)
+                ∙ ap (λ y. y ++ queued_of c.advance-taken.new.parser.queued_kind
+                c.advance-taken.new.parser.queued_value)
+                (says_nothing c.advance-taken.new.event c.advance-taken.new.out _ none) ∙ queued,
           );
       failed = c.advance-taken.ensures.goes_on ne ∙ c.loop-at.invariant.failed;
     }

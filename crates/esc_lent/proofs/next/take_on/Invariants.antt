@@ -1,8 +1,8 @@
 use Rattle.std.proofs.Common.{◌≡◌, ◌≤◌, ◌-◌, [], length, take, Some}
 use Rattle.esc_frame.specs.Leads.{Unfinished}
-use Rattle.esc_frame.specs.Machine.Moves.{after_all, news_all}
+use Rattle.esc_frame.specs.Machine.Moves.{after_all, events_all}
 use Rattle.esc_lent.specs.States.{KeptIn}
-use Rattle.esc_lent.specs.Told.{due_of}
+use Rattle.esc_lent.specs.Emitted.{queued_of}
 use Rattle.esc_lent.proofs.next.take_on.Given as goal
 
 abbrev pub invariant-loop-at : goal.invariant-loop-at
@@ -11,10 +11,10 @@ invariant-loop-at l = record {
   none : l.event.kind ≡ 0;
   within_event : (l.event.count ≤ 256) × (l.event.kept ≤ 2)
       × (l.event.length ≤ length l.initial.out);
-  due : due_of l.parser.due_kind l.parser.due_value ≡ [];
+  queued : queued_of l.parser.queued_kind l.parser.queued_value ≡ [];
   kept : (u : Unfinished) → KeptIn l.initial.parser l.initial.memory u
       → KeptIn l.parser l.memory (after_all u (take l.at l.bytes))
-      × (news_all (Some (length l.initial.memory)) u (take l.at l.bytes) ≡ []);
+      × (events_all (Some (length l.initial.memory)) u (take l.at l.bytes) ≡ []);
   failed : l.parser.has_failed ≡ l.initial.parser.has_failed;
 }
 

@@ -5,19 +5,19 @@ use Rattle.esc_frame.specs.Events.Event.{CsiDispatch}
 use Rattle.esc_frame.specs.Machine.Shorts.{IsShort}
 use Rattle.esc_frame.specs.Sequences.{is_from}
 use Rattle.esc_frame.proofs.ManyBytes.{tail_length}
-use Rattle.esc_lent.specs.Told.{param_of}
-use Rattle.esc_lent.proofs.Ahead.{csi_tells}
+use Rattle.esc_lent.specs.Emitted.{param_of}
+use Rattle.esc_lent.proofs.Ahead.{csi_emits}
 use Rattle.esc_lent.proofs.quick.note_csi.Goals as goal
 
 no_zero : (b : ℕ) → is_from 0x40 0x7e b ≡ true → 0 < b
 no_zero b h = grind (arith, nat_tests)
 
-pub returns-then-lies_from-clause-tells : goal.returns-then-lies_from-clause-tells
-returns-then-lies_from-clause-tells c = λ some.
+pub returns-then-lies_from-clause-emits : goal.returns-then-lies_from-clause-emits
+returns-then-lies_from-clause-emits c = λ some.
     let bs = c.args.bytes.now in
     let body = c.read_body-body.result in
     let run = body.length in
-    let items = map param_of (take body.count c.read_body-body.new.entries) in
+    let items = map param_of (take body.count c.read_body-body.new.csi_params) in
     let final : is_from 0x40 0x7e body.after ≡ true =
     sym c.lies_from.ensures ∙ c.if-lies_from.true in
     let after = c.read_body-body.ensures.after (no_zero body.after final) in
@@ -28,6 +28,6 @@ returns-then-lies_from-clause-tells c = λ some.
     let same : get_or bs (run + 2) 0 ≡ body.after =
     ap (λ n. get_or bs n 0) (sym back) ∙ sym (get_or-drop 2 bs run 0)
     ∙ ap (λ y. get_or y run 0) (sym (take_rest bs 2)) ∙ after.1 in
-    csi_tells c.end_csi.new.event bs run items (omega arith) c.requires.escape c.if-bytes-ne91.false
+    csi_emits c.end_csi.new.event bs run items (omega arith) c.requires.escape c.if-bytes-ne91.false
     room read (ap (is_from 0x40 0x7e) same ∙ final)
     (λ out. c.end_csi.ensures.said out ∙ ap (λ b. CsiDispatch items false b ∷ []) (sym same))

@@ -1,19 +1,19 @@
 use Rattle.std.proofs.Common.{take, ap}
-use Rattle.esc_lent.specs.Told.{is_run}
-use Rattle.esc_lent.proofs.Ahead.{control_tells, event_tells, run_tells}
+use Rattle.esc_lent.specs.Emitted.{is_run}
+use Rattle.esc_lent.proofs.Ahead.{control_emits, event_emits, run_emits}
 use Rattle.esc_lent.proofs.quick.note_plain.Goals as goal
 
-pub returns-then-bytes-lt32-clause-tells : goal.returns-then-bytes-lt32-clause-tells
-returns-then-bytes-lt32-clause-tells c = λ some p out limit zero none.
+pub returns-then-bytes-lt32-clause-emits : goal.returns-then-bytes-lt32-clause-emits
+returns-then-bytes-lt32-clause-emits c = λ some p out limit zero none.
     let bs = c.args.bytes.now in
     let e = c.put_plain.new.event in
     let k = c.put_plain.ensures.kind in
-    event_tells p e (take 1 bs) zero none (ap is_run k.0)
-    (control_tells e bs c.requires.some c.if-bytes-lt32.true c.requires.other k.0 k.1) out limit
+    event_emits p e (take 1 bs) zero none (ap is_run k.0)
+    (control_emits e bs c.requires.some c.if-bytes-lt32.true c.requires.other k.0 k.1) out limit
     bs
 
-pub returns-then-run-gt0-clause-tells : goal.returns-then-run-gt0-clause-tells
-returns-then-run-gt0-clause-tells c = λ some p out limit zero none.
+pub returns-then-run-gt0-clause-emits : goal.returns-then-run-gt0-clause-emits
+returns-then-run-gt0-clause-emits c = λ some p out limit zero none.
     let put = c.put_plain-then-run-gt0 in
-    run_tells p put.new.event c.args.bytes.now c.ascii_text-run.result zero none put.ensures.kind.0
+    run_emits p put.new.event c.args.bytes.now c.ascii_text-run.result zero none put.ensures.kind.0
     put.ensures.length c.ascii_text-run.ensures.run out limit

@@ -4,7 +4,7 @@ use Rattle.esc_frame.specs.Leads.Unfinished.{Ground, InEscape}
 use Rattle.esc_frame.specs.Limits.{is_within}
 use Rattle.esc_frame.specs.Machine.TextRuns.{IsTextRun}
 use Rattle.esc_frame.proofs.ManyBytes.{tail_length}
-use Rattle.esc_lent.specs.Told.{text_of}
+use Rattle.esc_lent.specs.Emitted.{text_of}
 use Rattle.esc_lent.proofs.Whole.{from_ground, in_ground, in_escape, bell_ends, escape_ends, osc_said, within}
 use Rattle.esc_lent.proofs.strings.note_osc.Goals as goal
 

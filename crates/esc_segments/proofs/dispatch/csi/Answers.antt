@@ -4,26 +4,26 @@ use Rattle.esc_frame.specs.Classes.{strip}
 use Rattle.esc_frame.specs.Events.{StopsAt}
 use Rattle.esc_frame.specs.Segments.{csi_events, executes, opener, opener_events}
 use Rattle.esc_frame.proofs.Given.{stops_more}
-use Rattle.esc_segments.proofs.Dispatching.{before_last, csi_told, last_is}
+use Rattle.esc_segments.proofs.Dispatching.{before_last, csi_emitted, last_is}
 use Rattle.esc_segments.proofs.Executes.{executes_whole_csi}
 use Rattle.esc_segments.proofs.dispatch.csi.Goals as goal
 
-pub returns-else-is_empty-clause-told : goal.returns-else-is_empty-clause-told
-returns-else-is_empty-clause-told g c = λ finished o x f after h e i.
+pub returns-else-is_empty-clause-emitted : goal.returns-else-is_empty-clause-emitted
+returns-else-is_empty-clause-emitted g c = λ finished o x f after h e i.
     let bytes = c.args.bytes.now in
     let body = c.split_opener.result.1.now in
     let s = c.split_opener.ensures kind.Csi o (x ++ f ∷ []) h.0
     (e ∙ append_assoc (opener kind.Csi o) x (f ∷ [])) in
-    csi_told ⊥ g.V.VTActor.takes g.V.VTActor.refuses c.dispatch_csi.result c.args.actor.now
+    csi_emitted ⊥ g.V.VTActor.takes g.V.VTActor.refuses c.dispatch_csi.result c.args.actor.now
     c.execute_in.new.actor c.dispatch_csi.new.actor bytes x _ o f
     _ e h.2 (before_last body x f s.1) (last_is body x f s.1)
-    c.in-Ok.ensures.told c.dispatch_csi.ensures.told
+    c.in-Ok.ensures.emitted c.dispatch_csi.ensures.emitted
 
-pub returns-in-Err-clause-told : goal.returns-in-Err-clause-told
-returns-in-Err-clause-told g c = λ finished o x f after h e i.
+pub returns-in-Err-clause-emitted : goal.returns-in-Err-clause-emitted
+returns-in-Err-clause-emitted g c = λ finished o x f after h e i.
     stops_more ⊥ g.V.VTActor.takes g.V.VTActor.refuses (opener_events o ++ executes x)
     (csi_events (strip x) f) c.args.actor.now
     c.execute_in.new.actor
     (subst (λ es. StopsAt ⊥ g.V.VTActor.takes g.V.VTActor.refuses c.args.actor.now es
     c.execute_in.new.actor)
-    (ap executes e ∙ executes_whole_csi o x f h.2) c.in-Err.ensures.told)
+    (ap executes e ∙ executes_whole_csi o x f h.2) c.in-Err.ensures.emitted)

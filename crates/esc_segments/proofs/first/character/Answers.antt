@@ -26,6 +26,6 @@ returns-in-Pending-clause-found c =
 
 pub returns-in-Control-clause-found : goal.returns-in-Control-clause-found
 returns-in-Control-clause-found c =
-    subst (λ x. IsFirst c.args.bytes.now x) (sym c.behind.ensures)
+    subst (λ x. IsFirst c.args.bytes.now x) (sym c.later.ensures)
     (pair c.args.bytes.now c.in-Control.b c.control.result c.in-Control.ensures
     c.control.ensures.found)

@@ -20,7 +20,7 @@ returns-in-32-to-127-clause-found c =
 
 pub returns-in-128-to-159-clause-found : goal.returns-in-128-to-159-clause-found
 returns-in-128-to-159-clause-found c =
-    subst (λ x. IsFirst c.args.bytes.now x) (sym c.behind-in-128-to-159.ensures)
+    subst (λ x. IsFirst c.args.bytes.now x) (sym c.later-in-128-to-159.ensures)
     (raw c.args.bytes.now c.control.result c.requires c.control.ensures.found)
 
 pub returns-in-160-to-193-clause-found : goal.returns-in-160-to-193-clause-found

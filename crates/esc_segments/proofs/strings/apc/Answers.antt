@@ -7,17 +7,17 @@ use Rattle.esc_frame.specs.Events.{Takes}
 use Rattle.esc_frame.specs.Events.Event.{ApcDispatch}
 use Rattle.esc_frame.specs.Segments.{executes, opener_events}
 use Rattle.memory.specs.Refusals.{Refused}
-use Rattle.esc_segments.proofs.Dispatching.{string_stops, string_told}
+use Rattle.esc_segments.proofs.Dispatching.{string_stops, string_emitted}
 use Rattle.esc_segments.proofs.Executes.{executes_opener}
 use Rattle.esc_segments.proofs.strings.apc.Goals as goal
 
-pub returns-then-finished-clause-told : goal.returns-then-finished-clause-told
-returns-then-finished-clause-told g c = λ o d after h w i.
+pub returns-then-finished-clause-emitted : goal.returns-then-finished-clause-emitted
+returns-then-finished-clause-emitted g c = λ o d after h w i.
     let s = c.split_opener.ensures kind.Apc o d h.0 w in
-    string_told (Refused g.row.A.Denot)
+    string_emitted (Refused g.row.A.Denot)
     g.V.VTActor.takes g.V.VTActor.refuses c.dispatch_apc.result c.args.actor.now
     c.execute_in.new.actor c.dispatch_apc.new.actor kind.Apc o
-    c.split_opener.result.0.now _ s.0 c.in-Ok.ensures.told
+    c.split_opener.result.0.now _ s.0 c.in-Ok.ensures.emitted
     (subst (λ b. Takes (Refused g.row.A.Denot)
     g.V.VTActor.takes g.V.VTActor.refuses c.dispatch_apc.result c.execute_in.new.actor
     (if b then ApcDispatch (those is_text d) ∷ [] else []) c.dispatch_apc.new.actor)
@@ -25,22 +25,22 @@ returns-then-finished-clause-told g c = λ o d after h w i.
     (subst (λ t. Takes (Refused g.row.A.Denot)
     g.V.VTActor.takes g.V.VTActor.refuses c.dispatch_apc.result c.execute_in.new.actor
     (ApcDispatch (those is_text t) ∷ [])
-    c.dispatch_apc.new.actor) s.1 c.dispatch_apc.ensures.told))
+    c.dispatch_apc.new.actor) s.1 c.dispatch_apc.ensures.emitted))
 
-pub returns-else-finished-clause-told : goal.returns-else-finished-clause-told
-returns-else-finished-clause-told g c = λ o d after h w i.
+pub returns-else-finished-clause-emitted : goal.returns-else-finished-clause-emitted
+returns-else-finished-clause-emitted g c = λ o d after h w i.
     let s = c.split_opener.ensures kind.Apc o d h.0 w in
     subst (λ b. FoldsTo g.V.VTActor.takes c.args.actor.now (opener_events o
     ++ (if b then ApcDispatch (those is_text d) ∷ [] else [])) c.execute_in.new.actor)
     (sym c.if-finished.false)
     (subst (λ es. FoldsTo g.V.VTActor.takes c.args.actor.now es c.execute_in.new.actor)
     (ap executes s.0 ∙ executes_opener kind.Apc o ∙ sym (append-nil (opener_events o)))
-    c.in-Ok.ensures.told)
+    c.in-Ok.ensures.emitted)
 
-pub returns-in-Err-clause-told : goal.returns-in-Err-clause-told
-returns-in-Err-clause-told g c = λ o d after h w i.
+pub returns-in-Err-clause-emitted : goal.returns-in-Err-clause-emitted
+returns-in-Err-clause-emitted g c = λ o d after h w i.
     let s = c.split_opener.ensures kind.Apc o d h.0 w in
     string_stops (Refused g.row.A.Denot)
     g.V.VTActor.takes g.V.VTActor.refuses c.args.actor.now c.execute_in.new.actor kind.Apc o
     c.split_opener.result.0.now _ s.0
-    c.in-Err.ensures.told
+    c.in-Err.ensures.emitted

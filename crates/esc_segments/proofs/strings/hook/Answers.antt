@@ -2,13 +2,13 @@ use Rattle.std.proofs.Common.{[], ◌∷◌, ◌∙◌, refl, subst}
 use Rattle.esc_frame.specs.Classes.{strip}
 use Rattle.esc_frame.specs.Events.{Takes}
 use Rattle.esc_frame.specs.Machine.Keeps.{parameters_of}
-use Rattle.esc_frame.proofs.Given.{hears_takes}
+use Rattle.esc_frame.proofs.Given.{receives_takes}
 use Rattle.esc_frame.proofs.Headers.{hook_is}
 use Rattle.memory.specs.Refusals.{Refused}
 use Rattle.esc_segments.proofs.strings.hook.Goals as goal
 
-pub returns-in-Ok-clause-told : goal.returns-in-Ok-clause-told
-returns-in-Ok-clause-told g c =
+pub returns-in-Ok-clause-emitted : goal.returns-in-Ok-clause-emitted
+returns-in-Ok-clause-emitted g c =
     let x = strip c.args.x.now in
     subst (λ y. Takes (Refused g.row.A.Denot)
     g.V.VTActor.takes g.V.VTActor.refuses c.dcs_hook.result c.args.actor.now (y ∷ [])
@@ -17,6 +17,6 @@ returns-in-Ok-clause-told g c =
     _ _ c.args.last c.requires.formed c.requires.kept
     refl (c.deref.ensures.value ∙ c.in-Ok.ensures.ok)
     c.as_slice.ensures)
-    (hears_takes (Refused g.row.A.Denot)
+    (receives_takes (Refused g.row.A.Denot)
     g.V.VTActor.takes g.V.VTActor.refuses c.dcs_hook.result c.args.actor.now c.dcs_hook.new.self _
-    c.dcs_hook.ensures.hears)
+    c.dcs_hook.ensures.receives)

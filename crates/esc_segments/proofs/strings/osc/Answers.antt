@@ -7,12 +7,12 @@ use Rattle.esc_frame.specs.Events.{Takes}
 use Rattle.esc_frame.specs.Events.Event.{OscDispatch}
 use Rattle.esc_frame.specs.Segments.{ending_bytes, executes, opener, opener_events, text_bytes, text_of}
 use Rattle.memory.specs.Refusals.{Refused}
-use Rattle.esc_segments.proofs.Dispatching.{over_is, string_halts, string_stops, string_told}
+use Rattle.esc_segments.proofs.Dispatching.{over_is, string_halts, string_stops, string_emitted}
 use Rattle.esc_segments.proofs.Executes.{executes_opener}
 use Rattle.esc_segments.proofs.strings.osc.Goals as goal
 
-pub returns-then-not-finished-clause-told : goal.returns-then-not-finished-clause-told
-returns-then-not-finished-clause-told g c = λ o ps e after h w i.
+pub returns-then-not-finished-clause-emitted : goal.returns-then-not-finished-clause-emitted
+returns-then-not-finished-clause-emitted g c = λ o ps e after h w i.
     let s = c.split_opener.ensures kind.Osc o (text_bytes ps ++ ending_bytes e) h.0
     (w ∙ append_assoc (opener kind.Osc o) (text_bytes ps) (ending_bytes e)) in
     subst (λ b. FoldsTo g.V.VTActor.takes c.args.actor.now
@@ -21,18 +21,18 @@ returns-then-not-finished-clause-told g c = λ o ps e after h w i.
     (sym c.if-not-finished.true)
     (subst (λ es. FoldsTo g.V.VTActor.takes c.args.actor.now es c.execute_in.new.actor)
     (ap executes s.0 ∙ executes_opener kind.Osc o ∙ sym (append-nil (opener_events o)))
-    c.in-Ok.ensures.told)
+    c.in-Ok.ensures.emitted)
 
-pub returns-in-Ok-kept_text-clause-told : goal.returns-in-Ok-kept_text-clause-told
-returns-in-Ok-kept_text-clause-told g c = λ o ps e after h w i.
+pub returns-in-Ok-kept_text-clause-emitted : goal.returns-in-Ok-kept_text-clause-emitted
+returns-in-Ok-kept_text-clause-emitted g c = λ o ps e after h w i.
     let s = c.split_opener.ensures kind.Osc o (text_bytes ps ++ ending_bytes e) h.0
     (w ∙ append_assoc (opener kind.Osc o) (text_bytes ps) (ending_bytes e)) in
     let v = over_is o ps e after c.args.finished c.if-not-finished.false i in
     let k = c.in-Ok-kept_text.ensures.ok ps e after s.1 h.1 v in
-    string_told (Refused g.row.A.Denot)
+    string_emitted (Refused g.row.A.Denot)
     g.V.VTActor.takes g.V.VTActor.refuses c.osc_text.result c.args.actor.now c.execute_in.new.actor
     c.osc_text.new.self kind.Osc o
-    c.split_opener.result.0.now _ s.0 c.in-Ok.ensures.told
+    c.split_opener.result.0.now _ s.0 c.in-Ok.ensures.emitted
     (subst (λ b. Takes (Refused g.row.A.Denot)
     g.V.VTActor.takes g.V.VTActor.refuses c.osc_text.result c.execute_in.new.actor
     (if b then OscDispatch (parts_of (text_of ps)) ∷ [] else []) c.osc_text.new.self)
@@ -40,22 +40,22 @@ returns-in-Ok-kept_text-clause-told g c = λ o ps e after h w i.
     (subst (λ t. Takes (Refused g.row.A.Denot)
     g.V.VTActor.takes g.V.VTActor.refuses c.osc_text.result c.execute_in.new.actor
     (OscDispatch (parts_of t) ∷ [])
-    c.osc_text.new.self) (c.deref.ensures.value ∙ k) c.osc_text.ensures.told))
+    c.osc_text.new.self) (c.deref.ensures.value ∙ k) c.osc_text.ensures.emitted))
 
-pub returns-in-Err-kept_text-clause-told : goal.returns-in-Err-kept_text-clause-told
-returns-in-Err-kept_text-clause-told g c = λ o ps e after h w i.
+pub returns-in-Err-kept_text-clause-emitted : goal.returns-in-Err-kept_text-clause-emitted
+returns-in-Err-kept_text-clause-emitted g c = λ o ps e after h w i.
     let s = c.split_opener.ensures kind.Osc o (text_bytes ps ++ ending_bytes e) h.0
     (w ∙ append_assoc (opener kind.Osc o) (text_bytes ps) (ending_bytes e)) in
     string_halts (Refused g.row.A.Denot)
     g.V.VTActor.takes g.V.VTActor.refuses c.args.actor.now c.execute_in.new.actor kind.Osc o
     c.split_opener.result.0.now _ c.in-Err-kept_text.ensures.refused s.0
-    c.in-Ok.ensures.told
+    c.in-Ok.ensures.emitted
 
-pub returns-in-Err-clause-told : goal.returns-in-Err-clause-told
-returns-in-Err-clause-told g c = λ o ps e after h w i.
+pub returns-in-Err-clause-emitted : goal.returns-in-Err-clause-emitted
+returns-in-Err-clause-emitted g c = λ o ps e after h w i.
     let s = c.split_opener.ensures kind.Osc o (text_bytes ps ++ ending_bytes e) h.0
     (w ∙ append_assoc (opener kind.Osc o) (text_bytes ps) (ending_bytes e)) in
     string_stops (Refused g.row.A.Denot)
     g.V.VTActor.takes g.V.VTActor.refuses c.args.actor.now c.execute_in.new.actor kind.Osc o
     c.split_opener.result.0.now _ s.0
-    c.in-Err.ensures.told
+    c.in-Err.ensures.emitted

@@ -2,16 +2,16 @@ use Rattle.std.proofs.Common.{◌∙◌, sym, subst, map, take, ◌+◌, arith}
 use Rattle.std.specs.List.{FoldsTo}
 use Rattle.esc_frame.specs.Classes.{class_of, is_put, those}
 use Rattle.esc_frame.specs.Events.Event.{DcsPut}
-use Rattle.esc_segments.proofs.Told.{told_next, told_same, told_stop}
+use Rattle.esc_segments.proofs.Emitted.{emitted_next, emitted_same, emitted_stop}
 use Rattle.esc_segments.proofs.strings.put_all.Goals as goal
 use Rattle.esc_segments.proofs.strings.put_all.Goals.{then-is_put+in-Ok, else-is_put}
 
-pub returns-in-Err-clause-told : goal.returns-in-Err-clause-told
-returns-in-Err-clause-told g c =
-    told_stop g.V.VTActor.takes g.V.VTActor.refuses DcsPut (λ b.
+pub returns-in-Err-clause-emitted : goal.returns-in-Err-clause-emitted
+returns-in-Err-clause-emitted g c =
+    emitted_stop g.V.VTActor.takes g.V.VTActor.refuses DcsPut (λ b.
     is_put (class_of b)) c.args.content.now c.loop-b.b-index (omega arith) c.args.actor.now
     c.loop-b.actor _ c.loop-b.invariant.1 ⊥ (sym c.is_put.ensures ∙ c.if-is_put.true)
-    c.in-Err.ensures.hears
+    c.in-Err.ensures.receives
 
 pub loop-b-preserved : goal.loop-b-preserved
 loop-b-preserved g c =
@@ -23,17 +23,17 @@ loop-b-preserved g c =
           (map DcsPut (those is_put (take (i + 1) content))) a)
           (sym w.actor-is) (
             w.in-Ok.ensures.ready,
-            told_next g.V.VTActor.takes g.V.VTActor.refuses DcsPut (λ b.
+            emitted_next g.V.VTActor.takes g.V.VTActor.refuses DcsPut (λ b.
                 is_put (class_of b)) content i (omega arith) c.args.actor.now c.loop-b.actor _
                 c.loop-b.invariant.1 (sym c.is_put.ensures ∙ w.if-is_put.true)
-                w.in-Ok.ensures.hears,
+                w.in-Ok.ensures.receives,
           )
       | else-is_put w ↦ subst (λ a. g.V.VTActor.is_ready a
           × FoldsTo g.V.VTActor.takes c.args.actor.now
           (map DcsPut (those is_put (take (i + 1) content))) a)
           (sym w.actor-is) (
             c.loop-b.invariant.0,
-            told_same g.V.VTActor.takes g.V.VTActor.refuses DcsPut (λ b.
+            emitted_same g.V.VTActor.takes g.V.VTActor.refuses DcsPut (λ b.
                 is_put (class_of b)) content i (omega arith) c.args.actor.now c.loop-b.actor
                 c.loop-b.actor c.loop-b.invariant.1 (sym c.is_put.ensures ∙ w.if-is_put.false),
           )

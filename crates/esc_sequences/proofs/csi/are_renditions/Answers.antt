@@ -18,8 +18,8 @@ items-preserved c =
     let below : c.item_len-len.result < length c.items.left.now = omega arith in
     let turn = rest_decides c.items.left.now c.item_len-len.result _ c.item_len-len.ensures.first
     below (sym c.from_item.ensures ∙ c.in-Some.is) in
-    let behind = c.after_item-left.ensures in (
-      omega (arith, ap length behind, length-drop (c.item_len-len.result + 1) c.items.left.now),
+    let later = c.after_item-left.ensures in (
+      omega (arith, ap length later, length-drop (c.item_len-len.result + 1) c.items.left.now),
       c.items.invariant.1 ∙ turn
-          ∙ ap (λ xs. is_some (renditions (slice_split is_separator xs))) (sym behind),
+          ∙ ap (λ xs. is_some (renditions (slice_split is_separator xs))) (sym later),
     )

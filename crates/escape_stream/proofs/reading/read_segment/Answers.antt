@@ -9,7 +9,7 @@ use Rattle.escape_stream.proofs.reading.read_segment.Goals as goal
 pub returns-in-Ok-clause-ok : goal.returns-in-Ok-clause-ok
 returns-in-Ok-clause-ok g c = λ s after h i.
     let w = performs _ (λ p v q. ⊥) None (events_of s c.args.segment.now.finished) _ plain _
-    (c.in-Ok.ensures.told s after h i) (c.new-2.ensures.hooks) in
+    (c.in-Ok.ensures.emitted s after h i) (c.new-2.ensures.hooks) in
     collects _ _ _ w.1
     ∙ ap (λ l. map value_of l ++ reading s c.args.segment.now.finished) c.new.ensures
 
@@ -17,4 +17,4 @@ pub returns-in-Err-clause-refused : goal.returns-in-Err-clause-refused
 returns-in-Err-clause-refused g c = λ s after h i.
     stops_wanting _ _ _ _ (λ p v q w. w.2.1) _ _ _
     (performs_segment _ _ None s c.args.segment.now.finished _ _
-    (c.in-Err.ensures.told s after h i) c.new-2.ensures.hooks)
+    (c.in-Err.ensures.emitted s after h i) c.new-2.ensures.hooks)

@@ -11,18 +11,18 @@ loop-at-preserved g c =
     next_spelled g.Self.VTActor.takes g.Self.VTActor.refuses g.Self.VTActor.is_ready
     c.as_bytes-bytes.result.now c.loop-at.at _ _ c.args.self.now _ _ c.loop-at.invariant
     (tail_next c.as_bytes-bytes.result.now c.loop-at.at _ _ c.first_of-c.ensures.next)
-    c.in-Ok.ensures.hears c.in-Ok.ensures.ready
+    c.in-Ok.ensures.receives c.in-Ok.ensures.ready
 
-pub returns-in-Err-clause-told : goal.returns-in-Err-clause-told
-returns-in-Err-clause-told g c =
+pub returns-in-Err-clause-emitted : goal.returns-in-Err-clause-emitted
+returns-in-Err-clause-emitted g c =
     stop_given g.Self.VTActor.takes g.Self.VTActor.refuses g.Self.VTActor.is_ready
     c.as_bytes-bytes.result.now _ c.as_bytes-bytes.ensures.value c.loop-at.at _ _ c.args.self.now _
     _ c.loop-at.invariant
     (tail_next c.as_bytes-bytes.result.now c.loop-at.at _ _ c.first_of-c.ensures.next)
-    ⊥ c.in-Err.ensures.hears
+    ⊥ c.in-Err.ensures.receives
 
-pub returns-clause-told : goal.returns-clause-told
-returns-clause-told g c =
+pub returns-clause-emitted : goal.returns-clause-emitted
+returns-clause-emitted g c =
     subst (λ y. FoldsTo g.Self.VTActor.takes c.args.self.now (map Print (chars y)) c.loop-at.self)
     c.as_bytes-bytes.ensures.value
     (all_spelled g.Self.VTActor.takes g.Self.VTActor.refuses g.Self.VTActor.is_ready

@@ -3,14 +3,14 @@ use Rattle.esc_frame.specs.Events.Event.{Print}
 use Rattle.esc_frame.proofs.Given.{each_next, each_stop}
 use Rattle.esc_frame.proofs.actor.VTActor.print_text.Goals as goal
 
-pub returns-in-Err-clause-told : goal.returns-in-Err-clause-told
-returns-in-Err-clause-told g c =
+pub returns-in-Err-clause-emitted : goal.returns-in-Err-clause-emitted
+returns-in-Err-clause-emitted g c =
     each_stop g.Self.VTActor.takes g.Self.VTActor.refuses Print c.args.text.now c.loop-b.b-index
-    (omega arith) c.args.self.now _ _ c.loop-b.invariant.1 _ c.in-Err.ensures.hears
+    (omega arith) c.args.self.now _ _ c.loop-b.invariant.1 _ c.in-Err.ensures.receives
 
 pub loop-b-preserved : goal.loop-b-preserved
 loop-b-preserved g c = (
   c.in-Ok.ensures.ready,
   each_next g.Self.VTActor.takes g.Self.VTActor.refuses Print c.args.text.now c.loop-b.b-index
-      (omega arith) c.args.self.now _ _ c.loop-b.invariant.1 c.in-Ok.ensures.hears,
+      (omega arith) c.args.self.now _ _ c.loop-b.invariant.1 c.in-Ok.ensures.receives,
 )

@@ -12,11 +12,11 @@ returns-in-Ok-clause-moved g c =
     g.V.Taker.takes g.V.Taker.refuses c.in_ground.result (Print 0xfffd ∷ [])
     (ground_move c.args.b c.args.class)
     c.in_ground.new.self
-    c.args.actor.now _ _ (_, c.in-Ok.ensures.hears, refl) (c.in_ground.ensures.moved limit own)
+    c.args.actor.now _ _ (_, c.in-Ok.ensures.receives, refl) (c.in_ground.ensures.moved limit own)
 
 pub returns-in-Err-clause-moved : goal.returns-in-Err-clause-moved
 returns-in-Err-clause-moved g c =
     λ limit own. stops_more _ g.V.Taker.takes g.V.Taker.refuses (Print 0xfffd ∷ [])
     _ c.args.actor.now _
     (refused_stops _ g.V.Taker.takes g.V.Taker.refuses c.args.actor.now _ (Print 0xfffd)
-    c.in-Err.ensures.hears)
+    c.in-Err.ensures.receives)

@@ -3,14 +3,14 @@ use Rattle.esc_frame.specs.declared.machine.State.TheVariants as state
 use Rattle.esc_frame.specs.Classes.{is_breaker, is_text, those}
 use Rattle.esc_frame.specs.Leads.Unfinished.{InApc}
 use Rattle.esc_frame.proofs.Pushed.{apc_pushed}
-use Rattle.esc_frame.proofs.Moving.{broken_told}
+use Rattle.esc_frame.proofs.Moving.{broken_emitted}
 use Rattle.esc_frame.specs.Machine.Calls.{Fails}
 use Rattle.esc_frame.proofs.machine.Machine.in_apc.Goals as goal
 
 pub returns-in-Cancel-clause-moved : goal.returns-in-Cancel-clause-moved
 returns-in-Cancel-clause-moved g c = λ e o d k.
     let t : is_breaker c.args.class ≡ true = search (rules, c.in-Cancel.is) in
-    broken_told g.K.Store.keeps (Fails g.K.Store.denied g.V.Taker.stops g.row.A.Denot)
+    broken_emitted g.K.Store.keeps (Fails g.K.Store.denied g.V.Taker.stops g.row.A.Denot)
     c.args.limit true
     g.V.Taker.takes g.V.Taker.refuses c.leave_apc.result (InApc o d)
     c.args.b c.args.class c.leave_apc.new.self

@@ -6,7 +6,7 @@ use Rattle.esc_frame.specs.Events.Event.{Execute}
 use Rattle.esc_frame.specs.Leads.Unfinished.{InEscape}
 use Rattle.esc_frame.specs.Machine.Keeps.{Keeps}
 use Rattle.esc_frame.proofs.Bytes.{noise_strip}
-use Rattle.esc_frame.proofs.Given.{hears_moved}
+use Rattle.esc_frame.proofs.Given.{receives_moved}
 use Rattle.esc_frame.proofs.Moving.{broken}
 use Rattle.esc_frame.specs.Machine.Calls.{Fails}
 use Rattle.esc_frame.proofs.machine.Machine.in_escape.Goals as goal
@@ -19,9 +19,10 @@ returns-in-Cancel-clause-moved g c = λ e limit own x k.
     c.in_ground.result (InEscape x) c.args.b c.args.class c.in_ground.new.self
     c.args.actor.now c.in_ground.new.actor t refl (c.in_ground.ensures.moved limit own)
 
-pub returns-in-Plain-clause-moved : goal.returns-in-Plain-clause-moved
-returns-in-Plain-clause-moved g c = λ e limit own x k. elim c.in-Plain.is [
-  | inl i ↦ rw i (hears_moved g.K.Store.keeps (Fails g.K.Store.denied g.V.Taker.stops g.row.A.Denot)
+pub returns-in-C0-clause-moved : goal.returns-in-C0-clause-moved
+returns-in-C0-clause-moved g c = λ e limit own x k. elim c.in-C0.is [
+  | inl i ↦ rw i
+      (receives_moved g.K.Store.keeps (Fails g.K.Store.denied g.V.Taker.stops g.row.A.Denot)
       limit _
       g.V.Taker.takes g.V.Taker.refuses c.execute_c0_or_c1.result
       (InEscape (x ++ c.args.b ∷ []))
@@ -31,8 +32,9 @@ returns-in-Plain-clause-moved g c = λ e limit own x k. elim c.in-Plain.is [
         subst (Keeps c.args.self.now.intermediates) (noise_strip x c.args.b _ _ e
             i refl) k,
       )
-      c.execute_c0_or_c1.ensures.hears)
-  | inr i ↦ rw i (hears_moved g.K.Store.keeps (Fails g.K.Store.denied g.V.Taker.stops g.row.A.Denot)
+      c.execute_c0_or_c1.ensures.receives)
+  | inr i ↦ rw i
+      (receives_moved g.K.Store.keeps (Fails g.K.Store.denied g.V.Taker.stops g.row.A.Denot)
       limit _
       g.V.Taker.takes g.V.Taker.refuses c.execute_c0_or_c1.result
       (InEscape (x ++ c.args.b ∷ []))
@@ -42,7 +44,7 @@ returns-in-Plain-clause-moved g c = λ e limit own x k. elim c.in-Plain.is [
         subst (Keeps c.args.self.now.intermediates) (noise_strip x c.args.b _ _ e
             i refl) k,
       )
-      c.execute_c0_or_c1.ensures.hears)
+      c.execute_c0_or_c1.ensures.receives)
 ]
 
 pub returns-then-self-eq0-clause-moved : goal.returns-then-self-eq0-clause-moved

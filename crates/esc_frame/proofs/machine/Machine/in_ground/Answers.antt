@@ -1,26 +1,26 @@
 use Rattle.std.proofs.Common.{◌≡◌, ◌||◌, true, refl, rules}
 use Rattle.esc_frame.specs.declared.machine.State.TheVariants as state
 use Rattle.esc_frame.specs.declared.sequence.Pending.TheVariants as pending
-use Rattle.esc_frame.specs.Classes.{is_text, is_control, is_raw_control}
+use Rattle.esc_frame.specs.Classes.{is_text, is_control, is_c1}
 use Rattle.esc_frame.specs.Segments.Opener.{Raw}
 use Rattle.esc_frame.proofs.Moving.{text_moved, control_moved}
 use Rattle.esc_frame.specs.Machine.Calls.{Fails}
 use Rattle.esc_frame.proofs.machine.Machine.in_ground.Goals as goal
 
-pub returns-in-RawOpens-clause-moved : goal.returns-in-RawOpens-clause-moved
-returns-in-RawOpens-clause-moved g c =
-    λ limit own. rw c.in-RawOpens.is (c.open.ensures limit Raw, refl)
+pub returns-in-C1Introducer-clause-moved : goal.returns-in-C1Introducer-clause-moved
+returns-in-C1Introducer-clause-moved g c =
+    λ limit own. rw c.in-C1Introducer.is (c.open.ensures limit Raw, refl)
 
-pub returns-in-Plain-clause-moved : goal.returns-in-Plain-clause-moved
-returns-in-Plain-clause-moved g c = λ limit own.
-    let t : (is_control c.args.class || is_raw_control c.args.class) ≡ true =
-    search (rules, c.in-Plain.is) in
+pub returns-in-C0-clause-moved : goal.returns-in-C0-clause-moved
+returns-in-C0-clause-moved g c = λ limit own.
+    let t : (is_control c.args.class || is_c1 c.args.class) ≡ true =
+    search (rules, c.in-C0.is) in
     control_moved g.K.Store.keeps (Fails g.K.Store.denied g.V.Taker.stops g.row.A.Denot)
     limit own g.V.Taker.takes g.V.Taker.refuses
     c.execute_c0_or_c1.result c.args.b c.args.class
     (record c.args.self.now { state = state.Ground; pending = pending.Nothing }) c.args.actor.now
     c.execute_c0_or_c1.new.self (refl, refl) t
-    c.execute_c0_or_c1.ensures.hears
+    c.execute_c0_or_c1.ensures.receives
 
 pub returns-in-Intermediate-clause-moved : goal.returns-in-Intermediate-clause-moved
 returns-in-Intermediate-clause-moved g c = λ limit own.
@@ -30,4 +30,4 @@ returns-in-Intermediate-clause-moved g c = λ limit own.
     c.print-in-Intermediate.result c.args.b c.args.class
     (record c.args.self.now { state = state.Ground; pending = pending.Nothing }) c.args.actor.now
     c.print-in-Intermediate.new.self (refl, refl) t
-    c.print-in-Intermediate.ensures.hears
+    c.print-in-Intermediate.ensures.receives

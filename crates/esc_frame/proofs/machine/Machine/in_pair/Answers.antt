@@ -2,6 +2,6 @@ use Rattle.std.proofs.Common.{refl}
 use Rattle.esc_frame.specs.Segments.Opener.{Pair}
 use Rattle.esc_frame.proofs.machine.Machine.in_pair.Goals as goal
 
-pub returns-in-RawOpens-clause-moved : goal.returns-in-RawOpens-clause-moved
-returns-in-RawOpens-clause-moved g c =
-    λ limit own. rw c.in-RawOpens.is (c.open.ensures limit Pair, refl)
+pub returns-in-C1Introducer-clause-moved : goal.returns-in-C1Introducer-clause-moved
+returns-in-C1Introducer-clause-moved g c =
+    λ limit own. rw c.in-C1Introducer.is (c.open.ensures limit Pair, refl)

@@ -10,11 +10,11 @@ returns-in-Ok-clause-moved g c = λ limit t k.
     moves_then g.K.Store.keeps (Fails g.K.Store.denied g.V.Taker.stops g.row.A.Denot)
     limit true g.V.Taker.takes g.V.Taker.refuses
     c.in_ground.result (apc_events limit t) (ground_move c.args.b c.args.class)
-    c.in_ground.new.self c.args.actor.now _ _ (c.in-Ok.ensures.told limit t k)
+    c.in_ground.new.self c.args.actor.now _ _ (c.in-Ok.ensures.emitted limit t k)
     (c.in_ground.ensures.moved limit true)
 
 pub returns-in-Err-clause-moved : goal.returns-in-Err-clause-moved
 returns-in-Err-clause-moved g c = λ limit t k.
     stops_more _ g.V.Taker.takes g.V.Taker.refuses (apc_events limit t) _ c.args.actor.now _
     (stops_for ⊥ _ g.V.Taker.takes g.V.Taker.refuses (apc_events limit t) c.args.actor.now _
-    (λ no. absurd no) (c.in-Err.ensures.told limit t k))
+    (λ no. absurd no) (c.in-Err.ensures.emitted limit t k))

@@ -12,11 +12,11 @@ returns-in-Ok-clause-moved g c =
     g.V.Taker.takes g.V.Taker.refuses c.in_ground.result (DcsUnhook ∷ [])
     (ground_move c.args.b c.args.class)
     c.in_ground.new.self
-    c.args.actor.now _ _ (_, c.in-Ok.ensures.hears, refl) (c.in_ground.ensures.moved limit true)
+    c.args.actor.now _ _ (_, c.in-Ok.ensures.receives, refl) (c.in_ground.ensures.moved limit true)
 
 pub returns-in-Err-clause-moved : goal.returns-in-Err-clause-moved
 returns-in-Err-clause-moved g c =
     λ limit. stops_more _ g.V.Taker.takes g.V.Taker.refuses (DcsUnhook ∷ [])
     _ c.args.actor.now _
     (refused_stops _ g.V.Taker.takes g.V.Taker.refuses c.args.actor.now _ (DcsUnhook)
-    c.in-Err.ensures.hears)
+    c.in-Err.ensures.receives)

@@ -1,6 +1,6 @@
 use Rattle.std.proofs.Common.{ap, false}
 use Rattle.esc_frame.specs.Machine.Calls.{Moved, Fails}
-use Rattle.esc_frame.specs.Machine.Fronts.{front_of}
+use Rattle.esc_frame.specs.Machine.Prefixes.{prefix_of}
 use Rattle.esc_frame.specs.Machine.Moves.{move, may_grow_in}
 use Rattle.esc_frame.proofs.States.{ground_only, escape_only, csi_only, osc_only, dcs_only, apc_only}
 use Rattle.esc_frame.proofs.machine.Machine.step.Goals as goal
@@ -8,7 +8,7 @@ use Rattle.esc_frame.proofs.machine.Machine.step.Goals as goal
 pub returns-in-Nothing-pending-clause-moved : goal.returns-in-Nothing-pending-clause-moved
 returns-in-Nothing-pending-clause-moved g c = λ e u h.
     osc_only g.K.Store.keeps c.args.limit c.args.self.now u c.in-Osc.is
-    (ap front_of c.in-Nothing-pending.is) h
+    (ap prefix_of c.in-Nothing-pending.is) h
     (λ v. Moved g.K.Store.keeps (Fails g.K.Store.denied g.V.Taker.stops g.row.A.Denot)
     c.args.limit (may_grow_in v)
     g.V.Taker.takes g.V.Taker.refuses c.in_osc.result
@@ -42,7 +42,7 @@ returns-in-Apc-clause-moved g c = λ e u h.
 pub returns-in-Nothing-clause-moved : goal.returns-in-Nothing-clause-moved
 returns-in-Nothing-clause-moved g c = λ e u h.
     ground_only g.K.Store.keeps c.args.limit c.args.self.now u c.in-Ground.is
-    (ap front_of c.in-Nothing.is) h
+    (ap prefix_of c.in-Nothing.is) h
     (λ v. Moved g.K.Store.keeps (Fails g.K.Store.denied g.V.Taker.stops g.row.A.Denot)
     c.args.limit (may_grow_in v)
     g.V.Taker.takes g.V.Taker.refuses c.in_ground.result

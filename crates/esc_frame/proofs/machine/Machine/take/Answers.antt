@@ -1,13 +1,13 @@
 use Rattle.std.proofs.Common.{ap}
 use Rattle.esc_frame.specs.Machine.Calls.{Took, Fails}
-use Rattle.esc_frame.specs.Machine.Fronts.{front_of}
+use Rattle.esc_frame.specs.Machine.Prefixes.{prefix_of}
 use Rattle.esc_frame.proofs.States.{ground_only}
 use Rattle.esc_frame.proofs.machine.Machine.take.Goals as goal
 
 pub returns-in-Nothing-clause-took : goal.returns-in-Nothing-clause-took
 returns-in-Nothing-clause-took g c = λ u h.
     ground_only g.K.Store.keeps c.args.limit c.args.self.now u c.in-Ground.is
-    (ap front_of c.in-Nothing.is) h
+    (ap prefix_of c.in-Nothing.is) h
     (λ v. Took g.K.Store.keeps (Fails g.K.Store.denied g.V.Taker.stops g.row.A.Denot)
     c.args.limit g.V.Taker.takes g.V.Taker.refuses
     c.take_in_ground.result v c.args.rest.now c.take_in_ground.new.self

@@ -1,16 +1,16 @@
 use Rattle.std.proofs.Common.{◌+◌, ◌++◌, take, refl, sym, subst, arith}
 use Rattle.esc_frame.specs.Leads.Unfinished.{InApc}
-use Rattle.esc_frame.proofs.Lends.{unlent_fresh}
+use Rattle.esc_frame.proofs.Borrows.{unborrowed_fresh}
 use Rattle.esc_frame.proofs.QuietRuns.{quiet_took, quiet_stops}
 use Rattle.esc_frame.proofs.Still.{apc_end_still, less_still}
 use Rattle.esc_frame.proofs.StringRuns.{apc_text, apc_kept}
 use Rattle.esc_frame.proofs.machine.Machine.take_after_apc.Goals as goal
 
 pub returns-then-run-rest-clause-took : goal.returns-then-run-rest-clause-took
-returns-then-run-rest-clause-took g c = λ o d k not_lent.
+returns-then-run-rest-clause-took g c = λ o d k not_borrowed.
     let xs = take c.args.run c.args.rest.now in
     let q = apc_text c.args.limit o d xs c.requires.passes in
-    let fresh = unlent_fresh (InApc o d) c.args.rest.now c.args.run not_lent in (
+    let fresh = unborrowed_fresh (InApc o d) c.args.rest.now c.args.run not_borrowed in (
       rw q.0 (
         c.requires.state,
         subst (g.K.Store.keeps c.args.limit c.args.self.now.text)
@@ -21,26 +21,26 @@ returns-then-run-rest-clause-took g c = λ o d k not_lent.
     )
 
 pub returns-in-Ok-clause-took : goal.returns-in-Ok-clause-took
-returns-in-Ok-clause-took g c = λ o d k not_lent.
+returns-in-Ok-clause-took g c = λ o d k not_borrowed.
     let xs = take c.args.run c.args.rest.now in
     quiet_took c.args.limit g.V.Taker.takes g.V.Taker.refuses (InApc o d) (InApc o (d ++ xs))
     c.args.rest.now c.args.run _ c.args.actor.now
     c.in_apc.new.actor
     (apc_text c.args.limit o d xs c.requires.passes) (omega arith) c.classify.ensures
     g.K.Store.keeps c.in_apc.new.self
-    (unlent_fresh (InApc o d) c.args.rest.now (c.args.run + 1) not_lent)
+    (unborrowed_fresh (InApc o d) c.args.rest.now (c.args.run + 1) not_borrowed)
     (c.in-Ok.ensures.moved c.classify.ensures o (d ++ xs)
     (subst (g.K.Store.keeps c.args.limit c.args.self.now.text)
     (sym (apc_kept d xs c.requires.passes)) k))
 
 pub returns-in-Err-clause-took : goal.returns-in-Err-clause-took
-returns-in-Err-clause-took g c = λ o d k not_lent.
+returns-in-Err-clause-took g c = λ o d k not_borrowed.
     let xs = take c.args.run c.args.rest.now in
     quiet_stops c.args.limit g.V.Taker.takes g.V.Taker.refuses (InApc o d) (InApc o (d ++ xs))
     c.args.rest.now c.args.run _ c.args.actor.now
     c.in_apc.new.actor
     (apc_text c.args.limit o d xs c.requires.passes) (omega arith) c.classify.ensures (λ may.
-    not_lent)
+    not_borrowed)
     (c.in-Err.ensures.moved c.classify.ensures o (d ++ xs)
     (subst (g.K.Store.keeps c.args.limit c.args.self.now.text)
     (sym (apc_kept d xs c.requires.passes)) k))

@@ -1,16 +1,16 @@
 use Rattle.std.proofs.Common.{◌+◌, ◌++◌, refl, subst, arith}
 use Rattle.esc_frame.specs.Leads.Unfinished.{InOsc}
-use Rattle.esc_frame.proofs.Lends.{unlent_fresh}
+use Rattle.esc_frame.proofs.Borrows.{unborrowed_fresh}
 use Rattle.esc_frame.proofs.QuietRuns.{quiet_took, quiet_stops}
 use Rattle.esc_frame.proofs.Still.{text_still, less_still}
 use Rattle.esc_frame.proofs.StringRuns.{run_text}
 use Rattle.esc_frame.proofs.machine.Machine.take_after_text.Goals as goal
 
 pub returns-then-run-rest-clause-took : goal.returns-then-run-rest-clause-took
-returns-then-run-rest-clause-took g c = λ o ps k not_lent.
+returns-then-run-rest-clause-took g c = λ o ps k not_borrowed.
     let run = c.requires.passes in
     let q = run.2 c.args.limit o ps in
-    let fresh = unlent_fresh (InOsc o ps) c.args.rest.now c.args.run not_lent in (
+    let fresh = unborrowed_fresh (InOsc o ps) c.args.rest.now c.args.run not_borrowed in (
       rw q.0 (
         c.requires.state,
         subst (g.K.Store.keeps c.args.limit c.args.self.now.text) (run_text ps run) k,
@@ -21,23 +21,23 @@ returns-then-run-rest-clause-took g c = λ o ps k not_lent.
     )
 
 pub returns-in-Ok-clause-took : goal.returns-in-Ok-clause-took
-returns-in-Ok-clause-took g c = λ o ps k not_lent.
+returns-in-Ok-clause-took g c = λ o ps k not_borrowed.
     let run = c.requires.passes in
     quiet_took c.args.limit g.V.Taker.takes g.V.Taker.refuses (InOsc o ps) (InOsc o (ps ++ run.0))
     c.args.rest.now c.args.run _ c.args.actor.now
     c.in_osc.new.actor
     (run.2 c.args.limit o ps) (omega arith) c.classify.ensures g.K.Store.keeps c.in_osc.new.self
-    (unlent_fresh (InOsc o ps) c.args.rest.now (c.args.run + 1) not_lent)
+    (unborrowed_fresh (InOsc o ps) c.args.rest.now (c.args.run + 1) not_borrowed)
     (c.in-Ok.ensures.moved c.classify.ensures o (ps ++ run.0)
     (subst (g.K.Store.keeps c.args.limit c.args.self.now.text) (run_text ps run) k))
 
 pub returns-in-Err-clause-took : goal.returns-in-Err-clause-took
-returns-in-Err-clause-took g c = λ o ps k not_lent.
+returns-in-Err-clause-took g c = λ o ps k not_borrowed.
     let run = c.requires.passes in
     quiet_stops c.args.limit g.V.Taker.takes g.V.Taker.refuses (InOsc o ps) (InOsc o (ps ++ run.0))
     c.args.rest.now c.args.run _ c.args.actor.now
     c.in_osc.new.actor
-    (run.2 c.args.limit o ps) (omega arith) c.classify.ensures (λ may. not_lent)
+    (run.2 c.args.limit o ps) (omega arith) c.classify.ensures (λ may. not_borrowed)
     (c.in-Err.ensures.moved c.classify.ensures o (ps ++ run.0)
     (subst (g.K.Store.keeps c.args.limit c.args.self.now.text) (run_text ps run) k))
 

@@ -18,8 +18,8 @@ loop-at-preserved g c =
           (c.in-Ok.ensures.took v p.0),
     )
 
-pub returns-in-Err-clause-told : goal.returns-in-Err-clause-told
-returns-in-Err-clause-told g c = λ u h.
+pub returns-in-Err-clause-emitted : goal.returns-in-Err-clause-emitted
+returns-in-Err-clause-emitted g c = λ u h.
     let i = c.loop-at.at in
     let bs = c.args.bytes.now in
     let p = c.loop-at.invariant.2 u h in

@@ -2,7 +2,7 @@ use Rattle.std.proofs.Common.{◌-◌, ◌≤◌, length, take}
 use Rattle.std.specs.List.{FoldsTo}
 use Rattle.esc_frame.specs.Leads.{Unfinished, Holds}
 use Rattle.esc_frame.specs.Machine.Calls.{StaysFresh}
-use Rattle.esc_frame.specs.Machine.Moves.{after_all, news_all}
+use Rattle.esc_frame.specs.Machine.Moves.{after_all, events_all}
 use Rattle.esc_frame.proofs.machine.Machine.take_all.Given as goal
 
 abbrev pub invariant-loop-at : goal.invariant-loop-at
@@ -10,7 +10,7 @@ invariant-loop-at g l = (l.at ≤ length l.bytes) × g.V.Taker.is_ready l.actor
     × ((u : Unfinished) → Holds g.K.Store.keeps l.limit l.initial.self u
     → Holds g.K.Store.keeps l.limit l.self (after_all u (take l.at l.bytes))
     × FoldsTo g.V.Taker.takes l.initial.actor
-    (news_all l.limit u (take l.at l.bytes)) l.actor × StaysFresh u l.bytes l.at)
+    (events_all l.limit u (take l.at l.bytes)) l.actor × StaysFresh u l.bytes l.at)
 
 abbrev pub decreases-loop-at : goal.decreases-loop-at
 decreases-loop-at g l = length l.bytes - l.at

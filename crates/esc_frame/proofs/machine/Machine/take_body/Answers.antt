@@ -28,37 +28,38 @@ pub returns-else-is_pair_at-clause-count : goal.returns-else-is_pair_at-clause-c
 returns-else-is_pair_at-clause-count g c = c.keep_body-else-is_pair_at.ensures.count
 
 pub returns-then-ends_osc-clause-took : goal.returns-then-ends_osc-clause-took
-returns-then-ends_osc-clause-took g c = c.take_lent.ensures.took
+returns-then-ends_osc-clause-took g c = c.take_borrowed.ensures.took
 
 pub returns-then-is_pair_at-clause-took : goal.returns-then-is_pair_at-clause-took
-returns-then-is_pair_at-clause-took g c = c.take_lent_by_pair.ensures.took
+returns-then-is_pair_at-clause-took g c = c.take_borrowed_by_pair.ensures.took
 
 pub returns-then-ends_osc-clause-quiet : goal.returns-then-ends_osc-clause-quiet
-returns-then-ends_osc-clause-quiet g c = c.take_lent.ensures.quiet
+returns-then-ends_osc-clause-quiet g c = c.take_borrowed.ensures.quiet
 
 pub returns-then-is_pair_at-clause-quiet : goal.returns-then-is_pair_at-clause-quiet
-returns-then-is_pair_at-clause-quiet g c = c.take_lent_by_pair.ensures.quiet
+returns-then-is_pair_at-clause-quiet g c = c.take_borrowed_by_pair.ensures.quiet
 
 pub returns-then-ends_osc-clause-count : goal.returns-then-ends_osc-clause-count
-returns-then-ends_osc-clause-count g c = c.take_lent.ensures.count
+returns-then-ends_osc-clause-count g c = c.take_borrowed.ensures.count
 
 pub returns-then-is_pair_at-clause-count : goal.returns-then-is_pair_at-clause-count
-returns-then-is_pair_at-clause-count g c = c.take_lent_by_pair.ensures.count
+returns-then-is_pair_at-clause-count g c = c.take_borrowed_by_pair.ensures.count
 
 pub keep_body-requires-clause-passes : goal.keep_body-requires-clause-passes
 keep_body-requires-clause-passes g c = c.units_run-run.ensures.run
 
-pub take_lent-requires-clause-passes : goal.take_lent-requires-clause-passes
-take_lent-requires-clause-passes g c = c.units_run-run.ensures.run
+pub take_borrowed-requires-clause-passes : goal.take_borrowed-requires-clause-passes
+take_borrowed-requires-clause-passes g c = c.units_run-run.ensures.run
 
-pub take_lent_by_pair-requires-clause-passes : goal.take_lent_by_pair-requires-clause-passes
-take_lent_by_pair-requires-clause-passes g c = c.units_run-run.ensures.run
+pub take_borrowed_by_pair-requires-clause-passes : goal.take_borrowed_by_pair-requires-clause-passes
+take_borrowed_by_pair-requires-clause-passes g c = c.units_run-run.ensures.run
 
-pub keep_body-requires-else-is_pair_at-clause-passes : goal.keep_body-requires-else-is_pair_at-clause-passes
+pub keep_body-requires-else-is_pair_at-clause-passes
+    : goal.keep_body-requires-else-is_pair_at-clause-passes
 keep_body-requires-else-is_pair_at-clause-passes g c = c.units_run-run.ensures.run
 
-pub take_lent-requires-clause-class : goal.take_lent-requires-clause-class
-take_lent-requires-clause-class g c = c.classify-class.ensures
+pub take_borrowed-requires-clause-class : goal.take_borrowed-requires-clause-class
+take_borrowed-requires-clause-class g c = c.classify-class.ensures
 
-pub take_lent-requires-clause-ends : goal.take_lent-requires-clause-ends
-take_lent-requires-clause-ends g c = sym c.ends_osc.ensures ∙ c.if-ends_osc.true
+pub take_borrowed-requires-clause-ends : goal.take_borrowed-requires-clause-ends
+take_borrowed-requires-clause-ends g c = sym c.ends_osc.ensures ∙ c.if-ends_osc.true

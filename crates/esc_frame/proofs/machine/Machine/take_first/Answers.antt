@@ -3,9 +3,9 @@ use Rattle.std.specs.List.{FoldsTo}
 use Rattle.esc_frame.specs.Leads.{Holds}
 use Rattle.esc_frame.specs.Leads.Unfinished.{Ground}
 use Rattle.esc_frame.specs.Machine.Calls.{TookSome, Fails}
-use Rattle.esc_frame.specs.Machine.Moves.{news_all}
+use Rattle.esc_frame.specs.Machine.Moves.{events_all}
 use Rattle.esc_frame.proofs.Given.{stops_for}
-use Rattle.esc_frame.proofs.Lends.{ground_fresh}
+use Rattle.esc_frame.proofs.Borrows.{ground_fresh}
 use Rattle.esc_frame.proofs.machine.Machine.take_first.Goals as goal
 
 pub returns-in-Ok-eq0 : goal.returns-in-Ok-eq0
@@ -13,7 +13,7 @@ returns-in-Ok-eq0 g c =
     let none : c.in-Ok-eq0.field-0 ≡ 0 = search rules in
     let same : c.args.actor.now ≡ c.print_first.new.actor =
     subst (λ k. FoldsTo g.V.Taker.takes c.args.actor.now
-    (news_all None Ground (take k c.args.rest.now)) c.print_first.new.actor) none
+    (events_all None Ground (take k c.args.rest.now)) c.print_first.new.actor) none
     (c.in-Ok-eq0.ensures.stays.2 None) in
     subst (λ a. TookSome g.K.Store.keeps (Fails g.K.Store.denied g.V.Taker.stops g.row.A.Denot)
     c.args.limit

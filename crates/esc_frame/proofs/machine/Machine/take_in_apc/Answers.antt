@@ -8,8 +8,8 @@ pub keep_apc-requires-clause-passes : goal.keep_apc-requires-clause-passes
 keep_apc-requires-clause-passes g c =
     prefix_passes c.args.rest.now c.ascii_run-run.result c.ascii_run-run.ensures.run
 
-pub take_lent_apc-requires-clause-passes : goal.take_lent_apc-requires-clause-passes
-take_lent_apc-requires-clause-passes g c =
+pub take_borrowed_apc-requires-clause-passes : goal.take_borrowed_apc-requires-clause-passes
+take_borrowed_apc-requires-clause-passes g c =
     prefix_passes c.args.rest.now c.ascii_run-run.result c.ascii_run-run.ensures.run
 
 pub returns-then-run-rest-clause-took : goal.returns-then-run-rest-clause-took
@@ -17,11 +17,13 @@ returns-then-run-rest-clause-took g c = λ o d k.
     c.keep_apc.ensures.took o d k (apc_unended o d c.args.rest.now c.ascii_run-run.result
     c.ascii_run-run.ensures.run (omega arith))
 
-pub keep_apc-requires-then-not-is_new-clause-passes : goal.keep_apc-requires-then-not-is_new-clause-passes
+pub keep_apc-requires-then-not-is_new-clause-passes
+    : goal.keep_apc-requires-then-not-is_new-clause-passes
 keep_apc-requires-then-not-is_new-clause-passes g c =
     prefix_passes c.args.rest.now c.ascii_run-run.result c.ascii_run-run.ensures.run
 
-pub keep_apc-requires-else-is_breaker-clause-passes : goal.keep_apc-requires-else-is_breaker-clause-passes
+pub keep_apc-requires-else-is_breaker-clause-passes
+    : goal.keep_apc-requires-else-is_breaker-clause-passes
 keep_apc-requires-else-is_breaker-clause-passes g c =
     prefix_passes c.args.rest.now c.ascii_run-run.result c.ascii_run-run.ensures.run
 
@@ -40,7 +42,7 @@ pub returns-then-not-is_new-clause-quiet : goal.returns-then-not-is_new-clause-q
 returns-then-not-is_new-clause-quiet g c = c.keep_apc-then-not-is_new.ensures.quiet
 
 pub returns-then-is_breaker-clause-quiet : goal.returns-then-is_breaker-clause-quiet
-returns-then-is_breaker-clause-quiet g c = c.take_lent_apc.ensures.quiet
+returns-then-is_breaker-clause-quiet g c = c.take_borrowed_apc.ensures.quiet
 
 pub returns-else-is_breaker-clause-quiet : goal.returns-else-is_breaker-clause-quiet
 returns-else-is_breaker-clause-quiet g c = c.keep_apc-else-is_breaker.ensures.quiet
@@ -52,13 +54,13 @@ pub returns-then-not-is_new-clause-count : goal.returns-then-not-is_new-clause-c
 returns-then-not-is_new-clause-count g c = c.keep_apc-then-not-is_new.ensures.count
 
 pub returns-then-is_breaker-clause-count : goal.returns-then-is_breaker-clause-count
-returns-then-is_breaker-clause-count g c = c.take_lent_apc.ensures.count
+returns-then-is_breaker-clause-count g c = c.take_borrowed_apc.ensures.count
 
 pub returns-else-is_breaker-clause-count : goal.returns-else-is_breaker-clause-count
 returns-else-is_breaker-clause-count g c = c.keep_apc-else-is_breaker.ensures.count
 
-pub take_lent_apc-requires-clause-class : goal.take_lent_apc-requires-clause-class
-take_lent_apc-requires-clause-class g c = c.classify-class.ensures
+pub take_borrowed_apc-requires-clause-class : goal.take_borrowed_apc-requires-clause-class
+take_borrowed_apc-requires-clause-class g c = c.classify-class.ensures
 
-pub take_lent_apc-requires-clause-ends : goal.take_lent_apc-requires-clause-ends
-take_lent_apc-requires-clause-ends g c = sym c.is_breaker.ensures ∙ c.if-is_breaker.true
+pub take_borrowed_apc-requires-clause-ends : goal.take_borrowed_apc-requires-clause-ends
+take_borrowed_apc-requires-clause-ends g c = sym c.is_breaker.ensures ∙ c.if-is_breaker.true

@@ -22,7 +22,7 @@ returns-in-Ok-clause-took g c = λ u h.
     c.requires.state h in (
       q.0,
       subst (λ es. FoldsTo g.V.Taker.takes c.args.actor.now es c.dcs_put_text.new.self) (sym q.1)
-          c.in-Ok.ensures.told,
+          c.in-Ok.ensures.emitted,
       data_fresh g.K.Store.keeps c.args.limit c.args.self.now u c.args.rest.now
           c.data_run-run.result c.requires.state h,
     )
@@ -40,7 +40,7 @@ returns-in-Err-clause-took g c = λ u h.
     (stops_for ⊥ own g.V.Taker.takes g.V.Taker.refuses _ c.args.actor.now
     c.dcs_put_text.new.self (λ no. absurd no)
     (subst (λ es. StopsAt ⊥ g.V.Taker.takes g.V.Taker.refuses c.args.actor.now es
-    c.dcs_put_text.new.self) (sym q.1) c.in-Err.ensures.told))
+    c.dcs_put_text.new.self) (sym q.1) c.in-Err.ensures.emitted))
 
 pub take_one-requires-clause-between : goal.take_one-requires-clause-between
 take_one-requires-clause-between g c = rw c.requires.state refl

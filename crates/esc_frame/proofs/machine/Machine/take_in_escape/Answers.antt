@@ -4,8 +4,8 @@ use Rattle.esc_frame.specs.Events.{StopsAt}
 use Rattle.esc_frame.specs.Leads.{Holds}
 use Rattle.esc_frame.specs.Leads.Unfinished.{InEscape}
 use Rattle.esc_frame.specs.Machine.Calls.{StaysFresh, Fails}
-use Rattle.esc_frame.specs.Machine.Moves.{after_all, news_all, may_grow_within}
-use Rattle.esc_frame.proofs.Lends.{one_fresh, one_unlent}
+use Rattle.esc_frame.specs.Machine.Moves.{after_all, events_all, may_grow_within}
+use Rattle.esc_frame.proofs.Borrows.{one_fresh, one_unborrowed}
 use Rattle.esc_frame.proofs.QuietRuns.{quiet_took, quiet_stops}
 use Rattle.esc_frame.proofs.States.{escape_only}
 use Rattle.esc_frame.proofs.machine.Machine.take_in_escape.Goals as goal
@@ -15,7 +15,7 @@ returns-in-Ok-clause-took g c = λ u h.
     escape_only g.K.Store.keeps c.args.limit c.args.self.now u c.requires.state h
     (λ v. Holds g.K.Store.keeps c.args.limit c.in_escape.new.self
     (after_all v (take 1 c.args.rest.now))
-    × FoldsTo g.V.Taker.takes c.args.actor.now (news_all c.args.limit v (take 1 c.args.rest.now))
+    × FoldsTo g.V.Taker.takes c.args.actor.now (events_all c.args.limit v (take 1 c.args.rest.now))
     c.in_escape.new.actor × StaysFresh v c.args.rest.now 1)
     (λ x k. quiet_took c.args.limit g.V.Taker.takes g.V.Taker.refuses (InEscape x) (InEscape x)
     c.args.rest.now 0 _ c.args.actor.now _ (refl, refl)
@@ -29,9 +29,9 @@ returns-in-Err-clause-took g c = λ u h.
     (λ v. StopsAt ((may_grow_within v c.args.rest.now ≡ true)
     × Fails g.K.Store.denied g.V.Taker.stops g.row.A.Denot c.args.limit)
     g.V.Taker.takes g.V.Taker.refuses c.args.actor.now
-    (news_all c.args.limit v c.args.rest.now)
+    (events_all c.args.limit v c.args.rest.now)
     c.in_escape.new.actor)
     (λ x k. quiet_stops c.args.limit g.V.Taker.takes g.V.Taker.refuses (InEscape x) (InEscape x)
     c.args.rest.now 0 _ c.args.actor.now _ (refl, refl)
-    c.requires.some c.classify.ensures (one_unlent (InEscape x) c.args.rest.now refl)
+    c.requires.some c.classify.ensures (one_unborrowed (InEscape x) c.args.rest.now refl)
     (c.in-Err.ensures.moved c.classify.ensures c.args.limit false x k.1))

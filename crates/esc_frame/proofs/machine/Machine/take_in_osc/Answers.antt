@@ -1,6 +1,6 @@
 use Rattle.std.proofs.Common.{◌∙◌, ◌&&◌, ap, sym}
 use Rattle.esc_frame.specs.Leads.Unfinished.{InOsc}
-use Rattle.esc_frame.specs.Machine.Moves.{lends}
+use Rattle.esc_frame.specs.Machine.Moves.{borrows}
 use Rattle.esc_frame.specs.Segments.{text_of}
 use Rattle.esc_frame.proofs.KeptStrings.{empty_is}
 use Rattle.esc_frame.proofs.machine.Machine.take_in_osc.Goals as goal
@@ -14,5 +14,5 @@ returns-then-is_new-clause-took g c = λ o ps k.
 pub returns-clause-took : goal.returns-clause-took
 returns-clause-took g c = λ o ps k.
     c.take_units.ensures.took o ps k
-    (ap (λ t. t && lends (InOsc o ps) c.args.rest.now)
+    (ap (λ t. t && borrows (InOsc o ps) c.args.rest.now)
     (sym (c.is_new.ensures c.args.limit (text_of ps) k) ∙ c.if-is_new.false))

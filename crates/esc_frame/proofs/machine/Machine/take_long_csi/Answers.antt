@@ -3,7 +3,7 @@ use Rattle.esc_frame.specs.Leads.Unfinished.{InCsi}
 use Rattle.esc_frame.specs.Segments.Opener.{Long}
 use Rattle.esc_frame.proofs.CsiRuns.{csi_opens}
 use Rattle.esc_frame.specs.declared.classes.Kind.TheVariants as kind
-use Rattle.esc_frame.proofs.Lends.{opened_fresh}
+use Rattle.esc_frame.proofs.Borrows.{opened_fresh}
 use Rattle.esc_frame.proofs.Still.{opened_took, opened_stops}
 use Rattle.esc_frame.specs.Machine.Calls.{Fails}
 use Rattle.esc_frame.proofs.machine.Machine.take_long_csi.Goals as goal

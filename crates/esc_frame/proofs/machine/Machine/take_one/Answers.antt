@@ -1,5 +1,5 @@
 use Rattle.std.proofs.Common.{refl}
-use Rattle.esc_frame.proofs.Lends.{one_fresh, one_unlent}
+use Rattle.esc_frame.proofs.Borrows.{one_fresh, one_unborrowed}
 use Rattle.esc_frame.proofs.QuietRuns.{quiet_took, quiet_stops}
 use Rattle.esc_frame.proofs.States.{no_string}
 use Rattle.esc_frame.proofs.machine.Machine.take_one.Goals as goal
@@ -17,6 +17,6 @@ pub returns-in-Err-clause-took : goal.returns-in-Err-clause-took
 returns-in-Err-clause-took g c = λ u h.
     quiet_stops c.args.limit g.V.Taker.takes g.V.Taker.refuses u u c.args.rest.now 0 _
     c.args.actor.now _ (refl, refl) c.requires.some c.classify.ensures
-    (one_unlent u c.args.rest.now (no_string g.K.Store.keeps c.args.limit c.args.self.now u h
+    (one_unborrowed u c.args.rest.now (no_string g.K.Store.keeps c.args.limit c.args.self.now u h
     c.requires.between))
     (c.in-Err.ensures.moved c.classify.ensures u h)

@@ -1,6 +1,6 @@
 use Rattle.std.proofs.Common.{false, refl, arith}
 use Rattle.esc_frame.specs.Leads.Unfinished.{Ground}
-use Rattle.esc_frame.proofs.Lends.{one_fresh, one_unlent}
+use Rattle.esc_frame.proofs.Borrows.{one_fresh, one_unborrowed}
 use Rattle.esc_frame.proofs.QuietRuns.{quiet_took, quiet_stops}
 use Rattle.esc_frame.proofs.Still.{one_still}
 use Rattle.esc_frame.proofs.machine.Machine.take_one_in_ground.Goals as goal
@@ -19,7 +19,7 @@ pub returns-in-Err : goal.returns-in-Err
 returns-in-Err g c = λ limit. (
   quiet_stops limit g.V.Taker.takes g.V.Taker.refuses Ground Ground c.args.rest.now 0 _
       c.args.actor.now _ (refl, refl) c.requires.some c.classify.ensures
-      (one_unlent Ground c.args.rest.now refl)
+      (one_unborrowed Ground c.args.rest.now refl)
       (c.in-Err.ensures.moved limit false),
   tt,
   tt,

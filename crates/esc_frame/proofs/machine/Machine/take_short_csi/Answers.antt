@@ -15,7 +15,7 @@ returns-in-Ok-clause-stays g c = (
       g.V.Taker.takes c.args.actor.now
       (CsiDispatch es false (get_or c.args.rest.now (c.args.run + 2) 0))
       c.csi_dispatch.new.self)
-      c.as_slice.ensures c.in-Ok.ensures.hears),
+      c.as_slice.ensures c.in-Ok.ensures.receives),
   c.in-Ok.ensures.ready,
 )
 
@@ -33,4 +33,4 @@ returns-in-Err-clause-stays g c =
     (subst (λ es.
     g.V.Taker.refuses c.args.actor.now
     (CsiDispatch es false (get_or c.args.rest.now (c.args.run + 2) 0)) c.csi_dispatch.new.self)
-    c.as_slice.ensures c.in-Err.ensures.hears)
+    c.as_slice.ensures c.in-Err.ensures.receives)

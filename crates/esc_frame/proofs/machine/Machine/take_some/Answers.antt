@@ -1,13 +1,13 @@
 use Rattle.std.proofs.Common.{ap}
 use Rattle.esc_frame.specs.Machine.Calls.{Took, Quietly, Fails}
-use Rattle.esc_frame.specs.Machine.Fronts.{front_of}
+use Rattle.esc_frame.specs.Machine.Prefixes.{prefix_of}
 use Rattle.esc_frame.proofs.States.{ground_only, osc_only, csi_only, apc_only}
 use Rattle.esc_frame.proofs.machine.Machine.take_some.Goals as goal
 
 pub returns-in-Nothing-clause-took : goal.returns-in-Nothing-clause-took
 returns-in-Nothing-clause-took g c = λ u h.
     ground_only g.K.Store.keeps c.args.limit c.args.self.now u c.in-Ground.is
-    (ap front_of c.in-Nothing.is) h
+    (ap prefix_of c.in-Nothing.is) h
     (λ v. Took g.K.Store.keeps (Fails g.K.Store.denied g.V.Taker.stops g.row.A.Denot)
     c.args.limit g.V.Taker.takes g.V.Taker.refuses
     c.take_first.result v c.args.rest.now c.take_first.new.self c.args.actor.now
@@ -17,7 +17,7 @@ returns-in-Nothing-clause-took g c = λ u h.
 pub returns-in-Nothing-clause-quiet : goal.returns-in-Nothing-clause-quiet
 returns-in-Nothing-clause-quiet g c = λ u h.
     ground_only g.K.Store.keeps c.args.limit c.args.self.now u c.in-Ground.is
-    (ap front_of c.in-Nothing.is) h (λ v.
+    (ap prefix_of c.in-Nothing.is) h (λ v.
     Quietly c.args.limit c.take_first.result v c.args.rest.now)
     c.take_first.ensures.1
 
@@ -45,7 +45,7 @@ returns-in-Csi-clause-count g c = c.take_in_csi.ensures.count
 pub returns-in-Nothing-pending-clause-took : goal.returns-in-Nothing-pending-clause-took
 returns-in-Nothing-pending-clause-took g c = λ u h.
     osc_only g.K.Store.keeps c.args.limit c.args.self.now u c.in-Osc.is
-    (ap front_of c.in-Nothing-pending.is) h
+    (ap prefix_of c.in-Nothing-pending.is) h
     (λ v. Took g.K.Store.keeps (Fails g.K.Store.denied g.V.Taker.stops g.row.A.Denot)
     c.args.limit g.V.Taker.takes g.V.Taker.refuses
     c.take_in_osc.result v c.args.rest.now c.take_in_osc.new.self c.args.actor.now
@@ -55,7 +55,7 @@ returns-in-Nothing-pending-clause-took g c = λ u h.
 pub returns-in-Nothing-pending-clause-quiet : goal.returns-in-Nothing-pending-clause-quiet
 returns-in-Nothing-pending-clause-quiet g c = λ u h.
     osc_only g.K.Store.keeps c.args.limit c.args.self.now u c.in-Osc.is
-    (ap front_of c.in-Nothing-pending.is) h (λ v.
+    (ap prefix_of c.in-Nothing-pending.is) h (λ v.
     Quietly c.args.limit c.take_in_osc.result v c.args.rest.now)
     (λ o ps k. c.take_in_osc.ensures.quiet o ps)
 
@@ -80,11 +80,11 @@ returns-in-Apc-clause-quiet g c = λ u h.
 pub returns-in-Apc-clause-count : goal.returns-in-Apc-clause-count
 returns-in-Apc-clause-count g c = c.take_in_apc.ensures.count
 
-pub returns-in-Skip-clause-took : goal.returns-in-Skip-clause-took
-returns-in-Skip-clause-took g c = c.take_in_skip.ensures.took
+pub returns-in-Ignored-clause-took : goal.returns-in-Ignored-clause-took
+returns-in-Ignored-clause-took g c = c.take_in_ignored.ensures.took
 
-pub returns-in-Skip-clause-quiet : goal.returns-in-Skip-clause-quiet
-returns-in-Skip-clause-quiet g c = c.take_in_skip.ensures.quiet
+pub returns-in-Ignored-clause-quiet : goal.returns-in-Ignored-clause-quiet
+returns-in-Ignored-clause-quiet g c = c.take_in_ignored.ensures.quiet
 
 pub returns-in-Escape-clause-took : goal.returns-in-Escape-clause-took
 returns-in-Escape-clause-took g c = c.take_in_escape.ensures.took

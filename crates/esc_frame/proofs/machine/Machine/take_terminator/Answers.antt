@@ -1,17 +1,17 @@
 use Rattle.std.proofs.Common.{refl, arith}
 use Rattle.std.proofs.lemmas.Bool.{and_parts}
-use Rattle.esc_frame.specs.Machine.Moves.{is_fresh, lends}
+use Rattle.esc_frame.specs.Machine.Moves.{is_fresh, borrows}
 use Rattle.esc_frame.proofs.machine.Machine.take_terminator.Goals as goal
 
 pub returns-then-is_empty-clause-took : goal.returns-then-is_empty-clause-took
 returns-then-is_empty-clause-took g c =
-    λ u h. (h, refl, λ l. (and_parts (is_fresh u) (lends u c.args.rest.now) l).0)
+    λ u h. (h, refl, λ l. (and_parts (is_fresh u) (borrows u c.args.rest.now) l).0)
 
 pub returns-in-Escape-clause-took : goal.returns-in-Escape-clause-took
 returns-in-Escape-clause-took g c = c.take_in_escape.ensures.took
 
 pub returns-in_default : goal.returns-in_default
 returns-in_default g c = record {
-  took = λ u h. (h, refl, λ l. (and_parts (is_fresh u) (lends u c.args.rest.now) l).0);
+  took = λ u h. (h, refl, λ l. (and_parts (is_fresh u) (borrows u c.args.rest.now) l).0);
   count = (omega arith, c.requires);
 }

@@ -4,8 +4,8 @@ use Rattle.esc_frame.specs.Machine.Keeps.{KeepsText}
 use Rattle.esc_frame.specs.Machine.Moves.{after_all}
 use Rattle.esc_frame.specs.Stream.{LeadsToWithin}
 use Rattle.esc_frame.proofs.AtGround.{to_ground}
-use Rattle.esc_frame.proofs.Fed.{kept_all, given_all, refused_all, refused_lent}
-use Rattle.esc_frame.proofs.LentCuts.{lent_lends}
+use Rattle.esc_frame.proofs.Fed.{kept_all, given_all, refused_all, refused_borrowed}
+use Rattle.esc_frame.proofs.BorrowedCuts.{borrowed_borrows}
 use Rattle.esc_frame.proofs.parser.VTParser.parse.Goals as goal
 
 pub returns-in-Ok-clause-given : goal.returns-in-Ok-clause-given
@@ -21,7 +21,7 @@ returns-in-Ok-clause-given g c = λ limit s (f, i, h).
       ),
       given_all c.args.self.now.limit limit i g.V.VTActor.takes s bs c.args.actor.now
           c.take_all.new.actor
-          (c.in-Ok.ensures.told u h),
+          (c.in-Ok.ensures.emitted u h),
     )
 
 pub returns-in-Err-clause-refused : goal.returns-in-Err-clause-refused
@@ -30,15 +30,15 @@ returns-in-Err-clause-refused g c = λ limit s (f, i, h). (
   refl,
   refused_all g.row.A.Denot c.args.self.now.limit limit i g.V.VTActor.takes g.V.VTActor.refuses s
       c.args.bytes.now c.args.actor.now c.take_all.new.actor
-      (c.in-Err.ensures.told (after_all Ground s) h),
+      (c.in-Err.ensures.emitted (after_all Ground s) h),
 )
 
-pub returns-in-Err-clause-lent : goal.returns-in-Err-clause-lent
+pub returns-in-Err-clause-borrowed : goal.returns-in-Err-clause-borrowed
 unfolding LeadsToWithin
-returns-in-Err-clause-lent g c = λ limit s (f, i, h) at lent. (
+returns-in-Err-clause-borrowed g c = λ limit s (f, i, h) at borrowed. (
   refl,
-  refused_lent c.args.self.now.limit limit i g.V.VTActor.takes g.V.VTActor.refuses s
+  refused_borrowed c.args.self.now.limit limit i g.V.VTActor.takes g.V.VTActor.refuses s
       c.args.bytes.now c.args.actor.now c.take_all.new.actor (to_ground s at)
-      (lent_lends c.args.bytes.now lent)
-      (c.in-Err.ensures.told (after_all Ground s) h),
+      (borrowed_borrows c.args.bytes.now borrowed)
+      (c.in-Err.ensures.emitted (after_all Ground s) h),
 )

@@ -1,7 +1,7 @@
 use Rattle.std.proofs.Common.{◌++◌, take, sym, subst, arith}
 use Rattle.std.proofs.lemmas.Bool.{false≢true}
-use Rattle.esc_frame.specs.Machine.Shorts.{IsBehind}
-use Rattle.esc_frame.proofs.Shorts.{field_closed, mark_closed, none_behind}
+use Rattle.esc_frame.specs.Machine.Shorts.{IsAfter}
+use Rattle.esc_frame.proofs.Shorts.{field_closed, mark_closed, none_after}
 use Rattle.esc_frame.proofs.short.Short.push_field.Goals as goal
 
 pub returns-then-n-rest-clause-ends : goal.returns-then-n-rest-clause-ends
@@ -25,7 +25,7 @@ returns-else-push_mark-clause-goes_on c = λ no. absurd (false≢true no)
 
 pub returns-else-push_mark-clause-ends : goal.returns-else-push_mark-clause-ends
 returns-else-push_mark-clause-ends c = λ _ x f.
-    subst (λ s. IsBehind (take s.count s.items) (x ++ take c.push_number-n.result c.args.rest.now))
+    subst (λ s. IsAfter (take s.count s.items) (x ++ take c.push_number-n.result c.args.rest.now))
     (sym (c.push_mark.ensures.other c.if-push_mark.false))
     (c.push_number-n.ensures.keeps x f)
 
@@ -44,6 +44,6 @@ returns-else-push_mark-2-clause-goes_on c = λ no. absurd (false≢true no)
 
 pub returns-else-push_mark-2-clause-ends : goal.returns-else-push_mark-2-clause-ends
 returns-else-push_mark-2-clause-ends c = λ _ x f.
-    subst (λ s. IsBehind (take s.count s.items) (x ++ take 0 c.args.rest.now))
+    subst (λ s. IsAfter (take s.count s.items) (x ++ take 0 c.args.rest.now))
     (sym (c.push_mark-else-rest-ge48.ensures.other c.if-push_mark-2.false))
-    (none_behind _ x f)
+    (none_after _ x f)

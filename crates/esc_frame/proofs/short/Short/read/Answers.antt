@@ -1,5 +1,5 @@
 use Rattle.std.proofs.Common.{◌≡◌, false, true, take, length-take, subst, arith, rules}
-use Rattle.esc_frame.specs.Machine.Shorts.{IsBehind, IsFront}
+use Rattle.esc_frame.specs.Machine.Shorts.{IsAfter, IsPrefix}
 use Rattle.esc_frame.proofs.CsiRuns.{run_joins}
 use Rattle.esc_frame.proofs.ManyBytes.{tail_length}
 use Rattle.esc_frame.proofs.Shorts.{ends_short}
@@ -12,7 +12,7 @@ returns-then-not-goes_on-clause-keeps c =
     let s = c.push_field-n.new.self in
     let no : c.push_field-n.result.1 ≡ false = search rules in
     ends_short _ _ (omega (arith, length-take s.count s.items, s.fits))
-    (subst (λ y. IsBehind (take s.count s.items) y) (run_joins rest i _)
+    (subst (λ y. IsAfter (take s.count s.items) y) (run_joins rest i _)
     (c.push_field-n.ensures.ends no (take i rest) c.loop-at.invariant.1))
 
 pub loop-at-preserved : goal.loop-at-preserved
@@ -23,7 +23,7 @@ loop-at-preserved c =
     let yes : c.push_field-n.result.1 ≡ true = search rules in
     let l = tail_length rest i in (
       omega (arith, c.push_field-n.ensures.few),
-      subst (λ y. IsFront (take s.count s.items) y) (run_joins rest i _)
+      subst (λ y. IsPrefix (take s.count s.items) y) (run_joins rest i _)
           ((c.push_field-n.ensures.goes_on yes).1 (take i rest) c.loop-at.invariant.1),
     )
 

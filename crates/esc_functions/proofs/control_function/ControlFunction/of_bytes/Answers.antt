@@ -7,6 +7,7 @@ pub returns : goal.returns
 returns c =
     let same = c.marks_of.ensures.same in
     let key : c.marks_of.result * 256 + c.args.last
-    ≡ 256 * packed 1 (put_mark c.args.marker (put_mark c.args.intermediate [])) + c.args.last =
+    ≡ 256 * packed 1
+    (put_mark c.args.private_prefix (put_mark c.args.intermediate [])) + c.args.last =
     omega arith in
     c.with_key.ensures ∙ ap function_of key

@@ -3,8 +3,8 @@ use Rattle.esc_write.proofs.Results.{ok_both}
 use Rattle.esc_normal.proofs.Spelling.{made_spelled, text_spelled, verbatim_spelled}
 use Rattle.esc_normal.proofs.speller.SpellerVTActor.osc_text.Goals as goal
 
-pub returns-in-Some-clause-told : goal.returns-in-Some-clause-told
-returns-in-Some-clause-told g c =
+pub returns-in-Some-clause-emitted : goal.returns-in-Some-clause-emitted
+returns-in-Some-clause-emitted g c =
     let p = c.args.self.now.performer in
     let s = c.write_verbatim.new.self in
     text_spelled _ c.write_verbatim.result p s (parts_of c.args.text.now)
@@ -23,8 +23,8 @@ returns-in-Some-clause-few g c = λ _.
     c.in-Some.ensures.written)
     c.write_verbatim.ensures.ok) c.write_verbatim.ensures.refused
 
-pub returns-clause-told : goal.returns-clause-told
-returns-clause-told g c =
+pub returns-clause-emitted : goal.returns-clause-emitted
+returns-clause-emitted g c =
     let p = c.args.self.now.performer in
     let s = c.write_command.new.self in
     text_spelled _ c.write_command.result p s (parts_of c.args.text.now)

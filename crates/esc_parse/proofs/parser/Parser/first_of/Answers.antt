@@ -8,8 +8,8 @@ use Rattle.esc_parse.specs.Fed.{WasFedWithin}
 use Rattle.esc_actions.specs.Meaning.{yield_within}
 use Rattle.esc_actions.specs.Values.{value_of}
 
-pub fronts-init : goal.fronts-init
-fronts-init g c = record {
+pub prefixes-init : goal.prefixes-init
+prefixes-init g c = record {
   within = omega arith;
   broken = λ b. b;
   fed = λ limit s h.
@@ -19,13 +19,13 @@ fronts-init g c = record {
 pub returns-in-Ok-default-Some-clause-some : goal.returns-in-Ok-default-Some-clause-some
 returns-in-Ok-default-Some-clause-some g c = λ limit s h.
     let bs = c.args.bytes.now in
-    let at = c.fronts.at in
+    let at = c.prefixes.at in
     let n = c.in-Ok-default-Some.taken in
-    let p = c.fronts.invariant.fed limit s h in
+    let p = c.prefixes.invariant.fed limit s h in
     let w = c.in-Ok-default-Some.ensures.given limit (s ++ take at bs) p.0 in
     let l = rest_length bs at in
     let m : at + n ≤ length bs =
-    omega (arith, c.in-Ok-default-Some.ensures.count.0, c.fronts.invariant.within) in (
+    omega (arith, c.in-Ok-default-Some.ensures.count.0, c.prefixes.invariant.within) in (
       subst (λ x. WasFedWithin limit x c.first_in.new.self) (fed_more s bs at n) w.0,
       finds_first limit s bs at n (value_of c.in-Ok-default-Some.action) m p.1
           (c.in-Ok-default-Some.ensures.quiet limit (s ++ take at bs) p.0)
@@ -42,9 +42,9 @@ returns-in-Ok-default-Some-clause-handed_out g c =
 pub returns-then-at-bytes-clause-none : goal.returns-then-at-bytes-clause-none
 returns-then-at-bytes-clause-none g c = λ limit s h.
     let bs = c.args.bytes.now in
-    let at = c.fronts.at in
+    let at = c.prefixes.at in
     let n = c.in-Ok-default-None.taken in
-    let p = c.fronts.invariant.fed limit s h in
+    let p = c.prefixes.invariant.fed limit s h in
     let w = c.in-Ok-default-None.ensures.given limit (s ++ take at bs) p.0 in
     let e = finds_none {A = g.row.A.Denot} limit s bs at n p.1
     (sym (ap (option_map value_of) c.in-Ok-default-None.field-0-1-is) ∙ w.1) in
@@ -54,18 +54,18 @@ returns-then-at-bytes-clause-none g c = λ limit s h.
       ap (yield_within limit s) (sym all) ∙ e,
     )
 
-pub fronts-preserved : goal.fronts-preserved
-fronts-preserved g c =
+pub prefixes-preserved : goal.prefixes-preserved
+prefixes-preserved g c =
     let bs = c.args.bytes.now in
-    let at = c.fronts.at in
+    let at = c.prefixes.at in
     let n = c.in-Ok-default-None.taken in
     let l = rest_length bs at in record {
-      within = omega (arith, c.in-Ok-default-None.ensures.count.0, c.fronts.invariant.within);
+      within = omega (arith, c.in-Ok-default-None.ensures.count.0, c.prefixes.invariant.within);
       broken = λ b. absurd
           (ok_is_no_error _ _ _ refl
-          (c.in-Ok-default-None.ensures.failed (c.fronts.invariant.broken b)).0);
+          (c.in-Ok-default-None.ensures.failed (c.prefixes.invariant.broken b)).0);
       fed = λ limit s h.
-          let p = c.fronts.invariant.fed limit s h in
+          let p = c.prefixes.invariant.fed limit s h in
           let w = c.in-Ok-default-None.ensures.given limit (s ++ take at bs) p.0 in (
             subst (λ x. WasFedWithin limit x c.first_in.new.self) (fed_more s bs at n) w.0,
             finds_none {A = g.row.A.Denot} limit s bs at n p.1
@@ -75,22 +75,22 @@ fronts-preserved g c =
 
 pub returns-in-Ok-default-Some-clause-failed : goal.returns-in-Ok-default-Some-clause-failed
 returns-in-Ok-default-Some-clause-failed g c = λ b.
-    let failed = c.in-Ok-default-Some.ensures.failed (c.fronts.invariant.broken b) in
+    let failed = c.in-Ok-default-Some.ensures.failed (c.prefixes.invariant.broken b) in
     absurd (ok_is_no_error _ _ _ refl failed.0)
 
 pub returns-then-at-bytes-clause-failed : goal.returns-then-at-bytes-clause-failed
 returns-then-at-bytes-clause-failed g c = λ b.
-    let failed = c.in-Ok-default-None.ensures.failed (c.fronts.invariant.broken b) in
+    let failed = c.in-Ok-default-None.ensures.failed (c.prefixes.invariant.broken b) in
     absurd (ok_is_no_error _ _ _ refl failed.0)
 
 pub returns-in-Err-clause-refused : goal.returns-in-Err-clause-refused
 returns-in-Err-clause-refused g c = λ limit s h.
     let bs = c.args.bytes.now in
-    let fed = c.fronts.invariant.fed limit s h in
-    let f = c.in-Err.ensures.refused limit (s ++ take c.fronts.at bs) fed.0 in
-    (f.0, f.1, takes_rest s bs c.fronts.at f.2, f.3)
+    let fed = c.prefixes.invariant.fed limit s h in
+    let f = c.in-Err.ensures.refused limit (s ++ take c.prefixes.at bs) fed.0 in
+    (f.0, f.1, takes_rest s bs c.prefixes.at f.2, f.3)
 
 pub returns-in-Err-clause-failed : goal.returns-in-Err-clause-failed
 returns-in-Err-clause-failed g c = λ b.
-    let failed = c.in-Err.ensures.failed (c.fronts.invariant.broken b) in
+    let failed = c.in-Err.ensures.failed (c.prefixes.invariant.broken b) in
     (same_error _ _ _ refl failed.0, failed.1)

@@ -3,8 +3,8 @@ use Rattle.esc_parse.proofs.parser.Parser.first_of.Given as goal
 use Rattle.esc_parse.specs.Fed.{IsBroken, WasFedWithin}
 use Rattle.esc_actions.specs.Meaning.{yield_within}
 
-abbrev pub invariant-fronts : goal.invariant-fronts
-invariant-fronts g l = record {
+abbrev pub invariant-prefixes : goal.invariant-prefixes
+invariant-prefixes g l = record {
   within : l.at ≤ length l.bytes;
   broken : IsBroken l.initial.self → IsBroken l.self;
   fed : (limit : Option ℕ) (s : List ℕ) → WasFedWithin limit s l.initial.self
@@ -12,5 +12,5 @@ invariant-fronts g l = record {
       × (yield_within {A = g.row.A.Denot} limit s (take l.at l.bytes) ≡ []);
 }
 
-abbrev pub decreases-fronts : goal.decreases-fronts
-decreases-fronts g l = length l.bytes - l.at
+abbrev pub decreases-prefixes : goal.decreases-prefixes
+decreases-prefixes g l = length l.bytes - l.at

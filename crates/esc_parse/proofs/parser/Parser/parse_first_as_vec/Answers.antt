@@ -1,15 +1,15 @@
 use Rattle.std.proofs.Common.{◌≡◌, ◌+◌, ◌-◌, ◌<◌, ◌≤◌, ◌++◌, length, map, take, refl, sym, ap, ◌∙◌, subst, arith}
 use Rattle.std.proofs.lemmas.List.{append-nil, take_all}
 use Rattle.esc_parse.proofs.Paired.{ok_is_no_error, same_error}
-use Rattle.esc_parse.proofs.FirstsGiven.{fed_more, front_some, stop_handed, no_stop_up_to, no_stop_within, no_stop_yet, rest_length, values_more}
+use Rattle.esc_parse.proofs.FirstsGiven.{fed_more, prefix_some, stop_handed, no_stop_up_to, no_stop_within, no_stop_yet, rest_length, values_more}
 use Rattle.esc_parse.proofs.FirstsGiven.{wants_rest, yield_nil}
 use Rattle.esc_parse.proofs.parser.Parser.parse_first_as_vec.Goals as goal
 use Rattle.esc_parse.specs.Fed.{WasFedWithin}
 use Rattle.esc_parse.specs.Firsts.{IsStop}
 use Rattle.esc_actions.specs.Values.{value_of}
 
-pub fronts-init : goal.fronts-init
-fronts-init g c = record {
+pub prefixes-init : goal.prefixes-init
+prefixes-init g c = record {
   within = omega arith;
   fresh = λ e. ap length c.new-actions.ensures.items;
   broken = λ b. b;
@@ -24,7 +24,7 @@ fronts-init g c = record {
 pub returns-then-stops-clause-count : goal.returns-then-stops-clause-count
 returns-then-stops-clause-count g c =
     let bs = c.args.bytes.now in
-    let at = c.fronts.at in
+    let at = c.prefixes.at in
     let n = c.in-Ok.taken in
     let l = rest_length bs at in
     let had = ap length c.deref.ensures.value in
@@ -32,22 +32,22 @@ returns-then-stops-clause-count g c =
     omega (arith, c.stops.ensures.some c.if-stops.true, had) in
     let none : length bs ≡ 0 → at ≡ 0 → length c.in-Ok.more.items ≡ 0 = λ e z.
     ap (λ v. length v.items) (c.in-Ok.ensures.empty (l ∙ omega (arith, e, z)))
-    ∙ c.fronts.invariant.fresh z in
+    ∙ c.prefixes.invariant.fresh z in
     let count : 0 < length bs - at → 0 < n = λ h. c.in-Ok.ensures.count.1 (omega (arith, h, l)) in (
-      front_some (length bs) at n _ count some none,
-      omega (arith, l, c.in-Ok.ensures.count.0, c.fronts.invariant.within),
+      prefix_some (length bs) at n _ count some none,
+      omega (arith, l, c.in-Ok.ensures.count.0, c.prefixes.invariant.within),
     )
 
 pub returns-then-stops-clause-some : goal.returns-then-stops-clause-some
 returns-then-stops-clause-some g c = λ limit s h.
     let bs = c.args.bytes.now in
-    let at = c.fronts.at in
+    let at = c.prefixes.at in
     let n = c.in-Ok.taken in
-    let p = c.fronts.invariant.fed limit s h in
+    let p = c.prefixes.invariant.fed limit s h in
     let w = c.in-Ok.ensures.given limit (s ++ take at bs) p.0 in
     let l = rest_length bs at in
     let m : at + n ≤ length bs =
-    omega (arith, c.in-Ok.ensures.count.0, c.fronts.invariant.within) in
+    omega (arith, c.in-Ok.ensures.count.0, c.prefixes.invariant.within) in
     let v = values_more limit s bs at n _ _ p.1 w.1 in
     let f = subst (λ x. WasFedWithin limit x c.more_in.new.self) (fed_more s bs at n) w.0 in (
       f,
@@ -69,14 +69,15 @@ returns-then-stops-clause-handed_out g c =
 
 pub returns-then-stops-clause-failed : goal.returns-then-stops-clause-failed
 returns-then-stops-clause-failed g c =
-    λ b. absurd (ok_is_no_error _ _ _ refl (c.in-Ok.ensures.failed (c.fronts.invariant.broken b)).0)
+    λ b. absurd
+    (ok_is_no_error _ _ _ refl (c.in-Ok.ensures.failed (c.prefixes.invariant.broken b)).0)
 
 pub returns-then-at-bytes-clause-none : goal.returns-then-at-bytes-clause-none
 returns-then-at-bytes-clause-none g c = λ limit s h.
     let bs = c.args.bytes.now in
-    let at = c.fronts.at in
+    let at = c.prefixes.at in
     let n = c.in-Ok.taken in
-    let p = c.fronts.invariant.fed limit s h in
+    let p = c.prefixes.invariant.fed limit s h in
     let w = c.in-Ok.ensures.given limit (s ++ take at bs) p.0 in
     let v = values_more limit s bs at n _ _ p.1 w.1 in
     let f = subst (λ x. WasFedWithin limit x c.more_in.new.self) (fed_more s bs at n) w.0 in
@@ -95,31 +96,31 @@ returns-then-at-bytes-clause-none g c = λ limit s h.
 pub returns-in-Err-clause-refused : goal.returns-in-Err-clause-refused
 returns-in-Err-clause-refused g c = λ limit s h.
     let bs = c.args.bytes.now in
-    let fed = c.fronts.invariant.fed limit s h in
-    let f = c.in-Err.ensures.refused limit (s ++ take c.fronts.at bs) fed.0 in
-    (f.0, f.1, wants_rest g.row.A.Denot limit s bs c.fronts.at f.2, f.3)
+    let fed = c.prefixes.invariant.fed limit s h in
+    let f = c.in-Err.ensures.refused limit (s ++ take c.prefixes.at bs) fed.0 in
+    (f.0, f.1, wants_rest g.row.A.Denot limit s bs c.prefixes.at f.2, f.3)
 
 pub returns-then-at-bytes-clause-failed : goal.returns-then-at-bytes-clause-failed
 returns-then-at-bytes-clause-failed g c = λ b.
-    absurd (ok_is_no_error _ _ _ refl (c.in-Ok.ensures.failed (c.fronts.invariant.broken b)).0)
+    absurd (ok_is_no_error _ _ _ refl (c.in-Ok.ensures.failed (c.prefixes.invariant.broken b)).0)
 
 pub returns-in-Err-clause-failed : goal.returns-in-Err-clause-failed
 returns-in-Err-clause-failed g c = λ b.
-    let failed = c.in-Err.ensures.failed (c.fronts.invariant.broken b) in
+    let failed = c.in-Err.ensures.failed (c.prefixes.invariant.broken b) in
     (same_error _ _ _ refl failed.0, failed.1)
 
-pub fronts-preserved : goal.fronts-preserved
-fronts-preserved g c =
+pub prefixes-preserved : goal.prefixes-preserved
+prefixes-preserved g c =
     let bs = c.args.bytes.now in
-    let at = c.fronts.at in
+    let at = c.prefixes.at in
     let n = c.in-Ok.taken in
     let l = rest_length bs at in record {
-      within = omega (arith, c.in-Ok.ensures.count.0, c.fronts.invariant.within);
-      fresh = λ e. absurd (omega (arith, e, c.in-Ok.ensures.count.1, c.fronts.invariant.within));
+      within = omega (arith, c.in-Ok.ensures.count.0, c.prefixes.invariant.within);
+      fresh = λ e. absurd (omega (arith, e, c.in-Ok.ensures.count.1, c.prefixes.invariant.within));
       broken = λ b. absurd
-          (ok_is_no_error _ _ _ refl (c.in-Ok.ensures.failed (c.fronts.invariant.broken b)).0);
+          (ok_is_no_error _ _ _ refl (c.in-Ok.ensures.failed (c.prefixes.invariant.broken b)).0);
       fed = λ limit s h.
-          let p = c.fronts.invariant.fed limit s h in
+          let p = c.prefixes.invariant.fed limit s h in
           let w = c.in-Ok.ensures.given limit (s ++ take at bs) p.0 in
           let v = values_more limit s bs at n _ _ p.1 w.1 in
           let f = subst (λ x. WasFedWithin limit x c.more_in.new.self) (fed_more s bs at n) w.0 in
@@ -134,7 +135,7 @@ fronts-preserved g c =
           );
     }
 
-pub fronts-smaller : goal.fronts-smaller
-fronts-smaller g c =
-    let l = rest_length c.args.bytes.now c.fronts.at in
-    omega (arith, c.in-Ok.ensures.count.0, c.in-Ok.ensures.count.1, c.fronts.invariant.within)
+pub prefixes-smaller : goal.prefixes-smaller
+prefixes-smaller g c =
+    let l = rest_length c.args.bytes.now c.prefixes.at in
+    omega (arith, c.in-Ok.ensures.count.0, c.in-Ok.ensures.count.1, c.prefixes.invariant.within)

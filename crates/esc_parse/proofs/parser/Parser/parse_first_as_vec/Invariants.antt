@@ -5,8 +5,8 @@ use Rattle.esc_parse.specs.Firsts.{IsStop}
 use Rattle.esc_actions.specs.Meaning.{yield_within}
 use Rattle.esc_actions.specs.Values.{value_of}
 
-abbrev pub invariant-fronts : goal.invariant-fronts
-invariant-fronts g l = record {
+abbrev pub invariant-prefixes : goal.invariant-prefixes
+invariant-prefixes g l = record {
   within : l.at ≤ length l.bytes;
   fresh : l.at ≡ 0 → length l.actions.items ≡ 0;
   broken : IsBroken l.initial.self → IsBroken l.self;
@@ -16,5 +16,5 @@ invariant-fronts g l = record {
       × ((k : ℕ) → k ≤ l.at → IsStop g.row.A.Denot limit s (take k l.bytes) → ⊥);
 }
 
-abbrev pub decreases-fronts : goal.decreases-fronts
-decreases-fronts g l = length l.bytes - l.at
+abbrev pub decreases-prefixes : goal.decreases-prefixes
+decreases-prefixes g l = length l.bytes - l.at

@@ -6,15 +6,15 @@ use Rattle.esc_parse.proofs.Lists.{StopsAt-here}
 use Rattle.memory.specs.Refusals.{Refused}
 use Rattle.esc_parse.proofs.performer.PerformerVTActor.apc_dispatch.Goals as goal
 
-pub returns-then-drops_images-clause-hears : goal.returns-then-drops_images-clause-hears
-returns-then-drops_images-clause-hears g c = λ limit m h. (
+pub returns-then-drops_images-clause-receives : goal.returns-then-drops_images-clause-receives
+returns-then-drops_images-clause-receives g c = λ limit m h. (
   h,
   all_dropped g.S.Sink.takes c.args.self.now.sink (c.drops_images.ensures c.if-drops_images.true) _
       (command_images _),
 )
 
-pub returns-in-Err-clause-hears : goal.returns-in-Err-clause-hears
-returns-in-Err-clause-hears g c = λ limit m h.
+pub returns-in-Err-clause-receives : goal.returns-in-Err-clause-receives
+returns-in-Err-clause-receives g c = λ limit m h.
     StopsAt-here (At value_of g.S.Sink.takes) (At value_of g.S.Sink.refuses)
     ((true ≡ true) × Refused g.row.A.Denot)
     c.args.self.now.sink _ _ (refl, c.in-Err.ensures.refused) refl

@@ -2,8 +2,8 @@ use Rattle.std.proofs.Common.{map}
 use Rattle.esc_parse.proofs.GivenCommands.{text_heard}
 use Rattle.esc_parse.proofs.performer.PerformerVTActor.osc_dispatch.Goals as goal
 
-pub returns-clause-hears : goal.returns-clause-hears
-returns-clause-hears g c =
+pub returns-clause-receives : goal.returns-clause-receives
+returns-clause-receives g c =
     text_heard g.S.Sink.takes g.S.Sink.refuses c.give_command.result c.args.self.now
     c.give_command.new.sink (map (λ p. p.now) c.args.params.now)
     (c.give_command.ensures.given _ c.parse-command.ensures.ok c.parse-command.ensures.refused)

@@ -1,0 +1,22 @@
+use Rattle.esc_frame.proofs.Borrowed.{borrowed_took, borrowed_stops}
+use Rattle.esc_frame.proofs.Still.{text_still}
+use Rattle.esc_frame.proofs.machine.Machine.take_borrowed.Goals as goal
+
+pub returns-in-Ok-clause-took : goal.returns-in-Ok-clause-took
+returns-in-Ok-clause-took g c = λ o ps none.
+    borrowed_took c.args.limit g.V.Taker.takes g.V.Taker.refuses o ps c.args.rest.now c.args.run
+    c.args.actor.now c.end_borrowed.new.actor none c.requires.passes
+    c.requires.few c.args.class c.requires.class c.requires.ends g.K.Store.keeps
+    c.end_borrowed.new.self
+    c.in-Ok.ensures.moved
+
+pub returns-in-Ok-clause-quiet : goal.returns-in-Ok-clause-quiet
+returns-in-Ok-clause-quiet g c = λ o ps.
+    text_still c.args.limit o ps c.args.rest.now c.args.run (λ any.
+    (c.requires.passes.2 any o ps).1)
+
+pub returns-in-Err-clause-took : goal.returns-in-Err-clause-took
+returns-in-Err-clause-took g c = λ o ps none.
+    borrowed_stops c.args.limit g.V.Taker.takes g.V.Taker.refuses o ps c.args.rest.now c.args.run
+    c.args.actor.now c.end_borrowed.new.actor none c.requires.passes
+    c.requires.few c.args.class c.requires.class c.requires.ends c.in-Err.ensures.moved

@@ -1,0 +1,42 @@
+use Rattle.std.proofs.Common.{◌≡◌, true, [], ◌∷◌, ◌++◌, if◌then◌else◌, sym, ◌∙◌, subst}
+use Rattle.esc_frame.specs.Bodies.{is_dcs_header}
+use Rattle.esc_frame.specs.Classes.{strip}
+use Rattle.esc_frame.specs.Events.{StopsAt, Takes}
+use Rattle.esc_frame.specs.Events.Event.{DcsUnhook}
+use Rattle.esc_frame.specs.Segments.{hook_event, puts}
+use Rattle.esc_frame.proofs.Given.{stops_more}
+use Rattle.memory.specs.Refusals.{Refused}
+use Rattle.esc_segments.proofs.Emitted.{takes_by, takes_then}
+use Rattle.esc_segments.proofs.strings.emit_dcs.Goals as goal
+
+pub returns-in-Ok-clause-emitted : goal.returns-in-Ok-clause-emitted
+returns-in-Ok-clause-emitted g c =
+    let x = strip c.args.x.now in
+    let formed : true ≡ is_dcs_header x =
+    sym c.if-not-is_formed.false ∙ c.is_formed.ensures x c.header_of-header.ensures in
+    subst (λ b. Takes (Refused g.row.A.Denot)
+    g.V.VTActor.takes g.V.VTActor.refuses c.put_and_end.result c.args.actor.now
+    (if b then (hook_event x c.args.last ∷ puts c.args.content.now)
+    ++ (if c.args.finished then DcsUnhook ∷ [] else []) else []) c.put_and_end.new.actor) formed
+    (takes_then (Refused g.row.A.Denot) g.V.VTActor.takes g.V.VTActor.refuses c.put_and_end.result
+    (hook_event x c.args.last ∷ [])
+    (puts c.args.content.now ++ (if c.args.finished then DcsUnhook ∷ [] else [])) c.args.actor.now
+    c.hook.new.actor c.put_and_end.new.actor c.in-Ok.ensures.emitted
+    (takes_by (Refused g.row.A.Denot) g.V.VTActor.takes g.V.VTActor.refuses c.put_and_end.result
+    (puts c.args.content.now ++ (if c.args.finished then DcsUnhook ∷ [] else []))
+    c.hook.new.actor c.put_and_end.new.actor
+    c.put_and_end.ensures.emitted))
+
+pub returns-in-Err-clause-emitted : goal.returns-in-Err-clause-emitted
+returns-in-Err-clause-emitted g c =
+    let x = strip c.args.x.now in
+    let formed : true ≡ is_dcs_header x =
+    sym c.if-not-is_formed.false ∙ c.is_formed.ensures x c.header_of-header.ensures in
+    subst (λ b. StopsAt (Refused g.row.A.Denot)
+    g.V.VTActor.takes g.V.VTActor.refuses c.args.actor.now
+    (if b then (hook_event x c.args.last ∷ puts c.args.content.now)
+    ++ (if c.args.finished then DcsUnhook ∷ [] else []) else []) c.hook.new.actor) formed
+    (stops_more (Refused g.row.A.Denot) g.V.VTActor.takes g.V.VTActor.refuses
+    (hook_event x c.args.last ∷ [])
+    (puts c.args.content.now ++ (if c.args.finished then DcsUnhook ∷ [] else [])) c.args.actor.now
+    c.hook.new.actor c.in-Err.ensures.emitted)
