@@ -15,11 +15,6 @@ not_after false v = refl
 pub alone_text : {A : Type 0} (v : Value A) → list_text (v ∷ []) ≡ whole_text v
 alone_text v = append-nil (text_after false v) ∙ not_after (is_terminator v) v
 
--- where it is no terminator after a string, it has it in a list too
-pub text_follows : {A : Type 0} (b : Bool) (v : Value A) → is_terminator v && b ≡ false
-    → text_after b v ≡ whole_text v
-text_follows b v h = ap (λ x. if x then [] else whole_text v) h
-
 pub adds_one : {A : Type 0} (follows : Bool) (vs : List (Value A)) (v : Value A) (old new : List ℕ)
     → follows ≡ ends_in_string false vs
     → new ≡ old ++ text_after follows v → AddsTo vs v old new

@@ -1,12 +1,13 @@
 //! Actions, written one at a time.
 ghost use Rattle.std.specs.Prelude.{◌≡◌, ◌∷◌, ◌++◌, ◌↔◌, [], List, true, false, IfOk, IsErrOf, OnErr, OnOk, string_bytes};
-ghost use Rattle.esc_actions.specs.Texts.{has_text, text_after, whole_text};
+ghost use Rattle.esc_actions.specs.Texts.{has_text, text_after};
 ghost use Rattle.esc_actions.specs.Values.{Value, value_of};
 ghost use Rattle.memory.specs.Refusals.{Refused};
 
 use esc_actions::Action;
 use esc_values::Text;
 use esc_write::EncodeError;
+use esc_write::encoding::write_after;
 use std::alloc::{AllocError, Allocator};
 
 /// Writes actions one at a time, as [`encode`](esc_write::encode) writes all of them. It keeps one
@@ -57,7 +58,6 @@ impl Encoder {
 }
 
 // Appends the text of an action. A string terminator directly after a string adds none.
-#[tactic(auto, using(crate::proofs::Encoding::text_follows))]
 fn append_after<A: Allocator>(
     alloc: A,
     follows_string: bool,
@@ -70,41 +70,29 @@ fn append_after<A: Allocator>(
     ensures no_text { IsErrOf result EncodeError.Fmt ↔ (has_text (value_of action.now) ≡ false) }
     ensures memory_refused { IsErrOf result EncodeError.Memory → Refused A }
 {
-    if action.is_terminator() && follows_string {
-        return Ok(());
+    if !action.has_text() {
+        return Err(EncodeError::Fmt);
     }
-    let own = own_text(alloc, action)?;
+    let Ok(own) = own_text(alloc, follows_string, action) else {
+        return Err(EncodeError::Memory);
+    };
     match memory::push_str(text, own.as_str()) {
         Ok(()) => Ok(()),
         Err(_) => Err(EncodeError::Memory),
     }
 }
 
-// The text of an action by itself.
-fn own_text<A: Allocator>(alloc: A, action: &Action<A>) -> Result<Text<A>, EncodeError>
-    ensures text { IfOk result (λ t. t ≡ whole_text (value_of action.now)) }
-    ensures no_text { IsErrOf result EncodeError.Fmt ↔ (has_text (value_of action.now) ≡ false) }
-    ensures memory_refused { IsErrOf result EncodeError.Memory → Refused A }
-{
-    if !action.has_text() {
-        return Err(EncodeError::Fmt);
-    }
-    match spelled(alloc, action) {
-        Ok(text) => Ok(text),
-        Err(_) => Err(EncodeError::Memory),
-    }
-}
-
-// The same, of an action that has one.
-fn spelled<A: Allocator>(alloc: A, action: &Action<A>) -> Result<Text<A>, AllocError>
+// The text of an action that has one, by itself: so a refusal leaves the text of those before it.
+fn own_text<A: Allocator>(
+    alloc: A,
+    follows_string: bool,
+    action: &Action<A>,
+) -> Result<Text<A>, AllocError>
     requires { has_text (value_of action.now) ≡ true }
-    ensures ok { IfOk result (λ t. t ≡ whole_text (value_of action.now)) }
+    ensures ok { IfOk result (λ t. t ≡ text_after follows_string (value_of action.now)) }
     ensures refused { OnErr result (Refused A) }
 {
     let mut text = Text::new(alloc);
-    text.push_display(action)?;
-    if action.is_left_open() {
-        text.push_str("\x1b\\")?;
-    }
+    write_after(&mut text, follows_string, action)?;
     Ok(text)
 }
