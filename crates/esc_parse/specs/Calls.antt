@@ -5,6 +5,7 @@ use Rattle.esc_frame.specs.declared.error.ParseError.{ParseError}
 use Rattle.esc_frame.specs.declared.error.ParseError.TheVariants.{Failed, Memory}
 use Rattle.esc_actions.specs.Meaning.{yield_within}
 use Rattle.esc_actions.specs.Values.{Value, value_of}
+use Rattle.esc_actions.specs.Writable.{IsHandedOut}
 use Rattle.esc_actions.specs.declared.action.Action.{Action}
 use Rattle.esc_parse.specs.Fed.{IsBroken, WasFedWithin}
 use Rattle.esc_parse.specs.Firsts.{IsFirst}
@@ -76,3 +77,20 @@ IsSomeOf n b = (0 < n) × (n ≤ length b)
 -- the length of a prefix of the bytes, which is empty only where there are none
 abbrev pub IsTaken : ℕ → List ℕ → Type 0
 IsTaken n b = (n ≤ length b) × (0 < length b → 0 < n)
+
+-- What a call for the first action promises, where it is given the bytes b.
+pub record FindsFirst {A : Type 0} (old : Parser A) (b : List ℕ)
+    (result : Result (Option (Action A × ℕ)) ParseError) (new : Parser A) : Type 0 where
+  -- it was found in a prefix of them, of this length
+  pub count : IfFound result (λ x. IsSomeOf x.1 b)
+  -- it is the first that they add, and this prefix, which was fed, is the shortest that adds one
+  pub some : After old (λ limit s. IfFound result
+      (λ x. YieldsFirst limit s b new (value_of x.0) x.1))
+  -- it can be written, but for the exceptions
+  pub handed_out : After old (λ limit s. IfFound result (λ x. IsHandedOut (value_of x.0)))
+  -- where none was found all were fed, and they add none
+  pub none : After old (λ limit s. IfNoneFound result (YieldsNone limit s b new))
+  -- an error says that memory was refused
+  pub refused : After old (λ limit s. IsRefused result new (MayTake (s ++ b)))
+  -- a parser that has failed says so
+  pub failed : StaysBroken old result new

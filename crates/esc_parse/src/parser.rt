@@ -6,14 +6,14 @@ ghost use Rattle.esc_frame.specs.Limits.{most};
 ghost use Rattle.esc_frame.specs.Segments.{IsCut, Segment};
 ghost use Rattle.esc_frame.specs.Stream.{IsQuietWithin};
 ghost use Rattle.esc_actions.specs.Limited.{data_kept};
-ghost use Rattle.esc_parse.specs.Calls.{After, AfterYield, IfFound, IfNoneFound, IsRefused, IsSomeOf, IsStopped, IsTaken, StaysBroken, StopsIn, Yields, YieldsFirst, YieldsNone};
+ghost use Rattle.esc_parse.specs.Calls.{After, AfterYield, FindsFirst, IfFound, IfNoneFound, IsRefused, IsSomeOf, IsStopped, IsTaken, StaysBroken, StopsIn, Yields, YieldsFirst};
 ghost use Rattle.esc_parse.specs.Firsts.{IsFirstStop, IsStop, first};
 ghost use Rattle.esc_frame.specs.Memory.{MayTake};
 ghost use Rattle.esc_parse.specs.Given.{At, GetsAll, GetsPrefix};
 ghost use Rattle.esc_parse.specs.Paired.{with_value};
 ghost use Rattle.esc_actions.specs.Meaning.{MayWant, yield_within};
 ghost use Rattle.esc_actions.specs.Values.{control, value_of};
-ghost use Rattle.esc_actions.specs.Writable.{AreHandedOut, IsHandedOut};
+ghost use Rattle.esc_actions.specs.Writable.{AreHandedOut};
 ghost use Rattle.memory.specs.Refusals.{Refused};
 
 use crate::performer::Performer;
@@ -256,16 +256,7 @@ impl<A: Allocator + Copy> Parser<A> {
     // The first action of the shortest prefix of `bytes` that adds one, and the length of the
     // prefix.
     fn first_of(&mut self, bytes: &[u8]) -> Result<Option<(Action<A>, usize)>, ParseError>
-        ensures count { IfFound result (λ x. IsSomeOf x.1 bytes.now) }
-        ensures some { After self.old (λ limit s. IfFound result
-            (λ x. YieldsFirst limit s bytes.now self.new (value_of x.0) x.1)) }
-        ensures handed_out { After self.old (λ limit s. IfFound result
-            (λ x. IsHandedOut (value_of x.0))) }
-        ensures none { After self.old (λ limit s. IfNoneFound result
-            (YieldsNone limit s bytes.now self.new)) }
-        ensures refused { After self.old (λ limit s. IsRefused result self.new
-            (MayTake (s ++ bytes.now))) }
-        ensures failed { StaysBroken self.old result self.new }
+        ensures { FindsFirst self.old bytes.now result self.new }
     {
         laws::yield_handed_out::<A>();
         let mut at = 0;
@@ -306,16 +297,7 @@ impl<A: Allocator + Copy> Parser<A> {
     #[tactic(auto, unfolding(crate::specs::Fed::WasFedWithin))]
     #[inline]
     pub fn parse_first(&mut self, bytes: &[u8]) -> Result<Option<(Action<A>, usize)>, ParseError>
-        ensures count { IfFound result (λ x. IsSomeOf x.1 bytes.now) }
-        ensures some { After self.old (λ limit s. IfFound result
-            (λ x. YieldsFirst limit s bytes.now self.new (value_of x.0) x.1)) }
-        ensures handed_out { After self.old (λ limit s. IfFound result
-            (λ x. IsHandedOut (value_of x.0))) }
-        ensures none { After self.old (λ limit s. IfNoneFound result
-            (YieldsNone limit s bytes.now self.new)) }
-        ensures refused { After self.old (λ limit s. IsRefused result self.new
-            (MayTake (s ++ bytes.now))) }
-        ensures failed { StaysBroken self.old result self.new }
+        ensures { FindsFirst self.old bytes.now result self.new }
     {
         laws::yield_handed_out::<A>();
         match self.framer.first_char(bytes) {

@@ -1,9 +1,10 @@
-use Rattle.std.proofs.Common.{◌≡◌, ◌+◌, ◌≤◌, ◌++◌, length, take, refl, sym, ap, ◌∙◌, subst, arith}
+use Rattle.std.proofs.Common.{◌≡◌, ◌+◌, ◌≤◌, ◌++◌, length, take, refl, sym, ap, ◌∙◌, subst, arith, rules}
 use Rattle.std.proofs.lemmas.List.{append-nil, take_all}
 use Rattle.std.specs.Option.{option_map}
 use Rattle.esc_parse.proofs.Paired.{ok_is_no_error, same_error}
 use Rattle.esc_parse.proofs.FirstsGiven.{fed_more, finds_first, finds_none, first_handed, rest_length, takes_rest, yield_nil}
 use Rattle.esc_parse.proofs.parser.Parser.first_of.Goals as goal
+use Rattle.esc_parse.specs.Calls.{After, YieldsFirst}
 use Rattle.esc_parse.specs.Fed.{WasFedWithin}
 use Rattle.esc_actions.specs.Meaning.{yield_within}
 use Rattle.esc_actions.specs.Values.{value_of}
@@ -15,44 +16,6 @@ prefixes-init g c = record {
   fed = λ limit s h.
       (subst (λ x. WasFedWithin limit x c.args.self.now) (sym (append-nil s)) h, yield_nil limit s);
 }
-
-pub returns-in-Ok-default-Some-clause-some : goal.returns-in-Ok-default-Some-clause-some
-returns-in-Ok-default-Some-clause-some g c = λ limit s h.
-    let bs = c.args.bytes.now in
-    let at = c.prefixes.at in
-    let n = c.in-Ok-default-Some.taken in
-    let p = c.prefixes.invariant.fed limit s h in
-    let w = c.in-Ok-default-Some.ensures.given limit (s ++ take at bs) p.0 in
-    let l = rest_length bs at in
-    let m : at + n ≤ length bs =
-    omega (arith, c.in-Ok-default-Some.ensures.count.0, c.prefixes.invariant.within) in (
-      subst (λ x. WasFedWithin limit x c.first_in.new.self) (fed_more s bs at n) w.0,
-      finds_first limit s bs at n (value_of c.in-Ok-default-Some.action) m p.1
-          (c.in-Ok-default-Some.ensures.quiet limit (s ++ take at bs) p.0)
-          (sym (ap (option_map value_of) c.in-Ok-default-Some.field-0-1-is) ∙ w.1),
-    )
-
-pub returns-in-Ok-default-Some-clause-handed_out : goal.returns-in-Ok-default-Some-clause-handed_out
-returns-in-Ok-default-Some-clause-handed_out g c =
-    λ limit s h. let is =
-    (returns-in-Ok-default-Some-clause-some g c limit s h).1 in first_handed g.row.A.Denot
-    c.yield_handed_out.ensures limit s c.args.bytes.now
-    (value_of c.in-Ok-default-Some.action) _ is
-
-pub returns-then-at-bytes-clause-none : goal.returns-then-at-bytes-clause-none
-returns-then-at-bytes-clause-none g c = λ limit s h.
-    let bs = c.args.bytes.now in
-    let at = c.prefixes.at in
-    let n = c.in-Ok-default-None.taken in
-    let p = c.prefixes.invariant.fed limit s h in
-    let w = c.in-Ok-default-None.ensures.given limit (s ++ take at bs) p.0 in
-    let e = finds_none {A = g.row.A.Denot} limit s bs at n p.1
-    (sym (ap (option_map value_of) c.in-Ok-default-None.field-0-1-is) ∙ w.1) in
-    let all : take (at + n) bs ≡ bs = take_all (at + n) bs (omega arith) in (
-      subst (λ x. WasFedWithin limit x c.first_in.new.self)
-          (fed_more s bs at n ∙ ap (λ x. s ++ x) all) w.0,
-      ap (yield_within limit s) (sym all) ∙ e,
-    )
 
 pub prefixes-preserved : goal.prefixes-preserved
 prefixes-preserved g c =
@@ -73,24 +36,73 @@ prefixes-preserved g c =
           );
     }
 
-pub returns-in-Ok-default-Some-clause-failed : goal.returns-in-Ok-default-Some-clause-failed
-returns-in-Ok-default-Some-clause-failed g c = λ b.
-    let failed = c.in-Ok-default-Some.ensures.failed (c.prefixes.invariant.broken b) in
-    absurd (ok_is_no_error _ _ _ refl failed.0)
-
-pub returns-then-at-bytes-clause-failed : goal.returns-then-at-bytes-clause-failed
-returns-then-at-bytes-clause-failed g c = λ b.
-    let failed = c.in-Ok-default-None.ensures.failed (c.prefixes.invariant.broken b) in
-    absurd (ok_is_no_error _ _ _ refl failed.0)
-
-pub returns-in-Err-clause-refused : goal.returns-in-Err-clause-refused
-returns-in-Err-clause-refused g c = λ limit s h.
+pub returns-in-Ok-default-Some : goal.returns-in-Ok-default-Some
+returns-in-Ok-default-Some g c =
     let bs = c.args.bytes.now in
-    let fed = c.prefixes.invariant.fed limit s h in
-    let f = c.in-Err.ensures.refused limit (s ++ take c.prefixes.at bs) fed.0 in
-    (f.0, f.1, takes_rest s bs c.prefixes.at f.2, f.3)
+    let at = c.prefixes.at in
+    let n = c.in-Ok-default-Some.taken in
+    let action = c.in-Ok-default-Some.action in
+    let l = rest_length bs at in
+    let m : at + n ≤ length bs =
+    omega (arith, c.in-Ok-default-Some.ensures.count.0, c.prefixes.invariant.within) in
+    let is : After c.args.self.now
+    (λ limit s. YieldsFirst limit s bs c.first_in.new.self (value_of action) (at + n)) =
+    λ limit s h.
+    let p = c.prefixes.invariant.fed limit s h in
+    let w = c.in-Ok-default-Some.ensures.given limit (s ++ take at bs) p.0 in (
+      subst (λ x. WasFedWithin limit x c.first_in.new.self) (fed_more s bs at n) w.0,
+      finds_first limit s bs at n (value_of action) m p.1
+          (c.in-Ok-default-Some.ensures.quiet limit (s ++ take at bs) p.0)
+          (sym (ap (option_map value_of) c.in-Ok-default-Some.field-0-1-is) ∙ w.1),
+    ) in record {
+      count = search rules;
+      some = is;
+      handed_out = λ limit s h.
+          first_handed g.row.A.Denot c.yield_handed_out.ensures limit s bs (value_of action) _
+          (is limit s h).1;
+      none = search rules;
+      refused = search rules;
+      failed = λ b.
+          let failed = c.in-Ok-default-Some.ensures.failed (c.prefixes.invariant.broken b) in
+          absurd (ok_is_no_error _ _ _ refl failed.0);
+    }
 
-pub returns-in-Err-clause-failed : goal.returns-in-Err-clause-failed
-returns-in-Err-clause-failed g c = λ b.
-    let failed = c.in-Err.ensures.failed (c.prefixes.invariant.broken b) in
-    (same_error _ _ _ refl failed.0, failed.1)
+pub returns-then-at-bytes : goal.returns-then-at-bytes
+returns-then-at-bytes g c =
+    let bs = c.args.bytes.now in
+    let at = c.prefixes.at in
+    let n = c.in-Ok-default-None.taken in
+    let all : take (at + n) bs ≡ bs = take_all (at + n) bs (omega arith) in record {
+      count = search rules;
+      some = search rules;
+      handed_out = search rules;
+      none = λ limit s h.
+          let p = c.prefixes.invariant.fed limit s h in
+          let w = c.in-Ok-default-None.ensures.given limit (s ++ take at bs) p.0 in
+          let e = finds_none {A = g.row.A.Denot} limit s bs at n p.1
+          (sym (ap (option_map value_of) c.in-Ok-default-None.field-0-1-is) ∙ w.1) in (
+            subst (λ x. WasFedWithin limit x c.first_in.new.self)
+                (fed_more s bs at n ∙ ap (λ x. s ++ x) all) w.0,
+            ap (yield_within limit s) (sym all) ∙ e,
+          );
+      refused = search rules;
+      failed = λ b.
+          let failed = c.in-Ok-default-None.ensures.failed (c.prefixes.invariant.broken b) in
+          absurd (ok_is_no_error _ _ _ refl failed.0);
+    }
+
+pub returns-in-Err : goal.returns-in-Err
+returns-in-Err g c = record {
+  count = search rules;
+  some = search rules;
+  handed_out = search rules;
+  none = search rules;
+  refused = λ limit s h.
+      let bs = c.args.bytes.now in
+      let fed = c.prefixes.invariant.fed limit s h in
+      let f = c.in-Err.ensures.refused limit (s ++ take c.prefixes.at bs) fed.0 in
+      (f.0, f.1, takes_rest s bs c.prefixes.at f.2, f.3);
+  failed = λ b.
+      let failed = c.in-Err.ensures.failed (c.prefixes.invariant.broken b) in
+      (same_error _ _ _ refl failed.0, failed.1);
+}
