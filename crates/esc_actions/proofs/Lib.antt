@@ -1,4 +1,5 @@
 pub mod Controls
+pub mod Openers
 pub mod Meanings
 pub mod Readings
 pub mod Alone

@@ -67,6 +67,11 @@ AreWritableFrom within (v ∷ vs) = (is_within v ≡ within) × IsWritable v
 abbrev pub AreWritable : {A : Type 0} → List (Value A) → Type 0
 AreWritable vs = AreWritableFrom false vs
 
+-- the letters that open a string or a control sequence after ESC: [ ] P X ^ _
+abbrev pub is_opener : ℕ → Bool
+is_opener b =
+    (b == 0x5b) || ((b == 0x5d) || ((b == 0x50) || ((b == 0x58) || ((b == 0x5e) || (b == 0x5f)))))
+
 -- an escape sequence without intermediate whose letter opens a string or a control sequence
 abbrev pub is_opening : Esc → Bool
 is_opening (esc_variant.Unspecified None f) = opens (class_of f)

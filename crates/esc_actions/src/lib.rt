@@ -9,6 +9,7 @@
 mod action;
 mod appending;
 mod control_code;
+pub mod exceptions;
 mod images;
 pub mod laws;
 mod one_based;

@@ -1,6 +1,5 @@
 pub mod Commands
 pub mod Encoding
-pub mod Openers
 pub mod Results
 pub mod Runs
 pub mod Sequences

@@ -1,5 +1,5 @@
 -- What passes a filter.
-use Rattle.std.specs.Prelude.{ℕ, ◌≡◌, Bool, true, false, not, ◌==◌, ◌&&◌, ◌||◌, List, Option}
+use Rattle.std.specs.Prelude.{ℕ, ◌≡◌, Bool, true, false, not, ◌&&◌, List, Option}
 use Rattle.std.specs.List.{filter}
 use Rattle.esc_actions.specs.Meaning.{meaning, meaning_within, Reads}
 use Rattle.esc_actions.specs.Texts.{list_text, normal}
@@ -12,11 +12,6 @@ is_mode_step (enter e) = true
 is_mode_step (datum b) = true
 is_mode_step exit = true
 is_mode_step _ = false
-
--- the letters that open a string or a control sequence after ESC: [ ] P X ^ _
-abbrev pub is_opener : ℕ → Bool
-is_opener b = (b == 0x5b)
-    || ((b == 0x5d) || ((b == 0x50) || ((b == 0x58) || ((b == 0x5e) || (b == 0x5f)))))
 
 -- what a parser hands out and can be written by itself: no exception, and no step of a mode
 abbrev pub is_whole : {A : Type 0} → Value A → Bool

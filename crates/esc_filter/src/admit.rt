@@ -3,17 +3,15 @@ ghost use Rattle.std.specs.Prelude.{◌≡◌, Bool, IfSome, IsTrue, Some, false
 ghost use Rattle.std.specs.List.{list_all, list_any};
 ghost use Rattle.std.specs.Str.{chars};
 ghost use Rattle.esc_values.specs.Clear.{parts_of};
-ghost use Rattle.esc_sequences.specs.Csis.{csi_of, csi_value};
+ghost use Rattle.esc_sequences.specs.Csis.{csi_of};
 ghost use Rattle.esc_actions.specs.Values.{Value, csi, device_value, osc, print, value_of};
-ghost use Rattle.esc_actions.specs.Writable.{is_opening, is_truncated};
-ghost use Rattle.esc_device.specs.Writable.{is_high_byte};
 ghost use Rattle.esc_osc.specs.Reading.{meaning as command_meant};
 ghost use Rattle.esc_parse.specs.Images.{is_image};
-ghost use Rattle.esc_filter.specs.Passing.{is_opener, is_whole, passes};
+ghost use Rattle.esc_filter.specs.Passing.{is_whole, passes};
 
 use esc_actions::Action;
+use esc_actions::exceptions::{has_high_byte, is_opening, is_truncated};
 use esc_device::DeviceControlMode;
-use esc_sequences::{CSI, Esc};
 use esc_values::CsiParam;
 use std::alloc::Allocator;
 
@@ -110,7 +108,7 @@ fn is_whole<A: Allocator>(action: &Action<A>) -> bool
         | Action::KittyImage(_)
         | Action::Sixel(_)
         | Action::XtGetTcap(_) => true,
-        Action::Esc(esc) => !opens(esc),
+        Action::Esc(esc) => !is_opening(esc),
         Action::CSI(csi) => !is_truncated(csi),
         Action::DeviceControl(mode) => is_plain_short(mode),
     }
@@ -125,48 +123,5 @@ fn is_plain_short<A: Allocator>(mode: &DeviceControlMode<A>) -> bool
             !has_high_byte(short.as_ref().content.as_slice())
         }
         DeviceControlMode::Enter(_) | DeviceControlMode::Data(_) | DeviceControlMode::Exit => false,
-    }
-}
-
-// Whether one of the bytes is A0 to FF.
-fn has_high_byte(bytes: &[u8]) -> bool
-    ensures { result ≡ list_any is_high_byte bytes.now }
-{
-    bytes.iter().any(|b| *b >= 0xa0)
-}
-
-// Whether the text of the escape sequence begins a string or a control sequence.
-#[tactic(auto, using(crate::proofs::Openers::opens_by_letter))]
-fn opens(esc: &Esc) -> bool
-    ensures { result ≡ is_opening esc.now }
-{
-    match esc {
-        Esc::Unspecified {
-            intermediate: None,
-            control,
-        } => is_opener(*control),
-        Esc::Unspecified { .. } | Esc::Code(_) => false,
-    }
-}
-
-// Whether this letter, after ESC, opens a string or a control sequence.
-fn is_opener(letter: u8) -> bool
-    ensures { result ≡ is_opener letter }
-{
-    letter == b'['
-        || letter == b']'
-        || letter == b'P'
-        || letter == b'X'
-        || letter == b'^'
-        || letter == b'_'
-}
-
-// Whether parameters of the control sequence were left out.
-fn is_truncated<A: Allocator>(csi: &CSI<A>) -> bool
-    ensures { result ≡ is_truncated (csi_value csi.now) }
-{
-    match csi {
-        CSI::Sgr(_) => false,
-        CSI::Unspecified(sequence) => sequence.as_ref().parameters_truncated,
     }
 }

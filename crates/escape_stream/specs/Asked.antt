@@ -1,5 +1,5 @@
 -- Which values are asked of a parser whether they read back.
-use Rattle.std.specs.Prelude.{ℕ, ◌==◌, ◌||◌, Bool, true, false}
+use Rattle.std.specs.Prelude.{Bool, true, false}
 use Rattle.esc_actions.specs.Values.{Value, print, string, control, esc, csi, osc, kitty, sixel, termcap, short, enter, datum, exit}
 
 -- a value that is the first that its own text means, where it is writable: a string of characters
@@ -34,8 +34,3 @@ wants_text (short s) = true
 wants_text (enter e) = true
 wants_text (datum b) = false
 wants_text exit = false
-
--- the letters that open a string or a control sequence after ESC: [ ] P X ^ _
-abbrev pub is_opener : ℕ → Bool
-is_opener b =
-    (b == 0x5b) || ((b == 0x5d) || ((b == 0x50) || ((b == 0x58) || ((b == 0x5e) || (b == 0x5f)))))

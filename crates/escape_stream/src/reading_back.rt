@@ -9,7 +9,7 @@ ghost use Rattle.escape_stream.specs.Asked.{has_own_text};
 ghost use Rattle.esc_parse.specs.Firsts.{first};
 ghost use Rattle.memory.specs.Refusals.{Refused};
 
-use crate::exceptions::is_exception;
+use esc_actions::exceptions::is_exception;
 use esc_actions::{Action, laws};
 use esc_equality::actions::same_action;
 use esc_parse::Parser;

@@ -3,7 +3,7 @@ use Rattle.std.proofs.Common.{◌≡◌, ◌<◌, ℕ, false, map, get_or, refl,
 use Rattle.std.specs.List.{range_with_len}
 use Rattle.std.proofs.lemmas.List.FromFn.{get_or-map-range_with_len}
 use Rattle.esc_frame.specs.Classes.{class_of, opens}
-use Rattle.esc_filter.specs.Passing.{is_opener}
+use Rattle.esc_actions.specs.Writable.{is_opener}
 
 -- at each of the 256 bytes, by computing
 same : map (λ b. opens (class_of b)) (range_with_len 0 256) ≡ map is_opener (range_with_len 0 256)

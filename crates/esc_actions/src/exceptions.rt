@@ -1,19 +1,18 @@
-//! Actions that a parser emits and that no text has.
+//! Actions that a parser emits and that no text reads back as.
 ghost use Rattle.std.specs.Prelude.{◌≡◌};
 ghost use Rattle.std.specs.List.{list_any};
 ghost use Rattle.esc_actions.specs.Values.{device_value, value_of};
-ghost use Rattle.esc_actions.specs.Writable.{is_exception, is_opening, is_truncated};
+ghost use Rattle.esc_actions.specs.Writable.{is_exception, is_opener, is_opening, is_truncated};
 ghost use Rattle.esc_sequences.specs.Csis.{csi_value};
 ghost use Rattle.esc_device.specs.Writable.{is_high_byte};
-ghost use Rattle.escape_stream.specs.Asked.{is_opener};
 
-use esc_actions::Action;
+use crate::action::Action;
 use esc_device::DeviceControlMode;
 use esc_sequences::{CSI, Esc};
 use std::alloc::Allocator;
 
-// Whether this is one of the actions that a parser may emit though no text reads back as them.
-pub(crate) fn is_exception<A: Allocator>(action: &Action<A>) -> bool
+/// Whether this is one of the actions that a parser may emit though no text reads back as them.
+pub fn is_exception<A: Allocator>(action: &Action<A>) -> bool
     ensures { result ≡ is_exception (value_of action.now) }
 {
     match action {
@@ -30,9 +29,9 @@ pub(crate) fn is_exception<A: Allocator>(action: &Action<A>) -> bool
     }
 }
 
-// Whether the text of the escape sequence begins a string or a control sequence.
+/// Whether the text of the escape sequence begins a string or a control sequence.
 #[tactic(auto, using(crate::proofs::Openers::opens_by_letter))]
-fn is_opening(esc: &Esc) -> bool
+pub fn is_opening(esc: &Esc) -> bool
     ensures { result ≡ is_opening esc.now }
 {
     match esc {
@@ -56,8 +55,8 @@ fn is_opener(letter: u8) -> bool
         || letter == b'_'
 }
 
-// Whether parameters of the control sequence were left out.
-fn is_truncated<A: Allocator>(csi: &CSI<A>) -> bool
+/// Whether parameters of the control sequence were left out.
+pub fn is_truncated<A: Allocator>(csi: &CSI<A>) -> bool
     ensures { result ≡ is_truncated (csi_value csi.now) }
 {
     match csi {
@@ -80,7 +79,8 @@ fn is_incomplete<A: Allocator>(mode: &DeviceControlMode<A>) -> bool
     }
 }
 
-fn has_high_byte(bytes: &[u8]) -> bool
+/// Whether one of the bytes is A0 to FF, which a device control string cannot hold as data.
+pub fn has_high_byte(bytes: &[u8]) -> bool
     ensures { result ≡ list_any is_high_byte bytes.now }
 {
     bytes.iter().any(|byte| 0xa0 <= *byte)
