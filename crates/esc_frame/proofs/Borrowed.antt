@@ -7,7 +7,8 @@ use Rattle.std.proofs.lemmas.List.{append-nil}
 use Rattle.std.proofs.lemmas.Bool.{and_parts}
 use Rattle.std.proofs.lemmas.Bool.Decides.{nat_tests}
 use Rattle.esc_frame.specs.declared.classes.Class.{Class}
-use Rattle.esc_frame.specs.declared.classes.Class.TheVariants.{Bell, Cancel, Escape, C1, C1Introducer, C1Terminator, Lead}
+use Rattle.esc_frame.specs.declared.classes.Class.TheVariants.{Bell, Lead, Breaks}
+use Rattle.esc_frame.specs.declared.classes.Breaker.TheVariants.{Cancel, Escape, C1Introducer, C1Terminator, C1}
 use Rattle.esc_values.specs.Clear.{parts_of}
 use Rattle.esc_frame.specs.Events.{Event, StopsAt}
 use Rattle.esc_frame.specs.Events.Event.{OscDispatch, ApcDispatch}
@@ -32,18 +33,14 @@ use Rattle.esc_frame.proofs.StringRuns.{run_text, apc_text, apc_kept}
 
 left_fresh : (b : ℕ) (c : Class) (rest : List ℕ) → borrows (osc_left b c).0 rest ≡ true
     → is_fresh (osc_left b c).0 ≡ true
-left_fresh b (C1Introducer k) rest h = opened_fresh k Raw rest h
+left_fresh b (Breaks (C1Introducer k)) rest h = opened_fresh k Raw rest h
 left_fresh b _ rest h = refl
 
 -- what ends a command that can be lent has few parts before it
 few_of : (ps : List Piece) (c : Class) → ends_osc c ≡ true → passes_osc ps c ≡ true
     → has_few_parts (text_of ps) ≡ true
 few_of ps Bell h k = k
-few_of ps Cancel h k = k
-few_of ps Escape h k = k
-few_of ps C1 h k = k
-few_of ps (C1Introducer i) h k = k
-few_of ps C1Terminator h k = k
+few_of ps (Breaks i) h k = k
 few_of ps _ h k = absurd cc
 
 -- no bytes are within each limit
@@ -80,11 +77,7 @@ pub ends_by : (limit : Option ℕ) (o : Opener) (ps : List Piece) (b : ℕ) (c :
     → ends_osc c ≡ true
     → emitting (osc_events limit (text_of ps)) (osc_left b c) ≡ inside limit (InOsc o ps) b c
 ends_by limit o ps b Bell h = ap (λ es. (Ground, es)) (append-nil (osc_events limit (text_of ps)))
-ends_by limit o ps b Cancel h = refl
-ends_by limit o ps b Escape h = refl
-ends_by limit o ps b C1 h = refl
-ends_by limit o ps b (C1Introducer k) h = refl
-ends_by limit o ps b C1Terminator h = refl
+ends_by limit o ps b (Breaks k) h = refl
 ends_by limit o ps b _ h = absurd cc
 
 -- any byte but a bell does what it does in ground

@@ -6,9 +6,8 @@ use Rattle.std.proofs.lemmas.Bool.{and_parts, or_cases, or_right}
 use Rattle.std.proofs.lemmas.Bool.Decides.{nat_tests}
 use Rattle.std.proofs.lemmas.List.{append-nil}
 use Rattle.esc_frame.specs.declared.classes.Class.{Class}
-use Rattle.esc_frame.specs.declared.classes.Class.TheVariants.{Lead, C0, Bell, Delete, High, Cancel, Escape, C1, C1Introducer, C1Terminator}
-use Rattle.esc_frame.specs.declared.classes.Class.TheVariants.{Intermediate}
-use Rattle.esc_frame.specs.declared.classes.Class.TheVariants.{Parameter, Introducer, Final}
+use Rattle.esc_frame.specs.declared.classes.Class.TheVariants.{Lead, C0, Bell, Delete, High, Intermediate, Parameter, Introducer, Final, Breaks}
+use Rattle.esc_frame.specs.declared.classes.Breaker.TheVariants.{Cancel, Escape, C1Introducer, C1Terminator, C1}
 use Rattle.esc_frame.specs.declared.classes.Kind.{Kind}
 use Rattle.esc_frame.specs.declared.classes.Kind.TheVariants as kind
 use Rattle.esc_frame.specs.Classes.{class_of, AllOf, is_text, is_noise, is_breaker, is_raw, in_escape, in_osc, letter_of}
@@ -198,11 +197,7 @@ text_passes ps _ h = absurd cc
 
 end_passes : (ps : List Piece) (c : Class) → is_breaker c ≡ true → has_few_parts (text_of ps) ≡ true
     → passes_osc ps c ≡ true
-end_passes ps Cancel h f = f
-end_passes ps Escape h f = f
-end_passes ps C1 h f = f
-end_passes ps (C1Introducer k) h f = f
-end_passes ps C1Terminator h f = f
+end_passes ps (Breaks k) h f = f
 end_passes ps _ h f = absurd cc
 
 apc_pass : (o : Opener) (e d : List ℕ) → AllOf is_text d → all_pass (InApc o e) d ≡ true

@@ -5,11 +5,12 @@ use Rattle.std.proofs.Math.Seq.{take-add}
 use Rattle.std.proofs.lemmas.Bool.{and_parts, or_left, or_right}
 use Rattle.std.proofs.lemmas.List.{drop_more}
 use Rattle.esc_frame.specs.declared.classes.Class.{Class}
-use Rattle.esc_frame.specs.declared.classes.Class.TheVariants.{Introducer, C1Introducer}
+use Rattle.esc_frame.specs.declared.classes.Class.TheVariants.{Introducer, Breaks}
+use Rattle.esc_frame.specs.declared.classes.Breaker.TheVariants.{C1Introducer}
 use Rattle.esc_frame.specs.declared.classes.Kind.{Kind}
 use Rattle.esc_frame.specs.declared.classes.Kind.TheVariants as kind
-use Rattle.esc_frame.specs.declared.sequence.Outcome.{Outcome}
-use Rattle.esc_frame.specs.declared.sequence.Outcome.TheVariants as outcomes
+use Rattle.esc_frame.specs.declared.utf8.sequence.Outcome.{Outcome}
+use Rattle.esc_frame.specs.declared.utf8.sequence.Outcome.TheVariants as outcomes
 use Rattle.esc_frame.specs.Classes.{class_of, is_breaker, in_escape, in_csi, strip}
 use Rattle.esc_frame.specs.Leads.{Unfinished}
 use Rattle.esc_frame.specs.Leads.Unfinished.{Ground, Pending, InEscape, InCsi, InOsc, InApc}
@@ -187,12 +188,12 @@ opened_fresh kind.Pm o (b ∷ bs) h = absurd cc
 
 pub begun_fresh : (b : ℕ) (c : Class) (rest : List ℕ) → borrows (ground_move b c).0 rest ≡ true
     → is_fresh (ground_move b c).0 ≡ true
-begun_fresh b (C1Introducer k) rest h = opened_fresh k Raw rest h
+begun_fresh b (Breaks (C1Introducer k)) rest h = opened_fresh k Raw rest h
 begun_fresh b _ rest h = refl
 
 pub pair_fresh : (b : ℕ) (c : Class) (rest : List ℕ) → borrows (pair_move b c).0 rest ≡ true
     → is_fresh (pair_move b c).0 ≡ true
-pair_fresh b (C1Introducer k) rest h = opened_fresh k Pair rest h
+pair_fresh b (Breaks (C1Introducer k)) rest h = opened_fresh k Pair rest h
 pair_fresh b _ rest h = refl
 
 whole_fresh : (f : List ℕ) (b : ℕ) (c : Class) (rest : List ℕ) (t : Bool)

@@ -48,8 +48,8 @@ clear_run limit (c ∷ cs) h =
       after_append Ground (encode_utf8 c) (encode_utf8_all cs)
           ∙ ap (λ u. after_all u (encode_utf8_all cs)) one.0 ∙ more.0,
       events_append limit Ground (encode_utf8 c) (encode_utf8_all cs)
-          ∙ ap (λ u. events_all limit Ground (encode_utf8 c)
-          ++ events_all limit u (encode_utf8_all cs))
+          ∙ ap (λ u.
+          events_all limit Ground (encode_utf8 c) ++ events_all limit u (encode_utf8_all cs))
           one.0
           ∙ ap (λ es. es ++ events_all limit Ground (encode_utf8_all cs)) (one.1 limit)
           ∙ ap (λ es. Print c ∷ es) more.1,

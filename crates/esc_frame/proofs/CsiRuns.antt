@@ -6,7 +6,8 @@ use Rattle.std.proofs.lemmas.List.Elements.{filter-append}
 use Rattle.std.proofs.lemmas.List.Folds.{list_all-append}
 use Rattle.std.proofs.lemmas.Bool.{and_parts}
 use Rattle.std.proofs.lemmas.Bool.Decides.{nat_tests}
-use Rattle.esc_frame.specs.declared.classes.Class.TheVariants.{Escape, Introducer}
+use Rattle.esc_frame.specs.declared.classes.Class.TheVariants.{Introducer, Breaks}
+use Rattle.esc_frame.specs.declared.classes.Breaker.TheVariants.{Escape}
 use Rattle.esc_frame.specs.declared.classes.Kind.TheVariants as kind
 use Rattle.esc_frame.specs.Classes.{class_of, is_breaker, is_noise, is_c0, in_csi, strip}
 use Rattle.esc_frame.specs.Scans.{is_body_byte}
@@ -44,7 +45,7 @@ body_strip x ys h = filter-append (λ b. not (is_noise (class_of b))) x ys
 
 -- ---- ESC [ and ESC ]
 
-pub escape_class : class_of 0x1b ≡ Escape
+pub escape_class : class_of 0x1b ≡ (Breaks Escape)
 unfolding class_of
 escape_class = refl
 

@@ -221,8 +221,8 @@ module _ {limit : Option ℕ} where
         whole = m.whole ∙ ap (λ x. joined gs ++ x) e ∙ sym (joined_push gs g []);
         finished = finished_push gs g [] (subst (λ x. AreFinished gs x) e m.finished) s f;
         shape = tt;
-        emitted = ap (λ x. x ++ new_events) m.emitted
-            ∙ ap (λ x. finished_events_within limit gs ++ x) (sym t)
+        emitted = ap (λ x. x ++ new_events) m.emitted ∙ ap (λ x.
+            finished_events_within limit gs ++ x) (sym t)
             ∙ sym (emitted_push limit gs g)
             ∙ sym (append-nil (finished_events_within limit (gs ++ g ∷ [])));
       }

@@ -9,9 +9,9 @@ use Rattle.std.proofs.lemmas.List.{append-nil}
 use Rattle.std.proofs.lemmas.Bool.{and_parts}
 use Rattle.std.proofs.lemmas.Bool.Decides.{nat_tests}
 use Rattle.esc_values.specs.Clear.{parts_of}
-use Rattle.esc_frame.specs.declared.body.Form.{Form}
-use Rattle.esc_frame.specs.declared.body.Form.TheVariants as form
-use Rattle.esc_frame.specs.declared.header.DcsHeader.{DcsHeader}
+use Rattle.esc_frame.specs.declared.unfinished.body.Form.{Form}
+use Rattle.esc_frame.specs.declared.unfinished.body.Form.TheVariants as form
+use Rattle.esc_frame.specs.declared.unfinished.header.DcsHeader.{DcsHeader}
 use Rattle.esc_frame.specs.Bodies.{is_private_prefix, is_intermediate_byte, is_csi_parameter, is_dcs_parameter, is_dcs_header, after_private_prefix, drop_while}
 use Rattle.esc_frame.specs.Bodies.{held, value_after, dcs_params, dcs_intermediates}
 use Rattle.esc_frame.specs.Events.Event.{DcsHook}

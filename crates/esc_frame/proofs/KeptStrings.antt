@@ -8,7 +8,7 @@ use Rattle.std.proofs.lemmas.List.{drop_more}
 use Rattle.std.proofs.lemmas.List.Sums.{prefix_len_stops}
 use Rattle.esc_frame.specs.declared.classes.Class.{Class}
 use Rattle.esc_frame.specs.declared.classes.Class.TheVariants.{Lead}
-use Rattle.esc_frame.specs.declared.sequence.Outcome.TheVariants as outcomes
+use Rattle.esc_frame.specs.declared.utf8.sequence.Outcome.TheVariants as outcomes
 use Rattle.esc_frame.specs.Classes.{class_of, is_text, is_breaker, those}
 use Rattle.esc_frame.specs.Leads.{Unfinished}
 use Rattle.esc_frame.specs.Leads.Unfinished.{InApc, InOsc, InOscPending}

@@ -78,8 +78,8 @@ module _ {S : Type 0} (limit : Option ℕ) (takes refuses : S → Event → S
         after_more u rest i n ∙ ap (λ x. after_all x (take n (drop i rest))) here
             ∙ ap (after_all v) (sym e) ∙ a,
         given_more limit takes refuses u rest i old mid new so n
-            (subst (λ x. FoldsTo takes mid (events_all limit x (take n (drop i rest))) new)
-            (sym here)
+            (subst (λ x.
+            FoldsTo takes mid (events_all limit x (take n (drop i rest))) new) (sym here)
             (subst (λ y. FoldsTo takes mid (events_all limit v y) new) e g)),
       )
 
@@ -483,8 +483,8 @@ module _ {S : Type 0} (takes refuses : S → Event → S
   where
     pub event_given : takes old e new → (limit : Option ℕ)
         → FoldsTo takes old (events_all limit Ground (take n rest)) new
-    event_given g =
-        λ limit. subst (λ es. FoldsTo takes old es new) (sym (one.1 limit)) (new, g, refl)
+    event_given g = λ limit.
+        subst (λ es. FoldsTo takes old es new) (sym (one.1 limit)) (new, g, refl)
 
     pub event_stops : (own : Type 0) → refuses old e new → (limit : Option ℕ)
         → StopsAt own takes refuses old (events_all limit Ground rest) new

@@ -2,7 +2,8 @@
 -- ground.
 use Rattle.std.proofs.Common.{ℕ, ◌≡◌, Bool, true, ◌||◌, List, [], ◌∷◌, Option, Result, if◌then◌else◌, refl, ap, sym, subst}
 use Rattle.esc_frame.specs.declared.classes.Class.{Class}
-use Rattle.esc_frame.specs.declared.classes.Class.TheVariants.{C0, Bell, Cancel, C1}
+use Rattle.esc_frame.specs.declared.classes.Class.TheVariants.{C0, Bell, Breaks}
+use Rattle.esc_frame.specs.declared.classes.Breaker.TheVariants.{Cancel, C1}
 use Rattle.esc_frame.specs.declared.machine.Machine.{Machine}
 use Rattle.esc_frame.specs.Classes.{is_breaker, is_text, is_control, is_c1}
 use Rattle.esc_frame.specs.Events.{Event, Receives}
@@ -46,8 +47,8 @@ control_move : (b : ℕ) (class : Class) → (is_control class || is_c1 class) �
     → ground_move b class ≡ (Ground, Execute b ∷ [])
 control_move b C0 h = refl
 control_move b Bell h = refl
-control_move b Cancel h = refl
-control_move b C1 h = refl
+control_move b (Breaks Cancel) h = refl
+control_move b (Breaks C1) h = refl
 control_move b _ h = absurd cc
 
 module _ {K A S E : Type 0} (keeps : Option ℕ → K → List ℕ → Type 0) (denied : Option ℕ → Type 0)

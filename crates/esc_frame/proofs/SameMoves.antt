@@ -2,8 +2,8 @@
 use Rattle.std.proofs.Common.{ℕ, ◌≡◌, Bool, true, false, List, [], ◌∷◌, ◌++◌, Option, None, refl}
 use Rattle.esc_frame.specs.declared.classes.Class.{Class}
 use Rattle.esc_frame.specs.declared.classes.Class.TheVariants.{Lead}
-use Rattle.esc_frame.specs.declared.sequence.Outcome.{Outcome}
-use Rattle.esc_frame.specs.declared.sequence.Outcome.TheVariants as outcomes
+use Rattle.esc_frame.specs.declared.utf8.sequence.Outcome.{Outcome}
+use Rattle.esc_frame.specs.declared.utf8.sequence.Outcome.TheVariants as outcomes
 use Rattle.esc_frame.specs.Classes.{is_breaker, in_csi, in_osc}
 use Rattle.esc_frame.specs.Sequences.{is_pair, outcome}
 use Rattle.esc_frame.specs.Segments.{Opener, Piece}

@@ -7,8 +7,8 @@ use Rattle.std.proofs.lemmas.List.Folds.{list_all-append}
 use Rattle.std.proofs.lemmas.Bool.Decides.{nat_tests}
 use Rattle.esc_values.specs.declared.csi_param.CsiParam.{CsiParam}
 use Rattle.esc_values.specs.declared.csi_param.CsiParam.TheVariants.{Integer, P}
-use Rattle.esc_frame.specs.declared.body.Form.{Form}
-use Rattle.esc_frame.specs.declared.body.Form.TheVariants as form
+use Rattle.esc_frame.specs.declared.unfinished.body.Form.{Form}
+use Rattle.esc_frame.specs.declared.unfinished.body.Form.TheVariants as form
 use Rattle.esc_values.specs.Params.{is_from}
 use Rattle.esc_frame.specs.Bodies.{is_digit, is_private_prefix, is_csi_parameter, csi_params, held, value_after, kept_csi_params, has_more_csi_params}
 use Rattle.esc_frame.specs.Machine.Keeps.{number_of_run, number_at, closed_of, shown, form_from, next_form, is_formed}

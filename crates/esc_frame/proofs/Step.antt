@@ -2,12 +2,12 @@
 use Rattle.std.proofs.Common.{ℕ, ◌≡◌, Bool, true, false, not, if◌then◌else◌, ◌&&◌, List, [], ◌∷◌, ◌++◌, refl, ap, sym, ◌∙◌, subst, append_assoc, Option}
 use Rattle.std.proofs.lemmas.List.{append-nil}
 use Rattle.esc_frame.specs.declared.classes.Class.{Class}
-use Rattle.esc_frame.specs.declared.classes.Class.TheVariants.{C0, Bell, Cancel, Escape, Intermediate, Parameter, Introducer, Final, Delete, C1, C1Introducer}
-use Rattle.esc_frame.specs.declared.classes.Class.TheVariants.{C1Terminator, High, Lead}
+use Rattle.esc_frame.specs.declared.classes.Class.TheVariants.{C0, Bell, Intermediate, Parameter, Introducer, Final, Delete, High, Lead, Breaks}
+use Rattle.esc_frame.specs.declared.classes.Breaker.TheVariants.{Cancel, Escape, C1Introducer, C1Terminator, C1}
 use Rattle.esc_frame.specs.declared.classes.Kind.{Kind}
 use Rattle.esc_frame.specs.declared.classes.Kind.TheVariants as kind
-use Rattle.esc_frame.specs.declared.sequence.Outcome.{Outcome}
-use Rattle.esc_frame.specs.declared.sequence.Outcome.TheVariants as outcomes
+use Rattle.esc_frame.specs.declared.utf8.sequence.Outcome.{Outcome}
+use Rattle.esc_frame.specs.declared.utf8.sequence.Outcome.TheVariants as outcomes
 use Rattle.esc_frame.specs.Classes.{class_of, strip, is_raw, is_breaker, in_escape, ends_escape, in_csi, ends_csi, in_osc, in_data, is_put}
 use Rattle.esc_frame.specs.Classes.{opens}
 use Rattle.esc_frame.specs.Limits.{is_read}
@@ -100,9 +100,9 @@ module _ (limit : Option ℕ) where
       (_, alone w es gs (Control b) (b ∷ []) (Execute b ∷ []) m refl (rw e refl) refl refl)
   ground_step w es gs b Bell e m =
       (_, alone w es gs (Control b) (b ∷ []) (Execute b ∷ []) m refl (rw e refl) refl refl)
-  ground_step w es gs b Cancel e m =
+  ground_step w es gs b (Breaks Cancel) e m =
       (_, alone w es gs (Control b) (b ∷ []) (Execute b ∷ []) m refl (rw e refl) refl refl)
-  ground_step w es gs b Escape e m = (
+  ground_step w es gs b (Breaks Escape) e m = (
     gs,
     begins w es gs (InEscape []) (b ∷ []) m (ap (λ x. x ∷ []) (sym (is_escape b e))) refl
         refl,
@@ -117,18 +117,18 @@ module _ (limit : Option ℕ) where
       (_, alone w es gs (Character b) (b ∷ []) (Print b ∷ []) m refl (rw e refl) refl refl)
   ground_step w es gs b Delete e m =
       (_, alone w es gs (Character b) (b ∷ []) (Print b ∷ []) m refl (rw e refl) refl refl)
-  ground_step w es gs b C1 e m = (
+  ground_step w es gs b (Breaks C1) e m = (
     _,
     alone w es gs (HighControl false b) (b ∷ []) (Execute b ∷ []) m refl (rw e refl) refl
         refl,
   )
-  ground_step w es gs b (C1Introducer k) e m = (
+  ground_step w es gs b (Breaks (C1Introducer k)) e m = (
     gs,
     begins w es gs (opened k Raw) (b ∷ []) m (opened_bytes k Raw
         ∙ ap (λ x. x ∷ []) (sym (is_raw_letter b k e))) (opened_shape k Raw tt)
         (opened_emitted k Raw),
   )
-  ground_step w es gs b C1Terminator e m =
+  ground_step w es gs b (Breaks C1Terminator) e m =
       (_, alone w es gs (Terminator false b) (b ∷ []) [] m refl (rw e refl) refl refl)
   ground_step w es gs b High e m =
       (_, alone w es gs (Stray b) (b ∷ []) (Print 0xfffd ∷ []) m refl (rw e refl) refl refl)
@@ -139,18 +139,18 @@ module _ (limit : Option ℕ) where
   pair_step : (w : List ℕ) (es : List Event) (gs : List Segment) (b : ℕ) (c : Class)
       → class_of b ≡ c → is_raw c ≡ true → Meets limit w es gs (0xc2 ∷ b ∷ [])
       → Goes w es (pair_move b c)
-  pair_step w es gs b C1 e h m = (
+  pair_step w es gs b (Breaks C1) e h m = (
     _,
     alone w es gs (HighControl true b) (0xc2 ∷ b ∷ []) (Execute b ∷ []) m refl (rw e refl)
         refl refl,
   )
-  pair_step w es gs b (C1Introducer k) e h m = (
+  pair_step w es gs b (Breaks (C1Introducer k)) e h m = (
     gs,
     begins w es gs (opened k Pair) (0xc2 ∷ b ∷ []) m (opened_bytes k Pair
         ∙ ap (λ x. 0xc2 ∷ x ∷ []) (sym (is_raw_letter b k e))) (opened_shape k Pair tt)
         (opened_emitted k Pair),
   )
-  pair_step w es gs b C1Terminator e h m =
+  pair_step w es gs b (Breaks C1Terminator) e h m =
       (_, alone w es gs (Terminator true b) (0xc2 ∷ b ∷ []) [] m refl (rw e refl) refl refl)
   pair_step w es gs b _ e h m = absurd cc
 

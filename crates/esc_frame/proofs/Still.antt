@@ -10,8 +10,8 @@ use Rattle.esc_frame.specs.declared.classes.Class.{Class}
 use Rattle.esc_frame.specs.declared.classes.Class.TheVariants.{Lead}
 use Rattle.esc_frame.specs.declared.machine.Machine.{Machine}
 use Rattle.esc_frame.specs.declared.machine.State.TheVariants as state
-use Rattle.esc_frame.specs.declared.sequence.Outcome.{Outcome}
-use Rattle.esc_frame.specs.declared.sequence.Outcome.TheVariants as outcomes
+use Rattle.esc_frame.specs.declared.utf8.sequence.Outcome.{Outcome}
+use Rattle.esc_frame.specs.declared.utf8.sequence.Outcome.TheVariants as outcomes
 use Rattle.esc_frame.specs.Classes.{class_of, is_breaker, in_csi, in_osc}
 use Rattle.esc_frame.specs.Machine.Calls.{TookSome, StaysFresh}
 use Rattle.esc_frame.specs.Machine.Characters.{IsCharacter}

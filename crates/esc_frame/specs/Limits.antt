@@ -2,7 +2,7 @@
 use Rattle.std.specs.Prelude.{ℕ, ◌≡◌, ◌-◌, ◌^◌, Bool, true, false, not, nat_le, min, if◌then◌else◌, ◌&&◌, List, length, Option, Some, None}
 use Rattle.std.specs.List.{filter}
 use Rattle.esc_values.specs.Clear.{parts_of}
-use Rattle.esc_frame.specs.declared.count.Count.{Count}
+use Rattle.esc_frame.specs.declared.unfinished.count.Count.{Count}
 use Rattle.esc_frame.specs.Bodies.{is_dcs_parameter, is_dcs_header}
 
 -- a count is within the limit, where there is one

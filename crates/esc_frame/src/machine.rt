@@ -2,6 +2,12 @@
 //! bytes. Its methods stand in a file for each kind of segment.
 #![tactic(auto)]
 
+mod dcs;
+mod escapes;
+mod ground;
+mod osc;
+mod strings;
+
 ghost use Rattle.std.specs.Prelude.{◌≡◌, ◌<◌, ℕ, Option, None, true, length, take, min, OnOk, IsTrue, ◌↔◌};
 ghost use Rattle.esc_frame.specs.Classes.{class_of};
 ghost use Rattle.esc_frame.specs.Events.{Takes};
@@ -15,14 +21,14 @@ ghost use Rattle.esc_frame.specs.Machine.Makes.{Emits, Makes, Consumes, Advances
 ghost use Rattle.esc_frame.specs.Machine.Moves.{move, opened, may_grow_in, may_grow_within, after_all, events_all};
 ghost use Rattle.esc_frame.specs.Segments.{Opener};
 
-use crate::body::CsiBody;
 use crate::classes::{Class, Kind, classify};
-use crate::header::DcsHeader;
-use crate::intermediates::Intermediates;
-use crate::sequence::Pending;
-use crate::short::Short;
-use crate::store::Store;
 use crate::taker::Taker;
+use crate::unfinished::body::CsiBody;
+use crate::unfinished::header::DcsHeader;
+use crate::unfinished::intermediates::Intermediates;
+use crate::unfinished::short::Short;
+use crate::unfinished::store::Store;
+use crate::utf8::sequence::Pending;
 use std::alloc::{AllocError, Allocator};
 
 /// The error is that the actor refused a call, or that a request for memory was refused.

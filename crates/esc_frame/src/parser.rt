@@ -11,9 +11,9 @@ ghost use Rattle.esc_frame.specs.Stream.{LeadsTo, LeadsToWithin, HasFailed, IsAt
 use crate::actor::VTActor;
 use crate::classes::classify;
 use crate::error::ParseError;
-use crate::kept::Kept;
 use crate::machine::Machine;
-use crate::printing::{first_char, first_control};
+use crate::runs::printing::{first_char, first_control};
+use crate::unfinished::kept::Kept;
 use std::alloc::{Allocator, Global};
 
 /// Splits a stream of bytes, which comes in any pieces, into the events of its segments, and gives

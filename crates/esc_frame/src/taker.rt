@@ -13,7 +13,7 @@ ghost use Rattle.memory.specs.Refusals.{Refused};
 ghost use Rattle.esc_frame.specs.Events.Event.{Print, Execute, EscDispatch, CsiDispatch, OscDispatch, DcsHook, DcsPut, DcsUnhook, ApcDispatch};
 
 use crate::actor::VTActor;
-use crate::texts::first_of;
+use crate::utf8::texts::first_of;
 use esc_values::csi_param::CsiParam;
 use std::alloc::{AllocError, Allocator};
 

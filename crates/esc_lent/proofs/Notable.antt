@@ -6,9 +6,10 @@ use Rattle.std.proofs.lemmas.List.{append-nil}
 use Rattle.esc_values.specs.Clear.{parts_of}
 use Rattle.esc_values.proofs.Split.{joined_parts}
 use Rattle.esc_frame.specs.declared.classes.Class.{Class}
-use Rattle.esc_frame.specs.declared.classes.Class.TheVariants.{Escape, Introducer, C1, C1Introducer, C1Terminator, Lead}
-use Rattle.esc_frame.specs.declared.sequence.Outcome.{Outcome}
-use Rattle.esc_frame.specs.declared.sequence.Outcome.TheVariants as outcomes
+use Rattle.esc_frame.specs.declared.classes.Class.TheVariants.{Introducer, Lead, Breaks}
+use Rattle.esc_frame.specs.declared.classes.Breaker.TheVariants.{Escape, C1Introducer, C1Terminator, C1}
+use Rattle.esc_frame.specs.declared.utf8.sequence.Outcome.{Outcome}
+use Rattle.esc_frame.specs.declared.utf8.sequence.Outcome.TheVariants as outcomes
 use Rattle.esc_frame.specs.Bodies.{is_csi_body, csi_params, kept_csi_params, dcs_intermediates}
 use Rattle.esc_frame.specs.Classes.{class_of, strip, those, is_text, is_breaker, is_c0, in_escape, in_csi, in_osc, is_put}
 use Rattle.esc_frame.specs.Events.{Event, StopsAt}
@@ -79,14 +80,14 @@ module _ (room place : ℕ) (less : room ≤ place) where
   -- ---- a byte in ground
 
   ground_waits : (b : ℕ) (c : Class) → Waits (ground_move b c).1
-  ground_waits b Escape = tt
-  ground_waits b (C1Introducer k) = tt
-  ground_waits b C1Terminator = tt
+  ground_waits b (Breaks Escape) = tt
+  ground_waits b (Breaks (C1Introducer k)) = tt
+  ground_waits b (Breaks C1Terminator) = tt
   ground_waits b Lead = tt
   ground_waits b _ = refl
 
   pair_waits : (b : ℕ) (c : Class) → Waits (pair_move b c).1
-  pair_waits b C1 = refl
+  pair_waits b (Breaks C1) = refl
   pair_waits b _ = tt
 
   -- ---- a byte in a sequence or a string

@@ -1,7 +1,7 @@
 -- The parts of a machine, and the numbers that a parser keeps of them.
 use Rattle.std.proofs.Common.{ℕ, ◌≡◌, ◌≤◌, List, map, take, length, min, ap, sym, ◌∙◌, Some, None, Option, nat_lt, arith, length-take}
-use Rattle.esc_frame.specs.declared.intermediates.Intermediates.{Intermediates}
-use Rattle.esc_frame.specs.declared.body.CsiBody.{CsiBody}
+use Rattle.esc_frame.specs.declared.unfinished.intermediates.Intermediates.{Intermediates}
+use Rattle.esc_frame.specs.declared.unfinished.body.CsiBody.{CsiBody}
 use Rattle.esc_frame.specs.Machine.Keeps.{Keeps, KeepsBody, IsNumber, closed_of, number_of_run}
 use Rattle.esc_lent.specs.declared.parser.EscParser.{EscParser}
 use Rattle.esc_lent.specs.States.{FirstIn, BodyIn, NumberIn}

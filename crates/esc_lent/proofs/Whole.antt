@@ -6,7 +6,8 @@ use Rattle.std.proofs.lemmas.List.{append-nil}
 use Rattle.std.proofs.lemmas.Bool.Decides.{nat_tests}
 use Rattle.esc_values.specs.Clear.{parts_of}
 use Rattle.esc_frame.specs.declared.classes.Class.{Class}
-use Rattle.esc_frame.specs.declared.classes.Class.TheVariants.{Bell, Escape}
+use Rattle.esc_frame.specs.declared.classes.Class.TheVariants.{Bell, Breaks}
+use Rattle.esc_frame.specs.declared.classes.Breaker.TheVariants.{Escape}
 use Rattle.esc_frame.specs.Classes.{class_of}
 use Rattle.esc_frame.specs.Events.Event.{OscDispatch}
 use Rattle.esc_frame.specs.Leads.{Unfinished}
@@ -59,7 +60,7 @@ bell_class : (b : ℕ) → b ≡ 0x07 → Bell ≡ class_of b
 unfolding class_of
 bell_class b e = rw e refl
 
-escape_at : (b : ℕ) → b ≡ 0x1b → Escape ≡ class_of b
+escape_at : (b : ℕ) → b ≡ 0x1b → (Breaks Escape) ≡ class_of b
 escape_at b e = sym (ap class_of e ∙ escape_class)
 
 pub within : (limit n : ℕ) → n ≤ limit → is_within (Some limit) n ≡ true
@@ -123,8 +124,9 @@ module _ (limit : Option ℕ) (rest : List ℕ) (run : ℕ) (some : 2 < length r
         → (after_all Ground (take (run + 3) rest) ≡ InEscape [])
         × (events_all limit Ground (take (run + 3) rest) ≡ OscDispatch (parts_of text) ∷ [])
     escape_ends h = let k = escape_at _ h in (
-      osc_after Escape k,
-      osc_adds Escape k ∙ append-nil (osc_events limit (segments.text_of units.0)) ∙ emitted,
+      osc_after (Breaks Escape) k,
+      osc_adds (Breaks Escape) k ∙ append-nil (osc_events limit (segments.text_of units.0))
+          ∙ emitted,
     )
 
 pub osc_said : (e : EscEvent) (out t : List ℕ) → e.kind ≡ 6 → text_of e out ≡ t

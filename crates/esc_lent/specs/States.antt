@@ -1,6 +1,6 @@
 -- What a parser keeps of the stream that it was fed.
 use Rattle.std.specs.Prelude.{ℕ, ◌≡◌, ◌≤◌, ◌/◌, true, false, nat_lt, if◌then◌else◌, List, [], ◌++◌, length, take, drop, map, Option, Some, None}
-use Rattle.esc_frame.specs.declared.body.Form.TheVariants as form
+use Rattle.esc_frame.specs.declared.unfinished.body.Form.TheVariants as form
 use Rattle.esc_frame.specs.declared.machine.State.TheVariants as state
 use Rattle.esc_frame.specs.Bodies.{held, is_dcs_parameter}
 use Rattle.esc_frame.specs.Classes.{strip, those, is_text}

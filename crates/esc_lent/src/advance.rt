@@ -16,7 +16,7 @@ use crate::quick::note_quick;
 use crate::runs::text_run;
 use crate::step::step;
 use crate::strings::note_string;
-use esc_frame::scans::data_run;
+use esc_frame::runs::scans::data_run;
 
 // The run of characters, or of data, that comes first, where the parser is where one may come. It
 // changes no state.

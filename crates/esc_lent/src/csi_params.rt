@@ -9,9 +9,9 @@ ghost use Rattle.esc_lent.specs.Emitted.{param_of};
 use crate::event::EscEntry;
 use crate::numbers::{form_of, number_of_form};
 use crate::parser::EscParser;
-use esc_frame::body::CsiBody;
-use esc_frame::csi_params::Params;
-use esc_frame::param_list::ParamList;
+use esc_frame::unfinished::body::CsiBody;
+use esc_frame::unfinished::csi_params::Params;
+use esc_frame::unfinished::param_list::ParamList;
 use esc_values::csi_param::CsiParam;
 
 // A parameter, as numbers.

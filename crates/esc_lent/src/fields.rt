@@ -8,8 +8,8 @@ ghost use Rattle.esc_frame.specs.Machine.Shorts.{IsAfter, IsPrefix, IsShort};
 ghost use Rattle.esc_lent.specs.Emitted.{param_of};
 
 use crate::event::EscEntry;
-use esc_frame::csi_params::next_number;
-use esc_frame::sequence::lies_from;
+use esc_frame::unfinished::csi_params::next_number;
+use esc_frame::utf8::sequence::lies_from;
 use esc_values::csi_param::CsiParam;
 
 // How far a field goes, how many parameters there are then, whether a separator ended it, and else

@@ -12,12 +12,12 @@ use crate::no_memory::NoMemory;
 use crate::numbers::{form_of, pending_in, state_of};
 use crate::parser::EscParser;
 use crate::text::BorrowedText;
-use esc_frame::body::CsiBody;
-use esc_frame::header::DcsHeader;
-use esc_frame::intermediates::Intermediates;
 use esc_frame::machine::Machine;
-use esc_frame::short::Short;
-use esc_frame::store::Store;
+use esc_frame::unfinished::body::CsiBody;
+use esc_frame::unfinished::header::DcsHeader;
+use esc_frame::unfinished::intermediates::Intermediates;
+use esc_frame::unfinished::short::Short;
+use esc_frame::unfinished::store::Store;
 use std::marker::PhantomData;
 
 #[tactic(auto, using(crate::proofs::Parts::first_loaded))]

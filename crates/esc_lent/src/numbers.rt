@@ -7,9 +7,9 @@ ghost use Rattle.esc_lent.specs.Numbers.{state_numbered, form_numbered, begun};
 ghost use Rattle.esc_lent.specs.States.{begun_in};
 
 use crate::parser::EscParser;
-use esc_frame::body::Form;
 use esc_frame::machine::State;
-use esc_frame::sequence::Pending;
+use esc_frame::unfinished::body::Form;
+use esc_frame::utf8::sequence::Pending;
 
 /// The number of a parser between segments.
 pub const GROUND: u32 = 0;

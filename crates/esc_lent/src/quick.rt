@@ -12,7 +12,7 @@ use crate::fields::read_body;
 use crate::numbers::GROUND;
 use crate::parser::EscParser;
 use crate::runs::ascii_text;
-use esc_frame::sequence::lies_from;
+use esc_frame::utf8::sequence::lies_from;
 
 /// Notes the control, or the short control sequence, whole in the bytes, that comes first in
 /// ground; nothing where something else comes.

@@ -169,8 +169,8 @@ impl<'b, 'c, N: Named> Recorder<'b, 'c, N> {
 }
 
 impl<'b, 'c, N: Named> Taker for Recorder<'b, 'c, N> {
-    ghost takes = { λ p e q. Adds N.place p.event.now p.out.now p.queued_kind p.queued_value
-        p.is_lost e
+    ghost takes = { λ p e q.
+        Adds N.place p.event.now p.out.now p.queued_kind p.queued_value p.is_lost e
         q.event.now q.out.now q.queued_kind q.queued_value q.is_lost };
 
     ghost refuses = { λ _ _ _. ⊥ };

@@ -4,7 +4,7 @@
 ghost use Rattle.std.specs.Prelude.{◌≡◌, ◌≤◌, ◌<◌, length, take};
 ghost use Rattle.esc_lent.specs.Runs.{IsTextRun};
 
-use esc_frame::scans::{ascii_run, free_run};
+use esc_frame::runs::scans::{ascii_run, free_run};
 
 /// How many of the bytes, from the first, are a run of characters that is seen at once. It need not
 /// be the longest.

@@ -11,7 +11,7 @@ use crate::event::{ESCAPE, EscEvent, FAILED, NONE, OSC, TEXT};
 use crate::numbers::{ESCAPED, GROUND};
 use crate::parser::EscParser;
 use esc_frame::classes::{Class, classify};
-use esc_frame::scans::units_run;
+use esc_frame::runs::scans::units_run;
 
 // Copies a text to the place that it is handed out in.
 #[inline(always)]
@@ -112,14 +112,10 @@ fn closes_escape(class: Class) -> bool
         Class::Parameter | Class::Final => true,
         Class::C0
         | Class::Bell
-        | Class::Cancel
-        | Class::Escape
+        | Class::Breaks(_)
         | Class::Intermediate
         | Class::Introducer(_)
         | Class::Delete
-        | Class::C1
-        | Class::C1Introducer(_)
-        | Class::C1Terminator
         | Class::High
         | Class::Lead => false,
     }

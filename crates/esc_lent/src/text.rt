@@ -6,8 +6,8 @@ ghost use Rattle.esc_frame.specs.Limits.{is_within};
 ghost use Rattle.esc_lent.specs.Texts.{KeepsBorrowed};
 
 use crate::named::Named;
-use esc_frame::count::fits;
-use esc_frame::store::Store;
+use esc_frame::unfinished::count::fits;
+use esc_frame::unfinished::store::Store;
 use std::alloc::AllocError;
 use std::marker::PhantomData;
 

@@ -14,11 +14,11 @@ use crate::no_memory::NoMemory;
 use crate::numbers::{number_of_form, number_of_state, numbers_of_pending};
 use crate::parser::EscParser;
 use crate::text::BorrowedText;
-use esc_frame::header::DcsHeader;
-use esc_frame::intermediates::Intermediates;
 use esc_frame::machine::{Machine, State};
-use esc_frame::sequence::Pending;
-use esc_frame::store::Store;
+use esc_frame::unfinished::header::DcsHeader;
+use esc_frame::unfinished::intermediates::Intermediates;
+use esc_frame::unfinished::store::Store;
+use esc_frame::utf8::sequence::Pending;
 
 #[tactic(auto, using(crate::proofs::Parts::first_stored))]
 fn put_first(parser: &mut EscParser, first: &Intermediates)

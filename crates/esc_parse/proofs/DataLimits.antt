@@ -7,7 +7,7 @@ use Rattle.std.proofs.lemmas.Bool.{cases_lt}
 use Rattle.std.proofs.lemmas.Bool.Decides.{nat_tests}
 use Rattle.std.proofs.lemmas.List.{length-append}
 use Rattle.esc_frame.specs.Limits.{Counts, is_within, kept_within, most}
-use Rattle.esc_frame.specs.declared.count.Count.{Count}
+use Rattle.esc_frame.specs.declared.unfinished.count.Count.{Count}
 use Rattle.esc_actions.specs.Groups.{is_entered}
 use Rattle.esc_actions.specs.Values.{Mode, datum, plain, in_sixel, in_termcap, in_short, entered, data_count, closed_gives, taken, taken_gives}
 use Rattle.esc_parse.specs.Fed.{CountsData}

@@ -10,7 +10,7 @@ use Rattle.esc_frame.proofs.Given.{stops_then}
 use Rattle.esc_frame.specs.Events.{StopsAt as StopsAtEvent}
 use Rattle.esc_frame.specs.Events.Event.{DcsPut}
 use Rattle.esc_frame.specs.Limits.{is_within, most}
-use Rattle.esc_frame.specs.declared.count.Count.{Count}
+use Rattle.esc_frame.specs.declared.unfinished.count.Count.{Count}
 use Rattle.esc_tcap.specs.Names.{Pushes as PushesTermcap}
 use Rattle.esc_tcap.specs.declared.builder.GetTcapBuilder.{GetTcapBuilder}
 use Rattle.esc_actions.specs.Groups.{is_entered}

@@ -2,7 +2,7 @@
 use Rattle.std.specs.Prelude.{ℕ, ◌≡◌, ◌+◌, ◌≤◌, Bool, true, false, List, length, Option, None}
 use Rattle.esc_frame.specs.Limits.{Counts, is_within, most}
 use Rattle.esc_frame.specs.Stream.{LeadsToWithin, HasFailed, events_within}
-use Rattle.esc_frame.specs.declared.count.Count.{Count}
+use Rattle.esc_frame.specs.declared.unfinished.count.Count.{Count}
 use Rattle.esc_actions.specs.Meaning.{mode_from}
 use Rattle.esc_actions.specs.Values.{Mode, plain, in_sixel, in_termcap, in_short, entered, data_count, taken}
 use Rattle.esc_device.specs.Leads.{LeadsShort}

@@ -3,7 +3,7 @@ ghost use Rattle.std.specs.Prelude.{◌≡◌, [], ◌∷◌, ℕ, IfOk, OnErr, 
 ghost use Rattle.std.specs.Option.{option_map};
 ghost use Rattle.esc_actions.specs.Values.{Mode, closed_gives, opened, opened_gives, value_of};
 ghost use Rattle.esc_device.specs.declared.kind.StringKind.TheVariants as kind;
-ghost use Rattle.esc_frame.specs.declared.count.Count.{Count};
+ghost use Rattle.esc_frame.specs.declared.unfinished.count.Count.{Count};
 ghost use Rattle.esc_parse.specs.Fed.{Begins, Keeps};
 ghost use Rattle.memory.specs.Refusals.{Refused};
 

@@ -9,8 +9,8 @@ use Rattle.std.proofs.lemmas.Bool.Decides.{nat_tests}
 use Rattle.esc_segments.specs.declared.kind.SegmentKind.TheVariants as kinds
 use Rattle.esc_segments.specs.Places.{found, IsOpened}
 use Rattle.esc_frame.specs.declared.classes.Class.{Class}
-use Rattle.esc_frame.specs.declared.classes.Class.TheVariants.{Cancel, Escape, Introducer, Final, C1, C1Introducer}
-use Rattle.esc_frame.specs.declared.classes.Class.TheVariants.{C1Terminator}
+use Rattle.esc_frame.specs.declared.classes.Class.TheVariants.{Introducer, Final, Breaks}
+use Rattle.esc_frame.specs.declared.classes.Breaker.TheVariants.{Cancel, Escape, C1Introducer, C1Terminator, C1}
 use Rattle.esc_frame.specs.declared.classes.Kind.{Kind}
 use Rattle.esc_frame.specs.declared.classes.Kind.TheVariants as kind
 use Rattle.esc_frame.specs.Classes.{class_of, AllOf, in_csi, ends_csi, in_data, is_breaker, is_ignored}
@@ -52,11 +52,7 @@ ends_by Final h i = refl
 ends_by _ h i = absurd cc
 
 breaks_by : (c : Class) → in_data c ≡ false → is_breaker c ≡ true
-breaks_by Cancel h = refl
-breaks_by Escape h = refl
-breaks_by C1 h = refl
-breaks_by (C1Introducer k) h = refl
-breaks_by C1Terminator h = refl
+breaks_by (Breaks k) h = refl
 breaks_by _ h = absurd cc
 
 -- ---- a header, cut short

@@ -10,8 +10,8 @@ use Rattle.esc_segments.specs.declared.sequence.Ahead.TheVariants as ahead
 use Rattle.esc_segments.specs.Items.{kind_of}
 use Rattle.esc_segments.specs.Places.{found, moved, IsFirst, IsOpened, IsRaw, IsSequence}
 use Rattle.esc_frame.specs.declared.classes.Class.{Class}
-use Rattle.esc_frame.specs.declared.classes.Class.TheVariants.{C0, Bell, Parameter, Introducer, Final, Delete, C1, C1Introducer}
-use Rattle.esc_frame.specs.declared.classes.Class.TheVariants.{C1Terminator, High, Lead}
+use Rattle.esc_frame.specs.declared.classes.Class.TheVariants.{C0, Bell, Parameter, Introducer, Final, Delete, High, Lead, Breaks}
+use Rattle.esc_frame.specs.declared.classes.Breaker.TheVariants.{C1Introducer, C1Terminator, C1}
 use Rattle.esc_frame.specs.declared.classes.Kind.{Kind}
 use Rattle.esc_frame.specs.declared.classes.Kind.TheVariants as kind
 use Rattle.esc_frame.specs.Classes.{class_of, strip, is_noise, in_escape, ends_escape, is_breaker, opens, letter_of, raw_of}
@@ -154,7 +154,7 @@ raw_high b h = grind (arith, nat_tests)
 pub raw_range : (b : ℕ) → is_raw (class_of b) ≡ true → (0x80 ≤ b) × (b ≤ 0x9f)
 raw_range b h = (raw_low b h, raw_high b h)
 
-raw_letter : (b : ℕ) (k : Kind) → class_of b ≡ C1Introducer k → b ≡ raw_of k
+raw_letter : (b : ℕ) (k : Kind) → class_of b ≡ Breaks (C1Introducer k) → b ≡ raw_of k
 unfolding class_of
 raw_letter b kind.Csi e = grind (arith, nat_tests)
 raw_letter b kind.Osc e = grind (arith, nat_tests)
@@ -181,7 +181,7 @@ raw_opens kind.Sos = refl
 raw_opens kind.Pm = refl
 raw_opens kind.Apc = refl
 
-is_st : (b : ℕ) → class_of b ≡ C1Terminator → b ≡ 0x9c
+is_st : (b : ℕ) → class_of b ≡ (Breaks C1Terminator) → b ≡ 0x9c
 unfolding class_of
 is_st b e = grind (arith, nat_tests)
 
@@ -191,12 +191,12 @@ st_class = refl
 
 raw_by : (b : ℕ) (c : Class) → class_of b ≡ c → is_raw c ≡ true
     → opens (class_of (b - 0x40)) ≡ false → (b ≡ 0x9c → ⊥) → is_c1 c ≡ true
-raw_by b C1 e h n m = refl
-raw_by b (C1Introducer k) e h n m =
+raw_by b (Breaks C1) e h n m = refl
+raw_by b (Breaks (C1Introducer k)) e h n m =
     let i : opens (class_of (b - 0x40)) ≡ true =
     ap (λ y. opens (class_of (y - 0x40))) (raw_letter b k e) ∙ raw_opens k in
     let z : true ≡ false = sym i ∙ n in absurd cc
-raw_by b C1Terminator e h n m = absurd (m (is_st b e))
+raw_by b (Breaks C1Terminator) e h n m = absurd (m (is_st b e))
 raw_by b _ e h n m = absurd cc
 
 control_by : (b : ℕ) (body : List ℕ) → is_c1 (class_of b) ≡ true → (p : Bool)

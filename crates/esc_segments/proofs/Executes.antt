@@ -3,7 +3,8 @@ use Rattle.std.proofs.Common.{ℕ, ◌≡◌, true, false, List, [], ◌∷◌, 
 use Rattle.std.proofs.lemmas.List.{map-append, append-nil}
 use Rattle.std.proofs.lemmas.List.Elements.{filter-append}
 use Rattle.esc_frame.specs.declared.classes.Class.{Class}
-use Rattle.esc_frame.specs.declared.classes.Class.TheVariants.{Escape, Parameter, Introducer, Final, C1Introducer, Lead}
+use Rattle.esc_frame.specs.declared.classes.Class.TheVariants.{Parameter, Introducer, Final, Lead, Breaks}
+use Rattle.esc_frame.specs.declared.classes.Breaker.TheVariants.{Escape, C1Introducer}
 use Rattle.esc_frame.specs.declared.classes.Kind.{Kind}
 use Rattle.esc_frame.specs.declared.classes.Kind.TheVariants as kind
 use Rattle.esc_frame.specs.Classes.{class_of, is_c0, ends_escape, ends_csi, letter_of, raw_of, those}
@@ -11,7 +12,7 @@ use Rattle.esc_frame.specs.Events.Event.{Execute}
 use Rattle.esc_frame.specs.Segments.{Opener, executes, opener, opener_events}
 use Rattle.esc_frame.specs.Segments.Opener.{Long, Raw, Pair}
 
-pub escape_code : class_of 0x1b ≡ Escape
+pub escape_code : class_of 0x1b ≡ (Breaks Escape)
 unfolding class_of
 escape_code = refl
 
@@ -28,7 +29,7 @@ letter_code kind.Sos = refl
 letter_code kind.Pm = refl
 letter_code kind.Apc = refl
 
-pub raw_code : (k : Kind) → class_of (raw_of k) ≡ C1Introducer k
+pub raw_code : (k : Kind) → class_of (raw_of k) ≡ Breaks (C1Introducer k)
 unfolding class_of
 raw_code kind.Csi = refl
 raw_code kind.Osc = refl

@@ -6,7 +6,7 @@ ghost use Rattle.esc_frame.specs.Classes.{class_of, is_text};
 ghost use Rattle.esc_frame.specs.Machine.Prefixes.{prefix_of};
 ghost use Rattle.esc_frame.specs.Sequences.{is_sequence, number_of};
 
-use esc_frame::sequence::{Outcome, Pending};
+use esc_frame::utf8::sequence::{Outcome, Pending};
 
 // What replaces what is no character.
 const REPLACEMENT: char = '\u{fffd}';

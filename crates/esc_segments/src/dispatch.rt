@@ -12,8 +12,8 @@ ghost use Rattle.esc_segments.specs.Parts.{Emits};
 use crate::bytes::{is_c0, is_noise};
 use crate::openers::{opens_dcs, split_opener};
 use esc_frame::VTActor;
-use esc_frame::body::CsiBody;
-use esc_frame::intermediates::Intermediates;
+use esc_frame::unfinished::body::CsiBody;
+use esc_frame::unfinished::intermediates::Intermediates;
 use std::alloc::AllocError;
 
 type Result<T> = std::result::Result<T, AllocError>;

@@ -19,7 +19,7 @@ use crate::kept::kept_text;
 use crate::openers::split_opener;
 use crate::runs::header_run;
 use esc_frame::VTActor;
-use esc_frame::header::{DcsHeader, is_parameter, params_of};
+use esc_frame::unfinished::header::{DcsHeader, is_parameter, params_of};
 use std::alloc::{AllocError, Allocator};
 
 type Result<T> = std::result::Result<T, AllocError>;

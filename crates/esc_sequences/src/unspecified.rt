@@ -52,8 +52,8 @@ pub struct BorrowedSequence<'a> {
 
 /// Writes what [`Unspecified`] of the same parameters writes.
 impl<'a> fmt::Display for BorrowedSequence<'a> {
-    ghost output = { λ u. Some
-        (csi_text (unspecified u.params.now u.parameters_truncated u.control)) };
+    ghost output = { λ u.
+        Some (csi_text (unspecified u.params.now u.parameters_truncated u.control)) };
 
     fn fmt<W: fmt::Write>(&self, f: &mut fmt::Formatter<W>) -> fmt::Result {
         f.write_str("\x1b[")?;

@@ -3,7 +3,7 @@ ghost use Rattle.std.specs.Prelude.{ℕ, ◌≡◌, ◌≢◌, ◌==◌, ◌||�
 ghost use Rattle.std.specs.Str.{IsUtf8};
 ghost use Rattle.esc_write.specs.Plain.{IsBareLink, IsNameAndAddress, IsNamedLink, IsOnePart, IsPlainLink, IsVerbatim};
 
-use esc_frame::scans::mark_from;
+use esc_frame::runs::scans::mark_from;
 use std::alloc::Allocator;
 use std::str;
 

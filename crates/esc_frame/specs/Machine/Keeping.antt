@@ -2,9 +2,9 @@
 -- contracts cite it.
 use Rattle.std.specs.Prelude.{ℕ, ◌≡◌, true, false, List, [], ◌++◌, Bool, Option}
 use Rattle.esc_frame.specs.declared.classes.Kind.{Kind}
-use Rattle.esc_frame.specs.declared.header.DcsHeader.{DcsHeader}
+use Rattle.esc_frame.specs.declared.unfinished.header.DcsHeader.{DcsHeader}
 use Rattle.esc_frame.specs.declared.machine.Machine.{Machine}
-use Rattle.esc_frame.specs.declared.store.Store.{Ghosts as Keeper}
+use Rattle.esc_frame.specs.declared.unfinished.store.Store.{Ghosts as Keeper}
 use Rattle.esc_frame.specs.Changed.{Changed}
 use Rattle.esc_frame.specs.Classes.{strip, those, is_text}
 use Rattle.esc_frame.specs.Leads.{Unfinished, Holds}

@@ -5,13 +5,13 @@ use Rattle.std.specs.Prelude.{pos, vec_capacity}
 use Rattle.std.specs.List.{filter}
 use Rattle.esc_values.specs.declared.csi_param.CsiParam.{CsiParam}
 use Rattle.esc_values.specs.declared.csi_param.CsiParam.TheVariants.{Integer, P}
-use Rattle.esc_frame.specs.declared.intermediates.Intermediates.{Intermediates}
-use Rattle.esc_frame.specs.declared.csi_params.Params.{Params}
-use Rattle.esc_frame.specs.declared.kept.Kept.{Kept}
-use Rattle.esc_frame.specs.declared.body.CsiBody.{CsiBody}
-use Rattle.esc_frame.specs.declared.body.Form.{Form}
-use Rattle.esc_frame.specs.declared.header.DcsHeader.{DcsHeader}
-use Rattle.esc_frame.specs.declared.body.Form.TheVariants as form
+use Rattle.esc_frame.specs.declared.unfinished.intermediates.Intermediates.{Intermediates}
+use Rattle.esc_frame.specs.declared.unfinished.csi_params.Params.{Params}
+use Rattle.esc_frame.specs.declared.unfinished.kept.Kept.{Kept}
+use Rattle.esc_frame.specs.declared.unfinished.body.CsiBody.{CsiBody}
+use Rattle.esc_frame.specs.declared.unfinished.body.Form.{Form}
+use Rattle.esc_frame.specs.declared.unfinished.header.DcsHeader.{DcsHeader}
+use Rattle.esc_frame.specs.declared.unfinished.body.Form.TheVariants as form
 use Rattle.esc_frame.specs.Limits.{is_within}
 use Rattle.esc_frame.specs.Bodies.{is_digit, held, is_private_prefix, is_csi_parameter, is_dcs_parameter, is_intermediate_byte}
 

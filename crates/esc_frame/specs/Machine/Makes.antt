@@ -3,7 +3,7 @@
 use Rattle.std.specs.Prelude.{ℕ, Bool, List, Option, Result}
 use Rattle.esc_frame.specs.declared.taker.Taker.{Ghosts as Actor}
 use Rattle.esc_frame.specs.declared.machine.Machine.{Machine}
-use Rattle.esc_frame.specs.declared.store.Store.{Ghosts as Keeper}
+use Rattle.esc_frame.specs.declared.unfinished.store.Store.{Ghosts as Keeper}
 use Rattle.esc_frame.specs.Changed.{Changed}
 use Rattle.esc_frame.specs.Events.{Event, Receives, Takes}
 use Rattle.esc_frame.specs.Leads.{Unfinished}

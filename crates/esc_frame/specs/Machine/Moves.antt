@@ -2,11 +2,12 @@
 -- contracts cite it.
 use Rattle.std.specs.Prelude.{ℕ, ◌≡◌, ◌<◌, Bool, true, false, not, ◌||◌, ◌&&◌, if◌then◌else◌, List, [], ◌∷◌, ◌++◌, take, Option, None}
 use Rattle.esc_frame.specs.declared.classes.Class.{Class}
-use Rattle.esc_frame.specs.declared.classes.Class.TheVariants.{Escape, Introducer, C1Introducer, High, Lead, Bell}
+use Rattle.esc_frame.specs.declared.classes.Class.TheVariants.{Introducer, High, Lead, Bell, Breaks}
+use Rattle.esc_frame.specs.declared.classes.Breaker.TheVariants.{Escape, C1Introducer}
 use Rattle.esc_frame.specs.declared.classes.Kind.{Kind}
 use Rattle.esc_frame.specs.declared.classes.Kind.TheVariants as kind
-use Rattle.esc_frame.specs.declared.sequence.Outcome.{Outcome}
-use Rattle.esc_frame.specs.declared.sequence.Outcome.TheVariants as outcomes
+use Rattle.esc_frame.specs.declared.utf8.sequence.Outcome.{Outcome}
+use Rattle.esc_frame.specs.declared.utf8.sequence.Outcome.TheVariants as outcomes
 use Rattle.esc_frame.specs.Sequences.{is_pair, number_of, outcome}
 use Rattle.esc_frame.specs.Classes.{class_of, strip, those, is_text, is_breaker, is_c0, is_control, is_c1, in_escape, in_csi, in_osc, is_put}
 use Rattle.esc_frame.specs.Events.{Event}
@@ -35,8 +36,8 @@ opened k o = InIgnored k o []
 
 -- a byte in ground that is no character and no control
 abbrev pub begins : ℕ → Class → Move
-begins b Escape = (InEscape [], [])
-begins b (C1Introducer k) = (opened k Raw, [])
+begins b (Breaks Escape) = (InEscape [], [])
+begins b (Breaks (C1Introducer k)) = (opened k Raw, [])
 begins b Lead = (Pending (b ∷ []), [])
 begins b High = (Ground, Print 0xfffd ∷ [])
 begins b _ = (Ground, [])
@@ -47,7 +48,7 @@ ground_move b c = if is_text c then (Ground, Print b ∷ []) else if is_control 
 
 -- after C2: 80-9F
 abbrev pub pair_move : ℕ → Class → Move
-pair_move b (C1Introducer k) = (opened k Pair, [])
+pair_move b (Breaks (C1Introducer k)) = (opened k Pair, [])
 pair_move b c = (Ground, if is_c1 c then Execute b ∷ [] else [])
 
 -- a control in a sequence that goes on

@@ -2,8 +2,8 @@
 use Rattle.std.specs.Prelude.{ℕ, ◌≡◌, Bool, true, false, List, None}
 use Rattle.std.specs.List.{list_all}
 use Rattle.esc_values.specs.declared.csi_param.CsiParam.{CsiParam}
-use Rattle.esc_frame.specs.declared.body.Form.{Form}
-use Rattle.esc_frame.specs.declared.body.Form.TheVariants as form
+use Rattle.esc_frame.specs.declared.unfinished.body.Form.{Form}
+use Rattle.esc_frame.specs.declared.unfinished.body.Form.TheVariants as form
 use Rattle.esc_frame.specs.Bodies.{csi_params, is_csi_body, kept_csi_params, has_more_csi_params}
 use Rattle.esc_frame.specs.Machine.Keeps.{number_of_run, form_from}
 use Rattle.esc_frame.specs.Scans.{is_body_byte}

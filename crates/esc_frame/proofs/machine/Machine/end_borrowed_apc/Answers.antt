@@ -8,11 +8,11 @@ pub returns-in-Ok-clause-moved : goal.returns-in-Ok-clause-moved
 returns-in-Ok-clause-moved g c = λ own.
     moves_then g.K.Store.keeps (Fails g.K.Store.denied g.V.Taker.stops g.row.A.Denot)
     c.args.limit own
-    g.V.Taker.takes g.V.Taker.refuses c.in_ground.result
+    g.V.Taker.takes g.V.Taker.refuses c.leave_string.result
     (apc_events c.args.limit c.args.text.now)
     (ground_move c.args.b c.args.class)
-    c.in_ground.new.self c.args.actor.now _ _ c.in-Ok.ensures.emitted
-    (c.in_ground.ensures.moved c.args.limit own)
+    c.leave_string.new.self c.args.actor.now _ _ c.in-Ok.ensures.emitted
+    (c.leave_string.ensures.moved c.args.limit own)
 
 pub returns-in-Err-clause-moved : goal.returns-in-Err-clause-moved
 returns-in-Err-clause-moved g c = λ own.

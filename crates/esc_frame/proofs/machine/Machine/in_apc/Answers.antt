@@ -7,9 +7,9 @@ use Rattle.esc_frame.proofs.Moving.{broken_emitted}
 use Rattle.esc_frame.specs.Machine.Calls.{Fails}
 use Rattle.esc_frame.proofs.machine.Machine.in_apc.Goals as goal
 
-pub returns-in-Cancel-clause-moved : goal.returns-in-Cancel-clause-moved
-returns-in-Cancel-clause-moved g c = λ e o d k.
-    let t : is_breaker c.args.class ≡ true = search (rules, c.in-Cancel.is) in
+pub returns-in-Breaks-clause-moved : goal.returns-in-Breaks-clause-moved
+returns-in-Breaks-clause-moved g c = λ e o d k.
+    let t : is_breaker c.args.class ≡ true = search (rules, c.in-Breaks.is) in
     broken_emitted g.K.Store.keeps (Fails g.K.Store.denied g.V.Taker.stops g.row.A.Denot)
     c.args.limit true
     g.V.Taker.takes g.V.Taker.refuses c.leave_apc.result (InApc o d)

@@ -10,9 +10,9 @@ use Rattle.esc_frame.proofs.Moving.{broken}
 use Rattle.esc_frame.specs.Machine.Calls.{Fails}
 use Rattle.esc_frame.proofs.machine.Machine.in_csi.Goals as goal
 
-pub returns-in-Cancel-clause-moved : goal.returns-in-Cancel-clause-moved
-returns-in-Cancel-clause-moved g c = λ e limit o x k.
-    let t : is_breaker c.args.class ≡ true = search (rules, c.in-Cancel.is) in
+pub returns-in-Breaks-clause-moved : goal.returns-in-Breaks-clause-moved
+returns-in-Breaks-clause-moved g c = λ e limit o x k.
+    let t : is_breaker c.args.class ≡ true = search (rules, c.in-Breaks.is) in
     broken g.K.Store.keeps (Fails g.K.Store.denied g.V.Taker.stops g.row.A.Denot)
     limit false g.V.Taker.takes g.V.Taker.refuses
     c.in_ground.result (InCsi o x) c.args.b c.args.class c.in_ground.new.self

@@ -5,9 +5,9 @@ use Rattle.esc_frame.proofs.Moving.{broken_emitted}
 use Rattle.esc_frame.specs.Machine.Calls.{Fails}
 use Rattle.esc_frame.proofs.machine.Machine.in_data.Goals as goal
 
-pub returns-in-Cancel-clause-moved : goal.returns-in-Cancel-clause-moved
-returns-in-Cancel-clause-moved g c = λ limit o x f d r.
-    let t : is_breaker c.args.class ≡ true = search (rules, c.in-Cancel.is) in
+pub returns-in-Breaks-clause-moved : goal.returns-in-Breaks-clause-moved
+returns-in-Breaks-clause-moved g c = λ limit o x f d r.
+    let t : is_breaker c.args.class ≡ true = search (rules, c.in-Breaks.is) in
     broken_emitted g.K.Store.keeps (Fails g.K.Store.denied g.V.Taker.stops g.row.A.Denot)
     limit true g.V.Taker.takes g.V.Taker.refuses
     c.leave_data.result (InData o x f d) c.args.b c.args.class c.leave_data.new.self

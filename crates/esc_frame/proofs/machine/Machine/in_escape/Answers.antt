@@ -11,9 +11,9 @@ use Rattle.esc_frame.proofs.Moving.{broken}
 use Rattle.esc_frame.specs.Machine.Calls.{Fails}
 use Rattle.esc_frame.proofs.machine.Machine.in_escape.Goals as goal
 
-pub returns-in-Cancel-clause-moved : goal.returns-in-Cancel-clause-moved
-returns-in-Cancel-clause-moved g c = λ e limit own x k.
-    let t : is_breaker c.args.class ≡ true = search (rules, c.in-Cancel.is) in
+pub returns-in-Breaks-clause-moved : goal.returns-in-Breaks-clause-moved
+returns-in-Breaks-clause-moved g c = λ e limit own x k.
+    let t : is_breaker c.args.class ≡ true = search (rules, c.in-Breaks.is) in
     broken g.K.Store.keeps (Fails g.K.Store.denied g.V.Taker.stops g.row.A.Denot)
     limit own g.V.Taker.takes g.V.Taker.refuses
     c.in_ground.result (InEscape x) c.args.b c.args.class c.in_ground.new.self

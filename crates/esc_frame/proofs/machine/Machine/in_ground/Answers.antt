@@ -1,15 +1,10 @@
 use Rattle.std.proofs.Common.{◌≡◌, ◌||◌, true, refl, rules}
 use Rattle.esc_frame.specs.declared.machine.State.TheVariants as state
-use Rattle.esc_frame.specs.declared.sequence.Pending.TheVariants as pending
+use Rattle.esc_frame.specs.declared.utf8.sequence.Pending.TheVariants as pending
 use Rattle.esc_frame.specs.Classes.{is_text, is_control, is_c1}
-use Rattle.esc_frame.specs.Segments.Opener.{Raw}
 use Rattle.esc_frame.proofs.Moving.{text_moved, control_moved}
 use Rattle.esc_frame.specs.Machine.Calls.{Fails}
 use Rattle.esc_frame.proofs.machine.Machine.in_ground.Goals as goal
-
-pub returns-in-C1Introducer-clause-moved : goal.returns-in-C1Introducer-clause-moved
-returns-in-C1Introducer-clause-moved g c =
-    λ limit own. rw c.in-C1Introducer.is (c.open.ensures limit Raw, refl)
 
 pub returns-in-C0-clause-moved : goal.returns-in-C0-clause-moved
 returns-in-C0-clause-moved g c = λ limit own.

@@ -1,6 +1,6 @@
 use Rattle.std.proofs.Common.{rules, refl, true, ◌≡◌}
 use Rattle.esc_frame.specs.declared.machine.State.TheVariants as state
-use Rattle.esc_frame.specs.declared.sequence.Pending.TheVariants as pending
+use Rattle.esc_frame.specs.declared.utf8.sequence.Pending.TheVariants as pending
 use Rattle.esc_frame.specs.Classes.{is_breaker, is_text}
 use Rattle.esc_frame.specs.Leads.Unfinished.{InOsc}
 use Rattle.esc_frame.specs.Segments.{text_of}
@@ -9,9 +9,9 @@ use Rattle.esc_frame.proofs.Moving.{broken_emitted}
 use Rattle.esc_frame.specs.Machine.Calls.{Fails}
 use Rattle.esc_frame.proofs.machine.Machine.in_osc.Goals as goal
 
-pub returns-in-Cancel-clause-moved : goal.returns-in-Cancel-clause-moved
-returns-in-Cancel-clause-moved g c = λ e o ps k.
-    let t : is_breaker c.args.class ≡ true = search (rules, c.in-Cancel.is) in
+pub returns-in-Breaks-clause-moved : goal.returns-in-Breaks-clause-moved
+returns-in-Breaks-clause-moved g c = λ e o ps k.
+    let t : is_breaker c.args.class ≡ true = search (rules, c.in-Breaks.is) in
     broken_emitted g.K.Store.keeps (Fails g.K.Store.denied g.V.Taker.stops g.row.A.Denot)
     c.args.limit true
     g.V.Taker.takes g.V.Taker.refuses c.leave_osc.result (InOsc o ps)

@@ -7,6 +7,7 @@ pub returns-in_default-clause-moved : goal.returns-in_default-clause-moved
 returns-in_default-clause-moved g c = λ limit own.
     subst (λ m. Moved g.K.Store.keeps (Fails g.K.Store.denied g.V.Taker.stops g.row.A.Denot)
     limit own
-    g.V.Taker.takes g.V.Taker.refuses c.in_ground.result m c.in_ground.new.self c.args.actor.now
-    c.in_ground.new.actor)
-    (left_other c.args.b c.args.class c.in_default.not-Bell) (c.in_ground.ensures.moved limit own)
+    g.V.Taker.takes g.V.Taker.refuses c.leave_string.result m c.leave_string.new.self
+    c.args.actor.now c.leave_string.new.actor)
+    (left_other c.args.b c.args.class c.in_default.not-Bell)
+    (c.leave_string.ensures.moved limit own)

@@ -1,6 +1,6 @@
 use Rattle.std.proofs.Common.{◌∙◌, refl, sym}
 use Rattle.esc_frame.specs.declared.machine.State.TheVariants as state
-use Rattle.esc_frame.specs.declared.sequence.Pending.TheVariants as pending
+use Rattle.esc_frame.specs.declared.utf8.sequence.Pending.TheVariants as pending
 use Rattle.esc_frame.specs.Events.Event.{Print}
 use Rattle.esc_frame.specs.Leads.Unfinished.{Ground}
 use Rattle.esc_frame.proofs.Given.{receives_moved}

@@ -40,8 +40,8 @@ returns-then-digits-gt0-clause-ok g c =
 pub returns-in-Some-clause-ok : goal.returns-in-Some-clause-ok
 returns-in-Some-clause-ok g c =
     let p = c.args.self.now in
-    let e = ap
-    (λ t. record p { sixel = record p.sixel { content = t } }) c.in_ok-push.ensures.ok in (
+    let e = ap (λ t.
+    record p { sixel = record p.sixel { content = t } }) c.in_ok-push.ensures.ok in (
       c.in-Some.ensures.some,
       c.in-Some.ensures.few,
       subst (λ q. FoldsTo Pushes p (take c.in-Some.taken c.args.rest.now) q) (sym e)

@@ -1,0 +1,18 @@
+use Rattle.esc_frame.proofs.ManyBytes.{one_control, event_given, event_stops}
+use Rattle.esc_frame.proofs.runs.printing.execute_one.Goals as goal
+
+pub returns-in-Ok : goal.returns-in-Ok
+returns-in-Ok g c =
+    let one = one_control c.args.rest.now c.requires.some c.requires.low c.requires.other in (
+      c.requires.some,
+      one.0,
+      event_given g.V.Taker.takes g.V.Taker.refuses c.args.rest.now 1 _ c.args.actor.now _ one
+          c.in-Ok.ensures.receives,
+      c.in-Ok.ensures.ready,
+    )
+
+pub returns-in-Err : goal.returns-in-Err
+returns-in-Err g c =
+    event_stops g.V.Taker.takes g.V.Taker.refuses c.args.rest.now 1 _ c.args.actor.now _
+    (one_control c.args.rest.now c.requires.some c.requires.low
+    c.requires.other) _ c.in-Err.ensures.receives

@@ -1,0 +1,23 @@
+use Rattle.esc_frame.proofs.ClearRuns.{str_clear, str_given, str_stops}
+use Rattle.esc_frame.proofs.runs.printing.print_long.Goals as goal
+
+pub print_str-requires-clause-clear : goal.print_str-requires-clause-clear
+print_str-requires-clause-clear g c =
+    str_clear g.V.Taker.takes g.V.Taker.refuses c.args.rest.now c.in-Ok.text.now
+    c.free_run-run.result c.args.actor.now c.args.actor.now
+    c.free_run-run.ensures.run c.in-Ok.ensures.0 c.in-Ok.ensures.1
+
+pub returns-in-Ok-print_str : goal.returns-in-Ok-print_str
+returns-in-Ok-print_str g c =
+    let run = str_given g.V.Taker.takes g.V.Taker.refuses c.args.rest.now c.in-Ok.text.now
+    c.free_run-run.result c.args.actor.now c.print_str.new.self
+    c.free_run-run.ensures.run c.in-Ok.ensures.0 c.in-Ok.ensures.1
+    c.in-Ok-print_str.ensures.emitted in
+    (c.free_run-run.ensures.few, run.0, run.1, c.in-Ok-print_str.ensures.ready)
+
+pub returns-in-Err-print_str : goal.returns-in-Err-print_str
+returns-in-Err-print_str g c =
+    str_stops g.V.Taker.takes g.V.Taker.refuses c.args.rest.now c.in-Ok.text.now
+    c.free_run-run.result c.args.actor.now c.print_str.new.self
+    c.free_run-run.ensures.run c.in-Ok.ensures.0 c.in-Ok.ensures.1 _
+    c.in-Err-print_str.ensures.emitted

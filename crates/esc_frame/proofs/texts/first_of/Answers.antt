@@ -1,6 +1,0 @@
-use Rattle.esc_frame.proofs.FirstChars.{next_one}
-use Rattle.esc_frame.proofs.texts.first_of.Goals as goal
-
-pub returns-then-text-lt128-clause-next : goal.returns-then-text-lt128-clause-next
-returns-then-text-lt128-clause-next c =
-    next_one c.args.text.now c.requires.clear c.requires.some c.if-text-lt128.true

@@ -1,0 +1,168 @@
+//! The machine in device control strings.
+#![tactic(auto)]
+
+ghost use Rattle.std.specs.Prelude.{◌≡◌, ◌<◌, ◌++◌, ℕ, List, Option, [], ◌∷◌, true, length, OnOk, OnErr};
+ghost use Rattle.esc_frame.specs.Classes.{class_of};
+ghost use Rattle.esc_frame.specs.Events.{Takes};
+ghost use Rattle.esc_frame.specs.Events.Event.{DcsUnhook};
+ghost use Rattle.esc_frame.specs.Limits.{is_read};
+ghost use Rattle.esc_frame.specs.Machine.Calls.{Stops};
+ghost use Rattle.esc_frame.specs.Machine.Keeping.{Holding, KeepingDcs, KeepingHeader, InPassthrough};
+ghost use Rattle.esc_frame.specs.Machine.Makes.{Emits, Makes, Consumes, Advances};
+ghost use Rattle.esc_frame.specs.Machine.Keeps.{KeepsDcs, parameters_of};
+ghost use Rattle.esc_frame.specs.Machine.Moves.{emitting, ground_move, move};
+ghost use Rattle.esc_frame.specs.Segments.{hook_event};
+
+use crate::classes::Class;
+use crate::machine::{Machine, Result, State};
+use crate::runs::scans::data_run;
+use crate::taker::Taker;
+use crate::unfinished::header::{DcsHeader, is_parameter};
+use crate::unfinished::store::Store;
+use std::alloc::Allocator;
+
+impl<K: Store, A: Allocator> Machine<K, A> {
+    /// A byte after a DCS's opener and x.
+    #[tactic(auto, using(crate::proofs::Given::takes_moved))]
+    pub fn in_dcs<V: Taker>(
+        &mut self,
+        limit: Option<usize>,
+        b: u8,
+        class: Class,
+        actor: &mut V,
+    ) -> Result<()>
+        requires { V.is_ready actor.old }
+        ensures moved { class ≡ class_of b → KeepingDcs K.Store limit self (λ u.
+            Makes K.Store V.Taker limit true result (move limit u b class) self actor) }
+        ensures ready { OnOk result (V.is_ready actor.new) }
+    {
+        self.state = State::Dcs;
+        match class {
+            Class::Breaks(_) => self.in_ground(b, class, actor),
+            Class::C0 | Class::Bell | Class::Delete | Class::High | Class::Lead => Ok(()),
+            Class::Intermediate | Class::Parameter => keep(
+                limit,
+                &mut self.header,
+                &mut self.text,
+                b,
+            ),
+            Class::Introducer(_) | Class::Final => {
+                if is_read(&self.header, &self.text) {
+                    self.state = State::Data;
+                    hook(&self.header, &self.text, &self.alloc, b, actor)
+                } else {
+                    self.state = State::Ignored;
+                    Ok(())
+                }
+            }
+        }
+    }
+
+    /// A byte of a DCS's data, whose header has its form.
+    #[tactic(auto, using(crate::proofs::Given::receives_moved))]
+    pub fn in_data<V: Taker>(&mut self, b: u8, class: Class, actor: &mut V) -> Result<()>
+        requires { V.is_ready actor.old }
+        ensures moved { InPassthrough (λ limit u.
+            Makes K.Store V.Taker limit true result (move limit u b class) self actor) }
+        ensures ready { OnOk result (V.is_ready actor.new) }
+    {
+        self.state = State::Data;
+        match class {
+            Class::Breaks(_) => self.leave_data(b, class, actor),
+            Class::Delete => Ok(()),
+            Class::C0
+            | Class::Bell
+            | Class::High
+            | Class::Lead
+            | Class::Intermediate
+            | Class::Parameter
+            | Class::Introducer(_)
+            | Class::Final => actor.dcs_put(b),
+        }
+    }
+
+    // A breaker after a DCS's data.
+    fn leave_data<V: Taker>(&mut self, b: u8, class: Class, actor: &mut V) -> Result<()>
+        requires { V.is_ready actor.old }
+        ensures moved { (limit : Option ℕ)
+            → Makes K.Store V.Taker limit true result
+            (emitting (DcsUnhook ∷ []) (ground_move b class)) self actor }
+        ensures ready { OnOk result (V.is_ready actor.new) }
+    {
+        match actor.dcs_unhook() {
+            Ok(()) => self.in_ground(b, class, actor),
+            Err(e) => Err(e),
+        }
+    }
+
+    /// The run of 20-7E in the data of a device control string.
+    #[inline(always)]
+    pub fn take_in_data<V: Taker>(
+        &mut self,
+        limit: Option<usize>,
+        rest: &[u8],
+        actor: &mut V,
+    ) -> Result<usize>
+        requires some { 0 < length rest.now }
+        requires ready { V.is_ready actor.old }
+        requires state { self.old.state ≡ State.Data }
+        ensures took { Holding K.Store limit self (λ u.
+            Consumes K.Store V.Taker limit result u rest.now self actor) }
+        ensures count { Advances V.Taker result rest.now actor }
+    {
+        let run = data_run(rest);
+        if run == 0 {
+            return self.take_one(limit, rest, actor);
+        }
+        match actor.dcs_put_text(&rest[..run]) {
+            Ok(()) => Ok(run),
+            Err(e) => Err(e),
+        }
+    }
+}
+
+// Takes a byte, 20-3F, of the header.
+fn keep<K: Store>(
+    limit: Option<usize>,
+    header: &mut DcsHeader,
+    parameters: &mut K,
+    b: u8,
+) -> Result<()>
+    ensures parameters { (x : List ℕ) → K.keeps limit parameters.old (parameters_of x)
+        → OnOk result (K.keeps limit parameters.new (parameters_of (x ++ b ∷ []))) }
+    ensures header { (x : List ℕ) → KeepsDcs header.old x → KeepsDcs header.new (x ++ b ∷ []) }
+    ensures refused { OnErr result (K.denied limit) }
+{
+    header.push(b);
+    if is_parameter(b) {
+        parameters.push(limit, &[b])
+    } else {
+        Ok(())
+    }
+}
+
+// Whether the header is hooked: its parameter bytes are within the limit, and it has its form.
+fn is_read<K: Store>(header: &DcsHeader, parameters: &K) -> bool
+    ensures { KeepingHeader K.Store parameters.now header.now (λ limit x.
+        result ≡ is_read limit x) }
+{
+    !parameters.is_over() && header.is_formed()
+}
+
+// The hook of a header that is read, emitted.
+fn hook<K: Store, A: Allocator, V: Taker>(
+    header: &DcsHeader,
+    parameters: &K,
+    alloc: &A,
+    b: u8,
+    actor: &mut V,
+) -> Result<()>
+    requires { V.is_ready actor.old }
+    ensures emitted { KeepingHeader K.Store parameters.now header.now (λ limit x.
+        is_read limit x ≡ true
+        → Emits V.Taker (Stops V.stops A limit) result (hook_event x b ∷ []) actor) }
+    ensures ready { OnOk result (V.is_ready actor.new) }
+{
+    let kept = &header.intermediates;
+    actor.dcs_header(alloc, b, parameters.bytes(), kept.as_slice(), kept.ignored)
+}

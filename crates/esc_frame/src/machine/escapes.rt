@@ -1,0 +1,371 @@
+//! The machine in escape sequences and control sequences.
+#![tactic(auto)]
+
+ghost use Rattle.std.specs.Prelude.{◌≡◌, ◌≤◌, ◌<◌, ◌++◌, ◌+◌, ℕ, List, Option, None, [], ◌∷◌, length, take, drop, true, false, slice_index, IfOk, OnOk};
+ghost use Rattle.std.specs.List.{list_all};
+ghost use Rattle.esc_frame.specs.Classes.{class_of};
+ghost use Rattle.esc_frame.specs.Events.Event.{EscDispatch};
+ghost use Rattle.esc_frame.specs.Leads.{Unfinished, Holds};
+ghost use Rattle.esc_frame.specs.Leads.Unfinished.{Ground};
+ghost use Rattle.esc_frame.specs.Machine.Calls.{Quietly};
+ghost use Rattle.esc_frame.specs.Machine.Keeping.{Holding, KeepingEscape, KeepingCsi, KeepingCsiAnd, AnyCsi};
+ghost use Rattle.esc_frame.specs.Machine.Makes.{Emits, EmitsOne, Makes, Consumes, ConsumesSome, StaysInGround, Advances};
+ghost use Rattle.esc_frame.specs.Machine.Keeps.{KeepsBody};
+ghost use Rattle.esc_frame.specs.Machine.Shorts.{IsShort};
+ghost use Rattle.esc_frame.specs.Scans.{is_body_byte};
+ghost use Rattle.esc_frame.specs.Machine.Moves.{move};
+ghost use Rattle.esc_frame.specs.Segments.{csi_events, csi_event};
+ghost use Rattle.esc_frame.specs.Sequences.{is_from};
+
+use crate::classes::{Class, Kind, classify};
+use crate::machine::{Machine, Result, State};
+use crate::taker::Taker;
+use crate::unfinished::body::CsiBody;
+use crate::unfinished::store::Store;
+use crate::utf8::sequence::{Pending, lies_from};
+use std::alloc::Allocator;
+
+impl<K: Store, A: Allocator> Machine<K, A> {
+    /// A byte after ESC x.
+    #[tactic(auto, using(crate::proofs::Given::receives_moved))]
+    pub fn in_escape<V: Taker>(&mut self, b: u8, class: Class, actor: &mut V) -> Result<()>
+        requires { V.is_ready actor.old }
+        ensures moved { class ≡ class_of b → KeepingEscape self (λ limit own u.
+            Makes K.Store V.Taker limit own result (move limit u b class) self actor) }
+        ensures ready { OnOk result (V.is_ready actor.new) }
+    {
+        self.state = State::Escape;
+        match class {
+            Class::Breaks(_) => self.in_ground(b, class, actor),
+            Class::C0 | Class::Bell => actor.execute_c0_or_c1(b),
+            Class::Delete | Class::High | Class::Lead => Ok(()),
+            Class::Intermediate => {
+                self.intermediates.push(b);
+                Ok(())
+            }
+            Class::Parameter | Class::Final => self.dispatch_escape(b, actor),
+            Class::Introducer(kind) => {
+                if self.intermediates.kept == 0 {
+                    self.open(kind);
+                    Ok(())
+                } else {
+                    self.dispatch_escape(b, actor)
+                }
+            }
+        }
+    }
+
+    /// The `\` after an ESC that ended a string; else nothing.
+    #[inline(always)]
+    pub fn take_terminator<V: Taker>(
+        &mut self,
+        limit: Option<usize>,
+        rest: &[u8],
+        actor: &mut V,
+    ) -> Result<usize>
+        requires { V.is_ready actor.old }
+        ensures took { Holding K.Store limit self (λ u.
+            Consumes K.Store V.Taker limit result u rest.now self actor) }
+        ensures count { IfOk result (λ n. (n ≤ length rest.now) × V.is_ready actor.new) }
+    {
+        if rest.is_empty() || rest[0] != b'\\' {
+            return Ok(0);
+        }
+        if let State::Escape = self.state {
+            self.take_in_escape(limit, rest, actor)
+        } else {
+            Ok(0)
+        }
+    }
+
+    /// A byte in an escape sequence.
+    #[inline(always)]
+    pub fn take_in_escape<V: Taker>(
+        &mut self,
+        limit: Option<usize>,
+        rest: &[u8],
+        actor: &mut V,
+    ) -> Result<usize>
+        requires some { 0 < length rest.now }
+        requires ready { V.is_ready actor.old }
+        requires state { self.old.state ≡ State.Escape }
+        ensures took { Holding K.Store limit self (λ u.
+            Consumes K.Store V.Taker limit result u rest.now self actor) }
+        ensures quiet { (u : Unfinished) → Quietly limit result u rest.now }
+        ensures count { Advances V.Taker result rest.now actor }
+    {
+        match self.in_escape(rest[0], classify(rest[0]), actor) {
+            Ok(()) => Ok(1),
+            Err(e) => Err(e),
+        }
+    }
+
+    // The final byte of an escape sequence.
+    fn dispatch_escape<V: Taker>(&mut self, b: u8, actor: &mut V) -> Result<()>
+        requires { V.is_ready actor.old }
+        ensures holds { Holds K.keeps None self.new Ground }
+        ensures emitted { EmitsOne V.Taker result
+            (EscDispatch (take self.old.intermediates.kept self.old.intermediates.bytes)
+            self.old.intermediates.ignored b) actor }
+        ensures ready { OnOk result (V.is_ready actor.new) }
+    {
+        self.state = State::Ground;
+        self.pending = Pending::Nothing;
+        actor.esc_dispatch(
+            &[],
+            self.intermediates.as_slice(),
+            self.intermediates.ignored,
+            b,
+        )
+    }
+
+    /// A byte after a CSI's opener and x.
+    #[tactic(auto, using(crate::proofs::Given::receives_moved))]
+    pub fn in_csi<V: Taker>(&mut self, b: u8, class: Class, actor: &mut V) -> Result<()>
+        requires { V.is_ready actor.old }
+        ensures moved { class ≡ class_of b → KeepingCsi self (λ limit u.
+            Makes K.Store V.Taker limit false result (move limit u b class) self actor) }
+        ensures ready { OnOk result (V.is_ready actor.new) }
+    {
+        self.state = State::Csi;
+        match class {
+            Class::Breaks(_) => self.in_ground(b, class, actor),
+            Class::C0 | Class::Bell => actor.execute_c0_or_c1(b),
+            Class::Delete | Class::High | Class::Lead => Ok(()),
+            Class::Intermediate | Class::Parameter => {
+                self.body.push(b);
+                Ok(())
+            }
+            Class::Introducer(_) | Class::Final => self.dispatch_csi(b, actor),
+        }
+    }
+
+    // The final byte of a CSI.
+    #[tactic(auto, using(crate::proofs::Given::quiet_moved))]
+    fn dispatch_csi<V: Taker>(&mut self, b: u8, actor: &mut V) -> Result<()>
+        requires { V.is_ready actor.old }
+        ensures moved { (limit : Option ℕ) (x : List ℕ) → KeepsBody self.old.body x
+            → Makes K.Store V.Taker limit false result (Ground, csi_events x b) self actor }
+        ensures ready { OnOk result (V.is_ready actor.new) }
+    {
+        self.state = State::Ground;
+        self.pending = Pending::Nothing;
+        if self.body.is_formed() {
+            emit_csi(&mut self.body, b, actor)
+        } else {
+            Ok(())
+        }
+    }
+
+    /// ESC and at least two bytes more, in ground.
+    #[inline(always)]
+    pub fn take_escape<V: Taker>(
+        &mut self,
+        limit: Option<usize>,
+        rest: &[u8],
+        actor: &mut V,
+    ) -> Result<usize>
+        requires some { 2 < length rest.now }
+        requires escape { slice_index rest.now 0 ≡ 0x1b }
+        requires ready { V.is_ready actor.old }
+        ensures { ConsumesSome K.Store V.Taker limit result rest.now self actor }
+    {
+        if rest[1] == b'[' {
+            self.take_csi(rest, actor)
+        } else if rest[1] == b']' {
+            self.take_osc(limit, rest, actor)
+        } else {
+            self.take_one_in_ground(rest, actor)
+        }
+    }
+
+    /// A control sequence that is short and stands whole at the start of the bytes; else nothing.
+    #[inline(always)]
+    pub fn take_quick_csi<V: Taker>(&mut self, rest: &[u8], actor: &mut V) -> Result<usize>
+        requires escape { slice_index rest.now 0 ≡ 0x1b }
+        requires ready { V.is_ready actor.old }
+        requires ground { Holds K.keeps None self.old Ground }
+        ensures ground { IfOk result (λ n. Holds K.keeps None self.new Ground) }
+        ensures stays { StaysInGround V.Taker result rest.now actor }
+    {
+        if rest.len() <= 2 {
+            return Ok(0);
+        }
+        if rest[1] != b'[' {
+            return Ok(0);
+        }
+        let run = self.short.read(&rest[2..]);
+        if run == rest.len() - 2 {
+            return Ok(0);
+        }
+        if lies_from(0x40, 0x7e, rest[run + 2]) {
+            self.take_short_csi(rest, run, actor)
+        } else {
+            Ok(0)
+        }
+    }
+
+    // A control sequence: at once, where it is short and stands whole in the bytes.
+    #[inline(always)]
+    fn take_csi<V: Taker>(&mut self, rest: &[u8], actor: &mut V) -> Result<usize>
+        requires some { 2 < length rest.now }
+        requires escape { slice_index rest.now 0 ≡ 0x1b }
+        requires bracket { slice_index rest.now 1 ≡ 0x5b }
+        requires ready { V.is_ready actor.old }
+        ensures { (limit : Option ℕ)
+            → ConsumesSome K.Store V.Taker limit result rest.now self actor }
+    {
+        let run = self.short.read(&rest[2..]);
+        if run == rest.len() - 2 {
+            return self.take_long_csi(rest, actor);
+        }
+        if lies_from(0x40, 0x7e, rest[run + 2]) {
+            self.state = State::Ground;
+            self.pending = Pending::Nothing;
+            self.take_short_csi(rest, run, actor)
+        } else {
+            self.take_long_csi(rest, actor)
+        }
+    }
+
+    // A control sequence whose parameters were read.
+    #[inline(always)]
+    fn take_short_csi<V: Taker>(&mut self, rest: &[u8], run: usize, actor: &mut V) -> Result<usize>
+        requires some { 2 < length rest.now }
+        requires escape { slice_index rest.now 0 ≡ 0x1b }
+        requires bracket { slice_index rest.now 1 ≡ 0x5b }
+        requires few { run + 2 < length rest.now }
+        requires read { IsShort (take self.old.short.count self.old.short.items)
+            (take run (drop 2 rest.now)) }
+        requires ends { is_from 0x40 0x7e (slice_index rest.now (run + 2)) ≡ true }
+        requires ground { Holds K.keeps None self.old Ground }
+        requires ready { V.is_ready actor.old }
+        ensures ground { IfOk result (λ n. Holds K.keeps None self.new Ground) }
+        ensures stays { StaysInGround V.Taker result rest.now actor }
+        ensures some { IfOk result (λ n. 0 < n) }
+        ensures quiet { (limit : Option ℕ) → Quietly limit result Ground rest.now }
+    {
+        match actor.csi_dispatch(self.short.as_slice(), false, rest[run + 2]) {
+            Ok(()) => Ok(run + 3),
+            Err(e) => Err(e),
+        }
+    }
+
+    // A control sequence, up to its final byte or what else is not of its body.
+    fn take_long_csi<V: Taker>(&mut self, rest: &[u8], actor: &mut V) -> Result<usize>
+        requires some { 2 < length rest.now }
+        requires escape { slice_index rest.now 0 ≡ 0x1b }
+        requires bracket { slice_index rest.now 1 ≡ 0x5b }
+        requires ready { V.is_ready actor.old }
+        ensures { (limit : Option ℕ)
+            → ConsumesSome K.Store V.Taker limit result rest.now self actor }
+    {
+        self.open(Kind::Csi);
+        match self.take_in_csi(&rest[2..], actor) {
+            Ok(n) => Ok(2 + n),
+            Err(e) => Err(e),
+        }
+    }
+
+    /// The run of 20-3F in a control sequence, and the byte after it.
+    #[inline(always)]
+    pub fn take_in_csi<V: Taker>(&mut self, rest: &[u8], actor: &mut V) -> Result<usize>
+        requires some { 0 < length rest.now }
+        requires ready { V.is_ready actor.old }
+        requires state { self.old.state ≡ State.Csi }
+        ensures took { KeepingCsi self (λ limit u.
+            Consumes K.Store V.Taker limit result u rest.now self actor) }
+        ensures quiet { AnyCsi (λ limit u. Quietly limit result u rest.now) }
+        ensures count { Advances V.Taker result rest.now actor }
+    {
+        let run = push_run(&mut self.body, rest);
+        self.take_after_body(rest, run, actor)
+    }
+
+    // The byte after a run in a control sequence that was kept.
+    #[inline(always)]
+    fn take_after_body<V: Taker>(&mut self, rest: &[u8], run: usize, actor: &mut V) -> Result<usize>
+        requires some { 0 < length rest.now }
+        requires few { run ≤ length rest.now }
+        requires passes { list_all is_body_byte (take run rest.now) ≡ true }
+        requires ready { V.is_ready actor.old }
+        requires state { self.old.state ≡ State.Csi }
+        ensures took { KeepingCsiAnd (take run rest.now) self (λ limit u.
+            Consumes K.Store V.Taker limit result u rest.now self actor) }
+        ensures quiet { AnyCsi (λ limit u. Quietly limit result u rest.now) }
+        ensures count { Advances V.Taker result rest.now actor }
+    {
+        if run == rest.len() {
+            return Ok(run);
+        }
+        match self.end_body(rest[run], actor) {
+            Ok(()) => Ok(run + 1),
+            Err(e) => Err(e),
+        }
+    }
+
+    // A byte of a control sequence, which most often is its final byte.
+    #[inline(always)]
+    fn end_body<V: Taker>(&mut self, b: u8, actor: &mut V) -> Result<()>
+        requires { V.is_ready actor.old }
+        ensures moved { KeepingCsi self (λ limit u.
+            Makes K.Store V.Taker limit false result (move limit u b (class_of b)) self actor) }
+        ensures ready { OnOk result (V.is_ready actor.new) }
+    {
+        if 0x40 <= b && b <= 0x7e {
+            self.dispatch_csi(b, actor)
+        } else {
+            self.in_csi(b, classify(b), actor)
+        }
+    }
+}
+
+// A control sequence whose body has its form, emitted.
+#[tactic(auto, using(crate::proofs::Given::receives_takes))]
+fn emit_csi<V: Taker>(body: &mut CsiBody, b: u8, actor: &mut V) -> Result<()>
+    requires { V.is_ready actor.old }
+    ensures emitted { (x : List ℕ) → KeepsBody body.old x
+        → Emits V.Taker ⊥ result (csi_event x b ∷ []) actor }
+    ensures ready { OnOk result (V.is_ready actor.new) }
+{
+    body.finish();
+    actor.csi_dispatch(
+        body.csi_params.items.as_slice(),
+        body.csi_params.is_truncated,
+        b,
+    )
+}
+
+// Pushes the run of 20-3F that comes first, and returns its length.
+#[inline(always)]
+fn push_run(body: &mut CsiBody, rest: &[u8]) -> usize
+    ensures keeps { (x : List ℕ) → KeepsBody body.old x
+        → KeepsBody body.new (x ++ take result rest.now) }
+    ensures few { result ≤ length rest.now }
+    ensures run { list_all is_body_byte (take result rest.now) ≡ true }
+{
+    let mut end = 0;
+    while end < rest.len() && 0x20 <= rest[end] && rest[end] <= 0x3f {
+        end += push_next(body, &rest[end..]);
+    }
+    end
+}
+
+// Pushes a run of digits, or a byte, and returns its length.
+#[inline(always)]
+fn push_next(body: &mut CsiBody, rest: &[u8]) -> usize
+    requires some { 0 < length rest.now }
+    requires low { 0x20 ≤ slice_index rest.now 0 }
+    requires high { slice_index rest.now 0 ≤ 0x3f }
+    ensures keeps { (x : List ℕ) → KeepsBody body.old x
+        → KeepsBody body.new (x ++ take result rest.now) }
+    ensures run { list_all is_body_byte (take result rest.now) ≡ true }
+    ensures count { (0 < result) × (result ≤ length rest.now) }
+{
+    if b'0' <= rest[0] && rest[0] <= b'9' {
+        body.push_digits(rest)
+    } else {
+        body.push(rest[0]);
+        1
+    }
+}

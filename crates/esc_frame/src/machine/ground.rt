@@ -1,0 +1,318 @@
+//! The machine in ground: characters, controls, and what opens.
+#![tactic(auto)]
+
+ghost use Rattle.std.specs.Prelude.{◌≡◌, ◌<◌, ◌++◌, ◌∷◌, ℕ, List, Option, None, [], Bool, true, length, OnOk, IfOk};
+ghost use Rattle.esc_frame.specs.Leads.{Holds};
+ghost use Rattle.esc_frame.specs.Leads.Unfinished.{Ground, InEscape};
+ghost use Rattle.esc_frame.specs.Machine.Prefixes.{prefix_of};
+ghost use Rattle.esc_frame.specs.Machine.Makes.{Makes, AlwaysMakes, Consumes, ConsumesSome, StaysInGround, Advances};
+ghost use Rattle.esc_frame.specs.Machine.Moves.{emitting, ground_move, pair_move, pending_move};
+ghost use Rattle.esc_frame.specs.Events.Event.{Print};
+ghost use Rattle.esc_frame.specs.Sequences.{outcome, is_sequence};
+
+use crate::classes::{Breaker, Class, classify};
+use crate::machine::{Machine, Result, State};
+use crate::runs::printing::{execute_one, print_first, print_one};
+use crate::taker::Taker;
+use crate::unfinished::intermediates::Intermediates;
+use crate::unfinished::store::Store;
+use crate::utf8::sequence::{Outcome, Pending};
+use std::alloc::Allocator;
+
+impl<K: Store, A: Allocator> Machine<K, A> {
+    /// A byte in ground, with nothing pending.
+    #[tactic(auto, using(crate::proofs::Given::receives_moved))]
+    pub fn in_ground<V: Taker>(&mut self, b: u8, class: Class, actor: &mut V) -> Result<()>
+        requires { V.is_ready actor.old }
+        ensures moved { AlwaysMakes K.Store V.Taker result (ground_move b class) self actor }
+        ensures ready { OnOk result (V.is_ready actor.new) }
+    {
+        self.state = State::Ground;
+        self.pending = Pending::Nothing;
+        match class {
+            Class::Breaks(breaker) => self.break_in_ground(b, breaker, actor),
+            Class::C0 | Class::Bell => actor.execute_c0_or_c1(b),
+            Class::Lead => {
+                self.pending = Pending::One(b);
+                Ok(())
+            }
+            Class::High => actor.print('\u{fffd}'),
+            Class::Intermediate
+            | Class::Parameter
+            | Class::Introducer(_)
+            | Class::Final
+            | Class::Delete => { actor.print(b as char) }
+        }
+    }
+
+    /// ESC begins an escape sequence.
+    #[inline(always)]
+    pub fn enter_escape(&mut self)
+        ensures { (limit : Option ℕ) → Holds K.keeps limit self.new (InEscape []) }
+    {
+        self.intermediates = Intermediates::new();
+        self.state = State::Escape;
+    }
+
+    /// What `in_ground` does, after a string: mostly it is the ESC of the string terminator.
+    #[inline(always)]
+    pub fn leave_string<V: Taker>(&mut self, b: u8, class: Class, actor: &mut V) -> Result<()>
+        requires { V.is_ready actor.old }
+        ensures moved { AlwaysMakes K.Store V.Taker result (ground_move b class) self actor }
+        ensures ready { OnOk result (V.is_ready actor.new) }
+    {
+        if let Class::Breaks(Breaker::Escape) = class {
+            self.enter_escape();
+            Ok(())
+        } else {
+            self.in_ground(b, class, actor)
+        }
+    }
+
+    // A breaker in ground.
+    #[inline(always)]
+    #[tactic(auto, using(crate::proofs::Given::receives_moved))]
+    fn break_in_ground<V: Taker>(&mut self, b: u8, breaker: Breaker, actor: &mut V) -> Result<()>
+        requires ready { V.is_ready actor.old }
+        requires ground { self.old.state ≡ State.Ground }
+        requires whole { self.old.pending ≡ Pending.Nothing }
+        ensures moved { AlwaysMakes K.Store V.Taker result
+            (ground_move b (Class.Breaks breaker)) self actor }
+        ensures ready { OnOk result (V.is_ready actor.new) }
+    {
+        match breaker {
+            Breaker::Cancel | Breaker::C1 => actor.execute_c0_or_c1(b),
+            Breaker::Escape => {
+                self.enter_escape();
+                Ok(())
+            }
+            Breaker::C1Introducer(kind) => {
+                self.open(kind);
+                Ok(())
+            }
+            Breaker::C1Terminator => Ok(()),
+        }
+    }
+
+    /// A control after C2.
+    #[tactic(auto, using(crate::proofs::Given::receives_moved))]
+    pub fn in_pair<V: Taker>(&mut self, b: u8, class: Class, actor: &mut V) -> Result<()>
+        requires { V.is_ready actor.old }
+        ensures moved { AlwaysMakes K.Store V.Taker result (pair_move b class) self actor }
+        ensures ready { OnOk result (V.is_ready actor.new) }
+    {
+        self.state = State::Ground;
+        self.pending = Pending::Nothing;
+        match class {
+            Class::Breaks(Breaker::C1) => actor.execute_c0_or_c1(b),
+            Class::Breaks(Breaker::C1Introducer(kind)) => {
+                self.open(kind);
+                Ok(())
+            }
+            Class::Breaks(Breaker::C1Terminator | Breaker::Cancel | Breaker::Escape)
+            | Class::C0
+            | Class::Bell
+            | Class::Lead
+            | Class::High
+            | Class::Intermediate
+            | Class::Parameter
+            | Class::Introducer(_)
+            | Class::Final
+            | Class::Delete => Ok(()),
+        }
+    }
+
+    /// A byte after a prefix of a character's sequence.
+    pub fn in_pending<V: Taker>(&mut self, b: u8, class: Class, actor: &mut V) -> Result<()>
+        requires { V.is_ready actor.old }
+        ensures moved { (limit : Option ℕ) (own : Bool) (f : List ℕ)
+            → prefix_of self.old.pending ≡ f
+            → Makes K.Store V.Taker limit own result
+            (pending_move f b class (outcome f b)) self actor }
+        ensures ready { OnOk result (V.is_ready actor.new) }
+    {
+        match self.pending.outcome(b) {
+            Outcome::Whole => self.whole(b, class, actor),
+            Outcome::More => {
+                self.state = State::Ground;
+                self.pending = self.pending.with(b);
+                Ok(())
+            }
+            Outcome::Broken => self.break_off(b, class, actor),
+        }
+    }
+
+    // A byte that breaks off a character's sequence.
+    fn break_off<V: Taker>(&mut self, b: u8, class: Class, actor: &mut V) -> Result<()>
+        requires { V.is_ready actor.old }
+        ensures moved { AlwaysMakes K.Store V.Taker result
+            (emitting (Print 0xfffd ∷ []) (ground_move b class)) self actor }
+        ensures ready { OnOk result (V.is_ready actor.new) }
+    {
+        match actor.print('\u{fffd}') {
+            Ok(()) => self.in_ground(b, class, actor),
+            Err(e) => Err(e),
+        }
+    }
+
+    // A byte that completes a sequence.
+    #[tactic(auto, using(crate::proofs::Given::receives_moved))]
+    fn whole<V: Taker>(&mut self, b: u8, class: Class, actor: &mut V) -> Result<()>
+        requires ready { V.is_ready actor.old }
+        requires whole { is_sequence (prefix_of self.old.pending ++ b ∷ []) ≡ true }
+        ensures moved { AlwaysMakes K.Store V.Taker result
+            (pending_move (prefix_of self.old.pending) b class Outcome.Whole) self actor }
+        ensures ready { OnOk result (V.is_ready actor.new) }
+    {
+        if self.pending.pairs_with(b) {
+            self.in_pair(b, class, actor)
+        } else {
+            let c = self.pending.character(b);
+            self.state = State::Ground;
+            self.pending = Pending::Nothing;
+            actor.print(c)
+        }
+    }
+
+    /// Characters, and what follows them.
+    #[inline(always)]
+    pub fn take_in_ground<V: Taker>(
+        &mut self,
+        limit: Option<usize>,
+        rest: &[u8],
+        actor: &mut V,
+    ) -> Result<usize>
+        requires some { 0 < length rest.now }
+        requires ready { V.is_ready actor.old }
+        requires ground { Holds K.keeps limit self.old Ground }
+        ensures took { Consumes K.Store V.Taker limit result Ground rest.now self actor }
+        ensures count { Advances V.Taker result rest.now actor }
+    {
+        match self.take_quick(rest, actor) {
+            Ok(printed) => {
+                if printed == rest.len() {
+                    return Ok(printed);
+                }
+                match self.take_string(limit, &rest[printed..], actor) {
+                    Ok(n) => Ok(printed + n),
+                    Err(e) => Err(e),
+                }
+            }
+            Err(e) => Err(e),
+        }
+    }
+
+    // Characters, controls and short control sequences, as long as they come.
+    #[inline(always)]
+    fn take_quick<V: Taker>(&mut self, rest: &[u8], actor: &mut V) -> Result<usize>
+        requires ready { V.is_ready actor.old }
+        requires ground { Holds K.keeps None self.old Ground }
+        ensures ground { IfOk result (λ n. Holds K.keeps None self.new Ground) }
+        ensures stays { StaysInGround V.Taker result rest.now actor }
+    {
+        let mut at = 0;
+        while at < rest.len() {
+            match self.take_quick_one(&rest[at..], actor) {
+                Ok(0) => return Ok(at),
+                Ok(n) => at += n,
+                Err(e) => return Err(e),
+            }
+        }
+        Ok(at)
+    }
+
+    // Characters, a control, or a short control sequence; nothing where something else stands
+    // there.
+    #[inline(always)]
+    fn take_quick_one<V: Taker>(&mut self, rest: &[u8], actor: &mut V) -> Result<usize>
+        requires some { 0 < length rest.now }
+        requires ready { V.is_ready actor.old }
+        requires ground { Holds K.keeps None self.old Ground }
+        ensures ground { IfOk result (λ n. Holds K.keeps None self.new Ground) }
+        ensures stays { StaysInGround V.Taker result rest.now actor }
+    {
+        if rest[0] >= 0x20 {
+            return print_one(rest, actor);
+        }
+        if rest[0] == 0x1b {
+            self.take_quick_csi(rest, actor)
+        } else {
+            execute_one(rest, actor)
+        }
+    }
+
+    /// One character, or what else stands in ground.
+    #[inline(always)]
+    pub fn take_first<V: Taker>(
+        &mut self,
+        limit: Option<usize>,
+        rest: &[u8],
+        actor: &mut V,
+    ) -> Result<usize>
+        requires some { 0 < length rest.now }
+        requires ready { V.is_ready actor.old }
+        requires ground { Holds K.keeps limit self.old Ground }
+        ensures { ConsumesSome K.Store V.Taker limit result rest.now self actor }
+    {
+        match print_first(rest, actor) {
+            Ok(0) => self.take_control(limit, rest, actor),
+            Ok(n) => Ok(n),
+            Err(e) => Err(e),
+        }
+    }
+
+    // A byte, or a sequence that ESC begins, and the terminator of a command.
+    #[inline(always)]
+    fn take_string<V: Taker>(
+        &mut self,
+        limit: Option<usize>,
+        rest: &[u8],
+        actor: &mut V,
+    ) -> Result<usize>
+        requires some { 0 < length rest.now }
+        requires ready { V.is_ready actor.old }
+        ensures took { Consumes K.Store V.Taker limit result Ground rest.now self actor }
+        ensures count { Advances V.Taker result rest.now actor }
+    {
+        match self.take_control(limit, rest, actor) {
+            Ok(n) => match self.take_terminator(limit, &rest[n..], actor) {
+                Ok(more) => Ok(n + more),
+                Err(e) => Err(e),
+            },
+            Err(e) => Err(e),
+        }
+    }
+
+    // A byte, or a sequence that ESC begins, in ground.
+    #[inline(always)]
+    fn take_control<V: Taker>(
+        &mut self,
+        limit: Option<usize>,
+        rest: &[u8],
+        actor: &mut V,
+    ) -> Result<usize>
+        requires some { 0 < length rest.now }
+        requires ready { V.is_ready actor.old }
+        ensures { ConsumesSome K.Store V.Taker limit result rest.now self actor }
+    {
+        if rest[0] == 0x1b && rest.len() > 2 {
+            self.take_escape(limit, rest, actor)
+        } else {
+            self.take_one_in_ground(rest, actor)
+        }
+    }
+
+    /// One byte in ground.
+    #[inline(always)]
+    pub fn take_one_in_ground<V: Taker>(&mut self, rest: &[u8], actor: &mut V) -> Result<usize>
+        requires some { 0 < length rest.now }
+        requires ready { V.is_ready actor.old }
+        ensures { (limit : Option ℕ)
+            → ConsumesSome K.Store V.Taker limit result rest.now self actor }
+    {
+        match self.in_ground(rest[0], classify(rest[0]), actor) {
+            Ok(()) => Ok(1),
+            Err(e) => Err(e),
+        }
+    }
+}

@@ -1,0 +1,464 @@
+//! The machine in operating system commands.
+#![tactic(auto)]
+
+ghost use Rattle.std.specs.Prelude.{◌≡◌, ◌≤◌, ◌<◌, List, [], ◌+◌, true, false, not, length, take, slice_index, OnOk, IsTrue};
+ghost use Rattle.esc_frame.specs.Classes.{class_of};
+ghost use Rattle.esc_frame.specs.Limits.{has_few_parts};
+ghost use Rattle.esc_frame.specs.Machine.Calls.{Quietly, Stops};
+ghost use Rattle.esc_frame.specs.Machine.Prefixes.{prefix_of};
+ghost use Rattle.esc_frame.specs.Machine.Keeping.{Unborrowed, KeepingText, KeepingOsc, KeepingOscAnd, KeepingOscPending, FreshOsc, AnyOsc};
+ghost use Rattle.esc_frame.specs.Machine.Makes.{Emits, Makes, AlwaysMakes, Consumes, ConsumesSome, Advances};
+ghost use Rattle.esc_frame.specs.Machine.Moves.{emitting, ground_move, pair_move, osc_pending_move, osc_left, ends_osc, move};
+ghost use Rattle.esc_frame.specs.Machine.TextRuns.{IsTextRun};
+ghost use Rattle.esc_frame.specs.Segments.{Opener, Piece, text_of, osc_events};
+ghost use Rattle.esc_frame.specs.Sequences.{is_from, outcome};
+
+use crate::classes::{Class, Kind, classify};
+use crate::machine::{Machine, Result, State};
+use crate::runs::scans::units_run;
+use crate::taker::Taker;
+use crate::unfinished::count::fits;
+use crate::unfinished::store::Store;
+use crate::utf8::sequence::{Outcome, Pending, lies_from};
+use std::alloc::Allocator;
+
+impl<K: Store, A: Allocator> Machine<K, A> {
+    /// A byte after an OSC's units, with nothing pending.
+    #[tactic(auto, using(crate::proofs::Given::takes_moved))]
+    pub fn in_osc<V: Taker>(
+        &mut self,
+        limit: Option<usize>,
+        b: u8,
+        class: Class,
+        actor: &mut V,
+    ) -> Result<()>
+        requires { V.is_ready actor.old }
+        ensures moved { class ≡ class_of b → KeepingOsc K.Store limit self (λ u.
+            Makes K.Store V.Taker limit true result (move limit u b class) self actor) }
+        ensures ready { OnOk result (V.is_ready actor.new) }
+    {
+        self.state = State::Osc;
+        self.pending = Pending::Nothing;
+        match class {
+            Class::Breaks(_) => self.leave_osc(b, class, actor),
+            Class::Bell => {
+                self.state = State::Ground;
+                emit_osc(&self.text, &self.alloc, actor)
+            }
+            Class::C0 | Class::High => Ok(()),
+            Class::Lead => {
+                self.pending = Pending::One(b);
+                Ok(())
+            }
+            Class::Intermediate
+            | Class::Parameter
+            | Class::Introducer(_)
+            | Class::Final
+            | Class::Delete => { self.text.push(limit, &[b]) }
+        }
+    }
+
+    /// A byte after a prefix of a sequence, in an OSC.
+    pub fn in_osc_pending<V: Taker>(
+        &mut self,
+        limit: Option<usize>,
+        b: u8,
+        class: Class,
+        actor: &mut V,
+    ) -> Result<()>
+        requires { V.is_ready actor.old }
+        ensures moved { class ≡ class_of b → KeepingOscPending K.Store limit self (λ u.
+            Makes K.Store V.Taker limit true result (move limit u b class) self actor) }
+        ensures ready { OnOk result (V.is_ready actor.new) }
+    {
+        match self.pending.outcome(b) {
+            Outcome::Whole => self.whole_in_osc(limit, b, class, actor),
+            Outcome::More => {
+                self.state = State::Osc;
+                self.pending = self.pending.with(b);
+                Ok(())
+            }
+            Outcome::Broken => match self.text.push(limit, &[0xef, 0xbf, 0xbd]) {
+                Ok(()) => self.in_osc(limit, b, class, actor),
+                Err(e) => Err(e),
+            },
+        }
+    }
+
+    // A byte that completes a sequence in an OSC.
+    fn whole_in_osc<V: Taker>(
+        &mut self,
+        limit: Option<usize>,
+        b: u8,
+        class: Class,
+        actor: &mut V,
+    ) -> Result<()>
+        requires { V.is_ready actor.old }
+        ensures moved { (o : Opener) (ps : List Piece) → K.keeps limit self.old.text (text_of ps)
+            → Makes K.Store V.Taker limit true result
+            (osc_pending_move limit o ps (prefix_of self.old.pending) b class Outcome.Whole)
+            self actor }
+        ensures ready { OnOk result (V.is_ready actor.new) }
+    {
+        if self.pending.pairs_with(b) {
+            self.leave_osc_by_pair(b, class, actor)
+        } else {
+            let pending = self.pending;
+            self.state = State::Osc;
+            self.pending = Pending::Nothing;
+            pending.put(limit, &mut self.text, b)
+        }
+    }
+
+    // A breaker after an OSC.
+    fn leave_osc<V: Taker>(&mut self, b: u8, class: Class, actor: &mut V) -> Result<()>
+        requires { V.is_ready actor.old }
+        ensures moved { KeepingText K.Store self.old.text (λ limit t.
+            Makes K.Store V.Taker limit true result
+            (emitting (osc_events limit t) (ground_move b class)) self actor) }
+        ensures ready { OnOk result (V.is_ready actor.new) }
+    {
+        match emit_osc(&self.text, &self.alloc, actor) {
+            Ok(()) => self.in_ground(b, class, actor),
+            Err(e) => Err(e),
+        }
+    }
+
+    // A control after C2, in an OSC.
+    fn leave_osc_by_pair<V: Taker>(&mut self, b: u8, class: Class, actor: &mut V) -> Result<()>
+        requires { V.is_ready actor.old }
+        ensures moved { KeepingText K.Store self.old.text (λ limit t.
+            Makes K.Store V.Taker limit true result
+            (emitting (osc_events limit t) (pair_move b class)) self actor) }
+        ensures ready { OnOk result (V.is_ready actor.new) }
+    {
+        match emit_osc(&self.text, &self.alloc, actor) {
+            Ok(()) => self.in_pair(b, class, actor),
+            Err(e) => Err(e),
+        }
+    }
+
+    /// An operating system command, up to its end or what else its text does not keep as it is.
+    #[inline(always)]
+    pub fn take_osc<V: Taker>(
+        &mut self,
+        limit: Option<usize>,
+        rest: &[u8],
+        actor: &mut V,
+    ) -> Result<usize>
+        requires some { 2 < length rest.now }
+        requires escape { slice_index rest.now 0 ≡ 0x1b }
+        requires bracket { slice_index rest.now 1 ≡ 0x5d }
+        requires ready { V.is_ready actor.old }
+        ensures { ConsumesSome K.Store V.Taker limit result rest.now self actor }
+    {
+        match self.take_body(limit, &rest[2..], actor) {
+            Ok(n) => Ok(2 + n),
+            Err(e) => Err(e),
+        }
+    }
+
+    // What follows the opener, or else no byte that counts: a text that ends in these bytes is lent
+    // to the actor from there, any other is kept.
+    #[inline(always)]
+    fn take_body<V: Taker>(
+        &mut self,
+        limit: Option<usize>,
+        rest: &[u8],
+        actor: &mut V,
+    ) -> Result<usize>
+        requires some { 0 < length rest.now }
+        requires ready { V.is_ready actor.old }
+        ensures took { FreshOsc (λ u.
+            Consumes K.Store V.Taker limit result u rest.now self actor) }
+        ensures quiet { AnyOsc (λ u. Quietly limit result u rest.now) }
+        ensures count { Advances V.Taker result rest.now actor }
+    {
+        let run = units_run(rest);
+        if run == rest.len() {
+            return self.keep_body(limit, rest, run, actor);
+        }
+        let class = classify(rest[run]);
+        if ends_osc(class) {
+            return self.take_borrowed(limit, rest, run, class, actor);
+        }
+        if is_pair_at(rest, run) {
+            self.take_borrowed_by_pair(limit, rest, run, actor)
+        } else {
+            self.keep_body(limit, rest, run, actor)
+        }
+    }
+
+    // A text that is kept from its first byte on.
+    fn keep_body<V: Taker>(
+        &mut self,
+        limit: Option<usize>,
+        rest: &[u8],
+        run: usize,
+        actor: &mut V,
+    ) -> Result<usize>
+        requires some { 0 < length rest.now }
+        requires few { run ≤ length rest.now }
+        requires passes { IsTextRun (take run rest.now) }
+        requires ready { V.is_ready actor.old }
+        ensures took { FreshOsc (Unborrowed rest.now (λ u.
+            Consumes K.Store V.Taker limit result u rest.now self actor)) }
+        ensures quiet { AnyOsc (λ u. Quietly limit result u rest.now) }
+        ensures count { Advances V.Taker result rest.now actor }
+    {
+        self.open(Kind::Osc);
+        self.take_units(limit, rest, run, actor)
+    }
+
+    // A text, and the byte of this class that ends it.
+    #[inline(always)]
+    fn take_borrowed<V: Taker>(
+        &mut self,
+        limit: Option<usize>,
+        rest: &[u8],
+        run: usize,
+        class: Class,
+        actor: &mut V,
+    ) -> Result<usize>
+        requires few { run < length rest.now }
+        requires passes { IsTextRun (take run rest.now) }
+        requires class { class ≡ class_of (slice_index rest.now run) }
+        requires ends { ends_osc class ≡ true }
+        requires ready { V.is_ready actor.old }
+        ensures took { FreshOsc (λ u.
+            Consumes K.Store V.Taker limit result u rest.now self actor) }
+        ensures quiet { AnyOsc (λ u. Quietly limit result u rest.now) }
+        ensures count { Advances V.Taker result rest.now actor }
+    {
+        match self.end_borrowed(limit, &rest[..run], rest[run], class, actor) {
+            Ok(()) => Ok(run + 1),
+            Err(e) => Err(e),
+        }
+    }
+
+    // A text, and the control after C2 that ends it.
+    #[inline(never)]
+    fn take_borrowed_by_pair<V: Taker>(
+        &mut self,
+        limit: Option<usize>,
+        rest: &[u8],
+        run: usize,
+        actor: &mut V,
+    ) -> Result<usize>
+        requires few { run + 1 < length rest.now }
+        requires passes { IsTextRun (take run rest.now) }
+        requires lead { slice_index rest.now run ≡ 0xc2 }
+        requires control { is_from 0x80 0x9f (slice_index rest.now (run + 1)) ≡ true }
+        requires ready { V.is_ready actor.old }
+        ensures took { FreshOsc (λ u.
+            Consumes K.Store V.Taker limit result u rest.now self actor) }
+        ensures quiet { AnyOsc (λ u. Quietly limit result u rest.now) }
+        ensures count { Advances V.Taker result rest.now actor }
+    {
+        match self.end_borrowed_by_pair(limit, &rest[..run], rest[run + 1], actor) {
+            Ok(()) => Ok(run + 2),
+            Err(e) => Err(e),
+        }
+    }
+
+    // What ends a command whose text is lent.
+    #[inline(always)]
+    fn end_borrowed<V: Taker>(
+        &mut self,
+        limit: Option<usize>,
+        text: &[u8],
+        b: u8,
+        class: Class,
+        actor: &mut V,
+    ) -> Result<()>
+        requires { V.is_ready actor.old }
+        ensures moved { Makes K.Store V.Taker limit (not (has_few_parts text.now)) result
+            (emitting (osc_events limit text.now) (osc_left b class)) self actor }
+        ensures ready { OnOk result (V.is_ready actor.new) }
+    {
+        match emit_borrowed(limit, &self.alloc, text, actor) {
+            Ok(()) => self.leave_borrowed(b, class, actor),
+            Err(e) => Err(e),
+        }
+    }
+
+    // A control after C2 that ends a command whose text is lent.
+    fn end_borrowed_by_pair<V: Taker>(
+        &mut self,
+        limit: Option<usize>,
+        text: &[u8],
+        b: u8,
+        actor: &mut V,
+    ) -> Result<()>
+        requires { V.is_ready actor.old }
+        ensures moved { Makes K.Store V.Taker limit (not (has_few_parts text.now)) result
+            (emitting (osc_events limit text.now) (pair_move b (class_of b))) self actor }
+        ensures ready { OnOk result (V.is_ready actor.new) }
+    {
+        match emit_borrowed(limit, &self.alloc, text, actor) {
+            Ok(()) => self.in_pair(b, classify(b), actor),
+            Err(e) => Err(e),
+        }
+    }
+
+    // A bell, or a breaker.
+    fn leave_borrowed<V: Taker>(&mut self, b: u8, class: Class, actor: &mut V) -> Result<()>
+        requires { V.is_ready actor.old }
+        ensures moved { AlwaysMakes K.Store V.Taker result (osc_left b class) self actor }
+        ensures ready { OnOk result (V.is_ready actor.new) }
+    {
+        if let Class::Bell = class {
+            self.state = State::Ground;
+            self.pending = Pending::Nothing;
+            Ok(())
+        } else {
+            self.leave_string(b, class, actor)
+        }
+    }
+
+    /// The units that an operating system command keeps as they are, and the byte after them.
+    #[inline(never)]
+    pub fn take_in_osc<V: Taker>(
+        &mut self,
+        limit: Option<usize>,
+        rest: &[u8],
+        actor: &mut V,
+    ) -> Result<usize>
+        requires some { 0 < length rest.now }
+        requires ready { V.is_ready actor.old }
+        requires state { self.old.state ≡ State.Osc }
+        requires whole { prefix_of self.old.pending ≡ [] }
+        ensures took { KeepingOsc K.Store limit self (λ u.
+            Consumes K.Store V.Taker limit result u rest.now self actor) }
+        ensures quiet { AnyOsc (λ u. Quietly limit result u rest.now) }
+        ensures count { Advances V.Taker result rest.now actor }
+    {
+        if self.text.is_new() {
+            return self.take_body(limit, rest, actor);
+        }
+        let run = units_run(rest);
+        self.take_units(limit, rest, run, actor)
+    }
+
+    // A run of units, which is kept, and the byte after them.
+    #[inline(always)]
+    fn take_units<V: Taker>(
+        &mut self,
+        limit: Option<usize>,
+        rest: &[u8],
+        run: usize,
+        actor: &mut V,
+    ) -> Result<usize>
+        requires some { 0 < length rest.now }
+        requires few { run ≤ length rest.now }
+        requires passes { IsTextRun (take run rest.now) }
+        requires ready { V.is_ready actor.old }
+        requires state { self.old.state ≡ State.Osc }
+        requires whole { prefix_of self.old.pending ≡ [] }
+        ensures took { KeepingOsc K.Store limit self (Unborrowed rest.now (λ u.
+            Consumes K.Store V.Taker limit result u rest.now self actor)) }
+        ensures quiet { AnyOsc (λ u. Quietly limit result u rest.now) }
+        ensures count { Advances V.Taker result rest.now actor }
+    {
+        match self.text.push(limit, &rest[..run]) {
+            Ok(()) => self.take_after_text(limit, rest, run, actor),
+            Err(e) => Err(e),
+        }
+    }
+
+    // The byte after units of an operating system command that were kept.
+    #[inline(always)]
+    fn take_after_text<V: Taker>(
+        &mut self,
+        limit: Option<usize>,
+        rest: &[u8],
+        run: usize,
+        actor: &mut V,
+    ) -> Result<usize>
+        requires some { 0 < length rest.now }
+        requires few { run ≤ length rest.now }
+        requires passes { IsTextRun (take run rest.now) }
+        requires ready { V.is_ready actor.old }
+        requires state { self.old.state ≡ State.Osc }
+        requires whole { prefix_of self.old.pending ≡ [] }
+        ensures took { KeepingOscAnd K.Store limit (take run rest.now) self
+            (Unborrowed rest.now (λ u.
+            Consumes K.Store V.Taker limit result u rest.now self actor)) }
+        ensures quiet { AnyOsc (λ u. Quietly limit result u rest.now) }
+        ensures count { Advances V.Taker result rest.now actor }
+    {
+        if run == rest.len() {
+            return Ok(run);
+        }
+        match self.in_osc(limit, rest[run], classify(rest[run]), actor) {
+            Ok(()) => Ok(run + 1),
+            Err(e) => Err(e),
+        }
+    }
+}
+
+// Whether a byte of this class ends an operating system command.
+#[inline(always)]
+fn ends_osc(class: Class) -> bool
+    ensures { result ≡ ends_osc class }
+{
+    match class {
+        Class::Bell | Class::Breaks(_) => true,
+        Class::C0
+        | Class::High
+        | Class::Lead
+        | Class::Intermediate
+        | Class::Parameter
+        | Class::Introducer(_)
+        | Class::Final
+        | Class::Delete => false,
+    }
+}
+
+// Whether C2 and a control after it come there.
+#[inline(always)]
+fn is_pair_at(rest: &[u8], at: usize) -> bool
+    requires { at < length rest.now }
+    ensures some { IsTrue result
+        → (at + 1 < length rest.now) × (slice_index rest.now at ≡ 0xc2)
+        × (is_from 0x80 0x9f (slice_index rest.now (at + 1)) ≡ true) }
+    ensures none { result ≡ false → at + 1 < length rest.now → slice_index rest.now at ≡ 0xc2
+        → is_from 0x80 0x9f (slice_index rest.now (at + 1)) ≡ false }
+{
+    rest[at] == 0xc2 && rest.len() - at > 1 && lies_from(0x80, 0x9f, rest[at + 1])
+}
+
+// A lent text, emitted where it is within the limit.
+#[inline(always)]
+fn emit_borrowed<A: Allocator, V: Taker>(
+    limit: Option<usize>,
+    alloc: &A,
+    text: &[u8],
+    actor: &mut V,
+) -> Result<()>
+    requires { V.is_ready actor.old }
+    ensures emitted { Emits V.Taker ((not (has_few_parts text.now) ≡ true)
+        × Stops V.stops A limit) result
+        (osc_events limit text.now) actor }
+    ensures ready { OnOk result (V.is_ready actor.new) }
+{
+    if fits(limit, 0, text.len()) {
+        actor.osc_text(alloc, text)
+    } else {
+        Ok(())
+    }
+}
+
+// The text of an operating system command, emitted where it is within the limit.
+fn emit_osc<K: Store, A: Allocator, V: Taker>(text: &K, alloc: &A, actor: &mut V) -> Result<()>
+    requires { V.is_ready actor.old }
+    ensures emitted { KeepingText K.Store text.now (λ limit t.
+        Emits V.Taker (Stops V.stops A limit) result (osc_events limit t) actor) }
+    ensures ready { OnOk result (V.is_ready actor.new) }
+{
+    if text.is_over() {
+        Ok(())
+    } else {
+        actor.osc_text(alloc, text.bytes())
+    }
+}

@@ -1,0 +1,288 @@
+//! The machine in application program commands, and in what is passed over: SOS and PM strings, and
+//! device control strings whose header has another form.
+#![tactic(auto)]
+
+ghost use Rattle.std.specs.Prelude.{◌≡◌, ◌≤◌, ◌<◌, Bool, true, false, length, take, slice_index, OnOk};
+ghost use Rattle.std.specs.List.{list_all};
+ghost use Rattle.esc_frame.specs.Classes.{class_of, is_breaker};
+ghost use Rattle.esc_frame.specs.Machine.Calls.{Quietly};
+ghost use Rattle.esc_frame.specs.Machine.Keeping.{Holding, Unborrowed, KeepingText, KeepingApc, KeepingApcAnd, FreshApc, AnyApc, InDcsIgnore, InIgnoredString};
+ghost use Rattle.esc_frame.specs.Machine.Makes.{Emits, Makes, Consumes, Advances};
+ghost use Rattle.esc_frame.specs.Machine.Moves.{emitting, ground_move, move};
+ghost use Rattle.esc_frame.specs.Scans.{is_text_byte};
+ghost use Rattle.esc_frame.specs.Segments.{apc_events};
+
+use crate::classes::{Class, classify};
+use crate::machine::{Machine, Result, State};
+use crate::runs::scans::ascii_run;
+use crate::taker::Taker;
+use crate::unfinished::count::fits;
+use crate::unfinished::store::Store;
+use std::alloc::Allocator;
+
+impl<K: Store, A: Allocator> Machine<K, A> {
+    /// A byte of an APC.
+    pub fn in_apc<V: Taker>(
+        &mut self,
+        limit: Option<usize>,
+        b: u8,
+        class: Class,
+        actor: &mut V,
+    ) -> Result<()>
+        requires { V.is_ready actor.old }
+        ensures moved { class ≡ class_of b → KeepingApc K.Store limit self (λ u.
+            Makes K.Store V.Taker limit true result (move limit u b class) self actor) }
+        ensures ready { OnOk result (V.is_ready actor.new) }
+    {
+        self.state = State::Apc;
+        match class {
+            Class::Breaks(_) => self.leave_apc(b, class, actor),
+            Class::C0 | Class::Bell | Class::High | Class::Lead => Ok(()),
+            Class::Delete
+            | Class::Intermediate
+            | Class::Parameter
+            | Class::Introducer(_)
+            | Class::Final => { self.text.push(limit, &[b]) }
+        }
+    }
+
+    // A breaker after an APC.
+    fn leave_apc<V: Taker>(&mut self, b: u8, class: Class, actor: &mut V) -> Result<()>
+        requires { V.is_ready actor.old }
+        ensures moved { KeepingText K.Store self.old.text (λ limit t.
+            Makes K.Store V.Taker limit true result
+            (emitting (apc_events limit t) (ground_move b class)) self actor) }
+        ensures ready { OnOk result (V.is_ready actor.new) }
+    {
+        match emit_apc(&self.text, actor) {
+            Ok(()) => self.in_ground(b, class, actor),
+            Err(e) => Err(e),
+        }
+    }
+
+    /// A byte that is passed over, but for a breaker.
+    pub fn in_ignored<V: Taker>(&mut self, b: u8, class: Class, actor: &mut V) -> Result<()>
+        requires { V.is_ready actor.old }
+        ensures ignored { InIgnoredString (λ limit u.
+            Makes K.Store V.Taker limit true result (move limit u b class) self actor) }
+        ensures data { InDcsIgnore (λ limit u.
+            Makes K.Store V.Taker limit true result (move limit u b class) self actor) }
+        ensures ready { OnOk result (V.is_ready actor.new) }
+    {
+        self.state = State::Ignored;
+        match class {
+            Class::Breaks(_) => self.in_ground(b, class, actor),
+            Class::Delete
+            | Class::C0
+            | Class::Bell
+            | Class::High
+            | Class::Lead
+            | Class::Intermediate
+            | Class::Parameter
+            | Class::Introducer(_)
+            | Class::Final => Ok(()),
+        }
+    }
+
+    /// The run of 20-7F in an application program command, and the byte after it: a text that
+    /// begins and ends in these bytes is lent to the actor from there, any other is kept.
+    #[inline(always)]
+    pub fn take_in_apc<V: Taker>(
+        &mut self,
+        limit: Option<usize>,
+        rest: &[u8],
+        actor: &mut V,
+    ) -> Result<usize>
+        requires some { 0 < length rest.now }
+        requires ready { V.is_ready actor.old }
+        requires state { self.old.state ≡ State.Apc }
+        ensures took { KeepingApc K.Store limit self (λ u.
+            Consumes K.Store V.Taker limit result u rest.now self actor) }
+        ensures quiet { AnyApc (λ u. Quietly limit result u rest.now) }
+        ensures count { Advances V.Taker result rest.now actor }
+    {
+        let run = ascii_run(rest);
+        if run == rest.len() {
+            return self.keep_apc(limit, rest, run, actor);
+        }
+        if !self.text.is_new() {
+            return self.keep_apc(limit, rest, run, actor);
+        }
+        let class = classify(rest[run]);
+        if is_breaker(class) {
+            self.take_borrowed_apc(limit, rest, run, class, actor)
+        } else {
+            self.keep_apc(limit, rest, run, actor)
+        }
+    }
+
+    // A run in an application program command, which is kept, and the byte after it.
+    fn keep_apc<V: Taker>(
+        &mut self,
+        limit: Option<usize>,
+        rest: &[u8],
+        run: usize,
+        actor: &mut V,
+    ) -> Result<usize>
+        requires some { 0 < length rest.now }
+        requires few { run ≤ length rest.now }
+        requires passes { list_all is_text_byte (take run rest.now) ≡ true }
+        requires ready { V.is_ready actor.old }
+        requires state { self.old.state ≡ State.Apc }
+        ensures took { KeepingApc K.Store limit self (Unborrowed rest.now (λ u.
+            Consumes K.Store V.Taker limit result u rest.now self actor)) }
+        ensures quiet { AnyApc (λ u. Quietly limit result u rest.now) }
+        ensures count { Advances V.Taker result rest.now actor }
+    {
+        match self.text.push(limit, &rest[..run]) {
+            Ok(()) => self.take_after_apc(limit, rest, run, actor),
+            Err(e) => Err(e),
+        }
+    }
+
+    // The byte after a run in an application program command that was kept.
+    #[inline(always)]
+    fn take_after_apc<V: Taker>(
+        &mut self,
+        limit: Option<usize>,
+        rest: &[u8],
+        run: usize,
+        actor: &mut V,
+    ) -> Result<usize>
+        requires some { 0 < length rest.now }
+        requires few { run ≤ length rest.now }
+        requires passes { list_all is_text_byte (take run rest.now) ≡ true }
+        requires ready { V.is_ready actor.old }
+        requires state { self.old.state ≡ State.Apc }
+        ensures took { KeepingApcAnd K.Store limit (take run rest.now) self
+            (Unborrowed rest.now (λ u.
+            Consumes K.Store V.Taker limit result u rest.now self actor)) }
+        ensures quiet { AnyApc (λ u. Quietly limit result u rest.now) }
+        ensures count { Advances V.Taker result rest.now actor }
+    {
+        if run == rest.len() {
+            return Ok(run);
+        }
+        match self.in_apc(limit, rest[run], classify(rest[run]), actor) {
+            Ok(()) => Ok(run + 1),
+            Err(e) => Err(e),
+        }
+    }
+
+    // A text, and the breaker of this class that ends it.
+    #[inline(always)]
+    fn take_borrowed_apc<V: Taker>(
+        &mut self,
+        limit: Option<usize>,
+        rest: &[u8],
+        run: usize,
+        class: Class,
+        actor: &mut V,
+    ) -> Result<usize>
+        requires few { run < length rest.now }
+        requires passes { list_all is_text_byte (take run rest.now) ≡ true }
+        requires class { class ≡ class_of (slice_index rest.now run) }
+        requires ends { is_breaker class ≡ true }
+        requires ready { V.is_ready actor.old }
+        ensures took { FreshApc (λ u.
+            Consumes K.Store V.Taker limit result u rest.now self actor) }
+        ensures quiet { AnyApc (λ u. Quietly limit result u rest.now) }
+        ensures count { Advances V.Taker result rest.now actor }
+    {
+        match self.end_borrowed_apc(limit, &rest[..run], rest[run], class, actor) {
+            Ok(()) => Ok(run + 1),
+            Err(e) => Err(e),
+        }
+    }
+
+    // A breaker after an application program command whose text is lent.
+    fn end_borrowed_apc<V: Taker>(
+        &mut self,
+        limit: Option<usize>,
+        text: &[u8],
+        b: u8,
+        class: Class,
+        actor: &mut V,
+    ) -> Result<()>
+        requires { V.is_ready actor.old }
+        ensures moved { (own : Bool)
+            → Makes K.Store V.Taker limit own result
+            (emitting (apc_events limit text.now) (ground_move b class)) self actor }
+        ensures ready { OnOk result (V.is_ready actor.new) }
+    {
+        match emit_borrowed_apc(limit, text, actor) {
+            Ok(()) => self.leave_string(b, class, actor),
+            Err(e) => Err(e),
+        }
+    }
+
+    /// The run of 20-7F in what is passed over.
+    #[inline(always)]
+    pub fn take_in_ignored<V: Taker>(
+        &mut self,
+        limit: Option<usize>,
+        rest: &[u8],
+        actor: &mut V,
+    ) -> Result<usize>
+        requires some { 0 < length rest.now }
+        requires ready { V.is_ready actor.old }
+        requires state { self.old.state ≡ State.Ignored }
+        ensures took { Holding K.Store limit self (λ u.
+            Consumes K.Store V.Taker limit result u rest.now self actor) }
+        ensures quiet { Holding K.Store limit self (λ u. Quietly limit result u rest.now) }
+        ensures count { Advances V.Taker result rest.now actor }
+    {
+        let run = ascii_run(rest);
+        if run == 0 {
+            return self.take_one(limit, rest, actor);
+        }
+        Ok(run)
+    }
+}
+
+// Whether a byte of this class breaks off a string.
+#[inline(always)]
+fn is_breaker(class: Class) -> bool
+    ensures { result ≡ is_breaker class }
+{
+    match class {
+        Class::Breaks(_) => true,
+        Class::C0
+        | Class::Bell
+        | Class::High
+        | Class::Lead
+        | Class::Intermediate
+        | Class::Parameter
+        | Class::Introducer(_)
+        | Class::Final
+        | Class::Delete => false,
+    }
+}
+
+// A lent text, emitted where it is within the limit.
+fn emit_borrowed_apc<V: Taker>(limit: Option<usize>, text: &[u8], actor: &mut V) -> Result<()>
+    requires { V.is_ready actor.old }
+    ensures emitted { Emits V.Taker ⊥ result (apc_events limit text.now) actor }
+    ensures ready { OnOk result (V.is_ready actor.new) }
+{
+    if fits(limit, 0, text.len()) {
+        actor.apc_dispatch(text)
+    } else {
+        Ok(())
+    }
+}
+
+// The text of an APC, emitted where it is within the limit.
+#[tactic(auto, using(crate::proofs::Given::receives_takes))]
+fn emit_apc<K: Store, V: Taker>(text: &K, actor: &mut V) -> Result<()>
+    requires { V.is_ready actor.old }
+    ensures emitted { KeepingText K.Store text.now (λ limit t.
+        Emits V.Taker ⊥ result (apc_events limit t) actor) }
+    ensures ready { OnOk result (V.is_ready actor.new) }
+{
+    if text.is_over() {
+        Ok(())
+    } else {
+        actor.apc_dispatch(text.bytes())
+    }
+}

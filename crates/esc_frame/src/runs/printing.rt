@@ -1,0 +1,312 @@
+//! Characters and controls in ground.
+#![tactic(auto)]
+
+ghost use Rattle.std.specs.Prelude.{◌≢◌, ◌<◌, ◌≤◌, ℕ, Option, length, take, slice_index, IfSome, IsSome};
+ghost use Rattle.esc_frame.specs.Events.Event.{Execute, Print};
+ghost use Rattle.esc_frame.specs.Machine.Calls.{Quietly, EmitsOne};
+ghost use Rattle.esc_frame.specs.Machine.Characters.{IsAhead};
+ghost use Rattle.esc_frame.specs.Leads.Unfinished.{Ground};
+ghost use Rattle.esc_frame.specs.Machine.Makes.{StaysInGround};
+ghost use Rattle.esc_frame.specs.Machine.Moves.{IsStill};
+
+use crate::machine::Result;
+use crate::runs::scans::{ascii_run, free_run};
+use crate::taker::Taker;
+use crate::utf8::sequence::{ahead, of_four, of_three, of_two};
+
+/// The character that comes first and is whole, and its length; `None` where there is none, or
+/// where that is not seen at once: fewer than three bytes follow a first byte from 80 on.
+#[inline(always)]
+pub fn first_char(rest: &[u8]) -> Option<(char, usize)>
+    ensures count { IfSome result (λ x. (0 < x.1) × (x.1 ≤ length rest.now)) }
+    ensures prints { IfSome result (λ x. EmitsOne (take x.1 rest.now) (Print x.0)) }
+    ensures quiet { (limit : Option ℕ) → IfSome result (λ x. IsStill limit Ground rest.now x.1) }
+    ensures text { 0 < length rest.now → 0x20 ≤ slice_index rest.now 0
+        → slice_index rest.now 0 < 0x80 → IsSome result }
+{
+    if rest.is_empty() {
+        return None;
+    }
+    if rest[0] < 0x20 {
+        None
+    } else if rest[0] < 0x80 {
+        Some((rest[0] as char, 1))
+    } else {
+        first_wide(rest)
+    }
+}
+
+/// The control that comes first: 00 to 1F, but not ESC.
+#[inline(always)]
+pub fn first_control(rest: &[u8]) -> Option<u8>
+    ensures count { IfSome result (λ b. 0 < length rest.now) }
+    ensures executes { IfSome result (λ b. EmitsOne (take 1 rest.now) (Execute b)) }
+    ensures control { 0 < length rest.now → slice_index rest.now 0 < 0x20
+        → slice_index rest.now 0 ≢ 0x1b → IsSome result }
+{
+    if rest.is_empty() {
+        return None;
+    }
+    if rest[0] < 0x20 && rest[0] != 0x1b {
+        Some(rest[0])
+    } else {
+        None
+    }
+}
+
+/// The control that comes first.
+#[inline(always)]
+pub fn execute_one<V: Taker>(rest: &[u8], actor: &mut V) -> Result<usize>
+    requires some { 0 < length rest.now }
+    requires low { slice_index rest.now 0 < 0x20 }
+    requires other { slice_index rest.now 0 ≢ 0x1b }
+    requires ready { V.is_ready actor.old }
+    ensures { StaysInGround V.Taker result rest.now actor }
+{
+    match actor.execute_c0_or_c1(rest[0]) {
+        Ok(()) => Ok(1),
+        Err(e) => Err(e),
+    }
+}
+
+#[inline(always)]
+fn first_wide(rest: &[u8]) -> Option<(char, usize)>
+    ensures count { IfSome result (λ x. (0 < x.1) × (x.1 ≤ length rest.now)) }
+    ensures prints { IfSome result (λ x. EmitsOne (take x.1 rest.now) (Print x.0)) }
+    ensures quiet { (limit : Option ℕ) → IfSome result (λ x. IsStill limit Ground rest.now x.1) }
+{
+    let (n, c) = ahead(rest);
+    if n == 0 { None } else { Some((c, n)) }
+}
+
+/// The character that comes first, where it is whole; else nothing.
+#[inline(always)]
+pub fn print_first<V: Taker>(rest: &[u8], actor: &mut V) -> Result<usize>
+    requires { V.is_ready actor.old }
+    ensures stays { StaysInGround V.Taker result rest.now actor }
+    ensures quiet { (limit : Option ℕ) → Quietly limit result Ground rest.now }
+{
+    match first_char(rest) {
+        Some((c, n)) => match actor.print(c) {
+            Ok(()) => Ok(n),
+            Err(e) => Err(e),
+        },
+        None => Ok(0),
+    }
+}
+
+/// A run of text, or sequences, that come first.
+#[inline(always)]
+pub fn print_one<V: Taker>(rest: &[u8], actor: &mut V) -> Result<usize>
+    requires some { 0 < length rest.now }
+    requires ready { V.is_ready actor.old }
+    ensures { StaysInGround V.Taker result rest.now actor }
+{
+    if rest[0] < 0x20 {
+        Ok(0)
+    } else if rest[0] < 0x80 {
+        print_text(rest, actor)
+    } else {
+        print_long(rest, actor)
+    }
+}
+
+// A long run of text as it is; or the sequences that come first, where it is short or not
+// well-formed. A stream that is not UTF-8 mostly shows that at once. It is out of the way of the
+// code for plain text.
+#[inline(never)]
+fn print_long<V: Taker>(rest: &[u8], actor: &mut V) -> Result<usize>
+    requires { V.is_ready actor.old }
+    ensures { StaysInGround V.Taker result rest.now actor }
+{
+    if ahead(rest).0 == 0 {
+        return Ok(0);
+    }
+    let run = free_run(rest);
+    if run < 24 {
+        return print_wides(rest, actor);
+    }
+    match simdutf8::basic::from_utf8(&rest[..run]) {
+        Ok(text) => match actor.print_str(text) {
+            Ok(()) => Ok(run),
+            Err(e) => Err(e),
+        },
+        Err(_) => print_wides(rest, actor),
+    }
+}
+
+// The sequences that come first, and short runs of text between them; a longer run is left.
+#[inline(always)]
+fn print_wides<V: Taker>(rest: &[u8], actor: &mut V) -> Result<usize>
+    requires { V.is_ready actor.old }
+    ensures { StaysInGround V.Taker result rest.now actor }
+{
+    let mut at = 0;
+    while rest.len() - at >= 8 {
+        match print_wide(&rest[at..], actor) {
+            Ok(0) => return Ok(at),
+            Ok(n) => at += n,
+            Err(e) => return Err(e),
+        }
+    }
+    Ok(at)
+}
+
+// Sequences that come first, or text that a sequence follows soon.
+#[inline(always)]
+fn print_wide<V: Taker>(rest: &[u8], actor: &mut V) -> Result<usize>
+    requires some { 8 ≤ length rest.now }
+    requires ready { V.is_ready actor.old }
+    ensures { StaysInGround V.Taker result rest.now actor }
+{
+    if rest[0] < 0x80 {
+        if (rest[1] | rest[3] | rest[5] | rest[7]) < 0x80 {
+            Ok(0)
+        } else {
+            print_lones(rest, actor)
+        }
+    } else if rest[0] < 0xe0 {
+        print_twos(rest, actor)
+    } else if rest[0] < 0xf0 {
+        print_threes(rest, actor)
+    } else {
+        let (n, c) = of_four(rest[0], rest[1], rest[2], rest[3]);
+        print_ahead(rest, n, c, actor)
+    }
+}
+
+// The bytes of text that come first, one at a time.
+#[inline(always)]
+fn print_lones<V: Taker>(rest: &[u8], actor: &mut V) -> Result<usize>
+    requires { V.is_ready actor.old }
+    ensures { StaysInGround V.Taker result rest.now actor }
+{
+    let mut at = 0;
+    while rest.len() - at >= 1 {
+        match print_lone(&rest[at..], actor) {
+            Ok(0) => return Ok(at),
+            Ok(n) => at += n,
+            Err(e) => return Err(e),
+        }
+    }
+    Ok(at)
+}
+
+// The sequences of two bytes that come first, and single bytes of text between them.
+#[inline(always)]
+fn print_twos<V: Taker>(rest: &[u8], actor: &mut V) -> Result<usize>
+    requires { V.is_ready actor.old }
+    ensures { StaysInGround V.Taker result rest.now actor }
+{
+    let mut at = 0;
+    while rest.len() - at >= 4 {
+        match print_two(&rest[at..], actor) {
+            Ok(0) => return Ok(at),
+            Ok(n) => at += n,
+            Err(e) => return Err(e),
+        }
+    }
+    Ok(at)
+}
+
+// The sequences of three bytes that come first.
+#[inline(always)]
+fn print_threes<V: Taker>(rest: &[u8], actor: &mut V) -> Result<usize>
+    requires { V.is_ready actor.old }
+    ensures { StaysInGround V.Taker result rest.now actor }
+{
+    let mut at = 0;
+    while rest.len() - at >= 3 {
+        match print_three(&rest[at..], actor) {
+            Ok(0) => return Ok(at),
+            Ok(n) => at += n,
+            Err(e) => return Err(e),
+        }
+    }
+    Ok(at)
+}
+
+// A sequence of two bytes.
+#[inline(always)]
+fn print_two<V: Taker>(rest: &[u8], actor: &mut V) -> Result<usize>
+    requires some { 4 ≤ length rest.now }
+    requires ready { V.is_ready actor.old }
+    ensures { StaysInGround V.Taker result rest.now actor }
+{
+    if rest[0] < 0x80 {
+        return print_near(rest, actor);
+    }
+    let (n, c) = of_two(rest[0], rest[1]);
+    print_ahead(rest, n, c, actor)
+}
+
+// A byte of text that a sequence follows soon.
+#[inline(always)]
+fn print_near<V: Taker>(rest: &[u8], actor: &mut V) -> Result<usize>
+    requires some { 4 ≤ length rest.now }
+    requires ready { V.is_ready actor.old }
+    ensures { StaysInGround V.Taker result rest.now actor }
+{
+    if rest[3] < 0x80 {
+        Ok(0)
+    } else {
+        print_lone(rest, actor)
+    }
+}
+
+// A sequence of three bytes.
+#[inline(always)]
+fn print_three<V: Taker>(rest: &[u8], actor: &mut V) -> Result<usize>
+    requires some { 3 ≤ length rest.now }
+    requires ready { V.is_ready actor.old }
+    ensures { StaysInGround V.Taker result rest.now actor }
+{
+    let (n, c) = of_three(rest[0], rest[1], rest[2]);
+    print_ahead(rest, n, c, actor)
+}
+
+#[inline(always)]
+fn print_ahead<V: Taker>(rest: &[u8], n: usize, c: char, actor: &mut V) -> Result<usize>
+    requires ahead { IsAhead rest.now n c }
+    requires ready { V.is_ready actor.old }
+    ensures { StaysInGround V.Taker result rest.now actor }
+{
+    if n == 0 {
+        return Ok(0);
+    }
+    match actor.print(c) {
+        Ok(()) => Ok(n),
+        Err(e) => Err(e),
+    }
+}
+
+// A byte of text.
+#[inline(always)]
+fn print_lone<V: Taker>(rest: &[u8], actor: &mut V) -> Result<usize>
+    requires some { 1 ≤ length rest.now }
+    requires ready { V.is_ready actor.old }
+    ensures { StaysInGround V.Taker result rest.now actor }
+{
+    if rest[0] < 0x20 || rest[0] > 0x7f {
+        return Ok(0);
+    }
+    match actor.print(rest[0] as char) {
+        Ok(()) => Ok(1),
+        Err(e) => Err(e),
+    }
+}
+
+#[inline(always)]
+fn print_text<V: Taker>(rest: &[u8], actor: &mut V) -> Result<usize>
+    requires some { 0 < length rest.now }
+    requires low { 0x20 ≤ slice_index rest.now 0 }
+    requires high { slice_index rest.now 0 < 0x80 }
+    requires ready { V.is_ready actor.old }
+    ensures { StaysInGround V.Taker result rest.now actor }
+{
+    let run = ascii_run(rest);
+    match actor.print_text(&rest[..run]) {
+        Ok(()) => Ok(run),
+        Err(e) => Err(e),
+    }
+}

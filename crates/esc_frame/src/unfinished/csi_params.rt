@@ -1,0 +1,196 @@
+//! The parameters of a control sequence, byte by byte.
+#![tactic(auto)]
+
+ghost use Rattle.std.specs.Prelude.{◌≡◌, ◌++◌, ◌<◌, ◌≤◌, ◌-◌, ◌+◌, ◌*◌, ℕ, List, [], ◌∷◌, take, length, Option, true, false, slice_index};
+ghost use Rattle.std.specs.List.{list_all};
+ghost use Rattle.esc_frame.specs.Bodies.{held, is_digit, kept_csi_params, has_more_csi_params};
+
+use crate::unfinished::param_list::ParamList;
+use esc_values::csi_param::CsiParam;
+
+const MAX_ENTRIES: usize = 256;
+
+const MAX_NUMBER: u64 = 0x7fff_ffff_ffff_ffff;
+
+// Ten times a number below this, and a byte, is below the greatest.
+const FAR_BELOW: u64 = 0x0ccc_cccc_cccc_cc00;
+
+/// The first 256 parameters of a body, which take no memory. A run of digits at its end is kept as
+/// a number, since the next byte may be one more of them.
+#[derive(Drop)]
+pub struct Params {
+    pub items: ParamList,
+    // how many are kept
+    pub limit: usize,
+    // whether more came
+    pub is_truncated: bool,
+    // whether a run of digits stands at the end, and its number, held at the greatest `i64`
+    pub is_open: bool,
+    pub number: u64,
+    ghost small: { number ≤ 0x7fff_ffff_ffff_ffff },
+    ghost few: { limit ≤ 256 },
+}
+
+/// Ten times n and d, held at the greatest `i64`.
+#[inline(always)]
+pub fn next_number(n: u64, d: u8) -> u64
+    requires { n ≤ 0x7fff_ffff_ffff_ffff }
+    ensures value { result ≡ held (10 * n + d) }
+    ensures small { result ≤ 0x7fff_ffff_ffff_ffff }
+{
+    if n < FAR_BELOW {
+        n * 10 + d as u64
+    } else if n > (MAX_NUMBER - d as u64) / 10 {
+        MAX_NUMBER
+    } else {
+        n * 10 + d as u64
+    }
+}
+
+impl Params {
+    ghost use Rattle.esc_frame.specs.Machine.Keeps.{KeepsEntries, IsNumber, number_at, AreFirst, shown, next_number_of};
+
+    /// No parameters.
+    #[inline(always)]
+    pub fn new() -> Self
+        ensures { KeepsEntries result [] }
+    {
+        Params {
+            items: ParamList::new(),
+            limit: MAX_ENTRIES,
+            is_truncated: false,
+            is_open: false,
+            number: 0,
+        }
+    }
+
+    /// Begins a body anew.
+    pub fn clear(&mut self)
+        ensures { KeepsEntries self.new [] }
+    {
+        self.items.clear();
+        self.limit = MAX_ENTRIES;
+        self.is_truncated = false;
+        self.is_open = false;
+    }
+
+    /// Takes the next byte of the body.
+    #[inline(always)]
+    pub fn push(&mut self, b: u8)
+        ensures { (x : List ℕ) → KeepsEntries self.old x → KeepsEntries self.new (x ++ b ∷ []) }
+    {
+        if b < b'0' {
+            self.take_other(b)
+        } else if b <= b'9' {
+            self.take_digit(b)
+        } else {
+            self.take_other(b)
+        }
+    }
+
+    /// Takes the run of digits that comes first, at least one, and returns its length.
+    #[inline(always)]
+    pub fn push_digits(&mut self, bytes: &[u8]) -> usize
+        requires some { 0 < length bytes.now }
+        requires low { 0x30 ≤ slice_index bytes.now 0 }
+        requires high { slice_index bytes.now 0 ≤ 0x39 }
+        ensures count { (0 < result) × (result ≤ length bytes.now) }
+        ensures digits { list_all is_digit (take result bytes.now) ≡ true }
+        ensures keeps { (x : List ℕ) → KeepsEntries self.old x
+            → KeepsEntries self.new (x ++ take result bytes.now) }
+    {
+        let mut number = next_number(self.number_so_far(), bytes[0] - b'0');
+        let mut end = 1;
+        while end < bytes.len() && b'0' <= bytes[end] && bytes[end] <= b'9' {
+            number = next_number(number, bytes[end] - b'0');
+            end += 1;
+        }
+        self.is_open = true;
+        self.number = number;
+        end
+    }
+
+    // The number of the run of digits at the end, or 0.
+    #[inline(always)]
+    fn number_so_far(&self) -> u64
+        ensures value { (o : Option ℕ) → IsNumber self.now o → result ≡ held (number_at o) }
+        ensures small { result ≤ 0x7fff_ffff_ffff_ffff }
+    {
+        if self.is_open { self.number } else { 0 }
+    }
+
+    #[tactic(auto, using(crate::proofs::FirstParams::held_next))]
+    fn take_digit(&mut self, b: u8)
+        requires low { 0x30 ≤ b }
+        requires high { b ≤ 0x39 }
+        ensures number { (o : Option ℕ) → IsNumber self.old o
+            → IsNumber self.new (next_number_of o b) }
+        ensures items { self.new.items ≡ self.old.items }
+        ensures truncated { self.new.is_truncated ≡ self.old.is_truncated }
+        ensures limit { self.new.limit ≡ self.old.limit }
+    {
+        if self.is_open {
+            self.number = next_number(self.number, b - b'0');
+        } else {
+            self.is_open = true;
+            self.number = (b - b'0') as u64;
+        }
+    }
+
+    #[inline(always)]
+    fn take_other(&mut self, b: u8)
+        ensures number { self.new.is_open ≡ false }
+        ensures limit { self.new.limit ≡ self.old.limit }
+        ensures first { (o : Option ℕ) (all : List CsiParam) → IsNumber self.old o
+            → AreFirst self.old.items self.old.is_truncated self.old.limit all
+            → AreFirst self.new.items self.new.is_truncated self.new.limit
+            ((all ++ shown o) ++ CsiParam.P b ∷ []) }
+    {
+        self.close();
+        self.add(CsiParam::P(b));
+    }
+
+    // Ends the run of digits, if one stands at the end: then the parameters are all.
+    #[inline(always)]
+    fn close(&mut self)
+        ensures number { self.new.is_open ≡ false }
+        ensures limit { self.new.limit ≡ self.old.limit }
+        ensures first { (o : Option ℕ) (all : List CsiParam) → IsNumber self.old o
+            → AreFirst self.old.items self.old.is_truncated self.old.limit all
+            → AreFirst self.new.items self.new.is_truncated self.new.limit (all ++ shown o) }
+    {
+        if self.is_open {
+            self.is_open = false;
+            self.add(CsiParam::Integer(self.number.min(MAX_NUMBER) as i64));
+        }
+    }
+
+    /// Ends the body: then the parameters are those of all its bytes.
+    pub fn finish(&mut self)
+        ensures items { (x : List ℕ) → KeepsEntries self.old x
+            → self.new.items ≡ kept_csi_params x }
+        ensures truncated { (x : List ℕ) → KeepsEntries self.old x
+            → self.new.is_truncated ≡ has_more_csi_params x }
+    {
+        self.close();
+    }
+
+    #[tactic(auto, using(crate::proofs::FirstParams::first_fits, crate::proofs::FirstParams::first_full, crate::proofs::FirstParams::first_past))]
+    #[inline(always)]
+    fn add(&mut self, entry: CsiParam)
+        ensures number { self.new.is_open ≡ self.old.is_open }
+        ensures limit { self.new.limit ≡ self.old.limit }
+        ensures first { (all : List CsiParam)
+            → AreFirst self.old.items self.old.is_truncated self.old.limit all
+            → AreFirst self.new.items self.new.is_truncated self.new.limit (all ++ entry ∷ []) }
+    {
+        if self.is_truncated {
+            return;
+        }
+        if self.items.len() < self.limit {
+            self.items.push(entry);
+        } else {
+            self.is_truncated = true;
+        }
+    }
+}

@@ -1,0 +1,73 @@
+//! What is kept of a string, as far as a limit allows.
+#![tactic(auto)]
+
+ghost use Rattle.std.specs.Prelude.{ℕ, [], Option};
+ghost use Rattle.esc_frame.specs.Machine.Keeps.{KeepsText};
+ghost use Rattle.memory.specs.Refusals.{Refused};
+
+use crate::unfinished::count::fits;
+use crate::unfinished::store::Store;
+use std::alloc::{AllocError, Allocator};
+
+/// The bytes that are kept of a string; no byte and no memory once there were more than the limit.
+#[derive(Drop)]
+pub struct Kept<A: Allocator> {
+    pub bytes: Vec<u8, A>,
+    /// Whether there were more than the limit.
+    pub is_over: bool,
+}
+
+impl<A: Allocator> Kept<A> {
+    /// Nothing.
+    pub fn new(alloc: A) -> Self
+        ensures { (limit : Option ℕ) → KeepsText limit result [] }
+    {
+        Kept {
+            bytes: Vec::new(alloc),
+            is_over: false,
+        }
+    }
+}
+
+impl<A: Allocator> Store for Kept<A> {
+    ghost keeps = { λ limit kept t. KeepsText limit kept t };
+
+    ghost denied = { λ _. Refused A };
+
+    // The memory is kept.
+    fn clear(&mut self) {
+        self.bytes.clear();
+        self.is_over = false;
+    }
+
+    #[inline(always)]
+    fn is_new(&self) -> bool {
+        !self.is_over && self.bytes.is_empty()
+    }
+
+    #[inline(always)]
+    fn is_over(&self) -> bool {
+        self.is_over
+    }
+
+    #[inline(always)]
+    fn bytes(&self) -> &[u8] {
+        &self.bytes
+    }
+
+    // Past the limit what was kept is let go, and its memory.
+    #[inline]
+    fn push(&mut self, limit: Option<usize>, text: &[u8]) -> Result<(), AllocError> {
+        if self.is_over {
+            return Ok(());
+        }
+        if fits(limit, self.bytes.len(), text.len()) {
+            memory::extend(&mut self.bytes, text)
+        } else {
+            self.is_over = true;
+            self.bytes.clear();
+            self.bytes.shrink_to_fit();
+            Ok(())
+        }
+    }
+}
