@@ -92,7 +92,8 @@ module _ {S : Type 0} (limit : Option ℕ) (takes refuses : S → Event → S
       → Holds keeps limit machine (after_all u (take (i + n) rest))
       × FoldsTo takes old (events_all limit u (take (i + n) rest)) new × StaysFresh u rest (i + n)
   ran_took keeps machine n fresh (h, f, g) =
-      let r = ran_more (after_all v (take n (take (length rest - i) (drop i rest)))) n (refl, f) in (
+      let r = ran_more (after_all v (take n (take (length rest - i) (drop i rest)))) n
+      (refl, f) in (
         subst (λ w. Holds keeps limit machine w) (sym r.0) h,
         r.1,
         fresh_more u rest i n fresh (subst (λ w. StaysFresh w (drop i rest) n) (sym here)

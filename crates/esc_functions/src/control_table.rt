@@ -388,7 +388,8 @@ impl ControlFunction {
         last: u8,
     ) -> Option<ControlFunction>
         ensures { result
-            ≡ function_of (256 * packed 1 (put_mark private_prefix (put_mark intermediate [])) + last) }
+            ≡ function_of (256 * packed 1
+            (put_mark private_prefix (put_mark intermediate [])) + last) }
     {
         with_key(marks_of(private_prefix, intermediate) * 0x100 + last as u32)
     }

@@ -60,7 +60,8 @@ at_more s bytes n es old new memory later said same failed queued kept emitted h
     let x = take n bytes in
     let u = after_all Ground s in
     let limit = Some (length memory) in
-    let before : events_all limit Ground s ≡ es = h.2 ∙ ap (λ y. es ++ y) queued ∙ append-nil es in (
+    let before : events_all limit Ground s ≡ es =
+    h.2 ∙ ap (λ y. es ++ y) queued ∙ append-nil es in (
       failed ∙ h.0,
       subst (KeptIn new later) (sym (after_append Ground s x)) (kept u h.1),
       ap (λ k. events_all (Some k) Ground (s ++ x)) same ∙ events_append limit Ground s x

@@ -15,13 +15,12 @@ use denote.Signature.{Slot, plain}
 use denote.Steps.{nothing}
 use denote.Struct.Struct.{within}
 use denote.Struct.Owning.{shape}
-use Rattle.libc.specs.Heap.{chunk}
 use Rattle.std_alloc.specs.Box.Ownership.{box_owns}
 use Rattle.std_alloc.proofs.BoxSteps.Form.{Bx}
 use Rattle.std_heap.specs.contracts.Global as Heap
 use Rattle.std_heap.specs.contracts.GlobalAllocator.TheImpl.{ghosts, dict}
 use Rattle.std_heap.proofs.Global.TheLaws as heap
-use Rattle.escape_c.specs.Held.{held_owns}
+use Rattle.escape_c.specs.Held.{heap as allocator, held_owns}
 use Rattle.escape_c.specs.contracts.held.Held as held
 use Rattle.escape_c.specs.contracts.parts.Parts as parts
 use Rattle.escape_c.specs.contracts.state.State as state
@@ -64,12 +63,13 @@ module _ {M : Type 1} {𝓤 : Ura M} {𝓛 : Logic 𝓤} {K : Type 0} {Γ : List
     -- a block is taken apart
     pub held_out : K → (d : Held.Denot) (x : R.Denot) (vs : List Val) → d.state ≡ Some x
         → ((b o : ℕ) → d.at ≡ block_ptr b o → vs ≡ word (vptr b o) ∷ []
-        → Seq K 𝓛 (‵ (box_owns chunk R (block_ptr b o) x) ∷ Γ) G)
+        → Seq K 𝓛 (‵ (box_owns (ghosts.dealloc_token allocator) R (block_ptr b o) x) ∷ Γ) G)
         → Seq K 𝓛 (‵ (Held.own_val d vs) ∷ Γ) G
     held_out t d x vs is k =
         fsplit t $ fpick t (λ vss. fsplit t $ feq_l t (λ ev. fsplit t $ feq_l t (λ ep. drop t $
         rewrite t 0 (λ (s : Option R.Denot). ‵ (held_owns d.at s)) is refl $
-        in_a_block t d.at (λ p. box_owns chunk R p x) (fst∗ 𝓤 (never 𝓤) (sem 𝓛 (chunk (bare (lone
+        in_a_block t d.at (λ p. box_owns (ghosts.dealloc_token allocator) R p x)
+        (fst∗ 𝓤 (never 𝓤) (sem 𝓛 (ghosts.dealloc_token allocator (bare (lone
         R.mir)) null_ptr))) (λ b o e. k b o e
         (subst (λ (p : Ptr). vs ≡ vstruct (of_list (ptr_val p ∷ [])) ∷ []) e
         (subst (λ (ps : List Val). vs ≡ vstruct (of_list (ps ++ [])) ∷ []) ep ev))))))
@@ -79,7 +79,7 @@ module _ {M : Type 1} {𝓤 : Ura M} {𝓛 : Logic 𝓤} {K : Type 0} {Γ : List
         → Step K 𝓛
         (‵ (Held.own_val (record { at = block_ptr b o; state = Some x }) (word (vptr b o) ∷ []))
         ∷ Γ) G
-        (‵ (box_owns chunk R (block_ptr b o) x) ∷ Γ) G
+        (‵ (box_owns (ghosts.dealloc_token allocator) R (block_ptr b o) x) ∷ Γ) G
     held_in t b o x = step (λ s.
         nothing t $ feq_i t (List Val) (vptr b o ∷ []) (vptr b o ∷ []) refl $ fjoin t $
         feq_i t (List Val) (word (vptr b o) ∷ []) (word (vptr b o) ∷ []) refl $ fjoin t $

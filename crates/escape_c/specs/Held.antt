@@ -5,13 +5,18 @@ use denote.RawPtr.{Ptr}
 use Rattle.std.specs.Prelude.{Bool, true, false, Option, None, Some}
 use Rattle.std.specs.Box.Ownership.{box_owns}
 use Rattle.std.specs.Coded.{coded_option}
-use Rattle.libc.specs.Heap.{chunk}
+use Rattle.std_heap.specs.contracts.GlobalAllocator.TheImpl.{ghosts}
+use Rattle.std_heap.specs.declared.Global.{Global}
 use Rattle.escape_c.specs.contracts.state.State.{the_row}
 
--- a block with this state, and the right to free it; or nothing
+-- the global allocator, as a value
+abbrev pub heap : Global
+heap = record { memory = record { seal = tt } }
+
+-- a block of the global allocator with this state, and the right to free it; or nothing
 abbrev pub held_owns : Ptr → Option the_row.Denot → Fml
 held_owns p None = ftrue
-held_owns p (Some state) = box_owns chunk the_row p state
+held_owns p (Some state) = box_owns (ghosts.dealloc_token heap) the_row p state
 
 -- how the logic stores a state, or none
 abbrev pub state_coded : Coded (Option the_row.Denot)

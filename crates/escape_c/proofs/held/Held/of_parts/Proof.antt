@@ -23,7 +23,8 @@ use denote.Steps.{nothing}
 use denote.Triple.Spec.{triple_of}
 use denote.Triple.Table.{entered}
 use denote.Triple.Walked.{says, Stays, stay_dropped, walk_of, ends_at, Goes-dropped, walk_Meets}
-use Rattle.libc.specs.Heap.{chunk}
+use Rattle.std_heap.specs.contracts.GlobalAllocator.TheImpl.{ghosts}
+use Rattle.escape_c.specs.Held.{heap as allocator}
 use Rattle.std_alloc.specs.Box.Ownership.{box_owns}
 use Rattle.std_alloc.proofs.BoxSteps.Form.{D, B, box_typed}
 use Rattle.std_alloc.proofs.BoxSteps.Form as form
@@ -49,7 +50,8 @@ module _ {M : Type 1} {𝓤 : Ura M} (𝓛 : Logic 𝓤) (at_mem : Memory → SP
       let v : D E = record { ptr = z.0.3.0.ptr; alloc = z.0.3.0.alloc; value = z.0.3.0.value } in
       qed 𝓛 ((‵ ftrue ⊛ ‵ (fsep ((B E).own_val v z.0.4.0) ftrue)) ∷ raw (emp 𝓤) ∷ []) ∵ split ! $
       drop ! $ fsplit ! $
-      box_out E ! v z.0.4.0 (λ b o hv e ws fa. fjoin ! $ use1 𝓛 (‵ (box_owns chunk R (block_ptr b o)
+      box_out E ! v z.0.4.0 (λ b o hv e ws fa. fjoin ! $ use1 𝓛
+      (‵ (box_owns (ghosts.dealloc_token allocator) R (block_ptr b o)
       v.value)) (id⊢ 𝓤 _) $
       held_in ! b o v.value $ move ! (1 ∷ 2 ∷ 3 ∷ []) $ drop ! $ drop ! $ drop ! $
       let made : Held.Denot = record { at = block_ptr b o; state = Some v.value } in
