@@ -78,6 +78,9 @@ pub enum Event<'a> {
     DcsEnd,
     /// The text of an application program command.
     Apc(&'a [u8]),
+    /// A string, or the header of a device control string, ended of which there was more than the
+    /// limit: its event is not handed out, nor are the data of the device control string.
+    LimitPassed,
 }
 
 pub use crate::ffi::Entry;
@@ -122,7 +125,8 @@ impl Parser {
     }
 
     /// A parser at the beginning of a stream that hands out strings of up to `limit` bytes: texts of
-    /// commands, and parameter bytes of device control strings. It passes over longer ones.
+    /// commands, and parameter bytes of device control strings. It passes over longer ones, and
+    /// hands out [`Event::LimitPassed`] in the place of each.
     pub fn with_limit(limit: usize) -> Parser {
         Parser {
             raw: Box::new(ffi::begun()),
@@ -195,6 +199,7 @@ impl Parser {
             },
             8 => Event::Data(&bytes[event.start..][..event.length]),
             10 => Event::DcsEnd,
+            13 => Event::LimitPassed,
             _ => Event::Apc(self.string()),
         }
     }

@@ -9,3 +9,5 @@ pub mod TextRuns
 pub mod Whole
 pub mod Notable
 pub mod Noted
+pub mod Fewer
+pub mod PastLimit

@@ -1,5 +1,5 @@
 -- Bytes that were taken in several steps.
-use Rattle.std.proofs.Common.{ℕ, ◌≡◌, ◌+◌, ◌-◌, List, [], ◌++◌, take, drop, length, refl, ap, sym, ◌∙◌, subst, Some, Option, append_assoc}
+use Rattle.std.proofs.Common.{ℕ, ◌≡◌, ◌+◌, ◌-◌, List, [], ◌++◌, take, drop, length, refl, ap, sym, ◌∙◌, subst, Some, None, Option, append_assoc}
 use Rattle.std.proofs.Math.Seq.{take-add}
 use Rattle.std.proofs.lemmas.List.{append-nil, take_rest}
 use Rattle.std.specs.Str.{IsUtf8}
@@ -8,12 +8,14 @@ use Rattle.esc_frame.specs.Leads.{Unfinished}
 use Rattle.esc_frame.specs.Leads.Unfinished.{Ground}
 use Rattle.esc_frame.specs.Machine.Moves.{after_all, events_all}
 use Rattle.esc_frame.specs.Stream.{events_within}
-use Rattle.esc_frame.proofs.Streams.{after_append, events_append}
+use Rattle.esc_frame.proofs.Streams.{after_append, events_append, added_is}
 use Rattle.esc_lent.specs.declared.event.EscEvent.{EscEvent}
 use Rattle.esc_lent.specs.declared.parser.EscParser.{EscParser}
+use Rattle.esc_lent.specs.Limited.{IsLimited, AddsFewer}
 use Rattle.esc_lent.specs.Runs.{Emits}
 use Rattle.esc_lent.specs.States.{KeptIn, IsAt}
 use Rattle.esc_lent.specs.Emitted.{emitted, placed, emitted_by, queued_of}
+use Rattle.esc_lent.proofs.Fewer.{fewer_then}
 
 module _ (bytes : List ℕ) (at n : ℕ) where
   abbrev tail : List ℕ
@@ -32,6 +34,12 @@ module _ (bytes : List ℕ) (at n : ℕ) where
   events_both limit u e =
       ap (events_all limit u) joined ∙ events_append limit u (take at bytes) (take n tail)
       ∙ ap (λ es. es ++ events_all limit (after_all u (take at bytes)) (take n tail)) e
+
+  pub limited_both : (limit : ℕ) (u : Unfinished)
+      → IsLimited limit (after_all u (take at bytes)) (take n tail)
+      → IsLimited limit u (take (at + n) bytes)
+  limited_both limit u h =
+      subst (IsLimited limit u) (sym joined) (fewer_then limit u (take at bytes) (take n tail) h)
 
   -- a run that lies at the first byte of the tail
   pub emitted_placed : (e : EscEvent) (out : List ℕ)
@@ -101,3 +109,13 @@ at_first s bytes n es p memory e out start queued emits h =
     ap (λ y. emitted e out bytes ++ y) queued ∙ append-nil (emitted e out bytes)
     ∙ ap (λ i. emitted_by e out (take e.length (drop i bytes))) start
     ∙ (emits u memory refl k).1) h
+
+-- of a stream
+pub adds_fewer : (limit : ℕ) (s x : List ℕ) → IsLimited limit (after_all Ground s) x
+    → AddsFewer limit s x
+adds_fewer limit s x h = rw (added_is (Some limit) s x, added_is None s x) h
+
+pub kept_at : (s : List ℕ) (es : List Event) (p : EscParser) (memory : List ℕ)
+    → IsAt s es p memory → KeptIn p memory (after_all Ground s)
+unfolding IsAt
+kept_at s es p memory h = h.1

@@ -5,3 +5,5 @@ pub mod States
 pub mod Runs
 pub mod Noted
 pub mod Next
+pub mod Limited
+pub mod Strings

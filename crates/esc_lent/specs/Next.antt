@@ -7,9 +7,10 @@ use Rattle.esc_frame.specs.Events.{Event}
 use Rattle.esc_frame.specs.Leads.{Unfinished}
 use Rattle.esc_frame.specs.Machine.Moves.{after_all, events_all}
 use Rattle.esc_lent.specs.declared.event.EscEvent.{EscEvent}
-use Rattle.esc_lent.specs.declared.event.TheConstants.{NONE, TEXT, FAILED}
+use Rattle.esc_lent.specs.declared.event.TheConstants.{NONE, TEXT, FAILED, LIMIT_PASSED}
 use Rattle.esc_lent.specs.declared.numbers.TheConstants.{GROUND}
 use Rattle.esc_lent.specs.declared.parser.EscParser.{EscParser}
+use Rattle.esc_lent.specs.Limited.{IsLimited, AddsFewer}
 use Rattle.esc_lent.specs.States.{KeptIn, IsAt, lower, upper}
 use Rattle.esc_lent.specs.Emitted.{emitted, queued_of, placed, IsWithin}
 
@@ -50,6 +51,9 @@ pub record Next (parser : ParserChange) (old new : Halves) (bytes : List ℕ) (e
   -- a call that takes none of some bytes hands out what was queued, so the next one takes some
   pub moves : taken ≡ 0 → 0 < length bytes → event.kind ≢ FAILED
       → (queued_in parser.entry.now ≢ []) × (queued_in parser.exit.now ≡ [])
+  -- where the event says that a string was past the limit, so it was
+  pub limited : (s : List ℕ) (es : List Event) → IsAt s es parser.entry.now old.memory
+      → event.kind ≡ LIMIT_PASSED → AddsFewer (length old.memory) s (take taken bytes)
   -- once failed it stays so
   pub failed : event.kind ≡ FAILED → parser.exit.now.has_failed ≡ true
   pub again : parser.entry.now.has_failed ≡ true → event.kind ≡ FAILED
@@ -74,6 +78,8 @@ pub record ToEvent (parser : ParserChange) (old new : Halves) (bytes : List ℕ)
   pub says : (u : Unfinished) → KeptIn parser.entry.now old.memory u → event.kind ≢ FAILED
       → emitted event new.out bytes ++ queued_in parser.exit.now
       ≡ events_all (Some (length old.memory)) u (take taken bytes)
+  pub limited : (u : Unfinished) → KeptIn parser.entry.now old.memory u
+      → event.kind ≡ LIMIT_PASSED → IsLimited (length old.memory) u (take taken bytes)
   pub failed : event.kind ≡ FAILED → parser.exit.now.has_failed ≡ true
   pub goes_on : event.kind ≢ FAILED → parser.exit.now.has_failed ≡ parser.entry.now.has_failed
 

@@ -1,5 +1,5 @@
 -- What is noted of the events of a step.
-use Rattle.std.specs.Prelude.{ℕ, ◌≡◌, ◌≢◌, ◌≤◌, Bool, true, false, List, [], ◌∷◌, ◌++◌, length}
+use Rattle.std.specs.Prelude.{ℕ, ◌≡◌, ◌≢◌, ◌≤◌, ◌<◌, Bool, true, false, List, [], ◌∷◌, ◌++◌, length}
 use Rattle.esc_values.specs.Clear.{joined}
 use Rattle.esc_frame.specs.Events.{Event}
 use Rattle.esc_frame.specs.Events.Event.{Print, Execute, EscDispatch, CsiDispatch, OscDispatch, DcsHook, ApcDispatch}
@@ -38,7 +38,7 @@ abbrev pub Adds : ℕ → EscEvent → List ℕ → ℕ → ℕ → Bool → Eve
 Adds place e o k v lost x f p j w gone =
     (gone ≡ false → (lost ≡ false) × (said f p j w ≡ said e o k v ++ x ∷ []))
     × (is_run e.kind ≡ false → is_run f.kind ≡ false)
-    × (e.kind ≢ FAILED → f.kind ≢ FAILED)
+    × (e.kind < FAILED → f.kind < FAILED)
     × (e.count ≤ 256 → f.count ≤ 256)
     × (e.kept ≤ 2 → f.kept ≤ 2)
     × (e.length ≤ place → f.length ≤ place)
@@ -50,7 +50,7 @@ Adds place e o k v lost x f p j w gone =
 -- no run and no failure, its counts and its text within bounds
 abbrev pub IsSound : EscEvent → ℕ → Type 0
 IsSound e place =
-    (is_run e.kind ≡ false) × (e.kind ≢ FAILED) × (e.count ≤ 256) × (e.kept ≤ 2)
+    (is_run e.kind ≡ false) × (e.kind < FAILED) × (e.count ≤ 256) × (e.kept ≤ 2)
     × (e.length ≤ place)
 
 -- What a step from a sound state gives: a sound event, and nothing that is queued where it is none.

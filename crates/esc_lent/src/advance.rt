@@ -5,12 +5,14 @@ ghost use Rattle.std.specs.Prelude.{◌≡◌, ◌≤◌, ◌<◌, ◌≢◌, �
 ghost use Rattle.std.specs.Str.{IsUtf8};
 ghost use Rattle.esc_frame.specs.Leads.{Unfinished};
 ghost use Rattle.esc_frame.specs.Machine.Moves.{after_all, events_all};
+ghost use Rattle.esc_lent.specs.Limited.{IsLimited};
 ghost use Rattle.esc_lent.specs.Runs.{Emits, IsDueAs};
 ghost use Rattle.esc_lent.specs.States.{KeptIn};
 ghost use Rattle.esc_lent.specs.Noted.{IsSound};
 ghost use Rattle.esc_lent.specs.Emitted.{emitted_by, queued_of, is_run};
 
-use crate::event::{CHARACTER, CONTROL, DATA, EscEvent, FAILED, NONE, TEXT};
+use crate::event::{CHARACTER, CONTROL, DATA, EscEvent, FAILED, LIMIT_PASSED, NONE, TEXT};
+use crate::limited::{Place, note_limited};
 use crate::parser::EscParser;
 use crate::quick::note_quick;
 use crate::runs::text_run;
@@ -26,7 +28,7 @@ fn run_ahead(parser: &EscParser, bytes: &[u8], event: &mut EscEvent) -> usize
     requires none { event.old.kind ≡ NONE }
     ensures few { result ≤ length bytes.now }
     ensures none { result ≡ 0 → event.new ≡ event.old }
-    ensures some { 0 < result → (event.new.kind ≢ NONE) × (event.new.kind ≢ FAILED)
+    ensures some { 0 < result → (event.new.kind ≢ NONE) × (event.new.kind < FAILED)
         × (is_run event.new.kind ≡ true) }
     ensures within { (event.new.count ≡ event.old.count) × (event.new.kept ≡ event.old.kept)
         × (event.new.start ≡ event.old.start) × (0 < result → event.new.length ≡ result) }
@@ -71,7 +73,7 @@ fn note_first(parser: &EscParser, bytes: &[u8], event: &mut EscEvent) -> usize
     requires within { (event.old.count ≤ 256) × (event.old.kept ≤ 2) }
     ensures few { result ≤ length bytes.now }
     ensures none { result ≡ 0 → event.new ≡ record event.old { csi_params = event.new.csi_params } }
-    ensures some { 0 < result → (event.new.kind ≢ NONE) × (event.new.kind ≢ FAILED) }
+    ensures some { 0 < result → (event.new.kind ≢ NONE) × (event.new.kind < FAILED) }
     ensures within { (event.new.count ≤ 256) × (event.new.kept ≤ 2)
         × (event.new.start ≡ event.old.start) }
     ensures text { is_run event.new.kind ≡ false → event.new.length ≡ event.old.length }
@@ -104,7 +106,7 @@ pub fn ahead(
     ensures few { result ≤ length bytes.now }
     ensures none { result ≡ 0 → (parser.new ≡ parser.old)
         × (event.new ≡ record event.old { csi_params = event.new.csi_params }) }
-    ensures some { 0 < result → (event.new.kind ≢ NONE) × (event.new.kind ≢ FAILED) }
+    ensures some { 0 < result → (event.new.kind ≢ NONE) × (event.new.kind < FAILED) }
     ensures within { (event.new.count ≤ 256) × (event.new.kept ≤ 2) }
     ensures text { is_run event.new.kind ≡ false → event.new.length ≤ length out.old }
     ensures run { is_run event.new.kind ≡ true → event.new.length ≤ result }
@@ -148,6 +150,9 @@ pub fn advance(
         ≡ events_all (Some (length memory.old)) u (take result bytes.now) }
     ensures queued { event.new.kind ≡ NONE
         → queued_of parser.new.queued_kind parser.new.queued_value ≡ [] }
+    ensures limited { (u : Unfinished) → KeptIn parser.old memory.old u
+        → event.new.kind ≡ LIMIT_PASSED
+        → IsLimited (length memory.old) u (take result bytes.now) }
     ensures failed { event.new.kind ≡ FAILED → parser.new.has_failed ≡ true }
     ensures goes_on { event.new.kind ≢ FAILED → parser.new.has_failed ≡ parser.old.has_failed }
     ensures sound { (u : Unfinished) → KeptIn parser.old memory.old u
@@ -157,6 +162,7 @@ pub fn advance(
     if first > 0 {
         return first;
     }
+    let before = Place::of(parser);
     let (taken, has_failed) = step(parser, memory, out, event, bytes);
     if has_failed || !is_sound(event, out.len()) || (event.kind == NONE && gives_queued(parser)) {
         event.clear();
@@ -164,6 +170,7 @@ pub fn advance(
         parser.has_failed = true;
         return 0;
     }
+    note_limited(before, parser, event, &bytes[..taken]);
     taken
 }
 
@@ -182,7 +189,7 @@ fn is_sound(event: &EscEvent, room: usize) -> bool
 {
     event.kind != TEXT
         && event.kind != DATA
-        && event.kind != FAILED
+        && event.kind < FAILED
         && event.count <= 256
         && event.kept <= 2
         && event.length <= room

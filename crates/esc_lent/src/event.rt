@@ -43,6 +43,10 @@ pub const APC: u32 = 11;
 /// The parser failed: nothing more comes of it. A state that its own calls reached never fails.
 pub const FAILED: u32 = 12;
 
+/// A string ended, or the header of a device control string, of which there was more than the lower
+/// half of the buffer keeps: its event is not handed out.
+pub const LIMIT_PASSED: u32 = 13;
+
 /// A parameter of a control sequence: a number, or a byte 3A to 3F or 20 to 2F.
 #[repr(C)]
 #[derive(Clone, Copy)]
@@ -73,7 +77,7 @@ impl EscEntry {
 #[repr(C)]
 #[derive(Drop)]
 pub struct EscEvent {
-    /// Which event: [`NONE`] to [`FAILED`].
+    /// Which event: [`NONE`] to [`LIMIT_PASSED`].
     pub kind: u32,
     /// The character, the control, the final byte or the byte of data.
     pub byte: u32,

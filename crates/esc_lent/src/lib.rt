@@ -5,6 +5,7 @@ pub mod advance;
 pub mod csi_params;
 pub mod event;
 pub mod fields;
+pub mod limited;
 pub mod load;
 pub mod named;
 pub mod next;

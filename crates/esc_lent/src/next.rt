@@ -23,7 +23,7 @@ fn give_queued(parser: &mut EscParser, event: &mut EscEvent) -> bool
     ensures kept { (memory : List ℕ) (u : Unfinished) → KeptIn parser.old memory u
         → KeptIn parser.new memory u }
     ensures failed { parser.new.has_failed ≡ parser.old.has_failed }
-    ensures some { result ≡ true → (event.new.kind ≢ NONE) × (event.new.kind ≢ FAILED)
+    ensures some { result ≡ true → (event.new.kind ≢ NONE) × (event.new.kind < FAILED)
         × (is_run event.new.kind ≡ false) }
     ensures within { (event.new.count ≡ event.old.count) × (event.new.kept ≡ event.old.kept)
         × (event.new.length ≡ event.old.length) }

@@ -17,6 +17,18 @@ pub const GROUND: u32 = 0;
 /// The number of a parser in an escape sequence.
 pub const ESCAPED: u32 = 1;
 
+/// The number of a parser in an operating system command.
+pub const OSC_STATE: u32 = 3;
+
+/// The number of a parser in the header of a device control string.
+pub const HEADER_STATE: u32 = 4;
+
+/// The number of a parser in an application program command.
+pub const APC_STATE: u32 = 7;
+
+/// The number of the form of a header that is not hooked.
+pub const MALFORMED: u32 = 3;
+
 pub fn state_of(number: u32) -> State
     ensures { result ≡ state_numbered number }
 {

@@ -23,7 +23,7 @@ pub fn note_quick(parser: &EscParser, bytes: &[u8], event: &mut EscEvent) -> usi
     requires count { event.old.count ≤ 256 }
     ensures few { result ≤ length bytes.now }
     ensures none { result ≡ 0 → event.new ≡ record event.old { csi_params = event.new.csi_params } }
-    ensures some { 0 < result → (event.new.kind ≢ NONE) × (event.new.kind ≢ FAILED)
+    ensures some { 0 < result → (event.new.kind ≢ NONE) × (event.new.kind < FAILED)
         × (is_run event.new.kind ≡ false) }
     ensures within { (event.new.count ≤ 256) × (event.new.kept ≡ event.old.kept)
         × (event.new.length ≡ event.old.length) × (event.new.start ≡ event.old.start) }
@@ -52,7 +52,7 @@ pub fn note_plain(bytes: &[u8], event: &mut EscEvent) -> usize
     requires other { slice_index bytes.now 0 ≢ 0x1b }
     ensures few { result ≤ length bytes.now }
     ensures none { result ≡ 0 → event.new ≡ event.old }
-    ensures some { 0 < result → (event.new.kind ≢ NONE) × (event.new.kind ≢ FAILED)
+    ensures some { 0 < result → (event.new.kind ≢ NONE) × (event.new.kind < FAILED)
         × (event.new.count ≡ 0) × (event.new.kept ≡ 0) × (event.new.start ≡ 0) }
     ensures text { 0 < result → event.new.kind ≡ TEXT → (event.new.length ≡ result)
         × IsTextRun (take result bytes.now) }

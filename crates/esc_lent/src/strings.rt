@@ -150,7 +150,7 @@ pub fn note_string(
     ensures few { result ≤ length bytes.now }
     ensures none { result ≡ 0 → (parser.new ≡ parser.old) × (event.new ≡ event.old) }
     ensures some { 0 < result → (event.new.kind ≢ NONE) × (event.new.kind ≢ TEXT)
-        × (event.new.kind ≢ FAILED) × (is_run event.new.kind ≡ false) }
+        × (event.new.kind < FAILED) × (is_run event.new.kind ≡ false) }
     ensures within { (event.new.count ≤ 256) × (event.new.kept ≤ 2)
         × (event.new.length ≤ length out.old) }
     ensures queued { IsDueAs parser.new parser.old }

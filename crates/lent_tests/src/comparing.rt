@@ -5,7 +5,7 @@ ghost use Rattle.std.specs.Prelude.{◌<◌};
 use crate::log::Log;
 use crate::streams::{STREAMS, noise};
 use esc_frame::VTParser;
-use esc_lent::event::{APC, DATA, DCS, EscEvent, NONE, OSC, TEXT};
+use esc_lent::event::{APC, DATA, DCS, EscEvent, LIMIT_PASSED, NONE, OSC, TEXT};
 use esc_lent::next::next;
 use esc_lent::parser::EscParser;
 use std::alloc::{AllocError, Global};
@@ -47,6 +47,10 @@ fn feed(
         let taken = next(parser, buffer, rest, &mut event);
         if event.kind == NONE {
             return Ok(());
+        }
+        if event.kind == LIMIT_PASSED {
+            rest = &rest[taken..];
+            continue;
         }
         log.note(&event, text_of(&event, buffer), run_of(&event, rest))?;
         rest = &rest[taken..];

@@ -61,7 +61,7 @@ static void add_run(struct log *log, const uint8_t *bytes, size_t length) {
 }
 
 static void add_event(struct log *log, const struct escape_stream_event *event, const uint8_t *text) {
-    static const char *const NAMES[] = {"none", "", "", "control", "escape", "csi", "osc", "dcs", "", "", "end", "apc", "FAILED"};
+    static const char *const NAMES[] = {"none", "", "", "control", "escape", "csi", "osc", "dcs", "", "", "end", "apc", "FAILED", "limit"};
     switch (event->kind) {
     case ESCAPE_STREAM_TEXT:
         add_run(log, text, event->length);
@@ -82,7 +82,8 @@ static void add_event(struct log *log, const struct escape_stream_event *event, 
     }
     add(log, "\n", 1);
     add(log, NAMES[event->kind], strlen(NAMES[event->kind]));
-    if (event->kind != ESCAPE_STREAM_OSC && event->kind != ESCAPE_STREAM_APC && event->kind != ESCAPE_STREAM_DCS_END)
+    if (event->kind != ESCAPE_STREAM_OSC && event->kind != ESCAPE_STREAM_APC && event->kind != ESCAPE_STREAM_DCS_END &&
+        event->kind != ESCAPE_STREAM_LIMIT)
         add_number(log, event->byte);
     if (event->kind == ESCAPE_STREAM_ESCAPE || event->kind == ESCAPE_STREAM_DCS) {
         add(log, " [", 2);
@@ -112,7 +113,7 @@ static void add_event(struct log *log, const struct escape_stream_event *event, 
 /* The places and counts that the header promises. */
 static void check_event(const struct escape_stream_event *event, size_t room, size_t taken, size_t length) {
     bool is_run = event->kind == ESCAPE_STREAM_TEXT || event->kind == ESCAPE_STREAM_DATA;
-    if (taken > length || event->kept > 2 || event->count > 256 || event->kind > ESCAPE_STREAM_FAILED)
+    if (taken > length || event->kept > 2 || event->count > 256 || event->kind > ESCAPE_STREAM_LIMIT)
         abort();
     if (is_run ? event->start > taken || event->length > taken - event->start : event->length > room)
         abort();
@@ -192,7 +193,14 @@ static const struct row ROWS[] = {
     {"\x1bP1;2$qm\n\x7f\x1b\\", "\ndcs 113 [$] <1;2>\n. 109. 10\nend\n\nescape 92 []\n"},
     {"\x1b_Gi=1\x9c", "\napc <Gi=1>\n"},
     {"\x1bXno\x1b^no\x9cyes", "' 121' 101' 115"},
-    {"\x1b]0123456789012345678901234567890123\x07x", "' 120"},
+    {"\x1b]0123456789012345678901234567890123\x07x", "\nlimit\n' 120"},
+    {"\x1b]0123456789012345678901234567890123\x18x", "\nlimit\n\ncontrol 24\n' 120"},
+    {"\x9d""0123456789012345678901234567890123\x9d""b\x9c", "\nlimit\n\nosc <b>\n\ncontrol 156\n"},
+    {"\x1b]012345678901234567890123456789\xe2\x82\x1b[m", "\nlimit\n\ncsi 109\n"},
+    {"\x1b_0123456789012345678901234567890123\x9fG\x1b\\", "\nlimit\n\napc <G>\n\nescape 92 []\n"},
+    {"\x1bP012345678901234567890123456789012qdata\x1b\\", "\nlimit\n\nescape 92 []\n"},
+    {"\x1bP012345678901234567890123456789012:qdata\x1b\\", "\nescape 92 []\n"},
+    {"\x1b]0123456789012345678901234567890123", ""},
     {"\xe2\x82\x1b", "' 65533"},
     {"", ""},
 };

@@ -55,6 +55,8 @@ extern "C" {
  * FAILED     something else wrote the parser or the lower half of the buffer, or the buffer is not
  *            that of the calls before; from then on no call of the parser gives anything else.
  *            Where the caller keeps to the rules above it never comes, as is proved
+ * LIMIT      a string, or the header of a device control string, ended of which there was more than half the
+ *            buffer: its event is not handed out, nor are the data of the device control string
  */
 #define ESCAPE_STREAM_NONE UINT32_C(0)
 #define ESCAPE_STREAM_TEXT UINT32_C(1)
@@ -69,6 +71,7 @@ extern "C" {
 #define ESCAPE_STREAM_DCS_END UINT32_C(10)
 #define ESCAPE_STREAM_APC UINT32_C(11)
 #define ESCAPE_STREAM_FAILED UINT32_C(12)
+#define ESCAPE_STREAM_LIMIT UINT32_C(13)
 
 /* An entry of a control sequence: a number, or a byte that is none, as a separator, a marker or an intermediate. */
 struct escape_stream_entry {
@@ -117,7 +120,7 @@ void escape_stream_begin(struct escape_stream_parser *parser);
  * in several, or its characters one by one.
  *
  * A string, which is the text of an OSC or an APC or the parameter bytes of a DCS, of more than buffer_length / 2 bytes is not
- * handed out: it is passed over, and what follows it is parsed as ever.
+ * handed out: it is passed over, an event ESCAPE_STREAM_LIMIT is in its place, and what follows it is parsed as ever.
  */
 size_t escape_stream_next(struct escape_stream_parser *parser, uint8_t *buffer, size_t buffer_length, const uint8_t *bytes,
                           size_t length, struct escape_stream_event *event);

@@ -21,6 +21,7 @@ returns-then-taken-gt0-clause-holds c = record {
       (note.ensures.emits some p out (length memory) plain.2 plain.3) h;
   all = search rules;
   moves = search rules;
+  limited = search rules;
   failed = search rules;
   again = search rules;
 }

@@ -1,8 +1,10 @@
-use Rattle.std.proofs.Common.{rules, ◌≡◌, [], sym, ◌∙◌}
+use Rattle.std.proofs.Common.{rules, ◌≡◌, [], length, take, sym, ◌∙◌, arith}
+use Rattle.esc_frame.specs.Leads.Unfinished.{Ground}
+use Rattle.esc_frame.specs.Machine.Moves.{after_all}
 use Rattle.std.proofs.lemmas.Bool.{false≢true}
 use Rattle.esc_lent.specs.States.{IsAt}
 use Rattle.esc_lent.specs.Emitted.{queued_of}
-use Rattle.esc_lent.proofs.Taken.{at_more, at_queued, says_nothing}
+use Rattle.esc_lent.proofs.Taken.{adds_fewer, at_more, at_queued, kept_at, says_nothing}
 use Rattle.esc_lent.proofs.next.next_in.Goals as goal
 
 pub returns-then-give_queued-clause-holds : goal.returns-then-give_queued-clause-holds
@@ -17,6 +19,8 @@ returns-then-give_queued-clause-holds c = record {
       (c.give_queued.ensures.kept c.args.memory.now) h;
   all = search rules;
   moves = search rules;
+  limited = λ s es h k.
+      absurd (omega (arith, k, (c.give_queued.ensures.some c.if-give_queued.true).1));
   failed = search rules;
   again = search rules;
 }
@@ -41,6 +45,11 @@ returns-clause-holds c = record {
       h;
   all = search rules;
   moves = search rules;
+  limited = λ s es h k.
+      adds_fewer (length c.args.memory.now) s (take c.take_next.result c.args.bytes.now)
+      (c.take_next.ensures.holds.limited (after_all Ground s)
+      (c.give_queued.ensures.kept c.args.memory.now (after_all Ground s)
+      (kept_at s es c.args.parser.now c.args.memory.now h)) k);
   failed = search rules;
   again = search rules;
 }

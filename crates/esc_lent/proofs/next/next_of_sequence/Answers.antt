@@ -26,6 +26,7 @@ returns-then-taken-gt0-clause-holds c = record {
       (length memory) bs) h;
   all = search rules;
   moves = search rules;
+  limited = search rules;
   failed = search rules;
   again = search rules;
 }

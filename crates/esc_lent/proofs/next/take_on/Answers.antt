@@ -1,8 +1,9 @@
 use Rattle.std.proofs.Common.{rules, ◌≡◌, ◌++◌, length, take, drop, ◌-◌, ap, sym, ◌∙◌, subst, Some, arith}
 use Rattle.esc_frame.specs.Machine.Moves.{after_all, events_all}
+use Rattle.esc_lent.specs.Limited.{IsLimited}
 use Rattle.esc_lent.specs.States.{KeptIn}
 use Rattle.esc_lent.specs.Emitted.{queued_of, is_run}
-use Rattle.esc_lent.proofs.Taken.{utf8_placed, after_both, events_both, emitted_placed, says_nothing}
+use Rattle.esc_lent.proofs.Taken.{utf8_placed, after_both, events_both, emitted_placed, says_nothing, limited_both}
 use Rattle.esc_lent.proofs.next.take_on.Goals as goal
 
 pub returns-then-event-ne-NONE-clause-holds : goal.returns-then-event-ne-NONE-clause-holds
@@ -28,6 +29,13 @@ returns-then-event-ne-NONE-clause-holds c = record {
       ∙ ap (λ k. events_all (Some k) (after_all u (take at bs))
       (take c.advance-taken.result (take (length bs - at) (drop at bs)))) c.loop-at.auto.memory
       ∙ sym (events_both bs at c.advance-taken.result (Some (length c.args.memory.now)) u i.1);
+  limited = λ u h k.
+      let bs = c.args.bytes.now in
+      let at = c.loop-at.at in
+      limited_both bs at c.advance-taken.result (length c.args.memory.now) u
+      (subst (λ m. IsLimited m (after_all u (take at bs))
+      (take c.advance-taken.result (take (length bs - at) (drop at bs)))) c.loop-at.auto.memory
+      (c.advance-taken.ensures.limited _ (c.loop-at.invariant.kept u h).0 k));
   failed = search rules;
   goes_on = search rules;
 }
