@@ -8,3 +8,5 @@ pub mod Steps
 pub mod Texts
 pub mod Writable
 pub mod Images
+pub mod ByLines
+pub mod LineFeeds

@@ -4,3 +4,4 @@ pub mod Passing
 pub mod Fed
 pub mod Encoding
 pub mod Streams
+pub mod Lines

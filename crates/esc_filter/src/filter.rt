@@ -83,6 +83,15 @@ impl<P: Admit<A>, A: Allocator + Copy> Filter<P, A> {
         }
     }
 
+    /// Begins a new stream, under this limit. Takes no memory.
+    pub(crate) fn restart(&mut self, limit: usize)
+        ensures fed { WasFed limit (P.admits (policy_of self.old)) [] self.new }
+        ensures policy { policy_of self.new ≡ policy_of self.old }
+    {
+        self.parser = Parser::with_limit(self.alloc, limit);
+        self.spell.follows_string = false;
+    }
+
     /// The text that the bytes fed last added.
     pub fn text(&self) -> &str
         ensures { result.now ≡ added_by self.now }

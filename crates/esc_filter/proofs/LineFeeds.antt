@@ -1,0 +1,58 @@
+-- Where a line feed comes first, and last.
+use Rattle.std.proofs.Common.{ℕ, zero, suc, ◌≡◌, ◌≤◌, ◌<◌, ◌+◌, ◌-◌, Bool, true, false, List, [], ◌∷◌, ◌++◌, length, take, get_or, refl, ap, ◌∙◌, arith}
+use Rattle.std.proofs.lemmas.Bool.Decides.{nat_tests}
+use Rattle.esc_filter.specs.Lines.{is_line_feed, has_line_feed, IsLine, ends_line}
+
+bool_false : (t : Bool) → (t ≡ true → ⊥) → t ≡ false
+bool_false true h = absurd (h refl)
+bool_false false h = refl
+
+pub no_line : (x : List ℕ) → ((k : ℕ) → 0 ≤ k → k < length x → is_line_feed (get_or x k 0) ≡ true → ⊥)
+    → has_line_feed x ≡ false
+no_line [] h = refl
+no_line (b ∷ x) h =
+    rw (bool_false (is_line_feed b) (h 0 (omega arith) (omega arith)))
+    (no_line x (λ k l m. h (suc k) (omega arith) (omega (arith, m))))
+
+-- a first line feed after n bytes
+line_at : (x : List ℕ) (n : ℕ) → n < length x
+    → ((k : ℕ) → 0 ≤ k → k < n → is_line_feed (get_or x k 0) ≡ true → ⊥)
+    → is_line_feed (get_or x n 0) ≡ true
+    → (has_line_feed (take n x) ≡ false) × (take (n + 1) x ≡ take n x ++ get_or x n 0 ∷ [])
+line_at [] n l h e = absurd (omega (arith, l))
+line_at (b ∷ x) zero l h e = (refl, refl)
+line_at (b ∷ x) (suc n) l h e =
+    let r = line_at x n (omega (arith, l)) (λ k i m. h (suc k) (omega arith) (omega (arith, m))) e
+    in (
+      rw (bool_false (is_line_feed b) (h 0 (omega arith) (omega arith))) r.0,
+      ap (λ k. take k (b ∷ x)) (more n) ∙ ap (λ y. b ∷ y) r.1,
+    )
+  where
+    more : (n : ℕ) → suc n + 1 ≡ suc (n + 1)
+    more n = omega arith
+
+pub first_line : (x : List ℕ) (n : ℕ) → n < length x
+    → ((k : ℕ) → 0 ≤ k → k < n → is_line_feed (get_or x k 0) ≡ true → ⊥)
+    → is_line_feed (get_or x n 0) ≡ true → IsLine (take (n + 1) x)
+first_line x n l h e =
+    let r = line_at x n l h e in
+    let b : get_or x n 0 ≡ 0x0a = ten (get_or x n 0) e in
+    (take n x, r.0, r.1 ∙ ap (λ c. take n x ++ c ∷ []) b)
+  where
+    ten : (b : ℕ) → is_line_feed b ≡ true → b ≡ 0x0a
+    ten b h = grind (arith, nat_tests)
+
+-- ---- the last byte
+
+last_shift : (a b : ℕ) (x : List ℕ)
+    → get_or (a ∷ b ∷ x) (length (a ∷ b ∷ x) - 1) 0 ≡ get_or (b ∷ x) (length (b ∷ x) - 1) 0
+last_shift a b x =
+    let e : length (a ∷ b ∷ x) - 1 ≡ suc (length (b ∷ x) - 1) = omega arith in
+    ap (λ n. get_or (a ∷ b ∷ x) n 0) e
+
+pub last_ends : (before : Bool) (x : List ℕ) → 0 < length x
+    → is_line_feed (get_or x (length x - 1) 0) ≡ ends_line before x
+last_ends before [] h = absurd (omega (arith, h))
+last_ends before (b ∷ []) h = refl
+last_ends before (b ∷ c ∷ x) h =
+    ap is_line_feed (last_shift b c x) ∙ last_ends (is_line_feed b) (c ∷ x) (omega arith)

@@ -1,0 +1,87 @@
+use Rattle.std.proofs.Common.{rules, ◌≡◌, ◌-◌, ◌+◌, ◌++◌, OnOk, List, ℕ, length, take, drop, refl, sym, ap, ◌∙◌, subst, take-append-drop}
+use Rattle.std.proofs.Math.Seq.{take-add}
+use Rattle.std.proofs.lemmas.List.{take_rest, take_all}
+use Rattle.esc_filter.specs.Lines.{GrowsBy, WasFedLines, policy_of_lines}
+use Rattle.esc_filter.proofs.ByLines.{grows_more, grows_not, on_ok_so}
+use Rattle.esc_filter.proofs.line_filter.LineFilter.feed_lines.Goals as goal
+
+-- the bytes from a place on
+abbrev tail : List ℕ → ℕ → List ℕ
+tail bytes at = take (length bytes - at) (drop at bytes)
+
+joined : (bytes : List ℕ) (at n : ℕ)
+    → take at bytes ++ take n (tail bytes at) ≡ take (at + n) bytes
+joined bytes at n =
+    ap (λ y. take at bytes ++ take n y) (take_rest bytes at) ∙ sym (take-add at n bytes)
+
+all : (bytes : List ℕ) (at : ℕ) → take at bytes ++ tail bytes at ≡ bytes
+all bytes at = ap (λ y. take at bytes ++ y) (take_rest bytes at) ∙ take-append-drop at bytes
+
+pub loop-at-init : goal.loop-at-init
+loop-at-init g c = record {
+  within = search rules;
+  policy = refl;
+  grown = λ limit s w.
+      grows_not limit (g.P.Admit.admits (policy_of_lines c.args.self.now)) s c.args.self.now w;
+}
+
+pub loop-at-preserved : goal.loop-at-preserved
+loop-at-preserved g c =
+    let bs = c.args.bytes.now in
+    let at = c.loop-at.at in
+    let inv = c.loop-at.invariant in
+    let piece = take c.in-Some.n (tail bs at) in
+    record {
+      within = search rules;
+      policy = c.feed_line.ensures.policy ∙ inv.policy;
+      grown = λ limit s w.
+          let admits = g.P.Admit.admits (policy_of_lines c.args.self.now) in
+          let before = inv.grown limit s w in
+          let sx = s ++ take at bs in
+          subst (λ x. GrowsBy admits limit s x c.args.self.now c.feed_line.new.self)
+          (joined bs at c.in-Some.n)
+          (grows_more limit admits s (take at bs) piece c.args.self.now c.loop-at.self
+          c.feed_line.new.self before
+          (subst (λ p. WasFedLines limit (g.P.Admit.admits p) sx c.loop-at.self
+          → GrowsBy (g.P.Admit.admits p) limit sx piece c.loop-at.self c.feed_line.new.self)
+          inv.policy (c.in-Ok.ensures.given limit sx) before.1.0));
+    }
+
+pub returns-in-Err-clause-refused : goal.returns-in-Err-clause-refused
+returns-in-Err-clause-refused g c = λ limit s w.
+    let inv = c.loop-at.invariant in
+    let sx = s ++ take c.loop-at.at c.args.bytes.now in
+    c.in-Err.ensures.refused limit sx
+    (subst (λ p. WasFedLines limit (g.P.Admit.admits p) sx c.loop-at.self) (sym inv.policy)
+    (inv.grown limit s w).1.0)
+
+pub returns-in-None-clause-given : goal.returns-in-None-clause-given
+returns-in-None-clause-given g c = λ limit s w.
+    let bs = c.args.bytes.now in
+    let at = c.loop-at.at in
+    let inv = c.loop-at.invariant in
+    let admits = g.P.Admit.admits (policy_of_lines c.args.self.now) in
+    let before = inv.grown limit s w in
+    let sx = s ++ take at bs in
+    on_ok_so c.feed_open.result
+    (λ h. subst (λ x. GrowsBy admits limit s x c.args.self.now c.feed_open.new.self) (all bs at)
+    (grows_more limit admits s (take at bs) (tail bs at) c.args.self.now c.loop-at.self
+    c.feed_open.new.self before h))
+    (subst (λ p. WasFedLines limit (g.P.Admit.admits p) sx c.loop-at.self
+    → OnOk c.feed_open.result (GrowsBy (g.P.Admit.admits p) limit sx (tail bs at) c.loop-at.self
+    c.feed_open.new.self)) inv.policy (c.feed_open.ensures.given limit sx) before.1.0)
+
+pub returns-in-None-clause-refused : goal.returns-in-None-clause-refused
+returns-in-None-clause-refused g c = λ limit s w.
+    let inv = c.loop-at.invariant in
+    let sx = s ++ take c.loop-at.at c.args.bytes.now in
+    c.feed_open.ensures.refused limit sx
+    (subst (λ p. WasFedLines limit (g.P.Admit.admits p) sx c.loop-at.self) (sym inv.policy)
+    (inv.grown limit s w).1.0)
+
+pub returns-clause-given : goal.returns-clause-given
+returns-clause-given g c = λ limit s w.
+    let bs = c.args.bytes.now in
+    let admits = g.P.Admit.admits (policy_of_lines c.args.self.now) in
+    subst (λ x. GrowsBy admits limit s x c.args.self.now c.loop-at.self)
+    (take_all c.loop-at.at bs (search rules)) (c.loop-at.invariant.grown limit s w)

@@ -1,0 +1,196 @@
+//! A filter to which each line is a stream of its own.
+ghost use Rattle.std.specs.Prelude.{◌≡◌, ◌≤◌, ◌<◌, ◌++◌, ◌∷◌, ℕ, if◌then◌else◌, [], Err, IfErr, MatchOption, OnErr, OnOk, length, take, true, false};
+ghost use Rattle.esc_filter.specs.Lines.{has_line_feed, ends_line, IsLine};
+ghost use Rattle.memory.specs.Refusals.{Refused};
+
+use crate::admit::Admit;
+use crate::filter::Filter;
+use esc_frame::ParseError;
+use memchr::memchr;
+use std::alloc::{AllocError, Allocator, Global};
+
+/// Takes a stream in whatever pieces it comes, and gives for each the text that it adds, as
+/// [`Filter`] does; but each line, up to its line feed and with it, is a stream of its own. So a
+/// string that nobody ends hides nothing of the lines after it, and each line of the stream has its
+/// line in the text: where a string takes the line feed away, one is added.
+///
+/// It keeps what a [`Filter`] keeps of the last line, and the text of the piece before.
+#[derive(Drop)]
+pub struct LineFilter<P, A: Allocator = Global> {
+    filter: Filter<P, A>,
+    limit: usize,
+    // what the bytes fed last added
+    text: String<A>,
+    // whether the text of the last line, which has no line feed yet, ends in one
+    ends_line: bool,
+    has_failed: bool,
+}
+
+impl<P: Admit<A>, A: Allocator + Copy> LineFilter<P, A> {
+    ghost use Rattle.esc_filter.specs.Lines.{AddsText, AfterLines, GrowsBy, GrowsLine, OnLine, WasFedLines, added_by, policy_of_lines};
+    ghost use Rattle.esc_filter.specs.Fed.{WasFed};
+
+    /// A filter at the beginning of a stream, which keeps at most `limit` bytes of a segment, as
+    /// [`Filter::new`] does. Takes no memory.
+    pub fn new(alloc: A, limit: usize, policy: P) -> LineFilter<P, A>
+        ensures fed { WasFedLines limit (P.admits policy) [] result }
+        ensures policy { policy_of_lines result ≡ policy }
+        ensures empty { added_by result ≡ [] }
+    {
+        LineFilter {
+            filter: Filter::new(alloc, limit, policy),
+            limit,
+            text: String::new(alloc),
+            ends_line: false,
+            has_failed: false,
+        }
+    }
+
+    /// Takes `bytes`. What they add to the text of the stream so far is then the
+    /// [`text`](LineFilter::text).
+    ///
+    /// `ParseError::Memory` says that a request for memory was refused: the text is empty, and from
+    /// then on every call returns `ParseError::Failed`.
+    pub fn feed(&mut self, bytes: &[u8]) -> Result<(), ParseError>
+        ensures given { AfterLines P.Admit self.old (λ limit admits s.
+            OnOk result (AddsText admits limit s bytes.now (added_by self.new) self.new)) }
+        ensures policy { policy_of_lines self.new ≡ policy_of_lines self.old }
+        ensures refused { AfterLines P.Admit self.old (λ limit admits s. IfErr result (λ e.
+            (e ≡ ParseError.Memory) × (self.new.has_failed ≡ true) × (added_by self.new ≡ [])
+            × Refused A)) }
+        ensures failed { self.old.has_failed ≡ true → (result ≡ Err ParseError.Failed)
+            × (self.new.has_failed ≡ true) × (added_by self.new ≡ []) }
+    {
+        self.text.clear();
+        if self.has_failed {
+            return Err(ParseError::Failed);
+        }
+        match self.feed_lines(bytes) {
+            Ok(()) => Ok(()),
+            Err(_) => {
+                self.has_failed = true;
+                self.text.clear();
+                Err(ParseError::Memory)
+            }
+        }
+    }
+
+    /// The text that the bytes fed last added.
+    pub fn text(&self) -> &str
+        ensures { result.now ≡ added_by self.now }
+    {
+        self.text.as_str()
+    }
+
+    // Takes these bytes, a line after another. After an error nothing is said of the filter.
+    fn feed_lines(&mut self, bytes: &[u8]) -> Result<(), AllocError>
+        ensures given { AfterLines P.Admit self.old (λ limit admits s.
+            OnOk result (GrowsBy admits limit s bytes.now self.old self.new)) }
+        ensures policy { policy_of_lines self.new ≡ policy_of_lines self.old }
+        ensures refused { AfterLines P.Admit self.old (λ limit admits s.
+            OnErr result (Refused A)) }
+    {
+        let mut at = 0;
+        while at < bytes.len() {
+            let rest = &bytes[at..];
+            match line_length(rest) {
+                Some(n) => {
+                    match self.feed_line(&rest[..n]) {
+                        Ok(()) => at += n,
+                        Err(e) => return Err(e),
+                    }
+                }
+                None => return self.feed_open(rest),
+            }
+        }
+        Ok(())
+    }
+
+    // Takes what ends the last line.
+    fn feed_line(&mut self, bytes: &[u8]) -> Result<(), AllocError>
+        requires { IsLine bytes.now }
+        ensures given { AfterLines P.Admit self.old (λ limit admits s.
+            OnOk result (GrowsBy admits limit s bytes.now self.old self.new)) }
+        ensures policy { policy_of_lines self.new ≡ policy_of_lines self.old }
+        ensures refused { AfterLines P.Admit self.old (λ limit admits s.
+            OnErr result (Refused A)) }
+    {
+        match self.pass(bytes) {
+            Ok(()) => self.end_line(),
+            Err(e) => Err(e),
+        }
+    }
+
+    // Takes bytes without a line feed.
+    fn feed_open(&mut self, bytes: &[u8]) -> Result<(), AllocError>
+        requires { has_line_feed bytes.now ≡ false }
+        ensures given { AfterLines P.Admit self.old (λ limit admits s.
+            OnOk result (GrowsBy admits limit s bytes.now self.old self.new)) }
+        ensures policy { policy_of_lines self.new ≡ policy_of_lines self.old }
+        ensures refused { AfterLines P.Admit self.old (λ limit admits s.
+            OnErr result (Refused A)) }
+    {
+        self.pass(bytes)
+    }
+
+    // Feeds the filter of the last line, and takes over the text that this adds.
+    fn pass(&mut self, bytes: &[u8]) -> Result<(), AllocError>
+        ensures given { OnLine P.Admit self.old (λ limit admits s.
+            OnOk result (GrowsLine admits limit s bytes.now self.old self.new)) }
+        ensures kept { (policy_of_lines self.new ≡ policy_of_lines self.old)
+            × (self.new.limit ≡ self.old.limit) × (self.new.has_failed ≡ self.old.has_failed) }
+        ensures refused { OnLine P.Admit self.old (λ limit admits s.
+            OnErr result (Refused A)) }
+    {
+        match self.filter.feed(bytes) {
+            Ok(()) => {
+                let added = self.filter.text();
+                self.ends_line = ends_line(self.ends_line, added.as_bytes());
+                memory::push_str(&mut self.text, added)
+            }
+            Err(_) => Err(AllocError),
+        }
+    }
+
+    // Ends the last line, and its text. The next line is a stream of its own.
+    fn end_line(&mut self) -> Result<(), AllocError>
+        ensures given { OnOk result ((added_by self.new
+            ≡ added_by self.old ++ (if self.old.ends_line then [] else 0x0a ∷ []))
+            × ((limit : ℕ) → self.old.limit ≡ limit
+            → WasFed limit (P.admits (policy_of_lines self.old)) [] self.new.filter)
+            × (self.new.ends_line ≡ false)) }
+        ensures kept { (policy_of_lines self.new ≡ policy_of_lines self.old)
+            × (self.new.limit ≡ self.old.limit) × (self.new.has_failed ≡ self.old.has_failed) }
+        ensures refused { OnErr result (Refused A) }
+    {
+        self.filter.restart(self.limit);
+        if self.ends_line {
+            self.ends_line = false;
+            return Ok(());
+        }
+        memory::push_char(&mut self.text, '\n')
+    }
+}
+
+// The length of the line that these bytes begin with, with its line feed. None where they have no
+// line feed.
+fn line_length(bytes: &[u8]) -> Option<usize>
+    ensures { MatchOption result (has_line_feed bytes.now ≡ false)
+        (λ n. (0 < n) × (n ≤ length bytes.now) × IsLine (take n bytes.now)) }
+{
+    match memchr(b'\n', bytes) {
+        Some(at) => Some(at + 1),
+        None => None,
+    }
+}
+
+// Whether a line feed comes last, where `before` says so of what comes before.
+fn ends_line(before: bool, text: &[u8]) -> bool
+    ensures { result ≡ ends_line before text.now }
+{
+    if text.is_empty() {
+        before
+    } else {
+        text[text.len() - 1] == b'\n'
+    }
+}
