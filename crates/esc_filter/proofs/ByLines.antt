@@ -1,19 +1,28 @@
 -- The text of a stream whose lines are streams of their own, as it grows.
-use Rattle.std.proofs.Common.{ℕ, ◌≡◌, Bool, true, false, not, ◌&&◌, ◌||◌, if◌then◌else◌, List, [], ◌∷◌, ◌++◌, Some, Result, Ok, Err, OnOk, refl, ap, sym, ◌∙◌, subst, append_assoc}
+use Rattle.std.proofs.Common.{ℕ, ◌≡◌, Bool, true, false, not, ◌&&◌, ◌||◌, if◌then◌else◌, List, [], ◌∷◌, ◌++◌, Some, Result, Ok, Err, IfErr, OnErr, OnOk, ◌⊎◌, inl, inr, arith, refl, ap, sym, ◌∙◌, subst, append_assoc}
 use Rattle.std.specs.List.{flat_map, filter}
+use Rattle.std.proofs.lemmas.Bool.Decides.{nat_tests}
 use Rattle.std.proofs.lemmas.Grind.{flat_map-append}
 use Rattle.std.proofs.lemmas.List.{append-nil}
 use Rattle.esc_actions.proofs.Meanings.{meaning_nil}
-use Rattle.esc_actions.specs.Texts.{list_text}
+use Rattle.esc_actions.specs.Meaning.{yield_within}
+use Rattle.esc_actions.specs.Texts.{list_text, texts_after}
 use Rattle.esc_actions.specs.Values.{Value}
 use Rattle.esc_filter.specs.Fed.{WasFed}
 use Rattle.esc_filter.specs.Lines.{is_line_feed, has_line_feed, IsLine, ends_line, begin_with, lines, closing, line_text, text_by_lines, WasFedLines, added_by, AddsText, GrowsBy, GrowsLine}
-use Rattle.esc_filter.specs.Passing.{passed_text, passes}
+use Rattle.esc_filter.specs.Passing.{passed, passed_text, passes}
+use Rattle.esc_filter.specs.Texts.{ends_in_string}
+use Rattle.esc_filter.proofs.Texts.{text_longer}
 use Rattle.esc_filter.specs.declared.line_filter.LineFilter.{LineFilter}
 
 pub on_ok_so : {X E P Q : Type 0} (r : Result X E) → (P → Q) → OnOk r P → OnOk r Q
 on_ok_so (Ok x) f h = f h
 on_ok_so (Err e) f h = h
+
+pub if_err_on : {X E R : Type 0} {Q : E → Type 0} (r : Result X E) → ((e : E) → Q e → R)
+    → IfErr r Q → OnErr r R
+if_err_on (Ok x) f h = h
+if_err_on (Err e) f h = f e h
 
 -- ---- line feeds
 
@@ -44,6 +53,9 @@ no_end (b ∷ x) h = by_head (is_line_feed b) h (no_end x)
         → (has_line_feed x ≡ false → ends_line false x ≡ false) → ends_line t x ≡ false
     by_head true g more = absurd cc
     by_head false g more = more g
+
+line_feed_is : (b : ℕ) → is_line_feed b ≡ true → b ≡ 0x0a
+line_feed_is b h = grind (arith, nat_tests)
 
 -- ---- lines
 
@@ -304,3 +316,73 @@ module _ {A : Type 0} (limit : ℕ) (admits : Value A → Bool) where
     w,
     e ∙ ap (λ y. By s ++ y) (sym (a ∙ ap (λ y. y ++ t) none)),
   )
+
+-- the first line feed, if there is one
+split_at_feed : (b : List ℕ) → (has_line_feed b ≡ false)
+    ⊎ ((x : List ℕ) × (y : List ℕ) × (has_line_feed x ≡ false) × (b ≡ x ++ 0x0a ∷ y))
+split_at_feed [] = inl refl
+split_at_feed (a ∷ b) = by_head (is_line_feed a) refl (split_at_feed b)
+  where
+    by_head : (t : Bool) → is_line_feed a ≡ t
+        → (has_line_feed b ≡ false)
+        ⊎ ((x : List ℕ) × (y : List ℕ) × (has_line_feed x ≡ false) × (b ≡ x ++ 0x0a ∷ y))
+        → (has_line_feed (a ∷ b) ≡ false)
+        ⊎ ((x : List ℕ) × (y : List ℕ) × (has_line_feed x ≡ false) × ((a ∷ b) ≡ x ++ 0x0a ∷ y))
+    by_head true e r = inr ([], b, refl, ap (λ c. c ∷ b) (line_feed_is a e))
+    by_head false e (inl n) = inl (rw e n)
+    by_head false e (inr (x, y, n, k)) = inr (a ∷ x, y, rw e n, ap (λ z. a ∷ z) k)
+
+module _ {A : Type 0} (limit : ℕ) (admits : Value A → Bool) where
+  -- what a line adds to what passes of its beginning, and the lines after it
+  rest_longer : (r b : List ℕ) → has_line_feed r ≡ false
+      → (t : List ℕ) × (text_by_lines {A = A} limit admits (r ++ b)
+      ≡ passed_text {A = A} (Some limit) admits r ++ t)
+  rest_longer r b none = by_feed (split_at_feed b)
+    where
+      T : List ℕ → List ℕ
+      T s = passed_text {A = A} (Some limit) admits s
+
+      by_feed : (has_line_feed b ≡ false)
+          ⊎ ((x : List ℕ) × (y : List ℕ) × (has_line_feed x ≡ false) × (b ≡ x ++ 0x0a ∷ y))
+          → (t : List ℕ) × (text_by_lines {A = A} limit admits (r ++ b)
+          ≡ passed_text {A = A} (Some limit) admits r ++ t)
+      by_feed (inl n) = (
+        _,
+        open_text limit admits (r ++ b) (feeds_append r b none n)
+            ∙ text_longer (Some limit) admits r b,
+      )
+      by_feed (inr (x, y, n, k)) =
+          let l = r ++ (x ++ 0x0a ∷ []) in
+          let line : IsLine l = (
+            r ++ x,
+            feeds_append r x none n,
+            sym (append_assoc r x (0x0a ∷ [])),
+          ) in
+          let same : r ++ b ≡ l ++ y =
+          ap (λ z. r ++ z) (k ∙ sym (append_assoc x (0x0a ∷ []) y))
+          ∙ sym (append_assoc r (x ++ 0x0a ∷ []) y) in
+          let more = lacking limit admits (ends_line false (T l)) in
+          let u = texts_after (ends_in_string false (passed (Some limit) admits r))
+          (filter (passes admits) (yield_within (Some limit) r (x ++ 0x0a ∷ []))) in (
+            u ++ (more ++ text_by_lines {A = A} limit admits y),
+            ap (text_by_lines {A = A} limit admits) same
+                ∙ by_append limit admits l y (line_ends true l line)
+                ∙ ap (λ z. z ++ text_by_lines {A = A} limit admits y)
+                (closed_text limit admits l line
+                ∙ ap (λ z. z ++ more) (text_longer (Some limit) admits r (x ++ 0x0a ∷ [])))
+                ∙ append_assoc (T r ++ u) more (text_by_lines {A = A} limit admits y)
+                ∙ append_assoc (T r) u (more ++ text_by_lines {A = A} limit admits y),
+          )
+
+  pub by_longer : {P : Type 0} (s : List ℕ) (f : LineFilter P A)
+      → WasFedLines limit admits s f → (b : List ℕ)
+      → (t : List ℕ) × (text_by_lines {A = A} limit admits (s ++ b)
+      ≡ text_by_lines {A = A} limit admits s ++ t)
+  by_longer s f w b =
+      let (t, e) = rest_longer w.rest b w.unended in
+      let d = text_by_lines {A = A} limit admits w.ended in
+      let r = passed_text {A = A} (Some limit) admits w.rest in (
+        t,
+        text_more limit admits s f w b ∙ ap (λ z. d ++ z) e ∙ sym (append_assoc d r t)
+            ∙ ap (λ z. z ++ t) (sym (text_so_far limit admits s f w)),
+      )

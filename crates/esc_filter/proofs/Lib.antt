@@ -10,3 +10,5 @@ pub mod Writable
 pub mod Images
 pub mod ByLines
 pub mod LineFeeds
+pub mod ReadLines
+pub mod Begun

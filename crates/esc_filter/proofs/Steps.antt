@@ -1,22 +1,15 @@
 -- What a piece does to a filter and a writer.
-use Rattle.std.proofs.Common.{◌≡◌, ℕ, Bool, List, ◌++◌, Option, Some}
+use Rattle.std.proofs.Common.{◌≡◌, ℕ, List, ◌++◌, Option}
 use Rattle.std.specs.Io.KnownBytes.{Appends}
 use Rattle.esc_normal.specs.Io.{AppendsPrefix}
-use Rattle.esc_actions.specs.Values.{Value}
-use Rattle.esc_filter.specs.Fed.{WasFed}
-use Rattle.esc_filter.specs.Passing.{passed_text}
-use Rattle.esc_filter.specs.declared.filter.Filter.{Filter}
 
 -- the filter was fed the piece, and its text was written
-abbrev pub Passes : {P A : Type 0} → ℕ → (Value A → Bool) → List ℕ → List ℕ → Filter P A
-    → Option (List ℕ) → Option (List ℕ) → Type 0
-Passes limit admits s b f old new = WasFed limit admits (s ++ b) f
-    × ((t : List ℕ) × (passed_text (Some limit) admits (s ++ b) ≡ passed_text (Some limit) admits s
-    ++ t) × Appends old new t)
+abbrev pub Passes : {F : Type 0} → (F → (List ℕ → List ℕ) → List ℕ → Type 0) → (List ℕ → List ℕ)
+    → List ℕ → List ℕ → F → Option (List ℕ) → Option (List ℕ) → Type 0
+Passes gives m s b f old new = gives f m (s ++ b)
+    × ((t : List ℕ) × (m (s ++ b) ≡ m s ++ t) × Appends old new t)
 
 -- a prefix of its text was written
-abbrev pub PassesSome : {A : Type 0} → ℕ → (Value A → Bool) → List ℕ → List ℕ → Option (List ℕ)
+abbrev pub PassesSome : (List ℕ → List ℕ) → List ℕ → List ℕ → Option (List ℕ)
     → Option (List ℕ) → Type 0
-PassesSome limit admits s b old new = (t : List ℕ)
-    × (passed_text (Some limit) admits (s ++ b) ≡ passed_text (Some limit) admits s ++ t)
-    × AppendsPrefix old new t
+PassesSome m s b old new = (t : List ℕ) × (m (s ++ b) ≡ m s ++ t) × AppendsPrefix old new t

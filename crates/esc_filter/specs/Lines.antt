@@ -1,9 +1,13 @@
 -- What is written of a stream whose lines are streams of their own.
 use Rattle.std.specs.Prelude.{ℕ, ◌≡◌, Bool, true, false, not, ◌&&◌, ◌==◌, if◌then◌else◌, List, [], ◌∷◌, ◌++◌, Some, string_bytes}
 use Rattle.std.specs.List.{list_any, flat_map}
-use Rattle.esc_actions.specs.Values.{Value}
+use Rattle.esc_actions.specs.Meaning.{meaning, Reads}
+use Rattle.esc_actions.specs.Texts.{normal}
+use Rattle.esc_actions.specs.Values.{Value, control}
+use Rattle.esc_actions.specs.declared.control_code.ControlCode.TheVariants.{LineFeed}
+use Rattle.esc_frame.specs.Segments.{is_empty}
 use Rattle.esc_filter.specs.Fed.{WasFed, policy_of}
-use Rattle.esc_filter.specs.Passing.{passed_text}
+use Rattle.esc_filter.specs.Passing.{passed, passed_text}
 use Rattle.esc_filter.specs.declared.admit.Admit.{Ghosts as Admitter}
 use Rattle.esc_filter.specs.declared.line_filter.LineFilter.{LineFilter}
 
@@ -44,6 +48,23 @@ line_text {A} limit admits l =
 -- the text of a stream: that of its lines, one after another
 abbrev pub text_by_lines : {A : Type 0} → ℕ → (Value A → Bool) → List ℕ → List ℕ
 text_by_lines {A} limit admits s = flat_map (line_text {A = A} limit admits) (lines s)
+
+-- what the text of a line means: what passes of the line, and the line feed that is added
+abbrev pub line_values : {A : Type 0} → ℕ → (Value A → Bool) → List ℕ → List (Value A)
+line_values limit admits l =
+    normal (passed (Some limit) admits l)
+    ++ (if is_empty (closing l (passed_text (Some limit) admits l)) then []
+    else control LineFeed ∷ [])
+
+-- What holds of the text t that a filter wrote for the lines of the stream s:
+pub record IsFilteredByLines {A : Type 0} (limit : ℕ) (admits : Value A → Bool)
+    (s t : List ℕ) : Type 0 where
+  -- it is the text of what passes of each line
+  pub text : t ≡ text_by_lines limit admits s
+  -- it reads back as that, line by line, and as nothing else
+  pub reads_back : meaning t ≡ flat_map (line_values limit admits) (lines s)
+  -- whatever bytes follow it, it reads so, and they read as they do by themselves
+  pub whatever_follows : Reads t (flat_map (line_values limit admits) (lines s))
 
 -- The filter, of this limit and of a policy that admits these values, was fed these bytes: lines
 -- that have ended, and then the rest of one, which is all that its filter was fed.

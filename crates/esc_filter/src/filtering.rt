@@ -1,14 +1,17 @@
 //! From a stream to the text of what passes of it.
-ghost use Rattle.std.specs.Prelude.{◌≡◌, ◌<◌, length, IfErr, IsErrOf, OnErr, OnOk};
-ghost use Rattle.esc_filter.specs.Fed.{After, Fresh, policy_of};
+ghost use Rattle.std.specs.Prelude.{◌≡◌, ◌<◌, length, IfErr, IsErrOf, OnErr, OnOk, Some};
 ghost use Rattle.esc_normal.specs.Io.{FailsWith, IsReadWhole, Writes, WritesPrefix};
-ghost use Rattle.esc_filter.specs.Streams.{HasBegun, HasFiltered, HasFilteredAllBut, HasFilteredAtLeast, HasWritten, HasWrittenAllBut, HasWrittenAtLeast, PassesOn, PassesPrefixOn, most_a_read};
+ghost use Rattle.esc_filter.specs.Streams.{Given, HasBegun, HasFiltered, HasFilteredAllBut, HasFilteredAtLeast, HasWritten, HasWrittenAllBut, HasWrittenAtLeast, New, PassesOn, PassesPrefixOn, most_a_read};
+ghost use Rattle.esc_filter.specs.Lines.{IsFilteredByLines, text_by_lines};
+ghost use Rattle.esc_filter.specs.Passing.{IsFiltered, passed_text};
 ghost use Rattle.memory.specs.Refusals.{Refused};
 
 use crate::admit::Admit;
+use crate::feeding::Feeding;
 use crate::filter::Filter;
 use crate::filter_error::FilterError;
 use crate::laws;
+use crate::line_filter::LineFilter;
 use esc_normal::Watched;
 use std::alloc::Allocator;
 use std::io::{Read, Write};
@@ -33,16 +36,18 @@ pub fn filter_stream<R: Read, W: Write, P: Admit<A> + Drop, A: Allocator + Copy>
     policy: P,
 ) -> Result<(), FilterError>
     ensures read_all { OnOk result (IsReadWhole R.Read reader) }
-    ensures written { OnOk result
-        (HasFiltered R.Read W.Write (P.admits policy) limit reader writer) }
-    ensures decided { IsErrOf result FilterError.Read
-        → HasFiltered R.Read W.Write (P.admits policy) limit reader writer }
+    ensures written { OnOk result (HasFiltered R.Read W.Write
+        (IsFiltered {A = A} (Some limit) (P.admits policy)) reader writer) }
+    ensures decided { IsErrOf result FilterError.Read → HasFiltered R.Read W.Write
+        (IsFiltered {A = A} (Some limit) (P.admits policy)) reader writer }
     ensures endless { IsErrOf result FilterError.Endless
-        → HasFilteredAtLeast R.Read W.Write MOST_READS (P.admits policy) limit reader writer }
+        → HasFilteredAtLeast R.Read W.Write MOST_READS
+        (IsFiltered {A = A} (Some limit) (P.admits policy)) reader writer }
     ensures until_refused { IsErrOf result FilterError.Memory
-        → HasFilteredAllBut R.Read W.Write most_a_read (P.admits policy) limit reader writer }
-    ensures beginning { OnErr result
-        (HasBegun R.Read W.Write (P.admits policy) limit reader writer) }
+        → HasFilteredAllBut R.Read W.Write most_a_read
+        (IsFiltered {A = A} (Some limit) (P.admits policy)) reader writer }
+    ensures beginning { OnErr result (HasBegun R.Read W.Write
+        (passed_text {A = A} (Some limit) (P.admits policy)) reader writer) }
     ensures read_fault { FailsWith result FilterError.Read reader }
     ensures write_fault { FailsWith result FilterError.Write writer }
     ensures refused { IsErrOf result FilterError.Memory → Refused A }
@@ -51,64 +56,68 @@ pub fn filter_stream<R: Read, W: Write, P: Admit<A> + Drop, A: Allocator + Copy>
     let Ok(mut chunk) = memory::read_buffer(alloc) else {
         return Err(FilterError::Memory);
     };
-    filter_by(alloc, limit, policy, reader, writer, chunk.as_mut_slice())
+    let mut filter = Filter::new(alloc, limit, policy);
+    filter_all(&mut filter, reader, writer, chunk.as_mut_slice())
 }
 
-// The same, read by way of the chunk.
-fn filter_by<R: Read, W: Write, P: Admit<A> + Drop, A: Allocator + Copy>(
+/// The same, to which each line is a stream of its own, as it is to a
+/// [`LineFilter`](crate::LineFilter): a string that nobody ends hides nothing of the lines after it.
+pub fn filter_lines<R: Read, W: Write, P: Admit<A> + Drop, A: Allocator + Copy>(
     alloc: A,
-    limit: usize,
-    policy: P,
     reader: &mut Watched<R>,
     writer: &mut Watched<W>,
-    chunk: &mut [u8],
+    limit: usize,
+    policy: P,
 ) -> Result<(), FilterError>
-    requires { 0 < length chunk.old }
     ensures read_all { OnOk result (IsReadWhole R.Read reader) }
-    ensures written { OnOk result
-        (HasWritten {A = A} R.Read W.Write (P.admits policy) limit reader writer) }
-    ensures decided { IsErrOf result FilterError.Read
-        → HasWritten {A = A} R.Read W.Write (P.admits policy) limit reader writer }
+    ensures written { OnOk result (HasFiltered R.Read W.Write
+        (IsFilteredByLines {A = A} limit (P.admits policy)) reader writer) }
+    ensures decided { IsErrOf result FilterError.Read → HasFiltered R.Read W.Write
+        (IsFilteredByLines {A = A} limit (P.admits policy)) reader writer }
     ensures endless { IsErrOf result FilterError.Endless
-        → HasWrittenAtLeast {A = A} R.Read W.Write MOST_READS (P.admits policy) limit
-        reader writer }
+        → HasFilteredAtLeast R.Read W.Write MOST_READS
+        (IsFilteredByLines {A = A} limit (P.admits policy)) reader writer }
     ensures until_refused { IsErrOf result FilterError.Memory
-        → HasWrittenAllBut {A = A} R.Read W.Write (length chunk.old) (P.admits policy) limit
-        reader writer }
-    ensures beginning { OnErr result
-        (HasBegun {A = A} R.Read W.Write (P.admits policy) limit reader writer) }
+        → HasFilteredAllBut R.Read W.Write most_a_read
+        (IsFilteredByLines {A = A} limit (P.admits policy)) reader writer }
+    ensures beginning { OnErr result (HasBegun R.Read W.Write
+        (text_by_lines {A = A} limit (P.admits policy)) reader writer) }
     ensures read_fault { FailsWith result FilterError.Read reader }
     ensures write_fault { FailsWith result FilterError.Write writer }
     ensures refused { IsErrOf result FilterError.Memory → Refused A }
 {
-    let mut filter = Filter::new(alloc, limit, policy);
-    filter_all(&mut filter, reader, writer, chunk)
+    laws::lines_read_back::<A>();
+    let Ok(mut chunk) = memory::read_buffer(alloc) else {
+        return Err(FilterError::Memory);
+    };
+    let mut filter = LineFilter::new(alloc, limit, policy);
+    filter_all(&mut filter, reader, writer, chunk.as_mut_slice())
 }
 
-// The same, by a filter that was fed nothing yet.
-fn filter_all<R: Read, W: Write, P: Admit<A> + Drop, A: Allocator + Copy>(
-    filter: &mut Filter<P, A>,
+// Reads to the end by way of the chunk, and writes what the filter, which gives these texts and was
+// fed nothing, has of each read.
+fn filter_all<R: Read, W: Write, F: Feeding>(
+    filter: &mut F,
     reader: &mut Watched<R>,
     writer: &mut Watched<W>,
     chunk: &mut [u8],
 ) -> Result<(), FilterError>
     requires { 0 < length chunk.old }
     ensures read_all { OnOk result (IsReadWhole R.Read reader) }
-    ensures written { Fresh P.Admit filter.old (λ limit admits.
-        OnOk result (HasWritten R.Read W.Write admits limit reader writer)) }
-    ensures decided { Fresh P.Admit filter.old (λ limit admits.
-        IsErrOf result FilterError.Read → HasWritten R.Read W.Write admits limit reader writer) }
-    ensures endless { Fresh P.Admit filter.old (λ limit admits. IsErrOf result FilterError.Endless
-        → HasWrittenAtLeast R.Read W.Write MOST_READS admits limit reader writer) }
-    ensures until_refused { Fresh P.Admit filter.old (λ limit admits.
-        IsErrOf result FilterError.Memory
-        → HasWrittenAllBut R.Read W.Write (length chunk.old) admits limit reader writer) }
-    ensures beginning { Fresh P.Admit filter.old (λ limit admits.
-        OnErr result (HasBegun R.Read W.Write admits limit reader writer)) }
+    ensures written { New F.Feeding filter.old (λ m.
+        OnOk result (HasWritten R.Read W.Write m reader writer)) }
+    ensures decided { New F.Feeding filter.old (λ m.
+        IsErrOf result FilterError.Read → HasWritten R.Read W.Write m reader writer) }
+    ensures endless { New F.Feeding filter.old (λ m. IsErrOf result FilterError.Endless
+        → HasWrittenAtLeast R.Read W.Write MOST_READS m reader writer) }
+    ensures until_refused { New F.Feeding filter.old (λ m. IsErrOf result FilterError.Memory
+        → HasWrittenAllBut R.Read W.Write (length chunk.old) m reader writer) }
+    ensures beginning { New F.Feeding filter.old (λ m.
+        OnErr result (HasBegun R.Read W.Write m reader writer)) }
     ensures read_fault { FailsWith result FilterError.Read reader }
     ensures write_fault { FailsWith result FilterError.Write writer }
-    ensures refused { Fresh P.Admit filter.old (λ limit admits.
-        IsErrOf result FilterError.Memory → Refused A) }
+    ensures refused { New F.Feeding filter.old (λ m.
+        IsErrOf result FilterError.Memory → F.refusal) }
 {
     for _ in 0..MOST_READS {
         match reader.read(chunk) {
@@ -121,25 +130,24 @@ fn filter_all<R: Read, W: Write, P: Admit<A> + Drop, A: Allocator + Copy>(
 }
 
 // Feeds the filter these bytes, writes the text that they add, and flushes the writer.
-fn pass_on<W: Write, P: Admit<A> + Drop, A: Allocator + Copy>(
-    filter: &mut Filter<P, A>,
+fn pass_on<W: Write, F: Feeding>(
+    filter: &mut F,
     bytes: &[u8],
     writer: &mut Watched<W>,
 ) -> Result<(), FilterError>
-    ensures given { After P.Admit filter.old (λ limit admits s.
-        OnOk result (PassesOn W.Write admits limit s bytes.now filter.new writer)) }
-    ensures beginning { After P.Admit filter.old (λ limit admits s.
-        OnErr result (PassesPrefixOn W.Write admits limit s bytes.now writer)) }
-    ensures policy { policy_of filter.new ≡ policy_of filter.old }
+    ensures given { Given F.Feeding filter.old (λ m s.
+        OnOk result (PassesOn F.Feeding W.Write m s bytes.now filter.new writer)) }
+    ensures beginning { Given F.Feeding filter.old (λ m s.
+        OnErr result (PassesPrefixOn W.Write m s bytes.now writer)) }
     ensures no_read { IsErrOf result FilterError.Read → ⊥ }
     ensures no_end { IsErrOf result FilterError.Endless → ⊥ }
     ensures unwritten { IsErrOf result FilterError.Memory → writer.new ≡ writer.old }
     ensures write_fault { FailsWith result FilterError.Write writer }
-    ensures refused { After P.Admit filter.old (λ limit admits s.
-        IsErrOf result FilterError.Memory → Refused A) }
+    ensures refused { Given F.Feeding filter.old (λ m s.
+        IsErrOf result FilterError.Memory → F.refusal) }
 {
-    match filter.feed(bytes) {
-        Ok(()) => write_out(writer, filter.text()),
+    match filter.feed_piece(bytes) {
+        Ok(()) => write_out(writer, filter.added_text()),
         Err(_) => Err(FilterError::Memory),
     }
 }

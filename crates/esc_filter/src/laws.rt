@@ -4,6 +4,7 @@ ghost use Rattle.std.specs.Prelude.{◌≡◌, ◌++◌, ℕ, Bool, List, Option
 ghost use Rattle.std.specs.List.{filter};
 ghost use Rattle.esc_actions.specs.Meaning.{yield_within};
 ghost use Rattle.esc_actions.specs.Values.{Value};
+ghost use Rattle.esc_filter.specs.Lines.{IsFilteredByLines, text_by_lines};
 ghost use Rattle.esc_filter.specs.Passing.{IsFiltered, passed, passed_text, passes};
 
 use esc_actions::laws;
@@ -26,4 +27,14 @@ pub fn passed_more<A: Allocator>()
         (yield_within limit s b) }
 {
     laws::meaning_of_more::<A>();
+}
+
+/// The text of what passes of a stream whose lines are streams of their own reads back as what
+/// passes of them, line by line, whatever is admitted.
+pub fn lines_read_back<A: Allocator>()
+    ensures { (limit : ℕ) (admits : Value A → Bool) (s : List ℕ)
+        → IsFilteredByLines limit admits s (text_by_lines limit admits s) }
+{
+    passed_reads_back::<A>();
+    laws::reads_by_itself::<A>();
 }

@@ -15,6 +15,7 @@
 
 mod admit;
 mod encoder;
+mod feeding;
 mod filter;
 mod filter_error;
 mod filtering;
@@ -29,7 +30,7 @@ pub use admit::Admit;
 pub use encoder::Encoder;
 pub use filter::Filter;
 pub use filter_error::FilterError;
-pub use filtering::{MOST_READS, filter_stream};
-pub use laws::{passed_more, passed_reads_back};
+pub use filtering::{MOST_READS, filter_lines, filter_stream};
+pub use laws::{lines_read_back, passed_more, passed_reads_back};
 pub use line_filter::LineFilter;
 pub use policy::Policy;

@@ -1,96 +1,71 @@
-use Rattle.std.proofs.Common.{rules, Err, ◌≡◌, ◌≤◌, ◌<◌, ◌++◌, [], Some, length, take, subst, sym, ap, ◌∙◌, arith}
+use Rattle.std.proofs.Common.{rules, Err, ◌≡◌, ◌≤◌, ◌<◌, ◌++◌, [], length, take, subst, sym, ap, ◌∙◌, arith}
 use Rattle.std.proofs.lemmas.Grind.{common_steps}
 use Rattle.std.proofs.KnownBytes.{Appends-nil, Consumes-kept, Consumes-nil, Consumes-trans}
 use Rattle.std.specs.Io.KnownBytes.{Appends}
-use Rattle.std.specs.List.{filter}
-use Rattle.esc_actions.proofs.Meanings.{meaning_nil}
-use Rattle.esc_actions.specs.Texts.{list_text}
 use Rattle.esc_parse.proofs.Lists.{on_err_any}
 use Rattle.std.proofs.lemmas.Result.{err_from_is_err_and}
 use Rattle.esc_filter.proofs.Results.{err_is, one_more, prefix_after, prefix_whole, read_none, written_more}
-use Rattle.esc_filter.proofs.Steps.{Passes, PassesSome}
 use Rattle.esc_filter.proofs.filtering.filter_all.Goals as goal
-use Rattle.esc_filter.specs.Fed.{WasFed}
-use Rattle.esc_filter.specs.Passing.{passed_text, passes}
 
 pub loop-init : goal.loop-init
 loop-init g c = record {
   reader = λ h. h;
   writer = λ h. h;
-  read = λ limit policy fresh.
-      let nothing = ap (λ vs. list_text (filter (passes (g.P.Admit.admits policy)) vs))
-      (sym (meaning_nil (Some limit))) in (
-        fresh.1,
-        (
-          [],
-          Consumes-nil _,
-          fresh.0,
-          subst (λ t. Appends (g.W.Write.contents c.args.writer.now.inner)
-              (g.W.Write.contents c.args.writer.now.inner) t) nothing (Appends-nil _),
-          omega arith,
-        ),
-      );
+  read = λ m fresh none. (
+    [],
+    Consumes-nil _,
+    fresh,
+    subst (λ t. Appends (g.W.Write.contents c.args.writer.now.inner)
+        (g.W.Write.contents c.args.writer.now.inner) t) (sym none) (Appends-nil _),
+    omega arith,
+  );
 }
 
 pub returns-in-Ok-eq0-clause-written : goal.returns-in-Ok-eq0-clause-written
-returns-in-Ok-eq0-clause-written g c = λ limit policy fresh.
-    let r = (c.loop.invariant.read limit policy fresh).1 in
-    let none : c.in-Ok-eq0.field-0 ≡ 0 = search rules in
-    (r.0, read_none _ _ _ r.0 _ c.read.new.buf none r.1 c.in-Ok-eq0.ensures.bytes.0, r.3)
+returns-in-Ok-eq0-clause-written g c = λ m fresh none.
+    let r = c.loop.invariant.read m fresh none in
+    let zero : c.in-Ok-eq0.field-0 ≡ 0 = search rules in
+    (r.0, read_none _ _ _ r.0 _ c.read.new.buf zero r.1 c.in-Ok-eq0.ensures.bytes.0, r.3)
 
 pub returns-in-Err-clause-decided : goal.returns-in-Err-clause-decided
-returns-in-Err-clause-decided g c = λ limit policy fresh _.
-    let r = (c.loop.invariant.read limit policy fresh).1 in
+returns-in-Err-clause-decided g c = λ m fresh none _.
+    let r = c.loop.invariant.read m fresh none in
     (r.0, Consumes-kept _ _ _ r.0 r.1 c.in-Err.ensures.bytes, r.3)
 
 pub returns-in-Err-clause-beginning : goal.returns-in-Err-clause-beginning
-returns-in-Err-clause-beginning g c = λ limit policy fresh.
-    let r = (c.loop.invariant.read limit policy fresh).1 in
+returns-in-Err-clause-beginning g c = λ m fresh none.
+    let r = c.loop.invariant.read m fresh none in
     (r.0, Consumes-kept _ _ _ r.0 r.1 c.in-Err.ensures.bytes, prefix_whole _ _ _ r.3)
 
 pub returns-clause-beginning : goal.returns-clause-beginning
-returns-clause-beginning g c = λ limit policy fresh.
-    let r = (c.loop.invariant.read limit policy fresh).1 in
+returns-clause-beginning g c = λ m fresh none.
+    let r = c.loop.invariant.read m fresh none in
     (r.0, r.1, prefix_whole _ _ _ r.3)
 
 pub loop-preserved : goal.loop-preserved
 loop-preserved g c =
-    let inv = c.loop.invariant in
-    let admits = g.P.Admit.admits in
     let piece = take c.in-Ok.n c.read.new.buf in
     let some : 0 < c.in-Ok.n = omega arith in
     record {
       reader = grind (arith, common_steps);
       writer = grind (arith, common_steps);
-      read = λ limit policy fresh.
-          let k = inv.read limit policy fresh in
-          let r = k.1 in
-          let f = subst (λ p. WasFed limit (admits p) r.0 c.loop.filter
-          → Passes limit (admits p) r.0 piece c.pass_on.new.filter
-          (g.W.Write.contents c.loop.writer.inner) (g.W.Write.contents c.pass_on.new.writer.inner))
-          k.0 (c.in_ok-pass_on-in-Ok.ensures.given limit r.0) r.2 in (
-            c.in_ok-pass_on-in-Ok.ensures.policy ∙ k.0,
-            (
-              r.0 ++ piece,
-              Consumes-trans _ _ _ r.0 piece r.1 c.in-Ok.ensures.bytes.0,
-              f.0,
-              written_more _ _ _ _ f.1.0 _ r.3 f.1.2 f.1.1,
-              one_more c.loop.counter c.in-Ok.n r.0 c.read.new.buf r.4 some c.in-Ok.ensures.bound.1,
-            ),
+      read = λ m fresh none.
+          let r = c.loop.invariant.read m fresh none in
+          let f = c.in_ok-pass_on-in-Ok.ensures.given m r.0 r.2 in (
+            r.0 ++ piece,
+            Consumes-trans _ _ _ r.0 piece r.1 c.in-Ok.ensures.bytes.0,
+            f.0,
+            written_more _ _ _ _ f.1.0 _ r.3 f.1.2 f.1.1,
+            one_more c.loop.counter c.in-Ok.n r.0 c.read.new.buf r.4 some c.in-Ok.ensures.bound.1,
           );
     }
 
 pub returns-in_err-pass_on-in-Ok-clause-beginning
     : goal.returns-in_err-pass_on-in-Ok-clause-beginning
-returns-in_err-pass_on-in-Ok-clause-beginning g c = λ limit policy fresh.
-    let k = c.loop.invariant.read limit policy fresh in
-    let r = k.1 in
-    let admits = g.P.Admit.admits in
+returns-in_err-pass_on-in-Ok-clause-beginning g c = λ m fresh none.
+    let r = c.loop.invariant.read m fresh none in
     let piece = take c.in-Ok.n c.read.new.buf in
-    let f = subst (λ p. WasFed limit (admits p) r.0 c.loop.filter
-    → PassesSome limit (admits p) r.0 piece
-    (g.W.Write.contents c.loop.writer.inner) (g.W.Write.contents c.pass_on.new.writer.inner)) k.0
-    (c.in_err-pass_on-in-Ok.ensures.beginning limit r.0) r.2 in
+    let f = c.in_err-pass_on-in-Ok.ensures.beginning m r.0 r.2 in
     on_err_any _ c.from_residual.result (
       r.0 ++ piece,
       Consumes-trans _ _ _ r.0 piece r.1 c.in-Ok.ensures.bytes.0,
@@ -98,28 +73,26 @@ returns-in_err-pass_on-in-Ok-clause-beginning g c = λ limit policy fresh.
     )
 
 pub returns-in_err-pass_on-in-Ok-clause-refused : goal.returns-in_err-pass_on-in-Ok-clause-refused
-returns-in_err-pass_on-in-Ok-clause-refused g c = λ limit policy fresh memory.
-    let k = c.loop.invariant.read limit policy fresh in
+returns-in_err-pass_on-in-Ok-clause-refused g c = λ m fresh none memory.
+    let r = c.loop.invariant.read m fresh none in
     let p = err_from_is_err_and c.from_residual.result c.from_residual.ensures.1 in
-    c.in_err-pass_on-in-Ok.ensures.refused limit k.1.0
-    (subst (λ x. WasFed limit (g.P.Admit.admits x) k.1.0 c.loop.filter) (sym k.0) k.1.2)
+    c.in_err-pass_on-in-Ok.ensures.refused m r.0 r.2
     (ap Err (sym p.2 ∙ err_is c.from_residual.result p.0 _ p.1 memory))
 
 pub returns-clause-endless : goal.returns-clause-endless
-returns-clause-endless g c = λ limit policy fresh _.
-    let r = (c.loop.invariant.read limit policy fresh).1 in
+returns-clause-endless g c = λ m fresh none _.
+    let r = c.loop.invariant.read m fresh none in
     let least : 18446744073709551615 ≤ length r.0 = omega (arith, r.4) in
     (r.0, least, r.1, r.3)
 
 pub returns-in_err-pass_on-in-Ok-clause-until_refused
     : goal.returns-in_err-pass_on-in-Ok-clause-until_refused
-returns-in_err-pass_on-in-Ok-clause-until_refused g c = λ limit policy fresh memory.
-    let r = (c.loop.invariant.read limit policy fresh).1 in
+returns-in_err-pass_on-in-Ok-clause-until_refused g c = λ m fresh none memory.
+    let r = c.loop.invariant.read m fresh none in
     let p = err_from_is_err_and c.from_residual.result c.from_residual.ensures.1 in
     let piece = take c.in-Ok.n c.read.new.buf in
     let same = c.in_err-pass_on-in-Ok.ensures.unwritten
     (ap Err (sym p.2 ∙ err_is c.from_residual.result p.0 _ p.1 memory)) in
-    let written = passed_text (Some limit) (g.P.Admit.admits policy) r.0 in
     let within : length piece ≤ length c.args.chunk.now =
     omega (arith, c.in-Ok.ensures.bound.0, c.in-Ok.ensures.bound.1) in (
       r.0,
@@ -127,5 +100,5 @@ returns-in_err-pass_on-in-Ok-clause-until_refused g c = λ limit policy fresh me
       within,
       Consumes-trans _ _ _ r.0 piece r.1 c.in-Ok.ensures.bytes.0,
       subst (λ w. Appends (g.W.Write.contents c.args.writer.now.inner)
-          (g.W.Write.contents w.inner) written) (sym same) r.3,
+          (g.W.Write.contents w.inner) (m r.0)) (sym same) r.3,
     )
