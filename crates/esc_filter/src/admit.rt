@@ -86,6 +86,10 @@ pub trait Admit<A: Allocator> {
     /// [`admits_command`](Admit::admits_command) or [`admits_images`](Admit::admits_images) returns
     /// false. It does nothing, unless an implementation does.
     fn leaves_out(&self, _action: &Action<A>) {}
+
+    /// Is told that a line feed was added to the text of a line, whose own was taken away: in most
+    /// cases by a string that nobody had ended. It does nothing, unless an implementation does.
+    fn closes_line(&self) {}
 }
 
 // Whether the action passes: it can be written by itself, and is admitted.

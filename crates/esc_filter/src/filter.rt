@@ -92,6 +92,11 @@ impl<P: Admit<A>, A: Allocator + Copy> Filter<P, A> {
         self.spell.follows_string = false;
     }
 
+    /// Tells the policy that a line feed was added to the text of a line.
+    pub(crate) fn close_line(&self) {
+        self.policy.closes_line();
+    }
+
     /// The text that the bytes fed last added.
     pub fn text(&self) -> &str
         ensures { result.now ≡ added_by self.now }

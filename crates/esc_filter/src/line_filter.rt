@@ -168,6 +168,7 @@ impl<P: Admit<A>, A: Allocator + Copy> LineFilter<P, A> {
             self.ends_line = false;
             return Ok(());
         }
+        self.filter.close_line();
         memory::push_char(&mut self.text, '\n')
     }
 }

@@ -26,8 +26,8 @@ const FAULT: u8 = 1;
 const USAGE_FAULT: u8 = 2;
 
 const USAGE: &str = "\
-usage: escfilter [--allow text|color|screen|all] [--limit size] [--report] [-h|--help] \
-[-V|--version] [--] [FILE..]";
+usage: escfilter [--allow text|color|screen|all] [--lines|--whole] [--limit size] [--report] \
+[-h|--help] [-V|--version] [--] [FILE..]";
 
 const HELP: &str = "\
 Writes what the policy admits of each FILE, or of standard input, as it is read.
@@ -36,6 +36,9 @@ Writes what the policy admits of each FILE, or of standard input, as it is read.
   --allow color   and colours, renditions and links (the default); colour is the same
   --allow screen  and what changes the screen alone
   --allow all     and all that can be written by itself, queries too
+  --lines         takes each line as a stream of its own, so that no string takes away the
+                  lines after it (the default with text and color)
+  --whole         takes each FILE as one stream (the default with screen and all)
   --limit size    the most bytes of an unfinished sequence that are kept (1MiB): a number,
                   as 65536, or 64K, 1M or 1G, also as 64KiB, in powers of 1024
   --report        says on standard error what was left out

@@ -13,6 +13,8 @@ pub struct Options {
     pub limit: usize,
     /// Whether it is reported what was left out.
     pub reports: bool,
+    /// Whether each line is a stream of its own.
+    pub by_lines: bool,
 }
 
 /// What the program does.
@@ -51,6 +53,16 @@ const KNOWN: &[Known] = &[
         takes: Takes::Size,
     },
     Known {
+        name: "--lines",
+        letter: "",
+        takes: Takes::Nothing,
+    },
+    Known {
+        name: "--whole",
+        letter: "",
+        takes: Takes::Nothing,
+    },
+    Known {
         name: "--report",
         letter: "",
         takes: Takes::Nothing,
@@ -84,22 +96,36 @@ impl<'a, A: Allocator + Copy> Task<'a, A> {
             policy: Policy::Color,
             limit: DEFAULT_LIMIT,
             reports: false,
+            by_lines: false,
         };
+        let mut by_lines = None;
         for given in &found.options {
             match given.name {
                 "--allow" => options.policy = policy_of(given.word),
                 "--limit" => options.limit = given.size,
+                "--lines" => by_lines = Some(true),
+                "--whole" => by_lines = Some(false),
                 "--report" => options.reports = true,
                 "--help" => kind = Kind::Help,
                 "--version" => kind = Kind::Version,
                 _ => {}
             }
         }
+        options.by_lines = by_lines.unwrap_or(is_by_lines(options.policy));
         Task {
             kind,
             options,
             files: found.files,
         }
+    }
+}
+
+// Whether each line is a stream of its own under this policy, where the words do not say so: one
+// that passes text and its colours alone is for logs.
+fn is_by_lines(policy: Policy) -> bool {
+    match policy {
+        Policy::Text | Policy::Color => true,
+        Policy::Screen | Policy::All => false,
     }
 }
 

@@ -15,9 +15,11 @@ use std::io::Write;
 /// its end.
 #[derive(Clone, Copy)]
 pub struct Tally {
-    // all actions, passed or left out, and the line feeds that passed
+    // all actions, passed or left out, and the line feeds that passed or were added
     actions: u64,
     lines: u64,
+    // the lines that were closed, as their own line feeds were taken away
+    closed: u64,
     // the number of the first that was left out, from 1 on, and of the line of the output that it
     // would be on
     first: u64,
@@ -43,6 +45,7 @@ impl Tally {
         Tally {
             actions: 0,
             lines: 0,
+            closed: 0,
             first: 0,
             first_line: 0,
             left: Kinds {
@@ -65,6 +68,13 @@ impl Tally {
         if is_line_feed(action) {
             self.lines = self.lines.saturating_add(1);
         }
+        self
+    }
+
+    // The tally after one more line that was closed.
+    fn closed_line(mut self) -> Tally {
+        self.lines = self.lines.saturating_add(1);
+        self.closed = self.closed.saturating_add(1);
         self
     }
 
@@ -130,14 +140,18 @@ impl Tally {
             }
         }
         if self.first == 0 {
-            let _ = writeln!(faults, " none of {} actions", self.actions);
+            let _ = write!(faults, " none of {} actions", self.actions);
         } else {
-            let _ = writeln!(
+            let _ = write!(
                 faults,
                 " of {} actions, first action {}, on line {} of the output",
                 self.actions, self.first, self.first_line
             );
         }
+        if self.closed > 0 {
+            let _ = write!(faults, "; {} lines end inside a string", self.closed);
+        }
+        let _ = writeln!(faults);
     }
 }
 
@@ -215,6 +229,12 @@ impl<'t, A: Allocator> Admit<A> for Counting<'t> {
     fn leaves_out(&self, action: &Action<A>) {
         if let Some(tally) = self.tally {
             tally.set(tally.get().left_out(action));
+        }
+    }
+
+    fn closes_line(&self) {
+        if let Some(tally) = self.tally {
+            tally.set(tally.get().closed_line());
         }
     }
 }
