@@ -1,9 +1,9 @@
 -- Modes of ECMA-48. Each has its row.
-use Rattle.std.proofs.Common.{◌≡◌, ℕ, ◌<◌, true, ◌==◌, map, get_or, Some, zero-add, refl, sym, ap, ◌∙◌}
+use Rattle.std.proofs.Common.{◌≡◌, ℕ, ◌<◌, Bool, true, false, ◌==◌, map, get_or, Option, Some, None, zero-add, refl, sym, ap, ◌∙◌, inl, inr}
 use Rattle.std.specs.List.{range_with_len, list_all}
 use Rattle.std.proofs.lemmas.List.{get_or-map}
 use Rattle.std.proofs.lemmas.List.FromFn.{get_or-range_with_len}
-use Rattle.std.proofs.lemmas.Bool.{eqb-true}
+use Rattle.std.proofs.lemmas.Bool.{cases_Bool, eqb-true}
 use denote.Enum.Bare.{tag_one}
 use denote.Enum.Declared.{variants}
 use denote.Enum.Enum.{tag_below}
@@ -14,7 +14,7 @@ use Rattle.esc_functions.specs.declared.mode.Mode.TheVariants as variant
 use Rattle.esc_functions.specs.declared.mode_table.TheConstants.{ROWS}
 use Rattle.esc_functions.specs.contracts.mode.Mode.{the_type}
 use Rattle.esc_functions.specs.Effects.{is_screen_effect}
-use Rattle.esc_functions.specs.Modes.{place, number_of, mode_of, changes_screen}
+use Rattle.esc_functions.specs.Modes.{place, number_of, mode_of, changes_screen, is_screen}
 use Rattle.esc_functions.proofs.Numbered.{Numbered, numbered_in}
 
 in_order : map (λ r. place r.mode) ROWS ≡ range_with_len 0 22
@@ -79,3 +79,30 @@ pub has_its_number : (n : ℕ) (m : Mode) → mode_of n ≡ Some m → number_of
 unfolding mode_of
 has_its_number n m h =
     in_table n m (numbered_in (λ r. number_of r.mode == r.number) ROWS n m numbers_are_theirs h)
+
+-- the only mode that changes the screen alone has the number 4
+only_row : map (λ r. r.number == 4) ROWS ≡ map (λ r. changes_screen r.mode) ROWS
+unfolding changes_screen
+only_row = refl
+
+only_mode : (m : Mode) → (number_of m == 4) ≡ changes_screen m
+only_mode m =
+    ap (λ n. n == 4) (sym (row_number m some_row))
+    ∙ row_fact (λ r. r.number == 4) (λ r. changes_screen r.mode) only_row m some_row
+    ∙ ap changes_screen (row_has m some_row)
+
+only_found : (n : ℕ) (o : Option Mode) → mode_of n ≡ o → (n == 4) ≡ false → is_screen o ≡ false
+only_found n None e h = refl
+only_found n (Some m) e h =
+    sym (only_mode m) ∙ ap (λ k. k == 4) (has_its_number n m e) ∙ h
+
+is_the_fourth : is_screen (mode_of 4) ≡ true
+unfolding mode_of changes_screen
+is_the_fourth = refl
+
+pub by_number : (n : ℕ) → (n == 4) ≡ is_screen (mode_of n)
+by_number n =
+    elim (cases_Bool (n == 4)) [
+      | inl held ↦ held ∙ sym (ap (λ k. is_screen (mode_of k)) (eqb-true n 4 held) ∙ is_the_fourth)
+      | inr failed ↦ failed ∙ sym (only_found n (mode_of n) refl failed)
+    ]

@@ -1,6 +1,6 @@
 -- Modes by their numbers.
-use Rattle.std.proofs.Common.{◌≡◌, ℕ, ◌==◌, Bool, true, List, [], ◌∷◌, Some, inl, inr}
-use Rattle.std.specs.List.{list_all}
+use Rattle.std.proofs.Common.{◌≡◌, ℕ, ◌==◌, Bool, true, List, [], ◌∷◌, Some, inl, inr, ap, ◌∙◌}
+use Rattle.std.specs.List.{list_all, list_any}
 use Rattle.std.proofs.lemmas.Bool.{cases_Bool, and_parts, eqb-true}
 use Rattle.esc_functions.specs.declared.mode_row.ModeRow.{ModeRow}
 use Rattle.esc_functions.specs.Rows.{first_numbered}
@@ -22,4 +22,15 @@ numbered_in p (r ∷ rs) n m all h =
           let is : r.mode ≡ m = cc in
           record { row = r; passes = parts.0; numbered = eqb-true r.number n same; named = is }
       | inr other ↦ numbered_in p rs n m parts.1 (rw other at h)
+    ]
+
+-- what is so of each number of a list is so of one that is on it
+pub listed_fact : (t : ℕ → Bool) (ks : List ℕ) (n : ℕ) → list_all t ks ≡ true
+    → list_any (λ k. n == k) ks ≡ true → t n ≡ true
+listed_fact t [] n all h = cc
+listed_fact t (k ∷ ks) n all h =
+    let parts = and_parts (t k) (list_all t ks) all in
+    elim (cases_Bool (n == k)) [
+      | inl same ↦ ap t (eqb-true n k same) ∙ parts.0
+      | inr other ↦ listed_fact t ks n parts.1 (rw other at h)
     ]

@@ -1,9 +1,9 @@
 -- Private modes. Each has its row.
-use Rattle.std.proofs.Common.{◌≡◌, ℕ, ◌<◌, true, ◌==◌, map, get_or, Some, zero-add, refl, sym, ap, ◌∙◌}
+use Rattle.std.proofs.Common.{◌≡◌, ℕ, ◌<◌, Bool, true, false, ◌==◌, map, get_or, Option, Some, None, zero-add, refl, sym, ap, ◌∙◌, inl, inr}
 use Rattle.std.specs.List.{range_with_len, list_all}
 use Rattle.std.proofs.lemmas.List.{get_or-map}
 use Rattle.std.proofs.lemmas.List.FromFn.{get_or-range_with_len}
-use Rattle.std.proofs.lemmas.Bool.{eqb-true}
+use Rattle.std.proofs.lemmas.Bool.{cases_Bool, eqb-true}
 use denote.Enum.Bare.{tag_one}
 use denote.Enum.Declared.{variants}
 use denote.Enum.Enum.{tag_below}
@@ -14,8 +14,8 @@ use Rattle.esc_functions.specs.declared.private_mode.PrivateMode.TheVariants as 
 use Rattle.esc_functions.specs.declared.private_mode_table.TheConstants.{ROWS}
 use Rattle.esc_functions.specs.contracts.private_mode.PrivateMode.{the_type}
 use Rattle.esc_functions.specs.Effects.{is_screen_effect}
-use Rattle.esc_functions.specs.PrivateModes.{place, number_of, mode_of, changes_screen}
-use Rattle.esc_functions.proofs.Numbered.{Numbered, numbered_in}
+use Rattle.esc_functions.specs.PrivateModes.{place, number_of, mode_of, changes_screen, is_screen, screen_numbers, is_listed}
+use Rattle.esc_functions.proofs.Numbered.{Numbered, numbered_in, listed_fact}
 
 in_order : map (λ r. place r.mode) ROWS ≡ range_with_len 0 134
 unfolding place
@@ -82,3 +82,31 @@ pub has_its_number : (n : ℕ) (m : PrivateMode) → mode_of n ≡ Some m → nu
 unfolding mode_of
 has_its_number n m h =
     in_table n m (numbered_in (λ r. number_of r.mode == r.number) ROWS n m numbers_are_theirs h)
+
+-- the numbers of the modes that change the screen alone are those of the list
+listed_are : list_all (λ n. is_screen (mode_of n)) screen_numbers ≡ true
+unfolding mode_of changes_screen
+listed_are = refl
+
+listed_rows : map (λ r. is_listed r.number) ROWS ≡ map (λ r. changes_screen r.mode) ROWS
+unfolding changes_screen
+listed_rows = refl
+
+listed_mode : (m : PrivateMode) → is_listed (number_of m) ≡ changes_screen m
+listed_mode m =
+    ap is_listed (sym (row_number m some_row))
+    ∙ row_fact (λ r. is_listed r.number) (λ r. changes_screen r.mode) listed_rows m some_row
+    ∙ ap changes_screen (row_has m some_row)
+
+listed_found : (n : ℕ) (o : Option PrivateMode) → mode_of n ≡ o → is_listed n ≡ false
+    → is_screen o ≡ false
+listed_found n None e h = refl
+listed_found n (Some m) e h =
+    sym (listed_mode m) ∙ ap is_listed (has_its_number n m e) ∙ h
+
+pub by_number : (n : ℕ) → is_listed n ≡ is_screen (mode_of n)
+by_number n =
+    elim (cases_Bool (is_listed n)) [
+      | inl held ↦ held ∙ sym (listed_fact (λ k. is_screen (mode_of k)) screen_numbers n listed_are held)
+      | inr failed ↦ failed ∙ sym (listed_found n (mode_of n) refl failed)
+    ]

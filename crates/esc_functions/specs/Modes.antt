@@ -1,5 +1,5 @@
 -- Modes of ECMA-48.
-use Rattle.std.specs.Prelude.{ℕ, Bool, true, false, map, get_or, Option}
+use Rattle.std.specs.Prelude.{ℕ, Bool, true, false, map, get_or, Option, Some, None}
 use Rattle.esc_functions.specs.Rows.{first_numbered}
 use Rattle.esc_functions.specs.declared.mode.Mode.{Mode}
 use Rattle.esc_functions.specs.declared.mode.Mode.TheVariants as variant
@@ -23,3 +23,8 @@ mode_of n = first_numbered ROWS n
 unfoldable pub changes_screen : Mode → Bool
 changes_screen variant.IRM = true
 changes_screen _ = false
+
+-- there is a mode, and it changes the screen alone
+abbrev pub is_screen : Option Mode → Bool
+is_screen None = false
+is_screen (Some m) = changes_screen m

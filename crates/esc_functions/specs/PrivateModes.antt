@@ -1,5 +1,6 @@
 -- Private modes.
-use Rattle.std.specs.Prelude.{ℕ, Bool, true, false, map, get_or, Option}
+use Rattle.std.specs.Prelude.{ℕ, Bool, true, false, ◌==◌, List, [], ◌∷◌, map, get_or, Option, Some, None}
+use Rattle.std.specs.List.{list_any}
 use Rattle.esc_functions.specs.Rows.{first_numbered}
 use Rattle.esc_functions.specs.declared.private_mode.PrivateMode.{PrivateMode}
 use Rattle.esc_functions.specs.declared.private_mode.PrivateMode.TheVariants as variant
@@ -33,3 +34,15 @@ changes_screen variant.SavedCursor = true
 changes_screen variant.AlternateScreenWithCursor = true
 changes_screen variant.SynchronizedOutput = true
 changes_screen _ = false
+
+-- there is a mode, and it changes the screen alone
+abbrev pub is_screen : Option PrivateMode → Bool
+is_screen None = false
+is_screen (Some m) = changes_screen m
+
+-- their numbers
+abbrev pub screen_numbers : List ℕ
+screen_numbers = 5 ∷ 6 ∷ 7 ∷ 12 ∷ 25 ∷ 47 ∷ 69 ∷ 1047 ∷ 1048 ∷ 1049 ∷ 2026 ∷ []
+
+abbrev pub is_listed : ℕ → Bool
+is_listed n = list_any (λ k. n == k) screen_numbers

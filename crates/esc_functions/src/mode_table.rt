@@ -4,7 +4,7 @@
 //! VT510's manual (CRM, <https://vt100.net/docs/vt510-rm/chapter4.html>).
 ghost use Rattle.std.specs.Prelude.{◌≡◌, ◌<◌};
 ghost use Rattle.esc_functions.specs.Effects.{is_screen_effect};
-ghost use Rattle.esc_functions.specs.Modes.{changes_screen, mode_of, number_of, place};
+ghost use Rattle.esc_functions.specs.Modes.{changes_screen, is_screen, mode_of, number_of, place};
 
 use crate::effect::Effect;
 use crate::find::numbered;
@@ -110,6 +110,15 @@ impl Mode {
         ensures { result ≡ changes_screen self }
     {
         self.row().effect.is_screen()
+    }
+
+    /// Whether this is the number of a mode that changes the screen alone.
+    #[tactic(auto, using(crate::proofs::Modes::by_number))]
+    #[inline]
+    pub fn is_screen_number(number: u64) -> bool
+        ensures { result ≡ is_screen (mode_of number) }
+    {
+        number == 4
     }
 }
 

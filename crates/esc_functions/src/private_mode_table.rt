@@ -7,7 +7,7 @@
 //! mintty (<https://github.com/mintty/mintty/wiki/CtrlSeqs>), TeraTerm and Windows.
 ghost use Rattle.std.specs.Prelude.{◌≡◌, ◌<◌};
 ghost use Rattle.esc_functions.specs.Effects.{is_screen_effect};
-ghost use Rattle.esc_functions.specs.PrivateModes.{changes_screen, mode_of, number_of, place};
+ghost use Rattle.esc_functions.specs.PrivateModes.{changes_screen, is_listed, is_screen, mode_of, number_of, place};
 
 use crate::effect::Effect;
 use crate::find::numbered;
@@ -226,6 +226,26 @@ impl PrivateMode {
     {
         self.row().effect.is_screen()
     }
+
+    /// Whether this is the number of a mode that changes the screen alone.
+    #[tactic(auto, using(crate::proofs::PrivateModes::by_number))]
+    #[inline]
+    pub fn is_screen_number(number: u64) -> bool
+        ensures { result ≡ is_screen (mode_of number) }
+    {
+        is_listed(number)
+    }
+}
+
+// Whether it is on the list of these numbers, by which they are known without a search.
+#[inline]
+fn is_listed(number: u64) -> bool
+    ensures { result ≡ is_listed number }
+{
+    matches!(
+        number,
+        5 | 6 | 7 | 12 | 25 | 47 | 69 | 1047 | 1048 | 1049 | 2026
+    )
 }
 
 // The place of its row.
