@@ -12,3 +12,4 @@ pub mod ByLines
 pub mod LineFeeds
 pub mod ReadLines
 pub mod Begun
+pub mod Screens

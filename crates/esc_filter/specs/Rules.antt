@@ -1,5 +1,5 @@
 -- What the policies admit.
-use Rattle.std.specs.Prelude.{ℕ, ◌≡◌, ◌≢◌, ◌≤◌, Bool, true, false, not, pos, negsuc, ◌==◌, nat_le, ◌&&◌, ◌||◌, List, [], ◌∷◌, length, Some, None}
+use Rattle.std.specs.Prelude.{ℕ, ◌≡◌, ◌≢◌, ◌≤◌, Bool, true, false, not, pos, negsuc, ◌==◌, ◌&&◌, ◌||◌, List, [], ◌∷◌, Option, Some, None}
 use Rattle.std.specs.List.{list_all}
 use Rattle.esc_sequences.specs.Csis.{CsiValue, sgr, unspecified}
 use Rattle.esc_values.specs.Params.{is_from}
@@ -7,7 +7,16 @@ use Rattle.esc_values.specs.declared.csi_param.CsiParam.{CsiParam}
 use Rattle.esc_values.specs.declared.csi_param.CsiParam.TheVariants.{Integer, P}
 use Rattle.esc_sequences.specs.declared.esc.Esc.{Esc}
 use Rattle.esc_sequences.specs.declared.esc.Esc.TheVariants as esc_variant
-use Rattle.esc_sequences.specs.declared.esc_code.EscCode.TheVariants as esc_code
+use Rattle.esc_functions.specs.Effects.{changes_screen}
+use Rattle.esc_functions.specs.EscapeEffects.{changes_screen as escape_changes_screen}
+use Rattle.esc_functions.specs.Escapes.{named as escape_named}
+use Rattle.esc_functions.specs.Functions.{function_of, sequence_key}
+use Rattle.esc_functions.specs.Modes.{mode_of, is_screen as is_screen_mode}
+use Rattle.esc_functions.specs.PrivateModes.{mode_of as private_mode_of, is_screen as is_screen_private_mode}
+use Rattle.esc_functions.specs.declared.control_function.ControlFunction.{ControlFunction}
+use Rattle.esc_functions.specs.declared.control_function.ControlFunction.TheVariants as function
+use Rattle.esc_functions.specs.declared.escape_function.EscapeFunction.{EscapeFunction}
+use Rattle.esc_functions.specs.declared.escape_function.EscapeFunction.TheVariants as escape_function
 use Rattle.esc_osc_values.specs.declared.change_color_pair.ChangeColorPair.{ChangeColorPair}
 use Rattle.esc_osc_values.specs.declared.color_or_query.ColorOrQuery.{ColorOrQuery}
 use Rattle.esc_osc_values.specs.declared.color_or_query.ColorOrQuery.TheVariants as color
@@ -66,67 +75,25 @@ is_colour _ = false
 abbrev pub is_screen_control : ℕ → Bool
 is_screen_control n = is_from 0x07 0x0f n
 
--- With plain parameters: `@` and `A` to `M` (insert; up, down, right, left; lines; column; place;
--- tabs; erase in screen and line; insert and delete lines), `P` `S` `X` `Z` (delete, scroll, erase,
--- back a tab), backquote `a` `b` (column, repeat), `d` `e` `f` `g` (row, place, tab stops), `r` `s`
--- `u` (margins, save and restore the cursor)
-abbrev pub moves_or_erases : ℕ → Bool
-moves_or_erases f = is_from 0x40 0x4d f
-    ||
-    ((f == 0x50)
-    || ((f == 0x53) || ((f == 0x58) || ((f == 0x5a) || (is_from 0x60 0x62 f || (is_from 0x64 0x67 f
-    || ((f == 0x72) || ((f == 0x73) || (f == 0x75)))))))))
-
--- `T` scrolls down where it has at most one parameter; with more it asks for the mouse
-abbrev pub scrolls_down : List CsiParam → ℕ → Bool
-scrolls_down es f = (f == 0x54) && nat_le (length es) 1
-
--- `h` sets modes and `l` resets them
-abbrev pub changes_modes : ℕ → Bool
-changes_modes f = (f == 0x68) || (f == 0x6c)
-
 -- one parameter, which passes the test
 abbrev pub is_lone : (CsiParam → Bool) → List CsiParam → Bool
 is_lone test [] = false
 is_lone test (e ∷ []) = test e
 is_lone test (e ∷ d ∷ es) = false
 
--- insert mode, 4
-abbrev pub is_insert_mode : CsiParam → Bool
-is_insert_mode (Integer (pos n)) = n == 4
-is_insert_mode (Integer (negsuc n)) = false
-is_insert_mode (P b) = false
+-- the number of a mode of ECMA-48 that changes the screen alone
+abbrev pub is_mode : CsiParam → Bool
+is_mode (Integer (pos n)) = is_screen_mode (mode_of n)
+is_mode (Integer (negsuc n)) = false
+is_mode (P b) = false
 
--- a private mode of what is shown: reverse video 5, origin 6, wrapping 7, a cursor that blinks 12,
--- the cursor 25, the other screen 47, 1047 and 1049, the cursor's place 1048, margins 69,
--- synchronized output 2026
-abbrev pub is_screen_mode : ℕ → Bool
-is_screen_mode n = is_from 5 7 n
-    ||
-    ((n == 12) || ((n == 25) || ((n == 47) || ((n == 69) || (is_from 1047 1049 n || (n == 2026))))))
+-- the number of a private mode that changes the screen alone, or the prefix `?`, or `;`
+abbrev pub is_private_mode : CsiParam → Bool
+is_private_mode (Integer (pos n)) = is_screen_private_mode (private_mode_of n)
+is_private_mode (Integer (negsuc n)) = false
+is_private_mode (P b) = (b == 0x3f) || (b == 0x3b)
 
--- the number of such a mode, or `;`
-abbrev pub is_mode_param : CsiParam → Bool
-is_mode_param (Integer (pos n)) = is_screen_mode n
-is_mode_param (Integer (negsuc n)) = false
-is_mode_param (P b) = b == 0x3b
-
--- with the private prefix `?`: `J` and `K` erase what is not protected; `h` and `l` change modes,
--- where each is one of what is shown
-abbrev pub is_private : List CsiParam → ℕ → Bool
-is_private es f = (((f == 0x4a) || (f == 0x4b)) && list_all is_plain_param es)
-    || (changes_modes f && list_all is_mode_param es)
-
--- the private prefix `?`
-abbrev pub is_marked : CsiParam → Bool
-is_marked (Integer n) = false
-is_marked (P b) = b == 0x3f
-
-abbrev pub is_privately_marked : List CsiParam → ℕ → Bool
-is_privately_marked [] f = false
-is_privately_marked (e ∷ es) f = is_marked e && is_private es f
-
--- a space, before which there may be a number: with the final byte `q` this is the cursor's shape
+-- a space, before which there may be a number: a shape of the cursor
 abbrev pub is_space : CsiParam → Bool
 is_space (Integer n) = false
 is_space (P b) = b == 0x20
@@ -136,32 +103,48 @@ is_shape [] = false
 is_shape (Integer n ∷ es) = is_lone is_space es
 is_shape (P b ∷ es) = is_lone is_space (P b ∷ es)
 
+-- whether a function with these parameters changes the screen alone. Modes do where one is set or
+-- reset, and of private ones where all are, of which the table of modes says it; a shape of the
+-- cursor where it is one number. Of any other function its row says it, whatever its parameters are
+unfoldable pub changes_with : ControlFunction → List CsiParam → Bool
+changes_with function.SM es = is_lone is_mode es
+changes_with function.RM es = is_lone is_mode es
+changes_with function.DECSET es = list_all is_private_mode es
+changes_with function.DECRST es = list_all is_private_mode es
+changes_with function.DECSCUSR es = is_shape es
+changes_with f es = changes_screen f
+
+abbrev pub is_screen_function : Option ControlFunction → List CsiParam → Bool
+is_screen_function None es = false
+is_screen_function (Some f) es = changes_with f es
+
 abbrev pub is_screen_body : List CsiParam → ℕ → Bool
-is_screen_body es f = (moves_or_erases f && list_all is_plain_param es)
-    || ((scrolls_down es f && list_all is_plain_param es)
-    || ((changes_modes f && is_lone is_insert_mode es)
-    || (is_privately_marked es f || ((f == 0x71) && is_shape es))))
+is_screen_body es f = is_screen_function (function_of (sequence_key es f)) es
 
 abbrev pub is_screen_sequence : CsiValue → Bool
 is_screen_sequence (sgr s) = true
 is_screen_sequence (unspecified es more f) = is_screen_body es f
 
--- without intermediate `7` and `8` save and restore the cursor, `D`, `E` and `M` move it by a line
-abbrev pub is_line_move : ℕ → Bool
-is_line_move f = (f == 0x37) || ((f == 0x38) || ((f == 0x44) || ((f == 0x45) || (f == 0x4d))))
+-- the character sets `0`, `A` and `B`: graphics of DEC, United Kingdom and US-ASCII
+abbrev pub is_common_set : Esc → Bool
+is_common_set (esc_variant.Unspecified i f) = (f == 0x30) || ((f == 0x41) || (f == 0x42))
+is_common_set (esc_variant.Code c) = false
 
--- after `(` `)` `*` `+` the character sets `0`, `A` and `B`; after `#` large lines `3` to `6`, and
--- the test pattern `8`
-abbrev pub is_designation : ℕ → ℕ → Bool
-is_designation i f = (is_from 0x28 0x2b i && ((f == 0x30) || ((f == 0x41) || (f == 0x42))))
-    || ((i == 0x23) && (is_from 0x33 0x36 f || (f == 0x38)))
+-- whether an escape sequence of this function changes the screen alone: the designation of G0 to G3
+-- where the set is one of these, and any other where its row says it
+unfoldable pub escape_changes_with : EscapeFunction → Esc → Bool
+escape_changes_with escape_function.GZD4 e = is_common_set e
+escape_changes_with escape_function.G1D4 e = is_common_set e
+escape_changes_with escape_function.G2D4 e = is_common_set e
+escape_changes_with escape_function.G3D4 e = is_common_set e
+escape_changes_with f e = escape_changes_screen f
+
+abbrev pub is_escape_function : Option EscapeFunction → Esc → Bool
+is_escape_function None e = false
+is_escape_function (Some f) e = escape_changes_with f e
 
 abbrev pub is_screen_escape : Esc → Bool
-is_screen_escape (esc_variant.Code esc_code.HorizontalTabSet) = true
-is_screen_escape (esc_variant.Code esc_code.StringTerminator) = false
-is_screen_escape (esc_variant.Code esc_code.TmuxTitle) = false
-is_screen_escape (esc_variant.Unspecified None f) = is_line_move f
-is_screen_escape (esc_variant.Unspecified (Some i) f) = is_designation i f
+is_screen_escape e = is_escape_function (escape_named e) e
 
 -- a colour, and no question for one
 abbrev pub is_set : ColorOrQuery → Bool

@@ -1,11 +1,20 @@
 //! Laws of what passes a filter. Each holds for every allocator `A`, which the type of the actions
 //! names.
-ghost use Rattle.std.specs.Prelude.{◌≡◌, ◌++◌, ℕ, Bool, List, Option};
+ghost use Rattle.std.specs.Prelude.{◌≡◌, ◌++◌, ℕ, Bool, List, Option, Some, false, true};
 ghost use Rattle.std.specs.List.{filter};
 ghost use Rattle.esc_actions.specs.Meaning.{yield_within};
 ghost use Rattle.esc_actions.specs.Values.{Value};
 ghost use Rattle.esc_filter.specs.Lines.{IsFilteredByLines, text_by_lines};
+ghost use Rattle.esc_sequences.specs.Csis.{CsiValue};
+ghost use Rattle.esc_sequences.specs.declared.esc.Esc.{Esc};
+ghost use Rattle.esc_functions.specs.Effects.{is_answered};
+ghost use Rattle.esc_functions.specs.EscapeEffects.{is_answered as escape_is_answered};
+ghost use Rattle.esc_functions.specs.Escapes.{named as escape_named};
+ghost use Rattle.esc_functions.specs.Functions.{named};
+ghost use Rattle.esc_functions.specs.declared.control_function.ControlFunction.{ControlFunction};
+ghost use Rattle.esc_functions.specs.declared.escape_function.EscapeFunction.{EscapeFunction};
 ghost use Rattle.esc_filter.specs.Passing.{IsFiltered, passed, passed_text, passes};
+ghost use Rattle.esc_filter.specs.Rules.{is_screen_escape, is_screen_sequence};
 
 use esc_actions::laws;
 use std::alloc::Allocator;
@@ -38,3 +47,12 @@ pub fn lines_read_back<A: Allocator>()
     passed_reads_back::<A>();
     laws::reads_by_itself::<A>();
 }
+
+/// No control or escape sequence that `Policy::Screen` admits as such has a function that a
+/// terminal answers.
+pub fn screen_is_not_answered()
+    ensures sequences { (c : CsiValue) (f : ControlFunction) → named c ≡ Some f
+        → is_screen_sequence c ≡ true → is_answered f ≡ false }
+    ensures escapes { (s : Esc) (f : EscapeFunction) → escape_named s ≡ Some f
+        → is_screen_escape s ≡ true → escape_is_answered f ≡ false }
+{}

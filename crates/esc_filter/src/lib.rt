@@ -31,6 +31,6 @@ pub use encoder::Encoder;
 pub use filter::Filter;
 pub use filter_error::FilterError;
 pub use filtering::{MOST_READS, filter_lines, filter_stream};
-pub use laws::{lines_read_back, passed_more, passed_reads_back};
+pub use laws::{lines_read_back, passed_more, passed_reads_back, screen_is_not_answered};
 pub use line_filter::LineFilter;
 pub use policy::Policy;

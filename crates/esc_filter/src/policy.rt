@@ -24,9 +24,10 @@ pub enum Policy {
     /// And graphic renditions (SGR) and hyperlinks.
     Color,
     /// And what changes the screen alone: the controls 07 to 0F; cursor movement, erasing,
-    /// inserting, deleting, scrolling, margins and tab stops; modes of what is shown, character
-    /// sets, the cursor's shape, and colours of the palette. It is a list of what is known to be
-    /// so: nothing that a terminal answers, nothing that changes what keys, mouse or terminal send,
+    /// inserting, deleting, copying, filling, scrolling, margins and tab stops; modes of what is
+    /// shown, character sets, the cursor's shape, and colours of the palette. Which control and
+    /// escape sequences do so is stated by the tables of `esc_functions`. It is a list of what is
+    /// known to be so: nothing that a terminal answers, nothing that changes what keys, mouse or terminal send,
     /// no title, clipboard, notification, file, directory, print, device control string or
     /// application program command is on it, and nothing unknown.
     Screen,

@@ -1,17 +1,17 @@
-//! What changes the screen alone (xterm's list of control sequences,
-//! <https://invisible-island.net/xterm/ctlseqs/ctlseqs.html>).
+//! What changes the screen alone: of control and escape sequences, by the tables of
+//! `esc_functions`.
 ghost use Rattle.std.specs.Prelude.{◌≡◌};
 ghost use Rattle.std.specs.List.{list_all};
 ghost use Rattle.esc_sequences.specs.Csis.{csi_value};
 ghost use Rattle.esc_values.specs.Params.{is_from};
-ghost use Rattle.esc_values.specs.declared.csi_param.CsiParam.TheVariants.{Integer};
 ghost use Rattle.esc_actions.specs.Values.{value_of};
-ghost use Rattle.esc_filter.specs.Rules.{changes_modes, is_designation, is_insert_mode, is_line_move, is_lone, is_mode_param, is_palette, is_private, is_privately_marked, is_screen, is_screen_body, is_screen_control, is_screen_escape, is_screen_sequence, is_set, is_set_pair, is_shape, is_space, moves_or_erases, scrolls_down};
+ghost use Rattle.esc_filter.specs.Rules.{changes_with, escape_changes_with, is_common_set, is_lone, is_mode, is_palette, is_private_mode, is_screen, is_screen_body, is_screen_control, is_screen_escape, is_screen_sequence, is_set, is_set_pair, is_shape, is_space};
 
 use crate::policy::are_plain;
 use esc_actions::Action;
+use esc_functions::{ControlFunction, EscapeFunction, Mode, PrivateMode};
 use esc_osc::{ChangeColorPair, ColorOrQuery, OperatingSystemCommand};
-use esc_sequences::{CSI, Esc, EscCode};
+use esc_sequences::{CSI, Esc};
 use esc_values::CsiParam;
 use std::alloc::Allocator;
 
@@ -38,34 +38,33 @@ fn is_screen_control(code: char) -> bool
 fn is_screen_escape(esc: Esc) -> bool
     ensures { result ≡ is_screen_escape esc }
 {
-    match esc {
-        Esc::Code(EscCode::HorizontalTabSet) => true,
-        Esc::Code(EscCode::StringTerminator) | Esc::Code(EscCode::TmuxTitle) => false,
-        Esc::Unspecified {
-            intermediate: None,
-            control,
-        } => is_line_move(control),
-        Esc::Unspecified {
-            intermediate: Some(first),
-            control,
-        } => is_designation(first, control),
+    match EscapeFunction::of(esc) {
+        Some(function) => escape_changes_with(function, esc),
+        None => false,
     }
 }
 
-// Whether the escape sequence saves or restores the cursor, or moves it by a line.
-fn is_line_move(control: u8) -> bool
-    ensures { result ≡ is_line_move control }
+// Whether an escape sequence of this function changes the screen alone.
+fn escape_changes_with(function: EscapeFunction, esc: Esc) -> bool
+    ensures { result ≡ escape_changes_with function esc }
 {
-    control == b'7' || control == b'8' || control == b'D' || control == b'E' || control == b'M'
+    match function {
+        EscapeFunction::GZD4 => is_common_set(esc),
+        EscapeFunction::G1D4 => is_common_set(esc),
+        EscapeFunction::G2D4 => is_common_set(esc),
+        EscapeFunction::G3D4 => is_common_set(esc),
+        _ => function.changes_screen(),
+    }
 }
 
-// Whether the escape sequence names a character set, makes a line large, or shows the test pattern.
-fn is_designation(intermediate: u8, control: u8) -> bool
-    ensures { result ≡ is_designation intermediate control }
+// Whether its final byte names the graphics of DEC, the set of the United Kingdom or US-ASCII.
+fn is_common_set(esc: Esc) -> bool
+    ensures { result ≡ is_common_set esc }
 {
-    let is_set = is_from(b'(', b'+', intermediate)
-        && (control == b'0' || control == b'A' || control == b'B');
-    is_set || (intermediate == b'#' && (is_from(b'3', b'6', control) || control == b'8'))
+    match esc {
+        Esc::Code(_) => false,
+        Esc::Unspecified { control, .. } => control == b'0' || control == b'A' || control == b'B',
+    }
 }
 
 fn is_screen_sequence<A: Allocator>(csi: &CSI<A>) -> bool
@@ -80,126 +79,98 @@ fn is_screen_sequence<A: Allocator>(csi: &CSI<A>) -> bool
     }
 }
 
-// The same, of a sequence that has no name.
+// The same, of a sequence that has no name of its own: by the table of functions. That the plain
+// ones from ICH to DL change the screen alone is known before the table is asked.
+#[tactic(auto, using(crate::proofs::Screens::plain_moves))]
 pub(crate) fn is_screen_body(params: &[CsiParam], control: u8) -> bool
     ensures { result ≡ is_screen_body params.now control }
 {
-    (moves_or_erases(control) && are_plain(params))
-        || (scrolls_down(params, control) && are_plain(params))
-        || (changes_modes(control) && is_insert_mode(params))
-        || is_privately_marked(params, control)
-        || (control == b'q' && is_shape(params))
-}
-
-// Whether the final byte is of a sequence that moves, erases, inserts, deletes or scrolls.
-fn moves_or_erases(control: u8) -> bool
-    ensures { result ≡ moves_or_erases control }
-{
-    is_from(b'@', b'M', control)
-        || control == b'P'
-        || control == b'S'
-        || control == b'X'
-        || control == b'Z'
-        || is_from(b'`', b'b', control)
-        || is_from(b'd', b'g', control)
-        || control == b'r'
-        || control == b's'
-        || control == b'u'
-}
-
-// Whether the sequence scrolls down.
-fn scrolls_down(params: &[CsiParam], control: u8) -> bool
-    ensures { result ≡ scrolls_down params.now control }
-{
-    control == b'T' && params.len() <= 1
-}
-
-// Whether the final byte is of a sequence that changes modes.
-fn changes_modes(control: u8) -> bool
-    ensures { result ≡ changes_modes control }
-{
-    control == b'h' || control == b'l'
-}
-
-// Whether the parameters are the number of insert mode.
-fn is_insert_mode(params: &[CsiParam]) -> bool
-    ensures { result ≡ is_lone is_insert_mode params.now }
-{
-    let Some((first, rest)) = params.split_first() else {
-        return false;
-    };
-    rest.is_empty() && *first == CsiParam::Integer(4)
-}
-
-// Whether the sequence has the private prefix, and changes the screen alone.
-fn is_privately_marked(params: &[CsiParam], control: u8) -> bool
-    ensures { result ≡ is_privately_marked params.now control }
-{
-    let Some((first, rest)) = params.split_first() else {
-        return false;
-    };
-    *first == CsiParam::P(b'?') && is_private(rest, control)
-}
-
-// Whether the sequence, which has the private prefix, changes the screen alone.
-fn is_private(params: &[CsiParam], control: u8) -> bool
-    ensures { result ≡ is_private params.now control }
-{
-    ((control == b'J' || control == b'K') && are_plain(params))
-        || (changes_modes(control) && are_screen_modes(params))
-}
-
-// Whether all are numbers of private modes of what is shown, or `;`.
-fn are_screen_modes(params: &[CsiParam]) -> bool
-    ensures { result ≡ list_all is_mode_param params.now }
-{
-    params.iter().all(is_mode_param)
-}
-
-// Whether it is the number of a private mode of what is shown, or `;`.
-fn is_mode_param(param: &CsiParam) -> bool
-    ensures { result ≡ is_mode_param param.now }
-{
-    match param {
-        CsiParam::Integer(number) => is_screen_mode(*number),
-        CsiParam::P(b) => *b == b';',
+    if is_move(control) && are_plain(params) {
+        return true;
+    }
+    match ControlFunction::of_csi_params(params, control) {
+        Some(function) => changes_with(function, params),
+        None => false,
     }
 }
 
-// Whether it is the number of a private mode of what is shown.
-fn is_screen_mode(number: i64) -> bool
-    ensures { result ≡ is_mode_param (Integer number) }
+// Whether the final byte is that of ICH, of a movement of the cursor, of ED, EL, IL or DL.
+fn is_move(control: u8) -> bool
+    ensures { result ≡ is_from 0x40 0x4d control }
 {
-    (5 <= number && number <= 7)
-        || number == 12
-        || number == 25
-        || number == 47
-        || number == 69
-        || (1047 <= number && number <= 1049)
-        || number == 2026
+    b'@' <= control && control <= b'M'
+}
+
+// Whether a function with these parameters changes the screen alone.
+#[inline]
+fn changes_with(function: ControlFunction, params: &[CsiParam]) -> bool
+    ensures { result ≡ changes_with function params.now }
+{
+    match function {
+        ControlFunction::SM => is_lone_mode(params),
+        ControlFunction::RM => is_lone_mode(params),
+        ControlFunction::DECSET => are_private_modes(params),
+        ControlFunction::DECRST => are_private_modes(params),
+        ControlFunction::DECSCUSR => is_shape(params),
+        _ => function.changes_screen(),
+    }
+}
+
+// Whether the parameters are the number of a mode that changes the screen alone.
+fn is_lone_mode(params: &[CsiParam]) -> bool
+    ensures { result ≡ is_lone is_mode params.now }
+{
+    match params {
+        [param] => is_mode(param),
+        _ => false,
+    }
+}
+
+// Whether it is the number of a mode that changes the screen alone.
+fn is_mode(param: &CsiParam) -> bool
+    ensures { result ≡ is_mode param.now }
+{
+    match param {
+        CsiParam::Integer(number) => *number >= 0 && Mode::is_screen_number(*number as u64),
+        CsiParam::P(_) => false,
+    }
+}
+
+// Whether all are numbers of private modes that change the screen alone, or `;`, after the prefix.
+fn are_private_modes(params: &[CsiParam]) -> bool
+    ensures { result ≡ list_all is_private_mode params.now }
+{
+    params.iter().all(is_private_mode)
+}
+
+// Whether it is the number of a private mode that changes the screen alone, the prefix, or `;`.
+fn is_private_mode(param: &CsiParam) -> bool
+    ensures { result ≡ is_private_mode param.now }
+{
+    match param {
+        CsiParam::Integer(number) => {
+            *number >= 0 && PrivateMode::is_screen_number(*number as u64)
+        }
+        CsiParam::P(b) => *b == b'?' || *b == b';',
+    }
 }
 
 // Whether the parameters are a space, before which there may be a number.
 fn is_shape(params: &[CsiParam]) -> bool
     ensures { result ≡ is_shape params.now }
 {
-    let Some((first, rest)) = params.split_first() else {
-        return false;
-    };
-    match first {
-        CsiParam::Integer(_) => is_space(rest),
-        CsiParam::P(_) => is_space(params),
+    match params {
+        [CsiParam::Integer(_), last] => is_space(last),
+        [only] => is_space(only),
+        _ => false,
     }
 }
 
-// Whether the parameters are a space.
-fn is_space(params: &[CsiParam]) -> bool
-    ensures { result ≡ is_lone is_space params.now }
+// Whether it is a space.
+fn is_space(param: &CsiParam) -> bool
+    ensures { result ≡ is_space param.now }
 {
-    let Some((first, rest)) = params.split_first() else {
-        return false;
-    };
-    rest.is_empty() && *first == CsiParam::P(b' ')
+    *param == CsiParam::P(b' ')
 }
 
 // Whether the command changes colours and asks for none.
@@ -241,11 +212,4 @@ fn is_set(color: &ColorOrQuery) -> bool
     ensures { result ≡ is_set color.now }
 {
     matches!(color, ColorOrQuery::Color(_))
-}
-
-// Whether it lies from `low` to `high`.
-fn is_from(low: u8, high: u8, byte: u8) -> bool
-    ensures { result ≡ is_from low high byte }
-{
-    low <= byte && byte <= high
 }
