@@ -1,62 +1,50 @@
-//! Control codes, by their names (ECMA-48, fifth edition, 8.3; those of the 1970s that it left out,
-//! of its fourth edition).
+//! Controls in words (ECMA-48, fifth edition, 8.3; those of the 1970s that it left out, of its
+//! fourth edition).
 
-use crate::named::Named;
+use crate::escapes::write_c1;
+use crate::writing::write_words;
+use std::fmt;
 
-/// Control codes: what they are, after their names.
-pub const CONTROLS: &[Named] = &[
-    Named(0x00, "NUL null"),
-    Named(0x01, "SOH start of heading"),
-    Named(0x02, "STX start of text"),
-    Named(0x03, "ETX end of text"),
-    Named(0x04, "EOT end of transmission"),
-    Named(0x05, "ENQ enquiry"),
-    Named(0x06, "ACK acknowledge"),
-    Named(0x07, "BEL bell"),
-    Named(0x08, "BS backspace"),
-    Named(0x09, "HT tab"),
-    Named(0x0a, "LF line feed"),
-    Named(0x0b, "VT line tabulation"),
-    Named(0x0c, "FF form feed"),
-    Named(0x0d, "CR carriage return"),
-    Named(0x0e, "SO shift out"),
-    Named(0x0f, "SI shift in"),
-    Named(0x10, "DLE data link escape"),
-    Named(0x11, "DC1 device control one, XON"),
-    Named(0x12, "DC2 device control two"),
-    Named(0x13, "DC3 device control three, XOFF"),
-    Named(0x14, "DC4 device control four"),
-    Named(0x15, "NAK negative acknowledge"),
-    Named(0x16, "SYN synchronous idle"),
-    Named(0x17, "ETB end of transmission block"),
-    Named(0x18, "CAN cancel"),
-    Named(0x19, "EM end of medium"),
-    Named(0x1a, "SUB substitute"),
-    Named(0x1b, "ESC escape"),
-    Named(0x1c, "FS file separator"),
-    Named(0x1d, "GS group separator"),
-    Named(0x1e, "RS record separator"),
-    Named(0x1f, "US unit separator"),
-    Named(0x82, "BPH break permitted here"),
-    Named(0x83, "NBH no break here"),
-    Named(0x84, "IND index"),
-    Named(0x85, "NEL next line"),
-    Named(0x86, "SSA start of selected area"),
-    Named(0x87, "ESA end of selected area"),
-    Named(0x88, "HTS set tab stop"),
-    Named(0x89, "HTJ tab with justification"),
-    Named(0x8a, "VTS set line tab stop"),
-    Named(0x8b, "PLD partial line forward"),
-    Named(0x8c, "PLU partial line backward"),
-    Named(0x8d, "RI reverse line feed"),
-    Named(0x8e, "SS2 single shift two"),
-    Named(0x8f, "SS3 single shift three"),
-    Named(0x91, "PU1 private use one"),
-    Named(0x92, "PU2 private use two"),
-    Named(0x93, "STS set transmit state"),
-    Named(0x94, "CCH cancel character"),
-    Named(0x95, "MW message waiting"),
-    Named(0x96, "SPA start of guarded area"),
-    Named(0x97, "EPA end of guarded area"),
-    Named(0x9a, "SCI single character introducer"),
+// C0 controls, 00 to 1F (hexadecimal): what they are, after their names.
+static CONTROLS: [&str; 32] = [
+    "NUL null",
+    "SOH start of heading",
+    "STX start of text",
+    "ETX end of text",
+    "EOT end of transmission",
+    "ENQ enquiry",
+    "ACK acknowledge",
+    "BEL bell",
+    "BS backspace",
+    "HT tab",
+    "LF line feed",
+    "VT line tabulation",
+    "FF form feed",
+    "CR carriage return",
+    "SO shift out",
+    "SI shift in",
+    "DLE data link escape",
+    "DC1 device control one, XON",
+    "DC2 device control two",
+    "DC3 device control three, XOFF",
+    "DC4 device control four",
+    "NAK negative acknowledge",
+    "SYN synchronous idle",
+    "ETB end of transmission block",
+    "CAN cancel",
+    "EM end of medium",
+    "SUB substitute",
+    "ESC escape",
+    "FS file separator",
+    "GS group separator",
+    "RS record separator",
+    "US unit separator",
 ];
+
+/// Writes a control by its name.
+pub fn write_control<W: fmt::Write>(code: u8, f: &mut fmt::Formatter<W>) -> fmt::Result {
+    if code < 32 {
+        return write_words(&["control ", CONTROLS[code as usize]], f);
+    }
+    write_c1(code, f)
+}

@@ -1,12 +1,9 @@
 //! Control sequences in words.
 
-use crate::function_table::control_function;
-use crate::functions::{Function, Parameters};
-use crate::marks::{Marks, is_mark};
-use crate::modes::mode_words;
-use crate::named::words_of;
+use crate::choices::chosen_words;
 use crate::renditions::{rendition_words, write_renditions};
-use crate::writing::{write_between, write_escaped_char, write_words};
+use crate::writing::{write_choice, write_escaped_char, write_words};
+use esc_functions::{ControlFunction, Mode, Parameters, PrivateMode};
 use escape_stream::csi::Unspecified;
 use escape_stream::{CSI, CsiParam};
 use std::alloc::Allocator;
@@ -42,8 +39,7 @@ fn write_named<W: fmt::Write>(
     last: u8,
     f: &mut fmt::Formatter<W>,
 ) -> fmt::Result {
-    let marks = Marks::of(params);
-    match control_function(marks.as_bytes(), last) {
+    match ControlFunction::of_csi_params(params, last) {
         Some(function) => write_function(function, params, f),
         None => {
             f.write_str("CSI without a name, of the final byte ")?;
@@ -52,31 +48,24 @@ fn write_named<W: fmt::Write>(
     }
 }
 
-// A function with its parameters.
+// A function with its parameters. Those of SGR are words enough.
 fn write_function<W: fmt::Write>(
-    function: Function,
+    function: ControlFunction,
     params: &[CsiParam],
     f: &mut fmt::Formatter<W>,
 ) -> fmt::Result {
-    let Function(_, name, words, parameters) = function;
-    write_words(&["CSI ", name, " ", words], f)?;
-    match parameters {
-        Parameters::Renditions => write_renditions(params, f),
-        Parameters::Numbers => write_csi_params(params, f),
-        Parameters::Modes => write_modes(params, false, f),
-        Parameters::PrivateModes => write_modes(params, true, f),
-        Parameters::OneOf(table) => {
-            write_csi_params(params, f)?;
-            write_choice(words_of(table, first_number(params)), f)
-        }
+    if function == ControlFunction::SGR {
+        f.write_str("CSI SGR ")?;
+        return write_renditions(params, f);
     }
-}
-
-// Words in parentheses, where there are any.
-fn write_choice<W: fmt::Write>(words: Option<&str>, f: &mut fmt::Formatter<W>) -> fmt::Result {
-    match words {
-        Some(words) => write_words(&[" (", words, ")"], f),
-        None => Ok(()),
+    write_words(&["CSI ", function.name(), " ", function.words()], f)?;
+    match function.row().parameters {
+        Parameters::Mode | Parameters::Modes => write_modes(params, f),
+        Parameters::PrivateMode | Parameters::PrivateModes => write_private_modes(params, f),
+        _ => {
+            write_csi_params(params, f)?;
+            write_choice(chosen_words(function, first_number(params)), f)
+        }
     }
 }
 
@@ -114,19 +103,65 @@ fn write_param<W: fmt::Write>(param: CsiParam, f: &mut fmt::Formatter<W>) -> fmt
     }
 }
 
-// Modes, private ones or not, by their numbers, each with its words.
-fn write_modes<W: fmt::Write>(
+// Modes by their numbers, each with its name and its words.
+fn write_modes<W: fmt::Write>(params: &[CsiParam], f: &mut fmt::Formatter<W>) -> fmt::Result {
+    let mut separator = " ";
+    for param in params {
+        if let CsiParam::Integer(number) = *param {
+            f.write_str(separator)?;
+            write_mode(number, f)?;
+            separator = ", ";
+        }
+    }
+    Ok(())
+}
+
+fn write_mode<W: fmt::Write>(number: i64, f: &mut fmt::Formatter<W>) -> fmt::Result {
+    number.fmt(f)?;
+    match Mode::of_number(short(number)) {
+        Some(mode) => write_words(&[" (", mode.name(), " ", mode.words(), ")"], f),
+        None => Ok(()),
+    }
+}
+
+// The same of private modes.
+fn write_private_modes<W: fmt::Write>(
     params: &[CsiParam],
-    is_private: bool,
     f: &mut fmt::Formatter<W>,
 ) -> fmt::Result {
     let mut separator = " ";
     for param in params {
         if let CsiParam::Integer(number) = *param {
-            write_between(separator, &number, "", f)?;
-            write_choice(mode_words(number, is_private), f)?;
+            f.write_str(separator)?;
+            write_private_mode(number, f)?;
             separator = ", ";
         }
     }
     Ok(())
+}
+
+// A name is written where a manual has it: each of those begins with DEC.
+fn write_private_mode<W: fmt::Write>(number: i64, f: &mut fmt::Formatter<W>) -> fmt::Result {
+    number.fmt(f)?;
+    match PrivateMode::of_number(short(number)) {
+        Some(mode) if mode.name().starts_with("DEC") => {
+            write_words(&[" (", mode.name(), " ", mode.words(), ")"], f)
+        }
+        Some(mode) => write_words(&[" (", mode.words(), ")"], f),
+        None => Ok(()),
+    }
+}
+
+// The number of a mode; one that no mode has, where it is longer than any.
+fn short(number: i64) -> u32 {
+    u32::try_from(number).unwrap_or(u32::MAX)
+}
+
+// Whether the parameter is a private prefix or an intermediate: no number, and nothing that
+// separates two.
+fn is_mark(param: CsiParam) -> bool {
+    match param {
+        CsiParam::P(b';') | CsiParam::P(b':') | CsiParam::Integer(_) => false,
+        CsiParam::P(_) => true,
+    }
 }

@@ -2,43 +2,48 @@
 
 pub mod kitty;
 
-use crate::functions::Parameters::Numbers;
-use crate::functions::{Function, function_of};
 use crate::writing::{write_between, write_escaped_char, write_quoted, write_words};
 use escape_stream::{EnterDeviceControlMode, ShortDeviceControl, Sixel, Text};
 use std::alloc::Allocator;
 use std::fmt;
 use std::fmt::Display;
 
+// A device control: its intermediates, or its private prefix, and its final byte; its name; what it
+// does.
+#[derive(Clone, Copy)]
+struct DeviceControl(&'static str, &'static str, &'static str);
+
 // The VT510's manual (<https://vt100.net/docs/vt510-rm/chapter4.html>; DEC..), DEC's manual of
 // ReGIS (<https://vt100.net/docs/vt3xx-gp/chapter1.html>), and xterm's list
 // (<https://invisible-island.net/xterm/ctlseqs/ctlseqs.html>, "Device-Control functions").
-const DEVICE_CONTROLS: &[Function] = &[
-    Function("$q", "DECRQSS", "ask for a setting", Numbers),
-    Function("$r", "DECRPSS", "report of a setting", Numbers),
-    Function("$t", "DECRSPS", "restore presentation state", Numbers),
-    Function("+p", "XTSETTCAP", "set termcap data", Numbers),
-    Function("+r", "XTGETTCAP", "report of termcap data", Numbers),
-    Function(
-        "!u",
-        "DECAUPSS",
-        "assign preferred supplemental set",
-        Numbers,
-    ),
-    Function("!z", "DECDMAC", "define macro", Numbers),
-    Function("!|", "DECRPTUI", "report of the terminal's unit", Numbers),
-    Function(">|", "XTVERSION", "report of name and version", Numbers),
-    Function("=s", "BSU/ESU", "synchronized update", Numbers),
-    Function(
-        "p",
-        "ReGIS",
-        "graphics; or the control mode of tmux",
-        Numbers,
-    ),
-    Function("t", "tmux", "passed on by tmux", Numbers),
-    Function("{", "DECDLD", "load characters", Numbers),
-    Function("|", "DECUDK", "user-defined keys", Numbers),
+const DEVICE_CONTROLS: &[DeviceControl] = &[
+    DeviceControl("$q", "DECRQSS", "ask for a setting"),
+    DeviceControl("$r", "DECRPSS", "report of a setting"),
+    DeviceControl("$t", "DECRSPS", "restore presentation state"),
+    DeviceControl("+p", "XTSETTCAP", "set termcap data"),
+    DeviceControl("+r", "XTGETTCAP", "report of termcap data"),
+    DeviceControl("!u", "DECAUPSS", "assign preferred supplemental set"),
+    DeviceControl("!z", "DECDMAC", "define macro"),
+    DeviceControl("!|", "DECRPTUI", "report of the terminal's unit"),
+    DeviceControl(">|", "XTVERSION", "report of name and version"),
+    DeviceControl("=s", "BSU/ESU", "synchronized update"),
+    DeviceControl("p", "ReGIS", "graphics; or the control mode of tmux"),
+    DeviceControl("t", "tmux", "passed on by tmux"),
+    DeviceControl("{", "DECDLD", "load characters"),
+    DeviceControl("|", "DECUDK", "user-defined keys"),
 ];
+
+// The device control with these intermediates and this final byte, where it has a name.
+fn device_control(intermediates: &[u8], last: u8) -> Option<DeviceControl> {
+    for row in DEVICE_CONTROLS {
+        if let Some((end, before)) = row.0.as_bytes().split_last() {
+            if *end == last && before == intermediates {
+                return Some(*row);
+            }
+        }
+    }
+    None
+}
 
 /// Writes the header of a device control string in words.
 pub fn write_enter<A: Allocator, W: fmt::Write>(
@@ -64,8 +69,8 @@ fn write_header<W: fmt::Write>(
     params: &[i64],
     f: &mut fmt::Formatter<W>,
 ) -> fmt::Result {
-    match function_of(DEVICE_CONTROLS, intermediates, byte) {
-        Some(Function(_, name, words, _)) => write_words(&["DCS ", name, " ", words], f)?,
+    match device_control(intermediates, byte) {
+        Some(DeviceControl(_, name, words)) => write_words(&["DCS ", name, " ", words], f)?,
         None => f.write_str("DCS without a name")?,
     }
     let mut separator = " ";

@@ -3,6 +3,7 @@
 #![tactic(auto)]
 
 mod action_words;
+mod choices;
 mod command_words;
 mod controls;
 mod csi_words;
@@ -10,11 +11,7 @@ mod device_words;
 mod dump;
 mod escapes;
 mod fault;
-mod function_table;
-mod functions;
 mod item;
-mod marks;
-mod modes;
 mod named;
 mod options;
 mod page;

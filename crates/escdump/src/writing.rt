@@ -13,6 +13,14 @@ pub fn write_words<W: fmt::Write>(words: &[&str], f: &mut fmt::Formatter<W>) -> 
     Ok(())
 }
 
+/// Writes words in parentheses, after a space, where there are any.
+pub fn write_choice<W: fmt::Write>(words: Option<&str>, f: &mut fmt::Formatter<W>) -> fmt::Result {
+    match words {
+        Some(words) => write_words(&[" (", words, ")"], f),
+        None => Ok(()),
+    }
+}
+
 /// Writes a value between two texts.
 pub fn write_between<D: Display, W: fmt::Write>(
     before: &str,
