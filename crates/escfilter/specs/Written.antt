@@ -11,13 +11,13 @@ is_written_by true limit p s t = IsFilteredByLines limit p s t
 is_written_by false limit p s t = IsFiltered (Some limit) p s t
 
 -- the text t is what passes of the stream s: of each of its lines, or of the whole
-abbrev pub IsWritten : {A : Type 0} → Options → List ℕ → List ℕ → Type 0
-IsWritten {A} o s t = is_written_by {A = A} o.by_lines o.limit (admits o.policy) s t
+abbrev pub IsWritten : (A : Type 0) → Options → List ℕ → List ℕ → Type 0
+IsWritten A o s t = is_written_by {A = A} o.by_lines o.limit (admits o.policy) s t
 
 abbrev pub text_by : {A : Type 0} → Bool → ℕ → (Value A → Bool) → List ℕ → List ℕ
 text_by {A} true limit p s = text_by_lines {A = A} limit p s
 text_by {A} false limit p s = passed_text {A = A} (Some limit) p s
 
 -- that text
-abbrev pub text_of : {A : Type 0} → Options → List ℕ → List ℕ
-text_of {A} o s = text_by {A = A} o.by_lines o.limit (admits o.policy) s
+abbrev pub text_of : (A : Type 0) → Options → List ℕ → List ℕ
+text_of A o s = text_by {A = A} o.by_lines o.limit (admits o.policy) s

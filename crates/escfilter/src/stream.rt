@@ -31,15 +31,15 @@ pub fn filter_named<A: Allocator + Copy, R: Read, W: Write, E: Write>(
 ) -> Result<(), FilterError>
     ensures read_all { OnOk result (IsReadWhole R.Read reader) }
     ensures written { OnOk result
-        (HasFiltered R.Read W.Write (IsWritten {A = A} options) reader writer) }
+        (HasFiltered R.Read W.Write (IsWritten A options) reader writer) }
     ensures decided { IsErrOf result FilterError.Read
-        → HasFiltered R.Read W.Write (IsWritten {A = A} options) reader writer }
+        → HasFiltered R.Read W.Write (IsWritten A options) reader writer }
     ensures endless { IsErrOf result FilterError.Endless → HasFilteredAtLeast
-        R.Read W.Write MOST_READS (IsWritten {A = A} options) reader writer }
+        R.Read W.Write MOST_READS (IsWritten A options) reader writer }
     ensures until_refused { IsErrOf result FilterError.Memory → HasFilteredAllBut
-        R.Read W.Write most_a_read (IsWritten {A = A} options) reader writer }
+        R.Read W.Write most_a_read (IsWritten A options) reader writer }
     ensures beginning { OnErr result
-        (HasBegun R.Read W.Write (text_of {A = A} options) reader writer) }
+        (HasBegun R.Read W.Write (text_of A options) reader writer) }
     ensures read_fault { FailsWith result FilterError.Read reader }
     ensures write_fault { FailsWith result FilterError.Write writer }
 {
@@ -66,15 +66,15 @@ fn filter_by<A: Allocator + Copy, R: Read, W: Write>(
     requires { policy.policy ≡ options.policy }
     ensures read_all { OnOk result (IsReadWhole R.Read reader) }
     ensures written { OnOk result
-        (HasFiltered R.Read W.Write (IsWritten {A = A} options) reader writer) }
+        (HasFiltered R.Read W.Write (IsWritten A options) reader writer) }
     ensures decided { IsErrOf result FilterError.Read
-        → HasFiltered R.Read W.Write (IsWritten {A = A} options) reader writer }
+        → HasFiltered R.Read W.Write (IsWritten A options) reader writer }
     ensures endless { IsErrOf result FilterError.Endless → HasFilteredAtLeast
-        R.Read W.Write MOST_READS (IsWritten {A = A} options) reader writer }
+        R.Read W.Write MOST_READS (IsWritten A options) reader writer }
     ensures until_refused { IsErrOf result FilterError.Memory → HasFilteredAllBut
-        R.Read W.Write most_a_read (IsWritten {A = A} options) reader writer }
+        R.Read W.Write most_a_read (IsWritten A options) reader writer }
     ensures beginning { OnErr result
-        (HasBegun R.Read W.Write (text_of {A = A} options) reader writer) }
+        (HasBegun R.Read W.Write (text_of A options) reader writer) }
     ensures read_fault { FailsWith result FilterError.Read reader }
     ensures write_fault { FailsWith result FilterError.Write writer }
 {
