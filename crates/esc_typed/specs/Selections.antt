@@ -1,0 +1,91 @@
+-- The parameters of a control sequence SGR as its renditions, one after another.
+use Rattle.std.specs.Prelude.{ℕ, zero, suc, ◌+◌, ◌==◌, if◌then◌else◌, List, [], ◌∷◌, ◌++◌, length, map, take, Option, Some, None}
+use Rattle.std.specs.Option.{option_map}
+use Rattle.esc_values.specs.declared.csi_param.CsiParam.{CsiParam}
+use Rattle.esc_values.specs.declared.csi_param.CsiParam.TheVariants.{P}
+use Rattle.esc_sequences.specs.Csis.{is_separator}
+use Rattle.esc_typed.specs.declared.rendition.Rendition.{Rendition}
+use Rattle.esc_typed.specs.declared.renditions.Renditions.{Renditions}
+use Rattle.esc_typed.specs.declared.selection.Selection.{Selection}
+use Rattle.esc_typed.specs.Renditions.{byte_of, is_byte, is_target, normal, rendition_of}
+
+-- how many entries come before the `;` after n others, or in all where there is none
+abbrev pub len_before : ℕ → List CsiParam → ℕ
+len_before n [] = 0
+len_before zero (e ∷ es) = if is_separator e then 0 else suc (len_before zero es)
+len_before (suc n) (e ∷ es) =
+    suc (if is_separator e then len_before n es else len_before (suc n) es)
+
+-- how many `;` a colour has after its target: two before an entry of the palette, four before three
+-- intensities, and all where its kind is another, since nobody can say where that ends
+abbrev pub kind_separators : Option ℕ → ℕ → ℕ
+kind_separators None all = all
+kind_separators (Some k) all = if k == 5 then 2 else if k == 2 then 4 else all
+
+abbrev pub color_separators : List CsiParam → ℕ
+color_separators [] = 1
+color_separators (k ∷ es) = kind_separators (byte_of k) (length es + 2)
+
+-- after a number, what follows it has these
+abbrev pub more_separators : List CsiParam → ℕ
+more_separators [] = 0
+more_separators (m ∷ es) = if is_byte 0x3b m then color_separators es else 0
+
+abbrev pub number_separators : Option ℕ → List CsiParam → ℕ
+number_separators None es = 0
+number_separators (Some n) es = if is_target n then more_separators es else 0
+
+-- how many `;` the entries of the first rendition have
+abbrev pub separators : List CsiParam → ℕ
+separators [] = 0
+separators (e ∷ es) = number_separators (byte_of e) es
+
+-- how many entries the first rendition has
+abbrev pub first_len : List CsiParam → ℕ
+first_len es = len_before (separators es) es
+
+-- The entries of each rendition after the first n entries. No entry is one rendition, and so is
+-- nothing after a `;`.
+abbrev pub cut_after : ℕ → List CsiParam → List (List CsiParam)
+cut_after zero [] = [] ∷ []
+cut_after (suc n) [] = []
+cut_after zero (e ∷ es) =
+    take (first_len (e ∷ es)) (e ∷ es) ∷ cut_after (first_len (e ∷ es)) es
+cut_after (suc n) (e ∷ es) = cut_after n es
+
+-- the entries of each rendition
+abbrev pub cut : List CsiParam → List (List CsiParam)
+cut es = cut_after 0 es
+
+-- a rendition, where it is known, and its entries
+abbrev pub selection_of : List CsiParam → Option Rendition × List CsiParam
+selection_of es = (rendition_of es, es)
+
+-- the renditions of these entries, in order
+abbrev pub selections : List CsiParam → List (Option Rendition × List CsiParam)
+selections es = map selection_of (cut es)
+
+-- what an iterator has left
+abbrev pub left_of : Option (List CsiParam) → List (Option Rendition × List CsiParam)
+left_of None = []
+left_of (Some es) = selections es
+
+abbrev pub left : Renditions → List (Option Rendition × List CsiParam)
+left s = left_of (option_map (λ es. es.now) s.rest)
+
+-- what a caller sees of an item
+abbrev pub seen : Selection → Option Rendition × List CsiParam
+seen x = (x.rendition, x.entries.now)
+
+-- entries with `;` between them
+abbrev pub joined_after : List (List CsiParam) → List CsiParam
+joined_after [] = []
+joined_after (x ∷ xs) = P 0x3b ∷ (x ++ joined_after xs)
+
+abbrev pub joined : List (List CsiParam) → List CsiParam
+joined [] = []
+joined (x ∷ xs) = x ++ joined_after xs
+
+-- a rendition, and its normal spelling
+abbrev pub spelled : Rendition → Option Rendition × List CsiParam
+spelled r = (Some r, normal r)
