@@ -1,9 +1,14 @@
-//! Laws of renditions: nothing of a sequence is lost, and what is written reads back.
+//! Laws of typed values: nothing of renditions is lost, and what is written reads back.
 ghost use Rattle.std.specs.Prelude.{◌≡◌, List, ◌∷◌, map, Some};
 ghost use Rattle.esc_values.specs.declared.csi_param.CsiParam.{CsiParam};
 ghost use Rattle.esc_typed.specs.declared.rendition.Rendition.{Rendition};
+ghost use Rattle.esc_typed.specs.declared.cursor.Cursor.{Cursor};
+ghost use Rattle.esc_typed.specs.declared.edit.Edit.{Edit};
+ghost use Rattle.esc_typed.specs.Arguments.{AreArguments};
+ghost use Rattle.esc_typed.specs.Functions.{cursor, edit, of_params};
 ghost use Rattle.esc_typed.specs.Renditions.{AreRenditions, IsRendition, normal, rendition_of};
 ghost use Rattle.esc_typed.specs.Selections.{cut, joined, selections, spelled};
+ghost use Rattle.esc_typed.specs.Spellings.{cursor_spelling, edit_spelling, entries};
 
 /// The entries of the renditions of a sequence, in order and with `;` between them, are those of
 /// the sequence: nothing of it is lost.
@@ -23,4 +28,18 @@ pub fn reads_back()
 pub fn list_reads_back()
     ensures { (r : Rendition) (rs : List Rendition) → AreRenditions (r ∷ rs)
         → selections (joined (map normal (r ∷ rs))) ≡ map spelled (r ∷ rs) }
+{}
+
+/// What is written of the cursor, in its normal spelling, is read as the same.
+#[tactic(auto, using(crate::proofs::Spelled::cursor_back))]
+pub fn cursor_reads_back()
+    ensures { (c : Cursor) → AreArguments (cursor_spelling c).arguments
+        → of_params (entries (cursor_spelling c)) (cursor_spelling c).last ≡ cursor c }
+{}
+
+/// What is written of an edit, in its normal spelling, is read as the same.
+#[tactic(auto, using(crate::proofs::Spelled::edit_back))]
+pub fn edit_reads_back()
+    ensures { (e : Edit) → AreArguments (edit_spelling e).arguments
+        → of_params (entries (edit_spelling e)) (edit_spelling e).last ≡ edit e }
 {}

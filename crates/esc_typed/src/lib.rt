@@ -1,38 +1,65 @@
-//! Typed values of control sequences: the renditions of SGR, one after another.
+//! Typed values of control sequences: what one asks for, with its parameters as numbers, as a value
+//! that a caller can match; and the renditions of SGR, one after another.
 //!
 //! The standards: ECMA-48
 //! (<https://ecma-international.org/publications-and-standards/standards/ecma-48/>), ISO 8613-6 for
-//! the parts of colours, and xterm's list of control sequences
+//! the parts of colours, DEC's manual of the VT510 (<https://vt100.net/docs/vt510-rm/chapter4.html>)
+//! and xterm's list of control sequences
 //! (<https://invisible-island.net/xterm/ctlseqs/ctlseqs.html>).
 //!
-//! Of `ESC [ 1 ; 38 ; 5 ; 208 m` the parameters are `1`, `;`, `38`, `;`, `5`, `;` and `208`, and
-//! `Renditions::new(parameters)` gives two items, whose renditions are
+//! `Function::of` of `ESC [ ; 4 H` is `Function::Cursor(Cursor::Position { line, col })`, with the
+//! line 1, which stands for what is left out, and the column 4. Of `ESC [ 1 ; 38 ; 5 ; 208 m` it is
+//! `Function::Sgr(renditions)`, which gives two items, whose renditions are
 //! `Some(Rendition::Intensity(Intensity::Bold))` and
 //! `Some(Rendition::Foreground(ColorSpec::PaletteIndex(208)))`.
 #![tactic(auto)]
 
 pub mod ansi_color;
+mod arguments;
 pub mod blink;
 mod color_entries;
 pub mod color_spec;
+pub mod cursor;
+pub mod cursor_style;
+pub mod cursor_tabulation_control;
+pub mod edit;
 mod entries;
+pub mod erase_in_display;
+pub mod erase_in_line;
 pub mod font;
 pub mod frame;
+pub mod function;
 pub mod ideogram;
 pub mod laws;
 mod numbered;
+mod numbers;
+pub mod one_based;
 pub mod rendition;
 pub mod renditions;
 pub mod selection;
+mod spelling;
+mod table;
+pub mod tabulation_clear;
+pub mod unfit;
 pub mod vertical_align;
 
 pub use ansi_color::AnsiColor;
 pub use blink::Blink;
 pub use color_spec::ColorSpec;
+pub use cursor::Cursor;
+pub use cursor_style::CursorStyle;
+pub use cursor_tabulation_control::CursorTabulationControl;
+pub use edit::Edit;
+pub use erase_in_display::EraseInDisplay;
+pub use erase_in_line::EraseInLine;
 pub use font::Font;
 pub use frame::Frame;
+pub use function::Function;
 pub use ideogram::Ideogram;
+pub use one_based::OneBased;
 pub use rendition::Rendition;
 pub use renditions::Renditions;
 pub use selection::Selection;
+pub use tabulation_clear::TabulationClear;
+pub use unfit::Unfit;
 pub use vertical_align::VerticalAlign;

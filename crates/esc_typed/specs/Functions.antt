@@ -1,0 +1,198 @@
+-- The typed values of control sequences.
+use Rattle.std.specs.Prelude.{ℕ, true, false, if◌then◌else◌, List, [], ◌∷◌, Option, Some, None, Result, Ok, Err}
+use Rattle.esc_values.specs.declared.csi_param.CsiParam.{CsiParam}
+use Rattle.esc_values.specs.declared.csi_param.CsiParam.TheVariants.{P}
+use Rattle.esc_sequences.specs.Csis.{CsiValue, sgr, unspecified}
+use Rattle.esc_sequences.specs.declared.intensity.Intensity.TheVariants as intensity
+use Rattle.esc_sequences.specs.declared.sgr.Sgr.{Sgr}
+use Rattle.esc_sequences.specs.declared.sgr.Sgr.TheVariants as known
+use Rattle.esc_sequences.specs.declared.underline.Underline.TheVariants as underline
+use Rattle.esc_functions.specs.declared.control_function.ControlFunction.{ControlFunction}
+use Rattle.esc_functions.specs.declared.control_function.ControlFunction.TheVariants as control
+use Rattle.esc_functions.specs.Functions.{function_of, sequence_key}
+use Rattle.esc_typed.specs.declared.arguments.Arguments.{Arguments}
+use Rattle.esc_typed.specs.declared.arguments.Arguments.TheVariants as args
+use Rattle.esc_typed.specs.declared.arguments.Kind.{Kind}
+use Rattle.esc_typed.specs.declared.arguments.Kind.TheVariants as kind
+use Rattle.esc_typed.specs.declared.cursor.Cursor.{Cursor}
+use Rattle.esc_typed.specs.declared.cursor.Cursor.TheVariants as cursors
+use Rattle.esc_typed.specs.declared.edit.Edit.{Edit}
+use Rattle.esc_typed.specs.declared.edit.Edit.TheVariants as edits
+use Rattle.esc_typed.specs.declared.function.Function.{Function}
+use Rattle.esc_typed.specs.declared.function.Function.TheVariants as function
+use Rattle.esc_typed.specs.declared.one_based.OneBased.{OneBased}
+use Rattle.esc_typed.specs.declared.rendition.Rendition.{Rendition}
+use Rattle.esc_typed.specs.declared.unfit.Unfit.{Unfit}
+use Rattle.esc_typed.specs.declared.unfit.Unfit.TheVariants as unfit
+use Rattle.esc_typed.specs.Arguments.{after_prefix, arguments}
+use Rattle.esc_typed.specs.Choices.{cursor_style_at, cursor_tabulation_control_at, erase_in_display_at, erase_in_line_at, tabulation_clear_at}
+use Rattle.esc_typed.specs.Renditions.{number}
+use Rattle.esc_typed.specs.Selections.{left, selections}
+
+-- a typed value, without where its parameters lie in memory
+pub data Value : Type 0 where
+  cursor : Cursor → Value
+  edit : Edit → Value
+  renditions : List (Option Rendition × List CsiParam) → Value
+  other : Unfit → Value
+
+abbrev pub value_of : Function → Value
+value_of (function.Cursor c) = cursor c
+value_of (function.Edit e) = edit e
+value_of (function.Sgr r) = renditions (left r)
+value_of (function.Other u) = other u
+
+-- which parameters a function has, where it has a typed value
+abbrev pub kind_of : ControlFunction → Option Kind
+kind_of control.CUU = Some kind.Count
+kind_of control.CUD = Some kind.Count
+kind_of control.CUF = Some kind.Count
+kind_of control.CUB = Some kind.Count
+kind_of control.CNL = Some kind.Count
+kind_of control.CPL = Some kind.Count
+kind_of control.CHA = Some kind.Count
+kind_of control.CHT = Some kind.Count
+kind_of control.CVT = Some kind.Count
+kind_of control.CBT = Some kind.Count
+kind_of control.HPA = Some kind.Count
+kind_of control.HPR = Some kind.Count
+kind_of control.VPA = Some kind.Count
+kind_of control.VPR = Some kind.Count
+kind_of control.HPB = Some kind.Count
+kind_of control.VPB = Some kind.Count
+kind_of control.ICH = Some kind.Count
+kind_of control.IL = Some kind.Count
+kind_of control.DL = Some kind.Count
+kind_of control.DCH = Some kind.Count
+kind_of control.SU = Some kind.Count
+kind_of control.SD = Some kind.Count
+kind_of control.ECH = Some kind.Count
+kind_of control.REP = Some kind.Count
+kind_of control.SL = Some kind.Count
+kind_of control.SR = Some kind.Count
+kind_of control.DECIC = Some kind.Count
+kind_of control.DECDC = Some kind.Count
+kind_of control.CUP = Some kind.Place
+kind_of control.HVP = Some kind.Place
+kind_of control.CPR = Some kind.Place
+kind_of control.TBC = Some kind.Selector
+kind_of control.CTC = Some kind.Selector
+kind_of control.DECSCUSR = Some kind.Selector
+kind_of control.ED = Some kind.Selector
+kind_of control.EL = Some kind.Selector
+kind_of control.DECSED = Some kind.Selector
+kind_of control.DECSEL = Some kind.Selector
+kind_of control.DECSTBM = Some kind.Margins
+kind_of control.DECSLRM = Some kind.Margins
+kind_of control.SCOSC = Some kind.Nothing
+kind_of control.SCORC = Some kind.Nothing
+kind_of control.SGR = Some kind.Renditions
+kind_of _ = None
+
+abbrev pub bare : ControlFunction → Value
+bare control.SCOSC = cursor cursors.SaveCursor
+bare control.SCORC = cursor cursors.RestoreCursor
+bare _ = other unfit.Untyped
+
+abbrev pub counted : ControlFunction → OneBased → Value
+counted control.CUU n = cursor (cursors.Up n)
+counted control.CUD n = cursor (cursors.Down n)
+counted control.CUF n = cursor (cursors.Right n)
+counted control.CUB n = cursor (cursors.Left n)
+counted control.CNL n = cursor (cursors.NextLine n)
+counted control.CPL n = cursor (cursors.PrecedingLine n)
+counted control.CHA n = cursor (cursors.CharacterAbsolute n)
+counted control.CHT n = cursor (cursors.ForwardTabulation n)
+counted control.CVT n = cursor (cursors.LineTabulation n)
+counted control.CBT n = cursor (cursors.BackwardTabulation n)
+counted control.HPA n = cursor (cursors.CharacterPositionAbsolute n)
+counted control.HPR n = cursor (cursors.CharacterPositionForward n)
+counted control.VPA n = cursor (cursors.LinePositionAbsolute n)
+counted control.VPR n = cursor (cursors.LinePositionForward n)
+counted control.HPB n = cursor (cursors.CharacterPositionBackward n)
+counted control.VPB n = cursor (cursors.LinePositionBackward n)
+counted control.ICH n = edit (edits.InsertCharacter n)
+counted control.IL n = edit (edits.InsertLine n)
+counted control.DL n = edit (edits.DeleteLine n)
+counted control.DCH n = edit (edits.DeleteCharacter n)
+counted control.SU n = edit (edits.ScrollUp n)
+counted control.SD n = edit (edits.ScrollDown n)
+counted control.ECH n = edit (edits.EraseCharacter n)
+counted control.REP n = edit (edits.Repeat n)
+counted control.SL n = edit (edits.ScrollLeft n)
+counted control.SR n = edit (edits.ScrollRight n)
+counted control.DECIC n = edit (edits.InsertColumn n)
+counted control.DECDC n = edit (edits.DeleteColumn n)
+counted _ n = other unfit.Untyped
+
+abbrev pub placed : ControlFunction → OneBased → OneBased → Value
+placed control.CUP a b = cursor (cursors.Position a b)
+placed control.HVP a b = cursor (cursors.CharacterAndLinePosition a b)
+placed control.CPR a b = cursor (cursors.ActivePositionReport a b)
+placed _ a b = other unfit.Untyped
+
+abbrev pub bounded : ControlFunction → OneBased → Option OneBased → Value
+bounded control.DECSTBM a b = cursor (cursors.SetTopAndBottomMargins a b)
+bounded control.DECSLRM a b = cursor (cursors.SetLeftAndRightMargins a b)
+bounded _ a b = other unfit.Untyped
+
+-- what a choice makes, where there is one
+abbrev pub chosen : {X : Type 0} → (X → Value) → Option X → Value
+chosen f None = other unfit.OutOfRange
+chosen f (Some x) = f x
+
+abbrev pub selected : ControlFunction → ℕ → Value
+selected control.TBC n = chosen (λ c. cursor (cursors.TabulationClear c)) (tabulation_clear_at n)
+selected control.CTC n = chosen (λ c. cursor (cursors.TabulationControl c)) (cursor_tabulation_control_at n)
+selected control.DECSCUSR n = chosen (λ c. cursor (cursors.CursorStyle c)) (cursor_style_at n)
+selected control.ED n = chosen (λ c. edit (edits.EraseInDisplay c)) (erase_in_display_at n)
+selected control.EL n = chosen (λ c. edit (edits.EraseInLine c)) (erase_in_line_at n)
+selected control.DECSED n = chosen (λ c. edit (edits.SelectiveEraseInDisplay c)) (erase_in_display_at n)
+selected control.DECSEL n = chosen (λ c. edit (edits.SelectiveEraseInLine c)) (erase_in_line_at n)
+selected _ n = other unfit.Untyped
+
+-- the value of a function with its parameters
+abbrev pub made : ControlFunction → Arguments → Value
+made f args.Nothing = bare f
+made f (args.Count n) = counted f n
+made f (args.Place l c) = placed f l c
+made f (args.Margins a b) = bounded f a b
+made f (args.Selector n) = selected f n
+
+abbrev pub made_of : ControlFunction → Result Arguments Unfit → Value
+made_of f (Ok a) = made f a
+made_of f (Err u) = other u
+
+abbrev pub of_kind : Option Kind → ControlFunction → List CsiParam → Value
+of_kind None f es = other unfit.Untyped
+of_kind (Some kind.Renditions) f es = renditions (selections es)
+of_kind (Some k) f es = made_of f (arguments k (after_prefix es))
+
+abbrev pub of_named : Option ControlFunction → List CsiParam → Value
+of_named None es = other unfit.Unnamed
+of_named (Some f) es = of_kind (kind_of f) f es
+
+-- the value of a control sequence of these parameters and this final byte
+abbrev pub of_params : List CsiParam → ℕ → Value
+of_params es last = of_named (function_of (sequence_key es last)) es
+
+-- the parameters of a rendition that is read alone
+abbrev pub known_entries : Sgr → List CsiParam
+known_entries known.Reset = number 0 ∷ []
+known_entries (known.Intensity intensity.Bold) = number 1 ∷ []
+known_entries (known.Intensity intensity.Half) = number 2 ∷ []
+known_entries (known.Intensity intensity.Normal) = number 22 ∷ []
+known_entries (known.Italic true) = number 3 ∷ []
+known_entries (known.Italic false) = number 23 ∷ []
+known_entries (known.Underline underline.None) = number 24 ∷ []
+known_entries (known.Underline underline.Single) = number 4 ∷ []
+known_entries (known.Underline underline.Double) = number 21 ∷ []
+known_entries (known.Underline underline.Curly) = number 4 ∷ P 0x3a ∷ number 3 ∷ []
+known_entries (known.Underline underline.Dotted) = number 4 ∷ P 0x3a ∷ number 4 ∷ []
+known_entries (known.Underline underline.Dashed) = number 4 ∷ P 0x3a ∷ number 5 ∷ []
+
+-- the value of a control sequence
+abbrev pub of_csi : CsiValue → Value
+of_csi (sgr s) = renditions (selections (known_entries s))
+of_csi (unspecified es truncated last) =
+    if truncated then other unfit.Truncated else of_params es last

@@ -1,0 +1,76 @@
+-- The normal spellings of typed values.
+use Rattle.std.specs.Prelude.{ℕ, List, [], ◌∷◌, ◌++◌, Option, Some, None}
+use Rattle.esc_values.specs.declared.csi_param.CsiParam.{CsiParam}
+use Rattle.esc_values.specs.declared.csi_param.CsiParam.TheVariants.{P}
+use Rattle.esc_typed.specs.declared.arguments.Arguments.{Arguments}
+use Rattle.esc_typed.specs.declared.arguments.Arguments.TheVariants as args
+use Rattle.esc_typed.specs.declared.cursor.Cursor.{Cursor}
+use Rattle.esc_typed.specs.declared.cursor.Cursor.TheVariants as cursor
+use Rattle.esc_typed.specs.declared.edit.Edit.{Edit}
+use Rattle.esc_typed.specs.declared.edit.Edit.TheVariants as edit
+use Rattle.esc_typed.specs.declared.spelling.Spelling.{Spelling}
+use Rattle.esc_typed.specs.Arguments.{entries_of}
+use Rattle.esc_typed.specs.Choices.{cursor_style_number, cursor_tabulation_control_number, erase_in_display_number, erase_in_line_number, tabulation_clear_number}
+
+abbrev pub mark_entries : Option ℕ → List CsiParam
+mark_entries None = []
+mark_entries (Some b) = P b ∷ []
+
+-- the entries of a spelling: a private prefix, parameters and an intermediate
+abbrev pub entries : Spelling → List CsiParam
+entries s = mark_entries s.prefix ++ entries_of s.arguments ++ mark_entries s.intermediate
+
+abbrev pub plain : Arguments → ℕ → Spelling
+plain a last = record { prefix = None; arguments = a; intermediate = None; last = last }
+
+abbrev pub private : ℕ → Arguments → ℕ → Spelling
+private p a last = record { prefix = Some p; arguments = a; intermediate = None; last = last }
+
+abbrev pub between : Arguments → ℕ → ℕ → Spelling
+between a i last = record { prefix = None; arguments = a; intermediate = Some i; last = last }
+
+abbrev pub cursor_spelling : Cursor → Spelling
+cursor_spelling (cursor.Up n) = plain (args.Count n) 0x41
+cursor_spelling (cursor.Down n) = plain (args.Count n) 0x42
+cursor_spelling (cursor.Right n) = plain (args.Count n) 0x43
+cursor_spelling (cursor.Left n) = plain (args.Count n) 0x44
+cursor_spelling (cursor.NextLine n) = plain (args.Count n) 0x45
+cursor_spelling (cursor.PrecedingLine n) = plain (args.Count n) 0x46
+cursor_spelling (cursor.CharacterAbsolute n) = plain (args.Count n) 0x47
+cursor_spelling (cursor.Position a b) = plain (args.Place a b) 0x48
+cursor_spelling (cursor.ForwardTabulation n) = plain (args.Count n) 0x49
+cursor_spelling (cursor.LineTabulation n) = plain (args.Count n) 0x59
+cursor_spelling (cursor.BackwardTabulation n) = plain (args.Count n) 0x5a
+cursor_spelling (cursor.CharacterPositionAbsolute n) = plain (args.Count n) 0x60
+cursor_spelling (cursor.CharacterPositionForward n) = plain (args.Count n) 0x61
+cursor_spelling (cursor.LinePositionAbsolute n) = plain (args.Count n) 0x64
+cursor_spelling (cursor.LinePositionForward n) = plain (args.Count n) 0x65
+cursor_spelling (cursor.CharacterAndLinePosition a b) = plain (args.Place a b) 0x66
+cursor_spelling (cursor.CharacterPositionBackward n) = plain (args.Count n) 0x6a
+cursor_spelling (cursor.LinePositionBackward n) = plain (args.Count n) 0x6b
+cursor_spelling (cursor.ActivePositionReport a b) = plain (args.Place a b) 0x52
+cursor_spelling (cursor.TabulationClear c) = plain (args.Selector (tabulation_clear_number c)) 0x67
+cursor_spelling (cursor.TabulationControl c) = plain (args.Selector (cursor_tabulation_control_number c)) 0x57
+cursor_spelling (cursor.CursorStyle c) = between (args.Selector (cursor_style_number c)) 0x20 0x71
+cursor_spelling (cursor.SetTopAndBottomMargins a b) = plain (args.Margins a b) 0x72
+cursor_spelling (cursor.SetLeftAndRightMargins a b) = plain (args.Margins a b) 0x73
+cursor_spelling cursor.SaveCursor = plain args.Nothing 0x73
+cursor_spelling cursor.RestoreCursor = plain args.Nothing 0x75
+
+abbrev pub edit_spelling : Edit → Spelling
+edit_spelling (edit.InsertCharacter n) = plain (args.Count n) 0x40
+edit_spelling (edit.InsertLine n) = plain (args.Count n) 0x4c
+edit_spelling (edit.DeleteLine n) = plain (args.Count n) 0x4d
+edit_spelling (edit.DeleteCharacter n) = plain (args.Count n) 0x50
+edit_spelling (edit.ScrollUp n) = plain (args.Count n) 0x53
+edit_spelling (edit.ScrollDown n) = plain (args.Count n) 0x54
+edit_spelling (edit.EraseCharacter n) = plain (args.Count n) 0x58
+edit_spelling (edit.Repeat n) = plain (args.Count n) 0x62
+edit_spelling (edit.ScrollLeft n) = between (args.Count n) 0x20 0x40
+edit_spelling (edit.ScrollRight n) = between (args.Count n) 0x20 0x41
+edit_spelling (edit.InsertColumn n) = between (args.Count n) 0x27 0x7d
+edit_spelling (edit.DeleteColumn n) = between (args.Count n) 0x27 0x7e
+edit_spelling (edit.EraseInDisplay c) = plain (args.Selector (erase_in_display_number c)) 0x4a
+edit_spelling (edit.EraseInLine c) = plain (args.Selector (erase_in_line_number c)) 0x4b
+edit_spelling (edit.SelectiveEraseInDisplay c) = private 0x3f (args.Selector (erase_in_display_number c)) 0x4a
+edit_spelling (edit.SelectiveEraseInLine c) = private 0x3f (args.Selector (erase_in_line_number c)) 0x4b

@@ -1,0 +1,31 @@
+//! The parameters of a control function, by their kinds.
+
+use crate::one_based::OneBased;
+
+// Which parameters a function has.
+#[derive(Clone, Copy, PartialEq, Eq)]
+pub(crate) enum Kind {
+    // none
+    Nothing,
+    // a count, a line or a column
+    Count,
+    // a line and a column
+    Place,
+    // the first and the last line or column
+    Margins,
+    // a choice from a list
+    Selector,
+    // renditions, which are read one by one
+    Renditions,
+}
+
+// The parameters of a function, with what stands for those that are left out.
+#[derive(Clone, Copy, PartialEq, Eq)]
+pub(crate) enum Arguments {
+    Nothing,
+    Count(OneBased),
+    Place(OneBased, OneBased),
+    // the last is optional: what stands for it is the size of the screen
+    Margins(OneBased, Option<OneBased>),
+    Selector(u8),
+}

@@ -1,0 +1,151 @@
+//! Control sequences of the cursor (ECMA-48, 8.3; DEC's VT510; xterm's list).
+ghost use Rattle.std.specs.Prelude.{◌≡◌, Some, false};
+ghost use Rattle.esc_sequences.specs.Csis.{csi_text, unspecified};
+ghost use Rattle.esc_typed.specs.Spellings.{cursor_spelling, entries};
+
+use crate::arguments::Arguments;
+use crate::cursor_style::CursorStyle;
+use crate::cursor_tabulation_control::CursorTabulationControl;
+use crate::one_based::OneBased;
+use crate::spelling::{Spelling, write_spelling};
+use crate::tabulation_clear::TabulationClear;
+use std::fmt;
+
+/// What is asked of the cursor and of what bounds it, by the names of termwiz.
+#[derive(Clone, Copy, Debug, PartialEq, Eq)]
+pub enum Cursor {
+    /// `CSI .. A`, CUU: up so many lines.
+    Up(OneBased),
+    /// `CSI .. B`, CUD: down so many lines.
+    Down(OneBased),
+    /// `CSI .. C`, CUF: right so many columns.
+    Right(OneBased),
+    /// `CSI .. D`, CUB: left so many columns.
+    Left(OneBased),
+    /// `CSI .. E`, CNL: to the start of the line so many below.
+    NextLine(OneBased),
+    /// `CSI .. F`, CPL: to the start of the line so many above.
+    PrecedingLine(OneBased),
+    /// `CSI .. G`, CHA: to this column.
+    CharacterAbsolute(OneBased),
+    /// `CSI .. H`, CUP: to this line and column.
+    Position {
+        line: OneBased,
+        col: OneBased,
+    },
+    /// `CSI .. I`, CHT: on so many tab stops.
+    ForwardTabulation(OneBased),
+    /// `CSI .. Y`, CVT: down so many tab stops of lines.
+    LineTabulation(OneBased),
+    /// `CSI .. Z`, CBT: back so many tab stops.
+    BackwardTabulation(OneBased),
+    /// `` CSI .. ` ``, HPA: to this column.
+    CharacterPositionAbsolute(OneBased),
+    /// `CSI .. a`, HPR: right so many columns.
+    CharacterPositionForward(OneBased),
+    /// `CSI .. d`, VPA: to this line.
+    LinePositionAbsolute(OneBased),
+    /// `CSI .. e`, VPR: down so many lines.
+    LinePositionForward(OneBased),
+    /// `CSI .. f`, HVP: to this line and column.
+    CharacterAndLinePosition {
+        line: OneBased,
+        col: OneBased,
+    },
+    /// `CSI .. j`, HPB: left so many columns.
+    CharacterPositionBackward(OneBased),
+    /// `CSI .. k`, VPB: up so many lines.
+    LinePositionBackward(OneBased),
+    /// `CSI .. R`, CPR: a report that it is at this line and column.
+    ActivePositionReport {
+        line: OneBased,
+        col: OneBased,
+    },
+    /// `CSI .. g`, TBC: tab stops are cleared.
+    TabulationClear(TabulationClear),
+    /// `CSI .. W`, CTC: tab stops are set or cleared.
+    TabulationControl(CursorTabulationControl),
+    /// `CSI .. SP q`, DECSCUSR: its look.
+    CursorStyle(CursorStyle),
+    /// `CSI .. r`, DECSTBM: the first and the last line that scroll; the last is that of the screen where there is none.
+    SetTopAndBottomMargins {
+        top: OneBased,
+        bottom: Option<OneBased>,
+    },
+    /// `CSI .. s`, DECSLRM: the first and the last column that scroll; the last is that of the screen where there is none.
+    SetLeftAndRightMargins {
+        left: OneBased,
+        right: Option<OneBased>,
+    },
+    /// `CSI .. s`, SCOSC: it is saved.
+    SaveCursor,
+    /// `CSI .. u`, SCORC: it is restored.
+    RestoreCursor,
+}
+
+/// Writes the control sequence in its normal spelling: what stands for a parameter that is left out
+/// is left out. Where it returns `Ok`, all of it was written.
+impl fmt::Display for Cursor {
+    ghost output = { λ c. let s = cursor_spelling c in
+        Some (csi_text (unspecified (entries s) false s.last)) };
+
+    fn fmt<W: fmt::Write>(&self, f: &mut fmt::Formatter<W>) -> fmt::Result {
+        write_spelling(cursor_spelling(*self), f)
+    }
+}
+
+// How it is spelled.
+fn cursor_spelling(cursor: Cursor) -> Spelling
+    ensures { result ≡ cursor_spelling cursor }
+{
+    match cursor {
+        Cursor::Up(n) => Spelling::plain(Arguments::Count(n), b'A'),
+        Cursor::Down(n) => Spelling::plain(Arguments::Count(n), b'B'),
+        Cursor::Right(n) => Spelling::plain(Arguments::Count(n), b'C'),
+        Cursor::Left(n) => Spelling::plain(Arguments::Count(n), b'D'),
+        Cursor::NextLine(n) => Spelling::plain(Arguments::Count(n), b'E'),
+        Cursor::PrecedingLine(n) => Spelling::plain(Arguments::Count(n), b'F'),
+        Cursor::CharacterAbsolute(n) => Spelling::plain(Arguments::Count(n), b'G'),
+        Cursor::Position { line, col } => Spelling::plain(Arguments::Place(line, col), b'H'),
+        Cursor::ForwardTabulation(n) => Spelling::plain(Arguments::Count(n), b'I'),
+        Cursor::LineTabulation(n) => Spelling::plain(Arguments::Count(n), b'Y'),
+        Cursor::BackwardTabulation(n) => Spelling::plain(Arguments::Count(n), b'Z'),
+        Cursor::CharacterPositionAbsolute(n) => Spelling::plain(Arguments::Count(n), b'`'),
+        Cursor::CharacterPositionForward(n) => Spelling::plain(Arguments::Count(n), b'a'),
+        Cursor::LinePositionAbsolute(n) => Spelling::plain(Arguments::Count(n), b'd'),
+        Cursor::LinePositionForward(n) => Spelling::plain(Arguments::Count(n), b'e'),
+        Cursor::CharacterAndLinePosition { line, col } => Spelling::plain(
+            Arguments::Place(line, col),
+            b'f',
+        ),
+        Cursor::CharacterPositionBackward(n) => Spelling::plain(Arguments::Count(n), b'j'),
+        Cursor::LinePositionBackward(n) => Spelling::plain(Arguments::Count(n), b'k'),
+        Cursor::ActivePositionReport { line, col } => Spelling::plain(
+            Arguments::Place(line, col),
+            b'R',
+        ),
+        Cursor::TabulationClear(choice) => Spelling::plain(
+            Arguments::Selector(choice.number()),
+            b'g',
+        ),
+        Cursor::TabulationControl(choice) => Spelling::plain(
+            Arguments::Selector(choice.number()),
+            b'W',
+        ),
+        Cursor::CursorStyle(choice) => Spelling::between(
+            Arguments::Selector(choice.number()),
+            b' ',
+            b'q',
+        ),
+        Cursor::SetTopAndBottomMargins { top, bottom } => Spelling::plain(
+            Arguments::Margins(top, bottom),
+            b'r',
+        ),
+        Cursor::SetLeftAndRightMargins { left, right } => Spelling::plain(
+            Arguments::Margins(left, right),
+            b's',
+        ),
+        Cursor::SaveCursor => Spelling::plain(Arguments::Nothing, b's'),
+        Cursor::RestoreCursor => Spelling::plain(Arguments::Nothing, b'u'),
+    }
+}

@@ -1,0 +1,124 @@
+//! Control sequences as typed values.
+ghost use Rattle.std.specs.Prelude.{◌≡◌, Some};
+ghost use Rattle.esc_sequences.specs.Csis.{csi_value};
+ghost use Rattle.esc_typed.specs.Functions.{known_entries, made, made_of, of_csi, of_params, value_of};
+ghost use Rattle.esc_typed.specs.Functions.{of_kind, of_named};
+
+use crate::arguments::{Arguments, Kind};
+use crate::cursor::Cursor;
+use crate::edit::Edit;
+use crate::numbers::{after_prefix, arguments};
+use crate::renditions::Renditions;
+use crate::table::{bare, bounded, counted, kind_of, placed, selected};
+use crate::unfit::Unfit;
+use esc_functions::ControlFunction;
+use esc_sequences::{CSI, Intensity, Sgr, Underline};
+use esc_values::CsiParam;
+use std::alloc::Allocator;
+
+/// What a control sequence asks for, with its parameters as numbers. What stands for a parameter
+/// that is left out, or that is 0 where terminals count from 1, is filled in.
+#[derive(Clone, Copy, Debug, PartialEq)]
+pub enum Function<'a> {
+    /// Something of the cursor, or of what bounds it.
+    Cursor(Cursor),
+    /// Something is inserted, deleted, erased or scrolled.
+    Edit(Edit),
+    /// How characters are shown from here on.
+    Sgr(Renditions<'a>),
+    /// It has no typed value, and stays the sequence that it is.
+    Other(Unfit),
+}
+
+impl<'a> Function<'a> {
+    /// What this control sequence asks for.
+    pub fn of<A: Allocator>(csi: &'a CSI<A>) -> Function<'a>
+        ensures { value_of result ≡ of_csi (csi_value csi.now) }
+    {
+        match csi {
+            CSI::Sgr(sgr) => Function::Sgr(Renditions::new(known_entries(*sgr))),
+            CSI::Unspecified(sequence) => {
+                let sequence = sequence.as_ref();
+                if sequence.parameters_truncated {
+                    return Function::Other(Unfit::Truncated);
+                }
+                Function::of_params(sequence.params.as_slice(), sequence.control)
+            }
+        }
+    }
+
+    /// What a control sequence with all of these parameters and this final byte asks for.
+    pub fn of_params(params: &'a [CsiParam], last: u8) -> Function<'a>
+        ensures { value_of result ≡ of_params params.now last }
+    {
+        match ControlFunction::of_csi_params(params, last) {
+            Some(function) => of_function(function, params),
+            None => Function::Other(Unfit::Unnamed),
+        }
+    }
+}
+
+// What a function with these parameters asks for.
+fn of_function(function: ControlFunction, params: &[CsiParam]) -> Function<'_>
+    ensures { value_of result ≡ of_named (Some function) params.now }
+{
+    match kind_of(function) {
+        None => Function::Other(Unfit::Untyped),
+        Some(Kind::Renditions) => Function::Sgr(Renditions::new(params)),
+        Some(kind) => match arguments(kind, after_prefix(params)) {
+            Ok(arguments) => made(function, arguments),
+            Err(unfit) => Function::Other(unfit),
+        },
+    }
+}
+
+// What a function with these parameters makes.
+fn made<'a>(function: ControlFunction, arguments: Arguments) -> Function<'a>
+    ensures { value_of result ≡ made function arguments }
+{
+    match arguments {
+        Arguments::Nothing => bare(function),
+        Arguments::Count(n) => counted(function, n),
+        Arguments::Place(line, col) => placed(function, line, col),
+        Arguments::Margins(first, last) => bounded(function, first, last),
+        Arguments::Selector(n) => selected(function, n),
+    }
+}
+
+// The parameters of a rendition that was read alone.
+fn known_entries(sgr: Sgr) -> &'static [CsiParam]
+    ensures { result.now ≡ known_entries sgr }
+{
+    match sgr {
+        Sgr::Reset => &[CsiParam::Integer(0)],
+        Sgr::Intensity(Intensity::Bold) => &[CsiParam::Integer(1)],
+        Sgr::Intensity(Intensity::Half) => &[CsiParam::Integer(2)],
+        Sgr::Intensity(Intensity::Normal) => &[CsiParam::Integer(22)],
+        Sgr::Italic(true) => &[CsiParam::Integer(3)],
+        Sgr::Italic(false) => &[CsiParam::Integer(23)],
+        Sgr::Underline(Underline::None) => &[CsiParam::Integer(24)],
+        Sgr::Underline(Underline::Single) => &[CsiParam::Integer(4)],
+        Sgr::Underline(Underline::Double) => &[CsiParam::Integer(21)],
+        Sgr::Underline(Underline::Curly) => {
+            &[
+                CsiParam::Integer(4),
+                CsiParam::P(b':'),
+                CsiParam::Integer(3),
+            ]
+        }
+        Sgr::Underline(Underline::Dotted) => {
+            &[
+                CsiParam::Integer(4),
+                CsiParam::P(b':'),
+                CsiParam::Integer(4),
+            ]
+        }
+        Sgr::Underline(Underline::Dashed) => {
+            &[
+                CsiParam::Integer(4),
+                CsiParam::P(b':'),
+                CsiParam::Integer(5),
+            ]
+        }
+    }
+}

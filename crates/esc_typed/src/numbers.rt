@@ -1,0 +1,221 @@
+//! How the parameters of a control function are read.
+ghost use Rattle.std.specs.Prelude.{◌≡◌, Some, Ok, Err, IfOk, IfErr};
+ghost use Rattle.std.specs.Option.{option_map};
+ghost use Rattle.std.specs.List.{list_all};
+ghost use Rattle.esc_typed.specs.Arguments.{after_prefix, arguments, count, is_intermediate, last_of, margins, more, next, no_number, number_first, one, place, selector, two};
+
+use crate::arguments::{Arguments, Kind};
+use crate::one_based::OneBased;
+use crate::unfit::Unfit;
+use esc_values::CsiParam;
+
+// The parameters of a kind.
+pub(crate) fn arguments(kind: Kind, entries: &[CsiParam]) -> Result<Arguments, Unfit>
+    ensures { result ≡ arguments kind entries.now }
+{
+    match kind {
+        Kind::Nothing => match one(entries) {
+            Ok(number) => no_number(number),
+            Err(unfit) => Err(unfit),
+        },
+        Kind::Count => match one(entries) {
+            Ok(number) => count(number),
+            Err(unfit) => Err(unfit),
+        },
+        Kind::Selector => match one(entries) {
+            Ok(number) => selector(number),
+            Err(unfit) => Err(unfit),
+        },
+        Kind::Place => match two(entries) {
+            Ok((line, col)) => place(line, col),
+            Err(unfit) => Err(unfit),
+        },
+        Kind::Margins => match two(entries) {
+            Ok((first, last)) => margins(first, last),
+            Err(unfit) => Err(unfit),
+        },
+        Kind::Renditions => Err(Unfit::Untyped),
+    }
+}
+
+// No parameter.
+fn no_number(number: Option<u64>) -> Result<Arguments, Unfit>
+    ensures { result ≡ no_number number }
+{
+    match number {
+        None => Ok(Arguments::Nothing),
+        Some(_) => Err(Unfit::TooMany),
+    }
+}
+
+// A count, a line or a column.
+fn count(number: Option<u64>) -> Result<Arguments, Unfit>
+    ensures { result ≡ count number }
+{
+    match OneBased::of_number(number) {
+        Some(n) => Ok(Arguments::Count(n)),
+        None => Err(Unfit::OutOfRange),
+    }
+}
+
+// A line and a column.
+fn place(line: Option<u64>, col: Option<u64>) -> Result<Arguments, Unfit>
+    ensures { result ≡ place line col }
+{
+    let Some(line) = OneBased::of_number(line) else {
+        return Err(Unfit::OutOfRange);
+    };
+    match OneBased::of_number(col) {
+        Some(col) => Ok(Arguments::Place(line, col)),
+        None => Err(Unfit::OutOfRange),
+    }
+}
+
+// The first and the last line or column.
+fn margins(first: Option<u64>, last: Option<u64>) -> Result<Arguments, Unfit>
+    ensures { result ≡ margins first last }
+{
+    let Some(first) = OneBased::of_number(first) else {
+        return Err(Unfit::OutOfRange);
+    };
+    match last_of(last) {
+        Ok(last) => Ok(Arguments::Margins(first, last)),
+        Err(unfit) => Err(unfit),
+    }
+}
+
+// The last line or column, where there is one.
+fn last_of(number: Option<u64>) -> Result<Option<OneBased>, Unfit>
+    ensures { result ≡ last_of number }
+{
+    match number {
+        None | Some(0) => Ok(None),
+        Some(_) => match OneBased::of_number(number) {
+            Some(n) => Ok(Some(n)),
+            None => Err(Unfit::OutOfRange),
+        },
+    }
+}
+
+// A choice.
+fn selector(number: Option<u64>) -> Result<Arguments, Unfit>
+    ensures { result ≡ selector number }
+{
+    match number {
+        None => Ok(Arguments::Selector(0)),
+        Some(number) => match u8::try_from(number) {
+            Ok(number) => Ok(Arguments::Selector(number)),
+            Err(_) => Err(Unfit::OutOfRange),
+        },
+    }
+}
+
+// The only parameter.
+fn one(entries: &[CsiParam]) -> Result<Option<u64>, Unfit>
+    ensures { result ≡ one entries.now }
+{
+    match next(entries) {
+        Ok((number, None)) => Ok(number),
+        Ok((_, Some(_))) => Err(Unfit::TooMany),
+        Err(unfit) => Err(unfit),
+    }
+}
+
+// The only two parameters.
+fn two(entries: &[CsiParam]) -> Result<(Option<u64>, Option<u64>), Unfit>
+    ensures { result ≡ two entries.now }
+{
+    match next(entries) {
+        Ok((first, None)) => Ok((first, None)),
+        Ok((first, Some(rest))) => match one(rest) {
+            Ok(second) => Ok((first, second)),
+            Err(unfit) => Err(unfit),
+        },
+        Err(unfit) => Err(unfit),
+    }
+}
+
+// The next parameter, a number or nothing, and what follows its `;`.
+fn next(entries: &[CsiParam]) -> Result<(Option<u64>, Option<&[CsiParam]>), Unfit>
+    ensures ok { IfOk result (λ p.
+        next entries.now ≡ Ok (p.0, option_map (λ es. es.now) p.1)) }
+    ensures err { IfErr result (λ u. next entries.now ≡ Err u) }
+{
+    let (number, rest) = number_first(entries);
+    match more(rest) {
+        Ok(rest) => Ok((number, rest)),
+        Err(unfit) => Err(unfit),
+    }
+}
+
+// The number that comes first, where one does, and what follows.
+fn number_first(entries: &[CsiParam]) -> (Option<u64>, &[CsiParam])
+    ensures { number_first entries.now ≡ (result.0, result.1.now) }
+{
+    let Some((first, rest)) = entries.split_first() else {
+        return (None, entries);
+    };
+    match *first {
+        CsiParam::Integer(number) => match u64::try_from(number) {
+            Ok(number) => (Some(number), rest),
+            Err(_) => (None, entries),
+        },
+        CsiParam::P(_) => (None, entries),
+    }
+}
+
+// What follows a number: intermediates alone, or `;` and more.
+fn more(entries: &[CsiParam]) -> Result<Option<&[CsiParam]>, Unfit>
+    ensures ok { IfOk result (λ o. more entries.now ≡ Ok (option_map (λ es. es.now) o)) }
+    ensures err { IfErr result (λ u. more entries.now ≡ Err u) }
+{
+    if are_intermediates(entries) {
+        return Ok(None);
+    }
+    match entries.split_first() {
+        Some((CsiParam::P(b';'), rest)) => Ok(Some(rest)),
+        Some(_) => Err(Unfit::NoNumbers),
+        None => Err(Unfit::NoNumbers),
+    }
+}
+
+// Whether all are intermediates.
+fn are_intermediates(entries: &[CsiParam]) -> bool
+    ensures { result ≡ list_all is_intermediate entries.now }
+{
+    for entry in entries {
+        if !is_intermediate(*entry) {
+            return false;
+        }
+    }
+    true
+}
+
+// Whether it is an intermediate.
+fn is_intermediate(entry: CsiParam) -> bool
+    ensures { result ≡ is_intermediate entry }
+{
+    match entry {
+        CsiParam::Integer(_) => false,
+        CsiParam::P(byte) => byte >= 0x20 && byte <= 0x2f,
+    }
+}
+
+// The entries after a private prefix.
+pub(crate) fn after_prefix(entries: &[CsiParam]) -> &[CsiParam]
+    ensures { result.now ≡ after_prefix entries.now }
+{
+    let Some((first, rest)) = entries.split_first() else {
+        return entries;
+    };
+    match *first {
+        CsiParam::P(byte) => {
+            if byte >= 0x3c && byte <= 0x3f {
+                rest
+            } else {
+                entries
+            }
+        }
+        CsiParam::Integer(_) => entries,
+    }
+}

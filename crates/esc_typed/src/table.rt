@@ -1,0 +1,185 @@
+//! The tables of typed values: what a control function makes of its parameters.
+ghost use Rattle.std.specs.Prelude.{◌≡◌};
+ghost use Rattle.esc_typed.specs.Functions.{bare, bounded, counted, kind_of, placed, selected, value_of};
+
+use crate::arguments::Kind;
+use crate::cursor::Cursor;
+use crate::cursor_style::CursorStyle;
+use crate::cursor_tabulation_control::CursorTabulationControl;
+use crate::edit::Edit;
+use crate::erase_in_display::EraseInDisplay;
+use crate::erase_in_line::EraseInLine;
+use crate::function::Function;
+use crate::one_based::OneBased;
+use crate::tabulation_clear::TabulationClear;
+use crate::unfit::Unfit;
+use esc_functions::ControlFunction;
+
+// Which parameters a function has, where it has a typed value.
+pub(crate) fn kind_of(function: ControlFunction) -> Option<Kind>
+    ensures { result ≡ kind_of function }
+{
+    match function {
+        ControlFunction::CUU
+        | ControlFunction::CUD
+        | ControlFunction::CUF
+        | ControlFunction::CUB
+        | ControlFunction::CNL
+        | ControlFunction::CPL
+        | ControlFunction::CHA
+        | ControlFunction::CHT => Some(Kind::Count),
+        ControlFunction::CVT
+        | ControlFunction::CBT
+        | ControlFunction::HPA
+        | ControlFunction::HPR
+        | ControlFunction::VPA
+        | ControlFunction::VPR
+        | ControlFunction::HPB
+        | ControlFunction::VPB => Some(Kind::Count),
+        ControlFunction::ICH
+        | ControlFunction::IL
+        | ControlFunction::DL
+        | ControlFunction::DCH
+        | ControlFunction::SU
+        | ControlFunction::SD
+        | ControlFunction::ECH
+        | ControlFunction::REP => Some(Kind::Count),
+        ControlFunction::SL
+        | ControlFunction::SR
+        | ControlFunction::DECIC
+        | ControlFunction::DECDC => Some(Kind::Count),
+        ControlFunction::CUP | ControlFunction::HVP | ControlFunction::CPR => Some(Kind::Place),
+        ControlFunction::TBC
+        | ControlFunction::CTC
+        | ControlFunction::DECSCUSR
+        | ControlFunction::ED
+        | ControlFunction::EL
+        | ControlFunction::DECSED
+        | ControlFunction::DECSEL => Some(Kind::Selector),
+        ControlFunction::DECSTBM | ControlFunction::DECSLRM => Some(Kind::Margins),
+        ControlFunction::SCOSC | ControlFunction::SCORC => Some(Kind::Nothing),
+        ControlFunction::SGR => Some(Kind::Renditions),
+        _ => None,
+    }
+}
+
+// Functions without parameters.
+pub(crate) fn bare<'a>(function: ControlFunction) -> Function<'a>
+    ensures { value_of result ≡ bare function }
+{
+    match function {
+        ControlFunction::SCOSC => Function::Cursor(Cursor::SaveCursor),
+        ControlFunction::SCORC => Function::Cursor(Cursor::RestoreCursor),
+        _ => Function::Other(Unfit::Untyped),
+    }
+}
+
+// Functions with a count, a line or a column.
+pub(crate) fn counted<'a>(function: ControlFunction, n: OneBased) -> Function<'a>
+    ensures { value_of result ≡ counted function n }
+{
+    match function {
+        ControlFunction::CUU => Function::Cursor(Cursor::Up(n)),
+        ControlFunction::CUD => Function::Cursor(Cursor::Down(n)),
+        ControlFunction::CUF => Function::Cursor(Cursor::Right(n)),
+        ControlFunction::CUB => Function::Cursor(Cursor::Left(n)),
+        ControlFunction::CNL => Function::Cursor(Cursor::NextLine(n)),
+        ControlFunction::CPL => Function::Cursor(Cursor::PrecedingLine(n)),
+        ControlFunction::CHA => Function::Cursor(Cursor::CharacterAbsolute(n)),
+        ControlFunction::CHT => Function::Cursor(Cursor::ForwardTabulation(n)),
+        ControlFunction::CVT => Function::Cursor(Cursor::LineTabulation(n)),
+        ControlFunction::CBT => Function::Cursor(Cursor::BackwardTabulation(n)),
+        ControlFunction::HPA => Function::Cursor(Cursor::CharacterPositionAbsolute(n)),
+        ControlFunction::HPR => Function::Cursor(Cursor::CharacterPositionForward(n)),
+        ControlFunction::VPA => Function::Cursor(Cursor::LinePositionAbsolute(n)),
+        ControlFunction::VPR => Function::Cursor(Cursor::LinePositionForward(n)),
+        ControlFunction::HPB => Function::Cursor(Cursor::CharacterPositionBackward(n)),
+        ControlFunction::VPB => Function::Cursor(Cursor::LinePositionBackward(n)),
+        ControlFunction::ICH => Function::Edit(Edit::InsertCharacter(n)),
+        ControlFunction::IL => Function::Edit(Edit::InsertLine(n)),
+        ControlFunction::DL => Function::Edit(Edit::DeleteLine(n)),
+        ControlFunction::DCH => Function::Edit(Edit::DeleteCharacter(n)),
+        ControlFunction::SU => Function::Edit(Edit::ScrollUp(n)),
+        ControlFunction::SD => Function::Edit(Edit::ScrollDown(n)),
+        ControlFunction::ECH => Function::Edit(Edit::EraseCharacter(n)),
+        ControlFunction::REP => Function::Edit(Edit::Repeat(n)),
+        ControlFunction::SL => Function::Edit(Edit::ScrollLeft(n)),
+        ControlFunction::SR => Function::Edit(Edit::ScrollRight(n)),
+        ControlFunction::DECIC => Function::Edit(Edit::InsertColumn(n)),
+        ControlFunction::DECDC => Function::Edit(Edit::DeleteColumn(n)),
+        _ => Function::Other(Unfit::Untyped),
+    }
+}
+
+// Functions with a line and a column.
+pub(crate) fn placed<'a>(function: ControlFunction, a: OneBased, b: OneBased) -> Function<'a>
+    ensures { value_of result ≡ placed function a b }
+{
+    match function {
+        ControlFunction::CUP => Function::Cursor(Cursor::Position { line: a, col: b }),
+        ControlFunction::HVP => Function::Cursor(Cursor::CharacterAndLinePosition {
+            line: a,
+            col: b,
+        }),
+        ControlFunction::CPR => Function::Cursor(Cursor::ActivePositionReport { line: a, col: b }),
+        _ => Function::Other(Unfit::Untyped),
+    }
+}
+
+// Functions with a first and a last line or column.
+pub(crate) fn bounded<'a>(
+    function: ControlFunction,
+    a: OneBased,
+    b: Option<OneBased>,
+) -> Function<'a>
+    ensures { value_of result ≡ bounded function a b }
+{
+    match function {
+        ControlFunction::DECSTBM => Function::Cursor(Cursor::SetTopAndBottomMargins {
+            top: a,
+            bottom: b,
+        }),
+        ControlFunction::DECSLRM => Function::Cursor(Cursor::SetLeftAndRightMargins {
+            left: a,
+            right: b,
+        }),
+        _ => Function::Other(Unfit::Untyped),
+    }
+}
+
+// Functions with a choice.
+pub(crate) fn selected<'a>(function: ControlFunction, n: u8) -> Function<'a>
+    ensures { value_of result ≡ selected function n }
+{
+    match function {
+        ControlFunction::TBC => match TabulationClear::of_number(n) {
+            Some(choice) => Function::Cursor(Cursor::TabulationClear(choice)),
+            None => Function::Other(Unfit::OutOfRange),
+        },
+        ControlFunction::CTC => match CursorTabulationControl::of_number(n) {
+            Some(choice) => Function::Cursor(Cursor::TabulationControl(choice)),
+            None => Function::Other(Unfit::OutOfRange),
+        },
+        ControlFunction::DECSCUSR => match CursorStyle::of_number(n) {
+            Some(choice) => Function::Cursor(Cursor::CursorStyle(choice)),
+            None => Function::Other(Unfit::OutOfRange),
+        },
+        ControlFunction::ED => match EraseInDisplay::of_number(n) {
+            Some(choice) => Function::Edit(Edit::EraseInDisplay(choice)),
+            None => Function::Other(Unfit::OutOfRange),
+        },
+        ControlFunction::EL => match EraseInLine::of_number(n) {
+            Some(choice) => Function::Edit(Edit::EraseInLine(choice)),
+            None => Function::Other(Unfit::OutOfRange),
+        },
+        ControlFunction::DECSED => match EraseInDisplay::of_number(n) {
+            Some(choice) => Function::Edit(Edit::SelectiveEraseInDisplay(choice)),
+            None => Function::Other(Unfit::OutOfRange),
+        },
+        ControlFunction::DECSEL => match EraseInLine::of_number(n) {
+            Some(choice) => Function::Edit(Edit::SelectiveEraseInLine(choice)),
+            None => Function::Other(Unfit::OutOfRange),
+        },
+        _ => Function::Other(Unfit::Untyped),
+    }
+}
