@@ -6,7 +6,7 @@ use Rattle.std.proofs.lemmas.List.{take-append-drop, take_all, append-nil, lengt
 use Rattle.esc_values.specs.declared.csi_param.CsiParam.{CsiParam}
 use Rattle.esc_values.specs.declared.csi_param.CsiParam.TheVariants.{Integer, P}
 use Rattle.esc_sequences.specs.Csis.{is_separator}
-use Rattle.esc_typed.specs.Selections.{len_before, first_len, separators, cut_after, cut, selection_of, left_of, joined_after, joined}
+use Rattle.esc_typed.specs.Selections.{len_before, len_with, separators, no_separators, cut_after, cut_with, cut, parameters, left_with, joined_after, joined}
 
 -- ---- how many entries come first
 
@@ -32,32 +32,35 @@ pub passed : (n : ℕ) (e : CsiParam) (es : List CsiParam) → is_separator e �
 passed zero e es h = rw h refl
 passed (suc n) e es h = rw h refl
 
--- ---- one rendition after another
+-- ---- one part after another
 
-skip : (n : ℕ) (es : List CsiParam) → n ≤ length es → cut_after n es ≡ cut (drop n es)
-skip zero es h = refl
-skip (suc n) [] h = absurd (omega (arith, h))
-skip (suc n) (e ∷ es) h = skip n es (omega (arith, h))
+skip : (s : List CsiParam → ℕ) (n : ℕ) (es : List CsiParam) → n ≤ length es
+    → cut_after s n es ≡ cut_with s (drop n es)
+skip s zero es h = refl
+skip s (suc n) [] h = absurd (omega (arith, h))
+skip s (suc n) (e ∷ es) h = skip s n es (omega (arith, h))
 
-past : (n : ℕ) (es : List CsiParam) → length es < n → cut_after n es ≡ []
-past zero es h = absurd (omega (arith, h))
-past (suc n) [] h = refl
-past (suc n) (e ∷ es) h = past n es (omega (arith, h))
+past : (s : List CsiParam → ℕ) (n : ℕ) (es : List CsiParam) → length es < n
+    → cut_after s n es ≡ []
+past s zero es h = absurd (omega (arith, h))
+past s (suc n) [] h = refl
+past s (suc n) (e ∷ es) h = past s n es (omega (arith, h))
 
 -- the last one
-pub last_cut : (es : List CsiParam) → first_len es ≡ length es → cut es ≡ es ∷ []
-last_cut [] h = refl
-last_cut (e ∷ es) h =
-    let more = past (first_len (e ∷ es)) es (omega (arith, h)) in
-    rw (more, take_all (first_len (e ∷ es)) (e ∷ es) (omega (arith, h))) refl
+pub last_cut : (s : List CsiParam → ℕ) (es : List CsiParam) → len_with s es ≡ length es
+    → cut_with s es ≡ es ∷ []
+last_cut s [] h = refl
+last_cut s (e ∷ es) h =
+    let more = past s (len_with s (e ∷ es)) es (omega (arith, h)) in
+    rw (more, take_all (len_with s (e ∷ es)) (e ∷ es) (omega (arith, h))) refl
 
 -- one, and more after it
-pub first_cut : (es : List CsiParam) → first_len es < length es
-    → cut es ≡ take (first_len es) es ∷ cut (drop (first_len es + 1) es)
-first_cut [] h = absurd (omega (arith, h))
-first_cut (e ∷ es) h =
-    let one : first_len (e ∷ es) + 1 ≡ suc (first_len (e ∷ es)) = omega arith in
-    rw (one, skip (first_len (e ∷ es)) es (omega (arith, h))) refl
+pub first_cut : (s : List CsiParam → ℕ) (es : List CsiParam) → len_with s es < length es
+    → cut_with s es ≡ take (len_with s es) es ∷ cut_with s (drop (len_with s es + 1) es)
+first_cut s [] h = absurd (omega (arith, h))
+first_cut s (e ∷ es) h =
+    let one : len_with s (e ∷ es) + 1 ≡ suc (len_with s (e ∷ es)) = omega arith in
+    rw (one, skip s (len_with s (e ∷ es)) es (omega (arith, h))) refl
 
 -- ---- nothing is lost
 
@@ -87,9 +90,10 @@ there : (es : List CsiParam) (n : ℕ) → len_before n es < length es
 there [] n below = absurd (omega (arith, below))
 there (e ∷ es) n below = there_by n e es (is_separator e) refl (λ m. there es m) below
 
-some_after : (es : List CsiParam) → joined_after (cut es) ≡ P 0x3b ∷ joined (cut es)
-some_after [] = refl
-some_after (e ∷ es) = refl
+some_after : (s : List CsiParam → ℕ) (es : List CsiParam)
+    → joined_after (cut_with s es) ≡ P 0x3b ∷ joined (cut_with s es)
+some_after s [] = refl
+some_after s (e ∷ es) = refl
 
 within_by : (e : CsiParam) (es : List CsiParam) (n : ℕ) (t : Bool) → is_separator e ≡ t
     → ((m : ℕ) → len_before m es ≤ length es) → len_before n (e ∷ es) ≤ length (e ∷ es)
@@ -110,43 +114,51 @@ split (suc a) zero h = absurd (omega (arith, h))
 split (suc a) (suc b) h =
     elim (split a b (omega (arith, h))) [ inl l ↦ inl (omega (arith, l)) | inr e ↦ inr (ap suc e) ]
 
-lost_by : (es : List CsiParam) → (first_len es < length es) ⊎ (first_len es ≡ length es)
-    → ((x : List CsiParam) → length x < length es → joined (cut x) ≡ x)
-    → joined (cut es) ≡ es
-lost_by es (inl below) h =
-    let x = drop (first_len es + 1) es in
+lost_by : (s : List CsiParam → ℕ) (es : List CsiParam)
+    → (len_with s es < length es) ⊎ (len_with s es ≡ length es)
+    → ((x : List CsiParam) → length x < length es → joined (cut_with s x) ≡ x)
+    → joined (cut_with s es) ≡ es
+lost_by s es (inl below) h =
+    let x = drop (len_with s es + 1) es in
     let less : length x < length es =
-    omega (arith, below, length-drop (first_len es + 1) es) in
-    ap joined (first_cut es below)
-    ∙ ap (λ y. take (first_len es) es ++ y) (some_after x ∙ ap (λ y. P 0x3b ∷ y) (h x less)
-    ∙ sym (there es (separators es) below))
-    ∙ take-append-drop (first_len es) es
-lost_by es (inr all) h = ap joined (last_cut es all) ∙ append-nil es
+    omega (arith, below, length-drop (len_with s es + 1) es) in
+    ap joined (first_cut s es below)
+    ∙ ap (λ y. take (len_with s es) es ++ y) (some_after s x ∙ ap (λ y. P 0x3b ∷ y) (h x less)
+    ∙ sym (there es (s es) below))
+    ∙ take-append-drop (len_with s es) es
+lost_by s es (inr all) h = ap joined (last_cut s es all) ∙ append-nil es
 
-lost_in : (k : ℕ) (es : List CsiParam) → length es ≤ k → joined (cut es) ≡ es
-lost_in zero [] h = refl
-lost_in zero (e ∷ es) h = absurd (omega (arith, h))
-lost_in (suc k) es h = lost_by es (split (first_len es) (length es) (within es (separators es)))
-    (λ x less. lost_in k x (omega (arith, h, less)))
+lost_in : (s : List CsiParam → ℕ) (k : ℕ) (es : List CsiParam) → length es ≤ k
+    → joined (cut_with s es) ≡ es
+lost_in s zero [] h = refl
+lost_in s zero (e ∷ es) h = absurd (omega (arith, h))
+lost_in s (suc k) es h =
+    lost_by s es (split (len_with s es) (length es) (within es (s es)))
+    (λ x less. lost_in s k x (omega (arith, h, less)))
 
 pub nothing_lost : (es : List CsiParam) → joined (cut es) ≡ es
-nothing_lost es = lost_in (length es) es (omega arith)
+nothing_lost es = lost_in separators (length es) es (omega arith)
+
+pub no_mode_lost : (es : List CsiParam) → joined (parameters es) ≡ es
+no_mode_lost es = lost_in no_separators (length es) es (omega arith)
 
 -- ---- a call of an iterator
 
-next_by : (es : List CsiParam) (t : Bool) → (first_len es == length es) ≡ t
-    → left_of (Some es) ≡ selection_of (take (first_len es) es)
-    ∷ left_of (if t then None else Some (drop (first_len es + 1) es))
-next_by es true e =
-    let all : first_len es ≡ length es = eqb-true (first_len es) (length es) e in
-    ap (map selection_of) (last_cut es all)
-    ∙ ap (λ x. selection_of x ∷ []) (sym (take_all (first_len es) es (omega (arith, all))))
-next_by es false e =
-    let other = eqb-false (first_len es) (length es) e in
-    let low = within es (separators es) in
-    ap (map selection_of) (first_cut es (omega (arith, low, other)))
+next_by : {X : Type 0} (s : List CsiParam → ℕ) (f : List CsiParam → X) (es : List CsiParam)
+    (t : Bool) → (len_with s es == length es) ≡ t
+    → left_with s f (Some es) ≡ f (take (len_with s es) es)
+    ∷ left_with s f (if t then None else Some (drop (len_with s es + 1) es))
+next_by s f es true e =
+    let all : len_with s es ≡ length es = eqb-true (len_with s es) (length es) e in
+    ap (map f) (last_cut s es all)
+    ∙ ap (λ x. f x ∷ []) (sym (take_all (len_with s es) es (omega (arith, all))))
+next_by s f es false e =
+    let other = eqb-false (len_with s es) (length es) e in
+    let low = within es (s es) in
+    ap (map f) (first_cut s es (omega (arith, low, other)))
 
-pub next_is : (es : List CsiParam)
-    → left_of (Some es) ≡ selection_of (take (first_len es) es)
-    ∷ left_of (if first_len es == length es then None else Some (drop (first_len es + 1) es))
-next_is es = next_by es (first_len es == length es) refl
+pub next_is : {X : Type 0} (s : List CsiParam → ℕ) (f : List CsiParam → X) (es : List CsiParam)
+    → left_with s f (Some es) ≡ f (take (len_with s es) es)
+    ∷ left_with s f (if len_with s es == length es then None
+    else Some (drop (len_with s es + 1) es))
+next_is s f es = next_by s f es (len_with s es == length es) refl

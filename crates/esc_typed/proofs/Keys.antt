@@ -170,3 +170,39 @@ DECSED = refl
 pub DECSEL : function_of 81739 ≡ Some control.DECSEL
 unfolding function_of rows_of
 DECSEL = refl
+
+pub DSR : function_of 366 ≡ Some control.DSR
+unfolding function_of rows_of
+DSR = refl
+
+pub DA1 : function_of 355 ≡ Some control.DA1
+unfolding function_of rows_of
+DA1 = refl
+
+pub DA2 : function_of 81507 ≡ Some control.DA2
+unfolding function_of rows_of
+DA2 = refl
+
+pub DA3 : function_of 81251 ≡ Some control.DA3
+unfolding function_of rows_of
+DA3 = refl
+
+pub XTVERSION : function_of 81521 ≡ Some control.XTVERSION
+unfolding function_of rows_of
+XTVERSION = refl
+
+pub DECSTR : function_of 74096 ≡ Some control.DECSTR
+unfolding function_of rows_of
+DECSTR = refl
+
+pub KITTYQUERY : function_of 81781 ≡ Some control.KITTYQUERY
+unfolding function_of rows_of
+KITTYQUERY = refl
+
+pub KITTYPUSH : function_of 81525 ≡ Some control.KITTYPUSH
+unfolding function_of rows_of
+KITTYPUSH = refl
+
+pub KITTYPOP : function_of 81013 ≡ Some control.KITTYPOP
+unfolding function_of rows_of
+KITTYPOP = refl

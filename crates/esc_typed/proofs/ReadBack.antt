@@ -21,7 +21,7 @@ use Rattle.esc_typed.specs.declared.vertical_align.VerticalAlign.TheVariants as 
 use Rattle.esc_typed.specs.declared.rendition.Rendition.{Rendition}
 use Rattle.esc_typed.specs.declared.rendition.Rendition.TheVariants.{Reset, Intensity, Italic, Underline, Blink, Inverse, Invisible, StrikeThrough, Font, Proportional, AnsiForeground, AnsiBackground, Foreground, Background, UnderlineColor, Frame, Overline, Ideogram, VerticalAlign}
 use Rattle.esc_typed.specs.Renditions.{IsRendition, AreRenditions, normal, rendition_of}
-use Rattle.esc_typed.specs.Selections.{first_len, cut, joined, selection_of, selections, spelled}
+use Rattle.esc_typed.specs.Selections.{first_len, separators, cut, joined, selection_of, selections, spelled}
 use Rattle.esc_typed.proofs.Cutting.{first_cut, last_cut}
 
 -- what is to be shown of each rendition: it reads back, and so does where it ends
@@ -168,13 +168,13 @@ one_more r x h =
     let len = (back r h).first x in
     let below : first_len (normal r ++ P 0x3b ∷ x) < length (normal r ++ P 0x3b ∷ x) =
     omega (arith, len, length-append (normal r) (P 0x3b ∷ x)) in
-    first_cut (normal r ++ P 0x3b ∷ x) below
+    first_cut separators (normal r ++ P 0x3b ∷ x) below
     ∙ rw (len, take-append_seam (normal r) (P 0x3b ∷ x), drop-append-add (normal r) (P 0x3b ∷ x) 1)
     refl
 
 cut_back : (r : Rendition) (rs : List Rendition) → AreRenditions (r ∷ rs)
     → cut (joined (map normal (r ∷ rs))) ≡ map normal (r ∷ rs)
-cut_back r [] h = ap cut (append-nil (normal r)) ∙ last_cut (normal r) (back r h.0).last
+cut_back r [] h = ap cut (append-nil (normal r)) ∙ last_cut separators (normal r) (back r h.0).last
 cut_back r (q ∷ qs) h =
     one_more r (joined (map normal (q ∷ qs))) h.0 ∙ ap (λ x. normal r ∷ x) (cut_back q qs h.1)
 

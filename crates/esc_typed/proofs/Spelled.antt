@@ -7,16 +7,21 @@ use Rattle.esc_values.specs.declared.csi_param.CsiParam.{CsiParam}
 use Rattle.esc_values.specs.declared.csi_param.CsiParam.TheVariants.{P}
 use Rattle.esc_functions.specs.declared.control_function.ControlFunction.{ControlFunction}
 use Rattle.esc_functions.specs.declared.control_function.ControlFunction.TheVariants as control
-use Rattle.esc_functions.specs.Functions.{function_of, key_with, marks, sequence_key}
+use Rattle.esc_functions.specs.Functions.{function_of, key_with, mark_of, marks, put_mark, sequence_key}
 use Rattle.esc_functions.specs.Rows.{packed}
+use Rattle.esc_values.specs.Params.{is_private_prefix}
 use Rattle.esc_typed.specs.declared.arguments.Arguments.{Arguments}
 use Rattle.esc_typed.specs.declared.arguments.Arguments.TheVariants as args
 use Rattle.esc_typed.specs.declared.arguments.Kind.{Kind}
 use Rattle.esc_typed.specs.declared.arguments.Kind.TheVariants as kind
 use Rattle.esc_typed.specs.declared.cursor.Cursor.{Cursor}
 use Rattle.esc_typed.specs.declared.cursor.Cursor.TheVariants as cursors
+use Rattle.esc_typed.specs.declared.device.Device.{Device}
+use Rattle.esc_typed.specs.declared.device.Device.TheVariants as devices
 use Rattle.esc_typed.specs.declared.edit.Edit.{Edit}
 use Rattle.esc_typed.specs.declared.edit.Edit.TheVariants as edits
+use Rattle.esc_typed.specs.declared.keyboard.Keyboard.{Keyboard}
+use Rattle.esc_typed.specs.declared.keyboard.Keyboard.TheVariants as keyboards
 use Rattle.esc_typed.specs.declared.one_based.OneBased.{OneBased}
 use Rattle.esc_typed.specs.declared.spelling.Spelling.{Spelling}
 use Rattle.esc_typed.specs.declared.erase_in_display.EraseInDisplay.{EraseInDisplay}
@@ -32,8 +37,8 @@ use Rattle.esc_typed.specs.declared.cursor_style.CursorStyle.TheVariants as curs
 use Rattle.esc_typed.specs.Arguments.{AreArguments, IsOneBased, after_prefix, arguments, entries_of, is_intermediate, number_first}
 use Rattle.esc_typed.specs.Choices.{cursor_style_at, cursor_style_number, cursor_tabulation_control_at, cursor_tabulation_control_number, erase_in_display_at, erase_in_display_number, erase_in_line_at, erase_in_line_number, tabulation_clear_at, tabulation_clear_number}
 use Rattle.esc_typed.specs.Counts.{at_place, one_based, one_based_of}
-use Rattle.esc_typed.specs.Functions.{Value, cursor, edit, chosen, kind_of, made, made_of, of_kind, of_named, of_params}
-use Rattle.esc_typed.specs.Spellings.{between, cursor_spelling, edit_spelling, entries, plain, private}
+use Rattle.esc_typed.specs.Functions.{Value, cursor, device, edit, keyboard, chosen, kind_of, made, made_of, of_kind, of_named, of_params}
+use Rattle.esc_typed.specs.Spellings.{between, cursor_spelling, device_spelling, edit_spelling, keyboard_spelling, entries, plain, private}
 use Rattle.esc_typed.proofs.Keys as keys
 
 -- ---- numbers
@@ -62,6 +67,9 @@ nothing_after = record { ends = refl; none = refl; kept = refl }
 
 space_after : IsTail (P 0x20 ∷ [])
 space_after = record { ends = refl; none = refl; kept = refl }
+
+mark_after : IsTail (P 0x21 ∷ [])
+mark_after = record { ends = refl; none = refl; kept = refl }
 
 quote_after : IsTail (P 0x27 ∷ [])
 quote_after = record { ends = refl; none = refl; kept = refl }
@@ -170,23 +178,27 @@ plain_back f a last v h found kind made =
     back_by f (plain a last) v (ap function_of key ∙ found) kind
     (ap (arguments (kind_for a)) b.kept ∙ b.read) made
 
-private_back : (f : ControlFunction) (a : Arguments) (last : ℕ) (v : Value) → AreArguments a
-    → function_of (key_with (packed 1 (0x3f ∷ [])) (length (entries (private 0x3f a last))) last)
+private_back : (p : ℕ) (f : ControlFunction) (a : Arguments) (last : ℕ) (v : Value)
+    → AreArguments a → mark_of (P p) ≡ Some p → is_private_prefix p ≡ true
+    → function_of (key_with (packed 1 (p ∷ [])) (length (entries (private p a last))) last)
     ≡ Some f
-    → of_kind (kind_of f) f (entries (private 0x3f a last))
-    ≡ made_of f (arguments (kind_for a) (after_prefix (entries (private 0x3f a last))))
-    → made f a ≡ v → of_params (entries (private 0x3f a last)) last ≡ v
-private_back f a last v h found kind made =
+    → of_kind (kind_of f) f (entries (private p a last))
+    ≡ made_of f (arguments (kind_for a) (after_prefix (entries (private p a last))))
+    → made f a ≡ v → of_params (entries (private p a last)) last ≡ v
+private_back p f a last v h mark prefix found kind made =
     let b = back a [] h nothing_after in
-    let key : sequence_key (entries (private 0x3f a last)) last
-    ≡ key_with (packed 1 (0x3f ∷ [])) (length (entries (private 0x3f a last))) last =
-    ap (λ ms. key_with (packed 1 (0x3f ∷ ms)) (length (entries (private 0x3f a last))) last)
-    b.unmarked in
-    back_by f (private 0x3f a last) v (ap function_of key ∙ found) kind b.read made
+    let key : sequence_key (entries (private p a last)) last
+    ≡ key_with (packed 1 (p ∷ [])) (length (entries (private p a last))) last =
+    ap (λ ms. key_with (packed 1 ms) (length (entries (private p a last))) last)
+    (ap (λ m. put_mark m (marks (entries_of a ++ []))) mark ∙ ap (λ ms. p ∷ ms) b.unmarked) in
+    let inner : after_prefix (entries (private p a last)) ≡ entries_of a ++ [] = rw prefix refl in
+    back_by f (private p a last) v (ap function_of key ∙ found) kind
+    (ap (arguments (kind_for a)) inner ∙ b.read) made
 
 between_back : (f : ControlFunction) (a : Arguments) (m last : ℕ) (v : Value) → AreArguments a
     → IsTail (P m ∷ [])
-    → function_of (key_with (packed 1 (marks (P m ∷ []))) (length (entries (between a m last))) last)
+    → function_of (key_with (packed 1 (marks (P m ∷ []))) (length (entries (between a m last)))
+    last)
     ≡ Some f
     → of_kind (kind_of f) f (entries (between a m last))
     ≡ made_of f (arguments (kind_for a) (after_prefix (entries (between a m last))))
@@ -214,7 +226,8 @@ sides_by a (Some b) = keys.DECSLRM
 
 -- ---- choices
 
-erase_in_display_back : (c : EraseInDisplay) → erase_in_display_at (erase_in_display_number c) ≡ Some c
+erase_in_display_back : (c : EraseInDisplay) → erase_in_display_at (erase_in_display_number c) ≡
+    Some c
 erase_in_display_back erase_in_display.EraseToEndOfDisplay = refl
 erase_in_display_back erase_in_display.EraseToStartOfDisplay = refl
 erase_in_display_back erase_in_display.EraseDisplay = refl
@@ -225,7 +238,8 @@ erase_in_line_back erase_in_line.EraseToEndOfLine = refl
 erase_in_line_back erase_in_line.EraseToStartOfLine = refl
 erase_in_line_back erase_in_line.EraseLine = refl
 
-tabulation_clear_back : (c : TabulationClear) → tabulation_clear_at (tabulation_clear_number c) ≡ Some c
+tabulation_clear_back : (c : TabulationClear) → tabulation_clear_at (tabulation_clear_number c) ≡
+    Some c
 tabulation_clear_back tabulation_clear.ClearCharacterTabStopAtActivePosition = refl
 tabulation_clear_back tabulation_clear.ClearLineTabStopAtActivePosition = refl
 tabulation_clear_back tabulation_clear.ClearCharacterTabStopsAtActiveLine = refl
@@ -233,10 +247,12 @@ tabulation_clear_back tabulation_clear.ClearAllCharacterTabStops = refl
 tabulation_clear_back tabulation_clear.ClearAllLineTabStops = refl
 tabulation_clear_back tabulation_clear.ClearAllTabStops = refl
 
-cursor_tabulation_control_back : (c : CursorTabulationControl) → cursor_tabulation_control_at (cursor_tabulation_control_number c) ≡ Some c
+cursor_tabulation_control_back : (c : CursorTabulationControl) → cursor_tabulation_control_at
+    (cursor_tabulation_control_number c) ≡ Some c
 cursor_tabulation_control_back cursor_tabulation_control.SetCharacterTabStopAtActivePosition = refl
 cursor_tabulation_control_back cursor_tabulation_control.SetLineTabStopAtActiveLine = refl
-cursor_tabulation_control_back cursor_tabulation_control.ClearCharacterTabStopAtActivePosition = refl
+cursor_tabulation_control_back cursor_tabulation_control.ClearCharacterTabStopAtActivePosition =
+    refl
 cursor_tabulation_control_back cursor_tabulation_control.ClearLineTabStopAtActiveLine = refl
 cursor_tabulation_control_back cursor_tabulation_control.ClearCharacterTabStopsAtActiveLine = refl
 cursor_tabulation_control_back cursor_tabulation_control.ClearAllCharacterTabStops = refl
@@ -307,13 +323,16 @@ cursor_back (cursors.ActivePositionReport a b) h =
     (cursor (cursors.ActivePositionReport a b)) h keys.CPR refl refl
 cursor_back (cursors.TabulationClear c) h =
     plain_back control.TBC (args.Selector (tabulation_clear_number c)) 0x67
-    (cursor (cursors.TabulationClear c)) h keys.TBC refl (ap (chosen (λ c. cursor (cursors.TabulationClear c))) (tabulation_clear_back c))
+    (cursor (cursors.TabulationClear c)) h keys.TBC refl (ap (chosen (λ c. cursor
+    (cursors.TabulationClear c))) (tabulation_clear_back c))
 cursor_back (cursors.TabulationControl c) h =
     plain_back control.CTC (args.Selector (cursor_tabulation_control_number c)) 0x57
-    (cursor (cursors.TabulationControl c)) h keys.CTC refl (ap (chosen (λ c. cursor (cursors.TabulationControl c))) (cursor_tabulation_control_back c))
+    (cursor (cursors.TabulationControl c)) h keys.CTC refl (ap (chosen (λ c. cursor
+    (cursors.TabulationControl c))) (cursor_tabulation_control_back c))
 cursor_back (cursors.CursorStyle c) h =
     between_back control.DECSCUSR (args.Selector (cursor_style_number c)) 0x20 0x71
-    (cursor (cursors.CursorStyle c)) h space_after keys.DECSCUSR refl (ap (chosen (λ c. cursor (cursors.CursorStyle c))) (cursor_style_back c))
+    (cursor (cursors.CursorStyle c)) h space_after keys.DECSCUSR refl (ap (chosen (λ c. cursor
+    (cursors.CursorStyle c))) (cursor_style_back c))
 cursor_back (cursors.SetTopAndBottomMargins a b) h =
     plain_back control.DECSTBM (args.Margins a b) 0x72
     (cursor (cursors.SetTopAndBottomMargins a b)) h keys.DECSTBM refl refl
@@ -324,6 +343,29 @@ cursor_back cursors.SaveCursor h =
     plain_back control.SCOSC args.Nothing 0x73 (cursor cursors.SaveCursor) h keys.SCOSC refl refl
 cursor_back cursors.RestoreCursor h =
     plain_back control.SCORC args.Nothing 0x75 (cursor cursors.RestoreCursor) h keys.SCORC refl refl
+cursor_back cursors.RequestActivePositionReport h =
+    plain_back control.DSR (args.Selector 6) 0x6e
+    (cursor cursors.RequestActivePositionReport) h keys.DSR refl refl
+
+pub device_back : (c : Device) → AreArguments (device_spelling c).arguments
+    → of_params (entries (device_spelling c)) (device_spelling c).last ≡ device c
+device_back devices.RequestPrimaryDeviceAttributes h =
+    plain_back control.DA1 args.Nothing 0x63
+    (device devices.RequestPrimaryDeviceAttributes) h keys.DA1 refl refl
+device_back devices.RequestSecondaryDeviceAttributes h =
+    private_back 0x3e control.DA2 args.Nothing 0x63
+    (device devices.RequestSecondaryDeviceAttributes) h refl refl keys.DA2 refl refl
+device_back devices.RequestTertiaryDeviceAttributes h =
+    private_back 0x3d control.DA3 args.Nothing 0x63
+    (device devices.RequestTertiaryDeviceAttributes) h refl refl keys.DA3 refl refl
+device_back devices.RequestTerminalNameAndVersion h =
+    private_back 0x3e control.XTVERSION args.Nothing 0x71
+    (device devices.RequestTerminalNameAndVersion) h refl refl keys.XTVERSION refl refl
+device_back devices.StatusReport h =
+    plain_back control.DSR (args.Selector 5) 0x6e (device devices.StatusReport) h keys.DSR refl refl
+device_back devices.SoftReset h =
+    between_back control.DECSTR args.Nothing 0x21 0x70
+    (device devices.SoftReset) h mark_after keys.DECSTR refl refl
 
 pub edit_back : (c : Edit) → AreArguments (edit_spelling c).arguments
     → of_params (entries (edit_spelling c)) (edit_spelling c).last ≡ edit c
@@ -358,13 +400,29 @@ edit_back (edits.DeleteColumn n) h =
     (edit (edits.DeleteColumn n)) h quote_after keys.DECDC refl refl
 edit_back (edits.EraseInDisplay c) h =
     plain_back control.ED (args.Selector (erase_in_display_number c)) 0x4a
-    (edit (edits.EraseInDisplay c)) h keys.ED refl (ap (chosen (λ c. edit (edits.EraseInDisplay c))) (erase_in_display_back c))
+    (edit (edits.EraseInDisplay c)) h keys.ED refl (ap (chosen (λ c. edit (edits.EraseInDisplay
+    c))) (erase_in_display_back c))
 edit_back (edits.EraseInLine c) h =
     plain_back control.EL (args.Selector (erase_in_line_number c)) 0x4b
-    (edit (edits.EraseInLine c)) h keys.EL refl (ap (chosen (λ c. edit (edits.EraseInLine c))) (erase_in_line_back c))
+    (edit (edits.EraseInLine c)) h keys.EL refl (ap (chosen (λ c. edit (edits.EraseInLine c)))
+    (erase_in_line_back c))
 edit_back (edits.SelectiveEraseInDisplay c) h =
-    private_back control.DECSED (args.Selector (erase_in_display_number c)) 0x4a
-    (edit (edits.SelectiveEraseInDisplay c)) h keys.DECSED refl (ap (chosen (λ c. edit (edits.SelectiveEraseInDisplay c))) (erase_in_display_back c))
+    private_back 0x3f control.DECSED (args.Selector (erase_in_display_number c)) 0x4a
+    (edit (edits.SelectiveEraseInDisplay c)) h refl refl keys.DECSED refl (ap (chosen (λ c. edit
+    (edits.SelectiveEraseInDisplay c))) (erase_in_display_back c))
 edit_back (edits.SelectiveEraseInLine c) h =
-    private_back control.DECSEL (args.Selector (erase_in_line_number c)) 0x4b
-    (edit (edits.SelectiveEraseInLine c)) h keys.DECSEL refl (ap (chosen (λ c. edit (edits.SelectiveEraseInLine c))) (erase_in_line_back c))
+    private_back 0x3f control.DECSEL (args.Selector (erase_in_line_number c)) 0x4b
+    (edit (edits.SelectiveEraseInLine c)) h refl refl keys.DECSEL refl (ap (chosen (λ c. edit
+    (edits.SelectiveEraseInLine c))) (erase_in_line_back c))
+
+pub keyboard_back : (c : Keyboard) → AreArguments (keyboard_spelling c).arguments
+    → of_params (entries (keyboard_spelling c)) (keyboard_spelling c).last ≡ keyboard c
+keyboard_back keyboards.QueryKittySupport h =
+    private_back 0x3f control.KITTYQUERY args.Nothing 0x75
+    (keyboard keyboards.QueryKittySupport) h refl refl keys.KITTYQUERY refl refl
+keyboard_back (keyboards.PushKittyState c) h =
+    private_back 0x3e control.KITTYPUSH (args.Selector c) 0x75
+    (keyboard (keyboards.PushKittyState c)) h refl refl keys.KITTYPUSH refl refl
+keyboard_back (keyboards.PopKittyState n) h =
+    private_back 0x3c control.KITTYPOP (args.Count n) 0x75
+    (keyboard (keyboards.PopKittyState n)) h refl refl keys.KITTYPOP refl refl

@@ -78,6 +78,11 @@ abbrev pub no_number : Option ℕ → Result Arguments Unfit
 no_number None = Ok args.Nothing
 no_number (Some n) = Err unfit.TooMany
 
+-- nothing or 0
+abbrev pub zero : Option ℕ → Result Arguments Unfit
+zero None = Ok args.Nothing
+zero (Some n) = if n == 0 then Ok args.Nothing else Err unfit.OutOfRange
+
 abbrev pub count : Option ℕ → Result Arguments Unfit
 count n = then_read (in_range (one_based_of n)) (λ n. Ok (args.Count n))
 
@@ -104,11 +109,13 @@ selector (Some n) = if nat_le n 255 then Ok (args.Selector n) else Err unfit.Out
 -- the parameters of a kind
 abbrev pub arguments : Kind → List CsiParam → Result Arguments Unfit
 arguments kind.Nothing es = then_read (one es) no_number
+arguments kind.Zero es = then_read (one es) zero
 arguments kind.Count es = then_read (one es) count
 arguments kind.Place es = then_read (two es) (λ p. place p.0 p.1)
 arguments kind.Margins es = then_read (two es) (λ p. margins p.0 p.1)
 arguments kind.Selector es = then_read (one es) selector
 arguments kind.Renditions es = Err unfit.Untyped
+arguments kind.Modes es = Err unfit.Untyped
 
 -- ---- the normal spelling
 

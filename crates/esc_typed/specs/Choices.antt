@@ -62,7 +62,8 @@ cursor_tabulation_control_number cursor_tabulation_control.ClearAllCharacterTabS
 cursor_tabulation_control_number cursor_tabulation_control.ClearAllLineTabStops = 6
 
 abbrev pub cursor_tabulation_control_at : ℕ → Option CursorTabulationControl
-cursor_tabulation_control_at n = if n == 0 then Some cursor_tabulation_control.SetCharacterTabStopAtActivePosition
+cursor_tabulation_control_at n = if n == 0 then Some
+    cursor_tabulation_control.SetCharacterTabStopAtActivePosition
     else if n == 1 then Some cursor_tabulation_control.SetLineTabStopAtActiveLine
     else if n == 2 then Some cursor_tabulation_control.ClearCharacterTabStopAtActivePosition
     else if n == 3 then Some cursor_tabulation_control.ClearLineTabStopAtActiveLine

@@ -1,5 +1,5 @@
 -- The typed values of control sequences.
-use Rattle.std.specs.Prelude.{ℕ, true, false, if◌then◌else◌, List, [], ◌∷◌, Option, Some, None, Result, Ok, Err}
+use Rattle.std.specs.Prelude.{ℕ, ◌==◌, true, false, if◌then◌else◌, List, [], ◌∷◌, Option, Some, None, Result, Ok, Err}
 use Rattle.esc_values.specs.declared.csi_param.CsiParam.{CsiParam}
 use Rattle.esc_values.specs.declared.csi_param.CsiParam.TheVariants.{P}
 use Rattle.esc_sequences.specs.Csis.{CsiValue, sgr, unspecified}
@@ -16,8 +16,14 @@ use Rattle.esc_typed.specs.declared.arguments.Kind.{Kind}
 use Rattle.esc_typed.specs.declared.arguments.Kind.TheVariants as kind
 use Rattle.esc_typed.specs.declared.cursor.Cursor.{Cursor}
 use Rattle.esc_typed.specs.declared.cursor.Cursor.TheVariants as cursors
+use Rattle.esc_typed.specs.declared.device.Device.{Device}
+use Rattle.esc_typed.specs.declared.device.Device.TheVariants as devices
 use Rattle.esc_typed.specs.declared.edit.Edit.{Edit}
 use Rattle.esc_typed.specs.declared.edit.Edit.TheVariants as edits
+use Rattle.esc_typed.specs.declared.keyboard.Keyboard.{Keyboard}
+use Rattle.esc_typed.specs.declared.keyboard.Keyboard.TheVariants as keyboards
+use Rattle.esc_typed.specs.declared.mode_change.ModeChange.{ModeChange}
+use Rattle.esc_typed.specs.declared.mode_change.ModeChange.TheVariants as change
 use Rattle.esc_typed.specs.declared.function.Function.{Function}
 use Rattle.esc_typed.specs.declared.function.Function.TheVariants as function
 use Rattle.esc_typed.specs.declared.one_based.OneBased.{OneBased}
@@ -27,18 +33,24 @@ use Rattle.esc_typed.specs.declared.unfit.Unfit.TheVariants as unfit
 use Rattle.esc_typed.specs.Arguments.{after_prefix, arguments}
 use Rattle.esc_typed.specs.Choices.{cursor_style_at, cursor_tabulation_control_at, erase_in_display_at, erase_in_line_at, tabulation_clear_at}
 use Rattle.esc_typed.specs.Renditions.{number}
-use Rattle.esc_typed.specs.Selections.{left, selections}
+use Rattle.esc_typed.specs.Selections.{left, modes_left, mode_numbers, selections}
 
 -- a typed value, without where its parameters lie in memory
 pub data Value : Type 0 where
   cursor : Cursor → Value
   edit : Edit → Value
+  device : Device → Value
+  keyboard : Keyboard → Value
+  modes : ModeChange → List (Option ℕ × List CsiParam) → Value
   renditions : List (Option Rendition × List CsiParam) → Value
   other : Unfit → Value
 
 abbrev pub value_of : Function → Value
 value_of (function.Cursor c) = cursor c
 value_of (function.Edit e) = edit e
+value_of (function.Device d) = device d
+value_of (function.Keyboard k) = keyboard k
+value_of (function.Mode c ms) = modes c (modes_left ms)
 value_of (function.Sgr r) = renditions (left r)
 value_of (function.Other u) = other u
 
@@ -72,6 +84,7 @@ kind_of control.SL = Some kind.Count
 kind_of control.SR = Some kind.Count
 kind_of control.DECIC = Some kind.Count
 kind_of control.DECDC = Some kind.Count
+kind_of control.KITTYPOP = Some kind.Count
 kind_of control.CUP = Some kind.Place
 kind_of control.HVP = Some kind.Place
 kind_of control.CPR = Some kind.Place
@@ -82,16 +95,36 @@ kind_of control.ED = Some kind.Selector
 kind_of control.EL = Some kind.Selector
 kind_of control.DECSED = Some kind.Selector
 kind_of control.DECSEL = Some kind.Selector
+kind_of control.DSR = Some kind.Selector
+kind_of control.KITTYPUSH = Some kind.Selector
 kind_of control.DECSTBM = Some kind.Margins
 kind_of control.DECSLRM = Some kind.Margins
 kind_of control.SCOSC = Some kind.Nothing
 kind_of control.SCORC = Some kind.Nothing
+kind_of control.DECSTR = Some kind.Nothing
+kind_of control.KITTYQUERY = Some kind.Nothing
+kind_of control.DA1 = Some kind.Zero
+kind_of control.DA2 = Some kind.Zero
+kind_of control.DA3 = Some kind.Zero
+kind_of control.XTVERSION = Some kind.Zero
+kind_of control.SM = Some kind.Modes
+kind_of control.RM = Some kind.Modes
+kind_of control.DECSET = Some kind.Modes
+kind_of control.DECRST = Some kind.Modes
+kind_of control.XTSAVE = Some kind.Modes
+kind_of control.XTRESTORE = Some kind.Modes
 kind_of control.SGR = Some kind.Renditions
 kind_of _ = None
 
 abbrev pub bare : ControlFunction → Value
 bare control.SCOSC = cursor cursors.SaveCursor
 bare control.SCORC = cursor cursors.RestoreCursor
+bare control.DECSTR = device devices.SoftReset
+bare control.KITTYQUERY = keyboard keyboards.QueryKittySupport
+bare control.DA1 = device devices.RequestPrimaryDeviceAttributes
+bare control.DA2 = device devices.RequestSecondaryDeviceAttributes
+bare control.DA3 = device devices.RequestTertiaryDeviceAttributes
+bare control.XTVERSION = device devices.RequestTerminalNameAndVersion
 bare _ = other unfit.Untyped
 
 abbrev pub counted : ControlFunction → OneBased → Value
@@ -123,6 +156,7 @@ counted control.SL n = edit (edits.ScrollLeft n)
 counted control.SR n = edit (edits.ScrollRight n)
 counted control.DECIC n = edit (edits.InsertColumn n)
 counted control.DECDC n = edit (edits.DeleteColumn n)
+counted control.KITTYPOP n = keyboard (keyboards.PopKittyState n)
 counted _ n = other unfit.Untyped
 
 abbrev pub placed : ControlFunction → OneBased → OneBased → Value
@@ -142,12 +176,18 @@ chosen f None = other unfit.OutOfRange
 chosen f (Some x) = f x
 
 abbrev pub selected : ControlFunction → ℕ → Value
+selected control.DSR n = if n == 5 then device devices.StatusReport
+    else if n == 6 then cursor cursors.RequestActivePositionReport
+    else other unfit.OutOfRange
+selected control.KITTYPUSH n = keyboard (keyboards.PushKittyState n)
 selected control.TBC n = chosen (λ c. cursor (cursors.TabulationClear c)) (tabulation_clear_at n)
-selected control.CTC n = chosen (λ c. cursor (cursors.TabulationControl c)) (cursor_tabulation_control_at n)
+selected control.CTC n = chosen (λ c. cursor (cursors.TabulationControl c))
+    (cursor_tabulation_control_at n)
 selected control.DECSCUSR n = chosen (λ c. cursor (cursors.CursorStyle c)) (cursor_style_at n)
 selected control.ED n = chosen (λ c. edit (edits.EraseInDisplay c)) (erase_in_display_at n)
 selected control.EL n = chosen (λ c. edit (edits.EraseInLine c)) (erase_in_line_at n)
-selected control.DECSED n = chosen (λ c. edit (edits.SelectiveEraseInDisplay c)) (erase_in_display_at n)
+selected control.DECSED n = chosen (λ c. edit (edits.SelectiveEraseInDisplay c))
+    (erase_in_display_at n)
 selected control.DECSEL n = chosen (λ c. edit (edits.SelectiveEraseInLine c)) (erase_in_line_at n)
 selected _ n = other unfit.Untyped
 
@@ -159,6 +199,15 @@ made f (args.Place l c) = placed f l c
 made f (args.Margins a b) = bounded f a b
 made f (args.Selector n) = selected f n
 
+-- what is done to modes
+abbrev pub change_of : ControlFunction → ModeChange
+change_of control.SM = change.SetMode
+change_of control.RM = change.ResetMode
+change_of control.DECSET = change.SetDecPrivateMode
+change_of control.DECRST = change.ResetDecPrivateMode
+change_of control.XTSAVE = change.SaveDecPrivateMode
+change_of _ = change.RestoreDecPrivateMode
+
 abbrev pub made_of : ControlFunction → Result Arguments Unfit → Value
 made_of f (Ok a) = made f a
 made_of f (Err u) = other u
@@ -166,6 +215,7 @@ made_of f (Err u) = other u
 abbrev pub of_kind : Option Kind → ControlFunction → List CsiParam → Value
 of_kind None f es = other unfit.Untyped
 of_kind (Some kind.Renditions) f es = renditions (selections es)
+of_kind (Some kind.Modes) f es = modes (change_of f) (mode_numbers (after_prefix es))
 of_kind (Some k) f es = made_of f (arguments k (after_prefix es))
 
 abbrev pub of_named : Option ControlFunction → List CsiParam → Value

@@ -1,9 +1,11 @@
--- The parameters of a control sequence SGR as its renditions, one after another.
-use Rattle.std.specs.Prelude.{ℕ, zero, suc, ◌+◌, ◌==◌, if◌then◌else◌, List, [], ◌∷◌, ◌++◌, length, map, take, Option, Some, None}
+-- Parameters one after another: the renditions of a control sequence SGR, and the numbers of modes.
+use Rattle.std.specs.Prelude.{ℕ, zero, suc, pos, ◌+◌, ◌==◌, if◌then◌else◌, List, [], ◌∷◌, ◌++◌, length, map, take, Option, Some, None}
 use Rattle.std.specs.Option.{option_map}
 use Rattle.esc_values.specs.declared.csi_param.CsiParam.{CsiParam}
-use Rattle.esc_values.specs.declared.csi_param.CsiParam.TheVariants.{P}
+use Rattle.esc_values.specs.declared.csi_param.CsiParam.TheVariants.{Integer, P}
 use Rattle.esc_sequences.specs.Csis.{is_separator}
+use Rattle.esc_typed.specs.declared.mode_number.ModeNumber.{ModeNumber}
+use Rattle.esc_typed.specs.declared.modes.Modes.{Modes}
 use Rattle.esc_typed.specs.declared.rendition.Rendition.{Rendition}
 use Rattle.esc_typed.specs.declared.renditions.Renditions.{Renditions}
 use Rattle.esc_typed.specs.declared.selection.Selection.{Selection}
@@ -40,22 +42,37 @@ abbrev pub separators : List CsiParam → ℕ
 separators [] = 0
 separators (e ∷ es) = number_separators (byte_of e) es
 
+-- how many entries come before the `;` that ends the first part, where this says how many others
+-- the part has
+abbrev pub len_with : (List CsiParam → ℕ) → List CsiParam → ℕ
+len_with s es = len_before (s es) es
+
 -- how many entries the first rendition has
 abbrev pub first_len : List CsiParam → ℕ
-first_len es = len_before (separators es) es
+first_len es = len_with separators es
 
--- The entries of each rendition after the first n entries. No entry is one rendition, and so is
--- nothing after a `;`.
-abbrev pub cut_after : ℕ → List CsiParam → List (List CsiParam)
-cut_after zero [] = [] ∷ []
-cut_after (suc n) [] = []
-cut_after zero (e ∷ es) =
-    take (first_len (e ∷ es)) (e ∷ es) ∷ cut_after (first_len (e ∷ es)) es
-cut_after (suc n) (e ∷ es) = cut_after n es
+-- The entries of each part after the first n entries. No entry is one part, and so is nothing after
+-- a `;`.
+abbrev pub cut_after : (List CsiParam → ℕ) → ℕ → List CsiParam → List (List CsiParam)
+cut_after s zero [] = [] ∷ []
+cut_after s (suc n) [] = []
+cut_after s zero (e ∷ es) =
+    take (len_with s (e ∷ es)) (e ∷ es) ∷ cut_after s (len_with s (e ∷ es)) es
+cut_after s (suc n) (e ∷ es) = cut_after s n es
+
+abbrev pub cut_with : (List CsiParam → ℕ) → List CsiParam → List (List CsiParam)
+cut_with s es = cut_after s 0 es
 
 -- the entries of each rendition
 abbrev pub cut : List CsiParam → List (List CsiParam)
-cut es = cut_after 0 es
+cut es = cut_with separators es
+
+-- the entries of each parameter: what is between two `;`
+abbrev pub no_separators : List CsiParam → ℕ
+no_separators es = 0
+
+abbrev pub parameters : List CsiParam → List (List CsiParam)
+parameters es = cut_with no_separators es
 
 -- a rendition, where it is known, and its entries
 abbrev pub selection_of : List CsiParam → Option Rendition × List CsiParam
@@ -66,12 +83,32 @@ abbrev pub selections : List CsiParam → List (Option Rendition × List CsiPara
 selections es = map selection_of (cut es)
 
 -- what an iterator has left
-abbrev pub left_of : Option (List CsiParam) → List (Option Rendition × List CsiParam)
-left_of None = []
-left_of (Some es) = selections es
+abbrev pub left_with : {X : Type 0} → (List CsiParam → ℕ) → (List CsiParam → X)
+    → Option (List CsiParam) → List X
+left_with s f None = []
+left_with s f (Some es) = map f (cut_with s es)
 
 abbrev pub left : Renditions → List (Option Rendition × List CsiParam)
-left s = left_of (option_map (λ es. es.now) s.rest)
+left s = left_with separators selection_of (option_map (λ es. es.now) s.rest)
+
+-- the number of a mode, where a parameter is one, and its entries
+abbrev pub mode_number : List CsiParam → Option ℕ
+mode_number [] = None
+mode_number (Integer (pos n) ∷ []) = Some n
+mode_number _ = None
+
+abbrev pub mode_of : List CsiParam → Option ℕ × List CsiParam
+mode_of es = (mode_number es, es)
+
+-- the modes of these parameters, in order
+abbrev pub mode_numbers : List CsiParam → List (Option ℕ × List CsiParam)
+mode_numbers es = map mode_of (parameters es)
+
+abbrev pub modes_left : Modes → List (Option ℕ × List CsiParam)
+modes_left s = left_with no_separators mode_of (option_map (λ es. es.now) s.rest)
+
+abbrev pub mode_seen : ModeNumber → Option ℕ × List CsiParam
+mode_seen x = (x.number, x.entries.now)
 
 -- what a caller sees of an item
 abbrev pub seen : Selection → Option Rendition × List CsiParam

@@ -6,8 +6,12 @@ use Rattle.esc_typed.specs.declared.arguments.Arguments.{Arguments}
 use Rattle.esc_typed.specs.declared.arguments.Arguments.TheVariants as args
 use Rattle.esc_typed.specs.declared.cursor.Cursor.{Cursor}
 use Rattle.esc_typed.specs.declared.cursor.Cursor.TheVariants as cursor
+use Rattle.esc_typed.specs.declared.device.Device.{Device}
+use Rattle.esc_typed.specs.declared.device.Device.TheVariants as device
 use Rattle.esc_typed.specs.declared.edit.Edit.{Edit}
 use Rattle.esc_typed.specs.declared.edit.Edit.TheVariants as edit
+use Rattle.esc_typed.specs.declared.keyboard.Keyboard.{Keyboard}
+use Rattle.esc_typed.specs.declared.keyboard.Keyboard.TheVariants as keyboard
 use Rattle.esc_typed.specs.declared.spelling.Spelling.{Spelling}
 use Rattle.esc_typed.specs.Arguments.{entries_of}
 use Rattle.esc_typed.specs.Choices.{cursor_style_number, cursor_tabulation_control_number, erase_in_display_number, erase_in_line_number, tabulation_clear_number}
@@ -50,12 +54,22 @@ cursor_spelling (cursor.CharacterPositionBackward n) = plain (args.Count n) 0x6a
 cursor_spelling (cursor.LinePositionBackward n) = plain (args.Count n) 0x6b
 cursor_spelling (cursor.ActivePositionReport a b) = plain (args.Place a b) 0x52
 cursor_spelling (cursor.TabulationClear c) = plain (args.Selector (tabulation_clear_number c)) 0x67
-cursor_spelling (cursor.TabulationControl c) = plain (args.Selector (cursor_tabulation_control_number c)) 0x57
+cursor_spelling (cursor.TabulationControl c) = plain (args.Selector
+    (cursor_tabulation_control_number c)) 0x57
 cursor_spelling (cursor.CursorStyle c) = between (args.Selector (cursor_style_number c)) 0x20 0x71
 cursor_spelling (cursor.SetTopAndBottomMargins a b) = plain (args.Margins a b) 0x72
 cursor_spelling (cursor.SetLeftAndRightMargins a b) = plain (args.Margins a b) 0x73
 cursor_spelling cursor.SaveCursor = plain args.Nothing 0x73
 cursor_spelling cursor.RestoreCursor = plain args.Nothing 0x75
+cursor_spelling cursor.RequestActivePositionReport = plain (args.Selector 6) 0x6e
+
+abbrev pub device_spelling : Device → Spelling
+device_spelling device.RequestPrimaryDeviceAttributes = plain args.Nothing 0x63
+device_spelling device.RequestSecondaryDeviceAttributes = private 0x3e args.Nothing 0x63
+device_spelling device.RequestTertiaryDeviceAttributes = private 0x3d args.Nothing 0x63
+device_spelling device.RequestTerminalNameAndVersion = private 0x3e args.Nothing 0x71
+device_spelling device.StatusReport = plain (args.Selector 5) 0x6e
+device_spelling device.SoftReset = between args.Nothing 0x21 0x70
 
 abbrev pub edit_spelling : Edit → Spelling
 edit_spelling (edit.InsertCharacter n) = plain (args.Count n) 0x40
@@ -72,5 +86,12 @@ edit_spelling (edit.InsertColumn n) = between (args.Count n) 0x27 0x7d
 edit_spelling (edit.DeleteColumn n) = between (args.Count n) 0x27 0x7e
 edit_spelling (edit.EraseInDisplay c) = plain (args.Selector (erase_in_display_number c)) 0x4a
 edit_spelling (edit.EraseInLine c) = plain (args.Selector (erase_in_line_number c)) 0x4b
-edit_spelling (edit.SelectiveEraseInDisplay c) = private 0x3f (args.Selector (erase_in_display_number c)) 0x4a
-edit_spelling (edit.SelectiveEraseInLine c) = private 0x3f (args.Selector (erase_in_line_number c)) 0x4b
+edit_spelling (edit.SelectiveEraseInDisplay c) = private 0x3f (args.Selector
+    (erase_in_display_number c)) 0x4a
+edit_spelling (edit.SelectiveEraseInLine c) = private 0x3f (args.Selector (erase_in_line_number
+    c)) 0x4b
+
+abbrev pub keyboard_spelling : Keyboard → Spelling
+keyboard_spelling keyboard.QueryKittySupport = private 0x3f args.Nothing 0x75
+keyboard_spelling (keyboard.PushKittyState c) = private 0x3e (args.Selector c) 0x75
+keyboard_spelling (keyboard.PopKittyState n) = private 0x3c (args.Count n) 0x75

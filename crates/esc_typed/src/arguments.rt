@@ -7,6 +7,8 @@ use crate::one_based::OneBased;
 pub(crate) enum Kind {
     // none
     Nothing,
+    // none, or 0
+    Zero,
     // a count, a line or a column
     Count,
     // a line and a column
@@ -17,6 +19,8 @@ pub(crate) enum Kind {
     Selector,
     // renditions, which are read one by one
     Renditions,
+    // modes, which are read one by one
+    Modes,
 }
 
 // The parameters of a function, with what stands for those that are left out.

@@ -67,12 +67,14 @@ pub enum Cursor {
     TabulationControl(CursorTabulationControl),
     /// `CSI .. SP q`, DECSCUSR: its look.
     CursorStyle(CursorStyle),
-    /// `CSI .. r`, DECSTBM: the first and the last line that scroll; the last is that of the screen where there is none.
+    /// `CSI .. r`, DECSTBM: the first and the last line that scroll; the last is that of the screen
+    /// where there is none.
     SetTopAndBottomMargins {
         top: OneBased,
         bottom: Option<OneBased>,
     },
-    /// `CSI .. s`, DECSLRM: the first and the last column that scroll; the last is that of the screen where there is none.
+    /// `CSI .. s`, DECSLRM: the first and the last column that scroll; the last is that of the
+    /// screen where there is none.
     SetLeftAndRightMargins {
         left: OneBased,
         right: Option<OneBased>,
@@ -81,6 +83,8 @@ pub enum Cursor {
     SaveCursor,
     /// `CSI .. u`, SCORC: it is restored.
     RestoreCursor,
+    /// `CSI .. n`, DSR: a report of its place is asked for, by 6.
+    RequestActivePositionReport,
 }
 
 /// Writes the control sequence in its normal spelling: what stands for a parameter that is left out
@@ -147,5 +151,6 @@ fn cursor_spelling(cursor: Cursor) -> Spelling
         ),
         Cursor::SaveCursor => Spelling::plain(Arguments::Nothing, b's'),
         Cursor::RestoreCursor => Spelling::plain(Arguments::Nothing, b'u'),
+        Cursor::RequestActivePositionReport => Spelling::plain(Arguments::Selector(6), b'n'),
     }
 }

@@ -6,10 +6,14 @@ ghost use Rattle.esc_typed.specs.Functions.{of_kind, of_named};
 
 use crate::arguments::{Arguments, Kind};
 use crate::cursor::Cursor;
+use crate::device::Device;
 use crate::edit::Edit;
+use crate::keyboard::Keyboard;
+use crate::mode_change::ModeChange;
+use crate::modes::Modes;
 use crate::numbers::{after_prefix, arguments};
 use crate::renditions::Renditions;
-use crate::table::{bare, bounded, counted, kind_of, placed, selected};
+use crate::table::{bare, bounded, change_of, counted, kind_of, placed, selected};
 use crate::unfit::Unfit;
 use esc_functions::ControlFunction;
 use esc_sequences::{CSI, Intensity, Sgr, Underline};
@@ -24,6 +28,12 @@ pub enum Function<'a> {
     Cursor(Cursor),
     /// Something is inserted, deleted, erased or scrolled.
     Edit(Edit),
+    /// Something is asked of the terminal itself.
+    Device(Device),
+    /// Something is asked of how keys are reported.
+    Keyboard(Keyboard),
+    /// Modes are set, reset, kept or restored.
+    Mode(ModeChange, Modes<'a>),
     /// How characters are shown from here on.
     Sgr(Renditions<'a>),
     /// It has no typed value, and stays the sequence that it is.
@@ -65,6 +75,9 @@ fn of_function(function: ControlFunction, params: &[CsiParam]) -> Function<'_>
     match kind_of(function) {
         None => Function::Other(Unfit::Untyped),
         Some(Kind::Renditions) => Function::Sgr(Renditions::new(params)),
+        Some(Kind::Modes) => {
+            Function::Mode(change_of(function), Modes::new(after_prefix(params)))
+        }
         Some(kind) => match arguments(kind, after_prefix(params)) {
             Ok(arguments) => made(function, arguments),
             Err(unfit) => Function::Other(unfit),

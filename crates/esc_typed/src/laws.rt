@@ -3,18 +3,26 @@ ghost use Rattle.std.specs.Prelude.{◌≡◌, List, ◌∷◌, map, Some};
 ghost use Rattle.esc_values.specs.declared.csi_param.CsiParam.{CsiParam};
 ghost use Rattle.esc_typed.specs.declared.rendition.Rendition.{Rendition};
 ghost use Rattle.esc_typed.specs.declared.cursor.Cursor.{Cursor};
+ghost use Rattle.esc_typed.specs.declared.device.Device.{Device};
 ghost use Rattle.esc_typed.specs.declared.edit.Edit.{Edit};
+ghost use Rattle.esc_typed.specs.declared.keyboard.Keyboard.{Keyboard};
 ghost use Rattle.esc_typed.specs.Arguments.{AreArguments};
-ghost use Rattle.esc_typed.specs.Functions.{cursor, edit, of_params};
+ghost use Rattle.esc_typed.specs.Functions.{cursor, device, edit, keyboard, of_params};
 ghost use Rattle.esc_typed.specs.Renditions.{AreRenditions, IsRendition, normal, rendition_of};
-ghost use Rattle.esc_typed.specs.Selections.{cut, joined, selections, spelled};
-ghost use Rattle.esc_typed.specs.Spellings.{cursor_spelling, edit_spelling, entries};
+ghost use Rattle.esc_typed.specs.Selections.{cut, joined, parameters, selections, spelled};
+ghost use Rattle.esc_typed.specs.Spellings.{cursor_spelling, device_spelling, edit_spelling, entries, keyboard_spelling};
 
 /// The entries of the renditions of a sequence, in order and with `;` between them, are those of
 /// the sequence: nothing of it is lost.
 #[tactic(auto, using(crate::proofs::Cutting::nothing_lost))]
 pub fn nothing_lost()
     ensures { (es : List CsiParam) → joined (cut es) ≡ es }
+{}
+
+/// The same of the modes of a sequence.
+#[tactic(auto, using(crate::proofs::Cutting::no_mode_lost))]
+pub fn no_mode_lost()
+    ensures { (es : List CsiParam) → joined (parameters es) ≡ es }
 {}
 
 /// The normal spelling of a rendition is read as this rendition.
@@ -42,4 +50,18 @@ pub fn cursor_reads_back()
 pub fn edit_reads_back()
     ensures { (e : Edit) → AreArguments (edit_spelling e).arguments
         → of_params (entries (edit_spelling e)) (edit_spelling e).last ≡ edit e }
+{}
+
+/// What is asked of the terminal itself, in its normal spelling, is read as the same.
+#[tactic(auto, using(crate::proofs::Spelled::device_back))]
+pub fn device_reads_back()
+    ensures { (d : Device) → AreArguments (device_spelling d).arguments
+        → of_params (entries (device_spelling d)) (device_spelling d).last ≡ device d }
+{}
+
+/// What is asked of how keys are reported, in its normal spelling, is read as the same.
+#[tactic(auto, using(crate::proofs::Spelled::keyboard_back))]
+pub fn keyboard_reads_back()
+    ensures { (d : Keyboard) → AreArguments (keyboard_spelling d).arguments
+        → of_params (entries (keyboard_spelling d)) (keyboard_spelling d).last ≡ keyboard d }
 {}

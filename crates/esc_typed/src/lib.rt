@@ -3,8 +3,8 @@
 //!
 //! The standards: ECMA-48
 //! (<https://ecma-international.org/publications-and-standards/standards/ecma-48/>), ISO 8613-6 for
-//! the parts of colours, DEC's manual of the VT510 (<https://vt100.net/docs/vt510-rm/chapter4.html>)
-//! and xterm's list of control sequences
+//! the parts of colours, DEC's manual of the VT510
+//! (<https://vt100.net/docs/vt510-rm/chapter4.html>) and xterm's list of control sequences
 //! (<https://invisible-island.net/xterm/ctlseqs/ctlseqs.html>).
 //!
 //! `Function::of` of `ESC [ ; 4 H` is `Function::Cursor(Cursor::Position { line, col })`, with the
@@ -22,6 +22,7 @@ pub mod color_spec;
 pub mod cursor;
 pub mod cursor_style;
 pub mod cursor_tabulation_control;
+pub mod device;
 pub mod edit;
 mod entries;
 pub mod erase_in_display;
@@ -30,7 +31,11 @@ pub mod font;
 pub mod frame;
 pub mod function;
 pub mod ideogram;
+pub mod keyboard;
 pub mod laws;
+pub mod mode_change;
+pub mod mode_number;
+pub mod modes;
 mod numbered;
 mod numbers;
 pub mod one_based;
@@ -49,13 +54,19 @@ pub use color_spec::ColorSpec;
 pub use cursor::Cursor;
 pub use cursor_style::CursorStyle;
 pub use cursor_tabulation_control::CursorTabulationControl;
+pub use device::Device;
 pub use edit::Edit;
 pub use erase_in_display::EraseInDisplay;
 pub use erase_in_line::EraseInLine;
+pub use esc_values::CsiParam;
 pub use font::Font;
 pub use frame::Frame;
 pub use function::Function;
 pub use ideogram::Ideogram;
+pub use keyboard::Keyboard;
+pub use mode_change::ModeChange;
+pub use mode_number::ModeNumber;
+pub use modes::Modes;
 pub use one_based::OneBased;
 pub use rendition::Rendition;
 pub use renditions::Renditions;

@@ -2,7 +2,7 @@
 ghost use Rattle.std.specs.Prelude.{◌≡◌, Some, Ok, Err, IfOk, IfErr};
 ghost use Rattle.std.specs.Option.{option_map};
 ghost use Rattle.std.specs.List.{list_all};
-ghost use Rattle.esc_typed.specs.Arguments.{after_prefix, arguments, count, is_intermediate, last_of, margins, more, next, no_number, number_first, one, place, selector, two};
+ghost use Rattle.esc_typed.specs.Arguments.{after_prefix, arguments, count, is_intermediate, last_of, margins, more, next, no_number, number_first, one, place, selector, two, zero};
 
 use crate::arguments::{Arguments, Kind};
 use crate::one_based::OneBased;
@@ -16,6 +16,10 @@ pub(crate) fn arguments(kind: Kind, entries: &[CsiParam]) -> Result<Arguments, U
     match kind {
         Kind::Nothing => match one(entries) {
             Ok(number) => no_number(number),
+            Err(unfit) => Err(unfit),
+        },
+        Kind::Zero => match one(entries) {
+            Ok(number) => zero(number),
             Err(unfit) => Err(unfit),
         },
         Kind::Count => match one(entries) {
@@ -34,7 +38,7 @@ pub(crate) fn arguments(kind: Kind, entries: &[CsiParam]) -> Result<Arguments, U
             Ok((first, last)) => margins(first, last),
             Err(unfit) => Err(unfit),
         },
-        Kind::Renditions => Err(Unfit::Untyped),
+        Kind::Renditions | Kind::Modes => Err(Unfit::Untyped),
     }
 }
 
@@ -45,6 +49,16 @@ fn no_number(number: Option<u64>) -> Result<Arguments, Unfit>
     match number {
         None => Ok(Arguments::Nothing),
         Some(_) => Err(Unfit::TooMany),
+    }
+}
+
+// No parameter, or 0.
+fn zero(number: Option<u64>) -> Result<Arguments, Unfit>
+    ensures { result ≡ zero number }
+{
+    match number {
+        None | Some(0) => Ok(Arguments::Nothing),
+        Some(_) => Err(Unfit::OutOfRange),
     }
 }
 

@@ -56,7 +56,7 @@ impl<'a> Iterator for Renditions<'a> {
 impl<'a> FusedIterator for Renditions<'a> {}
 
 // What follows so many entries and a `;`, where there is more.
-fn after(entries: &[CsiParam], len: usize) -> Option<&[CsiParam]>
+pub(crate) fn after(entries: &[CsiParam], len: usize) -> Option<&[CsiParam]>
     requires { len ≤ length entries.now }
     ensures { option_map (λ x. x.now) result
         ≡ if len == length entries.now then None else Some (drop (len + 1) entries.now) }
@@ -77,7 +77,7 @@ fn first_len(entries: &[CsiParam]) -> usize
 }
 
 // How many entries come before the `;` after so many others, or in all where there is none.
-fn len_before(count: usize, entries: &[CsiParam]) -> usize
+pub(crate) fn len_before(count: usize, entries: &[CsiParam]) -> usize
     ensures len { result ≡ len_before count entries.now }
     ensures few { result ≤ length entries.now }
 {

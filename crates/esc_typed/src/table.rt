@@ -1,15 +1,18 @@
 //! The tables of typed values: what a control function makes of its parameters.
 ghost use Rattle.std.specs.Prelude.{◌≡◌};
-ghost use Rattle.esc_typed.specs.Functions.{bare, bounded, counted, kind_of, placed, selected, value_of};
+ghost use Rattle.esc_typed.specs.Functions.{bare, bounded, change_of, counted, kind_of, placed, selected, value_of};
 
 use crate::arguments::Kind;
 use crate::cursor::Cursor;
 use crate::cursor_style::CursorStyle;
 use crate::cursor_tabulation_control::CursorTabulationControl;
+use crate::device::Device;
 use crate::edit::Edit;
 use crate::erase_in_display::EraseInDisplay;
 use crate::erase_in_line::EraseInLine;
 use crate::function::Function;
+use crate::keyboard::Keyboard;
+use crate::mode_change::ModeChange;
 use crate::one_based::OneBased;
 use crate::tabulation_clear::TabulationClear;
 use crate::unfit::Unfit;
@@ -47,7 +50,8 @@ pub(crate) fn kind_of(function: ControlFunction) -> Option<Kind>
         ControlFunction::SL
         | ControlFunction::SR
         | ControlFunction::DECIC
-        | ControlFunction::DECDC => Some(Kind::Count),
+        | ControlFunction::DECDC
+        | ControlFunction::KITTYPOP => Some(Kind::Count),
         ControlFunction::CUP | ControlFunction::HVP | ControlFunction::CPR => Some(Kind::Place),
         ControlFunction::TBC
         | ControlFunction::CTC
@@ -55,9 +59,24 @@ pub(crate) fn kind_of(function: ControlFunction) -> Option<Kind>
         | ControlFunction::ED
         | ControlFunction::EL
         | ControlFunction::DECSED
-        | ControlFunction::DECSEL => Some(Kind::Selector),
+        | ControlFunction::DECSEL
+        | ControlFunction::DSR => Some(Kind::Selector),
+        ControlFunction::KITTYPUSH => Some(Kind::Selector),
         ControlFunction::DECSTBM | ControlFunction::DECSLRM => Some(Kind::Margins),
-        ControlFunction::SCOSC | ControlFunction::SCORC => Some(Kind::Nothing),
+        ControlFunction::SCOSC
+        | ControlFunction::SCORC
+        | ControlFunction::DECSTR
+        | ControlFunction::KITTYQUERY => Some(Kind::Nothing),
+        ControlFunction::DA1
+        | ControlFunction::DA2
+        | ControlFunction::DA3
+        | ControlFunction::XTVERSION => Some(Kind::Zero),
+        ControlFunction::SM
+        | ControlFunction::RM
+        | ControlFunction::DECSET
+        | ControlFunction::DECRST
+        | ControlFunction::XTSAVE
+        | ControlFunction::XTRESTORE => Some(Kind::Modes),
         ControlFunction::SGR => Some(Kind::Renditions),
         _ => None,
     }
@@ -70,6 +89,12 @@ pub(crate) fn bare<'a>(function: ControlFunction) -> Function<'a>
     match function {
         ControlFunction::SCOSC => Function::Cursor(Cursor::SaveCursor),
         ControlFunction::SCORC => Function::Cursor(Cursor::RestoreCursor),
+        ControlFunction::DECSTR => Function::Device(Device::SoftReset),
+        ControlFunction::KITTYQUERY => Function::Keyboard(Keyboard::QueryKittySupport),
+        ControlFunction::DA1 => Function::Device(Device::RequestPrimaryDeviceAttributes),
+        ControlFunction::DA2 => Function::Device(Device::RequestSecondaryDeviceAttributes),
+        ControlFunction::DA3 => Function::Device(Device::RequestTertiaryDeviceAttributes),
+        ControlFunction::XTVERSION => Function::Device(Device::RequestTerminalNameAndVersion),
         _ => Function::Other(Unfit::Untyped),
     }
 }
@@ -107,6 +132,7 @@ pub(crate) fn counted<'a>(function: ControlFunction, n: OneBased) -> Function<'a
         ControlFunction::SR => Function::Edit(Edit::ScrollRight(n)),
         ControlFunction::DECIC => Function::Edit(Edit::InsertColumn(n)),
         ControlFunction::DECDC => Function::Edit(Edit::DeleteColumn(n)),
+        ControlFunction::KITTYPOP => Function::Keyboard(Keyboard::PopKittyState(n)),
         _ => Function::Other(Unfit::Untyped),
     }
 }
@@ -152,6 +178,8 @@ pub(crate) fn selected<'a>(function: ControlFunction, n: u8) -> Function<'a>
     ensures { value_of result ≡ selected function n }
 {
     match function {
+        ControlFunction::DSR => status_asked(n),
+        ControlFunction::KITTYPUSH => Function::Keyboard(Keyboard::PushKittyState(n)),
         ControlFunction::TBC => match TabulationClear::of_number(n) {
             Some(choice) => Function::Cursor(Cursor::TabulationClear(choice)),
             None => Function::Other(Unfit::OutOfRange),
@@ -181,5 +209,30 @@ pub(crate) fn selected<'a>(function: ControlFunction, n: u8) -> Function<'a>
             None => Function::Other(Unfit::OutOfRange),
         },
         _ => Function::Other(Unfit::Untyped),
+    }
+}
+
+// Which report is asked for, by its number.
+fn status_asked<'a>(n: u8) -> Function<'a>
+    ensures { value_of result ≡ selected ControlFunction.DSR n }
+{
+    match n {
+        5 => Function::Device(Device::StatusReport),
+        6 => Function::Cursor(Cursor::RequestActivePositionReport),
+        _ => Function::Other(Unfit::OutOfRange),
+    }
+}
+
+// What is done to modes.
+pub(crate) fn change_of(function: ControlFunction) -> ModeChange
+    ensures { result ≡ change_of function }
+{
+    match function {
+        ControlFunction::SM => ModeChange::SetMode,
+        ControlFunction::RM => ModeChange::ResetMode,
+        ControlFunction::DECSET => ModeChange::SetDecPrivateMode,
+        ControlFunction::DECRST => ModeChange::ResetDecPrivateMode,
+        ControlFunction::XTSAVE => ModeChange::SaveDecPrivateMode,
+        _ => ModeChange::RestoreDecPrivateMode,
     }
 }

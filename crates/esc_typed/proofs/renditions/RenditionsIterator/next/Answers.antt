@@ -1,4 +1,5 @@
 use Rattle.std.proofs.Common.{ap, length, arith}
+use Rattle.esc_typed.specs.Selections.{selection_of, separators}
 use Rattle.esc_typed.proofs.Cutting.{next_is}
 use Rattle.esc_typed.proofs.renditions.RenditionsIterator.next.Goals as goal
 
@@ -9,7 +10,7 @@ returns-clause-steps c =
       c.after-self.ensures,
       c.of_entries.ensures,
       c.first_len-len.ensures.len,
-    ) (next_is c.in-Some.entries.now)
+    ) (next_is separators selection_of c.in-Some.entries.now)
 
 pub returns-clause-goes : goal.returns-clause-goes
 returns-clause-goes c =
