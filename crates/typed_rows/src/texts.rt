@@ -1,0 +1,91 @@
+//! The rows of a table.
+use crate::sequence::Sequence;
+use esc_typed::{CsiParam, Function, ModeChange, Modes, Renditions};
+use std::alloc::{AllocError, Global};
+use std::fmt::{Debug, Display};
+
+/// The row of a sequence, as the library has it: that of what comes before the first `|` of a line.
+pub fn row_of(alloc: Global, line: &str) -> Result<String, AllocError> {
+    let text = match line.split_once(" | ") {
+        Some((text, _)) => text,
+        None => line,
+    };
+    let sequence = Sequence::read(alloc, text)?;
+    match Function::of_params(&sequence.params, sequence.last) {
+        Function::Cursor(cursor) => typed(alloc, text, cursor),
+        Function::Edit(edit) => typed(alloc, text, edit),
+        Function::Device(device) => typed(alloc, text, device),
+        Function::Keyboard(keyboard) => typed(alloc, text, keyboard),
+        Function::Mode(change, modes) => changed(alloc, text, change, modes),
+        Function::Sgr(renditions) => listed(alloc, text, renditions),
+        Function::Other(unfit) => format!(in alloc; "{text} | {unfit:?} | {text}"),
+    }
+}
+
+// The row of a typed value.
+fn typed<T: Debug + Display + Drop>(
+    alloc: Global,
+    text: &str,
+    value: T,
+) -> Result<String, AllocError> {
+    let written = format!(in alloc; "{value}")?;
+    let spelling = match written.as_str().strip_prefix("\x1b[") {
+        Some(rest) => rest,
+        None => "?",
+    };
+    format!(in alloc; "{text} | {value:?} | {spelling}")
+}
+
+// The row of renditions.
+fn listed(alloc: Global, text: &str, renditions: Renditions<'_>) -> Result<String, AllocError> {
+    let mut values = String::new(alloc);
+    let mut spelling = String::new(alloc);
+    for item in renditions {
+        if !values.is_empty() {
+            values.push_str(", ")?;
+            spelling.push_str(";")?;
+        }
+        match item.rendition {
+            Some(rendition) => {
+                write!(values, "{rendition:?}")?;
+                write!(spelling, "{rendition}")?;
+            }
+            None => {
+                values.push_str("?")?;
+                push_entries(&mut spelling, item.entries)?;
+            }
+        }
+    }
+    format!(in alloc; "{text} | {values} | {spelling}m")
+}
+
+// The row of modes.
+fn changed(
+    alloc: Global,
+    text: &str,
+    change: ModeChange,
+    modes: Modes<'_>,
+) -> Result<String, AllocError> {
+    let mut numbers = String::new(alloc);
+    for item in modes {
+        if !numbers.is_empty() {
+            numbers.push_str(", ")?;
+        }
+        match item.number {
+            Some(number) => write!(numbers, "{number}")?,
+            None => numbers.push_str("?")?,
+        }
+    }
+    format!(in alloc; "{text} | {change:?}: {numbers} | {text}")
+}
+
+// Appends entries as they came.
+fn push_entries(text: &mut String, entries: &[CsiParam]) -> Result<(), AllocError> {
+    for entry in entries {
+        match entry {
+            CsiParam::Integer(number) => write!(text, "{number}")?,
+            CsiParam::P(byte) => write!(text, "{}", char::from(*byte))?,
+        }
+    }
+    Ok(())
+}
