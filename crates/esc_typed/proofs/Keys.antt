@@ -206,3 +206,15 @@ KITTYPUSH = refl
 pub KITTYPOP : function_of 81013 ≡ Some control.KITTYPOP
 unfolding function_of rows_of
 KITTYPOP = refl
+
+pub KITTYSET : function_of 81269 ≡ Some control.KITTYSET
+unfolding function_of rows_of
+KITTYSET = refl
+
+pub MOUSE : function_of 80973 ≡ Some control.MOUSE
+unfolding function_of rows_of
+MOUSE = refl
+
+pub MOUSEUP : function_of 81005 ≡ Some control.MOUSEUP
+unfolding function_of rows_of
+MOUSEUP = refl

@@ -22,6 +22,8 @@ use Rattle.esc_typed.specs.declared.edit.Edit.{Edit}
 use Rattle.esc_typed.specs.declared.edit.Edit.TheVariants as edits
 use Rattle.esc_typed.specs.declared.keyboard.Keyboard.{Keyboard}
 use Rattle.esc_typed.specs.declared.keyboard.Keyboard.TheVariants as keyboards
+use Rattle.esc_typed.specs.declared.mouse.Mouse.{Mouse}
+use Rattle.esc_typed.specs.declared.mouse.Mouse.TheVariants as mouses
 use Rattle.esc_typed.specs.declared.one_based.OneBased.{OneBased}
 use Rattle.esc_typed.specs.declared.spelling.Spelling.{Spelling}
 use Rattle.esc_typed.specs.declared.erase_in_display.EraseInDisplay.{EraseInDisplay}
@@ -32,13 +34,15 @@ use Rattle.esc_typed.specs.declared.tabulation_clear.TabulationClear.{Tabulation
 use Rattle.esc_typed.specs.declared.tabulation_clear.TabulationClear.TheVariants as tabulation_clear
 use Rattle.esc_typed.specs.declared.cursor_tabulation_control.CursorTabulationControl.{CursorTabulationControl}
 use Rattle.esc_typed.specs.declared.cursor_tabulation_control.CursorTabulationControl.TheVariants as cursor_tabulation_control
+use Rattle.esc_typed.specs.declared.kitty_flags_change.KittyFlagsChange.{KittyFlagsChange}
+use Rattle.esc_typed.specs.declared.kitty_flags_change.KittyFlagsChange.TheVariants as kitty_flags_change
 use Rattle.esc_typed.specs.declared.cursor_style.CursorStyle.{CursorStyle}
 use Rattle.esc_typed.specs.declared.cursor_style.CursorStyle.TheVariants as cursor_style
 use Rattle.esc_typed.specs.Arguments.{AreArguments, IsOneBased, after_prefix, arguments, entries_of, is_intermediate, number_first}
-use Rattle.esc_typed.specs.Choices.{cursor_style_at, cursor_style_number, cursor_tabulation_control_at, cursor_tabulation_control_number, erase_in_display_at, erase_in_display_number, erase_in_line_at, erase_in_line_number, tabulation_clear_at, tabulation_clear_number}
+use Rattle.esc_typed.specs.Choices.{cursor_style_at, cursor_style_number, cursor_tabulation_control_at, cursor_tabulation_control_number, erase_in_display_at, erase_in_display_number, erase_in_line_at, erase_in_line_number, kitty_flags_change_at, kitty_flags_change_number, tabulation_clear_at, tabulation_clear_number}
 use Rattle.esc_typed.specs.Counts.{at_place, one_based, one_based_of}
-use Rattle.esc_typed.specs.Functions.{Value, cursor, device, edit, keyboard, chosen, kind_of, made, made_of, of_kind, of_named, of_params}
-use Rattle.esc_typed.specs.Spellings.{between, cursor_spelling, device_spelling, edit_spelling, keyboard_spelling, entries, plain, private}
+use Rattle.esc_typed.specs.Functions.{Value, cursor, device, edit, keyboard, mouse, chosen, kind_of, made, made_of, of_kind, of_named, of_params}
+use Rattle.esc_typed.specs.Spellings.{between, cursor_spelling, device_spelling, edit_spelling, keyboard_spelling, mouse_spelling, entries, plain, private}
 use Rattle.esc_typed.proofs.Keys as keys
 
 -- ---- numbers
@@ -82,6 +86,8 @@ kind_for (args.Count n) = kind.Count
 kind_for (args.Place l c) = kind.Place
 kind_for (args.Margins a b) = kind.Margins
 kind_for (args.Selector n) = kind.Selector
+kind_for (args.Flags a b) = kind.Flags
+kind_for (args.Report a b c) = kind.Report
 
 -- the parameters before a tail read back, have no marks, and begin with no private prefix
 pub record IsBack (a : Arguments) (t : List CsiParam) : Type 0 where
@@ -153,6 +159,21 @@ back (args.Margins a (Some b)) t h i = record {
   kept = refl;
 }
 back (args.Selector n) t h i = selector_by n t (n == 0) refl h i
+back (args.Flags a b) t h i = record {
+  read = rw (i.ends, le-leb a 255 (omega (arith, h.0)), le-leb b 255 (omega (arith, h.1))) refl;
+  unmarked = refl;
+  kept = refl;
+}
+back (args.Report a b c) t h i = record {
+  read = rw (
+    i.ends,
+    le-leb a 255 (omega (arith, h.0)),
+    one_based_back b h.1,
+    one_based_back c h.2,
+  ) refl;
+  unmarked = refl;
+  kept = refl;
+}
 
 -- ---- sequences
 
@@ -257,6 +278,12 @@ cursor_tabulation_control_back cursor_tabulation_control.ClearLineTabStopAtActiv
 cursor_tabulation_control_back cursor_tabulation_control.ClearCharacterTabStopsAtActiveLine = refl
 cursor_tabulation_control_back cursor_tabulation_control.ClearAllCharacterTabStops = refl
 cursor_tabulation_control_back cursor_tabulation_control.ClearAllLineTabStops = refl
+
+kitty_flags_change_back : (c : KittyFlagsChange) → kitty_flags_change_at
+    (kitty_flags_change_number c) ≡ Some c
+kitty_flags_change_back kitty_flags_change.AssignAll = refl
+kitty_flags_change_back kitty_flags_change.SetSpecified = refl
+kitty_flags_change_back kitty_flags_change.ClearSpecified = refl
 
 cursor_style_back : (c : CursorStyle) → cursor_style_at (cursor_style_number c) ≡ Some c
 cursor_style_back cursor_style.Default = refl
@@ -426,3 +453,16 @@ keyboard_back (keyboards.PushKittyState c) h =
 keyboard_back (keyboards.PopKittyState n) h =
     private_back 0x3c control.KITTYPOP (args.Count n) 0x75
     (keyboard (keyboards.PopKittyState n)) h refl refl keys.KITTYPOP refl refl
+keyboard_back (keyboards.SetKittyState a b) h =
+    private_back 0x3d control.KITTYSET (args.Flags a (kitty_flags_change_number b)) 0x75
+    (keyboard (keyboards.SetKittyState a b)) h refl refl keys.KITTYSET refl (ap (chosen (λ c.
+    keyboard (keyboards.SetKittyState a c))) (kitty_flags_change_back b))
+
+pub mouse_back : (c : Mouse) → AreArguments (mouse_spelling c).arguments
+    → of_params (entries (mouse_spelling c)) (mouse_spelling c).last ≡ mouse c
+mouse_back (mouses.Pressed a b c) h =
+    private_back 0x3c control.MOUSE (args.Report a b c) 0x4d
+    (mouse (mouses.Pressed a b c)) h refl refl keys.MOUSE refl refl
+mouse_back (mouses.Released a b c) h =
+    private_back 0x3c control.MOUSEUP (args.Report a b c) 0x6d
+    (mouse (mouses.Released a b c)) h refl refl keys.MOUSEUP refl refl

@@ -106,6 +106,30 @@ abbrev pub selector : Option ℕ → Result Arguments Unfit
 selector None = Ok (args.Selector 0)
 selector (Some n) = if nat_le n 255 then Ok (args.Selector n) else Err unfit.OutOfRange
 
+abbrev pub byte_or : ℕ → Option ℕ → Result ℕ Unfit
+byte_or d None = Ok d
+byte_or d (Some n) = if nat_le n 255 then Ok n else Err unfit.OutOfRange
+
+-- flags are 0 where they are left out, and what is done with them is 1
+abbrev pub flags : Option ℕ → Option ℕ → Result Arguments Unfit
+flags a b =
+    then_read (byte_or 0 a) (λ a. then_read (byte_or 1 b) (λ b. Ok (args.Flags a b)))
+
+abbrev pub report : Option ℕ → Option ℕ → Option ℕ → Result Arguments Unfit
+report a b c =
+    then_read (byte_or 0 a) (λ a.
+    then_read (in_range (one_based_of b)) (λ b.
+    then_read (in_range (one_based_of c)) (λ c. Ok (args.Report a b c))))
+
+-- the only three, of which those after the first may be missing
+abbrev pub two_more : Option ℕ → Option (List CsiParam)
+    → Result (Option ℕ × Option ℕ × Option ℕ) Unfit
+two_more first None = Ok (first, None, None)
+two_more first (Some es) = then_read (two es) (λ p. Ok (first, p.0, p.1))
+
+abbrev pub three : List CsiParam → Result (Option ℕ × Option ℕ × Option ℕ) Unfit
+three es = then_read (next es) (λ a. two_more a.0 a.1)
+
 -- the parameters of a kind
 abbrev pub arguments : Kind → List CsiParam → Result Arguments Unfit
 arguments kind.Nothing es = then_read (one es) no_number
@@ -114,6 +138,8 @@ arguments kind.Count es = then_read (one es) count
 arguments kind.Place es = then_read (two es) (λ p. place p.0 p.1)
 arguments kind.Margins es = then_read (two es) (λ p. margins p.0 p.1)
 arguments kind.Selector es = then_read (one es) selector
+arguments kind.Flags es = then_read (two es) (λ p. flags p.0 p.1)
+arguments kind.Report es = then_read (three es) (λ p. report p.0 p.1 p.2)
 arguments kind.Renditions es = Err unfit.Untyped
 arguments kind.Modes es = Err unfit.Untyped
 
@@ -131,13 +157,16 @@ last_entries None = []
 last_entries (Some n) = P 0x3b ∷ number (one_based n) ∷ []
 
 -- Counts, lines, columns and choices that stand where nothing does are left out, but for the first
--- of margins, without which `s` would save the cursor.
+-- of margins, without which `s` would save the cursor, and for flags and reports, which are whole.
 abbrev pub entries_of : Arguments → List CsiParam
 entries_of args.Nothing = []
 entries_of (args.Count n) = count_entries n
 entries_of (args.Place l c) = count_entries l ++ more_entries c
 entries_of (args.Margins a b) = number (one_based a) ∷ last_entries b
 entries_of (args.Selector n) = if n == 0 then [] else number n ∷ []
+entries_of (args.Flags a b) = number a ∷ P 0x3b ∷ number b ∷ []
+entries_of (args.Report a b c) = number a
+    ∷ P 0x3b ∷ number (one_based b) ∷ P 0x3b ∷ number (one_based c) ∷ []
 
 abbrev pub IsOneBased : OneBased → Type 0
 IsOneBased n = n.zero_based < 0x1_0000_0000
@@ -152,3 +181,5 @@ AreArguments (args.Count n) = IsOneBased n
 AreArguments (args.Place l c) = IsOneBased l × IsOneBased c
 AreArguments (args.Margins a b) = IsOneBased a × IsLast b
 AreArguments (args.Selector n) = n < 256
+AreArguments (args.Flags a b) = (a < 256) × (b < 256)
+AreArguments (args.Report a b c) = (a < 256) × IsOneBased b × IsOneBased c

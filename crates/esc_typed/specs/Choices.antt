@@ -8,6 +8,8 @@ use Rattle.esc_typed.specs.declared.tabulation_clear.TabulationClear.{Tabulation
 use Rattle.esc_typed.specs.declared.tabulation_clear.TabulationClear.TheVariants as tabulation_clear
 use Rattle.esc_typed.specs.declared.cursor_tabulation_control.CursorTabulationControl.{CursorTabulationControl}
 use Rattle.esc_typed.specs.declared.cursor_tabulation_control.CursorTabulationControl.TheVariants as cursor_tabulation_control
+use Rattle.esc_typed.specs.declared.kitty_flags_change.KittyFlagsChange.{KittyFlagsChange}
+use Rattle.esc_typed.specs.declared.kitty_flags_change.KittyFlagsChange.TheVariants as kitty_flags_change
 use Rattle.esc_typed.specs.declared.cursor_style.CursorStyle.{CursorStyle}
 use Rattle.esc_typed.specs.declared.cursor_style.CursorStyle.TheVariants as cursor_style
 
@@ -70,6 +72,17 @@ cursor_tabulation_control_at n = if n == 0 then Some
     else if n == 4 then Some cursor_tabulation_control.ClearCharacterTabStopsAtActiveLine
     else if n == 5 then Some cursor_tabulation_control.ClearAllCharacterTabStops
     else if n == 6 then Some cursor_tabulation_control.ClearAllLineTabStops
+    else None
+
+abbrev pub kitty_flags_change_number : KittyFlagsChange → ℕ
+kitty_flags_change_number kitty_flags_change.AssignAll = 1
+kitty_flags_change_number kitty_flags_change.SetSpecified = 2
+kitty_flags_change_number kitty_flags_change.ClearSpecified = 3
+
+abbrev pub kitty_flags_change_at : ℕ → Option KittyFlagsChange
+kitty_flags_change_at n = if n == 1 then Some kitty_flags_change.AssignAll
+    else if n == 2 then Some kitty_flags_change.SetSpecified
+    else if n == 3 then Some kitty_flags_change.ClearSpecified
     else None
 
 abbrev pub cursor_style_number : CursorStyle → ℕ

@@ -22,6 +22,8 @@ use Rattle.esc_typed.specs.declared.edit.Edit.{Edit}
 use Rattle.esc_typed.specs.declared.edit.Edit.TheVariants as edits
 use Rattle.esc_typed.specs.declared.keyboard.Keyboard.{Keyboard}
 use Rattle.esc_typed.specs.declared.keyboard.Keyboard.TheVariants as keyboards
+use Rattle.esc_typed.specs.declared.mouse.Mouse.{Mouse}
+use Rattle.esc_typed.specs.declared.mouse.Mouse.TheVariants as mouses
 use Rattle.esc_typed.specs.declared.mode_change.ModeChange.{ModeChange}
 use Rattle.esc_typed.specs.declared.mode_change.ModeChange.TheVariants as change
 use Rattle.esc_typed.specs.declared.function.Function.{Function}
@@ -31,7 +33,7 @@ use Rattle.esc_typed.specs.declared.rendition.Rendition.{Rendition}
 use Rattle.esc_typed.specs.declared.unfit.Unfit.{Unfit}
 use Rattle.esc_typed.specs.declared.unfit.Unfit.TheVariants as unfit
 use Rattle.esc_typed.specs.Arguments.{after_prefix, arguments}
-use Rattle.esc_typed.specs.Choices.{cursor_style_at, cursor_tabulation_control_at, erase_in_display_at, erase_in_line_at, tabulation_clear_at}
+use Rattle.esc_typed.specs.Choices.{cursor_style_at, cursor_tabulation_control_at, erase_in_display_at, erase_in_line_at, kitty_flags_change_at, tabulation_clear_at}
 use Rattle.esc_typed.specs.Renditions.{number}
 use Rattle.esc_typed.specs.Selections.{left, modes_left, mode_numbers, selections}
 
@@ -41,6 +43,7 @@ pub data Value : Type 0 where
   edit : Edit → Value
   device : Device → Value
   keyboard : Keyboard → Value
+  mouse : Mouse → Value
   modes : ModeChange → List (Option ℕ × List CsiParam) → Value
   renditions : List (Option Rendition × List CsiParam) → Value
   other : Unfit → Value
@@ -50,6 +53,7 @@ value_of (function.Cursor c) = cursor c
 value_of (function.Edit e) = edit e
 value_of (function.Device d) = device d
 value_of (function.Keyboard k) = keyboard k
+value_of (function.Mouse m) = mouse m
 value_of (function.Mode c ms) = modes c (modes_left ms)
 value_of (function.Sgr r) = renditions (left r)
 value_of (function.Other u) = other u
@@ -107,6 +111,9 @@ kind_of control.DA1 = Some kind.Zero
 kind_of control.DA2 = Some kind.Zero
 kind_of control.DA3 = Some kind.Zero
 kind_of control.XTVERSION = Some kind.Zero
+kind_of control.KITTYSET = Some kind.Flags
+kind_of control.MOUSE = Some kind.Report
+kind_of control.MOUSEUP = Some kind.Report
 kind_of control.SM = Some kind.Modes
 kind_of control.RM = Some kind.Modes
 kind_of control.DECSET = Some kind.Modes
@@ -191,6 +198,16 @@ selected control.DECSED n = chosen (λ c. edit (edits.SelectiveEraseInDisplay c)
 selected control.DECSEL n = chosen (λ c. edit (edits.SelectiveEraseInLine c)) (erase_in_line_at n)
 selected _ n = other unfit.Untyped
 
+abbrev pub flagged : ControlFunction → ℕ → ℕ → Value
+flagged control.KITTYSET a b = chosen (λ c. keyboard (keyboards.SetKittyState a c))
+    (kitty_flags_change_at b)
+flagged _ a b = other unfit.Untyped
+
+abbrev pub reported : ControlFunction → ℕ → OneBased → OneBased → Value
+reported control.MOUSE a b c = mouse (mouses.Pressed a b c)
+reported control.MOUSEUP a b c = mouse (mouses.Released a b c)
+reported _ a b c = other unfit.Untyped
+
 -- the value of a function with its parameters
 abbrev pub made : ControlFunction → Arguments → Value
 made f args.Nothing = bare f
@@ -198,6 +215,8 @@ made f (args.Count n) = counted f n
 made f (args.Place l c) = placed f l c
 made f (args.Margins a b) = bounded f a b
 made f (args.Selector n) = selected f n
+made f (args.Flags a b) = flagged f a b
+made f (args.Report a b c) = reported f a b c
 
 -- what is done to modes
 abbrev pub change_of : ControlFunction → ModeChange

@@ -12,9 +12,11 @@ use Rattle.esc_typed.specs.declared.edit.Edit.{Edit}
 use Rattle.esc_typed.specs.declared.edit.Edit.TheVariants as edit
 use Rattle.esc_typed.specs.declared.keyboard.Keyboard.{Keyboard}
 use Rattle.esc_typed.specs.declared.keyboard.Keyboard.TheVariants as keyboard
+use Rattle.esc_typed.specs.declared.mouse.Mouse.{Mouse}
+use Rattle.esc_typed.specs.declared.mouse.Mouse.TheVariants as mouse
 use Rattle.esc_typed.specs.declared.spelling.Spelling.{Spelling}
 use Rattle.esc_typed.specs.Arguments.{entries_of}
-use Rattle.esc_typed.specs.Choices.{cursor_style_number, cursor_tabulation_control_number, erase_in_display_number, erase_in_line_number, tabulation_clear_number}
+use Rattle.esc_typed.specs.Choices.{cursor_style_number, cursor_tabulation_control_number, erase_in_display_number, erase_in_line_number, kitty_flags_change_number, tabulation_clear_number}
 
 abbrev pub mark_entries : Option ℕ → List CsiParam
 mark_entries None = []
@@ -95,3 +97,9 @@ abbrev pub keyboard_spelling : Keyboard → Spelling
 keyboard_spelling keyboard.QueryKittySupport = private 0x3f args.Nothing 0x75
 keyboard_spelling (keyboard.PushKittyState c) = private 0x3e (args.Selector c) 0x75
 keyboard_spelling (keyboard.PopKittyState n) = private 0x3c (args.Count n) 0x75
+keyboard_spelling (keyboard.SetKittyState a b) = private 0x3d (args.Flags a
+    (kitty_flags_change_number b)) 0x75
+
+abbrev pub mouse_spelling : Mouse → Spelling
+mouse_spelling (mouse.Pressed a b c) = private 0x3c (args.Report a b c) 0x4d
+mouse_spelling (mouse.Released a b c) = private 0x3c (args.Report a b c) 0x6d

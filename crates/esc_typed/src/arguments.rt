@@ -17,6 +17,10 @@ pub(crate) enum Kind {
     Margins,
     // a choice from a list
     Selector,
+    // flags, and what is done with them
+    Flags,
+    // a button, a column and a line
+    Report,
     // renditions, which are read one by one
     Renditions,
     // modes, which are read one by one
@@ -32,4 +36,6 @@ pub(crate) enum Arguments {
     // the last is optional: what stands for it is the size of the screen
     Margins(OneBased, Option<OneBased>),
     Selector(u8),
+    Flags(u8, u8),
+    Report(u8, OneBased, OneBased),
 }

@@ -1,4 +1,5 @@
-//! Control sequences of the terminal itself (ECMA-48, 8.3.24 and 8.3.35; DEC's VT510; xterm's list).
+//! Control sequences of the terminal itself (ECMA-48, 8.3.24 and 8.3.35; DEC's VT510; xterm's
+//! list).
 ghost use Rattle.std.specs.Prelude.{◌≡◌, Some, false};
 ghost use Rattle.esc_sequences.specs.Csis.{csi_text, unspecified};
 ghost use Rattle.esc_typed.specs.Spellings.{device_spelling, entries};

@@ -11,9 +11,12 @@ use crate::edit::Edit;
 use crate::keyboard::Keyboard;
 use crate::mode_change::ModeChange;
 use crate::modes::Modes;
+use crate::mouse::Mouse;
 use crate::numbers::{after_prefix, arguments};
 use crate::renditions::Renditions;
-use crate::table::{bare, bounded, change_of, counted, kind_of, placed, selected};
+use crate::table::{
+    bare, bounded, change_of, counted, flagged, kind_of, placed, reported, selected,
+};
 use crate::unfit::Unfit;
 use esc_functions::ControlFunction;
 use esc_sequences::{CSI, Intensity, Sgr, Underline};
@@ -32,6 +35,8 @@ pub enum Function<'a> {
     Device(Device),
     /// Something is asked of how keys are reported.
     Keyboard(Keyboard),
+    /// Something is reported of the mouse.
+    Mouse(Mouse),
     /// Modes are set, reset, kept or restored.
     Mode(ModeChange, Modes<'a>),
     /// How characters are shown from here on.
@@ -95,6 +100,8 @@ fn made<'a>(function: ControlFunction, arguments: Arguments) -> Function<'a>
         Arguments::Place(line, col) => placed(function, line, col),
         Arguments::Margins(first, last) => bounded(function, first, last),
         Arguments::Selector(n) => selected(function, n),
+        Arguments::Flags(flags, change) => flagged(function, flags, change),
+        Arguments::Report(button, col, line) => reported(function, button, col, line),
     }
 }
 

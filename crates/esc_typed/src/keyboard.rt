@@ -5,6 +5,7 @@ ghost use Rattle.esc_sequences.specs.Csis.{csi_text, unspecified};
 ghost use Rattle.esc_typed.specs.Spellings.{keyboard_spelling, entries};
 
 use crate::arguments::Arguments;
+use crate::kitty_flags_change::KittyFlagsChange;
 use crate::one_based::OneBased;
 use crate::spelling::{Spelling, write_spelling};
 use std::fmt;
@@ -18,6 +19,8 @@ pub enum Keyboard {
     PushKittyState(u8),
     /// `CSI < .. u`, KITTYPOP: so many of the flags that were kept are taken back.
     PopKittyState(OneBased),
+    /// `CSI = .. u`, KITTYSET: these flags are set, or are no longer.
+    SetKittyState { flags: u8, change: KittyFlagsChange },
 }
 
 /// Writes the control sequence in its normal spelling: what stands for a parameter that is left out
@@ -43,5 +46,10 @@ fn keyboard_spelling(keyboard: Keyboard) -> Spelling
             b'u',
         ),
         Keyboard::PopKittyState(n) => Spelling::private(b'<', Arguments::Count(n), b'u'),
+        Keyboard::SetKittyState { flags, change } => Spelling::private(
+            b'=',
+            Arguments::Flags(flags, change.number()),
+            b'u',
+        ),
     }
 }

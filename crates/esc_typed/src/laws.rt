@@ -1,16 +1,17 @@
 //! Laws of typed values: nothing of renditions is lost, and what is written reads back.
 ghost use Rattle.std.specs.Prelude.{◌≡◌, List, ◌∷◌, map, Some};
 ghost use Rattle.esc_values.specs.declared.csi_param.CsiParam.{CsiParam};
+ghost use Rattle.esc_typed.specs.declared.mouse.Mouse.{Mouse};
 ghost use Rattle.esc_typed.specs.declared.rendition.Rendition.{Rendition};
 ghost use Rattle.esc_typed.specs.declared.cursor.Cursor.{Cursor};
 ghost use Rattle.esc_typed.specs.declared.device.Device.{Device};
 ghost use Rattle.esc_typed.specs.declared.edit.Edit.{Edit};
 ghost use Rattle.esc_typed.specs.declared.keyboard.Keyboard.{Keyboard};
 ghost use Rattle.esc_typed.specs.Arguments.{AreArguments};
-ghost use Rattle.esc_typed.specs.Functions.{cursor, device, edit, keyboard, of_params};
+ghost use Rattle.esc_typed.specs.Functions.{cursor, device, edit, keyboard, mouse, of_params};
 ghost use Rattle.esc_typed.specs.Renditions.{AreRenditions, IsRendition, normal, rendition_of};
 ghost use Rattle.esc_typed.specs.Selections.{cut, joined, parameters, selections, spelled};
-ghost use Rattle.esc_typed.specs.Spellings.{cursor_spelling, device_spelling, edit_spelling, entries, keyboard_spelling};
+ghost use Rattle.esc_typed.specs.Spellings.{cursor_spelling, device_spelling, edit_spelling, entries, keyboard_spelling, mouse_spelling};
 
 /// The entries of the renditions of a sequence, in order and with `;` between them, are those of
 /// the sequence: nothing of it is lost.
@@ -64,4 +65,11 @@ pub fn device_reads_back()
 pub fn keyboard_reads_back()
     ensures { (d : Keyboard) → AreArguments (keyboard_spelling d).arguments
         → of_params (entries (keyboard_spelling d)) (keyboard_spelling d).last ≡ keyboard d }
+{}
+
+/// What is reported of the mouse, in its normal spelling, is read as the same.
+#[tactic(auto, using(crate::proofs::Spelled::mouse_back))]
+pub fn mouse_reads_back()
+    ensures { (m : Mouse) → AreArguments (mouse_spelling m).arguments
+        → of_params (entries (mouse_spelling m)) (mouse_spelling m).last ≡ mouse m }
 {}

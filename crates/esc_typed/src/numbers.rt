@@ -2,7 +2,7 @@
 ghost use Rattle.std.specs.Prelude.{◌≡◌, Some, Ok, Err, IfOk, IfErr};
 ghost use Rattle.std.specs.Option.{option_map};
 ghost use Rattle.std.specs.List.{list_all};
-ghost use Rattle.esc_typed.specs.Arguments.{after_prefix, arguments, count, is_intermediate, last_of, margins, more, next, no_number, number_first, one, place, selector, two, zero};
+ghost use Rattle.esc_typed.specs.Arguments.{after_prefix, arguments, byte_or, count, flags, report, three, is_intermediate, last_of, margins, more, next, no_number, number_first, one, place, selector, two, zero};
 
 use crate::arguments::{Arguments, Kind};
 use crate::one_based::OneBased;
@@ -36,6 +36,14 @@ pub(crate) fn arguments(kind: Kind, entries: &[CsiParam]) -> Result<Arguments, U
         },
         Kind::Margins => match two(entries) {
             Ok((first, last)) => margins(first, last),
+            Err(unfit) => Err(unfit),
+        },
+        Kind::Flags => match two(entries) {
+            Ok((bits, change)) => flags(bits, change),
+            Err(unfit) => Err(unfit),
+        },
+        Kind::Report => match three(entries) {
+            Ok((button, col, line)) => report(button, col, line),
             Err(unfit) => Err(unfit),
         },
         Kind::Renditions | Kind::Modes => Err(Unfit::Untyped),
@@ -121,6 +129,62 @@ fn selector(number: Option<u64>) -> Result<Arguments, Unfit>
             Ok(number) => Ok(Arguments::Selector(number)),
             Err(_) => Err(Unfit::OutOfRange),
         },
+    }
+}
+
+// A number of at most 255, or what stands for it.
+fn byte_or(default: u8, number: Option<u64>) -> Result<u8, Unfit>
+    ensures { result ≡ byte_or default number }
+{
+    match number {
+        None => Ok(default),
+        Some(number) => match u8::try_from(number) {
+            Ok(number) => Ok(number),
+            Err(_) => Err(Unfit::OutOfRange),
+        },
+    }
+}
+
+// Flags, and what is done with them.
+fn flags(bits: Option<u64>, change: Option<u64>) -> Result<Arguments, Unfit>
+    ensures { result ≡ flags bits change }
+{
+    let Ok(bits) = byte_or(0, bits) else {
+        return Err(Unfit::OutOfRange);
+    };
+    match byte_or(1, change) {
+        Ok(change) => Ok(Arguments::Flags(bits, change)),
+        Err(unfit) => Err(unfit),
+    }
+}
+
+// A button, a column and a line.
+fn report(button: Option<u64>, col: Option<u64>, line: Option<u64>) -> Result<Arguments, Unfit>
+    ensures { result ≡ report button col line }
+{
+    let Ok(button) = byte_or(0, button) else {
+        return Err(Unfit::OutOfRange);
+    };
+    let Some(col) = OneBased::of_number(col) else {
+        return Err(Unfit::OutOfRange);
+    };
+    match OneBased::of_number(line) {
+        Some(line) => Ok(Arguments::Report(button, col, line)),
+        None => Err(Unfit::OutOfRange),
+    }
+}
+
+// The only three parameters.
+fn three(entries: &[CsiParam]) -> Result<(Option<u64>, Option<u64>, Option<u64>), Unfit>
+    ensures { result ≡ three entries.now }
+{
+    match next(entries) {
+        Ok((first, None)) => Ok((first, None, None)),
+        Ok((first, Some(rest))) => match two(rest) {
+            Ok((second, third)) => Ok((first, second, third)),
+            Err(unfit) => Err(unfit),
+        },
+        Err(unfit) => Err(unfit),
     }
 }
 

@@ -98,6 +98,15 @@ fn write_arguments<W: fmt::Write>(arguments: Arguments, f: &mut fmt::Formatter<W
         Arguments::Count(n) => write_count(n, f),
         Arguments::Place(line, col) => write_place(line, col, f),
         Arguments::Margins(first, last) => write_margins(first, last, f),
+        Arguments::Flags(flags, change) => write_entries(
+            &[
+                CsiParam::Integer(flags as i64),
+                CsiParam::P(b';'),
+                CsiParam::Integer(change as i64),
+            ],
+            f,
+        ),
+        Arguments::Report(button, col, line) => write_report(button, col, line, f),
         Arguments::Selector(0) => Ok(()),
         Arguments::Selector(n) => write_entries(&[CsiParam::Integer(n as i64)], f),
     }
@@ -153,4 +162,19 @@ fn write_margins<W: fmt::Write>(
         None => write_entries(&[number(first)], f),
         Some(last) => write_entries(&[number(first), CsiParam::P(b';'), number(last)], f),
     }
+}
+
+// Writes a button, a column and a line.
+fn write_report<W: fmt::Write>(
+    button: u8,
+    col: OneBased,
+    line: OneBased,
+    f: &mut fmt::Formatter<W>,
+) -> fmt::Result
+    ensures { DisplaysOnOk W.write_str_gives f.old result
+        (Some (csi_params_text (entries_of (Arguments.Report button col line)))) f.new }
+{
+    let button = CsiParam::Integer(button as i64);
+    let mark = CsiParam::P(b';');
+    write_entries(&[button, mark, number(col), mark, number(line)], f)
 }

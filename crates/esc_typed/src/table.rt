@@ -1,6 +1,6 @@
 //! The tables of typed values: what a control function makes of its parameters.
 ghost use Rattle.std.specs.Prelude.{◌≡◌};
-ghost use Rattle.esc_typed.specs.Functions.{bare, bounded, change_of, counted, kind_of, placed, selected, value_of};
+ghost use Rattle.esc_typed.specs.Functions.{bare, bounded, change_of, counted, flagged, kind_of, placed, reported, selected, value_of};
 
 use crate::arguments::Kind;
 use crate::cursor::Cursor;
@@ -12,7 +12,9 @@ use crate::erase_in_display::EraseInDisplay;
 use crate::erase_in_line::EraseInLine;
 use crate::function::Function;
 use crate::keyboard::Keyboard;
+use crate::kitty_flags_change::KittyFlagsChange;
 use crate::mode_change::ModeChange;
+use crate::mouse::Mouse;
 use crate::one_based::OneBased;
 use crate::tabulation_clear::TabulationClear;
 use crate::unfit::Unfit;
@@ -71,6 +73,8 @@ pub(crate) fn kind_of(function: ControlFunction) -> Option<Kind>
         | ControlFunction::DA2
         | ControlFunction::DA3
         | ControlFunction::XTVERSION => Some(Kind::Zero),
+        ControlFunction::KITTYSET => Some(Kind::Flags),
+        ControlFunction::MOUSE | ControlFunction::MOUSEUP => Some(Kind::Report),
         ControlFunction::SM
         | ControlFunction::RM
         | ControlFunction::DECSET
@@ -208,6 +212,43 @@ pub(crate) fn selected<'a>(function: ControlFunction, n: u8) -> Function<'a>
             Some(choice) => Function::Edit(Edit::SelectiveEraseInLine(choice)),
             None => Function::Other(Unfit::OutOfRange),
         },
+        _ => Function::Other(Unfit::Untyped),
+    }
+}
+
+// Functions with flags and what is done with them.
+pub(crate) fn flagged<'a>(function: ControlFunction, a: u8, b: u8) -> Function<'a>
+    ensures { value_of result ≡ flagged function a b }
+{
+    match function {
+        ControlFunction::KITTYSET => match KittyFlagsChange::of_number(b) {
+            Some(change) => Function::Keyboard(Keyboard::SetKittyState { flags: a, change }),
+            None => Function::Other(Unfit::OutOfRange),
+        },
+        _ => Function::Other(Unfit::Untyped),
+    }
+}
+
+// Reports of the mouse.
+pub(crate) fn reported<'a>(
+    function: ControlFunction,
+    a: u8,
+    b: OneBased,
+    c: OneBased,
+) -> Function<'a>
+    ensures { value_of result ≡ reported function a b c }
+{
+    match function {
+        ControlFunction::MOUSE => Function::Mouse(Mouse::Pressed {
+            button: a,
+            col: b,
+            line: c,
+        }),
+        ControlFunction::MOUSEUP => Function::Mouse(Mouse::Released {
+            button: a,
+            col: b,
+            line: c,
+        }),
         _ => Function::Other(Unfit::Untyped),
     }
 }

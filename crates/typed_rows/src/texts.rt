@@ -16,6 +16,7 @@ pub fn row_of(alloc: Global, line: &str) -> Result<String, AllocError> {
         Function::Edit(edit) => typed(alloc, text, edit),
         Function::Device(device) => typed(alloc, text, device),
         Function::Keyboard(keyboard) => typed(alloc, text, keyboard),
+        Function::Mouse(mouse) => typed(alloc, text, mouse),
         Function::Mode(change, modes) => changed(alloc, text, change, modes),
         Function::Sgr(renditions) => listed(alloc, text, renditions),
         Function::Other(unfit) => format!(in alloc; "{text} | {unfit:?} | {text}"),
