@@ -27,13 +27,13 @@ pub(crate) enum Kind {
     Modes,
 }
 
-// The parameters of a function, with what stands for those that are left out.
+// The parameters of a function, with the defaults of those that are left out.
 #[derive(Clone, Copy, PartialEq, Eq)]
 pub(crate) enum Arguments {
     Nothing,
     Count(OneBased),
     Place(OneBased, OneBased),
-    // the last is optional: what stands for it is the size of the screen
+    // the last is optional: its default is the size of the screen
     Margins(OneBased, Option<OneBased>),
     Selector(u8),
     Flags(u8, u8),

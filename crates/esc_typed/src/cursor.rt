@@ -87,8 +87,8 @@ pub enum Cursor {
     RequestActivePositionReport,
 }
 
-/// Writes the control sequence in its normal spelling: what stands for a parameter that is left out
-/// is left out. Where it returns `Ok`, all of it was written.
+/// Writes the control sequence in its normal spelling, in which defaults are left out. Where it
+/// returns `Ok`, all of it was written.
 impl fmt::Display for Cursor {
     ghost output = { λ c. let s = cursor_spelling c in
         Some (csi_text (unspecified (entries s) false s.last)) };

@@ -23,8 +23,8 @@ use esc_sequences::{CSI, Intensity, Sgr, Underline};
 use esc_values::CsiParam;
 use std::alloc::Allocator;
 
-/// What a control sequence asks for, with its parameters as numbers. What stands for a parameter
-/// that is left out, or that is 0 where terminals count from 1, is filled in.
+/// What a control sequence asks for, with its parameters as numbers. The default of a parameter that
+/// is left out, or that is 0 where terminals count from 1, is filled in.
 #[derive(Clone, Copy, Debug, PartialEq)]
 pub enum Function<'a> {
     /// Something of the cursor, or of what bounds it.

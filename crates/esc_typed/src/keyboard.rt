@@ -23,8 +23,8 @@ pub enum Keyboard {
     SetKittyState { flags: u8, change: KittyFlagsChange },
 }
 
-/// Writes the control sequence in its normal spelling: what stands for a parameter that is left out
-/// is left out. Where it returns `Ok`, all of it was written.
+/// Writes the control sequence in its normal spelling, in which defaults are left out. Where it
+/// returns `Ok`, all of it was written.
 impl fmt::Display for Keyboard {
     ghost output = { λ c. let s = keyboard_spelling c in
         Some (csi_text (unspecified (entries s) false s.last)) };

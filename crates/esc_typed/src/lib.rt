@@ -8,7 +8,7 @@
 //! (<https://invisible-island.net/xterm/ctlseqs/ctlseqs.html>).
 //!
 //! `Function::of` of `ESC [ ; 4 H` is `Function::Cursor(Cursor::Position { line, col })`, with the
-//! line 1, which stands for what is left out, and the column 4. Of `ESC [ 1 ; 38 ; 5 ; 208 m` it is
+//! line 1, which is the default, and the column 4. Of `ESC [ 1 ; 38 ; 5 ; 208 m` it is
 //! `Function::Sgr(renditions)`, which gives two items, whose renditions are
 //! `Some(Rendition::Intensity(Intensity::Bold))` and
 //! `Some(Rendition::Foreground(ColorSpec::PaletteIndex(208)))`.

@@ -5,8 +5,8 @@ use esc_values::CsiParam;
 /// A parameter of a control sequence that sets, resets, saves or restores modes.
 #[derive(Clone, Copy, Debug, PartialEq)]
 pub struct ModeNumber<'a> {
-    /// The number of the mode, as those of `PrivateMode` and `Mode` of `esc_functions`. `None` where
-    /// the parameter is no number.
+    /// The number of the mode, as those of `PrivateMode` and `Mode` of `esc_functions`. `None`
+    /// where the parameter is no number.
     pub number: Option<u64>,
     /// The parameter, as it came.
     pub entries: &'a [CsiParam],

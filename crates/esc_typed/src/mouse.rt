@@ -25,8 +25,8 @@ pub enum Mouse {
     },
 }
 
-/// Writes the control sequence in its normal spelling: what stands for a parameter that is left out
-/// is left out. Where it returns `Ok`, all of it was written.
+/// Writes the control sequence in its normal spelling, in which defaults are left out. Where it
+/// returns `Ok`, all of it was written.
 impl fmt::Display for Mouse {
     ghost output = { λ c. let s = mouse_spelling c in
         Some (csi_text (unspecified (entries s) false s.last)) };

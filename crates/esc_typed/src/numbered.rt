@@ -12,7 +12,7 @@ use crate::rendition::Rendition;
 use crate::vertical_align::VerticalAlign;
 use esc_sequences::{Intensity, Underline};
 
-// The rendition of a number that stands alone.
+// The rendition of a number alone.
 pub(crate) fn numbered(number: u8) -> Option<Rendition>
     ensures { result ≡ numbered number }
 {

@@ -132,7 +132,7 @@ fn selector(number: Option<u64>) -> Result<Arguments, Unfit>
     }
 }
 
-// A number of at most 255, or what stands for it.
+// A number of at most 255, or its default.
 fn byte_or(default: u8, number: Option<u64>) -> Result<u8, Unfit>
     ensures { result ≡ byte_or default number }
 {

@@ -13,7 +13,7 @@ pub enum Unfit {
     NoNumbers,
     /// It has more parameters than its control function takes.
     TooMany,
-    /// A parameter is missing that nothing stands for.
+    /// A parameter is missing that has no default.
     TooFew,
     /// A number is too large, or is no choice of the list.
     OutOfRange,
