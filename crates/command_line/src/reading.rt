@@ -1,5 +1,6 @@
 //! From a program's words to its options and its files.
-ghost use Rattle.std.specs.Prelude.{◌≤◌, IfOk, length};
+ghost use Rattle.std.specs.Prelude.{◌≡◌, ◌≤◌, ◌++◌, ◌∷◌, [], IfOk, drop, false, if◌then◌else◌, length, map, string_bytes, true};
+ghost use Rattle.command_line.specs.Words.{files_of, is_file, takes_next, takes_value};
 
 use crate::nearness::{nearest_name, nearest_word};
 use crate::sizes::size_of;
@@ -37,7 +38,10 @@ pub fn read<'a, A: Allocator + Copy>(
     alloc: A,
     known: &[Known],
     words: &'a [String],
-) -> Result<Found<'a, A>, Wrong<'a>> {
+) -> Result<Found<'a, A>, Wrong<'a>>
+    ensures files { IfOk result (λ found. map (λ f. f.now) found.files.items
+        ≡ files_of known.now false (map string_bytes words.now)) }
+{
     let mut found = Found {
         options: Vec::new(alloc),
         files: Vec::new(alloc),
@@ -53,7 +57,11 @@ fn read_into<'a, A: Allocator + Copy>(
     found: &mut Found<'a, A>,
     known: &[Known],
     words: &'a [String],
-) -> Result<(), Wrong<'a>> {
+) -> Result<(), Wrong<'a>>
+    ensures files { IfOk result (λ _. map (λ f. f.now) found.new.files.items
+        ≡ map (λ f. f.now) found.old.files.items
+        ++ files_of known.now false (map string_bytes words.now)) }
+{
     let mut rest = words;
     while let Some((word, after)) = rest.split_first() {
         if word.as_str() == "--" {
@@ -72,7 +80,13 @@ fn add_word<'a, A: Allocator + Copy>(
     word: &'a str,
     after: &'a [String],
 ) -> Result<&'a [String], Wrong<'a>>
-    ensures { IfOk result (λ rest. length rest.now ≤ length after.now) }
+    ensures shorter { IfOk result (λ rest. length rest.now ≤ length after.now) }
+    ensures file { is_file word.now ≡ true → IfOk result (λ rest. (rest.now ≡ after.now)
+        × (map (λ f. f.now) found.new.files.items
+        ≡ map (λ f. f.now) found.old.files.items ++ word.now ∷ [])) }
+    ensures option { is_file word.now ≡ false → IfOk result (λ rest.
+        (rest.now ≡ drop (if takes_next known.now word.now then 1 else 0) after.now)
+        × (found.new.files.items ≡ found.old.files.items)) }
 {
     if word == "-" || !word.starts_with('-') {
         return match found.files.push(word) {
@@ -91,7 +105,10 @@ fn add_word<'a, A: Allocator + Copy>(
 fn add_files<'a, A: Allocator + Copy>(
     files: &mut Vec<&'a str, A>,
     words: &'a [String],
-) -> Result<(), Wrong<'a>> {
+) -> Result<(), Wrong<'a>>
+    ensures files { IfOk result (λ _. map (λ f. f.now) files.new.items
+        ≡ map (λ f. f.now) files.old.items ++ map string_bytes words.now) }
+{
     for word in words {
         match files.push(word.as_str()) {
             Ok(()) => {}
@@ -108,7 +125,9 @@ fn option_of<'a>(
     word: &'a str,
     after: &'a [String],
 ) -> Result<(Given, &'a [String]), Wrong<'a>>
-    ensures { IfOk result (λ x. length x.1.now ≤ length after.now) }
+    ensures shorter { IfOk result (λ x. length x.1.now ≤ length after.now) }
+    ensures rest { IfOk result (λ x.
+        x.1.now ≡ drop (if takes_next known.now word.now then 1 else 0) after.now) }
 {
     let (name, joined) = match word.split_once('=') {
         Some((name, value)) => (name, Some(value)),
@@ -133,7 +152,9 @@ fn given_joined<'a>(option: Known, value: &'a str) -> Result<Given, Wrong<'a>> {
 
 // An option with what it takes of the words after it, and the words after these.
 fn given_before<'a>(option: Known, after: &'a [String]) -> Result<(Given, &'a [String]), Wrong<'a>>
-    ensures { IfOk result (λ x. length x.1.now ≤ length after.now) }
+    ensures shorter { IfOk result (λ x. length x.1.now ≤ length after.now) }
+    ensures rest { IfOk result (λ x.
+        x.1.now ≡ drop (if takes_value option.takes then 1 else 0) after.now) }
 {
     let called = match option.takes {
         Takes::Nothing => return Ok((taken(option, "", 0), after)),

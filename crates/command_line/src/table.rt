@@ -1,4 +1,6 @@
 //! The options that a program has.
+ghost use Rattle.std.specs.Prelude.{◌≡◌};
+ghost use Rattle.command_line.specs.Words.{option_named};
 
 /// An option that a program has.
 #[derive(Clone, Copy)]
@@ -23,7 +25,9 @@ pub enum Takes {
 }
 
 // The option of this name or letter.
-pub fn option_named(known: &[Known], name: &str) -> Option<Known> {
+pub fn option_named(known: &[Known], name: &str) -> Option<Known>
+    ensures { result ≡ option_named known.now name.now }
+{
     for option in known {
         if option.name == name || option.letter == name {
             return Some(*option);

@@ -1,0 +1,51 @@
+-- Which of a program's words are files.
+use Rattle.std.specs.Prelude.{ℕ, nat_lt, nat_eq, ◌==◌, ◌&&◌, ◌||◌, Bool, true, false, not, if◌then◌else◌, List, [], ◌∷◌, length, codes, slice_index, Option, Some, None}
+use Rattle.std.specs.Cmp.Lexicographic.{pointwise}
+use Rattle.std.specs.List.{before_first}
+use Rattle.command_line.specs.declared.table.Known.{Known}
+use Rattle.command_line.specs.declared.table.Takes.{Takes}
+use Rattle.command_line.specs.declared.table.Takes.TheVariants as takes
+
+-- `--`, after which all words are files
+abbrev pub ends_options : List ℕ → Bool
+ends_options w = pointwise nat_eq w (codes "--")
+
+-- `-`, and a word that does not begin with it
+abbrev pub is_file : List ℕ → Bool
+is_file w = pointwise nat_eq w (codes "-") || not (slice_index w 0 == 0x2d)
+
+-- whether it is this option's name or letter
+abbrev pub is_named : Known → List ℕ → Bool
+is_named o n = pointwise nat_eq o.name.now n || pointwise nat_eq o.letter.now n
+
+-- the first option of this name or letter
+abbrev pub option_named : List Known → List ℕ → Option Known
+option_named [] n = None
+option_named (o ∷ os) n = if is_named o n then Some o else option_named os n
+
+abbrev pub takes_value : Takes → Bool
+takes_value takes.Nothing = false
+takes_value takes.Size = true
+takes_value (takes.OneOf c ws) = true
+
+abbrev pub some_takes : Option Known → Bool
+some_takes None = false
+some_takes (Some o) = takes_value o.takes
+
+-- the name in an option's word, which a value may follow after `=`
+abbrev pub name_in : List ℕ → List ℕ
+name_in w = before_first (λ b. b == 0x3d) w
+
+-- whether the option of this word takes the next word: it takes a value, and none follows `=`
+abbrev pub takes_next : List Known → List ℕ → Bool
+takes_next known w =
+    not (nat_lt (length (name_in w)) (length w)) && some_takes (option_named known (name_in w))
+
+-- the files that these words name, of which an option takes the first where that is said
+abbrev pub files_of : List Known → Bool → List (List ℕ) → List (List ℕ)
+files_of known is_taken [] = []
+files_of known true (w ∷ ws) = files_of known false ws
+files_of known false (w ∷ ws) =
+    if ends_options w then ws
+    else if is_file w then w ∷ files_of known false ws
+    else files_of known (takes_next known w) ws
