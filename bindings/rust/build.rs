@@ -1,7 +1,7 @@
 // SPDX-License-Identifier: MIT
 //! Links the proved archives, and the C code by which the calls that take a stream whole ask for
 //! memory. `ESCAPE_STREAM_LIB` names the folder that has them. Without it they are looked for in
-//! `../lib`, where a release has them; without either the crate can be checked and documented, and
+//! `../../lib`, where a release has them; without either the crate can be checked and documented, and
 //! not linked.
 use std::env;
 use std::path::{Path, PathBuf};
@@ -36,6 +36,6 @@ fn main() {
 
 // The folder of a release that has the archives.
 fn beside() -> Option<PathBuf> {
-    let folder = Path::new(&env::var_os("CARGO_MANIFEST_DIR")?).join("../lib");
+    let folder = Path::new(&env::var_os("CARGO_MANIFEST_DIR")?).join("../../lib");
     folder.join("libstream_c.a").is_file().then_some(folder)
 }
