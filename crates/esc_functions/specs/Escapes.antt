@@ -1,10 +1,10 @@
 -- The control functions of escape sequences and C1 controls, and their keys.
-use Rattle.std.specs.Prelude.{ℕ, ◌+◌, ◌-◌, ◌*◌, ◌%◌, Bool, ◌==◌, ◌||◌, if◌then◌else◌, List, map, get_or, Option, Some, None}
+use Rattle.std.specs.Prelude.{ℕ, ◌+◌, ◌-◌, ◌*◌, ◌%◌, Bool, ◌==◌, ◌||◌, if◌then◌else◌, List, [], map, get_or, Option, Some, None}
 use Rattle.esc_values.specs.Params.{is_from}
 use Rattle.esc_functions.specs.Rows.{first_keyed, group}
 use Rattle.esc_functions.specs.declared.row.Row.{Row}
 use Rattle.esc_functions.specs.declared.escape_function.EscapeFunction.{EscapeFunction}
-use Rattle.esc_functions.specs.declared.escape_table.TheConstants.{ROWS, STARTS}
+use Rattle.esc_functions.specs.declared.escape_table.TheConstants.{NAMES, ROWS, STARTS, WORDS}
 use Rattle.esc_functions.specs.contracts.escape_function.EscapeFunction.{the_type}
 use Rattle.esc_functions.specs.declared.escape_function.EscapeFunction.TheVariants as variant
 use Rattle.esc_sequences.specs.declared.esc.Esc.{Esc}
@@ -19,6 +19,13 @@ place f = tag_of the_type f
 -- the key of a function: the bytes of its sequence after ESC, as one number
 unfoldable pub key_of : EscapeFunction → ℕ
 key_of f = get_or (map (λ r. r.key) ROWS) (place f) 0
+
+-- its name, and what it does in words
+unfoldable pub name_of : EscapeFunction → List ℕ
+name_of f = get_or (map (λ n. n.now) NAMES) (place f) []
+
+unfoldable pub words_of : EscapeFunction → List ℕ
+words_of f = get_or (map (λ w. w.now) WORDS) (place f) []
 
 -- the rows of a last byte, from space on
 unfoldable pub rows_of : ℕ → List (Row EscapeFunction)

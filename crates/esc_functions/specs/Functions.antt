@@ -6,7 +6,7 @@ use Rattle.esc_values.specs.declared.csi_param.CsiParam.TheVariants.{Integer, P}
 use Rattle.esc_functions.specs.Rows.{packed, first_keyed, group}
 use Rattle.esc_functions.specs.declared.row.Row.{Row}
 use Rattle.esc_functions.specs.declared.control_function.ControlFunction.{ControlFunction}
-use Rattle.esc_functions.specs.declared.control_table.TheConstants.{ROWS, STARTS}
+use Rattle.esc_functions.specs.declared.control_table.TheConstants.{NAMES, ROWS, STARTS, WORDS}
 use Rattle.esc_functions.specs.contracts.control_function.ControlFunction.{the_type}
 use Rattle.esc_functions.specs.declared.control_function.ControlFunction.TheVariants as variant
 use Rattle.esc_sequences.specs.Csis.{CsiValue, sgr, unspecified}
@@ -19,6 +19,13 @@ place f = tag_of the_type f
 -- the key of a function: the bytes of its sequence but its parameters, as one number
 unfoldable pub key_of : ControlFunction → ℕ
 key_of f = get_or (map (λ r. r.key) ROWS) (place f) 0
+
+-- its name, and what it does in words
+unfoldable pub name_of : ControlFunction → List ℕ
+name_of f = get_or (map (λ n. n.now) NAMES) (place f) []
+
+unfoldable pub words_of : ControlFunction → List ℕ
+words_of f = get_or (map (λ w. w.now) WORDS) (place f) []
 
 -- the rows of a final byte, from `@` on
 unfoldable pub rows_of : ℕ → List (Row ControlFunction)

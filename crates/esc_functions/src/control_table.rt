@@ -10,12 +10,12 @@
 ghost use Rattle.std.specs.Prelude.{◌≡◌, ◌<◌, ◌+◌, ◌*◌, []};
 ghost use Rattle.esc_sequences.specs.Csis.{csi_value};
 ghost use Rattle.esc_functions.specs.Effects.{changes_screen, is_answered, is_screen_effect, is_answered_effect};
-ghost use Rattle.esc_functions.specs.Functions.{function_of, key_of, named, place, put_mark, rows_of, sequence_key};
+ghost use Rattle.esc_functions.specs.Functions.{function_of, key_of, key_with, name_of, named, place, put_mark, rows_of, sequence_key, words_of};
 ghost use Rattle.esc_functions.specs.Rows.{packed};
 
 use crate::control_function::ControlFunction;
 use crate::effect::Effect;
-use crate::find::{first_with, part};
+use crate::find::{first_with, part, text_in};
 use crate::marks::{key_with, marks_of, packed_marks};
 use crate::parameters::Parameters;
 use crate::row::Row;
@@ -394,6 +394,20 @@ impl ControlFunction {
         with_key(marks_of(private_prefix, intermediate) * 0x100 + last as u32)
     }
 
+    /// The function of a control sequence with this private prefix, this intermediate, so many
+    /// parameters and separators between them, and this final byte, where it has a name.
+    pub fn of_parts(
+        private_prefix: Option<u8>,
+        intermediate: Option<u8>,
+        count: usize,
+        last: u8,
+    ) -> Option<ControlFunction>
+        ensures { result ≡ function_of (key_with
+            (packed 1 (put_mark private_prefix (put_mark intermediate []))) count last) }
+    {
+        with_key(key_with(marks_of(private_prefix, intermediate), count, last))
+    }
+
     /// Its row of the table.
     #[inline]
     pub fn row(self) -> &'static Row<ControlFunction>
@@ -406,13 +420,17 @@ impl ControlFunction {
     }
 
     /// Its name, as the standards abbreviate it.
-    pub fn name(self) -> &'static str {
-        NAMES[place(self)]
+    pub fn name(self) -> &'static str
+        ensures { result.now ≡ name_of self }
+    {
+        text_in(&NAMES, place(self))
     }
 
     /// What it does, in words.
-    pub fn words(self) -> &'static str {
-        WORDS[place(self)]
+    pub fn words(self) -> &'static str
+        ensures { result.now ≡ words_of self }
+    {
+        text_in(&WORDS, place(self))
     }
 
     /// Whether it changes the screen alone, with whatever parameters.

@@ -9,11 +9,11 @@
 ghost use Rattle.std.specs.Prelude.{◌≡◌, ◌<◌};
 ghost use Rattle.esc_functions.specs.Effects.{is_answered_effect, is_screen_effect};
 ghost use Rattle.esc_functions.specs.EscapeEffects.{changes_screen, is_answered};
-ghost use Rattle.esc_functions.specs.Escapes.{designates, function_of, key_of, named, named_c1, place, rows_of, sequence_key};
+ghost use Rattle.esc_functions.specs.Escapes.{designates, function_of, key_of, name_of, named, named_c1, place, rows_of, sequence_key, words_of};
 
 use crate::effect::Effect;
 use crate::escape_function::EscapeFunction;
-use crate::find::{first_with, part};
+use crate::find::{first_with, part, text_in};
 use crate::parameters::Parameters;
 use crate::row::Row;
 use crate::standard::Standard;
@@ -241,13 +241,17 @@ impl EscapeFunction {
     }
 
     /// Its name, as the standards abbreviate it.
-    pub fn name(self) -> &'static str {
-        NAMES[place(self)]
+    pub fn name(self) -> &'static str
+        ensures { result.now ≡ name_of self }
+    {
+        text_in(&NAMES, place(self))
     }
 
     /// What it does, in words.
-    pub fn words(self) -> &'static str {
-        WORDS[place(self)]
+    pub fn words(self) -> &'static str
+        ensures { result.now ≡ words_of self }
+    {
+        text_in(&WORDS, place(self))
     }
 
     /// Whether it changes the screen alone.

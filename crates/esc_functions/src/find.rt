@@ -1,5 +1,5 @@
 //! A row by its key.
-ghost use Rattle.std.specs.Prelude.{◌≡◌, ◌<◌, ◌≤◌, ◌+◌, get_or, length};
+ghost use Rattle.std.specs.Prelude.{◌≡◌, ◌<◌, ◌≤◌, ◌+◌, [], get_or, length, map};
 ghost use Rattle.esc_functions.specs.Rows.{first_keyed, first_numbered, group};
 
 use crate::mode_row::ModeRow;
@@ -16,6 +16,14 @@ pub(crate) fn first_with<F: Copy>(rows: &[Row<F>], key: u32) -> Option<F>
         }
     }
     None
+}
+
+// The text in this place of a table.
+pub(crate) fn text_in(texts: &[&'static str], index: usize) -> &'static str
+    requires { index < length texts.now }
+    ensures { result.now ≡ get_or (map (λ t. t.now) texts.now) index [] }
+{
+    texts[index]
 }
 
 // The rows of a group, of which `starts` has the place of the first, and then that of the next
