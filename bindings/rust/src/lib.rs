@@ -4,10 +4,14 @@
 //!
 //! A stream is bytes as a program writes them to a terminal. Any bytes are a stream; each call
 //! takes one whole, but those of a [`Filter`], a writer, and of a [`Parser`], which take it in
-//! pieces. The module [`vte`] has that parser with the calls of the crate `vte`. The work is done by a library that is proved: what each
-//! call writes is what its contract says, for every stream. This crate is not proved. Its module
-//! `ffi` is its one place with unsafe code. Without the feature `std`, a default, it is `no_std`,
-//! over `alloc`, and has [`PieceFilter`] in the place of [`Filter`].
+//! pieces. The module [`vte`] has that parser with the calls of the crate `vte`.
+//! [`ControlFunction`] and [`EscapeFunction`] name what sequences ask for, by tables that are made
+//! from those of the library.
+//!
+//! The work is done by a library that is proved: what each call writes is what its contract says,
+//! for every stream. This crate is not proved. Its module `ffi` is its one place with unsafe code.
+//! Without the feature `std`, a default, it is `no_std`, over `alloc`, and has [`PieceFilter`] in the
+//! place of [`Filter`].
 //!
 //! Without the feature `oneshot`, a default, there are the parsers alone, and of the archives
 //! `libstream_c.a` is enough.
@@ -34,6 +38,8 @@ extern crate std;
 mod ffi;
 #[cfg(feature = "oneshot")]
 mod filter;
+mod function;
+mod function_rows;
 #[cfg(feature = "oneshot")]
 mod oneshot;
 mod params;
@@ -44,6 +50,8 @@ mod writer;
 
 #[cfg(feature = "oneshot")]
 pub use filter::PieceFilter;
+pub use function::Effect;
+pub use function_rows::{ControlFunction, EscapeFunction};
 #[cfg(feature = "oneshot")]
 pub use oneshot::{Policy, filter, filter_into, is_normal, normal, normal_into};
 pub use parser::{Entry, Event, Parser};

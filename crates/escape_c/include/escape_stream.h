@@ -1,6 +1,6 @@
 /* SPDX-License-Identifier: MIT */
 /*
- * escape_stream.h - streams of terminal escape sequences: their normal form, and a filter
+ * escape_stream.h - streams of terminal escape sequences: their normal form, a filter, and functions by name
  *
  * A stream is bytes as a program writes them to a terminal: UTF-8 text, control characters, and the control functions of
  * ECMA-48 and xterm, such as colours, cursor movements and titles. Any bytes are a stream. Each of the first three calls takes
@@ -197,6 +197,42 @@ size_t escape_stream_filter_text(struct escape_stream_filter *filter, size_t fro
 
 /* Ends a filter, and gives back what it took. One that is not begun stays so. */
 void escape_stream_filter_end(struct escape_stream_filter *filter);
+
+/*
+ * What a control function is: a row of docs/FUNCTIONS.md. Where there is none, all of it is 0.
+ */
+struct escape_stream_function {
+    char name[16];       /* as the standards abbreviate it, as "CUP"; a 0 ends it */
+    char phrase[80];     /* what it does, in words, as "cursor position"; a 0 ends it */
+    bool changes_screen; /* it changes the screen alone, with whatever parameters */
+    bool is_answered;    /* a terminal answers it, with some of its parameters or with all */
+};
+
+/*
+ * Says whether a control sequence has a name, and writes to `out` what it is.
+ *
+ *   prefix         its private prefix, one of < = > ?, or 0 where it has none
+ *   intermediate   its intermediate, a space up to /, or 0 where it has none. No function has two
+ *   final          its final byte
+ *   count          how many parameters and separators it has: of an event of escape_stream_next its `count`. It matters for the
+ *                  final bytes T, s and u alone, of which each has two functions: with 0 for `count` those without parameters
+ *   out            where the row goes
+ *
+ * Example: the cursor's lines, of a sequence without prefix and intermediate.
+ *
+ *     struct escape_stream_function function;
+ *     if (escape_stream_function(0, 0, final, count, &function) && strcmp(function.name, "CUU") == 0)
+ *         line -= number;
+ */
+bool escape_stream_function(uint8_t prefix, uint8_t intermediate, uint8_t final, size_t count,
+                            struct escape_stream_function *out);
+
+/*
+ * The same of an escape sequence: its intermediate, or 0, and its final byte. A C1 control has the function of the escape
+ * sequence whose final byte is 0x40 less than its code. Of one that designates a character set the intermediate decides, and
+ * the final byte says which set.
+ */
+bool escape_stream_escape_function(uint8_t intermediate, uint8_t final, struct escape_stream_function *out);
 
 #ifdef __cplusplus
 }

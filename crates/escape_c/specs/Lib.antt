@@ -1,3 +1,4 @@
 pub mod Policies
 pub mod Held
 pub mod Pieces
+pub mod FunctionRows

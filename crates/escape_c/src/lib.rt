@@ -5,10 +5,13 @@
 //! goes into the caller's buffer, as much of it as fits, and its whole length into `needed`; so a
 //! caller makes room and calls again. After any status but `DONE` nothing was written. These calls
 //! keep nothing. The filter in pieces is a [`PieceFilter`] of the caller's, with a block after it.
+//! Two further calls write a [`FunctionRow`]: what a sequence asks for, by name.
 //! `include/escape_stream.h` declares the calls for C.
 #![tactic(auto)]
 
 mod filter;
+mod function;
+mod function_row;
 mod held;
 mod is_normal;
 mod normal;
@@ -20,6 +23,8 @@ mod spelled;
 mod state;
 
 pub use filter::escape_stream_filter;
+pub use function::{escape_stream_escape_function, escape_stream_function};
+pub use function_row::FunctionRow;
 pub use is_normal::escape_stream_is_normal;
 pub use normal::escape_stream_normal;
 pub use piece_filter::PieceFilter;

@@ -1,0 +1,172 @@
+// SPDX-License-Identifier: MIT
+//! Control functions by name.
+use crate::Entry;
+
+/// What a control function changes, and whether a terminal answers it.
+#[derive(Clone, Copy, Debug, PartialEq, Eq, Hash)]
+pub enum Effect {
+    /// It changes the screen alone: what is shown, the cursor, margins, tab stops and renditions.
+    Screen,
+    /// A terminal answers it, with some of its parameters or with all.
+    Answered,
+    /// A terminal sends it, as an answer or because of a key, the mouse or the window.
+    Report,
+    /// Anything else: what keys, mouse or terminal send, modes, printers, memory, or not known to
+    /// change the screen alone.
+    Other,
+}
+
+// A row of a table, without its key.
+pub(crate) struct Row {
+    pub(crate) name: &'static str,
+    pub(crate) effect: Effect,
+    pub(crate) words: &'static str,
+}
+
+macro_rules! functions {
+    (
+        #[doc = $about:literal]
+        $functions:ident;
+        $($f:ident, $key:literal, $name:literal, $effect:ident, $words:literal, $doc:literal;)+
+    ) => {
+        #[doc = $about]
+        /// Its table, with parameters and standards, is docs/FUNCTIONS.md.
+        #[allow(non_camel_case_types, clippy::upper_case_acronyms)]
+        #[derive(Clone, Copy, Debug, PartialEq, Eq, Hash, PartialOrd, Ord)]
+        #[non_exhaustive]
+        pub enum $functions {
+            $(#[doc = $doc] $f,)+
+        }
+
+        impl $functions {
+            /// Each function, in the order of the last bytes of their sequences.
+            pub const ALL: &[$functions] = &[$($functions::$f),+];
+
+            // The function that has this key: the bytes of its sequence but its parameters, as digits
+            // to the base 256 after a 1, or after a 2 where another function has the same bytes.
+            pub(crate) fn of_key(key: u32) -> Option<$functions> {
+                match key {
+                    $($key => Some($functions::$f),)+
+                    _ => None,
+                }
+            }
+
+            fn row(self) -> &'static $crate::function::Row {
+                static ROWS: &[$crate::function::Row] = &[$($crate::function::Row {
+                    name: $name,
+                    effect: $crate::Effect::$effect,
+                    words: $words,
+                }),+];
+                &ROWS[self as usize]
+            }
+
+            /// Its name, as the standards abbreviate it.
+            pub fn name(self) -> &'static str {
+                self.row().name
+            }
+
+            /// What it does, in words.
+            pub fn words(self) -> &'static str {
+                self.row().words
+            }
+
+            /// What it changes, and whether a terminal answers it.
+            pub fn effect(self) -> $crate::Effect {
+                self.row().effect
+            }
+        }
+    };
+}
+
+pub(crate) use functions;
+
+use crate::function_rows::{ControlFunction, EscapeFunction};
+
+impl ControlFunction {
+    /// The function of a control sequence with these entries, all that it has, and this final byte,
+    /// where it has a name.
+    ///
+    /// ```
+    /// use escape_stream::{ControlFunction, Event, Parser};
+    ///
+    /// let mut lines = 0;
+    /// Parser::new().advance(b"\x1b[3A\x1b[B\x1b[2J", |event| {
+    ///     if let Event::Csi { entries, byte, .. } = event {
+    ///         let count = entries.first().and_then(|it| it.number()).unwrap_or(1);
+    ///         match ControlFunction::of_entries(entries, byte) {
+    ///             Some(ControlFunction::CUU) => lines -= count,
+    ///             Some(ControlFunction::CUD) => lines += count,
+    ///             _ => {}
+    ///         }
+    ///     }
+    /// })?;
+    /// assert_eq!(lines, -2);
+    /// # Ok::<(), escape_stream::Error>(())
+    /// ```
+    pub fn of_entries(entries: &[Entry], last: u8) -> Option<ControlFunction> {
+        let marks = entries.iter().filter_map(|it| it.byte());
+        let marks = marks.filter(|it| !matches!(it, b';' | b':'));
+        of_marks(marks, entries.len(), last)
+    }
+
+    /// The function of a control sequence with this private prefix, one of `<` `=` `>` `?`, these
+    /// intermediates, so many parameters and separators between them, and this final byte, where it
+    /// has a name. Of two functions that differ in nothing else the count decides: it matters for
+    /// the final bytes `T`, `s` and `u` alone.
+    pub fn of(
+        private_prefix: Option<u8>,
+        intermediates: &[u8],
+        count: usize,
+        last: u8,
+    ) -> Option<ControlFunction> {
+        let marks = private_prefix.iter().chain(intermediates).copied();
+        of_marks(marks, count, last)
+    }
+}
+
+// The function of a control sequence with these marks: its private prefix and its intermediates.
+fn of_marks(
+    mut marks: impl Iterator<Item = u8>,
+    count: usize,
+    last: u8,
+) -> Option<ControlFunction> {
+    let packed = marks.try_fold(1, pack)?;
+    let is_long = packed == 1
+        && match last {
+            b'T' => count >= 2,
+            b's' | b'u' => count >= 1,
+            _ => false,
+        };
+    let lead = if is_long { 2 } else { packed };
+    ControlFunction::of_key(lead * 0x100 + u32::from(last))
+}
+
+// A mark more; none where there are more than two, which no function has.
+fn pack(packed: u32, mark: u8) -> Option<u32> {
+    (packed < 0x1_0000).then_some(packed * 0x100 + u32::from(mark))
+}
+
+impl EscapeFunction {
+    /// The function of an escape sequence with this intermediate, if there is one, and this final
+    /// byte, where it has a name. The intermediate of one that designates a character set decides
+    /// alone: the final byte says which set.
+    pub fn of(intermediate: Option<u8>, last: u8) -> Option<EscapeFunction> {
+        let key = match intermediate {
+            None => 0x100 + u32::from(last),
+            Some(byte @ (b'!' | b'"' | b'$' | b'&' | b'('..=b'+' | b'-'..=b'/')) => {
+                0x100 + u32::from(byte)
+            }
+            Some(byte) => (0x100 + u32::from(byte)) * 0x100 + u32::from(last),
+        };
+        EscapeFunction::of_key(key)
+    }
+
+    /// The function of a C1 control, 80 to 9F (hexadecimal): that of ESC and the byte 40 less
+    /// (ECMA-48, 5.3). Of another code `None`.
+    pub fn of_c1(code: u8) -> Option<EscapeFunction> {
+        match code {
+            0x80..=0x9f => EscapeFunction::of(None, code - 0x40),
+            _ => None,
+        }
+    }
+}

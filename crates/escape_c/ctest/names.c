@@ -1,0 +1,44 @@
+#include "escape_stream.h"
+#include "escape_stream_parser.h"
+#include <stdio.h>
+
+/* The function of a control sequence, by the bytes among its entries that separate no parameters. */
+static bool function_of(const struct escape_stream_event *event, struct escape_stream_function *out)
+{
+    uint8_t prefix = 0, intermediate = 0;
+    for (size_t i = 0; i < event->count; i++) {
+        uint8_t byte = event->entries[i].byte;
+        if (!event->entries[i].is_byte || byte == ';' || byte == ':')
+            continue;
+        if (byte >= '<' && prefix == 0)
+            prefix = byte;
+        else if (byte < '<' && intermediate == 0)
+            intermediate = byte;
+        else
+            return false;
+    }
+    return !event->has_more &&
+           escape_stream_function(prefix, intermediate, (uint8_t)event->byte, event->count, out);
+}
+
+int main(void)
+{
+    static struct escape_stream_parser parser;
+    static struct escape_stream_event event;
+    static uint8_t buffer[8192], bytes[4096];
+    struct escape_stream_function function;
+    size_t length;
+
+    escape_stream_begin(&parser);
+    while ((length = fread(bytes, 1, sizeof bytes, stdin)) > 0) {
+        size_t at = 0;
+        do {
+            at += escape_stream_next(&parser, buffer, sizeof buffer, bytes + at, length - at,
+                                     &event);
+            if (event.kind == ESCAPE_STREAM_CSI && function_of(&event, &function))
+                printf("%s: %s%s\n", function.name, function.phrase,
+                       function.is_answered ? ", answered" : "");
+        } while (event.kind != ESCAPE_STREAM_NONE && event.kind != ESCAPE_STREAM_FAILED);
+    }
+    return 0;
+}

@@ -1,0 +1,66 @@
+//! Control functions by name.
+ghost use Rattle.std.specs.Prelude.{◌≡◌};
+ghost use Rattle.escape_c.specs.FunctionRows.{Says, SaysEscape, byte_of, escape_function_with, function_with};
+
+use crate::function_row::{FunctionRow, note};
+use esc_functions::{ControlFunction, EscapeFunction};
+
+/// Writes to `out` what the function of a control sequence is, and returns whether it has a name.
+/// Where it has none, `out` is zeros.
+///
+/// The sequence has this private prefix and this intermediate, each 0 where there is none, and this
+/// final byte; `count` is how many parameters and separators between them it has, which decides
+/// between the two functions that each of the final bytes `T`, `s` and `u` has.
+#[unsafe(no_mangle)]
+pub extern "C" fn escape_stream_function(
+    private_prefix: u8,
+    intermediate: u8,
+    last: u8,
+    count: usize,
+    out: &mut FunctionRow,
+) -> bool
+    ensures { Says (function_with private_prefix intermediate count last) out.new result }
+{
+    let private_prefix = byte_of(private_prefix);
+    match ControlFunction::of_parts(private_prefix, byte_of(intermediate), count, last) {
+        Some(function) => {
+            let (screen, answered) = (function.changes_screen(), function.is_answered());
+            note(function.name(), function.words(), screen, answered, out);
+            true
+        }
+        None => {
+            note("", "", false, false, out);
+            false
+        }
+    }
+}
+
+/// The same of an escape sequence with this intermediate, 0 where there is none, and this final
+/// byte; of a C1 control the final byte is 40 less than its code (hexadecimal).
+#[unsafe(no_mangle)]
+pub extern "C" fn escape_stream_escape_function(
+    intermediate: u8,
+    last: u8,
+    out: &mut FunctionRow,
+) -> bool
+    ensures { SaysEscape (escape_function_with intermediate last) out.new result }
+{
+    match EscapeFunction::of_bytes(byte_of(intermediate), last) {
+        Some(function) => {
+            let (screen, answered) = (function.changes_screen(), function.is_answered());
+            note(function.name(), function.words(), screen, answered, out);
+            true
+        }
+        None => {
+            note("", "", false, false, out);
+            false
+        }
+    }
+}
+
+// The byte, where it is not 0.
+fn byte_of(byte: u8) -> Option<u8>
+    ensures { result ≡ byte_of byte }
+{
+    if byte == 0 { None } else { Some(byte) }
+}
