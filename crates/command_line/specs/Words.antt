@@ -1,7 +1,8 @@
--- Which of a program's words are files.
-use Rattle.std.specs.Prelude.{ℕ, nat_lt, nat_eq, ◌==◌, ◌&&◌, ◌||◌, Bool, true, false, not, if◌then◌else◌, List, [], ◌∷◌, length, codes, slice_index, Option, Some, None}
+-- Which of a program's words are options, and which are files.
+use Rattle.std.specs.Prelude.{ℕ, nat_lt, nat_eq, ◌==◌, ◌&&◌, ◌||◌, Bool, true, false, not, if◌then◌else◌, List, [], ◌∷◌, ◌++◌, length, codes, slice_index, Option, Some, None}
 use Rattle.std.specs.Cmp.Lexicographic.{pointwise}
-use Rattle.std.specs.List.{before_first}
+use Rattle.std.specs.List.{before_first, after_first}
+use Rattle.command_line.specs.declared.reading.Given.{Given}
 use Rattle.command_line.specs.declared.table.Known.{Known}
 use Rattle.command_line.specs.declared.table.Takes.{Takes}
 use Rattle.command_line.specs.declared.table.Takes.TheVariants as takes
@@ -36,10 +37,46 @@ some_takes (Some o) = takes_value o.takes
 abbrev pub name_in : List ℕ → List ℕ
 name_in w = before_first (λ b. b == 0x3d) w
 
+abbrev pub has_value : List ℕ → Bool
+has_value w = nat_lt (length (name_in w)) (length w)
+
 -- whether the option of this word takes the next word: it takes a value, and none follows `=`
 abbrev pub takes_next : List Known → List ℕ → Bool
-takes_next known w =
-    not (nat_lt (length (name_in w)) (length w)) && some_takes (option_named known (name_in w))
+takes_next known w = not (has_value w) && some_takes (option_named known (name_in w))
+
+abbrev pub first_of : List (List ℕ) → List ℕ
+first_of [] = []
+first_of (w ∷ ws) = w
+
+-- the value of an option of this word, before these words: what follows `=`, or the next word
+abbrev pub value_of : List ℕ → List (List ℕ) → List ℕ
+value_of w ws = if has_value w then after_first (λ b. b == 0x3d) w else first_of ws
+
+-- the word that is given, where one of several is taken; the size that is given is not said
+abbrev pub word_given : Takes → List ℕ → List ℕ
+word_given takes.Nothing v = []
+word_given takes.Size v = []
+word_given (takes.OneOf c ws) v = v
+
+-- an option's name and its word, with this value
+abbrev pub given_of : Option Known → List ℕ → List (List ℕ × List ℕ)
+given_of None v = []
+given_of (Some o) v = (o.name.now, word_given o.takes v) ∷ []
+
+-- the names and the words of the options that these words name, of which an option takes the first
+-- where that is said
+abbrev pub options_of : List Known → Bool → List (List ℕ) → List (List ℕ × List ℕ)
+options_of known is_taken [] = []
+options_of known true (w ∷ ws) = options_of known false ws
+options_of known false (w ∷ ws) =
+    if ends_options w then []
+    else if is_file w then options_of known false ws
+    else given_of (option_named known (name_in w)) (value_of w ws)
+    ++ options_of known (takes_next known w) ws
+
+-- the name and the word of an option that was read
+abbrev pub said : Given → List ℕ × List ℕ
+said g = (g.name.now, g.word.now)
 
 -- the files that these words name, of which an option takes the first where that is said
 abbrev pub files_of : List Known → Bool → List (List ℕ) → List (List ℕ)

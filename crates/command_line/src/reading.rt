@@ -1,6 +1,6 @@
 //! From a program's words to its options and its files.
-ghost use Rattle.std.specs.Prelude.{◌≡◌, ◌≤◌, ◌++◌, ◌∷◌, [], IfOk, drop, false, if◌then◌else◌, length, map, string_bytes, true};
-ghost use Rattle.command_line.specs.Words.{files_of, is_file, takes_next, takes_value};
+ghost use Rattle.std.specs.Prelude.{◌≡◌, ◌≤◌, ◌++◌, ◌∷◌, [], IfOk, IfSome, drop, false, if◌then◌else◌, length, map, string_bytes, true};
+ghost use Rattle.command_line.specs.Words.{files_of, first_of, given_of, is_file, name_in, option_named, options_of, said, takes_next, takes_value, value_of, word_given};
 
 use crate::nearness::{nearest_name, nearest_word};
 use crate::sizes::size_of;
@@ -41,6 +41,8 @@ pub fn read<'a, A: Allocator + Copy>(
 ) -> Result<Found<'a, A>, Wrong<'a>>
     ensures files { IfOk result (λ found. map (λ f. f.now) found.files.items
         ≡ files_of known.now false (map string_bytes words.now)) }
+    ensures options { IfOk result (λ found. map said found.options.items
+        ≡ options_of known.now false (map string_bytes words.now)) }
 {
     let mut found = Found {
         options: Vec::new(alloc),
@@ -61,6 +63,9 @@ fn read_into<'a, A: Allocator + Copy>(
     ensures files { IfOk result (λ _. map (λ f. f.now) found.new.files.items
         ≡ map (λ f. f.now) found.old.files.items
         ++ files_of known.now false (map string_bytes words.now)) }
+    ensures options { IfOk result (λ _. map said found.new.options.items
+        ≡ map said found.old.options.items
+        ++ options_of known.now false (map string_bytes words.now)) }
 {
     let mut rest = words;
     while let Some((word, after)) = rest.split_first() {
@@ -83,10 +88,14 @@ fn add_word<'a, A: Allocator + Copy>(
     ensures shorter { IfOk result (λ rest. length rest.now ≤ length after.now) }
     ensures file { is_file word.now ≡ true → IfOk result (λ rest. (rest.now ≡ after.now)
         × (map (λ f. f.now) found.new.files.items
-        ≡ map (λ f. f.now) found.old.files.items ++ word.now ∷ [])) }
+        ≡ map (λ f. f.now) found.old.files.items ++ word.now ∷ [])
+        × (found.new.options.items ≡ found.old.options.items)) }
     ensures option { is_file word.now ≡ false → IfOk result (λ rest.
         (rest.now ≡ drop (if takes_next known.now word.now then 1 else 0) after.now)
-        × (found.new.files.items ≡ found.old.files.items)) }
+        × (found.new.files.items ≡ found.old.files.items)
+        × (map said found.new.options.items ≡ map said found.old.options.items
+        ++ given_of (option_named known.now (name_in word.now))
+        (value_of word.now (map string_bytes after.now)))) }
 {
     if word == "-" || !word.starts_with('-') {
         return match found.files.push(word) {
@@ -128,6 +137,9 @@ fn option_of<'a>(
     ensures shorter { IfOk result (λ x. length x.1.now ≤ length after.now) }
     ensures rest { IfOk result (λ x.
         x.1.now ≡ drop (if takes_next known.now word.now then 1 else 0) after.now) }
+    ensures given { IfOk result (λ x. said x.0 ∷ []
+        ≡ given_of (option_named known.now (name_in word.now))
+        (value_of word.now (map string_bytes after.now))) }
 {
     let (name, joined) = match word.split_once('=') {
         Some((name, value)) => (name, Some(value)),
@@ -143,7 +155,9 @@ fn option_of<'a>(
 }
 
 // An option with a value after `=`.
-fn given_joined<'a>(option: Known, value: &'a str) -> Result<Given, Wrong<'a>> {
+fn given_joined<'a>(option: Known, value: &'a str) -> Result<Given, Wrong<'a>>
+    ensures { IfOk result (λ g. said g ≡ (option.name.now, word_given option.takes value.now)) }
+{
     match option.takes {
         Takes::Nothing => Err(Wrong::Something(option.name)),
         _ => given_with(option, value),
@@ -155,6 +169,8 @@ fn given_before<'a>(option: Known, after: &'a [String]) -> Result<(Given, &'a [S
     ensures shorter { IfOk result (λ x. length x.1.now ≤ length after.now) }
     ensures rest { IfOk result (λ x.
         x.1.now ≡ drop (if takes_value option.takes then 1 else 0) after.now) }
+    ensures given { IfOk result (λ x. said x.0
+        ≡ (option.name.now, word_given option.takes (first_of (map string_bytes after.now)))) }
 {
     let called = match option.takes {
         Takes::Nothing => return Ok((taken(option, "", 0), after)),
@@ -168,7 +184,9 @@ fn given_before<'a>(option: Known, after: &'a [String]) -> Result<(Given, &'a [S
 }
 
 // An option with this value.
-fn given_with<'a>(option: Known, value: &'a str) -> Result<Given, Wrong<'a>> {
+fn given_with<'a>(option: Known, value: &'a str) -> Result<Given, Wrong<'a>>
+    ensures { IfOk result (λ g. said g ≡ (option.name.now, word_given option.takes value.now)) }
+{
     match option.takes {
         Takes::Nothing => Ok(taken(option, "", 0)),
         Takes::Size => match size_of(value) {
@@ -186,7 +204,9 @@ fn given_with<'a>(option: Known, value: &'a str) -> Result<Given, Wrong<'a>> {
 }
 
 // The option, with a word or a size.
-fn taken(option: Known, word: &'static str, size: usize) -> Given {
+fn taken(option: Known, word: &'static str, size: usize) -> Given
+    ensures { said result ≡ (option.name.now, word.now) }
+{
     Given {
         name: option.name,
         word,
@@ -195,7 +215,9 @@ fn taken(option: Known, word: &'static str, size: usize) -> Given {
 }
 
 // This word, where it is one of the list.
-fn word_in(words: &[&'static str], value: &str) -> Option<&'static str> {
+fn word_in(words: &[&'static str], value: &str) -> Option<&'static str>
+    ensures { IfSome result (λ word. word.now ≡ value.now) }
+{
     for word in words {
         if *word == value {
             return Some(*word);

@@ -1,0 +1,84 @@
+-- What one word adds to the options and to the files.
+use Rattle.std.proofs.Common.{◌≡◌, ℕ, Bool, true, false, if◌then◌else◌, List, [], ◌∷◌, ◌++◌, drop, map, refl, sym, ap, ◌∙◌, inl, inr}
+use Rattle.std.proofs.lemmas.List.{append_assoc, drop-map}
+use Rattle.std.proofs.lemmas.Bool.{cases_Bool}
+use Rattle.command_line.specs.declared.table.Known.{Known}
+use Rattle.command_line.specs.Words.{ends_options, files_of, given_of, is_file, name_in, option_named, options_of, takes_next, value_of}
+
+-- how many words an option takes
+abbrev pub taken : List Known → List ℕ → ℕ
+taken known w = if takes_next known w then 1 else 0
+
+-- where an option takes the next word, what is left is after it
+options_left : (known : List Known) (t : Bool) (ws : List (List ℕ))
+    → options_of known t ws ≡ options_of known false (drop (if t then 1 else 0) ws)
+options_left known false ws = refl
+options_left known true [] = refl
+options_left known true (w ∷ ws) = refl
+
+files_left : (known : List Known) (t : Bool) (ws : List (List ℕ))
+    → files_of known t ws ≡ files_of known false (drop (if t then 1 else 0) ws)
+files_left known false ws = refl
+files_left known true [] = refl
+files_left known true (w ∷ ws) = refl
+
+-- the options of all words are those that the first adds and those that are left
+options_next : (known : List Known) (os ns : List (List ℕ × List ℕ)) (w : List ℕ)
+    (ws rest : List (List ℕ)) → ends_options w ≡ false
+    → (is_file w ≡ true → (rest ≡ ws) × (ns ≡ os))
+    → (is_file w ≡ false → (rest ≡ drop (taken known w) ws)
+    × (ns ≡ os ++ given_of (option_named known (name_in w)) (value_of w ws)))
+    → ns ++ options_of known false rest ≡ os ++ options_of known false (w ∷ ws)
+options_next known os ns w ws rest e f o = elim (cases_Bool (is_file w)) [
+  | inl is ↦ rw e (rw is (rw (f is).0 (rw (f is).1 refl)))
+  | inr is ↦ let given = given_of (option_named known (name_in w)) (value_of w ws) in
+      rw e (rw is (rw (o is).0 (rw (o is).1
+      (append_assoc os given (options_of known false (drop (taken known w) ws))
+      ∙ ap (λ us. os ++ (given ++ us)) (sym (options_left known (takes_next known w) ws))))))
+]
+
+files_next : (known : List Known) (os ns : List (List ℕ)) (w : List ℕ) (ws rest : List (List ℕ))
+    → ends_options w ≡ false
+    → (is_file w ≡ true → (rest ≡ ws) × (ns ≡ os ++ w ∷ []))
+    → (is_file w ≡ false → (rest ≡ drop (taken known w) ws) × (ns ≡ os))
+    → ns ++ files_of known false rest ≡ os ++ files_of known false (w ∷ ws)
+files_next known os ns w ws rest e f o = elim (cases_Bool (is_file w)) [
+  | inl is ↦ rw e (rw is (rw (f is).0 (rw (f is).1
+      (append_assoc os (w ∷ []) (files_of known false ws)))))
+  | inr is ↦ rw e (rw is (rw (o is).0 (rw (o is).1
+      (ap (λ us. os ++ us) (sym (files_left known (takes_next known w) ws))))))
+]
+
+-- the same of words that have a text
+pub options_step : {S : Type 0} (text : S → List ℕ) (known : List Known)
+    (os ns : List (List ℕ × List ℕ)) (w : List ℕ) (x : S) (all after rest : List S)
+    → w ≡ text x → all ≡ x ∷ after → ends_options w ≡ false
+    → (is_file w ≡ true → (rest ≡ after) × (ns ≡ os))
+    → (is_file w ≡ false → (rest ≡ drop (taken known w) after)
+    × (ns ≡ os ++ given_of (option_named known (name_in w)) (value_of w (map text after))))
+    → ns ++ options_of known false (map text rest) ≡ os ++ options_of known false (map text all)
+options_step text known os ns w x all after rest t a e f o =
+    options_next known os ns w (map text after) (map text rest) e
+    (λ is. (ap (map text) (f is).0, (f is).1))
+    (λ is. (
+      ap (map text) (o is).0 ∙ sym (drop-map text (taken known w) after),
+      (o is).1,
+    ))
+    ∙ ap (λ v. os ++ options_of known false (v ∷ map text after)) t
+    ∙ ap (λ us. os ++ options_of known false (map text us)) (sym a)
+
+pub files_step : {S : Type 0} (text : S → List ℕ) (known : List Known) (os ns : List (List ℕ))
+    (w : List ℕ) (x : S) (all after rest : List S)
+    → w ≡ text x → all ≡ x ∷ after → ends_options w ≡ false
+    → (is_file w ≡ true → (rest ≡ after) × (ns ≡ os ++ w ∷ []))
+    → (is_file w ≡ false → (rest ≡ drop (taken known w) after) × (ns ≡ os))
+    → ns ++ files_of known false (map text rest) ≡ os ++ files_of known false (map text all)
+files_step text known os ns w x all after rest t a e f o =
+    files_next known os ns w (map text after) (map text rest) e
+    (λ is. (ap (map text) (f is).0, (f is).1))
+    (λ is. (
+      ap (map text) (o is).0 ∙ sym (drop-map text (taken known w) after),
+      (o is).1,
+    ))
+    ∙ ap (λ v. os ++ files_of known false (v ∷ map text after)) t
+    ∙ ap (λ us. os ++ files_of known false (map text us)) (sym a)
