@@ -1,5 +1,5 @@
 -- What a filter was fed.
-use Rattle.std.specs.Prelude.{ℕ, ◌≡◌, Bool, true, false, List, [], ◌++◌, Some}
+use Rattle.std.specs.Prelude.{ℕ, ◌≡◌, Bool, true, false, List, ◌++◌, Some}
 use Rattle.esc_actions.specs.Values.{Value, value_of}
 use Rattle.esc_actions.specs.declared.action.Action.{Action}
 use Rattle.esc_parse.specs.Fed.{IsBroken as IsBrokenParser, WasFedWithin}
@@ -37,22 +37,12 @@ added_by f = f.spell.text
 abbrev pub policy_of : {P A : Type 0} → Filter P A → P
 policy_of f = f.policy
 
--- the filter, of this limit and this policy, which admits these values, was fed nothing
-abbrev pub IsFresh : {P A : Type 0} → ℕ → (Value A → Bool) → P → Filter P A → Type 0
-IsFresh limit admits policy f = WasFed limit admits [] f × (policy_of f ≡ policy)
-
 -- this holds of each stream that the filter may have been fed, its limit, and what its policy
 -- admits
 abbrev pub After : {P A : Type 0} → Admitter P A → Filter P A
     → (ℕ → (Value A → Bool) → List ℕ → Type 0) → Type 0
 After V f C = (limit : ℕ) (s : List ℕ) → WasFed limit (V.admits (policy_of f)) s f
     → C limit (V.admits (policy_of f)) s
-
--- this holds of a filter that was fed nothing, of its limit and what its policy admits
-abbrev pub Fresh : {P A : Type 0} → Admitter P A → Filter P A → (ℕ → (Value A → Bool) → Type 0)
-    → Type 0
-Fresh {P} V f C = (limit : ℕ) (policy : P) → IsFresh limit (V.admits policy) policy f
-    → C limit (V.admits policy)
 
 -- the filter, which was fed s, was fed b too, and has the text that b adds
 abbrev pub TakesIn : {P A : Type 0} → (Value A → Bool) → ℕ → List ℕ → List ℕ → Filter P A → Type 0
