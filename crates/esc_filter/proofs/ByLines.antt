@@ -178,7 +178,7 @@ module _ {A : Type 0} (limit : ℕ) (admits : Value A → Bool) where
           ∙ by_append w.ended (w.rest ++ b) w.ends
 
       module _ (b : List ℕ) (mid : LineFilter P A) (g : GrowsLine admits limit w.rest b old mid)
-          (limits : mid.limit ≡ old.limit) (fails : mid.has_failed ≡ old.has_failed) where
+          (fails : mid.has_failed ≡ old.has_failed) where
         abbrev t : List ℕ
         t = g.1.0
 
@@ -202,7 +202,6 @@ module _ {A : Type 0} (limit : ℕ) (admits : Value A → Bool) where
               unended = feeds_append w.rest b w.unended none;
               fed = g.0;
               last = ends_now;
-              limit_is = limits ∙ w.limit_is;
               unfailed = fails ∙ w.unfailed;
             },
             text_more b
@@ -218,9 +217,9 @@ module _ {A : Type 0} (limit : ℕ) (admits : Value A → Bool) where
         pub grows_line : IsLine b → (new : LineFilter P A)
             → added_by new ≡ added_by mid ++ lacking mid.ends_line
             → WasFed limit admits [] new.filter → new.ends_line ≡ false
-            → new.limit ≡ mid.limit → new.has_failed ≡ mid.has_failed
+            → new.has_failed ≡ mid.has_failed
             → GrowsBy admits limit s b old new
-        grows_line (x, none, e) new added fresh last l f =
+        grows_line (x, none, e) new added fresh last f =
             let line : IsLine (w.rest ++ b) = (
               w.rest ++ x,
               feeds_append w.rest x w.unended none,
@@ -237,7 +236,6 @@ module _ {A : Type 0} (limit : ℕ) (admits : Value A → Bool) where
                   unended = refl;
                   fed = fresh;
                   last = last ∙ ap (ends_line false) (sym nothing);
-                  limit_is = l ∙ limits ∙ w.limit_is;
                   unfailed = f ∙ fails ∙ w.unfailed;
                 },
                 text_more b
@@ -280,9 +278,9 @@ module _ {A : Type 0} (limit : ℕ) (admits : Value A → Bool) where
       )
 
   pub first_fed : {P : Type 0} (f : LineFilter P A) → WasFed limit admits [] f.filter
-      → f.ends_line ≡ false → f.limit ≡ limit → f.has_failed ≡ false
+      → f.ends_line ≡ false → f.has_failed ≡ false
       → WasFedLines limit admits [] f
-  first_fed f fresh last l n = record {
+  first_fed f fresh last n = record {
     ended = [];
     rest = [];
     whole = refl;
@@ -290,15 +288,14 @@ module _ {A : Type 0} (limit : ℕ) (admits : Value A → Bool) where
     unended = refl;
     fed = fresh;
     last = last ∙ ap (ends_line false) (sym nothing);
-    limit_is = l;
     unfailed = n;
   }
 
   -- the text that was handed out is no part of what was fed
   pub fed_same : {P : Type 0} (s : List ℕ) (f h : LineFilter P A) → h.filter ≡ f.filter
-      → h.limit ≡ f.limit → h.ends_line ≡ f.ends_line → h.has_failed ≡ f.has_failed
+      → h.ends_line ≡ f.ends_line → h.has_failed ≡ f.has_failed
       → WasFedLines limit admits s f → WasFedLines limit admits s h
-  fed_same s f h a b c d w = record {
+  fed_same s f h a c d w = record {
     ended = w.ended;
     rest = w.rest;
     whole = w.whole;
@@ -306,7 +303,6 @@ module _ {A : Type 0} (limit : ℕ) (admits : Value A → Bool) where
     unended = w.unended;
     fed = subst (WasFed limit admits w.rest) (sym a) w.fed;
     last = c ∙ w.last;
-    limit_is = b ∙ w.limit_is;
     unfailed = d ∙ w.unfailed;
   }
 

@@ -77,7 +77,6 @@ pub record WasFedLines {P A : Type 0} (limit : ℕ) (admits : Value A → Bool) 
   pub unended : has_line_feed rest ≡ false
   pub fed : WasFed limit admits rest f.filter
   pub last : f.ends_line ≡ ends_line false (passed_text {A = A} (Some limit) admits rest)
-  pub limit_is : f.limit ≡ limit
   pub unfailed : f.has_failed ≡ false
 
 -- what the bytes fed last added

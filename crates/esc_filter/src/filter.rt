@@ -83,12 +83,12 @@ impl<P: Admit<A>, A: Allocator + Copy> Filter<P, A> {
         }
     }
 
-    /// Begins a new stream, under this limit. Takes no memory.
-    pub(crate) fn restart(&mut self, limit: usize)
-        ensures fed { WasFed limit (P.admits (policy_of self.old)) [] self.new }
+    /// Begins a new stream. What is unfinished is dropped.
+    pub(crate) fn restart(&mut self)
+        ensures fed { After P.Admit self.old (λ limit admits s. WasFed limit admits [] self.new) }
         ensures policy { policy_of self.new ≡ policy_of self.old }
     {
-        self.parser = Parser::with_limit(self.alloc, limit);
+        self.parser.restart();
         self.spell.follows_string = false;
     }
 

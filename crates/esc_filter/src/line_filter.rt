@@ -18,7 +18,6 @@ use std::alloc::{AllocError, Allocator, Global};
 #[derive(Drop)]
 pub struct LineFilter<P, A: Allocator = Global> {
     filter: Filter<P, A>,
-    limit: usize,
     // what the bytes fed last added
     text: String<A>,
     // whether the text of the last line, which has no line feed yet, ends in one
@@ -39,7 +38,6 @@ impl<P: Admit<A>, A: Allocator + Copy> LineFilter<P, A> {
     {
         LineFilter {
             filter: Filter::new(alloc, limit, policy),
-            limit,
             text: String::new(alloc),
             ends_line: false,
             has_failed: false,
@@ -138,7 +136,7 @@ impl<P: Admit<A>, A: Allocator + Copy> LineFilter<P, A> {
         ensures given { OnLine P.Admit self.old (λ limit admits s.
             OnOk result (GrowsLine admits limit s bytes.now self.old self.new)) }
         ensures kept { (policy_of_lines self.new ≡ policy_of_lines self.old)
-            × (self.new.limit ≡ self.old.limit) × (self.new.has_failed ≡ self.old.has_failed) }
+            × (self.new.has_failed ≡ self.old.has_failed) }
         ensures refused { OnLine P.Admit self.old (λ limit admits s.
             OnErr result (Refused A)) }
     {
@@ -156,14 +154,14 @@ impl<P: Admit<A>, A: Allocator + Copy> LineFilter<P, A> {
     fn end_line(&mut self) -> Result<(), AllocError>
         ensures given { OnOk result ((added_by self.new
             ≡ added_by self.old ++ (if self.old.ends_line then [] else 0x0a ∷ []))
-            × ((limit : ℕ) → self.old.limit ≡ limit
-            → WasFed limit (P.admits (policy_of_lines self.old)) [] self.new.filter)
             × (self.new.ends_line ≡ false)) }
+        ensures fed { OnLine P.Admit self.old (λ limit admits l.
+            WasFed limit admits [] self.new.filter) }
         ensures kept { (policy_of_lines self.new ≡ policy_of_lines self.old)
-            × (self.new.limit ≡ self.old.limit) × (self.new.has_failed ≡ self.old.has_failed) }
+            × (self.new.has_failed ≡ self.old.has_failed) }
         ensures refused { OnErr result (Refused A) }
     {
-        self.filter.restart(self.limit);
+        self.filter.restart();
         if self.ends_line {
             self.ends_line = false;
             return Ok(());

@@ -11,9 +11,10 @@ ghost use Rattle.esc_frame.specs.Stream.{LeadsTo, LeadsToWithin, HasFailed, IsAt
 use crate::actor::VTActor;
 use crate::classes::classify;
 use crate::error::ParseError;
-use crate::machine::Machine;
+use crate::machine::{Machine, State};
 use crate::runs::printing::{first_char, first_control};
 use crate::unfinished::kept::Kept;
+use crate::utf8::sequence::Pending;
 use std::alloc::{Allocator, Global};
 
 /// Splits a stream of bytes, which comes in any pieces, into the events of its segments, and gives
@@ -64,6 +65,16 @@ impl<A: Allocator> VTParser<A> {
             limit: Some(limit),
             has_failed: false,
         }
+    }
+
+    /// Begins a new stream: what is unfinished is dropped, without its events. The limit stays, and
+    /// so does the memory that strings took. A parser that has failed stays so.
+    #[tactic(auto, unfolding(crate::specs::Stream::LeadsToWithin))]
+    pub fn restart(&mut self)
+        ensures { After self.old (λ limit s. LeadsToWithin limit [] self.new) }
+    {
+        self.machine.state = State::Ground;
+        self.machine.pending = Pending::Nothing;
     }
 
     /// How many bytes of the unfinished string are kept, counted as for

@@ -76,6 +76,15 @@ impl<A: Allocator + Copy> Parser<A> {
         }
     }
 
+    /// Begins a new stream: what is unfinished is dropped, and gives no action. The limit stays, and
+    /// so does the memory that strings took. A parser that has failed stays so.
+    pub fn restart(&mut self)
+        ensures { After self.old (λ limit s. WasFedWithin limit [] self.new) }
+    {
+        self.framer.restart();
+        self.unfinished.restart();
+    }
+
     /// How many bytes are kept of the segment that is unfinished: of an operating system command
     /// its text in UTF-8, of an application program command its bytes 20 to 7F, of a device control
     /// string its parameter bytes 30 to 39 and 3B until its final byte, and after it the data of a

@@ -42,6 +42,17 @@ impl<A: Allocator + Copy> Unfinished<A> {
         }
     }
 
+    /// Nothing is unfinished any more.
+    #[tactic(auto, unfolding(crate::specs::Fed::Hooks))]
+    pub fn restart(&mut self)
+        ensures { Hooking self.old (λ limit m. Hooks limit self.new plain) }
+    {
+        if let Hooked::Nothing = self.hooked {
+            return;
+        }
+        self.hooked = Hooked::Nothing;
+    }
+
     /// What is unfinished, in place of which nothing is.
     pub fn take(&mut self) -> Unfinished<A>
         ensures taken { result ≡ self.old }

@@ -7,5 +7,5 @@ returns-clause-given g c = λ limit s w.
     let kept = c.pass.ensures.kept in
     on_ok_so c.pass.result (λ h.
     grows_open limit (g.P.Admit.admits (policy_of_lines c.args.self.now)) s c.args.self.now w
-    c.args.bytes.now c.pass.new.self h kept.1 kept.2 c.requires)
+    c.args.bytes.now c.pass.new.self h kept.1 c.requires)
     (c.pass.ensures.given limit w.rest w.fed)
