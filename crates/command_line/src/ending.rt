@@ -1,8 +1,10 @@
 //! How a stream ends, and what a program says and returns of it.
+ghost use Rattle.std.specs.Prelude.{◌≡◌};
 
+use crate::reason::Reason;
 use crate::showing::Shown;
 use std::fmt::Display;
-use std::io::Write;
+use std::io::{ErrorKind, Write};
 
 /// How a stream ended.
 #[derive(Clone, Copy, Debug, PartialEq, Eq)]
@@ -30,6 +32,20 @@ pub fn status_after(ended: Ended, status: u8) -> Result<u8, u8> {
         Ended::Unread => Ok(FAULT),
         Ended::Unwritten => Err(FAULT),
         Ended::Closed => Err(CLOSED),
+    }
+}
+
+/// How a stream ended of which nothing more can be written, since a write failed for this reason. A
+/// line on `faults` says so; but where nobody reads the output any more, none is written.
+pub fn unwritten<E: Write>(program: &str, reason: Reason, faults: &mut E) -> Ended
+    ensures { result ≡ Ended.Whole → ⊥ }
+{
+    match reason {
+        Reason::Kind(ErrorKind::BrokenPipe) => Ended::Closed,
+        _ => {
+            tell(program, "standard output", reason, faults);
+            Ended::Unwritten
+        }
     }
 }
 

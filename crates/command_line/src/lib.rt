@@ -1,11 +1,12 @@
 //! What the programs have in common: how their words are read, how a word is shown, how a stream
-//! that they read ends, and whether it is their output.
+//! that they read ends and why, and whether it is their output.
 #![tactic(auto)]
 
 mod ending;
 mod nearness;
 mod output;
 mod reading;
+mod reason;
 mod showing;
 mod sizes;
 mod table;
@@ -13,9 +14,10 @@ mod table;
 mod tests;
 mod wrong;
 
-pub use ending::{Ended, status_after, tell};
+pub use ending::{Ended, status_after, tell, unwritten};
 pub use output::{IS_OUTPUT, is_output};
 pub use reading::{Found, Given, read};
+pub use reason::Reason;
 pub use showing::{Shown, is_shown};
 pub use table::{Known, Takes};
 pub use wrong::Wrong;

@@ -8,7 +8,7 @@ mod options;
 mod stream;
 mod tally;
 
-use command_line::{Ended, IS_OUTPUT, Wrong, is_output, status_after, tell};
+use command_line::{Ended, IS_OUTPUT, Reason, Wrong, is_output, status_after, tell, unwritten};
 use esc_normal::Watched;
 use noting::Noting;
 use options::{Kind, Options, Task};
@@ -67,8 +67,8 @@ fn main(rt: HostRuntime) -> ExitCode {
 fn done(rt: &HostRuntime, kind: Kind, options: Options, files: &[&str]) -> u8 {
     match kind {
         Kind::Filter => filter_all(rt, options, files),
-        Kind::Help => said(println!(rt; "{USAGE}\n\n{HELP}")),
-        Kind::Version => said(println!(rt; "{VERSION}")),
+        Kind::Help => said(rt, println!(rt; "{USAGE}\n\n{HELP}")),
+        Kind::Version => said(rt, println!(rt; "{VERSION}")),
     }
 }
 
@@ -87,9 +87,18 @@ fn arguments(rt: &HostRuntime) -> io::Result<Vec<String>> {
     Ok(env::args(rt)?.skip(1).collect(rt.alloc())?)
 }
 
-// The status after a text was printed.
-fn said(printed: io::Result<()>) -> u8 {
-    if printed.is_ok() { DONE } else { FAULT }
+// The status after a text was printed. Where it was not, a line says why, as after a stream.
+fn said(rt: &HostRuntime, printed: io::Result<()>) -> u8 {
+    let Err(error) = printed else {
+        return DONE;
+    };
+    match status_after(
+        unwritten(PROGRAM, Reason::of(&error), &mut rt.stderr()),
+        DONE,
+    ) {
+        Ok(status) => status,
+        Err(status) => status,
+    }
 }
 
 // Filters one file after another, each a stream of its own. After one that cannot be read the
@@ -141,7 +150,7 @@ fn filter_input<R: Read + Drop>(rt: &HostRuntime, options: Options, name: &str, 
         &mut writer,
         &mut faults,
     );
-    let read = reader.into_inner().kind();
-    let kind = read.or(writer.into_inner().kind());
-    ended(outcome, kind, name, &mut faults)
+    let read = reader.into_inner().reason();
+    let reason = read.or(writer.into_inner().reason());
+    ended(outcome, reason, name, &mut faults)
 }

@@ -4,26 +4,30 @@ ghost use Rattle.std.specs.Io.{ReadsAtMost, WritesAtMost};
 ghost use Rattle.std.specs.Io.KnownBytes.{ReadConsumes, WriteAppends};
 ghost use Rattle.std.specs.IoError.{error_kind};
 
+use command_line::Reason;
 use std::io;
 use std::io::{ErrorKind, Read, Write};
 
-/// A reader or a writer around another, which notes of what kind the last error was. A call that a
+/// A reader or a writer around another, which notes the reason of the last error. A call that a
 /// signal interrupts is made again, so it is no error.
 #[derive(Drop)]
 pub struct Noting<T> {
     inner: T,
-    kind: Option<ErrorKind>,
+    reason: Option<Reason>,
 }
 
 impl<T> Noting<T> {
     /// A reader or a writer around `inner`, of which no call has failed.
     pub fn new(inner: T) -> Noting<T> {
-        Noting { inner, kind: None }
+        Noting {
+            inner,
+            reason: None,
+        }
     }
 
-    /// The kind of the last error.
-    pub fn kind(&self) -> Option<ErrorKind> {
-        self.kind
+    /// The reason of the last error.
+    pub fn reason(&self) -> Option<Reason> {
+        self.reason
     }
 }
 
@@ -37,7 +41,7 @@ impl<R: Read> Read for Noting<R> {
         ensures retried { IfErr result (λ e. error_kind e ≢ ErrorKind.Interrupted) }
     {
         let result = uninterrupted_read(&mut self.inner, buf);
-        note(&mut self.kind, &result);
+        note(&mut self.reason, &result);
         result
     }
 }
@@ -52,13 +56,13 @@ impl<W: Write> Write for Noting<W> {
         ensures retried { IfErr result (λ e. error_kind e ≢ ErrorKind.Interrupted) }
     {
         let result = uninterrupted_write(&mut self.inner, buf);
-        note(&mut self.kind, &result);
+        note(&mut self.reason, &result);
         result
     }
 
     fn flush(&mut self) -> io::Result<()> {
         let result = self.inner.flush();
-        note(&mut self.kind, &result);
+        note(&mut self.reason, &result);
         result
     }
 }
@@ -101,9 +105,9 @@ fn uninterrupted_write<W: Write>(writer: &mut W, buf: &[u8]) -> io::Result<usize
     Err(io::Error::from(ErrorKind::TimedOut))
 }
 
-// Notes the kind, where the outcome is an error.
-fn note<V>(kind: &mut Option<ErrorKind>, outcome: &io::Result<V>) {
+// Notes the reason, where the outcome is an error.
+fn note<V>(reason: &mut Option<Reason>, outcome: &io::Result<V>) {
     if let Err(error) = outcome {
-        *kind = Some(error.kind());
+        *reason = Some(Reason::of(error));
     }
 }

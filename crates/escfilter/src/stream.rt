@@ -7,12 +7,12 @@ ghost use Rattle.escfilter.specs.Written.{IsWritten, text_of};
 
 use crate::options::Options;
 use crate::tally::{Counting, Tally};
-use command_line::{Ended, tell};
+use command_line::{Ended, Reason, tell, unwritten};
 use esc_filter::{FilterError, filter_lines, filter_stream};
 use esc_normal::Watched;
 use std::alloc::Allocator;
 use std::cell::Cell;
-use std::io::{ErrorKind, Read, Write};
+use std::io::{Read, Write};
 
 /// The program's name.
 pub const PROGRAM: &str = "escfilter";
@@ -85,12 +85,12 @@ fn filter_by<A: Allocator + Copy, R: Read, W: Write>(
     }
 }
 
-/// How the stream of this name ended, with this outcome of its filter, where the last error was of
-/// this kind. A line on `faults` says what hindered it; but where nobody reads the output any more,
-/// none is written.
+/// How the stream of this name ended, with this outcome of its filter, where the last error had
+/// this reason. A line on `faults` says what hindered it; but where nobody reads the output any
+/// more, none is written.
 pub fn ended<E: Write>(
     outcome: Result<(), FilterError>,
-    kind: Option<ErrorKind>,
+    reason: Option<Reason>,
     name: &str,
     faults: &mut E,
 ) -> Ended
@@ -100,24 +100,19 @@ pub fn ended<E: Write>(
         Ok(()) => return Ended::Whole,
         Err(error) => error,
     };
-    if error == FilterError::Write {
-        return unwritten(kind, faults);
+    match (error, reason) {
+        (FilterError::Write, Some(reason)) => unwritten(PROGRAM, reason, faults),
+        (FilterError::Write, None) => {
+            tell(PROGRAM, "standard output", "takes nothing", faults);
+            Ended::Unwritten
+        }
+        (_, Some(reason)) => {
+            tell(PROGRAM, name, reason, faults);
+            Ended::Unread
+        }
+        (_, None) => {
+            tell(PROGRAM, name, error, faults);
+            Ended::Unread
+        }
     }
-    match kind {
-        Some(kind) => tell(PROGRAM, name, kind, faults),
-        None => tell(PROGRAM, name, error, faults),
-    }
-    Ended::Unread
-}
-
-// How a stream ended that could not be written. Of an output that was closed no line is written.
-fn unwritten<E: Write>(kind: Option<ErrorKind>, faults: &mut E) -> Ended
-    ensures { result ≡ Ended.Whole → ⊥ }
-{
-    match kind {
-        Some(ErrorKind::BrokenPipe) => return Ended::Closed,
-        Some(kind) => tell(PROGRAM, "standard output", kind, faults),
-        None => tell(PROGRAM, "standard output", "takes nothing", faults),
-    }
-    Ended::Unwritten
 }
