@@ -4,6 +4,7 @@
 
 mod action_words;
 mod choices;
+mod color_words;
 mod command_words;
 mod controls;
 mod csi_words;
