@@ -1,4 +1,4 @@
-use Rattle.std.proofs.Common.{[], subst}
+use Rattle.std.proofs.Common.{[], ◌++◌, subst}
 use Rattle.esc_filter.specs.Fed.{WasFed}
 use Rattle.esc_filter.specs.Lines.{policy_of_lines}
 use Rattle.esc_filter.proofs.ByLines.{grows_line, on_ok_so}
@@ -8,11 +8,12 @@ pub returns-in-Ok-clause-given : goal.returns-in-Ok-clause-given
 returns-in-Ok-clause-given g c = λ limit s w.
     let kept = c.in-Ok.ensures.kept in
     let k = c.end_line.ensures.kept in
+    let line = w.rest ++ c.args.bytes.now in
     let longer = c.in-Ok.ensures.given limit w.rest w.fed in
     on_ok_so c.end_line.result (λ e.
     grows_line limit (g.P.Admit.admits (policy_of_lines c.args.self.now)) s c.args.self.now w
     c.args.bytes.now c.pass.new.self longer kept.1 c.requires c.end_line.new.self e.0
-    (subst (λ p. WasFed limit (g.P.Admit.admits p) _ c.pass.new.self.filter
+    (subst (λ p. WasFed limit (g.P.Admit.admits p) line c.pass.new.self.filter
     → WasFed limit (g.P.Admit.admits p) [] c.end_line.new.self.filter) kept.0
-    (c.end_line.ensures.fed limit _) longer.0) e.1 k.1)
+    (c.end_line.ensures.fed limit line) longer.0) e.1 k.1)
     c.end_line.ensures.given
