@@ -92,7 +92,7 @@ osc_opens limit rest h p q = let e = two_first rest 0x1b 0x5d h p q in (
 
 -- ---- the final byte
 
-final_byte : (b : ℕ) → 0x40 ≤ b → b ≤ 0x7e → (is_breaker (class_of b) ≡ false)
+pub final_byte : (b : ℕ) → 0x40 ≤ b → b ≤ 0x7e → (is_breaker (class_of b) ≡ false)
     × (in_csi (class_of b) ≡ false)
 unfolding class_of
 final_byte b l h = (grind (arith, nat_tests), grind (arith, nat_tests))

@@ -1,5 +1,5 @@
 //! The byte machine: what it keeps of the unfinished segment, and which function takes the next
-//! bytes. Its methods stand in a file for each kind of segment.
+//! bytes. Its methods are in a file for each kind of segment.
 #![tactic(auto)]
 
 mod dcs;
@@ -34,7 +34,7 @@ use std::alloc::{AllocError, Allocator};
 /// The error is that the actor refused a call, or that a request for memory was refused.
 pub type Result<T> = std::result::Result<T, AllocError>;
 
-/// Where the machine stands.
+/// In what the machine is.
 #[derive(Clone, Copy)]
 pub enum State {
     /// Between segments, or in a character's sequence.
@@ -66,7 +66,7 @@ pub struct Machine<K: Store, A: Allocator> {
     pub intermediates: Intermediates,
     // that of a control sequence
     pub body: CsiBody,
-    // that of one that stands whole in a call's bytes
+    // that of one that is whole in a call's bytes
     pub short: Short,
     // the header of a DCS, but for its parameter bytes
     pub header: DcsHeader,

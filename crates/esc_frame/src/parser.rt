@@ -69,9 +69,10 @@ impl<A: Allocator> VTParser<A> {
 
     /// Begins a new stream: what is unfinished is dropped, without its events. The limit stays, and
     /// so does the memory that strings took. A parser that has failed stays so.
-    #[tactic(auto, unfolding(crate::specs::Stream::LeadsToWithin))]
+    #[tactic(auto, unfolding(crate::specs::Stream::LeadsToWithin, crate::specs::Stream::HasFailed))]
     pub fn restart(&mut self)
-        ensures { After self.old (λ limit s. LeadsToWithin limit [] self.new) }
+        ensures fed { After self.old (λ limit s. LeadsToWithin limit [] self.new) }
+        ensures failed { HasFailed self.old → HasFailed self.new }
     {
         self.machine.state = State::Ground;
         self.machine.pending = Pending::Nothing;
@@ -190,7 +191,7 @@ impl<A: Allocator> VTParser<A> {
     /// refused: no control sequence takes any. A prefix of these events was given then, and every
     /// later call returns `Failed` and gives nothing.
     ///
-    /// Two strings that stand whole in `bytes` are given to the actor as slices of `bytes` and take
+    /// Two strings that are whole in `bytes` are given to the actor as slices of `bytes` and take
     /// no memory: an operating system command of at most 16 parts with a text of bytes 20 to 7F and
     /// well-formed UTF-8 alone, and an application program command with a text of bytes 20 to 7F
     /// alone. So where no segment is unfinished before and after these bytes, and they hold such

@@ -19,6 +19,7 @@ use Rattle.esc_frame.specs.Machine.Moves.{Move, ground_move, pair_move, final_os
 use Rattle.esc_frame.specs.Segments.{Opener, Piece, text_of, is_empty, hook_event}
 use Rattle.esc_frame.specs.Segments.Piece.{BrokenOff}
 use Rattle.esc_frame.specs.Sequences.{is_pair, outcome}
+use Rattle.esc_frame.proofs.Bytes.{last_shift}
 use Rattle.esc_frame.proofs.Borrows.{not_both}
 use Rattle.esc_frame.proofs.Pushed.{text_sequence}
 use Rattle.esc_frame.proofs.Streams.{events_append}
@@ -209,12 +210,6 @@ none_first hands (e ∷ es) ds h = by_head (hands e) (none_first hands es ds) h
         → (t || list_any hands (es ++ ds)) ≡ false → (t || list_any hands es) ≡ false
     by_head true more g = g
     by_head false more g = more g
-
-pub last_shift : (a b : ℕ) (x : List ℕ)
-    → get_or (a ∷ b ∷ x) (length (a ∷ b ∷ x) - 1) 0 ≡ get_or (b ∷ x) (length (b ∷ x) - 1) 0
-last_shift a b x =
-    let e : length (a ∷ b ∷ x) - 1 ≡ suc (length (b ∷ x) - 1) = omega arith in
-    ap (λ n. get_or (a ∷ b ∷ x) n 0) e
 
 module _ (limit : ℕ) (is_in is_blank : Unfinished → Bool) (hands : Event → Bool) (introducer : ℕ)
     (one : (v : Unfinished) (b : ℕ) → is_in v ≡ true

@@ -16,7 +16,8 @@ use Rattle.esc_frame.specs.Segments.Opener.{Long}
 use Rattle.esc_frame.specs.declared.machine.State.{State}
 use Rattle.esc_frame.specs.declared.machine.State.TheVariants as state
 use Rattle.esc_frame.proofs.Borrows.{not_both}
-use Rattle.esc_frame.proofs.CsiRuns.{osc_opens}
+use Rattle.esc_frame.proofs.Bytes.{last_shift}
+use Rattle.esc_frame.proofs.CsiRuns.{osc_opens, final_byte}
 use Rattle.esc_frame.proofs.Headers.{header_formed}
 use Rattle.esc_frame.proofs.Streams.{events_append}
 use Rattle.esc_lent.specs.declared.event.EscEvent.{EscEvent}
@@ -27,7 +28,7 @@ use Rattle.esc_lent.specs.Limited.{IsLimited}
 use Rattle.esc_lent.specs.Numbers.{state_numbered, form_numbered, begun}
 use Rattle.esc_lent.specs.States.{KeptIn, TextIn, begun_in}
 use Rattle.esc_lent.specs.Strings.{HasLeft, OpensOsc, EndsString, IsQuiet, NotesLimit}
-use Rattle.esc_lent.proofs.Fewer.{none_of, is_osc, is_blank_osc, hands_osc, osc_fewer, is_apc, any, hands_apc, apc_fewer, fewer_then, last_shift}
+use Rattle.esc_lent.proofs.Fewer.{none_of, is_osc, is_blank_osc, hands_osc, osc_fewer, is_apc, any, hands_apc, apc_fewer, fewer_then}
 use Rattle.esc_lent.proofs.Kept.{ground_only}
 
 -- ---- the number of a state, and of a form
@@ -122,11 +123,6 @@ module _ (p : EscParser) (memory : List ℕ) where
   apc_left x (InIgnored j o d) h k = inl refl
 
 -- ---- a header
-
-final_byte : (b : ℕ) → 0x40 ≤ b → b ≤ 0x7e → (is_breaker (class_of b) ≡ false)
-    × (in_csi (class_of b) ≡ false)
-unfolding class_of
-final_byte b l h = (grind (arith, nat_tests), grind (arith, nat_tests))
 
 header_at : (l : Option ℕ) (o : Opener) (x : List ℕ) (b : ℕ) (c : Class) → is_breaker c ≡ false
     → in_csi c ≡ false → (inside l (InDcs o x) b c).1 ≡ hooks l x b

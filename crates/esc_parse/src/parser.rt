@@ -79,7 +79,8 @@ impl<A: Allocator + Copy> Parser<A> {
     /// Begins a new stream: what is unfinished is dropped, and gives no action. The limit stays, and
     /// so does the memory that strings took. A parser that has failed stays so.
     pub fn restart(&mut self)
-        ensures { After self.old (λ limit s. WasFedWithin limit [] self.new) }
+        ensures fed { After self.old (λ limit s. WasFedWithin limit [] self.new) }
+        ensures failed { IsBroken self.old → IsBroken self.new }
     {
         self.framer.restart();
         self.unfinished.restart();

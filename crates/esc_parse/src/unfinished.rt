@@ -45,7 +45,8 @@ impl<A: Allocator + Copy> Unfinished<A> {
     /// Nothing is unfinished any more.
     #[tactic(auto, unfolding(crate::specs::Fed::Hooks))]
     pub fn restart(&mut self)
-        ensures { Hooking self.old (λ limit m. Hooks limit self.new plain) }
+        ensures hooks { Hooking self.old (λ limit m. Hooks limit self.new plain) }
+        ensures nothing { self.new.hooked ≡ hooked.Nothing }
     {
         if let Hooked::Nothing = self.hooked {
             return;

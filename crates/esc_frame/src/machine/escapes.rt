@@ -179,7 +179,7 @@ impl<K: Store, A: Allocator> Machine<K, A> {
         }
     }
 
-    /// A control sequence that is short and stands whole at the start of the bytes; else nothing.
+    /// A control sequence that is short and whole at the start of the bytes; else nothing.
     #[inline(always)]
     pub fn take_quick_csi<V: Taker>(&mut self, rest: &[u8], actor: &mut V) -> Result<usize>
         requires escape { slice_index rest.now 0 ≡ 0x1b }
@@ -205,7 +205,7 @@ impl<K: Store, A: Allocator> Machine<K, A> {
         }
     }
 
-    // A control sequence: at once, where it is short and stands whole in the bytes.
+    // A control sequence: at once, where it is short and whole in the bytes.
     #[inline(always)]
     fn take_csi<V: Taker>(&mut self, rest: &[u8], actor: &mut V) -> Result<usize>
         requires some { 2 < length rest.now }

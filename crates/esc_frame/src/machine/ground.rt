@@ -221,8 +221,7 @@ impl<K: Store, A: Allocator> Machine<K, A> {
         Ok(at)
     }
 
-    // Characters, a control, or a short control sequence; nothing where something else stands
-    // there.
+    // Characters, a control, or a short control sequence; nothing where something else comes.
     #[inline(always)]
     fn take_quick_one<V: Taker>(&mut self, rest: &[u8], actor: &mut V) -> Result<usize>
         requires some { 0 < length rest.now }
@@ -241,7 +240,7 @@ impl<K: Store, A: Allocator> Machine<K, A> {
         }
     }
 
-    /// One character, or what else stands in ground.
+    /// One character, or what else comes in ground.
     #[inline(always)]
     pub fn take_first<V: Taker>(
         &mut self,

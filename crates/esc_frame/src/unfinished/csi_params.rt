@@ -24,7 +24,7 @@ pub struct Params {
     pub limit: usize,
     // whether more came
     pub is_truncated: bool,
-    // whether a run of digits stands at the end, and its number, held at the greatest `i64`
+    // whether the bytes end in a run of digits, and its number, held at the greatest `i64`
     pub is_open: bool,
     pub number: u64,
     ghost small: { number ≤ 0x7fff_ffff_ffff_ffff },
@@ -150,7 +150,7 @@ impl Params {
         self.add(CsiParam::P(b));
     }
 
-    // Ends the run of digits, if one stands at the end: then the parameters are all.
+    // Ends the run of digits at the end, if there is one: then the parameters are all.
     #[inline(always)]
     fn close(&mut self)
         ensures number { self.new.is_open ≡ false }

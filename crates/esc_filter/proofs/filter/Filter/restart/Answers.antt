@@ -8,7 +8,7 @@ use Rattle.esc_filter.specs.Texts.{ends_in_string}
 
 pub returns-clause-fed : goal.returns-clause-fed
 returns-clause-fed g c = λ limit s h. (
-  c.restart.ensures (Some limit) s h.0,
+  c.restart.ensures.fed (Some limit) s h.0,
   ap
       (λ vs. ends_in_string false
       (filter (passes (g.P.Admit.admits (policy_of c.args.self.now))) vs))

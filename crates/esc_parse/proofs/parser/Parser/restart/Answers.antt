@@ -3,10 +3,10 @@ use Rattle.esc_actions.proofs.Meanings.{mode_nil}
 use Rattle.esc_parse.proofs.parser.Parser.restart.Goals as goal
 use Rattle.esc_parse.specs.Fed.{Hooks, WasFedWithin}
 
-pub returns : goal.returns
+pub returns-clause-fed : goal.returns-clause-fed
 unfolding WasFedWithin
-returns g c = λ limit s h. (
-  c.restart.ensures limit s h.0,
+returns-clause-fed g c = λ limit s h. (
+  c.restart.ensures.fed limit s h.0,
   subst (λ m. Hooks limit c.restart-2.new.self m) (sym (mode_nil limit))
-      (c.restart-2.ensures limit _ h.1),
+      (c.restart-2.ensures.hooks limit _ h.1),
 )
