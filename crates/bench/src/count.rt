@@ -88,6 +88,8 @@ impl VTActor for Count {
 
     ghost is_ready = { λ _. Unit {0} };
 
+    ghost may = { λ _ _. Unit {0} };
+
     #[inline]
     fn print(&mut self, c: char) -> Result<(), AllocError> {
         self.characters = self.characters.wrapping_add(1);

@@ -74,6 +74,8 @@ impl VTActor for Images {
 
     ghost is_ready = { λ _. Unit {0} };
 
+    ghost may = { λ _ _. Unit {0} };
+
     #[inline]
     fn print(&mut self, _c: char) -> Result<(), AllocError> {
         Ok(())

@@ -21,6 +21,8 @@ pub(crate) struct Passing<'p, P, A: Allocator = Global> {
 impl<'p, P: Admit<A>, A: Allocator> Sink<Action<A>> for Passing<'p, P, A> {
     ghost is_ready = { λ _. Unit {0} };
 
+    ghost may = { λ _ _. Unit {0} };
+
     ghost takes = { λ p a q. Takes (P.admits p.policy.now) p.spell a q.spell
         × (q.policy.now ≡ p.policy.now) };
 

@@ -8,7 +8,7 @@ use Rattle.std.proofs.lemmas.Bool.{and_parts}
 use Rattle.std.proofs.lemmas.Bool.Decides.{nat_tests}
 use Rattle.esc_frame.specs.declared.classes.Class.{Class}
 use Rattle.esc_frame.specs.declared.classes.Class.TheVariants.{Bell, Lead, Breaks}
-use Rattle.esc_frame.specs.declared.classes.Breaker.TheVariants.{Cancel, Escape, C1Introducer, C1Terminator, C1}
+use Rattle.esc_frame.specs.declared.classes.Breaker.TheVariants.{C1Introducer}
 use Rattle.esc_values.specs.Clear.{parts_of}
 use Rattle.esc_frame.specs.Events.{Event, StopsAt}
 use Rattle.esc_frame.specs.Events.Event.{OscDispatch, ApcDispatch}
@@ -121,6 +121,13 @@ module _ {S : Type 0} (limit : Option ℕ) (takes refuses : S → Event → S
     whole = ap (λ t. emitting (osc_events limit t) (osc_left (get_or rest n 0) c)) borrowed_text
         ∙ ends_by limit o (ps ++ run.0) (get_or rest n 0) c ends
 
+    pub borrowed_events : events_all limit (InOsc o ps) (take (n + 1) rest)
+        ≡ osc_events limit (take n rest) ++ (osc_left (get_or rest n 0) c).1
+    borrowed_events =
+        quiet_events limit takes refuses (InOsc o ps) (InOsc o (ps ++ run.0)) rest n c old new
+        (run.2 limit o ps) room e
+        ∙ ap (λ m. m.1) (sym whole)
+
     borrowed_fresh : StaysFresh (InOsc o ps) rest (n + 1)
     borrowed_fresh =
         fresh_by (InOsc o ps) (osc_left (get_or rest n 0) c).0 rest (n + 1)
@@ -195,6 +202,15 @@ module _ {S : Type 0} (limit : Option ℕ) (takes refuses : S → Event → S
 
     two : n + 1 + 1 ≡ n + 2
     two = omega arith
+
+    pub pair_events : events_all limit (InOsc o ps) (take (n + 2) rest)
+        ≡ osc_events limit (take n rest)
+        ++ (pair_move (get_or rest (n + 1) 0) (class_of (get_or rest (n + 1) 0))).1
+    pair_events =
+        ap (λ k. events_all limit (InOsc o ps) (take k rest)) (sym two)
+        ∙ quiet_events limit takes refuses (InOsc o ps) (InOscPending o (ps ++ run.0) (0xc2 ∷ []))
+        rest (n + 1) _ old new lead_run next refl
+        ∙ ap (λ m. m.1) (sym pair_whole_move)
 
     pair_left : StaysFresh (InOsc o ps) rest (n + 1 + 1)
     pair_left =
@@ -277,6 +293,13 @@ module _ {S : Type 0} (limit : Option ℕ) (takes refuses : S → Event → S
       ap (λ t. emitting (apc_events limit t) (ground_move (get_or rest n 0) c))
       (ap (λ t. t ++ take n rest) (sym none) ∙ sym (apc_kept d (take n rest) passes))
       ∙ rw (ends, inside) refl
+
+  pub borrowed_apc_events : events_all limit (InApc o d) (take (n + 1) rest)
+      ≡ apc_events limit (take n rest) ++ (ground_move (get_or rest n 0) c).1
+  borrowed_apc_events =
+      quiet_events limit takes refuses (InApc o d) (InApc o (d ++ take n rest)) rest n c old new
+      (apc_text limit o d (take n rest) passes) room e
+      ∙ ap (λ m. m.1) (sym apc_whole)
 
   borrowed_apc_fresh : StaysFresh (InApc o d) rest (n + 1)
   borrowed_apc_fresh =

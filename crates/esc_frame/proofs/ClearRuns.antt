@@ -1,5 +1,5 @@
 -- Runs of clear characters in ground, as UTF-8.
-use Rattle.std.proofs.Common.{ℕ, ◌≡◌, ◌+◌, ◌-◌, ◌<◌, ◌≤◌, true, false, List, [], ◌∷◌, ◌++◌, map, length, take, drop, get_or, Option, None}
+use Rattle.std.proofs.Common.{ℕ, ◌⊎◌, ◌≡◌, ◌+◌, ◌-◌, ◌<◌, ◌≤◌, true, false, List, [], ◌∷◌, ◌++◌, map, length, take, drop, get_or, Option, None}
 use Rattle.std.proofs.Common.{refl, ap, sym, ◌∙◌, subst, arith, inl, inr, ◌/◌, ◌%◌, nat_lt, length-take, length-append, append_assoc}
 use Rattle.std.proofs.lemmas.List.{append-nil, map-append, get_or-take, get_or-drop}
 use Rattle.std.proofs.Math.Seq.{get_or-append-add}
@@ -12,7 +12,7 @@ use Rattle.std.proofs.lemmas.Str.{encode_ascii, encodes-chars, scalars-chars, ch
 use lib.Utf8.{scalar, scalars}
 use Rattle.esc_values.specs.Clear.{is_clear}
 use Rattle.esc_frame.specs.Scans.{is_text_byte, is_free_byte, IsFreeTo}
-use Rattle.esc_frame.specs.Events.{Event, StopsAt}
+use Rattle.esc_frame.specs.Events.{Event, StopsAt, MayGet}
 use Rattle.esc_frame.specs.Events.Event.{Print}
 use Rattle.esc_frame.specs.Leads.Unfinished.{Ground}
 use Rattle.esc_frame.specs.Machine.Calls.{EmitsOne}
@@ -21,6 +21,7 @@ use Rattle.esc_frame.specs.Machine.Moves.{after_all, events_all}
 use Rattle.esc_frame.proofs.Characters.{clear_cases, clear_from, spells_clear}
 use Rattle.esc_frame.proofs.ManyBytes.{text_run, character_does, stop_within}
 use Rattle.esc_frame.proofs.Given.{folds_then, stops_then, stops_more, refused_stops}
+use Rattle.esc_frame.proofs.May.{get_first, get_rest}
 use Rattle.esc_frame.proofs.Streams.{after_append, events_append}
 use Rattle.std.proofs.lemmas.Bool.Decides.{nat_tests}
 
@@ -180,6 +181,10 @@ module _ {S : Type 0} (takes refuses : S → Event → S
   pub str_clear : list_all is_clear (chars text) ≡ true
   str_clear = ap (λ x. list_all is_clear (chars x)) is ∙ all_clear
 
+  pub str_events : (limit : Option ℕ)
+      → events_all limit Ground (take n rest) ≡ map Print (chars text)
+  str_events limit = (clear_text_run limit (take n rest) u all_clear).1 ∙ sym same
+
   pub str_given : FoldsTo takes old (map Print (chars text)) new
       → (after_all Ground (take n rest) ≡ Ground)
       × ((limit : Option ℕ) → FoldsTo takes old (events_all limit Ground (take n rest)) new)
@@ -224,6 +229,19 @@ chars_stop takes refuses text rest later c old mid new u e (cs, is, so) own h =
     (stops_then own takes refuses (map Print cs) _ old mid new so
     (stops_more own takes refuses (Print c ∷ []) _ mid new
     (refused_stops own takes refuses mid new (Print c) h)))
+
+pub chars_may : {S : Type 0} (is_ready : S → Type 0) (may : S → Event → Type 0)
+    (takes : S → Event → S → Type 0) (text rest later : List ℕ) (c : ℕ) (old mid : S) → IsUtf8 rest
+    → rest ≡ encode_utf8 c ++ later → HasTaken takes text rest old mid
+    → (is_ready old → is_ready mid)
+    → MayGet is_ready may takes old (map Print (chars text)) → is_ready mid ⊎ may mid (Print c)
+chars_may is_ready may takes text rest later c old mid u e (cs, is, so) k m =
+    let all : map Print cs ++ (Print c ∷ map Print (chars later)) ≡ map Print (chars text) =
+    sym (map-append Print cs (c ∷ chars later))
+    ∙ ap (λ x. map Print (cs ++ x)) (sym (chars_past_char rest later c u e))
+    ∙ ap (map Print) (sym is) in
+    get_first is_ready may takes mid mid (Print c) (map Print (chars later))
+    (get_rest is_ready may takes old mid (map Print cs) _ (map Print (chars text)) all k so m)
 
 pub chars_done : {S : Type 0} (takes : S → Event → S → Type 0) (text rest : List ℕ) (old new : S)
     → length rest ≡ 0 → HasTaken takes text rest old new

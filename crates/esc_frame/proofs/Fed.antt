@@ -1,5 +1,5 @@
 -- From the machine's steps to what a stream adds.
-use Rattle.std.proofs.Common.{ℕ, ◌≡◌, Bool, true, false, not, ◌||◌, ◌&&◌, List, [], ◌∷◌, ◌++◌, take, Option, Some, None, IfSome, inl, inr, refl, ap, sym, ◌∙◌, subst}
+use Rattle.std.proofs.Common.{ℕ, ◌≡◌, Bool, true, false, not, ◌||◌, ◌&&◌, List, [], ◌∷◌, ◌++◌, take, Option, Some, None, IfSome, inl, inr, refl, ap, sym, ◌∙◌, subst, ◌⊎◌}
 use Rattle.std.specs.List.{FoldsTo}
 use Rattle.std.proofs.lemmas.Bool.{and_parts}
 use Rattle.std.proofs.lemmas.List.{append-nil}
@@ -7,16 +7,16 @@ use Rattle.esc_frame.specs.declared.classes.Class.{Class}
 use Rattle.esc_frame.specs.declared.machine.Machine.{Machine}
 use Rattle.esc_frame.specs.declared.parser.VTParser.{VTParser}
 use Rattle.esc_frame.specs.Classes.{class_of}
-use Rattle.esc_frame.specs.Events.{Event, StopsAt}
+use Rattle.esc_frame.specs.Events.{Event, StopsAt, Awaits}
 use Rattle.esc_frame.specs.Events.Event.{Execute, Print}
-use Rattle.esc_frame.specs.Leads.{Holds}
+use Rattle.esc_frame.specs.Leads.{Holds, Unfinished}
 use Rattle.esc_frame.specs.Leads.Unfinished.{Ground}
 use Rattle.esc_frame.specs.Memory.{MayGrow}
 use Rattle.esc_frame.specs.Machine.Calls.{EmitsOne, Fails}
 use Rattle.esc_frame.specs.Machine.Keeps.{KeepsText}
 use Rattle.esc_frame.specs.Machine.Moves.{IsStill, after_by, events_by, after_all, events_all, may_grow_in, move}
 use Rattle.esc_frame.specs.Machine.Moves.{reaches_growing, borrows, is_borrowable, may_grow_within}
-use Rattle.esc_frame.specs.Stream.{IsQuietWithin, LeadsToWithin, added_within}
+use Rattle.esc_frame.specs.Stream.{IsQuietWithin, LeadsToWithin, added_within, HasFailed}
 use Rattle.esc_frame.proofs.Given.{stops_for}
 use Rattle.memory.specs.Refusals.{Refused}
 use Rattle.memory.specs.Refusals.References.{by_reference}
@@ -24,6 +24,8 @@ use Rattle.esc_frame.proofs.Memory.{grows_added}
 use Rattle.esc_frame.proofs.SameMoves.{after_same}
 use Rattle.esc_frame.proofs.Still.{quiet_all}
 use Rattle.esc_frame.proofs.Streams.{after_append, added_is}
+use Rattle.esc_frame.specs.Parses.{MayGive}
+use Rattle.esc_frame.specs.declared.actor.VTActor.{Ghosts as Actor}
 
 -- what many bytes say, of the stream
 pub kept_all : {K A : Type 0} (keeps : Option ℕ → K → List ℕ
@@ -173,3 +175,20 @@ pub control_fed : {A : Type 0} (limit : Option ℕ) (p : VTParser A) (s bs : Lis
 control_fed limit p s bs None l e h = tt
 control_fed limit p s bs (Some b) l e k =
     event_fed limit p s (take 1 bs) (Execute b) l e k.0 (k.1 limit)
+
+-- who may be given what bytes add may be given what the machine emits of them
+pub may_feed : {S A : Type 0} (V : Actor S) (p : VTParser A) (old : S) (b : List ℕ)
+    → p.has_failed ≡ false → MayGive V p b old
+    → V.is_ready old ⊎ ((u : Unfinished) × Holds KeepsText p.limit p.machine u
+    × Awaits V.may V.takes old (events_all p.limit u b))
+unfolding HasFailed LeadsToWithin
+may_feed V p old b fine (inl ready) = inl ready
+may_feed V p old b fine (inr (inl failed)) = absurd cc
+may_feed V p old b fine (inr (inr (limit, s, (f, i, h), m))) =
+    inr (
+      after_all Ground s,
+      h,
+      subst (λ l. Awaits V.may V.takes old
+          (events_all l (after_all Ground s) b)) (sym i)
+          (subst (Awaits V.may V.takes old) (added_is limit s b) m),
+    )

@@ -141,7 +141,7 @@ module _ {S : Type 0} (takes refuses : S → Event → S → Type 0) (is_ready :
             (h.1, h.2 None)).0,
         λ limit. (ran_more limit takes refuses Ground Ground rest i old mid new so.1 (so.2 limit)
             Ground n (h.1, h.2 limit)).1,
-        h.3,
+        λ r. h.3 (so.3 r),
       )
 
   -- or none
@@ -157,7 +157,7 @@ module _ {S : Type 0} (takes refuses : S → Event → S → Type 0) (is_ready :
         so.1,
         λ limit. subst (λ x. FoldsTo takes old (events_all limit Ground (take i rest)) x)
             same (so.2 limit),
-        h.3,
+        λ r. h.3 (so.3 r),
       )
 
   pub ran_refused : {own : Type 0} (old mid new : S) → Ran takes is_ready rest i old mid

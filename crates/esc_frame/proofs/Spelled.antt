@@ -1,5 +1,5 @@
 -- Texts that are given one character at a time.
-use Rattle.std.proofs.Common.{ℕ, ◌≡◌, ◌+◌, ◌≤◌, List, [], length, drop, map, refl, ap, sym, ◌∙◌, subst, arith}
+use Rattle.std.proofs.Common.{ℕ, ◌≡◌, ◌+◌, ◌≤◌, ◌⊎◌, List, [], length, drop, map, refl, ap, sym, ◌∙◌, subst, arith}
 use Rattle.std.proofs.Common.{length-drop}
 use Rattle.std.specs.List.{FoldsTo, list_all}
 use Rattle.std.specs.Str.{chars}
@@ -7,10 +7,10 @@ use Rattle.std.proofs.lemmas.List.{drop-drop}
 use Rattle.std.proofs.lemmas.Bool.{and_parts}
 use Rattle.std.proofs.lemmas.Str.{IsUtf8-past_char, chars_past_char}
 use Rattle.esc_values.specs.Clear.{is_clear}
-use Rattle.esc_frame.specs.Events.{Event, StopsAt}
+use Rattle.esc_frame.specs.Events.{Event, StopsAt, MayGet}
 use Rattle.esc_frame.specs.Events.Event.{Print}
 use Rattle.esc_frame.specs.Machine.Texts.{IsClearText, IsNext, HasTaken, HasSpelled}
-use Rattle.esc_frame.proofs.ClearRuns.{chars_next, chars_stop, chars_done}
+use Rattle.esc_frame.proofs.ClearRuns.{chars_next, chars_stop, chars_done, chars_may}
 
 -- what follows a character
 clear_past : (x : List ℕ) (c n : ℕ) → IsClearText x → IsNext x c n → IsClearText (drop n x)
@@ -25,12 +25,12 @@ drops x i n = drop-drop n i x
 
 module _ {S : Type 0} (takes refuses : S → Event → S → Type 0) (is_ready : S
     → Type 0) (text : List ℕ) where
-  pub none_spelled : (s : S) → IsClearText text → is_ready s → HasSpelled takes is_ready text 0 s s
-  none_spelled s t r = (omega arith, t, ([], refl, refl), r)
+  pub none_spelled : (s : S) → IsClearText text → HasSpelled takes is_ready text 0 s s
+  none_spelled s t = (omega arith, t, ([], refl, refl), λ r. r)
 
   pub next_spelled : (at c n : ℕ) (old mid new : S) → HasSpelled takes is_ready text at old mid
       → IsNext (drop at text) c n → takes mid (Print c) new
-      → is_ready new
+      → (is_ready mid → is_ready new)
       → HasSpelled takes is_ready text (at + n) old new
   next_spelled at c n old mid new h e g r = (
     omega (arith, h.0, e.1, length-drop at text),
@@ -38,7 +38,7 @@ module _ {S : Type 0} (takes refuses : S → Event → S → Type 0) (is_ready :
     subst (λ y. HasTaken takes text y old new) (drops text at n)
         (chars_next takes text (drop at text) (drop n (drop at text)) c old mid new h.1.0 e.0 h.2
         g),
-    r,
+    λ k. r (h.3 k),
   )
 
   pub stop_spelled : (at c n : ℕ) (old mid new : S) → HasSpelled takes is_ready text at old mid
@@ -47,6 +47,14 @@ module _ {S : Type 0} (takes refuses : S → Event → S → Type 0) (is_ready :
   stop_spelled at c n old mid new h e own g =
       chars_stop takes refuses text (drop at text) (drop n (drop at text)) c old mid new h.1.0 e.0
       h.2 own g
+
+  -- the character may be given to whom the text may be
+  pub may_spell : (may : S → Event → Type 0) (t : List ℕ) → text ≡ t → (at c n : ℕ) (old mid : S)
+      → HasSpelled takes is_ready text at old mid → IsNext (drop at text) c n
+      → MayGet is_ready may takes old (map Print (chars t)) → is_ready mid ⊎ may mid (Print c)
+  may_spell may t same at c n old mid h e m =
+      chars_may is_ready may takes text (drop at text) (drop n (drop at text)) c old mid h.1.0 e.0
+      h.2 h.3 (subst (λ y. MayGet is_ready may takes old (map Print (chars y))) (sym same) m)
 
   -- the same of the text that these bytes are
   pub stop_given : (t : List ℕ) → text ≡ t → (at c n : ℕ) (old mid new : S)

@@ -273,7 +273,7 @@ module _ (limit : Option ℕ) (u : Unfinished) (rest : List ℕ) (l : 2 < length
         (events_all limit u (take n (take (length rest - 2) (drop 2 rest)))) new
         × StaysFresh u (take (length rest - 2) (drop 2 rest)) n
         → IsStill limit u (take (length rest - 2) (drop 2 rest)) n → (0 < n)
-        × (n ≤ length (take (length rest - 2) (drop 2 rest))) × is_ready new
+        × (n ≤ length (take (length rest - 2) (drop 2 rest))) × (is_ready old → is_ready new)
         → TookSome {E = Unit {0}} keeps denied limit takes refuses is_ready (Ok (2 + n))
         rest machine old new
     opened_took keeps denied machine n t q a =

@@ -12,3 +12,4 @@ pub mod Shorts
 pub mod Texts
 pub mod Makes
 pub mod Keeping
+pub mod Allowed

@@ -1,6 +1,6 @@
 -- What a call of a parser promises. Here b are the bytes of the call, s is a stream that the parser
 -- may have been fed before, and `self` and `actor` are each the value before the call and after it.
-use Rattle.std.specs.Prelude.{ℕ, ◌≡◌, ◌<◌, ◌≤◌, List, [], ◌∷◌, ◌++◌, take, length, min, slice_index, Option, Result, Err, OnOk, OnErr, IfOk, IfErr}
+use Rattle.std.specs.Prelude.{ℕ, ◌≡◌, ◌<◌, ◌≤◌, ◌⊎◌, List, [], ◌∷◌, ◌++◌, take, length, min, slice_index, Option, Result, Err, OnOk, OnErr, IfOk, IfErr}
 use Rattle.std.specs.List.{FoldsTo}
 use Rattle.memory.specs.Refusals.{Refused}
 use Rattle.esc_frame.specs.declared.actor.VTActor.{Ghosts as Actor}
@@ -9,7 +9,7 @@ use Rattle.esc_frame.specs.declared.error.ParseError.TheVariants.{Memory, Failed
 use Rattle.esc_frame.specs.declared.parser.VTParser.{VTParser}
 use Rattle.esc_frame.specs.Changed.{Changed}
 use Rattle.esc_frame.specs.Counts.{kept_of_cut}
-use Rattle.esc_frame.specs.Events.{Event, StopsAt}
+use Rattle.esc_frame.specs.Events.{Event, Awaits, StopsAt}
 use Rattle.esc_frame.specs.Limits.{most}
 use Rattle.esc_frame.specs.Memory.{MayGrow}
 use Rattle.esc_frame.specs.Segments.{Segment, IsCut}
@@ -26,6 +26,12 @@ AfterGround p P = After p (λ limit s. IsAtGround s → P limit s)
 -- this holds of the first byte, where there is one
 abbrev pub FirstByte : List ℕ → (ℕ → Type 0) → Type 0
 FirstByte b P = 0 < length b → P (slice_index b 0)
+
+-- The actor may be given what b adds: it is ready for any event; or the parser has failed, and
+-- gives none; or the actor awaits what b adds to a stream that the parser may have been fed.
+abbrev pub MayGive : {A S : Type 0} → Actor S → VTParser A → List ℕ → S → Type 0
+MayGive V p b old = V.is_ready old ⊎ (HasFailed p ⊎ ((limit : Option ℕ) × (s : List ℕ)
+    × LeadsToWithin limit s p × Awaits V.may V.takes old (added_within limit s b)))
 
 -- b then counts as fed, and adds this event alone
 abbrev pub AddsOne : {A : Type 0} → Option ℕ → List ℕ → List ℕ → Event → VTParser A → Type 0
@@ -93,8 +99,8 @@ pub record Leaves {A S T : Type 0} (V : Actor S) (result : Result T ParseError)
   -- after it a call returns `Failed`, and leaves the actor as it was
   pub failed : HasFailed self.entry.now
       → (result ≡ Err Failed) × (actor.exit.now ≡ actor.entry.now)
-  -- after any other call the actor is ready for the next
-  pub ready : OnOk result (V.is_ready actor.exit.now)
+  -- after any other call the actor is ready for the next, where it was for this one
+  pub ready : V.is_ready actor.entry.now → OnOk result (V.is_ready actor.exit.now)
 
 -- the count of what is kept of the last segment, up to the greatest that a `usize` holds
 abbrev pub IsKeptOf : ℕ → Option ℕ → List ℕ → Type 0

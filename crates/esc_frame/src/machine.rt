@@ -8,15 +8,16 @@ mod ground;
 mod osc;
 mod strings;
 
-ghost use Rattle.std.specs.Prelude.{◌≡◌, ◌<◌, ℕ, Option, None, true, length, take, min, OnOk, IsTrue, ◌↔◌};
+ghost use Rattle.std.specs.Prelude.{◌≡◌, ◌⊎◌, ◌<◌, ℕ, Option, None, true, length, take, min, OnOk, IsTrue, ◌↔◌};
 ghost use Rattle.esc_frame.specs.Classes.{class_of};
-ghost use Rattle.esc_frame.specs.Events.{Takes};
+ghost use Rattle.esc_frame.specs.Events.{Awaits, Takes};
 ghost use Rattle.esc_frame.specs.Leads.{Unfinished, Holds, kept_open};
 ghost use Rattle.esc_frame.specs.Leads.Unfinished.{Ground};
 ghost use Rattle.esc_frame.specs.Limits.{most};
 ghost use Rattle.esc_frame.specs.Machine.Calls.{Quietly, Fails, is_between};
 ghost use Rattle.esc_frame.specs.Machine.Prefixes.{prefix_of};
 ghost use Rattle.esc_frame.specs.Machine.Keeping.{Holding};
+ghost use Rattle.esc_frame.specs.Machine.Allowed.{KeptSegment};
 ghost use Rattle.esc_frame.specs.Machine.Makes.{Emits, Makes, Consumes, Advances};
 ghost use Rattle.esc_frame.specs.Machine.Moves.{move, opened, may_grow_in, may_grow_within, after_all, events_all};
 ghost use Rattle.esc_frame.specs.Segments.{Opener};
@@ -161,11 +162,12 @@ impl<K: Store, A: Allocator> Machine<K, A> {
         class: Class,
         actor: &mut V,
     ) -> Result<()>
-        requires { V.is_ready actor.old }
+        requires { V.is_ready actor.old ⊎ KeptSegment K.Store limit self.old (λ u.
+            Awaits V.may V.takes actor.old (move limit u b class).1) }
         ensures moved { class ≡ class_of b → Holding K.Store limit self (λ u.
             Makes K.Store V.Taker limit (may_grow_in u) result
             (move limit u b class) self actor) }
-        ensures ready { OnOk result (V.is_ready actor.new) }
+        ensures ready { V.is_ready actor.old → OnOk result (V.is_ready actor.new) }
     {
         match self.state {
             State::Ground => match self.pending {
@@ -195,14 +197,15 @@ impl<K: Store, A: Allocator> Machine<K, A> {
         bytes: &[u8],
         actor: &mut V,
     ) -> Result<()>
-        requires { V.is_ready actor.old }
+        requires { V.is_ready actor.old ⊎ KeptSegment K.Store limit self.old (λ u.
+            Awaits V.may V.takes actor.old (events_all limit u bytes.now)) }
         ensures holds { Holding K.Store limit self (λ u.
             OnOk result (Holds K.keeps limit self.new (after_all u bytes.now))) }
         ensures emitted { Holding K.Store limit self (λ u.
             Emits V.Taker ((may_grow_within u bytes.now ≡ true)
             × Fails K.denied V.stops A limit) result
             (events_all limit u bytes.now) actor) }
-        ensures ready { OnOk result (V.is_ready actor.new) }
+        ensures ready { V.is_ready actor.old → OnOk result (V.is_ready actor.new) }
     {
         let mut at = 0;
         while at < bytes.len() {
@@ -224,7 +227,8 @@ impl<K: Store, A: Allocator> Machine<K, A> {
         actor: &mut V,
     ) -> Result<usize>
         requires some { 0 < length rest.now }
-        requires ready { V.is_ready actor.old }
+        requires ready { V.is_ready actor.old ⊎ KeptSegment K.Store limit self.old (λ u.
+            Awaits V.may V.takes actor.old (events_all limit u rest.now)) }
         ensures took { Holding K.Store limit self (λ u.
             Consumes K.Store V.Taker limit result u rest.now self actor) }
         ensures quiet { Holding K.Store limit self (λ u. Quietly limit result u rest.now) }
@@ -255,7 +259,8 @@ impl<K: Store, A: Allocator> Machine<K, A> {
     #[inline(always)]
     fn take<V: Taker>(&mut self, limit: Option<usize>, rest: &[u8], actor: &mut V) -> Result<usize>
         requires some { 0 < length rest.now }
-        requires ready { V.is_ready actor.old }
+        requires ready { V.is_ready actor.old ⊎ KeptSegment K.Store limit self.old (λ u.
+            Awaits V.may V.takes actor.old (events_all limit u rest.now)) }
         ensures took { Holding K.Store limit self (λ u.
             Consumes K.Store V.Taker limit result u rest.now self actor) }
         ensures count { Advances V.Taker result rest.now actor }
@@ -281,7 +286,8 @@ impl<K: Store, A: Allocator> Machine<K, A> {
         actor: &mut V,
     ) -> Result<usize>
         requires some { 0 < length rest.now }
-        requires ready { V.is_ready actor.old }
+        requires ready { V.is_ready actor.old ⊎ KeptSegment K.Store limit self.old (λ u.
+            Awaits V.may V.takes actor.old (events_all limit u rest.now)) }
         requires between { is_between self.old.state (prefix_of self.old.pending) ≡ true }
         ensures took { Holding K.Store limit self (λ u.
             Consumes K.Store V.Taker limit result u rest.now self actor) }

@@ -4,7 +4,7 @@
 ghost use Rattle.std.specs.Prelude.{◌≡◌, ◌≢◌, ◌<◌, ◌≤◌, ◌∷◌, [], length, take, IsTrue, ◌↔◌, IfSome, IsSome, None, Some, false};
 ghost use Rattle.esc_frame.specs.Limits.{most};
 ghost use Rattle.esc_frame.specs.Events.Event.{Execute, Print};
-ghost use Rattle.esc_frame.specs.Parses.{After, AfterGround, FirstByte, AddsOne, Parses, ParsesSome, IsRefused, IsRefusedByActor, TakesSome, Leaves, IsKeptOf};
+ghost use Rattle.esc_frame.specs.Parses.{MayGive, After, AfterGround, FirstByte, AddsOne, Parses, ParsesSome, IsRefused, IsRefusedByActor, TakesSome, Leaves, IsKeptOf};
 ghost use Rattle.esc_frame.specs.Memory.{AreBorrowed};
 ghost use Rattle.esc_frame.specs.Stream.{LeadsTo, LeadsToWithin, HasFailed, IsAtGround, IsQuietWithin};
 
@@ -166,7 +166,7 @@ impl<A: Allocator> VTParser<A> {
     /// later call returns `Failed` and gives nothing.
     #[tactic(auto, unfolding(crate::specs::Stream::LeadsToWithin, crate::specs::Stream::HasFailed))]
     pub fn parse_byte<V: VTActor>(&mut self, byte: u8, actor: &mut V) -> Result<(), ParseError>
-        requires { V.is_ready actor.old }
+        requires { MayGive V.VTActor self.old (byte ∷ []) actor.old }
         ensures given { After self.old (Parses V.VTActor result (byte ∷ []) self actor) }
         ensures refused { After self.old (IsRefused A V.VTActor result (byte ∷ []) actor) }
         ensures after { Leaves V.VTActor result self actor }
@@ -199,7 +199,7 @@ impl<A: Allocator> VTParser<A> {
     /// of a call that the actor refused.
     #[tactic(auto, unfolding(crate::specs::Stream::LeadsToWithin, crate::specs::Stream::HasFailed))]
     pub fn parse<V: VTActor>(&mut self, bytes: &[u8], actor: &mut V) -> Result<(), ParseError>
-        requires { V.is_ready actor.old }
+        requires { MayGive V.VTActor self.old bytes.now actor.old }
         ensures given { After self.old (Parses V.VTActor result bytes.now self actor) }
         ensures refused { After self.old (IsRefused A V.VTActor result bytes.now actor) }
         ensures borrowed { AfterGround self.old (λ limit s. AreBorrowed bytes.now
@@ -232,7 +232,7 @@ impl<A: Allocator> VTParser<A> {
         bytes: &[u8],
         actor: &mut V,
     ) -> Result<usize, ParseError>
-        requires { V.is_ready actor.old }
+        requires { MayGive V.VTActor self.old bytes.now actor.old }
         ensures count { TakesSome result bytes.now actor }
         ensures given { After self.old (ParsesSome V.VTActor result bytes.now self actor) }
         ensures refused { After self.old (IsRefused A V.VTActor result bytes.now actor) }

@@ -1,12 +1,12 @@
 //! What a machine gives its events.
 #![tactic(auto)]
 
-ghost use Rattle.std.specs.Prelude.{◌≡◌, ◌<◌, [], ◌∷◌, ℕ, List, length, map, pos, OnOk, true};
+ghost use Rattle.std.specs.Prelude.{◌≡◌, ◌<◌, ◌⊎◌, [], ◌∷◌, ℕ, List, length, map, pos, OnOk, true};
 ghost use Rattle.std.specs.List.{list_all};
 ghost use Rattle.std.specs.Str.{chars};
 ghost use Rattle.esc_values.specs.Clear.{is_clear, parts_of};
-ghost use Rattle.esc_frame.specs.Bodies.{held, value_after};
-ghost use Rattle.esc_frame.specs.Events.{Event, Receives, Takes};
+ghost use Rattle.esc_frame.specs.Bodies.{hook_by};
+ghost use Rattle.esc_frame.specs.Events.{Event, MayGet, Receives, Takes};
 ghost use Rattle.esc_frame.specs.Limits.{has_few_parts};
 ghost use Rattle.esc_frame.specs.Scans.{is_text_byte, is_data_byte};
 ghost use Rattle.memory.specs.Refusals.{Refused};
@@ -27,8 +27,11 @@ pub trait Taker {
     // what a refused call may leave
     ghost refuses: { Self → Event → Self → Type 0 };
 
-    // the next call may be made
+    // any call may be made, and after each one any other
     ghost is_ready: { Self → Type 0 };
+
+    // the next call may be that of this event
+    ghost may: { Self → Event → Type 0 };
 
     // why a call that was given this text and an allocator may stop by itself; the first says that
     // the allocator refused a request
@@ -36,18 +39,18 @@ pub trait Taker {
 
     /// A character.
     fn print(&mut self, c: char) -> Result<(), AllocError>
-        requires { is_ready self.old }
+        requires { is_ready self.old ⊎ may self.old (Print c) }
         ensures receives { Receives takes refuses result self.old (Print c) self.new }
-        ensures ready { OnOk result (is_ready self.new) };
+        ensures ready { is_ready self.old → OnOk result (is_ready self.new) };
 
     /// A run of characters 20 to 7F, one byte each, never empty.
     #[inline(always)]
     fn print_text(&mut self, text: &[u8]) -> Result<(), AllocError>
-        requires ready { is_ready self.old }
+        requires ready { MayGet is_ready may takes self.old (map Print text.now) }
         requires some { 0 < length text.now }
         requires text { list_all is_text_byte text.now ≡ true }
         ensures emitted { Takes ⊥ takes refuses result self.old (map Print text.now) self.new }
-        ensures ready { OnOk result (is_ready self.new) }
+        ensures ready { is_ready self.old → OnOk result (is_ready self.new) }
     {
         for b in text {
             match self.print(*b as char) {
@@ -61,12 +64,12 @@ pub trait Taker {
     /// A run of characters as UTF-8, never empty: none is a control.
     #[inline(always)]
     fn print_str(&mut self, text: &str) -> Result<(), AllocError>
-        requires ready { is_ready self.old }
+        requires ready { MayGet is_ready may takes self.old (map Print (chars text.now)) }
         requires some { 0 < length text.now }
         requires clear { list_all is_clear (chars text.now) ≡ true }
         ensures emitted { Takes ⊥ takes refuses result self.old
             (map Print (chars text.now)) self.new }
-        ensures ready { OnOk result (is_ready self.new) }
+        ensures ready { is_ready self.old → OnOk result (is_ready self.new) }
     {
         let bytes = text.as_bytes();
         let mut at = 0;
@@ -82,9 +85,9 @@ pub trait Taker {
 
     /// A control of C0 or C1.
     fn execute_c0_or_c1(&mut self, control: u8) -> Result<(), AllocError>
-        requires { is_ready self.old }
+        requires { is_ready self.old ⊎ may self.old (Execute control) }
         ensures receives { Receives takes refuses result self.old (Execute control) self.new }
-        ensures ready { OnOk result (is_ready self.new) };
+        ensures ready { is_ready self.old → OnOk result (is_ready self.new) };
 
     /// A device control string begins, with its parameter bytes as they came.
     fn dcs_header<A: Allocator + Copy>(
@@ -95,26 +98,27 @@ pub trait Taker {
         intermediates: &[u8],
         ignored_extra_intermediates: bool,
     ) -> Result<(), AllocError>
-        requires { is_ready self.old }
+        requires { is_ready self.old ⊎ may self.old
+            (hook_by byte parameters.now intermediates.now ignored_extra_intermediates) }
         ensures emitted { Takes (stops (Refused A) parameters.now) takes refuses result self.old
-            (DcsHook byte (map (λ p. pos (held (value_after 0 p))) (parts_of parameters.now))
-            intermediates.now ignored_extra_intermediates ∷ []) self.new }
-        ensures ready { OnOk result (is_ready self.new) };
+            (hook_by byte parameters.now intermediates.now ignored_extra_intermediates ∷ [])
+            self.new }
+        ensures ready { is_ready self.old → OnOk result (is_ready self.new) };
 
     /// A byte of its data.
     fn dcs_put(&mut self, byte: u8) -> Result<(), AllocError>
-        requires { is_ready self.old }
+        requires { is_ready self.old ⊎ may self.old (DcsPut byte) }
         ensures receives { Receives takes refuses result self.old (DcsPut byte) self.new }
-        ensures ready { OnOk result (is_ready self.new) };
+        ensures ready { is_ready self.old → OnOk result (is_ready self.new) };
 
     /// A run of its data, bytes 20 to 7E, never empty.
     #[inline(always)]
     fn dcs_put_text(&mut self, bytes: &[u8]) -> Result<(), AllocError>
-        requires ready { is_ready self.old }
+        requires ready { MayGet is_ready may takes self.old (map DcsPut bytes.now) }
         requires some { 0 < length bytes.now }
         requires bytes { list_all is_data_byte bytes.now ≡ true }
         ensures emitted { Takes ⊥ takes refuses result self.old (map DcsPut bytes.now) self.new }
-        ensures ready { OnOk result (is_ready self.new) }
+        ensures ready { is_ready self.old → OnOk result (is_ready self.new) }
     {
         for b in bytes {
             match self.dcs_put(*b) {
@@ -127,9 +131,9 @@ pub trait Taker {
 
     /// It ends.
     fn dcs_unhook(&mut self) -> Result<(), AllocError>
-        requires { is_ready self.old }
+        requires { is_ready self.old ⊎ may self.old (DcsUnhook) }
         ensures receives { Receives takes refuses result self.old DcsUnhook self.new }
-        ensures ready { OnOk result (is_ready self.new) };
+        ensures ready { is_ready self.old → OnOk result (is_ready self.new) };
 
     /// An escape sequence.
     fn esc_dispatch(
@@ -139,11 +143,12 @@ pub trait Taker {
         ignored_extra_intermediates: bool,
         byte: u8,
     ) -> Result<(), AllocError>
-        requires ready { is_ready self.old }
+        requires ready { is_ready self.old ⊎ may self.old
+            (EscDispatch intermediates.now ignored_extra_intermediates byte) }
         requires no_params { params.now ≡ [] }
         ensures receives { Receives takes refuses result self.old
             (EscDispatch intermediates.now ignored_extra_intermediates byte) self.new }
-        ensures ready { OnOk result (is_ready self.new) };
+        ensures ready { is_ready self.old → OnOk result (is_ready self.new) };
 
     /// A control sequence.
     fn csi_dispatch(
@@ -152,26 +157,27 @@ pub trait Taker {
         parameters_truncated: bool,
         byte: u8,
     ) -> Result<(), AllocError>
-        requires { is_ready self.old }
+        requires { is_ready self.old ⊎ may self.old
+            (CsiDispatch params.now parameters_truncated byte) }
         ensures receives { Receives takes refuses result self.old
             (CsiDispatch params.now parameters_truncated byte) self.new }
-        ensures ready { OnOk result (is_ready self.new) };
+        ensures ready { is_ready self.old → OnOk result (is_ready self.new) };
 
     /// The text of an operating system command, whole.
     fn osc_text<A: Allocator>(&mut self, alloc: A, text: &[u8]) -> Result<(), AllocError>
-        requires { is_ready self.old }
+        requires { is_ready self.old ⊎ may self.old (OscDispatch (parts_of text.now)) }
         ensures emitted { Takes (stops (Refused A) text.now) takes refuses result self.old
             (OscDispatch (parts_of text.now) ∷ []) self.new }
         ensures few { has_few_parts text.now ≡ true
             → Takes ⊥ takes refuses result self.old
             (OscDispatch (parts_of text.now) ∷ []) self.new }
-        ensures ready { OnOk result (is_ready self.new) };
+        ensures ready { is_ready self.old → OnOk result (is_ready self.new) };
 
     /// The text of an application program command.
     fn apc_dispatch(&mut self, text: &[u8]) -> Result<(), AllocError>
-        requires { is_ready self.old }
+        requires { is_ready self.old ⊎ may self.old (ApcDispatch text.now) }
         ensures receives { Receives takes refuses result self.old (ApcDispatch text.now) self.new }
-        ensures ready { OnOk result (is_ready self.new) };
+        ensures ready { is_ready self.old → OnOk result (is_ready self.new) };
 }
 
 impl<V: VTActor> Taker for V {
@@ -180,6 +186,8 @@ impl<V: VTActor> Taker for V {
     ghost refuses = { V.refuses };
 
     ghost is_ready = { V.is_ready };
+
+    ghost may = { V.may };
 
     ghost stops = { λ refused _. refused };
 

@@ -82,7 +82,8 @@ module _ (p : EscParser) (memory : List ℕ) where
   -- a string whose text is kept in no byte is empty
   no_text : (t : List ℕ) → TextIn p memory t → p.text ≡ 0 → p.is_over ≡ false → is_empty t ≡ true
   no_text [] h z o = refl
-  no_text (b ∷ t) h z o = let k : p.text ≡ suc (length t) = (h.1 o).0 in absurd (omega (arith, k, z))
+  no_text (b ∷ t) h z o = let k : p.text ≡ suc (length t) = (h.1 o).0 in
+      absurd (omega (arith, k, z))
 
   nothing_begun : (f : List ℕ) → begun_in p ≡ f → is_empty f ≡ false → p.pending ≡ 0 → ⊥
   nothing_begun f h some z =

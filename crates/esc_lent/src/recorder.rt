@@ -177,6 +177,8 @@ impl<'b, 'c, N: Named> Taker for Recorder<'b, 'c, N> {
 
     ghost is_ready = { λ _. Unit {0} };
 
+    ghost may = { λ _ _. Unit {0} };
+
     // It stops by itself where there is no place for the text.
     ghost stops = { λ _ t. N.place < length t };
 

@@ -138,6 +138,8 @@ impl<A: Allocator> Spell<A> {
 impl<A: Allocator> Sink<Action<A>> for Spell<A> {
     ghost is_ready = { λ _. Unit {0} };
 
+    ghost may = { λ _ _. Unit {0} };
+
     ghost takes = { λ p a q. (q.text ≡ p.text ++ text_after p.follows_string (value_of a))
         × (q.follows_string ≡ is_string (value_of a)) };
 

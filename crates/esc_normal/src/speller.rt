@@ -52,6 +52,8 @@ impl<A: Allocator + Copy> VTActor for Speller<A> {
 
     ghost is_ready = { λ _. Unit {0} };
 
+    ghost may = { λ _ _. Unit {0} };
+
     #[inline]
     fn print(&mut self, c: char) -> Result<(), AllocError> {
         self.performer.print(c)

@@ -7,7 +7,7 @@ use Rattle.std.specs.List.{FoldsTo}
 use Rattle.esc_device.specs.Leads.{Pushes as PushesShort}
 use Rattle.esc_device.specs.declared.builder.ShortBuilder.{ShortBuilder}
 use Rattle.esc_frame.proofs.Given.{stops_then}
-use Rattle.esc_frame.specs.Events.{StopsAt as StopsAtEvent}
+use Rattle.esc_frame.specs.Events.{Awaits, StopsAt as StopsAtEvent}
 use Rattle.esc_frame.specs.Events.Event.{DcsPut}
 use Rattle.esc_frame.specs.Limits.{is_within, most}
 use Rattle.esc_frame.specs.declared.unfinished.count.Count.{Count}
@@ -19,9 +19,9 @@ use Rattle.esc_actions.specs.declared.action.Action.{Action}
 use Rattle.std.specs.declared.boxed.Box.{Box}
 use Rattle.std.specs.Box.{with_value}
 use Rattle.esc_parse.proofs.DataLimits.{entered_put, over_stays, quiet_put, zero_within}
-use Rattle.esc_parse.proofs.TextRuns.{Refuses, Takes}
+use Rattle.esc_parse.proofs.TextRuns.{May, Refuses, Takes}
 use Rattle.esc_parse.specs.Fed.{CountsData, HasRoom, Hooks, Keeps, TakesData, is_mode}
-use Rattle.esc_parse.specs.Given.{At, StopsAt}
+use Rattle.esc_parse.specs.Given.{AnyAt, At, StopsAt}
 use Rattle.esc_parse.specs.Sixels.{Pushes as PushesSixel}
 use Rattle.esc_parse.specs.declared.hooked.Hooked.{Hooked}
 use Rattle.esc_parse.specs.declared.hooked.Hooked.TheVariants as hooked
@@ -320,6 +320,15 @@ module _ {S A : Type 0} (R Q : S → Action A → S → Type 0) where
   given_run [] p s k e = ap (sunk p) e
   given_run (b ∷ bs) p s k (j, r, rest) =
       (sunk p j, one_given p j b k r, given_run bs (sunk p j) s k rest)
+
+  pub data_awaits : (may : S → Action A → Type 0) (bs : List ℕ) (p : Performer S A)
+      → is_mode p.unfinished.hooked ≡ true → Awaits (May R Q may) (Takes R Q) p (map DcsPut bs)
+      → Awaits (AnyAt value_of may) (At value_of R) p.sink (map datum bs)
+  data_awaits may [] p k m = tt
+  data_awaits may (b ∷ bs) p k ((limit, m, h, a), rest) =
+      let here : Awaits (AnyAt value_of may) (At value_of R) p.sink (datum b ∷ []) =
+      subst (Awaits (AnyAt value_of may) (At value_of R) p.sink) (gives_byte limit p m b k h).0 a in
+      (here.0, λ s r. data_awaits may bs (sunk p s) k (rest (sunk p s) (one_given p s b k r)))
 
   pub given_stopped : (own : Type 0) (bs : List ℕ) (p : Performer S A) (s : S)
       → is_mode p.unfinished.hooked ≡ true

@@ -4,7 +4,8 @@ use Rattle.std.proofs.Common.{subst, inl, inr, Result, Ok, Err, OnOk, OnErr, IfO
 use Rattle.std.specs.List.{FoldsTo, flat_map}
 use Rattle.std.proofs.lemmas.Grind.{flat_map-append}
 use Rattle.std.proofs.lemmas.List.{append-nil, take_more}
-use Rattle.esc_parse.specs.Given.{At, By, StopsAt, GetsPrefix}
+use Rattle.esc_frame.specs.Events.{Awaits}
+use Rattle.esc_parse.specs.Given.{AnyAt, AnyBy, At, By, StopsAt, GetsPrefix}
 
 -- one piece more
 pub pieces_more : {P : Type 0} (f : P → List ℕ) (ps : List P) (i : ℕ) (d : P) → i < length ps
@@ -95,10 +96,23 @@ module _ {C P T V : Type 0} (f : C → P) (g : T → V) (R : P → T → P → T
       (λ p v q w. w.2) c vs d h in
       let r = s.1 in (s.0, (r.0, r.1, f r.2, r.3, moved c r.0 r.2 r.4))
 
+-- who may be given values as they are seen, may be given them through f
+module _ {C P T V : Type 0} (f : C → P) (g : T → V) (may : P → T → Type 0)
+    (R : P → T → P → Type 0) where
+  pub awaits_moved : (c : C) (vs : List V) → Awaits (AnyAt g may) (At g R) (f c) vs
+      → Awaits (AnyAt g (λ p a. may (f p) a)) (At g (λ p a q. R (f p) a (f q))) c vs
+  awaits_moved c [] m = tt
+  awaits_moved c (v ∷ vs) m = (m.0, λ d t. awaits_moved d vs (m.1 (f d) t))
+
 -- what was given by what it is, was given as it is seen
 module _ {P T V W : Type 0} (g : T → W) (f : V → W) (R Q : P → T → P → Type 0) where
   abbrev SeenSo : T → V → Type 0
   SeenSo t v = g t ≡ f v
+
+  pub awaits_seen : (may : P → T → Type 0) (p : P) (vs : List V)
+      → Awaits (AnyAt g may) (At g R) p (map f vs) → Awaits (AnyBy SeenSo may) (By SeenSo R) p vs
+  awaits_seen may p [] m = tt
+  awaits_seen may p (v ∷ vs) m = (m.0, λ q t. awaits_seen may q vs (m.1 q t))
 
   pub folds_seen : (p : P) (vs : List V) (q : P) → FoldsTo (By SeenSo R) p vs q
       → FoldsTo (At g R) p (map f vs) q

@@ -1,17 +1,18 @@
 -- A run of text: as events, and as actions.
 use Rattle.std.proofs.Common.{◌≡◌, ◌<◌, ◌+◌, ℕ, true, List, [], ◌∷◌, ◌++◌, length, map, take, drop, get_or, refl, ap, sym, subst, ◌∙◌, append_assoc}
-use Rattle.std.proofs.Common.{take-append-drop, arith, inl, inr, Option}
+use Rattle.std.proofs.Common.{take-append-drop, arith, inl, inr, ◌⊎◌, Option}
 use Rattle.std.proofs.lemmas.List.{append-nil, take_more, map-append}
 use Rattle.std.proofs.lemmas.Str.{encodes-chars, chars-nil, chars_past_char}
 use Rattle.std.specs.List.{FoldsTo}
 use Rattle.std.specs.Char.{encode_utf8}
 use Rattle.std.specs.Str.{IsUtf8, chars, encode_utf8_all}
-use Rattle.esc_frame.specs.Events.{Event, StopsAt as StopsAtEvent}
+use Rattle.esc_frame.specs.Events.{Awaits, Event, MayGet, StopsAt as StopsAtEvent}
 use Rattle.esc_frame.specs.Events.Event.{Print}
 use Rattle.esc_frame.proofs.Given.{stops_then}
+use Rattle.esc_frame.proofs.May.{get_first, get_rest}
 use Rattle.esc_parse.proofs.Lists.{FoldsTo-append, StopsAt-append, StopsAt-longer}
 use Rattle.esc_parse.specs.Fed.{Hooks}
-use Rattle.esc_parse.specs.Given.{At, StopsAt}
+use Rattle.esc_parse.specs.Given.{AnyAt, At, StopsAt}
 use Rattle.esc_actions.specs.Values.{Mode, after, given, value_of, wants_memory}
 use Rattle.esc_actions.specs.declared.action.Action.{Action}
 use Rattle.esc_actions.specs.declared.action.Action.TheVariants as action
@@ -70,6 +71,19 @@ module _ {S V : Type 0} (print : ℕ → V) (R Q : S → V → S → Type 0) (te
       (StopsAt-append R Q ⊥ p (map print so.0) j (print c ∷ map print (chars later)) q so.2
       (inr (inl h)))
 
+-- who may be given the text's characters may be given the next
+pub char_may : {S V : Type 0} (is_ready : S → Type 0) (may : S → V → Type 0) (print : ℕ → V)
+    (R : S → V → S → Type 0) (text rest later : List ℕ) (c : ℕ) (p j : S) → IsUtf8 rest
+    → rest ≡ encode_utf8 c ++ later → HasTaken print R text rest p j → (is_ready p → is_ready j)
+    → MayGet is_ready may R p (map print (chars text)) → is_ready j ⊎ may j (print c)
+char_may is_ready may print R text rest later c p j u e (cs, is, so) k m =
+    let all : map print cs ++ (print c ∷ map print (chars later)) ≡ map print (chars text) =
+    sym (map-append print cs (c ∷ chars later))
+    ∙ ap (λ x. map print (cs ++ x)) (sym (chars_past_char rest later c u e))
+    ∙ ap (map print) (sym is) in
+    get_first is_ready may R j j (print c) (map print (chars later))
+    (get_rest is_ready may R p j (map print cs) _ (map print (chars text)) all k so m)
+
 pub chars_taken : {S V : Type 0} (print : ℕ → V) (R : S → V → S → Type 0) (text rest : List ℕ)
     (p q : S) → length rest ≡ 0
     → HasTaken print R text rest p q → FoldsTo R p (map print (chars text)) q
@@ -90,6 +104,10 @@ module _ {S A : Type 0} (R Q : S → Action A → S → Type 0) where
       → StopsAt ((wants_memory e ≡ true) × Refused A) (At value_of R) (At value_of Q) p.sink
       (given limit m e) q.sink
 
+  abbrev pub May : (S → Action A → Type 0) → Performer S A → Event → Type 0
+  May may p e = (limit : Option ℕ) × (m : Mode) × Hooks limit p.unfinished m
+      × Awaits (AnyAt value_of may) (At value_of R) p.sink (given limit m e)
+
   abbrev with_sink : Performer S A → S → Performer S A
   with_sink p s = record p { sink = s }
 
@@ -103,6 +121,16 @@ module _ {S A : Type 0} (R Q : S → Action A → S → Type 0) where
   run_taken [] p s e = ap (with_sink p) e
   run_taken (x ∷ xs) p s (j, t, h) =
       (record p { sink = j }, one_taken p j x t, run_taken xs (record p { sink = j }) s h)
+
+  pub run_awaits : (may : S → Action A → Type 0) (xs : List ℕ) (p : Performer S A)
+      → Awaits (May may) Takes p (map Print xs) → Awaits may R p.sink (map action.Print xs)
+  run_awaits may [] p m = tt
+  run_awaits may (x ∷ xs) p ((limit, m, k, (here, more)), rest) = (
+    here (action.Print x) refl,
+    λ s t.
+        run_awaits may xs (record p { sink = s }) (rest (record p { sink = s })
+        (one_taken p s x t)),
+  )
 
   pub run_stopped : (own : Type 0) (xs : List ℕ) (p : Performer S A) (s : S)
       → StopsAt ⊥ R Q p.sink (map action.Print xs) s

@@ -2,11 +2,12 @@
 use Rattle.std.proofs.Common.{◌≡◌, ℕ, Bool, true, List, [], ◌∷◌, ◌++◌, map, refl, ap, sym, ◌∙◌, subst, append_assoc, inl, inr, Option}
 use Rattle.std.proofs.lemmas.List.{append-nil, map-append}
 use Rattle.std.specs.List.{FoldsTo}
-use Rattle.esc_frame.specs.Events.{Event, StopsAt as StopsAtEvent}
+use Rattle.esc_frame.specs.Events.{Awaits, Event, StopsAt as StopsAtEvent}
 use Rattle.esc_frame.specs.Memory.{MayGrow, MayTake, may_grow, may_take}
 use Rattle.esc_frame.specs.Segments.{Segment, events_of_within}
 use Rattle.esc_frame.specs.Stream.{events_within, added_within}
 use Rattle.esc_frame.proofs.Given.{stops_for}
+use Rattle.esc_frame.proofs.May.{take_prefix, take_rest}
 use Rattle.esc_frame.proofs.Memory.{grows_takes}
 use Rattle.esc_frame.proofs.Streams.{events_more}
 use Rattle.esc_actions.proofs.Meanings.{mode_more, values_append, yield_is}
@@ -49,6 +50,23 @@ module _ {S A : Type 0} (R Q : S → Value A → S → Type 0) where
         FoldsTo-append R p.sink (given limit m e) j.sink
             (values_from limit (after m e) es) q.sink one.1 rest.1,
       )
+
+  abbrev May : (S → Value A → Type 0) → Performer S A → Event → Type 0
+  May may p e = (limit : Option ℕ) × (m : Mode) × Hooks limit p.unfinished m
+      × Awaits may R p.sink (given limit m e)
+
+  -- whose sink awaits the values may be given the events
+  pub may_perform : (may : S → Value A → Type 0) (limit : Option ℕ) (es : List Event)
+      (p : Performer S A) (m : Mode) → Hooks limit p.unfinished m
+      → Awaits may R p.sink (values_from limit m es) → Awaits (May may) Takes p es
+  may_perform may limit [] p m k a = tt
+  may_perform may limit (e ∷ es) p m k a = (
+    (limit, m, k, take_prefix may R p.sink (given limit m e) (values_from limit (after m e) es) a),
+    λ q t. let one = t limit m k in
+        may_perform may limit es q (after m e) one.0
+        (take_rest may R p.sink (given limit m e) (values_from limit
+        (after m e) es) q.sink one.1 a),
+  )
 
   pub performs_prefix : (limit : Option ℕ) (own : Type 0) (es : List Event) (p : Performer S A)
       (m : Mode) (q : Performer S A)
@@ -133,6 +151,16 @@ module _ {S A : Type 0} (R Q : S → Value A → S → Type 0) where
         subst (λ m. Hooks limit q.unfinished m) (mode_more limit s b) w.0,
         subst (λ vs. FoldsTo R p.sink vs q.sink) (sym (yield_is limit s b)) w.1,
       )
+
+  pub may_feed : (may : S → Value A → Type 0) (limit : Option ℕ) (s b : List ℕ)
+      (p : Performer S A)
+      → Hooks limit p.unfinished (mode_from plain (events_within limit s))
+      → Awaits may R p.sink (yield_within limit s b)
+      → Awaits (May R Q may) (Takes R Q) p (added_within limit s b)
+  may_feed may limit s b p k a =
+      may_perform R Q may limit (added_within limit s b) p
+      (mode_from plain (events_within limit s)) k
+      (subst (Awaits may R p.sink) (yield_is limit s b) a)
 
   pub performs_some : (limit : Option ℕ) (s b : List ℕ) (p q : Performer S A)
       → StopsAtEvent (MayGrow (s ++ b) × Refused A) (Takes R Q) (Refuses R Q) p

@@ -1,5 +1,6 @@
 -- What a call of a parser promises, in the words that its clauses share.
-use Rattle.std.specs.Prelude.{ℕ, ◌≡◌, ◌<◌, ◌≤◌, List, [], ◌++◌, length, take, Option, Result, Err, IfErr, IfNone, IfOk, IfSome}
+use Rattle.std.specs.Prelude.{ℕ, ◌≡◌, ◌<◌, ◌≤◌, ◌⊎◌, List, [], ◌++◌, length, take, Option, Result, Err, IfErr, IfNone, IfOk, IfSome}
+use Rattle.esc_frame.specs.Events.{Awaits}
 use Rattle.esc_frame.specs.Memory.{MayTake}
 use Rattle.esc_frame.specs.declared.error.ParseError.{ParseError}
 use Rattle.esc_frame.specs.declared.error.ParseError.TheVariants.{Failed, Memory}
@@ -9,13 +10,22 @@ use Rattle.esc_actions.specs.Writable.{IsHandedOut}
 use Rattle.esc_actions.specs.declared.action.Action.{Action}
 use Rattle.esc_parse.specs.Fed.{IsBroken, WasFedWithin}
 use Rattle.esc_parse.specs.Firsts.{IsFirst}
-use Rattle.esc_parse.specs.Given.{At, StopsAt}
+use Rattle.esc_parse.specs.Given.{AnyAt, At, StopsAt}
 use Rattle.esc_parse.specs.declared.parser.Parser.{Parser}
 use Rattle.memory.specs.Refusals.{Refused}
 
 -- this holds of each stream that the parser may have been fed, under its limit
 abbrev pub After : {A : Type 0} → Parser A → (Option ℕ → List ℕ → Type 0) → Type 0
 After p P = (limit : Option ℕ) (s : List ℕ) → WasFedWithin limit s p → P limit s
+
+-- A receiver need not be ready for every action: the parser has failed, and gives none; or the
+-- receiver awaits what b adds to a stream that the parser may have been fed.
+abbrev pub MayParse : {A P : Type 0} → (P → Action A → Type 0) → (P → Action A → P → Type 0)
+    → Parser A → P → List ℕ
+    → Type 0
+MayParse may takes p old b =
+    IsBroken p ⊎ ((limit : Option ℕ) × (s : List ℕ) × WasFedWithin limit s p
+    × Awaits (AnyAt value_of may) (At value_of takes) old (yield_within limit s b))
 
 -- this holds of each stream with the bytes b after it, all of which the parser may have been fed,
 -- where these bytes yield vs

@@ -1,9 +1,10 @@
 //! From events to actions.
-ghost use Rattle.std.specs.Prelude.{◌≡◌, ℕ, [], ◌∷◌, true, IfOk, OnErr, OnOk, Option, map};
+ghost use Rattle.std.specs.Prelude.{◌≡◌, ◌⊎◌, ℕ, [], ◌∷◌, true, IfOk, OnErr, OnOk, Option, map};
 ghost use Rattle.std.specs.List.{FoldsTo};
 ghost use Rattle.esc_values.specs.Clear.{parts_of};
 ghost use Rattle.esc_sequences.specs.Csis.{csi_of, csi_value};
-ghost use Rattle.esc_parse.specs.Given.{At, Gives, StopsAt};
+ghost use Rattle.esc_frame.specs.Events.{Awaits};
+ghost use Rattle.esc_parse.specs.Given.{AnyAt, At, Gives, MayReceive, StopsAt};
 ghost use Rattle.esc_actions.specs.Values.{Mode, after, csi, datum, given, lone, osc, value_of, wants_memory};
 ghost use Rattle.esc_osc.specs.Reading.{meaning as command_meant};
 ghost use Rattle.esc_osc.specs.declared.command.OperatingSystemCommand.{OperatingSystemCommand};
@@ -47,8 +48,9 @@ fn give_all<A: Allocator, S: Sink<Action<A>>>(
     sink: &mut S,
     values: Vec<CSI<A>, A>,
 ) -> Result<(), AllocError>
-    requires { S.is_ready sink.old }
-    ensures ready { OnOk result (S.is_ready sink.new) }
+    requires { MayReceive S.is_ready S.may S.takes sink.old
+        (map csi (map csi_value values.items)) }
+    ensures ready { S.is_ready sink.old → OnOk result (S.is_ready sink.new) }
     ensures given { Gives (Refused A) S.takes S.refuses result sink.old
         (map csi (map csi_value values.items)) sink.new }
 {
@@ -68,8 +70,9 @@ fn give_sequence<A: Allocator + Copy, S: Sink<Action<A>>>(
     parameters_truncated: bool,
     byte: u8,
 ) -> Result<(), AllocError>
-    requires { S.is_ready sink.old }
-    ensures ready { OnOk result (S.is_ready sink.new) }
+    requires { MayReceive S.is_ready S.may S.takes sink.old
+        (map csi (csi_of params.now parameters_truncated byte)) }
+    ensures ready { S.is_ready sink.old → OnOk result (S.is_ready sink.new) }
     ensures given { Gives (Refused A) S.takes S.refuses result sink.old
         (map csi (csi_of params.now parameters_truncated byte)) sink.new }
 {
@@ -89,8 +92,9 @@ fn give_several<A: Allocator + Copy, S: Sink<Action<A>>>(
     parameters_truncated: bool,
     byte: u8,
 ) -> Result<(), AllocError>
-    requires { S.is_ready sink.old }
-    ensures ready { OnOk result (S.is_ready sink.new) }
+    requires { MayReceive S.is_ready S.may S.takes sink.old
+        (map csi (csi_of params.now parameters_truncated byte)) }
+    ensures ready { S.is_ready sink.old → OnOk result (S.is_ready sink.new) }
     ensures given { Gives (Refused A) S.takes S.refuses result sink.old
         (map csi (csi_of params.now parameters_truncated byte)) sink.new }
 {
@@ -109,8 +113,9 @@ fn give_made<A: Allocator + Copy, S: Sink<Action<A>>>(
     parameters_truncated: bool,
     byte: u8,
 ) -> Result<(), AllocError>
-    requires { S.is_ready sink.old }
-    ensures ready { OnOk result (S.is_ready sink.new) }
+    requires { MayReceive S.is_ready S.may S.takes sink.old
+        (map csi (csi_of params.now parameters_truncated byte)) }
+    ensures ready { S.is_ready sink.old → OnOk result (S.is_ready sink.new) }
     ensures given { Gives (Refused A) S.takes S.refuses result sink.old
         (map csi (csi_of params.now parameters_truncated byte)) sink.new }
 {
@@ -129,8 +134,9 @@ fn give_csi_params<A: Allocator + Copy, S: Sink<Action<A>>>(
     parameters_truncated: bool,
     byte: u8,
 ) -> Result<(), AllocError>
-    requires { S.is_ready sink.old }
-    ensures ready { OnOk result (S.is_ready sink.new) }
+    requires { MayReceive S.is_ready S.may S.takes sink.old
+        (map csi (csi_of params.now parameters_truncated byte)) }
+    ensures ready { S.is_ready sink.old → OnOk result (S.is_ready sink.new) }
     ensures given { Gives (Refused A) S.takes S.refuses result sink.old
         (map csi (csi_of params.now parameters_truncated byte)) sink.new }
 {
@@ -147,8 +153,10 @@ fn give_command<A: Allocator + Copy, S: Sink<Action<A>>>(
     alloc: A,
     command: Result<OperatingSystemCommand<A>, AllocError>,
 ) -> Result<(), AllocError>
-    requires { S.is_ready sink.old }
-    ensures ready { OnOk result (S.is_ready sink.new) }
+    requires { S.is_ready sink.old ⊎ ((c : OperatingSystemCommand A)
+        × IfOk command (λ d. d ≡ c)
+        × Awaits (AnyAt value_of S.may) (At value_of S.takes) sink.old (osc c ∷ [])) }
+    ensures ready { S.is_ready sink.old → OnOk result (S.is_ready sink.new) }
     ensures given { (c : OperatingSystemCommand A) → IfOk command (λ d. d ≡ c)
         → OnErr command (Refused A)
         → Gives (Refused A) S.takes S.refuses result sink.old (osc c ∷ []) sink.new }
@@ -168,8 +176,9 @@ fn give_text<A: Allocator + Copy, S: Sink<Action<A>>>(
     alloc: A,
     text: &[u8],
 ) -> Result<(), AllocError>
-    requires { S.is_ready sink.old }
-    ensures ready { OnOk result (S.is_ready sink.new) }
+    requires { MayReceive S.is_ready S.may S.takes sink.old
+        (osc (command_meant (parts_of text.now)) ∷ []) }
+    ensures ready { S.is_ready sink.old → OnOk result (S.is_ready sink.new) }
     ensures given { Gives (Refused A) S.takes S.refuses result sink.old
         (osc (command_meant (parts_of text.now)) ∷ []) sink.new }
 {
@@ -182,8 +191,9 @@ fn give_text<A: Allocator + Copy, S: Sink<Action<A>>>(
 
 // Gives the sink these bytes of the data of a mode, one after another.
 fn give_data<A: Allocator, S: Sink<Action<A>>>(sink: &mut S, bytes: &[u8]) -> Result<(), AllocError>
-    requires { S.is_ready sink.old }
-    ensures ready { OnOk result (S.is_ready sink.new) }
+    requires { MayReceive S.is_ready S.may S.takes sink.old
+        (map datum bytes.now) }
+    ensures ready { S.is_ready sink.old → OnOk result (S.is_ready sink.new) }
     ensures given { Gives ⊥ S.takes S.refuses result sink.old
         (map datum bytes.now) sink.new }
 {
@@ -208,6 +218,9 @@ impl<A: Allocator + Copy, S: Sink<Action<A>>> VTActor for Performer<S, A> {
         (At value_of S.refuses) p.sink (given limit m e) q.sink };
 
     ghost is_ready = { λ p. S.is_ready p.sink };
+
+    ghost may = { λ p e. (limit : Option ℕ) × (m : Mode) × Hooks limit p.unfinished m
+        × Awaits (AnyAt value_of S.may) (At value_of S.takes) p.sink (given limit m e) };
 
     fn print(&mut self, c: char) -> Result<(), AllocError> {
         self.sink.receive(Action::Print(c))

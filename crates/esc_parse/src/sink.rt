@@ -1,12 +1,13 @@
 //! What takes actions, one after another.
-ghost use Rattle.std.specs.Prelude.{◌≡◌, ◌<◌, ◌≤◌, ◌+◌, ℕ, List, [], ◌∷◌, ◌++◌, IfOk, IsTrue, MatchResult, OnErr, OnOk, false, length, map, true, vec_capacity, vec_len};
+ghost use Rattle.std.specs.Prelude.{◌≡◌, ◌⊎◌, ◌<◌, ◌≤◌, ◌+◌, ℕ, List, [], ◌∷◌, ◌++◌, IfOk, IsTrue, MatchResult, OnErr, OnOk, false, length, map, true, vec_capacity, vec_len};
 ghost use Rattle.std.specs.List.{FoldsTo, list_all};
 ghost use Rattle.std.specs.Str.{chars};
 ghost use Rattle.esc_values.specs.Clear.{is_clear, parts_of};
 ghost use Rattle.esc_sequences.specs.Csis.{CsiValue, csi_of};
+ghost use Rattle.esc_frame.specs.Events.{MayGet};
 ghost use Rattle.esc_frame.specs.Scans.{is_text_byte};
 ghost use Rattle.esc_parse.specs.Collected.{Gathers};
-ghost use Rattle.esc_parse.specs.Given.{By, Receives, StopsAt, first_of};
+ghost use Rattle.esc_parse.specs.Given.{AnyBy, By, Receives, StopsAt, first_of};
 ghost use Rattle.esc_parse.specs.Images.{is_image};
 ghost use Rattle.esc_actions.specs.Values.{csi, osc, value_of};
 ghost use Rattle.esc_osc.specs.Reading.{meaning as command_meant};
@@ -56,11 +57,14 @@ impl<A: Allocator> FromChar for Action<A> {
 /// [`Parser::parse_into`](crate::parser::Parser::parse_into).
 ///
 /// An implementation says what an action makes of its value (`takes`), what a refused call leaves
-/// (`refuses`), and when it may be called (`is_ready`). After a call that returns `AllocError` no
-/// more calls are made.
+/// (`refuses`), when it may be given any action (`is_ready`), and else which (`may`). After a call
+/// that returns `AllocError` no more calls are made.
 pub trait Sink<T: FromChar> {
-    // the next action may be given
+    // any action may be given, and after each one any other
     ghost is_ready: { Self → Type 0 };
+
+    // the next action may be this one
+    ghost may: { Self → T → Type 0 };
 
     // what an action makes of a value
     ghost takes: { Self → T → Self → Type 0 };
@@ -70,8 +74,8 @@ pub trait Sink<T: FromChar> {
 
     /// Takes an action.
     fn receive(&mut self, action: T) -> Result<(), AllocError>
-        requires { is_ready self.old }
-        ensures ready { OnOk result (is_ready self.new) }
+        requires { is_ready self.old ⊎ may self.old action }
+        ensures ready { is_ready self.old → OnOk result (is_ready self.new) }
         ensures given { MatchResult result (λ _. takes self.old action self.new)
             (λ _. refuses self.old action self.new) };
 
@@ -80,10 +84,10 @@ pub trait Sink<T: FromChar> {
     /// once.
     #[inline]
     fn receive_text(&mut self, text: &[u8]) -> Result<(), AllocError>
-        requires ready { is_ready self.old }
+        requires ready { MayGet is_ready may takes self.old (map T.print text.now) }
         requires some { 0 < length text.now }
         requires text { list_all is_text_byte text.now ≡ true }
-        ensures ready { OnOk result (is_ready self.new) }
+        ensures ready { is_ready self.old → OnOk result (is_ready self.new) }
         ensures given { Receives ⊥ takes refuses result self.old
             (map T.print text.now) self.new }
     {
@@ -101,10 +105,11 @@ pub trait Sink<T: FromChar> {
     /// the run at once.
     #[inline]
     fn receive_str(&mut self, text: &str) -> Result<(), AllocError>
-        requires ready { is_ready self.old }
+        requires ready { MayGet is_ready may takes self.old
+            (map T.print (chars text.now)) }
         requires some { 0 < length text.now }
         requires clear { list_all is_clear (chars text.now) ≡ true }
-        ensures ready { OnOk result (is_ready self.new) }
+        ensures ready { is_ready self.old → OnOk result (is_ready self.new) }
         ensures given { Receives ⊥ takes refuses result self.old
             (map T.print (chars text.now)) self.new }
     {
@@ -127,8 +132,9 @@ pub trait Sink<T: FromChar> {
         _parameters_truncated: bool,
         _control: u8,
     ) -> Result<bool, AllocError>
-        requires { is_ready self.old }
-        ensures ready { OnOk result (is_ready self.new) }
+        requires { MayGet is_ready (AnyBy T.is_sequence may) (By T.is_sequence takes)
+            self.old (csi_of _params.now _parameters_truncated _control) }
+        ensures ready { is_ready self.old → OnOk result (is_ready self.new) }
         ensures taken { IfOk result (λ b. IsTrue b → FoldsTo (By T.is_sequence takes)
             self.old (csi_of _params.now _parameters_truncated _control) self.new) }
         ensures left { IfOk result (λ b. b ≡ false → self.new ≡ self.old) }
@@ -142,8 +148,9 @@ pub trait Sink<T: FromChar> {
     /// The same of an operating system command, from its text, whose parts are between `;`.
     #[inline]
     fn receive_command(&mut self, _text: &[u8]) -> Result<bool, AllocError>
-        requires { is_ready self.old }
-        ensures ready { OnOk result (is_ready self.new) }
+        requires { MayGet is_ready (AnyBy T.is_command may) (By T.is_command takes)
+            self.old (parts_of _text.now ∷ []) }
+        ensures ready { is_ready self.old → OnOk result (is_ready self.new) }
         ensures taken { IfOk result (λ b. IsTrue b → FoldsTo (By T.is_command takes)
             self.old (parts_of _text.now ∷ []) self.new) }
         ensures left { IfOk result (λ b. b ≡ false → self.new ≡ self.old) }
@@ -164,8 +171,7 @@ pub trait Sink<T: FromChar> {
 }
 
 /// Calls a closure on each action. [`Parser::parse_into`](crate::parser::Parser::parse_into) hands
-/// it back after exactly one call for each action, in order, which the clause of
-/// [`Parser::parse`](crate::parser::Parser::parse) leaves open.
+/// it back after exactly one call for each action, in order.
 #[derive(Drop)]
 pub struct Calls<F> {
     /// The closure.
@@ -174,6 +180,8 @@ pub struct Calls<F> {
 
 impl<T: FromChar, F: FnMut(T)> Sink<T> for Calls<F> {
     ghost is_ready = { λ p. F.IsAlwaysCallable p.callback };
+
+    ghost may = { λ p a. F.pre p.callback a };
 
     ghost takes = { λ p a q. F.step p.callback a tt q.callback };
 
@@ -220,6 +228,8 @@ impl<A: Allocator> Collect<A> {
 impl<A: Allocator> Sink<Action<A>> for Collect<A> {
     ghost is_ready = { λ _. Unit {0} };
 
+    ghost may = { λ _ _. Unit {0} };
+
     ghost takes = { λ p a q. q.actions.items ≡ p.actions.items ++ a ∷ [] };
 
     ghost refuses = { λ p a q. (q.actions.items ≡ p.actions.items) × Refused A };
@@ -246,6 +256,8 @@ pub struct First<A: Allocator = Global> {
 
 impl<A: Allocator> Sink<Action<A>> for First<A> {
     ghost is_ready = { λ _. Unit {0} };
+
+    ghost may = { λ _ _. Unit {0} };
 
     ghost takes = { λ p a q. q.action ≡ first_of p.action a };
 

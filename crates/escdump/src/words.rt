@@ -103,6 +103,8 @@ impl<A: Allocator> Words<A> {
 impl<A: Allocator> Sink<Action<A>> for Words<A> {
     ghost is_ready = { λ _. Unit {0} };
 
+    ghost may = { λ _ _. Unit {0} };
+
     ghost takes = { λ p a q. Unit {0} };
 
     ghost refuses = { λ p a q. Unit {0} };

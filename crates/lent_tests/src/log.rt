@@ -144,6 +144,8 @@ impl VTActor for Log {
 
     ghost is_ready = { λ _. Unit {0} };
 
+    ghost may = { λ _ _. Unit {0} };
+
     fn print(&mut self, c: char) -> Result<(), AllocError> {
         self.put_character(c as u32)
     }

@@ -7,7 +7,7 @@ use Rattle.esc_frame.specs.Limits.{is_within}
 use Rattle.esc_frame.specs.declared.machine.Machine.{Machine}
 use Rattle.esc_frame.specs.declared.machine.State.{State}
 use Rattle.esc_frame.specs.declared.machine.State.TheVariants as state
-use Rattle.esc_frame.specs.Events.{Event, StopsAt}
+use Rattle.esc_frame.specs.Events.{Event, Awaits, StopsAt}
 use Rattle.esc_frame.specs.Leads.{Unfinished, Holds}
 use Rattle.esc_frame.specs.Segments.{is_empty}
 use Rattle.esc_frame.specs.Leads.Unfinished.{Ground}
@@ -56,9 +56,10 @@ Took {K} {A} keeps denied limit takes refuses result u rest machine old new =
     (λ _. StopsAt ((may_grow_within u rest ≡ true) × denied limit) takes refuses old
     (events_all limit u rest) new)
 
--- it took a byte at least, and no more than there are, and the actor is ready
-abbrev pub Advances : {S E : Type 0} → (S → Type 0) → Result ℕ E → List ℕ → S → Type 0
-Advances is_ready result rest new = IfOk result (λ n. (0 < n) × (n ≤ length rest) × is_ready new)
+-- it took a byte at least, and no more than there are, and the actor stays ready
+abbrev pub Advances : {S E : Type 0} → (S → Type 0) → Result ℕ E → List ℕ → S → S → Type 0
+Advances is_ready result rest old new =
+    IfOk result (λ n. (0 < n) × (n ≤ length rest) × (is_ready old → is_ready new))
 
 -- of the bytes that it took, all but the last tell nothing and leave something unfinished
 abbrev pub Quietly : {E : Type 0} → Option ℕ → Result ℕ E → Unfinished → List ℕ → Type 0
@@ -69,14 +70,21 @@ abbrev pub EmitsOne : List ℕ → Event → Type 0
 EmitsOne x e = (after_all Ground x ≡ Ground)
     × ((limit : Option ℕ) → events_all limit Ground x ≡ e ∷ [])
 
+-- The actor may be given the events of these bytes, where u was unfinished before, under some
+-- limit: it is ready for any, or awaits these.
+abbrev pub MayRun : {S : Type 0} → (S → Type 0) → (S → Event → Type 0) → (S → Event → S → Type 0)
+    → Unfinished → List ℕ → S → Type 0
+MayRun is_ready may takes u rest old =
+    is_ready old ⊎ ((limit : Option ℕ) × Awaits may takes old (events_all limit u rest))
+
 -- N bytes of the rest were taken in ground: whatever the limit, nothing is unfinished after them,
--- the actor was given their events, and is ready.
+-- the actor was given their events, and stays ready.
 abbrev pub Ran : {S : Type 0} → (S → Event → S → Type 0) → (S → Type 0) → List ℕ → ℕ → S → S
     → Type 0
 Ran takes is_ready rest n old new =
     (n ≤ length rest) × (after_all Ground (take n rest) ≡ Ground)
-    × ((limit : Option ℕ) → FoldsTo takes old (events_all limit Ground (take n rest)) new) ×
-    is_ready new
+    × ((limit : Option ℕ) → FoldsTo takes old (events_all limit Ground (take n rest)) new)
+    × (is_ready old → is_ready new)
 
 -- the same of a call, which stops only where the actor refuses
 abbrev pub Stays : {S E : Type 0} → (S → Event → S → Type 0) → (S → Event → S → Type 0)
@@ -96,7 +104,7 @@ abbrev pub TookSome : {K A S E : Type 0} → (Option ℕ → K → List ℕ → 
 TookSome keeps denied limit takes refuses is_ready result rest machine old new =
     Took keeps denied limit takes refuses result Ground rest machine old new
     × Quietly limit result Ground rest
-    × Advances is_ready result rest new
+    × Advances is_ready result rest old new
 
 -- The machine is in no OSC or APC, but where these bytes of a sequence pend in an OSC.
 abbrev pub is_between : State → List ℕ → Bool

@@ -5,10 +5,18 @@ use Rattle.esc_frame.specs.declared.taker.Taker.{Ghosts as Actor}
 use Rattle.esc_frame.specs.declared.machine.Machine.{Machine}
 use Rattle.esc_frame.specs.declared.unfinished.store.Store.{Ghosts as Keeper}
 use Rattle.esc_frame.specs.Changed.{Changed}
-use Rattle.esc_frame.specs.Events.{Event, Receives, Takes}
+use Rattle.esc_frame.specs.Events.{Event, MayGet, Receives, Takes}
 use Rattle.esc_frame.specs.Leads.{Unfinished}
 use Rattle.esc_frame.specs.Machine.Calls as calls
 use Rattle.esc_frame.specs.Machine.Moves.{Move}
+
+-- the actor may be given these events
+abbrev pub MayEmit : {S : Type 0} → Actor S → List Event → S → Type 0
+MayEmit V events old = MayGet V.is_ready V.may V.takes old events
+
+-- those of these bytes, where u was unfinished before
+abbrev pub MayEmitAll : {S : Type 0} → Actor S → Unfinished → List ℕ → S → Type 0
+MayEmitAll V u rest old = calls.MayRun V.is_ready V.may V.takes u rest old
 
 -- the actor was given this event, or refused it where the result is an error
 abbrev pub EmitsOne : {S E : Type 0} → Actor S → Result (Unit {0}) E → Event → Changed S → Type 0
@@ -60,6 +68,7 @@ abbrev pub StaysInGround : {S E : Type 0} → Actor S → Result ℕ E → List 
 StaysInGround V result rest actor =
     calls.Stays V.takes V.refuses V.is_ready result rest actor.entry.now actor.exit.now
 
--- one byte at least was consumed, and no more than there are, and the actor is ready
+-- one byte at least was consumed, and no more than there are, and the actor stays ready
 abbrev pub Advances : {S E : Type 0} → Actor S → Result ℕ E → List ℕ → Changed S → Type 0
-Advances V result rest actor = calls.Advances V.is_ready result rest actor.exit.now
+Advances V result rest actor =
+    calls.Advances V.is_ready result rest actor.entry.now actor.exit.now

@@ -21,8 +21,8 @@ abbrev pub HasTaken : {S : Type 0} → (S → Event → S → Type 0) → List �
 HasTaken takes text rest old new = (cs : List ℕ) × (chars text ≡ cs ++ chars rest)
     × FoldsTo takes old (map Print cs) new
 
--- those of its first n bytes, and the actor is ready
+-- those of its first n bytes, and the actor stays ready
 abbrev pub HasSpelled : {S : Type 0} → (S → Event → S → Type 0) → (S → Type 0) → List ℕ → ℕ → S → S
     → Type 0
 HasSpelled takes is_ready text n old new = (n ≤ length text) × IsClearText (drop n text)
-    × HasTaken takes text (drop n text) old new × is_ready new
+    × HasTaken takes text (drop n text) old new × (is_ready old → is_ready new)

@@ -1,16 +1,17 @@
 //! The machine in device control strings.
 #![tactic(auto)]
 
-ghost use Rattle.std.specs.Prelude.{◌≡◌, ◌<◌, ◌++◌, ℕ, List, Option, [], ◌∷◌, true, length, OnOk, OnErr};
+ghost use Rattle.std.specs.Prelude.{◌≡◌, ◌⊎◌, ◌<◌, ◌++◌, ℕ, List, Option, [], ◌∷◌, true, length, OnOk, OnErr};
 ghost use Rattle.esc_frame.specs.Classes.{class_of};
-ghost use Rattle.esc_frame.specs.Events.{Takes};
+ghost use Rattle.esc_frame.specs.Events.{Awaits, Takes};
 ghost use Rattle.esc_frame.specs.Events.Event.{DcsUnhook};
 ghost use Rattle.esc_frame.specs.Limits.{is_read};
 ghost use Rattle.esc_frame.specs.Machine.Calls.{Stops};
 ghost use Rattle.esc_frame.specs.Machine.Keeping.{Holding, KeepingDcs, KeepingHeader, InPassthrough};
-ghost use Rattle.esc_frame.specs.Machine.Makes.{Emits, Makes, Consumes, Advances};
+ghost use Rattle.esc_frame.specs.Machine.Allowed.{KeptDcs, KeptHeader, KeptPassthrough, KeptSegment};
+ghost use Rattle.esc_frame.specs.Machine.Makes.{MayEmit, Emits, Makes, Consumes, Advances};
 ghost use Rattle.esc_frame.specs.Machine.Keeps.{KeepsDcs, parameters_of};
-ghost use Rattle.esc_frame.specs.Machine.Moves.{emitting, ground_move, move};
+ghost use Rattle.esc_frame.specs.Machine.Moves.{events_all, emitting, ground_move, move};
 ghost use Rattle.esc_frame.specs.Segments.{hook_event};
 
 use crate::classes::Class;
@@ -31,10 +32,11 @@ impl<K: Store, A: Allocator> Machine<K, A> {
         class: Class,
         actor: &mut V,
     ) -> Result<()>
-        requires { V.is_ready actor.old }
+        requires { V.is_ready actor.old ⊎ KeptDcs K.Store limit self.old (λ u.
+            Awaits V.may V.takes actor.old (move limit u b class).1) }
         ensures moved { class ≡ class_of b → KeepingDcs K.Store limit self (λ u.
             Makes K.Store V.Taker limit true result (move limit u b class) self actor) }
-        ensures ready { OnOk result (V.is_ready actor.new) }
+        ensures ready { V.is_ready actor.old → OnOk result (V.is_ready actor.new) }
     {
         self.state = State::Dcs;
         match class {
@@ -61,10 +63,11 @@ impl<K: Store, A: Allocator> Machine<K, A> {
     /// A byte of a DCS's data, whose header has its form.
     #[tactic(auto, using(crate::proofs::Given::receives_moved))]
     pub fn in_data<V: Taker>(&mut self, b: u8, class: Class, actor: &mut V) -> Result<()>
-        requires { V.is_ready actor.old }
+        requires { V.is_ready actor.old ⊎ KeptPassthrough (λ limit u.
+            Awaits V.may V.takes actor.old (move limit u b class).1) }
         ensures moved { InPassthrough (λ limit u.
             Makes K.Store V.Taker limit true result (move limit u b class) self actor) }
-        ensures ready { OnOk result (V.is_ready actor.new) }
+        ensures ready { V.is_ready actor.old → OnOk result (V.is_ready actor.new) }
     {
         self.state = State::Data;
         match class {
@@ -83,11 +86,11 @@ impl<K: Store, A: Allocator> Machine<K, A> {
 
     // A breaker after a DCS's data.
     fn leave_data<V: Taker>(&mut self, b: u8, class: Class, actor: &mut V) -> Result<()>
-        requires { V.is_ready actor.old }
+        requires { MayEmit V.Taker (DcsUnhook ∷ (ground_move b class).1) actor.old }
         ensures moved { (limit : Option ℕ)
             → Makes K.Store V.Taker limit true result
             (emitting (DcsUnhook ∷ []) (ground_move b class)) self actor }
-        ensures ready { OnOk result (V.is_ready actor.new) }
+        ensures ready { V.is_ready actor.old → OnOk result (V.is_ready actor.new) }
     {
         match actor.dcs_unhook() {
             Ok(()) => self.in_ground(b, class, actor),
@@ -104,7 +107,8 @@ impl<K: Store, A: Allocator> Machine<K, A> {
         actor: &mut V,
     ) -> Result<usize>
         requires some { 0 < length rest.now }
-        requires ready { V.is_ready actor.old }
+        requires ready { V.is_ready actor.old ⊎ KeptSegment K.Store limit self.old (λ u.
+            Awaits V.may V.takes actor.old (events_all limit u rest.now)) }
         requires state { self.old.state ≡ State.Data }
         ensures took { Holding K.Store limit self (λ u.
             Consumes K.Store V.Taker limit result u rest.now self actor) }
@@ -157,11 +161,12 @@ fn hook<K: Store, A: Allocator, V: Taker>(
     b: u8,
     actor: &mut V,
 ) -> Result<()>
-    requires { V.is_ready actor.old }
+    requires { V.is_ready actor.old ⊎ KeptHeader K.Store parameters.now header.now (λ x.
+        Awaits V.may V.takes actor.old (hook_event x b ∷ [])) }
     ensures emitted { KeepingHeader K.Store parameters.now header.now (λ limit x.
         is_read limit x ≡ true
         → Emits V.Taker (Stops V.stops A limit) result (hook_event x b ∷ []) actor) }
-    ensures ready { OnOk result (V.is_ready actor.new) }
+    ensures ready { V.is_ready actor.old → OnOk result (V.is_ready actor.new) }
 {
     let kept = &header.intermediates;
     actor.dcs_header(alloc, b, parameters.bytes(), kept.as_slice(), kept.ignored)

@@ -1,7 +1,7 @@
 //! The machine in escape sequences and control sequences.
 #![tactic(auto)]
 
-ghost use Rattle.std.specs.Prelude.{◌≡◌, ◌≤◌, ◌<◌, ◌++◌, ◌+◌, ℕ, List, Option, None, [], ◌∷◌, length, take, drop, true, false, slice_index, IfOk, OnOk};
+ghost use Rattle.std.specs.Prelude.{◌≡◌, ◌⊎◌, ◌≤◌, ◌<◌, ◌++◌, ◌+◌, ℕ, List, Option, None, [], ◌∷◌, length, take, drop, true, false, slice_index, IfOk, OnOk};
 ghost use Rattle.std.specs.List.{list_all};
 ghost use Rattle.esc_frame.specs.Classes.{class_of};
 ghost use Rattle.esc_frame.specs.Events.Event.{EscDispatch};
@@ -9,11 +9,13 @@ ghost use Rattle.esc_frame.specs.Leads.{Unfinished, Holds};
 ghost use Rattle.esc_frame.specs.Leads.Unfinished.{Ground};
 ghost use Rattle.esc_frame.specs.Machine.Calls.{Quietly};
 ghost use Rattle.esc_frame.specs.Machine.Keeping.{Holding, KeepingEscape, KeepingCsi, KeepingCsiAnd, AnyCsi};
-ghost use Rattle.esc_frame.specs.Machine.Makes.{Emits, EmitsOne, Makes, Consumes, ConsumesSome, StaysInGround, Advances};
+ghost use Rattle.esc_frame.specs.Machine.Allowed.{KeptBody, KeptCsi, KeptCsiAnd, KeptEscape, KeptSegment};
+ghost use Rattle.esc_frame.specs.Events.{Awaits};
+ghost use Rattle.esc_frame.specs.Machine.Makes.{MayEmit, MayEmitAll, Emits, EmitsOne, Makes, Consumes, ConsumesSome, StaysInGround, Advances};
 ghost use Rattle.esc_frame.specs.Machine.Keeps.{KeepsBody};
 ghost use Rattle.esc_frame.specs.Machine.Shorts.{IsShort};
 ghost use Rattle.esc_frame.specs.Scans.{is_body_byte};
-ghost use Rattle.esc_frame.specs.Machine.Moves.{move};
+ghost use Rattle.esc_frame.specs.Machine.Moves.{events_all, move};
 ghost use Rattle.esc_frame.specs.Segments.{csi_events, csi_event};
 ghost use Rattle.esc_frame.specs.Sequences.{is_from};
 
@@ -29,10 +31,11 @@ impl<K: Store, A: Allocator> Machine<K, A> {
     /// A byte after ESC x.
     #[tactic(auto, using(crate::proofs::Given::receives_moved))]
     pub fn in_escape<V: Taker>(&mut self, b: u8, class: Class, actor: &mut V) -> Result<()>
-        requires { V.is_ready actor.old }
+        requires { V.is_ready actor.old ⊎ KeptEscape self.old (λ limit u.
+            Awaits V.may V.takes actor.old (move limit u b class).1) }
         ensures moved { class ≡ class_of b → KeepingEscape self (λ limit own u.
             Makes K.Store V.Taker limit own result (move limit u b class) self actor) }
-        ensures ready { OnOk result (V.is_ready actor.new) }
+        ensures ready { V.is_ready actor.old → OnOk result (V.is_ready actor.new) }
     {
         self.state = State::Escape;
         match class {
@@ -63,10 +66,12 @@ impl<K: Store, A: Allocator> Machine<K, A> {
         rest: &[u8],
         actor: &mut V,
     ) -> Result<usize>
-        requires { V.is_ready actor.old }
+        requires { V.is_ready actor.old ⊎ KeptSegment K.Store limit self.old (λ u.
+            Awaits V.may V.takes actor.old (events_all limit u rest.now)) }
         ensures took { Holding K.Store limit self (λ u.
             Consumes K.Store V.Taker limit result u rest.now self actor) }
-        ensures count { IfOk result (λ n. (n ≤ length rest.now) × V.is_ready actor.new) }
+        ensures count { IfOk result (λ n. (n ≤ length rest.now)
+            × (V.is_ready actor.old → V.is_ready actor.new)) }
     {
         if rest.is_empty() || rest[0] != b'\\' {
             return Ok(0);
@@ -87,7 +92,8 @@ impl<K: Store, A: Allocator> Machine<K, A> {
         actor: &mut V,
     ) -> Result<usize>
         requires some { 0 < length rest.now }
-        requires ready { V.is_ready actor.old }
+        requires ready { V.is_ready actor.old ⊎ KeptSegment K.Store limit self.old (λ u.
+            Awaits V.may V.takes actor.old (events_all limit u rest.now)) }
         requires state { self.old.state ≡ State.Escape }
         ensures took { Holding K.Store limit self (λ u.
             Consumes K.Store V.Taker limit result u rest.now self actor) }
@@ -102,12 +108,14 @@ impl<K: Store, A: Allocator> Machine<K, A> {
 
     // The final byte of an escape sequence.
     fn dispatch_escape<V: Taker>(&mut self, b: u8, actor: &mut V) -> Result<()>
-        requires { V.is_ready actor.old }
+        requires { MayEmit V.Taker (EscDispatch
+            (take self.old.intermediates.kept self.old.intermediates.bytes)
+            self.old.intermediates.ignored b ∷ []) actor.old }
         ensures holds { Holds K.keeps None self.new Ground }
         ensures emitted { EmitsOne V.Taker result
             (EscDispatch (take self.old.intermediates.kept self.old.intermediates.bytes)
             self.old.intermediates.ignored b) actor }
-        ensures ready { OnOk result (V.is_ready actor.new) }
+        ensures ready { V.is_ready actor.old → OnOk result (V.is_ready actor.new) }
     {
         self.state = State::Ground;
         self.pending = Pending::Nothing;
@@ -122,10 +130,11 @@ impl<K: Store, A: Allocator> Machine<K, A> {
     /// A byte after a CSI's opener and x.
     #[tactic(auto, using(crate::proofs::Given::receives_moved))]
     pub fn in_csi<V: Taker>(&mut self, b: u8, class: Class, actor: &mut V) -> Result<()>
-        requires { V.is_ready actor.old }
+        requires { V.is_ready actor.old ⊎ KeptCsi self.old (λ limit u.
+            Awaits V.may V.takes actor.old (move limit u b class).1) }
         ensures moved { class ≡ class_of b → KeepingCsi self (λ limit u.
             Makes K.Store V.Taker limit false result (move limit u b class) self actor) }
-        ensures ready { OnOk result (V.is_ready actor.new) }
+        ensures ready { V.is_ready actor.old → OnOk result (V.is_ready actor.new) }
     {
         self.state = State::Csi;
         match class {
@@ -143,10 +152,11 @@ impl<K: Store, A: Allocator> Machine<K, A> {
     // The final byte of a CSI.
     #[tactic(auto, using(crate::proofs::Given::quiet_moved))]
     fn dispatch_csi<V: Taker>(&mut self, b: u8, actor: &mut V) -> Result<()>
-        requires { V.is_ready actor.old }
+        requires { V.is_ready actor.old ⊎ KeptBody self.old.body (λ x.
+            Awaits V.may V.takes actor.old (csi_events x b)) }
         ensures moved { (limit : Option ℕ) (x : List ℕ) → KeepsBody self.old.body x
             → Makes K.Store V.Taker limit false result (Ground, csi_events x b) self actor }
-        ensures ready { OnOk result (V.is_ready actor.new) }
+        ensures ready { V.is_ready actor.old → OnOk result (V.is_ready actor.new) }
     {
         self.state = State::Ground;
         self.pending = Pending::Nothing;
@@ -167,7 +177,7 @@ impl<K: Store, A: Allocator> Machine<K, A> {
     ) -> Result<usize>
         requires some { 2 < length rest.now }
         requires escape { slice_index rest.now 0 ≡ 0x1b }
-        requires ready { V.is_ready actor.old }
+        requires ready { MayEmit V.Taker (events_all limit Ground rest.now) actor.old }
         ensures { ConsumesSome K.Store V.Taker limit result rest.now self actor }
     {
         if rest[1] == b'[' {
@@ -183,7 +193,7 @@ impl<K: Store, A: Allocator> Machine<K, A> {
     #[inline(always)]
     pub fn take_quick_csi<V: Taker>(&mut self, rest: &[u8], actor: &mut V) -> Result<usize>
         requires escape { slice_index rest.now 0 ≡ 0x1b }
-        requires ready { V.is_ready actor.old }
+        requires ready { MayEmitAll V.Taker Ground rest.now actor.old }
         requires ground { Holds K.keeps None self.old Ground }
         ensures ground { IfOk result (λ n. Holds K.keeps None self.new Ground) }
         ensures stays { StaysInGround V.Taker result rest.now actor }
@@ -211,7 +221,7 @@ impl<K: Store, A: Allocator> Machine<K, A> {
         requires some { 2 < length rest.now }
         requires escape { slice_index rest.now 0 ≡ 0x1b }
         requires bracket { slice_index rest.now 1 ≡ 0x5b }
-        requires ready { V.is_ready actor.old }
+        requires ready { MayEmitAll V.Taker Ground rest.now actor.old }
         ensures { (limit : Option ℕ)
             → ConsumesSome K.Store V.Taker limit result rest.now self actor }
     {
@@ -239,7 +249,7 @@ impl<K: Store, A: Allocator> Machine<K, A> {
             (take run (drop 2 rest.now)) }
         requires ends { is_from 0x40 0x7e (slice_index rest.now (run + 2)) ≡ true }
         requires ground { Holds K.keeps None self.old Ground }
-        requires ready { V.is_ready actor.old }
+        requires ready { MayEmitAll V.Taker Ground rest.now actor.old }
         ensures ground { IfOk result (λ n. Holds K.keeps None self.new Ground) }
         ensures stays { StaysInGround V.Taker result rest.now actor }
         ensures some { IfOk result (λ n. 0 < n) }
@@ -256,7 +266,7 @@ impl<K: Store, A: Allocator> Machine<K, A> {
         requires some { 2 < length rest.now }
         requires escape { slice_index rest.now 0 ≡ 0x1b }
         requires bracket { slice_index rest.now 1 ≡ 0x5b }
-        requires ready { V.is_ready actor.old }
+        requires ready { MayEmitAll V.Taker Ground rest.now actor.old }
         ensures { (limit : Option ℕ)
             → ConsumesSome K.Store V.Taker limit result rest.now self actor }
     {
@@ -271,7 +281,8 @@ impl<K: Store, A: Allocator> Machine<K, A> {
     #[inline(always)]
     pub fn take_in_csi<V: Taker>(&mut self, rest: &[u8], actor: &mut V) -> Result<usize>
         requires some { 0 < length rest.now }
-        requires ready { V.is_ready actor.old }
+        requires ready { V.is_ready actor.old ⊎ KeptCsi self.old (λ limit u.
+            Awaits V.may V.takes actor.old (events_all limit u rest.now)) }
         requires state { self.old.state ≡ State.Csi }
         ensures took { KeepingCsi self (λ limit u.
             Consumes K.Store V.Taker limit result u rest.now self actor) }
@@ -288,7 +299,8 @@ impl<K: Store, A: Allocator> Machine<K, A> {
         requires some { 0 < length rest.now }
         requires few { run ≤ length rest.now }
         requires passes { list_all is_body_byte (take run rest.now) ≡ true }
-        requires ready { V.is_ready actor.old }
+        requires ready { V.is_ready actor.old ⊎ KeptCsiAnd (take run rest.now) self.old (λ limit u.
+            Awaits V.may V.takes actor.old (events_all limit u rest.now)) }
         requires state { self.old.state ≡ State.Csi }
         ensures took { KeepingCsiAnd (take run rest.now) self (λ limit u.
             Consumes K.Store V.Taker limit result u rest.now self actor) }
@@ -307,10 +319,11 @@ impl<K: Store, A: Allocator> Machine<K, A> {
     // A byte of a control sequence, which most often is its final byte.
     #[inline(always)]
     fn end_body<V: Taker>(&mut self, b: u8, actor: &mut V) -> Result<()>
-        requires { V.is_ready actor.old }
+        requires { V.is_ready actor.old ⊎ KeptCsi self.old (λ limit u.
+            Awaits V.may V.takes actor.old (move limit u b (class_of b)).1) }
         ensures moved { KeepingCsi self (λ limit u.
             Makes K.Store V.Taker limit false result (move limit u b (class_of b)) self actor) }
-        ensures ready { OnOk result (V.is_ready actor.new) }
+        ensures ready { V.is_ready actor.old → OnOk result (V.is_ready actor.new) }
     {
         if 0x40 <= b && b <= 0x7e {
             self.dispatch_csi(b, actor)
@@ -323,10 +336,11 @@ impl<K: Store, A: Allocator> Machine<K, A> {
 // A control sequence whose body has its form, emitted.
 #[tactic(auto, using(crate::proofs::Given::receives_takes))]
 fn emit_csi<V: Taker>(body: &mut CsiBody, b: u8, actor: &mut V) -> Result<()>
-    requires { V.is_ready actor.old }
+    requires { V.is_ready actor.old ⊎ KeptBody body.old (λ x.
+        Awaits V.may V.takes actor.old (csi_event x b ∷ [])) }
     ensures emitted { (x : List ℕ) → KeepsBody body.old x
         → Emits V.Taker ⊥ result (csi_event x b ∷ []) actor }
-    ensures ready { OnOk result (V.is_ready actor.new) }
+    ensures ready { V.is_ready actor.old → OnOk result (V.is_ready actor.new) }
 {
     body.finish();
     actor.csi_dispatch(

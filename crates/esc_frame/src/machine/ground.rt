@@ -5,8 +5,8 @@ ghost use Rattle.std.specs.Prelude.{◌≡◌, ◌<◌, ◌++◌, ◌∷◌, ℕ
 ghost use Rattle.esc_frame.specs.Leads.{Holds};
 ghost use Rattle.esc_frame.specs.Leads.Unfinished.{Ground, InEscape};
 ghost use Rattle.esc_frame.specs.Machine.Prefixes.{prefix_of};
-ghost use Rattle.esc_frame.specs.Machine.Makes.{Makes, AlwaysMakes, Consumes, ConsumesSome, StaysInGround, Advances};
-ghost use Rattle.esc_frame.specs.Machine.Moves.{emitting, ground_move, pair_move, pending_move};
+ghost use Rattle.esc_frame.specs.Machine.Makes.{MayEmit, MayEmitAll, Makes, AlwaysMakes, Consumes, ConsumesSome, StaysInGround, Advances};
+ghost use Rattle.esc_frame.specs.Machine.Moves.{events_all, emitting, ground_move, pair_move, pending_move};
 ghost use Rattle.esc_frame.specs.Events.Event.{Print};
 ghost use Rattle.esc_frame.specs.Sequences.{outcome, is_sequence};
 
@@ -23,9 +23,9 @@ impl<K: Store, A: Allocator> Machine<K, A> {
     /// A byte in ground, with nothing pending.
     #[tactic(auto, using(crate::proofs::Given::receives_moved))]
     pub fn in_ground<V: Taker>(&mut self, b: u8, class: Class, actor: &mut V) -> Result<()>
-        requires { V.is_ready actor.old }
+        requires { MayEmit V.Taker (ground_move b class).1 actor.old }
         ensures moved { AlwaysMakes K.Store V.Taker result (ground_move b class) self actor }
-        ensures ready { OnOk result (V.is_ready actor.new) }
+        ensures ready { V.is_ready actor.old → OnOk result (V.is_ready actor.new) }
     {
         self.state = State::Ground;
         self.pending = Pending::Nothing;
@@ -57,9 +57,9 @@ impl<K: Store, A: Allocator> Machine<K, A> {
     /// What `in_ground` does, after a string: mostly it is the ESC of the string terminator.
     #[inline(always)]
     pub fn leave_string<V: Taker>(&mut self, b: u8, class: Class, actor: &mut V) -> Result<()>
-        requires { V.is_ready actor.old }
+        requires { MayEmit V.Taker (ground_move b class).1 actor.old }
         ensures moved { AlwaysMakes K.Store V.Taker result (ground_move b class) self actor }
-        ensures ready { OnOk result (V.is_ready actor.new) }
+        ensures ready { V.is_ready actor.old → OnOk result (V.is_ready actor.new) }
     {
         if let Class::Breaks(Breaker::Escape) = class {
             self.enter_escape();
@@ -73,12 +73,13 @@ impl<K: Store, A: Allocator> Machine<K, A> {
     #[inline(always)]
     #[tactic(auto, using(crate::proofs::Given::receives_moved))]
     fn break_in_ground<V: Taker>(&mut self, b: u8, breaker: Breaker, actor: &mut V) -> Result<()>
-        requires ready { V.is_ready actor.old }
+        requires ready { MayEmit V.Taker
+            (ground_move b (Class.Breaks breaker)).1 actor.old }
         requires ground { self.old.state ≡ State.Ground }
         requires whole { self.old.pending ≡ Pending.Nothing }
         ensures moved { AlwaysMakes K.Store V.Taker result
             (ground_move b (Class.Breaks breaker)) self actor }
-        ensures ready { OnOk result (V.is_ready actor.new) }
+        ensures ready { V.is_ready actor.old → OnOk result (V.is_ready actor.new) }
     {
         match breaker {
             Breaker::Cancel | Breaker::C1 => actor.execute_c0_or_c1(b),
@@ -97,9 +98,9 @@ impl<K: Store, A: Allocator> Machine<K, A> {
     /// A control after C2.
     #[tactic(auto, using(crate::proofs::Given::receives_moved))]
     pub fn in_pair<V: Taker>(&mut self, b: u8, class: Class, actor: &mut V) -> Result<()>
-        requires { V.is_ready actor.old }
+        requires { MayEmit V.Taker (pair_move b class).1 actor.old }
         ensures moved { AlwaysMakes K.Store V.Taker result (pair_move b class) self actor }
-        ensures ready { OnOk result (V.is_ready actor.new) }
+        ensures ready { V.is_ready actor.old → OnOk result (V.is_ready actor.new) }
     {
         self.state = State::Ground;
         self.pending = Pending::Nothing;
@@ -124,12 +125,13 @@ impl<K: Store, A: Allocator> Machine<K, A> {
 
     /// A byte after a prefix of a character's sequence.
     pub fn in_pending<V: Taker>(&mut self, b: u8, class: Class, actor: &mut V) -> Result<()>
-        requires { V.is_ready actor.old }
+        requires { MayEmit V.Taker (pending_move (prefix_of self.old.pending) b class
+            (outcome (prefix_of self.old.pending) b)).1 actor.old }
         ensures moved { (limit : Option ℕ) (own : Bool) (f : List ℕ)
             → prefix_of self.old.pending ≡ f
             → Makes K.Store V.Taker limit own result
             (pending_move f b class (outcome f b)) self actor }
-        ensures ready { OnOk result (V.is_ready actor.new) }
+        ensures ready { V.is_ready actor.old → OnOk result (V.is_ready actor.new) }
     {
         match self.pending.outcome(b) {
             Outcome::Whole => self.whole(b, class, actor),
@@ -144,10 +146,11 @@ impl<K: Store, A: Allocator> Machine<K, A> {
 
     // A byte that breaks off a character's sequence.
     fn break_off<V: Taker>(&mut self, b: u8, class: Class, actor: &mut V) -> Result<()>
-        requires { V.is_ready actor.old }
+        requires { MayEmit V.Taker
+            (emitting (Print 0xfffd ∷ []) (ground_move b class)).1 actor.old }
         ensures moved { AlwaysMakes K.Store V.Taker result
             (emitting (Print 0xfffd ∷ []) (ground_move b class)) self actor }
-        ensures ready { OnOk result (V.is_ready actor.new) }
+        ensures ready { V.is_ready actor.old → OnOk result (V.is_ready actor.new) }
     {
         match actor.print('\u{fffd}') {
             Ok(()) => self.in_ground(b, class, actor),
@@ -158,11 +161,12 @@ impl<K: Store, A: Allocator> Machine<K, A> {
     // A byte that completes a sequence.
     #[tactic(auto, using(crate::proofs::Given::receives_moved))]
     fn whole<V: Taker>(&mut self, b: u8, class: Class, actor: &mut V) -> Result<()>
-        requires ready { V.is_ready actor.old }
+        requires ready { MayEmit V.Taker (pending_move (prefix_of self.old.pending) b class
+            Outcome.Whole).1 actor.old }
         requires whole { is_sequence (prefix_of self.old.pending ++ b ∷ []) ≡ true }
         ensures moved { AlwaysMakes K.Store V.Taker result
             (pending_move (prefix_of self.old.pending) b class Outcome.Whole) self actor }
-        ensures ready { OnOk result (V.is_ready actor.new) }
+        ensures ready { V.is_ready actor.old → OnOk result (V.is_ready actor.new) }
     {
         if self.pending.pairs_with(b) {
             self.in_pair(b, class, actor)
@@ -183,7 +187,7 @@ impl<K: Store, A: Allocator> Machine<K, A> {
         actor: &mut V,
     ) -> Result<usize>
         requires some { 0 < length rest.now }
-        requires ready { V.is_ready actor.old }
+        requires ready { MayEmit V.Taker (events_all limit Ground rest.now) actor.old }
         requires ground { Holds K.keeps limit self.old Ground }
         ensures took { Consumes K.Store V.Taker limit result Ground rest.now self actor }
         ensures count { Advances V.Taker result rest.now actor }
@@ -205,7 +209,7 @@ impl<K: Store, A: Allocator> Machine<K, A> {
     // Characters, controls and short control sequences, as long as they come.
     #[inline(always)]
     fn take_quick<V: Taker>(&mut self, rest: &[u8], actor: &mut V) -> Result<usize>
-        requires ready { V.is_ready actor.old }
+        requires ready { MayEmitAll V.Taker Ground rest.now actor.old }
         requires ground { Holds K.keeps None self.old Ground }
         ensures ground { IfOk result (λ n. Holds K.keeps None self.new Ground) }
         ensures stays { StaysInGround V.Taker result rest.now actor }
@@ -225,7 +229,7 @@ impl<K: Store, A: Allocator> Machine<K, A> {
     #[inline(always)]
     fn take_quick_one<V: Taker>(&mut self, rest: &[u8], actor: &mut V) -> Result<usize>
         requires some { 0 < length rest.now }
-        requires ready { V.is_ready actor.old }
+        requires ready { MayEmitAll V.Taker Ground rest.now actor.old }
         requires ground { Holds K.keeps None self.old Ground }
         ensures ground { IfOk result (λ n. Holds K.keeps None self.new Ground) }
         ensures stays { StaysInGround V.Taker result rest.now actor }
@@ -249,7 +253,7 @@ impl<K: Store, A: Allocator> Machine<K, A> {
         actor: &mut V,
     ) -> Result<usize>
         requires some { 0 < length rest.now }
-        requires ready { V.is_ready actor.old }
+        requires ready { MayEmit V.Taker (events_all limit Ground rest.now) actor.old }
         requires ground { Holds K.keeps limit self.old Ground }
         ensures { ConsumesSome K.Store V.Taker limit result rest.now self actor }
     {
@@ -269,7 +273,7 @@ impl<K: Store, A: Allocator> Machine<K, A> {
         actor: &mut V,
     ) -> Result<usize>
         requires some { 0 < length rest.now }
-        requires ready { V.is_ready actor.old }
+        requires ready { MayEmit V.Taker (events_all limit Ground rest.now) actor.old }
         ensures took { Consumes K.Store V.Taker limit result Ground rest.now self actor }
         ensures count { Advances V.Taker result rest.now actor }
     {
@@ -291,7 +295,7 @@ impl<K: Store, A: Allocator> Machine<K, A> {
         actor: &mut V,
     ) -> Result<usize>
         requires some { 0 < length rest.now }
-        requires ready { V.is_ready actor.old }
+        requires ready { MayEmit V.Taker (events_all limit Ground rest.now) actor.old }
         ensures { ConsumesSome K.Store V.Taker limit result rest.now self actor }
     {
         if rest[0] == 0x1b && rest.len() > 2 {
@@ -305,7 +309,7 @@ impl<K: Store, A: Allocator> Machine<K, A> {
     #[inline(always)]
     pub fn take_one_in_ground<V: Taker>(&mut self, rest: &[u8], actor: &mut V) -> Result<usize>
         requires some { 0 < length rest.now }
-        requires ready { V.is_ready actor.old }
+        requires ready { MayEmitAll V.Taker Ground rest.now actor.old }
         ensures { (limit : Option ℕ)
             → ConsumesSome K.Store V.Taker limit result rest.now self actor }
     {

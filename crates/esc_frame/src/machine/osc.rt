@@ -1,14 +1,17 @@
 //! The machine in operating system commands.
 #![tactic(auto)]
 
-ghost use Rattle.std.specs.Prelude.{◌≡◌, ◌≤◌, ◌<◌, List, [], ◌+◌, true, false, not, length, take, slice_index, OnOk, IsTrue};
+ghost use Rattle.std.specs.Prelude.{◌≡◌, ◌⊎◌, ◌++◌, ◌≤◌, ◌<◌, List, [], ◌+◌, true, false, not, length, take, slice_index, OnOk, IsTrue};
 ghost use Rattle.esc_frame.specs.Classes.{class_of};
 ghost use Rattle.esc_frame.specs.Limits.{has_few_parts};
+ghost use Rattle.esc_frame.specs.Leads.Unfinished.{Ground};
 ghost use Rattle.esc_frame.specs.Machine.Calls.{Quietly, Stops};
 ghost use Rattle.esc_frame.specs.Machine.Prefixes.{prefix_of};
 ghost use Rattle.esc_frame.specs.Machine.Keeping.{Unborrowed, KeepingText, KeepingOsc, KeepingOscAnd, KeepingOscPending, FreshOsc, AnyOsc};
-ghost use Rattle.esc_frame.specs.Machine.Makes.{Emits, Makes, AlwaysMakes, Consumes, ConsumesSome, Advances};
-ghost use Rattle.esc_frame.specs.Machine.Moves.{emitting, ground_move, pair_move, osc_pending_move, osc_left, ends_osc, move};
+ghost use Rattle.esc_frame.specs.Machine.Allowed.{KeptPieces, KeptOsc, KeptOscAnd, KeptOscPending, KeptText, NewOsc};
+ghost use Rattle.esc_frame.specs.Events.{Awaits};
+ghost use Rattle.esc_frame.specs.Machine.Makes.{MayEmit, Emits, Makes, AlwaysMakes, Consumes, ConsumesSome, Advances};
+ghost use Rattle.esc_frame.specs.Machine.Moves.{events_all, emitting, ground_move, pair_move, osc_pending_move, osc_left, ends_osc, move};
 ghost use Rattle.esc_frame.specs.Machine.TextRuns.{IsTextRun};
 ghost use Rattle.esc_frame.specs.Segments.{Opener, Piece, text_of, osc_events};
 ghost use Rattle.esc_frame.specs.Sequences.{is_from, outcome};
@@ -32,10 +35,11 @@ impl<K: Store, A: Allocator> Machine<K, A> {
         class: Class,
         actor: &mut V,
     ) -> Result<()>
-        requires { V.is_ready actor.old }
+        requires { V.is_ready actor.old ⊎ KeptOsc K.Store limit self.old (λ u.
+            Awaits V.may V.takes actor.old (move limit u b class).1) }
         ensures moved { class ≡ class_of b → KeepingOsc K.Store limit self (λ u.
             Makes K.Store V.Taker limit true result (move limit u b class) self actor) }
-        ensures ready { OnOk result (V.is_ready actor.new) }
+        ensures ready { V.is_ready actor.old → OnOk result (V.is_ready actor.new) }
     {
         self.state = State::Osc;
         self.pending = Pending::Nothing;
@@ -66,10 +70,11 @@ impl<K: Store, A: Allocator> Machine<K, A> {
         class: Class,
         actor: &mut V,
     ) -> Result<()>
-        requires { V.is_ready actor.old }
+        requires { V.is_ready actor.old ⊎ KeptOscPending K.Store limit self.old (λ u.
+            Awaits V.may V.takes actor.old (move limit u b class).1) }
         ensures moved { class ≡ class_of b → KeepingOscPending K.Store limit self (λ u.
             Makes K.Store V.Taker limit true result (move limit u b class) self actor) }
-        ensures ready { OnOk result (V.is_ready actor.new) }
+        ensures ready { V.is_ready actor.old → OnOk result (V.is_ready actor.new) }
     {
         match self.pending.outcome(b) {
             Outcome::Whole => self.whole_in_osc(limit, b, class, actor),
@@ -93,12 +98,14 @@ impl<K: Store, A: Allocator> Machine<K, A> {
         class: Class,
         actor: &mut V,
     ) -> Result<()>
-        requires { V.is_ready actor.old }
+        requires { V.is_ready actor.old ⊎ KeptPieces K.Store limit self.old (λ o ps.
+            Awaits V.may V.takes actor.old (osc_pending_move limit o ps
+            (prefix_of self.old.pending) b class Outcome.Whole).1) }
         ensures moved { (o : Opener) (ps : List Piece) → K.keeps limit self.old.text (text_of ps)
             → Makes K.Store V.Taker limit true result
             (osc_pending_move limit o ps (prefix_of self.old.pending) b class Outcome.Whole)
             self actor }
-        ensures ready { OnOk result (V.is_ready actor.new) }
+        ensures ready { V.is_ready actor.old → OnOk result (V.is_ready actor.new) }
     {
         if self.pending.pairs_with(b) {
             self.leave_osc_by_pair(b, class, actor)
@@ -112,11 +119,12 @@ impl<K: Store, A: Allocator> Machine<K, A> {
 
     // A breaker after an OSC.
     fn leave_osc<V: Taker>(&mut self, b: u8, class: Class, actor: &mut V) -> Result<()>
-        requires { V.is_ready actor.old }
+        requires { V.is_ready actor.old ⊎ KeptText K.Store self.old.text (λ limit t.
+            Awaits V.may V.takes actor.old (osc_events limit t ++ (ground_move b class).1)) }
         ensures moved { KeepingText K.Store self.old.text (λ limit t.
             Makes K.Store V.Taker limit true result
             (emitting (osc_events limit t) (ground_move b class)) self actor) }
-        ensures ready { OnOk result (V.is_ready actor.new) }
+        ensures ready { V.is_ready actor.old → OnOk result (V.is_ready actor.new) }
     {
         match emit_osc(&self.text, &self.alloc, actor) {
             Ok(()) => self.in_ground(b, class, actor),
@@ -126,11 +134,12 @@ impl<K: Store, A: Allocator> Machine<K, A> {
 
     // A control after C2, in an OSC.
     fn leave_osc_by_pair<V: Taker>(&mut self, b: u8, class: Class, actor: &mut V) -> Result<()>
-        requires { V.is_ready actor.old }
+        requires { V.is_ready actor.old ⊎ KeptText K.Store self.old.text (λ limit t.
+            Awaits V.may V.takes actor.old (osc_events limit t ++ (pair_move b class).1)) }
         ensures moved { KeepingText K.Store self.old.text (λ limit t.
             Makes K.Store V.Taker limit true result
             (emitting (osc_events limit t) (pair_move b class)) self actor) }
-        ensures ready { OnOk result (V.is_ready actor.new) }
+        ensures ready { V.is_ready actor.old → OnOk result (V.is_ready actor.new) }
     {
         match emit_osc(&self.text, &self.alloc, actor) {
             Ok(()) => self.in_pair(b, class, actor),
@@ -149,7 +158,7 @@ impl<K: Store, A: Allocator> Machine<K, A> {
         requires some { 2 < length rest.now }
         requires escape { slice_index rest.now 0 ≡ 0x1b }
         requires bracket { slice_index rest.now 1 ≡ 0x5d }
-        requires ready { V.is_ready actor.old }
+        requires ready { MayEmit V.Taker (events_all limit Ground rest.now) actor.old }
         ensures { ConsumesSome K.Store V.Taker limit result rest.now self actor }
     {
         match self.take_body(limit, &rest[2..], actor) {
@@ -168,7 +177,8 @@ impl<K: Store, A: Allocator> Machine<K, A> {
         actor: &mut V,
     ) -> Result<usize>
         requires some { 0 < length rest.now }
-        requires ready { V.is_ready actor.old }
+        requires ready { V.is_ready actor.old ⊎ NewOsc (λ u.
+            Awaits V.may V.takes actor.old (events_all limit u rest.now)) }
         ensures took { FreshOsc (λ u.
             Consumes K.Store V.Taker limit result u rest.now self actor) }
         ensures quiet { AnyOsc (λ u. Quietly limit result u rest.now) }
@@ -200,7 +210,8 @@ impl<K: Store, A: Allocator> Machine<K, A> {
         requires some { 0 < length rest.now }
         requires few { run ≤ length rest.now }
         requires passes { IsTextRun (take run rest.now) }
-        requires ready { V.is_ready actor.old }
+        requires ready { V.is_ready actor.old ⊎ NewOsc (λ u.
+            Awaits V.may V.takes actor.old (events_all limit u rest.now)) }
         ensures took { FreshOsc (Unborrowed rest.now (λ u.
             Consumes K.Store V.Taker limit result u rest.now self actor)) }
         ensures quiet { AnyOsc (λ u. Quietly limit result u rest.now) }
@@ -224,7 +235,8 @@ impl<K: Store, A: Allocator> Machine<K, A> {
         requires passes { IsTextRun (take run rest.now) }
         requires class { class ≡ class_of (slice_index rest.now run) }
         requires ends { ends_osc class ≡ true }
-        requires ready { V.is_ready actor.old }
+        requires ready { V.is_ready actor.old ⊎ NewOsc (λ u.
+            Awaits V.may V.takes actor.old (events_all limit u rest.now)) }
         ensures took { FreshOsc (λ u.
             Consumes K.Store V.Taker limit result u rest.now self actor) }
         ensures quiet { AnyOsc (λ u. Quietly limit result u rest.now) }
@@ -249,7 +261,8 @@ impl<K: Store, A: Allocator> Machine<K, A> {
         requires passes { IsTextRun (take run rest.now) }
         requires lead { slice_index rest.now run ≡ 0xc2 }
         requires control { is_from 0x80 0x9f (slice_index rest.now (run + 1)) ≡ true }
-        requires ready { V.is_ready actor.old }
+        requires ready { V.is_ready actor.old ⊎ NewOsc (λ u.
+            Awaits V.may V.takes actor.old (events_all limit u rest.now)) }
         ensures took { FreshOsc (λ u.
             Consumes K.Store V.Taker limit result u rest.now self actor) }
         ensures quiet { AnyOsc (λ u. Quietly limit result u rest.now) }
@@ -271,10 +284,11 @@ impl<K: Store, A: Allocator> Machine<K, A> {
         class: Class,
         actor: &mut V,
     ) -> Result<()>
-        requires { V.is_ready actor.old }
+        requires { MayEmit V.Taker
+            (osc_events limit text.now ++ (osc_left b class).1) actor.old }
         ensures moved { Makes K.Store V.Taker limit (not (has_few_parts text.now)) result
             (emitting (osc_events limit text.now) (osc_left b class)) self actor }
-        ensures ready { OnOk result (V.is_ready actor.new) }
+        ensures ready { V.is_ready actor.old → OnOk result (V.is_ready actor.new) }
     {
         match emit_borrowed(limit, &self.alloc, text, actor) {
             Ok(()) => self.leave_borrowed(b, class, actor),
@@ -290,10 +304,11 @@ impl<K: Store, A: Allocator> Machine<K, A> {
         b: u8,
         actor: &mut V,
     ) -> Result<()>
-        requires { V.is_ready actor.old }
+        requires { MayEmit V.Taker
+            (osc_events limit text.now ++ (pair_move b (class_of b)).1) actor.old }
         ensures moved { Makes K.Store V.Taker limit (not (has_few_parts text.now)) result
             (emitting (osc_events limit text.now) (pair_move b (class_of b))) self actor }
-        ensures ready { OnOk result (V.is_ready actor.new) }
+        ensures ready { V.is_ready actor.old → OnOk result (V.is_ready actor.new) }
     {
         match emit_borrowed(limit, &self.alloc, text, actor) {
             Ok(()) => self.in_pair(b, classify(b), actor),
@@ -303,9 +318,9 @@ impl<K: Store, A: Allocator> Machine<K, A> {
 
     // A bell, or a breaker.
     fn leave_borrowed<V: Taker>(&mut self, b: u8, class: Class, actor: &mut V) -> Result<()>
-        requires { V.is_ready actor.old }
+        requires { MayEmit V.Taker (osc_left b class).1 actor.old }
         ensures moved { AlwaysMakes K.Store V.Taker result (osc_left b class) self actor }
-        ensures ready { OnOk result (V.is_ready actor.new) }
+        ensures ready { V.is_ready actor.old → OnOk result (V.is_ready actor.new) }
     {
         if let Class::Bell = class {
             self.state = State::Ground;
@@ -325,7 +340,8 @@ impl<K: Store, A: Allocator> Machine<K, A> {
         actor: &mut V,
     ) -> Result<usize>
         requires some { 0 < length rest.now }
-        requires ready { V.is_ready actor.old }
+        requires ready { V.is_ready actor.old ⊎ KeptOsc K.Store limit self.old (λ u.
+            Awaits V.may V.takes actor.old (events_all limit u rest.now)) }
         requires state { self.old.state ≡ State.Osc }
         requires whole { prefix_of self.old.pending ≡ [] }
         ensures took { KeepingOsc K.Store limit self (λ u.
@@ -352,7 +368,8 @@ impl<K: Store, A: Allocator> Machine<K, A> {
         requires some { 0 < length rest.now }
         requires few { run ≤ length rest.now }
         requires passes { IsTextRun (take run rest.now) }
-        requires ready { V.is_ready actor.old }
+        requires ready { V.is_ready actor.old ⊎ KeptOsc K.Store limit self.old (λ u.
+            Awaits V.may V.takes actor.old (events_all limit u rest.now)) }
         requires state { self.old.state ≡ State.Osc }
         requires whole { prefix_of self.old.pending ≡ [] }
         ensures took { KeepingOsc K.Store limit self (Unborrowed rest.now (λ u.
@@ -378,7 +395,9 @@ impl<K: Store, A: Allocator> Machine<K, A> {
         requires some { 0 < length rest.now }
         requires few { run ≤ length rest.now }
         requires passes { IsTextRun (take run rest.now) }
-        requires ready { V.is_ready actor.old }
+        requires ready { V.is_ready actor.old ⊎ KeptOscAnd K.Store limit
+            (take run rest.now) self.old (λ u.
+            Awaits V.may V.takes actor.old (events_all limit u rest.now)) }
         requires state { self.old.state ≡ State.Osc }
         requires whole { prefix_of self.old.pending ≡ [] }
         ensures took { KeepingOscAnd K.Store limit (take run rest.now) self
@@ -436,11 +455,11 @@ fn emit_borrowed<A: Allocator, V: Taker>(
     text: &[u8],
     actor: &mut V,
 ) -> Result<()>
-    requires { V.is_ready actor.old }
+    requires { MayEmit V.Taker (osc_events limit text.now) actor.old }
     ensures emitted { Emits V.Taker ((not (has_few_parts text.now) ≡ true)
         × Stops V.stops A limit) result
         (osc_events limit text.now) actor }
-    ensures ready { OnOk result (V.is_ready actor.new) }
+    ensures ready { V.is_ready actor.old → OnOk result (V.is_ready actor.new) }
 {
     if fits(limit, 0, text.len()) {
         actor.osc_text(alloc, text)
@@ -451,10 +470,11 @@ fn emit_borrowed<A: Allocator, V: Taker>(
 
 // The text of an operating system command, emitted where it is within the limit.
 fn emit_osc<K: Store, A: Allocator, V: Taker>(text: &K, alloc: &A, actor: &mut V) -> Result<()>
-    requires { V.is_ready actor.old }
+    requires { V.is_ready actor.old ⊎ KeptText K.Store text.now (λ limit t.
+        Awaits V.may V.takes actor.old (osc_events limit t)) }
     ensures emitted { KeepingText K.Store text.now (λ limit t.
         Emits V.Taker (Stops V.stops A limit) result (osc_events limit t) actor) }
-    ensures ready { OnOk result (V.is_ready actor.new) }
+    ensures ready { V.is_ready actor.old → OnOk result (V.is_ready actor.new) }
 {
     if text.is_over() {
         Ok(())

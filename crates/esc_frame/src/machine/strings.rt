@@ -2,13 +2,15 @@
 //! device control strings whose header has another form.
 #![tactic(auto)]
 
-ghost use Rattle.std.specs.Prelude.{◌≡◌, ◌≤◌, ◌<◌, Bool, true, false, length, take, slice_index, OnOk};
+ghost use Rattle.std.specs.Prelude.{◌≡◌, ◌⊎◌, ◌++◌, [], cond, ◌≤◌, ◌<◌, Bool, true, false, length, take, slice_index, OnOk};
 ghost use Rattle.std.specs.List.{list_all};
 ghost use Rattle.esc_frame.specs.Classes.{class_of, is_breaker};
 ghost use Rattle.esc_frame.specs.Machine.Calls.{Quietly};
 ghost use Rattle.esc_frame.specs.Machine.Keeping.{Holding, Unborrowed, KeepingText, KeepingApc, KeepingApcAnd, FreshApc, AnyApc, InDcsIgnore, InIgnoredString};
-ghost use Rattle.esc_frame.specs.Machine.Makes.{Emits, Makes, Consumes, Advances};
-ghost use Rattle.esc_frame.specs.Machine.Moves.{emitting, ground_move, move};
+ghost use Rattle.esc_frame.specs.Machine.Allowed.{KeptApc, KeptApcAnd, KeptSegment, KeptText, NewApc};
+ghost use Rattle.esc_frame.specs.Events.{Awaits};
+ghost use Rattle.esc_frame.specs.Machine.Makes.{MayEmit, Emits, Makes, Consumes, Advances};
+ghost use Rattle.esc_frame.specs.Machine.Moves.{events_all, emitting, ground_move, move};
 ghost use Rattle.esc_frame.specs.Scans.{is_text_byte};
 ghost use Rattle.esc_frame.specs.Segments.{apc_events};
 
@@ -29,10 +31,11 @@ impl<K: Store, A: Allocator> Machine<K, A> {
         class: Class,
         actor: &mut V,
     ) -> Result<()>
-        requires { V.is_ready actor.old }
+        requires { V.is_ready actor.old ⊎ KeptApc K.Store limit self.old (λ u.
+            Awaits V.may V.takes actor.old (move limit u b class).1) }
         ensures moved { class ≡ class_of b → KeepingApc K.Store limit self (λ u.
             Makes K.Store V.Taker limit true result (move limit u b class) self actor) }
-        ensures ready { OnOk result (V.is_ready actor.new) }
+        ensures ready { V.is_ready actor.old → OnOk result (V.is_ready actor.new) }
     {
         self.state = State::Apc;
         match class {
@@ -48,11 +51,12 @@ impl<K: Store, A: Allocator> Machine<K, A> {
 
     // A breaker after an APC.
     fn leave_apc<V: Taker>(&mut self, b: u8, class: Class, actor: &mut V) -> Result<()>
-        requires { V.is_ready actor.old }
+        requires { V.is_ready actor.old ⊎ KeptText K.Store self.old.text (λ limit t.
+            Awaits V.may V.takes actor.old (apc_events limit t ++ (ground_move b class).1)) }
         ensures moved { KeepingText K.Store self.old.text (λ limit t.
             Makes K.Store V.Taker limit true result
             (emitting (apc_events limit t) (ground_move b class)) self actor) }
-        ensures ready { OnOk result (V.is_ready actor.new) }
+        ensures ready { V.is_ready actor.old → OnOk result (V.is_ready actor.new) }
     {
         match emit_apc(&self.text, actor) {
             Ok(()) => self.in_ground(b, class, actor),
@@ -62,12 +66,12 @@ impl<K: Store, A: Allocator> Machine<K, A> {
 
     /// A byte that is passed over, but for a breaker.
     pub fn in_ignored<V: Taker>(&mut self, b: u8, class: Class, actor: &mut V) -> Result<()>
-        requires { V.is_ready actor.old }
+        requires { MayEmit V.Taker (cond (is_breaker class) (ground_move b class).1 []) actor.old }
         ensures ignored { InIgnoredString (λ limit u.
             Makes K.Store V.Taker limit true result (move limit u b class) self actor) }
         ensures data { InDcsIgnore (λ limit u.
             Makes K.Store V.Taker limit true result (move limit u b class) self actor) }
-        ensures ready { OnOk result (V.is_ready actor.new) }
+        ensures ready { V.is_ready actor.old → OnOk result (V.is_ready actor.new) }
     {
         self.state = State::Ignored;
         match class {
@@ -94,7 +98,8 @@ impl<K: Store, A: Allocator> Machine<K, A> {
         actor: &mut V,
     ) -> Result<usize>
         requires some { 0 < length rest.now }
-        requires ready { V.is_ready actor.old }
+        requires ready { V.is_ready actor.old ⊎ KeptApc K.Store limit self.old (λ u.
+            Awaits V.may V.takes actor.old (events_all limit u rest.now)) }
         requires state { self.old.state ≡ State.Apc }
         ensures took { KeepingApc K.Store limit self (λ u.
             Consumes K.Store V.Taker limit result u rest.now self actor) }
@@ -127,7 +132,8 @@ impl<K: Store, A: Allocator> Machine<K, A> {
         requires some { 0 < length rest.now }
         requires few { run ≤ length rest.now }
         requires passes { list_all is_text_byte (take run rest.now) ≡ true }
-        requires ready { V.is_ready actor.old }
+        requires ready { V.is_ready actor.old ⊎ KeptApc K.Store limit self.old (λ u.
+            Awaits V.may V.takes actor.old (events_all limit u rest.now)) }
         requires state { self.old.state ≡ State.Apc }
         ensures took { KeepingApc K.Store limit self (Unborrowed rest.now (λ u.
             Consumes K.Store V.Taker limit result u rest.now self actor)) }
@@ -152,7 +158,9 @@ impl<K: Store, A: Allocator> Machine<K, A> {
         requires some { 0 < length rest.now }
         requires few { run ≤ length rest.now }
         requires passes { list_all is_text_byte (take run rest.now) ≡ true }
-        requires ready { V.is_ready actor.old }
+        requires ready { V.is_ready actor.old ⊎ KeptApcAnd K.Store limit
+            (take run rest.now) self.old (λ u.
+            Awaits V.may V.takes actor.old (events_all limit u rest.now)) }
         requires state { self.old.state ≡ State.Apc }
         ensures took { KeepingApcAnd K.Store limit (take run rest.now) self
             (Unborrowed rest.now (λ u.
@@ -183,7 +191,8 @@ impl<K: Store, A: Allocator> Machine<K, A> {
         requires passes { list_all is_text_byte (take run rest.now) ≡ true }
         requires class { class ≡ class_of (slice_index rest.now run) }
         requires ends { is_breaker class ≡ true }
-        requires ready { V.is_ready actor.old }
+        requires ready { V.is_ready actor.old ⊎ NewApc (λ u.
+            Awaits V.may V.takes actor.old (events_all limit u rest.now)) }
         ensures took { FreshApc (λ u.
             Consumes K.Store V.Taker limit result u rest.now self actor) }
         ensures quiet { AnyApc (λ u. Quietly limit result u rest.now) }
@@ -204,11 +213,12 @@ impl<K: Store, A: Allocator> Machine<K, A> {
         class: Class,
         actor: &mut V,
     ) -> Result<()>
-        requires { V.is_ready actor.old }
+        requires { MayEmit V.Taker
+            (apc_events limit text.now ++ (ground_move b class).1) actor.old }
         ensures moved { (own : Bool)
             → Makes K.Store V.Taker limit own result
             (emitting (apc_events limit text.now) (ground_move b class)) self actor }
-        ensures ready { OnOk result (V.is_ready actor.new) }
+        ensures ready { V.is_ready actor.old → OnOk result (V.is_ready actor.new) }
     {
         match emit_borrowed_apc(limit, text, actor) {
             Ok(()) => self.leave_string(b, class, actor),
@@ -225,7 +235,8 @@ impl<K: Store, A: Allocator> Machine<K, A> {
         actor: &mut V,
     ) -> Result<usize>
         requires some { 0 < length rest.now }
-        requires ready { V.is_ready actor.old }
+        requires ready { V.is_ready actor.old ⊎ KeptSegment K.Store limit self.old (λ u.
+            Awaits V.may V.takes actor.old (events_all limit u rest.now)) }
         requires state { self.old.state ≡ State.Ignored }
         ensures took { Holding K.Store limit self (λ u.
             Consumes K.Store V.Taker limit result u rest.now self actor) }
@@ -261,9 +272,9 @@ fn is_breaker(class: Class) -> bool
 
 // A lent text, emitted where it is within the limit.
 fn emit_borrowed_apc<V: Taker>(limit: Option<usize>, text: &[u8], actor: &mut V) -> Result<()>
-    requires { V.is_ready actor.old }
+    requires { MayEmit V.Taker (apc_events limit text.now) actor.old }
     ensures emitted { Emits V.Taker ⊥ result (apc_events limit text.now) actor }
-    ensures ready { OnOk result (V.is_ready actor.new) }
+    ensures ready { V.is_ready actor.old → OnOk result (V.is_ready actor.new) }
 {
     if fits(limit, 0, text.len()) {
         actor.apc_dispatch(text)
@@ -275,10 +286,11 @@ fn emit_borrowed_apc<V: Taker>(limit: Option<usize>, text: &[u8], actor: &mut V)
 // The text of an APC, emitted where it is within the limit.
 #[tactic(auto, using(crate::proofs::Given::receives_takes))]
 fn emit_apc<K: Store, V: Taker>(text: &K, actor: &mut V) -> Result<()>
-    requires { V.is_ready actor.old }
+    requires { V.is_ready actor.old ⊎ KeptText K.Store text.now (λ limit t.
+        Awaits V.may V.takes actor.old (apc_events limit t)) }
     ensures emitted { KeepingText K.Store text.now (λ limit t.
         Emits V.Taker ⊥ result (apc_events limit t) actor) }
-    ensures ready { OnOk result (V.is_ready actor.new) }
+    ensures ready { V.is_ready actor.old → OnOk result (V.is_ready actor.new) }
 {
     if text.is_over() {
         Ok(())

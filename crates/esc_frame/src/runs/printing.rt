@@ -6,7 +6,7 @@ ghost use Rattle.esc_frame.specs.Events.Event.{Execute, Print};
 ghost use Rattle.esc_frame.specs.Machine.Calls.{Quietly, EmitsOne};
 ghost use Rattle.esc_frame.specs.Machine.Characters.{IsAhead};
 ghost use Rattle.esc_frame.specs.Leads.Unfinished.{Ground};
-ghost use Rattle.esc_frame.specs.Machine.Makes.{StaysInGround};
+ghost use Rattle.esc_frame.specs.Machine.Makes.{MayEmitAll, StaysInGround};
 ghost use Rattle.esc_frame.specs.Machine.Moves.{IsStill};
 
 use crate::machine::Result;
@@ -60,7 +60,7 @@ pub fn execute_one<V: Taker>(rest: &[u8], actor: &mut V) -> Result<usize>
     requires some { 0 < length rest.now }
     requires low { slice_index rest.now 0 < 0x20 }
     requires other { slice_index rest.now 0 ≢ 0x1b }
-    requires ready { V.is_ready actor.old }
+    requires ready { MayEmitAll V.Taker Ground rest.now actor.old }
     ensures { StaysInGround V.Taker result rest.now actor }
 {
     match actor.execute_c0_or_c1(rest[0]) {
@@ -82,7 +82,7 @@ fn first_wide(rest: &[u8]) -> Option<(char, usize)>
 /// The character that comes first, where it is whole; else nothing.
 #[inline(always)]
 pub fn print_first<V: Taker>(rest: &[u8], actor: &mut V) -> Result<usize>
-    requires { V.is_ready actor.old }
+    requires { MayEmitAll V.Taker Ground rest.now actor.old }
     ensures stays { StaysInGround V.Taker result rest.now actor }
     ensures quiet { (limit : Option ℕ) → Quietly limit result Ground rest.now }
 {
@@ -99,7 +99,7 @@ pub fn print_first<V: Taker>(rest: &[u8], actor: &mut V) -> Result<usize>
 #[inline(always)]
 pub fn print_one<V: Taker>(rest: &[u8], actor: &mut V) -> Result<usize>
     requires some { 0 < length rest.now }
-    requires ready { V.is_ready actor.old }
+    requires ready { MayEmitAll V.Taker Ground rest.now actor.old }
     ensures { StaysInGround V.Taker result rest.now actor }
 {
     if rest[0] < 0x20 {
@@ -116,7 +116,7 @@ pub fn print_one<V: Taker>(rest: &[u8], actor: &mut V) -> Result<usize>
 // code for plain text.
 #[inline(never)]
 fn print_long<V: Taker>(rest: &[u8], actor: &mut V) -> Result<usize>
-    requires { V.is_ready actor.old }
+    requires { MayEmitAll V.Taker Ground rest.now actor.old }
     ensures { StaysInGround V.Taker result rest.now actor }
 {
     if ahead(rest).0 == 0 {
@@ -138,7 +138,7 @@ fn print_long<V: Taker>(rest: &[u8], actor: &mut V) -> Result<usize>
 // The sequences that come first, and short runs of text between them; a longer run is left.
 #[inline(always)]
 fn print_wides<V: Taker>(rest: &[u8], actor: &mut V) -> Result<usize>
-    requires { V.is_ready actor.old }
+    requires { MayEmitAll V.Taker Ground rest.now actor.old }
     ensures { StaysInGround V.Taker result rest.now actor }
 {
     let mut at = 0;
@@ -156,7 +156,7 @@ fn print_wides<V: Taker>(rest: &[u8], actor: &mut V) -> Result<usize>
 #[inline(always)]
 fn print_wide<V: Taker>(rest: &[u8], actor: &mut V) -> Result<usize>
     requires some { 8 ≤ length rest.now }
-    requires ready { V.is_ready actor.old }
+    requires ready { MayEmitAll V.Taker Ground rest.now actor.old }
     ensures { StaysInGround V.Taker result rest.now actor }
 {
     if rest[0] < 0x80 {
@@ -178,7 +178,7 @@ fn print_wide<V: Taker>(rest: &[u8], actor: &mut V) -> Result<usize>
 // The bytes of text that come first, one at a time.
 #[inline(always)]
 fn print_lones<V: Taker>(rest: &[u8], actor: &mut V) -> Result<usize>
-    requires { V.is_ready actor.old }
+    requires { MayEmitAll V.Taker Ground rest.now actor.old }
     ensures { StaysInGround V.Taker result rest.now actor }
 {
     let mut at = 0;
@@ -195,7 +195,7 @@ fn print_lones<V: Taker>(rest: &[u8], actor: &mut V) -> Result<usize>
 // The sequences of two bytes that come first, and single bytes of text between them.
 #[inline(always)]
 fn print_twos<V: Taker>(rest: &[u8], actor: &mut V) -> Result<usize>
-    requires { V.is_ready actor.old }
+    requires { MayEmitAll V.Taker Ground rest.now actor.old }
     ensures { StaysInGround V.Taker result rest.now actor }
 {
     let mut at = 0;
@@ -212,7 +212,7 @@ fn print_twos<V: Taker>(rest: &[u8], actor: &mut V) -> Result<usize>
 // The sequences of three bytes that come first.
 #[inline(always)]
 fn print_threes<V: Taker>(rest: &[u8], actor: &mut V) -> Result<usize>
-    requires { V.is_ready actor.old }
+    requires { MayEmitAll V.Taker Ground rest.now actor.old }
     ensures { StaysInGround V.Taker result rest.now actor }
 {
     let mut at = 0;
@@ -230,7 +230,7 @@ fn print_threes<V: Taker>(rest: &[u8], actor: &mut V) -> Result<usize>
 #[inline(always)]
 fn print_two<V: Taker>(rest: &[u8], actor: &mut V) -> Result<usize>
     requires some { 4 ≤ length rest.now }
-    requires ready { V.is_ready actor.old }
+    requires ready { MayEmitAll V.Taker Ground rest.now actor.old }
     ensures { StaysInGround V.Taker result rest.now actor }
 {
     if rest[0] < 0x80 {
@@ -244,7 +244,7 @@ fn print_two<V: Taker>(rest: &[u8], actor: &mut V) -> Result<usize>
 #[inline(always)]
 fn print_near<V: Taker>(rest: &[u8], actor: &mut V) -> Result<usize>
     requires some { 4 ≤ length rest.now }
-    requires ready { V.is_ready actor.old }
+    requires ready { MayEmitAll V.Taker Ground rest.now actor.old }
     ensures { StaysInGround V.Taker result rest.now actor }
 {
     if rest[3] < 0x80 {
@@ -258,7 +258,7 @@ fn print_near<V: Taker>(rest: &[u8], actor: &mut V) -> Result<usize>
 #[inline(always)]
 fn print_three<V: Taker>(rest: &[u8], actor: &mut V) -> Result<usize>
     requires some { 3 ≤ length rest.now }
-    requires ready { V.is_ready actor.old }
+    requires ready { MayEmitAll V.Taker Ground rest.now actor.old }
     ensures { StaysInGround V.Taker result rest.now actor }
 {
     let (n, c) = of_three(rest[0], rest[1], rest[2]);
@@ -268,7 +268,7 @@ fn print_three<V: Taker>(rest: &[u8], actor: &mut V) -> Result<usize>
 #[inline(always)]
 fn print_ahead<V: Taker>(rest: &[u8], n: usize, c: char, actor: &mut V) -> Result<usize>
     requires ahead { IsAhead rest.now n c }
-    requires ready { V.is_ready actor.old }
+    requires ready { MayEmitAll V.Taker Ground rest.now actor.old }
     ensures { StaysInGround V.Taker result rest.now actor }
 {
     if n == 0 {
@@ -284,7 +284,7 @@ fn print_ahead<V: Taker>(rest: &[u8], n: usize, c: char, actor: &mut V) -> Resul
 #[inline(always)]
 fn print_lone<V: Taker>(rest: &[u8], actor: &mut V) -> Result<usize>
     requires some { 1 ≤ length rest.now }
-    requires ready { V.is_ready actor.old }
+    requires ready { MayEmitAll V.Taker Ground rest.now actor.old }
     ensures { StaysInGround V.Taker result rest.now actor }
 {
     if rest[0] < 0x20 || rest[0] > 0x7f {
@@ -301,7 +301,7 @@ fn print_text<V: Taker>(rest: &[u8], actor: &mut V) -> Result<usize>
     requires some { 0 < length rest.now }
     requires low { 0x20 ≤ slice_index rest.now 0 }
     requires high { slice_index rest.now 0 < 0x80 }
-    requires ready { V.is_ready actor.old }
+    requires ready { MayEmitAll V.Taker Ground rest.now actor.old }
     ensures { StaysInGround V.Taker result rest.now actor }
 {
     let run = ascii_run(rest);

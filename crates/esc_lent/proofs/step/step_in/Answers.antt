@@ -10,7 +10,7 @@ use Rattle.esc_lent.proofs.step.step_in.Goals as goal
 pub returns-clause-few : goal.returns-clause-few
 returns-clause-few g c =
     let n = taken_few (λ s. Unit {0}) c.take_some.result c.taken_of-taken.result.0
-    c.taken_of-taken.result.1 c.args.bytes.now c.take_some.new.actor
+    c.taken_of-taken.result.1 c.args.bytes.now c.take_some.new.actor c.take_some.new.actor
     c.taken_of-taken.ensures.ok c.taken_of-taken.ensures.none c.take_some.ensures.count in
     subst (λ k. k ≤ length c.args.bytes.now) (sym c.let_go.ensures.taken) n
 

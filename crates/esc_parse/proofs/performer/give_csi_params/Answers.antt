@@ -1,4 +1,5 @@
-use Rattle.esc_parse.proofs.Lists.{StopsAt-weaker, folds_seen, stops_seen}
+use Rattle.esc_parse.proofs.Lists.{StopsAt-weaker, awaits_seen, folds_seen, stops_seen}
+use Rattle.std.proofs.Math.Logic.{⊎_map}
 use Rattle.esc_parse.proofs.performer.give_csi_params.Goals as goal
 use Rattle.esc_actions.specs.Values.{csi, value_of}
 use Rattle.esc_parse.specs.Given.{At}
@@ -16,3 +17,8 @@ returns-in-Err-clause-given g c =
     (λ no. absurd no)
     (stops_seen value_of csi g.S.Sink.takes g.S.Sink.refuses ⊥ c.args.sink.now _ _
     c.in-Err.ensures.refused)
+
+pub receive_sequence-requires : goal.receive_sequence-requires
+receive_sequence-requires g c =
+    ⊎_map (λ r. r) (awaits_seen value_of csi g.S.Sink.takes g.S.Sink.refuses g.S.Sink.may
+    c.args.sink.now _) c.requires

@@ -3,6 +3,9 @@ use Rattle.esc_actions.specs.Values.{datum, value_of}
 use Rattle.esc_actions.specs.declared.action.Action.TheVariants as action
 use Rattle.esc_device.specs.declared.mode.DeviceControlMode.TheVariants as device
 use Rattle.esc_parse.proofs.TextRuns.{stops_next, takes_next}
+use Rattle.esc_frame.proofs.May.{get_each}
+use Rattle.std.proofs.Math.Logic.{⊎_map}
+use Rattle.esc_parse.specs.Given.{AnyAt}
 use Rattle.esc_parse.proofs.performer.give_data.Goals as goal
 use Rattle.esc_parse.specs.Given.{At}
 
@@ -20,7 +23,7 @@ returns-in-Err-clause-given g c =
 pub loop-byte-preserved : goal.loop-byte-preserved
 loop-byte-preserved g c =
     let at = c.loop-byte in (
-      c.in-Ok.ensures.ready,
+      (λ r. c.in-Ok.ensures.ready (at.invariant.0 r)),
       takes_next datum (At value_of g.S.Sink.takes)
           (At value_of g.S.Sink.refuses) c.args.bytes.now at.byte-index
           (omega arith) c.args.sink.now _ _
@@ -30,3 +33,11 @@ loop-byte-preserved g c =
             c.in-Ok.ensures.given,
           ),
     )
+
+pub receive-requires : goal.receive-requires
+receive-requires g c =
+    let at = c.loop-byte in
+    ⊎_map (λ r. r) (λ any. any _ refl)
+    (get_each g.S.Sink.is_ready (AnyAt value_of g.S.Sink.may)
+    (At value_of g.S.Sink.takes) datum c.args.bytes.now at.byte-index
+    (omega arith) c.args.sink.now at.sink at.invariant.0 at.invariant.1 c.requires)

@@ -6,6 +6,6 @@ use Rattle.esc_parse.proofs.performer.give_data.Given as goal
 
 abbrev pub invariant-loop-byte : goal.invariant-loop-byte
 invariant-loop-byte g l =
-    g.S.Sink.is_ready l.sink
+    (g.S.Sink.is_ready l.initial.sink → g.S.Sink.is_ready l.sink)
     × FoldsTo (At value_of g.S.Sink.takes) l.initial.sink
     (map datum (take l.byte-index l.bytes)) l.sink

@@ -22,7 +22,7 @@ loop-b-preserved g c =
           × FoldsTo g.V.VTActor.takes c.args.actor.now
           (map Execute (those is_c0 (take (i + 1) bytes))) a)
           (sym w.actor-is) (
-            w.in-Ok.ensures.ready,
+            w.in-Ok.ensures.ready c.loop-b.invariant.0,
             emitted_next g.V.VTActor.takes g.V.VTActor.refuses Execute (λ b. is_c0 (class_of b))
                 bytes i (omega arith) c.args.actor.now c.loop-b.actor _
                 c.loop-b.invariant.1 (sym c.is_c0.ensures ∙ w.if-is_c0.true)

@@ -22,7 +22,7 @@ loop-b-preserved g c =
           × FoldsTo g.V.VTActor.takes c.args.actor.now
           (map DcsPut (those is_put (take (i + 1) content))) a)
           (sym w.actor-is) (
-            w.in-Ok.ensures.ready,
+            w.in-Ok.ensures.ready c.loop-b.invariant.0,
             emitted_next g.V.VTActor.takes g.V.VTActor.refuses DcsPut (λ b.
                 is_put (class_of b)) content i (omega arith) c.args.actor.now c.loop-b.actor _
                 c.loop-b.invariant.1 (sym c.is_put.ensures ∙ w.if-is_put.true)

@@ -1,4 +1,4 @@
-use Rattle.std.proofs.Common.{◌∙◌}
+use Rattle.std.proofs.Common.{◌∙◌, inl}
 use Rattle.esc_values.specs.Clear.{parts_of}
 use Rattle.esc_filter.proofs.Sequences.{command_passes, command_refused, command_stays, left_alone}
 use Rattle.esc_filter.proofs.passing.PassingSinkAction.receive_command.Goals as goal
@@ -24,3 +24,6 @@ pub returns-in-Some-false-clause-taken : goal.returns-in-Some-false-clause-taken
 returns-in-Some-false-clause-taken g c = λ _.
     command_stays g.P.Admit.admits (parts_of c.args.text.now) c.args.self.now
     (c.in-Some-false.ensures ∙ c.in-Some-false.field-0-test)
+
+pub receive_command-requires : goal.receive_command-requires
+receive_command-requires g c = inl tt

@@ -1,6 +1,7 @@
 use Rattle.std.proofs.Common.{arith}
 use Rattle.esc_frame.specs.Events.Event.{Print}
 use Rattle.esc_frame.proofs.Given.{each_next, each_stop}
+use Rattle.esc_frame.proofs.May.{get_each}
 use Rattle.esc_frame.proofs.actor.VTActor.print_text.Goals as goal
 
 pub returns-in-Err-clause-emitted : goal.returns-in-Err-clause-emitted
@@ -10,7 +11,13 @@ returns-in-Err-clause-emitted g c =
 
 pub loop-b-preserved : goal.loop-b-preserved
 loop-b-preserved g c = (
-  c.in-Ok.ensures.ready,
+  (λ r. c.in-Ok.ensures.ready (c.loop-b.invariant.0 r)),
   each_next g.Self.VTActor.takes g.Self.VTActor.refuses Print c.args.text.now c.loop-b.b-index
       (omega arith) c.args.self.now _ _ c.loop-b.invariant.1 c.in-Ok.ensures.receives,
 )
+
+pub print-requires : goal.print-requires
+print-requires g c =
+    get_each g.Self.VTActor.is_ready g.Self.VTActor.may g.Self.VTActor.takes Print c.args.text.now
+    c.loop-b.b-index (omega arith) c.args.self.now c.loop-b.self c.loop-b.invariant.0
+    c.loop-b.invariant.1 c.requires.ready

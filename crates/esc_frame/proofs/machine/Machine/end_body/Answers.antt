@@ -2,6 +2,8 @@ use Rattle.std.proofs.Common.{false, sym, subst, arith}
 use Rattle.esc_frame.specs.Classes.{strip}
 use Rattle.esc_frame.specs.Machine.Calls.{Moved, Fails}
 use Rattle.esc_frame.proofs.CsiRuns.{final_by}
+use Rattle.std.proofs.Math.Logic.{⊎_map}
+use Rattle.esc_frame.specs.Events.{Awaits}
 use Rattle.esc_frame.proofs.machine.Machine.end_body.Goals as goal
 
 pub returns-then-b-le126-clause-moved : goal.returns-then-b-le126-clause-moved
@@ -13,3 +15,12 @@ returns-then-b-le126-clause-moved g c = λ limit o x k.
     c.dispatch_csi.new.actor)
     (sym (final_by limit o x c.args.b (omega arith) (omega arith)))
     (c.dispatch_csi.ensures.moved limit (strip x) k)
+
+pub dispatch_csi-requires : goal.dispatch_csi-requires
+dispatch_csi-requires g c =
+    ⊎_map (λ r. r) (λ w. (
+      strip w.2,
+      w.3,
+      subst (λ m. Awaits g.V.Taker.may g.V.Taker.takes c.args.actor.now m.1)
+          (final_by w.0 w.1 w.2 c.args.b (omega arith) (omega arith)) w.4,
+    )) c.requires

@@ -1,6 +1,8 @@
 use Rattle.std.proofs.Common.{take, refl, arith}
 use Rattle.esc_frame.specs.Machine.Moves.{after_all}
 use Rattle.esc_frame.proofs.ManyBytes.{ran_took, ran_ends, tail_length}
+use Rattle.std.proofs.Math.Logic.{⊎_map}
+use Rattle.esc_frame.proofs.MayRun.{cut_rest}
 use Rattle.esc_frame.proofs.machine.Machine.take_all.Goals as goal
 
 pub loop-at-preserved : goal.loop-at-preserved
@@ -9,7 +11,7 @@ loop-at-preserved g c =
     let bs = c.args.bytes.now in
     let l = tail_length bs i in (
       omega (arith, c.in-Ok.ensures.count),
-      c.in-Ok.ensures.count.2,
+      (λ r. c.in-Ok.ensures.count.2 (c.loop-at.invariant.1 r)),
       λ u h.
           let p = c.loop-at.invariant.2 u h in
           let v = after_all u (take i bs) in
@@ -26,3 +28,16 @@ returns-in-Err-clause-emitted g c = λ u h.
     let v = after_all u (take i bs) in
     ran_ends c.args.limit g.V.Taker.takes g.V.Taker.refuses u v bs i c.args.actor.now _ _ refl p.1
     p.2 (c.in-Err.ensures.took v p.0)
+
+pub take-requires-clause-ready : goal.take-requires-clause-ready
+take-requires-clause-ready g c =
+    let i = c.loop-at.at in
+    let bs = c.args.bytes.now in
+    ⊎_map c.loop-at.invariant.1 (λ w.
+    let p = c.loop-at.invariant.2 w.0 w.1 in (
+      after_all w.0 (take i bs),
+      p.0,
+      cut_rest g.V.Taker.may g.V.Taker.takes bs i c.args.limit w.0 (after_all w.0
+          (take i bs)) c.args.actor.now _ refl p.1
+          w.2,
+    )) c.requires

@@ -6,7 +6,8 @@ use Rattle.esc_frame.specs.Machine.Moves.{after_all, events_all}
 use Rattle.esc_frame.proofs.machine.Machine.take_all.Given as goal
 
 abbrev pub invariant-loop-at : goal.invariant-loop-at
-invariant-loop-at g l = (l.at ≤ length l.bytes) × g.V.Taker.is_ready l.actor
+invariant-loop-at g l = (l.at ≤ length l.bytes)
+    × (g.V.Taker.is_ready l.initial.actor → g.V.Taker.is_ready l.actor)
     × ((u : Unfinished) → Holds g.K.Store.keeps l.limit l.initial.self u
     → Holds g.K.Store.keeps l.limit l.self (after_all u (take l.at l.bytes))
     × FoldsTo g.V.Taker.takes l.initial.actor

@@ -1,5 +1,10 @@
 use Rattle.esc_frame.proofs.Borrowed.{borrowed_took, borrowed_stops}
 use Rattle.esc_frame.proofs.Still.{text_still}
+use Rattle.std.proofs.Math.Logic.{⊎_map}
+use Rattle.esc_frame.proofs.MayRun.{cut_first}
+use Rattle.esc_frame.proofs.Borrowed.{borrowed_events}
+use Rattle.esc_frame.specs.Leads.Unfinished.{InOsc}
+use Rattle.std.proofs.Common.{◌+◌}
 use Rattle.esc_frame.proofs.machine.Machine.take_borrowed.Goals as goal
 
 pub returns-in-Ok-clause-took : goal.returns-in-Ok-clause-took
@@ -20,3 +25,14 @@ returns-in-Err-clause-took g c = λ o ps none.
     borrowed_stops c.args.limit g.V.Taker.takes g.V.Taker.refuses o ps c.args.rest.now c.args.run
     c.args.actor.now c.end_borrowed.new.actor none c.requires.passes
     c.requires.few c.args.class c.requires.class c.requires.ends c.in-Err.ensures.moved
+
+pub end_borrowed-requires : goal.end_borrowed-requires
+end_borrowed-requires g c =
+    let a = c.args.actor.now in
+    ⊎_map (λ r. r) (λ w.
+    cut_first g.V.Taker.may g.V.Taker.takes c.args.rest.now (c.args.run + 1) c.args.limit
+    (InOsc w.0 w.1) _ a
+    (borrowed_events c.args.limit g.V.Taker.takes g.V.Taker.refuses w.0 w.1 c.args.rest.now
+    c.args.run a a w.2
+    c.requires.passes c.requires.few c.args.class c.requires.class c.requires.ends) w.3)
+    c.requires.ready

@@ -1,5 +1,10 @@
 use Rattle.std.proofs.Common.{arith}
 use Rattle.esc_frame.proofs.Borrowed.{pair_took, pair_stops, pair_still}
+use Rattle.std.proofs.Math.Logic.{⊎_map}
+use Rattle.esc_frame.proofs.MayRun.{cut_first}
+use Rattle.esc_frame.proofs.Borrowed.{pair_events}
+use Rattle.esc_frame.specs.Leads.Unfinished.{InOsc}
+use Rattle.std.proofs.Common.{◌+◌}
 use Rattle.esc_frame.proofs.machine.Machine.take_borrowed_by_pair.Goals as goal
 
 pub returns-in-Ok-clause-took : goal.returns-in-Ok-clause-took
@@ -20,3 +25,14 @@ returns-in-Err-clause-took g c = λ o ps none.
     c.args.actor.now c.end_borrowed_by_pair.new.actor none
     c.requires.passes (omega arith) c.requires.few c.requires.lead c.requires.control
     c.in-Err.ensures.moved
+
+pub end_borrowed_by_pair-requires : goal.end_borrowed_by_pair-requires
+end_borrowed_by_pair-requires g c =
+    let a = c.args.actor.now in
+    ⊎_map (λ r. r) (λ w.
+    cut_first g.V.Taker.may g.V.Taker.takes c.args.rest.now (c.args.run + 2) c.args.limit
+    (InOsc w.0 w.1) _ a
+    (pair_events c.args.limit g.V.Taker.takes g.V.Taker.refuses w.0 w.1 c.args.rest.now c.args.run a
+    a w.2
+    c.requires.passes (omega arith) c.requires.few c.requires.lead c.requires.control) w.3)
+    c.requires.ready

@@ -6,6 +6,7 @@ use Rattle.esc_frame.specs.Machine.Calls.{TookSome, Fails}
 use Rattle.esc_frame.specs.Machine.Moves.{events_all}
 use Rattle.esc_frame.proofs.Given.{stops_for}
 use Rattle.esc_frame.proofs.Borrows.{ground_fresh}
+use Rattle.esc_frame.specs.Machine.Makes.{MayEmit}
 use Rattle.esc_frame.proofs.machine.Machine.take_first.Goals as goal
 
 pub returns-in-Ok-eq0 : goal.returns-in-Ok-eq0
@@ -44,3 +45,13 @@ returns-in-Err g c = (
   tt,
   tt,
 )
+
+pub take_control-requires-clause-ready : goal.take_control-requires-clause-ready
+take_control-requires-clause-ready g c =
+    let none : c.in-Ok-eq0.field-0 ≡ 0 = search rules in
+    let same : c.args.actor.now ≡ c.print_first.new.actor =
+    subst (λ k. FoldsTo g.V.Taker.takes c.args.actor.now
+    (events_all None Ground (take k c.args.rest.now)) c.print_first.new.actor) none
+    (c.in-Ok-eq0.ensures.stays.2 None) in
+    subst (λ a. MayEmit g.V.Taker (events_all c.args.limit Ground c.args.rest.now) a) same
+    c.requires.ready

@@ -8,6 +8,8 @@ use Rattle.esc_frame.proofs.Given.{stops_for}
 use Rattle.esc_frame.proofs.ManyBytes.{stop_within}
 use Rattle.esc_frame.proofs.States.{data_fresh}
 use Rattle.esc_frame.proofs.StringRuns.{data_holds, all_pass}
+use Rattle.std.proofs.Math.Logic.{⊎_map}
+use Rattle.esc_frame.proofs.MayRun.{cut_first}
 use Rattle.esc_frame.proofs.machine.Machine.take_in_data.Goals as goal
 
 pub dcs_put_text-requires-clause-bytes : goal.dcs_put_text-requires-clause-bytes
@@ -44,3 +46,13 @@ returns-in-Err-clause-took g c = λ u h.
 
 pub take_one-requires-clause-between : goal.take_one-requires-clause-between
 take_one-requires-clause-between g c = rw c.requires.state refl
+
+pub dcs_put_text-requires-clause-ready : goal.dcs_put_text-requires-clause-ready
+dcs_put_text-requires-clause-ready g c =
+    let a = c.args.actor.now in
+    let run = c.data_run-run.result in
+    ⊎_map (λ r. r) (λ w.
+    cut_first g.V.Taker.may g.V.Taker.takes c.args.rest.now run c.args.limit w.0 _ a
+    (data_holds g.K.Store.keeps c.args.limit c.args.self.now (take run c.args.rest.now)
+    (all_pass is_data_byte c.args.rest.now run c.data_run-run.ensures.run) w.0
+    c.requires.state w.1).1 w.2) c.requires.ready

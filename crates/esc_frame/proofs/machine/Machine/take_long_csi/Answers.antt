@@ -6,6 +6,10 @@ use Rattle.esc_frame.specs.declared.classes.Kind.TheVariants as kind
 use Rattle.esc_frame.proofs.Borrows.{opened_fresh}
 use Rattle.esc_frame.proofs.Still.{opened_took, opened_stops}
 use Rattle.esc_frame.specs.Machine.Calls.{Fails}
+use Rattle.std.proofs.Math.Logic.{⊎_map}
+use Rattle.esc_frame.proofs.MayRun.{cut_rest}
+use Rattle.esc_frame.proofs.QuietRuns.{quiet_folds}
+use Rattle.esc_frame.specs.Leads.Unfinished.{Ground}
 use Rattle.esc_frame.proofs.machine.Machine.take_long_csi.Goals as goal
 
 pub take_in_csi-requires-clause-state : goal.take_in_csi-requires-clause-state
@@ -32,3 +36,18 @@ returns-in-Err g c = λ limit. (
   tt,
   tt,
 )
+
+pub take_in_csi-requires-clause-ready : goal.take_in_csi-requires-clause-ready
+take_in_csi-requires-clause-ready g c =
+    let a = c.args.actor.now in
+    ⊎_map (λ r. r) (λ w.
+    let opens = csi_opens w.0 c.args.rest.now (omega arith) c.requires.escape
+    c.requires.bracket in (
+      w.0,
+      Long [],
+      [],
+      (c.open.ensures w.0 (Long [])).1,
+      cut_rest g.V.Taker.may g.V.Taker.takes c.args.rest.now 2 w.0 Ground (InCsi
+          (Long []) []) a a opens.0
+          (quiet_folds g.V.Taker.takes _ a opens.1) w.1,
+    )) c.requires.ready

@@ -6,6 +6,10 @@ use Rattle.esc_frame.specs.declared.classes.Kind.TheVariants as kind
 use Rattle.esc_frame.proofs.Borrows.{opened_fresh}
 use Rattle.esc_frame.proofs.Still.{opened_took, opened_stops}
 use Rattle.esc_frame.specs.Machine.Calls.{Fails}
+use Rattle.std.proofs.Math.Logic.{⊎_map}
+use Rattle.esc_frame.proofs.MayRun.{cut_rest}
+use Rattle.esc_frame.proofs.QuietRuns.{quiet_folds}
+use Rattle.esc_frame.specs.Leads.Unfinished.{Ground}
 use Rattle.esc_frame.proofs.machine.Machine.take_osc.Goals as goal
 
 pub returns-in-Ok : goal.returns-in-Ok
@@ -30,3 +34,17 @@ returns-in-Err g c = (
   tt,
   tt,
 )
+
+pub take_body-requires-clause-ready : goal.take_body-requires-clause-ready
+take_body-requires-clause-ready g c =
+    let a = c.args.actor.now in
+    let opens = osc_opens c.args.limit c.args.rest.now (omega arith) c.requires.escape
+    c.requires.bracket in
+    ⊎_map (λ r. r) (λ w. (
+      Long [],
+      [],
+      refl,
+      cut_rest g.V.Taker.may g.V.Taker.takes c.args.rest.now 2 c.args.limit Ground (InOsc
+          (Long []) []) a a opens.0
+          (quiet_folds g.V.Taker.takes _ a opens.1) w,
+    )) c.requires.ready

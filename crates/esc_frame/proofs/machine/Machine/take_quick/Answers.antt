@@ -1,5 +1,6 @@
 use Rattle.std.proofs.Common.{◌≡◌, rules}
 use Rattle.esc_frame.proofs.ManyBytes.{ran_again, ran_none, ran_refused}
+use Rattle.esc_frame.proofs.MayRun.{may_after}
 use Rattle.esc_frame.proofs.machine.Machine.take_quick.Goals as goal
 
 pub loop-at-preserved : goal.loop-at-preserved
@@ -22,3 +23,8 @@ returns-in-Ok-eq0-clause-stays g c =
     ran_none g.V.Taker.takes g.V.Taker.refuses g.V.Taker.is_ready c.args.rest.now c.loop-at.at
     c.in-Ok-eq0.field-0 c.args.actor.now _ _ none
     c.loop-at.invariant.0 c.in-Ok-eq0.ensures.stays
+
+pub take_quick_one-requires-clause-ready : goal.take_quick_one-requires-clause-ready
+take_quick_one-requires-clause-ready g c =
+    may_after g.V.Taker.is_ready g.V.Taker.may g.V.Taker.takes c.args.rest.now c.loop-at.at
+    c.args.actor.now _ c.loop-at.invariant.0 c.requires.ready

@@ -5,25 +5,25 @@ pub returns-then-rest-le2-clause-ground : goal.returns-then-rest-le2-clause-grou
 returns-then-rest-le2-clause-ground g c = c.requires.ground
 
 pub returns-then-rest-le2-clause-stays : goal.returns-then-rest-le2-clause-stays
-returns-then-rest-le2-clause-stays g c = (omega arith, refl, λ limit. refl, c.requires.ready)
+returns-then-rest-le2-clause-stays g c = (omega arith, refl, λ limit. refl, λ r. r)
 
 pub returns-then-rest-ne91-clause-ground : goal.returns-then-rest-ne91-clause-ground
 returns-then-rest-ne91-clause-ground g c = c.requires.ground
 
 pub returns-then-rest-ne91-clause-stays : goal.returns-then-rest-ne91-clause-stays
-returns-then-rest-ne91-clause-stays g c = (omega arith, refl, λ limit. refl, c.requires.ready)
+returns-then-rest-ne91-clause-stays g c = (omega arith, refl, λ limit. refl, λ r. r)
 
 pub returns-then-run-rest-clause-ground : goal.returns-then-run-rest-clause-ground
 returns-then-run-rest-clause-ground g c = c.requires.ground
 
 pub returns-then-run-rest-clause-stays : goal.returns-then-run-rest-clause-stays
-returns-then-run-rest-clause-stays g c = (omega arith, refl, λ limit. refl, c.requires.ready)
+returns-then-run-rest-clause-stays g c = (omega arith, refl, λ limit. refl, λ r. r)
 
 pub returns-else-lies_from-clause-ground : goal.returns-else-lies_from-clause-ground
 returns-else-lies_from-clause-ground g c = c.requires.ground
 
 pub returns-else-lies_from-clause-stays : goal.returns-else-lies_from-clause-stays
-returns-else-lies_from-clause-stays g c = (omega arith, refl, λ limit. refl, c.requires.ready)
+returns-else-lies_from-clause-stays g c = (omega arith, refl, λ limit. refl, λ r. r)
 
 pub returns-then-lies_from-clause-ground : goal.returns-then-lies_from-clause-ground
 returns-then-lies_from-clause-ground g c = c.take_short_csi.ensures.ground

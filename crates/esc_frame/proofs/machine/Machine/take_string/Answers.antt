@@ -2,6 +2,8 @@ use Rattle.std.proofs.Common.{take, refl}
 use Rattle.esc_frame.specs.Leads.Unfinished.{Ground}
 use Rattle.esc_frame.specs.Machine.Moves.{after_all}
 use Rattle.esc_frame.proofs.ManyBytes.{ran_took, ran_ends}
+use Rattle.std.proofs.Math.Logic.{⊎_map}
+use Rattle.esc_frame.proofs.MayRun.{cut_rest}
 use Rattle.esc_frame.proofs.machine.Machine.take_string.Goals as goal
 
 pub returns-in-Ok-take_terminator-clause-took : goal.returns-in-Ok-take_terminator-clause-took
@@ -21,3 +23,15 @@ returns-in-Err-take_terminator-clause-took g c =
     ran_ends c.args.limit g.V.Taker.takes g.V.Taker.refuses Ground u c.args.rest.now c.in-Ok.n
     c.args.actor.now _ _ refl so.1 so.2
     (c.in-Err-take_terminator.ensures.took u so.0)
+
+pub take_terminator-requires : goal.take_terminator-requires
+take_terminator-requires g c =
+    let so = c.in-Ok.ensures in
+    let u = after_all Ground (take c.in-Ok.n c.args.rest.now) in
+    ⊎_map so.2.2 (λ w. (
+      u,
+      so.0.0,
+      cut_rest g.V.Taker.may g.V.Taker.takes c.args.rest.now c.in-Ok.n c.args.limit Ground u
+          c.args.actor.now _ refl
+          so.0.1 w,
+    )) c.requires.ready

@@ -4,6 +4,7 @@ use Rattle.esc_frame.specs.Machine.Calls.{Stops}
 use Rattle.esc_frame.specs.Machine.Keeps.{parameters_of}
 use Rattle.esc_frame.proofs.Given.{takes_one}
 use Rattle.esc_frame.proofs.Headers.{hook_is, read_parts}
+use Rattle.std.proofs.Math.Logic.{⊎_map}
 use Rattle.esc_frame.proofs.machine.dcs.hook.Goals as goal
 
 pub returns-clause-emitted : goal.returns-clause-emitted
@@ -19,3 +20,12 @@ returns-clause-emitted g c = λ limit x h k r.
       subst (λ y. is_within limit (length y) ≡ true) (sym e) p.0,
       w,
     )) c.dcs_header.ensures.emitted
+
+pub dcs_header-requires : goal.dcs_header-requires
+dcs_header-requires g c =
+    ⊎_map (λ r. r) (λ w.
+    subst (g.V.Taker.may c.args.actor.now)
+    (sym (hook_is c.args.header.now w.1 c.bytes.result.now _ _ c.args.b
+    (read_parts w.0 w.1 w.4).1 w.3
+    (c.bytes.ensures.kept w.0 (parameters_of w.1) w.2 (read_parts w.0 w.1 w.4).0) refl
+    c.as_slice.ensures)) w.5.0) c.requires

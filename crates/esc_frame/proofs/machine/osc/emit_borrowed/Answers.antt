@@ -1,4 +1,4 @@
-use Rattle.std.proofs.Common.{[], ◌∷◌, ◌≡◌, true, not, ◌∙◌, refl, length, subst}
+use Rattle.std.proofs.Common.{[], ◌∷◌, ◌≡◌, true, not, ◌∙◌, refl, length, subst, sym}
 use Rattle.std.specs.List.{FoldsTo}
 use Rattle.esc_values.specs.Clear.{parts_of}
 use Rattle.esc_frame.specs.Events.{Takes}
@@ -7,6 +7,8 @@ use Rattle.esc_frame.specs.Limits.{has_few_parts}
 use Rattle.esc_frame.specs.Machine.Calls.{Stops}
 use Rattle.esc_frame.proofs.Given.{takes_few, takes_for}
 use Rattle.esc_frame.proofs.Borrowed.{within_by, osc_emitted, osc_unemitted}
+use Rattle.esc_frame.proofs.May.{get_first}
+use Rattle.esc_frame.specs.Events.{MayGet}
 use Rattle.esc_frame.proofs.machine.osc.emit_borrowed.Goals as goal
 
 pub returns-then-fits-clause-emitted : goal.returns-then-fits-clause-emitted
@@ -32,3 +34,12 @@ returns-else-fits-clause-emitted g c =
     subst (λ es. FoldsTo g.V.Taker.takes c.args.actor.now es c.args.actor.now)
     (osc_unemitted c.args.limit t (within_by c.args.limit (length t) _ c.fits.ensures
     ∙ c.if-fits.false)) refl
+
+pub osc_text-requires : goal.osc_text-requires
+osc_text-requires g c =
+    let t = c.args.text.now in
+    let a = c.args.actor.now in
+    let within = within_by c.args.limit (length t) _ c.fits.ensures ∙ c.if-fits.true in
+    get_first g.V.Taker.is_ready g.V.Taker.may g.V.Taker.takes a a (OscDispatch (parts_of t)) []
+    (subst (MayGet g.V.Taker.is_ready g.V.Taker.may g.V.Taker.takes a) (sym
+    (osc_emitted c.args.limit t within)) c.requires)

@@ -1,9 +1,11 @@
-use Rattle.std.proofs.Common.{◌∙◌, refl, length, subst}
+use Rattle.std.proofs.Common.{◌∙◌, refl, length, subst, sym, []}
 use Rattle.std.specs.List.{FoldsTo}
 use Rattle.esc_frame.specs.Events.{Takes}
 use Rattle.esc_frame.specs.Events.Event.{ApcDispatch}
 use Rattle.esc_frame.proofs.Given.{receives_takes}
 use Rattle.esc_frame.proofs.Borrowed.{within_by, apc_emitted, apc_unemitted}
+use Rattle.esc_frame.proofs.May.{get_first}
+use Rattle.esc_frame.specs.Events.{MayGet}
 use Rattle.esc_frame.proofs.machine.strings.emit_borrowed_apc.Goals as goal
 
 pub returns-then-fits-clause-emitted : goal.returns-then-fits-clause-emitted
@@ -23,3 +25,12 @@ returns-else-fits-clause-emitted g c =
     subst (λ es. FoldsTo g.V.Taker.takes c.args.actor.now es c.args.actor.now)
     (apc_unemitted c.args.limit t (within_by c.args.limit (length t) _ c.fits.ensures
     ∙ c.if-fits.false)) refl
+
+pub apc_dispatch-requires : goal.apc_dispatch-requires
+apc_dispatch-requires g c =
+    let t = c.args.text.now in
+    let a = c.args.actor.now in
+    let within = within_by c.args.limit (length t) _ c.fits.ensures ∙ c.if-fits.true in
+    get_first g.V.Taker.is_ready g.V.Taker.may g.V.Taker.takes a a (ApcDispatch t) []
+    (subst (MayGet g.V.Taker.is_ready g.V.Taker.may g.V.Taker.takes a) (sym
+    (apc_emitted c.args.limit t within)) c.requires)

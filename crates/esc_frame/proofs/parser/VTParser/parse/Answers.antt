@@ -1,10 +1,10 @@
-use Rattle.std.proofs.Common.{refl}
+use Rattle.std.proofs.Common.{refl, ◌≡◌, false, rules}
 use Rattle.esc_frame.specs.Leads.Unfinished.{Ground}
 use Rattle.esc_frame.specs.Machine.Keeps.{KeepsText}
 use Rattle.esc_frame.specs.Machine.Moves.{after_all}
 use Rattle.esc_frame.specs.Stream.{LeadsToWithin}
 use Rattle.esc_frame.proofs.AtGround.{to_ground}
-use Rattle.esc_frame.proofs.Fed.{kept_all, given_all, refused_all, refused_borrowed}
+use Rattle.esc_frame.proofs.Fed.{kept_all, given_all, refused_all, refused_borrowed, may_feed}
 use Rattle.esc_frame.proofs.BorrowedCuts.{borrowed_borrows}
 use Rattle.esc_frame.proofs.parser.VTParser.parse.Goals as goal
 
@@ -42,3 +42,8 @@ returns-in-Err-clause-borrowed g c = λ limit s (f, i, h) at borrowed. (
       (borrowed_borrows c.args.bytes.now borrowed)
       (c.in-Err.ensures.emitted (after_all Ground s) h),
 )
+
+pub take_all-requires : goal.take_all-requires
+take_all-requires g c =
+    let fine : c.args.self.now.has_failed ≡ false = search rules in
+    may_feed g.V.VTActor c.args.self.now c.args.actor.now c.args.bytes.now fine c.requires

@@ -1,9 +1,13 @@
-use Rattle.std.proofs.Common.{refl}
+use Rattle.std.proofs.Common.{◌≡◌, false, [], ◌∷◌, refl, sym, subst, rules}
 use Rattle.esc_frame.specs.Leads.Unfinished.{Ground}
 use Rattle.esc_frame.specs.Machine.Keeps.{KeepsText}
-use Rattle.esc_frame.specs.Machine.Moves.{after_all}
+use Rattle.esc_frame.specs.Machine.Moves.{after_all, events_by}
+use Rattle.esc_frame.specs.Classes.{class_of}
+use Rattle.esc_frame.specs.Events.{Awaits}
 use Rattle.esc_frame.specs.Stream.{LeadsToWithin}
-use Rattle.esc_frame.proofs.Fed.{kept_one, given_one, refused_one}
+use Rattle.esc_frame.proofs.Fed.{kept_one, given_one, refused_one, may_feed}
+use Rattle.std.proofs.Math.Logic.{⊎_map}
+use Rattle.esc_frame.proofs.May.{take_prefix}
 use Rattle.esc_frame.proofs.parser.VTParser.parse_byte.Goals as goal
 
 pub returns-in-Ok-clause-given : goal.returns-in-Ok-clause-given
@@ -32,3 +36,18 @@ returns-in-Err-clause-refused g c = λ limit s (f, i, h).
           s c.args.byte _ c.args.actor.now c.step.new.actor k
           (c.in-Err.ensures.moved k (after_all Ground s) h),
     )
+
+pub step-requires : goal.step-requires
+step-requires g c =
+    let fine : c.args.self.now.has_failed ≡ false = search rules in
+    let may = g.V.VTActor.may in
+    let takes = g.V.VTActor.takes in
+    let limit = c.args.self.now.limit in
+    let b = c.args.byte in
+    let a = c.args.actor.now in
+    ⊎_map (λ r. r) (λ w. (
+      w.0,
+      w.1,
+      subst (λ k. Awaits may takes a (events_by limit w.0 b k)) (sym c.classify.ensures)
+          (take_prefix may takes a (events_by limit w.0 b (class_of b)) [] w.2),
+    )) (may_feed g.V.VTActor c.args.self.now a (b ∷ []) fine c.requires)

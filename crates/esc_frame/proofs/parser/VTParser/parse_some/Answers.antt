@@ -1,9 +1,9 @@
-use Rattle.std.proofs.Common.{[], take, refl, subst, arith}
+use Rattle.std.proofs.Common.{[], take, refl, subst, arith, ◌≡◌, false, rules}
 use Rattle.esc_frame.specs.Leads.Unfinished.{Ground}
 use Rattle.esc_frame.specs.Machine.Keeps.{KeepsText}
 use Rattle.esc_frame.specs.Machine.Moves.{after_all}
 use Rattle.esc_frame.specs.Stream.{LeadsToWithin, IsQuietWithin}
-use Rattle.esc_frame.proofs.Fed.{kept_all, given_all, refused_all}
+use Rattle.esc_frame.proofs.Fed.{kept_all, given_all, refused_all, may_feed}
 use Rattle.esc_frame.proofs.Still.{quiet_all}
 use Rattle.esc_frame.proofs.parser.VTParser.parse_some.Goals as goal
 
@@ -47,3 +47,8 @@ returns-in-Err-clause-refused g c = λ limit s (f, i, h). (
       c.args.bytes.now c.args.actor.now c.take_some.new.actor
       (c.in-Err.ensures.took (after_all Ground s) h),
 )
+
+pub take_some-requires-clause-ready : goal.take_some-requires-clause-ready
+take_some-requires-clause-ready g c =
+    let fine : c.args.self.now.has_failed ≡ false = search rules in
+    may_feed g.V.VTActor c.args.self.now c.args.actor.now c.args.bytes.now fine c.requires

@@ -1,4 +1,5 @@
 use Rattle.esc_frame.proofs.ManyBytes.{one_control, event_given, event_stops}
+use Rattle.esc_frame.proofs.MayRun.{may_one}
 use Rattle.esc_frame.proofs.runs.printing.execute_one.Goals as goal
 
 pub returns-in-Ok : goal.returns-in-Ok
@@ -16,3 +17,9 @@ returns-in-Err g c =
     event_stops g.V.Taker.takes g.V.Taker.refuses c.args.rest.now 1 _ c.args.actor.now _
     (one_control c.args.rest.now c.requires.some c.requires.low
     c.requires.other) _ c.in-Err.ensures.receives
+
+pub execute_c0_or_c1-requires : goal.execute_c0_or_c1-requires
+execute_c0_or_c1-requires g c =
+    may_one g.V.Taker.is_ready g.V.Taker.may g.V.Taker.takes c.args.rest.now 1 _
+    c.args.actor.now
+    (one_control c.args.rest.now c.requires.some c.requires.low c.requires.other) c.requires.ready

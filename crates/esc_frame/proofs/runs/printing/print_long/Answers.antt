@@ -1,4 +1,6 @@
-use Rattle.esc_frame.proofs.ClearRuns.{str_clear, str_given, str_stops}
+use Rattle.esc_frame.specs.Leads.Unfinished.{Ground}
+use Rattle.esc_frame.proofs.ClearRuns.{str_events, str_clear, str_given, str_stops}
+use Rattle.esc_frame.proofs.MayRun.{may_first}
 use Rattle.esc_frame.proofs.runs.printing.print_long.Goals as goal
 
 pub print_str-requires-clause-clear : goal.print_str-requires-clause-clear
@@ -21,3 +23,11 @@ returns-in-Err-print_str g c =
     c.free_run-run.result c.args.actor.now c.print_str.new.self
     c.free_run-run.ensures.run c.in-Ok.ensures.0 c.in-Ok.ensures.1 _
     c.in-Err-print_str.ensures.emitted
+
+pub print_str-requires-clause-ready : goal.print_str-requires-clause-ready
+print_str-requires-clause-ready g c =
+    may_first g.V.Taker.is_ready g.V.Taker.may g.V.Taker.takes c.args.rest.now
+    c.free_run-run.result Ground _ c.args.actor.now
+    (str_events g.V.Taker.takes g.V.Taker.refuses c.args.rest.now c.in-Ok.text.now
+    c.free_run-run.result c.args.actor.now c.args.actor.now
+    c.free_run-run.ensures.run c.in-Ok.ensures.0 c.in-Ok.ensures.1) c.requires

@@ -2,6 +2,7 @@ use Rattle.std.proofs.Common.{◌≡◌, ◌<◌, true, length, take, subst, sym
 use Rattle.std.specs.List.{list_all}
 use Rattle.esc_frame.specs.Scans.{is_text_byte}
 use Rattle.esc_frame.proofs.ManyBytes.{run_passes, some_run, text_given, text_stops}
+use Rattle.esc_frame.proofs.MayRun.{may_text}
 use Rattle.esc_frame.proofs.runs.printing.print_text.Goals as goal
 
 pub returns-in-Ok : goal.returns-in-Ok
@@ -24,3 +25,8 @@ pub print_text-requires-clause-some : goal.print_text-requires-clause-some
 print_text-requires-clause-some g c =
     subst (λ k. 0 < length (take k c.args.rest.now)) (sym c.ascii_run-run.ensures.run)
     (some_run c.args.rest.now c.requires.some c.requires.low c.requires.high)
+
+pub print_text-requires-clause-ready : goal.print_text-requires-clause-ready
+print_text-requires-clause-ready g c =
+    may_text g.V.Taker.is_ready g.V.Taker.may g.V.Taker.takes c.args.rest.now _
+    c.args.actor.now c.ascii_run-run.ensures.run c.requires.ready

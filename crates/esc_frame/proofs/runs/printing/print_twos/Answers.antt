@@ -1,5 +1,6 @@
 use Rattle.std.proofs.Common.{◌≡◌, rules}
 use Rattle.esc_frame.proofs.ManyBytes.{ran_again, ran_none, ran_refused}
+use Rattle.esc_frame.proofs.MayRun.{may_after}
 use Rattle.esc_frame.proofs.runs.printing.print_twos.Goals as goal
 
 pub loop-at-preserved : goal.loop-at-preserved
@@ -21,3 +22,8 @@ returns-in-Ok-eq0 g c =
     c.in-Ok-eq0.field-0 c.args.actor.now _ _ none
     c.loop-at.invariant
     c.in-Ok-eq0.ensures
+
+pub print_two-requires-clause-ready : goal.print_two-requires-clause-ready
+print_two-requires-clause-ready g c =
+    may_after g.V.Taker.is_ready g.V.Taker.may g.V.Taker.takes c.args.rest.now c.loop-at.at
+    c.args.actor.now _ c.loop-at.invariant c.requires

@@ -1,6 +1,7 @@
 use Rattle.std.proofs.Common.{arith}
 use Rattle.esc_frame.specs.Events.Event.{DcsPut}
 use Rattle.esc_frame.proofs.Given.{each_next, each_stop}
+use Rattle.esc_frame.proofs.May.{get_each}
 use Rattle.esc_frame.proofs.taker.Taker.dcs_put_text.Goals as goal
 
 pub returns-in-Err-clause-emitted : goal.returns-in-Err-clause-emitted
@@ -10,7 +11,13 @@ returns-in-Err-clause-emitted g c =
 
 pub loop-b-preserved : goal.loop-b-preserved
 loop-b-preserved g c = (
-  c.in-Ok.ensures.ready,
+  (λ r. c.in-Ok.ensures.ready (c.loop-b.invariant.0 r)),
   each_next g.Self.Taker.takes g.Self.Taker.refuses DcsPut c.args.bytes.now c.loop-b.b-index
       (omega arith) c.args.self.now _ _ c.loop-b.invariant.1 c.in-Ok.ensures.receives,
 )
+
+pub dcs_put-requires : goal.dcs_put-requires
+dcs_put-requires g c =
+    get_each g.Self.Taker.is_ready g.Self.Taker.may g.Self.Taker.takes DcsPut c.args.bytes.now
+    c.loop-b.b-index (omega arith) c.args.self.now c.loop-b.self c.loop-b.invariant.0
+    c.loop-b.invariant.1 c.requires.ready

@@ -3,7 +3,7 @@ use Rattle.std.specs.List.{FoldsTo}
 use Rattle.std.specs.Str.{chars}
 use Rattle.esc_frame.specs.Events.Event.{Print}
 use Rattle.esc_frame.proofs.FirstChars.{next_within, tail_next, tail_some, tail_clear}
-use Rattle.esc_frame.proofs.Spelled.{next_spelled, stop_given, all_spelled}
+use Rattle.esc_frame.proofs.Spelled.{next_spelled, stop_given, all_spelled, may_spell}
 use Rattle.esc_frame.proofs.taker.Taker.print_str.Goals as goal
 
 pub loop-at-preserved : goal.loop-at-preserved
@@ -41,3 +41,11 @@ pub overflow_add-at : goal.overflow_add-at
 overflow_add-at g c =
     let w = next_within c.as_bytes-bytes.result.now c.loop-at.at _ _ c.loop-at-test.true
     c.first_of-c.ensures.next in omega arith
+
+pub print-requires : goal.print-requires
+print-requires g c =
+    may_spell g.Self.Taker.takes g.Self.Taker.refuses g.Self.Taker.is_ready
+    c.as_bytes-bytes.result.now g.Self.Taker.may _ c.as_bytes-bytes.ensures.value c.loop-at.at _ _
+    c.args.self.now _ c.loop-at.invariant
+    (tail_next c.as_bytes-bytes.result.now c.loop-at.at _ _ c.first_of-c.ensures.next)
+    c.requires.ready

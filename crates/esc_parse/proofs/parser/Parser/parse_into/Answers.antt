@@ -1,11 +1,13 @@
 use Rattle.std.proofs.Common.{sym, subst}
 use Rattle.std.proofs.lemmas.Result.{IfErr-at_err}
 use Rattle.esc_parse.proofs.Lists.{on_err_at, on_ok_at}
-use Rattle.esc_parse.proofs.Yields.{performs_fed, performs_some}
+use Rattle.esc_parse.proofs.Yields.{may_feed, performs_fed, performs_some}
+use Rattle.std.proofs.Math.Logic.{⊎_map}
+use Rattle.std.proofs.Common.{inl, inr}
 use Rattle.esc_parse.proofs.parser.Parser.parse_into.Goals as goal
 use Rattle.esc_frame.specs.Stream.{events_within}
 use Rattle.esc_parse.specs.Fed.{Hooks, WasFedWithin}
-use Rattle.esc_parse.specs.Given.{At}
+use Rattle.esc_parse.specs.Given.{AnyAt, At}
 use Rattle.esc_actions.specs.Meaning.{mode_from}
 use Rattle.esc_actions.specs.Values.{plain, value_of}
 
@@ -29,3 +31,20 @@ returns-in-Err-clause-refused g c = λ limit s h.
           (subst (λ u. Hooks limit u (mode_from plain (events_within limit s)))
           (sym c.take.ensures.taken) h.1),
     )
+
+pub parse-result-requires : goal.parse-result-requires
+unfolding WasFedWithin
+parse-result-requires g c =
+    ⊎_map (λ r. r) (λ w. elim w [
+      | inl broken ↦ inl broken.0
+      | inr fed ↦ inr (
+        fed.0,
+        fed.1,
+        fed.2.0,
+        may_feed (At value_of g.S.Sink.takes) (At value_of g.S.Sink.refuses)
+            (AnyAt value_of g.S.Sink.may) fed.0 fed.1
+            c.args.bytes.now _
+            (subst (λ u. Hooks fed.0 u (mode_from plain (events_within fed.0 fed.1)))
+            (sym c.take.ensures.taken) fed.2.1) fed.3,
+      )
+    ]) c.requires

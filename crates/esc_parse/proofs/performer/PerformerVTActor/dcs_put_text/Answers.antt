@@ -1,5 +1,6 @@
 use Rattle.std.proofs.Common.{sym}
-use Rattle.esc_parse.proofs.DataRuns.{given_run, given_stopped, quiet_refused, quiet_run}
+use Rattle.esc_parse.proofs.DataRuns.{data_awaits, given_run, given_stopped, quiet_refused, quiet_run}
+use Rattle.std.proofs.Math.Logic.{⊎_map}
 use Rattle.esc_parse.proofs.performer.PerformerVTActor.dcs_put_text.Goals as goal
 
 pub returns-in-Ok-clause-emitted : goal.returns-in-Ok-clause-emitted
@@ -23,3 +24,9 @@ returns-in-Err-push_run-clause-emitted g c =
     quiet_refused g.S.Sink.takes g.S.Sink.refuses ⊥ c.args.bytes.now c.args.self.now _
     c.requires.some (sym c.if-is_entered.ensures.mode)
     c.in-Err-push_run.ensures.refused
+
+pub give_data-requires : goal.give_data-requires
+give_data-requires g c =
+    ⊎_map (λ r. r) (data_awaits g.S.Sink.takes g.S.Sink.refuses g.S.Sink.may c.args.bytes.now
+    c.args.self.now
+    (sym c.if-is_entered.ensures.mode)) c.requires.ready

@@ -1,5 +1,6 @@
 use Rattle.std.proofs.Common.{chars}
-use Rattle.esc_parse.proofs.TextRuns.{run_stopped, run_taken}
+use Rattle.esc_parse.proofs.TextRuns.{run_awaits, run_stopped, run_taken}
+use Rattle.std.proofs.Math.Logic.{⊎_map}
 use Rattle.esc_parse.proofs.performer.PerformerVTActor.print_str.Goals as goal
 
 pub returns-in-Ok-clause-emitted : goal.returns-in-Ok-clause-emitted
@@ -11,3 +12,8 @@ pub returns-in-Err-clause-emitted : goal.returns-in-Err-clause-emitted
 returns-in-Err-clause-emitted g c =
     run_stopped g.S.Sink.takes g.S.Sink.refuses ⊥
     (chars c.args.text.now) c.args.self.now _ c.in-Err.ensures.given
+
+pub receive_str-requires-clause-ready : goal.receive_str-requires-clause-ready
+receive_str-requires-clause-ready g c =
+    ⊎_map (λ r. r) (run_awaits g.S.Sink.takes g.S.Sink.refuses g.S.Sink.may
+    (chars c.args.text.now) c.args.self.now) c.requires.ready

@@ -1,13 +1,14 @@
 use Rattle.std.proofs.Common.{subst}
 use Rattle.std.proofs.lemmas.Str.{IsUtf8-past_char}
-use Rattle.esc_parse.proofs.TextRuns.{char_stopped, char_taken, chars_taken}
+use Rattle.esc_parse.proofs.TextRuns.{char_may, char_stopped, char_taken, chars_taken}
+use Rattle.std.proofs.Common.{◌⊎◌, sym}
 use Rattle.esc_parse.proofs.sink.Sink.receive_str.Goals as goal
 
 pub loop-c-preserved : goal.loop-c-preserved
 loop-c-preserved g c =
     let at = c.loop-c in
     let step = c.in-Some.ensures.steps.0 in (
-      c.in-Ok.ensures.ready,
+      (λ r. c.in-Ok.ensures.ready (at.invariant.0 r)),
       IsUtf8-past_char _ _ c.in-Some.c at.invariant.1 step,
       char_taken g.T.FromChar.print g.Self.Sink.takes g.Self.Sink.refuses c.args.text.now _ _
           c.in-Some.c c.args.self.now _ _ at.invariant.1 step at.invariant.2
@@ -28,3 +29,12 @@ pub returns-clause-given : goal.returns-clause-given
 returns-clause-given g c =
     chars_taken g.T.FromChar.print g.Self.Sink.takes c.args.text.now _ c.args.self.now _
     c.in-None.ensures.steps.0.0 c.loop-c.invariant.2
+
+pub receive-requires : goal.receive-requires
+receive-requires g c =
+    let at = c.loop-c in
+    subst (λ x. g.Self.Sink.is_ready at.self ⊎ g.Self.Sink.may at.self x) (sym c.print.ensures)
+    (char_may g.Self.Sink.is_ready g.Self.Sink.may g.T.FromChar.print g.Self.Sink.takes
+    c.args.text.now _ _ c.in-Some.c c.args.self.now
+    at.self at.invariant.1 c.in-Some.ensures.steps.0 at.invariant.2 at.invariant.0
+    c.requires.ready)
