@@ -218,3 +218,23 @@ MOUSE = refl
 pub MOUSEUP : function_of 81005 ≡ Some control.MOUSEUP
 unfolding function_of rows_of
 MOUSEUP = refl
+
+pub XTWINOPS : function_of 372 ≡ Some control.XTWINOPS
+unfolding function_of rows_of
+XTWINOPS = refl
+
+pub DECRQM_ANSI : function_of 74864 ≡ Some control.DECRQM_ANSI
+unfolding function_of rows_of
+DECRQM_ANSI = refl
+
+pub DECRQM : function_of 20915312 ≡ Some control.DECRQM
+unfolding function_of rows_of
+DECRQM = refl
+
+pub DECRPM_ANSI : function_of 74873 ≡ Some control.DECRPM_ANSI
+unfolding function_of rows_of
+DECRPM_ANSI = refl
+
+pub DECRPM : function_of 20915321 ≡ Some control.DECRPM
+unfolding function_of rows_of
+DECRPM = refl

@@ -1,5 +1,5 @@
 -- What is written of a typed value reads back as this value.
-use Rattle.std.proofs.Common.{ℕ, ◌≡◌, ◌+◌, ◌-◌, ◌<◌, ◌==◌, Bool, true, false, List, [], ◌∷◌, ◌++◌, length, Option, Some, None, Ok}
+use Rattle.std.proofs.Common.{ℕ, ◌≡◌, ◌+◌, ◌-◌, ◌<◌, ◌==◌, Bool, true, false, nat_le, List, [], ◌∷◌, ◌++◌, length, Option, Some, None, Ok}
 use Rattle.std.proofs.Common.{refl, ap, sym, ◌∙◌, arith}
 use Rattle.std.specs.List.{list_all}
 use Rattle.std.proofs.lemmas.Bool.{eqb-true, le-leb, ne_eqb}
@@ -26,6 +26,12 @@ use Rattle.esc_typed.specs.declared.mouse.Mouse.{Mouse}
 use Rattle.esc_typed.specs.declared.mouse.Mouse.TheVariants as mouses
 use Rattle.esc_typed.specs.declared.one_based.OneBased.{OneBased}
 use Rattle.esc_typed.specs.declared.spelling.Spelling.{Spelling}
+use Rattle.esc_typed.specs.declared.mode_state.ModeState.{ModeState}
+use Rattle.esc_typed.specs.declared.mode_state.ModeState.TheVariants as states
+use Rattle.esc_typed.specs.declared.mode_status.ModeStatus.{ModeStatus}
+use Rattle.esc_typed.specs.declared.mode_status.ModeStatus.TheVariants as statuses
+use Rattle.esc_typed.specs.declared.window.Window.{Window}
+use Rattle.esc_typed.specs.declared.window.Window.TheVariants as windows
 use Rattle.esc_typed.specs.declared.erase_in_display.EraseInDisplay.{EraseInDisplay}
 use Rattle.esc_typed.specs.declared.erase_in_display.EraseInDisplay.TheVariants as erase_in_display
 use Rattle.esc_typed.specs.declared.erase_in_line.EraseInLine.{EraseInLine}
@@ -38,11 +44,12 @@ use Rattle.esc_typed.specs.declared.kitty_flags_change.KittyFlagsChange.{KittyFl
 use Rattle.esc_typed.specs.declared.kitty_flags_change.KittyFlagsChange.TheVariants as kitty_flags_change
 use Rattle.esc_typed.specs.declared.cursor_style.CursorStyle.{CursorStyle}
 use Rattle.esc_typed.specs.declared.cursor_style.CursorStyle.TheVariants as cursor_style
-use Rattle.esc_typed.specs.Arguments.{AreArguments, IsOneBased, after_prefix, arguments, entries_of, is_intermediate, number_first}
-use Rattle.esc_typed.specs.Choices.{cursor_style_at, cursor_style_number, cursor_tabulation_control_at, cursor_tabulation_control_number, erase_in_display_at, erase_in_display_number, erase_in_line_at, erase_in_line_number, kitty_flags_change_at, kitty_flags_change_number, tabulation_clear_at, tabulation_clear_number}
+use Rattle.esc_typed.specs.Arguments.{AreArguments, IsOneBased, after_prefix, arguments, entries_of, in_range, is_intermediate, number_first}
+use Rattle.esc_typed.specs.Choices.{cursor_style_at, cursor_style_number, cursor_tabulation_control_at, cursor_tabulation_control_number, erase_in_display_at, erase_in_display_number, erase_in_line_at, erase_in_line_number, kitty_flags_change_at, kitty_flags_change_number, mode_state_at, mode_state_number, tabulation_clear_at, tabulation_clear_number}
 use Rattle.esc_typed.specs.Counts.{at_place, one_based, one_based_of}
-use Rattle.esc_typed.specs.Functions.{Value, cursor, device, edit, keyboard, mouse, chosen, kind_of, made, made_of, of_kind, of_named, of_params}
-use Rattle.esc_typed.specs.Spellings.{between, cursor_spelling, device_spelling, edit_spelling, keyboard_spelling, mouse_spelling, entries, plain, private}
+use Rattle.esc_typed.specs.Functions.{Value, cursor, device, edit, keyboard, mode_status, mouse, window, chosen, kind_of, made, made_of, of_kind, of_named, of_params, stated}
+use Rattle.esc_typed.specs.Spellings.{between, cursor_spelling, device_spelling, edit_spelling, keyboard_spelling, mode_status_spelling, mouse_spelling, window_numbers, window_spelling, entries, plain, private, private_between}
+use Rattle.esc_typed.specs.Windows.{IsWindow}
 use Rattle.esc_typed.proofs.Keys as keys
 
 -- ---- numbers
@@ -58,6 +65,9 @@ not_zero n = ne_eqb _ _ (omega arith)
 
 first_is : (n : OneBased) → (n.zero_based == 0) ≡ true → at_place 0 ≡ n
 first_is n e = ap at_place (sym (eqb-true n.zero_based 0 e))
+
+word_back : (n : ℕ) → n < 0x1_0000_0000 → nat_le n 0xffff_ffff ≡ true
+word_back n h = le-leb n 0xffff_ffff (omega (arith, h))
 
 -- ---- what follows parameters: intermediates alone
 
@@ -75,6 +85,9 @@ space_after = record { ends = refl; none = refl; kept = refl }
 mark_after : IsTail (P 0x21 ∷ [])
 mark_after = record { ends = refl; none = refl; kept = refl }
 
+dollar_after : IsTail (P 0x24 ∷ [])
+dollar_after = record { ends = refl; none = refl; kept = refl }
+
 quote_after : IsTail (P 0x27 ∷ [])
 quote_after = record { ends = refl; none = refl; kept = refl }
 
@@ -88,6 +101,7 @@ kind_for (args.Margins a b) = kind.Margins
 kind_for (args.Selector n) = kind.Selector
 kind_for (args.Flags a b) = kind.Flags
 kind_for (args.Report a b c) = kind.Report
+kind_for (args.Numbers a b c) = kind.Numbers
 
 -- the parameters before a tail read back, have no marks, and begin with no private prefix
 pub record IsBack (a : Arguments) (t : List CsiParam) : Type 0 where
@@ -174,6 +188,17 @@ back (args.Report a b c) t h i = record {
   unmarked = refl;
   kept = refl;
 }
+back (args.Numbers a None None) t h i =
+    record { read = rw (i.ends, word_back a h.0) refl; unmarked = refl; kept = refl }
+back (args.Numbers a (Some b) None) t h i =
+    record { read = rw (i.ends, word_back a h.0, word_back b h.1) refl; unmarked = refl; kept = refl }
+back (args.Numbers a None (Some c)) t h i =
+    record { read = rw (i.ends, word_back a h.0, word_back c h.2) refl; unmarked = refl; kept = refl }
+back (args.Numbers a (Some b) (Some c)) t h i = record {
+  read = rw (i.ends, word_back a h.0, word_back b h.1, word_back c h.2) refl;
+  unmarked = refl;
+  kept = refl;
+}
 
 -- ---- sequences
 
@@ -231,6 +256,25 @@ between_back f a m last v h i found kind made =
     ap (λ ms. key_with (packed 1 ms) (length (entries (between a m last))) last) b.unmarked in
     back_by f (between a m last) v (ap function_of key ∙ found) kind
     (ap (arguments (kind_for a)) b.kept ∙ b.read) made
+
+private_between_back : (p : ℕ) (f : ControlFunction) (a : Arguments) (m last : ℕ) (v : Value)
+    → AreArguments a → IsTail (P m ∷ []) → mark_of (P p) ≡ Some p → is_private_prefix p ≡ true
+    → function_of (key_with (packed 1 (p ∷ marks (P m ∷ [])))
+    (length (entries (private_between p a m last))) last)
+    ≡ Some f
+    → of_kind (kind_of f) f (entries (private_between p a m last))
+    ≡ made_of f (arguments (kind_for a) (after_prefix (entries (private_between p a m last))))
+    → made f a ≡ v → of_params (entries (private_between p a m last)) last ≡ v
+private_between_back p f a m last v h i mark prefix found kind made =
+    let b = back a (P m ∷ []) h i in
+    let all = entries (private_between p a m last) in
+    let key : sequence_key all last
+    ≡ key_with (packed 1 (p ∷ marks (P m ∷ []))) (length all) last =
+    ap (λ ms. key_with (packed 1 ms) (length all) last)
+    (ap (λ k. put_mark k (marks (entries_of a ++ P m ∷ []))) mark ∙ ap (λ ms. p ∷ ms) b.unmarked) in
+    let inner : after_prefix all ≡ entries_of a ++ P m ∷ [] = rw prefix refl in
+    back_by f (private_between p a m last) v (ap function_of key ∙ found) kind
+    (ap (arguments (kind_for a)) inner ∙ b.read) made
 
 -- `T` with at most one parameter, and `s` with one or more
 down_by : (n : OneBased) (b : Bool) → (n.zero_based == 0) ≡ b
@@ -293,6 +337,13 @@ cursor_style_back cursor_style.BlinkingUnderline = refl
 cursor_style_back cursor_style.SteadyUnderline = refl
 cursor_style_back cursor_style.BlinkingBar = refl
 cursor_style_back cursor_style.SteadyBar = refl
+
+mode_state_back : (s : ModeState) → mode_state_at (mode_state_number s) ≡ Some s
+mode_state_back states.NotRecognized = refl
+mode_state_back states.Set = refl
+mode_state_back states.Reset = refl
+mode_state_back states.PermanentlySet = refl
+mode_state_back states.PermanentlyReset = refl
 
 pub cursor_back : (c : Cursor) → AreArguments (cursor_spelling c).arguments
     → of_params (entries (cursor_spelling c)) (cursor_spelling c).last ≡ cursor c
@@ -466,3 +517,70 @@ mouse_back (mouses.Pressed a b c) h =
 mouse_back (mouses.Released a b c) h =
     private_back 0x3c control.MOUSEUP (args.Report a b c) 0x6d
     (mouse (mouses.Released a b c)) h refl refl keys.MOUSEUP refl refl
+
+-- ---- the window
+
+-- its numbers make it
+operated : (w : Window) → IsWindow w → (kind_for (window_numbers w) ≡ kind.Numbers)
+    × (made control.XTWINOPS (window_numbers w) ≡ window w)
+operated windows.DeIconify i = (refl, refl)
+operated windows.Iconify i = (refl, refl)
+operated (windows.MoveWindow x y) i = (refl, refl)
+operated (windows.ResizeWindowPixels h w) i = (refl, refl)
+operated windows.RaiseWindow i = (refl, refl)
+operated (windows.ReportScreenSizePixelsResponse h w) i = (refl, refl)
+operated windows.LowerWindow i = (refl, refl)
+operated (windows.ReportCellSizePixelsResponse h w) i = (refl, refl)
+operated windows.RefreshWindow i = (refl, refl)
+operated (windows.ResizeWindowCells h w) i = (refl, refl)
+operated windows.RestoreMaximizedWindow i = (refl, refl)
+operated windows.MaximizeWindow i = (refl, refl)
+operated windows.MaximizeWindowVertically i = (refl, refl)
+operated windows.MaximizeWindowHorizontally i = (refl, refl)
+operated (windows.ReportScreenSizeCellsResponse h w) i = (refl, refl)
+operated windows.UndoFullScreenMode i = (refl, refl)
+operated windows.ChangeToFullScreenMode i = (refl, refl)
+operated windows.ToggleFullScreen i = (refl, refl)
+operated windows.ReportWindowState i = (refl, refl)
+operated windows.ReportWindowPosition i = (refl, refl)
+operated windows.ReportTextAreaPosition i = (refl, refl)
+operated windows.ReportTextAreaSizePixels i = (refl, refl)
+operated windows.ReportWindowSizePixels i = (refl, refl)
+operated windows.ReportScreenSizePixels i = (refl, refl)
+operated windows.ReportCellSizePixels i = (refl, refl)
+operated windows.ReportTextAreaSizeCells i = (refl, refl)
+operated windows.ReportScreenSizeCells i = (refl, refl)
+operated windows.ReportIconLabel i = (refl, refl)
+operated windows.ReportWindowTitle i = (refl, refl)
+operated windows.PushIconAndWindowTitle i = (refl, refl)
+operated windows.PushIconTitle i = (refl, refl)
+operated windows.PushWindowTitle i = (refl, refl)
+operated windows.PopIconAndWindowTitle i = (refl, refl)
+operated windows.PopIconTitle i = (refl, refl)
+operated windows.PopWindowTitle i = (refl, refl)
+operated (windows.SetLinesPerPage n) i = (refl, rw (le-leb 24 n i) refl)
+
+pub window_back : (w : Window) → IsWindow w → AreArguments (window_spelling w).arguments
+    → of_params (entries (window_spelling w)) (window_spelling w).last ≡ window w
+window_back w i h =
+    let numbers = operated w i in
+    let inner = after_prefix (entries (window_spelling w)) in
+    plain_back control.XTWINOPS (window_numbers w) 0x74 (window w) h keys.XTWINOPS
+    (ap (λ k. made_of control.XTWINOPS (arguments k inner)) (sym numbers.0)) numbers.1
+
+pub mode_status_back : (s : ModeStatus) → AreArguments (mode_status_spelling s).arguments
+    → of_params (entries (mode_status_spelling s)) (mode_status_spelling s).last ≡ mode_status s
+mode_status_back (statuses.QueryMode m) h =
+    between_back control.DECRQM_ANSI (args.Numbers m None None) 0x24 0x70
+    (mode_status (statuses.QueryMode m)) h dollar_after keys.DECRQM_ANSI refl refl
+mode_status_back (statuses.QueryDecPrivateMode m) h =
+    private_between_back 0x3f control.DECRQM (args.Numbers m None None) 0x24 0x70
+    (mode_status (statuses.QueryDecPrivateMode m)) h dollar_after refl refl keys.DECRQM refl refl
+mode_status_back (statuses.ReportMode m s) h =
+    between_back control.DECRPM_ANSI (args.Numbers m (Some (mode_state_number s)) None) 0x24 0x79
+    (mode_status (statuses.ReportMode m s)) h dollar_after keys.DECRPM_ANSI refl
+    (ap (λ o. stated (statuses.ReportMode m) (in_range o)) (mode_state_back s))
+mode_status_back (statuses.ReportDecPrivateMode m s) h =
+    private_between_back 0x3f control.DECRPM (args.Numbers m (Some (mode_state_number s)) None) 0x24
+    0x79 (mode_status (statuses.ReportDecPrivateMode m s)) h dollar_after refl refl keys.DECRPM refl
+    (ap (λ o. stated (statuses.ReportDecPrivateMode m) (in_range o)) (mode_state_back s))

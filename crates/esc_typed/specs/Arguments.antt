@@ -91,7 +91,7 @@ place l c =
     then_read (in_range (one_based_of l)) (λ l.
     then_read (in_range (one_based_of c)) (λ c. Ok (args.Place l c)))
 
--- the size of the screen stands for the last line or column, where there is none, and where it is 0
+-- the last line or column is that of the screen, where there is none, and where it is 0
 abbrev pub last_of : Option ℕ → Result (Option OneBased) Unfit
 last_of None = Ok None
 last_of (Some n) = if n == 0 then Ok None
@@ -121,6 +121,25 @@ report a b c =
     then_read (in_range (one_based_of b)) (λ b.
     then_read (in_range (one_based_of c)) (λ c. Ok (args.Report a b c))))
 
+-- a number of at most 2 to the power of 32, less 1
+abbrev pub word : ℕ → Result ℕ Unfit
+word n = if nat_le n 0xffff_ffff then Ok n else Err unfit.OutOfRange
+
+-- one that has no default
+abbrev pub first_word : Option ℕ → Result ℕ Unfit
+first_word None = Err unfit.TooFew
+first_word (Some n) = word n
+
+abbrev pub word_of : Option ℕ → Result (Option ℕ) Unfit
+word_of None = Ok None
+word_of (Some n) = then_read (word n) (λ n. Ok (Some n))
+
+abbrev pub more_words : Result ℕ Unfit → Option ℕ → Option ℕ → Result Arguments Unfit
+more_words a b c =
+    then_read a (λ a.
+    then_read (word_of b) (λ b.
+    then_read (word_of c) (λ c. Ok (args.Numbers a b c))))
+
 -- the only three, of which those after the first may be missing
 abbrev pub two_more : Option ℕ → Option (List CsiParam)
     → Result (Option ℕ × Option ℕ × Option ℕ) Unfit
@@ -140,6 +159,7 @@ arguments kind.Margins es = then_read (two es) (λ p. margins p.0 p.1)
 arguments kind.Selector es = then_read (one es) selector
 arguments kind.Flags es = then_read (two es) (λ p. flags p.0 p.1)
 arguments kind.Report es = then_read (three es) (λ p. report p.0 p.1 p.2)
+arguments kind.Numbers es = then_read (three es) (λ p. more_words (first_word p.0) p.1 p.2)
 arguments kind.Renditions es = Err unfit.Untyped
 arguments kind.Modes es = Err unfit.Untyped
 
@@ -156,7 +176,16 @@ abbrev pub last_entries : Option OneBased → List CsiParam
 last_entries None = []
 last_entries (Some n) = P 0x3b ∷ number (one_based n) ∷ []
 
--- Counts, lines, columns and choices that stand where nothing does are left out, but for the first
+abbrev pub word_entries : Option ℕ → List CsiParam
+word_entries None = []
+word_entries (Some n) = number n ∷ []
+
+abbrev pub more_numbers : Option ℕ → Option ℕ → List CsiParam
+more_numbers None None = []
+more_numbers (Some b) None = P 0x3b ∷ number b ∷ []
+more_numbers b (Some c) = P 0x3b ∷ (word_entries b ++ P 0x3b ∷ number c ∷ [])
+
+-- Counts, lines, columns and choices that are the defaults are left out, but for the first
 -- of margins, without which `s` would save the cursor, and for flags and reports, which are whole.
 abbrev pub entries_of : Arguments → List CsiParam
 entries_of args.Nothing = []
@@ -167,6 +196,7 @@ entries_of (args.Selector n) = if n == 0 then [] else number n ∷ []
 entries_of (args.Flags a b) = number a ∷ P 0x3b ∷ number b ∷ []
 entries_of (args.Report a b c) = number a
     ∷ P 0x3b ∷ number (one_based b) ∷ P 0x3b ∷ number (one_based c) ∷ []
+entries_of (args.Numbers a b c) = number a ∷ more_numbers b c
 
 abbrev pub IsOneBased : OneBased → Type 0
 IsOneBased n = n.zero_based < 0x1_0000_0000
@@ -174,6 +204,13 @@ IsOneBased n = n.zero_based < 0x1_0000_0000
 abbrev pub IsLast : Option OneBased → Type 0
 IsLast None = Unit {0}
 IsLast (Some n) = IsOneBased n
+
+abbrev pub IsWord : ℕ → Type 0
+IsWord n = n < 0x1_0000_0000
+
+abbrev pub IsOptional : Option ℕ → Type 0
+IsOptional None = Unit {0}
+IsOptional (Some n) = IsWord n
 
 abbrev pub AreArguments : Arguments → Type 0
 AreArguments args.Nothing = Unit {0}
@@ -183,3 +220,4 @@ AreArguments (args.Margins a b) = IsOneBased a × IsLast b
 AreArguments (args.Selector n) = n < 256
 AreArguments (args.Flags a b) = (a < 256) × (b < 256)
 AreArguments (args.Report a b c) = (a < 256) × IsOneBased b × IsOneBased c
+AreArguments (args.Numbers a b c) = IsWord a × IsOptional b × IsOptional c

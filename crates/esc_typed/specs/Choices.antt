@@ -12,6 +12,8 @@ use Rattle.esc_typed.specs.declared.kitty_flags_change.KittyFlagsChange.{KittyFl
 use Rattle.esc_typed.specs.declared.kitty_flags_change.KittyFlagsChange.TheVariants as kitty_flags_change
 use Rattle.esc_typed.specs.declared.cursor_style.CursorStyle.{CursorStyle}
 use Rattle.esc_typed.specs.declared.cursor_style.CursorStyle.TheVariants as cursor_style
+use Rattle.esc_typed.specs.declared.mode_state.ModeState.{ModeState}
+use Rattle.esc_typed.specs.declared.mode_state.ModeState.TheVariants as mode_state
 
 abbrev pub erase_in_display_number : EraseInDisplay → ℕ
 erase_in_display_number erase_in_display.EraseToEndOfDisplay = 0
@@ -102,4 +104,19 @@ cursor_style_at n = if n == 0 then Some cursor_style.Default
     else if n == 4 then Some cursor_style.SteadyUnderline
     else if n == 5 then Some cursor_style.BlinkingBar
     else if n == 6 then Some cursor_style.SteadyBar
+    else None
+
+abbrev pub mode_state_number : ModeState → ℕ
+mode_state_number mode_state.NotRecognized = 0
+mode_state_number mode_state.Set = 1
+mode_state_number mode_state.Reset = 2
+mode_state_number mode_state.PermanentlySet = 3
+mode_state_number mode_state.PermanentlyReset = 4
+
+abbrev pub mode_state_at : ℕ → Option ModeState
+mode_state_at n = if n == 0 then Some mode_state.NotRecognized
+    else if n == 1 then Some mode_state.Set
+    else if n == 2 then Some mode_state.Reset
+    else if n == 3 then Some mode_state.PermanentlySet
+    else if n == 4 then Some mode_state.PermanentlyReset
     else None

@@ -26,16 +26,21 @@ use Rattle.esc_typed.specs.declared.mouse.Mouse.{Mouse}
 use Rattle.esc_typed.specs.declared.mouse.Mouse.TheVariants as mouses
 use Rattle.esc_typed.specs.declared.mode_change.ModeChange.{ModeChange}
 use Rattle.esc_typed.specs.declared.mode_change.ModeChange.TheVariants as change
+use Rattle.esc_typed.specs.declared.mode_state.ModeState.{ModeState}
+use Rattle.esc_typed.specs.declared.mode_status.ModeStatus.{ModeStatus}
+use Rattle.esc_typed.specs.declared.mode_status.ModeStatus.TheVariants as statuses
+use Rattle.esc_typed.specs.declared.window.Window.{Window}
 use Rattle.esc_typed.specs.declared.function.Function.{Function}
 use Rattle.esc_typed.specs.declared.function.Function.TheVariants as function
 use Rattle.esc_typed.specs.declared.one_based.OneBased.{OneBased}
 use Rattle.esc_typed.specs.declared.rendition.Rendition.{Rendition}
 use Rattle.esc_typed.specs.declared.unfit.Unfit.{Unfit}
 use Rattle.esc_typed.specs.declared.unfit.Unfit.TheVariants as unfit
-use Rattle.esc_typed.specs.Arguments.{after_prefix, arguments}
-use Rattle.esc_typed.specs.Choices.{cursor_style_at, cursor_tabulation_control_at, erase_in_display_at, erase_in_line_at, kitty_flags_change_at, tabulation_clear_at}
+use Rattle.esc_typed.specs.Arguments.{after_prefix, arguments, in_range}
+use Rattle.esc_typed.specs.Choices.{cursor_style_at, cursor_tabulation_control_at, erase_in_display_at, erase_in_line_at, kitty_flags_change_at, mode_state_at, tabulation_clear_at}
 use Rattle.esc_typed.specs.Renditions.{number}
 use Rattle.esc_typed.specs.Selections.{left, modes_left, mode_numbers, selections}
+use Rattle.esc_typed.specs.Windows.{operation}
 
 -- a typed value, without where its parameters lie in memory
 pub data Value : Type 0 where
@@ -44,6 +49,8 @@ pub data Value : Type 0 where
   device : Device → Value
   keyboard : Keyboard → Value
   mouse : Mouse → Value
+  window : Window → Value
+  mode_status : ModeStatus → Value
   modes : ModeChange → List (Option ℕ × List CsiParam) → Value
   renditions : List (Option Rendition × List CsiParam) → Value
   other : Unfit → Value
@@ -54,6 +61,8 @@ value_of (function.Edit e) = edit e
 value_of (function.Device d) = device d
 value_of (function.Keyboard k) = keyboard k
 value_of (function.Mouse m) = mouse m
+value_of (function.Window w) = window w
+value_of (function.ModeStatus s) = mode_status s
 value_of (function.Mode c ms) = modes c (modes_left ms)
 value_of (function.Sgr r) = renditions (left r)
 value_of (function.Other u) = other u
@@ -114,6 +123,11 @@ kind_of control.XTVERSION = Some kind.Zero
 kind_of control.KITTYSET = Some kind.Flags
 kind_of control.MOUSE = Some kind.Report
 kind_of control.MOUSEUP = Some kind.Report
+kind_of control.XTWINOPS = Some kind.Numbers
+kind_of control.DECRQM_ANSI = Some kind.Numbers
+kind_of control.DECRQM = Some kind.Numbers
+kind_of control.DECRPM_ANSI = Some kind.Numbers
+kind_of control.DECRPM = Some kind.Numbers
 kind_of control.SM = Some kind.Modes
 kind_of control.RM = Some kind.Modes
 kind_of control.DECSET = Some kind.Modes
@@ -208,6 +222,35 @@ reported control.MOUSE a b c = mouse (mouses.Pressed a b c)
 reported control.MOUSEUP a b c = mouse (mouses.Released a b c)
 reported _ a b c = other unfit.Untyped
 
+abbrev pub windowed : Result Window Unfit → Value
+windowed (Ok w) = window w
+windowed (Err u) = other u
+
+-- a mode whose state is asked for
+abbrev pub asked : ModeStatus → Option ℕ → Option ℕ → Value
+asked s None None = mode_status s
+asked s None (Some c) = other unfit.TooMany
+asked s (Some b) c = other unfit.TooMany
+
+-- the state of a mode, of which nothing more is reported
+abbrev pub state_of : Option ℕ → Option ℕ → Result ModeState Unfit
+state_of None c = Err unfit.TooFew
+state_of (Some b) None = in_range (mode_state_at b)
+state_of (Some b) (Some c) = Err unfit.TooMany
+
+abbrev pub stated : (ModeState → ModeStatus) → Result ModeState Unfit → Value
+stated f (Ok s) = mode_status (f s)
+stated f (Err u) = other u
+
+abbrev pub listed : ControlFunction → ℕ → Option ℕ → Option ℕ → Value
+listed control.XTWINOPS a b c = windowed (operation a b c)
+listed control.DECRQM_ANSI a b c = asked (statuses.QueryMode a) b c
+listed control.DECRQM a b c = asked (statuses.QueryDecPrivateMode a) b c
+listed control.DECRPM_ANSI a b c = stated (statuses.ReportMode a) (state_of b c)
+listed control.DECRPM a b c = stated (statuses.ReportDecPrivateMode a)
+    (state_of b c)
+listed _ a b c = other unfit.Untyped
+
 -- the value of a function with its parameters
 abbrev pub made : ControlFunction → Arguments → Value
 made f args.Nothing = bare f
@@ -217,6 +260,7 @@ made f (args.Margins a b) = bounded f a b
 made f (args.Selector n) = selected f n
 made f (args.Flags a b) = flagged f a b
 made f (args.Report a b c) = reported f a b c
+made f (args.Numbers a b c) = listed f a b c
 
 -- what is done to modes
 abbrev pub change_of : ControlFunction → ModeChange

@@ -6,3 +6,4 @@ pub mod Numbers
 pub mod Renditions
 pub mod Selections
 pub mod Spellings
+pub mod Windows

@@ -141,7 +141,7 @@ bright n = if is_from 90 97 n then Some (AnsiForeground (ansi_color_at (n - 82))
     else if is_from 100 107 n then Some (AnsiBackground (ansi_color_at (n - 92)))
     else None
 
--- the rendition of a number that stands alone
+-- the rendition of a number alone
 abbrev pub numbered : ℕ → Option Rendition
 numbered n = if nat_le n 9 then switched_on n
     else if nat_le n 20 then Some (in_font (font_at (n - 10)))

@@ -14,9 +14,13 @@ use Rattle.esc_typed.specs.declared.keyboard.Keyboard.{Keyboard}
 use Rattle.esc_typed.specs.declared.keyboard.Keyboard.TheVariants as keyboard
 use Rattle.esc_typed.specs.declared.mouse.Mouse.{Mouse}
 use Rattle.esc_typed.specs.declared.mouse.Mouse.TheVariants as mouse
+use Rattle.esc_typed.specs.declared.mode_status.ModeStatus.{ModeStatus}
+use Rattle.esc_typed.specs.declared.mode_status.ModeStatus.TheVariants as mode_status
 use Rattle.esc_typed.specs.declared.spelling.Spelling.{Spelling}
+use Rattle.esc_typed.specs.declared.window.Window.{Window}
+use Rattle.esc_typed.specs.declared.window.Window.TheVariants as window
 use Rattle.esc_typed.specs.Arguments.{entries_of}
-use Rattle.esc_typed.specs.Choices.{cursor_style_number, cursor_tabulation_control_number, erase_in_display_number, erase_in_line_number, kitty_flags_change_number, tabulation_clear_number}
+use Rattle.esc_typed.specs.Choices.{cursor_style_number, cursor_tabulation_control_number, erase_in_display_number, erase_in_line_number, kitty_flags_change_number, mode_state_number, tabulation_clear_number}
 
 abbrev pub mark_entries : Option ℕ → List CsiParam
 mark_entries None = []
@@ -34,6 +38,10 @@ private p a last = record { prefix = Some p; arguments = a; intermediate = None;
 
 abbrev pub between : Arguments → ℕ → ℕ → Spelling
 between a i last = record { prefix = None; arguments = a; intermediate = Some i; last = last }
+
+abbrev pub private_between : ℕ → Arguments → ℕ → ℕ → Spelling
+private_between p a i last =
+    record { prefix = Some p; arguments = a; intermediate = Some i; last = last }
 
 abbrev pub cursor_spelling : Cursor → Spelling
 cursor_spelling (cursor.Up n) = plain (args.Count n) 0x41
@@ -103,3 +111,53 @@ keyboard_spelling (keyboard.SetKittyState a b) = private 0x3d (args.Flags a
 abbrev pub mouse_spelling : Mouse → Spelling
 mouse_spelling (mouse.Pressed a b c) = private 0x3c (args.Report a b c) 0x4d
 mouse_spelling (mouse.Released a b c) = private 0x3c (args.Report a b c) 0x6d
+
+abbrev pub window_numbers : Window → Arguments
+window_numbers window.DeIconify = args.Numbers 1 None None
+window_numbers window.Iconify = args.Numbers 2 None None
+window_numbers (window.MoveWindow x y) = args.Numbers 3 (Some x) (Some y)
+window_numbers (window.ResizeWindowPixels h w) = args.Numbers 4 h w
+window_numbers window.RaiseWindow = args.Numbers 5 None None
+window_numbers (window.ReportScreenSizePixelsResponse h w) = args.Numbers 5 (Some h) (Some w)
+window_numbers window.LowerWindow = args.Numbers 6 None None
+window_numbers (window.ReportCellSizePixelsResponse h w) = args.Numbers 6 (Some h) (Some w)
+window_numbers window.RefreshWindow = args.Numbers 7 None None
+window_numbers (window.ResizeWindowCells h w) = args.Numbers 8 h w
+window_numbers window.RestoreMaximizedWindow = args.Numbers 9 (Some 0) None
+window_numbers window.MaximizeWindow = args.Numbers 9 (Some 1) None
+window_numbers window.MaximizeWindowVertically = args.Numbers 9 (Some 2) None
+window_numbers window.MaximizeWindowHorizontally = args.Numbers 9 (Some 3) None
+window_numbers (window.ReportScreenSizeCellsResponse h w) = args.Numbers 9 (Some h) (Some w)
+window_numbers window.UndoFullScreenMode = args.Numbers 10 (Some 0) None
+window_numbers window.ChangeToFullScreenMode = args.Numbers 10 (Some 1) None
+window_numbers window.ToggleFullScreen = args.Numbers 10 (Some 2) None
+window_numbers window.ReportWindowState = args.Numbers 11 None None
+window_numbers window.ReportWindowPosition = args.Numbers 13 None None
+window_numbers window.ReportTextAreaPosition = args.Numbers 13 (Some 2) None
+window_numbers window.ReportTextAreaSizePixels = args.Numbers 14 None None
+window_numbers window.ReportWindowSizePixels = args.Numbers 14 (Some 2) None
+window_numbers window.ReportScreenSizePixels = args.Numbers 15 None None
+window_numbers window.ReportCellSizePixels = args.Numbers 16 None None
+window_numbers window.ReportTextAreaSizeCells = args.Numbers 18 None None
+window_numbers window.ReportScreenSizeCells = args.Numbers 19 None None
+window_numbers window.ReportIconLabel = args.Numbers 20 None None
+window_numbers window.ReportWindowTitle = args.Numbers 21 None None
+window_numbers window.PushIconAndWindowTitle = args.Numbers 22 (Some 0) None
+window_numbers window.PushIconTitle = args.Numbers 22 (Some 1) None
+window_numbers window.PushWindowTitle = args.Numbers 22 (Some 2) None
+window_numbers window.PopIconAndWindowTitle = args.Numbers 23 (Some 0) None
+window_numbers window.PopIconTitle = args.Numbers 23 (Some 1) None
+window_numbers window.PopWindowTitle = args.Numbers 23 (Some 2) None
+window_numbers (window.SetLinesPerPage n) = args.Numbers n None None
+
+abbrev pub window_spelling : Window → Spelling
+window_spelling w = plain (window_numbers w) 0x74
+
+abbrev pub mode_status_spelling : ModeStatus → Spelling
+mode_status_spelling (mode_status.QueryMode m) = between (args.Numbers m None None) 0x24 0x70
+mode_status_spelling (mode_status.QueryDecPrivateMode m) = private_between 0x3f (args.Numbers m None
+    None) 0x24 0x70
+mode_status_spelling (mode_status.ReportMode m s) = between (args.Numbers m (Some (mode_state_number
+    s)) None) 0x24 0x79
+mode_status_spelling (mode_status.ReportDecPrivateMode m s) = private_between 0x3f (args.Numbers m
+    (Some (mode_state_number s)) None) 0x24 0x79

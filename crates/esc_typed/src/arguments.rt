@@ -21,6 +21,8 @@ pub(crate) enum Kind {
     Flags,
     // a button, a column and a line
     Report,
+    // a number, which has no default, and up to two more
+    Numbers,
     // renditions, which are read one by one
     Renditions,
     // modes, which are read one by one
@@ -38,4 +40,5 @@ pub(crate) enum Arguments {
     Selector(u8),
     Flags(u8, u8),
     Report(u8, OneBased, OneBased),
+    Numbers(u32, Option<u32>, Option<u32>),
 }

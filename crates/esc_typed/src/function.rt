@@ -1,8 +1,7 @@
 //! Control sequences as typed values.
 ghost use Rattle.std.specs.Prelude.{◌≡◌, Some};
 ghost use Rattle.esc_sequences.specs.Csis.{csi_value};
-ghost use Rattle.esc_typed.specs.Functions.{known_entries, made, made_of, of_csi, of_params, value_of};
-ghost use Rattle.esc_typed.specs.Functions.{of_kind, of_named};
+ghost use Rattle.esc_typed.specs.Functions.{known_entries, made, made_of, of_csi, of_kind, of_named, of_params, value_of};
 
 use crate::arguments::{Arguments, Kind};
 use crate::cursor::Cursor;
@@ -10,21 +9,23 @@ use crate::device::Device;
 use crate::edit::Edit;
 use crate::keyboard::Keyboard;
 use crate::mode_change::ModeChange;
+use crate::mode_status::ModeStatus;
 use crate::modes::Modes;
 use crate::mouse::Mouse;
 use crate::numbers::{after_prefix, arguments};
 use crate::renditions::Renditions;
 use crate::table::{
-    bare, bounded, change_of, counted, flagged, kind_of, placed, reported, selected,
+    bare, bounded, change_of, counted, flagged, kind_of, listed, placed, reported, selected,
 };
 use crate::unfit::Unfit;
+use crate::window::Window;
 use esc_functions::ControlFunction;
 use esc_sequences::{CSI, Intensity, Sgr, Underline};
 use esc_values::CsiParam;
 use std::alloc::Allocator;
 
-/// What a control sequence asks for, with its parameters as numbers. The default of a parameter that
-/// is left out, or that is 0 where terminals count from 1, is filled in.
+/// What a control sequence asks for, with its parameters as numbers. The default of a parameter
+/// that is left out, or that is 0 where terminals count from 1, is filled in.
 #[derive(Clone, Copy, Debug, PartialEq)]
 pub enum Function<'a> {
     /// Something of the cursor, or of what bounds it.
@@ -37,6 +38,10 @@ pub enum Function<'a> {
     Keyboard(Keyboard),
     /// Something is reported of the mouse.
     Mouse(Mouse),
+    /// Something is asked or reported of the window.
+    Window(Window),
+    /// The state of a mode is asked for or reported.
+    ModeStatus(ModeStatus),
     /// Modes are set, reset, kept or restored.
     Mode(ModeChange, Modes<'a>),
     /// How characters are shown from here on.
@@ -102,6 +107,7 @@ fn made<'a>(function: ControlFunction, arguments: Arguments) -> Function<'a>
         Arguments::Selector(n) => selected(function, n),
         Arguments::Flags(flags, change) => flagged(function, flags, change),
         Arguments::Report(button, col, line) => reported(function, button, col, line),
+        Arguments::Numbers(first, second, third) => listed(function, first, second, third),
     }
 }
 

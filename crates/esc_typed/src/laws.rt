@@ -7,11 +7,14 @@ ghost use Rattle.esc_typed.specs.declared.cursor.Cursor.{Cursor};
 ghost use Rattle.esc_typed.specs.declared.device.Device.{Device};
 ghost use Rattle.esc_typed.specs.declared.edit.Edit.{Edit};
 ghost use Rattle.esc_typed.specs.declared.keyboard.Keyboard.{Keyboard};
+ghost use Rattle.esc_typed.specs.declared.mode_status.ModeStatus.{ModeStatus};
+ghost use Rattle.esc_typed.specs.declared.window.Window.{Window};
 ghost use Rattle.esc_typed.specs.Arguments.{AreArguments};
-ghost use Rattle.esc_typed.specs.Functions.{cursor, device, edit, keyboard, mouse, of_params};
+ghost use Rattle.esc_typed.specs.Functions.{cursor, device, edit, keyboard, mode_status, mouse, of_params, window};
 ghost use Rattle.esc_typed.specs.Renditions.{AreRenditions, IsRendition, normal, rendition_of};
 ghost use Rattle.esc_typed.specs.Selections.{cut, joined, parameters, selections, spelled};
-ghost use Rattle.esc_typed.specs.Spellings.{cursor_spelling, device_spelling, edit_spelling, entries, keyboard_spelling, mouse_spelling};
+ghost use Rattle.esc_typed.specs.Spellings.{cursor_spelling, device_spelling, edit_spelling, entries, keyboard_spelling, mode_status_spelling, mouse_spelling, window_spelling};
+ghost use Rattle.esc_typed.specs.Windows.{IsWindow};
 
 /// The entries of the renditions of a sequence, in order and with `;` between them, are those of
 /// the sequence: nothing of it is lost.
@@ -72,4 +75,19 @@ pub fn keyboard_reads_back()
 pub fn mouse_reads_back()
     ensures { (m : Mouse) → AreArguments (mouse_spelling m).arguments
         → of_params (entries (mouse_spelling m)) (mouse_spelling m).last ≡ mouse m }
+{}
+
+/// What is asked or reported of the window, in its normal spelling, is read as the same.
+#[tactic(auto, using(crate::proofs::Spelled::window_back))]
+pub fn window_reads_back()
+    ensures { (w : Window) → IsWindow w → AreArguments (window_spelling w).arguments
+        → of_params (entries (window_spelling w)) (window_spelling w).last ≡ window w }
+{}
+
+/// What is asked or reported of the state of a mode, in its normal spelling, is read as the same.
+#[tactic(auto, using(crate::proofs::Spelled::mode_status_back))]
+pub fn mode_status_reads_back()
+    ensures { (s : ModeStatus) → AreArguments (mode_status_spelling s).arguments
+        → of_params (entries (mode_status_spelling s)) (mode_status_spelling s).last
+        ≡ mode_status s }
 {}

@@ -2,7 +2,7 @@
 ghost use Rattle.std.specs.Prelude.{◌≡◌, Some, Ok, Err, IfOk, IfErr};
 ghost use Rattle.std.specs.Option.{option_map};
 ghost use Rattle.std.specs.List.{list_all};
-ghost use Rattle.esc_typed.specs.Arguments.{after_prefix, arguments, byte_or, count, flags, report, three, is_intermediate, last_of, margins, more, next, no_number, number_first, one, place, selector, two, zero};
+ghost use Rattle.esc_typed.specs.Arguments.{after_prefix, arguments, byte_or, count, first_word, flags, report, three, is_intermediate, last_of, margins, more, more_words, next, no_number, number_first, one, place, selector, two, word, word_of, zero};
 
 use crate::arguments::{Arguments, Kind};
 use crate::one_based::OneBased;
@@ -44,6 +44,10 @@ pub(crate) fn arguments(kind: Kind, entries: &[CsiParam]) -> Result<Arguments, U
         },
         Kind::Report => match three(entries) {
             Ok((button, col, line)) => report(button, col, line),
+            Err(unfit) => Err(unfit),
+        },
+        Kind::Numbers => match three(entries) {
+            Ok((first, second, third)) => more_words(first_word(first), second, third),
             Err(unfit) => Err(unfit),
         },
         Kind::Renditions | Kind::Modes => Err(Unfit::Untyped),
@@ -171,6 +175,53 @@ fn report(button: Option<u64>, col: Option<u64>, line: Option<u64>) -> Result<Ar
     match OneBased::of_number(line) {
         Some(line) => Ok(Arguments::Report(button, col, line)),
         None => Err(Unfit::OutOfRange),
+    }
+}
+
+// A number of at most 2 to the power of 32, less 1.
+fn word(number: u64) -> Result<u32, Unfit>
+    ensures { result ≡ word number }
+{
+    match u32::try_from(number) {
+        Ok(number) => Ok(number),
+        Err(_) => Err(Unfit::OutOfRange),
+    }
+}
+
+// Such a number, which has no default.
+fn first_word(number: Option<u64>) -> Result<u32, Unfit>
+    ensures { result ≡ first_word number }
+{
+    match number {
+        None => Err(Unfit::TooFew),
+        Some(number) => word(number),
+    }
+}
+
+// Such a number, where there is one.
+fn word_of(number: Option<u64>) -> Result<Option<u32>, Unfit>
+    ensures { result ≡ word_of number }
+{
+    match number {
+        None => Ok(None),
+        Some(number) => match word(number) {
+            Ok(number) => Ok(Some(number)),
+            Err(unfit) => Err(unfit),
+        },
+    }
+}
+
+// Such a number, and up to two more.
+fn more_words(
+    first: Result<u32, Unfit>,
+    second: Option<u64>,
+    third: Option<u64>,
+) -> Result<Arguments, Unfit>
+    ensures { result ≡ more_words first second third }
+{
+    match (first, word_of(second), word_of(third)) {
+        (Ok(first), Ok(second), Ok(third)) => Ok(Arguments::Numbers(first, second, third)),
+        (Err(unfit), _, _) | (Ok(_), Err(unfit), _) | (Ok(_), Ok(_), Err(unfit)) => Err(unfit),
     }
 }
 

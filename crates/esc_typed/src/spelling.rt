@@ -6,7 +6,7 @@ ghost use Rattle.esc_sequences.specs.Csis.{csi_text, unspecified};
 ghost use Rattle.esc_typed.specs.Arguments.{count_entries, entries_of, last_entries, more_entries};
 ghost use Rattle.esc_typed.specs.Counts.{one_based};
 ghost use Rattle.esc_typed.specs.Renditions.{number};
-ghost use Rattle.esc_typed.specs.Spellings.{between, entries, mark_entries, plain, private};
+ghost use Rattle.esc_typed.specs.Spellings.{between, entries, mark_entries, plain, private, private_between};
 
 use crate::arguments::Arguments;
 use crate::entries::write_entries;
@@ -54,6 +54,23 @@ impl Spelling {
     {
         Spelling {
             prefix: None,
+            arguments,
+            intermediate: Some(intermediate),
+            last,
+        }
+    }
+
+    // One with both.
+    pub(crate) fn private_between(
+        prefix: u8,
+        arguments: Arguments,
+        intermediate: u8,
+        last: u8,
+    ) -> Spelling
+        ensures { result ≡ private_between prefix arguments intermediate last }
+    {
+        Spelling {
+            prefix: Some(prefix),
             arguments,
             intermediate: Some(intermediate),
             last,
@@ -107,6 +124,7 @@ fn write_arguments<W: fmt::Write>(arguments: Arguments, f: &mut fmt::Formatter<W
             f,
         ),
         Arguments::Report(button, col, line) => write_report(button, col, line, f),
+        Arguments::Numbers(first, second, third) => write_numbers(first, second, third, f),
         Arguments::Selector(0) => Ok(()),
         Arguments::Selector(n) => write_entries(&[CsiParam::Integer(n as i64)], f),
     }
@@ -177,4 +195,33 @@ fn write_report<W: fmt::Write>(
     let button = CsiParam::Integer(button as i64);
     let mark = CsiParam::P(b';');
     write_entries(&[button, mark, number(col), mark, number(line)], f)
+}
+
+// Writes a number, and up to two more.
+fn write_numbers<W: fmt::Write>(
+    first: u32,
+    second: Option<u32>,
+    third: Option<u32>,
+    f: &mut fmt::Formatter<W>,
+) -> fmt::Result
+    ensures { DisplaysOnOk W.write_str_gives f.old result
+        (Some (csi_params_text (entries_of (Arguments.Numbers first second third)))) f.new }
+{
+    let mark = CsiParam::P(b';');
+    match (second, third) {
+        (None, None) => write_entries(&[word(first)], f),
+        (Some(second), None) => write_entries(&[word(first), mark, word(second)], f),
+        (None, Some(third)) => write_entries(&[word(first), mark, mark, word(third)], f),
+        (Some(second), Some(third)) => write_entries(
+            &[word(first), mark, word(second), mark, word(third)],
+            f,
+        ),
+    }
+}
+
+// A number as an entry.
+fn word(it: u32) -> CsiParam
+    ensures { result ≡ number it }
+{
+    CsiParam::Integer(it as i64)
 }

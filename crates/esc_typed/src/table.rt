@@ -1,6 +1,6 @@
 //! The tables of typed values: what a control function makes of its parameters.
 ghost use Rattle.std.specs.Prelude.{◌≡◌};
-ghost use Rattle.esc_typed.specs.Functions.{bare, bounded, change_of, counted, flagged, kind_of, placed, reported, selected, value_of};
+ghost use Rattle.esc_typed.specs.Functions.{asked, bare, bounded, change_of, counted, flagged, kind_of, listed, placed, reported, selected, state_of, value_of};
 
 use crate::arguments::Kind;
 use crate::cursor::Cursor;
@@ -14,10 +14,13 @@ use crate::function::Function;
 use crate::keyboard::Keyboard;
 use crate::kitty_flags_change::KittyFlagsChange;
 use crate::mode_change::ModeChange;
+use crate::mode_state::ModeState;
+use crate::mode_status::ModeStatus;
 use crate::mouse::Mouse;
 use crate::one_based::OneBased;
 use crate::tabulation_clear::TabulationClear;
 use crate::unfit::Unfit;
+use crate::window_operations::operation;
 use esc_functions::ControlFunction;
 
 // Which parameters a function has, where it has a typed value.
@@ -75,6 +78,11 @@ pub(crate) fn kind_of(function: ControlFunction) -> Option<Kind>
         | ControlFunction::XTVERSION => Some(Kind::Zero),
         ControlFunction::KITTYSET => Some(Kind::Flags),
         ControlFunction::MOUSE | ControlFunction::MOUSEUP => Some(Kind::Report),
+        ControlFunction::XTWINOPS
+        | ControlFunction::DECRQM_ANSI
+        | ControlFunction::DECRQM
+        | ControlFunction::DECRPM_ANSI
+        | ControlFunction::DECRPM => Some(Kind::Numbers),
         ControlFunction::SM
         | ControlFunction::RM
         | ControlFunction::DECSET
@@ -250,6 +258,58 @@ pub(crate) fn reported<'a>(
             line: c,
         }),
         _ => Function::Other(Unfit::Untyped),
+    }
+}
+
+// Functions with a number and up to two more.
+pub(crate) fn listed<'a>(
+    function: ControlFunction,
+    a: u32,
+    b: Option<u32>,
+    c: Option<u32>,
+) -> Function<'a>
+    ensures { value_of result ≡ listed function a b c }
+{
+    match function {
+        ControlFunction::XTWINOPS => match operation(a, b, c) {
+            Ok(window) => Function::Window(window),
+            Err(unfit) => Function::Other(unfit),
+        },
+        ControlFunction::DECRQM_ANSI => asked(ModeStatus::QueryMode(a), b, c),
+        ControlFunction::DECRQM => asked(ModeStatus::QueryDecPrivateMode(a), b, c),
+        ControlFunction::DECRPM_ANSI => match state_of(b, c) {
+            Ok(state) => Function::ModeStatus(ModeStatus::ReportMode { mode: a, state }),
+            Err(unfit) => Function::Other(unfit),
+        },
+        ControlFunction::DECRPM => match state_of(b, c) {
+            Ok(state) => Function::ModeStatus(ModeStatus::ReportDecPrivateMode { mode: a, state }),
+            Err(unfit) => Function::Other(unfit),
+        },
+        _ => Function::Other(Unfit::Untyped),
+    }
+}
+
+// A mode whose state is asked for, which no more numbers follow.
+fn asked<'a>(status: ModeStatus, b: Option<u32>, c: Option<u32>) -> Function<'a>
+    ensures { value_of result ≡ asked status b c }
+{
+    match (b, c) {
+        (None, None) => Function::ModeStatus(status),
+        (Some(_), _) | (None, Some(_)) => Function::Other(Unfit::TooMany),
+    }
+}
+
+// The state of a mode, of which nothing more is reported.
+fn state_of(b: Option<u32>, c: Option<u32>) -> Result<ModeState, Unfit>
+    ensures { result ≡ state_of b c }
+{
+    match (b, c) {
+        (None, _) => Err(Unfit::TooFew),
+        (Some(_), Some(_)) => Err(Unfit::TooMany),
+        (Some(number), None) => match ModeState::of_number(number) {
+            Some(state) => Ok(state),
+            None => Err(Unfit::OutOfRange),
+        },
     }
 }
 

@@ -17,6 +17,8 @@ pub fn row_of(alloc: Global, line: &str) -> Result<String, AllocError> {
         Function::Device(device) => typed(alloc, text, device),
         Function::Keyboard(keyboard) => typed(alloc, text, keyboard),
         Function::Mouse(mouse) => typed(alloc, text, mouse),
+        Function::Window(window) => typed(alloc, text, window),
+        Function::ModeStatus(status) => typed(alloc, text, status),
         Function::Mode(change, modes) => changed(alloc, text, change, modes),
         Function::Sgr(renditions) => listed(alloc, text, renditions),
         Function::Other(unfit) => format!(in alloc; "{text} | {unfit:?} | {text}"),
