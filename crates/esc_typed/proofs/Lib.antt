@@ -1,4 +1,5 @@
 pub mod Cutting
+pub mod Escaped
 pub mod Keys
 pub mod ReadBack
 pub mod Spelled

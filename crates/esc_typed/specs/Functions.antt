@@ -14,12 +14,14 @@ use Rattle.esc_typed.specs.declared.arguments.Arguments.{Arguments}
 use Rattle.esc_typed.specs.declared.arguments.Arguments.TheVariants as args
 use Rattle.esc_typed.specs.declared.arguments.Kind.{Kind}
 use Rattle.esc_typed.specs.declared.arguments.Kind.TheVariants as kind
+use Rattle.esc_typed.specs.declared.charset.Charset.{Charset}
 use Rattle.esc_typed.specs.declared.cursor.Cursor.{Cursor}
 use Rattle.esc_typed.specs.declared.cursor.Cursor.TheVariants as cursors
 use Rattle.esc_typed.specs.declared.device.Device.{Device}
 use Rattle.esc_typed.specs.declared.device.Device.TheVariants as devices
 use Rattle.esc_typed.specs.declared.edit.Edit.{Edit}
 use Rattle.esc_typed.specs.declared.edit.Edit.TheVariants as edits
+use Rattle.esc_typed.specs.declared.escape.Escape.{Escape}
 use Rattle.esc_typed.specs.declared.keyboard.Keyboard.{Keyboard}
 use Rattle.esc_typed.specs.declared.keyboard.Keyboard.TheVariants as keyboards
 use Rattle.esc_typed.specs.declared.mouse.Mouse.{Mouse}
@@ -51,6 +53,8 @@ pub data Value : Type 0 where
   mouse : Mouse → Value
   window : Window → Value
   mode_status : ModeStatus → Value
+  charset : Charset → Value
+  escape : Escape → Value
   modes : ModeChange → List (Option ℕ × List CsiParam) → Value
   renditions : List (Option Rendition × List CsiParam) → Value
   other : Unfit → Value
@@ -63,6 +67,8 @@ value_of (function.Keyboard k) = keyboard k
 value_of (function.Mouse m) = mouse m
 value_of (function.Window w) = window w
 value_of (function.ModeStatus s) = mode_status s
+value_of (function.Charset c) = charset c
+value_of (function.Escape e) = escape e
 value_of (function.Mode c ms) = modes c (modes_left ms)
 value_of (function.Sgr r) = renditions (left r)
 value_of (function.Other u) = other u

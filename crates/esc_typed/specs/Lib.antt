@@ -1,6 +1,8 @@
 pub mod Arguments
+pub mod Charsets
 pub mod Choices
 pub mod Counts
+pub mod Escapes
 pub mod Functions
 pub mod Numbers
 pub mod Renditions

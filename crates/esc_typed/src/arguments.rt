@@ -3,7 +3,7 @@
 use crate::one_based::OneBased;
 
 // Which parameters a function has.
-#[derive(Clone, Copy, PartialEq, Eq)]
+#[derive(Clone, Copy)]
 pub(crate) enum Kind {
     // none
     Nothing,
@@ -30,7 +30,7 @@ pub(crate) enum Kind {
 }
 
 // The parameters of a function, with the defaults of those that are left out.
-#[derive(Clone, Copy, PartialEq, Eq)]
+#[derive(Clone, Copy)]
 pub(crate) enum Arguments {
     Nothing,
     Count(OneBased),

@@ -12,7 +12,7 @@ use crate::tabulation_clear::TabulationClear;
 use std::fmt;
 
 /// What is asked of the cursor and of what bounds it, by the names of termwiz.
-#[derive(Clone, Copy, Debug, PartialEq, Eq)]
+#[derive(Clone, Copy, Debug)]
 pub enum Cursor {
     /// `CSI .. A`, CUU: up so many lines.
     Up(OneBased),

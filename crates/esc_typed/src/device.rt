@@ -9,7 +9,7 @@ use crate::spelling::{Spelling, write_spelling};
 use std::fmt;
 
 /// What is asked of the terminal itself, by the names of termwiz.
-#[derive(Clone, Copy, Debug, PartialEq, Eq)]
+#[derive(Clone, Copy, Debug)]
 pub enum Device {
     /// `CSI .. c`, DA1: what it is, in its primary attributes.
     RequestPrimaryDeviceAttributes,

@@ -11,7 +11,7 @@ use crate::spelling::{Spelling, write_spelling};
 use std::fmt;
 
 /// What is inserted, deleted, erased and scrolled, by the names of termwiz.
-#[derive(Clone, Copy, Debug, PartialEq, Eq)]
+#[derive(Clone, Copy, Debug)]
 pub enum Edit {
     /// `CSI .. @`, ICH: so many characters are inserted.
     InsertCharacter(OneBased),

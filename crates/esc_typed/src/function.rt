@@ -1,12 +1,16 @@
-//! Control sequences as typed values.
+//! Control sequences, escape sequences and C1 controls as typed values.
 ghost use Rattle.std.specs.Prelude.{◌≡◌, Some};
 ghost use Rattle.esc_sequences.specs.Csis.{csi_value};
+ghost use Rattle.esc_typed.specs.Escapes.{of_bytes, of_c1, of_escape};
 ghost use Rattle.esc_typed.specs.Functions.{known_entries, made, made_of, of_csi, of_kind, of_named, of_params, value_of};
 
 use crate::arguments::{Arguments, Kind};
+use crate::charset::Charset;
 use crate::cursor::Cursor;
+use crate::designated::of_function as of_escape_function;
 use crate::device::Device;
 use crate::edit::Edit;
+use crate::escape::Escape;
 use crate::keyboard::Keyboard;
 use crate::mode_change::ModeChange;
 use crate::mode_status::ModeStatus;
@@ -19,14 +23,15 @@ use crate::table::{
 };
 use crate::unfit::Unfit;
 use crate::window::Window;
-use esc_functions::ControlFunction;
-use esc_sequences::{CSI, Intensity, Sgr, Underline};
+use esc_functions::{ControlFunction, EscapeFunction};
+use esc_sequences::{CSI, Esc, EscCode, Intensity, Sgr, Underline};
 use esc_values::CsiParam;
 use std::alloc::Allocator;
 
-/// What a control sequence asks for, with its parameters as numbers. The default of a parameter
-/// that is left out, or that is 0 where terminals count from 1, is filled in.
-#[derive(Clone, Copy, Debug, PartialEq)]
+/// What a control sequence, an escape sequence or a C1 control asks for, with its parameters as
+/// numbers. The default of a parameter that is left out, or that is 0 where terminals count from 1,
+/// is filled in.
+#[derive(Clone, Copy, Debug)]
 pub enum Function<'a> {
     /// Something of the cursor, or of what bounds it.
     Cursor(Cursor),
@@ -42,6 +47,10 @@ pub enum Function<'a> {
     Window(Window),
     /// The state of a mode is asked for or reported.
     ModeStatus(ModeStatus),
+    /// A character set is designated.
+    Charset(Charset),
+    /// Anything else that an escape sequence or a C1 control asks for.
+    Escape(Escape),
     /// Modes are set, reset, kept or restored.
     Mode(ModeChange, Modes<'a>),
     /// How characters are shown from here on.
@@ -74,6 +83,44 @@ impl<'a> Function<'a> {
         match ControlFunction::of_csi_params(params, last) {
             Some(function) => of_function(function, params),
             None => Function::Other(Unfit::Unnamed),
+        }
+    }
+
+    /// What this escape sequence asks for.
+    pub fn of_escape(esc: Esc) -> Function<'a>
+        ensures { value_of result ≡ of_escape esc }
+    {
+        match esc {
+            Esc::Code(EscCode::StringTerminator) => Function::of_escape_bytes(None, b'\\'),
+            Esc::Code(EscCode::HorizontalTabSet) => Function::of_escape_bytes(None, b'H'),
+            Esc::Code(EscCode::TmuxTitle) => Function::of_escape_bytes(None, b'k'),
+            Esc::Unspecified {
+                intermediate,
+                control,
+            } => Function::of_escape_bytes(intermediate, control),
+        }
+    }
+
+    /// What an escape sequence with this intermediate, if there is one, and this final byte asks
+    /// for.
+    pub fn of_escape_bytes(intermediate: Option<u8>, last: u8) -> Function<'a>
+        ensures { value_of result ≡ of_bytes intermediate last }
+    {
+        match EscapeFunction::of_bytes(intermediate, last) {
+            Some(function) => of_escape_function(function, last),
+            None => Function::Other(Unfit::Unnamed),
+        }
+    }
+
+    /// What a C1 control asks for, 80 to 9F (hexadecimal): the same as ESC and the byte 40 less
+    /// (ECMA-48, 5.3). Any other code has no name.
+    pub fn of_c1(code: u8) -> Function<'a>
+        ensures { value_of result ≡ of_c1 code }
+    {
+        if code >= 0x80 && code <= 0x9f {
+            Function::of_escape_bytes(None, code - 0x40)
+        } else {
+            Function::Other(Unfit::Unnamed)
         }
     }
 }

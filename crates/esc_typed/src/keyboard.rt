@@ -11,7 +11,7 @@ use crate::spelling::{Spelling, write_spelling};
 use std::fmt;
 
 /// What is asked of how keys are reported, by the names of termwiz.
-#[derive(Clone, Copy, Debug, PartialEq, Eq)]
+#[derive(Clone, Copy, Debug)]
 pub enum Keyboard {
     /// `CSI ? .. u`, KITTYQUERY: which flags are set.
     QueryKittySupport,

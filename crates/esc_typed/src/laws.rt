@@ -1,16 +1,20 @@
 //! Laws of typed values: nothing of renditions is lost, and what is written reads back.
-ghost use Rattle.std.specs.Prelude.{◌≡◌, List, ◌∷◌, map, Some};
+ghost use Rattle.std.specs.Prelude.{◌≡◌, ℕ, List, ◌∷◌, map, Option, Some};
 ghost use Rattle.esc_values.specs.declared.csi_param.CsiParam.{CsiParam};
 ghost use Rattle.esc_typed.specs.declared.mouse.Mouse.{Mouse};
 ghost use Rattle.esc_typed.specs.declared.rendition.Rendition.{Rendition};
 ghost use Rattle.esc_typed.specs.declared.cursor.Cursor.{Cursor};
 ghost use Rattle.esc_typed.specs.declared.device.Device.{Device};
+ghost use Rattle.esc_typed.specs.declared.charset.Charset.{Charset};
 ghost use Rattle.esc_typed.specs.declared.edit.Edit.{Edit};
+ghost use Rattle.esc_typed.specs.declared.escape.Escape.{Escape};
 ghost use Rattle.esc_typed.specs.declared.keyboard.Keyboard.{Keyboard};
 ghost use Rattle.esc_typed.specs.declared.mode_status.ModeStatus.{ModeStatus};
 ghost use Rattle.esc_typed.specs.declared.window.Window.{Window};
 ghost use Rattle.esc_typed.specs.Arguments.{AreArguments};
-ghost use Rattle.esc_typed.specs.Functions.{cursor, device, edit, keyboard, mode_status, mouse, of_params, window};
+ghost use Rattle.esc_typed.specs.Charsets.{charset_bytes};
+ghost use Rattle.esc_typed.specs.Escapes.{AreBytes, escape_bytes, of_bytes};
+ghost use Rattle.esc_typed.specs.Functions.{charset, cursor, device, edit, escape, keyboard, mode_status, mouse, of_params, window};
 ghost use Rattle.esc_typed.specs.Renditions.{AreRenditions, IsRendition, normal, rendition_of};
 ghost use Rattle.esc_typed.specs.Selections.{cut, joined, parameters, selections, spelled};
 ghost use Rattle.esc_typed.specs.Spellings.{cursor_spelling, device_spelling, edit_spelling, entries, keyboard_spelling, mode_status_spelling, mouse_spelling, window_spelling};
@@ -90,4 +94,23 @@ pub fn mode_status_reads_back()
     ensures { (s : ModeStatus) → AreArguments (mode_status_spelling s).arguments
         → of_params (entries (mode_status_spelling s)) (mode_status_spelling s).last
         ≡ mode_status s }
+{}
+
+/// The escape sequence of a typed value is read as this value.
+#[tactic(auto, using(crate::proofs::Escaped::escape_back))]
+pub fn escape_reads_back()
+    ensures { (e : Escape) → of_bytes (escape_bytes e).0 (escape_bytes e).1 ≡ escape e }
+{}
+
+/// No other escape sequence is read as this value.
+#[tactic(auto, using(crate::proofs::Escaped::escape_is_its_own))]
+pub fn escape_is_its_own()
+    ensures { (i : Option ℕ) (b : ℕ) (e : Escape) → AreBytes i b → of_bytes i b ≡ escape e
+        → escape_bytes e ≡ (i, b) }
+{}
+
+/// The escape sequence that designates a character set is read as this designation.
+#[tactic(auto, using(crate::proofs::Escaped::charset_back))]
+pub fn charset_reads_back()
+    ensures { (c : Charset) → of_bytes (charset_bytes c).0 (charset_bytes c).1 ≡ charset c }
 {}

@@ -1,5 +1,6 @@
-//! Typed values of control sequences: what one asks for, with its parameters as numbers, as a value
-//! that a caller can match; and the renditions of SGR, one after another.
+//! Typed values of control sequences, escape sequences and C1 controls: what one asks for, with its
+//! parameters as numbers, as a value that a caller can match; and the renditions of SGR, one after
+//! another.
 //!
 //! The standards: ECMA-48
 //! (<https://ecma-international.org/publications-and-standards/standards/ecma-48/>), ISO 8613-6 for
@@ -17,16 +18,22 @@
 pub mod ansi_color;
 mod arguments;
 pub mod blink;
+pub mod charset;
+pub mod charset94;
+pub mod charset96;
 mod color_entries;
 pub mod color_spec;
 pub mod cursor;
 pub mod cursor_style;
 pub mod cursor_tabulation_control;
+mod designated;
 pub mod device;
 pub mod edit;
 mod entries;
 pub mod erase_in_display;
 pub mod erase_in_line;
+pub mod escape;
+mod escape_table;
 pub mod font;
 pub mod frame;
 pub mod function;
@@ -40,6 +47,7 @@ pub mod mode_state;
 pub mod mode_status;
 pub mod modes;
 pub mod mouse;
+pub mod multibyte_charset;
 mod numbered;
 mod numbers;
 pub mod one_based;
@@ -56,6 +64,9 @@ mod window_operations;
 
 pub use ansi_color::AnsiColor;
 pub use blink::Blink;
+pub use charset::Charset;
+pub use charset94::Charset94;
+pub use charset96::Charset96;
 pub use color_spec::ColorSpec;
 pub use cursor::Cursor;
 pub use cursor_style::CursorStyle;
@@ -65,6 +76,7 @@ pub use edit::Edit;
 pub use erase_in_display::EraseInDisplay;
 pub use erase_in_line::EraseInLine;
 pub use esc_values::CsiParam;
+pub use escape::Escape;
 pub use font::Font;
 pub use frame::Frame;
 pub use function::Function;
@@ -77,6 +89,7 @@ pub use mode_state::ModeState;
 pub use mode_status::ModeStatus;
 pub use modes::Modes;
 pub use mouse::Mouse;
+pub use multibyte_charset::MultibyteCharset;
 pub use one_based::OneBased;
 pub use rendition::Rendition;
 pub use renditions::Renditions;

@@ -10,7 +10,7 @@ use std::fmt;
 
 /// What is asked and reported of a mode. Its number is that of a `Mode` or a `PrivateMode` of
 /// `esc_functions`, where it has a name.
-#[derive(Clone, Copy, Debug, PartialEq, Eq)]
+#[derive(Clone, Copy, Debug)]
 pub enum ModeStatus {
     /// `CSI .. $ p`, DECRQM: the state of this mode of ECMA-48 is asked for.
     QueryMode(u32),
@@ -22,7 +22,8 @@ pub enum ModeStatus {
     ReportDecPrivateMode { mode: u32, state: ModeState },
 }
 
-/// Writes the control sequence in its normal spelling. Where it returns `Ok`, all of it was written.
+/// Writes the control sequence in its normal spelling. Where it returns `Ok`, all of it was
+/// written.
 impl fmt::Display for ModeStatus {
     ghost output = { λ c. let s = mode_status_spelling c in
         Some (csi_text (unspecified (entries s) false s.last)) };

@@ -9,7 +9,7 @@ use std::iter::FusedIterator;
 
 /// The modes of the parameters of a control sequence, in order. It takes no memory. An item keeps
 /// its entries: those of all items, with `;` between them, are the parameters.
-#[derive(Clone, Copy, Debug, PartialEq)]
+#[derive(Clone, Copy, Debug)]
 pub struct Modes<'a> {
     rest: Option<&'a [CsiParam]>,
 }

@@ -15,7 +15,7 @@ use std::iter::FusedIterator;
 /// 38, 48 or 58 and `;` a colour goes on: with 5 and one number, or with 2 and three. Of any other
 /// kind nobody can say where it ends, so all that is left is one item without a rendition. An item
 /// keeps its entries: those of all items, with `;` between them, are the parameters.
-#[derive(Clone, Copy, Debug, PartialEq)]
+#[derive(Clone, Copy, Debug)]
 pub struct Renditions<'a> {
     rest: Option<&'a [CsiParam]>,
 }

@@ -7,13 +7,13 @@ use crate::arguments::Arguments;
 use crate::spelling::{Spelling, write_spelling};
 use std::fmt;
 
-/// What is asked or reported of the window, `CSI .. t`, by the names of termwiz. Sizes are in pixels
-/// or, where the name says so, in cells; those of a screen are its own.
+/// What is asked or reported of the window, `CSI .. t`, by the names of termwiz. Sizes are in
+/// pixels or, where the name says so, in cells.
 ///
 /// A terminal reports that a window is open or iconified as `DeIconify` and `Iconify`, its place as
 /// `MoveWindow`, and its sizes as `ResizeWindowPixels` and `ResizeWindowCells`: no other sequence
 /// says so.
-#[derive(Clone, Copy, Debug, PartialEq, Eq)]
+#[derive(Clone, Copy, Debug)]
 pub enum Window {
     /// 1: it is opened again.
     DeIconify,

@@ -1,17 +1,41 @@
 //! The rows of a table.
 use crate::sequence::Sequence;
-use esc_typed::{CsiParam, Function, ModeChange, Modes, Renditions};
+use esc_typed::{CsiParam, Function, ModeChange, Modes, Renditions, Unfit};
 use std::alloc::{AllocError, Global};
 use std::fmt::{Debug, Display};
 
 /// The row of a sequence, as the library has it: that of what comes before the first `|` of a line.
 pub fn row_of(alloc: Global, line: &str) -> Result<String, AllocError> {
     let text = match line.split_once(" | ") {
+        Some(("ESC", _)) => "ESC |",
         Some((text, _)) => text,
         None => line,
     };
-    let sequence = Sequence::read(alloc, text)?;
-    match Function::of_params(&sequence.params, sequence.last) {
+    match text.strip_prefix("ESC ") {
+        Some(rest) => row_with(alloc, text, of_escape(rest.as_bytes())),
+        None => {
+            let sequence = Sequence::read(alloc, text)?;
+            row_with(
+                alloc,
+                text,
+                Function::of_params(&sequence.params, sequence.last),
+            )
+        }
+    }
+}
+
+// The value of an escape sequence of these bytes after ESC.
+fn of_escape(bytes: &[u8]) -> Function<'static> {
+    match bytes {
+        [last] => Function::of_escape_bytes(None, *last),
+        [intermediate, last] => Function::of_escape_bytes(Some(*intermediate), *last),
+        _ => Function::Other(Unfit::Unnamed),
+    }
+}
+
+// The row of a value.
+fn row_with(alloc: Global, text: &str, function: Function<'_>) -> Result<String, AllocError> {
+    match function {
         Function::Cursor(cursor) => typed(alloc, text, cursor),
         Function::Edit(edit) => typed(alloc, text, edit),
         Function::Device(device) => typed(alloc, text, device),
@@ -19,6 +43,8 @@ pub fn row_of(alloc: Global, line: &str) -> Result<String, AllocError> {
         Function::Mouse(mouse) => typed(alloc, text, mouse),
         Function::Window(window) => typed(alloc, text, window),
         Function::ModeStatus(status) => typed(alloc, text, status),
+        Function::Charset(charset) => typed(alloc, text, charset),
+        Function::Escape(escape) => typed(alloc, text, escape),
         Function::Mode(change, modes) => changed(alloc, text, change, modes),
         Function::Sgr(renditions) => listed(alloc, text, renditions),
         Function::Other(unfit) => format!(in alloc; "{text} | {unfit:?} | {text}"),
@@ -32,11 +58,17 @@ fn typed<T: Debug + Display + Drop>(
     value: T,
 ) -> Result<String, AllocError> {
     let written = format!(in alloc; "{value}")?;
-    let spelling = match written.as_str().strip_prefix("\x1b[") {
-        Some(rest) => rest,
-        None => "?",
-    };
-    format!(in alloc; "{text} | {value:?} | {spelling}")
+    let (before, spelling) = spelling(written.as_str());
+    format!(in alloc; "{text} | {value:?} | {before}{spelling}")
+}
+
+// How a row has what is written: without `ESC [`, or with the word ESC before the bytes.
+fn spelling(written: &str) -> (&'static str, &str) {
+    match (written.strip_prefix("\x1b["), written.strip_prefix('\x1b')) {
+        (Some(rest), _) => ("", rest),
+        (None, Some(rest)) => ("ESC ", rest),
+        (None, None) => ("?", ""),
+    }
 }
 
 // The row of renditions.

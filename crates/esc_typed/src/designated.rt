@@ -1,0 +1,67 @@
+//! What an escape sequence asks for, by its function and its final byte.
+ghost use Rattle.std.specs.Prelude.{◌≡◌, Some};
+ghost use Rattle.esc_typed.specs.Escapes.{designated, of_function};
+ghost use Rattle.esc_typed.specs.Functions.{value_of};
+
+use crate::charset::Charset;
+use crate::charset94::Charset94;
+use crate::charset96::Charset96;
+use crate::escape::Escape;
+use crate::function::Function;
+use crate::multibyte_charset::MultibyteCharset;
+use crate::unfit::Unfit;
+use esc_functions::EscapeFunction;
+
+// What a function with this final byte asks for.
+pub(crate) fn of_function<'a>(function: EscapeFunction, last: u8) -> Function<'a>
+    ensures { value_of result ≡ of_function (Some function) last }
+{
+    match Escape::of_function(function) {
+        Some(escape) => Function::Escape(escape),
+        None => match designated(function, last) {
+            Ok(charset) => Function::Charset(charset),
+            Err(unfit) => Function::Other(unfit),
+        },
+    }
+}
+
+// The set that it designates.
+fn designated(function: EscapeFunction, last: u8) -> Result<Charset, Unfit>
+    ensures { result ≡ designated function last }
+{
+    match function {
+        EscapeFunction::GZD4 => match Charset94::of_final_byte(last) {
+            Some(set) => Ok(Charset::G0(set)),
+            None => Err(Unfit::OutOfRange),
+        },
+        EscapeFunction::G1D4 => match Charset94::of_final_byte(last) {
+            Some(set) => Ok(Charset::G1(set)),
+            None => Err(Unfit::OutOfRange),
+        },
+        EscapeFunction::G2D4 => match Charset94::of_final_byte(last) {
+            Some(set) => Ok(Charset::G2(set)),
+            None => Err(Unfit::OutOfRange),
+        },
+        EscapeFunction::G3D4 => match Charset94::of_final_byte(last) {
+            Some(set) => Ok(Charset::G3(set)),
+            None => Err(Unfit::OutOfRange),
+        },
+        EscapeFunction::G1D6 => match Charset96::of_final_byte(last) {
+            Some(set) => Ok(Charset::G1Of96(set)),
+            None => Err(Unfit::OutOfRange),
+        },
+        EscapeFunction::G2D6 => match Charset96::of_final_byte(last) {
+            Some(set) => Ok(Charset::G2Of96(set)),
+            None => Err(Unfit::OutOfRange),
+        },
+        EscapeFunction::G3D6 => match Charset96::of_final_byte(last) {
+            Some(set) => Ok(Charset::G3Of96(set)),
+            None => Err(Unfit::OutOfRange),
+        },
+        EscapeFunction::GZDM4 => match MultibyteCharset::of_final_byte(last) {
+            Some(set) => Ok(Charset::G0Multibyte(set)),
+            None => Err(Unfit::OutOfRange),
+        },
+        _ => Err(Unfit::Untyped),
+    }
+}
