@@ -28,6 +28,7 @@ abbrev pub takes_value : Takes → Bool
 takes_value takes.Nothing = false
 takes_value takes.Size = true
 takes_value (takes.OneOf c ws) = true
+takes_value (takes.SomeOf c ws) = true
 
 abbrev pub some_takes : Option Known → Bool
 some_takes None = false
@@ -52,11 +53,13 @@ first_of (w ∷ ws) = w
 abbrev pub value_of : List ℕ → List (List ℕ) → List ℕ
 value_of w ws = if has_value w then after_first (λ b. b == 0x3d) w else first_of ws
 
--- the word that is given, where one of several is taken; the size that is given is not said
+-- the word that is given, where one of several is taken; a size and a list that are given are not
+-- said
 abbrev pub word_given : Takes → List ℕ → List ℕ
 word_given takes.Nothing v = []
 word_given takes.Size v = []
 word_given (takes.OneOf c ws) v = v
+word_given (takes.SomeOf c ws) v = []
 
 -- an option's name and its word, with this value
 abbrev pub given_of : Option Known → List ℕ → List (List ℕ × List ℕ)

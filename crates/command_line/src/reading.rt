@@ -26,6 +26,9 @@ pub struct Given {
     pub word: &'static str,
     /// The size that it takes; 0 where it takes none.
     pub size: usize,
+    /// Which words it takes, where it takes some: a bit each, that of the first word 1, of the next
+    /// 2, of the next 4.
+    pub some: u64,
 }
 
 /// The options and files that these words, a program's arguments, name, by the table of its
@@ -175,7 +178,7 @@ fn given_before<'a>(option: Known, after: &'a [String]) -> Result<(Given, &'a [S
     let called = match option.takes {
         Takes::Nothing => return Ok((taken(option, "", 0), after)),
         Takes::Size => A_SIZE,
-        Takes::OneOf(called, _) => called,
+        Takes::OneOf(called, _) | Takes::SomeOf(called, _) => called,
     };
     match after.split_first() {
         Some((value, after)) => Ok((given_with(option, value.as_str())?, after)),
@@ -200,7 +203,44 @@ fn given_with<'a>(option: Known, value: &'a str) -> Result<Given, Wrong<'a>>
                 Err(Wrong::Value(option.name, called, value, near))
             }
         },
+        Takes::SomeOf(called, words) => match bits_of(words, value) {
+            Ok(some) => Ok(Given {
+                name: option.name,
+                word: "",
+                size: 0,
+                some,
+            }),
+            Err(part) => {
+                let near = nearest_word(words, part);
+                Err(Wrong::Value(option.name, called, part, near))
+            }
+        },
     }
+}
+
+// The bits of the words that a text has with `,` between them; or the first that is not one of the
+// list.
+fn bits_of<'a>(words: &[&'static str], text: &'a str) -> Result<u64, &'a str> {
+    let mut bits = 0;
+    for part in text.split(',') {
+        match bit_of(words, part) {
+            Some(bit) => bits |= bit,
+            None => return Err(part),
+        }
+    }
+    Ok(bits)
+}
+
+// The bit of a word, where it is in the list.
+fn bit_of(words: &[&'static str], text: &str) -> Option<u64> {
+    let mut bit: u64 = 1;
+    for word in words {
+        if *word == text {
+            return Some(bit);
+        }
+        bit = bit.saturating_mul(2);
+    }
+    None
 }
 
 // The option, with a word or a size.
@@ -211,6 +251,7 @@ fn taken(option: Known, word: &'static str, size: usize) -> Given
         name: option.name,
         word,
         size,
+        some: 0,
     }
 }
 

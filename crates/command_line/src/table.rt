@@ -22,6 +22,8 @@ pub enum Takes {
     Size,
     /// One of these words, and what they are called.
     OneOf(&'static str, &'static [&'static str]),
+    /// Some of these words, at most 64, with `,` between them, and what each is called.
+    SomeOf(&'static str, &'static [&'static str]),
 }
 
 // The option of this name or letter.
