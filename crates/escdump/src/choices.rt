@@ -4,98 +4,120 @@
 //! manual (<https://vt100.net/docs/vt510-rm/chapter4.html>), or xterm's list
 //! (<https://invisible-island.net/xterm/ctlseqs/ctlseqs.html>).
 
-use crate::named::{Named, words_of};
+use crate::named::words_of;
 use esc_functions::ControlFunction;
 
-const IN_DISPLAY: &[Named] = &[
-    Named(0, "below"),
-    Named(1, "above"),
-    Named(2, "all"),
-    Named(3, "scrolled-off lines"),
-];
+static IN_DISPLAY: &str = "\
+0 below
+1 above
+2 all
+3 scrolled-off lines";
 
-const IN_LINE: &[Named] = &[
-    Named(0, "to the right"),
-    Named(1, "to the left"),
-    Named(2, "all"),
-];
+static IN_LINE: &str = "\
+0 to the right
+1 to the left
+2 all";
 
-const TABS: &[Named] = &[Named(0, "at the cursor"), Named(3, "all")];
+static TABS: &str = "\
+0 at the cursor
+1 of the line
+2 all in the line
+3 all
+4 all of lines
+5 all of columns and lines";
 
-const REPORTS: &[Named] = &[
-    Named(0, "ready"),
-    Named(5, "status"),
-    Named(6, "cursor position"),
-];
+static REPORTS: &str = "\
+0 it is ready
+1 it is busy, ask again
+2 it is busy, and reports later
+3 it has a malfunction, ask again
+4 it has a malfunction, and reports later
+5 ask for the status
+6 ask for the cursor position";
 
-const PRIVATE_REPORTS: &[Named] = &[
-    Named(6, "cursor position and page"),
-    Named(15, "printer"),
-    Named(25, "user-defined keys"),
-    Named(26, "keyboard"),
-    Named(996, "colour scheme"),
-    Named(997, "colour scheme is"),
-];
+// 996 and 997 are those of contour and kitty.
+static PRIVATE_REPORTS: &str = "\
+6 ask for the cursor position and page
+10 the printer is ready
+11 the printer is not ready
+13 there is no printer
+15 ask for the printer
+18 the printer is busy
+19 the printer belongs to another session
+20 user-defined keys are unlocked
+21 user-defined keys are locked
+25 ask for user-defined keys
+26 ask for the keyboard
+27 report of the keyboard
+50 report of the locator
+53 report of the locator
+55 ask for the locator
+56 ask for the kind of the locator
+57 report of the kind of the locator
+62 ask for the space for macros
+63 ask for the checksum of the memory
+70 the data came whole
+71 the data have a fault
+73 there were no data yet
+75 ask whether the data came whole
+83 sessions are ready
+85 ask for sessions
+996 ask for the colour scheme
+997 report of the colour scheme: 1 dark, 2 light";
 
-const CURSORS: &[Named] = &[
-    Named(0, "default"),
-    Named(1, "blinking block"),
-    Named(2, "steady block"),
-    Named(3, "blinking underline"),
-    Named(4, "steady underline"),
-    Named(5, "blinking bar"),
-    Named(6, "steady bar"),
-];
+static CURSORS: &str = "\
+0 default
+1 blinking block
+2 steady block
+3 blinking underline
+4 steady underline
+5 blinking bar
+6 steady bar";
 
-const PROTECTION: &[Named] = &[Named(0, "off"), Named(1, "on"), Named(2, "off")];
+static PROTECTION: &str = "\
+0 off
+1 on
+2 off";
 
-const KEYS: &[Named] = &[
-    Named(1, "Home"),
-    Named(2, "Insert"),
-    Named(3, "Delete"),
-    Named(4, "End"),
-    Named(5, "Page Up"),
-    Named(6, "Page Down"),
-    Named(200, "paste begins"),
-    Named(201, "paste ends"),
-];
-
-const WINDOW: &[Named] = &[
-    Named(1, "de-iconify"),
-    Named(2, "iconify"),
-    Named(3, "move"),
-    Named(4, "resize in pixels"),
-    Named(5, "raise"),
-    Named(6, "lower"),
-    Named(7, "refresh"),
-    Named(8, "resize in characters"),
-    Named(9, "maximise"),
-    Named(10, "full screen"),
-    Named(11, "report state"),
-    Named(13, "report position"),
-    Named(14, "report size in pixels"),
-    Named(15, "report size of the screen in pixels"),
-    Named(16, "report size of a character in pixels"),
-    Named(18, "report size in characters"),
-    Named(19, "report size of the screen in characters"),
-    Named(20, "report icon label"),
-    Named(21, "report title"),
-    Named(22, "push title"),
-    Named(23, "pop title"),
-];
+static WINDOW: &str = "\
+1 de-iconify
+2 iconify
+3 move
+4 resize in pixels
+5 raise
+6 lower
+7 refresh
+8 resize in characters
+9 maximise
+10 full screen
+11 ask for state
+13 ask for position
+14 ask for size in pixels
+15 ask for size of the screen in pixels
+16 ask for size of a character in pixels
+18 ask for size in characters
+19 ask for size of the screen in characters
+20 ask for icon label
+21 ask for title
+22 push title
+23 pop title";
 
 /// What this number chooses, where it is the first of a sequence of this function and has words.
 pub fn chosen_words(function: ControlFunction, number: i64) -> Option<&'static str> {
+    words_of(choices_of(function), number)
+}
+
+// The table of what a function's first number chooses; an empty one, where there is none.
+fn choices_of(function: ControlFunction) -> &'static str {
     match function {
-        ControlFunction::ED | ControlFunction::DECSED => words_of(IN_DISPLAY, number),
-        ControlFunction::EL | ControlFunction::DECSEL => words_of(IN_LINE, number),
-        ControlFunction::TBC => words_of(TABS, number),
-        ControlFunction::DSR => words_of(REPORTS, number),
-        ControlFunction::DECDSR => words_of(PRIVATE_REPORTS, number),
-        ControlFunction::DECSCUSR => words_of(CURSORS, number),
-        ControlFunction::DECSCA => words_of(PROTECTION, number),
-        ControlFunction::DECFNK => words_of(KEYS, number),
-        ControlFunction::XTWINOPS => words_of(WINDOW, number),
-        _ => None,
+        ControlFunction::ED | ControlFunction::DECSED => IN_DISPLAY,
+        ControlFunction::EL | ControlFunction::DECSEL => IN_LINE,
+        ControlFunction::TBC => TABS,
+        ControlFunction::DSR => REPORTS,
+        ControlFunction::DECDSR => PRIVATE_REPORTS,
+        ControlFunction::DECSCUSR => CURSORS,
+        ControlFunction::DECSCA => PROTECTION,
+        ControlFunction::XTWINOPS => WINDOW,
+        _ => "",
     }
 }

@@ -1,23 +1,12 @@
 //! Colours of renditions in words.
 
-use crate::writing::write_between;
+use crate::phrase::Phrase;
 use esc_typed::{AnsiColor, ColorSpec};
 use escape_stream::RgbColor;
-use std::fmt;
-use std::fmt::Display;
+use std::alloc::Allocator;
 
-/// Writes what has a colour, and the colour's name.
-pub fn write_ansi<W: fmt::Write>(
-    what: &str,
-    color: AnsiColor,
-    f: &mut fmt::Formatter<W>,
-) -> fmt::Result {
-    f.write_str(what)?;
-    f.write_str(ansi_words(color))
-}
-
-// Those of 90 to 97 and 100 to 107 are aixterm's, bright ones.
-fn ansi_words(color: AnsiColor) -> &'static str {
+/// The name of a colour. Those of 90 to 97 and 100 to 107 are aixterm's, bright ones.
+pub fn ansi_words(color: AnsiColor) -> &'static str {
     match color {
         AnsiColor::Black => "black",
         AnsiColor::Red => "red",
@@ -38,24 +27,21 @@ fn ansi_words(color: AnsiColor) -> &'static str {
     }
 }
 
-/// Writes what has a colour, and the colour: `default`, its place in the palette, or its red, green
-/// and blue, each from 0 to 255.
-pub fn write_color<W: fmt::Write>(
-    what: &str,
-    color: ColorSpec,
-    f: &mut fmt::Formatter<W>,
-) -> fmt::Result {
-    f.write_str(what)?;
+/// Adds what has a colour, and the colour: `default`, `palette` and its place there, or `#` and its
+/// red, green and blue, each as two hexadecimal digits.
+pub fn add_color<A: Allocator>(what: &str, color: ColorSpec, to: &mut Phrase<A>) {
+    to.add(what);
     match color {
-        ColorSpec::Default => f.write_str("default"),
-        ColorSpec::PaletteIndex(index) => index.fmt(f),
-        ColorSpec::TrueColor(rgb) => write_channels(rgb, f),
+        ColorSpec::Default => to.add("default"),
+        ColorSpec::PaletteIndex(index) => to.add_value("palette ", &index),
+        ColorSpec::TrueColor(rgb) => add_channels(rgb, to),
     }
 }
 
-fn write_channels<W: fmt::Write>(rgb: RgbColor, f: &mut fmt::Formatter<W>) -> fmt::Result {
+fn add_channels<A: Allocator>(rgb: RgbColor, to: &mut Phrase<A>) {
     let (red, green, blue) = rgb.to_tuple_rgb8();
-    red.fmt(f)?;
-    write_between(", ", &green, ", ", f)?;
-    blue.fmt(f)
+    to.add("#");
+    for channel in [red, green, blue] {
+        to.add_hex(channel, b'a');
+    }
 }

@@ -3,144 +3,115 @@
 mod iterm;
 mod prompts;
 
-use crate::command_words::iterm::write_iterm;
-use crate::command_words::prompts::write_prompt;
-use crate::writing::{write_between, write_escaped, write_quoted, write_text, write_words};
+use crate::command_words::iterm::add_iterm;
+use crate::command_words::prompts::add_prompt;
+use crate::phrase::Phrase;
 use escape_stream::osc::{
     ChangeColorPair, ColorOrQuery, DynamicColorNumber, Hyperlink,
     OperatingSystemCommand as Command, Params, Progress, Selection,
 };
 use escape_stream::{Items, Text};
 use std::alloc::Allocator;
-use std::fmt::Display;
-use std::{fmt, str};
+use std::str;
 
-/// Writes an operating system command in words.
-pub fn write_command<A: Allocator, W: fmt::Write>(
-    command: &Command<A>,
-    f: &mut fmt::Formatter<W>,
-) -> fmt::Result {
+/// Adds an operating system command in words.
+pub fn add_command<A: Allocator, B: Allocator>(command: &Command<B>, to: &mut Phrase<A>) {
+    match command.code() {
+        Some(code) => to.begin("OSC", code.as_code()),
+        None => to.begin("OSC", ""),
+    }
     match command {
         Command::SetIconNameAndWindowTitle(text) => {
-            write_text("OSC 0 icon name and window title", text.as_str(), f)
+            to.add_quoted(" icon name and window title ", text.as_str())
         }
-        Command::SetIconName(text) => write_text("OSC 1 icon name", text.as_str(), f),
-        Command::SetWindowTitle(text) => write_text("OSC 2 window title", text.as_str(), f),
-        Command::SetWindowTitleSun(text) => write_text("OSC l window title", text.as_str(), f),
-        Command::SetIconNameSun(text) => write_text("OSC L icon name", text.as_str(), f),
-        Command::SystemNotification(text) => write_text("OSC 9 notification", text.as_str(), f),
+        Command::SetIconName(text) => to.add_quoted(" icon name ", text.as_str()),
+        Command::SetWindowTitle(text) => to.add_quoted(" window title ", text.as_str()),
+        Command::SetWindowTitleSun(text) => to.add_quoted(" window title ", text.as_str()),
+        Command::SetIconNameSun(text) => to.add_quoted(" icon name ", text.as_str()),
+        Command::SystemNotification(text) => to.add_quoted(" notification ", text.as_str()),
         Command::CurrentWorkingDirectory(text) => {
-            write_text("OSC 7 working directory", text.as_str(), f)
+            to.add_quoted(" working directory ", text.as_str())
         }
-        Command::SetHyperlink(link) => write_link(link.as_ref(), f),
-        Command::ClearSelection(at) => write_selection(at, " is cleared", f),
-        Command::QuerySelection(at) => write_selection(at, " is asked for", f),
-        Command::SetSelection(at, text) => write_selected(at, text.as_str(), f),
-        Command::ChangeColorNumber(pairs) => write_pairs(pairs.as_slice(), f),
-        Command::ChangeDynamicColors(number, colors) => write_colors(*number, colors.as_slice(), f),
-        Command::ResetDynamicColor(number) => write_reset(*number, f),
-        Command::ResetColors(indexes) => write_indexes(indexes.as_slice(), f),
-        Command::RxvtExtension(parts) => write_texts(parts.as_slice(), f),
-        Command::ConEmuProgress(progress) => write_progress(progress, f),
-        Command::ITermProprietary(command) => write_iterm(command, f),
-        Command::FinalTermSemanticPrompt(prompt) => write_prompt(prompt, f),
-        Command::Unspecified(parts) => write_parts(parts.as_slice(), f),
+        Command::SetHyperlink(link) => add_link(link.as_ref(), to),
+        Command::ClearSelection(at) => add_selection(at, " is cleared", to),
+        Command::QuerySelection(at) => add_selection(at, " is asked for", to),
+        Command::SetSelection(at, text) => {
+            add_selection(at, " is set to ", to);
+            to.add_quoted("", text.as_str());
+        }
+        Command::ChangeColorNumber(pairs) => add_pairs(pairs.as_slice(), to),
+        Command::ChangeDynamicColors(number, colors) => add_colors(*number, colors.as_slice(), to),
+        Command::ResetDynamicColor(number) => to.add_all(&[" reset ", colored(*number)]),
+        Command::ResetColors(indexes) => add_indexes(indexes.as_slice(), to),
+        Command::RxvtExtension(parts) => add_texts(parts.as_slice(), to),
+        Command::ConEmuProgress(progress) => add_progress(progress, to),
+        Command::ITermProprietary(command) => add_iterm(command, to),
+        Command::FinalTermSemanticPrompt(prompt) => add_prompt(prompt, to),
+        Command::Unspecified(parts) => add_parts(parts.as_slice(), to),
     }
-}
-
-// The text that the clipboard is set to.
-fn write_selected<W: fmt::Write>(
-    at: &Selection,
-    text: &str,
-    f: &mut fmt::Formatter<W>,
-) -> fmt::Result {
-    write_selection(at, " is set to", f)?;
-    write_text("", text, f)
 }
 
 // The clipboard, and what is done to it.
-fn write_selection<W: fmt::Write>(
-    at: &Selection,
-    done: &str,
-    f: &mut fmt::Formatter<W>,
-) -> fmt::Result {
-    write_between("OSC 52 clipboard \"", at, "\"", f)?;
-    f.write_str(done)
+fn add_selection<A: Allocator>(at: &Selection, done: &str, to: &mut Phrase<A>) {
+    to.add_value(" clipboard \"", at);
+    to.add_all(&["\"", done]);
 }
 
 // A link, or the end of one.
-fn write_link<A: Allocator, W: fmt::Write>(
-    link: Option<&Hyperlink<A>>,
-    f: &mut fmt::Formatter<W>,
-) -> fmt::Result {
+fn add_link<A: Allocator, B: Allocator>(link: Option<&Hyperlink<B>>, to: &mut Phrase<A>) {
     let Some(link) = link else {
-        return f.write_str("OSC 8 hyperlink ends");
+        return to.add(" hyperlink ends");
     };
-    write_text("OSC 8 hyperlink", link.uri.as_str(), f)?;
-    write_params(&link.params, f)
+    to.add_quoted(" hyperlink ", link.uri.as_str());
+    add_params(&link.params, to);
 }
 
 // The parameters of a link.
-fn write_params<A: Allocator, W: fmt::Write>(
-    params: &Params<A>,
-    f: &mut fmt::Formatter<W>,
-) -> fmt::Result {
+fn add_params<A: Allocator, B: Allocator>(params: &Params<B>, to: &mut Phrase<A>) {
     for (key, value) in params {
-        write_param(key, value, f)?;
+        to.add(" \"");
+        to.add_escaped(key);
+        to.add("=");
+        to.add_escaped(value);
+        to.add("\"");
     }
-    Ok(())
-}
-
-// A parameter of a link.
-fn write_param<W: fmt::Write>(key: &str, value: &str, f: &mut fmt::Formatter<W>) -> fmt::Result {
-    f.write_str(" \"")?;
-    write_escaped(key, f)?;
-    f.write_str("=")?;
-    write_escaped(value, f)?;
-    f.write_str("\"")
 }
 
 // Colours of the palette.
-fn write_pairs<W: fmt::Write>(pairs: &[ChangeColorPair], f: &mut fmt::Formatter<W>) -> fmt::Result {
-    f.write_str("OSC 4")?;
+fn add_pairs<A: Allocator>(pairs: &[ChangeColorPair], to: &mut Phrase<A>) {
     let mut separator = " colour ";
     for pair in pairs {
-        write_between(separator, &pair.palette_index, " = ", f)?;
-        pair.color.fmt(f)?;
+        to.add_value(separator, &pair.palette_index);
+        add_set(&pair.color, to);
         separator = ", colour ";
     }
-    Ok(())
 }
 
-// The reset of a dynamic colour.
-fn write_reset<W: fmt::Write>(
-    number: DynamicColorNumber,
-    f: &mut fmt::Formatter<W>,
-) -> fmt::Result {
-    let code = 100 + u32::from(number.number());
-    write_between("OSC ", &code, " reset ", f)?;
-    f.write_str(colored(number))
+// What a colour is set to, or that it is asked for.
+fn add_set<A: Allocator>(color: &ColorOrQuery, to: &mut Phrase<A>) {
+    match color {
+        ColorOrQuery::Color(_) => to.add_value(" = ", color),
+        ColorOrQuery::Query => to.add(" is asked for"),
+    }
 }
 
 // Dynamic colours, from this one on.
-fn write_colors<W: fmt::Write>(
+fn add_colors<A: Allocator>(
     first: DynamicColorNumber,
     colors: &[ColorOrQuery],
-    f: &mut fmt::Formatter<W>,
-) -> fmt::Result {
-    write_between("OSC ", &first.number(), "", f)?;
+    to: &mut Phrase<A>,
+) {
     let mut next = Some(first);
     let mut separator = " ";
     for color in colors {
         let Some(at) = next else {
             break;
         };
-        write_words(&[separator, colored(at), " = "], f)?;
-        color.fmt(f)?;
+        to.add_all(&[separator, colored(at)]);
+        add_set(color, to);
         next = at.next();
         separator = ", ";
     }
-    Ok(())
 }
 
 // What a dynamic colour is the colour of.
@@ -160,51 +131,47 @@ fn colored(number: DynamicColorNumber) -> &'static str {
 }
 
 // Colours of the palette that are reset.
-fn write_indexes<W: fmt::Write>(indexes: &[u8], f: &mut fmt::Formatter<W>) -> fmt::Result {
+fn add_indexes<A: Allocator>(indexes: &[u8], to: &mut Phrase<A>) {
     if indexes.is_empty() {
-        return f.write_str("OSC 104 reset all colours");
+        return to.add(" reset all colours");
     }
-    f.write_str("OSC 104 reset colours")?;
+    to.add(" reset colours");
     for index in indexes {
-        write_between(" ", index, "", f)?;
+        to.add_value(" ", index);
     }
-    Ok(())
 }
 
 // An extension of rxvt.
-fn write_texts<A: Allocator, W: fmt::Write>(
-    parts: &[Text<A>],
-    f: &mut fmt::Formatter<W>,
-) -> fmt::Result {
-    f.write_str("OSC 777 rxvt")?;
-    write_quoted(parts, f)
+fn add_texts<A: Allocator, B: Allocator>(parts: &[Text<B>], to: &mut Phrase<A>) {
+    to.add(" rxvt");
+    for part in parts {
+        to.add_quoted(" ", part.as_str());
+    }
 }
 
 // The progress of a task.
-fn write_progress<W: fmt::Write>(progress: &Progress, f: &mut fmt::Formatter<W>) -> fmt::Result {
-    let (share, words) = match progress {
-        Progress::None => (None, "ends"),
-        Progress::SetPercentage(share) => (Some(share), " %"),
-        Progress::SetError(share) => (Some(share), " %, with an error"),
-        Progress::SetIndeterminate => (None, "without an end in sight"),
-        Progress::Paused => (None, "pauses"),
-    };
-    match share {
-        Some(share) => write_between("OSC 9;4 progress ", share, words, f),
-        None => write_words(&["OSC 9;4 progress ", words], f),
+fn add_progress<A: Allocator>(progress: &Progress, to: &mut Phrase<A>) {
+    match progress {
+        Progress::None => to.add(" progress ends"),
+        Progress::SetPercentage(share) => add_share(*share, " %", to),
+        Progress::SetError(share) => add_share(*share, " %, with an error", to),
+        Progress::SetIndeterminate => to.add(" progress without an end in sight"),
+        Progress::Paused => to.add(" progress pauses"),
     }
 }
 
+fn add_share<A: Allocator>(share: u8, unit: &str, to: &mut Phrase<A>) {
+    to.add_value(" progress ", &share);
+    to.add(unit);
+}
+
 // The parts of a command that is not known.
-fn write_parts<A: Allocator, W: fmt::Write>(
-    parts: &[Items<u8, A>],
-    f: &mut fmt::Formatter<W>,
-) -> fmt::Result {
-    let mut separator = "OSC \"";
+fn add_parts<A: Allocator, B: Allocator>(parts: &[Items<u8, B>], to: &mut Phrase<A>) {
+    let mut separator = " \"";
     for part in parts {
-        f.write_str(separator)?;
-        write_escaped(str::from_utf8(part.as_slice()).unwrap_or("\u{fffd}"), f)?;
+        to.add(separator);
+        to.add_escaped(str::from_utf8(part.as_slice()).unwrap_or("\u{fffd}"));
         separator = ";";
     }
-    f.write_str("\", not interpreted")
+    to.add("\", not interpreted");
 }

@@ -1,19 +1,16 @@
 //! From bytes to lines.
 
 use crate::item::Item;
+use crate::line::add_line;
 use crate::options::{Form, Options};
-use crate::page::{Color, Page};
+use crate::page::Page;
 use crate::resume::{held_back, resumed};
+use crate::stats::Stats;
 use crate::words::Words;
 use esc_segments::{Segment, SegmentKind, Segments};
 use escape_stream::Parser;
 use std::alloc::{AllocError, Allocator, Global};
 use std::mem;
-
-// The column at which words begin, and at which bytes before them are cut.
-const WORDS: usize = 34;
-
-const CUT: usize = 28;
 
 /// Makes lines of a stream, in whatever chunks it comes.
 #[derive(Drop)]
@@ -25,6 +22,7 @@ pub struct Dump<A: Allocator = Global> {
     item: Item<A>,
     begun: Vec<u8, A>,
     known: usize,
+    stats: Stats<A>,
     page: Page<A>,
 }
 
@@ -39,6 +37,7 @@ impl<A: Allocator + Copy> Dump<A> {
             item: Item::new(alloc),
             begun: Vec::new(alloc),
             known: 0,
+            stats: Stats::new(alloc),
             page: Page::new(alloc, options.is_colored),
         }
     }
@@ -81,15 +80,19 @@ impl<A: Allocator + Copy> Dump<A> {
         self.begun.extend_from_slice(held)
     }
 
-    /// Adds the line of what the stream leaves unfinished. The error is that memory was refused.
+    /// Adds the line of what the stream leaves unfinished, and those of what it holds, where they
+    /// are asked for. The error is that memory was refused.
     pub fn finish(&mut self) -> Result<(), AllocError> {
         let begun = mem::replace(&mut self.begun, Vec::new(self.alloc));
         let held = &begun[self.known.min(begun.len())..];
-        self.take_piece(self.item.kind, held, false)?;
-        if self.item.is_empty() {
-            return Ok(());
+        self.take_piece(self.item.segment, held, false)?;
+        if !self.item.is_empty() {
+            self.end_line(false)?;
         }
-        self.end_line(false)
+        match self.options.form {
+            Form::Stats => self.stats.add_lines(self.alloc, &mut self.page),
+            Form::Words | Form::Segments | Form::Bytes | Form::Json => Ok(()),
+        }
     }
 
     // Takes some bytes of a segment, its last ones where it is finished.
@@ -135,87 +138,27 @@ impl<A: Allocator + Copy> Dump<A> {
 
     // Adds the line of a run of text or a segment, after which nothing is unfinished.
     fn end_line(&mut self, is_finished: bool) -> Result<(), AllocError> {
-        self.add_place()?;
-        self.add_form(is_finished)?;
-        self.page.end_line()?;
+        self.words.end()?;
+        if self.options.has(self.item.kind()) {
+            self.add_selected(is_finished)?;
+        }
         self.item.end();
         self.words = Words::new(self.alloc, self.options.limit);
         Ok(())
     }
 
-    // The place.
-    fn add_place(&mut self) -> Result<(), AllocError> {
-        let place = self.item.place;
-        let place = format!(in self.alloc; "{place:>8}")?;
-        self.page
-            .push_colored(Color::Place, place.as_bytes(), usize::MAX, 10)
-    }
-
-    // What the form of the lines has after the place.
-    fn add_form(&mut self, is_finished: bool) -> Result<(), AllocError> {
+    // Adds the line of what is selected, or counts it.
+    fn add_selected(&mut self, is_finished: bool) -> Result<(), AllocError> {
         match self.options.form {
-            Form::Segments => self.add_segment(is_finished),
-            Form::Words => self.add_words(is_finished),
-            Form::Bytes => self.push_bytes(),
+            Form::Stats => self.stats.add(&self.item, &self.words),
+            form => add_line(
+                self.alloc,
+                form,
+                &self.item,
+                &self.words,
+                is_finished,
+                &mut self.page,
+            ),
         }
-    }
-
-    // The length of a segment, its kind, and its bytes.
-    fn add_segment(&mut self, is_finished: bool) -> Result<(), AllocError> {
-        self.push_facts(is_finished)?;
-        self.page.pad(10)?;
-        self.push_bytes()
-    }
-
-    // The length of a segment, and its kind.
-    fn push_facts(&mut self, is_finished: bool) -> Result<(), AllocError> {
-        let state = if is_finished {
-            "finished"
-        } else {
-            "unfinished"
-        };
-        let length = self.item.length;
-        let kind = self.item.kind_words();
-        let facts = format!(in self.alloc; "{length:>6} {kind:<27} {state:<10}")?;
-        self.page.push(facts.as_bytes(), usize::MAX)
-    }
-
-    // The bytes that are kept, and `..` where not all are.
-    fn push_bytes(&mut self) -> Result<(), AllocError> {
-        let rest: &[u8] = if self.item.is_cut() { b".." } else { b"" };
-        self.page.color(Color::Bytes)?;
-        self.page.push(self.item.bytes(), usize::MAX)?;
-        self.page.push(rest, usize::MAX)?;
-        self.page.color(Color::Plain)
-    }
-
-    // The first bytes, and the words.
-    fn add_words(&mut self, is_finished: bool) -> Result<(), AllocError> {
-        self.page
-            .push_colored(Color::Bytes, self.item.bytes(), CUT, WORDS)?;
-        self.push_words()?;
-        if self.item.is_cut() {
-            self.page.push(b", longer than the limit", usize::MAX)?;
-        }
-        if !is_finished {
-            return self.page.push(b", unfinished", usize::MAX);
-        }
-        Ok(())
-    }
-
-    // The words of a run of text, of actions, or of what gives none.
-    fn push_words(&mut self) -> Result<(), AllocError> {
-        if self.item.is_text() {
-            return self.page.push_quoted(b"text \"", self.item.bytes());
-        }
-        if self.words.text.is_empty() {
-            self.page
-                .push(self.item.kind_words().as_bytes(), usize::MAX)?;
-        }
-        self.page.push_words(self.words.text.as_str())?;
-        if self.words.data.is_empty() {
-            return Ok(());
-        }
-        self.page.push_quoted(b" \"", &self.words.data)
     }
 }

@@ -1,5 +1,6 @@
 //! A run of text, or a segment.
 
+use crate::kind::Kind;
 use esc_segments::SegmentKind;
 use std::alloc::{AllocError, Allocator, Global};
 
@@ -11,7 +12,7 @@ pub struct Item<A: Allocator = Global> {
     /// How many bytes of it came.
     pub length: u64,
     /// The kind of what came of it last.
-    pub kind: SegmentKind,
+    pub segment: SegmentKind,
     bytes: Vec<u8, A>,
 }
 
@@ -21,7 +22,7 @@ impl<A: Allocator> Item<A> {
         Item {
             place: 0,
             length: 0,
-            kind: SegmentKind::Control,
+            segment: SegmentKind::Control,
             bytes: Vec::new(alloc),
         }
     }
@@ -33,15 +34,25 @@ impl<A: Allocator> Item<A> {
 
     /// Whether it is a run of text.
     pub fn is_text(&self) -> bool {
-        self.length > 0 && self.kind == SegmentKind::Character
+        self.length > 0 && self.segment == SegmentKind::Character
+    }
+
+    /// Its kind.
+    pub fn kind(&self) -> Kind {
+        Kind::of(self.segment, &self.bytes)
     }
 
     /// Adds some bytes, of which as many are kept as the limit allows, and of a run of text all.
     /// The error is that memory was refused.
-    pub fn add(&mut self, kind: SegmentKind, bytes: &[u8], limit: usize) -> Result<(), AllocError> {
-        self.kind = kind;
+    pub fn add(
+        &mut self,
+        segment: SegmentKind,
+        bytes: &[u8],
+        limit: usize,
+    ) -> Result<(), AllocError> {
+        self.segment = segment;
         self.length = self.length.saturating_add(bytes.len() as u64);
-        let room = if kind == SegmentKind::Character {
+        let room = if segment == SegmentKind::Character {
             bytes.len()
         } else {
             limit.saturating_sub(self.bytes.len()).min(bytes.len())
@@ -54,6 +65,21 @@ impl<A: Allocator> Item<A> {
         &self.bytes
     }
 
+    /// Those that come after what opens a sequence or a string, without the BEL or the final byte
+    /// that ends one.
+    pub fn body(&self) -> &[u8] {
+        let body = match self.bytes.as_slice() {
+            [0x1b, _, rest @ ..] | [0xc2, 0x80..=0x9f, rest @ ..] => rest,
+            [0x80..=0x9f, rest @ ..] => rest,
+            _ => return &[],
+        };
+        match (self.segment, body) {
+            (SegmentKind::Osc, [rest @ .., 0x07]) => rest,
+            (SegmentKind::Csi, [rest @ .., 0x40..=0x7e]) => rest,
+            _ => body,
+        }
+    }
+
     /// Whether not all of its bytes are kept.
     pub fn is_cut(&self) -> bool {
         self.length > self.bytes.len() as u64
@@ -64,23 +90,5 @@ impl<A: Allocator> Item<A> {
         self.place = self.place.saturating_add(self.length);
         self.length = 0;
         self.bytes.clear();
-    }
-
-    /// Its kind in words.
-    pub fn kind_words(&self) -> &'static str {
-        match self.kind {
-            SegmentKind::Character => "text",
-            SegmentKind::Broken => "broken UTF-8",
-            SegmentKind::Stray => "stray byte",
-            SegmentKind::Control => "control",
-            SegmentKind::Terminator => "ST string terminator",
-            SegmentKind::Escape => "escape sequence",
-            SegmentKind::Csi => "control sequence",
-            SegmentKind::Dcs => "device control string",
-            SegmentKind::Osc => "operating system command",
-            SegmentKind::Apc => "application program command",
-            SegmentKind::Ignored => "start of string or privacy message",
-            SegmentKind::CutShort => "sequence cut short",
-        }
     }
 }

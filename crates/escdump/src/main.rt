@@ -2,7 +2,6 @@
 //! Prints streams of terminal escape sequences as one readable line a run of text or sequence.
 #![tactic(auto)]
 
-mod action_words;
 mod choices;
 mod color_words;
 mod command_words;
@@ -10,24 +9,32 @@ mod controls;
 mod csi_words;
 mod device_words;
 mod dump;
+mod entries;
 mod escapes;
-mod fault;
+mod hidden;
 mod item;
+mod json;
+mod key_words;
+mod kind;
+mod line;
+mod mode_words;
 mod named;
 mod options;
 mod page;
+mod phrase;
 mod renditions;
 mod resume;
 mod run;
+mod stats;
 mod words;
-mod writing;
 
 use command_line::{Ended, IS_OUTPUT, Wrong, is_output, status_after, tell};
-use options::{Kind, Options, Task};
+use options::{Kind, Options, Task, When};
 use run::{PROGRAM, dump_named, ended, say};
+use std::env::VarError;
 use std::fmt::Display;
 use std::fs::{File, metadata};
-use std::io::Read;
+use std::io::{IsTerminal, Read};
 use std::process::ExitCode;
 use std::{env, io};
 
@@ -38,17 +45,24 @@ const FAULT: u8 = 1;
 const USAGE_FAULT: u8 = 2;
 
 const USAGE: &str = "\
-usage: escdump [--segments] [--escape] [--limit size] [--color] [-h|--help] [-V|--version] \
-[--] [FILE..]";
+usage: escdump [--segments] [--escape] [--json] [--stats] [--only kind,..] [--skip kind,..] \
+[--limit size] [--color auto|always|never] [-h|--help] [-V|--version] [--] [FILE..]";
 
 const HELP: &str = "\n\
 Prints each FILE, or standard input, as a readable line for each sequence and run of text.
 
   --segments      a line has the place, the length, the kind and the bytes of a segment
   --escape        a line has the place and the bytes, in place of the words
+  --json          a line is an object of JSON
+  --stats         a line for each name that came: how often, with how many bytes, how many
+                  the longest has, and where the first is
+  --only kind,..  prints lines of these kinds alone: text control escape csi dcs osc apc sos
+                  pm st cut broken stray
+  --skip kind,..  prints no lines of these kinds
   --limit size    the most bytes of a sequence or string that are kept (1MiB): a number,
                   as 65536, or 64K, 1M or 1G, also as 64KiB, in powers of 1024
-  --color         prints the place and the bytes in colours; --colour is the same
+  --color time    prints the place and the bytes in colours: always, never, or auto, which
+                  is on a terminal where NO_COLOR is not set; --colour is the same
   -h, --help      prints this
   -V, --version   prints the version
   --              the words after it are files
@@ -64,7 +78,11 @@ fn main(rt: HostRuntime) -> ExitCode {
         return ExitCode::from(FAULT);
     };
     let status = match Task::of(rt.alloc(), &words) {
-        Ok(task) => done(&rt, task.kind, task.options, &task.files),
+        Ok(task) => {
+            let mut options = task.options;
+            options.is_colored = is_colored(&rt, task.colors);
+            done(&rt, task.kind, options, &task.files)
+        }
         Err(wrong) => refused(&rt, wrong),
     };
     ExitCode::from(status)
@@ -73,6 +91,24 @@ fn main(rt: HostRuntime) -> ExitCode {
 // The words after the program's name.
 fn arguments(rt: &HostRuntime) -> io::Result<Vec<String>> {
     Ok(env::args(rt)?.skip(1).collect(rt.alloc())?)
+}
+
+// Whether lines have colours.
+fn is_colored(rt: &HostRuntime, colors: When) -> bool {
+    match colors {
+        When::Always => true,
+        When::Never => false,
+        When::Auto => rt.stdout().is_terminal() && !has_no_color(rt),
+    }
+}
+
+// Whether the environment has a `NO_COLOR` that is not empty (<https://no-color.org/>).
+fn has_no_color(rt: &HostRuntime) -> bool {
+    match env::var(rt, "NO_COLOR") {
+        Ok(value) => !value.is_empty(),
+        Err(VarError::NotPresent) => false,
+        Err(_) => true,
+    }
 }
 
 // Does what the words ask for.

@@ -1,15 +1,22 @@
 //! Words for numbers.
 
-/// A number of a table, and its words.
-#[derive(Clone, Copy)]
-pub struct Named(pub i64, pub &'static str);
-
-/// The words of this number, where the table has it.
-pub fn words_of(table: &[Named], number: i64) -> Option<&'static str> {
-    for row in table {
-        if row.0 == number {
-            return Some(row.1);
+/// The words of this number in a table, where it has them. A table is a text with a line for each
+/// number: the number, a space and its words.
+pub fn words_of(table: &'static str, number: i64) -> Option<&'static str> {
+    for line in table.lines() {
+        if let Some((key, words)) = line.split_once(' ') {
+            if is_number(key, number) {
+                return Some(words);
+            }
         }
     }
     None
+}
+
+// Whether a text is this number in decimal.
+fn is_number(text: &str, number: i64) -> bool {
+    match text.parse::<i64>() {
+        Ok(found) => found == number,
+        Err(_) => false,
+    }
 }

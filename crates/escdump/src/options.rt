@@ -1,5 +1,6 @@
 //! What the program's words ask for.
 
+use crate::kind::{KINDS, Kind as LineKind};
 use command_line::{Found, Known, Takes, Wrong, read};
 use std::alloc::{Allocator, Global};
 
@@ -12,6 +13,21 @@ pub enum Form {
     Segments,
     /// A run of text, or a sequence with its bytes alone.
     Bytes,
+    /// A run of text, or a sequence as an object of JSON.
+    Json,
+    /// A name that came, with how often.
+    Stats,
+}
+
+/// When lines have colours.
+#[derive(Clone, Copy)]
+pub enum When {
+    /// On a terminal, unless the environment has a `NO_COLOR` that is not empty.
+    Auto,
+    /// Always.
+    Always,
+    /// Never.
+    Never,
 }
 
 /// How streams are printed.
@@ -23,6 +39,15 @@ pub struct Options {
     pub limit: usize,
     /// Whether the lines have colours.
     pub is_colored: bool,
+    /// The bits of the kinds of which lines are printed.
+    pub kinds: u64,
+}
+
+impl Options {
+    /// Whether lines of this kind are printed.
+    pub fn has(self, kind: LineKind) -> bool {
+        self.kinds & kind.bit() != 0
+    }
 }
 
 /// What the program does.
@@ -43,11 +68,17 @@ pub struct Task<'a, A: Allocator = Global> {
     pub kind: Kind,
     /// How streams are printed.
     pub options: Options,
+    /// When lines have colours.
+    pub colors: When,
     /// The files.
     pub files: Vec<&'a str, A>,
 }
 
 const DEFAULT_LIMIT: usize = 1_048_576;
+
+const WHEN: Takes = Takes::OneOf("time", &["auto", "always", "never"]);
+
+const SOME_KINDS: Takes = Takes::SomeOf("kind", KINDS);
 
 const KNOWN: &[Known] = &[
     Known {
@@ -61,6 +92,26 @@ const KNOWN: &[Known] = &[
         takes: Takes::Nothing,
     },
     Known {
+        name: "--json",
+        letter: "",
+        takes: Takes::Nothing,
+    },
+    Known {
+        name: "--stats",
+        letter: "",
+        takes: Takes::Nothing,
+    },
+    Known {
+        name: "--only",
+        letter: "",
+        takes: SOME_KINDS,
+    },
+    Known {
+        name: "--skip",
+        letter: "",
+        takes: SOME_KINDS,
+    },
+    Known {
         name: "--limit",
         letter: "",
         takes: Takes::Size,
@@ -68,12 +119,12 @@ const KNOWN: &[Known] = &[
     Known {
         name: "--color",
         letter: "",
-        takes: Takes::Nothing,
+        takes: WHEN,
     },
     Known {
         name: "--colour",
         letter: "",
-        takes: Takes::Nothing,
+        takes: WHEN,
     },
     Known {
         name: "--help",
@@ -89,7 +140,7 @@ const KNOWN: &[Known] = &[
 
 impl<'a, A: Allocator + Copy> Task<'a, A> {
     /// The task that these words, the program's arguments, name; of an option that is given twice,
-    /// and of `--segments` and `--escape`, the last counts.
+    /// and of the forms, the last counts.
     pub fn of(alloc: A, words: &'a [String]) -> Result<Task<'a, A>, Wrong<'a>> {
         match read(alloc, KNOWN, words) {
             Ok(found) => Ok(Task::from_found(found)),
@@ -100,26 +151,44 @@ impl<'a, A: Allocator + Copy> Task<'a, A> {
     // The task that these options and files name.
     fn from_found(found: Found<'a, A>) -> Task<'a, A> {
         let mut kind = Kind::Dump;
+        let mut colors = When::Auto;
         let mut options = Options {
             form: Form::Words,
             limit: DEFAULT_LIMIT,
             is_colored: false,
+            kinds: u64::MAX,
         };
+        let mut skipped = 0;
         for given in &found.options {
             match given.name {
                 "--segments" => options.form = Form::Segments,
                 "--escape" => options.form = Form::Bytes,
+                "--json" => options.form = Form::Json,
+                "--stats" => options.form = Form::Stats,
+                "--only" => options.kinds = given.some,
+                "--skip" => skipped = given.some,
                 "--limit" => options.limit = given.size,
-                "--color" | "--colour" => options.is_colored = true,
+                "--color" | "--colour" => colors = when_named(given.word),
                 "--help" => kind = Kind::Help,
                 "--version" => kind = Kind::Version,
                 _ => {}
             }
         }
+        options.kinds &= !skipped;
         Task {
             kind,
             options,
+            colors,
             files: found.files,
         }
+    }
+}
+
+// When lines have colours, by the word of the option.
+fn when_named(word: &str) -> When {
+    match word {
+        "always" => When::Always,
+        "never" => When::Never,
+        _ => When::Auto,
     }
 }

@@ -3,6 +3,8 @@ ghost use Rattle.std.specs.Prelude.{◌≡◌, ◌<◌, true};
 ghost use Rattle.command_line.specs.Characters.{is_shown};
 ghost use Rattle.escdump.specs.Pages.{IsPage};
 
+use crate::hidden::Hidden;
+use crate::phrase::Phrase;
 use command_line::is_shown;
 use esc_values::Text;
 use std::alloc::{AllocError, Allocator, Global};
@@ -15,6 +17,8 @@ pub struct Page<A: Allocator = Global> {
     text: Text<A>,
     columns: usize,
     is_colored: bool,
+    is_string: bool,
+    hidden: Hidden,
     alloc: A,
     ghost safe: { ∥ IsPage text ∥₁ },
 }
@@ -38,6 +42,8 @@ impl<A: Allocator + Copy> Page<A> {
             text: Text::new(alloc),
             columns: 0,
             is_colored,
+            is_string: false,
+            hidden: Hidden::new(),
             alloc,
         }
     }
@@ -133,6 +139,26 @@ impl<A: Allocator + Copy> Page<A> {
         Ok(())
     }
 
+    /// Begins or ends a string of JSON (RFC 8259, 7), in which what is appended is the string's
+    /// value.
+    pub fn quote(&mut self) -> Result<(), AllocError> {
+        self.is_string = !self.is_string;
+        self.push_plain('"')
+    }
+
+    /// Forgets which characters that deceive came.
+    pub fn forget_hidden(&mut self) {
+        self.hidden.clear();
+    }
+
+    /// Appends the names of characters that deceive which came since they were forgotten.
+    pub fn push_hidden(&mut self) -> Result<(), AllocError> {
+        let mut phrase = Phrase::new(self.alloc);
+        self.hidden.add_words(&mut phrase);
+        phrase.whole()?;
+        self.push_words(phrase.as_str())
+    }
+
     // Marks that bytes are left out.
     fn cut(&mut self) -> Result<(), AllocError> {
         self.push_shown('.')?;
@@ -144,6 +170,7 @@ impl<A: Allocator + Copy> Page<A> {
         if is_shown(c) {
             self.push_shown(c)
         } else {
+            self.hidden.note(c);
             let mut bytes = [0u8; 4];
             for byte in c.encode_utf8(&mut bytes).as_bytes() {
                 self.push_hex(*byte)?;
@@ -152,8 +179,19 @@ impl<A: Allocator + Copy> Page<A> {
         }
     }
 
-    // Appends a character that is shown as itself.
+    // Appends a character that is shown as itself, inside a string of JSON after a `\` where it
+    // would end the string or begin an escape.
     fn push_shown(&mut self, c: char) -> Result<(), AllocError>
+        requires { is_shown c ≡ true }
+    {
+        if self.is_string && (c == '"' || c == '\\') {
+            self.push_plain('\\')?;
+        }
+        self.push_plain(c)
+    }
+
+    // Appends a character that is shown as itself, in a string and elsewhere.
+    fn push_plain(&mut self, c: char) -> Result<(), AllocError>
         requires { is_shown c ≡ true }
     {
         self.columns = self.columns.saturating_add(1);

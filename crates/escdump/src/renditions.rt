@@ -1,11 +1,12 @@
 //! Renditions in words.
 
-use crate::color_words::{write_ansi, write_color};
-use crate::csi_words::write_csi_params;
+use crate::color_words::{add_color, ansi_words};
+use crate::csi_words::add_entries;
+use crate::phrase::Phrase;
 use esc_typed::{Blink, Font, Frame, Ideogram, Rendition, Renditions, VerticalAlign};
 use escape_stream::CsiParam;
 use escape_stream::csi::{Intensity, Sgr, Underline};
-use std::fmt;
+use std::alloc::Allocator;
 
 /// A rendition of the parser in words.
 pub fn rendition_words(sgr: Sgr) -> &'static str {
@@ -17,69 +18,54 @@ pub fn rendition_words(sgr: Sgr) -> &'static str {
     }
 }
 
-/// Writes the renditions of the parameters of a control sequence, in words. Where one is not known,
+/// Adds the renditions of the parameters of a control sequence, in words. Where one is not known,
 /// its parameters come after `not known`.
-pub fn write_renditions<W: fmt::Write>(
-    params: &[CsiParam],
-    f: &mut fmt::Formatter<W>,
-) -> fmt::Result {
+pub fn add_renditions<A: Allocator>(params: &[CsiParam], to: &mut Phrase<A>) {
     let mut is_first = true;
     for selection in Renditions::new(params) {
-        if !is_first {
-            f.write_str(", ")?;
-        }
-        write_selection(selection.rendition, selection.entries, f)?;
+        to.add(if is_first { " " } else { ", " });
         is_first = false;
-    }
-    Ok(())
-}
-
-// Writes a rendition, or the parameters of one that is not known.
-fn write_selection<W: fmt::Write>(
-    rendition: Option<Rendition>,
-    entries: &[CsiParam],
-    f: &mut fmt::Formatter<W>,
-) -> fmt::Result {
-    match rendition {
-        Some(rendition) => write_rendition(rendition, f),
-        None => {
-            f.write_str("not known")?;
-            write_csi_params(entries, f)
+        match selection.rendition {
+            Some(rendition) => add_rendition(rendition, to),
+            None => {
+                to.add("not known");
+                add_entries(selection.entries, to);
+            }
         }
     }
 }
 
 // Colours are more than one text.
-fn write_rendition<W: fmt::Write>(rendition: Rendition, f: &mut fmt::Formatter<W>) -> fmt::Result {
+fn add_rendition<A: Allocator>(rendition: Rendition, to: &mut Phrase<A>) {
     match rendition {
-        Rendition::AnsiForeground(color) => write_ansi("foreground ", color, f),
-        Rendition::AnsiBackground(color) => write_ansi("background ", color, f),
-        Rendition::Foreground(color) => write_color("foreground ", color, f),
-        Rendition::Background(color) => write_color("background ", color, f),
-        Rendition::UnderlineColor(color) => write_color("underline colour ", color, f),
-        Rendition::Reset => f.write_str("reset"),
-        Rendition::Intensity(intensity) => f.write_str(intensity_words(intensity)),
-        Rendition::Italic(is_on) => f.write_str(italic_words(is_on)),
-        Rendition::Underline(underline) => f.write_str(underline_words(underline)),
-        Rendition::Blink(blink) => f.write_str(blink_words(blink)),
-        Rendition::Inverse(is_on) => write_switch("reversed", is_on, f),
-        Rendition::Invisible(is_on) => write_switch("hidden", is_on, f),
-        Rendition::StrikeThrough(is_on) => write_switch("crossed out", is_on, f),
-        Rendition::Font(font) => f.write_str(font_words(font)),
-        Rendition::Proportional(is_on) => write_switch("proportionally spaced", is_on, f),
-        Rendition::Frame(frame) => f.write_str(frame_words(frame)),
-        Rendition::Overline(is_on) => write_switch("overlined", is_on, f),
-        Rendition::Ideogram(ideogram) => f.write_str(ideogram_words(ideogram)),
-        Rendition::VerticalAlign(align) => f.write_str(align_words(align)),
+        Rendition::AnsiForeground(color) => to.add_all(&["foreground ", ansi_words(color)]),
+        Rendition::AnsiBackground(color) => to.add_all(&["background ", ansi_words(color)]),
+        Rendition::Foreground(color) => add_color("foreground ", color, to),
+        Rendition::Background(color) => add_color("background ", color, to),
+        Rendition::UnderlineColor(color) => add_color("underline colour ", color, to),
+        Rendition::Reset => to.add("reset"),
+        Rendition::Intensity(intensity) => to.add(intensity_words(intensity)),
+        Rendition::Italic(is_on) => to.add(italic_words(is_on)),
+        Rendition::Underline(underline) => to.add(underline_words(underline)),
+        Rendition::Blink(blink) => to.add(blink_words(blink)),
+        Rendition::Inverse(is_on) => add_switch("reversed", is_on, to),
+        Rendition::Invisible(is_on) => add_switch("hidden", is_on, to),
+        Rendition::StrikeThrough(is_on) => add_switch("crossed out", is_on, to),
+        Rendition::Font(font) => to.add(font_words(font)),
+        Rendition::Proportional(is_on) => add_switch("proportionally spaced", is_on, to),
+        Rendition::Frame(frame) => to.add(frame_words(frame)),
+        Rendition::Overline(is_on) => add_switch("overlined", is_on, to),
+        Rendition::Ideogram(ideogram) => to.add(ideogram_words(ideogram)),
+        Rendition::VerticalAlign(align) => to.add(align_words(align)),
     }
 }
 
-// Writes what is on, or `not` and what is off.
-fn write_switch<W: fmt::Write>(words: &str, is_on: bool, f: &mut fmt::Formatter<W>) -> fmt::Result {
+// Adds what is on, or `not` and what is off.
+fn add_switch<A: Allocator>(words: &str, is_on: bool, to: &mut Phrase<A>) {
     if !is_on {
-        f.write_str("not ")?;
+        to.add("not ");
     }
-    f.write_str(words)
+    to.add(words);
 }
 
 fn intensity_words(intensity: Intensity) -> &'static str {

@@ -3,15 +3,25 @@ ghost use Rattle.std.specs.Prelude.{◌≡◌, ◌≤◌, IfOk, OnOk, length};
 ghost use Rattle.escdump.specs.Pages.{AppendsPage};
 
 use crate::dump::Dump;
-use crate::fault::Fault;
 use crate::options::Options;
 use crate::page::Page;
-use command_line::{Ended, tell};
+use command_line::{Ended, Reason, tell, unwritten};
 use std::alloc::{AllocError, Allocator};
 use std::io::{ErrorKind, Read, Write};
 
 /// The program's name.
 pub const PROGRAM: &str = "escdump";
+
+/// What hinders the program at a stream.
+#[derive(Clone, Copy)]
+pub enum Fault {
+    /// A read failed, for this reason.
+    Read(Reason),
+    /// A write or a flush failed, for this reason.
+    Write(Reason),
+    /// Memory was refused.
+    Memory,
+}
 
 // How much is read at a call.
 const CHUNK: usize = 4096;
@@ -73,13 +83,9 @@ pub fn ended<E: Write>(done: Result<(), Fault>, name: &str, faults: &mut E) -> E
 {
     match done {
         Ok(()) => Ended::Whole,
-        Err(Fault::Write(ErrorKind::BrokenPipe)) => Ended::Closed,
-        Err(Fault::Write(kind)) => {
-            tell(PROGRAM, "standard output", kind, faults);
-            Ended::Unwritten
-        }
-        Err(Fault::Read(kind)) => {
-            tell(PROGRAM, name, kind, faults);
+        Err(Fault::Write(reason)) => unwritten(PROGRAM, reason, faults),
+        Err(Fault::Read(reason)) => {
+            tell(PROGRAM, name, reason, faults);
             Ended::Unread
         }
         Err(Fault::Memory) => {
@@ -132,14 +138,13 @@ fn read_some<R: Read>(input: &mut R, chunk: &mut [u8]) -> Result<usize, Fault>
         match input.read(chunk) {
             Ok(count) => return Ok(count),
             Err(error) => {
-                let kind = error.kind();
-                if kind != ErrorKind::Interrupted {
-                    return Err(Fault::Read(kind));
+                if error.kind() != ErrorKind::Interrupted {
+                    return Err(Fault::Read(Reason::of(&error)));
                 }
             }
         }
     }
-    Err(Fault::Read(ErrorKind::TimedOut))
+    Err(Fault::Read(Reason::Kind(ErrorKind::TimedOut)))
 }
 
 // Prints the lines, flushes and drops them, also where memory was refused after them.
@@ -153,12 +158,12 @@ fn print<A: Allocator + Copy, W: Write>(
 {
     match output.write_all(page.as_bytes()) {
         Ok(()) => {}
-        Err(error) => return Err(Fault::Write(error.kind())),
+        Err(error) => return Err(Fault::Write(Reason::of(&error))),
     }
     page.clear();
     match output.flush() {
         Ok(()) => {}
-        Err(error) => return Err(Fault::Write(error.kind())),
+        Err(error) => return Err(Fault::Write(Reason::of(&error))),
     }
     match taken {
         Ok(()) => Ok(()),

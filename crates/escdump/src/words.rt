@@ -1,35 +1,29 @@
 //! The words of a segment.
 
-use crate::action_words::ActionWords;
+use crate::command_words::add_command;
+use crate::controls::{COUNT, add_c1, add_controls};
+use crate::csi_words::add_sequence;
+use crate::device_words::kitty::add_kitty;
+use crate::device_words::{add_enter, add_query, add_short, add_sixel};
+use crate::escapes::add_escape;
+use crate::phrase::{Name, Phrase};
 use crate::renditions::rendition_words;
-use crate::words::Last::{Nothing, Other, Rendition};
-use esc_values::Text;
 use escape_stream::csi::Sgr;
 use escape_stream::{Action, CSI, ControlCode, DeviceControlMode, Sink};
 use std::alloc::{AllocError, Allocator, Global};
 
-/// What the words so far end with.
-#[derive(Clone, Copy)]
-enum Last {
-    /// Nothing: there are none.
-    Nothing,
-    /// A rendition.
-    Rendition,
-    /// Another action.
-    Other,
-}
-
-/// The words of the actions of a segment, and the data of a mode. Both are kept as far as a limit
-/// allows.
+/// The words of the actions of a segment, and the data of a mode, of which as many bytes are kept
+/// as a limit allows.
 #[derive(Drop)]
 pub struct Words<A: Allocator = Global> {
-    /// The words. A text of the stream stands in quotes, and has a `\` before each `"` and `\`.
-    pub text: Text<A>,
+    /// The words.
+    pub phrase: Phrase<A>,
     /// The data of a mode.
     pub data: Vec<u8, A>,
     /// Whether a cancel comes now that is not the stream's, and has no words.
     pub is_ending: bool,
-    last: Last,
+    controls: [u64; COUNT],
+    has_controls: bool,
     limit: usize,
 }
 
@@ -37,60 +31,66 @@ impl<A: Allocator + Copy> Words<A> {
     /// None. Takes no memory.
     pub fn new(alloc: A, limit: usize) -> Words<A> {
         Words {
-            text: Text::new(alloc),
+            phrase: Phrase::new(alloc),
             data: Vec::new(alloc),
             is_ending: false,
-            last: Nothing,
+            controls: [0; COUNT],
+            has_controls: false,
             limit,
         }
     }
 }
 
 impl<A: Allocator> Words<A> {
-    // Appends the words of a rendition.
-    fn add_rendition(&mut self, sgr: Sgr) -> Result<(), AllocError> {
-        let before = match self.last {
-            Nothing => "CSI SGR ",
-            Rendition => ", ",
-            Other => "; CSI SGR ",
-        };
-        self.last = Rendition;
-        self.text.push_str(before)?;
-        self.text.push_str(rendition_words(sgr))
+    /// Adds the words of what was counted. The error is that memory was refused.
+    pub fn end(&mut self) -> Result<(), AllocError> {
+        self.add_counted();
+        self.phrase.whole()
     }
 
-    // Appends the words of another action.
-    fn add(&mut self, action: &Action<A>) -> Result<(), AllocError> {
-        let before = match self.last {
-            Nothing => "",
-            Rendition | Other => "; ",
-        };
-        self.last = Other;
-        self.text.push_str(before)?;
-        self.text.push_display(&ActionWords(action))
+    // Adds the words of the controls that were counted.
+    fn add_counted(&mut self) {
+        if self.has_controls {
+            add_controls(&self.controls, &mut self.phrase);
+            self.controls = [0; COUNT];
+            self.has_controls = false;
+        }
     }
 
-    // Appends what an action adds.
+    // Counts a control of C0, and adds the words of one of C1.
+    fn add_control(&mut self, code: u8) {
+        if (code as usize) < COUNT {
+            let count = self.controls[code as usize];
+            self.controls[code as usize] = count.saturating_add(1);
+            self.has_controls = true;
+        } else {
+            add_c1(code, &mut self.phrase);
+        }
+    }
+
+    // Adds what an action adds. The controls of a sequence come before what it does.
     fn note(&mut self, action: &Action<A>) -> Result<(), AllocError> {
         match action {
-            Action::Print(_) | Action::PrintString(_) => Ok(()),
-            Action::DeviceControl(DeviceControlMode::Data(byte)) => self.add_data(*byte),
-            Action::DeviceControl(DeviceControlMode::Exit) => Ok(()),
-            Action::Control(ControlCode::Cancel) if self.is_ending => Ok(()),
-            _ if self.text.len() > self.limit => Ok(()),
-            Action::CSI(CSI::Sgr(sgr)) => self.add_rendition(*sgr),
-            Action::CSI(CSI::Unspecified(_))
-            | Action::Control(_)
+            Action::Print(_) | Action::PrintString(_) => {}
+            Action::DeviceControl(DeviceControlMode::Data(byte)) => return self.add_data(*byte),
+            Action::DeviceControl(DeviceControlMode::Exit) => {}
+            Action::Control(ControlCode::Cancel) if self.is_ending => {}
+            Action::Control(code) => self.add_control(*code as u8),
+            Action::CSI(_)
             | Action::Esc(_)
             | Action::OperatingSystemCommand(_)
             | Action::KittyImage(_)
             | Action::Sixel(_)
             | Action::XtGetTcap(_)
-            | Action::DeviceControl(_) => self.add(action),
+            | Action::DeviceControl(_) => {
+                self.add_counted();
+                add_action(action, &mut self.phrase);
+            }
         }
+        self.phrase.whole()
     }
 
-    // Appends a byte of data.
+    // Keeps a byte of data.
     fn add_data(&mut self, byte: u8) -> Result<(), AllocError> {
         if self.data.len() < self.limit {
             self.data.push(byte)?;
@@ -99,7 +99,42 @@ impl<A: Allocator> Words<A> {
     }
 }
 
-/// What is past the limit is left out.
+// Adds an action in words. A character, a control, a byte of data and the end of a mode have none.
+fn add_action<A: Allocator, B: Allocator>(action: &Action<B>, to: &mut Phrase<A>) {
+    match action {
+        Action::Print(_) | Action::PrintString(_) | Action::Control(_) => {}
+        Action::Esc(esc) => add_escape(*esc, to),
+        Action::CSI(CSI::Sgr(sgr)) => add_rendition(*sgr, to),
+        Action::CSI(CSI::Unspecified(sequence)) => add_sequence(sequence.as_ref(), to),
+        Action::OperatingSystemCommand(command) => add_command(command.as_ref(), to),
+        Action::KittyImage(image) => add_kitty(image.as_ref(), to),
+        Action::Sixel(image) => add_sixel(image.as_ref(), to),
+        Action::XtGetTcap(names) => add_query(names.as_slice(), to),
+        Action::DeviceControl(mode) => add_mode(mode, to),
+    }
+}
+
+// Adds a rendition, the first of a sequence or a further one.
+fn add_rendition<A: Allocator>(sgr: Sgr, to: &mut Phrase<A>) {
+    if to.name() == Name("CSI", "SGR") {
+        to.add(", ");
+    } else {
+        to.begin("CSI", "SGR");
+        to.add(" ");
+    }
+    to.add(rendition_words(sgr));
+}
+
+// Adds a short device control, or a header.
+fn add_mode<A: Allocator, B: Allocator>(mode: &DeviceControlMode<B>, to: &mut Phrase<A>) {
+    match mode {
+        DeviceControlMode::Enter(enter) => add_enter(enter.as_ref(), to),
+        DeviceControlMode::ShortDeviceControl(short) => add_short(short.as_ref(), to),
+        DeviceControlMode::Data(_) | DeviceControlMode::Exit => {}
+    }
+}
+
+/// Data past the limit is left out.
 impl<A: Allocator> Sink<Action<A>> for Words<A> {
     ghost is_ready = { λ _. Unit {0} };
 

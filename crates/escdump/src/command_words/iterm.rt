@@ -1,132 +1,94 @@
 //! Commands of iTerm2 in words.
 
-use crate::writing::{write_between, write_text, write_words};
+use crate::phrase::Phrase;
 use escape_stream::Text;
 use escape_stream::osc::{ITermFileData, ITermProprietary as Command, ITermUnicodeVersionOp};
 use std::alloc::Allocator;
-use std::fmt;
-use std::fmt::Display;
 
-/// Writes a command of iTerm2 in words.
-pub fn write_iterm<A: Allocator, W: fmt::Write>(
-    command: &Command<A>,
-    f: &mut fmt::Formatter<W>,
-) -> fmt::Result {
-    f.write_str("OSC 1337 iTerm2 ")?;
+/// Adds a command of iTerm2 in words.
+pub fn add_iterm<A: Allocator, B: Allocator>(command: &Command<B>, to: &mut Phrase<A>) {
+    to.add(" iTerm2 ");
     match command {
-        Command::SetMark => f.write_str("set mark"),
-        Command::StealFocus => f.write_str("steal focus"),
-        Command::ClearScrollback => f.write_str("clear scrolled-off lines"),
-        Command::CurrentDir(text) => write_text("working directory", text.as_str(), f),
-        Command::SetProfile(text) => write_text("profile", text.as_str(), f),
-        Command::CopyToClipboard(text) => write_text(
-            "copy starts, to pasteboard",
-            text.as_str(),
-            f,
-        ),
-        Command::EndCopy => f.write_str("copy ends"),
-        Command::HighlightCursorLine(true) => f.write_str("cursor line highlighted"),
-        Command::HighlightCursorLine(false) => f.write_str("cursor line not highlighted"),
-        Command::RequestCellSize => f.write_str("ask for cell size"),
+        Command::SetMark => to.add("set mark"),
+        Command::StealFocus => to.add("steal focus"),
+        Command::ClearScrollback => to.add("clear scrolled-off lines"),
+        Command::CurrentDir(text) => to.add_quoted("working directory ", text.as_str()),
+        Command::SetProfile(text) => to.add_quoted("profile ", text.as_str()),
+        Command::CopyToClipboard(text) => {
+            to.add_quoted("copy starts, to pasteboard ", text.as_str())
+        }
+        Command::EndCopy => to.add("copy ends"),
+        Command::HighlightCursorLine(true) => to.add("cursor line highlighted"),
+        Command::HighlightCursorLine(false) => to.add("cursor line not highlighted"),
+        Command::RequestCellSize => to.add("ask for cell size"),
         Command::ReportCellSize {
             height_pixels,
             width_pixels,
             scale,
-        } => write_cell_size(*height_pixels, *width_pixels, *scale, f),
-        Command::Copy(text) => write_text("copy", text.as_str(), f),
-        Command::ReportVariable(text) => write_text("ask for variable", text.as_str(), f),
-        Command::SetUserVar { name, value } => write_variable(name.as_str(), value.as_str(), f),
-        Command::SetBadgeFormat(text) => write_text("badge", text.as_str(), f),
-        Command::File(file) => write_file(file.as_ref(), f),
-        Command::UnicodeVersion(version) => write_version(version, f),
+        } => add_cell_size(*height_pixels, *width_pixels, *scale, to),
+        Command::Copy(text) => to.add_quoted("copy ", text.as_str()),
+        Command::ReportVariable(text) => to.add_quoted("ask for variable ", text.as_str()),
+        Command::SetUserVar { name, value } => {
+            to.add_quoted("variable ", name.as_str());
+            to.add_quoted(" = ", value.as_str());
+        }
+        Command::SetBadgeFormat(text) => to.add_quoted("badge ", text.as_str()),
+        Command::File(file) => add_file(file.as_ref(), to),
+        Command::UnicodeVersion(version) => add_version(version, to),
     }
 }
 
 // The size of a cell.
-fn write_cell_size<W: fmt::Write>(
-    height: u32,
-    width: u32,
-    scale: Option<u32>,
-    f: &mut fmt::Formatter<W>,
-) -> fmt::Result {
-    write_tenths("report of cell size, height ", height, f)?;
-    write_tenths(", width ", width, f)?;
-    match scale {
-        Some(scale) => write_tenths(", scale ", scale, f),
-        None => Ok(()),
+fn add_cell_size<A: Allocator>(height: u32, width: u32, scale: Option<u32>, to: &mut Phrase<A>) {
+    add_tenths("report of cell size, height ", height, to);
+    add_tenths(", width ", width, to);
+    if let Some(scale) = scale {
+        add_tenths(", scale ", scale, to);
     }
 }
 
 // A number of tenths, after words.
-fn write_tenths<W: fmt::Write>(what: &str, tenths: u32, f: &mut fmt::Formatter<W>) -> fmt::Result {
-    write_between(what, &(tenths / 10), ".", f)?;
-    (tenths % 10).fmt(f)
-}
-
-// A variable and its value.
-fn write_variable<W: fmt::Write>(
-    name: &str,
-    value: &str,
-    f: &mut fmt::Formatter<W>,
-) -> fmt::Result {
-    write_text("variable", name, f)?;
-    write_text(" =", value, f)
+fn add_tenths<A: Allocator>(what: &str, tenths: u32, to: &mut Phrase<A>) {
+    to.add_value(what, &(tenths / 10));
+    to.add_value(".", &(tenths % 10));
 }
 
 // A file: its name, what is done with it, its size, and how it is shown.
-fn write_file<A: Allocator, W: fmt::Write>(
-    file: &ITermFileData<A>,
-    f: &mut fmt::Formatter<W>,
-) -> fmt::Result {
-    write_name("file", &file.name, f)?;
-    f.write_str(if file.inline { ", shown" } else { ", stored" })?;
+fn add_file<A: Allocator, B: Allocator>(file: &ITermFileData<B>, to: &mut Phrase<A>) {
+    add_name("file", &file.name, to);
+    to.add(if file.inline { ", shown" } else { ", stored" });
     if let Some(size) = file.size {
-        write_between(", size ", &size, "", f)?;
+        to.add_value(", size ", &size);
     }
-    write_shape(file, f)?;
-    write_between(", bytes sent ", &file.content.as_slice().len(), "", f)
+    add_shape(file, to);
+    to.add_value(", bytes sent ", &file.content.as_slice().len());
 }
 
 // How a file is shown.
-fn write_shape<A: Allocator, W: fmt::Write>(
-    file: &ITermFileData<A>,
-    f: &mut fmt::Formatter<W>,
-) -> fmt::Result {
-    write_between(", width ", &file.width, "", f)?;
-    write_between(", height ", &file.height, "", f)?;
-    let ratio = if file.preserve_aspect_ratio {
-        ""
-    } else {
-        ", ratio not kept"
-    };
-    let cursor = if file.do_not_move_cursor {
-        ", cursor not moved"
-    } else {
-        ""
-    };
-    write_words(&[ratio, cursor], f)
+fn add_shape<A: Allocator, B: Allocator>(file: &ITermFileData<B>, to: &mut Phrase<A>) {
+    to.add_value(", width ", &file.width);
+    to.add_value(", height ", &file.height);
+    if !file.preserve_aspect_ratio {
+        to.add(", ratio not kept");
+    }
+    if file.do_not_move_cursor {
+        to.add(", cursor not moved");
+    }
 }
 
 // What is done to the version of Unicode.
-fn write_version<A: Allocator, W: fmt::Write>(
-    version: &ITermUnicodeVersionOp<A>,
-    f: &mut fmt::Formatter<W>,
-) -> fmt::Result {
+fn add_version<A: Allocator, B: Allocator>(version: &ITermUnicodeVersionOp<B>, to: &mut Phrase<A>) {
     match version {
-        ITermUnicodeVersionOp::Set(number) => write_between("Unicode version ", number, "", f),
-        ITermUnicodeVersionOp::Push(label) => write_name("push Unicode version", label, f),
-        ITermUnicodeVersionOp::Pop(label) => write_name("pop Unicode version", label, f),
+        ITermUnicodeVersionOp::Set(number) => to.add_value("Unicode version ", number),
+        ITermUnicodeVersionOp::Push(label) => add_name("push Unicode version", label, to),
+        ITermUnicodeVersionOp::Pop(label) => add_name("pop Unicode version", label, to),
     }
 }
 
 // Words, and a name, where there is one.
-fn write_name<A: Allocator, W: fmt::Write>(
-    what: &str,
-    name: &Option<Text<A>>,
-    f: &mut fmt::Formatter<W>,
-) -> fmt::Result {
-    match name {
-        Some(name) => write_text(what, name.as_str(), f),
-        None => f.write_str(what),
+fn add_name<A: Allocator, B: Allocator>(what: &str, name: &Option<Text<B>>, to: &mut Phrase<A>) {
+    to.add(what);
+    if let Some(name) = name {
+        to.add_quoted(" ", name.as_str());
     }
 }

@@ -1,69 +1,66 @@
 //! Prompts of a shell in words.
 
-use crate::writing::{write_between, write_text, write_words};
+use crate::phrase::Phrase;
 use escape_stream::Text;
 use escape_stream::osc::{FinalTermClick, FinalTermPromptKind, FinalTermSemanticPrompt as Prompt};
 use std::alloc::Allocator;
-use std::fmt;
 
-/// Writes a mark of a shell in words.
-pub fn write_prompt<A: Allocator, W: fmt::Write>(
-    prompt: &Prompt<A>,
-    f: &mut fmt::Formatter<W>,
-) -> fmt::Result {
-    f.write_str("OSC 133 ")?;
+/// Adds a mark of a shell in words.
+pub fn add_prompt<A: Allocator, B: Allocator>(prompt: &Prompt<B>, to: &mut Phrase<A>) {
     match prompt {
-        Prompt::FreshLine => f.write_str("fresh line"),
+        Prompt::FreshLine => to.add(" fresh line"),
         Prompt::FreshLineAndStartPrompt { aid, cl } => {
-            write_start("prompt starts, on a fresh line", aid, *cl, f)
+            add_start(" prompt starts, on a fresh line", aid, *cl, to)
         }
         Prompt::MarkEndOfCommandWithFreshLine { aid, cl } => {
-            write_start("command ends, prompt starts, on a fresh line", aid, *cl, f)
+            add_start(
+                " command ends, prompt starts, on a fresh line",
+                aid,
+                *cl,
+                to,
+            )
         }
-        Prompt::StartPrompt(kind) => write_words(&["prompt starts, ", kind_words(*kind)], f),
-        Prompt::MarkEndOfPromptAndStartOfInputUntilNextMarker => f.write_str("command starts"),
+        Prompt::StartPrompt(kind) => to.add_all(&[" prompt starts, ", kind_words(*kind)]),
+        Prompt::MarkEndOfPromptAndStartOfInputUntilNextMarker => to.add(" command starts"),
         Prompt::MarkEndOfPromptAndStartOfInputUntilEndOfLine => {
-            f.write_str("command starts, up to the end of the line")
+            to.add(" command starts, up to the end of the line")
         }
-        Prompt::MarkEndOfInputAndStartOfOutput { aid } => write_id("output starts", aid, f),
-        Prompt::CommandStatus { status, aid } => write_status(*status, aid, f),
+        Prompt::MarkEndOfInputAndStartOfOutput { aid } => add_id(" output starts", aid, to),
+        Prompt::CommandStatus { status, aid } => {
+            to.add_value(" command ends, status ", status);
+            add_id("", aid, to);
+        }
     }
 }
 
 // The start of a prompt, its application, and what a click does.
-fn write_start<A: Allocator, W: fmt::Write>(
+fn add_start<A: Allocator, B: Allocator>(
     what: &str,
-    aid: &Option<Text<A>>,
+    aid: &Option<Text<B>>,
     click: Option<FinalTermClick>,
-    f: &mut fmt::Formatter<W>,
-) -> fmt::Result {
-    write_id(what, aid, f)?;
-    match click {
-        Some(click) => write_between(", cl ", &click, "", f),
-        None => Ok(()),
+    to: &mut Phrase<A>,
+) {
+    add_id(what, aid, to);
+    if let Some(click) = click {
+        to.add(click_words(click));
     }
 }
 
-// The end of a command with its status.
-fn write_status<A: Allocator, W: fmt::Write>(
-    status: i32,
-    aid: &Option<Text<A>>,
-    f: &mut fmt::Formatter<W>,
-) -> fmt::Result {
-    write_between("command ends, status ", &status, "", f)?;
-    write_id("", aid, f)
+// Words, and the name of an application, where it is given.
+fn add_id<A: Allocator, B: Allocator>(what: &str, aid: &Option<Text<B>>, to: &mut Phrase<A>) {
+    to.add(what);
+    if let Some(aid) = aid {
+        to.add_quoted(", application ", aid.as_str());
+    }
 }
 
-// Words, and the name of an application, where it is given.
-fn write_id<A: Allocator, W: fmt::Write>(
-    what: &str,
-    aid: &Option<Text<A>>,
-    f: &mut fmt::Formatter<W>,
-) -> fmt::Result {
-    f.write_str(what)?;
-    match aid {
-        Some(aid) => write_text(", aid", aid.as_str(), f),
-        None => Ok(()),
+// Where a click in what is typed moves the cursor.
+fn click_words(click: FinalTermClick) -> &'static str {
+    match click {
+        FinalTermClick::Line => ", a click moves within the line",
+        FinalTermClick::MultipleLine => ", a click moves to the left and to the right",
+        FinalTermClick::ConservativeVertical => ", a click moves also up and down",
+        FinalTermClick::SmartVertical => ", a click moves also up and down, to where a line ends",
     }
 }
 

@@ -1,59 +1,52 @@
 //! Commands of kitty's graphics protocol in words.
 
-use crate::writing::write_between;
+use crate::phrase::Phrase;
 use escape_stream::apc::{
     KittyFrameCompositionMode, KittyImage, KittyImageDelete as Delete, KittyImageFormat,
     KittyImageFrameCompose, KittyImageTransmit,
 };
 use std::alloc::Allocator;
-use std::fmt;
-use std::fmt::Display;
 
-/// Writes a command of kitty's graphics protocol in words.
-pub fn write_kitty<A: Allocator, W: fmt::Write>(
-    image: &KittyImage<A>,
-    f: &mut fmt::Formatter<W>,
-) -> fmt::Result {
-    f.write_str("APC kitty image ")?;
+/// Adds a command of kitty's graphics protocol in words.
+pub fn add_kitty<A: Allocator, B: Allocator>(image: &KittyImage<B>, to: &mut Phrase<A>) {
+    to.begin("APC", "kitty");
+    to.add(" image ");
     match image {
-        KittyImage::TransmitData { transmit, .. } => write_image("transmit", transmit, f),
-        KittyImage::TransmitDataAndDisplay { transmit, .. } => write_image(
-            "transmit and display",
-            transmit,
-            f,
-        ),
-        KittyImage::Query { transmit } => write_image("query", transmit, f),
-        KittyImage::TransmitFrame { transmit, .. } => write_image("frame", transmit, f),
+        KittyImage::TransmitData { transmit, .. } => add_image("transmit", transmit, to),
+        KittyImage::TransmitDataAndDisplay { transmit, .. } => {
+            add_image("transmit and display", transmit, to)
+        }
+        KittyImage::Query { transmit } => add_image("query", transmit, to),
+        KittyImage::TransmitFrame { transmit, .. } => add_image("frame", transmit, to),
         KittyImage::Display {
             image_id,
             image_number,
             ..
         } => {
-            f.write_str("display")?;
-            write_numbers(*image_id, *image_number, f)
+            to.add("display");
+            add_numbers(*image_id, *image_number, to);
         }
-        KittyImage::Delete { what, .. } => write_delete(*what, f),
-        KittyImage::ComposeFrame { frame, .. } => write_compose(frame, f),
+        KittyImage::Delete { what, .. } => add_delete(*what, to),
+        KittyImage::ComposeFrame { frame, .. } => add_compose(frame, to),
     }
 }
 
 // An image that is sent: what is done with it, its size, its format and its numbers.
-fn write_image<A: Allocator, W: fmt::Write>(
+fn add_image<A: Allocator, B: Allocator>(
     done: &str,
-    image: &KittyImageTransmit<A>,
-    f: &mut fmt::Formatter<W>,
-) -> fmt::Result {
-    f.write_str(done)?;
-    write_number(", width ", image.width, f)?;
-    write_number(", height ", image.height, f)?;
+    image: &KittyImageTransmit<B>,
+    to: &mut Phrase<A>,
+) {
+    to.add(done);
+    add_number(", width ", image.width, to);
+    add_number(", height ", image.height, to);
     if let Some(format) = image.format {
-        f.write_str(format_words(format))?;
+        to.add(format_words(format));
     }
-    write_numbers(image.image_id, image.image_number, f)?;
+    add_numbers(image.image_id, image.image_number, to);
     if image.more_data_follows {
-        return f.write_str(", more data follows");
+        to.add(", more data follows");
     }
-    Ok(())
 }
 
 // The format of an image.
@@ -66,40 +59,39 @@ fn format_words(format: KittyImageFormat) -> &'static str {
 }
 
 // What is deleted.
-fn write_delete<W: fmt::Write>(what: Delete, f: &mut fmt::Formatter<W>) -> fmt::Result {
-    f.write_str("delete ")?;
-    write_deleted(what, f)?;
+fn add_delete<A: Allocator>(what: Delete, to: &mut Phrase<A>) {
+    to.add("delete ");
+    add_deleted(what, to);
     if is_with_data(what) {
-        return f.write_str(", with data");
+        to.add(", with data");
     }
-    Ok(())
 }
 
 // Which placements are deleted.
-fn write_deleted<W: fmt::Write>(what: Delete, f: &mut fmt::Formatter<W>) -> fmt::Result {
+fn add_deleted<A: Allocator>(what: Delete, to: &mut Phrase<A>) {
     match what {
-        Delete::All { .. } => f.write_str("all that are visible"),
+        Delete::All { .. } => to.add("all that are visible"),
         Delete::ByImageId {
             image_id,
             placement_id,
             ..
-        } => write_placement("id ", image_id, placement_id, f),
+        } => add_placement("id ", image_id, placement_id, to),
         Delete::ByImageNumber {
             image_number,
             placement_id,
             ..
-        } => write_placement("number ", image_number, placement_id, f),
-        Delete::AtCursorPosition { .. } => f.write_str("at the cursor"),
-        Delete::AnimationFrames { .. } => f.write_str("frames of animations"),
-        Delete::DeleteAt { x, y, .. } => write_two("at column ", x, ", row ", y, f),
+        } => add_placement("number ", image_number, placement_id, to),
+        Delete::AtCursorPosition { .. } => to.add("at the cursor"),
+        Delete::AnimationFrames { .. } => to.add("frames of animations"),
+        Delete::DeleteAt { x, y, .. } => add_two("at column ", x, ", row ", y, to),
         Delete::DeleteAtZ { x, y, z, .. } => {
-            write_two("at column ", x, ", row ", y, f)?;
-            write_between(", z-index ", &z, "", f)
+            add_two("at column ", x, ", row ", y, to);
+            to.add_value(", z-index ", &z);
         }
-        Delete::DeleteColumn { x, .. } => write_between("in column ", &x, "", f),
-        Delete::DeleteRow { y, .. } => write_between("in row ", &y, "", f),
-        Delete::DeleteZ { z, .. } => write_between("of z-index ", &z, "", f),
-        Delete::ByImageIdRange { first, last, .. } => write_two("ids ", first, " to ", last, f),
+        Delete::DeleteColumn { x, .. } => to.add_value("in column ", &x),
+        Delete::DeleteRow { y, .. } => to.add_value("in row ", &y),
+        Delete::DeleteZ { z, .. } => to.add_value("of z-index ", &z),
+        Delete::ByImageIdRange { first, last, .. } => add_two("ids ", first, " to ", last, to),
     }
 }
 
@@ -121,87 +113,55 @@ fn is_with_data(what: Delete) -> bool {
 }
 
 // The placements of an image, or one of them.
-fn write_placement<W: fmt::Write>(
+fn add_placement<A: Allocator>(
     name: &str,
     number: u32,
     placement: Option<u32>,
-    f: &mut fmt::Formatter<W>,
-) -> fmt::Result {
-    write_between(name, &number, "", f)?;
-    write_number(", placement ", placement, f)
+    to: &mut Phrase<A>,
+) {
+    to.add_value(name, &number);
+    add_number(", placement ", placement, to);
 }
 
 // Two numbers, each after its name.
-fn write_two<W: fmt::Write>(
+fn add_two<A: Allocator>(
     name: &str,
     number: u32,
     other_name: &str,
     other: u32,
-    f: &mut fmt::Formatter<W>,
-) -> fmt::Result {
-    write_between(name, &number, other_name, f)?;
-    other.fmt(f)
+    to: &mut Phrase<A>,
+) {
+    to.add_value(name, &number);
+    to.add_value(other_name, &other);
 }
 
 // A part of a frame that is put over another.
-fn write_compose<W: fmt::Write>(
-    part: &KittyImageFrameCompose,
-    f: &mut fmt::Formatter<W>,
-) -> fmt::Result {
-    let numbers = [
-        Optional(", id ", part.image_id),
-        Optional(", number ", part.image_number),
-        Optional(", from frame ", part.source_frame),
-        Optional(", left ", part.src_x),
-        Optional(", top ", part.src_y),
-        Optional(", onto frame ", part.target_frame),
-        Optional(", left ", part.x),
-        Optional(", top ", part.y),
-        Optional(", width ", part.w),
-        Optional(", height ", part.h),
-    ];
-    write_optional("compose", &numbers, f)?;
+fn add_compose<A: Allocator>(part: &KittyImageFrameCompose, to: &mut Phrase<A>) {
+    to.add("compose");
+    add_numbers(part.image_id, part.image_number, to);
+    add_number(", from frame ", part.source_frame, to);
+    add_number(", left ", part.src_x, to);
+    add_number(", top ", part.src_y, to);
+    add_number(", onto frame ", part.target_frame, to);
+    add_number(", left ", part.x, to);
+    add_number(", top ", part.y, to);
+    add_number(", width ", part.w, to);
+    add_number(", height ", part.h, to);
     match part.composition_mode {
-        KittyFrameCompositionMode::AlphaBlending => Ok(()),
-        KittyFrameCompositionMode::Overwrite => f.write_str(", overwriting"),
+        KittyFrameCompositionMode::AlphaBlending => {}
+        KittyFrameCompositionMode::Overwrite => to.add(", overwriting"),
     }
-}
-
-// The name of a number, and the number, where there is one.
-#[derive(Clone, Copy)]
-struct Optional(&'static str, Option<u32>);
-
-// Words, and the numbers that there are, each after its name.
-fn write_optional<W: fmt::Write>(
-    what: &str,
-    numbers: &[Optional],
-    f: &mut fmt::Formatter<W>,
-) -> fmt::Result {
-    f.write_str(what)?;
-    for row in numbers {
-        write_number(row.0, row.1, f)?;
-    }
-    Ok(())
 }
 
 // The numbers of an image.
-fn write_numbers<W: fmt::Write>(
-    id: Option<u32>,
-    number: Option<u32>,
-    f: &mut fmt::Formatter<W>,
-) -> fmt::Result {
-    write_number(", id ", id, f)?;
-    write_number(", number ", number, f)
+fn add_numbers<A: Allocator>(id: Option<u32>, number: Option<u32>, to: &mut Phrase<A>) {
+    add_number(", id ", id, to);
+    add_number(", number ", number, to);
 }
 
 // A number after its name, where there is one.
-fn write_number<W: fmt::Write>(
-    name: &str,
-    number: Option<u32>,
-    f: &mut fmt::Formatter<W>,
-) -> fmt::Result {
-    match number {
-        Some(number) => write_between(name, &number, "", f),
-        None => Ok(()),
+fn add_number<A: Allocator>(name: &str, number: Option<u32>, to: &mut Phrase<A>) {
+    if let Some(number) = number {
+        to.add_value(name, &number);
     }
 }

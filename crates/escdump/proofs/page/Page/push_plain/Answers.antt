@@ -1,6 +1,6 @@
 use Rattle.escdump.specs.Pages.Piece.{Shown}
 use Rattle.escdump.proofs.PagesMore.{page_push}
-use Rattle.escdump.proofs.page.Page.push_shown.Goals as goal
+use Rattle.escdump.proofs.page.Page.push_plain.Goals as goal
 
 pub invariant_of-self : goal.invariant_of-self
 invariant_of-self g c = record {

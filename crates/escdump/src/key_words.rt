@@ -1,0 +1,310 @@
+//! Keys and the mouse in words.
+
+use crate::entries::{number_at, part_at};
+use crate::named::words_of;
+use crate::phrase::Phrase;
+use esc_functions::ControlFunction;
+use escape_stream::CsiParam;
+use std::alloc::Allocator;
+
+// Function keys (the VT510's manual, chapter 8; xterm's list, "PC-Style Function Keys"; rxvt for 7
+// and 8; kitty for 29).
+static FUNCTION_KEYS: &str = "\
+1 Home
+2 Insert
+3 Delete
+4 End
+5 Page Up
+6 Page Down
+7 Home
+8 End
+11 F1
+12 F2
+13 F3
+14 F4
+15 F5
+17 F6
+18 F7
+19 F8
+20 F9
+21 F10
+23 F11
+24 F12
+25 F13
+26 F14
+28 F15
+29 F16, or Menu
+31 F17
+32 F18
+33 F19
+34 F20
+200 paste begins
+201 paste ends";
+
+// Keys that kitty reports by a number that is no character of theirs
+// (<https://sw.kovidgoyal.net/kitty/keyboard-protocol/>, "Functional key definitions").
+static KITTY_KEYS: &str = "\
+9 Tab
+13 Enter
+27 Escape
+32 Space
+127 Backspace
+57358 Caps Lock
+57359 Scroll Lock
+57360 Num Lock
+57361 Print Screen
+57362 Pause
+57363 Menu
+57376 F13
+57377 F14
+57378 F15
+57379 F16
+57380 F17
+57381 F18
+57382 F19
+57383 F20
+57384 F21
+57385 F22
+57386 F23
+57387 F24
+57388 F25
+57389 F26
+57390 F27
+57391 F28
+57392 F29
+57393 F30
+57394 F31
+57395 F32
+57396 F33
+57397 F34
+57398 F35
+57399 keypad 0
+57400 keypad 1
+57401 keypad 2
+57402 keypad 3
+57403 keypad 4
+57404 keypad 5
+57405 keypad 6
+57406 keypad 7
+57407 keypad 8
+57408 keypad 9
+57409 keypad Decimal
+57410 keypad Divide
+57411 keypad Multiply
+57412 keypad Subtract
+57413 keypad Add
+57414 keypad Enter
+57415 keypad Equal
+57416 keypad Separator
+57417 keypad Left
+57418 keypad Right
+57419 keypad Up
+57420 keypad Down
+57421 keypad Page Up
+57422 keypad Page Down
+57423 keypad Home
+57424 keypad End
+57425 keypad Insert
+57426 keypad Delete
+57427 keypad Begin
+57428 media Play
+57429 media Pause
+57430 media Play or Pause
+57431 media Reverse
+57432 media Stop
+57433 media Fast Forward
+57434 media Rewind
+57435 media Next Track
+57436 media Previous Track
+57437 media Record
+57438 Lower Volume
+57439 Raise Volume
+57440 Mute Volume
+57441 left Shift
+57442 left Control
+57443 left Alt
+57444 left Super
+57445 left Hyper
+57446 left Meta
+57447 right Shift
+57448 right Control
+57449 right Alt
+57450 right Super
+57451 right Hyper
+57452 right Meta
+57453 ISO Level 3 Shift
+57454 ISO Level 5 Shift";
+
+// The bits of modifiers (kitty's keyboard protocol, "Modifiers"; xterm's 8 is Meta there).
+static MODIFIERS: &str = "\
+1 Shift
+2 Alt
+4 Control
+8 Super
+16 Hyper
+32 Meta
+64 Caps Lock
+128 Num Lock";
+
+// The bits of kitty's flags (its keyboard protocol, "Progressive enhancement").
+static FLAGS: &str = "\
+1 disambiguate escape codes
+2 report event types
+4 report alternate keys
+8 report all keys as escape codes
+16 report text";
+
+// What is done with flags (the same page).
+static CHANGES: &str = "\
+1 all others are reset
+2 the others stay
+3 these are reset";
+
+// Buttons of the mouse without the bits of modifiers and motion (xterm's list, "Mouse Tracking").
+static BUTTONS: &str = "\
+0 left button
+1 middle button
+2 right button
+3 no button
+64 wheel up
+65 wheel down
+66 wheel left
+67 wheel right
+128 button 8
+129 button 9
+130 button 10
+131 button 11";
+
+/// Adds a function key by its name, and the modifiers that are held with it.
+pub fn add_function_key<A: Allocator>(params: &[CsiParam], to: &mut Phrase<A>) {
+    let number = number_at(params, 0).unwrap_or(0);
+    if number == 27 {
+        let code = number_at(params, 2).unwrap_or(0);
+        to.add(" ");
+        return add_pressed(code, number_at(params, 1), to);
+    }
+    to.add_value(" ", &number);
+    if let Some(words) = words_of(FUNCTION_KEYS, number) {
+        to.add_all(&[" (", words, ")"]);
+    }
+    add_modifiers(number_at(params, 1), to);
+}
+
+/// Adds a key that kitty reports, the modifiers that are held with it, and what became of it.
+pub fn add_key<A: Allocator>(params: &[CsiParam], to: &mut Phrase<A>) {
+    to.add(" ");
+    add_pressed(number_at(params, 0).unwrap_or(1), number_at(params, 1), to);
+    match part_at(params, 1, 1) {
+        Some(2) => to.add(", repeated"),
+        Some(3) => to.add(", released"),
+        _ => to.add(", pressed"),
+    }
+    if let Some(text) = number_at(params, 2) {
+        to.add(", text ");
+        add_character(text, to);
+    }
+}
+
+// Adds a key by its code, and the modifiers that are held with it.
+fn add_pressed<A: Allocator>(code: i64, modifiers: Option<i64>, to: &mut Phrase<A>) {
+    match words_of(KITTY_KEYS, code) {
+        Some(words) => to.add(words),
+        None => add_character(code, to),
+    }
+    add_modifiers(modifiers, to);
+}
+
+// Adds the character of a code between quotes, or a code that has none.
+fn add_character<A: Allocator>(code: i64, to: &mut Phrase<A>) {
+    match char::from_u32(u32::try_from(code).unwrap_or(u32::MAX)) {
+        Some(c) => {
+            to.add("\"");
+            to.add_char(c);
+            to.add("\"");
+        }
+        None => to.add_value("key ", &code),
+    }
+}
+
+// Adds the modifiers of a number that is one more than their bits.
+fn add_modifiers<A: Allocator>(number: Option<i64>, to: &mut Phrase<A>) {
+    if let Some(number) = number {
+        let _ = add_bits(MODIFIERS, " with ", " and ", number.saturating_sub(1), to);
+    }
+}
+
+// Adds the words of the bits of a number, if it has any; returns whether it has.
+fn add_bits<A: Allocator>(
+    table: &'static str,
+    before: &'static str,
+    between: &'static str,
+    number: i64,
+    to: &mut Phrase<A>,
+) -> bool {
+    let mut has_any = false;
+    for line in table.lines() {
+        if let Some((key, words)) = line.split_once(' ') {
+            if has_bit(number, key) {
+                to.add(if has_any { between } else { before });
+                to.add(words);
+                has_any = true;
+            }
+        }
+    }
+    has_any
+}
+
+// Whether a number has the bit that a text is in decimal.
+fn has_bit(number: i64, text: &str) -> bool {
+    match text.parse::<i64>() {
+        Ok(bit) => number & bit != 0,
+        Err(_) => false,
+    }
+}
+
+/// Adds flags of kitty's keyboard, and what is done with them.
+pub fn add_flags<A: Allocator>(function: ControlFunction, params: &[CsiParam], to: &mut Phrase<A>) {
+    let Some(number) = number_at(params, 0).or(least_flags(function)) else {
+        return;
+    };
+    to.add_value(" ", &number);
+    if number == 0 {
+        to.add(" (none)");
+    }
+    if add_bits(FLAGS, " (", ", ", number, to) {
+        to.add(")");
+    }
+    if function == ControlFunction::KITTYSET {
+        let change = number_at(params, 1).unwrap_or(1);
+        to.add_all(&[", ", words_of(CHANGES, change).unwrap_or("not known")]);
+    }
+}
+
+// The flags where they are left out; none of a query, which asks for them.
+fn least_flags(function: ControlFunction) -> Option<i64> {
+    if function == ControlFunction::KITTYQUERY {
+        return None;
+    }
+    Some(0)
+}
+
+/// Adds a report of the mouse: the button and what became of it, the modifiers, and the place.
+pub fn add_mouse<A: Allocator>(function: ControlFunction, params: &[CsiParam], to: &mut Phrase<A>) {
+    let number = number_at(params, 0).unwrap_or(0);
+    if number & 32 != 0 {
+        to.add(" pointer moved,");
+    }
+    to.add_all(&[
+        " ",
+        words_of(BUTTONS, number & 0xc3).unwrap_or("a button that is not known"),
+    ]);
+    if function == ControlFunction::MOUSEUP {
+        to.add(" released");
+    } else if number & 0x60 == 0 {
+        to.add(" pressed");
+    }
+    // (Shift, Meta and Control are the bits 4, 8 and 16)
+    let _ = add_bits(MODIFIERS, " with ", " and ", (number >> 2) & 7, to);
+    to.add_value(", column ", &number_at(params, 1).unwrap_or(1));
+    to.add_value(", line ", &number_at(params, 2).unwrap_or(1));
+}
