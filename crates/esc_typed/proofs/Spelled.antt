@@ -47,7 +47,7 @@ use Rattle.esc_typed.specs.declared.cursor_style.CursorStyle.TheVariants as curs
 use Rattle.esc_typed.specs.Arguments.{AreArguments, IsOneBased, after_prefix, arguments, entries_of, in_range, is_intermediate, number_first}
 use Rattle.esc_typed.specs.Choices.{cursor_style_at, cursor_style_number, cursor_tabulation_control_at, cursor_tabulation_control_number, erase_in_display_at, erase_in_display_number, erase_in_line_at, erase_in_line_number, kitty_flags_change_at, kitty_flags_change_number, mode_state_at, mode_state_number, tabulation_clear_at, tabulation_clear_number}
 use Rattle.esc_typed.specs.Counts.{at_place, one_based, one_based_of}
-use Rattle.esc_typed.specs.Functions.{Value, cursor, device, edit, keyboard, mode_status, mouse, window, chosen, kind_of, made, made_of, of_kind, of_named, of_params, stated}
+use Rattle.esc_typed.specs.Functions.{Value, cursor, device, edit, keyboard, mode_status, mouse, window, chosen, kind_of, made, made_of, of_kind, of_named, of_params, several, stated}
 use Rattle.esc_typed.specs.Spellings.{between, cursor_spelling, device_spelling, edit_spelling, keyboard_spelling, mode_status_spelling, mouse_spelling, window_numbers, window_spelling, entries, plain, private, private_between}
 use Rattle.esc_typed.specs.Windows.{IsWindow}
 use Rattle.esc_typed.proofs.Keys as keys
@@ -276,6 +276,19 @@ private_between_back p f a m last v h i mark prefix found kind made =
     back_by f (private_between p a m last) v (ap function_of key ∙ found) kind
     (ap (arguments (kind_for a)) inner ∙ b.read) made
 
+-- one choice, where there may be several
+choice_back : (f : ControlFunction) (n last : ℕ) (v : Value) → n < 256
+    → function_of (key_with 1 (length (entries (plain (args.Selector n) last))) last) ≡ Some f
+    → kind_of f ≡ Some kind.Selectors → made f (args.Selector n) ≡ v
+    → of_params (entries (plain (args.Selector n) last)) last ≡ v
+choice_back f n last v h found kinds made =
+    let all = entries (plain (args.Selector n) last) in
+    let b = back (args.Selector n) [] h nothing_after in
+    let key : sequence_key all last ≡ key_with 1 (length all) last =
+    ap (λ ms. key_with (packed 1 ms) (length all) last) b.unmarked in
+    ap (λ o. of_named o all) (ap function_of key ∙ found) ∙ ap (λ k. of_kind k f all) kinds
+    ∙ ap (several f (after_prefix all)) (ap (arguments kind.Selector) b.kept ∙ b.read) ∙ made
+
 -- `T` with at most one parameter, and `s` with one or more
 down_by : (n : OneBased) (b : Bool) → (n.zero_based == 0) ≡ b
     → function_of (key_with 1 (length (entries (plain (args.Count n) 0x54))) 0x54)
@@ -400,11 +413,11 @@ cursor_back (cursors.ActivePositionReport a b) h =
     plain_back control.CPR (args.Place a b) 0x52
     (cursor (cursors.ActivePositionReport a b)) h keys.CPR refl refl
 cursor_back (cursors.TabulationClear c) h =
-    plain_back control.TBC (args.Selector (tabulation_clear_number c)) 0x67
+    choice_back control.TBC (tabulation_clear_number c) 0x67
     (cursor (cursors.TabulationClear c)) h keys.TBC refl (ap (chosen (λ c. cursor
     (cursors.TabulationClear c))) (tabulation_clear_back c))
 cursor_back (cursors.TabulationControl c) h =
-    plain_back control.CTC (args.Selector (cursor_tabulation_control_number c)) 0x57
+    choice_back control.CTC (cursor_tabulation_control_number c) 0x57
     (cursor (cursors.TabulationControl c)) h keys.CTC refl (ap (chosen (λ c. cursor
     (cursors.TabulationControl c))) (cursor_tabulation_control_back c))
 cursor_back (cursors.CursorStyle c) h =

@@ -160,6 +160,7 @@ arguments kind.Selector es = then_read (one es) selector
 arguments kind.Flags es = then_read (two es) (λ p. flags p.0 p.1)
 arguments kind.Report es = then_read (three es) (λ p. report p.0 p.1 p.2)
 arguments kind.Numbers es = then_read (three es) (λ p. more_words (first_word p.0) p.1 p.2)
+arguments kind.Selectors es = Err unfit.Untyped
 arguments kind.Renditions es = Err unfit.Untyped
 arguments kind.Modes es = Err unfit.Untyped
 

@@ -36,6 +36,8 @@ use Rattle.esc_typed.specs.declared.function.Function.{Function}
 use Rattle.esc_typed.specs.declared.function.Function.TheVariants as function
 use Rattle.esc_typed.specs.declared.one_based.OneBased.{OneBased}
 use Rattle.esc_typed.specs.declared.rendition.Rendition.{Rendition}
+use Rattle.esc_typed.specs.declared.tab_change.TabChange.{TabChange}
+use Rattle.esc_typed.specs.declared.tab_change.TabChange.TheVariants as tab
 use Rattle.esc_typed.specs.declared.unfit.Unfit.{Unfit}
 use Rattle.esc_typed.specs.declared.unfit.Unfit.TheVariants as unfit
 use Rattle.esc_typed.specs.Arguments.{after_prefix, arguments, in_range}
@@ -56,6 +58,7 @@ pub data Value : Type 0 where
   charset : Charset → Value
   escape : Escape → Value
   modes : ModeChange → List (Option ℕ × List CsiParam) → Value
+  tabs : TabChange → List (Option ℕ × List CsiParam) → Value
   renditions : List (Option Rendition × List CsiParam) → Value
   other : Unfit → Value
 
@@ -70,6 +73,7 @@ value_of (function.ModeStatus s) = mode_status s
 value_of (function.Charset c) = charset c
 value_of (function.Escape e) = escape e
 value_of (function.Mode c ms) = modes c (modes_left ms)
+value_of (function.Tabs c ns) = tabs c (modes_left ns)
 value_of (function.Sgr r) = renditions (left r)
 value_of (function.Other u) = other u
 
@@ -107,8 +111,8 @@ kind_of control.KITTYPOP = Some kind.Count
 kind_of control.CUP = Some kind.Place
 kind_of control.HVP = Some kind.Place
 kind_of control.CPR = Some kind.Place
-kind_of control.TBC = Some kind.Selector
-kind_of control.CTC = Some kind.Selector
+kind_of control.TBC = Some kind.Selectors
+kind_of control.CTC = Some kind.Selectors
 kind_of control.DECSCUSR = Some kind.Selector
 kind_of control.ED = Some kind.Selector
 kind_of control.EL = Some kind.Selector
@@ -281,10 +285,23 @@ abbrev pub made_of : ControlFunction → Result Arguments Unfit → Value
 made_of f (Ok a) = made f a
 made_of f (Err u) = other u
 
+-- what is done to tab stops
+abbrev pub tab_change_of : ControlFunction → TabChange
+tab_change_of control.CTC = tab.Control
+tab_change_of _ = tab.Clear
+
+-- one choice, or several
+abbrev pub several : ControlFunction → List CsiParam → Result Arguments Unfit → Value
+several f es (Ok a) = made f a
+several f es (Err unfit.TooMany) = tabs (tab_change_of f) (mode_numbers es)
+several f es (Err u) = other u
+
 abbrev pub of_kind : Option Kind → ControlFunction → List CsiParam → Value
 of_kind None f es = other unfit.Untyped
 of_kind (Some kind.Renditions) f es = renditions (selections es)
 of_kind (Some kind.Modes) f es = modes (change_of f) (mode_numbers (after_prefix es))
+of_kind (Some kind.Selectors) f es =
+    several f (after_prefix es) (arguments kind.Selector (after_prefix es))
 of_kind (Some k) f es = made_of f (arguments k (after_prefix es))
 
 abbrev pub of_named : Option ControlFunction → List CsiParam → Value

@@ -17,6 +17,8 @@ pub(crate) enum Kind {
     Margins,
     // a choice from a list
     Selector,
+    // one such choice, or several, which are read one by one
+    Selectors,
     // flags, and what is done with them
     Flags,
     // a button, a column and a line

@@ -11,7 +11,7 @@ use std::fmt;
 
 /// The set that an escape sequence designates, and as which of G0 to G3 (ECMA-35, 14.3.2; DEC's
 /// VT510, SCS; xterm's list).
-#[derive(Clone, Copy, Debug, PartialEq, Eq)]
+#[derive(Clone, Copy, Debug)]
 pub enum Charset {
     /// `ESC ( ..`, GZD4: as G0.
     G0(Charset94),

@@ -1,8 +1,9 @@
 //! Control sequences, escape sequences and C1 controls as typed values.
 ghost use Rattle.std.specs.Prelude.{◌≡◌, Some};
 ghost use Rattle.esc_sequences.specs.Csis.{csi_value};
+ghost use Rattle.esc_typed.specs.Arguments.{arguments};
 ghost use Rattle.esc_typed.specs.Escapes.{of_bytes, of_c1, of_escape};
-ghost use Rattle.esc_typed.specs.Functions.{known_entries, made, made_of, of_csi, of_kind, of_named, of_params, value_of};
+ghost use Rattle.esc_typed.specs.Functions.{known_entries, made, made_of, of_csi, of_kind, of_named, of_params, several, value_of};
 
 use crate::arguments::{Arguments, Kind};
 use crate::charset::Charset;
@@ -18,8 +19,10 @@ use crate::modes::Modes;
 use crate::mouse::Mouse;
 use crate::numbers::{after_prefix, arguments};
 use crate::renditions::Renditions;
+use crate::tab_change::TabChange;
 use crate::table::{
     bare, bounded, change_of, counted, flagged, kind_of, listed, placed, reported, selected,
+    tab_change_of,
 };
 use crate::unfit::Unfit;
 use crate::window::Window;
@@ -53,6 +56,8 @@ pub enum Function<'a> {
     Escape(Escape),
     /// Modes are set, reset, kept or restored.
     Mode(ModeChange, Modes<'a>),
+    /// Tab stops are set or cleared, by several choices. One choice is that of a `Cursor`.
+    Tabs(TabChange, Modes<'a>),
     /// How characters are shown from here on.
     Sgr(Renditions<'a>),
     /// It has no typed value, and stays the sequence that it is.
@@ -135,10 +140,22 @@ fn of_function(function: ControlFunction, params: &[CsiParam]) -> Function<'_>
         Some(Kind::Modes) => {
             Function::Mode(change_of(function), Modes::new(after_prefix(params)))
         }
+        Some(Kind::Selectors) => several(function, after_prefix(params)),
         Some(kind) => match arguments(kind, after_prefix(params)) {
             Ok(arguments) => made(function, arguments),
             Err(unfit) => Function::Other(unfit),
         },
+    }
+}
+
+// What one choice makes, or several.
+fn several(function: ControlFunction, params: &[CsiParam]) -> Function<'_>
+    ensures { value_of result ≡ several function params.now (arguments Kind.Selector params.now) }
+{
+    match arguments(Kind::Selector, params) {
+        Ok(arguments) => made(function, arguments),
+        Err(Unfit::TooMany) => Function::Tabs(tab_change_of(function), Modes::new(params)),
+        Err(unfit) => Function::Other(unfit),
     }
 }
 

@@ -7,8 +7,9 @@ use crate::renditions::{after, len_before};
 use esc_values::CsiParam;
 use std::iter::FusedIterator;
 
-/// The modes of the parameters of a control sequence, in order. It takes no memory. An item keeps
-/// its entries: those of all items, with `;` between them, are the parameters.
+/// The modes of the parameters of a control sequence, or its choices of tab stops, in order. It
+/// takes no memory. An item keeps its entries: those of all items, with `;` between them, are the
+/// parameters.
 #[derive(Clone, Copy, Debug)]
 pub struct Modes<'a> {
     rest: Option<&'a [CsiParam]>,

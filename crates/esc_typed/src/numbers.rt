@@ -50,7 +50,7 @@ pub(crate) fn arguments(kind: Kind, entries: &[CsiParam]) -> Result<Arguments, U
             Ok((first, second, third)) => more_words(first_word(first), second, third),
             Err(unfit) => Err(unfit),
         },
-        Kind::Renditions | Kind::Modes => Err(Unfit::Untyped),
+        Kind::Selectors | Kind::Renditions | Kind::Modes => Err(Unfit::Untyped),
     }
 }
 

@@ -1,6 +1,6 @@
 //! The tables of typed values: what a control function makes of its parameters.
 ghost use Rattle.std.specs.Prelude.{◌≡◌};
-ghost use Rattle.esc_typed.specs.Functions.{asked, bare, bounded, change_of, counted, flagged, kind_of, listed, placed, reported, selected, state_of, value_of};
+ghost use Rattle.esc_typed.specs.Functions.{asked, bare, bounded, change_of, counted, flagged, kind_of, listed, placed, reported, selected, state_of, tab_change_of, value_of};
 
 use crate::arguments::Kind;
 use crate::cursor::Cursor;
@@ -18,6 +18,7 @@ use crate::mode_state::ModeState;
 use crate::mode_status::ModeStatus;
 use crate::mouse::Mouse;
 use crate::one_based::OneBased;
+use crate::tab_change::TabChange;
 use crate::tabulation_clear::TabulationClear;
 use crate::unfit::Unfit;
 use crate::window_operations::operation;
@@ -58,9 +59,8 @@ pub(crate) fn kind_of(function: ControlFunction) -> Option<Kind>
         | ControlFunction::DECDC
         | ControlFunction::KITTYPOP => Some(Kind::Count),
         ControlFunction::CUP | ControlFunction::HVP | ControlFunction::CPR => Some(Kind::Place),
-        ControlFunction::TBC
-        | ControlFunction::CTC
-        | ControlFunction::DECSCUSR
+        ControlFunction::TBC | ControlFunction::CTC => Some(Kind::Selectors),
+        ControlFunction::DECSCUSR
         | ControlFunction::ED
         | ControlFunction::EL
         | ControlFunction::DECSED
@@ -321,6 +321,16 @@ fn status_asked<'a>(n: u8) -> Function<'a>
         5 => Function::Device(Device::StatusReport),
         6 => Function::Cursor(Cursor::RequestActivePositionReport),
         _ => Function::Other(Unfit::OutOfRange),
+    }
+}
+
+// What is done to tab stops.
+pub(crate) fn tab_change_of(function: ControlFunction) -> TabChange
+    ensures { result ≡ tab_change_of function }
+{
+    match function {
+        ControlFunction::CTC => TabChange::Control,
+        _ => TabChange::Clear,
     }
 }
 

@@ -1,6 +1,6 @@
 //! The rows of a table.
 use crate::sequence::Sequence;
-use esc_typed::{CsiParam, Function, ModeChange, Modes, Renditions, Unfit};
+use esc_typed::{CsiParam, Function, Modes, Renditions, Unfit};
 use std::alloc::{AllocError, Global};
 use std::fmt::{Debug, Display};
 
@@ -46,6 +46,7 @@ fn row_with(alloc: Global, text: &str, function: Function<'_>) -> Result<String,
         Function::Charset(charset) => typed(alloc, text, charset),
         Function::Escape(escape) => typed(alloc, text, escape),
         Function::Mode(change, modes) => changed(alloc, text, change, modes),
+        Function::Tabs(change, choices) => changed(alloc, text, change, choices),
         Function::Sgr(renditions) => listed(alloc, text, renditions),
         Function::Other(unfit) => format!(in alloc; "{text} | {unfit:?} | {text}"),
     }
@@ -94,11 +95,11 @@ fn listed(alloc: Global, text: &str, renditions: Renditions<'_>) -> Result<Strin
     format!(in alloc; "{text} | {values} | {spelling}m")
 }
 
-// The row of modes.
-fn changed(
+// The row of modes, or of several tab stops.
+fn changed<C: Debug + Drop>(
     alloc: Global,
     text: &str,
-    change: ModeChange,
+    change: C,
     modes: Modes<'_>,
 ) -> Result<String, AllocError> {
     let mut numbers = String::new(alloc);

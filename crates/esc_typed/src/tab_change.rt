@@ -1,0 +1,12 @@
+//! What is done to tab stops.
+
+/// What a control sequence with several choices does to tab stops.
+#[derive(Clone, Copy, Debug, PartialEq, Eq)]
+pub enum TabChange {
+    /// `CSI .. g`, TBC (ECMA-48, 8.3.154): they are cleared. A choice is that of
+    /// [`TabulationClear`](crate::TabulationClear).
+    Clear,
+    /// `CSI .. W`, CTC (ECMA-48, 8.3.17): they are set or cleared. A choice is that of
+    /// [`CursorTabulationControl`](crate::CursorTabulationControl).
+    Control,
+}
