@@ -27,11 +27,11 @@ options_next : (known : List Known) (os ns : List (List ℕ × List ℕ)) (w : L
     (ws rest : List (List ℕ)) → ends_options w ≡ false
     → (is_file w ≡ true → (rest ≡ ws) × (ns ≡ os))
     → (is_file w ≡ false → (rest ≡ drop (taken known w) ws)
-    × (ns ≡ os ++ given_of (option_named known (name_in w)) (value_of w ws)))
+    × (ns ≡ os ++ given_of (option_named known (name_in w)) (value_of known w ws)))
     → ns ++ options_of known false rest ≡ os ++ options_of known false (w ∷ ws)
 options_next known os ns w ws rest e f o = elim (cases_Bool (is_file w)) [
   | inl is ↦ rw e (rw is (rw (f is).0 (rw (f is).1 refl)))
-  | inr is ↦ let given = given_of (option_named known (name_in w)) (value_of w ws) in
+  | inr is ↦ let given = given_of (option_named known (name_in w)) (value_of known w ws) in
       rw e (rw is (rw (o is).0 (rw (o is).1
       (append_assoc os given (options_of known false (drop (taken known w) ws))
       ∙ ap (λ us. os ++ (given ++ us)) (sym (options_left known (takes_next known w) ws))))))
@@ -55,7 +55,7 @@ pub options_step : {S : Type 0} (text : S → List ℕ) (known : List Known)
     → w ≡ text x → all ≡ x ∷ after → ends_options w ≡ false
     → (is_file w ≡ true → (rest ≡ after) × (ns ≡ os))
     → (is_file w ≡ false → (rest ≡ drop (taken known w) after)
-    × (ns ≡ os ++ given_of (option_named known (name_in w)) (value_of w (map text after))))
+    × (ns ≡ os ++ given_of (option_named known (name_in w)) (value_of known w (map text after))))
     → ns ++ options_of known false (map text rest) ≡ os ++ options_of known false (map text all)
 options_step text known os ns w x all after rest t a e f o =
     options_next known os ns w (map text after) (map text rest) e

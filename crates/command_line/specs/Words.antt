@@ -29,6 +29,7 @@ takes_value takes.Nothing = false
 takes_value takes.Size = true
 takes_value (takes.OneOf c ws) = true
 takes_value (takes.SomeOf c ws) = true
+takes_value (takes.Maybe c ws) = false
 
 abbrev pub some_takes : Option Known → Bool
 some_takes None = false
@@ -49,9 +50,12 @@ abbrev pub first_of : List (List ℕ) → List ℕ
 first_of [] = []
 first_of (w ∷ ws) = w
 
--- the value of an option of this word, before these words: what follows `=`, or the next word
-abbrev pub value_of : List ℕ → List (List ℕ) → List ℕ
-value_of w ws = if has_value w then after_first (λ b. b == 0x3d) w else first_of ws
+-- the value of an option of this word, before these words: what follows `=`, or the next word where
+-- the option takes it
+abbrev pub value_of : List Known → List ℕ → List (List ℕ) → List ℕ
+value_of known w ws =
+    if has_value w then after_first (λ b. b == 0x3d) w
+    else if takes_next known w then first_of ws else []
 
 -- the word that is given, where one of several is taken; a size and a list that are given are not
 -- said
@@ -59,7 +63,8 @@ abbrev pub word_given : Takes → List ℕ → List ℕ
 word_given takes.Nothing v = []
 word_given takes.Size v = []
 word_given (takes.OneOf c ws) v = v
-word_given (takes.SomeOf c ws) v = []
+word_given (takes.SomeOf c ws) v = v
+word_given (takes.Maybe c ws) v = v
 
 -- an option's name and its word, with this value
 abbrev pub given_of : Option Known → List ℕ → List (List ℕ × List ℕ)
@@ -74,7 +79,7 @@ options_of known true (w ∷ ws) = options_of known false ws
 options_of known false (w ∷ ws) =
     if ends_options w then []
     else if is_file w then options_of known false ws
-    else given_of (option_named known (name_in w)) (value_of w ws)
+    else given_of (option_named known (name_in w)) (value_of known w ws)
     ++ options_of known (takes_next known w) ws
 
 -- the name and the word of an option that was read

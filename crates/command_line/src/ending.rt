@@ -35,15 +35,16 @@ pub fn status_after(ended: Ended, status: u8) -> Result<u8, u8> {
     }
 }
 
-/// How a stream ended of which nothing more can be written, since a write failed for this reason. A
-/// line on `faults` says so; but where nobody reads the output any more, none is written.
-pub fn unwritten<E: Write>(program: &str, reason: Reason, faults: &mut E) -> Ended
+/// How a stream ended of which nothing more can be written, since a write to the output of this
+/// name failed for this reason. A line on `faults` says so; but where nobody reads the output any
+/// more, none is written.
+pub fn unwritten<E: Write>(program: &str, output: &str, reason: Reason, faults: &mut E) -> Ended
     ensures { result ≡ Ended.Whole → ⊥ }
 {
     match reason {
         Reason::Kind(ErrorKind::BrokenPipe) => Ended::Closed,
         _ => {
-            tell(program, "standard output", reason, faults);
+            tell(program, output, reason, faults);
             Ended::Unwritten
         }
     }

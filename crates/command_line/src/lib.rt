@@ -2,6 +2,7 @@
 //! that they read ends and why, and whether it is their output.
 #![tactic(auto)]
 
+mod arguments;
 mod ending;
 mod nearness;
 mod output;
@@ -14,6 +15,7 @@ mod table;
 mod tests;
 mod wrong;
 
+pub use arguments::{NO_TEXT, is_text, program_words};
 pub use ending::{Ended, status_after, tell, unwritten};
 pub use output::{IS_OUTPUT, is_output};
 pub use reading::{Found, Given, read};

@@ -12,18 +12,19 @@ use std::alloc::{Allocator, Global};
 #[derive(Drop)]
 pub struct Found<'a, A: Allocator = Global> {
     /// The options.
-    pub options: Vec<Given, A>,
+    pub options: Vec<Given<'a>, A>,
     /// The files.
     pub files: Vec<&'a str, A>,
 }
 
 /// An option that was given.
 #[derive(Clone, Copy)]
-pub struct Given {
+pub struct Given<'a> {
     /// Its name in the table.
     pub name: &'static str,
-    /// The word that it takes, one of those in the table; empty where it takes none.
-    pub word: &'static str,
+    /// The word that it takes, one of those in the table where there are some, or a list of them;
+    /// empty where it takes none.
+    pub word: &'a str,
     /// The size that it takes; 0 where it takes none.
     pub size: usize,
     /// Which words it takes, where it takes some: a bit each, that of the first word 1, of the next
@@ -36,7 +37,7 @@ pub struct Given {
 ///
 /// A word that begins with `-` is an option, but for `-` itself, which is a file, and `--`, after
 /// which all words are files. What an option takes is the next word, whatever it is, or follows the
-/// name after `=`.
+/// name after `=`; what it may take follows `=`.
 pub fn read<'a, A: Allocator + Copy>(
     alloc: A,
     known: &[Known],
@@ -98,7 +99,7 @@ fn add_word<'a, A: Allocator + Copy>(
         × (found.new.files.items ≡ found.old.files.items)
         × (map said found.new.options.items ≡ map said found.old.options.items
         ++ given_of (option_named known.now (name_in word.now))
-        (value_of word.now (map string_bytes after.now)))) }
+        (value_of known.now word.now (map string_bytes after.now)))) }
 {
     if word == "-" || !word.starts_with('-') {
         return match found.files.push(word) {
@@ -136,13 +137,13 @@ fn option_of<'a>(
     known: &[Known],
     word: &'a str,
     after: &'a [String],
-) -> Result<(Given, &'a [String]), Wrong<'a>>
+) -> Result<(Given<'a>, &'a [String]), Wrong<'a>>
     ensures shorter { IfOk result (λ x. length x.1.now ≤ length after.now) }
     ensures rest { IfOk result (λ x.
         x.1.now ≡ drop (if takes_next known.now word.now then 1 else 0) after.now) }
     ensures given { IfOk result (λ x. said x.0 ∷ []
         ≡ given_of (option_named known.now (name_in word.now))
-        (value_of word.now (map string_bytes after.now))) }
+        (value_of known.now word.now (map string_bytes after.now))) }
 {
     let (name, joined) = match word.split_once('=') {
         Some((name, value)) => (name, Some(value)),
@@ -158,7 +159,7 @@ fn option_of<'a>(
 }
 
 // An option with a value after `=`.
-fn given_joined<'a>(option: Known, value: &'a str) -> Result<Given, Wrong<'a>>
+fn given_joined<'a>(option: Known, value: &'a str) -> Result<Given<'a>, Wrong<'a>>
     ensures { IfOk result (λ g. said g ≡ (option.name.now, word_given option.takes value.now)) }
 {
     match option.takes {
@@ -168,15 +169,21 @@ fn given_joined<'a>(option: Known, value: &'a str) -> Result<Given, Wrong<'a>>
 }
 
 // An option with what it takes of the words after it, and the words after these.
-fn given_before<'a>(option: Known, after: &'a [String]) -> Result<(Given, &'a [String]), Wrong<'a>>
+fn given_before<'a>(
+    option: Known,
+    after: &'a [String],
+) -> Result<(Given<'a>, &'a [String]), Wrong<'a>>
     ensures shorter { IfOk result (λ x. length x.1.now ≤ length after.now) }
     ensures rest { IfOk result (λ x.
         x.1.now ≡ drop (if takes_value option.takes then 1 else 0) after.now) }
-    ensures given { IfOk result (λ x. said x.0
-        ≡ (option.name.now, word_given option.takes (first_of (map string_bytes after.now)))) }
+    ensures given { IfOk result (λ x. said x.0 ≡ (
+      option.name.now,
+      word_given option.takes
+          (if takes_value option.takes then first_of (map string_bytes after.now) else []),
+    )) }
 {
     let called = match option.takes {
-        Takes::Nothing => return Ok((taken(option, "", 0), after)),
+        Takes::Nothing | Takes::Maybe(_, _) => return Ok((taken(option, "", 0), after)),
         Takes::Size => A_SIZE,
         Takes::OneOf(called, _) | Takes::SomeOf(called, _) => called,
     };
@@ -187,7 +194,7 @@ fn given_before<'a>(option: Known, after: &'a [String]) -> Result<(Given, &'a [S
 }
 
 // An option with this value.
-fn given_with<'a>(option: Known, value: &'a str) -> Result<Given, Wrong<'a>>
+fn given_with<'a>(option: Known, value: &'a str) -> Result<Given<'a>, Wrong<'a>>
     ensures { IfOk result (λ g. said g ≡ (option.name.now, word_given option.takes value.now)) }
 {
     match option.takes {
@@ -196,17 +203,17 @@ fn given_with<'a>(option: Known, value: &'a str) -> Result<Given, Wrong<'a>>
             Some(size) => Ok(taken(option, "", size)),
             None => Err(Wrong::Size(option.name, value)),
         },
-        Takes::OneOf(called, words) => match word_in(words, value) {
-            Some(word) => Ok(taken(option, word, 0)),
-            None => {
-                let near = nearest_word(words, value);
-                Err(Wrong::Value(option.name, called, value, near))
+        Takes::OneOf(called, words) | Takes::Maybe(called, words) => {
+            if is_one_of(words, value) {
+                return Ok(taken(option, value, 0));
             }
-        },
+            let near = nearest_word(words, value);
+            Err(Wrong::Value(option.name, called, value, near))
+        }
         Takes::SomeOf(called, words) => match bits_of(words, value) {
             Ok(some) => Ok(Given {
                 name: option.name,
-                word: "",
+                word: value,
                 size: 0,
                 some,
             }),
@@ -244,7 +251,7 @@ fn bit_of(words: &[&'static str], text: &str) -> Option<u64> {
 }
 
 // The option, with a word or a size.
-fn taken(option: Known, word: &'static str, size: usize) -> Given
+fn taken<'a>(option: Known, word: &'a str, size: usize) -> Given<'a>
     ensures { said result ≡ (option.name.now, word.now) }
 {
     Given {
@@ -255,14 +262,7 @@ fn taken(option: Known, word: &'static str, size: usize) -> Given
     }
 }
 
-// This word, where it is one of the list.
-fn word_in(words: &[&'static str], value: &str) -> Option<&'static str>
-    ensures { IfSome result (λ word. word.now ≡ value.now) }
-{
-    for word in words {
-        if *word == value {
-            return Some(*word);
-        }
-    }
-    None
+// Whether it is one of these words, or there are none.
+fn is_one_of(words: &[&'static str], value: &str) -> bool {
+    words.is_empty() || words.iter().any(|word| *word == value)
 }

@@ -20,10 +20,12 @@ pub enum Takes {
     Nothing,
     /// A size, in bytes.
     Size,
-    /// One of these words, and what they are called.
+    /// One of these words, or any where there are none; and what they are called.
     OneOf(&'static str, &'static [&'static str]),
     /// Some of these words, at most 64, with `,` between them, and what each is called.
     SomeOf(&'static str, &'static [&'static str]),
+    /// The same after `=`, or nothing.
+    Maybe(&'static str, &'static [&'static str]),
 }
 
 // The option of this name or letter.

@@ -18,6 +18,16 @@ const KNOWN: &[Known] = &[
     Known {
         name: "--report",
         letter: "",
+        takes: Takes::Maybe("form", &["text", "json"]),
+    },
+    Known {
+        name: "--output",
+        letter: "-o",
+        takes: Takes::OneOf("file", &[]),
+    },
+    Known {
+        name: "--lines",
+        letter: "",
         takes: Takes::Nothing,
     },
     Known {
@@ -34,7 +44,7 @@ const KNOWN: &[Known] = &[
 
 // Words with a space after each, and what is read of them: each option with its word and its size,
 // and each file in brackets; or what is wrong.
-const ROWS: [(&str, &str); 46] = [
+const ROWS: [(&str, &str); 55] = [
     ("", ""),
     ("a - b ", "[a][-][b]"),
     ("--report ", "--report  0;"),
@@ -113,7 +123,19 @@ const ROWS: [(&str, &str); 46] = [
     ("--vresoin ", "unknown option --vresoin"),
     ("-x ", "unknown option -x"),
     ("-v ", "unknown option -v"),
-    ("--report=all ", "--report takes no value"),
+    ("--lines=all ", "--lines takes no value"),
+    ("--report=json a ", "--report json 0;[a]"),
+    ("--report json ", "--report  0;[json]"),
+    (
+        "--report=jsn ",
+        "--report: unknown form \"jsn\" (did you mean \"json\"?)",
+    ),
+    ("--report= ", "--report: unknown form \"\""),
+    ("--output --x -o=y ", "--output --x 0;--output y 0;"),
+    ("-o a=b c ", "--output a=b 0;[c]"),
+    ("-o= ", "--output  0;"),
+    ("-o ", "--output wants a file"),
+    ("-ofile ", "unknown option -ofile"),
     ("a --b c ", "unknown option --b"),
     (
         "--\x1b[2J\u{9b}\u{202e}\\é ",

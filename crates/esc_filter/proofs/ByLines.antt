@@ -15,10 +15,6 @@ use Rattle.esc_filter.specs.Texts.{ends_in_string}
 use Rattle.esc_filter.proofs.Texts.{text_longer}
 use Rattle.esc_filter.specs.declared.line_filter.LineFilter.{LineFilter}
 
-pub on_ok_so : {X E P Q : Type 0} (r : Result X E) → (P → Q) → OnOk r P → OnOk r Q
-on_ok_so (Ok x) f h = f h
-on_ok_so (Err e) f h = h
-
 pub if_err_on : {X E R : Type 0} {Q : E → Type 0} (r : Result X E) → ((e : E) → Q e → R)
     → IfErr r Q → OnErr r R
 if_err_on (Ok x) f h = h

@@ -6,15 +6,6 @@ use Rattle.esc_filter.proofs.Texts.{ends_more, texts_more}
 use Rattle.esc_filter.specs.Encoding.{AddsTo}
 use Rattle.esc_filter.specs.Texts.{ends_in_string}
 
--- a value by itself has its whole text
-not_after : {A : Type 0} (b : Bool) (v : Value A)
-    → (if b && false then [] else whole_text v) ≡ whole_text v
-not_after true v = refl
-not_after false v = refl
-
-pub alone_text : {A : Type 0} (v : Value A) → list_text (v ∷ []) ≡ whole_text v
-alone_text v = append-nil (text_after false v) ∙ not_after (is_terminator v) v
-
 pub adds_one : {A : Type 0} (follows : Bool) (vs : List (Value A)) (v : Value A) (old new : List ℕ)
     → follows ≡ ends_in_string false vs
     → new ≡ old ++ text_after follows v → AddsTo vs v old new

@@ -4,7 +4,6 @@ pub mod Results
 pub mod Runs
 pub mod Sequences
 pub mod Sinks
-pub mod Steps
 pub mod Texts
 pub mod Writable
 pub mod Images

@@ -1,17 +1,15 @@
 -- Where a line feed comes first, and last.
 use Rattle.std.proofs.Common.{ℕ, zero, suc, ◌≡◌, ◌≤◌, ◌<◌, ◌+◌, ◌-◌, Bool, true, false, List, [], ◌∷◌, ◌++◌, length, take, get_or, refl, ap, ◌∙◌, arith}
+use Rattle.std.proofs.lemmas.Bool.{false_from_ne_true}
 use Rattle.std.proofs.lemmas.Bool.Decides.{nat_tests}
 use Rattle.esc_filter.specs.Lines.{is_line_feed, has_line_feed, IsLine, ends_line}
 
-bool_false : (t : Bool) → (t ≡ true → ⊥) → t ≡ false
-bool_false true h = absurd (h refl)
-bool_false false h = refl
-
-pub no_line : (x : List ℕ) → ((k : ℕ) → 0 ≤ k → k < length x → is_line_feed (get_or x k 0) ≡ true → ⊥)
+pub no_line : (x : List ℕ)
+    → ((k : ℕ) → 0 ≤ k → k < length x → is_line_feed (get_or x k 0) ≡ true → ⊥)
     → has_line_feed x ≡ false
 no_line [] h = refl
 no_line (b ∷ x) h =
-    rw (bool_false (is_line_feed b) (h 0 (omega arith) (omega arith)))
+    rw (false_from_ne_true (is_line_feed b) (h 0 (omega arith) (omega arith)))
     (no_line x (λ k l m. h (suc k) (omega arith) (omega (arith, m))))
 
 -- a first line feed after n bytes
@@ -24,7 +22,7 @@ line_at (b ∷ x) zero l h e = (refl, refl)
 line_at (b ∷ x) (suc n) l h e =
     let r = line_at x n (omega (arith, l)) (λ k i m. h (suc k) (omega arith) (omega (arith, m))) e
     in (
-      rw (bool_false (is_line_feed b) (h 0 (omega arith) (omega arith))) r.0,
+      rw (false_from_ne_true (is_line_feed b) (h 0 (omega arith) (omega arith))) r.0,
       ap (λ k. take k (b ∷ x)) (more n) ∙ ap (λ y. b ∷ y) r.1,
     )
   where

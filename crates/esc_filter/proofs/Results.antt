@@ -1,18 +1,20 @@
 -- Results, and bytes that were read and written.
-use Rattle.std.proofs.Common.{◌≡◌, ◌≤◌, ◌<◌, ◌+◌, ℕ, List, [], ◌∷◌, ◌++◌, Option, inl, inr, refl, sym, subst, ap, ◌∙◌, append-nil, append_assoc, arith, length, length-append, take, Ok, Err, IsErrOf, OnErr, Result}
+use Rattle.std.proofs.Common.{◌≡◌, ◌↔◌, Bool, true, false, IsTrue, ◌≤◌, ◌<◌, ◌+◌, ℕ, List, [], ◌∷◌, ◌++◌, Option, inl, inr, refl, sym, subst, ap, ◌∙◌, append-nil, append_assoc, arith, length, length-append, take, Ok, Err, IsErrOf, OnErr, Result}
 use Rattle.std.proofs.KnownBytes.{Appends-nil, Appends-trans, Consumes-trans}
 use Rattle.std.specs.Io.KnownBytes.{Appends, Consumes}
 use Rattle.esc_parse.specs.Given.{StopsAt}
 use Rattle.esc_normal.specs.Io.{AppendsPrefix}
 
-pub on_err_more : {T E : Type 0} (X Y : Type 0) (r : Result T E) → (X → Y) → OnErr r X → OnErr r Y
-on_err_more X Y (Ok t) f h = h
-on_err_more X Y (Err e) f h = f h
-
 -- the error of a result
 pub err_is : {T E : Type 0} (r : Result T E) (e x : E) → r ≡ Err e → IsErrOf r x → e ≡ x
 err_is (Ok t) e x is h = cc
 err_is (Err f) e x is h = cc
+
+-- what has not failed does not fail with an error that did not come
+pub not_failed : {T E : Type 0} (r : Result T E) (e : E) (failed : Bool) → (IsErrOf r e → ⊥)
+    → failed ≡ false → (IsErrOf r e ↔ IsTrue failed)
+not_failed r e true other h = absurd cc
+not_failed r e false other h = (λ k. absurd (other k), λ t. absurd cc)
 
 -- a prefix of a text is one of a text that begins with it
 pub prefix_after : (a b c : Option (List ℕ)) (before more whole : List ℕ) → Appends a b before

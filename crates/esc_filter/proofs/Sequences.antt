@@ -19,7 +19,8 @@ use Rattle.esc_normal.specs.declared.spell.Spell.{Spell}
 use Rattle.esc_osc.specs.Reading.{meaning as command_meant}
 use Rattle.esc_parse.proofs.Lists.{if_ok_more}
 use Rattle.esc_normal.proofs.Spelling.{IsCommand, IsSequence}
-use Rattle.esc_filter.proofs.Results.{on_err_more, stops_for}
+use Rattle.esc_filter.proofs.Results.{stops_for}
+use Rattle.std.proofs.lemmas.Result.{on_err_weaker}
 use Rattle.esc_filter.proofs.Runs.{TakesBy}
 use Rattle.esc_filter.specs.Rules.{admits, is_plain_param, is_rendition, is_screen_body, is_screen_sequence}
 use Rattle.esc_filter.specs.declared.policy.Policy.{Policy}
@@ -216,7 +217,7 @@ module _ {P A : Type 0} (allows : P → Value A → Bool) where
       → OnErr r (StopsAt ⊥ (By IsSequence Adds) (By IsSequence Denies) p.spell vs s)
       → OnErr r (StopsAt ⊥ (By IsSequence (TakesBy allows)) (By IsSequence Refuses) p vs
       (record p { spell = s }))
-  refused_taken r vs p s t = on_err_more _ _ r (one_refused vs p s) t
+  refused_taken r vs p s t = on_err_weaker r (one_refused vs p s) t
 
   -- the same of a command
   pub command_passes : {E : Type 0} (r : Result Bool E) (ps : List (List ℕ)) (p : Passing P A)
@@ -270,7 +271,7 @@ module _ {P A : Type 0} (allows : P → Value A → Bool) where
       → OnErr r (StopsAt ⊥ (By IsCommand (TakesBy allows)) (By IsCommand Refuses) p (ps ∷ [])
       (record p { spell = s }))
   command_refused r ps p s t =
-      on_err_more _ _ r
+      on_err_weaker r
       (λ e. inr
       (inl (
         action.OperatingSystemCommand (command_meant ps),

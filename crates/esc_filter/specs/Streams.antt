@@ -1,9 +1,12 @@
 -- What a filter did to a watched reader and a watched writer that it was lent.
-use Rattle.std.specs.Prelude.{ℕ, ◌≡◌, ◌≤◌, List, [], ◌++◌, length}
+use Rattle.std.specs.Prelude.{ℕ, ◌≡◌, ◌≤◌, List, [], ◌++◌, length, Result, IsErrOf, OnErr, OnOk}
 use Rattle.std.specs.declared.io.traits.Read.{Ghosts as Reader}
 use Rattle.std.specs.declared.io.traits.Write.{Ghosts as Writer}
-use Rattle.esc_normal.specs.Io.{Borrowed, Reads, Writes, WritesPrefix}
+use Rattle.esc_normal.specs.Io.{Borrowed, FailsWith, IsReadWhole, Reads, Writes, WritesPrefix}
 use Rattle.esc_filter.specs.declared.feeding.Feeding.{Ghosts as Feeder}
+use Rattle.esc_filter.specs.declared.filter_error.FilterError.{FilterError}
+use Rattle.esc_filter.specs.declared.filter_error.FilterError.TheVariants as fault
+use Rattle.esc_filter.specs.declared.filtering.TheConstants.{MOST_READS}
 use Rattle.memory.specs.declared.lists.TheConstants.{READ_BUFFER}
 
 -- how many bytes one read gives at most
@@ -29,42 +32,52 @@ HasFilteredAllBut R W n Is reader writer =
     (s : List ℕ) × (last : List ℕ) × (t : List ℕ) × (length last ≤ n) × Reads R (s ++ last) reader
     × Writes W t writer × Is s t
 
--- some bytes were read, and their text was written, where m is the text of a stream
-abbrev pub HasWritten : {R W : Type 0} → Reader R → Writer W → (List ℕ → List ℕ) → Borrowed R
-    → Borrowed W → Type 0
-HasWritten R W m reader writer = (s : List ℕ) × Reads R s reader × Writes W (m s) writer
-
--- the same of at least n bytes
-abbrev pub HasWrittenAtLeast : {R W : Type 0} → Reader R → Writer W → ℕ → (List ℕ → List ℕ)
-    → Borrowed R → Borrowed W → Type 0
-HasWrittenAtLeast R W n m reader writer =
-    (s : List ℕ) × (n ≤ length s) × Reads R s reader × Writes W (m s) writer
-
--- the same, but that of the last bytes, at most n, nothing was written
-abbrev pub HasWrittenAllBut : {R W : Type 0} → Reader R → Writer W → ℕ → (List ℕ → List ℕ)
-    → Borrowed R → Borrowed W → Type 0
-HasWrittenAllBut R W n m reader writer =
-    (s : List ℕ) × (last : List ℕ) × (length last ≤ n) × Reads R (s ++ last) reader
-    × Writes W (m s) writer
-
 -- some bytes were read, and a prefix of their text was written
 abbrev pub HasBegun : {R W : Type 0} → Reader R → Writer W → (List ℕ → List ℕ) → Borrowed R
     → Borrowed W → Type 0
 HasBegun R W m reader writer =
     (s : List ℕ) × Reads R s reader × WritesPrefix W (m s) writer
 
+-- t is the text that m gives for s
+abbrev pub IsText : (List ℕ → List ℕ) → List ℕ → List ℕ → Type 0
+IsText m s t = t ≡ m s
+
+-- What a filter did with a reader and a writer that it was lent, by this result, where m is the
+-- text of a stream, and Is says what holds of a stream and of its text:
+pub record Filters {R W X : Type 0} (Rd : Reader R) (Wr : Writer W) (m : List ℕ → List ℕ)
+    (Is : List ℕ → List ℕ → Type 0) (result : Result X FilterError) (reader : Borrowed R)
+    (writer : Borrowed W) : Type 0 where
+  -- on Ok all was read
+  pub read_all : OnOk result (IsReadWhole Rd reader)
+  -- and the text of it was written
+  pub written : OnOk result (HasFiltered Rd Wr Is reader writer)
+  -- after a fault of the reader, the text of all that was read was
+  pub decided : IsErrOf result fault.Read → HasFiltered Rd Wr Is reader writer
+  -- where the stream has no end, that of at least so many bytes was
+  pub endless : IsErrOf result fault.Endless
+      → HasFilteredAtLeast Rd Wr MOST_READS Is reader writer
+  -- where memory was refused, that of all but what the last read gave was
+  pub until_refused : IsErrOf result fault.Memory
+      → HasFilteredAllBut Rd Wr most_a_read Is reader writer
+  -- after any error, a prefix of the text of what was read was
+  pub beginning : OnErr result (HasBegun Rd Wr m reader writer)
+  -- of a reader that had not failed before, its fault comes exactly where it has failed
+  pub read_fault : FailsWith result fault.Read reader
+  -- and so does that of the writer
+  pub write_fault : FailsWith result fault.Write writer
+
 -- ---- a filter that is fed
 
 -- this holds of the texts that the filter gives, and of the stream that it was fed
-abbrev pub Given : {F : Type 0} → Feeder F → F → ((List ℕ → List ℕ) → List ℕ → Type 0) → Type 0
+abbrev pub Given : {F A : Type 0} → Feeder F A → F → ((List ℕ → List ℕ) → List ℕ → Type 0) → Type 0
 Given V f C = (m : List ℕ → List ℕ) (s : List ℕ) → V.gives f m s → C m s
 
 -- this holds of the texts that the filter gives, which was fed nothing; nothing has no text
-abbrev pub New : {F : Type 0} → Feeder F → F → ((List ℕ → List ℕ) → Type 0) → Type 0
+abbrev pub New : {F A : Type 0} → Feeder F A → F → ((List ℕ → List ℕ) → Type 0) → Type 0
 New V f C = (m : List ℕ → List ℕ) → V.gives f m [] → m [] ≡ [] → C m
 
 -- the filter, which was fed s, was fed b too, and the text that b adds was written
-abbrev pub PassesOn : {F W : Type 0} → Feeder F → Writer W → (List ℕ → List ℕ) → List ℕ → List ℕ
+abbrev pub PassesOn : {F A W : Type 0} → Feeder F A → Writer W → (List ℕ → List ℕ) → List ℕ → List ℕ
     → F → Borrowed W → Type 0
 PassesOn V W m s b filter writer =
     V.gives filter m (s ++ b)

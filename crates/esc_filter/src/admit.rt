@@ -92,9 +92,10 @@ pub trait Admit<A: Allocator> {
     fn closes_line(&self) {}
 }
 
-// Whether the action passes: it can be written by itself, and is admitted.
+/// Whether the action passes a filter of this policy, where a parser handed it out: it can be
+/// written by itself, and is admitted.
 #[inline]
-pub(crate) fn passes<A: Allocator, P: Admit<A>>(policy: &P, action: &Action<A>) -> bool
+pub fn passes<A: Allocator, P: Admit<A>>(policy: &P, action: &Action<A>) -> bool
     ensures { result ≡ passes (P.admits policy.now) (value_of action.now) }
 {
     is_whole(action) && policy.admits(action)

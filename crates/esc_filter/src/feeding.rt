@@ -12,15 +12,12 @@ use esc_frame::ParseError;
 use std::alloc::Allocator;
 
 /// Takes a stream in whatever pieces it comes, and has for each the text that it adds.
-pub(crate) trait Feeding {
+pub(crate) trait Feeding<A: Allocator> {
     // it gives these texts for streams, and was fed this stream
     ghost gives: { Self → (List ℕ → List ℕ) → List ℕ → Type 0 };
 
     // what the bytes fed last added
     ghost added: { Self → List ℕ };
-
-    // a request for memory was refused
-    ghost refusal: { Type 0 };
 
     /// Takes bytes more.
     fn feed_piece(&mut self, bytes: &[u8]) -> Result<(), ParseError>
@@ -30,20 +27,18 @@ pub(crate) trait Feeding {
         ensures longer { (m : List ℕ → List ℕ) (s : List ℕ) → gives self.old m s
             → (t : List ℕ) × (m (s ++ bytes.now) ≡ m s ++ t) }
         ensures refused { (m : List ℕ → List ℕ) (s : List ℕ) → gives self.old m s
-            → OnErr result refusal };
+            → OnErr result (Refused A) };
 
     /// The text that they added.
     fn added_text(&self) -> &str
         ensures { result.now ≡ added self.now };
 }
 
-impl<P: Admit<A>, A: Allocator + Copy> Feeding for Filter<P, A> {
+impl<P: Admit<A>, A: Allocator + Copy> Feeding<A> for Filter<P, A> {
     ghost gives = { λ f m s. (limit : ℕ) × WasFed limit (P.admits (policy_of f)) s f
         × (m ≡ passed_text {A = A} (Some limit) (P.admits (policy_of f))) };
 
     ghost added = { λ f. added_by f };
-
-    ghost refusal = { Refused A };
 
     fn feed_piece(&mut self, bytes: &[u8]) -> Result<(), ParseError> {
         self.feed(bytes)
@@ -54,13 +49,11 @@ impl<P: Admit<A>, A: Allocator + Copy> Feeding for Filter<P, A> {
     }
 }
 
-impl<P: Admit<A>, A: Allocator + Copy> Feeding for LineFilter<P, A> {
+impl<P: Admit<A>, A: Allocator + Copy> Feeding<A> for LineFilter<P, A> {
     ghost gives = { λ f m s. (limit : ℕ) × WasFedLines limit (P.admits (policy_of_lines f)) s f
         × (m ≡ text_by_lines {A = A} limit (P.admits (policy_of_lines f))) };
 
     ghost added = { λ f. added_by_lines f };
-
-    ghost refusal = { Refused A };
 
     fn feed_piece(&mut self, bytes: &[u8]) -> Result<(), ParseError> {
         self.feed(bytes)

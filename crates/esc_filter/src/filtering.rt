@@ -1,7 +1,7 @@
 //! From a stream to the text of what passes of it.
 ghost use Rattle.std.specs.Prelude.{◌≡◌, ◌<◌, length, IfErr, IsErrOf, OnErr, OnOk, Some};
 ghost use Rattle.esc_normal.specs.Io.{FailsWith, IsReadWhole, Writes, WritesPrefix};
-ghost use Rattle.esc_filter.specs.Streams.{Given, HasBegun, HasFiltered, HasFilteredAllBut, HasFilteredAtLeast, HasWritten, HasWrittenAllBut, HasWrittenAtLeast, New, PassesOn, PassesPrefixOn, most_a_read};
+ghost use Rattle.esc_filter.specs.Streams.{Filters, Given, HasBegun, HasFiltered, HasFilteredAllBut, HasFilteredAtLeast, IsText, New, PassesOn, PassesPrefixOn};
 ghost use Rattle.esc_filter.specs.Lines.{IsFilteredByLines, text_by_lines};
 ghost use Rattle.esc_filter.specs.Passing.{IsFiltered, passed_text};
 ghost use Rattle.memory.specs.Refusals.{Refused};
@@ -35,33 +35,18 @@ pub fn filter_stream<R: Read, W: Write, P: Admit<A> + Drop, A: Allocator + Copy>
     limit: usize,
     policy: P,
 ) -> Result<(), FilterError>
-    ensures read_all { OnOk result (IsReadWhole R.Read reader) }
-    ensures written { OnOk result (HasFiltered R.Read W.Write
-        (IsFiltered {A = A} (Some limit) (P.admits policy)) reader writer) }
-    ensures decided { IsErrOf result FilterError.Read → HasFiltered R.Read W.Write
-        (IsFiltered {A = A} (Some limit) (P.admits policy)) reader writer }
-    ensures endless { IsErrOf result FilterError.Endless
-        → HasFilteredAtLeast R.Read W.Write MOST_READS
-        (IsFiltered {A = A} (Some limit) (P.admits policy)) reader writer }
-    ensures until_refused { IsErrOf result FilterError.Memory
-        → HasFilteredAllBut R.Read W.Write most_a_read
-        (IsFiltered {A = A} (Some limit) (P.admits policy)) reader writer }
-    ensures beginning { OnErr result (HasBegun R.Read W.Write
-        (passed_text {A = A} (Some limit) (P.admits policy)) reader writer) }
-    ensures read_fault { FailsWith result FilterError.Read reader }
-    ensures write_fault { FailsWith result FilterError.Write writer }
+    ensures holds { Filters R.Read W.Write (passed_text {A = A} (Some limit) (P.admits policy))
+        (IsFiltered {A = A} (Some limit) (P.admits policy)) result reader writer }
     ensures refused { IsErrOf result FilterError.Memory → Refused A }
 {
     laws::passed_reads_back::<A>();
-    let Ok(mut chunk) = memory::read_buffer(alloc) else {
-        return Err(FilterError::Memory);
-    };
     let mut filter = Filter::new(alloc, limit, policy);
-    filter_all(&mut filter, reader, writer, chunk.as_mut_slice())
+    filter_from(alloc, &mut filter, reader, writer)
 }
 
 /// The same, to which each line is a stream of its own, as it is to a
-/// [`LineFilter`](crate::LineFilter): a string that nobody ends hides nothing of the lines after it.
+/// [`LineFilter`](crate::LineFilter): a string that nobody ends hides nothing of the lines after
+/// it.
 pub fn filter_lines<R: Read, W: Write, P: Admit<A> + Drop, A: Allocator + Copy>(
     alloc: A,
     reader: &mut Watched<R>,
@@ -69,34 +54,36 @@ pub fn filter_lines<R: Read, W: Write, P: Admit<A> + Drop, A: Allocator + Copy>(
     limit: usize,
     policy: P,
 ) -> Result<(), FilterError>
-    ensures read_all { OnOk result (IsReadWhole R.Read reader) }
-    ensures written { OnOk result (HasFiltered R.Read W.Write
-        (IsFilteredByLines {A = A} limit (P.admits policy)) reader writer) }
-    ensures decided { IsErrOf result FilterError.Read → HasFiltered R.Read W.Write
-        (IsFilteredByLines {A = A} limit (P.admits policy)) reader writer }
-    ensures endless { IsErrOf result FilterError.Endless
-        → HasFilteredAtLeast R.Read W.Write MOST_READS
-        (IsFilteredByLines {A = A} limit (P.admits policy)) reader writer }
-    ensures until_refused { IsErrOf result FilterError.Memory
-        → HasFilteredAllBut R.Read W.Write most_a_read
-        (IsFilteredByLines {A = A} limit (P.admits policy)) reader writer }
-    ensures beginning { OnErr result (HasBegun R.Read W.Write
-        (text_by_lines {A = A} limit (P.admits policy)) reader writer) }
-    ensures read_fault { FailsWith result FilterError.Read reader }
-    ensures write_fault { FailsWith result FilterError.Write writer }
+    ensures holds { Filters R.Read W.Write (text_by_lines {A = A} limit (P.admits policy))
+        (IsFilteredByLines {A = A} limit (P.admits policy)) result reader writer }
     ensures refused { IsErrOf result FilterError.Memory → Refused A }
 {
     laws::lines_read_back::<A>();
+    let mut filter = LineFilter::new(alloc, limit, policy);
+    filter_from(alloc, &mut filter, reader, writer)
+}
+
+// Reads to the end, and writes what the filter, which gives these texts and was fed nothing, has of
+// each read.
+fn filter_from<R: Read, W: Write, F: Feeding<A>, A: Allocator + Copy>(
+    alloc: A,
+    filter: &mut F,
+    reader: &mut Watched<R>,
+    writer: &mut Watched<W>,
+) -> Result<(), FilterError>
+    ensures holds { New F.Feeding filter.old (λ m.
+        Filters R.Read W.Write m (IsText m) result reader writer) }
+    ensures refused { New F.Feeding filter.old (λ m.
+        IsErrOf result FilterError.Memory → Refused A) }
+{
     let Ok(mut chunk) = memory::read_buffer(alloc) else {
         return Err(FilterError::Memory);
     };
-    let mut filter = LineFilter::new(alloc, limit, policy);
-    filter_all(&mut filter, reader, writer, chunk.as_mut_slice())
+    filter_all(filter, reader, writer, chunk.as_mut_slice())
 }
 
-// Reads to the end by way of the chunk, and writes what the filter, which gives these texts and was
-// fed nothing, has of each read.
-fn filter_all<R: Read, W: Write, F: Feeding>(
+// The same by way of this chunk, part by part of what `Filters` says.
+fn filter_all<R: Read, W: Write, F: Feeding<A>, A: Allocator + Copy>(
     filter: &mut F,
     reader: &mut Watched<R>,
     writer: &mut Watched<W>,
@@ -105,19 +92,19 @@ fn filter_all<R: Read, W: Write, F: Feeding>(
     requires { 0 < length chunk.old }
     ensures read_all { OnOk result (IsReadWhole R.Read reader) }
     ensures written { New F.Feeding filter.old (λ m.
-        OnOk result (HasWritten R.Read W.Write m reader writer)) }
+        OnOk result (HasFiltered R.Read W.Write (IsText m) reader writer)) }
     ensures decided { New F.Feeding filter.old (λ m.
-        IsErrOf result FilterError.Read → HasWritten R.Read W.Write m reader writer) }
+        IsErrOf result FilterError.Read → HasFiltered R.Read W.Write (IsText m) reader writer) }
     ensures endless { New F.Feeding filter.old (λ m. IsErrOf result FilterError.Endless
-        → HasWrittenAtLeast R.Read W.Write MOST_READS m reader writer) }
+        → HasFilteredAtLeast R.Read W.Write MOST_READS (IsText m) reader writer) }
     ensures until_refused { New F.Feeding filter.old (λ m. IsErrOf result FilterError.Memory
-        → HasWrittenAllBut R.Read W.Write (length chunk.old) m reader writer) }
+        → HasFilteredAllBut R.Read W.Write (length chunk.old) (IsText m) reader writer) }
     ensures beginning { New F.Feeding filter.old (λ m.
         OnErr result (HasBegun R.Read W.Write m reader writer)) }
     ensures read_fault { FailsWith result FilterError.Read reader }
     ensures write_fault { FailsWith result FilterError.Write writer }
     ensures refused { New F.Feeding filter.old (λ m.
-        IsErrOf result FilterError.Memory → F.refusal) }
+        IsErrOf result FilterError.Memory → Refused A) }
 {
     for _ in 0..MOST_READS {
         match reader.read(chunk) {
@@ -130,7 +117,7 @@ fn filter_all<R: Read, W: Write, F: Feeding>(
 }
 
 // Feeds the filter these bytes, writes the text that they add, and flushes the writer.
-fn pass_on<W: Write, F: Feeding>(
+fn pass_on<W: Write, F: Feeding<A>, A: Allocator + Copy>(
     filter: &mut F,
     bytes: &[u8],
     writer: &mut Watched<W>,
@@ -144,7 +131,7 @@ fn pass_on<W: Write, F: Feeding>(
     ensures unwritten { IsErrOf result FilterError.Memory → writer.new ≡ writer.old }
     ensures write_fault { FailsWith result FilterError.Write writer }
     ensures refused { Given F.Feeding filter.old (λ m s.
-        IsErrOf result FilterError.Memory → F.refusal) }
+        IsErrOf result FilterError.Memory → Refused A) }
 {
     match filter.feed_piece(bytes) {
         Ok(()) => write_out(writer, filter.added_text()),

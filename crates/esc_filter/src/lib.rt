@@ -26,7 +26,7 @@ mod policy;
 mod screen;
 mod text;
 
-pub use admit::Admit;
+pub use admit::{Admit, passes};
 pub use encoder::Encoder;
 pub use filter::Filter;
 pub use filter_error::FilterError;

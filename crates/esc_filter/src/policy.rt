@@ -27,9 +27,9 @@ pub enum Policy {
     /// inserting, deleting, copying, filling, scrolling, margins and tab stops; modes of what is
     /// shown, character sets, the cursor's shape, and colours of the palette. Which control and
     /// escape sequences do so is stated by the tables of `esc_functions`. It is a list of what is
-    /// known to be so: nothing that a terminal answers, nothing that changes what keys, mouse or terminal send,
-    /// no title, clipboard, notification, file, directory, print, device control string or
-    /// application program command is on it, and nothing unknown.
+    /// known to be so: nothing that a terminal answers, nothing that changes what keys, mouse or
+    /// terminal send, no title, clipboard, notification, file, directory, print, device control
+    /// string or application program command is on it, and nothing unknown.
     Screen,
     /// All that can be written by itself, C1 controls, images and queries too. It keeps broken
     /// input from becoming a sequence, and does not protect from sequences that are there.

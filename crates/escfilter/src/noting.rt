@@ -29,6 +29,12 @@ impl<T> Noting<T> {
     pub fn reason(&self) -> Option<Reason> {
         self.reason
     }
+
+    /// The inner reader or writer.
+    pub fn into_inner(self) -> T {
+        let Noting { inner, reason: _ } = self;
+        inner
+    }
 }
 
 impl<R: Read> Read for Noting<R> {

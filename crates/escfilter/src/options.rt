@@ -11,10 +11,21 @@ pub struct Options {
     pub policy: Policy,
     /// How many bytes are kept of an unfinished segment.
     pub limit: usize,
-    /// Whether it is reported what was left out.
-    pub reports: bool,
     /// Whether each line is a stream of its own.
     pub by_lines: bool,
+    /// In which form it is reported what was left out.
+    pub report: Option<Form>,
+    /// Whether it is a failure that something was left out.
+    pub fails: bool,
+}
+
+/// The form of a report.
+#[derive(Clone, Copy)]
+pub enum Form {
+    /// Lines of text.
+    Text,
+    /// An object of JSON.
+    Json,
 }
 
 /// What the program does.
@@ -28,11 +39,25 @@ pub enum Kind {
     Version,
 }
 
+/// Where the output goes.
+#[derive(Clone, Copy)]
+pub enum Target<'a> {
+    /// To standard output.
+    Output,
+    /// To the file of this name.
+    File(&'a str),
+    /// To each file that is read; the one that was there is kept under its name with this suffix,
+    /// where there is one.
+    InPlace(&'a str),
+}
+
 /// What the program's words ask for.
 #[derive(Drop)]
 pub struct Task<'a, A: Allocator = Global> {
     /// What the program does.
     pub kind: Kind,
+    /// Where the output goes.
+    pub target: Target<'a>,
     /// How streams are filtered.
     pub options: Options,
     /// The files.
@@ -65,7 +90,22 @@ const KNOWN: &[Known] = &[
     Known {
         name: "--report",
         letter: "",
+        takes: Takes::Maybe("form", &["text", "json"]),
+    },
+    Known {
+        name: "--fail",
+        letter: "",
         takes: Takes::Nothing,
+    },
+    Known {
+        name: "--output",
+        letter: "-o",
+        takes: Takes::OneOf("file", &[]),
+    },
+    Known {
+        name: "--in-place",
+        letter: "-i",
+        takes: Takes::Maybe("suffix", &[]),
     },
     Known {
         name: "--help",
@@ -92,11 +132,13 @@ impl<'a, A: Allocator + Copy> Task<'a, A> {
     // The task that these options and files name.
     fn from_found(found: Found<'a, A>) -> Task<'a, A> {
         let mut kind = Kind::Filter;
+        let mut target = Target::Output;
         let mut options = Options {
             policy: Policy::Color,
             limit: DEFAULT_LIMIT,
-            reports: false,
             by_lines: false,
+            report: None,
+            fails: false,
         };
         let mut by_lines = None;
         for given in &found.options {
@@ -105,7 +147,10 @@ impl<'a, A: Allocator + Copy> Task<'a, A> {
                 "--limit" => options.limit = given.size,
                 "--lines" => by_lines = Some(true),
                 "--whole" => by_lines = Some(false),
-                "--report" => options.reports = true,
+                "--report" => options.report = Some(form_of(given.word)),
+                "--fail" => options.fails = true,
+                "--output" => target = Target::File(given.word),
+                "--in-place" => target = Target::InPlace(given.word),
                 "--help" => kind = Kind::Help,
                 "--version" => kind = Kind::Version,
                 _ => {}
@@ -114,6 +159,7 @@ impl<'a, A: Allocator + Copy> Task<'a, A> {
         options.by_lines = by_lines.unwrap_or(is_by_lines(options.policy));
         Task {
             kind,
+            target,
             options,
             files: found.files,
         }
@@ -136,5 +182,13 @@ fn policy_of(name: &str) -> Policy {
         "screen" => Policy::Screen,
         "all" => Policy::All,
         _ => Policy::Color,
+    }
+}
+
+// The form of this name, which is one of those in the table; of text where none is named.
+fn form_of(name: &str) -> Form {
+    match name {
+        "json" => Form::Json,
+        _ => Form::Text,
     }
 }

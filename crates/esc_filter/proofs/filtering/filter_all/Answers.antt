@@ -1,4 +1,4 @@
-use Rattle.std.proofs.Common.{rules, Err, ◌≡◌, ◌≤◌, ◌<◌, ◌++◌, [], length, take, subst, sym, ap, ◌∙◌, arith}
+use Rattle.std.proofs.Common.{rules, Err, ◌≡◌, ◌≤◌, ◌<◌, ◌++◌, [], length, take, subst, sym, ap, ◌∙◌, arith, refl}
 use Rattle.std.proofs.lemmas.Grind.{common_steps}
 use Rattle.std.proofs.KnownBytes.{Appends-nil, Consumes-kept, Consumes-nil, Consumes-trans}
 use Rattle.std.specs.Io.KnownBytes.{Appends}
@@ -24,13 +24,18 @@ loop-init g c = record {
 pub returns-in-Ok-eq0-clause-written : goal.returns-in-Ok-eq0-clause-written
 returns-in-Ok-eq0-clause-written g c = λ m fresh none.
     let r = c.loop.invariant.read m fresh none in
-    let zero : c.in-Ok-eq0.field-0 ≡ 0 = search rules in
-    (r.0, read_none _ _ _ r.0 _ c.read.new.buf zero r.1 c.in-Ok-eq0.ensures.bytes.0, r.3)
+    let zero : c.in-Ok-eq0.field-0 ≡ 0 = search rules in (
+      r.0,
+      m r.0,
+      read_none _ _ _ r.0 _ c.read.new.buf zero r.1 c.in-Ok-eq0.ensures.bytes.0,
+      r.3,
+      refl,
+    )
 
 pub returns-in-Err-clause-decided : goal.returns-in-Err-clause-decided
 returns-in-Err-clause-decided g c = λ m fresh none _.
     let r = c.loop.invariant.read m fresh none in
-    (r.0, Consumes-kept _ _ _ r.0 r.1 c.in-Err.ensures.bytes, r.3)
+    (r.0, m r.0, Consumes-kept _ _ _ r.0 r.1 c.in-Err.ensures.bytes, r.3, refl)
 
 pub returns-in-Err-clause-beginning : goal.returns-in-Err-clause-beginning
 returns-in-Err-clause-beginning g c = λ m fresh none.
@@ -83,7 +88,7 @@ pub returns-clause-endless : goal.returns-clause-endless
 returns-clause-endless g c = λ m fresh none _.
     let r = c.loop.invariant.read m fresh none in
     let least : 18446744073709551615 ≤ length r.0 = omega (arith, r.4) in
-    (r.0, least, r.1, r.3)
+    (r.0, m r.0, least, r.1, r.3, refl)
 
 pub returns-in_err-pass_on-in-Ok-clause-until_refused
     : goal.returns-in_err-pass_on-in-Ok-clause-until_refused
@@ -97,8 +102,10 @@ returns-in_err-pass_on-in-Ok-clause-until_refused g c = λ m fresh none memory.
     omega (arith, c.in-Ok.ensures.bound.0, c.in-Ok.ensures.bound.1) in (
       r.0,
       piece,
+      m r.0,
       within,
       Consumes-trans _ _ _ r.0 piece r.1 c.in-Ok.ensures.bytes.0,
       subst (λ w. Appends (g.W.Write.contents c.args.writer.now.inner)
           (g.W.Write.contents w.inner) (m r.0)) (sym same) r.3,
+      refl,
     )

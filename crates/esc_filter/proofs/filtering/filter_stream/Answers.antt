@@ -1,58 +1,28 @@
-use Rattle.std.proofs.Common.{◌≡◌, ◌≤◌, [], Some, arith, length, subst, sym}
-use Rattle.std.proofs.KnownBytes.{Appends-nil, Consumes-nil}
-use Rattle.std.specs.Io.KnownBytes.{Appends}
-use Rattle.esc_parse.proofs.Lists.{on_ok_more}
-use Rattle.esc_filter.proofs.Begun.{begun}
+use Rattle.std.proofs.Common.{Some}
+use Rattle.esc_filter.proofs.Begun.{begun, filters}
 use Rattle.esc_filter.proofs.ByLines.{nothing}
-use Rattle.esc_filter.specs.Passing.{passed_text}
+use Rattle.esc_filter.specs.Passing.{passed_text, IsFiltered}
 use Rattle.esc_filter.proofs.filtering.filter_stream.Goals as goal
 
-pub returns-clause-written : goal.returns-clause-written
-returns-clause-written g c =
+pub returns-clause-holds : goal.returns-clause-holds
+returns-clause-holds g c =
     let admits = g.P.Admit.admits c.args.policy in
     let m = passed_text {A = g.row.A.Denot} (Some c.args.limit) admits in
     let new = begun g.P.Admit.admits c.args.limit c.args.policy c.new-filter.result
     c.new-filter.ensures.policy c.new-filter.ensures.fed in
-    on_ok_more _ _ c.filter_all.result
-    (λ w. (w.0, m w.0, w.1, w.2, c.passed_reads_back.ensures (Some c.args.limit) admits w.0))
-    (c.filter_all.ensures.written m new (nothing c.args.limit admits))
-
-pub returns-clause-decided : goal.returns-clause-decided
-returns-clause-decided g c = λ e.
-    let admits = g.P.Admit.admits c.args.policy in
-    let m = passed_text {A = g.row.A.Denot} (Some c.args.limit) admits in
-    let new = begun g.P.Admit.admits c.args.limit c.args.policy c.new-filter.result
-    c.new-filter.ensures.policy c.new-filter.ensures.fed in
-    let w = c.filter_all.ensures.decided m new (nothing c.args.limit admits) e in
-    (w.0, m w.0, w.1, w.2, c.passed_reads_back.ensures (Some c.args.limit) admits w.0)
-
-pub returns-clause-endless : goal.returns-clause-endless
-returns-clause-endless g c = λ e.
-    let admits = g.P.Admit.admits c.args.policy in
-    let m = passed_text {A = g.row.A.Denot} (Some c.args.limit) admits in
-    let new = begun g.P.Admit.admits c.args.limit c.args.policy c.new-filter.result
-    c.new-filter.ensures.policy c.new-filter.ensures.fed in
-    let w = c.filter_all.ensures.endless m new (nothing c.args.limit admits) e in
-    (w.0, m w.0, w.1, w.2, w.3, c.passed_reads_back.ensures (Some c.args.limit) admits w.0)
-
-pub returns-clause-until_refused : goal.returns-clause-until_refused
-returns-clause-until_refused g c = λ e.
-    let admits = g.P.Admit.admits c.args.policy in
-    let m = passed_text {A = g.row.A.Denot} (Some c.args.limit) admits in
-    let new = begun g.P.Admit.admits c.args.limit c.args.policy c.new-filter.result
-    c.new-filter.ensures.policy c.new-filter.ensures.fed in
-    let w = c.filter_all.ensures.until_refused m new (nothing c.args.limit admits) e in
-    let len : length c.in-Ok.chunk.items ≡ 65536 = c.in-Ok.ensures.len in
-    let within : length w.1 ≤ 65536 = omega (arith, w.2, len) in
-    (w.0, w.1, m w.0, within, w.3, w.4, c.passed_reads_back.ensures (Some c.args.limit) admits w.0)
-
-pub returns-clause-beginning : goal.returns-clause-beginning
-returns-clause-beginning g c =
-    let admits = g.P.Admit.admits c.args.policy in
-    let m = passed_text {A = g.row.A.Denot} (Some c.args.limit) admits in
-    let new = begun g.P.Admit.admits c.args.limit c.args.policy c.new-filter.result
-    c.new-filter.ensures.policy c.new-filter.ensures.fed in
-    c.filter_all.ensures.beginning m new (nothing c.args.limit admits)
+    let f = filters m (IsFiltered (Some c.args.limit) admits)
+    (c.passed_reads_back.ensures (Some c.args.limit) admits) _ _ _
+    (c.filter_from.ensures.holds m new (nothing c.args.limit admits)) in
+    record {
+      read_all = f.read_all;
+      written = f.written;
+      decided = f.decided;
+      endless = f.endless;
+      until_refused = f.until_refused;
+      beginning = f.beginning;
+      read_fault = f.read_fault;
+      write_fault = f.write_fault;
+    }
 
 pub returns-clause-refused : goal.returns-clause-refused
 returns-clause-refused g c =
@@ -60,18 +30,4 @@ returns-clause-refused g c =
     let m = passed_text {A = g.row.A.Denot} (Some c.args.limit) admits in
     let new = begun g.P.Admit.admits c.args.limit c.args.policy c.new-filter.result
     c.new-filter.ensures.policy c.new-filter.ensures.fed in
-    c.filter_all.ensures.refused m new (nothing c.args.limit admits)
-
-pub returns-in_default-clause-until_refused : goal.returns-in_default-clause-until_refused
-returns-in_default-clause-until_refused g c = λ _.
-    let admits = g.P.Admit.admits c.args.policy in
-    let m = passed_text {A = g.row.A.Denot} (Some c.args.limit) admits in
-    let held = g.W.Write.contents c.args.writer.now.inner in (
-      [],
-      [],
-      m [],
-      omega arith,
-      Consumes-nil _,
-      subst (λ t. Appends held held t) (sym (nothing c.args.limit admits)) (Appends-nil _),
-      c.passed_reads_back.ensures (Some c.args.limit) admits [],
-    )
+    c.filter_from.ensures.refused m new (nothing c.args.limit admits)

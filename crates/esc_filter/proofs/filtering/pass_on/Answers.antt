@@ -1,6 +1,7 @@
 use Rattle.std.proofs.Common.{◌++◌, ap, sym, ◌∙◌}
 use Rattle.esc_parse.proofs.Lists.{on_ok_more}
-use Rattle.esc_filter.proofs.Results.{on_err_more, prefix_none}
+use Rattle.std.proofs.lemmas.Result.{on_err_weaker}
+use Rattle.esc_filter.proofs.Results.{prefix_none}
 use Rattle.esc_filter.proofs.filtering.pass_on.Goals as goal
 
 pub returns-in-Ok-clause-given : goal.returns-in-Ok-clause-given
@@ -14,7 +15,7 @@ pub returns-in-Ok-clause-beginning : goal.returns-in-Ok-clause-beginning
 returns-in-Ok-clause-beginning g c = λ m s h.
     let k = c.in-Ok.ensures.given m s h in
     let e = k.1 ∙ ap (λ x. m s ++ x) (sym c.added_text.ensures) in
-    on_err_more _ _ c.write_out.result (λ a. (c.added_text.result.now, e, a))
+    on_err_weaker c.write_out.result (λ a. (c.added_text.result.now, e, a))
     c.write_out.ensures.beginning
 
 pub returns-in-Err-clause-beginning : goal.returns-in-Err-clause-beginning

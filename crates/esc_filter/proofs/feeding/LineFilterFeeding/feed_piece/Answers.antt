@@ -1,5 +1,6 @@
 use Rattle.std.proofs.Common.{◌≡◌, ◌++◌, ℕ, sym, ap, ◌∙◌, subst}
-use Rattle.esc_filter.proofs.ByLines.{by_longer, if_err_on, on_ok_so}
+use Rattle.esc_parse.proofs.Lists.{on_ok_more}
+use Rattle.esc_filter.proofs.ByLines.{by_longer, if_err_on}
 use Rattle.esc_filter.proofs.feeding.LineFilterFeeding.feed_piece.Goals as goal
 use Rattle.esc_filter.specs.Lines.{WasFedLines, added_by, policy_of_lines, text_by_lines}
 
@@ -7,7 +8,7 @@ pub returns-clause-given : goal.returns-clause-given
 returns-clause-given g c = λ m s h.
     let bs = c.args.bytes.now in
     let new = c.feed.new.self in
-    on_ok_so c.feed.result (λ k. (
+    on_ok_more _ _ c.feed.result (λ k. (
       subst (λ q. (l : ℕ) × WasFedLines l (g.P.Admit.admits q) (s ++ bs) new
           × (m ≡ text_by_lines {A = g.row.A.Denot} l (g.P.Admit.admits q)))
           (sym c.feed.ensures.policy) (h.0, k.0, h.2),

@@ -1,7 +1,8 @@
 use Rattle.std.proofs.Common.{[], ◌++◌, subst}
 use Rattle.esc_filter.specs.Fed.{WasFed}
 use Rattle.esc_filter.specs.Lines.{policy_of_lines}
-use Rattle.esc_filter.proofs.ByLines.{grows_line, on_ok_so}
+use Rattle.esc_parse.proofs.Lists.{on_ok_more}
+use Rattle.esc_filter.proofs.ByLines.{grows_line}
 use Rattle.esc_filter.proofs.line_filter.LineFilter.feed_line.Goals as goal
 
 pub returns-in-Ok-clause-given : goal.returns-in-Ok-clause-given
@@ -10,7 +11,7 @@ returns-in-Ok-clause-given g c = λ limit s w.
     let k = c.end_line.ensures.kept in
     let line = w.rest ++ c.args.bytes.now in
     let longer = c.in-Ok.ensures.given limit w.rest w.fed in
-    on_ok_so c.end_line.result (λ e.
+    on_ok_more _ _ c.end_line.result (λ e.
     grows_line limit (g.P.Admit.admits (policy_of_lines c.args.self.now)) s c.args.self.now w
     c.args.bytes.now c.pass.new.self longer kept.1 c.requires c.end_line.new.self e.0
     (subst (λ p. WasFed limit (g.P.Admit.admits p) line c.pass.new.self.filter

@@ -1,18 +1,14 @@
-use Rattle.std.proofs.Common.{rules, ◌≡◌, ◌-◌, ◌+◌, ◌++◌, OnOk, List, ℕ, length, take, drop, refl, sym, ap, ◌∙◌, subst, take-append-drop}
-use Rattle.std.proofs.Math.Seq.{take-add}
+use Rattle.std.proofs.Common.{rules, ◌≡◌, ◌-◌, ◌++◌, OnOk, List, ℕ, length, take, drop, refl, sym, ap, ◌∙◌, subst, take-append-drop}
+use Rattle.esc_frame.proofs.CsiRuns.{run_joins}
 use Rattle.std.proofs.lemmas.List.{take_rest, take_all}
 use Rattle.esc_filter.specs.Lines.{GrowsBy, WasFedLines, policy_of_lines}
-use Rattle.esc_filter.proofs.ByLines.{grows_more, grows_not, on_ok_so}
+use Rattle.esc_parse.proofs.Lists.{on_ok_more}
+use Rattle.esc_filter.proofs.ByLines.{grows_more, grows_not}
 use Rattle.esc_filter.proofs.line_filter.LineFilter.feed_lines.Goals as goal
 
 -- the bytes from a place on
 abbrev tail : List ℕ → ℕ → List ℕ
 tail bytes at = take (length bytes - at) (drop at bytes)
-
-joined : (bytes : List ℕ) (at n : ℕ)
-    → take at bytes ++ take n (tail bytes at) ≡ take (at + n) bytes
-joined bytes at n =
-    ap (λ y. take at bytes ++ take n y) (take_rest bytes at) ∙ sym (take-add at n bytes)
 
 all : (bytes : List ℕ) (at : ℕ) → take at bytes ++ tail bytes at ≡ bytes
 all bytes at = ap (λ y. take at bytes ++ y) (take_rest bytes at) ∙ take-append-drop at bytes
@@ -39,7 +35,7 @@ loop-at-preserved g c =
           let before = inv.grown limit s w in
           let sx = s ++ take at bs in
           subst (λ x. GrowsBy admits limit s x c.args.self.now c.feed_line.new.self)
-          (joined bs at c.in-Some.n)
+          (run_joins bs at c.in-Some.n)
           (grows_more limit admits s (take at bs) piece c.args.self.now c.loop-at.self
           c.feed_line.new.self before
           (subst (λ p. WasFedLines limit (g.P.Admit.admits p) sx c.loop-at.self
@@ -63,7 +59,7 @@ returns-in-None-clause-given g c = λ limit s w.
     let admits = g.P.Admit.admits (policy_of_lines c.args.self.now) in
     let before = inv.grown limit s w in
     let sx = s ++ take at bs in
-    on_ok_so c.feed_open.result
+    on_ok_more _ _ c.feed_open.result
     (λ h. subst (λ x. GrowsBy admits limit s x c.args.self.now c.feed_open.new.self) (all bs at)
     (grows_more limit admits s (take at bs) (tail bs at) c.args.self.now c.loop-at.self
     c.feed_open.new.self before h))

@@ -1,0 +1,135 @@
+//! What is left out of a stream, by name.
+
+use esc_actions::Action;
+use esc_device::DeviceControlMode;
+use esc_functions::{ControlFunction, EscapeFunction};
+use esc_osc::OperatingSystemCommand as Command;
+use std::alloc::Allocator;
+
+/// The name of what an action asks for. All are texts of tables, so there are not many.
+#[derive(Clone, Copy, PartialEq, Eq)]
+pub struct Name {
+    /// Its kind, as `CSI`.
+    pub kind: &'static str,
+    /// Its name, as `DSR`; empty where it has none.
+    pub name: &'static str,
+    /// Its name in words, as `device status report`.
+    pub words: &'static str,
+}
+
+// Controls of C0, 00 to 1F (ECMA-48, 8.3; some of its fourth edition): their names in words.
+static CONTROLS: [&str; 32] = [
+    "null",
+    "start of heading",
+    "start of text",
+    "end of text",
+    "end of transmission",
+    "enquiry",
+    "acknowledge",
+    "bell",
+    "backspace",
+    "tab",
+    "line feed",
+    "line tabulation",
+    "form feed",
+    "carriage return",
+    "shift out",
+    "shift in",
+    "data link escape",
+    "device control one",
+    "device control two",
+    "device control three",
+    "device control four",
+    "negative acknowledge",
+    "synchronous idle",
+    "end of transmission block",
+    "cancel",
+    "end of medium",
+    "substitute",
+    "escape",
+    "file separator",
+    "group separator",
+    "record separator",
+    "unit separator",
+];
+
+// A name of this kind.
+fn named(kind: &'static str, name: &'static str, words: &'static str) -> Name {
+    Name { kind, name, words }
+}
+
+// What has no name.
+fn unnamed(kind: &'static str) -> Name {
+    named(kind, "", "without a name")
+}
+
+/// The name of what an action asks for.
+pub fn name_of<A: Allocator>(action: &Action<A>) -> Name {
+    match action {
+        Action::Print(_) | Action::PrintString(_) => named("character", "DEL", "delete"),
+        Action::Control(code) => control_name(*code as u8),
+        Action::Esc(esc) => escape_name("ESC", EscapeFunction::of(*esc)),
+        Action::CSI(csi) => match ControlFunction::of(csi) {
+            Some(function) => named("CSI", function.name(), function.words()),
+            None => unnamed("CSI"),
+        },
+        Action::OperatingSystemCommand(command) => command_name(command.as_ref()),
+        Action::KittyImage(_) => named("APC", "G", "kitty image"),
+        Action::Sixel(_) => named("DCS", "q", "sixel image"),
+        Action::XtGetTcap(_) => named("DCS", "XTGETTCAP", "ask for termcap data"),
+        Action::DeviceControl(mode) => device_name(mode),
+    }
+}
+
+// The name of a control of C0 or C1.
+fn control_name(code: u8) -> Name {
+    if code < 32 {
+        return named("control", "", CONTROLS[code as usize]);
+    }
+    escape_name("control", EscapeFunction::of_c1(code))
+}
+
+// The name of an escape sequence, or of the control of C1 that it is short for.
+fn escape_name(kind: &'static str, function: Option<EscapeFunction>) -> Name {
+    match function {
+        Some(function) => named(kind, function.name(), function.words()),
+        None => unnamed(kind),
+    }
+}
+
+// The name of a device control string.
+fn device_name<A: Allocator>(mode: &DeviceControlMode<A>) -> Name {
+    match mode {
+        DeviceControlMode::ShortDeviceControl(_) => named("DCS", "$q", "ask for a setting"),
+        DeviceControlMode::Enter(_) | DeviceControlMode::Data(_) | DeviceControlMode::Exit => {
+            named("DCS", "", "of another kind")
+        }
+    }
+}
+
+// The name of an operating system command (xterm's list, "Operating System Commands").
+fn command_name<A: Allocator>(command: &Command<A>) -> Name {
+    let (number, words) = match command {
+        Command::SetIconNameAndWindowTitle(_) => ("0", "icon name and window title"),
+        Command::SetIconName(_) => ("1", "icon name"),
+        Command::SetWindowTitle(_) => ("2", "window title"),
+        Command::SetWindowTitleSun(_) => ("l", "window title"),
+        Command::SetIconNameSun(_) => ("L", "icon name"),
+        Command::ChangeColorNumber(_) => ("4", "colours of the palette"),
+        Command::CurrentWorkingDirectory(_) => ("7", "working directory"),
+        Command::SetHyperlink(_) => ("8", "hyperlink"),
+        Command::SystemNotification(_) => ("9", "notification"),
+        Command::ConEmuProgress(_) => ("9;4", "progress"),
+        Command::ChangeDynamicColors(_, _) => ("10 to 19", "dynamic colours"),
+        Command::ClearSelection(_) | Command::QuerySelection(_) | Command::SetSelection(_, _) => {
+            ("52", "clipboard")
+        }
+        Command::ResetColors(_) => ("104", "reset colours of the palette"),
+        Command::ResetDynamicColor(_) => ("110 to 119", "reset a dynamic colour"),
+        Command::FinalTermSemanticPrompt(_) => ("133", "prompt of a shell"),
+        Command::RxvtExtension(_) => ("777", "extension of rxvt"),
+        Command::ITermProprietary(_) => ("1337", "command of iTerm2"),
+        Command::Unspecified(_) => ("", "of another kind"),
+    };
+    named("OSC", number, words)
+}

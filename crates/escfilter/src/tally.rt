@@ -1,0 +1,175 @@
+//! What becomes of the actions of a stream.
+
+use crate::name::{Name, name_of};
+use crate::opened::Opened;
+use crate::place::Place;
+use crate::span::Span;
+use crate::swallowed::{Lost, Swallowed};
+use esc_actions::Action;
+use esc_device::DeviceControlMode;
+use esc_filter::{Policy, passes};
+use esc_parse::Sink;
+use std::alloc::{AllocError, Allocator, Global};
+
+/// How many actions of a name were left out.
+#[derive(Clone, Copy)]
+pub struct Row {
+    pub name: Name,
+    pub actions: u64,
+    pub bytes: u64,
+    /// Where the first of them begins.
+    pub first: Place,
+}
+
+/// What became of what came last.
+#[derive(Clone, Copy)]
+enum Fate {
+    Passed,
+    // it was left out, and counted in this row
+    LeftOut(usize),
+    Swallowed(Opened),
+}
+
+/// How many actions of a stream pass, and how many of each name are left out.
+#[derive(Drop)]
+pub struct Tally<A: Allocator = Global> {
+    policy: Policy,
+    /// The segment that is read.
+    pub span: Span,
+    /// How many actions there are: characters, controls, sequences and strings.
+    pub actions: u64,
+    /// How many of them were left out, and their bytes.
+    pub left_actions: u64,
+    pub left_bytes: u64,
+    /// Those by name, in the order in which the first of each came.
+    pub rows: Vec<Row, A>,
+    /// What means nothing.
+    pub swallowed: Swallowed,
+    last: Fate,
+}
+
+impl<A: Allocator> Tally<A> {
+    /// Of no action yet, under this policy. Takes no memory.
+    pub fn new(alloc: A, policy: Policy) -> Tally<A> {
+        Tally {
+            policy,
+            span: Span::new(),
+            actions: 0,
+            left_actions: 0,
+            left_bytes: 0,
+            rows: Vec::new(alloc),
+            swallowed: Swallowed::new(),
+            last: Fate::Passed,
+        }
+    }
+
+    /// The segment that is read, which is of this kind, has ended: what no action was made of is
+    /// swallowed, but for the terminator of a string, which goes the way of the string.
+    pub fn end_segment(&mut self, kind: Opened) {
+        let place = self.span.start;
+        let bytes = self.span.take_rest();
+        if bytes == 0 {
+            return;
+        }
+        if kind == Opened::Character {
+            self.add_bytes(bytes);
+            return;
+        }
+        self.swallow(Lost { kind, place, bytes });
+    }
+
+    /// What is read is swallowed, as the end of its line or of the stream cuts it.
+    pub fn cut_segment(&mut self, kind: Opened) -> Lost {
+        let place = self.span.start;
+        let bytes = self.span.take_rest();
+        let lost = Lost { kind, place, bytes };
+        self.swallow(lost);
+        lost
+    }
+
+    // Notes what is swallowed.
+    fn swallow(&mut self, lost: Lost) {
+        self.swallowed.add(lost);
+        self.last = Fate::Swallowed(lost.kind);
+    }
+
+    // Adds bytes to what became of what came last.
+    fn add_bytes(&mut self, bytes: u64) {
+        match self.last {
+            Fate::Passed => {}
+            Fate::LeftOut(at) => {
+                self.left_bytes = self.left_bytes.saturating_add(bytes);
+                if let Some(row) = self.rows.get_mut(at) {
+                    row.bytes = row.bytes.saturating_add(bytes);
+                }
+            }
+            Fate::Swallowed(kind) => self.swallowed.add_bytes(kind, bytes),
+        }
+    }
+
+    // Notes an action, which is at this place.
+    fn note(&mut self, action: &Action<A>, place: Place) -> Result<(), AllocError> {
+        self.actions = self.actions.saturating_add(1);
+        if passes(&self.policy, action) {
+            self.last = Fate::Passed;
+            return Ok(());
+        }
+        self.left_actions = self.left_actions.saturating_add(1);
+        let at = self.row_of(name_of(action), place)?;
+        if let Some(row) = self.rows.get_mut(at) {
+            row.actions = row.actions.saturating_add(1);
+        }
+        self.last = Fate::LeftOut(at);
+        Ok(())
+    }
+
+    // The row of this name, which is new where the name is.
+    fn row_of(&mut self, name: Name, first: Place) -> Result<usize, AllocError> {
+        for (at, row) in self.rows.iter().enumerate() {
+            if row.name == name {
+                return Ok(at);
+            }
+        }
+        let at = self.rows.len();
+        self.rows.push(Row {
+            name,
+            actions: 0,
+            bytes: 0,
+            first,
+        })?;
+        Ok(at)
+    }
+}
+
+impl<A: Allocator> Sink<Action<A>> for Tally<A> {
+    ghost is_ready = { λ _. Unit {0} };
+
+    ghost takes = { λ p a q. Unit {0} };
+
+    ghost refuses = { λ p a q. Unit {0} };
+
+    fn receive(&mut self, action: Action<A>) -> Result<(), AllocError> {
+        let (place, bytes) = self.span.take(is_control(&action));
+        let noted = if is_part(&action) {
+            Ok(())
+        } else {
+            self.note(&action, place)
+        };
+        self.add_bytes(bytes);
+        noted
+    }
+}
+
+// Whether it is a control.
+fn is_control<A: Allocator>(action: &Action<A>) -> bool {
+    matches!(action, Action::Control(_))
+}
+
+// Whether it is a part of what came last: a string terminator, data of a device control string, or
+// its end.
+fn is_part<A: Allocator>(action: &Action<A>) -> bool {
+    match action {
+        Action::DeviceControl(DeviceControlMode::Data(_) | DeviceControlMode::Exit) => true,
+        _ => action.is_terminator(),
+    }
+}
