@@ -57,7 +57,7 @@ value_of known w ws =
     if has_value w then after_first (λ b. b == 0x3d) w
     else if takes_next known w then first_of ws else []
 
--- the word that is given, where one of several is taken; a size and a list that are given are not
+-- the word that is given, where one or several of some are taken; a size that is given is not
 -- said
 abbrev pub word_given : Takes → List ℕ → List ℕ
 word_given takes.Nothing v = []
