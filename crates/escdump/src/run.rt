@@ -12,6 +12,9 @@ use std::io::{ErrorKind, Read, Write};
 /// The program's name.
 pub const PROGRAM: &str = "escdump";
 
+// What its output is called.
+const OUTPUT: &str = "standard output";
+
 /// What hinders the program at a stream.
 #[derive(Clone, Copy)]
 pub enum Fault {
@@ -83,7 +86,7 @@ pub fn ended<E: Write>(done: Result<(), Fault>, name: &str, faults: &mut E) -> E
 {
     match done {
         Ok(()) => Ended::Whole,
-        Err(Fault::Write(reason)) => unwritten(PROGRAM, reason, faults),
+        Err(Fault::Write(reason)) => unwritten(PROGRAM, OUTPUT, reason, faults),
         Err(Fault::Read(reason)) => {
             tell(PROGRAM, name, reason, faults);
             Ended::Unread

@@ -144,6 +144,8 @@ impl<A: Allocator> Tally<A> {
 impl<A: Allocator> Sink<Action<A>> for Tally<A> {
     ghost is_ready = { λ _. Unit {0} };
 
+    ghost may = { λ _ _. Unit {0} };
+
     ghost takes = { λ p a q. Unit {0} };
 
     ghost refuses = { λ p a q. Unit {0} };
