@@ -223,7 +223,8 @@ multibyte_back multibyte.Jis1983 = refl
 
 -- a designation is found, and has no other value
 set_back : (f : EscapeFunction) (i b : ℕ) (c : Charset)
-    → function_of (sequence_key (Some i) b) ≡ Some f → escape_of f ≡ None → designated f b ≡ Ok c → of_bytes (Some i) b ≡ charset c
+    → function_of (sequence_key (Some i) b) ≡ Some f → escape_of f ≡ None
+    → designated f b ≡ Ok c → of_bytes (Some i) b ≡ charset c
 set_back f i b c found none set =
     ap (λ o. of_function o b) found ∙ ap (λ o. valued o f b) none ∙ ap set_of set
 

@@ -191,9 +191,17 @@ back (args.Report a b c) t h i = record {
 back (args.Numbers a None None) t h i =
     record { read = rw (i.ends, word_back a h.0) refl; unmarked = refl; kept = refl }
 back (args.Numbers a (Some b) None) t h i =
-    record { read = rw (i.ends, word_back a h.0, word_back b h.1) refl; unmarked = refl; kept = refl }
+    record {
+      read = rw (i.ends, word_back a h.0, word_back b h.1) refl;
+      unmarked = refl;
+      kept = refl;
+    }
 back (args.Numbers a None (Some c)) t h i =
-    record { read = rw (i.ends, word_back a h.0, word_back c h.2) refl; unmarked = refl; kept = refl }
+    record {
+      read = rw (i.ends, word_back a h.0, word_back c h.2) refl;
+      unmarked = refl;
+      kept = refl;
+    }
 back (args.Numbers a (Some b) (Some c)) t h i = record {
   read = rw (i.ends, word_back a h.0, word_back b h.1, word_back c h.2) refl;
   unmarked = refl;

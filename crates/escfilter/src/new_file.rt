@@ -28,8 +28,8 @@ impl NewFile {
     /// permissions of that one, and its owner where the system lets it. Where the name is that of a
     /// link, the file that the link leads to is meant.
     ///
-    /// The error says why there can be none: `IsADirectory`, or `InvalidInput` where the one of this
-    /// name is no regular file either.
+    /// The error says why there can be none: `IsADirectory`, or `InvalidInput` where the one of
+    /// this name is no regular file either.
     pub fn beside(rt: &HostRuntime, name: &str) -> io::Result<NewFile> {
         match metadata(rt, name) {
             Ok(known) if known.is_dir() => Err(io::Error::from(ErrorKind::IsADirectory)),

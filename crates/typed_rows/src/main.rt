@@ -4,8 +4,8 @@
 //! A row is a line `SEQUENCE | VALUE | SPELLING`: what follows `ESC [`; the Debug text of the
 //! value, of renditions those of all, with `, ` between them; and what follows `ESC [` where the
 //! value is written. An escape sequence has the word `ESC` before it, and a space. Of a rendition
-//! that is not known the value is `?`, and of a sequence without a typed value the reason; both stay
-//! as they came. Empty lines, and lines that begin with `#`, are no rows. A row that differs is
+//! that is not known the value is `?`, and of a sequence without a typed value the reason; both
+//! stay as they came. Empty lines, and lines that begin with `#`, are no rows. A row that differs is
 //! printed as the library has it, and the status is 1.
 #![tactic(auto)]
 
