@@ -80,7 +80,7 @@ macro_rules! functions {
 
 pub(crate) use functions;
 
-use crate::function_rows::{ControlFunction, EscapeFunction};
+use crate::function_rows::{C0, ControlFunction, EscapeFunction};
 
 impl ControlFunction {
     /// The function of a control sequence with these entries, all that it has, and this final byte,
@@ -168,5 +168,21 @@ impl EscapeFunction {
             0x80..=0x9f => EscapeFunction::of(None, code - 0x40),
             _ => None,
         }
+    }
+}
+
+impl C0 {
+    /// The control of this code: 00 to 1F (hexadecimal), or 7F, which is DEL. Of another code
+    /// `None`.
+    ///
+    /// ```
+    /// use escape_stream::C0;
+    ///
+    /// assert_eq!(C0::of(b'\n'), Some(C0::LF));
+    /// assert_eq!(C0::LF.words(), "line feed");
+    /// assert_eq!(C0::of(b'n'), None);
+    /// ```
+    pub fn of(code: u8) -> Option<C0> {
+        C0::of_key(0x100 + u32::from(code))
     }
 }

@@ -310,3 +310,41 @@ functions! {
     LS2R, 0x17d, "LS2R", Other, "locking shift two right", "`ESC }`: locking shift two right";
     LS1R, 0x17e, "LS1R", Other, "locking shift one right", "`ESC ~`: locking shift one right";
 }
+
+functions! {
+    /// A C0 control (ECMA-48, 5.2), or DEL, by the standards' abbreviation of its name.
+    C0;
+    NUL, 0x100, "NUL", Other, "null", "`00`: null";
+    SOH, 0x101, "SOH", Other, "start of heading", "`01`: start of heading";
+    STX, 0x102, "STX", Other, "start of text", "`02`: start of text";
+    ETX, 0x103, "ETX", Other, "end of text", "`03`: end of text";
+    EOT, 0x104, "EOT", Other, "end of transmission", "`04`: end of transmission";
+    ENQ, 0x105, "ENQ", Answered, "enquiry", "`05`: enquiry";
+    ACK, 0x106, "ACK", Other, "acknowledge", "`06`: acknowledge";
+    BEL, 0x107, "BEL", Screen, "bell", "`07`: bell";
+    BS, 0x108, "BS", Screen, "backspace", "`08`: backspace";
+    HT, 0x109, "HT", Screen, "tab", "`09`: tab";
+    LF, 0x10a, "LF", Screen, "line feed", "`0A`: line feed";
+    VT, 0x10b, "VT", Screen, "line tabulation", "`0B`: line tabulation";
+    FF, 0x10c, "FF", Screen, "form feed", "`0C`: form feed";
+    CR, 0x10d, "CR", Screen, "carriage return", "`0D`: carriage return";
+    SO, 0x10e, "SO", Screen, "shift out", "`0E`: shift out";
+    SI, 0x10f, "SI", Screen, "shift in", "`0F`: shift in";
+    DLE, 0x110, "DLE", Other, "data link escape", "`10`: data link escape";
+    DC1, 0x111, "DC1", Other, "device control one, XON", "`11`: device control one, XON";
+    DC2, 0x112, "DC2", Other, "device control two", "`12`: device control two";
+    DC3, 0x113, "DC3", Other, "device control three, XOFF", "`13`: device control three, XOFF";
+    DC4, 0x114, "DC4", Other, "device control four", "`14`: device control four";
+    NAK, 0x115, "NAK", Other, "negative acknowledge", "`15`: negative acknowledge";
+    SYN, 0x116, "SYN", Other, "synchronous idle", "`16`: synchronous idle";
+    ETB, 0x117, "ETB", Other, "end of transmission block", "`17`: end of transmission block";
+    CAN, 0x118, "CAN", Other, "cancel", "`18`: cancel";
+    EM, 0x119, "EM", Other, "end of medium", "`19`: end of medium";
+    SUB, 0x11a, "SUB", Other, "substitute", "`1A`: substitute";
+    ESC, 0x11b, "ESC", Other, "escape", "`1B`: escape";
+    FS, 0x11c, "FS", Other, "file separator", "`1C`: file separator";
+    GS, 0x11d, "GS", Other, "group separator", "`1D`: group separator";
+    RS, 0x11e, "RS", Other, "record separator", "`1E`: record separator";
+    US, 0x11f, "US", Other, "unit separator", "`1F`: unit separator";
+    DEL, 0x17f, "DEL", Other, "delete", "`7F`: delete";
+}

@@ -51,7 +51,7 @@ mod writer;
 #[cfg(feature = "oneshot")]
 pub use filter::PieceFilter;
 pub use function::Effect;
-pub use function_rows::{ControlFunction, EscapeFunction};
+pub use function_rows::{C0, ControlFunction, EscapeFunction};
 #[cfg(feature = "oneshot")]
 pub use oneshot::{Policy, filter, filter_into, is_normal, normal, normal_into};
 pub use parser::{Entry, Event, Parser};

@@ -1,7 +1,7 @@
 // SPDX-License-Identifier: MIT
 //! Finds each function of docs/FUNCTIONS.md under its name, and compares the tables with those of
 //! the proved library over all sequences.
-use escape_stream::{ControlFunction, Effect, EscapeFunction};
+use escape_stream::{C0, ControlFunction, Effect, EscapeFunction};
 use std::ffi::{CStr, c_char};
 use std::{fs, path::Path};
 
@@ -16,6 +16,7 @@ struct Row {
 unsafe extern "C" {
     fn escape_stream_function(p: u8, i: u8, last: u8, count: usize, out: *mut Row) -> bool;
     fn escape_stream_escape_function(i: u8, last: u8, out: *mut Row) -> bool;
+    fn escape_stream_control_function(code: u8, out: *mut Row) -> bool;
 }
 
 // What is said of a function: its name, its words, whether it changes the screen alone, and whether
@@ -77,6 +78,19 @@ fn all_sequences_are_as_in_the_library() {
                 );
             }
         }
+    }
+}
+
+#[test]
+fn all_controls_are_as_in_the_library() {
+    for code in 0..=255 {
+        // SAFETY: the call writes to the row alone.
+        let theirs = written(|row| unsafe { escape_stream_control_function(code, row) });
+        let ours = C0::of(code);
+        assert_eq!(
+            ours.map(|it| said(it.name(), it.words(), it.effect())),
+            theirs
+        );
     }
 }
 

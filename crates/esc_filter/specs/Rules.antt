@@ -2,11 +2,11 @@
 use Rattle.std.specs.Prelude.{ℕ, ◌≡◌, ◌≢◌, ◌≤◌, Bool, true, false, not, pos, negsuc, ◌==◌, ◌&&◌, ◌||◌, List, [], ◌∷◌, Option, Some, None}
 use Rattle.std.specs.List.{list_all}
 use Rattle.esc_sequences.specs.Csis.{CsiValue, sgr, unspecified}
-use Rattle.esc_values.specs.Params.{is_from}
 use Rattle.esc_values.specs.declared.csi_param.CsiParam.{CsiParam}
 use Rattle.esc_values.specs.declared.csi_param.CsiParam.TheVariants.{Integer, P}
 use Rattle.esc_sequences.specs.declared.esc.Esc.{Esc}
 use Rattle.esc_sequences.specs.declared.esc.Esc.TheVariants as esc_variant
+use Rattle.esc_functions.specs.Controls.{control_of, is_screen as is_screen_c0}
 use Rattle.esc_functions.specs.Effects.{changes_screen}
 use Rattle.esc_functions.specs.EscapeEffects.{changes_screen as escape_changes_screen}
 use Rattle.esc_functions.specs.Escapes.{named as escape_named}
@@ -71,9 +71,9 @@ is_colour _ = false
 
 -- Screen: what moves the cursor, erases, scrolls, and changes what is shown.
 
--- BEL, BS, HT, LF, VT, FF, CR, SO and SI
+-- a C0 control that changes the screen alone
 abbrev pub is_screen_control : ℕ → Bool
-is_screen_control n = is_from 0x07 0x0f n
+is_screen_control n = is_screen_c0 (control_of n)
 
 -- one parameter, which passes the test
 abbrev pub is_lone : (CsiParam → Bool) → List CsiParam → Bool

@@ -5,11 +5,11 @@ ghost use Rattle.std.specs.List.{list_all};
 ghost use Rattle.esc_sequences.specs.Csis.{csi_value};
 ghost use Rattle.esc_values.specs.Params.{is_from};
 ghost use Rattle.esc_actions.specs.Values.{value_of};
-ghost use Rattle.esc_filter.specs.Rules.{changes_with, escape_changes_with, is_common_set, is_lone, is_mode, is_palette, is_private_mode, is_screen, is_screen_body, is_screen_control, is_screen_escape, is_screen_sequence, is_set, is_set_pair, is_shape, is_space};
+ghost use Rattle.esc_filter.specs.Rules.{changes_with, escape_changes_with, is_common_set, is_lone, is_mode, is_palette, is_private_mode, is_screen, is_screen_body, is_screen_escape, is_screen_sequence, is_set, is_set_pair, is_shape, is_space};
 
 use crate::policy::are_plain;
 use esc_actions::Action;
-use esc_functions::{ControlFunction, EscapeFunction, Mode, PrivateMode};
+use esc_functions::{C0, ControlFunction, EscapeFunction, Mode, PrivateMode};
 use esc_osc::{ChangeColorPair, ColorOrQuery, OperatingSystemCommand};
 use esc_sequences::{CSI, Esc};
 use esc_values::CsiParam;
@@ -20,19 +20,12 @@ pub(crate) fn is_screen<A: Allocator>(action: &Action<A>) -> bool
     ensures { result ≡ is_screen (value_of action.now) }
 {
     match action {
-        Action::Control(code) => is_screen_control(code.as_char()),
+        Action::Control(code) => C0::is_screen_code(code.as_char() as u32),
         Action::Esc(esc) => is_screen_escape(*esc),
         Action::CSI(csi) => is_screen_sequence(csi),
         Action::OperatingSystemCommand(command) => is_palette(command.as_ref()),
         _ => false,
     }
-}
-
-// Whether it is BEL, BS, HT, LF, VT, FF, CR, SO or SI.
-fn is_screen_control(code: char) -> bool
-    ensures { result ≡ is_screen_control code }
-{
-    '\x07' <= code && code <= '\x0f'
 }
 
 fn is_screen_escape(esc: Esc) -> bool

@@ -1,7 +1,9 @@
 pub mod Keyed
+pub mod Numbered
+pub mod Tables
+pub mod Controls
 pub mod Functions
 pub mod Packed
 pub mod Escapes
-pub mod Numbered
 pub mod Modes
 pub mod PrivateModes

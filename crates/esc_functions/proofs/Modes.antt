@@ -1,8 +1,7 @@
 -- Modes of ECMA-48. Each has its row.
-use Rattle.std.proofs.Common.{◌≡◌, ℕ, ◌<◌, Bool, true, false, ◌==◌, map, get_or, Option, Some, None, zero-add, refl, sym, ap, ◌∙◌, inl, inr}
-use Rattle.std.specs.List.{range_with_len, list_all}
+use Rattle.std.proofs.Common.{◌≡◌, ℕ, ◌<◌, true, false, ◌==◌, map, get_or, Option, Some, None, refl, sym, ap, ◌∙◌, inl, inr}
+use Rattle.std.specs.List.{list_all}
 use Rattle.std.proofs.lemmas.List.{get_or-map}
-use Rattle.std.proofs.lemmas.List.FromFn.{get_or-range_with_len}
 use Rattle.std.proofs.lemmas.Bool.{cases_Bool, eqb-true}
 use denote.Enum.Bare.{tag_one}
 use denote.Enum.Declared.{variants}
@@ -15,34 +14,22 @@ use Rattle.esc_functions.specs.declared.mode_table.TheConstants.{ROWS}
 use Rattle.esc_functions.specs.contracts.mode.Mode.{the_type}
 use Rattle.esc_functions.specs.Effects.{is_screen_effect}
 use Rattle.esc_functions.specs.Modes.{place, number_of, mode_of, changes_screen, is_screen}
-use Rattle.esc_functions.proofs.Numbered.{Numbered, numbered_in}
-
-in_order : map (λ r. place r.mode) ROWS ≡ range_with_len 0 22
-unfolding place
-in_order = refl
+use Rattle.esc_functions.proofs.Tables as tables
+use Rattle.esc_functions.proofs.Tables.{Table}
 
 pub below : (m : Mode) → place m < 22
 unfolding place
 below m = tag_below (variants the_type) (the_type.to m)
 
-row_has : (m : Mode) (d : ModeRow Mode) → (get_or ROWS (place m) d).mode ≡ m
+-- the rows are in the order of the modes
+table : Table ROWS (λ r. r.mode) place
 unfolding place
-row_has m d =
-    tag_one the_type tt _ _
-    (sym (get_or-map (λ r. place r.mode) ROWS (place m) d 0 (below m))
-    ∙ ap (λ t. get_or t (place m) 0) in_order ∙ get_or-range_with_len 0 22 (place m) 0 (below m)
-    ∙ zero-add (place m))
+table = record { below = below; one = tag_one the_type tt; in_order = refl }
 
-pub row_number : (m : Mode) (d : ModeRow Mode) → (get_or ROWS (place m) d).number ≡ number_of m
+pub row_number : (m : Mode) (d : ModeRow Mode)
+    → (get_or ROWS (place m) d).number ≡ number_of m
 unfolding number_of
 row_number m d = sym (get_or-map (λ r. r.number) ROWS (place m) d 0 (below m))
-
-row_fact : {A : Type 0} (g h : ModeRow Mode → A) → map g ROWS ≡ map h ROWS → (m : Mode)
-    (d : ModeRow Mode) → g (get_or ROWS (place m) d) ≡ h (get_or ROWS (place m) d)
-row_fact g h e m d =
-    sym (get_or-map g ROWS (place m) d (g d) (below m))
-    ∙ ap (λ t. get_or t (place m) (g d)) e
-    ∙ get_or-map h ROWS (place m) d (g d) (below m)
 
 screens : map (λ r. is_screen_effect r.effect) ROWS ≡ map (λ r. changes_screen r.mode) ROWS
 unfolding changes_screen
@@ -50,9 +37,9 @@ screens = refl
 
 pub row_screen : (m : Mode) (d : ModeRow Mode)
     → is_screen_effect (get_or ROWS (place m) d).effect ≡ changes_screen m
-row_screen m d =
-    row_fact (λ r. is_screen_effect r.effect) (λ r. changes_screen r.mode) screens m d
-    ∙ ap changes_screen (row_has m d)
+row_screen =
+    tables.variant_fact ROWS (λ r. r.mode) place table (λ r. is_screen_effect r.effect)
+    changes_screen screens
 
 each_found : map (λ r. mode_of r.number) ROWS ≡ map (λ r. Some r.mode) ROWS
 unfolding mode_of
@@ -64,21 +51,16 @@ some_row = record { mode = variant.GATM; number = 0; effect = effect.Other }
 pub found_by_number : (m : Mode) → mode_of (number_of m) ≡ Some m
 found_by_number m =
     ap mode_of (sym (row_number m some_row))
-    ∙ row_fact (λ r. mode_of r.number) (λ r. Some r.mode) each_found m some_row
-    ∙ ap Some (row_has m some_row)
+    ∙ tables.variant_fact ROWS (λ r. r.mode) place table (λ r. mode_of r.number) (λ n. Some n)
+    each_found m some_row
 
 numbers_are_theirs : list_all (λ r. number_of r.mode == r.number) ROWS ≡ true
 unfolding number_of place
 numbers_are_theirs = refl
 
-in_table : (n : ℕ) (m : Mode) → Numbered (λ r. number_of r.mode == r.number) n m → number_of m ≡ n
-in_table n m h =
-    ap number_of (sym h.named) ∙ eqb-true (number_of h.row.mode) h.row.number h.passes ∙ h.numbered
-
 pub has_its_number : (n : ℕ) (m : Mode) → mode_of n ≡ Some m → number_of m ≡ n
 unfolding mode_of
-has_its_number n m h =
-    in_table n m (numbered_in (λ r. number_of r.mode == r.number) ROWS n m numbers_are_theirs h)
+has_its_number n m h = tables.number_in ROWS number_of numbers_are_theirs n m h
 
 -- the only mode that changes the screen alone has the number 4
 only_row : map (λ r. r.number == 4) ROWS ≡ map (λ r. changes_screen r.mode) ROWS
@@ -88,8 +70,8 @@ only_row = refl
 only_mode : (m : Mode) → (number_of m == 4) ≡ changes_screen m
 only_mode m =
     ap (λ n. n == 4) (sym (row_number m some_row))
-    ∙ row_fact (λ r. r.number == 4) (λ r. changes_screen r.mode) only_row m some_row
-    ∙ ap changes_screen (row_has m some_row)
+    ∙ tables.variant_fact ROWS (λ r. r.mode) place table (λ r. r.number == 4) changes_screen
+    only_row m some_row
 
 only_found : (n : ℕ) (o : Option Mode) → mode_of n ≡ o → (n == 4) ≡ false → is_screen o ≡ false
 only_found n None e h = refl

@@ -1,9 +1,8 @@
 -- Private modes. Each has its row.
-use Rattle.std.proofs.Common.{◌≡◌, ℕ, ◌<◌, Bool, true, false, ◌==◌, map, get_or, Option, Some, None, zero-add, refl, sym, ap, ◌∙◌, inl, inr}
-use Rattle.std.specs.List.{range_with_len, list_all}
+use Rattle.std.proofs.Common.{◌≡◌, ℕ, ◌<◌, true, false, ◌==◌, map, get_or, Option, Some, None, refl, sym, ap, ◌∙◌, inl, inr}
+use Rattle.std.specs.List.{list_all}
 use Rattle.std.proofs.lemmas.List.{get_or-map}
-use Rattle.std.proofs.lemmas.List.FromFn.{get_or-range_with_len}
-use Rattle.std.proofs.lemmas.Bool.{cases_Bool, eqb-true}
+use Rattle.std.proofs.lemmas.Bool.{cases_Bool}
 use denote.Enum.Bare.{tag_one}
 use denote.Enum.Declared.{variants}
 use denote.Enum.Enum.{tag_below}
@@ -15,36 +14,23 @@ use Rattle.esc_functions.specs.declared.private_mode_table.TheConstants.{ROWS}
 use Rattle.esc_functions.specs.contracts.private_mode.PrivateMode.{the_type}
 use Rattle.esc_functions.specs.Effects.{is_screen_effect}
 use Rattle.esc_functions.specs.PrivateModes.{place, number_of, mode_of, changes_screen, is_screen, screen_numbers, is_listed}
-use Rattle.esc_functions.proofs.Numbered.{Numbered, numbered_in, listed_fact}
-
-in_order : map (λ r. place r.mode) ROWS ≡ range_with_len 0 134
-unfolding place
-in_order = refl
+use Rattle.esc_functions.proofs.Numbered.{listed_fact}
+use Rattle.esc_functions.proofs.Tables as tables
+use Rattle.esc_functions.proofs.Tables.{Table}
 
 pub below : (m : PrivateMode) → place m < 134
 unfolding place
 below m = tag_below (variants the_type) (the_type.to m)
 
-row_has : (m : PrivateMode) (d : ModeRow PrivateMode) → (get_or ROWS (place m) d).mode ≡ m
+-- the rows are in the order of the modes
+table : Table ROWS (λ r. r.mode) place
 unfolding place
-row_has m d =
-    tag_one the_type tt _ _
-    (sym (get_or-map (λ r. place r.mode) ROWS (place m) d 0 (below m))
-    ∙ ap (λ t. get_or t (place m) 0) in_order ∙ get_or-range_with_len 0 134 (place m) 0 (below m)
-    ∙ zero-add (place m))
+table = record { below = below; one = tag_one the_type tt; in_order = refl }
 
 pub row_number : (m : PrivateMode) (d : ModeRow PrivateMode)
     → (get_or ROWS (place m) d).number ≡ number_of m
 unfolding number_of
 row_number m d = sym (get_or-map (λ r. r.number) ROWS (place m) d 0 (below m))
-
-row_fact : {A : Type 0} (g h : ModeRow PrivateMode → A) → map g ROWS ≡ map h ROWS
-    → (m : PrivateMode)
-    (d : ModeRow PrivateMode) → g (get_or ROWS (place m) d) ≡ h (get_or ROWS (place m) d)
-row_fact g h e m d =
-    sym (get_or-map g ROWS (place m) d (g d) (below m))
-    ∙ ap (λ t. get_or t (place m) (g d)) e
-    ∙ get_or-map h ROWS (place m) d (g d) (below m)
 
 screens : map (λ r. is_screen_effect r.effect) ROWS ≡ map (λ r. changes_screen r.mode) ROWS
 unfolding changes_screen
@@ -52,9 +38,9 @@ screens = refl
 
 pub row_screen : (m : PrivateMode) (d : ModeRow PrivateMode)
     → is_screen_effect (get_or ROWS (place m) d).effect ≡ changes_screen m
-row_screen m d =
-    row_fact (λ r. is_screen_effect r.effect) (λ r. changes_screen r.mode) screens m d
-    ∙ ap changes_screen (row_has m d)
+row_screen =
+    tables.variant_fact ROWS (λ r. r.mode) place table (λ r. is_screen_effect r.effect)
+    changes_screen screens
 
 each_found : map (λ r. mode_of r.number) ROWS ≡ map (λ r. Some r.mode) ROWS
 unfolding mode_of
@@ -66,22 +52,16 @@ some_row = record { mode = variant.DECCKM; number = 0; effect = effect.Other }
 pub found_by_number : (m : PrivateMode) → mode_of (number_of m) ≡ Some m
 found_by_number m =
     ap mode_of (sym (row_number m some_row))
-    ∙ row_fact (λ r. mode_of r.number) (λ r. Some r.mode) each_found m some_row
-    ∙ ap Some (row_has m some_row)
+    ∙ tables.variant_fact ROWS (λ r. r.mode) place table (λ r. mode_of r.number) (λ n. Some n)
+    each_found m some_row
 
 numbers_are_theirs : list_all (λ r. number_of r.mode == r.number) ROWS ≡ true
 unfolding number_of place
 numbers_are_theirs = refl
 
-in_table : (n : ℕ) (m : PrivateMode) → Numbered (λ r. number_of r.mode == r.number) n m
-    → number_of m ≡ n
-in_table n m h =
-    ap number_of (sym h.named) ∙ eqb-true (number_of h.row.mode) h.row.number h.passes ∙ h.numbered
-
 pub has_its_number : (n : ℕ) (m : PrivateMode) → mode_of n ≡ Some m → number_of m ≡ n
 unfolding mode_of
-has_its_number n m h =
-    in_table n m (numbered_in (λ r. number_of r.mode == r.number) ROWS n m numbers_are_theirs h)
+has_its_number n m h = tables.number_in ROWS number_of numbers_are_theirs n m h
 
 -- the numbers of the modes that change the screen alone are those of the list
 listed_are : list_all (λ n. is_screen (mode_of n)) screen_numbers ≡ true
@@ -95,8 +75,8 @@ listed_rows = refl
 listed_mode : (m : PrivateMode) → is_listed (number_of m) ≡ changes_screen m
 listed_mode m =
     ap is_listed (sym (row_number m some_row))
-    ∙ row_fact (λ r. is_listed r.number) (λ r. changes_screen r.mode) listed_rows m some_row
-    ∙ ap changes_screen (row_has m some_row)
+    ∙ tables.variant_fact ROWS (λ r. r.mode) place table (λ r. is_listed r.number) changes_screen
+    listed_rows m some_row
 
 listed_found : (n : ℕ) (o : Option PrivateMode) → mode_of n ≡ o → is_listed n ≡ false
     → is_screen o ≡ false
@@ -107,6 +87,7 @@ listed_found n (Some m) e h =
 pub by_number : (n : ℕ) → is_listed n ≡ is_screen (mode_of n)
 by_number n =
     elim (cases_Bool (is_listed n)) [
-      | inl held ↦ held ∙ sym (listed_fact (λ k. is_screen (mode_of k)) screen_numbers n listed_are held)
+      | inl held ↦ held
+          ∙ sym (listed_fact (λ k. is_screen (mode_of k)) screen_numbers n listed_are held)
       | inr failed ↦ failed ∙ sym (listed_found n (mode_of n) refl failed)
     ]

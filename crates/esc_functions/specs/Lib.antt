@@ -6,3 +6,4 @@ pub mod Escapes
 pub mod EscapeEffects
 pub mod Modes
 pub mod PrivateModes
+pub mod Controls

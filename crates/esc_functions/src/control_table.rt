@@ -20,6 +20,7 @@ use crate::marks::{key_with, marks_of, packed_marks};
 use crate::parameters::Parameters;
 use crate::row::Row;
 use crate::standard::Standard;
+use crate::table_macros::{key, name};
 use esc_sequences::CSI;
 use esc_values::CsiParam;
 use std::alloc::Allocator;
@@ -275,30 +276,6 @@ macro_rules! functions {
             DECDC, [b'\'', b'~'], Screen, Count, Vt420, "delete columns";
             DECPS, [b',', b'~'], Other, Numbers, Vt510, "play sound";
         ]
-    };
-}
-
-macro_rules! name {
-    ($f:ident) => {
-        stringify!($f)
-    };
-    ($f:ident = $name:literal) => {
-        $name
-    };
-}
-
-macro_rules! key {
-    ($c:literal) => {
-        0x100 + $c as u32
-    };
-    ($a:literal, $c:literal) => {
-        (0x100 + $a as u32) * 0x100 + $c as u32
-    };
-    ($a:literal, $b:literal, $c:literal) => {
-        ((0x100 + $a as u32) * 0x100 + $b as u32) * 0x100 + $c as u32
-    };
-    (long $c:literal) => {
-        0x200 + $c as u32
     };
 }
 

@@ -17,6 +17,7 @@ use crate::find::{first_with, part, text_in};
 use crate::parameters::Parameters;
 use crate::row::Row;
 use crate::standard::Standard;
+use crate::table_macros::{key, name};
 use esc_sequences::{Esc, EscCode};
 
 // A row a line: the function, and its name where that is another; the bytes of its sequence after
@@ -105,30 +106,6 @@ macro_rules! functions {
             LS2R, [b'}'], Other, Ecma48, "locking shift two right";
             LS1R, [b'~'], Other, Ecma48, "locking shift one right";
         ]
-    };
-}
-
-macro_rules! name {
-    ($f:ident) => {
-        stringify!($f)
-    };
-    ($f:ident = $name:literal) => {
-        $name
-    };
-}
-
-macro_rules! key {
-    ($c:literal) => {
-        0x100 + $c as u32
-    };
-    ($a:literal, $c:literal) => {
-        (0x100 + $a as u32) * 0x100 + $c as u32
-    };
-    ($a:literal, $b:literal, $c:literal) => {
-        ((0x100 + $a as u32) * 0x100 + $b as u32) * 0x100 + $c as u32
-    };
-    (long $c:literal) => {
-        0x200 + $c as u32
     };
 }
 

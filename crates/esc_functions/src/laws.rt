@@ -1,11 +1,14 @@
-//! Laws of control functions and modes: no two answer to one sequence, or have one number.
+//! Laws of controls, control functions and modes: no two answer to one sequence, or have one code
+//! or number.
 ghost use Rattle.std.specs.Prelude.{◌≡◌, ℕ, Some, false, true};
+ghost use Rattle.esc_functions.specs.Controls.{changes_screen as control_changes_screen, code_of, control_of, is_answered as control_is_answered};
 ghost use Rattle.esc_functions.specs.Effects.{changes_screen, is_answered};
 ghost use Rattle.esc_functions.specs.EscapeEffects.{changes_screen as escape_changes_screen, is_answered as escape_is_answered};
 ghost use Rattle.esc_functions.specs.Escapes.{function_of as escape_function_of, key_of as escape_key_of};
 ghost use Rattle.esc_functions.specs.Functions.{function_of, key_of};
 ghost use Rattle.esc_functions.specs.Modes.{mode_of, number_of};
 ghost use Rattle.esc_functions.specs.PrivateModes.{mode_of as private_mode_of, number_of as private_number_of};
+ghost use Rattle.esc_functions.specs.declared.c0.C0.{C0};
 ghost use Rattle.esc_functions.specs.declared.mode.Mode.{Mode};
 ghost use Rattle.esc_functions.specs.declared.private_mode.PrivateMode.{PrivateMode};
 ghost use Rattle.esc_functions.specs.declared.control_function.ControlFunction.{ControlFunction};
@@ -45,6 +48,24 @@ pub fn escape_has_its_key()
 #[tactic(auto, using(crate::proofs::Escapes::not_both))]
 pub fn escape_screen_is_not_answered()
     ensures { (f : EscapeFunction) → escape_is_answered f ≡ true → escape_changes_screen f ≡ false }
+{}
+
+/// The code of a C0 control is found, and is that of this control.
+#[tactic(auto, using(crate::proofs::Controls::found_by_code))]
+pub fn control_found()
+    ensures { (c : C0) → control_of (code_of c) ≡ Some c }
+{}
+
+/// What is found by a code has this code.
+#[tactic(auto, using(crate::proofs::Controls::has_its_code))]
+pub fn control_has_its_code()
+    ensures { (n : ℕ) (c : C0) → control_of n ≡ Some c → code_of c ≡ n }
+{}
+
+/// No C0 control that a terminal answers changes the screen alone.
+#[tactic(auto, using(crate::proofs::Controls::not_both))]
+pub fn control_screen_is_not_answered()
+    ensures { (c : C0) → control_is_answered c ≡ true → control_changes_screen c ≡ false }
 {}
 
 /// The number of a mode is found, and is that of this mode.

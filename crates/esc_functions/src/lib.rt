@@ -1,5 +1,5 @@
-//! Control functions by name: tables of what control sequences, escape sequences and C1 controls
-//! ask for, and of modes.
+//! Control functions by name: tables of what controls, control sequences and escape sequences ask
+//! for, and of modes.
 //!
 //! The standards: ECMA-48
 //! (<https://ecma-international.org/publications-and-standards/standards/ecma-48/>), DEC's manual
@@ -13,6 +13,8 @@
 //! parameters, a line and a column.
 #![tactic(auto)]
 
+pub mod c0;
+mod c0_table;
 pub mod control_function;
 mod control_table;
 pub mod effect;
@@ -30,7 +32,9 @@ pub mod private_mode;
 mod private_mode_table;
 pub mod row;
 pub mod standard;
+mod table_macros;
 
+pub use c0::C0;
 pub use control_function::ControlFunction;
 pub use effect::Effect;
 pub use escape_function::EscapeFunction;

@@ -10,12 +10,13 @@ use crate::effect::Effect;
 use crate::find::numbered;
 use crate::mode::Mode;
 use crate::mode_row::ModeRow;
+use crate::table_macros::{mode_names, mode_rows, mode_words};
 
 // A row a line: the mode, its number, whether it changes the screen alone, and what is set and
 // reset. The rows are in the order of the numbers, and in that of `Mode`.
 macro_rules! modes {
     ($each:ident) => {
-        $each![
+        $each![Mode;
             GATM, 1, Other, "transfer of guarded areas";
             KAM, 2, Other, "keyboard lock";
             CRM, 3, Other, "visible controls";
@@ -42,33 +43,11 @@ macro_rules! modes {
     };
 }
 
-macro_rules! rows {
-    ($($f:ident, $number:literal, $effect:ident, $words:literal);+ $(;)?) => {
-        [$(ModeRow {
-            mode: Mode::$f,
-            number: $number,
-            effect: Effect::$effect,
-        }),+]
-    };
-}
+static ROWS: [ModeRow<Mode>; 22] = modes!(mode_rows);
 
-macro_rules! names {
-    ($($f:ident, $number:literal, $effect:ident, $words:literal);+ $(;)?) => {
-        [$(stringify!($f)),+]
-    };
-}
+static NAMES: [&str; 22] = modes!(mode_names);
 
-macro_rules! words {
-    ($($f:ident, $number:literal, $effect:ident, $words:literal);+ $(;)?) => {
-        [$($words),+]
-    };
-}
-
-static ROWS: [ModeRow<Mode>; 22] = modes!(rows);
-
-static NAMES: [&str; 22] = modes!(names);
-
-static WORDS: [&str; 22] = modes!(words);
+static WORDS: [&str; 22] = modes!(mode_words);
 
 impl Mode {
     /// The mode of this number, where it has a name.

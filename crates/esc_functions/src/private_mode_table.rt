@@ -13,12 +13,13 @@ use crate::effect::Effect;
 use crate::find::numbered;
 use crate::mode_row::ModeRow;
 use crate::private_mode::PrivateMode;
+use crate::table_macros::{mode_names, mode_rows, mode_words};
 
 // A row a line: the mode, its number, whether it changes the screen alone, and what is set and
 // reset. The rows are in the order of the numbers, and in that of `PrivateMode`.
 macro_rules! modes {
     ($each:ident) => {
-        $each![
+        $each![PrivateMode;
             DECCKM, 1, Other, "application cursor keys";
             DECANM, 2, Other, "ANSI";
             DECCOLM, 3, Other, "132 columns";
@@ -157,33 +158,11 @@ macro_rules! modes {
     };
 }
 
-macro_rules! rows {
-    ($($f:ident, $number:literal, $effect:ident, $words:literal);+ $(;)?) => {
-        [$(ModeRow {
-            mode: PrivateMode::$f,
-            number: $number,
-            effect: Effect::$effect,
-        }),+]
-    };
-}
+static ROWS: [ModeRow<PrivateMode>; 134] = modes!(mode_rows);
 
-macro_rules! names {
-    ($($f:ident, $number:literal, $effect:ident, $words:literal);+ $(;)?) => {
-        [$(stringify!($f)),+]
-    };
-}
+static NAMES: [&str; 134] = modes!(mode_names);
 
-macro_rules! words {
-    ($($f:ident, $number:literal, $effect:ident, $words:literal);+ $(;)?) => {
-        [$($words),+]
-    };
-}
-
-static ROWS: [ModeRow<PrivateMode>; 134] = modes!(rows);
-
-static NAMES: [&str; 134] = modes!(names);
-
-static WORDS: [&str; 134] = modes!(words);
+static WORDS: [&str; 134] = modes!(mode_words);
 
 impl PrivateMode {
     /// The mode of this number, where it has a name.

@@ -234,6 +234,11 @@ bool escape_stream_function(uint8_t prefix, uint8_t intermediate, uint8_t final,
  */
 bool escape_stream_escape_function(uint8_t intermediate, uint8_t final, struct escape_stream_function *out);
 
+/*
+ * The same of a C0 control, 0x00 to 0x1f, or DEL, 0x7f: its code. 0x0a is "LF", "line feed".
+ */
+bool escape_stream_control_function(uint8_t code, struct escape_stream_function *out);
+
 #ifdef __cplusplus
 }
 #endif

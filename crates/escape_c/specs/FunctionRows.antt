@@ -2,6 +2,8 @@
 use Rattle.std.specs.Prelude.{ℕ, ◌≡◌, Bool, true, false, ◌==◌, if◌then◌else◌, List, [], ◌++◌, take, drop, length, replicate, Option, None, Some}
 use Rattle.esc_functions.specs.declared.control_function.ControlFunction.{ControlFunction}
 use Rattle.esc_functions.specs.declared.escape_function.EscapeFunction.{EscapeFunction}
+use Rattle.esc_functions.specs.declared.c0.C0.{C0}
+use Rattle.esc_functions.specs.Controls.{changes_screen as control_changes_screen, is_answered as control_is_answered, name_of as control_name_of, words_of as control_words_of}
 use Rattle.esc_functions.specs.Effects.{changes_screen, is_answered}
 use Rattle.esc_functions.specs.EscapeEffects.{changes_screen as escape_changes_screen, is_answered as escape_is_answered}
 use Rattle.esc_functions.specs.Escapes.{function_of as escape_function_of, name_of as escape_name_of, sequence_key as escape_sequence_key, words_of as escape_words_of}
@@ -47,3 +49,9 @@ SaysEscape None r there = IsRow r [] [] false false × (there ≡ false)
 SaysEscape (Some f) r there =
     IsRow r (escape_name_of f) (escape_words_of f) (escape_changes_screen f) (escape_is_answered f)
     × (there ≡ true)
+
+abbrev pub SaysControl : Option C0 → FunctionRow → Bool → Type 0
+SaysControl None r there = IsRow r [] [] false false × (there ≡ false)
+SaysControl (Some c) r there =
+    IsRow r (control_name_of c) (control_words_of c) (control_changes_screen c)
+    (control_is_answered c) × (there ≡ true)

@@ -1,9 +1,10 @@
 //! Control functions by name.
 ghost use Rattle.std.specs.Prelude.{◌≡◌};
-ghost use Rattle.escape_c.specs.FunctionRows.{Says, SaysEscape, byte_of, escape_function_with, function_with};
+ghost use Rattle.esc_functions.specs.Controls.{control_of};
+ghost use Rattle.escape_c.specs.FunctionRows.{Says, SaysControl, SaysEscape, byte_of, escape_function_with, function_with};
 
 use crate::function_row::{FunctionRow, note};
-use esc_functions::{ControlFunction, EscapeFunction};
+use esc_functions::{C0, ControlFunction, EscapeFunction};
 
 /// Writes to `out` what the function of a control sequence is, and returns whether it has a name.
 /// Where it has none, `out` is zeros.
@@ -49,6 +50,24 @@ pub extern "C" fn escape_stream_escape_function(
         Some(function) => {
             let (screen, answered) = (function.changes_screen(), function.is_answered());
             note(function.name(), function.words(), screen, answered, out);
+            true
+        }
+        None => {
+            note("", "", false, false, out);
+            false
+        }
+    }
+}
+
+/// The same of a C0 control, 00 to 1F (hexadecimal), or DEL, 7F.
+#[unsafe(no_mangle)]
+pub extern "C" fn escape_stream_control_function(code: u8, out: &mut FunctionRow) -> bool
+    ensures { SaysControl (control_of code) out.new result }
+{
+    match C0::of(code) {
+        Some(control) => {
+            let (screen, answered) = (control.changes_screen(), control.is_answered());
+            note(control.name(), control.words(), screen, answered, out);
             true
         }
         None => {

@@ -5,7 +5,7 @@
 //! goes into the caller's buffer, as much of it as fits, and its whole length into `needed`; so a
 //! caller makes room and calls again. After any status but `DONE` nothing was written. These calls
 //! keep nothing. The filter in pieces is a [`PieceFilter`] of the caller's, with a block after it.
-//! Two further calls write a [`FunctionRow`]: what a sequence asks for, by name.
+//! Three further calls write a [`FunctionRow`]: what a sequence or a control asks for, by name.
 //! `include/escape_stream.h` declares the calls for C.
 #![tactic(auto)]
 
@@ -23,7 +23,9 @@ mod spelled;
 mod state;
 
 pub use filter::escape_stream_filter;
-pub use function::{escape_stream_escape_function, escape_stream_function};
+pub use function::{
+    escape_stream_control_function, escape_stream_escape_function, escape_stream_function,
+};
 pub use function_row::FunctionRow;
 pub use is_normal::escape_stream_is_normal;
 pub use normal::escape_stream_normal;

@@ -2,7 +2,7 @@
 
 use esc_actions::Action;
 use esc_device::DeviceControlMode;
-use esc_functions::{ControlFunction, EscapeFunction};
+use esc_functions::{C0, ControlFunction, EscapeFunction};
 use esc_osc::OperatingSystemCommand as Command;
 use std::alloc::Allocator;
 
@@ -16,42 +16,6 @@ pub struct Name {
     /// Its name in words, as `device status report`.
     pub words: &'static str,
 }
-
-// Controls of C0, 00 to 1F (ECMA-48, 8.3; some of its fourth edition): their names in words.
-static CONTROLS: [&str; 32] = [
-    "null",
-    "start of heading",
-    "start of text",
-    "end of text",
-    "end of transmission",
-    "enquiry",
-    "acknowledge",
-    "bell",
-    "backspace",
-    "tab",
-    "line feed",
-    "line tabulation",
-    "form feed",
-    "carriage return",
-    "shift out",
-    "shift in",
-    "data link escape",
-    "device control one",
-    "device control two",
-    "device control three",
-    "device control four",
-    "negative acknowledge",
-    "synchronous idle",
-    "end of transmission block",
-    "cancel",
-    "end of medium",
-    "substitute",
-    "escape",
-    "file separator",
-    "group separator",
-    "record separator",
-    "unit separator",
-];
 
 // A name of this kind.
 fn named(kind: &'static str, name: &'static str, words: &'static str) -> Name {
@@ -83,10 +47,10 @@ pub fn name_of<A: Allocator>(action: &Action<A>) -> Name {
 
 // The name of a control of C0 or C1.
 fn control_name(code: u8) -> Name {
-    if code < 32 {
-        return named("control", "", CONTROLS[code as usize]);
+    match C0::of(code) {
+        Some(control) => named("control", "", control.words()),
+        None => escape_name("control", EscapeFunction::of_c1(code)),
     }
-    escape_name("control", EscapeFunction::of_c1(code))
 }
 
 // The name of an escape sequence, or of the control of C1 that it is short for.

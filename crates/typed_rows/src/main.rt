@@ -3,10 +3,12 @@
 //! `typed_rows TABLE..` reads each table and prints a line with its name and the count of its rows.
 //! A row is a line `SEQUENCE | VALUE | SPELLING`: what follows `ESC [`; the Debug text of the
 //! value, of renditions those of all, with `, ` between them; and what follows `ESC [` where the
-//! value is written. An escape sequence has the word `ESC` before it, and a space. Of a rendition
-//! that is not known the value is `?`, and of a sequence without a typed value the reason; both
-//! stay as they came. Empty lines, and lines that begin with `#`, are no rows. A row that differs is
-//! printed as the library has it, and the status is 1.
+//! value is written. An escape sequence has the word `ESC` before it, and a space. A control is the
+//! word `C0` or `C1`, a space and its code in hexadecimal; of C0 the value is the name. Of a
+//! rendition that is not known the value is `?`, and of a sequence without a typed value the
+//! reason, and the name of its function where it has one; both stay as they came. Empty lines, and
+//! lines that begin with `#` and a space, are no rows. A row that differs is printed as the library
+//! has it, and the status is 1.
 #![tactic(auto)]
 
 mod sequence;
@@ -29,7 +31,7 @@ fn check(rt: &HostRuntime, table: &str) -> io::Result<usize> {
     let text = fs::read_to_string(rt, table)?;
     let (mut rows, mut differences) = (0usize, 0usize);
     for line in text.as_str().lines() {
-        if line.is_empty() || line.starts_with('#') {
+        if line.is_empty() || line.starts_with("# ") {
             continue;
         }
         rows = rows.saturating_add(1);

@@ -1,5 +1,6 @@
 //! The rows of a table.
 use crate::sequence::Sequence;
+use esc_functions::{C0, ControlFunction, EscapeFunction};
 use esc_typed::{CsiParam, Function, Modes, Renditions, Unfit};
 use std::alloc::{AllocError, Global};
 use std::fmt::{Debug, Display};
@@ -11,30 +12,70 @@ pub fn row_of(alloc: Global, line: &str) -> Result<String, AllocError> {
         Some((text, _)) => text,
         None => line,
     };
-    match text.strip_prefix("ESC ") {
-        Some(rest) => row_with(alloc, text, of_escape(rest.as_bytes())),
-        None => {
-            let sequence = Sequence::read(alloc, text)?;
-            row_with(
-                alloc,
-                text,
-                Function::of_params(&sequence.params, sequence.last),
-            )
-        }
+    if let Some(code) = text.strip_prefix("C0 ") {
+        let name = control_name(C0::of(hexadecimal(code)));
+        return format!(in alloc; "{text} | {name} | {text}");
+    }
+    if let Some(code) = text.strip_prefix("C1 ") {
+        let code = hexadecimal(code);
+        let name = escape_name(EscapeFunction::of_c1(code));
+        return row_with(alloc, text, Function::of_c1(code), name);
+    }
+    if let Some(bytes) = text.strip_prefix("ESC ") {
+        let (intermediate, last) = parts(bytes.as_bytes());
+        let name = escape_name(EscapeFunction::of_bytes(intermediate, last));
+        return row_with(
+            alloc,
+            text,
+            Function::of_escape_bytes(intermediate, last),
+            name,
+        );
+    }
+    let Sequence { params, last } = Sequence::read(alloc, text)?;
+    let name = match ControlFunction::of_csi_params(&params, last) {
+        Some(function) => function.name(),
+        None => "",
+    };
+    row_with(alloc, text, Function::of_params(&params, last), name)
+}
+
+// A number in hexadecimal.
+fn hexadecimal(text: &str) -> u8 {
+    u8::from_str_radix(text, 16).unwrap_or(0)
+}
+
+// The name of a C0 control; none where there is none.
+fn control_name(control: Option<C0>) -> &'static str {
+    match control {
+        Some(control) => control.name(),
+        None => "",
     }
 }
 
-// The value of an escape sequence of these bytes after ESC.
-fn of_escape(bytes: &[u8]) -> Function<'static> {
+// The intermediate of an escape sequence of these bytes after ESC, and its final byte.
+fn parts(bytes: &[u8]) -> (Option<u8>, u8) {
     match bytes {
-        [last] => Function::of_escape_bytes(None, *last),
-        [intermediate, last] => Function::of_escape_bytes(Some(*intermediate), *last),
-        _ => Function::Other(Unfit::Unnamed),
+        [last] => (None, *last),
+        [intermediate, last] => (Some(*intermediate), *last),
+        _ => (None, 0),
     }
 }
 
-// The row of a value.
-fn row_with(alloc: Global, text: &str, function: Function<'_>) -> Result<String, AllocError> {
+// Its name; none where there is none.
+fn escape_name(function: Option<EscapeFunction>) -> &'static str {
+    match function {
+        Some(function) => function.name(),
+        None => "",
+    }
+}
+
+// The row of a value, of the function of this name.
+fn row_with(
+    alloc: Global,
+    text: &str,
+    function: Function<'_>,
+    name: &str,
+) -> Result<String, AllocError> {
     match function {
         Function::Cursor(cursor) => typed(alloc, text, cursor),
         Function::Edit(edit) => typed(alloc, text, edit),
@@ -48,6 +89,7 @@ fn row_with(alloc: Global, text: &str, function: Function<'_>) -> Result<String,
         Function::Mode(change, modes) => changed(alloc, text, change, modes),
         Function::Tabs(change, choices) => changed(alloc, text, change, choices),
         Function::Sgr(renditions) => listed(alloc, text, renditions),
+        Function::Other(Unfit::Untyped) => format!(in alloc; "{text} | Untyped {name} | {text}"),
         Function::Other(unfit) => format!(in alloc; "{text} | {unfit:?} | {text}"),
     }
 }

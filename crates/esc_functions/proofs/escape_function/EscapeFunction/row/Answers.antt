@@ -1,8 +1,8 @@
-use Rattle.esc_functions.proofs.Escapes.{row_has, row_key, row_screen, row_answered}
+use Rattle.esc_functions.proofs.Escapes.{row_function, row_key, row_screen, row_answered}
 use Rattle.esc_functions.proofs.escape_function.EscapeFunction.row.Goals as goal
 
 pub returns-clause-function : goal.returns-clause-function
-returns-clause-function c = rw c.place.ensures.place (row_has c.args.self _)
+returns-clause-function c = rw c.place.ensures.place (row_function c.args.self _)
 
 pub returns-clause-key : goal.returns-clause-key
 returns-clause-key c = rw c.place.ensures.place (row_key c.args.self _)
