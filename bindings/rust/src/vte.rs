@@ -36,10 +36,14 @@
 //! ```
 use crate::{Entry, Event};
 
+pub mod by_byte;
+
 pub use crate::params::{Params, ParamsIter};
 
 const MOST_INTERMEDIATES: usize = 2;
 const MOST_PARTS: usize = 16;
+const MOST_OSC_RAW: usize = 1024;
+const DEFAULT_LIMIT: usize = 1 << 20;
 const BELL: u8 = 0x07;
 
 /// What a program does with what a stream says. By default a call does nothing.
@@ -94,15 +98,18 @@ pub trait Perform {
 }
 
 /// A parser of a stream that comes in pieces. It takes memory when it is made, and none after that.
-pub struct Parser {
+///
+/// The number is the limit of a parser that [`Parser::new_with_size`] makes, and says nothing of any
+/// other: in `vte` too it has no meaning with the feature `std`.
+pub struct Parser<const OSC_RAW_BUF_SIZE: usize = MOST_OSC_RAW> {
     stream: crate::Parser,
     params: Params,
     has_failed: bool,
 }
 
-impl Default for Parser {
-    fn default() -> Parser {
-        Parser::new()
+impl<const OSC_RAW_BUF_SIZE: usize> Default for Parser<OSC_RAW_BUF_SIZE> {
+    fn default() -> Self {
+        Parser::of_limit(DEFAULT_LIMIT)
     }
 }
 
@@ -113,13 +120,32 @@ impl Parser {
     /// taken at once, two bytes for each byte of the limit: most systems give a page of it only when
     /// a string is so long that it is written. [`Parser::with_limit`] takes less.
     pub fn new() -> Parser {
-        Parser::with_limit(1 << 20)
+        Parser::default()
     }
 
     /// A parser at the beginning of a stream that hands out strings of up to `limit` bytes: texts of
     /// operating system commands, and parameter bytes of device control strings. It passes over
     /// longer ones. The data of a device control string has no limit.
     pub fn with_limit(limit: usize) -> Parser {
+        Parser::of_limit(limit)
+    }
+}
+
+impl<const OSC_RAW_BUF_SIZE: usize> Parser<OSC_RAW_BUF_SIZE> {
+    /// A parser at the beginning of a stream that hands out strings of up to `OSC_RAW_BUF_SIZE`
+    /// bytes, as [`Parser::with_limit`] has it. Of a longer command `vte` hands out its beginning.
+    ///
+    /// ```
+    /// let mut parser = escape_stream::vte::Parser::<64>::new_with_size();
+    /// # struct Nothing;
+    /// # impl escape_stream::vte::Perform for Nothing {}
+    /// # parser.advance(&mut Nothing, b"a");
+    /// ```
+    pub fn new_with_size() -> Self {
+        Parser::of_limit(OSC_RAW_BUF_SIZE)
+    }
+
+    fn of_limit(limit: usize) -> Self {
         Parser {
             stream: crate::Parser::with_limit(limit),
             params: Params::default(),

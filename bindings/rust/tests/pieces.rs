@@ -46,7 +46,8 @@ fn in_pieces() {
 
 #[test]
 fn past_the_limit() {
-    let stream = b"\x1b]0;abcdefg\x07a\x1b]0;abcdef\x18\x1b_Gabcdefgh\x1b\\\x1bP1;2;3;4;5qdata\x1b\\";
+    let stream =
+        b"\x1b]0;abcdefg\x07a\x1b]0;abcdef\x18\x1b_Gabcdefgh\x1b\\\x1bP1;2;3;4;5qdata\x1b\\";
     let found = [
         "LimitPassed",
         "'a'",

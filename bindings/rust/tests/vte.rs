@@ -1,7 +1,7 @@
 // SPDX-License-Identifier: MIT
 //! The calls of the module `vte`: those of version 0.15 of the crate of that name, but for the streams
 //! that docs/EMBEDDING.md lists, and however a stream is cut.
-use escape_stream::vte::{Params, Parser, Perform};
+use escape_stream::vte::{Params, Parser, Perform, by_byte};
 
 // The calls, one after another, each in a line.
 #[derive(Default)]
@@ -78,9 +78,19 @@ fn calls<'a>(pieces: impl IntoIterator<Item = &'a [u8]>) -> Vec<String> {
     log.calls
 }
 
-// Whole, in pieces of one byte, and cut once at each place.
+fn calls_by_byte(stream: &[u8]) -> Vec<String> {
+    let mut log = Log::default();
+    let mut parser = by_byte::Parser::new();
+    for byte in stream {
+        parser.advance(&mut log, *byte);
+    }
+    log.calls
+}
+
+// Whole, byte by byte, in pieces of one byte, and cut once at each place.
 fn check(stream: &[u8], told: &[&str]) {
     assert_eq!(calls([stream]), told, "{}", bytes(stream));
+    assert_eq!(calls_by_byte(stream), told, "{}", bytes(stream));
     assert_eq!(calls(stream.chunks(1)), told, "{}", bytes(stream));
     for cut in 0..=stream.len() {
         let (front, back) = stream.split_at(cut);
@@ -244,10 +254,15 @@ fn long_strings() {
     assert_eq!(log.calls[..3], ["osc 0|ab bell", "esc \\", "hook [1234]q"]);
     assert_eq!(log.calls[11..], ["unhook", "execute 18"]);
 
+    let mut log = Log::default();
+    let mut parser = Parser::<4>::new_with_size();
+    parser.advance(&mut log, b"\x1b]0;ab\x07\x1b]0;abc\x07");
+    assert_eq!(log.calls, ["osc 0|ab bell"]);
+
     for (length, count) in [(1_048_576, 1), (1_048_577, 0)] {
         let mut log = Log::default();
         let text = [&b"52;c;"[..], &vec![b'a'; length - 5]].concat();
-        Parser::default().advance(&mut log, &[b"\x1b]", &text[..], b"\x07"].concat());
+        Parser::new().advance(&mut log, &[b"\x1b]", &text[..], b"\x07"].concat());
         assert_eq!(log.calls.len(), count);
     }
 }
