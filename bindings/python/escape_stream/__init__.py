@@ -1,0 +1,60 @@
+# SPDX-License-Identifier: MIT
+"""Streams of terminal escape sequences: a filter for streams of unknown origin, the normal form, and a parser.
+
+A stream is bytes as a program writes them to a terminal. Any bytes are a stream.
+
+>>> import escape_stream
+>>> escape_stream.filter(b"a\\x1b]0;a title\\x07 \\x1b[1;31mred", escape_stream.Policy.COLOR)
+b'a \\x1b[1;31mred'
+>>> for event in escape_stream.events([b"caf\\xc3", b"\\xa9\\x1b[2;5H"]):
+...     print(event)
+Text(text='caf')
+Text(text='é')
+Csi(prefix='', parameters=((2,), (5,)), intermediates='', final='H', has_more=False)
+
+The work is done by a library that is proved: what each call writes is what its contract says, for every stream. This package is
+not proved.
+"""
+
+from escape_stream._events import (
+    Apc,
+    Control,
+    Csi,
+    Data,
+    Dcs,
+    DcsEnd,
+    Escape,
+    Event,
+    LimitPassed,
+    Osc,
+    Text,
+)
+from escape_stream._filter import Filter
+from escape_stream._functions import Function, function
+from escape_stream._parser import Parser, events, joined
+from escape_stream._whole import DEFAULT_LIMIT, Policy, filter, is_normal, normal
+
+__all__ = [
+    "DEFAULT_LIMIT",
+    "Apc",
+    "Control",
+    "Csi",
+    "Data",
+    "Dcs",
+    "DcsEnd",
+    "Escape",
+    "Event",
+    "Filter",
+    "Function",
+    "LimitPassed",
+    "Osc",
+    "Parser",
+    "Policy",
+    "Text",
+    "events",
+    "filter",
+    "function",
+    "is_normal",
+    "joined",
+    "normal",
+]

@@ -1,0 +1,54 @@
+# SPDX-License-Identifier: MIT
+"""Control functions by name."""
+
+from ctypes import byref
+from dataclasses import dataclass
+
+from escape_stream import _library
+from escape_stream._events import Control, Csi, Escape
+
+
+@dataclass(frozen=True, slots=True)
+class Function:
+    """What a sequence asks for: a row of docs/FUNCTIONS.md."""
+
+    name: str
+    """Its name, as the standards abbreviate it, such as `CUP`."""
+    phrase: str
+    """What it does, in words, such as `cursor position`."""
+    changes_screen: bool
+    """Whether it changes the screen alone, with whatever parameters."""
+    is_answered: bool
+    """Whether a terminal answers it, with some of its parameters or with all."""
+
+
+def function(event: Csi | Escape | Control) -> Function | None:
+    """Returns the function of a control sequence, an escape sequence or a C1 control, where it has a name.
+
+    >>> from escape_stream import Csi, function
+    >>> function(Csi("", ((2,), (5,)), "", "H")).phrase
+    'cursor position'
+    """
+    row = _library.RawFunction()
+    if isinstance(event, Csi):
+        marks = (event.prefix, event.intermediates)
+        if event.has_more or max(map(len, marks)) > 1:
+            return None
+        numbers = [it for group in event.parameters for it in group]
+        # Parameters, and the separators between them.
+        count = sum(it is not None for it in numbers) + max(len(numbers) - 1, 0)
+        found = _library.control_function(*map(_byte, marks), ord(event.final), count, byref(row))
+    elif isinstance(event, Escape):
+        if event.has_more or len(event.intermediates) > 1:
+            return None
+        found = _library.escape_function(_byte(event.intermediates), ord(event.final), byref(row))
+    else:
+        # ECMA-48, 5.3: a C1 control has the function of ESC and the byte 40 (hexadecimal) less.
+        found = 0x80 <= event.byte < 0xA0 and _library.escape_function(0, event.byte - 0x40, byref(row))
+    if not found:
+        return None
+    return Function(row.name.decode(), row.phrase.decode(), row.changes_screen, row.is_answered)
+
+
+def _byte(mark: str) -> int:
+    return ord(mark) if mark else 0

@@ -1,0 +1,156 @@
+# SPDX-License-Identifier: MIT
+"""The calls of the proved library, as escape_stream.h and escape_stream_parser.h declare them.
+
+The declarations are written by hand. Each text that a caller gives is `bytes`, which nobody writes during a call, and whose
+pointer is never null; an object that a call writes is of this package alone.
+"""
+
+import ctypes
+from ctypes import POINTER, Structure, c_bool, c_char_p, c_int64, c_size_t, c_ubyte, c_uint32, c_uint64, c_void_p
+from pathlib import Path
+
+DONE, NO_MEMORY, UNKNOWN_POLICY, NOT_BEGUN = range(4)
+
+NONE, TEXT, CHARACTER, CONTROL, ESCAPE, CSI, OSC = range(7)
+DCS, DATA, DATA_BYTE, DCS_END, APC, FAILED, LIMIT = range(7, 14)
+
+MOST_ENTRIES = 256
+
+
+class RawFilter(Structure):
+    """`struct escape_stream_filter`."""
+
+    _fields_ = [("is_begun", c_bool), ("state", c_void_p)]
+
+
+class RawEntry(Structure):
+    """`struct escape_stream_entry`."""
+
+    _fields_ = [("number", c_int64), ("byte", c_ubyte), ("is_byte", c_bool)]
+
+
+class RawEvent(Structure):
+    """`struct escape_stream_event`."""
+
+    _fields_ = [
+        ("kind", c_uint32),
+        ("byte", c_uint32),
+        ("start", c_size_t),
+        ("length", c_size_t),
+        ("intermediates", c_ubyte * 2),
+        ("kept", c_size_t),
+        ("has_more", c_bool),
+        ("count", c_size_t),
+        ("entries", RawEntry * MOST_ENTRIES),
+    ]
+
+
+class RawParser(Structure):
+    """`struct escape_stream_parser`."""
+
+    _fields_ = [
+        ("state", c_uint32),
+        ("pending", c_uint32),
+        ("first", c_ubyte),
+        ("second", c_ubyte),
+        ("third", c_ubyte),
+        ("intermediates", c_ubyte * 2),
+        ("kept", c_size_t),
+        ("has_more", c_bool),
+        ("form", c_uint32),
+        ("count", c_size_t),
+        ("entries", RawEntry * MOST_ENTRIES),
+        ("is_truncated", c_bool),
+        ("is_open", c_bool),
+        ("number", c_uint64),
+        ("text", c_size_t),
+        ("is_over", c_bool),
+        ("due_kind", c_uint32),
+        ("due_value", c_uint32),
+        ("has_failed", c_bool),
+    ]
+
+
+class RawFunction(Structure):
+    """`struct escape_stream_function`."""
+
+    _fields_ = [
+        ("name", ctypes.c_char * 16),
+        ("phrase", ctypes.c_char * 80),
+        ("changes_screen", c_bool),
+        ("is_answered", c_bool),
+    ]
+
+
+_PLACE = str(Path(__file__).parent / "libescape_stream.so")
+# The calls that take a whole stream, or a piece of any length, let other threads run meanwhile.
+_long = ctypes.CDLL(_PLACE)
+# The others do not, so of one parser no two run at the same time.
+_short = ctypes.PyDLL(_PLACE)
+
+_length = (c_char_p, c_size_t)
+_room = (POINTER(c_ubyte), c_size_t)
+
+normal = _long.escape_stream_normal
+normal.argtypes = (*_length, *_room, POINTER(c_size_t))
+normal.restype = c_uint32
+
+is_normal = _long.escape_stream_is_normal
+is_normal.argtypes = (*_length, POINTER(c_bool))
+is_normal.restype = c_uint32
+
+filter_whole = _long.escape_stream_filter
+filter_whole.argtypes = (c_uint32, c_size_t, *_length, *_room, POINTER(c_size_t))
+filter_whole.restype = c_uint32
+
+filter_begin = _short.escape_stream_filter_begin
+filter_begin.argtypes = (POINTER(RawFilter), c_uint32, c_size_t)
+filter_begin.restype = c_uint32
+
+filter_feed = _long.escape_stream_filter_feed
+filter_feed.argtypes = (POINTER(RawFilter), *_length)
+filter_feed.restype = c_uint32
+
+filter_text = _short.escape_stream_filter_text
+filter_text.argtypes = (POINTER(RawFilter), c_size_t, *_room)
+filter_text.restype = c_size_t
+
+filter_end = _short.escape_stream_filter_end
+filter_end.argtypes = (POINTER(RawFilter),)
+filter_end.restype = None
+
+begin = _short.escape_stream_begin
+begin.argtypes = (POINTER(RawParser),)
+begin.restype = None
+
+next_event = _short.escape_stream_next
+next_event.argtypes = (POINTER(RawParser), *_room, c_void_p, c_size_t, POINTER(RawEvent))
+next_event.restype = c_size_t
+
+control_function = _short.escape_stream_function
+control_function.argtypes = (c_ubyte, c_ubyte, c_ubyte, c_size_t, POINTER(RawFunction))
+control_function.restype = c_bool
+
+escape_function = _short.escape_stream_escape_function
+escape_function.argtypes = (c_ubyte, c_ubyte, POINTER(RawFunction))
+escape_function.restype = c_bool
+
+
+def done(status: int) -> None:
+    """Raises what a status says, where the call was not done."""
+    if status == NO_MEMORY:
+        raise MemoryError("escape_stream: a request for memory was refused")
+    if status != DONE:
+        raise RuntimeError(f"escape_stream: status {status}")
+
+
+def bytes_of(stream: bytes) -> bytes:
+    """Returns the bytes of what has bytes: of `bytes` itself no copy."""
+    return stream if type(stream) is bytes else bytes(memoryview(stream))
+
+
+def limit_of(limit: int) -> int:
+    """Returns a limit, where the library can take it."""
+    if not 0 <= limit < 1 << 62:
+        raise ValueError(f"a limit is a number of bytes, and {limit} is none")
+    return limit

@@ -1,0 +1,128 @@
+# SPDX-License-Identifier: MIT
+"""A parser of a stream that comes in pieces."""
+
+import ctypes
+from collections.abc import Iterable, Iterator
+from ctypes import byref, c_ubyte
+from itertools import groupby
+
+from escape_stream import _library
+from escape_stream._events import Apc, Control, Csi, Data, Dcs, DcsEnd, Escape, Event, LimitPassed, Osc, Text
+from escape_stream._library import RawEvent, RawParser
+from escape_stream._whole import DEFAULT_LIMIT
+
+_PIECE = 65_536
+
+
+class Parser:
+    """A parser of a stream that comes in pieces. It takes memory when it is made: two bytes for each of its limit."""
+
+    def __init__(self, limit: int = DEFAULT_LIMIT) -> None:
+        """Begins a stream. `limit` is how many bytes a string may have that is handed out."""
+        self._raw = RawParser()
+        self._event = RawEvent()
+        self._size = 2 * _library.limit_of(limit)
+        self._buffer = (c_ubyte * self._size)()
+        _library.begin(byref(self._raw))
+
+    def feed(self, piece: bytes) -> list[Event]:
+        """Takes the next piece of the stream, and returns the events that it adds.
+
+        However a stream is cut, its events are the same, but that a run of text or data may come in several: `joined` joins them.
+        """
+        piece = _library.bytes_of(piece)
+        start = ctypes.cast(ctypes.c_char_p(piece), ctypes.c_void_p).value or 0
+        raw, event, room = byref(self._raw), byref(self._event), (self._buffer, self._size)
+        found: list[Event] = []
+        at = 0
+        while True:
+            taken = _library.next_event(raw, *room, start + at, len(piece) - at, event)
+            if self._event.kind == _library.NONE:
+                return found
+            found.append(self._noted(piece, at))
+            at += taken
+
+    def _noted(self, piece: bytes, at: int) -> Event:
+        """Returns the event of a call that was given the bytes of the piece from a place on."""
+        event = self._event
+        kind, byte = event.kind, event.byte
+        if kind == _library.TEXT:
+            return Text(piece[at + event.start :][: event.length].decode())
+        if kind == _library.CHARACTER:
+            return Text(chr(byte))
+        if kind == _library.CONTROL:
+            return Control(byte)
+        if kind == _library.ESCAPE:
+            return Escape(self._intermediates(), chr(byte), event.has_more)
+        if kind == _library.CSI:
+            return _control_sequence(event)
+        if kind == _library.OSC:
+            return Osc(self._string())
+        if kind == _library.DCS:
+            return Dcs(self._string(), self._intermediates(), chr(byte), event.has_more)
+        if kind == _library.DATA:
+            return Data(piece[at + event.start :][: event.length])
+        if kind == _library.DATA_BYTE:
+            return Data(bytes([byte]))
+        if kind == _library.DCS_END:
+            return DcsEnd()
+        if kind == _library.APC:
+            return Apc(self._string())
+        if kind == _library.LIMIT:
+            return LimitPassed()
+        raise RuntimeError("the parser failed: something else wrote its memory")
+
+    def _intermediates(self) -> str:
+        return bytes(self._event.intermediates[: self._event.kept]).decode("ascii")
+
+    def _string(self) -> bytes:
+        """Returns a text in the upper half of the buffer."""
+        half = self._size // 2
+        return bytes(memoryview(self._buffer)[half : half + self._event.length])
+
+
+def _control_sequence(event: RawEvent) -> Csi:
+    """Returns the control sequence that an event notes."""
+    prefix, intermediates, number = "", "", None
+    groups: list[tuple[int | None, ...]] = []
+    group: list[int | None] = []
+    has_parameters = False
+    for entry in event.entries[: event.count]:
+        byte = chr(entry.byte)
+        if not entry.is_byte:
+            number, has_parameters = entry.number, True
+        elif byte in ";:":
+            group.append(number)
+            number, has_parameters = None, True
+            if byte == ";":
+                groups.append(tuple(group))
+                group = []
+        elif byte in "<=>?":
+            prefix += byte
+        else:
+            intermediates += byte
+    if has_parameters:
+        groups.append((*group, number))
+    return Csi(prefix, tuple(groups), intermediates, chr(event.byte), event.has_more)
+
+
+def events(stream: bytes | Iterable[bytes], limit: int = DEFAULT_LIMIT) -> Iterator[Event]:
+    """Yields the events of a stream: of bytes, or of pieces as they come, such as those of `iter(lambda: file.read(65536), b"")`.
+
+    What is unfinished at its end adds nothing.
+    """
+    parser = Parser(limit)
+    for piece in [stream] if isinstance(stream, bytes | bytearray | memoryview) else stream:
+        for at in range(0, len(piece), _PIECE):
+            yield from parser.feed(piece[at : at + _PIECE])
+
+
+def joined(found: Iterable[Event]) -> Iterator[Event]:
+    """Yields the events with each run of text, and of data, as one: the same however the stream was cut."""
+    for kind, run in groupby(found, type):
+        if kind is Text:
+            yield Text("".join(it.text for it in run if isinstance(it, Text)))
+        elif kind is Data:
+            yield Data(b"".join(it.data for it in run if isinstance(it, Data)))
+        else:
+            yield from run

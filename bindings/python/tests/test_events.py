@@ -1,0 +1,77 @@
+# SPDX-License-Identifier: MIT
+"""The events of streams, by ECMA-48 and docs/DEFINITIONS.md, in pieces of every size."""
+
+import pytest
+from rows import cuts
+
+from escape_stream import Apc, Control, Csi, Data, Dcs, DcsEnd, Escape, Event, LimitPassed, Osc, Parser, Text, events, joined
+
+ST = Escape("", "\\")
+MOST = 2**63 - 1
+
+STREAMS: list[tuple[bytes, list[Event]]] = [
+    (b"", []),
+    (b"a\r\n~", [Text("a"), Control(0x0D), Control(0x0A), Text("~")]),
+    ("é€🚀".encode(), [Text("é€🚀")]),
+    (b"a\xef\xbcb\xff", [Text("a\ufffdb\ufffd")]),
+    (b"\x85\xc2\x84", [Control(0x85), Control(0x84)]),
+    (b"\x1b7\x1b(B\x1b $%&x", [Escape("", "7"), Escape("(", "B"), Escape(" $", "x", has_more=True)]),
+    (b"\x1b[m", [Csi("", (), "", "m")]),
+    (b"\x1b[0;31m", [Csi("", ((0,), (31,)), "", "m")]),
+    (b"\x1b[;H", [Csi("", ((None,), (None,)), "", "H")]),
+    (b"\x1b[38:2::1:2:3;1m", [Csi("", ((38, 2, None, 1, 2, 3), (1,)), "", "m")]),
+    (b"\x9b?25h\xc2\x9b?25l", [Csi("?", ((25,),), "", "h"), Csi("?", ((25,),), "", "l")]),
+    (b"\x1b[2 q\x1b[>c\x1b[!p", [Csi("", ((2,),), " ", "q"), Csi(">", (), "", "c"), Csi("", (), "!", "p")]),
+    (b"\x1b[99999999999999999999A", [Csi("", ((MOST,),), "", "A")]),
+    (b"\x1b]0;a\xc3\xa9\x07b", [Osc(b"0;a\xc3\xa9"), Text("b")]),
+    (b"\x1b]\x1b\\", [Osc(b""), ST]),
+    (b"\x1bP1;;2$qab\x1b\\", [Dcs(b"1;;2", "$", "q"), Data(b"ab"), DcsEnd(), ST]),
+    (b"\x1bP>q\xff\x9c", [Dcs(b"", ">", "q"), Data(b"\xff"), DcsEnd()]),
+    (b"\x1b_Ga=q\x1b\\\x1b^x\x1b\\", [Apc(b"Ga=q"), ST, ST]),
+    (b"\x1b[3\x18m\x1b]2;a", [Control(0x18), Text("m")]),
+]
+
+
+@pytest.mark.parametrize(("stream", "wanted"), STREAMS)
+def test_streams(stream: bytes, wanted: list[Event]) -> None:
+    for pieces in cuts(stream):
+        assert list(joined(events(pieces))) == wanted, pieces
+    assert list(joined(events(bytearray(stream)))) == wanted
+    assert list(joined(events(memoryview(stream)))) == wanted
+
+
+def test_more_entries_than_are_kept() -> None:
+    (whole,), (cut,) = (list(events(b"\x1b[" + b"1;" * count + b"m")) for count in (127, 200))
+    assert isinstance(whole, Csi) and not whole.has_more and len(whole.parameters) == 128
+    assert isinstance(cut, Csi) and cut.has_more
+
+
+def test_limits() -> None:
+    stream = b"\x1b]0;ab\x07\x1b]0;abc\x07c\x1bP12345qdata\x1b\\"
+    wanted = [Osc(b"0;ab"), LimitPassed(), Text("c"), LimitPassed(), ST]
+    for pieces in cuts(stream):
+        assert list(joined(events(pieces, limit=4))) == wanted, pieces
+    assert list(events(b"\x1b]\x07\x1b]a\x07", limit=0)) == [Osc(b""), LimitPassed()]
+    for limit in (-1, 1 << 62):
+        with pytest.raises(ValueError, match="limit"):
+            Parser(limit)
+
+
+def test_long_streams() -> None:
+    stream = b"text \x1b[1mbold\x1b[m\n" * 20_000
+    found = list(joined(events(stream)))
+    assert len(found) == 100_000 and found[:5] * 20_000 == found
+
+
+def test_numbers() -> None:
+    csi = Csi("", ((2,), (None, 5), (0,)), "", "H")
+    assert [csi.number(it, 1) for it in range(-1, 4)] == [1, 2, 1, 0, 1]
+    assert Dcs(b"", "", "q").numbers == ()
+    assert Dcs(b"1;;003;" + b"9" * 5000, "", "q").numbers == (1, None, 3, MOST)
+    assert Osc(b"8;;http://e.com").parts == [b"8", b"", b"http://e.com"]
+
+
+def test_what_is_no_stream() -> None:
+    for wrong in (5, "text"):
+        with pytest.raises(TypeError):
+            Parser().feed(wrong)  # type: ignore[arg-type]

@@ -1,0 +1,64 @@
+# SPDX-License-Identifier: MIT
+"""Finds each function of docs/FUNCTIONS.md under its name."""
+
+import re
+
+from rows import TOP
+
+from escape_stream import Control, Csi, Escape, events, function
+
+EFFECTS = {"screen": (True, False), "answered": (False, True), "report": (False, False), "other": (False, False)}
+
+
+def rows(opener: str) -> list[list[str]]:
+    """Returns the rows of the page whose sequence begins with this, cell by cell."""
+    page = (TOP / "docs/FUNCTIONS.md").read_text()
+    lines = [line.split(" | ") for line in page.splitlines() if line.startswith(f"| `{opener} ")]
+    return [[re.sub(r"^\| |^`|`$| \|$", "", it).replace("\\|", "|").strip("`") for it in line] for line in lines]
+
+
+def control_sequence(words: str, parameters: str) -> bytes:
+    """Returns a control sequence: `..` are as many parameters as are named, `SP` is a space, and any other word is itself."""
+    spelled = {"CSI": "", "SP": " ", "..": ";".join("1" for _ in parameters.split(";"))}
+    return "".join(["\x1b[", *(spelled.get(it, it) for it in words.split())]).encode()
+
+
+def escape_sequence(words: str) -> bytes:
+    """Returns an escape sequence: `..` is any final byte, `SP` is a space, and any other word is itself."""
+    spelled = {"ESC": "", "SP": " ", "..": "B"}
+    return "".join(["\x1b", *(spelled.get(it, it) for it in words.split())]).encode()
+
+
+def check(stream: bytes, name: str, phrase: str, effect: str) -> None:
+    (found,) = events(stream)
+    assert isinstance(found, Csi | Escape)
+    said = function(found)
+    assert said is not None, stream
+    assert (said.name, said.phrase, said.changes_screen, said.is_answered) == (name, phrase, *EFFECTS[effect])
+
+
+def test_control_sequences() -> None:
+    table = rows("CSI")
+    for sequence, name, phrase, parameters, effect, _ in table:
+        check(control_sequence(sequence, parameters), name, phrase, effect)
+    assert len(table) > 150
+
+
+def test_escape_sequences() -> None:
+    # Those that open a string are no events of their own.
+    table = [row for row in rows("ESC") if row[2] not in ("DCS", "SOS", "CSI", "OSC", "PM", "APC")]
+    for sequence, _, name, phrase, effect, _ in table:
+        check(escape_sequence(sequence), name, phrase, effect)
+    assert len(table) > 50
+
+
+def test_no_function() -> None:
+    for stream in (b"\x1b[<>1z", b"\x1b[1  x", b"\x1b[?1;2z", b"\x1b %&x", b"\x1b[" + b"1;" * 200 + b"m"):
+        for found in events(stream):
+            assert isinstance(found, Csi | Escape) and function(found) is None, stream
+
+
+def test_c1_controls() -> None:
+    assert [function(Control(it)) for it in (0x07, 0x7F, 0xA0)] == [None] * 3
+    said = function(Control(0x84))
+    assert said is not None and said == function(Escape("", "D")) and said.name == "IND"

@@ -1,0 +1,75 @@
+# SPDX-License-Identifier: MIT
+"""The calls against the tables of streams, whole and in pieces of every size up to 40 bytes."""
+
+from rows import cuts, rows
+
+from escape_stream import Filter, Policy, events, filter, is_normal, joined, normal
+
+POLICIES = {"as-text": Policy.TEXT, "as-color": Policy.COLOR, "as-screen": Policy.SCREEN, "as-all": Policy.ALL}
+# Of longer streams the pieces are of one byte, and not of every size.
+EACH_SIZE_UP_TO = 2000
+
+
+def pieces_of(stream: bytes) -> list[list[bytes]]:
+    """Returns the ways to cut a stream that are tried."""
+    if len(stream) > EACH_SIZE_UP_TO:
+        return [[stream], [stream[at : at + 4096] for at in range(0, len(stream), 4096)]]
+    return list(cuts(stream))
+
+
+def test_normal_forms() -> None:
+    count = 0
+    for row in rows():
+        stream = row.bytes("stream")
+        if stream is None or row.bytes("limit") is not None or row.bytes("as-text") is not None:
+            continue
+        text = row.bytes("text")
+        text = stream if text is None else text
+        assert normal(stream) == text, row.name
+        assert is_normal(stream) == (text == stream), row.name
+        count += 1
+    assert count > 300
+
+
+def test_what_policies_admit() -> None:
+    count = 0
+    for row in rows():
+        stream, text = row.bytes("stream"), row.bytes("as-text")
+        if stream is None or text is None:
+            continue
+        for word, policy in POLICIES.items():
+            said = row.bytes(word)
+            text = text if said is None else said
+            assert filter(stream, policy) == text, (row.name, word)
+            for pieces in pieces_of(stream):
+                with Filter(policy) as it:
+                    assert b"".join(map(it.feed, pieces)) == text, (row.name, word, len(pieces))
+        count += 1
+    assert count > 30
+
+
+def test_limits() -> None:
+    count = 0
+    for row in rows():
+        stream, limit, text = (row.bytes(it) for it in ("stream", "limit", "text"))
+        if stream is None or limit is None or text is None:
+            continue
+        assert filter(stream, Policy.ALL, int(limit)) == text, row.name
+        for pieces in pieces_of(stream):
+            with Filter(Policy.ALL, int(limit)) as it:
+                assert b"".join(map(it.feed, pieces)) == text, (row.name, len(pieces))
+        count += 1
+    assert count > 10
+
+
+def test_events_however_a_stream_is_cut() -> None:
+    count = 0
+    for row in rows():
+        stream = row.bytes("stream")
+        if stream is None or len(stream) > EACH_SIZE_UP_TO:
+            continue
+        whole = list(joined(events(stream)))
+        for pieces in cuts(stream):
+            assert list(joined(events(pieces))) == whole, (row.name, len(pieces))
+        count += 1
+    assert count > 300
