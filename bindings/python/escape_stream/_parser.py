@@ -47,7 +47,7 @@ class Parser:
         event = self._event
         kind, byte = event.kind, event.byte
         if kind == _library.TEXT:
-            return Text(piece[at + event.start :][: event.length].decode())
+            return Text(self._run(piece, at).decode())
         if kind == _library.CHARACTER:
             return Text(chr(byte))
         if kind == _library.CONTROL:
@@ -61,7 +61,7 @@ class Parser:
         if kind == _library.DCS:
             return Dcs(self._string(), self._intermediates(), chr(byte), event.has_more)
         if kind == _library.DATA:
-            return Data(piece[at + event.start :][: event.length])
+            return Data(self._run(piece, at))
         if kind == _library.DATA_BYTE:
             return Data(bytes([byte]))
         if kind == _library.DCS_END:
@@ -74,6 +74,11 @@ class Parser:
 
     def _intermediates(self) -> str:
         return bytes(self._event.intermediates[: self._event.kept]).decode("ascii")
+
+    def _run(self, piece: bytes, at: int) -> bytes:
+        """Returns a run in the bytes of a call that began at this place of the piece."""
+        start = at + self._event.start
+        return piece[start : start + self._event.length]
 
     def _string(self) -> bytes:
         """Returns a text in the upper half of the buffer."""

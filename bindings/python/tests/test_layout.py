@@ -1,0 +1,52 @@
+# SPDX-License-Identifier: MIT
+"""The declarations of the package against the headers, as a C compiler reads them: sizes, and the place of each field."""
+
+import ctypes
+import os
+import shutil
+import subprocess
+from pathlib import Path
+
+import pytest
+from rows import TOP
+
+from escape_stream import Policy, _library
+
+STRUCTS: dict[str, type[ctypes.Structure]] = {
+    "escape_stream_filter": _library.RawFilter,
+    "escape_stream_entry": _library.RawEntry,
+    "escape_stream_event": _library.RawEvent,
+    "escape_stream_parser": _library.RawParser,
+    "escape_stream_function": _library.RawFunction,
+}
+STATUSES = ("DONE", "NO_MEMORY", "UNKNOWN_POLICY", "NOT_BEGUN")
+KINDS = "NONE TEXT CHARACTER CONTROL ESCAPE CSI OSC DCS DATA DATA_BYTE DCS_END APC FAILED LIMIT".split()
+HEADERS = [TOP / "crates/escape_c/include", TOP / "crates/stream_c/include"]
+
+
+def declared() -> dict[str, int]:
+    """Returns the size of each struct, the place of each field and each number, as the package has them."""
+    found = {}
+    for name, struct in STRUCTS.items():
+        found[f"sizeof(struct {name})"] = ctypes.sizeof(struct)
+        for field in struct._fields_:
+            found[f"offsetof(struct {name}, {field[0]})"] = getattr(struct, field[0]).offset
+    for word in (*STATUSES, *KINDS):
+        found[f"ESCAPE_STREAM_{word}"] = getattr(_library, word)
+    for policy in Policy:
+        found[f"ESCAPE_STREAM_POLICY_{policy.name}"] = policy
+    return found
+
+
+def test_layout(tmp_path: Path) -> None:
+    compiler = os.environ.get("CC") or "cc"
+    if not shutil.which(compiler):
+        pytest.skip("no C compiler")
+    wanted = declared()
+    lines = [f'printf("%zu\\n", (size_t){it});' for it in wanted]
+    includes = '#include "escape_stream.h"\n#include "escape_stream_parser.h"\n#include <stdio.h>\n'
+    (tmp_path / "layout.c").write_text(f"{includes}int main(void) {{ {' '.join(lines)} return 0; }}\n")
+    words = [compiler, *(f"-I{it}" for it in HEADERS), str(tmp_path / "layout.c"), "-o", str(tmp_path / "layout")]
+    subprocess.run(words, check=True)
+    said = subprocess.run([tmp_path / "layout"], check=True, capture_output=True, text=True).stdout
+    assert dict(zip(wanted, map(int, said.split()))) == wanted
