@@ -8,7 +8,7 @@ use std::path::{Path, PathBuf};
 use std::process;
 
 fn main() {
-    println!("cargo::rerun-if-env-changed=ESCAPE_STREAM_LIB");
+    println!("cargo:rerun-if-env-changed=ESCAPE_STREAM_LIB");
     let mut names = vec!["stream_c"];
     if env::var_os("CARGO_FEATURE_ONESHOT").is_some() {
         names.extend(["escape_c", "libc_c"]);
@@ -18,19 +18,19 @@ fn main() {
     let Some(folder) = named.or_else(beside) else {
         let archives = archives.collect::<Vec<_>>().join(", ");
         println!(
-            "cargo::warning=to link it, set ESCAPE_STREAM_LIB to the folder that has {archives}"
+            "cargo:warning=to link it, set ESCAPE_STREAM_LIB to the folder that has {archives}"
         );
         return;
     };
-    println!("cargo::rustc-link-search=native={}", folder.display());
+    println!("cargo:rustc-link-search=native={}", folder.display());
     for (name, archive) in names.iter().zip(archives) {
         let archive = folder.join(archive);
         if !archive.is_file() {
             eprintln!("escape-stream: {} is not there", archive.display());
             process::exit(1);
         }
-        println!("cargo::rerun-if-changed={}", archive.display());
-        println!("cargo::rustc-link-lib=static={name}");
+        println!("cargo:rerun-if-changed={}", archive.display());
+        println!("cargo:rustc-link-lib=static={name}");
     }
 }
 

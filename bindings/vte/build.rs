@@ -6,11 +6,11 @@ use std::path::{Path, PathBuf};
 use std::process;
 
 fn main() {
-    println!("cargo::rerun-if-env-changed=VTE_SOURCE");
-    println!("cargo::rustc-check-cfg=cfg(by_byte)");
+    println!("cargo:rerun-if-env-changed=VTE_SOURCE");
+    println!("cargo:rustc-check-cfg=cfg(by_byte)");
     let minor = named("CARGO_PKG_VERSION_MINOR").parse::<u32>();
     if minor.is_ok_and(|it| it < 14) {
-        println!("cargo::rustc-cfg=by_byte");
+        println!("cargo:rustc-cfg=by_byte");
     }
     if env::var_os("CARGO_FEATURE_ANSI").is_none() {
         return;
@@ -24,7 +24,7 @@ fn main() {
         );
         process::exit(1);
     }
-    println!("cargo::rerun-if-changed={}", module.display());
+    println!("cargo:rerun-if-changed={}", module.display());
     let text = format!("#[path = {module:?}]\npub mod ansi;\n");
     let file = Path::new(&named("OUT_DIR")).join("ansi.rs");
     if let Err(error) = fs::write(&file, text) {

@@ -44,7 +44,7 @@ fn main() -> io::Result<()> {
         let act = |event: Event<'_>| text += &passing(event).unwrap_or_default();
         parser
             .advance(&bytes[..length], act)
-            .map_err(io::Error::other)?;
+            .map_err(|error| io::Error::new(io::ErrorKind::Other, error))?;
         output.write_all(text.as_bytes())?;
     }
 }

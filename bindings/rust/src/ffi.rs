@@ -12,7 +12,7 @@
 use crate::{Error, Policy};
 
 #[cfg(feature = "oneshot")]
-unsafe extern "C" {
+extern "C" {
     fn escape_stream_normal(
         bytes: *const u8,
         length: usize,
@@ -41,7 +41,7 @@ unsafe extern "C" {
     fn escape_stream_filter_end(filter: *mut Filter);
 }
 
-unsafe extern "C" {
+extern "C" {
     fn escape_stream_begin(parser: *mut Parser);
     fn escape_stream_next(
         parser: *mut Parser,
@@ -298,5 +298,5 @@ pub fn next(parser: &mut Parser, buffer: &mut [u8], bytes: &[u8], event: &mut Ev
 pub fn text<'a>(event: &Event, bytes: &'a [u8]) -> &'a str {
     let run = &bytes[event.start..][..event.length];
     // SAFETY: clause `utf8` says so of the place in the bytes of that call.
-    unsafe { str::from_utf8_unchecked(run) }
+    unsafe { core::str::from_utf8_unchecked(run) }
 }

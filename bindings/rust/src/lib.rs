@@ -31,7 +31,7 @@
 #![warn(missing_docs)]
 
 extern crate alloc;
-#[cfg(all(feature = "oneshot", feature = "std"))]
+#[cfg(feature = "std")]
 extern crate std;
 
 #[allow(unsafe_code)]
@@ -42,6 +42,7 @@ mod function;
 mod function_rows;
 #[cfg(feature = "oneshot")]
 mod oneshot;
+mod parameters;
 mod params;
 mod parser;
 pub mod vte;
@@ -54,11 +55,11 @@ pub use function::Effect;
 pub use function_rows::{C0, ControlFunction, EscapeFunction};
 #[cfg(feature = "oneshot")]
 pub use oneshot::{Policy, filter, filter_into, is_normal, normal, normal_into};
+pub use parameters::{Parameters, dcs_numbers, osc_number, osc_parts};
 pub use parser::{Entry, Event, Parser};
 #[cfg(all(feature = "oneshot", feature = "std"))]
 pub use writer::Filter;
 
-use core::error;
 use core::fmt;
 
 /// Why a call was not done.
@@ -81,4 +82,5 @@ impl fmt::Display for Error {
     }
 }
 
-impl error::Error for Error {}
+#[cfg(feature = "std")]
+impl std::error::Error for Error {}

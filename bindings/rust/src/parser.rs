@@ -83,6 +83,36 @@ pub enum Event<'a> {
     LimitPassed,
 }
 
+impl<'a> Event<'a> {
+    /// The text of a run of characters, or of a single one, which is written to `room`.
+    ///
+    /// ```
+    /// use escape_stream::Parser;
+    ///
+    /// let mut text = String::new();
+    /// let mut parser = Parser::new();
+    /// for piece in [&b"caf\xc3"[..], b"\xa9\x1b[m\xff"] {
+    ///     parser.advance(piece, |event| {
+    ///         text += event.text(&mut [0; 4]).unwrap_or_default();
+    ///     })?;
+    /// }
+    /// assert_eq!(text, "caf\u{e9}\u{fffd}");
+    /// # Ok::<(), escape_stream::Error>(())
+    /// ```
+    pub fn text<'b>(&self, room: &'b mut [u8; 4]) -> Option<&'b str>
+    where
+        'a: 'b,
+    {
+        match *self {
+            Event::Text(run) => Some(run),
+            Event::Character(c) => Some(c.encode_utf8(room)),
+            Event::Control(_) | Event::Escape { .. } | Event::Csi { .. } => None,
+            Event::Osc(_) | Event::Dcs { .. } | Event::Data(_) | Event::DcsEnd => None,
+            Event::Apc(_) | Event::LimitPassed => None,
+        }
+    }
+}
+
 pub use crate::ffi::Entry;
 
 impl Entry {

@@ -13,7 +13,7 @@ struct Row {
     is_answered: bool,
 }
 
-unsafe extern "C" {
+extern "C" {
     fn escape_stream_function(p: u8, i: u8, last: u8, count: usize, out: *mut Row) -> bool;
     fn escape_stream_escape_function(i: u8, last: u8, out: *mut Row) -> bool;
     fn escape_stream_control_function(code: u8, out: *mut Row) -> bool;

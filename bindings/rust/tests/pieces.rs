@@ -1,6 +1,6 @@
 // SPDX-License-Identifier: MIT
 //! The events of streams in pieces of each size are those of the whole.
-use escape_stream::{Event, Parser};
+use escape_stream::{Event, Parameters, Parser, dcs_numbers, osc_number, osc_parts};
 
 // What was handed out, in a form in which a run is the same as its characters or bytes by themselves.
 fn log(stream: &[u8], size: usize, limit: usize) -> Vec<String> {
@@ -79,4 +79,62 @@ fn each_event() {
     ];
     let stream = b"\xc3\xa9\n\x1b[1;31m\x1b(B\x1b]0;a\x07\x1bP1$qm\x1b\\\x1b_G\x9c";
     assert_eq!(log(stream, 100, 100), told);
+}
+
+type Said = (Option<u8>, Vec<Vec<Option<i64>>>, Vec<u8>);
+
+#[test]
+fn parameters_by_entries() {
+    let rows: [(&[u8], Said); 6] = [
+        (b"\x1b[m", (None, vec![], vec![])),
+        (b"\x1b[?$p", (Some(b'?'), vec![], vec![b'$'])),
+        (b"\x1b[;H", (None, vec![vec![None], vec![None]], vec![])),
+        (b"\x1b[:m", (None, vec![vec![None, None]], vec![])),
+        (
+            b"\x1b[>4:3;07 q",
+            (
+                Some(b'>'),
+                vec![vec![Some(4), Some(3)], vec![Some(7)]],
+                vec![b' '],
+            ),
+        ),
+        (
+            b"\x1b[99999999999999999999A",
+            (None, vec![vec![Some(i64::MAX)]], vec![]),
+        ),
+    ];
+    for (stream, said) in rows {
+        let mut count = 0;
+        let act = |event: Event<'_>| {
+            if let Event::Csi { entries, .. } = event {
+                let it = Parameters::of(entries);
+                let numbers = it.iter().map(Iterator::collect).collect();
+                let found = (it.private_prefix(), numbers, it.intermediates().collect());
+                assert_eq!(found, said, "{}", stream.escape_ascii());
+                count += 1;
+            }
+        };
+        Parser::new().advance(stream, act).unwrap();
+        assert_eq!(count, 1, "{}", stream.escape_ascii());
+    }
+}
+
+#[test]
+fn parts_of_strings() {
+    assert_eq!(dcs_numbers(b"").count(), 0);
+    assert_eq!(dcs_numbers(b";").collect::<Vec<_>>(), [None, None]);
+    let long = [b'9'; 5000];
+    assert_eq!(dcs_numbers(&long).collect::<Vec<_>>(), [Some(i64::MAX)]);
+    assert_eq!(osc_parts(b"").count(), 1);
+    let numbers: [(&[u8], Option<u32>); 6] = [
+        (b"", None),
+        (b";0", None),
+        (b"1x;", None),
+        (b"007", Some(7)),
+        (b"4294967295;", Some(u32::MAX)),
+        (b"4294967296;", None),
+    ];
+    for (text, number) in numbers {
+        assert_eq!(osc_number(text), number);
+    }
 }

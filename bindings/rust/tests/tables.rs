@@ -2,7 +2,7 @@
 //! Checks the calls against the tables of streams that the proved programs are checked against.
 //! docs/DEVELOPING.md has their form.
 use escape_stream::{Policy, filter, filter_into, is_normal, normal, normal_into};
-use std::{fs, path::Path};
+use std::{fs, path::Path, str};
 
 const LIMIT: usize = 1_048_576;
 

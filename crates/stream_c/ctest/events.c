@@ -4,17 +4,8 @@
 /* A character that two reads share, or U+FFFD for what is no UTF-8, comes by itself. */
 static void put_character(uint32_t c)
 {
-    if (c < 0x80) {
-        putchar((int)c);
-        return;
-    }
-    if (c < 0x800)
-        putchar((int)(0xc0 | c >> 6));
-    else if (c < 0x10000)
-        printf("%c%c", (int)(0xe0 | c >> 12), (int)(0x80 | (c >> 6 & 0x3f)));
-    else
-        printf("%c%c%c", (int)(0xf0 | c >> 18), (int)(0x80 | (c >> 12 & 0x3f)), (int)(0x80 | (c >> 6 & 0x3f)));
-    putchar((int)(0x80 | (c & 0x3f)));
+    uint8_t out[4];
+    fwrite(out, 1, escape_stream_utf8(c, out), stdout);
 }
 
 int main(void)

@@ -220,7 +220,25 @@ static uint64_t next_number(void) {
     return mixed ^ mixed >> 31;
 }
 
+/* The first and the last character of each length, and what is none. */
+static void check_utf8(void) {
+    static const struct { uint32_t c; const char *utf8; } ROWS_OF_UTF8[] = {
+        {0x7f, "\x7f"}, {0x80, "\xc2\x80"}, {0x7ff, "\xdf\xbf"}, {0x800, "\xe0\xa0\x80"}, {0xd7ff, "\xed\x9f\xbf"},
+        {0xd800, "\xef\xbf\xbd"}, {0xdfff, "\xef\xbf\xbd"}, {0xe000, "\xee\x80\x80"}, {0xffff, "\xef\xbf\xbf"},
+        {0x10000, "\xf0\x90\x80\x80"}, {0x10ffff, "\xf4\x8f\xbf\xbf"}, {0x110000, "\xef\xbf\xbd"}, {UINT32_MAX, "\xef\xbf\xbd"},
+    };
+    for (size_t i = 0; i < sizeof ROWS_OF_UTF8 / sizeof ROWS_OF_UTF8[0]; i++) {
+        uint8_t out[4];
+        size_t length = escape_stream_utf8(ROWS_OF_UTF8[i].c, out);
+        if (length != strlen(ROWS_OF_UTF8[i].utf8) || memcmp(out, ROWS_OF_UTF8[i].utf8, length) != 0) {
+            fprintf(stderr, "the UTF-8 of %x\n", (unsigned)ROWS_OF_UTF8[i].c);
+            differences++;
+        }
+    }
+}
+
 int main(void) {
+    check_utf8();
     static const size_t ROOMS[] = {0, 1, 2, 7, 64, 4096};
     for (size_t i = 0; i < sizeof ROWS / sizeof ROWS[0]; i++) {
         static struct log log;

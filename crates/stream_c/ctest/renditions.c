@@ -3,16 +3,11 @@
 #include <inttypes.h>
 #include <stdio.h>
 
+/* A character that two reads share, or U+FFFD for what is no UTF-8, comes by itself. */
 static void put_character(uint32_t c)
 {
-    if (c < 0x80)
-        printf("%c", (int)c);
-    else if (c < 0x800)
-        printf("%c%c", (int)(0xc0 | c >> 6), (int)(0x80 | (c & 0x3f)));
-    else if (c < 0x10000)
-        printf("%c%c%c", (int)(0xe0 | c >> 12), (int)(0x80 | (c >> 6 & 0x3f)), (int)(0x80 | (c & 0x3f)));
-    else
-        printf("%c%c%c%c", (int)(0xf0 | c >> 18), (int)(0x80 | (c >> 12 & 0x3f)), (int)(0x80 | (c >> 6 & 0x3f)), (int)(0x80 | (c & 0x3f)));
+    uint8_t out[4];
+    fwrite(out, 1, escape_stream_utf8(c, out), stdout);
 }
 
 /* A rendition has the final byte m, and of bytes only ; and : beside its numbers. */

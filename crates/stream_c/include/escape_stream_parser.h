@@ -133,6 +133,22 @@ static inline const uint8_t *escape_stream_text(const struct escape_stream_event
                                                                                   : buffer + buffer_length / 2;
 }
 
+/*
+ * Writes the UTF-8 of a character, as the `byte` of an event ESCAPE_STREAM_CHARACTER, to `out`, and returns how many bytes it has:
+ * 1 to 4. A number that is no character is written as U+FFFD.
+ */
+static inline size_t escape_stream_utf8(uint32_t character, uint8_t out[4])
+{
+    uint32_t c = character > 0x10ffff || (character >= 0xd800 && character < 0xe000) ? 0xfffd : character;
+    size_t more = c < 0x80 ? 0 : c < 0x800 ? 1 : c < 0x10000 ? 2 : 3;
+    static const uint8_t marks[4] = {0, 0xc0, 0xe0, 0xf0};
+
+    for (size_t i = more; i > 0; i--, c >>= 6)
+        out[i] = (uint8_t)(0x80 | (c & 0x3f));
+    out[0] = (uint8_t)(marks[more] | c);
+    return more + 1;
+}
+
 #ifdef __cplusplus
 }
 #endif
