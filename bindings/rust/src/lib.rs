@@ -45,6 +45,7 @@ mod oneshot;
 mod parameters;
 mod params;
 mod parser;
+mod string_end;
 pub mod vte;
 #[cfg(all(feature = "oneshot", feature = "std"))]
 mod writer;
@@ -57,6 +58,7 @@ pub use function_rows::{C0, ControlFunction, EscapeFunction};
 pub use oneshot::{Policy, filter, filter_into, is_normal, normal, normal_into};
 pub use parameters::{Parameters, dcs_numbers, osc_number, osc_parts};
 pub use parser::{Entry, Event, Parser};
+pub use string_end::StringEnd;
 #[cfg(all(feature = "oneshot", feature = "std"))]
 pub use writer::Filter;
 

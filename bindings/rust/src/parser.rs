@@ -171,14 +171,18 @@ impl Parser {
             act(event);
             true
         };
-        self.take(bytes, act).map(|_| ())
+        self.advance_while(bytes, act).map(|_| ())
     }
 
-    // Takes the next bytes, calls `act` with each event and the bytes that were taken for it, and
-    // says how many were taken: all of them, or up to an event for which `act` is false. Of two
-    // events of a byte the second is handed out then too.
+    /// Takes the next bytes of the stream, calls `act` with each event and the bytes that were taken
+    /// for it, and returns how many were taken: all of them, or up to an event for which `act` is
+    /// false. Of two events of a byte the second, for which none is taken, is handed out then too.
+    ///
+    /// # Errors
+    ///
+    /// As [`advance`](Parser::advance).
     #[inline]
-    pub(crate) fn take(
+    pub fn advance_while(
         &mut self,
         bytes: &[u8],
         mut act: impl FnMut(Event<'_>, &[u8]) -> bool,

@@ -196,7 +196,7 @@ impl<const OSC_RAW_BUF_SIZE: usize> Parser<OSC_RAW_BUF_SIZE> {
         let params = &mut self.params;
         let mut count = 0;
         while count < bytes.len() && !stops(performer) {
-            let taken = self.stream.take(&bytes[count..], |event, taken| {
+            let taken = self.stream.advance_while(&bytes[count..], |event, taken| {
                 call(params, performer, event, taken);
                 !stops(performer)
             });

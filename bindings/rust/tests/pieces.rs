@@ -1,6 +1,6 @@
 // SPDX-License-Identifier: MIT
 //! The events of streams in pieces of each size are those of the whole.
-use escape_stream::{Event, Parameters, Parser, dcs_numbers, osc_number, osc_parts};
+use escape_stream::{Event, Parameters, Parser, StringEnd, dcs_numbers, osc_number, osc_parts};
 
 // What was handed out, in a form in which a run is the same as its characters or bytes by themselves.
 fn log(stream: &[u8], size: usize, limit: usize) -> Vec<String> {
@@ -136,5 +136,35 @@ fn parts_of_strings() {
     ];
     for (text, number) in numbers {
         assert_eq!(osc_number(text), number);
+    }
+}
+
+#[test]
+fn how_strings_end() {
+    use StringEnd::{Bell, C1, Cancelled, Escape};
+    let rows: [(&[u8], &[StringEnd]); 9] = [
+        (b"a\x1b[m\x1b7\n\xc3\xa9\xff", &[]),
+        (b"\x1b]0;\x07\x1b]0;a\x07", &[Bell, Bell]),
+        (b"\x1b]0;a\x1b\\\x1bPqb\x1bM", &[Escape, Escape]),
+        (b"\x1b]\x18\x1b_b\x1a", &[Cancelled, Cancelled]),
+        (b"\x1b]a\x9c\x9d0;b\xc2\x9c", &[C1(0x9c), C1(0x9c)]),
+        (b"\x1bPq\x07\x9b\x9fc\xc2\x9d", &[C1(0x9b), C1(0x9d)]),
+        (b"\x1bP1q\xc2\x9cd", &[C1(0x9c)]),
+        (b"\x1b]0;abcdefg\x07\x1b_abcdefghi\x9c", &[Bell, C1(0x9c)]),
+        (b"\x1bP123456789qa\x1b\\", &[]),
+    ];
+    for (stream, ends) in rows {
+        for size in 1..=stream.len() {
+            let mut found = Vec::new();
+            let mut parser = Parser::with_limit(8);
+            for piece in stream.chunks(size) {
+                let act = |event: Event<'_>, taken: &[u8]| {
+                    found.extend(StringEnd::of(&event, taken));
+                    true
+                };
+                assert_eq!(parser.advance_while(piece, act), Ok(piece.len()));
+            }
+            assert_eq!(found, ends, "{} by {size}", stream.escape_ascii());
+        }
     }
 }
