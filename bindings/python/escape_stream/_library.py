@@ -6,6 +6,7 @@ pointer is never null; an object that a call writes is of this package alone.
 """
 
 import ctypes
+import struct
 from ctypes import POINTER, Structure, c_bool, c_char_p, c_int64, c_size_t, c_ubyte, c_uint32, c_uint64, c_void_p
 from pathlib import Path
 
@@ -27,6 +28,10 @@ class RawEntry(Structure):
     """`struct escape_stream_entry`."""
 
     _fields_ = [("number", c_int64), ("byte", c_ubyte), ("is_byte", c_bool)]
+
+
+# The fields of an entry, in the memory of an event.
+ENTRY = struct.Struct("qB?6x")
 
 
 class RawEvent(Structure):
@@ -124,7 +129,8 @@ begin.argtypes = (POINTER(RawParser),)
 begin.restype = None
 
 next_event = _short.escape_stream_next
-next_event.argtypes = (POINTER(RawParser), *_room, c_void_p, c_size_t, POINTER(RawEvent))
+# Places in memory are given as numbers, which cost the least at each event.
+next_event.argtypes = (c_void_p, c_void_p, c_size_t, c_void_p, c_size_t, c_void_p)
 next_event.restype = c_size_t
 
 control_function = _short.escape_stream_function

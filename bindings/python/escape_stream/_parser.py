@@ -23,6 +23,7 @@ class Parser:
         self._event = RawEvent()
         self._size = 2 * _library.limit_of(limit)
         self._buffer = (c_ubyte * self._size)()
+        self._entries = memoryview(self._event).cast("B")[RawEvent.entries.offset :]
         _library.begin(byref(self._raw))
 
     def feed(self, piece: bytes) -> list[Event]:
@@ -32,11 +33,11 @@ class Parser:
         """
         piece = _library.bytes_of(piece)
         start = ctypes.cast(ctypes.c_char_p(piece), ctypes.c_void_p).value or 0
-        raw, event, room = byref(self._raw), byref(self._event), (self._buffer, self._size)
+        raw, room, event = map(ctypes.addressof, (self._raw, self._buffer, self._event))
         found: list[Event] = []
         at = 0
         while True:
-            taken = _library.next_event(raw, *room, start + at, len(piece) - at, event)
+            taken = _library.next_event(raw, room, self._size, start + at, len(piece) - at, event)
             if self._event.kind == _library.NONE:
                 return found
             found.append(self._noted(piece, at))
@@ -55,7 +56,7 @@ class Parser:
         if kind == _library.ESCAPE:
             return Escape(self._intermediates(), chr(byte), event.has_more)
         if kind == _library.CSI:
-            return _control_sequence(event)
+            return self._control_sequence()
         if kind == _library.OSC:
             return Osc(self._string())
         if kind == _library.DCS:
@@ -72,6 +73,29 @@ class Parser:
             return LimitPassed()
         raise RuntimeError("the parser failed: something else wrote its memory")
 
+    def _control_sequence(self) -> Csi:
+        prefix, intermediates, number = "", "", None
+        groups: list[tuple[int | None, ...]] = []
+        group: list[int | None] = []
+        has_parameters = False
+        entries = self._entries[: self._event.count * _library.ENTRY.size]
+        for value, byte, is_byte in _library.ENTRY.iter_unpack(entries):
+            if not is_byte:
+                number, has_parameters = value, True
+            elif byte in b";:":
+                group.append(number)
+                number, has_parameters = None, True
+                if byte == ord(";"):
+                    groups.append(tuple(group))
+                    group = []
+            elif byte in b"<=>?":
+                prefix += chr(byte)
+            else:
+                intermediates += chr(byte)
+        if has_parameters:
+            groups.append((*group, number))
+        return Csi(prefix, tuple(groups), intermediates, chr(self._event.byte), self._event.has_more)
+
     def _intermediates(self) -> str:
         return bytes(self._event.intermediates[: self._event.kept]).decode("ascii")
 
@@ -84,31 +108,6 @@ class Parser:
         """Returns a text in the upper half of the buffer."""
         half = self._size // 2
         return bytes(memoryview(self._buffer)[half : half + self._event.length])
-
-
-def _control_sequence(event: RawEvent) -> Csi:
-    """Returns the control sequence that an event notes."""
-    prefix, intermediates, number = "", "", None
-    groups: list[tuple[int | None, ...]] = []
-    group: list[int | None] = []
-    has_parameters = False
-    for entry in event.entries[: event.count]:
-        byte = chr(entry.byte)
-        if not entry.is_byte:
-            number, has_parameters = entry.number, True
-        elif byte in ";:":
-            group.append(number)
-            number, has_parameters = None, True
-            if byte == ";":
-                groups.append(tuple(group))
-                group = []
-        elif byte in "<=>?":
-            prefix += byte
-        else:
-            intermediates += byte
-    if has_parameters:
-        groups.append((*group, number))
-    return Csi(prefix, tuple(groups), intermediates, chr(event.byte), event.has_more)
 
 
 def events(stream: bytes | Iterable[bytes], limit: int = DEFAULT_LIMIT) -> Iterator[Event]:

@@ -50,3 +50,6 @@ def test_layout(tmp_path: Path) -> None:
     subprocess.run(words, check=True)
     said = subprocess.run([tmp_path / "layout"], check=True, capture_output=True, text=True).stdout
     assert dict(zip(wanted, map(int, said.split()))) == wanted
+    # An entry is also read by its bytes.
+    entry = _library.RawEntry(-5, 7, True)
+    assert _library.ENTRY.unpack(bytes(entry)) == (entry.number, entry.byte, entry.is_byte)
