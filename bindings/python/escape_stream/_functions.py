@@ -23,7 +23,7 @@ class Function:
 
 
 def function(event: Csi | Escape | Control) -> Function | None:
-    """Returns the function of a control sequence, an escape sequence or a C1 control, where it has a name.
+    """Returns the function of a control sequence, an escape sequence or a control, where it has a name.
 
     >>> from escape_stream import Csi, function
     >>> function(Csi("", ((2,), (5,)), "", "H")).phrase
@@ -42,9 +42,11 @@ def function(event: Csi | Escape | Control) -> Function | None:
         if event.has_more or len(event.intermediates) > 1:
             return None
         found = _library.escape_function(_byte(event.intermediates), ord(event.final), byref(row))
+    elif event.byte < 0x80:
+        found = _library.c0_function(event.byte, byref(row))
     else:
         # ECMA-48, 5.3: a C1 control has the function of ESC and the byte 40 (hexadecimal) less.
-        found = 0x80 <= event.byte < 0xA0 and _library.escape_function(0, event.byte - 0x40, byref(row))
+        found = event.byte < 0xA0 and _library.escape_function(0, event.byte - 0x40, byref(row))
     if not found:
         return None
     return Function(row.name.decode(), row.phrase.decode(), row.changes_screen, row.is_answered)

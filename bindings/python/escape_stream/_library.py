@@ -141,6 +141,10 @@ escape_function = _short.escape_stream_escape_function
 escape_function.argtypes = (c_ubyte, c_ubyte, POINTER(RawFunction))
 escape_function.restype = c_bool
 
+c0_function = _short.escape_stream_control_function
+c0_function.argtypes = (c_ubyte, POINTER(RawFunction))
+c0_function.restype = c_bool
+
 
 def done(status: int) -> None:
     """Raises what a status says, where the call was not done."""

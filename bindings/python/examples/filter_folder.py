@@ -23,7 +23,7 @@ PIECE = 1 << 20
 
 
 def name_of(event: escape_stream.Event) -> str | None:
-    """Returns what an event is counted under: the name of its function, or its kind; text and data are not counted."""
+    """Returns what an event is counted under: the name of its function, or else its kind; text and data are not counted."""
     if isinstance(event, Csi | Escape | Control):
         function = escape_stream.function(event)
         return function.name if function else type(event).__name__

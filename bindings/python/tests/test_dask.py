@@ -48,7 +48,7 @@ def test_counts(tmp_path: Path) -> None:
     filter_file = runpy.run_path(str(EXAMPLE))["filter_file"]
     source, target = tmp_path / "in", tmp_path / "out"
     source.write_bytes(b"a\x1b[2;5Hb\x1b]0;title\x07\x1b[H\x1b[1z\n\x1bPqdata\x1b\\" * 3)
-    counts = {"CUP": 6, "OSC 0": 3, "Csi": 3, "Control": 3, "Dcs": 3, "DcsEnd": 3, "ST": 3}
+    counts = {"CUP": 6, "OSC 0": 3, "Csi": 3, "LF": 3, "Dcs": 3, "DcsEnd": 3, "ST": 3}
     assert filter_file(str(source), str(target), int(Policy.TEXT)) == (105, 9, counts)
     assert target.read_bytes() == b"ab\n" * 3
 

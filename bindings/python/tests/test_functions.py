@@ -58,7 +58,10 @@ def test_no_function() -> None:
             assert isinstance(found, Csi | Escape) and function(found) is None, stream
 
 
-def test_c1_controls() -> None:
-    assert [function(Control(it)) for it in (0x07, 0x7F, 0xA0)] == [None] * 3
-    said = function(Control(0x84))
-    assert said is not None and said == function(Escape("", "D")) and said.name == "IND"
+def test_controls() -> None:
+    names = {0x07: "BEL", 0x0A: "LF", 0x1B: "ESC", 0x7F: "DEL", 0x84: "IND", 0x9C: "ST"}
+    for byte, name in names.items():
+        said = function(Control(byte))
+        assert said is not None and said.name == name
+    assert function(Control(0x84)) == function(Escape("", "D"))
+    assert [function(Control(it)) for it in (0x61, 0xA0, 0xFF)] == [None] * 3
