@@ -1,0 +1,63 @@
+//! The calls that rows name.
+use crate::codecs::{base64, bytes_image, displayed, of_parts, written};
+use crate::heap::is_exact;
+use crate::queries::query_of;
+use crate::segments::{counted, listed};
+use crate::sixels::{count_of, drawn, written_with};
+use crate::words::word;
+use esc_kitty::KittyImage;
+use esc_links::Hyperlink;
+use esc_values::scalar::text_in;
+use refusing::Refusing;
+use std::alloc::{AllocError, Global};
+
+/// What a call returns of this input, where its memory comes from the heap.
+///
+/// - `link` and `link-with-id`: the Debug text and the text of `Hyperlink::new`, and of
+///   `Hyperlink::new_with_id` for the address `x`.
+/// - `link-of`, `prompt-of` and `file-of`: the Debug text of what `parse` of `Hyperlink`,
+///   `FinalTermSemanticPrompt` and `ITermFileData` returns of the parts between `;`.
+/// - `base64`: the Debug texts of the bytes and of the text that base64 means.
+/// - `image`: the text of what `KittyImage::parse_apc` reads, `none` where it is no image;
+///   `image-again` says where that is the data as it came.
+/// - `image-of-bytes`: the Debug text and the text of an image that a program made of its bytes.
+/// - `sixel`: the Debug text of the data of a sixel image, its text, and its size; `sixel-count`,
+///   byte by byte, how many pieces of data that are.
+/// - `sixel-value`: whether there is a text of an image, of this value of six pixels, of the image
+///   with it last, and of the image with it amid others.
+/// - `query-again`: how many names a termcap query has, byte by byte, that is written as it came.
+/// - `segments`: the kind and the length of each; `segment-count`, of those that are of the kind of
+///   the first, how many they are, and of how many bytes.
+/// - `refusing`: whether the allocator that refuses a request refuses this alone.
+/// - the words and numbers of `words.rt`, which take no memory.
+pub fn answer(
+    call: &str,
+    alloc: Global,
+    heap: &Refusing<Global>,
+    input: &[u8],
+) -> Result<String, AllocError> {
+    match call {
+        "link" => displayed(alloc, Hyperlink::new(heap, text(input))),
+        "link-with-id" => displayed(alloc, Hyperlink::new_with_id(heap, "x", text(input))),
+        "link-of" | "prompt-of" | "file-of" => of_parts(call, alloc, heap, input),
+        "base64" => base64(alloc, heap, input),
+        "image" | "image-again" => {
+            let image = KittyImage::parse_apc(heap, input);
+            written(alloc, image, if call == "image" { b"" } else { input })
+        }
+        "image-of-bytes" => displayed(alloc, bytes_image(heap, input)),
+        "sixel" => drawn(alloc, heap, input),
+        "sixel-count" => count_of(alloc, heap, input),
+        "sixel-value" => written_with(alloc, heap, input),
+        "query-again" => query_of(alloc, heap, input),
+        "segments" => listed(alloc, input),
+        "segment-count" => counted(alloc, input),
+        "refusing" => format!(in alloc; "{}", is_exact(alloc)),
+        _ => word(call, alloc, input),
+    }
+}
+
+/// The text of these bytes, empty where they are none.
+pub fn text(bytes: &[u8]) -> &str {
+    text_in(bytes).unwrap_or("")
+}
