@@ -51,7 +51,8 @@ def test_what_policies_admit() -> None:
 def test_limits() -> None:
     count = 0
     for row in rows():
-        stream, limit, text = (row.bytes(it) for it in ("stream", "limit", "text"))
+        stream, limit, text, written = (row.bytes(it) for it in ("stream", "limit", "text", "as-all"))
+        text = text if written is None else written
         if stream is None or limit is None or text is None:
             continue
         assert filter(stream, Policy.ALL, int(limit)) == text, row.name

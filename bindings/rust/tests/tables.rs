@@ -146,8 +146,9 @@ fn what_policies_admit() {
 #[test]
 fn limits() {
     let count = count_rows(|row| {
+        let text = row.bytes("as-all").or_else(|| row.bytes("text"));
         let (Some(stream), Some(limit), Some(text)) =
-            (row.bytes("stream"), row.bytes("limit"), row.bytes("text"))
+            (row.bytes("stream"), row.bytes("limit"), text)
         else {
             return false;
         };

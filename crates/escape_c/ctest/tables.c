@@ -213,15 +213,16 @@ static void check_filters(char **lines, size_t count, struct bytes stream) {
 }
 
 static void check_row(char **lines, size_t count) {
-    struct bytes stream, text, limit, as_text;
+    struct bytes stream, text, limit, as_text, as_all;
     bool has_stream = joined(lines, count, "stream", &stream), has_text = joined(lines, count, "text", &text);
     bool has_limit = joined(lines, count, "limit", &limit), has_filters = joined(lines, count, "as-text", &as_text);
+    bool has_all = joined(lines, count, "as-all", &as_all);
     append(&limit, "\\x00", 1);
     if (has_filters) {
         check_filters(lines, count, stream);
     } else if (has_limit && has_text) {
         size_t most = strtoul((const char *)limit.at, NULL, 10);
-        check_call(&(struct call){true, ESCAPE_STREAM_POLICY_ALL, most, stream, text});
+        check_call(&(struct call){true, ESCAPE_STREAM_POLICY_ALL, most, stream, has_all ? as_all : text});
     } else if (has_stream && !has_limit) {
         struct bytes wanted = has_text ? text : stream;
         check_call(&(struct call){false, 0, 0, stream, wanted});
@@ -232,6 +233,7 @@ static void check_row(char **lines, size_t count) {
     free(text.at);
     free(limit.at);
     free(as_text.at);
+    free(as_all.at);
 }
 
 static char *contents(const char *path) {

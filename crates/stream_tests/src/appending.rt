@@ -1,150 +1,75 @@
-//! An action at the end of a list.
-use escape_stream::{Action, ControlCode, Text};
+//! Actions that are appended to a list.
+use escape_stream::{Action, ControlCode};
 use refusing::Refusing;
-use std::alloc::{AllocError, Allocator, Global};
+use std::alloc::{Allocator, Global};
 use std::fmt::Debug;
-use std::test::Fail;
 
-// The actions before, whether the action that is appended is a string, and the Debug text of the
-// list afterwards; then that of the list and the action, where it is refused.
-static ROWS: [(&str, bool, &str, &str); 10] = [
-    ("", false, "[Print('b')]", "[] and Print('b')"),
+// Letters, or BEL as a control, which are appended one after another; the Debug text of their list,
+// and that of the list of one of them fewer.
+static ROWS: [(&str, &str, &str); 6] = [
+    ("a", "[Print('a')]", "[]"),
+    ("aa", "[PrintString(\"aa\")]", "[Print('a')]"),
+    ("aaaa", "[PrintString(\"aaaa\")]", "[PrintString(\"aaa\")]"),
     (
-        "a",
-        false,
-        "[PrintString(\"ab\")]",
-        "[Print('a')] and Print('b')",
+        "aaaaaaaaa",
+        "[PrintString(\"aaaaaaaaa\")]",
+        "[PrintString(\"aaaaaaaa\")]",
     ),
     (
-        "ac",
-        false,
-        "[PrintString(\"acb\")]",
-        "[PrintString(\"ac\")] and Print('b')",
+        "aaaaaaaaaaaaaaaaa",
+        "[PrintString(\"aaaaaaaaaaaaaaaaa\")]",
+        "[PrintString(\"aaaaaaaaaaaaaaaa\")]",
     ),
     (
-        "a\u{7}",
-        false,
-        "[Print('a'), Control(Bell), Print('b')]",
-        "[Print('a'), Control(Bell)] and Print('b')",
-    ),
-    (
-        "a",
-        true,
-        "[Print('a'), PrintString(\"b\")]",
-        "[Print('a')] and PrintString(\"b\")",
-    ),
-    (
-        "",
-        true,
-        "[PrintString(\"b\")]",
-        "[] and PrintString(\"b\")",
-    ),
-    (
-        "aaaa",
-        false,
-        "[PrintString(\"aaaab\")]",
-        "[PrintString(\"aaaa\")] and Print('b')",
-    ),
-    (
-        "aaaaaaaa",
-        false,
-        "[PrintString(\"aaaaaaaab\")]",
-        "[PrintString(\"aaaaaaaa\")] and Print('b')",
-    ),
-    (
-        "aaaaaaaaaaaaaaaa",
-        false,
-        "[PrintString(\"aaaaaaaaaaaaaaaab\")]",
-        "[PrintString(\"aaaaaaaaaaaaaaaa\")] and Print('b')",
-    ),
-    (
-        "aaaaaaaaaaaaaaaaaaaaaaaaaaaaaaaa",
-        false,
-        "[PrintString(\"aaaaaaaaaaaaaaaaaaaaaaaaaaaaaaaab\")]",
-        "[PrintString(\"aaaaaaaaaaaaaaaaaaaaaaaaaaaaaaaa\")] and Print('b')",
+        "\u{7}\u{7}",
+        "[Control(Bell), Control(Bell)]",
+        "[Control(Bell)]",
     ),
 ];
 
 // How many requests are refused, one in each run. None of the rows asks for more.
-const REQUESTS: u64 = 8;
+const REQUESTS: u64 = 12;
 
-// Characters, each appended to those before, and BEL as a control.
-fn list_of<A: Allocator + Copy>(alloc: A, text: &str) -> Result<Vec<Action<A>, A>, AllocError> {
-    let mut list = Vec::new(alloc);
-    for c in text.chars() {
-        let action = match c {
-            '\u{7}' => Action::Control(ControlCode::Bell),
-            _ => Action::Print(c),
-        };
-        if action.append_to(&mut list).is_err() {
-            return Err(AllocError);
-        }
-    }
-    Ok(list)
-}
-
-// The character b, as it is or as a string.
-fn last<A: Allocator>(alloc: A, is_string: bool) -> Result<Action<A>, AllocError> {
-    if !is_string {
-        return Ok(Action::Print('b'));
-    }
-    match Text::from_str(alloc, "b") {
-        Ok(text) => Ok(Action::PrintString(text)),
-        Err(error) => Err(error),
+fn append<A: Allocator + Copy>(list: &mut Vec<Action<A>, A>, c: char) -> bool {
+    if c == '\u{7}' {
+        Action::Control(ControlCode::Bell).append_to(list).is_ok()
+    } else {
+        Action::Print(c).append_to(list).is_ok()
     }
 }
 
-// The Debug text of a list that an action was appended to, or of the list and the action that came
-// back.
-fn shown<T: Debug + Drop>(
-    alloc: Global,
-    list: Vec<T, &Refusing<Global>>,
-    appended: Result<(), T>,
-) -> Result<String, AllocError> {
-    match appended {
-        Ok(()) => format!(in alloc; "{list:?}"),
-        Err(action) => format!(in alloc; "{list:?} and {action:?}"),
+// Whether the Debug text of a list is this one.
+fn is_shown<T: Debug + Drop, A: Allocator>(alloc: Global, list: &Vec<T, A>, wanted: &str) -> bool {
+    match format!(in alloc; "{list:?}") {
+        Ok(text) => text.as_str() == wanted,
+        Err(_) => false,
     }
 }
 
-// What comes back where the request with this number is refused.
-fn refused_at(
-    alloc: Global,
-    heap: &Refusing<Global>,
-    row: &(&str, bool, &str, &str),
-    at: u64,
-) -> Result<String, AllocError> {
-    let (before, is_string, _, _) = *row;
-    heap.refuse_at(0);
-    let mut list = list_of(heap, before)?;
-    let action = last(heap, is_string);
-    heap.refuse_at(at);
-    match action {
-        Ok(action) => {
-            let appended = action.append_to(&mut list);
-            shown(alloc, list, appended)
-        }
-        Err(error) => Err(error),
+// Whether the letters give this list, or, where a request is refused, one of them comes back and
+// the others give the shorter one.
+fn is_list(alloc: Global, heap: &Refusing<Global>, row: &(&str, &str, &str)) -> bool {
+    let (letters, whole, shorter) = *row;
+    let mut list = Vec::new(heap);
+    let mut refused = 0usize;
+    for c in letters.chars() {
+        refused = refused.saturating_add(usize::from(!append(&mut list, c)));
     }
+    let is_refused = heap.has_refused();
+    let wanted = if is_refused { shorter } else { whole };
+    refused == usize::from(is_refused) && is_shown(alloc, &list, wanted)
 }
 
-// With each request refused in turn, the list stays and the action comes back; with none, it is
-// appended. The growth of a string that is there is refused too.
+// The growth of a string that is there is refused too.
 #[test]
-fn an_action_is_appended_or_comes_back(rt: HostRuntime) -> Result<(), Fail> {
+fn an_action_is_appended_or_comes_back(rt: HostRuntime) {
     let heap = Refusing::new(rt.alloc());
-    let mut strings = 0u32;
     for row in &ROWS {
-        let (before, _, after, unchanged) = *row;
+        let mut is_right = true;
         for at in 1..=REQUESTS {
-            let got = refused_at(rt.alloc(), &heap, row, at)?;
-            let is_refused = heap.has_refused();
-            let wanted = if is_refused { unchanged } else { after };
-            assert!(rt; got.as_str() == wanted, "{before}, {at}");
-            strings = strings.saturating_add(u32::from(is_refused && before.len() > 2));
+            heap.refuse_at(at);
+            is_right &= is_list(rt.alloc(), &heap, row);
         }
-        assert!(rt; !heap.has_refused());
+        assert!(rt; is_right && !heap.has_refused(), "{}", row.0);
     }
-    assert!(rt; strings > 0);
-    Ok(())
 }

@@ -56,8 +56,8 @@ static MADE: [(Made, bool); 29] = [
     (Made::Nothing, false),
 ];
 
-/// An image of one piece of data, of this value.
-pub fn image<A: Allocator + Copy>(alloc: A, value: u8) -> Result<Action<A>, AllocError> {
+// An image of one piece of data, of this value.
+fn image<A: Allocator + Copy>(alloc: A, value: u8) -> Result<Action<A>, AllocError> {
     let content = Vec::from_slice(alloc, &[SixelData::Data(value)])?;
     let sixel = Sixel {
         pan: 2,

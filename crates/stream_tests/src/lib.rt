@@ -1,4 +1,4 @@
-//! Tests of `escape_stream` through what it makes public.
+//! Tests of `escape_stream` through what it makes public, of what no contract and no table says.
 #![tactic(auto)]
 
 #[cfg(test)]
@@ -8,13 +8,7 @@ mod asking;
 #[cfg(test)]
 mod characters;
 #[cfg(test)]
-mod coordinates;
-#[cfg(test)]
-mod encoding;
-#[cfg(test)]
 mod events;
-#[cfg(test)]
-mod keeping;
 #[cfg(test)]
 mod long;
 #[cfg(test)]
@@ -22,8 +16,8 @@ mod normalising;
 #[cfg(test)]
 mod recorder;
 #[cfg(test)]
-mod runs;
-#[cfg(test)]
 mod sinks;
 #[cfg(test)]
 mod texts;
+#[cfg(test)]
+mod watching;

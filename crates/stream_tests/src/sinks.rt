@@ -1,6 +1,5 @@
 //! Sinks by name.
 use escape_stream::{Collect, First, ParseError, Parser, Spell};
-use refusing::Refusing;
 use std::alloc::Global;
 use std::fmt::Debug;
 use std::test::Fail;
@@ -35,27 +34,4 @@ fn sinks_take_actions(rt: HostRuntime) -> Result<(), Fail> {
     assert!(rt; shown_text.as_str() == TEXT);
     assert!(rt; shown_first.as_str() == "Some(Print('a'))");
     Ok(())
-}
-
-// What a parser returns of these bytes where this request for memory is refused, and how many
-// actions its sink has then.
-fn given<'a>(
-    heap: &'a Refusing<Global>,
-    parser: &mut Parser<&'a Refusing<Global>>,
-    at: u64,
-    bytes: &[u8],
-) -> (Result<(), ParseError>, usize) {
-    heap.refuse_at(at);
-    let (ending, sink) = parser.parse_into(bytes, Collect::new(heap));
-    (ending, sink.actions.len())
-}
-
-#[test]
-fn a_failed_parser_leaves_the_sink(rt: HostRuntime) {
-    let heap = Refusing::new(rt.alloc());
-    let mut parser = Parser::new(&heap);
-    let first = given(&heap, &mut parser, 1, b"ab");
-    let later = given(&heap, &mut parser, 0, b"c");
-    assert!(rt; first == (Err(ParseError::Memory), 0));
-    assert!(rt; later == (Err(ParseError::Failed), 0));
 }
