@@ -1,2 +1,3 @@
 pub mod PagesMore
+pub mod Quoting
 pub mod Unchanged

@@ -6,7 +6,7 @@ use Rattle.std.specs.Io.KnownBytes.{Appends, Keeps}
 use Rattle.std.proofs.lemmas.List.Folds.{list_all-append}
 use Rattle.std.proofs.lemmas.Grind.{flat_map-append}
 use Rattle.std.proofs.Math.Logic.{∥∥₁_map, ∥∥₁_elim, ∥∥₁_prop}
-use Rattle.escdump.specs.Pages.{Piece, IsPage, AppendsPage, is_fit, piece_text}
+use Rattle.escdump.specs.Pages.{Piece, IsPage, IsPiece, AppendsPage, is_fit, piece_text}
 
 page_piece : (s : List ℕ) (p : Piece) → is_fit p ≡ true → IsPage s → IsPage (s ++ piece_text p)
 page_piece s p fit (ps, all, e) = (
@@ -26,6 +26,12 @@ pub page_push : {U E : Type 0} (r : Result U E) (s t : List ℕ) (p : Piece) →
 page_push (Ok u) s t p fit h ok err =
     subst (λ x. ∥ IsPage x ∥₁) (sym ok) (∥∥₁_map h (page_piece s p fit))
 page_push (Err e) s t p fit h ok err = subst (λ x. ∥ IsPage x ∥₁) (sym err) h
+
+-- the same of a change of the colour or the end of a line
+pub page_grow : {U E : Type 0} (r : Result U E) (s t u : List ℕ) → IsPiece u → ∥ IsPage s ∥₁
+    → OnOk r (t ≡ s ++ u) → OnErr r (t ≡ s) → ∥ IsPage t ∥₁
+page_grow r s t u (p, fit, e) h ok err =
+    page_push r s t p fit h (subst (λ x. OnOk r (t ≡ s ++ x)) (sym e) ok) err
 
 -- pages one after another
 page_append : (s t : List ℕ) → IsPage s → IsPage t → IsPage (s ++ t)

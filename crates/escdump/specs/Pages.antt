@@ -34,3 +34,7 @@ pub record AppendsPage (old new : Option (List ℕ)) : Type 0 where
   pub text : List ℕ
   pub safe : ∥ IsPage text ∥₁
   pub appends : Appends old new text
+
+-- a change of the colour or the end of a line
+abbrev pub IsPiece : List ℕ → Type 0
+IsPiece t = (p : Piece) × (is_fit p ≡ true) × (piece_text p ≡ t)

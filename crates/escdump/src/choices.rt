@@ -103,8 +103,8 @@ static WINDOW: &str = "\
 23 pop title";
 
 /// What this number chooses, where it is the first of a sequence of this function and has words.
-pub fn chosen_words(function: ControlFunction, number: i64) -> Option<&'static str> {
-    words_of(choices_of(function), number)
+pub fn chosen_words(function: ControlFunction, number: i64) -> &'static str {
+    words_of(choices_of(function), number, "")
 }
 
 // The table of what a function's first number chooses; an empty one, where there is none.

@@ -2,8 +2,7 @@
 
 use crate::phrase::Phrase;
 use esc_typed::{AnsiColor, ColorSpec};
-use escape_stream::RgbColor;
-use std::alloc::Allocator;
+use esc_values::RgbColor;
 
 /// The name of a colour. Those of 90 to 97 and 100 to 107 are aixterm's, bright ones.
 pub fn ansi_words(color: AnsiColor) -> &'static str {
@@ -29,7 +28,7 @@ pub fn ansi_words(color: AnsiColor) -> &'static str {
 
 /// Adds what has a colour, and the colour: `default`, `palette` and its place there, or `#` and its
 /// red, green and blue, each as two hexadecimal digits.
-pub fn add_color<A: Allocator>(what: &str, color: ColorSpec, to: &mut Phrase<A>) {
+pub fn add_color(what: &str, color: ColorSpec, to: &mut Phrase) {
     to.add(what);
     match color {
         ColorSpec::Default => to.add("default"),
@@ -38,7 +37,7 @@ pub fn add_color<A: Allocator>(what: &str, color: ColorSpec, to: &mut Phrase<A>)
     }
 }
 
-fn add_channels<A: Allocator>(rgb: RgbColor, to: &mut Phrase<A>) {
+fn add_channels(rgb: RgbColor, to: &mut Phrase) {
     let (red, green, blue) = rgb.to_tuple_rgb8();
     to.add("#");
     for channel in [red, green, blue] {

@@ -6,38 +6,36 @@ mod prompts;
 use crate::command_words::iterm::add_iterm;
 use crate::command_words::prompts::add_prompt;
 use crate::phrase::Phrase;
-use escape_stream::osc::{
+use esc_osc::{
     ChangeColorPair, ColorOrQuery, DynamicColorNumber, Hyperlink,
     OperatingSystemCommand as Command, Params, Progress, Selection,
 };
-use escape_stream::{Items, Text};
-use std::alloc::Allocator;
-use std::str;
+use esc_values::{Items, Text};
 
 /// Adds an operating system command in words.
-pub fn add_command<A: Allocator, B: Allocator>(command: &Command<B>, to: &mut Phrase<A>) {
+pub fn add_command(command: &Command, to: &mut Phrase) {
     match command.code() {
-        Some(code) => to.begin("OSC", code.as_code()),
-        None => to.begin("OSC", ""),
+        Some(code) => to.begin("OSC", code.as_code(), ""),
+        None => to.begin("OSC", "", ""),
     }
     match command {
         Command::SetIconNameAndWindowTitle(text) => {
-            to.add_quoted(" icon name and window title ", text.as_str())
+            to.add_quoted(" icon name and window title ", text.as_bytes())
         }
-        Command::SetIconName(text) => to.add_quoted(" icon name ", text.as_str()),
-        Command::SetWindowTitle(text) => to.add_quoted(" window title ", text.as_str()),
-        Command::SetWindowTitleSun(text) => to.add_quoted(" window title ", text.as_str()),
-        Command::SetIconNameSun(text) => to.add_quoted(" icon name ", text.as_str()),
-        Command::SystemNotification(text) => to.add_quoted(" notification ", text.as_str()),
+        Command::SetIconName(text) => to.add_quoted(" icon name ", text.as_bytes()),
+        Command::SetWindowTitle(text) => to.add_quoted(" window title ", text.as_bytes()),
+        Command::SetWindowTitleSun(text) => to.add_quoted(" window title ", text.as_bytes()),
+        Command::SetIconNameSun(text) => to.add_quoted(" icon name ", text.as_bytes()),
+        Command::SystemNotification(text) => to.add_quoted(" notification ", text.as_bytes()),
         Command::CurrentWorkingDirectory(text) => {
-            to.add_quoted(" working directory ", text.as_str())
+            to.add_quoted(" working directory ", text.as_bytes())
         }
         Command::SetHyperlink(link) => add_link(link.as_ref(), to),
         Command::ClearSelection(at) => add_selection(at, " is cleared", to),
         Command::QuerySelection(at) => add_selection(at, " is asked for", to),
         Command::SetSelection(at, text) => {
             add_selection(at, " is set to ", to);
-            to.add_quoted("", text.as_str());
+            to.add_quoted("", text.as_bytes());
         }
         Command::ChangeColorNumber(pairs) => add_pairs(pairs.as_slice(), to),
         Command::ChangeDynamicColors(number, colors) => add_colors(*number, colors.as_slice(), to),
@@ -52,33 +50,33 @@ pub fn add_command<A: Allocator, B: Allocator>(command: &Command<B>, to: &mut Ph
 }
 
 // The clipboard, and what is done to it.
-fn add_selection<A: Allocator>(at: &Selection, done: &str, to: &mut Phrase<A>) {
+fn add_selection(at: &Selection, done: &str, to: &mut Phrase) {
     to.add_value(" clipboard \"", at);
     to.add_all(&["\"", done]);
 }
 
 // A link, or the end of one.
-fn add_link<A: Allocator, B: Allocator>(link: Option<&Hyperlink<B>>, to: &mut Phrase<A>) {
+fn add_link(link: Option<&Hyperlink>, to: &mut Phrase) {
     let Some(link) = link else {
         return to.add(" hyperlink ends");
     };
-    to.add_quoted(" hyperlink ", link.uri.as_str());
+    to.add_quoted(" hyperlink ", link.uri.as_bytes());
     add_params(&link.params, to);
 }
 
 // The parameters of a link.
-fn add_params<A: Allocator, B: Allocator>(params: &Params<B>, to: &mut Phrase<A>) {
+fn add_params(params: &Params, to: &mut Phrase) {
     for (key, value) in params {
         to.add(" \"");
-        to.add_escaped(key);
+        to.add_escaped(key.as_bytes());
         to.add("=");
-        to.add_escaped(value);
+        to.add_escaped(value.as_bytes());
         to.add("\"");
     }
 }
 
 // Colours of the palette.
-fn add_pairs<A: Allocator>(pairs: &[ChangeColorPair], to: &mut Phrase<A>) {
+fn add_pairs(pairs: &[ChangeColorPair], to: &mut Phrase) {
     let mut separator = " colour ";
     for pair in pairs {
         to.add_value(separator, &pair.palette_index);
@@ -88,7 +86,7 @@ fn add_pairs<A: Allocator>(pairs: &[ChangeColorPair], to: &mut Phrase<A>) {
 }
 
 // What a colour is set to, or that it is asked for.
-fn add_set<A: Allocator>(color: &ColorOrQuery, to: &mut Phrase<A>) {
+fn add_set(color: &ColorOrQuery, to: &mut Phrase) {
     match color {
         ColorOrQuery::Color(_) => to.add_value(" = ", color),
         ColorOrQuery::Query => to.add(" is asked for"),
@@ -96,11 +94,7 @@ fn add_set<A: Allocator>(color: &ColorOrQuery, to: &mut Phrase<A>) {
 }
 
 // Dynamic colours, from this one on.
-fn add_colors<A: Allocator>(
-    first: DynamicColorNumber,
-    colors: &[ColorOrQuery],
-    to: &mut Phrase<A>,
-) {
+fn add_colors(first: DynamicColorNumber, colors: &[ColorOrQuery], to: &mut Phrase) {
     let mut next = Some(first);
     let mut separator = " ";
     for color in colors {
@@ -131,7 +125,7 @@ fn colored(number: DynamicColorNumber) -> &'static str {
 }
 
 // Colours of the palette that are reset.
-fn add_indexes<A: Allocator>(indexes: &[u8], to: &mut Phrase<A>) {
+fn add_indexes(indexes: &[u8], to: &mut Phrase) {
     if indexes.is_empty() {
         return to.add(" reset all colours");
     }
@@ -142,15 +136,15 @@ fn add_indexes<A: Allocator>(indexes: &[u8], to: &mut Phrase<A>) {
 }
 
 // An extension of rxvt.
-fn add_texts<A: Allocator, B: Allocator>(parts: &[Text<B>], to: &mut Phrase<A>) {
+fn add_texts(parts: &[Text], to: &mut Phrase) {
     to.add(" rxvt");
     for part in parts {
-        to.add_quoted(" ", part.as_str());
+        to.add_quoted(" ", part.as_bytes());
     }
 }
 
 // The progress of a task.
-fn add_progress<A: Allocator>(progress: &Progress, to: &mut Phrase<A>) {
+fn add_progress(progress: &Progress, to: &mut Phrase) {
     match progress {
         Progress::None => to.add(" progress ends"),
         Progress::SetPercentage(share) => add_share(*share, " %", to),
@@ -160,17 +154,17 @@ fn add_progress<A: Allocator>(progress: &Progress, to: &mut Phrase<A>) {
     }
 }
 
-fn add_share<A: Allocator>(share: u8, unit: &str, to: &mut Phrase<A>) {
+fn add_share(share: u8, unit: &str, to: &mut Phrase) {
     to.add_value(" progress ", &share);
     to.add(unit);
 }
 
 // The parts of a command that is not known.
-fn add_parts<A: Allocator, B: Allocator>(parts: &[Items<u8, B>], to: &mut Phrase<A>) {
+fn add_parts(parts: &[Items<u8>], to: &mut Phrase) {
     let mut separator = " \"";
     for part in parts {
         to.add(separator);
-        to.add_escaped(str::from_utf8(part.as_slice()).unwrap_or("\u{fffd}"));
+        to.add_escaped(part.as_slice());
         separator = ";";
     }
     to.add("\", not interpreted");

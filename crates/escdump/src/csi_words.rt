@@ -7,12 +7,11 @@ use crate::mode_words::{add_modes, add_private_modes, add_state};
 use crate::phrase::Phrase;
 use crate::renditions::add_renditions;
 use esc_functions::{ControlFunction, Parameter, Parameters};
-use escape_stream::CsiParam;
-use escape_stream::csi::Unspecified;
-use std::alloc::Allocator;
+use esc_sequences::Unspecified;
+use esc_values::CsiParam;
 
 /// Adds a control sequence by its name, where it has one.
-pub fn add_sequence<A: Allocator, B: Allocator>(sequence: &Unspecified<B>, to: &mut Phrase<A>) {
+pub fn add_sequence(sequence: &Unspecified, to: &mut Phrase) {
     add_named(sequence.params.as_slice(), sequence.control, to);
     if sequence.parameters_truncated {
         to.add(", and more parameters");
@@ -20,24 +19,21 @@ pub fn add_sequence<A: Allocator, B: Allocator>(sequence: &Unspecified<B>, to: &
 }
 
 // Adds the function of these parameters and this final byte, where it has a name.
-fn add_named<A: Allocator>(params: &[CsiParam], last: u8, to: &mut Phrase<A>) {
+fn add_named(params: &[CsiParam], last: u8, to: &mut Phrase) {
     match ControlFunction::of_csi_params(params, last) {
         Some(function) => add_function(function, params, to),
         None => {
-            to.begin("CSI", "");
-            to.add(" without a name, of the final byte ");
+            to.begin("CSI", "", "without a name, of the final byte ");
             to.add_char(char::from(last));
         }
     }
 }
 
 // Adds a function with its parameters.
-fn add_function<A: Allocator>(function: ControlFunction, params: &[CsiParam], to: &mut Phrase<A>) {
-    to.begin("CSI", function.name());
-    if !is_said_by_parameters(function) {
-        to.add_all(&[" ", function_words(function, params)]);
-    }
-    match function.row().parameters {
+fn add_function(function: ControlFunction, params: &[CsiParam], to: &mut Phrase) {
+    let parameters = function.row().parameters;
+    to.begin("CSI", function.name(), function_words(function, params));
+    match parameters {
         Parameters::Renditions => add_renditions(params, to),
         Parameters::Mode | Parameters::Modes => add_modes(params, to),
         Parameters::PrivateMode | Parameters::PrivateModes => {
@@ -48,52 +44,57 @@ fn add_function<A: Allocator>(function: ControlFunction, params: &[CsiParam], to
         Parameters::Key => add_function_key(params, to),
         Parameters::KeyEvent => add_key(params, to),
         Parameters::KeyboardFlags => add_flags(function, params, to),
-        parameters => add_others(function, parameters, params, to),
+        Parameters::Number => add_number(function, params, to),
+        Parameters::Line | Parameters::Column => add_one(params, to),
+        Parameters::Nothing
+        | Parameters::Count
+        | Parameters::Place
+        | Parameters::Page
+        | Parameters::PlaceAndPage
+        | Parameters::Numbers
+        | Parameters::Selector
+        | Parameters::Selectors
+        | Parameters::LineMargins
+        | Parameters::ColumnMargins
+        | Parameters::Rectangle
+        | Parameters::RectangleRenditions
+        | Parameters::Copy
+        | Parameters::Fill
+        | Parameters::Checksum
+        | Parameters::Window
+        | Parameters::Graphics
+        | Parameters::Highlight
+        | Parameters::ExtraCursors
+        | Parameters::Colors => add_parameters(function, parameters.each(), params, to),
     }
 }
 
-// Adds parameters that are numbers.
-fn add_others<A: Allocator>(
-    function: ControlFunction,
-    parameters: Parameters,
-    params: &[CsiParam],
-    to: &mut Phrase<A>,
-) {
-    match parameters {
-        Parameters::Number if is_flags(function) => add_flags(function, params, to),
-        Parameters::Line | Parameters::Column => {
-            to.add_value(" ", &number_at(params, 0).unwrap_or(1));
-            add_entries(after_first(params, 1), to);
-        }
-        _ => add_parameters(function, parameters.each(), params, to),
+// Adds a number, of some functions flags of kitty's keyboard.
+fn add_number(function: ControlFunction, params: &[CsiParam], to: &mut Phrase) {
+    if function == ControlFunction::KITTYPUSH || function == ControlFunction::KITTYQUERY {
+        add_flags(function, params, to)
+    } else {
+        add_parameters(function, Parameters::Number.each(), params, to)
     }
 }
 
-// Whether its parameters are words enough.
-fn is_said_by_parameters(function: ControlFunction) -> bool {
-    matches!(
-        function,
-        ControlFunction::SGR
-            | ControlFunction::DECSET
-            | ControlFunction::DECRST
-            | ControlFunction::MOUSE
-            | ControlFunction::MOUSEUP
-            | ControlFunction::KITTYKEY
-    )
+// Adds a line or a column, which the function's words name already.
+fn add_one(params: &[CsiParam], to: &mut Phrase) {
+    to.add_value(" ", &number_at(params, 0).unwrap_or(1));
+    add_entries(after_first(params, 1), to);
 }
 
-// Whether the number of the function is flags of kitty's keyboard.
-fn is_flags(function: ControlFunction) -> bool {
-    matches!(
-        function,
-        ControlFunction::KITTYPUSH | ControlFunction::KITTYQUERY
-    )
-}
-
-// What the function does, in words: of one that asks or reports, by its parameters, which.
+// What the function does, in words: of one that asks or reports, by its parameters, which. None,
+// where its parameters are words enough.
 fn function_words(function: ControlFunction, params: &[CsiParam]) -> &'static str {
     let is_report = number_at(params, 1).is_some();
     match function {
+        ControlFunction::SGR
+        | ControlFunction::DECSET
+        | ControlFunction::DECRST
+        | ControlFunction::MOUSE
+        | ControlFunction::MOUSEUP
+        | ControlFunction::KITTYKEY => "",
         ControlFunction::DA1 => "ask for device attributes",
         ControlFunction::DA1R => "report of the device attributes",
         ControlFunction::DA2 if is_report => "report of the secondary device attributes",
@@ -110,28 +111,26 @@ fn function_words(function: ControlFunction, params: &[CsiParam]) -> &'static st
 
 // Adds the parameters of a function, each by what it is, with those that are left out where the
 // standard says what they are; those that come after them by their numbers.
-fn add_parameters<A: Allocator>(
+fn add_parameters(
     function: ControlFunction,
     each: &[Parameter],
     params: &[CsiParam],
-    to: &mut Phrase<A>,
+    to: &mut Phrase,
 ) {
     let mut separator = " ";
     for (place, parameter) in each.iter().enumerate() {
         separator = add_parameter(*parameter, number_at(params, place), separator, to);
     }
     add_entries(after_first(params, each.len()), to);
-    if let Some(words) = chosen_words(function, number_at(params, 0).unwrap_or(0)) {
-        to.add_all(&[" (", words, ")"]);
-    }
+    to.add_note(chosen_words(function, number_at(params, 0).unwrap_or(0)));
 }
 
 // Adds a parameter after a separator; returns what separates the next from it.
-fn add_parameter<A: Allocator>(
+fn add_parameter(
     parameter: Parameter,
     number: Option<i64>,
     separator: &'static str,
-    to: &mut Phrase<A>,
+    to: &mut Phrase,
 ) -> &'static str {
     match number.or(first_of(parameter)) {
         Some(number) => {
@@ -197,7 +196,7 @@ fn first_of(parameter: Parameter) -> Option<i64> {
 
 /// Adds the numbers of some parameters and what separates them, after a space where they begin with
 /// a number.
-pub fn add_entries<A: Allocator>(params: &[CsiParam], to: &mut Phrase<A>) {
+pub fn add_entries(params: &[CsiParam], to: &mut Phrase) {
     let mut space = " ";
     for param in params {
         match *param {

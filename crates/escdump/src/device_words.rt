@@ -3,8 +3,9 @@
 pub mod kitty;
 
 use crate::phrase::Phrase;
-use escape_stream::{EnterDeviceControlMode, ShortDeviceControl, Sixel, Text};
-use std::alloc::Allocator;
+use esc_device::{EnterDeviceControlMode, ShortDeviceControl};
+use esc_sixel::Sixel;
+use esc_values::Text;
 
 // Device controls: a line each, with its intermediates, or its private prefix, and its final byte;
 // its name; what it does. The VT510's manual (<https://vt100.net/docs/vt510-rm/chapter4.html>;
@@ -27,14 +28,10 @@ t tmux passed on by tmux
 | DECUDK user-defined keys";
 
 /// Adds the header of a device control string in words.
-pub fn add_enter<A: Allocator, B: Allocator>(
-    enter: &EnterDeviceControlMode<B>,
-    to: &mut Phrase<A>,
-) {
+pub fn add_enter(enter: &EnterDeviceControlMode, to: &mut Phrase) {
     let params = enter.params.as_slice();
     if enter.byte == b'p' && params == [1000].as_slice() {
-        to.begin("DCS", "tmux");
-        to.add(" control mode");
+        to.begin("DCS", "tmux", "control mode");
     } else {
         add_header(enter.intermediates.as_slice(), enter.byte, to);
     }
@@ -49,7 +46,7 @@ pub fn add_enter<A: Allocator, B: Allocator>(
 }
 
 // Adds the name and the words of a device control, where it has them.
-fn add_header<A: Allocator>(intermediates: &[u8], last: u8, to: &mut Phrase<A>) {
+fn add_header(intermediates: &[u8], last: u8, to: &mut Phrase) {
     for line in DEVICE_CONTROLS.lines() {
         if let Some((key, rest)) = line.split_once(' ') {
             if is_key(key.as_bytes(), intermediates, last) {
@@ -57,8 +54,7 @@ fn add_header<A: Allocator>(intermediates: &[u8], last: u8, to: &mut Phrase<A>) 
             }
         }
     }
-    to.begin("DCS", "");
-    to.add(" without a name");
+    to.begin("DCS", "", "without a name");
 }
 
 // Whether the key of a line has these intermediates and this final byte.
@@ -70,36 +66,30 @@ fn is_key(key: &[u8], intermediates: &[u8], last: u8) -> bool {
 }
 
 // Adds a name, a space and words.
-fn add_named<A: Allocator>(line: &'static str, to: &mut Phrase<A>) {
+fn add_named(line: &'static str, to: &mut Phrase) {
     if let Some((name, words)) = line.split_once(' ') {
-        to.begin("DCS", name);
-        to.add_all(&[" ", words]);
+        to.begin("DCS", name, words);
     }
 }
 
 /// Adds a short device control in words.
-pub fn add_short<A: Allocator, B: Allocator>(short: &ShortDeviceControl<B>, to: &mut Phrase<A>) {
+pub fn add_short(short: &ShortDeviceControl, to: &mut Phrase) {
     add_header(short.intermediates.as_slice(), short.byte, to);
-    to.add(" \"");
-    for byte in short.content.as_slice() {
-        to.add_char(char::from(*byte));
-    }
-    to.add("\"");
+    to.add_quoted(" ", short.content.as_slice());
 }
 
 /// Adds a termcap query in words.
-pub fn add_query<A: Allocator, B: Allocator>(names: &[Text<B>], to: &mut Phrase<A>) {
-    to.begin("DCS", "XTGETTCAP");
-    to.add(" ask for termcap data");
+pub fn add_query(names: &[Text], to: &mut Phrase) {
+    to.begin("DCS", "XTGETTCAP", "ask for termcap data");
     for name in names {
-        to.add_quoted(" ", name.as_str());
+        to.add_quoted(" ", name.as_bytes());
     }
 }
 
 /// Adds the size of a sixel image in words.
-pub fn add_sixel<A: Allocator, B: Allocator>(image: &Sixel<B>, to: &mut Phrase<A>) {
+pub fn add_sixel(image: &Sixel, to: &mut Phrase) {
     let (width, height) = image.dimensions();
-    to.begin("DCS", "sixel");
-    to.add_value(" image, width ", &width);
+    to.begin("DCS", "sixel", "image");
+    to.add_value(", width ", &width);
     to.add_value(", height ", &height);
 }

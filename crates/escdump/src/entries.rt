@@ -1,6 +1,6 @@
 //! The parameters of a control sequence, by their places.
 
-use escape_stream::CsiParam;
+use esc_values::CsiParam;
 
 /// The number at this place, from 0 on, where there is one: the first of its parts, where it has
 /// several with `:` between them.

@@ -2,8 +2,7 @@
 
 use crate::phrase::Phrase;
 use esc_functions::EscapeFunction;
-use escape_stream::Esc;
-use std::alloc::Allocator;
+use esc_sequences::Esc;
 
 // The character set of a final byte: a line each, with the byte, a space and the set's name (the
 // manual of the VT510, "SCS", and xterm's list, "Designate G0 Character Set").
@@ -30,19 +29,15 @@ Y Italian
 Z Spanish";
 
 /// Adds an escape sequence by its name, where it has one.
-pub fn add_escape<A: Allocator>(esc: Esc, to: &mut Phrase<A>) {
+pub fn add_escape(esc: Esc, to: &mut Phrase) {
     match EscapeFunction::of(esc) {
         Some(function) => {
-            to.begin("ESC", function.name());
-            to.add_all(&[" ", function.words()]);
+            to.begin("ESC", function.name(), function.words());
             if is_designation(function) {
-                to.add_all(&[" (", named_set(esc), ")"]);
+                to.add_note(named_set(esc));
             }
         }
-        None => {
-            to.begin("ESC", "");
-            to.add(" without a name");
-        }
+        None => to.begin("ESC", "", "without a name"),
     }
 }
 

@@ -3,7 +3,6 @@
 ghost use Rattle.std.specs.Prelude.{◌<◌};
 
 use crate::phrase::Phrase;
-use std::alloc::Allocator;
 
 // A line for each row of what is counted: what the characters of it are, by Unicode's names or, of
 // several, by what they have in common.
@@ -73,35 +72,24 @@ impl Hidden {
         self.is_any = true;
     }
 
-    /// Forgets those that came.
-    pub fn clear(&mut self) {
-        if self.is_any {
-            *self = Hidden::new();
-        }
-    }
-
     /// Adds each name once, with the first code point that has it, and how often it came.
-    pub fn add_words<A: Allocator>(&self, to: &mut Phrase<A>) {
+    pub fn add_words(&self, to: &mut Phrase) {
         if !self.is_any {
             return;
         }
-        let seen = self.counts.iter().zip(&self.firsts);
-        for (name, (count, first)) in NAMES.lines().zip(seen) {
-            if *count > 0 {
-                add_name(name, *first, *count, to);
-            }
+        for (row, name) in NAMES.lines().enumerate() {
+            self.add_row(row, name, to);
         }
     }
-}
 
-// Adds a code point, its name, and how often it came.
-fn add_name<A: Allocator>(name: &str, first: u32, count: u32, to: &mut Phrase<A>) {
-    to.add(", with U+");
-    to.add_code(first);
-    to.add_all(&[" ", name]);
-    if count > 1 {
-        to.add_value(", ", &count);
-        to.add(" times");
+    // Adds the name of a row, where one of its characters came.
+    fn add_row(&self, row: usize, name: &str, to: &mut Phrase) {
+        if row < ROWS && self.counts[row] > 0 {
+            to.add(", with U+");
+            to.add_code(self.firsts[row]);
+            to.add_word(name);
+            to.add_times(self.counts[row] as u64);
+        }
     }
 }
 

@@ -2,23 +2,23 @@
 
 use crate::kind::Kind;
 use esc_segments::SegmentKind;
-use std::alloc::{AllocError, Allocator, Global};
+use std::alloc::Global;
 
 /// What comes now: a run of text, or a segment.
 #[derive(Drop)]
-pub struct Item<A: Allocator = Global> {
+pub struct Item {
     /// How many bytes of the stream come before it.
     pub place: u64,
     /// How many bytes of it came.
     pub length: u64,
     /// The kind of what came of it last.
     pub segment: SegmentKind,
-    bytes: Vec<u8, A>,
+    bytes: Vec<u8>,
 }
 
-impl<A: Allocator> Item<A> {
+impl Item {
     /// Nothing, at the beginning of a stream. Takes no memory.
-    pub fn new(alloc: A) -> Item<A> {
+    pub fn new(alloc: Global) -> Item {
         Item {
             place: 0,
             length: 0,
@@ -42,14 +42,9 @@ impl<A: Allocator> Item<A> {
         Kind::of(self.segment, &self.bytes)
     }
 
-    /// Adds some bytes, of which as many are kept as the limit allows, and of a run of text all.
-    /// The error is that memory was refused.
-    pub fn add(
-        &mut self,
-        segment: SegmentKind,
-        bytes: &[u8],
-        limit: usize,
-    ) -> Result<(), AllocError> {
+    /// Adds some bytes, of which as many are kept as the limit allows, and of a run of text all;
+    /// returns whether memory was there for them.
+    pub fn add(&mut self, segment: SegmentKind, bytes: &[u8], limit: usize) -> bool {
         self.segment = segment;
         self.length = self.length.saturating_add(bytes.len() as u64);
         let room = if segment == SegmentKind::Character {
@@ -57,7 +52,7 @@ impl<A: Allocator> Item<A> {
         } else {
             limit.saturating_sub(self.bytes.len()).min(bytes.len())
         };
-        self.bytes.extend_from_slice(&bytes[..room])
+        self.bytes.extend_from_slice(&bytes[..room]).is_ok()
     }
 
     /// The bytes that are kept.

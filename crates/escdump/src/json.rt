@@ -2,105 +2,81 @@
 
 use crate::item::Item;
 use crate::kind::Kind;
-use crate::line::{name_of, push_words};
+use crate::line::{add_said, name_of};
 use crate::page::Page;
-use crate::phrase::Name;
+use crate::phrase::{Name, Phrase};
 use crate::words::Words;
-use std::alloc::{AllocError, Allocator};
 
-/// Adds the object of an item with these words. The error is that memory was refused.
-pub fn add_object<A: Allocator + Copy>(
-    alloc: A,
-    item: &Item<A>,
-    words: &Words<A>,
-    is_finished: bool,
-    page: &mut Page<A>,
-) -> Result<(), AllocError> {
-    let place = item.place;
-    let length = item.length;
+/// Adds the object of an item with these words.
+pub fn add_object(item: &Item, words: &mut Words, is_finished: bool, page: &mut Page) {
     let kind = item.kind();
-    let word = kind.word();
-    let head = format!(in alloc; "{{\"offset\":{place},\"length\":{length},\"kind\":\"{word}\"")?;
-    page.push_words(head.as_str())?;
+    push_head(item, page);
+    page.push_string(",\"kind\":", kind.word());
     page.push_words(if is_finished {
         ",\"finished\":true"
     } else {
         ",\"finished\":false"
-    })?;
-    add_name(name_of(item, words), page)?;
+    });
+    push_name(name_of(item, words), page);
     if kind != Kind::Text {
-        page.push_words(",\"words\":")?;
-        page.quote()?;
-        push_words(item, words, page)?;
-        page.quote()?;
+        add_said(item, words);
+        page.push_string(",\"words\":", words.phrase.as_str());
     }
-    add_fields(item, page)?;
-    page.push_words(",\"bytes\":")?;
-    page.quote()?;
-    page.push(item.bytes(), usize::MAX)?;
-    page.quote()?;
-    page.push_words("}")
+    if kind == Kind::Csi || kind.is_string() {
+        push_fields(kind, item.body(), page);
+    }
+    push_bytes(item, page);
+}
+
+// Adds the place and the length.
+fn push_head(item: &Item, page: &mut Page) {
+    let mut head = page.phrase();
+    head.add_value("{\"offset\":", &item.place);
+    head.add_value(",\"length\":", &item.length);
+    page.push(&head);
 }
 
 // Adds the name.
-fn add_name<A: Allocator + Copy>(name: Name, page: &mut Page<A>) -> Result<(), AllocError> {
-    page.push_words(",\"name\":")?;
-    page.quote()?;
-    page.push_words(name.0)?;
-    if !name.1.is_empty() {
-        page.push_words(" ")?;
-        page.push_words(name.1)?;
-    }
-    page.quote()
+fn push_name(name: Name, page: &mut Page) {
+    let mut phrase = page.phrase();
+    phrase.begin(name.0, name.1, "");
+    page.note(phrase.is_refused());
+    page.push_string(",\"name\":", phrase.as_str());
 }
 
-// Adds the fields of a control sequence or a string: what has `;` between.
-fn add_fields<A: Allocator + Copy>(item: &Item<A>, page: &mut Page<A>) -> Result<(), AllocError> {
-    let kind = item.kind();
-    if kind != Kind::Csi && !kind.is_string() {
-        return Ok(());
+// Adds the fields of a control sequence, of which they have digits and colons alone, or of a
+// string: what has `;` between.
+fn push_fields(kind: Kind, body: &[u8], page: &mut Page) {
+    let mut phrase = page.phrase();
+    if kind == Kind::Csi {
+        add_digits(body, &mut phrase);
+    } else {
+        phrase.add_bytes(body, usize::MAX);
     }
-    page.push_words(",\"fields\":[")?;
-    page.quote()?;
-    let mut rest = item.body();
-    for _ in 0..usize::MAX {
-        let Some((field, more)) = split_field(rest) else {
-            break;
-        };
-        add_field(kind, field, page)?;
-        page.quote()?;
-        page.push_words(",")?;
-        page.quote()?;
-        rest = more;
+    page.note(phrase.is_refused());
+    page.push_words(",\"fields\":[");
+    let mut is_next = false;
+    for field in phrase.as_str().split(';') {
+        page.push_string(if is_next { "," } else { "" }, field);
+        is_next = true;
     }
-    add_field(kind, rest, page)?;
-    page.quote()?;
-    page.push_words("]")
+    page.push_words("]");
 }
 
-// What comes before the first `;`, and after it.
-fn split_field(bytes: &[u8]) -> Option<(&[u8], &[u8])> {
-    for at in 0..bytes.len() {
-        if bytes[at] == b';' {
-            return Some((&bytes[..at], &bytes[at + 1..]));
+// Adds the bytes 30 to 3B alone: digits, `:` and `;`.
+fn add_digits(bytes: &[u8], phrase: &mut Phrase) {
+    for byte in bytes {
+        if matches!(*byte, b'0'..=b';') {
+            phrase.add_char(char::from(*byte));
         }
     }
-    None
 }
 
-// Adds a field; of a control sequence its digits and colons alone.
-fn add_field<A: Allocator + Copy>(
-    kind: Kind,
-    field: &[u8],
-    page: &mut Page<A>,
-) -> Result<(), AllocError> {
-    if kind != Kind::Csi {
-        return page.push(field, usize::MAX);
-    }
-    for byte in field {
-        if matches!(*byte, b'0'..=b':') {
-            page.push(&[*byte], usize::MAX)?;
-        }
-    }
-    Ok(())
+// Adds the bytes that are kept.
+fn push_bytes(item: &Item, page: &mut Page) {
+    let mut phrase = page.phrase();
+    phrase.add_bytes(item.bytes(), usize::MAX);
+    page.note(phrase.is_refused());
+    page.push_string(",\"bytes\":", phrase.as_str());
+    page.push_words("}");
 }

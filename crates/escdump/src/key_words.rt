@@ -4,8 +4,7 @@ use crate::entries::{number_at, part_at};
 use crate::named::words_of;
 use crate::phrase::Phrase;
 use esc_functions::ControlFunction;
-use escape_stream::CsiParam;
-use std::alloc::Allocator;
+use esc_values::CsiParam;
 
 // Function keys (the VT510's manual, chapter 8; xterm's list, "PC-Style Function Keys"; rxvt for 7
 // and 8; kitty for 29).
@@ -176,7 +175,7 @@ static BUTTONS: &str = "\
 131 button 11";
 
 /// Adds a function key by its name, and the modifiers that are held with it.
-pub fn add_function_key<A: Allocator>(params: &[CsiParam], to: &mut Phrase<A>) {
+pub fn add_function_key(params: &[CsiParam], to: &mut Phrase) {
     let number = number_at(params, 0).unwrap_or(0);
     if number == 27 {
         let code = number_at(params, 2).unwrap_or(0);
@@ -184,14 +183,12 @@ pub fn add_function_key<A: Allocator>(params: &[CsiParam], to: &mut Phrase<A>) {
         return add_pressed(code, number_at(params, 1), to);
     }
     to.add_value(" ", &number);
-    if let Some(words) = words_of(FUNCTION_KEYS, number) {
-        to.add_all(&[" (", words, ")"]);
-    }
+    to.add_note(words_of(FUNCTION_KEYS, number, ""));
     add_modifiers(number_at(params, 1), to);
 }
 
 /// Adds a key that kitty reports, the modifiers that are held with it, and what became of it.
-pub fn add_key<A: Allocator>(params: &[CsiParam], to: &mut Phrase<A>) {
+pub fn add_key(params: &[CsiParam], to: &mut Phrase) {
     to.add(" ");
     add_pressed(number_at(params, 0).unwrap_or(1), number_at(params, 1), to);
     match part_at(params, 1, 1) {
@@ -206,16 +203,17 @@ pub fn add_key<A: Allocator>(params: &[CsiParam], to: &mut Phrase<A>) {
 }
 
 // Adds a key by its code, and the modifiers that are held with it.
-fn add_pressed<A: Allocator>(code: i64, modifiers: Option<i64>, to: &mut Phrase<A>) {
-    match words_of(KITTY_KEYS, code) {
-        Some(words) => to.add(words),
-        None => add_character(code, to),
+fn add_pressed(code: i64, modifiers: Option<i64>, to: &mut Phrase) {
+    let words = words_of(KITTY_KEYS, code, "");
+    to.add(words);
+    if words.is_empty() {
+        add_character(code, to);
     }
     add_modifiers(modifiers, to);
 }
 
 // Adds the character of a code between quotes, or a code that has none.
-fn add_character<A: Allocator>(code: i64, to: &mut Phrase<A>) {
+fn add_character(code: i64, to: &mut Phrase) {
     match char::from_u32(u32::try_from(code).unwrap_or(u32::MAX)) {
         Some(c) => {
             to.add("\"");
@@ -227,19 +225,19 @@ fn add_character<A: Allocator>(code: i64, to: &mut Phrase<A>) {
 }
 
 // Adds the modifiers of a number that is one more than their bits.
-fn add_modifiers<A: Allocator>(number: Option<i64>, to: &mut Phrase<A>) {
+fn add_modifiers(number: Option<i64>, to: &mut Phrase) {
     if let Some(number) = number {
         let _ = add_bits(MODIFIERS, " with ", " and ", number.saturating_sub(1), to);
     }
 }
 
 // Adds the words of the bits of a number, if it has any; returns whether it has.
-fn add_bits<A: Allocator>(
+fn add_bits(
     table: &'static str,
     before: &'static str,
     between: &'static str,
     number: i64,
-    to: &mut Phrase<A>,
+    to: &mut Phrase,
 ) -> bool {
     let mut has_any = false;
     for line in table.lines() {
@@ -263,7 +261,7 @@ fn has_bit(number: i64, text: &str) -> bool {
 }
 
 /// Adds flags of kitty's keyboard, and what is done with them.
-pub fn add_flags<A: Allocator>(function: ControlFunction, params: &[CsiParam], to: &mut Phrase<A>) {
+pub fn add_flags(function: ControlFunction, params: &[CsiParam], to: &mut Phrase) {
     let Some(number) = number_at(params, 0).or(least_flags(function)) else {
         return;
     };
@@ -276,7 +274,8 @@ pub fn add_flags<A: Allocator>(function: ControlFunction, params: &[CsiParam], t
     }
     if function == ControlFunction::KITTYSET {
         let change = number_at(params, 1).unwrap_or(1);
-        to.add_all(&[", ", words_of(CHANGES, change).unwrap_or("not known")]);
+        to.add(",");
+        to.add_word(words_of(CHANGES, change, "not known"));
     }
 }
 
@@ -289,15 +288,12 @@ fn least_flags(function: ControlFunction) -> Option<i64> {
 }
 
 /// Adds a report of the mouse: the button and what became of it, the modifiers, and the place.
-pub fn add_mouse<A: Allocator>(function: ControlFunction, params: &[CsiParam], to: &mut Phrase<A>) {
+pub fn add_mouse(function: ControlFunction, params: &[CsiParam], to: &mut Phrase) {
     let number = number_at(params, 0).unwrap_or(0);
     if number & 32 != 0 {
         to.add(" pointer moved,");
     }
-    to.add_all(&[
-        " ",
-        words_of(BUTTONS, number & 0xc3).unwrap_or("a button that is not known"),
-    ]);
+    to.add_word(words_of(BUTTONS, number & 0xc3, "a button that is not known"));
     if function == ControlFunction::MOUSEUP {
         to.add(" released");
     } else if number & 0x60 == 0 {

@@ -5,160 +5,128 @@ use crate::json::add_object;
 use crate::kind::Kind;
 use crate::options::Form;
 use crate::page::{Color, Page};
-use crate::phrase::Name;
+use crate::phrase::{Name, Phrase};
 use crate::words::Words;
-use std::alloc::{AllocError, Allocator};
 
-// The column at which words begin, and at which bytes before them are cut.
+// The columns at which bytes, words, and a segment's kind, state and bytes begin.
+const BYTES: usize = 10;
+
 const WORDS: usize = 34;
 
-const CUT: usize = 28;
+const KIND: usize = 17;
 
-/// Adds the line of an item with these words, in this form. The error is that memory was refused.
-pub fn add_line<A: Allocator + Copy>(
-    alloc: A,
-    form: Form,
-    item: &Item<A>,
-    words: &Words<A>,
-    is_finished: bool,
-    page: &mut Page<A>,
-) -> Result<(), AllocError> {
+const STATE: usize = 45;
+
+const SEGMENT: usize = 56;
+
+// How many columns of bytes come before words; the last character may go past them.
+const ROOM: usize = 18;
+
+// The most bytes of a character.
+const WIDEST: usize = 4;
+
+/// Adds the line of an item with these words, in this form.
+pub fn add_line(form: Form, item: &Item, words: &mut Words, is_finished: bool, page: &mut Page) {
     match form {
-        Form::Json => add_object(alloc, item, words, is_finished, page)?,
-        Form::Words => {
-            add_place(alloc, item.place, page)?;
-            add_words(alloc, item, words, is_finished, page)?;
-        }
-        Form::Segments => {
-            add_place(alloc, item.place, page)?;
-            add_segment(alloc, item, is_finished, page)?;
-        }
+        Form::Json => add_object(item, words, is_finished, page),
+        Form::Words => add_words(item, words, is_finished, page),
+        Form::Segments => add_segment(item, is_finished, page),
         Form::Bytes | Form::Stats => {
-            add_place(alloc, item.place, page)?;
-            push_bytes(item, page)?;
+            add_place(item.place, page);
+            push_bytes(item, page);
         }
     }
-    page.end_line()
+    page.end_line();
 }
 
 // The place.
-fn add_place<A: Allocator + Copy>(
-    alloc: A,
-    place: u64,
-    page: &mut Page<A>,
-) -> Result<(), AllocError> {
-    let place = format!(in alloc; "{place:>8}")?;
-    page.push_colored(Color::Place, place.as_bytes(), usize::MAX, 10)
+fn add_place(place: u64, page: &mut Page) {
+    let mut phrase = page.phrase();
+    phrase.add_number(place, 8);
+    page.push_colored(Color::Place, &phrase, BYTES);
 }
 
-// The length of a segment, its kind, and its bytes.
-fn add_segment<A: Allocator + Copy>(
-    alloc: A,
-    item: &Item<A>,
-    is_finished: bool,
-    page: &mut Page<A>,
-) -> Result<(), AllocError> {
-    let state = if is_finished {
+// The place and the length of a segment, its kind, and its bytes.
+fn add_segment(item: &Item, is_finished: bool, page: &mut Page) {
+    add_place(item.place, page);
+    let mut phrase = page.phrase();
+    phrase.add_number(item.length, 6);
+    page.push(&phrase);
+    page.pad(KIND);
+    let (name, words) = item.kind().words();
+    page.push_words(if words.is_empty() { name } else { words });
+    page.pad(STATE);
+    page.push_words(if is_finished {
         "finished"
     } else {
         "unfinished"
-    };
-    let length = item.length;
-    let (name, words) = item.kind().words();
-    let words = if words.is_empty() { name } else { words };
-    let facts = format!(in alloc; "{length:>6} {words:<27} {state:<10}")?;
-    page.push(facts.as_bytes(), usize::MAX)?;
-    page.pad(10)?;
-    push_bytes(item, page)
+    });
+    page.pad(SEGMENT);
+    push_bytes(item, page);
 }
 
 // The bytes that are kept, and `..` where not all are.
-fn push_bytes<A: Allocator + Copy>(item: &Item<A>, page: &mut Page<A>) -> Result<(), AllocError> {
-    let rest: &[u8] = if item.is_cut() { b".." } else { b"" };
-    page.color(Color::Bytes)?;
-    page.push(item.bytes(), usize::MAX)?;
-    page.push(rest, usize::MAX)?;
-    page.color(Color::Plain)
-}
-
-// The first bytes, and the words.
-fn add_words<A: Allocator + Copy>(
-    alloc: A,
-    item: &Item<A>,
-    words: &Words<A>,
-    is_finished: bool,
-    page: &mut Page<A>,
-) -> Result<(), AllocError> {
-    page.push_colored(Color::Bytes, item.bytes(), CUT, WORDS)?;
-    page.forget_hidden();
-    if item.is_text() {
-        page.push_quoted(b"text \"", item.bytes())?;
-    } else {
-        push_words(item, words, page)?;
-    }
-    page.push_hidden()?;
-    push_state(alloc, item, is_finished, page)
-}
-
-/// Appends the words of a segment: of its actions, or of what gives none, and its text.
-pub fn push_words<A: Allocator + Copy>(
-    item: &Item<A>,
-    words: &Words<A>,
-    page: &mut Page<A>,
-) -> Result<(), AllocError> {
-    let said = words.phrase.as_str();
-    page.push_words(said)?;
-    let kind = item.kind();
-    if said.is_empty() || kind == Kind::Cut {
-        push_kind(kind, !said.is_empty(), page)?;
-    }
-    if said.is_empty() && kind.is_string() {
-        return page.push_quoted(b" \"", item.body());
-    }
-    if words.data.is_empty() {
-        return Ok(());
-    }
-    page.push_quoted(b" \"", &words.data)
-}
-
-// Appends the words of a kind, after others or not.
-fn push_kind<A: Allocator + Copy>(
-    kind: Kind,
-    is_next: bool,
-    page: &mut Page<A>,
-) -> Result<(), AllocError> {
-    let (name, words) = kind.words();
-    if is_next {
-        page.push_words("; ")?;
-    }
-    page.push_words(name)?;
-    if words.is_empty() {
-        return Ok(());
-    }
-    page.push_words(" ")?;
-    page.push_words(words)
-}
-
-// Appends what is said of a segment that is longer than the limit, or unfinished.
-fn push_state<A: Allocator + Copy>(
-    alloc: A,
-    item: &Item<A>,
-    is_finished: bool,
-    page: &mut Page<A>,
-) -> Result<(), AllocError> {
+fn push_bytes(item: &Item, page: &mut Page) {
+    let mut phrase = page.phrase();
+    phrase.add_bytes(item.bytes(), usize::MAX);
     if item.is_cut() {
-        page.push_words(", longer than the limit")?;
+        phrase.add("..");
     }
-    if is_finished {
-        return Ok(());
+    page.color(Color::Bytes);
+    page.push(&phrase);
+    page.color(Color::Plain);
+}
+
+// The place, the first bytes, and the words.
+fn add_words(item: &Item, words: &mut Words, is_finished: bool, page: &mut Page) {
+    add_place(item.place, page);
+    add_first(item.bytes(), page);
+    add_said(item, words);
+    words.phrase.add_hidden_names();
+    add_state(item, is_finished, &mut words.phrase);
+    page.push(&words.phrase);
+}
+
+// The first bytes. Each character takes a column at least, so what is past the column is not read.
+fn add_first(bytes: &[u8], page: &mut Page) {
+    let most = bytes.len().min(WIDEST * ROOM + WIDEST);
+    let mut phrase = page.phrase();
+    phrase.add_bytes(&bytes[..most], ROOM);
+    page.push_colored(Color::Bytes, &phrase, WORDS);
+}
+
+/// Adds to the words of a segment those of what gives none, and its text.
+pub fn add_said(item: &Item, words: &mut Words) {
+    let kind = item.kind();
+    let phrase = &mut words.phrase;
+    if kind == Kind::Text {
+        return phrase.add_quoted("text ", item.bytes());
     }
-    let length = item.length;
-    let state = format!(in alloc; ", unfinished, {length} bytes")?;
-    page.push_words(state.as_str())
+    let is_said = !phrase.as_str().is_empty();
+    if !is_said || kind == Kind::Cut {
+        let (name, more) = kind.words();
+        phrase.begin(name, more, "");
+    }
+    if !is_said && kind.is_string() {
+        phrase.add_quoted(" ", item.body());
+    } else if !words.data.is_empty() {
+        phrase.add_quoted(" ", &words.data);
+    }
+}
+
+// Adds what is said of a segment that is longer than the limit, or unfinished.
+fn add_state(item: &Item, is_finished: bool, phrase: &mut Phrase) {
+    if item.is_cut() {
+        phrase.add(", longer than the limit");
+    }
+    if !is_finished {
+        phrase.add_value(", unfinished, ", &item.length);
+        phrase.add(" bytes");
+    }
 }
 
 /// The name of an item: that of its last action, or of its kind.
-pub fn name_of<A: Allocator>(item: &Item<A>, words: &Words<A>) -> Name {
+pub fn name_of(item: &Item, words: &Words) -> Name {
     let name = words.phrase.name();
     let kind = item.kind();
     if name.0.is_empty() || kind == Kind::Cut {

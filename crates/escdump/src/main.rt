@@ -22,6 +22,7 @@ mod named;
 mod options;
 mod page;
 mod phrase;
+mod quoted;
 mod renditions;
 mod resume;
 mod run;

@@ -4,8 +4,7 @@ use crate::entries::number_at;
 use crate::named::words_of;
 use crate::phrase::Phrase;
 use esc_functions::{ControlFunction, Mode, PrivateMode};
-use escape_stream::CsiParam;
-use std::alloc::Allocator;
+use esc_values::CsiParam;
 
 // What happens where a private mode is set, and where it is reset, of those that people meet: a
 // line each, with the mode's number (xterm's list, "DEC Private Mode Set"; the VT510's manual).
@@ -60,7 +59,7 @@ static STATES: &str = "\
 4 permanently reset";
 
 /// Adds modes by their numbers, each with its name and its words.
-pub fn add_modes<A: Allocator>(params: &[CsiParam], to: &mut Phrase<A>) {
+pub fn add_modes(params: &[CsiParam], to: &mut Phrase) {
     let mut separator = " ";
     for param in params {
         if let CsiParam::Integer(number) = *param {
@@ -71,20 +70,19 @@ pub fn add_modes<A: Allocator>(params: &[CsiParam], to: &mut Phrase<A>) {
     }
 }
 
-fn add_mode<A: Allocator>(number: i64, to: &mut Phrase<A>) {
+fn add_mode(number: i64, to: &mut Phrase) {
     to.add_value("", &number);
     match Mode::of_number(short(number)) {
-        Some(mode) => to.add_all(&[" ", mode.name(), " ", mode.words()]),
-        None => to.add(" (not known)"),
+        Some(mode) => {
+            to.add_word(mode.name());
+            to.add_word(mode.words());
+        }
+        None => to.add_word("(not known)"),
     }
 }
 
 /// Adds private modes by their numbers, each with what this function does to it.
-pub fn add_private_modes<A: Allocator>(
-    function: ControlFunction,
-    params: &[CsiParam],
-    to: &mut Phrase<A>,
-) {
+pub fn add_private_modes(function: ControlFunction, params: &[CsiParam], to: &mut Phrase) {
     let mut separator = " ";
     for param in params {
         if let CsiParam::Integer(number) = *param {
@@ -95,50 +93,59 @@ pub fn add_private_modes<A: Allocator>(
     }
 }
 
-// Adds a private mode by its number, with its name where a manual has it: each of those begins with
-// DEC.
-fn add_private_mode<A: Allocator>(function: ControlFunction, number: i64, to: &mut Phrase<A>) {
+// Adds a private mode by its number, and what the function does to it.
+fn add_private_mode(function: ControlFunction, number: i64, to: &mut Phrase) {
     to.add_value("", &number);
-    let Some(mode) = PrivateMode::of_number(short(number)) else {
-        to.add_all(&[verb_of(function), " (not known)"]);
-        return;
-    };
-    if mode.name().starts_with("DEC") {
-        to.add_all(&[" ", mode.name()]);
+    match PrivateMode::of_number(short(number)) {
+        Some(mode) => add_known(function, number, mode, to),
+        None => {
+            to.add_word(verb_of(function));
+            to.add_word("(not known)");
+        }
     }
-    match phrase_of(function, number) {
-        Some(phrase) => to.add_all(&[" ", phrase]),
-        None => to.add_all(&[verb_of(function), " ", mode.words()]),
+}
+
+// Adds a private mode by its name where a manual has it, each of which begins with DEC, and what
+// the function does to it.
+fn add_known(function: ControlFunction, number: i64, mode: PrivateMode, to: &mut Phrase) {
+    if mode.name().starts_with("DEC") {
+        to.add_word(mode.name());
+    }
+    let phrase = phrase_of(function, number);
+    to.add_word(phrase);
+    if phrase.is_empty() {
+        to.add_word(verb_of(function));
+        to.add_word(mode.words());
     }
 }
 
 // What the function does to a mode, where its own words do not say it.
 fn verb_of(function: ControlFunction) -> &'static str {
-    match function {
-        ControlFunction::DECSET => " set",
-        ControlFunction::DECRST => " reset",
-        _ => "",
+    chosen(function, "set", "reset")
+}
+
+// What happens where the function sets or resets the private mode of this number, where the table
+// has it.
+fn phrase_of(function: ControlFunction, number: i64) -> &'static str {
+    match words_of(PHRASES, number, "").split_once('|') {
+        Some((set, reset)) => chosen(function, set, reset),
+        None => "",
     }
 }
 
-// What happens where the function sets or resets the private mode of this number.
-fn phrase_of(function: ControlFunction, number: i64) -> Option<&'static str> {
-    let is_set = match function {
-        ControlFunction::DECSET => true,
-        ControlFunction::DECRST => false,
-        _ => return None,
-    };
-    match words_of(PHRASES, number) {
-        Some(words) => match words.split_once('|') {
-            Some((set, reset)) => Some(if is_set { set } else { reset }),
-            None => None,
-        },
-        None => None,
+// The words of a function that sets or resets private modes; none of another.
+fn chosen(function: ControlFunction, set: &'static str, reset: &'static str) -> &'static str {
+    if function == ControlFunction::DECSET {
+        return set;
     }
+    if function == ControlFunction::DECRST {
+        return reset;
+    }
+    ""
 }
 
 /// Adds the mode that is reported, by its number and words, and whether it is set.
-pub fn add_state<A: Allocator>(function: ControlFunction, params: &[CsiParam], to: &mut Phrase<A>) {
+pub fn add_state(function: ControlFunction, params: &[CsiParam], to: &mut Phrase) {
     let number = number_at(params, 0).unwrap_or(0);
     to.add(" ");
     if function == ControlFunction::DECRPM {
@@ -147,7 +154,8 @@ pub fn add_state<A: Allocator>(function: ControlFunction, params: &[CsiParam], t
         add_mode(number, to);
     }
     let state = number_at(params, 1).unwrap_or(0);
-    to.add_all(&[": ", words_of(STATES, state).unwrap_or("not known")]);
+    to.add(":");
+    to.add_word(words_of(STATES, state, "not known"));
 }
 
 // The number of a mode; one that no mode has, where it is longer than any.

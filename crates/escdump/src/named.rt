@@ -1,16 +1,16 @@
 //! Words for numbers.
 
-/// The words of this number in a table, where it has them. A table is a text with a line for each
-/// number: the number, a space and its words.
-pub fn words_of(table: &'static str, number: i64) -> Option<&'static str> {
+/// The words of this number in a table, or these others, where it has none. A table is a text with
+/// a line for each number: the number, a space and its words.
+pub fn words_of(table: &'static str, number: i64, others: &'static str) -> &'static str {
     for line in table.lines() {
         if let Some((key, words)) = line.split_once(' ') {
             if is_number(key, number) {
-                return Some(words);
+                return words;
             }
         }
     }
-    None
+    others
 }
 
 // Whether a text is this number in decimal.

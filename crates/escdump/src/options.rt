@@ -2,7 +2,7 @@
 
 use crate::kind::{KINDS, Kind as LineKind};
 use command_line::{Found, Known, Takes, Wrong, read};
-use std::alloc::{Allocator, Global};
+use std::alloc::Global;
 
 /// What a line is printed of.
 #[derive(Clone, Copy)]
@@ -63,7 +63,7 @@ pub enum Kind {
 
 /// What the program's words ask for.
 #[derive(Drop)]
-pub struct Task<'a, A: Allocator = Global> {
+pub struct Task<'a> {
     /// What the program does.
     pub kind: Kind,
     /// How streams are printed.
@@ -71,7 +71,7 @@ pub struct Task<'a, A: Allocator = Global> {
     /// When lines have colours.
     pub colors: When,
     /// The files.
-    pub files: Vec<&'a str, A>,
+    pub files: Vec<&'a str>,
 }
 
 const DEFAULT_LIMIT: usize = 1_048_576;
@@ -138,10 +138,10 @@ const KNOWN: &[Known] = &[
     },
 ];
 
-impl<'a, A: Allocator + Copy> Task<'a, A> {
+impl<'a> Task<'a> {
     /// The task that these words, the program's arguments, name; of an option that is given twice,
     /// and of the forms, the last counts.
-    pub fn of(alloc: A, words: &'a [String]) -> Result<Task<'a, A>, Wrong<'a>> {
+    pub fn of(alloc: Global, words: &'a [String]) -> Result<Task<'a>, Wrong<'a>> {
         match read(alloc, KNOWN, words) {
             Ok(found) => Ok(Task::from_found(found)),
             Err(wrong) => Err(wrong),
@@ -149,7 +149,7 @@ impl<'a, A: Allocator + Copy> Task<'a, A> {
     }
 
     // The task that these options and files name.
-    fn from_found(found: Found<'a, A>) -> Task<'a, A> {
+    fn from_found(found: Found<'a>) -> Task<'a> {
         let mut kind = Kind::Dump;
         let mut colors = When::Auto;
         let mut options = Options {

@@ -1,25 +1,24 @@
 //! Lines that are safe to print.
-ghost use Rattle.std.specs.Prelude.{◌≡◌, ◌<◌, true};
+ghost use Rattle.std.specs.Prelude.{◌≡◌, true};
 ghost use Rattle.command_line.specs.Characters.{is_shown};
-ghost use Rattle.escdump.specs.Pages.{IsPage};
+ghost use Rattle.escdump.specs.Pages.{IsPage, IsPiece};
 
-use crate::hidden::Hidden;
 use crate::phrase::Phrase;
 use command_line::is_shown;
 use esc_values::Text;
-use std::alloc::{AllocError, Allocator, Global};
-use std::str::Utf8Chunk;
+use std::alloc::Global;
 
 /// Lines for a terminal or a file, of which each character is shown, ends a line, or belongs to a
-/// colour that was asked for: no control or escape sequence of what was read is in them.
+/// colour that was asked for: no control or escape sequence of what was read is in them. Once
+/// memory is refused nothing more is appended, and [`is_refused`](Page::is_refused) says so.
 #[derive(Drop)]
-pub struct Page<A: Allocator = Global> {
-    text: Text<A>,
+pub struct Page {
+    alloc: Global,
+    text: Text,
     columns: usize,
     is_colored: bool,
     is_string: bool,
-    hidden: Hidden,
-    alloc: A,
+    is_refused: bool,
     ghost safe: { ∥ IsPage text ∥₁ },
 }
 
@@ -34,17 +33,17 @@ pub enum Color {
     Plain,
 }
 
-impl<A: Allocator + Copy> Page<A> {
+impl Page {
     /// No lines. Takes no memory.
     #[tactic(auto, using(crate::proofs::PagesMore::no_page))]
-    pub fn new(alloc: A, is_colored: bool) -> Page<A> {
+    pub fn new(alloc: Global, is_colored: bool) -> Page {
         Page {
+            alloc,
             text: Text::new(alloc),
             columns: 0,
             is_colored,
             is_string: false,
-            hidden: Hidden::new(),
-            alloc,
+            is_refused: false,
         }
     }
 
@@ -61,193 +60,115 @@ impl<A: Allocator + Copy> Page<A> {
         self.text = Text::new(self.alloc);
     }
 
-    /// Appends the bytes, escaped: a well-formed character that is shown as itself, `\` as `\\`,
-    /// and each other byte as `\x` with two hexadecimal digits. Where they would go past this
-    /// column, the first ones, and `..`. The error is that memory was refused.
-    pub fn push(&mut self, bytes: &[u8], room: usize) -> Result<(), AllocError> {
-        self.push_escaped(bytes, room, false)
+    /// A phrase without words.
+    pub fn phrase(&self) -> Phrase {
+        Phrase::new(self.alloc)
     }
 
-    // Appends the bytes in this way, inside quotes also each `"` as `\"`.
-    fn push_escaped(
-        &mut self,
-        bytes: &[u8],
-        room: usize,
-        is_quoted: bool,
-    ) -> Result<(), AllocError> {
-        for chunk in bytes.utf8_chunks() {
-            if !self.push_chunk(chunk, room, is_quoted)? {
-                return self.cut();
-            }
-        }
-        Ok(())
+    /// Whether memory was refused, and something is left out.
+    pub fn is_refused(&self) -> bool {
+        self.is_refused
     }
 
-    // Appends some of the bytes, as far as there is room, and returns whether there is.
-    fn push_chunk(
-        &mut self,
-        chunk: Utf8Chunk<'_>,
-        room: usize,
-        is_quoted: bool,
-    ) -> Result<bool, AllocError> {
-        for c in chunk.valid().chars() {
-            if self.columns >= room {
-                return Ok(false);
-            }
-            if c == '\\' || (is_quoted && c == '"') {
-                self.push_shown('\\')?;
-            }
-            self.push_char(c)?;
-        }
-        for byte in chunk.invalid() {
-            if self.columns >= room {
-                return Ok(false);
-            }
-            self.push_hex(*byte)?;
-        }
-        Ok(true)
+    /// Notes whether memory was refused.
+    pub fn note(&mut self, is_refused: bool) {
+        self.is_refused = self.is_refused || is_refused;
     }
 
-    /// Appends the bytes in a colour, escaped and within this column as before, and then spaces up
-    /// to the next one.
-    pub fn push_colored(
-        &mut self,
-        color: Color,
-        bytes: &[u8],
-        room: usize,
-        columns: usize,
-    ) -> Result<(), AllocError> {
-        self.color(color)?;
-        self.push(bytes, room)?;
-        self.color(Color::Plain)?;
-        self.pad(columns)
+    /// Appends the words of a phrase.
+    pub fn push(&mut self, phrase: &Phrase) {
+        self.note(phrase.is_refused());
+        self.push_words(phrase.as_str());
     }
 
-    /// Appends bytes after others, and a quote, escaped as before, and each `"` among them as `\"`.
-    pub fn push_quoted(&mut self, before: &[u8], bytes: &[u8]) -> Result<(), AllocError> {
-        self.push(before, usize::MAX)?;
-        self.push_escaped(bytes, usize::MAX, true)?;
-        self.push(b"\"", usize::MAX)
+    /// Appends the words of a phrase in a colour, and then spaces up to this column.
+    pub fn push_colored(&mut self, color: Color, phrase: &Phrase, columns: usize) {
+        self.color(color);
+        self.push(phrase);
+        self.color(Color::Plain);
+        self.pad(columns);
     }
 
-    /// Appends words, in whose texts each `\` and `"` has a `\` before it already. What is not
-    /// shown as itself is escaped.
-    pub fn push_words(&mut self, words: &str) -> Result<(), AllocError> {
+    /// Appends words. What is not shown as itself is left out for a U+FFFD.
+    pub fn push_words(&mut self, words: &str) {
         for c in words.chars() {
-            self.push_char(c)?;
-        }
-        Ok(())
-    }
-
-    /// Begins or ends a string of JSON (RFC 8259, 7), in which what is appended is the string's
-    /// value.
-    pub fn quote(&mut self) -> Result<(), AllocError> {
-        self.is_string = !self.is_string;
-        self.push_plain('"')
-    }
-
-    /// Forgets which characters that deceive came.
-    pub fn forget_hidden(&mut self) {
-        self.hidden.clear();
-    }
-
-    /// Appends the names of characters that deceive which came since they were forgotten.
-    pub fn push_hidden(&mut self) -> Result<(), AllocError> {
-        let mut phrase = Phrase::new(self.alloc);
-        self.hidden.add_words(&mut phrase);
-        phrase.whole()?;
-        self.push_words(phrase.as_str())
-    }
-
-    // Marks that bytes are left out.
-    fn cut(&mut self) -> Result<(), AllocError> {
-        self.push_shown('.')?;
-        self.push_shown('.')
-    }
-
-    // Appends a character, as itself where it is shown, else its bytes.
-    fn push_char(&mut self, c: char) -> Result<(), AllocError> {
-        if is_shown(c) {
-            self.push_shown(c)
-        } else {
-            self.hidden.note(c);
-            let mut bytes = [0u8; 4];
-            for byte in c.encode_utf8(&mut bytes).as_bytes() {
-                self.push_hex(*byte)?;
+            if is_shown(c) {
+                self.push_shown(c);
+            } else {
+                self.push_shown('\u{fffd}');
             }
-            Ok(())
         }
+    }
+
+    /// Appends words, and a string of JSON (RFC 8259, 7) after them, of which the value is this.
+    pub fn push_string(&mut self, before: &str, value: &str) {
+        self.push_words(before);
+        self.push_plain('"');
+        self.is_string = true;
+        self.push_words(value);
+        self.is_string = false;
+        self.push_plain('"');
     }
 
     // Appends a character that is shown as itself, inside a string of JSON after a `\` where it
     // would end the string or begin an escape.
-    fn push_shown(&mut self, c: char) -> Result<(), AllocError>
+    fn push_shown(&mut self, c: char)
         requires { is_shown c ≡ true }
     {
         if self.is_string && (c == '"' || c == '\\') {
-            self.push_plain('\\')?;
+            self.push_plain('\\');
         }
-        self.push_plain(c)
+        self.push_plain(c);
     }
 
     // Appends a character that is shown as itself, in a string and elsewhere.
-    fn push_plain(&mut self, c: char) -> Result<(), AllocError>
+    fn push_plain(&mut self, c: char)
         requires { is_shown c ≡ true }
     {
         self.columns = self.columns.saturating_add(1);
-        self.text.push(c)
-    }
-
-    // Appends a byte as its number.
-    fn push_hex(&mut self, byte: u8) -> Result<(), AllocError> {
-        self.push_shown('\\')?;
-        self.push_shown('x')?;
-        self.push_shown(digit(byte / 16))?;
-        self.push_shown(digit(byte % 16))
+        if !self.is_refused {
+            self.is_refused = self.text.push(c).is_err();
+        }
     }
 
     /// Appends spaces up to this column, and one at least.
-    pub fn pad(&mut self, columns: usize) -> Result<(), AllocError> {
-        self.push_shown(' ')?;
+    pub fn pad(&mut self, columns: usize) {
+        self.push_shown(' ');
         for _ in self.columns..columns {
-            self.push_shown(' ')?;
+            self.push_shown(' ');
         }
-        Ok(())
     }
 
     /// Changes the colour, where colours are asked for.
-    pub fn color(&mut self, color: Color) -> Result<(), AllocError> {
+    pub fn color(&mut self, color: Color) {
         if !self.is_colored {
-            return Ok(());
+            return;
         }
         match color {
-            Color::Place => self.text.push_str("\x1b[33m"),
-            Color::Bytes => self.text.push_str("\x1b[36m"),
-            Color::Plain => self.text.push_str("\x1b[m"),
+            Color::Place => self.push_piece("\x1b[33m"),
+            Color::Bytes => self.push_piece("\x1b[36m"),
+            Color::Plain => self.push_piece("\x1b[m"),
         }
     }
 
-    /// Appends a whole line. The error is that memory was refused.
-    pub fn push_line(&mut self, line: &str) -> Result<(), AllocError> {
-        self.push(line.as_bytes(), usize::MAX)?;
-        self.end_line()
+    /// Appends a whole line.
+    pub fn push_line(&mut self, line: &str) {
+        self.push_words(line);
+        self.end_line();
     }
 
     /// Ends the line.
-    pub fn end_line(&mut self) -> Result<(), AllocError> {
+    pub fn end_line(&mut self) {
         self.columns = 0;
-        self.text.push_str("\n")
+        self.push_piece("\n");
     }
-}
 
-// The digit of a number below 16.
-fn digit(number: u8) -> char
-    requires { number < 16 }
-    ensures { is_shown result ≡ true }
-{
-    if number < 10 {
-        char::from(b'0' + number)
-    } else {
-        char::from(b'a' + (number - 10))
+    // Appends a change of the colour or the end of a line.
+    fn push_piece(&mut self, piece: &str)
+        requires { IsPiece piece.now }
+    {
+        if !self.is_refused {
+            self.is_refused = self.text.push_str(piece).is_err();
+        }
     }
 }

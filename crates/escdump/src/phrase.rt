@@ -1,15 +1,21 @@
 //! Words, one after another.
 
+use crate::hidden::Hidden;
+use crate::quoted::{push_byte, push_char, push_quoted};
+use command_line::is_shown;
 use esc_values::Text;
-use std::alloc::{AllocError, Allocator, Global};
+use std::alloc::Global;
 use std::fmt::Display;
 
-/// The words of a segment, to which more are added. Once memory is refused no more are, and
-/// [`whole`](Phrase::whole) is an error.
+/// The words of a line, to which more are added. Once memory is refused no more are, and
+/// [`is_refused`](Phrase::is_refused) says so.
 #[derive(Drop)]
-pub struct Phrase<A: Allocator = Global> {
-    text: Text<A>,
+pub struct Phrase {
+    alloc: Global,
+    text: Text,
     name: Name,
+    hidden: Hidden,
+    columns: usize,
     is_refused: bool,
 }
 
@@ -17,12 +23,15 @@ pub struct Phrase<A: Allocator = Global> {
 #[derive(Clone, Copy, PartialEq, Eq)]
 pub struct Name(pub &'static str, pub &'static str);
 
-impl<A: Allocator> Phrase<A> {
+impl Phrase {
     /// No words. Takes no memory.
-    pub fn new(alloc: A) -> Phrase<A> {
+    pub fn new(alloc: Global) -> Phrase {
         Phrase {
+            alloc,
             text: Text::new(alloc),
             name: Name("", ""),
+            hidden: Hidden::new(),
+            columns: 0,
             is_refused: false,
         }
     }
@@ -37,24 +46,39 @@ impl<A: Allocator> Phrase<A> {
         self.name
     }
 
-    /// Whether all words were added. The error is that memory was refused.
-    pub fn whole(&self) -> Result<(), AllocError> {
-        if self.is_refused {
-            return Err(AllocError);
-        }
-        Ok(())
+    /// Whether memory was refused, and words are left out.
+    pub fn is_refused(&self) -> bool {
+        self.is_refused
     }
 
-    /// Adds a name, after those of other actions and `; `.
-    pub fn begin(&mut self, kind: &'static str, name: &'static str) {
+    /// Notes that memory was refused.
+    pub fn refuse(&mut self) {
+        self.is_refused = true;
+    }
+
+    /// Adds a name, after those of other actions and `; `, and words after it, where there are any.
+    pub fn begin(&mut self, kind: &'static str, name: &'static str, words: &str) {
         if !self.text.is_empty() {
             self.add("; ");
         }
         self.name = Name(kind, name);
         self.add(kind);
-        if !name.is_empty() {
+        self.add_word(name);
+        self.add_word(words);
+    }
+
+    /// Adds a space and a word, where it is not empty.
+    pub fn add_word(&mut self, word: &str) {
+        if !word.is_empty() {
             self.add(" ");
-            self.add(name);
+            self.add(word);
+        }
+    }
+
+    /// Adds words in parentheses, where there are any.
+    pub fn add_note(&mut self, words: &str) {
+        if !words.is_empty() {
+            self.add_all(&[" (", words, ")"]);
         }
     }
 
@@ -80,49 +104,130 @@ impl<A: Allocator> Phrase<A> {
         }
     }
 
-    /// Adds words and, between quotes, a text of the stream, with a `\` before each `"` and `\`: so
-    /// it ends at the quote that is added after it, and not before.
-    pub fn add_quoted(&mut self, before: &str, text: &str) {
+    /// Adds how often something came, where that is more than once.
+    pub fn add_times(&mut self, count: u64) {
+        if count > 1 {
+            self.add_value(", ", &count);
+            self.add(" times");
+        }
+    }
+
+    /// Adds a number, after spaces where it has fewer digits than this.
+    pub fn add_number(&mut self, number: u64, width: usize) {
+        let mut digits = Phrase::new(self.alloc);
+        digits.add_value("", &number);
+        for _ in digits.text.len()..width {
+            self.add(" ");
+        }
+        self.add(digits.as_str());
+    }
+
+    /// Adds words and, between quotes, bytes of the stream.
+    pub fn add_quoted(&mut self, before: &str, bytes: &[u8]) {
         self.add(before);
         self.add("\"");
-        self.add_escaped(text);
+        self.add_escaped(bytes);
         self.add("\"");
     }
 
-    /// Adds a text of the stream in this way, without the quotes.
-    pub fn add_escaped(&mut self, text: &str) {
-        for c in text.chars() {
+    /// Adds bytes of the stream as they come between quotes.
+    pub fn add_escaped(&mut self, bytes: &[u8]) {
+        if !self.is_refused {
+            self.is_refused = push_quoted(bytes, &mut self.text, &mut self.hidden).is_err();
+        }
+    }
+
+    /// Adds a character of the stream as it comes between quotes.
+    pub fn add_char(&mut self, c: char) {
+        if !self.is_refused {
+            self.is_refused = push_char(c, &mut self.text, &mut self.hidden).is_err();
+        }
+    }
+
+    /// Adds the first bytes, escaped as between quotes, but `"` as itself, as far as there are
+    /// fewer columns than this, and `..` where these are not all.
+    pub fn add_bytes(&mut self, bytes: &[u8], room: usize) {
+        let mut is_cut = false;
+        for chunk in bytes.utf8_chunks() {
+            for c in chunk.valid().chars() {
+                is_cut = self.columns >= room;
+                if is_cut {
+                    break;
+                }
+                self.add_column(c);
+            }
+            for byte in chunk.invalid() {
+                is_cut = self.columns >= room;
+                if is_cut {
+                    break;
+                }
+                self.add_byte(*byte);
+            }
+        }
+        if is_cut {
+            self.add("..");
+        }
+    }
+
+    // Adds a character of these.
+    fn add_column(&mut self, c: char) {
+        self.columns = self.columns.saturating_add(columns_of(c));
+        if c == '"' {
+            self.add("\"");
+        } else {
             self.add_char(c);
         }
     }
 
-    /// Adds a character of the stream in this way.
-    pub fn add_char(&mut self, c: char) {
-        if c == '"' || c == '\\' {
-            self.add("\\");
-        }
+    // Adds a byte of these that is no part of UTF-8.
+    fn add_byte(&mut self, byte: u8) {
+        self.columns = self.columns.saturating_add(4);
         if !self.is_refused {
-            self.is_refused = self.text.push(c).is_err();
+            self.is_refused = push_byte(byte, &mut self.text).is_err();
         }
     }
 
     /// Adds a byte as two hexadecimal digits, those from 10 on as the letters from this one on.
     pub fn add_hex(&mut self, byte: u8, ten: u8) {
-        self.add_char(digit(byte / 16, ten));
-        self.add_char(digit(byte % 16, ten));
+        self.push(digit(byte / 16, ten));
+        self.push(digit(byte % 16, ten));
     }
 
     /// Adds a code point as at least four hexadecimal digits, as Unicode writes it.
     pub fn add_code(&mut self, code: u32) {
         let [_, high, middle, low] = code.to_be_bytes();
         if high >= 16 {
-            self.add_char(digit(high / 16, b'A'));
+            self.push(digit(high / 16, b'A'));
         }
         if high > 0 {
-            self.add_char(digit(high % 16, b'A'));
+            self.push(digit(high % 16, b'A'));
         }
         self.add_hex(middle, b'A');
         self.add_hex(low, b'A');
+    }
+
+    /// Adds the names of characters that deceive which came.
+    pub fn add_hidden_names(&mut self) {
+        let hidden = self.hidden;
+        hidden.add_words(self);
+    }
+
+    // Adds a character.
+    fn push(&mut self, c: char) {
+        if !self.is_refused {
+            self.is_refused = self.text.push(c).is_err();
+        }
+    }
+}
+
+// How many columns a character takes that is escaped where it is not shown.
+fn columns_of(c: char) -> usize {
+    if !is_shown(c) {
+        4 * c.len_utf8()
+    } else if c == '\\' {
+        2
+    } else {
+        1
     }
 }
 

@@ -3,10 +3,9 @@
 use crate::color_words::{add_color, ansi_words};
 use crate::csi_words::add_entries;
 use crate::phrase::Phrase;
+use esc_sequences::{Intensity, Sgr, Underline};
 use esc_typed::{Blink, Font, Frame, Ideogram, Rendition, Renditions, VerticalAlign};
-use escape_stream::CsiParam;
-use escape_stream::csi::{Intensity, Sgr, Underline};
-use std::alloc::Allocator;
+use esc_values::CsiParam;
 
 /// A rendition of the parser in words.
 pub fn rendition_words(sgr: Sgr) -> &'static str {
@@ -20,7 +19,7 @@ pub fn rendition_words(sgr: Sgr) -> &'static str {
 
 /// Adds the renditions of the parameters of a control sequence, in words. Where one is not known,
 /// its parameters come after `not known`.
-pub fn add_renditions<A: Allocator>(params: &[CsiParam], to: &mut Phrase<A>) {
+pub fn add_renditions(params: &[CsiParam], to: &mut Phrase) {
     let mut is_first = true;
     for selection in Renditions::new(params) {
         to.add(if is_first { " " } else { ", " });
@@ -36,7 +35,7 @@ pub fn add_renditions<A: Allocator>(params: &[CsiParam], to: &mut Phrase<A>) {
 }
 
 // Colours are more than one text.
-fn add_rendition<A: Allocator>(rendition: Rendition, to: &mut Phrase<A>) {
+fn add_rendition(rendition: Rendition, to: &mut Phrase) {
     match rendition {
         Rendition::AnsiForeground(color) => to.add_all(&["foreground ", ansi_words(color)]),
         Rendition::AnsiBackground(color) => to.add_all(&["background ", ansi_words(color)]),
@@ -61,7 +60,7 @@ fn add_rendition<A: Allocator>(rendition: Rendition, to: &mut Phrase<A>) {
 }
 
 // Adds what is on, or `not` and what is off.
-fn add_switch<A: Allocator>(words: &str, is_on: bool, to: &mut Phrase<A>) {
+fn add_switch(words: &str, is_on: bool, to: &mut Phrase) {
     if !is_on {
         to.add("not ");
     }

@@ -6,7 +6,7 @@ use crate::dump::Dump;
 use crate::options::Options;
 use crate::page::Page;
 use command_line::{Ended, Reason, tell, unwritten};
-use std::alloc::{AllocError, Allocator};
+use std::alloc::Global;
 use std::io::{ErrorKind, Read, Write};
 
 /// The program's name.
@@ -35,8 +35,8 @@ const CHUNK: usize = 4096;
 /// What it prints is a page: none of it is a control or an escape sequence that came from `input`.
 /// Where a read, a write or memory is refused, a line on `faults` says so; but where nobody reads
 /// the output any more, none is written. The lines before it are printed.
-pub fn dump_named<A: Allocator + Copy, R: Read, W: Write, E: Write>(
-    alloc: A,
+pub fn dump_named<R: Read, W: Write, E: Write>(
+    alloc: Global,
     options: Options,
     name: &str,
     input: &mut R,
@@ -51,32 +51,21 @@ pub fn dump_named<A: Allocator + Copy, R: Read, W: Write, E: Write>(
 }
 
 /// Prints the lines of these texts. The error is what hinders it.
-pub fn say<A: Allocator + Copy, W: Write>(
-    alloc: A,
-    texts: &[&str],
-    output: &mut W,
-) -> Result<(), Fault>
+pub fn say<W: Write>(alloc: Global, texts: &[&str], output: &mut W) -> Result<(), Fault>
     ensures { OnOk result (AppendsPage (W.contents output.old) (W.contents output.new)) }
 {
     let mut page = Page::new(alloc, false);
-    let taken = push_texts(texts, &mut page);
-    print(&mut page, taken, output)
-}
-
-// Appends the lines of these texts.
-fn push_texts<A: Allocator + Copy>(texts: &[&str], page: &mut Page<A>) -> Result<(), AllocError> {
     for text in texts {
-        push_lines(*text, page)?;
+        push_lines(*text, &mut page);
     }
-    Ok(())
+    print(&mut page, output)
 }
 
 // Appends the lines of a text.
-fn push_lines<A: Allocator + Copy>(text: &str, page: &mut Page<A>) -> Result<(), AllocError> {
+fn push_lines(text: &str, page: &mut Page) {
     for line in text.lines() {
-        page.push_line(line)?;
+        page.push_line(line);
     }
-    Ok(())
 }
 
 /// How the stream of this name ended, where this hindered it. A line on `faults` says what; but
@@ -99,8 +88,8 @@ pub fn ended<E: Write>(done: Result<(), Fault>, name: &str, faults: &mut E) -> E
 }
 
 // Reads the stream to its end, and prints its lines, those of a chunk before the next is read.
-fn dump<A: Allocator + Copy, R: Read, W: Write>(
-    alloc: A,
+fn dump<R: Read, W: Write>(
+    alloc: Global,
     options: Options,
     input: &mut R,
     output: &mut W,
@@ -113,11 +102,7 @@ fn dump<A: Allocator + Copy, R: Read, W: Write>(
 
 // The same, by way of this dump, to which nothing came yet.
 #[tactic(auto, using(crate::proofs::PagesMore::no_pages))]
-fn dump_all<A: Allocator + Copy, R: Read, W: Write>(
-    dump: &mut Dump<A>,
-    input: &mut R,
-    output: &mut W,
-) -> Result<(), Fault>
+fn dump_all<R: Read, W: Write>(dump: &mut Dump, input: &mut R, output: &mut W) -> Result<(), Fault>
     ensures { OnOk result (AppendsPage (W.contents output.old) (W.contents output.new)) }
 {
     let mut chunk = [0u8; CHUNK];
@@ -126,11 +111,11 @@ fn dump_all<A: Allocator + Copy, R: Read, W: Write>(
         if count == 0 {
             break;
         }
-        let taken = dump.take(&chunk[..count]);
-        print(dump.page(), taken, output)?;
+        dump.take(&chunk[..count]);
+        print(dump.page(), output)?;
     }
-    let taken = dump.finish();
-    print(dump.page(), taken, output)
+    dump.finish();
+    print(dump.page(), output)
 }
 
 // Reads some bytes, 0 at the end. A call that was interrupted is made again.
@@ -152,11 +137,7 @@ fn read_some<R: Read>(input: &mut R, chunk: &mut [u8]) -> Result<usize, Fault>
 
 // Prints the lines, flushes and drops them, also where memory was refused after them.
 #[tactic(auto, using(crate::proofs::PagesMore::page_printed))]
-fn print<A: Allocator + Copy, W: Write>(
-    page: &mut Page<A>,
-    taken: Result<(), AllocError>,
-    output: &mut W,
-) -> Result<(), Fault>
+fn print<W: Write>(page: &mut Page, output: &mut W) -> Result<(), Fault>
     ensures { OnOk result (AppendsPage (W.contents output.old) (W.contents output.new)) }
 {
     match output.write_all(page.as_bytes()) {
@@ -168,8 +149,8 @@ fn print<A: Allocator + Copy, W: Write>(
         Ok(()) => {}
         Err(error) => return Err(Fault::Write(Reason::of(&error))),
     }
-    match taken {
-        Ok(()) => Ok(()),
-        Err(_) => Err(Fault::Memory),
+    if page.is_refused() {
+        return Err(Fault::Memory);
     }
+    Ok(())
 }

@@ -5,7 +5,7 @@ use crate::line::name_of;
 use crate::page::Page;
 use crate::phrase::Name;
 use crate::words::Words;
-use std::alloc::{AllocError, Allocator, Global};
+use std::alloc::Global;
 
 // How often something of a name came, how many bytes they and the longest one have, and how many
 // bytes of the stream come before the first one.
@@ -21,15 +21,15 @@ struct Row {
 /// A row for each name that came, in the order in which they first came. There are no more names
 /// than the tables have.
 #[derive(Drop)]
-pub struct Stats<A: Allocator = Global> {
-    rows: Vec<Row, A>,
+pub struct Stats {
+    rows: Vec<Row>,
     text_end: u64,
     text_length: u64,
 }
 
-impl<A: Allocator + Copy> Stats<A> {
+impl Stats {
     /// Nothing came. Takes no memory.
-    pub fn new(alloc: A) -> Stats<A> {
+    pub fn new(alloc: Global) -> Stats {
         Stats {
             rows: Vec::new(alloc),
             text_end: u64::MAX,
@@ -37,9 +37,9 @@ impl<A: Allocator + Copy> Stats<A> {
         }
     }
 
-    /// Counts an item with these words. A run of text goes on with one that ended where it begins.
-    /// The error is that memory was refused.
-    pub fn add(&mut self, item: &Item<A>, words: &Words<A>) -> Result<(), AllocError> {
+    /// Counts an item with these words, and returns whether memory was there for it. A run of text
+    /// goes on with one that ended where it begins.
+    pub fn add(&mut self, item: &Item, words: &Words) -> bool {
         let mut row = Row {
             name: name_of(item, words),
             count: 1,
@@ -50,7 +50,7 @@ impl<A: Allocator + Copy> Stats<A> {
         if item.is_text() {
             self.join_text(&mut row);
         }
-        self.add_row(row)
+        self.has_row(row) || self.rows.push(row).is_ok()
     }
 
     // Joins a run of text with the one that ended where it begins.
@@ -63,45 +63,37 @@ impl<A: Allocator + Copy> Stats<A> {
         self.text_end = row.first.saturating_add(row.bytes);
     }
 
-    // Adds to the row of this name.
-    fn add_row(&mut self, more: Row) -> Result<(), AllocError> {
+    // Adds to the row of this name, and returns whether there is one.
+    fn has_row(&mut self, more: Row) -> bool {
         for row in &mut self.rows {
             if row.name == more.name {
                 row.count = row.count.saturating_add(more.count);
                 row.bytes = row.bytes.saturating_add(more.bytes);
                 row.largest = row.largest.max(more.largest);
-                return Ok(());
+                return true;
             }
         }
-        self.rows.push(more)?;
-        Ok(())
+        false
     }
 
     /// Adds a line for each name, under a line that says what its numbers are.
-    pub fn add_lines(&self, alloc: A, page: &mut Page<A>) -> Result<(), AllocError> {
-        page.push_line("   count       bytes     largest       first  name")?;
+    pub fn add_lines(&self, page: &mut Page) {
+        page.push_line("   count       bytes     largest       first  name");
         for row in &self.rows {
-            add_row_line(alloc, *row, page)?;
+            add_row(*row, page);
         }
-        Ok(())
     }
 }
 
 // Adds the line of a name.
-fn add_row_line<A: Allocator + Copy>(
-    alloc: A,
-    row: Row,
-    page: &mut Page<A>,
-) -> Result<(), AllocError> {
-    let Row {
-        name: Name(kind, name),
-        count,
-        bytes,
-        largest,
-        first,
-    } = row;
-    let line = format!(in alloc;
-        "{count:>8} {bytes:>11} {largest:>11} {first:>11}  {kind} {name}"
-    )?;
-    page.push_line(line.as_str().trim_end())
+fn add_row(row: Row, page: &mut Page) {
+    let mut phrase = page.phrase();
+    phrase.add_number(row.count, 8);
+    for number in [row.bytes, row.largest, row.first] {
+        phrase.add_number(number, 12);
+    }
+    phrase.add_all(&["  ", row.name.0]);
+    phrase.add_word(row.name.1);
+    page.push(&phrase);
+    page.end_line();
 }

@@ -8,18 +8,20 @@ use crate::device_words::{add_enter, add_query, add_short, add_sixel};
 use crate::escapes::add_escape;
 use crate::phrase::{Name, Phrase};
 use crate::renditions::rendition_words;
-use escape_stream::csi::Sgr;
-use escape_stream::{Action, CSI, ControlCode, DeviceControlMode, Sink};
-use std::alloc::{AllocError, Allocator, Global};
+use esc_actions::{Action, ControlCode};
+use esc_device::DeviceControlMode;
+use esc_parse::Sink;
+use esc_sequences::{CSI, Sgr};
+use std::alloc::{AllocError, Global};
 
 /// The words of the actions of a segment, and the data of a mode, of which as many bytes are kept
 /// as a limit allows.
 #[derive(Drop)]
-pub struct Words<A: Allocator = Global> {
+pub struct Words {
     /// The words.
-    pub phrase: Phrase<A>,
+    pub phrase: Phrase,
     /// The data of a mode.
-    pub data: Vec<u8, A>,
+    pub data: Vec<u8>,
     /// Whether a cancel comes now that is not the stream's, and has no words.
     pub is_ending: bool,
     controls: [u64; COUNT],
@@ -27,9 +29,9 @@ pub struct Words<A: Allocator = Global> {
     limit: usize,
 }
 
-impl<A: Allocator + Copy> Words<A> {
+impl Words {
     /// None. Takes no memory.
-    pub fn new(alloc: A, limit: usize) -> Words<A> {
+    pub fn new(alloc: Global, limit: usize) -> Words {
         Words {
             phrase: Phrase::new(alloc),
             data: Vec::new(alloc),
@@ -39,17 +41,9 @@ impl<A: Allocator + Copy> Words<A> {
             limit,
         }
     }
-}
 
-impl<A: Allocator> Words<A> {
-    /// Adds the words of what was counted. The error is that memory was refused.
-    pub fn end(&mut self) -> Result<(), AllocError> {
-        self.add_counted();
-        self.phrase.whole()
-    }
-
-    // Adds the words of the controls that were counted.
-    fn add_counted(&mut self) {
+    /// Adds the words of the controls that were counted.
+    pub fn add_counted(&mut self) {
         if self.has_controls {
             add_controls(&self.controls, &mut self.phrase);
             self.controls = [0; COUNT];
@@ -69,10 +63,10 @@ impl<A: Allocator> Words<A> {
     }
 
     // Adds what an action adds. The controls of a sequence come before what it does.
-    fn note(&mut self, action: &Action<A>) -> Result<(), AllocError> {
+    fn note(&mut self, action: &Action) {
         match action {
             Action::Print(_) | Action::PrintString(_) => {}
-            Action::DeviceControl(DeviceControlMode::Data(byte)) => return self.add_data(*byte),
+            Action::DeviceControl(DeviceControlMode::Data(byte)) => self.add_data(*byte),
             Action::DeviceControl(DeviceControlMode::Exit) => {}
             Action::Control(ControlCode::Cancel) if self.is_ending => {}
             Action::Control(code) => self.add_control(*code as u8),
@@ -87,20 +81,18 @@ impl<A: Allocator> Words<A> {
                 add_action(action, &mut self.phrase);
             }
         }
-        self.phrase.whole()
     }
 
     // Keeps a byte of data.
-    fn add_data(&mut self, byte: u8) -> Result<(), AllocError> {
-        if self.data.len() < self.limit {
-            self.data.push(byte)?;
+    fn add_data(&mut self, byte: u8) {
+        if self.data.len() < self.limit && self.data.push(byte).is_err() {
+            self.phrase.refuse();
         }
-        Ok(())
     }
 }
 
 // Adds an action in words. A character, a control, a byte of data and the end of a mode have none.
-fn add_action<A: Allocator, B: Allocator>(action: &Action<B>, to: &mut Phrase<A>) {
+fn add_action(action: &Action, to: &mut Phrase) {
     match action {
         Action::Print(_) | Action::PrintString(_) | Action::Control(_) => {}
         Action::Esc(esc) => add_escape(*esc, to),
@@ -115,18 +107,18 @@ fn add_action<A: Allocator, B: Allocator>(action: &Action<B>, to: &mut Phrase<A>
 }
 
 // Adds a rendition, the first of a sequence or a further one.
-fn add_rendition<A: Allocator>(sgr: Sgr, to: &mut Phrase<A>) {
+fn add_rendition(sgr: Sgr, to: &mut Phrase) {
     if to.name() == Name("CSI", "SGR") {
         to.add(", ");
     } else {
-        to.begin("CSI", "SGR");
+        to.begin("CSI", "SGR", "");
         to.add(" ");
     }
     to.add(rendition_words(sgr));
 }
 
 // Adds a short device control, or a header.
-fn add_mode<A: Allocator, B: Allocator>(mode: &DeviceControlMode<B>, to: &mut Phrase<A>) {
+fn add_mode(mode: &DeviceControlMode, to: &mut Phrase) {
     match mode {
         DeviceControlMode::Enter(enter) => add_enter(enter.as_ref(), to),
         DeviceControlMode::ShortDeviceControl(short) => add_short(short.as_ref(), to),
@@ -135,7 +127,7 @@ fn add_mode<A: Allocator, B: Allocator>(mode: &DeviceControlMode<B>, to: &mut Ph
 }
 
 /// Data past the limit is left out.
-impl<A: Allocator> Sink<Action<A>> for Words<A> {
+impl Sink<Action> for Words {
     ghost is_ready = { λ _. Unit {0} };
 
     ghost may = { λ _ _. Unit {0} };
@@ -144,8 +136,9 @@ impl<A: Allocator> Sink<Action<A>> for Words<A> {
 
     ghost refuses = { λ p a q. Unit {0} };
 
-    fn receive(&mut self, action: Action<A>) -> Result<(), AllocError> {
-        self.note(&action)
+    fn receive(&mut self, action: Action) -> Result<(), AllocError> {
+        self.note(&action);
+        Ok(())
     }
 
     // Characters have no words.

@@ -1,12 +1,11 @@
 //! Prompts of a shell in words.
 
 use crate::phrase::Phrase;
-use escape_stream::Text;
-use escape_stream::osc::{FinalTermClick, FinalTermPromptKind, FinalTermSemanticPrompt as Prompt};
-use std::alloc::Allocator;
+use esc_osc::{FinalTermClick, FinalTermPromptKind, FinalTermSemanticPrompt as Prompt};
+use esc_values::Text;
 
 /// Adds a mark of a shell in words.
-pub fn add_prompt<A: Allocator, B: Allocator>(prompt: &Prompt<B>, to: &mut Phrase<A>) {
+pub fn add_prompt(prompt: &Prompt, to: &mut Phrase) {
     match prompt {
         Prompt::FreshLine => to.add(" fresh line"),
         Prompt::FreshLineAndStartPrompt { aid, cl } => {
@@ -34,12 +33,7 @@ pub fn add_prompt<A: Allocator, B: Allocator>(prompt: &Prompt<B>, to: &mut Phras
 }
 
 // The start of a prompt, its application, and what a click does.
-fn add_start<A: Allocator, B: Allocator>(
-    what: &str,
-    aid: &Option<Text<B>>,
-    click: Option<FinalTermClick>,
-    to: &mut Phrase<A>,
-) {
+fn add_start(what: &str, aid: &Option<Text>, click: Option<FinalTermClick>, to: &mut Phrase) {
     add_id(what, aid, to);
     if let Some(click) = click {
         to.add(click_words(click));
@@ -47,10 +41,10 @@ fn add_start<A: Allocator, B: Allocator>(
 }
 
 // Words, and the name of an application, where it is given.
-fn add_id<A: Allocator, B: Allocator>(what: &str, aid: &Option<Text<B>>, to: &mut Phrase<A>) {
+fn add_id(what: &str, aid: &Option<Text>, to: &mut Phrase) {
     to.add(what);
     if let Some(aid) = aid {
-        to.add_quoted(", application ", aid.as_str());
+        to.add_quoted(", application ", aid.as_bytes());
     }
 }
 

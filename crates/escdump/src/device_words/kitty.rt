@@ -1,16 +1,15 @@
 //! Commands of kitty's graphics protocol in words.
 
 use crate::phrase::Phrase;
-use escape_stream::apc::{
+use esc_kitty::{
     KittyFrameCompositionMode, KittyImage, KittyImageDelete as Delete, KittyImageFormat,
     KittyImageFrameCompose, KittyImageTransmit,
 };
-use std::alloc::Allocator;
 
 /// Adds a command of kitty's graphics protocol in words.
-pub fn add_kitty<A: Allocator, B: Allocator>(image: &KittyImage<B>, to: &mut Phrase<A>) {
-    to.begin("APC", "kitty");
-    to.add(" image ");
+pub fn add_kitty(image: &KittyImage, to: &mut Phrase) {
+    to.begin("APC", "kitty", "image");
+    to.add(" ");
     match image {
         KittyImage::TransmitData { transmit, .. } => add_image("transmit", transmit, to),
         KittyImage::TransmitDataAndDisplay { transmit, .. } => {
@@ -32,11 +31,7 @@ pub fn add_kitty<A: Allocator, B: Allocator>(image: &KittyImage<B>, to: &mut Phr
 }
 
 // An image that is sent: what is done with it, its size, its format and its numbers.
-fn add_image<A: Allocator, B: Allocator>(
-    done: &str,
-    image: &KittyImageTransmit<B>,
-    to: &mut Phrase<A>,
-) {
+fn add_image(done: &str, image: &KittyImageTransmit, to: &mut Phrase) {
     to.add(done);
     add_number(", width ", image.width, to);
     add_number(", height ", image.height, to);
@@ -59,7 +54,7 @@ fn format_words(format: KittyImageFormat) -> &'static str {
 }
 
 // What is deleted.
-fn add_delete<A: Allocator>(what: Delete, to: &mut Phrase<A>) {
+fn add_delete(what: Delete, to: &mut Phrase) {
     to.add("delete ");
     add_deleted(what, to);
     if is_with_data(what) {
@@ -68,7 +63,7 @@ fn add_delete<A: Allocator>(what: Delete, to: &mut Phrase<A>) {
 }
 
 // Which placements are deleted.
-fn add_deleted<A: Allocator>(what: Delete, to: &mut Phrase<A>) {
+fn add_deleted(what: Delete, to: &mut Phrase) {
     match what {
         Delete::All { .. } => to.add("all that are visible"),
         Delete::ByImageId {
@@ -113,30 +108,19 @@ fn is_with_data(what: Delete) -> bool {
 }
 
 // The placements of an image, or one of them.
-fn add_placement<A: Allocator>(
-    name: &str,
-    number: u32,
-    placement: Option<u32>,
-    to: &mut Phrase<A>,
-) {
+fn add_placement(name: &str, number: u32, placement: Option<u32>, to: &mut Phrase) {
     to.add_value(name, &number);
     add_number(", placement ", placement, to);
 }
 
 // Two numbers, each after its name.
-fn add_two<A: Allocator>(
-    name: &str,
-    number: u32,
-    other_name: &str,
-    other: u32,
-    to: &mut Phrase<A>,
-) {
+fn add_two(name: &str, number: u32, other_name: &str, other: u32, to: &mut Phrase) {
     to.add_value(name, &number);
     to.add_value(other_name, &other);
 }
 
 // A part of a frame that is put over another.
-fn add_compose<A: Allocator>(part: &KittyImageFrameCompose, to: &mut Phrase<A>) {
+fn add_compose(part: &KittyImageFrameCompose, to: &mut Phrase) {
     to.add("compose");
     add_numbers(part.image_id, part.image_number, to);
     add_number(", from frame ", part.source_frame, to);
@@ -154,13 +138,13 @@ fn add_compose<A: Allocator>(part: &KittyImageFrameCompose, to: &mut Phrase<A>) 
 }
 
 // The numbers of an image.
-fn add_numbers<A: Allocator>(id: Option<u32>, number: Option<u32>, to: &mut Phrase<A>) {
+fn add_numbers(id: Option<u32>, number: Option<u32>, to: &mut Phrase) {
     add_number(", id ", id, to);
     add_number(", number ", number, to);
 }
 
 // A number after its name, where there is one.
-fn add_number<A: Allocator>(name: &str, number: Option<u32>, to: &mut Phrase<A>) {
+fn add_number(name: &str, number: Option<u32>, to: &mut Phrase) {
     if let Some(number) = number {
         to.add_value(name, &number);
     }

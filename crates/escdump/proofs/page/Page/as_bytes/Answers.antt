@@ -3,4 +3,4 @@ use Rattle.escdump.specs.Pages.{IsPage}
 use Rattle.escdump.proofs.page.Page.as_bytes.Goals as goal
 
 pub returns : goal.returns
-returns g c = subst (λ x. ∥ IsPage x ∥₁) (sym c.as_bytes.ensures) c.args.self.now.safe
+returns c = subst (λ x. ∥ IsPage x ∥₁) (sym c.as_bytes.ensures) c.args.self.now.safe
