@@ -29,15 +29,17 @@ mod run;
 mod stats;
 mod words;
 
-use command_line::{Ended, IS_OUTPUT, Wrong, is_output, status_after, tell};
+use command_line::{
+    Ended, IS_OUTPUT, NO_TEXT, Wrong, is_output, is_text, program_words, status_after, tell,
+};
 use options::{Kind, Options, Task, When};
 use run::{PROGRAM, dump_named, ended, say};
+use std::env;
 use std::env::VarError;
 use std::fmt::Display;
 use std::fs::{File, metadata};
 use std::io::{IsTerminal, Read};
 use std::process::ExitCode;
-use std::{env, io};
 
 const DONE: u8 = 0;
 
@@ -74,7 +76,7 @@ Status: 0 all was printed, 1 a fault, 2 usage, 141 the output was closed.";
 const VERSION: &str = "escdump 0.1.0";
 
 fn main(rt: HostRuntime) -> ExitCode {
-    let Ok(words) = arguments(&rt) else {
+    let Ok(words) = program_words(&rt, rt.alloc()) else {
         let _ = eprintln!(rt; "escdump: the arguments cannot be read");
         return ExitCode::from(FAULT);
     };
@@ -87,11 +89,6 @@ fn main(rt: HostRuntime) -> ExitCode {
         Err(wrong) => refused(&rt, wrong),
     };
     ExitCode::from(status)
-}
-
-// The words after the program's name.
-fn arguments(rt: &HostRuntime) -> io::Result<Vec<String>> {
-    Ok(env::args(rt)?.skip(1).collect(rt.alloc())?)
 }
 
 // Whether lines have colours.
@@ -162,6 +159,9 @@ fn dump_file(rt: &HostRuntime, options: Options, name: &str) -> Ended {
             return unread(rt, name, IS_OUTPUT);
         }
         return dump_input(rt, options, name, rt.stdin());
+    }
+    if !is_text(name) {
+        return unread(rt, name, NO_TEXT);
     }
     match File::open(rt, name) {
         Ok(input) if is_output(rt, input.metadata()) => unread(rt, name, IS_OUTPUT),
