@@ -1,6 +1,6 @@
 -- One value more.
-use Rattle.std.proofs.Common.{◌≡◌, ℕ, Bool, true, false, ◌&&◌, if◌then◌else◌, List, [], ◌∷◌, ◌++◌, refl, sym, ap, ◌∙◌, append-nil}
-use Rattle.esc_actions.specs.Texts.{is_string, is_terminator, list_text, text_after, whole_text}
+use Rattle.std.proofs.Common.{◌≡◌, ℕ, Bool, false, List, [], ◌∷◌, ◌++◌, sym, ap, ◌∙◌, append-nil}
+use Rattle.esc_actions.specs.Texts.{is_string, list_text, text_after}
 use Rattle.esc_actions.specs.Values.{Value}
 use Rattle.esc_filter.proofs.Texts.{ends_more, texts_more}
 use Rattle.esc_filter.specs.Encoding.{AddsTo}

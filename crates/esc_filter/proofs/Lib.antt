@@ -12,3 +12,7 @@ pub mod LineFeeds
 pub mod ReadLines
 pub mod Begun
 pub mod Screens
+pub mod ByGroup
+pub mod Choices
+pub mod Conceals
+pub mod PolicyGroups

@@ -31,7 +31,7 @@ none_hidden [] = refl
 none_hidden (x ∷ xs) = neither (x == 0x7f) (list_any (λ x. x == 0x7f) xs)
     ∙ ap (λ r. not (x == 0x7f) && r) (none_hidden xs)
 
-all_more : (p q : ℕ → Bool) → ((c : ℕ) → p c ≡ true → q c ≡ true) → (xs : List ℕ)
+pub all_more : (p q : ℕ → Bool) → ((c : ℕ) → p c ≡ true → q c ≡ true) → (xs : List ℕ)
     → list_all p xs ≡ true → list_all q xs ≡ true
 all_more p q f [] h = refl
 all_more p q f (x ∷ xs) h = let k = and_parts (p x) (list_all p xs) h in
@@ -69,12 +69,16 @@ pub run_admitted : (A : Type 0) (p : Policy) (xs : List ℕ) → list_all is_sho
 run_admitted A p xs h = all_more is_shown (λ c. admits {A = A} p (print c))
     (λ c k. admitted_char A p c k) xs h
 
+-- the characters of a text without the byte DEL are shown
+pub chars_shown : (text : List ℕ) → IsUtf8 text → list_all is_shown text ≡ true
+    → list_all is_shown (chars text) ≡ true
+chars_shown text u h =
+    chars_by (chars text) (subst (λ t. list_all is_shown t ≡ true) (sym (encodes-chars text u)) h)
+
 pub str_admitted : (A : Type 0) (p : Policy) (text : List ℕ) → IsUtf8 text
     → list_all is_shown text ≡ true
     → list_all (λ c. admits {A = A} p (print c)) (chars text) ≡ true
-str_admitted A p text u h =
-    run_admitted A p (chars text)
-    (chars_by (chars text) (subst (λ t. list_all is_shown t ≡ true) (sym (encodes-chars text u)) h))
+str_admitted A p text u h = run_admitted A p (chars text) (chars_shown text u h)
 
 -- a run that is admitted passes, character by character
 abbrev pub TakesBy : {P A : Type 0} → (P → Value A → Bool) → Passing P A → Action A → Passing P A

@@ -5,3 +5,6 @@ pub mod Fed
 pub mod Encoding
 pub mod Streams
 pub mod Lines
+pub mod Concealed
+pub mod Schemes
+pub mod Groups

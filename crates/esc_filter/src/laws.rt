@@ -13,8 +13,10 @@ ghost use Rattle.esc_functions.specs.Escapes.{named as escape_named};
 ghost use Rattle.esc_functions.specs.Functions.{named};
 ghost use Rattle.esc_functions.specs.declared.control_function.ControlFunction.{ControlFunction};
 ghost use Rattle.esc_functions.specs.declared.escape_function.EscapeFunction.{EscapeFunction};
+ghost use Rattle.esc_filter.specs.Groups.{admits_groups, groups_of};
 ghost use Rattle.esc_filter.specs.Passing.{IsFiltered, passed, passed_text, passes};
-ghost use Rattle.esc_filter.specs.Rules.{is_screen_escape, is_screen_sequence};
+ghost use Rattle.esc_filter.specs.Rules.{admits, is_screen_escape, is_screen_sequence};
+ghost use Rattle.esc_filter.specs.declared.policy.Policy.{Policy};
 
 use esc_actions::laws;
 use std::alloc::Allocator;
@@ -55,4 +57,10 @@ pub fn screen_is_not_answered()
         → is_screen_sequence c ≡ true → is_answered f ≡ false }
     ensures escapes { (s : Esc) (f : EscapeFunction) → escape_named s ≡ Some f
         → is_screen_escape s ≡ true → escape_is_answered f ≡ false }
+{}
+
+/// The groups of a policy admit what the policy does.
+#[tactic(auto, using(crate::proofs::PolicyGroups::same))]
+pub fn policies_are_groups<A: Allocator>()
+    ensures { (p : Policy) (v : Value A) → admits_groups (groups_of p) v ≡ admits p v }
 {}

@@ -14,15 +14,20 @@
 #![tactic(auto)]
 
 mod admit;
+mod concealed;
 mod encoder;
 mod feeding;
 mod filter;
 mod filter_error;
 mod filtering;
+mod function_groups;
+mod group;
+mod groups;
 mod laws;
 mod line_filter;
 mod passing;
 mod policy;
+mod schemes;
 mod screen;
 mod text;
 
@@ -31,6 +36,11 @@ pub use encoder::Encoder;
 pub use filter::Filter;
 pub use filter_error::FilterError;
 pub use filtering::{MOST_READS, filter_lines, filter_stream};
-pub use laws::{lines_read_back, passed_more, passed_reads_back, screen_is_not_answered};
+pub use group::Group;
+pub use groups::Groups;
+pub use laws::{
+    lines_read_back, passed_more, passed_reads_back, policies_are_groups, screen_is_not_answered,
+};
 pub use line_filter::LineFilter;
 pub use policy::Policy;
+pub use schemes::is_scheme;

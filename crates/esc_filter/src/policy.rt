@@ -163,14 +163,14 @@ fn is_text<A: Allocator>(action: &Action<A>) -> bool
 }
 
 // Whether each character of this UTF-8 is shown: none of its bytes is DEL.
-fn are_shown(text: &[u8]) -> bool
+pub(crate) fn are_shown(text: &[u8]) -> bool
     ensures { result ≡ list_all is_shown text.now }
 {
     !text.contains(&0x7f)
 }
 
 // Whether it is tab, line feed or carriage return.
-fn is_layout(code: char) -> bool
+pub(crate) fn is_layout(code: char) -> bool
     ensures { result ≡ is_layout code }
 {
     code == '\t' || code == '\n' || code == '\r'

@@ -38,7 +38,7 @@ fn is_screen_escape(esc: Esc) -> bool
 }
 
 // Whether an escape sequence of this function changes the screen alone.
-fn escape_changes_with(function: EscapeFunction, esc: Esc) -> bool
+pub(crate) fn escape_changes_with(function: EscapeFunction, esc: Esc) -> bool
     ensures { result ≡ escape_changes_with function esc }
 {
     match function {
@@ -96,7 +96,7 @@ fn is_move(control: u8) -> bool
 
 // Whether a function with these parameters changes the screen alone.
 #[inline]
-fn changes_with(function: ControlFunction, params: &[CsiParam]) -> bool
+pub(crate) fn changes_with(function: ControlFunction, params: &[CsiParam]) -> bool
     ensures { result ≡ changes_with function params.now }
 {
     match function {
@@ -167,7 +167,7 @@ fn is_space(param: &CsiParam) -> bool
 }
 
 // Whether the command changes colours and asks for none.
-fn is_palette<A: Allocator>(command: &OperatingSystemCommand<A>) -> bool
+pub(crate) fn is_palette<A: Allocator>(command: &OperatingSystemCommand<A>) -> bool
     ensures { result ≡ is_palette command.now }
 {
     match command {

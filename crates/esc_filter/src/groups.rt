@@ -1,0 +1,161 @@
+//! A choice of groups.
+ghost use Rattle.std.specs.Prelude.{◌≡◌, ◌<◌, Some, false, true};
+ghost use Rattle.std.specs.List.{list_all, list_any};
+ghost use Rattle.esc_sequences.specs.Csis.{csi_of};
+ghost use Rattle.esc_actions.specs.Values.{value_of};
+ghost use Rattle.esc_filter.specs.Groups.{IsWithSchemes, groups_of, has, has_sequence, place, with_group};
+
+use crate::admit::Admit;
+use crate::concealed::conceals;
+use crate::group::{Group, group_of_body};
+use crate::policy::{Policy, are_plain, are_shown};
+use crate::schemes::leads;
+use esc_actions::Action;
+use esc_values::CsiParam;
+use std::alloc::Allocator;
+
+/// A policy by groups: the actions of some groups pass, and no others. Of links it may admit those
+/// alone whose address has one of some schemes, and the ends of links.
+#[derive(Clone, Copy, Debug)]
+pub struct Groups<'a> {
+    // of each group, in their order, whether it passes
+    allowed: [bool; 16],
+    // the schemes of the links that pass, with `,` between them; those of all where there are none
+    schemes: Option<&'a str>,
+}
+
+impl<'a> Groups<'a> {
+    /// The groups of what a policy admits, which together admit the same.
+    pub fn of(policy: Policy) -> Groups<'a>
+        ensures { result ≡ groups_of policy }
+    {
+        Groups {
+            allowed: allowed_by(policy),
+            schemes: None,
+        }
+    }
+
+    /// These groups, and this one.
+    pub fn and(&self, group: Group) -> Groups<'a>
+        ensures { result ≡ with_group self.now group true }
+    {
+        self.with(group, true)
+    }
+
+    /// These groups but this one.
+    pub fn without(&self, group: Group) -> Groups<'a>
+        ensures { result ≡ with_group self.now group false }
+    {
+        self.with(group, false)
+    }
+
+    /// These groups, where of links those alone pass whose address has one of these schemes, and
+    /// the ends of links. `schemes` has them with `,` between them, as `http,https`. An address has
+    /// a scheme where it begins with it, in whatever case, and a colon (RFC 3986, 3.1).
+    pub fn with_schemes(&self, schemes: &'a str) -> Groups<'a>
+        ensures { IsWithSchemes self.now schemes.now result }
+    {
+        Groups {
+            allowed: self.allowed,
+            schemes: Some(schemes),
+        }
+    }
+
+    /// Whether the actions of this group pass.
+    pub fn has(&self, group: Group) -> bool
+        ensures { result ≡ has self.now group }
+    {
+        self.allowed[place(group)]
+    }
+
+    // These groups, with this one or without it.
+    fn with(&self, group: Group, is: bool) -> Groups<'a>
+        ensures { result ≡ with_group self.now group is }
+    {
+        let mut allowed = self.allowed;
+        allowed[place(group)] = is;
+        Groups {
+            allowed,
+            schemes: self.schemes,
+        }
+    }
+
+    // Whether the actions of a control sequence pass; not known where it is renditions of which one
+    // conceals text, and those pass and others do not, or the other way round.
+    #[tactic(auto, using(crate::proofs::Choices::other_passes, crate::proofs::Choices::other_stays, crate::proofs::Choices::renditions_pass, crate::proofs::Choices::renditions_stay))]
+    fn has_sequence(&self, params: &[CsiParam], control: u8) -> Option<bool>
+        ensures passes { result ≡ Some true → list_all (has_sequence self.now)
+            (csi_of params.now false control) ≡ true }
+        ensures stays { result ≡ Some false → list_any (has_sequence self.now)
+            (csi_of params.now false control) ≡ false }
+    {
+        if control != b'm' {
+            return Some(self.has(group_of_body(params, control)));
+        }
+        if are_plain(params) && !conceals(params) {
+            return Some(self.has(Group::Sgr));
+        }
+        None
+    }
+}
+
+impl<'a, A: Allocator> Admit<A> for Groups<'a> {
+    ghost use Rattle.esc_filter.specs.Groups.{admits_groups};
+
+    ghost admits = { λ g v. admits_groups g v };
+
+    fn admits(&self, action: &Action<A>) -> bool {
+        leads(&self.schemes, action) && self.has(Group::of(action))
+    }
+
+    #[inline]
+    fn admits_text(&self, text: &[u8]) -> bool {
+        self.has(Group::Characters) && are_shown(text)
+    }
+
+    #[inline]
+    fn admits_str(&self, text: &str) -> bool {
+        self.has(Group::Characters) && are_shown(text.as_bytes())
+    }
+
+    fn admits_sequence(&self, params: &[CsiParam], control: u8) -> Option<bool> {
+        self.has_sequence(params, control)
+    }
+
+    #[tactic(auto, using(crate::proofs::Choices::images_stay))]
+    fn admits_images(&self) -> bool {
+        self.has(Group::Images)
+    }
+}
+
+// Of each group whether it is one of this policy.
+fn allowed_by(policy: Policy) -> [bool; 16]
+    ensures { result ≡ (groups_of policy).allowed }
+{
+    match policy {
+        Policy::Text => [
+            true, true, false, false, false, false, false, false, false, false, false, false,
+            false, false, false, false,
+        ],
+        Policy::Color => [
+            true, true, true, true, true, false, false, false, false, false, false, false, false,
+            false, false, false,
+        ],
+        Policy::Screen => [
+            true, true, true, true, true, true, true, true, true, true, true, true, false, false,
+            false, false,
+        ],
+        Policy::All => [
+            true, true, true, true, true, true, true, true, true, true, true, true, true, true,
+            true, true,
+        ],
+    }
+}
+
+// The place of a group in their order.
+fn place(group: Group) -> usize
+    ensures place { result ≡ place group }
+    ensures below { result < 16 }
+{
+    group as usize
+}
