@@ -14,9 +14,9 @@ use std::alloc::{Allocator, Global};
 /// out, by name, and what means nothing, with the places in the input. It reads the stream once
 /// more, a byte at a time, and keeps no more than a filter does, and a row for each name.
 #[derive(Drop)]
-pub struct Account<A: Allocator = Global> {
+pub struct Account<'a, A: Allocator = Global> {
     parser: VTParser<A>,
-    performer: Performer<Tally<A>, A>,
+    performer: Performer<Tally<'a, A>, A>,
     by_lines: bool,
     // where the next byte is
     place: Place,
@@ -29,13 +29,13 @@ pub struct Account<A: Allocator = Global> {
     has_failed: bool,
 }
 
-impl<A: Allocator + Copy> Account<A> {
+impl<'a, A: Allocator + Copy> Account<'a, A> {
     /// Of no byte yet. Takes no memory.
-    pub fn new(alloc: A, options: Options) -> Account<A> {
+    pub fn new(alloc: A, options: Options<'a>) -> Account<'a, A> {
         Account {
             parser: VTParser::with_limit(alloc, options.limit),
             performer: Performer {
-                sink: Tally::new(alloc, options.policy),
+                sink: Tally::new(alloc, options.choice),
                 alloc,
                 unfinished: Unfinished::new(Some(options.limit)),
             },
@@ -70,7 +70,7 @@ impl<A: Allocator + Copy> Account<A> {
     }
 
     /// What became of the actions and of what means nothing.
-    pub fn tally(&self) -> &Tally<A> {
+    pub fn tally(&self) -> &Tally<'a, A> {
         &self.performer.sink
     }
 

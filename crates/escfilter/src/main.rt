@@ -6,6 +6,7 @@
 mod account;
 mod json;
 mod name;
+mod named_groups;
 mod new_file;
 mod noting;
 mod observed;
@@ -25,6 +26,7 @@ use command_line::{
 };
 use esc_normal::Watched;
 use json::tell_json;
+use named_groups::Listed;
 use new_file::NewFile;
 use noting::Noting;
 use observed::Observed;
@@ -46,7 +48,10 @@ const USAGE_FAULT: u8 = 2;
 const LEFT_OUT: u8 = 3;
 
 const USAGE: &str = "\
-usage: escfilter [--allow text|color|screen|all] [--lines|--whole] [--limit size] \
+usage: escfilter [--allow text|color|screen|all|layout|sgr|hidden|links|controls|cursor|erase|\
+scroll|modes|charsets|palette|titles|clipboard|images|other] [--deny layout|sgr|hidden|links|\
+controls|cursor|erase|scroll|modes|charsets|palette|titles|clipboard|images|other] \
+[--links scheme,..] [--lines|--whole] [--limit size] \
 [--report[=text|json]] [--fail] [-o|--output file] [-i|--in-place[=suffix]] \
 [-h|--help] [-V|--version] [--] [FILE..]";
 
@@ -57,6 +62,9 @@ Writes what the policy admits of each FILE, or of standard input, as it is read.
   --allow color   and colours, renditions and links (the default); colour is the same
   --allow screen  and what changes the screen alone
   --allow all     and all that can be written by itself, queries too
+  --allow g,..    these groups too; a list with a policy begins anew with that policy
+  --deny g,..     not these groups
+  --links s,..    of links those alone whose addresses have these schemes, as http,https
   --lines         takes each line as a stream of its own, so that no string takes away the
                   lines after it (the default with text and color)
   --whole         takes each FILE as one stream (the default with screen and all)
@@ -73,7 +81,9 @@ Writes what the policy admits of each FILE, or of standard input, as it is read.
   --              the words after it are files
 
 A value follows its option, or '='. FILE - is standard input.
-Status: 0 all was filtered, 1 a fault, 2 usage, 3 by --fail, 141 the output was closed.";
+Status: 0 all was filtered, 1 a fault, 2 usage, 3 by --fail, 141 the output was closed.
+
+Groups (text is layout, color is that with sgr, hidden and links, screen is all up to palette):";
 
 const VERSION: &str = "escfilter 0.1.0";
 
@@ -93,13 +103,13 @@ fn main(rt: HostRuntime) -> ExitCode {
 fn done(rt: &HostRuntime, task: &Task<'_>) -> u8 {
     match task.kind {
         Kind::Filter => filter_to(rt, task.target, task.options, &task.files),
-        Kind::Help => said(rt, println!(rt; "{USAGE}\n\n{HELP}")),
+        Kind::Help => said(rt, println!(rt; "{USAGE}\n\n{HELP}\n{Listed}")),
         Kind::Version => said(rt, println!(rt; "{VERSION}")),
     }
 }
 
 // Filters the files to where the output goes.
-fn filter_to(rt: &HostRuntime, target: Target<'_>, options: Options, files: &[&str]) -> u8 {
+fn filter_to(rt: &HostRuntime, target: Target<'_>, options: Options<'_>, files: &[&str]) -> u8 {
     match target {
         Target::Output => filter_all(rt, options, files, OUTPUT, &mut rt.stdout()),
         Target::File(name) => filter_to_file(rt, options, files, name),
@@ -108,7 +118,7 @@ fn filter_to(rt: &HostRuntime, target: Target<'_>, options: Options, files: &[&s
 }
 
 // Filters the files to that of this name, which is written whole or not at all.
-fn filter_to_file(rt: &HostRuntime, options: Options, files: &[&str], name: &str) -> u8 {
+fn filter_to_file(rt: &HostRuntime, options: Options<'_>, files: &[&str], name: &str) -> u8 {
     let mut new = match NewFile::beside(rt, name) {
         Ok(new) => new,
         Err(error) => return unwritable(rt, name, error),
@@ -125,7 +135,7 @@ fn filter_to_file(rt: &HostRuntime, options: Options, files: &[&str], name: &str
 }
 
 // Filters each file in its place.
-fn filter_in_place(rt: &HostRuntime, options: Options, files: &[&str], suffix: &str) -> u8 {
+fn filter_in_place(rt: &HostRuntime, options: Options<'_>, files: &[&str], suffix: &str) -> u8 {
     if files.is_empty() {
         let _ = eprintln!(rt; "escfilter: --in-place wants a file\n{USAGE}");
         return USAGE_FAULT;
@@ -144,7 +154,7 @@ fn filter_in_place(rt: &HostRuntime, options: Options, files: &[&str], suffix: &
 }
 
 // Filters the file of this name in its place.
-fn replace_file(rt: &HostRuntime, options: Options, name: &str, suffix: &str) -> (Ended, bool) {
+fn replace_file(rt: &HostRuntime, options: Options<'_>, name: &str, suffix: &str) -> (Ended, bool) {
     if name == "-" || !is_text(name) {
         return unread(rt, name, "it is changed in place under a name alone");
     }
@@ -157,7 +167,7 @@ fn replace_file(rt: &HostRuntime, options: Options, name: &str, suffix: &str) ->
 // Filters the file of this name to a new one, which then takes its place.
 fn replace_by(
     rt: &HostRuntime,
-    options: Options,
+    options: Options<'_>,
     name: &str,
     suffix: &str,
     mut new: NewFile,
@@ -210,7 +220,7 @@ fn said(rt: &HostRuntime, printed: io::Result<()>) -> u8 {
 // others follow; where nothing can be written, none does.
 fn filter_all<W: Write>(
     rt: &HostRuntime,
-    options: Options,
+    options: Options<'_>,
     files: &[&str],
     output_name: &str,
     output: &mut W,
@@ -230,7 +240,7 @@ fn filter_all<W: Write>(
 }
 
 // This status, or the one of what was left out where that is a failure.
-fn failed_or(options: Options, is_less: bool, status: u8) -> u8 {
+fn failed_or(options: Options<'_>, is_less: bool, status: u8) -> u8 {
     if status == DONE && options.fails && is_less {
         LEFT_OUT
     } else {
@@ -242,7 +252,7 @@ fn failed_or(options: Options, is_less: bool, status: u8) -> u8 {
 // whether anything is known to be left out.
 fn filter_file<W: Write>(
     rt: &HostRuntime,
-    options: Options,
+    options: Options<'_>,
     name: &str,
     output_name: &str,
     output: &mut W,
@@ -273,7 +283,7 @@ fn unread<D: Display + Drop>(rt: &HostRuntime, name: &str, hindrance: D) -> (End
 // Filters a stream that has this name to an output that has this one.
 fn filter_input<R: Read + Drop, W: Write>(
     rt: &HostRuntime,
-    options: Options,
+    options: Options<'_>,
     name: &str,
     input: R,
     output_name: &str,
@@ -282,7 +292,7 @@ fn filter_input<R: Read + Drop, W: Write>(
     let account = account_of(rt, options);
     let mut reader = Watched::new(Noting::new(Observed::new(input, account)));
     let mut writer = Watched::new(Noting::new(output));
-    let outcome = filter_by(rt.alloc(), options, &mut reader, &mut writer);
+    let outcome = filter_by(rt.alloc(), &options, &mut reader, &mut writer);
     let reader = reader.into_inner();
     let reason = reader.reason().or(writer.into_inner().reason());
     let is_less = tell_account(rt, options, name, reader.into_inner().ended());
@@ -291,7 +301,7 @@ fn filter_input<R: Read + Drop, W: Write>(
 }
 
 // The account of a stream, where the options ask what is left out of it.
-fn account_of(rt: &HostRuntime, options: Options) -> Option<Account> {
+fn account_of<'a>(rt: &HostRuntime, options: Options<'a>) -> Option<Account<'a>> {
     if options.report.is_some() || options.fails {
         Some(Account::new(rt.alloc(), options))
     } else {
@@ -301,7 +311,12 @@ fn account_of(rt: &HostRuntime, options: Options) -> Option<Account> {
 
 // Reports what was left out of the stream of this name, where the options ask for it. It returns
 // whether anything was.
-fn tell_account(rt: &HostRuntime, options: Options, name: &str, account: Option<Account>) -> bool {
+fn tell_account(
+    rt: &HostRuntime,
+    options: Options<'_>,
+    name: &str,
+    account: Option<Account<'_>>,
+) -> bool {
     let Some(account) = account else {
         return false;
     };

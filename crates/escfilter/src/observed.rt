@@ -9,19 +9,19 @@ use std::io::Read;
 
 /// A reader around another, which shows an account, where there is one, what it reads.
 #[derive(Drop)]
-pub struct Observed<R> {
+pub struct Observed<'a, R> {
     inner: R,
-    account: Option<Account>,
+    account: Option<Account<'a>>,
 }
 
-impl<R> Observed<R> {
+impl<'a, R> Observed<'a, R> {
     /// A reader around `inner`.
-    pub fn new(inner: R, account: Option<Account>) -> Observed<R> {
+    pub fn new(inner: R, account: Option<Account<'a>>) -> Observed<'a, R> {
         Observed { inner, account }
     }
 
     /// The account, once all was read that is read.
-    pub fn ended(self) -> Option<Account>
+    pub fn ended(self) -> Option<Account<'a>>
     where
         R: Drop,
     {
@@ -33,7 +33,7 @@ impl<R> Observed<R> {
     }
 }
 
-impl<R: Read> Read for Observed<R> {
+impl<'a, R: Read> Read for Observed<'a, R> {
     ghost remaining = { λ o. R.remaining o.inner };
 
     fn read(&mut self, buf: &mut [u8]) -> io::Result<usize>
@@ -50,7 +50,7 @@ impl<R: Read> Read for Observed<R> {
 }
 
 // Shows the account so many of these bytes.
-fn show(account: &mut Account, bytes: &[u8], n: usize) {
+fn show(account: &mut Account<'_>, bytes: &[u8], n: usize) {
     if let Some(bytes) = bytes.get(..n) {
         account.show(bytes);
     }

@@ -1,14 +1,15 @@
 //! What the program's words ask for.
 
-use command_line::{Found, Known, Takes, Wrong, read};
-use esc_filter::Policy;
+use crate::named_groups::{ALLOWED, Choice, DENIED};
+use command_line::{Found, Given, Known, Takes, Wrong, read};
+use esc_filter::{Policy, is_scheme};
 use std::alloc::{Allocator, Global};
 
 /// How streams are filtered.
 #[derive(Clone, Copy)]
-pub struct Options {
+pub struct Options<'a> {
     /// What passes.
-    pub policy: Policy,
+    pub choice: Choice<'a>,
     /// How many bytes are kept of an unfinished segment.
     pub limit: usize,
     /// Whether each line is a stream of its own.
@@ -59,7 +60,7 @@ pub struct Task<'a, A: Allocator = Global> {
     /// Where the output goes.
     pub target: Target<'a>,
     /// How streams are filtered.
-    pub options: Options,
+    pub options: Options<'a>,
     /// The files.
     pub files: Vec<&'a str, A>,
 }
@@ -70,7 +71,17 @@ const KNOWN: &[Known] = &[
     Known {
         name: "--allow",
         letter: "",
-        takes: Takes::OneOf("policy", &["text", "color", "colour", "screen", "all"]),
+        takes: Takes::SomeOf("policy or group", ALLOWED),
+    },
+    Known {
+        name: "--deny",
+        letter: "",
+        takes: Takes::SomeOf("group", DENIED),
+    },
+    Known {
+        name: "--links",
+        letter: "",
+        takes: Takes::OneOf("scheme", &[]),
     },
     Known {
         name: "--limit",
@@ -123,9 +134,13 @@ impl<'a, A: Allocator + Copy> Task<'a, A> {
     /// The task that these words, the program's arguments, name; of an option that is given twice
     /// the last counts.
     pub fn of(alloc: A, words: &'a [String]) -> Result<Task<'a, A>, Wrong<'a>> {
-        match read(alloc, KNOWN, words) {
-            Ok(found) => Ok(Task::from_found(found)),
-            Err(wrong) => Err(wrong),
+        let found = match read(alloc, KNOWN, words) {
+            Ok(found) => found,
+            Err(wrong) => return Err(wrong),
+        };
+        match wrong_scheme(&found.options) {
+            Some(scheme) => Err(Wrong::Value("--links", "scheme", scheme, None)),
+            None => Ok(Task::from_found(found)),
         }
     }
 
@@ -134,16 +149,22 @@ impl<'a, A: Allocator + Copy> Task<'a, A> {
         let mut kind = Kind::Filter;
         let mut target = Target::Output;
         let mut options = Options {
-            policy: Policy::Color,
+            choice: Choice {
+                policy: Policy::Color,
+                groups: None,
+            },
             limit: DEFAULT_LIMIT,
             by_lines: false,
             report: None,
             fails: false,
         };
         let mut by_lines = None;
+        let mut schemes = None;
         for given in &found.options {
             match given.name {
-                "--allow" => options.policy = policy_of(given.word),
+                "--allow" => options.choice = options.choice.and(given.some),
+                "--deny" => options.choice = options.choice.without(given.some),
+                "--links" => schemes = Some(given.word),
                 "--limit" => options.limit = given.size,
                 "--lines" => by_lines = Some(true),
                 "--whole" => by_lines = Some(false),
@@ -156,7 +177,10 @@ impl<'a, A: Allocator + Copy> Task<'a, A> {
                 _ => {}
             }
         }
-        options.by_lines = by_lines.unwrap_or(is_by_lines(options.policy));
+        options.by_lines = by_lines.unwrap_or(is_by_lines(options.choice.policy));
+        if let Some(schemes) = schemes {
+            options.choice = options.choice.with_schemes(schemes);
+        }
         Task {
             kind,
             target,
@@ -175,14 +199,19 @@ fn is_by_lines(policy: Policy) -> bool {
     }
 }
 
-// The policy of this name, which is one of those in the table.
-fn policy_of(name: &str) -> Policy {
-    match name {
-        "text" => Policy::Text,
-        "screen" => Policy::Screen,
-        "all" => Policy::All,
-        _ => Policy::Color,
+// The first word that `--links` is given as a scheme and is none.
+fn wrong_scheme<'a>(options: &[Given<'a>]) -> Option<&'a str> {
+    for given in options {
+        if given.name != "--links" {
+            continue;
+        }
+        for scheme in given.word.split(',') {
+            if !is_scheme(scheme) {
+                return Some(scheme);
+            }
+        }
     }
+    None
 }
 
 // The form of this name, which is one of those in the table; of text where none is named.

@@ -17,22 +17,23 @@ pub const PROGRAM: &str = "escfilter";
 /// What standard output is called.
 pub const OUTPUT: &str = "standard output";
 
-/// Writes on `writer` what the policy of the options admits of what `reader` reads, as it comes: of
-/// each line, or of the whole. It returns what `filter_lines` does, or `filter_stream`.
+/// Writes on `writer` what passes by the options of what `reader` reads, as it comes: of each line,
+/// or of the whole. It returns what `filter_lines` does, or `filter_stream`.
 pub fn filter_by<A: Allocator + Copy, R: Read, W: Write>(
     alloc: A,
-    options: Options,
+    options: &Options<'_>,
     reader: &mut Watched<R>,
     writer: &mut Watched<W>,
 ) -> Result<(), FilterError>
-    ensures holds { Filters R.Read W.Write (text_of A options) (IsWritten A options) result reader
-        writer }
+    ensures holds { Filters R.Read W.Write (text_of A options.now) (IsWritten A options.now) result
+        reader writer }
     ensures refused { IsErrOf result FilterError.Memory → Refused A }
 {
-    if options.by_lines {
-        filter_lines(alloc, reader, writer, options.limit, options.policy)
+    let by_lines = options.by_lines;
+    if by_lines {
+        filter_lines(alloc, reader, writer, options.limit, options.choice)
     } else {
-        filter_stream(alloc, reader, writer, options.limit, options.policy)
+        filter_stream(alloc, reader, writer, options.limit, options.choice)
     }
 }
 

@@ -1,13 +1,14 @@
 //! What becomes of the actions of a stream.
 
 use crate::name::{Name, name_of};
+use crate::named_groups::Choice;
 use crate::opened::Opened;
 use crate::place::Place;
 use crate::span::Span;
 use crate::swallowed::{Lost, Swallowed};
 use esc_actions::Action;
 use esc_device::DeviceControlMode;
-use esc_filter::{Policy, passes};
+use esc_filter::passes;
 use esc_parse::Sink;
 use std::alloc::{AllocError, Allocator, Global};
 
@@ -32,8 +33,8 @@ enum Fate {
 
 /// How many actions of a stream pass, and how many of each name are left out.
 #[derive(Drop)]
-pub struct Tally<A: Allocator = Global> {
-    policy: Policy,
+pub struct Tally<'a, A: Allocator = Global> {
+    choice: Choice<'a>,
     /// The segment that is read.
     pub span: Span,
     /// How many actions there are: characters, controls, sequences and strings.
@@ -48,11 +49,11 @@ pub struct Tally<A: Allocator = Global> {
     last: Fate,
 }
 
-impl<A: Allocator> Tally<A> {
-    /// Of no action yet, under this policy. Takes no memory.
-    pub fn new(alloc: A, policy: Policy) -> Tally<A> {
+impl<'a, A: Allocator> Tally<'a, A> {
+    /// Of no action yet, where this passes. Takes no memory.
+    pub fn new(alloc: A, choice: Choice<'a>) -> Tally<'a, A> {
         Tally {
-            policy,
+            choice,
             span: Span::new(),
             actions: 0,
             left_actions: 0,
@@ -110,7 +111,7 @@ impl<A: Allocator> Tally<A> {
     // Notes an action, which is at this place.
     fn note(&mut self, action: &Action<A>, place: Place) -> Result<(), AllocError> {
         self.actions = self.actions.saturating_add(1);
-        if passes(&self.policy, action) {
+        if passes(&self.choice, action) {
             self.last = Fate::Passed;
             return Ok(());
         }
@@ -141,7 +142,7 @@ impl<A: Allocator> Tally<A> {
     }
 }
 
-impl<A: Allocator> Sink<Action<A>> for Tally<A> {
+impl<'a, A: Allocator> Sink<Action<A>> for Tally<'a, A> {
     ghost is_ready = { λ _. Unit {0} };
 
     ghost may = { λ _ _. Unit {0} };

@@ -1,0 +1,217 @@
+//! The groups of actions that the options name.
+
+use esc_actions::Action;
+use esc_filter::{Admit, Group, Groups, Policy};
+use esc_values::CsiParam;
+use std::alloc::Allocator;
+use std::fmt;
+use std::fmt::Display;
+
+// A row a group: the group, its name, and what is in it. The bits of the words in `DENIED` are in
+// this order.
+macro_rules! groups {
+    ($each:ident) => {
+        $each![
+            Layout, "layout", "tab, line feed and carriage return";
+            Sgr, "sgr", "colours and other renditions, but those of hidden";
+            Hidden, "hidden", "renditions of which one conceals text (SGR 8)";
+            Links, "links", "hyperlinks (OSC 8)";
+            Controls, "controls", "bell, backspace, line tabulation and form feed";
+            Cursor, "cursor", "cursor movement, its shape, what it saves, and tab stops";
+            Erase, "erase", "erasing, inserting, deleting, copying and filling";
+            Scroll, "scroll", "scrolling, index and next line, and margins";
+            Modes, "modes", "modes of what is shown";
+            Charsets, "charsets", "character sets, shifts, and the size of a line's characters";
+            Palette, "palette", "colours of the palette";
+            Titles, "titles", "titles of the window and of the icon";
+            Clipboard, "clipboard", "the clipboard, set and cleared";
+            Images, "images", "images of kitty and sixel";
+            Other, "other", "anything else that can be written, queries too";
+        ]
+    };
+}
+
+macro_rules! names {
+    ($($group:ident, $name:literal, $words:literal);+ $(;)?) => {
+        &[$($name),+]
+    };
+}
+
+macro_rules! names_and_policies {
+    ($($group:ident, $name:literal, $words:literal);+ $(;)?) => {
+        &["text", "color", "colour", "screen", "all", $($name),+]
+    };
+}
+
+macro_rules! rows {
+    ($($group:ident, $name:literal, $words:literal);+ $(;)?) => {
+        [$((Group::$group, $name, $words)),+]
+    };
+}
+
+/// What `--allow` takes: policies, and groups.
+pub const ALLOWED: &[&str] = groups!(names_and_policies);
+
+/// What `--deny` takes: groups.
+pub const DENIED: &[&str] = groups!(names);
+
+// How many words of `ALLOWED` are policies.
+const POLICIES: u32 = 5;
+
+static ROWS: [(Group, &str, &str); 15] = groups!(rows);
+
+/// What passes: what a policy admits, or where groups were added to it or taken away, these.
+#[derive(Clone, Copy)]
+pub struct Choice<'a> {
+    /// The policy.
+    pub policy: Policy,
+    /// The groups in place of it.
+    pub groups: Option<Groups<'a>>,
+}
+
+impl<'a> Choice<'a> {
+    /// What passes besides, by the bits of the words in `ALLOWED`. Where a policy is among them, it
+    /// is what it admits and the groups, and nothing of what was there.
+    pub fn and(self, words: u64) -> Choice<'a> {
+        let begun = match policy_of(words) {
+            Some(policy) => Choice {
+                policy,
+                groups: None,
+            },
+            None => self,
+        };
+        begun.with(words >> POLICIES, true)
+    }
+
+    /// What passes but these groups, by the bits of the words in `DENIED`.
+    pub fn without(self, words: u64) -> Choice<'a> {
+        self.with(words, false)
+    }
+
+    /// What passes, but of links those alone that lead to addresses of these schemes.
+    pub fn with_schemes(self, schemes: &'a str) -> Choice<'a> {
+        Choice {
+            policy: self.policy,
+            groups: Some(self.all_groups().with_schemes(schemes)),
+        }
+    }
+
+    // The groups of what passes.
+    fn all_groups(self) -> Groups<'a> {
+        match self.groups {
+            Some(groups) => groups,
+            None => Groups::of(self.policy),
+        }
+    }
+
+    // What passes with these groups, or without them.
+    fn with(self, words: u64, passes: bool) -> Choice<'a> {
+        if words == 0 {
+            return self;
+        }
+        let mut groups = self.all_groups();
+        let mut rest = words;
+        for (group, _, _) in &ROWS {
+            if rest % 2 == 1 {
+                groups = changed(groups, *group, passes);
+            }
+            rest /= 2;
+        }
+        Choice {
+            policy: self.policy,
+            groups: Some(groups),
+        }
+    }
+}
+
+// One policy for both, so that the program has one filter.
+impl<'a, A: Allocator> Admit<A> for Choice<'a> {
+    ghost use Rattle.escfilter.specs.Written.{admits_choice};
+
+    ghost admits = { λ c v. admits_choice c v };
+
+    #[inline]
+    fn admits(&self, action: &Action<A>) -> bool {
+        match &self.groups {
+            Some(groups) => groups.admits(action),
+            None => self.policy.admits(action),
+        }
+    }
+
+    #[inline]
+    fn admits_text(&self, text: &[u8]) -> bool {
+        match &self.groups {
+            Some(groups) => <Groups<'_> as Admit<A>>::admits_text(groups, text),
+            None => <Policy as Admit<A>>::admits_text(&self.policy, text),
+        }
+    }
+
+    #[inline]
+    fn admits_str(&self, text: &str) -> bool {
+        match &self.groups {
+            Some(groups) => <Groups<'_> as Admit<A>>::admits_str(groups, text),
+            None => <Policy as Admit<A>>::admits_str(&self.policy, text),
+        }
+    }
+
+    #[inline]
+    fn admits_sequence(&self, params: &[CsiParam], control: u8) -> Option<bool> {
+        match &self.groups {
+            Some(groups) => <Groups<'_> as Admit<A>>::admits_sequence(groups, params, control),
+            None => <Policy as Admit<A>>::admits_sequence(&self.policy, params, control),
+        }
+    }
+
+    #[inline]
+    fn admits_command(&self, text: &[u8]) -> Option<bool> {
+        match &self.groups {
+            Some(groups) => <Groups<'_> as Admit<A>>::admits_command(groups, text),
+            None => <Policy as Admit<A>>::admits_command(&self.policy, text),
+        }
+    }
+
+    #[inline]
+    fn admits_images(&self) -> bool {
+        match &self.groups {
+            Some(groups) => <Groups<'_> as Admit<A>>::admits_images(groups),
+            None => <Policy as Admit<A>>::admits_images(&self.policy),
+        }
+    }
+}
+
+// The groups with this one, or without it.
+fn changed(groups: Groups<'_>, group: Group, passes: bool) -> Groups<'_> {
+    if passes {
+        groups.and(group)
+    } else {
+        groups.without(group)
+    }
+}
+
+// The policy that admits most of those whose bits are among these.
+fn policy_of(words: u64) -> Option<Policy> {
+    if words & 0x10 != 0 {
+        Some(Policy::All)
+    } else if words & 0x08 != 0 {
+        Some(Policy::Screen)
+    } else if words & 0x06 != 0 {
+        Some(Policy::Color)
+    } else if words & 0x01 != 0 {
+        Some(Policy::Text)
+    } else {
+        None
+    }
+}
+
+/// The groups, a line each.
+#[derive(Clone, Copy)]
+pub struct Listed;
+
+impl Display for Listed {
+    fn fmt<W: fmt::Write>(&self, f: &mut fmt::Formatter<W>) -> fmt::Result {
+        for (_, name, words) in &ROWS {
+            writeln!(f, "  {name:<10}{words}")?;
+        }
+        Ok(())
+    }
+}
