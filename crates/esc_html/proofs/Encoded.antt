@@ -1,0 +1,91 @@
+-- The UTF-8 of what is written of characters is what is written of their UTF-8.
+use Rattle.std.proofs.Common.{ℕ, ◌≡◌, ◌<◌, Bool, true, false, nat_le, ◌==◌, inl, inr, List, [], ◌∷◌, ◌++◌, codes, map, get_or, if◌then◌else◌, not, ◌&&◌, refl, ap, sym, ◌∙◌, arith}
+use Rattle.std.specs.Char.{encode_utf8}
+use Rattle.std.specs.List.{flat_map, list_all}
+use Rattle.std.specs.Str.{encode_utf8_all}
+use Rattle.std.proofs.lemmas.Bool.{cases_Bool, and_parts, leb-true, true≢false}
+use Rattle.std.proofs.lemmas.Grind.{flat_map-append}
+use Rattle.std.proofs.lemmas.List.{append-nil}
+use Rattle.std.proofs.lemmas.Str.{encode_ascii, encodes-append, inside_one}
+use Rattle.memchr.specs.Find.{is_byte3}
+use Rattle.esc_html.specs.Classes.{class_names}
+use Rattle.esc_html.specs.Pieces.{Piece, text, span, span_end, link, link_end, encoded, escape, escape_value, html_text, piece_text, reference_text, is_kept}
+use Rattle.esc_html.proofs.EscapedRuns.{is_small, escape_none, mark_small}
+use Rattle.esc_html.proofs.Reading.{is_name_char, names_plain}
+
+literal : (t : List ℕ) → list_all is_small t ≡ true → encode_utf8_all t ≡ t
+literal [] h = refl
+literal (c ∷ t) h =
+    let q = and_parts (is_small c) (list_all is_small t) h in
+    let low = leb-true c 127 q.0 in
+    rw (encode_ascii c (omega arith), literal t q.1) refl
+
+reference_plain : (c : ℕ) → encode_utf8_all (reference_text c) ≡ reference_text c
+reference_plain c = literal (reference_text c) (by (c == 0x26) (c == 0x3c) (c == 0x3e))
+  where
+    by : (x y z : Bool) → list_all is_small (if x then codes "&amp;" else if y then codes "&lt;"
+        else if z then codes "&gt;" else codes "&quot;") ≡ true
+    by true y z = refl
+    by false true z = refl
+    by false false true = refl
+    by false false false = refl
+
+escape_one : (mark c : ℕ) → mark < 128
+    → encode_utf8_all (escape mark c) ≡ flat_map (escape mark) (encode_utf8 c)
+escape_one mark c small =
+    elim (cases_Bool (is_byte3 0x26 0x3c mark c)) [
+      | inl held ↦ let low = mark_small mark c small held in
+          let is : escape mark c ≡ reference_text c = rw held refl in
+          ap encode_utf8_all is ∙ reference_plain c ∙ sym (append-nil (reference_text c))
+          ∙ ap (λ y. y ++ []) (sym is) ∙ ap (flat_map (escape mark)) (sym (encode_ascii c low))
+      | inr failed ↦ let is : escape mark c ≡ c ∷ [] = rw failed refl in
+          ap encode_utf8_all is ∙ append-nil (encode_utf8 c)
+          ∙ sym (escape_none mark (encode_utf8 c) (λ k l m p.
+          let low = mark_small mark (get_or (encode_utf8 c) k 0) small p in
+          let same = inside_one c [] (encode_utf8 c) k (sym (append-nil (encode_utf8 c))) m low in
+          true≢false (sym p ∙ ap (is_byte3 0x26 0x3c mark) (sym same) ∙ failed)))
+    ]
+
+escape_all : (mark : ℕ) (t : List ℕ) → mark < 128
+    → encode_utf8_all (flat_map (escape mark) t) ≡ flat_map (escape mark) (encode_utf8_all t)
+escape_all mark [] small = refl
+escape_all mark (c ∷ t) small =
+    encodes-append (escape mark c) (flat_map (escape mark) t)
+    ∙ ap (λ x. x ++ encode_utf8_all (flat_map (escape mark) t)) (escape_one mark c small)
+    ∙ ap (λ y. flat_map (escape mark) (encode_utf8 c) ++ y) (escape_all mark t small)
+    ∙ sym (flat_map-append (escape mark) (encode_utf8 c) (encode_utf8_all t))
+
+name_small : (x : List ℕ) → list_all is_name_char x ≡ true → list_all is_small x ≡ true
+name_small [] h = refl
+name_small (c ∷ x) h =
+    let q = and_parts (is_name_char c) (list_all is_name_char x) h in
+    let k = and_parts (is_kept c) (not (c == 0x22) && (not (c == 0x26) && nat_le c 127)) q.0 in
+    let o = and_parts (not (c == 0x22)) (not (c == 0x26) && nat_le c 127) k.1 in
+    rw ((and_parts (not (c == 0x26)) (nat_le c 127) o.1).1, name_small x q.1) refl
+
+-- a tag around a value
+around : (l x y t : List ℕ) → list_all is_small l ≡ true → list_all is_small t ≡ true
+    → encode_utf8_all x ≡ y → encode_utf8_all (l ++ (x ++ t)) ≡ l ++ (y ++ t)
+around l x y t h k e =
+    encodes-append l (x ++ t) ∙ ap (λ z. z ++ encode_utf8_all (x ++ t)) (literal l h)
+    ∙ ap (λ z. l ++ z) (encodes-append x t ∙ ap (λ z. z ++ encode_utf8_all t) e
+    ∙ ap (λ z. y ++ z) (literal t k))
+
+piece_encoded : (p : Piece) → encode_utf8_all (piece_text p) ≡ piece_text (encoded p)
+piece_encoded (text t) = escape_all 0x3e t (omega arith)
+piece_encoded (span cs) =
+    around (codes "<span class=\"") (class_names cs) (class_names cs) (codes "\">") refl refl
+    (literal (class_names cs) (name_small (class_names cs) (names_plain cs)))
+piece_encoded span_end = literal (codes "</span>") refl
+piece_encoded (link a) =
+    around (codes "<a href=\"") (flat_map escape_value a)
+    (flat_map escape_value (encode_utf8_all a)) (codes "\" rel=\"noopener noreferrer\">") refl refl
+    (escape_all 0x22 a (omega arith))
+piece_encoded link_end = literal (codes "</a>") refl
+
+pub pieces_encoded : (ps : List Piece) → encode_utf8_all (html_text ps) ≡ html_text (map encoded ps)
+pieces_encoded [] = refl
+pieces_encoded (p ∷ ps) =
+    encodes-append (piece_text p) (html_text ps)
+    ∙ ap (λ x. x ++ encode_utf8_all (html_text ps)) (piece_encoded p)
+    ∙ ap (λ y. piece_text (encoded p) ++ y) (pieces_encoded ps)

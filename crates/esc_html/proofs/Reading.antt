@@ -1,0 +1,195 @@
+-- The tokenizer reads the text of pieces as their tokens.
+use Rattle.std.proofs.Common.{ℕ, ◌≡◌, Bool, true, false, not, nat_le, ◌&&◌, ◌||◌, ◌==◌, if◌then◌else◌, inl, inr, List, [], ◌∷◌, ◌++◌, codes, map, refl, ap, sym, ◌∙◌, append_assoc}
+use Rattle.std.specs.List.{flat_map, list_all}
+use Rattle.std.proofs.lemmas.Bool.{eqb-true, cases_Bool, and_parts, not-true}
+use Rattle.std.proofs.lemmas.List.Folds.{list_all-append}
+use Rattle.std.proofs.lemmas.List.{append-nil}
+use Rattle.esc_html.specs.Classes.{class_name, more_names, class_names}
+use Rattle.esc_html.specs.Pieces.{Piece, text, span, span_end, link, link_end, escape, escape_text, escape_value, piece_text, html_text, piece_tokens, tokens_of, is_kept, is_kept_piece}
+use Rattle.esc_html.specs.Tokens.{Tag, character, data_state, value, tokens_from, normalized, tokens}
+use Rattle.esc_html.specs.declared.class.Class.{Class}
+use Rattle.esc_html.specs.declared.class.Class.TheVariants.{Blink, Bold, Concealed, CurlyUnderline, DashedUnderline, DottedUnderline, DoubleUnderline, Faint, Inverse, Italic, Overline, Strikethrough, Underline}
+
+-- ---- text
+
+text_char : (c : ℕ) (r : List ℕ)
+    → tokens_from data_state (escape_text c ++ r) ≡ character c ∷ tokens_from data_state r
+text_char c r =
+    elim (cases_Bool (c == 0x26)) [
+      | inl held ↦ let same : c ≡ 0x26 = eqb-true c 0x26 held in rw same refl
+      | inr amp ↦ elim (cases_Bool (c == 0x3c)) [
+        | inl held ↦ let same : c ≡ 0x3c = eqb-true c 0x3c held in rw same refl
+        | inr less ↦ elim (cases_Bool (c == 0x3e)) [
+          | inl held ↦ let same : c ≡ 0x3e = eqb-true c 0x3e held in rw same refl
+          | inr more ↦ rw (amp, less, more) (rw (amp, less) refl)
+        ]
+      ]
+    ]
+
+text_chars : (t r : List ℕ)
+    → tokens_from data_state (flat_map escape_text t ++ r)
+    ≡ map character t ++ tokens_from data_state r
+text_chars [] r = refl
+text_chars (c ∷ t) r =
+    ap (tokens_from data_state) (append_assoc (escape_text c) (flat_map escape_text t) r)
+    ∙ text_char c (flat_map escape_text t ++ r)
+    ∙ ap (λ ts. character c ∷ ts) (text_chars t r)
+
+-- ---- the value of an attribute
+
+value_char : (t : Tag) (n v : List ℕ) (c : ℕ) (r : List ℕ) → is_kept c ≡ true
+    → tokens_from (value t n v) (escape_value c ++ r) ≡ tokens_from (value t n (v ++ c ∷ [])) r
+value_char t n v c r h =
+    let nul = not-true (c == 0) (and_parts (not (c == 0)) (not (c == 0x0d)) h).0 in
+    elim (cases_Bool (c == 0x26)) [
+      | inl held ↦ let same : c ≡ 0x26 = eqb-true c 0x26 held in rw same refl
+      | inr amp ↦ elim (cases_Bool (c == 0x3c)) [
+        | inl held ↦ let same : c ≡ 0x3c = eqb-true c 0x3c held in rw same refl
+        | inr less ↦ elim (cases_Bool (c == 0x22)) [
+          | inl held ↦ let same : c ≡ 0x22 = eqb-true c 0x22 held in rw same refl
+          | inr quote ↦ rw (amp, less, quote) (rw (quote, amp, nul) refl)
+        ]
+      ]
+    ]
+
+value_chars : (t : Tag) (n v a r : List ℕ) → list_all is_kept a ≡ true
+    → tokens_from (value t n v) (flat_map escape_value a ++ r) ≡ tokens_from (value t n (v ++ a)) r
+value_chars t n v [] r h = ap (λ w. tokens_from (value t n w) r) (sym (append-nil v))
+value_chars t n v (c ∷ a) r h =
+    let q = and_parts (is_kept c) (list_all is_kept a) h in
+    ap (tokens_from (value t n v)) (append_assoc (escape_value c) (flat_map escape_value a) r)
+    ∙ value_char t n v c (flat_map escape_value a ++ r) q.0
+    ∙ value_chars t n (v ++ c ∷ []) a r q.1
+    ∙ ap (λ w. tokens_from (value t n w) r) (append_assoc v (c ∷ []) a)
+
+-- ---- names of classes
+
+abbrev pub is_name_char : ℕ → Bool
+is_name_char c = is_kept c && (not (c == 0x22) && (not (c == 0x26) && nat_le c 127))
+
+name_chars : (t : Tag) (n v x r : List ℕ) → list_all is_name_char x ≡ true
+    → tokens_from (value t n v) (x ++ r) ≡ tokens_from (value t n (v ++ x)) r
+name_chars t n v [] r h = ap (λ w. tokens_from (value t n w) r) (sym (append-nil v))
+name_chars t n v (c ∷ x) r h =
+    let q = and_parts (is_name_char c) (list_all is_name_char x) h in
+    let k = and_parts (is_kept c) (not (c == 0x22) && (not (c == 0x26) && nat_le c 127)) q.0 in
+    let o = and_parts (not (c == 0x22)) (not (c == 0x26) && nat_le c 127) k.1 in
+    let nul = not-true (c == 0) (and_parts (not (c == 0)) (not (c == 0x0d)) k.0).0 in
+    let quote = not-true (c == 0x22) o.0 in
+    let amp = not-true (c == 0x26) (and_parts (not (c == 0x26)) (nat_le c 127) o.1).0 in
+    rw (quote, amp, nul) (name_chars t n (v ++ c ∷ []) x r q.1
+    ∙ ap (λ w. tokens_from (value t n w) r) (append_assoc v (c ∷ []) x))
+
+name_plain : (c : Class) → list_all is_name_char (class_name c) ≡ true
+name_plain Bold = refl
+name_plain Faint = refl
+name_plain Italic = refl
+name_plain Underline = refl
+name_plain DoubleUnderline = refl
+name_plain CurlyUnderline = refl
+name_plain DottedUnderline = refl
+name_plain DashedUnderline = refl
+name_plain Blink = refl
+name_plain Inverse = refl
+name_plain Concealed = refl
+name_plain Strikethrough = refl
+name_plain Overline = refl
+
+more_plain : (cs : List Class) → list_all is_name_char (more_names cs) ≡ true
+more_plain [] = refl
+more_plain (c ∷ cs) =
+    rw (list_all-append is_name_char (class_name c) (more_names cs), name_plain c, more_plain cs)
+    refl
+
+pub names_plain : (cs : List Class) → list_all is_name_char (class_names cs) ≡ true
+names_plain [] = refl
+names_plain (c ∷ cs) =
+    rw (list_all-append is_name_char (class_name c) (more_names cs), name_plain c, more_plain cs)
+    refl
+
+-- ---- pieces
+
+abbrev begun : List ℕ → Tag
+begun n = record { is_end = false; name = n; attributes = [] }
+
+piece_reads : (p : Piece) (r : List ℕ) → is_kept_piece p ≡ true
+    → tokens_from data_state (piece_text p ++ r) ≡ piece_tokens p ++ tokens_from data_state r
+piece_reads (text t) r h = text_chars t r
+piece_reads (span cs) r h =
+    ap (tokens_from (value (begun (codes "span")) (codes "class") []))
+    (append_assoc (class_names cs) (codes "\">") r)
+    ∙ name_chars (begun (codes "span")) (codes "class") [] (class_names cs) (codes "\">" ++ r)
+    (names_plain cs)
+piece_reads span_end r h = refl
+piece_reads (link a) r h =
+    ap (tokens_from (value (begun (codes "a")) (codes "href") []))
+    (append_assoc (flat_map escape_value a) (codes "\" rel=\"noopener noreferrer\">") r)
+    ∙ value_chars (begun (codes "a")) (codes "href") [] a
+    (codes "\" rel=\"noopener noreferrer\">" ++ r) h
+piece_reads link_end r h = refl
+
+all_read : (ps : List Piece) → list_all is_kept_piece ps ≡ true
+    → tokens_from data_state (html_text ps) ≡ tokens_of ps
+all_read [] h = refl
+all_read (p ∷ ps) h =
+    let q = and_parts (is_kept_piece p) (list_all is_kept_piece ps) h in
+    piece_reads p (html_text ps) q.0 ∙ ap (λ ts. piece_tokens p ++ ts) (all_read ps q.1)
+
+-- ---- newlines
+
+kept_same : (s : List ℕ) → list_all is_kept s ≡ true → normalized false s ≡ s
+kept_same [] h = refl
+kept_same (c ∷ s) h =
+    let q = and_parts (is_kept c) (list_all is_kept s) h in
+    let other = not-true (c == 0x0d) (and_parts (not (c == 0)) (not (c == 0x0d)) q.0).1 in
+    rw other (ap (λ x. c ∷ x) (kept_same s q.1))
+
+all_joined : {X : Type 0} (f : X → List ℕ) (test : X → Bool)
+    → ((x : X) → test x ≡ true → list_all is_kept (f x) ≡ true) → (xs : List X)
+    → list_all test xs ≡ true → list_all is_kept (flat_map f xs) ≡ true
+all_joined f test k [] h = refl
+all_joined f test k (x ∷ xs) h =
+    let q = and_parts (test x) (list_all test xs) h in
+    rw (list_all-append is_kept (f x) (flat_map f xs), k x q.0, all_joined f test k xs q.1) refl
+
+kept_escaped : (mark c : ℕ) → is_kept c ≡ true → list_all is_kept (escape mark c) ≡ true
+kept_escaped mark c h = by (c == 0x26 || c == 0x3c || c == mark) (c == 0x26) (c == 0x3c) (c == 0x3e)
+  where
+    by : (e x y z : Bool) → list_all is_kept (if e then (if x then codes "&amp;"
+        else if y then codes "&lt;" else if z then codes "&gt;" else codes "&quot;")
+        else c ∷ []) ≡ true
+    by true true y z = refl
+    by true false true z = refl
+    by true false false true = refl
+    by true false false false = refl
+    by false x y z = rw h refl
+
+name_kept : (x : List ℕ) → list_all is_name_char x ≡ true → list_all is_kept x ≡ true
+name_kept [] h = refl
+name_kept (c ∷ x) h =
+    let q = and_parts (is_name_char c) (list_all is_name_char x) h in
+    let k = and_parts (is_kept c) (not (c == 0x22) && (not (c == 0x26) && nat_le c 127)) q.0 in
+    rw (k.0, name_kept x q.1) refl
+
+piece_kept : (p : Piece) → is_kept_piece p ≡ true → list_all is_kept (piece_text p) ≡ true
+piece_kept (text t) h = all_joined escape_text is_kept (kept_escaped 0x3e) t h
+piece_kept (span cs) h =
+    rw (
+      list_all-append is_kept (class_names cs) (codes "\">"),
+      name_kept (class_names cs) (names_plain cs),
+    ) refl
+piece_kept span_end h = refl
+piece_kept (link a) h =
+    rw (
+      list_all-append is_kept (flat_map escape_value a)
+          (codes "\" rel=\"noopener noreferrer\">"),
+      all_joined escape_value is_kept (kept_escaped 0x22) a h,
+    ) refl
+piece_kept link_end h = refl
+
+pub pieces_read_back : (ps : List Piece) → list_all is_kept_piece ps ≡ true
+    → tokens (html_text ps) ≡ tokens_of ps
+pieces_read_back ps h =
+    ap (tokens_from data_state)
+    (kept_same (html_text ps) (all_joined piece_text is_kept_piece piece_kept ps h))
+    ∙ all_read ps h

@@ -1,0 +1,10 @@
+use Rattle.std.proofs.Common.{◌≡◌, IsUtf8, chars}
+use Rattle.std.specs.List.{list_all}
+use Rattle.std.specs.Str.Iter.{chars_rest}
+use Rattle.esc_html.specs.Addresses.{is_address_char}
+use Rattle.esc_html.proofs.address.are_address_chars.Given as goal
+
+abbrev pub invariant-loop-c : goal.invariant-loop-c
+invariant-loop-c l =
+    IsUtf8 (chars_rest l.c-iterator)
+    × (list_all is_address_char (chars (chars_rest l.c-iterator)) ≡ list_all is_address_char (chars l.fn.address))

@@ -1,0 +1,41 @@
+use Rattle.std.proofs.Common.{codes, string_bytes, refl, ◌++◌}
+use Rattle.esc_html.specs.Classes.{class_names}
+use Rattle.esc_html.proofs.EscapedRuns.{ascii_utf8, grown_ok, grows_literal, grows_on, grows_same, grows_then, three_joined}
+use Rattle.esc_html.proofs.writing.push_span.Goals as goal
+
+pub returns-in_err-push_str-clause-grown : goal.returns-in_err-push_str-clause-grown
+returns-in_err-push_str-clause-grown g c =
+    grows_same (string_bytes c.args.html.now) (string_bytes c.push_str.new.text)
+    c.in_err-push_str.ensures.bytes
+
+pub returns-in_err-push_names-clause-grown : goal.returns-in_err-push_names-clause-grown
+returns-in_err-push_names-clause-grown g c =
+    let old = string_bytes c.args.html.now in
+    let one = string_bytes c.push_str.new.text in
+    grows_then old one (string_bytes c.push_names.new.html)
+    (grows_literal old one (codes "<span class=\"") refl c.in_ok-push_str.ensures.bytes)
+    c.push_names.ensures.grown
+
+pub returns-clause-ok : goal.returns-clause-ok
+returns-clause-ok g c =
+    let old = string_bytes c.args.html.now in
+    let two = string_bytes c.push_names.new.html in
+    let value = class_names c.args.classes.now in
+    grown_ok c.push_str-2.result two (string_bytes c.push_str-2.new.text)
+    (codes "\">")
+    (old ++ (codes "<span class=\"" ++ (value ++ codes "\">")))
+    c.push_str-2.ensures.bytes
+    (three_joined old (string_bytes c.push_str.new.text) two (codes "<span class=\"") value
+    (codes "\">") c.in_ok-push_str.ensures.bytes c.in_ok-push_names.ensures.ok)
+
+pub returns-clause-grown : goal.returns-clause-grown
+returns-clause-grown g c =
+    let old = string_bytes c.args.html.now in
+    let one = string_bytes c.push_str.new.text in
+    let two = string_bytes c.push_names.new.html in
+    grows_on c.push_str-2.result old two (string_bytes c.push_str-2.new.text)
+    (codes "\">")
+    (grows_then old one two
+    (grows_literal old one (codes "<span class=\"") refl c.in_ok-push_str.ensures.bytes)
+    c.push_names.ensures.grown)
+    (ascii_utf8 (codes "\">") refl) c.push_str-2.ensures.bytes

@@ -1,0 +1,21 @@
+-- Addresses that a link may lead to.
+use Rattle.std.specs.Prelude.{ℕ, nat_le, nat_lt, Bool, ◌&&◌, ◌||◌, List, codes, length, take}
+use Rattle.std.specs.List.{list_all}
+use Rattle.std.specs.Str.{chars, str_eq_ignore_ascii_case}
+
+-- Whether an address begins with a scheme and its colon, given in lower case: letters of ASCII may
+-- be of either case (RFC 3986, 3.1).
+abbrev pub has_scheme : List ℕ → List ℕ → Bool
+has_scheme s a = nat_le (length s) (length a)
+    && str_eq_ignore_ascii_case (take (length s) a) s
+
+-- neither a control of C0 or C1, nor a space, nor DEL: a browser takes some of these out of an
+-- address before it reads the scheme (WHATWG URL, 4.4)
+abbrev pub is_address_char : ℕ → Bool
+is_address_char c = nat_lt 0x20 c && (nat_lt c 0x7f || nat_lt 0x9f c)
+
+-- the UTF-8 of an address with the scheme http, https or mailto
+abbrev pub is_safe_address : List ℕ → Bool
+is_safe_address a = (has_scheme (codes "http:") a || has_scheme (codes "https:") a
+    || has_scheme (codes "mailto:") a)
+    && list_all is_address_char (chars a)

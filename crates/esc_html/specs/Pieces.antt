@@ -1,0 +1,106 @@
+-- The pieces of which a text in HTML is made, what they are written as, and what a browser reads.
+-- The characters are those of Unicode or, in the same way, the bytes of UTF-8.
+use Rattle.std.specs.Prelude.{ℕ, ◌==◌, Bool, true, false, not, ◌&&◌, ◌||◌, if◌then◌else◌, List, [], ◌∷◌, ◌++◌, codes, map}
+use Rattle.std.specs.List.{flat_map, list_all}
+use Rattle.std.specs.Str.{encode_utf8_all}
+use Rattle.esc_html.specs.Classes.{class_names}
+use Rattle.esc_html.specs.Tokens.{Token, character, start_tag, end_tag}
+use Rattle.esc_html.specs.declared.class.Class.{Class}
+
+pub data Piece : Type 0 where
+  -- characters
+  text : List ℕ → Piece
+  -- a span of these classes begins
+  span : List Class → Piece
+  -- it ends
+  span_end : Piece
+  -- a link to this address begins
+  link : List ℕ → Piece
+  -- it ends
+  link_end : Piece
+
+-- the character reference of `&`, `<`, `>` and `"`
+abbrev pub reference_text : ℕ → List ℕ
+reference_text c = if c == 0x26 then codes "&amp;"
+    else if c == 0x3c then codes "&lt;"
+    else if c == 0x3e then codes "&gt;"
+    else codes "&quot;"
+
+-- what a character is written as, where `&`, `<` and this one have to be references
+abbrev pub escape : ℕ → ℕ → List ℕ
+escape mark c = if c == 0x26 || c == 0x3c || c == mark then reference_text c else c ∷ []
+
+-- in text: `>` too (13.3, escaping a string)
+abbrev pub escape_text : ℕ → List ℕ
+escape_text c = escape 0x3e c
+
+-- in an attribute's value between double quotes: `"` too
+abbrev pub escape_value : ℕ → List ℕ
+escape_value c = escape 0x22 c
+
+-- what a piece is written as
+abbrev pub piece_text : Piece → List ℕ
+piece_text (text t) = flat_map escape_text t
+piece_text (span cs) = codes "<span class=\"" ++ (class_names cs ++ codes "\">")
+piece_text span_end = codes "</span>"
+piece_text (link a) =
+    codes "<a href=\"" ++ (flat_map escape_value a ++ codes "\" rel=\"noopener noreferrer\">")
+piece_text link_end = codes "</a>"
+
+abbrev pub html_text : List Piece → List ℕ
+html_text ps = flat_map piece_text ps
+
+-- the tokens that a piece is
+abbrev pub piece_tokens : Piece → List Token
+piece_tokens (text t) = map character t
+piece_tokens (span cs) = start_tag (codes "span") ((codes "class", class_names cs) ∷ []) ∷ []
+piece_tokens span_end = end_tag (codes "span") ∷ []
+piece_tokens (link a) = start_tag (codes "a")
+    ((codes "href", a) ∷ (codes "rel", codes "noopener noreferrer") ∷ []) ∷ []
+piece_tokens link_end = end_tag (codes "a") ∷ []
+
+abbrev pub tokens_of : List Piece → List Token
+tokens_of ps = flat_map piece_tokens ps
+
+-- a character that HTML keeps as it is: not NUL, and no carriage return
+abbrev pub is_kept : ℕ → Bool
+is_kept c = not (c == 0) && not (c == 0x0d)
+
+-- the characters of a piece are kept
+abbrev pub is_kept_piece : Piece → Bool
+is_kept_piece (text t) = list_all is_kept t
+is_kept_piece (span cs) = true
+is_kept_piece span_end = true
+is_kept_piece (link a) = list_all is_kept a
+is_kept_piece link_end = true
+
+-- what is open: spans and links
+pub data Open : Type 0 where
+  open_span : Open
+  open_link : Open
+
+-- whether a link is open
+abbrev pub has_link : List Open → Bool
+has_link [] = false
+has_link (open_span ∷ os) = has_link os
+has_link (open_link ∷ os) = true
+
+-- Each span and link that began ends, the last one first, where these are open at the beginning;
+-- and no link begins in a link.
+abbrev pub nests : List Open → List Piece → Bool
+nests [] [] = true
+nests (o ∷ os) [] = false
+nests os (text t ∷ ps) = nests os ps
+nests os (span cs ∷ ps) = nests (open_span ∷ os) ps
+nests os (link a ∷ ps) = not (has_link os) && nests (open_link ∷ os) ps
+nests (open_span ∷ os) (span_end ∷ ps) = nests os ps
+nests (open_link ∷ os) (link_end ∷ ps) = nests os ps
+nests _ _ = false
+
+-- a piece of characters as one of the bytes of their UTF-8
+abbrev pub encoded : Piece → Piece
+encoded (text t) = text (encode_utf8_all t)
+encoded (span cs) = span cs
+encoded span_end = span_end
+encoded (link a) = link (encode_utf8_all a)
+encoded link_end = link_end

@@ -1,0 +1,43 @@
+//! Addresses of links.
+ghost use Rattle.std.specs.Prelude.{◌≡◌};
+ghost use Rattle.std.specs.List.{list_all};
+ghost use Rattle.std.specs.Str.{chars};
+ghost use Rattle.esc_html.specs.Addresses.{has_scheme, is_address_char, is_safe_address};
+
+/// Whether a link may lead to this address: its scheme is `http`, `https` or `mailto`, in letters
+/// of either case (RFC 3986, 3.1), and it has no control and no space. A browser leaves out tabs,
+/// line ends and what comes before the scheme (WHATWG URL, 4.4), so an address that has one of them
+/// is refused, and not read as it would be without.
+pub fn is_safe_address(address: &str) -> bool
+    ensures { result ≡ is_safe_address address.now }
+{
+    let bytes = address.as_bytes();
+    (has_scheme(bytes, b"http:") || has_scheme(bytes, b"https:") || has_scheme(bytes, b"mailto:"))
+        && are_address_chars(address)
+}
+
+// Whether these bytes begin with a scheme and its colon.
+fn has_scheme(address: &[u8], scheme: &[u8]) -> bool
+    ensures { result ≡ has_scheme scheme.now address.now }
+{
+    scheme.len() <= address.len() && address[..scheme.len()].eq_ignore_ascii_case(scheme)
+}
+
+// Whether each character may be in an address.
+fn are_address_chars(address: &str) -> bool
+    ensures { result ≡ list_all is_address_char (chars address.now) }
+{
+    for c in address.chars() {
+        if !is_address_char(c) {
+            return false;
+        }
+    }
+    true
+}
+
+// Whether the character is neither a control nor a space.
+fn is_address_char(c: char) -> bool
+    ensures { result ≡ is_address_char c }
+{
+    '\u{20}' < c && (c < '\u{7f}' || '\u{9f}' < c)
+}

@@ -1,0 +1,34 @@
+//! The laws of what is written.
+ghost use Rattle.std.specs.Prelude.{◌≡◌, List, [], map, true};
+ghost use Rattle.std.specs.List.{All, list_all};
+ghost use Rattle.std.specs.Str.{encode_utf8_all};
+ghost use Rattle.esc_html.specs.Listed.{IsListed, closes, is_safe_piece};
+ghost use Rattle.esc_html.specs.Pieces.{Piece, encoded, html_text, is_kept_piece, nests, tokens_of};
+ghost use Rattle.esc_html.specs.Tokens.{tokens};
+
+/// A browser's tokenizer reads the text of pieces as exactly their tokens: characters never become
+/// a tag, and an address never leaves its attribute. The characters and addresses may be any, but
+/// for NUL and carriage return, which HTML replaces.
+pub fn pieces_read_back()
+    ensures { (ps : List Piece) → list_all is_kept_piece ps ≡ true
+        → tokens (html_text ps) ≡ tokens_of ps }
+{}
+
+/// It reads nothing but characters, spans with names of the list of classes, and links to safe
+/// addresses, where those of the pieces are safe: no other element, attribute or scheme.
+pub fn pieces_are_listed()
+    ensures { (ps : List Piece) → list_all is_kept_piece ps ≡ true
+        → list_all is_safe_piece ps ≡ true → All IsListed (tokens (html_text ps)) }
+{}
+
+/// Where the pieces nest and all are closed, so do the tags that it reads.
+pub fn pieces_close()
+    ensures { (ps : List Piece) → list_all is_kept_piece ps ≡ true → nests [] ps ≡ true
+        → closes [] (tokens (html_text ps)) ≡ true }
+{}
+
+/// The UTF-8 of the text of pieces is the text of the pieces' UTF-8: so the laws hold of the
+/// characters that a browser decodes, as of the bytes that are written.
+pub fn pieces_encoded()
+    ensures { (ps : List Piece) → encode_utf8_all (html_text ps) ≡ html_text (map encoded ps) }
+{}
