@@ -121,6 +121,9 @@ ascii_utf8 t h = IsUtf8-from_ascii t (small_at t h)
 pub grows_same : (old new : List ℕ) → new ≡ old → Grows old new
 grows_same old new e = ([], IsUtf8-nil, e ∙ sym (append-nil old))
 
+pub grows_moved : (before old new : List ℕ) → Grows before old → new ≡ old → Grows before new
+grows_moved before old new (x, u, e) i = (x, u, i ∙ e)
+
 pub grows_then : (a b c : List ℕ) → Grows a b → Grows b c → Grows a c
 grows_then a b c h (y, v, e) = grows_by a b c y h v e
 

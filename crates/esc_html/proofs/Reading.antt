@@ -4,11 +4,13 @@ use Rattle.std.specs.List.{flat_map, list_all}
 use Rattle.std.proofs.lemmas.Bool.{eqb-true, cases_Bool, and_parts, not-true}
 use Rattle.std.proofs.lemmas.List.Folds.{list_all-append}
 use Rattle.std.proofs.lemmas.List.{append-nil}
-use Rattle.esc_html.specs.Classes.{class_name, more_names, class_names}
+use Rattle.esc_typed.specs.declared.ansi_color.AnsiColor.{AnsiColor}
+use Rattle.esc_typed.specs.declared.ansi_color.AnsiColor.TheVariants as ansi
+use Rattle.esc_html.specs.Classes.{class_name, color_name, more_names, class_names}
 use Rattle.esc_html.specs.Pieces.{Piece, text, span, span_end, link, link_end, escape, escape_text, escape_value, piece_text, html_text, piece_tokens, tokens_of, is_kept, is_kept_piece}
 use Rattle.esc_html.specs.Tokens.{Tag, character, data_state, value, tokens_from, normalized, tokens}
 use Rattle.esc_html.specs.declared.class.Class.{Class}
-use Rattle.esc_html.specs.declared.class.Class.TheVariants.{Blink, Bold, Concealed, CurlyUnderline, DashedUnderline, DottedUnderline, DoubleUnderline, Faint, Inverse, Italic, Overline, Strikethrough, Underline}
+use Rattle.esc_html.specs.declared.class.Class.TheVariants.{Background, Blink, Bold, Concealed, CurlyUnderline, DashedUnderline, DottedUnderline, DoubleUnderline, Faint, Foreground, Inverse, Italic, Overline, Strikethrough, Underline}
 
 -- ---- text
 
@@ -80,6 +82,24 @@ name_chars t n v (c ∷ x) r h =
     rw (quote, amp, nul) (name_chars t n (v ++ c ∷ []) x r q.1
     ∙ ap (λ w. tokens_from (value t n w) r) (append_assoc v (c ∷ []) x))
 
+color_plain : (c : AnsiColor) → list_all is_name_char (color_name c) ≡ true
+color_plain ansi.Black = refl
+color_plain ansi.Red = refl
+color_plain ansi.Green = refl
+color_plain ansi.Yellow = refl
+color_plain ansi.Blue = refl
+color_plain ansi.Magenta = refl
+color_plain ansi.Cyan = refl
+color_plain ansi.White = refl
+color_plain ansi.BrightBlack = refl
+color_plain ansi.BrightRed = refl
+color_plain ansi.BrightGreen = refl
+color_plain ansi.BrightYellow = refl
+color_plain ansi.BrightBlue = refl
+color_plain ansi.BrightMagenta = refl
+color_plain ansi.BrightCyan = refl
+color_plain ansi.BrightWhite = refl
+
 name_plain : (c : Class) → list_all is_name_char (class_name c) ≡ true
 name_plain Bold = refl
 name_plain Faint = refl
@@ -94,6 +114,8 @@ name_plain Inverse = refl
 name_plain Concealed = refl
 name_plain Strikethrough = refl
 name_plain Overline = refl
+name_plain (Foreground c) = color_plain c
+name_plain (Background c) = color_plain c
 
 more_plain : (cs : List Class) → list_all is_name_char (more_names cs) ≡ true
 more_plain [] = refl

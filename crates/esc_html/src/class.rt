@@ -1,6 +1,8 @@
 //! The classes of a span.
 ghost use Rattle.std.specs.Prelude.{◌≡◌};
-ghost use Rattle.esc_html.specs.Classes.{class_name};
+ghost use Rattle.esc_html.specs.Classes.{background_name, class_name, foreground_name};
+
+use esc_typed::AnsiColor;
 
 /// A class of a span: a rendition that characters have (ECMA-48, 8.3.117, SGR; the kinds of
 /// underlines as xterm and kitty read them, <https://sw.kovidgoyal.net/kitty/underlines/>).
@@ -32,6 +34,10 @@ pub enum Class {
     Strikethrough,
     /// SGR 53.
     Overline,
+    /// SGR 30 to 37 and 90 to 97: the colour of the characters.
+    Foreground(AnsiColor),
+    /// SGR 40 to 47 and 100 to 107: the colour of what is around them.
+    Background(AnsiColor),
 }
 
 impl Class {
@@ -53,6 +59,56 @@ impl Class {
             Class::Concealed => "concealed",
             Class::Strikethrough => "strikethrough",
             Class::Overline => "overline",
+            Class::Foreground(color) => foreground_name(color),
+            Class::Background(color) => background_name(color),
         }
+    }
+}
+
+// The class of a colour as foreground.
+fn foreground_name(color: AnsiColor) -> &'static str
+    ensures { result.now ≡ foreground_name color }
+{
+    match color {
+        AnsiColor::Black => "fg-black",
+        AnsiColor::Red => "fg-red",
+        AnsiColor::Green => "fg-green",
+        AnsiColor::Yellow => "fg-yellow",
+        AnsiColor::Blue => "fg-blue",
+        AnsiColor::Magenta => "fg-magenta",
+        AnsiColor::Cyan => "fg-cyan",
+        AnsiColor::White => "fg-white",
+        AnsiColor::BrightBlack => "fg-bright-black",
+        AnsiColor::BrightRed => "fg-bright-red",
+        AnsiColor::BrightGreen => "fg-bright-green",
+        AnsiColor::BrightYellow => "fg-bright-yellow",
+        AnsiColor::BrightBlue => "fg-bright-blue",
+        AnsiColor::BrightMagenta => "fg-bright-magenta",
+        AnsiColor::BrightCyan => "fg-bright-cyan",
+        AnsiColor::BrightWhite => "fg-bright-white",
+    }
+}
+
+// The class of a colour as background.
+fn background_name(color: AnsiColor) -> &'static str
+    ensures { result.now ≡ background_name color }
+{
+    match color {
+        AnsiColor::Black => "bg-black",
+        AnsiColor::Red => "bg-red",
+        AnsiColor::Green => "bg-green",
+        AnsiColor::Yellow => "bg-yellow",
+        AnsiColor::Blue => "bg-blue",
+        AnsiColor::Magenta => "bg-magenta",
+        AnsiColor::Cyan => "bg-cyan",
+        AnsiColor::White => "bg-white",
+        AnsiColor::BrightBlack => "bg-bright-black",
+        AnsiColor::BrightRed => "bg-bright-red",
+        AnsiColor::BrightGreen => "bg-bright-green",
+        AnsiColor::BrightYellow => "bg-bright-yellow",
+        AnsiColor::BrightBlue => "bg-bright-blue",
+        AnsiColor::BrightMagenta => "bg-bright-magenta",
+        AnsiColor::BrightCyan => "bg-bright-cyan",
+        AnsiColor::BrightWhite => "bg-bright-white",
     }
 }

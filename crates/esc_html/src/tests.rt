@@ -1,5 +1,6 @@
 //! Tests: which addresses are safe, and a whole text.
 use crate::{Class, close_link, close_span, is_safe_address, open_link, open_span, push_text};
+use esc_typed::AnsiColor;
 use std::alloc::AllocError;
 
 // Addresses, and whether a link may lead there.
@@ -27,7 +28,10 @@ fn push_line(html: &mut String, address: &str) -> Result<(), AllocError> {
     if is_safe_address(address) {
         open_link(html, address)?;
     }
-    open_span(html, &[Class::Bold, Class::CurlyUnderline])?;
+    open_span(
+        html,
+        &[Class::Bold, Class::Foreground(AnsiColor::BrightRed)],
+    )?;
     push_text(html, "<b a=\"&amp;\">\u{e9}")?;
     close_span(html)?;
     close_link(html)
@@ -48,7 +52,7 @@ fn pieces(rt: HostRuntime) -> Result<(), AllocError> {
         html.as_str()
             == concat!(
                 "<a href=\"http://a/?b&amp;c=&quot;&lt;>\" rel=\"noopener noreferrer\">",
-                "<span class=\"bold curly-underline\">&lt;b a=\"&amp;amp;\"&gt;\u{e9}</span></a>"
+                "<span class=\"bold fg-bright-red\">&lt;b a=\"&amp;amp;\"&gt;\u{e9}</span></a>"
             ),
         "{html:?}"
     );

@@ -3,7 +3,7 @@ use Rattle.std.specs.List.{flat_map}
 use Rattle.std.proofs.lemmas.Str.{IsCharBoundary-after_ascii}
 use Rattle.memchr.specs.Find.{is_byte3, IsFirstByte}
 use Rattle.esc_html.specs.Pieces.{escape}
-use Rattle.esc_html.proofs.EscapedRuns.{escape_none, next_mark, mark_small, next_run, grows_not, grows_by, grows_on, grown_ok}
+use Rattle.esc_html.proofs.EscapedRuns.{escape_none, next_mark, mark_small, next_run, grows_not, grows_by, grows_moved, grows_on, grown_ok}
 use Rattle.esc_html.proofs.escaping.push_escaped.Goals as goal
 
 pub loop-at-init : goal.loop-at-init
@@ -11,15 +11,16 @@ loop-at-init g c = (c.utf8.more, refl, grows_not (string_bytes c.args.html.now))
 
 pub returns-in_err-push_str-clause-grown : goal.returns-in_err-push_str-clause-grown
 returns-in_err-push_str-clause-grown g c =
-    let grown = c.loop-at.invariant.2 in
-    (grown.0, grown.1, c.in_err-push_str.ensures.bytes ∙ grown.2)
+    grows_moved (string_bytes c.args.html.now) (string_bytes c.loop-at.html)
+    (string_bytes c.push_str.new.text) c.loop-at.invariant.2 c.in_err-push_str.ensures.bytes
 
 pub returns-in_err-push_str-2-clause-grown : goal.returns-in_err-push_str-2-clause-grown
 returns-in_err-push_str-2-clause-grown g c =
-    let one = grows_by (string_bytes c.args.html.now) (string_bytes c.loop-at.html)
-    (string_bytes c.push_str.new.text) c.range.result.now c.loop-at.invariant.2 c.range.utf8
-    c.in_ok-push_str.ensures.bytes in
-    (one.0, one.1, c.in_err-push_str-2.ensures.bytes ∙ one.2)
+    let before = string_bytes c.args.html.now in
+    let one = string_bytes c.push_str.new.text in
+    grows_moved before one (string_bytes c.push_str-in-Some.new.text)
+    (grows_by before (string_bytes c.loop-at.html) one c.range.result.now c.loop-at.invariant.2
+    c.range.utf8 c.in_ok-push_str.ensures.bytes) c.in_err-push_str-2.ensures.bytes
 
 pub range_from-rest-requires : goal.range_from-rest-requires
 range_from-rest-requires g c = λ some.
