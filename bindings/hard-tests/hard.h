@@ -1,0 +1,64 @@
+/* SPDX-License-Identifier: MIT */
+/* What the files of this program share. hard.c says what the program does. */
+#ifndef HARD_H
+#define HARD_H
+
+#include <stdbool.h>
+#include <stddef.h>
+#include <stdint.h>
+
+/* A stream has at most STREAM_ROOM bytes, and no text of one more than TEXT_ROOM. */
+enum { PAGE = 4096, STREAM_ROOM = 16384, TEXT_ROOM = 262144, JUNK = 0xa5 };
+
+struct bytes {
+    const uint8_t *at;
+    size_t length;
+};
+
+/* hard.c: the stream at hand, and what was run. `at_hand` is what a failure prints. */
+struct run {
+    uint64_t seed;
+    struct bytes stream;
+    const char *call;
+    unsigned long long streams, bytes, calls, rooms, refusals;
+};
+extern struct run at_hand;
+_Noreturn void fails(const char *what, size_t number);
+
+/* random.c: numbers that depend on the seed alone. */
+void begin_numbers(uint64_t seed);
+uint64_t next_number(void);
+size_t below(size_t most);
+bool one_in(size_t count);
+
+/* guarded.c: memory between pages that nobody may touch. */
+struct area {
+    uint8_t *at;
+    size_t size;
+};
+struct area guarded(size_t size);
+uint8_t *guarded_row(size_t count, size_t size);
+uint8_t *placed(const struct area *area, size_t length);
+struct bytes lent(struct bytes bytes);
+
+/* allocator.c: the memory that the library asks for. */
+extern unsigned long requests, refused;
+extern long blocks;
+void begin_blocks(void);
+
+/* tables.c, streams.c: the streams. */
+void read_table(const char *path);
+struct bytes table_stream(void);
+struct bytes random_stream(uint64_t seed);
+
+/* The checks: a file each. */
+size_t piece_length(size_t way, size_t rest);
+void begin_events(void);
+struct bytes check_events(struct bytes stream);
+void begin_texts(void);
+void check_texts(struct bytes stream, struct bytes shown);
+void begin_pieces(void);
+void check_pieces(uint32_t policy, size_t limit, struct bytes stream, struct bytes text);
+void check_functions(void);
+
+#endif
