@@ -68,6 +68,10 @@ extern "C" {
  * ESC \, a C1 control is UTF-8, and UTF-8 that is broken is U+FFFD. Of a sequence that is unfinished at the end of the stream
  * only what it has done so far is written; of a title, nothing.
  *
+ * Where all that a stream means can be written, its normal form is its own normal form. Elsewhere it need not be: a byte 80 to
+ * FF in the data of a device control string is written as two bytes, an escape sequence with two intermediates with none, and of
+ * a control sequence the first 256 entries. What escape_stream_filter writes is always its own normal form.
+ *
  * Normal form is no protection: for a stream of unknown origin there is escape_stream_filter.
  *
  *   bytes, length    the stream, and how many bytes it has
@@ -217,6 +221,8 @@ struct escape_stream_function {
  *   count          how many parameters and separators it has: of an event of escape_stream_next its `count`. It matters for the
  *                  final bytes T, s and u alone, of which each has two functions: with 0 for `count` those without parameters
  *   out            where the row goes
+ *
+ * The bytes are not checked: of others a name may be found too.
  *
  * Example: the cursor's lines, of a sequence without prefix and intermediate.
  *
