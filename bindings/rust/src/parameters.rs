@@ -40,8 +40,8 @@ impl<'a> Parameters<'a> {
         self.marks().filter(|byte| matches!(byte, b' '..=b'/'))
     }
 
-    /// The parameters, which `;` separates: of each the numbers that `:` separates, `None` where one
-    /// is left out. A sequence with nothing where its parameters are has none.
+    /// The parameters, which `;` separates: of each the numbers that `:` separates, `None` where
+    /// one is left out. A sequence with nothing where its parameters are has none.
     pub fn iter(self) -> impl Iterator<Item = impl Iterator<Item = Option<i64>> + 'a> + 'a {
         let has_some = self
             .entries
@@ -56,8 +56,8 @@ impl<'a> Parameters<'a> {
             })
     }
 
-    /// The parameter of this index, counted from 0, or the default where it is left out; of one with
-    /// colons its first number.
+    /// The parameter of this index, counted from 0, or the default where it is left out; of one
+    /// with colons its first number.
     pub fn number(self, index: usize, default: i64) -> i64 {
         let parameter = self.iter().nth(index);
         parameter
@@ -97,7 +97,8 @@ fn with_digit(number: i64, digit: &u8) -> i64 {
         .saturating_add(digit.wrapping_sub(b'0').into())
 }
 
-/// The parts of the text of an operating system command, which `;` separates. There is at least one.
+/// The parts of the text of an operating system command, which `;` separates. There is at least
+/// one.
 ///
 /// ```
 /// let parts = escape_stream::osc_parts(b"8;;http://e.com");

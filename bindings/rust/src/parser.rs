@@ -174,9 +174,10 @@ impl Parser {
         self.advance_while(bytes, act).map(|_| ())
     }
 
-    /// Takes the next bytes of the stream, calls `act` with each event and the bytes that were taken
-    /// for it, and returns how many were taken: all of them, or up to an event for which `act` is
-    /// false. Of two events of a byte the second, for which none is taken, is handed out then too.
+    /// Takes the next bytes of the stream, calls `act` with each event and the bytes that were
+    /// taken for it, and returns how many were taken: all of them, or up to an event for which
+    /// `act` is false. Of two events of a byte the second, for which none is taken, is handed out
+    /// then too.
     ///
     /// # Errors
     ///

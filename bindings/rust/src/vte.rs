@@ -99,8 +99,8 @@ pub trait Perform {
 
 /// A parser of a stream that comes in pieces. It takes memory when it is made, and none after that.
 ///
-/// The number is the limit of a parser that [`Parser::new_with_size`] makes, and says nothing of any
-/// other: in `vte` too it has no meaning with the feature `std`.
+/// The number is the limit of a parser that [`Parser::new_with_size`] makes, and says nothing of
+/// any other: in `vte` too it has no meaning with the feature `std`.
 pub struct Parser<const OSC_RAW_BUF_SIZE: usize = MOST_OSC_RAW> {
     stream: crate::Parser,
     params: Params,

@@ -1,6 +1,6 @@
 // SPDX-License-Identifier: MIT
-//! The crate `vte` over the proved parser of `escape-stream`, for `[patch.crates-io]`: a program that
-//! uses `vte` runs over that parser with no edit of its own.
+//! The crate `vte` over the proved parser of `escape-stream`, for `[patch.crates-io]`: a program
+//! that uses `vte` runs over that parser with no edit of its own.
 #![cfg_attr(not(feature = "std"), no_std)]
 
 #[cfg(not(by_byte))]

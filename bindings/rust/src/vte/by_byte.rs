@@ -2,8 +2,8 @@
 //! The parser of the crate `vte` up to version 0.13, whose `advance` takes a byte.
 use super::Perform;
 
-/// A parser of a stream that comes byte by byte: [`super::Parser`], with the signature of `vte` up to
-/// version 0.13.
+/// A parser of a stream that comes byte by byte: [`super::Parser`], with the signature of `vte` up
+/// to version 0.13.
 ///
 /// ```
 /// use escape_stream::vte::{Perform, by_byte::Parser};

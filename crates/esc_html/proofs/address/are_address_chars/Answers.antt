@@ -24,5 +24,5 @@ loop-c-preserved c =
 pub returns : goal.returns
 returns c =
     let done = nothing_left _ c.in-None.ensures.steps.0.0 in
-    sym (ap (λ t. list_all is_address_char (chars t)) done ∙ ap (list_all is_address_char) chars-nil)
-    ∙ c.loop-c.invariant.1
+    sym (ap (λ t. list_all is_address_char (chars t)) done
+    ∙ ap (list_all is_address_char) chars-nil) ∙ c.loop-c.invariant.1

@@ -7,4 +7,5 @@ use Rattle.esc_html.proofs.address.are_address_chars.Given as goal
 abbrev pub invariant-loop-c : goal.invariant-loop-c
 invariant-loop-c l =
     IsUtf8 (chars_rest l.c-iterator)
-    × (list_all is_address_char (chars (chars_rest l.c-iterator)) ≡ list_all is_address_char (chars l.fn.address))
+    × (list_all is_address_char (chars (chars_rest l.c-iterator))
+    ≡ list_all is_address_char (chars l.fn.address))

@@ -27,7 +27,8 @@ returns-clause-ok g c =
     (old ++ (codes "<a href=\"" ++ (value ++ codes "\" rel=\"noopener noreferrer\">")))
     c.push_str-2.ensures.bytes
     (three_joined old (string_bytes c.push_str.new.text) two (codes "<a href=\"") value
-    (codes "\" rel=\"noopener noreferrer\">") c.in_ok-push_str.ensures.bytes c.in_ok-push_escaped.ensures.ok)
+    (codes "\" rel=\"noopener noreferrer\">") c.in_ok-push_str.ensures.bytes
+    c.in_ok-push_escaped.ensures.ok)
 
 pub returns-clause-grown : goal.returns-clause-grown
 returns-clause-grown g c =
