@@ -11,8 +11,6 @@ mod reason;
 mod showing;
 mod sizes;
 mod table;
-#[cfg(test)]
-mod tests;
 mod wrong;
 
 pub use arguments::{NO_TEXT, is_text, program_words};
