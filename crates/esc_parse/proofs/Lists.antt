@@ -96,6 +96,14 @@ module _ {C P T V : Type 0} (f : C → P) (g : T → V) (R : P → T → P → T
       (λ p v q w. w.2) c vs d h in
       let r = s.1 in (s.0, (r.0, r.1, f r.2, r.3, moved c r.0 r.2 r.4))
 
+-- who may be given values as they are seen, may be given them through f
+module _ {C P T V : Type 0} (f : C → P) (g : T → V) (may : P → T → Type 0)
+    (R : P → T → P → Type 0) where
+  pub awaits_moved : (c : C) (vs : List V) → Awaits (AnyAt g may) (At g R) (f c) vs
+      → Awaits (AnyAt g (λ p a. may (f p) a)) (At g (λ p a q. R (f p) a (f q))) c vs
+  awaits_moved c [] m = tt
+  awaits_moved c (v ∷ vs) m = (m.0, λ d t. awaits_moved d vs (m.1 (f d) t))
+
 -- what was given by what it is, was given as it is seen
 module _ {P T V W : Type 0} (g : T → W) (f : V → W) (R Q : P → T → P → Type 0) where
   abbrev SeenSo : T → V → Type 0

@@ -27,6 +27,11 @@ MayParse may takes p old b =
     IsBroken p ⊎ ((limit : Option ℕ) × (s : List ℕ) × WasFedWithin limit s p
     × Awaits (AnyAt value_of may) (At value_of takes) old (yield_within limit s b))
 
+-- One of two holds. It begins with an arrow, since a caller's proof that a closure can be called
+-- always is found there, and not on a side of a sum.
+abbrev pub OneOf : Type 0 → Type 0 → Type 0
+OneOf P Q = (P → P ⊎ Q) → (Q → P ⊎ Q) → P ⊎ Q
+
 -- this holds of each stream with the bytes b after it, all of which the parser may have been fed,
 -- where these bytes yield vs
 abbrev pub AfterYield : {A : Type 0} → Parser A → List (Value A)

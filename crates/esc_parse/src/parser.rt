@@ -6,7 +6,7 @@ ghost use Rattle.esc_frame.specs.Limits.{most};
 ghost use Rattle.esc_frame.specs.Segments.{IsCut, Segment};
 ghost use Rattle.esc_frame.specs.Stream.{IsQuietWithin};
 ghost use Rattle.esc_actions.specs.Limited.{data_kept};
-ghost use Rattle.esc_parse.specs.Calls.{After, AfterYield, FindsFirst, IfFound, IfNoneFound, IsRefused, IsSomeOf, IsStopped, IsTaken, StaysBroken, StopsIn, Yields, YieldsFirst, MayParse};
+ghost use Rattle.esc_parse.specs.Calls.{After, AfterYield, FindsFirst, IfFound, IfNoneFound, IsRefused, IsSomeOf, IsStopped, IsTaken, MayParse, OneOf, StaysBroken, StopsIn, Yields, YieldsFirst};
 ghost use Rattle.esc_parse.specs.Firsts.{IsFirstStop, IsStop, first};
 ghost use Rattle.esc_frame.specs.Memory.{MayTake};
 ghost use Rattle.esc_parse.specs.Given.{At, GetsAll, GetsPrefix};
@@ -407,8 +407,10 @@ impl Parser {
     /// order.
     ///
     /// This call is for the global allocator alone, since a bound `FnMut(Action<A>)` over an
-    /// allocator `A` cannot be had yet; and its clause says that the closure got these actions, but
-    /// not that it got no call more. Where either matters, use [`parse_into`](Parser::parse_into).
+    /// allocator `A` cannot be had yet: [`parse_into`](Parser::parse_into) is for any. The closure
+    /// has to be callable always; or, of a parser that was fed a stream, on these actions, in this
+    /// order, and no others; or, of a parser that has failed, never. So it is called in no other
+    /// way.
     ///
     /// `ParseError::Memory` says that a growth was refused, after a prefix of these actions; the
     /// parser has failed. It does not come while the stream so far holds only characters, stray and
@@ -417,7 +419,8 @@ impl Parser {
     /// growth; the closure is not called then, and the parser stays as it was.
     #[tactic(auto, unfolding(crate::specs::Fed::WasFedWithin))]
     pub fn parse<F: FnMut(Action)>(&mut self, bytes: &[u8], callback: F) -> Result<(), ParseError>
-        requires { (IsBroken self.old → ⊥) → F.IsAlwaysCallable callback }
+        requires { OneOf (F.IsAlwaysCallable callback)
+            (MayParse (λ p a. F.pre p a) (λ p a q. F.step p a tt q) self.old callback bytes.now) }
         ensures given { After self.old (λ limit s. OnOk result
             (WasFedWithin limit (s ++ bytes.now) self.new
             × GetsAll (At value_of (λ p a q. F.step p a tt q)) callback
@@ -432,9 +435,6 @@ impl Parser {
         ensures failed { StaysBroken self.old result self.new }
     {
         laws::yield_handed_out::<Global>();
-        if self.framer.has_failed() {
-            return Err(ParseError::Failed);
-        }
         self.parse_into(bytes, Calls { callback }).0
     }
 }
