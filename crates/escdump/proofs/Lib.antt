@@ -1,3 +1,1 @@
-pub mod PagesMore
-pub mod Quoting
 pub mod Unchanged

@@ -1,6 +1,6 @@
 //! Colours of renditions in words.
 
-use crate::phrase::Phrase;
+use dump_page::Phrase;
 use esc_typed::{AnsiColor, ColorSpec};
 use esc_values::RgbColor;
 
@@ -28,7 +28,7 @@ pub fn ansi_words(color: AnsiColor) -> &'static str {
 
 /// Adds what has a colour, and the colour: `default`, `palette` and its place there, or `#` and its
 /// red, green and blue, each as two hexadecimal digits.
-pub fn add_color(what: &str, color: ColorSpec, to: &mut Phrase) {
+pub fn add_color(what: &'static str, color: ColorSpec, to: &mut Phrase) {
     to.add(what);
     match color {
         ColorSpec::Default => to.add("default"),

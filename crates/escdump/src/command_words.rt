@@ -5,7 +5,7 @@ mod prompts;
 
 use crate::command_words::iterm::add_iterm;
 use crate::command_words::prompts::add_prompt;
-use crate::phrase::Phrase;
+use dump_page::Phrase;
 use esc_osc::{
     ChangeColorPair, ColorOrQuery, DynamicColorNumber, Hyperlink,
     OperatingSystemCommand as Command, Params, Progress, Selection,
@@ -50,9 +50,9 @@ pub fn add_command(command: &Command, to: &mut Phrase) {
 }
 
 // The clipboard, and what is done to it.
-fn add_selection(at: &Selection, done: &str, to: &mut Phrase) {
-    to.add_value(" clipboard \"", at);
-    to.add_all(&["\"", done]);
+fn add_selection(at: &Selection, done: &'static str, to: &mut Phrase) {
+    to.add_shown(" clipboard ", at);
+    to.add(done);
 }
 
 // A link, or the end of one.
@@ -67,11 +67,11 @@ fn add_link(link: Option<&Hyperlink>, to: &mut Phrase) {
 // The parameters of a link.
 fn add_params(params: &Params, to: &mut Phrase) {
     for (key, value) in params {
-        to.add(" \"");
-        to.add_escaped(key.as_bytes());
-        to.add("=");
-        to.add_escaped(value.as_bytes());
-        to.add("\"");
+        let mut quote = to.quote();
+        quote.add(key.as_bytes());
+        quote.add(b"=");
+        quote.add(value.as_bytes());
+        to.add_quote(" ", &quote);
     }
 }
 
@@ -154,18 +154,22 @@ fn add_progress(progress: &Progress, to: &mut Phrase) {
     }
 }
 
-fn add_share(share: u8, unit: &str, to: &mut Phrase) {
+fn add_share(share: u8, unit: &'static str, to: &mut Phrase) {
     to.add_value(" progress ", &share);
     to.add(unit);
 }
 
 // The parts of a command that is not known.
 fn add_parts(parts: &[Items<u8>], to: &mut Phrase) {
-    let mut separator = " \"";
+    let mut quote = to.quote();
+    let mut is_next = false;
     for part in parts {
-        to.add(separator);
-        to.add_escaped(part.as_slice());
-        separator = ";";
+        if is_next {
+            quote.add(b";");
+        }
+        quote.add(part.as_slice());
+        is_next = true;
     }
-    to.add("\", not interpreted");
+    to.add_quote(" ", &quote);
+    to.add(", not interpreted");
 }

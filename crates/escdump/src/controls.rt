@@ -1,6 +1,6 @@
 //! Controls in words.
 
-use crate::phrase::Phrase;
+use dump_page::Phrase;
 use esc_functions::{C0, EscapeFunction};
 
 /// How many C0 controls there are.

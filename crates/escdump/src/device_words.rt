@@ -2,7 +2,7 @@
 
 pub mod kitty;
 
-use crate::phrase::Phrase;
+use dump_page::Phrase;
 use esc_device::{EnterDeviceControlMode, ShortDeviceControl};
 use esc_sixel::Sixel;
 use esc_values::Text;

@@ -3,10 +3,10 @@
 use crate::item::Item;
 use crate::line::add_line;
 use crate::options::{Form, Options};
-use crate::page::Page;
 use crate::resume::{held_back, resumed};
 use crate::stats::Stats;
 use crate::words::Words;
+use dump_page::Page;
 use esc_parse::Parser;
 use esc_segments::{Segment, SegmentKind, Segments};
 use std::alloc::Global;

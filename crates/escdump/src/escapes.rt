@@ -1,6 +1,6 @@
 //! Escape sequences in words.
 
-use crate::phrase::Phrase;
+use dump_page::Phrase;
 use esc_functions::EscapeFunction;
 use esc_sequences::Esc;
 

@@ -3,50 +3,52 @@
 use crate::item::Item;
 use crate::kind::Kind;
 use crate::line::{add_said, name_of};
-use crate::page::Page;
-use crate::phrase::{Name, Phrase};
 use crate::words::Words;
+use dump_page::{Name, Page, Phrase};
 
 /// Adds the object of an item with these words.
 pub fn add_object(item: &Item, words: &mut Words, is_finished: bool, page: &mut Page) {
     let kind = item.kind();
-    push_head(item, page);
-    page.push_string(",\"kind\":", kind.word());
-    page.push_words(if is_finished {
-        ",\"finished\":true"
-    } else {
-        ",\"finished\":false"
-    });
-    push_name(name_of(item, words), page);
+    let mut object = page.phrase();
+    add_head(item, kind, is_finished, &mut object);
+    add_name(name_of(item, words), page, &mut object);
     if kind != Kind::Text {
         add_said(item, words);
-        page.push_string(",\"words\":", words.phrase.as_str());
+        object.add_key(",", "words");
+        object.add_string("", words.phrase.as_str());
     }
     if kind == Kind::Csi || kind.is_string() {
-        push_fields(kind, item.body(), page);
+        add_fields(kind, item.body(), page, &mut object);
     }
-    push_bytes(item, page);
+    add_bytes(item, page, &mut object);
+    object.add("}");
+    page.push(&object);
 }
 
-// Adds the place and the length.
-fn push_head(item: &Item, page: &mut Page) {
-    let mut head = page.phrase();
-    head.add_value("{\"offset\":", &item.place);
-    head.add_value(",\"length\":", &item.length);
-    page.push(&head);
+// Adds the place and the length, the kind, and whether it is finished.
+fn add_head(item: &Item, kind: Kind, is_finished: bool, object: &mut Phrase) {
+    object.add_key("{", "offset");
+    object.add_value("", &item.place);
+    object.add_key(",", "length");
+    object.add_value("", &item.length);
+    object.add_key(",", "kind");
+    object.add_string("", kind.word());
+    object.add_key(",", "finished");
+    object.add(if is_finished { "true" } else { "false" });
 }
 
 // Adds the name.
-fn push_name(name: Name, page: &mut Page) {
+fn add_name(name: Name, page: &mut Page, object: &mut Phrase) {
     let mut phrase = page.phrase();
     phrase.begin(name.0, name.1, "");
     page.note(phrase.is_refused());
-    page.push_string(",\"name\":", phrase.as_str());
+    object.add_key(",", "name");
+    object.add_string("", phrase.as_str());
 }
 
 // Adds the fields of a control sequence, of which they have digits and colons alone, or of a
 // string: what has `;` between.
-fn push_fields(kind: Kind, body: &[u8], page: &mut Page) {
+fn add_fields(kind: Kind, body: &[u8], page: &mut Page, object: &mut Phrase) {
     let mut phrase = page.phrase();
     if kind == Kind::Csi {
         add_digits(body, &mut phrase);
@@ -54,13 +56,13 @@ fn push_fields(kind: Kind, body: &[u8], page: &mut Page) {
         phrase.add_bytes(body, usize::MAX);
     }
     page.note(phrase.is_refused());
-    page.push_words(",\"fields\":[");
+    object.add_key(",", "fields");
     let mut is_next = false;
     for field in phrase.as_str().split(';') {
-        page.push_string(if is_next { "," } else { "" }, field);
+        object.add_string(if is_next { "," } else { "[" }, field);
         is_next = true;
     }
-    page.push_words("]");
+    object.add("]");
 }
 
 // Adds the bytes 30 to 3B alone: digits, `:` and `;`.
@@ -73,10 +75,10 @@ fn add_digits(bytes: &[u8], phrase: &mut Phrase) {
 }
 
 // Adds the bytes that are kept.
-fn push_bytes(item: &Item, page: &mut Page) {
+fn add_bytes(item: &Item, page: &mut Page, object: &mut Phrase) {
     let mut phrase = page.phrase();
     phrase.add_bytes(item.bytes(), usize::MAX);
     page.note(phrase.is_refused());
-    page.push_string(",\"bytes\":", phrase.as_str());
-    page.push_words("}");
+    object.add_key(",", "bytes");
+    object.add_string("", phrase.as_str());
 }

@@ -2,7 +2,7 @@
 
 use crate::entries::{number_at, part_at};
 use crate::named::words_of;
-use crate::phrase::Phrase;
+use dump_page::Phrase;
 use esc_functions::ControlFunction;
 use esc_values::CsiParam;
 
@@ -216,9 +216,9 @@ fn add_pressed(code: i64, modifiers: Option<i64>, to: &mut Phrase) {
 fn add_character(code: i64, to: &mut Phrase) {
     match char::from_u32(u32::try_from(code).unwrap_or(u32::MAX)) {
         Some(c) => {
-            to.add("\"");
-            to.add_char(c);
-            to.add("\"");
+            let mut quote = to.quote();
+            quote.add_char(c);
+            to.add_quote("", &quote);
         }
         None => to.add_value("key ", &code),
     }

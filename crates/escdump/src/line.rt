@@ -4,9 +4,8 @@ use crate::item::Item;
 use crate::json::add_object;
 use crate::kind::Kind;
 use crate::options::Form;
-use crate::page::{Color, Page};
-use crate::phrase::{Name, Phrase};
 use crate::words::Words;
+use dump_page::{Color, Name, Page, Phrase};
 
 // The columns at which bytes, words, and a segment's kind, state and bytes begin.
 const BYTES: usize = 10;

@@ -11,7 +11,6 @@ mod device_words;
 mod dump;
 mod entries;
 mod escapes;
-mod hidden;
 mod item;
 mod json;
 mod key_words;
@@ -20,9 +19,6 @@ mod line;
 mod mode_words;
 mod named;
 mod options;
-mod page;
-mod phrase;
-mod quoted;
 mod renditions;
 mod resume;
 mod run;
@@ -129,7 +125,7 @@ fn refused(rt: &HostRuntime, wrong: Wrong<'_>) -> u8 {
 }
 
 // Prints the lines of these texts.
-fn said(rt: &HostRuntime, texts: &[&str]) -> u8 {
+fn said(rt: &HostRuntime, texts: &[&'static str]) -> u8 {
     let done = say(rt.alloc(), texts, &mut rt.stdout());
     match status_after(ended(done, "standard output", &mut rt.stderr()), DONE) {
         Ok(status) => status,

@@ -2,7 +2,7 @@
 
 use crate::entries::number_at;
 use crate::named::words_of;
-use crate::phrase::Phrase;
+use dump_page::Phrase;
 use esc_functions::{ControlFunction, Mode, PrivateMode};
 use esc_values::CsiParam;
 

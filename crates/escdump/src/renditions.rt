@@ -2,7 +2,7 @@
 
 use crate::color_words::{add_color, ansi_words};
 use crate::csi_words::add_entries;
-use crate::phrase::Phrase;
+use dump_page::Phrase;
 use esc_sequences::{Intensity, Sgr, Underline};
 use esc_typed::{Blink, Font, Frame, Ideogram, Rendition, Renditions, VerticalAlign};
 use esc_values::CsiParam;
@@ -60,7 +60,7 @@ fn add_rendition(rendition: Rendition, to: &mut Phrase) {
 }
 
 // Adds what is on, or `not` and what is off.
-fn add_switch(words: &str, is_on: bool, to: &mut Phrase) {
+fn add_switch(words: &'static str, is_on: bool, to: &mut Phrase) {
     if !is_on {
         to.add("not ");
     }

@@ -1,11 +1,11 @@
 //! One stream, from its reader to the output.
 ghost use Rattle.std.specs.Prelude.{◌≡◌, ◌≤◌, IfOk, OnOk, length};
-ghost use Rattle.escdump.specs.Pages.{AppendsPage};
+ghost use Rattle.dump_page.specs.Pages.{AppendsPage};
 
 use crate::dump::Dump;
 use crate::options::Options;
-use crate::page::Page;
 use command_line::{Ended, Reason, tell, unwritten};
+use dump_page::Page;
 use std::alloc::Global;
 use std::io::{ErrorKind, Read, Write};
 
@@ -51,7 +51,7 @@ pub fn dump_named<R: Read, W: Write, E: Write>(
 }
 
 /// Prints the lines of these texts. The error is what hinders it.
-pub fn say<W: Write>(alloc: Global, texts: &[&str], output: &mut W) -> Result<(), Fault>
+pub fn say<W: Write>(alloc: Global, texts: &[&'static str], output: &mut W) -> Result<(), Fault>
     ensures { OnOk result (AppendsPage (W.contents output.old) (W.contents output.new)) }
 {
     let mut page = Page::new(alloc, false);
@@ -62,7 +62,7 @@ pub fn say<W: Write>(alloc: Global, texts: &[&str], output: &mut W) -> Result<()
 }
 
 // Appends the lines of a text.
-fn push_lines(text: &str, page: &mut Page) {
+fn push_lines(text: &'static str, page: &mut Page) {
     for line in text.lines() {
         page.push_line(line);
     }
@@ -101,7 +101,7 @@ fn dump<R: Read, W: Write>(
 }
 
 // The same, by way of this dump, to which nothing came yet.
-#[tactic(auto, using(crate::proofs::PagesMore::no_pages))]
+#[tactic(auto, using(dump_page::proofs::PagesMore::no_pages))]
 fn dump_all<R: Read, W: Write>(dump: &mut Dump, input: &mut R, output: &mut W) -> Result<(), Fault>
     ensures { OnOk result (AppendsPage (W.contents output.old) (W.contents output.new)) }
 {
@@ -136,7 +136,7 @@ fn read_some<R: Read>(input: &mut R, chunk: &mut [u8]) -> Result<usize, Fault>
 }
 
 // Prints the lines, flushes and drops them, also where memory was refused after them.
-#[tactic(auto, using(crate::proofs::PagesMore::page_printed))]
+#[tactic(auto, using(dump_page::proofs::PagesMore::page_printed))]
 fn print<W: Write>(page: &mut Page, output: &mut W) -> Result<(), Fault>
     ensures { OnOk result (AppendsPage (W.contents output.old) (W.contents output.new)) }
 {

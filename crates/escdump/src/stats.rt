@@ -2,9 +2,8 @@
 
 use crate::item::Item;
 use crate::line::name_of;
-use crate::page::Page;
-use crate::phrase::Name;
 use crate::words::Words;
+use dump_page::{Name, Page};
 use std::alloc::Global;
 
 // How often something of a name came, how many bytes they and the longest one have, and how many

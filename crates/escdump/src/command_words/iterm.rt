@@ -1,6 +1,6 @@
 //! Commands of iTerm2 in words.
 
-use crate::phrase::Phrase;
+use dump_page::Phrase;
 use esc_osc::{ITermFileData, ITermProprietary as Command, ITermUnicodeVersionOp};
 use esc_values::Text;
 
@@ -47,7 +47,7 @@ fn add_cell_size(height: u32, width: u32, scale: Option<u32>, to: &mut Phrase) {
 }
 
 // A number of tenths, after words.
-fn add_tenths(what: &str, tenths: u32, to: &mut Phrase) {
+fn add_tenths(what: &'static str, tenths: u32, to: &mut Phrase) {
     to.add_value(what, &(tenths / 10));
     to.add_value(".", &(tenths % 10));
 }
@@ -85,7 +85,7 @@ fn add_version(version: &ITermUnicodeVersionOp, to: &mut Phrase) {
 }
 
 // Words, and a name, where there is one.
-fn add_name(what: &str, name: &Option<Text>, to: &mut Phrase) {
+fn add_name(what: &'static str, name: &Option<Text>, to: &mut Phrase) {
     to.add(what);
     if let Some(name) = name {
         to.add_quoted(" ", name.as_bytes());

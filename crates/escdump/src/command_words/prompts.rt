@@ -1,6 +1,6 @@
 //! Prompts of a shell in words.
 
-use crate::phrase::Phrase;
+use dump_page::Phrase;
 use esc_osc::{FinalTermClick, FinalTermPromptKind, FinalTermSemanticPrompt as Prompt};
 use esc_values::Text;
 
@@ -33,7 +33,12 @@ pub fn add_prompt(prompt: &Prompt, to: &mut Phrase) {
 }
 
 // The start of a prompt, its application, and what a click does.
-fn add_start(what: &str, aid: &Option<Text>, click: Option<FinalTermClick>, to: &mut Phrase) {
+fn add_start(
+    what: &'static str,
+    aid: &Option<Text>,
+    click: Option<FinalTermClick>,
+    to: &mut Phrase,
+) {
     add_id(what, aid, to);
     if let Some(click) = click {
         to.add(click_words(click));
@@ -41,7 +46,7 @@ fn add_start(what: &str, aid: &Option<Text>, click: Option<FinalTermClick>, to: 
 }
 
 // Words, and the name of an application, where it is given.
-fn add_id(what: &str, aid: &Option<Text>, to: &mut Phrase) {
+fn add_id(what: &'static str, aid: &Option<Text>, to: &mut Phrase) {
     to.add(what);
     if let Some(aid) = aid {
         to.add_quoted(", application ", aid.as_bytes());

@@ -1,6 +1,6 @@
 //! Commands of kitty's graphics protocol in words.
 
-use crate::phrase::Phrase;
+use dump_page::Phrase;
 use esc_kitty::{
     KittyFrameCompositionMode, KittyImage, KittyImageDelete as Delete, KittyImageFormat,
     KittyImageFrameCompose, KittyImageTransmit,
@@ -31,7 +31,7 @@ pub fn add_kitty(image: &KittyImage, to: &mut Phrase) {
 }
 
 // An image that is sent: what is done with it, its size, its format and its numbers.
-fn add_image(done: &str, image: &KittyImageTransmit, to: &mut Phrase) {
+fn add_image(done: &'static str, image: &KittyImageTransmit, to: &mut Phrase) {
     to.add(done);
     add_number(", width ", image.width, to);
     add_number(", height ", image.height, to);
@@ -108,13 +108,13 @@ fn is_with_data(what: Delete) -> bool {
 }
 
 // The placements of an image, or one of them.
-fn add_placement(name: &str, number: u32, placement: Option<u32>, to: &mut Phrase) {
+fn add_placement(name: &'static str, number: u32, placement: Option<u32>, to: &mut Phrase) {
     to.add_value(name, &number);
     add_number(", placement ", placement, to);
 }
 
 // Two numbers, each after its name.
-fn add_two(name: &str, number: u32, other_name: &str, other: u32, to: &mut Phrase) {
+fn add_two(name: &'static str, number: u32, other_name: &'static str, other: u32, to: &mut Phrase) {
     to.add_value(name, &number);
     to.add_value(other_name, &other);
 }
@@ -144,7 +144,7 @@ fn add_numbers(id: Option<u32>, number: Option<u32>, to: &mut Phrase) {
 }
 
 // A number after its name, where there is one.
-fn add_number(name: &str, number: Option<u32>, to: &mut Phrase) {
+fn add_number(name: &'static str, number: Option<u32>, to: &mut Phrase) {
     if let Some(number) = number {
         to.add_value(name, &number);
     }

@@ -1,4 +1,4 @@
-use Rattle.escdump.proofs.PagesMore.{pages_more, pages_on}
+use Rattle.dump_page.proofs.PagesMore.{pages_more, pages_on}
 use Rattle.escdump.proofs.run.dump_all.Goals as goal
 
 pub loop-preserved : goal.loop-preserved

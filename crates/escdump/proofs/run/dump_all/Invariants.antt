@@ -1,4 +1,4 @@
-use Rattle.escdump.specs.Pages.{AppendsPage}
+use Rattle.dump_page.specs.Pages.{AppendsPage}
 use Rattle.escdump.proofs.run.dump_all.Given as goal
 
 abbrev pub invariant-loop : goal.invariant-loop

@@ -1,0 +1,6 @@
+use Rattle.std.proofs.Common.{sym, subst}
+use Rattle.dump_page.specs.Pages.{IsPage}
+use Rattle.dump_page.proofs.phrase.Phrase.as_str.Goals as goal
+
+pub returns : goal.returns
+returns c = subst (λ x. ∥ IsPage x ∥₁) (sym c.as_str.ensures) c.args.self.now.safe

@@ -1,0 +1,70 @@
+-- How bytes of a stream come between quotes, and what is read there.
+use Rattle.std.specs.Prelude.{ℕ, ◌≡◌, ◌+◌, ◌*◌, ◌==◌, Bool, true, false, if◌then◌else◌, Option, Some, None, List, [], ◌∷◌, ◌++◌}
+use Rattle.std.specs.Char.{encode_utf8, digit_value}
+use Rattle.std.specs.List.{list_all, flat_map}
+use Rattle.std.specs.Option.{is_some}
+use Rattle.command_line.specs.Characters.{is_shown}
+
+-- bytes before those of the rest
+abbrev pub put : List ℕ → Option (List ℕ) → Option (List ℕ)
+put s None = None
+put s (Some t) = Some (s ++ t)
+
+-- where a reader is: in the text, after a `\`, after `\x`, or after the first digit of a number
+pub data Reader : Type 0 where
+  InText : Reader
+  AfterBackslash : Reader
+  InNumber : Reader
+  AfterDigit : ℕ → Reader
+
+-- whether a character ends the text there: a `"` that is not escaped
+abbrev pub closes : Reader → ℕ → Bool
+closes InText c = c == 0x22
+closes AfterBackslash c = false
+closes InNumber c = false
+closes (AfterDigit d) c = false
+
+-- where the reader is after a character that does not
+abbrev pub next : Reader → ℕ → Reader
+next InText c = if c == 0x5c then AfterBackslash else InText
+next AfterBackslash c = if c == 0x78 then InNumber else InText
+next InNumber c = AfterDigit (digit_value c)
+next (AfterDigit d) c = InText
+
+-- the bytes that such a character adds
+abbrev pub given : Reader → ℕ → List ℕ
+given InText c = if c == 0x5c then [] else encode_utf8 c
+given AfterBackslash c = if c == 0x78 then [] else encode_utf8 c
+given InNumber c = []
+given (AfterDigit d) c = (16 * d + digit_value c) ∷ []
+
+-- The bytes that the characters between two quotes stand for: a character after a `\` for itself,
+-- `\x` and two hexadecimal digits for a byte, and any other for itself. None, where a `"` is not
+-- escaped or an escape is not whole.
+abbrev pub unquoted : Reader → List ℕ → Option (List ℕ)
+unquoted InText [] = Some []
+unquoted AfterBackslash [] = None
+unquoted InNumber [] = None
+unquoted (AfterDigit d) [] = None
+unquoted r (c ∷ cs) = if closes r c then None else put (given r c) (unquoted (next r c) cs)
+
+-- characters that stand for bytes
+abbrev pub is_quoted : List ℕ → Bool
+is_quoted cs = is_some (unquoted InText cs)
+
+-- The text s, as UTF-8, grows to t by characters that are shown and that read as these bytes,
+-- whatever comes after them.
+pub record Quotes (s t bytes : List ℕ) : Type 0 where
+  pub added : List ℕ
+  pub shown : list_all is_shown added ≡ true
+  pub appends : t ≡ s ++ flat_map encode_utf8 added
+  pub reads : (rest : List ℕ)
+      → unquoted InText (added ++ rest) ≡ put bytes (unquoted InText rest)
+
+-- it grows so by some bytes
+abbrev pub QuotesSome : List ℕ → List ℕ → Type 0
+QuotesSome s t = (bytes : List ℕ) × Quotes s t bytes
+
+-- a text that reads so by itself
+abbrev pub IsQuote : List ℕ → Type 0
+IsQuote t = QuotesSome [] t

@@ -1,0 +1,26 @@
+//! A page of words about a stream that the stream cannot forge.
+//!
+//! The words of a [`Phrase`] are static texts and numbers, in which a `"` never is; what comes from
+//! the stream is between quotes, escaped by a [`Quote`]. A [`Page`] is made of phrases, line by
+//! line. So each of its characters is safe for a terminal, and whoever reads it finds between
+//! quotes exactly what was quoted: the law [`quotes_are_found`] says so.
+//!
+//! ```text
+//! let mut phrase = page.phrase();
+//! phrase.add_quoted("text ", b"a\"\x1b");
+//! page.push(&phrase);
+//! page.end_line();       // text "a\"\x1b"
+//! ```
+#![tactic(auto)]
+
+mod hidden;
+mod laws;
+mod page;
+mod phrase;
+mod quote;
+mod quoted;
+
+pub use laws::quotes_are_found;
+pub use page::{Color, Page};
+pub use phrase::{Name, Phrase};
+pub use quote::Quote;

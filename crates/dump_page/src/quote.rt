@@ -1,0 +1,95 @@
+//! What comes between quotes.
+ghost use Rattle.dump_page.specs.Quoted.{IsQuote};
+
+use crate::hidden::Hidden;
+use crate::quoted::{push_char, push_quoted, push_string};
+use esc_values::Text;
+use std::alloc::Global;
+
+/// Bytes of a stream as they come between quotes: a character that is shown as itself, but `"` as
+/// `\"` and `\` as `\\`, and each other byte as `\x` with two hexadecimal digits. So they read as
+/// the bytes. Once memory is refused it is empty, and [`is_refused`](Quote::is_refused) says so.
+#[derive(Drop)]
+pub struct Quote {
+    alloc: Global,
+    text: Text,
+    hidden: Hidden,
+    is_refused: bool,
+    ghost reads: { ∥ IsQuote text ∥₁ },
+}
+
+impl Quote {
+    /// No bytes. Takes no memory.
+    #[tactic(auto, using(crate::proofs::Quoting::no_quote))]
+    pub fn new(alloc: Global) -> Quote {
+        Quote {
+            alloc,
+            text: Text::new(alloc),
+            hidden: Hidden::new(),
+            is_refused: false,
+        }
+    }
+
+    /// What comes between the quotes.
+    pub fn as_str(&self) -> &str
+        ensures { ∥ IsQuote result.now ∥₁ }
+    {
+        self.text.as_str()
+    }
+
+    /// Whether memory was refused, and bytes are left out.
+    pub fn is_refused(&self) -> bool {
+        self.is_refused
+    }
+
+    /// Which characters that deceive came.
+    pub(crate) fn hidden(&self) -> Hidden {
+        self.hidden
+    }
+
+    /// Adds bytes.
+    #[tactic(auto, using(crate::proofs::Quoting::no_quote))]
+    pub fn add(&mut self, bytes: &[u8]) {
+        if self.is_refused {
+            return;
+        }
+        match push_quoted(bytes, &mut self.text, &mut self.hidden) {
+            Ok(()) => {}
+            Err(_) => {
+                self.text = Text::new(self.alloc);
+                self.is_refused = true;
+            }
+        }
+    }
+
+    /// Adds a character.
+    #[tactic(auto, using(crate::proofs::Quoting::no_quote))]
+    pub fn add_char(&mut self, c: char) {
+        if self.is_refused {
+            return;
+        }
+        match push_char(c, &mut self.text, &mut self.hidden) {
+            Ok(()) => {}
+            Err(_) => {
+                self.text = Text::new(self.alloc);
+                self.is_refused = true;
+            }
+        }
+    }
+
+    /// Adds words as the characters of a string of JSON (RFC 8259, 7): `"` and `\` after a `\`, and
+    /// what is not shown as U+FFFD.
+    #[tactic(auto, using(crate::proofs::Quoting::no_quote))]
+    pub(crate) fn add_string(&mut self, words: &str) {
+        if self.is_refused {
+            return;
+        }
+        match push_string(words, &mut self.text) {
+            Ok(()) => {}
+            Err(_) => {
+                self.text = Text::new(self.alloc);
+                self.is_refused = true;
+            }
+        }
+    }
+}

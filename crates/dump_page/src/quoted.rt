@@ -1,0 +1,123 @@
+//! How bytes come between quotes.
+ghost use Rattle.std.specs.Prelude.{◌≡◌, ◌≢◌, ◌<◌, ◌∷◌, ◌++◌, [], OnOk, true};
+ghost use Rattle.std.specs.Str.Chunks.{utf8_chunk_invalid, utf8_chunk_valid};
+ghost use Rattle.std.specs.Char.{digit_value, encode_utf8};
+ghost use Rattle.command_line.specs.Characters.{is_shown};
+ghost use Rattle.dump_page.specs.Quoted.{Quotes, QuotesSome};
+
+use crate::hidden::Hidden;
+use command_line::is_shown;
+use esc_values::Text;
+use std::alloc::AllocError;
+use std::str::Utf8Chunk;
+
+/// Appends bytes of a stream as they come between quotes: a character that is shown as itself, but
+/// `"` as `\"` and `\` as `\\`, and each other byte as `\x` with two hexadecimal digits. So they
+/// read as the bytes, and end at the first `"` that is not escaped. Characters that deceive are
+/// counted. The error is that memory was refused.
+pub fn push_quoted(bytes: &[u8], to: &mut Text, hidden: &mut Hidden) -> Result<(), AllocError>
+    ensures { OnOk result (Quotes to.old to.new bytes.now) }
+{
+    for chunk in bytes.utf8_chunks() {
+        push_chunk(chunk, to, hidden)?;
+    }
+    Ok(())
+}
+
+// Appends a chunk in this way.
+fn push_chunk(chunk: Utf8Chunk<'_>, to: &mut Text, hidden: &mut Hidden) -> Result<(), AllocError>
+    ensures { OnOk result (Quotes to.old to.new
+        (utf8_chunk_valid chunk.entry ++ utf8_chunk_invalid chunk.entry)) }
+{
+    push_text(chunk.valid(), to, hidden)?;
+    push_bytes(chunk.invalid(), to)
+}
+
+// Appends a text in this way.
+fn push_text(text: &str, to: &mut Text, hidden: &mut Hidden) -> Result<(), AllocError>
+    ensures { OnOk result (Quotes to.old to.new text.now) }
+{
+    for c in text.chars() {
+        push_char(c, to, hidden)?;
+    }
+    Ok(())
+}
+
+/// Appends a character in this way.
+pub fn push_char(c: char, to: &mut Text, hidden: &mut Hidden) -> Result<(), AllocError>
+    ensures { OnOk result (Quotes to.old to.new (encode_utf8 c)) }
+{
+    if is_shown(c) {
+        return push_shown(c, to);
+    }
+    hidden.note(c);
+    let mut bytes = [0u8; 4];
+    push_bytes(c.encode_utf8(&mut bytes).as_bytes(), to)
+}
+
+/// Appends a text as characters that are shown: each that is not as U+FFFD.
+pub fn push_string(text: &str, to: &mut Text) -> Result<(), AllocError>
+    ensures { OnOk result (QuotesSome to.old to.new) }
+{
+    for c in text.chars() {
+        push_shown(if is_shown(c) { c } else { '\u{fffd}' }, to)?;
+    }
+    Ok(())
+}
+
+// Appends a character that is shown.
+fn push_shown(c: char, to: &mut Text) -> Result<(), AllocError>
+    requires { is_shown c ≡ true }
+    ensures { OnOk result (Quotes to.old to.new (encode_utf8 c)) }
+{
+    if c == '"' {
+        return push_marked(c, to);
+    }
+    if c == '\\' {
+        return push_marked(c, to);
+    }
+    to.push(c)
+}
+
+// Appends a character that is shown after a `\`.
+fn push_marked(c: char, to: &mut Text) -> Result<(), AllocError>
+    requires shown { is_shown c ≡ true }
+    requires other { c ≢ 0x78 }
+    ensures { OnOk result (Quotes to.old to.new (encode_utf8 c)) }
+{
+    to.push('\\')?;
+    to.push(c)
+}
+
+// Appends bytes as their numbers.
+fn push_bytes(bytes: &[u8], to: &mut Text) -> Result<(), AllocError>
+    ensures { OnOk result (Quotes to.old to.new bytes.now) }
+{
+    for byte in bytes {
+        push_byte(*byte, to)?;
+    }
+    Ok(())
+}
+
+// Appends a byte as its number.
+fn push_byte(byte: u8, to: &mut Text) -> Result<(), AllocError>
+    ensures { OnOk result (Quotes to.old to.new (byte ∷ [])) }
+{
+    to.push('\\')?;
+    to.push('x')?;
+    to.push(digit(byte / 16))?;
+    to.push(digit(byte % 16))
+}
+
+// The digit of a number below 16.
+fn digit(number: u8) -> char
+    requires { number < 16 }
+    ensures shown { is_shown result ≡ true }
+    ensures value { digit_value result ≡ number }
+{
+    if number < 10 {
+        char::from(b'0' + number)
+    } else {
+        char::from(b'a' + (number - 10))
+    }
+}

@@ -1,6 +1,0 @@
-use Rattle.std.proofs.Common.{sym, subst}
-use Rattle.escdump.specs.Pages.{IsPage}
-use Rattle.escdump.proofs.page.Page.as_bytes.Goals as goal
-
-pub returns : goal.returns
-returns c = subst (λ x. ∥ IsPage x ∥₁) (sym c.as_bytes.ensures) c.args.self.now.safe
