@@ -17,7 +17,7 @@ use Rattle.esc_frame.specs.Classes.{class_of, those, is_text, is_breaker}
 use Rattle.esc_frame.specs.Leads.{Holds}
 use Rattle.esc_frame.specs.Leads.Unfinished.{Ground, InOsc, InOscPending, InApc}
 use Rattle.esc_frame.specs.Limits.{is_within, most, has_few_parts}
-use Rattle.esc_frame.specs.Machine.Moves.{move, inside, emitting, ground_move, pair_move, osc_pending_move, osc_left, ends_osc, after_all, events_all}
+use Rattle.esc_frame.specs.Machine.Moves.{Move, move, inside, emitting, ground_move, pair_move, osc_pending_move, osc_left, ends_osc, after_all, events_all}
 use Rattle.esc_frame.specs.Machine.Moves.{may_grow_within, after_by}
 use Rattle.esc_frame.specs.Machine.Moves.{IsStill, passes_osc, passes_pending, borrows, is_fresh, is_borrowable}
 use Rattle.esc_frame.specs.Machine.Calls.{StaysFresh}
@@ -26,6 +26,7 @@ use Rattle.esc_frame.specs.Scans.{is_text_byte}
 use Rattle.esc_frame.specs.Segments.{Opener, Piece, text_of, osc_events, apc_events, is_empty}
 use Rattle.esc_frame.specs.Segments.Opener.{Raw}
 use Rattle.esc_frame.specs.Sequences.{is_from, is_sequence, is_pair, outcome}
+use Rattle.esc_frame.proofs.Bytes.{is_bell}
 use Rattle.esc_frame.proofs.Borrows.{begun_fresh, fresh_by, grows_by, borrows_at, no_if, not_so, opened_fresh, pair_fresh, reaches_first}
 use Rattle.esc_frame.proofs.QuietRuns.{quiet_took, quiet_stops_for, quiet_after, quiet_events}
 use Rattle.esc_frame.proofs.Still.{text_still}
@@ -80,10 +81,21 @@ ends_by limit o ps b Bell h = ap (λ es. (Ground, es)) (append-nil (osc_events l
 ends_by limit o ps b (Breaks k) h = refl
 ends_by limit o ps b _ h = absurd cc
 
--- any byte but a bell does what it does in ground
-pub left_other : (b : ℕ) (c : Class) → (c ≡ Bell → ⊥) → ground_move b c ≡ osc_left b c
-left_other b Bell h = absurd (h refl)
-left_other b _ h = refl
+bell_class : class_of 0x07 ≡ Bell
+unfolding class_of
+bell_class = refl
+
+-- a bell does nothing more
+pub left_bell : (b : ℕ) → b ≡ 0x07 → osc_left b (class_of b) ≡ (Ground, [])
+left_bell b e = rw (e, bell_class) refl
+
+-- any other byte does what it does in ground
+pub left_other : (b : ℕ) → (b ≡ 0x07 → ⊥) → ground_move b (class_of b) ≡ osc_left b (class_of b)
+left_other b h = by (class_of b) (λ e. h (is_bell b e))
+  where
+    by : (c : Class) → (c ≡ Bell → ⊥) → ground_move b c ≡ osc_left b c
+    by Bell k = absurd (k refl)
+    by _ k = refl
 
 -- ---- a control after C2
 
@@ -108,6 +120,10 @@ few_by_pair : (ps : List Piece) (b : ℕ) → is_from 0x80 0x9f b ≡ true
     → has_few_parts (text_of ps) ≡ true
 few_by_pair ps b h = let k = pair_whole b h in rw (k.0, k.1, outcome) (λ p. p)
 
+-- what the byte there does
+abbrev move_at : (ℕ → Class → Move) → List ℕ → ℕ → Move
+move_at m rest n = m (get_or rest n 0) (class_of (get_or rest n 0))
+
 module _ {S : Type 0} (limit : Option ℕ) (takes refuses : S → Event → S
     → Type 0) (o : Opener) (ps : List Piece) (rest : List ℕ) (n : ℕ) (old new : S)
     (none : text_of ps ≡ []) (run : IsTextRun (take n rest)) (room : n < length rest) where
@@ -115,26 +131,26 @@ module _ {S : Type 0} (limit : Option ℕ) (takes refuses : S → Event → S
   borrowed_text : take n rest ≡ text_of (ps ++ run.0)
   borrowed_text = ap (λ t. t ++ take n rest) (sym none) ∙ run_text ps run
 
-  module _ (c : Class) (e : c ≡ class_of (get_or rest n 0)) (ends : ends_osc c ≡ true) where
-    whole : emitting (osc_events limit (take n rest)) (osc_left (get_or rest n 0) c)
-        ≡ inside limit (InOsc o (ps ++ run.0)) (get_or rest n 0) c
-    whole = ap (λ t. emitting (osc_events limit t) (osc_left (get_or rest n 0) c)) borrowed_text
-        ∙ ends_by limit o (ps ++ run.0) (get_or rest n 0) c ends
+  module _ (ends : ends_osc (class_of (get_or rest n 0)) ≡ true) where
+    whole : emitting (osc_events limit (take n rest)) (move_at osc_left rest n)
+        ≡ inside limit (InOsc o (ps ++ run.0)) (get_or rest n 0) (class_of (get_or rest n 0))
+    whole = ap (λ t. emitting (osc_events limit t) (move_at osc_left rest n)) borrowed_text
+        ∙ ends_by limit o (ps ++ run.0) (get_or rest n 0) _ ends
 
     pub borrowed_events : events_all limit (InOsc o ps) (take (n + 1) rest)
-        ≡ osc_events limit (take n rest) ++ (osc_left (get_or rest n 0) c).1
+        ≡ osc_events limit (take n rest) ++ (move_at osc_left rest n).1
     borrowed_events =
-        quiet_events limit takes refuses (InOsc o ps) (InOsc o (ps ++ run.0)) rest n c old new
-        (run.2 limit o ps) room e
+        quiet_events limit takes refuses (InOsc o ps) (InOsc o (ps ++ run.0)) rest n _ old new
+        (run.2 limit o ps) room refl
         ∙ ap (λ m. m.1) (sym whole)
 
     borrowed_fresh : StaysFresh (InOsc o ps) rest (n + 1)
     borrowed_fresh =
-        fresh_by (InOsc o ps) (osc_left (get_or rest n 0) c).0 rest (n + 1)
-        (quiet_after limit takes refuses (InOsc o ps) (InOsc o (ps ++ run.0)) rest n c old new
-        (run.2 limit o ps) room e
-        ∙ ap (λ m. m.0) (sym (ends_by None o (ps ++ run.0) (get_or rest n 0) c ends)))
-        (left_fresh (get_or rest n 0) c (drop (n + 1) rest))
+        fresh_by (InOsc o ps) (move_at osc_left rest n).0 rest (n + 1)
+        (quiet_after limit takes refuses (InOsc o ps) (InOsc o (ps ++ run.0)) rest n _ old new
+        (run.2 limit o ps) room refl
+        ∙ ap (λ m. m.0) (sym (ends_by None o (ps ++ run.0) (get_or rest n 0) _ ends)))
+        (left_fresh (get_or rest n 0) _ (drop (n + 1) rest))
 
     -- more than 16 parts are not lent
     borrowed_grows : not (has_few_parts (take n rest)) ≡ true
@@ -146,32 +162,31 @@ module _ {S : Type 0} (limit : Option ℕ) (takes refuses : S → Event → S
         (and_parts (is_empty (text_of ps)) (borrows (InOsc o ps) rest) l).1 in
         not_so (has_few_parts (take n rest)) many
         (ap has_few_parts borrowed_text
-        ∙ few_of (ps ++ run.0) c ends (subst (λ k. passes_osc (ps ++ run.0) k ≡ true) (sym e)
-        p))))
+        ∙ few_of (ps ++ run.0) _ ends p)))
 
     pub borrowed_took : {K A : Type 0} (keeps : Option ℕ → K → List ℕ
         → Type 0) (machine : Machine K A)
         → Holds keeps limit machine
-        (emitting (osc_events limit (take n rest)) (osc_left (get_or rest n 0) c)).0
+        (emitting (osc_events limit (take n rest)) (move_at osc_left rest n)).0
         × FoldsTo takes old
-        (emitting (osc_events limit (take n rest)) (osc_left (get_or rest n 0) c)).1 new
+        (emitting (osc_events limit (take n rest)) (move_at osc_left rest n)).1 new
         → Holds keeps limit machine (after_all (InOsc o ps) (take (n + 1) rest))
         × FoldsTo takes old (events_all limit (InOsc o ps) (take (n + 1) rest)) new
         × StaysFresh (InOsc o ps) rest (n + 1)
     borrowed_took keeps machine h =
-        quiet_took limit takes refuses (InOsc o ps) (InOsc o (ps ++ run.0)) rest n c old new
-        (run.2 limit o ps) room e keeps machine borrowed_fresh
+        quiet_took limit takes refuses (InOsc o ps) (InOsc o (ps ++ run.0)) rest n _ old new
+        (run.2 limit o ps) room refl keeps machine borrowed_fresh
         (subst (λ m. Holds keeps limit machine m.0 × FoldsTo takes old m.1 new) whole h)
 
     pub borrowed_stops : {why : Type 0}
         → StopsAt ((not (has_few_parts (take n rest)) ≡ true) × why) takes refuses old
-        (emitting (osc_events limit (take n rest)) (osc_left (get_or rest n 0) c)).1 new
+        (emitting (osc_events limit (take n rest)) (move_at osc_left rest n)).1 new
         → StopsAt ((may_grow_within (InOsc o ps) rest ≡ true) × why) takes refuses old
         (events_all limit (InOsc o ps) rest) new
     borrowed_stops {why} h =
         let own : Type 0 = (not (has_few_parts (take n rest)) ≡ true) × why in
-        quiet_stops_for limit takes refuses (InOsc o ps) (InOsc o (ps ++ run.0)) rest n c old new
-        (run.2 limit o ps) room e
+        quiet_stops_for limit takes refuses (InOsc o ps) (InOsc o (ps ++ run.0)) rest n _ old new
+        (run.2 limit o ps) room refl
         own (λ g. (borrowed_grows g.0, g.1))
         (subst (λ m. StopsAt own takes refuses old m.1 new) whole h)
 
@@ -191,12 +206,12 @@ module _ {S : Type 0} (limit : Option ℕ) (takes refuses : S → Event → S
         )
 
     pair_whole_move : emitting (osc_events limit (take n rest))
-        (pair_move (get_or rest (n + 1) 0) (class_of (get_or rest (n + 1) 0)))
+        (move_at pair_move rest (n + 1))
         ≡ move limit (InOscPending o (ps ++ run.0) (0xc2 ∷ [])) (get_or rest (n + 1) 0)
         (class_of (get_or rest (n + 1) 0))
     pair_whole_move =
         ap (λ t. emitting (osc_events limit t)
-        (pair_move (get_or rest (n + 1) 0) (class_of (get_or rest (n + 1) 0)))) borrowed_text
+        (move_at pair_move rest (n + 1))) borrowed_text
         ∙ pair_ends limit o (ps ++ run.0) (get_or rest (n + 1) 0) (class_of (get_or rest (n + 1) 0))
         control
 
@@ -205,7 +220,7 @@ module _ {S : Type 0} (limit : Option ℕ) (takes refuses : S → Event → S
 
     pub pair_events : events_all limit (InOsc o ps) (take (n + 2) rest)
         ≡ osc_events limit (take n rest)
-        ++ (pair_move (get_or rest (n + 1) 0) (class_of (get_or rest (n + 1) 0))).1
+        ++ (move_at pair_move rest (n + 1)).1
     pair_events =
         ap (λ k. events_all limit (InOsc o ps) (take k rest)) (sym two)
         ∙ quiet_events limit takes refuses (InOsc o ps) (InOscPending o (ps ++ run.0) (0xc2 ∷ []))
@@ -215,7 +230,7 @@ module _ {S : Type 0} (limit : Option ℕ) (takes refuses : S → Event → S
     pair_left : StaysFresh (InOsc o ps) rest (n + 1 + 1)
     pair_left =
         fresh_by (InOsc o ps)
-        (pair_move (get_or rest (n + 1) 0) (class_of (get_or rest (n + 1) 0))).0 rest
+        (move_at pair_move rest (n + 1)).0 rest
         (n + 1 + 1)
         (quiet_after limit takes refuses (InOsc o ps) (InOscPending o (ps ++ run.0) (0xc2 ∷ []))
         rest (n + 1) _ old new lead_run next refl
@@ -239,10 +254,10 @@ module _ {S : Type 0} (limit : Option ℕ) (takes refuses : S → Event → S
     pub pair_took : {K A : Type 0} (keeps : Option ℕ → K → List ℕ → Type 0) (machine : Machine K A)
         → Holds keeps limit machine
         (emitting (osc_events limit (take n rest))
-        (pair_move (get_or rest (n + 1) 0) (class_of (get_or rest (n + 1) 0)))).0
+        (move_at pair_move rest (n + 1))).0
         × FoldsTo takes old
         (emitting (osc_events limit (take n rest))
-        (pair_move (get_or rest (n + 1) 0) (class_of (get_or rest (n + 1) 0)))).1 new
+        (move_at pair_move rest (n + 1))).1 new
         → Holds keeps limit machine (after_all (InOsc o ps) (take (n + 2) rest))
         × FoldsTo takes old (events_all limit (InOsc o ps) (take (n + 2) rest)) new
         × StaysFresh (InOsc o ps) rest (n + 2)
@@ -258,7 +273,7 @@ module _ {S : Type 0} (limit : Option ℕ) (takes refuses : S → Event → S
     pub pair_stops : {why : Type 0}
         → StopsAt ((not (has_few_parts (take n rest)) ≡ true) × why) takes refuses old
         (emitting (osc_events limit (take n rest))
-        (pair_move (get_or rest (n + 1) 0) (class_of (get_or rest (n + 1) 0)))).1 new
+        (move_at pair_move rest (n + 1))).1 new
         → StopsAt ((may_grow_within (InOsc o ps) rest ≡ true) × why) takes refuses old
         (events_all limit (InOsc o ps) rest) new
     pair_stops {why} h =
@@ -286,50 +301,50 @@ module _ {S : Type 0} (limit : Option ℕ) (takes refuses : S → Event → S
     → Type 0) (o : Opener) (d rest : List ℕ) (n : ℕ) (old new : S)
     (none : those is_text d ≡ []) (passes : list_all is_text_byte (take n rest) ≡ true) (room : n
     < length rest)
-    (c : Class) (e : c ≡ class_of (get_or rest n 0)) (ends : is_breaker c ≡ true) where
-  apc_whole : emitting (apc_events limit (take n rest)) (ground_move (get_or rest n 0) c)
-      ≡ inside limit (InApc o (d ++ take n rest)) (get_or rest n 0) c
+    (ends : is_breaker (class_of (get_or rest n 0)) ≡ true) where
+  apc_whole : emitting (apc_events limit (take n rest)) (move_at ground_move rest n)
+      ≡ inside limit (InApc o (d ++ take n rest)) (get_or rest n 0) (class_of (get_or rest n 0))
   apc_whole =
-      ap (λ t. emitting (apc_events limit t) (ground_move (get_or rest n 0) c))
+      ap (λ t. emitting (apc_events limit t) (move_at ground_move rest n))
       (ap (λ t. t ++ take n rest) (sym none) ∙ sym (apc_kept d (take n rest) passes))
       ∙ rw (ends, inside) refl
 
   pub borrowed_apc_events : events_all limit (InApc o d) (take (n + 1) rest)
-      ≡ apc_events limit (take n rest) ++ (ground_move (get_or rest n 0) c).1
+      ≡ apc_events limit (take n rest) ++ (move_at ground_move rest n).1
   borrowed_apc_events =
-      quiet_events limit takes refuses (InApc o d) (InApc o (d ++ take n rest)) rest n c old new
-      (apc_text limit o d (take n rest) passes) room e
+      quiet_events limit takes refuses (InApc o d) (InApc o (d ++ take n rest)) rest n _ old new
+      (apc_text limit o d (take n rest) passes) room refl
       ∙ ap (λ m. m.1) (sym apc_whole)
 
   borrowed_apc_fresh : StaysFresh (InApc o d) rest (n + 1)
   borrowed_apc_fresh =
-      fresh_by (InApc o d) (ground_move (get_or rest n 0) c).0 rest (n + 1)
-      (quiet_after limit takes refuses (InApc o d) (InApc o (d ++ take n rest)) rest n c old new
-      (apc_text limit o d (take n rest) passes) room e
+      fresh_by (InApc o d) (move_at ground_move rest n).0 rest (n + 1)
+      (quiet_after limit takes refuses (InApc o d) (InApc o (d ++ take n rest)) rest n _ old new
+      (apc_text limit o d (take n rest) passes) room refl
       ∙ rw (ends, after_by, move, inside) refl)
-      (begun_fresh (get_or rest n 0) c (drop (n + 1) rest))
+      (begun_fresh (get_or rest n 0) _ (drop (n + 1) rest))
 
   pub borrowed_apc_took : {K A : Type 0} (keeps : Option ℕ → K → List ℕ
       → Type 0) (machine : Machine K A)
       → Holds keeps limit machine
-      (emitting (apc_events limit (take n rest)) (ground_move (get_or rest n 0) c)).0
+      (emitting (apc_events limit (take n rest)) (move_at ground_move rest n)).0
       × FoldsTo takes old
-      (emitting (apc_events limit (take n rest)) (ground_move (get_or rest n 0) c)).1 new
+      (emitting (apc_events limit (take n rest)) (move_at ground_move rest n)).1 new
       → Holds keeps limit machine (after_all (InApc o d) (take (n + 1) rest))
       × FoldsTo takes old (events_all limit (InApc o d) (take (n + 1) rest)) new
       × StaysFresh (InApc o d) rest (n + 1)
   borrowed_apc_took keeps machine h =
-      quiet_took limit takes refuses (InApc o d) (InApc o (d ++ take n rest)) rest n c old new
-      (apc_text limit o d (take n rest) passes) room e keeps machine
+      quiet_took limit takes refuses (InApc o d) (InApc o (d ++ take n rest)) rest n _ old new
+      (apc_text limit o d (take n rest) passes) room refl keeps machine
       borrowed_apc_fresh
       (subst (λ m. Holds keeps limit machine m.0 × FoldsTo takes old m.1 new) apc_whole h)
 
   pub borrowed_apc_stops : {why : Type 0} → StopsAt ((false ≡ true) × why) takes refuses old
-      (emitting (apc_events limit (take n rest)) (ground_move (get_or rest n 0) c)).1 new
+      (emitting (apc_events limit (take n rest)) (move_at ground_move rest n)).1 new
       → StopsAt ((may_grow_within (InApc o d) rest ≡ true) × why) takes refuses old
       (events_all limit (InApc o d) rest) new
   borrowed_apc_stops {why} h =
-      quiet_stops_for limit takes refuses (InApc o d) (InApc o (d ++ take n rest)) rest n c old new
-      (apc_text limit o d (take n rest) passes) room e ((false ≡ true) × why)
+      quiet_stops_for limit takes refuses (InApc o d) (InApc o (d ++ take n rest)) rest n _ old new
+      (apc_text limit o d (take n rest) passes) room refl ((false ≡ true) × why)
       (λ no. let never = no.0 in absurd cc)
       (subst (λ m. StopsAt ((false ≡ true) × why) takes refuses old m.1 new) apc_whole h)

@@ -29,6 +29,7 @@ use std::alloc::Allocator;
 
 impl<K: Store, A: Allocator> Machine<K, A> {
     /// A byte after ESC x.
+    #[inline(always)]
     #[tactic(auto, using(crate::proofs::Given::receives_moved))]
     pub fn in_escape<V: Taker>(&mut self, b: u8, class: Class, actor: &mut V) -> Result<()>
         requires { V.is_ready actor.old ⊎ KeptEscape self.old (λ limit u.

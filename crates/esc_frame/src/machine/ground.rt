@@ -2,6 +2,7 @@
 #![tactic(auto)]
 
 ghost use Rattle.std.specs.Prelude.{◌≡◌, ◌<◌, ◌++◌, ◌∷◌, ℕ, List, Option, None, [], Bool, true, length, OnOk, IfOk};
+ghost use Rattle.esc_frame.specs.Classes.{class_of};
 ghost use Rattle.esc_frame.specs.Leads.{Holds};
 ghost use Rattle.esc_frame.specs.Leads.Unfinished.{Ground, InEscape};
 ghost use Rattle.esc_frame.specs.Machine.Prefixes.{prefix_of};
@@ -56,16 +57,17 @@ impl<K: Store, A: Allocator> Machine<K, A> {
 
     /// What `in_ground` does, after a string: mostly it is the ESC of the string terminator.
     #[inline(always)]
-    pub fn leave_string<V: Taker>(&mut self, b: u8, class: Class, actor: &mut V) -> Result<()>
-        requires { MayEmit V.Taker (ground_move b class).1 actor.old }
-        ensures moved { AlwaysMakes K.Store V.Taker result (ground_move b class) self actor }
+    pub fn leave_string<V: Taker>(&mut self, b: u8, actor: &mut V) -> Result<()>
+        requires { MayEmit V.Taker (ground_move b (class_of b)).1 actor.old }
+        ensures moved { AlwaysMakes K.Store V.Taker result
+            (ground_move b (class_of b)) self actor }
         ensures ready { V.is_ready actor.old → OnOk result (V.is_ready actor.new) }
     {
-        if let Class::Breaks(Breaker::Escape) = class {
+        if b == 0x1b {
             self.enter_escape();
             Ok(())
         } else {
-            self.in_ground(b, class, actor)
+            self.in_ground(b, classify(b), actor)
         }
     }
 

@@ -188,9 +188,8 @@ impl<K: Store, A: Allocator> Machine<K, A> {
         if run == rest.len() {
             return self.keep_body(limit, rest, run, actor);
         }
-        let class = classify(rest[run]);
-        if ends_osc(class) {
-            return self.take_borrowed(limit, rest, run, class, actor);
+        if ends_osc(classify(rest[run])) {
+            return self.take_borrowed(limit, rest, run, actor);
         }
         if is_pair_at(rest, run) {
             self.take_borrowed_by_pair(limit, rest, run, actor)
@@ -221,20 +220,18 @@ impl<K: Store, A: Allocator> Machine<K, A> {
         self.take_units(limit, rest, run, actor)
     }
 
-    // A text, and the byte of this class that ends it.
+    // A text, and the byte that ends it.
     #[inline(always)]
     fn take_borrowed<V: Taker>(
         &mut self,
         limit: Option<usize>,
         rest: &[u8],
         run: usize,
-        class: Class,
         actor: &mut V,
     ) -> Result<usize>
         requires few { run < length rest.now }
         requires passes { IsTextRun (take run rest.now) }
-        requires class { class ≡ class_of (slice_index rest.now run) }
-        requires ends { ends_osc class ≡ true }
+        requires ends { ends_osc (class_of (slice_index rest.now run)) ≡ true }
         requires ready { V.is_ready actor.old ⊎ NewOsc (λ u.
             Awaits V.may V.takes actor.old (events_all limit u rest.now)) }
         ensures took { FreshOsc (λ u.
@@ -242,7 +239,7 @@ impl<K: Store, A: Allocator> Machine<K, A> {
         ensures quiet { AnyOsc (λ u. Quietly limit result u rest.now) }
         ensures count { Advances V.Taker result rest.now actor }
     {
-        match self.end_borrowed(limit, &rest[..run], rest[run], class, actor) {
+        match self.end_borrowed(limit, &rest[..run], rest[run], actor) {
             Ok(()) => Ok(run + 1),
             Err(e) => Err(e),
         }
@@ -281,17 +278,16 @@ impl<K: Store, A: Allocator> Machine<K, A> {
         limit: Option<usize>,
         text: &[u8],
         b: u8,
-        class: Class,
         actor: &mut V,
     ) -> Result<()>
         requires { MayEmit V.Taker
-            (osc_events limit text.now ++ (osc_left b class).1) actor.old }
+            (osc_events limit text.now ++ (osc_left b (class_of b)).1) actor.old }
         ensures moved { Makes K.Store V.Taker limit (not (has_few_parts text.now)) result
-            (emitting (osc_events limit text.now) (osc_left b class)) self actor }
+            (emitting (osc_events limit text.now) (osc_left b (class_of b))) self actor }
         ensures ready { V.is_ready actor.old → OnOk result (V.is_ready actor.new) }
     {
         match emit_borrowed(limit, &self.alloc, text, actor) {
-            Ok(()) => self.leave_borrowed(b, class, actor),
+            Ok(()) => self.leave_borrowed(b, actor),
             Err(e) => Err(e),
         }
     }
@@ -317,17 +313,18 @@ impl<K: Store, A: Allocator> Machine<K, A> {
     }
 
     // A bell, or a breaker.
-    fn leave_borrowed<V: Taker>(&mut self, b: u8, class: Class, actor: &mut V) -> Result<()>
-        requires { MayEmit V.Taker (osc_left b class).1 actor.old }
-        ensures moved { AlwaysMakes K.Store V.Taker result (osc_left b class) self actor }
+    #[inline(always)]
+    fn leave_borrowed<V: Taker>(&mut self, b: u8, actor: &mut V) -> Result<()>
+        requires { MayEmit V.Taker (osc_left b (class_of b)).1 actor.old }
+        ensures moved { AlwaysMakes K.Store V.Taker result (osc_left b (class_of b)) self actor }
         ensures ready { V.is_ready actor.old → OnOk result (V.is_ready actor.new) }
     {
-        if let Class::Bell = class {
+        if b == 0x07 {
             self.state = State::Ground;
             self.pending = Pending::Nothing;
             Ok(())
         } else {
-            self.leave_string(b, class, actor)
+            self.leave_string(b, actor)
         }
     }
 

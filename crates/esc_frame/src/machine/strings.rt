@@ -113,9 +113,8 @@ impl<K: Store, A: Allocator> Machine<K, A> {
         if !self.text.is_new() {
             return self.keep_apc(limit, rest, run, actor);
         }
-        let class = classify(rest[run]);
-        if is_breaker(class) {
-            self.take_borrowed_apc(limit, rest, run, class, actor)
+        if is_breaker(classify(rest[run])) {
+            self.take_borrowed_apc(limit, rest, run, actor)
         } else {
             self.keep_apc(limit, rest, run, actor)
         }
@@ -177,20 +176,18 @@ impl<K: Store, A: Allocator> Machine<K, A> {
         }
     }
 
-    // A text, and the breaker of this class that ends it.
+    // A text, and the breaker that ends it.
     #[inline(always)]
     fn take_borrowed_apc<V: Taker>(
         &mut self,
         limit: Option<usize>,
         rest: &[u8],
         run: usize,
-        class: Class,
         actor: &mut V,
     ) -> Result<usize>
         requires few { run < length rest.now }
         requires passes { list_all is_text_byte (take run rest.now) ≡ true }
-        requires class { class ≡ class_of (slice_index rest.now run) }
-        requires ends { is_breaker class ≡ true }
+        requires ends { is_breaker (class_of (slice_index rest.now run)) ≡ true }
         requires ready { V.is_ready actor.old ⊎ NewApc (λ u.
             Awaits V.may V.takes actor.old (events_all limit u rest.now)) }
         ensures took { FreshApc (λ u.
@@ -198,7 +195,7 @@ impl<K: Store, A: Allocator> Machine<K, A> {
         ensures quiet { AnyApc (λ u. Quietly limit result u rest.now) }
         ensures count { Advances V.Taker result rest.now actor }
     {
-        match self.end_borrowed_apc(limit, &rest[..run], rest[run], class, actor) {
+        match self.end_borrowed_apc(limit, &rest[..run], rest[run], actor) {
             Ok(()) => Ok(run + 1),
             Err(e) => Err(e),
         }
@@ -210,18 +207,17 @@ impl<K: Store, A: Allocator> Machine<K, A> {
         limit: Option<usize>,
         text: &[u8],
         b: u8,
-        class: Class,
         actor: &mut V,
     ) -> Result<()>
         requires { MayEmit V.Taker
-            (apc_events limit text.now ++ (ground_move b class).1) actor.old }
+            (apc_events limit text.now ++ (ground_move b (class_of b)).1) actor.old }
         ensures moved { (own : Bool)
             → Makes K.Store V.Taker limit own result
-            (emitting (apc_events limit text.now) (ground_move b class)) self actor }
+            (emitting (apc_events limit text.now) (ground_move b (class_of b))) self actor }
         ensures ready { V.is_ready actor.old → OnOk result (V.is_ready actor.new) }
     {
         match emit_borrowed_apc(limit, text, actor) {
-            Ok(()) => self.leave_string(b, class, actor),
+            Ok(()) => self.leave_string(b, actor),
             Err(e) => Err(e),
         }
     }

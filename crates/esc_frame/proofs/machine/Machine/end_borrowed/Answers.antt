@@ -1,3 +1,4 @@
+use Rattle.esc_frame.specs.Classes.{class_of}
 use Rattle.std.proofs.Common.{not, inr}
 use Rattle.esc_frame.specs.Limits.{has_few_parts}
 use Rattle.esc_frame.specs.Machine.Moves.{osc_left}
@@ -12,7 +13,7 @@ returns-in-Ok-clause-moved g c =
     c.args.limit (not (has_few_parts c.args.text.now))
     g.V.Taker.takes g.V.Taker.refuses c.leave_borrowed.result
     (osc_events c.args.limit c.args.text.now)
-    (osc_left c.args.b c.args.class) c.leave_borrowed.new.self c.args.actor.now _ _
+    (osc_left c.args.b (class_of c.args.b)) c.leave_borrowed.new.self c.args.actor.now _ _
     c.in-Ok.ensures.emitted
     (c.leave_borrowed.ensures.moved c.args.limit
     (not (has_few_parts c.args.text.now)))

@@ -1,3 +1,4 @@
+use Rattle.esc_frame.specs.Classes.{class_of}
 use Rattle.esc_frame.specs.Machine.Moves.{ground_move}
 use Rattle.esc_frame.specs.Segments.{apc_events}
 use Rattle.esc_frame.proofs.Given.{moves_then, stops_more, stops_for}
@@ -10,7 +11,7 @@ returns-in-Ok-clause-moved g c = λ own.
     c.args.limit own
     g.V.Taker.takes g.V.Taker.refuses c.leave_string.result
     (apc_events c.args.limit c.args.text.now)
-    (ground_move c.args.b c.args.class)
+    (ground_move c.args.b (class_of c.args.b))
     c.leave_string.new.self c.args.actor.now _ _ c.in-Ok.ensures.emitted
     (c.leave_string.ensures.moved c.args.limit own)
 

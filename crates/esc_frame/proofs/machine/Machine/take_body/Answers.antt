@@ -1,4 +1,5 @@
-use Rattle.std.proofs.Common.{◌∙◌, sym, arith}
+use Rattle.std.proofs.Common.{◌∙◌, ap, sym, arith}
+use Rattle.esc_frame.specs.Machine.Moves.{ends_osc}
 use Rattle.esc_frame.proofs.KeptStrings.{unended, unclosed}
 use Rattle.esc_frame.proofs.machine.Machine.take_body.Goals as goal
 
@@ -12,7 +13,7 @@ returns-else-is_pair_at-clause-took g c = λ o ps none.
     c.keep_body-else-is_pair_at.ensures.took o ps none
     (unclosed o ps c.args.rest.now c.units_run-run.result c.units_run-run.ensures.run (omega arith)
     (c.units_run-run.ensures.stops (omega arith)) _
-    c.classify-class.ensures (sym c.ends_osc.ensures ∙ c.if-ends_osc.false)
+    c.classify.ensures (sym c.ends_osc.ensures ∙ c.if-ends_osc.false)
     (c.is_pair_at.ensures.none c.if-is_pair_at.false))
 
 pub returns-then-run-rest-clause-quiet : goal.returns-then-run-rest-clause-quiet
@@ -58,8 +59,6 @@ pub keep_body-requires-else-is_pair_at-clause-passes
     : goal.keep_body-requires-else-is_pair_at-clause-passes
 keep_body-requires-else-is_pair_at-clause-passes g c = c.units_run-run.ensures.run
 
-pub take_borrowed-requires-clause-class : goal.take_borrowed-requires-clause-class
-take_borrowed-requires-clause-class g c = c.classify-class.ensures
-
 pub take_borrowed-requires-clause-ends : goal.take_borrowed-requires-clause-ends
-take_borrowed-requires-clause-ends g c = sym c.ends_osc.ensures ∙ c.if-ends_osc.true
+take_borrowed-requires-clause-ends g c =
+    ap ends_osc (sym c.classify.ensures) ∙ sym c.ends_osc.ensures ∙ c.if-ends_osc.true

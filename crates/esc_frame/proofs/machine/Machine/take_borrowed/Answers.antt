@@ -11,7 +11,7 @@ pub returns-in-Ok-clause-took : goal.returns-in-Ok-clause-took
 returns-in-Ok-clause-took g c = λ o ps none.
     borrowed_took c.args.limit g.V.Taker.takes g.V.Taker.refuses o ps c.args.rest.now c.args.run
     c.args.actor.now c.end_borrowed.new.actor none c.requires.passes
-    c.requires.few c.args.class c.requires.class c.requires.ends g.K.Store.keeps
+    c.requires.few c.requires.ends g.K.Store.keeps
     c.end_borrowed.new.self
     c.in-Ok.ensures.moved
 
@@ -24,7 +24,7 @@ pub returns-in-Err-clause-took : goal.returns-in-Err-clause-took
 returns-in-Err-clause-took g c = λ o ps none.
     borrowed_stops c.args.limit g.V.Taker.takes g.V.Taker.refuses o ps c.args.rest.now c.args.run
     c.args.actor.now c.end_borrowed.new.actor none c.requires.passes
-    c.requires.few c.args.class c.requires.class c.requires.ends c.in-Err.ensures.moved
+    c.requires.few c.requires.ends c.in-Err.ensures.moved
 
 pub end_borrowed-requires : goal.end_borrowed-requires
 end_borrowed-requires g c =
@@ -34,5 +34,5 @@ end_borrowed-requires g c =
     (InOsc w.0 w.1) _ a
     (borrowed_events c.args.limit g.V.Taker.takes g.V.Taker.refuses w.0 w.1 c.args.rest.now
     c.args.run a a w.2
-    c.requires.passes c.requires.few c.args.class c.requires.class c.requires.ends) w.3)
+    c.requires.passes c.requires.few c.requires.ends) w.3)
     c.requires.ready

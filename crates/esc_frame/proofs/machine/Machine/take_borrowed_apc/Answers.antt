@@ -12,7 +12,7 @@ pub returns-in-Ok-clause-took : goal.returns-in-Ok-clause-took
 returns-in-Ok-clause-took g c = λ o d none.
     borrowed_apc_took c.args.limit g.V.Taker.takes g.V.Taker.refuses o d c.args.rest.now c.args.run
     c.args.actor.now c.end_borrowed_apc.new.actor none
-    c.requires.passes c.requires.few c.args.class c.requires.class c.requires.ends g.K.Store.keeps
+    c.requires.passes c.requires.few c.requires.ends g.K.Store.keeps
     c.end_borrowed_apc.new.self (c.in-Ok.ensures.moved false)
 
 pub returns-in-Ok-clause-quiet : goal.returns-in-Ok-clause-quiet
@@ -23,7 +23,7 @@ pub returns-in-Err-clause-took : goal.returns-in-Err-clause-took
 returns-in-Err-clause-took g c = λ o d none.
     borrowed_apc_stops c.args.limit g.V.Taker.takes g.V.Taker.refuses o d c.args.rest.now c.args.run
     c.args.actor.now c.end_borrowed_apc.new.actor none
-    c.requires.passes c.requires.few c.args.class c.requires.class c.requires.ends
+    c.requires.passes c.requires.few c.requires.ends
     (c.in-Err.ensures.moved false)
 
 pub end_borrowed_apc-requires : goal.end_borrowed_apc-requires
@@ -34,5 +34,5 @@ end_borrowed_apc-requires g c =
     (InApc w.0 w.1) _ a
     (borrowed_apc_events c.args.limit g.V.Taker.takes g.V.Taker.refuses w.0 w.1 c.args.rest.now
     c.args.run a a w.2
-    c.requires.passes c.requires.few c.args.class c.requires.class c.requires.ends) w.3)
+    c.requires.passes c.requires.few c.requires.ends) w.3)
     c.requires.ready

@@ -32,7 +32,7 @@ returns-else-is_breaker-clause-took g c = λ o d k.
     c.keep_apc-else-is_breaker.ensures.took o d k
     (apc_unclosed o d c.args.rest.now c.ascii_run-run.result c.ascii_run-run.ensures.run
     (omega arith)
-    (ap is_breaker (sym c.classify-class.ensures) ∙ sym c.is_breaker.ensures
+    (ap is_breaker (sym c.classify.ensures) ∙ sym c.is_breaker.ensures
     ∙ c.if-is_breaker.false))
 
 pub returns-then-run-rest-clause-quiet : goal.returns-then-run-rest-clause-quiet
@@ -59,8 +59,6 @@ returns-then-is_breaker-clause-count g c = c.take_borrowed_apc.ensures.count
 pub returns-else-is_breaker-clause-count : goal.returns-else-is_breaker-clause-count
 returns-else-is_breaker-clause-count g c = c.keep_apc-else-is_breaker.ensures.count
 
-pub take_borrowed_apc-requires-clause-class : goal.take_borrowed_apc-requires-clause-class
-take_borrowed_apc-requires-clause-class g c = c.classify-class.ensures
-
 pub take_borrowed_apc-requires-clause-ends : goal.take_borrowed_apc-requires-clause-ends
-take_borrowed_apc-requires-clause-ends g c = sym c.is_breaker.ensures ∙ c.if-is_breaker.true
+take_borrowed_apc-requires-clause-ends g c =
+    ap is_breaker (sym c.classify.ensures) ∙ sym c.is_breaker.ensures ∙ c.if-is_breaker.true
