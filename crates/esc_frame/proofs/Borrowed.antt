@@ -10,7 +10,7 @@ use Rattle.esc_frame.specs.declared.classes.Class.{Class}
 use Rattle.esc_frame.specs.declared.classes.Class.TheVariants.{Bell, Lead, Breaks}
 use Rattle.esc_frame.specs.declared.classes.Breaker.TheVariants.{C1Introducer}
 use Rattle.esc_values.specs.Clear.{parts_of}
-use Rattle.esc_frame.specs.Events.{Event, StopsAt}
+use Rattle.esc_frame.specs.Events.{Event, Awaits, StopsAt}
 use Rattle.esc_frame.specs.Events.Event.{OscDispatch, ApcDispatch}
 use Rattle.esc_frame.specs.declared.machine.Machine.{Machine}
 use Rattle.esc_frame.specs.Classes.{class_of, those, is_text, is_breaker}
@@ -28,6 +28,7 @@ use Rattle.esc_frame.specs.Segments.Opener.{Raw}
 use Rattle.esc_frame.specs.Sequences.{is_from, is_sequence, is_pair, outcome}
 use Rattle.esc_frame.proofs.Bytes.{is_bell}
 use Rattle.esc_frame.proofs.Borrows.{begun_fresh, fresh_by, grows_by, borrows_at, no_if, not_so, opened_fresh, pair_fresh, reaches_first}
+use Rattle.esc_frame.proofs.MayRun.{cut_first}
 use Rattle.esc_frame.proofs.QuietRuns.{quiet_took, quiet_stops_for, quiet_after, quiet_events}
 use Rattle.esc_frame.proofs.Still.{text_still}
 use Rattle.esc_frame.proofs.StringRuns.{run_text, apc_text, apc_kept}
@@ -137,12 +138,18 @@ module _ {S : Type 0} (limit : Option ℕ) (takes refuses : S → Event → S
     whole = ap (λ t. emitting (osc_events limit t) (move_at osc_left rest n)) borrowed_text
         ∙ ends_by limit o (ps ++ run.0) (get_or rest n 0) _ ends
 
-    pub borrowed_events : events_all limit (InOsc o ps) (take (n + 1) rest)
+    borrowed_events : events_all limit (InOsc o ps) (take (n + 1) rest)
         ≡ osc_events limit (take n rest) ++ (move_at osc_left rest n).1
     borrowed_events =
         quiet_events limit takes refuses (InOsc o ps) (InOsc o (ps ++ run.0)) rest n _ old new
         (run.2 limit o ps) room refl
         ∙ ap (λ m. m.1) (sym whole)
+
+    pub borrowed_awaited : (may : S → Event → Type 0)
+        → Awaits may takes old (events_all limit (InOsc o ps) rest)
+        → Awaits may takes old (osc_events limit (take n rest) ++ (move_at osc_left rest n).1)
+    borrowed_awaited may =
+        cut_first may takes rest (n + 1) limit (InOsc o ps) _ old borrowed_events
 
     borrowed_fresh : StaysFresh (InOsc o ps) rest (n + 1)
     borrowed_fresh =
@@ -218,7 +225,7 @@ module _ {S : Type 0} (limit : Option ℕ) (takes refuses : S → Event → S
     two : n + 1 + 1 ≡ n + 2
     two = omega arith
 
-    pub pair_events : events_all limit (InOsc o ps) (take (n + 2) rest)
+    pair_events : events_all limit (InOsc o ps) (take (n + 2) rest)
         ≡ osc_events limit (take n rest)
         ++ (move_at pair_move rest (n + 1)).1
     pair_events =
@@ -226,6 +233,12 @@ module _ {S : Type 0} (limit : Option ℕ) (takes refuses : S → Event → S
         ∙ quiet_events limit takes refuses (InOsc o ps) (InOscPending o (ps ++ run.0) (0xc2 ∷ []))
         rest (n + 1) _ old new lead_run next refl
         ∙ ap (λ m. m.1) (sym pair_whole_move)
+
+    pub pair_awaited : (may : S → Event → Type 0)
+        → Awaits may takes old (events_all limit (InOsc o ps) rest)
+        → Awaits may takes old
+        (osc_events limit (take n rest) ++ (move_at pair_move rest (n + 1)).1)
+    pair_awaited may = cut_first may takes rest (n + 2) limit (InOsc o ps) _ old pair_events
 
     pair_left : StaysFresh (InOsc o ps) rest (n + 1 + 1)
     pair_left =
@@ -309,12 +322,18 @@ module _ {S : Type 0} (limit : Option ℕ) (takes refuses : S → Event → S
       (ap (λ t. t ++ take n rest) (sym none) ∙ sym (apc_kept d (take n rest) passes))
       ∙ rw (ends, inside) refl
 
-  pub borrowed_apc_events : events_all limit (InApc o d) (take (n + 1) rest)
+  borrowed_apc_events : events_all limit (InApc o d) (take (n + 1) rest)
       ≡ apc_events limit (take n rest) ++ (move_at ground_move rest n).1
   borrowed_apc_events =
       quiet_events limit takes refuses (InApc o d) (InApc o (d ++ take n rest)) rest n _ old new
       (apc_text limit o d (take n rest) passes) room refl
       ∙ ap (λ m. m.1) (sym apc_whole)
+
+  pub borrowed_apc_awaited : (may : S → Event → Type 0)
+      → Awaits may takes old (events_all limit (InApc o d) rest)
+      → Awaits may takes old (apc_events limit (take n rest) ++ (move_at ground_move rest n).1)
+  borrowed_apc_awaited may =
+      cut_first may takes rest (n + 1) limit (InApc o d) _ old borrowed_apc_events
 
   borrowed_apc_fresh : StaysFresh (InApc o d) rest (n + 1)
   borrowed_apc_fresh =

@@ -25,9 +25,6 @@ drops x i n = drop-drop n i x
 
 module _ {S : Type 0} (takes refuses : S → Event → S → Type 0) (is_ready : S
     → Type 0) (text : List ℕ) where
-  pub none_spelled : (s : S) → IsClearText text → HasSpelled takes is_ready text 0 s s
-  none_spelled s t = (omega arith, t, ([], refl, refl), λ r. r)
-
   pub next_spelled : (at c n : ℕ) (old mid new : S) → HasSpelled takes is_ready text at old mid
       → IsNext (drop at text) c n → takes mid (Print c) new
       → (is_ready mid → is_ready new)

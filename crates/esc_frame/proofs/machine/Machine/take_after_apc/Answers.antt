@@ -5,8 +5,7 @@ use Rattle.esc_frame.proofs.QuietRuns.{quiet_took, quiet_stops}
 use Rattle.esc_frame.proofs.Still.{apc_end_still, less_still}
 use Rattle.esc_frame.proofs.StringRuns.{apc_text, apc_kept}
 use Rattle.std.proofs.Math.Logic.{⊎_map}
-use Rattle.esc_frame.proofs.MayRun.{cut_first}
-use Rattle.esc_frame.proofs.QuietRuns.{quiet_events}
+use Rattle.esc_frame.proofs.Awaited.{next_awaited}
 use Rattle.esc_frame.proofs.machine.Machine.take_after_apc.Goals as goal
 
 pub returns-then-run-rest-clause-took : goal.returns-then-run-rest-clause-took
@@ -59,17 +58,13 @@ returns-in-Ok-clause-quiet g c =
 
 pub in_apc-requires : goal.in_apc-requires
 in_apc-requires g c =
-    let a = c.args.actor.now in
     let xs = take c.args.run c.args.rest.now in
     ⊎_map (λ r. r) (λ w. (
       w.0,
       w.1 ++ xs,
       subst (g.K.Store.keeps c.args.limit c.args.self.now.text)
           (sym (apc_kept w.1 xs c.requires.passes)) w.2,
-      cut_first g.V.Taker.may g.V.Taker.takes c.args.rest.now (c.args.run + 1) c.args.limit
-          (InApc w.0 w.1) _ a
-          (quiet_events c.args.limit g.V.Taker.takes g.V.Taker.refuses (InApc w.0 w.1) (InApc w.0
-          (w.1 ++ xs)) c.args.rest.now
-          c.args.run _ a a (apc_text c.args.limit w.0 w.1 xs c.requires.passes) (omega arith)
-          c.classify.ensures) w.3,
+      next_awaited g.V.Taker.may g.V.Taker.takes c.args.limit (InApc w.0 w.1) (InApc w.0
+          (w.1 ++ xs)) c.args.rest.now c.args.run _
+          (apc_text c.args.limit w.0 w.1 xs c.requires.passes) (omega arith) c.classify.ensures w.3,
     )) c.requires.ready

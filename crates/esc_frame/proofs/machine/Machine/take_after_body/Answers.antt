@@ -6,8 +6,7 @@ use Rattle.esc_frame.proofs.CsiRuns.{body_quiet, body_strip}
 use Rattle.esc_frame.proofs.QuietRuns.{quiet_took, quiet_stops}
 use Rattle.esc_frame.proofs.Still.{body_still, body_fresh, less_still}
 use Rattle.std.proofs.Math.Logic.{⊎_map}
-use Rattle.esc_frame.proofs.MayRun.{cut_first}
-use Rattle.esc_frame.proofs.QuietRuns.{quiet_events}
+use Rattle.esc_frame.proofs.Awaited.{next_awaited}
 use Rattle.esc_frame.proofs.machine.Machine.take_after_body.Goals as goal
 
 pub returns-then-run-rest-clause-took : goal.returns-then-run-rest-clause-took
@@ -54,16 +53,13 @@ returns-in-Ok-clause-quiet g c =
 
 pub end_body-requires : goal.end_body-requires
 end_body-requires g c =
-    let a = c.args.actor.now in
     let xs : List ℕ = take c.args.run c.args.rest.now in
     ⊎_map (λ r. r) (λ w. (
       w.0,
       w.1,
       w.2 ++ xs,
       subst (KeepsBody c.args.self.now.body) (sym (body_strip w.2 xs c.requires.passes)) w.3,
-      cut_first g.V.Taker.may g.V.Taker.takes c.args.rest.now (c.args.run + 1) w.0
-          (InCsi w.1 w.2) _ a
-          (quiet_events w.0 g.V.Taker.takes g.V.Taker.refuses (InCsi w.1 w.2) (InCsi w.1
-          (w.2 ++ xs)) c.args.rest.now
-          c.args.run _ a a (body_quiet w.0 w.1 w.2 xs c.requires.passes) (omega arith) refl) w.4,
+      next_awaited g.V.Taker.may g.V.Taker.takes w.0 (InCsi w.1 w.2) (InCsi w.1 (w.2 ++ xs))
+          c.args.rest.now c.args.run _ (body_quiet w.0 w.1 w.2 xs c.requires.passes) (omega arith)
+          refl w.4,
     )) c.requires.ready

@@ -5,8 +5,7 @@ use Rattle.esc_frame.proofs.QuietRuns.{quiet_took, quiet_stops}
 use Rattle.esc_frame.proofs.Still.{text_still, less_still}
 use Rattle.esc_frame.proofs.StringRuns.{run_text}
 use Rattle.std.proofs.Math.Logic.{⊎_map}
-use Rattle.esc_frame.proofs.MayRun.{cut_first}
-use Rattle.esc_frame.proofs.QuietRuns.{quiet_events}
+use Rattle.esc_frame.proofs.Awaited.{next_awaited}
 use Rattle.esc_frame.proofs.machine.Machine.take_after_text.Goals as goal
 
 pub returns-then-run-rest-clause-took : goal.returns-then-run-rest-clause-took
@@ -57,16 +56,12 @@ returns-in-Ok-clause-quiet g c = λ o ps.
 
 pub in_osc-requires : goal.in_osc-requires
 in_osc-requires g c =
-    let a = c.args.actor.now in
     let run = c.requires.passes in
     ⊎_map (λ r. r) (λ w. (
       w.0,
       w.1 ++ run.0,
       subst (g.K.Store.keeps c.args.limit c.args.self.now.text) (run_text w.1 run) w.2,
-      cut_first g.V.Taker.may g.V.Taker.takes c.args.rest.now (c.args.run + 1) c.args.limit
-          (InOsc w.0 w.1) _ a
-          (quiet_events c.args.limit g.V.Taker.takes g.V.Taker.refuses (InOsc w.0 w.1) (InOsc w.0
-          (w.1 ++ run.0))
-          c.args.rest.now c.args.run _ a a (run.2 c.args.limit w.0 w.1) (omega arith)
-          c.classify.ensures) w.3,
+      next_awaited g.V.Taker.may g.V.Taker.takes c.args.limit (InOsc w.0 w.1) (InOsc w.0
+          (w.1 ++ run.0)) c.args.rest.now c.args.run _ (run.2 c.args.limit w.0 w.1) (omega arith)
+          c.classify.ensures w.3,
     )) c.requires.ready

@@ -1,10 +1,6 @@
-use Rattle.esc_frame.proofs.Borrowed.{borrowed_took, borrowed_stops}
+use Rattle.esc_frame.proofs.Borrowed.{borrowed_awaited, borrowed_took, borrowed_stops}
 use Rattle.esc_frame.proofs.Still.{text_still}
 use Rattle.std.proofs.Math.Logic.{⊎_map}
-use Rattle.esc_frame.proofs.MayRun.{cut_first}
-use Rattle.esc_frame.proofs.Borrowed.{borrowed_events}
-use Rattle.esc_frame.specs.Leads.Unfinished.{InOsc}
-use Rattle.std.proofs.Common.{◌+◌}
 use Rattle.esc_frame.proofs.machine.Machine.take_borrowed.Goals as goal
 
 pub returns-in-Ok-clause-took : goal.returns-in-Ok-clause-took
@@ -28,11 +24,7 @@ returns-in-Err-clause-took g c = λ o ps none.
 
 pub end_borrowed-requires : goal.end_borrowed-requires
 end_borrowed-requires g c =
-    let a = c.args.actor.now in
     ⊎_map (λ r. r) (λ w.
-    cut_first g.V.Taker.may g.V.Taker.takes c.args.rest.now (c.args.run + 1) c.args.limit
-    (InOsc w.0 w.1) _ a
-    (borrowed_events c.args.limit g.V.Taker.takes g.V.Taker.refuses w.0 w.1 c.args.rest.now
-    c.args.run a a w.2
-    c.requires.passes c.requires.few c.requires.ends) w.3)
-    c.requires.ready
+    borrowed_awaited c.args.limit g.V.Taker.takes g.V.Taker.refuses w.0 w.1 c.args.rest.now
+    c.args.run _ c.args.actor.now w.2 c.requires.passes c.requires.few c.requires.ends
+    g.V.Taker.may w.3) c.requires.ready

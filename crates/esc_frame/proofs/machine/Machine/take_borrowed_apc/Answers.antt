@@ -1,11 +1,7 @@
 use Rattle.std.proofs.Common.{false}
-use Rattle.esc_frame.proofs.Borrowed.{borrowed_apc_took, borrowed_apc_stops}
+use Rattle.esc_frame.proofs.Borrowed.{borrowed_apc_awaited, borrowed_apc_took, borrowed_apc_stops}
 use Rattle.esc_frame.proofs.Still.{apc_end_still}
 use Rattle.std.proofs.Math.Logic.{⊎_map}
-use Rattle.esc_frame.proofs.MayRun.{cut_first}
-use Rattle.esc_frame.proofs.Borrowed.{borrowed_apc_events}
-use Rattle.esc_frame.specs.Leads.Unfinished.{InApc}
-use Rattle.std.proofs.Common.{◌+◌}
 use Rattle.esc_frame.proofs.machine.Machine.take_borrowed_apc.Goals as goal
 
 pub returns-in-Ok-clause-took : goal.returns-in-Ok-clause-took
@@ -28,11 +24,7 @@ returns-in-Err-clause-took g c = λ o d none.
 
 pub end_borrowed_apc-requires : goal.end_borrowed_apc-requires
 end_borrowed_apc-requires g c =
-    let a = c.args.actor.now in
     ⊎_map (λ r. r) (λ w.
-    cut_first g.V.Taker.may g.V.Taker.takes c.args.rest.now (c.args.run + 1) c.args.limit
-    (InApc w.0 w.1) _ a
-    (borrowed_apc_events c.args.limit g.V.Taker.takes g.V.Taker.refuses w.0 w.1 c.args.rest.now
-    c.args.run a a w.2
-    c.requires.passes c.requires.few c.requires.ends) w.3)
-    c.requires.ready
+    borrowed_apc_awaited c.args.limit g.V.Taker.takes g.V.Taker.refuses w.0 w.1 c.args.rest.now
+    c.args.run _ c.args.actor.now w.2 c.requires.passes c.requires.few c.requires.ends
+    g.V.Taker.may w.3) c.requires.ready

@@ -1,10 +1,6 @@
 use Rattle.std.proofs.Common.{arith}
-use Rattle.esc_frame.proofs.Borrowed.{pair_took, pair_stops, pair_still}
+use Rattle.esc_frame.proofs.Borrowed.{pair_awaited, pair_took, pair_stops, pair_still}
 use Rattle.std.proofs.Math.Logic.{⊎_map}
-use Rattle.esc_frame.proofs.MayRun.{cut_first}
-use Rattle.esc_frame.proofs.Borrowed.{pair_events}
-use Rattle.esc_frame.specs.Leads.Unfinished.{InOsc}
-use Rattle.std.proofs.Common.{◌+◌}
 use Rattle.esc_frame.proofs.machine.Machine.take_borrowed_by_pair.Goals as goal
 
 pub returns-in-Ok-clause-took : goal.returns-in-Ok-clause-took
@@ -28,11 +24,7 @@ returns-in-Err-clause-took g c = λ o ps none.
 
 pub end_borrowed_by_pair-requires : goal.end_borrowed_by_pair-requires
 end_borrowed_by_pair-requires g c =
-    let a = c.args.actor.now in
     ⊎_map (λ r. r) (λ w.
-    cut_first g.V.Taker.may g.V.Taker.takes c.args.rest.now (c.args.run + 2) c.args.limit
-    (InOsc w.0 w.1) _ a
-    (pair_events c.args.limit g.V.Taker.takes g.V.Taker.refuses w.0 w.1 c.args.rest.now c.args.run a
-    a w.2
-    c.requires.passes (omega arith) c.requires.few c.requires.lead c.requires.control) w.3)
-    c.requires.ready
+    pair_awaited c.args.limit g.V.Taker.takes g.V.Taker.refuses w.0 w.1 c.args.rest.now c.args.run _
+    c.args.actor.now w.2 c.requires.passes (omega arith) c.requires.few c.requires.lead
+    c.requires.control g.V.Taker.may w.3) c.requires.ready

@@ -7,9 +7,8 @@ use Rattle.esc_frame.proofs.Borrows.{opened_fresh}
 use Rattle.esc_frame.proofs.Still.{opened_took, opened_stops}
 use Rattle.esc_frame.specs.Machine.Calls.{Fails}
 use Rattle.std.proofs.Math.Logic.{⊎_map}
-use Rattle.esc_frame.proofs.MayRun.{cut_rest}
-use Rattle.esc_frame.proofs.QuietRuns.{quiet_folds}
 use Rattle.esc_frame.specs.Leads.Unfinished.{Ground}
+use Rattle.esc_frame.proofs.Awaited.{rest_awaited}
 use Rattle.esc_frame.proofs.machine.Machine.take_long_csi.Goals as goal
 
 pub take_in_csi-requires-clause-state : goal.take_in_csi-requires-clause-state
@@ -39,15 +38,11 @@ returns-in-Err g c = λ limit. (
 
 pub take_in_csi-requires-clause-ready : goal.take_in_csi-requires-clause-ready
 take_in_csi-requires-clause-ready g c =
-    let a = c.args.actor.now in
-    ⊎_map (λ r. r) (λ w.
-    let opens = csi_opens w.0 c.args.rest.now (omega arith) c.requires.escape
-    c.requires.bracket in (
+    ⊎_map (λ r. r) (λ w. (
       w.0,
       Long [],
       [],
       (c.open.ensures w.0 (Long [])).1,
-      cut_rest g.V.Taker.may g.V.Taker.takes c.args.rest.now 2 w.0 Ground (InCsi
-          (Long []) []) a a opens.0
-          (quiet_folds g.V.Taker.takes _ a opens.1) w.1,
+      rest_awaited g.V.Taker.may g.V.Taker.takes w.0 Ground (InCsi (Long []) []) c.args.rest.now 2
+          _ (csi_opens w.0 c.args.rest.now (omega arith) c.requires.escape c.requires.bracket) w.1,
     )) c.requires.ready

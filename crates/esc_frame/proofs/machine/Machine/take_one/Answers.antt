@@ -3,8 +3,7 @@ use Rattle.esc_frame.proofs.Borrows.{one_fresh, one_unborrowed}
 use Rattle.esc_frame.proofs.QuietRuns.{quiet_took, quiet_stops}
 use Rattle.esc_frame.proofs.States.{no_string}
 use Rattle.std.proofs.Math.Logic.{⊎_map}
-use Rattle.esc_frame.proofs.MayRun.{cut_first}
-use Rattle.esc_frame.proofs.QuietRuns.{quiet_events}
+use Rattle.esc_frame.proofs.Awaited.{next_awaited}
 use Rattle.esc_frame.proofs.machine.Machine.take_one.Goals as goal
 
 pub returns-in-Ok-clause-took : goal.returns-in-Ok-clause-took
@@ -26,12 +25,9 @@ returns-in-Err-clause-took g c = λ u h.
 
 pub step-requires : goal.step-requires
 step-requires g c =
-    let a = c.args.actor.now in
     ⊎_map (λ r. r) (λ w. (
       w.0,
       w.1,
-      cut_first g.V.Taker.may g.V.Taker.takes c.args.rest.now 1 c.args.limit w.0 _ a
-          (quiet_events c.args.limit g.V.Taker.takes g.V.Taker.refuses w.0 w.0 c.args.rest.now 0 _ a
-          a (refl, refl)
-          c.requires.some c.classify.ensures) w.2,
+      next_awaited g.V.Taker.may g.V.Taker.takes c.args.limit w.0 w.0 c.args.rest.now 0 _
+          (refl, refl) c.requires.some c.classify.ensures w.2,
     )) c.requires.ready

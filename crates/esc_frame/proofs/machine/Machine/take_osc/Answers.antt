@@ -7,9 +7,8 @@ use Rattle.esc_frame.proofs.Borrows.{opened_fresh}
 use Rattle.esc_frame.proofs.Still.{opened_took, opened_stops}
 use Rattle.esc_frame.specs.Machine.Calls.{Fails}
 use Rattle.std.proofs.Math.Logic.{⊎_map}
-use Rattle.esc_frame.proofs.MayRun.{cut_rest}
-use Rattle.esc_frame.proofs.QuietRuns.{quiet_folds}
 use Rattle.esc_frame.specs.Leads.Unfinished.{Ground}
+use Rattle.esc_frame.proofs.Awaited.{rest_awaited}
 use Rattle.esc_frame.proofs.machine.Machine.take_osc.Goals as goal
 
 pub returns-in-Ok : goal.returns-in-Ok
@@ -37,14 +36,12 @@ returns-in-Err g c = (
 
 pub take_body-requires-clause-ready : goal.take_body-requires-clause-ready
 take_body-requires-clause-ready g c =
-    let a = c.args.actor.now in
-    let opens = osc_opens c.args.limit c.args.rest.now (omega arith) c.requires.escape
-    c.requires.bracket in
     ⊎_map (λ r. r) (λ w. (
       Long [],
       [],
       refl,
-      cut_rest g.V.Taker.may g.V.Taker.takes c.args.rest.now 2 c.args.limit Ground (InOsc
-          (Long []) []) a a opens.0
-          (quiet_folds g.V.Taker.takes _ a opens.1) w,
+      rest_awaited g.V.Taker.may g.V.Taker.takes c.args.limit Ground (InOsc (Long []) [])
+          c.args.rest.now 2 _
+          (osc_opens c.args.limit c.args.rest.now (omega arith) c.requires.escape
+          c.requires.bracket) w,
     )) c.requires.ready
