@@ -5,13 +5,19 @@ use Rattle.std.specs.List.{flat_map, list_all}
 use Rattle.std.specs.Str.{encode_utf8_all}
 use Rattle.std.proofs.lemmas.Bool.{cases_Bool, and_parts, leb-true, true≢false}
 use Rattle.std.proofs.lemmas.Grind.{flat_map-append}
+use Rattle.std.proofs.lemmas.List.Folds.{list_all-append}
 use Rattle.std.proofs.lemmas.List.{append-nil}
 use Rattle.std.proofs.lemmas.Str.{encode_ascii, encodes-append, inside_one}
 use Rattle.memchr.specs.Find.{is_byte3}
 use Rattle.esc_html.specs.Classes.{class_names}
-use Rattle.esc_html.specs.Pieces.{Piece, text, span, span_end, link, link_end, encoded, escape, escape_value, html_text, piece_text, reference_text, is_kept}
-use Rattle.esc_html.proofs.EscapedRuns.{is_small, escape_none, mark_small}
-use Rattle.esc_html.proofs.Reading.{is_name_char, names_plain}
+use Rattle.esc_html.specs.Colors.{color_code, is_small}
+use Rattle.esc_html.specs.Looks.{look_classes, look_styles, present}
+use Rattle.esc_html.specs.Styles.{styles_text}
+use Rattle.esc_html.specs.declared.class.Class.{Class}
+use Rattle.esc_html.specs.declared.style.Style.{Style}
+use Rattle.esc_html.specs.Pieces.{Piece, text, span, span_end, link, link_end, encoded, escape, escape_text, escape_value, needs_reference, html_text, piece_text, reference_text, is_kept, attribute_text, attributes_text, class_attribute, style_attribute}
+use Rattle.esc_html.proofs.EscapedRuns.{escape_none, mark_small}
+use Rattle.esc_html.proofs.Reading.{code_plain, is_name_char, names_plain, styles_plain}
 
 literal : (t : List ℕ) → list_all is_small t ≡ true → encode_utf8_all t ≡ t
 literal [] h = refl
@@ -46,6 +52,20 @@ escape_one mark c small =
           true≢false (sym p ∙ ap (is_byte3 0x26 0x3c mark) (sym same) ∙ failed)))
     ]
 
+-- what a character is written as
+pub referenced : (c : ℕ) → needs_reference c ≡ true
+    → reference_text c ≡ flat_map escape_text (encode_utf8 c)
+referenced c h =
+    let is : escape 0x3e c ≡ reference_text c = rw h refl in
+    sym (reference_plain c) ∙ ap encode_utf8_all (sym is) ∙ escape_one 0x3e c (omega arith)
+
+pub unreferenced : (c : ℕ) → needs_reference c ≡ false
+    → encode_utf8 c ≡ flat_map escape_text (encode_utf8 c)
+unreferenced c h =
+    let is : escape 0x3e c ≡ c ∷ [] = rw h refl in
+    sym (append-nil (encode_utf8 c)) ∙ ap encode_utf8_all (sym is)
+    ∙ escape_one 0x3e c (omega arith)
+
 escape_all : (mark : ℕ) (t : List ℕ) → mark < 128
     → encode_utf8_all (flat_map (escape mark) t) ≡ flat_map (escape mark) (encode_utf8_all t)
 escape_all mark [] small = refl
@@ -55,13 +75,16 @@ escape_all mark (c ∷ t) small =
     ∙ ap (λ y. flat_map (escape mark) (encode_utf8 c) ++ y) (escape_all mark t small)
     ∙ sym (flat_map-append (escape mark) (encode_utf8 c) (encode_utf8_all t))
 
-name_small : (x : List ℕ) → list_all is_name_char x ≡ true → list_all is_small x ≡ true
+pub name_small : (x : List ℕ) → list_all is_name_char x ≡ true → list_all is_small x ≡ true
 name_small [] h = refl
 name_small (c ∷ x) h =
     let q = and_parts (is_name_char c) (list_all is_name_char x) h in
     let k = and_parts (is_kept c) (not (c == 0x22) && (not (c == 0x26) && nat_le c 127)) q.0 in
     let o = and_parts (not (c == 0x22)) (not (c == 0x26) && nat_le c 127) k.1 in
     rw ((and_parts (not (c == 0x26)) (nat_le c 127) o.1).1, name_small x q.1) refl
+
+pub code_small : (c : ℕ × ℕ × ℕ) → list_all is_small (color_code c) ≡ true
+code_small c = name_small (color_code c) (code_plain c)
 
 -- a tag around a value
 around : (l x y t : List ℕ) → list_all is_small l ≡ true → list_all is_small t ≡ true
@@ -71,11 +94,47 @@ around l x y t h k e =
     ∙ ap (λ z. l ++ z) (encodes-append x t ∙ ap (λ z. z ++ encode_utf8_all t) e
     ∙ ap (λ z. y ++ z) (literal t k))
 
+-- ---- spans
+
+quoted_small : (v : List ℕ) → list_all is_name_char v ≡ true
+    → list_all is_small (v ++ codes "\"") ≡ true
+quoted_small v h = rw (list_all-append is_small v (codes "\""), name_small v h) refl
+
+classes_small : (cs : List Class)
+    → list_all is_small (attributes_text (class_attribute cs)) ≡ true
+classes_small [] = refl
+classes_small (c ∷ cs) =
+    let v = class_names (c ∷ cs) in
+    ap (λ x. list_all is_small (codes " class=\"" ++ x)) (append-nil (v ++ codes "\""))
+    ∙ quoted_small v (names_plain (c ∷ cs))
+
+styles_small : (ss : List Style)
+    → list_all is_small (attributes_text (style_attribute ss)) ≡ true
+styles_small [] = refl
+styles_small (s ∷ ss) =
+    let v = styles_text (s ∷ ss) in
+    ap (λ x. list_all is_small (codes " style=\"" ++ x)) (append-nil (v ++ codes "\""))
+    ∙ quoted_small v (styles_plain (s ∷ ss))
+
+span_small : (cs : List Class) (ss : List Style)
+    → list_all is_small
+    (codes "<span" ++ (attributes_text (class_attribute cs ++ style_attribute ss) ++ codes ">"))
+    ≡ true
+span_small cs ss =
+    rw (
+      flat_map-append attribute_text (class_attribute cs) (style_attribute ss),
+      list_all-append is_small (attributes_text (class_attribute cs)
+          ++ attributes_text (style_attribute ss)) (codes ">"),
+      list_all-append is_small (attributes_text (class_attribute cs))
+          (attributes_text (style_attribute ss)),
+      classes_small cs,
+      styles_small ss,
+    ) refl
+
 piece_encoded : (p : Piece) → encode_utf8_all (piece_text p) ≡ piece_text (encoded p)
 piece_encoded (text t) = escape_all 0x3e t (omega arith)
-piece_encoded (span cs) =
-    around (codes "<span class=\"") (class_names cs) (class_names cs) (codes "\">") refl refl
-    (literal (class_names cs) (name_small (class_names cs) (names_plain cs)))
+piece_encoded (span l) =
+    literal (piece_text (span l)) (span_small (present (look_classes l)) (present (look_styles l)))
 piece_encoded span_end = literal (codes "</span>") refl
 piece_encoded (link a) =
     around (codes "<a href=\"") (flat_map escape_value a)

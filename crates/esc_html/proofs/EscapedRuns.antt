@@ -1,5 +1,5 @@
 -- What is written run by run is written character by character.
-use Rattle.std.proofs.Common.{ℕ, zero, suc, nat_le, ◌≡◌, ◌≤◌, ◌<◌, ◌+◌, Bool, true, if◌then◌else◌, List, [], ◌∷◌, ◌++◌, length, take, drop, get_or, Result, Ok, Err, is_ok, OnOk, Some, refl, ap, sym, ◌∙◌, subst, append_assoc, arith}
+use Rattle.std.proofs.Common.{ℕ, zero, suc, ◌≡◌, ◌≤◌, ◌<◌, ◌+◌, true, if◌then◌else◌, List, [], ◌∷◌, ◌++◌, length, take, drop, get_or, Result, Ok, Err, is_ok, OnOk, Some, refl, ap, sym, ◌∙◌, subst, append_assoc, arith}
 use Rattle.std.specs.List.{flat_map, list_all}
 use Rattle.std.specs.Str.{IsUtf8}
 use Rattle.std.specs.String.Boundary.{IsSplitPoint}
@@ -9,6 +9,7 @@ use Rattle.std.proofs.lemmas.Bool.Decides.{nat_tests}
 use Rattle.std.proofs.lemmas.List.{append-nil, length-append}
 use Rattle.std.proofs.lemmas.Str.{IsUtf8-append, IsUtf8-nil, IsUtf8-from_ascii, IsCharBoundary-from_drop}
 use Rattle.memchr.specs.Find.{is_byte3, IsFirstByte}
+use Rattle.esc_html.specs.Colors.{is_small}
 use Rattle.esc_html.specs.Growing.{Grows}
 use Rattle.esc_html.specs.Pieces.{escape, reference_text}
 
@@ -105,9 +106,6 @@ nothing_left [] h = refl
 nothing_left (x ∷ xs) h = absurd (omega arith)
 
 -- ---- literals and tags
-
-abbrev pub is_small : ℕ → Bool
-is_small c = nat_le c 127
 
 small_at : (t : List ℕ) → list_all is_small t ≡ true → (i : ℕ) → get_or t i 0 < 128
 small_at [] h i = omega arith

@@ -1,5 +1,9 @@
+pub mod Attributes
 pub mod Encoded
 pub mod EscapedRuns
+pub mod Fed
 pub mod Listing
-pub mod Names
+pub mod Pages
 pub mod Reading
+pub mod Safe
+pub mod Whole

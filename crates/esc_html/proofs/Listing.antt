@@ -3,9 +3,8 @@ use Rattle.std.proofs.Common.{ℕ, ◌≡◌, ◌&&◌, not, true, inl, inr, Lis
 use Rattle.std.specs.List.{All, list_all}
 use Rattle.std.proofs.lemmas.Bool.{and_parts}
 use Rattle.std.proofs.lemmas.List.Elements.{All-append, All-cons, All-nil}
-use Rattle.esc_html.specs.Classes.{class_names}
 use Rattle.esc_html.specs.Listed.{IsListed, closes, has_open_link, is_safe_piece}
-use Rattle.esc_html.specs.Pieces.{Open, Piece, text, span, span_end, link, link_end, open_span, open_link, html_text, is_kept_piece, has_link, nests, piece_tokens, tokens_of}
+use Rattle.esc_html.specs.Pieces.{Open, Piece, text, span, span_end, link, link_end, open_span, open_link, html_text, is_kept_piece, has_link, nests, piece_tokens, span_attributes, tokens_of}
 use Rattle.esc_html.specs.Tokens.{Token, character, start_tag, end_tag, tokens}
 use Rattle.esc_html.proofs.Reading.{pieces_read_back}
 
@@ -19,9 +18,8 @@ one_listed t h = All-cons IsListed t [] h (All-nil IsListed)
 
 piece_listed : (p : Piece) → is_safe_piece p ≡ true → All IsListed (piece_tokens p)
 piece_listed (text t) h = characters_listed t
-piece_listed (span cs) h =
-    one_listed (start_tag (codes "span") ((codes "class", class_names cs) ∷ []))
-    (inl (refl, (cs, refl)))
+piece_listed (span l) h =
+    one_listed (start_tag (codes "span") (span_attributes l)) (inl (refl, (l, refl)))
 piece_listed span_end h = one_listed (end_tag (codes "span")) (inl refl)
 piece_listed (link a) h =
     one_listed (start_tag (codes "a")
@@ -76,8 +74,8 @@ all_close (o ∷ os) [] h = absurd cc
 all_close [] (text t ∷ ps) h = past_text [] t (tokens_of ps) ∙ all_close [] ps h
 all_close (o ∷ os) (text t ∷ ps) h =
     past_text (map name_of (o ∷ os)) t (tokens_of ps) ∙ all_close (o ∷ os) ps h
-all_close [] (span cs ∷ ps) h = all_close (open_span ∷ []) ps h
-all_close (o ∷ os) (span cs ∷ ps) h = all_close (open_span ∷ o ∷ os) ps h
+all_close [] (span l ∷ ps) h = all_close (open_span ∷ []) ps h
+all_close (o ∷ os) (span l ∷ ps) h = all_close (open_span ∷ o ∷ os) ps h
 all_close [] (link a ∷ ps) h = link_begins [] ps h (all_close (open_link ∷ []) ps)
 all_close (o ∷ os) (link a ∷ ps) h =
     link_begins (o ∷ os) ps h (all_close (open_link ∷ o ∷ os) ps)

@@ -1,16 +1,23 @@
 -- The tokenizer reads the text of pieces as their tokens.
-use Rattle.std.proofs.Common.{ℕ, ◌≡◌, Bool, true, false, not, nat_le, ◌&&◌, ◌||◌, ◌==◌, if◌then◌else◌, inl, inr, List, [], ◌∷◌, ◌++◌, codes, map, refl, ap, sym, ◌∙◌, append_assoc}
+use Rattle.std.proofs.Common.{ℕ, ◌≡◌, ◌<◌, ◌/◌, ◌%◌, Bool, true, false, not, nat_le, ◌&&◌, ◌||◌, ◌==◌, if◌then◌else◌, inl, inr, List, [], ◌∷◌, ◌++◌, codes, map, refl, ap, sym, ◌∙◌, append_assoc, arith}
 use Rattle.std.specs.List.{flat_map, list_all}
+use Rattle.std.proofs.lemmas.Bool.Decides.{nat_tests}
+use Rattle.std.proofs.lemmas.Grind.{flat_map-append}
 use Rattle.std.proofs.lemmas.Bool.{eqb-true, cases_Bool, and_parts, not-true}
 use Rattle.std.proofs.lemmas.List.Folds.{list_all-append}
 use Rattle.std.proofs.lemmas.List.{append-nil}
 use Rattle.esc_typed.specs.declared.ansi_color.AnsiColor.{AnsiColor}
 use Rattle.esc_typed.specs.declared.ansi_color.AnsiColor.TheVariants as ansi
 use Rattle.esc_html.specs.Classes.{class_name, color_name, more_names, class_names}
-use Rattle.esc_html.specs.Pieces.{Piece, text, span, span_end, link, link_end, escape, escape_text, escape_value, piece_text, html_text, piece_tokens, tokens_of, is_kept, is_kept_piece}
-use Rattle.esc_html.specs.Tokens.{Tag, character, data_state, value, tokens_from, normalized, tokens}
+use Rattle.esc_html.specs.Colors.{color_code, hex_byte, hex_digit}
+use Rattle.esc_html.specs.Looks.{look_classes, look_styles, present}
+use Rattle.esc_html.specs.Styles.{style_color, style_property, style_text, styles_text}
+use Rattle.esc_html.specs.declared.style.Style.{Style}
+use Rattle.esc_html.specs.declared.style.Style.TheVariants as style
+use Rattle.esc_html.specs.Pieces.{Piece, text, span, span_end, link, link_end, escape, escape_text, escape_value, piece_text, html_text, piece_tokens, tokens_of, is_kept, is_kept_piece, attribute_text, attributes_text, class_attribute, style_attribute}
+use Rattle.esc_html.specs.Tokens.{Tag, character, start_tag, data_state, value, after_value, with_attribute, tokens_from, normalized, tokens}
 use Rattle.esc_html.specs.declared.class.Class.{Class}
-use Rattle.esc_html.specs.declared.class.Class.TheVariants.{Background, Blink, Bold, Concealed, CurlyUnderline, DashedUnderline, DottedUnderline, DoubleUnderline, Faint, Foreground, Inverse, Italic, Overline, Strikethrough, Underline}
+use Rattle.esc_html.specs.declared.class.Class.TheVariants.{Background, Blink, Bold, Concealed, CurlyUnderline, DashedUnderline, DottedUnderline, DoubleUnderline, Faint, Foreground, Inverse, Italic, Overline, Strikethrough, Underline, UnderlineColor}
 
 -- ---- text
 
@@ -116,6 +123,7 @@ name_plain Strikethrough = refl
 name_plain Overline = refl
 name_plain (Foreground c) = color_plain c
 name_plain (Background c) = color_plain c
+name_plain (UnderlineColor c) = color_plain c
 
 more_plain : (cs : List Class) → list_all is_name_char (more_names cs) ≡ true
 more_plain [] = refl
@@ -129,19 +137,103 @@ names_plain (c ∷ cs) =
     rw (list_all-append is_name_char (class_name c) (more_names cs), name_plain c, more_plain cs)
     refl
 
--- ---- pieces
+-- ---- styles
+
+hex_plain : (n : ℕ) → n < 16 → is_name_char (hex_digit n) ≡ true
+hex_plain n h = grind (arith, nat_tests)
+
+byte_plain : (n : ℕ) → list_all is_name_char (hex_byte n) ≡ true
+byte_plain n =
+    rw (hex_plain (n / 16 % 16) (omega arith), hex_plain (n % 16) (omega arith)) refl
+
+pub code_plain : (c : ℕ × ℕ × ℕ) → list_all is_name_char (color_code c) ≡ true
+code_plain c =
+    rw (
+      list_all-append is_name_char (hex_byte c.0) (hex_byte c.1 ++ (hex_byte c.2 ++ 0x3b ∷ [])),
+      list_all-append is_name_char (hex_byte c.1) (hex_byte c.2 ++ 0x3b ∷ []),
+      list_all-append is_name_char (hex_byte c.2) (0x3b ∷ []),
+      byte_plain c.0,
+      byte_plain c.1,
+      byte_plain c.2,
+    ) refl
+
+property_plain : (s : Style) → list_all is_name_char (style_property s) ≡ true
+property_plain (style.Color r g b) = refl
+property_plain (style.BackgroundColor r g b) = refl
+property_plain (style.TextDecorationColor r g b) = refl
+
+style_plain : (s : Style) → list_all is_name_char (style_text s) ≡ true
+style_plain s =
+    rw (
+      list_all-append is_name_char (style_property s) (color_code (style_color s)),
+      property_plain s,
+      code_plain (style_color s),
+    ) refl
+
+pub styles_plain : (ss : List Style) → list_all is_name_char (styles_text ss) ≡ true
+styles_plain [] = refl
+styles_plain (s ∷ ss) =
+    rw (
+      list_all-append is_name_char (style_text s) (styles_text ss),
+      style_plain s,
+      styles_plain ss,
+    ) refl
+
+-- ---- spans
 
 abbrev begun : List ℕ → Tag
 begun n = record { is_end = false; name = n; attributes = [] }
 
+value_reads : (t : Tag) (n v r : List ℕ) → list_all is_name_char v ≡ true
+    → tokens_from (value t n []) (v ++ (0x22 ∷ r))
+    ≡ tokens_from (after_value (with_attribute t n v)) r
+value_reads t n v r h = name_chars t n [] v (0x22 ∷ r) h
+
+regrouped : (v a g r : List ℕ)
+    → (((v ++ codes "\"") ++ a) ++ g) ++ r ≡ v ++ (0x22 ∷ (a ++ (g ++ r)))
+regrouped v a g r =
+    append_assoc ((v ++ codes "\"") ++ a) g r
+    ∙ append_assoc (v ++ codes "\"") a (g ++ r)
+    ∙ append_assoc v (codes "\"") (a ++ (g ++ r))
+
+-- the value of a last attribute
+last_reads : (t : Tag) (n v r : List ℕ) → list_all is_name_char v ≡ true
+    → tokens_from (value t n []) ((((v ++ codes "\"") ++ []) ++ codes ">") ++ r)
+    ≡ tokens_from (after_value (with_attribute t n v)) (0x3e ∷ r)
+last_reads t n v r h =
+    ap (tokens_from (value t n [])) (regrouped v [] (codes ">") r) ∙ value_reads t n v (0x3e ∷ r) h
+
+span_reads : (cs : List Class) (ss : List Style) (r : List ℕ)
+    → tokens_from data_state
+    ((codes "<span" ++ (attributes_text (class_attribute cs ++ style_attribute ss) ++ codes ">"))
+    ++ r)
+    ≡ start_tag (codes "span") (class_attribute cs ++ style_attribute ss)
+    ∷ tokens_from data_state r
+span_reads [] [] r = refl
+span_reads (c ∷ cs) [] r =
+    last_reads (begun (codes "span")) (codes "class") (class_names (c ∷ cs)) r
+    (names_plain (c ∷ cs))
+span_reads [] (s ∷ ss) r =
+    last_reads (begun (codes "span")) (codes "style") (styles_text (s ∷ ss)) r
+    (styles_plain (s ∷ ss))
+span_reads (c ∷ cs) (s ∷ ss) r =
+    let t = begun (codes "span") in
+    let v = class_names (c ∷ cs) in
+    ap (tokens_from (value t (codes "class") []))
+    (regrouped v (attributes_text (style_attribute (s ∷ ss))) (codes ">") r)
+    ∙ value_reads t (codes "class") v
+    (attributes_text (style_attribute (s ∷ ss)) ++ (codes ">" ++ r)) (names_plain (c ∷ cs))
+    ∙ ap (tokens_from (value (with_attribute t (codes "class") v) (codes "style") []))
+    (sym (append_assoc ((styles_text (s ∷ ss) ++ codes "\"") ++ []) (codes ">") r))
+    ∙ last_reads (with_attribute t (codes "class") v) (codes "style") (styles_text (s ∷ ss)) r
+    (styles_plain (s ∷ ss))
+
+-- ---- pieces
+
 piece_reads : (p : Piece) (r : List ℕ) → is_kept_piece p ≡ true
     → tokens_from data_state (piece_text p ++ r) ≡ piece_tokens p ++ tokens_from data_state r
 piece_reads (text t) r h = text_chars t r
-piece_reads (span cs) r h =
-    ap (tokens_from (value (begun (codes "span")) (codes "class") []))
-    (append_assoc (class_names cs) (codes "\">") r)
-    ∙ name_chars (begun (codes "span")) (codes "class") [] (class_names cs) (codes "\">" ++ r)
-    (names_plain cs)
+piece_reads (span l) r h = span_reads (present (look_classes l)) (present (look_styles l)) r
 piece_reads span_end r h = refl
 piece_reads (link a) r h =
     ap (tokens_from (value (begun (codes "a")) (codes "href") []))
@@ -193,13 +285,44 @@ name_kept (c ∷ x) h =
     let k = and_parts (is_kept c) (not (c == 0x22) && (not (c == 0x26) && nat_le c 127)) q.0 in
     rw (k.0, name_kept x q.1) refl
 
+quoted_kept : (v : List ℕ) → list_all is_name_char v ≡ true
+    → list_all is_kept (v ++ codes "\"") ≡ true
+quoted_kept v h = rw (list_all-append is_kept v (codes "\""), name_kept v h) refl
+
+classes_kept : (cs : List Class)
+    → list_all is_kept (attributes_text (class_attribute cs)) ≡ true
+classes_kept [] = refl
+classes_kept (c ∷ cs) =
+    let v = class_names (c ∷ cs) in
+    ap (λ x. list_all is_kept (codes " class=\"" ++ x)) (append-nil (v ++ codes "\""))
+    ∙ quoted_kept v (names_plain (c ∷ cs))
+
+styles_kept : (ss : List Style)
+    → list_all is_kept (attributes_text (style_attribute ss)) ≡ true
+styles_kept [] = refl
+styles_kept (s ∷ ss) =
+    let v = styles_text (s ∷ ss) in
+    ap (λ x. list_all is_kept (codes " style=\"" ++ x)) (append-nil (v ++ codes "\""))
+    ∙ quoted_kept v (styles_plain (s ∷ ss))
+
+span_kept : (cs : List Class) (ss : List Style)
+    → list_all is_kept
+    (codes "<span" ++ (attributes_text (class_attribute cs ++ style_attribute ss) ++ codes ">"))
+    ≡ true
+span_kept cs ss =
+    rw (
+      flat_map-append attribute_text (class_attribute cs) (style_attribute ss),
+      list_all-append is_kept (attributes_text (class_attribute cs)
+          ++ attributes_text (style_attribute ss)) (codes ">"),
+      list_all-append is_kept (attributes_text (class_attribute cs))
+          (attributes_text (style_attribute ss)),
+      classes_kept cs,
+      styles_kept ss,
+    ) refl
+
 piece_kept : (p : Piece) → is_kept_piece p ≡ true → list_all is_kept (piece_text p) ≡ true
 piece_kept (text t) h = all_joined escape_text is_kept (kept_escaped 0x3e) t h
-piece_kept (span cs) h =
-    rw (
-      list_all-append is_kept (class_names cs) (codes "\">"),
-      name_kept (class_names cs) (names_plain cs),
-    ) refl
+piece_kept (span l) h = span_kept (present (look_classes l)) (present (look_styles l))
 piece_kept span_end h = refl
 piece_kept (link a) h =
     rw (

@@ -3,7 +3,7 @@ use Rattle.std.specs.Prelude.{ℕ, Bool, if◌then◌else◌, List, [], ◌∷�
 use Rattle.esc_typed.specs.declared.ansi_color.AnsiColor.{AnsiColor}
 use Rattle.esc_typed.specs.declared.ansi_color.AnsiColor.TheVariants as ansi
 use Rattle.esc_html.specs.declared.class.Class.{Class}
-use Rattle.esc_html.specs.declared.class.Class.TheVariants.{Background, Blink, Bold, Concealed, CurlyUnderline, DashedUnderline, DottedUnderline, DoubleUnderline, Faint, Foreground, Inverse, Italic, Overline, Strikethrough, Underline}
+use Rattle.esc_html.specs.declared.class.Class.TheVariants.{Background, Blink, Bold, Concealed, CurlyUnderline, DashedUnderline, DottedUnderline, DoubleUnderline, Faint, Foreground, Inverse, Italic, Overline, Strikethrough, Underline, UnderlineColor}
 
 -- a colour that has a name
 abbrev pub color_name : AnsiColor → List ℕ
@@ -24,12 +24,15 @@ color_name ansi.BrightMagenta = codes "bright-magenta"
 color_name ansi.BrightCyan = codes "bright-cyan"
 color_name ansi.BrightWhite = codes "bright-white"
 
--- the class of a colour of characters, and of what is around them
+-- the class of a colour of characters, of what is around them, and of their underline
 abbrev pub foreground_name : AnsiColor → List ℕ
 foreground_name c = codes "fg-" ++ color_name c
 
 abbrev pub background_name : AnsiColor → List ℕ
 background_name c = codes "bg-" ++ color_name c
+
+abbrev pub underline_color_name : AnsiColor → List ℕ
+underline_color_name c = codes "ul-" ++ color_name c
 
 abbrev pub class_name : Class → List ℕ
 class_name Bold = codes "bold"
@@ -47,6 +50,7 @@ class_name Strikethrough = codes "strikethrough"
 class_name Overline = codes "overline"
 class_name (Foreground c) = foreground_name c
 class_name (Background c) = background_name c
+class_name (UnderlineColor c) = underline_color_name c
 
 -- a name that comes next: the first as it is, and any other after a space
 abbrev pub next_name : Bool → Class → List ℕ

@@ -1,6 +1,14 @@
 pub mod Classes
+pub mod Colors
+pub mod Styles
+pub mod Looks
+pub mod Attributes
 pub mod Tokens
 pub mod Pieces
 pub mod Growing
 pub mod Addresses
 pub mod Listed
+pub mod Marks
+pub mod Pages
+pub mod Shown
+pub mod Fed

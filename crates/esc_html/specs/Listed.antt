@@ -2,15 +2,13 @@
 use Rattle.std.specs.Prelude.{ℕ, ◌≡◌, ◌⊎◌, Bool, true, false, not, ◌&&◌, ◌||◌, List, [], ◌∷◌, codes}
 use Rattle.std.specs.Str.{bytes_eq}
 use Rattle.esc_html.specs.Addresses.{is_safe_address}
-use Rattle.esc_html.specs.Classes.{class_names}
-use Rattle.esc_html.specs.Pieces.{Piece, text, span, span_end, link, link_end}
+use Rattle.esc_html.specs.Pieces.{Piece, text, span, span_attributes, span_end, link, link_end}
 use Rattle.esc_html.specs.Tokens.{Token, character, start_tag, end_tag, stray}
-use Rattle.esc_html.specs.declared.class.Class.{Class}
+use Rattle.esc_html.specs.declared.look.Look.{Look}
 
--- a span with names of the list of classes alone
+-- a span of a look: names of the list of classes, and colours by numbers, alone
 abbrev pub IsSpan : List ℕ → List (List ℕ × List ℕ) → Type 0
-IsSpan n attributes = (n ≡ codes "span")
-    × ((cs : List Class) × (attributes ≡ (codes "class", class_names cs) ∷ []))
+IsSpan n attributes = (n ≡ codes "span") × ((l : Look) × (attributes ≡ span_attributes l))
 
 -- a link to a safe address, which says nothing of this page to the one that it leads to
 abbrev pub IsLink : List ℕ → List (List ℕ × List ℕ) → Type 0
@@ -27,7 +25,7 @@ IsListed stray = ⊥
 -- a link of the piece leads to a safe address
 abbrev pub is_safe_piece : Piece → Bool
 is_safe_piece (text t) = true
-is_safe_piece (span cs) = true
+is_safe_piece (span l) = true
 is_safe_piece span_end = true
 is_safe_piece (link a) = is_safe_address a
 is_safe_piece link_end = true

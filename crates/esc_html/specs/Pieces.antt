@@ -4,14 +4,18 @@ use Rattle.std.specs.Prelude.{ℕ, ◌==◌, Bool, true, false, not, ◌&&◌, �
 use Rattle.std.specs.List.{flat_map, list_all}
 use Rattle.std.specs.Str.{encode_utf8_all}
 use Rattle.esc_html.specs.Classes.{class_names}
+use Rattle.esc_html.specs.Looks.{look_classes, look_styles, present}
+use Rattle.esc_html.specs.Styles.{styles_text}
 use Rattle.esc_html.specs.Tokens.{Token, character, start_tag, end_tag}
 use Rattle.esc_html.specs.declared.class.Class.{Class}
+use Rattle.esc_html.specs.declared.look.Look.{Look}
+use Rattle.esc_html.specs.declared.style.Style.{Style}
 
 pub data Piece : Type 0 where
   -- characters
   text : List ℕ → Piece
-  -- a span of these classes begins
-  span : List Class → Piece
+  -- a span of this look begins
+  span : Look → Piece
   -- it ends
   span_end : Piece
   -- a link to this address begins
@@ -31,6 +35,9 @@ abbrev pub escape : ℕ → ℕ → List ℕ
 escape mark c = if c == 0x26 || c == 0x3c || c == mark then reference_text c else c ∷ []
 
 -- in text: `>` too (13.3, escaping a string)
+abbrev pub needs_reference : ℕ → Bool
+needs_reference c = c == 0x26 || c == 0x3c || c == 0x3e
+
 abbrev pub escape_text : ℕ → List ℕ
 escape_text c = escape 0x3e c
 
@@ -38,10 +45,30 @@ escape_text c = escape 0x3e c
 abbrev pub escape_value : ℕ → List ℕ
 escape_value c = escape 0x22 c
 
+-- the attributes of a span: its classes where there are some, and its styles where there are some
+abbrev pub class_attribute : List Class → List (List ℕ × List ℕ)
+class_attribute [] = []
+class_attribute (c ∷ cs) = (codes "class", class_names (c ∷ cs)) ∷ []
+
+abbrev pub style_attribute : List Style → List (List ℕ × List ℕ)
+style_attribute [] = []
+style_attribute (s ∷ ss) = (codes "style", styles_text (s ∷ ss)) ∷ []
+
+abbrev pub span_attributes : Look → List (List ℕ × List ℕ)
+span_attributes l = class_attribute (present (look_classes l))
+    ++ style_attribute (present (look_styles l))
+
+-- attributes in a tag, each after a space
+abbrev pub attribute_text : List ℕ × List ℕ → List ℕ
+attribute_text a = 0x20 ∷ (a.0 ++ (codes "=\"" ++ (a.1 ++ codes "\"")))
+
+abbrev pub attributes_text : List (List ℕ × List ℕ) → List ℕ
+attributes_text xs = flat_map attribute_text xs
+
 -- what a piece is written as
 abbrev pub piece_text : Piece → List ℕ
 piece_text (text t) = flat_map escape_text t
-piece_text (span cs) = codes "<span class=\"" ++ (class_names cs ++ codes "\">")
+piece_text (span l) = codes "<span" ++ (attributes_text (span_attributes l) ++ codes ">")
 piece_text span_end = codes "</span>"
 piece_text (link a) =
     codes "<a href=\"" ++ (flat_map escape_value a ++ codes "\" rel=\"noopener noreferrer\">")
@@ -53,7 +80,7 @@ html_text ps = flat_map piece_text ps
 -- the tokens that a piece is
 abbrev pub piece_tokens : Piece → List Token
 piece_tokens (text t) = map character t
-piece_tokens (span cs) = start_tag (codes "span") ((codes "class", class_names cs) ∷ []) ∷ []
+piece_tokens (span l) = start_tag (codes "span") (span_attributes l) ∷ []
 piece_tokens span_end = end_tag (codes "span") ∷ []
 piece_tokens (link a) = start_tag (codes "a")
     ((codes "href", a) ∷ (codes "rel", codes "noopener noreferrer") ∷ []) ∷ []
@@ -69,7 +96,7 @@ is_kept c = not (c == 0) && not (c == 0x0d)
 -- the characters of a piece are kept
 abbrev pub is_kept_piece : Piece → Bool
 is_kept_piece (text t) = list_all is_kept t
-is_kept_piece (span cs) = true
+is_kept_piece (span l) = true
 is_kept_piece span_end = true
 is_kept_piece (link a) = list_all is_kept a
 is_kept_piece link_end = true
@@ -100,7 +127,7 @@ nests _ _ = false
 -- a piece of characters as one of the bytes of their UTF-8
 abbrev pub encoded : Piece → Piece
 encoded (text t) = text (encode_utf8_all t)
-encoded (span cs) = span cs
+encoded (span l) = span l
 encoded span_end = span_end
 encoded (link a) = link (encode_utf8_all a)
 encoded link_end = link_end

@@ -1,6 +1,6 @@
 //! The classes of a span.
 ghost use Rattle.std.specs.Prelude.{◌≡◌};
-ghost use Rattle.esc_html.specs.Classes.{background_name, class_name, foreground_name};
+ghost use Rattle.esc_html.specs.Classes.{background_name, class_name, foreground_name, underline_color_name};
 
 use esc_typed::AnsiColor;
 
@@ -38,6 +38,8 @@ pub enum Class {
     Foreground(AnsiColor),
     /// SGR 40 to 47 and 100 to 107: the colour of what is around them.
     Background(AnsiColor),
+    /// `58;5;0` to `58;5;15`: the colour of the underline.
+    UnderlineColor(AnsiColor),
 }
 
 impl Class {
@@ -61,6 +63,7 @@ impl Class {
             Class::Overline => "overline",
             Class::Foreground(color) => foreground_name(color),
             Class::Background(color) => background_name(color),
+            Class::UnderlineColor(color) => underline_color_name(color),
         }
     }
 }
@@ -110,5 +113,29 @@ fn background_name(color: AnsiColor) -> &'static str
         AnsiColor::BrightMagenta => "bg-bright-magenta",
         AnsiColor::BrightCyan => "bg-bright-cyan",
         AnsiColor::BrightWhite => "bg-bright-white",
+    }
+}
+
+// The class of a colour of an underline.
+fn underline_color_name(color: AnsiColor) -> &'static str
+    ensures { result.now ≡ underline_color_name color }
+{
+    match color {
+        AnsiColor::Black => "ul-black",
+        AnsiColor::Red => "ul-red",
+        AnsiColor::Green => "ul-green",
+        AnsiColor::Yellow => "ul-yellow",
+        AnsiColor::Blue => "ul-blue",
+        AnsiColor::Magenta => "ul-magenta",
+        AnsiColor::Cyan => "ul-cyan",
+        AnsiColor::White => "ul-white",
+        AnsiColor::BrightBlack => "ul-bright-black",
+        AnsiColor::BrightRed => "ul-bright-red",
+        AnsiColor::BrightGreen => "ul-bright-green",
+        AnsiColor::BrightYellow => "ul-bright-yellow",
+        AnsiColor::BrightBlue => "ul-bright-blue",
+        AnsiColor::BrightMagenta => "ul-bright-magenta",
+        AnsiColor::BrightCyan => "ul-bright-cyan",
+        AnsiColor::BrightWhite => "ul-bright-white",
     }
 }

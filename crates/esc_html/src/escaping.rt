@@ -1,8 +1,9 @@
 //! Characters that would begin or end markup, as character references.
 ghost use Rattle.std.specs.Prelude.{◌≡◌, ◌<◌, ◌++◌, OnOk, OnErr, string_bytes};
+ghost use Rattle.std.specs.Char.{encode_utf8};
 ghost use Rattle.std.specs.List.{flat_map};
 ghost use Rattle.esc_html.specs.Growing.{Grows};
-ghost use Rattle.esc_html.specs.Pieces.{escape, reference_text};
+ghost use Rattle.esc_html.specs.Pieces.{escape, escape_text, needs_reference, reference_text};
 ghost use Rattle.memory.specs.Refusals.{Refused};
 
 use memchr::memchr3;
@@ -27,6 +28,38 @@ pub(crate) fn push_escaped<A: Allocator>(
         rest = &rest[at + 1..];
     }
     memory::push_str(html, rest)
+}
+
+// Appends a character, as text.
+pub(crate) fn push_char<A: Allocator>(html: &mut String<A>, c: char) -> Result<(), AllocError>
+    ensures ok { OnOk result (string_bytes html.new
+        ≡ string_bytes html.old ++ flat_map escape_text (encode_utf8 c)) }
+    ensures refused { OnErr result (Refused A) }
+{
+    if needs_reference(c) {
+        memory::push_str(html, char_reference(c))
+    } else {
+        memory::push_char(html, c)
+    }
+}
+
+// Whether it is one of `&`, `<` and `>`.
+fn needs_reference(c: char) -> bool
+    ensures { result ≡ needs_reference c }
+{
+    c == '&' || c == '<' || c == '>'
+}
+
+// Its character reference.
+fn char_reference(c: char) -> &'static str
+    ensures { result.now ≡ reference_text c }
+{
+    match c {
+        '&' => "&amp;",
+        '<' => "&lt;",
+        '>' => "&gt;",
+        _ => "&quot;",
+    }
 }
 
 // The character reference of one of `&`, `<`, `>` and `"`.

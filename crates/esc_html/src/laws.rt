@@ -1,10 +1,15 @@
 //! The laws of what is written.
-ghost use Rattle.std.specs.Prelude.{◌≡◌, List, [], map, true};
+ghost use Rattle.std.specs.Prelude.{◌≡◌, ◌++◌, ℕ, Bool, List, [], Option, map, true};
 ghost use Rattle.std.specs.List.{All, list_all};
 ghost use Rattle.std.specs.Str.{encode_utf8_all};
 ghost use Rattle.esc_html.specs.Listed.{IsListed, closes, is_safe_piece};
 ghost use Rattle.esc_html.specs.Pieces.{Piece, encoded, html_text, is_kept_piece, nests, tokens_of};
+ghost use Rattle.esc_html.specs.Pages.{closing_text, page_text};
+ghost use Rattle.esc_html.specs.Shown.{IsPage};
 ghost use Rattle.esc_html.specs.Tokens.{tokens};
+
+use esc_actions::laws::handed_out;
+use std::alloc::Allocator;
 
 /// A browser's tokenizer reads the text of pieces as exactly their tokens: characters never become
 /// a tag, and an address never leaves its attribute. The characters and addresses may be any, but
@@ -32,3 +37,15 @@ pub fn pieces_close()
 pub fn pieces_encoded()
     ensures { (ps : List Piece) → encode_utf8_all (html_text ps) ≡ html_text (map encoded ps) }
 {}
+
+/// Of any stream, what an [`HtmlWriter`](crate::HtmlWriter) hands out for its pieces and what
+/// closes it are a page: a browser's tokenizer reads nothing but characters, spans and links to
+/// safe addresses; all tags are closed; and it shows exactly the characters of the stream, each in
+/// the elements of its look and its link. It holds for every allocator `A`, which the type of the
+/// actions names.
+pub fn streams_are_pages<A: Allocator>()
+    ensures { (limit : Option ℕ) (per_line : Bool) (s : List ℕ) → IsPage A limit per_line s
+        (page_text A limit per_line s ++ closing_text A limit per_line s) }
+{
+    handed_out::<A>();
+}

@@ -1,19 +1,38 @@
-//! Text as HTML that cannot come alive in a page (WHATWG HTML,
+//! Streams as HTML that cannot come alive in a page (WHATWG HTML,
 //! <https://html.spec.whatwg.org/multipage/parsing.html#tokenization>).
 //!
-//! What is written is the text of pieces: runs of characters, spans with class names of a fixed
-//! list, and links. The laws in [`laws`] say that a browser's tokenizer reads from it these pieces
-//! and nothing else, whatever the characters are.
+//! [`HtmlWriter`] takes a stream in pieces and gives the HTML of each: its characters, tabs and
+//! line feeds, in spans of their looks and in links to safe addresses.
+//!
+//! ```text
+//! let mut writer = HtmlWriter::new(alloc, 65_536, false);
+//! writer.feed(b"\x1b[1;31m<b>")?;
+//! writer.html()       // "<span class=\"bold fg-red\">&lt;b&gt;"
+//! writer.closing()    // "</span>"
+//! ```
+//!
+//! What is written is the text of pieces: runs of characters, spans whose classes are of a fixed
+//! list and whose styles are colours by numbers, and links. The laws in [`laws`] say that a
+//! browser's tokenizer reads from it these pieces and nothing else, whatever the stream is, and
+//! that the page shows exactly the characters of the stream with their looks and links.
 #![tactic(auto)]
 
 mod address;
 pub mod class;
+pub mod color;
 mod escaping;
+pub mod html_writer;
 pub mod laws;
-#[cfg(test)]
-mod tests;
+pub mod look;
+mod page;
+pub mod style;
+mod tag;
 mod writing;
 
 pub use address::is_safe_address;
 pub use class::Class;
+pub use color::Color;
+pub use html_writer::HtmlWriter;
+pub use look::Look;
+pub use style::Style;
 pub use writing::{close_link, close_span, open_link, open_span, push_text};

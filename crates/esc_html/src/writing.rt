@@ -1,13 +1,13 @@
 //! The text of pieces, one after another.
 ghost use Rattle.std.specs.Prelude.{◌≡◌, ◌++◌, OnOk, OnErr, string_bytes, true};
 ghost use Rattle.esc_html.specs.Addresses.{is_safe_address};
-ghost use Rattle.esc_html.specs.Classes.{class_names, next_name};
 ghost use Rattle.esc_html.specs.Growing.{Grows};
 ghost use Rattle.esc_html.specs.Pieces.{link, link_end, piece_text, span, span_end, text};
 ghost use Rattle.memory.specs.Refusals.{Refused};
 
-use crate::class::Class;
 use crate::escaping::push_escaped;
+use crate::look::Look;
+use crate::tag::push_span;
 use std::alloc::{AllocError, Allocator};
 
 /// Appends characters: `&`, `<` and `>` as character references, and any other as it is (WHATWG
@@ -28,16 +28,16 @@ pub fn push_text<A: Allocator>(html: &mut String<A>, more: &str) -> Result<(), A
     }
 }
 
-/// Begins a span of these classes. The error is that memory was refused, and the text stays as it
-/// was.
-pub fn open_span<A: Allocator>(html: &mut String<A>, classes: &[Class]) -> Result<(), AllocError>
+/// Begins a span of this look: its classes, and its colours that have no name as a style. The error
+/// is that memory was refused, and the text stays as it was.
+pub fn open_span<A: Allocator>(html: &mut String<A>, look: &Look) -> Result<(), AllocError>
     ensures ok { OnOk result (string_bytes html.new
-        ≡ string_bytes html.old ++ piece_text (span classes.now)) }
+        ≡ string_bytes html.old ++ piece_text (span look.now)) }
     ensures err { OnErr result (string_bytes html.new ≡ string_bytes html.old) }
     ensures refused { OnErr result (Refused A) }
 {
     let len = html.as_str().len();
-    match push_span(html, classes) {
+    match push_span(html, look) {
         Ok(()) => Ok(()),
         Err(error) => {
             html.truncate(len);
@@ -87,7 +87,7 @@ pub fn close_link<A: Allocator>(html: &mut String<A>) -> Result<(), AllocError>
 }
 
 // Begins a link; where memory is refused, a part of the tag may be written.
-fn push_link<A: Allocator>(html: &mut String<A>, address: &str) -> Result<(), AllocError>
+pub(crate) fn push_link<A: Allocator>(html: &mut String<A>, address: &str) -> Result<(), AllocError>
     ensures ok { OnOk result (string_bytes html.new
         ≡ string_bytes html.old ++ piece_text (link address.now)) }
     ensures grown { Grows (string_bytes html.old) (string_bytes html.new) }
@@ -96,47 +96,4 @@ fn push_link<A: Allocator>(html: &mut String<A>, address: &str) -> Result<(), Al
     memory::push_str(html, "<a href=\"")?;
     push_escaped(html, address, b'"')?;
     memory::push_str(html, "\" rel=\"noopener noreferrer\">")
-}
-
-// Begins a span; where memory is refused, a part of the tag may be written.
-fn push_span<A: Allocator>(html: &mut String<A>, classes: &[Class]) -> Result<(), AllocError>
-    ensures ok { OnOk result (string_bytes html.new
-        ≡ string_bytes html.old ++ piece_text (span classes.now)) }
-    ensures grown { Grows (string_bytes html.old) (string_bytes html.new) }
-    ensures refused { OnErr result (Refused A) }
-{
-    memory::push_str(html, "<span class=\"")?;
-    push_names(html, classes)?;
-    memory::push_str(html, "\">")
-}
-
-// The names of these classes, with a space between them.
-fn push_names<A: Allocator>(html: &mut String<A>, classes: &[Class]) -> Result<(), AllocError>
-    ensures ok { OnOk result (string_bytes html.new
-        ≡ string_bytes html.old ++ class_names classes.now) }
-    ensures grown { Grows (string_bytes html.old) (string_bytes html.new) }
-    ensures refused { OnErr result (Refused A) }
-{
-    for (index, class) in classes.iter().enumerate() {
-        push_name(html, index == 0, *class)?;
-    }
-    Ok(())
-}
-
-// The name of a class, and before it a space, but not before the first.
-fn push_name<A: Allocator>(
-    html: &mut String<A>,
-    first: bool,
-    class: Class,
-) -> Result<(), AllocError>
-    ensures ok { OnOk result (string_bytes html.new
-        ≡ string_bytes html.old ++ next_name first class) }
-    ensures grown { Grows (string_bytes html.old) (string_bytes html.new) }
-    ensures refused { OnErr result (Refused A) }
-{
-    if first {
-        return memory::push_str(html, class.name());
-    }
-    memory::push_str(html, " ")?;
-    memory::push_str(html, class.name())
 }

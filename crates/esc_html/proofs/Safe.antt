@@ -1,0 +1,224 @@
+-- The pieces of a stream are kept and safe.
+use Rattle.std.proofs.Common.{ℕ, suc, ◌≡◌, ◌<◌, ◌==◌, Bool, true, false, ◌&&◌, ◌||◌, if◌then◌else◌, inl, inr, List, [], ◌∷◌, ◌++◌, length, get_or, Option, Some, None, is_some, chars, refl, ap, sym, subst, ◌∙◌, append_assoc, arith}
+use Rattle.std.specs.Char.{encode_utf8}
+use Rattle.std.specs.List.{list_all}
+use Rattle.std.specs.Str.{IsUtf8, encode_utf8_all}
+use Rattle.std.proofs.lemmas.Bool.{and_parts, cases_Bool, true≢false}
+use Rattle.std.proofs.lemmas.Bool.Decides.{nat_tests}
+use Rattle.std.proofs.lemmas.List.{append-nil}
+use Rattle.std.proofs.lemmas.List.Folds.{list_all-append}
+use Rattle.std.proofs.lemmas.Str.{encodes-chars, inside_one}
+use Rattle.esc_actions.specs.ControlCodes.{code_number}
+use Rattle.esc_actions.specs.Values.{Value, print, string, control, esc, csi, osc, kitty, sixel, termcap, short, enter, datum, exit}
+use Rattle.esc_actions.specs.Writable.{AreHandedOut, IsHandedOut}
+use Rattle.esc_links.specs.declared.hyperlink.Hyperlink.{Hyperlink}
+use Rattle.esc_osc.specs.declared.command.OperatingSystemCommand.{OperatingSystemCommand}
+use Rattle.esc_osc.specs.declared.command.OperatingSystemCommand.TheVariants as command
+use Rattle.esc_typed.specs.Functions.{Value as Function, of_csi, cursor, edit, device, keyboard, mouse, window, mode_status, charset, escape, modes, tabs, renditions, other}
+use Rattle.esc_values.specs.Clear.{is_clear}
+use Rattle.esc_html.specs.Addresses.{is_address_char, is_safe_address}
+use Rattle.esc_html.specs.Looks.{is_plain}
+use Rattle.esc_html.specs.Marks.{Pen, Step, changes, shows, nothing, address_if, address_of, command_step, control_step, ends_line, function_step, is_page_address, print_step, step_of}
+use Rattle.esc_html.specs.Pages.{State, before_character, closed, closing, link_end_if, link_opening, opening, pieces_by, pieces_from, span_end_unless, span_unless, state_by, state_from}
+use Rattle.esc_html.specs.Pieces.{Piece, text, span, span_end, link, link_end, is_kept}
+use Rattle.esc_html.specs.declared.look.Look.{Look}
+
+-- ---- characters that are kept
+
+kept_by : (x : List ℕ) → ((k : ℕ) → k < length x → is_kept (get_or x k 0) ≡ true)
+    → list_all is_kept x ≡ true
+kept_by [] h = refl
+kept_by (b ∷ x) h =
+    rw (h 0 (omega arith), kept_by x (λ k l. h (suc k) (omega (arith, l)))) refl
+
+low_byte : (b : ℕ) → is_kept b ≡ false → b < 128
+low_byte b h = grind (arith, nat_tests)
+
+kept_char : (c : ℕ) → is_kept c ≡ true → list_all is_kept (encode_utf8 c) ≡ true
+kept_char c h = kept_by (encode_utf8 c) (λ k l.
+    let b = get_or (encode_utf8 c) k 0 in
+    elim (cases_Bool (is_kept b)) [
+      | inl kept ↦ kept
+      | inr lost ↦
+          let same = inside_one c [] (encode_utf8 c) k (sym (append-nil (encode_utf8 c))) l
+          (low_byte b lost) in
+          absurd (true≢false (sym h ∙ ap is_kept same ∙ lost))
+    ])
+
+clear_kept : (c : ℕ) → is_clear c ≡ true → is_kept c ≡ true
+clear_kept c h = grind (arith, nat_tests)
+
+address_kept : (c : ℕ) → is_address_char c ≡ true → is_kept c ≡ true
+address_kept c h = grind (arith, nat_tests)
+
+chars_kept : (cs : List ℕ) → list_all is_address_char cs ≡ true
+    → list_all is_kept (encode_utf8_all cs) ≡ true
+chars_kept [] h = refl
+chars_kept (c ∷ cs) h =
+    let q = and_parts (is_address_char c) (list_all is_address_char cs) h in
+    rw (
+      list_all-append is_kept (encode_utf8 c) (encode_utf8_all cs),
+      kept_char c (address_kept c q.0),
+      chars_kept cs q.1,
+    ) refl
+
+-- a safe address that is UTF-8 is kept
+pub page_address : (a : List ℕ) → IsUtf8 a → is_safe_address a ≡ is_page_address a
+page_address a u =
+    elim (cases_Bool (is_safe_address a)) [
+      | inl safe ↦ let q = (and_parts _ (list_all is_address_char (chars a)) safe).1 in
+          let kept = subst (λ x. list_all is_kept x ≡ true) (encodes-chars a u)
+          (chars_kept (chars a) q) in
+          safe ∙ sym (ap (λ b. b && list_all is_kept a) safe ∙ kept)
+      | inr unsafe ↦ unsafe ∙ sym (ap (λ b. b && list_all is_kept a) unsafe)
+    ]
+
+-- ---- steps
+
+abbrev pub IsGoodLink : Option (List ℕ) → Type 0
+IsGoodLink None = Unit {0}
+IsGoodLink (Some a) = is_page_address a ≡ true
+
+abbrev pub IsGoodStep : Step → Type 0
+IsGoodStep (changes q) = IsGoodLink q.link
+IsGoodStep (shows c) = list_all is_kept (encode_utf8 c) ≡ true
+IsGoodStep nothing = Unit {0}
+
+good_print : (c : ℕ) → is_clear c ≡ true → IsGoodStep (print_step c)
+good_print c h = by (c == 0x7f)
+  where
+    by : (b : Bool) → IsGoodStep (if b then nothing else shows c)
+    by true = tt
+    by false = kept_char c (clear_kept c h)
+
+good_control : (n : ℕ) → IsGoodStep (control_step n)
+good_control n = by (n == 0x09 || n == 0x0a) refl
+  where
+    by : (b : Bool) → (n == 0x09 || n == 0x0a) ≡ b
+        → IsGoodStep (if b then shows n else nothing)
+    by true e = kept_char n (grind (arith, nat_tests))
+    by false e = tt
+
+good_function : (p : Pen) (f : Function) → IsGoodLink p.link → IsGoodStep (function_step p f)
+good_function p (cursor c) h = tt
+good_function p (edit e) h = tt
+good_function p (device d) h = tt
+good_function p (keyboard k) h = tt
+good_function p (mouse m) h = tt
+good_function p (window w) h = tt
+good_function p (mode_status s) h = tt
+good_function p (charset c) h = tt
+good_function p (escape e) h = tt
+good_function p (modes c ms) h = tt
+good_function p (tabs c ns) h = tt
+good_function p (renditions rs) h = h
+good_function p (other u) h = tt
+
+good_address : (b : Bool) (a : List ℕ) → is_page_address a ≡ b → IsGoodLink (address_if b a)
+good_address true a e = e
+good_address false a e = tt
+
+good_link : {A : Type 0} (h : Option (Hyperlink A)) → IsGoodLink (address_of h)
+good_link None = tt
+good_link (Some h) = good_address (is_page_address h.uri) h.uri refl
+
+good_command : {A : Type 0} (p : Pen) (c : OperatingSystemCommand A) → IsGoodLink p.link
+    → IsGoodStep (command_step p c)
+good_command p (command.SetHyperlink l) h = good_link l
+good_command p (command.SetIconNameAndWindowTitle t) h = tt
+good_command p (command.SetWindowTitle t) h = tt
+good_command p (command.SetWindowTitleSun t) h = tt
+good_command p (command.SetIconName t) h = tt
+good_command p (command.SetIconNameSun t) h = tt
+good_command p (command.ClearSelection s) h = tt
+good_command p (command.QuerySelection s) h = tt
+good_command p (command.SetSelection s t) h = tt
+good_command p (command.SystemNotification t) h = tt
+good_command p (command.ITermProprietary i) h = tt
+good_command p (command.FinalTermSemanticPrompt q) h = tt
+good_command p (command.ChangeColorNumber cs) h = tt
+good_command p (command.ChangeDynamicColors n cs) h = tt
+good_command p (command.ResetDynamicColor n) h = tt
+good_command p (command.CurrentWorkingDirectory t) h = tt
+good_command p (command.ResetColors cs) h = tt
+good_command p (command.RxvtExtension ts) h = tt
+good_command p (command.ConEmuProgress q) h = tt
+good_command p (command.Unspecified ps) h = tt
+
+good_step : {A : Type 0} (p : Pen) (v : Value A) → IsGoodLink p.link → IsHandedOut v
+    → IsGoodStep (step_of p v)
+good_step p (print c) h k = good_print c (k refl)
+good_step p (string t) h k = tt
+good_step p (control c) h k = good_control (code_number c)
+good_step p (esc e) h k = tt
+good_step p (csi c) h k = good_function p (of_csi c) h
+good_step p (osc c) h k = good_command p c h
+good_step p (kitty i) h k = tt
+good_step p (sixel s) h k = tt
+good_step p (termcap ns) h k = tt
+good_step p (short s) h k = tt
+good_step p (enter e) h k = tt
+good_step p (datum b) h k = tt
+good_step p exit h k = tt
+
+good_state : (pl : Bool) (g : State) (s : Step) → IsGoodLink g.pen.link → IsGoodStep s
+    → IsGoodLink (state_by pl g s).pen.link
+good_state pl g (changes q) h k = k
+good_state pl g (shows c) h k = h
+good_state pl g nothing h k = h
+
+-- ---- a test that such pieces pass
+
+module _ (T : Piece → Bool) (on_span : (l : Look) → T (span l) ≡ true)
+    (on_span_end : T span_end ≡ true) (on_link_end : T link_end ≡ true)
+    (on_text : (t : List ℕ) → list_all is_kept t ≡ true → T (text t) ≡ true)
+    (on_link : (a : List ℕ) → is_page_address a ≡ true → T (link a) ≡ true) where
+  opening_passes : (b : Bool) (k : Option (List ℕ)) (l : Look) → IsGoodLink k
+      → list_all T (link_opening k ++ span_unless b l) ≡ true
+  opening_passes true None l h = refl
+  opening_passes false None l h = rw (on_span l) refl
+  opening_passes true (Some a) l h = rw (on_link a h) refl
+  opening_passes false (Some a) l h = rw (on_link a h, on_span l) refl
+
+  closing_passes : (b k : Bool) → list_all T (span_end_unless b ++ link_end_if k) ≡ true
+  closing_passes true true = rw on_link_end refl
+  closing_passes true false = refl
+  closing_passes false true = rw (on_span_end, on_link_end) refl
+  closing_passes false false = rw on_span_end refl
+
+  opened_passes : (b : Bool) (p : Pen) → IsGoodLink p.link
+      → list_all T (if b then [] else opening p) ≡ true
+  opened_passes true p h = refl
+  opened_passes false p h = opening_passes (is_plain p.look) p.link p.look h
+
+  closed_passes : (b : Bool) (p : Pen) → list_all T (if b then closing p else []) ≡ true
+  closed_passes true p = closing_passes (is_plain p.look) (is_some p.link)
+  closed_passes false p = refl
+
+  before_passes : (e : Bool) (g : State) → IsGoodLink g.pen.link
+      → list_all T (before_character e g) ≡ true
+  before_passes true g h = closed_passes g.is_open g.pen
+  before_passes false g h = opened_passes g.is_open g.pen h
+
+  step_passes : (pl : Bool) (g : State) (s : Step) → IsGoodLink g.pen.link → IsGoodStep s
+      → list_all T (pieces_by pl g s) ≡ true
+  step_passes pl g (changes q) h k = closed_passes g.is_open g.pen
+  step_passes pl g (shows c) h k =
+      list_all-append T (before_character (ends_line pl c) g) (text (encode_utf8 c) ∷ [])
+      ∙ ap (λ b. b && (T (text (encode_utf8 c)) && true)) (before_passes (ends_line pl c) g h)
+      ∙ ap (λ b. b && true) (on_text (encode_utf8 c) k)
+  step_passes pl g nothing h k = refl
+
+  pub page_passes : {A : Type 0} (pl : Bool) (g : State) (vs : List (Value A))
+      → IsGoodLink g.pen.link → AreHandedOut vs
+      → list_all T (pieces_from pl g vs ++ closed (state_from pl g vs)) ≡ true
+  page_passes pl g [] h k = closed_passes g.is_open g.pen
+  page_passes pl g (v ∷ vs) h (k, ks) =
+      let s = step_of g.pen v in
+      let good = good_step g.pen v h k in
+      let rest = pieces_from pl (state_by pl g s) vs in
+      let last = closed (state_from pl (state_by pl g s) vs) in
+      ap (list_all T) (append_assoc (pieces_by pl g s) rest last)
+      ∙ list_all-append T (pieces_by pl g s) (rest ++ last)
+      ∙ ap (λ b. b && list_all T (rest ++ last)) (step_passes pl g s h good)
+      ∙ page_passes pl (state_by pl g s) vs (good_state pl g s h good) ks

@@ -1,0 +1,60 @@
+-- What a page was fed.
+use Rattle.std.specs.Prelude.{ℕ, ◌≡◌, Bool, List, ◌++◌, Some, string_bytes}
+use Rattle.esc_actions.specs.Values.{value_of}
+use Rattle.esc_actions.specs.declared.action.Action.{Action}
+use Rattle.esc_parse.specs.Fed.{IsBroken as IsBrokenParser, WasFedWithin}
+use Rattle.esc_html.specs.Marks.{Step, step_of}
+use Rattle.esc_html.specs.Pages.{State, page_text, pieces_by, state_by, state_of_stream}
+use Rattle.esc_html.specs.Pieces.{html_text}
+use Rattle.esc_html.specs.declared.html_writer.HtmlWriter.{HtmlWriter}
+use Rattle.esc_html.specs.declared.page.Page.{Page}
+
+-- what a page is at
+abbrev pub state_of : {A : Type 0} → Page A → State
+state_of p = record {
+  pen = record {
+    look = p.look;
+    link = p.link;
+  };
+  is_open = p.is_open;
+}
+
+-- its text
+abbrev pub text_of : {A : Type 0} → Page A → List ℕ
+text_of p = string_bytes p.html
+
+-- a step adds its pieces to the text
+pub record Adds {A : Type 0} (p : Page A) (s : Step) (q : Page A) : Type 0 where
+  pub text : text_of q ≡ text_of p ++ html_text (pieces_by p.per_line (state_of p) s)
+  pub state : state_of q ≡ state_by p.per_line (state_of p) s
+  pub per_line : q.per_line ≡ p.per_line
+
+-- an action adds those of its value
+abbrev pub Takes : {A : Type 0} → Page A → Action A → Page A → Type 0
+Takes p a q = Adds p (step_of (state_of p).pen (value_of a)) q
+
+-- the writer was fed these bytes, and closes what is open at each line's end or not
+pub record WasFed {A : Type 0} (limit : ℕ) (per_line : Bool) (s : List ℕ)
+    (w : HtmlWriter A) : Type 0 where
+  pub parser : WasFedWithin (Some limit) s w.parser
+  pub state : state_of w.page ≡ state_of_stream A (Some limit) per_line s
+  pub lines : w.page.per_line ≡ per_line
+
+-- an earlier call was refused memory
+abbrev pub IsBroken : {A : Type 0} → HtmlWriter A → Type 0
+IsBroken w = IsBrokenParser w.parser
+
+-- the text that the bytes fed last added
+abbrev pub added_by : {A : Type 0} → HtmlWriter A → List ℕ
+added_by w = text_of w.page
+
+-- this holds of each stream that the writer may have been fed
+abbrev pub After : {A : Type 0} → HtmlWriter A → (ℕ → Bool → List ℕ → Type 0) → Type 0
+After w C = (limit : ℕ) (per_line : Bool) (s : List ℕ) → WasFed limit per_line s w
+    → C limit per_line s
+
+-- the writer, which was fed s, was fed b too, and has the text that b adds
+abbrev pub TakesIn : {A : Type 0} → ℕ → Bool → List ℕ → List ℕ → HtmlWriter A → Type 0
+TakesIn {A} limit per_line s b w = WasFed limit per_line (s ++ b) w
+    × (page_text A (Some limit) per_line (s ++ b)
+    ≡ page_text A (Some limit) per_line s ++ added_by w)

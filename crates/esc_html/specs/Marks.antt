@@ -1,0 +1,102 @@
+-- The characters of a stream, with the looks and the links that hold for them.
+use Rattle.std.specs.Prelude.{ℕ, ◌==◌, Bool, true, false, ◌&&◌, ◌||◌, if◌then◌else◌, List, [], ◌∷◌, ◌++◌, Option, Some, None}
+use Rattle.std.specs.List.{list_all}
+use Rattle.esc_actions.specs.ControlCodes.{code_number}
+use Rattle.esc_actions.specs.Values.{Value, print, control, csi, osc}
+use Rattle.esc_links.specs.declared.hyperlink.Hyperlink.{Hyperlink}
+use Rattle.esc_osc.specs.declared.command.OperatingSystemCommand.{OperatingSystemCommand}
+use Rattle.esc_osc.specs.declared.command.OperatingSystemCommand.TheVariants.{SetHyperlink}
+use Rattle.esc_values.specs.declared.csi_param.CsiParam.{CsiParam}
+use Rattle.esc_typed.specs.declared.rendition.Rendition.{Rendition}
+use Rattle.esc_typed.specs.Functions.{Value as Function, renditions, of_csi}
+use Rattle.esc_html.specs.Addresses.{is_safe_address}
+use Rattle.esc_html.specs.Looks.{look_by_all, plain_look}
+use Rattle.esc_html.specs.Pieces.{is_kept}
+use Rattle.esc_html.specs.declared.look.Look.{Look}
+
+-- what holds for the characters that come: their look, and the address that they lead to
+pub record Pen : Type 0 where
+  pub look : Look
+  pub link : Option (List ℕ)
+
+-- at first
+abbrev pub plain_pen : Pen
+plain_pen = record {
+  look = plain_look;
+  link = None;
+}
+
+-- an address that a page may lead to
+abbrev pub is_page_address : List ℕ → Bool
+is_page_address a = is_safe_address a && list_all is_kept a
+
+abbrev pub address_if : Bool → List ℕ → Option (List ℕ)
+address_if true a = Some a
+address_if false a = None
+
+-- where a link of the stream leads in the page: nowhere, where its address is not safe
+abbrev pub address_of : {A : Type 0} → Option (Hyperlink A) → Option (List ℕ)
+address_of None = None
+address_of (Some h) = address_if (is_page_address h.uri) h.uri
+
+-- what a value does: another pen holds from here on, a character is shown, or nothing
+pub data Step : Type 0 where
+  changes : Pen → Step
+  shows : ℕ → Step
+  nothing : Step
+
+-- what is printed is shown, but DEL, of which terminals show nothing
+abbrev pub print_step : ℕ → Step
+print_step c = if c == 0x7f then nothing else shows c
+
+-- tabs and line feeds are shown, and no other control
+abbrev pub control_step : ℕ → Step
+control_step n = if n == 0x09 || n == 0x0a then shows n else nothing
+
+abbrev pub with_look : Pen → List (Option Rendition × List CsiParam) → Pen
+with_look p rs = record p { look = look_by_all p.look rs }
+
+abbrev pub with_link : Pen → Option (List ℕ) → Pen
+with_link p k = record p { link = k }
+
+abbrev pub function_step : Pen → Function → Step
+function_step p (renditions rs) = changes (with_look p rs)
+function_step p _ = nothing
+
+abbrev pub command_step : {A : Type 0} → Pen → OperatingSystemCommand A → Step
+command_step p (SetHyperlink h) = changes (with_link p (address_of h))
+command_step p _ = nothing
+
+abbrev pub step_of : {A : Type 0} → Pen → Value A → Step
+step_of p (print c) = print_step c
+step_of p (control c) = control_step (code_number c)
+step_of p (csi c) = function_step p (of_csi c)
+step_of p (osc c) = command_step p c
+step_of p _ = nothing
+
+-- the pen after a step
+abbrev pub pen_by : Pen → Step → Pen
+pen_by p (changes q) = q
+pen_by p (shows c) = p
+pen_by p nothing = p
+
+-- a line feed ends a line, where what is open is closed at the end of each
+abbrev pub ends_line : Bool → ℕ → Bool
+ends_line per_line c = per_line && c == 0x0a
+
+-- the pen that holds for a character: none for a line feed that ends a line
+abbrev pub pen_at : Bool → Pen → Pen
+pen_at true p = plain_pen
+pen_at false p = p
+
+-- the character of a step
+abbrev pub marked : Bool → Pen → Step → List (ℕ × Pen)
+marked per_line p (shows c) = (c, pen_at (ends_line per_line c) p) ∷ []
+marked per_line p (changes q) = []
+marked per_line p nothing = []
+
+-- the characters of values with what holds for each, where this pen holds before them
+abbrev pub marks : {A : Type 0} → Bool → Pen → List (Value A) → List (ℕ × Pen)
+marks per_line p [] = []
+marks per_line p (v ∷ vs) =
+    marked per_line p (step_of p v) ++ marks per_line (pen_by p (step_of p v)) vs

@@ -1,0 +1,55 @@
+-- What a page shows: each character with the elements that are open around it.
+use Rattle.std.specs.Prelude.{ℕ, ◌≡◌, Bool, true, false, List, [], ◌∷◌, ◌++◌, codes, map, Option, Some, None}
+use Rattle.std.specs.Char.{encode_utf8}
+use Rattle.std.specs.List.{All, flat_map}
+use Rattle.esc_actions.specs.Meaning.{meaning_within}
+use Rattle.esc_html.specs.Listed.{IsListed, closes}
+use Rattle.esc_html.specs.Looks.{is_plain}
+use Rattle.esc_html.specs.Marks.{Pen, marks, plain_pen}
+use Rattle.esc_html.specs.Pages.{closing_text, page_text}
+use Rattle.esc_html.specs.Pieces.{span_attributes}
+use Rattle.esc_html.specs.Tokens.{Token, character, start_tag, end_tag, stray, tokens}
+use Rattle.esc_html.specs.declared.look.Look.{Look}
+
+-- the name of an element, and its attributes with their values
+abbrev pub Element : Type 0
+Element = List ℕ × List (List ℕ × List ℕ)
+
+-- each character of these tokens, with the elements that are open around it, the inner one first,
+-- where these are open before
+abbrev pub shown : List Element → List Token → List (ℕ × List Element)
+shown es [] = []
+shown es (character c ∷ ts) = (c, es) ∷ shown es ts
+shown es (start_tag n attributes ∷ ts) = shown ((n, attributes) ∷ es) ts
+shown [] (end_tag n ∷ ts) = shown [] ts
+shown (e ∷ es) (end_tag n ∷ ts) = shown es ts
+shown es (stray ∷ ts) = shown es ts
+
+-- the elements of a pen: a span where the look is not plain, in a link where there is one
+abbrev pub link_elements : Option (List ℕ) → List Element
+link_elements None = []
+link_elements (Some a) =
+    (codes "a", (codes "href", a) ∷ (codes "rel", codes "noopener noreferrer") ∷ []) ∷ []
+
+abbrev pub span_elements_unless : Bool → Look → List Element
+span_elements_unless true l = []
+span_elements_unless false l = (codes "span", span_attributes l) ∷ []
+
+abbrev pub elements : Pen → List Element
+elements p = span_elements_unless (is_plain p.look) p.look ++ link_elements p.link
+
+-- the bytes of a character, each in the elements of its pen
+abbrev pub marked_bytes : ℕ × Pen → List (ℕ × List Element)
+marked_bytes m = map (λ b. (b, elements m.1)) (encode_utf8 m.0)
+
+-- What holds of the text t of a page that was made of the stream s, with what closes it:
+pub record IsPage (A : Type 0) (limit : Option ℕ) (per_line : Bool) (s t : List ℕ) : Type 0 where
+  -- it is that text
+  pub text : t ≡ page_text A limit per_line s ++ closing_text A limit per_line s
+  -- a browser's tokenizer reads nothing but characters, spans of looks, and links to safe addresses
+  pub listed : All IsListed (tokens t)
+  -- each start tag has its end tag, the last one first
+  pub closes : closes [] (tokens t) ≡ true
+  -- it shows exactly the characters of the stream, with their looks and links
+  pub shows : shown [] (tokens t)
+      ≡ flat_map marked_bytes (marks {A = A} per_line plain_pen (meaning_within limit s))

@@ -1,0 +1,294 @@
+//! How characters look.
+ghost use Rattle.std.specs.Prelude.{◌≡◌, is_none};
+ghost use Rattle.std.specs.List.{list_all};
+ghost use Rattle.esc_html.specs.Looks.{background_class, background_style, class_if, foreground_class, foreground_style, intensity_class, is_blinking, is_plain, look_after, look_by, look_by_all, look_by_optional, look_classes, look_styles, plain_look, shown_background, shown_foreground, underline_class, underline_color_class, underline_color_style};
+ghost use Rattle.esc_sequences.specs.Csis.{csi_value};
+ghost use Rattle.esc_typed.specs.Selections.{left};
+
+use crate::class::Class;
+use crate::color::Color;
+use crate::style::Style;
+use esc_sequences::{CSI, Intensity, Underline};
+use esc_typed::{Blink, Function, Rendition, Renditions};
+use std::alloc::Allocator;
+
+/// How characters look: the renditions that hold for them (ECMA-48, 8.3.117, SGR; xterm's list,
+/// "Character Attributes (SGR)").
+#[derive(Clone, Copy, Debug, PartialEq, Eq)]
+pub struct Look {
+    /// How bright they are.
+    pub intensity: Intensity,
+    /// Whether they are slanted.
+    pub italic: bool,
+    /// How they are underlined.
+    pub underline: Underline,
+    /// Whether they blink.
+    pub blink: bool,
+    /// Whether their colour and that around them are exchanged.
+    pub inverse: bool,
+    /// Whether they are hidden.
+    pub concealed: bool,
+    /// Whether they are crossed out.
+    pub strikethrough: bool,
+    /// Whether they have a line above.
+    pub overline: bool,
+    /// Their colour.
+    pub foreground: Color,
+    /// The colour around them.
+    pub background: Color,
+    /// The colour of their underline.
+    pub underline_color: Color,
+}
+
+impl Look {
+    /// As at first: none of the renditions.
+    pub fn plain() -> Look
+        ensures { result ≡ plain_look }
+    {
+        Look {
+            intensity: Intensity::Normal,
+            italic: false,
+            underline: Underline::None,
+            blink: false,
+            inverse: false,
+            concealed: false,
+            strikethrough: false,
+            overline: false,
+            foreground: Color::Default,
+            background: Color::Default,
+            underline_color: Color::Default,
+        }
+    }
+
+    /// Takes what a control sequence asks for: its renditions, one after another, where its
+    /// function is SGR. Any other leaves it, and so does a rendition that is not known.
+    pub fn apply<A: Allocator>(&mut self, csi: &CSI<A>)
+        ensures { self.new ≡ look_after self.old (csi_value csi.now) }
+    {
+        match Function::of(csi) {
+            Function::Sgr(renditions) => self.select_all(renditions),
+            _ => {}
+        }
+    }
+
+    /// Takes one rendition. Fonts, frames, marks of ideograms, and how high and how wide characters
+    /// are change nothing.
+    pub fn select(&mut self, rendition: Rendition)
+        ensures { self.new ≡ look_by self.old rendition }
+    {
+        match rendition {
+            Rendition::Reset => *self = Look::plain(),
+            Rendition::Intensity(intensity) => self.intensity = intensity,
+            Rendition::Italic(is_on) => self.italic = is_on,
+            Rendition::Underline(underline) => self.underline = underline,
+            Rendition::Blink(blink) => self.blink = is_blinking(blink),
+            Rendition::Inverse(is_on) => self.inverse = is_on,
+            Rendition::Invisible(is_on) => self.concealed = is_on,
+            Rendition::StrikeThrough(is_on) => self.strikethrough = is_on,
+            Rendition::Overline(is_on) => self.overline = is_on,
+            Rendition::AnsiForeground(color) => self.foreground = Color::Named(color),
+            Rendition::AnsiBackground(color) => self.background = Color::Named(color),
+            Rendition::Foreground(color) => self.foreground = Color::of(color),
+            Rendition::Background(color) => self.background = Color::of(color),
+            Rendition::UnderlineColor(color) => self.underline_color = Color::of(color),
+            Rendition::Font(_)
+            | Rendition::Proportional(_)
+            | Rendition::Frame(_)
+            | Rendition::Ideogram(_)
+            | Rendition::VerticalAlign(_) => {}
+        }
+    }
+
+    // Takes renditions, one after another.
+    pub(crate) fn select_all(&mut self, renditions: Renditions<'_>)
+        ensures { self.new ≡ look_by_all self.old (left renditions.entry) }
+    {
+        for selection in renditions {
+            self.select_optional(selection.rendition);
+        }
+    }
+
+    // Takes one, where it is known.
+    fn select_optional(&mut self, rendition: Option<Rendition>)
+        ensures { self.new ≡ look_by_optional self.old rendition }
+    {
+        if let Some(rendition) = rendition {
+            self.select(rendition);
+        }
+    }
+
+    /// Whether it needs no span: it has neither a class nor a style.
+    pub fn is_plain(&self) -> bool
+        ensures { result ≡ is_plain self.now }
+    {
+        are_no_classes(&self.classes()) && are_no_styles(&self.styles())
+    }
+
+    // The colour in which characters are shown.
+    fn shown_foreground(&self) -> Color
+        ensures { result ≡ shown_foreground self.now }
+    {
+        if self.inverse {
+            self.background
+        } else {
+            self.foreground
+        }
+    }
+
+    // The colour that is shown around them.
+    fn shown_background(&self) -> Color
+        ensures { result ≡ shown_background self.now }
+    {
+        if self.inverse {
+            self.foreground
+        } else {
+            self.background
+        }
+    }
+
+    // Its classes, of those that are there.
+    pub(crate) fn classes(&self) -> [Option<Class>; 11]
+        ensures { result ≡ look_classes self.now }
+    {
+        [
+            intensity_class(self.intensity),
+            class_if(self.italic, Class::Italic),
+            underline_class(self.underline),
+            class_if(self.blink, Class::Blink),
+            class_if(self.inverse, Class::Inverse),
+            class_if(self.concealed, Class::Concealed),
+            class_if(self.strikethrough, Class::Strikethrough),
+            class_if(self.overline, Class::Overline),
+            foreground_class(self.shown_foreground()),
+            background_class(self.shown_background()),
+            underline_color_class(self.underline_color),
+        ]
+    }
+
+    // Its styles, of those that are there.
+    pub(crate) fn styles(&self) -> [Option<Style>; 3]
+        ensures { result ≡ look_styles self.now }
+    {
+        [
+            foreground_style(self.shown_foreground()),
+            background_style(self.shown_background()),
+            underline_color_style(self.underline_color),
+        ]
+    }
+}
+
+// Whether no class is there.
+fn are_no_classes(classes: &[Option<Class>]) -> bool
+    ensures { result ≡ list_all is_none classes.now }
+{
+    classes.iter().all(|class| class.is_none())
+}
+
+// Whether no style is there.
+fn are_no_styles(styles: &[Option<Style>]) -> bool
+    ensures { result ≡ list_all is_none styles.now }
+{
+    styles.iter().all(|style| style.is_none())
+}
+
+// Whether characters blink.
+fn is_blinking(blink: Blink) -> bool
+    ensures { result ≡ is_blinking blink }
+{
+    match blink {
+        Blink::None => false,
+        Blink::Slow | Blink::Rapid => true,
+    }
+}
+
+fn class_if(holds: bool, class: Class) -> Option<Class>
+    ensures { result ≡ class_if holds class }
+{
+    if holds { Some(class) } else { None }
+}
+
+fn intensity_class(intensity: Intensity) -> Option<Class>
+    ensures { result ≡ intensity_class intensity }
+{
+    match intensity {
+        Intensity::Normal => None,
+        Intensity::Bold => Some(Class::Bold),
+        Intensity::Half => Some(Class::Faint),
+    }
+}
+
+fn underline_class(underline: Underline) -> Option<Class>
+    ensures { result ≡ underline_class underline }
+{
+    match underline {
+        Underline::None => None,
+        Underline::Single => Some(Class::Underline),
+        Underline::Double => Some(Class::DoubleUnderline),
+        Underline::Curly => Some(Class::CurlyUnderline),
+        Underline::Dotted => Some(Class::DottedUnderline),
+        Underline::Dashed => Some(Class::DashedUnderline),
+    }
+}
+
+fn foreground_class(color: Color) -> Option<Class>
+    ensures { result ≡ foreground_class color }
+{
+    match color {
+        Color::Named(color) => Some(Class::Foreground(color)),
+        Color::Default | Color::Direct(_) => None,
+    }
+}
+
+fn background_class(color: Color) -> Option<Class>
+    ensures { result ≡ background_class color }
+{
+    match color {
+        Color::Named(color) => Some(Class::Background(color)),
+        Color::Default | Color::Direct(_) => None,
+    }
+}
+
+fn underline_color_class(color: Color) -> Option<Class>
+    ensures { result ≡ underline_color_class color }
+{
+    match color {
+        Color::Named(color) => Some(Class::UnderlineColor(color)),
+        Color::Default | Color::Direct(_) => None,
+    }
+}
+
+fn foreground_style(color: Color) -> Option<Style>
+    ensures { result ≡ foreground_style color }
+{
+    match color {
+        Color::Direct(color) => {
+            let (red, green, blue) = color.to_tuple_rgb8();
+            Some(Style::Color(red, green, blue))
+        }
+        Color::Default | Color::Named(_) => None,
+    }
+}
+
+fn background_style(color: Color) -> Option<Style>
+    ensures { result ≡ background_style color }
+{
+    match color {
+        Color::Direct(color) => {
+            let (red, green, blue) = color.to_tuple_rgb8();
+            Some(Style::BackgroundColor(red, green, blue))
+        }
+        Color::Default | Color::Named(_) => None,
+    }
+}
+
+fn underline_color_style(color: Color) -> Option<Style>
+    ensures { result ≡ underline_color_style color }
+{
+    match color {
+        Color::Direct(color) => {
+            let (red, green, blue) = color.to_tuple_rgb8();
+            Some(Style::TextDecorationColor(red, green, blue))
+        }
+        Color::Default | Color::Named(_) => None,
+    }
+}

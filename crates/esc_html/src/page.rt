@@ -1,0 +1,286 @@
+//! What writes a page, action by action.
+ghost use Rattle.std.specs.Prelude.{◌≡◌, ◌++◌, [], OnErr, OnOk, false, not, true};
+ghost use Rattle.esc_html.specs.Fed.{Adds, Takes, state_of, text_of};
+ghost use Rattle.esc_html.specs.Looks.{is_plain};
+ghost use Rattle.esc_html.specs.Marks.{address_of, changes, command_step, control_step, function_step, is_page_address, print_step, shows, with_link, with_look};
+ghost use Rattle.esc_html.specs.Pages.{before_character, closed, first_state, link_end_if, link_opening, open_or_not, opened, span_end_unless, span_unless};
+ghost use Rattle.esc_html.specs.Pieces.{html_text};
+ghost use Rattle.esc_typed.specs.Functions.{value_of};
+ghost use Rattle.esc_typed.specs.Selections.{left};
+ghost use Rattle.memory.specs.Refusals.{Refused};
+
+use crate::address::is_safe_address;
+use crate::escaping::push_char;
+use crate::look::Look;
+use crate::tag::push_span;
+use crate::writing::push_link;
+use esc_actions::Action;
+use esc_links::Hyperlink;
+use esc_osc::OperatingSystemCommand;
+use esc_parse::Sink;
+use esc_typed::{Function, Renditions};
+use esc_values::Text;
+use std::alloc::{AllocError, Allocator, Global};
+
+/// The text of a page so far, and what holds for the characters that come.
+#[derive(Drop)]
+pub(crate) struct Page<A: Allocator = Global> {
+    /// The text that was added last.
+    pub html: String<A>,
+    /// How the characters look.
+    pub look: Look,
+    /// The address that they lead to.
+    pub link: Option<Text<A>>,
+    /// Whether the tags of the look and the link are open.
+    pub is_open: bool,
+    /// Whether they are closed at the end of each line.
+    pub per_line: bool,
+}
+
+impl<A: Allocator> Page<A> {
+    /// An empty page. Takes no memory.
+    pub fn new(alloc: A, per_line: bool) -> Page<A>
+        ensures text { text_of result ≡ [] }
+        ensures state { state_of result ≡ first_state }
+        ensures per_line { result.per_line ≡ per_line }
+    {
+        Page {
+            html: String::new(alloc),
+            look: Look::plain(),
+            link: None,
+            is_open: false,
+            per_line,
+        }
+    }
+
+    /// The same page, with no text.
+    pub fn emptied(mut self) -> Page<A>
+        ensures text { text_of result ≡ [] }
+        ensures state { state_of result ≡ state_of self }
+        ensures per_line { result.per_line ≡ self.per_line }
+    {
+        self.html.clear();
+        self
+    }
+
+    // Opens a link, where there is one.
+    fn open_link(&mut self) -> Result<(), AllocError>
+        ensures ok { OnOk result (text_of self.new
+            ≡ text_of self.old ++ html_text (link_opening (state_of self.old).pen.link)) }
+        ensures state { OnOk result (state_of self.new ≡ state_of self.old) }
+        ensures per_line { OnOk result (self.new.per_line ≡ self.old.per_line) }
+        ensures refused { OnErr result (Refused A) }
+    {
+        match &self.link {
+            Some(address) => push_link(&mut self.html, address.as_str()),
+            None => Ok(()),
+        }
+    }
+
+    // Opens a span, where the look is not plain.
+    fn open_span(&mut self) -> Result<(), AllocError>
+        ensures ok { OnOk result (text_of self.new
+            ≡ text_of self.old ++ html_text (span_unless (is_plain self.old.look) self.old.look)) }
+        ensures state { OnOk result (state_of self.new ≡ state_of self.old) }
+        ensures per_line { OnOk result (self.new.per_line ≡ self.old.per_line) }
+        ensures refused { OnErr result (Refused A) }
+    {
+        if self.look.is_plain() {
+            return Ok(());
+        }
+        push_span(&mut self.html, &self.look)
+    }
+
+    // Opens the tags, where they are not open.
+    fn open(&mut self) -> Result<(), AllocError>
+        ensures ok { OnOk result (text_of self.new
+            ≡ text_of self.old ++ html_text (opened (state_of self.old))) }
+        ensures state { OnOk result (state_of self.new
+            ≡ open_or_not (state_of self.old) true) }
+        ensures per_line { OnOk result (self.new.per_line ≡ self.old.per_line) }
+        ensures refused { OnErr result (Refused A) }
+    {
+        if self.is_open {
+            return Ok(());
+        }
+        self.open_link()?;
+        self.open_span()?;
+        self.is_open = true;
+        Ok(())
+    }
+
+    // Closes the tags, where they are open.
+    fn close(&mut self) -> Result<(), AllocError>
+        ensures ok { OnOk result (text_of self.new
+            ≡ text_of self.old ++ html_text (closed (state_of self.old))) }
+        ensures state { OnOk result (state_of self.new
+            ≡ open_or_not (state_of self.old) false) }
+        ensures per_line { OnOk result (self.new.per_line ≡ self.old.per_line) }
+        ensures refused { OnErr result (Refused A) }
+    {
+        let closing = self.closing();
+        memory::push_str(&mut self.html, closing)?;
+        self.is_open = false;
+        Ok(())
+    }
+
+    /// What closes the tags that are open.
+    pub fn closing(&self) -> &'static str
+        ensures { result.now ≡ html_text (closed (state_of self.now)) }
+    {
+        if !self.is_open {
+            return "";
+        }
+        closing_tags(self.look.is_plain(), self.link.is_some())
+    }
+
+    // Closes the tags before the end of a line, and opens them before any other character.
+    fn prepare(&mut self, ends_line: bool) -> Result<(), AllocError>
+        ensures ok { OnOk result (text_of self.new
+            ≡ text_of self.old ++ html_text (before_character ends_line (state_of self.old))) }
+        ensures state { OnOk result (state_of self.new
+            ≡ open_or_not (state_of self.old) (not ends_line)) }
+        ensures per_line { OnOk result (self.new.per_line ≡ self.old.per_line) }
+        ensures refused { OnErr result (Refused A) }
+    {
+        if ends_line { self.close() } else { self.open() }
+    }
+
+    // Shows a character.
+    fn show(&mut self, c: char) -> Result<(), AllocError>
+        ensures ok { OnOk result (Adds self.old (shows c) self.new) }
+        ensures refused { OnErr result (Refused A) }
+    {
+        self.prepare(self.per_line && c == '\n')?;
+        push_char(&mut self.html, c)
+    }
+
+    // Shows what is printed, but DEL, of which terminals show nothing.
+    fn take_print(&mut self, c: char) -> Result<(), AllocError>
+        ensures ok { OnOk result (Adds self.old (print_step c) self.new) }
+        ensures refused { OnErr result (Refused A) }
+    {
+        if c == '\u{7f}' { Ok(()) } else { self.show(c) }
+    }
+
+    // Shows a tab or a line feed, and no other control.
+    fn take_control(&mut self, c: char) -> Result<(), AllocError>
+        ensures ok { OnOk result (Adds self.old (control_step c) self.new) }
+        ensures refused { OnErr result (Refused A) }
+    {
+        if c == '\t' || c == '\n' {
+            self.show(c)
+        } else {
+            Ok(())
+        }
+    }
+
+    // Takes the renditions of a control sequence.
+    fn take_function(&mut self, function: Function<'_>) -> Result<(), AllocError>
+        ensures ok { OnOk result (Adds self.old
+            (function_step (state_of self.old).pen (value_of function.entry)) self.new) }
+        ensures refused { OnErr result (Refused A) }
+    {
+        match function {
+            Function::Sgr(renditions) => self.select(renditions),
+            _ => Ok(()),
+        }
+    }
+
+    // The tags are closed, and the look changes.
+    fn select(&mut self, renditions: Renditions<'_>) -> Result<(), AllocError>
+        ensures ok { OnOk result (Adds self.old
+            (changes (with_look (state_of self.old).pen (left renditions.entry))) self.new) }
+        ensures refused { OnErr result (Refused A) }
+    {
+        self.close()?;
+        self.look.select_all(renditions);
+        Ok(())
+    }
+
+    // Takes a command for a link.
+    fn take_command(&mut self, command: OperatingSystemCommand<A>) -> Result<(), AllocError>
+        ensures ok { OnOk result (Adds self.old
+            (command_step (state_of self.old).pen command) self.new) }
+        ensures refused { OnErr result (Refused A) }
+    {
+        match command {
+            OperatingSystemCommand::SetHyperlink(link) => self.lead(link),
+            _ => Ok(()),
+        }
+    }
+
+    // The tags are closed, and the link changes.
+    fn lead(&mut self, link: Option<Hyperlink<A>>) -> Result<(), AllocError>
+        ensures ok { OnOk result (Adds self.old
+            (changes (with_link (state_of self.old).pen (address_of link))) self.new) }
+        ensures refused { OnErr result (Refused A) }
+    {
+        self.close()?;
+        self.link = address_of(link);
+        Ok(())
+    }
+}
+
+/// Each action adds what it shows to the text.
+impl<A: Allocator> Sink<Action<A>> for Page<A> {
+    ghost is_ready = { λ _. Unit {0} };
+
+    ghost may = { λ _ _. Unit {0} };
+
+    ghost takes = { Takes };
+
+    ghost refuses = { λ p a q. Refused A };
+
+    fn receive(&mut self, action: Action<A>) -> Result<(), AllocError> {
+        match action {
+            Action::Print(c) => self.take_print(c),
+            Action::Control(code) => self.take_control(code.as_char()),
+            Action::CSI(csi) => self.take_function(Function::of(&csi)),
+            Action::OperatingSystemCommand(command) => self.take_command(command.into_inner()),
+            Action::PrintString(_)
+            | Action::Esc(_)
+            | Action::KittyImage(_)
+            | Action::Sixel(_)
+            | Action::XtGetTcap(_)
+            | Action::DeviceControl(_) => Ok(()),
+        }
+    }
+
+    fn drops_images(&self) -> bool {
+        true
+    }
+}
+
+// Where a link leads in a page: nowhere, where its address is not safe.
+fn address_of<A: Allocator>(link: Option<Hyperlink<A>>) -> Option<Text<A>>
+    ensures { result ≡ address_of link }
+{
+    let Some(link) = link else {
+        return None;
+    };
+    if is_page_address(link.uri.as_str()) {
+        Some(link.uri)
+    } else {
+        None
+    }
+}
+
+// Whether a page may lead to this address.
+fn is_page_address(address: &str) -> bool
+    ensures { result ≡ is_page_address address.now }
+{
+    is_safe_address(address)
+}
+
+// The end tags of a span, unless the look is plain, and of a link.
+fn closing_tags(is_plain: bool, has_link: bool) -> &'static str
+    ensures { result.now ≡ html_text (span_end_unless is_plain ++ link_end_if has_link) }
+{
+    match (is_plain, has_link) {
+        (true, false) => "",
+        (false, false) => "</span>",
+        (true, true) => "</a>",
+        (false, true) => "</span></a>",
+    }
+}

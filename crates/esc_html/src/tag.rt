@@ -1,0 +1,157 @@
+//! The start tag of a span.
+ghost use Rattle.std.specs.Prelude.{◌≡◌, ◌&&◌, ◌++◌, IfOk, OnOk, OnErr, is_none, string_bytes, true, Some};
+ghost use Rattle.std.specs.List.{list_all};
+ghost use Rattle.esc_html.specs.Attributes.{class_opener, ended, next_class, next_style, style_opener};
+ghost use Rattle.esc_html.specs.Colors.{is_small};
+ghost use Rattle.esc_html.specs.Growing.{Grows};
+ghost use Rattle.esc_html.specs.Looks.{present};
+ghost use Rattle.esc_html.specs.Pieces.{attributes_text, class_attribute, piece_text, span, style_attribute};
+ghost use Rattle.memory.specs.Refusals.{Refused};
+
+use crate::class::Class;
+use crate::look::Look;
+use crate::style::Style;
+use std::alloc::{AllocError, Allocator};
+use std::str;
+
+// Begins a span; where memory is refused, a part of the tag may be written.
+pub(crate) fn push_span<A: Allocator>(html: &mut String<A>, look: &Look) -> Result<(), AllocError>
+    ensures ok { OnOk result (string_bytes html.new
+        ≡ string_bytes html.old ++ piece_text (span look.now)) }
+    ensures grown { Grows (string_bytes html.old) (string_bytes html.new) }
+    ensures refused { OnErr result (Refused A) }
+{
+    memory::push_str(html, "<span")?;
+    push_class_attribute(html, &look.classes())?;
+    push_style_attribute(html, &look.styles())?;
+    memory::push_str(html, ">")
+}
+
+// The attribute `class`, where there are classes.
+fn push_class_attribute<A: Allocator>(
+    html: &mut String<A>,
+    classes: &[Option<Class>],
+) -> Result<(), AllocError>
+    ensures ok { OnOk result (string_bytes html.new
+        ≡ string_bytes html.old ++ attributes_text (class_attribute (present classes.now))) }
+    ensures grown { Grows (string_bytes html.old) (string_bytes html.new) }
+    ensures refused { OnErr result (Refused A) }
+{
+    let mut is_first = true;
+    for class in classes {
+        is_first = push_next_class(html, is_first, *class)?;
+    }
+    end_attribute(html, is_first)
+}
+
+// A class, where it is there: before the first comes the attribute's name, and before any other a
+// space. Whether the next is the first still.
+fn push_next_class<A: Allocator>(
+    html: &mut String<A>,
+    is_first: bool,
+    class: Option<Class>,
+) -> Result<bool, AllocError>
+    ensures first { IfOk result (λ b. b ≡ is_first && is_none class) }
+    ensures ok { OnOk result (string_bytes html.new
+        ≡ string_bytes html.old ++ next_class is_first class) }
+    ensures grown { Grows (string_bytes html.old) (string_bytes html.new) }
+    ensures refused { OnErr result (Refused A) }
+{
+    let Some(class) = class else {
+        return Ok(is_first);
+    };
+    memory::push_str(html, class_opener(is_first))?;
+    memory::push_str(html, class.name())?;
+    Ok(false)
+}
+
+// What comes before the name of a class.
+fn class_opener(is_first: bool) -> &'static str
+    ensures { result.now ≡ class_opener is_first }
+{
+    if is_first { " class=\"" } else { " " }
+}
+
+// The attribute `style`, where there are styles.
+fn push_style_attribute<A: Allocator>(
+    html: &mut String<A>,
+    styles: &[Option<Style>],
+) -> Result<(), AllocError>
+    ensures ok { OnOk result (string_bytes html.new
+        ≡ string_bytes html.old ++ attributes_text (style_attribute (present styles.now))) }
+    ensures grown { Grows (string_bytes html.old) (string_bytes html.new) }
+    ensures refused { OnErr result (Refused A) }
+{
+    let mut is_first = true;
+    for style in styles {
+        is_first = push_next_style(html, is_first, *style)?;
+    }
+    end_attribute(html, is_first)
+}
+
+// A style, where it is there. Whether the next is the first still.
+fn push_next_style<A: Allocator>(
+    html: &mut String<A>,
+    is_first: bool,
+    style: Option<Style>,
+) -> Result<bool, AllocError>
+    ensures first { IfOk result (λ b. b ≡ is_first && is_none style) }
+    ensures ok { OnOk result (string_bytes html.new
+        ≡ string_bytes html.old ++ next_style is_first style) }
+    ensures grown { Grows (string_bytes html.old) (string_bytes html.new) }
+    ensures refused { OnErr result (Refused A) }
+{
+    let Some(style) = style else {
+        return Ok(is_first);
+    };
+    push_style(html, is_first, &style)?;
+    Ok(false)
+}
+
+// A style; before the first comes the attribute's name.
+fn push_style<A: Allocator>(
+    html: &mut String<A>,
+    is_first: bool,
+    style: &Style,
+) -> Result<(), AllocError>
+    ensures ok { OnOk result (string_bytes html.new
+        ≡ string_bytes html.old ++ next_style is_first (Some style.now)) }
+    ensures grown { Grows (string_bytes html.old) (string_bytes html.new) }
+    ensures refused { OnErr result (Refused A) }
+{
+    memory::push_str(html, style_opener(is_first))?;
+    memory::push_str(html, style.property())?;
+    let code = style.code();
+    memory::push_str(html, as_str(&code))
+}
+
+// What comes before a style.
+fn style_opener(is_first: bool) -> &'static str
+    ensures { result.now ≡ style_opener is_first }
+{
+    if is_first { " style=\"" } else { "" }
+}
+
+// ASCII as a text.
+fn as_str(code: &[u8]) -> &str
+    requires { list_all is_small code.now ≡ true }
+    ensures { result.now ≡ code.now }
+{
+    unsafe { str::from_utf8_unchecked(code) }
+}
+
+// Ends an attribute, where it was begun.
+fn end_attribute<A: Allocator>(html: &mut String<A>, is_absent: bool) -> Result<(), AllocError>
+    ensures ok { OnOk result (string_bytes html.new ≡ string_bytes html.old ++ ended is_absent) }
+    ensures grown { Grows (string_bytes html.old) (string_bytes html.new) }
+    ensures refused { OnErr result (Refused A) }
+{
+    memory::push_str(html, attribute_end(is_absent))
+}
+
+// The quote that ends an attribute, where it was begun.
+fn attribute_end(is_absent: bool) -> &'static str
+    ensures { result.now ≡ ended is_absent }
+{
+    if is_absent { "" } else { "\"" }
+}
