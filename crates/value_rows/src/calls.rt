@@ -1,10 +1,12 @@
 //! The calls that rows name.
 use crate::codecs::{base64, bytes_image, displayed, of_parts, written};
 use crate::heap::is_exact;
+use crate::pages::page;
 use crate::queries::query_of;
 use crate::segments::{counted, listed};
 use crate::sixels::{count_of, drawn, written_with};
 use crate::words::word;
+use esc_html::is_safe_address;
 use esc_kitty::KittyImage;
 use esc_links::Hyperlink;
 use esc_values::scalar::text_in;
@@ -28,6 +30,8 @@ use std::alloc::{AllocError, Global};
 /// - `query-again`: how many names a termcap query has, byte by byte, that is written as it came.
 /// - `segments`: the kind and the length of each; `segment-count`, of those that are of the kind of
 ///   the first, how many they are, and of how many bytes.
+/// - `html` and `html-by-lines`: the HTML of a stream, with what closes it; `safe-address`: whether a
+///   link of a page may lead to it.
 /// - `refusing`: whether the allocator that refuses a request refuses this alone.
 /// - the words and numbers of `words.rt`, which take no memory.
 pub fn answer(
@@ -52,6 +56,8 @@ pub fn answer(
         "query-again" => query_of(alloc, heap, input),
         "segments" => listed(alloc, input),
         "segment-count" => counted(alloc, input),
+        "html" | "html-by-lines" => page(alloc, heap, input, call == "html-by-lines"),
+        "safe-address" => format!(in alloc; "{}", is_safe_address(text(input))),
         "refusing" => format!(in alloc; "{}", is_exact(alloc)),
         _ => word(call, alloc, input),
     }
