@@ -1,5 +1,5 @@
 -- Texts that are given one character at a time.
-use Rattle.std.proofs.Common.{ℕ, ◌≡◌, ◌+◌, ◌≤◌, ◌⊎◌, List, [], length, drop, map, refl, ap, sym, ◌∙◌, subst, arith}
+use Rattle.std.proofs.Common.{ℕ, ◌≡◌, ◌+◌, ◌≤◌, ◌⊎◌, List, length, drop, map, ap, sym, ◌∙◌, subst, arith}
 use Rattle.std.proofs.Common.{length-drop}
 use Rattle.std.specs.List.{FoldsTo, list_all}
 use Rattle.std.specs.Str.{chars}

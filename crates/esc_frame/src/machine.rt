@@ -209,10 +209,8 @@ impl<K: Store, A: Allocator> Machine<K, A> {
     {
         let mut at = 0;
         while at < bytes.len() {
-            match self.take(limit, &bytes[at..], actor) {
-                Ok(n) => at += n,
-                Err(e) => return Err(e),
-            }
+            let n = self.take(limit, &bytes[at..], actor)?;
+            at += n;
         }
         Ok(())
     }
@@ -294,9 +292,7 @@ impl<K: Store, A: Allocator> Machine<K, A> {
         ensures quiet { (u : Unfinished) → Quietly limit result u rest.now }
         ensures count { Advances V.Taker result rest.now actor }
     {
-        match self.step(limit, rest[0], classify(rest[0]), actor) {
-            Ok(()) => Ok(1),
-            Err(e) => Err(e),
-        }
+        self.step(limit, rest[0], classify(rest[0]), actor)?;
+        Ok(1)
     }
 }

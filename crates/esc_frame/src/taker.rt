@@ -53,10 +53,7 @@ pub trait Taker {
         ensures ready { is_ready self.old → OnOk result (is_ready self.new) }
     {
         for b in text {
-            match self.print(*b as char) {
-                Ok(()) => {}
-                Err(e) => return Err(e),
-            }
+            self.print(*b as char)?;
         }
         Ok(())
     }
@@ -75,10 +72,8 @@ pub trait Taker {
         let mut at = 0;
         while at < bytes.len() {
             let (c, n) = first_of(&bytes[at..]);
-            match self.print(c) {
-                Ok(()) => at += n,
-                Err(e) => return Err(e),
-            }
+            self.print(c)?;
+            at += n;
         }
         Ok(())
     }
@@ -121,10 +116,7 @@ pub trait Taker {
         ensures ready { is_ready self.old → OnOk result (is_ready self.new) }
     {
         for b in bytes {
-            match self.dcs_put(*b) {
-                Ok(()) => {}
-                Err(e) => return Err(e),
-            }
+            self.dcs_put(*b)?;
         }
         Ok(())
     }

@@ -92,10 +92,8 @@ impl<K: Store, A: Allocator> Machine<K, A> {
             (emitting (DcsUnhook ∷ []) (ground_move b class)) self actor }
         ensures ready { V.is_ready actor.old → OnOk result (V.is_ready actor.new) }
     {
-        match actor.dcs_unhook() {
-            Ok(()) => self.in_ground(b, class, actor),
-            Err(e) => Err(e),
-        }
+        actor.dcs_unhook()?;
+        self.in_ground(b, class, actor)
     }
 
     /// The run of 20-7E in the data of a device control string.
@@ -118,10 +116,8 @@ impl<K: Store, A: Allocator> Machine<K, A> {
         if run == 0 {
             return self.take_one(limit, rest, actor);
         }
-        match actor.dcs_put_text(&rest[..run]) {
-            Ok(()) => Ok(run),
-            Err(e) => Err(e),
-        }
+        actor.dcs_put_text(&rest[..run])?;
+        Ok(run)
     }
 }
 

@@ -101,10 +101,8 @@ impl<K: Store, A: Allocator> Machine<K, A> {
         ensures quiet { (u : Unfinished) → Quietly limit result u rest.now }
         ensures count { Advances V.Taker result rest.now actor }
     {
-        match self.in_escape(rest[0], classify(rest[0]), actor) {
-            Ok(()) => Ok(1),
-            Err(e) => Err(e),
-        }
+        self.in_escape(rest[0], classify(rest[0]), actor)?;
+        Ok(1)
     }
 
     // The final byte of an escape sequence.
@@ -256,10 +254,8 @@ impl<K: Store, A: Allocator> Machine<K, A> {
         ensures some { IfOk result (λ n. 0 < n) }
         ensures quiet { (limit : Option ℕ) → Quietly limit result Ground rest.now }
     {
-        match actor.csi_dispatch(self.short.as_slice(), false, rest[run + 2]) {
-            Ok(()) => Ok(run + 3),
-            Err(e) => Err(e),
-        }
+        actor.csi_dispatch(self.short.as_slice(), false, rest[run + 2])?;
+        Ok(run + 3)
     }
 
     // A control sequence, up to its final byte or what else is not of its body.
@@ -272,10 +268,8 @@ impl<K: Store, A: Allocator> Machine<K, A> {
             → ConsumesSome K.Store V.Taker limit result rest.now self actor }
     {
         self.open(Kind::Csi);
-        match self.take_in_csi(&rest[2..], actor) {
-            Ok(n) => Ok(2 + n),
-            Err(e) => Err(e),
-        }
+        let n = self.take_in_csi(&rest[2..], actor)?;
+        Ok(2 + n)
     }
 
     /// The run of 20-3F in a control sequence, and the byte after it.
@@ -311,10 +305,8 @@ impl<K: Store, A: Allocator> Machine<K, A> {
         if run == rest.len() {
             return Ok(run);
         }
-        match self.end_body(rest[run], actor) {
-            Ok(()) => Ok(run + 1),
-            Err(e) => Err(e),
-        }
+        self.end_body(rest[run], actor)?;
+        Ok(run + 1)
     }
 
     // A byte of a control sequence, which most often is its final byte.

@@ -154,10 +154,8 @@ impl<K: Store, A: Allocator> Machine<K, A> {
             (emitting (Print 0xfffd ∷ []) (ground_move b class)) self actor }
         ensures ready { V.is_ready actor.old → OnOk result (V.is_ready actor.new) }
     {
-        match actor.print('\u{fffd}') {
-            Ok(()) => self.in_ground(b, class, actor),
-            Err(e) => Err(e),
-        }
+        actor.print('\u{fffd}')?;
+        self.in_ground(b, class, actor)
     }
 
     // A byte that completes a sequence.
@@ -194,18 +192,12 @@ impl<K: Store, A: Allocator> Machine<K, A> {
         ensures took { Consumes K.Store V.Taker limit result Ground rest.now self actor }
         ensures count { Advances V.Taker result rest.now actor }
     {
-        match self.take_quick(rest, actor) {
-            Ok(printed) => {
-                if printed == rest.len() {
-                    return Ok(printed);
-                }
-                match self.take_string(limit, &rest[printed..], actor) {
-                    Ok(n) => Ok(printed + n),
-                    Err(e) => Err(e),
-                }
-            }
-            Err(e) => Err(e),
+        let printed = self.take_quick(rest, actor)?;
+        if printed == rest.len() {
+            return Ok(printed);
         }
+        let n = self.take_string(limit, &rest[printed..], actor)?;
+        Ok(printed + n)
     }
 
     // Characters, controls and short control sequences, as long as they come.
@@ -279,13 +271,9 @@ impl<K: Store, A: Allocator> Machine<K, A> {
         ensures took { Consumes K.Store V.Taker limit result Ground rest.now self actor }
         ensures count { Advances V.Taker result rest.now actor }
     {
-        match self.take_control(limit, rest, actor) {
-            Ok(n) => match self.take_terminator(limit, &rest[n..], actor) {
-                Ok(more) => Ok(n + more),
-                Err(e) => Err(e),
-            },
-            Err(e) => Err(e),
-        }
+        let n = self.take_control(limit, rest, actor)?;
+        let more = self.take_terminator(limit, &rest[n..], actor)?;
+        Ok(n + more)
     }
 
     // A byte, or a sequence that ESC begins, in ground.
@@ -315,9 +303,7 @@ impl<K: Store, A: Allocator> Machine<K, A> {
         ensures { (limit : Option ℕ)
             → ConsumesSome K.Store V.Taker limit result rest.now self actor }
     {
-        match self.in_ground(rest[0], classify(rest[0]), actor) {
-            Ok(()) => Ok(1),
-            Err(e) => Err(e),
-        }
+        self.in_ground(rest[0], classify(rest[0]), actor)?;
+        Ok(1)
     }
 }

@@ -83,10 +83,10 @@ impl<K: Store, A: Allocator> Machine<K, A> {
                 self.pending = self.pending.with(b);
                 Ok(())
             }
-            Outcome::Broken => match self.text.push(limit, &[0xef, 0xbf, 0xbd]) {
-                Ok(()) => self.in_osc(limit, b, class, actor),
-                Err(e) => Err(e),
-            },
+            Outcome::Broken => {
+                self.text.push(limit, &[0xef, 0xbf, 0xbd])?;
+                self.in_osc(limit, b, class, actor)
+            }
         }
     }
 
@@ -126,10 +126,8 @@ impl<K: Store, A: Allocator> Machine<K, A> {
             (emitting (osc_events limit t) (ground_move b class)) self actor) }
         ensures ready { V.is_ready actor.old → OnOk result (V.is_ready actor.new) }
     {
-        match emit_osc(&self.text, &self.alloc, actor) {
-            Ok(()) => self.in_ground(b, class, actor),
-            Err(e) => Err(e),
-        }
+        emit_osc(&self.text, &self.alloc, actor)?;
+        self.in_ground(b, class, actor)
     }
 
     // A control after C2, in an OSC.
@@ -141,10 +139,8 @@ impl<K: Store, A: Allocator> Machine<K, A> {
             (emitting (osc_events limit t) (pair_move b class)) self actor) }
         ensures ready { V.is_ready actor.old → OnOk result (V.is_ready actor.new) }
     {
-        match emit_osc(&self.text, &self.alloc, actor) {
-            Ok(()) => self.in_pair(b, class, actor),
-            Err(e) => Err(e),
-        }
+        emit_osc(&self.text, &self.alloc, actor)?;
+        self.in_pair(b, class, actor)
     }
 
     /// An operating system command, up to its end or what else its text does not keep as it is.
@@ -161,10 +157,8 @@ impl<K: Store, A: Allocator> Machine<K, A> {
         requires ready { MayEmit V.Taker (events_all limit Ground rest.now) actor.old }
         ensures { ConsumesSome K.Store V.Taker limit result rest.now self actor }
     {
-        match self.take_body(limit, &rest[2..], actor) {
-            Ok(n) => Ok(2 + n),
-            Err(e) => Err(e),
-        }
+        let n = self.take_body(limit, &rest[2..], actor)?;
+        Ok(2 + n)
     }
 
     // What follows the opener, or else no byte that counts: a text that ends in these bytes is lent
@@ -239,10 +233,8 @@ impl<K: Store, A: Allocator> Machine<K, A> {
         ensures quiet { AnyOsc (λ u. Quietly limit result u rest.now) }
         ensures count { Advances V.Taker result rest.now actor }
     {
-        match self.end_borrowed(limit, &rest[..run], rest[run], actor) {
-            Ok(()) => Ok(run + 1),
-            Err(e) => Err(e),
-        }
+        self.end_borrowed(limit, &rest[..run], rest[run], actor)?;
+        Ok(run + 1)
     }
 
     // A text, and the control after C2 that ends it.
@@ -265,10 +257,8 @@ impl<K: Store, A: Allocator> Machine<K, A> {
         ensures quiet { AnyOsc (λ u. Quietly limit result u rest.now) }
         ensures count { Advances V.Taker result rest.now actor }
     {
-        match self.end_borrowed_by_pair(limit, &rest[..run], rest[run + 1], actor) {
-            Ok(()) => Ok(run + 2),
-            Err(e) => Err(e),
-        }
+        self.end_borrowed_by_pair(limit, &rest[..run], rest[run + 1], actor)?;
+        Ok(run + 2)
     }
 
     // What ends a command whose text is lent.
@@ -286,10 +276,8 @@ impl<K: Store, A: Allocator> Machine<K, A> {
             (emitting (osc_events limit text.now) (osc_left b (class_of b))) self actor }
         ensures ready { V.is_ready actor.old → OnOk result (V.is_ready actor.new) }
     {
-        match emit_borrowed(limit, &self.alloc, text, actor) {
-            Ok(()) => self.leave_borrowed(b, actor),
-            Err(e) => Err(e),
-        }
+        emit_borrowed(limit, &self.alloc, text, actor)?;
+        self.leave_borrowed(b, actor)
     }
 
     // A control after C2 that ends a command whose text is lent.
@@ -306,10 +294,8 @@ impl<K: Store, A: Allocator> Machine<K, A> {
             (emitting (osc_events limit text.now) (pair_move b (class_of b))) self actor }
         ensures ready { V.is_ready actor.old → OnOk result (V.is_ready actor.new) }
     {
-        match emit_borrowed(limit, &self.alloc, text, actor) {
-            Ok(()) => self.in_pair(b, classify(b), actor),
-            Err(e) => Err(e),
-        }
+        emit_borrowed(limit, &self.alloc, text, actor)?;
+        self.in_pair(b, classify(b), actor)
     }
 
     // A bell, or a breaker.
@@ -374,10 +360,8 @@ impl<K: Store, A: Allocator> Machine<K, A> {
         ensures quiet { AnyOsc (λ u. Quietly limit result u rest.now) }
         ensures count { Advances V.Taker result rest.now actor }
     {
-        match self.text.push(limit, &rest[..run]) {
-            Ok(()) => self.take_after_text(limit, rest, run, actor),
-            Err(e) => Err(e),
-        }
+        self.text.push(limit, &rest[..run])?;
+        self.take_after_text(limit, rest, run, actor)
     }
 
     // The byte after units of an operating system command that were kept.
@@ -406,10 +390,8 @@ impl<K: Store, A: Allocator> Machine<K, A> {
         if run == rest.len() {
             return Ok(run);
         }
-        match self.in_osc(limit, rest[run], classify(rest[run]), actor) {
-            Ok(()) => Ok(run + 1),
-            Err(e) => Err(e),
-        }
+        self.in_osc(limit, rest[run], classify(rest[run]), actor)?;
+        Ok(run + 1)
     }
 }
 

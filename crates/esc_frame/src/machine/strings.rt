@@ -58,10 +58,8 @@ impl<K: Store, A: Allocator> Machine<K, A> {
             (emitting (apc_events limit t) (ground_move b class)) self actor) }
         ensures ready { V.is_ready actor.old → OnOk result (V.is_ready actor.new) }
     {
-        match emit_apc(&self.text, actor) {
-            Ok(()) => self.in_ground(b, class, actor),
-            Err(e) => Err(e),
-        }
+        emit_apc(&self.text, actor)?;
+        self.in_ground(b, class, actor)
     }
 
     /// A byte that is passed over, but for a breaker.
@@ -139,10 +137,8 @@ impl<K: Store, A: Allocator> Machine<K, A> {
         ensures quiet { AnyApc (λ u. Quietly limit result u rest.now) }
         ensures count { Advances V.Taker result rest.now actor }
     {
-        match self.text.push(limit, &rest[..run]) {
-            Ok(()) => self.take_after_apc(limit, rest, run, actor),
-            Err(e) => Err(e),
-        }
+        self.text.push(limit, &rest[..run])?;
+        self.take_after_apc(limit, rest, run, actor)
     }
 
     // The byte after a run in an application program command that was kept.
@@ -170,10 +166,8 @@ impl<K: Store, A: Allocator> Machine<K, A> {
         if run == rest.len() {
             return Ok(run);
         }
-        match self.in_apc(limit, rest[run], classify(rest[run]), actor) {
-            Ok(()) => Ok(run + 1),
-            Err(e) => Err(e),
-        }
+        self.in_apc(limit, rest[run], classify(rest[run]), actor)?;
+        Ok(run + 1)
     }
 
     // A text, and the breaker that ends it.
@@ -195,10 +189,8 @@ impl<K: Store, A: Allocator> Machine<K, A> {
         ensures quiet { AnyApc (λ u. Quietly limit result u rest.now) }
         ensures count { Advances V.Taker result rest.now actor }
     {
-        match self.end_borrowed_apc(limit, &rest[..run], rest[run], actor) {
-            Ok(()) => Ok(run + 1),
-            Err(e) => Err(e),
-        }
+        self.end_borrowed_apc(limit, &rest[..run], rest[run], actor)?;
+        Ok(run + 1)
     }
 
     // A breaker after an application program command whose text is lent.
@@ -216,10 +208,8 @@ impl<K: Store, A: Allocator> Machine<K, A> {
             (emitting (apc_events limit text.now) (ground_move b (class_of b))) self actor }
         ensures ready { V.is_ready actor.old → OnOk result (V.is_ready actor.new) }
     {
-        match emit_borrowed_apc(limit, text, actor) {
-            Ok(()) => self.leave_string(b, actor),
-            Err(e) => Err(e),
-        }
+        emit_borrowed_apc(limit, text, actor)?;
+        self.leave_string(b, actor)
     }
 
     /// The run of 20-7F in what is passed over.

@@ -3,22 +3,25 @@ use Rattle.esc_frame.specs.Machine.Moves.{ground_move}
 use Rattle.esc_frame.specs.Segments.{apc_events}
 use Rattle.esc_frame.proofs.Given.{moves_then, stops_more, stops_for}
 use Rattle.esc_frame.specs.Machine.Calls.{Fails}
+use Rattle.esc_frame.proofs.Failed.{error_of}
 use Rattle.esc_frame.proofs.machine.Machine.end_borrowed_apc.Goals as goal
 
-pub returns-in-Ok-clause-moved : goal.returns-in-Ok-clause-moved
-returns-in-Ok-clause-moved g c = λ own.
+pub returns-clause-moved : goal.returns-clause-moved
+returns-clause-moved g c = λ own.
     moves_then g.K.Store.keeps (Fails g.K.Store.denied g.V.Taker.stops g.row.A.Denot)
     c.args.limit own
     g.V.Taker.takes g.V.Taker.refuses c.leave_string.result
     (apc_events c.args.limit c.args.text.now)
     (ground_move c.args.b (class_of c.args.b))
-    c.leave_string.new.self c.args.actor.now _ _ c.in-Ok.ensures.emitted
+    c.leave_string.new.self c.args.actor.now _ _ c.in_ok-emit_borrowed_apc.ensures.emitted
     (c.leave_string.ensures.moved c.args.limit own)
 
-pub returns-in-Err-clause-moved : goal.returns-in-Err-clause-moved
-returns-in-Err-clause-moved g c = λ own.
-    stops_more _ g.V.Taker.takes g.V.Taker.refuses (apc_events c.args.limit c.args.text.now)
+pub returns-in_err-emit_borrowed_apc-clause-moved
+    : goal.returns-in_err-emit_borrowed_apc-clause-moved
+returns-in_err-emit_borrowed_apc-clause-moved g c = λ own.
+    rw (error_of c.from_residual.result c.from_residual.ensures.0).1
+    (stops_more _ g.V.Taker.takes g.V.Taker.refuses (apc_events c.args.limit c.args.text.now)
     _ c.args.actor.now _
     (stops_for ⊥ _ g.V.Taker.takes g.V.Taker.refuses (apc_events c.args.limit c.args.text.now)
     c.args.actor.now _
-    (λ no. absurd no) c.in-Err.ensures.emitted)
+    (λ no. absurd no) c.in_err-emit_borrowed_apc.ensures.emitted))

@@ -5,16 +5,17 @@ use Rattle.esc_frame.specs.Machine.Calls.{Moved, Fails}
 use Rattle.esc_frame.specs.Machine.Moves.{pair_move}
 use Rattle.esc_frame.specs.Segments.{osc_events}
 use Rattle.esc_frame.proofs.Given.{moves_then, stops_more, stops_for}
+use Rattle.esc_frame.proofs.Failed.{error_of}
 use Rattle.esc_frame.proofs.machine.Machine.end_borrowed_by_pair.Goals as goal
 
-pub returns-in-Ok-clause-moved : goal.returns-in-Ok-clause-moved
-returns-in-Ok-clause-moved g c =
+pub returns-clause-moved : goal.returns-clause-moved
+returns-clause-moved g c =
     moves_then g.K.Store.keeps (Fails g.K.Store.denied g.V.Taker.stops g.row.A.Denot)
     c.args.limit (not (has_few_parts c.args.text.now))
     g.V.Taker.takes g.V.Taker.refuses c.in_pair.result
     (osc_events c.args.limit c.args.text.now)
     (pair_move c.args.b (class_of c.args.b)) c.in_pair.new.self c.args.actor.now _ _
-    c.in-Ok.ensures.emitted
+    c.in_ok-emit_borrowed.ensures.emitted
     (subst (λ k. Moved g.K.Store.keeps (Fails g.K.Store.denied g.V.Taker.stops g.row.A.Denot)
     c.args.limit
     (not (has_few_parts c.args.text.now)) g.V.Taker.takes g.V.Taker.refuses c.in_pair.result
@@ -23,10 +24,11 @@ returns-in-Ok-clause-moved g c =
     c.classify.ensures (c.in_pair.ensures.moved c.args.limit
     (not (has_few_parts c.args.text.now))))
 
-pub returns-in-Err-clause-moved : goal.returns-in-Err-clause-moved
-returns-in-Err-clause-moved g c =
-    stops_more _ g.V.Taker.takes g.V.Taker.refuses (osc_events c.args.limit c.args.text.now)
+pub returns-in_err-emit_borrowed-clause-moved : goal.returns-in_err-emit_borrowed-clause-moved
+returns-in_err-emit_borrowed-clause-moved g c =
+    rw (error_of c.from_residual.result c.from_residual.ensures.0).1
+    (stops_more _ g.V.Taker.takes g.V.Taker.refuses (osc_events c.args.limit c.args.text.now)
     _ c.args.actor.now _
     (stops_for _ _ g.V.Taker.takes g.V.Taker.refuses (osc_events c.args.limit c.args.text.now)
     c.args.actor.now _
-    (λ o. (o.0, inr o.1)) c.in-Err.ensures.emitted)
+    (λ o. (o.0, inr o.1)) c.in_err-emit_borrowed.ensures.emitted))

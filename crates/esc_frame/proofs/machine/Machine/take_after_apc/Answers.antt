@@ -6,6 +6,7 @@ use Rattle.esc_frame.proofs.Still.{apc_end_still, less_still}
 use Rattle.esc_frame.proofs.StringRuns.{apc_text, apc_kept}
 use Rattle.std.proofs.Math.Logic.{⊎_map}
 use Rattle.esc_frame.proofs.Awaited.{next_awaited}
+use Rattle.esc_frame.proofs.Failed.{error_of}
 use Rattle.esc_frame.proofs.machine.Machine.take_after_apc.Goals as goal
 
 pub returns-then-run-rest-clause-took : goal.returns-then-run-rest-clause-took
@@ -22,8 +23,8 @@ returns-then-run-rest-clause-took g c = λ o d k not_borrowed.
       fresh,
     )
 
-pub returns-in-Ok-clause-took : goal.returns-in-Ok-clause-took
-returns-in-Ok-clause-took g c = λ o d k not_borrowed.
+pub returns-clause-took : goal.returns-clause-took
+returns-clause-took g c = λ o d k not_borrowed.
     let xs = take c.args.run c.args.rest.now in
     quiet_took c.args.limit g.V.Taker.takes g.V.Taker.refuses (InApc o d) (InApc o (d ++ xs))
     c.args.rest.now c.args.run _ c.args.actor.now
@@ -31,29 +32,30 @@ returns-in-Ok-clause-took g c = λ o d k not_borrowed.
     (apc_text c.args.limit o d xs c.requires.passes) (omega arith) c.classify.ensures
     g.K.Store.keeps c.in_apc.new.self
     (unborrowed_fresh (InApc o d) c.args.rest.now (c.args.run + 1) not_borrowed)
-    (c.in-Ok.ensures.moved c.classify.ensures o (d ++ xs)
+    (c.in_ok-in_apc.ensures.moved c.classify.ensures o (d ++ xs)
     (subst (g.K.Store.keeps c.args.limit c.args.self.now.text)
     (sym (apc_kept d xs c.requires.passes)) k))
 
-pub returns-in-Err-clause-took : goal.returns-in-Err-clause-took
-returns-in-Err-clause-took g c = λ o d k not_borrowed.
-    let xs = take c.args.run c.args.rest.now in
+pub returns-in_err-in_apc-clause-took : goal.returns-in_err-in_apc-clause-took
+returns-in_err-in_apc-clause-took g c = λ o d k not_borrowed.
+    rw (error_of c.from_residual.result c.from_residual.ensures.0).1
+    (let xs = take c.args.run c.args.rest.now in
     quiet_stops c.args.limit g.V.Taker.takes g.V.Taker.refuses (InApc o d) (InApc o (d ++ xs))
     c.args.rest.now c.args.run _ c.args.actor.now
     c.in_apc.new.actor
     (apc_text c.args.limit o d xs c.requires.passes) (omega arith) c.classify.ensures (λ may.
     not_borrowed)
-    (c.in-Err.ensures.moved c.classify.ensures o (d ++ xs)
+    (c.in_err-in_apc.ensures.moved c.classify.ensures o (d ++ xs)
     (subst (g.K.Store.keeps c.args.limit c.args.self.now.text)
-    (sym (apc_kept d xs c.requires.passes)) k))
+    (sym (apc_kept d xs c.requires.passes)) k)))
 
 pub returns-then-run-rest-clause-quiet : goal.returns-then-run-rest-clause-quiet
 returns-then-run-rest-clause-quiet g c = λ o d.
     less_still c.args.limit (InApc o d) c.args.rest.now c.args.run (c.args.run + 1) (omega arith)
     (apc_end_still c.args.limit o d c.args.rest.now c.args.run c.requires.passes)
 
-pub returns-in-Ok-clause-quiet : goal.returns-in-Ok-clause-quiet
-returns-in-Ok-clause-quiet g c =
+pub returns-clause-quiet : goal.returns-clause-quiet
+returns-clause-quiet g c =
     λ o d. apc_end_still c.args.limit o d c.args.rest.now c.args.run c.requires.passes
 
 pub in_apc-requires : goal.in_apc-requires

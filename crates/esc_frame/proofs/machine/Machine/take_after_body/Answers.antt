@@ -7,6 +7,7 @@ use Rattle.esc_frame.proofs.QuietRuns.{quiet_took, quiet_stops}
 use Rattle.esc_frame.proofs.Still.{body_still, body_fresh, less_still}
 use Rattle.std.proofs.Math.Logic.{⊎_map}
 use Rattle.esc_frame.proofs.Awaited.{next_awaited}
+use Rattle.esc_frame.proofs.Failed.{error_of}
 use Rattle.esc_frame.proofs.machine.Machine.take_after_body.Goals as goal
 
 pub returns-then-run-rest-clause-took : goal.returns-then-run-rest-clause-took
@@ -21,25 +22,26 @@ returns-then-run-rest-clause-took g c = λ limit o x k.
       λ l. ap is_fresh q.0,
     )
 
-pub returns-in-Ok-clause-took : goal.returns-in-Ok-clause-took
-returns-in-Ok-clause-took g c = λ limit o x k.
+pub returns-clause-took : goal.returns-clause-took
+returns-clause-took g c = λ limit o x k.
     let xs : List ℕ = take c.args.run c.args.rest.now in
     quiet_took limit g.V.Taker.takes g.V.Taker.refuses (InCsi o x) (InCsi o (x ++ xs))
     c.args.rest.now c.args.run _ c.args.actor.now c.end_body.new.actor
     (body_quiet limit o x xs c.requires.passes) (omega arith) refl g.K.Store.keeps
     c.end_body.new.self
     (body_fresh o x c.args.rest.now c.args.run c.requires.passes (omega arith))
-    (c.in-Ok.ensures.moved limit o (x ++ xs)
+    (c.in_ok-end_body.ensures.moved limit o (x ++ xs)
     (subst (KeepsBody c.args.self.now.body) (sym (body_strip x xs c.requires.passes)) k))
 
-pub returns-in-Err-clause-took : goal.returns-in-Err-clause-took
-returns-in-Err-clause-took g c = λ limit o x k.
-    let xs : List ℕ = take c.args.run c.args.rest.now in
+pub returns-in_err-end_body-clause-took : goal.returns-in_err-end_body-clause-took
+returns-in_err-end_body-clause-took g c = λ limit o x k.
+    rw (error_of c.from_residual.result c.from_residual.ensures.0).1
+    (let xs : List ℕ = take c.args.run c.args.rest.now in
     quiet_stops limit g.V.Taker.takes g.V.Taker.refuses (InCsi o x) (InCsi o (x ++ xs))
     c.args.rest.now c.args.run _ c.args.actor.now c.end_body.new.actor
     (body_quiet limit o x xs c.requires.passes) (omega arith) refl (λ may. absurd cc)
-    (c.in-Err.ensures.moved limit o (x ++ xs)
-    (subst (KeepsBody c.args.self.now.body) (sym (body_strip x xs c.requires.passes)) k))
+    (c.in_err-end_body.ensures.moved limit o (x ++ xs)
+    (subst (KeepsBody c.args.self.now.body) (sym (body_strip x xs c.requires.passes)) k)))
 
 pub returns-then-run-rest-clause-quiet : goal.returns-then-run-rest-clause-quiet
 returns-then-run-rest-clause-quiet g c =
@@ -47,8 +49,8 @@ returns-then-run-rest-clause-quiet g c =
     (omega arith)
     (body_still limit o x c.args.rest.now c.args.run c.requires.passes)
 
-pub returns-in-Ok-clause-quiet : goal.returns-in-Ok-clause-quiet
-returns-in-Ok-clause-quiet g c =
+pub returns-clause-quiet : goal.returns-clause-quiet
+returns-clause-quiet g c =
     λ limit o x. body_still limit o x c.args.rest.now c.args.run c.requires.passes
 
 pub end_body-requires : goal.end_body-requires

@@ -6,6 +6,7 @@ use Rattle.esc_frame.proofs.Still.{text_still, less_still}
 use Rattle.esc_frame.proofs.StringRuns.{run_text}
 use Rattle.std.proofs.Math.Logic.{⊎_map}
 use Rattle.esc_frame.proofs.Awaited.{next_awaited}
+use Rattle.esc_frame.proofs.Failed.{error_of}
 use Rattle.esc_frame.proofs.machine.Machine.take_after_text.Goals as goal
 
 pub returns-then-run-rest-clause-took : goal.returns-then-run-rest-clause-took
@@ -22,26 +23,27 @@ returns-then-run-rest-clause-took g c = λ o ps k not_borrowed.
       fresh,
     )
 
-pub returns-in-Ok-clause-took : goal.returns-in-Ok-clause-took
-returns-in-Ok-clause-took g c = λ o ps k not_borrowed.
+pub returns-clause-took : goal.returns-clause-took
+returns-clause-took g c = λ o ps k not_borrowed.
     let run = c.requires.passes in
     quiet_took c.args.limit g.V.Taker.takes g.V.Taker.refuses (InOsc o ps) (InOsc o (ps ++ run.0))
     c.args.rest.now c.args.run _ c.args.actor.now
     c.in_osc.new.actor
     (run.2 c.args.limit o ps) (omega arith) c.classify.ensures g.K.Store.keeps c.in_osc.new.self
     (unborrowed_fresh (InOsc o ps) c.args.rest.now (c.args.run + 1) not_borrowed)
-    (c.in-Ok.ensures.moved c.classify.ensures o (ps ++ run.0)
+    (c.in_ok-in_osc.ensures.moved c.classify.ensures o (ps ++ run.0)
     (subst (g.K.Store.keeps c.args.limit c.args.self.now.text) (run_text ps run) k))
 
-pub returns-in-Err-clause-took : goal.returns-in-Err-clause-took
-returns-in-Err-clause-took g c = λ o ps k not_borrowed.
-    let run = c.requires.passes in
+pub returns-in_err-in_osc-clause-took : goal.returns-in_err-in_osc-clause-took
+returns-in_err-in_osc-clause-took g c = λ o ps k not_borrowed.
+    rw (error_of c.from_residual.result c.from_residual.ensures.0).1
+    (let run = c.requires.passes in
     quiet_stops c.args.limit g.V.Taker.takes g.V.Taker.refuses (InOsc o ps) (InOsc o (ps ++ run.0))
     c.args.rest.now c.args.run _ c.args.actor.now
     c.in_osc.new.actor
     (run.2 c.args.limit o ps) (omega arith) c.classify.ensures (λ may. not_borrowed)
-    (c.in-Err.ensures.moved c.classify.ensures o (ps ++ run.0)
-    (subst (g.K.Store.keeps c.args.limit c.args.self.now.text) (run_text ps run) k))
+    (c.in_err-in_osc.ensures.moved c.classify.ensures o (ps ++ run.0)
+    (subst (g.K.Store.keeps c.args.limit c.args.self.now.text) (run_text ps run) k)))
 
 pub returns-then-run-rest-clause-quiet : goal.returns-then-run-rest-clause-quiet
 returns-then-run-rest-clause-quiet g c = λ o ps.
@@ -49,8 +51,8 @@ returns-then-run-rest-clause-quiet g c = λ o ps.
     (text_still c.args.limit o ps c.args.rest.now c.args.run (λ any.
     (c.requires.passes.2 any o ps).1))
 
-pub returns-in-Ok-clause-quiet : goal.returns-in-Ok-clause-quiet
-returns-in-Ok-clause-quiet g c = λ o ps.
+pub returns-clause-quiet : goal.returns-clause-quiet
+returns-clause-quiet g c = λ o ps.
     text_still c.args.limit o ps c.args.rest.now c.args.run (λ any.
     (c.requires.passes.2 any o ps).1)
 

@@ -3,6 +3,7 @@ use Rattle.esc_frame.specs.Machine.Moves.{after_all}
 use Rattle.esc_frame.proofs.ManyBytes.{ran_took, ran_ends, tail_length}
 use Rattle.std.proofs.Math.Logic.{⊎_map}
 use Rattle.esc_frame.proofs.MayRun.{cut_rest}
+use Rattle.esc_frame.proofs.Failed.{error_of}
 use Rattle.esc_frame.proofs.machine.Machine.take_all.Goals as goal
 
 pub loop-at-preserved : goal.loop-at-preserved
@@ -10,24 +11,25 @@ loop-at-preserved g c =
     let i = c.loop-at.at in
     let bs = c.args.bytes.now in
     let l = tail_length bs i in (
-      omega (arith, c.in-Ok.ensures.count),
-      (λ r. c.in-Ok.ensures.count.2 (c.loop-at.invariant.1 r)),
+      omega (arith, c.in_ok-n.ensures.count),
+      (λ r. c.in_ok-n.ensures.count.2 (c.loop-at.invariant.1 r)),
       λ u h.
           let p = c.loop-at.invariant.2 u h in
           let v = after_all u (take i bs) in
           ran_took c.args.limit g.V.Taker.takes g.V.Taker.refuses u v bs i c.args.actor.now _ _ refl
-          p.1 g.K.Store.keeps c.take.new.self c.in-Ok.n p.2
-          (c.in-Ok.ensures.took v p.0),
+          p.1 g.K.Store.keeps c.take.new.self c.in_ok-n.n p.2
+          (c.in_ok-n.ensures.took v p.0),
     )
 
-pub returns-in-Err-clause-emitted : goal.returns-in-Err-clause-emitted
-returns-in-Err-clause-emitted g c = λ u h.
-    let i = c.loop-at.at in
+pub returns-in_err-n-clause-emitted : goal.returns-in_err-n-clause-emitted
+returns-in_err-n-clause-emitted g c = λ u h.
+    rw (error_of c.from_residual.result c.from_residual.ensures.0).1
+    (let i = c.loop-at.at in
     let bs = c.args.bytes.now in
     let p = c.loop-at.invariant.2 u h in
     let v = after_all u (take i bs) in
     ran_ends c.args.limit g.V.Taker.takes g.V.Taker.refuses u v bs i c.args.actor.now _ _ refl p.1
-    p.2 (c.in-Err.ensures.took v p.0)
+    p.2 (c.in_err-n.ensures.took v p.0))
 
 pub take-requires-clause-ready : goal.take-requires-clause-ready
 take-requires-clause-ready g c =

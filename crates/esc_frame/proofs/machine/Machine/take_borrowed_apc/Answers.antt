@@ -2,25 +2,28 @@ use Rattle.std.proofs.Common.{false}
 use Rattle.esc_frame.proofs.Borrowed.{borrowed_apc_awaited, borrowed_apc_took, borrowed_apc_stops}
 use Rattle.esc_frame.proofs.Still.{apc_end_still}
 use Rattle.std.proofs.Math.Logic.{⊎_map}
+use Rattle.esc_frame.proofs.Failed.{error_of}
 use Rattle.esc_frame.proofs.machine.Machine.take_borrowed_apc.Goals as goal
 
-pub returns-in-Ok-clause-took : goal.returns-in-Ok-clause-took
-returns-in-Ok-clause-took g c = λ o d none.
+pub returns-clause-took : goal.returns-clause-took
+returns-clause-took g c = λ o d none.
     borrowed_apc_took c.args.limit g.V.Taker.takes g.V.Taker.refuses o d c.args.rest.now c.args.run
     c.args.actor.now c.end_borrowed_apc.new.actor none
     c.requires.passes c.requires.few c.requires.ends g.K.Store.keeps
-    c.end_borrowed_apc.new.self (c.in-Ok.ensures.moved false)
+    c.end_borrowed_apc.new.self (c.in_ok-end_borrowed_apc.ensures.moved false)
 
-pub returns-in-Ok-clause-quiet : goal.returns-in-Ok-clause-quiet
-returns-in-Ok-clause-quiet g c =
+pub returns-clause-quiet : goal.returns-clause-quiet
+returns-clause-quiet g c =
     λ o d. apc_end_still c.args.limit o d c.args.rest.now c.args.run c.requires.passes
 
-pub returns-in-Err-clause-took : goal.returns-in-Err-clause-took
-returns-in-Err-clause-took g c = λ o d none.
-    borrowed_apc_stops c.args.limit g.V.Taker.takes g.V.Taker.refuses o d c.args.rest.now c.args.run
+pub returns-in_err-end_borrowed_apc-clause-took : goal.returns-in_err-end_borrowed_apc-clause-took
+returns-in_err-end_borrowed_apc-clause-took g c = λ o d none.
+    rw (error_of c.from_residual.result c.from_residual.ensures.0).1
+    (borrowed_apc_stops c.args.limit g.V.Taker.takes g.V.Taker.refuses o d c.args.rest.now
+    c.args.run
     c.args.actor.now c.end_borrowed_apc.new.actor none
     c.requires.passes c.requires.few c.requires.ends
-    (c.in-Err.ensures.moved false)
+    (c.in_err-end_borrowed_apc.ensures.moved false))
 
 pub end_borrowed_apc-requires : goal.end_borrowed_apc-requires
 end_borrowed_apc-requires g c =

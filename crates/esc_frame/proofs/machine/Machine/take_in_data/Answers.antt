@@ -10,28 +10,30 @@ use Rattle.esc_frame.proofs.States.{data_fresh}
 use Rattle.esc_frame.proofs.StringRuns.{data_holds, all_pass}
 use Rattle.std.proofs.Math.Logic.{⊎_map}
 use Rattle.esc_frame.proofs.MayRun.{cut_first}
+use Rattle.esc_frame.proofs.Failed.{error_of}
 use Rattle.esc_frame.proofs.machine.Machine.take_in_data.Goals as goal
 
 pub dcs_put_text-requires-clause-bytes : goal.dcs_put_text-requires-clause-bytes
 dcs_put_text-requires-clause-bytes g c =
     all_pass is_data_byte c.args.rest.now c.data_run-run.result c.data_run-run.ensures.run
 
-pub returns-in-Ok-clause-took : goal.returns-in-Ok-clause-took
-returns-in-Ok-clause-took g c = λ u h.
+pub returns-clause-took : goal.returns-clause-took
+returns-clause-took g c = λ u h.
     let q = data_holds g.K.Store.keeps c.args.limit c.args.self.now
     (take c.data_run-run.result c.args.rest.now)
     (all_pass is_data_byte c.args.rest.now c.data_run-run.result c.data_run-run.ensures.run) u
     c.requires.state h in (
       q.0,
       subst (λ es. FoldsTo g.V.Taker.takes c.args.actor.now es c.dcs_put_text.new.self) (sym q.1)
-          c.in-Ok.ensures.emitted,
+          c.in_ok-dcs_put_text.ensures.emitted,
       data_fresh g.K.Store.keeps c.args.limit c.args.self.now u c.args.rest.now
           c.data_run-run.result c.requires.state h,
     )
 
-pub returns-in-Err-clause-took : goal.returns-in-Err-clause-took
-returns-in-Err-clause-took g c = λ u h.
-    let q = data_holds g.K.Store.keeps c.args.limit c.args.self.now
+pub returns-in_err-dcs_put_text-clause-took : goal.returns-in_err-dcs_put_text-clause-took
+returns-in_err-dcs_put_text-clause-took g c = λ u h.
+    rw (error_of c.from_residual.result c.from_residual.ensures.0).1
+    (let q = data_holds g.K.Store.keeps c.args.limit c.args.self.now
     (take c.data_run-run.result c.args.rest.now)
     (all_pass is_data_byte c.args.rest.now c.data_run-run.result c.data_run-run.ensures.run) u
     c.requires.state h in
@@ -42,7 +44,7 @@ returns-in-Err-clause-took g c = λ u h.
     (stops_for ⊥ own g.V.Taker.takes g.V.Taker.refuses _ c.args.actor.now
     c.dcs_put_text.new.self (λ no. absurd no)
     (subst (λ es. StopsAt ⊥ g.V.Taker.takes g.V.Taker.refuses c.args.actor.now es
-    c.dcs_put_text.new.self) (sym q.1) c.in-Err.ensures.emitted))
+    c.dcs_put_text.new.self) (sym q.1) c.in_err-dcs_put_text.ensures.emitted)))
 
 pub take_one-requires-clause-between : goal.take_one-requires-clause-between
 take_one-requires-clause-between g c = rw c.requires.state refl

@@ -8,10 +8,11 @@ use Rattle.esc_frame.specs.Machine.Moves.{after_all, events_all, may_grow_within
 use Rattle.esc_frame.proofs.Borrows.{one_fresh, one_unborrowed}
 use Rattle.esc_frame.proofs.QuietRuns.{quiet_took, quiet_stops}
 use Rattle.esc_frame.proofs.States.{escape_only}
+use Rattle.esc_frame.proofs.Failed.{error_of}
 use Rattle.esc_frame.proofs.machine.Machine.take_in_escape.Goals as goal
 
-pub returns-in-Ok-clause-took : goal.returns-in-Ok-clause-took
-returns-in-Ok-clause-took g c = λ u h.
+pub returns-clause-took : goal.returns-clause-took
+returns-clause-took g c = λ u h.
     escape_only g.K.Store.keeps c.args.limit c.args.self.now u c.requires.state h
     (λ v. Holds g.K.Store.keeps c.args.limit c.in_escape.new.self
     (after_all v (take 1 c.args.rest.now))
@@ -21,11 +22,12 @@ returns-in-Ok-clause-took g c = λ u h.
     c.args.rest.now 0 _ c.args.actor.now _ (refl, refl)
     c.requires.some c.classify.ensures
     g.K.Store.keeps c.in_escape.new.self (one_fresh (InEscape x) c.args.rest.now refl)
-    (c.in-Ok.ensures.moved c.classify.ensures c.args.limit false x k.1))
+    (c.in_ok-in_escape.ensures.moved c.classify.ensures c.args.limit false x k.1))
 
-pub returns-in-Err-clause-took : goal.returns-in-Err-clause-took
-returns-in-Err-clause-took g c = λ u h.
-    escape_only g.K.Store.keeps c.args.limit c.args.self.now u c.requires.state h
+pub returns-in_err-in_escape-clause-took : goal.returns-in_err-in_escape-clause-took
+returns-in_err-in_escape-clause-took g c = λ u h.
+    rw (error_of c.from_residual.result c.from_residual.ensures.0).1
+    (escape_only g.K.Store.keeps c.args.limit c.args.self.now u c.requires.state h
     (λ v. StopsAt ((may_grow_within v c.args.rest.now ≡ true)
     × Fails g.K.Store.denied g.V.Taker.stops g.row.A.Denot c.args.limit)
     g.V.Taker.takes g.V.Taker.refuses c.args.actor.now
@@ -34,4 +36,4 @@ returns-in-Err-clause-took g c = λ u h.
     (λ x k. quiet_stops c.args.limit g.V.Taker.takes g.V.Taker.refuses (InEscape x) (InEscape x)
     c.args.rest.now 0 _ c.args.actor.now _ (refl, refl)
     c.requires.some c.classify.ensures (one_unborrowed (InEscape x) c.args.rest.now refl)
-    (c.in-Err.ensures.moved c.classify.ensures c.args.limit false x k.1))
+    (c.in_err-in_escape.ensures.moved c.classify.ensures c.args.limit false x k.1)))

@@ -9,32 +9,34 @@ use Rattle.esc_frame.specs.Machine.Calls.{Fails}
 use Rattle.std.proofs.Math.Logic.{⊎_map}
 use Rattle.esc_frame.specs.Leads.Unfinished.{Ground}
 use Rattle.esc_frame.proofs.Awaited.{rest_awaited}
+use Rattle.esc_frame.proofs.Failed.{error_of}
 use Rattle.esc_frame.proofs.machine.Machine.take_long_csi.Goals as goal
 
 pub take_in_csi-requires-clause-state : goal.take_in_csi-requires-clause-state
 take_in_csi-requires-clause-state g c = (c.open.ensures None (Long [])).0
 
-pub returns-in-Ok : goal.returns-in-Ok
-returns-in-Ok g c = λ limit.
+pub returns : goal.returns
+returns g c = λ limit.
     opened_took limit (InCsi (Long []) []) c.args.rest.now c.requires.some c.requires.escape
     (csi_opens limit c.args.rest.now (omega arith) c.requires.escape c.requires.bracket) refl
     g.V.Taker.takes g.V.Taker.refuses g.V.Taker.is_ready
     c.args.actor.now c.take_in_csi.new.actor (opened_fresh kind.Csi (Long []))
     g.K.Store.keeps (Fails g.K.Store.denied g.V.Taker.stops g.row.A.Denot)
-    c.take_in_csi.new.self c.in-Ok.n
-    (c.in-Ok.ensures.took limit (Long []) [] (c.open.ensures limit (Long [])).1)
-    (c.in-Ok.ensures.quiet limit (Long []) []) c.in-Ok.ensures.count
+    c.take_in_csi.new.self c.in_ok-n.n
+    (c.in_ok-n.ensures.took limit (Long []) [] (c.open.ensures limit (Long [])).1)
+    (c.in_ok-n.ensures.quiet limit (Long []) []) c.in_ok-n.ensures.count
 
-pub returns-in-Err : goal.returns-in-Err
-returns-in-Err g c = λ limit. (
-  opened_stops limit (InCsi (Long []) []) c.args.rest.now c.requires.some c.requires.escape
-      (csi_opens limit c.args.rest.now (omega arith) c.requires.escape c.requires.bracket) refl
-      g.V.Taker.takes g.V.Taker.refuses g.V.Taker.is_ready
-      c.args.actor.now c.take_in_csi.new.actor (opened_fresh kind.Csi (Long []))
-      (c.in-Err.ensures.took limit (Long []) [] (c.open.ensures limit (Long [])).1),
-  tt,
-  tt,
-)
+pub returns-in_err-n : goal.returns-in_err-n
+returns-in_err-n g c = λ limit.
+    rw (error_of c.from_residual.result c.from_residual.ensures.0).1 (
+      opened_stops limit (InCsi (Long []) []) c.args.rest.now c.requires.some c.requires.escape
+          (csi_opens limit c.args.rest.now (omega arith) c.requires.escape c.requires.bracket) refl
+          g.V.Taker.takes g.V.Taker.refuses g.V.Taker.is_ready
+          c.args.actor.now c.take_in_csi.new.actor (opened_fresh kind.Csi (Long []))
+          (c.in_err-n.ensures.took limit (Long []) [] (c.open.ensures limit (Long [])).1),
+      tt,
+      tt,
+    )
 
 pub take_in_csi-requires-clause-ready : goal.take_in_csi-requires-clause-ready
 take_in_csi-requires-clause-ready g c =

@@ -4,24 +4,26 @@ use Rattle.esc_frame.proofs.QuietRuns.{quiet_took, quiet_stops}
 use Rattle.esc_frame.proofs.States.{no_string}
 use Rattle.std.proofs.Math.Logic.{⊎_map}
 use Rattle.esc_frame.proofs.Awaited.{next_awaited}
+use Rattle.esc_frame.proofs.Failed.{error_of}
 use Rattle.esc_frame.proofs.machine.Machine.take_one.Goals as goal
 
-pub returns-in-Ok-clause-took : goal.returns-in-Ok-clause-took
-returns-in-Ok-clause-took g c = λ u h.
+pub returns-clause-took : goal.returns-clause-took
+returns-clause-took g c = λ u h.
     quiet_took c.args.limit g.V.Taker.takes g.V.Taker.refuses u u c.args.rest.now 0 _
     c.args.actor.now _ (refl, refl) c.requires.some c.classify.ensures
     g.K.Store.keeps c.step.new.self
     (one_fresh u c.args.rest.now (no_string g.K.Store.keeps c.args.limit c.args.self.now u h
     c.requires.between))
-    (c.in-Ok.ensures.moved c.classify.ensures u h)
+    (c.in_ok-step.ensures.moved c.classify.ensures u h)
 
-pub returns-in-Err-clause-took : goal.returns-in-Err-clause-took
-returns-in-Err-clause-took g c = λ u h.
-    quiet_stops c.args.limit g.V.Taker.takes g.V.Taker.refuses u u c.args.rest.now 0 _
+pub returns-in_err-step-clause-took : goal.returns-in_err-step-clause-took
+returns-in_err-step-clause-took g c = λ u h.
+    rw (error_of c.from_residual.result c.from_residual.ensures.0).1
+    (quiet_stops c.args.limit g.V.Taker.takes g.V.Taker.refuses u u c.args.rest.now 0 _
     c.args.actor.now _ (refl, refl) c.requires.some c.classify.ensures
     (one_unborrowed u c.args.rest.now (no_string g.K.Store.keeps c.args.limit c.args.self.now u h
     c.requires.between))
-    (c.in-Err.ensures.moved c.classify.ensures u h)
+    (c.in_err-step.ensures.moved c.classify.ensures u h))
 
 pub step-requires : goal.step-requires
 step-requires g c =

@@ -3,24 +3,26 @@ use Rattle.esc_frame.specs.Leads.Unfinished.{Ground}
 use Rattle.esc_frame.proofs.Borrows.{one_fresh, one_unborrowed}
 use Rattle.esc_frame.proofs.QuietRuns.{quiet_took, quiet_stops}
 use Rattle.esc_frame.proofs.Still.{one_still}
+use Rattle.esc_frame.proofs.Failed.{error_of}
 use Rattle.esc_frame.proofs.machine.Machine.take_one_in_ground.Goals as goal
 
-pub returns-in-Ok : goal.returns-in-Ok
-returns-in-Ok g c = λ limit. (
+pub returns : goal.returns
+returns g c = λ limit. (
   quiet_took limit g.V.Taker.takes g.V.Taker.refuses Ground Ground c.args.rest.now 0 _
       c.args.actor.now _ (refl, refl) c.requires.some c.classify.ensures
       g.K.Store.keeps c.in_ground.new.self (one_fresh Ground c.args.rest.now refl)
-      (c.in-Ok.ensures.moved limit false),
+      (c.in_ok-in_ground.ensures.moved limit false),
   one_still limit Ground c.args.rest.now,
-  (omega arith, c.requires.some, c.in-Ok.ensures.ready),
+  (omega arith, c.requires.some, c.in_ok-in_ground.ensures.ready),
 )
 
-pub returns-in-Err : goal.returns-in-Err
-returns-in-Err g c = λ limit. (
-  quiet_stops limit g.V.Taker.takes g.V.Taker.refuses Ground Ground c.args.rest.now 0 _
-      c.args.actor.now _ (refl, refl) c.requires.some c.classify.ensures
-      (one_unborrowed Ground c.args.rest.now refl)
-      (c.in-Err.ensures.moved limit false),
-  tt,
-  tt,
-)
+pub returns-in_err-in_ground : goal.returns-in_err-in_ground
+returns-in_err-in_ground g c = λ limit.
+    rw (error_of c.from_residual.result c.from_residual.ensures.0).1 (
+      quiet_stops limit g.V.Taker.takes g.V.Taker.refuses Ground Ground c.args.rest.now 0 _
+          c.args.actor.now _ (refl, refl) c.requires.some c.classify.ensures
+          (one_unborrowed Ground c.args.rest.now refl)
+          (c.in_err-in_ground.ensures.moved limit false),
+      tt,
+      tt,
+    )

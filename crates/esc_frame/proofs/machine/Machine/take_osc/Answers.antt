@@ -9,30 +9,33 @@ use Rattle.esc_frame.specs.Machine.Calls.{Fails}
 use Rattle.std.proofs.Math.Logic.{⊎_map}
 use Rattle.esc_frame.specs.Leads.Unfinished.{Ground}
 use Rattle.esc_frame.proofs.Awaited.{rest_awaited}
+use Rattle.esc_frame.proofs.Failed.{error_of}
 use Rattle.esc_frame.proofs.machine.Machine.take_osc.Goals as goal
 
-pub returns-in-Ok : goal.returns-in-Ok
-returns-in-Ok g c =
+pub returns : goal.returns
+returns g c =
     opened_took c.args.limit (InOsc (Long []) []) c.args.rest.now c.requires.some c.requires.escape
     (osc_opens c.args.limit c.args.rest.now (omega arith) c.requires.escape c.requires.bracket) refl
     g.V.Taker.takes g.V.Taker.refuses g.V.Taker.is_ready
     c.args.actor.now c.take_body.new.actor (opened_fresh kind.Osc (Long []))
     g.K.Store.keeps (Fails g.K.Store.denied g.V.Taker.stops g.row.A.Denot)
-    c.take_body.new.self c.in-Ok.n
-    (c.in-Ok.ensures.took (Long []) [] refl) (c.in-Ok.ensures.quiet (Long []) [])
-    c.in-Ok.ensures.count
+    c.take_body.new.self c.in_ok-n.n
+    (c.in_ok-n.ensures.took (Long []) [] refl) (c.in_ok-n.ensures.quiet (Long []) [])
+    c.in_ok-n.ensures.count
 
-pub returns-in-Err : goal.returns-in-Err
-returns-in-Err g c = (
-  opened_stops c.args.limit (InOsc (Long []) []) c.args.rest.now c.requires.some c.requires.escape
-      (osc_opens c.args.limit c.args.rest.now (omega arith) c.requires.escape c.requires.bracket)
-      refl g.V.Taker.takes g.V.Taker.refuses
-      g.V.Taker.is_ready
-      c.args.actor.now c.take_body.new.actor (opened_fresh kind.Osc (Long []))
-      (c.in-Err.ensures.took (Long []) [] refl),
-  tt,
-  tt,
-)
+pub returns-in_err-n : goal.returns-in_err-n
+returns-in_err-n g c =
+    rw (error_of c.from_residual.result c.from_residual.ensures.0).1 (
+      opened_stops c.args.limit (InOsc (Long []) []) c.args.rest.now c.requires.some
+          c.requires.escape
+          (osc_opens c.args.limit c.args.rest.now (omega arith) c.requires.escape
+          c.requires.bracket) refl g.V.Taker.takes g.V.Taker.refuses
+          g.V.Taker.is_ready
+          c.args.actor.now c.take_body.new.actor (opened_fresh kind.Osc (Long []))
+          (c.in_err-n.ensures.took (Long []) [] refl),
+      tt,
+      tt,
+    )
 
 pub take_body-requires-clause-ready : goal.take_body-requires-clause-ready
 take_body-requires-clause-ready g c =

@@ -5,10 +5,11 @@ use Rattle.esc_frame.specs.Events.Event.{CsiDispatch}
 use Rattle.esc_frame.proofs.May.{Logs, logged}
 use Rattle.esc_frame.proofs.MayRun.{may_one}
 use Rattle.esc_frame.proofs.ShortRuns.{short_after, short_given, short_stops, short_still}
+use Rattle.esc_frame.proofs.Failed.{error_of}
 use Rattle.esc_frame.proofs.machine.Machine.take_short_csi.Goals as goal
 
-pub returns-in-Ok-clause-stays : goal.returns-in-Ok-clause-stays
-returns-in-Ok-clause-stays g c = (
+pub returns-clause-stays : goal.returns-clause-stays
+returns-clause-stays g c = (
   omega arith,
   short_after None c.args.rest.now c.args.run _ c.requires.some c.requires.escape c.requires.bracket
       c.requires.few c.requires.read c.requires.ends,
@@ -19,25 +20,26 @@ returns-in-Ok-clause-stays g c = (
       g.V.Taker.takes c.args.actor.now
       (CsiDispatch es false (get_or c.args.rest.now (c.args.run + 2) 0))
       c.csi_dispatch.new.self)
-      c.as_slice.ensures c.in-Ok.ensures.receives),
-  c.in-Ok.ensures.ready,
+      c.as_slice.ensures c.in_ok-csi_dispatch.ensures.receives),
+  c.in_ok-csi_dispatch.ensures.ready,
 )
 
-pub returns-in-Ok-clause-quiet : goal.returns-in-Ok-clause-quiet
-returns-in-Ok-clause-quiet g c = λ limit.
+pub returns-clause-quiet : goal.returns-clause-quiet
+returns-clause-quiet g c = λ limit.
     short_still limit c.args.rest.now c.args.run _ c.requires.some c.requires.escape
     c.requires.bracket c.requires.few
     c.requires.read c.requires.ends
 
-pub returns-in-Err-clause-stays : goal.returns-in-Err-clause-stays
-returns-in-Err-clause-stays g c =
-    λ limit. short_stops limit c.args.rest.now c.args.run _ c.requires.some c.requires.escape
+pub returns-in_err-csi_dispatch-clause-stays : goal.returns-in_err-csi_dispatch-clause-stays
+returns-in_err-csi_dispatch-clause-stays g c =
+    rw (error_of c.from_residual.result c.from_residual.ensures.0).1
+    (λ limit. short_stops limit c.args.rest.now c.args.run _ c.requires.some c.requires.escape
     c.requires.bracket c.requires.few c.requires.read c.requires.ends
     g.V.Taker.takes g.V.Taker.refuses c.args.actor.now c.csi_dispatch.new.self
     (subst (λ es.
     g.V.Taker.refuses c.args.actor.now
     (CsiDispatch es false (get_or c.args.rest.now (c.args.run + 2) 0)) c.csi_dispatch.new.self)
-    c.as_slice.ensures c.in-Err.ensures.receives)
+    c.as_slice.ensures c.in_err-csi_dispatch.ensures.receives))
 
 pub csi_dispatch-requires : goal.csi_dispatch-requires
 csi_dispatch-requires g c =

@@ -2,18 +2,20 @@ use Rattle.std.proofs.Common.{arith}
 use Rattle.esc_frame.specs.Events.Event.{DcsPut}
 use Rattle.esc_frame.proofs.Given.{each_next, each_stop}
 use Rattle.esc_frame.proofs.May.{get_each}
+use Rattle.esc_frame.proofs.Failed.{error_of}
 use Rattle.esc_frame.proofs.taker.Taker.dcs_put_text.Goals as goal
 
-pub returns-in-Err-clause-emitted : goal.returns-in-Err-clause-emitted
-returns-in-Err-clause-emitted g c =
-    each_stop g.Self.Taker.takes g.Self.Taker.refuses DcsPut c.args.bytes.now c.loop-b.b-index
-    (omega arith) c.args.self.now _ _ c.loop-b.invariant.1 _ c.in-Err.ensures.receives
+pub returns-in_err-dcs_put-clause-emitted : goal.returns-in_err-dcs_put-clause-emitted
+returns-in_err-dcs_put-clause-emitted g c =
+    rw (error_of c.from_residual.result c.from_residual.ensures.0).1
+    (each_stop g.Self.Taker.takes g.Self.Taker.refuses DcsPut c.args.bytes.now c.loop-b.b-index
+    (omega arith) c.args.self.now _ _ c.loop-b.invariant.1 _ c.in_err-dcs_put.ensures.receives)
 
 pub loop-b-preserved : goal.loop-b-preserved
 loop-b-preserved g c = (
-  (λ r. c.in-Ok.ensures.ready (c.loop-b.invariant.0 r)),
+  (λ r. c.in_ok-dcs_put.ensures.ready (c.loop-b.invariant.0 r)),
   each_next g.Self.Taker.takes g.Self.Taker.refuses DcsPut c.args.bytes.now c.loop-b.b-index
-      (omega arith) c.args.self.now _ _ c.loop-b.invariant.1 c.in-Ok.ensures.receives,
+      (omega arith) c.args.self.now _ _ c.loop-b.invariant.1 c.in_ok-dcs_put.ensures.receives,
 )
 
 pub dcs_put-requires : goal.dcs_put-requires

@@ -4,6 +4,7 @@ use Rattle.std.specs.Str.{chars}
 use Rattle.esc_frame.specs.Events.Event.{Print}
 use Rattle.esc_frame.proofs.FirstChars.{next_within, tail_next, tail_some, tail_clear}
 use Rattle.esc_frame.proofs.Spelled.{next_spelled, stop_given, all_spelled, may_spell}
+use Rattle.esc_frame.proofs.Failed.{error_of}
 use Rattle.esc_frame.proofs.taker.Taker.print_str.Goals as goal
 
 pub loop-at-preserved : goal.loop-at-preserved
@@ -11,15 +12,16 @@ loop-at-preserved g c =
     next_spelled g.Self.Taker.takes g.Self.Taker.refuses g.Self.Taker.is_ready
     c.as_bytes-bytes.result.now c.loop-at.at _ _ c.args.self.now _ _ c.loop-at.invariant
     (tail_next c.as_bytes-bytes.result.now c.loop-at.at _ _ c.first_of-c.ensures.next)
-    c.in-Ok.ensures.receives c.in-Ok.ensures.ready
+    c.in_ok-print.ensures.receives c.in_ok-print.ensures.ready
 
-pub returns-in-Err-clause-emitted : goal.returns-in-Err-clause-emitted
-returns-in-Err-clause-emitted g c =
-    stop_given g.Self.Taker.takes g.Self.Taker.refuses g.Self.Taker.is_ready
+pub returns-in_err-print-clause-emitted : goal.returns-in_err-print-clause-emitted
+returns-in_err-print-clause-emitted g c =
+    rw (error_of c.from_residual.result c.from_residual.ensures.0).1
+    (stop_given g.Self.Taker.takes g.Self.Taker.refuses g.Self.Taker.is_ready
     c.as_bytes-bytes.result.now _ c.as_bytes-bytes.ensures.value c.loop-at.at _ _ c.args.self.now _
     _ c.loop-at.invariant
     (tail_next c.as_bytes-bytes.result.now c.loop-at.at _ _ c.first_of-c.ensures.next)
-    ⊥ c.in-Err.ensures.receives
+    ⊥ c.in_err-print.ensures.receives)
 
 pub returns-clause-emitted : goal.returns-clause-emitted
 returns-clause-emitted g c =
