@@ -19,6 +19,12 @@ class Filter:
     ...     [filter.feed(piece) for piece in (b"a\\x1b]0;a ti", b"tle\\x07b\\x1b[3", b"1m")]
     [b'a', b'b', b'\\x1b[31m']
 
+    `finish` ends a stream with what takes back what it left changed at a terminal:
+
+    >>> with Filter(Policy.COLOR) as filter:
+    ...     [filter.feed(b"\\x1b[31mred"), filter.finish()]
+    [b'\\x1b[31mred', b'\\x1b[0m']
+
     It stays in the thread that made it. What it keeps of the stream is given back by `close`, by the end of a `with`, or when
     nothing names it any more.
     """
@@ -43,6 +49,21 @@ class Filter:
             raise RuntimeError("a filter stays in the thread that made it")
         piece = _library.bytes_of(piece)
         status = _library.filter_feed(byref(self._raw), piece, len(piece))
+        if status == _library.NOT_BEGUN:
+            raise ValueError("the filter is closed")
+        _library.done(status)
+        return self._text()
+
+    def finish(self) -> bytes:
+        """Ends the stream, and begins the next. Returns what takes back what the stream left changed at a terminal, as renditions
+        and a link. What is unfinished adds nothing.
+
+        Raises MemoryError where a request for memory was refused: the filter is then closed. Raises ValueError where the filter is
+        closed, and RuntimeError in another thread.
+        """
+        if self._thread != threading.get_ident():
+            raise RuntimeError("a filter stays in the thread that made it")
+        status = _library.filter_finish(byref(self._raw))
         if status == _library.NOT_BEGUN:
             raise ValueError("the filter is closed")
         _library.done(status)

@@ -116,6 +116,10 @@ filter_feed = _long.escape_stream_filter_feed
 filter_feed.argtypes = (POINTER(RawFilter), *_length)
 filter_feed.restype = c_uint32
 
+filter_finish = _short.escape_stream_filter_finish
+filter_finish.argtypes = (POINTER(RawFilter),)
+filter_finish.restype = c_uint32
+
 filter_text = _short.escape_stream_filter_text
 filter_text.argtypes = (POINTER(RawFilter), c_size_t, *_room)
 filter_text.restype = c_size_t

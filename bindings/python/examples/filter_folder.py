@@ -5,7 +5,7 @@
   filter_folder.py [--policy text|color|screen|all] [--workers N] FOLDER OUT
 
 Of each file of FOLDER it writes to OUT, under the same name, what the policy admits, as `escfilter --whole` does, and it prints for each
-how many bytes passed of how many, and how many controls and sequences of each name it had. A file is a task, in a process of its own;
+how many bytes were written of how many, and how many controls and sequences of each name it had. A file is a task, in a process of its own;
 `--scheduler ADDRESS` sends the tasks to a cluster that runs, whose machines see both folders.
 """
 
@@ -42,6 +42,7 @@ def filter_file(source: str, target: str, policy: int) -> tuple[int, int, Counte
             size += len(piece)
             passed += write.write(kept.feed(piece))
             counts.update(name for event in parser.feed(piece) if (name := name_of(event)))
+        passed += write.write(kept.finish())
     return size, passed, counts
 
 

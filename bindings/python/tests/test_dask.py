@@ -1,5 +1,5 @@
 # SPDX-License-Identifier: MIT
-"""The example for Dask gives of each file what `filter` gives of the whole, and what escfilter writes, where ESCFILTER names it."""
+"""The example for Dask gives of each file what a filter gives of the whole, and what escfilter writes, where ESCFILTER names it."""
 
 import os
 import runpy
@@ -10,7 +10,7 @@ from pathlib import Path
 import pytest
 from rows import rows
 
-from escape_stream import Policy, filter
+from escape_stream import Filter, Policy
 
 EXAMPLE = Path(__file__).resolve().parent.parent / "examples/filter_folder.py"
 
@@ -34,7 +34,8 @@ def test_a_folder_with_several_workers(tmp_path: Path) -> None:
     done = subprocess.run(words, check=True, capture_output=True, text=True, cwd=tmp_path, env=environment())
     lines = done.stdout.splitlines()
     for number, recording in enumerate(recordings):
-        wanted = filter(recording, Policy.SCREEN)
+        with Filter(Policy.SCREEN) as it:
+            wanted = it.feed(recording) + it.finish()
         assert (out / f"{number}.log").read_bytes() == wanted
         assert lines[number] == f"{number}.log: {len(wanted)} of {len(recording)} bytes"
         if program := os.environ.get("ESCFILTER"):

@@ -40,10 +40,11 @@ def test_what_policies_admit() -> None:
         for word, policy in POLICIES.items():
             said = row.bytes(word)
             text = text if said is None else said
-            assert filter(stream, policy) == text, (row.name, word)
             for pieces in pieces_of(stream):
                 with Filter(policy) as it:
-                    assert b"".join(map(it.feed, pieces)) == text, (row.name, word, len(pieces))
+                    passed = b"".join(map(it.feed, pieces))
+                    assert passed == filter(stream, policy), (row.name, word, len(pieces))
+                    assert passed + it.finish() == text, (row.name, word, len(pieces))
         count += 1
     assert count > 30
 
@@ -55,10 +56,11 @@ def test_limits() -> None:
         text = text if written is None else written
         if stream is None or limit is None or text is None:
             continue
-        assert filter(stream, Policy.ALL, int(limit)) == text, row.name
         for pieces in pieces_of(stream):
             with Filter(Policy.ALL, int(limit)) as it:
-                assert b"".join(map(it.feed, pieces)) == text, (row.name, len(pieces))
+                passed = b"".join(map(it.feed, pieces))
+                assert passed == filter(stream, Policy.ALL, int(limit)), (row.name, len(pieces))
+                assert passed + it.finish() == text, (row.name, len(pieces))
         count += 1
     assert count > 10
 

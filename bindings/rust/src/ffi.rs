@@ -32,6 +32,7 @@ extern "C" {
     ) -> u32;
     fn escape_stream_filter_begin(filter: *mut Filter, policy: u32, limit: usize) -> u32;
     fn escape_stream_filter_feed(filter: *mut Filter, bytes: *const u8, length: usize) -> u32;
+    fn escape_stream_filter_finish(filter: *mut Filter) -> u32;
     fn escape_stream_filter_text(
         filter: *mut Filter,
         from: usize,
@@ -167,7 +168,16 @@ impl Filter {
         }
     }
 
-    /// Writes the text that the last piece added, from a byte of it on, and says how much.
+    /// Ends the stream.
+    pub fn finish(&mut self) -> Result<(), Error> {
+        // SAFETY: as in `begin`. By clause `refused` there is no other status than these.
+        match unsafe { escape_stream_filter_finish(self) } {
+            NOT_BEGUN => Err(Error::Failed),
+            status => done(status, ()),
+        }
+    }
+
+    /// Writes the text that the last call added, from a byte of it on, and says how much.
     pub fn text(&mut self, from: usize, out: &mut [u8]) -> usize {
         // SAFETY: as in `begin`. Clause `written` says what `out` holds, initialized all of it, and that
         // the count is within it.

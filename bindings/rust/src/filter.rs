@@ -18,7 +18,9 @@ const DEFAULT_LIMIT: usize = 1_048_576;
 ///     filter.feed(piece)?;
 ///     filter.text(|part| text.extend_from_slice(part));
 /// }
-/// assert_eq!(text, b"a\x1b[31mred");
+/// filter.finish()?;
+/// filter.text(|part| text.extend_from_slice(part));
+/// assert_eq!(text, b"a\x1b[31mred\x1b[0m");
 /// # Ok::<(), escape_stream::Error>(())
 /// ```
 #[derive(Debug)]
@@ -58,7 +60,19 @@ impl PieceFilter {
         self.raw.feed(piece)
     }
 
-    /// Calls `act` with the text that the last piece added, in parts.
+    /// Ends the stream, and begins the next. What takes back what the stream left changed at a
+    /// terminal, as renditions and a link, is then what [`text`](PieceFilter::text) gives. What is
+    /// unfinished is dropped.
+    ///
+    /// # Errors
+    ///
+    /// [`Error::Memory`] where a request for memory was refused, and from then on
+    /// [`Error::Failed`].
+    pub fn finish(&mut self) -> Result<(), Error> {
+        self.raw.finish()
+    }
+
+    /// Calls `act` with the text that the last piece or the end of the stream added, in parts.
     pub fn text(&mut self, mut act: impl FnMut(&[u8])) {
         let mut room = [0; 4096];
         let mut from = 0;
@@ -72,7 +86,7 @@ impl PieceFilter {
         }
     }
 
-    /// Writes the text that the last piece added, from its byte `from` on, to the beginning of
+    /// Writes the text that the last call added, from its byte `from` on, to the beginning of
     /// `out`, as much as fits, and returns how many bytes these are: 0 at the end of the text.
     pub fn text_from(&mut self, from: usize, out: &mut [u8]) -> usize {
         self.raw.text(from, out)

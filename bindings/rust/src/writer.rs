@@ -72,6 +72,19 @@ impl<W: Write> Filter<W> {
         self.inner
     }
 
+    /// Ends the stream, and begins the next: writes what takes back what the stream left changed at a
+    /// terminal, as renditions and a link, and flushes the inner writer.
+    ///
+    /// # Errors
+    ///
+    /// What the inner writer reports, and `OutOfMemory` where memory is refused, now or before.
+    pub fn finish(&mut self) -> io::Result<()> {
+        self.write_text()?;
+        self.written = 0;
+        self.filter.finish()?;
+        self.flush()
+    }
+
     // Writes what is left of the text.
     fn write_text(&mut self) -> io::Result<()> {
         let mut room = [0; 4096];

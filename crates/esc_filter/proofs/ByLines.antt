@@ -1,5 +1,5 @@
 -- The text of a stream whose lines are streams of their own, as it grows.
-use Rattle.std.proofs.Common.{ℕ, ◌≡◌, Bool, true, false, not, ◌&&◌, ◌||◌, if◌then◌else◌, List, [], ◌∷◌, ◌++◌, Some, Result, Ok, Err, IfErr, OnErr, ◌⊎◌, inl, inr, arith, refl, ap, sym, ◌∙◌, subst, append_assoc}
+use Rattle.std.proofs.Common.{ℕ, ◌≡◌, Bool, true, false, ◌||◌, if◌then◌else◌, List, [], ◌∷◌, ◌++◌, Some, Result, Ok, Err, IfErr, OnErr, ◌⊎◌, inl, inr, arith, refl, ap, sym, ◌∙◌, subst, append_assoc}
 use Rattle.std.specs.List.{flat_map, filter}
 use Rattle.std.proofs.lemmas.Bool.Decides.{nat_tests}
 use Rattle.std.proofs.lemmas.Grind.{flat_map-append}
@@ -8,10 +8,12 @@ use Rattle.esc_actions.proofs.Meanings.{meaning_nil}
 use Rattle.esc_actions.specs.Meaning.{yield_within}
 use Rattle.esc_actions.specs.Texts.{list_text, texts_after}
 use Rattle.esc_actions.specs.Values.{Value}
-use Rattle.esc_filter.specs.Fed.{WasFed}
-use Rattle.esc_filter.specs.Lines.{is_line_feed, has_line_feed, IsLine, ends_line, begin_with, lines, closing, line_text, text_by_lines, WasFedLines, added_by, AddsText, GrowsBy, GrowsLine}
-use Rattle.esc_filter.specs.Passing.{passed, passed_text, passes}
+use Rattle.esc_filter.specs.Closing.{closed, closing}
+use Rattle.esc_filter.specs.Fed.{WasFedIn}
+use Rattle.esc_filter.specs.Lines.{is_line_feed, has_line_feed, IsLine, ends_line, begin_with, last_line, lines, line_closing, line_text, passed_of_line, text_by_lines, WasFedLines, added_by, AddsText, ClosesLine, EndsLine, EndsLines, GrowsBy, GrowsLine}
+use Rattle.esc_filter.specs.Passing.{in_lines, passes}
 use Rattle.esc_filter.specs.Texts.{ends_in_string}
+use Rattle.esc_filter.proofs.Closers.{closed_more}
 use Rattle.esc_filter.proofs.Texts.{text_longer}
 use Rattle.esc_filter.specs.declared.line_filter.LineFilter.{LineFilter}
 
@@ -32,6 +34,26 @@ feeds_append (b ∷ x) y h k = by_head (is_line_feed b) h (λ g. feeds_append x 
         → (t || has_line_feed (x ++ y)) ≡ false
     by_head true g more = absurd cc
     by_head false g more = more g
+
+-- the bytes after the last line feed
+feeds_in : (t : Bool) (d r : List ℕ) → ends_line t d ≡ true → (t || has_line_feed (d ++ r)) ≡ true
+feeds_in true d r h = refl
+feeds_in false [] r h = absurd cc
+feeds_in false (b ∷ d) r h = feeds_in (is_line_feed b) d r h
+
+ends_any : (t : Bool) (d : List ℕ) → ends_line t d ≡ true → ends_line true d ≡ true
+ends_any t [] h = refl
+ends_any t (b ∷ d) h = h
+
+last_open : (r : List ℕ) → has_line_feed r ≡ false → last_line r ≡ r
+last_open [] h = refl
+last_open (b ∷ r) h = rw h refl
+
+pub last_is : (d r : List ℕ) → ends_line true d ≡ true → has_line_feed r ≡ false
+    → last_line (d ++ r) ≡ r
+last_is [] r h n = last_open r n
+last_is (b ∷ d) r h n =
+    rw (feeds_in (is_line_feed b) d r h) (last_is d r (ends_any (is_line_feed b) d h) n)
 
 pub ends_append : (before : Bool) (x y : List ℕ)
     → ends_line before (x ++ y) ≡ ends_line (ends_line before x) y
@@ -119,45 +141,47 @@ open_line b (c ∷ x) h = by_head (is_line_feed b) h (open_line c x)
 -- ---- texts
 
 module _ {A : Type 0} (limit : ℕ) (admits : Value A → Bool) where
+  abbrev V : List ℕ → List (Value A)
+  V s = passed_of_line {A = A} limit admits s
+
   abbrev T : List ℕ → List ℕ
-  T s = passed_text {A = A} (Some limit) admits s
+  T s = list_text (V s)
+
+  -- what gives back what a line leaves changed
+  abbrev C : List ℕ → List ℕ
+  C s = list_text (closing (V s))
 
   abbrev By : List ℕ → List ℕ
   By s = text_by_lines {A = A} limit admits s
 
-  pub nothing : T [] ≡ []
-  nothing = ap (λ vs. list_text (filter (passes admits) vs)) (meaning_nil (Some limit))
+  nothing : T [] ≡ []
+  nothing = ap (λ vs. list_text (filter (passes (in_lines true admits)) vs))
+      (meaning_nil (Some limit))
 
   by_append : (d x : List ℕ) → ends_line true d ≡ true → By (d ++ x) ≡ By d ++ By x
   by_append d x h =
       ap (flat_map (line_text {A = A} limit admits)) (lines_append d x h)
       ∙ flat_map-append (line_text {A = A} limit admits) (lines d) (lines x)
 
+  -- a line that has ended, or not
+  abbrev either : Bool → List ℕ → List ℕ
+  either t l = if t then list_text (closed (V l)) ++ 0x0a ∷ [] else T l
+
   open_text : (r : List ℕ) → has_line_feed r ≡ false → By r ≡ T r
   open_text [] h = sym nothing
   open_text (b ∷ r) h =
       ap (flat_map (line_text {A = A} limit admits)) (open_line b r h)
-      ∙ append-nil (T (b ∷ r) ++ closing (b ∷ r) (T (b ∷ r)))
-      ∙ ap (λ t. T (b ∷ r) ++ (if t && not (ends_line false (T (b ∷ r))) then 0x0a ∷ [] else []))
-      (no_end (b ∷ r) h)
-      ∙ append-nil (T (b ∷ r))
+      ∙ append-nil (line_text limit admits (b ∷ r))
+      ∙ ap (λ t. either t (b ∷ r)) (no_end (b ∷ r) h)
 
-  -- the line feed that a text lacks
-  abbrev lacking : Bool → List ℕ
-  lacking ends = if ends then [] else 0x0a ∷ []
-
-  not_lacking : (e : Bool) → (if true && not e then 0x0a ∷ [] else []) ≡ lacking e
-  not_lacking true = refl
-  not_lacking false = refl
-
-  closed_text : (l : List ℕ) → IsLine l → By l ≡ T l ++ lacking (ends_line false (T l))
+  closed_text : (l : List ℕ) → IsLine l → By l ≡ T l ++ (C l ++ 0x0a ∷ [])
   closed_text l (x, none, e) =
       ap (flat_map (line_text {A = A} limit admits))
       (ap lines e ∙ one_line x 0x0a none refl ∙ ap (λ k. k ∷ []) (sym e))
-      ∙ append-nil (T l ++ closing l (T l))
-      ∙ ap (λ t. T l ++ (if t && not (ends_line false (T l)) then 0x0a ∷ [] else []))
-      (line_ends false l (x, none, e))
-      ∙ ap (λ y. T l ++ y) (not_lacking (ends_line false (T l)))
+      ∙ append-nil (line_text limit admits l)
+      ∙ ap (λ t. either t l) (line_ends false l (x, none, e))
+      ∙ ap (λ t. t ++ 0x0a ∷ []) (closed_more (V l))
+      ∙ append_assoc (T l) (C l) (0x0a ∷ [])
 
   -- ---- the filter
 
@@ -173,6 +197,32 @@ module _ {A : Type 0} (limit : ℕ) (admits : Value A → Bool) where
           ap (λ y. By (y ++ b)) w.whole ∙ ap By (append_assoc w.ended w.rest b)
           ∙ by_append w.ended (w.rest ++ b) w.ends
 
+      pub last_closes : C w.rest ≡ list_text (line_closing limit admits s)
+      last_closes =
+          ap C (sym (ap last_line w.whole ∙ last_is w.ended w.rest w.ends w.unended))
+
+      -- the stream has ended
+      pub ends_all : (new : LineFilter P A) → new.has_failed ≡ old.has_failed
+          → added_by old ≡ [] → ClosesLine admits limit w.rest old new
+          → EndsLines admits limit s (added_by new) new
+      ends_all new fails none (fed, added) = (
+        fresh new fed (fails ∙ w.unfailed),
+        ap (λ t. By s ++ t)
+            (sym (added ∙ ap (λ t. t ++ C w.rest) none ∙ last_closes)),
+      )
+        where
+          fresh : (f : LineFilter P A) → WasFedIn true limit admits [] f.filter
+              → f.has_failed ≡ false → WasFedLines limit admits [] f
+          fresh f h n = record {
+            ended = [];
+            rest = [];
+            whole = refl;
+            ends = refl;
+            unended = refl;
+            fed = h;
+            unfailed = n;
+          }
+
       module _ (b : List ℕ) (mid : LineFilter P A) (g : GrowsLine admits limit w.rest b old mid)
           (fails : mid.has_failed ≡ old.has_failed) where
         abbrev t : List ℕ
@@ -180,11 +230,6 @@ module _ {A : Type 0} (limit : ℕ) (admits : Value A → Bool) where
 
         longer : T (w.rest ++ b) ≡ T w.rest ++ t
         longer = g.1.1
-
-        ends_now : mid.ends_line ≡ ends_line false (T (w.rest ++ b))
-        ends_now =
-            g.1.3 ∙ ap (λ e. ends_line e t) w.last ∙ sym (ends_append false (T w.rest) t)
-            ∙ ap (ends_line false) (sym longer)
 
         pub grows_open : has_line_feed b ≡ false → GrowsBy admits limit s b old mid
         grows_open none = (
@@ -197,7 +242,6 @@ module _ {A : Type 0} (limit : ℕ) (admits : Value A → Bool) where
               ends = w.ends;
               unended = feeds_append w.rest b w.unended none;
               fed = g.0;
-              last = ends_now;
               unfailed = fails ∙ w.unfailed;
             },
             text_more b
@@ -211,17 +255,17 @@ module _ {A : Type 0} (limit : ℕ) (admits : Value A → Bool) where
 
         -- the line came to its end
         pub grows_line : IsLine b → (new : LineFilter P A)
-            → added_by new ≡ added_by mid ++ lacking mid.ends_line
-            → WasFed limit admits [] new.filter → new.ends_line ≡ false
+            → EndsLine admits limit (w.rest ++ b) mid new
             → new.has_failed ≡ mid.has_failed
             → GrowsBy admits limit s b old new
-        grows_line (x, none, e) new added fresh last f =
+        grows_line (x, none, e) new (fresh, added) f =
             let line : IsLine (w.rest ++ b) = (
               w.rest ++ x,
               feeds_append w.rest x w.unended none,
               ap (λ y. w.rest ++ y) e ∙ sym (append_assoc w.rest x (0x0a ∷ [])),
-            ) in (
-              t ++ lacking mid.ends_line,
+            ) in
+            let more = C (w.rest ++ b) ++ 0x0a ∷ [] in (
+              t ++ more,
               (
                 record {
                   ended = s ++ b;
@@ -231,20 +275,17 @@ module _ {A : Type 0} (limit : ℕ) (admits : Value A → Bool) where
                       ends_append true s b ∙ line_ends (ends_line true s) b (x, none, e);
                   unended = refl;
                   fed = fresh;
-                  last = last ∙ ap (ends_line false) (sym nothing);
                   unfailed = f ∙ fails ∙ w.unfailed;
                 },
                 text_more b
                     ∙ ap (λ y. By w.ended ++ y)
                     (closed_text (w.rest ++ b) line
-                    ∙ ap (λ d. T (w.rest ++ b) ++ lacking d) (sym ends_now)
-                    ∙ ap (λ y. y ++ lacking mid.ends_line) longer
-                    ∙ append_assoc (T w.rest) t (lacking mid.ends_line))
-                    ∙ sym (append_assoc (By w.ended) (T w.rest) (t ++ lacking mid.ends_line))
-                    ∙ ap (λ y. y ++ (t ++ lacking mid.ends_line)) (sym text_so_far),
+                    ∙ ap (λ y. y ++ more) longer
+                    ∙ append_assoc (T w.rest) t more)
+                    ∙ sym (append_assoc (By w.ended) (T w.rest) (t ++ more))
+                    ∙ ap (λ y. y ++ (t ++ more)) (sym text_so_far),
               ),
-              added ∙ ap (λ y. y ++ lacking mid.ends_line) g.1.2
-                  ∙ append_assoc (added_by old) t (lacking mid.ends_line),
+              added ∙ ap (λ y. y ++ more) g.1.2 ∙ append_assoc (added_by old) t more,
             )
 
   -- a prefix, and then more
@@ -273,32 +314,29 @@ module _ {A : Type 0} (limit : ℕ) (admits : Value A → Bool) where
         sym (append-nil (added_by old)),
       )
 
-  pub first_fed : {P : Type 0} (f : LineFilter P A) → WasFed limit admits [] f.filter
-      → f.ends_line ≡ false → f.has_failed ≡ false
-      → WasFedLines limit admits [] f
-  first_fed f fresh last n = record {
+  pub first_fed : {P : Type 0} (f : LineFilter P A) → WasFedIn true limit admits [] f.filter
+      → f.has_failed ≡ false → WasFedLines limit admits [] f
+  first_fed f fresh n = record {
     ended = [];
     rest = [];
     whole = refl;
     ends = refl;
     unended = refl;
     fed = fresh;
-    last = last ∙ ap (ends_line false) (sym nothing);
     unfailed = n;
   }
 
   -- the text that was handed out is no part of what was fed
   pub fed_same : {P : Type 0} (s : List ℕ) (f h : LineFilter P A) → h.filter ≡ f.filter
-      → h.ends_line ≡ f.ends_line → h.has_failed ≡ f.has_failed
+      → h.has_failed ≡ f.has_failed
       → WasFedLines limit admits s f → WasFedLines limit admits s h
-  fed_same s f h a c d w = record {
+  fed_same s f h a d w = record {
     ended = w.ended;
     rest = w.rest;
     whole = w.whole;
     ends = w.ends;
     unended = w.unended;
-    fed = subst (WasFed limit admits w.rest) (sym a) w.fed;
-    last = c ∙ w.last;
+    fed = subst (WasFedIn true limit admits w.rest) (sym a) w.fed;
     unfailed = d ∙ w.unfailed;
   }
 
@@ -328,20 +366,23 @@ module _ {A : Type 0} (limit : ℕ) (admits : Value A → Bool) where
   -- what a line adds to what passes of its beginning, and the lines after it
   rest_longer : (r b : List ℕ) → has_line_feed r ≡ false
       → (t : List ℕ) × (text_by_lines {A = A} limit admits (r ++ b)
-      ≡ passed_text {A = A} (Some limit) admits r ++ t)
+      ≡ T limit admits r ++ t)
   rest_longer r b none = by_feed (split_at_feed b)
     where
-      T : List ℕ → List ℕ
-      T s = passed_text {A = A} (Some limit) admits s
+      W : List ℕ → List ℕ
+      W s = T limit admits s
+
+      added : List ℕ → List ℕ
+      added x = texts_after (ends_in_string false (passed_of_line limit admits r))
+          (filter (passes (in_lines true admits)) (yield_within (Some limit) r x))
 
       by_feed : (has_line_feed b ≡ false)
           ⊎ ((x : List ℕ) × (y : List ℕ) × (has_line_feed x ≡ false) × (b ≡ x ++ 0x0a ∷ y))
-          → (t : List ℕ) × (text_by_lines {A = A} limit admits (r ++ b)
-          ≡ passed_text {A = A} (Some limit) admits r ++ t)
+          → (t : List ℕ) × (text_by_lines {A = A} limit admits (r ++ b) ≡ W r ++ t)
       by_feed (inl n) = (
-        _,
+        added b,
         open_text limit admits (r ++ b) (feeds_append r b none n)
-            ∙ text_longer (Some limit) admits r b,
+            ∙ text_longer (Some limit) (in_lines true admits) r b,
       )
       by_feed (inr (x, y, n, k)) =
           let l = r ++ (x ++ 0x0a ∷ []) in
@@ -353,17 +394,18 @@ module _ {A : Type 0} (limit : ℕ) (admits : Value A → Bool) where
           let same : r ++ b ≡ l ++ y =
           ap (λ z. r ++ z) (k ∙ sym (append_assoc x (0x0a ∷ []) y))
           ∙ sym (append_assoc r (x ++ 0x0a ∷ []) y) in
-          let more = lacking limit admits (ends_line false (T l)) in
-          let u = texts_after (ends_in_string false (passed (Some limit) admits r))
-          (filter (passes admits) (yield_within (Some limit) r (x ++ 0x0a ∷ []))) in (
-            u ++ (more ++ text_by_lines {A = A} limit admits y),
+          let more = C limit admits l ++ 0x0a ∷ [] in
+          let u = added (x ++ 0x0a ∷ []) in
+          let rest = text_by_lines {A = A} limit admits y in (
+            u ++ (more ++ rest),
             ap (text_by_lines {A = A} limit admits) same
                 ∙ by_append limit admits l y (line_ends true l line)
-                ∙ ap (λ z. z ++ text_by_lines {A = A} limit admits y)
+                ∙ ap (λ z. z ++ rest)
                 (closed_text limit admits l line
-                ∙ ap (λ z. z ++ more) (text_longer (Some limit) admits r (x ++ 0x0a ∷ [])))
-                ∙ append_assoc (T r ++ u) more (text_by_lines {A = A} limit admits y)
-                ∙ append_assoc (T r) u (more ++ text_by_lines {A = A} limit admits y),
+                ∙ ap (λ z. z ++ more)
+                (text_longer (Some limit) (in_lines true admits) r (x ++ 0x0a ∷ [])))
+                ∙ append_assoc (W r ++ u) more rest
+                ∙ append_assoc (W r) u (more ++ rest),
           )
 
   pub by_longer : {P : Type 0} (s : List ℕ) (f : LineFilter P A)
@@ -373,7 +415,7 @@ module _ {A : Type 0} (limit : ℕ) (admits : Value A → Bool) where
   by_longer s f w b =
       let (t, e) = rest_longer w.rest b w.unended in
       let d = text_by_lines {A = A} limit admits w.ended in
-      let r = passed_text {A = A} (Some limit) admits w.rest in (
+      let r = T limit admits w.rest in (
         t,
         text_more limit admits s f w b ∙ ap (λ z. d ++ z) e ∙ sym (append_assoc d r t)
             ∙ ap (λ z. z ++ t) (sym (text_so_far limit admits s f w)),

@@ -2,7 +2,7 @@
 use Rattle.std.proofs.Common.{◌≡◌, Bool, true, false, refl, subst, sym}
 use Rattle.std.proofs.lemmas.Bool.{and_right}
 use Rattle.esc_parse.specs.Images.{is_image}
-use Rattle.esc_normal.specs.declared.spell.Spell.{Spell}
+use Rattle.esc_filter.specs.declared.written.Written.{Written}
 use Rattle.esc_actions.specs.Values.{Value, value_of}
 use Rattle.esc_actions.specs.Values.Value.{print, string, control, esc, csi, osc, kitty, sixel, termcap, short, enter, datum, exit}
 use Rattle.esc_actions.specs.declared.action.Action.{Action}
@@ -44,7 +44,7 @@ module _ {A : Type 0} (p : Policy) (v : Value A) where
       subst (λ x. admits x v ≡ false) (sym e) (rw (t, c, s) refl)
 
 -- what is not admitted leaves a text as it is
-pub passed_over : {A : Type 0} (admits : Value A → Bool) (p : Spell A) (a : Action A)
+pub passed_over : {A : Type 0} (admits : Value A → Bool) (p : Written A) (a : Action A)
     → admits (value_of a) ≡ false → Takes admits p a p
 passed_over admits p a h =
     let stays : passes admits (value_of a) ≡ false = and_right (is_whole (value_of a))

@@ -3,6 +3,9 @@ pub mod Encoding
 pub mod Results
 pub mod Runs
 pub mod Sequences
+pub mod Noting
+pub mod Lights
+pub mod Closers
 pub mod Sinks
 pub mod Texts
 pub mod Writable

@@ -39,18 +39,3 @@ first_line x n l h e =
   where
     ten : (b : ℕ) → is_line_feed b ≡ true → b ≡ 0x0a
     ten b h = grind (arith, nat_tests)
-
--- ---- the last byte
-
-last_shift : (a b : ℕ) (x : List ℕ)
-    → get_or (a ∷ b ∷ x) (length (a ∷ b ∷ x) - 1) 0 ≡ get_or (b ∷ x) (length (b ∷ x) - 1) 0
-last_shift a b x =
-    let e : length (a ∷ b ∷ x) - 1 ≡ suc (length (b ∷ x) - 1) = omega arith in
-    ap (λ n. get_or (a ∷ b ∷ x) n 0) e
-
-pub last_ends : (before : Bool) (x : List ℕ) → 0 < length x
-    → is_line_feed (get_or x (length x - 1) 0) ≡ ends_line before x
-last_ends before [] h = absurd (omega (arith, h))
-last_ends before (b ∷ []) h = refl
-last_ends before (b ∷ c ∷ x) h =
-    ap is_line_feed (last_shift b c x) ∙ last_ends (is_line_feed b) (c ∷ x) (omega arith)

@@ -1,13 +1,13 @@
 -- The text of a stream's lines reads back, line by line.
-use Rattle.std.proofs.Common.{ℕ, Bool, true, false, not, ◌&&◌, List, [], ◌∷◌, ◌++◌, Some, None, refl, ap, sym, ◌∙◌, append_assoc, append-nil, if◌then◌else◌}
+use Rattle.std.proofs.Common.{ℕ, Bool, true, false, List, [], ◌∷◌, ◌++◌, None, refl, ap, sym, ◌∙◌, append_assoc, append-nil, if◌then◌else◌}
 use Rattle.std.specs.List.{flat_map}
 use Rattle.esc_actions.proofs.Meanings.{meaning_nil}
 use Rattle.esc_actions.specs.Meaning.{meaning, Reads}
 use Rattle.esc_actions.specs.Values.{Value, control}
 use Rattle.esc_actions.specs.declared.control_code.ControlCode.TheVariants.{LineFeed}
-use Rattle.esc_frame.specs.Segments.{is_empty}
-use Rattle.esc_filter.specs.Lines.{closing, ends_line, line_text, line_values, lines, text_by_lines, IsFilteredByLines}
-use Rattle.esc_filter.specs.Passing.{passed_text, IsFiltered}
+use Rattle.esc_actions.specs.Texts.{list_text, normal}
+use Rattle.esc_filter.specs.Closing.{closed, closing}
+use Rattle.esc_filter.specs.Lines.{ends_line, last_line, line_text, line_values, lines, lines_text, lines_values, passed_of_line, IsFilteredByLines}
 
 module _ {A : Type 0} where
   reads_nothing : Reads {A = A} [] []
@@ -20,21 +20,26 @@ module _ {A : Type 0} where
       ∙ sym (append_assoc vs ws (meaning rest))
 
   module _ (limit : ℕ) (admits : Value A → Bool)
-      (each : (l : List ℕ)
-      → IsFiltered (Some limit) admits l (passed_text {A = A} (Some limit) admits l))
+      (goes_on : (l : List ℕ)
+      → Reads (list_text (passed_of_line limit admits l))
+      (normal (passed_of_line limit admits l)))
+      (ended : (l : List ℕ)
+      → Reads (list_text (closed (passed_of_line limit admits l)))
+      (normal (closed (passed_of_line limit admits l))))
+      (back : (vs : List (Value A)) → Reads (list_text (closing vs)) (normal (closing vs)))
       (feed : Reads {A = A} (0x0a ∷ []) (control LineFeed ∷ [])) where
-    -- the line feed that is added, if one is
-    added_by : (t : Bool)
-        → Reads {A = A} (if t then 0x0a ∷ [] else [])
-        (if is_empty (if t then 0x0a ∷ [] else []) then [] else control LineFeed ∷ [])
-    added_by true = feed
-    added_by false = reads_nothing
-
     line_reads : (l : List ℕ) → Reads (line_text limit admits l) (line_values limit admits l)
-    line_reads l =
-        let t = passed_text {A = A} (Some limit) admits l in
-        reads_both t (closing l t) _ _ (each l).whatever_follows
-        (added_by (ends_line false l && not (ends_line false t)))
+    line_reads l = by (ends_line false l)
+      where
+        vs : List (Value A)
+        vs = passed_of_line limit admits l
+
+        by : (t : Bool)
+            → Reads (if t then list_text (closed vs) ++ 0x0a ∷ [] else list_text vs)
+            (if t then normal (closed vs) ++ control LineFeed ∷ [] else normal vs)
+        by true = reads_both (list_text (closed vs)) (0x0a ∷ []) (normal (closed vs))
+            (control LineFeed ∷ []) (ended l) feed
+        by false = goes_on l
 
     lines_read : (ls : List (List ℕ))
         → Reads (flat_map (line_text {A = A} limit admits) ls)
@@ -42,13 +47,20 @@ module _ {A : Type 0} where
     lines_read [] = reads_nothing
     lines_read (l ∷ ls) = reads_both _ _ _ _ (line_reads l) (lines_read ls)
 
-    pub filtered : (s : List ℕ) → IsFilteredByLines limit admits s (text_by_lines limit admits s)
-    filtered s =
-        let all = lines_read (lines s) in record {
+    all_read : (b : Bool) (s : List ℕ)
+        → Reads (lines_text b limit admits s) (lines_values b limit admits s)
+    all_read true s = reads_both _ _ _ _ (lines_read (lines s))
+        (back (passed_of_line limit admits (last_line s)))
+    all_read false s = lines_read (lines s)
+
+    pub filtered : (b : Bool) (s : List ℕ)
+        → IsFilteredByLines b limit admits s (lines_text b limit admits s)
+    filtered b s =
+        let all = all_read b s in
+        let vs = lines_values b limit admits s in record {
           text = refl;
           reads_back =
-              ap meaning (sym (append-nil (text_by_lines limit admits s))) ∙ all []
-              ∙ ap (λ z. flat_map (line_values limit admits) (lines s) ++ z) (meaning_nil None)
-              ∙ append-nil (flat_map (line_values limit admits) (lines s));
+              ap meaning (sym (append-nil (lines_text b limit admits s))) ∙ all []
+              ∙ ap (λ z. vs ++ z) (meaning_nil None) ∙ append-nil vs;
           whatever_follows = all;
         }

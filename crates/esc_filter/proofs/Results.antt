@@ -1,5 +1,5 @@
 -- Results, and bytes that were read and written.
-use Rattle.std.proofs.Common.{◌≡◌, ◌↔◌, Bool, true, false, IsTrue, ◌≤◌, ◌<◌, ◌+◌, ℕ, List, [], ◌∷◌, ◌++◌, Option, inl, inr, refl, sym, subst, ap, ◌∙◌, append-nil, append_assoc, arith, length, length-append, take, Ok, Err, IsErrOf, Result}
+use Rattle.std.proofs.Common.{is_ok, if◌then◌else◌, ◌≡◌, ◌↔◌, Bool, true, false, IsTrue, ◌≤◌, ◌<◌, ◌+◌, ℕ, List, [], ◌∷◌, ◌++◌, Option, inl, inr, refl, sym, subst, ap, ◌∙◌, append-nil, append_assoc, arith, length, length-append, take, Ok, Err, IsErrOf, OnOk, Result}
 use Rattle.std.proofs.KnownBytes.{Appends-nil, Appends-trans, Consumes-trans}
 use Rattle.std.specs.Io.KnownBytes.{Appends, Consumes}
 use Rattle.esc_parse.specs.Given.{StopsAt}
@@ -27,6 +27,12 @@ prefix_after a b c before more whole h (p, r, is, w) e = (
       ∙ sym (append_assoc before p r),
   Appends-trans a b c before p h w,
 )
+
+-- a prefix of a text is one of a longer text
+pub prefix_longer : (a b : Option (List ℕ)) (t u : List ℕ) → (more : List ℕ) × (u ≡ t ++ more)
+    → AppendsPrefix a b t → AppendsPrefix a b u
+prefix_longer a b t u (more, e) (p, r, is, w) =
+    (p, r ++ more, e ∙ ap (λ x. x ++ more) is ∙ append_assoc p r more, w)
 
 -- all of it is one
 pub prefix_whole : (a b : Option (List ℕ)) (t : List ℕ) → Appends a b t → AppendsPrefix a b t
@@ -62,3 +68,20 @@ stops_for R Q why says p (v ∷ vs) q (inl e) = absurd e.0
 stops_for R Q why says p (v ∷ vs) q (inr (inl z)) = says p v q z
 stops_for R Q why says p (v ∷ vs) q (inr (inr (mid, t, rest))) =
     stops_for R Q why says mid vs q rest
+
+-- what holds, holds on Ok
+pub ok_any : {T E X : Type 0} (r : Result T E) → X → OnOk r X
+ok_any (Ok t) x = x
+ok_any (Err e) x = tt
+
+-- what failed exactly where an error came, which did not come, has not failed
+pub unfailed : {T E : Type 0} (t : T) (e : E) (failed : Bool)
+    → (IsErrOf (Ok t) e ↔ IsTrue failed) → failed ≡ false
+unfailed t e true h = let k = h.1 refl in absurd cc
+unfailed t e false h = refl
+
+-- a text that grew where the call that makes it grow did not fail
+pub pushed : {T E X : Type 0} (r : Result T E) (old more new : List ℕ)
+    → new ≡ (if is_ok r then old ++ more else old) → (new ≡ old ++ more → X) → OnOk r X
+pushed (Ok t) old more new e f = f e
+pushed (Err x) old more new e f = tt

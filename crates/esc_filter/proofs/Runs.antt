@@ -8,8 +8,8 @@ use Rattle.std.specs.Str.{IsUtf8, chars, encode_utf8_all}
 use Rattle.std.proofs.lemmas.List.Folds.{list_all-append}
 use Rattle.std.proofs.lemmas.Str.{encode_ascii, encodes-chars}
 use Rattle.esc_parse.specs.Given.{StopsAt}
-use Rattle.esc_normal.specs.Spelled.{Adds, Denies}
-use Rattle.esc_normal.specs.declared.spell.Spell.{Spell}
+use Rattle.esc_filter.specs.Noted.{Notes, WriteDenies}
+use Rattle.esc_filter.specs.declared.written.Written.{Written}
 use Rattle.esc_actions.specs.Values.{Value, print}
 use Rattle.esc_actions.specs.declared.action.Action.{Action}
 use Rattle.esc_actions.specs.declared.action.Action.TheVariants as action
@@ -83,41 +83,41 @@ str_admitted A p text u h = run_admitted A p (chars text) (chars_shown text u h)
 -- a run that is admitted passes, character by character
 abbrev pub TakesBy : {P A : Type 0} → (P → Value A → Bool) → Passing P A → Action A → Passing P A
     → Type 0
-TakesBy allows p a q = Takes (allows p.policy.now) p.spell a q.spell × (q.policy.now ≡ p.policy.now)
+TakesBy allows p a q = Takes (allows p.policy.now) p.written a q.written × (q.policy.now ≡ p.policy.now)
 
-one_passes : {A : Type 0} (b : Bool) (p q : Spell A) (c : ℕ) → b ≡ true → Adds p (action.Print c) q
-    → (b ≡ true → Adds p (action.Print c) q) × (b ≡ false → q ≡ p)
+one_passes : {A : Type 0} (b : Bool) (p q : Written A) (c : ℕ) → b ≡ true → Notes p (action.Print c) q
+    → (b ≡ true → Notes p (action.Print c) q) × (b ≡ false → q ≡ p)
 one_passes true p q c e h = (λ k. h, λ k. absurd cc)
 one_passes false p q c e h = absurd cc
 
-abbrev with_spell : {P A : Type 0} → Passing P A → Spell A → Passing P A
-with_spell p s = record p { spell = s }
+abbrev with_written : {P A : Type 0} → Passing P A → Written A → Passing P A
+with_written p s = record p { written = s }
 
 pub run_passes : {P A : Type 0} (allows : P → Value A → Bool) (xs : List ℕ) (p : Passing P A)
-    (s : Spell A)
+    (s : Written A)
     → list_all (λ c. allows p.policy.now (print c)) xs ≡ true
-    → FoldsTo Adds p.spell (map action.Print xs) s
-    → FoldsTo (TakesBy allows) p (map action.Print xs) (record p { spell = s })
-run_passes allows [] p s h e = ap (with_spell p) e
+    → FoldsTo Notes p.written (map action.Print xs) s
+    → FoldsTo (TakesBy allows) p (map action.Print xs) (record p { written = s })
+run_passes allows [] p s h e = ap (with_written p) e
 run_passes allows (x ∷ xs) p s h (j, t, rest) =
     let k = and_parts (allows p.policy.now (print x))
     (list_all (λ c. allows p.policy.now (print c)) xs) h in (
-      record p { spell = j },
-      (one_passes (passes (allows p.policy.now) (print x)) p.spell j x k.0 t, refl),
-      run_passes allows xs (record p { spell = j }) s k.1 rest,
+      record p { written = j },
+      (one_passes (passes (allows p.policy.now) (print x)) p.written j x k.0 t, refl),
+      run_passes allows xs (record p { written = j }) s k.1 rest,
     )
 
 -- a run of which one is refused
-run_why : {A : Type 0} (xs : List ℕ) (p q : Spell A)
-    → StopsAt ⊥ Adds Denies p (map action.Print xs) q → Refused A
+run_why : {A : Type 0} (xs : List ℕ) (p q : Written A)
+    → StopsAt ⊥ Notes WriteDenies p (map action.Print xs) q → Refused A
 run_why [] p q e = absurd e.0
 run_why (x ∷ xs) p q (inl e) = absurd e.0
 run_why (x ∷ xs) p q (inr (inl denied)) = denied refl
 run_why (x ∷ xs) p q (inr (inr (mid, t, rest))) = run_why xs mid q rest
 
 pub run_refused : {P A : Type 0} (allows : P → Value A → Bool) (xs : List ℕ) (p : Passing P A)
-    (s : Spell A)
-    → StopsAt ⊥ Adds Denies p.spell (map action.Print xs) s
-    → StopsAt ⊥ (TakesBy allows) Refuses p (map action.Print xs) (record p { spell = s })
+    (s : Written A)
+    → StopsAt ⊥ Notes WriteDenies p.written (map action.Print xs) s
+    → StopsAt ⊥ (TakesBy allows) Refuses p (map action.Print xs) (record p { written = s })
 run_refused allows [] p s e = absurd e.0
-run_refused allows (x ∷ xs) p s e = inr (inl (λ _. run_why (x ∷ xs) p.spell s e))
+run_refused allows (x ∷ xs) p s e = inr (inl (λ _. run_why (x ∷ xs) p.written s e))

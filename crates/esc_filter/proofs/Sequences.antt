@@ -14,8 +14,8 @@ use Rattle.esc_actions.specs.Writable.{is_truncated}
 use Rattle.esc_actions.specs.declared.action.Action.{Action}
 use Rattle.esc_actions.specs.declared.action.Action.TheVariants as action
 use Rattle.esc_parse.specs.Given.{By, StopsAt}
-use Rattle.esc_normal.specs.Spelled.{Adds, Denies}
-use Rattle.esc_normal.specs.declared.spell.Spell.{Spell}
+use Rattle.esc_filter.specs.Noted.{Notes, WriteDenies}
+use Rattle.esc_filter.specs.declared.written.Written.{Written}
 use Rattle.esc_osc.specs.Reading.{meaning as command_meant}
 use Rattle.esc_parse.proofs.Lists.{if_ok_more}
 use Rattle.esc_normal.proofs.Spelling.{IsCommand, IsSequence}
@@ -87,21 +87,21 @@ sequence_action (unspecified es more f) = (
 )
 
 module _ {P A : Type 0} (allows : P → Value A → Bool) where
-  abbrev with_spell : Passing P A → Spell A → Passing P A
-  with_spell p s = record p { spell = s }
+  abbrev with_written : Passing P A → Written A → Passing P A
+  with_written p s = record p { written = s }
 
-  passed_one : (v w : Value A) (k : P) (p q : Spell A) (a : Action A) → w ≡ v
-      → passes (allows k) v ≡ true → Adds p a q
-      → (passes (allows k) w ≡ true → Adds p a q) × (passes (allows k) w ≡ false → q ≡ p)
+  passed_one : (v w : Value A) (k : P) (p q : Written A) (a : Action A) → w ≡ v
+      → passes (allows k) v ≡ true → Notes p a q
+      → (passes (allows k) w ≡ true → Notes p a q) × (passes (allows k) w ≡ false → q ≡ p)
   passed_one v w k p q a is h t = (
     λ _. t,
     λ e. let no : passes (allows k) w ≡ true =
         ap (passes (allows k)) is ∙ h in absurd cc,
   )
 
-  stayed_one : (v w : Value A) (k : P) (p : Spell A) (a : Action A) → w ≡ v
+  stayed_one : (v w : Value A) (k : P) (p : Written A) (a : Action A) → w ≡ v
       → passes (allows k) v ≡ false
-      → (passes (allows k) w ≡ true → Adds p a p) × (passes (allows k) w ≡ false → p ≡ p)
+      → (passes (allows k) w ≡ true → Notes p a p) × (passes (allows k) w ≡ false → p ≡ p)
   stayed_one v w k p a is h = (
     λ e. let no : passes (allows k) w ≡ false = ap (passes (allows k)) is
         ∙ h in absurd cc,
@@ -118,27 +118,27 @@ module _ {P A : Type 0} (allows : P → Value A → Bool) where
   unadmitted (unspecified es false f) k h = h
 
   -- each is admitted, and was added
-  pub all_pass : (vs : List CsiValue) (p : Passing P A) (s : Spell A)
+  pub all_pass : (vs : List CsiValue) (p : Passing P A) (s : Written A)
       → list_all (λ c. not (is_truncated c)) vs ≡ true
       → list_all (λ c. allows p.policy.now (csi c)) vs ≡ true
-      → FoldsTo (By IsSequence Adds) p.spell vs s
-      → FoldsTo (By IsSequence (TakesBy allows)) p vs (record p { spell = s })
-  all_pass [] p s w h e = ap (with_spell p) e
+      → FoldsTo (By IsSequence Notes) p.written vs s
+      → FoldsTo (By IsSequence (TakesBy allows)) p vs (record p { written = s })
+  all_pass [] p s w h e = ap (with_written p) e
   all_pass (v ∷ vs) p s w h (j, (a, is, t), rest) =
       let l = and_parts (not (is_truncated v)) (list_all (λ c. not (is_truncated c)) vs) w in
       let k = and_parts (allows p.policy.now (csi v))
       (list_all (λ c. allows p.policy.now (csi c)) vs) h in (
-        record p { spell = j },
+        record p { written = j },
         (
           a,
           is,
           (
-            passed_one (csi v) (value_of a) p.policy.now p.spell j a is
+            passed_one (csi v) (value_of a) p.policy.now p.written j a is
                 (whole_passes v p.policy.now l.0 k.0) t,
             refl,
           ),
         ),
-        all_pass vs (record p { spell = j }) s l.1 k.1 rest,
+        all_pass vs (record p { written = j }) s l.1 k.1 rest,
       )
 
   any_parts : (a b : Bool) → (a || b) ≡ false → (a ≡ false) × (b ≡ false)
@@ -159,7 +159,7 @@ module _ {P A : Type 0} (allows : P → Value A → Bool) where
           a.0,
           a.1,
           (
-            stayed_one (csi v) (value_of a.0) p.policy.now p.spell a.0 a.1
+            stayed_one (csi v) (value_of a.0) p.policy.now p.written a.0 a.1
                 (unadmitted v p.policy.now k.0),
             refl,
           ),
@@ -168,37 +168,37 @@ module _ {P A : Type 0} (allows : P → Value A → Bool) where
       )
 
   -- a value is refused for want of memory, as each has a text
-  sequence_why : (p : Spell A) (v : CsiValue) (q : Spell A) → By IsSequence Denies p v q → Refused A
+  sequence_why : (p : Written A) (v : CsiValue) (q : Written A) → By IsSequence WriteDenies p v q → Refused A
   sequence_why p v q (a, is, denied) = denied (ap has_text is)
 
-  pub one_refused : (vs : List CsiValue) (p : Passing P A) (s : Spell A)
-      → StopsAt ⊥ (By IsSequence Adds) (By IsSequence Denies) p.spell vs s
+  pub one_refused : (vs : List CsiValue) (p : Passing P A) (s : Written A)
+      → StopsAt ⊥ (By IsSequence Notes) (By IsSequence WriteDenies) p.written vs s
       → StopsAt ⊥ (By IsSequence (TakesBy allows)) (By IsSequence Refuses) p vs
-      (record p { spell = s })
+      (record p { written = s })
   one_refused [] p s e = absurd e.0
   one_refused (v ∷ vs) p s e =
       inr
       (inl (
         (sequence_action v).0,
         (sequence_action v).1,
-        λ _. stops_for (By IsSequence Adds) (By IsSequence Denies) (Refused A) sequence_why p.spell
+        λ _. stops_for (By IsSequence Notes) (By IsSequence WriteDenies) (Refused A) sequence_why p.written
             (v ∷ vs) s e,
       ))
 
   -- what is said of a call on the text holds of the receiver
   pub passes_taken : {E : Type 0} (r : Result Bool E) (es : List CsiParam) (more : Bool) (f : ℕ)
-      (p : Passing P A) (s : Spell A) → more ≡ false
+      (p : Passing P A) (s : Written A) → more ≡ false
       → list_all (λ c. allows p.policy.now (csi c)) (csi_of es false f) ≡ true
-      → IfOk r (λ b. IsTrue b → FoldsTo (By IsSequence Adds) p.spell (csi_of es more f) s)
+      → IfOk r (λ b. IsTrue b → FoldsTo (By IsSequence Notes) p.written (csi_of es more f) s)
       → IfOk r (λ b. IsTrue b → FoldsTo (By IsSequence (TakesBy allows)) p (csi_of es more f)
-      (record p { spell = s }))
+      (record p { written = s }))
   passes_taken r es more f p s m h t =
       if_ok_more _ _ r
       (λ b k e.
       subst (λ x. FoldsTo (By IsSequence (TakesBy allows)) p (csi_of es x f)
-      (record p { spell = s })) (sym m)
+      (record p { written = s })) (sym m)
       (all_pass (csi_of es false f) p s (each_whole es f) h
-      (subst (λ x. FoldsTo (By IsSequence Adds) p.spell (csi_of es x f) s) m (k e))))
+      (subst (λ x. FoldsTo (By IsSequence Notes) p.written (csi_of es x f) s) m (k e))))
       t
 
   pub stays_taken : (es : List CsiParam) (more : Bool) (f : ℕ) (p : Passing P A) → more ≡ false
@@ -207,40 +207,40 @@ module _ {P A : Type 0} (allows : P → Value A → Bool) where
   stays_taken es more f p m h = subst (λ x. FoldsTo (By IsSequence (TakesBy allows)) p
       (csi_of es x f) p) (sym m) (none_pass (csi_of es false f) p h)
 
-  pub left_alone : {E : Type 0} (r : Result Bool E) (p : Passing P A) (s : Spell A)
-      → IfOk r (λ b. b ≡ false → s ≡ p.spell)
-      → IfOk r (λ b. b ≡ false → record p { spell = s } ≡ p)
-  left_alone r p s t = if_ok_more _ _ r (λ b k e. ap (with_spell p) (k e)) t
+  pub left_alone : {E : Type 0} (r : Result Bool E) (p : Passing P A) (s : Written A)
+      → IfOk r (λ b. b ≡ false → s ≡ p.written)
+      → IfOk r (λ b. b ≡ false → record p { written = s } ≡ p)
+  left_alone r p s t = if_ok_more _ _ r (λ b k e. ap (with_written p) (k e)) t
 
   pub refused_taken : {E : Type 0} (r : Result Bool E) (vs : List CsiValue) (p : Passing P A)
-      (s : Spell A)
-      → OnErr r (StopsAt ⊥ (By IsSequence Adds) (By IsSequence Denies) p.spell vs s)
+      (s : Written A)
+      → OnErr r (StopsAt ⊥ (By IsSequence Notes) (By IsSequence WriteDenies) p.written vs s)
       → OnErr r (StopsAt ⊥ (By IsSequence (TakesBy allows)) (By IsSequence Refuses) p vs
-      (record p { spell = s }))
+      (record p { written = s }))
   refused_taken r vs p s t = on_err_weaker r (one_refused vs p s) t
 
   -- the same of a command
   pub command_passes : {E : Type 0} (r : Result Bool E) (ps : List (List ℕ)) (p : Passing P A)
-      (s : Spell A)
+      (s : Written A)
       → allows p.policy.now (osc (command_meant ps)) ≡ true
-      → IfOk r (λ b. IsTrue b → FoldsTo (By IsCommand Adds) p.spell (ps ∷ []) s)
+      → IfOk r (λ b. IsTrue b → FoldsTo (By IsCommand Notes) p.written (ps ∷ []) s)
       → IfOk r (λ b. IsTrue b → FoldsTo (By IsCommand (TakesBy allows)) p (ps ∷ [])
-      (record p { spell = s }))
+      (record p { written = s }))
   command_passes r ps p s h t =
       if_ok_more _ _ r
       (λ b k e.
       let w = k e in (
-        record p { spell = w.0 },
+        record p { written = w.0 },
         (
           w.1.0,
           w.1.1,
           (
             passed_one (osc (command_meant ps))
-                (value_of w.1.0) p.policy.now p.spell w.0 w.1.0 w.1.1 h w.1.2,
+                (value_of w.1.0) p.policy.now p.written w.0 w.1.0 w.1.1 h w.1.2,
             refl,
           ),
         ),
-        ap (with_spell p) w.2,
+        ap (with_written p) w.2,
       ))
       t
 
@@ -254,22 +254,22 @@ module _ {P A : Type 0} (allows : P → Value A → Bool) where
           a,
           refl,
           (
-            stayed_one (osc (command_meant ps)) (value_of a) p.policy.now p.spell a refl h,
+            stayed_one (osc (command_meant ps)) (value_of a) p.policy.now p.written a refl h,
             refl,
           ),
         ),
         refl,
       )
 
-  command_why : (p : Spell A) (ps : List (List ℕ)) (q : Spell A) → By IsCommand Denies p ps q
+  command_why : (p : Written A) (ps : List (List ℕ)) (q : Written A) → By IsCommand WriteDenies p ps q
       → Refused A
   command_why p ps q (a, is, denied) = denied (ap has_text is)
 
   pub command_refused : {E : Type 0} (r : Result Bool E) (ps : List (List ℕ)) (p : Passing P A)
-      (s : Spell A)
-      → OnErr r (StopsAt ⊥ (By IsCommand Adds) (By IsCommand Denies) p.spell (ps ∷ []) s)
+      (s : Written A)
+      → OnErr r (StopsAt ⊥ (By IsCommand Notes) (By IsCommand WriteDenies) p.written (ps ∷ []) s)
       → OnErr r (StopsAt ⊥ (By IsCommand (TakesBy allows)) (By IsCommand Refuses) p (ps ∷ [])
-      (record p { spell = s }))
+      (record p { written = s }))
   command_refused r ps p s t =
       on_err_weaker r
       (λ e. inr
@@ -277,7 +277,7 @@ module _ {P A : Type 0} (allows : P → Value A → Bool) where
         action.OperatingSystemCommand (command_meant ps),
         refl,
         λ _.
-            stops_for (By IsCommand Adds) (By IsCommand Denies) (Refused A) command_why p.spell
+            stops_for (By IsCommand Notes) (By IsCommand WriteDenies) (Refused A) command_why p.written
             (ps ∷ []) s e,
       ))) t
 

@@ -6,6 +6,8 @@ use Rattle.esc_actions.proofs.Meanings.{meaning_more}
 use Rattle.esc_actions.specs.Meaning.{meaning_within, yield_within}
 use Rattle.esc_actions.specs.Texts.{is_string, list_text, text_after, texts_after}
 use Rattle.esc_actions.specs.Values.{Value}
+use Rattle.esc_filter.specs.Closing.{after_value, after_values, unchanged}
+use Rattle.esc_filter.specs.declared.left.Left.{Left}
 use Rattle.esc_filter.specs.Passing.{passed, passed_text, passes}
 use Rattle.esc_filter.specs.Texts.{ends_in_string}
 
@@ -47,3 +49,17 @@ pub end_longer : {A : Type 0} (limit : Option ℕ) (admits : Value A → Bool) (
 end_longer limit admits s b =
     ap (ends_in_string false) (passed_longer limit admits s b)
     ∙ ends_more false (passed limit admits s) (filter (passes admits) (yield_within limit s b))
+
+-- what is left changed after one list and another
+pub after_more : {A : Type 0} (vs ws : List (Value A)) (o : Left)
+    → after_values (vs ++ ws) o ≡ after_values ws (after_values vs o)
+after_more [] ws o = refl
+after_more (v ∷ vs) ws o = after_more vs ws (after_value v o)
+
+pub left_longer : {A : Type 0} (limit : Option ℕ) (admits : Value A → Bool) (s b : List ℕ)
+    → after_values (passed limit admits (s ++ b)) unchanged
+    ≡ after_values (filter (passes admits) (yield_within limit s b))
+    (after_values (passed limit admits s) unchanged)
+left_longer limit admits s b =
+    ap (λ vs. after_values vs unchanged) (passed_longer limit admits s b)
+    ∙ after_more (passed limit admits s) (filter (passes admits) (yield_within limit s b)) unchanged

@@ -6,7 +6,8 @@ use Rattle.esc_actions.specs.Meaning.{meaning, meaning_within, Reads}
 use Rattle.esc_actions.specs.Texts.{list_text, normal}
 use Rattle.esc_actions.specs.Values.{Value, print, string, control, esc, csi, osc, kitty, sixel, termcap, short, enter, datum, exit}
 use Rattle.esc_actions.specs.Writable.{AreHandedOut, AreWritable, AreWritableFrom, IsWritable, is_exception, is_within, stays_within}
-use Rattle.esc_filter.specs.Passing.{IsFiltered, is_mode_step, is_whole, passed, passed_text, passes}
+use Rattle.esc_filter.proofs.Closers.{closed_writable}
+use Rattle.esc_filter.specs.Passing.{IsFiltered, is_mode_step, is_whole, passed, passes, when_ended}
 
 -- what is no step of a mode may be where no mode is entered, and enters none
 no_step : {A : Type 0} (v : Value A) → is_mode_step v ≡ false → (is_within v ≡ false)
@@ -44,19 +45,24 @@ filtered_writable admits (v ∷ vs) h =
     (outside.0, h.0 (not-true (is_exception v) parts.0), outside.1))
     (filtered_writable admits vs h.1)
 
+writable_when : {A : Type 0} (b : Bool) (vs : List (Value A)) → AreWritable vs
+    → AreWritable (when_ended b vs)
+writable_when true vs h = closed_writable vs h
+writable_when false vs h = h
+
 pub is_filtered : {A : Type 0} → ((limit : Option ℕ) (s : List ℕ)
     → AreHandedOut {A = A} (meaning_within limit s))
     → ((vs : List (Value A)) → AreWritable vs → meaning (list_text vs) ≡ normal vs)
     → ((vs : List (Value A)) → AreWritable vs → Reads (list_text vs) (normal vs))
-    → (limit : Option ℕ) (admits : Value A → Bool) (s : List ℕ)
-    → IsFiltered limit admits s (passed_text limit admits s)
-is_filtered out back itself limit admits s =
-    let w : AreWritable (passed limit admits s) = filtered_writable admits (meaning_within limit s)
-    (out limit s) in
+    → (b : Bool) (limit : Option ℕ) (admits : Value A → Bool) (s : List ℕ)
+    → IsFiltered b limit admits s (list_text (when_ended b (passed limit admits s)))
+is_filtered out back itself b limit admits s =
+    let vs = when_ended b (passed limit admits s) in
+    let w : AreWritable vs = writable_when b (passed limit admits s)
+    (filtered_writable admits (meaning_within limit s) (out limit s)) in
     record {
       text = refl;
       writable = w;
-      reads_back =
-          back (passed limit admits s) w;
-      whatever_follows = itself (passed limit admits s) w;
+      reads_back = back vs w;
+      whatever_follows = itself vs w;
     }

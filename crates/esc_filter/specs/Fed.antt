@@ -1,29 +1,34 @@
 -- What a filter was fed.
-use Rattle.std.specs.Prelude.{ℕ, ◌≡◌, Bool, true, false, List, ◌++◌, Some}
+use Rattle.std.specs.Prelude.{ℕ, ◌≡◌, Bool, true, false, List, [], ◌++◌, Some}
 use Rattle.esc_actions.specs.Values.{Value, value_of}
 use Rattle.esc_actions.specs.declared.action.Action.{Action}
 use Rattle.esc_parse.specs.Fed.{IsBroken as IsBrokenParser, WasFedWithin}
-use Rattle.esc_normal.specs.Spelled.{Adds, Denies}
-use Rattle.esc_normal.specs.declared.spell.Spell.{Spell}
-use Rattle.esc_filter.specs.Passing.{passed, passed_text, passes}
-use Rattle.esc_filter.specs.Texts.{ends_in_string}
+use Rattle.esc_actions.specs.Texts.{list_text}
+use Rattle.esc_filter.specs.Closing.{closing, is_any}
+use Rattle.esc_filter.specs.Noted.{HasNoted, Notes, WriteDenies}
+use Rattle.esc_filter.specs.Passing.{in_lines, passed, passed_text, passes}
 use Rattle.esc_filter.specs.declared.admit.Admit.{Ghosts as Admitter}
 use Rattle.esc_filter.specs.declared.filter.Filter.{Filter}
 use Rattle.esc_filter.specs.declared.passing.Passing.{Passing}
+use Rattle.esc_filter.specs.declared.written.Written.{Written}
 
--- an action that passes is added to a text, and any other leaves it as it is
-abbrev pub Takes : {A : Type 0} → (Value A → Bool) → Spell A → Action A → Spell A → Type 0
-Takes admits p a q = (passes admits (value_of a) ≡ true → Adds p a q)
+-- an action that passes is written, and any other leaves all as it is
+abbrev pub Takes : {A : Type 0} → (Value A → Bool) → Written A → Action A → Written A → Type 0
+Takes admits p a q = (passes admits (value_of a) ≡ true → Notes p a q)
     × (passes admits (value_of a) ≡ false → q ≡ p)
 
 -- one that has a text is refused where memory is
 abbrev pub Refuses : {P A : Type 0} → Passing P A → Action A → Passing P A → Type 0
-Refuses p a q = Denies p.spell a q.spell
+Refuses p a q = WriteDenies p.written a q.written
 
--- the filter, of this limit and of a policy that admits these values, was fed these bytes
+-- the filter, of this limit and of a policy that admits these values, was fed these bytes; where
+-- `by_lines`, they are of one line, whose line feed it drops
+abbrev pub WasFedIn : {P A : Type 0} → Bool → ℕ → (Value A → Bool) → List ℕ → Filter P A → Type 0
+WasFedIn by_lines limit admits s f = WasFedWithin (Some limit) s f.parser
+    × HasNoted by_lines (passed (Some limit) (in_lines by_lines admits) s) f.written
+
 abbrev pub WasFed : {P A : Type 0} → ℕ → (Value A → Bool) → List ℕ → Filter P A → Type 0
-WasFed limit admits s f = WasFedWithin (Some limit) s f.parser
-    × (f.spell.follows_string ≡ ends_in_string false (passed (Some limit) admits s))
+WasFed limit admits s f = WasFedIn false limit admits s f
 
 -- an earlier call was refused memory
 abbrev pub IsBroken : {P A : Type 0} → Filter P A → Type 0
@@ -31,7 +36,7 @@ IsBroken f = IsBrokenParser f.parser
 
 -- the text that the bytes fed last added
 abbrev pub added_by : {P A : Type 0} → Filter P A → List ℕ
-added_by f = f.spell.text
+added_by f = f.written.spell.text
 
 -- its policy
 abbrev pub policy_of : {P A : Type 0} → Filter P A → P
@@ -39,12 +44,29 @@ policy_of f = f.policy
 
 -- this holds of each stream that the filter may have been fed, its limit, and what its policy
 -- admits
-abbrev pub After : {P A : Type 0} → Admitter P A → Filter P A
+abbrev pub AfterIn : {P A : Type 0} → Bool → Admitter P A → Filter P A
     → (ℕ → (Value A → Bool) → List ℕ → Type 0) → Type 0
-After V f C = (limit : ℕ) (s : List ℕ) → WasFed limit (V.admits (policy_of f)) s f
+AfterIn by_lines V f C =
+    (limit : ℕ) (s : List ℕ) → WasFedIn by_lines limit (V.admits (policy_of f)) s f
     → C limit (V.admits (policy_of f)) s
 
+abbrev pub After : {P A : Type 0} → Admitter P A → Filter P A
+    → (ℕ → (Value A → Bool) → List ℕ → Type 0) → Type 0
+After V f C = AfterIn false V f C
+
 -- the filter, which was fed s, was fed b too, and has the text that b adds
-abbrev pub TakesIn : {P A : Type 0} → (Value A → Bool) → ℕ → List ℕ → List ℕ → Filter P A → Type 0
-TakesIn admits limit s b f = WasFed limit admits (s ++ b) f
-    × (passed_text (Some limit) admits (s ++ b) ≡ passed_text (Some limit) admits s ++ added_by f)
+abbrev pub TakesIn : {P A : Type 0} → Bool → (Value A → Bool) → ℕ → List ℕ → List ℕ → Filter P A
+    → Type 0
+TakesIn by_lines admits limit s b f = WasFedIn by_lines limit admits (s ++ b) f
+    × (passed_text (Some limit) (in_lines by_lines admits) (s ++ b)
+    ≡ passed_text (Some limit) (in_lines by_lines admits) s ++ added_by f)
+
+-- the stream s has ended, and the filter has what gives back what it left changed; it is at the
+-- beginning of the next
+abbrev pub Ends : {P A : Type 0} → Bool → (Value A → Bool) → ℕ → List ℕ → Filter P A → Type 0
+Ends by_lines admits limit s f = WasFedIn by_lines limit admits [] f
+    × (added_by f ≡ list_text (closing (passed (Some limit) (in_lines by_lines admits) s)))
+
+-- nothing is left changed
+abbrev pub IsUnchanged : {P A : Type 0} → Filter P A → Type 0
+IsUnchanged f = is_any f.written.left ≡ false

@@ -1,6 +1,9 @@
 pub mod Texts
 pub mod Rules
+pub mod Closing
+pub mod GivenBack
 pub mod Passing
+pub mod Noted
 pub mod Fed
 pub mod Encoding
 pub mod Streams

@@ -1,13 +1,13 @@
 -- What is written of a stream whose lines are streams of their own.
-use Rattle.std.specs.Prelude.{ℕ, ◌≡◌, Bool, true, false, not, ◌&&◌, ◌==◌, if◌then◌else◌, List, [], ◌∷◌, ◌++◌, Some, string_bytes}
+use Rattle.std.specs.Prelude.{ℕ, ◌≡◌, Bool, true, false, ◌==◌, if◌then◌else◌, List, [], ◌∷◌, ◌++◌, Some, string_bytes}
 use Rattle.std.specs.List.{list_any, flat_map}
 use Rattle.esc_actions.specs.Meaning.{meaning, Reads}
-use Rattle.esc_actions.specs.Texts.{normal}
+use Rattle.esc_actions.specs.Texts.{list_text, normal}
 use Rattle.esc_actions.specs.Values.{Value, control}
 use Rattle.esc_actions.specs.declared.control_code.ControlCode.TheVariants.{LineFeed}
-use Rattle.esc_frame.specs.Segments.{is_empty}
-use Rattle.esc_filter.specs.Fed.{WasFed, policy_of}
-use Rattle.esc_filter.specs.Passing.{passed, passed_text}
+use Rattle.esc_filter.specs.Closing.{closed, closing}
+use Rattle.esc_filter.specs.Fed.{WasFedIn, policy_of}
+use Rattle.esc_filter.specs.Passing.{in_lines, passed}
 use Rattle.esc_filter.specs.declared.admit.Admit.{Ghosts as Admitter}
 use Rattle.esc_filter.specs.declared.line_filter.LineFilter.{LineFilter}
 
@@ -35,36 +35,61 @@ abbrev pub lines : List ℕ → List (List ℕ)
 lines [] = []
 lines (b ∷ s) = if is_line_feed b then (b ∷ []) ∷ lines s else begin_with b (lines s)
 
--- the line feed of a line whose text t has none at its end
-abbrev pub closing : List ℕ → List ℕ → List ℕ
-closing l t = if ends_line false l && not (ends_line false t) then 0x0a ∷ [] else []
+-- what comes after the last line feed
+abbrev pub last_line : List ℕ → List ℕ
+last_line [] = []
+last_line (b ∷ s) = if has_line_feed (b ∷ s) then last_line s else b ∷ s
 
--- what passes of a line, which is a stream of its own; it ends in a line feed where the line does
+-- what passes of a line but its line feed
+abbrev pub passed_of_line : {A : Type 0} → ℕ → (Value A → Bool) → List ℕ → List (Value A)
+passed_of_line limit admits l = passed (Some limit) (in_lines true admits) l
+
+-- What is written of a line, which is a stream of its own: what passes of it, and where its line
+-- feed has come, what gives back what that leaves changed, and the line feed.
 abbrev pub line_text : {A : Type 0} → ℕ → (Value A → Bool) → List ℕ → List ℕ
-line_text {A} limit admits l =
-    passed_text {A = A} (Some limit) admits l
-    ++ closing l (passed_text {A = A} (Some limit) admits l)
+line_text limit admits l =
+    if ends_line false l then list_text (closed (passed_of_line limit admits l)) ++ 0x0a ∷ []
+    else list_text (passed_of_line limit admits l)
 
 -- the text of a stream: that of its lines, one after another
 abbrev pub text_by_lines : {A : Type 0} → ℕ → (Value A → Bool) → List ℕ → List ℕ
 text_by_lines {A} limit admits s = flat_map (line_text {A = A} limit admits) (lines s)
 
--- what the text of a line means: what passes of the line, and the line feed that is added
+-- what the last line, without a line feed, leaves changed is given back once the stream has ended
+abbrev pub line_closing : {A : Type 0} → ℕ → (Value A → Bool) → List ℕ → List (Value A)
+line_closing limit admits s = closing (passed_of_line limit admits (last_line s))
+
+abbrev pub closed_by_lines : {A : Type 0} → ℕ → (Value A → Bool) → List ℕ → List ℕ
+closed_by_lines limit admits s =
+    text_by_lines limit admits s ++ list_text (line_closing limit admits s)
+
+-- what the text of a line means
 abbrev pub line_values : {A : Type 0} → ℕ → (Value A → Bool) → List ℕ → List (Value A)
 line_values limit admits l =
-    normal (passed (Some limit) admits l)
-    ++ (if is_empty (closing l (passed_text (Some limit) admits l)) then []
-    else control LineFeed ∷ [])
+    if ends_line false l then normal (closed (passed_of_line limit admits l))
+    ++ control LineFeed ∷ []
+    else normal (passed_of_line limit admits l)
 
--- What holds of the text t that a filter wrote for the lines of the stream s:
-pub record IsFilteredByLines {A : Type 0} (limit : ℕ) (admits : Value A → Bool)
+-- the text of a stream that has ended, or goes on, and what it means
+abbrev pub lines_text : {A : Type 0} → Bool → ℕ → (Value A → Bool) → List ℕ → List ℕ
+lines_text true limit admits s = closed_by_lines limit admits s
+lines_text false limit admits s = text_by_lines limit admits s
+
+abbrev pub lines_values : {A : Type 0} → Bool → ℕ → (Value A → Bool) → List ℕ → List (Value A)
+lines_values true limit admits s =
+    flat_map (line_values limit admits) (lines s) ++ normal (line_closing limit admits s)
+lines_values false limit admits s = flat_map (line_values limit admits) (lines s)
+
+-- What holds of the text t that a filter wrote for the lines of the stream s, which has ended, or
+-- goes on:
+pub record IsFilteredByLines {A : Type 0} (has_ended : Bool) (limit : ℕ) (admits : Value A → Bool)
     (s t : List ℕ) : Type 0 where
   -- it is the text of what passes of each line
-  pub text : t ≡ text_by_lines limit admits s
+  pub text : t ≡ lines_text has_ended limit admits s
   -- it reads back as that, line by line, and as nothing else
-  pub reads_back : meaning t ≡ flat_map (line_values limit admits) (lines s)
+  pub reads_back : meaning t ≡ lines_values has_ended limit admits s
   -- whatever bytes follow it, it reads so, and they read as they do by themselves
-  pub whatever_follows : Reads t (flat_map (line_values limit admits) (lines s))
+  pub whatever_follows : Reads t (lines_values has_ended limit admits s)
 
 -- The filter, of this limit and of a policy that admits these values, was fed these bytes: lines
 -- that have ended, and then the rest of one, which is all that its filter was fed.
@@ -75,8 +100,7 @@ pub record WasFedLines {P A : Type 0} (limit : ℕ) (admits : Value A → Bool) 
   pub whole : s ≡ ended ++ rest
   pub ends : ends_line true ended ≡ true
   pub unended : has_line_feed rest ≡ false
-  pub fed : WasFed limit admits rest f.filter
-  pub last : f.ends_line ≡ ends_line false (passed_text {A = A} (Some limit) admits rest)
+  pub fed : WasFedIn true limit admits rest f.filter
   pub unfailed : f.has_failed ≡ false
 
 -- what the bytes fed last added
@@ -105,21 +129,44 @@ abbrev pub GrowsBy : {P A : Type 0} → (Value A → Bool) → ℕ → List ℕ 
 GrowsBy admits limit s b old new =
     (t : List ℕ) × AddsText admits limit s b t new × (added_by new ≡ added_by old ++ t)
 
+-- the stream s has ended, and t is the text that its end adds; the filter is at the beginning of
+-- the next
+abbrev pub EndsLines : {P A : Type 0} → (Value A → Bool) → ℕ → List ℕ → List ℕ → LineFilter P A
+    → Type 0
+EndsLines {P} {A} admits limit s t f = WasFedLines limit admits [] f
+    × (closed_by_lines {A = A} limit admits s ≡ text_by_lines {A = A} limit admits s ++ t)
+
 -- ---- the last line
 
 -- this holds of each line that the filter's last one may be, so far, of its limit, and of what its
 -- policy admits
 abbrev pub OnLine : {P A : Type 0} → Admitter P A → LineFilter P A
     → (ℕ → (Value A → Bool) → List ℕ → Type 0) → Type 0
-OnLine V f C = (limit : ℕ) (l : List ℕ) → WasFed limit (V.admits (policy_of_lines f)) l f.filter
+OnLine V f C =
+    (limit : ℕ) (l : List ℕ) → WasFedIn true limit (V.admits (policy_of_lines f)) l f.filter
     → C limit (V.admits (policy_of_lines f)) l
 
 -- the last line, which was l, is longer by b, and the text grew by what that adds
 abbrev pub GrowsLine : {P A : Type 0} → (Value A → Bool) → ℕ → List ℕ → List ℕ → LineFilter P A
     → LineFilter P A → Type 0
 GrowsLine {P} {A} admits limit l b old new =
-    WasFed limit admits (l ++ b) new.filter
+    WasFedIn true limit admits (l ++ b) new.filter
     × ((t : List ℕ)
-    × (passed_text {A = A} (Some limit) admits (l ++ b)
-    ≡ passed_text {A = A} (Some limit) admits l ++ t)
-    × (added_by new ≡ added_by old ++ t) × (new.ends_line ≡ ends_line old.ends_line t))
+    × (list_text (passed_of_line {A = A} limit admits (l ++ b))
+    ≡ list_text (passed_of_line {A = A} limit admits l) ++ t)
+    × (added_by new ≡ added_by old ++ t))
+
+-- the last line, which was l, is closed, and the text grew by what gives back what it left changed
+abbrev pub ClosesLine : {P A : Type 0} → (Value A → Bool) → ℕ → List ℕ → LineFilter P A
+    → LineFilter P A → Type 0
+ClosesLine {P} {A} admits limit l old new =
+    WasFedIn true limit admits [] new.filter
+    × (added_by new ≡ added_by old ++ list_text (closing (passed_of_line {A = A} limit admits l)))
+
+-- the same, and the line feed after it
+abbrev pub EndsLine : {P A : Type 0} → (Value A → Bool) → ℕ → List ℕ → LineFilter P A
+    → LineFilter P A → Type 0
+EndsLine {P} {A} admits limit l old new =
+    WasFedIn true limit admits [] new.filter
+    × (added_by new ≡ added_by old
+    ++ (list_text (closing (passed_of_line {A = A} limit admits l)) ++ 0x0a ∷ []))

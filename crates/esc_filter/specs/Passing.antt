@@ -3,8 +3,10 @@ use Rattle.std.specs.Prelude.{ℕ, ◌≡◌, Bool, true, false, not, ◌&&◌, 
 use Rattle.std.specs.List.{filter}
 use Rattle.esc_actions.specs.Meaning.{meaning, meaning_within, Reads}
 use Rattle.esc_actions.specs.Texts.{list_text, normal}
-use Rattle.esc_actions.specs.Values.{Value, enter, datum, exit}
+use Rattle.esc_actions.specs.Values.{Value, control, enter, datum, exit}
+use Rattle.esc_actions.specs.declared.control_code.ControlCode.TheVariants.{LineFeed}
 use Rattle.esc_actions.specs.Writable.{AreWritable, is_exception}
+use Rattle.esc_filter.specs.Closing.{closed}
 
 -- a step of a mode: its header, a byte of its data, or its end
 abbrev pub is_mode_step : {A : Type 0} → Value A → Bool
@@ -21,6 +23,16 @@ is_whole v = not (is_exception v) && not (is_mode_step v)
 abbrev pub passes : {A : Type 0} → (Value A → Bool) → Value A → Bool
 passes admits v = is_whole v && admits v
 
+-- a line feed
+abbrev pub is_line_feed : {A : Type 0} → Value A → Bool
+is_line_feed (control LineFeed) = true
+is_line_feed _ = false
+
+-- of a line, what is admitted and is no line feed; its own is written at its end
+abbrev pub in_lines : {A : Type 0} → Bool → (Value A → Bool) → Value A → Bool
+in_lines true admits v = not (is_line_feed v) && admits v
+in_lines false admits v = admits v
+
 -- the values of a stream that pass, in order
 abbrev pub passed : {A : Type 0} → Option ℕ → (Value A → Bool) → List ℕ → List (Value A)
 passed limit admits s = filter (passes admits) (meaning_within limit s)
@@ -29,14 +41,25 @@ passed limit admits s = filter (passes admits) (meaning_within limit s)
 abbrev pub passed_text : {A : Type 0} → Option ℕ → (Value A → Bool) → List ℕ → List ℕ
 passed_text limit admits s = list_text (passed limit admits s)
 
--- What holds of the text t that a filter wrote for the stream s:
-pub record IsFiltered {A : Type 0} (limit : Option ℕ) (admits : Value A → Bool)
+-- the values that are written: these, and once the stream has ended what gives back what they leave
+-- changed
+abbrev pub when_ended : {A : Type 0} → Bool → List (Value A) → List (Value A)
+when_ended true vs = closed vs
+when_ended false vs = vs
+
+-- the text of a stream that has ended
+abbrev pub closed_text : {A : Type 0} → Option ℕ → (Value A → Bool) → List ℕ → List ℕ
+closed_text limit admits s = list_text (closed (passed limit admits s))
+
+-- What holds of the text t that a filter wrote for the stream s, which has ended, or goes on:
+pub record IsFiltered {A : Type 0} (has_ended : Bool) (limit : Option ℕ) (admits : Value A → Bool)
     (s t : List ℕ) : Type 0 where
-  -- it is the text of the values of the stream that pass
-  pub text : t ≡ passed_text limit admits s
+  -- it is the text of the values of the stream that pass, and of what gives back what they leave
+  -- changed
+  pub text : t ≡ list_text (when_ended has_ended (passed limit admits s))
   -- all of these can be written
-  pub writable : AreWritable (passed limit admits s)
+  pub writable : AreWritable (when_ended has_ended (passed limit admits s))
   -- it reads back as them, with the terminators of their strings, and as nothing else
-  pub reads_back : meaning t ≡ normal (passed limit admits s)
+  pub reads_back : meaning t ≡ normal (when_ended has_ended (passed limit admits s))
   -- whatever bytes follow it, it reads so, and they read as they do by themselves
-  pub whatever_follows : Reads t (normal (passed limit admits s))
+  pub whatever_follows : Reads t (normal (when_ended has_ended (passed limit admits s)))

@@ -1,5 +1,5 @@
 -- What a filter did to a watched reader and a watched writer that it was lent.
-use Rattle.std.specs.Prelude.{ℕ, ◌≡◌, ◌≤◌, List, [], ◌++◌, length, Result, IsErrOf, OnErr, OnOk}
+use Rattle.std.specs.Prelude.{ℕ, ◌≡◌, ◌≤◌, Bool, true, false, List, [], ◌++◌, length, Result, IsErrOf, OnErr, OnOk}
 use Rattle.std.specs.declared.io.traits.Read.{Ghosts as Reader}
 use Rattle.std.specs.declared.io.traits.Write.{Ghosts as Writer}
 use Rattle.esc_normal.specs.Io.{Borrowed, FailsWith, IsReadWhole, Reads, Writes, WritesPrefix}
@@ -43,22 +43,23 @@ abbrev pub IsText : (List ℕ → List ℕ) → List ℕ → List ℕ → Type 0
 IsText m s t = t ≡ m s
 
 -- What a filter did with a reader and a writer that it was lent, by this result, where m is the
--- text of a stream, and Is says what holds of a stream and of its text:
+-- text of a stream that has ended, and Is says what holds of a stream, whether it has ended, and of
+-- its text:
 pub record Filters {R W X : Type 0} (Rd : Reader R) (Wr : Writer W) (m : List ℕ → List ℕ)
-    (Is : List ℕ → List ℕ → Type 0) (result : Result X FilterError) (reader : Borrowed R)
+    (Is : Bool → List ℕ → List ℕ → Type 0) (result : Result X FilterError) (reader : Borrowed R)
     (writer : Borrowed W) : Type 0 where
   -- on Ok all was read
   pub read_all : OnOk result (IsReadWhole Rd reader)
-  -- and the text of it was written
-  pub written : OnOk result (HasFiltered Rd Wr Is reader writer)
-  -- after a fault of the reader, the text of all that was read was
-  pub decided : IsErrOf result fault.Read → HasFiltered Rd Wr Is reader writer
+  -- and the text of it was written, which has ended
+  pub written : OnOk result (HasFiltered Rd Wr (Is true) reader writer)
+  -- after a fault of the reader, the text of all that was read was, which goes on
+  pub decided : IsErrOf result fault.Read → HasFiltered Rd Wr (Is false) reader writer
   -- where the stream has no end, that of at least so many bytes was
   pub endless : IsErrOf result fault.Endless
-      → HasFilteredAtLeast Rd Wr MOST_READS Is reader writer
+      → HasFilteredAtLeast Rd Wr MOST_READS (Is false) reader writer
   -- where memory was refused, that of all but what the last read gave was
   pub until_refused : IsErrOf result fault.Memory
-      → HasFilteredAllBut Rd Wr most_a_read Is reader writer
+      → HasFilteredAllBut Rd Wr most_a_read (Is false) reader writer
   -- after any error, a prefix of the text of what was read was
   pub beginning : OnErr result (HasBegun Rd Wr m reader writer)
   -- of a reader that had not failed before, its fault comes exactly where it has failed
@@ -69,18 +70,34 @@ pub record Filters {R W X : Type 0} (Rd : Reader R) (Wr : Writer W) (m : List �
 -- ---- a filter that is fed
 
 -- this holds of the texts that the filter gives, and of the stream that it was fed
-abbrev pub Given : {F A : Type 0} → Feeder F A → F → ((List ℕ → List ℕ) → List ℕ → Type 0) → Type 0
-Given V f C = (m : List ℕ → List ℕ) (s : List ℕ) → V.gives f m s → C m s
+abbrev pub Given : {F A : Type 0} → Feeder F A → F
+    → ((List ℕ → List ℕ) → (List ℕ → List ℕ) → List ℕ → Type 0) → Type 0
+Given V f C = (m c : List ℕ → List ℕ) (s : List ℕ) → V.gives f m c s → C m c s
 
--- this holds of the texts that the filter gives, which was fed nothing; nothing has no text
-abbrev pub New : {F A : Type 0} → Feeder F A → F → ((List ℕ → List ℕ) → Type 0) → Type 0
-New V f C = (m : List ℕ → List ℕ) → V.gives f m [] → m [] ≡ [] → C m
+-- this holds of the texts that the filter gives, which was fed nothing; nothing has no text, and a
+-- stream that has ended has the text of one that goes on, and more
+abbrev pub New : {F A : Type 0} → Feeder F A → F
+    → ((List ℕ → List ℕ) → (List ℕ → List ℕ) → Type 0) → Type 0
+New V f C = (m c : List ℕ → List ℕ) → V.gives f m c [] → m [] ≡ []
+    → ((s : List ℕ) → (t : List ℕ) × (c s ≡ m s ++ t)) → C m c
+
+-- the text t of the stream s is that of the first where it has ended, and of the second where it
+-- goes on
+abbrev pub IsEither : (List ℕ → List ℕ) → (List ℕ → List ℕ) → Bool → List ℕ → List ℕ → Type 0
+IsEither c m true s t = IsText c s t
+IsEither c m false s t = IsText m s t
+
+-- the reader gave some bytes, which the filter was fed, and their text was written
+abbrev pub HasFed : {F A R W : Type 0} → Feeder F A → Reader R → Writer W → (List ℕ → List ℕ)
+    → (List ℕ → List ℕ) → F → Borrowed R → Borrowed W → Type 0
+HasFed V R W m c filter reader writer =
+    (s : List ℕ) × V.gives filter m c s × Reads R s reader × Writes W (m s) writer
 
 -- the filter, which was fed s, was fed b too, and the text that b adds was written
-abbrev pub PassesOn : {F A W : Type 0} → Feeder F A → Writer W → (List ℕ → List ℕ) → List ℕ → List ℕ
-    → F → Borrowed W → Type 0
-PassesOn V W m s b filter writer =
-    V.gives filter m (s ++ b)
+abbrev pub PassesOn : {F A W : Type 0} → Feeder F A → Writer W → (List ℕ → List ℕ)
+    → (List ℕ → List ℕ) → List ℕ → List ℕ → F → Borrowed W → Type 0
+PassesOn V W m c s b filter writer =
+    V.gives filter m c (s ++ b)
     × ((t : List ℕ) × (m (s ++ b) ≡ m s ++ t) × Writes W t writer)
 
 -- a prefix of the text that b adds after s was written

@@ -1,5 +1,5 @@
 //! A filter that is fed a stream piece by piece.
-ghost use Rattle.std.specs.Prelude.{◌≡◌, ◌≤◌, ◌+◌, List, [], IfErr, OnOk, Some, min};
+ghost use Rattle.std.specs.Prelude.{◌≡◌, ◌≤◌, ◌+◌, Bool, List, [], IfErr, OnErr, OnOk, Some, false, min};
 ghost use Rattle.esc_actions.specs.Limited.{data_kept};
 ghost use Rattle.esc_frame.specs.Counts.{kept_of_cut};
 ghost use Rattle.esc_frame.specs.Limits.{most};
@@ -9,28 +9,31 @@ ghost use Rattle.memory.specs.Refusals.{Refused};
 use crate::admit::Admit;
 use crate::passing::Passing;
 use crate::text::emptied;
+use crate::written::Written;
 use esc_actions::laws;
 use esc_frame::ParseError;
-use esc_normal::Spell;
 use esc_parse::Parser;
-use std::alloc::{Allocator, Global};
+use esc_values::Text;
+use std::alloc::{AllocError, Allocator, Global};
 use std::mem;
 
 /// Takes a stream in whatever pieces it comes, and gives for each the text that it adds: that of
-/// the actions which pass the policy.
+/// the actions which pass the policy. At its end it gives what takes back what these leave changed
+/// at a terminal.
 ///
 /// It keeps what a parser keeps of an unfinished segment, at most the limit, the text of the piece
-/// before, and whether a string terminator that comes next ends a string that was written already.
+/// before, whether a string terminator that comes next ends a string that was written already, and
+/// what is left changed.
 #[derive(Drop)]
 pub struct Filter<P, A: Allocator = Global> {
     parser: Parser<A>,
-    spell: Spell<A>,
+    written: Written<A>,
     alloc: A,
     policy: P,
 }
 
 impl<P: Admit<A>, A: Allocator + Copy> Filter<P, A> {
-    ghost use Rattle.esc_filter.specs.Fed.{After, IsBroken, TakesIn, WasFed, added_by, policy_of};
+    ghost use Rattle.esc_filter.specs.Fed.{After, AfterIn, Ends, IsBroken, IsUnchanged, TakesIn, WasFed, WasFedIn, added_by, policy_of};
 
     /// A filter at the beginning of a stream, which keeps at most `limit` bytes of a segment, as
     /// [`Parser::with_limit`](esc_parse::Parser::with_limit) does. Takes no memory.
@@ -39,9 +42,18 @@ impl<P: Admit<A>, A: Allocator + Copy> Filter<P, A> {
         ensures policy { policy_of result ≡ policy }
         ensures empty { added_by result ≡ [] }
     {
+        Filter::begun(alloc, limit, policy, false)
+    }
+
+    /// The same; where `by_lines`, of a line, whose line feed it drops.
+    pub(crate) fn begun(alloc: A, limit: usize, policy: P, by_lines: bool) -> Filter<P, A>
+        ensures fed { WasFedIn by_lines limit (P.admits policy) [] result }
+        ensures policy { policy_of result ≡ policy }
+        ensures empty { added_by result ≡ [] }
+    {
         Filter {
             parser: Parser::with_limit(alloc, limit),
-            spell: Spell::new(alloc),
+            written: Written::new(alloc, by_lines),
             alloc,
             policy,
         }
@@ -53,30 +65,52 @@ impl<P: Admit<A>, A: Allocator + Copy> Filter<P, A> {
     /// `ParseError::Memory` says that a request for memory was refused: the text is empty, and from
     /// then on every call returns `ParseError::Failed`.
     pub fn feed(&mut self, bytes: &[u8]) -> Result<(), ParseError>
-        ensures given { After P.Admit self.old (λ limit admits s.
-            OnOk result (TakesIn admits limit s bytes.now self.new)) }
+        ensures given { (by_lines : Bool) → AfterIn by_lines P.Admit self.old (λ limit admits s.
+            OnOk result (TakesIn by_lines admits limit s bytes.now self.new)) }
         ensures policy { policy_of self.new ≡ policy_of self.old }
-        ensures refused { After P.Admit self.old (λ limit admits s. IfErr result (λ e.
-            (e ≡ ParseError.Memory) × IsBroken self.new × (added_by self.new ≡ []) × Refused A)) }
+        ensures refused { (by_lines : Bool) → AfterIn by_lines P.Admit self.old (λ limit admits s.
+            IfErr result (λ e. (e ≡ ParseError.Memory) × IsBroken self.new
+            × (added_by self.new ≡ []) × Refused A)) }
         ensures failed { IsBroken self.old → (result ≡ Err ParseError.Failed) × IsBroken self.new
             × (added_by self.new ≡ []) }
     {
         laws::yield_handed_out::<A>();
-        let Spell {
-            text,
-            follows_string,
-        } = mem::replace(&mut self.spell, Spell::new(self.alloc));
+        let by_lines = self.written.by_lines;
+        let written = mem::replace(&mut self.written, Written::new(self.alloc, by_lines));
         let sink = Passing {
-            spell: Spell {
-                text: emptied(text),
-                follows_string,
-            },
+            written: written.emptied(),
             policy: &self.policy,
         };
-        let (result, Passing { spell, policy: _ }) = self.parser.parse_into(bytes, sink);
+        let (result, Passing { written, policy: _ }) = self.parser.parse_into(bytes, sink);
         match result {
             Ok(()) => {
-                self.spell = spell;
+                self.written = written;
+                Ok(())
+            }
+            Err(error) => Err(error),
+        }
+    }
+
+    /// Ends the stream, and begins the next. What takes back what it left changed at a terminal is
+    /// then the [`text`](Filter::text): renditions and links, the main screen, margins, the origin,
+    /// that characters are not inserted, the cursor, and the other modes of what is shown. What is
+    /// unfinished is dropped.
+    ///
+    /// The error says that a request for memory was refused: the text is empty, and the stream has
+    /// not ended.
+    pub fn finish(&mut self) -> Result<(), AllocError>
+        ensures ended { (by_lines : Bool) → AfterIn by_lines P.Admit self.old (λ limit admits s.
+            OnOk result (Ends by_lines admits limit s self.new)) }
+        ensures policy { policy_of self.new ≡ policy_of self.old }
+        ensures refused { OnErr result ((added_by self.new ≡ []) × Refused A) }
+        ensures failed { IsBroken self.old → IsBroken self.new }
+    {
+        let mut text = mem::replace(&mut self.written.spell.text, Text::new(self.alloc));
+        text = emptied(text);
+        match self.written.left.give_back(&mut text) {
+            Ok(()) => {
+                self.restart();
+                self.written.spell.text = text;
                 Ok(())
             }
             Err(error) => Err(error),
@@ -85,23 +119,36 @@ impl<P: Admit<A>, A: Allocator + Copy> Filter<P, A> {
 
     /// Begins a new stream. What is unfinished is dropped.
     pub(crate) fn restart(&mut self)
-        ensures fed { After P.Admit self.old (λ limit admits s. WasFed limit admits [] self.new) }
+        ensures fed { (by_lines : Bool) → AfterIn by_lines P.Admit self.old (λ limit admits s.
+            WasFedIn by_lines limit admits [] self.new) }
         ensures policy { policy_of self.new ≡ policy_of self.old }
+        ensures failed { IsBroken self.old → IsBroken self.new }
     {
         self.parser.restart();
-        self.spell.follows_string = false;
+        self.written.restart();
     }
 
-    /// Tells the policy that a line feed was added to the text of a line.
+    /// Whether anything is left changed.
+    #[inline]
+    pub(crate) fn is_changed(&self) -> bool
+        ensures { result ≡ false → IsUnchanged self.now }
+    {
+        self.written.left.is_any()
+    }
+
+    /// Tells the policy that a line feed was added to the text of a line, where its own did not
+    /// pass.
     pub(crate) fn close_line(&self) {
-        self.policy.closes_line();
+        if !self.written.has_ended {
+            self.policy.closes_line();
+        }
     }
 
     /// The text that the bytes fed last added.
     pub fn text(&self) -> &str
         ensures { result.now ≡ added_by self.now }
     {
-        self.spell.text.as_str()
+        self.written.spell.text.as_str()
     }
 
     /// How many bytes are kept of the segment that is unfinished, as

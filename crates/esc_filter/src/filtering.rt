@@ -1,9 +1,9 @@
 //! From a stream to the text of what passes of it.
-ghost use Rattle.std.specs.Prelude.{◌≡◌, ◌<◌, length, IfErr, IsErrOf, OnErr, OnOk, Some};
+ghost use Rattle.std.specs.Prelude.{ℕ, ◌≡◌, ◌<◌, ◌++◌, List, length, IfErr, IsErrOf, OnErr, OnOk, Some};
 ghost use Rattle.esc_normal.specs.Io.{FailsWith, IsReadWhole, Writes, WritesPrefix};
-ghost use Rattle.esc_filter.specs.Streams.{Filters, Given, HasBegun, HasFiltered, HasFilteredAllBut, HasFilteredAtLeast, IsText, New, PassesOn, PassesPrefixOn};
-ghost use Rattle.esc_filter.specs.Lines.{IsFilteredByLines, text_by_lines};
-ghost use Rattle.esc_filter.specs.Passing.{IsFiltered, passed_text};
+ghost use Rattle.esc_filter.specs.Streams.{Filters, Given, HasBegun, HasFed, HasFiltered, HasFilteredAllBut, HasFilteredAtLeast, IsEither, IsText, New, PassesOn, PassesPrefixOn};
+ghost use Rattle.esc_filter.specs.Lines.{IsFilteredByLines, closed_by_lines};
+ghost use Rattle.esc_filter.specs.Passing.{IsFiltered, closed_text};
 ghost use Rattle.memory.specs.Refusals.{Refused};
 
 use crate::admit::Admit;
@@ -20,7 +20,9 @@ use std::io::{Read, Write};
 pub const MOST_READS: u64 = u64::MAX;
 
 /// Reads to the end, and writes the text of the actions that pass the policy, as it reads: after
-/// each read the text of all that was read so far is written and flushed. It holds a chunk of 64
+/// each read the text of all that was read so far is written and flushed. At the end it writes what
+/// takes back what these left changed at a terminal, as [`Filter::finish`] says; after an error it
+/// does not. It holds a chunk of 64
 /// KiB, the text of one, and at most `limit` bytes of an unfinished segment.
 ///
 /// After `FilterError::Read` the text of all that was read was written, after `Memory` that of all
@@ -35,8 +37,9 @@ pub fn filter_stream<R: Read, W: Write, P: Admit<A> + Drop, A: Allocator + Copy>
     limit: usize,
     policy: P,
 ) -> Result<(), FilterError>
-    ensures holds { Filters R.Read W.Write (passed_text {A = A} (Some limit) (P.admits policy))
-        (IsFiltered {A = A} (Some limit) (P.admits policy)) result reader writer }
+    ensures holds { Filters R.Read W.Write (closed_text {A = A} (Some limit) (P.admits policy))
+        (λ has_ended. IsFiltered {A = A} has_ended (Some limit) (P.admits policy)) result reader
+        writer }
     ensures refused { IsErrOf result FilterError.Memory → Refused A }
 {
     laws::passed_reads_back::<A>();
@@ -54,8 +57,9 @@ pub fn filter_lines<R: Read, W: Write, P: Admit<A> + Drop, A: Allocator + Copy>(
     limit: usize,
     policy: P,
 ) -> Result<(), FilterError>
-    ensures holds { Filters R.Read W.Write (text_by_lines {A = A} limit (P.admits policy))
-        (IsFilteredByLines {A = A} limit (P.admits policy)) result reader writer }
+    ensures holds { Filters R.Read W.Write (closed_by_lines {A = A} limit (P.admits policy))
+        (λ has_ended. IsFilteredByLines {A = A} has_ended limit (P.admits policy)) result reader
+        writer }
     ensures refused { IsErrOf result FilterError.Memory → Refused A }
 {
     laws::lines_read_back::<A>();
@@ -71,15 +75,18 @@ fn filter_from<R: Read, W: Write, F: Feeding<A>, A: Allocator + Copy>(
     reader: &mut Watched<R>,
     writer: &mut Watched<W>,
 ) -> Result<(), FilterError>
-    ensures holds { New F.Feeding filter.old (λ m.
-        Filters R.Read W.Write m (IsText m) result reader writer) }
-    ensures refused { New F.Feeding filter.old (λ m.
+    ensures holds { New F.Feeding filter.old (λ m c.
+        Filters R.Read W.Write c (IsEither c m) result reader writer) }
+    ensures refused { New F.Feeding filter.old (λ m c.
         IsErrOf result FilterError.Memory → Refused A) }
 {
     let Ok(mut chunk) = memory::read_buffer(alloc) else {
         return Err(FilterError::Memory);
     };
-    filter_all(filter, reader, writer, chunk.as_mut_slice())
+    match filter_all(filter, reader, writer, chunk.as_mut_slice()) {
+        Ok(()) => end(filter, writer),
+        Err(error) => Err(error),
+    }
 }
 
 // The same by way of this chunk, part by part of what `Filters` says.
@@ -91,19 +98,19 @@ fn filter_all<R: Read, W: Write, F: Feeding<A>, A: Allocator + Copy>(
 ) -> Result<(), FilterError>
     requires { 0 < length chunk.old }
     ensures read_all { OnOk result (IsReadWhole R.Read reader) }
-    ensures written { New F.Feeding filter.old (λ m.
-        OnOk result (HasFiltered R.Read W.Write (IsText m) reader writer)) }
-    ensures decided { New F.Feeding filter.old (λ m.
+    ensures fed { New F.Feeding filter.old (λ m c.
+        OnOk result (HasFed F.Feeding R.Read W.Write m c filter.new reader writer)) }
+    ensures decided { New F.Feeding filter.old (λ m c.
         IsErrOf result FilterError.Read → HasFiltered R.Read W.Write (IsText m) reader writer) }
-    ensures endless { New F.Feeding filter.old (λ m. IsErrOf result FilterError.Endless
+    ensures endless { New F.Feeding filter.old (λ m c. IsErrOf result FilterError.Endless
         → HasFilteredAtLeast R.Read W.Write MOST_READS (IsText m) reader writer) }
-    ensures until_refused { New F.Feeding filter.old (λ m. IsErrOf result FilterError.Memory
+    ensures until_refused { New F.Feeding filter.old (λ m c. IsErrOf result FilterError.Memory
         → HasFilteredAllBut R.Read W.Write (length chunk.old) (IsText m) reader writer) }
-    ensures beginning { New F.Feeding filter.old (λ m.
-        OnErr result (HasBegun R.Read W.Write m reader writer)) }
+    ensures beginning { New F.Feeding filter.old (λ m c.
+        OnErr result (HasBegun R.Read W.Write c reader writer)) }
     ensures read_fault { FailsWith result FilterError.Read reader }
     ensures write_fault { FailsWith result FilterError.Write writer }
-    ensures refused { New F.Feeding filter.old (λ m.
+    ensures refused { New F.Feeding filter.old (λ m c.
         IsErrOf result FilterError.Memory → Refused A) }
 {
     for _ in 0..MOST_READS {
@@ -122,19 +129,41 @@ fn pass_on<W: Write, F: Feeding<A>, A: Allocator + Copy>(
     bytes: &[u8],
     writer: &mut Watched<W>,
 ) -> Result<(), FilterError>
-    ensures given { Given F.Feeding filter.old (λ m s.
-        OnOk result (PassesOn F.Feeding W.Write m s bytes.now filter.new writer)) }
-    ensures beginning { Given F.Feeding filter.old (λ m s.
+    ensures given { Given F.Feeding filter.old (λ m c s.
+        OnOk result (PassesOn F.Feeding W.Write m c s bytes.now filter.new writer)) }
+    ensures beginning { Given F.Feeding filter.old (λ m c s.
         OnErr result (PassesPrefixOn W.Write m s bytes.now writer)) }
     ensures no_read { IsErrOf result FilterError.Read → ⊥ }
     ensures no_end { IsErrOf result FilterError.Endless → ⊥ }
     ensures unwritten { IsErrOf result FilterError.Memory → writer.new ≡ writer.old }
     ensures write_fault { FailsWith result FilterError.Write writer }
-    ensures refused { Given F.Feeding filter.old (λ m s.
+    ensures refused { Given F.Feeding filter.old (λ m c s.
         IsErrOf result FilterError.Memory → Refused A) }
 {
     match filter.feed_piece(bytes) {
         Ok(()) => write_out(writer, filter.added_text()),
+        Err(_) => Err(FilterError::Memory),
+    }
+}
+
+// Ends the filter's stream, and writes the text that this adds.
+fn end<W: Write, F: Feeding<A>, A: Allocator + Copy>(
+    filter: &mut F,
+    output: &mut Watched<W>,
+) -> Result<(), FilterError>
+    ensures given { Given F.Feeding filter.old (λ m c s.
+        OnOk result ((t : List ℕ) × (c s ≡ m s ++ t) × Writes W.Write t output)) }
+    ensures beginning { Given F.Feeding filter.old (λ m c s.
+        OnErr result ((t : List ℕ) × (c s ≡ m s ++ t) × WritesPrefix W.Write t output)) }
+    ensures no_read { IsErrOf result FilterError.Read → ⊥ }
+    ensures no_end { IsErrOf result FilterError.Endless → ⊥ }
+    ensures unwritten { IsErrOf result FilterError.Memory → output.new ≡ output.old }
+    ensures write_fault { FailsWith result FilterError.Write output }
+    ensures refused { Given F.Feeding filter.old (λ m c s.
+        IsErrOf result FilterError.Memory → Refused A) }
+{
+    match filter.finish_all() {
+        Ok(()) => write_out(output, filter.added_text()),
         Err(_) => Err(FilterError::Memory),
     }
 }

@@ -3,8 +3,10 @@
 ghost use Rattle.std.specs.Prelude.{◌≡◌, ◌++◌, ℕ, Bool, List, Option, Some, false, true};
 ghost use Rattle.std.specs.List.{filter};
 ghost use Rattle.esc_actions.specs.Meaning.{yield_within};
+ghost use Rattle.esc_actions.specs.Texts.{list_text};
 ghost use Rattle.esc_actions.specs.Values.{Value};
-ghost use Rattle.esc_filter.specs.Lines.{IsFilteredByLines, text_by_lines};
+ghost use Rattle.esc_filter.specs.Closing.{closing};
+ghost use Rattle.esc_filter.specs.Lines.{IsFilteredByLines, lines_text};
 ghost use Rattle.esc_sequences.specs.Csis.{CsiValue};
 ghost use Rattle.esc_sequences.specs.declared.esc.Esc.{Esc};
 ghost use Rattle.esc_functions.specs.Effects.{is_answered};
@@ -14,17 +16,20 @@ ghost use Rattle.esc_functions.specs.Functions.{named};
 ghost use Rattle.esc_functions.specs.declared.control_function.ControlFunction.{ControlFunction};
 ghost use Rattle.esc_functions.specs.declared.escape_function.EscapeFunction.{EscapeFunction};
 ghost use Rattle.esc_filter.specs.Groups.{admits_groups, groups_of};
-ghost use Rattle.esc_filter.specs.Passing.{IsFiltered, passed, passed_text, passes};
+ghost use Rattle.esc_filter.specs.Passing.{IsFiltered, closed_text, passed, passed_text, passes};
 ghost use Rattle.esc_filter.specs.Rules.{admits, is_screen_escape, is_screen_sequence};
 ghost use Rattle.esc_filter.specs.declared.policy.Policy.{Policy};
 
 use esc_actions::laws;
 use std::alloc::Allocator;
 
-/// The text of what passes of a stream reads back as what passes, whatever is admitted.
+/// The text of what passes of a stream reads back as what passes, whatever is admitted, and so does
+/// that of a stream that has ended, with what gives back what is left changed.
 pub fn passed_reads_back<A: Allocator>()
-    ensures { (limit : Option ℕ) (admits : Value A → Bool) (s : List ℕ)
-        → IsFiltered limit admits s (passed_text limit admits s) }
+    ensures goes_on { (limit : Option ℕ) (admits : Value A → Bool) (s : List ℕ)
+        → IsFiltered false limit admits s (passed_text limit admits s) }
+    ensures ended { (limit : Option ℕ) (admits : Value A → Bool) (s : List ℕ)
+        → IsFiltered true limit admits s (closed_text limit admits s) }
 {
     laws::handed_out::<A>();
     laws::reads_back::<A>();
@@ -40,11 +45,19 @@ pub fn passed_more<A: Allocator>()
     laws::meaning_of_more::<A>();
 }
 
+/// The text of a stream that has ended is the one before its end, and then what gives back what is
+/// left changed.
+pub fn closing_comes_last<A: Allocator>()
+    ensures { (limit : Option ℕ) (admits : Value A → Bool) (s : List ℕ)
+        → closed_text limit admits s
+        ≡ passed_text limit admits s ++ list_text (closing (passed limit admits s)) }
+{}
+
 /// The text of what passes of a stream whose lines are streams of their own reads back as what
 /// passes of them, line by line, whatever is admitted.
 pub fn lines_read_back<A: Allocator>()
-    ensures { (limit : ℕ) (admits : Value A → Bool) (s : List ℕ)
-        → IsFilteredByLines limit admits s (text_by_lines limit admits s) }
+    ensures { (has_ended : Bool) (limit : ℕ) (admits : Value A → Bool) (s : List ℕ)
+        → IsFilteredByLines has_ended limit admits s (lines_text has_ended limit admits s) }
 {
     passed_reads_back::<A>();
     laws::reads_by_itself::<A>();

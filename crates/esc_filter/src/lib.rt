@@ -24,12 +24,14 @@ mod function_groups;
 mod group;
 mod groups;
 mod laws;
+mod left;
 mod line_filter;
 mod passing;
 mod policy;
 mod schemes;
 mod screen;
 mod text;
+mod written;
 
 pub use admit::{Admit, passes};
 pub use encoder::Encoder;
@@ -39,7 +41,8 @@ pub use filtering::{MOST_READS, filter_lines, filter_stream};
 pub use group::Group;
 pub use groups::Groups;
 pub use laws::{
-    lines_read_back, passed_more, passed_reads_back, policies_are_groups, screen_is_not_answered,
+    closing_comes_last, lines_read_back, passed_more, passed_reads_back, policies_are_groups,
+    screen_is_not_answered,
 };
 pub use line_filter::LineFilter;
 pub use policy::Policy;

@@ -1,6 +1,6 @@
 //! A filter to which each line is a stream of its own.
-ghost use Rattle.std.specs.Prelude.{◌≡◌, ◌≤◌, ◌<◌, ◌++◌, ◌∷◌, ℕ, if◌then◌else◌, [], Err, IfErr, MatchOption, OnErr, OnOk, length, take, true, false};
-ghost use Rattle.esc_filter.specs.Lines.{has_line_feed, ends_line, IsLine};
+ghost use Rattle.std.specs.Prelude.{◌≡◌, ◌≤◌, ◌<◌, [], Err, IfErr, MatchOption, OnErr, OnOk, length, take, true, false};
+ghost use Rattle.esc_filter.specs.Lines.{has_line_feed, IsLine};
 ghost use Rattle.memory.specs.Refusals.{Refused};
 
 use crate::admit::Admit;
@@ -12,7 +12,8 @@ use std::alloc::{AllocError, Allocator, Global};
 /// Takes a stream in whatever pieces it comes, and gives for each the text that it adds, as
 /// [`Filter`] does; but each line, up to its line feed and with it, is a stream of its own. So a
 /// string that nobody ends hides nothing of the lines after it, and each line of the stream has its
-/// line in the text: where a string takes the line feed away, one is added.
+/// line in the text: where a string takes the line feed away, one is added. What a line leaves
+/// changed at a terminal is taken back before its line feed.
 ///
 /// It keeps what a [`Filter`] keeps of the last line, and the text of the piece before.
 #[derive(Drop)]
@@ -20,14 +21,11 @@ pub struct LineFilter<P, A: Allocator = Global> {
     filter: Filter<P, A>,
     // what the bytes fed last added
     text: String<A>,
-    // whether the text of the last line, which has no line feed yet, ends in one
-    ends_line: bool,
     has_failed: bool,
 }
 
 impl<P: Admit<A>, A: Allocator + Copy> LineFilter<P, A> {
-    ghost use Rattle.esc_filter.specs.Lines.{AddsText, AfterLines, GrowsBy, GrowsLine, OnLine, WasFedLines, added_by, policy_of_lines};
-    ghost use Rattle.esc_filter.specs.Fed.{WasFed};
+    ghost use Rattle.esc_filter.specs.Lines.{AddsText, AfterLines, ClosesLine, EndsLine, EndsLines, GrowsBy, GrowsLine, OnLine, WasFedLines, added_by, policy_of_lines};
 
     /// A filter at the beginning of a stream, which keeps at most `limit` bytes of a segment, as
     /// [`Filter::new`] does. Takes no memory.
@@ -37,9 +35,8 @@ impl<P: Admit<A>, A: Allocator + Copy> LineFilter<P, A> {
         ensures empty { added_by result ≡ [] }
     {
         LineFilter {
-            filter: Filter::new(alloc, limit, policy),
+            filter: Filter::begun(alloc, limit, policy, true),
             text: String::new(alloc),
-            ends_line: false,
             has_failed: false,
         }
     }
@@ -64,6 +61,36 @@ impl<P: Admit<A>, A: Allocator + Copy> LineFilter<P, A> {
             return Err(ParseError::Failed);
         }
         match self.feed_lines(bytes) {
+            Ok(()) => Ok(()),
+            Err(_) => {
+                self.has_failed = true;
+                self.text.clear();
+                Err(ParseError::Memory)
+            }
+        }
+    }
+
+    /// Ends the stream, and begins the next. What takes back what its last line left changed at a
+    /// terminal, where that has no line feed, is then the [`text`](LineFilter::text), as
+    /// [`Filter::finish`] says.
+    ///
+    /// `ParseError::Memory` says that a request for memory was refused: the text is empty, and from
+    /// then on every call returns `ParseError::Failed`.
+    pub fn finish(&mut self) -> Result<(), ParseError>
+        ensures ended { AfterLines P.Admit self.old (λ limit admits s.
+            OnOk result (EndsLines admits limit s (added_by self.new) self.new)) }
+        ensures policy { policy_of_lines self.new ≡ policy_of_lines self.old }
+        ensures refused { AfterLines P.Admit self.old (λ limit admits s. IfErr result (λ e.
+            (e ≡ ParseError.Memory) × (self.new.has_failed ≡ true) × (added_by self.new ≡ [])
+            × Refused A)) }
+        ensures failed { self.old.has_failed ≡ true → (result ≡ Err ParseError.Failed)
+            × (self.new.has_failed ≡ true) × (added_by self.new ≡ []) }
+    {
+        self.text.clear();
+        if self.has_failed {
+            return Err(ParseError::Failed);
+        }
+        match self.close() {
             Ok(()) => Ok(()),
             Err(_) => {
                 self.has_failed = true;
@@ -141,33 +168,42 @@ impl<P: Admit<A>, A: Allocator + Copy> LineFilter<P, A> {
             OnErr result (Refused A)) }
     {
         match self.filter.feed(bytes) {
-            Ok(()) => {
-                let added = self.filter.text();
-                self.ends_line = ends_line(self.ends_line, added.as_bytes());
-                memory::push_str(&mut self.text, added)
-            }
+            Ok(()) => memory::push_str(&mut self.text, self.filter.text()),
             Err(_) => Err(AllocError),
         }
     }
 
     // Ends the last line, and its text. The next line is a stream of its own.
     fn end_line(&mut self) -> Result<(), AllocError>
-        ensures given { OnOk result ((added_by self.new
-            ≡ added_by self.old ++ (if self.old.ends_line then [] else 0x0a ∷ []))
-            × (self.new.ends_line ≡ false)) }
-        ensures fed { OnLine P.Admit self.old (λ limit admits l.
-            WasFed limit admits [] self.new.filter) }
+        ensures given { OnLine P.Admit self.old (λ limit admits l. OnOk result
+            (EndsLine admits limit l self.old self.new)) }
         ensures kept { (policy_of_lines self.new ≡ policy_of_lines self.old)
             × (self.new.has_failed ≡ self.old.has_failed) }
         ensures refused { OnErr result (Refused A) }
     {
-        self.filter.restart();
-        if self.ends_line {
-            self.ends_line = false;
+        self.filter.close_line();
+        match self.close() {
+            Ok(()) => memory::push_char(&mut self.text, '\n'),
+            Err(e) => Err(e),
+        }
+    }
+
+    // Takes back what the last line left changed, and begins a new stream.
+    fn close(&mut self) -> Result<(), AllocError>
+        ensures given { OnLine P.Admit self.old (λ limit admits l. OnOk result
+            (ClosesLine admits limit l self.old self.new)) }
+        ensures kept { (policy_of_lines self.new ≡ policy_of_lines self.old)
+            × (self.new.has_failed ≡ self.old.has_failed) }
+        ensures refused { OnErr result (Refused A) }
+    {
+        if !self.filter.is_changed() {
+            self.filter.restart();
             return Ok(());
         }
-        self.filter.close_line();
-        memory::push_char(&mut self.text, '\n')
+        match self.filter.finish() {
+            Ok(()) => memory::push_str(&mut self.text, self.filter.text()),
+            Err(e) => Err(e),
+        }
     }
 }
 
@@ -180,16 +216,5 @@ fn line_length(bytes: &[u8]) -> Option<usize>
     match memchr(b'\n', bytes) {
         Some(at) => Some(at + 1),
         None => None,
-    }
-}
-
-// Whether a line feed comes last, where `before` says so of what comes before.
-fn ends_line(before: bool, text: &[u8]) -> bool
-    ensures { result ≡ ends_line before text.now }
-{
-    if text.is_empty() {
-        before
-    } else {
-        text[text.len() - 1] == b'\n'
     }
 }

@@ -3,8 +3,8 @@ ghost use Rattle.std.specs.Prelude.{◌≡◌};
 ghost use Rattle.esc_filter.specs.Fed.{Refuses, Takes};
 
 use crate::admit::{Admit, passes};
+use crate::written::Written;
 use esc_actions::Action;
-use esc_normal::Spell;
 use esc_parse::Sink;
 use esc_values::CsiParam;
 use std::alloc::{AllocError, Allocator, Global};
@@ -12,8 +12,8 @@ use std::alloc::{AllocError, Allocator, Global};
 /// Appends the text of each action that passes, and drops the others.
 #[derive(Drop)]
 pub(crate) struct Passing<'p, P, A: Allocator = Global> {
-    /// The text of those that passed.
-    pub spell: Spell<A>,
+    /// What writes those that pass.
+    pub written: Written<A>,
     /// What admits them.
     pub policy: &'p P,
 }
@@ -23,7 +23,7 @@ impl<'p, P: Admit<A>, A: Allocator> Sink<Action<A>> for Passing<'p, P, A> {
 
     ghost may = { λ _ _. Unit {0} };
 
-    ghost takes = { λ p a q. Takes (P.admits p.policy.now) p.spell a q.spell
+    ghost takes = { λ p a q. Takes (P.admits p.policy.now) p.written a q.written
         × (q.policy.now ≡ p.policy.now) };
 
     ghost refuses = { Refuses };
@@ -31,7 +31,7 @@ impl<'p, P: Admit<A>, A: Allocator> Sink<Action<A>> for Passing<'p, P, A> {
     #[inline]
     fn receive(&mut self, action: Action<A>) -> Result<(), AllocError> {
         if passes(self.policy, &action) {
-            self.spell.receive(action)
+            self.written.receive(action)
         } else {
             self.policy.leaves_out(&action);
             Ok(())
@@ -41,7 +41,7 @@ impl<'p, P: Admit<A>, A: Allocator> Sink<Action<A>> for Passing<'p, P, A> {
     #[inline]
     fn receive_text(&mut self, text: &[u8]) -> Result<(), AllocError> {
         if self.policy.admits_text(text) {
-            return self.spell.receive_text(text);
+            return self.written.receive_text(text);
         }
         for byte in text {
             match self.receive(Action::Print(*byte as char)) {
@@ -55,7 +55,7 @@ impl<'p, P: Admit<A>, A: Allocator> Sink<Action<A>> for Passing<'p, P, A> {
     #[inline]
     fn receive_str(&mut self, text: &str) -> Result<(), AllocError> {
         if self.policy.admits_str(text) {
-            return self.spell.receive_str(text);
+            return self.written.receive_str(text);
         }
         for c in text.chars() {
             match self.receive(Action::Print(c)) {
@@ -80,7 +80,7 @@ impl<'p, P: Admit<A>, A: Allocator> Sink<Action<A>> for Passing<'p, P, A> {
         }
         match self.policy.admits_sequence(params, control) {
             Some(true) => self
-                .spell
+                .written
                 .receive_sequence(params, parameters_truncated, control),
             Some(false) => Ok(true),
             None => Ok(false),
@@ -91,7 +91,7 @@ impl<'p, P: Admit<A>, A: Allocator> Sink<Action<A>> for Passing<'p, P, A> {
     #[inline]
     fn receive_command(&mut self, text: &[u8]) -> Result<bool, AllocError> {
         match self.policy.admits_command(text) {
-            Some(true) => self.spell.receive_command(text),
+            Some(true) => self.written.receive_command(text),
             Some(false) => Ok(true),
             None => Ok(false),
         }

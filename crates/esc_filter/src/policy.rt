@@ -109,7 +109,7 @@ fn link_passes<A: Allocator>(text: &[u8]) -> Option<bool>
 }
 
 // Whether it begins with a digit other than 8. Then its code, the first part, is not that of links.
-fn has_other_code(text: &[u8]) -> bool
+pub(crate) fn has_other_code(text: &[u8]) -> bool
     ensures { IsTrue result → BeginsOther text.now }
 {
     let [first, _rest @ ..] = text else {

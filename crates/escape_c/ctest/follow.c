@@ -15,6 +15,10 @@ int main(void)
         for (size_t from = 0; (count = escape_stream_filter_text(&filter, from, out, sizeof out)) > 0; from += count)
             fwrite(out, 1, count, stdout);
     }
+    if (escape_stream_filter_finish(&filter) == ESCAPE_STREAM_DONE) {
+        count = escape_stream_filter_text(&filter, 0, out, sizeof out);
+        fwrite(out, 1, count, stdout);
+    }
     escape_stream_filter_end(&filter);
     return 0;
 }

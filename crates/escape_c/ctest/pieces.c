@@ -140,8 +140,34 @@ static void check_states(void) {
     escape_stream_filter_end(&filter);
 }
 
+/* What a stream leaves changed is taken back at its end, and the filter goes on with the next. */
+static void check_finish(void) {
+    struct escape_stream_filter filter = {0};
+    const char stream[] = "\x1b[1m\x1b]8;;http://a\x1b\\x\x1b]0;t";
+    const char back[] = "\x1b[0m\x1b]8;;\x1b\\";
+    uint8_t out[40] = {0};
+    wants(escape_stream_filter_finish(&filter) == ESCAPE_STREAM_NOT_BEGUN, "ended before it began", 0);
+    wants(escape_stream_filter_begin(&filter, ESCAPE_STREAM_POLICY_COLOR, LIMIT) == ESCAPE_STREAM_DONE, "begun", 0);
+    for (int i = 0; i < 3; i++) {
+        wants(escape_stream_filter_feed(&filter, (const uint8_t *)stream, strlen(stream)) == ESCAPE_STREAM_DONE, "fed", 0);
+        wants(escape_stream_filter_finish(&filter) == ESCAPE_STREAM_DONE, "ended", 0);
+        wants(escape_stream_filter_text(&filter, 0, out, sizeof out) == strlen(back) && memcmp(out, back, strlen(back)) == 0, "what takes back", 0);
+        wants(escape_stream_filter_finish(&filter) == ESCAPE_STREAM_DONE, "ended twice", 0);
+        wants(escape_stream_filter_text(&filter, 0, out, sizeof out) == 0, "nothing to take back", 0);
+    }
+    wants(escape_stream_filter_feed(&filter, (const uint8_t *)stream, strlen(stream)) == ESCAPE_STREAM_DONE, "fed", 0);
+    requests = 0;
+    refused = 1;
+    uint32_t status = escape_stream_filter_finish(&filter);
+    refused = 0;
+    wants(status == ESCAPE_STREAM_DONE || (status == ESCAPE_STREAM_NO_MEMORY && !filter.is_begun), "a refused end", status);
+    escape_stream_filter_end(&filter);
+    wants(blocks == 0, "blocks are kept after the end", (unsigned long)blocks);
+}
+
 int main(void) {
     check_states();
+    check_finish();
     for (size_t i = 0; i < sizeof STREAMS / sizeof *STREAMS; i++)
         for (uint32_t policy = 0; policy < 4; policy++)
             check_stream(policy, (const uint8_t *)STREAMS[i], strlen(STREAMS[i]));

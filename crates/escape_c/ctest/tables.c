@@ -194,6 +194,26 @@ static bool joined(char **lines, size_t count, const char *word, struct bytes *t
     return found;
 }
 
+/* The text without what takes back, at its end, what the stream leaves changed, which a filter in pieces gives when it is finished. */
+static struct bytes without_end(uint32_t policy, size_t limit, struct bytes stream, struct bytes text) {
+    struct escape_stream_filter filter = {0};
+    uint8_t *end = room(text.length + 1);
+    size_t length;
+    calls++;
+    if (escape_stream_filter_begin(&filter, policy, limit) != ESCAPE_STREAM_DONE ||
+        escape_stream_filter_feed(&filter, stream.at, stream.length) != ESCAPE_STREAM_DONE ||
+        escape_stream_filter_finish(&filter) != ESCAPE_STREAM_DONE)
+        differs("another status of a filter in pieces", policy);
+    length = escape_stream_filter_text(&filter, 0, end, text.length + 1);
+    if (length > text.length || memcmp(text.at + text.length - length, end, length) != 0)
+        differs("another end", length);
+    else
+        text.length -= length;
+    escape_stream_filter_end(&filter);
+    free(end);
+    return text;
+}
+
 /* A row of what filters write. A line that is left out is as the one before it. */
 static void check_filters(char **lines, size_t count, struct bytes stream) {
     struct bytes text = {room(0), 0}, next;
@@ -204,7 +224,7 @@ static void check_filters(char **lines, size_t count, struct bytes stream) {
             next = last;
         }
         free(next.at);
-        check_call(&(struct call){true, policy, LIMIT, stream, text});
+        check_call(&(struct call){true, policy, LIMIT, stream, without_end(policy, LIMIT, stream, text)});
         check_is_normal(text, true);
     }
     for (uint32_t policy = 4; policy; policy += policy)
@@ -222,7 +242,9 @@ static void check_row(char **lines, size_t count) {
         check_filters(lines, count, stream);
     } else if (has_limit && has_text) {
         size_t most = strtoul((const char *)limit.at, NULL, 10);
-        check_call(&(struct call){true, ESCAPE_STREAM_POLICY_ALL, most, stream, has_all ? as_all : text});
+        struct bytes whole = has_all ? as_all : text;
+        check_call(&(struct call){true, ESCAPE_STREAM_POLICY_ALL, most, stream,
+                                  without_end(ESCAPE_STREAM_POLICY_ALL, most, stream, whole)});
     } else if (has_stream && !has_limit) {
         struct bytes wanted = has_text ? text : stream;
         check_call(&(struct call){false, 0, 0, stream, wanted});

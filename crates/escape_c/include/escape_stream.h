@@ -125,7 +125,8 @@ uint32_t escape_stream_is_normal(const uint8_t *bytes, size_t length, bool *answ
 
 /*
  * Writes what a policy admits of a stream, and nothing else. The text reads back as the actions that were admitted, whatever
- * bytes follow it: no text of the stream becomes a sequence, however broken the stream is.
+ * bytes follow it: no text of the stream becomes a sequence, however broken the stream is. What the stream leaves changed at a
+ * terminal, as a rendition, stays so: escape_stream_filter_finish says what takes it back.
  *
  *   policy           one of ESCAPE_STREAM_POLICY_..
  *   limit            how many bytes are kept of a string, such as a title or an image; of one with more nothing is written.
@@ -180,7 +181,18 @@ uint32_t escape_stream_filter_begin(struct escape_stream_filter *filter, uint32_
 uint32_t escape_stream_filter_feed(struct escape_stream_filter *filter, const uint8_t *bytes, size_t length);
 
 /*
- * Writes the text that the last piece added, from its byte `from` on, to the beginning of `out`, as much as there is room for, and
+ * Ends the stream, and begins the next, within the same limit and by the same policy. What takes back what the stream left changed
+ * at a terminal is then what escape_stream_filter_text gives: nothing where it left nothing changed, and else the ends of
+ * renditions and of a link, and by the policies that admit more the main screen, the margins, the cursor and the other modes of
+ * what is shown. What is unfinished is dropped.
+ *
+ * ESCAPE_STREAM_NO_MEMORY: the filter has ended, as by escape_stream_filter_end. ESCAPE_STREAM_NOT_BEGUN is the only other status
+ * but ESCAPE_STREAM_DONE.
+ */
+uint32_t escape_stream_filter_finish(struct escape_stream_filter *filter);
+
+/*
+ * Writes the text that the last piece or the end of the stream added, from its byte `from` on, to the beginning of `out`, as much as there is room for, and
  * returns how many bytes these are: 0 at the end of the text, and where the filter is not begun. Every other byte of `out` is as
  * it was. It changes nothing, so a text can be read twice.
  *
@@ -195,6 +207,9 @@ uint32_t escape_stream_filter_feed(struct escape_stream_filter *filter, const ui
  *         for (size_t from = 0; (count = escape_stream_filter_text(&filter, from, out, sizeof out)) > 0; from += count)
  *             fwrite(out, 1, count, stdout);
  *     }
+ *     if (escape_stream_filter_finish(&filter) == ESCAPE_STREAM_DONE)
+ *         for (size_t from = 0; (count = escape_stream_filter_text(&filter, from, out, sizeof out)) > 0; from += count)
+ *             fwrite(out, 1, count, stdout);
  *     escape_stream_filter_end(&filter);
  */
 size_t escape_stream_filter_text(struct escape_stream_filter *filter, size_t from, uint8_t *out, size_t capacity);

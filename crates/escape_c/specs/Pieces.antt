@@ -1,8 +1,8 @@
 -- What a filter in pieces was fed.
-use Rattle.std.specs.Prelude.{ℕ, ◌≡◌, false, List, [], ◌++◌, Option, None, Some}
+use Rattle.std.specs.Prelude.{ℕ, ◌≡◌, false, true, List, [], ◌++◌, Option, None, Some}
 use Rattle.std.specs.Global.{Global}
 use Rattle.esc_filter.specs.Fed.{WasFed, added_by, policy_of}
-use Rattle.esc_filter.specs.Passing.{IsFiltered, passed_text}
+use Rattle.esc_filter.specs.Passing.{IsFiltered, closed_text, passed_text}
 use Rattle.esc_filter.specs.Rules.{admits}
 use Rattle.esc_filter.specs.declared.policy.Policy.{Policy}
 use Rattle.escape_c.specs.declared.piece_filter.PieceFilter.{PieceFilter}
@@ -33,8 +33,18 @@ pub record Takes (limit : ℕ) (p : Policy) (s b : List ℕ) (f : PieceFilter) :
   pub text : passed_text {A = Global} (Some limit) (admits p) (s ++ b)
       ≡ passed_text {A = Global} (Some limit) (admits p) s ++ text_of f
   -- and the whole text is what passes, and reads back as that
-  pub filtered : IsFiltered {A = Global} (Some limit) (admits p) (s ++ b)
+  pub filtered : IsFiltered {A = Global} false (Some limit) (admits p) (s ++ b)
       (passed_text {A = Global} (Some limit) (admits p) (s ++ b))
+
+-- The stream s has ended, and the filter is at the beginning of the next.
+pub record Finishes (limit : ℕ) (p : Policy) (s : List ℕ) (f : PieceFilter) : Type 0 where
+  pub fed : WasFedPieces limit p [] f
+  -- its text is what gives back what s left changed
+  pub text : closed_text {A = Global} (Some limit) (admits p) s
+      ≡ passed_text {A = Global} (Some limit) (admits p) s ++ text_of f
+  -- and the whole text reads back as what passes and that
+  pub filtered : IsFiltered {A = Global} true (Some limit) (admits p) s
+      (closed_text {A = Global} (Some limit) (admits p) s)
 
 -- memory was refused: it has ended, and the text of s is the beginning of that of all bytes
 pub record Breaks (limit : ℕ) (p : Policy) (s b : List ℕ) (f : PieceFilter) : Type 0 where

@@ -1,5 +1,5 @@
 //! What a policy admits of a stream.
-ghost use Rattle.std.specs.Prelude.{◌≡◌, ◌≢◌, ◌↔◌, ◌++◌, IfOk, IfSome, OnErr, drop, length, take};
+ghost use Rattle.std.specs.Prelude.{◌≡◌, ◌≢◌, ◌↔◌, ◌++◌, IfOk, IfSome, OnErr, drop, false, length, take};
 ghost use Rattle.esc_filter.specs.Fed.{added_by};
 ghost use Rattle.esc_filter.specs.Passing.{IsFiltered, passed_text};
 ghost use Rattle.esc_filter.specs.Rules.{admits};
@@ -14,7 +14,8 @@ use std::alloc::Global;
 
 /// Writes to `out` the text of those actions of the stream `bytes` that the policy admits, as much
 /// of it as fits, and the length of all of it in bytes to `needed`. The whole text reads back as
-/// these actions, and as nothing else; a part of it need not.
+/// these actions, and as nothing else; a part of it need not. What the stream leaves changed at a
+/// terminal, as a rendition, is not taken back: a filter in pieces does that at its end.
 ///
 /// The policies are 0 text, 1 color, 2 screen and 3 all, each as [`Policy`] says; any other number
 /// is `UNKNOWN_POLICY`. Of a string with more than `limit` bytes nothing is written, as of
@@ -36,7 +37,7 @@ pub extern "C" fn escape_stream_filter(
         out.new ≡ take (length out.old) (passed_text {A = Global} (Some limit) (admits p) bytes.now)
         ++ drop (needed.new) out.old) }
     ensures filtered { result ≡ DONE → IfSome (policy_numbered policy) (λ p.
-        IsFiltered {A = Global} (Some limit) (admits p) bytes.now
+        IsFiltered {A = Global} false (Some limit) (admits p) bytes.now
         (passed_text {A = Global} (Some limit) (admits p) bytes.now)) }
     ensures unknown { result ≡ UNKNOWN_POLICY ↔ (policy_numbered policy ≡ None) }
     ensures refused { result ≢ DONE → (result ≢ NO_MEMORY → result ≡ UNKNOWN_POLICY)

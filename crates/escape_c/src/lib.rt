@@ -32,7 +32,7 @@ pub use normal::escape_stream_normal;
 pub use piece_filter::PieceFilter;
 pub use pieces::{
     escape_stream_filter_begin, escape_stream_filter_end, escape_stream_filter_feed,
-    escape_stream_filter_text,
+    escape_stream_filter_finish, escape_stream_filter_text,
 };
 
 /// The call was done.

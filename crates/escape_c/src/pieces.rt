@@ -3,7 +3,7 @@ ghost use Rattle.std.specs.Prelude.{◌≡◌, ◌≢◌, ◌↔◌, ◌++◌, �
 ghost use Rattle.esc_filter.specs.Fed.{WasFed, added_by, policy_of as policy_in};
 ghost use Rattle.esc_filter.specs.Rules.{admits};
 ghost use Rattle.esc_filter.specs.declared.policy.Policy.{Policy};
-ghost use Rattle.escape_c.specs.Pieces.{Breaks, IsEnded, Takes, WasFedPieces, text_of};
+ghost use Rattle.escape_c.specs.Pieces.{Breaks, Finishes, IsEnded, Takes, WasFedPieces, text_of};
 ghost use Rattle.escape_c.specs.Policies.{policy_numbered};
 ghost use Rattle.memory.specs.Refusals.{Refused};
 
@@ -12,7 +12,7 @@ use crate::output::put;
 use crate::piece_filter::PieceFilter;
 use crate::state::State;
 use crate::{DONE, NO_MEMORY, NOT_BEGUN, UNKNOWN_POLICY};
-use esc_filter::{Filter, Policy, passed_reads_back};
+use esc_filter::{Filter, Policy, closing_comes_last, passed_reads_back};
 use std::alloc::{AllocError, Global};
 
 /// Begins a stream, of which at most `limit` bytes are kept of a string, by the policy of this
@@ -91,7 +91,36 @@ pub extern "C" fn escape_stream_filter_feed(
     }
 }
 
-/// Copies the text that the last piece added, from its byte `from` on, to the beginning of `out`,
+/// Ends the stream, and begins the next, within the same limit and by the same policy. What takes
+/// back what the stream left changed at a terminal, as [`Filter::finish`] says, is then the text
+/// that [`escape_stream_filter_text`] gives. What is unfinished is dropped.
+///
+/// `NO_MEMORY` says that a request for memory was refused: the filter has ended, and what it kept
+/// was given back. `NOT_BEGUN` says that it had not begun, or had ended.
+#[unsafe(no_mangle)]
+pub extern "C" fn escape_stream_filter_finish(alloc: Global, filter: &mut PieceFilter) -> u32
+    ensures finished { (limit : ℕ) (p : Policy) (s : List ℕ) → WasFedPieces limit p s filter.old
+        → result ≡ DONE → Finishes limit p s filter.new }
+    ensures memory { result ≡ NO_MEMORY → Refused Global }
+    ensures refused { result ≢ DONE → (result ≢ NO_MEMORY → result ≡ NOT_BEGUN)
+        × IsEnded filter.new }
+    ensures ended { result ≡ NOT_BEGUN ↔ IsEnded filter.old }
+{
+    passed_reads_back::<Global>();
+    closing_comes_last::<Global>();
+    let Some(mut state) = filter.take(alloc) else {
+        return NOT_BEGUN;
+    };
+    match state.filter.finish() {
+        Ok(()) => {
+            *filter = PieceFilter::of(state);
+            DONE
+        }
+        Err(_) => NO_MEMORY,
+    }
+}
+
+/// Copies the text that the last call added, from its byte `from` on, to the beginning of `out`,
 /// as much as fits, and leaves the rest of `out` as it is. Returns how many bytes these are.
 #[unsafe(no_mangle)]
 pub extern "C" fn escape_stream_filter_text(

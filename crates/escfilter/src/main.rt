@@ -56,7 +56,8 @@ controls|cursor|erase|scroll|modes|charsets|palette|titles|clipboard|images|othe
 [-h|--help] [-V|--version] [--] [FILE..]";
 
 const HELP: &str = "\
-Writes what the policy admits of each FILE, or of standard input, as it is read.
+Writes what the policy admits of each FILE, or of standard input, as it is read. What that
+leaves on, as colours or a link, is taken back at its end, and at each line's with --lines.
 
   --allow text    characters, tab, line feed and carriage return
   --allow color   and colours, renditions and links (the default); colour is the same

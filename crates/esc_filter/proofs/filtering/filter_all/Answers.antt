@@ -4,14 +4,14 @@ use Rattle.std.proofs.KnownBytes.{Appends-nil, Consumes-kept, Consumes-nil, Cons
 use Rattle.std.specs.Io.KnownBytes.{Appends}
 use Rattle.esc_parse.proofs.Lists.{on_err_any}
 use Rattle.std.proofs.lemmas.Result.{err_from_is_err_and}
-use Rattle.esc_filter.proofs.Results.{err_is, one_more, prefix_after, prefix_whole, read_none, written_more}
+use Rattle.esc_filter.proofs.Results.{err_is, one_more, prefix_after, prefix_longer, prefix_whole, read_none, written_more}
 use Rattle.esc_filter.proofs.filtering.filter_all.Goals as goal
 
 pub loop-init : goal.loop-init
 loop-init g c = record {
   reader = λ h. h;
   writer = λ h. h;
-  read = λ m fresh none. (
+  read = λ m e fresh none. (
     [],
     Consumes-nil _,
     fresh,
@@ -21,31 +21,30 @@ loop-init g c = record {
   );
 }
 
-pub returns-in-Ok-eq0-clause-written : goal.returns-in-Ok-eq0-clause-written
-returns-in-Ok-eq0-clause-written g c = λ m fresh none.
-    let r = c.loop.invariant.read m fresh none in
+pub returns-in-Ok-eq0-clause-fed : goal.returns-in-Ok-eq0-clause-fed
+returns-in-Ok-eq0-clause-fed g c = λ m e fresh none more.
+    let r = c.loop.invariant.read m e fresh none in
     let zero : c.in-Ok-eq0.field-0 ≡ 0 = search rules in (
       r.0,
-      m r.0,
+      r.2,
       read_none _ _ _ r.0 _ c.read.new.buf zero r.1 c.in-Ok-eq0.ensures.bytes.0,
       r.3,
-      refl,
     )
 
 pub returns-in-Err-clause-decided : goal.returns-in-Err-clause-decided
-returns-in-Err-clause-decided g c = λ m fresh none _.
-    let r = c.loop.invariant.read m fresh none in
+returns-in-Err-clause-decided g c = λ m e fresh none more _.
+    let r = c.loop.invariant.read m e fresh none in
     (r.0, m r.0, Consumes-kept _ _ _ r.0 r.1 c.in-Err.ensures.bytes, r.3, refl)
 
 pub returns-in-Err-clause-beginning : goal.returns-in-Err-clause-beginning
-returns-in-Err-clause-beginning g c = λ m fresh none.
-    let r = c.loop.invariant.read m fresh none in
-    (r.0, Consumes-kept _ _ _ r.0 r.1 c.in-Err.ensures.bytes, prefix_whole _ _ _ r.3)
+returns-in-Err-clause-beginning g c = λ m e fresh none more.
+    let r = c.loop.invariant.read m e fresh none in
+    (r.0, Consumes-kept _ _ _ r.0 r.1 c.in-Err.ensures.bytes, prefix_longer _ _ _ _ (more r.0) (prefix_whole _ _ _ r.3))
 
 pub returns-clause-beginning : goal.returns-clause-beginning
-returns-clause-beginning g c = λ m fresh none.
-    let r = c.loop.invariant.read m fresh none in
-    (r.0, r.1, prefix_whole _ _ _ r.3)
+returns-clause-beginning g c = λ m e fresh none more.
+    let r = c.loop.invariant.read m e fresh none in
+    (r.0, r.1, prefix_longer _ _ _ _ (more r.0) (prefix_whole _ _ _ r.3))
 
 pub loop-preserved : goal.loop-preserved
 loop-preserved g c =
@@ -54,9 +53,9 @@ loop-preserved g c =
     record {
       reader = grind (arith, common_steps);
       writer = grind (arith, common_steps);
-      read = λ m fresh none.
-          let r = c.loop.invariant.read m fresh none in
-          let f = c.in_ok-pass_on-in-Ok.ensures.given m r.0 r.2 in (
+      read = λ m e fresh none.
+          let r = c.loop.invariant.read m e fresh none in
+          let f = c.in_ok-pass_on-in-Ok.ensures.given m e r.0 r.2 in (
             r.0 ++ piece,
             Consumes-trans _ _ _ r.0 piece r.1 c.in-Ok.ensures.bytes.0,
             f.0,
@@ -67,33 +66,33 @@ loop-preserved g c =
 
 pub returns-in_err-pass_on-in-Ok-clause-beginning
     : goal.returns-in_err-pass_on-in-Ok-clause-beginning
-returns-in_err-pass_on-in-Ok-clause-beginning g c = λ m fresh none.
-    let r = c.loop.invariant.read m fresh none in
+returns-in_err-pass_on-in-Ok-clause-beginning g c = λ m e fresh none more.
+    let r = c.loop.invariant.read m e fresh none in
     let piece = take c.in-Ok.n c.read.new.buf in
-    let f = c.in_err-pass_on-in-Ok.ensures.beginning m r.0 r.2 in
+    let f = c.in_err-pass_on-in-Ok.ensures.beginning m e r.0 r.2 in
     on_err_any _ c.from_residual.result (
       r.0 ++ piece,
       Consumes-trans _ _ _ r.0 piece r.1 c.in-Ok.ensures.bytes.0,
-      prefix_after _ _ _ _ f.0 _ r.3 f.2 f.1,
+      prefix_longer _ _ _ _ (more (r.0 ++ piece)) (prefix_after _ _ _ _ f.0 _ r.3 f.2 f.1),
     )
 
 pub returns-in_err-pass_on-in-Ok-clause-refused : goal.returns-in_err-pass_on-in-Ok-clause-refused
-returns-in_err-pass_on-in-Ok-clause-refused g c = λ m fresh none memory.
-    let r = c.loop.invariant.read m fresh none in
+returns-in_err-pass_on-in-Ok-clause-refused g c = λ m e fresh none more memory.
+    let r = c.loop.invariant.read m e fresh none in
     let p = err_from_is_err_and c.from_residual.result c.from_residual.ensures.1 in
-    c.in_err-pass_on-in-Ok.ensures.refused m r.0 r.2
+    c.in_err-pass_on-in-Ok.ensures.refused m e r.0 r.2
     (ap Err (sym p.2 ∙ err_is c.from_residual.result p.0 _ p.1 memory))
 
 pub returns-clause-endless : goal.returns-clause-endless
-returns-clause-endless g c = λ m fresh none _.
-    let r = c.loop.invariant.read m fresh none in
+returns-clause-endless g c = λ m e fresh none more _.
+    let r = c.loop.invariant.read m e fresh none in
     let least : 18446744073709551615 ≤ length r.0 = omega (arith, r.4) in
     (r.0, m r.0, least, r.1, r.3, refl)
 
 pub returns-in_err-pass_on-in-Ok-clause-until_refused
     : goal.returns-in_err-pass_on-in-Ok-clause-until_refused
-returns-in_err-pass_on-in-Ok-clause-until_refused g c = λ m fresh none memory.
-    let r = c.loop.invariant.read m fresh none in
+returns-in_err-pass_on-in-Ok-clause-until_refused g c = λ m e fresh none more memory.
+    let r = c.loop.invariant.read m e fresh none in
     let p = err_from_is_err_and c.from_residual.result c.from_residual.ensures.1 in
     let piece = take c.in-Ok.n c.read.new.buf in
     let same = c.in_err-pass_on-in-Ok.ensures.unwritten

@@ -1,36 +1,49 @@
-use Rattle.std.proofs.Common.{◌≡◌, ◌≤◌, [], arith, length, refl, subst, sym}
+use Rattle.std.proofs.Common.{◌≡◌, ◌≤◌, [], arith, length, refl, subst, sym, append-nil}
 use Rattle.std.proofs.KnownBytes.{Appends-nil, Consumes-nil}
-use Rattle.std.specs.Io.KnownBytes.{Appends}
-use Rattle.esc_filter.proofs.Results.{not_failed, prefix_none}
+use Rattle.std.proofs.lemmas.Result.{on_err_weaker}
+use Rattle.std.specs.Io.KnownBytes.{Appends, Consumes}
+use Rattle.esc_parse.proofs.Lists.{on_ok_more}
+use Rattle.esc_filter.proofs.Results.{not_failed, ok_any, prefix_after, prefix_none, unfailed, written_more}
 use Rattle.esc_filter.proofs.filtering.filter_from.Goals as goal
 
-pub returns-clause-holds : goal.returns-clause-holds
-returns-clause-holds g c = λ m fresh none.
-    let f = c.filter_all.ensures in
+pub returns-in-Ok-filter_all-clause-holds : goal.returns-in-Ok-filter_all-clause-holds
+returns-in-Ok-filter_all-clause-holds g c = λ m e fresh none more.
+    let f = c.in-Ok-filter_all.ensures in
+    let r = f.fed m e fresh none more in
+    let ends = c.end.ensures in
     record {
-      read_all = f.read_all;
-      written = f.written m fresh none;
-      decided = f.decided m fresh none;
-      endless = f.endless m fresh none;
-      until_refused = λ e.
-          let w = f.until_refused m fresh none e in
-          let len : length c.in-Ok.chunk.items ≡ 65536 = c.in-Ok.ensures.len in
-          let within : length w.1 ≤ 65536 = omega (arith, w.3, len) in
-          (w.0, w.1, w.2, within, w.4, w.5, w.6);
-      beginning = f.beginning m fresh none;
-      read_fault = f.read_fault;
-      write_fault = f.write_fault;
+      read_all = ok_any c.end.result f.read_all;
+      written = on_ok_more _ _ c.end.result
+          (λ w. (r.0, e r.0, r.2, written_more _ _ _ _ w.0 _ r.3 w.2 w.1, refl))
+          (ends.given m e r.0 r.1);
+      decided = λ k. absurd (ends.no_read k);
+      endless = λ k. absurd (ends.no_end k);
+      until_refused = λ k. (
+        r.0,
+        [],
+        m r.0,
+        omega arith,
+        subst (λ s. Consumes (g.R.Read.remaining c.args.reader.now.inner)
+            (g.R.Read.remaining c.filter_all.new.reader.inner) s) (sym (append-nil r.0)) r.2,
+        subst (λ w. Appends (g.W.Write.contents c.args.writer.now.inner)
+            (g.W.Write.contents w.inner) (m r.0)) (sym (ends.unwritten k)) r.3,
+        refl,
+      );
+      beginning = on_err_weaker c.end.result
+          (λ w. (r.0, r.2, prefix_after _ _ _ _ w.0 _ r.3 w.2 w.1)) (ends.beginning m e r.0 r.1);
+      read_fault = λ h. not_failed _ _ _ ends.no_read (unfailed _ _ _ (f.read_fault h));
+      write_fault = λ h. ends.write_fault (unfailed _ _ _ (f.write_fault h));
     }
 
 pub returns-in_default-clause-holds : goal.returns-in_default-clause-holds
-returns-in_default-clause-holds g c = λ m fresh none.
+returns-in_default-clause-holds g c = λ m e fresh none more.
     let held = g.W.Write.contents c.args.writer.now.inner in
     record {
       read_all = tt;
       written = tt;
-      decided = λ e. absurd cc;
-      endless = λ e. absurd cc;
-      until_refused = λ e. (
+      decided = λ k. absurd cc;
+      endless = λ k. absurd cc;
+      until_refused = λ k. (
         [],
         [],
         m [],
@@ -39,7 +52,12 @@ returns-in_default-clause-holds g c = λ m fresh none.
         subst (λ t. Appends held held t) (sym none) (Appends-nil _),
         refl,
       );
-      beginning = ([], Consumes-nil _, prefix_none _ (m []));
-      read_fault = not_failed _ _ _ (λ e. absurd cc);
-      write_fault = not_failed _ _ _ (λ e. absurd cc);
+      beginning = ([], Consumes-nil _, prefix_none _ (e []));
+      read_fault = not_failed _ _ _ (λ k. absurd cc);
+      write_fault = not_failed _ _ _ (λ k. absurd cc);
     }
+
+pub returns-in-Ok-filter_all-clause-refused : goal.returns-in-Ok-filter_all-clause-refused
+returns-in-Ok-filter_all-clause-refused g c = λ m e fresh none more.
+    let r = c.in-Ok-filter_all.ensures.fed m e fresh none more in
+    c.end.ensures.refused m e r.0 r.1

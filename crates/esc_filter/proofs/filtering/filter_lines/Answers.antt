@@ -1,17 +1,22 @@
-use Rattle.std.proofs.Common.{refl}
+use Rattle.std.proofs.Common.{refl, true, false}
+use Rattle.esc_actions.specs.Texts.{list_text}
 use Rattle.esc_filter.proofs.Begun.{begun_lines, filters}
-use Rattle.esc_filter.specs.Lines.{text_by_lines, IsFilteredByLines}
+use Rattle.esc_filter.specs.Lines.{closed_by_lines, line_closing, text_by_lines, IsFilteredByLines}
 use Rattle.esc_filter.proofs.filtering.filter_lines.Goals as goal
 
 pub returns-clause-holds : goal.returns-clause-holds
 returns-clause-holds g c =
     let admits = g.P.Admit.admits c.args.policy in
-    let m = text_by_lines {A = g.row.A.Denot} c.args.limit admits in
-    let new = begun_lines g.P.Admit.admits c.args.limit c.args.policy c.new-filter.result
+    let limit = c.args.limit in
+    let m = text_by_lines {A = g.row.A.Denot} limit admits in
+    let e = closed_by_lines {A = g.row.A.Denot} limit admits in
+    let new = begun_lines g.P.Admit.admits limit c.args.policy c.new-filter.result
     c.new-filter.ensures.policy c.new-filter.ensures.fed in
-    let f = filters m (IsFilteredByLines c.args.limit admits)
-    (c.lines_read_back.ensures c.args.limit admits) _ _ _
-    (c.filter_from.ensures.holds m new refl) in
+    let f = filters e m (λ b. IsFilteredByLines b limit admits)
+    (c.lines_read_back.ensures true limit admits)
+    (c.lines_read_back.ensures false limit admits) _ _ _
+    (c.filter_from.ensures.holds m e new refl
+    (λ s. (list_text (line_closing limit admits s), refl))) in
     record {
       read_all = f.read_all;
       written = f.written;
@@ -26,7 +31,9 @@ returns-clause-holds g c =
 pub returns-clause-refused : goal.returns-clause-refused
 returns-clause-refused g c =
     let admits = g.P.Admit.admits c.args.policy in
-    let m = text_by_lines {A = g.row.A.Denot} c.args.limit admits in
-    let new = begun_lines g.P.Admit.admits c.args.limit c.args.policy c.new-filter.result
+    let limit = c.args.limit in
+    let new = begun_lines g.P.Admit.admits limit c.args.policy c.new-filter.result
     c.new-filter.ensures.policy c.new-filter.ensures.fed in
-    c.filter_from.ensures.refused m new refl
+    c.filter_from.ensures.refused (text_by_lines {A = g.row.A.Denot} limit admits)
+    (closed_by_lines {A = g.row.A.Denot} limit admits) new refl
+    (λ s. (list_text (line_closing limit admits s), refl))

@@ -1,18 +1,24 @@
 use Rattle.std.proofs.Common.{Some}
-use Rattle.esc_filter.proofs.Begun.{begun, filters}
-use Rattle.esc_filter.proofs.ByLines.{nothing}
-use Rattle.esc_filter.specs.Passing.{passed_text, IsFiltered}
+use Rattle.esc_filter.proofs.Begun.{begun, filters, nothing}
+use Rattle.esc_filter.proofs.Closers.{closed_more}
+use Rattle.esc_actions.specs.Texts.{list_text}
+use Rattle.esc_filter.specs.Closing.{closing}
+use Rattle.esc_filter.specs.Passing.{closed_text, passed, passed_text, IsFiltered}
 use Rattle.esc_filter.proofs.filtering.filter_stream.Goals as goal
 
 pub returns-clause-holds : goal.returns-clause-holds
 returns-clause-holds g c =
     let admits = g.P.Admit.admits c.args.policy in
-    let m = passed_text {A = g.row.A.Denot} (Some c.args.limit) admits in
-    let new = begun g.P.Admit.admits c.args.limit c.args.policy c.new-filter.result
+    let limit = c.args.limit in
+    let m = passed_text {A = g.row.A.Denot} (Some limit) admits in
+    let e = closed_text {A = g.row.A.Denot} (Some limit) admits in
+    let new = begun g.P.Admit.admits limit c.args.policy c.new-filter.result
     c.new-filter.ensures.policy c.new-filter.ensures.fed in
-    let f = filters m (IsFiltered (Some c.args.limit) admits)
-    (c.passed_reads_back.ensures (Some c.args.limit) admits) _ _ _
-    (c.filter_from.ensures.holds m new (nothing c.args.limit admits)) in
+    let f = filters e m (λ b. IsFiltered b (Some limit) admits)
+    (c.passed_reads_back.ensures.ended (Some limit) admits)
+    (c.passed_reads_back.ensures.goes_on (Some limit) admits) _ _ _
+    (c.filter_from.ensures.holds m e new (nothing limit admits)
+    (λ s. let vs = passed (Some limit) admits s in (list_text (closing vs), closed_more vs))) in
     record {
       read_all = f.read_all;
       written = f.written;
@@ -27,7 +33,9 @@ returns-clause-holds g c =
 pub returns-clause-refused : goal.returns-clause-refused
 returns-clause-refused g c =
     let admits = g.P.Admit.admits c.args.policy in
-    let m = passed_text {A = g.row.A.Denot} (Some c.args.limit) admits in
-    let new = begun g.P.Admit.admits c.args.limit c.args.policy c.new-filter.result
+    let limit = c.args.limit in
+    let new = begun g.P.Admit.admits limit c.args.policy c.new-filter.result
     c.new-filter.ensures.policy c.new-filter.ensures.fed in
-    c.filter_from.ensures.refused m new (nothing c.args.limit admits)
+    c.filter_from.ensures.refused (passed_text {A = g.row.A.Denot} (Some limit) admits)
+    (closed_text {A = g.row.A.Denot} (Some limit) admits) new (nothing limit admits)
+    (λ s. let vs = passed (Some limit) admits s in (list_text (closing vs), closed_more vs))

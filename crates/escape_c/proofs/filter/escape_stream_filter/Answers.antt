@@ -1,4 +1,4 @@
-use Rattle.std.proofs.Common.{Global, ◌≡◌, ◌++◌, Some, None, drop, length, sym, take, ◌∙◌}
+use Rattle.std.proofs.Common.{Global, ◌≡◌, ◌++◌, false, Some, None, drop, length, sym, take, ◌∙◌}
 use Rattle.esc_filter.specs.Passing.{IsFiltered, passed_text}
 use Rattle.esc_filter.specs.Rules.{admits}
 use Rattle.escape_c.proofs.Known.{if_known}
@@ -28,10 +28,10 @@ pub returns-in-Some-clause-filtered : goal.returns-in-Some-clause-filtered
 returns-in-Some-clause-filtered c = λ done.
     let limit = Some c.args.limit in
     if_known (λ p.
-    IsFiltered {A = Global} limit (admits p) c.args.bytes.now
+    IsFiltered {A = Global} false limit (admits p) c.args.bytes.now
     (passed_text {A = Global} limit (admits p) c.args.bytes.now))
     (policy_numbered c.args.policy) c.in-Some.known (sym c.policy_of.ensures ∙ c.in-Some.is)
-    (c.passed_reads_back.ensures limit (admits c.in-Some.known) c.args.bytes.now)
+    (c.passed_reads_back.ensures.goes_on limit (admits c.in-Some.known) c.args.bytes.now)
 
 pub returns-in-Some-clause-unknown : goal.returns-in-Some-clause-unknown
 returns-in-Some-clause-unknown c = (

@@ -1,4 +1,4 @@
-use Rattle.std.proofs.Common.{Global, ◌++◌, [], Some, ap, sym, subst, ◌∙◌}
+use Rattle.std.proofs.Common.{Global, ◌++◌, [], false, Some, ap, sym, subst, ◌∙◌}
 use Rattle.std.specs.List.{filter}
 use Rattle.esc_actions.proofs.Meanings.{meaning_nil}
 use Rattle.esc_actions.specs.Texts.{list_text}
@@ -14,7 +14,7 @@ returns-in-Ok-clause-ok c =
     let is = c.new-filter.ensures.policy in
     let fed = subst (λ p. WasFed limit (admits {A = Global} p) [] new) (sym is)
     c.new-filter.ensures.fed in
-    let given = c.in-Ok.ensures.given limit [] fed in
+    let given = c.in-Ok.ensures.given false limit [] fed in
     let nothing = ap (λ vs. list_text (filter (passes (admits {A = Global} new.policy)) vs))
     (meaning_nil (Some limit)) in
     sym (ap (λ t. t ++ added_by c.feed.new.self) nothing) ∙ sym given.1
@@ -25,4 +25,4 @@ returns-in-Err-clause-refused c =
     let new = c.new-filter.result in
     let fed = subst (λ p. WasFed c.args.limit (admits {A = Global} p) [] new)
     (sym c.new-filter.ensures.policy) c.new-filter.ensures.fed in
-    (c.in-Err.ensures.refused c.args.limit [] fed).3
+    (c.in-Err.ensures.refused false c.args.limit [] fed).3

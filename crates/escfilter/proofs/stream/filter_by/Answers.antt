@@ -1,6 +1,6 @@
 use Rattle.std.proofs.Common.{Some}
-use Rattle.esc_filter.specs.Lines.{IsFilteredByLines, text_by_lines}
-use Rattle.esc_filter.specs.Passing.{IsFiltered, passed_text}
+use Rattle.esc_filter.specs.Lines.{IsFilteredByLines, closed_by_lines}
+use Rattle.esc_filter.specs.Passing.{IsFiltered, closed_text}
 use Rattle.escfilter.specs.Written.{admits_choice, is_written_by, text_by}
 use Rattle.escfilter.proofs.OtherWords.{in_other_words, lines_text, lines_written, whole_text, whole_written}
 use Rattle.escfilter.proofs.stream.filter_by.Goals as goal
@@ -9,10 +9,10 @@ pub returns-then-by_lines-clause-holds : goal.returns-then-by_lines-clause-holds
 returns-then-by_lines-clause-holds g c =
     let p = admits_choice {A = g.row.A.Denot} c.args.options.now.choice in
     let n = c.args.options.now.limit in
-    let f = in_other_words (text_by_lines {A = g.row.A.Denot} n p)
+    let f = in_other_words (closed_by_lines {A = g.row.A.Denot} n p)
     (text_by {A = g.row.A.Denot} c.args.options.now.by_lines n p)
-    (IsFilteredByLines {A = g.row.A.Denot} n p)
-    (is_written_by {A = g.row.A.Denot} c.args.options.now.by_lines n p)
+    (λ b. IsFilteredByLines {A = g.row.A.Denot} b n p)
+    (λ b. is_written_by {A = g.row.A.Denot} c.args.options.now.by_lines b n p)
     (lines_text n p c.args.options.now.by_lines c.if-by_lines.true)
     (lines_written n p c.args.options.now.by_lines c.if-by_lines.true) _ _ _
     c.filter_lines.ensures.holds in
@@ -31,10 +31,10 @@ pub returns-else-by_lines-clause-holds : goal.returns-else-by_lines-clause-holds
 returns-else-by_lines-clause-holds g c =
     let p = admits_choice {A = g.row.A.Denot} c.args.options.now.choice in
     let n = c.args.options.now.limit in
-    let f = in_other_words (passed_text {A = g.row.A.Denot} (Some n) p)
+    let f = in_other_words (closed_text {A = g.row.A.Denot} (Some n) p)
     (text_by {A = g.row.A.Denot} c.args.options.now.by_lines n p)
-    (IsFiltered {A = g.row.A.Denot} (Some n) p)
-    (is_written_by {A = g.row.A.Denot} c.args.options.now.by_lines n p)
+    (λ b. IsFiltered {A = g.row.A.Denot} b (Some n) p)
+    (λ b. is_written_by {A = g.row.A.Denot} c.args.options.now.by_lines b n p)
     (whole_text n p c.args.options.now.by_lines c.if-by_lines.false)
     (whole_written n p c.args.options.now.by_lines c.if-by_lines.false) _ _ _
     c.filter_stream.ensures.holds in

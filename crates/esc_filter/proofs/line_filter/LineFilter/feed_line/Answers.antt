@@ -1,6 +1,7 @@
-use Rattle.std.proofs.Common.{[], ◌++◌, subst}
-use Rattle.esc_filter.specs.Fed.{WasFed}
-use Rattle.esc_filter.specs.Lines.{policy_of_lines}
+use Rattle.std.proofs.Common.{◌++◌, subst}
+use Rattle.esc_filter.specs.Fed.{WasFedIn}
+use Rattle.std.proofs.Common.{OnOk, true}
+use Rattle.esc_filter.specs.Lines.{EndsLine, policy_of_lines}
 use Rattle.esc_parse.proofs.Lists.{on_ok_more}
 use Rattle.esc_filter.proofs.ByLines.{grows_line}
 use Rattle.esc_filter.proofs.line_filter.LineFilter.feed_line.Goals as goal
@@ -13,8 +14,8 @@ returns-in-Ok-clause-given g c = λ limit s w.
     let longer = c.in-Ok.ensures.given limit w.rest w.fed in
     on_ok_more _ _ c.end_line.result (λ e.
     grows_line limit (g.P.Admit.admits (policy_of_lines c.args.self.now)) s c.args.self.now w
-    c.args.bytes.now c.pass.new.self longer kept.1 c.requires c.end_line.new.self e.0
-    (subst (λ p. WasFed limit (g.P.Admit.admits p) line c.pass.new.self.filter
-    → WasFed limit (g.P.Admit.admits p) [] c.end_line.new.self.filter) kept.0
-    (c.end_line.ensures.fed limit line) longer.0) e.1 k.1)
-    c.end_line.ensures.given
+    c.args.bytes.now c.pass.new.self longer kept.1 c.requires c.end_line.new.self e k.1)
+    (subst (λ p. WasFedIn true limit (g.P.Admit.admits p) line c.pass.new.self.filter
+    → OnOk c.end_line.result
+    (EndsLine (g.P.Admit.admits p) limit line c.pass.new.self c.end_line.new.self)) kept.0
+    (c.end_line.ensures.given limit line) longer.0)

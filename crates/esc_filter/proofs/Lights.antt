@@ -1,0 +1,162 @@
+-- Whether renditions are on after a control sequence, and a link is left after a command.
+use Rattle.std.proofs.Common.{◌≡◌, ◌≢◌, ℕ, ℤ, pos, negsuc, ◌<◌, length, ◌==◌, Bool, true, false, not, if◌then◌else◌, List, [], ◌∷◌, ◌++◌, codes, Option, Some, None, refl, sym, ap, ◌∙◌, subst, drop, arith}
+use Rattle.std.specs.Prelude.{is_some, unwrap_or}
+use Rattle.std.specs.List.{onto_first, slice_split}
+use Rattle.std.proofs.lemmas.List.{append_cancel_right}
+use Rattle.std.proofs.lemmas.List.Splits.{slice_split-cons_no}
+use Rattle.std.proofs.lemmas.Bool.{ne_eqb}
+use Rattle.std.proofs.lemmas.Bool.Decides.{nat_tests}
+use Rattle.esc_values.specs.Clear.{framed, parts_of}
+use Rattle.esc_values.specs.declared.csi_param.CsiParam.{CsiParam}
+use Rattle.esc_values.specs.declared.csi_param.CsiParam.TheVariants.{Integer, P}
+use Rattle.esc_sequences.specs.Csis.{CsiValue, csi_of, is_separator, named, numbered, put_first, rendition, renditions, sgr, unspecified}
+use Rattle.esc_sequences.specs.declared.sgr.Sgr.{Sgr}
+use Rattle.esc_sequences.specs.declared.sgr.Sgr.TheVariants as sgr_variant
+use Rattle.esc_links.specs.declared.hyperlink.Hyperlink.{Hyperlink}
+use Rattle.esc_osc.specs.Commands.{command_text, inner_text}
+use Rattle.esc_osc.specs.Writable.{IsWritable as IsWritableCommand}
+use lib.Utf8.{encode}
+use Rattle.esc_osc.specs.Reading.{meaning}
+use Rattle.esc_osc.specs.declared.command.OperatingSystemCommand.{OperatingSystemCommand}
+use Rattle.esc_osc.specs.declared.command.OperatingSystemCommand.TheVariants as command
+use Rattle.esc_write.specs.Plain.{IsPlainLink}
+use Rattle.esc_filter.specs.Closing.{BeginsWith, Turns, after_command, after_sequence, is_reset, turned}
+use Rattle.esc_filter.specs.Rules.{is_link}
+use Rattle.esc_filter.specs.declared.left.Left.{Left}
+use Rattle.esc_filter.specs.declared.left.TheConstants.{LINK, RENDITION}
+
+-- ---- one number
+
+abbrev resets : Option Sgr → Bool
+resets None = false
+resets (Some s) = is_reset s
+
+either : (b : Bool) (x y : Option Sgr) → resets x ≡ false → resets y ≡ false
+    → resets (if b then x else y) ≡ false
+either true x y h k = h
+either false x y h k = k
+
+not_first : (t : Bool) (x y : Option Sgr) → t ≡ false → resets y ≡ false
+    → resets (if t then x else y) ≡ false
+not_first true x y e h = absurd cc
+not_first false x y e h = h
+
+-- no number but 0 resets
+named_resets : (n : ℕ) → (n == 0) ≡ false → resets (named n) ≡ false
+named_resets n h =
+    not_first (n == 0) _ _ h
+    (either (n == 1) _ _ refl
+    (either (n == 2) _ _ refl
+    (either (n == 22) _ _ refl
+    (either (n == 3) _ _ refl
+    (either (n == 23) _ _ refl
+    (either (n == 4) _ _ refl
+    (either (n == 21) _ _ refl
+    (either (n == 24) _ _ refl refl))))))))
+
+by_name : (n : ℤ) (o : Option Sgr) → numbered n ≡ o → resets o ≡ false
+    → Turns (Integer n ∷ []) true
+by_name n None e h = (
+  unspecified (Integer n ∷ []) false 0x6d,
+  ap (λ x. unwrap_or (put_first x (Some [])) (unspecified (Integer n ∷ []) false 0x6d ∷ [])) e,
+  λ o. refl,
+)
+by_name n (Some s) e h = (
+  sgr s,
+  ap (λ x. unwrap_or (put_first x (Some [])) (unspecified (Integer n ∷ []) false 0x6d ∷ [])) e,
+  λ o. ap (λ b. turned o RENDITION (not b)) h,
+)
+
+-- a number that is 0, or another
+lone_by : (n : ℕ) (b : Bool) → (n == 0) ≡ b → Turns (Integer (pos n) ∷ []) (not b)
+lone_by n true h =
+    subst (λ k. Turns (Integer (pos k) ∷ []) false) (sym (nat_is n h))
+    (sgr sgr_variant.Reset, refl, λ o. refl)
+  where
+    nat_is : (n : ℕ) → (n == 0) ≡ true → n ≡ 0
+    nat_is n h = grind (arith, nat_tests)
+lone_by n false h = by_name (pos n) (named n) refl (named_resets n h)
+
+pub lone_turns : (es : List CsiParam) (n : ℕ) → es ≡ Integer (pos n) ∷ []
+    → Turns es (not (n == 0))
+lone_turns es n e = subst (λ x. Turns x (not (n == 0))) (sym e) (lone_by n (n == 0) refl)
+
+pub nothing_turns : (es : List CsiParam) → length es ≡ 0 → Turns es false
+nothing_turns [] e = (sgr sgr_variant.Reset, refl, λ o. refl)
+nothing_turns (x ∷ es) e = absurd (omega (arith, e))
+
+-- ---- one sequence of no name
+
+pub unnamed_turns : (es : List CsiParam)
+    → csi_of es false 0x6d ≡ unspecified es false 0x6d ∷ [] → Turns es true
+unnamed_turns es e = (unspecified es false 0x6d, e, λ o. refl)
+
+pub nameless_any : (es : List CsiParam) (more : Bool) (f : ℕ) → (f == 0x6d) ≡ false
+    → csi_of es more f ≡ unspecified es more f ∷ []
+nameless_any es more f h = rw h refl
+
+-- an item of another number than that of a rendition
+large : (k : ℕ) → 24 < k → named k ≡ None
+large k h = grind (arith, nat_tests)
+
+not_four : (k : ℕ) → 24 < k → (k == 4) ≡ false
+not_four k h = ne_eqb k 4 (λ e. omega (arith, e, h))
+
+item : (k : ℕ) (p : List CsiParam) → 24 < k → rendition (Integer (pos k) ∷ p) ≡ None
+item k [] h = large k h
+item k (Integer n ∷ p) h = refl
+item k (P b ∷ []) h = refl
+item k (P b ∷ c ∷ []) h = rw (not_four k h) refl
+item k (P b ∷ c ∷ d ∷ p) h = refl
+
+onto_some : (b : CsiParam) (qs : List (List CsiParam)) → (p : List CsiParam)
+    × (ps : List (List CsiParam)) × (onto_first b qs ≡ (b ∷ p) ∷ ps)
+onto_some b [] = ([], [], refl)
+onto_some b (q ∷ qs) = (q, qs, refl)
+
+first_large : (k : ℕ) (es : List CsiParam) → 24 < k
+    → renditions (slice_split is_separator (Integer (pos k) ∷ es)) ≡ None
+first_large k es h =
+    let (p, ps, e) = onto_some (Integer (pos k)) (slice_split is_separator es) in
+    ap renditions (slice_split-cons_no is_separator (Integer (pos k)) es refl ∙ e)
+    ∙ ap (λ x. put_first x (renditions ps)) (item k p h)
+
+large_turns : (k : ℕ) (rest : List CsiParam) → 24 < k → Turns (Integer (pos k) ∷ rest) true
+large_turns k rest h =
+    unnamed_turns (Integer (pos k) ∷ rest)
+    (ap (λ x. unwrap_or x (unspecified (Integer (pos k) ∷ rest) false 0x6d ∷ []))
+    (first_large k rest h))
+
+pub first_turns : (es : List CsiParam) (n : ℕ) → BeginsWith n es → 24 < n → Turns es true
+first_turns es n (rest, e) h = subst (λ x. Turns x true) (sym e) (large_turns n rest h)
+
+-- ---- a command
+
+-- the end of a link can be written
+pub end_writable : {A : Type 0} → IsWritableCommand {A = A} (command.SetHyperlink None)
+unfolding encode
+end_writable = ((codes "8;;", refl, refl), refl)
+
+module _ (A : Type 0) where
+  pub stays : (c : OperatingSystemCommand A) (o : Left) → is_link c ≡ false → o ≡ after_command c o
+  stays (command.SetHyperlink l) o h = absurd cc
+  stays _ o h = refl
+
+  some_link : (t : List ℕ) (l : Option (Hyperlink A)) → t ≢ codes "8;;"
+      → command_text (command.SetHyperlink l) ≡ framed t → is_some l ≡ true
+  some_link t None n e = absurd (n (sym (append_cancel_right (codes "8;;") t (0x1b ∷ 0x5c ∷ [])
+      (ap (drop 2) e))))
+  some_link t (Some h) n e = refl
+
+  pub opens : (t : List ℕ) (o : Left) → IsPlainLink A t → t ≢ codes "8;;"
+      → turned o LINK true ≡ after_command (meaning {A = A} (parts_of t)) o
+  opens t o (l, means, written) n =
+      ap (turned o LINK) (sym (some_link t l n (ap command_text (sym means) ∙ written)))
+      ∙ ap (λ c. after_command c o) (sym means)
+
+  pub ends : (t : List ℕ) (o : Left) → t ≡ codes "8;;"
+      → ((c : OperatingSystemCommand A) → IsWritableCommand c → meaning (parts_of (inner_text c)) ≡ c)
+      → turned o LINK false ≡ after_command (meaning {A = A} (parts_of t)) o
+  ends t o e back =
+      ap (λ c. after_command {A = A} c o) (sym (back (command.SetHyperlink None) end_writable))
+      ∙ ap (λ x. after_command (meaning {A = A} (parts_of x)) o) (sym e)

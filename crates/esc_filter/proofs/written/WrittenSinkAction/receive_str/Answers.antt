@@ -1,0 +1,11 @@
+use Rattle.std.proofs.Common.{chars}
+use Rattle.esc_normal.proofs.Spelling.{match_both}
+use Rattle.esc_filter.proofs.Noting.{run_denied, run_noted}
+use Rattle.esc_filter.proofs.written.WrittenSinkAction.receive_str.Goals as goal
+
+pub returns-clause-given : goal.returns-clause-given
+returns-clause-given g c =
+    match_both _ _ _ _ c.receive_str.result
+    (run_noted (chars c.args.text.now) c.args.self.now c.receive_str.new.self)
+    (run_denied (chars c.args.text.now) c.args.self.now c.receive_str.new.self)
+    c.receive_str.ensures.given

@@ -1,0 +1,164 @@
+//! What writes the actions that pass, and notes what they leave changed.
+ghost use Rattle.std.specs.Prelude.{◌≡◌, [], false};
+ghost use Rattle.esc_filter.specs.Closing.{unchanged};
+ghost use Rattle.esc_actions.specs.Values.{value_of};
+ghost use Rattle.esc_filter.specs.Noted.{HasNoted, Notes, WriteDenies, without_text};
+ghost use Rattle.esc_filter.specs.Passing.{is_line_feed};
+
+use crate::left::Left;
+use crate::text::emptied;
+use esc_actions::{Action, ControlCode};
+use esc_normal::Spell;
+use esc_parse::Sink;
+use esc_values::CsiParam;
+use std::alloc::{AllocError, Allocator, Global};
+
+/// Appends the text of each action, but of line feeds where lines are streams of their own.
+#[derive(Drop)]
+pub(crate) struct Written<A: Allocator = Global> {
+    /// The text of the actions.
+    pub spell: Spell<A>,
+    /// What they left changed.
+    pub left: Left,
+    /// Whether line feeds are dropped.
+    pub by_lines: bool,
+    /// Whether one was.
+    pub has_ended: bool,
+}
+
+impl<A: Allocator> Written<A> {
+    /// Of no action. Takes no memory.
+    pub fn new(alloc: A, by_lines: bool) -> Written<A>
+        ensures text { result.spell.text ≡ [] }
+        ensures plain { result.spell.follows_string ≡ false }
+        ensures left { result.left ≡ unchanged }
+        ensures lines { result.by_lines ≡ by_lines }
+    {
+        Written {
+            spell: Spell::new(alloc),
+            left: Left::unchanged(),
+            by_lines,
+            has_ended: false,
+        }
+    }
+
+    /// The same without its text, of which the memory is used again.
+    #[inline]
+    pub fn emptied(self) -> Written<A>
+        ensures { result ≡ without_text self }
+    {
+        let Written {
+            spell,
+            left,
+            by_lines,
+            has_ended,
+        } = self;
+        let Spell {
+            text,
+            follows_string,
+        } = spell;
+        Written {
+            spell: Spell {
+                text: emptied(text),
+                follows_string,
+            },
+            left,
+            by_lines,
+            has_ended,
+        }
+    }
+
+    /// Begins a new stream. The text stays.
+    pub fn restart(&mut self)
+        ensures text { self.new.spell.text ≡ self.old.spell.text }
+        ensures noted { HasNoted self.old.by_lines [] self.new }
+    {
+        self.spell.follows_string = false;
+        self.left = Left::unchanged();
+        self.has_ended = false;
+    }
+}
+
+impl<A: Allocator> Sink<Action<A>> for Written<A> {
+    ghost is_ready = { λ _. Unit {0} };
+
+    ghost may = { λ _ _. Unit {0} };
+
+    ghost takes = { Notes };
+
+    ghost refuses = { WriteDenies };
+
+    #[inline]
+    fn receive(&mut self, action: Action<A>) -> Result<(), AllocError> {
+        if self.by_lines && is_line_feed(&action) {
+            self.has_ended = true;
+            return Ok(());
+        }
+        let left = self.left.after(&action);
+        match self.spell.receive(action) {
+            Ok(()) => {
+                self.left = left;
+                Ok(())
+            }
+            Err(error) => Err(error),
+        }
+    }
+
+    #[inline]
+    fn receive_text(&mut self, text: &[u8]) -> Result<(), AllocError> {
+        self.spell.receive_text(text)
+    }
+
+    #[inline]
+    fn receive_str(&mut self, text: &str) -> Result<(), AllocError> {
+        self.spell.receive_str(text)
+    }
+
+    #[inline]
+    fn receive_sequence(
+        &mut self,
+        params: &[CsiParam],
+        parameters_truncated: bool,
+        control: u8,
+    ) -> Result<bool, AllocError> {
+        let Some(left) = self
+            .left
+            .after_sequence(params, parameters_truncated, control)
+        else {
+            return Ok(false);
+        };
+        match self
+            .spell
+            .receive_sequence(params, parameters_truncated, control)
+        {
+            Ok(true) => {
+                self.left = left;
+                Ok(true)
+            }
+            Ok(false) => Ok(false),
+            Err(error) => Err(error),
+        }
+    }
+
+    #[inline]
+    fn receive_command(&mut self, text: &[u8]) -> Result<bool, AllocError> {
+        let Some(left) = self.left.after_text::<A>(text) else {
+            return Ok(false);
+        };
+        match self.spell.receive_command(text) {
+            Ok(true) => {
+                self.left = left;
+                Ok(true)
+            }
+            Ok(false) => Ok(false),
+            Err(error) => Err(error),
+        }
+    }
+}
+
+// Whether it is a line feed.
+fn is_line_feed<A: Allocator>(action: &Action<A>) -> bool
+    ensures { result ≡ is_line_feed (value_of action.now) }
+{
+    matches!(action, Action::Control(ControlCode::LineFeed))
+}
