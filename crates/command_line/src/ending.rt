@@ -50,6 +50,44 @@ pub fn unwritten<E: Write>(program: &str, output: &str, reason: Reason, faults: 
     }
 }
 
+/// Where a stream ended early.
+#[derive(Clone, Copy)]
+pub enum Place<'a> {
+    /// At its input, which has this name.
+    Input(&'a str),
+    /// At the output of this name.
+    Output(&'a str),
+}
+
+/// How a stream ended that ended early there, by this error, where the last error of its reader and
+/// writer had this reason. A line on `faults` says what hindered it; but where nobody reads the
+/// output any more, none is written.
+pub fn hindered<D: Display + Drop, E: Write>(
+    program: &str,
+    place: Place<'_>,
+    error: D,
+    reason: Option<Reason>,
+    faults: &mut E,
+) -> Ended
+    ensures { result ≡ Ended.Whole → ⊥ }
+{
+    match (place, reason) {
+        (Place::Output(name), Some(reason)) => unwritten(program, name, reason, faults),
+        (Place::Output(name), None) => {
+            tell(program, name, "takes nothing", faults);
+            Ended::Unwritten
+        }
+        (Place::Input(name), Some(reason)) => {
+            tell(program, name, reason, faults);
+            Ended::Unread
+        }
+        (Place::Input(name), None) => {
+            tell(program, name, error, faults);
+            Ended::Unread
+        }
+    }
+}
+
 /// Writes a line on `faults`: what hindered a program at the stream of this name.
 pub fn tell<D: Display + Drop, E: Write>(program: &str, name: &str, hindrance: D, faults: &mut E) {
     let name = Shown(name);

@@ -5,6 +5,7 @@
 mod arguments;
 mod ending;
 mod nearness;
+mod noting;
 mod output;
 mod reading;
 mod reason;
@@ -14,7 +15,8 @@ mod table;
 mod wrong;
 
 pub use arguments::{NO_TEXT, is_text, program_words};
-pub use ending::{Ended, status_after, tell, unwritten};
+pub use ending::{Ended, Place, hindered, status_after, tell, unwritten};
+pub use noting::Noting;
 pub use output::{IS_OUTPUT, is_output};
 pub use reading::{Found, Given, read};
 pub use reason::Reason;

@@ -12,7 +12,7 @@ use std::alloc::{AllocError, Allocator};
 
 /// Takes a stream in whatever pieces it comes, and has for each the text that it adds, and what its
 /// end adds.
-pub(crate) trait Feeding<A: Allocator> {
+pub trait Feeding<A: Allocator> {
     // it gives the first texts for streams that go on, and the second for those that have ended,
     // and was fed this stream
     ghost gives: { Self → (List ℕ → List ℕ) → (List ℕ → List ℕ) → List ℕ → Type 0 };

@@ -35,9 +35,10 @@ mod written;
 
 pub use admit::{Admit, passes};
 pub use encoder::Encoder;
+pub use feeding::Feeding;
 pub use filter::Filter;
 pub use filter_error::FilterError;
-pub use filtering::{MOST_READS, filter_lines, filter_stream};
+pub use filtering::{MOST_READS, filter_from, filter_lines, filter_stream};
 pub use group::Group;
 pub use groups::Groups;
 pub use laws::{

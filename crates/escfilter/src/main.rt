@@ -8,7 +8,6 @@ mod json;
 mod name;
 mod named_groups;
 mod new_file;
-mod noting;
 mod observed;
 mod opened;
 mod options;
@@ -21,14 +20,13 @@ mod tally;
 
 use account::Account;
 use command_line::{
-    Ended, IS_OUTPUT, NO_TEXT, Reason, Wrong, is_output, is_text, program_words, status_after,
-    tell, unwritten,
+    Ended, IS_OUTPUT, NO_TEXT, Noting, Reason, Wrong, is_output, is_text, program_words,
+    status_after, tell, unwritten,
 };
 use esc_normal::Watched;
 use json::tell_json;
 use named_groups::Listed;
 use new_file::NewFile;
-use noting::Noting;
 use observed::Observed;
 use options::{Form, Kind, Options, Target, Task};
 use report::tell_text;

@@ -5,7 +5,7 @@ ghost use Rattle.memory.specs.Refusals.{Refused};
 ghost use Rattle.escfilter.specs.Written.{IsWritten, text_of};
 
 use crate::options::Options;
-use command_line::{Ended, Reason, tell, unwritten};
+use command_line::{Ended, Place, Reason, hindered};
 use esc_filter::{FilterError, filter_lines, filter_stream};
 use esc_normal::Watched;
 use std::alloc::Allocator;
@@ -53,19 +53,9 @@ pub fn ended<E: Write>(
         Ok(()) => return Ended::Whole,
         Err(error) => error,
     };
-    match (error, reason) {
-        (FilterError::Write, Some(reason)) => unwritten(PROGRAM, output, reason, faults),
-        (FilterError::Write, None) => {
-            tell(PROGRAM, output, "takes nothing", faults);
-            Ended::Unwritten
-        }
-        (_, Some(reason)) => {
-            tell(PROGRAM, name, reason, faults);
-            Ended::Unread
-        }
-        (_, None) => {
-            tell(PROGRAM, name, error, faults);
-            Ended::Unread
-        }
-    }
+    let place = match error {
+        FilterError::Write => Place::Output(output),
+        FilterError::Read | FilterError::Memory | FilterError::Endless => Place::Input(name),
+    };
+    hindered(PROGRAM, place, error, reason, faults)
 }

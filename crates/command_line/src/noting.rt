@@ -4,7 +4,7 @@ ghost use Rattle.std.specs.Io.{ReadsAtMost, WritesAtMost};
 ghost use Rattle.std.specs.Io.KnownBytes.{ReadConsumes, WriteAppends};
 ghost use Rattle.std.specs.IoError.{error_kind};
 
-use command_line::Reason;
+use crate::reason::Reason;
 use std::io;
 use std::io::{ErrorKind, Read, Write};
 

@@ -1,0 +1,120 @@
+//! What the program's words ask for.
+
+use command_line::{Found, Known, Takes, Wrong, read};
+use std::alloc::{Allocator, Global};
+
+/// How streams become HTML.
+#[derive(Clone, Copy)]
+pub struct Options<'a> {
+    /// Whether a whole page is written, and not a fragment.
+    pub is_page: bool,
+    /// The title of the page, where it is given.
+    pub title: Option<&'a str>,
+    /// Whether the tags that are open are closed at the end of each line.
+    pub per_line: bool,
+    /// How many bytes are kept of an unfinished segment.
+    pub limit: usize,
+}
+
+/// What the program does.
+#[derive(Clone, Copy)]
+pub enum Kind {
+    /// It writes files, or standard input where there is none, as HTML.
+    Convert,
+    /// It prints the style sheet.
+    Style,
+    /// It prints what it does.
+    Help,
+    /// It prints its version.
+    Version,
+}
+
+/// What the program's words ask for.
+#[derive(Drop)]
+pub struct Task<'a, A: Allocator = Global> {
+    /// What the program does.
+    pub kind: Kind,
+    /// How streams become HTML.
+    pub options: Options<'a>,
+    /// The files.
+    pub files: Vec<&'a str, A>,
+}
+
+const DEFAULT_LIMIT: usize = 1_048_576;
+
+const KNOWN: &[Known] = &[
+    Known {
+        name: "--page",
+        letter: "",
+        takes: Takes::Nothing,
+    },
+    Known {
+        name: "--title",
+        letter: "",
+        takes: Takes::OneOf("text", &[]),
+    },
+    Known {
+        name: "--lines",
+        letter: "",
+        takes: Takes::Nothing,
+    },
+    Known {
+        name: "--style",
+        letter: "",
+        takes: Takes::Nothing,
+    },
+    Known {
+        name: "--limit",
+        letter: "",
+        takes: Takes::Size,
+    },
+    Known {
+        name: "--help",
+        letter: "-h",
+        takes: Takes::Nothing,
+    },
+    Known {
+        name: "--version",
+        letter: "-V",
+        takes: Takes::Nothing,
+    },
+];
+
+impl<'a, A: Allocator + Copy> Task<'a, A> {
+    /// The task that these words, the program's arguments, name; of an option that is given twice
+    /// the last counts.
+    pub fn of(alloc: A, words: &'a [String]) -> Result<Task<'a, A>, Wrong<'a>> {
+        match read(alloc, KNOWN, words) {
+            Ok(found) => Ok(Task::from_found(found)),
+            Err(wrong) => Err(wrong),
+        }
+    }
+
+    // The task that these options and files name.
+    fn from_found(found: Found<'a, A>) -> Task<'a, A> {
+        let mut kind = Kind::Convert;
+        let mut options = Options {
+            is_page: false,
+            title: None,
+            per_line: false,
+            limit: DEFAULT_LIMIT,
+        };
+        for given in &found.options {
+            match given.name {
+                "--page" => options.is_page = true,
+                "--title" => options.title = Some(given.word),
+                "--lines" => options.per_line = true,
+                "--limit" => options.limit = given.size,
+                "--style" => kind = Kind::Style,
+                "--help" => kind = Kind::Help,
+                "--version" => kind = Kind::Version,
+                _ => {}
+            }
+        }
+        Task {
+            kind,
+            options,
+            files: found.files,
+        }
+    }
+}
