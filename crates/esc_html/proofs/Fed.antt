@@ -78,7 +78,7 @@ stops_refused own why R Q k says p (v ∷ vs) q (inr (inr (mid, t, rest))) =
 
 -- ---- images
 
-adds_nothing : {A : Type 0} (p : Page A) → Adds p nothing p
+pub adds_nothing : {A : Type 0} (p : Page A) → Adds p nothing p
 adds_nothing p = record {
   text = sym (append-nil (text_of p));
   state = refl;

@@ -5,5 +5,6 @@ pub mod Fed
 pub mod Listing
 pub mod Pages
 pub mod Reading
+pub mod Runs
 pub mod Safe
 pub mod Whole

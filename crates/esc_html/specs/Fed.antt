@@ -1,11 +1,12 @@
 -- What a page was fed.
-use Rattle.std.specs.Prelude.{ℕ, ◌≡◌, Bool, List, ◌++◌, Some, string_bytes}
+use Rattle.std.specs.Prelude.{ℕ, ◌≡◌, ◌==◌, Bool, not, true, List, [], ◌∷◌, ◌++◌, Some}
+use Rattle.std.specs.List.{flat_map}
 use Rattle.esc_actions.specs.Values.{value_of}
 use Rattle.esc_actions.specs.declared.action.Action.{Action}
 use Rattle.esc_parse.specs.Fed.{IsBroken as IsBrokenParser, WasFedWithin}
 use Rattle.esc_html.specs.Marks.{Step, step_of}
-use Rattle.esc_html.specs.Pages.{State, page_text, pieces_by, state_by, state_of_stream}
-use Rattle.esc_html.specs.Pieces.{html_text}
+use Rattle.esc_html.specs.Pages.{State, opened, page_text, pieces_by, state_by, state_of_stream}
+use Rattle.esc_html.specs.Pieces.{escape_text, html_text}
 use Rattle.esc_html.specs.declared.html_writer.HtmlWriter.{HtmlWriter}
 use Rattle.esc_html.specs.declared.page.Page.{Page}
 
@@ -21,7 +22,19 @@ state_of p = record {
 
 -- its text
 abbrev pub text_of : {A : Type 0} → Page A → List ℕ
-text_of p = string_bytes p.html
+text_of p = p.html
+
+-- a page with more text, before which the tags are opened
+abbrev pub with_text : {A : Type 0} → Page A → List ℕ → Page A
+with_text p [] = p
+with_text p (b ∷ t) = record p {
+  html = p.html ++ (html_text (opened (state_of p)) ++ flat_map escape_text (b ∷ t));
+  is_open = true;
+}
+
+-- any character but DEL, of which terminals show nothing
+abbrev pub is_visible : ℕ → Bool
+is_visible c = not (c == 0x7f)
 
 -- a step adds its pieces to the text
 pub record Adds {A : Type 0} (p : Page A) (s : Step) (q : Page A) : Type 0 where

@@ -24,6 +24,7 @@ mod escaping;
 pub mod html_writer;
 pub mod laws;
 pub mod look;
+mod markup;
 mod page;
 pub mod style;
 mod tag;

@@ -1,6 +1,8 @@
 //! What writes a page, action by action.
 ghost use Rattle.std.specs.Prelude.{◌≡◌, ◌++◌, [], OnErr, OnOk, false, not, true};
-ghost use Rattle.esc_html.specs.Fed.{Adds, Takes, state_of, text_of};
+ghost use Rattle.std.specs.List.{filter, list_all};
+ghost use Rattle.esc_frame.specs.Scans.{is_text_byte};
+ghost use Rattle.esc_html.specs.Fed.{Adds, Takes, is_visible, state_of, text_of, with_text};
 ghost use Rattle.esc_html.specs.Looks.{is_plain};
 ghost use Rattle.esc_html.specs.Marks.{address_of, changes, command_step, control_step, function_step, is_page_address, print_step, shows, with_link, with_look};
 ghost use Rattle.esc_html.specs.Pages.{before_character, closed, first_state, link_end_if, link_opening, open_or_not, opened, span_end_unless, span_unless};
@@ -10,23 +12,23 @@ ghost use Rattle.esc_typed.specs.Selections.{left};
 ghost use Rattle.memory.specs.Refusals.{Refused};
 
 use crate::address::is_safe_address;
-use crate::escaping::push_char;
 use crate::look::Look;
-use crate::tag::push_span;
-use crate::writing::push_link;
+use crate::markup::Markup;
 use esc_actions::Action;
 use esc_links::Hyperlink;
 use esc_osc::OperatingSystemCommand;
 use esc_parse::Sink;
 use esc_typed::{Function, Renditions};
 use esc_values::Text;
+use memchr::memchr;
 use std::alloc::{AllocError, Allocator, Global};
+use std::str;
 
 /// The text of a page so far, and what holds for the characters that come.
 #[derive(Drop)]
 pub(crate) struct Page<A: Allocator = Global> {
     /// The text that was added last.
-    pub html: String<A>,
+    pub html: Markup<A>,
     /// How the characters look.
     pub look: Look,
     /// The address that they lead to.
@@ -45,7 +47,7 @@ impl<A: Allocator> Page<A> {
         ensures per_line { result.per_line ≡ per_line }
     {
         Page {
-            html: String::new(alloc),
+            html: Markup::new(alloc),
             look: Look::plain(),
             link: None,
             is_open: false,
@@ -72,7 +74,7 @@ impl<A: Allocator> Page<A> {
         ensures refused { OnErr result (Refused A) }
     {
         match &self.link {
-            Some(address) => push_link(&mut self.html, address.as_str()),
+            Some(address) => self.html.push_link(address.as_str()),
             None => Ok(()),
         }
     }
@@ -88,7 +90,7 @@ impl<A: Allocator> Page<A> {
         if self.look.is_plain() {
             return Ok(());
         }
-        push_span(&mut self.html, &self.look)
+        self.html.push_span(&self.look)
     }
 
     // Opens the tags, where they are not open.
@@ -119,7 +121,7 @@ impl<A: Allocator> Page<A> {
         ensures refused { OnErr result (Refused A) }
     {
         let closing = self.closing();
-        memory::push_str(&mut self.html, closing)?;
+        self.html.push_html(closing)?;
         self.is_open = false;
         Ok(())
     }
@@ -152,7 +154,7 @@ impl<A: Allocator> Page<A> {
         ensures refused { OnErr result (Refused A) }
     {
         self.prepare(self.per_line && c == '\n')?;
-        push_char(&mut self.html, c)
+        self.html.push_char(c)
     }
 
     // Shows what is printed, but DEL, of which terminals show nothing.
@@ -161,6 +163,31 @@ impl<A: Allocator> Page<A> {
         ensures refused { OnErr result (Refused A) }
     {
         if c == '\u{7f}' { Ok(()) } else { self.show(c) }
+    }
+
+    // Shows a run of characters, none of which ends a line.
+    fn show_run(&mut self, run: &str) -> Result<(), AllocError>
+        ensures ok { OnOk result (self.new ≡ with_text self.old run.now) }
+        ensures refused { OnErr result (Refused A) }
+    {
+        if run.is_empty() {
+            return Ok(());
+        }
+        self.open()?;
+        self.html.push_text(run)
+    }
+
+    // Shows a run that is printed, but DEL.
+    fn take_run(&mut self, run: &str) -> Result<(), AllocError>
+        ensures ok { OnOk result (self.new ≡ with_text self.old (filter is_visible run.now)) }
+        ensures refused { OnErr result (Refused A) }
+    {
+        let mut rest = run;
+        while let Some(at) = memchr(0x7f, rest.as_bytes()) {
+            self.show_run(&rest[..at])?;
+            rest = &rest[at + 1..];
+        }
+        self.show_run(rest)
     }
 
     // Shows a tab or a line feed, and no other control.
@@ -247,9 +274,27 @@ impl<A: Allocator> Sink<Action<A>> for Page<A> {
         }
     }
 
+    #[inline]
+    fn receive_text(&mut self, text: &[u8]) -> Result<(), AllocError> {
+        self.take_run(as_str(text))
+    }
+
+    #[inline]
+    fn receive_str(&mut self, text: &str) -> Result<(), AllocError> {
+        self.take_run(text)
+    }
+
     fn drops_images(&self) -> bool {
         true
     }
+}
+
+// ASCII as a text.
+fn as_str(text: &[u8]) -> &str
+    requires { list_all is_text_byte text.now ≡ true }
+    ensures { result.now ≡ text.now }
+{
+    unsafe { str::from_utf8_unchecked(text) }
 }
 
 // Where a link leads in a page: nowhere, where its address is not safe.

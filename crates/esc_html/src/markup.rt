@@ -1,0 +1,91 @@
+//! A text in HTML that grows.
+ghost use Rattle.std.specs.Prelude.{◌≡◌, ◌++◌, ℕ, List, [], OnErr, OnOk, string_bytes};
+ghost use Rattle.std.specs.Char.{encode_utf8};
+ghost use Rattle.std.specs.List.{flat_map};
+ghost use Rattle.esc_html.specs.Pieces.{escape_text, link, piece_text, span};
+ghost use Rattle.memory.specs.Refusals.{Refused};
+
+use crate::escaping::{push_char, push_escaped};
+use crate::look::Look;
+use crate::tag::push_span;
+use crate::writing::push_link;
+use std::alloc::{AllocError, Allocator, Global};
+use std::marker::Model;
+
+/// A text in HTML. Contracts see its bytes. Where memory is refused, a part of what was to be
+/// appended may be there.
+#[derive(Drop)]
+pub(crate) struct Markup<A: Allocator = Global> {
+    string: String<A>,
+}
+
+impl<A: Allocator> Model for Markup<A> {
+    ghost Value = { List ℕ };
+
+    ghost view = { λ m. string_bytes m.string };
+}
+
+impl<A: Allocator> Markup<A> {
+    /// The empty text. Takes no memory.
+    pub fn new(alloc: A) -> Markup<A>
+        ensures { result ≡ [] }
+    {
+        Markup {
+            string: String::new(alloc),
+        }
+    }
+
+    /// This text.
+    pub fn as_str(&self) -> &str
+        ensures { result.now ≡ self.now }
+    {
+        self.string.as_str()
+    }
+
+    /// Drops its characters, and keeps its memory.
+    pub fn clear(&mut self)
+        ensures { self.new ≡ [] }
+    {
+        self.string.clear()
+    }
+
+    /// Appends what is HTML already.
+    pub fn push_html(&mut self, html: &str) -> Result<(), AllocError>
+        ensures ok { OnOk result (self.new ≡ self.old ++ html.now) }
+        ensures refused { OnErr result (Refused A) }
+    {
+        memory::push_str(&mut self.string, html)
+    }
+
+    /// Appends a character, as text.
+    pub fn push_char(&mut self, c: char) -> Result<(), AllocError>
+        ensures ok { OnOk result (self.new ≡ self.old ++ flat_map escape_text (encode_utf8 c)) }
+        ensures refused { OnErr result (Refused A) }
+    {
+        push_char(&mut self.string, c)
+    }
+
+    /// Appends characters, as text.
+    pub fn push_text(&mut self, more: &str) -> Result<(), AllocError>
+        ensures ok { OnOk result (self.new ≡ self.old ++ flat_map escape_text more.now) }
+        ensures refused { OnErr result (Refused A) }
+    {
+        push_escaped(&mut self.string, more, b'>')
+    }
+
+    /// Begins a span.
+    pub fn push_span(&mut self, look: &Look) -> Result<(), AllocError>
+        ensures ok { OnOk result (self.new ≡ self.old ++ piece_text (span look.now)) }
+        ensures refused { OnErr result (Refused A) }
+    {
+        push_span(&mut self.string, look)
+    }
+
+    /// Begins a link.
+    pub fn push_link(&mut self, address: &str) -> Result<(), AllocError>
+        ensures ok { OnOk result (self.new ≡ self.old ++ piece_text (link address.now)) }
+        ensures refused { OnErr result (Refused A) }
+    {
+        push_link(&mut self.string, address)
+    }
+}
