@@ -1,5 +1,7 @@
 //! The lines of a stream as HTML.
 
+use memchr::memchr;
+
 /// How many lines were written.
 #[derive(Clone, Copy)]
 pub struct Lines {
@@ -27,18 +29,27 @@ impl Lines {
     /// character references.
     pub fn and(self, html: &str) -> Lines {
         let mut lines = self;
-        let mut is_tag = false;
-        for byte in html.as_bytes() {
-            match *byte {
-                b'\n' => {
-                    lines.ended = lines.ended.saturating_add(1);
-                    lines.is_open = false;
-                }
-                b'<' => is_tag = true,
-                b'>' => is_tag = false,
-                _ => lines.is_open = lines.is_open || !is_tag,
-            }
+        let mut rest = html.as_bytes();
+        while let Some(at) = memchr(b'\n', rest) {
+            lines.ended = lines.ended.saturating_add(1);
+            lines.is_open = false;
+            rest = &rest[at + 1..];
         }
+        lines.is_open = lines.is_open || has_characters(rest);
         lines
     }
+}
+
+// Whether a text has more than tags.
+fn has_characters(html: &[u8]) -> bool {
+    let mut is_tag = false;
+    for byte in html {
+        match *byte {
+            b'<' => is_tag = true,
+            b'>' => is_tag = false,
+            _ if is_tag => {}
+            _ => return true,
+        }
+    }
+    false
 }
