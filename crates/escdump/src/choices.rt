@@ -7,18 +7,18 @@
 use crate::named::words_of;
 use esc_functions::ControlFunction;
 
-static IN_DISPLAY: &str = "\
+const IN_DISPLAY: &str = "\
 0 below
 1 above
 2 all
 3 scrolled-off lines";
 
-static IN_LINE: &str = "\
+const IN_LINE: &str = "\
 0 to the right
 1 to the left
 2 all";
 
-static TABS: &str = "\
+const TABS: &str = "\
 0 at the cursor
 1 of the line
 2 all in the line
@@ -26,7 +26,7 @@ static TABS: &str = "\
 4 all of lines
 5 all of columns and lines";
 
-static REPORTS: &str = "\
+const REPORTS: &str = "\
 0 it is ready
 1 it is busy, ask again
 2 it is busy, and reports later
@@ -36,7 +36,7 @@ static REPORTS: &str = "\
 6 ask for the cursor position";
 
 // 996 and 997 are those of contour and kitty.
-static PRIVATE_REPORTS: &str = "\
+const PRIVATE_REPORTS: &str = "\
 6 ask for the cursor position and page
 10 the printer is ready
 11 the printer is not ready
@@ -65,7 +65,7 @@ static PRIVATE_REPORTS: &str = "\
 996 ask for the colour scheme
 997 report of the colour scheme: 1 dark, 2 light";
 
-static CURSORS: &str = "\
+const CURSORS: &str = "\
 0 default
 1 blinking block
 2 steady block
@@ -74,12 +74,12 @@ static CURSORS: &str = "\
 5 blinking bar
 6 steady bar";
 
-static PROTECTION: &str = "\
+const PROTECTION: &str = "\
 0 off
 1 on
 2 off";
 
-static WINDOW: &str = "\
+const WINDOW: &str = "\
 1 de-iconify
 2 iconify
 3 move
@@ -102,22 +102,26 @@ static WINDOW: &str = "\
 22 push title
 23 pop title";
 
+// The functions of which the first number chooses, and what.
+static CHOICES: [(ControlFunction, &str); 10] = [
+    (ControlFunction::ED, IN_DISPLAY),
+    (ControlFunction::DECSED, IN_DISPLAY),
+    (ControlFunction::EL, IN_LINE),
+    (ControlFunction::DECSEL, IN_LINE),
+    (ControlFunction::TBC, TABS),
+    (ControlFunction::DSR, REPORTS),
+    (ControlFunction::DECDSR, PRIVATE_REPORTS),
+    (ControlFunction::DECSCUSR, CURSORS),
+    (ControlFunction::DECSCA, PROTECTION),
+    (ControlFunction::XTWINOPS, WINDOW),
+];
+
 /// What this number chooses, where it is the first of a sequence of this function and has words.
 pub fn chosen_words(function: ControlFunction, number: i64) -> &'static str {
-    words_of(choices_of(function), number, "")
-}
-
-// The table of what a function's first number chooses; an empty one, where there is none.
-fn choices_of(function: ControlFunction) -> &'static str {
-    match function {
-        ControlFunction::ED | ControlFunction::DECSED => IN_DISPLAY,
-        ControlFunction::EL | ControlFunction::DECSEL => IN_LINE,
-        ControlFunction::TBC => TABS,
-        ControlFunction::DSR => REPORTS,
-        ControlFunction::DECDSR => PRIVATE_REPORTS,
-        ControlFunction::DECSCUSR => CURSORS,
-        ControlFunction::DECSCA => PROTECTION,
-        ControlFunction::XTWINOPS => WINDOW,
-        _ => "",
+    for (chosen, words) in &CHOICES {
+        if *chosen == function {
+            return words_of(*words, number, "");
+        }
     }
+    ""
 }
