@@ -2,7 +2,7 @@
 ghost use Rattle.dump_page.specs.Quoted.{IsQuote};
 
 use crate::hidden::Hidden;
-use crate::quoted::{push_char, push_quoted, push_string};
+use crate::quoted::{push_quoted, push_string};
 use esc_values::Text;
 use std::alloc::Global;
 
@@ -63,18 +63,9 @@ impl Quote {
     }
 
     /// Adds a character.
-    #[tactic(auto, using(crate::proofs::Quoting::no_quote))]
     pub fn add_char(&mut self, c: char) {
-        if self.is_refused {
-            return;
-        }
-        match push_char(c, &mut self.text, &mut self.hidden) {
-            Ok(()) => {}
-            Err(_) => {
-                self.text = Text::new(self.alloc);
-                self.is_refused = true;
-            }
-        }
+        let mut bytes = [0u8; 4];
+        self.add(c.encode_utf8(&mut bytes).as_bytes());
     }
 
     /// Adds words as the characters of a string of JSON (RFC 8259, 7): `"` and `\` after a `\`, and

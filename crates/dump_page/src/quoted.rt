@@ -43,8 +43,8 @@ fn push_text(text: &str, to: &mut Text, hidden: &mut Hidden) -> Result<(), Alloc
     Ok(())
 }
 
-/// Appends a character in this way.
-pub fn push_char(c: char, to: &mut Text, hidden: &mut Hidden) -> Result<(), AllocError>
+// Appends a character in this way.
+fn push_char(c: char, to: &mut Text, hidden: &mut Hidden) -> Result<(), AllocError>
     ensures { OnOk result (Quotes to.old to.new (encode_utf8 c)) }
 {
     if is_shown(c) {
