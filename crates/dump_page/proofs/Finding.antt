@@ -36,7 +36,8 @@ passed AfterBackslash read [] rest h = absurd (false≢true h)
 passed InNumber read [] rest h = absurd (false≢true h)
 passed (AfterDigit d) read [] rest h = absurd (false≢true h)
 passed InText read (c ∷ cs) rest h =
-    passed_one (closes InText c) InText read c cs rest refl h (λ x. passed (next InText c) x cs rest)
+    passed_one (closes InText c) InText read c cs rest refl h
+    (λ x. passed (next InText c) x cs rest)
 passed AfterBackslash read (c ∷ cs) rest h =
     passed_one false AfterBackslash read c cs rest refl h
     (λ x. passed (next AfterBackslash c) x cs rest)

@@ -55,12 +55,14 @@ module _ (A : Type 0) where
 
   m1047 : IsWritable {A = A} (private_mode 1047 0x6c)
   unfolding class_of kept_csi_params has_more_csi_params is_csi_body encode digits
-  m1047 = csi_writable (codes "?1047") 0x6c (unspecified (P 0x3f ∷ Integer (pos 1047) ∷ []) false 0x6c)
+  m1047 = csi_writable (codes "?1047") 0x6c
+      (unspecified (P 0x3f ∷ Integer (pos 1047) ∷ []) false 0x6c)
       refl refl refl refl refl
 
   m1049 : IsWritable {A = A} (private_mode 1049 0x6c)
   unfolding class_of kept_csi_params has_more_csi_params is_csi_body encode digits
-  m1049 = csi_writable (codes "?1049") 0x6c (unspecified (P 0x3f ∷ Integer (pos 1049) ∷ []) false 0x6c)
+  m1049 = csi_writable (codes "?1049") 0x6c
+      (unspecified (P 0x3f ∷ Integer (pos 1049) ∷ []) false 0x6c)
       refl refl refl refl refl
 
   m69 : IsWritable {A = A} (private_mode 69 0x6c)
@@ -90,7 +92,8 @@ module _ (A : Type 0) where
 
   m2026 : IsWritable {A = A} (private_mode 2026 0x6c)
   unfolding class_of kept_csi_params has_more_csi_params is_csi_body encode digits
-  m2026 = csi_writable (codes "?2026") 0x6c (unspecified (P 0x3f ∷ Integer (pos 2026) ∷ []) false 0x6c)
+  m2026 = csi_writable (codes "?2026") 0x6c
+      (unspecified (P 0x3f ∷ Integer (pos 2026) ∷ []) false 0x6c)
       refl refl refl refl refl
 
   margins : IsWritable {A = A} (csi (unspecified [] false 0x72))
@@ -137,13 +140,15 @@ module _ (A : Type 0) where
       (more (is_left o MARGINS) (esc (esc_variant.Unspecified None 0x37)) _ refl refl save
       (more (is_left o MARGINS) (csi (unspecified [] false 0x72)) _ refl refl margins
       (more (is_left o MARGINS) (esc (esc_variant.Unspecified None 0x38)) _ refl refl restore
-      (more (is_left o INSERT) (csi (unspecified (Integer (pos 4) ∷ []) false 0x6c)) _ refl refl replaced
+      (more (is_left o INSERT) (csi (unspecified (Integer (pos 4) ∷ []) false 0x6c)) _ refl refl
+      replaced
       (more (is_left o HIDDEN) (private_mode 25 0x68) _ refl refl m25
       (more (is_left o REVERSE) (private_mode 5 0x6c) _ refl refl m5
       (more (is_left o NO_WRAP) (private_mode 7 0x68) _ refl refl m7
       (more (is_left o HELD) (private_mode 2026 0x6c) _ refl refl m2026
       (more (is_left o RENDITION) (csi (sgr Reset)) _ refl refl reset
-      (more (is_left o LINK) (osc (command.SetHyperlink None)) [] refl refl end_writable refl))))))))))))))
+      (more (is_left o LINK) (osc (command.SetHyperlink None)) [] refl refl end_writable
+      refl))))))))))))))
 
   -- ---- its text
 
@@ -161,10 +166,14 @@ module _ (A : Type 0) where
       (add (is_left o SAVED) (private_mode 1049 0x6c) (0x1b ∷ 0x5b ∷ codes "?1049l") _ _ refl refl
       (add (is_left o SIDES) (private_mode 69 0x6c) (0x1b ∷ 0x5b ∷ codes "?69l") _ _ refl refl
       (add (is_left o ORIGIN) (private_mode 6 0x6c) (0x1b ∷ 0x5b ∷ codes "?6l") _ _ refl refl
-      (add (is_left o MARGINS) (esc (esc_variant.Unspecified None 0x37)) (0x1b ∷ codes "7") _ _ refl refl
-      (add (is_left o MARGINS) (csi (unspecified [] false 0x72)) (0x1b ∷ 0x5b ∷ codes "r") _ _ refl refl
-      (add (is_left o MARGINS) (esc (esc_variant.Unspecified None 0x38)) (0x1b ∷ codes "8") _ _ refl refl
-      (add (is_left o INSERT) (csi (unspecified (Integer (pos 4) ∷ []) false 0x6c)) (0x1b ∷ 0x5b ∷ codes "4l") _ _ refl refl
+      (add (is_left o MARGINS) (esc (esc_variant.Unspecified None 0x37))
+      (0x1b ∷ codes "7") _ _ refl refl
+      (add (is_left o MARGINS) (csi (unspecified [] false 0x72))
+      (0x1b ∷ 0x5b ∷ codes "r") _ _ refl refl
+      (add (is_left o MARGINS) (esc (esc_variant.Unspecified None 0x38))
+      (0x1b ∷ codes "8") _ _ refl refl
+      (add (is_left o INSERT) (csi (unspecified (Integer (pos 4) ∷ []) false 0x6c))
+      (0x1b ∷ 0x5b ∷ codes "4l") _ _ refl refl
       (add (is_left o HIDDEN) (private_mode 25 0x68) (0x1b ∷ 0x5b ∷ codes "?25h") _ _ refl refl
       (add (is_left o REVERSE) (private_mode 5 0x6c) (0x1b ∷ 0x5b ∷ codes "?5l") _ _ refl refl
       (add (is_left o NO_WRAP) (private_mode 7 0x68) (0x1b ∷ 0x5b ∷ codes "?7h") _ _ refl refl
@@ -180,7 +189,8 @@ module _ {A : Type 0} where
   both_from b (v ∷ vs) ws (i, w, h) k = (i, w, both_from (stays_within v) vs ws h k)
 
   pub closed_writable : (vs : List (Value A)) → AreWritable vs → AreWritable (closed vs)
-  closed_writable vs h = both_from false vs (closing vs) h (back_writable A (after_values vs unchanged))
+  closed_writable vs h =
+      both_from false vs (closing vs) h (back_writable A (after_values vs unchanged))
 
   pub closing_text : (vs : List (Value A))
       → list_text (closing vs) ≡ text_given_back (after_values vs unchanged)

@@ -155,7 +155,8 @@ module _ (A : Type 0) where
       ∙ ap (λ c. after_command c o) (sym means)
 
   pub ends : (t : List ℕ) (o : Left) → t ≡ codes "8;;"
-      → ((c : OperatingSystemCommand A) → IsWritableCommand c → meaning (parts_of (inner_text c)) ≡ c)
+      → ((c : OperatingSystemCommand A) → IsWritableCommand c
+      → meaning (parts_of (inner_text c)) ≡ c)
       → turned o LINK false ≡ after_command (meaning {A = A} (parts_of t)) o
   ends t o e back =
       ap (λ c. after_command {A = A} c o) (sym (back (command.SetHyperlink None) end_writable))

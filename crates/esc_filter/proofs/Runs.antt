@@ -83,9 +83,11 @@ str_admitted A p text u h = run_admitted A p (chars text) (chars_shown text u h)
 -- a run that is admitted passes, character by character
 abbrev pub TakesBy : {P A : Type 0} → (P → Value A → Bool) → Passing P A → Action A → Passing P A
     → Type 0
-TakesBy allows p a q = Takes (allows p.policy.now) p.written a q.written × (q.policy.now ≡ p.policy.now)
+TakesBy allows p a q = Takes (allows p.policy.now) p.written a q.written
+    × (q.policy.now ≡ p.policy.now)
 
-one_passes : {A : Type 0} (b : Bool) (p q : Written A) (c : ℕ) → b ≡ true → Notes p (action.Print c) q
+one_passes : {A : Type 0} (b : Bool) (p q : Written A) (c : ℕ) → b ≡ true
+    → Notes p (action.Print c) q
     → (b ≡ true → Notes p (action.Print c) q) × (b ≡ false → q ≡ p)
 one_passes true p q c e h = (λ k. h, λ k. absurd cc)
 one_passes false p q c e h = absurd cc

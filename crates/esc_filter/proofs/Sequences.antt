@@ -168,7 +168,8 @@ module _ {P A : Type 0} (allows : P → Value A → Bool) where
       )
 
   -- a value is refused for want of memory, as each has a text
-  sequence_why : (p : Written A) (v : CsiValue) (q : Written A) → By IsSequence WriteDenies p v q → Refused A
+  sequence_why : (p : Written A) (v : CsiValue) (q : Written A)
+      → By IsSequence WriteDenies p v q → Refused A
   sequence_why p v q (a, is, denied) = denied (ap has_text is)
 
   pub one_refused : (vs : List CsiValue) (p : Passing P A) (s : Written A)
@@ -181,8 +182,9 @@ module _ {P A : Type 0} (allows : P → Value A → Bool) where
       (inl (
         (sequence_action v).0,
         (sequence_action v).1,
-        λ _. stops_for (By IsSequence Notes) (By IsSequence WriteDenies) (Refused A) sequence_why p.written
-            (v ∷ vs) s e,
+        λ _.
+            stops_for (By IsSequence Notes) (By IsSequence WriteDenies) (Refused A) sequence_why
+            p.written (v ∷ vs) s e,
       ))
 
   -- what is said of a call on the text holds of the receiver
@@ -261,8 +263,8 @@ module _ {P A : Type 0} (allows : P → Value A → Bool) where
         refl,
       )
 
-  command_why : (p : Written A) (ps : List (List ℕ)) (q : Written A) → By IsCommand WriteDenies p ps q
-      → Refused A
+  command_why : (p : Written A) (ps : List (List ℕ)) (q : Written A)
+      → By IsCommand WriteDenies p ps q → Refused A
   command_why p ps q (a, is, denied) = denied (ap has_text is)
 
   pub command_refused : {E : Type 0} (r : Result Bool E) (ps : List (List ℕ)) (p : Passing P A)
@@ -277,8 +279,8 @@ module _ {P A : Type 0} (allows : P → Value A → Bool) where
         action.OperatingSystemCommand (command_meant ps),
         refl,
         λ _.
-            stops_for (By IsCommand Notes) (By IsCommand WriteDenies) (Refused A) command_why p.written
-            (ps ∷ []) s e,
+            stops_for (By IsCommand Notes) (By IsCommand WriteDenies) (Refused A) command_why
+            p.written (ps ∷ []) s e,
       ))) t
 
 -- what a policy admits of control sequences

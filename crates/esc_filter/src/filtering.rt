@@ -67,8 +67,8 @@ pub fn filter_lines<R: Read, W: Write, P: Admit<A> + Drop, A: Allocator + Copy>(
     filter_from(alloc, &mut filter, reader, writer)
 }
 
-/// Reads to the end, and writes what the filter, which gives these texts and was fed nothing, has of
-/// each read and of the end, as [`filter_stream`] does.
+/// Reads to the end, and writes what the filter, which gives these texts and was fed nothing, has
+/// of each read and of the end, as [`filter_stream`] does.
 pub fn filter_from<R: Read, W: Write, F: Feeding<A>, A: Allocator + Copy>(
     alloc: A,
     filter: &mut F,

@@ -192,9 +192,9 @@ uint32_t escape_stream_filter_feed(struct escape_stream_filter *filter, const ui
 uint32_t escape_stream_filter_finish(struct escape_stream_filter *filter);
 
 /*
- * Writes the text that the last piece or the end of the stream added, from its byte `from` on, to the beginning of `out`, as much as there is room for, and
- * returns how many bytes these are: 0 at the end of the text, and where the filter is not begun. Every other byte of `out` is as
- * it was. It changes nothing, so a text can be read twice.
+ * Writes the text that the last piece or the end of the stream added, from its byte `from` on, to the beginning of `out`, as much
+ * as there is room for, and returns how many bytes these are: 0 at the end of the text, and where the filter is not begun. Every
+ * other byte of `out` is as it was. It changes nothing, so a text can be read twice.
  *
  * Example: what passes of standard input, as it comes.
  *

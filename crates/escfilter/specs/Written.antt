@@ -23,8 +23,8 @@ abbrev pub is_written_by : {A : Type 0} → Bool → Bool → ℕ → (Value A �
 is_written_by true b limit p s t = IsFilteredByLines b limit p s t
 is_written_by false b limit p s t = IsFiltered b (Some limit) p s t
 
--- the text t is what passes of the stream s, which has ended or goes on: of each of its lines, or of
--- the whole
+-- the text t is what passes of the stream s, which has ended or goes on: of each of its lines, or
+-- of the whole
 abbrev pub IsWritten : (A : Type 0) → Options → Bool → List ℕ → List ℕ → Type 0
 IsWritten A o b s t = is_written_by {A = A} o.by_lines b o.limit (admits_choice o.choice) s t
 

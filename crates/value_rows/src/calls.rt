@@ -30,8 +30,8 @@ use std::alloc::{AllocError, Global};
 /// - `query-again`: how many names a termcap query has, byte by byte, that is written as it came.
 /// - `segments`: the kind and the length of each; `segment-count`, of those that are of the kind of
 ///   the first, how many they are, and of how many bytes.
-/// - `html` and `html-by-lines`: the HTML of a stream, with what closes it; `safe-address`: whether a
-///   link of a page may lead to it.
+/// - `html` and `html-by-lines`: the HTML of a stream, with what closes it; `safe-address`: whether
+///   a link of a page may lead to it.
 /// - `refusing`: whether the allocator that refuses a request refuses this alone.
 /// - the words and numbers of `words.rt`, which take no memory.
 pub fn answer(

@@ -38,8 +38,11 @@ returns-in-Err-clause-decided g c = λ m e fresh none more _.
 
 pub returns-in-Err-clause-beginning : goal.returns-in-Err-clause-beginning
 returns-in-Err-clause-beginning g c = λ m e fresh none more.
-    let r = c.loop.invariant.read m e fresh none in
-    (r.0, Consumes-kept _ _ _ r.0 r.1 c.in-Err.ensures.bytes, prefix_longer _ _ _ _ (more r.0) (prefix_whole _ _ _ r.3))
+    let r = c.loop.invariant.read m e fresh none in (
+      r.0,
+      Consumes-kept _ _ _ r.0 r.1 c.in-Err.ensures.bytes,
+      prefix_longer _ _ _ _ (more r.0) (prefix_whole _ _ _ r.3),
+    )
 
 pub returns-clause-beginning : goal.returns-clause-beginning
 returns-clause-beginning g c = λ m e fresh none more.

@@ -13,7 +13,8 @@ returns-in-Ok-clause-taken c = λ limit p s h done.
     let f = c.args.filter.now in
     let is = c.in-Some.ensures.some ∙ ap Some (sym c.deref_mut.ensures.value) in
     let policy = same_policy limit p s f old is h in
-    let k = subst (λ x. TakesIn {A = Global} false (admits x) limit s c.args.bytes.now c.feed.new.self)
+    let k = subst
+    (λ x. TakesIn {A = Global} false (admits x) limit s c.args.bytes.now c.feed.new.self)
     policy (c.in-Ok.ensures.given false limit s (same_fed limit p s f old is h)) in
     record {
       fed = (
@@ -24,7 +25,8 @@ returns-in-Ok-clause-taken c = λ limit p s h done.
       );
       text = k.1 ∙ ap (λ t. passed_text {A = Global} (Some limit) (admits p) s ++ t)
           (sym (ap text_in c.of.ensures.begun));
-      filtered = c.passed_reads_back.ensures.goes_on (Some limit) (admits p) (s ++ c.args.bytes.now);
+      filtered = c.passed_reads_back.ensures.goes_on (Some limit) (admits p)
+          (s ++ c.args.bytes.now);
     }
 
 pub returns-in-Err-clause-memory : goal.returns-in-Err-clause-memory
