@@ -1,20 +1,19 @@
 //! From a stream to the text of what it means.
 ghost use Rattle.std.specs.Prelude.{◌≡◌, ℕ, List, [], true, Some, IfOk, IfErr, OnOk, OnErr, IfSome, IsTrue, IsErrOf, ◌↔◌, ◌<◌, length};
 ghost use Rattle.esc_normal.specs.Io.{FailsWith, IsReadWhole, Writes, WritesNothing, WritesPrefix, had};
-ghost use Rattle.esc_frame.specs.Stream.{LeadsToWithin};
 ghost use Rattle.esc_actions.specs.Meaning.{meaning, meaning_within};
 ghost use Rattle.esc_actions.specs.Texts.{list_text};
 ghost use Rattle.esc_actions.specs.Writable.{AreWritable};
+ghost use Rattle.esc_parse.specs.Fed.{WasFedWithin};
 ghost use Rattle.memory.specs.Refusals.{Refused};
 
 use crate::normalise_error::NormaliseError;
-use crate::speller::Speller;
+use crate::spell::Spell;
 use crate::watched::Watched;
 use esc_actions::laws;
-use esc_frame::error::ParseError;
-use esc_frame::parser::VTParser;
+use esc_parse::Parser;
 use esc_values::Text;
-use std::alloc::Allocator;
+use std::alloc::{AllocError, Allocator};
 use std::io::{Read, Write};
 
 /// Reads to the end, then writes what [`encode`](esc_write::encode) writes for the actions of the
@@ -194,29 +193,31 @@ fn read_by<R: Read, A: Allocator>(
     }
 }
 
-// The text of what the bytes mean under this limit.
-fn normal_text<A: Allocator + Copy>(
+/// The normal form of these bytes: what [`normalise`] writes for them, or under a limit what
+/// [`normalise_limited`] writes. The error says that a request for memory was refused.
+pub fn normal_text<A: Allocator + Copy>(
     alloc: A,
     bytes: &[u8],
     limit: Option<usize>,
-) -> Result<Text<A>, ParseError>
+) -> Result<Text<A>, AllocError>
     ensures ok { IfOk result (λ t. t ≡ list_text (meaning_within {A = A} limit bytes.now)) }
     ensures refused { OnErr result (Refused A) }
 {
     laws::yield_handed_out::<A>();
-    let mut framer = framer_within(alloc, limit);
-    let mut speller = Speller::new(alloc, limit);
-    framer.parse(bytes, &mut speller)?;
-    Ok(speller.into_text())
+    let (result, spell) = parser_within(alloc, limit).parse_into(bytes, Spell::new(alloc));
+    match result {
+        Ok(()) => Ok(spell.text),
+        Err(_) => Err(AllocError),
+    }
 }
 
 // A parser at the beginning of a stream, with or without a limit.
-fn framer_within<A: Allocator + Copy>(alloc: A, limit: Option<usize>) -> VTParser<A>
-    ensures { LeadsToWithin limit [] result }
+fn parser_within<A: Allocator + Copy>(alloc: A, limit: Option<usize>) -> Parser<A>
+    ensures { WasFedWithin limit [] result }
 {
     match limit {
-        None => VTParser::new(alloc),
-        Some(limit) => VTParser::with_limit(alloc, limit),
+        None => Parser::new(alloc),
+        Some(limit) => Parser::with_limit(alloc, limit),
     }
 }
 

@@ -6,14 +6,11 @@ ghost use Rattle.esc_sequences.specs.Csis.{csi_text, unspecified};
 ghost use Rattle.esc_frame.specs.Scans.{is_text_byte};
 ghost use Rattle.esc_actions.specs.Texts.{has_text, is_string, text_after};
 ghost use Rattle.esc_actions.specs.Values.{value_of};
-ghost use Rattle.esc_osc.specs.Commands.{command_text};
-ghost use Rattle.esc_osc.specs.declared.command.OperatingSystemCommand.{OperatingSystemCommand};
 ghost use Rattle.esc_write.specs.Plain.{short_text};
 ghost use Rattle.esc_normal.specs.Spelled.{Denies};
 ghost use Rattle.memory.specs.Refusals.{Refused};
 
 use esc_actions::Action;
-use esc_osc::OperatingSystemCommand;
 use esc_parse::Sink;
 use esc_values::{CsiParam, Text};
 use esc_write::commands::verbatim;
@@ -92,35 +89,8 @@ impl<A: Allocator> Spell<A> {
         Ok(())
     }
 
-    // Appends the text of a command.
-    fn write_display(&mut self, command: &OperatingSystemCommand<A>) -> Result<(), AllocError>
-        ensures ok { OnOk result ((self.new.text ≡ self.old.text ++ command_text command.now)
-            × (self.new.follows_string ≡ true)) }
-        ensures refused { OnErr result (Refused A) }
-    {
-        self.text.push_display(command)?;
-        self.follows_string = true;
-        Ok(())
-    }
-
-    // Appends the text of a command that was made, where there was memory for it.
-    pub(crate) fn write_command(
-        &mut self,
-        command: Result<OperatingSystemCommand<A>, AllocError>,
-    ) -> Result<(), AllocError>
-        ensures ok { OnOk result ((c : OperatingSystemCommand A) × (command ≡ Ok c)
-            × (self.new.text ≡ self.old.text ++ command_text c)
-            × (self.new.follows_string ≡ true)) }
-        ensures refused { OnErr command (Refused A) → OnErr result (Refused A) }
-    {
-        match command {
-            Ok(command) => self.write_display(&command),
-            Err(error) => Err(error),
-        }
-    }
-
     // Appends the text of a command that is written as it came.
-    pub(crate) fn write_verbatim(&mut self, text: &str) -> Result<(), AllocError>
+    fn write_verbatim(&mut self, text: &str) -> Result<(), AllocError>
         ensures ok { OnOk result ((self.new.text ≡ self.old.text ++ framed text.now)
             × (self.new.follows_string ≡ true)) }
         ensures refused { OnErr result (Refused A) }

@@ -5,9 +5,9 @@ ghost use Rattle.esc_actions.specs.Texts.{list_text};
 ghost use Rattle.esc_actions.specs.Writable.{AreWritable};
 ghost use Rattle.memory.specs.Refusals.{Refused};
 
-use crate::spelled::normal_text;
 use crate::{DONE, NO_MEMORY};
 use esc_actions::laws;
+use esc_normal::normal_text;
 use std::alloc::Global;
 
 /// Writes to `answer` whether the stream `bytes` is its own normal form: the text that
@@ -25,7 +25,7 @@ pub extern "C" fn escape_stream_is_normal(alloc: Global, bytes: &[u8], answer: &
     ensures memory { result ≡ NO_MEMORY → Refused Global }
 {
     laws::normal_once::<Global>();
-    match normal_text(alloc, bytes) {
+    match normal_text(alloc, bytes, None) {
         Ok(text) => {
             *answer = text.as_bytes() == bytes;
             DONE

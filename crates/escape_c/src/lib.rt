@@ -19,7 +19,6 @@ mod output;
 mod parts;
 mod piece_filter;
 mod pieces;
-mod spelled;
 mod state;
 
 pub use filter::escape_stream_filter;

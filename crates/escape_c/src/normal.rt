@@ -5,8 +5,8 @@ ghost use Rattle.esc_actions.specs.Texts.{list_text};
 ghost use Rattle.memory.specs.Refusals.{Refused};
 
 use crate::output::put;
-use crate::spelled::normal_text;
 use crate::{DONE, NO_MEMORY};
+use esc_normal::normal_text;
 use std::alloc::Global;
 
 /// Writes the normal form of the stream `bytes` to `out`, as much of it as fits, and its length in
@@ -30,7 +30,7 @@ pub extern "C" fn escape_stream_normal(
         × (needed.new ≡ needed.old) }
     ensures memory { result ≡ NO_MEMORY → Refused Global }
 {
-    match normal_text(alloc, bytes) {
+    match normal_text(alloc, bytes, None) {
         Ok(text) => {
             *needed = put(text.as_bytes(), out);
             DONE
