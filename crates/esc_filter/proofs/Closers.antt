@@ -19,9 +19,8 @@ use Rattle.esc_osc.specs.declared.command.OperatingSystemCommand.TheVariants as 
 use Rattle.esc_actions.specs.Texts.{is_string, is_terminator, list_text, texts_after, whole_text}
 use Rattle.esc_actions.specs.Values.{Value, csi, esc, osc}
 use Rattle.esc_actions.specs.Writable.{AreWritable, AreWritableFrom, IsWritable, is_within, stays_within}
-use Rattle.esc_filter.specs.Closing.{after_values, closed, closing, give, given_back, is_any, is_left, is_set, private_mode, unchanged}
+use Rattle.esc_filter.specs.Closing.{Left, after_values, closed, closing, give, given_back, is_any, is_left, is_set, private_mode, unchanged}
 use Rattle.esc_filter.specs.GivenBack.{text_given_back}
-use Rattle.esc_filter.specs.declared.left.Left.{Left}
 use Rattle.esc_filter.specs.declared.left.TheConstants.{ALTERNATE, CLEARED, HELD, HIDDEN, INSERT, LINK, MARGINS, NO_WRAP, ORIGIN, RENDITION, REVERSE, SAVED, SIDES}
 use Rattle.esc_filter.specs.Texts.{ends_in_string}
 use Rattle.esc_filter.proofs.Lights.{end_writable}
@@ -48,53 +47,14 @@ module _ (A : Type 0) where
     rw one refl,
   )
 
-  m47 : IsWritable {A = A} (private_mode 47 0x6c)
-  unfolding class_of kept_csi_params has_more_csi_params is_csi_body encode digits
-  m47 = csi_writable (codes "?47") 0x6c (unspecified (P 0x3f ∷ Integer (pos 47) ∷ []) false 0x6c)
-      refl refl refl refl refl
-
-  m1047 : IsWritable {A = A} (private_mode 1047 0x6c)
-  unfolding class_of kept_csi_params has_more_csi_params is_csi_body encode digits
-  m1047 = csi_writable (codes "?1047") 0x6c
-      (unspecified (P 0x3f ∷ Integer (pos 1047) ∷ []) false 0x6c)
-      refl refl refl refl refl
-
-  m1049 : IsWritable {A = A} (private_mode 1049 0x6c)
-  unfolding class_of kept_csi_params has_more_csi_params is_csi_body encode digits
-  m1049 = csi_writable (codes "?1049") 0x6c
-      (unspecified (P 0x3f ∷ Integer (pos 1049) ∷ []) false 0x6c)
-      refl refl refl refl refl
-
-  m69 : IsWritable {A = A} (private_mode 69 0x6c)
-  unfolding class_of kept_csi_params has_more_csi_params is_csi_body encode digits
-  m69 = csi_writable (codes "?69") 0x6c (unspecified (P 0x3f ∷ Integer (pos 69) ∷ []) false 0x6c)
-      refl refl refl refl refl
-
-  m6 : IsWritable {A = A} (private_mode 6 0x6c)
-  unfolding class_of kept_csi_params has_more_csi_params is_csi_body encode digits
-  m6 = csi_writable (codes "?6") 0x6c (unspecified (P 0x3f ∷ Integer (pos 6) ∷ []) false 0x6c)
-      refl refl refl refl refl
-
-  m25 : IsWritable {A = A} (private_mode 25 0x68)
-  unfolding class_of kept_csi_params has_more_csi_params is_csi_body encode digits
-  m25 = csi_writable (codes "?25") 0x68 (unspecified (P 0x3f ∷ Integer (pos 25) ∷ []) false 0x68)
-      refl refl refl refl refl
-
-  m5 : IsWritable {A = A} (private_mode 5 0x6c)
-  unfolding class_of kept_csi_params has_more_csi_params is_csi_body encode digits
-  m5 = csi_writable (codes "?5") 0x6c (unspecified (P 0x3f ∷ Integer (pos 5) ∷ []) false 0x6c)
-      refl refl refl refl refl
-
-  m7 : IsWritable {A = A} (private_mode 7 0x68)
-  unfolding class_of kept_csi_params has_more_csi_params is_csi_body encode digits
-  m7 = csi_writable (codes "?7") 0x68 (unspecified (P 0x3f ∷ Integer (pos 7) ∷ []) false 0x68)
-      refl refl refl refl refl
-
-  m2026 : IsWritable {A = A} (private_mode 2026 0x6c)
-  unfolding class_of kept_csi_params has_more_csi_params is_csi_body encode digits
-  m2026 = csi_writable (codes "?2026") 0x6c
-      (unspecified (P 0x3f ∷ Integer (pos 2026) ∷ []) false 0x6c)
-      refl refl refl refl refl
+  -- a private mode, by the text of its body
+  private : (n : ℕ) (x : List ℕ) (f : ℕ) → list_all is_body_byte x ≡ true
+      → is_csi_body x ≡ true → ends_csi (class_of f) ≡ true
+      → csi_text (unspecified (P 0x3f ∷ Integer (pos n) ∷ []) false f) ≡ (0x1b ∷ 0x5b ∷ x) ++ f ∷ []
+      → csi_of (kept_csi_params x) (has_more_csi_params x) f
+      ≡ unspecified (P 0x3f ∷ Integer (pos n) ∷ []) false f ∷ []
+      → IsWritable {A = A} (private_mode n f)
+  private n x f = csi_writable x f (unspecified (P 0x3f ∷ Integer (pos n) ∷ []) false f)
 
   margins : IsWritable {A = A} (csi (unspecified [] false 0x72))
   unfolding class_of kept_csi_params has_more_csi_params is_csi_body encode digits
@@ -131,21 +91,31 @@ module _ (A : Type 0) where
   more false v vs i s w h = h
 
   pub back_writable : (o : Left) → AreWritable (given_back {A = A} o)
+  unfolding class_of kept_csi_params has_more_csi_params is_csi_body encode digits
   back_writable o =
-      more (is_left o ALTERNATE) (private_mode 47 0x6c) _ refl refl m47
-      (more (is_left o CLEARED) (private_mode 1047 0x6c) _ refl refl m1047
-      (more (is_left o SAVED) (private_mode 1049 0x6c) _ refl refl m1049
-      (more (is_left o SIDES) (private_mode 69 0x6c) _ refl refl m69
-      (more (is_left o ORIGIN) (private_mode 6 0x6c) _ refl refl m6
+      more (is_left o ALTERNATE) (private_mode 47 0x6c) _ refl refl
+      (private 47 (codes "?47") 0x6c refl refl refl refl refl)
+      (more (is_left o CLEARED) (private_mode 1047 0x6c) _ refl refl
+      (private 1047 (codes "?1047") 0x6c refl refl refl refl refl)
+      (more (is_left o SAVED) (private_mode 1049 0x6c) _ refl refl
+      (private 1049 (codes "?1049") 0x6c refl refl refl refl refl)
+      (more (is_left o SIDES) (private_mode 69 0x6c) _ refl refl
+      (private 69 (codes "?69") 0x6c refl refl refl refl refl)
+      (more (is_left o ORIGIN) (private_mode 6 0x6c) _ refl refl
+      (private 6 (codes "?6") 0x6c refl refl refl refl refl)
       (more (is_left o MARGINS) (esc (esc_variant.Unspecified None 0x37)) _ refl refl save
       (more (is_left o MARGINS) (csi (unspecified [] false 0x72)) _ refl refl margins
       (more (is_left o MARGINS) (esc (esc_variant.Unspecified None 0x38)) _ refl refl restore
       (more (is_left o INSERT) (csi (unspecified (Integer (pos 4) ∷ []) false 0x6c)) _ refl refl
       replaced
-      (more (is_left o HIDDEN) (private_mode 25 0x68) _ refl refl m25
-      (more (is_left o REVERSE) (private_mode 5 0x6c) _ refl refl m5
-      (more (is_left o NO_WRAP) (private_mode 7 0x68) _ refl refl m7
-      (more (is_left o HELD) (private_mode 2026 0x6c) _ refl refl m2026
+      (more (is_left o HIDDEN) (private_mode 25 0x68) _ refl refl
+      (private 25 (codes "?25") 0x68 refl refl refl refl refl)
+      (more (is_left o REVERSE) (private_mode 5 0x6c) _ refl refl
+      (private 5 (codes "?5") 0x6c refl refl refl refl refl)
+      (more (is_left o NO_WRAP) (private_mode 7 0x68) _ refl refl
+      (private 7 (codes "?7") 0x68 refl refl refl refl refl)
+      (more (is_left o HELD) (private_mode 2026 0x6c) _ refl refl
+      (private 2026 (codes "?2026") 0x6c refl refl refl refl refl)
       (more (is_left o RENDITION) (csi (sgr Reset)) _ refl refl reset
       (more (is_left o LINK) (osc (command.SetHyperlink None)) [] refl refl end_writable
       refl))))))))))))))
@@ -207,7 +177,7 @@ module _ {A : Type 0} where
   -- nothing is given back where nothing is left changed
   pub nothing_back : (o : Left) → is_any o ≡ false → given_back {A = A} o ≡ []
   nothing_back o h =
-      let n = none_set o.places h in
+      let n = none_set o h in
       rw (
         n ALTERNATE,
         n CLEARED,

@@ -1,5 +1,5 @@
 -- Whether renditions are on after a control sequence, and a link is left after a command.
-use Rattle.std.proofs.Common.{◌≡◌, ◌≢◌, ℕ, ℤ, pos, negsuc, ◌<◌, length, ◌==◌, Bool, true, false, not, if◌then◌else◌, List, [], ◌∷◌, ◌++◌, codes, Option, Some, None, refl, sym, ap, ◌∙◌, subst, drop, arith}
+use Rattle.std.proofs.Common.{◌≡◌, ◌≢◌, ℕ, ℤ, pos, ◌<◌, length, ◌==◌, Bool, true, false, not, if◌then◌else◌, List, [], ◌∷◌, codes, Option, Some, None, refl, sym, ap, ◌∙◌, subst, drop, arith}
 use Rattle.std.specs.Prelude.{is_some, unwrap_or}
 use Rattle.std.specs.List.{onto_first, slice_split}
 use Rattle.std.proofs.lemmas.List.{append_cancel_right}
@@ -9,7 +9,7 @@ use Rattle.std.proofs.lemmas.Bool.Decides.{nat_tests}
 use Rattle.esc_values.specs.Clear.{framed, parts_of}
 use Rattle.esc_values.specs.declared.csi_param.CsiParam.{CsiParam}
 use Rattle.esc_values.specs.declared.csi_param.CsiParam.TheVariants.{Integer, P}
-use Rattle.esc_sequences.specs.Csis.{CsiValue, csi_of, is_separator, named, numbered, put_first, rendition, renditions, sgr, unspecified}
+use Rattle.esc_sequences.specs.Csis.{csi_of, is_separator, named, numbered, put_first, rendition, renditions, sgr, unspecified}
 use Rattle.esc_sequences.specs.declared.sgr.Sgr.{Sgr}
 use Rattle.esc_sequences.specs.declared.sgr.Sgr.TheVariants as sgr_variant
 use Rattle.esc_links.specs.declared.hyperlink.Hyperlink.{Hyperlink}
@@ -20,9 +20,8 @@ use Rattle.esc_osc.specs.Reading.{meaning}
 use Rattle.esc_osc.specs.declared.command.OperatingSystemCommand.{OperatingSystemCommand}
 use Rattle.esc_osc.specs.declared.command.OperatingSystemCommand.TheVariants as command
 use Rattle.esc_write.specs.Plain.{IsPlainLink}
-use Rattle.esc_filter.specs.Closing.{BeginsWith, Turns, after_command, after_sequence, is_reset, turned}
+use Rattle.esc_filter.specs.Closing.{Left, BeginsWith, Turns, after_body, after_command, is_reset, turned}
 use Rattle.esc_filter.specs.Rules.{is_link}
-use Rattle.esc_filter.specs.declared.left.Left.{Left}
 use Rattle.esc_filter.specs.declared.left.TheConstants.{LINK, RENDITION}
 
 -- ---- one number
@@ -130,6 +129,12 @@ large_turns k rest h =
 pub first_turns : (es : List CsiParam) (n : ℕ) → BeginsWith n es → 24 < n → Turns es true
 first_turns es n (rest, e) h = subst (λ x. Turns x true) (sym e) (large_turns n rest h)
 
+-- no other final byte changes anything
+pub others_stay : (f : ℕ) (es : List CsiParam) (o : Left) → (f == 0x68) ≡ false
+    → (f == 0x6c) ≡ false → (f == 0x6d) ≡ false → (f == 0x71) ≡ false → (f == 0x72) ≡ false
+    → (f == 0x75) ≡ false → (f == 0x7d) ≡ false → after_body es f o ≡ o
+others_stay f es o h l m q r u b = rw (h, l, m, q, r, u, b) refl
+
 -- ---- a command
 
 -- the end of a link can be written
@@ -161,3 +166,6 @@ module _ (A : Type 0) where
   ends t o e back =
       ap (λ c. after_command {A = A} c o) (sym (back (command.SetHyperlink None) end_writable))
       ∙ ap (λ x. after_command (meaning {A = A} (parts_of x)) o) (sym e)
+
+-- what a sequence of no parameter, of one and of some turns, for `grind`
+pub ruleset turning = (nothing_turns, lone_turns, first_turns)

@@ -1,8 +1,8 @@
 -- Where a line feed comes first, and last.
-use Rattle.std.proofs.Common.{ℕ, zero, suc, ◌≡◌, ◌≤◌, ◌<◌, ◌+◌, ◌-◌, Bool, true, false, List, [], ◌∷◌, ◌++◌, length, take, get_or, refl, ap, ◌∙◌, arith}
+use Rattle.std.proofs.Common.{ℕ, zero, suc, ◌≡◌, ◌≤◌, ◌<◌, ◌+◌, true, false, List, [], ◌∷◌, ◌++◌, length, take, get_or, refl, ap, ◌∙◌, arith}
 use Rattle.std.proofs.lemmas.Bool.{false_from_ne_true}
 use Rattle.std.proofs.lemmas.Bool.Decides.{nat_tests}
-use Rattle.esc_filter.specs.Lines.{is_line_feed, has_line_feed, IsLine, ends_line}
+use Rattle.esc_filter.specs.Lines.{is_line_feed, has_line_feed, IsLine}
 
 pub no_line : (x : List ℕ)
     → ((k : ℕ) → 0 ≤ k → k < length x → is_line_feed (get_or x k 0) ≡ true → ⊥)

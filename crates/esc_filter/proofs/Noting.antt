@@ -1,5 +1,5 @@
 -- What writes actions and notes what they leave changed, of runs, sequences and commands.
-use Rattle.std.proofs.Common.{◌≡◌, ℕ, Bool, true, false, not, ◌&&◌, List, [], ◌∷◌, map, refl, sym, subst, ap, ◌∙◌, inl, inr, IfOk, OnErr, Result}
+use Rattle.std.proofs.Common.{◌≡◌, ℕ, Bool, true, false, ◌&&◌, List, [], ◌∷◌, map, refl, sym, subst, ap, ◌∙◌, inl, inr, IfOk, OnErr, Result}
 use Rattle.std.specs.Prelude.{IsTrue}
 use Rattle.std.specs.List.{FoldsTo}
 use Rattle.std.proofs.lemmas.Result.{on_err_weaker}
@@ -16,10 +16,9 @@ use Rattle.esc_normal.specs.Spelled.{Adds, Denies}
 use Rattle.esc_normal.specs.declared.spell.Spell.{Spell}
 use Rattle.esc_normal.proofs.Spelling.{IsCommand, IsSequence}
 use Rattle.esc_filter.proofs.Results.{stops_for}
-use Rattle.esc_filter.specs.Closing.{after_command, after_sequence, after_value}
-use Rattle.esc_filter.specs.Noted.{Notes, Stays, Goes, WriteDenies}
+use Rattle.esc_filter.specs.Closing.{Left, after_command, after_sequence, after_value}
+use Rattle.esc_filter.specs.Noted.{Notes, WriteDenies}
 use Rattle.esc_filter.specs.Passing.{is_line_feed}
-use Rattle.esc_filter.specs.declared.left.Left.{Left}
 use Rattle.esc_filter.specs.declared.written.Written.{Written}
 
 module _ {A : Type 0} where

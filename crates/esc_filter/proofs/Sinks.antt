@@ -2,15 +2,13 @@
 use Rattle.std.proofs.Common.{◌≡◌, Option, ℕ, Bool, true, false, not, ◌&&◌, cond, List, [], ◌∷◌, ◌++◌, refl, sym, subst, ap, ◌∙◌, append_assoc, append-nil}
 use Rattle.std.specs.List.{FoldsTo, filter}
 use Rattle.esc_parse.specs.Given.{At}
-use Rattle.esc_normal.specs.Spelled.{Adds}
-use Rattle.esc_normal.specs.declared.spell.Spell.{Spell}
 use Rattle.esc_actions.specs.Meaning.{yield_within}
 use Rattle.esc_actions.specs.Texts.{is_string, text_after, texts_after}
 use Rattle.esc_actions.specs.Values.{Value, value_of}
 use Rattle.esc_actions.specs.declared.action.Action.{Action}
-use Rattle.esc_filter.specs.Closing.{after_value, after_values, unchanged}
+use Rattle.esc_filter.specs.Closing.{after_value, after_values}
 use Rattle.esc_filter.specs.Fed.{Takes}
-use Rattle.esc_filter.specs.Noted.{Goes, HasNoted, Notes, Stays}
+use Rattle.esc_filter.specs.Noted.{Goes, HasNoted, Stays}
 use Rattle.esc_filter.proofs.Texts.{end_longer, left_longer, text_longer}
 use Rattle.esc_filter.specs.Passing.{in_lines, is_line_feed, is_whole, passed, passed_text, passes}
 use Rattle.esc_filter.specs.Texts.{ends_in_string}

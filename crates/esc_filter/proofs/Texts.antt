@@ -6,8 +6,7 @@ use Rattle.esc_actions.proofs.Meanings.{meaning_more}
 use Rattle.esc_actions.specs.Meaning.{meaning_within, yield_within}
 use Rattle.esc_actions.specs.Texts.{is_string, list_text, text_after, texts_after}
 use Rattle.esc_actions.specs.Values.{Value}
-use Rattle.esc_filter.specs.Closing.{after_value, after_values, unchanged}
-use Rattle.esc_filter.specs.declared.left.Left.{Left}
+use Rattle.esc_filter.specs.Closing.{Left, after_value, after_values, unchanged}
 use Rattle.esc_filter.specs.Passing.{passed, passed_text, passes}
 use Rattle.esc_filter.specs.Texts.{ends_in_string}
 

@@ -11,33 +11,34 @@ use Rattle.esc_values.specs.declared.csi_param.CsiParam.TheVariants.{Integer, P}
 use Rattle.esc_osc.specs.declared.command.OperatingSystemCommand.{OperatingSystemCommand}
 use Rattle.esc_osc.specs.declared.command.OperatingSystemCommand.TheVariants as command
 use Rattle.esc_actions.specs.Values.{Value, esc, csi, osc}
-use Rattle.esc_filter.specs.declared.left.Left.{Left}
 use Rattle.esc_filter.specs.declared.left.TheConstants.{ALTERNATE, CLEARED, HELD, HIDDEN, INSERT, LINK, MARGINS, NO_WRAP, ORIGIN, RENDITION, REVERSE, SAVED, SIDES}
 
 -- ---- what is left changed
 
+-- whether each of the places is left changed
+abbrev pub Left : Type 0
+Left = List Bool
+
 -- nothing
 abbrev pub unchanged : Left
-unchanged = record {
-  places = false ∷ false ∷ false ∷ false ∷ false ∷ false ∷ false ∷ false
-      ∷ false ∷ false ∷ false ∷ false ∷ false
-      ∷ [];
-}
+unchanged =
+    false ∷ false ∷ false ∷ false ∷ false ∷ false ∷ false ∷ false ∷ false ∷ false ∷ false ∷ false
+    ∷ false ∷ []
 
 -- whether what has this place is
 abbrev pub is_left : Left → ℕ → Bool
-is_left o p = get_or o.places p false
+is_left o p = get_or o p false
 
 abbrev pub is_set : Bool → Bool
 is_set b = b
 
 -- whether anything is
 abbrev pub is_any : Left → Bool
-is_any o = list_any is_set o.places
+is_any o = list_any is_set o
 
 -- it is now, or it is not any more
 abbrev pub turned : Left → ℕ → Bool → Left
-turned o p b = record o { places = set o.places p b }
+turned o p b = set o p b
 
 -- renditions, where they are saved now or restored, may be on
 abbrev pub lit : Left → Left
@@ -114,6 +115,12 @@ abbrev pub Turns : List CsiParam → Bool → Type 0
 Turns es b = (v : CsiValue) × (csi_of es false 0x6d ≡ v ∷ [])
     × ((o : Left) → after_sequence v o ≡ turned o RENDITION b)
 
+-- after a sequence of these parameters, where it is known whether renditions are on then, or its
+-- body says what it leaves changed
+abbrev pub noted : Option Bool → List CsiParam → ℕ → Left → Left
+noted None es f o = after_body es f o
+noted (Some b) es f o = turned o RENDITION b
+
 -- this number comes first
 abbrev pub BeginsWith : ℕ → List CsiParam → Type 0
 BeginsWith n es = (rest : List CsiParam) × (es ≡ Integer (pos n) ∷ rest)
@@ -127,6 +134,11 @@ after_escape (esc_variant.Code c) o = o
 abbrev pub after_command : {A : Type 0} → OperatingSystemCommand A → Left → Left
 after_command (command.SetHyperlink link) o = turned o LINK (is_some link)
 after_command _ o = o
+
+-- a link is left now, or is not any more; or all is as it was
+abbrev pub linked : Option Bool → Left → Left
+linked None o = o
+linked (Some b) o = turned o LINK b
 
 -- after a value
 abbrev pub after_value : {A : Type 0} → Value A → Left → Left

@@ -1,7 +1,6 @@
 -- The text of what gives back what is left changed.
-use Rattle.std.specs.Prelude.{ℕ, Bool, if◌then◌else◌, List, [], ◌∷◌, ◌++◌, codes}
-use Rattle.esc_filter.specs.Closing.{is_left, joined}
-use Rattle.esc_filter.specs.declared.left.Left.{Left}
+use Rattle.std.specs.Prelude.{ℕ, if◌then◌else◌, List, [], ◌∷◌, ◌++◌, codes}
+use Rattle.esc_filter.specs.Closing.{Left, is_left, joined}
 use Rattle.esc_filter.specs.declared.left.TheConstants.{ALTERNATE, CLEARED, HELD, HIDDEN, INSERT, LINK, MARGINS, NO_WRAP, ORIGIN, RENDITION, REVERSE, SAVED, SIDES}
 
 -- the text t, where what has this place is left changed

@@ -1,11 +1,12 @@
 //! What a stream leaves changed at a terminal.
-ghost use Rattle.std.specs.Prelude.{ℕ, ◌≡◌, ◌<◌, ◌++◌, ◌∷◌, [], pos, true, IfSome, IsTrue, OnErr, OnOk, false, if◌then◌else◌};
+ghost use Rattle.std.specs.Prelude.{ℕ, List, ◌≡◌, ◌<◌, ◌++◌, ◌∷◌, [], pos, true, IfSome, IsTrue, OnErr, OnOk, false, if◌then◌else◌};
 ghost use Rattle.esc_values.specs.Clear.{parts_of};
 ghost use Rattle.esc_sequences.specs.Csis.{CsiValue, csi_of, csi_value};
+ghost use Rattle.esc_values.specs.declared.csi_param.CsiParam.{CsiParam};
 ghost use Rattle.esc_values.specs.declared.csi_param.CsiParam.TheVariants.{Integer};
 ghost use Rattle.esc_actions.specs.Values.{value_of};
 ghost use Rattle.esc_osc.specs.Reading.{meaning as command_meant};
-ghost use Rattle.esc_filter.specs.Closing.{BeginsWith, after_body, after_command, after_escape, after_mode, after_param, after_params, after_private, after_sequence, after_value, is_any, is_left, is_marked, is_private, is_reset, is_set, lit, restores, turned, unchanged, Turns};
+ghost use Rattle.esc_filter.specs.Closing.{BeginsWith, Left, after_body, after_command, after_escape, after_mode, after_param, after_params, after_private, after_sequence, after_value, is_any, is_left, is_marked, is_private, is_reset, is_set, linked, lit, noted, restores, turned, unchanged, Turns};
 ghost use Rattle.esc_filter.specs.GivenBack.{text_given_back};
 ghost use Rattle.memory.specs.Refusals.{Refused};
 
@@ -17,6 +18,7 @@ use esc_sequences::{CSI, Esc, Sgr};
 use esc_values::{CsiParam, Text};
 use esc_write::is_plain_link;
 use std::alloc::{AllocError, Allocator};
+use std::marker::Model;
 
 // The places of what can be left changed: renditions; a link; characters that are inserted; the
 // origin; margins; left and right margins; a hidden cursor; reversed colours; lines that do not
@@ -47,10 +49,23 @@ pub(crate) const CLEARED: usize = 11;
 
 pub(crate) const SAVED: usize = 12;
 
-/// What the actions so far left changed at a terminal, by place.
-#[derive(Clone, Copy, Debug)]
+/// What the actions so far left changed at a terminal, by place. Contracts see whether each is.
+#[derive(Debug, Drop)]
 pub(crate) struct Left {
     places: [bool; 13],
+    // whether one was turned
+    is_touched: bool,
+}
+
+impl Model for Left {
+    ghost use Rattle.std.specs.Prelude.{◌≡◌, Bool, List, false};
+    ghost use Rattle.std.specs.List.{list_any};
+
+    ghost Value = { List Bool };
+
+    ghost view = { λ o. o.places };
+
+    ghost invariant = { λ o. o.is_touched ≡ false → list_any (λ b. b) o.places ≡ false };
 }
 
 impl Left {
@@ -63,6 +78,7 @@ impl Left {
                 false, false, false, false, false, false, false, false, false, false, false, false,
                 false,
             ],
+            is_touched: false,
         }
     }
 
@@ -71,7 +87,7 @@ impl Left {
     pub fn is_any(&self) -> bool
         ensures { result ≡ is_any self.now }
     {
-        self.places.iter().any(is_set)
+        self.is_touched && self.places.iter().any(is_set)
     }
 
     // Whether what has this place is.
@@ -82,185 +98,166 @@ impl Left {
         self.places[place]
     }
 
-    // The same, where what has this place is now, or is not any more.
+    // What has this place is changed now, or is not any more.
     #[inline]
-    fn turned(self, place: usize, is: bool) -> Left
+    fn turn(&mut self, place: usize, is: bool)
         requires { place < 13 }
-        ensures { result ≡ turned self place is }
+        ensures { self.new ≡ turned self.old place is }
     {
-        let mut places = self.places;
-        places[place] = is;
-        Left { places }
+        self.places[place] = is;
+        self.is_touched = true;
     }
 
-    // The same, where renditions may be on.
+    // Renditions may be on.
     #[inline]
-    fn lit(self) -> Left
-        ensures { result ≡ lit self }
+    fn light(&mut self)
+        ensures { self.new ≡ lit self.old }
     {
-        self.turned(RENDITION, true)
+        self.turn(RENDITION, true);
     }
 
-    /// After an action.
-    #[inline]
-    pub fn after<A: Allocator>(self, action: &Action<A>) -> Left
-        ensures { result ≡ after_value (value_of action.now) self }
+    /// Notes an action.
+    pub fn note<A: Allocator>(&mut self, action: &Action<A>)
+        ensures { self.new ≡ after_value (value_of action.now) self.old }
     {
         match action {
-            Action::Esc(esc) => self.after_escape(*esc),
-            Action::CSI(csi) => self.after_csi(csi),
-            Action::OperatingSystemCommand(command) => self.after_command(command.as_ref()),
-            _ => self,
+            Action::Esc(esc) => self.note_escape(*esc),
+            Action::CSI(csi) => self.note_csi(csi),
+            Action::OperatingSystemCommand(command) => self.note_command(command.as_ref()),
+            _ => {}
         }
     }
 
-    // After an escape sequence. DECRC restores renditions.
-    fn after_escape(self, esc: Esc) -> Left
-        ensures { result ≡ after_escape esc self }
+    // Notes an escape sequence. DECRC restores renditions.
+    fn note_escape(&mut self, esc: Esc)
+        ensures { self.new ≡ after_escape esc self.old }
     {
         match esc {
             Esc::Unspecified {
                 intermediate: None,
                 control: b'8',
-            } => self.lit(),
-            _ => self,
+            } => self.light(),
+            _ => {}
         }
     }
 
-    fn after_csi<A: Allocator>(self, csi: &CSI<A>) -> Left
-        ensures { result ≡ after_sequence (csi_value csi.now) self }
+    fn note_csi<A: Allocator>(&mut self, csi: &CSI<A>)
+        ensures { self.new ≡ after_sequence (csi_value csi.now) self.old }
     {
         match csi {
-            CSI::Sgr(sgr) => self.turned(RENDITION, !is_reset(*sgr)),
+            CSI::Sgr(sgr) => self.turn(RENDITION, !is_reset(*sgr)),
             CSI::Unspecified(sequence) => {
                 let sequence = sequence.as_ref();
-                self.after_body(sequence.params.as_slice(), sequence.control)
+                self.note_body(sequence.params.as_slice(), sequence.control);
             }
         }
     }
 
-    fn after_command<A: Allocator>(self, command: &OperatingSystemCommand<A>) -> Left
-        ensures { result ≡ after_command command.now self }
+    fn note_command<A: Allocator>(&mut self, command: &OperatingSystemCommand<A>)
+        ensures { self.new ≡ after_command command.now self.old }
     {
         match command {
-            OperatingSystemCommand::SetHyperlink(link) => self.turned(LINK, link.is_some()),
-            _ => self,
+            OperatingSystemCommand::SetHyperlink(link) => self.turn(LINK, link.is_some()),
+            _ => {}
         }
     }
 
-    // After a control sequence that has no name of its own.
-    fn after_body(self, params: &[CsiParam], control: u8) -> Left
-        ensures { result ≡ after_body params.now control self }
+    // Notes a control sequence that has no name of its own.
+    fn note_body(&mut self, params: &[CsiParam], control: u8)
+        ensures { self.new ≡ after_body params.now control self.old }
     {
         match control {
-            b'm' => self.lit(),
-            b'h' => self.after_params(is_private(params), true, params),
-            b'l' => self.after_params(is_private(params), false, params),
-            b'r' => self.lit().turned(MARGINS, !params.is_empty()),
-            _ if restores(params, control) => self.lit(),
-            _ => self,
+            b'm' => self.light(),
+            b'h' => self.note_params(is_private(params), true, params),
+            b'l' => self.note_params(is_private(params), false, params),
+            b'r' => {
+                self.light();
+                self.turn(MARGINS, !params.is_empty());
+            }
+            _ if restores(params, control) => self.light(),
+            _ => {}
         }
     }
 
-    // After modes that are set or reset.
-    fn after_params(self, is_private: bool, is_set: bool, params: &[CsiParam]) -> Left
-        ensures { result ≡ after_params is_private is_set params.now self }
+    /// Notes a control sequence, after which renditions are on, or not, where that is known.
+    #[inline]
+    pub fn note_sequence(&mut self, is_on: Option<bool>, params: &[CsiParam], control: u8)
+        ensures { self.new ≡ noted is_on params.now control self.old }
+    {
+        if let Some(is_on) = is_on {
+            self.turn(RENDITION, is_on);
+            return;
+        }
+        if may_change(control) {
+            self.note_body(params, control);
+        }
+    }
+
+    // Notes modes that are set or reset.
+    fn note_params(&mut self, is_private: bool, is_set: bool, params: &[CsiParam])
+        ensures { self.new ≡ after_params is_private is_set params.now self.old }
     {
         let mut rest = params;
-        let mut left = self;
         while let Some((first, after)) = rest.split_first() {
-            left = left.after_param(is_private, is_set, *first);
+            self.note_param(is_private, is_set, *first);
             rest = after;
         }
-        left
     }
 
-    fn after_param(self, is_private: bool, is_set: bool, param: CsiParam) -> Left
-        ensures { result ≡ after_param is_private is_set param self }
+    fn note_param(&mut self, is_private: bool, is_set: bool, param: CsiParam)
+        ensures { self.new ≡ after_param is_private is_set param self.old }
     {
         let CsiParam::Integer(number) = param else {
-            return self;
+            return;
         };
         if number < 0 {
-            self
-        } else if is_private {
-            self.after_private(number as u64, is_set)
+            return;
+        }
+        if is_private {
+            self.note_private(number as u64, is_set);
         } else {
-            self.after_mode(number as u64, is_set)
+            self.note_mode(number as u64, is_set);
         }
     }
 
-    // After the private mode of this number was set or reset.
-    fn after_private(self, number: u64, is_set: bool) -> Left
-        ensures { result ≡ after_private number is_set self }
+    // Notes that the private mode of this number was set or reset.
+    fn note_private(&mut self, number: u64, is_set: bool)
+        ensures { self.new ≡ after_private number is_set self.old }
     {
         match number {
-            5 => self.turned(REVERSE, is_set),
-            6 => self.turned(ORIGIN, is_set),
-            7 => self.turned(NO_WRAP, !is_set),
-            25 => self.turned(HIDDEN, !is_set),
-            47 => self.turned(ALTERNATE, is_set),
-            69 => self.turned(SIDES, is_set),
-            1047 => self.turned(CLEARED, is_set),
-            1048 => self.lit(),
-            1049 => self.lit().turned(SAVED, is_set),
-            2026 => self.turned(HELD, is_set),
-            _ => self,
+            5 => self.turn(REVERSE, is_set),
+            6 => self.turn(ORIGIN, is_set),
+            7 => self.turn(NO_WRAP, !is_set),
+            25 => self.turn(HIDDEN, !is_set),
+            47 => self.turn(ALTERNATE, is_set),
+            69 => self.turn(SIDES, is_set),
+            1047 => self.turn(CLEARED, is_set),
+            1048 => self.light(),
+            1049 => {
+                self.light();
+                self.turn(SAVED, is_set);
+            }
+            2026 => self.turn(HELD, is_set),
+            _ => {}
         }
     }
 
     // The same of a mode of ECMA-48.
-    fn after_mode(self, number: u64, is_set: bool) -> Left
-        ensures { result ≡ after_mode number is_set self }
+    fn note_mode(&mut self, number: u64, is_set: bool)
+        ensures { self.new ≡ after_mode number is_set self.old }
     {
         if number == 4 {
-            self.turned(INSERT, is_set)
-        } else {
-            self
+            self.turn(INSERT, is_set);
         }
     }
 
-    /// After a control sequence, where it is seen at once that it is one action.
+    /// A link is left now, or is not any more; or all is as it was.
     #[inline]
-    pub fn after_sequence(
-        self,
-        params: &[CsiParam],
-        parameters_truncated: bool,
-        control: u8,
-    ) -> Option<Left>
-        ensures { IfSome result (λ o. (v : CsiValue)
-            × (csi_of params.now parameters_truncated control ≡ v ∷ [])
-            × (o ≡ after_sequence v self)) }
+    pub fn link(&mut self, link: Option<bool>)
+        ensures { self.new ≡ linked link self.old }
     {
-        if parameters_truncated {
-            return None;
-        }
-        if control != b'm' {
-            return Some(self.after_body(params, control));
-        }
-        match are_on(params) {
-            Some(is_on) => Some(self.turned(RENDITION, is_on)),
-            None => None,
-        }
-    }
-
-    /// After the command of this text, where it is seen at once what that leaves changed.
-    #[inline]
-    pub fn after_text<A: Allocator>(self, text: &[u8]) -> Option<Left>
-        ensures { IfSome result (λ o.
-            o ≡ after_command (command_meant {A = A} (parts_of text.now)) self) }
-    {
-        laws::reads_back::<A>();
-        if has_other_code(text) {
-            return Some(self);
-        }
-        if text == b"8;;".as_slice() {
-            return Some(self.turned(LINK, false));
-        }
-        if is_plain_link::<A>(text) && text.is_ascii() {
-            Some(self.turned(LINK, true))
-        } else {
-            None
+        if let Some(is) = link {
+            self.turn(LINK, is);
         }
     }
 
@@ -312,6 +309,14 @@ fn is_set(place: &bool) -> bool
     *place
 }
 
+// Whether a control sequence with this final byte may leave anything changed, or give it back.
+#[inline]
+fn may_change(control: u8) -> bool
+    ensures { result ≡ false → (es : List CsiParam) (o : Left) → after_body es control o ≡ o }
+{
+    matches!(control, b'h' | b'l' | b'm' | b'q' | b'r' | b'u' | b'}')
+}
+
 // Whether a rendition resets all.
 fn is_reset(sgr: Sgr) -> bool
     ensures { result ≡ is_reset sgr }
@@ -341,6 +346,27 @@ fn restores(params: &[CsiParam], control: u8) -> bool
     ensures { result ≡ restores params.now control }
 {
     control == b'u' || ((control == b'q' || control == b'}') && is_marked(params, b'#'))
+}
+
+/// What the command of this text makes of the link that is left, where it is seen at once what the
+/// command leaves changed.
+#[inline]
+pub(crate) fn link_after<A: Allocator>(text: &[u8]) -> Option<Option<bool>>
+    ensures { IfSome result (λ l. (o : Left)
+        → linked l o ≡ after_command (command_meant {A = A} (parts_of text.now)) o) }
+{
+    laws::reads_back::<A>();
+    if has_other_code(text) {
+        return Some(None);
+    }
+    if text == b"8;;".as_slice() {
+        return Some(Some(false));
+    }
+    if is_plain_link::<A>(text) && text.is_ascii() {
+        Some(Some(true))
+    } else {
+        None
+    }
 }
 
 // The natural number that a parameter is.
@@ -379,9 +405,25 @@ fn first_number(params: &[CsiParam]) -> Option<u64>
     natural(*first)
 }
 
-// Whether renditions are on after a sequence of these parameters, where it is seen at once that
-// this is one action.
-#[tactic(auto, using(crate::proofs::Lights::nothing_turns, crate::proofs::Lights::lone_turns, crate::proofs::Lights::first_turns))]
+/// Whether renditions are on after a control sequence, or that its body says what it leaves changed,
+/// where it is seen at once that it is one action.
+#[inline]
+pub(crate) fn renditions_after(params: &[CsiParam], control: u8) -> Option<Option<bool>>
+    ensures { IfSome result (λ is_on. (v : CsiValue) × (csi_of params.now false control ≡ v ∷ [])
+        × ((o : Left) → after_sequence v o ≡ noted is_on params.now control o)) }
+{
+    if control != b'm' {
+        return Some(None);
+    }
+    match are_on(params) {
+        Some(is_on) => Some(Some(is_on)),
+        None => None,
+    }
+}
+
+// Whether renditions are on after a sequence of these parameters and `m`, where it is seen at once
+// that this is one action.
+#[tactic(auto, using(crate::proofs::Lights::turning))]
 #[inline]
 fn are_on(params: &[CsiParam]) -> Option<bool>
     ensures { IfSome result (λ b. Turns params.now b) }

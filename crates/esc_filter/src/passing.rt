@@ -1,10 +1,12 @@
 //! What takes the actions that pass.
-ghost use Rattle.std.specs.Prelude.{◌≡◌};
+ghost use Rattle.std.specs.Prelude.{◌≡◌, MatchResult, OnErr, OnOk};
+ghost use Rattle.esc_actions.specs.declared.action.Action.TheVariants as action;
 ghost use Rattle.esc_filter.specs.Fed.{Refuses, Takes};
+ghost use Rattle.memory.specs.Refusals.{Refused};
 
 use crate::admit::{Admit, passes};
 use crate::written::Written;
-use esc_actions::Action;
+use esc_actions::{Action, ControlCode};
 use esc_parse::Sink;
 use esc_values::CsiParam;
 use std::alloc::{AllocError, Allocator, Global};
@@ -18,6 +20,39 @@ pub(crate) struct Passing<'p, P, A: Allocator = Global> {
     pub policy: &'p P,
 }
 
+impl<'p, P: Admit<A>, A: Allocator> Passing<'p, P, A> {
+    // Takes a control. No action is moved, so it costs less than any other.
+    #[inline(never)]
+    fn receive_control(&mut self, code: ControlCode) -> Result<(), AllocError>
+        ensures ok { OnOk result (Takes (P.admits self.old.policy.now) self.old.written
+            (action.Control code) self.new.written × (self.new.policy.now ≡ self.old.policy.now)) }
+        ensures refused { OnErr result (Refused A) }
+    {
+        let action = Action::Control(code);
+        if passes(self.policy, &action) {
+            self.written.append_control(code)
+        } else {
+            self.policy.leaves_out(&action);
+            Ok(())
+        }
+    }
+
+    // Takes any action.
+    fn receive_any(&mut self, action: Action<A>) -> Result<(), AllocError>
+        ensures { MatchResult result
+            (λ _. Takes (P.admits self.old.policy.now) self.old.written action self.new.written
+            × (self.new.policy.now ≡ self.old.policy.now))
+            (λ _. Refuses self.old action self.new) }
+    {
+        if passes(self.policy, &action) {
+            self.written.receive(action)
+        } else {
+            self.policy.leaves_out(&action);
+            Ok(())
+        }
+    }
+}
+
 impl<'p, P: Admit<A>, A: Allocator> Sink<Action<A>> for Passing<'p, P, A> {
     ghost is_ready = { λ _. Unit {0} };
 
@@ -28,13 +63,11 @@ impl<'p, P: Admit<A>, A: Allocator> Sink<Action<A>> for Passing<'p, P, A> {
 
     ghost refuses = { Refuses };
 
-    #[inline]
+    #[inline(always)]
     fn receive(&mut self, action: Action<A>) -> Result<(), AllocError> {
-        if passes(self.policy, &action) {
-            self.written.receive(action)
-        } else {
-            self.policy.leaves_out(&action);
-            Ok(())
+        match action {
+            Action::Control(code) => self.receive_control(code),
+            other => self.receive_any(other),
         }
     }
 

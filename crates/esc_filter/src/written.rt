@@ -1,11 +1,13 @@
 //! What writes the actions that pass, and notes what they leave changed.
-ghost use Rattle.std.specs.Prelude.{◌≡◌, [], false};
+ghost use Rattle.std.specs.Prelude.{◌≡◌, [], false, MatchResult, OnErr, OnOk};
+ghost use Rattle.esc_actions.specs.declared.action.Action.TheVariants as action;
+ghost use Rattle.memory.specs.Refusals.{Refused};
 ghost use Rattle.esc_filter.specs.Closing.{unchanged};
-ghost use Rattle.esc_actions.specs.Values.{value_of};
+ghost use Rattle.esc_actions.specs.Values.{control, value_of};
 ghost use Rattle.esc_filter.specs.Noted.{HasNoted, Notes, WriteDenies, without_text};
 ghost use Rattle.esc_filter.specs.Passing.{is_line_feed};
 
-use crate::left::Left;
+use crate::left::{Left, link_after, renditions_after};
 use crate::text::emptied;
 use esc_actions::{Action, ControlCode};
 use esc_normal::Spell;
@@ -79,6 +81,39 @@ impl<A: Allocator> Written<A> {
     }
 }
 
+impl<A: Allocator> Written<A> {
+    /// Appends a control, or notes the end of a line.
+    #[inline]
+    pub fn append_control(&mut self, code: ControlCode) -> Result<(), AllocError>
+        ensures ok { OnOk result (Notes self.old (action.Control code) self.new) }
+        ensures refused { OnErr result (Refused A) }
+    {
+        if self.by_lines && is_line_feed(code) {
+            self.has_ended = true;
+            return Ok(());
+        }
+        match self.spell.text.push(code.as_char()) {
+            Ok(()) => {
+                self.spell.follows_string = false;
+                Ok(())
+            }
+            Err(error) => Err(error),
+        }
+    }
+
+    // Appends the text of an action, and notes what it leaves changed, out of the way of the code
+    // that takes characters.
+    #[inline(never)]
+    fn append(&mut self, action: Action<A>) -> Result<(), AllocError>
+        requires { is_line_feed (value_of action) ≡ false }
+        ensures { MatchResult result (λ _. Notes self.old action self.new)
+            (λ _. WriteDenies self.old action self.new) }
+    {
+        self.left.note(&action);
+        self.spell.receive(action)
+    }
+}
+
 impl<A: Allocator> Sink<Action<A>> for Written<A> {
     ghost is_ready = { λ _. Unit {0} };
 
@@ -90,17 +125,17 @@ impl<A: Allocator> Sink<Action<A>> for Written<A> {
 
     #[inline]
     fn receive(&mut self, action: Action<A>) -> Result<(), AllocError> {
-        if self.by_lines && is_line_feed(&action) {
-            self.has_ended = true;
-            return Ok(());
-        }
-        let left = self.left.after(&action);
-        match self.spell.receive(action) {
-            Ok(()) => {
-                self.left = left;
-                Ok(())
-            }
-            Err(error) => Err(error),
+        match action {
+            Action::Control(code) => self.append_control(code),
+            Action::Print(_)
+            | Action::PrintString(_)
+            | Action::Esc(_)
+            | Action::CSI(_)
+            | Action::OperatingSystemCommand(_)
+            | Action::KittyImage(_)
+            | Action::Sixel(_)
+            | Action::XtGetTcap(_)
+            | Action::DeviceControl(_) => self.append(action),
         }
     }
 
@@ -121,10 +156,10 @@ impl<A: Allocator> Sink<Action<A>> for Written<A> {
         parameters_truncated: bool,
         control: u8,
     ) -> Result<bool, AllocError> {
-        let Some(left) = self
-            .left
-            .after_sequence(params, parameters_truncated, control)
-        else {
+        if parameters_truncated {
+            return Ok(false);
+        }
+        let Some(is_on) = renditions_after(params, control) else {
             return Ok(false);
         };
         match self
@@ -132,7 +167,7 @@ impl<A: Allocator> Sink<Action<A>> for Written<A> {
             .receive_sequence(params, parameters_truncated, control)
         {
             Ok(true) => {
-                self.left = left;
+                self.left.note_sequence(is_on, params, control);
                 Ok(true)
             }
             Ok(false) => Ok(false),
@@ -142,12 +177,12 @@ impl<A: Allocator> Sink<Action<A>> for Written<A> {
 
     #[inline]
     fn receive_command(&mut self, text: &[u8]) -> Result<bool, AllocError> {
-        let Some(left) = self.left.after_text::<A>(text) else {
+        let Some(link) = link_after::<A>(text) else {
             return Ok(false);
         };
         match self.spell.receive_command(text) {
             Ok(true) => {
-                self.left = left;
+                self.left.link(link);
                 Ok(true)
             }
             Ok(false) => Ok(false),
@@ -157,8 +192,8 @@ impl<A: Allocator> Sink<Action<A>> for Written<A> {
 }
 
 // Whether it is a line feed.
-fn is_line_feed<A: Allocator>(action: &Action<A>) -> bool
-    ensures { result ≡ is_line_feed (value_of action.now) }
+fn is_line_feed(code: ControlCode) -> bool
+    ensures { result ≡ is_line_feed {A = Unit {0}} (control code) }
 {
-    matches!(action, Action::Control(ControlCode::LineFeed))
+    matches!(code, ControlCode::LineFeed)
 }

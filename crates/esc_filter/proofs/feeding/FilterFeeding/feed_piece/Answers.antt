@@ -2,8 +2,6 @@ use Rattle.std.proofs.Common.{◌≡◌, ◌++◌, ℕ, false, Some, sym, ap, �
 use Rattle.std.specs.List.{filter}
 use Rattle.esc_actions.specs.Meaning.{yield_within}
 use Rattle.esc_actions.specs.Texts.{texts_after}
-use Rattle.esc_parse.proofs.Lists.{on_ok_more}
-use Rattle.esc_filter.proofs.ByLines.{if_err_on}
 use Rattle.esc_filter.proofs.Texts.{text_longer}
 use Rattle.esc_filter.proofs.feeding.FilterFeeding.feed_piece.Goals as goal
 use Rattle.esc_filter.specs.Fed.{WasFed, added_by, policy_of}

@@ -1,6 +1,4 @@
 use Rattle.std.proofs.Common.{inl}
-use Rattle.esc_values.specs.Clear.{parts_of}
-use Rattle.esc_filter.proofs.Noting.{command_denied, command_noted}
 use Rattle.esc_filter.proofs.written.WrittenSinkAction.receive_command.Goals as goal
 
 pub receive_command-requires : goal.receive_command-requires
