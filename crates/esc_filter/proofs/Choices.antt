@@ -95,3 +95,6 @@ images_stay A g (short s) h k = absurd cc
 images_stay A g (enter e) h k = absurd cc
 images_stay A g (datum b) h k = absurd cc
 images_stay A g exit h k = absurd cc
+
+-- what a choice of groups says of a control sequence, for `grind`
+pub ruleset choices = (other_passes, other_stays, renditions_pass, renditions_stay)

@@ -50,3 +50,6 @@ passed_over admits p a h =
     let stays : passes admits (value_of a) ≡ false = and_right (is_whole (value_of a))
     (admits (value_of a)) h in
     (λ e. absurd cc, λ _. refl)
+
+-- the policies that admit no image, for `grind`
+pub ruleset images = (text_images, colour_images, screen_images)

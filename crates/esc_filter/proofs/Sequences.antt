@@ -319,3 +319,9 @@ screen_one es f h k = rw (nameless es f h, h, k) refl
 pub screen_none : (es : List CsiParam) (f : ℕ) → (f == 0x6d) ≡ false → is_screen_body es f ≡ false
     → list_any (λ c. is_rendition c || is_screen_sequence c) (csi_of es false f) ≡ false
 screen_none es f h k = rw (nameless es f h, h, k) refl
+
+-- what passes as a colour, for `grind`
+pub ruleset colours = (renditions_pass, no_rendition)
+
+-- what passes as what changes the screen, for `grind`
+pub ruleset screens = (screen_all, screen_one, screen_none)

@@ -82,7 +82,7 @@ impl<'a> Groups<'a> {
 
     // Whether the actions of a control sequence pass; not known where it is renditions of which one
     // conceals text, and those pass and others do not, or the other way round.
-    #[tactic(auto, using(crate::proofs::Choices::other_passes, crate::proofs::Choices::other_stays, crate::proofs::Choices::renditions_pass, crate::proofs::Choices::renditions_stay))]
+    #[tactic(auto, using(crate::proofs::Choices::choices))]
     fn has_sequence(&self, params: &[CsiParam], control: u8) -> Option<bool>
         ensures passes { result ≡ Some true → list_all (has_sequence self.now)
             (csi_of params.now false control) ≡ true }

@@ -81,7 +81,7 @@ impl<A: Allocator> Admit<A> for Policy {
         }
     }
 
-    #[tactic(auto, using(crate::proofs::Images::text_images, crate::proofs::Images::colour_images, crate::proofs::Images::screen_images))]
+    #[tactic(auto, using(crate::proofs::Images::images))]
     #[inline]
     fn admits_images(&self) -> bool {
         match self {
@@ -120,7 +120,7 @@ pub(crate) fn has_other_code(text: &[u8]) -> bool
 
 // Whether what a control sequence means is renditions; not known where the final byte is `m` and
 // the parameters are no plain ones.
-#[tactic(auto, using(crate::proofs::Sequences::renditions_pass, crate::proofs::Sequences::no_rendition))]
+#[tactic(auto, using(crate::proofs::Sequences::colours))]
 #[inline]
 fn colour_passes(params: &[CsiParam], control: u8) -> Option<bool>
     ensures passes { result ≡ Some true → list_all is_rendition
@@ -135,7 +135,7 @@ fn colour_passes(params: &[CsiParam], control: u8) -> Option<bool>
 }
 
 // The same, of what changes the screen alone too.
-#[tactic(auto, using(crate::proofs::Sequences::screen_all, crate::proofs::Sequences::screen_one, crate::proofs::Sequences::screen_none))]
+#[tactic(auto, using(crate::proofs::Sequences::screens))]
 #[inline]
 fn screen_passes(params: &[CsiParam], control: u8) -> Option<bool>
     ensures passes { result ≡ Some true → list_all (λ c. is_rendition c || is_screen_sequence c)
