@@ -5,16 +5,18 @@ use Rattle.std.proofs.lemmas.Bool.Decides.{nat_tests}
 use Rattle.std.proofs.lemmas.Grind.{flat_map-append}
 use Rattle.std.proofs.lemmas.List.{append-nil}
 use Rattle.esc_actions.proofs.Meanings.{meaning_nil}
-use Rattle.esc_actions.specs.Meaning.{yield_within}
 use Rattle.esc_actions.specs.Texts.{list_text, texts_after}
 use Rattle.esc_actions.specs.Values.{Value}
 use Rattle.esc_filter.specs.Closing.{closed, closing}
 use Rattle.esc_filter.specs.Fed.{WasFedIn}
-use Rattle.esc_filter.specs.Lines.{is_line_feed, has_line_feed, IsLine, ends_line, begin_with, last_line, lines, line_closing, line_text, passed_of_line, text_by_lines, WasFedLines, added_by, AddsText, ClosesLine, EndsLine, EndsLines, GrowsBy, GrowsLine}
+use Rattle.esc_filter.specs.Lines.{is_line_feed, has_line_feed, IsLine, ends_line, begin_with, last_line, lines, line_closing, line_text, passed_of_line, text_by_lines_as, WasFedLines, added_by, AddsText, ClosesLine, EndsLine, EndsLines, GrowsBy, GrowsLine}
 use Rattle.esc_filter.specs.Passing.{in_lines, passes}
 use Rattle.esc_filter.specs.Texts.{ends_in_string}
 use Rattle.esc_filter.proofs.Closers.{closed_more}
-use Rattle.esc_filter.proofs.Texts.{text_longer}
+use Rattle.esc_filter.proofs.Texts.{added_as, text_longer_as}
+use Rattle.esc_filter.proofs.Characters.{in_none}
+use Rattle.esc_filter.specs.Characters.{in_characters}
+use Rattle.esc_filter.specs.declared.unicode.Unicode.{Unicode}
 use Rattle.esc_filter.specs.declared.line_filter.LineFilter.{LineFilter}
 
 pub if_err_on : {X E R : Type 0} {Q : E → Type 0} (r : Result X E) → ((e : E) → Q e → R)
@@ -140,9 +142,9 @@ open_line b (c ∷ x) h = by_head (is_line_feed b) h (open_line c x)
 
 -- ---- texts
 
-module _ {A : Type 0} (limit : ℕ) (admits : Value A → Bool) where
+module _ {A : Type 0} (u : Unicode) (limit : ℕ) (admits : Value A → Bool) where
   abbrev V : List ℕ → List (Value A)
-  V s = passed_of_line {A = A} limit admits s
+  V s = passed_of_line {A = A} u limit admits s
 
   abbrev T : List ℕ → List ℕ
   T s = list_text (V s)
@@ -152,16 +154,17 @@ module _ {A : Type 0} (limit : ℕ) (admits : Value A → Bool) where
   C s = list_text (closing (V s))
 
   abbrev By : List ℕ → List ℕ
-  By s = text_by_lines {A = A} limit admits s
+  By s = text_by_lines_as {A = A} u limit admits s
 
   nothing : T [] ≡ []
-  nothing = ap (λ vs. list_text (filter (passes (in_lines true admits)) vs))
-      (meaning_nil (Some limit))
+  nothing =
+      ap (λ vs. list_text (in_characters u (filter (passes (in_lines true admits)) vs)))
+      (meaning_nil (Some limit)) ∙ ap list_text (in_none u)
 
   by_append : (d x : List ℕ) → ends_line true d ≡ true → By (d ++ x) ≡ By d ++ By x
   by_append d x h =
-      ap (flat_map (line_text {A = A} limit admits)) (lines_append d x h)
-      ∙ flat_map-append (line_text {A = A} limit admits) (lines d) (lines x)
+      ap (flat_map (line_text {A = A} u limit admits)) (lines_append d x h)
+      ∙ flat_map-append (line_text {A = A} u limit admits) (lines d) (lines x)
 
   -- a line that has ended, or not
   abbrev either : Bool → List ℕ → List ℕ
@@ -170,22 +173,22 @@ module _ {A : Type 0} (limit : ℕ) (admits : Value A → Bool) where
   open_text : (r : List ℕ) → has_line_feed r ≡ false → By r ≡ T r
   open_text [] h = sym nothing
   open_text (b ∷ r) h =
-      ap (flat_map (line_text {A = A} limit admits)) (open_line b r h)
-      ∙ append-nil (line_text limit admits (b ∷ r))
+      ap (flat_map (line_text {A = A} u limit admits)) (open_line b r h)
+      ∙ append-nil (line_text u limit admits (b ∷ r))
       ∙ ap (λ t. either t (b ∷ r)) (no_end (b ∷ r) h)
 
   closed_text : (l : List ℕ) → IsLine l → By l ≡ T l ++ (C l ++ 0x0a ∷ [])
   closed_text l (x, none, e) =
-      ap (flat_map (line_text {A = A} limit admits))
+      ap (flat_map (line_text {A = A} u limit admits))
       (ap lines e ∙ one_line x 0x0a none refl ∙ ap (λ k. k ∷ []) (sym e))
-      ∙ append-nil (line_text limit admits l)
+      ∙ append-nil (line_text u limit admits l)
       ∙ ap (λ t. either t l) (line_ends false l (x, none, e))
       ∙ ap (λ t. t ++ 0x0a ∷ []) (closed_more (V l))
       ∙ append_assoc (T l) (C l) (0x0a ∷ [])
 
   -- ---- the filter
 
-  module _ {P : Type 0} (s : List ℕ) (old : LineFilter P A) (w : WasFedLines limit admits s old)
+  module _ {P : Type 0} (s : List ℕ) (old : LineFilter P A) (w : WasFedLines u limit admits s old)
     where
       text_so_far : By s ≡ By w.ended ++ T w.rest
       text_so_far =
@@ -197,22 +200,22 @@ module _ {A : Type 0} (limit : ℕ) (admits : Value A → Bool) where
           ap (λ y. By (y ++ b)) w.whole ∙ ap By (append_assoc w.ended w.rest b)
           ∙ by_append w.ended (w.rest ++ b) w.ends
 
-      pub last_closes : C w.rest ≡ list_text (line_closing limit admits s)
+      pub last_closes : C w.rest ≡ list_text (line_closing u limit admits s)
       last_closes =
           ap C (sym (ap last_line w.whole ∙ last_is w.ended w.rest w.ends w.unended))
 
       -- the stream has ended
       pub ends_all : (new : LineFilter P A) → new.has_failed ≡ old.has_failed
-          → added_by old ≡ [] → ClosesLine admits limit w.rest old new
-          → EndsLines admits limit s (added_by new) new
+          → added_by old ≡ [] → ClosesLine u admits limit w.rest old new
+          → EndsLines u admits limit s (added_by new) new
       ends_all new fails none (fed, added) = (
         fresh new fed (fails ∙ w.unfailed),
         ap (λ t. By s ++ t)
             (sym (added ∙ ap (λ t. t ++ C w.rest) none ∙ last_closes)),
       )
         where
-          fresh : (f : LineFilter P A) → WasFedIn true limit admits [] f.filter
-              → f.has_failed ≡ false → WasFedLines limit admits [] f
+          fresh : (f : LineFilter P A) → WasFedIn u true limit admits [] f.filter
+              → f.has_failed ≡ false → WasFedLines u limit admits [] f
           fresh f h n = record {
             ended = [];
             rest = [];
@@ -223,7 +226,7 @@ module _ {A : Type 0} (limit : ℕ) (admits : Value A → Bool) where
             unfailed = n;
           }
 
-      module _ (b : List ℕ) (mid : LineFilter P A) (g : GrowsLine admits limit w.rest b old mid)
+      module _ (b : List ℕ) (mid : LineFilter P A) (g : GrowsLine u admits limit w.rest b old mid)
           (fails : mid.has_failed ≡ old.has_failed) where
         abbrev t : List ℕ
         t = g.1.0
@@ -231,7 +234,7 @@ module _ {A : Type 0} (limit : ℕ) (admits : Value A → Bool) where
         longer : T (w.rest ++ b) ≡ T w.rest ++ t
         longer = g.1.1
 
-        pub grows_open : has_line_feed b ≡ false → GrowsBy admits limit s b old mid
+        pub grows_open : has_line_feed b ≡ false → GrowsBy u admits limit s b old mid
         grows_open none = (
           t,
           (
@@ -255,9 +258,9 @@ module _ {A : Type 0} (limit : ℕ) (admits : Value A → Bool) where
 
         -- the line came to its end
         pub grows_line : IsLine b → (new : LineFilter P A)
-            → EndsLine admits limit (w.rest ++ b) mid new
+            → EndsLine u admits limit (w.rest ++ b) mid new
             → new.has_failed ≡ mid.has_failed
-            → GrowsBy admits limit s b old new
+            → GrowsBy u admits limit s b old new
         grows_line (x, none, e) new (fresh, added) f =
             let line : IsLine (w.rest ++ b) = (
               w.rest ++ x,
@@ -290,32 +293,32 @@ module _ {A : Type 0} (limit : ℕ) (admits : Value A → Bool) where
 
   -- a prefix, and then more
   pub grows_more : {P : Type 0} (s x y : List ℕ) (old mid new : LineFilter P A)
-      → GrowsBy admits limit s x old mid → GrowsBy admits limit (s ++ x) y mid new
-      → GrowsBy admits limit s (x ++ y) old new
+      → GrowsBy u admits limit s x old mid → GrowsBy u admits limit (s ++ x) y mid new
+      → GrowsBy u admits limit s (x ++ y) old new
   grows_more s x y old mid new (t, (w, e), a) (r, (v, f), b) =
       let same : (s ++ x) ++ y ≡ s ++ (x ++ y) = append_assoc s x y in (
         t ++ r,
         (
-          subst (λ z. WasFedLines limit admits z new) same v,
+          subst (λ z. WasFedLines u limit admits z new) same v,
           ap By (sym same) ∙ f ∙ ap (λ z. z ++ r) e ∙ append_assoc (By s) t r,
         ),
         b ∙ ap (λ z. z ++ r) a ∙ append_assoc (added_by old) t r,
       )
 
   pub grows_not : {P : Type 0} (s : List ℕ) (old : LineFilter P A)
-      → WasFedLines limit admits s old → GrowsBy admits limit s [] old old
+      → WasFedLines u limit admits s old → GrowsBy u admits limit s [] old old
   grows_not s old w =
       let same : s ++ [] ≡ s = append-nil s in (
         [],
         (
-          subst (λ z. WasFedLines limit admits z old) (sym same) w,
+          subst (λ z. WasFedLines u limit admits z old) (sym same) w,
           ap By same ∙ sym (append-nil (By s)),
         ),
         sym (append-nil (added_by old)),
       )
 
-  pub first_fed : {P : Type 0} (f : LineFilter P A) → WasFedIn true limit admits [] f.filter
-      → f.has_failed ≡ false → WasFedLines limit admits [] f
+  pub first_fed : {P : Type 0} (f : LineFilter P A) → WasFedIn u true limit admits [] f.filter
+      → f.has_failed ≡ false → WasFedLines u limit admits [] f
   first_fed f fresh n = record {
     ended = [];
     rest = [];
@@ -329,19 +332,19 @@ module _ {A : Type 0} (limit : ℕ) (admits : Value A → Bool) where
   -- the text that was handed out is no part of what was fed
   pub fed_same : {P : Type 0} (s : List ℕ) (f h : LineFilter P A) → h.filter ≡ f.filter
       → h.has_failed ≡ f.has_failed
-      → WasFedLines limit admits s f → WasFedLines limit admits s h
+      → WasFedLines u limit admits s f → WasFedLines u limit admits s h
   fed_same s f h a d w = record {
     ended = w.ended;
     rest = w.rest;
     whole = w.whole;
     ends = w.ends;
     unended = w.unended;
-    fed = subst (WasFedIn true limit admits w.rest) (sym a) w.fed;
+    fed = subst (WasFedIn u true limit admits w.rest) (sym a) w.fed;
     unfailed = d ∙ w.unfailed;
   }
 
   pub adds_all : {P : Type 0} (s x : List ℕ) (old new : LineFilter P A) → added_by old ≡ []
-      → GrowsBy admits limit s x old new → AddsText admits limit s x (added_by new) new
+      → GrowsBy u admits limit s x old new → AddsText u admits limit s x (added_by new) new
   adds_all s x old new none (t, (w, e), a) = (
     w,
     e ∙ ap (λ y. By s ++ y) (sym (a ∙ ap (λ y. y ++ t) none)),
@@ -362,27 +365,27 @@ split_at_feed (a ∷ b) = by_head (is_line_feed a) refl (split_at_feed b)
     by_head false e (inl n) = inl (rw e n)
     by_head false e (inr (x, y, n, k)) = inr (a ∷ x, y, rw e n, ap (λ z. a ∷ z) k)
 
-module _ {A : Type 0} (limit : ℕ) (admits : Value A → Bool) where
+module _ {A : Type 0} (u : Unicode) (limit : ℕ) (admits : Value A → Bool) where
   -- what a line adds to what passes of its beginning, and the lines after it
   rest_longer : (r b : List ℕ) → has_line_feed r ≡ false
-      → (t : List ℕ) × (text_by_lines {A = A} limit admits (r ++ b)
-      ≡ T limit admits r ++ t)
+      → (t : List ℕ) × (text_by_lines_as {A = A} u limit admits (r ++ b)
+      ≡ T u limit admits r ++ t)
   rest_longer r b none = by_feed (split_at_feed b)
     where
       W : List ℕ → List ℕ
-      W s = T limit admits s
+      W s = T u limit admits s
 
       added : List ℕ → List ℕ
-      added x = texts_after (ends_in_string false (passed_of_line limit admits r))
-          (filter (passes (in_lines true admits)) (yield_within (Some limit) r x))
+      added x = texts_after (ends_in_string false (passed_of_line u limit admits r))
+          (added_as u (Some limit) (in_lines true admits) r x)
 
       by_feed : (has_line_feed b ≡ false)
           ⊎ ((x : List ℕ) × (y : List ℕ) × (has_line_feed x ≡ false) × (b ≡ x ++ 0x0a ∷ y))
-          → (t : List ℕ) × (text_by_lines {A = A} limit admits (r ++ b) ≡ W r ++ t)
+          → (t : List ℕ) × (text_by_lines_as {A = A} u limit admits (r ++ b) ≡ W r ++ t)
       by_feed (inl n) = (
         added b,
-        open_text limit admits (r ++ b) (feeds_append r b none n)
-            ∙ text_longer (Some limit) (in_lines true admits) r b,
+        open_text u limit admits (r ++ b) (feeds_append r b none n)
+            ∙ text_longer_as u (Some limit) (in_lines true admits) r b,
       )
       by_feed (inr (x, y, n, k)) =
           let l = r ++ (x ++ 0x0a ∷ []) in
@@ -394,29 +397,29 @@ module _ {A : Type 0} (limit : ℕ) (admits : Value A → Bool) where
           let same : r ++ b ≡ l ++ y =
           ap (λ z. r ++ z) (k ∙ sym (append_assoc x (0x0a ∷ []) y))
           ∙ sym (append_assoc r (x ++ 0x0a ∷ []) y) in
-          let more = C limit admits l ++ 0x0a ∷ [] in
-          let u = added (x ++ 0x0a ∷ []) in
-          let rest = text_by_lines {A = A} limit admits y in (
-            u ++ (more ++ rest),
-            ap (text_by_lines {A = A} limit admits) same
-                ∙ by_append limit admits l y (line_ends true l line)
+          let more = C u limit admits l ++ 0x0a ∷ [] in
+          let m = added (x ++ 0x0a ∷ []) in
+          let rest = text_by_lines_as {A = A} u limit admits y in (
+            m ++ (more ++ rest),
+            ap (text_by_lines_as {A = A} u limit admits) same
+                ∙ by_append u limit admits l y (line_ends true l line)
                 ∙ ap (λ z. z ++ rest)
-                (closed_text limit admits l line
+                (closed_text u limit admits l line
                 ∙ ap (λ z. z ++ more)
-                (text_longer (Some limit) (in_lines true admits) r (x ++ 0x0a ∷ [])))
-                ∙ append_assoc (W r ++ u) more rest
-                ∙ append_assoc (W r) u (more ++ rest),
+                (text_longer_as u (Some limit) (in_lines true admits) r (x ++ 0x0a ∷ [])))
+                ∙ append_assoc (W r ++ m) more rest
+                ∙ append_assoc (W r) m (more ++ rest),
           )
 
   pub by_longer : {P : Type 0} (s : List ℕ) (f : LineFilter P A)
-      → WasFedLines limit admits s f → (b : List ℕ)
-      → (t : List ℕ) × (text_by_lines {A = A} limit admits (s ++ b)
-      ≡ text_by_lines {A = A} limit admits s ++ t)
+      → WasFedLines u limit admits s f → (b : List ℕ)
+      → (t : List ℕ) × (text_by_lines_as {A = A} u limit admits (s ++ b)
+      ≡ text_by_lines_as {A = A} u limit admits s ++ t)
   by_longer s f w b =
       let (t, e) = rest_longer w.rest b w.unended in
-      let d = text_by_lines {A = A} limit admits w.ended in
-      let r = T limit admits w.rest in (
+      let d = text_by_lines_as {A = A} u limit admits w.ended in
+      let r = T u limit admits w.rest in (
         t,
-        text_more limit admits s f w b ∙ ap (λ z. d ++ z) e ∙ sym (append_assoc d r t)
-            ∙ ap (λ z. z ++ t) (sym (text_so_far limit admits s f w)),
+        text_more u limit admits s f w b ∙ ap (λ z. d ++ z) e ∙ sym (append_assoc d r t)
+            ∙ ap (λ z. z ++ t) (sym (text_so_far u limit admits s f w)),
       )

@@ -7,6 +7,7 @@ pub mod Noting
 pub mod Lights
 pub mod Closers
 pub mod Sinks
+pub mod Characters
 pub mod Texts
 pub mod Writable
 pub mod Images

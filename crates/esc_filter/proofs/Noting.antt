@@ -1,13 +1,18 @@
 -- What writes actions and notes what they leave changed, of runs, sequences and commands.
-use Rattle.std.proofs.Common.{◌≡◌, ℕ, Bool, true, false, ◌&&◌, List, [], ◌∷◌, map, refl, sym, subst, ap, ◌∙◌, inl, inr, IfOk, OnErr, Result}
+use Rattle.std.proofs.Common.{◌≡◌, ℕ, Bool, true, false, ◌&&◌, List, [], ◌∷◌, ◌++◌, map, if◌then◌else◌, append-nil, refl, sym, subst, ap, ◌∙◌, inl, inr, IfOk, MatchResult, OnErr, OnOk, Ok, Err, Result}
 use Rattle.std.specs.Prelude.{IsTrue}
 use Rattle.std.specs.List.{FoldsTo}
 use Rattle.std.proofs.lemmas.Result.{on_err_weaker}
 use Rattle.memory.specs.Refusals.{Refused}
 use Rattle.esc_sequences.specs.Csis.{CsiValue}
 use Rattle.esc_osc.specs.Reading.{meaning as command_meant}
-use Rattle.esc_actions.specs.Texts.{has_text}
-use Rattle.esc_actions.specs.Values.{Value, csi, osc, value_of}
+use Rattle.esc_actions.specs.Texts.{has_text, is_string, text_after}
+use Rattle.esc_actions.specs.Values.{Value, control, csi, osc, print, value_of}
+use Rattle.esc_actions.specs.declared.control_code.ControlCode.{ControlCode}
+use Rattle.esc_filter.proofs.Characters.{AreThemselves}
+use Rattle.esc_filter.specs.Characters.{in_unicode, is_deceiving}
+use Rattle.esc_filter.specs.declared.unicode.Unicode.{Unicode}
+use Rattle.esc_filter.specs.declared.unicode.Unicode.TheVariants.{Drop}
 use Rattle.esc_actions.specs.declared.action.Action.{Action}
 use Rattle.esc_actions.specs.declared.action.Action.TheVariants as action
 use Rattle.esc_parse.specs.Given.{By, StopsAt}
@@ -17,7 +22,7 @@ use Rattle.esc_normal.specs.declared.spell.Spell.{Spell}
 use Rattle.esc_normal.proofs.Spelling.{IsCommand, IsSequence}
 use Rattle.esc_filter.proofs.Results.{stops_for}
 use Rattle.esc_filter.specs.Closing.{Left, after_command, after_sequence, after_value}
-use Rattle.esc_filter.specs.Noted.{Notes, WriteDenies}
+use Rattle.esc_filter.specs.Noted.{Notes, WriteDenies, Writes, written_of}
 use Rattle.esc_filter.specs.Passing.{is_line_feed}
 use Rattle.esc_filter.specs.declared.written.Written.{Written}
 
@@ -28,16 +33,93 @@ module _ {A : Type 0} where
   abbrev with_both : Written A → Left → Spell A → Written A
   with_both p o s = record p { spell = s; left = o }
 
+  -- ---- one value
+
+  pub writes_one : (p q : Written A) (a : Action A) (v : Value A) → value_of a ≡ v
+      → Adds p.spell a q.spell → q.left ≡ after_value v p.left → q.by_lines ≡ p.by_lines
+      → q.unicode ≡ p.unicode → Writes p (v ∷ []) q
+  writes_one p q a v is t o b u =
+      let f = p.spell.follows_string in (
+        t.0
+            ∙ ap (λ x. p.spell.text ++ x)
+            (ap (text_after f) is ∙ sym (append-nil (text_after f v))),
+        t.1 ∙ ap is_string is,
+        o,
+        b,
+        u,
+      )
+
+  -- it is written as it is
+  notes_one : (p q : Written A) (a : Action A) (v : Value A) → value_of a ≡ v
+      → written_of p.by_lines p.unicode v ≡ v ∷ []
+      → Adds p.spell a q.spell → q.left ≡ after_value v p.left → q.by_lines ≡ p.by_lines
+      → q.unicode ≡ p.unicode → Notes p a q
+  notes_one p q a v is itself t o b u =
+      subst (λ x. Writes p (written_of p.by_lines p.unicode x) q) (sym is)
+      (subst (λ ws. Writes p ws q) (sym itself) (writes_one p q a v is t o b u))
+
+  -- a control that is no line feed, or is none that is dropped
+  pub notes_control : (p : Written A) (s : Spell A) (c : ControlCode)
+      → (p.by_lines && is_line_feed {A = A} (control c)) ≡ false → Adds p.spell (action.Control c) s
+      → Notes p (action.Control c) (record p { spell = s })
+  notes_control p s c h t =
+      notes_one p (record p { spell = s }) (action.Control c) ctl refl
+      (either p.by_lines (is_line_feed ctl) h) t refl refl refl
+    where
+      ctl : Value A
+      ctl = control c
+
+      either : (x y : Bool) → (x && y) ≡ false
+          → (if y && x then [] else ctl ∷ []) ≡ ctl ∷ []
+      either true true h = absurd cc
+      either true false h = refl
+      either false true h = refl
+      either false false h = refl
+
+  -- a line feed that is
+  pub notes_feed : (p q : Written A) (c : ControlCode) → p.by_lines ≡ true
+      → is_line_feed {A = A} (control c) ≡ true → q.spell ≡ p.spell → q.left ≡ p.left
+      → q.by_lines ≡ p.by_lines → q.unicode ≡ p.unicode → Notes p (action.Control c) q
+  notes_feed p q c l f s o b u =
+      subst (λ ws. Writes p ws q) (sym (none p.by_lines (is_line_feed ctl) l f)) (
+        ap (λ x. x.text) s ∙ sym (append-nil p.spell.text),
+        ap (λ x. x.follows_string) s,
+        o,
+        b,
+        u,
+      )
+    where
+      ctl : Value A
+      ctl = control c
+
+      none : (x y : Bool) → x ≡ true → y ≡ true → (if y && x then [] else ctl ∷ []) ≡ []
+      none true true h k = refl
+      none true false h k = absurd cc
+      none false y h k = absurd cc
+
+  -- nothing is written of it
+  pub notes_nothing : (p : Written A) (a : Action A)
+      → written_of p.by_lines p.unicode (value_of a) ≡ [] → Notes p a p
+  notes_nothing p a e =
+      subst (λ ws. Writes p ws p) (sym e)
+      (sym (append-nil p.spell.text), refl, refl, refl, refl)
+
+  -- a character is left out where it deceives
+  pub dropped : (b : Bool) (u : Unicode) (c : ℕ) → (u ≡ Drop) × (is_deceiving c ≡ true)
+      → written_of {A = A} b u (print c) ≡ []
+  dropped b u c (e, d) =
+      subst (λ w. written_of {A = A} b w (print c) ≡ []) (sym e) (rw d refl)
+
   -- ---- a run
 
-  pub run_noted : (xs : List ℕ) (p : Written A) (s : Spell A)
+  pub run_noted : (xs : List ℕ) (p : Written A) (s : Spell A) → AreThemselves A p.unicode xs
       → FoldsTo Adds p.spell (map action.Print xs) s
       → FoldsTo Notes p (map action.Print xs) (record p { spell = s })
-  run_noted [] p s e = ap (with_spell p) e
-  run_noted (x ∷ xs) p s (j, t, rest) = (
+  run_noted [] p s h e = ap (with_spell p) e
+  run_noted (x ∷ xs) p s (i, h) (j, t, rest) = (
     record p { spell = j },
-    (λ e. absurd cc, λ _. (t, refl, refl)),
-    run_noted xs (record p { spell = j }) s rest,
+    notes_one p (record p { spell = j }) (action.Print x) (print x) refl i t refl refl refl,
+    run_noted xs (record p { spell = j }) s h rest,
   )
 
   run_why : (xs : List ℕ) (p q : Spell A) → StopsAt ⊥ Adds Denies p (map action.Print xs) q
@@ -53,22 +135,6 @@ module _ {A : Type 0} where
   run_denied [] p s e = absurd e.0
   run_denied (x ∷ xs) p s e = inr (inl (λ _. run_why (x ∷ xs) p.spell s e))
 
-  -- ---- one value
-
-  -- it is no line feed
-  goes : (p q : Written A) (a : Action A) (v : Value A) → value_of a ≡ v → is_line_feed v ≡ false
-      → Adds p.spell a q.spell → q.left ≡ after_value v p.left → q.by_lines ≡ p.by_lines
-      → Notes p a q
-  goes p q a v is other t o b =
-      let none : is_line_feed (value_of a) ≡ false = ap is_line_feed is ∙ other in (
-        λ e. absurd (both (is_line_feed (value_of a)) p.by_lines none e),
-        λ _. (t, o ∙ ap (λ x. after_value x p.left) (sym is), b),
-      )
-    where
-      both : (f g : Bool) → f ≡ false → (f && g) ≡ true → ⊥
-      both true g n e = cc
-      both false g n e = cc
-
   -- ---- a sequence
 
   one_noted : (vs : List CsiValue) (v : CsiValue) (p : Written A) (o : Left) (s : Spell A)
@@ -82,7 +148,7 @@ module _ {A : Type 0} where
           → FoldsTo (By IsSequence Notes) p (v ∷ []) (with_both p o s)
       by (j, (a, is, w), same) = (
         with_both p o j,
-        (a, is, goes p (with_both p o j) a (csi v) is refl w h refl),
+        (a, is, notes_one p (with_both p o j) a (csi v) is refl w h refl refl),
         ap (with_both p o) same,
       )
 
@@ -130,7 +196,7 @@ module _ {A : Type 0} where
           → FoldsTo (By IsCommand Notes) p (ps ∷ []) (with_both p o s)
       by (j, (a, is, w), same) = (
         with_both p o j,
-        (a, is, goes p (with_both p o j) a (osc (command_meant ps)) is refl w h refl),
+        (a, is, notes_one p (with_both p o j) a (osc (command_meant ps)) is refl w h refl refl),
         ap (with_both p o) same,
       )
 
@@ -150,3 +216,11 @@ module _ {A : Type 0} where
         λ _. stops_for (By IsCommand Adds) (By IsCommand Denies) (Refused A) command_why p.spell
             (ps ∷ []) s e,
       ))) t
+
+  -- ---- results
+
+  pub print_given : {E : Type 0} (r : Result (Unit {0}) E) (p q : Written A) (c : ℕ)
+      → OnOk r (Writes p (in_unicode p.unicode (print c)) q) → OnErr r (Refused A)
+      → MatchResult r (λ _. Notes p (action.Print c) q) (λ _. WriteDenies p (action.Print c) q)
+  print_given (Ok t) p q c h k = h
+  print_given (Err e) p q c h k = λ _. k

@@ -1,73 +1,62 @@
 -- What was written of the values that pass, and noted of them.
-use Rattle.std.proofs.Common.{◌≡◌, Option, ℕ, Bool, true, false, not, ◌&&◌, cond, List, [], ◌∷◌, ◌++◌, refl, sym, subst, ap, ◌∙◌, append_assoc, append-nil}
+use Rattle.std.proofs.Common.{◌≡◌, Option, ℕ, Bool, true, false, not, ◌&&◌, cond, if◌then◌else◌, List, [], ◌∷◌, ◌++◌, refl, sym, subst, ap, ◌∙◌, append_assoc, append-nil}
 use Rattle.std.specs.List.{FoldsTo, filter}
 use Rattle.esc_parse.specs.Given.{At}
 use Rattle.esc_actions.specs.Meaning.{yield_within}
-use Rattle.esc_actions.specs.Texts.{is_string, text_after, texts_after}
+use Rattle.esc_actions.specs.Texts.{texts_after}
 use Rattle.esc_actions.specs.Values.{Value, value_of}
 use Rattle.esc_actions.specs.declared.action.Action.{Action}
-use Rattle.esc_filter.specs.Closing.{after_value, after_values}
+use Rattle.esc_filter.specs.Closing.{after_values}
 use Rattle.esc_filter.specs.Fed.{Takes}
-use Rattle.esc_filter.specs.Noted.{Goes, HasNoted, Stays}
-use Rattle.esc_filter.proofs.Texts.{end_longer, left_longer, text_longer}
-use Rattle.esc_filter.specs.Passing.{in_lines, is_line_feed, is_whole, passed, passed_text, passes}
+use Rattle.esc_filter.specs.Noted.{HasNoted, Writes, written_of}
+use Rattle.esc_filter.proofs.Texts.{added_as, after_more, end_longer, ends_more, left_longer, text_longer_as, texts_more}
+use Rattle.esc_filter.proofs.Characters.{in_more, in_none}
+use Rattle.esc_filter.specs.Characters.{in_characters, in_unicode}
+use Rattle.esc_filter.specs.declared.unicode.Unicode.{Unicode}
+use Rattle.esc_filter.specs.Passing.{in_lines, is_line_feed, is_whole, passed_as, passed_text_as, passes}
 use Rattle.esc_filter.specs.Texts.{ends_in_string}
 use Rattle.esc_filter.specs.declared.written.Written.{Written}
 
--- the text, its end, and what is left changed, after these values
-abbrev pub Gives : {A : Type 0} → Written A → List (Value A) → Written A → Type 0
-Gives p vs q = (q.spell.text ≡ p.spell.text ++ texts_after p.spell.follows_string vs)
-    × (q.spell.follows_string ≡ ends_in_string p.spell.follows_string vs)
-    × (q.left ≡ after_values vs p.left) × (q.by_lines ≡ p.by_lines)
-
 module _ {A : Type 0} where
-  gives_same : (p j q : Written A) (vs : List (Value A)) → Stays p j → Gives j vs q → Gives p vs q
-  gives_same p j q vs (s, o, b) (t, e, k, l) = (
-    t ∙ ap (λ x. x.text ++ texts_after x.follows_string vs) s,
-    e ∙ ap (λ x. ends_in_string x.follows_string vs) s,
-    k ∙ ap (after_values vs) o,
-    l ∙ b,
-  )
-
-  gives_more : (p j q : Written A) (a : Action A) (v : Value A) (vs : List (Value A))
-      → value_of a ≡ v → Goes p a j → Gives j vs q → Gives p (v ∷ vs) q
-  gives_more p j q a v vs is (w, o, b) (t, e, k, l) =
+  -- one list after another
+  writes_both : (p j q : Written A) (vs ws : List (Value A)) → Writes p vs j → Writes j ws q
+      → Writes p (vs ++ ws) q
+  writes_both p j q vs ws (t, e, o, b, u) (t', e', o', b', u') =
       let f = p.spell.follows_string in (
-        t
-            ∙ ap (λ x. x ++ texts_after j.spell.follows_string vs)
-            (w.0 ∙ ap (λ x. p.spell.text ++ text_after f x) is)
-            ∙ append_assoc p.spell.text (text_after f v)
-            (texts_after j.spell.follows_string vs)
-            ∙ ap (λ x. p.spell.text ++ (text_after f v ++ texts_after x vs))
-            (w.1 ∙ ap is_string is),
-        e ∙ ap (λ x. ends_in_string x vs) (w.1 ∙ ap is_string is),
-        k ∙ ap (after_values vs) (o ∙ ap (λ x. after_value x p.left) is),
-        l ∙ b,
+        t'
+            ∙ ap (λ x. x ++ texts_after j.spell.follows_string ws) t
+            ∙ append_assoc p.spell.text (texts_after f vs)
+            (texts_after j.spell.follows_string ws)
+            ∙ ap (λ x. p.spell.text ++ (texts_after f vs ++ texts_after x ws)) e
+            ∙ ap (λ x. p.spell.text ++ x) (sym (texts_more f vs ws)),
+        e' ∙ ap (λ x. ends_in_string x ws) e ∙ sym (ends_more f vs ws),
+        o' ∙ ap (after_values ws) o ∙ sym (after_more vs ws p.left),
+        b' ∙ b,
+        u' ∙ u,
       )
 
-  same_is : (p j : Written A) → j ≡ p → Stays p j
-  same_is p j e = (ap (λ x. x.spell) e, ap (λ x. x.left) e, ap (λ x. x.by_lines) e)
-
   -- a value that passes, or not, and is dropped, or not
-  gives_one : (x f y : Bool) (p j q : Written A) (a : Action A) (v : Value A) (vs : List (Value A))
-      → y ≡ (x && not f) → value_of a ≡ v
-      → (x ≡ true → (f ≡ true → Stays p j) × (f ≡ false → Goes p a j)) × (x ≡ false → j ≡ p)
-      → Gives j vs q → Gives p (cond y (v ∷ vs) vs) q
-  gives_one true true true p j q a v vs e is w g = absurd cc
-  gives_one true true false p j q a v vs e is w g = gives_same p j q vs ((w.0 refl).0 refl) g
-  gives_one true false true p j q a v vs e is w g = gives_more p j q a v vs is
-      ((w.0 refl).1 refl) g
-  gives_one true false false p j q a v vs e is w g = absurd cc
-  gives_one false f true p j q a v vs e is w g = absurd cc
-  gives_one false f false p j q a v vs e is w g =
-      gives_same p j q vs (same_is p j (w.1 refl)) g
+  gives_one : (u : Unicode) (x f y : Bool) (p j q : Written A) (v : Value A) (vs : List (Value A))
+      → y ≡ (x && not f)
+      → (x ≡ true → Writes p (if f then [] else in_unicode u v) j) × (x ≡ false → j ≡ p)
+      → Writes j (in_characters u vs) q → Writes p (in_characters u (cond y (v ∷ vs) vs)) q
+  gives_one u true true true p j q v vs e w g = absurd cc
+  gives_one u true true false p j q v vs e w g =
+      writes_both p j q [] (in_characters u vs) (w.0 refl) g
+  gives_one u true false true p j q v vs e w g =
+      subst (λ ws. Writes p ws q) (sym (in_more u v vs))
+      (writes_both p j q (in_unicode u v) (in_characters u vs) (w.0 refl) g)
+  gives_one u true false false p j q v vs e w g = absurd cc
+  gives_one u false f true p j q v vs e w g = absurd cc
+  gives_one u false f false p j q v vs e w g =
+      subst (λ x. Writes x (in_characters u vs) q) (w.1 refl) g
 
-  by_lines_same : (x f : Bool) (p j : Written A) (a : Action A)
-      → (x ≡ true → (f ≡ true → Stays p j) × (f ≡ false → Goes p a j)) × (x ≡ false → j ≡ p)
-      → j.by_lines ≡ p.by_lines
-  by_lines_same true true p j a w = ((w.0 refl).0 refl).2
-  by_lines_same true false p j a w = ((w.0 refl).1 refl).2
-  by_lines_same false f p j a w = ap (λ x. x.by_lines) (w.1 refl)
+  -- how it writes stays
+  ways_same : (x : Bool) (p j : Written A) (ws : List (Value A))
+      → (x ≡ true → Writes p ws j) × (x ≡ false → j ≡ p)
+      → (j.by_lines ≡ p.by_lines) × (j.unicode ≡ p.unicode)
+  ways_same true p j ws w = let h = w.0 refl in (h.3, h.4)
+  ways_same false p j ws w = (ap (λ x. x.by_lines) (w.1 refl), ap (λ x. x.unicode) (w.1 refl))
 
 -- what passes, but a line feed that is dropped
 but_feeds : (b w f a : Bool) → (w && (not f && a)) ≡ ((w && a) && not (f && true))
@@ -92,69 +81,84 @@ passes_lines true false admits v e = absurd cc
 passes_lines false true admits v e = absurd cc
 
 -- the text of a piece, where the text of those before it ended so
-fed_more : {A : Type 0} (limit : Option ℕ) (b : Bool) (admits : Value A → Bool)
-    (s bs : List ℕ) (p q : Written A) → p.spell.text ≡ [] → HasNoted b (passed limit admits s) p
-    → Gives p (filter (passes admits) (yield_within limit s bs)) q
-    → HasNoted b (passed limit admits (s ++ bs)) q
-    × (passed_text limit admits (s ++ bs) ≡ passed_text limit admits s ++ q.spell.text)
-fed_more limit b admits s bs p q none (e, o, l) g =
-    let vs = filter (passes admits) (yield_within limit s bs) in (
+fed_more : {A : Type 0} (u : Unicode) (limit : Option ℕ) (b : Bool) (admits : Value A → Bool)
+    (s bs : List ℕ) (p q : Written A) → p.spell.text ≡ []
+    → HasNoted b u (passed_as u limit admits s) p
+    → Writes p (added_as u limit admits s bs) q
+    → HasNoted b u (passed_as u limit admits (s ++ bs)) q
+    × (passed_text_as u limit admits (s ++ bs)
+    ≡ passed_text_as u limit admits s ++ q.spell.text)
+fed_more u limit b admits s bs p q none (e, o, l, c) g =
+    let vs = added_as u limit admits s bs in (
       (
-        g.1 ∙ ap (λ x. ends_in_string x vs) e ∙ sym (end_longer limit admits s bs),
-        g.2 ∙ ap (after_values vs) o ∙ sym (left_longer limit admits s bs),
+        g.1 ∙ ap (λ x. ends_in_string x vs) e ∙ sym (end_longer u limit admits s bs),
+        g.2 ∙ ap (after_values vs) o ∙ sym (left_longer u limit admits s bs),
         g.3 ∙ l,
+        g.4 ∙ c,
       ),
-      text_longer limit admits s bs
-          ∙ ap (λ t. passed_text limit admits s ++ t)
+      text_longer_as u limit admits s bs
+          ∙ ap (λ t. passed_text_as u limit admits s ++ t)
           (sym (g.0 ∙ ap (λ t. t ++ texts_after p.spell.follows_string vs) none
           ∙ ap (λ x. texts_after x vs) e)),
     )
 
 -- All of them: a receiver S holds what writes them and a policy K, which stays.
 module _ {S K A : Type 0} (admits : K → Value A → Bool) (policy : S → K) (written : S → Written A)
-    (b : Bool) where
+    (b : Bool) (u : Unicode) where
   abbrev pub TakesBy : S → Action A → S → Type 0
   TakesBy p a q = Takes (admits (policy p)) (written p) a (written q) × (policy q ≡ policy p)
 
   abbrev kept_by : K → List (Value A) → List (Value A)
-  kept_by k vs = filter (passes (in_lines b (admits k))) vs
+  kept_by k vs = in_characters u (filter (passes (in_lines b (admits k))) vs)
+
+  -- what an action makes of it, by what the action is, and how it writes
+  taken_as : (k : K) (p j : Written A) (a : Action A) (v : Value A) → value_of a ≡ v
+      → p.by_lines ≡ b → p.unicode ≡ u → Takes (admits k) p a j
+      → (passes (admits k) v ≡ true → Writes p (written_of b u v) j)
+      × (passes (admits k) v ≡ false → j ≡ p)
+  taken_as k p j a v is l c w =
+      subst (λ y. (passes (admits k) y ≡ true → Writes p (written_of b u y) j)
+      × (passes (admits k) y ≡ false → j ≡ p)) is
+      (subst (λ x. (passes (admits k) (value_of a) ≡ true
+      → Writes p (written_of b x (value_of a)) j)
+      × (passes (admits k) (value_of a) ≡ false → j ≡ p)) c
+      (subst (λ x. (passes (admits k) (value_of a) ≡ true
+      → Writes p (written_of x p.unicode (value_of a)) j)
+      × (passes (admits k) (value_of a) ≡ false → j ≡ p)) l w))
 
   gives_all : (p : S) (vs : List (Value A)) (q : S) → (written p).by_lines ≡ b
-      → FoldsTo (At value_of TakesBy) p vs q
-      → (policy q ≡ policy p) × Gives (written p) (kept_by (policy p) vs) (written q)
-  gives_all p [] q l e = (
+      → (written p).unicode ≡ u → FoldsTo (At value_of TakesBy) p vs q
+      → (policy q ≡ policy p) × Writes (written p) (kept_by (policy p) vs) (written q)
+  gives_all p [] q l c e = (
     ap policy (sym e),
-    (
+    subst (λ ws. Writes (written p) ws (written q)) (sym (in_none u)) (
       ap (λ x. (written x).spell.text) (sym e) ∙ sym (append-nil ((written p).spell.text)),
       ap (λ x. (written x).spell.follows_string) (sym e),
       ap (λ x. (written x).left) (sym e),
       ap (λ x. (written x).by_lines) (sym e),
+      ap (λ x. (written x).unicode) (sym e),
     ),
   )
-  gives_all p (v ∷ vs) q l (j, (a, is, w), rest) =
+  gives_all p (v ∷ vs) q l c (j, (a, is, w), rest) =
       let k = policy p in
       let x = passes (admits k) v in
-      let f = is_line_feed v && (written p).by_lines in
-      let t : (x ≡ true → (f ≡ true → Stays (written p) (written j))
-      × (f ≡ false → Goes (written p) a (written j))) × (x ≡ false → written j ≡ written p) =
-      subst (λ y. (passes (admits k) y ≡ true
-      → ((is_line_feed y && (written p).by_lines) ≡ true → Stays (written p) (written j))
-      × ((is_line_feed y && (written p).by_lines) ≡ false → Goes (written p) a (written j)))
-      × (passes (admits k) y ≡ false → written j ≡ written p)) is w.0 in
-      let r = gives_all j vs q (by_lines_same x f (written p) (written j) a t ∙ l) rest in (
+      let t = taken_as k (written p) (written j) a v is l c w.0 in
+      let m = ways_same x (written p) (written j) (written_of b u v) t in
+      let r = gives_all j vs q (m.0 ∙ l) (m.1 ∙ c) rest in (
         r.0 ∙ w.1,
-        gives_one x f (passes (in_lines b (admits k)) v) (written p) (written j) (written q) a v
-            (kept_by k vs) (passes_lines b (written p).by_lines (admits k) v l) is t
-            (subst (λ y. Gives (written j) (kept_by y vs) (written q)) w.1 r.1),
+        gives_one u x (is_line_feed v && b) (passes (in_lines b (admits k)) v) (written p)
+            (written j) (written q) v (filter (passes (in_lines b (admits k))) vs)
+            (passes_lines b b (admits k) v refl) t
+            (subst (λ y. Writes (written j) (kept_by y vs) (written q)) w.1 r.1),
       )
 
   -- what a call adds
   pub fed_all : (limit : Option ℕ) (s bs : List ℕ) (p q : S) → (written p).spell.text ≡ []
-      → HasNoted b (passed limit (in_lines b (admits (policy p))) s) (written p)
+      → HasNoted b u (passed_as u limit (in_lines b (admits (policy p))) s) (written p)
       → FoldsTo (At value_of TakesBy) p (yield_within limit s bs) q
-      → HasNoted b (passed limit (in_lines b (admits (policy p))) (s ++ bs)) (written q)
-      × (passed_text limit (in_lines b (admits (policy p))) (s ++ bs)
-      ≡ passed_text limit (in_lines b (admits (policy p))) s ++ (written q).spell.text)
+      → HasNoted b u (passed_as u limit (in_lines b (admits (policy p))) (s ++ bs)) (written q)
+      × (passed_text_as u limit (in_lines b (admits (policy p))) (s ++ bs)
+      ≡ passed_text_as u limit (in_lines b (admits (policy p))) s ++ (written q).spell.text)
   fed_all limit s bs p q none h folds =
-      fed_more limit b (in_lines b (admits (policy p))) s bs (written p) (written q) none h
-      (gives_all p (yield_within limit s bs) q h.2 folds).1
+      fed_more u limit b (in_lines b (admits (policy p))) s bs (written p) (written q) none h
+      (gives_all p (yield_within limit s bs) q h.2 h.3 folds).1

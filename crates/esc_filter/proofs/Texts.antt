@@ -7,7 +7,11 @@ use Rattle.esc_actions.specs.Meaning.{meaning_within, yield_within}
 use Rattle.esc_actions.specs.Texts.{is_string, list_text, text_after, texts_after}
 use Rattle.esc_actions.specs.Values.{Value}
 use Rattle.esc_filter.specs.Closing.{Left, after_value, after_values, unchanged}
-use Rattle.esc_filter.specs.Passing.{passed, passed_text, passes}
+use Rattle.esc_filter.specs.Passing.{passed, passed_as, passed_text, passed_text_as, passes}
+use Rattle.esc_filter.specs.Characters.{in_characters}
+use Rattle.esc_filter.specs.declared.unicode.Unicode.{Unicode}
+use Rattle.esc_filter.specs.declared.unicode.Unicode.TheVariants.{Keep}
+use Rattle.esc_filter.proofs.Characters.{in_both}
 use Rattle.esc_filter.specs.Texts.{ends_in_string}
 
 -- one list after another
@@ -33,21 +37,39 @@ passed_longer limit admits s b =
     ap (filter (passes admits)) (sym (meaning_more limit s b))
     ∙ filter-append (passes admits) (meaning_within limit s) (yield_within limit s b)
 
+-- what is written of a longer stream
+abbrev pub added_as : {A : Type 0} → Unicode → Option ℕ → (Value A → Bool) → List ℕ → List ℕ
+    → List (Value A)
+added_as u limit admits s b = in_characters u (filter (passes admits) (yield_within limit s b))
+
+pub written_longer : {A : Type 0} (u : Unicode) (limit : Option ℕ) (admits : Value A → Bool)
+    (s b : List ℕ)
+    → passed_as u limit admits (s ++ b) ≡ passed_as u limit admits s ++ added_as u limit admits s b
+written_longer u limit admits s b =
+    ap (in_characters u) (passed_longer limit admits s b)
+    ∙ in_both u (passed limit admits s) (filter (passes admits) (yield_within limit s b))
+
+pub text_longer_as : {A : Type 0} (u : Unicode) (limit : Option ℕ) (admits : Value A → Bool)
+    (s b : List ℕ)
+    → passed_text_as u limit admits (s ++ b) ≡ passed_text_as u limit admits s
+    ++ texts_after (ends_in_string false (passed_as u limit admits s)) (added_as u limit admits s b)
+text_longer_as u limit admits s b =
+    ap list_text (written_longer u limit admits s b)
+    ∙ texts_more false (passed_as u limit admits s) (added_as u limit admits s b)
+
 pub text_longer : {A : Type 0} (limit : Option ℕ) (admits : Value A → Bool) (s b : List ℕ)
     → passed_text limit admits (s ++ b) ≡ passed_text limit admits s
     ++ texts_after (ends_in_string false (passed limit admits s))
     (filter (passes admits) (yield_within limit s b))
-text_longer limit admits s b =
-    ap list_text (passed_longer limit admits s b)
-    ∙ texts_more false (passed limit admits s) (filter (passes admits) (yield_within limit s b))
+text_longer limit admits s b = text_longer_as Keep limit admits s b
 
-pub end_longer : {A : Type 0} (limit : Option ℕ) (admits : Value A → Bool) (s b : List ℕ)
-    → ends_in_string false (passed limit admits (s ++ b)) ≡ ends_in_string
-    (ends_in_string false (passed limit admits s))
-    (filter (passes admits) (yield_within limit s b))
-end_longer limit admits s b =
-    ap (ends_in_string false) (passed_longer limit admits s b)
-    ∙ ends_more false (passed limit admits s) (filter (passes admits) (yield_within limit s b))
+pub end_longer : {A : Type 0} (u : Unicode) (limit : Option ℕ) (admits : Value A → Bool)
+    (s b : List ℕ)
+    → ends_in_string false (passed_as u limit admits (s ++ b)) ≡ ends_in_string
+    (ends_in_string false (passed_as u limit admits s)) (added_as u limit admits s b)
+end_longer u limit admits s b =
+    ap (ends_in_string false) (written_longer u limit admits s b)
+    ∙ ends_more false (passed_as u limit admits s) (added_as u limit admits s b)
 
 -- what is left changed after one list and another
 pub after_more : {A : Type 0} (vs ws : List (Value A)) (o : Left)
@@ -55,10 +77,11 @@ pub after_more : {A : Type 0} (vs ws : List (Value A)) (o : Left)
 after_more [] ws o = refl
 after_more (v ∷ vs) ws o = after_more vs ws (after_value v o)
 
-pub left_longer : {A : Type 0} (limit : Option ℕ) (admits : Value A → Bool) (s b : List ℕ)
-    → after_values (passed limit admits (s ++ b)) unchanged
-    ≡ after_values (filter (passes admits) (yield_within limit s b))
-    (after_values (passed limit admits s) unchanged)
-left_longer limit admits s b =
-    ap (λ vs. after_values vs unchanged) (passed_longer limit admits s b)
-    ∙ after_more (passed limit admits s) (filter (passes admits) (yield_within limit s b)) unchanged
+pub left_longer : {A : Type 0} (u : Unicode) (limit : Option ℕ) (admits : Value A → Bool)
+    (s b : List ℕ)
+    → after_values (passed_as u limit admits (s ++ b)) unchanged
+    ≡ after_values (added_as u limit admits s b)
+    (after_values (passed_as u limit admits s) unchanged)
+left_longer u limit admits s b =
+    ap (λ vs. after_values vs unchanged) (written_longer u limit admits s b)
+    ∙ after_more (passed_as u limit admits s) (added_as u limit admits s b) unchanged

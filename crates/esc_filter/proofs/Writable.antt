@@ -1,13 +1,18 @@
 -- What passes is writable.
-use Rattle.std.proofs.Common.{◌≡◌, ℕ, Bool, true, false, cond, not, List, [], ◌∷◌, Option, refl, sym, subst}
+use Rattle.std.proofs.Common.{◌≡◌, ◌⊎◌, inl, inr, ℕ, Bool, true, false, cond, not, if◌then◌else◌, List, [], ◌∷◌, ◌++◌, map, Option, refl, sym, subst}
 use Rattle.std.proofs.lemmas.Bool.{and_parts, not-true}
-use Rattle.std.specs.List.{filter}
+use Rattle.std.specs.List.{filter, flat_map, list_all}
 use Rattle.esc_actions.specs.Meaning.{meaning, meaning_within, Reads}
 use Rattle.esc_actions.specs.Texts.{list_text, normal}
 use Rattle.esc_actions.specs.Values.{Value, print, string, control, esc, csi, osc, kitty, sixel, termcap, short, enter, datum, exit}
 use Rattle.esc_actions.specs.Writable.{AreHandedOut, AreWritable, AreWritableFrom, IsWritable, is_exception, is_within, stays_within}
 use Rattle.esc_filter.proofs.Closers.{closed_writable}
-use Rattle.esc_filter.specs.Passing.{IsFiltered, is_mode_step, is_whole, passed, passes, when_ended}
+use Rattle.esc_filter.specs.Passing.{IsFilteredAs, is_mode_step, is_whole, passed, passed_as, passes, when_ended}
+use Rattle.esc_filter.specs.Characters.{in_characters, in_unicode, instead, is_deceiving, visible}
+use Rattle.esc_filter.specs.declared.unicode.Unicode.{Unicode}
+use Rattle.esc_filter.specs.declared.unicode.Unicode.TheVariants.{Drop, Keep, Show}
+use Rattle.esc_filter.proofs.Characters.{kinds, visible_clear}
+use Rattle.esc_values.specs.Clear.{is_clear}
 
 -- what is no step of a mode may be where no mode is entered, and enters none
 no_step : {A : Type 0} (v : Value A) → is_mode_step v ≡ false → (is_within v ≡ false)
@@ -45,6 +50,53 @@ filtered_writable admits (v ∷ vs) h =
     (outside.0, h.0 (not-true (is_exception v) parts.0), outside.1))
     (filtered_writable admits vs h.1)
 
+-- ---- what is written of values is writable where these are
+
+prints_writable : {A : Type 0} (xs : List ℕ) (ws : List (Value A)) → list_all is_clear xs ≡ true
+    → AreWritable ws → AreWritable (map print xs ++ ws)
+prints_writable [] ws h k = k
+prints_writable (x ∷ xs) ws h k =
+    let p = and_parts (is_clear x) (list_all is_clear xs) h in
+    (refl, p.0, prints_writable xs ws p.1 k)
+
+-- of a character
+char_writable : {A : Type 0} (u : Unicode) (t w : Bool) (c : ℕ) (ws : List (Value A))
+    → (is_within {A = A} (print c) ≡ w) × IsWritable {A = A} (print c) × AreWritable ws
+    → AreWritableFrom w ((if t then instead u c else print c ∷ []) ++ ws)
+char_writable Keep true w c ws h = h
+char_writable Show true true c ws h = absurd cc
+char_writable Show true false c ws h = prints_writable (visible c) ws (visible_clear c) h.2
+char_writable Drop true true c ws h = absurd cc
+char_writable Drop true false c ws h = h.2
+char_writable u false w c ws h = h
+
+all_writable : {A : Type 0} (u : Unicode) (w : Bool) (vs : List (Value A))
+    → AreWritableFrom w vs → AreWritableFrom w (flat_map (in_unicode u) vs)
+all_writable u w [] h = h
+all_writable {A} u w (v ∷ vs) (i, k, h) =
+    by (kinds v) (all_writable u (stays_within v) vs h)
+  where
+    ws : List (Value A)
+    ws = flat_map (in_unicode u) vs
+
+    by : ((c : ℕ) × (v ≡ print c)) ⊎ ((u : Unicode) → in_unicode u v ≡ v ∷ [])
+        → AreWritableFrom (stays_within v) ws → AreWritableFrom w (in_unicode u v ++ ws)
+    by (inl (c, e)) rest =
+        subst (λ x. AreWritableFrom w (in_unicode u x ++ ws)) (sym e)
+        (char_writable u (is_deceiving c) w c ws (
+          subst (λ x. is_within x ≡ w) e i,
+          subst IsWritable e k,
+          subst (λ x. AreWritableFrom (stays_within x) ws) e rest,
+        ))
+    by (inr same) rest =
+        subst (λ xs. AreWritableFrom w (xs ++ ws)) (sym (same u)) (i, k, rest)
+
+in_writable : {A : Type 0} (u : Unicode) (vs : List (Value A)) → AreWritable vs
+    → AreWritable (in_characters u vs)
+in_writable Keep vs h = h
+in_writable Show vs h = all_writable Show false vs h
+in_writable Drop vs h = all_writable Drop false vs h
+
 writable_when : {A : Type 0} (b : Bool) (vs : List (Value A)) → AreWritable vs
     → AreWritable (when_ended b vs)
 writable_when true vs h = closed_writable vs h
@@ -54,12 +106,13 @@ pub is_filtered : {A : Type 0} → ((limit : Option ℕ) (s : List ℕ)
     → AreHandedOut {A = A} (meaning_within limit s))
     → ((vs : List (Value A)) → AreWritable vs → meaning (list_text vs) ≡ normal vs)
     → ((vs : List (Value A)) → AreWritable vs → Reads (list_text vs) (normal vs))
-    → (b : Bool) (limit : Option ℕ) (admits : Value A → Bool) (s : List ℕ)
-    → IsFiltered b limit admits s (list_text (when_ended b (passed limit admits s)))
-is_filtered out back itself b limit admits s =
-    let vs = when_ended b (passed limit admits s) in
-    let w : AreWritable vs = writable_when b (passed limit admits s)
-    (filtered_writable admits (meaning_within limit s) (out limit s)) in
+    → (b : Bool) (u : Unicode) (limit : Option ℕ) (admits : Value A → Bool) (s : List ℕ)
+    → IsFilteredAs u b limit admits s (list_text (when_ended b (passed_as u limit admits s)))
+is_filtered out back itself b u limit admits s =
+    let vs = when_ended b (passed_as u limit admits s) in
+    let w : AreWritable vs = writable_when b (passed_as u limit admits s)
+    (in_writable u (passed limit admits s)
+    (filtered_writable admits (meaning_within limit s) (out limit s))) in
     record {
       text = refl;
       writable = w;

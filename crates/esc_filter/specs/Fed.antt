@@ -6,10 +6,12 @@ use Rattle.esc_parse.specs.Fed.{IsBroken as IsBrokenParser, WasFedWithin}
 use Rattle.esc_actions.specs.Texts.{list_text}
 use Rattle.esc_filter.specs.Closing.{closing, is_any}
 use Rattle.esc_filter.specs.Noted.{HasNoted, Notes, WriteDenies}
-use Rattle.esc_filter.specs.Passing.{in_lines, passed, passed_text, passes}
+use Rattle.esc_filter.specs.Passing.{in_lines, passed_as, passed_text_as, passes}
 use Rattle.esc_filter.specs.declared.admit.Admit.{Ghosts as Admitter}
 use Rattle.esc_filter.specs.declared.filter.Filter.{Filter}
 use Rattle.esc_filter.specs.declared.passing.Passing.{Passing}
+use Rattle.esc_filter.specs.declared.unicode.Unicode.{Unicode}
+use Rattle.esc_filter.specs.declared.unicode.Unicode.TheVariants.{Keep}
 use Rattle.esc_filter.specs.declared.written.Written.{Written}
 
 -- an action that passes is written, and any other leaves all as it is
@@ -21,14 +23,17 @@ Takes admits p a q = (passes admits (value_of a) ≡ true → Notes p a q)
 abbrev pub Refuses : {P A : Type 0} → Passing P A → Action A → Passing P A → Type 0
 Refuses p a q = WriteDenies p.written a q.written
 
--- the filter, of this limit and of a policy that admits these values, was fed these bytes; where
--- `by_lines`, they are of one line, whose line feed it drops
-abbrev pub WasFedIn : {P A : Type 0} → Bool → ℕ → (Value A → Bool) → List ℕ → Filter P A → Type 0
-WasFedIn by_lines limit admits s f = WasFedWithin (Some limit) s f.parser
-    × HasNoted by_lines (passed (Some limit) (in_lines by_lines admits) s) f.written
+-- The filter, of this limit and of a policy that admits these values, was fed these bytes, where u
+-- says what is written of characters that deceive. Where `by_lines`, they are of one line, whose
+-- line feed it drops.
+abbrev pub WasFedIn : {P A : Type 0} → Unicode → Bool → ℕ → (Value A → Bool) → List ℕ
+    → Filter P A → Type 0
+WasFedIn u by_lines limit admits s f = WasFedWithin (Some limit) s f.parser
+    × HasNoted by_lines u (passed_as u (Some limit) (in_lines by_lines admits) s) f.written
 
+-- of a stream that is one, where they are kept
 abbrev pub WasFed : {P A : Type 0} → ℕ → (Value A → Bool) → List ℕ → Filter P A → Type 0
-WasFed limit admits s f = WasFedIn false limit admits s f
+WasFed limit admits s f = WasFedIn Keep false limit admits s f
 
 -- an earlier call was refused memory
 abbrev pub IsBroken : {P A : Type 0} → Filter P A → Type 0
@@ -42,30 +47,41 @@ added_by f = f.written.spell.text
 abbrev pub policy_of : {P A : Type 0} → Filter P A → P
 policy_of f = f.policy
 
--- this holds of each stream that the filter may have been fed, its limit, and what its policy
--- admits
+-- this holds of each stream that the filter may have been fed, its limit, what its policy admits,
+-- and what is written of characters that deceive
 abbrev pub AfterIn : {P A : Type 0} → Bool → Admitter P A → Filter P A
-    → (ℕ → (Value A → Bool) → List ℕ → Type 0) → Type 0
+    → (Unicode → ℕ → (Value A → Bool) → List ℕ → Type 0) → Type 0
 AfterIn by_lines V f C =
-    (limit : ℕ) (s : List ℕ) → WasFedIn by_lines limit (V.admits (policy_of f)) s f
-    → C limit (V.admits (policy_of f)) s
+    (u : Unicode) (limit : ℕ) (s : List ℕ) → WasFedIn u by_lines limit (V.admits (policy_of f)) s f
+    → C u limit (V.admits (policy_of f)) s
 
+-- the same where they are kept
 abbrev pub After : {P A : Type 0} → Admitter P A → Filter P A
     → (ℕ → (Value A → Bool) → List ℕ → Type 0) → Type 0
-After V f C = AfterIn false V f C
+After V f C =
+    (limit : ℕ) (s : List ℕ) → WasFed limit (V.admits (policy_of f)) s f
+    → C limit (V.admits (policy_of f)) s
 
 -- the filter, which was fed s, was fed b too, and has the text that b adds
+abbrev pub TakesAs : {P A : Type 0} → Unicode → Bool → (Value A → Bool) → ℕ → List ℕ → List ℕ
+    → Filter P A → Type 0
+TakesAs u by_lines admits limit s b f = WasFedIn u by_lines limit admits (s ++ b) f
+    × (passed_text_as u (Some limit) (in_lines by_lines admits) (s ++ b)
+    ≡ passed_text_as u (Some limit) (in_lines by_lines admits) s ++ added_by f)
+
 abbrev pub TakesIn : {P A : Type 0} → Bool → (Value A → Bool) → ℕ → List ℕ → List ℕ → Filter P A
     → Type 0
-TakesIn by_lines admits limit s b f = WasFedIn by_lines limit admits (s ++ b) f
-    × (passed_text (Some limit) (in_lines by_lines admits) (s ++ b)
-    ≡ passed_text (Some limit) (in_lines by_lines admits) s ++ added_by f)
+TakesIn by_lines admits limit s b f = TakesAs Keep by_lines admits limit s b f
 
 -- the stream s has ended, and the filter has what gives back what it left changed; it is at the
 -- beginning of the next
+abbrev pub EndsAs : {P A : Type 0} → Unicode → Bool → (Value A → Bool) → ℕ → List ℕ → Filter P A
+    → Type 0
+EndsAs u by_lines admits limit s f = WasFedIn u by_lines limit admits [] f
+    × (added_by f ≡ list_text (closing (passed_as u (Some limit) (in_lines by_lines admits) s)))
+
 abbrev pub Ends : {P A : Type 0} → Bool → (Value A → Bool) → ℕ → List ℕ → Filter P A → Type 0
-Ends by_lines admits limit s f = WasFedIn by_lines limit admits [] f
-    × (added_by f ≡ list_text (closing (passed (Some limit) (in_lines by_lines admits) s)))
+Ends by_lines admits limit s f = EndsAs Keep by_lines admits limit s f
 
 -- nothing is left changed
 abbrev pub IsUnchanged : {P A : Type 0} → Filter P A → Type 0

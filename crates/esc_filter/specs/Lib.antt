@@ -2,6 +2,7 @@ pub mod Texts
 pub mod Rules
 pub mod Closing
 pub mod GivenBack
+pub mod Characters
 pub mod Passing
 pub mod Noted
 pub mod Fed

@@ -1,4 +1,5 @@
--- What is written of a stream whose lines are streams of their own.
+-- What is written of a stream whose lines are streams of their own, where u says what is written of
+-- characters that deceive.
 use Rattle.std.specs.Prelude.{ℕ, ◌≡◌, Bool, true, false, ◌==◌, if◌then◌else◌, List, [], ◌∷◌, ◌++◌, Some, string_bytes}
 use Rattle.std.specs.List.{list_any, flat_map}
 use Rattle.esc_actions.specs.Meaning.{meaning, Reads}
@@ -7,9 +8,11 @@ use Rattle.esc_actions.specs.Values.{Value, control}
 use Rattle.esc_actions.specs.declared.control_code.ControlCode.TheVariants.{LineFeed}
 use Rattle.esc_filter.specs.Closing.{closed, closing}
 use Rattle.esc_filter.specs.Fed.{WasFedIn, policy_of}
-use Rattle.esc_filter.specs.Passing.{in_lines, passed}
+use Rattle.esc_filter.specs.Passing.{in_lines, passed_as}
 use Rattle.esc_filter.specs.declared.admit.Admit.{Ghosts as Admitter}
 use Rattle.esc_filter.specs.declared.line_filter.LineFilter.{LineFilter}
+use Rattle.esc_filter.specs.declared.unicode.Unicode.{Unicode}
+use Rattle.esc_filter.specs.declared.unicode.Unicode.TheVariants.{Keep}
 
 abbrev pub is_line_feed : ℕ → Bool
 is_line_feed b = b == 0x0a
@@ -41,66 +44,83 @@ last_line [] = []
 last_line (b ∷ s) = if has_line_feed (b ∷ s) then last_line s else b ∷ s
 
 -- what passes of a line but its line feed
-abbrev pub passed_of_line : {A : Type 0} → ℕ → (Value A → Bool) → List ℕ → List (Value A)
-passed_of_line limit admits l = passed (Some limit) (in_lines true admits) l
+abbrev pub passed_of_line : {A : Type 0} → Unicode → ℕ → (Value A → Bool) → List ℕ → List (Value A)
+passed_of_line u limit admits l = passed_as u (Some limit) (in_lines true admits) l
 
 -- What is written of a line, which is a stream of its own: what passes of it, and where its line
 -- feed has come, what gives back what that leaves changed, and the line feed.
-abbrev pub line_text : {A : Type 0} → ℕ → (Value A → Bool) → List ℕ → List ℕ
-line_text limit admits l =
-    if ends_line false l then list_text (closed (passed_of_line limit admits l)) ++ 0x0a ∷ []
-    else list_text (passed_of_line limit admits l)
+abbrev pub line_text : {A : Type 0} → Unicode → ℕ → (Value A → Bool) → List ℕ → List ℕ
+line_text u limit admits l =
+    if ends_line false l then list_text (closed (passed_of_line u limit admits l)) ++ 0x0a ∷ []
+    else list_text (passed_of_line u limit admits l)
 
 -- the text of a stream: that of its lines, one after another
-abbrev pub text_by_lines : {A : Type 0} → ℕ → (Value A → Bool) → List ℕ → List ℕ
-text_by_lines {A} limit admits s = flat_map (line_text {A = A} limit admits) (lines s)
+abbrev pub text_by_lines_as : {A : Type 0} → Unicode → ℕ → (Value A → Bool) → List ℕ → List ℕ
+text_by_lines_as {A} u limit admits s = flat_map (line_text {A = A} u limit admits) (lines s)
 
 -- what the last line, without a line feed, leaves changed is given back once the stream has ended
-abbrev pub line_closing : {A : Type 0} → ℕ → (Value A → Bool) → List ℕ → List (Value A)
-line_closing limit admits s = closing (passed_of_line limit admits (last_line s))
+abbrev pub line_closing : {A : Type 0} → Unicode → ℕ → (Value A → Bool) → List ℕ → List (Value A)
+line_closing u limit admits s = closing (passed_of_line u limit admits (last_line s))
 
-abbrev pub closed_by_lines : {A : Type 0} → ℕ → (Value A → Bool) → List ℕ → List ℕ
-closed_by_lines limit admits s =
-    text_by_lines limit admits s ++ list_text (line_closing limit admits s)
+abbrev pub closed_by_lines_as : {A : Type 0} → Unicode → ℕ → (Value A → Bool) → List ℕ → List ℕ
+closed_by_lines_as u limit admits s =
+    text_by_lines_as u limit admits s ++ list_text (line_closing u limit admits s)
 
 -- what the text of a line means
-abbrev pub line_values : {A : Type 0} → ℕ → (Value A → Bool) → List ℕ → List (Value A)
-line_values limit admits l =
-    if ends_line false l then normal (closed (passed_of_line limit admits l))
+abbrev pub line_values : {A : Type 0} → Unicode → ℕ → (Value A → Bool) → List ℕ → List (Value A)
+line_values u limit admits l =
+    if ends_line false l then normal (closed (passed_of_line u limit admits l))
     ++ control LineFeed ∷ []
-    else normal (passed_of_line limit admits l)
+    else normal (passed_of_line u limit admits l)
 
 -- the text of a stream that has ended, or goes on, and what it means
-abbrev pub lines_text : {A : Type 0} → Bool → ℕ → (Value A → Bool) → List ℕ → List ℕ
-lines_text true limit admits s = closed_by_lines limit admits s
-lines_text false limit admits s = text_by_lines limit admits s
+abbrev pub lines_text_as : {A : Type 0} → Bool → Unicode → ℕ → (Value A → Bool) → List ℕ → List ℕ
+lines_text_as true u limit admits s = closed_by_lines_as u limit admits s
+lines_text_as false u limit admits s = text_by_lines_as u limit admits s
 
-abbrev pub lines_values : {A : Type 0} → Bool → ℕ → (Value A → Bool) → List ℕ → List (Value A)
-lines_values true limit admits s =
-    flat_map (line_values limit admits) (lines s) ++ normal (line_closing limit admits s)
-lines_values false limit admits s = flat_map (line_values limit admits) (lines s)
+abbrev pub lines_values_as : {A : Type 0} → Bool → Unicode → ℕ → (Value A → Bool) → List ℕ
+    → List (Value A)
+lines_values_as true u limit admits s =
+    flat_map (line_values u limit admits) (lines s) ++ normal (line_closing u limit admits s)
+lines_values_as false u limit admits s = flat_map (line_values u limit admits) (lines s)
 
 -- What holds of the text t that a filter wrote for the lines of the stream s, which has ended, or
 -- goes on:
-pub record IsFilteredByLines {A : Type 0} (has_ended : Bool) (limit : ℕ) (admits : Value A → Bool)
-    (s t : List ℕ) : Type 0 where
+pub record IsFilteredByLinesAs {A : Type 0} (has_ended : Bool) (u : Unicode) (limit : ℕ)
+    (admits : Value A → Bool) (s t : List ℕ) : Type 0 where
   -- it is the text of what passes of each line
-  pub text : t ≡ lines_text has_ended limit admits s
+  pub text : t ≡ lines_text_as has_ended u limit admits s
   -- it reads back as that, line by line, and as nothing else
-  pub reads_back : meaning t ≡ lines_values has_ended limit admits s
+  pub reads_back : meaning t ≡ lines_values_as has_ended u limit admits s
   -- whatever bytes follow it, it reads so, and they read as they do by themselves
-  pub whatever_follows : Reads t (lines_values has_ended limit admits s)
+  pub whatever_follows : Reads t (lines_values_as has_ended u limit admits s)
 
--- The filter, of this limit and of a policy that admits these values, was fed these bytes: lines
--- that have ended, and then the rest of one, which is all that its filter was fed.
-pub record WasFedLines {P A : Type 0} (limit : ℕ) (admits : Value A → Bool) (s : List ℕ)
-    (f : LineFilter P A) : Type 0 where
+-- the same where characters that deceive are kept
+abbrev pub text_by_lines : {A : Type 0} → ℕ → (Value A → Bool) → List ℕ → List ℕ
+text_by_lines limit admits s = text_by_lines_as Keep limit admits s
+
+abbrev pub closed_by_lines : {A : Type 0} → ℕ → (Value A → Bool) → List ℕ → List ℕ
+closed_by_lines limit admits s = closed_by_lines_as Keep limit admits s
+
+abbrev pub lines_text : {A : Type 0} → Bool → ℕ → (Value A → Bool) → List ℕ → List ℕ
+lines_text has_ended limit admits s = lines_text_as has_ended Keep limit admits s
+
+abbrev pub IsFilteredByLines : {A : Type 0} → Bool → ℕ → (Value A → Bool) → List ℕ → List ℕ
+    → Type 0
+IsFilteredByLines has_ended limit admits s t =
+    IsFilteredByLinesAs has_ended Keep limit admits s t
+
+-- The filter, of this limit and of a policy that admits these values, was fed these bytes, where u
+-- says what is written of characters that deceive: lines that have ended, and then the rest of one,
+-- which is all that its filter was fed.
+pub record WasFedLines {P A : Type 0} (u : Unicode) (limit : ℕ) (admits : Value A → Bool)
+    (s : List ℕ) (f : LineFilter P A) : Type 0 where
   pub ended : List ℕ
   pub rest : List ℕ
   pub whole : s ≡ ended ++ rest
   pub ends : ends_line true ended ≡ true
   pub unended : has_line_feed rest ≡ false
-  pub fed : WasFedIn true limit admits rest f.filter
+  pub fed : WasFedIn u true limit admits rest f.filter
   pub unfailed : f.has_failed ≡ false
 
 -- what the bytes fed last added
@@ -113,60 +133,63 @@ policy_of_lines f = policy_of f.filter
 -- this holds of each stream that the filter may have been fed, its limit, and what its policy
 -- admits
 abbrev pub AfterLines : {P A : Type 0} → Admitter P A → LineFilter P A
-    → (ℕ → (Value A → Bool) → List ℕ → Type 0) → Type 0
-AfterLines V f C = (limit : ℕ) (s : List ℕ) → WasFedLines limit (V.admits (policy_of_lines f)) s f
-    → C limit (V.admits (policy_of_lines f)) s
+    → (Unicode → ℕ → (Value A → Bool) → List ℕ → Type 0) → Type 0
+AfterLines V f C =
+    (u : Unicode) (limit : ℕ) (s : List ℕ) → WasFedLines u limit (V.admits (policy_of_lines f)) s f
+    → C u limit (V.admits (policy_of_lines f)) s
 
 -- the filter, which was fed s, was fed b too, and t is the text that b adds
-abbrev pub AddsText : {P A : Type 0} → (Value A → Bool) → ℕ → List ℕ → List ℕ → List ℕ
+abbrev pub AddsText : {P A : Type 0} → Unicode → (Value A → Bool) → ℕ → List ℕ → List ℕ → List ℕ
     → LineFilter P A → Type 0
-AddsText {P} {A} admits limit s b t f = WasFedLines limit admits (s ++ b) f
-    × (text_by_lines {A = A} limit admits (s ++ b) ≡ text_by_lines {A = A} limit admits s ++ t)
+AddsText {P} {A} u admits limit s b t f = WasFedLines u limit admits (s ++ b) f
+    × (text_by_lines_as {A = A} u limit admits (s ++ b)
+    ≡ text_by_lines_as {A = A} u limit admits s ++ t)
 
 -- it grew its text by that
-abbrev pub GrowsBy : {P A : Type 0} → (Value A → Bool) → ℕ → List ℕ → List ℕ → LineFilter P A
-    → LineFilter P A → Type 0
-GrowsBy admits limit s b old new =
-    (t : List ℕ) × AddsText admits limit s b t new × (added_by new ≡ added_by old ++ t)
+abbrev pub GrowsBy : {P A : Type 0} → Unicode → (Value A → Bool) → ℕ → List ℕ → List ℕ
+    → LineFilter P A → LineFilter P A → Type 0
+GrowsBy u admits limit s b old new =
+    (t : List ℕ) × AddsText u admits limit s b t new × (added_by new ≡ added_by old ++ t)
 
 -- the stream s has ended, and t is the text that its end adds; the filter is at the beginning of
 -- the next
-abbrev pub EndsLines : {P A : Type 0} → (Value A → Bool) → ℕ → List ℕ → List ℕ → LineFilter P A
-    → Type 0
-EndsLines {P} {A} admits limit s t f = WasFedLines limit admits [] f
-    × (closed_by_lines {A = A} limit admits s ≡ text_by_lines {A = A} limit admits s ++ t)
+abbrev pub EndsLines : {P A : Type 0} → Unicode → (Value A → Bool) → ℕ → List ℕ → List ℕ
+    → LineFilter P A → Type 0
+EndsLines {P} {A} u admits limit s t f = WasFedLines u limit admits [] f
+    × (closed_by_lines_as {A = A} u limit admits s ≡ text_by_lines_as {A = A} u limit admits s ++ t)
 
 -- ---- the last line
 
 -- this holds of each line that the filter's last one may be, so far, of its limit, and of what its
 -- policy admits
 abbrev pub OnLine : {P A : Type 0} → Admitter P A → LineFilter P A
-    → (ℕ → (Value A → Bool) → List ℕ → Type 0) → Type 0
+    → (Unicode → ℕ → (Value A → Bool) → List ℕ → Type 0) → Type 0
 OnLine V f C =
-    (limit : ℕ) (l : List ℕ) → WasFedIn true limit (V.admits (policy_of_lines f)) l f.filter
-    → C limit (V.admits (policy_of_lines f)) l
+    (u : Unicode) (limit : ℕ) (l : List ℕ)
+    → WasFedIn u true limit (V.admits (policy_of_lines f)) l f.filter
+    → C u limit (V.admits (policy_of_lines f)) l
 
 -- the last line, which was l, is longer by b, and the text grew by what that adds
-abbrev pub GrowsLine : {P A : Type 0} → (Value A → Bool) → ℕ → List ℕ → List ℕ → LineFilter P A
-    → LineFilter P A → Type 0
-GrowsLine {P} {A} admits limit l b old new =
-    WasFedIn true limit admits (l ++ b) new.filter
+abbrev pub GrowsLine : {P A : Type 0} → Unicode → (Value A → Bool) → ℕ → List ℕ → List ℕ
+    → LineFilter P A → LineFilter P A → Type 0
+GrowsLine {P} {A} u admits limit l b old new =
+    WasFedIn u true limit admits (l ++ b) new.filter
     × ((t : List ℕ)
-    × (list_text (passed_of_line {A = A} limit admits (l ++ b))
-    ≡ list_text (passed_of_line {A = A} limit admits l) ++ t)
+    × (list_text (passed_of_line {A = A} u limit admits (l ++ b))
+    ≡ list_text (passed_of_line {A = A} u limit admits l) ++ t)
     × (added_by new ≡ added_by old ++ t))
 
 -- the last line, which was l, is closed, and the text grew by what gives back what it left changed
-abbrev pub ClosesLine : {P A : Type 0} → (Value A → Bool) → ℕ → List ℕ → LineFilter P A
+abbrev pub ClosesLine : {P A : Type 0} → Unicode → (Value A → Bool) → ℕ → List ℕ → LineFilter P A
     → LineFilter P A → Type 0
-ClosesLine {P} {A} admits limit l old new =
-    WasFedIn true limit admits [] new.filter
-    × (added_by new ≡ added_by old ++ list_text (closing (passed_of_line {A = A} limit admits l)))
+ClosesLine {P} {A} u admits limit l old new =
+    WasFedIn u true limit admits [] new.filter
+    × (added_by new ≡ added_by old ++ list_text (closing (passed_of_line {A = A} u limit admits l)))
 
 -- the same, and the line feed after it
-abbrev pub EndsLine : {P A : Type 0} → (Value A → Bool) → ℕ → List ℕ → LineFilter P A
+abbrev pub EndsLine : {P A : Type 0} → Unicode → (Value A → Bool) → ℕ → List ℕ → LineFilter P A
     → LineFilter P A → Type 0
-EndsLine {P} {A} admits limit l old new =
-    WasFedIn true limit admits [] new.filter
+EndsLine {P} {A} u admits limit l old new =
+    WasFedIn u true limit admits [] new.filter
     × (added_by new ≡ added_by old
-    ++ (list_text (closing (passed_of_line {A = A} limit admits l)) ++ 0x0a ∷ []))
+    ++ (list_text (closing (passed_of_line {A = A} u limit admits l)) ++ 0x0a ∷ []))

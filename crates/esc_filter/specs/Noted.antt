@@ -1,36 +1,45 @@
 -- What an action makes of what writes it.
-use Rattle.std.specs.Prelude.{◌≡◌, Bool, true, false, ◌&&◌, List, []}
+use Rattle.std.specs.Prelude.{ℕ, ◌≡◌, ◌⊎◌, Bool, false, ◌&&◌, if◌then◌else◌, List, [], ◌++◌}
+use Rattle.std.specs.List.{list_any}
+use Rattle.esc_actions.specs.Texts.{texts_after}
 use Rattle.esc_actions.specs.Values.{Value, value_of}
 use Rattle.esc_actions.specs.declared.action.Action.{Action}
-use Rattle.esc_normal.specs.Spelled.{Adds, Denies}
-use Rattle.esc_filter.specs.Closing.{after_value, after_values, unchanged}
+use Rattle.esc_normal.specs.Spelled.{Denies}
+use Rattle.esc_filter.specs.Characters.{in_unicode, is_deceiving}
+use Rattle.esc_filter.specs.Closing.{after_values, unchanged}
 use Rattle.esc_filter.specs.Passing.{is_line_feed}
 use Rattle.esc_filter.specs.Texts.{ends_in_string}
+use Rattle.esc_filter.specs.declared.unicode.Unicode.{Unicode}
+use Rattle.esc_filter.specs.declared.unicode.Unicode.TheVariants.{Keep}
 use Rattle.esc_filter.specs.declared.written.Written.{Written}
 
 -- the same without its text
 abbrev pub without_text : {A : Type 0} → Written A → Written A
 without_text w = record w { spell = record w.spell { text = [] } }
 
--- nothing was written
-abbrev pub Stays : {A : Type 0} → Written A → Written A → Type 0
-Stays p q = (q.spell ≡ p.spell) × (q.left ≡ p.left) × (q.by_lines ≡ p.by_lines)
+-- the text of these values was appended, and what they leave changed noted
+abbrev pub Writes : {A : Type 0} → Written A → List (Value A) → Written A → Type 0
+Writes p vs q = (q.spell.text ≡ p.spell.text ++ texts_after p.spell.follows_string vs)
+    × (q.spell.follows_string ≡ ends_in_string p.spell.follows_string vs)
+    × (q.left ≡ after_values vs p.left) × (q.by_lines ≡ p.by_lines) × (q.unicode ≡ p.unicode)
 
--- the text of the action was, and what it leaves changed was noted
-abbrev pub Goes : {A : Type 0} → Written A → Action A → Written A → Type 0
-Goes p a q = Adds p.spell a q.spell × (q.left ≡ after_value (value_of a) p.left)
-    × (q.by_lines ≡ p.by_lines)
+-- what is written of a value: nothing of a line feed where lines are streams of their own
+abbrev pub written_of : {A : Type 0} → Bool → Unicode → Value A → List (Value A)
+written_of b u v = if is_line_feed v && b then [] else in_unicode u v
 
--- that, but of a line feed where lines are streams of their own
+-- that was done for what is written of the action
 abbrev pub Notes : {A : Type 0} → Written A → Action A → Written A → Type 0
-Notes p a q = ((is_line_feed (value_of a) && p.by_lines) ≡ true → Stays p q)
-    × ((is_line_feed (value_of a) && p.by_lines) ≡ false → Goes p a q)
+Notes p a q = Writes p (written_of p.by_lines p.unicode (value_of a)) q
+
+-- each of these characters is written as it is
+abbrev pub AreKept : Unicode → List ℕ → Type 0
+AreKept u xs = (u ≡ Keep) ⊎ (list_any is_deceiving xs ≡ false)
 
 -- an action that has a text is refused where memory is
 abbrev pub WriteDenies : {A : Type 0} → Written A → Action A → Written A → Type 0
 WriteDenies p a q = Denies p.spell a q.spell
 
--- it wrote these values, by lines or not
-abbrev pub HasNoted : {A : Type 0} → Bool → List (Value A) → Written A → Type 0
-HasNoted b vs w = (w.spell.follows_string ≡ ends_in_string false vs)
-    × (w.left ≡ after_values vs unchanged) × (w.by_lines ≡ b)
+-- it wrote these values, by lines or not, where u says what is written of characters that deceive
+abbrev pub HasNoted : {A : Type 0} → Bool → Unicode → List (Value A) → Written A → Type 0
+HasNoted b u vs w = (w.spell.follows_string ≡ ends_in_string false vs)
+    × (w.left ≡ after_values vs unchanged) × (w.by_lines ≡ b) × (w.unicode ≡ u)

@@ -6,7 +6,10 @@ use Rattle.esc_actions.specs.Texts.{list_text, normal}
 use Rattle.esc_actions.specs.Values.{Value, control, enter, datum, exit}
 use Rattle.esc_actions.specs.declared.control_code.ControlCode.TheVariants.{LineFeed}
 use Rattle.esc_actions.specs.Writable.{AreWritable, is_exception}
+use Rattle.esc_filter.specs.Characters.{in_characters}
 use Rattle.esc_filter.specs.Closing.{closed}
+use Rattle.esc_filter.specs.declared.unicode.Unicode.{Unicode}
+use Rattle.esc_filter.specs.declared.unicode.Unicode.TheVariants.{Keep}
 
 -- a step of a mode: its header, a byte of its data, or its end
 abbrev pub is_mode_step : {A : Type 0} → Value A → Bool
@@ -37,7 +40,17 @@ in_lines false admits v = admits v
 abbrev pub passed : {A : Type 0} → Option ℕ → (Value A → Bool) → List ℕ → List (Value A)
 passed limit admits s = filter (passes admits) (meaning_within limit s)
 
--- their text
+-- what is written of them
+abbrev pub passed_as : {A : Type 0} → Unicode → Option ℕ → (Value A → Bool) → List ℕ
+    → List (Value A)
+passed_as u limit admits s = in_characters u (passed limit admits s)
+
+-- its text
+abbrev pub passed_text_as : {A : Type 0} → Unicode → Option ℕ → (Value A → Bool) → List ℕ
+    → List ℕ
+passed_text_as u limit admits s = list_text (passed_as u limit admits s)
+
+-- the same where characters that deceive are kept
 abbrev pub passed_text : {A : Type 0} → Option ℕ → (Value A → Bool) → List ℕ → List ℕ
 passed_text limit admits s = list_text (passed limit admits s)
 
@@ -48,18 +61,28 @@ when_ended true vs = closed vs
 when_ended false vs = vs
 
 -- the text of a stream that has ended
+abbrev pub closed_text_as : {A : Type 0} → Unicode → Option ℕ → (Value A → Bool) → List ℕ
+    → List ℕ
+closed_text_as u limit admits s = list_text (closed (passed_as u limit admits s))
+
 abbrev pub closed_text : {A : Type 0} → Option ℕ → (Value A → Bool) → List ℕ → List ℕ
 closed_text limit admits s = list_text (closed (passed limit admits s))
 
--- What holds of the text t that a filter wrote for the stream s, which has ended, or goes on:
-pub record IsFiltered {A : Type 0} (has_ended : Bool) (limit : Option ℕ) (admits : Value A → Bool)
-    (s t : List ℕ) : Type 0 where
-  -- it is the text of the values of the stream that pass, and of what gives back what they leave
-  -- changed
-  pub text : t ≡ list_text (when_ended has_ended (passed limit admits s))
+-- What holds of the text t that a filter wrote for the stream s, which has ended, or goes on, where
+-- u says what is written of characters that deceive:
+pub record IsFilteredAs {A : Type 0} (u : Unicode) (has_ended : Bool) (limit : Option ℕ)
+    (admits : Value A → Bool) (s t : List ℕ) : Type 0 where
+  -- it is the text of what is written of the values of the stream that pass, and of what gives back
+  -- what they leave changed
+  pub text : t ≡ list_text (when_ended has_ended (passed_as u limit admits s))
   -- all of these can be written
-  pub writable : AreWritable (when_ended has_ended (passed limit admits s))
+  pub writable : AreWritable (when_ended has_ended (passed_as u limit admits s))
   -- it reads back as them, with the terminators of their strings, and as nothing else
-  pub reads_back : meaning t ≡ normal (when_ended has_ended (passed limit admits s))
+  pub reads_back : meaning t ≡ normal (when_ended has_ended (passed_as u limit admits s))
   -- whatever bytes follow it, it reads so, and they read as they do by themselves
-  pub whatever_follows : Reads t (normal (when_ended has_ended (passed limit admits s)))
+  pub whatever_follows : Reads t (normal (when_ended has_ended (passed_as u limit admits s)))
+
+-- the same where they are kept
+abbrev pub IsFiltered : {A : Type 0} → Bool → Option ℕ → (Value A → Bool) → List ℕ → List ℕ
+    → Type 0
+IsFiltered has_ended limit admits s t = IsFilteredAs Keep has_ended limit admits s t

@@ -81,10 +81,11 @@ pub trait Admit<A: Allocator> {
         true
     }
 
-    /// Is shown each action that does not pass, also one that no policy is asked of, but for those
-    /// of which [`admits_sequence`](Admit::admits_sequence),
-    /// [`admits_command`](Admit::admits_command) or [`admits_images`](Admit::admits_images) returns
-    /// false. It does nothing, unless an implementation does.
+    /// Is shown each action that does not pass, also one that no policy is asked of, and each
+    /// character that [`Unicode::Drop`](crate::Unicode::Drop) leaves out, but for those of which
+    /// [`admits_sequence`](Admit::admits_sequence), [`admits_command`](Admit::admits_command) or
+    /// [`admits_images`](Admit::admits_images) returns false. It does nothing, unless an
+    /// implementation does.
     fn leaves_out(&self, _action: &Action<A>) {}
 
     /// Is told that a line feed was added to the text of a line, whose own was taken away: in most

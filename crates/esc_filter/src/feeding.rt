@@ -1,8 +1,9 @@
 //! What takes a stream in pieces, and has the text of each.
-ghost use Rattle.std.specs.Prelude.{◌≡◌, ◌++◌, ℕ, List, OnErr, OnOk, Some};
-ghost use Rattle.esc_filter.specs.Fed.{WasFed, added_by, policy_of};
-ghost use Rattle.esc_filter.specs.Lines.{WasFedLines, added_by as added_by_lines, closed_by_lines, policy_of_lines, text_by_lines};
-ghost use Rattle.esc_filter.specs.Passing.{closed_text, passed_text};
+ghost use Rattle.std.specs.Prelude.{◌≡◌, ◌++◌, ℕ, List, OnErr, OnOk, Some, false};
+ghost use Rattle.esc_filter.specs.Fed.{WasFedIn, added_by, policy_of};
+ghost use Rattle.esc_filter.specs.Lines.{WasFedLines, added_by as added_by_lines, closed_by_lines_as, policy_of_lines, text_by_lines_as};
+ghost use Rattle.esc_filter.specs.Passing.{closed_text_as, passed_text_as};
+ghost use Rattle.esc_filter.specs.declared.unicode.Unicode.{Unicode};
 ghost use Rattle.memory.specs.Refusals.{Refused};
 
 use crate::admit::Admit;
@@ -45,9 +46,10 @@ pub trait Feeding<A: Allocator> {
 }
 
 impl<P: Admit<A>, A: Allocator + Copy> Feeding<A> for Filter<P, A> {
-    ghost gives = { λ f m c s. (limit : ℕ) × WasFed limit (P.admits (policy_of f)) s f
-        × (m ≡ passed_text {A = A} (Some limit) (P.admits (policy_of f)))
-        × (c ≡ closed_text {A = A} (Some limit) (P.admits (policy_of f))) };
+    ghost gives = { λ f m c s. (u : Unicode) × (limit : ℕ)
+        × WasFedIn u false limit (P.admits (policy_of f)) s f
+        × (m ≡ passed_text_as {A = A} u (Some limit) (P.admits (policy_of f)))
+        × (c ≡ closed_text_as {A = A} u (Some limit) (P.admits (policy_of f))) };
 
     ghost added = { λ f. added_by f };
 
@@ -68,9 +70,10 @@ impl<P: Admit<A>, A: Allocator + Copy> Feeding<A> for Filter<P, A> {
 }
 
 impl<P: Admit<A>, A: Allocator + Copy> Feeding<A> for LineFilter<P, A> {
-    ghost gives = { λ f m c s. (limit : ℕ) × WasFedLines limit (P.admits (policy_of_lines f)) s f
-        × (m ≡ text_by_lines {A = A} limit (P.admits (policy_of_lines f)))
-        × (c ≡ closed_by_lines {A = A} limit (P.admits (policy_of_lines f))) };
+    ghost gives = { λ f m c s. (u : Unicode) × (limit : ℕ)
+        × WasFedLines u limit (P.admits (policy_of_lines f)) s f
+        × (m ≡ text_by_lines_as {A = A} u limit (P.admits (policy_of_lines f)))
+        × (c ≡ closed_by_lines_as {A = A} u limit (P.admits (policy_of_lines f))) };
 
     ghost added = { λ f. added_by_lines f };
 

@@ -9,6 +9,7 @@ ghost use Rattle.memory.specs.Refusals.{Refused};
 use crate::admit::Admit;
 use crate::passing::Passing;
 use crate::text::emptied;
+use crate::unicode::Unicode;
 use crate::written::Written;
 use esc_actions::laws;
 use esc_frame::ParseError;
@@ -33,7 +34,7 @@ pub struct Filter<P, A: Allocator = Global> {
 }
 
 impl<P: Admit<A>, A: Allocator + Copy> Filter<P, A> {
-    ghost use Rattle.esc_filter.specs.Fed.{After, AfterIn, Ends, IsBroken, IsUnchanged, TakesIn, WasFed, WasFedIn, added_by, policy_of};
+    ghost use Rattle.esc_filter.specs.Fed.{AfterIn, EndsAs, IsBroken, IsUnchanged, TakesAs, WasFed, WasFedIn, added_by, policy_of};
 
     /// A filter at the beginning of a stream, which keeps at most `limit` bytes of a segment, as
     /// [`Parser::with_limit`](esc_parse::Parser::with_limit) does. Takes no memory.
@@ -42,18 +43,34 @@ impl<P: Admit<A>, A: Allocator + Copy> Filter<P, A> {
         ensures policy { policy_of result ≡ policy }
         ensures empty { added_by result ≡ [] }
     {
-        Filter::begun(alloc, limit, policy, false)
+        Filter::with_unicode(alloc, limit, policy, Unicode::Keep)
+    }
+
+    /// The same, where `unicode` says what is written of characters that deceive. What is within a
+    /// string, as the address of a link, stays as it is.
+    pub fn with_unicode(alloc: A, limit: usize, policy: P, unicode: Unicode) -> Filter<P, A>
+        ensures fed { WasFedIn unicode false limit (P.admits policy) [] result }
+        ensures policy { policy_of result ≡ policy }
+        ensures empty { added_by result ≡ [] }
+    {
+        Filter::begun(alloc, limit, policy, unicode, false)
     }
 
     /// The same; where `by_lines`, of a line, whose line feed it drops.
-    pub(crate) fn begun(alloc: A, limit: usize, policy: P, by_lines: bool) -> Filter<P, A>
-        ensures fed { WasFedIn by_lines limit (P.admits policy) [] result }
+    pub(crate) fn begun(
+        alloc: A,
+        limit: usize,
+        policy: P,
+        unicode: Unicode,
+        by_lines: bool,
+    ) -> Filter<P, A>
+        ensures fed { WasFedIn unicode by_lines limit (P.admits policy) [] result }
         ensures policy { policy_of result ≡ policy }
         ensures empty { added_by result ≡ [] }
     {
         Filter {
             parser: Parser::with_limit(alloc, limit),
-            written: Written::new(alloc, by_lines),
+            written: Written::new(alloc, by_lines, unicode),
             alloc,
             policy,
         }
@@ -65,18 +82,18 @@ impl<P: Admit<A>, A: Allocator + Copy> Filter<P, A> {
     /// `ParseError::Memory` says that a request for memory was refused: the text is empty, and from
     /// then on every call returns `ParseError::Failed`.
     pub fn feed(&mut self, bytes: &[u8]) -> Result<(), ParseError>
-        ensures given { (by_lines : Bool) → AfterIn by_lines P.Admit self.old (λ limit admits s.
-            OnOk result (TakesIn by_lines admits limit s bytes.now self.new)) }
+        ensures given { (by_lines : Bool) → AfterIn by_lines P.Admit self.old (λ u limit admits s.
+            OnOk result (TakesAs u by_lines admits limit s bytes.now self.new)) }
         ensures policy { policy_of self.new ≡ policy_of self.old }
-        ensures refused { (by_lines : Bool) → AfterIn by_lines P.Admit self.old (λ limit admits s.
+        ensures refused { (by_lines : Bool) → AfterIn by_lines P.Admit self.old (λ u limit admits s.
             IfErr result (λ e. (e ≡ ParseError.Memory) × IsBroken self.new
             × (added_by self.new ≡ []) × Refused A)) }
         ensures failed { IsBroken self.old → (result ≡ Err ParseError.Failed) × IsBroken self.new
             × (added_by self.new ≡ []) }
     {
         laws::yield_handed_out::<A>();
-        let by_lines = self.written.by_lines;
-        let written = mem::replace(&mut self.written, Written::new(self.alloc, by_lines));
+        let new = Written::new(self.alloc, self.written.by_lines, self.written.unicode);
+        let written = mem::replace(&mut self.written, new);
         let sink = Passing {
             written: written.emptied(),
             policy: &self.policy,
@@ -99,8 +116,8 @@ impl<P: Admit<A>, A: Allocator + Copy> Filter<P, A> {
     /// The error says that a request for memory was refused: the text is empty, and the stream has
     /// not ended.
     pub fn finish(&mut self) -> Result<(), AllocError>
-        ensures ended { (by_lines : Bool) → AfterIn by_lines P.Admit self.old (λ limit admits s.
-            OnOk result (Ends by_lines admits limit s self.new)) }
+        ensures ended { (by_lines : Bool) → AfterIn by_lines P.Admit self.old (λ u limit admits s.
+            OnOk result (EndsAs u by_lines admits limit s self.new)) }
         ensures policy { policy_of self.new ≡ policy_of self.old }
         ensures refused { OnErr result ((added_by self.new ≡ []) × Refused A) }
         ensures failed { IsBroken self.old → IsBroken self.new }
@@ -119,8 +136,8 @@ impl<P: Admit<A>, A: Allocator + Copy> Filter<P, A> {
 
     /// Begins a new stream. What is unfinished is dropped.
     pub(crate) fn restart(&mut self)
-        ensures fed { (by_lines : Bool) → AfterIn by_lines P.Admit self.old (λ limit admits s.
-            WasFedIn by_lines limit admits [] self.new) }
+        ensures fed { (by_lines : Bool) → AfterIn by_lines P.Admit self.old (λ u limit admits s.
+            WasFedIn u by_lines limit admits [] self.new) }
         ensures policy { policy_of self.new ≡ policy_of self.old }
         ensures failed { IsBroken self.old → IsBroken self.new }
     {
@@ -154,9 +171,10 @@ impl<P: Admit<A>, A: Allocator + Copy> Filter<P, A> {
     /// How many bytes are kept of the segment that is unfinished, as
     /// [`Parser::kept`](esc_parse::Parser::kept) counts them: at most the limit.
     pub fn kept(&self) -> usize
-        ensures given { After P.Admit self.now (λ limit admits s. (gs : List Segment) → IsCut s gs
+        ensures given { AfterIn false P.Admit self.now (λ u limit admits s. (gs : List Segment)
+            → IsCut s gs
             → result ≡ min (kept_of_cut (Some limit) gs + data_kept (Some limit) s) most) }
-        ensures within { After P.Admit self.now (λ limit admits s. result ≤ limit) }
+        ensures within { AfterIn false P.Admit self.now (λ u limit admits s. result ≤ limit) }
         ensures failed { IsBroken self.now → result ≡ 0 }
     {
         self.parser.kept()

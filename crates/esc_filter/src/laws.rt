@@ -6,7 +6,7 @@ ghost use Rattle.esc_actions.specs.Meaning.{yield_within};
 ghost use Rattle.esc_actions.specs.Texts.{list_text};
 ghost use Rattle.esc_actions.specs.Values.{Value};
 ghost use Rattle.esc_filter.specs.Closing.{closing};
-ghost use Rattle.esc_filter.specs.Lines.{IsFilteredByLines, lines_text};
+ghost use Rattle.esc_filter.specs.Lines.{IsFilteredByLines, IsFilteredByLinesAs, lines_text, lines_text_as};
 ghost use Rattle.esc_sequences.specs.Csis.{CsiValue};
 ghost use Rattle.esc_sequences.specs.declared.esc.Esc.{Esc};
 ghost use Rattle.esc_functions.specs.Effects.{is_answered};
@@ -16,9 +16,10 @@ ghost use Rattle.esc_functions.specs.Functions.{named};
 ghost use Rattle.esc_functions.specs.declared.control_function.ControlFunction.{ControlFunction};
 ghost use Rattle.esc_functions.specs.declared.escape_function.EscapeFunction.{EscapeFunction};
 ghost use Rattle.esc_filter.specs.Groups.{admits_groups, groups_of};
-ghost use Rattle.esc_filter.specs.Passing.{IsFiltered, closed_text, passed, passed_text, passes};
+ghost use Rattle.esc_filter.specs.Passing.{IsFiltered, IsFilteredAs, closed_text, closed_text_as, passed, passed_text, passed_text_as, passes};
 ghost use Rattle.esc_filter.specs.Rules.{admits, is_screen_escape, is_screen_sequence};
 ghost use Rattle.esc_filter.specs.declared.policy.Policy.{Policy};
+ghost use Rattle.esc_filter.specs.declared.unicode.Unicode.{Unicode};
 
 use esc_actions::laws;
 use std::alloc::Allocator;
@@ -30,6 +31,16 @@ pub fn passed_reads_back<A: Allocator>()
         → IsFiltered false limit admits s (passed_text limit admits s) }
     ensures ended { (limit : Option ℕ) (admits : Value A → Bool) (s : List ℕ)
         → IsFiltered true limit admits s (closed_text limit admits s) }
+{
+    written_reads_back::<A>();
+}
+
+/// The same, whatever is written of characters that deceive.
+pub fn written_reads_back<A: Allocator>()
+    ensures goes_on { (u : Unicode) (limit : Option ℕ) (admits : Value A → Bool) (s : List ℕ)
+        → IsFilteredAs u false limit admits s (passed_text_as u limit admits s) }
+    ensures ended { (u : Unicode) (limit : Option ℕ) (admits : Value A → Bool) (s : List ℕ)
+        → IsFilteredAs u true limit admits s (closed_text_as u limit admits s) }
 {
     laws::handed_out::<A>();
     laws::reads_back::<A>();
@@ -59,7 +70,16 @@ pub fn lines_read_back<A: Allocator>()
     ensures { (has_ended : Bool) (limit : ℕ) (admits : Value A → Bool) (s : List ℕ)
         → IsFilteredByLines has_ended limit admits s (lines_text has_ended limit admits s) }
 {
-    passed_reads_back::<A>();
+    written_lines_read_back::<A>();
+}
+
+/// The same, whatever is written of characters that deceive.
+pub fn written_lines_read_back<A: Allocator>()
+    ensures { (has_ended : Bool) (u : Unicode) (limit : ℕ) (admits : Value A → Bool) (s : List ℕ)
+        → IsFilteredByLinesAs has_ended u limit admits s
+        (lines_text_as has_ended u limit admits s) }
+{
+    written_reads_back::<A>();
     laws::reads_by_itself::<A>();
 }
 

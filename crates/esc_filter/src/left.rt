@@ -405,8 +405,8 @@ fn first_number(params: &[CsiParam]) -> Option<u64>
     natural(*first)
 }
 
-/// Whether renditions are on after a control sequence, or that its body says what it leaves changed,
-/// where it is seen at once that it is one action.
+/// Whether renditions are on after a control sequence, or that its body says what it leaves
+/// changed, where it is seen at once that it is one action.
 #[inline]
 pub(crate) fn renditions_after(params: &[CsiParam], control: u8) -> Option<Option<bool>>
     ensures { IfSome result (λ is_on. (v : CsiValue) × (csi_of params.now false control ≡ v ∷ [])

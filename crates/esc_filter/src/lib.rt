@@ -4,7 +4,8 @@
 //! [`filter_stream`] reads a stream and writes the text of those of its actions that a [`Policy`],
 //! or an [`Admit`] of the caller's own, admits; [`Filter`] does it piece by piece. What is written
 //! reads back as these actions and as nothing else, so no text of the stream becomes a sequence,
-//! however broken it is. [`Encoder`] writes actions one at a time.
+//! however broken it is. [`Unicode`] says what is written of characters that hide or reorder text.
+//! [`Encoder`] writes actions one at a time.
 //!
 //! ```text
 //! let mut filter = Filter::new(alloc, 65_536, Policy::Color);
@@ -31,6 +32,7 @@ mod policy;
 mod schemes;
 mod screen;
 mod text;
+mod unicode;
 mod written;
 
 pub use admit::{Admit, passes};
@@ -43,8 +45,9 @@ pub use group::Group;
 pub use groups::Groups;
 pub use laws::{
     closing_comes_last, lines_read_back, passed_more, passed_reads_back, policies_are_groups,
-    screen_is_not_answered,
+    screen_is_not_answered, written_lines_read_back, written_reads_back,
 };
 pub use line_filter::LineFilter;
 pub use policy::Policy;
 pub use schemes::is_scheme;
+pub use unicode::{Unicode, is_deceiving};

@@ -5,6 +5,7 @@ ghost use Rattle.memory.specs.Refusals.{Refused};
 
 use crate::admit::Admit;
 use crate::filter::Filter;
+use crate::unicode::Unicode;
 use esc_frame::ParseError;
 use memchr::memchr;
 use std::alloc::{AllocError, Allocator, Global};
@@ -30,12 +31,22 @@ impl<P: Admit<A>, A: Allocator + Copy> LineFilter<P, A> {
     /// A filter at the beginning of a stream, which keeps at most `limit` bytes of a segment, as
     /// [`Filter::new`] does. Takes no memory.
     pub fn new(alloc: A, limit: usize, policy: P) -> LineFilter<P, A>
-        ensures fed { WasFedLines limit (P.admits policy) [] result }
+        ensures fed { WasFedLines Unicode.Keep limit (P.admits policy) [] result }
+        ensures policy { policy_of_lines result ≡ policy }
+        ensures empty { added_by result ≡ [] }
+    {
+        LineFilter::with_unicode(alloc, limit, policy, Unicode::Keep)
+    }
+
+    /// The same, where `unicode` says what is written of characters that deceive, as
+    /// [`Filter::with_unicode`] does.
+    pub fn with_unicode(alloc: A, limit: usize, policy: P, unicode: Unicode) -> LineFilter<P, A>
+        ensures fed { WasFedLines unicode limit (P.admits policy) [] result }
         ensures policy { policy_of_lines result ≡ policy }
         ensures empty { added_by result ≡ [] }
     {
         LineFilter {
-            filter: Filter::begun(alloc, limit, policy, true),
+            filter: Filter::begun(alloc, limit, policy, unicode, true),
             text: String::new(alloc),
             has_failed: false,
         }
@@ -47,10 +58,10 @@ impl<P: Admit<A>, A: Allocator + Copy> LineFilter<P, A> {
     /// `ParseError::Memory` says that a request for memory was refused: the text is empty, and from
     /// then on every call returns `ParseError::Failed`.
     pub fn feed(&mut self, bytes: &[u8]) -> Result<(), ParseError>
-        ensures given { AfterLines P.Admit self.old (λ limit admits s.
-            OnOk result (AddsText admits limit s bytes.now (added_by self.new) self.new)) }
+        ensures given { AfterLines P.Admit self.old (λ u limit admits s.
+            OnOk result (AddsText u admits limit s bytes.now (added_by self.new) self.new)) }
         ensures policy { policy_of_lines self.new ≡ policy_of_lines self.old }
-        ensures refused { AfterLines P.Admit self.old (λ limit admits s. IfErr result (λ e.
+        ensures refused { AfterLines P.Admit self.old (λ u limit admits s. IfErr result (λ e.
             (e ≡ ParseError.Memory) × (self.new.has_failed ≡ true) × (added_by self.new ≡ [])
             × Refused A)) }
         ensures failed { self.old.has_failed ≡ true → (result ≡ Err ParseError.Failed)
@@ -77,10 +88,10 @@ impl<P: Admit<A>, A: Allocator + Copy> LineFilter<P, A> {
     /// `ParseError::Memory` says that a request for memory was refused: the text is empty, and from
     /// then on every call returns `ParseError::Failed`.
     pub fn finish(&mut self) -> Result<(), ParseError>
-        ensures ended { AfterLines P.Admit self.old (λ limit admits s.
-            OnOk result (EndsLines admits limit s (added_by self.new) self.new)) }
+        ensures ended { AfterLines P.Admit self.old (λ u limit admits s.
+            OnOk result (EndsLines u admits limit s (added_by self.new) self.new)) }
         ensures policy { policy_of_lines self.new ≡ policy_of_lines self.old }
-        ensures refused { AfterLines P.Admit self.old (λ limit admits s. IfErr result (λ e.
+        ensures refused { AfterLines P.Admit self.old (λ u limit admits s. IfErr result (λ e.
             (e ≡ ParseError.Memory) × (self.new.has_failed ≡ true) × (added_by self.new ≡ [])
             × Refused A)) }
         ensures failed { self.old.has_failed ≡ true → (result ≡ Err ParseError.Failed)
@@ -109,10 +120,10 @@ impl<P: Admit<A>, A: Allocator + Copy> LineFilter<P, A> {
 
     // Takes these bytes, a line after another. After an error nothing is said of the filter.
     fn feed_lines(&mut self, bytes: &[u8]) -> Result<(), AllocError>
-        ensures given { AfterLines P.Admit self.old (λ limit admits s.
-            OnOk result (GrowsBy admits limit s bytes.now self.old self.new)) }
+        ensures given { AfterLines P.Admit self.old (λ u limit admits s.
+            OnOk result (GrowsBy u admits limit s bytes.now self.old self.new)) }
         ensures policy { policy_of_lines self.new ≡ policy_of_lines self.old }
-        ensures refused { AfterLines P.Admit self.old (λ limit admits s.
+        ensures refused { AfterLines P.Admit self.old (λ u limit admits s.
             OnErr result (Refused A)) }
     {
         let mut at = 0;
@@ -134,10 +145,10 @@ impl<P: Admit<A>, A: Allocator + Copy> LineFilter<P, A> {
     // Takes what ends the last line.
     fn feed_line(&mut self, bytes: &[u8]) -> Result<(), AllocError>
         requires { IsLine bytes.now }
-        ensures given { AfterLines P.Admit self.old (λ limit admits s.
-            OnOk result (GrowsBy admits limit s bytes.now self.old self.new)) }
+        ensures given { AfterLines P.Admit self.old (λ u limit admits s.
+            OnOk result (GrowsBy u admits limit s bytes.now self.old self.new)) }
         ensures policy { policy_of_lines self.new ≡ policy_of_lines self.old }
-        ensures refused { AfterLines P.Admit self.old (λ limit admits s.
+        ensures refused { AfterLines P.Admit self.old (λ u limit admits s.
             OnErr result (Refused A)) }
     {
         match self.pass(bytes) {
@@ -149,10 +160,10 @@ impl<P: Admit<A>, A: Allocator + Copy> LineFilter<P, A> {
     // Takes bytes without a line feed.
     fn feed_open(&mut self, bytes: &[u8]) -> Result<(), AllocError>
         requires { has_line_feed bytes.now ≡ false }
-        ensures given { AfterLines P.Admit self.old (λ limit admits s.
-            OnOk result (GrowsBy admits limit s bytes.now self.old self.new)) }
+        ensures given { AfterLines P.Admit self.old (λ u limit admits s.
+            OnOk result (GrowsBy u admits limit s bytes.now self.old self.new)) }
         ensures policy { policy_of_lines self.new ≡ policy_of_lines self.old }
-        ensures refused { AfterLines P.Admit self.old (λ limit admits s.
+        ensures refused { AfterLines P.Admit self.old (λ u limit admits s.
             OnErr result (Refused A)) }
     {
         self.pass(bytes)
@@ -160,11 +171,11 @@ impl<P: Admit<A>, A: Allocator + Copy> LineFilter<P, A> {
 
     // Feeds the filter of the last line, and takes over the text that this adds.
     fn pass(&mut self, bytes: &[u8]) -> Result<(), AllocError>
-        ensures given { OnLine P.Admit self.old (λ limit admits s.
-            OnOk result (GrowsLine admits limit s bytes.now self.old self.new)) }
+        ensures given { OnLine P.Admit self.old (λ u limit admits s.
+            OnOk result (GrowsLine u admits limit s bytes.now self.old self.new)) }
         ensures kept { (policy_of_lines self.new ≡ policy_of_lines self.old)
             × (self.new.has_failed ≡ self.old.has_failed) }
-        ensures refused { OnLine P.Admit self.old (λ limit admits s.
+        ensures refused { OnLine P.Admit self.old (λ u limit admits s.
             OnErr result (Refused A)) }
     {
         match self.filter.feed(bytes) {
@@ -175,8 +186,8 @@ impl<P: Admit<A>, A: Allocator + Copy> LineFilter<P, A> {
 
     // Ends the last line, and its text. The next line is a stream of its own.
     fn end_line(&mut self) -> Result<(), AllocError>
-        ensures given { OnLine P.Admit self.old (λ limit admits l. OnOk result
-            (EndsLine admits limit l self.old self.new)) }
+        ensures given { OnLine P.Admit self.old (λ u limit admits l. OnOk result
+            (EndsLine u admits limit l self.old self.new)) }
         ensures kept { (policy_of_lines self.new ≡ policy_of_lines self.old)
             × (self.new.has_failed ≡ self.old.has_failed) }
         ensures refused { OnErr result (Refused A) }
@@ -190,8 +201,8 @@ impl<P: Admit<A>, A: Allocator + Copy> LineFilter<P, A> {
 
     // Takes back what the last line left changed, and begins a new stream.
     fn close(&mut self) -> Result<(), AllocError>
-        ensures given { OnLine P.Admit self.old (λ limit admits l. OnOk result
-            (ClosesLine admits limit l self.old self.new)) }
+        ensures given { OnLine P.Admit self.old (λ u limit admits l. OnOk result
+            (ClosesLine u admits limit l self.old self.new)) }
         ensures kept { (policy_of_lines self.new ≡ policy_of_lines self.old)
             × (self.new.has_failed ≡ self.old.has_failed) }
         ensures refused { OnErr result (Refused A) }

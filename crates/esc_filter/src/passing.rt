@@ -44,12 +44,15 @@ impl<'p, P: Admit<A>, A: Allocator> Passing<'p, P, A> {
             × (self.new.policy.now ≡ self.old.policy.now))
             (λ _. Refuses self.old action self.new) }
     {
-        if passes(self.policy, &action) {
-            self.written.receive(action)
-        } else {
+        if !passes(self.policy, &action) {
             self.policy.leaves_out(&action);
-            Ok(())
+            return Ok(());
         }
+        if self.written.drops(&action) {
+            self.policy.leaves_out(&action);
+            return Ok(());
+        }
+        self.written.receive(action)
     }
 }
 
@@ -87,8 +90,8 @@ impl<'p, P: Admit<A>, A: Allocator> Sink<Action<A>> for Passing<'p, P, A> {
 
     #[inline]
     fn receive_str(&mut self, text: &str) -> Result<(), AllocError> {
-        if self.policy.admits_str(text) {
-            return self.written.receive_str(text);
+        if self.policy.admits_str(text) && self.written.keeps(text) {
+            return self.written.append_str(text);
         }
         for c in text.chars() {
             match self.receive(Action::Print(c)) {

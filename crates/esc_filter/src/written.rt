@@ -1,14 +1,20 @@
 //! What writes the actions that pass, and notes what they leave changed.
-ghost use Rattle.std.specs.Prelude.{◌≡◌, [], false, MatchResult, OnErr, OnOk};
+ghost use Rattle.std.specs.Prelude.{◌≡◌, ◌∷◌, ◌<◌, [], false, true, length, map, IsTrue, MatchResult, OnErr, OnOk};
+ghost use Rattle.std.specs.List.{list_all};
+ghost use Rattle.std.specs.Str.{chars};
+ghost use Rattle.esc_values.specs.Clear.{is_clear};
 ghost use Rattle.esc_actions.specs.declared.action.Action.TheVariants as action;
+ghost use Rattle.esc_parse.specs.Given.{Receives};
 ghost use Rattle.memory.specs.Refusals.{Refused};
 ghost use Rattle.esc_filter.specs.Closing.{unchanged};
-ghost use Rattle.esc_actions.specs.Values.{control, value_of};
-ghost use Rattle.esc_filter.specs.Noted.{HasNoted, Notes, WriteDenies, without_text};
+ghost use Rattle.esc_actions.specs.Values.{control, print, value_of};
+ghost use Rattle.esc_filter.specs.Characters.{in_unicode, instead, visible};
+ghost use Rattle.esc_filter.specs.Noted.{AreKept, HasNoted, Notes, WriteDenies, Writes, without_text, written_of};
 ghost use Rattle.esc_filter.specs.Passing.{is_line_feed};
 
 use crate::left::{Left, link_after, renditions_after};
 use crate::text::emptied;
+use crate::unicode::{Unicode, has_deceiving, is_deceiving, push_visible};
 use esc_actions::{Action, ControlCode};
 use esc_normal::Spell;
 use esc_parse::Sink;
@@ -22,6 +28,8 @@ pub(crate) struct Written<A: Allocator = Global> {
     pub spell: Spell<A>,
     /// What they left changed.
     pub left: Left,
+    /// What is written of characters that deceive.
+    pub unicode: Unicode,
     /// Whether line feeds are dropped.
     pub by_lines: bool,
     /// Whether one was.
@@ -30,15 +38,17 @@ pub(crate) struct Written<A: Allocator = Global> {
 
 impl<A: Allocator> Written<A> {
     /// Of no action. Takes no memory.
-    pub fn new(alloc: A, by_lines: bool) -> Written<A>
+    pub fn new(alloc: A, by_lines: bool, unicode: Unicode) -> Written<A>
         ensures text { result.spell.text ≡ [] }
         ensures plain { result.spell.follows_string ≡ false }
         ensures left { result.left ≡ unchanged }
         ensures lines { result.by_lines ≡ by_lines }
+        ensures characters { result.unicode ≡ unicode }
     {
         Written {
             spell: Spell::new(alloc),
             left: Left::unchanged(),
+            unicode,
             by_lines,
             has_ended: false,
         }
@@ -52,6 +62,7 @@ impl<A: Allocator> Written<A> {
         let Written {
             spell,
             left,
+            unicode,
             by_lines,
             has_ended,
         } = self;
@@ -65,6 +76,7 @@ impl<A: Allocator> Written<A> {
                 follows_string,
             },
             left,
+            unicode,
             by_lines,
             has_ended,
         }
@@ -73,7 +85,7 @@ impl<A: Allocator> Written<A> {
     /// Begins a new stream. The text stays.
     pub fn restart(&mut self)
         ensures text { self.new.spell.text ≡ self.old.spell.text }
-        ensures noted { HasNoted self.old.by_lines [] self.new }
+        ensures noted { HasNoted self.old.by_lines self.old.unicode [] self.new }
     {
         self.spell.follows_string = false;
         self.left = Left::unchanged();
@@ -82,6 +94,98 @@ impl<A: Allocator> Written<A> {
 }
 
 impl<A: Allocator> Written<A> {
+    /// Whether nothing is written of the action, since it is a character that deceives.
+    #[inline]
+    pub fn drops(&self, action: &Action<A>) -> bool
+        ensures { IsTrue result
+            → written_of self.now.by_lines self.now.unicode (value_of action.now) ≡ [] }
+    {
+        match action {
+            Action::Print(c) => self.unicode.drops(*c),
+            _ => false,
+        }
+    }
+
+    /// Whether each of the characters is written as it is, where it is seen at once.
+    #[inline]
+    pub fn keeps(&self, text: &str) -> bool
+        ensures { IsTrue result → AreKept self.now.unicode (chars text.now) }
+    {
+        if let Unicode::Keep = self.unicode {
+            return true;
+        }
+        !has_deceiving(text)
+    }
+
+    /// Appends a run of characters that are written as they are.
+    #[inline]
+    pub fn append_str(&mut self, text: &str) -> Result<(), AllocError>
+        requires kept { AreKept self.old.unicode (chars text.now) }
+        requires some { 0 < length text.now }
+        requires clear { list_all is_clear (chars text.now) ≡ true }
+        ensures { Receives ⊥ Notes WriteDenies result self.old
+            (map action.Print (chars text.now)) self.new }
+    {
+        self.spell.receive_str(text)
+    }
+
+    // Appends what is written of a character.
+    #[inline]
+    fn append_char(&mut self, c: char) -> Result<(), AllocError>
+        ensures ok { OnOk result
+            (Writes self.old (in_unicode self.old.unicode (print c)) self.new) }
+        ensures refused { OnErr result (Refused A) }
+    {
+        if let Unicode::Keep = self.unicode {
+            return self.append_kept(c);
+        }
+        if !is_deceiving(c) {
+            return self.append_kept(c);
+        }
+        self.append_instead(c)
+    }
+
+    // Appends what is written in place of a character that deceives.
+    fn append_instead(&mut self, c: char) -> Result<(), AllocError>
+        ensures ok { OnOk result (Writes self.old (instead self.old.unicode c) self.new) }
+        ensures refused { OnErr result (Refused A) }
+    {
+        match self.unicode {
+            Unicode::Keep => self.append_kept(c),
+            Unicode::Show => self.append_visible(c),
+            Unicode::Drop => Ok(()),
+        }
+    }
+
+    // Appends a character.
+    #[inline]
+    fn append_kept(&mut self, c: char) -> Result<(), AllocError>
+        ensures ok { OnOk result (Writes self.old (print c ∷ []) self.new) }
+        ensures refused { OnErr result (Refused A) }
+    {
+        match self.spell.text.push(c) {
+            Ok(()) => {
+                self.spell.follows_string = false;
+                Ok(())
+            }
+            Err(error) => Err(error),
+        }
+    }
+
+    // Appends the visible form of a character.
+    fn append_visible(&mut self, c: char) -> Result<(), AllocError>
+        ensures ok { OnOk result (Writes self.old (map print (visible c)) self.new) }
+        ensures refused { OnErr result (Refused A) }
+    {
+        match push_visible(&mut self.spell.text, c) {
+            Ok(()) => {
+                self.spell.follows_string = false;
+                Ok(())
+            }
+            Err(error) => Err(error),
+        }
+    }
+
     /// Appends a control, or notes the end of a line.
     #[inline]
     pub fn append_control(&mut self, code: ControlCode) -> Result<(), AllocError>
@@ -105,8 +209,7 @@ impl<A: Allocator> Written<A> {
     // that takes characters.
     #[inline(never)]
     fn append(&mut self, action: Action<A>) -> Result<(), AllocError>
-        requires { is_line_feed (value_of action) ≡ false }
-        ensures { MatchResult result (λ _. Notes self.old action self.new)
+        ensures { MatchResult result (λ _. Writes self.old (value_of action ∷ []) self.new)
             (λ _. WriteDenies self.old action self.new) }
     {
         self.left.note(&action);
@@ -126,9 +229,9 @@ impl<A: Allocator> Sink<Action<A>> for Written<A> {
     #[inline]
     fn receive(&mut self, action: Action<A>) -> Result<(), AllocError> {
         match action {
+            Action::Print(c) => self.append_char(c),
             Action::Control(code) => self.append_control(code),
-            Action::Print(_)
-            | Action::PrintString(_)
+            Action::PrintString(_)
             | Action::Esc(_)
             | Action::CSI(_)
             | Action::OperatingSystemCommand(_)
@@ -142,11 +245,6 @@ impl<A: Allocator> Sink<Action<A>> for Written<A> {
     #[inline]
     fn receive_text(&mut self, text: &[u8]) -> Result<(), AllocError> {
         self.spell.receive_text(text)
-    }
-
-    #[inline]
-    fn receive_str(&mut self, text: &str) -> Result<(), AllocError> {
-        self.spell.receive_str(text)
     }
 
     #[inline]

@@ -4,6 +4,7 @@ use Rattle.esc_filter.proofs.Closers.{closed_more}
 use Rattle.esc_actions.specs.Texts.{list_text}
 use Rattle.esc_filter.specs.Closing.{closing}
 use Rattle.esc_filter.specs.Passing.{closed_text, passed, passed_text, IsFiltered}
+use Rattle.esc_filter.specs.declared.unicode.Unicode.TheVariants.{Keep}
 use Rattle.esc_filter.proofs.filtering.filter_stream.Goals as goal
 
 pub returns-clause-holds : goal.returns-clause-holds
@@ -12,12 +13,12 @@ returns-clause-holds g c =
     let limit = c.args.limit in
     let m = passed_text {A = g.row.A.Denot} (Some limit) admits in
     let e = closed_text {A = g.row.A.Denot} (Some limit) admits in
-    let new = begun g.P.Admit.admits limit c.args.policy c.new-filter.result
+    let new = begun g.P.Admit.admits Keep limit c.args.policy c.new-filter.result
     c.new-filter.ensures.policy c.new-filter.ensures.fed in
     let f = filters e m (λ b. IsFiltered b (Some limit) admits)
     (c.passed_reads_back.ensures.ended (Some limit) admits)
     (c.passed_reads_back.ensures.goes_on (Some limit) admits) _ _ _
-    (c.filter_from.ensures.holds m e new (nothing limit admits)
+    (c.filter_from.ensures.holds m e new (nothing Keep limit admits)
     (λ s. let vs = passed (Some limit) admits s in (list_text (closing vs), closed_more vs))) in
     record {
       read_all = f.read_all;
@@ -34,8 +35,8 @@ pub returns-clause-refused : goal.returns-clause-refused
 returns-clause-refused g c =
     let admits = g.P.Admit.admits c.args.policy in
     let limit = c.args.limit in
-    let new = begun g.P.Admit.admits limit c.args.policy c.new-filter.result
+    let new = begun g.P.Admit.admits Keep limit c.args.policy c.new-filter.result
     c.new-filter.ensures.policy c.new-filter.ensures.fed in
     c.filter_from.ensures.refused (passed_text {A = g.row.A.Denot} (Some limit) admits)
-    (closed_text {A = g.row.A.Denot} (Some limit) admits) new (nothing limit admits)
+    (closed_text {A = g.row.A.Denot} (Some limit) admits) new (nothing Keep limit admits)
     (λ s. let vs = passed (Some limit) admits s in (list_text (closing vs), closed_more vs))

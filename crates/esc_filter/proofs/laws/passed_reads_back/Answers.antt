@@ -1,11 +1,8 @@
-use Rattle.std.proofs.Common.{true, false}
-use Rattle.esc_filter.proofs.Writable.{is_filtered}
+use Rattle.esc_filter.specs.declared.unicode.Unicode.TheVariants.{Keep}
 use Rattle.esc_filter.proofs.laws.passed_reads_back.Goals as goal
 
 pub returns-clause-goes_on : goal.returns-clause-goes_on
-returns-clause-goes_on g c =
-    is_filtered c.handed_out.ensures c.reads_back.ensures c.reads_by_itself.ensures false
+returns-clause-goes_on g c = c.written_reads_back.ensures.goes_on Keep
 
 pub returns-clause-ended : goal.returns-clause-ended
-returns-clause-ended g c =
-    is_filtered c.handed_out.ensures c.reads_back.ensures c.reads_by_itself.ensures true
+returns-clause-ended g c = c.written_reads_back.ensures.ended Keep

@@ -3,6 +3,7 @@ use Rattle.esc_filter.proofs.Texts.{text_longer}
 use Rattle.esc_filter.specs.Fed.{TakesIn}
 use Rattle.esc_filter.specs.Passing.{passed_text}
 use Rattle.esc_filter.specs.Rules.{admits}
+use Rattle.esc_filter.specs.declared.unicode.Unicode.TheVariants.{Keep}
 use Rattle.escape_c.proofs.SameState.{same_fed, same_policy}
 use Rattle.escape_c.proofs.pieces.escape_stream_filter_feed.Goals as goal
 use Rattle.escape_c.specs.Pieces.{text_in}
@@ -15,7 +16,7 @@ returns-in-Ok-clause-taken c = λ limit p s h done.
     let policy = same_policy limit p s f old is h in
     let k = subst
     (λ x. TakesIn {A = Global} false (admits x) limit s c.args.bytes.now c.feed.new.self)
-    policy (c.in-Ok.ensures.given false limit s (same_fed limit p s f old is h)) in
+    policy (c.in-Ok.ensures.given false Keep limit s (same_fed limit p s f old is h)) in
     record {
       fed = (
         record { filter = c.feed.new.self },
@@ -42,5 +43,5 @@ returns-in-Err-clause-memory c = λ limit p s h differs.
           text_longer {A = Global} (Some limit) (admits p) s c.args.bytes.now,
         );
       },
-      (c.in-Err.ensures.refused false limit s (same_fed limit p s f old is h)).3,
+      (c.in-Err.ensures.refused false Keep limit s (same_fed limit p s f old is h)).3,
     )

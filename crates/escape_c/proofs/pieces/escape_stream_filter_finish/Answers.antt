@@ -2,6 +2,7 @@ use Rattle.std.proofs.Common.{Global, ◌++◌, false, Some, ap, sym, subst, ◌
 use Rattle.esc_filter.specs.Fed.{Ends}
 use Rattle.esc_filter.specs.Passing.{passed_text}
 use Rattle.esc_filter.specs.Rules.{admits}
+use Rattle.esc_filter.specs.declared.unicode.Unicode.TheVariants.{Keep}
 use Rattle.escape_c.proofs.SameState.{same_fed, same_policy}
 use Rattle.escape_c.proofs.pieces.escape_stream_filter_finish.Goals as goal
 use Rattle.escape_c.specs.Pieces.{text_in}
@@ -13,7 +14,7 @@ returns-in-Ok-clause-finished c = λ limit p s h done.
     let is = c.in-Some.ensures.some ∙ ap Some (sym c.deref_mut.ensures.value) in
     let policy = same_policy limit p s f old is h in
     let k = subst (λ x. Ends {A = Global} false (admits x) limit s c.finish.new.self) policy
-    (c.in-Ok.ensures.ended false limit s (same_fed limit p s f old is h)) in
+    (c.in-Ok.ensures.ended false Keep limit s (same_fed limit p s f old is h)) in
     record {
       fed = (
         record { filter = c.finish.new.self },

@@ -5,20 +5,20 @@ use Rattle.esc_filter.proofs.Closers.{closed_more}
 use Rattle.esc_filter.proofs.feeding.FilterFeeding.finish_all.Goals as goal
 use Rattle.esc_filter.specs.Closing.{closing}
 use Rattle.esc_filter.specs.Fed.{policy_of}
-use Rattle.esc_filter.specs.Passing.{passed}
+use Rattle.esc_filter.specs.Passing.{passed_as}
 
 pub returns-clause-ended : goal.returns-clause-ended
 returns-clause-ended g c = λ m e s h.
-    let vs = passed (Some h.0) (g.P.Admit.admits (policy_of c.args.self.now)) s in
+    let vs = passed_as h.0 (Some h.1) (g.P.Admit.admits (policy_of c.args.self.now)) s in
     on_ok_more _ _ c.finish.result (λ k.
-    ap (λ f. f s) h.3 ∙ closed_more vs ∙ ap (λ t. t ++ list_text (closing vs))
-    (sym (ap (λ f. f s) h.2)) ∙ ap (λ t. m s ++ t) (sym k.1))
-    (c.finish.ensures.ended false h.0 s h.1)
+    ap (λ f. f s) h.4 ∙ closed_more vs ∙ ap (λ t. t ++ list_text (closing vs))
+    (sym (ap (λ f. f s) h.3)) ∙ ap (λ t. m s ++ t) (sym k.1))
+    (c.finish.ensures.ended false h.0 h.1 s h.2)
 
 pub returns-clause-longer : goal.returns-clause-longer
 returns-clause-longer g c = λ m e s h.
-    let vs = passed (Some h.0) (g.P.Admit.admits (policy_of c.args.self.now)) s in (
+    let vs = passed_as h.0 (Some h.1) (g.P.Admit.admits (policy_of c.args.self.now)) s in (
       list_text (closing vs),
-      ap (λ f. f s) h.3 ∙ closed_more vs
-          ∙ ap (λ t. t ++ list_text (closing vs)) (sym (ap (λ f. f s) h.2)),
+      ap (λ f. f s) h.4 ∙ closed_more vs
+          ∙ ap (λ t. t ++ list_text (closing vs)) (sym (ap (λ f. f s) h.3)),
     )

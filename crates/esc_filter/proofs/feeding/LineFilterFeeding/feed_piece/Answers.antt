@@ -1,38 +1,39 @@
 use Rattle.std.proofs.Common.{◌≡◌, ◌++◌, ℕ, sym, ap, ◌∙◌, subst}
 use Rattle.esc_filter.proofs.ByLines.{by_longer}
 use Rattle.esc_filter.proofs.feeding.LineFilterFeeding.feed_piece.Goals as goal
-use Rattle.esc_filter.specs.Lines.{WasFedLines, added_by, closed_by_lines, policy_of_lines, text_by_lines}
+use Rattle.esc_filter.specs.Lines.{WasFedLines, added_by, closed_by_lines_as, policy_of_lines, text_by_lines_as}
+use Rattle.esc_filter.specs.declared.unicode.Unicode.{Unicode}
 
 pub returns-in-Ok-clause-given : goal.returns-in-Ok-clause-given
 returns-in-Ok-clause-given g c = λ m e s h.
     let bs = c.args.bytes.now in
     let new = c.feed.new.self in
-    let k = c.in-Ok.ensures.given h.0 s h.1 in (
-      subst (λ q. (l : ℕ) × WasFedLines l (g.P.Admit.admits q) (s ++ bs) new
-          × (m ≡ text_by_lines {A = g.row.A.Denot} l (g.P.Admit.admits q))
-          × (e ≡ closed_by_lines {A = g.row.A.Denot} l (g.P.Admit.admits q)))
-          (sym c.in-Ok.ensures.policy) (h.0, k.0, h.2, h.3),
-      ap (λ f. f (s ++ bs)) h.2 ∙ k.1
-          ∙ ap (λ y. y ++ added_by new) (sym (ap (λ f. f s) h.2)),
+    let k = c.in-Ok.ensures.given h.0 h.1 s h.2 in (
+      subst (λ q. (u : Unicode) × (l : ℕ) × WasFedLines u l (g.P.Admit.admits q) (s ++ bs) new
+          × (m ≡ text_by_lines_as {A = g.row.A.Denot} u l (g.P.Admit.admits q))
+          × (e ≡ closed_by_lines_as {A = g.row.A.Denot} u l (g.P.Admit.admits q)))
+          (sym c.in-Ok.ensures.policy) (h.0, h.1, k.0, h.3, h.4),
+      ap (λ f. f (s ++ bs)) h.3 ∙ k.1
+          ∙ ap (λ y. y ++ added_by new) (sym (ap (λ f. f s) h.3)),
     )
 
 pub returns-in-Ok-clause-longer : goal.returns-in-Ok-clause-longer
 returns-in-Ok-clause-longer g c = λ m e s h.
     let bs = c.args.bytes.now in
     let admits = g.P.Admit.admits (policy_of_lines c.args.self.now) in
-    let k = by_longer h.0 admits s c.args.self.now h.1 bs in (
+    let k = by_longer h.0 h.1 admits s c.args.self.now h.2 bs in (
       k.0,
-      ap (λ f. f (s ++ bs)) h.2 ∙ k.1 ∙ ap (λ y. y ++ k.0) (sym (ap (λ f. f s) h.2)),
+      ap (λ f. f (s ++ bs)) h.3 ∙ k.1 ∙ ap (λ y. y ++ k.0) (sym (ap (λ f. f s) h.3)),
     )
 
 pub returns-in-Err-clause-longer : goal.returns-in-Err-clause-longer
 returns-in-Err-clause-longer g c = λ m e s h.
     let bs = c.args.bytes.now in
     let admits = g.P.Admit.admits (policy_of_lines c.args.self.now) in
-    let k = by_longer h.0 admits s c.args.self.now h.1 bs in (
+    let k = by_longer h.0 h.1 admits s c.args.self.now h.2 bs in (
       k.0,
-      ap (λ f. f (s ++ bs)) h.2 ∙ k.1 ∙ ap (λ y. y ++ k.0) (sym (ap (λ f. f s) h.2)),
+      ap (λ f. f (s ++ bs)) h.3 ∙ k.1 ∙ ap (λ y. y ++ k.0) (sym (ap (λ f. f s) h.3)),
     )
 
 pub returns-in-Err-clause-refused : goal.returns-in-Err-clause-refused
-returns-in-Err-clause-refused g c = λ m e s h. (c.in-Err.ensures.refused h.0 s h.1).3
+returns-in-Err-clause-refused g c = λ m e s h. (c.in-Err.ensures.refused h.0 h.1 s h.2).3

@@ -5,22 +5,24 @@ use Rattle.esc_filter.specs.Lines.{added_by, line_closing, policy_of_lines}
 
 pub returns-in-Ok-clause-ended : goal.returns-in-Ok-clause-ended
 returns-in-Ok-clause-ended g c = λ m e s h.
-    ap (λ f. f s) h.3 ∙ (c.in-Ok.ensures.ended h.0 s h.1).1
-    ∙ ap (λ y. y ++ added_by c.finish.new.self) (sym (ap (λ f. f s) h.2))
+    ap (λ f. f s) h.4 ∙ (c.in-Ok.ensures.ended h.0 h.1 s h.2).1
+    ∙ ap (λ y. y ++ added_by c.finish.new.self) (sym (ap (λ f. f s) h.3))
 
 pub returns-in-Ok-clause-longer : goal.returns-in-Ok-clause-longer
 returns-in-Ok-clause-longer g c = λ m e s h.
-    let t = list_text (line_closing h.0 (g.P.Admit.admits (policy_of_lines c.args.self.now)) s) in (
+    let admits = g.P.Admit.admits (policy_of_lines c.args.self.now) in
+    let t = list_text (line_closing h.0 h.1 admits s) in (
       t,
-      ap (λ f. f s) h.3 ∙ ap (λ y. y ++ t) (sym (ap (λ f. f s) h.2)),
+      ap (λ f. f s) h.4 ∙ ap (λ y. y ++ t) (sym (ap (λ f. f s) h.3)),
     )
 
 pub returns-in-Err-clause-longer : goal.returns-in-Err-clause-longer
 returns-in-Err-clause-longer g c = λ m e s h.
-    let t = list_text (line_closing h.0 (g.P.Admit.admits (policy_of_lines c.args.self.now)) s) in (
+    let admits = g.P.Admit.admits (policy_of_lines c.args.self.now) in
+    let t = list_text (line_closing h.0 h.1 admits s) in (
       t,
-      ap (λ f. f s) h.3 ∙ ap (λ y. y ++ t) (sym (ap (λ f. f s) h.2)),
+      ap (λ f. f s) h.4 ∙ ap (λ y. y ++ t) (sym (ap (λ f. f s) h.3)),
     )
 
 pub returns-in-Err-clause-refused : goal.returns-in-Err-clause-refused
-returns-in-Err-clause-refused g c = λ m e s h. (c.in-Err.ensures.refused h.0 s h.1).3
+returns-in-Err-clause-refused g c = λ m e s h. (c.in-Err.ensures.refused h.0 h.1 s h.2).3

@@ -1,21 +1,22 @@
 use Rattle.std.proofs.Common.{Some, false, sym, ap, ◌∙◌}
-use Rattle.std.specs.List.{filter}
+use Rattle.esc_filter.proofs.Characters.{of_nothing}
 use Rattle.esc_actions.proofs.Meanings.{meaning_nil}
 use Rattle.esc_filter.proofs.filter.Filter.restart.Goals as goal
 use Rattle.esc_filter.specs.Closing.{after_values, unchanged}
 use Rattle.esc_filter.specs.Fed.{policy_of}
-use Rattle.esc_filter.specs.Passing.{in_lines, passes}
+use Rattle.esc_filter.specs.Passing.{in_lines}
 use Rattle.esc_filter.specs.Texts.{ends_in_string}
 
 pub returns-clause-fed : goal.returns-clause-fed
-returns-clause-fed g c = λ b limit s h.
+returns-clause-fed g c = λ b u limit s h.
     let admits = in_lines b (g.P.Admit.admits (policy_of c.args.self.now)) in
     let nil = sym (meaning_nil (Some limit)) in
     let n = c.restart-2.ensures.noted in (
       c.restart.ensures.fed (Some limit) s h.0,
       (
-        n.0 ∙ ap (λ vs. ends_in_string false (filter (passes admits) vs)) nil,
-        n.1 ∙ ap (λ vs. after_values (filter (passes admits) vs) unchanged) nil,
+        n.0 ∙ ap (ends_in_string false) (of_nothing u admits nil),
+        n.1 ∙ ap (λ vs. after_values vs unchanged) (of_nothing u admits nil),
         n.2 ∙ h.1.2,
+        n.3 ∙ h.1.3,
       ),
     )

@@ -7,19 +7,19 @@ use Rattle.esc_filter.specs.Lines.{added_by, passed_of_line, policy_of_lines}
 use Rattle.esc_filter.proofs.line_filter.LineFilter.close.Goals as goal
 
 pub returns-then-not-is_changed-clause-given : goal.returns-then-not-is_changed-clause-given
-returns-then-not-is_changed-clause-given g c = λ limit l h.
-    let vs = passed_of_line limit (g.P.Admit.admits (policy_of_lines c.args.self.now)) l in
+returns-then-not-is_changed-clause-given g c = λ u limit l h.
+    let vs = passed_of_line u limit (g.P.Admit.admits (policy_of_lines c.args.self.now)) l in
     let none : c.is_changed.result ≡ false = search rules in
     let e : list_text (closing vs) ≡ [] =
     ap list_text (ap given_back (sym h.1.1)
     ∙ nothing_back c.args.self.now.filter.written.left (c.is_changed.ensures none)) in (
-      c.restart.ensures.fed true limit l h,
+      c.restart.ensures.fed true u limit l h,
       sym (append-nil (added_by c.args.self.now))
           ∙ ap (λ t. added_by c.args.self.now ++ t) (sym e),
     )
 
 pub returns-in-Ok-clause-given : goal.returns-in-Ok-clause-given
-returns-in-Ok-clause-given g c = λ limit l h.
-    let d = c.in-Ok.ensures.ended true limit l h in
+returns-in-Ok-clause-given g c = λ u limit l h.
+    let d = c.in-Ok.ensures.ended true u limit l h in
     pushed c.push_str.result (added_by c.args.self.now) c.text.result.now _ c.push_str.ensures.bytes
     (λ e. (d.0, e ∙ ap (λ t. added_by c.args.self.now ++ t) (c.text.ensures ∙ d.1)))

@@ -17,8 +17,8 @@ pub loop-at-init : goal.loop-at-init
 loop-at-init g c = record {
   within = search rules;
   policy = refl;
-  grown = λ limit s w.
-      grows_not limit (g.P.Admit.admits (policy_of_lines c.args.self.now)) s c.args.self.now w;
+  grown = λ u limit s w.
+      grows_not u limit (g.P.Admit.admits (policy_of_lines c.args.self.now)) s c.args.self.now w;
 }
 
 pub loop-at-preserved : goal.loop-at-preserved
@@ -30,54 +30,54 @@ loop-at-preserved g c =
     record {
       within = search rules;
       policy = c.feed_line.ensures.policy ∙ inv.policy;
-      grown = λ limit s w.
+      grown = λ u limit s w.
           let admits = g.P.Admit.admits (policy_of_lines c.args.self.now) in
-          let before = inv.grown limit s w in
+          let before = inv.grown u limit s w in
           let sx = s ++ take at bs in
-          subst (λ x. GrowsBy admits limit s x c.args.self.now c.feed_line.new.self)
+          subst (λ x. GrowsBy u admits limit s x c.args.self.now c.feed_line.new.self)
           (run_joins bs at c.in-Some.n)
-          (grows_more limit admits s (take at bs) piece c.args.self.now c.loop-at.self
+          (grows_more u limit admits s (take at bs) piece c.args.self.now c.loop-at.self
           c.feed_line.new.self before
-          (subst (λ p. WasFedLines limit (g.P.Admit.admits p) sx c.loop-at.self
-          → GrowsBy (g.P.Admit.admits p) limit sx piece c.loop-at.self c.feed_line.new.self)
-          inv.policy (c.in-Ok.ensures.given limit sx) before.1.0));
+          (subst (λ p. WasFedLines u limit (g.P.Admit.admits p) sx c.loop-at.self
+          → GrowsBy u (g.P.Admit.admits p) limit sx piece c.loop-at.self c.feed_line.new.self)
+          inv.policy (c.in-Ok.ensures.given u limit sx) before.1.0));
     }
 
 pub returns-in-Err-clause-refused : goal.returns-in-Err-clause-refused
-returns-in-Err-clause-refused g c = λ limit s w.
+returns-in-Err-clause-refused g c = λ u limit s w.
     let inv = c.loop-at.invariant in
     let sx = s ++ take c.loop-at.at c.args.bytes.now in
-    c.in-Err.ensures.refused limit sx
-    (subst (λ p. WasFedLines limit (g.P.Admit.admits p) sx c.loop-at.self) (sym inv.policy)
-    (inv.grown limit s w).1.0)
+    c.in-Err.ensures.refused u limit sx
+    (subst (λ p. WasFedLines u limit (g.P.Admit.admits p) sx c.loop-at.self) (sym inv.policy)
+    (inv.grown u limit s w).1.0)
 
 pub returns-in-None-clause-given : goal.returns-in-None-clause-given
-returns-in-None-clause-given g c = λ limit s w.
+returns-in-None-clause-given g c = λ u limit s w.
     let bs = c.args.bytes.now in
     let at = c.loop-at.at in
     let inv = c.loop-at.invariant in
     let admits = g.P.Admit.admits (policy_of_lines c.args.self.now) in
-    let before = inv.grown limit s w in
+    let before = inv.grown u limit s w in
     let sx = s ++ take at bs in
     on_ok_more _ _ c.feed_open.result
-    (λ h. subst (λ x. GrowsBy admits limit s x c.args.self.now c.feed_open.new.self) (all bs at)
-    (grows_more limit admits s (take at bs) (tail bs at) c.args.self.now c.loop-at.self
+    (λ h. subst (λ x. GrowsBy u admits limit s x c.args.self.now c.feed_open.new.self) (all bs at)
+    (grows_more u limit admits s (take at bs) (tail bs at) c.args.self.now c.loop-at.self
     c.feed_open.new.self before h))
-    (subst (λ p. WasFedLines limit (g.P.Admit.admits p) sx c.loop-at.self
-    → OnOk c.feed_open.result (GrowsBy (g.P.Admit.admits p) limit sx (tail bs at) c.loop-at.self
-    c.feed_open.new.self)) inv.policy (c.feed_open.ensures.given limit sx) before.1.0)
+    (subst (λ p. WasFedLines u limit (g.P.Admit.admits p) sx c.loop-at.self
+    → OnOk c.feed_open.result (GrowsBy u (g.P.Admit.admits p) limit sx (tail bs at) c.loop-at.self
+    c.feed_open.new.self)) inv.policy (c.feed_open.ensures.given u limit sx) before.1.0)
 
 pub returns-in-None-clause-refused : goal.returns-in-None-clause-refused
-returns-in-None-clause-refused g c = λ limit s w.
+returns-in-None-clause-refused g c = λ u limit s w.
     let inv = c.loop-at.invariant in
     let sx = s ++ take c.loop-at.at c.args.bytes.now in
-    c.feed_open.ensures.refused limit sx
-    (subst (λ p. WasFedLines limit (g.P.Admit.admits p) sx c.loop-at.self) (sym inv.policy)
-    (inv.grown limit s w).1.0)
+    c.feed_open.ensures.refused u limit sx
+    (subst (λ p. WasFedLines u limit (g.P.Admit.admits p) sx c.loop-at.self) (sym inv.policy)
+    (inv.grown u limit s w).1.0)
 
 pub returns-clause-given : goal.returns-clause-given
-returns-clause-given g c = λ limit s w.
+returns-clause-given g c = λ u limit s w.
     let bs = c.args.bytes.now in
     let admits = g.P.Admit.admits (policy_of_lines c.args.self.now) in
-    subst (λ x. GrowsBy admits limit s x c.args.self.now c.loop-at.self)
-    (take_all c.loop-at.at bs (search rules)) (c.loop-at.invariant.grown limit s w)
+    subst (λ x. GrowsBy u admits limit s x c.args.self.now c.loop-at.self)
+    (take_all c.loop-at.at bs (search rules)) (c.loop-at.invariant.grown u limit s w)

@@ -4,8 +4,8 @@ use Rattle.esc_filter.specs.Lines.{added_by}
 use Rattle.esc_filter.proofs.line_filter.LineFilter.pass.Goals as goal
 
 pub returns-in-Ok-clause-given : goal.returns-in-Ok-clause-given
-returns-in-Ok-clause-given g c = λ limit l h.
-    let d = c.in-Ok.ensures.given true limit l h in
+returns-in-Ok-clause-given g c = λ u limit l h.
+    let d = c.in-Ok.ensures.given true u limit l h in
     pushed c.push_str.result (added_by c.args.self.now) c.text.result.now _ c.push_str.ensures.bytes
     (λ e. (
       d.0,
@@ -13,4 +13,4 @@ returns-in-Ok-clause-given g c = λ limit l h.
     ))
 
 pub returns-in-Err-clause-refused : goal.returns-in-Err-clause-refused
-returns-in-Err-clause-refused g c = λ limit l h. (c.in-Err.ensures.refused true limit l h).3
+returns-in-Err-clause-refused g c = λ u limit l h. (c.in-Err.ensures.refused true u limit l h).3

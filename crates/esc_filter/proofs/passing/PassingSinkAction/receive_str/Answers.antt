@@ -7,13 +7,13 @@ use Rattle.esc_filter.proofs.Runs.{TakesBy, run_passes, run_refused}
 use Rattle.esc_filter.specs.Fed.{Refuses}
 use Rattle.esc_filter.proofs.passing.PassingSinkAction.receive_str.Goals as goal
 
-pub returns-then-admits_str-clause-given : goal.returns-then-admits_str-clause-given
-returns-then-admits_str-clause-given g c =
-    match_both _ _ _ _ c.receive_str.result
-    (run_passes g.P.Admit.admits (chars c.args.text.now) c.args.self.now c.receive_str.new.self
+pub returns-then-keeps-clause-given : goal.returns-then-keeps-clause-given
+returns-then-keeps-clause-given g c =
+    match_both _ _ _ _ c.append_str.result
+    (run_passes g.P.Admit.admits (chars c.args.text.now) c.args.self.now c.append_str.new.self
     (c.admits_str.ensures c.if-admits_str.true))
-    (run_refused g.P.Admit.admits (chars c.args.text.now) c.args.self.now c.receive_str.new.self)
-    c.receive_str.ensures.given
+    (run_refused g.P.Admit.admits (chars c.args.text.now) c.args.self.now c.append_str.new.self)
+    c.append_str.ensures
 
 pub loop-c-preserved : goal.loop-c-preserved
 loop-c-preserved g c =

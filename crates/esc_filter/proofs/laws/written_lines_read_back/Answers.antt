@@ -1,0 +1,20 @@
+use Rattle.std.proofs.Common.{true, [], ◌∷◌, Some, refl}
+use Rattle.esc_actions.specs.Values.{control}
+use Rattle.esc_actions.specs.declared.control_code.ControlCode.TheVariants.{LineFeed}
+use lib.Utf8.{encode}
+use Rattle.esc_filter.specs.Closing.{after_values, closing, unchanged}
+use Rattle.esc_filter.specs.Passing.{in_lines}
+use Rattle.esc_filter.proofs.Closers.{back_writable}
+use Rattle.esc_filter.proofs.ReadLines.{filtered}
+use Rattle.esc_filter.proofs.laws.written_lines_read_back.Goals as goal
+
+pub returns : goal.returns
+unfolding encode
+returns g c = λ has_ended u limit admits s.
+    filtered u limit admits
+    (λ l. (c.written_reads_back.ensures.goes_on u (Some limit) (in_lines true admits)
+    l).whatever_follows)
+    (λ l. (c.written_reads_back.ensures.ended u (Some limit) (in_lines true admits)
+    l).whatever_follows)
+    (λ vs. c.reads_by_itself.ensures (closing vs) (back_writable _ (after_values vs unchanged)))
+    (c.reads_by_itself.ensures (control LineFeed ∷ []) (refl, refl, refl)) has_ended s
