@@ -3,7 +3,7 @@ use crate::fault::Fault;
 use crate::questions::check_questions;
 use crate::report::Report;
 use crate::row::Row;
-use esc_filter::{FilterError, Policy, filter_stream};
+use esc_filter::{Filter, FilterError, Policy, Unicode, filter_from, filter_stream};
 use escape_stream::Watched;
 use refusing::Refusing;
 use refusing::byte_reader::ByteReader;
@@ -23,6 +23,9 @@ const POLICIES: [(Policy, &str); 4] = [
     (Policy::All, "as-all"),
 ];
 
+// What can be written of characters that deceive, and the words before what is.
+const CHARACTERS: [(Unicode, &str); 2] = [(Unicode::Show, "shown"), (Unicode::Drop, "dropped")];
+
 /// What each policy lets through of a stream, read whole and byte by byte, that it is flushed, and
 /// that a policy is asked once of each action; and what is written of it where a read, a write or a
 /// request for memory fails, at each of them in turn.
@@ -39,6 +42,7 @@ pub fn check_filtered(alloc: Global, row: &Row, report: &mut Report) -> Result<(
         let by_bytes = filtered(alloc, byte_by_byte(stream, 0), policy);
         report.expect(row.name, word, wanted.as_str(), by_bytes)?;
     }
+    check_characters(alloc, row, stream, report)?;
     check_reads(alloc, stream, wanted.as_str())?;
     check_writes(alloc, stream, wanted.as_str())?;
     check_flushes(alloc, stream, wanted.as_str())?;
@@ -52,6 +56,38 @@ fn byte_by_byte(stream: &[u8], fails_at: usize) -> ByteReader<'_> {
         calls: 0,
         fails_at,
     }
+}
+
+// What is written of all actions where characters that deceive are not kept, read whole and byte by
+// byte.
+fn check_characters(
+    alloc: Global,
+    row: &Row,
+    stream: &[u8],
+    report: &mut Report,
+) -> Result<(), Fault> {
+    for (unicode, word) in CHARACTERS {
+        if row.has(word) {
+            let wanted = row.text(alloc, word)?;
+            let whole = written_as(alloc, stream, unicode);
+            report.expect(row.name, word, wanted.as_str(), whole)?;
+            let by_bytes = written_as(alloc, byte_by_byte(stream, 0), unicode);
+            report.expect(row.name, word, wanted.as_str(), by_bytes)?;
+        }
+    }
+    Ok(())
+}
+
+fn written_as<R: Read + Drop>(
+    alloc: Global,
+    reader: R,
+    unicode: Unicode,
+) -> Result<String, AllocError> {
+    let mut filter = Filter::with_unicode(alloc, LIMIT, Policy::All, unicode);
+    let mut reader = Watched::new(reader);
+    let mut writer = Watched::new(Vec::new(alloc));
+    let ending = filter_from(alloc, &mut filter, &mut reader, &mut writer);
+    text_of(alloc, ending, writer.into_inner())
 }
 
 // How a filter ends, and its writer then.
@@ -74,6 +110,15 @@ fn filtered<R: Read + Drop>(
     policy: Policy,
 ) -> Result<String, AllocError> {
     let (ending, text) = run(alloc, reader, Vec::new(alloc), policy);
+    text_of(alloc, ending, text)
+}
+
+// The text that was written, where all was.
+fn text_of(
+    alloc: Global,
+    ending: Result<(), FilterError>,
+    text: Vec<u8>,
+) -> Result<String, AllocError> {
     match String::from_utf8(text) {
         Ok(text) if ending.is_ok() => Ok(text),
         _ => String::from_str(alloc, "a stream that cannot be filtered"),
