@@ -365,6 +365,23 @@ split_at_feed (a ∷ b) = by_head (is_line_feed a) refl (split_at_feed b)
     by_head false e (inl n) = inl (rw e n)
     by_head false e (inr (x, y, n, k)) = inr (a ∷ x, y, rw e n, ap (λ z. a ∷ z) k)
 
+-- lines that have ended, and the rest of one
+split_open : (s : List ℕ) → (d : List ℕ) × (r : List ℕ) × (s ≡ d ++ r)
+    × (ends_line true d ≡ true) × (has_line_feed r ≡ false)
+split_open [] = ([], [], refl, refl, refl)
+split_open (a ∷ s) = by_head (is_line_feed a) refl (split_open s)
+  where
+    by_head : (t : Bool) → is_line_feed a ≡ t
+        → (d : List ℕ) × (r : List ℕ) × (s ≡ d ++ r) × (ends_line true d ≡ true)
+        × (has_line_feed r ≡ false)
+        → (d : List ℕ) × (r : List ℕ) × ((a ∷ s) ≡ d ++ r) × (ends_line true d ≡ true)
+        × (has_line_feed r ≡ false)
+    by_head true k ([], r, e, ends, unended) = (a ∷ [], r, ap (λ z. a ∷ z) e, k, unended)
+    by_head false k ([], r, e, ends, unended) =
+        ([], a ∷ r, ap (λ z. a ∷ z) e, refl, rw k unended)
+    by_head t k (c ∷ d, r, e, ends, unended) =
+        (a ∷ c ∷ d, r, ap (λ z. a ∷ z) e, ends, unended)
+
 module _ {A : Type 0} (u : Unicode) (limit : ℕ) (admits : Value A → Bool) where
   -- what a line adds to what passes of its beginning, and the lines after it
   rest_longer : (r b : List ℕ) → has_line_feed r ≡ false
@@ -422,4 +439,22 @@ module _ {A : Type 0} (u : Unicode) (limit : ℕ) (admits : Value A → Bool) wh
         t,
         text_more u limit admits s f w b ∙ ap (λ z. d ++ z) e ∙ sym (append_assoc d r t)
             ∙ ap (λ z. z ++ t) (sym (text_so_far u limit admits s f w)),
+      )
+
+  -- more of a stream adds to its text
+  pub by_more : (s b : List ℕ) → (t : List ℕ) × (text_by_lines_as {A = A} u limit admits (s ++ b)
+      ≡ text_by_lines_as {A = A} u limit admits s ++ t)
+  by_more s b =
+      let (d, r, e, ends, unended) = split_open s in
+      let (t, more) = rest_longer r b unended in
+      let all = text_by_lines_as {A = A} u limit admits in
+      let w = T u limit admits r in
+      let so_far : all s ≡ all d ++ w =
+      ap all e ∙ by_append u limit admits d r ends
+      ∙ ap (λ z. all d ++ z) (open_text u limit admits r unended)
+      in (
+        t,
+        ap all (ap (λ z. z ++ b) e ∙ append_assoc d r b)
+            ∙ by_append u limit admits d (r ++ b) ends ∙ ap (λ z. all d ++ z) more
+            ∙ sym (append_assoc (all d) w t) ∙ ap (λ z. z ++ t) (sym so_far),
       )
