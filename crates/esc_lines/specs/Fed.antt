@@ -1,0 +1,74 @@
+-- What rows were given.
+use Rattle.std.specs.Prelude.{ℕ, ◌≡◌, List, [], ◌++◌, IsSomeAnd, None, Option, Some, string_bytes}
+use Rattle.esc_actions.specs.Values.{value_of}
+use Rattle.esc_actions.specs.declared.action.Action.{Action}
+use Rattle.esc_parse.specs.Fed.{WasFedWithin}
+use Rattle.esc_lines.specs.Steps.{step_of}
+use Rattle.esc_lines.specs.Streams.{final_of, values_of, window_from}
+use Rattle.esc_lines.specs.declared.collapse.Collapse.{Collapse}
+use Rattle.esc_lines.specs.Windows.{Size, Window, first_window, text_by, window_by}
+use Rattle.esc_lines.specs.declared.screen.Screen.{Screen}
+use Rattle.esc_lines.specs.declared.step.Step.{Step}
+
+abbrev pub window_of : {A : Type 0} → Screen A → Window
+window_of p = record {
+  lines = p.rows.items;
+  row = p.row;
+  column = p.column;
+}
+
+abbrev pub size_of : {A : Type 0} → Screen A → Size
+size_of p = record {
+  rows = p.max_rows;
+  columns = p.max_columns;
+}
+
+abbrev pub text_of : {A : Type 0} → Screen A → List ℕ
+text_of p = string_bytes p.text
+
+-- its window is this one, and this text is added
+pub record Becomes {A : Type 0} (p : Screen A) (t : List ℕ) (w : Window)
+    (q : Screen A) : Type 0 where
+  pub text : text_of q ≡ text_of p ++ t
+  pub window : window_of q ≡ w
+  pub size : size_of q ≡ size_of p
+
+-- a step does to it what it does to its window, and adds the text of the rows that are final by it
+abbrev pub Adds : {A : Type 0} → Screen A → Step → Screen A → Type 0
+Adds p s q = Becomes p (text_by (size_of p) (window_of p) s)
+    (window_by (size_of p) (window_of p) s) q
+
+-- an action does what its value does
+abbrev pub Takes : {A : Type 0} → Screen A → Action A → Screen A → Type 0
+Takes p a q = Adds p (step_of (value_of a)) q
+
+-- its window is that of this stream
+pub record Shows {A : Type 0} (size : Size) (s : List ℕ) (p : Screen A) : Type 0 where
+  pub window : window_of p ≡ window_from size first_window (values_of A s)
+  pub of_size : size_of p ≡ size
+
+-- the collapse, of this size, was fed these bytes
+pub record WasFed {A : Type 0} (size : Size) (s : List ℕ) (c : Collapse A) : Type 0 where
+  pub parser : WasFedWithin (Some 0) s c.parser
+  pub screen : IsSomeAnd c.screen (Shows size s)
+
+-- an earlier call was refused memory
+abbrev pub IsBroken : {A : Type 0} → Collapse A → Type 0
+IsBroken c = c.screen ≡ None
+
+-- the text that the last call added
+abbrev pub text_in : {A : Type 0} → Option (Screen A) → List ℕ
+text_in None = []
+text_in (Some p) = text_of p
+
+abbrev pub added_by : {A : Type 0} → Collapse A → List ℕ
+added_by c = text_in c.screen
+
+-- this holds of each stream that the collapse may have been fed
+abbrev pub After : {A : Type 0} → Collapse A → (Size → List ℕ → Type 0) → Type 0
+After c C = (size : Size) (s : List ℕ) → WasFed size s c → C size s
+
+-- the collapse, which was fed s, was fed b too, and has the text that b adds
+abbrev pub TakesIn : {A : Type 0} → Size → List ℕ → List ℕ → Collapse A → Type 0
+TakesIn {A} size s b c = WasFed size (s ++ b) c
+    × (final_of size (values_of A (s ++ b)) ≡ final_of size (values_of A s) ++ added_by c)

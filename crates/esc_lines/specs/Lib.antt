@@ -1,0 +1,5 @@
+pub mod Rows
+pub mod Windows
+pub mod Steps
+pub mod Streams
+pub mod Fed

@@ -1,0 +1,60 @@
+-- What each value of a stream does to the rows.
+use Rattle.std.specs.Prelude.{ℕ, ◌-◌, ◌==◌, if◌then◌else◌}
+use Rattle.esc_actions.specs.Values.{Value, print, control, csi}
+use Rattle.esc_actions.specs.declared.control_code.ControlCode.{ControlCode}
+use Rattle.esc_actions.specs.declared.control_code.ControlCode.TheVariants as code
+use Rattle.esc_typed.specs.Counts.{one_based}
+use Rattle.esc_typed.specs.Functions.{Value as Function, cursor, edit, of_csi}
+use Rattle.esc_typed.specs.declared.cursor.Cursor.{Cursor}
+use Rattle.esc_typed.specs.declared.cursor.Cursor.TheVariants as cursors
+use Rattle.esc_typed.specs.declared.edit.Edit.{Edit}
+use Rattle.esc_typed.specs.declared.edit.Edit.TheVariants as edits
+use Rattle.esc_typed.specs.declared.erase_in_line.EraseInLine.TheVariants as line
+use Rattle.esc_lines.specs.declared.step.Step.{Step}
+use Rattle.esc_lines.specs.declared.step.Step.TheVariants.{Print, LineFeed, Column, Left, Right, Tab, Up, Down, UpToStart, DownToStart, EraseRight, EraseLeft, EraseRow, Nothing}
+
+-- what is printed, but DEL, of which terminals show nothing
+abbrev pub print_step : ℕ → Step
+print_step c = if c == 0x7f then Nothing else Print c
+
+-- the controls that lay out a page; vertical tabs and form feeds are line feeds, as in terminals
+abbrev pub control_step : ControlCode → Step
+control_step code.Backspace = Left 1
+control_step code.HorizontalTab = Tab
+control_step code.LineFeed = LineFeed
+control_step code.VerticalTab = LineFeed
+control_step code.FormFeed = LineFeed
+control_step code.CarriageReturn = Column 0
+control_step _ = Nothing
+
+abbrev pub cursor_step : Cursor → Step
+cursor_step (cursors.Up n) = Up (one_based n)
+cursor_step (cursors.LinePositionBackward n) = Up (one_based n)
+cursor_step (cursors.Down n) = Down (one_based n)
+cursor_step (cursors.LinePositionForward n) = Down (one_based n)
+cursor_step (cursors.Right n) = Right (one_based n)
+cursor_step (cursors.CharacterPositionForward n) = Right (one_based n)
+cursor_step (cursors.Left n) = Left (one_based n)
+cursor_step (cursors.CharacterPositionBackward n) = Left (one_based n)
+cursor_step (cursors.NextLine n) = DownToStart (one_based n)
+cursor_step (cursors.PrecedingLine n) = UpToStart (one_based n)
+cursor_step (cursors.CharacterAbsolute n) = Column (one_based n - 1)
+cursor_step (cursors.CharacterPositionAbsolute n) = Column (one_based n - 1)
+cursor_step _ = Nothing
+
+abbrev pub edit_step : Edit → Step
+edit_step (edits.EraseInLine line.EraseToEndOfLine) = EraseRight
+edit_step (edits.EraseInLine line.EraseToStartOfLine) = EraseLeft
+edit_step (edits.EraseInLine line.EraseLine) = EraseRow
+edit_step _ = Nothing
+
+abbrev pub function_step : Function → Step
+function_step (cursor c) = cursor_step c
+function_step (edit e) = edit_step e
+function_step _ = Nothing
+
+abbrev pub step_of : {A : Type 0} → Value A → Step
+step_of (print c) = print_step c
+step_of (control c) = control_step c
+step_of (csi c) = function_step (of_csi c)
+step_of _ = Nothing

@@ -1,0 +1,10 @@
+//! What a terminal leaves of lines that are written again.
+#![tactic(auto)]
+
+pub mod collapse;
+mod row;
+mod screen;
+pub mod step;
+
+pub use collapse::Collapse;
+pub use step::Step;

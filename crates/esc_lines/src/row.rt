@@ -1,0 +1,146 @@
+//! A row of cells.
+ghost use Rattle.std.specs.Prelude.{◌≡◌, ◌++◌, ◌+◌, ◌-◌, [], None, OnErr, OnOk, length, replicate, string_bytes, take};
+ghost use Rattle.esc_lines.specs.Rows.{Line, blank_until, cells_text, empty_line, line_text, lines_text, put_at, with_cells};
+ghost use Rattle.memory.specs.Refusals.{Refused};
+
+use std::alloc::{AllocError, Allocator, Global};
+use std::marker::Model;
+
+/// A row: its cells from column 0 on, each with a character or blank. Contracts see these, and
+/// whether a line feed comes before the row.
+#[derive(Drop)]
+pub(crate) struct Row<A: Allocator = Global> {
+    begins_line: bool,
+    cells: Vec<Option<char>, A>,
+}
+
+impl<A: Allocator> Model for Row<A> {
+    ghost Value = { Line };
+
+    ghost view = { λ r. record {
+      begins_line = r.begins_line;
+      cells = r.cells.items;
+    } };
+}
+
+impl<A: Allocator> Row<A> {
+    /// A row that has just begun. Takes no memory.
+    pub fn new(alloc: A, begins_line: bool) -> Row<A>
+        ensures { result ≡ empty_line begins_line }
+    {
+        Row {
+            begins_line,
+            cells: Vec::new(alloc),
+        }
+    }
+
+    /// Puts a character at a column, in place of what is there, or after blank cells.
+    pub fn put(&mut self, column: usize, c: char) -> Result<(), AllocError>
+        ensures ok { OnOk result (self.new ≡ with_cells (put_at column c self.old.cells) self.old) }
+        ensures refused { OnErr result (Refused A) }
+    {
+        if column < self.cells.len() {
+            self.cells[column] = Some(c);
+            return Ok(());
+        }
+        self.pad(column)?;
+        memory::push(&mut self.cells, Some(c))?;
+        Ok(())
+    }
+
+    // Appends blank cells until there are so many.
+    fn pad(&mut self, len: usize) -> Result<(), AllocError>
+        ensures ok { OnOk result (self.new ≡ with_cells
+            (self.old.cells ++ replicate (len - length self.old.cells) None) self.old) }
+        ensures refused { OnErr result (Refused A) }
+    {
+        while self.cells.len() < len {
+            memory::push(&mut self.cells, None)?;
+        }
+        Ok(())
+    }
+
+    /// Makes the cell at a column and all after it blank.
+    pub fn erase_right(&mut self, column: usize)
+        ensures { self.new ≡ with_cells (take column self.old.cells) self.old }
+    {
+        self.cells.truncate(column);
+    }
+
+    /// Makes the cell at a column and all before it blank.
+    pub fn erase_left(&mut self, column: usize)
+        ensures { self.new ≡ with_cells (blank_until (column + 1) self.old.cells) self.old }
+    {
+        let len = self.cells.len();
+        let count = if column < len { column + 1 } else { len };
+        for i in 0..count {
+            self.cells[i] = None;
+        }
+    }
+
+    /// Makes all cells blank.
+    pub fn erase(&mut self)
+        ensures { self.new ≡ with_cells [] self.old }
+    {
+        self.cells.clear();
+    }
+
+    /// Appends the text of the row.
+    pub fn write(&self, text: &mut String<A>) -> Result<(), AllocError>
+        ensures ok { OnOk result (string_bytes text.new
+            ≡ string_bytes text.old ++ line_text self.now) }
+        ensures refused { OnErr result (Refused A) }
+    {
+        if self.begins_line {
+            memory::push_char(text, '\n')?;
+        }
+        write_cells(&self.cells, text)
+    }
+}
+
+/// Appends the text of rows.
+pub(crate) fn write_rows<A: Allocator>(
+    rows: &[Row<A>],
+    text: &mut String<A>,
+) -> Result<(), AllocError>
+    ensures ok { OnOk result (string_bytes text.new
+        ≡ string_bytes text.old ++ lines_text rows.now) }
+    ensures refused { OnErr result (Refused A) }
+{
+    for row in rows {
+        row.write(text)?;
+    }
+    Ok(())
+}
+
+// Appends the text of cells.
+fn write_cells<A: Allocator>(cells: &[Option<char>], text: &mut String<A>) -> Result<(), AllocError>
+    ensures ok { OnOk result (string_bytes text.new
+        ≡ string_bytes text.old ++ cells_text 0 cells.now) }
+    ensures refused { OnErr result (Refused A) }
+{
+    let mut blanks = 0;
+    for cell in cells {
+        match cell {
+            None => blanks += 1,
+            Some(c) => {
+                write_spaces(blanks, text)?;
+                memory::push_char(text, *c)?;
+                blanks = 0;
+            }
+        }
+    }
+    Ok(())
+}
+
+// Appends so many spaces.
+fn write_spaces<A: Allocator>(count: usize, text: &mut String<A>) -> Result<(), AllocError>
+    ensures ok { OnOk result (string_bytes text.new
+        ≡ string_bytes text.old ++ replicate count 0x20) }
+    ensures refused { OnErr result (Refused A) }
+{
+    for _ in 0..count {
+        memory::push_char(text, ' ')?;
+    }
+    Ok(())
+}

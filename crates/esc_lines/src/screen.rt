@@ -1,0 +1,271 @@
+//! The rows that may be written again, and the cursor in them.
+ghost use Rattle.std.specs.Prelude.{◌≡◌, ◌++◌, ◌+◌, ◌-◌, ◌<◌, ◌^◌, [], IfOk, OnErr, OnOk, false, length, min, take, true};
+ghost use Rattle.esc_lines.specs.Fed.{Adds, Becomes, Takes, size_of, text_of, window_of};
+ghost use Rattle.esc_lines.specs.Rows.{blank_until, lines_text};
+ghost use Rattle.esc_lines.specs.Windows.{advanced, at_column, down, first_window, line_of, printed, scrolled, scrolled_text, sized, tab_stop, up, with_row, wrapped, wrapped_text};
+ghost use Rattle.memory.specs.Refusals.{Refused};
+
+use crate::row::{Row, write_rows};
+use crate::step::Step;
+use esc_actions::Action;
+use esc_parse::Sink;
+use std::alloc::{AllocError, Allocator, Global};
+
+/// The last rows of a stream, the cursor in them, and the text of the rows that became final since
+/// it was cleared.
+#[derive(Drop)]
+pub(crate) struct Screen<A: Allocator = Global> {
+    /// The text of the rows that became final.
+    pub text: String<A>,
+    rows: Vec<Row<A>, A>,
+    row: usize,
+    column: usize,
+    max_rows: usize,
+    max_columns: usize,
+    alloc: A,
+}
+
+impl<A: Allocator + Copy> Screen<A> {
+    /// One empty row, where at most so many rows are kept, of so many columns.
+    pub fn new(alloc: A, max_rows: usize, max_columns: usize) -> Result<Screen<A>, AllocError>
+        ensures ok { IfOk result (λ s. (window_of s ≡ first_window) × (text_of s ≡ [])
+            × (size_of s ≡ sized max_rows max_columns)) }
+        ensures refused { OnErr result (Refused A) }
+    {
+        let mut rows = Vec::new(alloc);
+        memory::push(&mut rows, Row::new(alloc, false))?;
+        Ok(Screen {
+            text: String::new(alloc),
+            rows,
+            row: 0,
+            column: 0,
+            max_rows,
+            max_columns,
+            alloc,
+        })
+    }
+
+    /// The same rows, with no text.
+    pub fn cleared(mut self) -> Screen<A>
+        ensures text { text_of result ≡ [] }
+        ensures window { window_of result ≡ window_of self }
+        ensures size { size_of result ≡ size_of self }
+    {
+        self.text.clear();
+        self
+    }
+
+    // To the next row, which is begun where there is none; the first becomes final where there is
+    // one too many.
+    fn advance(&mut self, begins_line: bool) -> Result<(), AllocError>
+        ensures ok { OnOk result (Becomes self.old
+            (scrolled_text (size_of self.old).rows (advanced begins_line (window_of self.old)))
+            (scrolled (size_of self.old).rows (advanced begins_line (window_of self.old)))
+            self.new) }
+        ensures column { OnOk result (self.new.column ≡ 0) }
+        ensures refused { OnErr result (Refused A) }
+    {
+        self.begin_row(begins_line)?;
+        self.scroll()
+    }
+
+    fn begin_row(&mut self, begins_line: bool) -> Result<(), AllocError>
+        ensures ok { OnOk result (Becomes self.old []
+            (advanced begins_line (window_of self.old)) self.new) }
+        ensures column { OnOk result (self.new.column ≡ 0) }
+        ensures refused { OnErr result (Refused A) }
+    {
+        if self.row.saturating_add(1) < self.rows.len() {
+            self.row += 1;
+        } else {
+            self.row = self.rows.len();
+            memory::push(&mut self.rows, Row::new(self.alloc, begins_line))?;
+        }
+        self.column = 0;
+        Ok(())
+    }
+
+    fn scroll(&mut self) -> Result<(), AllocError>
+        ensures ok { OnOk result (Becomes self.old
+            (scrolled_text (size_of self.old).rows (window_of self.old))
+            (scrolled (size_of self.old).rows (window_of self.old)) self.new) }
+        ensures column { OnOk result (self.new.column ≡ self.old.column) }
+        ensures refused { OnErr result (Refused A) }
+    {
+        if self.rows.len() <= self.max_rows {
+            return Ok(());
+        }
+        let first = self.rows.remove(0);
+        self.row = self.row.saturating_sub(1);
+        first.write(&mut self.text)
+    }
+
+    // Sees that a character has a column.
+    fn wrap(&mut self) -> Result<(), AllocError>
+        ensures ok { OnOk result (Becomes self.old
+            (wrapped_text (size_of self.old) (window_of self.old))
+            (wrapped (size_of self.old) (window_of self.old)) self.new) }
+        ensures room { OnOk result (self.new.column + 1 < 2 ^ 64) }
+        ensures refused { OnErr result (Refused A) }
+    {
+        if self.column < self.max_columns {
+            return Ok(());
+        }
+        self.advance(false)
+    }
+
+    // Puts a character at the cursor, which moves on.
+    fn put(&mut self, c: char) -> Result<(), AllocError>
+        requires { self.old.column + 1 < 2 ^ 64 }
+        ensures ok { OnOk result (Becomes self.old [] (printed c (window_of self.old)) self.new) }
+        ensures refused { OnErr result (Refused A) }
+    {
+        let column = self.column;
+        if let Some(row) = self.rows.get_mut(self.row) {
+            row.put(column, c)?;
+        }
+        self.column = column + 1;
+        Ok(())
+    }
+
+    fn print(&mut self, c: char) -> Result<(), AllocError>
+        ensures ok { OnOk result (Adds self.old (Step.Print c) self.new) }
+        ensures refused { OnErr result (Refused A) }
+    {
+        self.wrap()?;
+        self.put(c)
+    }
+
+    // To a column, or past the last one.
+    fn to_column(&mut self, column: usize)
+        ensures { Becomes self.old []
+            (at_column (min column (size_of self.old).columns) (window_of self.old)) self.new }
+    {
+        self.column = column.min(self.max_columns);
+    }
+
+    fn move_left(&mut self, count: usize)
+        ensures { Becomes self.old []
+            (at_column (self.old.column - count) (window_of self.old)) self.new }
+    {
+        self.column = self.column.saturating_sub(count);
+    }
+
+    fn move_right(&mut self, count: usize)
+        ensures { Becomes self.old [] (at_column
+            (min (self.old.column + count) (size_of self.old).columns) (window_of self.old))
+            self.new }
+    {
+        let last = self.max_columns;
+        self.column = self.column.saturating_add(count).min(last);
+    }
+
+    fn tab(&mut self)
+        ensures { Becomes self.old [] (at_column
+            (min (tab_stop self.old.column) (size_of self.old).columns) (window_of self.old))
+            self.new }
+    {
+        self.to_column((self.column / 8 + 1).saturating_mul(8));
+    }
+
+    fn move_up(&mut self, count: usize)
+        ensures { Becomes self.old [] (up count (window_of self.old)) self.new }
+    {
+        self.row = self.row.saturating_sub(count);
+    }
+
+    fn move_down(&mut self, count: usize)
+        ensures { Becomes self.old [] (down count (window_of self.old)) self.new }
+    {
+        let last = self.rows.len().saturating_sub(1);
+        self.row = self.row.saturating_add(count).min(last);
+    }
+
+    fn erase_right(&mut self)
+        ensures { Becomes self.old [] (with_row
+            (take self.old.column (line_of (window_of self.old)).cells) (window_of self.old))
+            self.new }
+    {
+        if let Some(row) = self.rows.get_mut(self.row) {
+            row.erase_right(self.column);
+        }
+    }
+
+    fn erase_left(&mut self)
+        ensures { Becomes self.old [] (with_row
+            (blank_until (self.old.column + 1) (line_of (window_of self.old)).cells)
+            (window_of self.old)) self.new }
+    {
+        if let Some(row) = self.rows.get_mut(self.row) {
+            row.erase_left(self.column);
+        }
+    }
+
+    fn erase_row(&mut self)
+        ensures { Becomes self.old [] (with_row [] (window_of self.old)) self.new }
+    {
+        if let Some(row) = self.rows.get_mut(self.row) {
+            row.erase();
+        }
+    }
+
+    /// Takes a step.
+    pub fn take(&mut self, step: Step) -> Result<(), AllocError>
+        ensures ok { OnOk result (Adds self.old step self.new) }
+        ensures refused { OnErr result (Refused A) }
+    {
+        match step {
+            Step::Print(c) => return self.print(c),
+            Step::LineFeed => return self.advance(true),
+            Step::Column(n) => self.to_column(n),
+            Step::Left(n) => self.move_left(n),
+            Step::Right(n) => self.move_right(n),
+            Step::Tab => self.tab(),
+            Step::Up(n) => self.move_up(n),
+            Step::Down(n) => self.move_down(n),
+            Step::UpToStart(n) => {
+                self.move_up(n);
+                self.column = 0;
+            }
+            Step::DownToStart(n) => {
+                self.move_down(n);
+                self.column = 0;
+            }
+            Step::EraseRight => self.erase_right(),
+            Step::EraseLeft => self.erase_left(),
+            Step::EraseRow => self.erase_row(),
+            Step::Nothing => {}
+        }
+        Ok(())
+    }
+
+    /// Appends the text of all rows, which stay as they are.
+    pub fn close(&mut self) -> Result<(), AllocError>
+        ensures ok { OnOk result (text_of self.new
+            ≡ text_of self.old ++ lines_text (window_of self.old).lines) }
+        ensures window { OnOk result (window_of self.new ≡ window_of self.old) }
+        ensures size { OnOk result (size_of self.new ≡ size_of self.old) }
+        ensures refused { OnErr result (Refused A) }
+    {
+        write_rows(&self.rows, &mut self.text)
+    }
+}
+
+/// Each action does what its value does to the rows.
+impl<A: Allocator + Copy> Sink<Action<A>> for Screen<A> {
+    ghost is_ready = { λ _. Unit {0} };
+
+    ghost may = { λ _ _. Unit {0} };
+
+    ghost takes = { Takes };
+
+    ghost refuses = { λ p a q. Refused A };
+
+    fn receive(&mut self, action: Action<A>) -> Result<(), AllocError> {
+        self.take(Step::of(&action))
+    }
+
+    fn drops_images(&self) -> bool {
+        true
+    }
+}

@@ -1,0 +1,127 @@
+//! What a value of a stream does to the rows.
+ghost use Rattle.std.specs.Prelude.{◌≡◌};
+ghost use Rattle.esc_lines.specs.Steps.{control_step, cursor_step, edit_step, function_step, print_step, step_of};
+ghost use Rattle.esc_actions.specs.Values.{value_of};
+ghost use Rattle.esc_typed.specs.Counts.{one_based};
+ghost use Rattle.esc_typed.specs.Functions.{value_of as function_value};
+
+use esc_actions::{Action, ControlCode};
+use esc_typed::{Cursor, Edit, EraseInLine, Function, OneBased};
+use std::alloc::Allocator;
+
+/// What a value of a stream does to the rows and to the cursor in them. Rows and columns are
+/// counted from 0.
+#[derive(Clone, Copy, Debug, PartialEq, Eq)]
+pub enum Step {
+    /// A character at the cursor, which moves on.
+    Print(char),
+    /// To the beginning of the next row, which is begun where there is none.
+    LineFeed,
+    /// To this column.
+    Column(usize),
+    /// So many columns back, not before the first.
+    Left(usize),
+    /// So many columns on.
+    Right(usize),
+    /// To the next multiple of 8.
+    Tab,
+    /// So many rows up, not above the first.
+    Up(usize),
+    /// So many rows down, not below the last.
+    Down(usize),
+    /// The same, and to the first column.
+    UpToStart(usize),
+    /// The same, and to the first column.
+    DownToStart(usize),
+    /// The cell at the cursor and all after it become blank.
+    EraseRight,
+    /// The cell at the cursor and all before it become blank.
+    EraseLeft,
+    /// All cells of the row become blank.
+    EraseRow,
+    /// Nothing.
+    Nothing,
+}
+
+impl Step {
+    /// What an action does.
+    pub fn of<A: Allocator>(action: &Action<A>) -> Step
+        ensures { result ≡ step_of (value_of action.now) }
+    {
+        match action {
+            Action::Print(c) => Step::of_print(*c),
+            Action::Control(code) => Step::of_control(*code),
+            Action::CSI(csi) => Step::of_function(Function::of(csi)),
+            _ => Step::Nothing,
+        }
+    }
+
+    // Any character but DEL.
+    fn of_print(c: char) -> Step
+        ensures { result ≡ print_step c }
+    {
+        if c == '\u{7f}' {
+            Step::Nothing
+        } else {
+            Step::Print(c)
+        }
+    }
+
+    fn of_control(code: ControlCode) -> Step
+        ensures { result ≡ control_step code }
+    {
+        match code {
+            ControlCode::Backspace => Step::Left(1),
+            ControlCode::HorizontalTab => Step::Tab,
+            ControlCode::LineFeed | ControlCode::VerticalTab | ControlCode::FormFeed => {
+                Step::LineFeed
+            }
+            ControlCode::CarriageReturn => Step::Column(0),
+            _ => Step::Nothing,
+        }
+    }
+
+    fn of_function(function: Function<'_>) -> Step
+        ensures { result ≡ function_step (function_value function.entry) }
+    {
+        match function {
+            Function::Cursor(cursor) => Step::of_cursor(cursor),
+            Function::Edit(edit) => Step::of_edit(edit),
+            _ => Step::Nothing,
+        }
+    }
+
+    fn of_cursor(cursor: Cursor) -> Step
+        ensures { result ≡ cursor_step cursor }
+    {
+        match cursor {
+            Cursor::Up(n) | Cursor::LinePositionBackward(n) => Step::Up(count(n)),
+            Cursor::Down(n) | Cursor::LinePositionForward(n) => Step::Down(count(n)),
+            Cursor::Right(n) | Cursor::CharacterPositionForward(n) => Step::Right(count(n)),
+            Cursor::Left(n) | Cursor::CharacterPositionBackward(n) => Step::Left(count(n)),
+            Cursor::NextLine(n) => Step::DownToStart(count(n)),
+            Cursor::PrecedingLine(n) => Step::UpToStart(count(n)),
+            Cursor::CharacterAbsolute(n) | Cursor::CharacterPositionAbsolute(n) => {
+                Step::Column(n.as_zero_based() as usize)
+            }
+            _ => Step::Nothing,
+        }
+    }
+
+    fn of_edit(edit: Edit) -> Step
+        ensures { result ≡ edit_step edit }
+    {
+        match edit {
+            Edit::EraseInLine(EraseInLine::EraseToEndOfLine) => Step::EraseRight,
+            Edit::EraseInLine(EraseInLine::EraseToStartOfLine) => Step::EraseLeft,
+            Edit::EraseInLine(EraseInLine::EraseLine) => Step::EraseRow,
+            _ => Step::Nothing,
+        }
+    }
+}
+
+fn count(n: OneBased) -> usize
+    ensures { result ≡ one_based n }
+{
+    n.as_one_based() as usize
+}
