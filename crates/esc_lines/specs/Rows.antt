@@ -1,5 +1,5 @@
 -- Rows of cells, and their text.
-use Rattle.std.specs.Prelude.{ℕ, ◌-◌, nat_lt, min, Bool, if◌then◌else◌, List, [], ◌∷◌, ◌++◌, length, drop, replicate, set, Option, Some, None, suc}
+use Rattle.std.specs.Prelude.{ℕ, ◌+◌, ◌-◌, nat_lt, min, Bool, if◌then◌else◌, List, [], ◌∷◌, ◌++◌, length, take, drop, map, replicate, set, Option, Some, None, suc}
 use Rattle.std.specs.Char.{encode_utf8}
 use Rattle.std.specs.List.{flat_map}
 
@@ -24,9 +24,24 @@ abbrev pub put_at : ℕ → ℕ → List (Option ℕ) → List (Option ℕ)
 put_at n c xs = if nat_lt n (length xs) then set xs n (Some c)
     else xs ++ (replicate (n - length xs) None ++ Some c ∷ [])
 
--- cells of which so many at the beginning are blank
-abbrev pub blank_until : ℕ → List (Option ℕ) → List (Option ℕ)
-blank_until n xs = replicate (min n (length xs)) None ++ drop n xs
+-- cells of which those from one column to before another are blank
+abbrev pub blanked : ℕ → ℕ → List (Option ℕ) → List (Option ℕ)
+blanked m n xs = take m xs ++ (replicate (min n (length xs) - m) None ++ drop n xs)
+
+-- cells of which so many from a column on are taken out
+abbrev pub deleted : ℕ → ℕ → List (Option ℕ) → List (Option ℕ)
+deleted m n xs = take m xs ++ drop (m + n) xs
+
+-- cells with so many blank ones put in at a column, as far as there is room for them in so many
+-- columns; what is past these is lost
+abbrev pub inserted : ℕ → ℕ → ℕ → List (Option ℕ) → List (Option ℕ)
+inserted columns m n xs = if nat_lt m (length xs)
+    then take columns (take m xs ++ (replicate (min n (columns - m)) None ++ drop m xs))
+    else xs
+
+-- rows of which those from one to before another have blank cells alone
+abbrev pub lines_blanked : ℕ → ℕ → List Line → List Line
+lines_blanked m n ls = take m ls ++ (map (with_cells []) (take (n - m) (drop m ls)) ++ drop n ls)
 
 -- the text of cells that come after so many blank ones: a blank cell is written as a space, and
 -- only where a character comes after it

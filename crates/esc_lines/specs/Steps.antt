@@ -9,9 +9,10 @@ use Rattle.esc_typed.specs.declared.cursor.Cursor.{Cursor}
 use Rattle.esc_typed.specs.declared.cursor.Cursor.TheVariants as cursors
 use Rattle.esc_typed.specs.declared.edit.Edit.{Edit}
 use Rattle.esc_typed.specs.declared.edit.Edit.TheVariants as edits
+use Rattle.esc_typed.specs.declared.erase_in_display.EraseInDisplay.TheVariants as display
 use Rattle.esc_typed.specs.declared.erase_in_line.EraseInLine.TheVariants as line
 use Rattle.esc_lines.specs.declared.step.Step.{Step}
-use Rattle.esc_lines.specs.declared.step.Step.TheVariants.{Print, LineFeed, Column, Left, Right, Tab, Up, Down, UpToStart, DownToStart, EraseRight, EraseLeft, EraseRow, Nothing}
+use Rattle.esc_lines.specs.declared.step.Step.TheVariants.{Print, LineFeed, Column, Left, Right, Tab, Up, Down, UpToStart, DownToStart, EraseRight, EraseLeft, EraseRow, EraseBelow, EraseAbove, EraseAll, EraseCells, DeleteCells, InsertCells, Nothing}
 
 -- what is printed, but DEL, of which terminals show nothing
 abbrev pub print_step : ℕ → Step
@@ -46,6 +47,12 @@ abbrev pub edit_step : Edit → Step
 edit_step (edits.EraseInLine line.EraseToEndOfLine) = EraseRight
 edit_step (edits.EraseInLine line.EraseToStartOfLine) = EraseLeft
 edit_step (edits.EraseInLine line.EraseLine) = EraseRow
+edit_step (edits.EraseInDisplay display.EraseToEndOfDisplay) = EraseBelow
+edit_step (edits.EraseInDisplay display.EraseToStartOfDisplay) = EraseAbove
+edit_step (edits.EraseInDisplay display.EraseDisplay) = EraseAll
+edit_step (edits.EraseCharacter n) = EraseCells (one_based n)
+edit_step (edits.DeleteCharacter n) = DeleteCells (one_based n)
+edit_step (edits.InsertCharacter n) = InsertCells (one_based n)
 edit_step _ = Nothing
 
 abbrev pub function_step : Function → Step

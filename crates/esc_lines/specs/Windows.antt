@@ -1,6 +1,6 @@
 -- The rows that may be written again, the cursor in them, and what each step does.
 use Rattle.std.specs.Prelude.{ℕ, ◌+◌, ◌-◌, ◌*◌, ◌/◌, nat_lt, min, Bool, true, false, if◌then◌else◌, List, [], ◌∷◌, ◌++◌, length, get_or, set, take, drop, Option}
-use Rattle.esc_lines.specs.Rows.{Line, blank_until, empty_line, lines_text, put_at, with_cells}
+use Rattle.esc_lines.specs.Rows.{Line, blanked, deleted, empty_line, inserted, lines_blanked, lines_text, put_at, with_cells}
 use Rattle.esc_lines.specs.declared.step.Step.{Step}
 use Rattle.esc_lines.specs.declared.step.Step.TheVariants as step
 
@@ -42,6 +42,10 @@ line_of w = get_or w.lines w.row (empty_line false)
 -- other cells in it
 abbrev pub with_row : List (Option ℕ) → Window → Window
 with_row xs w = record w { lines = set w.lines w.row (with_cells xs (line_of w)) }
+
+-- rows of which those from one to before another have blank cells alone
+abbrev pub with_blank_rows : ℕ → ℕ → Window → Window
+with_blank_rows m n w = record w { lines = lines_blanked m n w.lines }
 
 -- the cursor at the beginning of the next row: where there is none, one is begun, with a line feed
 -- before it or without
@@ -95,6 +99,23 @@ up n w = at_row (w.row - n) w
 abbrev pub down : ℕ → Window → Window
 down n w = at_row (min (w.row + n) (length w.lines - 1)) w
 
+-- the cell at the cursor is blank, and all after it, or all before it; and those of the rows below,
+-- or above
+abbrev pub right_erased : Window → Window
+right_erased w = with_row (take w.column (line_of w).cells) w
+
+abbrev pub left_erased : Window → Window
+left_erased w = with_row (blanked 0 (w.column + 1) (line_of w).cells) w
+
+abbrev pub below_erased : Window → Window
+below_erased w = with_blank_rows (w.row + 1) (length w.lines) (right_erased w)
+
+abbrev pub above_erased : Window → Window
+above_erased w = with_blank_rows 0 w.row (left_erased w)
+
+abbrev pub all_erased : Window → Window
+all_erased w = with_blank_rows 0 (length w.lines) w
+
 -- the window after a step
 abbrev pub window_by : Size → Window → Step → Window
 window_by s w (step.Print c) = printed c (wrapped s w)
@@ -107,9 +128,16 @@ window_by s w (step.Up n) = up n w
 window_by s w (step.Down n) = down n w
 window_by s w (step.UpToStart n) = at_column 0 (up n w)
 window_by s w (step.DownToStart n) = at_column 0 (down n w)
-window_by s w step.EraseRight = with_row (take w.column (line_of w).cells) w
-window_by s w step.EraseLeft = with_row (blank_until (w.column + 1) (line_of w).cells) w
+window_by s w step.EraseRight = right_erased w
+window_by s w step.EraseLeft = left_erased w
 window_by s w step.EraseRow = with_row [] w
+window_by s w step.EraseBelow = below_erased w
+window_by s w step.EraseAbove = above_erased w
+window_by s w step.EraseAll = all_erased w
+window_by s w (step.EraseCells n) =
+    with_row (blanked w.column (w.column + n) (line_of w).cells) w
+window_by s w (step.DeleteCells n) = with_row (deleted w.column n (line_of w).cells) w
+window_by s w (step.InsertCells n) = with_row (inserted s.columns w.column n (line_of w).cells) w
 window_by s w step.Nothing = w
 
 -- the text of the rows that are final by it

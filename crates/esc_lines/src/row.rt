@@ -1,6 +1,6 @@
 //! A row of cells.
-ghost use Rattle.std.specs.Prelude.{◌≡◌, ◌++◌, ◌+◌, ◌-◌, [], None, OnErr, OnOk, length, replicate, string_bytes, take};
-ghost use Rattle.esc_lines.specs.Rows.{Line, blank_until, cells_text, empty_line, line_text, lines_text, put_at, with_cells};
+ghost use Rattle.std.specs.Prelude.{◌≡◌, ◌++◌, ◌+◌, ◌-◌, ◌≤◌, [], None, OnErr, OnOk, length, replicate, string_bytes, take};
+ghost use Rattle.esc_lines.specs.Rows.{Line, blanked, cells_text, deleted, empty_line, inserted, line_text, lines_blanked, lines_text, put_at, with_cells};
 ghost use Rattle.memory.specs.Refusals.{Refused};
 
 use std::alloc::{AllocError, Allocator, Global};
@@ -54,7 +54,17 @@ impl<A: Allocator> Row<A> {
             (self.old.cells ++ replicate (len - length self.old.cells) None) self.old) }
         ensures refused { OnErr result (Refused A) }
     {
-        while self.cells.len() < len {
+        let missing = len.saturating_sub(self.cells.len());
+        self.push_blanks(missing)
+    }
+
+    // Appends so many blank cells.
+    fn push_blanks(&mut self, count: usize) -> Result<(), AllocError>
+        ensures ok { OnOk result (self.new
+            ≡ with_cells (self.old.cells ++ replicate count None) self.old) }
+        ensures refused { OnErr result (Refused A) }
+    {
+        for _ in 0..count {
             memory::push(&mut self.cells, None)?;
         }
         Ok(())
@@ -69,13 +79,54 @@ impl<A: Allocator> Row<A> {
 
     /// Makes the cell at a column and all before it blank.
     pub fn erase_left(&mut self, column: usize)
-        ensures { self.new ≡ with_cells (blank_until (column + 1) self.old.cells) self.old }
+        ensures { self.new ≡ with_cells (blanked 0 (column + 1) self.old.cells) self.old }
     {
         let len = self.cells.len();
         let count = if column < len { column + 1 } else { len };
-        for i in 0..count {
+        self.erase_cells(0, count);
+    }
+
+    /// Makes so many cells from a column on blank.
+    pub fn erase_cells(&mut self, column: usize, count: usize)
+        ensures { self.new ≡ with_cells (blanked column (column + count) self.old.cells) self.old }
+    {
+        let end = column.saturating_add(count).min(self.cells.len());
+        for i in column..end {
             self.cells[i] = None;
         }
+    }
+
+    /// Takes out so many cells from a column on.
+    pub fn delete_cells(&mut self, column: usize, count: usize)
+        ensures { self.new ≡ with_cells (deleted column count self.old.cells) self.old }
+    {
+        let len = self.cells.len();
+        if column < len {
+            let count = count.min(len - column);
+            self.cells[column..].rotate_left(count);
+            self.cells.truncate(len - count);
+        }
+    }
+
+    /// Puts in so many blank cells at a column, as far as there is room for them in so many
+    /// columns.
+    pub fn insert_cells(
+        &mut self,
+        column: usize,
+        count: usize,
+        columns: usize,
+    ) -> Result<(), AllocError>
+        ensures ok { OnOk result (self.new
+            ≡ with_cells (inserted columns column count self.old.cells) self.old) }
+        ensures refused { OnErr result (Refused A) }
+    {
+        if column < self.cells.len() {
+            let count = count.min(columns.saturating_sub(column));
+            self.push_blanks(count)?;
+            self.cells[column..].rotate_right(count);
+            self.cells.truncate(columns);
+        }
+        Ok(())
     }
 
     /// Makes all cells blank.
@@ -95,6 +146,17 @@ impl<A: Allocator> Row<A> {
             memory::push_char(text, '\n')?;
         }
         write_cells(&self.cells, text)
+    }
+}
+
+/// Makes all cells of the rows from one to before another blank.
+pub(crate) fn erase_rows<A: Allocator>(rows: &mut [Row<A>], from: usize, to: usize)
+    requires { from ≤ to }
+    ensures { rows.new ≡ lines_blanked from to rows.old }
+{
+    let end = to.min(rows.len());
+    for i in from..end {
+        rows[i].erase();
     }
 }
 

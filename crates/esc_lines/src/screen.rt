@@ -1,11 +1,11 @@
 //! The rows that may be written again, and the cursor in them.
-ghost use Rattle.std.specs.Prelude.{◌≡◌, ◌++◌, ◌+◌, ◌-◌, ◌<◌, ◌^◌, [], IfOk, OnErr, OnOk, false, length, min, take, true};
+ghost use Rattle.std.specs.Prelude.{◌≡◌, ◌++◌, ◌+◌, ◌-◌, ◌<◌, ◌≤◌, ◌^◌, [], IfOk, OnErr, OnOk, false, length, min, take, true};
 ghost use Rattle.esc_lines.specs.Fed.{Adds, Becomes, Takes, size_of, text_of, window_of};
-ghost use Rattle.esc_lines.specs.Rows.{blank_until, lines_text};
-ghost use Rattle.esc_lines.specs.Windows.{advanced, at_column, down, first_window, line_of, printed, scrolled, scrolled_text, sized, tab_stop, up, with_row, wrapped, wrapped_text};
+ghost use Rattle.esc_lines.specs.Rows.{blanked, deleted, inserted, lines_text};
+ghost use Rattle.esc_lines.specs.Windows.{above_erased, advanced, all_erased, at_column, below_erased, down, first_window, line_of, printed, scrolled, scrolled_text, sized, tab_stop, up, with_blank_rows, with_row, wrapped, wrapped_text};
 ghost use Rattle.memory.specs.Refusals.{Refused};
 
-use crate::row::{Row, write_rows};
+use crate::row::{Row, erase_rows, write_rows};
 use crate::step::Step;
 use esc_actions::Action;
 use esc_parse::Sink;
@@ -193,7 +193,7 @@ impl<A: Allocator + Copy> Screen<A> {
 
     fn erase_left(&mut self)
         ensures { Becomes self.old [] (with_row
-            (blank_until (self.old.column + 1) (line_of (window_of self.old)).cells)
+            (blanked 0 (self.old.column + 1) (line_of (window_of self.old)).cells)
             (window_of self.old)) self.new }
     {
         if let Some(row) = self.rows.get_mut(self.row) {
@@ -207,6 +207,71 @@ impl<A: Allocator + Copy> Screen<A> {
         if let Some(row) = self.rows.get_mut(self.row) {
             row.erase();
         }
+    }
+
+    fn erase_cells(&mut self, count: usize)
+        ensures { Becomes self.old [] (with_row (blanked self.old.column
+            (self.old.column + count) (line_of (window_of self.old)).cells) (window_of self.old))
+            self.new }
+    {
+        if let Some(row) = self.rows.get_mut(self.row) {
+            row.erase_cells(self.column, count);
+        }
+    }
+
+    fn delete_cells(&mut self, count: usize)
+        ensures { Becomes self.old [] (with_row
+            (deleted self.old.column count (line_of (window_of self.old)).cells)
+            (window_of self.old)) self.new }
+    {
+        if let Some(row) = self.rows.get_mut(self.row) {
+            row.delete_cells(self.column, count);
+        }
+    }
+
+    fn insert_cells(&mut self, count: usize) -> Result<(), AllocError>
+        ensures ok { OnOk result (Becomes self.old [] (with_row (inserted
+            (size_of self.old).columns self.old.column count (line_of (window_of self.old)).cells)
+            (window_of self.old)) self.new) }
+        ensures refused { OnErr result (Refused A) }
+    {
+        if let Some(row) = self.rows.get_mut(self.row) {
+            row.insert_cells(self.column, count, self.max_columns)?;
+        }
+        Ok(())
+    }
+
+    // Makes all cells of the rows from one to before another blank.
+    fn erase_rows(&mut self, from: usize, to: usize)
+        requires { from ≤ to }
+        ensures { Becomes self.old [] (with_blank_rows from to (window_of self.old)) self.new }
+    {
+        erase_rows(&mut self.rows, from, to);
+    }
+
+    fn erase_below(&mut self)
+        ensures { Becomes self.old [] (below_erased (window_of self.old)) self.new }
+    {
+        self.erase_right();
+        let below = self.row.saturating_add(1);
+        let end = self.rows.len();
+        if below < end {
+            self.erase_rows(below, end);
+        }
+    }
+
+    fn erase_above(&mut self)
+        ensures { Becomes self.old [] (above_erased (window_of self.old)) self.new }
+    {
+        self.erase_left();
+        self.erase_rows(0, self.row);
+    }
+
+    fn erase_all(&mut self)
+        ensures { Becomes self.old [] (all_erased (window_of self.old)) self.new }
+    {
+        let end = self.rows.len();
+        self.erase_rows(0, end);
     }
 
     /// Takes a step.
@@ -234,6 +299,12 @@ impl<A: Allocator + Copy> Screen<A> {
             Step::EraseRight => self.erase_right(),
             Step::EraseLeft => self.erase_left(),
             Step::EraseRow => self.erase_row(),
+            Step::EraseCells(n) => self.erase_cells(n),
+            Step::DeleteCells(n) => self.delete_cells(n),
+            Step::InsertCells(n) => return self.insert_cells(n),
+            Step::EraseBelow => self.erase_below(),
+            Step::EraseAbove => self.erase_above(),
+            Step::EraseAll => self.erase_all(),
             Step::Nothing => {}
         }
         Ok(())

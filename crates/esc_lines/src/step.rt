@@ -6,7 +6,7 @@ ghost use Rattle.esc_typed.specs.Counts.{one_based};
 ghost use Rattle.esc_typed.specs.Functions.{value_of as function_value};
 
 use esc_actions::{Action, ControlCode};
-use esc_typed::{Cursor, Edit, EraseInLine, Function, OneBased};
+use esc_typed::{Cursor, Edit, EraseInDisplay, EraseInLine, Function, OneBased};
 use std::alloc::Allocator;
 
 /// What a value of a stream does to the rows and to the cursor in them. Rows and columns are
@@ -39,6 +39,18 @@ pub enum Step {
     EraseLeft,
     /// All cells of the row become blank.
     EraseRow,
+    /// The cell at the cursor, all after it and all rows below become blank.
+    EraseBelow,
+    /// The cell at the cursor, all before it and all rows above become blank.
+    EraseAbove,
+    /// All cells become blank.
+    EraseAll,
+    /// So many cells from the cursor on become blank.
+    EraseCells(usize),
+    /// So many cells from the cursor on are taken out.
+    DeleteCells(usize),
+    /// So many blank cells are put in at the cursor.
+    InsertCells(usize),
     /// Nothing.
     Nothing,
 }
@@ -115,6 +127,12 @@ impl Step {
             Edit::EraseInLine(EraseInLine::EraseToEndOfLine) => Step::EraseRight,
             Edit::EraseInLine(EraseInLine::EraseToStartOfLine) => Step::EraseLeft,
             Edit::EraseInLine(EraseInLine::EraseLine) => Step::EraseRow,
+            Edit::EraseInDisplay(EraseInDisplay::EraseToEndOfDisplay) => Step::EraseBelow,
+            Edit::EraseInDisplay(EraseInDisplay::EraseToStartOfDisplay) => Step::EraseAbove,
+            Edit::EraseInDisplay(EraseInDisplay::EraseDisplay) => Step::EraseAll,
+            Edit::EraseCharacter(n) => Step::EraseCells(count(n)),
+            Edit::DeleteCharacter(n) => Step::DeleteCells(count(n)),
+            Edit::InsertCharacter(n) => Step::InsertCells(count(n)),
             _ => Step::Nothing,
         }
     }
