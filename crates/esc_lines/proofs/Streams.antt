@@ -7,9 +7,9 @@ use Rattle.esc_actions.specs.Values.{Value, value_of, print, string, control, es
 use Rattle.esc_actions.specs.declared.action.Action.{Action}
 use Rattle.esc_parse.specs.Given.{At, StopsAt}
 use Rattle.esc_parse.specs.Images.{is_image}
-use Rattle.esc_lines.specs.Fed.{Adds, Takes, size_of, text_of, window_of}
+use Rattle.esc_lines.specs.Fed.{Adds, Takes, final_after, left_after, size_of, text_of, window_of}
 use Rattle.esc_lines.specs.Steps.{step_of}
-use Rattle.esc_lines.specs.Streams.{final_of, text_from, values_of, window_from}
+use Rattle.esc_lines.specs.Streams.{final_of, left_of, open_of, text_from, values_of, window_from}
 use Rattle.esc_lines.specs.Windows.{Size, Window, first_window, text_by, window_by}
 use Rattle.esc_lines.specs.declared.screen.Screen.{Screen}
 
@@ -72,6 +72,40 @@ fed_more {A} z s b p q none at size f =
           ∙ ap (λ x. final_of z us ++ x)
           (sym (r.0 ∙ ap (λ t. t ++ text_from (size_of p) (window_of p) vs) none
           ∙ ap (λ x. text_from x (window_of p) vs) size ∙ ap (λ x. text_from z x vs) at)),
+    )
+
+-- what comes after a stream only adds to its final rows
+pub final_longer : (A : Type 0) (z : Size) (s b : List ℕ)
+    → (t : List ℕ) × (final_of z (values_of A (s ++ b)) ≡ final_of z (values_of A s) ++ t)
+final_longer A z s b =
+    let us = values_of A s in
+    let vs = yield_within {A = A} (Some 0) s b in (
+      text_from z (window_from z first_window us) vs,
+      ap (final_of z) (sym (meaning_more {A = A} (Some 0) s b)) ∙ text_more z first_window us vs,
+    )
+
+-- the same of a filter whose text becomes longer
+pub final_after_longer : (A : Type 0) (z : Size) (f m : List ℕ → List ℕ) (s b : List ℕ)
+    → m ≡ final_after A z f → (x : List ℕ) × (f (s ++ b) ≡ f s ++ x)
+    → (t : List ℕ) × (m (s ++ b) ≡ m s ++ t)
+final_after_longer A z f m s b is (x, e) =
+    let k = final_longer A z (f s) x in (
+      k.0,
+      ap (λ g. g (s ++ b)) is ∙ ap (λ y. final_of z (values_of A y)) e ∙ k.1
+          ∙ ap (λ y. y ++ k.0) (sym (ap (λ g. g s) is)),
+    )
+
+pub left_after_longer : (A : Type 0) (z : Size) (f e m c : List ℕ → List ℕ) (s : List ℕ)
+    → m ≡ final_after A z f → c ≡ left_after A z e → (x : List ℕ) × (e s ≡ f s ++ x)
+    → (t : List ℕ) × (c s ≡ m s ++ t)
+left_after_longer A z f e m c s is ends (x, more) =
+    let k = final_longer A z (f s) x in
+    let rest = open_of z (values_of A (f s ++ x)) in (
+      k.0 ++ rest,
+      ap (λ g. g s) ends ∙ ap (λ y. left_of z (values_of A y)) more
+          ∙ ap (λ y. y ++ rest) k.1
+          ∙ append_assoc (final_of z (values_of A (f s))) k.0 rest
+          ∙ ap (λ y. y ++ (k.0 ++ rest)) (sym (ap (λ g. g s) is)),
     )
 
 -- a giver that stops at a value, or by itself, was refused memory

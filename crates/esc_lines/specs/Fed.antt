@@ -4,8 +4,10 @@ use Rattle.esc_actions.specs.Values.{value_of}
 use Rattle.esc_actions.specs.declared.action.Action.{Action}
 use Rattle.esc_parse.specs.Fed.{WasFedWithin}
 use Rattle.esc_lines.specs.Steps.{step_of}
-use Rattle.esc_lines.specs.Streams.{final_of, values_of, window_from}
+use Rattle.esc_filter.specs.declared.feeding.Feeding.{Ghosts as Feeder}
+use Rattle.esc_lines.specs.Streams.{final_of, left_of, values_of, window_from}
 use Rattle.esc_lines.specs.declared.collapse.Collapse.{Collapse}
+use Rattle.esc_lines.specs.declared.collapsing.Collapsing.{Collapsing}
 use Rattle.esc_lines.specs.Windows.{Size, Window, first_window, text_by, window_by}
 use Rattle.esc_lines.specs.declared.screen.Screen.{Screen}
 use Rattle.esc_lines.specs.declared.step.Step.{Step}
@@ -72,3 +74,17 @@ After c C = (size : Size) (s : List ℕ) → WasFed size s c → C size s
 abbrev pub TakesIn : {A : Type 0} → Size → List ℕ → List ℕ → Collapse A → Type 0
 TakesIn {A} size s b c = WasFed size (s ++ b) c
     × (final_of size (values_of A (s ++ b)) ≡ final_of size (values_of A s) ++ added_by c)
+
+-- of a filter, which gives texts for streams that go on and for those that have ended: the final
+-- rows of the first, and all rows of the second
+abbrev pub final_after : Type 0 → Size → (List ℕ → List ℕ) → List ℕ → List ℕ
+final_after A size m s = final_of size (values_of A (m s))
+
+abbrev pub left_after : Type 0 → Size → (List ℕ → List ℕ) → List ℕ → List ℕ
+left_after A size c s = left_of size (values_of A (c s))
+
+-- the filter gives the texts m and c and was fed s, and the collapse, of this size, was fed its text
+pub record IsFed {F A : Type 0} (V : Feeder F A) (size : Size) (m c : List ℕ → List ℕ)
+    (s : List ℕ) (f : Collapsing F A) : Type 0 where
+  pub inner : V.gives f.inner m c s
+  pub collapse : WasFed size (m s) f.collapse

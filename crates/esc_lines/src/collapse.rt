@@ -1,6 +1,6 @@
 //! What is left of the lines of a stream.
 ghost use Rattle.std.specs.Prelude.{◌≡◌, ◌++◌, [], IfOk, IsErr, OnErr, OnOk, max};
-ghost use Rattle.esc_lines.specs.Streams.{open_of, values_of};
+ghost use Rattle.esc_lines.specs.Streams.{final_of, left_of, open_of, values_of};
 ghost use Rattle.esc_lines.specs.Windows.{sized};
 ghost use Rattle.memory.specs.Refusals.{Refused};
 
@@ -72,6 +72,22 @@ impl<A: Allocator + Copy> Collapse<A> {
             return Err(AllocError);
         };
         let mut screen = screen.cleared();
+        screen.close()?;
+        self.screen = Some(screen);
+        Ok(())
+    }
+
+    // Takes the last text of the stream, and ends it: what both add is then added.
+    pub(crate) fn feed_last(&mut self, text: &[u8]) -> Result<(), AllocError>
+        ensures ended { After self.old (λ size s. OnOk result
+            (left_of size (values_of A (s ++ text.now))
+            ≡ final_of size (values_of A s) ++ added_by self.new)) }
+        ensures refused { After self.old (λ size s. OnErr result (Refused A)) }
+    {
+        self.feed(text)?;
+        let Some(mut screen) = self.screen.take() else {
+            return Ok(());
+        };
         screen.close()?;
         self.screen = Some(screen);
         Ok(())

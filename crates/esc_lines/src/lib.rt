@@ -2,9 +2,11 @@
 #![tactic(auto)]
 
 pub mod collapse;
+pub mod collapsing;
 mod row;
 mod screen;
 pub mod step;
 
 pub use collapse::Collapse;
+pub use collapsing::Collapsing;
 pub use step::Step;

@@ -1,0 +1,12 @@
+use Rattle.esc_lines.proofs.Streams.{final_after_longer}
+use Rattle.esc_lines.proofs.collapsing.CollapsingFeeding.feed_piece.Goals as goal
+
+pub returns-in_err-feed_piece-clause-longer : goal.returns-in_err-feed_piece-clause-longer
+returns-in_err-feed_piece-clause-longer g c = λ m e s (z, f, ended, fed, is, ends).
+    final_after_longer g.row.A.Denot z f m s c.args.bytes.now is
+    (c.feed_piece.ensures.longer f ended s fed.inner)
+
+pub returns-clause-longer : goal.returns-clause-longer
+returns-clause-longer g c = λ m e s (z, f, ended, fed, is, ends).
+    final_after_longer g.row.A.Denot z f m s c.args.bytes.now is
+    (c.feed_piece.ensures.longer f ended s fed.inner)
