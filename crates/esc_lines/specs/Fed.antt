@@ -83,7 +83,8 @@ final_after A size m s = final_of size (values_of A (m s))
 abbrev pub left_after : Type 0 → Size → (List ℕ → List ℕ) → List ℕ → List ℕ
 left_after A size c s = left_of size (values_of A (c s))
 
--- the filter gives the texts m and c and was fed s, and the collapse, of this size, was fed its text
+-- the filter gives the texts m and c and was fed s, and the collapse, of this size, was fed its
+-- text
 pub record IsFed {F A : Type 0} (V : Feeder F A) (size : Size) (m c : List ℕ → List ℕ)
     (s : List ℕ) (f : Collapsing F A) : Type 0 where
   pub inner : V.gives f.inner m c s

@@ -1,6 +1,7 @@
 //! The calls that rows name.
 use crate::codecs::{base64, bytes_image, displayed, of_parts, written};
 use crate::heap::is_exact;
+use crate::lines::left;
 use crate::pages::page;
 use crate::queries::query_of;
 use crate::segments::{counted, listed};
@@ -32,6 +33,8 @@ use std::alloc::{AllocError, Global};
 ///   the first, how many they are, and of how many bytes.
 /// - `html` and `html-by-lines`: the HTML of a stream, with what closes it; `safe-address`: whether
 ///   a link of a page may lead to it.
+/// - `left`: what is left of the lines of a stream; `left-of-2-by-4`: where 2 rows of 4 columns may
+///   be written again.
 /// - `refusing`: whether the allocator that refuses a request refuses this alone.
 /// - the words and numbers of `words.rt`, which take no memory.
 pub fn answer(
@@ -57,6 +60,8 @@ pub fn answer(
         "segments" => listed(alloc, input),
         "segment-count" => counted(alloc, input),
         "html" | "html-by-lines" => page(alloc, heap, input, call == "html-by-lines"),
+        "left" => left(alloc, heap, input, 32, 200),
+        "left-of-2-by-4" => left(alloc, heap, input, 2, 4),
         "safe-address" => format!(in alloc; "{}", is_safe_address(text(input))),
         "refusing" => format!(in alloc; "{}", is_exact(alloc)),
         _ => word(call, alloc, input),

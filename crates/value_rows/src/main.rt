@@ -14,6 +14,7 @@ mod calls;
 mod codecs;
 mod field;
 mod heap;
+mod lines;
 mod pages;
 mod queries;
 mod refusals;
