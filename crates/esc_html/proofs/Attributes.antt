@@ -3,12 +3,12 @@ use Rattle.std.proofs.Common.{ℕ, zero, suc, ◌≡◌, ◌<◌, ◌+◌, ◌&&
 use Rattle.std.proofs.lemmas.Grind.{flat_map-append}
 use Rattle.std.proofs.lemmas.List.{append-nil}
 use Rattle.esc_html.specs.Attributes.{begun_classes, begun_styles, ended, is_empty, next_class, next_style}
-use Rattle.esc_html.specs.Classes.{class_name, more_names}
-use Rattle.esc_html.specs.Looks.{present}
+use Rattle.esc_looks.specs.Classes.{class_name, more_names}
+use Rattle.esc_looks.specs.Looks.{present}
 use Rattle.esc_html.specs.Pieces.{attribute_text, attributes_text, class_attribute, style_attribute}
-use Rattle.esc_html.specs.Styles.{style_text, styles_text}
-use Rattle.esc_html.specs.declared.class.Class.{Class}
-use Rattle.esc_html.specs.declared.style.Style.{Style}
+use Rattle.esc_looks.specs.Styles.{style_text, styles_text}
+use Rattle.esc_looks.specs.declared.class.Class.{Class}
+use Rattle.esc_looks.specs.declared.style.Style.{Style}
 
 -- ---- what is present of a longer list
 

@@ -9,12 +9,12 @@ use Rattle.std.proofs.lemmas.List.Folds.{list_all-append}
 use Rattle.std.proofs.lemmas.List.{append-nil}
 use Rattle.std.proofs.lemmas.Str.{encode_ascii, encodes-append, inside_one}
 use Rattle.memchr.specs.Find.{is_byte3}
-use Rattle.esc_html.specs.Classes.{class_names}
-use Rattle.esc_html.specs.Colors.{color_code, is_small}
-use Rattle.esc_html.specs.Looks.{look_classes, look_styles, present}
-use Rattle.esc_html.specs.Styles.{styles_text}
-use Rattle.esc_html.specs.declared.class.Class.{Class}
-use Rattle.esc_html.specs.declared.style.Style.{Style}
+use Rattle.esc_looks.specs.Classes.{class_names}
+use Rattle.esc_looks.specs.Colors.{color_code, is_small}
+use Rattle.esc_looks.specs.Looks.{look_classes, look_styles, present}
+use Rattle.esc_looks.specs.Styles.{styles_text}
+use Rattle.esc_looks.specs.declared.class.Class.{Class}
+use Rattle.esc_looks.specs.declared.style.Style.{Style}
 use Rattle.esc_html.specs.Pieces.{Piece, text, span, span_end, link, link_end, encoded, escape, escape_text, escape_value, needs_reference, html_text, piece_text, reference_text, is_kept, attribute_text, attributes_text, class_attribute, style_attribute}
 use Rattle.esc_html.proofs.EscapedRuns.{escape_none, mark_small}
 use Rattle.esc_html.proofs.Reading.{code_plain, is_name_char, names_plain, styles_plain}

@@ -4,13 +4,13 @@ use Rattle.std.specs.Char.{encode_utf8}
 use Rattle.std.specs.List.{flat_map}
 use Rattle.std.proofs.lemmas.Grind.{flat_map-append}
 use Rattle.esc_actions.specs.Values.{Value}
-use Rattle.esc_html.specs.Looks.{is_plain}
+use Rattle.esc_looks.specs.Looks.{is_plain}
 use Rattle.esc_html.specs.Marks.{Pen, Step, changes, shows, nothing, ends_line, marked, marks, pen_at, pen_by, step_of}
 use Rattle.esc_html.specs.Pages.{State, before_character, closed, closing, link_end_if, link_opening, open_or_not, opening, pieces_by, pieces_from, span_end_unless, span_unless, state_by, state_from}
 use Rattle.esc_html.specs.Pieces.{Open, Piece, nests, open_link, open_span, piece_tokens, text, tokens_of}
 use Rattle.esc_html.specs.Shown.{Element, elements, link_elements, marked_bytes, shown, span_elements_unless}
 use Rattle.esc_html.specs.Tokens.{Token, character}
-use Rattle.esc_html.specs.declared.look.Look.{Look}
+use Rattle.esc_looks.specs.declared.look.Look.{Look}
 
 -- ---- one list of values after another
 

@@ -8,16 +8,16 @@ use Rattle.std.proofs.lemmas.List.Folds.{list_all-append}
 use Rattle.std.proofs.lemmas.List.{append-nil}
 use Rattle.esc_typed.specs.declared.ansi_color.AnsiColor.{AnsiColor}
 use Rattle.esc_typed.specs.declared.ansi_color.AnsiColor.TheVariants as ansi
-use Rattle.esc_html.specs.Classes.{class_name, color_name, more_names, class_names}
-use Rattle.esc_html.specs.Colors.{color_code, hex_byte, hex_digit}
-use Rattle.esc_html.specs.Looks.{look_classes, look_styles, present}
-use Rattle.esc_html.specs.Styles.{style_color, style_property, style_text, styles_text}
-use Rattle.esc_html.specs.declared.style.Style.{Style}
-use Rattle.esc_html.specs.declared.style.Style.TheVariants as style
+use Rattle.esc_looks.specs.Classes.{class_name, color_name, more_names, class_names}
+use Rattle.esc_looks.specs.Colors.{color_code, hex_byte, hex_digit}
+use Rattle.esc_looks.specs.Looks.{look_classes, look_styles, present}
+use Rattle.esc_looks.specs.Styles.{style_color, style_property, style_text, styles_text}
+use Rattle.esc_looks.specs.declared.style.Style.{Style}
+use Rattle.esc_looks.specs.declared.style.Style.TheVariants as style
 use Rattle.esc_html.specs.Pieces.{Piece, text, span, span_end, link, link_end, escape, escape_text, escape_value, piece_text, html_text, piece_tokens, tokens_of, is_kept, is_kept_piece, attribute_text, attributes_text, class_attribute, style_attribute}
 use Rattle.esc_html.specs.Tokens.{Tag, character, start_tag, data_state, value, after_value, with_attribute, tokens_from, normalized, tokens}
-use Rattle.esc_html.specs.declared.class.Class.{Class}
-use Rattle.esc_html.specs.declared.class.Class.TheVariants.{Background, Blink, Bold, Concealed, CurlyUnderline, DashedUnderline, DottedUnderline, DoubleUnderline, Faint, Foreground, Inverse, Italic, Overline, Strikethrough, Underline, UnderlineColor}
+use Rattle.esc_looks.specs.declared.class.Class.{Class}
+use Rattle.esc_looks.specs.declared.class.Class.TheVariants.{Background, Blink, Bold, Concealed, CurlyUnderline, DashedUnderline, DottedUnderline, DoubleUnderline, Faint, Foreground, Inverse, Italic, Overline, Strikethrough, Underline, UnderlineColor}
 
 -- ---- text
 

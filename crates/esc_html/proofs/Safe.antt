@@ -17,11 +17,11 @@ use Rattle.esc_osc.specs.declared.command.OperatingSystemCommand.TheVariants as 
 use Rattle.esc_typed.specs.Functions.{Value as Function, of_csi, cursor, edit, device, keyboard, mouse, window, mode_status, charset, escape, modes, tabs, renditions, other}
 use Rattle.esc_values.specs.Clear.{is_clear}
 use Rattle.esc_html.specs.Addresses.{is_address_char, is_safe_address}
-use Rattle.esc_html.specs.Looks.{is_plain}
+use Rattle.esc_looks.specs.Looks.{is_plain}
 use Rattle.esc_html.specs.Marks.{Pen, Step, changes, shows, nothing, address_if, address_of, command_step, control_step, ends_line, function_step, is_page_address, print_step, step_of}
 use Rattle.esc_html.specs.Pages.{State, before_character, closed, closing, link_end_if, link_opening, opening, pieces_by, pieces_from, span_end_unless, span_unless, state_by, state_from}
 use Rattle.esc_html.specs.Pieces.{Piece, text, span, span_end, link, link_end, is_kept}
-use Rattle.esc_html.specs.declared.look.Look.{Look}
+use Rattle.esc_looks.specs.declared.look.Look.{Look}
 
 -- ---- characters that are kept
 

@@ -1,9 +1,9 @@
 -- Attributes that are written part by part.
 use Rattle.std.specs.Prelude.{ℕ, Bool, true, false, if◌then◌else◌, List, [], ◌∷◌, ◌++◌, codes, Option, Some, None}
-use Rattle.esc_html.specs.Classes.{class_name, class_names}
-use Rattle.esc_html.specs.Styles.{style_text, styles_text}
-use Rattle.esc_html.specs.declared.class.Class.{Class}
-use Rattle.esc_html.specs.declared.style.Style.{Style}
+use Rattle.esc_looks.specs.Classes.{class_name, class_names}
+use Rattle.esc_looks.specs.Styles.{style_text, styles_text}
+use Rattle.esc_looks.specs.declared.class.Class.{Class}
+use Rattle.esc_looks.specs.declared.style.Style.{Style}
 
 abbrev pub is_empty : {X : Type 0} → List X → Bool
 is_empty [] = true

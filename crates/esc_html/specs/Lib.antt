@@ -1,7 +1,3 @@
-pub mod Classes
-pub mod Colors
-pub mod Styles
-pub mod Looks
 pub mod Attributes
 pub mod Tokens
 pub mod Pieces

@@ -4,7 +4,7 @@ use Rattle.std.specs.Str.{bytes_eq}
 use Rattle.esc_html.specs.Addresses.{is_safe_address}
 use Rattle.esc_html.specs.Pieces.{Piece, text, span, span_attributes, span_end, link, link_end}
 use Rattle.esc_html.specs.Tokens.{Token, character, start_tag, end_tag, stray}
-use Rattle.esc_html.specs.declared.look.Look.{Look}
+use Rattle.esc_looks.specs.declared.look.Look.{Look}
 
 -- a span of a look: names of the list of classes, and colours by numbers, alone
 abbrev pub IsSpan : List ℕ → List (List ℕ × List ℕ) → Type 0

@@ -10,9 +10,9 @@ use Rattle.esc_values.specs.declared.csi_param.CsiParam.{CsiParam}
 use Rattle.esc_typed.specs.declared.rendition.Rendition.{Rendition}
 use Rattle.esc_typed.specs.Functions.{Value as Function, renditions, of_csi}
 use Rattle.esc_html.specs.Addresses.{is_safe_address}
-use Rattle.esc_html.specs.Looks.{look_by_all, plain_look}
+use Rattle.esc_looks.specs.Looks.{look_by_all, plain_look}
 use Rattle.esc_html.specs.Pieces.{is_kept}
-use Rattle.esc_html.specs.declared.look.Look.{Look}
+use Rattle.esc_looks.specs.declared.look.Look.{Look}
 
 -- what holds for the characters that come: their look, and the address that they lead to
 pub record Pen : Type 0 where

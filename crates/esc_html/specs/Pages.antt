@@ -3,10 +3,10 @@ use Rattle.std.specs.Prelude.{ℕ, Bool, true, false, not, if◌then◌else◌, 
 use Rattle.std.specs.Char.{encode_utf8}
 use Rattle.esc_actions.specs.Meaning.{meaning_within}
 use Rattle.esc_actions.specs.Values.{Value}
-use Rattle.esc_html.specs.Looks.{is_plain}
+use Rattle.esc_looks.specs.Looks.{is_plain}
 use Rattle.esc_html.specs.Marks.{Pen, Step, changes, shows, nothing, ends_line, plain_pen, step_of}
 use Rattle.esc_html.specs.Pieces.{Piece, html_text, link, link_end, span, span_end, text}
-use Rattle.esc_html.specs.declared.look.Look.{Look}
+use Rattle.esc_looks.specs.declared.look.Look.{Look}
 
 -- what a page is at: the pen, and whether the tags of it are open
 pub record State : Type 0 where

@@ -3,13 +3,13 @@
 use Rattle.std.specs.Prelude.{ℕ, ◌==◌, Bool, true, false, not, ◌&&◌, ◌||◌, if◌then◌else◌, List, [], ◌∷◌, ◌++◌, codes, map}
 use Rattle.std.specs.List.{flat_map, list_all}
 use Rattle.std.specs.Str.{encode_utf8_all}
-use Rattle.esc_html.specs.Classes.{class_names}
-use Rattle.esc_html.specs.Looks.{look_classes, look_styles, present}
-use Rattle.esc_html.specs.Styles.{styles_text}
+use Rattle.esc_looks.specs.Classes.{class_names}
+use Rattle.esc_looks.specs.Looks.{look_classes, look_styles, present}
+use Rattle.esc_looks.specs.Styles.{styles_text}
 use Rattle.esc_html.specs.Tokens.{Token, character, start_tag, end_tag}
-use Rattle.esc_html.specs.declared.class.Class.{Class}
-use Rattle.esc_html.specs.declared.look.Look.{Look}
-use Rattle.esc_html.specs.declared.style.Style.{Style}
+use Rattle.esc_looks.specs.declared.class.Class.{Class}
+use Rattle.esc_looks.specs.declared.look.Look.{Look}
+use Rattle.esc_looks.specs.declared.style.Style.{Style}
 
 pub data Piece : Type 0 where
   -- characters

@@ -4,12 +4,12 @@ use Rattle.std.specs.Char.{encode_utf8}
 use Rattle.std.specs.List.{All, flat_map}
 use Rattle.esc_actions.specs.Meaning.{meaning_within}
 use Rattle.esc_html.specs.Listed.{IsListed, closes}
-use Rattle.esc_html.specs.Looks.{is_plain}
+use Rattle.esc_looks.specs.Looks.{is_plain}
 use Rattle.esc_html.specs.Marks.{Pen, marks, plain_pen}
 use Rattle.esc_html.specs.Pages.{closing_text, page_text}
 use Rattle.esc_html.specs.Pieces.{span_attributes}
 use Rattle.esc_html.specs.Tokens.{Token, character, start_tag, end_tag, stray, tokens}
-use Rattle.esc_html.specs.declared.look.Look.{Look}
+use Rattle.esc_looks.specs.declared.look.Look.{Look}
 
 -- the name of an element, and its attributes with their values
 abbrev pub Element : Type 0

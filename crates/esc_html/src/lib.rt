@@ -18,22 +18,15 @@
 #![tactic(auto)]
 
 mod address;
-pub mod class;
-pub mod color;
 mod escaping;
 pub mod html_writer;
 pub mod laws;
-pub mod look;
 mod markup;
 mod page;
-pub mod style;
 mod tag;
 mod writing;
 
 pub use address::is_safe_address;
-pub use class::Class;
-pub use color::Color;
+pub use esc_looks::{Class, Color, Look, Style};
 pub use html_writer::HtmlWriter;
-pub use look::Look;
-pub use style::Style;
 pub use writing::{close_link, close_span, open_link, open_span, push_text};

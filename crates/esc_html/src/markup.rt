@@ -6,9 +6,9 @@ ghost use Rattle.esc_html.specs.Pieces.{escape_text, link, piece_text, span};
 ghost use Rattle.memory.specs.Refusals.{Refused};
 
 use crate::escaping::{push_char, push_escaped};
-use crate::look::Look;
 use crate::tag::push_span;
 use crate::writing::push_link;
+use esc_looks::Look;
 use std::alloc::{AllocError, Allocator, Global};
 use std::marker::Model;
 

@@ -3,7 +3,7 @@ ghost use Rattle.std.specs.Prelude.{◌≡◌, ◌++◌, [], OnErr, OnOk, false,
 ghost use Rattle.std.specs.List.{filter, list_all};
 ghost use Rattle.esc_frame.specs.Scans.{is_text_byte};
 ghost use Rattle.esc_html.specs.Fed.{Adds, Takes, is_visible, state_of, text_of, with_text};
-ghost use Rattle.esc_html.specs.Looks.{is_plain};
+ghost use Rattle.esc_looks.specs.Looks.{is_plain};
 ghost use Rattle.esc_html.specs.Marks.{address_of, changes, command_step, control_step, function_step, is_page_address, print_step, shows, with_link, with_look};
 ghost use Rattle.esc_html.specs.Pages.{before_character, closed, first_state, link_end_if, link_opening, open_or_not, opened, span_end_unless, span_unless};
 ghost use Rattle.esc_html.specs.Pieces.{html_text};
@@ -12,10 +12,10 @@ ghost use Rattle.esc_typed.specs.Selections.{left};
 ghost use Rattle.memory.specs.Refusals.{Refused};
 
 use crate::address::is_safe_address;
-use crate::look::Look;
 use crate::markup::Markup;
 use esc_actions::Action;
 use esc_links::Hyperlink;
+use esc_looks::Look;
 use esc_osc::OperatingSystemCommand;
 use esc_parse::Sink;
 use esc_typed::{Function, Renditions};

@@ -2,15 +2,13 @@
 ghost use Rattle.std.specs.Prelude.{◌≡◌, ◌&&◌, ◌++◌, IfOk, OnOk, OnErr, is_none, string_bytes, true, Some};
 ghost use Rattle.std.specs.List.{list_all};
 ghost use Rattle.esc_html.specs.Attributes.{class_opener, ended, next_class, next_style, style_opener};
-ghost use Rattle.esc_html.specs.Colors.{is_small};
+ghost use Rattle.esc_looks.specs.Colors.{is_small};
 ghost use Rattle.esc_html.specs.Growing.{Grows};
-ghost use Rattle.esc_html.specs.Looks.{present};
+ghost use Rattle.esc_looks.specs.Looks.{present};
 ghost use Rattle.esc_html.specs.Pieces.{attributes_text, class_attribute, piece_text, span, style_attribute};
 ghost use Rattle.memory.specs.Refusals.{Refused};
 
-use crate::class::Class;
-use crate::look::Look;
-use crate::style::Style;
+use esc_looks::{Class, Look, Style};
 use std::alloc::{AllocError, Allocator};
 use std::str;
 

@@ -6,8 +6,8 @@ ghost use Rattle.esc_html.specs.Pieces.{link, link_end, piece_text, span, span_e
 ghost use Rattle.memory.specs.Refusals.{Refused};
 
 use crate::escaping::push_escaped;
-use crate::look::Look;
 use crate::tag::push_span;
+use esc_looks::Look;
 use std::alloc::{AllocError, Allocator};
 
 /// Appends characters: `&`, `<` and `>` as character references, and any other as it is (WHATWG

@@ -1,6 +1,6 @@
 //! Colours.
 ghost use Rattle.std.specs.Prelude.{◌≡◌, ◌≤◌, ◌<◌};
-ghost use Rattle.esc_html.specs.Colors.{color_at, color_code, color_of, hex_digit, level, palette};
+ghost use Rattle.esc_looks.specs.Colors.{color_at, color_code, color_of, hex_digit, level, palette};
 ghost use Rattle.esc_typed.specs.Numbers.{ansi_color_at};
 
 use esc_typed::{AnsiColor, ColorSpec};

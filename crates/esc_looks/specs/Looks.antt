@@ -12,14 +12,14 @@ use Rattle.esc_typed.specs.declared.blink.Blink.{Blink as BlinkKind}
 use Rattle.esc_typed.specs.declared.blink.Blink.TheVariants as blink
 use Rattle.esc_typed.specs.declared.rendition.Rendition.{Rendition}
 use Rattle.esc_typed.specs.declared.rendition.Rendition.TheVariants.{Reset, Intensity, Italic, Underline, Blink, Inverse, Invisible, StrikeThrough, AnsiForeground, AnsiBackground, Foreground, Background, UnderlineColor, Overline}
-use Rattle.esc_html.specs.Colors.{color_of}
-use Rattle.esc_html.specs.declared.class.Class.{Class}
-use Rattle.esc_html.specs.declared.class.Class.TheVariants as class
-use Rattle.esc_html.specs.declared.color.Color.{Color}
-use Rattle.esc_html.specs.declared.color.Color.TheVariants as color
-use Rattle.esc_html.specs.declared.look.Look.{Look}
-use Rattle.esc_html.specs.declared.style.Style.{Style}
-use Rattle.esc_html.specs.declared.style.Style.TheVariants as style
+use Rattle.esc_looks.specs.Colors.{color_of}
+use Rattle.esc_looks.specs.declared.class.Class.{Class}
+use Rattle.esc_looks.specs.declared.class.Class.TheVariants as class
+use Rattle.esc_looks.specs.declared.color.Color.{Color}
+use Rattle.esc_looks.specs.declared.color.Color.TheVariants as color
+use Rattle.esc_looks.specs.declared.look.Look.{Look}
+use Rattle.esc_looks.specs.declared.style.Style.{Style}
+use Rattle.esc_looks.specs.declared.style.Style.TheVariants as style
 
 -- as at first
 abbrev pub plain_look : Look

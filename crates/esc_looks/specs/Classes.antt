@@ -2,8 +2,8 @@
 use Rattle.std.specs.Prelude.{ℕ, Bool, if◌then◌else◌, List, [], ◌∷◌, ◌++◌, codes}
 use Rattle.esc_typed.specs.declared.ansi_color.AnsiColor.{AnsiColor}
 use Rattle.esc_typed.specs.declared.ansi_color.AnsiColor.TheVariants as ansi
-use Rattle.esc_html.specs.declared.class.Class.{Class}
-use Rattle.esc_html.specs.declared.class.Class.TheVariants.{Background, Blink, Bold, Concealed, CurlyUnderline, DashedUnderline, DottedUnderline, DoubleUnderline, Faint, Foreground, Inverse, Italic, Overline, Strikethrough, Underline, UnderlineColor}
+use Rattle.esc_looks.specs.declared.class.Class.{Class}
+use Rattle.esc_looks.specs.declared.class.Class.TheVariants.{Background, Blink, Bold, Concealed, CurlyUnderline, DashedUnderline, DottedUnderline, DoubleUnderline, Faint, Foreground, Inverse, Italic, Overline, Strikethrough, Underline, UnderlineColor}
 
 -- a colour that has a name
 abbrev pub color_name : AnsiColor → List ℕ

@@ -1,7 +1,7 @@
 //! How characters look.
 ghost use Rattle.std.specs.Prelude.{◌≡◌, is_none};
 ghost use Rattle.std.specs.List.{list_all};
-ghost use Rattle.esc_html.specs.Looks.{background_class, background_style, class_if, foreground_class, foreground_style, intensity_class, is_blinking, is_plain, look_after, look_by, look_by_all, look_by_optional, look_classes, look_styles, plain_look, shown_background, shown_foreground, underline_class, underline_color_class, underline_color_style};
+ghost use Rattle.esc_looks.specs.Looks.{background_class, background_style, class_if, foreground_class, foreground_style, intensity_class, is_blinking, is_plain, look_after, look_by, look_by_all, look_by_optional, look_classes, look_styles, plain_look, shown_background, shown_foreground, underline_class, underline_color_class, underline_color_style};
 ghost use Rattle.esc_sequences.specs.Csis.{csi_value};
 ghost use Rattle.esc_typed.specs.Selections.{left};
 
@@ -100,7 +100,7 @@ impl Look {
     }
 
     // Takes renditions, one after another.
-    pub(crate) fn select_all(&mut self, renditions: Renditions<'_>)
+    pub fn select_all(&mut self, renditions: Renditions<'_>)
         ensures { self.new ≡ look_by_all self.old (left renditions.entry) }
     {
         for selection in renditions {
@@ -147,7 +147,7 @@ impl Look {
     }
 
     // Its classes, of those that are there.
-    pub(crate) fn classes(&self) -> [Option<Class>; 11]
+    pub fn classes(&self) -> [Option<Class>; 11]
         ensures { result ≡ look_classes self.now }
     {
         [
@@ -166,7 +166,7 @@ impl Look {
     }
 
     // Its styles, of those that are there.
-    pub(crate) fn styles(&self) -> [Option<Style>; 3]
+    pub fn styles(&self) -> [Option<Style>; 3]
         ensures { result ≡ look_styles self.now }
     {
         [

@@ -1,9 +1,9 @@
 -- Styles: declarations of CSS, in an attribute `style`.
 use Rattle.std.specs.Prelude.{ℕ, List, ◌++◌, codes}
 use Rattle.std.specs.List.{flat_map}
-use Rattle.esc_html.specs.Colors.{color_code}
-use Rattle.esc_html.specs.declared.style.Style.{Style}
-use Rattle.esc_html.specs.declared.style.Style.TheVariants.{Color, BackgroundColor, TextDecorationColor}
+use Rattle.esc_looks.specs.Colors.{color_code}
+use Rattle.esc_looks.specs.declared.style.Style.{Style}
+use Rattle.esc_looks.specs.declared.style.Style.TheVariants.{Color, BackgroundColor, TextDecorationColor}
 
 -- the property that is declared, with its colon
 abbrev pub style_property : Style → List ℕ

@@ -3,8 +3,8 @@ use Rattle.std.specs.Prelude.{ℕ, ◌+◌, ◌-◌, ◌*◌, ◌/◌, ◌%◌, 
 use Rattle.esc_typed.specs.Numbers.{ansi_color_at}
 use Rattle.esc_typed.specs.declared.color_spec.ColorSpec.{ColorSpec}
 use Rattle.esc_typed.specs.declared.color_spec.ColorSpec.TheVariants as spec
-use Rattle.esc_html.specs.declared.color.Color.{Color}
-use Rattle.esc_html.specs.declared.color.Color.TheVariants.{Default, Named, Direct}
+use Rattle.esc_looks.specs.declared.color.Color.{Color}
+use Rattle.esc_looks.specs.declared.color.Color.TheVariants.{Default, Named, Direct}
 
 -- the six intensities of the cube of colours
 abbrev pub level : ℕ → ℕ

@@ -1,7 +1,7 @@
 use Rattle.std.proofs.Common.{◌≡◌}
-use Rattle.esc_html.specs.Looks.{look_by_all}
+use Rattle.esc_looks.specs.Looks.{look_by_all}
 use Rattle.esc_typed.specs.Selections.{left}
-use Rattle.esc_html.proofs.look.Look.select_all.Given as goal
+use Rattle.esc_looks.proofs.look.Look.select_all.Given as goal
 
 abbrev pub invariant-loop-selection : goal.invariant-loop-selection
 invariant-loop-selection l =

@@ -1,7 +1,7 @@
 //! Styles of a span.
 ghost use Rattle.std.specs.Prelude.{◌≡◌};
-ghost use Rattle.esc_html.specs.Colors.{color_code};
-ghost use Rattle.esc_html.specs.Styles.{style_color, style_property};
+ghost use Rattle.esc_looks.specs.Colors.{color_code};
+ghost use Rattle.esc_looks.specs.Styles.{style_color, style_property};
 
 use crate::color::color_code;
 use esc_values::RgbColor;
@@ -20,7 +20,7 @@ pub enum Style {
 
 impl Style {
     // The property, with its colon.
-    pub(crate) fn property(&self) -> &'static str
+    pub fn property(&self) -> &'static str
         ensures { result.now ≡ style_property self.now }
     {
         match self {
@@ -31,7 +31,7 @@ impl Style {
     }
 
     // Its colour, `#rrggbb`, and a semicolon.
-    pub(crate) fn code(&self) -> [u8; 8]
+    pub fn code(&self) -> [u8; 8]
         ensures { result ≡ color_code (style_color self.now) }
     {
         color_code(self.color())

@@ -1,6 +1,6 @@
 //! The classes of a span.
 ghost use Rattle.std.specs.Prelude.{◌≡◌};
-ghost use Rattle.esc_html.specs.Classes.{background_name, class_name, foreground_name, underline_color_name};
+ghost use Rattle.esc_looks.specs.Classes.{background_name, class_name, foreground_name, underline_color_name};
 
 use esc_typed::AnsiColor;
 

@@ -1,0 +1,4 @@
+pub mod Classes
+pub mod Colors
+pub mod Styles
+pub mod Looks
