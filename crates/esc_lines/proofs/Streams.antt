@@ -16,14 +16,14 @@ use Rattle.esc_lines.specs.declared.screen.Screen.{Screen}
 pub window_more : {A : Type 0} (s : Size) (w : Window) (us vs : List (Value A))
     → window_from s w (us ++ vs) ≡ window_from s (window_from s w us) vs
 window_more s w [] vs = refl
-window_more s w (u ∷ us) vs = window_more s (window_by s w (step_of u)) us vs
+window_more s w (u ∷ us) vs = window_more s (window_by s w (step_of w.pen u)) us vs
 
 pub text_more : {A : Type 0} (s : Size) (w : Window) (us vs : List (Value A))
     → text_from s w (us ++ vs) ≡ text_from s w us ++ text_from s (window_from s w us) vs
 text_more s w [] vs = refl
 text_more s w (u ∷ us) vs =
-    let t = text_by s w (step_of u) in
-    let v = window_by s w (step_of u) in
+    let t = text_by s w (step_of w.pen u) in
+    let v = window_by s w (step_of w.pen u) in
     ap (λ x. t ++ x) (text_more s v us vs)
     ∙ sym (append_assoc t (text_from s v us) (text_from s (window_from s v us) vs))
 
@@ -39,8 +39,8 @@ takes_all p [] q e = (
 )
 takes_all p (v ∷ vs) q (j, (a, is, w), rest) =
     let s = size_of p in
-    let t = step_of v in
-    let k = subst (λ x. Adds p (step_of x) j) is w in
+    let t = step_of p.pen v in
+    let k = subst (λ x. Adds p (step_of p.pen x) j) is w in
     let r = takes_all j vs q rest in
     let m = window_by s (window_of p) t in (
       r.0 ∙ ap (λ x. x ++ text_from (size_of j) (window_of j) vs) k.text
@@ -121,7 +121,7 @@ stops_refused own why R Q k says p (v ∷ vs) q (inr (inr (mid, t, rest))) =
 -- ---- images
 
 adds_nothing : {A : Type 0} (p : Screen A) (v : Value A) → is_image v ≡ true
-    → Adds p (step_of v) p
+    → Adds p (step_of p.pen v) p
 adds_nothing p (kitty i) h = record {
   text = sym (append-nil (text_of p));
   window = refl;

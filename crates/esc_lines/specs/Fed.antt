@@ -17,6 +17,7 @@ window_of p = record {
   lines = p.rows.items;
   row = p.row;
   column = p.column;
+  pen = p.pen;
 }
 
 abbrev pub size_of : {A : Type 0} → Screen A → Size
@@ -42,7 +43,7 @@ Adds p s q = Becomes p (text_by (size_of p) (window_of p) s)
 
 -- an action does what its value does
 abbrev pub Takes : {A : Type 0} → Screen A → Action A → Screen A → Type 0
-Takes p a q = Adds p (step_of (value_of a)) q
+Takes p a q = Adds p (step_of p.pen (value_of a)) q
 
 -- its window is that of this stream
 pub record Shows {A : Type 0} (size : Size) (s : List ℕ) (p : Screen A) : Type 0 where

@@ -1,3 +1,4 @@
+pub mod Sgr
 pub mod Rows
 pub mod Windows
 pub mod Steps

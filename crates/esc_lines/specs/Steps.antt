@@ -4,15 +4,17 @@ use Rattle.esc_actions.specs.Values.{Value, print, control, csi}
 use Rattle.esc_actions.specs.declared.control_code.ControlCode.{ControlCode}
 use Rattle.esc_actions.specs.declared.control_code.ControlCode.TheVariants as code
 use Rattle.esc_typed.specs.Counts.{one_based}
-use Rattle.esc_typed.specs.Functions.{Value as Function, cursor, edit, of_csi}
+use Rattle.esc_typed.specs.Functions.{Value as Function, cursor, edit, renditions, of_csi}
 use Rattle.esc_typed.specs.declared.cursor.Cursor.{Cursor}
 use Rattle.esc_typed.specs.declared.cursor.Cursor.TheVariants as cursors
 use Rattle.esc_typed.specs.declared.edit.Edit.{Edit}
 use Rattle.esc_typed.specs.declared.edit.Edit.TheVariants as edits
 use Rattle.esc_typed.specs.declared.erase_in_display.EraseInDisplay.TheVariants as display
 use Rattle.esc_typed.specs.declared.erase_in_line.EraseInLine.TheVariants as line
+use Rattle.esc_looks.specs.Looks.{look_by_all}
+use Rattle.esc_looks.specs.declared.look.Look.{Look}
 use Rattle.esc_lines.specs.declared.step.Step.{Step}
-use Rattle.esc_lines.specs.declared.step.Step.TheVariants.{Print, LineFeed, Column, Left, Right, Tab, Up, Down, UpToStart, DownToStart, EraseRight, EraseLeft, EraseRow, EraseBelow, EraseAbove, EraseAll, EraseCells, DeleteCells, InsertCells, Nothing}
+use Rattle.esc_lines.specs.declared.step.Step.TheVariants.{Print, LineFeed, Column, Left, Right, Tab, Up, Down, UpToStart, DownToStart, EraseRight, EraseLeft, EraseRow, EraseBelow, EraseAbove, EraseAll, EraseCells, DeleteCells, InsertCells, Select, Nothing}
 
 -- what is printed, but DEL, of which terminals show nothing
 abbrev pub print_step : ℕ → Step
@@ -55,13 +57,15 @@ edit_step (edits.DeleteCharacter n) = DeleteCells (one_based n)
 edit_step (edits.InsertCharacter n) = InsertCells (one_based n)
 edit_step _ = Nothing
 
-abbrev pub function_step : Function → Step
-function_step (cursor c) = cursor_step c
-function_step (edit e) = edit_step e
-function_step _ = Nothing
+abbrev pub function_step : Look → Function → Step
+function_step l (cursor c) = cursor_step c
+function_step l (edit e) = edit_step e
+function_step l (renditions rs) = Select (look_by_all l rs)
+function_step l _ = Nothing
 
-abbrev pub step_of : {A : Type 0} → Value A → Step
-step_of (print c) = print_step c
-step_of (control c) = control_step c
-step_of (csi c) = function_step (of_csi c)
-step_of _ = Nothing
+-- what a value does, where the characters that come look so
+abbrev pub step_of : {A : Type 0} → Look → Value A → Step
+step_of l (print c) = print_step c
+step_of l (control c) = control_step c
+step_of l (csi c) = function_step l (of_csi c)
+step_of l _ = Nothing

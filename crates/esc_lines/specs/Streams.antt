@@ -9,11 +9,12 @@ use Rattle.esc_lines.specs.Windows.{Size, Window, first_window, text_by, window_
 -- the window after values, one after another, and the text of the rows that are final by them
 abbrev pub window_from : {A : Type 0} → Size → Window → List (Value A) → Window
 window_from s w [] = w
-window_from s w (v ∷ vs) = window_from s (window_by s w (step_of v)) vs
+window_from s w (v ∷ vs) = window_from s (window_by s w (step_of w.pen v)) vs
 
 abbrev pub text_from : {A : Type 0} → Size → Window → List (Value A) → List ℕ
 text_from s w [] = []
-text_from s w (v ∷ vs) = text_by s w (step_of v) ++ text_from s (window_by s w (step_of v)) vs
+text_from s w (v ∷ vs) =
+    text_by s w (step_of w.pen v) ++ text_from s (window_by s w (step_of w.pen v)) vs
 
 -- the text of the rows that are final, and of those that may still be written again
 abbrev pub final_of : {A : Type 0} → Size → List (Value A) → List ℕ

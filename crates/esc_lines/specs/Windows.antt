@@ -1,6 +1,9 @@
 -- The rows that may be written again, the cursor in them, and what each step does.
 use Rattle.std.specs.Prelude.{ℕ, ◌+◌, ◌-◌, ◌*◌, ◌/◌, nat_lt, min, Bool, true, false, if◌then◌else◌, List, [], ◌∷◌, ◌++◌, length, get_or, set, take, drop, Option}
+use Rattle.esc_looks.specs.Looks.{plain_look}
+use Rattle.esc_looks.specs.declared.look.Look.{Look}
 use Rattle.esc_lines.specs.Rows.{Line, blanked, deleted, empty_line, inserted, lines_blanked, lines_text, put_at, with_cells}
+use Rattle.esc_lines.specs.declared.glyph.Glyph.{Glyph}
 use Rattle.esc_lines.specs.declared.step.Step.{Step}
 use Rattle.esc_lines.specs.declared.step.Step.TheVariants as step
 
@@ -15,11 +18,13 @@ sized r c = record {
   columns = c;
 }
 
--- the rows from the first on, the row of the cursor, counted from 0, and its column
+-- the rows from the first on, the row of the cursor, counted from 0, its column, and how the
+-- characters that come look
 pub record Window : Type 0 where
   pub lines : List Line
   pub row : ℕ
   pub column : ℕ
+  pub pen : Look
 
 -- at first: one empty row
 abbrev pub first_window : Window
@@ -27,6 +32,7 @@ first_window = record {
   lines = empty_line false ∷ [];
   row = 0;
   column = 0;
+  pen = plain_look;
 }
 
 abbrev pub at_column : ℕ → Window → Window
@@ -40,7 +46,7 @@ abbrev pub line_of : Window → Line
 line_of w = get_or w.lines w.row (empty_line false)
 
 -- other cells in it
-abbrev pub with_row : List (Option ℕ) → Window → Window
+abbrev pub with_row : List (Option Glyph) → Window → Window
 with_row xs w = record w { lines = set w.lines w.row (with_cells xs (line_of w)) }
 
 -- rows of which those from one to before another have blank cells alone
@@ -55,7 +61,7 @@ advanced b w = if nat_lt (w.row + 1) (length w.lines)
       row = w.row + 1;
       column = 0;
     }
-    else record {
+    else record w {
       lines = w.lines ++ empty_line b ∷ [];
       row = length w.lines;
       column = 0;
@@ -84,9 +90,17 @@ wrapped s w = if fits s w then w else scrolled s.rows (advanced false w)
 abbrev pub wrapped_text : Size → Window → List ℕ
 wrapped_text s w = if fits s w then [] else scrolled_text s.rows (advanced false w)
 
+-- a character that looks so
+abbrev pub drawn : ℕ → Look → Glyph
+drawn c l = record {
+  character = c;
+  look = l;
+}
+
 -- a character at the cursor, which moves on
 abbrev pub printed : ℕ → Window → Window
-printed c w = at_column (w.column + 1) (with_row (put_at w.column c (line_of w).cells) w)
+printed c w = at_column (w.column + 1)
+    (with_row (put_at w.column (drawn c w.pen) (line_of w).cells) w)
 
 -- the tab stop after a column: one is at each multiple of 8
 abbrev pub tab_stop : ℕ → ℕ
@@ -138,6 +152,7 @@ window_by s w (step.EraseCells n) =
     with_row (blanked w.column (w.column + n) (line_of w).cells) w
 window_by s w (step.DeleteCells n) = with_row (deleted w.column n (line_of w).cells) w
 window_by s w (step.InsertCells n) = with_row (inserted s.columns w.column n (line_of w).cells) w
+window_by s w (step.Select l) = record w { pen = l }
 window_by s w step.Nothing = w
 
 -- the text of the rows that are final by it

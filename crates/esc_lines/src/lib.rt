@@ -3,8 +3,10 @@
 
 pub mod collapse;
 pub mod collapsing;
+mod glyph;
 mod row;
 mod screen;
+mod sgr;
 pub mod step;
 
 pub use collapse::Collapse;

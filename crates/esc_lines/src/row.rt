@@ -1,8 +1,12 @@
 //! A row of cells.
 ghost use Rattle.std.specs.Prelude.{◌≡◌, ◌++◌, ◌+◌, ◌-◌, ◌≤◌, [], None, OnErr, OnOk, length, replicate, string_bytes, take};
-ghost use Rattle.esc_lines.specs.Rows.{Line, blanked, cells_text, deleted, empty_line, inserted, line_text, lines_blanked, lines_text, put_at, with_cells};
+ghost use Rattle.esc_looks.specs.Looks.{plain_look};
+ghost use Rattle.esc_lines.specs.Rows.{Line, blanked, cells_text, deleted, empty_line, glyph_text, inserted, line_text, lines_blanked, lines_text, put_at, with_cells};
 ghost use Rattle.memory.specs.Refusals.{Refused};
 
+use crate::glyph::Glyph;
+use crate::sgr::push_change;
+use esc_looks::Look;
 use std::alloc::{AllocError, Allocator, Global};
 use std::marker::Model;
 
@@ -11,7 +15,7 @@ use std::marker::Model;
 #[derive(Drop)]
 pub(crate) struct Row<A: Allocator = Global> {
     begins_line: bool,
-    cells: Vec<Option<char>, A>,
+    cells: Vec<Option<Glyph>, A>,
 }
 
 impl<A: Allocator> Model for Row<A> {
@@ -35,16 +39,17 @@ impl<A: Allocator> Row<A> {
     }
 
     /// Puts a character at a column, in place of what is there, or after blank cells.
-    pub fn put(&mut self, column: usize, c: char) -> Result<(), AllocError>
-        ensures ok { OnOk result (self.new ≡ with_cells (put_at column c self.old.cells) self.old) }
+    pub fn put(&mut self, column: usize, glyph: Glyph) -> Result<(), AllocError>
+        ensures ok { OnOk result (self.new
+            ≡ with_cells (put_at column glyph self.old.cells) self.old) }
         ensures refused { OnErr result (Refused A) }
     {
         if column < self.cells.len() {
-            self.cells[column] = Some(c);
+            self.cells[column] = Some(glyph);
             return Ok(());
         }
         self.pad(column)?;
-        memory::push(&mut self.cells, Some(c))?;
+        memory::push(&mut self.cells, Some(glyph))?;
         Ok(())
     }
 
@@ -176,23 +181,48 @@ pub(crate) fn write_rows<A: Allocator>(
 }
 
 // Appends the text of cells.
-fn write_cells<A: Allocator>(cells: &[Option<char>], text: &mut String<A>) -> Result<(), AllocError>
+fn write_cells<A: Allocator>(
+    cells: &[Option<Glyph>],
+    text: &mut String<A>,
+) -> Result<(), AllocError>
     ensures ok { OnOk result (string_bytes text.new
-        ≡ string_bytes text.old ++ cells_text 0 cells.now) }
+        ≡ string_bytes text.old ++ cells_text plain_look 0 cells.now) }
     ensures refused { OnErr result (Refused A) }
 {
     let mut blanks = 0;
+    let mut look = Look::plain();
     for cell in cells {
         match cell {
             None => blanks += 1,
-            Some(c) => {
-                write_spaces(blanks, text)?;
-                memory::push_char(text, *c)?;
+            Some(glyph) => {
+                write_glyph(blanks, &look, glyph, text)?;
                 blanks = 0;
+                look = glyph.look;
             }
         }
     }
-    Ok(())
+    push_change(text, &look, &Look::plain())
+}
+
+// Appends the text of a character after so many blank cells, where a look holds.
+fn write_glyph<A: Allocator>(
+    blanks: usize,
+    look: &Look,
+    glyph: &Glyph,
+    text: &mut String<A>,
+) -> Result<(), AllocError>
+    ensures ok { OnOk result (string_bytes text.new
+        ≡ string_bytes text.old ++ glyph_text look.now blanks glyph.now) }
+    ensures refused { OnErr result (Refused A) }
+{
+    if blanks == 0 {
+        push_change(text, look, &glyph.look)?;
+    } else {
+        push_change(text, look, &Look::plain())?;
+        write_spaces(blanks, text)?;
+        push_change(text, &Look::plain(), &glyph.look)?;
+    }
+    memory::push_char(text, glyph.character)
 }
 
 // Appends so many spaces.

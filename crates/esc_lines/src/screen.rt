@@ -5,9 +5,11 @@ ghost use Rattle.esc_lines.specs.Rows.{blanked, deleted, inserted, lines_text};
 ghost use Rattle.esc_lines.specs.Windows.{above_erased, advanced, all_erased, at_column, below_erased, down, first_window, line_of, printed, scrolled, scrolled_text, sized, tab_stop, up, with_blank_rows, with_row, wrapped, wrapped_text};
 ghost use Rattle.memory.specs.Refusals.{Refused};
 
+use crate::glyph::Glyph;
 use crate::row::{Row, erase_rows, write_rows};
 use crate::step::Step;
 use esc_actions::Action;
+use esc_looks::Look;
 use esc_parse::Sink;
 use std::alloc::{AllocError, Allocator, Global};
 
@@ -20,6 +22,7 @@ pub(crate) struct Screen<A: Allocator = Global> {
     rows: Vec<Row<A>, A>,
     row: usize,
     column: usize,
+    pen: Look,
     max_rows: usize,
     max_columns: usize,
     alloc: A,
@@ -39,6 +42,7 @@ impl<A: Allocator + Copy> Screen<A> {
             rows,
             row: 0,
             column: 0,
+            pen: Look::plain(),
             max_rows,
             max_columns,
             alloc,
@@ -121,8 +125,12 @@ impl<A: Allocator + Copy> Screen<A> {
         ensures refused { OnErr result (Refused A) }
     {
         let column = self.column;
+        let glyph = Glyph {
+            character: c,
+            look: self.pen,
+        };
         if let Some(row) = self.rows.get_mut(self.row) {
-            row.put(column, c)?;
+            row.put(column, glyph)?;
         }
         self.column = column + 1;
         Ok(())
@@ -305,6 +313,7 @@ impl<A: Allocator + Copy> Screen<A> {
             Step::EraseBelow => self.erase_below(),
             Step::EraseAbove => self.erase_above(),
             Step::EraseAll => self.erase_all(),
+            Step::Select(look) => self.pen = look,
             Step::Nothing => {}
         }
         Ok(())
@@ -333,7 +342,7 @@ impl<A: Allocator + Copy> Sink<Action<A>> for Screen<A> {
     ghost refuses = { λ p a q. Refused A };
 
     fn receive(&mut self, action: Action<A>) -> Result<(), AllocError> {
-        self.take(Step::of(&action))
+        self.take(Step::of(&action, self.pen))
     }
 
     fn drops_images(&self) -> bool {

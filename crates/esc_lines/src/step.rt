@@ -4,9 +4,12 @@ ghost use Rattle.esc_lines.specs.Steps.{control_step, cursor_step, edit_step, fu
 ghost use Rattle.esc_actions.specs.Values.{value_of};
 ghost use Rattle.esc_typed.specs.Counts.{one_based};
 ghost use Rattle.esc_typed.specs.Functions.{value_of as function_value};
+ghost use Rattle.esc_typed.specs.Selections.{left};
+ghost use Rattle.esc_looks.specs.Looks.{look_by_all};
 
 use esc_actions::{Action, ControlCode};
-use esc_typed::{Cursor, Edit, EraseInDisplay, EraseInLine, Function, OneBased};
+use esc_looks::Look;
+use esc_typed::{Cursor, Edit, EraseInDisplay, EraseInLine, Function, OneBased, Renditions};
 use std::alloc::Allocator;
 
 /// What a value of a stream does to the rows and to the cursor in them. Rows and columns are
@@ -51,19 +54,21 @@ pub enum Step {
     DeleteCells(usize),
     /// So many blank cells are put in at the cursor.
     InsertCells(usize),
+    /// The characters that come look so.
+    Select(Look),
     /// Nothing.
     Nothing,
 }
 
 impl Step {
-    /// What an action does.
-    pub fn of<A: Allocator>(action: &Action<A>) -> Step
-        ensures { result ≡ step_of (value_of action.now) }
+    /// What an action does, where the characters that come look so.
+    pub fn of<A: Allocator>(action: &Action<A>, pen: Look) -> Step
+        ensures { result ≡ step_of pen (value_of action.now) }
     {
         match action {
             Action::Print(c) => Step::of_print(*c),
             Action::Control(code) => Step::of_control(*code),
-            Action::CSI(csi) => Step::of_function(Function::of(csi)),
+            Action::CSI(csi) => Step::of_function(Function::of(csi), pen),
             _ => Step::Nothing,
         }
     }
@@ -93,14 +98,23 @@ impl Step {
         }
     }
 
-    fn of_function(function: Function<'_>) -> Step
-        ensures { result ≡ function_step (function_value function.entry) }
+    fn of_function(function: Function<'_>, pen: Look) -> Step
+        ensures { result ≡ function_step pen (function_value function.entry) }
     {
         match function {
             Function::Cursor(cursor) => Step::of_cursor(cursor),
             Function::Edit(edit) => Step::of_edit(edit),
+            Function::Sgr(renditions) => Step::of_renditions(renditions, pen),
             _ => Step::Nothing,
         }
+    }
+
+    fn of_renditions(renditions: Renditions<'_>, pen: Look) -> Step
+        ensures { result ≡ Step.Select (look_by_all pen (left renditions.entry)) }
+    {
+        let mut look = pen;
+        look.select_all(renditions);
+        Step::Select(look)
     }
 
     fn of_cursor(cursor: Cursor) -> Step

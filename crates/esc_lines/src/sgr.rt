@@ -1,0 +1,260 @@
+//! The control sequence that makes a look.
+ghost use Rattle.std.specs.Prelude.{◌≡◌, ◌≤◌, ◌<◌, ◌++◌, OnErr, OnOk, string_bytes};
+ghost use Rattle.esc_lines.specs.Sgr.{change_text, color_text, colors_text, flag_text, flags_text, intensity_code, intensity_text, is_default, is_direct, is_named, look_text, named_number, number_text, rgb_text, same_color, same_flags, same_look, underline_code, underline_color_text, underline_text};
+ghost use Rattle.memory.specs.Refusals.{Refused};
+
+use esc_looks::{Color, Look};
+use esc_sequences::{Intensity, Underline};
+use esc_values::RgbColor;
+use std::alloc::{AllocError, Allocator};
+
+/// Appends what makes a look where another holds: nothing, where they are the same.
+pub(crate) fn push_change<A: Allocator>(
+    text: &mut String<A>,
+    from: &Look,
+    to: &Look,
+) -> Result<(), AllocError>
+    ensures ok { OnOk result (string_bytes text.new
+        ≡ string_bytes text.old ++ change_text from.now to.now) }
+    ensures refused { OnErr result (Refused A) }
+{
+    if is_same(from, to) {
+        return Ok(());
+    }
+    push_look(text, to)
+}
+
+// Appends what makes a look, whatever held before.
+fn push_look<A: Allocator>(text: &mut String<A>, look: &Look) -> Result<(), AllocError>
+    ensures ok { OnOk result (string_bytes text.new
+        ≡ string_bytes text.old ++ look_text look.now) }
+    ensures refused { OnErr result (Refused A) }
+{
+    memory::push_str(text, "\x1b[0")?;
+    memory::push_str(text, intensity_text(look.intensity))?;
+    memory::push_str(text, underline_text(look.underline))?;
+    push_flags(text, look)?;
+    push_colors(text, look)?;
+    memory::push_str(text, "m")
+}
+
+fn push_flags<A: Allocator>(text: &mut String<A>, look: &Look) -> Result<(), AllocError>
+    ensures ok { OnOk result (string_bytes text.new
+        ≡ string_bytes text.old ++ flags_text look.now) }
+    ensures refused { OnErr result (Refused A) }
+{
+    push_flag(text, look.italic, ";3")?;
+    push_flag(text, look.blink, ";5")?;
+    push_flag(text, look.inverse, ";7")?;
+    push_flag(text, look.concealed, ";8")?;
+    push_flag(text, look.strikethrough, ";9")?;
+    push_flag(text, look.overline, ";53")
+}
+
+fn push_flag<A: Allocator>(
+    text: &mut String<A>,
+    is_on: bool,
+    parameter: &str,
+) -> Result<(), AllocError>
+    ensures ok { OnOk result (string_bytes text.new
+        ≡ string_bytes text.old ++ flag_text is_on parameter.now) }
+    ensures refused { OnErr result (Refused A) }
+{
+    if is_on {
+        memory::push_str(text, parameter)
+    } else {
+        Ok(())
+    }
+}
+
+fn push_colors<A: Allocator>(text: &mut String<A>, look: &Look) -> Result<(), AllocError>
+    ensures ok { OnOk result (string_bytes text.new
+        ≡ string_bytes text.old ++ colors_text look.now) }
+    ensures refused { OnErr result (Refused A) }
+{
+    push_color(text, 30, ";38;2", look.foreground)?;
+    push_color(text, 40, ";48;2", look.background)?;
+    push_underline_color(text, look.underline_color)
+}
+
+fn push_color<A: Allocator>(
+    text: &mut String<A>,
+    base: u8,
+    direct: &str,
+    color: Color,
+) -> Result<(), AllocError>
+    requires { base ≤ 40 }
+    ensures ok { OnOk result (string_bytes text.new
+        ≡ string_bytes text.old ++ color_text base direct.now color) }
+    ensures refused { OnErr result (Refused A) }
+{
+    match color {
+        Color::Default => Ok(()),
+        Color::Named(color) => push_number(text, named_number(base, color.index())),
+        Color::Direct(color) => {
+            memory::push_str(text, direct)?;
+            push_rgb(text, color)
+        }
+    }
+}
+
+fn push_underline_color<A: Allocator>(text: &mut String<A>, color: Color) -> Result<(), AllocError>
+    ensures ok { OnOk result (string_bytes text.new
+        ≡ string_bytes text.old ++ underline_color_text color) }
+    ensures refused { OnErr result (Refused A) }
+{
+    match color {
+        Color::Default => Ok(()),
+        Color::Named(color) => {
+            memory::push_str(text, ";58;5")?;
+            push_number(text, color.index())
+        }
+        Color::Direct(color) => {
+            memory::push_str(text, ";58;2")?;
+            push_rgb(text, color)
+        }
+    }
+}
+
+fn push_rgb<A: Allocator>(text: &mut String<A>, color: RgbColor) -> Result<(), AllocError>
+    ensures ok { OnOk result (string_bytes text.new
+        ≡ string_bytes text.old ++ rgb_text color) }
+    ensures refused { OnErr result (Refused A) }
+{
+    let (red, green, blue) = color.to_tuple_rgb8();
+    push_number(text, red)?;
+    push_number(text, green)?;
+    push_number(text, blue)
+}
+
+fn push_number<A: Allocator>(text: &mut String<A>, number: u8) -> Result<(), AllocError>
+    ensures ok { OnOk result (string_bytes text.new
+        ≡ string_bytes text.old ++ number_text number) }
+    ensures refused { OnErr result (Refused A) }
+{
+    memory::push_char(text, ';')?;
+    memory::push_display(text, &number)
+}
+
+// The number of a colour that has a name.
+fn named_number(base: u8, index: u8) -> u8
+    requires base { base ≤ 40 }
+    requires index { index < 16 }
+    ensures { result ≡ named_number base index }
+{
+    if index < 8 {
+        base + index
+    } else {
+        base + 52 + index
+    }
+}
+
+fn intensity_text(intensity: Intensity) -> &'static str
+    ensures { result.now ≡ intensity_text intensity }
+{
+    match intensity {
+        Intensity::Normal => "",
+        Intensity::Bold => ";1",
+        Intensity::Half => ";2",
+    }
+}
+
+fn underline_text(underline: Underline) -> &'static str
+    ensures { result.now ≡ underline_text underline }
+{
+    match underline {
+        Underline::None => "",
+        Underline::Single => ";4",
+        Underline::Double => ";21",
+        Underline::Curly => ";4:3",
+        Underline::Dotted => ";4:4",
+        Underline::Dashed => ";4:5",
+    }
+}
+
+// Whether two looks are the same.
+fn is_same(a: &Look, b: &Look) -> bool
+    ensures { result ≡ same_look a.now b.now }
+{
+    intensity_code(a.intensity) == intensity_code(b.intensity)
+        && underline_code(a.underline) == underline_code(b.underline)
+        && has_same_flags(a, b)
+        && is_same_color(a.foreground, b.foreground)
+        && is_same_color(a.background, b.background)
+        && is_same_color(a.underline_color, b.underline_color)
+}
+
+fn has_same_flags(a: &Look, b: &Look) -> bool
+    ensures { result ≡ same_flags a.now b.now }
+{
+    a.italic == b.italic
+        && a.blink == b.blink
+        && a.inverse == b.inverse
+        && a.concealed == b.concealed
+        && a.strikethrough == b.strikethrough
+        && a.overline == b.overline
+}
+
+fn is_same_color(a: Color, b: Color) -> bool
+    ensures { result ≡ same_color a b }
+{
+    match a {
+        Color::Default => is_default(b),
+        Color::Named(a) => is_named(a.index(), b),
+        Color::Direct(a) => is_direct(a, b),
+    }
+}
+
+fn is_default(color: Color) -> bool
+    ensures { result ≡ is_default color }
+{
+    match color {
+        Color::Default => true,
+        Color::Named(_) | Color::Direct(_) => false,
+    }
+}
+
+fn is_named(index: u8, color: Color) -> bool
+    ensures { result ≡ is_named index color }
+{
+    match color {
+        Color::Named(color) => index == color.index(),
+        Color::Default | Color::Direct(_) => false,
+    }
+}
+
+fn is_direct(rgb: RgbColor, color: Color) -> bool
+    ensures { result ≡ is_direct rgb color }
+{
+    match color {
+        Color::Direct(color) => {
+            let (red, green, blue) = color.to_tuple_rgb8();
+            let (own_red, own_green, own_blue) = rgb.to_tuple_rgb8();
+            own_red == red && own_green == green && own_blue == blue
+        }
+        Color::Default | Color::Named(_) => false,
+    }
+}
+
+fn intensity_code(intensity: Intensity) -> u8
+    ensures { result ≡ intensity_code intensity }
+{
+    match intensity {
+        Intensity::Normal => 0,
+        Intensity::Bold => 1,
+        Intensity::Half => 2,
+    }
+}
+
+fn underline_code(underline: Underline) -> u8
+    ensures { result ≡ underline_code underline }
+{
+    match underline {
+        Underline::None => 0,
+        Underline::Single => 1,
+        Underline::Double => 2,
+        Underline::Curly => 3,
+        Underline::Dotted => 4,
+        Underline::Dashed => 5,
+    }
+}
