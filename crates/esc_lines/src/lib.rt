@@ -1,4 +1,16 @@
-//! What a terminal leaves of lines that are written again.
+//! What a terminal leaves of lines that are written again, as progress bars do by carriage returns,
+//! backspaces, erasures and movements of the cursor (ECMA-48, 8.3).
+//!
+//! [`Collapse`] takes text in pieces, as a filter wrote it, and gives the text of the rows that are
+//! final. [`Collapsing`] is a filter and a collapse after it.
+//!
+//! ```text
+//! let mut collapse = Collapse::new(alloc, 32, 4096)?;
+//! collapse.feed(b"10%\r100%\n")?;
+//! collapse.added()    // "": the row may be written again
+//! collapse.finish()?;
+//! collapse.added()    // "100%\n"
+//! ```
 #![tactic(auto)]
 
 pub mod collapse;
