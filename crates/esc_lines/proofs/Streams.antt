@@ -1,5 +1,5 @@
 -- What rows were given of values.
-use Rattle.std.proofs.Common.{ℕ, ◌≡◌, List, [], ◌∷◌, ◌++◌, Some, inl, inr, ap, sym, subst, ◌∙◌, append_assoc, append-nil, refl, true}
+use Rattle.std.proofs.Common.{ℕ, ◌≡◌, List, [], ◌∷◌, ◌++◌, Some, MatchResult, OnErr, OnOk, Result, Ok, Err, inl, inr, ap, sym, subst, ◌∙◌, append_assoc, append-nil, refl, true}
 use Rattle.std.specs.List.{FoldsTo}
 use Rattle.esc_actions.proofs.Meanings.{meaning_more}
 use Rattle.esc_actions.specs.Meaning.{yield_within}
@@ -117,6 +117,12 @@ stops_refused own why R Q k says p (v ∷ vs) q (inl e) = k e.0
 stops_refused own why R Q k says p (v ∷ vs) q (inr (inl z)) = says p v q z
 stops_refused own why R Q k says p (v ∷ vs) q (inr (inr (mid, t, rest))) =
     stops_refused own why R Q k says mid vs q rest
+
+-- what a call did, where its result says which
+pub received : {E : Type 0} (X Y P Q : Type 0) (r : Result (Unit {0}) E) → (X → Y) → (P → Q)
+    → OnOk r X → OnErr r P → MatchResult r (λ _. Y) (λ _. Q)
+received X Y P Q (Ok t) f k x p = f x
+received X Y P Q (Err e) f k x p = k p
 
 -- ---- images
 

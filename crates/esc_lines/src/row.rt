@@ -38,6 +38,15 @@ impl<A: Allocator> Row<A> {
         }
     }
 
+    /// The row begun anew, in the same memory.
+    pub fn restarted(mut self, begins_line: bool) -> Row<A>
+        ensures { result ≡ empty_line begins_line }
+    {
+        self.begins_line = begins_line;
+        self.cells.clear();
+        self
+    }
+
     /// Puts a character at a column, in place of what is there, or after blank cells.
     pub fn put(&mut self, column: usize, glyph: Glyph) -> Result<(), AllocError>
         ensures ok { OnOk result (self.new
@@ -205,6 +214,7 @@ fn write_cells<A: Allocator>(
 }
 
 // Appends the text of a character after so many blank cells, where a look holds.
+#[inline]
 fn write_glyph<A: Allocator>(
     blanks: usize,
     look: &Look,

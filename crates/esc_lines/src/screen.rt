@@ -1,7 +1,11 @@
 //! The rows that may be written again, and the cursor in them.
-ghost use Rattle.std.specs.Prelude.{◌≡◌, ◌++◌, ◌+◌, ◌-◌, ◌<◌, ◌≤◌, ◌^◌, [], IfOk, OnErr, OnOk, false, length, min, take, true};
+ghost use Rattle.std.specs.Prelude.{◌≡◌, ◌++◌, ◌+◌, ◌-◌, ◌<◌, ◌≤◌, ◌^◌, [], IfOk, OnErr, OnOk, false, length, map, min, take, true};
+ghost use Rattle.std.specs.List.{FoldsTo, list_all};
+ghost use Rattle.esc_actions.specs.declared.action.Action.TheVariants as action;
+ghost use Rattle.esc_frame.specs.Scans.{is_text_byte};
 ghost use Rattle.esc_lines.specs.Fed.{Adds, Becomes, Takes, size_of, text_of, window_of};
-ghost use Rattle.esc_lines.specs.Rows.{blanked, deleted, inserted, lines_text};
+ghost use Rattle.esc_lines.specs.Rows.{blanked, deleted, empty_line, inserted, lines_text};
+ghost use Rattle.esc_lines.specs.Steps.{print_step};
 ghost use Rattle.esc_lines.specs.Windows.{above_erased, advanced, all_erased, at_column, below_erased, down, first_window, line_of, printed, scrolled, scrolled_text, sized, tab_stop, up, with_blank_rows, with_row, wrapped, wrapped_text};
 ghost use Rattle.memory.specs.Refusals.{Refused};
 
@@ -25,6 +29,8 @@ pub(crate) struct Screen<A: Allocator = Global> {
     pen: Look,
     max_rows: usize,
     max_columns: usize,
+    // A row that became final, whose memory the next one takes.
+    spare: Option<Row<A>>,
     alloc: A,
 }
 
@@ -45,6 +51,7 @@ impl<A: Allocator + Copy> Screen<A> {
             pen: Look::plain(),
             max_rows,
             max_columns,
+            spare: None,
             alloc,
         })
     }
@@ -83,7 +90,8 @@ impl<A: Allocator + Copy> Screen<A> {
             self.row += 1;
         } else {
             self.row = self.rows.len();
-            memory::push(&mut self.rows, Row::new(self.alloc, begins_line))?;
+            let row = fresh_row(self.spare.take(), self.alloc, begins_line);
+            memory::push(&mut self.rows, row)?;
         }
         self.column = 0;
         Ok(())
@@ -101,7 +109,9 @@ impl<A: Allocator + Copy> Screen<A> {
         }
         let first = self.rows.remove(0);
         self.row = self.row.saturating_sub(1);
-        first.write(&mut self.text)
+        first.write(&mut self.text)?;
+        self.spare = Some(first);
+        Ok(())
     }
 
     // Sees that a character has a column.
@@ -142,6 +152,30 @@ impl<A: Allocator + Copy> Screen<A> {
     {
         self.wrap()?;
         self.put(c)
+    }
+
+    // Prints characters, one byte each, one after another.
+    fn print_all(&mut self, text: &[u8]) -> Result<(), AllocError>
+        requires { list_all is_text_byte text.now ≡ true }
+        ensures ok { OnOk result (FoldsTo Takes self.old (map action.Print text.now) self.new) }
+        ensures refused { OnErr result (Refused A) }
+    {
+        for b in text {
+            self.print_visible(*b as char)?;
+        }
+        Ok(())
+    }
+
+    // Prints a character, but DEL.
+    #[inline]
+    fn print_visible(&mut self, c: char) -> Result<(), AllocError>
+        ensures ok { OnOk result (Adds self.old (print_step c) self.new) }
+        ensures refused { OnErr result (Refused A) }
+    {
+        if c == '\u{7f}' {
+            return Ok(());
+        }
+        self.print(c)
     }
 
     // To a column, or past the last one.
@@ -331,6 +365,16 @@ impl<A: Allocator + Copy> Screen<A> {
     }
 }
 
+// A row that has just begun, in the memory of another where there is one.
+fn fresh_row<A: Allocator>(spare: Option<Row<A>>, alloc: A, begins_line: bool) -> Row<A>
+    ensures { result ≡ empty_line begins_line }
+{
+    match spare {
+        Some(row) => row.restarted(begins_line),
+        None => Row::new(alloc, begins_line),
+    }
+}
+
 /// Each action does what its value does to the rows.
 impl<A: Allocator + Copy> Sink<Action<A>> for Screen<A> {
     ghost is_ready = { λ _. Unit {0} };
@@ -343,6 +387,11 @@ impl<A: Allocator + Copy> Sink<Action<A>> for Screen<A> {
 
     fn receive(&mut self, action: Action<A>) -> Result<(), AllocError> {
         self.take(Step::of(&action, self.pen))
+    }
+
+    #[inline]
+    fn receive_text(&mut self, text: &[u8]) -> Result<(), AllocError> {
+        self.print_all(text)
     }
 
     fn drops_images(&self) -> bool {

@@ -9,6 +9,7 @@ use esc_values::RgbColor;
 use std::alloc::{AllocError, Allocator};
 
 /// Appends what makes a look where another holds: nothing, where they are the same.
+#[inline]
 pub(crate) fn push_change<A: Allocator>(
     text: &mut String<A>,
     from: &Look,
@@ -173,6 +174,7 @@ fn underline_text(underline: Underline) -> &'static str
 }
 
 // Whether two looks are the same.
+#[inline]
 fn is_same(a: &Look, b: &Look) -> bool
     ensures { result ≡ same_look a.now b.now }
 {
@@ -184,6 +186,7 @@ fn is_same(a: &Look, b: &Look) -> bool
         && is_same_color(a.underline_color, b.underline_color)
 }
 
+#[inline]
 fn has_same_flags(a: &Look, b: &Look) -> bool
     ensures { result ≡ same_flags a.now b.now }
 {
@@ -195,6 +198,7 @@ fn has_same_flags(a: &Look, b: &Look) -> bool
         && a.overline == b.overline
 }
 
+#[inline]
 fn is_same_color(a: Color, b: Color) -> bool
     ensures { result ≡ same_color a b }
 {
