@@ -1,7 +1,7 @@
 -- What rows were given of values.
 use Rattle.std.proofs.Common.{ℕ, ◌≡◌, List, [], ◌∷◌, ◌++◌, Some, MatchResult, OnErr, OnOk, Result, Ok, Err, inl, inr, ap, sym, subst, ◌∙◌, append_assoc, append-nil, refl, true}
 use Rattle.std.specs.List.{FoldsTo}
-use Rattle.esc_actions.proofs.Meanings.{meaning_more}
+use Rattle.esc_actions.proofs.Meanings.{meaning_more, meaning_nil}
 use Rattle.esc_actions.specs.Meaning.{yield_within}
 use Rattle.esc_actions.specs.Values.{Value, value_of, print, string, control, esc, csi, osc, kitty, sixel, termcap, short, enter, datum, exit}
 use Rattle.esc_actions.specs.declared.action.Action.{Action}
@@ -107,6 +107,19 @@ left_after_longer A z f e m c s is ends (x, more) =
           ∙ append_assoc (final_of z (values_of A (f s))) k.0 rest
           ∙ ap (λ y. y ++ (k.0 ++ rest)) (sym (ap (λ g. g s) is)),
     )
+
+-- nothing has no final row
+pub final_after_nil : (A : Type 0) (z : Size) (m : List ℕ → List ℕ) → m [] ≡ []
+    → final_after A z m [] ≡ []
+final_after_nil A z m e = ap (λ s. final_of z (values_of A s)) e
+    ∙ ap (final_of z) (meaning_nil {A = A} (Some 0))
+
+-- what is left of a stream that has ended is its final rows, and more
+pub left_after_more : (A : Type 0) (z : Size) (m c : List ℕ → List ℕ)
+    → ((s : List ℕ) → (x : List ℕ) × (c s ≡ m s ++ x)) → (s : List ℕ)
+    → (t : List ℕ) × (left_after A z c s ≡ final_after A z m s ++ t)
+left_after_more A z m c more s =
+    left_after_longer A z m c (final_after A z m) (left_after A z c) s refl refl (more s)
 
 -- a giver that stops at a value, or by itself, was refused memory
 pub stops_refused : {P V : Type 0} (own why : Type 0) (R Q : P → V → P → Type 0)

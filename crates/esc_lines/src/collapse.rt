@@ -10,6 +10,9 @@ use std::alloc::{AllocError, Allocator, Global};
 
 /// Takes a stream in whatever pieces it comes, and gives for each the text of the rows that became
 /// final: those that no longer may be written again.
+///
+/// It keeps at most as many cells as rows times columns, each of a character with its look, of one
+/// row more the memory, and the text of the piece before.
 #[derive(Drop)]
 pub struct Collapse<A: Allocator = Global> {
     parser: Parser<A>,

@@ -2,7 +2,8 @@
 //! backspaces, erasures and movements of the cursor (ECMA-48, 8.3).
 //!
 //! [`Collapse`] takes text in pieces, as a filter wrote it, and gives the text of the rows that are
-//! final. [`Collapsing`] is a filter and a collapse after it.
+//! final. [`Collapsing`] is a filter and a collapse after it, and [`collapse_from`] reads a stream
+//! to its end and writes what is left of the lines of its filter.
 //!
 //! ```text
 //! let mut collapse = Collapse::new(alloc, 32, 4096)?;
@@ -15,6 +16,7 @@
 
 pub mod collapse;
 pub mod collapsing;
+mod filtering;
 mod glyph;
 mod row;
 mod screen;
@@ -23,4 +25,5 @@ pub mod step;
 
 pub use collapse::Collapse;
 pub use collapsing::Collapsing;
+pub use filtering::collapse_from;
 pub use step::Step;
