@@ -1,0 +1,236 @@
+//! Bytes as text that shows each of them.
+ghost use Rattle.std.specs.Prelude.{◌≡◌, ◌<◌, ◌++◌, ◌∷◌, [], IfOk, OnErr, OnOk, true};
+ghost use Rattle.esc_frame.specs.Machine.Prefixes.{prefix_of};
+ghost use Rattle.esc_frame.specs.Sequences.{is_prefix, is_sequence, number_of, outcome};
+ghost use Rattle.esc_reveal.specs.Visible.{ascii_text, begun_after, character_text, first_begun, first_text, four_digits, hex_byte, hex_digit, high_digits, is_mark, named, next_begun, next_text, printed_text, settled, single_text, stray_text, visible};
+ghost use Rattle.memory.specs.Refusals.{Refused};
+
+use command_line::is_shown;
+use esc_frame::utf8::sequence::{Outcome, Pending, lies_from};
+use std::alloc::{AllocError, Allocator};
+
+/// Appends the visible text of `bytes`: of each well-formed character of UTF-8 (Unicode, Table 3-7)
+/// and of each byte that is no part of one. Controls are `^X` and `^?`, as `cat -v` writes them;
+/// `^`, `<` and bytes that are no part of a character are their numbers, as `<9D>`; characters that
+/// do not show as themselves, among them C1 and those that have no width or change the direction of
+/// text, are `<U+202E>`, as `less` writes both; any other character is itself. So the text can be
+/// read back as `bytes`.
+///
+/// The error says that memory was refused: a part of the text was appended then.
+pub fn push_visible<A: Allocator>(text: &mut Vec<u8, A>, bytes: &[u8]) -> Result<(), AllocError>
+    ensures ok { OnOk result (text.new.items ≡ text.old.items ++ visible bytes.now) }
+    ensures refused { OnErr result (Refused A) }
+{
+    let last = push_settled(text, Pending::Nothing, bytes)?;
+    push_stray(text, last)
+}
+
+/// Appends the text that `bytes` after `begun` show whatever follows, and returns what has begun at
+/// their end.
+pub(crate) fn push_settled<A: Allocator>(
+    text: &mut Vec<u8, A>,
+    begun: Pending,
+    bytes: &[u8],
+) -> Result<Pending, AllocError>
+    ensures ok { IfOk result (λ p.
+        (text.new.items ≡ text.old.items ++ settled (prefix_of begun) bytes.now)
+        × (prefix_of p ≡ begun_after (prefix_of begun) bytes.now)) }
+    ensures refused { OnErr result (Refused A) }
+{
+    let mut last = begun;
+    for b in bytes {
+        last = push_next(text, last, *b)?;
+    }
+    Ok(last)
+}
+
+// The same of one byte.
+pub(crate) fn push_next<A: Allocator>(
+    text: &mut Vec<u8, A>,
+    begun: Pending,
+    byte: u8,
+) -> Result<Pending, AllocError>
+    ensures ok { IfOk result (λ p. (text.new.items
+        ≡ text.old.items ++ next_text (prefix_of begun) byte (outcome (prefix_of begun) byte))
+        × (prefix_of p ≡ next_begun (prefix_of begun) byte (outcome (prefix_of begun) byte))) }
+    ensures refused { OnErr result (Refused A) }
+{
+    match begun.outcome(byte) {
+        Outcome::Whole => {
+            push_character(text, begun, byte)?;
+            Ok(Pending::Nothing)
+        }
+        Outcome::More => Ok(begun.with(byte)),
+        Outcome::Broken => {
+            push_stray(text, begun)?;
+            push_first(text, byte)
+        }
+    }
+}
+
+// A byte where no character has begun.
+#[tactic(auto, unfolding(esc_frame::specs::Sequences::is_prefix))]
+fn push_first<A: Allocator>(text: &mut Vec<u8, A>, byte: u8) -> Result<Pending, AllocError>
+    ensures ok { IfOk result (λ p. (text.new.items ≡ text.old.items ++ first_text byte)
+        × (prefix_of p ≡ first_begun byte)) }
+    ensures refused { OnErr result (Refused A) }
+{
+    if lies_from(0xc2, 0xf4, byte) {
+        return Ok(Pending::One(byte));
+    }
+    push_single(text, byte)?;
+    Ok(Pending::Nothing)
+}
+
+// A byte that is a character by itself, or no part of one.
+fn push_single<A: Allocator>(text: &mut Vec<u8, A>, byte: u8) -> Result<(), AllocError>
+    ensures ok { OnOk result (text.new.items ≡ text.old.items ++ single_text byte) }
+    ensures refused { OnErr result (Refused A) }
+{
+    if byte < 0x80 {
+        push_ascii(text, byte)
+    } else {
+        push_hex(text, byte)
+    }
+}
+
+// A byte below 80.
+fn push_ascii<A: Allocator>(text: &mut Vec<u8, A>, byte: u8) -> Result<(), AllocError>
+    ensures ok { OnOk result (text.new.items ≡ text.old.items ++ ascii_text byte) }
+    ensures refused { OnErr result (Refused A) }
+{
+    if byte < 0x20 {
+        let letter = 0x40 + byte;
+        memory::extend(text, &[b'^', letter])
+    } else {
+        push_printed(text, byte)
+    }
+}
+
+// One from 20 on.
+fn push_printed<A: Allocator>(text: &mut Vec<u8, A>, byte: u8) -> Result<(), AllocError>
+    ensures ok { OnOk result (text.new.items ≡ text.old.items ++ printed_text byte) }
+    ensures refused { OnErr result (Refused A) }
+{
+    if byte == 0x7f {
+        memory::extend(text, &[b'^', b'?'])
+    } else if is_mark(byte) {
+        push_hex(text, byte)
+    } else {
+        memory::extend(text, &[byte])
+    }
+}
+
+fn is_mark(byte: u8) -> bool
+    ensures { result ≡ is_mark byte }
+{
+    byte == b'<' || byte == b'^'
+}
+
+fn hex_digit(value: u8) -> u8
+    requires { value < 16 }
+    ensures { result ≡ hex_digit value }
+{
+    if value < 10 {
+        0x30 + value
+    } else {
+        0x37 + value
+    }
+}
+
+// A byte by its number.
+fn push_hex<A: Allocator>(text: &mut Vec<u8, A>, byte: u8) -> Result<(), AllocError>
+    ensures ok { OnOk result (text.new.items ≡ text.old.items ++ hex_byte byte) }
+    ensures refused { OnErr result (Refused A) }
+{
+    memory::extend(
+        text,
+        &[b'<', hex_digit(byte / 16), hex_digit(byte % 16), b'>'],
+    )
+}
+
+/// Appends bytes that are no part of a character.
+pub(crate) fn push_stray<A: Allocator>(
+    text: &mut Vec<u8, A>,
+    begun: Pending,
+) -> Result<(), AllocError>
+    ensures ok { OnOk result (text.new.items ≡ text.old.items ++ stray_text (prefix_of begun)) }
+    ensures refused { OnErr result (Refused A) }
+{
+    match begun {
+        Pending::Nothing => Ok(()),
+        Pending::One(a) => push_hex(text, a),
+        Pending::Two(a, b) => {
+            push_hex(text, a)?;
+            push_hex(text, b)
+        }
+        Pending::Three(a, b, c) => {
+            push_hex(text, a)?;
+            push_hex(text, b)?;
+            push_hex(text, c)
+        }
+    }
+}
+
+// A character, of which these bytes had begun, and this is the last.
+fn push_character<A: Allocator>(
+    text: &mut Vec<u8, A>,
+    begun: Pending,
+    byte: u8,
+) -> Result<(), AllocError>
+    requires { is_sequence (prefix_of begun ++ byte ∷ []) ≡ true }
+    ensures ok { OnOk result
+        (text.new.items ≡ text.old.items ++ character_text (prefix_of begun ++ byte ∷ [])) }
+    ensures refused { OnErr result (Refused A) }
+{
+    let c = begun.character(byte);
+    if !is_shown(c) {
+        return push_named(text, c as u32);
+    }
+    match begun {
+        Pending::Nothing => memory::extend(text, &[byte]),
+        Pending::One(a) => memory::extend(text, &[a, byte]),
+        Pending::Two(a, b) => memory::extend(text, &[a, b, byte]),
+        Pending::Three(a, b, c) => memory::extend(text, &[a, b, c, byte]),
+    }
+}
+
+// A character by its number.
+fn push_named<A: Allocator>(text: &mut Vec<u8, A>, number: u32) -> Result<(), AllocError>
+    requires { number < 0x110000 }
+    ensures ok { OnOk result (text.new.items ≡ text.old.items ++ named number) }
+    ensures refused { OnErr result (Refused A) }
+{
+    memory::extend(text, b"<U+")?;
+    push_high_digits(text, number)?;
+    push_four_digits(text, number)?;
+    memory::extend(text, b">")
+}
+
+fn push_high_digits<A: Allocator>(text: &mut Vec<u8, A>, number: u32) -> Result<(), AllocError>
+    requires { number < 0x110000 }
+    ensures ok { OnOk result (text.new.items ≡ text.old.items ++ high_digits number) }
+    ensures refused { OnErr result (Refused A) }
+{
+    if number < 0x10000 {
+        Ok(())
+    } else if number < 0x100000 {
+        memory::extend(text, &[hex_digit((number / 0x10000) as u8)])
+    } else {
+        let last = hex_digit((number / 0x10000 % 16) as u8);
+        memory::extend(text, &[hex_digit((number / 0x100000) as u8), last])
+    }
+}
+
+fn push_four_digits<A: Allocator>(text: &mut Vec<u8, A>, number: u32) -> Result<(), AllocError>
+    ensures ok { OnOk result (text.new.items ≡ text.old.items ++ four_digits number) }
+    ensures refused { OnErr result (Refused A) }
+{
+    let first = hex_digit((number / 4096 % 16) as u8);
+    let second = hex_digit((number / 256 % 16) as u8);
+    let third = hex_digit((number / 16 % 16) as u8);
+    memory::extend(
+        text,
+        &[first, second, third, hex_digit((number % 16) as u8)],
+    )
+}
