@@ -1,3 +1,9 @@
+pub mod Cutting
+pub mod Feeding
+pub mod Ground
+pub mod Longer
 pub mod Parts
 pub mod Reading
+pub mod Showing
 pub mod Shows
+pub mod Through

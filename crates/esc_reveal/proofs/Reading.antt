@@ -1,17 +1,17 @@
 -- Visible text is read back as what it shows.
-use Rattle.std.proofs.Common.{ℕ, ◌≡◌, ◌<◌, ◌≤◌, ◌+◌, ◌-◌, ◌*◌, ◌/◌, ◌%◌, ◌==◌, ◌&&◌, ◌||◌, ◌⊎◌, inl, inr, Bool, true, false, nat_lt, if◌then◌else◌, List, [], ◌∷◌, ◌++◌, map, arith, refl, ap, sym, ◌∙◌, subst, append_assoc}
-use Rattle.std.specs.List.{list_all, flat_map}
+use Rattle.std.proofs.Common.{ℕ, ◌≡◌, ◌<◌, ◌≤◌, ◌+◌, ◌-◌, ◌*◌, ◌/◌, ◌%◌, ◌==◌, ◌||◌, inl, inr, Bool, true, false, nat_lt, if◌then◌else◌, List, [], ◌∷◌, ◌++◌, map, arith, refl, ap, sym, ◌∙◌, subst, append_assoc}
+use Rattle.std.specs.List.{list_all}
 use Rattle.std.proofs.lemmas.Bool.{cases_lt}
 use Rattle.command_line.specs.Characters.{is_shown}
-use Rattle.esc_frame.specs.Sequences.{is_pair, is_prefix, is_sequence, number_of, outcome}
+use Rattle.esc_frame.specs.Sequences.{is_pair, is_sequence, number_of}
 use Rattle.esc_frame.proofs.Characters.{four_is, none_five, none_none, none_one, number_four, number_three, number_two, spelled, three_is, two_is}
 use Rattle.std.specs.Char.{encode_utf8}
 use Rattle.std.proofs.lemmas.Bool.Decides.{nat_tests}
 use Rattle.std.proofs.lemmas.List.{append-nil}
 use Rattle.esc_reveal.proofs.Parts.{AreHigh, all_parts}
-use Rattle.esc_reveal.specs.ReadBack.{Reading, bytes_read, after_read, digit_value, is_byte, meant, read_back, read_from, value_after}
-use Rattle.esc_reveal.specs.ReadBack.Reading.{Plain, Caret, Name}
-use Rattle.esc_reveal.specs.Visible.{ascii_text, character_text, four_digits, hex_byte, hex_digit, high_digits, named, printed_text, quoted_text, single_text, stray_text, visible}
+use Rattle.esc_reveal.specs.ReadBack.{digit_value, is_byte, read_back, read_from, value_after}
+use Rattle.esc_reveal.specs.ReadBack.Reading.{Plain, Name}
+use Rattle.esc_reveal.specs.Visible.{ascii_text, character_text, four_digits, hex_byte, hex_digit, named, printed_text, quoted_text, single_text, stray_text, visible}
 
 -- whatever follows this text, it is read as these bytes
 abbrev pub IsRead : List ℕ → List ℕ → Type 0

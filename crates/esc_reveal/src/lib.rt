@@ -1,11 +1,22 @@
 //! What a filter would not admit, shown in place.
 //!
-//! A filter that drops what it does not admit loses what a log is read for. [`push_visible`] writes
-//! bytes as visible text, in the notation of `less` and `cat -v`, from which they can be read back.
+//! A filter that drops what it does not admit loses what a log is read for. [`Reveal`] rewrites a
+//! stream before it is filtered: each piece of it that a policy does not admit becomes visible
+//! text, in the notation of `less` and `cat -v`, and the rest stays as it came.
 #![tactic(auto)]
 
+mod judge;
+mod kept;
 mod laws;
+mod reveal;
+mod revealing;
+mod silent;
 mod visible;
 
 pub use laws::{read_back, shows_characters};
+pub use reveal::Reveal;
+pub use revealing::Revealing;
 pub use visible::push_visible;
+
+#[cfg(test)]
+mod tests;

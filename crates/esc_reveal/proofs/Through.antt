@@ -1,0 +1,40 @@
+-- A filter of what a reveal makes of a stream.
+use Rattle.std.proofs.Common.{ℕ, ◌≡◌, List, ◌++◌, ap, sym, ◌∙◌, subst, append_assoc}
+use Rattle.esc_filter.specs.declared.admit.Admit.{Ghosts as Admitter}
+use Rattle.esc_filter.specs.declared.feeding.Feeding.{Ghosts as Feeder}
+use Rattle.esc_reveal.proofs.Longer.{revealed_longer, whole_longer}
+use Rattle.esc_reveal.specs.Fed.{WasFed, text_by, whole_by}
+use Rattle.esc_reveal.specs.Through.{GivesThrough}
+use Rattle.esc_reveal.specs.declared.reveal.Reveal.{Reveal}
+
+module _ {F P A : Type 0} (G : Feeder F A) (V : Admitter P A) (reveal : Reveal P A) (filter : F)
+    (m c : List ℕ → List ℕ) (s : List ℕ) (h : GivesThrough G V reveal filter m c s) where
+  abbrev Text : List ℕ → List ℕ
+  Text x = text_by V reveal.rule x
+
+  abbrev Whole : List ℕ → List ℕ
+  Whole x = whole_by V reveal.rule x
+
+  text_is : (x : List ℕ) → m x ≡ h.inner (Text x)
+  text_is x = ap (λ f. f x) h.goes_on
+
+  end_is : c s ≡ h.inner_end (Whole s)
+  end_is = ap (λ f. f s) h.ended
+
+  pub through_more : (b : List ℕ) → (t : List ℕ) × (m (s ++ b) ≡ m s ++ t)
+  through_more b =
+      let (x, e) = revealed_longer reveal.rule.limit reveal.rule.by_lines
+      (V.admits reveal.rule.policy) s b in
+      let (t, f) = h.adds.more (Text s) x in
+      (t, text_is (s ++ b) ∙ ap h.inner e ∙ f ∙ ap (λ y. y ++ t) (sym (text_is s)))
+
+  pub through_end : (t : List ℕ) × (c s ≡ m s ++ t)
+  through_end =
+      let (x, e) = whole_longer reveal.rule.limit reveal.rule.by_lines
+      (V.admits reveal.rule.policy) s in
+      let (t, f) = h.adds.more (Text s) x in
+      let (u, k) = h.adds.end (Whole s) in (
+        t ++ u,
+        end_is ∙ k ∙ ap (λ y. h.inner y ++ u) e ∙ ap (λ y. y ++ u) f
+            ∙ append_assoc (h.inner (Text s)) t u ∙ ap (λ y. y ++ (t ++ u)) (sym (text_is s)),
+      )

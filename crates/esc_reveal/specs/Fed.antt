@@ -1,0 +1,75 @@
+-- What was fed to a reveal.
+use Rattle.std.specs.Prelude.{ℕ, ◌≡◌, Bool, false, if◌then◌else◌, List, ◌++◌, Some}
+use Rattle.esc_filter.specs.declared.admit.Admit.{Ghosts as Admitter}
+use Rattle.esc_frame.specs.Stream.{LeadsToWithin}
+use Rattle.esc_reveal.specs.Grown.{Grows, Keeps}
+use Rattle.esc_reveal.specs.Judged.{IsReady}
+use Rattle.esc_reveal.specs.Pieces.{rest, rest_after}
+use Rattle.esc_reveal.specs.Revealed.{is_kept, revealed, revealed_after, revealed_whole}
+use Rattle.esc_reveal.specs.Visible.{rest_text, visible}
+use Rattle.esc_reveal.specs.declared.reveal.Reveal.{Reveal}
+use Rattle.esc_reveal.specs.declared.reveal.Rule.{Rule}
+
+-- its rule, and the parts of it
+abbrev pub policy_of : {P A : Type 0} → Reveal P A → P
+policy_of f = f.rule.policy
+
+abbrev pub limit_of : {P A : Type 0} → Reveal P A → ℕ
+limit_of f = f.rule.limit
+
+abbrev pub by_lines_of : {P A : Type 0} → Reveal P A → Bool
+by_lines_of f = f.rule.by_lines
+
+-- what the last call added
+abbrev pub added_by : {P A : Type 0} → Reveal P A → List ℕ
+added_by f = f.text.items
+
+-- r is what is unfinished of a piece
+pub record AtRest {P A : Type 0} (r : List ℕ) (f : Reveal P A) : Type 0 where
+  pub unfailed : f.has_failed ≡ false
+  pub framed : LeadsToWithin (Some 0) r f.framer
+  pub ready : IsReady f.rule.limit f.parser
+  pub kept : Keeps f.rule.limit r f.kept
+
+-- it was fed this stream
+abbrev pub WasFed : {P A : Type 0} → List ℕ → Reveal P A → Type 0
+WasFed s f = AtRest (rest (by_lines_of f) s) f
+
+-- what is written of a stream that goes on, and of one that has ended, by its rule
+abbrev pub text_by : {P A : Type 0} → Admitter P A → Rule P → List ℕ → List ℕ
+text_by {A = A} V rule s = revealed {A = A} rule.by_lines rule.limit (V.admits rule.policy) s
+
+abbrev pub whole_by : {P A : Type 0} → Admitter P A → Rule P → List ℕ → List ℕ
+whole_by {A = A} V rule s =
+    revealed_whole {A = A} rule.by_lines rule.limit (V.admits rule.policy) s
+
+-- it added what b adds after s
+abbrev pub AddsTo : {P A : Type 0} → Admitter P A → List ℕ → List ℕ → Reveal P A → Reveal P A
+    → Type 0
+AddsTo V s b old new =
+    text_by V old.rule (s ++ b) ≡ text_by V old.rule s ++ added_by new
+
+-- it added what the end of s adds
+abbrev pub EndsAs : {P A : Type 0} → Admitter P A → List ℕ → Reveal P A → Reveal P A → Type 0
+EndsAs V s old new = whole_by V old.rule s ≡ text_by V old.rule s ++ added_by new
+
+-- r is what is unfinished now, and the text grew by what makes `after` of `before`
+abbrev pub Holds : {P A : Type 0} → List ℕ → List ℕ → List ℕ → Reveal P A → Reveal P A → Type 0
+Holds r before after old new = AtRest r new × Grows (added_by old) (added_by new) before after
+
+-- what is written of a piece that no line feed ends
+abbrev pub closed_text : {P A : Type 0} → Admitter P A → Rule P → List ℕ → List ℕ
+closed_text {A = A} V rule p = if is_kept {A = A} rule.limit (V.admits rule.policy) p then p
+    else visible p
+
+-- where r was unfinished, it took b, and its text grew by what that adds
+abbrev pub GrowsBy : {P A : Type 0} → Admitter P A → Rule P → List ℕ → List ℕ → List ℕ → List ℕ
+    → Reveal P A → Type 0
+GrowsBy {A = A} V rule r b told tnew new =
+    AtRest (rest_after rule.by_lines r b) new
+    × Grows told tnew (rest_text rule.limit r)
+    (revealed_after {A = A} rule.by_lines rule.limit (V.admits rule.policy) r b)
+
+abbrev pub GrowsTo : {P A : Type 0} → Admitter P A → List ℕ → List ℕ → Reveal P A → Reveal P A
+    → Type 0
+GrowsTo V r b old new = GrowsBy V old.rule r b (added_by old) (added_by new) new

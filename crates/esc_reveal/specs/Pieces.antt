@@ -1,0 +1,39 @@
+-- Pieces of a stream: what lies between two places where no segment is unfinished.
+use Rattle.std.specs.Prelude.{ℕ, Bool, false, ◌&&◌, ◌||◌, if◌then◌else◌, List, [], ◌∷◌, ◌++◌}
+use Rattle.esc_filter.specs.Lines.{ends_line}
+use Rattle.esc_frame.specs.Leads.Unfinished.{Ground}
+use Rattle.esc_frame.specs.Machine.Moves.{after_all, is_ground}
+
+-- no segment of the stream is unfinished
+unfoldable pub is_at_ground : List ℕ → Bool
+is_at_ground s = is_ground (after_all Ground s)
+
+-- a line feed comes last
+abbrev pub ends_in_line : Bool → List ℕ → Bool
+ends_in_line by_lines p = by_lines && ends_line false p
+
+-- These bytes, which follow the end of a piece, are a piece: no segment of them is unfinished, or
+-- where `by_lines` a line feed ends them.
+abbrev pub is_piece : Bool → List ℕ → Bool
+is_piece by_lines p = ends_in_line by_lines p || is_at_ground p
+
+-- the pieces that s ends or brings, where r is what is unfinished of a piece before it; and what is
+-- unfinished of one after it
+abbrev pub pieces_after : Bool → List ℕ → List ℕ → List (List ℕ)
+pieces_after by_lines r [] = []
+pieces_after by_lines r (b ∷ s) =
+    if is_piece by_lines (r ++ b ∷ []) then (r ++ b ∷ []) ∷ pieces_after by_lines [] s
+    else pieces_after by_lines (r ++ b ∷ []) s
+
+abbrev pub rest_after : Bool → List ℕ → List ℕ → List ℕ
+rest_after by_lines r [] = r
+rest_after by_lines r (b ∷ s) =
+    if is_piece by_lines (r ++ b ∷ []) then rest_after by_lines [] s
+    else rest_after by_lines (r ++ b ∷ []) s
+
+-- The pieces of a stream, each the shortest that ends there; and the rest, which has not ended.
+abbrev pub pieces : Bool → List ℕ → List (List ℕ)
+pieces by_lines s = pieces_after by_lines [] s
+
+abbrev pub rest : Bool → List ℕ → List ℕ
+rest by_lines s = rest_after by_lines [] s

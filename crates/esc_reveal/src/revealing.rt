@@ -1,0 +1,74 @@
+//! A filter, of what a reveal makes of a stream.
+ghost use Rattle.std.specs.Prelude.{◌≡◌, [], string_bytes};
+ghost use Rattle.esc_reveal.specs.Through.{GivesThrough};
+
+use crate::reveal::Reveal;
+use esc_filter::{Admit, Feeding};
+use std::alloc::{AllocError, Allocator, Global};
+
+/// Takes a stream, and gives a filter what a [`Reveal`] makes of it. So what the filter writes is
+/// its own text of a stream, whatever the reveal does: nothing is written that it would not write.
+#[derive(Drop)]
+pub struct Revealing<F, P, A: Allocator = Global> {
+    reveal: Reveal<P, A>,
+    filter: F,
+    // what the last call added
+    text: String<A>,
+}
+
+impl<F, P, A: Allocator> Revealing<F, P, A> {
+    /// This filter, of what this reveal makes. Takes no memory.
+    pub fn new(alloc: A, reveal: Reveal<P, A>, filter: F) -> Revealing<F, P, A>
+        ensures reveal { result.reveal ≡ reveal }
+        ensures filter { result.filter ≡ filter }
+        ensures empty { string_bytes result.text ≡ [] }
+    {
+        Revealing {
+            reveal,
+            filter,
+            text: String::new(alloc),
+        }
+    }
+}
+
+impl<F: Feeding<A>, P: Admit<A>, A: Allocator + Copy> Feeding<A> for Revealing<F, P, A> {
+    ghost gives = { λ f m c s. GivesThrough F.Feeding P.Admit f.reveal f.filter m c s };
+
+    ghost added = { λ f. string_bytes f.text };
+
+    fn feed_piece(&mut self, bytes: &[u8]) -> Result<(), AllocError> {
+        self.text.clear();
+        match self.reveal.feed(bytes) {
+            Ok(()) => {}
+            Err(e) => return Err(e),
+        }
+        match self.filter.feed_piece(self.reveal.added()) {
+            Ok(()) => memory::push_str(&mut self.text, self.filter.added_text()),
+            Err(e) => Err(e),
+        }
+    }
+
+    fn finish_all(&mut self) -> Result<(), AllocError> {
+        self.text.clear();
+        match self.reveal.finish() {
+            Ok(()) => {}
+            Err(e) => return Err(e),
+        }
+        match self.filter.feed_piece(self.reveal.added()) {
+            Ok(()) => {}
+            Err(e) => return Err(e),
+        }
+        match memory::push_str(&mut self.text, self.filter.added_text()) {
+            Ok(()) => {}
+            Err(e) => return Err(e),
+        }
+        match self.filter.finish_all() {
+            Ok(()) => memory::push_str(&mut self.text, self.filter.added_text()),
+            Err(e) => Err(e),
+        }
+    }
+
+    fn added_text(&self) -> &str {
+        self.text.as_str()
+    }
+}
