@@ -30,11 +30,11 @@ ground_is : (u : Unfinished) → is_ground u ≡ true → u ≡ Ground
 ground_is Ground h = refl
 ground_is u h = absurd cc
 
-to_bool : (s : List ℕ) → IsAtGround s → is_at_ground s ≡ true
+pub to_bool : (s : List ℕ) → IsAtGround s → is_at_ground s ≡ true
 unfolding is_at_ground
 to_bool s h = ap is_ground (to_ground s h)
 
-from_bool : (s : List ℕ) → is_at_ground s ≡ true → IsAtGround s
+pub from_bool : (s : List ℕ) → is_at_ground s ≡ true → IsAtGround s
 unfolding is_at_ground
 from_bool s h = from_ground s (ground_is (after_all Ground s) h)
 

@@ -2,6 +2,7 @@ pub mod Cutting
 pub mod Feeding
 pub mod Ground
 pub mod Longer
+pub mod Means
 pub mod Parts
 pub mod Reading
 pub mod Showing

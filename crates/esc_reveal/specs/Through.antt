@@ -4,11 +4,23 @@ use Rattle.esc_filter.specs.declared.admit.Admit.{Ghosts as Admitter}
 use Rattle.esc_filter.specs.declared.feeding.Feeding.{Ghosts as Feeder}
 use Rattle.esc_reveal.specs.Fed.{WasFed, text_by, whole_by}
 use Rattle.esc_reveal.specs.declared.reveal.Reveal.{Reveal}
+use Rattle.esc_reveal.specs.declared.reveal.Rule.{Rule}
 
--- more of a stream adds to its text, and so does its end: nothing that was written is taken back
-pub record OnlyAdds (m c : List ℕ → List ℕ) : Type 0 where
-  pub more : (s b : List ℕ) → (t : List ℕ) × (m (s ++ b) ≡ m s ++ t)
-  pub end : (s : List ℕ) → (t : List ℕ) × (c s ≡ m s ++ t)
+-- After a stream that the filter was fed, more of it adds to its text, and then so does its end:
+-- nothing that was written is taken back.
+pub record OnlyAdds {F A : Type 0} (G : Feeder F A) (m c : List ℕ → List ℕ) : Type 0 where
+  pub more : (f : F) (s b : List ℕ) → G.gives f m c s
+      → (t : List ℕ) × (m (s ++ b) ≡ m s ++ t)
+  pub end : (f : F) (s b : List ℕ) → G.gives f m c s
+      → (t : List ℕ) × (c (s ++ b) ≡ m (s ++ b) ++ t)
+
+-- the texts of streams through this rule, where these are the filter's
+abbrev pub through : {P A : Type 0} → Admitter P A → Rule P → (List ℕ → List ℕ) → List ℕ → List ℕ
+through V rule m x = m (text_by V rule x)
+
+abbrev pub through_whole : {P A : Type 0} → Admitter P A → Rule P → (List ℕ → List ℕ) → List ℕ
+    → List ℕ
+through_whole V rule c x = c (whole_by V rule x)
 
 -- Both were fed this stream: the reveal itself, and the filter what that makes of it. The text of a
 -- stream is the filter's, of what is revealed of it.
@@ -16,8 +28,8 @@ pub record GivesThrough {F P A : Type 0} (G : Feeder F A) (V : Admitter P A) (re
     (filter : F) (m c : List ℕ → List ℕ) (s : List ℕ) : Type 0 where
   pub inner : List ℕ → List ℕ
   pub inner_end : List ℕ → List ℕ
-  pub adds : OnlyAdds inner inner_end
+  pub adds : OnlyAdds G inner inner_end
   pub fed : WasFed s reveal
   pub given : G.gives filter inner inner_end (text_by V reveal.rule s)
-  pub goes_on : m ≡ (λ x. inner (text_by V reveal.rule x))
-  pub ended : c ≡ (λ x. inner_end (whole_by V reveal.rule x))
+  pub goes_on : m ≡ through V reveal.rule inner
+  pub ended : c ≡ through_whole V reveal.rule inner_end

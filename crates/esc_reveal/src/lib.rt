@@ -13,7 +13,9 @@ mod revealing;
 mod silent;
 mod visible;
 
-pub use laws::{read_back, shows_characters};
+pub use laws::{
+    pieces_are_all, pieces_end_at_ground, pieces_are_streams, read_back, shows_characters,
+};
 pub use reveal::Reveal;
 pub use revealing::Revealing;
 pub use visible::push_visible;

@@ -1,6 +1,7 @@
 //! A filter, of what a reveal makes of a stream.
-ghost use Rattle.std.specs.Prelude.{◌≡◌, [], string_bytes};
-ghost use Rattle.esc_reveal.specs.Through.{GivesThrough};
+ghost use Rattle.std.specs.Prelude.{◌≡◌, ℕ, List, [], string_bytes};
+ghost use Rattle.esc_reveal.specs.Fed.{WasFed};
+ghost use Rattle.esc_reveal.specs.Through.{GivesThrough, OnlyAdds, through, through_whole};
 
 use crate::reveal::Reveal;
 use esc_filter::{Admit, Feeding};
@@ -16,12 +17,16 @@ pub struct Revealing<F, P, A: Allocator = Global> {
     text: String<A>,
 }
 
-impl<F, P, A: Allocator> Revealing<F, P, A> {
-    /// This filter, of what this reveal makes. Takes no memory.
+impl<F: Feeding<A>, P: Admit<A>, A: Allocator + Copy> Revealing<F, P, A> {
+    /// This filter, of what this reveal makes; both are at the beginning of a stream. Takes no
+    /// memory.
     pub fn new(alloc: A, reveal: Reveal<P, A>, filter: F) -> Revealing<F, P, A>
         ensures reveal { result.reveal ≡ reveal }
         ensures filter { result.filter ≡ filter }
         ensures empty { string_bytes result.text ≡ [] }
+        ensures begins { (m c : List ℕ → List ℕ) → F.gives filter m c [] → OnlyAdds F.Feeding m c
+            → WasFed [] reveal → GivesThrough F.Feeding P.Admit result.reveal result.filter
+            (through P.Admit reveal.rule m) (through_whole P.Admit reveal.rule c) [] }
     {
         Revealing {
             reveal,
