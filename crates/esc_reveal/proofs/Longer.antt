@@ -14,7 +14,7 @@ use Rattle.esc_reveal.specs.Visible.{begun_after, rest_text, settled, stray_text
 abbrev pub Longer : List ℕ → List ℕ → Type 0
 Longer x y = (t : List ℕ) × (y ≡ x ++ t)
 
-longer_then : (x y z : List ℕ) → Longer x y → Longer y z → Longer x z
+pub longer_then : (x y z : List ℕ) → Longer x y → Longer y z → Longer x z
 longer_then x y z (t, e) (u, f) = (t ++ u, f ∙ ap (λ w. w ++ u) e ∙ append_assoc x t u)
 
 longer_none : (x y : List ℕ) → x ≡ [] → Longer x y

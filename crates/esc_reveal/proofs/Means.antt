@@ -1,10 +1,10 @@
 -- What a stream means, and what its pieces mean.
-use Rattle.std.proofs.Common.{ℕ, ◌≡◌, ◌↔◌, Bool, true, false, ◌||◌, if◌then◌else◌, List, [], ◌∷◌, ◌++◌, Some, Option, refl, ap, sym, ◌∙◌, append_assoc}
+use Rattle.std.proofs.Common.{ℕ, ◌≡◌, ◌↔◌, Bool, true, false, if◌then◌else◌, List, [], ◌∷◌, ◌++◌, Option, refl, ap, sym, ◌∙◌, append_assoc}
 use Rattle.std.specs.List.{flat_map}
 use Rattle.std.proofs.lemmas.List.{append-nil}
 use Rattle.esc_actions.proofs.Alone.{yield_alone}
 use Rattle.esc_actions.proofs.Meanings.{meaning_more, yield_whole}
-use Rattle.esc_actions.specs.Meaning.{meaning_within, yield_within}
+use Rattle.esc_actions.specs.Meaning.{meaning_within}
 use Rattle.esc_actions.specs.Values.{Value}
 use Rattle.esc_frame.specs.Stream.{IsAfterFinished, IsAtGround}
 use Rattle.esc_reveal.proofs.Ground.{from_bool, to_bool}

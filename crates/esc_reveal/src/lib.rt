@@ -11,13 +11,15 @@ mod laws;
 mod reveal;
 mod revealing;
 mod silent;
+mod streams;
 mod visible;
 
 pub use laws::{
-    pieces_are_all, pieces_end_at_ground, pieces_are_streams, read_back, shows_characters,
+    pieces_are_all, pieces_are_streams, pieces_end_at_ground, read_back, shows_characters,
 };
 pub use reveal::Reveal;
 pub use revealing::Revealing;
+pub use streams::{reveal_lines, reveal_stream};
 pub use visible::push_visible;
 
 #[cfg(test)]

@@ -110,7 +110,7 @@ fn written<A: Allocator + Copy>(
 ) -> Result<Vec<u8, A>, AllocError> {
     let mut text = Vec::new(alloc);
     let mut reveal = Reveal::new(alloc, row.2, row.0, row.1);
-    for piece in row.3.chunks(most) {
+    for piece in row.3.chunks(most.max(1)) {
         reveal.feed(piece)?;
         memory::extend(&mut text, reveal.added())?;
     }
@@ -124,7 +124,7 @@ fn filtered(alloc: Global, row: &Row, most: usize) -> Result<String, AllocError>
     let mut text = String::new(alloc);
     let reveal = Reveal::new(alloc, row.2, row.0, row.1);
     let mut filter = Revealing::new(alloc, reveal, Filter::new(alloc, row.2, row.0));
-    for piece in row.3.chunks(most) {
+    for piece in row.3.chunks(most.max(1)) {
         filter.feed_piece(piece)?;
         text.push_str(filter.added_text())?;
     }
