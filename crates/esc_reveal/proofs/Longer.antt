@@ -114,7 +114,8 @@ module _ (limit : ℕ) where
         (all_then r (b ∷ []) s (all_longer (rest_after by_lines r (b ∷ [])) s))
 
     pub revealed_longer : (s b : List ℕ)
-        → Longer (revealed {A = A} by_lines limit admits s) (revealed by_lines limit admits (s ++ b))
+        → Longer (revealed {A = A} by_lines limit admits s)
+        (revealed by_lines limit admits (s ++ b))
     revealed_longer s b = all_then [] s b (all_longer (rest_after by_lines [] s) b)
 
     pub whole_longer : (s : List ℕ)

@@ -43,7 +43,8 @@ module _ {F P A : Type 0} (G : Feeder F A) (V : Admitter P A) (reveal : Reveal P
 
 -- ---- a filter that was fed nothing
 
-nothing_revealed : {P A : Type 0} (V : Admitter P A) (rule : Rule P) → text_by {A = A} V rule [] ≡ []
+nothing_revealed : {P A : Type 0} (V : Admitter P A) (rule : Rule P)
+    → text_by {A = A} V rule [] ≡ []
 nothing_revealed V rule = rest_none rule.limit
 
 pub through_begins : {F P A : Type 0} (G : Feeder F A) (V : Admitter P A) (reveal : Reveal P A)

@@ -59,7 +59,8 @@ pub(crate) fn stays<P: Admit<A>, A: Allocator + Copy>(
     policy: &P,
     piece: &[u8],
 ) -> Result<bool, AllocError>
-    ensures kept { (limit : ℕ) → IsReady limit parser.old → IfOk result (λ k. IsReady limit parser.new
+    ensures kept { (limit : ℕ) → IsReady limit parser.old
+        → IfOk result (λ k. IsReady limit parser.new
         × (k ≡ are_kept (P.admits policy.now) (meaning_within (Some limit) piece.now))) }
     ensures refused { (limit : ℕ) → IsReady limit parser.old → OnErr result (Refused A) }
 {

@@ -18,20 +18,24 @@ returns-clause-holds g c =
     let e = closed_by_lines {A = g.row.A.Denot} limit admits in
     let rule = c.new-reveal.result.rule in
     let V = g.P.Admit in
-    let more : (s b : List ℕ) → (t : List ℕ) × (m (s ++ b) ≡ m s ++ t) = λ s b. by_lines_longer limit admits s b in
-    let end : (s : List ℕ) → (t : List ℕ) × (e s ≡ m s ++ t) = λ s. (list_text (line_closing limit admits s), refl) in
+    let more : (s b : List ℕ) → (t : List ℕ) × (m (s ++ b) ≡ m s ++ t) =
+    λ s b. by_lines_longer limit admits s b in
+    let end : (s : List ℕ) → (t : List ℕ) × (e s ≡ m s ++ t) =
+    λ s. (list_text (line_closing limit admits s), refl) in
     let fresh = begun_lines g.Q.Admit.admits limit c.args.policy c.new.result
     c.new.ensures.policy c.new.ensures.fed in
     let new = c.new-filter.ensures.begins m e fresh
     (record { more = λ f s b k. more s b; end = λ f s b k. end (s ++ b) })
     c.new-reveal.ensures.fed in
     let Is : Rule g.row.P.Denot → Bool → List ℕ → List ℕ → Type 0 =
-    λ u b s t. IsFilteredByLines b limit admits (revealed_of b u.by_lines u.limit (V.admits u.policy) s) t in
+    λ u b s t. IsFilteredByLines b limit admits
+    (revealed_of b u.by_lines u.limit (V.admits u.policy) s) t in
     let same = rule_is rule c.args.shows limit true c.new-reveal.ensures.policy
     c.new-reveal.ensures.limit c.new-reveal.ensures.lines in
     let f = by_rule V rule _ same e Is _ _ _
     (filters (through_whole V rule e) (through V rule m) (Is rule)
-    (λ s. c.lines_read_back.ensures true limit admits (whole_by V rule s)) (λ s. c.lines_read_back.ensures false limit admits (text_by V rule s)) _ _ _
+    (λ s. c.lines_read_back.ensures true limit admits (whole_by V rule s))
+    (λ s. c.lines_read_back.ensures false limit admits (text_by V rule s)) _ _ _
     (c.filter_from.ensures.holds (through V rule m) (through_whole V rule e) new
     (through_nothing V rule m e refl) (through_longer V rule m e more end))) in
     record {
@@ -53,8 +57,10 @@ returns-clause-refused g c =
     let e = closed_by_lines {A = g.row.A.Denot} limit admits in
     let rule = c.new-reveal.result.rule in
     let V = g.P.Admit in
-    let more : (s b : List ℕ) → (t : List ℕ) × (m (s ++ b) ≡ m s ++ t) = λ s b. by_lines_longer limit admits s b in
-    let end : (s : List ℕ) → (t : List ℕ) × (e s ≡ m s ++ t) = λ s. (list_text (line_closing limit admits s), refl) in
+    let more : (s b : List ℕ) → (t : List ℕ) × (m (s ++ b) ≡ m s ++ t) =
+    λ s b. by_lines_longer limit admits s b in
+    let end : (s : List ℕ) → (t : List ℕ) × (e s ≡ m s ++ t) =
+    λ s. (list_text (line_closing limit admits s), refl) in
     let fresh = begun_lines g.Q.Admit.admits limit c.args.policy c.new.result
     c.new.ensures.policy c.new.ensures.fed in
     let new = c.new-filter.ensures.begins m e fresh

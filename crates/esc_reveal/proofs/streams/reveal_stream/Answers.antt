@@ -20,8 +20,10 @@ returns-clause-holds g c =
     let e = closed_text {A = g.row.A.Denot} (Some limit) admits in
     let rule = c.new-reveal.result.rule in
     let V = g.P.Admit in
-    let more : (s b : List ℕ) → (t : List ℕ) × (m (s ++ b) ≡ m s ++ t) = λ s b. (_, text_longer (Some limit) admits s b) in
-    let end : (s : List ℕ) → (t : List ℕ) × (e s ≡ m s ++ t) = λ s. let vs = passed (Some limit) admits s in
+    let more : (s b : List ℕ) → (t : List ℕ) × (m (s ++ b) ≡ m s ++ t) =
+    λ s b. (_, text_longer (Some limit) admits s b) in
+    let end : (s : List ℕ) → (t : List ℕ) × (e s ≡ m s ++ t) =
+    λ s. let vs = passed (Some limit) admits s in
     (list_text (closing vs), closed_more vs) in
     let fresh = begun g.Q.Admit.admits limit c.args.policy c.new.result
     c.new.ensures.policy c.new.ensures.fed in
@@ -29,12 +31,14 @@ returns-clause-holds g c =
     (record { more = λ f s b k. more s b; end = λ f s b k. end (s ++ b) })
     c.new-reveal.ensures.fed in
     let Is : Rule g.row.P.Denot → Bool → List ℕ → List ℕ → Type 0 =
-    λ u b s t. IsFiltered b (Some limit) admits (revealed_of b u.by_lines u.limit (V.admits u.policy) s) t in
+    λ u b s t. IsFiltered b (Some limit) admits
+    (revealed_of b u.by_lines u.limit (V.admits u.policy) s) t in
     let same = rule_is rule c.args.shows limit false c.new-reveal.ensures.policy
     c.new-reveal.ensures.limit c.new-reveal.ensures.lines in
     let f = by_rule V rule _ same e Is _ _ _
     (filters (through_whole V rule e) (through V rule m) (Is rule)
-    (λ s. c.passed_reads_back.ensures.ended (Some limit) admits (whole_by V rule s)) (λ s. c.passed_reads_back.ensures.goes_on (Some limit) admits (text_by V rule s)) _ _ _
+    (λ s. c.passed_reads_back.ensures.ended (Some limit) admits (whole_by V rule s))
+    (λ s. c.passed_reads_back.ensures.goes_on (Some limit) admits (text_by V rule s)) _ _ _
     (c.filter_from.ensures.holds (through V rule m) (through_whole V rule e) new
     (through_nothing V rule m e (nothing limit admits)) (through_longer V rule m e more end))) in
     record {
@@ -56,8 +60,10 @@ returns-clause-refused g c =
     let e = closed_text {A = g.row.A.Denot} (Some limit) admits in
     let rule = c.new-reveal.result.rule in
     let V = g.P.Admit in
-    let more : (s b : List ℕ) → (t : List ℕ) × (m (s ++ b) ≡ m s ++ t) = λ s b. (_, text_longer (Some limit) admits s b) in
-    let end : (s : List ℕ) → (t : List ℕ) × (e s ≡ m s ++ t) = λ s. let vs = passed (Some limit) admits s in
+    let more : (s b : List ℕ) → (t : List ℕ) × (m (s ++ b) ≡ m s ++ t) =
+    λ s b. (_, text_longer (Some limit) admits s b) in
+    let end : (s : List ℕ) → (t : List ℕ) × (e s ≡ m s ++ t) =
+    λ s. let vs = passed (Some limit) admits s in
     (list_text (closing vs), closed_more vs) in
     let fresh = begun g.Q.Admit.admits limit c.args.policy c.new.result
     c.new.ensures.policy c.new.ensures.fed in
