@@ -1,10 +1,5 @@
 -- A reveal and a filter at the beginning of a stream, as what takes one.
-use Rattle.std.proofs.Common.{ℕ, ◌≡◌, Bool, List, [], ◌++◌, Result, ap, ◌∙◌, subst, append_assoc}
-use Rattle.std.specs.declared.io.traits.Read.{Ghosts as Reader}
-use Rattle.std.specs.declared.io.traits.Write.{Ghosts as Writer}
-use Rattle.esc_normal.specs.Io.{Borrowed}
-use Rattle.esc_filter.specs.Streams.{Filters}
-use Rattle.esc_filter.specs.declared.filter_error.FilterError.{FilterError}
+use Rattle.std.proofs.Common.{ℕ, ◌≡◌, List, [], ◌++◌, ap, ◌∙◌, append_assoc}
 use Rattle.esc_filter.specs.declared.admit.Admit.{Ghosts as Admitter}
 use Rattle.esc_reveal.proofs.Cutting.{rest_none}
 use Rattle.esc_reveal.proofs.Longer.{whole_longer}
@@ -29,22 +24,3 @@ module _ {P A : Type 0} (V : Admitter P A) (rule : Rule P) (m c : List ℕ → L
         k ∙ ap (λ y. m y ++ u) e ∙ ap (λ y. y ++ u) f
             ∙ append_assoc (m (text_by {A = A} V rule s)) t u,
       )
-
--- ---- what was written, by the rule of a reveal
-
-pub rule_is : {P : Type 0} (u : Rule P) (policy : P) (limit : ℕ) (by_lines : Bool)
-    → u.policy ≡ policy → u.limit ≡ limit → u.by_lines ≡ by_lines
-    → u ≡ record { policy = policy; limit = limit; by_lines = by_lines }
-rule_is u policy limit by_lines e f k =
-    ap (λ x. record u { policy = x }) e
-    ∙ ap (λ x. record u { policy = policy; limit = x }) f
-    ∙ ap (λ x. record { policy = policy; limit = limit; by_lines = x }) k
-
-pub by_rule : {R W P A X : Type 0} {Rd : Reader R} {Wr : Writer W} (V : Admitter P A)
-    (u w : Rule P) → u ≡ w → (e : List ℕ → List ℕ)
-    (Is : Rule P → Bool → List ℕ → List ℕ → Type 0)
-    (result : Result X FilterError) (reader : Borrowed R) (writer : Borrowed W)
-    → Filters Rd Wr (through_whole {A = A} V u e) (Is u) result reader writer
-    → Filters Rd Wr (through_whole {A = A} V w e) (Is w) result reader writer
-by_rule {A = A} {Rd = Rd} {Wr = Wr} V u w same e Is result reader writer f =
-    subst (λ x. Filters Rd Wr (through_whole {A = A} V x e) (Is x) result reader writer) same f

@@ -2,7 +2,6 @@ pub mod Begins
 pub mod Cutting
 pub mod Feeding
 pub mod Ground
-pub mod Lines
 pub mod Longer
 pub mod Means
 pub mod Parts

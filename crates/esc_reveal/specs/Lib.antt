@@ -4,6 +4,5 @@ pub mod Judged
 pub mod Pieces
 pub mod ReadBack
 pub mod Revealed
-pub mod Streams
 pub mod Through
 pub mod Visible

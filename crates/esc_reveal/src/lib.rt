@@ -11,7 +11,6 @@ mod laws;
 mod reveal;
 mod revealing;
 mod silent;
-mod streams;
 mod visible;
 
 pub use laws::{
@@ -19,7 +18,6 @@ pub use laws::{
 };
 pub use reveal::Reveal;
 pub use revealing::Revealing;
-pub use streams::{reveal_lines, reveal_stream};
 pub use visible::push_visible;
 
 #[cfg(test)]
