@@ -1,5 +1,5 @@
 //! A stream in which what is not admitted is shown.
-ghost use Rattle.std.specs.Prelude.{◌≡◌, ◌++◌, ◌∷◌, ◌<◌, ◌≤◌, ◌&&◌, ℕ, List, [], OnErr, OnOk, length, IfOk, IsTrue, nat_le, true, false};
+ghost use Rattle.std.specs.Prelude.{◌≡◌, is_ok, ◌++◌, ◌∷◌, ◌<◌, ◌≤◌, ◌&&◌, ℕ, List, [], OnErr, OnOk, length, IfOk, IsTrue, nat_le, true, false};
 ghost use Rattle.std.specs.List.{list_all};
 ghost use Rattle.esc_actions.specs.Values.{print};
 ghost use Rattle.esc_filter.specs.Lines.{is_line_feed};
@@ -87,6 +87,8 @@ impl<P: Admit<A>, A: Allocator + Copy> Reveal<P, A> {
             (WasFed (s ++ bytes.now) self.new × AddsTo P.Admit s bytes.now self.old self.new) }
         ensures rule { self.new.rule ≡ self.old.rule }
         ensures refused { (s : List ℕ) → WasFed s self.old → OnErr result (Refused A) }
+        ensures stops { OnErr result ((self.new.has_failed ≡ true) × (added_by self.new ≡ [])) }
+        ensures failed { self.old.has_failed ≡ true → is_ok result ≡ false }
     {
         self.text.clear();
         if self.has_failed {
@@ -114,6 +116,8 @@ impl<P: Admit<A>, A: Allocator + Copy> Reveal<P, A> {
             (WasFed [] self.new × EndsAs P.Admit s self.old self.new) }
         ensures rule { self.new.rule ≡ self.old.rule }
         ensures refused { (s : List ℕ) → WasFed s self.old → OnErr result (Refused A) }
+        ensures stops { OnErr result ((self.new.has_failed ≡ true) × (added_by self.new ≡ [])) }
+        ensures failed { self.old.has_failed ≡ true → is_ok result ≡ false }
     {
         self.text.clear();
         if self.has_failed {
