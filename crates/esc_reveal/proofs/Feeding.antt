@@ -1,5 +1,5 @@
 -- What a reveal was fed, and what its text grew by.
-use Rattle.std.proofs.Common.{ℕ, Vec, ◌≡◌, ◌<◌, ◌&&◌, ◌||◌, Bool, true, false, nat_le, if◌then◌else◌, List, [], ◌∷◌, ◌++◌, Some, arith, refl, ap, sym, ◌∙◌, subst, append_assoc}
+use Rattle.std.proofs.Common.{IsAscii, drop, not, suc, zero, ℕ, Vec, ◌≡◌, ◌<◌, ◌&&◌, ◌||◌, Bool, true, false, nat_le, if◌then◌else◌, List, [], ◌∷◌, ◌++◌, Some, arith, refl, ap, sym, ◌∙◌, subst, append_assoc}
 use Rattle.std.specs.List.{flat_map, list_all}
 use Rattle.std.proofs.lemmas.Bool.Decides.{nat_tests}
 use Rattle.std.proofs.lemmas.Bool.{and_parts}
@@ -13,6 +13,10 @@ use Rattle.esc_reveal.proofs.Ground.{text_ground, text_means}
 use Rattle.esc_reveal.specs.Fed.{AtRest, GrowsBy, closed_text}
 use Rattle.esc_reveal.specs.Grown.{Grows}
 use Rattle.esc_reveal.specs.Pieces.{is_at_ground, pieces, pieces_after, rest, rest_after}
+use Rattle.std.proofs.lemmas.Str.{IsUtf8-from_ascii, chars-IsAscii, is_utf8-from_IsUtf8}
+use Rattle.std.specs.List.{list_any}
+use Rattle.esc_actions.specs.Meaning.{meaning_within}
+use Rattle.esc_reveal.specs.Whole.{breaks, has_break, is_whole}
 use Rattle.esc_reveal.specs.Revealed.{are_kept, is_kept, piece_text, revealed, revealed_after, revealed_whole}
 use Rattle.esc_reveal.specs.Visible.{rest_text, visible}
 use Rattle.esc_reveal.specs.declared.reveal.Reveal.{Reveal}
@@ -103,11 +107,26 @@ module _ {P A : Type 0} (V : Admitter P A) (rule : Rule P) where
       by_any true f e = e
       by_any false f e = refl
 
+  one_ascii : (x : ℕ) → is_text_byte x ≡ true → IsAscii (x ∷ [])
+  one_ascii x h zero = grind (arith, nat_tests)
+  one_ascii x h (suc i) = omega arith
+
+  -- a text of one character has no break
+  one_whole : (x : ℕ) → is_text_byte x ≡ true → is_whole (x ∷ []) ≡ true
+  unfolding is_whole
+  one_whole x h =
+      let ascii = one_ascii x h in
+      ap (λ u. u && not (has_break (x ∷ [])))
+      (is_utf8-from_IsUtf8 (x ∷ []) (IsUtf8-from_ascii (x ∷ []) ascii))
+      ∙ ap (λ cs. not (list_any breaks (drop 1 cs))) (chars-IsAscii (x ∷ []) ascii)
+
   one_kept : (x : ℕ) → is_text_byte x ≡ true → allows (print x) ≡ true → 0 < rule.limit
       → is_kept rule.limit allows (x ∷ []) ≡ true
   one_kept x h a l =
       let short : nat_le 1 rule.limit ≡ true = grind (arith, nat_tests) in
-      ap (λ vs. nat_le 1 rule.limit && are_kept allows vs) (text_means (Some rule.limit) x h)
+      ap (λ w. nat_le 1 rule.limit
+      && (w && are_kept allows (meaning_within {A = A} (Some rule.limit) (x ∷ [])))) (one_whole x h)
+      ∙ ap (λ vs. nat_le 1 rule.limit && are_kept allows vs) (text_means (Some rule.limit) x h)
       ∙ ap (λ b. b && are_kept allows (print x ∷ [])) short
       ∙ ap (λ b. (b || false) && true) a
 

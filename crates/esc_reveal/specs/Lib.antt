@@ -1,3 +1,4 @@
+pub mod Whole
 pub mod Fed
 pub mod Grown
 pub mod Judged

@@ -16,7 +16,7 @@ abbrev pub value_after : ℕ → List ℕ → ℕ
 value_after n [] = n
 value_after n (d ∷ ds) = value_after (n * 16 + digit_value d) ds
 
--- what is between `<` and `>`: `U+` and the number of a character, or the number of a byte
+-- what stands between `<` and `>`: `U+` and the number of a character, or the number of a byte
 abbrev pub meant : List ℕ → List ℕ
 meant [] = []
 meant (a ∷ []) = []

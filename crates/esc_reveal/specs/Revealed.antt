@@ -7,6 +7,7 @@ use Rattle.esc_actions.specs.Values.{Value}
 use Rattle.esc_filter.specs.Passing.{passes}
 use Rattle.esc_reveal.specs.Pieces.{ends_in_line, pieces, pieces_after, rest, rest_after}
 use Rattle.esc_reveal.specs.Visible.{rest_text, visible}
+use Rattle.esc_reveal.specs.Whole.{is_whole}
 
 -- the value passes; a string terminator also where a string comes directly before it
 abbrev pub goes_through : {A : Type 0} → (Value A → Bool) → Bool → Value A → Bool
@@ -26,10 +27,12 @@ is_some (_ ∷ _) = true
 abbrev pub are_kept : {A : Type 0} → (Value A → Bool) → List (Value A) → Bool
 are_kept admits vs = is_some vs && all_through admits false vs
 
--- a piece that stays as it is: of at most so many bytes, and it means values, each of which passes
+-- a piece that stays as it is: of at most so many bytes, all of segments that mean something, and
+-- it means values, each of which passes
 abbrev pub is_kept : {A : Type 0} → ℕ → (Value A → Bool) → List ℕ → Bool
 is_kept {A = A} limit admits p =
-    nat_le (length p) limit && are_kept admits (meaning_within {A = A} (Some limit) p)
+    nat_le (length p) limit
+    && (is_whole p && are_kept admits (meaning_within {A = A} (Some limit) p))
 
 -- all but the last
 abbrev pub but_last : List ℕ → List ℕ

@@ -1,11 +1,13 @@
 //! Whether a piece of a stream is kept.
-ghost use Rattle.std.specs.Prelude.{◌≡◌, IfOk, OnErr, Some, ℕ};
+ghost use Rattle.std.specs.Prelude.{◌≡◌, ◌&&◌, IfOk, OnErr, Some, ℕ, false};
 ghost use Rattle.esc_actions.specs.Values.{Value, value_of};
 ghost use Rattle.esc_reveal.specs.Judged.{IsReady, judged};
 ghost use Rattle.esc_reveal.specs.Revealed.{are_kept};
+ghost use Rattle.esc_reveal.specs.Whole.{is_whole};
 ghost use Rattle.esc_actions.specs.Meaning.{meaning_within};
 ghost use Rattle.memory.specs.Refusals.{Refused};
 
+use crate::whole::is_whole;
 use esc_actions::Action;
 use esc_filter::{Admit, passes};
 use esc_parse::{Parser, Sink};
@@ -53,8 +55,28 @@ impl<'p, P: Admit<A>, A: Allocator> Sink<Action<A>> for Judge<'p, P> {
     }
 }
 
-/// Whether the piece means values, and each of them goes through. The parser begins anew.
-pub(crate) fn stays<P: Admit<A>, A: Allocator + Copy>(
+/// Whether all of the piece is of segments that mean something, and each value that it means goes
+/// through. The parser begins anew.
+pub(crate) fn stays_whole<P: Admit<A>, A: Allocator + Copy>(
+    parser: &mut Parser<A>,
+    policy: &P,
+    piece: &[u8],
+) -> Result<bool, AllocError>
+    ensures kept { (limit : ℕ) → IsReady limit parser.old
+        → IfOk result (λ k. IsReady limit parser.new
+        × (k ≡ (is_whole piece.now
+        && are_kept (P.admits policy.now) (meaning_within (Some limit) piece.now)))) }
+    ensures refused { (limit : ℕ) → IsReady limit parser.old → OnErr result (Refused A) }
+{
+    if is_whole(piece) {
+        stays(parser, policy, piece)
+    } else {
+        Ok(false)
+    }
+}
+
+// Whether the piece means values, and each of them goes through. The parser begins anew.
+fn stays<P: Admit<A>, A: Allocator + Copy>(
     parser: &mut Parser<A>,
     policy: &P,
     piece: &[u8],

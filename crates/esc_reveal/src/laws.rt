@@ -37,7 +37,8 @@ pub fn pieces_are_all()
         → flat_map (λ p. p) (pieces by_lines s) ++ rest by_lines s ≡ s }
 {}
 
-/// A stream means what its pieces mean, each a stream of its own, and its rest.
+/// A stream means what its pieces mean, each a stream of its own, and its rest. So what is shown of
+/// one piece changes nothing of what another means.
 #[tactic(auto, using(crate::proofs::Means::means_pieces))]
 pub fn pieces_are_streams<A: Allocator>()
     ensures { (limit : Option ℕ) (s : List ℕ) → meaning_within {A = A} limit s

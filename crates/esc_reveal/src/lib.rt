@@ -12,6 +12,7 @@ mod reveal;
 mod revealing;
 mod silent;
 mod visible;
+mod whole;
 
 pub use laws::{
     pieces_are_all, pieces_are_streams, pieces_end_at_ground, read_back, shows_characters,
@@ -19,6 +20,3 @@ pub use laws::{
 pub use reveal::Reveal;
 pub use revealing::Revealing;
 pub use visible::push_visible;
-
-#[cfg(test)]
-mod tests;

@@ -9,7 +9,7 @@ ghost use Rattle.esc_reveal.specs.Revealed.{is_kept};
 ghost use Rattle.esc_reveal.specs.Visible.{rest_text, visible};
 ghost use Rattle.memory.specs.Refusals.{Refused};
 
-use crate::judge::stays;
+use crate::judge::stays_whole;
 use crate::kept::Kept;
 use crate::silent::Silent;
 use esc_filter::Admit;
@@ -34,10 +34,11 @@ pub(crate) struct Rule<P> {
 /// [`push_visible`](crate::push_visible) writes it.
 ///
 /// The stream is cut where no segment is unfinished, so a string and its terminator are one piece.
-/// A piece stays as it is where it means something and each of its actions passes a filter of the
-/// policy; else it is shown whole. One that is longer than the limit is shown as it comes, and so
-/// is, at the end of the stream, one that has not ended. Where `by_lines`, a line feed always ends
-/// a piece: it stays, and what was unfinished before it is shown.
+/// A piece stays as it is where it is a text, no segment of it breaks off another, it means
+/// something, and each of its actions passes a filter of the policy; else it is shown whole. One
+/// that is longer than the limit is shown as it comes, and so is, at the end of the stream, one
+/// that has not ended. Where `by_lines`, a line feed always ends a piece: it stays, and what was
+/// unfinished before it is shown.
 ///
 /// Of the stream it keeps the piece that has not ended, at most the limit.
 #[derive(Drop)]
@@ -315,7 +316,7 @@ impl<P: Admit<A>, A: Allocator + Copy> Reveal<P, A> {
         ensures refused { (r : List ℕ) → AtRest r self.old → OnErr result (Refused A) }
     {
         match self.kept.piece() {
-            Some(piece) => stays(&mut self.parser, &self.rule.policy, piece),
+            Some(piece) => stays_whole(&mut self.parser, &self.rule.policy, piece),
             None => Ok(false),
         }
     }

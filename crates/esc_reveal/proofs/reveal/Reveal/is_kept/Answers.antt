@@ -2,6 +2,7 @@ use Rattle.std.proofs.Common.{◌&&◌, Some, ap, sym, ◌∙◌}
 use Rattle.esc_actions.specs.Meaning.{meaning_within}
 use Rattle.esc_parse.proofs.Lists.{if_ok_more}
 use Rattle.esc_reveal.specs.Revealed.{are_kept}
+use Rattle.esc_reveal.specs.Whole.{is_whole}
 use Rattle.esc_reveal.proofs.reveal.Reveal.is_kept.Goals as goal
 
 pub returns-in-Some-clause-given : goal.returns-in-Some-clause-given
@@ -9,13 +10,14 @@ returns-in-Some-clause-given g c = λ r h.
     let old = c.args.self.now in
     let admits = g.P.Admit.admits old.rule.policy in
     let piece = c.in-Some.ensures old.rule.limit r h.kept in
-    if_ok_more _ _ c.stays.result (λ k e. (
+    if_ok_more _ _ c.stays_whole.result (λ k e. (
       record { unfailed = h.unfailed; framed = h.framed; ready = e.0; kept = h.kept },
-      e.1 ∙ ap (λ p. are_kept admits (meaning_within (Some old.rule.limit) p)) piece.0
-          ∙ ap (λ b. b && are_kept admits (meaning_within (Some old.rule.limit) r))
+      e.1 ∙ ap (λ p. is_whole p && are_kept admits (meaning_within (Some old.rule.limit) p))
+          piece.0
+          ∙ ap (λ b. b && (is_whole r && are_kept admits (meaning_within (Some old.rule.limit) r)))
           (sym piece.1),
-    )) (c.stays.ensures.kept old.rule.limit h.ready)
+    )) (c.stays_whole.ensures.kept old.rule.limit h.ready)
 
 pub returns-in-Some-clause-refused : goal.returns-in-Some-clause-refused
 returns-in-Some-clause-refused g c = λ r h.
-    c.stays.ensures.refused c.args.self.now.rule.limit h.ready
+    c.stays_whole.ensures.refused c.args.self.now.rule.limit h.ready

@@ -1,0 +1,63 @@
+//! Whether all of a piece is of the segments that mean something.
+ghost use Rattle.std.specs.Prelude.{◌≡◌, ◌&&◌, not, drop, false};
+ghost use Rattle.std.specs.List.{list_any};
+ghost use Rattle.std.specs.Str.{IsUtf8, chars};
+ghost use Rattle.std.specs.Str.Iter.{chars_rest};
+ghost use Rattle.esc_reveal.specs.Whole.{breaks, but_terminator, has_break, is_whole};
+
+use std::str;
+use std::str::Chars;
+
+/// Whether the piece is a text, and no segment of it breaks off another: after its first character
+/// there is no CAN, SUB, ESC or control of C1, but in the string terminator that may end it.
+pub(crate) fn is_whole(piece: &[u8]) -> bool
+    ensures { result ≡ is_whole piece.now }
+{
+    match str::from_utf8(but_terminator(piece)) {
+        Ok(text) => !has_break(text),
+        Err(_) => false,
+    }
+}
+
+// The piece without the string terminator that ends it.
+fn but_terminator(piece: &[u8]) -> &[u8]
+    ensures { result.now ≡ but_terminator piece.now }
+{
+    let n = piece.len();
+    if n >= 2 && piece[n - 2] == 0x1b && piece[n - 1] == b'\\' {
+        &piece[..n - 2]
+    } else {
+        piece
+    }
+}
+
+// Whether a character after the first breaks a segment off.
+fn has_break(text: &str) -> bool
+    ensures { result ≡ has_break text.now }
+{
+    let mut rest = text.chars();
+    let Some(_) = rest.next() else {
+        return false;
+    };
+    any_breaks(rest)
+}
+
+// Whether a character of these breaks a segment off.
+fn any_breaks(rest: Chars<'_>) -> bool
+    ensures { IsUtf8 (chars_rest rest.entry)
+        → result ≡ list_any breaks (chars (chars_rest rest.entry)) }
+{
+    for c in rest {
+        if breaks(c) {
+            return true;
+        }
+    }
+    false
+}
+
+// Whether a character breaks a segment off.
+fn breaks(c: char) -> bool
+    ensures { result ≡ breaks c }
+{
+    c == '\u{18}' || c == '\u{1a}' || c == '\u{1b}' || ('\u{80}' <= c && c <= '\u{9f}')
+}
