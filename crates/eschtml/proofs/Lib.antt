@@ -1,1 +1,3 @@
 pub mod Longer
+mod Piping
+mod Left

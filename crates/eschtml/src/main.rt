@@ -6,6 +6,7 @@
 mod lines;
 mod options;
 mod page;
+mod piped;
 mod stream;
 mod style;
 
@@ -39,8 +40,8 @@ const FAULT: u8 = 1;
 const USAGE_FAULT: u8 = 2;
 
 const USAGE: &str = "\
-usage: eschtml [--page] [--title text] [--lines] [--style] [--limit size] [-h|--help] \
-[-V|--version] [--] [FILE..]";
+usage: eschtml [--page] [--title text] [--lines] [--final-lines[=rows]] [--style] [--limit size] \
+[-h|--help] [-V|--version] [--] [FILE..]";
 
 const HELP: &str = "\
 Writes each FILE, or standard input, as HTML, as it is read: characters, with colours and
@@ -50,6 +51,8 @@ renditions as spans, and links to http, https and mailto. Nothing of it becomes 
   --title text    its title (the name of the first FILE)
   --lines         closes the tags that are open at the end of each line, and opens them again
                   after it, so that each line is HTML by itself
+  --final-lines   writes what a terminal leaves of lines that are written again, as by
+                  progress bars; --final-lines=rows where these go back over more rows than 32
   --style         prints the style sheet, for a page around a fragment
   --limit size    the most bytes of an unfinished sequence that are kept (1MiB): a number,
                   as 65536, or 64K, 1M or 1G, also as 64KiB, in powers of 1024
@@ -228,6 +231,7 @@ fn convert_stream<R: Read + Drop>(
         rt.alloc(),
         options.limit,
         options.per_line,
+        options.rows,
         &mut reader,
         &mut writer,
     );

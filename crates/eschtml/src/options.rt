@@ -12,6 +12,8 @@ pub struct Options<'a> {
     pub title: Option<&'a str>,
     /// Whether the tags that are open are closed at the end of each line.
     pub per_line: bool,
+    /// How many rows may be written again, where what is left of them is written.
+    pub rows: Option<usize>,
     /// How many bytes are kept of an unfinished segment.
     pub limit: usize,
 }
@@ -42,6 +44,10 @@ pub struct Task<'a, A: Allocator = Global> {
 
 const DEFAULT_LIMIT: usize = 1_048_576;
 
+const DEFAULT_ROWS: usize = 32;
+
+const MOST_ROWS: usize = 4096;
+
 const KNOWN: &[Known] = &[
     Known {
         name: "--page",
@@ -57,6 +63,11 @@ const KNOWN: &[Known] = &[
         name: "--lines",
         letter: "",
         takes: Takes::Nothing,
+    },
+    Known {
+        name: "--final-lines",
+        letter: "",
+        takes: Takes::Maybe("number of rows", &[]),
     },
     Known {
         name: "--style",
@@ -84,10 +95,16 @@ impl<'a, A: Allocator + Copy> Task<'a, A> {
     /// The task that these words, the program's arguments, name; of an option that is given twice
     /// the last counts.
     pub fn of(alloc: A, words: &'a [String]) -> Result<Task<'a, A>, Wrong<'a>> {
-        match read(alloc, KNOWN, words) {
-            Ok(found) => Ok(Task::from_found(found)),
-            Err(wrong) => Err(wrong),
+        let found = match read(alloc, KNOWN, words) {
+            Ok(found) => found,
+            Err(wrong) => return Err(wrong),
+        };
+        for given in &found.options {
+            if given.name == "--final-lines" && rows_of(given.word).is_none() {
+                return Err(Wrong::Value("--final-lines", "number of rows", given.word, None));
+            }
         }
+        Ok(Task::from_found(found))
     }
 
     // The task that these options and files name.
@@ -97,6 +114,7 @@ impl<'a, A: Allocator + Copy> Task<'a, A> {
             is_page: false,
             title: None,
             per_line: false,
+            rows: None,
             limit: DEFAULT_LIMIT,
         };
         for given in &found.options {
@@ -104,6 +122,7 @@ impl<'a, A: Allocator + Copy> Task<'a, A> {
                 "--page" => options.is_page = true,
                 "--title" => options.title = Some(given.word),
                 "--lines" => options.per_line = true,
+                "--final-lines" => options.rows = rows_of(given.word),
                 "--limit" => options.limit = given.size,
                 "--style" => kind = Kind::Style,
                 "--help" => kind = Kind::Help,
@@ -116,5 +135,16 @@ impl<'a, A: Allocator + Copy> Task<'a, A> {
             options,
             files: found.files,
         }
+    }
+}
+
+// How many rows a word names; where it is empty, the default.
+fn rows_of(word: &str) -> Option<usize> {
+    if word.is_empty() {
+        return Some(DEFAULT_ROWS);
+    }
+    match word.parse::<usize>() {
+        Ok(rows) if 0 < rows && rows <= MOST_ROWS => Some(rows),
+        _ => None,
     }
 }

@@ -1,14 +1,18 @@
 //! One stream, from its reader to the output.
-ghost use Rattle.std.specs.Prelude.{◌≡◌, ◌++◌, Bool, ℕ, IsErrOf, Some, if◌then◌else◌};
+ghost use Rattle.std.specs.Prelude.{◌≡◌, ◌++◌, [], Bool, ℕ, IsErrOf, Some, if◌then◌else◌};
 ghost use Rattle.esc_filter.specs.Streams.{Filters};
 ghost use Rattle.esc_html.specs.Fed.{WasFed, added_by};
 ghost use Rattle.esc_html.specs.Pages.{page_text};
 ghost use Rattle.memory.specs.Refusals.{Refused};
-ghost use Rattle.eschtml.specs.Written.{IsHtml, html_of};
+ghost use Rattle.esc_lines.specs.Fed.{left_after};
+ghost use Rattle.eschtml.specs.Piped.{after};
+ghost use Rattle.eschtml.specs.Written.{IsHtml, IsHtmlBy, html_by, html_of, shown_of, size_of, whole_screen};
 
 use crate::lines::Lines;
-use esc_filter::{Feeding, FilterError, filter_from};
+use crate::piped::Piped;
+use esc_filter::{Feeding, Filter, FilterError, Policy, filter_from};
 use esc_html::{HtmlWriter, laws};
+use esc_lines::Collapsing;
 use esc_normal::Watched;
 use std::alloc::{AllocError, Allocator, Global};
 use std::io::{Read, Write};
@@ -20,6 +24,20 @@ struct Counted<A: Allocator = Global> {
     closing: &'static str,
     has_ended: bool,
     lines: Lines,
+}
+
+impl<A: Allocator + Copy> Counted<A> {
+    // Of nothing. Takes no memory.
+    fn new(alloc: A, limit: usize, per_line: bool) -> Counted<A>
+        ensures { WasFed limit per_line [] result.writer }
+    {
+        Counted {
+            writer: HtmlWriter::new(alloc, limit, per_line),
+            closing: "",
+            has_ended: false,
+            lines: Lines::new(),
+        }
+    }
 }
 
 impl<A: Allocator + Copy> Feeding<A> for Counted<A> {
@@ -54,9 +72,32 @@ impl<A: Allocator + Copy> Feeding<A> for Counted<A> {
     }
 }
 
+// How many columns a row has at most of which what is left is written.
+pub(crate) const COLUMNS: usize = 16_384;
+
 /// Writes on `writer` the HTML of what `reader` reads, as it comes, and at its end what closes the
-/// tags that are open. It returns what [`filter_from`] does, and the lines that were written.
+/// tags that are open; where rows may be written again, of what is left of the lines. It returns
+/// what [`filter_from`] does, and the lines that were written.
 pub fn write_html<A: Allocator + Copy, R: Read, W: Write>(
+    alloc: A,
+    limit: usize,
+    per_line: bool,
+    rows: Option<usize>,
+    reader: &mut Watched<R>,
+    writer: &mut Watched<W>,
+) -> (Result<(), FilterError>, Lines)
+    ensures holds { Filters R.Read W.Write (html_by A limit per_line rows)
+        (IsHtmlBy A limit per_line rows) result.0 reader writer }
+    ensures refused { IsErrOf result.0 FilterError.Memory → Refused A }
+{
+    match rows {
+        None => write_whole(alloc, limit, per_line, reader, writer),
+        Some(rows) => write_left(alloc, limit, per_line, rows, reader, writer),
+    }
+}
+
+// Of the whole stream.
+fn write_whole<A: Allocator + Copy, R: Read, W: Write>(
     alloc: A,
     limit: usize,
     per_line: bool,
@@ -68,12 +109,32 @@ pub fn write_html<A: Allocator + Copy, R: Read, W: Write>(
     ensures refused { IsErrOf result.0 FilterError.Memory → Refused A }
 {
     laws::streams_are_pages::<A>();
-    let mut counted = Counted {
-        writer: HtmlWriter::new(alloc, limit, per_line),
-        closing: "",
-        has_ended: false,
-        lines: Lines::new(),
-    };
+    let mut counted = Counted::new(alloc, limit, per_line);
     let result = filter_from(alloc, &mut counted, reader, writer);
     (result, counted.lines)
+}
+
+// Of what is left of the lines, of which so many may be written again.
+fn write_left<A: Allocator + Copy, R: Read, W: Write>(
+    alloc: A,
+    limit: usize,
+    per_line: bool,
+    rows: usize,
+    reader: &mut Watched<R>,
+    writer: &mut Watched<W>,
+) -> (Result<(), FilterError>, Lines)
+    ensures holds { Filters R.Read W.Write
+        (after (html_of A limit per_line) (left_after A (size_of rows) (whole_screen A limit)))
+        (λ b s t. IsHtml A limit per_line b (shown_of A limit (Some rows) b s) t) result.0 reader
+        writer }
+    ensures refused { IsErrOf result.0 FilterError.Memory → Refused A }
+{
+    laws::streams_are_pages::<A>();
+    let filter = Filter::new(alloc, limit, Policy::Screen);
+    let Ok(collapsing) = Collapsing::new(alloc, filter, rows, COLUMNS) else {
+        return (Err(FilterError::Memory), Lines::new());
+    };
+    let mut piped = Piped::new(alloc, collapsing, Counted::new(alloc, limit, per_line));
+    let result = filter_from(alloc, &mut piped, reader, writer);
+    (result, piped.second.lines)
 }

@@ -1,0 +1,96 @@
+use Rattle.std.proofs.Common.{[], Some, arith, refl, subst, sym}
+use Rattle.std.proofs.KnownBytes.{Appends-nil, Consumes-nil}
+use Rattle.std.specs.Io.KnownBytes.{Appends}
+use Rattle.esc_filter.proofs.Begun.{begun, filters}
+use Rattle.esc_filter.proofs.Results.{not_failed, prefix_none}
+use Rattle.esc_filter.specs.Rules.{admits}
+use Rattle.esc_filter.specs.declared.policy.Policy.TheVariants.{Screen}
+use Rattle.esc_filter.specs.declared.unicode.Unicode.TheVariants.{Keep}
+use Rattle.esc_html.specs.Pages.{page_text}
+use Rattle.esc_lines.proofs.Streams.{final_after_nil}
+use Rattle.esc_lines.specs.Fed.{final_after, left_after}
+use Rattle.eschtml.specs.Piped.{after}
+use Rattle.eschtml.specs.Written.{IsHtml, html_of, screen_text, shown_of, size_of, whole_screen}
+use Rattle.eschtml.proofs.Left.{html_longer, no_html, no_screen, pages_add}
+use Rattle.eschtml.proofs.stream.write_left.Goals as goal
+
+pub returns-clause-holds : goal.returns-clause-holds
+returns-clause-holds g c =
+    let a = g.row.A.Denot in
+    let l = c.args.limit in
+    let z = size_of c.args.rows in
+    let m = screen_text a l in
+    let e = whole_screen a l in
+    let fresh = begun (λ p. admits {A = a} p) Keep l Screen c.new-filter.result
+    c.new-filter.ensures.policy c.new-filter.ensures.fed in
+    let p = c.args.per_line in
+    let new = c.new-piped.ensures.begins (final_after a z m) (left_after a z e)
+    (page_text a (Some l) p) (html_of a l p)
+    (z, m, e, c.in-Ok.ensures.fed m e fresh (no_screen a l), refl, refl)
+    (final_after_nil a z m (no_screen a l)) (l, p, c.new-2.ensures, refl, refl)
+    (pages_add a l p) in
+    let f = filters (after (html_of a l p) (left_after a z e))
+    (after (page_text a (Some l) p) (final_after a z m))
+    (λ b s t. IsHtml a l p b (shown_of a l (Some c.args.rows) b s) t)
+    (λ s. c.streams_are_pages.ensures (Some l) p (left_after a z e s)) (λ s. refl) _ _ _
+    (c.filter_from-result.ensures.holds (after (page_text a (Some l) p) (final_after a z m))
+    (after (html_of a l p) (left_after a z e)) new (no_html a l p z) (html_longer a l p z)) in
+    record {
+      read_all = f.read_all;
+      written = f.written;
+      decided = f.decided;
+      endless = f.endless;
+      until_refused = f.until_refused;
+      beginning = f.beginning;
+      read_fault = f.read_fault;
+      write_fault = f.write_fault;
+    }
+
+pub returns-in_default-clause-holds : goal.returns-in_default-clause-holds
+returns-in_default-clause-holds g c =
+    let a = g.row.A.Denot in
+    let l = c.args.limit in
+    let p = c.args.per_line in
+    let z = size_of c.args.rows in
+    let held = g.W.Write.contents c.args.writer.now.inner in
+    let m = after (page_text a (Some l) p) (final_after a z (screen_text a l)) in record {
+      read_all = tt;
+      written = tt;
+      decided = λ k. absurd cc;
+      endless = λ k. absurd cc;
+      until_refused = λ k. (
+        [],
+        [],
+        m [],
+        omega arith,
+        Consumes-nil _,
+        subst (λ t. Appends held held t) (sym (no_html a l p z)) (Appends-nil _),
+        refl,
+      );
+      beginning = (
+        [],
+        Consumes-nil _,
+        prefix_none _
+            (after (html_of a l p) (left_after a z (whole_screen a l)) []),
+      );
+      read_fault = not_failed _ _ _ (λ k. absurd cc);
+      write_fault = not_failed _ _ _ (λ k. absurd cc);
+    }
+
+pub returns-clause-refused : goal.returns-clause-refused
+returns-clause-refused g c =
+    let a = g.row.A.Denot in
+    let l = c.args.limit in
+    let p = c.args.per_line in
+    let z = size_of c.args.rows in
+    let m = screen_text a l in
+    let e = whole_screen a l in
+    let fresh = begun (λ p. admits {A = a} p) Keep l Screen c.new-filter.result
+    c.new-filter.ensures.policy c.new-filter.ensures.fed in
+    let new = c.new-piped.ensures.begins (final_after a z m) (left_after a z e)
+    (page_text a (Some l) p) (html_of a l p)
+    (z, m, e, c.in-Ok.ensures.fed m e fresh (no_screen a l), refl, refl)
+    (final_after_nil a z m (no_screen a l)) (l, p, c.new-2.ensures, refl, refl)
+    (pages_add a l p) in
+    c.filter_from-result.ensures.refused (after (page_text a (Some l) p) (final_after a z m))
+    (after (html_of a l p) (left_after a z e)) new (no_html a l p z) (html_longer a l p z)

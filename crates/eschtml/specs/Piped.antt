@@ -1,0 +1,26 @@
+-- A filter of the text of another.
+use Rattle.std.specs.Prelude.{ℕ, ◌≡◌, List, ◌++◌}
+use Rattle.esc_filter.specs.declared.feeding.Feeding.{Ghosts as Feeder}
+
+-- more of a stream adds to its text, and so does its end
+pub record OnlyAdds (m c : List ℕ → List ℕ) : Type 0 where
+  pub more : (s b : List ℕ) → (t : List ℕ) × (m (s ++ b) ≡ m s ++ t)
+  pub end : (s : List ℕ) → (t : List ℕ) × (c s ≡ m s ++ t)
+
+-- one after the other
+abbrev pub after : (List ℕ → List ℕ) → (List ℕ → List ℕ) → List ℕ → List ℕ
+after g f s = g (f s)
+
+-- The first was fed this stream, and the second its text: the text of both is that of the second,
+-- of the text of the first.
+pub record Pipes {F G A : Type 0} (V : Feeder F A) (W : Feeder G A) (f : F) (g : G)
+    (m c : List ℕ → List ℕ) (s : List ℕ) : Type 0 where
+  pub of_first : List ℕ → List ℕ
+  pub first_ended : List ℕ → List ℕ
+  pub of_second : List ℕ → List ℕ
+  pub second_ended : List ℕ → List ℕ
+  pub adds : OnlyAdds of_second second_ended
+  pub first : V.gives f of_first first_ended s
+  pub second : W.gives g of_second second_ended (of_first s)
+  pub goes_on : m ≡ after of_second of_first
+  pub ended : c ≡ after second_ended first_ended
