@@ -1,1 +1,3 @@
 mod OtherWords
+pub mod Left
+mod Seen

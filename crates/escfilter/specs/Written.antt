@@ -1,16 +1,23 @@
 -- What is written of a stream under the program's options.
-use Rattle.std.specs.Prelude.{ℕ, Bool, true, false, List, Option, Some, None}
+use Rattle.std.specs.Prelude.{ℕ, ◌≡◌, Bool, true, false, if◌then◌else◌, List, Option, Some, None, max}
 use Rattle.esc_actions.specs.Values.{Value}
 use Rattle.esc_filter.specs.Groups.{admits_groups}
-use Rattle.esc_filter.specs.Lines.{IsFilteredByLines, closed_by_lines}
-use Rattle.esc_filter.specs.Passing.{IsFiltered, closed_text}
+use Rattle.esc_filter.specs.Lines.{IsFilteredByLinesAs, closed_by_lines_as, text_by_lines_as}
+use Rattle.esc_filter.specs.Passing.{IsFilteredAs, closed_text_as, passed_text_as}
 use Rattle.esc_filter.specs.Rules.{admits}
 use Rattle.esc_filter.specs.declared.groups.Groups.{Groups}
 use Rattle.esc_filter.specs.declared.policy.Policy.{Policy}
+use Rattle.esc_filter.specs.declared.unicode.Unicode.{Unicode}
+use Rattle.esc_lines.specs.Streams.{final_of, left_of, values_of}
+use Rattle.esc_lines.specs.Windows.{Size, sized}
+use Rattle.esc_reveal.specs.Revealed.{revealed, revealed_whole}
 use Rattle.escfilter.specs.declared.named_groups.Choice.{Choice}
 use Rattle.escfilter.specs.declared.options.Options.{Options}
+use Rattle.escfilter.specs.declared.stream.TheConstants.{COLUMNS}
 
--- what passes: what is of the chosen groups, or where none were named what the policy admits
+-- ---- what goes to the filter
+
+-- what is of the chosen groups, or where none were named what the policy admits
 abbrev pub admits_by : {A : Type 0} → Option Groups → Policy → Value A → Bool
 admits_by None p v = admits p v
 admits_by (Some g) p v = admits_groups g v
@@ -18,20 +25,71 @@ admits_by (Some g) p v = admits_groups g v
 abbrev pub admits_choice : {A : Type 0} → Choice → Value A → Bool
 admits_choice c v = admits_by c.groups c.policy v
 
-abbrev pub is_written_by : {A : Type 0} → Bool → Bool → ℕ → (Value A → Bool) → List ℕ → List ℕ
-    → Type 0
-is_written_by true b limit p s t = IsFilteredByLines b limit p s t
-is_written_by false b limit p s t = IsFiltered b (Some limit) p s t
+-- the stream; or, where what does not pass is shown, what is revealed of it
+abbrev pub going_in : Type 0 → Bool → Options → List ℕ → List ℕ
+going_in A shows o s =
+    if shows then revealed {A = A} o.by_lines o.limit (admits_choice o.choice) s else s
+
+-- the same of one that has ended
+abbrev pub whole_in : Type 0 → Bool → Options → List ℕ → List ℕ
+whole_in A shows o s =
+    if shows then revealed_whole {A = A} o.by_lines o.limit (admits_choice o.choice) s else s
+
+abbrev pub seen_by : Type 0 → Options → Bool → List ℕ → List ℕ
+seen_by A o true s = whole_in A o.shows o s
+seen_by A o false s = going_in A o.shows o s
+
+-- ---- what passes
 
 -- the text t is what passes of the stream s, which has ended or goes on: of each of its lines, or
 -- of the whole
-abbrev pub IsWritten : (A : Type 0) → Options → Bool → List ℕ → List ℕ → Type 0
-IsWritten A o b s t = is_written_by {A = A} o.by_lines b o.limit (admits_choice o.choice) s t
+abbrev pub is_passed_by : {A : Type 0} → Unicode → Bool → Bool → ℕ → (Value A → Bool) → List ℕ
+    → List ℕ → Type 0
+is_passed_by u true b limit p s t = IsFilteredByLinesAs b u limit p s t
+is_passed_by u false b limit p s t = IsFilteredAs u b (Some limit) p s t
 
-abbrev pub text_by : {A : Type 0} → Bool → ℕ → (Value A → Bool) → List ℕ → List ℕ
-text_by {A} true limit p s = closed_by_lines {A = A} limit p s
-text_by {A} false limit p s = closed_text {A = A} (Some limit) p s
+-- the text of a stream that goes on, and of one that has ended
+abbrev pub going_by : {A : Type 0} → Unicode → Bool → ℕ → (Value A → Bool) → List ℕ → List ℕ
+going_by {A} u true limit p s = text_by_lines_as {A = A} u limit p s
+going_by {A} u false limit p s = passed_text_as {A = A} u (Some limit) p s
+
+abbrev pub closed_by : {A : Type 0} → Unicode → Bool → ℕ → (Value A → Bool) → List ℕ → List ℕ
+closed_by {A} u true limit p s = closed_by_lines_as {A = A} u limit p s
+closed_by {A} u false limit p s = closed_text_as {A = A} u (Some limit) p s
+
+-- ---- what is left of the lines of a text
+
+-- so many rows may be written again
+abbrev pub size_of : ℕ → Size
+size_of n = sized (max n 1) COLUMNS
+
+-- of a text that goes on, where rows may be written again, those that may not any more
+abbrev pub final_by : Type 0 → Option ℕ → (List ℕ → List ℕ) → List ℕ → List ℕ
+final_by A None m s = m s
+final_by A (Some n) m s = final_of (size_of n) (values_of A (m s))
+
+-- of one that has ended, all rows
+abbrev pub left_by : Type 0 → Option ℕ → (List ℕ → List ℕ) → List ℕ → List ℕ
+left_by A None c s = c s
+left_by A (Some n) c s = left_of (size_of n) (values_of A (c s))
+
+-- the text t is what is left of the lines of u
+abbrev pub is_left_by : Type 0 → Option ℕ → Bool → List ℕ → List ℕ → Type 0
+is_left_by A None b u t = t ≡ u
+is_left_by A (Some n) true u t = t ≡ left_of (size_of n) (values_of A u)
+is_left_by A (Some n) false u t = t ≡ final_of (size_of n) (values_of A u)
+
+-- ---- what is written
+
+-- the text t is written of the stream s, which has ended or goes on: what is left of the lines of
+-- what passes of it, or of what is revealed of it
+abbrev pub IsWritten : (A : Type 0) → Options → Bool → List ℕ → List ℕ → Type 0
+IsWritten A o b s t = (u : List ℕ)
+    × is_passed_by {A = A} o.unicode o.by_lines b o.limit (admits_choice o.choice)
+    (seen_by A o b s) u
+    × is_left_by A o.rows b u t
 
 -- the text of a stream that has ended
 abbrev pub text_of : (A : Type 0) → Options → List ℕ → List ℕ
-text_of A o s = text_by {A = A} o.by_lines o.limit (admits_choice o.choice) s
+text_of A o s = left_by A o.rows (λ x. closed_by {A = A} o.unicode o.by_lines o.limit
+    (admits_choice o.choice) (seen_by A o true x)) s

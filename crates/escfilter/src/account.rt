@@ -1,5 +1,6 @@
 //! What becomes of the bytes of a stream.
 
+use crate::accounted::Audience;
 use crate::opened::{Opened, owed_after};
 use crate::options::Options;
 use crate::place::{BEGINNING, Place};
@@ -146,5 +147,14 @@ impl<'a, A: Allocator + Copy> Account<'a, A> {
         self.parser.restart();
         self.performer.unfinished.restart();
         self.owed = 0;
+    }
+}
+
+// Where there is one, it is shown the bytes.
+impl<'a, A: Allocator + Copy> Audience for Option<Account<'a, A>> {
+    fn show(&mut self, bytes: &[u8]) {
+        if let Some(account) = self {
+            account.show(bytes);
+        }
     }
 }

@@ -4,6 +4,8 @@
 #![tactic(auto)]
 
 mod account;
+mod accounted;
+mod cast;
 mod json;
 mod name;
 mod named_groups;
@@ -19,6 +21,7 @@ mod swallowed;
 mod tally;
 
 use account::Account;
+use cast::{cast_ended, filter_recording};
 use command_line::{
     Ended, IS_OUTPUT, NO_TEXT, Noting, Reason, Wrong, is_output, is_text, program_words,
     status_after, tell, unwritten,
@@ -49,9 +52,9 @@ const USAGE: &str = "\
 usage: escfilter [--allow text|color|screen|all|layout|sgr|hidden|links|controls|cursor|erase|\
 scroll|modes|charsets|palette|titles|clipboard|images|other] [--deny layout|sgr|hidden|links|\
 controls|cursor|erase|scroll|modes|charsets|palette|titles|clipboard|images|other] \
-[--links scheme,..] [--lines|--whole] [--limit size] \
-[--report[=text|json]] [--fail] [-o|--output file] [-i|--in-place[=suffix]] \
-[-h|--help] [-V|--version] [--] [FILE..]";
+[--links scheme,..] [--lines|--whole] [--limit size] [--unicode keep|show|drop] [--show] \
+[--collapse[=rows]] [--cast] [--report[=text|json]] [--fail] [-o|--output file] \
+[-i|--in-place[=suffix]] [-h|--help] [-V|--version] [--] [FILE..]";
 
 const HELP: &str = "\
 Writes what the policy admits of each FILE, or of standard input, as it is read. What that
@@ -69,6 +72,13 @@ leaves on, as colours or a link, is taken back at its end, and at each line's wi
   --whole         takes each FILE as one stream (the default with screen and all)
   --limit size    the most bytes of an unfinished sequence that are kept (1MiB): a number,
                   as 65536, or 64K, 1M or 1G, also as 64KiB, in powers of 1024
+  --unicode way   of characters that hide or reorder text: show writes <U+202E> in their place
+                  (the default with text and color), drop nothing, keep themselves
+  --show          writes what does not pass in its place, as text: ^[]0;title^G
+  --collapse      writes what a terminal leaves of lines that are written again, as by
+                  progress bars; --collapse=rows where these go back over more rows than 32
+  --cast          takes each FILE as a recording of asciinema: filters the texts of its
+                  events of output, and keeps its times and all other lines
   --report        says on standard error what was left out of each FILE, and where;
                   --report=json as a line of JSON
   --fail          ends with status 3 where anything was left out
@@ -288,6 +298,9 @@ fn filter_input<R: Read + Drop, W: Write>(
     output_name: &str,
     output: &mut W,
 ) -> (Ended, bool) {
+    if options.is_cast {
+        return filter_cast(rt, options, name, input, output_name, output);
+    }
     let account = account_of(rt, options);
     let mut reader = Watched::new(Noting::new(Observed::new(input, account)));
     let mut writer = Watched::new(Noting::new(output));
@@ -296,6 +309,34 @@ fn filter_input<R: Read + Drop, W: Write>(
     let reason = reader.reason().or(writer.into_inner().reason());
     let is_less = tell_account(rt, options, name, reader.into_inner().ended());
     let ended = ended(outcome, reason, name, output_name, &mut rt.stderr());
+    (ended, is_less)
+}
+
+// The same of a recording.
+fn filter_cast<R: Read + Drop, W: Write>(
+    rt: &HostRuntime,
+    options: Options<'_>,
+    name: &str,
+    input: R,
+    output_name: &str,
+    output: &mut W,
+) -> (Ended, bool) {
+    let account = account_of(rt, options);
+    let mut reader = Watched::new(Noting::new(input));
+    let mut writer = Watched::new(Noting::new(output));
+    let (outcome, account) = filter_recording(
+        rt.alloc(),
+        &options,
+        account,
+        &mut reader,
+        &mut writer,
+    );
+    let reason = reader
+        .into_inner()
+        .reason()
+        .or(writer.into_inner().reason());
+    let is_less = tell_account(rt, options, name, account);
+    let ended = cast_ended(outcome, reason, name, output_name, &mut rt.stderr());
     (ended, is_less)
 }
 

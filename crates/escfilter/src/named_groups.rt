@@ -96,6 +96,20 @@ impl<'a> Choice<'a> {
         }
     }
 
+    /// What passes, and what moves the cursor or erases, backspaces too: none of it is written
+    /// itself, but what it leaves of the lines is.
+    pub fn with_movements(self) -> Choice<'a> {
+        let groups = self
+            .all_groups()
+            .and(Group::Controls)
+            .and(Group::Cursor)
+            .and(Group::Erase);
+        Choice {
+            policy: self.policy,
+            groups: Some(groups),
+        }
+    }
+
     // The groups of what passes.
     fn all_groups(self) -> Groups<'a> {
         match self.groups {

@@ -2,7 +2,7 @@
 
 use crate::named_groups::{ALLOWED, Choice, DENIED};
 use command_line::{Found, Given, Known, Takes, Wrong, read};
-use esc_filter::{Policy, is_scheme};
+use esc_filter::{Policy, Unicode, is_scheme};
 use std::alloc::{Allocator, Global};
 
 /// How streams are filtered.
@@ -14,6 +14,14 @@ pub struct Options<'a> {
     pub limit: usize,
     /// Whether each line is a stream of its own.
     pub by_lines: bool,
+    /// What is written of characters that hide or reorder text.
+    pub unicode: Unicode,
+    /// Whether what does not pass is shown in place.
+    pub shows: bool,
+    /// How many rows may be written again, where what is left of them is written.
+    pub rows: Option<usize>,
+    /// Whether the input is a recording, of which the events of output are filtered.
+    pub is_cast: bool,
     /// In which form it is reported what was left out.
     pub report: Option<Form>,
     /// Whether it is a failure that something was left out.
@@ -67,6 +75,10 @@ pub struct Task<'a, A: Allocator = Global> {
 
 const DEFAULT_LIMIT: usize = 1_048_576;
 
+const DEFAULT_ROWS: usize = 32;
+
+const MOST_ROWS: usize = 4096;
+
 const KNOWN: &[Known] = &[
     Known {
         name: "--allow",
@@ -95,6 +107,26 @@ const KNOWN: &[Known] = &[
     },
     Known {
         name: "--whole",
+        letter: "",
+        takes: Takes::Nothing,
+    },
+    Known {
+        name: "--unicode",
+        letter: "",
+        takes: Takes::OneOf("way", &["keep", "show", "drop"]),
+    },
+    Known {
+        name: "--show",
+        letter: "",
+        takes: Takes::Nothing,
+    },
+    Known {
+        name: "--collapse",
+        letter: "",
+        takes: Takes::Maybe("rows", &[]),
+    },
+    Known {
+        name: "--cast",
         letter: "",
         takes: Takes::Nothing,
     },
@@ -138,10 +170,13 @@ impl<'a, A: Allocator + Copy> Task<'a, A> {
             Ok(found) => found,
             Err(wrong) => return Err(wrong),
         };
-        match wrong_scheme(&found.options) {
-            Some(scheme) => Err(Wrong::Value("--links", "scheme", scheme, None)),
-            None => Ok(Task::from_found(found)),
+        if let Some(scheme) = wrong_scheme(&found.options) {
+            return Err(Wrong::Value("--links", "scheme", scheme, None));
         }
+        if let Some(rows) = wrong_rows(&found.options) {
+            return Err(Wrong::Value("--collapse", "number of rows", rows, None));
+        }
+        Ok(Task::from_found(found))
     }
 
     // The task that these options and files name.
@@ -155,11 +190,16 @@ impl<'a, A: Allocator + Copy> Task<'a, A> {
             },
             limit: DEFAULT_LIMIT,
             by_lines: false,
+            unicode: Unicode::Keep,
+            shows: false,
+            rows: None,
+            is_cast: false,
             report: None,
             fails: false,
         };
         let mut by_lines = None;
         let mut schemes = None;
+        let mut unicode = None;
         for given in &found.options {
             match given.name {
                 "--allow" => options.choice = options.choice.and(given.some),
@@ -168,6 +208,10 @@ impl<'a, A: Allocator + Copy> Task<'a, A> {
                 "--limit" => options.limit = given.size,
                 "--lines" => by_lines = Some(true),
                 "--whole" => by_lines = Some(false),
+                "--unicode" => unicode = Some(unicode_of(given.word)),
+                "--show" => options.shows = true,
+                "--collapse" => options.rows = rows_of(given.word),
+                "--cast" => options.is_cast = true,
                 "--report" => options.report = Some(form_of(given.word)),
                 "--fail" => options.fails = true,
                 "--output" => target = Target::File(given.word),
@@ -178,9 +222,8 @@ impl<'a, A: Allocator + Copy> Task<'a, A> {
             }
         }
         options.by_lines = by_lines.unwrap_or(is_by_lines(options.choice.policy));
-        if let Some(schemes) = schemes {
-            options.choice = options.choice.with_schemes(schemes);
-        }
+        options.unicode = unicode.unwrap_or(unicode_under(options.choice.policy));
+        options.choice = settled(options.choice, schemes, options.rows);
         Task {
             kind,
             target,
@@ -190,12 +233,42 @@ impl<'a, A: Allocator + Copy> Task<'a, A> {
     }
 }
 
+// What passes where links have these schemes, and so many rows may be written again.
+fn settled<'a>(choice: Choice<'a>, schemes: Option<&'a str>, rows: Option<usize>) -> Choice<'a> {
+    let choice = match schemes {
+        Some(schemes) => choice.with_schemes(schemes),
+        None => choice,
+    };
+    match rows {
+        Some(_) => choice.with_movements(),
+        None => choice,
+    }
+}
+
 // Whether each line is a stream of its own under this policy, where the words do not say so: one
 // that passes text and its colours alone is for logs.
 fn is_by_lines(policy: Policy) -> bool {
     match policy {
         Policy::Text | Policy::Color => true,
         Policy::Screen | Policy::All => false,
+    }
+}
+
+// What is written of characters that hide or reorder text under this policy, where the words do not
+// say so: one that passes text and its colours alone is for people who read it.
+fn unicode_under(policy: Policy) -> Unicode {
+    match policy {
+        Policy::Text | Policy::Color => Unicode::Show,
+        Policy::Screen | Policy::All => Unicode::Keep,
+    }
+}
+
+// The way of this name, which is one of those in the table.
+fn unicode_of(name: &str) -> Unicode {
+    match name {
+        "show" => Unicode::Show,
+        "drop" => Unicode::Drop,
+        _ => Unicode::Keep,
     }
 }
 
@@ -212,6 +285,27 @@ fn wrong_scheme<'a>(options: &[Given<'a>]) -> Option<&'a str> {
         }
     }
     None
+}
+
+// The first word that `--collapse` is given as a number of rows and is none.
+fn wrong_rows<'a>(options: &[Given<'a>]) -> Option<&'a str> {
+    for given in options {
+        if given.name == "--collapse" && rows_of(given.word).is_none() {
+            return Some(given.word);
+        }
+    }
+    None
+}
+
+// How many rows a word names; where it is empty, the default.
+fn rows_of(word: &str) -> Option<usize> {
+    if word.is_empty() {
+        return Some(DEFAULT_ROWS);
+    }
+    match word.parse::<usize>() {
+        Ok(rows) if 0 < rows && rows <= MOST_ROWS => Some(rows),
+        _ => None,
+    }
 }
 
 // The form of this name, which is one of those in the table; of text where none is named.

@@ -1,13 +1,19 @@
 //! One stream, from its reader to the output.
-ghost use Rattle.std.specs.Prelude.{◌≡◌, IsErrOf};
-ghost use Rattle.esc_filter.specs.Streams.{Filters};
+ghost use Rattle.std.specs.Prelude.{◌≡◌, IsErrOf, false, true};
+ghost use Rattle.esc_filter.specs.Streams.{Filters, IsEither, New};
 ghost use Rattle.memory.specs.Refusals.{Refused};
-ghost use Rattle.escfilter.specs.Written.{IsWritten, text_of};
+ghost use Rattle.escfilter.specs.Adding.{NewAdding};
+ghost use Rattle.escfilter.specs.Written.{IsWritten, final_by, left_by, seen_by, text_of};
 
 use crate::options::Options;
 use command_line::{Ended, Place, Reason, hindered};
-use esc_filter::{FilterError, filter_lines, filter_stream};
+use esc_filter::{
+    Feeding, Filter, FilterError, LineFilter, filter_from, written_lines_read_back,
+    written_reads_back,
+};
+use esc_lines::collapse_from;
 use esc_normal::Watched;
+use esc_reveal::{Reveal, Revealing};
 use std::alloc::Allocator;
 use std::io::{Read, Write};
 
@@ -17,8 +23,13 @@ pub const PROGRAM: &str = "escfilter";
 /// What standard output is called.
 pub const OUTPUT: &str = "standard output";
 
+// How many columns a row has at most of which what is left is written.
+pub(crate) const COLUMNS: usize = 16_384;
+
 /// Writes on `writer` what passes by the options of what `reader` reads, as it comes: of each line,
-/// or of the whole. It returns what `filter_lines` does, or `filter_stream`.
+/// or of the whole; where what does not pass is shown, that in place; and of it all what is left of
+/// the lines, where these may be written again. It returns what `filter_lines` does, or
+/// `filter_stream`.
 pub fn filter_by<A: Allocator + Copy, R: Read, W: Write>(
     alloc: A,
     options: &Options<'_>,
@@ -30,10 +41,64 @@ pub fn filter_by<A: Allocator + Copy, R: Read, W: Write>(
     ensures refused { IsErrOf result FilterError.Memory → Refused A }
 {
     let by_lines = options.by_lines;
+    let unicode = options.unicode;
     if by_lines {
-        filter_lines(alloc, reader, writer, options.limit, options.choice)
+        written_lines_read_back::<A>();
+        let filter = LineFilter::with_unicode(alloc, options.limit, options.choice, unicode);
+        filter_shown(alloc, options, filter, reader, writer)
     } else {
-        filter_stream(alloc, reader, writer, options.limit, options.choice)
+        written_reads_back::<A>();
+        let filter = Filter::with_unicode(alloc, options.limit, options.choice, unicode);
+        filter_shown(alloc, options, filter, reader, writer)
+    }
+}
+
+// Writes on `writer` by this filter, which was fed nothing, what is written of what `reader` reads.
+fn filter_shown<A: Allocator + Copy, R: Read, W: Write, F: Feeding<A> + Drop>(
+    alloc: A,
+    options: &Options<'_>,
+    filter: F,
+    reader: &mut Watched<R>,
+    writer: &mut Watched<W>,
+) -> Result<(), FilterError>
+    ensures holds { NewAdding F.Feeding filter (λ m c. Filters R.Read W.Write
+        (left_by A options.now.rows (λ s. c (seen_by A options.now true s)))
+        (IsEither (left_by A options.now.rows (λ s. c (seen_by A options.now true s)))
+        (final_by A options.now.rows (λ s. m (seen_by A options.now false s)))) result reader
+        writer) }
+    ensures refused { NewAdding F.Feeding filter (λ m c.
+        IsErrOf result FilterError.Memory → Refused A) }
+{
+    let shows = options.shows;
+    if shows {
+        let reveal = Reveal::new(alloc, options.limit, options.choice, options.by_lines);
+        let filter = Revealing::new(alloc, reveal, filter);
+        filter_left(alloc, options.rows, filter, reader, writer)
+    } else {
+        filter_left(alloc, options.rows, filter, reader, writer)
+    }
+}
+
+// Writes on `writer` what is left of the lines of what this filter, which was fed nothing, gives
+// for what `reader` reads; where no rows may be written again, all of it.
+fn filter_left<A: Allocator + Copy, R: Read, W: Write, F: Feeding<A> + Drop>(
+    alloc: A,
+    rows: Option<usize>,
+    filter: F,
+    reader: &mut Watched<R>,
+    writer: &mut Watched<W>,
+) -> Result<(), FilterError>
+    ensures holds { New F.Feeding filter (λ m c. Filters R.Read W.Write (left_by A rows c)
+        (IsEither (left_by A rows c) (final_by A rows m)) result reader writer) }
+    ensures refused { New F.Feeding filter (λ m c.
+        IsErrOf result FilterError.Memory → Refused A) }
+{
+    match rows {
+        None => {
+            let mut filter = filter;
+            filter_from(alloc, &mut filter, reader, writer)
+        }
+        Some(rows) => collapse_from(alloc, filter, rows, COLUMNS, reader, writer),
     }
 }
 

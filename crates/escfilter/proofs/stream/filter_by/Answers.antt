@@ -1,21 +1,24 @@
-use Rattle.std.proofs.Common.{Some}
-use Rattle.esc_filter.specs.Lines.{IsFilteredByLines, closed_by_lines}
-use Rattle.esc_filter.specs.Passing.{IsFiltered, closed_text}
-use Rattle.escfilter.specs.Written.{admits_choice, is_written_by, text_by}
-use Rattle.escfilter.proofs.OtherWords.{in_other_words, lines_text, lines_written, whole_text, whole_written}
+use Rattle.std.proofs.Common.{Some, true, false, refl}
+use Rattle.esc_filter.proofs.Begun.{begun, begun_lines, nothing}
+use Rattle.esc_filter.specs.Lines.{closed_by_lines_as, text_by_lines_as}
+use Rattle.esc_filter.specs.Passing.{closed_text_as, passed_text_as}
+use Rattle.escfilter.specs.Written.{admits_choice, seen_by}
+use Rattle.escfilter.proofs.OtherWords.{in_other_words}
+use Rattle.escfilter.proofs.Seen.{lines_add, whole_adds}
 use Rattle.escfilter.proofs.stream.filter_by.Goals as goal
 
 pub returns-then-by_lines-clause-holds : goal.returns-then-by_lines-clause-holds
 returns-then-by_lines-clause-holds g c =
-    let p = admits_choice {A = g.row.A.Denot} c.args.options.now.choice in
-    let n = c.args.options.now.limit in
-    let f = in_other_words (closed_by_lines {A = g.row.A.Denot} n p)
-    (text_by {A = g.row.A.Denot} c.args.options.now.by_lines n p)
-    (λ b. IsFilteredByLines {A = g.row.A.Denot} b n p)
-    (λ b. is_written_by {A = g.row.A.Denot} c.args.options.now.by_lines b n p)
-    (lines_text n p c.args.options.now.by_lines c.if-by_lines.true)
-    (lines_written n p c.args.options.now.by_lines c.if-by_lines.true) _ _ _
-    c.filter_lines.ensures.holds in
+    let o = c.args.options.now in
+    let p = admits_choice {A = g.row.A.Denot} o.choice in
+    let new = begun_lines (admits_choice {A = g.row.A.Denot}) o.unicode o.limit o.choice
+    c.with_unicode-filter.result c.with_unicode-filter.ensures.policy
+    c.with_unicode-filter.ensures.fed in
+    let f = in_other_words o.rows o.unicode o.limit p (seen_by g.row.A.Denot o) o.by_lines true
+    c.if-by_lines.true (c.written_lines_read_back.ensures true o.unicode o.limit p)
+    (c.written_lines_read_back.ensures false o.unicode o.limit p) _ _ _
+    (c.filter_shown.ensures.holds (text_by_lines_as {A = g.row.A.Denot} o.unicode o.limit p)
+    (closed_by_lines_as o.unicode o.limit p) new refl (lines_add o.unicode o.limit p)) in
     record {
       read_all = f.read_all;
       written = f.written;
@@ -29,15 +32,18 @@ returns-then-by_lines-clause-holds g c =
 
 pub returns-else-by_lines-clause-holds : goal.returns-else-by_lines-clause-holds
 returns-else-by_lines-clause-holds g c =
-    let p = admits_choice {A = g.row.A.Denot} c.args.options.now.choice in
-    let n = c.args.options.now.limit in
-    let f = in_other_words (closed_text {A = g.row.A.Denot} (Some n) p)
-    (text_by {A = g.row.A.Denot} c.args.options.now.by_lines n p)
-    (λ b. IsFiltered {A = g.row.A.Denot} b (Some n) p)
-    (λ b. is_written_by {A = g.row.A.Denot} c.args.options.now.by_lines b n p)
-    (whole_text n p c.args.options.now.by_lines c.if-by_lines.false)
-    (whole_written n p c.args.options.now.by_lines c.if-by_lines.false) _ _ _
-    c.filter_stream.ensures.holds in
+    let o = c.args.options.now in
+    let p = admits_choice {A = g.row.A.Denot} o.choice in
+    let filter = c.with_unicode-filter-else-by_lines in
+    let new = begun (admits_choice {A = g.row.A.Denot}) o.unicode o.limit o.choice filter.result
+    filter.ensures.policy filter.ensures.fed in
+    let f = in_other_words o.rows o.unicode o.limit p (seen_by g.row.A.Denot o) o.by_lines false
+    c.if-by_lines.false (c.written_reads_back.ensures.ended o.unicode (Some o.limit) p)
+    (c.written_reads_back.ensures.goes_on o.unicode (Some o.limit) p) _ _ _
+    (c.filter_shown-else-by_lines.ensures.holds
+    (passed_text_as {A = g.row.A.Denot} o.unicode (Some o.limit) p)
+    (closed_text_as o.unicode (Some o.limit) p) new (nothing o.unicode o.limit p)
+    (whole_adds o.unicode o.limit p)) in
     record {
       read_all = f.read_all;
       written = f.written;
@@ -48,3 +54,25 @@ returns-else-by_lines-clause-holds g c =
       read_fault = f.read_fault;
       write_fault = f.write_fault;
     }
+
+pub returns-then-by_lines-clause-refused : goal.returns-then-by_lines-clause-refused
+returns-then-by_lines-clause-refused g c =
+    let o = c.args.options.now in
+    let p = admits_choice {A = g.row.A.Denot} o.choice in
+    let new = begun_lines (admits_choice {A = g.row.A.Denot}) o.unicode o.limit o.choice
+    c.with_unicode-filter.result c.with_unicode-filter.ensures.policy
+    c.with_unicode-filter.ensures.fed in
+    c.filter_shown.ensures.refused (text_by_lines_as {A = g.row.A.Denot} o.unicode o.limit p)
+    (closed_by_lines_as o.unicode o.limit p) new refl (lines_add o.unicode o.limit p)
+
+pub returns-else-by_lines-clause-refused : goal.returns-else-by_lines-clause-refused
+returns-else-by_lines-clause-refused g c =
+    let o = c.args.options.now in
+    let p = admits_choice {A = g.row.A.Denot} o.choice in
+    let filter = c.with_unicode-filter-else-by_lines in
+    let new = begun (admits_choice {A = g.row.A.Denot}) o.unicode o.limit o.choice filter.result
+    filter.ensures.policy filter.ensures.fed in
+    c.filter_shown-else-by_lines.ensures.refused
+    (passed_text_as {A = g.row.A.Denot} o.unicode (Some o.limit) p)
+    (closed_text_as o.unicode (Some o.limit) p) new (nothing o.unicode o.limit p)
+    (whole_adds o.unicode o.limit p)

@@ -1,0 +1,68 @@
+-- What of a stream goes to the filter.
+use Rattle.std.proofs.Common.{ℕ, ◌≡◌, Bool, true, false, List, [], ◌++◌, Some, refl, sym, ap, ◌∙◌}
+use Rattle.esc_actions.specs.Texts.{list_text, texts_after}
+use Rattle.esc_actions.specs.Values.{Value}
+use Rattle.esc_filter.proofs.ByLines.{by_more}
+use Rattle.esc_filter.proofs.Closers.{closed_more}
+use Rattle.esc_filter.proofs.Texts.{added_as, text_longer_as}
+use Rattle.esc_filter.specs.Closing.{closing}
+use Rattle.esc_filter.specs.Lines.{line_closing, closed_by_lines_as, text_by_lines_as}
+use Rattle.esc_filter.specs.Passing.{closed_text_as, passed_as, passed_text_as}
+use Rattle.esc_filter.specs.Texts.{ends_in_string}
+use Rattle.esc_filter.specs.declared.unicode.Unicode.{Unicode}
+use Rattle.esc_reveal.specs.Revealed.{revealed, revealed_whole}
+use Rattle.esc_filter.specs.declared.admit.Admit.{Ghosts as Admitter}
+use Rattle.esc_reveal.specs.declared.reveal.Rule.{Rule}
+use Rattle.esc_reveal.specs.Fed.{text_by, whole_by}
+use Rattle.escfilter.specs.Adding.{OnlyAdds}
+use Rattle.escfilter.specs.Written.{admits_choice, going_in, seen_by, whole_in}
+use Rattle.escfilter.specs.declared.options.Options.{Options}
+
+-- where nothing is shown
+pub whole_same : (A : Type 0) (b : Bool) (o : Options) → b ≡ false → (s : List ℕ)
+    → s ≡ whole_in A b o s
+whole_same A true o e s = absurd cc
+whole_same A false o e s = refl
+
+pub going_same : (A : Type 0) (b : Bool) (o : Options) → b ≡ false → (s : List ℕ)
+    → s ≡ going_in A b o s
+going_same A true o e s = absurd cc
+going_same A false o e s = refl
+
+-- where what does not pass is, by this rule
+module _ {P A : Type 0} (V : Admitter P A) (rule : Rule P) (o : Options)
+    (limit : rule.limit ≡ o.limit) (lines : rule.by_lines ≡ o.by_lines)
+    (admits : V.admits rule.policy ≡ admits_choice o.choice) where
+  pub whole_shown : (b : Bool) → b ≡ true → (s : List ℕ)
+      → whole_by {A = A} V rule s ≡ whole_in A b o s
+  whole_shown true e s = ap (λ l. revealed_whole rule.by_lines l (V.admits rule.policy) s) limit
+      ∙ ap (λ b. revealed_whole b o.limit (V.admits rule.policy) s) lines
+      ∙ ap (λ a. revealed_whole o.by_lines o.limit a s) admits
+  whole_shown false e s = absurd cc
+
+  pub going_shown : (b : Bool) → b ≡ true → (s : List ℕ)
+      → text_by {A = A} V rule s ≡ going_in A b o s
+  going_shown true e s = ap (λ l. revealed rule.by_lines l (V.admits rule.policy) s) limit
+      ∙ ap (λ b. revealed b o.limit (V.admits rule.policy) s) lines
+      ∙ ap (λ a. revealed o.by_lines o.limit a s) admits
+  going_shown false e s = absurd cc
+
+-- the texts of the filters
+pub whole_adds : {A : Type 0} (u : Unicode) (limit : ℕ) (p : Value A → Bool)
+    → OnlyAdds (passed_text_as u (Some limit) p) (closed_text_as u (Some limit) p)
+whole_adds u limit p = record {
+  more = λ s b. (
+    texts_after (ends_in_string false (passed_as u (Some limit) p s))
+        (added_as u (Some limit) p s b),
+    text_longer_as u (Some limit) p s b,
+  );
+  end = λ s.
+      let vs = passed_as u (Some limit) p s in (list_text (closing vs), closed_more vs);
+}
+
+pub lines_add : {A : Type 0} (u : Unicode) (limit : ℕ) (p : Value A → Bool)
+    → OnlyAdds (text_by_lines_as {A = A} u limit p) (closed_by_lines_as u limit p)
+lines_add u limit p = record {
+  more = λ s b. by_more u limit p s b;
+  end = λ s. (list_text (line_closing u limit p s), refl);
+}

@@ -1,0 +1,244 @@
+//! A recording, from its reader to the output.
+
+use crate::accounted::{Accounted, Audience};
+use crate::options::Options;
+use crate::stream::{COLUMNS, PROGRAM};
+use command_line::{Ended, Place, Reason, hindered};
+use esc_cast::{CastError, Recording};
+use esc_filter::{Feeding, Filter, FilterError, LineFilter};
+use esc_lines::Collapsing;
+use esc_normal::Watched;
+use esc_reveal::{Reveal, Revealing};
+use memchr::memchr;
+use std::alloc::{Allocator, Global};
+use std::fmt::{Display, Formatter};
+use std::io::{Read, Write};
+use std::{fmt, str};
+
+/// Why a recording was not filtered to its end.
+#[derive(Clone, Copy, Debug)]
+pub enum CastFault {
+    /// As of a stream.
+    Stream(FilterError),
+    /// The line of this number is no line of a recording.
+    Line(u64),
+}
+
+impl Display for CastFault {
+    fn fmt<W: fmt::Write>(&self, f: &mut Formatter<W>) -> fmt::Result {
+        match self {
+            CastFault::Stream(error) => error.fmt(f),
+            CastFault::Line(number) => write!(f, "line {number} is no line of a recording"),
+        }
+    }
+}
+
+/// A recording whose lines come in pieces.
+#[derive(Drop)]
+pub struct Lines<F, A: Allocator = Global> {
+    recording: Recording<F, A>,
+    // what came of the line that is unfinished
+    line: Vec<u8, A>,
+    // how many lines were taken
+    count: u64,
+}
+
+impl<F: Feeding<A>, A: Allocator + Copy> Lines<F, A> {
+    /// A recording of which nothing came, for a filter that was fed nothing. Takes no memory.
+    pub fn new(alloc: A, feeding: F) -> Lines<F, A> {
+        Lines {
+            recording: Recording::new(alloc, feeding),
+            line: Vec::new(alloc),
+            count: 0,
+        }
+    }
+
+    /// What the texts of its events were fed.
+    pub fn into_feeding(self) -> F {
+        let Lines {
+            recording,
+            line: _,
+            count: _,
+        } = self;
+        recording.into_feeding()
+    }
+
+    // Takes bytes more, and writes the lines that they end.
+    fn take<W: Write>(&mut self, bytes: &[u8], writer: &mut Watched<W>) -> Result<(), CastFault> {
+        let mut rest = bytes;
+        while let Some(at) = memchr(b'\n', rest) {
+            self.grow(&rest[..at])?;
+            self.end_line(writer)?;
+            rest = &rest[at + 1..];
+        }
+        self.grow(rest)
+    }
+
+    // Makes the unfinished line longer.
+    fn grow(&mut self, bytes: &[u8]) -> Result<(), CastFault> {
+        match self.line.extend_from_slice(bytes) {
+            Ok(()) => Ok(()),
+            Err(_) => Err(CastFault::Stream(FilterError::Memory)),
+        }
+    }
+
+    // Takes the line, and writes what is given for it.
+    fn end_line<W: Write>(&mut self, writer: &mut Watched<W>) -> Result<(), CastFault> {
+        self.count = self.count.saturating_add(1);
+        let Ok(line) = str::from_utf8(&self.line) else {
+            return Err(CastFault::Line(self.count));
+        };
+        match self.recording.take_line(line) {
+            Ok(()) => {}
+            Err(CastError::NoEvent) => return Err(CastFault::Line(self.count)),
+            Err(CastError::Memory) => return Err(CastFault::Stream(FilterError::Memory)),
+        }
+        self.line.clear();
+        write(writer, self.recording.text())
+    }
+
+    // Takes the last line, where it has no line feed, and ends the recording.
+    fn end<W: Write>(&mut self, writer: &mut Watched<W>) -> Result<(), CastFault> {
+        if !self.line.is_empty() {
+            self.end_line(writer)?;
+        }
+        match self.recording.finish() {
+            Ok(()) => write(writer, self.recording.text()),
+            Err(_) => Err(CastFault::Stream(FilterError::Memory)),
+        }
+    }
+}
+
+/// Reads a recording to its end, and writes what is given for its lines by the options, as it
+/// reads. The audience is shown the texts of its events of output, and comes back.
+pub fn filter_recording<R: Read, W: Write, K: Audience + Drop, A: Allocator + Copy>(
+    alloc: A,
+    options: &Options<'_>,
+    audience: K,
+    reader: &mut Watched<R>,
+    writer: &mut Watched<W>,
+) -> (Result<(), CastFault>, K) {
+    let by_lines = options.by_lines;
+    let unicode = options.unicode;
+    if by_lines {
+        let filter = LineFilter::with_unicode(alloc, options.limit, options.choice, unicode);
+        filter_shown(alloc, options, filter, audience, reader, writer)
+    } else {
+        let filter = Filter::with_unicode(alloc, options.limit, options.choice, unicode);
+        filter_shown(alloc, options, filter, audience, reader, writer)
+    }
+}
+
+// The same by this filter, where what does not pass may be shown.
+fn filter_shown<R: Read, W: Write, F: Feeding<A> + Drop, K: Audience + Drop, A: Allocator + Copy>(
+    alloc: A,
+    options: &Options<'_>,
+    filter: F,
+    audience: K,
+    reader: &mut Watched<R>,
+    writer: &mut Watched<W>,
+) -> (Result<(), CastFault>, K) {
+    let shows = options.shows;
+    if shows {
+        let reveal = Reveal::new(alloc, options.limit, options.choice, options.by_lines);
+        let filter = Revealing::new(alloc, reveal, filter);
+        filter_rows(alloc, options.rows, filter, audience, reader, writer)
+    } else {
+        filter_rows(alloc, options.rows, filter, audience, reader, writer)
+    }
+}
+
+// The same by this filter, of which these rows may be written again.
+fn filter_rows<R: Read, W: Write, F: Feeding<A> + Drop, K: Audience + Drop, A: Allocator + Copy>(
+    alloc: A,
+    rows: Option<usize>,
+    inner: F,
+    audience: K,
+    reader: &mut Watched<R>,
+    writer: &mut Watched<W>,
+) -> (Result<(), CastFault>, K) {
+    let Some(rows) = rows else {
+        return filter_events(alloc, Accounted { inner, audience }, reader, writer);
+    };
+    match Collapsing::new(alloc, inner, rows, COLUMNS) {
+        Ok(inner) => filter_events(alloc, Accounted { inner, audience }, reader, writer),
+        Err(_) => (Err(CastFault::Stream(FilterError::Memory)), audience),
+    }
+}
+
+// The same by way of this filter and its audience.
+fn filter_events<R: Read, W: Write, F: Feeding<A> + Drop, K: Audience + Drop, A: Allocator + Copy>(
+    alloc: A,
+    filter: Accounted<F, K>,
+    reader: &mut Watched<R>,
+    writer: &mut Watched<W>,
+) -> (Result<(), CastFault>, K) {
+    let mut lines = Lines::new(alloc, filter);
+    let outcome = filter_lines(alloc, &mut lines, reader, writer);
+    let Accounted { inner: _, audience } = lines.into_feeding();
+    (outcome, audience)
+}
+
+// Reads to the end, and writes what is given for the lines.
+fn filter_lines<R: Read, W: Write, F: Feeding<A>, A: Allocator + Copy>(
+    alloc: A,
+    lines: &mut Lines<F, A>,
+    reader: &mut Watched<R>,
+    writer: &mut Watched<W>,
+) -> Result<(), CastFault> {
+    let Ok(mut chunk) = memory::read_buffer(alloc) else {
+        return Err(CastFault::Stream(FilterError::Memory));
+    };
+    for _ in 0..u64::MAX {
+        match reader.read(chunk.as_mut_slice()) {
+            Ok(0) => break,
+            Ok(n) => {
+                lines.take(&chunk[..n], writer)?;
+                flush(writer)?;
+            }
+            Err(_) => return Err(CastFault::Stream(FilterError::Read)),
+        }
+    }
+    lines.end(writer)?;
+    flush(writer)
+}
+
+// Writes all of the bytes.
+fn write<W: Write>(writer: &mut Watched<W>, bytes: &[u8]) -> Result<(), CastFault> {
+    if writer.write_whole(bytes) {
+        Ok(())
+    } else {
+        Err(CastFault::Stream(FilterError::Write))
+    }
+}
+
+fn flush<W: Write>(writer: &mut Watched<W>) -> Result<(), CastFault> {
+    match writer.flush() {
+        Ok(()) => Ok(()),
+        Err(_) => Err(CastFault::Stream(FilterError::Write)),
+    }
+}
+
+/// How the recording of this name ended, with this outcome of its filter to an output of that name,
+/// where the last error had this reason. A line on `faults` says what hindered it; but where nobody
+/// reads the output any more, none is written.
+pub fn cast_ended<E: Write>(
+    outcome: Result<(), CastFault>,
+    reason: Option<Reason>,
+    name: &str,
+    output: &str,
+    faults: &mut E,
+) -> Ended {
+    let error = match outcome {
+        Ok(()) => return Ended::Whole,
+        Err(error) => error,
+    };
+    let place = match error {
+        CastFault::Stream(FilterError::Write) => Place::Output(output),
+        CastFault::Stream(FilterError::Read | FilterError::Memory | FilterError::Endless) => {
+            Place::Input(name)
+        }
+        CastFault::Line(_) => Place::Input(name),
+    };
+    hindered(PROGRAM, place, error, reason, faults)
+}
