@@ -13,10 +13,10 @@ ghost use Rattle.esc_osc_values.specs.Lists.{lone_text, numbers_of, title_of};
 ghost use Rattle.esc_osc.specs.declared.command.OperatingSystemCommand.TheVariants as command;
 ghost use Rattle.memory.specs.Refusals.{Refused};
 
-use crate::command::OperatingSystemCommand;
+use crate::command::OperatingSystemCommand as Command;
 use esc_iterm::ITermProprietary;
 use esc_links::Hyperlink;
-use esc_osc_values::code::OperatingSystemCommandCode;
+use esc_osc_values::code::OperatingSystemCommandCode as Code;
 use esc_osc_values::dynamic_codes::{changed_by, reset_by};
 use esc_osc_values::dynamic_color_number::DynamicColorNumber;
 use esc_osc_values::read_code::code_in;
@@ -32,17 +32,17 @@ use esc_values::{Error, Text};
 use std::alloc::{AllocError, Allocator};
 use std::str;
 
-impl<A: Allocator + Copy> OperatingSystemCommand<A> {
+impl<A: Allocator + Copy> Command<A> {
     /// The command that these parts mean: the one that the code in the first part names, where the
     /// other parts fit it, else `Unspecified` of the same parts. The error is that memory was
     /// refused.
-    pub fn parse(alloc: A, parts: &[&[u8]]) -> Result<OperatingSystemCommand<A>, AllocError>
+    pub fn parse(alloc: A, parts: &[&[u8]]) -> Result<Command<A>, AllocError>
         ensures ok { IfOk result (λ c. c ≡ meaning (map (λ p. p.now) parts.now)) }
         ensures refused { OnErr result (Refused A) }
     {
         match read_fitting(alloc, parts)? {
             Some(command) => Ok(command),
-            None => Ok(OperatingSystemCommand::Unspecified(copied(alloc, parts)?)),
+            None => Ok(Command::Unspecified(copied(alloc, parts)?)),
         }
     }
 }
@@ -51,7 +51,7 @@ impl<A: Allocator + Copy> OperatingSystemCommand<A> {
 fn read_fitting<A: Allocator + Copy>(
     alloc: A,
     parts: &[&[u8]],
-) -> Result<Option<OperatingSystemCommand<A>>, AllocError>
+) -> Result<Option<Command<A>>, AllocError>
     ensures ok { IfOk result (λ c. c ≡ fitting (map (λ p. p.now) parts.now)) }
     ensures refused { OnErr result (Refused A) }
 {
@@ -67,7 +67,7 @@ fn read_lossy<A: Allocator + Copy>(
     alloc: A,
     first: &[u8],
     args: &[&[u8]],
-) -> Result<Option<OperatingSystemCommand<A>>, AllocError>
+) -> Result<Option<Command<A>>, AllocError>
     ensures ok { IfOk result (λ c. c ≡ named (utf8_lossy first.now) (map (λ p. p.now) args.now)) }
     ensures refused { OnErr result (Refused A) }
 {
@@ -85,7 +85,7 @@ fn read_named<A: Allocator + Copy>(
     alloc: A,
     first: &str,
     args: &[&[u8]],
-) -> Result<Option<OperatingSystemCommand<A>>, AllocError>
+) -> Result<Option<Command<A>>, AllocError>
     ensures ok { IfOk result (λ c. c ≡ named first.now (map (λ p. p.now) args.now)) }
     ensures refused { OnErr result (Refused A) }
 {
@@ -98,158 +98,70 @@ fn read_named<A: Allocator + Copy>(
 // What the code makes of the lossy text of the first part and the parts after it.
 fn read_by_code<A: Allocator + Copy>(
     alloc: A,
-    code: OperatingSystemCommandCode,
+    code: Code,
     first: &str,
     args: &[&[u8]],
-) -> Result<Option<OperatingSystemCommand<A>>, AllocError>
+) -> Result<Option<Command<A>>, AllocError>
     ensures ok { IfOk result (λ c. c ≡ reading code first.now (map (λ p. p.now) args.now)) }
     ensures refused { OnErr result (Refused A) }
 {
     match code {
-        OperatingSystemCommandCode::SetIconNameAndWindowTitle => read_both_names(alloc, args),
-        OperatingSystemCommandCode::SetIconName => read_icon_name(alloc, args),
-        OperatingSystemCommandCode::SetWindowTitle => read_window_title(alloc, args),
-        OperatingSystemCommandCode::ChangeColorNumber => read_palette(alloc, args),
-        OperatingSystemCommandCode::SetCurrentWorkingDirectory => read_directory(alloc, args),
-        OperatingSystemCommandCode::SetHyperlink => read_link(alloc, args),
-        OperatingSystemCommandCode::SystemNotification => read_notified(alloc, args),
-        OperatingSystemCommandCode::ManipulateSelectionData => read_selected(alloc, args),
-        OperatingSystemCommandCode::ResetColors => read_reset(alloc, args),
-        OperatingSystemCommandCode::FinalTermSemanticPrompt => read_prompt(alloc, args),
-        OperatingSystemCommandCode::RxvtProprietary => read_extension(alloc, args),
-        OperatingSystemCommandCode::ITermProprietary => read_proprietary(alloc, args),
-        OperatingSystemCommandCode::SetWindowTitleSun => read_sun_title(alloc, first),
-        OperatingSystemCommandCode::SetIconNameSun => read_sun_icon_name(alloc, first),
-        _ => read_dynamic(alloc, changed_by(code), reset_by(code), args),
-    }
-}
-
-// The name of the icon and the title of the window.
-fn read_both_names<A: Allocator + Copy>(
-    alloc: A,
-    args: &[&[u8]],
-) -> Result<Option<OperatingSystemCommand<A>>, AllocError>
-    ensures ok { IfOk result
-        (λ c. c ≡ option_map command.SetIconNameAndWindowTitle
-        (title_of (map (λ p. p.now) args.now))) }
-    ensures refused { OnErr result (Refused A) }
-{
-    match read_title(alloc, args) {
-        Ok(Some(read)) => Ok(Some(OperatingSystemCommand::SetIconNameAndWindowTitle(read))),
-        Ok(None) => Ok(None),
-        Err(error) => Err(error),
-    }
-}
-
-// The name of the icon.
-fn read_icon_name<A: Allocator + Copy>(
-    alloc: A,
-    args: &[&[u8]],
-) -> Result<Option<OperatingSystemCommand<A>>, AllocError>
-    ensures ok { IfOk result
-        (λ c. c ≡ option_map command.SetIconName (title_of (map (λ p. p.now) args.now))) }
-    ensures refused { OnErr result (Refused A) }
-{
-    match read_title(alloc, args) {
-        Ok(Some(read)) => Ok(Some(OperatingSystemCommand::SetIconName(read))),
-        Ok(None) => Ok(None),
-        Err(error) => Err(error),
-    }
-}
-
-// The title of the window.
-fn read_window_title<A: Allocator + Copy>(
-    alloc: A,
-    args: &[&[u8]],
-) -> Result<Option<OperatingSystemCommand<A>>, AllocError>
-    ensures ok { IfOk result
-        (λ c. c ≡ option_map command.SetWindowTitle (title_of (map (λ p. p.now) args.now))) }
-    ensures refused { OnErr result (Refused A) }
-{
-    match read_title(alloc, args) {
-        Ok(Some(read)) => Ok(Some(OperatingSystemCommand::SetWindowTitle(read))),
-        Ok(None) => Ok(None),
-        Err(error) => Err(error),
-    }
-}
-
-// The directory that the shell works in.
-fn read_directory<A: Allocator + Copy>(
-    alloc: A,
-    args: &[&[u8]],
-) -> Result<Option<OperatingSystemCommand<A>>, AllocError>
-    ensures ok { IfOk result
-        (λ c. c ≡ option_map command.CurrentWorkingDirectory
-        (lone_text (map (λ p. p.now) args.now))) }
-    ensures refused { OnErr result (Refused A) }
-{
-    match read_lone_text(alloc, args) {
-        Ok(Some(read)) => Ok(Some(OperatingSystemCommand::CurrentWorkingDirectory(read))),
-        Ok(None) => Ok(None),
-        Err(error) => Err(error),
-    }
-}
-
-// A notification.
-fn read_notification<A: Allocator + Copy>(
-    alloc: A,
-    args: &[&[u8]],
-) -> Result<Option<OperatingSystemCommand<A>>, AllocError>
-    ensures ok { IfOk result
-        (λ c. c ≡ option_map command.SystemNotification (lone_text (map (λ p. p.now) args.now))) }
-    ensures refused { OnErr result (Refused A) }
-{
-    match read_lone_text(alloc, args) {
-        Ok(Some(read)) => Ok(Some(OperatingSystemCommand::SystemNotification(read))),
-        Ok(None) => Ok(None),
-        Err(error) => Err(error),
-    }
-}
-
-// Changes of the palette.
-fn read_palette<A: Allocator + Copy>(
-    alloc: A,
-    args: &[&[u8]],
-) -> Result<Option<OperatingSystemCommand<A>>, AllocError>
-    ensures ok { IfOk result
-        (λ c. c ≡ option_map command.ChangeColorNumber (pairs_of (map (λ p. p.now) args.now))) }
-    ensures refused { OnErr result (Refused A) }
-{
-    match read_pairs(alloc, args) {
-        Ok(Some(read)) => Ok(Some(OperatingSystemCommand::ChangeColorNumber(read))),
-        Ok(None) => Ok(None),
-        Err(error) => Err(error),
-    }
-}
-
-// Colours of the palette that are reset.
-fn read_reset<A: Allocator + Copy>(
-    alloc: A,
-    args: &[&[u8]],
-) -> Result<Option<OperatingSystemCommand<A>>, AllocError>
-    ensures ok { IfOk result
-        (λ c. c ≡ option_map command.ResetColors (numbers_of (map (λ p. p.now) args.now))) }
-    ensures refused { OnErr result (Refused A) }
-{
-    match read_numbers(alloc, args) {
-        Ok(Some(read)) => Ok(Some(OperatingSystemCommand::ResetColors(read))),
-        Ok(None) => Ok(None),
-        Err(error) => Err(error),
-    }
-}
-
-// An extension of rxvt.
-fn read_extension<A: Allocator + Copy>(
-    alloc: A,
-    args: &[&[u8]],
-) -> Result<Option<OperatingSystemCommand<A>>, AllocError>
-    ensures ok { IfOk result
-        (λ c. c ≡ Some (command.RxvtExtension (map utf8_lossy (map (λ p. p.now) args.now)))) }
-    ensures refused { OnErr result (Refused A) }
-{
-    match read_texts(alloc, args) {
-        Ok(texts) => Ok(Some(OperatingSystemCommand::RxvtExtension(texts))),
-        Err(error) => Err(error),
+        Code::SetIconNameAndWindowTitle => Ok(read_title(alloc, args)?.map(
+            |t| Command::SetIconNameAndWindowTitle(t),
+        )),
+        Code::SetIconName => Ok(read_title(alloc, args)?.map(|t| Command::SetIconName(t))),
+        Code::SetWindowTitle => Ok(read_title(alloc, args)?.map(|t| Command::SetWindowTitle(t))),
+        Code::ChangeColorNumber => Ok(read_pairs(alloc, args)?.map(|p| Command::ChangeColorNumber(
+            p,
+        ))),
+        Code::SetCurrentWorkingDirectory => Ok(read_lone_text(alloc, args)?.map(
+            |t| Command::CurrentWorkingDirectory(t),
+        )),
+        Code::SetHyperlink => read_link(alloc, args),
+        Code::SystemNotification => read_notified(alloc, args),
+        Code::ManipulateSelectionData => read_selected(alloc, args),
+        Code::ResetColors => Ok(read_numbers(alloc, args)?.map(|n| Command::ResetColors(n))),
+        Code::FinalTermSemanticPrompt => read_prompt(alloc, args),
+        Code::RxvtProprietary => Ok(Some(Command::RxvtExtension(read_texts(alloc, args)?))),
+        Code::ITermProprietary => read_proprietary(alloc, args),
+        Code::SetWindowTitleSun => Ok(without_first(alloc, first)?.map(
+            |t| Command::SetWindowTitleSun(t),
+        )),
+        Code::SetIconNameSun => Ok(without_first(alloc, first)?.map(|t| Command::SetIconNameSun(
+            t,
+        ))),
+        Code::SetTextForegroundColor
+        | Code::SetTextBackgroundColor
+        | Code::SetTextCursorColor
+        | Code::SetXWindowProperty
+        | Code::ChangeSpecialColorNumber
+        | Code::ChangeTitleTabColor
+        | Code::SetMouseForegroundColor
+        | Code::SetMouseBackgroundColor
+        | Code::SetTektronixForegroundColor
+        | Code::SetTektronixBackgroundColor
+        | Code::SetHighlightBackgroundColor
+        | Code::SetTektronixCursorColor
+        | Code::SetHighlightForegroundColor
+        | Code::SetLogFileName
+        | Code::SetFont
+        | Code::EmacsShell
+        | Code::ResetSpecialColor
+        | Code::ResetTextForegroundColor
+        | Code::ResetTextBackgroundColor
+        | Code::ResetTextCursorColor
+        | Code::ResetMouseForegroundColor
+        | Code::ResetMouseBackgroundColor
+        | Code::ResetTektronixForegroundColor
+        | Code::ResetTektronixBackgroundColor
+        | Code::ResetHighlightColor
+        | Code::ResetTektronixCursorColor
+        | Code::ResetHighlightForegroundColor => read_dynamic(
+            alloc,
+            changed_by(code),
+            reset_by(code),
+            args,
+        ),
     }
 }
 
@@ -257,72 +169,46 @@ fn read_extension<A: Allocator + Copy>(
 fn read_prompt<A: Allocator + Copy>(
     alloc: A,
     args: &[&[u8]],
-) -> Result<Option<OperatingSystemCommand<A>>, AllocError>
+) -> Result<Option<Command<A>>, AllocError>
     ensures ok { IfOk result
         (λ c. c ≡ option_map command.FinalTermSemanticPrompt
         (prompt_of (map (λ p. p.now) args.now))) }
     ensures refused { OnErr result (Refused A) }
 {
-    match FinalTermSemanticPrompt::parse(alloc, args) {
-        Ok(Some(read)) => Ok(Some(OperatingSystemCommand::FinalTermSemanticPrompt(read))),
-        Ok(None) => Ok(None),
-        Err(error) => Err(error),
-    }
+    let read = FinalTermSemanticPrompt::parse(alloc, args)?;
+    Ok(read.map(|mark| Command::FinalTermSemanticPrompt(mark)))
 }
 
 // A command of iTerm2.
 fn read_proprietary<A: Allocator + Copy>(
     alloc: A,
     args: &[&[u8]],
-) -> Result<Option<OperatingSystemCommand<A>>, AllocError>
+) -> Result<Option<Command<A>>, AllocError>
     ensures ok { IfOk result
         (λ c. c ≡ option_map command.ITermProprietary (iterm_of (map (λ p. p.now) args.now))) }
     ensures refused { OnErr result (Refused A) }
 {
-    match ITermProprietary::parse(alloc, args) {
-        Ok(Some(read)) => Ok(Some(OperatingSystemCommand::ITermProprietary(read))),
-        Ok(None) => Ok(None),
-        Err(error) => Err(error),
-    }
+    let read = ITermProprietary::parse(alloc, args)?;
+    Ok(read.map(|command| Command::ITermProprietary(command)))
 }
 
-// The title of the window after the letter `l`.
-fn read_sun_title<A: Allocator + Copy>(
+// A notification.
+fn read_notification<A: Allocator + Copy>(
     alloc: A,
-    first: &str,
-) -> Result<Option<OperatingSystemCommand<A>>, AllocError>
+    args: &[&[u8]],
+) -> Result<Option<Command<A>>, AllocError>
     ensures ok { IfOk result
-        (λ c. c ≡ option_map command.SetWindowTitleSun (utf8_of (drop 1 first.now))) }
+        (λ c. c ≡ option_map command.SystemNotification (lone_text (map (λ p. p.now) args.now))) }
     ensures refused { OnErr result (Refused A) }
 {
-    match without_first(alloc, first) {
-        Ok(Some(read)) => Ok(Some(OperatingSystemCommand::SetWindowTitleSun(read))),
-        Ok(None) => Ok(None),
-        Err(error) => Err(error),
-    }
-}
-
-// The name of the icon after the letter `L`.
-fn read_sun_icon_name<A: Allocator + Copy>(
-    alloc: A,
-    first: &str,
-) -> Result<Option<OperatingSystemCommand<A>>, AllocError>
-    ensures ok { IfOk result
-        (λ c. c ≡ option_map command.SetIconNameSun (utf8_of (drop 1 first.now))) }
-    ensures refused { OnErr result (Refused A) }
-{
-    match without_first(alloc, first) {
-        Ok(Some(read)) => Ok(Some(OperatingSystemCommand::SetIconNameSun(read))),
-        Ok(None) => Ok(None),
-        Err(error) => Err(error),
-    }
+    Ok(read_lone_text(alloc, args)?.map(|read| Command::SystemNotification(read)))
 }
 
 // The link after the code, where there is one.
 fn read_link<A: Allocator + Copy>(
     alloc: A,
     args: &[&[u8]],
-) -> Result<Option<OperatingSystemCommand<A>>, AllocError>
+) -> Result<Option<Command<A>>, AllocError>
     ensures ok { IfOk result
         (λ c. c ≡ option_map command.SetHyperlink
         (link_of (codes "8" ∷ map (λ p. p.now) args.now))) }
@@ -332,7 +218,7 @@ fn read_link<A: Allocator + Copy>(
         return Ok(None);
     };
     match Hyperlink::parse(alloc, &[b"8".as_slice(), params, uri]) {
-        Ok(link) => Ok(Some(OperatingSystemCommand::SetHyperlink(link))),
+        Ok(link) => Ok(Some(Command::SetHyperlink(link))),
         Err(Error::Invalid) => Ok(None),
         Err(Error::Memory(error)) => Err(error),
     }
@@ -342,14 +228,14 @@ fn read_link<A: Allocator + Copy>(
 fn read_notified<A: Allocator + Copy>(
     alloc: A,
     args: &[&[u8]],
-) -> Result<Option<OperatingSystemCommand<A>>, AllocError>
+) -> Result<Option<Command<A>>, AllocError>
     ensures ok { IfOk result
         (λ c. c ≡ notified (progress_of (map (λ p. p.now) args.now))
         (lone_text (map (λ p. p.now) args.now))) }
     ensures refused { OnErr result (Refused A) }
 {
     match read_progress(args) {
-        Some(progress) => Ok(Some(OperatingSystemCommand::ConEmuProgress(progress))),
+        Some(progress) => Ok(Some(Command::ConEmuProgress(progress))),
         None => read_notification(alloc, args),
     }
 }
@@ -359,17 +245,13 @@ fn read_changed<A: Allocator + Copy>(
     alloc: A,
     number: DynamicColorNumber,
     args: &[&[u8]],
-) -> Result<Option<OperatingSystemCommand<A>>, AllocError>
+) -> Result<Option<Command<A>>, AllocError>
     ensures ok { IfOk result
         (λ c. c ≡ option_map (command.ChangeDynamicColors number)
         (colors_of (map (λ p. p.now) args.now))) }
     ensures refused { OnErr result (Refused A) }
 {
-    match read_colors(alloc, args) {
-        Ok(Some(colors)) => Ok(Some(OperatingSystemCommand::ChangeDynamicColors(number, colors))),
-        Ok(None) => Ok(None),
-        Err(error) => Err(error),
-    }
+    Ok(read_colors(alloc, args)?.map(|colors| Command::ChangeDynamicColors(number, colors)))
 }
 
 // A dynamic colour that is changed, else one that is reset.
@@ -378,14 +260,14 @@ fn read_dynamic<A: Allocator + Copy>(
     changed: Option<DynamicColorNumber>,
     reset: Option<DynamicColorNumber>,
     args: &[&[u8]],
-) -> Result<Option<OperatingSystemCommand<A>>, AllocError>
+) -> Result<Option<Command<A>>, AllocError>
     ensures ok { IfOk result (λ c. c ≡ dynamic changed reset (map (λ p. p.now) args.now)) }
     ensures refused { OnErr result (Refused A) }
 {
     match changed {
         Some(number) => read_changed(alloc, number, args),
         None => match reset {
-            Some(number) => Ok(Some(OperatingSystemCommand::ResetDynamicColor(number))),
+            Some(number) => Ok(Some(Command::ResetDynamicColor(number))),
             None => Ok(None),
         },
     }
@@ -395,7 +277,7 @@ fn read_dynamic<A: Allocator + Copy>(
 fn read_selected<A: Allocator + Copy>(
     alloc: A,
     args: &[&[u8]],
-) -> Result<Option<OperatingSystemCommand<A>>, AllocError>
+) -> Result<Option<Command<A>>, AllocError>
     ensures ok { IfOk result (λ c. c ≡ selected (map (λ p. p.now) args.now)) }
     ensures refused { OnErr result (Refused A) }
 {
@@ -408,13 +290,13 @@ fn read_selected<A: Allocator + Copy>(
 }
 
 // A selection that is cleared.
-fn read_cleared<A: Allocator>(letters: &[u8]) -> Option<OperatingSystemCommand<A>>
+fn read_cleared<A: Allocator>(letters: &[u8]) -> Option<Command<A>>
     ensures { result ≡ selected (letters.now ∷ []) }
 {
     let Some(selection) = read_selection(letters) else {
         return None;
     };
-    Some(OperatingSystemCommand::ClearSelection(selection))
+    Some(Command::ClearSelection(selection))
 }
 
 // A selection, with `?` or with a text.
@@ -422,7 +304,7 @@ fn read_content<A: Allocator + Copy>(
     alloc: A,
     letters: &[u8],
     text: &[u8],
-) -> Result<Option<OperatingSystemCommand<A>>, AllocError>
+) -> Result<Option<Command<A>>, AllocError>
     ensures ok { IfOk result (λ c. c ≡ selected (letters.now ∷ text.now ∷ [])) }
     ensures refused { OnErr result (Refused A) }
 {
@@ -430,11 +312,7 @@ fn read_content<A: Allocator + Copy>(
         return Ok(None);
     };
     if text == b"?".as_slice() {
-        return Ok(Some(OperatingSystemCommand::QuerySelection(selection)));
+        return Ok(Some(Command::QuerySelection(selection)));
     }
-    match read_base64_text(alloc, text) {
-        Ok(Some(content)) => Ok(Some(OperatingSystemCommand::SetSelection(selection, content))),
-        Ok(None) => Ok(None),
-        Err(error) => Err(error),
-    }
+    Ok(read_base64_text(alloc, text)?.map(|content| Command::SetSelection(selection, content)))
 }

@@ -1,79 +1,26 @@
 -- The codes of commands and their texts.
-use Rattle.std.specs.Prelude.{ℕ, ◌-◌, ◌==◌, nat_eq, nat_le, ◌&&◌, if◌then◌else◌, List, [], ◌∷◌, take, slice_index, codes, Option, Some, None}
+use Rattle.std.specs.Prelude.{ℕ, ◌-◌, ◌==◌, nat_eq, nat_le, ◌&&◌, if◌then◌else◌, List, [], ◌∷◌, map, get_or, take, slice_index, Option, Some, None}
 use Rattle.std.specs.Cmp.Lexicographic.{pointwise}
 use Rattle.esc_values.specs.Scalars.{and_then, number_of}
 use Rattle.esc_osc_values.specs.declared.code.OperatingSystemCommandCode.{OperatingSystemCommandCode}
 use Rattle.esc_osc_values.specs.declared.code.OperatingSystemCommandCode.TheVariants as code
+use Rattle.esc_osc_values.specs.declared.code.TheConstants.{CODES, TEXTS}
+use Rattle.esc_osc_values.specs.contracts.code.OperatingSystemCommandCode.{the_type}
+use denote.Enum.Declared.{tag_of}
 use Rattle.esc_osc_values.specs.declared.dynamic_color_number.DynamicColorNumber.{DynamicColorNumber}
 use Rattle.esc_osc_values.specs.declared.dynamic_color_number.DynamicColorNumber.TheVariants as color
 
+-- the place of a code's row: codes and rows are in one order
+abbrev pub place : OperatingSystemCommandCode → ℕ
+place c = tag_of the_type c
+
 -- the text of a code
 abbrev pub code_text : OperatingSystemCommandCode → List ℕ
-code_text code.SetIconNameAndWindowTitle = codes "0"
-code_text code.SetIconName = codes "1"
-code_text code.SetWindowTitle = codes "2"
-code_text code.SetXWindowProperty = codes "3"
-code_text code.ChangeColorNumber = codes "4"
-code_text code.ChangeSpecialColorNumber = codes "5"
-code_text code.ChangeTitleTabColor = codes "6"
-code_text code.SetCurrentWorkingDirectory = codes "7"
-code_text code.SetHyperlink = codes "8"
-code_text code.SystemNotification = codes "9"
-code_text code.SetTextForegroundColor = codes "10"
-code_text code.SetTextBackgroundColor = codes "11"
-code_text code.SetTextCursorColor = codes "12"
-code_text code.SetMouseForegroundColor = codes "13"
-code_text code.SetMouseBackgroundColor = codes "14"
-code_text code.SetTektronixForegroundColor = codes "15"
-code_text code.SetTektronixBackgroundColor = codes "16"
-code_text code.SetHighlightBackgroundColor = codes "17"
-code_text code.SetTektronixCursorColor = codes "18"
-code_text code.SetHighlightForegroundColor = codes "19"
-code_text code.SetLogFileName = codes "46"
-code_text code.SetFont = codes "50"
-code_text code.EmacsShell = codes "51"
-code_text code.ManipulateSelectionData = codes "52"
-code_text code.ResetColors = codes "104"
-code_text code.ResetSpecialColor = codes "105"
-code_text code.ResetTextForegroundColor = codes "110"
-code_text code.ResetTextBackgroundColor = codes "111"
-code_text code.ResetTextCursorColor = codes "112"
-code_text code.ResetMouseForegroundColor = codes "113"
-code_text code.ResetMouseBackgroundColor = codes "114"
-code_text code.ResetTektronixForegroundColor = codes "115"
-code_text code.ResetTektronixBackgroundColor = codes "116"
-code_text code.ResetHighlightColor = codes "117"
-code_text code.ResetTektronixCursorColor = codes "118"
-code_text code.ResetHighlightForegroundColor = codes "119"
-code_text code.FinalTermSemanticPrompt = codes "133"
-code_text code.RxvtProprietary = codes "777"
-code_text code.ITermProprietary = codes "1337"
-code_text code.SetWindowTitleSun = codes "l"
-code_text code.SetIconNameSun = codes "L"
+code_text c = get_or (map (λ t. t.now) TEXTS) (place c) []
 
 -- every code, in the order in which a text is compared with theirs
 abbrev pub all_codes : List OperatingSystemCommandCode
-all_codes =
-    code.SetIconNameAndWindowTitle ∷ code.SetWindowTitle ∷ code.SetIconName ∷ code.SetHyperlink
-    ∷ code.FinalTermSemanticPrompt ∷
-    code.SetCurrentWorkingDirectory ∷ code.ManipulateSelectionData ∷ code.SetTextForegroundColor
-    ∷ code.SetTextBackgroundColor ∷
-    code.SetTextCursorColor ∷ code.ChangeColorNumber ∷ code.SystemNotification
-    ∷ code.ITermProprietary ∷ code.SetXWindowProperty ∷
-    code.ChangeSpecialColorNumber ∷ code.ChangeTitleTabColor ∷ code.SetMouseForegroundColor
-    ∷ code.SetMouseBackgroundColor ∷
-    code.SetTektronixForegroundColor ∷ code.SetTektronixBackgroundColor
-    ∷ code.SetHighlightBackgroundColor ∷
-    code.SetTektronixCursorColor ∷ code.SetHighlightForegroundColor ∷ code.SetLogFileName
-    ∷ code.SetFont ∷ code.EmacsShell ∷
-    code.ResetColors ∷ code.ResetSpecialColor ∷ code.ResetTextForegroundColor
-    ∷ code.ResetTextBackgroundColor ∷
-    code.ResetTextCursorColor ∷ code.ResetMouseForegroundColor ∷ code.ResetMouseBackgroundColor ∷
-    code.ResetTektronixForegroundColor ∷ code.ResetTektronixBackgroundColor
-    ∷ code.ResetHighlightColor ∷
-    code.ResetTektronixCursorColor ∷ code.ResetHighlightForegroundColor ∷ code.RxvtProprietary
-    ∷ code.SetWindowTitleSun ∷
-    code.SetIconNameSun ∷ []
+all_codes = CODES
 
 -- the first of these codes whose text is t
 abbrev pub first_named : List OperatingSystemCommandCode → List ℕ

@@ -1,6 +1,6 @@
 //! The codes of operating system commands.
-ghost use Rattle.std.specs.Prelude.{◌≡◌, ◌≢◌, ◌∷◌, [], length, MatchOption};
-ghost use Rattle.esc_osc_values.specs.Codes.{code_text};
+ghost use Rattle.std.specs.Prelude.{◌≡◌, ◌≢◌, ◌<◌, [], get_or, length, map, MatchOption};
+ghost use Rattle.esc_osc_values.specs.Codes.{code_text, place};
 ghost use Rattle.esc_osc_values.specs.declared.code.OperatingSystemCommandCode.{OperatingSystemCommandCode};
 
 /// What an operating system command asks for, which its first part says (xterm's list of control
@@ -10,30 +10,36 @@ ghost use Rattle.esc_osc_values.specs.declared.code.OperatingSystemCommandCode.{
 pub enum OperatingSystemCommandCode {
     /// 0: the name of the icon and the title of the window.
     SetIconNameAndWindowTitle,
-    /// 1: the name of the icon.
-    SetIconName,
     /// 2: the title of the window.
     SetWindowTitle,
-    /// 3: a property of the window under X.
-    SetXWindowProperty,
-    /// 4: colours of the palette.
-    ChangeColorNumber,
-    /// 5: special colours.
-    ChangeSpecialColorNumber,
-    /// 6: the colour of the title's tab.
-    ChangeTitleTabColor,
-    /// 7: the directory that the shell works in.
-    SetCurrentWorkingDirectory,
+    /// 1: the name of the icon.
+    SetIconName,
     /// 8: the link that the text belongs to.
     SetHyperlink,
-    /// 9: a notification, or the progress of a task (ConEmu).
-    SystemNotification,
+    /// 133: the marks of prompts and commands (FinalTerm).
+    FinalTermSemanticPrompt,
+    /// 7: the directory that the shell works in.
+    SetCurrentWorkingDirectory,
+    /// 52: the selections: their text is set, cleared or asked for.
+    ManipulateSelectionData,
     /// 10: the colour of the foreground of text.
     SetTextForegroundColor,
     /// 11: the colour of the background of text.
     SetTextBackgroundColor,
     /// 12: the colour of the text cursor.
     SetTextCursorColor,
+    /// 4: colours of the palette.
+    ChangeColorNumber,
+    /// 9: a notification, or the progress of a task (ConEmu).
+    SystemNotification,
+    /// 1337: the commands of iTerm2.
+    ITermProprietary,
+    /// 3: a property of the window under X.
+    SetXWindowProperty,
+    /// 5: special colours.
+    ChangeSpecialColorNumber,
+    /// 6: the colour of the title's tab.
+    ChangeTitleTabColor,
     /// 13: the colour of the foreground of the pointer.
     SetMouseForegroundColor,
     /// 14: the colour of the background of the pointer.
@@ -54,8 +60,6 @@ pub enum OperatingSystemCommandCode {
     SetFont,
     /// 51: left to Emacs.
     EmacsShell,
-    /// 52: the selections: their text is set, cleared or asked for.
-    ManipulateSelectionData,
     /// 104: the palette's own colours again.
     ResetColors,
     /// 105: the special colours of their own again.
@@ -80,94 +84,95 @@ pub enum OperatingSystemCommandCode {
     ResetTektronixCursorColor,
     /// 119: the own colour of the foreground of highlighted text again.
     ResetHighlightForegroundColor,
-    /// 133: the marks of prompts and commands (FinalTerm).
-    FinalTermSemanticPrompt,
     /// 777: the extensions of rxvt.
     RxvtProprietary,
-    /// 1337: the commands of iTerm2.
-    ITermProprietary,
     /// l: the title of the window, as Sun's terminals do it.
     SetWindowTitleSun,
     /// L: the name of the icon, as Sun's terminals do it.
     SetIconNameSun,
 }
 
-// Every code. A text of more than one byte is compared with theirs in turn, so those that come most
-// are first.
-const ALL: [OperatingSystemCommandCode; 41] = [
-    OperatingSystemCommandCode::SetIconNameAndWindowTitle,
-    OperatingSystemCommandCode::SetWindowTitle,
-    OperatingSystemCommandCode::SetIconName,
-    OperatingSystemCommandCode::SetHyperlink,
-    OperatingSystemCommandCode::FinalTermSemanticPrompt,
-    OperatingSystemCommandCode::SetCurrentWorkingDirectory,
-    OperatingSystemCommandCode::ManipulateSelectionData,
-    OperatingSystemCommandCode::SetTextForegroundColor,
-    OperatingSystemCommandCode::SetTextBackgroundColor,
-    OperatingSystemCommandCode::SetTextCursorColor,
-    OperatingSystemCommandCode::ChangeColorNumber,
-    OperatingSystemCommandCode::SystemNotification,
-    OperatingSystemCommandCode::ITermProprietary,
-    OperatingSystemCommandCode::SetXWindowProperty,
-    OperatingSystemCommandCode::ChangeSpecialColorNumber,
-    OperatingSystemCommandCode::ChangeTitleTabColor,
-    OperatingSystemCommandCode::SetMouseForegroundColor,
-    OperatingSystemCommandCode::SetMouseBackgroundColor,
-    OperatingSystemCommandCode::SetTektronixForegroundColor,
-    OperatingSystemCommandCode::SetTektronixBackgroundColor,
-    OperatingSystemCommandCode::SetHighlightBackgroundColor,
-    OperatingSystemCommandCode::SetTektronixCursorColor,
-    OperatingSystemCommandCode::SetHighlightForegroundColor,
-    OperatingSystemCommandCode::SetLogFileName,
-    OperatingSystemCommandCode::SetFont,
-    OperatingSystemCommandCode::EmacsShell,
-    OperatingSystemCommandCode::ResetColors,
-    OperatingSystemCommandCode::ResetSpecialColor,
-    OperatingSystemCommandCode::ResetTextForegroundColor,
-    OperatingSystemCommandCode::ResetTextBackgroundColor,
-    OperatingSystemCommandCode::ResetTextCursorColor,
-    OperatingSystemCommandCode::ResetMouseForegroundColor,
-    OperatingSystemCommandCode::ResetMouseBackgroundColor,
-    OperatingSystemCommandCode::ResetTektronixForegroundColor,
-    OperatingSystemCommandCode::ResetTektronixBackgroundColor,
-    OperatingSystemCommandCode::ResetHighlightColor,
-    OperatingSystemCommandCode::ResetTektronixCursorColor,
-    OperatingSystemCommandCode::ResetHighlightForegroundColor,
-    OperatingSystemCommandCode::RxvtProprietary,
-    OperatingSystemCommandCode::SetWindowTitleSun,
-    OperatingSystemCommandCode::SetIconNameSun,
-];
-
-// The code whose text this is, of one byte.
-fn of_one_byte(code: &str) -> Option<OperatingSystemCommandCode>
-    requires { length code.now ≡ 1 }
-    ensures { MatchOption result ((c : OperatingSystemCommandCode) → code.now ≢ code_text c)
-        (λ c. code.now ≡ code_text c) }
-{
-    let letter = code.as_bytes()[0];
-    of_letter(letter)
+// A row a line: the code, and its text. The rows are in the order of `OperatingSystemCommandCode`: a
+// text is compared with theirs in turn, so those that come most are first.
+macro_rules! codes {
+    ($each:ident) => {
+        $each![
+            SetIconNameAndWindowTitle, "0";
+            SetWindowTitle, "2";
+            SetIconName, "1";
+            SetHyperlink, "8";
+            FinalTermSemanticPrompt, "133";
+            SetCurrentWorkingDirectory, "7";
+            ManipulateSelectionData, "52";
+            SetTextForegroundColor, "10";
+            SetTextBackgroundColor, "11";
+            SetTextCursorColor, "12";
+            ChangeColorNumber, "4";
+            SystemNotification, "9";
+            ITermProprietary, "1337";
+            SetXWindowProperty, "3";
+            ChangeSpecialColorNumber, "5";
+            ChangeTitleTabColor, "6";
+            SetMouseForegroundColor, "13";
+            SetMouseBackgroundColor, "14";
+            SetTektronixForegroundColor, "15";
+            SetTektronixBackgroundColor, "16";
+            SetHighlightBackgroundColor, "17";
+            SetTektronixCursorColor, "18";
+            SetHighlightForegroundColor, "19";
+            SetLogFileName, "46";
+            SetFont, "50";
+            EmacsShell, "51";
+            ResetColors, "104";
+            ResetSpecialColor, "105";
+            ResetTextForegroundColor, "110";
+            ResetTextBackgroundColor, "111";
+            ResetTextCursorColor, "112";
+            ResetMouseForegroundColor, "113";
+            ResetMouseBackgroundColor, "114";
+            ResetTektronixForegroundColor, "115";
+            ResetTektronixBackgroundColor, "116";
+            ResetHighlightColor, "117";
+            ResetTektronixCursorColor, "118";
+            ResetHighlightForegroundColor, "119";
+            RxvtProprietary, "777";
+            SetWindowTitleSun, "l";
+            SetIconNameSun, "L";
+        ]
+    };
 }
 
-// The code whose text is this one byte.
-fn of_letter(letter: u8) -> Option<OperatingSystemCommandCode>
-    ensures { MatchOption result ((c : OperatingSystemCommandCode) → letter ∷ [] ≢ code_text c)
-        (λ c. letter ∷ [] ≡ code_text c) }
+macro_rules! values {
+    ($($code:ident, $text:literal);+ $(;)?) => {
+        [$(OperatingSystemCommandCode::$code),+]
+    };
+}
+
+macro_rules! texts {
+    ($($code:ident, $text:literal);+ $(;)?) => {
+        [$($text),+]
+    };
+}
+
+static CODES: [OperatingSystemCommandCode; 41] = codes!(values);
+
+static TEXTS: [&str; 41] = codes!(texts);
+
+// The text in this place of a table.
+fn text_in(texts: &[&'static str], index: usize) -> &'static str
+    requires { index < length texts.now }
+    ensures { result.now ≡ get_or (map (λ t. t.now) texts.now) index [] }
 {
-    match letter {
-        b'0' => Some(OperatingSystemCommandCode::SetIconNameAndWindowTitle),
-        b'1' => Some(OperatingSystemCommandCode::SetIconName),
-        b'2' => Some(OperatingSystemCommandCode::SetWindowTitle),
-        b'3' => Some(OperatingSystemCommandCode::SetXWindowProperty),
-        b'4' => Some(OperatingSystemCommandCode::ChangeColorNumber),
-        b'5' => Some(OperatingSystemCommandCode::ChangeSpecialColorNumber),
-        b'6' => Some(OperatingSystemCommandCode::ChangeTitleTabColor),
-        b'7' => Some(OperatingSystemCommandCode::SetCurrentWorkingDirectory),
-        b'8' => Some(OperatingSystemCommandCode::SetHyperlink),
-        b'9' => Some(OperatingSystemCommandCode::SystemNotification),
-        b'l' => Some(OperatingSystemCommandCode::SetWindowTitleSun),
-        b'L' => Some(OperatingSystemCommandCode::SetIconNameSun),
-        _ => None,
-    }
+    texts[index]
+}
+
+// The place of its row.
+#[inline(always)]
+fn place(code: OperatingSystemCommandCode) -> usize
+    ensures place { result ≡ place code }
+    ensures below { result < 41 }
+{
+    code as usize
 }
 
 impl OperatingSystemCommandCode {
@@ -177,10 +182,7 @@ impl OperatingSystemCommandCode {
         ensures { MatchOption result ((c : OperatingSystemCommandCode) → code.now ≢ code_text c)
             (λ c. code.now ≡ code_text c) }
     {
-        if code.len() == 1 {
-            return of_one_byte(code);
-        }
-        for known in ALL {
+        for known in CODES {
             if code == known.as_code() {
                 return Some(known);
             }
@@ -192,48 +194,6 @@ impl OperatingSystemCommandCode {
     pub fn as_code(self) -> &'static str
         ensures { result.now ≡ code_text self }
     {
-        match self {
-            OperatingSystemCommandCode::SetIconNameAndWindowTitle => "0",
-            OperatingSystemCommandCode::SetIconName => "1",
-            OperatingSystemCommandCode::SetWindowTitle => "2",
-            OperatingSystemCommandCode::SetXWindowProperty => "3",
-            OperatingSystemCommandCode::ChangeColorNumber => "4",
-            OperatingSystemCommandCode::ChangeSpecialColorNumber => "5",
-            OperatingSystemCommandCode::ChangeTitleTabColor => "6",
-            OperatingSystemCommandCode::SetCurrentWorkingDirectory => "7",
-            OperatingSystemCommandCode::SetHyperlink => "8",
-            OperatingSystemCommandCode::SystemNotification => "9",
-            OperatingSystemCommandCode::SetTextForegroundColor => "10",
-            OperatingSystemCommandCode::SetTextBackgroundColor => "11",
-            OperatingSystemCommandCode::SetTextCursorColor => "12",
-            OperatingSystemCommandCode::SetMouseForegroundColor => "13",
-            OperatingSystemCommandCode::SetMouseBackgroundColor => "14",
-            OperatingSystemCommandCode::SetTektronixForegroundColor => "15",
-            OperatingSystemCommandCode::SetTektronixBackgroundColor => "16",
-            OperatingSystemCommandCode::SetHighlightBackgroundColor => "17",
-            OperatingSystemCommandCode::SetTektronixCursorColor => "18",
-            OperatingSystemCommandCode::SetHighlightForegroundColor => "19",
-            OperatingSystemCommandCode::SetLogFileName => "46",
-            OperatingSystemCommandCode::SetFont => "50",
-            OperatingSystemCommandCode::EmacsShell => "51",
-            OperatingSystemCommandCode::ManipulateSelectionData => "52",
-            OperatingSystemCommandCode::ResetColors => "104",
-            OperatingSystemCommandCode::ResetSpecialColor => "105",
-            OperatingSystemCommandCode::ResetTextForegroundColor => "110",
-            OperatingSystemCommandCode::ResetTextBackgroundColor => "111",
-            OperatingSystemCommandCode::ResetTextCursorColor => "112",
-            OperatingSystemCommandCode::ResetMouseForegroundColor => "113",
-            OperatingSystemCommandCode::ResetMouseBackgroundColor => "114",
-            OperatingSystemCommandCode::ResetTektronixForegroundColor => "115",
-            OperatingSystemCommandCode::ResetTektronixBackgroundColor => "116",
-            OperatingSystemCommandCode::ResetHighlightColor => "117",
-            OperatingSystemCommandCode::ResetTektronixCursorColor => "118",
-            OperatingSystemCommandCode::ResetHighlightForegroundColor => "119",
-            OperatingSystemCommandCode::FinalTermSemanticPrompt => "133",
-            OperatingSystemCommandCode::RxvtProprietary => "777",
-            OperatingSystemCommandCode::ITermProprietary => "1337",
-            OperatingSystemCommandCode::SetWindowTitleSun => "l",
-            OperatingSystemCommandCode::SetIconNameSun => "L",
-        }
+        text_in(&TEXTS, place(self))
     }
 }
