@@ -47,13 +47,9 @@ fn read_file<A: Allocator + Copy>(
         (λ c. c ≡ option_map iterm.File (file_of (map (λ p. p.now) args.now))) }
     ensures refused { OnErr result (Refused A) }
 {
-    match ITermFileData::parse(alloc, args) {
-        Ok(Some(file)) => match Boxed::new(alloc, file) {
-            Ok(file) => Ok(Some(ITermProprietary::File(file))),
-            Err(error) => Err(error),
-        },
-        Ok(None) => Ok(None),
-        Err(error) => Err(error),
+    match ITermFileData::parse(alloc, args)? {
+        Some(file) => Ok(Some(ITermProprietary::File(Boxed::new(alloc, file)?))),
+        None => Ok(None),
     }
 }
 
@@ -168,10 +164,7 @@ fn read_plain<A: Allocator>(
     ensures ok { IfOk result (λ c. c ≡ Some (with_text form text.now)) }
     ensures refused { OnErr result (Refused A) }
 {
-    match Text::from_str(alloc, text) {
-        Ok(text) => Ok(Some(form.with_text(text))),
-        Err(error) => Err(error),
-    }
+    Ok(Some(form.with_text(Text::from_str(alloc, text)?)))
 }
 
 // A form with a text in base64.
@@ -183,11 +176,7 @@ fn read_encoded<A: Allocator>(
     ensures ok { IfOk result (λ c. c ≡ option_map (with_text form) (base64_text_of content.now)) }
     ensures refused { OnErr result (Refused A) }
 {
-    match read_base64_text(alloc, content) {
-        Ok(Some(text)) => Ok(Some(form.with_text(text))),
-        Ok(None) => Ok(None),
-        Err(error) => Err(error),
-    }
+    Ok(read_base64_text(alloc, content)?.map(|text| form.with_text(text)))
 }
 
 // A version of Unicode.
@@ -198,11 +187,7 @@ fn read_unicode_version<A: Allocator + Copy>(
     ensures ok { IfOk result (λ c. c ≡ option_map iterm.UnicodeVersion (version_of text.now)) }
     ensures refused { OnErr result (Refused A) }
 {
-    match read_version(alloc, text) {
-        Ok(Some(version)) => Ok(Some(ITermProprietary::UnicodeVersion(version))),
-        Ok(None) => Ok(None),
-        Err(error) => Err(error),
-    }
+    Ok(read_version(alloc, text)?.map(|version| ITermProprietary::UnicodeVersion(version)))
 }
 
 // `yes` or `no`.
@@ -227,10 +212,9 @@ fn read_variable<A: Allocator + Copy>(
     let Some((name, value)) = key_and_value(text.as_bytes()) else {
         return Ok(None);
     };
-    match read_base64_text(alloc, value.as_bytes()) {
-        Ok(Some(value)) => set_variable(alloc, name, value),
-        Ok(None) => Ok(None),
-        Err(error) => Err(error),
+    match read_base64_text(alloc, value.as_bytes())? {
+        Some(value) => set_variable(alloc, name, value),
+        None => Ok(None),
     }
 }
 
@@ -243,10 +227,8 @@ fn set_variable<A: Allocator>(
     ensures ok { IfOk result (λ c. c ≡ Some (iterm.SetUserVar name.now value)) }
     ensures refused { OnErr result (Refused A) }
 {
-    match Text::from_str(alloc, name) {
-        Ok(name) => Ok(Some(ITermProprietary::SetUserVar { name, value })),
-        Err(error) => Err(error),
-    }
+    let name = Text::from_str(alloc, name)?;
+    Ok(Some(ITermProprietary::SetUserVar { name, value }))
 }
 
 // A keyword and its argument in the first part, and one part more.

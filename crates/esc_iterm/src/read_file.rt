@@ -112,10 +112,9 @@ fn make_file<A: Allocator + Copy>(
     ensures ok { IfOk result (λ f. f ≡ file_with (values keys.entry) content.now) }
     ensures refused { OnErr result (Refused A) }
 {
-    match read_base64(alloc, content) {
-        Ok(Some(content)) => fill_file(alloc, keys, Items::from_vec(content)),
-        Ok(None) => Ok(None),
-        Err(error) => Err(error),
+    match read_base64(alloc, content)? {
+        Some(content) => fill_file(alloc, keys, Items::from_vec(content)),
+        None => Ok(None),
     }
 }
 
@@ -128,19 +127,16 @@ fn fill_file<A: Allocator>(
     ensures ok { IfOk result (λ f. f ≡ Some (filled (values keys.entry) content)) }
     ensures refused { OnErr result (Refused A) }
 {
-    match read_name(alloc, keys.name) {
-        Ok(name) => Ok(Some(ITermFileData {
-            name,
-            size: read_size(keys.size),
-            width: read_dimension_in(keys.width),
-            height: read_dimension_in(keys.height),
-            preserve_aspect_ratio: is_set(true, keys.preserve_aspect_ratio),
-            inline: is_set(false, keys.inline),
-            do_not_move_cursor: is_set(false, keys.do_not_move_cursor),
-            content,
-        })),
-        Err(error) => Err(error),
-    }
+    Ok(Some(ITermFileData {
+        name: read_name(alloc, keys.name)?,
+        size: read_size(keys.size),
+        width: read_dimension_in(keys.width),
+        height: read_dimension_in(keys.height),
+        preserve_aspect_ratio: is_set(true, keys.preserve_aspect_ratio),
+        inline: is_set(false, keys.inline),
+        do_not_move_cursor: is_set(false, keys.do_not_move_cursor),
+        content,
+    }))
 }
 
 // The text of a name, where there is one in base64.

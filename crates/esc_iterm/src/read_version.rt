@@ -40,10 +40,7 @@ fn read_labelled<A: Allocator + Copy>(
     if !is_push && word != b"pop".as_slice() {
         return Ok(None);
     }
-    match Text::from_str(alloc, label) {
-        Ok(label) => Ok(Some(with_label(is_push, label))),
-        Err(error) => Err(error),
-    }
+    Ok(Some(with_label(is_push, Text::from_str(alloc, label)?)))
 }
 
 // A version that is kept under a label, or brought back.

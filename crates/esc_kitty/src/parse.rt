@@ -109,14 +109,11 @@ fn read_image_kept<A: Allocator>(
         (transmit_of (values pairs.now) payload.now)) }
     ensures refused { OnErr result (Refused A) }
 {
-    match read_transmit(alloc, pairs, payload) {
-        Ok(Some(transmit)) => Ok(Some(KittyImage::TransmitData {
-            transmit,
-            verbosity,
-        })),
-        Ok(None) => Ok(None),
-        Err(error) => Err(error),
-    }
+    let transmit = read_transmit(alloc, pairs, payload)?;
+    Ok(transmit.map(|transmit| KittyImage::TransmitData {
+        transmit,
+        verbosity,
+    }))
 }
 
 // The image that is asked about.
@@ -129,11 +126,8 @@ fn read_image_query<A: Allocator>(
         (transmit_of (values pairs.now) payload.now)) }
     ensures refused { OnErr result (Refused A) }
 {
-    match read_transmit(alloc, pairs, payload) {
-        Ok(Some(transmit)) => Ok(Some(KittyImage::Query { transmit })),
-        Ok(None) => Ok(None),
-        Err(error) => Err(error),
-    }
+    let transmit = read_transmit(alloc, pairs, payload)?;
+    Ok(transmit.map(|transmit| KittyImage::Query { transmit }))
 }
 
 // The kept image that is shown.
@@ -194,15 +188,12 @@ fn read_image_shown<A: Allocator + Copy>(
     let Some(placement) = read_placement(pairs) else {
         return Ok(None);
     };
-    match read_transmit(alloc, pairs, payload) {
-        Ok(Some(transmit)) => Ok(Some(KittyImage::TransmitDataAndDisplay {
-            transmit,
-            placement,
-            verbosity,
-        })),
-        Ok(None) => Ok(None),
-        Err(error) => Err(error),
-    }
+    let transmit = read_transmit(alloc, pairs, payload)?;
+    Ok(transmit.map(|transmit| KittyImage::TransmitDataAndDisplay {
+        transmit,
+        placement,
+        verbosity,
+    }))
 }
 
 // The frame that is kept.
@@ -218,13 +209,10 @@ fn read_image_frame<A: Allocator + Copy>(
     let Some(frame) = read_frame(pairs) else {
         return Ok(None);
     };
-    match read_transmit(alloc, pairs, payload) {
-        Ok(Some(transmit)) => Ok(Some(KittyImage::TransmitFrame {
-            transmit,
-            frame,
-            verbosity,
-        })),
-        Ok(None) => Ok(None),
-        Err(error) => Err(error),
-    }
+    let transmit = read_transmit(alloc, pairs, payload)?;
+    Ok(transmit.map(|transmit| KittyImage::TransmitFrame {
+        transmit,
+        frame,
+        verbosity,
+    }))
 }

@@ -104,10 +104,7 @@ fn read_direct<A: Allocator>(
     let Some(text) = text_in(payload) else {
         return Ok(None);
     };
-    match Text::from_str(alloc, text) {
-        Ok(text) => Ok(Some(KittyImageData::Direct(text))),
-        Err(error) => Err(error),
-    }
+    Ok(Some(KittyImageData::Direct(Text::from_str(alloc, text)?)))
 }
 
 // What the payload names, where it is the base64 of a text.
@@ -122,11 +119,8 @@ fn read_named<A: Allocator>(
         (base64_text_of payload.now)) }
     ensures refused { OnErr result (Refused A) }
 {
-    match read_base64_text(alloc, payload) {
-        Ok(Some(name)) => Ok(Some(medium.named(name, data_size, data_offset))),
-        Ok(None) => Ok(None),
-        Err(error) => Err(error),
-    }
+    let name = read_base64_text(alloc, payload)?;
+    Ok(name.map(|name| medium.named(name, data_size, data_offset)))
 }
 
 // What a payload may name.

@@ -44,10 +44,7 @@ impl<A: Allocator + Copy> Hyperlink<A> {
         ensures ok { IfOk result (λ h. h ≡ link_to ((codes "id", id.now) ∷ []) uri.now) }
         ensures refused { OnErr result (Refused A) }
     {
-        match id_params(alloc, id) {
-            Ok(params) => linked(alloc, params, uri),
-            Err(error) => Err(error),
-        }
+        linked(alloc, id_params(alloc, id)?, uri)
     }
 
     /// What the parts of a text between `;` are: three parts, of which the first is not looked at,
@@ -76,10 +73,8 @@ fn id_params<A: Allocator + Copy>(alloc: A, id: &str) -> Result<Params<A>, Alloc
     ensures refused { OnErr result (Refused A) }
 {
     let mut params = Params::new(alloc);
-    match put_texts(alloc, &mut params, "id", id) {
-        Ok(()) => Ok(params),
-        Err(error) => Err(error),
-    }
+    put_texts(alloc, &mut params, "id", id)?;
+    Ok(params)
 }
 
 // The link to this address with these parameters.
@@ -87,14 +82,11 @@ fn linked<A: Allocator>(alloc: A, params: Params<A>, uri: &str) -> Result<Hyperl
     ensures ok { IfOk result (λ h. h ≡ link_to params uri.now) }
     ensures refused { OnErr result (Refused A) }
 {
-    match Text::from_str(alloc, uri) {
-        Ok(uri) => Ok(Hyperlink {
-            params,
-            uri,
-            implicit: false,
-        }),
-        Err(error) => Err(error),
-    }
+    Ok(Hyperlink {
+        params,
+        uri: Text::from_str(alloc, uri)?,
+        implicit: false,
+    })
 }
 
 // The link of parameters and an address; no link where both are empty.
@@ -170,10 +162,8 @@ fn put_texts<A: Allocator + Copy>(
     ensures refused { OnErr result (Refused A) }
 {
     let key = Text::from_str(alloc, key)?;
-    match Text::from_str(alloc, value) {
-        Ok(value) => params.insert(key, value),
-        Err(error) => Err(error),
-    }
+    let value = Text::from_str(alloc, value)?;
+    params.insert(key, value)
 }
 
 /// Writes `8;`, the parameters as `key=value` in order with `:` between them, `;` and the address.

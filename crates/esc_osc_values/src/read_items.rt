@@ -40,10 +40,7 @@ pub fn read_title<A: Allocator + Copy>(
     let Some((first, rest)) = args.split_first() else {
         return Ok(None);
     };
-    match joined(alloc, first, rest) {
-        Ok(bytes) => Ok(text_of(bytes)),
-        Err(error) => Err(error),
-    }
+    Ok(text_of(joined(alloc, first, rest)?))
 }
 
 // A part and those after it, with `;` between them.
@@ -78,10 +75,7 @@ pub fn read_text<A: Allocator>(alloc: A, bytes: &[u8]) -> Result<Option<Text<A>>
     ensures ok { IfOk result (λ t. t ≡ utf8_of bytes.now) }
     ensures refused { OnErr result (Refused A) }
 {
-    match memory::copied(alloc, bytes) {
-        Ok(bytes) => Ok(text_of(bytes)),
-        Err(error) => Err(error),
-    }
+    Ok(text_of(memory::copied(alloc, bytes)?))
 }
 
 /// Pairs of a number and a colour; a last lone part is dropped.

@@ -85,14 +85,8 @@ fn read_start<A: Allocator>(
     ensures ok { IfOk result (λ p. p ≡ lettered 0x41 (map (λ p. p.now) args.now)) }
     ensures refused { OnErr result (Refused A) }
 {
-    match read_aid_and_click(alloc, args) {
-        Ok(Some((aid, cl))) => Ok(Some(FinalTermSemanticPrompt::FreshLineAndStartPrompt {
-            aid,
-            cl,
-        })),
-        Ok(None) => Ok(None),
-        Err(error) => Err(error),
-    }
+    let keys = read_aid_and_click(alloc, args)?;
+    Ok(keys.map(|(aid, cl)| FinalTermSemanticPrompt::FreshLineAndStartPrompt { aid, cl }))
 }
 
 // The end of a command, and a prompt that begins on a new line.
@@ -103,13 +97,8 @@ fn read_end<A: Allocator>(
     ensures ok { IfOk result (λ p. p ≡ lettered 0x4e (map (λ p. p.now) args.now)) }
     ensures refused { OnErr result (Refused A) }
 {
-    match read_aid_and_click(alloc, args) {
-        Ok(Some((aid, cl))) => {
-            Ok(Some(FinalTermSemanticPrompt::MarkEndOfCommandWithFreshLine { aid, cl }))
-        }
-        Ok(None) => Ok(None),
-        Err(error) => Err(error),
-    }
+    let keys = read_aid_and_click(alloc, args)?;
+    Ok(keys.map(|(aid, cl)| FinalTermSemanticPrompt::MarkEndOfCommandWithFreshLine { aid, cl }))
 }
 
 // A prompt of some kind.
@@ -130,11 +119,8 @@ fn read_output<A: Allocator>(
     ensures ok { IfOk result (λ p. p ≡ lettered 0x43 (map (λ p. p.now) args.now)) }
     ensures refused { OnErr result (Refused A) }
 {
-    match read_aid(alloc, args) {
-        Ok(Some(aid)) => Ok(Some(FinalTermSemanticPrompt::MarkEndOfInputAndStartOfOutput { aid })),
-        Ok(None) => Ok(None),
-        Err(error) => Err(error),
-    }
+    let aid = read_aid(alloc, args)?;
+    Ok(aid.map(|aid| FinalTermSemanticPrompt::MarkEndOfInputAndStartOfOutput { aid }))
 }
 
 // The values of `aid` and `cl`.
@@ -180,11 +166,8 @@ fn read_status<A: Allocator>(
         }));
     };
     let status = read_i32(status).unwrap_or(0);
-    match read_aid(alloc, rest) {
-        Ok(Some(aid)) => Ok(Some(FinalTermSemanticPrompt::CommandStatus { status, aid })),
-        Ok(None) => Ok(None),
-        Err(error) => Err(error),
-    }
+    let aid = read_aid(alloc, rest)?;
+    Ok(aid.map(|aid| FinalTermSemanticPrompt::CommandStatus { status, aid }))
 }
 
 // The value of `k`.
