@@ -86,7 +86,7 @@ pub unfinished_alone : {A : Type 0} (limit : Option ℕ) (s u : List ℕ) (p : V
     → IsAfterFinished s u → LeadsToWithin limit s p → LeadsToWithin limit u p
 unfolding LeadsToWithin
 unfinished_alone limit s u p h (f, i, k) =
-    (f, i, subst (λ v. Holds KeepsText p.limit p.machine v) (after_alone s u h) k)
+    (f, i, subst (λ v. Holds KeepsText p.machine.limit p.machine v) (after_alone s u h) k)
 
 pub added_alone : (limit : Option ℕ) (s u b : List ℕ) → IsAfterFinished s u
     → added_within limit s b ≡ added_within limit u b

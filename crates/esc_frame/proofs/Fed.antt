@@ -146,8 +146,8 @@ event_fed limit p s b x (f, i, h) e k n =
       (
         f,
         i,
-        kept_all KeepsText p.limit p.machine s b
-            (subst (λ u. Holds KeepsText p.limit p.machine u) same h),
+        kept_all KeepsText p.machine.limit p.machine s b
+            (subst (λ u. Holds KeepsText p.machine.limit p.machine u) same h),
       ),
       added_is limit s b ∙ ap (λ u. events_all limit u b) e ∙ n,
     )
@@ -179,8 +179,8 @@ control_fed limit p s bs (Some b) l e k =
 -- who may be given what bytes add may be given what the machine emits of them
 pub may_feed : {S A : Type 0} (V : Actor S) (p : VTParser A) (old : S) (b : List ℕ)
     → p.has_failed ≡ false → MayGive V p b old
-    → V.is_ready old ⊎ ((u : Unfinished) × Holds KeepsText p.limit p.machine u
-    × Awaits V.may V.takes old (events_all p.limit u b))
+    → V.is_ready old ⊎ ((u : Unfinished) × Holds KeepsText p.machine.limit p.machine u
+    × Awaits V.may V.takes old (events_all p.machine.limit u b))
 unfolding HasFailed LeadsToWithin
 may_feed V p old b fine (inl ready) = inl ready
 may_feed V p old b fine (inr (inl failed)) = absurd cc

@@ -7,13 +7,15 @@ use Rattle.esc_frame.specs.declared.classes.Class.{Class}
 use Rattle.esc_frame.specs.declared.classes.Class.TheVariants.{Intermediate, Parameter, Introducer, Final, Delete}
 use Rattle.esc_frame.specs.declared.machine.Machine.{Machine}
 use Rattle.esc_frame.specs.declared.machine.State.TheVariants as state
+use Rattle.esc_frame.specs.declared.utf8.sequence.Outcome.TheVariants as outcomes
+use Rattle.esc_frame.specs.Sequences.{is_pair}
 use Rattle.esc_frame.specs.Classes.{class_of, strip, those, is_text, is_noise, is_breaker, in_body, in_csi, in_osc}
 use Rattle.esc_frame.specs.Events.{Event}
 use Rattle.esc_frame.specs.Leads.Unfinished.{InOsc, InApc, InDcs}
 use Rattle.esc_frame.specs.Machine.Calls.{Moved, Fails}
 use Rattle.esc_frame.specs.Machine.Prefixes.{prefix_of}
 use Rattle.esc_frame.specs.Machine.Keeps.{KeepsDcs, parameters_of}
-use Rattle.esc_frame.specs.Machine.Moves.{inside, goes_on}
+use Rattle.esc_frame.specs.Machine.Moves.{inside, goes_on, osc_pending_move}
 use Rattle.esc_frame.specs.Segments.{Opener, Piece, text_of, kept_of}
 use Rattle.esc_frame.specs.Segments.Piece.{One, Sequence}
 
@@ -63,6 +65,21 @@ body_goes : (c : Class) → in_body c ≡ true → (is_breaker c ≡ false) × (
 body_goes Intermediate h = (refl, refl)
 body_goes Parameter h = (refl, refl)
 body_goes _ h = absurd cc
+
+-- a sequence in an operating system command, which is no control
+pub sequence_pushed : {K A S E : Type 0} (keeps : Option ℕ → K → List ℕ → Type 0)
+    (denied : Option ℕ → Type 0) (stops : Type 0 → List ℕ → Type 0) (limit : Option ℕ)
+    (takes refuses : S → Event → S → Type 0) (result : Result (Unit {0}) E) (m : Machine K A)
+    (o : Opener) (ps : List Piece) (f : List ℕ) (b : ℕ) (c : Class) (old : S)
+    → OnErr result (denied limit) → is_pair (f ++ b ∷ []) ≡ false → m.state ≡ state.Osc
+    → prefix_of m.pending ≡ [] → OnOk result (keeps limit m.text (text_of ps ++ (f ++ b ∷ [])))
+    → Moved keeps (Fails denied stops A) limit true takes refuses result
+    (osc_pending_move limit o ps f b c outcomes.Whole) m old old
+sequence_pushed keeps denied stops limit takes refuses (Ok v) m o ps f b c old r n s p k =
+    rw (n, osc_pending_move)
+    ((s, subst (keeps limit m.text) (text_sequence ps (f ++ b ∷ [])) k, p), refl)
+sequence_pushed keeps denied stops limit takes refuses (Err v) m o ps f b c old r n s p k =
+    rw (n, osc_pending_move) ([], [], refl, inl ((refl, inl r), refl))
 
 module _ {K A S E : Type 0} (keeps : Option ℕ → K → List ℕ → Type 0) (denied : Option ℕ → Type 0)
     (stops : Type 0 → List ℕ → Type 0)

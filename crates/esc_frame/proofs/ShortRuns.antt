@@ -106,16 +106,17 @@ pub stays_took : {K A S E : Type 0} (keeps : Option ℕ → K → List ℕ → T
     (limit : Option ℕ)
     (takes refuses : S → Event → S → Type 0) (is_ready : S → Type 0) (result : Result ℕ E)
     (rest : List ℕ)
-    (m : Machine K A) (old new : S) → IfOk result (λ n. Holds keeps None m Ground)
+    (before m : Machine K A) (old new : S)
+    → IfOk result (λ n. Holds keeps None m Ground × (m.limit ≡ before.limit))
     → Stays takes refuses is_ready result rest old new → IfOk result (λ n. 0 < n)
     → Quietly limit result Ground rest
-    → TookSome keeps denied limit takes refuses is_ready result rest m old new
-stays_took keeps denied limit takes refuses is_ready (Ok n) rest m old new g s p q = (
-  (subst (Holds keeps limit m) (sym s.1) g, s.2 limit, ground_fresh Ground rest n s.1),
+    → TookSome keeps denied limit takes refuses is_ready result rest before m old new
+stays_took keeps denied limit takes refuses is_ready (Ok n) rest before m old new g s p q = (
+  (subst (Holds keeps limit m) (sym s.1) g.0, s.2 limit, ground_fresh Ground rest n s.1),
   q,
-  (p, s.0, s.3),
+  (p, s.0, s.3, g.1),
 )
-stays_took keeps denied limit takes refuses is_ready (Err x) rest m old new g s p q = (
+stays_took keeps denied limit takes refuses is_ready (Err x) rest before m old new g s p q = (
   stops_for ⊥ _ takes refuses _ old new (λ no. absurd no) (s limit),
   tt,
   tt,

@@ -267,23 +267,24 @@ module _ (limit : Option ℕ) (u : Unfinished) (rest : List ℕ) (l : 2 < length
 
     pub opened_took : {K A : Type 0} (keeps : Option ℕ → K → List ℕ → Type 0)
         (denied : Option ℕ → Type 0)
-        (machine : Machine K A) (n : ℕ)
+        (before machine : Machine K A) (n : ℕ)
         → Holds keeps limit machine (after_all u (take n (take (length rest - 2) (drop 2 rest))))
         × FoldsTo takes old
         (events_all limit u (take n (take (length rest - 2) (drop 2 rest)))) new
         × StaysFresh u (take (length rest - 2) (drop 2 rest)) n
         → IsStill limit u (take (length rest - 2) (drop 2 rest)) n → (0 < n)
         × (n ≤ length (take (length rest - 2) (drop 2 rest))) × (is_ready old → is_ready new)
+        × (machine.limit ≡ before.limit)
         → TookSome {E = Unit {0}} keeps denied limit takes refuses is_ready (Ok (2 + n))
-        rest machine old new
-    opened_took keeps denied machine n t q a =
+        rest before machine old new
+    opened_took keeps denied before machine n t q a =
         let k = tail_length rest 2 in (
           ran_took limit takes refuses Ground u rest 2 old old new begin.0
               (quiet_folds takes (events_all limit Ground (take 2 rest)) old begin.1) keeps machine
               n
               opened_first t,
           opened_still n q,
-          (omega (arith, a.0), omega (arith, a.1), a.2),
+          (omega (arith, a.0), omega (arith, a.1), a.2, a.3),
         )
 
     pub opened_stops : {why : Type 0}

@@ -22,8 +22,8 @@ added_within limit s b = drop (length (events_within limit s)) (events_within li
 -- The stream may be what the parser was fed, which keeps no more of a string than the limit: it
 -- keeps what is unfinished of the stream, and has not failed.
 unfoldable pub LeadsToWithin : {A : Type 0} → Option ℕ → List ℕ → VTParser A → Type 0
-LeadsToWithin limit s p = (p.has_failed ≡ false) × (p.limit ≡ limit)
-    × Holds KeepsText p.limit p.machine (after_all Ground s)
+LeadsToWithin limit s p = (p.has_failed ≡ false) × (p.machine.limit ≡ limit)
+    × Holds KeepsText p.machine.limit p.machine (after_all Ground s)
 
 -- an earlier call of the parser was refused memory
 unfoldable pub HasFailed : {A : Type 0} → VTParser A → Type 0

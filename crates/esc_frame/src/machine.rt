@@ -8,7 +8,7 @@ mod ground;
 mod osc;
 mod strings;
 
-ghost use Rattle.std.specs.Prelude.{◌≡◌, ◌⊎◌, ◌<◌, ℕ, Option, None, true, length, take, min, OnOk, IsTrue, ◌↔◌};
+ghost use Rattle.std.specs.Prelude.{◌≡◌, ◌⊎◌, ◌<◌, ℕ, Option, true, length, take, min, OnOk, IsTrue, ◌↔◌};
 ghost use Rattle.esc_frame.specs.Classes.{class_of};
 ghost use Rattle.esc_frame.specs.Events.{Awaits, Takes};
 ghost use Rattle.esc_frame.specs.Leads.{Unfinished, Holds, kept_open};
@@ -18,7 +18,7 @@ ghost use Rattle.esc_frame.specs.Machine.Calls.{Quietly, Fails, is_between};
 ghost use Rattle.esc_frame.specs.Machine.Prefixes.{prefix_of};
 ghost use Rattle.esc_frame.specs.Machine.Keeping.{Holding};
 ghost use Rattle.esc_frame.specs.Machine.Allowed.{KeptSegment};
-ghost use Rattle.esc_frame.specs.Machine.Makes.{Emits, Makes, Consumes, Advances};
+ghost use Rattle.esc_frame.specs.Machine.Makes.{Emits, Makes, Consumes, Advances, StaysReady};
 ghost use Rattle.esc_frame.specs.Machine.Moves.{move, opened, may_grow_in, may_grow_within, after_all, events_all};
 ghost use Rattle.esc_frame.specs.Segments.{Opener};
 
@@ -75,12 +75,15 @@ pub struct Machine<K: Store, A: Allocator> {
     pub text: K,
     // where the calls that need memory take it
     pub alloc: A,
+    // the most bytes that are kept of a string; no call changes it
+    pub limit: Option<usize>,
 }
 
 impl<K: Store, A: Allocator + Copy> Machine<K, A> {
-    /// A machine at the beginning of a stream.
-    pub fn new(text: K, alloc: A) -> Self
-        ensures { Holds K.keeps None result Ground }
+    /// A machine at the beginning of a stream, which keeps no more of a string than the limit.
+    pub fn new(text: K, alloc: A, limit: Option<usize>) -> Self
+        ensures holds { Holds K.keeps limit result Ground }
+        ensures limit { result.limit ≡ limit }
     {
         Machine {
             state: State::Ground,
@@ -91,6 +94,7 @@ impl<K: Store, A: Allocator + Copy> Machine<K, A> {
             header: DcsHeader::new(),
             text,
             alloc,
+            limit,
         }
     }
 }
@@ -129,7 +133,9 @@ impl<K: Store, A: Allocator> Machine<K, A> {
 
     /// What opens here.
     pub fn open(&mut self, kind: Kind)
-        ensures { (limit : Option ℕ) (o : Opener) → Holds K.keeps limit self.new (opened kind o) }
+        ensures holds { (limit : Option ℕ) (o : Opener)
+            → Holds K.keeps limit self.new (opened kind o) }
+        ensures limit { self.new.limit ≡ self.old.limit }
     {
         self.pending = Pending::Nothing;
         match kind {
@@ -155,19 +161,13 @@ impl<K: Store, A: Allocator> Machine<K, A> {
     }
 
     /// Takes a byte.
-    pub fn step<V: Taker>(
-        &mut self,
-        limit: Option<usize>,
-        b: u8,
-        class: Class,
-        actor: &mut V,
-    ) -> Result<()>
-        requires { V.is_ready actor.old ⊎ KeptSegment K.Store limit self.old (λ u.
-            Awaits V.may V.takes actor.old (move limit u b class).1) }
-        ensures moved { class ≡ class_of b → Holding K.Store limit self (λ u.
-            Makes K.Store V.Taker limit (may_grow_in u) result
-            (move limit u b class) self actor) }
-        ensures ready { V.is_ready actor.old → OnOk result (V.is_ready actor.new) }
+    pub fn step<V: Taker>(&mut self, b: u8, class: Class, actor: &mut V) -> Result<()>
+        requires { V.is_ready actor.old ⊎ KeptSegment K.Store self.old (λ u.
+            Awaits V.may V.takes actor.old (move self.old.limit u b class).1) }
+        ensures moved { class ≡ class_of b → Holding K.Store self (λ u.
+            Makes K.Store V.Taker self.old.limit (may_grow_in u) result
+            (move self.old.limit u b class) self actor) }
+        ensures ready { StaysReady V.Taker result self actor }
     {
         match self.state {
             State::Ground => match self.pending {
@@ -179,37 +179,33 @@ impl<K: Store, A: Allocator> Machine<K, A> {
             State::Escape => self.in_escape(b, class, actor),
             State::Csi => self.in_csi(b, class, actor),
             State::Osc => match self.pending {
-                Pending::Nothing => self.in_osc(limit, b, class, actor),
+                Pending::Nothing => self.in_osc(b, class, actor),
                 Pending::One(_) | Pending::Two(_, _) | Pending::Three(_, _, _) =>
-                    self.in_osc_pending(limit, b, class, actor),
+                    self.in_osc_pending(b, class, actor),
             },
-            State::Dcs => self.in_dcs(limit, b, class, actor),
+            State::Dcs => self.in_dcs(b, class, actor),
             State::Data => self.in_data(b, class, actor),
             State::Ignored => self.in_ignored(b, class, actor),
-            State::Apc => self.in_apc(limit, b, class, actor),
+            State::Apc => self.in_apc(b, class, actor),
         }
     }
 
     /// Takes the bytes, one after another. After an error nothing is said of the machine.
-    pub fn take_all<V: Taker>(
-        &mut self,
-        limit: Option<usize>,
-        bytes: &[u8],
-        actor: &mut V,
-    ) -> Result<()>
-        requires { V.is_ready actor.old ⊎ KeptSegment K.Store limit self.old (λ u.
-            Awaits V.may V.takes actor.old (events_all limit u bytes.now)) }
-        ensures holds { Holding K.Store limit self (λ u.
-            OnOk result (Holds K.keeps limit self.new (after_all u bytes.now))) }
-        ensures emitted { Holding K.Store limit self (λ u.
+    pub fn take_all<V: Taker>(&mut self, bytes: &[u8], actor: &mut V) -> Result<()>
+        requires { V.is_ready actor.old ⊎ KeptSegment K.Store self.old (λ u.
+            Awaits V.may V.takes actor.old (events_all self.old.limit u bytes.now)) }
+        ensures holds { Holding K.Store self (λ u.
+            OnOk result (Holds K.keeps self.old.limit self.new (after_all u bytes.now)
+            × (self.new.limit ≡ self.old.limit))) }
+        ensures emitted { Holding K.Store self (λ u.
             Emits V.Taker ((may_grow_within u bytes.now ≡ true)
-            × Fails K.denied V.stops A limit) result
-            (events_all limit u bytes.now) actor) }
+            × Fails K.denied V.stops A self.old.limit) result
+            (events_all self.old.limit u bytes.now) actor) }
         ensures ready { V.is_ready actor.old → OnOk result (V.is_ready actor.new) }
     {
         let mut at = 0;
         while at < bytes.len() {
-            let n = self.take(limit, &bytes[at..], actor)?;
+            let n = self.take(&bytes[at..], actor)?;
             at += n;
         }
         Ok(())
@@ -218,81 +214,71 @@ impl<K: Store, A: Allocator> Machine<K, A> {
     /// Takes a prefix of the bytes, at least one, and returns its length: all but the last tell
     /// nothing and leave something unfinished. After an error nothing is said of the machine.
     #[inline(always)]
-    pub fn take_some<V: Taker>(
-        &mut self,
-        limit: Option<usize>,
-        rest: &[u8],
-        actor: &mut V,
-    ) -> Result<usize>
+    pub fn take_some<V: Taker>(&mut self, rest: &[u8], actor: &mut V) -> Result<usize>
         requires some { 0 < length rest.now }
-        requires ready { V.is_ready actor.old ⊎ KeptSegment K.Store limit self.old (λ u.
-            Awaits V.may V.takes actor.old (events_all limit u rest.now)) }
-        ensures took { Holding K.Store limit self (λ u.
-            Consumes K.Store V.Taker limit result u rest.now self actor) }
-        ensures quiet { Holding K.Store limit self (λ u. Quietly limit result u rest.now) }
-        ensures count { Advances V.Taker result rest.now actor }
+        requires ready { V.is_ready actor.old ⊎ KeptSegment K.Store self.old (λ u.
+            Awaits V.may V.takes actor.old (events_all self.old.limit u rest.now)) }
+        ensures took { Holding K.Store self (λ u.
+            Consumes K.Store V.Taker self.old.limit result u rest.now self actor) }
+        ensures quiet { Holding K.Store self (λ u. Quietly self.old.limit result u rest.now) }
+        ensures count { Advances V.Taker result rest.now self actor }
     {
         match self.state {
             State::Ground => match self.pending {
-                Pending::Nothing => self.take_first(limit, rest, actor),
+                Pending::Nothing => self.take_first(rest, actor),
                 Pending::One(_) | Pending::Two(_, _) | Pending::Three(_, _, _) => self.take_one(
-                    limit, rest, actor,
+                    rest, actor,
                 ),
             },
             State::Csi => self.take_in_csi(rest, actor),
             State::Osc => match self.pending {
-                Pending::Nothing => self.take_in_osc(limit, rest, actor),
+                Pending::Nothing => self.take_in_osc(rest, actor),
                 Pending::One(_) | Pending::Two(_, _) | Pending::Three(_, _, _) => self.take_one(
-                    limit, rest, actor,
+                    rest, actor,
                 ),
             },
-            State::Apc => self.take_in_apc(limit, rest, actor),
-            State::Ignored => self.take_in_ignored(limit, rest, actor),
-            State::Escape => self.take_in_escape(limit, rest, actor),
-            State::Dcs | State::Data => self.take_one(limit, rest, actor),
+            State::Apc => self.take_in_apc(rest, actor),
+            State::Ignored => self.take_in_ignored(rest, actor),
+            State::Escape => self.take_in_escape(rest, actor),
+            State::Dcs | State::Data => self.take_one(rest, actor),
         }
     }
 
     // Takes a prefix of the bytes, at least one, and returns its length.
     #[inline(always)]
-    fn take<V: Taker>(&mut self, limit: Option<usize>, rest: &[u8], actor: &mut V) -> Result<usize>
+    fn take<V: Taker>(&mut self, rest: &[u8], actor: &mut V) -> Result<usize>
         requires some { 0 < length rest.now }
-        requires ready { V.is_ready actor.old ⊎ KeptSegment K.Store limit self.old (λ u.
-            Awaits V.may V.takes actor.old (events_all limit u rest.now)) }
-        ensures took { Holding K.Store limit self (λ u.
-            Consumes K.Store V.Taker limit result u rest.now self actor) }
-        ensures count { Advances V.Taker result rest.now actor }
+        requires ready { V.is_ready actor.old ⊎ KeptSegment K.Store self.old (λ u.
+            Awaits V.may V.takes actor.old (events_all self.old.limit u rest.now)) }
+        ensures took { Holding K.Store self (λ u.
+            Consumes K.Store V.Taker self.old.limit result u rest.now self actor) }
+        ensures count { Advances V.Taker result rest.now self actor }
     {
         match self.state {
             State::Ground => match self.pending {
-                Pending::Nothing => self.take_in_ground(limit, rest, actor),
+                Pending::Nothing => self.take_in_ground(rest, actor),
                 Pending::One(_) | Pending::Two(_, _) | Pending::Three(_, _, _) => self.take_one(
-                    limit, rest, actor,
+                    rest, actor,
                 ),
             },
-            State::Data => self.take_in_data(limit, rest, actor),
+            State::Data => self.take_in_data(rest, actor),
             State::Escape | State::Csi | State::Osc | State::Dcs | State::Ignored | State::Apc =>
-                self.take_some(limit, rest, actor),
+                self.take_some(rest, actor),
         }
     }
 
     /// One byte.
-    pub fn take_one<V: Taker>(
-        &mut self,
-        limit: Option<usize>,
-        rest: &[u8],
-        actor: &mut V,
-    ) -> Result<usize>
+    pub fn take_one<V: Taker>(&mut self, rest: &[u8], actor: &mut V) -> Result<usize>
         requires some { 0 < length rest.now }
-        requires ready { V.is_ready actor.old ⊎ KeptSegment K.Store limit self.old (λ u.
-            Awaits V.may V.takes actor.old (events_all limit u rest.now)) }
+        requires ready { V.is_ready actor.old ⊎ KeptSegment K.Store self.old (λ u.
+            Awaits V.may V.takes actor.old (events_all self.old.limit u rest.now)) }
         requires between { is_between self.old.state (prefix_of self.old.pending) ≡ true }
-        ensures took { Holding K.Store limit self (λ u.
-            Consumes K.Store V.Taker limit result u rest.now self actor) }
-        ensures quiet { (u : Unfinished) → Quietly limit result u rest.now }
-        ensures count { Advances V.Taker result rest.now actor }
+        ensures took { Holding K.Store self (λ u.
+            Consumes K.Store V.Taker self.old.limit result u rest.now self actor) }
+        ensures quiet { (u : Unfinished) → Quietly self.old.limit result u rest.now }
+        ensures count { Advances V.Taker result rest.now self actor }
     {
-        self.step(limit, rest[0], classify(rest[0]), actor)?;
+        self.step(rest[0], classify(rest[0]), actor)?;
         Ok(1)
     }
 }

@@ -29,7 +29,6 @@ use std::alloc::{Allocator, Global};
 #[derive(Drop)]
 pub struct VTParser<A: Allocator = Global> {
     machine: Machine<Kept<A>, A>,
-    limit: Option<usize>,
     has_failed: bool,
 }
 
@@ -43,8 +42,7 @@ impl<A: Allocator> VTParser<A> {
         ensures { LeadsTo [] result }
     {
         VTParser {
-            machine: Machine::new(Kept::new(alloc), alloc),
-            limit: None,
+            machine: Machine::new(Kept::new(alloc), alloc, None),
             has_failed: false,
         }
     }
@@ -61,8 +59,7 @@ impl<A: Allocator> VTParser<A> {
         ensures { LeadsToWithin (Some limit) [] result }
     {
         VTParser {
-            machine: Machine::new(Kept::new(alloc), alloc),
-            limit: Some(limit),
+            machine: Machine::new(Kept::new(alloc), alloc, Some(limit)),
             has_failed: false,
         }
     }
@@ -174,7 +171,7 @@ impl<A: Allocator> VTParser<A> {
         if self.has_failed {
             return Err(ParseError::Failed);
         }
-        match self.machine.step(self.limit, byte, classify(byte), actor) {
+        match self.machine.step(byte, classify(byte), actor) {
             Ok(()) => Ok(()),
             Err(_) => {
                 self.has_failed = true;
@@ -209,7 +206,7 @@ impl<A: Allocator> VTParser<A> {
         if self.has_failed {
             return Err(ParseError::Failed);
         }
-        match self.machine.take_all(self.limit, bytes, actor) {
+        match self.machine.take_all(bytes, actor) {
             Ok(()) => Ok(()),
             Err(_) => {
                 self.has_failed = true;
@@ -244,7 +241,7 @@ impl<A: Allocator> VTParser<A> {
         if bytes.is_empty() {
             return Ok(0);
         }
-        match self.machine.take_some(self.limit, bytes, actor) {
+        match self.machine.take_some(bytes, actor) {
             Ok(n) => Ok(n),
             Err(_) => {
                 self.has_failed = true;

@@ -10,13 +10,16 @@ use Rattle.esc_lent.specs.Emitted.{said, is_run}
 use Rattle.esc_lent.proofs.Notable.{still_notable, goes_through}
 use Rattle.esc_lent.proofs.Noted.{Notes, all_noted, all_run, all_sound, none_lost}
 
-pub taken_few : {S E : Type 0} (is_ready : S
-    → Type 0) (r : Result ℕ E) (n : ℕ) (b : Bool) (rest : List ℕ) (old new : S)
-    → (b ≡ false → r ≡ Ok n) → (b ≡ true → n ≡ 0) → Advances is_ready r rest old new
+pub taken_few : {K A S E : Type 0} (is_ready : S
+    → Type 0) (r : Result ℕ E) (n : ℕ) (b : Bool) (rest : List ℕ) (before machine : Machine K A)
+    (old new : S)
+    → (b ≡ false → r ≡ Ok n) → (b ≡ true → n ≡ 0)
+    → Advances is_ready r rest before machine old new
     → n ≤ length rest
-taken_few is_ready r n true rest old new ok none h = let e : n ≡ 0 = none refl in omega arith
-taken_few is_ready r n false rest old new ok none h =
-    (subst (λ x. Advances is_ready x rest old new) (ok refl) h).1
+taken_few is_ready r n true rest before machine old new ok none h =
+    let e : n ≡ 0 = none refl in omega arith
+taken_few is_ready r n false rest before machine old new ok none h =
+    (subst (λ x. Advances is_ready x rest before machine old new) (ok refl) h).1
 
 -- neither holds
 pub or_parts : (a b : Bool) → (a || b) ≡ false → (a ≡ false) × (b ≡ false)

@@ -40,7 +40,7 @@ fn header_in(parser: &EscParser) -> DcsHeader
     }
 }
 
-/// The machine of this parser, over the memory that it was lent.
+/// The machine of this parser, over the memory that it was lent, whose length is its limit.
 pub fn load<'a, N: Named>(
     parser: &EscParser,
     memory: &'a mut [u8],
@@ -49,8 +49,10 @@ pub fn load<'a, N: Named>(
     requires room { length memory.old ≡ N.room }
     ensures holds { (u : Unfinished) → KeptIn parser.now memory.old u
         → Holds ⟦<BorrowedText<'a, N> as Store>⟧.keeps (Some N.room) result u }
+    ensures limit { result.limit ≡ Some N.room }
 {
-    let count = parser.text.min(memory.len());
+    let room = memory.len();
+    let count = parser.text.min(room);
     Machine {
         state: state_of(parser.state),
         pending: pending_in(parser),
@@ -69,5 +71,6 @@ pub fn load<'a, N: Named>(
             of: PhantomData,
         },
         alloc: NoMemory,
+        limit: Some(room),
     }
 }

@@ -65,10 +65,9 @@ fn step_in<'a, 'b, 'c, N: Named>(
         × GivesSound result.event.now parser.new.queued_kind (length out.old) }
     ensures before { parser.new.has_failed ≡ parser.old.has_failed }
 {
-    let limit = memory.len();
     let mut machine: Machine<BorrowedText<'a, N>, NoMemory> = load(parser, memory);
     let mut recorder: Recorder<'b, 'c, N> = listen(out, event);
-    let (taken, has_failed) = taken_of(machine.take_some(Some(limit), bytes, &mut recorder));
+    let (taken, has_failed) = taken_of(machine.take_some(bytes, &mut recorder));
     parser.queued_kind = recorder.queued_kind;
     parser.queued_value = recorder.queued_value;
     unload(parser, &machine);
@@ -133,6 +132,7 @@ fn let_go<'a, 'b, 'c, N: Named>(
         header: _,
         text,
         alloc: _,
+        limit: _,
     } = machine;
     let BorrowedText {
         memory,

@@ -10,13 +10,14 @@ use Rattle.esc_frame.specs.Leads.{Unfinished, Holds}
 use Rattle.esc_frame.specs.Leads.Unfinished.{InEscape, InCsi, InOsc, InOscPending, InDcs, InData, InApc}
 use Rattle.esc_frame.specs.Limits.{is_read}
 use Rattle.esc_frame.specs.Machine.Prefixes.{prefix_of}
+use Rattle.esc_frame.specs.Machine.Keeping.{StoresText}
 use Rattle.esc_frame.specs.Machine.Keeps.{Keeps, KeepsBody, KeepsDcs, parameters_of}
 use Rattle.esc_frame.specs.Segments.{Opener, Piece, text_of}
 
 -- what is unfinished
-abbrev pub KeptSegment : {K A : Type 0} → Keeper K → Option ℕ → Machine K A → (Unfinished → Type 0)
+abbrev pub KeptSegment : {K A : Type 0} → Keeper K → Machine K A → (Unfinished → Type 0)
     → Type 0
-KeptSegment K limit machine P = (u : Unfinished) × Holds K.keeps limit machine u × P u
+KeptSegment K machine P = (u : Unfinished) × Holds K.keeps machine.limit machine u × P u
 
 -- a text that the store keeps
 abbrev pub KeptText : {K : Type 0} → Keeper K → K → (Option ℕ → List ℕ → Type 0) → Type 0
@@ -45,29 +46,29 @@ KeptCsiAnd more machine P = (limit : Option ℕ) × (o : Opener) × (x : List �
 
 -- ---- osc string: the text
 
-abbrev pub KeptOsc : {K A : Type 0} → Keeper K → Option ℕ → Machine K A → (Unfinished → Type 0)
+abbrev pub KeptOsc : {K A : Type 0} → Keeper K → Machine K A → (Unfinished → Type 0)
     → Type 0
-KeptOsc K limit machine P = (o : Opener) × (ps : List Piece)
-    × K.keeps limit machine.text (text_of ps) × P (InOsc o ps)
+KeptOsc K machine P = (o : Opener) × (ps : List Piece)
+    × StoresText K machine (text_of ps) × P (InOsc o ps)
 
-abbrev pub KeptOscAnd : {K A : Type 0} → Keeper K → Option ℕ → List ℕ → Machine K A
+abbrev pub KeptOscAnd : {K A : Type 0} → Keeper K → List ℕ → Machine K A
     → (Unfinished → Type 0)
     → Type 0
-KeptOscAnd K limit more machine P = (o : Opener) × (ps : List Piece)
-    × K.keeps limit machine.text (text_of ps ++ more) × P (InOsc o ps)
+KeptOscAnd K more machine P = (o : Opener) × (ps : List Piece)
+    × StoresText K machine (text_of ps ++ more) × P (InOsc o ps)
 
-abbrev pub KeptPieces : {K A : Type 0} → Keeper K → Option ℕ → Machine K A
+abbrev pub KeptPieces : {K A : Type 0} → Keeper K → Machine K A
     → (Opener → List Piece → Type 0)
     → Type 0
-KeptPieces K limit machine P = (o : Opener) × (ps : List Piece)
-    × K.keeps limit machine.text (text_of ps) × P o ps
+KeptPieces K machine P = (o : Opener) × (ps : List Piece)
+    × StoresText K machine (text_of ps) × P o ps
 
 -- in which a UTF-8 sequence has begun
-abbrev pub KeptOscPending : {K A : Type 0} → Keeper K → Option ℕ → Machine K A
+abbrev pub KeptOscPending : {K A : Type 0} → Keeper K → Machine K A
     → (Unfinished → Type 0)
     → Type 0
-KeptOscPending K limit machine P = (o : Opener) × (ps : List Piece)
-    × K.keeps limit machine.text (text_of ps)
+KeptOscPending K machine P = (o : Opener) × (ps : List Piece)
+    × StoresText K machine (text_of ps)
     × P (InOscPending o ps (prefix_of machine.pending))
 
 -- of which no text has come
@@ -76,26 +77,26 @@ NewOsc P = (o : Opener) × (ps : List Piece) × (text_of ps ≡ []) × P (InOsc 
 
 -- ---- apc string: the text
 
-abbrev pub KeptApc : {K A : Type 0} → Keeper K → Option ℕ → Machine K A → (Unfinished → Type 0)
+abbrev pub KeptApc : {K A : Type 0} → Keeper K → Machine K A → (Unfinished → Type 0)
     → Type 0
-KeptApc K limit machine P = (o : Opener) × (d : List ℕ)
-    × K.keeps limit machine.text (those is_text d) × P (InApc o d)
+KeptApc K machine P = (o : Opener) × (d : List ℕ)
+    × StoresText K machine (those is_text d) × P (InApc o d)
 
-abbrev pub KeptApcAnd : {K A : Type 0} → Keeper K → Option ℕ → List ℕ → Machine K A
+abbrev pub KeptApcAnd : {K A : Type 0} → Keeper K → List ℕ → Machine K A
     → (Unfinished → Type 0)
     → Type 0
-KeptApcAnd K limit more machine P = (o : Opener) × (d : List ℕ)
-    × K.keeps limit machine.text (those is_text d ++ more) × P (InApc o d)
+KeptApcAnd K more machine P = (o : Opener) × (d : List ℕ)
+    × StoresText K machine (those is_text d ++ more) × P (InApc o d)
 
 abbrev pub NewApc : (Unfinished → Type 0) → Type 0
 NewApc P = (o : Opener) × (d : List ℕ) × (those is_text d ≡ []) × P (InApc o d)
 
 -- ---- dcs entry, param and intermediate: the header
 
-abbrev pub KeptDcs : {K A : Type 0} → Keeper K → Option ℕ → Machine K A → (Unfinished → Type 0)
+abbrev pub KeptDcs : {K A : Type 0} → Keeper K → Machine K A → (Unfinished → Type 0)
     → Type 0
-KeptDcs K limit machine P = (o : Opener) × (x : List ℕ)
-    × K.keeps limit machine.text (parameters_of (strip x)) × KeepsDcs machine.header (strip x)
+KeptDcs K machine P = (o : Opener) × (x : List ℕ)
+    × StoresText K machine (parameters_of (strip x)) × KeepsDcs machine.header (strip x)
     × P (InDcs o x)
 
 -- a header that is hooked, within a store and a `DcsHeader`

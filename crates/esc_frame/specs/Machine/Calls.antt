@@ -56,10 +56,14 @@ Took {K} {A} keeps denied limit takes refuses result u rest machine old new =
     (λ _. StopsAt ((may_grow_within u rest ≡ true) × denied limit) takes refuses old
     (events_all limit u rest) new)
 
--- it took a byte at least, and no more than there are, and the actor stays ready
-abbrev pub Advances : {S E : Type 0} → (S → Type 0) → Result ℕ E → List ℕ → S → S → Type 0
-Advances is_ready result rest old new =
-    IfOk result (λ n. (0 < n) × (n ≤ length rest) × (is_ready old → is_ready new))
+-- it took a byte at least, and no more than there are, the actor stays ready, and the machine keeps
+-- its limit
+abbrev pub Advances : {K A S E : Type 0} → (S → Type 0) → Result ℕ E → List ℕ → Machine K A
+    → Machine K A → S → S
+    → Type 0
+Advances is_ready result rest before machine old new =
+    IfOk result (λ n. (0 < n) × (n ≤ length rest) × (is_ready old → is_ready new)
+    × (machine.limit ≡ before.limit))
 
 -- of the bytes that it took, all but the last tell nothing and leave something unfinished
 abbrev pub Quietly : {E : Type 0} → Option ℕ → Result ℕ E → Unfinished → List ℕ → Type 0
@@ -99,12 +103,12 @@ Stays takes refuses is_ready result rest old new =
 abbrev pub TookSome : {K A S E : Type 0} → (Option ℕ → K → List ℕ → Type 0) → (Option ℕ → Type 0)
     → Option ℕ
     → (S → Event → S → Type 0) → (S → Event → S → Type 0) → (S → Type 0) → Result ℕ E → List ℕ
-    → Machine K A → S → S
+    → Machine K A → Machine K A → S → S
     → Type 0
-TookSome keeps denied limit takes refuses is_ready result rest machine old new =
+TookSome keeps denied limit takes refuses is_ready result rest before machine old new =
     Took keeps denied limit takes refuses result Ground rest machine old new
     × Quietly limit result Ground rest
-    × Advances is_ready result rest old new
+    × Advances is_ready result rest before machine old new
 
 -- The machine is in no OSC or APC, but where these bytes of a sequence pend in an OSC.
 abbrev pub is_between : State → List ℕ → Bool

@@ -15,11 +15,15 @@ use Rattle.esc_frame.specs.Machine.Keeps.{Keeps, KeepsBody, KeepsDcs, parameters
 use Rattle.esc_frame.specs.Machine.Moves.{is_borrowable}
 use Rattle.esc_frame.specs.Segments.{Opener, Piece, text_of}
 
+-- the store of the machine keeps this text, as far as its limit allows
+abbrev pub StoresText : {K A : Type 0} → Keeper K → Machine K A → List ℕ → Type 0
+StoresText K machine text = K.keeps machine.limit machine.text text
+
 -- whatever is unfinished
-abbrev pub Holding : {K A : Type 0} → Keeper K → Option ℕ → Changed (Machine K A)
+abbrev pub Holding : {K A : Type 0} → Keeper K → Changed (Machine K A)
     → (Unfinished → Type 0)
     → Type 0
-Holding K limit self P = (u : Unfinished) → Holds K.keeps limit self.entry.now u → P u
+Holding K self P = (u : Unfinished) → Holds K.keeps self.entry.now.limit self.entry.now u → P u
 
 -- where not all strings in the rest can be lent
 abbrev pub Unborrowed : List ℕ → (Unfinished → Type 0) → Unfinished → Type 0
@@ -61,28 +65,28 @@ AnyCsi P = (limit : Option ℕ) (o : Opener) (x : List ℕ) → P limit (InCsi o
 
 -- ---- osc string: the text
 
-abbrev pub KeepingOsc : {K A : Type 0} → Keeper K → Option ℕ → Changed (Machine K A)
+abbrev pub KeepingOsc : {K A : Type 0} → Keeper K → Changed (Machine K A)
     → (Unfinished → Type 0)
     → Type 0
-KeepingOsc K limit self P =
-    (o : Opener) (ps : List Piece) → K.keeps limit self.entry.now.text (text_of ps)
+KeepingOsc K self P =
+    (o : Opener) (ps : List Piece) → StoresText K self.entry.now (text_of ps)
     → P (InOsc o ps)
 
 -- of which these bytes come next, and are kept already
-abbrev pub KeepingOscAnd : {K A : Type 0} → Keeper K → Option ℕ → List ℕ → Changed (Machine K A)
+abbrev pub KeepingOscAnd : {K A : Type 0} → Keeper K → List ℕ → Changed (Machine K A)
     → (Unfinished → Type 0)
     → Type 0
-KeepingOscAnd K limit more self P =
-    (o : Opener) (ps : List Piece) → K.keeps limit self.entry.now.text (text_of ps ++ more)
+KeepingOscAnd K more self P =
+    (o : Opener) (ps : List Piece) → StoresText K self.entry.now (text_of ps ++ more)
     → P (InOsc o ps)
 
 -- in which a UTF-8 sequence has begun
-abbrev pub KeepingOscPending : {K A : Type 0} → Keeper K → Option ℕ → Changed (Machine K A)
+abbrev pub KeepingOscPending : {K A : Type 0} → Keeper K → Changed (Machine K A)
     → (Unfinished → Type 0)
     → Type 0
-KeepingOscPending K limit self P =
+KeepingOscPending K self P =
     (o : Opener) (ps : List Piece) (f : List ℕ)
-    → K.keeps limit self.entry.now.text (text_of ps) → prefix_of self.entry.now.pending ≡ f
+    → StoresText K self.entry.now (text_of ps) → prefix_of self.entry.now.pending ≡ f
     → P (InOscPending o ps f)
 
 -- of which no text has come
@@ -95,19 +99,19 @@ AnyOsc P = (o : Opener) (ps : List Piece) → P (InOsc o ps)
 
 -- ---- apc string: the text
 
-abbrev pub KeepingApc : {K A : Type 0} → Keeper K → Option ℕ → Changed (Machine K A)
+abbrev pub KeepingApc : {K A : Type 0} → Keeper K → Changed (Machine K A)
     → (Unfinished → Type 0)
     → Type 0
-KeepingApc K limit self P =
-    (o : Opener) (d : List ℕ) → K.keeps limit self.entry.now.text (those is_text d)
+KeepingApc K self P =
+    (o : Opener) (d : List ℕ) → StoresText K self.entry.now (those is_text d)
     → P (InApc o d)
 
 -- of which these bytes come next, and are kept already
-abbrev pub KeepingApcAnd : {K A : Type 0} → Keeper K → Option ℕ → List ℕ → Changed (Machine K A)
+abbrev pub KeepingApcAnd : {K A : Type 0} → Keeper K → List ℕ → Changed (Machine K A)
     → (Unfinished → Type 0)
     → Type 0
-KeepingApcAnd K limit more self P =
-    (o : Opener) (d : List ℕ) → K.keeps limit self.entry.now.text (those is_text d ++ more)
+KeepingApcAnd K more self P =
+    (o : Opener) (d : List ℕ) → StoresText K self.entry.now (those is_text d ++ more)
     → P (InApc o d)
 
 -- of which no text has come
@@ -120,11 +124,11 @@ AnyApc P = (o : Opener) (d : List ℕ) → P (InApc o d)
 
 -- ---- dcs entry, param and intermediate: the header
 
-abbrev pub KeepingDcs : {K A : Type 0} → Keeper K → Option ℕ → Changed (Machine K A)
+abbrev pub KeepingDcs : {K A : Type 0} → Keeper K → Changed (Machine K A)
     → (Unfinished → Type 0)
     → Type 0
-KeepingDcs K limit self P =
-    (o : Opener) (x : List ℕ) → K.keeps limit self.entry.now.text (parameters_of (strip x))
+KeepingDcs K self P =
+    (o : Opener) (x : List ℕ) → StoresText K self.entry.now (parameters_of (strip x))
     → KeepsDcs self.entry.now.header (strip x)
     → P (InDcs o x)
 

@@ -1,12 +1,13 @@
 -- What a call does, said of a store and an actor (`K.Store`, `V.Taker`), and of the machine and
 -- the actor before the call and after it (`self`, `actor`). Only private contracts cite it.
-use Rattle.std.specs.Prelude.{ℕ, Bool, List, Option, Result}
+use Rattle.std.specs.Prelude.{ℕ, ◌≡◌, Bool, List, Option, None, Result, IfOk, OnOk}
 use Rattle.esc_frame.specs.declared.taker.Taker.{Ghosts as Actor}
 use Rattle.esc_frame.specs.declared.machine.Machine.{Machine}
 use Rattle.esc_frame.specs.declared.unfinished.store.Store.{Ghosts as Keeper}
 use Rattle.esc_frame.specs.Changed.{Changed}
 use Rattle.esc_frame.specs.Events.{Event, MayGet, Receives, Takes}
-use Rattle.esc_frame.specs.Leads.{Unfinished}
+use Rattle.esc_frame.specs.Leads.{Unfinished, Holds}
+use Rattle.esc_frame.specs.Leads.Unfinished.{Ground}
 use Rattle.esc_frame.specs.Machine.Calls as calls
 use Rattle.esc_frame.specs.Machine.Moves.{Move}
 
@@ -60,7 +61,7 @@ abbrev pub ConsumesSome : {K A S E : Type 0} → Keeper K → Actor S → Option
     → Type 0
 ConsumesSome {A} K V limit result rest self actor =
     calls.TookSome K.keeps (calls.Fails K.denied V.stops A) limit V.takes V.refuses V.is_ready
-    result rest self.exit.now
+    result rest self.entry.now self.exit.now
     actor.entry.now actor.exit.now
 
 -- bytes that leave nothing unfinished in ground: their events are emitted
@@ -68,7 +69,24 @@ abbrev pub StaysInGround : {S E : Type 0} → Actor S → Result ℕ E → List 
 StaysInGround V result rest actor =
     calls.Stays V.takes V.refuses V.is_ready result rest actor.entry.now actor.exit.now
 
--- one byte at least was consumed, and no more than there are, and the actor stays ready
-abbrev pub Advances : {S E : Type 0} → Actor S → Result ℕ E → List ℕ → Changed S → Type 0
-Advances V result rest actor =
-    calls.Advances V.is_ready result rest actor.entry.now actor.exit.now
+-- the machine is in ground, and keeps its limit
+abbrev pub StaysAtGround : {K A T E : Type 0} → Keeper K → Result T E → Changed (Machine K A)
+    → Type 0
+StaysAtGround K result self =
+    IfOk result (λ n. Holds K.keeps None self.exit.now Ground
+    × (self.exit.now.limit ≡ self.entry.now.limit))
+
+-- the machine keeps its limit, and the actor stays ready
+abbrev pub StaysReady : {K A S T E : Type 0} → Actor S → Result T E → Changed (Machine K A)
+    → Changed S → Type 0
+StaysReady V result self actor =
+    (self.exit.now.limit ≡ self.entry.now.limit)
+    × (V.is_ready actor.entry.now → OnOk result (V.is_ready actor.exit.now))
+
+-- one byte at least was consumed, and no more than there are, the machine keeps its limit, and the
+-- actor stays ready
+abbrev pub Advances : {K A S E : Type 0} → Actor S → Result ℕ E → List ℕ → Changed (Machine K A)
+    → Changed S → Type 0
+Advances V result rest self actor =
+    calls.Advances V.is_ready result rest self.entry.now self.exit.now
+    actor.entry.now actor.exit.now

@@ -9,7 +9,7 @@ ghost use Rattle.esc_frame.specs.Limits.{is_read};
 ghost use Rattle.esc_frame.specs.Machine.Calls.{Stops};
 ghost use Rattle.esc_frame.specs.Machine.Keeping.{Holding, KeepingDcs, KeepingHeader, InPassthrough};
 ghost use Rattle.esc_frame.specs.Machine.Allowed.{KeptDcs, KeptHeader, KeptPassthrough, KeptSegment};
-ghost use Rattle.esc_frame.specs.Machine.Makes.{MayEmit, Emits, Makes, Consumes, Advances};
+ghost use Rattle.esc_frame.specs.Machine.Makes.{MayEmit, Emits, Makes, Consumes, Advances, StaysReady};
 ghost use Rattle.esc_frame.specs.Machine.Keeps.{KeepsDcs, parameters_of};
 ghost use Rattle.esc_frame.specs.Machine.Moves.{events_all, emitting, ground_move, move};
 ghost use Rattle.esc_frame.specs.Segments.{hook_event};
@@ -25,25 +25,20 @@ use std::alloc::Allocator;
 impl<K: Store, A: Allocator> Machine<K, A> {
     /// A byte after a DCS's opener and x.
     #[tactic(auto, using(crate::proofs::Given::takes_moved))]
-    pub fn in_dcs<V: Taker>(
-        &mut self,
-        limit: Option<usize>,
-        b: u8,
-        class: Class,
-        actor: &mut V,
-    ) -> Result<()>
-        requires { V.is_ready actor.old ⊎ KeptDcs K.Store limit self.old (λ u.
-            Awaits V.may V.takes actor.old (move limit u b class).1) }
-        ensures moved { class ≡ class_of b → KeepingDcs K.Store limit self (λ u.
-            Makes K.Store V.Taker limit true result (move limit u b class) self actor) }
-        ensures ready { V.is_ready actor.old → OnOk result (V.is_ready actor.new) }
+    pub fn in_dcs<V: Taker>(&mut self, b: u8, class: Class, actor: &mut V) -> Result<()>
+        requires { V.is_ready actor.old ⊎ KeptDcs K.Store self.old (λ u.
+            Awaits V.may V.takes actor.old (move self.old.limit u b class).1) }
+        ensures moved { class ≡ class_of b → KeepingDcs K.Store self (λ u.
+            Makes K.Store V.Taker self.old.limit true result
+            (move self.old.limit u b class) self actor) }
+        ensures ready { StaysReady V.Taker result self actor }
     {
         self.state = State::Dcs;
         match class {
             Class::Breaks(_) => self.in_ground(b, class, actor),
             Class::C0 | Class::Bell | Class::Delete | Class::High | Class::Lead => Ok(()),
             Class::Intermediate | Class::Parameter => keep(
-                limit,
+                self.limit,
                 &mut self.header,
                 &mut self.text,
                 b,
@@ -67,7 +62,7 @@ impl<K: Store, A: Allocator> Machine<K, A> {
             Awaits V.may V.takes actor.old (move limit u b class).1) }
         ensures moved { InPassthrough (λ limit u.
             Makes K.Store V.Taker limit true result (move limit u b class) self actor) }
-        ensures ready { V.is_ready actor.old → OnOk result (V.is_ready actor.new) }
+        ensures ready { StaysReady V.Taker result self actor }
     {
         self.state = State::Data;
         match class {
@@ -90,7 +85,7 @@ impl<K: Store, A: Allocator> Machine<K, A> {
         ensures moved { (limit : Option ℕ)
             → Makes K.Store V.Taker limit true result
             (emitting (DcsUnhook ∷ []) (ground_move b class)) self actor }
-        ensures ready { V.is_ready actor.old → OnOk result (V.is_ready actor.new) }
+        ensures ready { StaysReady V.Taker result self actor }
     {
         actor.dcs_unhook()?;
         self.in_ground(b, class, actor)
@@ -98,23 +93,18 @@ impl<K: Store, A: Allocator> Machine<K, A> {
 
     /// The run of 20-7E in the data of a device control string.
     #[inline(always)]
-    pub fn take_in_data<V: Taker>(
-        &mut self,
-        limit: Option<usize>,
-        rest: &[u8],
-        actor: &mut V,
-    ) -> Result<usize>
+    pub fn take_in_data<V: Taker>(&mut self, rest: &[u8], actor: &mut V) -> Result<usize>
         requires some { 0 < length rest.now }
-        requires ready { V.is_ready actor.old ⊎ KeptSegment K.Store limit self.old (λ u.
-            Awaits V.may V.takes actor.old (events_all limit u rest.now)) }
+        requires ready { V.is_ready actor.old ⊎ KeptSegment K.Store self.old (λ u.
+            Awaits V.may V.takes actor.old (events_all self.old.limit u rest.now)) }
         requires state { self.old.state ≡ State.Data }
-        ensures took { Holding K.Store limit self (λ u.
-            Consumes K.Store V.Taker limit result u rest.now self actor) }
-        ensures count { Advances V.Taker result rest.now actor }
+        ensures took { Holding K.Store self (λ u.
+            Consumes K.Store V.Taker self.old.limit result u rest.now self actor) }
+        ensures count { Advances V.Taker result rest.now self actor }
     {
         let run = data_run(rest);
         if run == 0 {
-            return self.take_one(limit, rest, actor);
+            return self.take_one(rest, actor);
         }
         actor.dcs_put_text(&rest[..run])?;
         Ok(run)

@@ -11,7 +11,7 @@ ghost use Rattle.esc_frame.specs.Machine.Calls.{Quietly};
 ghost use Rattle.esc_frame.specs.Machine.Keeping.{Holding, KeepingEscape, KeepingCsi, KeepingCsiAnd, AnyCsi};
 ghost use Rattle.esc_frame.specs.Machine.Allowed.{KeptBody, KeptCsi, KeptCsiAnd, KeptEscape, KeptSegment};
 ghost use Rattle.esc_frame.specs.Events.{Awaits};
-ghost use Rattle.esc_frame.specs.Machine.Makes.{MayEmit, MayEmitAll, Emits, EmitsOne, Makes, Consumes, ConsumesSome, StaysInGround, Advances};
+ghost use Rattle.esc_frame.specs.Machine.Makes.{MayEmit, MayEmitAll, Emits, EmitsOne, Makes, Consumes, ConsumesSome, StaysInGround, Advances, StaysReady, StaysAtGround};
 ghost use Rattle.esc_frame.specs.Machine.Keeps.{KeepsBody};
 ghost use Rattle.esc_frame.specs.Machine.Shorts.{IsShort};
 ghost use Rattle.esc_frame.specs.Scans.{is_body_byte};
@@ -36,7 +36,7 @@ impl<K: Store, A: Allocator> Machine<K, A> {
             Awaits V.may V.takes actor.old (move limit u b class).1) }
         ensures moved { class ≡ class_of b → KeepingEscape self (λ limit own u.
             Makes K.Store V.Taker limit own result (move limit u b class) self actor) }
-        ensures ready { V.is_ready actor.old → OnOk result (V.is_ready actor.new) }
+        ensures ready { StaysReady V.Taker result self actor }
     {
         self.state = State::Escape;
         match class {
@@ -61,24 +61,20 @@ impl<K: Store, A: Allocator> Machine<K, A> {
 
     /// The `\` after an ESC that ended a string; else nothing.
     #[inline(always)]
-    pub fn take_terminator<V: Taker>(
-        &mut self,
-        limit: Option<usize>,
-        rest: &[u8],
-        actor: &mut V,
-    ) -> Result<usize>
-        requires { V.is_ready actor.old ⊎ KeptSegment K.Store limit self.old (λ u.
-            Awaits V.may V.takes actor.old (events_all limit u rest.now)) }
-        ensures took { Holding K.Store limit self (λ u.
-            Consumes K.Store V.Taker limit result u rest.now self actor) }
+    pub fn take_terminator<V: Taker>(&mut self, rest: &[u8], actor: &mut V) -> Result<usize>
+        requires { V.is_ready actor.old ⊎ KeptSegment K.Store self.old (λ u.
+            Awaits V.may V.takes actor.old (events_all self.old.limit u rest.now)) }
+        ensures took { Holding K.Store self (λ u.
+            Consumes K.Store V.Taker self.old.limit result u rest.now self actor) }
         ensures count { IfOk result (λ n. (n ≤ length rest.now)
-            × (V.is_ready actor.old → V.is_ready actor.new)) }
+            × (V.is_ready actor.old → V.is_ready actor.new)
+            × (self.new.limit ≡ self.old.limit)) }
     {
         if rest.is_empty() || rest[0] != b'\\' {
             return Ok(0);
         }
         if let State::Escape = self.state {
-            self.take_in_escape(limit, rest, actor)
+            self.take_in_escape(rest, actor)
         } else {
             Ok(0)
         }
@@ -86,20 +82,15 @@ impl<K: Store, A: Allocator> Machine<K, A> {
 
     /// A byte in an escape sequence.
     #[inline(always)]
-    pub fn take_in_escape<V: Taker>(
-        &mut self,
-        limit: Option<usize>,
-        rest: &[u8],
-        actor: &mut V,
-    ) -> Result<usize>
+    pub fn take_in_escape<V: Taker>(&mut self, rest: &[u8], actor: &mut V) -> Result<usize>
         requires some { 0 < length rest.now }
-        requires ready { V.is_ready actor.old ⊎ KeptSegment K.Store limit self.old (λ u.
-            Awaits V.may V.takes actor.old (events_all limit u rest.now)) }
+        requires ready { V.is_ready actor.old ⊎ KeptSegment K.Store self.old (λ u.
+            Awaits V.may V.takes actor.old (events_all self.old.limit u rest.now)) }
         requires state { self.old.state ≡ State.Escape }
-        ensures took { Holding K.Store limit self (λ u.
-            Consumes K.Store V.Taker limit result u rest.now self actor) }
-        ensures quiet { (u : Unfinished) → Quietly limit result u rest.now }
-        ensures count { Advances V.Taker result rest.now actor }
+        ensures took { Holding K.Store self (λ u.
+            Consumes K.Store V.Taker self.old.limit result u rest.now self actor) }
+        ensures quiet { (u : Unfinished) → Quietly self.old.limit result u rest.now }
+        ensures count { Advances V.Taker result rest.now self actor }
     {
         self.in_escape(rest[0], classify(rest[0]), actor)?;
         Ok(1)
@@ -114,7 +105,7 @@ impl<K: Store, A: Allocator> Machine<K, A> {
         ensures emitted { EmitsOne V.Taker result
             (EscDispatch (take self.old.intermediates.kept self.old.intermediates.bytes)
             self.old.intermediates.ignored b) actor }
-        ensures ready { V.is_ready actor.old → OnOk result (V.is_ready actor.new) }
+        ensures ready { StaysReady V.Taker result self actor }
     {
         self.state = State::Ground;
         self.pending = Pending::Nothing;
@@ -133,7 +124,7 @@ impl<K: Store, A: Allocator> Machine<K, A> {
             Awaits V.may V.takes actor.old (move limit u b class).1) }
         ensures moved { class ≡ class_of b → KeepingCsi self (λ limit u.
             Makes K.Store V.Taker limit false result (move limit u b class) self actor) }
-        ensures ready { V.is_ready actor.old → OnOk result (V.is_ready actor.new) }
+        ensures ready { StaysReady V.Taker result self actor }
     {
         self.state = State::Csi;
         match class {
@@ -155,7 +146,7 @@ impl<K: Store, A: Allocator> Machine<K, A> {
             Awaits V.may V.takes actor.old (csi_events x b)) }
         ensures moved { (limit : Option ℕ) (x : List ℕ) → KeepsBody self.old.body x
             → Makes K.Store V.Taker limit false result (Ground, csi_events x b) self actor }
-        ensures ready { V.is_ready actor.old → OnOk result (V.is_ready actor.new) }
+        ensures ready { StaysReady V.Taker result self actor }
     {
         self.state = State::Ground;
         self.pending = Pending::Nothing;
@@ -168,21 +159,16 @@ impl<K: Store, A: Allocator> Machine<K, A> {
 
     /// ESC and at least two bytes more, in ground.
     #[inline(always)]
-    pub fn take_escape<V: Taker>(
-        &mut self,
-        limit: Option<usize>,
-        rest: &[u8],
-        actor: &mut V,
-    ) -> Result<usize>
+    pub fn take_escape<V: Taker>(&mut self, rest: &[u8], actor: &mut V) -> Result<usize>
         requires some { 2 < length rest.now }
         requires escape { slice_index rest.now 0 ≡ 0x1b }
-        requires ready { MayEmit V.Taker (events_all limit Ground rest.now) actor.old }
-        ensures { ConsumesSome K.Store V.Taker limit result rest.now self actor }
+        requires ready { MayEmit V.Taker (events_all self.old.limit Ground rest.now) actor.old }
+        ensures { ConsumesSome K.Store V.Taker self.old.limit result rest.now self actor }
     {
         if rest[1] == b'[' {
             self.take_csi(rest, actor)
         } else if rest[1] == b']' {
-            self.take_osc(limit, rest, actor)
+            self.take_osc(rest, actor)
         } else {
             self.take_one_in_ground(rest, actor)
         }
@@ -194,7 +180,7 @@ impl<K: Store, A: Allocator> Machine<K, A> {
         requires escape { slice_index rest.now 0 ≡ 0x1b }
         requires ready { MayEmitAll V.Taker Ground rest.now actor.old }
         requires ground { Holds K.keeps None self.old Ground }
-        ensures ground { IfOk result (λ n. Holds K.keeps None self.new Ground) }
+        ensures ground { StaysAtGround K.Store result self }
         ensures stays { StaysInGround V.Taker result rest.now actor }
     {
         if rest.len() <= 2 {
@@ -249,7 +235,7 @@ impl<K: Store, A: Allocator> Machine<K, A> {
         requires ends { is_from 0x40 0x7e (slice_index rest.now (run + 2)) ≡ true }
         requires ground { Holds K.keeps None self.old Ground }
         requires ready { MayEmitAll V.Taker Ground rest.now actor.old }
-        ensures ground { IfOk result (λ n. Holds K.keeps None self.new Ground) }
+        ensures ground { StaysAtGround K.Store result self }
         ensures stays { StaysInGround V.Taker result rest.now actor }
         ensures some { IfOk result (λ n. 0 < n) }
         ensures quiet { (limit : Option ℕ) → Quietly limit result Ground rest.now }
@@ -282,7 +268,7 @@ impl<K: Store, A: Allocator> Machine<K, A> {
         ensures took { KeepingCsi self (λ limit u.
             Consumes K.Store V.Taker limit result u rest.now self actor) }
         ensures quiet { AnyCsi (λ limit u. Quietly limit result u rest.now) }
-        ensures count { Advances V.Taker result rest.now actor }
+        ensures count { Advances V.Taker result rest.now self actor }
     {
         let run = push_run(&mut self.body, rest);
         self.take_after_body(rest, run, actor)
@@ -300,7 +286,7 @@ impl<K: Store, A: Allocator> Machine<K, A> {
         ensures took { KeepingCsiAnd (take run rest.now) self (λ limit u.
             Consumes K.Store V.Taker limit result u rest.now self actor) }
         ensures quiet { AnyCsi (λ limit u. Quietly limit result u rest.now) }
-        ensures count { Advances V.Taker result rest.now actor }
+        ensures count { Advances V.Taker result rest.now self actor }
     {
         if run == rest.len() {
             return Ok(run);
@@ -316,7 +302,7 @@ impl<K: Store, A: Allocator> Machine<K, A> {
             Awaits V.may V.takes actor.old (move limit u b (class_of b)).1) }
         ensures moved { KeepingCsi self (λ limit u.
             Makes K.Store V.Taker limit false result (move limit u b (class_of b)) self actor) }
-        ensures ready { V.is_ready actor.old → OnOk result (V.is_ready actor.new) }
+        ensures ready { StaysReady V.Taker result self actor }
     {
         if 0x40 <= b && b <= 0x7e {
             self.dispatch_csi(b, actor)

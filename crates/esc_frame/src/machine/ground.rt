@@ -1,12 +1,12 @@
 //! The machine in ground: characters, controls, and what opens.
 #![tactic(auto)]
 
-ghost use Rattle.std.specs.Prelude.{◌≡◌, ◌<◌, ◌++◌, ◌∷◌, ℕ, List, Option, None, [], Bool, true, length, OnOk, IfOk};
+ghost use Rattle.std.specs.Prelude.{◌≡◌, ◌<◌, ◌++◌, ◌∷◌, ℕ, List, Option, None, [], Bool, true, length};
 ghost use Rattle.esc_frame.specs.Classes.{class_of};
 ghost use Rattle.esc_frame.specs.Leads.{Holds};
 ghost use Rattle.esc_frame.specs.Leads.Unfinished.{Ground, InEscape};
 ghost use Rattle.esc_frame.specs.Machine.Prefixes.{prefix_of};
-ghost use Rattle.esc_frame.specs.Machine.Makes.{MayEmit, MayEmitAll, Makes, AlwaysMakes, Consumes, ConsumesSome, StaysInGround, Advances};
+ghost use Rattle.esc_frame.specs.Machine.Makes.{MayEmit, MayEmitAll, Makes, AlwaysMakes, Consumes, ConsumesSome, StaysInGround, Advances, StaysReady, StaysAtGround};
 ghost use Rattle.esc_frame.specs.Machine.Moves.{events_all, emitting, ground_move, pair_move, pending_move};
 ghost use Rattle.esc_frame.specs.Events.Event.{Print};
 ghost use Rattle.esc_frame.specs.Sequences.{outcome, is_sequence};
@@ -26,7 +26,7 @@ impl<K: Store, A: Allocator> Machine<K, A> {
     pub fn in_ground<V: Taker>(&mut self, b: u8, class: Class, actor: &mut V) -> Result<()>
         requires { MayEmit V.Taker (ground_move b class).1 actor.old }
         ensures moved { AlwaysMakes K.Store V.Taker result (ground_move b class) self actor }
-        ensures ready { V.is_ready actor.old → OnOk result (V.is_ready actor.new) }
+        ensures ready { StaysReady V.Taker result self actor }
     {
         self.state = State::Ground;
         self.pending = Pending::Nothing;
@@ -49,7 +49,8 @@ impl<K: Store, A: Allocator> Machine<K, A> {
     /// ESC begins an escape sequence.
     #[inline(always)]
     pub fn enter_escape(&mut self)
-        ensures { (limit : Option ℕ) → Holds K.keeps limit self.new (InEscape []) }
+        ensures holds { (limit : Option ℕ) → Holds K.keeps limit self.new (InEscape []) }
+        ensures limit { self.new.limit ≡ self.old.limit }
     {
         self.intermediates = Intermediates::new();
         self.state = State::Escape;
@@ -61,7 +62,7 @@ impl<K: Store, A: Allocator> Machine<K, A> {
         requires { MayEmit V.Taker (ground_move b (class_of b)).1 actor.old }
         ensures moved { AlwaysMakes K.Store V.Taker result
             (ground_move b (class_of b)) self actor }
-        ensures ready { V.is_ready actor.old → OnOk result (V.is_ready actor.new) }
+        ensures ready { StaysReady V.Taker result self actor }
     {
         if b == 0x1b {
             self.enter_escape();
@@ -81,7 +82,7 @@ impl<K: Store, A: Allocator> Machine<K, A> {
         requires whole { self.old.pending ≡ Pending.Nothing }
         ensures moved { AlwaysMakes K.Store V.Taker result
             (ground_move b (Class.Breaks breaker)) self actor }
-        ensures ready { V.is_ready actor.old → OnOk result (V.is_ready actor.new) }
+        ensures ready { StaysReady V.Taker result self actor }
     {
         match breaker {
             Breaker::Cancel | Breaker::C1 => actor.execute_c0_or_c1(b),
@@ -102,7 +103,7 @@ impl<K: Store, A: Allocator> Machine<K, A> {
     pub fn in_pair<V: Taker>(&mut self, b: u8, class: Class, actor: &mut V) -> Result<()>
         requires { MayEmit V.Taker (pair_move b class).1 actor.old }
         ensures moved { AlwaysMakes K.Store V.Taker result (pair_move b class) self actor }
-        ensures ready { V.is_ready actor.old → OnOk result (V.is_ready actor.new) }
+        ensures ready { StaysReady V.Taker result self actor }
     {
         self.state = State::Ground;
         self.pending = Pending::Nothing;
@@ -133,7 +134,7 @@ impl<K: Store, A: Allocator> Machine<K, A> {
             → prefix_of self.old.pending ≡ f
             → Makes K.Store V.Taker limit own result
             (pending_move f b class (outcome f b)) self actor }
-        ensures ready { V.is_ready actor.old → OnOk result (V.is_ready actor.new) }
+        ensures ready { StaysReady V.Taker result self actor }
     {
         match self.pending.outcome(b) {
             Outcome::Whole => self.whole(b, class, actor),
@@ -152,7 +153,7 @@ impl<K: Store, A: Allocator> Machine<K, A> {
             (emitting (Print 0xfffd ∷ []) (ground_move b class)).1 actor.old }
         ensures moved { AlwaysMakes K.Store V.Taker result
             (emitting (Print 0xfffd ∷ []) (ground_move b class)) self actor }
-        ensures ready { V.is_ready actor.old → OnOk result (V.is_ready actor.new) }
+        ensures ready { StaysReady V.Taker result self actor }
     {
         actor.print('\u{fffd}')?;
         self.in_ground(b, class, actor)
@@ -166,7 +167,7 @@ impl<K: Store, A: Allocator> Machine<K, A> {
         requires whole { is_sequence (prefix_of self.old.pending ++ b ∷ []) ≡ true }
         ensures moved { AlwaysMakes K.Store V.Taker result
             (pending_move (prefix_of self.old.pending) b class Outcome.Whole) self actor }
-        ensures ready { V.is_ready actor.old → OnOk result (V.is_ready actor.new) }
+        ensures ready { StaysReady V.Taker result self actor }
     {
         if self.pending.pairs_with(b) {
             self.in_pair(b, class, actor)
@@ -180,23 +181,18 @@ impl<K: Store, A: Allocator> Machine<K, A> {
 
     /// Characters, and what follows them.
     #[inline(always)]
-    pub fn take_in_ground<V: Taker>(
-        &mut self,
-        limit: Option<usize>,
-        rest: &[u8],
-        actor: &mut V,
-    ) -> Result<usize>
+    pub fn take_in_ground<V: Taker>(&mut self, rest: &[u8], actor: &mut V) -> Result<usize>
         requires some { 0 < length rest.now }
-        requires ready { MayEmit V.Taker (events_all limit Ground rest.now) actor.old }
-        requires ground { Holds K.keeps limit self.old Ground }
-        ensures took { Consumes K.Store V.Taker limit result Ground rest.now self actor }
-        ensures count { Advances V.Taker result rest.now actor }
+        requires ready { MayEmit V.Taker (events_all self.old.limit Ground rest.now) actor.old }
+        requires ground { Holds K.keeps self.old.limit self.old Ground }
+        ensures took { Consumes K.Store V.Taker self.old.limit result Ground rest.now self actor }
+        ensures count { Advances V.Taker result rest.now self actor }
     {
         let printed = self.take_quick(rest, actor)?;
         if printed == rest.len() {
             return Ok(printed);
         }
-        let n = self.take_string(limit, &rest[printed..], actor)?;
+        let n = self.take_string(&rest[printed..], actor)?;
         Ok(printed + n)
     }
 
@@ -205,7 +201,7 @@ impl<K: Store, A: Allocator> Machine<K, A> {
     fn take_quick<V: Taker>(&mut self, rest: &[u8], actor: &mut V) -> Result<usize>
         requires ready { MayEmitAll V.Taker Ground rest.now actor.old }
         requires ground { Holds K.keeps None self.old Ground }
-        ensures ground { IfOk result (λ n. Holds K.keeps None self.new Ground) }
+        ensures ground { StaysAtGround K.Store result self }
         ensures stays { StaysInGround V.Taker result rest.now actor }
     {
         let mut at = 0;
@@ -225,7 +221,7 @@ impl<K: Store, A: Allocator> Machine<K, A> {
         requires some { 0 < length rest.now }
         requires ready { MayEmitAll V.Taker Ground rest.now actor.old }
         requires ground { Holds K.keeps None self.old Ground }
-        ensures ground { IfOk result (λ n. Holds K.keeps None self.new Ground) }
+        ensures ground { StaysAtGround K.Store result self }
         ensures stays { StaysInGround V.Taker result rest.now actor }
     {
         if rest[0] >= 0x20 {
@@ -240,19 +236,14 @@ impl<K: Store, A: Allocator> Machine<K, A> {
 
     /// One character, or what else comes in ground.
     #[inline(always)]
-    pub fn take_first<V: Taker>(
-        &mut self,
-        limit: Option<usize>,
-        rest: &[u8],
-        actor: &mut V,
-    ) -> Result<usize>
+    pub fn take_first<V: Taker>(&mut self, rest: &[u8], actor: &mut V) -> Result<usize>
         requires some { 0 < length rest.now }
-        requires ready { MayEmit V.Taker (events_all limit Ground rest.now) actor.old }
-        requires ground { Holds K.keeps limit self.old Ground }
-        ensures { ConsumesSome K.Store V.Taker limit result rest.now self actor }
+        requires ready { MayEmit V.Taker (events_all self.old.limit Ground rest.now) actor.old }
+        requires ground { Holds K.keeps self.old.limit self.old Ground }
+        ensures { ConsumesSome K.Store V.Taker self.old.limit result rest.now self actor }
     {
         match print_first(rest, actor) {
-            Ok(0) => self.take_control(limit, rest, actor),
+            Ok(0) => self.take_control(rest, actor),
             Ok(n) => Ok(n),
             Err(e) => Err(e),
         }
@@ -260,36 +251,26 @@ impl<K: Store, A: Allocator> Machine<K, A> {
 
     // A byte, or a sequence that ESC begins, and the terminator of a command.
     #[inline(always)]
-    fn take_string<V: Taker>(
-        &mut self,
-        limit: Option<usize>,
-        rest: &[u8],
-        actor: &mut V,
-    ) -> Result<usize>
+    fn take_string<V: Taker>(&mut self, rest: &[u8], actor: &mut V) -> Result<usize>
         requires some { 0 < length rest.now }
-        requires ready { MayEmit V.Taker (events_all limit Ground rest.now) actor.old }
-        ensures took { Consumes K.Store V.Taker limit result Ground rest.now self actor }
-        ensures count { Advances V.Taker result rest.now actor }
+        requires ready { MayEmit V.Taker (events_all self.old.limit Ground rest.now) actor.old }
+        ensures took { Consumes K.Store V.Taker self.old.limit result Ground rest.now self actor }
+        ensures count { Advances V.Taker result rest.now self actor }
     {
-        let n = self.take_control(limit, rest, actor)?;
-        let more = self.take_terminator(limit, &rest[n..], actor)?;
+        let n = self.take_control(rest, actor)?;
+        let more = self.take_terminator(&rest[n..], actor)?;
         Ok(n + more)
     }
 
     // A byte, or a sequence that ESC begins, in ground.
     #[inline(always)]
-    fn take_control<V: Taker>(
-        &mut self,
-        limit: Option<usize>,
-        rest: &[u8],
-        actor: &mut V,
-    ) -> Result<usize>
+    fn take_control<V: Taker>(&mut self, rest: &[u8], actor: &mut V) -> Result<usize>
         requires some { 0 < length rest.now }
-        requires ready { MayEmit V.Taker (events_all limit Ground rest.now) actor.old }
-        ensures { ConsumesSome K.Store V.Taker limit result rest.now self actor }
+        requires ready { MayEmit V.Taker (events_all self.old.limit Ground rest.now) actor.old }
+        ensures { ConsumesSome K.Store V.Taker self.old.limit result rest.now self actor }
     {
         if rest[0] == 0x1b && rest.len() > 2 {
-            self.take_escape(limit, rest, actor)
+            self.take_escape(rest, actor)
         } else {
             self.take_one_in_ground(rest, actor)
         }

@@ -7,10 +7,10 @@ ghost use Rattle.esc_frame.specs.Limits.{has_few_parts};
 ghost use Rattle.esc_frame.specs.Leads.Unfinished.{Ground};
 ghost use Rattle.esc_frame.specs.Machine.Calls.{Quietly, Stops};
 ghost use Rattle.esc_frame.specs.Machine.Prefixes.{prefix_of};
-ghost use Rattle.esc_frame.specs.Machine.Keeping.{Unborrowed, KeepingText, KeepingOsc, KeepingOscAnd, KeepingOscPending, FreshOsc, AnyOsc};
+ghost use Rattle.esc_frame.specs.Machine.Keeping.{StoresText, Unborrowed, KeepingText, KeepingOsc, KeepingOscAnd, KeepingOscPending, FreshOsc, AnyOsc};
 ghost use Rattle.esc_frame.specs.Machine.Allowed.{KeptPieces, KeptOsc, KeptOscAnd, KeptOscPending, KeptText, NewOsc};
 ghost use Rattle.esc_frame.specs.Events.{Awaits};
-ghost use Rattle.esc_frame.specs.Machine.Makes.{MayEmit, Emits, Makes, AlwaysMakes, Consumes, ConsumesSome, Advances};
+ghost use Rattle.esc_frame.specs.Machine.Makes.{MayEmit, Emits, Makes, AlwaysMakes, Consumes, ConsumesSome, Advances, StaysReady};
 ghost use Rattle.esc_frame.specs.Machine.Moves.{events_all, emitting, ground_move, pair_move, osc_pending_move, osc_left, ends_osc, move};
 ghost use Rattle.esc_frame.specs.Machine.TextRuns.{IsTextRun};
 ghost use Rattle.esc_frame.specs.Segments.{Opener, Piece, text_of, osc_events};
@@ -28,18 +28,13 @@ use std::alloc::Allocator;
 impl<K: Store, A: Allocator> Machine<K, A> {
     /// A byte after an OSC's units, with nothing pending.
     #[tactic(auto, using(crate::proofs::Given::takes_moved))]
-    pub fn in_osc<V: Taker>(
-        &mut self,
-        limit: Option<usize>,
-        b: u8,
-        class: Class,
-        actor: &mut V,
-    ) -> Result<()>
-        requires { V.is_ready actor.old ⊎ KeptOsc K.Store limit self.old (λ u.
-            Awaits V.may V.takes actor.old (move limit u b class).1) }
-        ensures moved { class ≡ class_of b → KeepingOsc K.Store limit self (λ u.
-            Makes K.Store V.Taker limit true result (move limit u b class) self actor) }
-        ensures ready { V.is_ready actor.old → OnOk result (V.is_ready actor.new) }
+    pub fn in_osc<V: Taker>(&mut self, b: u8, class: Class, actor: &mut V) -> Result<()>
+        requires { V.is_ready actor.old ⊎ KeptOsc K.Store self.old (λ u.
+            Awaits V.may V.takes actor.old (move self.old.limit u b class).1) }
+        ensures moved { class ≡ class_of b → KeepingOsc K.Store self (λ u.
+            Makes K.Store V.Taker self.old.limit true result
+            (move self.old.limit u b class) self actor) }
+        ensures ready { StaysReady V.Taker result self actor }
     {
         self.state = State::Osc;
         self.pending = Pending::Nothing;
@@ -58,54 +53,44 @@ impl<K: Store, A: Allocator> Machine<K, A> {
             | Class::Parameter
             | Class::Introducer(_)
             | Class::Final
-            | Class::Delete => { self.text.push(limit, &[b]) }
+            | Class::Delete => { self.text.push(self.limit, &[b]) }
         }
     }
 
     /// A byte after a prefix of a sequence, in an OSC.
-    pub fn in_osc_pending<V: Taker>(
-        &mut self,
-        limit: Option<usize>,
-        b: u8,
-        class: Class,
-        actor: &mut V,
-    ) -> Result<()>
-        requires { V.is_ready actor.old ⊎ KeptOscPending K.Store limit self.old (λ u.
-            Awaits V.may V.takes actor.old (move limit u b class).1) }
-        ensures moved { class ≡ class_of b → KeepingOscPending K.Store limit self (λ u.
-            Makes K.Store V.Taker limit true result (move limit u b class) self actor) }
-        ensures ready { V.is_ready actor.old → OnOk result (V.is_ready actor.new) }
+    pub fn in_osc_pending<V: Taker>(&mut self, b: u8, class: Class, actor: &mut V) -> Result<()>
+        requires { V.is_ready actor.old ⊎ KeptOscPending K.Store self.old (λ u.
+            Awaits V.may V.takes actor.old (move self.old.limit u b class).1) }
+        ensures moved { class ≡ class_of b → KeepingOscPending K.Store self (λ u.
+            Makes K.Store V.Taker self.old.limit true result
+            (move self.old.limit u b class) self actor) }
+        ensures ready { StaysReady V.Taker result self actor }
     {
         match self.pending.outcome(b) {
-            Outcome::Whole => self.whole_in_osc(limit, b, class, actor),
+            Outcome::Whole => self.whole_in_osc(b, class, actor),
             Outcome::More => {
                 self.state = State::Osc;
                 self.pending = self.pending.with(b);
                 Ok(())
             }
             Outcome::Broken => {
-                self.text.push(limit, &[0xef, 0xbf, 0xbd])?;
-                self.in_osc(limit, b, class, actor)
+                self.text.push(self.limit, &[0xef, 0xbf, 0xbd])?;
+                self.in_osc(b, class, actor)
             }
         }
     }
 
     // A byte that completes a sequence in an OSC.
-    fn whole_in_osc<V: Taker>(
-        &mut self,
-        limit: Option<usize>,
-        b: u8,
-        class: Class,
-        actor: &mut V,
-    ) -> Result<()>
-        requires { V.is_ready actor.old ⊎ KeptPieces K.Store limit self.old (λ o ps.
-            Awaits V.may V.takes actor.old (osc_pending_move limit o ps
+    fn whole_in_osc<V: Taker>(&mut self, b: u8, class: Class, actor: &mut V) -> Result<()>
+        requires { V.is_ready actor.old ⊎ KeptPieces K.Store self.old (λ o ps.
+            Awaits V.may V.takes actor.old (osc_pending_move self.old.limit o ps
             (prefix_of self.old.pending) b class Outcome.Whole).1) }
-        ensures moved { (o : Opener) (ps : List Piece) → K.keeps limit self.old.text (text_of ps)
-            → Makes K.Store V.Taker limit true result
-            (osc_pending_move limit o ps (prefix_of self.old.pending) b class Outcome.Whole)
+        ensures moved { (o : Opener) (ps : List Piece) → StoresText K.Store self.old (text_of ps)
+            → Makes K.Store V.Taker self.old.limit true result
+            (osc_pending_move self.old.limit o ps (prefix_of self.old.pending) b class
+            Outcome.Whole)
             self actor }
-        ensures ready { V.is_ready actor.old → OnOk result (V.is_ready actor.new) }
+        ensures ready { StaysReady V.Taker result self actor }
     {
         if self.pending.pairs_with(b) {
             self.leave_osc_by_pair(b, class, actor)
@@ -113,7 +98,7 @@ impl<K: Store, A: Allocator> Machine<K, A> {
             let pending = self.pending;
             self.state = State::Osc;
             self.pending = Pending::Nothing;
-            pending.put(limit, &mut self.text, b)
+            pending.put(self.limit, &mut self.text, b)
         }
     }
 
@@ -124,7 +109,7 @@ impl<K: Store, A: Allocator> Machine<K, A> {
         ensures moved { KeepingText K.Store self.old.text (λ limit t.
             Makes K.Store V.Taker limit true result
             (emitting (osc_events limit t) (ground_move b class)) self actor) }
-        ensures ready { V.is_ready actor.old → OnOk result (V.is_ready actor.new) }
+        ensures ready { StaysReady V.Taker result self actor }
     {
         emit_osc(&self.text, &self.alloc, actor)?;
         self.in_ground(b, class, actor)
@@ -137,7 +122,7 @@ impl<K: Store, A: Allocator> Machine<K, A> {
         ensures moved { KeepingText K.Store self.old.text (λ limit t.
             Makes K.Store V.Taker limit true result
             (emitting (osc_events limit t) (pair_move b class)) self actor) }
-        ensures ready { V.is_ready actor.old → OnOk result (V.is_ready actor.new) }
+        ensures ready { StaysReady V.Taker result self actor }
     {
         emit_osc(&self.text, &self.alloc, actor)?;
         self.in_pair(b, class, actor)
@@ -145,95 +130,73 @@ impl<K: Store, A: Allocator> Machine<K, A> {
 
     /// An operating system command, up to its end or what else its text does not keep as it is.
     #[inline(always)]
-    pub fn take_osc<V: Taker>(
-        &mut self,
-        limit: Option<usize>,
-        rest: &[u8],
-        actor: &mut V,
-    ) -> Result<usize>
+    pub fn take_osc<V: Taker>(&mut self, rest: &[u8], actor: &mut V) -> Result<usize>
         requires some { 2 < length rest.now }
         requires escape { slice_index rest.now 0 ≡ 0x1b }
         requires bracket { slice_index rest.now 1 ≡ 0x5d }
-        requires ready { MayEmit V.Taker (events_all limit Ground rest.now) actor.old }
-        ensures { ConsumesSome K.Store V.Taker limit result rest.now self actor }
+        requires ready { MayEmit V.Taker (events_all self.old.limit Ground rest.now) actor.old }
+        ensures { ConsumesSome K.Store V.Taker self.old.limit result rest.now self actor }
     {
-        let n = self.take_body(limit, &rest[2..], actor)?;
+        let n = self.take_body(&rest[2..], actor)?;
         Ok(2 + n)
     }
 
     // What follows the opener, or else no byte that counts: a text that ends in these bytes is lent
     // to the actor from there, any other is kept.
     #[inline(always)]
-    fn take_body<V: Taker>(
-        &mut self,
-        limit: Option<usize>,
-        rest: &[u8],
-        actor: &mut V,
-    ) -> Result<usize>
+    fn take_body<V: Taker>(&mut self, rest: &[u8], actor: &mut V) -> Result<usize>
         requires some { 0 < length rest.now }
         requires ready { V.is_ready actor.old ⊎ NewOsc (λ u.
-            Awaits V.may V.takes actor.old (events_all limit u rest.now)) }
+            Awaits V.may V.takes actor.old (events_all self.old.limit u rest.now)) }
         ensures took { FreshOsc (λ u.
-            Consumes K.Store V.Taker limit result u rest.now self actor) }
-        ensures quiet { AnyOsc (λ u. Quietly limit result u rest.now) }
-        ensures count { Advances V.Taker result rest.now actor }
+            Consumes K.Store V.Taker self.old.limit result u rest.now self actor) }
+        ensures quiet { AnyOsc (λ u. Quietly self.old.limit result u rest.now) }
+        ensures count { Advances V.Taker result rest.now self actor }
     {
         let run = units_run(rest);
         if run == rest.len() {
-            return self.keep_body(limit, rest, run, actor);
+            return self.keep_body(rest, run, actor);
         }
         if ends_osc(classify(rest[run])) {
-            return self.take_borrowed(limit, rest, run, actor);
+            return self.take_borrowed(rest, run, actor);
         }
         if is_pair_at(rest, run) {
-            self.take_borrowed_by_pair(limit, rest, run, actor)
+            self.take_borrowed_by_pair(rest, run, actor)
         } else {
-            self.keep_body(limit, rest, run, actor)
+            self.keep_body(rest, run, actor)
         }
     }
 
     // A text that is kept from its first byte on.
-    fn keep_body<V: Taker>(
-        &mut self,
-        limit: Option<usize>,
-        rest: &[u8],
-        run: usize,
-        actor: &mut V,
-    ) -> Result<usize>
+    fn keep_body<V: Taker>(&mut self, rest: &[u8], run: usize, actor: &mut V) -> Result<usize>
         requires some { 0 < length rest.now }
         requires few { run ≤ length rest.now }
         requires passes { IsTextRun (take run rest.now) }
         requires ready { V.is_ready actor.old ⊎ NewOsc (λ u.
-            Awaits V.may V.takes actor.old (events_all limit u rest.now)) }
+            Awaits V.may V.takes actor.old (events_all self.old.limit u rest.now)) }
         ensures took { FreshOsc (Unborrowed rest.now (λ u.
-            Consumes K.Store V.Taker limit result u rest.now self actor)) }
-        ensures quiet { AnyOsc (λ u. Quietly limit result u rest.now) }
-        ensures count { Advances V.Taker result rest.now actor }
+            Consumes K.Store V.Taker self.old.limit result u rest.now self actor)) }
+        ensures quiet { AnyOsc (λ u. Quietly self.old.limit result u rest.now) }
+        ensures count { Advances V.Taker result rest.now self actor }
     {
         self.open(Kind::Osc);
-        self.take_units(limit, rest, run, actor)
+        self.take_units(rest, run, actor)
     }
 
     // A text, and the byte that ends it.
     #[inline(always)]
-    fn take_borrowed<V: Taker>(
-        &mut self,
-        limit: Option<usize>,
-        rest: &[u8],
-        run: usize,
-        actor: &mut V,
-    ) -> Result<usize>
+    fn take_borrowed<V: Taker>(&mut self, rest: &[u8], run: usize, actor: &mut V) -> Result<usize>
         requires few { run < length rest.now }
         requires passes { IsTextRun (take run rest.now) }
         requires ends { ends_osc (class_of (slice_index rest.now run)) ≡ true }
         requires ready { V.is_ready actor.old ⊎ NewOsc (λ u.
-            Awaits V.may V.takes actor.old (events_all limit u rest.now)) }
+            Awaits V.may V.takes actor.old (events_all self.old.limit u rest.now)) }
         ensures took { FreshOsc (λ u.
-            Consumes K.Store V.Taker limit result u rest.now self actor) }
-        ensures quiet { AnyOsc (λ u. Quietly limit result u rest.now) }
-        ensures count { Advances V.Taker result rest.now actor }
+            Consumes K.Store V.Taker self.old.limit result u rest.now self actor) }
+        ensures quiet { AnyOsc (λ u. Quietly self.old.limit result u rest.now) }
+        ensures count { Advances V.Taker result rest.now self actor }
     {
-        self.end_borrowed(limit, &rest[..run], rest[run], actor)?;
+        self.end_borrowed(&rest[..run], rest[run], actor)?;
         Ok(run + 1)
     }
 
@@ -241,7 +204,6 @@ impl<K: Store, A: Allocator> Machine<K, A> {
     #[inline(never)]
     fn take_borrowed_by_pair<V: Taker>(
         &mut self,
-        limit: Option<usize>,
         rest: &[u8],
         run: usize,
         actor: &mut V,
@@ -251,50 +213,38 @@ impl<K: Store, A: Allocator> Machine<K, A> {
         requires lead { slice_index rest.now run ≡ 0xc2 }
         requires control { is_from 0x80 0x9f (slice_index rest.now (run + 1)) ≡ true }
         requires ready { V.is_ready actor.old ⊎ NewOsc (λ u.
-            Awaits V.may V.takes actor.old (events_all limit u rest.now)) }
+            Awaits V.may V.takes actor.old (events_all self.old.limit u rest.now)) }
         ensures took { FreshOsc (λ u.
-            Consumes K.Store V.Taker limit result u rest.now self actor) }
-        ensures quiet { AnyOsc (λ u. Quietly limit result u rest.now) }
-        ensures count { Advances V.Taker result rest.now actor }
+            Consumes K.Store V.Taker self.old.limit result u rest.now self actor) }
+        ensures quiet { AnyOsc (λ u. Quietly self.old.limit result u rest.now) }
+        ensures count { Advances V.Taker result rest.now self actor }
     {
-        self.end_borrowed_by_pair(limit, &rest[..run], rest[run + 1], actor)?;
+        self.end_borrowed_by_pair(&rest[..run], rest[run + 1], actor)?;
         Ok(run + 2)
     }
 
     // What ends a command whose text is lent.
     #[inline(always)]
-    fn end_borrowed<V: Taker>(
-        &mut self,
-        limit: Option<usize>,
-        text: &[u8],
-        b: u8,
-        actor: &mut V,
-    ) -> Result<()>
+    fn end_borrowed<V: Taker>(&mut self, text: &[u8], b: u8, actor: &mut V) -> Result<()>
         requires { MayEmit V.Taker
-            (osc_events limit text.now ++ (osc_left b (class_of b)).1) actor.old }
-        ensures moved { Makes K.Store V.Taker limit (not (has_few_parts text.now)) result
-            (emitting (osc_events limit text.now) (osc_left b (class_of b))) self actor }
-        ensures ready { V.is_ready actor.old → OnOk result (V.is_ready actor.new) }
+            (osc_events self.old.limit text.now ++ (osc_left b (class_of b)).1) actor.old }
+        ensures moved { Makes K.Store V.Taker self.old.limit (not (has_few_parts text.now)) result
+            (emitting (osc_events self.old.limit text.now) (osc_left b (class_of b))) self actor }
+        ensures ready { StaysReady V.Taker result self actor }
     {
-        emit_borrowed(limit, &self.alloc, text, actor)?;
+        emit_borrowed(self.limit, &self.alloc, text, actor)?;
         self.leave_borrowed(b, actor)
     }
 
     // A control after C2 that ends a command whose text is lent.
-    fn end_borrowed_by_pair<V: Taker>(
-        &mut self,
-        limit: Option<usize>,
-        text: &[u8],
-        b: u8,
-        actor: &mut V,
-    ) -> Result<()>
+    fn end_borrowed_by_pair<V: Taker>(&mut self, text: &[u8], b: u8, actor: &mut V) -> Result<()>
         requires { MayEmit V.Taker
-            (osc_events limit text.now ++ (pair_move b (class_of b)).1) actor.old }
-        ensures moved { Makes K.Store V.Taker limit (not (has_few_parts text.now)) result
-            (emitting (osc_events limit text.now) (pair_move b (class_of b))) self actor }
-        ensures ready { V.is_ready actor.old → OnOk result (V.is_ready actor.new) }
+            (osc_events self.old.limit text.now ++ (pair_move b (class_of b)).1) actor.old }
+        ensures moved { Makes K.Store V.Taker self.old.limit (not (has_few_parts text.now)) result
+            (emitting (osc_events self.old.limit text.now) (pair_move b (class_of b))) self actor }
+        ensures ready { StaysReady V.Taker result self actor }
     {
-        emit_borrowed(limit, &self.alloc, text, actor)?;
+        emit_borrowed(self.limit, &self.alloc, text, actor)?;
         self.in_pair(b, classify(b), actor)
     }
 
@@ -303,7 +253,7 @@ impl<K: Store, A: Allocator> Machine<K, A> {
     fn leave_borrowed<V: Taker>(&mut self, b: u8, actor: &mut V) -> Result<()>
         requires { MayEmit V.Taker (osc_left b (class_of b)).1 actor.old }
         ensures moved { AlwaysMakes K.Store V.Taker result (osc_left b (class_of b)) self actor }
-        ensures ready { V.is_ready actor.old → OnOk result (V.is_ready actor.new) }
+        ensures ready { StaysReady V.Taker result self actor }
     {
         if b == 0x07 {
             self.state = State::Ground;
@@ -316,81 +266,64 @@ impl<K: Store, A: Allocator> Machine<K, A> {
 
     /// The units that an operating system command keeps as they are, and the byte after them.
     #[inline(never)]
-    pub fn take_in_osc<V: Taker>(
-        &mut self,
-        limit: Option<usize>,
-        rest: &[u8],
-        actor: &mut V,
-    ) -> Result<usize>
+    pub fn take_in_osc<V: Taker>(&mut self, rest: &[u8], actor: &mut V) -> Result<usize>
         requires some { 0 < length rest.now }
-        requires ready { V.is_ready actor.old ⊎ KeptOsc K.Store limit self.old (λ u.
-            Awaits V.may V.takes actor.old (events_all limit u rest.now)) }
+        requires ready { V.is_ready actor.old ⊎ KeptOsc K.Store self.old (λ u.
+            Awaits V.may V.takes actor.old (events_all self.old.limit u rest.now)) }
         requires state { self.old.state ≡ State.Osc }
         requires whole { prefix_of self.old.pending ≡ [] }
-        ensures took { KeepingOsc K.Store limit self (λ u.
-            Consumes K.Store V.Taker limit result u rest.now self actor) }
-        ensures quiet { AnyOsc (λ u. Quietly limit result u rest.now) }
-        ensures count { Advances V.Taker result rest.now actor }
+        ensures took { KeepingOsc K.Store self (λ u.
+            Consumes K.Store V.Taker self.old.limit result u rest.now self actor) }
+        ensures quiet { AnyOsc (λ u. Quietly self.old.limit result u rest.now) }
+        ensures count { Advances V.Taker result rest.now self actor }
     {
         if self.text.is_new() {
-            return self.take_body(limit, rest, actor);
+            return self.take_body(rest, actor);
         }
         let run = units_run(rest);
-        self.take_units(limit, rest, run, actor)
+        self.take_units(rest, run, actor)
     }
 
     // A run of units, which is kept, and the byte after them.
     #[inline(always)]
-    fn take_units<V: Taker>(
-        &mut self,
-        limit: Option<usize>,
-        rest: &[u8],
-        run: usize,
-        actor: &mut V,
-    ) -> Result<usize>
+    fn take_units<V: Taker>(&mut self, rest: &[u8], run: usize, actor: &mut V) -> Result<usize>
         requires some { 0 < length rest.now }
         requires few { run ≤ length rest.now }
         requires passes { IsTextRun (take run rest.now) }
-        requires ready { V.is_ready actor.old ⊎ KeptOsc K.Store limit self.old (λ u.
-            Awaits V.may V.takes actor.old (events_all limit u rest.now)) }
+        requires ready { V.is_ready actor.old ⊎ KeptOsc K.Store self.old (λ u.
+            Awaits V.may V.takes actor.old (events_all self.old.limit u rest.now)) }
         requires state { self.old.state ≡ State.Osc }
         requires whole { prefix_of self.old.pending ≡ [] }
-        ensures took { KeepingOsc K.Store limit self (Unborrowed rest.now (λ u.
-            Consumes K.Store V.Taker limit result u rest.now self actor)) }
-        ensures quiet { AnyOsc (λ u. Quietly limit result u rest.now) }
-        ensures count { Advances V.Taker result rest.now actor }
+        ensures took { KeepingOsc K.Store self (Unborrowed rest.now (λ u.
+            Consumes K.Store V.Taker self.old.limit result u rest.now self actor)) }
+        ensures quiet { AnyOsc (λ u. Quietly self.old.limit result u rest.now) }
+        ensures count { Advances V.Taker result rest.now self actor }
     {
-        self.text.push(limit, &rest[..run])?;
-        self.take_after_text(limit, rest, run, actor)
+        self.text.push(self.limit, &rest[..run])?;
+        self.take_after_text(rest, run, actor)
     }
 
     // The byte after units of an operating system command that were kept.
     #[inline(always)]
-    fn take_after_text<V: Taker>(
-        &mut self,
-        limit: Option<usize>,
-        rest: &[u8],
-        run: usize,
-        actor: &mut V,
-    ) -> Result<usize>
+    fn take_after_text<V: Taker>(&mut self, rest: &[u8], run: usize, actor: &mut V) -> Result<usize>
         requires some { 0 < length rest.now }
         requires few { run ≤ length rest.now }
         requires passes { IsTextRun (take run rest.now) }
-        requires ready { V.is_ready actor.old ⊎ KeptOscAnd K.Store limit
+        requires ready { V.is_ready actor.old ⊎ KeptOscAnd K.Store
             (take run rest.now) self.old (λ u.
-            Awaits V.may V.takes actor.old (events_all limit u rest.now)) }
+            Awaits V.may V.takes actor.old (events_all self.old.limit u rest.now)) }
         requires state { self.old.state ≡ State.Osc }
         requires whole { prefix_of self.old.pending ≡ [] }
-        ensures took { KeepingOscAnd K.Store limit (take run rest.now) self
+        ensures took { KeepingOscAnd K.Store (take run rest.now) self
             (Unborrowed rest.now (λ u.
-            Consumes K.Store V.Taker limit result u rest.now self actor)) }
-        ensures quiet { AnyOsc (λ u. Quietly limit result u rest.now) }
-        ensures count { Advances V.Taker result rest.now actor }
+            Consumes K.Store V.Taker self.old.limit result u rest.now self actor)) }
+        ensures quiet { AnyOsc (λ u. Quietly self.old.limit result u rest.now) }
+        ensures count { Advances V.Taker result rest.now self actor }
     {
         if run == rest.len() {
             return Ok(run);
         }
-        self.in_osc(limit, rest[run], classify(rest[run]), actor)?;
+        self.in_osc(rest[run], classify(rest[run]), actor)?;
         Ok(run + 1)
     }
 }

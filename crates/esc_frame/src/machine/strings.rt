@@ -9,7 +9,7 @@ ghost use Rattle.esc_frame.specs.Machine.Calls.{Quietly};
 ghost use Rattle.esc_frame.specs.Machine.Keeping.{Holding, Unborrowed, KeepingText, KeepingApc, KeepingApcAnd, FreshApc, AnyApc, InDcsIgnore, InIgnoredString};
 ghost use Rattle.esc_frame.specs.Machine.Allowed.{KeptApc, KeptApcAnd, KeptSegment, KeptText, NewApc};
 ghost use Rattle.esc_frame.specs.Events.{Awaits};
-ghost use Rattle.esc_frame.specs.Machine.Makes.{MayEmit, Emits, Makes, Consumes, Advances};
+ghost use Rattle.esc_frame.specs.Machine.Makes.{MayEmit, Emits, Makes, Consumes, Advances, StaysReady};
 ghost use Rattle.esc_frame.specs.Machine.Moves.{events_all, emitting, ground_move, move};
 ghost use Rattle.esc_frame.specs.Scans.{is_text_byte};
 ghost use Rattle.esc_frame.specs.Segments.{apc_events};
@@ -24,18 +24,13 @@ use std::alloc::Allocator;
 
 impl<K: Store, A: Allocator> Machine<K, A> {
     /// A byte of an APC.
-    pub fn in_apc<V: Taker>(
-        &mut self,
-        limit: Option<usize>,
-        b: u8,
-        class: Class,
-        actor: &mut V,
-    ) -> Result<()>
-        requires { V.is_ready actor.old ⊎ KeptApc K.Store limit self.old (λ u.
-            Awaits V.may V.takes actor.old (move limit u b class).1) }
-        ensures moved { class ≡ class_of b → KeepingApc K.Store limit self (λ u.
-            Makes K.Store V.Taker limit true result (move limit u b class) self actor) }
-        ensures ready { V.is_ready actor.old → OnOk result (V.is_ready actor.new) }
+    pub fn in_apc<V: Taker>(&mut self, b: u8, class: Class, actor: &mut V) -> Result<()>
+        requires { V.is_ready actor.old ⊎ KeptApc K.Store self.old (λ u.
+            Awaits V.may V.takes actor.old (move self.old.limit u b class).1) }
+        ensures moved { class ≡ class_of b → KeepingApc K.Store self (λ u.
+            Makes K.Store V.Taker self.old.limit true result
+            (move self.old.limit u b class) self actor) }
+        ensures ready { StaysReady V.Taker result self actor }
     {
         self.state = State::Apc;
         match class {
@@ -45,7 +40,7 @@ impl<K: Store, A: Allocator> Machine<K, A> {
             | Class::Intermediate
             | Class::Parameter
             | Class::Introducer(_)
-            | Class::Final => { self.text.push(limit, &[b]) }
+            | Class::Final => { self.text.push(self.limit, &[b]) }
         }
     }
 
@@ -56,7 +51,7 @@ impl<K: Store, A: Allocator> Machine<K, A> {
         ensures moved { KeepingText K.Store self.old.text (λ limit t.
             Makes K.Store V.Taker limit true result
             (emitting (apc_events limit t) (ground_move b class)) self actor) }
-        ensures ready { V.is_ready actor.old → OnOk result (V.is_ready actor.new) }
+        ensures ready { StaysReady V.Taker result self actor }
     {
         emit_apc(&self.text, actor)?;
         self.in_ground(b, class, actor)
@@ -69,7 +64,7 @@ impl<K: Store, A: Allocator> Machine<K, A> {
             Makes K.Store V.Taker limit true result (move limit u b class) self actor) }
         ensures data { InDcsIgnore (λ limit u.
             Makes K.Store V.Taker limit true result (move limit u b class) self actor) }
-        ensures ready { V.is_ready actor.old → OnOk result (V.is_ready actor.new) }
+        ensures ready { StaysReady V.Taker result self actor }
     {
         self.state = State::Ignored;
         match class {
@@ -89,84 +84,67 @@ impl<K: Store, A: Allocator> Machine<K, A> {
     /// The run of 20-7F in an application program command, and the byte after it: a text that
     /// begins and ends in these bytes is lent to the actor from there, any other is kept.
     #[inline(always)]
-    pub fn take_in_apc<V: Taker>(
-        &mut self,
-        limit: Option<usize>,
-        rest: &[u8],
-        actor: &mut V,
-    ) -> Result<usize>
+    pub fn take_in_apc<V: Taker>(&mut self, rest: &[u8], actor: &mut V) -> Result<usize>
         requires some { 0 < length rest.now }
-        requires ready { V.is_ready actor.old ⊎ KeptApc K.Store limit self.old (λ u.
-            Awaits V.may V.takes actor.old (events_all limit u rest.now)) }
+        requires ready { V.is_ready actor.old ⊎ KeptApc K.Store self.old (λ u.
+            Awaits V.may V.takes actor.old (events_all self.old.limit u rest.now)) }
         requires state { self.old.state ≡ State.Apc }
-        ensures took { KeepingApc K.Store limit self (λ u.
-            Consumes K.Store V.Taker limit result u rest.now self actor) }
-        ensures quiet { AnyApc (λ u. Quietly limit result u rest.now) }
-        ensures count { Advances V.Taker result rest.now actor }
+        ensures took { KeepingApc K.Store self (λ u.
+            Consumes K.Store V.Taker self.old.limit result u rest.now self actor) }
+        ensures quiet { AnyApc (λ u. Quietly self.old.limit result u rest.now) }
+        ensures count { Advances V.Taker result rest.now self actor }
     {
         let run = ascii_run(rest);
         if run == rest.len() {
-            return self.keep_apc(limit, rest, run, actor);
+            return self.keep_apc(rest, run, actor);
         }
         if !self.text.is_new() {
-            return self.keep_apc(limit, rest, run, actor);
+            return self.keep_apc(rest, run, actor);
         }
         if is_breaker(classify(rest[run])) {
-            self.take_borrowed_apc(limit, rest, run, actor)
+            self.take_borrowed_apc(rest, run, actor)
         } else {
-            self.keep_apc(limit, rest, run, actor)
+            self.keep_apc(rest, run, actor)
         }
     }
 
     // A run in an application program command, which is kept, and the byte after it.
-    fn keep_apc<V: Taker>(
-        &mut self,
-        limit: Option<usize>,
-        rest: &[u8],
-        run: usize,
-        actor: &mut V,
-    ) -> Result<usize>
+    fn keep_apc<V: Taker>(&mut self, rest: &[u8], run: usize, actor: &mut V) -> Result<usize>
         requires some { 0 < length rest.now }
         requires few { run ≤ length rest.now }
         requires passes { list_all is_text_byte (take run rest.now) ≡ true }
-        requires ready { V.is_ready actor.old ⊎ KeptApc K.Store limit self.old (λ u.
-            Awaits V.may V.takes actor.old (events_all limit u rest.now)) }
+        requires ready { V.is_ready actor.old ⊎ KeptApc K.Store self.old (λ u.
+            Awaits V.may V.takes actor.old (events_all self.old.limit u rest.now)) }
         requires state { self.old.state ≡ State.Apc }
-        ensures took { KeepingApc K.Store limit self (Unborrowed rest.now (λ u.
-            Consumes K.Store V.Taker limit result u rest.now self actor)) }
-        ensures quiet { AnyApc (λ u. Quietly limit result u rest.now) }
-        ensures count { Advances V.Taker result rest.now actor }
+        ensures took { KeepingApc K.Store self (Unborrowed rest.now (λ u.
+            Consumes K.Store V.Taker self.old.limit result u rest.now self actor)) }
+        ensures quiet { AnyApc (λ u. Quietly self.old.limit result u rest.now) }
+        ensures count { Advances V.Taker result rest.now self actor }
     {
-        self.text.push(limit, &rest[..run])?;
-        self.take_after_apc(limit, rest, run, actor)
+        self.text.push(self.limit, &rest[..run])?;
+        self.take_after_apc(rest, run, actor)
     }
 
     // The byte after a run in an application program command that was kept.
     #[inline(always)]
-    fn take_after_apc<V: Taker>(
-        &mut self,
-        limit: Option<usize>,
-        rest: &[u8],
-        run: usize,
-        actor: &mut V,
-    ) -> Result<usize>
+    fn take_after_apc<V: Taker>(&mut self, rest: &[u8], run: usize, actor: &mut V) -> Result<usize>
         requires some { 0 < length rest.now }
         requires few { run ≤ length rest.now }
         requires passes { list_all is_text_byte (take run rest.now) ≡ true }
-        requires ready { V.is_ready actor.old ⊎ KeptApcAnd K.Store limit
+        requires ready { V.is_ready actor.old ⊎ KeptApcAnd K.Store
             (take run rest.now) self.old (λ u.
-            Awaits V.may V.takes actor.old (events_all limit u rest.now)) }
+            Awaits V.may V.takes actor.old (events_all self.old.limit u rest.now)) }
         requires state { self.old.state ≡ State.Apc }
-        ensures took { KeepingApcAnd K.Store limit (take run rest.now) self
+        ensures took { KeepingApcAnd K.Store (take run rest.now) self
             (Unborrowed rest.now (λ u.
-            Consumes K.Store V.Taker limit result u rest.now self actor)) }
-        ensures quiet { AnyApc (λ u. Quietly limit result u rest.now) }
-        ensures count { Advances V.Taker result rest.now actor }
+            Consumes K.Store V.Taker self.old.limit result u rest.now self actor)) }
+        ensures quiet { AnyApc (λ u. Quietly self.old.limit result u rest.now) }
+        ensures count { Advances V.Taker result rest.now self actor }
     {
         if run == rest.len() {
             return Ok(run);
         }
-        self.in_apc(limit, rest[run], classify(rest[run]), actor)?;
+        self.in_apc(rest[run], classify(rest[run]), actor)?;
         Ok(run + 1)
     }
 
@@ -174,7 +152,6 @@ impl<K: Store, A: Allocator> Machine<K, A> {
     #[inline(always)]
     fn take_borrowed_apc<V: Taker>(
         &mut self,
-        limit: Option<usize>,
         rest: &[u8],
         run: usize,
         actor: &mut V,
@@ -183,55 +160,45 @@ impl<K: Store, A: Allocator> Machine<K, A> {
         requires passes { list_all is_text_byte (take run rest.now) ≡ true }
         requires ends { is_breaker (class_of (slice_index rest.now run)) ≡ true }
         requires ready { V.is_ready actor.old ⊎ NewApc (λ u.
-            Awaits V.may V.takes actor.old (events_all limit u rest.now)) }
+            Awaits V.may V.takes actor.old (events_all self.old.limit u rest.now)) }
         ensures took { FreshApc (λ u.
-            Consumes K.Store V.Taker limit result u rest.now self actor) }
-        ensures quiet { AnyApc (λ u. Quietly limit result u rest.now) }
-        ensures count { Advances V.Taker result rest.now actor }
+            Consumes K.Store V.Taker self.old.limit result u rest.now self actor) }
+        ensures quiet { AnyApc (λ u. Quietly self.old.limit result u rest.now) }
+        ensures count { Advances V.Taker result rest.now self actor }
     {
-        self.end_borrowed_apc(limit, &rest[..run], rest[run], actor)?;
+        self.end_borrowed_apc(&rest[..run], rest[run], actor)?;
         Ok(run + 1)
     }
 
     // A breaker after an application program command whose text is lent.
-    fn end_borrowed_apc<V: Taker>(
-        &mut self,
-        limit: Option<usize>,
-        text: &[u8],
-        b: u8,
-        actor: &mut V,
-    ) -> Result<()>
+    fn end_borrowed_apc<V: Taker>(&mut self, text: &[u8], b: u8, actor: &mut V) -> Result<()>
         requires { MayEmit V.Taker
-            (apc_events limit text.now ++ (ground_move b (class_of b)).1) actor.old }
+            (apc_events self.old.limit text.now ++ (ground_move b (class_of b)).1) actor.old }
         ensures moved { (own : Bool)
-            → Makes K.Store V.Taker limit own result
-            (emitting (apc_events limit text.now) (ground_move b (class_of b))) self actor }
-        ensures ready { V.is_ready actor.old → OnOk result (V.is_ready actor.new) }
+            → Makes K.Store V.Taker self.old.limit own result
+            (emitting (apc_events self.old.limit text.now) (ground_move b (class_of b)))
+            self actor }
+        ensures ready { StaysReady V.Taker result self actor }
     {
-        emit_borrowed_apc(limit, text, actor)?;
+        emit_borrowed_apc(self.limit, text, actor)?;
         self.leave_string(b, actor)
     }
 
     /// The run of 20-7F in what is passed over.
     #[inline(always)]
-    pub fn take_in_ignored<V: Taker>(
-        &mut self,
-        limit: Option<usize>,
-        rest: &[u8],
-        actor: &mut V,
-    ) -> Result<usize>
+    pub fn take_in_ignored<V: Taker>(&mut self, rest: &[u8], actor: &mut V) -> Result<usize>
         requires some { 0 < length rest.now }
-        requires ready { V.is_ready actor.old ⊎ KeptSegment K.Store limit self.old (λ u.
-            Awaits V.may V.takes actor.old (events_all limit u rest.now)) }
+        requires ready { V.is_ready actor.old ⊎ KeptSegment K.Store self.old (λ u.
+            Awaits V.may V.takes actor.old (events_all self.old.limit u rest.now)) }
         requires state { self.old.state ≡ State.Ignored }
-        ensures took { Holding K.Store limit self (λ u.
-            Consumes K.Store V.Taker limit result u rest.now self actor) }
-        ensures quiet { Holding K.Store limit self (λ u. Quietly limit result u rest.now) }
-        ensures count { Advances V.Taker result rest.now actor }
+        ensures took { Holding K.Store self (λ u.
+            Consumes K.Store V.Taker self.old.limit result u rest.now self actor) }
+        ensures quiet { Holding K.Store self (λ u. Quietly self.old.limit result u rest.now) }
+        ensures count { Advances V.Taker result rest.now self actor }
     {
         let run = ascii_run(rest);
         if run == 0 {
-            return self.take_one(limit, rest, actor);
+            return self.take_one(rest, actor);
         }
         Ok(run)
     }

@@ -9,11 +9,11 @@ use Rattle.esc_frame.proofs.machine.Machine.break_in_ground.Goals as goal
 
 pub returns-in-C1Introducer-clause-moved : goal.returns-in-C1Introducer-clause-moved
 returns-in-C1Introducer-clause-moved g c =
-    λ limit own. rw c.in-C1Introducer.is (c.open.ensures limit Raw, refl)
+    λ limit own. rw c.in-C1Introducer.is (c.open.ensures.holds limit Raw, refl)
 
 pub returns-in-Escape-clause-moved : goal.returns-in-Escape-clause-moved
 returns-in-Escape-clause-moved g c =
-    λ limit own. rw c.in-Escape.is (c.enter_escape.ensures limit, refl)
+    λ limit own. rw c.in-Escape.is (c.enter_escape.ensures.holds limit, refl)
 
 pub returns-in-Cancel-clause-moved : goal.returns-in-Cancel-clause-moved
 returns-in-Cancel-clause-moved g c = λ limit own.

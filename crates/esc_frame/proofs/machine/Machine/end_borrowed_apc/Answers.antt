@@ -9,19 +9,21 @@ use Rattle.esc_frame.proofs.machine.Machine.end_borrowed_apc.Goals as goal
 pub returns-clause-moved : goal.returns-clause-moved
 returns-clause-moved g c = λ own.
     moves_then g.K.Store.keeps (Fails g.K.Store.denied g.V.Taker.stops g.row.A.Denot)
-    c.args.limit own
+    c.args.self.now.limit own
     g.V.Taker.takes g.V.Taker.refuses c.leave_string.result
-    (apc_events c.args.limit c.args.text.now)
+    (apc_events c.args.self.now.limit c.args.text.now)
     (ground_move c.args.b (class_of c.args.b))
     c.leave_string.new.self c.args.actor.now _ _ c.in_ok-emit_borrowed_apc.ensures.emitted
-    (c.leave_string.ensures.moved c.args.limit own)
+    (c.leave_string.ensures.moved c.args.self.now.limit own)
 
 pub returns-in_err-emit_borrowed_apc-clause-moved
     : goal.returns-in_err-emit_borrowed_apc-clause-moved
 returns-in_err-emit_borrowed_apc-clause-moved g c = λ own.
     rw (error_of c.from_residual.result c.from_residual.ensures.0).1
-    (stops_more _ g.V.Taker.takes g.V.Taker.refuses (apc_events c.args.limit c.args.text.now)
+    (stops_more _ g.V.Taker.takes g.V.Taker.refuses
+    (apc_events c.args.self.now.limit c.args.text.now)
     _ c.args.actor.now _
-    (stops_for ⊥ _ g.V.Taker.takes g.V.Taker.refuses (apc_events c.args.limit c.args.text.now)
+    (stops_for ⊥ _ g.V.Taker.takes g.V.Taker.refuses
+    (apc_events c.args.self.now.limit c.args.text.now)
     c.args.actor.now _
     (λ no. absurd no) c.in_err-emit_borrowed_apc.ensures.emitted))

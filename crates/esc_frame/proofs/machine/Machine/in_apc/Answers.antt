@@ -11,16 +11,16 @@ pub returns-in-Breaks-clause-moved : goal.returns-in-Breaks-clause-moved
 returns-in-Breaks-clause-moved g c = λ e o d k.
     let t : is_breaker c.args.class ≡ true = search (rules, c.in-Breaks.is) in
     broken_emitted g.K.Store.keeps (Fails g.K.Store.denied g.V.Taker.stops g.row.A.Denot)
-    c.args.limit true
+    c.args.self.now.limit true
     g.V.Taker.takes g.V.Taker.refuses c.leave_apc.result (InApc o d)
     c.args.b c.args.class c.leave_apc.new.self
     c.args.actor.now c.leave_apc.new.actor t
-    (c.leave_apc.ensures.moved c.args.limit (those is_text d) k)
+    (c.leave_apc.ensures.moved c.args.self.now.limit (those is_text d) k)
 
 pub returns-in-Delete-clause-moved : goal.returns-in-Delete-clause-moved
 returns-in-Delete-clause-moved g c = λ e o d k.
     let t : is_text c.args.class ≡ true = search (rules, c.in-Delete.is) in
-    apc_pushed g.K.Store.keeps g.K.Store.denied g.V.Taker.stops c.args.limit
+    apc_pushed g.K.Store.keeps g.K.Store.denied g.V.Taker.stops c.args.self.now.limit
     g.V.Taker.takes g.V.Taker.refuses
     c.push.result c.push.ensures.refused
     (record c.args.self.now { state = state.Apc; text = c.push.new.self }) o

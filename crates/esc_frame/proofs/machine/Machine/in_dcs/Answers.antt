@@ -11,14 +11,15 @@ pub returns-in-Breaks-clause-moved : goal.returns-in-Breaks-clause-moved
 returns-in-Breaks-clause-moved g c = λ e o x k d.
     let t : is_breaker c.args.class ≡ true = search (rules, c.in-Breaks.is) in
     broken g.K.Store.keeps (Fails g.K.Store.denied g.V.Taker.stops g.row.A.Denot)
-    c.args.limit true g.V.Taker.takes g.V.Taker.refuses
+    c.args.self.now.limit true g.V.Taker.takes g.V.Taker.refuses
     c.in_ground.result (InDcs o x) c.args.b c.args.class c.in_ground.new.self
-    c.args.actor.now c.in_ground.new.actor t refl (c.in_ground.ensures.moved c.args.limit true)
+    c.args.actor.now c.in_ground.new.actor t refl
+    (c.in_ground.ensures.moved c.args.self.now.limit true)
 
 pub returns-in-Intermediate-clause-moved : goal.returns-in-Intermediate-clause-moved
 returns-in-Intermediate-clause-moved g c = λ e o x k d.
     let t : in_body c.args.class ≡ true = search (rules, c.in-Intermediate.is) in
-    dcs_pushed g.K.Store.keeps g.K.Store.denied g.V.Taker.stops c.args.limit
+    dcs_pushed g.K.Store.keeps g.K.Store.denied g.V.Taker.stops c.args.self.now.limit
     g.V.Taker.takes g.V.Taker.refuses
     c.keep.result c.keep.ensures.refused
     (record c.args.self.now {

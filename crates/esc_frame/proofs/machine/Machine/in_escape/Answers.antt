@@ -48,5 +48,6 @@ returns-in-C0-clause-moved g c = λ e limit own x k. elim c.in-C0.is [
 ]
 
 pub returns-then-self-eq0-clause-moved : goal.returns-then-self-eq0-clause-moved
-returns-then-self-eq0-clause-moved g c = λ e limit own x k. let h = c.open.ensures limit (Long x) in
+returns-then-self-eq0-clause-moved g c = λ e limit own x k. let h = c.open.ensures.holds limit
+    (Long x) in
     search (rules, h)

@@ -13,15 +13,16 @@ pub returns-in-Breaks-clause-moved : goal.returns-in-Breaks-clause-moved
 returns-in-Breaks-clause-moved g c = λ e o ps k.
     let t : is_breaker c.args.class ≡ true = search (rules, c.in-Breaks.is) in
     broken_emitted g.K.Store.keeps (Fails g.K.Store.denied g.V.Taker.stops g.row.A.Denot)
-    c.args.limit true
+    c.args.self.now.limit true
     g.V.Taker.takes g.V.Taker.refuses c.leave_osc.result (InOsc o ps)
     c.args.b c.args.class c.leave_osc.new.self
-    c.args.actor.now c.leave_osc.new.actor t (c.leave_osc.ensures.moved c.args.limit (text_of ps) k)
+    c.args.actor.now c.leave_osc.new.actor t (c.leave_osc.ensures.moved c.args.self.now.limit
+    (text_of ps) k)
 
 pub returns-in-Intermediate-clause-moved : goal.returns-in-Intermediate-clause-moved
 returns-in-Intermediate-clause-moved g c = λ e o ps k.
     let t : is_text c.args.class ≡ true = search (rules, c.in-Intermediate.is) in
-    osc_pushed g.K.Store.keeps g.K.Store.denied g.V.Taker.stops c.args.limit
+    osc_pushed g.K.Store.keeps g.K.Store.denied g.V.Taker.stops c.args.self.now.limit
     g.V.Taker.takes g.V.Taker.refuses
     c.push.result c.push.ensures.refused
     (record c.args.self.now {

@@ -9,4 +9,4 @@ returns-in-Breaks-C1Introducer-clause-moved g c = λ limit own.
     let arm = c.in-Breaks-C1Introducer in
     let opens : arm.field-0 ≡ C1Introducer arm.kind = rw arm.is at arm.field-0-is in
     let e : c.args.class ≡ Breaks (C1Introducer arm.kind) = arm.is ∙ ap Breaks opens in
-    rw e (c.open.ensures limit Pair, refl)
+    rw e (c.open.ensures.holds limit Pair, refl)

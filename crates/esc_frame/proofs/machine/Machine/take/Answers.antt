@@ -6,10 +6,10 @@ use Rattle.esc_frame.proofs.machine.Machine.take.Goals as goal
 
 pub returns-in-Nothing-clause-took : goal.returns-in-Nothing-clause-took
 returns-in-Nothing-clause-took g c = λ u h.
-    ground_only g.K.Store.keeps c.args.limit c.args.self.now u c.in-Ground.is
+    ground_only g.K.Store.keeps c.args.self.now.limit c.args.self.now u c.in-Ground.is
     (ap prefix_of c.in-Nothing.is) h
     (λ v. Took g.K.Store.keeps (Fails g.K.Store.denied g.V.Taker.stops g.row.A.Denot)
-    c.args.limit g.V.Taker.takes g.V.Taker.refuses
+    c.args.self.now.limit g.V.Taker.takes g.V.Taker.refuses
     c.take_in_ground.result v c.args.rest.now c.take_in_ground.new.self
     c.args.actor.now c.take_in_ground.new.actor)
     c.take_in_ground.ensures.took

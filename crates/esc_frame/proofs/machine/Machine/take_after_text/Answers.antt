@@ -12,11 +12,11 @@ use Rattle.esc_frame.proofs.machine.Machine.take_after_text.Goals as goal
 pub returns-then-run-rest-clause-took : goal.returns-then-run-rest-clause-took
 returns-then-run-rest-clause-took g c = λ o ps k not_borrowed.
     let run = c.requires.passes in
-    let q = run.2 c.args.limit o ps in
+    let q = run.2 c.args.self.now.limit o ps in
     let fresh = unborrowed_fresh (InOsc o ps) c.args.rest.now c.args.run not_borrowed in (
       rw q.0 (
         c.requires.state,
-        subst (g.K.Store.keeps c.args.limit c.args.self.now.text) (run_text ps run) k,
+        subst (g.K.Store.keeps c.args.self.now.limit c.args.self.now.text) (run_text ps run) k,
         c.requires.whole,
       ),
       rw q.1 refl,
@@ -26,34 +26,38 @@ returns-then-run-rest-clause-took g c = λ o ps k not_borrowed.
 pub returns-clause-took : goal.returns-clause-took
 returns-clause-took g c = λ o ps k not_borrowed.
     let run = c.requires.passes in
-    quiet_took c.args.limit g.V.Taker.takes g.V.Taker.refuses (InOsc o ps) (InOsc o (ps ++ run.0))
+    quiet_took c.args.self.now.limit g.V.Taker.takes g.V.Taker.refuses (InOsc o ps)
+    (InOsc o (ps ++ run.0))
     c.args.rest.now c.args.run _ c.args.actor.now
     c.in_osc.new.actor
-    (run.2 c.args.limit o ps) (omega arith) c.classify.ensures g.K.Store.keeps c.in_osc.new.self
+    (run.2 c.args.self.now.limit o ps) (omega arith) c.classify.ensures g.K.Store.keeps
+    c.in_osc.new.self
     (unborrowed_fresh (InOsc o ps) c.args.rest.now (c.args.run + 1) not_borrowed)
     (c.in_ok-in_osc.ensures.moved c.classify.ensures o (ps ++ run.0)
-    (subst (g.K.Store.keeps c.args.limit c.args.self.now.text) (run_text ps run) k))
+    (subst (g.K.Store.keeps c.args.self.now.limit c.args.self.now.text) (run_text ps run) k))
 
 pub returns-in_err-in_osc-clause-took : goal.returns-in_err-in_osc-clause-took
 returns-in_err-in_osc-clause-took g c = λ o ps k not_borrowed.
     rw (error_of c.from_residual.result c.from_residual.ensures.0).1
     (let run = c.requires.passes in
-    quiet_stops c.args.limit g.V.Taker.takes g.V.Taker.refuses (InOsc o ps) (InOsc o (ps ++ run.0))
+    quiet_stops c.args.self.now.limit g.V.Taker.takes g.V.Taker.refuses (InOsc o ps)
+    (InOsc o (ps ++ run.0))
     c.args.rest.now c.args.run _ c.args.actor.now
     c.in_osc.new.actor
-    (run.2 c.args.limit o ps) (omega arith) c.classify.ensures (λ may. not_borrowed)
+    (run.2 c.args.self.now.limit o ps) (omega arith) c.classify.ensures (λ may. not_borrowed)
     (c.in_err-in_osc.ensures.moved c.classify.ensures o (ps ++ run.0)
-    (subst (g.K.Store.keeps c.args.limit c.args.self.now.text) (run_text ps run) k)))
+    (subst (g.K.Store.keeps c.args.self.now.limit c.args.self.now.text) (run_text ps run) k)))
 
 pub returns-then-run-rest-clause-quiet : goal.returns-then-run-rest-clause-quiet
 returns-then-run-rest-clause-quiet g c = λ o ps.
-    less_still c.args.limit (InOsc o ps) c.args.rest.now c.args.run (c.args.run + 1) (omega arith)
-    (text_still c.args.limit o ps c.args.rest.now c.args.run (λ any.
+    less_still c.args.self.now.limit (InOsc o ps) c.args.rest.now c.args.run (c.args.run + 1)
+    (omega arith)
+    (text_still c.args.self.now.limit o ps c.args.rest.now c.args.run (λ any.
     (c.requires.passes.2 any o ps).1))
 
 pub returns-clause-quiet : goal.returns-clause-quiet
 returns-clause-quiet g c = λ o ps.
-    text_still c.args.limit o ps c.args.rest.now c.args.run (λ any.
+    text_still c.args.self.now.limit o ps c.args.rest.now c.args.run (λ any.
     (c.requires.passes.2 any o ps).1)
 
 pub in_osc-requires : goal.in_osc-requires
@@ -62,8 +66,9 @@ in_osc-requires g c =
     ⊎_map (λ r. r) (λ w. (
       w.0,
       w.1 ++ run.0,
-      subst (g.K.Store.keeps c.args.limit c.args.self.now.text) (run_text w.1 run) w.2,
-      next_awaited g.V.Taker.may g.V.Taker.takes c.args.limit (InOsc w.0 w.1) (InOsc w.0
-          (w.1 ++ run.0)) c.args.rest.now c.args.run _ (run.2 c.args.limit w.0 w.1) (omega arith)
+      subst (g.K.Store.keeps c.args.self.now.limit c.args.self.now.text) (run_text w.1 run) w.2,
+      next_awaited g.V.Taker.may g.V.Taker.takes c.args.self.now.limit (InOsc w.0 w.1) (InOsc w.0
+          (w.1 ++ run.0)) c.args.rest.now c.args.run _ (run.2 c.args.self.now.limit w.0 w.1)
+          (omega arith)
           c.classify.ensures w.3,
     )) c.requires.ready

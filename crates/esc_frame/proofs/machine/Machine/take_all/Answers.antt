@@ -1,4 +1,7 @@
-use Rattle.std.proofs.Common.{take, refl, arith}
+use Rattle.std.proofs.Common.{take, refl, sym, ◌∙◌, subst, Ok, Err, arith}
+use Rattle.esc_frame.specs.Leads.{Holds}
+use Rattle.esc_frame.specs.Machine.Calls.{Fails}
+use Rattle.esc_frame.proofs.Under.{took_under, awaits_under}
 use Rattle.esc_frame.specs.Machine.Moves.{after_all}
 use Rattle.esc_frame.proofs.ManyBytes.{ran_took, ran_ends, tail_length}
 use Rattle.std.proofs.Math.Logic.{⊎_map}
@@ -10,15 +13,22 @@ pub loop-at-preserved : goal.loop-at-preserved
 loop-at-preserved g c =
     let i = c.loop-at.at in
     let bs = c.args.bytes.now in
+    let same = c.loop-at.invariant.3 in
     let l = tail_length bs i in (
       omega (arith, c.in_ok-n.ensures.count),
       (λ r. c.in_ok-n.ensures.count.2 (c.loop-at.invariant.1 r)),
       λ u h.
           let p = c.loop-at.invariant.2 u h in
           let v = after_all u (take i bs) in
-          ran_took c.args.limit g.V.Taker.takes g.V.Taker.refuses u v bs i c.args.actor.now _ _ refl
+          ran_took c.args.self.now.limit g.V.Taker.takes g.V.Taker.refuses u v bs i c.args.actor.now
+          _ _ refl
           p.1 g.K.Store.keeps c.take.new.self c.in_ok-n.n p.2
-          (c.in_ok-n.ensures.took v p.0),
+          (took_under {E = Unit {0}} g.K.Store.keeps
+          (Fails g.K.Store.denied g.V.Taker.stops g.row.A.Denot) g.V.Taker.takes g.V.Taker.refuses
+          (Ok c.in_ok-n.n) v _ c.take.new.self _ _ same
+          (c.in_ok-n.ensures.took v
+          (subst (λ l. Holds g.K.Store.keeps l c.loop-at.self v) (sym same) p.0))),
+      c.in_ok-n.ensures.count.3 ∙ same,
     )
 
 pub returns-in_err-n-clause-emitted : goal.returns-in_err-n-clause-emitted
@@ -26,20 +36,29 @@ returns-in_err-n-clause-emitted g c = λ u h.
     rw (error_of c.from_residual.result c.from_residual.ensures.0).1
     (let i = c.loop-at.at in
     let bs = c.args.bytes.now in
+    let same = c.loop-at.invariant.3 in
     let p = c.loop-at.invariant.2 u h in
     let v = after_all u (take i bs) in
-    ran_ends c.args.limit g.V.Taker.takes g.V.Taker.refuses u v bs i c.args.actor.now _ _ refl p.1
-    p.2 (c.in_err-n.ensures.took v p.0))
+    ran_ends c.args.self.now.limit g.V.Taker.takes g.V.Taker.refuses u v bs i c.args.actor.now _ _
+    refl p.1
+    p.2
+    (took_under g.K.Store.keeps
+    (Fails g.K.Store.denied g.V.Taker.stops g.row.A.Denot) g.V.Taker.takes g.V.Taker.refuses
+    (Err (tt {0})) v _ c.take.new.self _ _ same
+    (c.in_err-n.ensures.took v
+    (subst (λ l. Holds g.K.Store.keeps l c.loop-at.self v) (sym same) p.0))))
 
 pub take-requires-clause-ready : goal.take-requires-clause-ready
 take-requires-clause-ready g c =
     let i = c.loop-at.at in
     let bs = c.args.bytes.now in
+    let same = c.loop-at.invariant.3 in
     ⊎_map c.loop-at.invariant.1 (λ w.
     let p = c.loop-at.invariant.2 w.0 w.1 in (
       after_all w.0 (take i bs),
-      p.0,
-      cut_rest g.V.Taker.may g.V.Taker.takes bs i c.args.limit w.0 (after_all w.0
-          (take i bs)) c.args.actor.now _ refl p.1
-          w.2,
+      subst (λ l. Holds g.K.Store.keeps l c.loop-at.self (after_all w.0 (take i bs))) (sym same)
+          p.0,
+      awaits_under g.V.Taker.may g.V.Taker.takes (after_all w.0 (take i bs)) _ _ same
+          (cut_rest g.V.Taker.may g.V.Taker.takes bs i c.args.self.now.limit w.0
+          (after_all w.0 (take i bs)) c.args.actor.now _ refl p.1 w.2),
     )) c.requires

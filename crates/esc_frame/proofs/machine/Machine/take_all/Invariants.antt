@@ -1,4 +1,4 @@
-use Rattle.std.proofs.Common.{◌-◌, ◌≤◌, length, take}
+use Rattle.std.proofs.Common.{◌≡◌, ◌-◌, ◌≤◌, length, take}
 use Rattle.std.specs.List.{FoldsTo}
 use Rattle.esc_frame.specs.Leads.{Unfinished, Holds}
 use Rattle.esc_frame.specs.Machine.Calls.{StaysFresh}
@@ -8,10 +8,11 @@ use Rattle.esc_frame.proofs.machine.Machine.take_all.Given as goal
 abbrev pub invariant-loop-at : goal.invariant-loop-at
 invariant-loop-at g l = (l.at ≤ length l.bytes)
     × (g.V.Taker.is_ready l.initial.actor → g.V.Taker.is_ready l.actor)
-    × ((u : Unfinished) → Holds g.K.Store.keeps l.limit l.initial.self u
-    → Holds g.K.Store.keeps l.limit l.self (after_all u (take l.at l.bytes))
+    × ((u : Unfinished) → Holds g.K.Store.keeps l.initial.self.limit l.initial.self u
+    → Holds g.K.Store.keeps l.initial.self.limit l.self (after_all u (take l.at l.bytes))
     × FoldsTo g.V.Taker.takes l.initial.actor
-    (events_all l.limit u (take l.at l.bytes)) l.actor × StaysFresh u l.bytes l.at)
+    (events_all l.initial.self.limit u (take l.at l.bytes)) l.actor × StaysFresh u l.bytes l.at)
+    × (l.self.limit ≡ l.initial.self.limit)
 
 abbrev pub decreases-loop-at : goal.decreases-loop-at
 decreases-loop-at g l = length l.bytes - l.at

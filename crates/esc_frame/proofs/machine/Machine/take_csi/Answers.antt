@@ -10,7 +10,7 @@ returns-then-lies_from g c = λ limit.
     stays_took g.K.Store.keeps (Fails g.K.Store.denied g.V.Taker.stops g.row.A.Denot)
     limit g.V.Taker.takes g.V.Taker.refuses
     g.V.Taker.is_ready c.take_short_csi.result c.args.rest.now
-    c.take_short_csi.new.self c.args.actor.now c.take_short_csi.new.actor
+    c.args.self.now c.take_short_csi.new.self c.args.actor.now c.take_short_csi.new.actor
     c.take_short_csi.ensures.ground c.take_short_csi.ensures.stays
     c.take_short_csi.ensures.some (c.take_short_csi.ensures.quiet limit)
 

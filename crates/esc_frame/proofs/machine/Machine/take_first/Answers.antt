@@ -1,4 +1,4 @@
-use Rattle.std.proofs.Common.{◌≡◌, ◌<◌, None, sym, subst, rules, take}
+use Rattle.std.proofs.Common.{◌≡◌, ◌<◌, None, refl, sym, subst, rules, take}
 use Rattle.std.specs.List.{FoldsTo}
 use Rattle.esc_frame.specs.Leads.{Holds}
 use Rattle.esc_frame.specs.Leads.Unfinished.{Ground}
@@ -17,9 +17,9 @@ returns-in-Ok-eq0 g c =
     (events_all None Ground (take k c.args.rest.now)) c.print_first.new.actor) none
     (c.in-Ok-eq0.ensures.stays.2 None) in
     subst (λ a. TookSome g.K.Store.keeps (Fails g.K.Store.denied g.V.Taker.stops g.row.A.Denot)
-    c.args.limit
+    c.args.self.now.limit
     g.V.Taker.takes g.V.Taker.refuses g.V.Taker.is_ready c.take_control.result c.args.rest.now
-    c.take_control.new.self
+    c.args.self.now c.take_control.new.self
     a c.take_control.new.actor)
     (sym same) c.take_control.ensures
 
@@ -28,20 +28,20 @@ returns-in-Ok g c =
     let so = c.in-Ok.ensures.stays in
     let some : 0 < c.in-Ok.n = search rules in (
       (
-        subst (λ u. Holds g.K.Store.keeps c.args.limit c.args.self.now u) (sym so.1)
+        subst (λ u. Holds g.K.Store.keeps c.args.self.now.limit c.args.self.now u) (sym so.1)
             c.requires.ground,
-        so.2 c.args.limit,
+        so.2 c.args.self.now.limit,
         ground_fresh Ground c.args.rest.now
             c.in-Ok.n so.1,
       ),
-      c.in-Ok.ensures.quiet c.args.limit,
-      (some, so.0, so.3),
+      c.in-Ok.ensures.quiet c.args.self.now.limit,
+      (some, so.0, so.3, refl),
     )
 
 pub returns-in-Err : goal.returns-in-Err
 returns-in-Err g c = (
   stops_for ⊥ _ g.V.Taker.takes g.V.Taker.refuses _ c.args.actor.now _ (λ no. absurd no)
-      (c.in-Err.ensures.stays c.args.limit),
+      (c.in-Err.ensures.stays c.args.self.now.limit),
   tt,
   tt,
 )
@@ -53,5 +53,5 @@ take_control-requires-clause-ready g c =
     subst (λ k. FoldsTo g.V.Taker.takes c.args.actor.now
     (events_all None Ground (take k c.args.rest.now)) c.print_first.new.actor) none
     (c.in-Ok-eq0.ensures.stays.2 None) in
-    subst (λ a. MayEmit g.V.Taker (events_all c.args.limit Ground c.args.rest.now) a) same
+    subst (λ a. MayEmit g.V.Taker (events_all c.args.self.now.limit Ground c.args.rest.now) a) same
     c.requires.ready

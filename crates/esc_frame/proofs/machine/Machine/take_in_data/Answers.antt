@@ -19,27 +19,27 @@ dcs_put_text-requires-clause-bytes g c =
 
 pub returns-clause-took : goal.returns-clause-took
 returns-clause-took g c = λ u h.
-    let q = data_holds g.K.Store.keeps c.args.limit c.args.self.now
+    let q = data_holds g.K.Store.keeps c.args.self.now.limit c.args.self.now
     (take c.data_run-run.result c.args.rest.now)
     (all_pass is_data_byte c.args.rest.now c.data_run-run.result c.data_run-run.ensures.run) u
     c.requires.state h in (
       q.0,
       subst (λ es. FoldsTo g.V.Taker.takes c.args.actor.now es c.dcs_put_text.new.self) (sym q.1)
           c.in_ok-dcs_put_text.ensures.emitted,
-      data_fresh g.K.Store.keeps c.args.limit c.args.self.now u c.args.rest.now
+      data_fresh g.K.Store.keeps c.args.self.now.limit c.args.self.now u c.args.rest.now
           c.data_run-run.result c.requires.state h,
     )
 
 pub returns-in_err-dcs_put_text-clause-took : goal.returns-in_err-dcs_put_text-clause-took
 returns-in_err-dcs_put_text-clause-took g c = λ u h.
     rw (error_of c.from_residual.result c.from_residual.ensures.0).1
-    (let q = data_holds g.K.Store.keeps c.args.limit c.args.self.now
+    (let q = data_holds g.K.Store.keeps c.args.self.now.limit c.args.self.now
     (take c.data_run-run.result c.args.rest.now)
     (all_pass is_data_byte c.args.rest.now c.data_run-run.result c.data_run-run.ensures.run) u
     c.requires.state h in
     let own : Type 0 = (may_grow_within u c.args.rest.now ≡ true)
-    × Fails g.K.Store.denied g.V.Taker.stops g.row.A.Denot c.args.limit in
-    stop_within c.args.limit own g.V.Taker.takes g.V.Taker.refuses u c.args.rest.now
+    × Fails g.K.Store.denied g.V.Taker.stops g.row.A.Denot c.args.self.now.limit in
+    stop_within c.args.self.now.limit own g.V.Taker.takes g.V.Taker.refuses u c.args.rest.now
     c.data_run-run.result c.args.actor.now c.dcs_put_text.new.self
     (stops_for ⊥ own g.V.Taker.takes g.V.Taker.refuses _ c.args.actor.now
     c.dcs_put_text.new.self (λ no. absurd no)
@@ -54,7 +54,7 @@ dcs_put_text-requires-clause-ready g c =
     let a = c.args.actor.now in
     let run = c.data_run-run.result in
     ⊎_map (λ r. r) (λ w.
-    cut_first g.V.Taker.may g.V.Taker.takes c.args.rest.now run c.args.limit w.0 _ a
-    (data_holds g.K.Store.keeps c.args.limit c.args.self.now (take run c.args.rest.now)
+    cut_first g.V.Taker.may g.V.Taker.takes c.args.rest.now run c.args.self.now.limit w.0 _ a
+    (data_holds g.K.Store.keeps c.args.self.now.limit c.args.self.now (take run c.args.rest.now)
     (all_pass is_data_byte c.args.rest.now run c.data_run-run.ensures.run) w.0
     c.requires.state w.1).1 w.2) c.requires.ready

@@ -1,10 +1,13 @@
-use Rattle.std.proofs.Common.{true, false, ◌≡◌, take, refl}
+use Rattle.std.proofs.Common.{true, false, ◌≡◌, take, get_or, refl}
 use Rattle.std.specs.List.{FoldsTo}
-use Rattle.esc_frame.specs.Events.{StopsAt}
+use Rattle.esc_frame.specs.Events.{StopsAt, Awaits}
 use Rattle.esc_frame.specs.Leads.{Holds}
 use Rattle.esc_frame.specs.Leads.Unfinished.{InEscape}
 use Rattle.esc_frame.specs.Machine.Calls.{StaysFresh, Fails}
-use Rattle.esc_frame.specs.Machine.Moves.{after_all, events_all, may_grow_within}
+use Rattle.esc_frame.specs.Machine.Moves.{after_all, events_all, may_grow_within, move}
+use Rattle.esc_frame.specs.Machine.Allowed.{KeptEscape}
+use Rattle.std.proofs.Math.Logic.{⊎_map}
+use Rattle.esc_frame.proofs.Awaited.{next_awaited}
 use Rattle.esc_frame.proofs.Borrows.{one_fresh, one_unborrowed}
 use Rattle.esc_frame.proofs.QuietRuns.{quiet_took, quiet_stops}
 use Rattle.esc_frame.proofs.States.{escape_only}
@@ -13,27 +16,49 @@ use Rattle.esc_frame.proofs.machine.Machine.take_in_escape.Goals as goal
 
 pub returns-clause-took : goal.returns-clause-took
 returns-clause-took g c = λ u h.
-    escape_only g.K.Store.keeps c.args.limit c.args.self.now u c.requires.state h
-    (λ v. Holds g.K.Store.keeps c.args.limit c.in_escape.new.self
+    escape_only g.K.Store.keeps c.args.self.now.limit c.args.self.now u c.requires.state h
+    (λ v. Holds g.K.Store.keeps c.args.self.now.limit c.in_escape.new.self
     (after_all v (take 1 c.args.rest.now))
-    × FoldsTo g.V.Taker.takes c.args.actor.now (events_all c.args.limit v (take 1 c.args.rest.now))
+    × FoldsTo g.V.Taker.takes c.args.actor.now
+    (events_all c.args.self.now.limit v (take 1 c.args.rest.now))
     c.in_escape.new.actor × StaysFresh v c.args.rest.now 1)
-    (λ x k. quiet_took c.args.limit g.V.Taker.takes g.V.Taker.refuses (InEscape x) (InEscape x)
+    (λ x k. quiet_took c.args.self.now.limit g.V.Taker.takes g.V.Taker.refuses (InEscape x)
+    (InEscape x)
     c.args.rest.now 0 _ c.args.actor.now _ (refl, refl)
     c.requires.some c.classify.ensures
     g.K.Store.keeps c.in_escape.new.self (one_fresh (InEscape x) c.args.rest.now refl)
-    (c.in_ok-in_escape.ensures.moved c.classify.ensures c.args.limit false x k.1))
+    (c.in_ok-in_escape.ensures.moved c.classify.ensures c.args.self.now.limit false x k.1))
 
 pub returns-in_err-in_escape-clause-took : goal.returns-in_err-in_escape-clause-took
 returns-in_err-in_escape-clause-took g c = λ u h.
     rw (error_of c.from_residual.result c.from_residual.ensures.0).1
-    (escape_only g.K.Store.keeps c.args.limit c.args.self.now u c.requires.state h
+    (escape_only g.K.Store.keeps c.args.self.now.limit c.args.self.now u c.requires.state h
     (λ v. StopsAt ((may_grow_within v c.args.rest.now ≡ true)
-    × Fails g.K.Store.denied g.V.Taker.stops g.row.A.Denot c.args.limit)
+    × Fails g.K.Store.denied g.V.Taker.stops g.row.A.Denot c.args.self.now.limit)
     g.V.Taker.takes g.V.Taker.refuses c.args.actor.now
-    (events_all c.args.limit v c.args.rest.now)
+    (events_all c.args.self.now.limit v c.args.rest.now)
     c.in_escape.new.actor)
-    (λ x k. quiet_stops c.args.limit g.V.Taker.takes g.V.Taker.refuses (InEscape x) (InEscape x)
+    (λ x k. quiet_stops c.args.self.now.limit g.V.Taker.takes g.V.Taker.refuses (InEscape x)
+    (InEscape x)
     c.args.rest.now 0 _ c.args.actor.now _ (refl, refl)
     c.requires.some c.classify.ensures (one_unborrowed (InEscape x) c.args.rest.now refl)
-    (c.in_err-in_escape.ensures.moved c.classify.ensures c.args.limit false x k.1)))
+    (c.in_err-in_escape.ensures.moved c.classify.ensures c.args.self.now.limit false x k.1)))
+
+pub in_escape-requires : goal.in_escape-requires
+in_escape-requires g c =
+    let limit = c.args.self.now.limit in
+    let rest = c.args.rest.now in
+    let may = g.V.Taker.may in
+    let takes = g.V.Taker.takes in
+    ⊎_map (λ r. r) (λ w.
+    escape_only g.K.Store.keeps limit c.args.self.now w.0 c.requires.state w.1
+    (λ v. Awaits may takes c.args.actor.now (events_all limit v rest)
+    → KeptEscape c.args.self.now (λ l u.
+    Awaits may takes c.args.actor.now (move l u (get_or rest 0 0) c.classify.result).1))
+    (λ x k m. (
+      limit,
+      x,
+      k.1,
+      next_awaited may takes limit (InEscape x) (InEscape x) rest 0 _ (refl, refl)
+          c.requires.some c.classify.ensures m,
+    )) w.2) c.requires.ready

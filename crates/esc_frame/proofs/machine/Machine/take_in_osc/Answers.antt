@@ -8,11 +8,11 @@ use Rattle.esc_frame.proofs.machine.Machine.take_in_osc.Goals as goal
 pub returns-then-is_new-clause-took : goal.returns-then-is_new-clause-took
 returns-then-is_new-clause-took g c = λ o ps k.
     c.take_body.ensures.took o ps
-    (empty_is (text_of ps) (sym (c.is_new.ensures c.args.limit (text_of ps) k)
+    (empty_is (text_of ps) (sym (c.is_new.ensures c.args.self.now.limit (text_of ps) k)
     ∙ c.if-is_new.true))
 
 pub returns-clause-took : goal.returns-clause-took
 returns-clause-took g c = λ o ps k.
     c.take_units.ensures.took o ps k
     (ap (λ t. t && borrows (InOsc o ps) c.args.rest.now)
-    (sym (c.is_new.ensures c.args.limit (text_of ps) k) ∙ c.if-is_new.false))
+    (sym (c.is_new.ensures c.args.self.now.limit (text_of ps) k) ∙ c.if-is_new.false))

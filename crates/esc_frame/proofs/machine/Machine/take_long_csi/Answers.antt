@@ -1,4 +1,4 @@
-use Rattle.std.proofs.Common.{[], refl, arith, None}
+use Rattle.std.proofs.Common.{[], refl, ◌∙◌, arith, None}
 use Rattle.esc_frame.specs.Leads.Unfinished.{InCsi}
 use Rattle.esc_frame.specs.Segments.Opener.{Long}
 use Rattle.esc_frame.proofs.CsiRuns.{csi_opens}
@@ -13,18 +13,20 @@ use Rattle.esc_frame.proofs.Failed.{error_of}
 use Rattle.esc_frame.proofs.machine.Machine.take_long_csi.Goals as goal
 
 pub take_in_csi-requires-clause-state : goal.take_in_csi-requires-clause-state
-take_in_csi-requires-clause-state g c = (c.open.ensures None (Long [])).0
+take_in_csi-requires-clause-state g c = (c.open.ensures.holds None (Long [])).0
 
 pub returns : goal.returns
 returns g c = λ limit.
+    let count = c.in_ok-n.ensures.count in
     opened_took limit (InCsi (Long []) []) c.args.rest.now c.requires.some c.requires.escape
     (csi_opens limit c.args.rest.now (omega arith) c.requires.escape c.requires.bracket) refl
     g.V.Taker.takes g.V.Taker.refuses g.V.Taker.is_ready
     c.args.actor.now c.take_in_csi.new.actor (opened_fresh kind.Csi (Long []))
     g.K.Store.keeps (Fails g.K.Store.denied g.V.Taker.stops g.row.A.Denot)
-    c.take_in_csi.new.self c.in_ok-n.n
-    (c.in_ok-n.ensures.took limit (Long []) [] (c.open.ensures limit (Long [])).1)
-    (c.in_ok-n.ensures.quiet limit (Long []) []) c.in_ok-n.ensures.count
+    c.args.self.now c.take_in_csi.new.self c.in_ok-n.n
+    (c.in_ok-n.ensures.took limit (Long []) [] (c.open.ensures.holds limit (Long [])).1)
+    (c.in_ok-n.ensures.quiet limit (Long []) [])
+    (count.0, count.1, count.2, count.3 ∙ c.open.ensures.limit)
 
 pub returns-in_err-n : goal.returns-in_err-n
 returns-in_err-n g c = λ limit.
@@ -33,7 +35,7 @@ returns-in_err-n g c = λ limit.
           (csi_opens limit c.args.rest.now (omega arith) c.requires.escape c.requires.bracket) refl
           g.V.Taker.takes g.V.Taker.refuses g.V.Taker.is_ready
           c.args.actor.now c.take_in_csi.new.actor (opened_fresh kind.Csi (Long []))
-          (c.in_err-n.ensures.took limit (Long []) [] (c.open.ensures limit (Long [])).1),
+          (c.in_err-n.ensures.took limit (Long []) [] (c.open.ensures.holds limit (Long [])).1),
       tt,
       tt,
     )
@@ -44,7 +46,7 @@ take_in_csi-requires-clause-ready g c =
       w.0,
       Long [],
       [],
-      (c.open.ensures w.0 (Long [])).1,
+      (c.open.ensures.holds w.0 (Long [])).1,
       rest_awaited g.V.Taker.may g.V.Taker.takes w.0 Ground (InCsi (Long []) []) c.args.rest.now 2
           _ (csi_opens w.0 c.args.rest.now (omega arith) c.requires.escape c.requires.bracket) w.1,
     )) c.requires.ready

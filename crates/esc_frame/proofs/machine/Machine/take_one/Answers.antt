@@ -9,19 +9,21 @@ use Rattle.esc_frame.proofs.machine.Machine.take_one.Goals as goal
 
 pub returns-clause-took : goal.returns-clause-took
 returns-clause-took g c = λ u h.
-    quiet_took c.args.limit g.V.Taker.takes g.V.Taker.refuses u u c.args.rest.now 0 _
+    quiet_took c.args.self.now.limit g.V.Taker.takes g.V.Taker.refuses u u c.args.rest.now 0 _
     c.args.actor.now _ (refl, refl) c.requires.some c.classify.ensures
     g.K.Store.keeps c.step.new.self
-    (one_fresh u c.args.rest.now (no_string g.K.Store.keeps c.args.limit c.args.self.now u h
+    (one_fresh u c.args.rest.now (no_string g.K.Store.keeps c.args.self.now.limit c.args.self.now u
+    h
     c.requires.between))
     (c.in_ok-step.ensures.moved c.classify.ensures u h)
 
 pub returns-in_err-step-clause-took : goal.returns-in_err-step-clause-took
 returns-in_err-step-clause-took g c = λ u h.
     rw (error_of c.from_residual.result c.from_residual.ensures.0).1
-    (quiet_stops c.args.limit g.V.Taker.takes g.V.Taker.refuses u u c.args.rest.now 0 _
+    (quiet_stops c.args.self.now.limit g.V.Taker.takes g.V.Taker.refuses u u c.args.rest.now 0 _
     c.args.actor.now _ (refl, refl) c.requires.some c.classify.ensures
-    (one_unborrowed u c.args.rest.now (no_string g.K.Store.keeps c.args.limit c.args.self.now u h
+    (one_unborrowed u c.args.rest.now (no_string g.K.Store.keeps c.args.self.now.limit
+    c.args.self.now u h
     c.requires.between))
     (c.in_err-step.ensures.moved c.classify.ensures u h))
 
@@ -30,6 +32,6 @@ step-requires g c =
     ⊎_map (λ r. r) (λ w. (
       w.0,
       w.1,
-      next_awaited g.V.Taker.may g.V.Taker.takes c.args.limit w.0 w.0 c.args.rest.now 0 _
+      next_awaited g.V.Taker.may g.V.Taker.takes c.args.self.now.limit w.0 w.0 c.args.rest.now 0 _
           (refl, refl) c.requires.some c.classify.ensures w.2,
     )) c.requires.ready

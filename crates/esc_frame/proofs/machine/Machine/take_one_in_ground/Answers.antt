@@ -7,13 +7,13 @@ use Rattle.esc_frame.proofs.Failed.{error_of}
 use Rattle.esc_frame.proofs.machine.Machine.take_one_in_ground.Goals as goal
 
 pub returns : goal.returns
-returns g c = λ limit. (
+returns g c = λ limit. let ready = c.in_ok-in_ground.ensures.ready in (
   quiet_took limit g.V.Taker.takes g.V.Taker.refuses Ground Ground c.args.rest.now 0 _
       c.args.actor.now _ (refl, refl) c.requires.some c.classify.ensures
       g.K.Store.keeps c.in_ground.new.self (one_fresh Ground c.args.rest.now refl)
       (c.in_ok-in_ground.ensures.moved limit false),
   one_still limit Ground c.args.rest.now,
-  (omega arith, c.requires.some, c.in_ok-in_ground.ensures.ready),
+  (omega arith, c.requires.some, ready.1, ready.0),
 )
 
 pub returns-in_err-in_ground : goal.returns-in_err-in_ground

@@ -14,21 +14,23 @@ use Rattle.esc_frame.proofs.machine.Machine.take_osc.Goals as goal
 
 pub returns : goal.returns
 returns g c =
-    opened_took c.args.limit (InOsc (Long []) []) c.args.rest.now c.requires.some c.requires.escape
-    (osc_opens c.args.limit c.args.rest.now (omega arith) c.requires.escape c.requires.bracket) refl
+    opened_took c.args.self.now.limit (InOsc (Long []) []) c.args.rest.now c.requires.some
+    c.requires.escape
+    (osc_opens c.args.self.now.limit c.args.rest.now (omega arith) c.requires.escape
+    c.requires.bracket) refl
     g.V.Taker.takes g.V.Taker.refuses g.V.Taker.is_ready
     c.args.actor.now c.take_body.new.actor (opened_fresh kind.Osc (Long []))
     g.K.Store.keeps (Fails g.K.Store.denied g.V.Taker.stops g.row.A.Denot)
-    c.take_body.new.self c.in_ok-n.n
+    c.args.self.now c.take_body.new.self c.in_ok-n.n
     (c.in_ok-n.ensures.took (Long []) [] refl) (c.in_ok-n.ensures.quiet (Long []) [])
     c.in_ok-n.ensures.count
 
 pub returns-in_err-n : goal.returns-in_err-n
 returns-in_err-n g c =
     rw (error_of c.from_residual.result c.from_residual.ensures.0).1 (
-      opened_stops c.args.limit (InOsc (Long []) []) c.args.rest.now c.requires.some
+      opened_stops c.args.self.now.limit (InOsc (Long []) []) c.args.rest.now c.requires.some
           c.requires.escape
-          (osc_opens c.args.limit c.args.rest.now (omega arith) c.requires.escape
+          (osc_opens c.args.self.now.limit c.args.rest.now (omega arith) c.requires.escape
           c.requires.bracket) refl g.V.Taker.takes g.V.Taker.refuses
           g.V.Taker.is_ready
           c.args.actor.now c.take_body.new.actor (opened_fresh kind.Osc (Long []))
@@ -43,8 +45,8 @@ take_body-requires-clause-ready g c =
       Long [],
       [],
       refl,
-      rest_awaited g.V.Taker.may g.V.Taker.takes c.args.limit Ground (InOsc (Long []) [])
+      rest_awaited g.V.Taker.may g.V.Taker.takes c.args.self.now.limit Ground (InOsc (Long []) [])
           c.args.rest.now 2 _
-          (osc_opens c.args.limit c.args.rest.now (omega arith) c.requires.escape
+          (osc_opens c.args.self.now.limit c.args.rest.now (omega arith) c.requires.escape
           c.requires.bracket) w,
     )) c.requires.ready

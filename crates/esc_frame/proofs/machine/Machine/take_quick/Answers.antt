@@ -1,14 +1,14 @@
-use Rattle.std.proofs.Common.{◌≡◌, rules}
+use Rattle.std.proofs.Common.{◌≡◌, ◌∙◌, rules}
 use Rattle.esc_frame.proofs.ManyBytes.{ran_again, ran_none, ran_refused}
 use Rattle.esc_frame.proofs.MayRun.{may_after}
 use Rattle.esc_frame.proofs.machine.Machine.take_quick.Goals as goal
 
 pub loop-at-preserved : goal.loop-at-preserved
-loop-at-preserved g c = (
+loop-at-preserved g c = let ground = c.in-Ok.ensures.ground in (
   ran_again g.V.Taker.takes g.V.Taker.refuses g.V.Taker.is_ready c.args.rest.now c.loop-at.at
       c.in-Ok.n c.args.actor.now _ _ c.loop-at.invariant.0
       c.in-Ok.ensures.stays,
-  c.in-Ok.ensures.ground,
+  (ground.0, ground.1 ∙ c.loop-at.invariant.1.1),
 )
 
 pub returns-in-Err-clause-stays : goal.returns-in-Err-clause-stays

@@ -6,19 +6,19 @@ use Rattle.esc_frame.proofs.machine.Machine.take_some.Goals as goal
 
 pub returns-in-Nothing-clause-took : goal.returns-in-Nothing-clause-took
 returns-in-Nothing-clause-took g c = λ u h.
-    ground_only g.K.Store.keeps c.args.limit c.args.self.now u c.in-Ground.is
+    ground_only g.K.Store.keeps c.args.self.now.limit c.args.self.now u c.in-Ground.is
     (ap prefix_of c.in-Nothing.is) h
     (λ v. Took g.K.Store.keeps (Fails g.K.Store.denied g.V.Taker.stops g.row.A.Denot)
-    c.args.limit g.V.Taker.takes g.V.Taker.refuses
+    c.args.self.now.limit g.V.Taker.takes g.V.Taker.refuses
     c.take_first.result v c.args.rest.now c.take_first.new.self c.args.actor.now
     c.take_first.new.actor)
     c.take_first.ensures.0
 
 pub returns-in-Nothing-clause-quiet : goal.returns-in-Nothing-clause-quiet
 returns-in-Nothing-clause-quiet g c = λ u h.
-    ground_only g.K.Store.keeps c.args.limit c.args.self.now u c.in-Ground.is
+    ground_only g.K.Store.keeps c.args.self.now.limit c.args.self.now u c.in-Ground.is
     (ap prefix_of c.in-Nothing.is) h (λ v.
-    Quietly c.args.limit c.take_first.result v c.args.rest.now)
+    Quietly c.args.self.now.limit c.take_first.result v c.args.rest.now)
     c.take_first.ensures.1
 
 pub returns-in-Nothing-clause-count : goal.returns-in-Nothing-clause-count
@@ -26,37 +26,37 @@ returns-in-Nothing-clause-count g c = c.take_first.ensures.2
 
 pub returns-in-Csi-clause-took : goal.returns-in-Csi-clause-took
 returns-in-Csi-clause-took g c = λ u h.
-    csi_only g.K.Store.keeps c.args.limit c.args.self.now u c.in-Csi.is h
+    csi_only g.K.Store.keeps c.args.self.now.limit c.args.self.now u c.in-Csi.is h
     (λ v. Took g.K.Store.keeps (Fails g.K.Store.denied g.V.Taker.stops g.row.A.Denot)
-    c.args.limit g.V.Taker.takes g.V.Taker.refuses
+    c.args.self.now.limit g.V.Taker.takes g.V.Taker.refuses
     c.take_in_csi.result v c.args.rest.now c.take_in_csi.new.self c.args.actor.now
     c.take_in_csi.new.actor)
-    (λ o x k. c.take_in_csi.ensures.took c.args.limit o x k.1)
+    (λ o x k. c.take_in_csi.ensures.took c.args.self.now.limit o x k.1)
 
 pub returns-in-Csi-clause-quiet : goal.returns-in-Csi-clause-quiet
 returns-in-Csi-clause-quiet g c = λ u h.
-    csi_only g.K.Store.keeps c.args.limit c.args.self.now u c.in-Csi.is h (λ v.
-    Quietly c.args.limit c.take_in_csi.result v c.args.rest.now)
-    (λ o x k. c.take_in_csi.ensures.quiet c.args.limit o x)
+    csi_only g.K.Store.keeps c.args.self.now.limit c.args.self.now u c.in-Csi.is h (λ v.
+    Quietly c.args.self.now.limit c.take_in_csi.result v c.args.rest.now)
+    (λ o x k. c.take_in_csi.ensures.quiet c.args.self.now.limit o x)
 
 pub returns-in-Csi-clause-count : goal.returns-in-Csi-clause-count
 returns-in-Csi-clause-count g c = c.take_in_csi.ensures.count
 
 pub returns-in-Nothing-pending-clause-took : goal.returns-in-Nothing-pending-clause-took
 returns-in-Nothing-pending-clause-took g c = λ u h.
-    osc_only g.K.Store.keeps c.args.limit c.args.self.now u c.in-Osc.is
+    osc_only g.K.Store.keeps c.args.self.now.limit c.args.self.now u c.in-Osc.is
     (ap prefix_of c.in-Nothing-pending.is) h
     (λ v. Took g.K.Store.keeps (Fails g.K.Store.denied g.V.Taker.stops g.row.A.Denot)
-    c.args.limit g.V.Taker.takes g.V.Taker.refuses
+    c.args.self.now.limit g.V.Taker.takes g.V.Taker.refuses
     c.take_in_osc.result v c.args.rest.now c.take_in_osc.new.self c.args.actor.now
     c.take_in_osc.new.actor)
     (λ o ps k. c.take_in_osc.ensures.took o ps k.1)
 
 pub returns-in-Nothing-pending-clause-quiet : goal.returns-in-Nothing-pending-clause-quiet
 returns-in-Nothing-pending-clause-quiet g c = λ u h.
-    osc_only g.K.Store.keeps c.args.limit c.args.self.now u c.in-Osc.is
+    osc_only g.K.Store.keeps c.args.self.now.limit c.args.self.now u c.in-Osc.is
     (ap prefix_of c.in-Nothing-pending.is) h (λ v.
-    Quietly c.args.limit c.take_in_osc.result v c.args.rest.now)
+    Quietly c.args.self.now.limit c.take_in_osc.result v c.args.rest.now)
     (λ o ps k. c.take_in_osc.ensures.quiet o ps)
 
 pub returns-in-Nothing-pending-clause-count : goal.returns-in-Nothing-pending-clause-count
@@ -64,17 +64,17 @@ returns-in-Nothing-pending-clause-count g c = c.take_in_osc.ensures.count
 
 pub returns-in-Apc-clause-took : goal.returns-in-Apc-clause-took
 returns-in-Apc-clause-took g c = λ u h.
-    apc_only g.K.Store.keeps c.args.limit c.args.self.now u c.in-Apc.is h
+    apc_only g.K.Store.keeps c.args.self.now.limit c.args.self.now u c.in-Apc.is h
     (λ v. Took g.K.Store.keeps (Fails g.K.Store.denied g.V.Taker.stops g.row.A.Denot)
-    c.args.limit g.V.Taker.takes g.V.Taker.refuses
+    c.args.self.now.limit g.V.Taker.takes g.V.Taker.refuses
     c.take_in_apc.result v c.args.rest.now c.take_in_apc.new.self c.args.actor.now
     c.take_in_apc.new.actor)
     (λ o d k. c.take_in_apc.ensures.took o d k.1)
 
 pub returns-in-Apc-clause-quiet : goal.returns-in-Apc-clause-quiet
 returns-in-Apc-clause-quiet g c = λ u h.
-    apc_only g.K.Store.keeps c.args.limit c.args.self.now u c.in-Apc.is h (λ v.
-    Quietly c.args.limit c.take_in_apc.result v c.args.rest.now) (λ o d k.
+    apc_only g.K.Store.keeps c.args.self.now.limit c.args.self.now u c.in-Apc.is h (λ v.
+    Quietly c.args.self.now.limit c.take_in_apc.result v c.args.rest.now) (λ o d k.
     c.take_in_apc.ensures.quiet o d)
 
 pub returns-in-Apc-clause-count : goal.returns-in-Apc-clause-count

@@ -13,5 +13,5 @@ returns-in-Escape-clause-took g c = c.take_in_escape.ensures.took
 pub returns-in_default : goal.returns-in_default
 returns-in_default g c = record {
   took = λ u h. (h, refl, λ l. (and_parts (is_fresh u) (borrows u c.args.rest.now) l).0);
-  count = (omega arith, λ r. r);
+  count = (omega arith, λ r. r, refl);
 }

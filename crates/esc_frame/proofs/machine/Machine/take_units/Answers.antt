@@ -7,6 +7,6 @@ use Rattle.esc_frame.proofs.machine.Machine.take_units.Goals as goal
 pub returns-in_err-push-clause-took : goal.returns-in_err-push-clause-took
 returns-in_err-push-clause-took g c = λ o ps k not_borrowed.
     rw (error_of c.from_residual.result c.from_residual.ensures.0).1
-    (own_stops c.args.limit g.V.Taker.takes g.V.Taker.refuses (InOsc o ps) c.args.rest.now
+    (own_stops c.args.self.now.limit g.V.Taker.takes g.V.Taker.refuses (InOsc o ps) c.args.rest.now
     c.args.actor.now
     c.requires.some refl not_borrowed (inl c.in_err-push.ensures.refused))

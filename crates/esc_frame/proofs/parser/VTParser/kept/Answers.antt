@@ -10,12 +10,12 @@ use Rattle.esc_frame.proofs.parser.VTParser.kept.Goals as goal
 pub returns-else-self-clause-given : goal.returns-else-self-clause-given
 unfolding LeadsToWithin
 returns-else-self-clause-given g c = λ limit s (f, i, h) gs cut.
-    c.kept.ensures c.args.self.now.limit (after_all Ground s) h
-    ∙ ap (λ n. min n most) (sym (kept_is c.args.self.now.limit s gs cut)
+    c.kept.ensures c.args.self.now.machine.limit (after_all Ground s) h
+    ∙ ap (λ n. min n most) (sym (kept_is c.args.self.now.machine.limit s gs cut)
     ∙ ap (λ l. kept_of_cut l gs) i)
 
 pub returns-else-self-clause-within : goal.returns-else-self-clause-within
 unfolding LeadsToWithin
 returns-else-self-clause-within g c =
-    λ limit s (f, i, h). kept_fits c.args.self.now.limit limit i (after_all Ground s) _
-    (c.kept.ensures c.args.self.now.limit (after_all Ground s) h)
+    λ limit s (f, i, h). kept_fits c.args.self.now.machine.limit limit i (after_all Ground s) _
+    (c.kept.ensures c.args.self.now.machine.limit (after_all Ground s) h)

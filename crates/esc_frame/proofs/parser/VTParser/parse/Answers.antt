@@ -1,4 +1,5 @@
-use Rattle.std.proofs.Common.{refl, ◌≡◌, false, rules}
+use Rattle.std.proofs.Common.{refl, ◌≡◌, ◌++◌, sym, ◌∙◌, subst, false, rules}
+use Rattle.esc_frame.specs.Leads.{Holds}
 use Rattle.esc_frame.specs.Leads.Unfinished.{Ground}
 use Rattle.esc_frame.specs.Machine.Keeps.{KeepsText}
 use Rattle.esc_frame.specs.Machine.Moves.{after_all}
@@ -12,14 +13,17 @@ pub returns-in-Ok-clause-given : goal.returns-in-Ok-clause-given
 unfolding LeadsToWithin
 returns-in-Ok-clause-given g c = λ limit s (f, i, h).
     let bs = c.args.bytes.now in
-    let u = after_all Ground s in (
+    let u = after_all Ground s in
+    let kept = c.in-Ok.ensures.holds u h in (
       (
         f,
-        i,
-        kept_all KeepsText c.args.self.now.limit c.take_all.new.self s bs
-            (c.in-Ok.ensures.holds u h),
+        kept.1 ∙ i,
+        subst (λ l. Holds KeepsText l c.take_all.new.self (after_all Ground (s ++ bs)))
+            (sym kept.1)
+            (kept_all KeepsText c.args.self.now.machine.limit c.take_all.new.self s bs
+            kept.0),
       ),
-      given_all c.args.self.now.limit limit i g.V.VTActor.takes s bs c.args.actor.now
+      given_all c.args.self.now.machine.limit limit i g.V.VTActor.takes s bs c.args.actor.now
           c.take_all.new.actor
           (c.in-Ok.ensures.emitted u h),
     )
@@ -28,7 +32,8 @@ pub returns-in-Err-clause-refused : goal.returns-in-Err-clause-refused
 unfolding LeadsToWithin
 returns-in-Err-clause-refused g c = λ limit s (f, i, h). (
   refl,
-  refused_all g.row.A.Denot c.args.self.now.limit limit i g.V.VTActor.takes g.V.VTActor.refuses s
+  refused_all g.row.A.Denot c.args.self.now.machine.limit limit i g.V.VTActor.takes
+      g.V.VTActor.refuses s
       c.args.bytes.now c.args.actor.now c.take_all.new.actor
       (c.in-Err.ensures.emitted (after_all Ground s) h),
 )
@@ -37,7 +42,7 @@ pub returns-in-Err-clause-borrowed : goal.returns-in-Err-clause-borrowed
 unfolding LeadsToWithin
 returns-in-Err-clause-borrowed g c = λ limit s (f, i, h) at borrowed. (
   refl,
-  refused_borrowed c.args.self.now.limit limit i g.V.VTActor.takes g.V.VTActor.refuses s
+  refused_borrowed c.args.self.now.machine.limit limit i g.V.VTActor.takes g.V.VTActor.refuses s
       c.args.bytes.now c.args.actor.now c.take_all.new.actor (to_ground s at)
       (borrowed_borrows c.args.bytes.now borrowed)
       (c.in-Err.ensures.emitted (after_all Ground s) h),

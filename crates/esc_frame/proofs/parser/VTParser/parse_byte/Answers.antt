@@ -1,4 +1,5 @@
-use Rattle.std.proofs.Common.{◌≡◌, false, [], ◌∷◌, refl, sym, subst, rules}
+use Rattle.std.proofs.Common.{◌≡◌, false, [], ◌∷◌, ◌++◌, refl, sym, ◌∙◌, subst, rules}
+use Rattle.esc_frame.specs.Leads.{Holds}
 use Rattle.esc_frame.specs.Leads.Unfinished.{Ground}
 use Rattle.esc_frame.specs.Machine.Keeps.{KeepsText}
 use Rattle.esc_frame.specs.Machine.Moves.{after_all, events_by}
@@ -14,15 +15,17 @@ pub returns-in-Ok-clause-given : goal.returns-in-Ok-clause-given
 unfolding LeadsToWithin
 returns-in-Ok-clause-given g c = λ limit s (f, i, h).
     let b = c.args.byte in
+    let same = c.in-Ok.ensures.ready.0 in
     let u = after_all Ground s in
     let k = c.classify.ensures in (
       (
         f,
-        i,
-        kept_one KeepsText c.args.self.now.limit c.step.new.self s b _ k
-            (c.in-Ok.ensures.moved k u h).0,
+        same ∙ i,
+        subst (λ l. Holds KeepsText l c.step.new.self (after_all Ground (s ++ b ∷ []))) (sym same)
+            (kept_one KeepsText c.args.self.now.machine.limit c.step.new.self s b _ k
+            (c.in-Ok.ensures.moved k u h).0),
       ),
-      given_one c.args.self.now.limit limit i g.V.VTActor.takes s b _ c.args.actor.now
+      given_one c.args.self.now.machine.limit limit i g.V.VTActor.takes s b _ c.args.actor.now
           c.step.new.actor k
           (c.in-Ok.ensures.moved k u h).1,
     )
@@ -32,7 +35,8 @@ unfolding LeadsToWithin
 returns-in-Err-clause-refused g c = λ limit s (f, i, h).
     let k = c.classify.ensures in (
       refl,
-      refused_one g.row.A.Denot c.args.self.now.limit limit i g.V.VTActor.takes g.V.VTActor.refuses
+      refused_one g.row.A.Denot c.args.self.now.machine.limit limit i g.V.VTActor.takes
+          g.V.VTActor.refuses
           s c.args.byte _ c.args.actor.now c.step.new.actor k
           (c.in-Err.ensures.moved k (after_all Ground s) h),
     )
@@ -42,7 +46,7 @@ step-requires g c =
     let fine : c.args.self.now.has_failed ≡ false = search rules in
     let may = g.V.VTActor.may in
     let takes = g.V.VTActor.takes in
-    let limit = c.args.self.now.limit in
+    let limit = c.args.self.now.machine.limit in
     let b = c.args.byte in
     let a = c.args.actor.now in
     ⊎_map (λ r. r) (λ w. (

@@ -1,4 +1,5 @@
-use Rattle.std.proofs.Common.{[], take, refl, subst, arith, ◌≡◌, false, rules}
+use Rattle.std.proofs.Common.{[], ◌++◌, take, refl, sym, ◌∙◌, subst, arith, ◌≡◌, false, rules}
+use Rattle.esc_frame.specs.Leads.{Holds}
 use Rattle.esc_frame.specs.Leads.Unfinished.{Ground}
 use Rattle.esc_frame.specs.Machine.Keeps.{KeepsText}
 use Rattle.esc_frame.specs.Machine.Moves.{after_all}
@@ -12,8 +13,8 @@ unfolding LeadsToWithin
 returns-then-is_empty-clause-given g c =
     λ limit s (f, i, h). (
       (
-        (f, i, kept_all KeepsText c.args.self.now.limit c.args.self.now.machine s [] h),
-        given_all c.args.self.now.limit limit i g.V.VTActor.takes s
+        (f, i, kept_all KeepsText c.args.self.now.machine.limit c.args.self.now.machine s [] h),
+        given_all c.args.self.now.machine.limit limit i g.V.VTActor.takes s
             [] c.args.actor.now c.args.actor.now refl,
       ),
       λ k some few. absurd (omega (arith, some, few)),
@@ -23,19 +24,22 @@ pub returns-in-Ok-clause-given : goal.returns-in-Ok-clause-given
 unfolding LeadsToWithin
 returns-in-Ok-clause-given g c = λ limit s (f, i, h).
     let bs = take c.in-Ok.n c.args.bytes.now in
+    let same = c.in-Ok.ensures.count.3 in
     let u = after_all Ground s in (
       (
         (
           f,
-          i,
-          kept_all KeepsText c.args.self.now.limit c.take_some.new.self s bs
-              (c.in-Ok.ensures.took u h).0,
+          same ∙ i,
+          subst (λ l. Holds KeepsText l c.take_some.new.self (after_all Ground (s ++ bs)))
+              (sym same)
+              (kept_all KeepsText c.args.self.now.machine.limit c.take_some.new.self s bs
+              (c.in-Ok.ensures.took u h).0),
         ),
-        given_all c.args.self.now.limit limit i g.V.VTActor.takes s bs c.args.actor.now
+        given_all c.args.self.now.machine.limit limit i g.V.VTActor.takes s bs c.args.actor.now
             c.take_some.new.actor (c.in-Ok.ensures.took u h).1,
       ),
       subst (λ l. IsQuietWithin l s c.args.bytes.now c.in-Ok.n) i
-          (quiet_all c.args.self.now.limit s c.args.bytes.now c.in-Ok.n
+          (quiet_all c.args.self.now.machine.limit s c.args.bytes.now c.in-Ok.n
           (c.in-Ok.ensures.quiet u h)),
     )
 
@@ -43,7 +47,8 @@ pub returns-in-Err-clause-refused : goal.returns-in-Err-clause-refused
 unfolding LeadsToWithin
 returns-in-Err-clause-refused g c = λ limit s (f, i, h). (
   refl,
-  refused_all g.row.A.Denot c.args.self.now.limit limit i g.V.VTActor.takes g.V.VTActor.refuses s
+  refused_all g.row.A.Denot c.args.self.now.machine.limit limit i g.V.VTActor.takes
+      g.V.VTActor.refuses s
       c.args.bytes.now c.args.actor.now c.take_some.new.actor
       (c.in-Err.ensures.took (after_all Ground s) h),
 )
