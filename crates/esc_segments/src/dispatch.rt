@@ -46,10 +46,8 @@ pub fn escape<V: VTActor>(bytes: &[u8], actor: &mut V) -> Result<()>
         return Ok(());
     }
     let last = bytes.len() - 1;
-    match execute_in(bytes, actor) {
-        Ok(()) => dispatch_escape(&bytes[1..last], bytes[last], actor),
-        Err(e) => Err(e),
-    }
+    execute_in(bytes, actor)?;
+    dispatch_escape(&bytes[1..last], bytes[last], actor)
 }
 
 // The dispatch of an escape sequence with these intermediates and noise, and this final byte.
@@ -83,17 +81,13 @@ pub fn csi<V: VTActor>(bytes: &[u8], actor: &mut V) -> Result<()>
         → Emits ⊥ V.takes V.refuses result actor.old actor.new bytes.now finished (Csi o x f) }
     ensures ready { OnOk result (V.is_ready actor.new) }
 {
-    match execute_in(bytes, actor) {
-        Ok(()) => {
-            let (_, body) = split_opener(bytes);
-            if body.is_empty() {
-                return Ok(());
-            }
-            let last = body.len() - 1;
-            dispatch_csi(&body[..last], body[last], actor)
-        }
-        Err(e) => Err(e),
+    execute_in(bytes, actor)?;
+    let (_, body) = split_opener(bytes);
+    if body.is_empty() {
+        return Ok(());
     }
+    let last = body.len() - 1;
+    dispatch_csi(&body[..last], body[last], actor)
 }
 
 // The dispatch of a control sequence with this body and final byte.

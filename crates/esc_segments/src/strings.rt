@@ -39,18 +39,12 @@ pub fn osc<A: Allocator + Copy, V: VTActor>(
     ensures ready { OnOk result (V.is_ready actor.new) }
 {
     let (opener, text) = split_opener(bytes);
-    match execute_in(opener, actor) {
-        Ok(()) => {
-            if !finished {
-                return Ok(());
-            }
-            match kept_text(alloc, text) {
-                Ok(kept) => actor.osc_text(alloc, &kept),
-                Err(e) => Err(e),
-            }
-        }
-        Err(e) => Err(e),
+    execute_in(opener, actor)?;
+    if !finished {
+        return Ok(());
     }
+    let kept = kept_text(alloc, text)?;
+    actor.osc_text(alloc, &kept)
 }
 
 /// An application program command: the controls in its opener, and once it is finished the dispatch
@@ -68,15 +62,11 @@ pub fn apc<A: Allocator, V: VTActor>(
     ensures ready { OnOk result (V.is_ready actor.new) }
 {
     let (opener, content) = split_opener(bytes);
-    match execute_in(opener, actor) {
-        Ok(()) => {
-            if finished {
-                dispatch_apc(alloc, content, actor)
-            } else {
-                Ok(())
-            }
-        }
-        Err(e) => Err(e),
+    execute_in(opener, actor)?;
+    if finished {
+        dispatch_apc(alloc, content, actor)
+    } else {
+        Ok(())
     }
 }
 
@@ -87,10 +77,8 @@ fn dispatch_apc<A: Allocator, V: VTActor>(alloc: A, content: &[u8], actor: &mut 
         (ApcDispatch (those is_text content.now) ∷ []) actor.new }
     ensures ready { OnOk result (V.is_ready actor.new) }
 {
-    match text_of(alloc, content) {
-        Ok(text) => actor.apc_dispatch(&text),
-        Err(e) => Err(e),
-    }
+    let text = text_of(alloc, content)?;
+    actor.apc_dispatch(&text)
 }
 
 // The bytes 20 to 7F.
@@ -116,23 +104,19 @@ pub fn dcs<A: Allocator + Copy, V: VTActor>(
     ensures ready { OnOk result (V.is_ready actor.new) }
 {
     let (opener, body) = split_opener(bytes);
-    match execute_in(opener, actor) {
-        Ok(()) => {
-            let run = header_run(body);
-            if run == body.len() {
-                return Ok(());
-            }
-            emit_dcs(
-                alloc,
-                &body[..run],
-                body[run],
-                &body[run + 1..],
-                finished,
-                actor,
-            )
-        }
-        Err(e) => Err(e),
+    execute_in(opener, actor)?;
+    let run = header_run(body);
+    if run == body.len() {
+        return Ok(());
     }
+    emit_dcs(
+        alloc,
+        &body[..run],
+        body[run],
+        &body[run + 1..],
+        finished,
+        actor,
+    )
 }
 
 // The hook, the data and the unhook of a string with this header, final byte and data.
@@ -154,10 +138,8 @@ fn emit_dcs<A: Allocator + Copy, V: VTActor>(
     if !header.is_formed() {
         return Ok(());
     }
-    match hook(alloc, &header, x, last, actor) {
-        Ok(()) => put_and_end(content, finished, actor),
-        Err(e) => Err(e),
-    }
+    hook(alloc, &header, x, last, actor)?;
+    put_and_end(content, finished, actor)
 }
 
 // What the bytes but noise are as a header.
@@ -188,13 +170,9 @@ fn hook<A: Allocator + Copy, V: VTActor>(
         (hook_event (strip x.now) last ∷ []) actor.new }
     ensures ready { OnOk result (V.is_ready actor.new) }
 {
-    match params_in(alloc, x) {
-        Ok(params) => {
-            let kept = &header.intermediates;
-            actor.dcs_hook(last, &params, kept.as_slice(), kept.ignored)
-        }
-        Err(e) => Err(e),
-    }
+    let params = params_in(alloc, x)?;
+    let kept = &header.intermediates;
+    actor.dcs_hook(last, &params, kept.as_slice(), kept.ignored)
 }
 
 // The parameters that the bytes write.
@@ -203,10 +181,8 @@ fn params_in<A: Allocator + Copy>(alloc: A, x: &[u8]) -> Result<Vec<i64, A>>
         (parts_of (parameters_of (strip x.now)))) }
     ensures refused { OnErr result (Refused A) }
 {
-    match parameter_bytes(alloc, x) {
-        Ok(bytes) => params_of(alloc, &bytes),
-        Err(e) => Err(e),
-    }
+    let bytes = parameter_bytes(alloc, x)?;
+    params_of(alloc, &bytes)
 }
 
 // The bytes 30 to 39 and 3B.
@@ -224,10 +200,8 @@ fn put_and_end<V: VTActor>(content: &[u8], finished: bool, actor: &mut V) -> Res
         (puts content.now ++ (if finished then DcsUnhook ∷ [] else [])) actor.new }
     ensures ready { OnOk result (V.is_ready actor.new) }
 {
-    match put_all(content, actor) {
-        Ok(()) => { if finished { actor.dcs_unhook() } else { Ok(()) } }
-        Err(e) => Err(e),
-    }
+    put_all(content, actor)?;
+    if finished { actor.dcs_unhook() } else { Ok(()) }
 }
 
 // The data, byte by byte.

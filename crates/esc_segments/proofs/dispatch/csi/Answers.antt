@@ -6,10 +6,11 @@ use Rattle.esc_frame.specs.Segments.{csi_events, executes, opener, opener_events
 use Rattle.esc_frame.proofs.Given.{stops_more}
 use Rattle.esc_segments.proofs.Dispatching.{before_last, csi_emitted, last_is}
 use Rattle.esc_segments.proofs.Executes.{executes_whole_csi}
+use Rattle.esc_frame.proofs.Failed.{error_of}
 use Rattle.esc_segments.proofs.dispatch.csi.Goals as goal
 
-pub returns-else-is_empty-clause-emitted : goal.returns-else-is_empty-clause-emitted
-returns-else-is_empty-clause-emitted g c = λ finished o x f after h e i.
+pub returns-clause-emitted : goal.returns-clause-emitted
+returns-clause-emitted g c = λ finished o x f after h e i.
     let bytes = c.args.bytes.now in
     let body = c.split_opener.result.1.now in
     let s = c.split_opener.ensures kind.Csi o (x ++ f ∷ []) h.0
@@ -17,13 +18,14 @@ returns-else-is_empty-clause-emitted g c = λ finished o x f after h e i.
     csi_emitted ⊥ g.V.VTActor.takes g.V.VTActor.refuses c.dispatch_csi.result c.args.actor.now
     c.execute_in.new.actor c.dispatch_csi.new.actor bytes x _ o f
     _ e h.2 (before_last body x f s.1) (last_is body x f s.1)
-    c.in-Ok.ensures.emitted c.dispatch_csi.ensures.emitted
+    c.in_ok-execute_in.ensures.emitted c.dispatch_csi.ensures.emitted
 
-pub returns-in-Err-clause-emitted : goal.returns-in-Err-clause-emitted
-returns-in-Err-clause-emitted g c = λ finished o x f after h e i.
-    stops_more ⊥ g.V.VTActor.takes g.V.VTActor.refuses (opener_events o ++ executes x)
+pub returns-in_err-execute_in-clause-emitted : goal.returns-in_err-execute_in-clause-emitted
+returns-in_err-execute_in-clause-emitted g c = λ finished o x f after h e i.
+    rw (error_of c.from_residual.result c.from_residual.ensures.0).1
+    (stops_more ⊥ g.V.VTActor.takes g.V.VTActor.refuses (opener_events o ++ executes x)
     (csi_events (strip x) f) c.args.actor.now
     c.execute_in.new.actor
     (subst (λ es. StopsAt ⊥ g.V.VTActor.takes g.V.VTActor.refuses c.args.actor.now es
     c.execute_in.new.actor)
-    (ap executes e ∙ executes_whole_csi o x f h.2) c.in-Err.ensures.emitted)
+    (ap executes e ∙ executes_whole_csi o x f h.2) c.in_err-execute_in.ensures.emitted))

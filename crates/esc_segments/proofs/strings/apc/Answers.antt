@@ -9,6 +9,7 @@ use Rattle.esc_frame.specs.Segments.{executes, opener_events}
 use Rattle.memory.specs.Refusals.{Refused}
 use Rattle.esc_segments.proofs.Dispatching.{string_stops, string_emitted}
 use Rattle.esc_segments.proofs.Executes.{executes_opener}
+use Rattle.esc_frame.proofs.Failed.{error_of}
 use Rattle.esc_segments.proofs.strings.apc.Goals as goal
 
 pub returns-then-finished-clause-emitted : goal.returns-then-finished-clause-emitted
@@ -17,7 +18,7 @@ returns-then-finished-clause-emitted g c = λ o d after h w i.
     string_emitted (Refused g.row.A.Denot)
     g.V.VTActor.takes g.V.VTActor.refuses c.dispatch_apc.result c.args.actor.now
     c.execute_in.new.actor c.dispatch_apc.new.actor kind.Apc o
-    c.split_opener.result.0.now _ s.0 c.in-Ok.ensures.emitted
+    c.split_opener.result.0.now _ s.0 c.in_ok-execute_in.ensures.emitted
     (subst (λ b. Takes (Refused g.row.A.Denot)
     g.V.VTActor.takes g.V.VTActor.refuses c.dispatch_apc.result c.execute_in.new.actor
     (if b then ApcDispatch (those is_text d) ∷ [] else []) c.dispatch_apc.new.actor)
@@ -35,12 +36,13 @@ returns-else-finished-clause-emitted g c = λ o d after h w i.
     (sym c.if-finished.false)
     (subst (λ es. FoldsTo g.V.VTActor.takes c.args.actor.now es c.execute_in.new.actor)
     (ap executes s.0 ∙ executes_opener kind.Apc o ∙ sym (append-nil (opener_events o)))
-    c.in-Ok.ensures.emitted)
+    c.in_ok-execute_in.ensures.emitted)
 
-pub returns-in-Err-clause-emitted : goal.returns-in-Err-clause-emitted
-returns-in-Err-clause-emitted g c = λ o d after h w i.
-    let s = c.split_opener.ensures kind.Apc o d h.0 w in
+pub returns-in_err-execute_in-clause-emitted : goal.returns-in_err-execute_in-clause-emitted
+returns-in_err-execute_in-clause-emitted g c = λ o d after h w i.
+    rw (error_of c.from_residual.result c.from_residual.ensures.0).1
+    (let s = c.split_opener.ensures kind.Apc o d h.0 w in
     string_stops (Refused g.row.A.Denot)
     g.V.VTActor.takes g.V.VTActor.refuses c.args.actor.now c.execute_in.new.actor kind.Apc o
     c.split_opener.result.0.now _ s.0
-    c.in-Err.ensures.emitted
+    c.in_err-execute_in.ensures.emitted)

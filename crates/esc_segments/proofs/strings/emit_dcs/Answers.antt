@@ -7,10 +7,11 @@ use Rattle.esc_frame.specs.Segments.{hook_event, puts}
 use Rattle.esc_frame.proofs.Given.{stops_more}
 use Rattle.memory.specs.Refusals.{Refused}
 use Rattle.esc_segments.proofs.Emitted.{takes_by, takes_then}
+use Rattle.esc_frame.proofs.Failed.{error_of}
 use Rattle.esc_segments.proofs.strings.emit_dcs.Goals as goal
 
-pub returns-in-Ok-clause-emitted : goal.returns-in-Ok-clause-emitted
-returns-in-Ok-clause-emitted g c =
+pub returns-clause-emitted : goal.returns-clause-emitted
+returns-clause-emitted g c =
     let x = strip c.args.x.now in
     let formed : true ≡ is_dcs_header x =
     sym c.if-not-is_formed.false ∙ c.is_formed.ensures x c.header_of-header.ensures in
@@ -21,15 +22,16 @@ returns-in-Ok-clause-emitted g c =
     (takes_then (Refused g.row.A.Denot) g.V.VTActor.takes g.V.VTActor.refuses c.put_and_end.result
     (hook_event x c.args.last ∷ [])
     (puts c.args.content.now ++ (if c.args.finished then DcsUnhook ∷ [] else [])) c.args.actor.now
-    c.hook.new.actor c.put_and_end.new.actor c.in-Ok.ensures.emitted
+    c.hook.new.actor c.put_and_end.new.actor c.in_ok-hook.ensures.emitted
     (takes_by (Refused g.row.A.Denot) g.V.VTActor.takes g.V.VTActor.refuses c.put_and_end.result
     (puts c.args.content.now ++ (if c.args.finished then DcsUnhook ∷ [] else []))
     c.hook.new.actor c.put_and_end.new.actor
     c.put_and_end.ensures.emitted))
 
-pub returns-in-Err-clause-emitted : goal.returns-in-Err-clause-emitted
-returns-in-Err-clause-emitted g c =
-    let x = strip c.args.x.now in
+pub returns-in_err-hook-clause-emitted : goal.returns-in_err-hook-clause-emitted
+returns-in_err-hook-clause-emitted g c =
+    rw (error_of c.from_residual.result c.from_residual.ensures.0).1
+    (let x = strip c.args.x.now in
     let formed : true ≡ is_dcs_header x =
     sym c.if-not-is_formed.false ∙ c.is_formed.ensures x c.header_of-header.ensures in
     subst (λ b. StopsAt (Refused g.row.A.Denot)
@@ -39,4 +41,4 @@ returns-in-Err-clause-emitted g c =
     (stops_more (Refused g.row.A.Denot) g.V.VTActor.takes g.V.VTActor.refuses
     (hook_event x c.args.last ∷ [])
     (puts c.args.content.now ++ (if c.args.finished then DcsUnhook ∷ [] else [])) c.args.actor.now
-    c.hook.new.actor c.in-Err.ensures.emitted)
+    c.hook.new.actor c.in_err-hook.ensures.emitted))

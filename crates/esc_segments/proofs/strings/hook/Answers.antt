@@ -7,15 +7,15 @@ use Rattle.esc_frame.proofs.Headers.{hook_is}
 use Rattle.memory.specs.Refusals.{Refused}
 use Rattle.esc_segments.proofs.strings.hook.Goals as goal
 
-pub returns-in-Ok-clause-emitted : goal.returns-in-Ok-clause-emitted
-returns-in-Ok-clause-emitted g c =
+pub returns-clause-emitted : goal.returns-clause-emitted
+returns-clause-emitted g c =
     let x = strip c.args.x.now in
     subst (λ y. Takes (Refused g.row.A.Denot)
     g.V.VTActor.takes g.V.VTActor.refuses c.dcs_hook.result c.args.actor.now (y ∷ [])
     c.dcs_hook.new.self)
     (hook_is c.args.header.now x (parameters_of x)
     _ _ c.args.last c.requires.formed c.requires.kept
-    refl (c.deref.ensures.value ∙ c.in-Ok.ensures.ok)
+    refl (c.deref.ensures.value ∙ c.in_ok-params.ensures.ok)
     c.as_slice.ensures)
     (receives_takes (Refused g.row.A.Denot)
     g.V.VTActor.takes g.V.VTActor.refuses c.dcs_hook.result c.args.actor.now c.dcs_hook.new.self _

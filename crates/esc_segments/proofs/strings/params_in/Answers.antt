@@ -4,9 +4,9 @@ use Rattle.esc_frame.specs.Bodies.{held, value_after}
 use Rattle.esc_segments.proofs.Dispatching.{parameters_strip}
 use Rattle.esc_segments.proofs.strings.params_in.Goals as goal
 
-pub returns-in-Ok-clause-ok : goal.returns-in-Ok-clause-ok
-returns-in-Ok-clause-ok g c =
+pub returns-clause-ok : goal.returns-clause-ok
+returns-clause-ok g c =
     subst (λ y. IfOk c.params_of.result (λ v.
     v.items ≡ map (λ p. pos (held (value_after 0 p))) (parts_of y)))
-    (c.deref.ensures.value ∙ c.in-Ok.ensures.ok ∙ parameters_strip c.args.x.now)
+    (c.deref.ensures.value ∙ c.in_ok-bytes.ensures.ok ∙ parameters_strip c.args.x.now)
     c.params_of.ensures.ok
