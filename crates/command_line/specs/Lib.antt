@@ -1,2 +1,1 @@
-pub mod Characters
 pub mod Words

@@ -16,10 +16,11 @@ mod wrong;
 
 pub use arguments::{NO_TEXT, is_text, program_words};
 pub use ending::{Ended, Place, hindered, status_after, tell, unwritten};
+pub use esc_visible::is_shown;
 pub use noting::Noting;
 pub use output::{IS_OUTPUT, is_output};
 pub use reading::{Found, Given, read};
 pub use reason::Reason;
-pub use showing::{Shown, is_shown};
+pub use showing::Shown;
 pub use table::{Known, Takes};
 pub use wrong::Wrong;

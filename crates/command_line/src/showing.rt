@@ -1,7 +1,6 @@
 //! Words that are safe to print.
-ghost use Rattle.std.specs.Prelude.{◌≡◌};
-ghost use Rattle.command_line.specs.Characters.{is_hidden_high, is_hidden_low, is_shown};
 
+use esc_visible::is_shown;
 use std::fmt;
 use std::fmt::Display;
 
@@ -36,48 +35,4 @@ fn write_char<W: fmt::Write>(c: char, f: &mut fmt::Formatter<W>) -> fmt::Result 
         f.write_char(escaped)?;
     }
     Ok(())
-}
-
-/// Whether the character is shown as itself: U+0020 to U+007E, and from U+00A0 on, but for those
-/// without a width (Unicode, Default_Ignorable_Code_Point), those that break lines or change the
-/// direction of text, and U+FFF9 to U+FFFB.
-pub fn is_shown(c: char) -> bool
-    ensures { result ≡ is_shown c }
-{
-    let number = c as u32;
-    (0x20 <= number && number <= 0x7e)
-        || (0xa0 <= number && !is_hidden_low(number) && !is_hidden_high(number))
-}
-
-// Whether it is such a one below U+10000.
-fn is_hidden_low(number: u32) -> bool
-    ensures { result ≡ is_hidden_low number }
-{
-    match number {
-        0xad
-        | 0x34f
-        | 0x61c
-        | 0x115f..=0x1160
-        | 0x17b4..=0x17b5
-        | 0x180b..=0x180f
-        | 0x200b..=0x200f
-        | 0x2028..=0x202e
-        | 0x2060..=0x206f
-        | 0x3164
-        | 0xfe00..=0xfe0f
-        | 0xfeff
-        | 0xffa0
-        | 0xfff0..=0xfffb => true,
-        _ => false,
-    }
-}
-
-// Whether it is such a one from U+10000 on.
-fn is_hidden_high(number: u32) -> bool
-    ensures { result ≡ is_hidden_high number }
-{
-    match number {
-        0x1bca0..=0x1bca3 | 0x1d173..=0x1d17a | 0xe0000..=0xe0fff => true,
-        _ => false,
-    }
 }

@@ -7,7 +7,7 @@ use Rattle.std.specs.Prelude.{Option, Some, None}
 use Rattle.dump_page.specs.Pages.{Piece, found, is_fit, piece_chars, quoted}
 use Rattle.dump_page.specs.Pages.Piece.{Word, Quoted, LineEnd, PlaceColor, BytesColor, NoColor}
 use Rattle.dump_page.specs.Pages.Place.{Outside, Inside}
-use Rattle.command_line.specs.Characters.{is_shown}
+use Rattle.esc_visible.specs.Characters.{is_shown}
 use Rattle.dump_page.specs.Quoted.{Reader, closes, given, is_quoted, next, put, unquoted}
 use Rattle.dump_page.specs.Quoted.Reader.{InText, AfterBackslash, InNumber, AfterDigit}
 

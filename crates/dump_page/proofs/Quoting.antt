@@ -6,7 +6,7 @@ use Rattle.std.specs.List.{flat_map}
 use Rattle.std.proofs.lemmas.List.Folds.{list_all-append}
 use Rattle.std.proofs.lemmas.Grind.{flat_map-append}
 use Rattle.std.proofs.Math.Nat.{div-add-mod}
-use Rattle.command_line.specs.Characters.{is_shown}
+use Rattle.esc_visible.specs.Characters.{is_shown}
 use Rattle.std.proofs.Math.Logic.{∥∥₁_map}
 use Rattle.dump_page.specs.Quoted.{IsQuote, Quotes, QuotesSome, put, unquoted}
 use Rattle.dump_page.specs.Quoted.Reader.{InText}

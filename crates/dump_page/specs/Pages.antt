@@ -3,7 +3,7 @@ use Rattle.std.specs.Prelude.{ℕ, ◌≡◌, ◌==◌, Bool, true, not, ◌&&�
 use Rattle.std.specs.List.{list_all, flat_map}
 use Rattle.std.specs.Char.{encode_utf8}
 use Rattle.std.specs.Io.KnownBytes.{Appends}
-use Rattle.command_line.specs.Characters.{is_shown}
+use Rattle.esc_visible.specs.Characters.{is_shown}
 use Rattle.dump_page.specs.Quoted.{Reader, closes, is_quoted, next}
 use Rattle.dump_page.specs.Quoted.Reader.{InText}
 

@@ -3,7 +3,7 @@ use Rattle.std.specs.Prelude.{ℕ, ◌≡◌, ◌+◌, ◌*◌, ◌==◌, Bool, 
 use Rattle.std.specs.Char.{encode_utf8, digit_value}
 use Rattle.std.specs.List.{list_all, flat_map}
 use Rattle.std.specs.Option.{is_some}
-use Rattle.command_line.specs.Characters.{is_shown}
+use Rattle.esc_visible.specs.Characters.{is_shown}
 
 -- bytes before those of the rest
 abbrev pub put : List ℕ → Option (List ℕ) → Option (List ℕ)

@@ -3,8 +3,8 @@ ghost use Rattle.std.specs.Prelude.{◌≡◌, true};
 ghost use Rattle.dump_page.specs.Pages.{IsPage, IsPiece, is_word};
 
 use crate::phrase::Phrase;
-use command_line::is_shown;
 use esc_values::Text;
+use esc_visible::is_shown;
 use std::alloc::Global;
 
 /// Lines for a terminal or a file, of which each character is shown, ends a line, or belongs to a

@@ -4,8 +4,8 @@ ghost use Rattle.dump_page.specs.Pages.{IsPage, is_word};
 
 use crate::hidden::Hidden;
 use crate::quote::Quote;
-use command_line::is_shown;
 use esc_values::Text;
+use esc_visible::is_shown;
 use std::alloc::{AllocError, Global};
 use std::fmt::Display;
 

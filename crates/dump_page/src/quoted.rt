@@ -2,12 +2,12 @@
 ghost use Rattle.std.specs.Prelude.{◌≡◌, ◌≢◌, ◌<◌, ◌∷◌, ◌++◌, [], OnOk, true};
 ghost use Rattle.std.specs.Str.Chunks.{utf8_chunk_invalid, utf8_chunk_valid};
 ghost use Rattle.std.specs.Char.{digit_value, encode_utf8};
-ghost use Rattle.command_line.specs.Characters.{is_shown};
+ghost use Rattle.esc_visible.specs.Characters.{is_shown};
 ghost use Rattle.dump_page.specs.Quoted.{Quotes, QuotesSome};
 
 use crate::hidden::Hidden;
-use command_line::is_shown;
 use esc_values::Text;
+use esc_visible::is_shown;
 use std::alloc::AllocError;
 use std::str::Utf8Chunk;
 
@@ -60,9 +60,16 @@ pub fn push_string(text: &str, to: &mut Text) -> Result<(), AllocError>
     ensures { OnOk result (QuotesSome to.old to.new) }
 {
     for c in text.chars() {
-        push_shown(if is_shown(c) { c } else { '\u{fffd}' }, to)?;
+        push_shown(shown_for(c), to)?;
     }
     Ok(())
+}
+
+// A character that is shown: this one, or U+FFFD for one that is not.
+fn shown_for(c: char) -> char
+    ensures { is_shown result ≡ true }
+{
+    if is_shown(c) { c } else { '\u{fffd}' }
 }
 
 // Appends a character that is shown.

@@ -1,14 +1,11 @@
 -- Characters that deceive, and what is written of them.
-use Rattle.std.proofs.Common.{◌≡◌, ℕ, ◌<◌, ◌≤◌, ◌/◌, ◌%◌, ◌&&◌, nat_le, ◌||◌, ◌⊎◌, inl, inr, arith, Bool, true, false, nat_lt, if◌then◌else◌, List, [], ◌∷◌, ◌++◌, map, refl, sym, ap, ◌∙◌, subst, OnOk, Result}
+use Rattle.std.proofs.Common.{◌≡◌, ℕ, ◌<◌, ◌/◌, ◌%◌, ◌||◌, ◌⊎◌, inl, inr, arith, Bool, true, false, nat_lt, if◌then◌else◌, List, [], ◌∷◌, ◌++◌, map, refl, sym, ap, ◌∙◌, subst, OnOk, Result}
 use Rattle.std.specs.Fmt.{digit_glyph}
 use Rattle.std.specs.List.{filter, list_all, list_any}
-use Rattle.std.proofs.lemmas.Bool.{and_parts, ne_eqb}
+use Rattle.std.proofs.lemmas.Bool.{and_parts}
 use Rattle.std.proofs.lemmas.Bool.Decides.{nat_tests}
-use Rattle.ucd_table.specs.Rows.{Range, in_ranges}
-use Rattle.ucd_derived.specs.Binary.{is_default_ignorable_code_point}
-use Rattle.ucd_derived.specs.DefaultIgnorableCodePointRanges.{default_ignorable_code_point_ranges}
-use Rattle.ucd_props.specs.Binary.{is_bidi_control}
-use Rattle.ucd_props.specs.Ranges.{bidi_control_ranges}
+use Rattle.esc_visible.proofs.Ranges.{low_plain}
+use Rattle.esc_visible.specs.Characters.{digit_at, is_deceiving, leading, number_text}
 use Rattle.esc_frame.specs.Scans.{is_text_byte}
 use Rattle.std.proofs.lemmas.Grind.{flat_map-append}
 use Rattle.std.proofs.lemmas.Str.{encode_ascii}
@@ -16,7 +13,7 @@ use Rattle.esc_parse.proofs.Lists.{on_ok_more}
 use Rattle.esc_values.specs.Clear.{is_clear}
 use Rattle.esc_actions.specs.Texts.{texts_after}
 use Rattle.esc_actions.specs.Values.{Value, print, string, control, esc, csi, osc, kitty, sixel, termcap, short, enter, datum, exit}
-use Rattle.esc_filter.specs.Characters.{digit_at, in_characters, in_unicode, instead, is_deceiving, leading, visible}
+use Rattle.esc_filter.specs.Characters.{in_characters, in_unicode, instead}
 use Rattle.esc_filter.specs.Closing.{Left, after_values}
 use Rattle.esc_filter.specs.Noted.{AreKept, Writes}
 use Rattle.esc_filter.specs.declared.written.Written.{Written}
@@ -104,104 +101,6 @@ kept_themselves A u (x ∷ xs) (inr h) =
     by true e h rest = absurd cc
     by false e h rest = (plain_one u x e, rest h)
 
--- ---- ranges of characters of which none deceives
-
-leb_true : (a b : ℕ) → nat_le a b ≡ true → a ≤ b
-leb_true a b h = grind (arith, nat_tests)
-
-ltb_true : (a b : ℕ) → nat_lt a b ≡ true → a < b
-ltb_true a b h = grind (arith, nat_tests)
-
--- the range has none of the characters from a to b
-abbrev is_apart : ℕ → ℕ → Range → Bool
-is_apart a b r = nat_lt r.1 a || nat_lt b r.0
-
-not_within : (a b x y c : ℕ) → (nat_lt y a || nat_lt b x) ≡ true → a ≤ c → c ≤ b
-    → (nat_le x c && nat_le c y) ≡ false
-not_within a b x y c h l m = by (nat_le x c) refl (nat_le c y) refl
-  where
-    outside : (t : Bool) → nat_lt y a ≡ t → x ≤ c → c ≤ y → ⊥
-    outside true e j k = omega (arith, ltb_true y a e, l, k)
-    outside false e j k =
-        omega (arith, ltb_true b x (subst (λ z. (z || nat_lt b x) ≡ true) e h), m, j)
-
-    by : (t : Bool) → nat_le x c ≡ t → (z : Bool) → nat_le c y ≡ z → (t && z) ≡ false
-    by true e true f = absurd (outside (nat_lt y a) refl (leb_true x c e) (leb_true c y f))
-    by true e false f = refl
-    by false e z f = refl
-
-apart : (a b : ℕ) (rs : List Range) (c : ℕ) → list_all (is_apart a b) rs ≡ true → a ≤ c → c ≤ b
-    → in_ranges rs c ≡ false
-unfolding in_ranges
-apart a b [] c h l m = refl
-apart a b (r ∷ rs) c h l m =
-    let k = and_parts (is_apart a b r) (list_all (is_apart a b) rs) h in
-    rw (not_within a b r.0 r.1 c k.0 l m) (apart a b rs c k.1 l m)
-
--- the separators of lines and of paragraphs, as a range
-abbrev separators : List Range
-separators = (0x2028, 0x2028) ∷ (0x2029, 0x2029) ∷ []
-
-abbrev are_apart : ℕ → ℕ → Bool
-are_apart a b = list_all (is_apart a b) default_ignorable_code_point_ranges
-    && (list_all (is_apart a b) bidi_control_ranges && list_all (is_apart a b) separators)
-
-far_plain : (a b c : ℕ) → are_apart a b ≡ true → a ≤ c → c ≤ b → is_deceiving c ≡ false
-unfolding is_deceiving is_default_ignorable_code_point is_bidi_control
-far_plain a b c h l m =
-    let k = and_parts (list_all (is_apart a b) default_ignorable_code_point_ranges)
-    (list_all (is_apart a b) bidi_control_ranges && list_all (is_apart a b) separators) h in
-    let j = and_parts (list_all (is_apart a b) bidi_control_ranges)
-    (list_all (is_apart a b) separators) k.1 in
-    let i = and_parts (is_apart a b (0x2028, 0x2028)) (is_apart a b (0x2029, 0x2029) && true)
-    j.1 in
-    let i' = and_parts (is_apart a b (0x2029, 0x2029)) true i.1 in
-    rw (
-      apart a b default_ignorable_code_point_ranges c k.0 l m,
-      apart a b bidi_control_ranges c j.0 l m,
-      ne_eqb c 0x2028 (other 0x2028 i.0),
-      ne_eqb c 0x2029 (other 0x2029 i'.0),
-    ) refl
-  where
-    other : (x : ℕ) → is_apart a b (x, x) ≡ true → c ≡ x → ⊥
-    other x h e = by (nat_lt x a) refl
-      where
-        by : (t : Bool) → nat_lt x a ≡ t → ⊥
-        by true f = omega (arith, ltb_true x a f, l, e)
-        by false f =
-            omega (arith, ltb_true b x (subst (λ z. (z || nat_lt b x) ≡ true) f h), m, e)
-
-first_apart : are_apart 0 0xac ≡ true
-unfolding default_ignorable_code_point_ranges bidi_control_ranges
-first_apart = refl
-
-pub second_far : (c : ℕ) → 0xae ≤ c → c ≤ 0x34e → is_deceiving c ≡ false
-unfolding default_ignorable_code_point_ranges bidi_control_ranges
-second_far c = far_plain 0xae 0x34e c refl
-
-pub third_far : (c : ℕ) → 0x350 ≤ c → c ≤ 0x61b → is_deceiving c ≡ false
-unfolding default_ignorable_code_point_ranges bidi_control_ranges
-third_far c = far_plain 0x350 0x61b c refl
-
-pub fourth_far : (c : ℕ) → 0x2010 ≤ c → c ≤ 0x2027 → is_deceiving c ≡ false
-unfolding default_ignorable_code_point_ranges bidi_control_ranges
-fourth_far c = far_plain 0x2010 0x2027 c refl
-
-pub fifth_far : (c : ℕ) → 0x2070 ≤ c → c ≤ 0x3163 → is_deceiving c ≡ false
-unfolding default_ignorable_code_point_ranges bidi_control_ranges
-fifth_far c = far_plain 0x2070 0x3163 c refl
-
-pub sixth_far : (c : ℕ) → 0x3165 ≤ c → c ≤ 0xfdff → is_deceiving c ≡ false
-unfolding default_ignorable_code_point_ranges bidi_control_ranges
-sixth_far c = far_plain 0x3165 0xfdff c refl
-
-pub last_far : (c : ℕ) → 0x1d17b ≤ c → c ≤ 0xdffff → is_deceiving c ≡ false
-unfolding default_ignorable_code_point_ranges bidi_control_ranges
-last_far c = far_plain 0x1d17b 0xdffff c refl
-
-pub low_plain : (c : ℕ) → c < 0xad → is_deceiving c ≡ false
-low_plain c l = far_plain 0 0xac c first_apart (omega arith) (omega (arith, l))
-
 text_low : (x : ℕ) → is_text_byte x ≡ true → x < 0xad
 text_low x h = grind (arith, nat_tests)
 
@@ -212,10 +111,13 @@ text_themselves A u (x ∷ xs) h =
     let k = and_parts (is_text_byte x) (list_all is_text_byte xs) h in
     (plain_one u x (low_plain x (text_low x k.0)), text_themselves A u xs k.1)
 
--- ---- the visible form
+-- ---- the text of a number
 
 abbrev is_ascii : ℕ → Bool
 is_ascii b = nat_lt b 128
+
+ascii_low : (b : ℕ) → is_ascii b ≡ true → b < 128
+ascii_low b h = grind (arith, nat_tests)
 
 digit_ascii : (d : ℕ) → d < 16 → is_ascii (digit_glyph true d) ≡ true
 digit_ascii d h = grind (arith, nat_tests)
@@ -244,10 +146,10 @@ module _ (t : ℕ → Bool) (digit : (d : ℕ) → d < 16 → t (digit_glyph tru
       by false false = more (digit_at 0x100000 c) (digit_at 0x10000 c ∷ xs) (one 0x100000 c)
           (more (digit_at 0x10000 c) xs (one 0x10000 c) h)
 
-  all_visible : (c : ℕ) → t 0x3c ≡ true → t 0x55 ≡ true → t 0x2b ≡ true → t 0x3e ≡ true
-      → list_all t (visible c) ≡ true
-  unfolding visible
-  all_visible c h j k l =
+  all_number : (c : ℕ) → t 0x3c ≡ true → t 0x55 ≡ true → t 0x2b ≡ true → t 0x3e ≡ true
+      → list_all t (number_text c) ≡ true
+  unfolding number_text
+  all_number c h j k l =
       let d0 = digit_glyph true (c % 16) ∷ 0x3e ∷ [] in
       let d1 = digit_at 0x10 c ∷ d0 in
       let d2 = digit_at 0x100 c ∷ d1 in
@@ -260,11 +162,11 @@ module _ (t : ℕ → Bool) (digit : (d : ℕ) → d < 16 → t (digit_glyph tru
       (more (digit_glyph true (c % 16)) (0x3e ∷ []) (digit (c % 16) (sixteenth c))
       (more 0x3e [] l refl))))))))
 
-pub visible_clear : (c : ℕ) → list_all is_clear (visible c) ≡ true
-visible_clear c = all_visible is_clear digit_clear c refl refl refl refl
+pub number_clear : (c : ℕ) → list_all is_clear (number_text c) ≡ true
+number_clear c = all_number is_clear digit_clear c refl refl refl refl
 
-visible_ascii : (c : ℕ) → list_all is_ascii (visible c) ≡ true
-visible_ascii c = all_visible is_ascii digit_ascii c refl refl refl refl
+number_ascii : (c : ℕ) → list_all is_ascii (number_text c) ≡ true
+number_ascii c = all_number is_ascii digit_ascii c refl refl refl refl
 
 -- ---- its text
 
@@ -273,22 +175,21 @@ prints_text : (A : Type 0) (f : Bool) (xs : List ℕ) → list_all is_ascii xs �
 prints_text A f [] h = refl
 prints_text A f (x ∷ xs) h =
     let k = and_parts (is_ascii x) (list_all is_ascii xs) h in
-    let low : x < 128 = ltb_true x 128 k.0 in
-    ap (λ t. t ++ texts_after {A = A} false (map print xs)) (encode_ascii x low)
+    ap (λ t. t ++ texts_after {A = A} false (map print xs)) (encode_ascii x (ascii_low x k.0))
     ∙ ap (λ t. x ∷ t) (prints_text A false xs k.1)
 
-visible_text : (A : Type 0) (f : Bool) (c : ℕ)
-    → texts_after {A = A} f (map print (visible c)) ≡ visible c
-visible_text A f c = prints_text A f (visible c) (visible_ascii c)
+number_prints : (A : Type 0) (f : Bool) (c : ℕ)
+    → texts_after {A = A} f (map print (number_text c)) ≡ number_text c
+number_prints A f c = prints_text A f (number_text c) (number_ascii c)
 
 prints_end : (A : Type 0) (xs : List ℕ) → ends_in_string {A = A} false (map print xs) ≡ false
 prints_end A [] = refl
 prints_end A (x ∷ xs) = prints_end A xs
 
-visible_end : (A : Type 0) (f : Bool) (c : ℕ)
-    → ends_in_string {A = A} f (map print (visible c)) ≡ false
-unfolding visible
-visible_end A f c =
+number_end : (A : Type 0) (f : Bool) (c : ℕ)
+    → ends_in_string {A = A} f (map print (number_text c)) ≡ false
+unfolding number_text
+number_end A f c =
     prints_end A (0x55 ∷ 0x2b ∷ (leading c ++ (digit_at 0x1000 c ∷ digit_at 0x100 c
     ∷ digit_at 0x10 c ∷ digit_glyph true (c % 16) ∷ 0x3e ∷ [])))
 
@@ -297,15 +198,15 @@ prints_leave : (A : Type 0) (xs : List ℕ) (o : Left)
 prints_leave A [] o = refl
 prints_leave A (x ∷ xs) o = prints_leave A xs o
 
--- the visible form was appended
-pub writes_visible : {A : Type 0} (p q : Written A) (c : ℕ)
-    → q.spell.text ≡ p.spell.text ++ visible c → q.spell.follows_string ≡ false
+-- the text of a number was appended
+pub writes_number : {A : Type 0} (p q : Written A) (c : ℕ)
+    → q.spell.text ≡ p.spell.text ++ number_text c → q.spell.follows_string ≡ false
     → q.left ≡ p.left → q.by_lines ≡ p.by_lines → q.unicode ≡ p.unicode
-    → Writes p (map print (visible c)) q
-writes_visible {A} p q c t e o b u = (
-  t ∙ ap (λ x. p.spell.text ++ x) (sym (visible_text A p.spell.follows_string c)),
-  e ∙ sym (visible_end A p.spell.follows_string c),
-  o ∙ sym (prints_leave A (visible c) p.left),
+    → Writes p (map print (number_text c)) q
+writes_number {A} p q c t e o b u = (
+  t ∙ ap (λ x. p.spell.text ++ x) (sym (number_prints A p.spell.follows_string c)),
+  e ∙ sym (number_end A p.spell.follows_string c),
+  o ∙ sym (prints_leave A (number_text c) p.left),
   b,
   u,
 )

@@ -10,7 +10,8 @@ use Rattle.esc_actions.specs.Texts.{has_text, is_string, text_after}
 use Rattle.esc_actions.specs.Values.{Value, control, csi, osc, print, value_of}
 use Rattle.esc_actions.specs.declared.control_code.ControlCode.{ControlCode}
 use Rattle.esc_filter.proofs.Characters.{AreThemselves}
-use Rattle.esc_filter.specs.Characters.{in_unicode, is_deceiving}
+use Rattle.esc_visible.specs.Characters.{is_deceiving}
+use Rattle.esc_filter.specs.Characters.{in_unicode}
 use Rattle.esc_filter.specs.declared.unicode.Unicode.{Unicode}
 use Rattle.esc_filter.specs.declared.unicode.Unicode.TheVariants.{Drop}
 use Rattle.esc_actions.specs.declared.action.Action.{Action}

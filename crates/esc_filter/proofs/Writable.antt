@@ -8,10 +8,11 @@ use Rattle.esc_actions.specs.Values.{Value, print, string, control, esc, csi, os
 use Rattle.esc_actions.specs.Writable.{AreHandedOut, AreWritable, AreWritableFrom, IsWritable, is_exception, is_within, stays_within}
 use Rattle.esc_filter.proofs.Closers.{closed_writable}
 use Rattle.esc_filter.specs.Passing.{IsFilteredAs, is_mode_step, is_whole, passed, passed_as, passes, when_ended}
-use Rattle.esc_filter.specs.Characters.{in_characters, in_unicode, instead, is_deceiving, visible}
+use Rattle.esc_visible.specs.Characters.{is_deceiving, number_text}
+use Rattle.esc_filter.specs.Characters.{in_characters, in_unicode, instead}
 use Rattle.esc_filter.specs.declared.unicode.Unicode.{Unicode}
 use Rattle.esc_filter.specs.declared.unicode.Unicode.TheVariants.{Drop, Keep, Show}
-use Rattle.esc_filter.proofs.Characters.{kinds, visible_clear}
+use Rattle.esc_filter.proofs.Characters.{kinds, number_clear}
 use Rattle.esc_values.specs.Clear.{is_clear}
 
 -- what is no step of a mode may be where no mode is entered, and enters none
@@ -65,7 +66,7 @@ char_writable : {A : Type 0} (u : Unicode) (t w : Bool) (c : ℕ) (ws : List (Va
     → AreWritableFrom w ((if t then instead u c else print c ∷ []) ++ ws)
 char_writable Keep true w c ws h = h
 char_writable Show true true c ws h = absurd cc
-char_writable Show true false c ws h = prints_writable (visible c) ws (visible_clear c) h.2
+char_writable Show true false c ws h = prints_writable (number_text c) ws (number_clear c) h.2
 char_writable Drop true true c ws h = absurd cc
 char_writable Drop true false c ws h = h.2
 char_writable u false w c ws h = h

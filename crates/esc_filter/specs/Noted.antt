@@ -5,7 +5,8 @@ use Rattle.esc_actions.specs.Texts.{texts_after}
 use Rattle.esc_actions.specs.Values.{Value, value_of}
 use Rattle.esc_actions.specs.declared.action.Action.{Action}
 use Rattle.esc_normal.specs.Spelled.{Denies}
-use Rattle.esc_filter.specs.Characters.{in_unicode, is_deceiving}
+use Rattle.esc_visible.specs.Characters.{is_deceiving}
+use Rattle.esc_filter.specs.Characters.{in_unicode}
 use Rattle.esc_filter.specs.Closing.{after_values, unchanged}
 use Rattle.esc_filter.specs.Passing.{is_line_feed}
 use Rattle.esc_filter.specs.Texts.{ends_in_string}

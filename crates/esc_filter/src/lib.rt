@@ -37,6 +37,7 @@ mod written;
 
 pub use admit::{Admit, passes};
 pub use encoder::Encoder;
+pub use esc_visible::is_deceiving;
 pub use feeding::Feeding;
 pub use filter::Filter;
 pub use filter_error::FilterError;
@@ -50,4 +51,4 @@ pub use laws::{
 pub use line_filter::LineFilter;
 pub use policy::Policy;
 pub use schemes::is_scheme;
-pub use unicode::{Unicode, is_deceiving};
+pub use unicode::Unicode;

@@ -3,22 +3,24 @@ ghost use Rattle.std.specs.Prelude.{◌≡◌, ◌∷◌, ◌<◌, [], false, tr
 ghost use Rattle.std.specs.List.{list_all};
 ghost use Rattle.std.specs.Str.{chars};
 ghost use Rattle.esc_values.specs.Clear.{is_clear};
+ghost use Rattle.esc_visible.specs.Characters.{number_text};
 ghost use Rattle.esc_actions.specs.declared.action.Action.TheVariants as action;
 ghost use Rattle.esc_parse.specs.Given.{Receives};
 ghost use Rattle.memory.specs.Refusals.{Refused};
 ghost use Rattle.esc_filter.specs.Closing.{unchanged};
 ghost use Rattle.esc_actions.specs.Values.{control, print, value_of};
-ghost use Rattle.esc_filter.specs.Characters.{in_unicode, instead, visible};
+ghost use Rattle.esc_filter.specs.Characters.{in_unicode, instead};
 ghost use Rattle.esc_filter.specs.Noted.{AreKept, HasNoted, Notes, WriteDenies, Writes, without_text, written_of};
 ghost use Rattle.esc_filter.specs.Passing.{is_line_feed};
 
 use crate::left::{Left, link_after, renditions_after};
 use crate::text::emptied;
-use crate::unicode::{Unicode, has_deceiving, is_deceiving, push_visible};
+use crate::unicode::Unicode;
 use esc_actions::{Action, ControlCode};
 use esc_normal::Spell;
 use esc_parse::Sink;
 use esc_values::CsiParam;
+use esc_visible::{has_deceiving, is_deceiving, number_text};
 use std::alloc::{AllocError, Allocator, Global};
 
 /// Appends the text of each action, but of line feeds where lines are streams of their own.
@@ -152,7 +154,7 @@ impl<A: Allocator> Written<A> {
     {
         match self.unicode {
             Unicode::Keep => self.append_kept(c),
-            Unicode::Show => self.append_visible(c),
+            Unicode::Show => self.append_number(c),
             Unicode::Drop => Ok(()),
         }
     }
@@ -172,12 +174,12 @@ impl<A: Allocator> Written<A> {
         }
     }
 
-    // Appends the visible form of a character.
-    fn append_visible(&mut self, c: char) -> Result<(), AllocError>
-        ensures ok { OnOk result (Writes self.old (map print (visible c)) self.new) }
+    // Appends the text of a character's number.
+    fn append_number(&mut self, c: char) -> Result<(), AllocError>
+        ensures ok { OnOk result (Writes self.old (map print (number_text c)) self.new) }
         ensures refused { OnErr result (Refused A) }
     {
-        match push_visible(&mut self.spell.text, c) {
+        match self.spell.text.push_str(number_text(c).as_str()) {
             Ok(()) => {
                 self.spell.follows_string = false;
                 Ok(())

@@ -2,16 +2,17 @@
 use Rattle.std.proofs.Common.{ℕ, ◌≡◌, ◌<◌, ◌≤◌, ◌+◌, ◌-◌, ◌*◌, ◌/◌, ◌%◌, ◌==◌, ◌||◌, inl, inr, Bool, true, false, nat_lt, if◌then◌else◌, List, [], ◌∷◌, ◌++◌, map, arith, refl, ap, sym, ◌∙◌, subst, append_assoc}
 use Rattle.std.specs.List.{list_all}
 use Rattle.std.proofs.lemmas.Bool.{cases_lt}
-use Rattle.command_line.specs.Characters.{is_shown}
+use Rattle.esc_visible.specs.Characters.{digit_at, four_digits, is_shown, number_text}
 use Rattle.esc_frame.specs.Sequences.{is_pair, is_sequence, number_of}
 use Rattle.esc_frame.proofs.Characters.{four_is, none_five, none_none, none_one, number_four, number_three, number_two, spelled, three_is, two_is}
 use Rattle.std.specs.Char.{encode_utf8}
+use Rattle.std.specs.Fmt.{digit_glyph}
 use Rattle.std.proofs.lemmas.Bool.Decides.{nat_tests}
 use Rattle.std.proofs.lemmas.List.{append-nil}
 use Rattle.esc_reveal.proofs.Parts.{AreHigh, all_parts}
 use Rattle.esc_reveal.specs.ReadBack.{digit_value, is_byte, read_back, read_from, value_after}
 use Rattle.esc_reveal.specs.ReadBack.Reading.{Plain, Name}
-use Rattle.esc_reveal.specs.Visible.{ascii_text, character_text, four_digits, hex_byte, hex_digit, named, printed_text, quoted_text, single_text, stray_text, visible}
+use Rattle.esc_reveal.specs.Visible.{ascii_text, character_text, hex_byte, printed_text, quoted_text, single_text, stray_text, visible}
 
 -- whatever follows this text, it is read as these bytes
 abbrev pub IsRead : List ℕ → List ℕ → Type 0
@@ -27,13 +28,13 @@ read_both t u bs cs h k after =
 
 -- ---- digits
 
-digit_back : (n : ℕ) → n < 16 → digit_value (hex_digit n) ≡ n
+digit_back : (n : ℕ) → n < 16 → digit_value (digit_glyph true n) ≡ n
 digit_back n h = grind (arith, nat_tests)
 
-no_end : (n : ℕ) → n < 16 → (hex_digit n == 0x3e) ≡ false
+no_end : (n : ℕ) → n < 16 → (digit_glyph true n == 0x3e) ≡ false
 no_end n h = grind (arith, nat_tests)
 
-no_letter : (n : ℕ) → n < 16 → (hex_digit n == 0x55) ≡ false
+no_letter : (n : ℕ) → n < 16 → (digit_glyph true n == 0x55) ≡ false
 no_letter n h = grind (arith, nat_tests)
 
 -- ---- a byte by its number
@@ -44,7 +45,7 @@ read_hex b h after =
     let lo : b % 16 < 16 = omega arith in
     rw (no_end (b / 16) hi, no_end (b % 16) lo, no_letter (b / 16) hi)
     (ap (λ n. n ∷ read_from Plain after)
-    (ap (λ x. (0 * 16 + x) * 16 + digit_value (hex_digit (b % 16))) (digit_back (b / 16) hi)
+    (ap (λ x. (0 * 16 + x) * 16 + digit_value (digit_glyph true (b % 16))) (digit_back (b / 16) hi)
     ∙ ap (λ x. (0 * 16 + b / 16) * 16 + x) (digit_back (b % 16) lo) ∙ omega arith))
 
 -- ---- a byte below 80
@@ -111,27 +112,27 @@ number_after n [] = n
 number_after n (k ∷ ks) = number_after (n * 16 + k) ks
 
 digits_name : (ks n after : List ℕ) → AreDigits ks
-    → read_from (Name n) (map hex_digit ks ++ after)
-    ≡ read_from (Name (n ++ map hex_digit ks)) after
+    → read_from (Name n) (map (digit_glyph true) ks ++ after)
+    ≡ read_from (Name (n ++ map (digit_glyph true) ks)) after
 digits_name [] n after h = ap (λ x. read_from (Name x) after) (sym (append-nil n))
 digits_name (k ∷ ks) n after h =
-    let d = hex_digit k in
+    let d = digit_glyph true k in
     rw (no_end k h.0)
     (digits_name ks (n ++ d ∷ []) after h.1
-    ∙ ap (λ x. read_from (Name x) after) (append_assoc n (d ∷ []) (map hex_digit ks)))
+    ∙ ap (λ x. read_from (Name x) after) (append_assoc n (d ∷ []) (map (digit_glyph true) ks)))
 
 digits_value : (ks : List ℕ) (n : ℕ) → AreDigits ks
-    → value_after n (map hex_digit ks) ≡ number_after n ks
+    → value_after n (map (digit_glyph true) ks) ≡ number_after n ks
 digits_value [] n h = refl
 digits_value (k ∷ ks) n h =
-    ap (λ x. value_after (n * 16 + x) (map hex_digit ks)) (digit_back k h.0)
+    ap (λ x. value_after (n * 16 + x) (map (digit_glyph true) ks)) (digit_back k h.0)
     ∙ digits_value ks (n * 16 + k) h.1
 
 read_digits : (ks : List ℕ) (c : ℕ) → AreDigits ks → number_after 0 ks ≡ c
-    → IsRead (0x3c ∷ 0x55 ∷ 0x2b ∷ (map hex_digit ks ++ 0x3e ∷ [])) (encode_utf8 c)
+    → IsRead (0x3c ∷ 0x55 ∷ 0x2b ∷ (map (digit_glyph true) ks ++ 0x3e ∷ [])) (encode_utf8 c)
 read_digits ks c h e after =
     let start = 0x55 ∷ 0x2b ∷ [] in
-    ap (read_from (Name start)) (append_assoc (map hex_digit ks) (0x3e ∷ []) after)
+    ap (read_from (Name start)) (append_assoc (map (digit_glyph true) ks) (0x3e ∷ []) after)
     ∙ digits_name ks start (0x3e ∷ after) h
     ∙ ap (λ n. encode_utf8 n ++ read_from Plain after) (digits_value ks 0 h ∙ e)
 
@@ -144,23 +145,24 @@ low_small c = (omega arith, (omega arith, (omega arith, (omega arith, tt))))
 abbrev marked : List ℕ → ℕ → List ℕ
 marked high c = 0x3c ∷ 0x55 ∷ 0x2b ∷ (high ++ (four_digits c ++ 0x3e ∷ []))
 
-pub read_named : (c : ℕ) → c < 0x110000 → IsRead (named c) (encode_utf8 c)
-read_named c h = by_four (nat_lt c 0x10000) refl
+pub read_number : (c : ℕ) → c < 0x110000 → IsRead (number_text c) (encode_utf8 c)
+unfolding number_text
+read_number c h = by_four (nat_lt c 0x10000) refl
   where
     by_five : (x : Bool) → nat_lt c 0x100000 ≡ x → 0x10000 ≤ c
-        → IsRead (marked (if x then hex_digit (c / 0x10000) ∷ []
-        else hex_digit (c / 0x100000) ∷ hex_digit (c / 0x10000 % 16) ∷ []) c) (encode_utf8 c)
+        → IsRead (marked (if x then digit_at 0x10000 c ∷ []
+        else digit_at 0x100000 c ∷ digit_at 0x10000 c ∷ []) c) (encode_utf8 c)
     by_five true e l =
         let few = lt_of c 0x100000 e in
-        read_digits (c / 0x10000 ∷ low_keys c) c (omega (arith, few), low_small c)
+        read_digits (c / 0x10000 % 16 ∷ low_keys c) c (omega arith, low_small c)
         (omega (arith, few))
     by_five false e l =
-        read_digits (c / 0x100000 ∷ c / 0x10000 % 16 ∷ low_keys c) c
-        (omega (arith, h), (omega arith, low_small c)) (omega (arith, h))
+        read_digits (c / 0x100000 % 16 ∷ c / 0x10000 % 16 ∷ low_keys c) c
+        (omega arith, (omega arith, low_small c)) (omega (arith, h))
 
     by_four : (x : Bool) → nat_lt c 0x10000 ≡ x
-        → IsRead (marked (if x then [] else if nat_lt c 0x100000 then hex_digit (c / 0x10000) ∷ []
-        else hex_digit (c / 0x100000) ∷ hex_digit (c / 0x10000 % 16) ∷ []) c) (encode_utf8 c)
+        → IsRead (marked (if x then [] else if nat_lt c 0x100000 then digit_at 0x10000 c ∷ []
+        else digit_at 0x100000 c ∷ digit_at 0x10000 c ∷ []) c) (encode_utf8 c)
     by_four true e =
         let few = lt_of c 0x10000 e in
         read_digits (low_keys c) c (low_small c) (omega (arith, few))
@@ -248,10 +250,10 @@ number_small (a ∷ b ∷ c ∷ d ∷ e ∷ x) h = absurd (none_five a b c d e x
 pub read_character : (x : List ℕ) → is_sequence x ≡ true → IsRead (character_text x) x
 read_character x h = by_shown (is_shown (number_of x))
   where
-    by_shown : (s : Bool) → IsRead (if s then x else named (number_of x)) x
+    by_shown : (s : Bool) → IsRead (if s then x else number_text (number_of x)) x
     by_shown true = read_high x (sequence_high x h)
-    by_shown false = subst (IsRead (named (number_of x))) (encoded_back x h)
-        (read_named (number_of x) (number_small x h))
+    by_shown false = subst (IsRead (number_text (number_of x))) (encoded_back x h)
+        (read_number (number_of x) (number_small x h))
 
 -- ---- all bytes
 

@@ -2,19 +2,20 @@
 use Rattle.std.proofs.Common.{ℕ, ◌≡◌, ◌<◌, ◌≤◌, ◌+◌, ◌/◌, ◌%◌, ◌==◌, ◌&&◌, ◌||◌, Bool, true, false, nat_lt, if◌then◌else◌, List, [], ◌∷◌, ◌++◌, arith, refl, ap, ◌∙◌}
 use Rattle.std.specs.List.{list_all}
 use Rattle.std.specs.Char.{encode_utf8}
+use Rattle.std.specs.Fmt.{digit_glyph}
 use Rattle.std.specs.Str.{encode_utf8_all}
 use Rattle.std.proofs.lemmas.Bool.Decides.{nat_tests}
 use Rattle.std.proofs.lemmas.Bool.{and_parts}
 use Rattle.std.proofs.lemmas.List.{append-nil}
 use Rattle.std.proofs.lemmas.List.Folds.{list_all-append}
 use Rattle.std.proofs.lemmas.Str.{encode_ascii, encodes-append}
-use Rattle.command_line.specs.Characters.{is_among, is_shown}
+use Rattle.esc_visible.specs.Characters.{digit_at, four_digits, is_among, is_shown, number_text}
 use Rattle.esc_frame.specs.Sequences.{is_sequence, number_of}
 use Rattle.esc_values.specs.Clear.{IsTextOf}
 use Rattle.esc_reveal.proofs.Parts.{AreHigh, all_parts}
-use Rattle.esc_reveal.proofs.Reading.{encoded_back, ge_of, lt_of, number_small}
+use Rattle.esc_reveal.proofs.Reading.{encoded_back, ge_of, lt_of}
 use Rattle.esc_reveal.specs.ReadBack.{is_byte}
-use Rattle.esc_reveal.specs.Visible.{ascii_text, character_text, four_digits, hex_byte, hex_digit, named, printed_text, quoted_text, single_text, stray_text, visible}
+use Rattle.esc_reveal.specs.Visible.{ascii_text, character_text, hex_byte, printed_text, quoted_text, single_text, stray_text, visible}
 
 abbrev IsShown : List ℕ → List ℕ → Type 0
 IsShown t x = IsTextOf is_shown t
@@ -50,7 +51,7 @@ all_encode (c ∷ t) h = let q = and_parts (is_mere c) (list_all is_mere t) h in
 mere : (t x : List ℕ) → list_all is_mere t ≡ true → IsShown t x
 mere t x h = (t, all_shown t h, all_encode t h)
 
-digit_mere : (n : ℕ) → n < 16 → is_mere (hex_digit n) ≡ true
+digit_mere : (n : ℕ) → n < 16 → is_mere (digit_glyph true n) ≡ true
 digit_mere n h = grind (arith, nat_tests)
 
 -- ---- single bytes
@@ -123,41 +124,35 @@ marked_mere high c h =
     list_all-append is_mere high (four_digits c ++ 0x3e ∷ []) ∙ ap (λ x. x
     && list_all is_mere (four_digits c ++ 0x3e ∷ [])) h ∙ four_mere c
 
-named_mere : (c : ℕ) → c < 0x110000 → list_all is_mere (named c) ≡ true
-named_mere c h = by_four (nat_lt c 0x10000)
+number_mere : (c : ℕ) → list_all is_mere (number_text c) ≡ true
+unfolding number_text
+number_mere c = by (nat_lt c 0x10000) (nat_lt c 0x100000)
   where
-    by_five : (x : Bool) → nat_lt c 0x100000 ≡ x
-        → list_all is_mere (marked (if x then hex_digit (c / 0x10000) ∷ []
-        else hex_digit (c / 0x100000) ∷ hex_digit (c / 0x10000 % 16) ∷ []) c) ≡ true
-    by_five true e =
-        let few = lt_of c 0x100000 e in
-        marked_mere (hex_digit (c / 0x10000) ∷ []) c
-        (rw (digit_mere (c / 0x10000) (omega (arith, few))) refl)
-    by_five false e =
-        marked_mere (hex_digit (c / 0x100000) ∷ hex_digit (c / 0x10000 % 16) ∷ []) c
-        (rw (
-          digit_mere (c / 0x100000) (omega (arith, h)),
-          digit_mere (c / 0x10000 % 16) (omega arith),
-        ) refl)
+    fifth : is_mere (digit_at 0x10000 c) ≡ true
+    fifth = digit_mere (c / 0x10000 % 16) (omega arith)
 
-    by_four : (x : Bool)
-        → list_all is_mere (marked (if x then [] else if nat_lt c 0x100000
-        then hex_digit (c / 0x10000) ∷ []
-        else hex_digit (c / 0x100000) ∷ hex_digit (c / 0x10000 % 16) ∷ []) c) ≡ true
-    by_four true = marked_mere [] c refl
-    by_four false = by_five (nat_lt c 0x100000) refl
+    sixth : is_mere (digit_at 0x100000 c) ≡ true
+    sixth = digit_mere (c / 0x100000 % 16) (omega arith)
+
+    by : (x y : Bool) → list_all is_mere (marked (if x then [] else if y
+        then digit_at 0x10000 c ∷ []
+        else digit_at 0x100000 c ∷ digit_at 0x10000 c ∷ []) c) ≡ true
+    by true y = marked_mere [] c refl
+    by false true = marked_mere (digit_at 0x10000 c ∷ []) c (rw fifth refl)
+    by false false =
+        marked_mere (digit_at 0x100000 c ∷ digit_at 0x10000 c ∷ []) c (rw (sixth, fifth) refl)
 
 character : (x : List ℕ) → is_sequence x ≡ true → IsShown (character_text x) x
 character x h = by_shown (is_shown (number_of x)) refl
   where
     by_shown : (s : Bool) → is_shown (number_of x) ≡ s
-        → IsShown (if s then x else named (number_of x)) x
+        → IsShown (if s then x else number_text (number_of x)) x
     by_shown true e = (
       number_of x ∷ [],
       rw e refl,
       append-nil (encode_utf8 (number_of x)) ∙ encoded_back x h,
     )
-    by_shown false e = mere (named (number_of x)) x (named_mere (number_of x) (number_small x h))
+    by_shown false e = mere (number_text (number_of x)) x (number_mere (number_of x))
 
 pub shows_characters : (s : List ℕ) → list_all is_byte s ≡ true → IsTextOf is_shown (visible s)
 shows_characters s h = all_parts IsShown none both single stray character s h

@@ -1,18 +1,15 @@
 -- Bytes as text that shows each of them: printable characters alone.
-use Rattle.std.specs.Prelude.{ℕ, ◌+◌, ◌/◌, ◌%◌, Bool, nat_le, nat_lt, ◌==◌, ◌||◌, if◌then◌else◌, List, [], ◌∷◌, ◌++◌, length}
+use Rattle.std.specs.Prelude.{ℕ, ◌+◌, ◌/◌, ◌%◌, Bool, true, nat_le, nat_lt, ◌==◌, ◌||◌, if◌then◌else◌, List, [], ◌∷◌, ◌++◌, length}
+use Rattle.std.specs.Fmt.{digit_glyph}
 use Rattle.std.specs.List.{flat_map}
-use Rattle.command_line.specs.Characters.{is_shown}
 use Rattle.esc_frame.specs.Sequences.{is_prefix, number_of, outcome}
 use Rattle.esc_frame.specs.declared.utf8.sequence.Outcome.{Outcome}
 use Rattle.esc_frame.specs.declared.utf8.sequence.Outcome.TheVariants.{Whole, More, Broken}
-
--- 0-9 and A-F
-abbrev pub hex_digit : ℕ → ℕ
-hex_digit n = if nat_lt n 10 then 0x30 + n else 0x37 + n
+use Rattle.esc_visible.specs.Characters.{is_shown, number_text}
 
 -- a byte by its number, as <9D>
 abbrev pub hex_byte : ℕ → List ℕ
-hex_byte b = 0x3c ∷ hex_digit (b / 16) ∷ hex_digit (b % 16) ∷ 0x3e ∷ []
+hex_byte b = 0x3c ∷ digit_glyph true (b / 16) ∷ digit_glyph true (b % 16) ∷ 0x3e ∷ []
 
 -- `<` and `^`, with which the notation begins, are shown by their numbers
 abbrev pub is_mark : ℕ → Bool
@@ -33,24 +30,9 @@ ascii_text b = if nat_lt b 0x20 then 0x5e ∷ (0x40 + b) ∷ [] else printed_tex
 abbrev pub single_text : ℕ → List ℕ
 single_text b = if nat_lt b 0x80 then ascii_text b else hex_byte b
 
--- the last four digits of a number, and those before them
-abbrev pub four_digits : ℕ → List ℕ
-four_digits c = hex_digit (c / 4096 % 16) ∷ hex_digit (c / 256 % 16) ∷ hex_digit (c / 16 % 16)
-    ∷ hex_digit (c % 16) ∷ []
-
-abbrev pub high_digits : ℕ → List ℕ
-high_digits c =
-    if nat_lt c 0x10000 then []
-    else if nat_lt c 0x100000 then hex_digit (c / 0x10000) ∷ []
-    else hex_digit (c / 0x100000) ∷ hex_digit (c / 0x10000 % 16) ∷ []
-
--- a character by its number, as <U+202E>
-abbrev pub named : ℕ → List ℕ
-named c = 0x3c ∷ 0x55 ∷ 0x2b ∷ (high_digits c ++ (four_digits c ++ 0x3e ∷ []))
-
 -- a character of two to four bytes: as it is, where it shows as itself
 abbrev pub character_text : List ℕ → List ℕ
-character_text x = if is_shown (number_of x) then x else named (number_of x)
+character_text x = if is_shown (number_of x) then x else number_text (number_of x)
 
 -- bytes that are no part of a character
 abbrev pub stray_text : List ℕ → List ℕ

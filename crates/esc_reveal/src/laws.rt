@@ -1,7 +1,7 @@
 //! Laws of visible text and of pieces.
 ghost use Rattle.std.specs.Prelude.{◌≡◌, ◌++◌, ◌↔◌, ℕ, Bool, List, Option, false, true};
 ghost use Rattle.std.specs.List.{flat_map, list_all};
-ghost use Rattle.command_line.specs.Characters.{is_shown};
+ghost use Rattle.esc_visible.specs.Characters.{is_shown};
 ghost use Rattle.esc_values.specs.Clear.{IsTextOf};
 ghost use Rattle.esc_actions.specs.Meaning.{meaning_within};
 ghost use Rattle.esc_frame.specs.Stream.{IsAtGround};

@@ -2,11 +2,11 @@
 ghost use Rattle.std.specs.Prelude.{◌≡◌, ◌<◌, ◌++◌, ◌∷◌, [], IfOk, OnErr, OnOk, true};
 ghost use Rattle.esc_frame.specs.Machine.Prefixes.{prefix_of};
 ghost use Rattle.esc_frame.specs.Sequences.{is_prefix, is_sequence, number_of, outcome};
-ghost use Rattle.esc_reveal.specs.Visible.{ascii_text, begun_after, character_text, first_begun, first_text, four_digits, hex_byte, hex_digit, high_digits, is_mark, named, next_begun, next_text, printed_text, settled, single_text, stray_text, visible};
+ghost use Rattle.esc_reveal.specs.Visible.{ascii_text, begun_after, character_text, first_begun, first_text, hex_byte, is_mark, next_begun, next_text, printed_text, settled, single_text, stray_text, visible};
 ghost use Rattle.memory.specs.Refusals.{Refused};
 
-use command_line::is_shown;
 use esc_frame::utf8::sequence::{Outcome, Pending, lies_from};
+use esc_visible::{hex_digit, is_shown, number_text};
 use std::alloc::{AllocError, Allocator};
 
 /// Appends the visible text of `bytes`: of each well-formed character of UTF-8 (Unicode, Table 3-7)
@@ -127,17 +127,6 @@ fn is_mark(byte: u8) -> bool
     byte == b'<' || byte == b'^'
 }
 
-fn hex_digit(value: u8) -> u8
-    requires { value < 16 }
-    ensures { result ≡ hex_digit value }
-{
-    if value < 10 {
-        0x30 + value
-    } else {
-        0x37 + value
-    }
-}
-
 // A byte by its number.
 fn push_hex<A: Allocator>(text: &mut Vec<u8, A>, byte: u8) -> Result<(), AllocError>
     ensures ok { OnOk result (text.new.items ≡ text.old.items ++ hex_byte byte) }
@@ -185,7 +174,7 @@ fn push_character<A: Allocator>(
 {
     let c = begun.character(byte);
     if !is_shown(c) {
-        return push_named(text, c as u32);
+        return memory::extend(text, number_text(c).as_str().as_bytes());
     }
     match begun {
         Pending::Nothing => memory::extend(text, &[byte]),
@@ -193,44 +182,4 @@ fn push_character<A: Allocator>(
         Pending::Two(a, b) => memory::extend(text, &[a, b, byte]),
         Pending::Three(a, b, c) => memory::extend(text, &[a, b, c, byte]),
     }
-}
-
-// A character by its number.
-fn push_named<A: Allocator>(text: &mut Vec<u8, A>, number: u32) -> Result<(), AllocError>
-    requires { number < 0x110000 }
-    ensures ok { OnOk result (text.new.items ≡ text.old.items ++ named number) }
-    ensures refused { OnErr result (Refused A) }
-{
-    memory::extend(text, b"<U+")?;
-    push_high_digits(text, number)?;
-    push_four_digits(text, number)?;
-    memory::extend(text, b">")
-}
-
-fn push_high_digits<A: Allocator>(text: &mut Vec<u8, A>, number: u32) -> Result<(), AllocError>
-    requires { number < 0x110000 }
-    ensures ok { OnOk result (text.new.items ≡ text.old.items ++ high_digits number) }
-    ensures refused { OnErr result (Refused A) }
-{
-    if number < 0x10000 {
-        Ok(())
-    } else if number < 0x100000 {
-        memory::extend(text, &[hex_digit((number / 0x10000) as u8)])
-    } else {
-        let last = hex_digit((number / 0x10000 % 16) as u8);
-        memory::extend(text, &[hex_digit((number / 0x100000) as u8), last])
-    }
-}
-
-fn push_four_digits<A: Allocator>(text: &mut Vec<u8, A>, number: u32) -> Result<(), AllocError>
-    ensures ok { OnOk result (text.new.items ≡ text.old.items ++ four_digits number) }
-    ensures refused { OnErr result (Refused A) }
-{
-    let first = hex_digit((number / 4096 % 16) as u8);
-    let second = hex_digit((number / 256 % 16) as u8);
-    let third = hex_digit((number / 16 % 16) as u8);
-    memory::extend(
-        text,
-        &[first, second, third, hex_digit((number % 16) as u8)],
-    )
 }

@@ -1,8 +1,8 @@
 use Rattle.std.proofs.Common.{rules, ◌≡◌, ◌==◌, ◌||◌, Bool, true, false, refl, sym, ◌∙◌}
 use Rattle.ucd_derived.specs.Binary.{is_default_ignorable_code_point}
 use Rattle.ucd_props.specs.Binary.{is_bidi_control}
-use Rattle.esc_filter.proofs.unicode.is_deceiving.Goals as goal
-use Rattle.esc_filter.specs.Characters.{is_deceiving}
+use Rattle.esc_visible.proofs.deceiving.is_deceiving.Goals as goal
+use Rattle.esc_visible.specs.Characters.{is_deceiving}
 
 neither : (a b x : Bool) → a ≡ false → b ≡ false → (a || (b || x)) ≡ x
 neither true b x h k = absurd cc

@@ -1,6 +1,6 @@
 use Rattle.std.proofs.Common.{rules, arith}
-use Rattle.esc_filter.proofs.Characters.{fifth_far, fourth_far, last_far, low_plain, second_far, sixth_far, third_far}
-use Rattle.esc_filter.proofs.unicode.is_far.Goals as goal
+use Rattle.esc_visible.proofs.Ranges.{fifth_far, fourth_far, last_far, low_plain, second_far, sixth_far, third_far}
+use Rattle.esc_visible.proofs.deceiving.is_far.Goals as goal
 
 pub returns-in-0-to-172 : goal.returns-in-0-to-172
 returns-in-0-to-172 c = λ _. low_plain c.args.number (search (arith, rules))
