@@ -1,1 +1,2 @@
 pub mod Characters
+pub mod Signs

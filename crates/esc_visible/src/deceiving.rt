@@ -4,6 +4,7 @@ ghost use Rattle.std.specs.List.{list_any};
 ghost use Rattle.std.specs.Str.{chars};
 ghost use Rattle.esc_visible.specs.Characters.{is_deceiving};
 
+use crate::signs::may_deceive;
 use ucd_derived::is_default_ignorable_code_point;
 use ucd_props::is_bidi_control;
 
@@ -45,9 +46,14 @@ fn is_far(number: u32) -> bool
     }
 }
 
-/// Whether one of the characters of a text is.
+/// Whether one of the characters of a text is. No character is decoded where the bytes of the text
+/// say that there is none.
 pub fn has_deceiving(text: &str) -> bool
     ensures { result ≡ list_any is_deceiving (chars text.now) }
 {
-    text.chars().any(is_deceiving)
+    if may_deceive(text.as_bytes()) {
+        text.chars().any(is_deceiving)
+    } else {
+        false
+    }
 }

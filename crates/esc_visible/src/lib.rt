@@ -8,6 +8,7 @@
 mod deceiving;
 mod number;
 mod shown;
+mod signs;
 
 pub use deceiving::{has_deceiving, is_deceiving};
 pub use number::{hex_digit, number_text};
