@@ -72,15 +72,24 @@ fn is_screen_sequence<A: Allocator>(csi: &CSI<A>) -> bool
     }
 }
 
-// The same, of a sequence that has no name of its own: by the table of functions. That the plain
-// ones from ICH to DL change the screen alone is known before the table is asked.
+// The same, of a sequence that has no name of its own. That the plain ones from ICH to DL change the
+// screen alone is known before the table is asked.
 #[tactic(auto, using(crate::proofs::Screens::plain_moves))]
+#[inline]
 pub(crate) fn is_screen_body(params: &[CsiParam], control: u8) -> bool
     ensures { result ≡ is_screen_body params.now control }
 {
     if is_move(control) && are_plain(params) {
         return true;
     }
+    is_screen_function(params, control)
+}
+
+// The same, by the table of functions.
+#[inline(never)]
+fn is_screen_function(params: &[CsiParam], control: u8) -> bool
+    ensures { result ≡ is_screen_body params.now control }
+{
     match ControlFunction::of_csi_params(params, control) {
         Some(function) => changes_with(function, params),
         None => false,
