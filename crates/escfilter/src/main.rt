@@ -9,7 +9,6 @@ mod cast;
 mod json;
 mod name;
 mod named_groups;
-mod new_file;
 mod observed;
 mod opened;
 mod options;
@@ -96,6 +95,9 @@ Groups (text is layout, color is that with sgr, hidden and links, screen is all 
 
 const VERSION: &str = "escfilter 0.1.0";
 
+// What the name of a new file ends in, until it takes its place.
+const NEW: &str = ".escfilter";
+
 fn main(rt: HostRuntime) -> ExitCode {
     let Ok(words) = program_words(&rt, rt.alloc()) else {
         let _ = eprintln!(rt; "escfilter: the arguments cannot be read");
@@ -128,7 +130,7 @@ fn filter_to(rt: &HostRuntime, target: Target<'_>, options: Options<'_>, files: 
 
 // Filters the files to that of this name, which is written whole or not at all.
 fn filter_to_file(rt: &HostRuntime, options: Options<'_>, files: &[&str], name: &str) -> u8 {
-    let mut new = match NewFile::beside(rt, name) {
+    let mut new = match NewFile::beside(rt, name, NEW) {
         Ok(new) => new,
         Err(error) => return unwritable(rt, name, error),
     };
@@ -167,7 +169,7 @@ fn replace_file(rt: &HostRuntime, options: Options<'_>, name: &str, suffix: &str
     if name == "-" || !is_text(name) {
         return unread(rt, name, "it is changed in place under a name alone");
     }
-    match NewFile::beside(rt, name) {
+    match NewFile::beside(rt, name, NEW) {
         Ok(new) => replace_by(rt, options, name, suffix, new),
         Err(error) => unread(rt, name, error),
     }
@@ -179,7 +181,7 @@ fn replace_by(
     options: Options<'_>,
     name: &str,
     suffix: &str,
-    mut new: NewFile,
+    mut new: NewFile<HostRuntime>,
 ) -> (Ended, bool) {
     let (ended, is_less) = match File::open(rt, name) {
         Ok(input) => filter_input(rt, options, name, input, name, &mut new.file),

@@ -38,6 +38,8 @@ pub struct Task<'a, A: Allocator = Global> {
     pub kind: Kind,
     /// How streams become HTML.
     pub options: Options<'a>,
+    /// The file that the output goes to; standard output, where there is none.
+    pub output: Option<&'a str>,
     /// The files.
     pub files: Vec<&'a str, A>,
 }
@@ -80,6 +82,11 @@ const KNOWN: &[Known] = &[
         takes: Takes::Size,
     },
     Known {
+        name: "--output",
+        letter: "-o",
+        takes: Takes::OneOf("file", &[]),
+    },
+    Known {
         name: "--help",
         letter: "-h",
         takes: Takes::Nothing,
@@ -110,6 +117,7 @@ impl<'a, A: Allocator + Copy> Task<'a, A> {
     // The task that these options and files name.
     fn from_found(found: Found<'a, A>) -> Task<'a, A> {
         let mut kind = Kind::Convert;
+        let mut output = None;
         let mut options = Options {
             is_page: false,
             title: None,
@@ -124,6 +132,7 @@ impl<'a, A: Allocator + Copy> Task<'a, A> {
                 "--lines" => options.per_line = true,
                 "--final-lines" => options.rows = rows_of(given.word),
                 "--limit" => options.limit = given.size,
+                "--output" => output = Some(given.word),
                 "--style" => kind = Kind::Style,
                 "--help" => kind = Kind::Help,
                 "--version" => kind = Kind::Version,
@@ -133,6 +142,7 @@ impl<'a, A: Allocator + Copy> Task<'a, A> {
         Task {
             kind,
             options,
+            output,
             files: found.files,
         }
     }

@@ -1,6 +1,9 @@
 //! A file that takes the place of another once it is whole.
+#![tactic(auto)]
 
-use std::fs::{File, Metadata, OpenOptions, canonicalize, metadata, remove_file, rename};
+use std::fs::{
+    Files, Metadata, OpenFile, OpenOptions, canonicalize, metadata, remove_file, rename,
+};
 use std::io;
 use std::io::ErrorKind;
 use std::os::unix::fs::{MetadataExt, OpenOptionsExt, chown};
@@ -16,44 +19,45 @@ const OWN_MODE: u32 = 0o600;
 
 /// A new file in the folder of the one whose place it is to take.
 #[derive(Drop)]
-pub struct NewFile {
+pub struct NewFile<R: Files + AllocGlobal> {
     /// What is written goes here.
-    pub file: File,
+    pub file: R::File,
     name: String,
     place: String,
 }
 
-impl NewFile {
+impl<R: Files + AllocGlobal> NewFile<R> {
     /// A new file that is to take the place of the one of this name, or of none. It gets the
     /// permissions of that one, and its owner where the system lets it. Where the name is that of a
-    /// link, the file that the link leads to is meant.
+    /// link, the file that the link leads to is meant. Until then its name is the other's with a
+    /// number and `suffix`, as `.0.escfilter`.
     ///
     /// The error says why there can be none: `IsADirectory`, or `InvalidInput` where the one of
     /// this name is no regular file either.
-    pub fn beside(rt: &HostRuntime, name: &str) -> io::Result<NewFile> {
+    pub fn beside(rt: &R, name: &str, suffix: &str) -> io::Result<NewFile<R>> {
         match metadata(rt, name) {
             Ok(known) if known.is_dir() => Err(io::Error::from(ErrorKind::IsADirectory)),
             Ok(known) if !known.is_file() => Err(io::Error::from(ErrorKind::InvalidInput)),
             Ok(known) => {
                 let place = canonicalize(rt, name)?;
-                let new = created(rt, place.as_str(), OWN_MODE)?;
+                let new = created(rt, place.as_str(), suffix, OWN_MODE)?;
                 new.become_as(rt, &known)?;
                 Ok(new)
             }
-            Err(error) if error.kind() == ErrorKind::NotFound => created(rt, name, MODE),
+            Err(error) if error.kind() == ErrorKind::NotFound => created(rt, name, suffix, MODE),
             Err(error) => Err(error),
         }
     }
 
     // Gives it the owner, where the system lets it, and the permissions of a file.
-    fn become_as(&self, rt: &HostRuntime, known: &Metadata) -> io::Result<()> {
+    fn become_as(&self, rt: &R, known: &Metadata) -> io::Result<()> {
         let _ = chown(rt, self.name.as_str(), Some(known.uid()), Some(known.gid()));
         self.file.set_permissions(known.permissions())
     }
 
     /// Puts it in its place, once what it holds is on the disk. The file that was there is kept
     /// under its name with this suffix, where there is one. After an error it is removed.
-    pub fn take_place(self, rt: &HostRuntime, suffix: &str) -> io::Result<()> {
+    pub fn take_place(self, rt: &R, suffix: &str) -> io::Result<()> {
         let moved = self.change_names(rt, suffix);
         if moved.is_err() {
             self.give_up(rt);
@@ -62,7 +66,7 @@ impl NewFile {
     }
 
     // Changes the names, once what it holds is on the disk.
-    fn change_names(&self, rt: &HostRuntime, suffix: &str) -> io::Result<()> {
+    fn change_names(&self, rt: &R, suffix: &str) -> io::Result<()> {
         self.file.sync_all()?;
         if !suffix.is_empty() {
             let old = format!(in rt.alloc(); "{}{suffix}", self.place)?;
@@ -72,15 +76,20 @@ impl NewFile {
     }
 
     /// Removes it. The file of its place stays as it is.
-    pub fn give_up(self, rt: &HostRuntime) {
+    pub fn give_up(self, rt: &R) {
         let _ = remove_file(rt, self.name.as_str());
     }
 }
 
 // A new file beside this place, with these permissions.
-fn created(rt: &HostRuntime, place: &str, mode: u32) -> io::Result<NewFile> {
+fn created<R: Files + AllocGlobal>(
+    rt: &R,
+    place: &str,
+    suffix: &str,
+    mode: u32,
+) -> io::Result<NewFile<R>> {
     for number in 0..NAMES {
-        let name = format!(in rt.alloc(); "{place}.{number}.escfilter")?;
+        let name = format!(in rt.alloc(); "{place}.{number}{suffix}")?;
         match open_new(rt, name.as_str(), mode) {
             Ok(file) => {
                 let place = String::from_str(rt.alloc(), place)?;
@@ -94,7 +103,7 @@ fn created(rt: &HostRuntime, place: &str, mode: u32) -> io::Result<NewFile> {
 }
 
 // A file of this name, which there is none of yet.
-fn open_new(rt: &HostRuntime, name: &str, mode: u32) -> io::Result<File> {
+fn open_new<R: Files>(rt: &R, name: &str, mode: u32) -> io::Result<R::File> {
     OpenOptions::new()
         .write(true)
         .create_new(true)
