@@ -133,3 +133,30 @@ tag_joined old one two three xs ys i j k =
     ∙ append_assoc old (codes "<span") (a ++ (b ++ codes ">"))
     ∙ ap (λ x. old ++ (codes "<span" ++ x)) (sym (append_assoc a b (codes ">"))
     ∙ ap (λ x. x ++ codes ">") (sym (flat_map-append attribute_text xs ys)))
+
+-- ---- text after text
+
+pub three_added : (old one two new a b c : List ℕ) → one ≡ old ++ a → two ≡ one ++ b
+    → new ≡ two ++ c → new ≡ old ++ (a ++ (b ++ c))
+three_added old one two new a b c i j k =
+    k ∙ ap (λ x. x ++ c) (j ∙ ap (λ x. x ++ b) i ∙ append_assoc old a b)
+    ∙ append_assoc old (a ++ b) c ∙ ap (λ x. old ++ x) (append_assoc a b c)
+
+pub four_added : (old one two three new a b c d : List ℕ) → one ≡ old ++ a → two ≡ one ++ b
+    → three ≡ two ++ c → new ≡ three ++ d → new ≡ old ++ (a ++ (b ++ (c ++ d)))
+four_added old one two three new a b c d i j k l =
+    l ∙ ap (λ x. x ++ d) (three_added old one two three a b c i j k)
+    ∙ append_assoc old (a ++ (b ++ c)) d
+    ∙ ap (λ x. old ++ x) (append_assoc a (b ++ c) d ∙ ap (λ x. a ++ x) (append_assoc b c d))
+
+-- a span whose attribute is of these two parts
+pub inline_joined : (old one two three new a b : List ℕ) → one ≡ old ++ codes "<span style=\""
+    → two ≡ one ++ a → three ≡ two ++ b → new ≡ three ++ codes "\">"
+    → new ≡ old ++ (codes "<span"
+    ++ (attributes_text ((codes "style", a ++ b) ∷ []) ++ codes ">"))
+inline_joined old one two three new a b i j k l =
+    let tag = codes "<span style=\"" in
+    four_added old one two three new tag a b (codes "\">") i j k l
+    ∙ ap (λ x. old ++ (tag ++ x)) (sym (append_assoc a b (codes "\">"))
+    ∙ sym (ap (λ x. x ++ codes ">") (append-nil ((a ++ b) ++ codes "\""))
+    ∙ append_assoc (a ++ b) (codes "\"") (codes ">")))

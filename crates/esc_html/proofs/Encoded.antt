@@ -14,10 +14,12 @@ use Rattle.esc_looks.specs.Colors.{color_code, is_small}
 use Rattle.esc_looks.specs.Looks.{look_classes, look_styles, present}
 use Rattle.esc_looks.specs.Styles.{styles_text}
 use Rattle.esc_looks.specs.declared.class.Class.{Class}
+use Rattle.esc_looks.specs.declared.look.Look.{Look}
 use Rattle.esc_looks.specs.declared.style.Style.{Style}
+use Rattle.esc_html.specs.Inline.{inline_text}
 use Rattle.esc_html.specs.Pieces.{Piece, text, span, span_end, link, link_end, encoded, escape, escape_text, escape_value, needs_reference, html_text, piece_text, reference_text, is_kept, attribute_text, attributes_text, class_attribute, style_attribute}
 use Rattle.esc_html.proofs.EscapedRuns.{escape_none, mark_small}
-use Rattle.esc_html.proofs.Reading.{code_plain, is_name_char, names_plain, styles_plain}
+use Rattle.esc_html.proofs.Reading.{code_plain, inline_plain, is_name_char, names_plain, styles_plain}
 
 literal : (t : List ℕ) → list_all is_small t ≡ true → encode_utf8_all t ≡ t
 literal [] h = refl
@@ -131,10 +133,21 @@ span_small cs ss =
       styles_small ss,
     ) refl
 
+inline_small : (l : Look) → list_all is_small
+    (codes "<span" ++ (attributes_text ((codes "style", inline_text l) ∷ []) ++ codes ">")) ≡ true
+inline_small l =
+    rw (
+      append-nil (inline_text l ++ codes "\""),
+      list_all-append is_small (inline_text l ++ codes "\"") (codes ">"),
+      quoted_small (inline_text l) (inline_plain l),
+    ) refl
+
 piece_encoded : (p : Piece) → encode_utf8_all (piece_text p) ≡ piece_text (encoded p)
 piece_encoded (text t) = escape_all 0x3e t (omega arith)
-piece_encoded (span l) =
-    literal (piece_text (span l)) (span_small (present (look_classes l)) (present (look_styles l)))
+piece_encoded (span true l) = literal (piece_text (span true l)) (inline_small l)
+piece_encoded (span false l) =
+    literal (piece_text (span false l))
+    (span_small (present (look_classes l)) (present (look_styles l)))
 piece_encoded span_end = literal (codes "</span>") refl
 piece_encoded (link a) =
     around (codes "<a href=\"") (flat_map escape_value a)

@@ -18,8 +18,8 @@ one_listed t h = All-cons IsListed t [] h (All-nil IsListed)
 
 piece_listed : (p : Piece) → is_safe_piece p ≡ true → All IsListed (piece_tokens p)
 piece_listed (text t) h = characters_listed t
-piece_listed (span l) h =
-    one_listed (start_tag (codes "span") (span_attributes l)) (inl (refl, (l, refl)))
+piece_listed (span b l) h =
+    one_listed (start_tag (codes "span") (span_attributes b l)) (inl (refl, (b, l, refl)))
 piece_listed span_end h = one_listed (end_tag (codes "span")) (inl refl)
 piece_listed (link a) h =
     one_listed (start_tag (codes "a")
@@ -74,8 +74,8 @@ all_close (o ∷ os) [] h = absurd cc
 all_close [] (text t ∷ ps) h = past_text [] t (tokens_of ps) ∙ all_close [] ps h
 all_close (o ∷ os) (text t ∷ ps) h =
     past_text (map name_of (o ∷ os)) t (tokens_of ps) ∙ all_close (o ∷ os) ps h
-all_close [] (span l ∷ ps) h = all_close (open_span ∷ []) ps h
-all_close (o ∷ os) (span l ∷ ps) h = all_close (open_span ∷ o ∷ os) ps h
+all_close [] (span b l ∷ ps) h = all_close (open_span ∷ []) ps h
+all_close (o ∷ os) (span b l ∷ ps) h = all_close (open_span ∷ o ∷ os) ps h
 all_close [] (link a ∷ ps) h = link_begins [] ps h (all_close (open_link ∷ []) ps)
 all_close (o ∷ os) (link a ∷ ps) h =
     link_begins (o ∷ os) ps h (all_close (open_link ∷ o ∷ os) ps)

@@ -45,13 +45,13 @@ open_tags p = span_open_unless (is_plain p.look) ++ link_open_if (is_some p.link
 abbrev nesting : State → List Open
 nesting g = if g.is_open then open_tags g.pen else []
 
-nests_open : (b : Bool) (k : Option (List ℕ)) (l : Look) (ps : List Piece)
-    → nests [] ((link_opening k ++ span_unless b l) ++ ps)
+nests_open : (i b : Bool) (k : Option (List ℕ)) (l : Look) (ps : List Piece)
+    → nests [] ((link_opening k ++ span_unless i b l) ++ ps)
     ≡ nests (span_open_unless b ++ link_open_if (is_some k)) ps
-nests_open true None l ps = refl
-nests_open false None l ps = refl
-nests_open true (Some a) l ps = refl
-nests_open false (Some a) l ps = refl
+nests_open i true None l ps = refl
+nests_open i false None l ps = refl
+nests_open i true (Some a) l ps = refl
+nests_open i false (Some a) l ps = refl
 
 nests_close : (b k : Bool) (ps : List Piece)
     → nests (span_open_unless b ++ link_open_if k) ((span_end_unless b ++ link_end_if k) ++ ps)
@@ -69,7 +69,7 @@ nests_opened : (b : Bool) (p : Pen) (ps : List Piece)
     → nests (if b then open_tags p else []) ((if b then [] else opening p) ++ ps)
     ≡ nests (open_tags p) ps
 nests_opened true p ps = refl
-nests_opened false p ps = nests_open (is_plain p.look) p.link p.look ps
+nests_opened false p ps = nests_open p.inline (is_plain p.look) p.link p.look ps
 
 nests_closed : (b : Bool) (p : Pen) (ps : List Piece)
     → nests (if b then open_tags p else []) ((if b then closing p else []) ++ ps) ≡ nests [] ps
@@ -107,22 +107,22 @@ pages_nest pl g (v ∷ vs) =
 abbrev elements_at : State → List Element
 elements_at g = if g.is_open then elements g.pen else []
 
-shown_open : (b : Bool) (k : Option (List ℕ)) (l : Look) (ts : List Token)
-    → shown [] (tokens_of (link_opening k ++ span_unless b l) ++ ts)
-    ≡ shown (span_elements_unless b l ++ link_elements k) ts
-shown_open true None l ts = refl
-shown_open false None l ts = refl
-shown_open true (Some a) l ts = refl
-shown_open false (Some a) l ts = refl
+shown_open : (i b : Bool) (k : Option (List ℕ)) (l : Look) (ts : List Token)
+    → shown [] (tokens_of (link_opening k ++ span_unless i b l) ++ ts)
+    ≡ shown (span_elements_unless i b l ++ link_elements k) ts
+shown_open i true None l ts = refl
+shown_open i false None l ts = refl
+shown_open i true (Some a) l ts = refl
+shown_open i false (Some a) l ts = refl
 
-shown_close : (b : Bool) (k : Option (List ℕ)) (l : Look) (ts : List Token)
-    → shown (span_elements_unless b l ++ link_elements k)
+shown_close : (i b : Bool) (k : Option (List ℕ)) (l : Look) (ts : List Token)
+    → shown (span_elements_unless i b l ++ link_elements k)
     (tokens_of (span_end_unless b ++ link_end_if (is_some k)) ++ ts)
     ≡ shown [] ts
-shown_close true None l ts = refl
-shown_close false None l ts = refl
-shown_close true (Some a) l ts = refl
-shown_close false (Some a) l ts = refl
+shown_close i true None l ts = refl
+shown_close i false None l ts = refl
+shown_close i true (Some a) l ts = refl
+shown_close i false (Some a) l ts = refl
 
 shown_text : (es : List Element) (t : List ℕ) (ts : List Token)
     → shown es (map character t ++ ts) ≡ map (λ b. (b, es)) t ++ shown es ts
@@ -133,12 +133,12 @@ shown_opened : (b : Bool) (p : Pen) (ts : List Token)
     → shown (if b then elements p else []) (tokens_of (if b then [] else opening p) ++ ts)
     ≡ shown (elements p) ts
 shown_opened true p ts = refl
-shown_opened false p ts = shown_open (is_plain p.look) p.link p.look ts
+shown_opened false p ts = shown_open p.inline (is_plain p.look) p.link p.look ts
 
 shown_closed : (b : Bool) (p : Pen) (ts : List Token)
     → shown (if b then elements p else []) (tokens_of (if b then closing p else []) ++ ts)
     ≡ shown [] ts
-shown_closed true p ts = shown_close (is_plain p.look) p.link p.look ts
+shown_closed true p ts = shown_close p.inline (is_plain p.look) p.link p.look ts
 shown_closed false p ts = refl
 
 shown_before : (e : Bool) (g : State) (ts : List Token)

@@ -1,5 +1,5 @@
 -- The tokenizer reads the text of pieces as their tokens.
-use Rattle.std.proofs.Common.{ℕ, ◌≡◌, ◌<◌, ◌/◌, ◌%◌, Bool, true, false, not, nat_le, ◌&&◌, ◌||◌, ◌==◌, if◌then◌else◌, inl, inr, List, [], ◌∷◌, ◌++◌, codes, map, refl, ap, sym, ◌∙◌, append_assoc, arith}
+use Rattle.std.proofs.Common.{ℕ, ◌≡◌, ◌<◌, ◌/◌, ◌%◌, Bool, true, false, not, nat_le, ◌&&◌, ◌||◌, ◌==◌, if◌then◌else◌, inl, inr, List, [], ◌∷◌, ◌++◌, codes, map, Option, Some, None, refl, ap, sym, ◌∙◌, append_assoc, arith}
 use Rattle.std.specs.List.{flat_map, list_all}
 use Rattle.std.proofs.lemmas.Bool.Decides.{nat_tests}
 use Rattle.std.proofs.lemmas.Grind.{flat_map-append}
@@ -10,10 +10,17 @@ use Rattle.esc_typed.specs.declared.ansi_color.AnsiColor.{AnsiColor}
 use Rattle.esc_typed.specs.declared.ansi_color.AnsiColor.TheVariants as ansi
 use Rattle.esc_looks.specs.Classes.{class_name, color_name, more_names, class_names}
 use Rattle.esc_looks.specs.Colors.{color_code, hex_byte, hex_digit}
-use Rattle.esc_looks.specs.Looks.{look_classes, look_styles, present}
+use Rattle.esc_looks.specs.Looks.{look_classes, look_styles, present, shown_background, shown_foreground}
 use Rattle.esc_looks.specs.Styles.{style_color, style_property, style_text, styles_text}
+use Rattle.esc_looks.specs.declared.color.Color.{Color}
+use Rattle.esc_looks.specs.declared.look.Look.{Look}
 use Rattle.esc_looks.specs.declared.style.Style.{Style}
 use Rattle.esc_looks.specs.declared.style.Style.TheVariants as style
+use Rattle.esc_sequences.specs.declared.intensity.Intensity.{Intensity}
+use Rattle.esc_sequences.specs.declared.intensity.Intensity.TheVariants as intensity
+use Rattle.esc_sequences.specs.declared.underline.Underline.{Underline as UnderlineKind}
+use Rattle.esc_sequences.specs.declared.underline.Underline.TheVariants as underline
+use Rattle.esc_html.specs.Inline.{background_style, background_text, color_style, colors_text, declared_as, decoration_style, decoration_text, foreground_text, inline_text, is_underlined, keywords_text, kind_text, lines_text, rgb_of, slant_text, weight_text}
 use Rattle.esc_html.specs.Pieces.{Piece, text, span, span_end, link, link_end, escape, escape_text, escape_value, piece_text, html_text, piece_tokens, tokens_of, is_kept, is_kept_piece, attribute_text, attributes_text, class_attribute, style_attribute}
 use Rattle.esc_html.specs.Tokens.{Tag, character, start_tag, data_state, value, after_value, with_attribute, tokens_from, normalized, tokens}
 use Rattle.esc_looks.specs.declared.class.Class.{Class}
@@ -179,6 +186,89 @@ styles_plain (s ∷ ss) =
       styles_plain ss,
     ) refl
 
+-- ---- declarations alone
+
+both_plain : (x y : List ℕ) → list_all is_name_char x ≡ true → list_all is_name_char y ≡ true
+    → list_all is_name_char (x ++ y) ≡ true
+both_plain x y h k = rw (list_all-append is_name_char x y, h, k) refl
+
+if_plain : (b : Bool) (x : List ℕ) → list_all is_name_char x ≡ true
+    → list_all is_name_char (if b then x else []) ≡ true
+if_plain true x h = h
+if_plain false x h = refl
+
+weight_plain : (i : Intensity) → list_all is_name_char (weight_text i) ≡ true
+weight_plain intensity.Normal = refl
+weight_plain intensity.Bold = refl
+weight_plain intensity.Half = refl
+
+kind_plain : (u : UnderlineKind) → list_all is_name_char (kind_text u) ≡ true
+kind_plain underline.None = refl
+kind_plain underline.Single = refl
+kind_plain underline.Double = refl
+kind_plain underline.Curly = refl
+kind_plain underline.Dotted = refl
+kind_plain underline.Dashed = refl
+
+lines_plain : (u t o b : Bool) → list_all is_name_char (lines_text u t o b) ≡ true
+lines_plain true true true true = refl
+lines_plain true true true false = refl
+lines_plain true true false true = refl
+lines_plain true true false false = refl
+lines_plain true false true true = refl
+lines_plain true false true false = refl
+lines_plain true false false true = refl
+lines_plain true false false false = refl
+lines_plain false true true true = refl
+lines_plain false true true false = refl
+lines_plain false true false true = refl
+lines_plain false true false false = refl
+lines_plain false false true true = refl
+lines_plain false false true false = refl
+lines_plain false false false true = refl
+lines_plain false false false false = refl
+
+keywords_plain : (l : Look) → list_all is_name_char (keywords_text l) ≡ true
+keywords_plain l =
+    let lines = lines_text (is_underlined l.underline) l.strikethrough l.overline l.blink in
+    both_plain (weight_text l.intensity) (slant_text l.italic ++ (lines ++ kind_text l.underline))
+    (weight_plain l.intensity)
+    (both_plain (slant_text l.italic) (lines ++ kind_text l.underline)
+    (if_plain l.italic (codes "font-style:italic;") refl)
+    (both_plain lines (kind_text l.underline)
+    (lines_plain (is_underlined l.underline) l.strikethrough l.overline l.blink)
+    (kind_plain l.underline)))
+
+declared_plain : (f : ℕ × ℕ × ℕ → Style) (t : List ℕ) (c : Option (ℕ × ℕ × ℕ))
+    → list_all is_name_char t ≡ true → list_all is_name_char (declared_as f t c) ≡ true
+declared_plain f t None h = h
+declared_plain f t (Some c) h = style_plain (f c)
+
+foreground_plain : (b i : Bool) (c : Color)
+    → list_all is_name_char (foreground_text b i c) ≡ true
+foreground_plain true i c = refl
+foreground_plain false i c =
+    declared_plain color_style (if i then codes "color:Canvas;" else []) (rgb_of c)
+    (if_plain i (codes "color:Canvas;") refl)
+
+background_plain : (i : Bool) (c : Color) → list_all is_name_char (background_text i c) ≡ true
+background_plain i c =
+    declared_plain background_style (if i then codes "background-color:CanvasText;" else [])
+    (rgb_of c) (if_plain i (codes "background-color:CanvasText;") refl)
+
+colors_plain : (l : Look) → list_all is_name_char (colors_text l) ≡ true
+colors_plain l =
+    let fore = foreground_text l.concealed l.inverse (shown_foreground l) in
+    let back = background_text l.inverse (shown_background l) in
+    let line = decoration_text l.underline_color in
+    both_plain fore (back ++ line) (foreground_plain l.concealed l.inverse (shown_foreground l))
+    (both_plain back line (background_plain l.inverse (shown_background l))
+    (declared_plain decoration_style [] (rgb_of l.underline_color) refl))
+
+pub inline_plain : (l : Look) → list_all is_name_char (inline_text l) ≡ true
+inline_plain l =
+    both_plain (keywords_text l) (colors_text l) (keywords_plain l) (colors_plain l)
+
 -- ---- spans
 
 abbrev begun : List ℕ → Tag
@@ -233,7 +323,10 @@ span_reads (c ∷ cs) (s ∷ ss) r =
 piece_reads : (p : Piece) (r : List ℕ) → is_kept_piece p ≡ true
     → tokens_from data_state (piece_text p ++ r) ≡ piece_tokens p ++ tokens_from data_state r
 piece_reads (text t) r h = text_chars t r
-piece_reads (span l) r h = span_reads (present (look_classes l)) (present (look_styles l)) r
+piece_reads (span true l) r h =
+    last_reads (begun (codes "span")) (codes "style") (inline_text l) r (inline_plain l)
+piece_reads (span false l) r h =
+    span_reads (present (look_classes l)) (present (look_styles l)) r
 piece_reads span_end r h = refl
 piece_reads (link a) r h =
     ap (tokens_from (value (begun (codes "a")) (codes "href") []))
@@ -320,9 +413,19 @@ span_kept cs ss =
       styles_kept ss,
     ) refl
 
+inline_kept : (l : Look) → list_all is_kept
+    (codes "<span" ++ (attributes_text ((codes "style", inline_text l) ∷ []) ++ codes ">")) ≡ true
+inline_kept l =
+    rw (
+      append-nil (inline_text l ++ codes "\""),
+      list_all-append is_kept (inline_text l ++ codes "\"") (codes ">"),
+      quoted_kept (inline_text l) (inline_plain l),
+    ) refl
+
 piece_kept : (p : Piece) → is_kept_piece p ≡ true → list_all is_kept (piece_text p) ≡ true
 piece_kept (text t) h = all_joined escape_text is_kept (kept_escaped 0x3e) t h
-piece_kept (span l) h = span_kept (present (look_classes l)) (present (look_styles l))
+piece_kept (span true l) h = inline_kept l
+piece_kept (span false l) h = span_kept (present (look_classes l)) (present (look_styles l))
 piece_kept span_end h = refl
 piece_kept (link a) h =
     rw (

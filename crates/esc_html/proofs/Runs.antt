@@ -90,19 +90,19 @@ shown_state : {A : Type 0} (p : Page A) (t : List ℕ) → 0 < length t
 shown_state p [] l = absurd (omega (arith, l))
 shown_state p (b ∷ t) l = refl
 
-same_lines : {A : Type 0} (p : Page A) (t : List ℕ) → (with_text p t).per_line ≡ p.per_line
-same_lines p [] = refl
-same_lines p (b ∷ t) = refl
+same_layout : {A : Type 0} (p : Page A) (t : List ℕ) → (with_text p t).layout ≡ p.layout
+same_layout p [] = refl
+same_layout p (b ∷ t) = refl
 
 shown_added : {A : Type 0} (p : Page A) (c : ℕ) → 0 < length (encode_utf8 c)
-    → ends_line p.per_line c ≡ false → Adds p (shows c) (with_text p (encode_utf8 c))
+    → ends_line p.layout.per_line c ≡ false → Adds p (shows c) (with_text p (encode_utf8 c))
 shown_added p c l e =
     let t = encode_utf8 c in
     record {
       text = shown_text p t l ∙ ap (λ b. p.html ++ html_text
           (before_character b (state_of p) ++ text t ∷ [])) (sym e);
       state = shown_state p t l ∙ ap (λ b. open_or_not (state_of p) (not b)) (sym e);
-      per_line = same_lines p t;
+      layout = same_layout p t;
     }
 
 clear_stays : (l : Bool) (c : ℕ) → is_clear c ≡ true → ends_line l c ≡ false
@@ -130,7 +130,7 @@ char_added p c h =
     elim (cases_Bool (is_byte 0x7f c)) [
       | inl held ↦ rw (held, deleted c held) (adds_nothing p)
       | inr failed ↦ rw (failed, visible_char c failed)
-          (shown_added p c (some_bytes c) (clear_stays p.per_line c h))
+          (shown_added p c (some_bytes c) (clear_stays p.layout.per_line c h))
     ]
 
 run_added : {A : Type 0} (cs : List ℕ) (p : Page A) → list_all is_clear cs ≡ true

@@ -169,16 +169,16 @@ good_state pl g nothing h k = h
 
 -- ---- a test that such pieces pass
 
-module _ (T : Piece → Bool) (on_span : (l : Look) → T (span l) ≡ true)
+module _ (T : Piece → Bool) (on_span : (i : Bool) (l : Look) → T (span i l) ≡ true)
     (on_span_end : T span_end ≡ true) (on_link_end : T link_end ≡ true)
     (on_text : (t : List ℕ) → list_all is_kept t ≡ true → T (text t) ≡ true)
     (on_link : (a : List ℕ) → is_page_address a ≡ true → T (link a) ≡ true) where
-  opening_passes : (b : Bool) (k : Option (List ℕ)) (l : Look) → IsGoodLink k
-      → list_all T (link_opening k ++ span_unless b l) ≡ true
-  opening_passes true None l h = refl
-  opening_passes false None l h = rw (on_span l) refl
-  opening_passes true (Some a) l h = rw (on_link a h) refl
-  opening_passes false (Some a) l h = rw (on_link a h, on_span l) refl
+  opening_passes : (i b : Bool) (k : Option (List ℕ)) (l : Look) → IsGoodLink k
+      → list_all T (link_opening k ++ span_unless i b l) ≡ true
+  opening_passes i true None l h = refl
+  opening_passes i false None l h = rw (on_span i l) refl
+  opening_passes i true (Some a) l h = rw (on_link a h) refl
+  opening_passes i false (Some a) l h = rw (on_link a h, on_span i l) refl
 
   closing_passes : (b k : Bool) → list_all T (span_end_unless b ++ link_end_if k) ≡ true
   closing_passes true true = rw on_link_end refl
@@ -189,7 +189,7 @@ module _ (T : Piece → Bool) (on_span : (l : Look) → T (span l) ≡ true)
   opened_passes : (b : Bool) (p : Pen) → IsGoodLink p.link
       → list_all T (if b then [] else opening p) ≡ true
   opened_passes true p h = refl
-  opened_passes false p h = opening_passes (is_plain p.look) p.link p.look h
+  opened_passes false p h = opening_passes p.inline (is_plain p.look) p.link p.look h
 
   closed_passes : (b : Bool) (p : Pen) → list_all T (if b then closing p else []) ≡ true
   closed_passes true p = closing_passes (is_plain p.look) (is_some p.link)

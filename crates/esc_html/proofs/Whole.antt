@@ -1,5 +1,5 @@
 -- The page of a stream, with what closes it.
-use Rattle.std.proofs.Common.{ℕ, ◌≡◌, Bool, true, List, [], ◌++◌, Option, refl, ap, sym, subst, ◌∙◌}
+use Rattle.std.proofs.Common.{ℕ, ◌≡◌, true, List, [], ◌++◌, Option, refl, ap, sym, subst, ◌∙◌}
 use Rattle.std.specs.List.{All, list_all}
 use Rattle.std.proofs.lemmas.Bool.{and_parts}
 use Rattle.std.proofs.lemmas.Grind.{flat_map-append}
@@ -11,28 +11,30 @@ use Rattle.esc_html.specs.Pages.{closed, closing_text, first_state, page_text, p
 use Rattle.esc_html.specs.Pieces.{is_kept, is_kept_piece, piece_text}
 use Rattle.esc_html.specs.Shown.{IsPage, shown}
 use Rattle.esc_html.specs.Tokens.{tokens}
+use Rattle.esc_html.specs.declared.layout.Layout.{Layout}
 use Rattle.esc_html.proofs.Listing.{pieces_are_listed, pieces_close}
 use Rattle.esc_html.proofs.Pages.{pages_nest, pages_show}
 use Rattle.esc_html.proofs.Reading.{pieces_read_back}
 use Rattle.esc_html.proofs.Safe.{page_passes}
 
-pub page_is : {A : Type 0} (limit : Option ℕ) (pl : Bool) (s : List ℕ)
+pub page_is : {A : Type 0} (limit : Option ℕ) (y : Layout) (s : List ℕ)
     → AreHandedOut {A = A} (meaning_within limit s)
-    → IsPage A limit pl s (page_text A limit pl s ++ closing_text A limit pl s)
-page_is {A} limit pl s h =
+    → IsPage A limit y s (page_text A limit y s ++ closing_text A limit y s)
+page_is {A} limit y s h =
     let vs = meaning_within {A = A} limit s in
-    let last = closed (state_of_stream A limit pl s) in
-    let ps = pieces_of A limit pl s ++ last in
-    let same = flat_map-append piece_text (pieces_of A limit pl s) last in
-    let kept = page_passes is_kept_piece (λ l. refl) refl refl (λ t k. k)
-    (λ a k. (and_parts (is_safe_address a) (list_all is_kept a) k).1) pl first_state vs tt h in
-    let safe = page_passes is_safe_piece (λ l. refl) refl refl (λ t k. refl)
-    (λ a k. (and_parts (is_safe_address a) (list_all is_kept a) k).0) pl first_state vs tt h in
+    let first = first_state y.inline in
+    let last = closed (state_of_stream A limit y s) in
+    let ps = pieces_of A limit y s ++ last in
+    let same = flat_map-append piece_text (pieces_of A limit y s) last in
+    let kept = page_passes is_kept_piece (λ b l. refl) refl refl (λ t k. k)
+    (λ a k. (and_parts (is_safe_address a) (list_all is_kept a) k).1) y.per_line first vs tt h in
+    let safe = page_passes is_safe_piece (λ b l. refl) refl refl (λ t k. refl)
+    (λ a k. (and_parts (is_safe_address a) (list_all is_kept a) k).0) y.per_line first vs tt h in
     record {
       text = refl;
       listed = subst (λ x. All IsListed (tokens x)) same (pieces_are_listed ps kept safe);
       closes = subst (λ x. closes [] (tokens x) ≡ true) same
-          (pieces_close ps kept (pages_nest pl first_state vs));
+          (pieces_close ps kept (pages_nest y.per_line first vs));
       shows = sym (ap (λ x. shown [] (tokens x)) same) ∙ ap (shown []) (pieces_read_back ps kept)
-          ∙ pages_show pl first_state vs;
+          ∙ pages_show y.per_line first vs;
     }

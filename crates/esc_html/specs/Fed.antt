@@ -1,13 +1,14 @@
 -- What a page was fed.
-use Rattle.std.specs.Prelude.{ℕ, ◌≡◌, ◌==◌, Bool, not, true, List, [], ◌∷◌, ◌++◌, Some}
+use Rattle.std.specs.Prelude.{ℕ, ◌≡◌, ◌==◌, Bool, not, true, false, List, [], ◌∷◌, ◌++◌, Some}
 use Rattle.std.specs.List.{flat_map}
 use Rattle.esc_actions.specs.Values.{value_of}
 use Rattle.esc_actions.specs.declared.action.Action.{Action}
 use Rattle.esc_parse.specs.Fed.{IsBroken as IsBrokenParser, WasFedWithin}
 use Rattle.esc_html.specs.Marks.{Step, step_of}
-use Rattle.esc_html.specs.Pages.{State, opened, page_text, pieces_by, state_by, state_of_stream}
+use Rattle.esc_html.specs.Pages.{State, closed, opened, page_text, pieces_by, state_by, state_of_stream}
 use Rattle.esc_html.specs.Pieces.{escape_text, html_text}
 use Rattle.esc_html.specs.declared.html_writer.HtmlWriter.{HtmlWriter}
+use Rattle.esc_html.specs.declared.layout.Layout.{Layout}
 use Rattle.esc_html.specs.declared.page.Page.{Page}
 
 -- what a page is at
@@ -16,6 +17,7 @@ state_of p = record {
   pen = record {
     look = p.look;
     link = p.link;
+    inline = p.layout.inline;
   };
   is_open = p.is_open;
 }
@@ -38,20 +40,27 @@ is_visible c = not (c == 0x7f)
 
 -- a step adds its pieces to the text
 pub record Adds {A : Type 0} (p : Page A) (s : Step) (q : Page A) : Type 0 where
-  pub text : text_of q ≡ text_of p ++ html_text (pieces_by p.per_line (state_of p) s)
-  pub state : state_of q ≡ state_by p.per_line (state_of p) s
-  pub per_line : q.per_line ≡ p.per_line
+  pub text : text_of q ≡ text_of p ++ html_text (pieces_by p.layout.per_line (state_of p) s)
+  pub state : state_of q ≡ state_by p.layout.per_line (state_of p) s
+  pub layout : q.layout ≡ p.layout
 
 -- an action adds those of its value
 abbrev pub Takes : {A : Type 0} → Page A → Action A → Page A → Type 0
 Takes p a q = Adds p (step_of (state_of p).pen (value_of a)) q
 
--- the writer was fed these bytes, and closes what is open at each line's end or not
-pub record WasFed {A : Type 0} (limit : ℕ) (per_line : Bool) (s : List ℕ)
+-- with classes, and each line by itself or not
+abbrev pub with_classes : Bool → Layout
+with_classes per_line = record {
+  per_line = per_line;
+  inline = false;
+}
+
+-- the writer was fed these bytes, and writes in this layout
+pub record WasFed {A : Type 0} (limit : ℕ) (y : Layout) (s : List ℕ)
     (w : HtmlWriter A) : Type 0 where
   pub parser : WasFedWithin (Some limit) s w.parser
-  pub state : state_of w.page ≡ state_of_stream A (Some limit) per_line s
-  pub lines : w.page.per_line ≡ per_line
+  pub state : state_of w.page ≡ state_of_stream A (Some limit) y s
+  pub layout : w.page.layout ≡ y
 
 -- an earlier call was refused memory
 abbrev pub IsBroken : {A : Type 0} → HtmlWriter A → Type 0
@@ -61,13 +70,15 @@ IsBroken w = IsBrokenParser w.parser
 abbrev pub added_by : {A : Type 0} → HtmlWriter A → List ℕ
 added_by w = text_of w.page
 
+-- what closes the tags that are open
+abbrev pub closing_of : {A : Type 0} → HtmlWriter A → List ℕ
+closing_of w = html_text (closed (state_of w.page))
+
 -- this holds of each stream that the writer may have been fed
-abbrev pub After : {A : Type 0} → HtmlWriter A → (ℕ → Bool → List ℕ → Type 0) → Type 0
-After w C = (limit : ℕ) (per_line : Bool) (s : List ℕ) → WasFed limit per_line s w
-    → C limit per_line s
+abbrev pub After : {A : Type 0} → HtmlWriter A → (ℕ → Layout → List ℕ → Type 0) → Type 0
+After w C = (limit : ℕ) (y : Layout) (s : List ℕ) → WasFed limit y s w → C limit y s
 
 -- the writer, which was fed s, was fed b too, and has the text that b adds
-abbrev pub TakesIn : {A : Type 0} → ℕ → Bool → List ℕ → List ℕ → HtmlWriter A → Type 0
-TakesIn {A} limit per_line s b w = WasFed limit per_line (s ++ b) w
-    × (page_text A (Some limit) per_line (s ++ b)
-    ≡ page_text A (Some limit) per_line s ++ added_by w)
+abbrev pub TakesIn : {A : Type 0} → ℕ → Layout → List ℕ → List ℕ → HtmlWriter A → Type 0
+TakesIn {A} limit y s b w = WasFed limit y (s ++ b) w
+    × (page_text A (Some limit) y (s ++ b) ≡ page_text A (Some limit) y s ++ added_by w)

@@ -1,4 +1,5 @@
 pub mod Attributes
+pub mod Inline
 pub mod Tokens
 pub mod Pieces
 pub mod Growing

@@ -6,9 +6,11 @@ use Rattle.esc_html.specs.Pieces.{Piece, text, span, span_attributes, span_end, 
 use Rattle.esc_html.specs.Tokens.{Token, character, start_tag, end_tag, stray}
 use Rattle.esc_looks.specs.declared.look.Look.{Look}
 
--- a span of a look: names of the list of classes, and colours by numbers, alone
+-- a span of a look: declarations of fixed lists; or names of the list of classes, and colours by
+-- numbers; alone
 abbrev pub IsSpan : List ℕ → List (List ℕ × List ℕ) → Type 0
-IsSpan n attributes = (n ≡ codes "span") × ((l : Look) × (attributes ≡ span_attributes l))
+IsSpan n attributes = (n ≡ codes "span")
+    × ((inline : Bool) × (l : Look) × (attributes ≡ span_attributes inline l))
 
 -- a link to a safe address, which says nothing of this page to the one that it leads to
 abbrev pub IsLink : List ℕ → List (List ℕ × List ℕ) → Type 0
@@ -25,7 +27,7 @@ IsListed stray = ⊥
 -- a link of the piece leads to a safe address
 abbrev pub is_safe_piece : Piece → Bool
 is_safe_piece (text t) = true
-is_safe_piece (span l) = true
+is_safe_piece (span b l) = true
 is_safe_piece span_end = true
 is_safe_piece (link a) = is_safe_address a
 is_safe_piece link_end = true

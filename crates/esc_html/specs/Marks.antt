@@ -1,5 +1,5 @@
 -- The characters of a stream, with the looks and the links that hold for them.
-use Rattle.std.specs.Prelude.{ℕ, ◌==◌, Bool, true, false, ◌&&◌, ◌||◌, if◌then◌else◌, List, [], ◌∷◌, ◌++◌, Option, Some, None}
+use Rattle.std.specs.Prelude.{ℕ, ◌==◌, Bool, true, false, not, ◌&&◌, ◌||◌, if◌then◌else◌, List, [], ◌∷◌, ◌++◌, Option, Some, None}
 use Rattle.std.specs.List.{list_all}
 use Rattle.esc_actions.specs.ControlCodes.{code_number}
 use Rattle.esc_actions.specs.Values.{Value, print, control, csi, osc}
@@ -14,16 +14,19 @@ use Rattle.esc_looks.specs.Looks.{look_by_all, plain_look}
 use Rattle.esc_html.specs.Pieces.{is_kept}
 use Rattle.esc_looks.specs.declared.look.Look.{Look}
 
--- what holds for the characters that come: their look, and the address that they lead to
+-- what holds for the characters that come: their look, the address that they lead to, and whether
+-- looks are declarations alone
 pub record Pen : Type 0 where
   pub look : Look
   pub link : Option (List ℕ)
+  pub inline : Bool
 
 -- at first
-abbrev pub plain_pen : Pen
-plain_pen = record {
+abbrev pub plain_pen : Bool → Pen
+plain_pen b = record {
   look = plain_look;
   link = None;
+  inline = b;
 }
 
 -- an address that a page may lead to
@@ -74,6 +77,34 @@ step_of p (csi c) = function_step p (of_csi c)
 step_of p (osc c) = command_step p c
 step_of p _ = nothing
 
+-- ---- what leaves something in a page
+
+abbrev pub is_shown_control : ℕ → Bool
+is_shown_control n = n == 0x09 || n == 0x0a
+
+abbrev pub is_shown_function : Function → Bool
+is_shown_function (renditions rs) = true
+is_shown_function _ = false
+
+-- a link to an address that a page may lead to, or the end of one
+abbrev pub leads : {A : Type 0} → Option (Hyperlink A) → Bool
+leads None = true
+leads (Some h) = is_page_address h.uri
+
+abbrev pub is_shown_command : {A : Type 0} → OperatingSystemCommand A → Bool
+is_shown_command (SetHyperlink h) = leads h
+is_shown_command _ = false
+
+-- a page shows the value, or the look or the link that holds after it
+abbrev pub is_shown : {A : Type 0} → Value A → Bool
+is_shown (print c) = not (c == 0x7f)
+is_shown (control c) = is_shown_control (code_number c)
+is_shown (csi c) = is_shown_function (of_csi c)
+is_shown (osc c) = is_shown_command c
+is_shown _ = false
+
+-- ---- values, one after another
+
 -- the pen after a step
 abbrev pub pen_by : Pen → Step → Pen
 pen_by p (changes q) = q
@@ -84,9 +115,9 @@ pen_by p nothing = p
 abbrev pub ends_line : Bool → ℕ → Bool
 ends_line per_line c = per_line && c == 0x0a
 
--- the pen that holds for a character: none for a line feed that ends a line
+-- the pen that holds for a character: the first one for a line feed that ends a line
 abbrev pub pen_at : Bool → Pen → Pen
-pen_at true p = plain_pen
+pen_at true p = plain_pen p.inline
 pen_at false p = p
 
 -- the character of a step

@@ -7,15 +7,16 @@ use Rattle.esc_looks.specs.Looks.{is_plain}
 use Rattle.esc_html.specs.Marks.{Pen, Step, changes, shows, nothing, ends_line, plain_pen, step_of}
 use Rattle.esc_html.specs.Pieces.{Piece, html_text, link, link_end, span, span_end, text}
 use Rattle.esc_looks.specs.declared.look.Look.{Look}
+use Rattle.esc_html.specs.declared.layout.Layout.{Layout}
 
 -- what a page is at: the pen, and whether the tags of it are open
 pub record State : Type 0 where
   pub pen : Pen
   pub is_open : Bool
 
-abbrev pub first_state : State
-first_state = record {
-  pen = plain_pen;
+abbrev pub first_state : Bool → State
+first_state b = record {
+  pen = plain_pen b;
   is_open = false;
 }
 
@@ -28,9 +29,9 @@ link_end_if true = link_end ∷ []
 link_end_if false = []
 
 -- a span, where the look is not plain
-abbrev pub span_unless : Bool → Look → List Piece
-span_unless true l = []
-span_unless false l = span l ∷ []
+abbrev pub span_unless : Bool → Bool → Look → List Piece
+span_unless b true l = []
+span_unless b false l = span b l ∷ []
 
 abbrev pub span_end_unless : Bool → List Piece
 span_end_unless true = []
@@ -38,7 +39,7 @@ span_end_unless false = span_end ∷ []
 
 -- the tags of a pen: a link, and in it a span
 abbrev pub opening : Pen → List Piece
-opening p = link_opening p.link ++ span_unless (is_plain p.look) p.look
+opening p = link_opening p.link ++ span_unless p.inline (is_plain p.look) p.look
 
 abbrev pub closing : Pen → List Piece
 closing p = span_end_unless (is_plain p.look) ++ link_end_if (is_some p.link)
@@ -88,17 +89,18 @@ state_from per_line g [] = g
 state_from per_line g (v ∷ vs) = state_from per_line (state_by per_line g (step_of g.pen v)) vs
 
 -- those of a stream, of which no more than the limit is kept of a segment
-abbrev pub pieces_of : Type 0 → Option ℕ → Bool → List ℕ → List Piece
-pieces_of A limit per_line s = pieces_from {A = A} per_line first_state (meaning_within limit s)
+abbrev pub pieces_of : Type 0 → Option ℕ → Layout → List ℕ → List Piece
+pieces_of A limit y s =
+    pieces_from {A = A} y.per_line (first_state y.inline) (meaning_within limit s)
 
-abbrev pub state_of_stream : Type 0 → Option ℕ → Bool → List ℕ → State
-state_of_stream A limit per_line s =
-    state_from {A = A} per_line first_state (meaning_within limit s)
+abbrev pub state_of_stream : Type 0 → Option ℕ → Layout → List ℕ → State
+state_of_stream A limit y s =
+    state_from {A = A} y.per_line (first_state y.inline) (meaning_within limit s)
 
 -- its text, while it may go on
-abbrev pub page_text : Type 0 → Option ℕ → Bool → List ℕ → List ℕ
-page_text A limit per_line s = html_text (pieces_of A limit per_line s)
+abbrev pub page_text : Type 0 → Option ℕ → Layout → List ℕ → List ℕ
+page_text A limit y s = html_text (pieces_of A limit y s)
 
 -- what closes the tags that are open after it
-abbrev pub closing_text : Type 0 → Option ℕ → Bool → List ℕ → List ℕ
-closing_text A limit per_line s = html_text (closed (state_of_stream A limit per_line s))
+abbrev pub closing_text : Type 0 → Option ℕ → Layout → List ℕ → List ℕ
+closing_text A limit y s = html_text (closed (state_of_stream A limit y s))

@@ -6,6 +6,7 @@ use Rattle.std.specs.Str.{encode_utf8_all}
 use Rattle.esc_looks.specs.Classes.{class_names}
 use Rattle.esc_looks.specs.Looks.{look_classes, look_styles, present}
 use Rattle.esc_looks.specs.Styles.{styles_text}
+use Rattle.esc_html.specs.Inline.{inline_text}
 use Rattle.esc_html.specs.Tokens.{Token, character, start_tag, end_tag}
 use Rattle.esc_looks.specs.declared.class.Class.{Class}
 use Rattle.esc_looks.specs.declared.look.Look.{Look}
@@ -14,8 +15,8 @@ use Rattle.esc_looks.specs.declared.style.Style.{Style}
 pub data Piece : Type 0 where
   -- characters
   text : List ℕ → Piece
-  -- a span of this look begins
-  span : Look → Piece
+  -- a span of this look begins, in declarations alone or with classes
+  span : Bool → Look → Piece
   -- it ends
   span_end : Piece
   -- a link to this address begins
@@ -45,7 +46,8 @@ escape_text c = escape 0x3e c
 abbrev pub escape_value : ℕ → List ℕ
 escape_value c = escape 0x22 c
 
--- the attributes of a span: its classes where there are some, and its styles where there are some
+-- the attributes of a span: its declarations alone; or its classes where there are some, and its
+-- styles where there are some
 abbrev pub class_attribute : List Class → List (List ℕ × List ℕ)
 class_attribute [] = []
 class_attribute (c ∷ cs) = (codes "class", class_names (c ∷ cs)) ∷ []
@@ -54,8 +56,9 @@ abbrev pub style_attribute : List Style → List (List ℕ × List ℕ)
 style_attribute [] = []
 style_attribute (s ∷ ss) = (codes "style", styles_text (s ∷ ss)) ∷ []
 
-abbrev pub span_attributes : Look → List (List ℕ × List ℕ)
-span_attributes l = class_attribute (present (look_classes l))
+abbrev pub span_attributes : Bool → Look → List (List ℕ × List ℕ)
+span_attributes true l = (codes "style", inline_text l) ∷ []
+span_attributes false l = class_attribute (present (look_classes l))
     ++ style_attribute (present (look_styles l))
 
 -- attributes in a tag, each after a space
@@ -68,7 +71,7 @@ attributes_text xs = flat_map attribute_text xs
 -- what a piece is written as
 abbrev pub piece_text : Piece → List ℕ
 piece_text (text t) = flat_map escape_text t
-piece_text (span l) = codes "<span" ++ (attributes_text (span_attributes l) ++ codes ">")
+piece_text (span b l) = codes "<span" ++ (attributes_text (span_attributes b l) ++ codes ">")
 piece_text span_end = codes "</span>"
 piece_text (link a) =
     codes "<a href=\"" ++ (flat_map escape_value a ++ codes "\" rel=\"noopener noreferrer\">")
@@ -80,7 +83,7 @@ html_text ps = flat_map piece_text ps
 -- the tokens that a piece is
 abbrev pub piece_tokens : Piece → List Token
 piece_tokens (text t) = map character t
-piece_tokens (span l) = start_tag (codes "span") (span_attributes l) ∷ []
+piece_tokens (span b l) = start_tag (codes "span") (span_attributes b l) ∷ []
 piece_tokens span_end = end_tag (codes "span") ∷ []
 piece_tokens (link a) = start_tag (codes "a")
     ((codes "href", a) ∷ (codes "rel", codes "noopener noreferrer") ∷ []) ∷ []
@@ -96,7 +99,7 @@ is_kept c = not (c == 0) && not (c == 0x0d)
 -- the characters of a piece are kept
 abbrev pub is_kept_piece : Piece → Bool
 is_kept_piece (text t) = list_all is_kept t
-is_kept_piece (span l) = true
+is_kept_piece (span b l) = true
 is_kept_piece span_end = true
 is_kept_piece (link a) = list_all is_kept a
 is_kept_piece link_end = true
@@ -118,7 +121,7 @@ abbrev pub nests : List Open → List Piece → Bool
 nests [] [] = true
 nests (o ∷ os) [] = false
 nests os (text t ∷ ps) = nests os ps
-nests os (span cs ∷ ps) = nests (open_span ∷ os) ps
+nests os (span b l ∷ ps) = nests (open_span ∷ os) ps
 nests os (link a ∷ ps) = not (has_link os) && nests (open_link ∷ os) ps
 nests (open_span ∷ os) (span_end ∷ ps) = nests os ps
 nests (open_link ∷ os) (link_end ∷ ps) = nests os ps
@@ -127,7 +130,7 @@ nests _ _ = false
 -- a piece of characters as one of the bytes of their UTF-8
 abbrev pub encoded : Piece → Piece
 encoded (text t) = text (encode_utf8_all t)
-encoded (span l) = span l
+encoded (span b l) = span b l
 encoded span_end = span_end
 encoded (link a) = link (encode_utf8_all a)
 encoded link_end = link_end

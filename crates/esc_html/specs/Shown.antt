@@ -10,6 +10,7 @@ use Rattle.esc_html.specs.Pages.{closing_text, page_text}
 use Rattle.esc_html.specs.Pieces.{span_attributes}
 use Rattle.esc_html.specs.Tokens.{Token, character, start_tag, end_tag, stray, tokens}
 use Rattle.esc_looks.specs.declared.look.Look.{Look}
+use Rattle.esc_html.specs.declared.layout.Layout.{Layout}
 
 -- the name of an element, and its attributes with their values
 abbrev pub Element : Type 0
@@ -31,25 +32,26 @@ link_elements None = []
 link_elements (Some a) =
     (codes "a", (codes "href", a) ∷ (codes "rel", codes "noopener noreferrer") ∷ []) ∷ []
 
-abbrev pub span_elements_unless : Bool → Look → List Element
-span_elements_unless true l = []
-span_elements_unless false l = (codes "span", span_attributes l) ∷ []
+abbrev pub span_elements_unless : Bool → Bool → Look → List Element
+span_elements_unless b true l = []
+span_elements_unless b false l = (codes "span", span_attributes b l) ∷ []
 
 abbrev pub elements : Pen → List Element
-elements p = span_elements_unless (is_plain p.look) p.look ++ link_elements p.link
+elements p = span_elements_unless p.inline (is_plain p.look) p.look ++ link_elements p.link
 
 -- the bytes of a character, each in the elements of its pen
 abbrev pub marked_bytes : ℕ × Pen → List (ℕ × List Element)
 marked_bytes m = map (λ b. (b, elements m.1)) (encode_utf8 m.0)
 
 -- What holds of the text t of a page that was made of the stream s, with what closes it:
-pub record IsPage (A : Type 0) (limit : Option ℕ) (per_line : Bool) (s t : List ℕ) : Type 0 where
+pub record IsPage (A : Type 0) (limit : Option ℕ) (y : Layout) (s t : List ℕ) : Type 0 where
   -- it is that text
-  pub text : t ≡ page_text A limit per_line s ++ closing_text A limit per_line s
+  pub text : t ≡ page_text A limit y s ++ closing_text A limit y s
   -- a browser's tokenizer reads nothing but characters, spans of looks, and links to safe addresses
   pub listed : All IsListed (tokens t)
   -- each start tag has its end tag, the last one first
   pub closes : closes [] (tokens t) ≡ true
   -- it shows exactly the characters of the stream, with their looks and links
   pub shows : shown [] (tokens t)
-      ≡ flat_map marked_bytes (marks {A = A} per_line plain_pen (meaning_within limit s))
+      ≡ flat_map marked_bytes
+      (marks {A = A} y.per_line (plain_pen y.inline) (meaning_within limit s))

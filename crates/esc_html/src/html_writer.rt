@@ -3,6 +3,7 @@ ghost use Rattle.std.specs.Prelude.{◌≡◌, ◌++◌, [], IfErr, OnOk, Some};
 ghost use Rattle.esc_html.specs.Pages.{closing_text};
 ghost use Rattle.memory.specs.Refusals.{Refused};
 
+use crate::layout::Layout;
 use crate::page::Page;
 use esc_frame::ParseError;
 use esc_parse::Parser;
@@ -11,7 +12,7 @@ use std::mem;
 
 /// Takes a stream in whatever pieces it comes, and gives for each the HTML that it adds: the
 /// characters of the stream but DEL, with tabs and line feeds, in spans of their looks and in links
-/// to safe addresses. All other actions show nothing.
+/// to safe addresses, as the [`Layout`] says. All other actions show nothing.
 ///
 /// It keeps what a parser keeps of an unfinished segment, at most the limit, the text of the piece
 /// before, and the look and the address that hold.
@@ -23,19 +24,31 @@ pub struct HtmlWriter<A: Allocator = Global> {
 }
 
 impl<A: Allocator + Copy> HtmlWriter<A> {
-    ghost use Rattle.esc_html.specs.Fed.{After, IsBroken, TakesIn, WasFed, added_by};
+    ghost use Rattle.esc_html.specs.Fed.{After, IsBroken, TakesIn, WasFed, added_by, closing_of, with_classes};
 
     /// A writer at the beginning of a stream, which keeps at most `limit` bytes of a segment, as
-    /// [`Parser::with_limit`](esc_parse::Parser::with_limit) does. With `per_line` the tags that
-    /// are open are closed before each line feed, and opened again after it: so each line is HTML
-    /// by itself. Takes no memory.
+    /// [`Parser::with_limit`](esc_parse::Parser::with_limit) does, and writes looks as classes.
+    /// With `per_line` the tags that are open are closed before each line feed, and opened again
+    /// after it: so each line is HTML by itself. Takes no memory.
     pub fn new(alloc: A, limit: usize, per_line: bool) -> HtmlWriter<A>
-        ensures fed { WasFed limit per_line [] result }
+        ensures fed { WasFed limit (with_classes per_line) [] result }
+        ensures empty { added_by result ≡ [] }
+    {
+        let layout = Layout {
+            per_line,
+            inline: false,
+        };
+        HtmlWriter::with_layout(alloc, limit, layout)
+    }
+
+    /// The same, in this layout.
+    pub fn with_layout(alloc: A, limit: usize, layout: Layout) -> HtmlWriter<A>
+        ensures fed { WasFed limit layout [] result }
         ensures empty { added_by result ≡ [] }
     {
         HtmlWriter {
             parser: Parser::with_limit(alloc, limit),
-            page: Page::new(alloc, per_line),
+            page: Page::new(alloc, layout),
             alloc,
         }
     }
@@ -45,14 +58,14 @@ impl<A: Allocator + Copy> HtmlWriter<A> {
     /// `ParseError::Memory` says that a request for memory was refused: the text is empty, and from
     /// then on every call returns `ParseError::Failed`.
     pub fn feed(&mut self, bytes: &[u8]) -> Result<(), ParseError>
-        ensures given { After self.old (λ limit per_line s.
-            OnOk result (TakesIn limit per_line s bytes.now self.new)) }
-        ensures refused { After self.old (λ limit per_line s. IfErr result (λ e.
+        ensures given { After self.old (λ limit y s.
+            OnOk result (TakesIn limit y s bytes.now self.new)) }
+        ensures refused { After self.old (λ limit y s. IfErr result (λ e.
             (e ≡ ParseError.Memory) × IsBroken self.new × (added_by self.new ≡ []) × Refused A)) }
         ensures failed { IsBroken self.old → (result ≡ Err ParseError.Failed) × IsBroken self.new
             × (added_by self.new ≡ []) }
     {
-        let blank = Page::new(self.alloc, self.page.per_line);
+        let blank = Page::new(self.alloc, self.page.layout);
         let page = mem::replace(&mut self.page, blank);
         let (result, page) = self.parser.parse_into(bytes, page.emptied());
         match result {
@@ -74,8 +87,9 @@ impl<A: Allocator + Copy> HtmlWriter<A> {
     /// What closes the tags that are open. With it the text of all pieces is a page, in which each
     /// tag is closed.
     pub fn closing(&self) -> &'static str
-        ensures { After self.now (λ limit per_line s.
-            result.now ≡ closing_text A (Some limit) per_line s) }
+        ensures text { result.now ≡ closing_of self.now }
+        ensures closes { After self.now (λ limit y s.
+            result.now ≡ closing_text A (Some limit) y s) }
     {
         self.page.closing()
     }

@@ -1,5 +1,5 @@
 //! The laws of what is written.
-ghost use Rattle.std.specs.Prelude.{◌≡◌, ◌++◌, ℕ, Bool, List, [], Option, map, true};
+ghost use Rattle.std.specs.Prelude.{◌≡◌, ◌++◌, ℕ, List, [], Option, map, true};
 ghost use Rattle.std.specs.List.{All, list_all};
 ghost use Rattle.std.specs.Str.{encode_utf8_all};
 ghost use Rattle.esc_html.specs.Listed.{IsListed, closes, is_safe_piece};
@@ -7,6 +7,7 @@ ghost use Rattle.esc_html.specs.Pieces.{Piece, encoded, html_text, is_kept_piece
 ghost use Rattle.esc_html.specs.Pages.{closing_text, page_text};
 ghost use Rattle.esc_html.specs.Shown.{IsPage};
 ghost use Rattle.esc_html.specs.Tokens.{tokens};
+ghost use Rattle.esc_html.specs.declared.layout.Layout.{Layout};
 
 use esc_actions::laws::handed_out;
 use std::alloc::Allocator;
@@ -19,8 +20,9 @@ pub fn pieces_read_back()
         → tokens (html_text ps) ≡ tokens_of ps }
 {}
 
-/// It reads nothing but characters, spans with names of the list of classes, and links to safe
-/// addresses, where those of the pieces are safe: no other element, attribute or scheme.
+/// It reads nothing but characters, spans with names of the list of classes or with declarations of
+/// fixed lists, and links to safe addresses, where those of the pieces are safe: no other element,
+/// attribute or scheme.
 pub fn pieces_are_listed()
     ensures { (ps : List Piece) → list_all is_kept_piece ps ≡ true
         → list_all is_safe_piece ps ≡ true → All IsListed (tokens (html_text ps)) }
@@ -44,8 +46,8 @@ pub fn pieces_encoded()
 /// the elements of its look and its link. It holds for every allocator `A`, which the type of the
 /// actions names.
 pub fn streams_are_pages<A: Allocator>()
-    ensures { (limit : Option ℕ) (per_line : Bool) (s : List ℕ) → IsPage A limit per_line s
-        (page_text A limit per_line s ++ closing_text A limit per_line s) }
+    ensures { (limit : Option ℕ) (y : Layout) (s : List ℕ) → IsPage A limit y s
+        (page_text A limit y s ++ closing_text A limit y s) }
 {
     handed_out::<A>();
 }

@@ -20,13 +20,18 @@
 mod address;
 mod escaping;
 pub mod html_writer;
+mod inline;
 pub mod laws;
+mod layout;
 mod markup;
 mod page;
+mod shown;
 mod tag;
 mod writing;
 
 pub use address::is_safe_address;
 pub use esc_looks::{Class, Color, Look, Style};
 pub use html_writer::HtmlWriter;
+pub use layout::Layout;
+pub use shown::is_shown;
 pub use writing::{close_link, close_span, open_link, open_span, push_text};

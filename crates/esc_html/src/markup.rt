@@ -6,6 +6,7 @@ ghost use Rattle.esc_html.specs.Pieces.{escape_text, link, piece_text, span};
 ghost use Rattle.memory.specs.Refusals.{Refused};
 
 use crate::escaping::{push_char, push_escaped};
+use crate::inline::push_inline_span;
 use crate::tag::push_span;
 use crate::writing::push_link;
 use esc_looks::Look;
@@ -73,12 +74,16 @@ impl<A: Allocator> Markup<A> {
         push_escaped(&mut self.string, more, b'>')
     }
 
-    /// Begins a span.
-    pub fn push_span(&mut self, look: &Look) -> Result<(), AllocError>
-        ensures ok { OnOk result (self.new ≡ self.old ++ piece_text (span look.now)) }
+    /// Begins a span, in declarations alone or with classes.
+    pub fn push_span(&mut self, inline: bool, look: &Look) -> Result<(), AllocError>
+        ensures ok { OnOk result (self.new ≡ self.old ++ piece_text (span inline look.now)) }
         ensures refused { OnErr result (Refused A) }
     {
-        push_span(&mut self.string, look)
+        if inline {
+            push_inline_span(&mut self.string, look)
+        } else {
+            push_span(&mut self.string, look)
+        }
     }
 
     /// Begins a link.

@@ -12,6 +12,7 @@ ghost use Rattle.esc_typed.specs.Selections.{left};
 ghost use Rattle.memory.specs.Refusals.{Refused};
 
 use crate::address::is_safe_address;
+use crate::layout::Layout;
 use crate::markup::Markup;
 use esc_actions::Action;
 use esc_links::Hyperlink;
@@ -35,23 +36,23 @@ pub(crate) struct Page<A: Allocator = Global> {
     pub link: Option<Text<A>>,
     /// Whether the tags of the look and the link are open.
     pub is_open: bool,
-    /// Whether they are closed at the end of each line.
-    pub per_line: bool,
+    /// How it is laid out.
+    pub layout: Layout,
 }
 
 impl<A: Allocator> Page<A> {
     /// An empty page. Takes no memory.
-    pub fn new(alloc: A, per_line: bool) -> Page<A>
+    pub fn new(alloc: A, layout: Layout) -> Page<A>
         ensures text { text_of result ≡ [] }
-        ensures state { state_of result ≡ first_state }
-        ensures per_line { result.per_line ≡ per_line }
+        ensures state { state_of result ≡ first_state layout.inline }
+        ensures layout { result.layout ≡ layout }
     {
         Page {
             html: Markup::new(alloc),
             look: Look::plain(),
             link: None,
             is_open: false,
-            per_line,
+            layout,
         }
     }
 
@@ -59,7 +60,7 @@ impl<A: Allocator> Page<A> {
     pub fn emptied(mut self) -> Page<A>
         ensures text { text_of result ≡ [] }
         ensures state { state_of result ≡ state_of self }
-        ensures per_line { result.per_line ≡ self.per_line }
+        ensures layout { result.layout ≡ self.layout }
     {
         self.html.clear();
         self
@@ -70,7 +71,7 @@ impl<A: Allocator> Page<A> {
         ensures ok { OnOk result (text_of self.new
             ≡ text_of self.old ++ html_text (link_opening (state_of self.old).pen.link)) }
         ensures state { OnOk result (state_of self.new ≡ state_of self.old) }
-        ensures per_line { OnOk result (self.new.per_line ≡ self.old.per_line) }
+        ensures layout { OnOk result (self.new.layout ≡ self.old.layout) }
         ensures refused { OnErr result (Refused A) }
     {
         match &self.link {
@@ -82,15 +83,16 @@ impl<A: Allocator> Page<A> {
     // Opens a span, where the look is not plain.
     fn open_span(&mut self) -> Result<(), AllocError>
         ensures ok { OnOk result (text_of self.new
-            ≡ text_of self.old ++ html_text (span_unless (is_plain self.old.look) self.old.look)) }
+            ≡ text_of self.old ++ html_text
+            (span_unless self.old.layout.inline (is_plain self.old.look) self.old.look)) }
         ensures state { OnOk result (state_of self.new ≡ state_of self.old) }
-        ensures per_line { OnOk result (self.new.per_line ≡ self.old.per_line) }
+        ensures layout { OnOk result (self.new.layout ≡ self.old.layout) }
         ensures refused { OnErr result (Refused A) }
     {
         if self.look.is_plain() {
             return Ok(());
         }
-        self.html.push_span(&self.look)
+        self.html.push_span(self.layout.inline, &self.look)
     }
 
     // Opens the tags, where they are not open.
@@ -99,7 +101,7 @@ impl<A: Allocator> Page<A> {
             ≡ text_of self.old ++ html_text (opened (state_of self.old))) }
         ensures state { OnOk result (state_of self.new
             ≡ open_or_not (state_of self.old) true) }
-        ensures per_line { OnOk result (self.new.per_line ≡ self.old.per_line) }
+        ensures layout { OnOk result (self.new.layout ≡ self.old.layout) }
         ensures refused { OnErr result (Refused A) }
     {
         if self.is_open {
@@ -117,7 +119,7 @@ impl<A: Allocator> Page<A> {
             ≡ text_of self.old ++ html_text (closed (state_of self.old))) }
         ensures state { OnOk result (state_of self.new
             ≡ open_or_not (state_of self.old) false) }
-        ensures per_line { OnOk result (self.new.per_line ≡ self.old.per_line) }
+        ensures layout { OnOk result (self.new.layout ≡ self.old.layout) }
         ensures refused { OnErr result (Refused A) }
     {
         let closing = self.closing();
@@ -142,7 +144,7 @@ impl<A: Allocator> Page<A> {
             ≡ text_of self.old ++ html_text (before_character ends_line (state_of self.old))) }
         ensures state { OnOk result (state_of self.new
             ≡ open_or_not (state_of self.old) (not ends_line)) }
-        ensures per_line { OnOk result (self.new.per_line ≡ self.old.per_line) }
+        ensures layout { OnOk result (self.new.layout ≡ self.old.layout) }
         ensures refused { OnErr result (Refused A) }
     {
         if ends_line { self.close() } else { self.open() }
@@ -153,7 +155,7 @@ impl<A: Allocator> Page<A> {
         ensures ok { OnOk result (Adds self.old (shows c) self.new) }
         ensures refused { OnErr result (Refused A) }
     {
-        self.prepare(self.per_line && c == '\n')?;
+        self.prepare(self.layout.per_line && c == '\n')?;
         self.html.push_char(c)
     }
 
@@ -312,7 +314,7 @@ fn address_of<A: Allocator>(link: Option<Hyperlink<A>>) -> Option<Text<A>>
 }
 
 // Whether a page may lead to this address.
-fn is_page_address(address: &str) -> bool
+pub(crate) fn is_page_address(address: &str) -> bool
     ensures { result ≡ is_page_address address.now }
 {
     is_safe_address(address)

@@ -1,5 +1,5 @@
 //! The start tag of a span.
-ghost use Rattle.std.specs.Prelude.{◌≡◌, ◌&&◌, ◌++◌, IfOk, OnOk, OnErr, is_none, string_bytes, true, Some};
+ghost use Rattle.std.specs.Prelude.{◌≡◌, ◌&&◌, ◌++◌, IfOk, OnOk, OnErr, false, is_none, string_bytes, true, Some};
 ghost use Rattle.std.specs.List.{list_all};
 ghost use Rattle.esc_html.specs.Attributes.{class_opener, ended, next_class, next_style, style_opener};
 ghost use Rattle.esc_looks.specs.Colors.{is_small};
@@ -15,7 +15,7 @@ use std::str;
 // Begins a span; where memory is refused, a part of the tag may be written.
 pub(crate) fn push_span<A: Allocator>(html: &mut String<A>, look: &Look) -> Result<(), AllocError>
     ensures ok { OnOk result (string_bytes html.new
-        ≡ string_bytes html.old ++ piece_text (span look.now)) }
+        ≡ string_bytes html.old ++ piece_text (span false look.now)) }
     ensures grown { Grows (string_bytes html.old) (string_bytes html.new) }
     ensures refused { OnErr result (Refused A) }
 {
@@ -107,7 +107,7 @@ fn push_next_style<A: Allocator>(
 }
 
 // A style; before the first comes the attribute's name.
-fn push_style<A: Allocator>(
+pub(crate) fn push_style<A: Allocator>(
     html: &mut String<A>,
     is_first: bool,
     style: &Style,

@@ -1,5 +1,5 @@
 //! The text of pieces, one after another.
-ghost use Rattle.std.specs.Prelude.{◌≡◌, ◌++◌, OnOk, OnErr, string_bytes, true};
+ghost use Rattle.std.specs.Prelude.{◌≡◌, ◌++◌, OnOk, OnErr, false, string_bytes, true};
 ghost use Rattle.esc_html.specs.Addresses.{is_safe_address};
 ghost use Rattle.esc_html.specs.Growing.{Grows};
 ghost use Rattle.esc_html.specs.Pieces.{link, link_end, piece_text, span, span_end, text};
@@ -32,7 +32,7 @@ pub fn push_text<A: Allocator>(html: &mut String<A>, more: &str) -> Result<(), A
 /// is that memory was refused, and the text stays as it was.
 pub fn open_span<A: Allocator>(html: &mut String<A>, look: &Look) -> Result<(), AllocError>
     ensures ok { OnOk result (string_bytes html.new
-        ≡ string_bytes html.old ++ piece_text (span look.now)) }
+        ≡ string_bytes html.old ++ piece_text (span false look.now)) }
     ensures err { OnErr result (string_bytes html.new ≡ string_bytes html.old) }
     ensures refused { OnErr result (Refused A) }
 {

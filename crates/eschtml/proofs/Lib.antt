@@ -1,3 +1,5 @@
 pub mod Longer
 mod Piping
 mod Left
+mod Same
+mod Seen

@@ -1,14 +1,21 @@
-//! The lines of a stream as HTML.
+//! The lines of HTML that is written.
+ghost use Rattle.std.specs.Prelude.{};
+ghost use Rattle.std.specs.Io.{WritesAtMost};
+ghost use Rattle.std.specs.Io.KnownBytes.{WriteAppends};
 
 use memchr::memchr;
+use std::io;
+use std::io::Write;
 
-/// How many lines were written.
+/// How many lines were written, of HTML that consists of tags, characters and character references.
 #[derive(Clone, Copy)]
 pub struct Lines {
     // those that a line feed ended
     ended: u64,
     // whether characters came after the last line feed
     is_open: bool,
+    // whether a tag has begun
+    is_tag: bool,
 }
 
 impl Lines {
@@ -17,6 +24,7 @@ impl Lines {
         Lines {
             ended: 0,
             is_open: false,
+            is_tag: false,
         }
     }
 
@@ -25,31 +33,77 @@ impl Lines {
         self.ended.saturating_add(u64::from(self.is_open))
     }
 
-    /// These lines and those of a text after them, which consists of whole tags, characters and
-    /// character references.
-    pub fn and(self, html: &str) -> Lines {
+    /// These lines and those of more HTML. A line feed is never in a tag.
+    pub fn and(self, html: &[u8]) -> Lines {
         let mut lines = self;
-        let mut rest = html.as_bytes();
+        let mut rest = html;
         while let Some(at) = memchr(b'\n', rest) {
             lines.ended = lines.ended.saturating_add(1);
             lines.is_open = false;
+            lines.is_tag = false;
             rest = &rest[at + 1..];
         }
-        lines.is_open = lines.is_open || has_characters(rest);
+        lines.with(rest)
+    }
+
+    // These lines, with more of the last one.
+    fn with(self, html: &[u8]) -> Lines {
+        let mut lines = self;
+        for byte in html {
+            match *byte {
+                b'<' => lines.is_tag = true,
+                b'>' => lines.is_tag = false,
+                _ if lines.is_tag => {}
+                _ => lines.is_open = true,
+            }
+        }
         lines
     }
 }
 
-// Whether a text has more than tags.
-fn has_characters(html: &[u8]) -> bool {
-    let mut is_tag = false;
-    for byte in html {
-        match *byte {
-            b'<' => is_tag = true,
-            b'>' => is_tag = false,
-            _ if is_tag => {}
-            _ => return true,
+/// A writer around another, which counts the lines of the HTML that it is given.
+#[derive(Drop)]
+pub struct Counting<W> {
+    inner: W,
+    lines: Lines,
+}
+
+impl<W> Counting<W> {
+    /// A writer around `inner`, which was given nothing.
+    pub fn new(inner: W) -> Counting<W> {
+        Counting {
+            inner,
+            lines: Lines::new(),
         }
     }
-    false
+
+    /// The lines.
+    pub fn lines(&self) -> Lines {
+        self.lines
+    }
+}
+
+impl<W: Write> Write for Counting<W> {
+    ghost contents = { λ c. W.contents c.inner };
+
+    fn write(&mut self, buf: &[u8]) -> io::Result<usize>
+        ensures bound { WritesAtMost result buf.now }
+        ensures bytes { WriteAppends (W.contents self.old.inner) (W.contents self.new.inner) result
+            buf.now }
+    {
+        let result = self.inner.write(buf);
+        if let Ok(n) = &result {
+            self.lines = self.lines.and(first(buf, *n));
+        }
+        result
+    }
+
+    fn flush(&mut self) -> io::Result<()> {
+        self.inner.flush()
+    }
+}
+
+// The first bytes, at most so many.
+fn first(bytes: &[u8], n: usize) -> &[u8] {
+    bytes.get(..n).unwrap_or(bytes)
 }

@@ -3,6 +3,7 @@
 //! recordings of unknown origin that are shown in a browser.
 #![tactic(auto)]
 
+mod kept;
 mod lines;
 mod options;
 mod page;
@@ -16,7 +17,7 @@ use command_line::{
 };
 use esc_filter::FilterError;
 use esc_normal::Watched;
-use lines::Lines;
+use lines::{Counting, Lines};
 use new_file::NewFile;
 use options::{Kind, Options, Task};
 use page::{BEFORE, END, head, write_numbers};
@@ -41,8 +42,8 @@ const FAULT: u8 = 1;
 const USAGE_FAULT: u8 = 2;
 
 const USAGE: &str = "\
-usage: eschtml [--page] [--title text] [--lines] [--final-lines[=rows]] [--style] [--limit size] \
-[-o|--output file] [-h|--help] [-V|--version] [--] [FILE..]";
+usage: eschtml [--page] [--title text] [--lines] [--inline] [--show] [--final-lines[=rows]] \
+[--style] [--limit size] [-o|--output file] [-h|--help] [-V|--version] [--] [FILE..]";
 
 const HELP: &str = "\
 Writes each FILE, or standard input, as HTML, as it is read: characters, with colours and
@@ -52,6 +53,9 @@ renditions as spans, and links to http, https and mailto. Nothing of it becomes 
   --title text    its title (the name of the first FILE)
   --lines         closes the tags that are open at the end of each line, and opens them again
                   after it, so that each line is HTML by itself
+  --inline        writes colours and renditions as styles, and not as classes, so that the
+                  fragment needs no style sheet
+  --show          writes what is left out in its place, as text: ^[]0;title^G
   --final-lines   writes what a terminal leaves of lines that are written again, as by
                   progress bars; --final-lines=rows where these go back over more rows than 32
   --style         prints the style sheet, for a page around a fragment
@@ -289,19 +293,11 @@ fn convert_stream<R: Read + Drop, W: Write>(
     output: &mut W,
 ) -> (Ended, Lines) {
     let mut reader = Watched::new(Noting::new(input));
-    let mut writer = Watched::new(Noting::new(output));
-    let (outcome, lines) = write_html(
-        rt.alloc(),
-        options.limit,
-        options.per_line,
-        options.rows,
-        &mut reader,
-        &mut writer,
-    );
-    let reason = reader
-        .into_inner()
-        .reason()
-        .or(writer.into_inner().reason());
+    let mut writer = Watched::new(Noting::new(Counting::new(output)));
+    let outcome = write_html(rt.alloc(), &options, &mut reader, &mut writer);
+    let writer = writer.into_inner();
+    let reason = reader.into_inner().reason().or(writer.reason());
+    let lines = writer.into_inner().lines();
     (ended(rt, outcome, reason, name, output_name), lines)
 }
 

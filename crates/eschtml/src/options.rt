@@ -1,6 +1,7 @@
 //! What the program's words ask for.
 
 use command_line::{Found, Known, Takes, Wrong, read};
+use esc_html::Layout;
 use std::alloc::{Allocator, Global};
 
 /// How streams become HTML.
@@ -10,8 +11,10 @@ pub struct Options<'a> {
     pub is_page: bool,
     /// The title of the page, where it is given.
     pub title: Option<&'a str>,
-    /// Whether the tags that are open are closed at the end of each line.
-    pub per_line: bool,
+    /// How the HTML is laid out.
+    pub layout: Layout,
+    /// Whether what is left out is shown in place.
+    pub shows: bool,
     /// How many rows may be written again, where what is left of them is written.
     pub rows: Option<usize>,
     /// How many bytes are kept of an unfinished segment.
@@ -63,6 +66,16 @@ const KNOWN: &[Known] = &[
     },
     Known {
         name: "--lines",
+        letter: "",
+        takes: Takes::Nothing,
+    },
+    Known {
+        name: "--inline",
+        letter: "",
+        takes: Takes::Nothing,
+    },
+    Known {
+        name: "--show",
         letter: "",
         takes: Takes::Nothing,
     },
@@ -121,7 +134,11 @@ impl<'a, A: Allocator + Copy> Task<'a, A> {
         let mut options = Options {
             is_page: false,
             title: None,
-            per_line: false,
+            layout: Layout {
+                per_line: false,
+                inline: false,
+            },
+            shows: false,
             rows: None,
             limit: DEFAULT_LIMIT,
         };
@@ -129,7 +146,9 @@ impl<'a, A: Allocator + Copy> Task<'a, A> {
             match given.name {
                 "--page" => options.is_page = true,
                 "--title" => options.title = Some(given.word),
-                "--lines" => options.per_line = true,
+                "--lines" => options.layout.per_line = true,
+                "--inline" => options.layout.inline = true,
+                "--show" => options.shows = true,
                 "--final-lines" => options.rows = rows_of(given.word),
                 "--limit" => options.limit = given.size,
                 "--output" => output = Some(given.word),

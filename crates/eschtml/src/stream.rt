@@ -1,58 +1,55 @@
 //! One stream, from its reader to the output.
-ghost use Rattle.std.specs.Prelude.{◌≡◌, ◌++◌, [], Bool, ℕ, IsErrOf, Some, if◌then◌else◌};
-ghost use Rattle.esc_filter.specs.Streams.{Filters};
+ghost use Rattle.std.specs.Prelude.{◌≡◌, ◌++◌, [], ℕ, IsErrOf, Some, false, if◌then◌else◌, true};
+ghost use Rattle.esc_filter.specs.Streams.{Filters, IsEither};
 ghost use Rattle.esc_html.specs.Fed.{WasFed, added_by};
 ghost use Rattle.esc_html.specs.Pages.{page_text};
+ghost use Rattle.esc_html.specs.declared.layout.Layout.{Layout as LayoutValue};
 ghost use Rattle.memory.specs.Refusals.{Refused};
-ghost use Rattle.esc_lines.specs.Fed.{left_after};
-ghost use Rattle.eschtml.specs.Piped.{after};
-ghost use Rattle.eschtml.specs.Written.{IsHtml, IsHtmlBy, html_by, html_of, shown_of, size_of, whole_screen};
+ghost use Rattle.eschtml.specs.Piped.{NewAdding};
+ghost use Rattle.eschtml.specs.Written.{IsHtml, IsHtmlBy, html_by, html_of, seen_by, shown_of};
 
-use crate::lines::Lines;
+use crate::kept::Kept;
+use crate::options::Options;
 use crate::piped::Piped;
 use esc_filter::{Feeding, Filter, FilterError, Policy, filter_from};
-use esc_html::{HtmlWriter, laws};
+use esc_html::{HtmlWriter, Layout, laws};
 use esc_lines::Collapsing;
 use esc_normal::Watched;
+use esc_reveal::{Reveal, Revealing};
 use std::alloc::{AllocError, Allocator, Global};
 use std::io::{Read, Write};
 
-/// A stream as HTML, of which the lines are counted.
+/// A stream as HTML.
 #[derive(Drop)]
-struct Counted<A: Allocator = Global> {
+struct Marked<A: Allocator = Global> {
     writer: HtmlWriter<A>,
     closing: &'static str,
     has_ended: bool,
-    lines: Lines,
 }
 
-impl<A: Allocator + Copy> Counted<A> {
+impl<A: Allocator + Copy> Marked<A> {
     // Of nothing. Takes no memory.
-    fn new(alloc: A, limit: usize, per_line: bool) -> Counted<A>
-        ensures { WasFed limit per_line [] result.writer }
+    fn new(alloc: A, limit: usize, layout: Layout) -> Marked<A>
+        ensures { WasFed limit layout [] result.writer }
     {
-        Counted {
-            writer: HtmlWriter::new(alloc, limit, per_line),
+        Marked {
+            writer: HtmlWriter::with_layout(alloc, limit, layout),
             closing: "",
             has_ended: false,
-            lines: Lines::new(),
         }
     }
 }
 
-impl<A: Allocator + Copy> Feeding<A> for Counted<A> {
-    ghost gives = { λ f m c s. (limit : ℕ) × (per_line : Bool) × WasFed limit per_line s f.writer
-        × (m ≡ page_text A (Some limit) per_line) × (c ≡ html_of A limit per_line) };
+impl<A: Allocator + Copy> Feeding<A> for Marked<A> {
+    ghost gives = { λ f m c s. (limit : ℕ) × (y : LayoutValue) × WasFed limit y s f.writer
+        × (m ≡ page_text A (Some limit) y) × (c ≡ html_of A limit y) };
 
     ghost added = { λ f. if f.has_ended then f.closing.now else added_by f.writer };
 
     fn feed_piece(&mut self, bytes: &[u8]) -> Result<(), AllocError> {
         self.has_ended = false;
         match self.writer.feed(bytes) {
-            Ok(()) => {
-                self.lines = self.lines.and(self.writer.html());
-                Ok(())
-            }
+            Ok(()) => Ok(()),
             Err(_) => Err(AllocError),
         }
     }
@@ -76,65 +73,93 @@ impl<A: Allocator + Copy> Feeding<A> for Counted<A> {
 pub(crate) const COLUMNS: usize = 16_384;
 
 /// Writes on `writer` the HTML of what `reader` reads, as it comes, and at its end what closes the
-/// tags that are open; where rows may be written again, of what is left of the lines. It returns
-/// what [`filter_from`] does, and the lines that were written.
+/// tags that are open; by the options, what is left out of it is shown in place, and of the lines
+/// that is written which is left of them. It returns what [`filter_from`] does.
 pub fn write_html<A: Allocator + Copy, R: Read, W: Write>(
     alloc: A,
-    limit: usize,
-    per_line: bool,
-    rows: Option<usize>,
+    options: &Options<'_>,
     reader: &mut Watched<R>,
     writer: &mut Watched<W>,
-) -> (Result<(), FilterError>, Lines)
-    ensures holds { Filters R.Read W.Write (html_by A limit per_line rows)
-        (IsHtmlBy A limit per_line rows) result.0 reader writer }
-    ensures refused { IsErrOf result.0 FilterError.Memory → Refused A }
+) -> Result<(), FilterError>
+    ensures holds { Filters R.Read W.Write (html_by A options.now) (IsHtmlBy A options.now) result
+        reader writer }
+    ensures refused { IsErrOf result FilterError.Memory → Refused A }
 {
-    match rows {
-        None => write_whole(alloc, limit, per_line, reader, writer),
-        Some(rows) => write_left(alloc, limit, per_line, rows, reader, writer),
+    laws::streams_are_pages::<A>();
+    match options.rows {
+        None => write_whole(alloc, options, reader, writer),
+        Some(rows) => write_left(alloc, options, rows, reader, writer),
     }
 }
 
 // Of the whole stream.
 fn write_whole<A: Allocator + Copy, R: Read, W: Write>(
     alloc: A,
-    limit: usize,
-    per_line: bool,
+    options: &Options<'_>,
     reader: &mut Watched<R>,
     writer: &mut Watched<W>,
-) -> (Result<(), FilterError>, Lines)
-    ensures holds { Filters R.Read W.Write (html_of A limit per_line)
-        (IsHtml A limit per_line) result.0 reader writer }
-    ensures refused { IsErrOf result.0 FilterError.Memory → Refused A }
+) -> Result<(), FilterError>
+    ensures holds { Filters R.Read W.Write
+        (λ s. html_of A options.now.limit options.now.layout (seen_by A options.now false true s))
+        (λ b s t. IsHtml A options.now.limit options.now.layout b (seen_by A options.now false b s)
+        t) result reader writer }
+    ensures refused { IsErrOf result FilterError.Memory → Refused A }
 {
     laws::streams_are_pages::<A>();
-    let mut counted = Counted::new(alloc, limit, per_line);
-    let result = filter_from(alloc, &mut counted, reader, writer);
-    (result, counted.lines)
+    let marked = Marked::new(alloc, options.limit, options.layout);
+    write_seen(alloc, options, false, marked, reader, writer)
 }
 
 // Of what is left of the lines, of which so many may be written again.
 fn write_left<A: Allocator + Copy, R: Read, W: Write>(
     alloc: A,
-    limit: usize,
-    per_line: bool,
+    options: &Options<'_>,
     rows: usize,
     reader: &mut Watched<R>,
     writer: &mut Watched<W>,
-) -> (Result<(), FilterError>, Lines)
+) -> Result<(), FilterError>
     ensures holds { Filters R.Read W.Write
-        (after (html_of A limit per_line) (left_after A (size_of rows) (whole_screen A limit)))
-        (λ b s t. IsHtml A limit per_line b (shown_of A limit (Some rows) b s) t) result.0 reader
-        writer }
-    ensures refused { IsErrOf result.0 FilterError.Memory → Refused A }
+        (λ s. html_of A options.now.limit options.now.layout
+        (shown_of A options.now.limit (Some rows) true (seen_by A options.now true true s)))
+        (λ b s t. IsHtml A options.now.limit options.now.layout b
+        (shown_of A options.now.limit (Some rows) b (seen_by A options.now true b s)) t) result
+        reader writer }
+    ensures refused { IsErrOf result FilterError.Memory → Refused A }
 {
     laws::streams_are_pages::<A>();
-    let filter = Filter::new(alloc, limit, Policy::Screen);
+    let filter = Filter::new(alloc, options.limit, Policy::Screen);
     let Ok(collapsing) = Collapsing::new(alloc, filter, rows, COLUMNS) else {
-        return (Err(FilterError::Memory), Lines::new());
+        return Err(FilterError::Memory);
     };
-    let mut piped = Piped::new(alloc, collapsing, Counted::new(alloc, limit, per_line));
-    let result = filter_from(alloc, &mut piped, reader, writer);
-    (result, piped.second.lines)
+    let marked = Marked::new(alloc, options.limit, options.layout);
+    let piped = Piped::new(alloc, collapsing, marked);
+    write_seen(alloc, options, true, piped, reader, writer)
+}
+
+// Writes on `writer` by this filter, which was fed nothing, what is written of what `reader` reads,
+// or where what is left out is shown, of that; `moves` says that what changes the screen is not.
+fn write_seen<A: Allocator + Copy, R: Read, W: Write, F: Feeding<A> + Drop>(
+    alloc: A,
+    options: &Options<'_>,
+    moves: bool,
+    filter: F,
+    reader: &mut Watched<R>,
+    writer: &mut Watched<W>,
+) -> Result<(), FilterError>
+    ensures holds { NewAdding F.Feeding filter (λ m c. Filters R.Read W.Write
+        (λ s. c (seen_by A options.now moves true s))
+        (IsEither (λ s. c (seen_by A options.now moves true s))
+        (λ s. m (seen_by A options.now moves false s))) result reader writer) }
+    ensures refused { NewAdding F.Feeding filter (λ m c.
+        IsErrOf result FilterError.Memory → Refused A) }
+{
+    let shows = options.shows;
+    if shows {
+        let reveal = Reveal::new(alloc, options.limit, Kept { moves }, false);
+        let mut filter = Revealing::new(alloc, reveal, filter);
+        filter_from(alloc, &mut filter, reader, writer)
+    } else {
+        let mut filter = filter;
+        filter_from(alloc, &mut filter, reader, writer)
+    }
 }

@@ -1,4 +1,4 @@
-use Rattle.std.proofs.Common.{codes, string_bytes, refl, ap, ◌∙◌, ◌++◌}
+use Rattle.std.proofs.Common.{codes, false, string_bytes, refl, ap, ◌∙◌, ◌++◌}
 use Rattle.esc_html.proofs.Attributes.{tag_joined}
 use Rattle.esc_html.proofs.EscapedRuns.{ascii_utf8, grown_ok, grows_literal, grows_on, grows_same, grows_then}
 use Rattle.esc_looks.specs.Looks.{look_classes, look_styles, present}
@@ -38,7 +38,7 @@ returns-clause-ok g c =
     let three = string_bytes c.push_style_attribute.new.html in
     let look = c.args.look.now in
     grown_ok c.push_str-2.result three (string_bytes c.push_str-2.new.text) (codes ">")
-    (old ++ (codes "<span" ++ (attributes_text (span_attributes look) ++ codes ">")))
+    (old ++ (codes "<span" ++ (attributes_text (span_attributes false look) ++ codes ">")))
     c.push_str-2.ensures.bytes
     (tag_joined old one two three (class_attribute (present (look_classes look)))
     (style_attribute (present (look_styles look))) c.in_ok-push_str.ensures.bytes

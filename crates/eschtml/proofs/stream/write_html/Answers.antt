@@ -4,8 +4,8 @@ use Rattle.eschtml.proofs.stream.write_html.Goals as goal
 
 pub returns-in-None-clause-holds : goal.returns-in-None-clause-holds
 returns-in-None-clause-holds g c =
-    let f = by_rows g.row.A.Denot c.args.limit c.args.per_line c.args.rows None _ _ _ c.in-None.is
-    c.write_whole.ensures.holds in
+    let f = by_rows g.row.A.Denot c.args.options.now c.args.options.now.rows None _ _ _
+    c.in-None.is c.write_whole.ensures.holds in
     record {
       read_all = f.read_all;
       written = f.written;
@@ -19,7 +19,7 @@ returns-in-None-clause-holds g c =
 
 pub returns-in-Some-clause-holds : goal.returns-in-Some-clause-holds
 returns-in-Some-clause-holds g c =
-    let f = by_rows g.row.A.Denot c.args.limit c.args.per_line c.args.rows (Some c.in-Some.rows)
+    let f = by_rows g.row.A.Denot c.args.options.now c.args.options.now.rows (Some c.in-Some.rows)
     _ _ _ c.in-Some.is c.write_left.ensures.holds in
     record {
       read_all = f.read_all;

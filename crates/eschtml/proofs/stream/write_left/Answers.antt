@@ -1,4 +1,4 @@
-use Rattle.std.proofs.Common.{[], Some, arith, refl, subst, sym}
+use Rattle.std.proofs.Common.{[], Some, arith, refl, subst, sym, true, false}
 use Rattle.std.proofs.KnownBytes.{Appends-nil, Consumes-nil}
 use Rattle.std.specs.Io.KnownBytes.{Appends}
 use Rattle.esc_filter.proofs.Begun.{begun, filters}
@@ -10,31 +10,34 @@ use Rattle.esc_html.specs.Pages.{page_text}
 use Rattle.esc_lines.proofs.Streams.{final_after_nil}
 use Rattle.esc_lines.specs.Fed.{final_after, left_after}
 use Rattle.eschtml.specs.Piped.{after}
-use Rattle.eschtml.specs.Written.{IsHtml, html_of, screen_text, shown_of, size_of, whole_screen}
-use Rattle.eschtml.proofs.Left.{html_longer, no_html, no_screen, pages_add}
+use Rattle.eschtml.specs.Written.{IsHtml, html_of, screen_text, seen_by, shown_of, size_of, whole_screen}
+use Rattle.eschtml.proofs.Left.{html_adds, no_html, no_screen, pages_add}
+use Rattle.eschtml.proofs.Seen.{no_sight}
 use Rattle.eschtml.proofs.stream.write_left.Goals as goal
 
 pub returns-clause-holds : goal.returns-clause-holds
 returns-clause-holds g c =
     let a = g.row.A.Denot in
-    let l = c.args.limit in
+    let o = c.args.options.now in
+    let l = o.limit in
     let z = size_of c.args.rows in
     let m = screen_text a l in
     let e = whole_screen a l in
     let fresh = begun (λ p. admits {A = a} p) Keep l Screen c.new-filter.result
     c.new-filter.ensures.policy c.new-filter.ensures.fed in
-    let p = c.args.per_line in
+    let y = o.layout in
+    let going = after (page_text a (Some l) y) (final_after a z m) in
+    let whole = after (html_of a l y) (left_after a z e) in
     let new = c.new-piped.ensures.begins (final_after a z m) (left_after a z e)
-    (page_text a (Some l) p) (html_of a l p)
+    (page_text a (Some l) y) (html_of a l y)
     (z, m, e, c.in-Ok.ensures.fed m e fresh (no_screen a l), refl, refl)
-    (final_after_nil a z m (no_screen a l)) (l, p, c.new-2.ensures, refl, refl)
-    (pages_add a l p) in
-    let f = filters (after (html_of a l p) (left_after a z e))
-    (after (page_text a (Some l) p) (final_after a z m))
-    (λ b s t. IsHtml a l p b (shown_of a l (Some c.args.rows) b s) t)
-    (λ s. c.streams_are_pages.ensures (Some l) p (left_after a z e s)) (λ s. refl) _ _ _
-    (c.filter_from-result.ensures.holds (after (page_text a (Some l) p) (final_after a z m))
-    (after (html_of a l p) (left_after a z e)) new (no_html a l p z) (html_longer a l p z)) in
+    (final_after_nil a z m (no_screen a l)) (l, y, c.new-marked.ensures, refl, refl)
+    (pages_add a l y) in
+    let f = filters (λ s. whole (seen_by a o true true s)) (λ s. going (seen_by a o true false s))
+    (λ b s t. IsHtml a l y b (shown_of a l (Some c.args.rows) b (seen_by a o true b s)) t)
+    (λ s. c.streams_are_pages.ensures (Some l) y (left_after a z e (seen_by a o true true s)))
+    (λ s. refl) _ _ _
+    (c.write_seen.ensures.holds going whole new (no_html a l y z) (html_adds a l y z)) in
     record {
       read_all = f.read_all;
       written = f.written;
@@ -49,11 +52,12 @@ returns-clause-holds g c =
 pub returns-in_default-clause-holds : goal.returns-in_default-clause-holds
 returns-in_default-clause-holds g c =
     let a = g.row.A.Denot in
-    let l = c.args.limit in
-    let p = c.args.per_line in
+    let o = c.args.options.now in
+    let l = o.limit in
+    let y = o.layout in
     let z = size_of c.args.rows in
     let held = g.W.Write.contents c.args.writer.now.inner in
-    let m = after (page_text a (Some l) p) (final_after a z (screen_text a l)) in record {
+    let m = after (page_text a (Some l) y) (final_after a z (screen_text a l)) in record {
       read_all = tt;
       written = tt;
       decided = λ k. absurd cc;
@@ -61,17 +65,18 @@ returns-in_default-clause-holds g c =
       until_refused = λ k. (
         [],
         [],
-        m [],
+        m (seen_by a o true false []),
         omega arith,
         Consumes-nil _,
-        subst (λ t. Appends held held t) (sym (no_html a l p z)) (Appends-nil _),
+        subst (λ t. Appends held held t)
+            (sym (no_sight m a o.shows l true (no_html a l y z))) (Appends-nil _),
         refl,
       );
       beginning = (
         [],
         Consumes-nil _,
         prefix_none _
-            (after (html_of a l p) (left_after a z (whole_screen a l)) []),
+            (after (html_of a l y) (left_after a z (whole_screen a l)) (seen_by a o true true [])),
       );
       read_fault = not_failed _ _ _ (λ k. absurd cc);
       write_fault = not_failed _ _ _ (λ k. absurd cc);
@@ -80,17 +85,18 @@ returns-in_default-clause-holds g c =
 pub returns-clause-refused : goal.returns-clause-refused
 returns-clause-refused g c =
     let a = g.row.A.Denot in
-    let l = c.args.limit in
-    let p = c.args.per_line in
+    let o = c.args.options.now in
+    let l = o.limit in
+    let y = o.layout in
     let z = size_of c.args.rows in
     let m = screen_text a l in
     let e = whole_screen a l in
     let fresh = begun (λ p. admits {A = a} p) Keep l Screen c.new-filter.result
     c.new-filter.ensures.policy c.new-filter.ensures.fed in
     let new = c.new-piped.ensures.begins (final_after a z m) (left_after a z e)
-    (page_text a (Some l) p) (html_of a l p)
+    (page_text a (Some l) y) (html_of a l y)
     (z, m, e, c.in-Ok.ensures.fed m e fresh (no_screen a l), refl, refl)
-    (final_after_nil a z m (no_screen a l)) (l, p, c.new-2.ensures, refl, refl)
-    (pages_add a l p) in
-    c.filter_from-result.ensures.refused (after (page_text a (Some l) p) (final_after a z m))
-    (after (html_of a l p) (left_after a z e)) new (no_html a l p z) (html_longer a l p z)
+    (final_after_nil a z m (no_screen a l)) (l, y, c.new-marked.ensures, refl, refl)
+    (pages_add a l y) in
+    c.write_seen.ensures.refused (after (page_text a (Some l) y) (final_after a z m))
+    (after (html_of a l y) (left_after a z e)) new (no_html a l y z) (html_adds a l y z)

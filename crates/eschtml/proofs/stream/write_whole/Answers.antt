@@ -1,21 +1,23 @@
-use Rattle.std.proofs.Common.{Some, refl}
+use Rattle.std.proofs.Common.{false, true, Some, refl}
 use Rattle.esc_filter.proofs.Begun.{filters}
-use Rattle.esc_html.specs.Pages.{closing_text, page_text}
-use Rattle.eschtml.specs.Written.{IsHtml, html_of}
+use Rattle.esc_html.specs.Pages.{page_text}
+use Rattle.eschtml.specs.Written.{IsHtml, html_of, seen_by}
+use Rattle.eschtml.proofs.Left.{pages_add}
 use Rattle.eschtml.proofs.Longer.{page_of_nothing}
 use Rattle.eschtml.proofs.stream.write_whole.Goals as goal
 
 pub returns-clause-holds : goal.returns-clause-holds
 returns-clause-holds g c =
-    let limit = c.args.limit in
-    let lines = c.args.per_line in
-    let m = page_text g.row.A.Denot (Some limit) lines in
-    let e = html_of g.row.A.Denot limit lines in
-    let f = filters e m (IsHtml g.row.A.Denot limit lines)
-    (c.streams_are_pages.ensures (Some limit) lines) (λ s. refl) _ _ _
-    (c.filter_from-result.ensures.holds m e (limit, lines, c.new-counted.ensures, refl, refl)
-    (page_of_nothing g.row.A.Denot (Some limit) lines)
-    (λ s. (closing_text g.row.A.Denot (Some limit) lines s, refl))) in
+    let a = g.row.A.Denot in
+    let o = c.args.options.now in
+    let m = page_text a (Some o.limit) o.layout in
+    let e = html_of a o.limit o.layout in
+    let f = filters (λ s. e (seen_by a o false true s)) (λ s. m (seen_by a o false false s))
+    (λ b s t. IsHtml a o.limit o.layout b (seen_by a o false b s) t)
+    (λ s. c.streams_are_pages.ensures (Some o.limit) o.layout (seen_by a o false true s))
+    (λ s. refl) _ _ _
+    (c.write_seen.ensures.holds m e (o.limit, o.layout, c.new-marked.ensures, refl, refl)
+    (page_of_nothing a (Some o.limit) o.layout) (pages_add a o.limit o.layout)) in
     record {
       read_all = f.read_all;
       written = f.written;
@@ -29,9 +31,8 @@ returns-clause-holds g c =
 
 pub returns-clause-refused : goal.returns-clause-refused
 returns-clause-refused g c =
-    let limit = c.args.limit in
-    let lines = c.args.per_line in
-    c.filter_from-result.ensures.refused (page_text g.row.A.Denot (Some limit) lines)
-    (html_of g.row.A.Denot limit lines) (limit, lines, c.new-counted.ensures, refl, refl)
-    (page_of_nothing g.row.A.Denot (Some limit) lines)
-    (λ s. (closing_text g.row.A.Denot (Some limit) lines s, refl))
+    let a = g.row.A.Denot in
+    let o = c.args.options.now in
+    c.write_seen.ensures.refused (page_text a (Some o.limit) o.layout)
+    (html_of a o.limit o.layout) (o.limit, o.layout, c.new-marked.ensures, refl, refl)
+    (page_of_nothing a (Some o.limit) o.layout) (pages_add a o.limit o.layout)

@@ -1,7 +1,7 @@
 use Rattle.std.proofs.Common.{◌++◌, Some, sym, ap, ◌∙◌}
 use Rattle.esc_html.specs.Fed.{added_by}
 use Rattle.eschtml.proofs.Longer.{page_longer, text_more}
-use Rattle.eschtml.proofs.stream.CountedFeeding.feed_piece.Goals as goal
+use Rattle.eschtml.proofs.stream.MarkedFeeding.feed_piece.Goals as goal
 
 pub returns-in-Ok-clause-given : goal.returns-in-Ok-clause-given
 returns-in-Ok-clause-given g c = λ m e s h.

@@ -1,0 +1,60 @@
+-- What of a stream becomes HTML where what is left out is shown.
+use Rattle.std.proofs.Common.{ℕ, suc, ◌≡◌, ◌≤◌, ◌<◌, Bool, true, false, List, [], ◌∷◌, length, get_or, refl, ap, ◌∙◌, arith}
+use Rattle.std.specs.List.{list_all}
+use Rattle.std.proofs.lemmas.Bool.{false_from_ne_true}
+use Rattle.memchr.specs.Find.{is_byte}
+use Rattle.esc_actions.specs.Values.{print}
+use Rattle.esc_filter.specs.declared.admit.Admit.{Ghosts as Admitter}
+use Rattle.esc_reveal.proofs.Cutting.{rest_none}
+use Rattle.esc_reveal.specs.Fed.{text_by, whole_by}
+use Rattle.esc_reveal.specs.Revealed.{revealed, revealed_whole}
+use Rattle.esc_reveal.specs.declared.reveal.Rule.{Rule}
+use Rattle.eschtml.specs.Written.{going_in, is_kept, whole_in}
+
+-- where nothing is shown
+pub whole_same : (A : Type 0) (b : Bool) (limit : ℕ) (moves : Bool) → b ≡ false → (s : List ℕ)
+    → s ≡ whole_in A b limit moves s
+whole_same A true limit moves e s = absurd cc
+whole_same A false limit moves e s = refl
+
+pub going_same : (A : Type 0) (b : Bool) (limit : ℕ) (moves : Bool) → b ≡ false → (s : List ℕ)
+    → s ≡ going_in A b limit moves s
+going_same A true limit moves e s = absurd cc
+going_same A false limit moves e s = refl
+
+-- where what is left out is, by this rule
+module _ {P A : Type 0} (V : Admitter P A) (rule : Rule P) (limit : ℕ) (moves : Bool)
+    (kept : rule.limit ≡ limit) (lines : rule.by_lines ≡ false)
+    (admits : V.admits rule.policy ≡ is_kept moves) where
+  pub whole_shown : (b : Bool) → b ≡ true → (s : List ℕ)
+      → whole_by {A = A} V rule s ≡ whole_in A b limit moves s
+  whole_shown true e s = ap (λ l. revealed_whole rule.by_lines l (V.admits rule.policy) s) kept
+      ∙ ap (λ b. revealed_whole b limit (V.admits rule.policy) s) lines
+      ∙ ap (λ a. revealed_whole false limit a s) admits
+  whole_shown false e s = absurd cc
+
+  pub going_shown : (b : Bool) → b ≡ true → (s : List ℕ)
+      → text_by {A = A} V rule s ≡ going_in A b limit moves s
+  going_shown true e s = ap (λ l. revealed rule.by_lines l (V.admits rule.policy) s) kept
+      ∙ ap (λ b. revealed b limit (V.admits rule.policy) s) lines
+      ∙ ap (λ a. revealed false limit a s) admits
+  going_shown false e s = absurd cc
+
+-- ---- characters
+
+-- without DEL each stays
+pub all_stay : (A : Type 0) (moves : Bool) (x : List ℕ)
+    → ((k : ℕ) → 0 ≤ k → k < length x → is_byte 0x7f (get_or x k 0) ≡ true → ⊥)
+    → list_all (λ c. is_kept {A = A} moves (print c)) x ≡ true
+all_stay A moves [] h = refl
+all_stay A moves (b ∷ x) h =
+    rw (false_from_ne_true (is_byte 0x7f b) (h 0 (omega arith) (omega arith)))
+    (all_stay A moves x (λ k l m. h (suc k) (omega arith) (omega (arith, m))))
+
+-- ---- nothing
+
+-- what has no text of nothing has none of what is seen of it
+pub no_sight : (m : List ℕ → List ℕ) (A : Type 0) (shows : Bool) (limit : ℕ) (moves : Bool)
+    → m [] ≡ [] → m (going_in A shows limit moves []) ≡ []
+no_sight m A true limit moves h = ap m (rest_none limit) ∙ h
+no_sight m A false limit moves h = h
