@@ -4,7 +4,9 @@ pub mod EscapedRuns
 pub mod Fed
 pub mod Listing
 pub mod Pages
+pub mod PlainLooks
 pub mod Reading
 pub mod Runs
 pub mod Safe
+pub mod Sequences
 pub mod Whole

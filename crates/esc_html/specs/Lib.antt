@@ -6,6 +6,7 @@ pub mod Growing
 pub mod Addresses
 pub mod Listed
 pub mod Marks
+pub mod Plain
 pub mod Pages
 pub mod Shown
 pub mod Fed

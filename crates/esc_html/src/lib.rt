@@ -25,6 +25,7 @@ pub mod laws;
 mod layout;
 mod markup;
 mod page;
+mod plain;
 mod shown;
 mod tag;
 mod writing;

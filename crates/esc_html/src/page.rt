@@ -7,20 +7,24 @@ ghost use Rattle.esc_looks.specs.Looks.{is_plain};
 ghost use Rattle.esc_html.specs.Marks.{address_of, changes, command_step, control_step, function_step, is_page_address, print_step, shows, with_link, with_look};
 ghost use Rattle.esc_html.specs.Pages.{before_character, closed, first_state, link_end_if, link_opening, open_or_not, opened, span_end_unless, span_unless};
 ghost use Rattle.esc_html.specs.Pieces.{html_text};
-ghost use Rattle.esc_typed.specs.Functions.{value_of};
+ghost use Rattle.esc_sequences.specs.Csis.{sgr, unspecified};
+ghost use Rattle.esc_typed.specs.Functions.{of_csi, value_of};
 ghost use Rattle.esc_typed.specs.Selections.{left};
 ghost use Rattle.memory.specs.Refusals.{Refused};
 
 use crate::address::is_safe_address;
 use crate::layout::Layout;
 use crate::markup::Markup;
+use crate::plain::is_plain;
 use esc_actions::Action;
 use esc_links::Hyperlink;
 use esc_looks::Look;
 use esc_osc::OperatingSystemCommand;
 use esc_parse::Sink;
-use esc_typed::{Function, Renditions};
-use esc_values::Text;
+use esc_sequences::csi::{is_unspecified, short_rendition};
+use esc_sequences::{CSI, Sgr};
+use esc_typed::{Function, Renditions, Unfit};
+use esc_values::{CsiParam, Text};
 use memchr::memchr;
 use std::alloc::{AllocError, Allocator, Global};
 use std::str;
@@ -89,7 +93,7 @@ impl<A: Allocator> Page<A> {
         ensures layout { OnOk result (self.new.layout ≡ self.old.layout) }
         ensures refused { OnErr result (Refused A) }
     {
-        if self.look.is_plain() {
+        if is_plain(&self.look) {
             return Ok(());
         }
         self.html.push_span(self.layout.inline, &self.look)
@@ -135,7 +139,7 @@ impl<A: Allocator> Page<A> {
         if !self.is_open {
             return "";
         }
-        closing_tags(self.look.is_plain(), self.link.is_some())
+        closing_tags(is_plain(&self.look), self.link.is_some())
     }
 
     // Closes the tags before the end of a line, and opens them before any other character.
@@ -216,6 +220,30 @@ impl<A: Allocator> Page<A> {
         }
     }
 
+    // Takes a rendition that is a control sequence by itself.
+    fn take_rendition(&mut self, rendition: Sgr) -> Result<(), AllocError>
+        ensures ok { OnOk result (Adds self.old
+            (function_step (state_of self.old).pen (of_csi (sgr rendition))) self.new) }
+        ensures refused { OnErr result (Refused A) }
+    {
+        let csi: CSI<A> = CSI::Sgr(rendition);
+        self.take_function(Function::of(&csi))
+    }
+
+    // Takes a control sequence by its parameters.
+    fn take_params(
+        &mut self,
+        params: &[CsiParam],
+        parameters_truncated: bool,
+        control: u8,
+    ) -> Result<(), AllocError>
+        ensures ok { OnOk result (Adds self.old (function_step (state_of self.old).pen
+            (of_csi (unspecified params.now parameters_truncated control))) self.new) }
+        ensures refused { OnErr result (Refused A) }
+    {
+        self.take_function(function_of(params, parameters_truncated, control))
+    }
+
     // The tags are closed, and the look changes.
     fn select(&mut self, renditions: Renditions<'_>) -> Result<(), AllocError>
         ensures ok { OnOk result (Adds self.old
@@ -286,9 +314,39 @@ impl<A: Allocator> Sink<Action<A>> for Page<A> {
         self.take_run(text)
     }
 
+    // Takes it with no action made, where it is one: renditions of which each is a sequence by
+    // itself are several.
+    #[inline]
+    fn receive_sequence(
+        &mut self,
+        params: &[CsiParam],
+        parameters_truncated: bool,
+        control: u8,
+    ) -> Result<bool, AllocError> {
+        if let Some(rendition) = short_rendition(params, parameters_truncated, control) {
+            self.take_rendition(rendition)?;
+            return Ok(true);
+        }
+        if !is_unspecified(params, parameters_truncated, control) {
+            return Ok(false);
+        }
+        self.take_params(params, parameters_truncated, control)?;
+        Ok(true)
+    }
+
     fn drops_images(&self) -> bool {
         true
     }
+}
+
+// What a control sequence of these parameters asks for.
+fn function_of(params: &[CsiParam], parameters_truncated: bool, control: u8) -> Function<'_>
+    ensures { value_of result ≡ of_csi (unspecified params.now parameters_truncated control) }
+{
+    if parameters_truncated {
+        return Function::Other(Unfit::Truncated);
+    }
+    Function::of_params(params, control)
 }
 
 // ASCII as a text.

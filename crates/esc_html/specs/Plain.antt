@@ -1,0 +1,23 @@
+-- Looks without renditions, field by field.
+use Rattle.std.specs.Prelude.{Bool, true, false, not, ◌&&◌, is_none}
+use Rattle.esc_looks.specs.Looks.{intensity_class, underline_class}
+use Rattle.esc_looks.specs.declared.color.Color.{Color}
+use Rattle.esc_looks.specs.declared.color.Color.TheVariants.{Default, Named, Direct}
+use Rattle.esc_looks.specs.declared.look.Look.{Look}
+
+-- none of the renditions but colours holds
+abbrev pub is_markless : Look → Bool
+is_markless l = is_none (intensity_class l.intensity)
+    && (not l.italic
+    && (is_none (underline_class l.underline)
+    && (not l.blink && (not l.inverse && (not l.concealed && (not l.strikethrough
+    && not l.overline))))))
+
+-- the page's own
+abbrev pub is_own : Color → Bool
+is_own Default = true
+is_own (Named c) = false
+is_own (Direct c) = false
+
+abbrev pub is_colorless : Look → Bool
+is_colorless l = is_own l.foreground && (is_own l.background && is_own l.underline_color)

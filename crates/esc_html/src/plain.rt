@@ -1,0 +1,67 @@
+//! Looks that need no span.
+ghost use Rattle.std.specs.Prelude.{◌≡◌, is_none};
+ghost use Rattle.esc_html.specs.Plain.{is_colorless, is_markless, is_own};
+ghost use Rattle.esc_looks.specs.Looks.{intensity_class, is_plain, underline_class};
+
+use esc_looks::{Color, Look};
+use esc_sequences::{Intensity, Underline};
+
+// Whether a look needs no span: it is as at first. It makes no list of classes to see that.
+#[inline]
+pub(crate) fn is_plain(look: &Look) -> bool
+    ensures { result ≡ is_plain look.now }
+{
+    is_markless(look) && is_colorless(look)
+}
+
+// Whether none of the renditions but colours holds.
+fn is_markless(look: &Look) -> bool
+    ensures { result ≡ is_markless look.now }
+{
+    is_normal(look.intensity)
+        && !look.italic
+        && is_none(look.underline)
+        && !look.blink
+        && !look.inverse
+        && !look.concealed
+        && !look.strikethrough
+        && !look.overline
+}
+
+fn is_normal(intensity: Intensity) -> bool
+    ensures { result ≡ is_none (intensity_class intensity) }
+{
+    match intensity {
+        Intensity::Normal => true,
+        Intensity::Bold | Intensity::Half => false,
+    }
+}
+
+fn is_none(underline: Underline) -> bool
+    ensures { result ≡ is_none (underline_class underline) }
+{
+    match underline {
+        Underline::None => true,
+        Underline::Single
+        | Underline::Double
+        | Underline::Curly
+        | Underline::Dotted
+        | Underline::Dashed => false,
+    }
+}
+
+// Whether all colours are the page's own.
+fn is_colorless(look: &Look) -> bool
+    ensures { result ≡ is_colorless look.now }
+{
+    is_own(look.foreground) && is_own(look.background) && is_own(look.underline_color)
+}
+
+fn is_own(color: Color) -> bool
+    ensures { result ≡ is_own color }
+{
+    match color {
+        Color::Default => true,
+        Color::Named(_) | Color::Direct(_) => false,
+    }
+}
