@@ -24,6 +24,12 @@ class RawFilter(Structure):
     _fields_ = [("is_begun", c_bool), ("state", c_void_p)]
 
 
+class RawPage(Structure):
+    """`struct escape_stream_html`."""
+
+    _fields_ = [("is_begun", c_bool), ("state", c_void_p)]
+
+
 class RawEntry(Structure):
     """`struct escape_stream_entry`."""
 
@@ -127,6 +133,26 @@ filter_text.restype = c_size_t
 filter_end = _short.escape_stream_filter_end
 filter_end.argtypes = (POINTER(RawFilter),)
 filter_end.restype = None
+
+html_begin = _short.escape_stream_html_begin
+html_begin.argtypes = (POINTER(RawPage), c_bool, c_bool, c_size_t)
+html_begin.restype = c_uint32
+
+html_feed = _long.escape_stream_html_feed
+html_feed.argtypes = (POINTER(RawPage), *_length)
+html_feed.restype = c_uint32
+
+html_finish = _short.escape_stream_html_finish
+html_finish.argtypes = (POINTER(RawPage),)
+html_finish.restype = c_uint32
+
+html_text = _short.escape_stream_html_text
+html_text.argtypes = (POINTER(RawPage), c_size_t, *_room)
+html_text.restype = c_size_t
+
+html_end = _short.escape_stream_html_end
+html_end.argtypes = (POINTER(RawPage),)
+html_end.restype = None
 
 begin = _short.escape_stream_begin
 begin.argtypes = (POINTER(RawParser),)

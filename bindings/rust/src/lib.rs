@@ -3,8 +3,8 @@
 //! origin.
 //!
 //! A stream is bytes as a program writes them to a terminal. Any bytes are a stream; each call
-//! takes one whole, but those of a [`Filter`], a writer, and of a [`Parser`], which take it in
-//! pieces. The module [`vte`] has that parser with the calls of the crate `vte`.
+//! takes one whole, but those of a [`Filter`], a writer, of an [`html::PiecePage`], which gives HTML
+//! of it, and of a [`Parser`], which take it in pieces. The module [`vte`] has that parser with the calls of the crate `vte`.
 //! [`ControlFunction`] and [`EscapeFunction`] name what sequences ask for, by tables that are made
 //! from those of the library.
 //!
@@ -41,6 +41,8 @@ mod filter;
 mod function;
 mod function_rows;
 #[cfg(feature = "oneshot")]
+pub mod html;
+#[cfg(feature = "oneshot")]
 mod oneshot;
 mod parameters;
 mod params;
@@ -71,7 +73,7 @@ pub enum Error {
     /// A request for memory was refused. Nothing was written.
     Memory,
     /// A [`Parser`] failed, and gives nothing any more: the clause `sound` of the library's call
-    /// excludes it. Or a filter in pieces was refused memory before.
+    /// excludes it. Or a filter or a page in pieces was refused memory before, or has ended.
     Failed,
 }
 

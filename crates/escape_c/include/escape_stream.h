@@ -1,10 +1,11 @@
 /* SPDX-License-Identifier: MIT */
 /*
- * escape_stream.h - streams of terminal escape sequences: their normal form, a filter, and functions by name
+ * escape_stream.h - streams of terminal escape sequences: their normal form, a filter, HTML, and functions by name
  *
  * A stream is bytes as a program writes them to a terminal: UTF-8 text, control characters, and the control functions of
  * ECMA-48 and xterm, such as colours, cursor movements and titles. Any bytes are a stream. Each of the first three calls takes
- * one whole, and keeps nothing. A filter in pieces, escape_stream_filter_begin and the calls after it, takes one as it comes.
+ * one whole, and keeps nothing. A filter in pieces, escape_stream_filter_begin and the calls after it, takes one as it comes, and
+ * so does a page, escape_stream_html_begin and the calls after it.
  *
  *     cc -I crates/escape_c/include program.c libescape_c.a liblibc_c.a
  *
@@ -19,7 +20,7 @@
  *   - malloc, realloc and free are of one allocator, and align a block to each power of two up to 16 that divides its size.
  *   - The call is made neither in a signal handler, nor in the child of a process with threads that has only forked.
  *
- * Calls may run in several threads at once, but those of one filter in pieces in one thread alone. None starts a thread, takes a
+ * Calls may run in several threads at once, but those of one filter or page in one thread alone. None starts a thread, takes a
  * lock, reads a clock or touches a file.
  */
 #ifndef ESCAPE_STREAM_H
@@ -46,7 +47,7 @@ extern "C" {
 #define ESCAPE_STREAM_DONE UINT32_C(0)           /* the call was done */
 #define ESCAPE_STREAM_NO_MEMORY UINT32_C(1)      /* a request for memory was refused */
 #define ESCAPE_STREAM_UNKNOWN_POLICY UINT32_C(2) /* no policy has this number */
-#define ESCAPE_STREAM_NOT_BEGUN UINT32_C(3)      /* the filter in pieces was not begun, or has ended */
+#define ESCAPE_STREAM_NOT_BEGUN UINT32_C(3)      /* the filter or page was not begun, or has ended */
 
 /*
  * The policies of escape_stream_filter and escape_stream_filter_begin. Each admits all that the one before it does.
@@ -216,6 +217,53 @@ size_t escape_stream_filter_text(struct escape_stream_filter *filter, size_t fro
 
 /* Ends a filter, and gives back what it took. One that is not begun stays so. */
 void escape_stream_filter_end(struct escape_stream_filter *filter);
+
+/*
+ * A stream that comes in pieces, as HTML: its characters, tabs and line feeds, with colours and renditions as spans and links to
+ * http, https and mailto. A browser reads from the text, inside the body of a page in UTF-8, these spans and links and nothing
+ * else, whatever the stream is. It lies in the caller's memory as a filter does: set it to zero before the first call.
+ */
+struct escape_stream_html {
+    bool is_begun;
+    void *state;
+};
+
+/*
+ * Begins the page of a stream. A page that was begun before is given back first.
+ *
+ *   per_line         closes the tags that are open before each line feed, and opens them again after it
+ *   is_inline        writes looks as styles alone, so that the text needs no style sheet; else as the classes of `eschtml --style`
+ *   limit            how many bytes are kept of a string, such as a link; one with more shows nothing. 1048576 will do
+ *
+ * ESCAPE_STREAM_DONE and ESCAPE_STREAM_NO_MEMORY are the statuses. After the last the page is not begun, and keeps nothing.
+ */
+uint32_t escape_stream_html_begin(struct escape_stream_html *page, bool per_line, bool is_inline, size_t limit);
+
+/*
+ * Takes the next piece of the stream. What it adds to the page is then what escape_stream_html_text gives; that of the piece before
+ * is gone.
+ *
+ * ESCAPE_STREAM_NO_MEMORY: the page was given back. The texts before it are the beginning of the page. ESCAPE_STREAM_NOT_BEGUN, also
+ * after the end of the stream, which gives the page back, is the only other status but ESCAPE_STREAM_DONE.
+ */
+uint32_t escape_stream_html_feed(struct escape_stream_html *page, const uint8_t *bytes, size_t length);
+
+/*
+ * Ends the stream. What closes the tags that are open is then what escape_stream_html_text gives: with it the texts of all pieces,
+ * one after another, are a page, in which each tag is closed. It takes no memory.
+ *
+ * ESCAPE_STREAM_NOT_BEGUN is the only other status but ESCAPE_STREAM_DONE.
+ */
+uint32_t escape_stream_html_finish(struct escape_stream_html *page);
+
+/*
+ * Writes the text that the last piece or the end of the stream added, from its byte `from` on, to the beginning of `out`, as
+ * escape_stream_filter_text does.
+ */
+size_t escape_stream_html_text(struct escape_stream_html *page, size_t from, uint8_t *out, size_t capacity);
+
+/* Gives back what a page took. One that is not begun stays so. */
+void escape_stream_html_end(struct escape_stream_html *page);
 
 /*
  * What a control function is: a row of docs/FUNCTIONS.md. Where there is none, all of it is 0.

@@ -1,3 +1,5 @@
 pub mod Known
 pub mod AsBox
+pub mod AsPageBox
+pub mod PageStates
 pub mod SameState

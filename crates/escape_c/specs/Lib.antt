@@ -1,4 +1,6 @@
 pub mod Policies
 pub mod Held
+pub mod HeldPage
+pub mod PagePieces
 pub mod Pieces
 pub mod FunctionRows

@@ -1,10 +1,11 @@
-//! The normal form, its check and the filter of streams of terminal escape sequences, for C and for
-//! programs that link C's libraries.
+//! The normal form, its check, the filter and the HTML of streams of terminal escape sequences, for
+//! C and for programs that link C's libraries.
 //!
 //! Each call takes a stream whole, and returns a status: [`DONE`], or why it was not done. A text
 //! goes into the caller's buffer, as much of it as fits, and its whole length into `needed`; so a
 //! caller makes room and calls again. After any status but `DONE` nothing was written. These calls
-//! keep nothing. The filter in pieces is a [`PieceFilter`] of the caller's, with a block after it.
+//! keep nothing. The filter in pieces is a [`PieceFilter`] of the caller's, and HTML in pieces a
+//! [`PiecePage`], each with a block after it.
 //! Three further calls write a [`FunctionRow`]: what a sequence or a control asks for, by name.
 //! `include/escape_stream.h` declares the calls for C.
 #![tactic(auto)]
@@ -13,11 +14,15 @@ mod filter;
 mod function;
 mod function_row;
 mod held;
+mod held_page;
 mod is_normal;
 mod normal;
 mod output;
+mod page_pieces;
+mod page_state;
 mod parts;
 mod piece_filter;
+mod piece_page;
 mod pieces;
 mod state;
 
@@ -28,7 +33,12 @@ pub use function::{
 pub use function_row::FunctionRow;
 pub use is_normal::escape_stream_is_normal;
 pub use normal::escape_stream_normal;
+pub use page_pieces::{
+    escape_stream_html_begin, escape_stream_html_end, escape_stream_html_feed,
+    escape_stream_html_finish, escape_stream_html_text,
+};
 pub use piece_filter::PieceFilter;
+pub use piece_page::PiecePage;
 pub use pieces::{
     escape_stream_filter_begin, escape_stream_filter_end, escape_stream_filter_feed,
     escape_stream_filter_finish, escape_stream_filter_text,
@@ -43,5 +53,5 @@ pub const NO_MEMORY: u32 = 1;
 /// No policy has this number. Nothing was written.
 pub const UNKNOWN_POLICY: u32 = 2;
 
-/// The filter in pieces was not begun, or has ended. Nothing was taken.
+/// The filter or the page in pieces was not begun, or has ended. Nothing was taken.
 pub const NOT_BEGUN: u32 = 3;

@@ -144,7 +144,7 @@ pub extern "C" fn escape_stream_filter_text(
 }
 
 // The same of a text.
-fn put_from(text: &[u8], from: usize, out: &mut [u8]) -> usize
+pub(crate) fn put_from(text: &[u8], from: usize, out: &mut [u8]) -> usize
     ensures written { out.new ≡ take (length out.old) (drop from text.now)
         ++ drop (length (drop from text.now)) out.old }
     ensures count { result ≡ min (length (drop from text.now)) (length out.old) }

@@ -1,0 +1,110 @@
+// SPDX-License-Identifier: MIT
+//! Streams as HTML that cannot come alive in a page.
+use crate::{Error, ffi};
+
+/// How many bytes are kept of a string, where no limit is given.
+const DEFAULT_LIMIT: usize = 1_048_576;
+
+/// How a page is laid out.
+#[derive(Clone, Copy, Debug, Default, PartialEq, Eq, Hash)]
+pub struct Layout {
+    /// Whether the tags that are open are closed before each line feed, and opened again after it:
+    /// so each line is HTML by itself.
+    pub per_line: bool,
+    /// Whether looks are styles alone, so that the page needs no style sheet. Where they are not,
+    /// they are the classes of `eschtml --style`.
+    pub inline: bool,
+}
+
+/// A stream that comes in pieces, as HTML: its characters, tabs and line feeds, with colours and
+/// renditions as spans and links to `http`, `https` and `mailto`. A browser reads from it, inside the
+/// body of a page in UTF-8, these spans and links and nothing else, whatever the stream is. It stays
+/// in the thread that made it.
+///
+/// ```
+/// use escape_stream::html::{Layout, PiecePage};
+///
+/// let mut html = Vec::new();
+/// let mut page = PiecePage::new(Layout::default())?;
+/// for piece in [&b"a <b>\x1b[1"[..], b";31mred"] {
+///     page.feed(piece)?;
+///     page.text(|part| html.extend_from_slice(part));
+/// }
+/// page.finish()?;
+/// page.text(|part| html.extend_from_slice(part));
+/// assert_eq!(html, b"a &lt;b&gt;<span class=\"bold fg-red\">red</span>");
+/// # Ok::<(), escape_stream::Error>(())
+/// ```
+#[derive(Debug)]
+pub struct PiecePage {
+    raw: ffi::Page,
+}
+
+impl PiecePage {
+    /// The page of a stream, at its beginning, which keeps at most 1,048,576 bytes of a string.
+    ///
+    /// # Errors
+    ///
+    /// [`Error::Memory`] where a request for memory was refused.
+    pub fn new(layout: Layout) -> Result<PiecePage, Error> {
+        PiecePage::with_limit(layout, DEFAULT_LIMIT)
+    }
+
+    /// The same with another limit: a string with more bytes, such as a link, shows nothing.
+    ///
+    /// # Errors
+    ///
+    /// [`Error::Memory`] where a request for memory was refused.
+    pub fn with_limit(layout: Layout, limit: usize) -> Result<PiecePage, Error> {
+        let mut raw = ffi::Page::gone();
+        raw.begin(layout.per_line, layout.inline, limit)?;
+        Ok(PiecePage { raw })
+    }
+
+    /// Takes the next piece of the stream. What it adds to the page is then what
+    /// [`text`](PiecePage::text) gives, and that of the piece before is gone.
+    ///
+    /// # Errors
+    ///
+    /// [`Error::Memory`] where a request for memory was refused, and from then on, and after the end
+    /// of the stream, [`Error::Failed`]. The texts before are the beginning of the page.
+    pub fn feed(&mut self, piece: &[u8]) -> Result<(), Error> {
+        self.raw.feed(piece)
+    }
+
+    /// Ends the stream. What closes the tags that are open is then what [`text`](PiecePage::text)
+    /// gives: with it the texts of all pieces, one after another, are a page. It takes no memory.
+    ///
+    /// # Errors
+    ///
+    /// [`Error::Failed`] where an earlier call failed.
+    pub fn finish(&mut self) -> Result<(), Error> {
+        self.raw.finish()
+    }
+
+    /// Calls `act` with the text that the last piece or the end of the stream added, in parts.
+    pub fn text(&mut self, mut act: impl FnMut(&[u8])) {
+        let mut room = [0; 4096];
+        let mut from = 0;
+        loop {
+            let count = self.text_from(from, &mut room);
+            if count == 0 {
+                return;
+            }
+            act(&room[..count]);
+            from += count;
+        }
+    }
+
+    /// Writes the text that the last call added, from its byte `from` on, to the beginning of
+    /// `out`, as much as fits, and returns how many bytes these are: 0 at the end of the text.
+    pub fn text_from(&mut self, from: usize, out: &mut [u8]) -> usize {
+        self.raw.text(from, out)
+    }
+}
+
+impl Drop for PiecePage {
+    fn drop(&mut self) {
+        self.raw.end();
+    }
+}
