@@ -1,2 +1,4 @@
 pub mod Rows
+pub mod Texts
+pub mod Runs
 pub mod Streams

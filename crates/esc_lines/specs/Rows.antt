@@ -23,10 +23,26 @@ empty_line b = record {
 abbrev pub with_cells : List (Option Glyph) → Line → Line
 with_cells xs l = record l { cells = xs }
 
+-- a character that looks so
+abbrev pub drawn : ℕ → Look → Glyph
+drawn c l = record {
+  character = c;
+  look = l;
+}
+
+-- a cell with a character that looks as at first
+abbrev pub plain_cell : ℕ → Option Glyph
+plain_cell c = Some (drawn c plain_look)
+
 -- cells with a character at a column: in place of what was there, or after blank ones
 abbrev pub put_at : ℕ → Glyph → List (Option Glyph) → List (Option Glyph)
 put_at n g xs = if nat_lt n (length xs) then set xs n (Some g)
     else xs ++ (replicate (n - length xs) None ++ Some g ∷ [])
+
+-- with characters that look so from a column on, one after another
+abbrev pub put_all : ℕ → Look → List ℕ → List (Option Glyph) → List (Option Glyph)
+put_all n l [] xs = xs
+put_all n l (c ∷ cs) xs = put_all (n + 1) l cs (put_at n (drawn c l) xs)
 
 -- cells of which those from one column to before another are blank
 abbrev pub blanked : ℕ → ℕ → List (Option Glyph) → List (Option Glyph)

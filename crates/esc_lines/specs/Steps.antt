@@ -1,5 +1,5 @@
 -- What each value of a stream does to the rows.
-use Rattle.std.specs.Prelude.{ℕ, ◌-◌, ◌==◌, if◌then◌else◌}
+use Rattle.std.specs.Prelude.{ℕ, ◌-◌, ◌==◌, Bool, not, if◌then◌else◌}
 use Rattle.esc_actions.specs.Values.{Value, print, control, csi}
 use Rattle.esc_actions.specs.declared.control_code.ControlCode.{ControlCode}
 use Rattle.esc_actions.specs.declared.control_code.ControlCode.TheVariants as code
@@ -17,6 +17,9 @@ use Rattle.esc_lines.specs.declared.step.Step.{Step}
 use Rattle.esc_lines.specs.declared.step.Step.TheVariants.{Print, LineFeed, Column, Left, Right, Tab, Up, Down, UpToStart, DownToStart, EraseRight, EraseLeft, EraseRow, EraseBelow, EraseAbove, EraseAll, EraseCells, DeleteCells, InsertCells, Select, Nothing}
 
 -- what is printed, but DEL, of which terminals show nothing
+abbrev pub is_visible : ℕ → Bool
+is_visible c = not (c == 0x7f)
+
 abbrev pub print_step : ℕ → Step
 print_step c = if c == 0x7f then Nothing else Print c
 

@@ -2,7 +2,7 @@
 use Rattle.std.specs.Prelude.{ℕ, ◌+◌, ◌-◌, ◌*◌, ◌/◌, nat_lt, min, Bool, true, false, if◌then◌else◌, List, [], ◌∷◌, ◌++◌, length, get_or, set, take, drop, Option}
 use Rattle.esc_looks.specs.Looks.{plain_look}
 use Rattle.esc_looks.specs.declared.look.Look.{Look}
-use Rattle.esc_lines.specs.Rows.{Line, blanked, deleted, empty_line, inserted, lines_blanked, lines_text, put_at, with_cells}
+use Rattle.esc_lines.specs.Rows.{Line, blanked, deleted, drawn, empty_line, inserted, lines_blanked, lines_text, put_at, with_cells}
 use Rattle.esc_lines.specs.declared.glyph.Glyph.{Glyph}
 use Rattle.esc_lines.specs.declared.step.Step.{Step}
 use Rattle.esc_lines.specs.declared.step.Step.TheVariants as step
@@ -90,17 +90,15 @@ wrapped s w = if fits s w then w else scrolled s.rows (advanced false w)
 abbrev pub wrapped_text : Size → Window → List ℕ
 wrapped_text s w = if fits s w then [] else scrolled_text s.rows (advanced false w)
 
--- a character that looks so
-abbrev pub drawn : ℕ → Look → Glyph
-drawn c l = record {
-  character = c;
-  look = l;
-}
-
 -- a character at the cursor, which moves on
 abbrev pub printed : ℕ → Window → Window
 printed c w = at_column (w.column + 1)
     (with_row (put_at w.column (drawn c w.pen) (line_of w).cells) w)
+
+-- characters from the cursor on, in its row
+abbrev pub ran : List ℕ → Window → Window
+ran [] w = w
+ran (c ∷ cs) w = ran cs (printed c w)
 
 -- the tab stop after a column: one is at each multiple of 8
 abbrev pub tab_stop : ℕ → ℕ

@@ -14,10 +14,13 @@
 //! ```
 #![tactic(auto)]
 
+mod ascii;
+mod cells;
 pub mod collapse;
 pub mod collapsing;
 mod filtering;
 mod glyph;
+mod receiving;
 mod row;
 mod screen;
 mod sgr;

@@ -1,11 +1,15 @@
 //! A row of cells.
-ghost use Rattle.std.specs.Prelude.{◌≡◌, ◌++◌, ◌+◌, ◌-◌, ◌≤◌, [], None, OnErr, OnOk, length, replicate, string_bytes, take};
+ghost use Rattle.std.specs.Prelude.{◌≡◌, ◌++◌, ◌+◌, ◌-◌, ◌<◌, ◌≤◌, ◌^◌, [], IfOk, IsTrue, OnErr, OnOk, drop, false, length, map, string_bytes, take, true};
+ghost use Rattle.std.specs.List.{list_all};
+ghost use Rattle.esc_frame.specs.Scans.{is_text_byte};
 ghost use Rattle.esc_looks.specs.Looks.{plain_look};
-ghost use Rattle.esc_lines.specs.Rows.{Line, blanked, cells_text, deleted, empty_line, glyph_text, inserted, line_text, lines_blanked, lines_text, put_at, with_cells};
+ghost use Rattle.esc_lines.specs.Rows.{Line, blanked, deleted, empty_line, inserted, line_begin, line_text, lines_blanked, lines_text, plain_cell, put_all, put_at, with_cells};
 ghost use Rattle.memory.specs.Refusals.{Refused};
 
+use crate::ascii::push_ascii;
+use crate::cells;
 use crate::glyph::Glyph;
-use crate::sgr::push_change;
+use crate::sgr::is_first;
 use esc_looks::Look;
 use std::alloc::{AllocError, Allocator, Global};
 use std::marker::Model;
@@ -15,6 +19,10 @@ use std::marker::Model;
 #[derive(Drop)]
 pub(crate) struct Row<A: Allocator = Global> {
     begins_line: bool,
+    // The characters from column 0 on, as long as they are ASCII and look as at first: so a line
+    // that nobody writes again is copied as it is.
+    plain: Vec<u8, A>,
+    // The cells after them.
     cells: Vec<Option<Glyph>, A>,
 }
 
@@ -23,26 +31,32 @@ impl<A: Allocator> Model for Row<A> {
 
     ghost view = { λ r. record {
       begins_line = r.begins_line;
-      cells = r.cells.items;
+      cells = map plain_cell r.plain.items ++ r.cells.items;
     } };
+
+    ghost invariant = { λ r. list_all is_text_byte r.plain.items ≡ true };
 }
 
-impl<A: Allocator> Row<A> {
+impl<A: Allocator + Copy> Row<A> {
     /// A row that has just begun. Takes no memory.
     pub fn new(alloc: A, begins_line: bool) -> Row<A>
         ensures { result ≡ empty_line begins_line }
     {
         Row {
             begins_line,
+            plain: Vec::new(alloc),
             cells: Vec::new(alloc),
         }
     }
+}
 
+impl<A: Allocator> Row<A> {
     /// The row begun anew, in the same memory.
     pub fn restarted(mut self, begins_line: bool) -> Row<A>
         ensures { result ≡ empty_line begins_line }
     {
         self.begins_line = begins_line;
+        self.plain.clear();
         self.cells.clear();
         self
     }
@@ -53,33 +67,64 @@ impl<A: Allocator> Row<A> {
             ≡ with_cells (put_at column glyph self.old.cells) self.old) }
         ensures refused { OnErr result (Refused A) }
     {
-        if column < self.cells.len() {
-            self.cells[column] = Some(glyph);
+        let at = cell_at(&mut self.plain, &mut self.cells, column)?;
+        cells::put(&mut self.cells, at, glyph)
+    }
+
+    /// Puts characters of ASCII, one byte each, from a column on, in place of what is there, or
+    /// after blank cells.
+    pub fn put_text(&mut self, column: usize, text: &[u8], look: &Look) -> Result<(), AllocError>
+        requires text { list_all is_text_byte text.now ≡ true }
+        requires within { column + length text.now < 2 ^ 64 }
+        ensures ok { OnOk result (self.new
+            ≡ with_cells (put_all column look.now text.now self.old.cells) self.old) }
+        ensures refused { OnErr result (Refused A) }
+    {
+        if is_first(look) && self.put_plain(column, text)? {
             return Ok(());
         }
-        self.pad(column)?;
-        memory::push(&mut self.cells, Some(glyph))?;
-        Ok(())
+        self.put_each(column, text, look)
     }
 
-    // Appends blank cells until there are so many.
-    fn pad(&mut self, len: usize) -> Result<(), AllocError>
-        ensures ok { OnOk result (self.new ≡ with_cells
-            (self.old.cells ++ replicate (len - length self.old.cells) None) self.old) }
+    // Puts characters of ASCII that look as at first among others that do, where this makes no
+    // cells of these, and returns whether it did.
+    fn put_plain(&mut self, column: usize, text: &[u8]) -> Result<bool, AllocError>
+        requires { list_all is_text_byte text.now ≡ true }
+        ensures put { IfOk result (λ b. IsTrue b → self.new
+            ≡ with_cells (put_all column plain_look text.now self.old.cells) self.old) }
+        ensures left { IfOk result (λ b. b ≡ false → self.new ≡ self.old) }
         ensures refused { OnErr result (Refused A) }
     {
-        let missing = len.saturating_sub(self.cells.len());
-        self.push_blanks(missing)
+        let len = self.plain.len();
+        if column > len {
+            return Ok(false);
+        }
+        if text.len() <= len - column {
+            write_over(&mut self.plain, column, text);
+            return Ok(true);
+        }
+        if !self.cells.is_empty() {
+            return Ok(false);
+        }
+        write_past(&mut self.plain, column, text)?;
+        Ok(true)
     }
 
-    // Appends so many blank cells.
-    fn push_blanks(&mut self, count: usize) -> Result<(), AllocError>
+    // Puts characters of ASCII, one by one.
+    fn put_each(&mut self, column: usize, text: &[u8], look: &Look) -> Result<(), AllocError>
+        requires { column + length text.now < 2 ^ 64 }
         ensures ok { OnOk result (self.new
-            ≡ with_cells (self.old.cells ++ replicate count None) self.old) }
+            ≡ with_cells (put_all column look.now text.now self.old.cells) self.old) }
         ensures refused { OnErr result (Refused A) }
     {
-        for _ in 0..count {
-            memory::push(&mut self.cells, None)?;
+        let mut column = column;
+        for b in text {
+            let glyph = Glyph {
+                character: *b as char,
+                look: *look,
+            };
+            self.put(column, glyph)?;
+            column += 1;
         }
         Ok(())
     }
@@ -88,38 +133,44 @@ impl<A: Allocator> Row<A> {
     pub fn erase_right(&mut self, column: usize)
         ensures { self.new ≡ with_cells (take column self.old.cells) self.old }
     {
-        self.cells.truncate(column);
+        let at = column.saturating_sub(self.plain.len());
+        self.cells.truncate(at);
+        self.plain.truncate(column);
     }
 
     /// Makes the cell at a column and all before it blank.
-    pub fn erase_left(&mut self, column: usize)
-        ensures { self.new ≡ with_cells (blanked 0 (column + 1) self.old.cells) self.old }
+    pub fn erase_left(&mut self, column: usize) -> Result<(), AllocError>
+        ensures ok { OnOk result (self.new
+            ≡ with_cells (blanked 0 (column + 1) self.old.cells) self.old) }
+        ensures refused { OnErr result (Refused A) }
     {
+        spread(&mut self.plain, &mut self.cells)?;
         let len = self.cells.len();
         let count = if column < len { column + 1 } else { len };
-        self.erase_cells(0, count);
+        cells::erase(&mut self.cells, 0, count);
+        Ok(())
     }
 
     /// Makes so many cells from a column on blank.
-    pub fn erase_cells(&mut self, column: usize, count: usize)
-        ensures { self.new ≡ with_cells (blanked column (column + count) self.old.cells) self.old }
+    pub fn erase_cells(&mut self, column: usize, count: usize) -> Result<(), AllocError>
+        ensures ok { OnOk result (self.new
+            ≡ with_cells (blanked column (column + count) self.old.cells) self.old) }
+        ensures refused { OnErr result (Refused A) }
     {
-        let end = column.saturating_add(count).min(self.cells.len());
-        for i in column..end {
-            self.cells[i] = None;
-        }
+        spread(&mut self.plain, &mut self.cells)?;
+        cells::erase(&mut self.cells, column, count);
+        Ok(())
     }
 
     /// Takes out so many cells from a column on.
-    pub fn delete_cells(&mut self, column: usize, count: usize)
-        ensures { self.new ≡ with_cells (deleted column count self.old.cells) self.old }
+    pub fn delete_cells(&mut self, column: usize, count: usize) -> Result<(), AllocError>
+        ensures ok { OnOk result (self.new
+            ≡ with_cells (deleted column count self.old.cells) self.old) }
+        ensures refused { OnErr result (Refused A) }
     {
-        let len = self.cells.len();
-        if column < len {
-            let count = count.min(len - column);
-            self.cells[column..].rotate_left(count);
-            self.cells.truncate(len - count);
-        }
+        spread(&mut self.plain, &mut self.cells)?;
+        cells::delete(&mut self.cells, column, count);
+        Ok(())
     }
 
     /// Puts in so many blank cells at a column, as far as there is room for them in so many
@@ -134,19 +185,15 @@ impl<A: Allocator> Row<A> {
             ≡ with_cells (inserted columns column count self.old.cells) self.old) }
         ensures refused { OnErr result (Refused A) }
     {
-        if column < self.cells.len() {
-            let count = count.min(columns.saturating_sub(column));
-            self.push_blanks(count)?;
-            self.cells[column..].rotate_right(count);
-            self.cells.truncate(columns);
-        }
-        Ok(())
+        spread(&mut self.plain, &mut self.cells)?;
+        cells::insert(&mut self.cells, column, count, columns)
     }
 
     /// Makes all cells blank.
     pub fn erase(&mut self)
         ensures { self.new ≡ with_cells [] self.old }
     {
+        self.plain.clear();
         self.cells.clear();
     }
 
@@ -156,11 +203,86 @@ impl<A: Allocator> Row<A> {
             ≡ string_bytes text.old ++ line_text self.now) }
         ensures refused { OnErr result (Refused A) }
     {
-        if self.begins_line {
-            memory::push_char(text, '\n')?;
-        }
-        write_cells(&self.cells, text)
+        begin(text, self.begins_line)?;
+        push_ascii(text, &self.plain)?;
+        cells::write(&self.cells, text)
     }
+}
+
+// Appends what comes before a row.
+#[inline]
+fn begin<A: Allocator>(text: &mut String<A>, begins_line: bool) -> Result<(), AllocError>
+    ensures ok { OnOk result (string_bytes text.new
+        ≡ string_bytes text.old ++ line_begin begins_line) }
+    ensures refused { OnErr result (Refused A) }
+{
+    if begins_line {
+        memory::push_char(text, '\n')
+    } else {
+        Ok(())
+    }
+}
+
+// Writes a text from a place on, over as many bytes.
+fn write_over<A: Allocator>(plain: &mut Vec<u8, A>, at: usize, text: &[u8])
+    requires { at + length text.now ≤ length plain.old.items }
+    ensures { plain.new.items ≡ take at plain.old.items
+        ++ (text.now ++ drop (at + length text.now) plain.old.items) }
+{
+    plain[at..at + text.len()].copy_from_slice(text);
+}
+
+// Writes a text from a place on, in place of all bytes after it.
+fn write_past<A: Allocator>(
+    plain: &mut Vec<u8, A>,
+    at: usize,
+    text: &[u8],
+) -> Result<(), AllocError>
+    ensures ok { OnOk result (plain.new.items ≡ take at plain.old.items ++ text.now) }
+    ensures err { OnErr result (plain.new.items ≡ take at plain.old.items) }
+    ensures refused { OnErr result (Refused A) }
+{
+    plain.truncate(at);
+    memory::extend(plain, text)
+}
+
+// Makes cells of the characters before the others.
+fn spread<A: Allocator>(
+    plain: &mut Vec<u8, A>,
+    cells: &mut Vec<Option<Glyph>, A>,
+) -> Result<(), AllocError>
+    ensures ok { OnOk result (cells.new.items ≡ map plain_cell plain.old.items ++ cells.old.items) }
+    ensures none { OnOk result (plain.new.items ≡ []) }
+    ensures err { OnErr result (plain.new.items ≡ plain.old.items) }
+    ensures refused { OnErr result (Refused A) }
+{
+    let count = plain.len();
+    cells::push_plain(cells, plain)?;
+    cells.rotate_right(count);
+    plain.clear();
+    Ok(())
+}
+
+// Which of the cells is that of a column: cells are made of the characters, where it is one of
+// theirs.
+#[inline]
+fn cell_at<A: Allocator>(
+    plain: &mut Vec<u8, A>,
+    cells: &mut Vec<Option<Glyph>, A>,
+    column: usize,
+) -> Result<usize, AllocError>
+    ensures at { IfOk result (λ at. column ≡ length plain.new.items + at) }
+    ensures same { OnOk result (map plain_cell plain.new.items ++ cells.new.items
+        ≡ map plain_cell plain.old.items ++ cells.old.items) }
+    ensures text { list_all is_text_byte plain.old.items ≡ true
+        → list_all is_text_byte plain.new.items ≡ true }
+    ensures refused { OnErr result (Refused A) }
+{
+    if column < plain.len() {
+        spread(plain, cells)?;
+        return Ok(column);
+    }
+    Ok(column - plain.len())
 }
 
 /// Makes all cells of the rows from one to before another blank.
@@ -185,64 +307,6 @@ pub(crate) fn write_rows<A: Allocator>(
 {
     for row in rows {
         row.write(text)?;
-    }
-    Ok(())
-}
-
-// Appends the text of cells.
-fn write_cells<A: Allocator>(
-    cells: &[Option<Glyph>],
-    text: &mut String<A>,
-) -> Result<(), AllocError>
-    ensures ok { OnOk result (string_bytes text.new
-        ≡ string_bytes text.old ++ cells_text plain_look 0 cells.now) }
-    ensures refused { OnErr result (Refused A) }
-{
-    let mut blanks = 0;
-    let mut look = Look::plain();
-    for cell in cells {
-        match cell {
-            None => blanks += 1,
-            Some(glyph) => {
-                write_glyph(blanks, &look, glyph, text)?;
-                blanks = 0;
-                look = glyph.look;
-            }
-        }
-    }
-    push_change(text, &look, &Look::plain())
-}
-
-// Appends the text of a character after so many blank cells, where a look holds.
-#[inline]
-fn write_glyph<A: Allocator>(
-    blanks: usize,
-    look: &Look,
-    glyph: &Glyph,
-    text: &mut String<A>,
-) -> Result<(), AllocError>
-    ensures ok { OnOk result (string_bytes text.new
-        ≡ string_bytes text.old ++ glyph_text look.now blanks glyph.now) }
-    ensures refused { OnErr result (Refused A) }
-{
-    if blanks == 0 {
-        push_change(text, look, &glyph.look)?;
-    } else {
-        push_change(text, look, &Look::plain())?;
-        write_spaces(blanks, text)?;
-        push_change(text, &Look::plain(), &glyph.look)?;
-    }
-    memory::push_char(text, glyph.character)
-}
-
-// Appends so many spaces.
-fn write_spaces<A: Allocator>(count: usize, text: &mut String<A>) -> Result<(), AllocError>
-    ensures ok { OnOk result (string_bytes text.new
-        ≡ string_bytes text.old ++ replicate count 0x20) }
-    ensures refused { OnErr result (Refused A) }
-{
-    for _ in 0..count {
-        memory::push_char(text, ' ')?;
     }
     Ok(())
 }

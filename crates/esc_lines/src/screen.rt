@@ -1,20 +1,20 @@
 //! The rows that may be written again, and the cursor in them.
 ghost use Rattle.std.specs.Prelude.{◌≡◌, ◌++◌, ◌+◌, ◌-◌, ◌<◌, ◌≤◌, ◌^◌, [], IfOk, OnErr, OnOk, false, length, map, min, take, true};
 ghost use Rattle.std.specs.List.{FoldsTo, list_all};
+ghost use Rattle.std.specs.Str.{chars};
 ghost use Rattle.esc_actions.specs.declared.action.Action.TheVariants as action;
 ghost use Rattle.esc_frame.specs.Scans.{is_text_byte};
 ghost use Rattle.esc_lines.specs.Fed.{Adds, Becomes, Takes, size_of, text_of, window_of};
-ghost use Rattle.esc_lines.specs.Rows.{blanked, deleted, empty_line, inserted, lines_text};
-ghost use Rattle.esc_lines.specs.Steps.{print_step};
-ghost use Rattle.esc_lines.specs.Windows.{above_erased, advanced, all_erased, at_column, below_erased, down, first_window, line_of, printed, scrolled, scrolled_text, sized, tab_stop, up, with_blank_rows, with_row, wrapped, wrapped_text};
+ghost use Rattle.esc_lines.specs.Rows.{blanked, deleted, empty_line, inserted, lines_text, put_all};
+ghost use Rattle.esc_lines.specs.Steps.{is_visible, print_step};
+ghost use Rattle.esc_lines.specs.Windows.{above_erased, advanced, all_erased, at_column, below_erased, down, first_window, left_erased, line_of, printed, ran, scrolled, scrolled_text, sized, tab_stop, up, with_blank_rows, with_row, wrapped, wrapped_text};
 ghost use Rattle.memory.specs.Refusals.{Refused};
 
 use crate::glyph::Glyph;
 use crate::row::{Row, erase_rows, write_rows};
 use crate::step::Step;
-use esc_actions::Action;
 use esc_looks::Look;
-use esc_parse::Sink;
+use memchr::memchr;
 use std::alloc::{AllocError, Allocator, Global};
 
 /// The last rows of a stream, the cursor in them, and the text of the rows that became final since
@@ -26,7 +26,8 @@ pub(crate) struct Screen<A: Allocator = Global> {
     rows: Vec<Row<A>, A>,
     row: usize,
     column: usize,
-    pen: Look,
+    /// How the characters look that come.
+    pub pen: Look,
     max_rows: usize,
     max_columns: usize,
     // A row that became final, whose memory the next one takes.
@@ -154,8 +155,81 @@ impl<A: Allocator + Copy> Screen<A> {
         self.put(c)
     }
 
-    // Prints characters, one byte each, one after another.
-    fn print_all(&mut self, text: &[u8]) -> Result<(), AllocError>
+    /// Prints characters of ASCII, one byte each, one after another.
+    pub fn print_all(&mut self, text: &[u8]) -> Result<(), AllocError>
+        requires { list_all is_text_byte text.now ≡ true }
+        ensures ok { OnOk result (FoldsTo Takes self.old (map action.Print text.now) self.new) }
+        ensures refused { OnErr result (Refused A) }
+    {
+        match memchr(0x7f, text) {
+            None => self.print_run(text),
+            Some(_) => self.print_each(text),
+        }
+    }
+
+    // Prints characters of ASCII with no DEL among them, as many at once as a row takes.
+    fn print_run(&mut self, text: &[u8]) -> Result<(), AllocError>
+        requires text { list_all is_text_byte text.now ≡ true }
+        requires visible { list_all is_visible text.now ≡ true }
+        ensures ok { OnOk result (FoldsTo Takes self.old (map action.Print text.now) self.new) }
+        ensures refused { OnErr result (Refused A) }
+    {
+        let mut rest = text;
+        while !rest.is_empty() {
+            self.wrap()?;
+            let count = self.room_for(rest);
+            let (run, later) = rest.split_at(count);
+            self.put_run(run)?;
+            rest = later;
+        }
+        Ok(())
+    }
+
+    // How many of some characters the row takes, where the cursor is in a column: one at least.
+    #[inline]
+    fn room_for(&self, text: &[u8]) -> usize
+        requires some { 0 < length text.now }
+        requires room { self.now.column + 1 < 2 ^ 64 }
+        ensures some { 0 < result }
+        ensures within { result ≤ length text.now }
+        ensures fits { 1 < result → self.now.column + result ≤ self.now.max_columns }
+        ensures bound { self.now.column + result < 2 ^ 64 }
+    {
+        let room = self.max_columns.saturating_sub(self.column);
+        if room == 0 { 1 } else { text.len().min(room) }
+    }
+
+    // Puts characters of ASCII from the cursor on, which moves past them.
+    fn put_run(&mut self, text: &[u8]) -> Result<(), AllocError>
+        requires text { list_all is_text_byte text.now ≡ true }
+        requires within { self.old.column + length text.now < 2 ^ 64 }
+        ensures ok { OnOk result (Becomes self.old [] (ran text.now (window_of self.old))
+            self.new) }
+        ensures refused { OnErr result (Refused A) }
+    {
+        let end = self.column + text.len();
+        self.put_text(text)?;
+        self.column = end;
+        Ok(())
+    }
+
+    // Puts characters of ASCII from the cursor on, which stays.
+    fn put_text(&mut self, text: &[u8]) -> Result<(), AllocError>
+        requires text { list_all is_text_byte text.now ≡ true }
+        requires within { self.old.column + length text.now < 2 ^ 64 }
+        ensures ok { OnOk result (Becomes self.old [] (with_row
+            (put_all self.old.column self.old.pen text.now (line_of (window_of self.old)).cells)
+            (window_of self.old)) self.new) }
+        ensures refused { OnErr result (Refused A) }
+    {
+        if let Some(row) = self.rows.get_mut(self.row) {
+            row.put_text(self.column, text, &self.pen)?;
+        }
+        Ok(())
+    }
+
+    // Prints characters of ASCII, one by one.
+    fn print_each(&mut self, text: &[u8]) -> Result<(), AllocError>
         requires { list_all is_text_byte text.now ≡ true }
         ensures ok { OnOk result (FoldsTo Takes self.old (map action.Print text.now) self.new) }
         ensures refused { OnErr result (Refused A) }
@@ -176,6 +250,18 @@ impl<A: Allocator + Copy> Screen<A> {
             return Ok(());
         }
         self.print(c)
+    }
+
+    /// Prints characters, one after another.
+    pub fn print_str(&mut self, text: &str) -> Result<(), AllocError>
+        ensures ok { OnOk result
+            (FoldsTo Takes self.old (map action.Print (chars text.now)) self.new) }
+        ensures refused { OnErr result (Refused A) }
+    {
+        for c in text.chars() {
+            self.print_visible(c)?;
+        }
+        Ok(())
     }
 
     // To a column, or past the last one.
@@ -233,14 +319,14 @@ impl<A: Allocator + Copy> Screen<A> {
         }
     }
 
-    fn erase_left(&mut self)
-        ensures { Becomes self.old [] (with_row
-            (blanked 0 (self.old.column + 1) (line_of (window_of self.old)).cells)
-            (window_of self.old)) self.new }
+    fn erase_left(&mut self) -> Result<(), AllocError>
+        ensures ok { OnOk result (Becomes self.old [] (left_erased (window_of self.old)) self.new) }
+        ensures refused { OnErr result (Refused A) }
     {
         if let Some(row) = self.rows.get_mut(self.row) {
-            row.erase_left(self.column);
+            row.erase_left(self.column)?;
         }
+        Ok(())
     }
 
     fn erase_row(&mut self)
@@ -251,24 +337,28 @@ impl<A: Allocator + Copy> Screen<A> {
         }
     }
 
-    fn erase_cells(&mut self, count: usize)
-        ensures { Becomes self.old [] (with_row (blanked self.old.column
+    fn erase_cells(&mut self, count: usize) -> Result<(), AllocError>
+        ensures ok { OnOk result (Becomes self.old [] (with_row (blanked self.old.column
             (self.old.column + count) (line_of (window_of self.old)).cells) (window_of self.old))
-            self.new }
+            self.new) }
+        ensures refused { OnErr result (Refused A) }
     {
         if let Some(row) = self.rows.get_mut(self.row) {
-            row.erase_cells(self.column, count);
+            row.erase_cells(self.column, count)?;
         }
+        Ok(())
     }
 
-    fn delete_cells(&mut self, count: usize)
-        ensures { Becomes self.old [] (with_row
+    fn delete_cells(&mut self, count: usize) -> Result<(), AllocError>
+        ensures ok { OnOk result (Becomes self.old [] (with_row
             (deleted self.old.column count (line_of (window_of self.old)).cells)
-            (window_of self.old)) self.new }
+            (window_of self.old)) self.new) }
+        ensures refused { OnErr result (Refused A) }
     {
         if let Some(row) = self.rows.get_mut(self.row) {
-            row.delete_cells(self.column, count);
+            row.delete_cells(self.column, count)?;
         }
+        Ok(())
     }
 
     fn insert_cells(&mut self, count: usize) -> Result<(), AllocError>
@@ -302,11 +392,13 @@ impl<A: Allocator + Copy> Screen<A> {
         }
     }
 
-    fn erase_above(&mut self)
-        ensures { Becomes self.old [] (above_erased (window_of self.old)) self.new }
+    fn erase_above(&mut self) -> Result<(), AllocError>
+        ensures ok { OnOk result (Becomes self.old [] (above_erased (window_of self.old)) self.new) }
+        ensures refused { OnErr result (Refused A) }
     {
-        self.erase_left();
+        self.erase_left()?;
         self.erase_rows(0, self.row);
+        Ok(())
     }
 
     fn erase_all(&mut self)
@@ -339,13 +431,13 @@ impl<A: Allocator + Copy> Screen<A> {
                 self.column = 0;
             }
             Step::EraseRight => self.erase_right(),
-            Step::EraseLeft => self.erase_left(),
+            Step::EraseLeft => return self.erase_left(),
             Step::EraseRow => self.erase_row(),
-            Step::EraseCells(n) => self.erase_cells(n),
-            Step::DeleteCells(n) => self.delete_cells(n),
+            Step::EraseCells(n) => return self.erase_cells(n),
+            Step::DeleteCells(n) => return self.delete_cells(n),
             Step::InsertCells(n) => return self.insert_cells(n),
             Step::EraseBelow => self.erase_below(),
-            Step::EraseAbove => self.erase_above(),
+            Step::EraseAbove => return self.erase_above(),
             Step::EraseAll => self.erase_all(),
             Step::Select(look) => self.pen = look,
             Step::Nothing => {}
@@ -366,35 +458,11 @@ impl<A: Allocator + Copy> Screen<A> {
 }
 
 // A row that has just begun, in the memory of another where there is one.
-fn fresh_row<A: Allocator>(spare: Option<Row<A>>, alloc: A, begins_line: bool) -> Row<A>
+fn fresh_row<A: Allocator + Copy>(spare: Option<Row<A>>, alloc: A, begins_line: bool) -> Row<A>
     ensures { result ≡ empty_line begins_line }
 {
     match spare {
         Some(row) => row.restarted(begins_line),
         None => Row::new(alloc, begins_line),
-    }
-}
-
-/// Each action does what its value does to the rows.
-impl<A: Allocator + Copy> Sink<Action<A>> for Screen<A> {
-    ghost is_ready = { λ _. Unit {0} };
-
-    ghost may = { λ _ _. Unit {0} };
-
-    ghost takes = { Takes };
-
-    ghost refuses = { λ p a q. Refused A };
-
-    fn receive(&mut self, action: Action<A>) -> Result<(), AllocError> {
-        self.take(Step::of(&action, self.pen))
-    }
-
-    #[inline]
-    fn receive_text(&mut self, text: &[u8]) -> Result<(), AllocError> {
-        self.print_all(text)
-    }
-
-    fn drops_images(&self) -> bool {
-        true
     }
 }

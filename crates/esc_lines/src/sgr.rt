@@ -1,8 +1,10 @@
 //! The control sequence that makes a look.
-ghost use Rattle.std.specs.Prelude.{◌≡◌, ◌≤◌, ◌<◌, ◌++◌, OnErr, OnOk, string_bytes};
+ghost use Rattle.std.specs.Prelude.{◌≡◌, ◌≤◌, ◌<◌, ◌++◌, [], IsTrue, false, OnErr, OnOk, string_bytes};
+ghost use Rattle.esc_looks.specs.Looks.{plain_look};
 ghost use Rattle.esc_lines.specs.Sgr.{change_text, color_text, colors_text, flag_text, flags_text, intensity_code, intensity_text, is_default, is_direct, is_named, look_text, named_number, number_text, rgb_text, same_color, same_flags, same_look, underline_code, underline_color_text, underline_text};
 ghost use Rattle.memory.specs.Refusals.{Refused};
 
+use crate::ascii::push_ascii;
 use esc_looks::{Color, Look};
 use esc_sequences::{Intensity, Underline};
 use esc_values::RgbColor;
@@ -40,6 +42,30 @@ fn push_look<A: Allocator>(text: &mut String<A>, look: &Look) -> Result<(), Allo
 }
 
 fn push_flags<A: Allocator>(text: &mut String<A>, look: &Look) -> Result<(), AllocError>
+    ensures ok { OnOk result (string_bytes text.new
+        ≡ string_bytes text.old ++ flags_text look.now) }
+    ensures refused { OnErr result (Refused A) }
+{
+    if has_flags(look) {
+        push_each_flag(text, look)
+    } else {
+        Ok(())
+    }
+}
+
+// Whether one of its flags is on.
+fn has_flags(look: &Look) -> bool
+    ensures { result ≡ false → flags_text look.now ≡ [] }
+{
+    look.italic
+        || look.blink
+        || look.inverse
+        || look.concealed
+        || look.strikethrough
+        || look.overline
+}
+
+fn push_each_flag<A: Allocator>(text: &mut String<A>, look: &Look) -> Result<(), AllocError>
     ensures ok { OnOk result (string_bytes text.new
         ≡ string_bytes text.old ++ flags_text look.now) }
     ensures refused { OnErr result (Refused A) }
@@ -128,13 +154,27 @@ fn push_rgb<A: Allocator>(text: &mut String<A>, color: RgbColor) -> Result<(), A
     push_number(text, blue)
 }
 
+#[inline]
 fn push_number<A: Allocator>(text: &mut String<A>, number: u8) -> Result<(), AllocError>
     ensures ok { OnOk result (string_bytes text.new
         ≡ string_bytes text.old ++ number_text number) }
     ensures refused { OnErr result (Refused A) }
 {
-    memory::push_char(text, ';')?;
-    memory::push_display(text, &number)
+    if number < 10 {
+        push_ascii(text, &[b';', 48 + number])
+    } else if number < 100 {
+        push_ascii(text, &[b';', 48 + number / 10, 48 + number % 10])
+    } else {
+        push_ascii(
+            text,
+            &[
+                b';',
+                48 + number / 100,
+                48 + number / 10 % 10,
+                48 + number % 10,
+            ],
+        )
+    }
 }
 
 // The number of a colour that has a name.
@@ -171,6 +211,14 @@ fn underline_text(underline: Underline) -> &'static str
         Underline::Dotted => ";4:4",
         Underline::Dashed => ";4:5",
     }
+}
+
+/// Whether it is the look of the beginning.
+#[inline]
+pub(crate) fn is_first(look: &Look) -> bool
+    ensures { IsTrue result → look.now ≡ plain_look }
+{
+    is_same(&Look::plain(), look)
 }
 
 // Whether two looks are the same.

@@ -98,7 +98,8 @@ impl Step {
         }
     }
 
-    fn of_function(function: Function<'_>, pen: Look) -> Step
+    /// What a control sequence does, of which this is the function.
+    pub(crate) fn of_function(function: Function<'_>, pen: Look) -> Step
         ensures { result ≡ function_step pen (function_value function.entry) }
     {
         match function {

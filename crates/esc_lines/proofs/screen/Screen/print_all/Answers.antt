@@ -1,10 +1,7 @@
-use Rattle.std.proofs.Common.{arith}
-use Rattle.esc_actions.specs.declared.action.Action.TheVariants as action
-use Rattle.esc_parse.proofs.TextRuns.{takes_next}
-use Rattle.esc_lines.specs.Fed.{Takes}
+use Rattle.std.proofs.Common.{subst, None}
+use Rattle.memchr.specs.Find.{is_byte, IsFirstByte}
+use Rattle.esc_lines.proofs.Runs.{all_visible}
 use Rattle.esc_lines.proofs.screen.Screen.print_all.Goals as goal
 
-pub loop-b-preserved : goal.loop-b-preserved
-loop-b-preserved g c =
-    takes_next action.Print Takes Takes c.args.text.now c.loop-b.b-index (omega arith)
-    c.args.self.now _ _ c.loop-b.invariant c.in_ok-print_visible.ensures.ok
+pub print_run-requires-clause-visible : goal.print_run-requires-clause-visible
+print_run-requires-clause-visible g c = all_visible c.args.text.now c.in-None.ensures

@@ -1,7 +1,7 @@
 use Rattle.std.proofs.Common.{◌≡◌, ◌++◌, ◌≤◌, drop, string_bytes}
 use Rattle.esc_looks.specs.Looks.{plain_look}
 use Rattle.esc_lines.specs.Rows.{cells_text}
-use Rattle.esc_lines.proofs.row.write_cells.Given as goal
+use Rattle.esc_lines.proofs.cells.write.Given as goal
 
 -- what is left decides
 abbrev pub invariant-loop-cell : goal.invariant-loop-cell

@@ -2,7 +2,7 @@ use Rattle.std.proofs.Common.{map, take}
 use Rattle.std.specs.List.{FoldsTo}
 use Rattle.esc_actions.specs.declared.action.Action.TheVariants as action
 use Rattle.esc_lines.specs.Fed.{Takes}
-use Rattle.esc_lines.proofs.screen.Screen.print_all.Given as goal
+use Rattle.esc_lines.proofs.screen.Screen.print_each.Given as goal
 
 -- each so far was printed
 abbrev pub invariant-loop-b : goal.invariant-loop-b

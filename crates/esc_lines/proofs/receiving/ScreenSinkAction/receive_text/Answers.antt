@@ -1,6 +1,6 @@
 use Rattle.esc_parse.proofs.TextRuns.{refuses_run}
 use Rattle.esc_lines.proofs.Streams.{received}
-use Rattle.esc_lines.proofs.screen.ScreenSinkAction.receive_text.Goals as goal
+use Rattle.esc_lines.proofs.receiving.ScreenSinkAction.receive_text.Goals as goal
 
 pub returns-clause-given : goal.returns-clause-given
 returns-clause-given g c =

@@ -1,0 +1,56 @@
+//! What actions do to the rows.
+ghost use Rattle.esc_lines.specs.Fed.{Takes};
+ghost use Rattle.memory.specs.Refusals.{Refused};
+
+use crate::screen::Screen;
+use crate::step::Step;
+use esc_actions::Action;
+use esc_parse::Sink;
+use esc_sequences::csi::is_unspecified;
+use esc_typed::Function;
+use esc_values::CsiParam;
+use std::alloc::{AllocError, Allocator};
+
+/// Each action does what its value does to the rows.
+impl<A: Allocator + Copy> Sink<Action<A>> for Screen<A> {
+    ghost is_ready = { λ _. Unit {0} };
+
+    ghost may = { λ _ _. Unit {0} };
+
+    ghost takes = { Takes };
+
+    ghost refuses = { λ p a q. Refused A };
+
+    fn receive(&mut self, action: Action<A>) -> Result<(), AllocError> {
+        self.take(Step::of(&action, self.pen))
+    }
+
+    #[inline]
+    fn receive_text(&mut self, text: &[u8]) -> Result<(), AllocError> {
+        self.print_all(text)
+    }
+
+    #[inline]
+    fn receive_str(&mut self, text: &str) -> Result<(), AllocError> {
+        self.print_str(text)
+    }
+
+    // Takes it from its parameters, where it is one value of them.
+    fn receive_sequence(
+        &mut self,
+        params: &[CsiParam],
+        parameters_truncated: bool,
+        control: u8,
+    ) -> Result<bool, AllocError> {
+        if parameters_truncated || !is_unspecified(params, parameters_truncated, control) {
+            return Ok(false);
+        }
+        let function = Function::of_params(params, control);
+        self.take(Step::of_function(function, self.pen))?;
+        Ok(true)
+    }
+
+    fn drops_images(&self) -> bool {
+        true
+    }
+}
