@@ -1,24 +1,20 @@
 -- What a reveal was fed, and what its text grew by.
-use Rattle.std.proofs.Common.{IsAscii, drop, not, suc, zero, ℕ, Vec, ◌≡◌, ◌<◌, ◌&&◌, ◌||◌, Bool, true, false, nat_le, if◌then◌else◌, List, [], ◌∷◌, ◌++◌, Some, arith, refl, ap, sym, ◌∙◌, subst, append_assoc}
-use Rattle.std.specs.List.{flat_map, list_all}
-use Rattle.std.proofs.lemmas.Bool.Decides.{nat_tests}
-use Rattle.std.proofs.lemmas.Bool.{and_parts}
-use Rattle.std.proofs.lemmas.List.{append-nil}
-use Rattle.esc_actions.specs.Values.{Value, print}
+use Rattle.std.proofs.Common.{ℕ, Vec, ◌≡◌, ◌≤◌, ◌&&◌, Bool, true, false, nat_le, if◌then◌else◌, Some, length, List, [], ◌∷◌, ◌++◌, ap, sym, ◌∙◌, subst, append_assoc}
+use Rattle.std.specs.List.{flat_map}
+use Rattle.esc_actions.specs.Meaning.{meaning_within}
+use Rattle.esc_actions.specs.Values.{Value}
 use Rattle.esc_filter.specs.Lines.{is_line_feed}
 use Rattle.esc_filter.specs.declared.admit.Admit.{Ghosts as Admitter}
-use Rattle.esc_frame.specs.Scans.{is_text_byte}
-use Rattle.esc_reveal.proofs.Cutting.{all_append, goes_on, ground_ends, grows_more, grows_then, line_ends, nothing_more, rest_append, rest_none}
-use Rattle.esc_reveal.proofs.Ground.{text_ground, text_means}
+use Rattle.esc_reveal.proofs.Cutting.{all_append, grows_more, line_ends, nothing_more, rest_append, rest_none}
+use Rattle.esc_reveal.proofs.Quiet.{part_makes}
+use Rattle.esc_reveal.proofs.Texts.{admitted_stays}
 use Rattle.esc_reveal.specs.Fed.{AtRest, GrowsBy, closed_text}
 use Rattle.esc_reveal.specs.Grown.{Grows}
-use Rattle.esc_reveal.specs.Pieces.{is_at_ground, pieces, pieces_after, rest, rest_after}
-use Rattle.std.proofs.lemmas.Str.{IsUtf8-from_ascii, chars-IsAscii, is_utf8-from_IsUtf8}
-use Rattle.std.specs.List.{list_any}
-use Rattle.esc_actions.specs.Meaning.{meaning_within}
-use Rattle.esc_reveal.specs.Whole.{breaks, has_break, is_whole}
-use Rattle.esc_reveal.specs.Revealed.{are_kept, is_kept, piece_text, revealed, revealed_after, revealed_whole}
+use Rattle.esc_reveal.specs.Pieces.{is_at_ground, pieces, rest, rest_after}
+use Rattle.esc_reveal.specs.Revealed.{are_kept, piece_text, revealed, revealed_whole}
+use Rattle.esc_reveal.specs.Runs.{IsAdmittedText, IsPart}
 use Rattle.esc_reveal.specs.Visible.{rest_text, visible}
+use Rattle.esc_reveal.specs.Whole.{is_whole}
 use Rattle.esc_reveal.specs.declared.reveal.Reveal.{Reveal}
 use Rattle.esc_reveal.specs.declared.reveal.Rule.{Rule}
 
@@ -28,7 +24,6 @@ pub at_text : {P A : Type 0} (r : List ℕ) (f : Reveal P A) (t : Vec ℕ A) →
 at_text r f t h = record {
   unfailed = h.unfailed;
   framed = h.framed;
-  ready = h.ready;
   kept = h.kept;
 }
 
@@ -36,9 +31,6 @@ module _ {P A : Type 0} (V : Admitter P A) (rule : Rule P) (r : List ℕ) (b : �
     (new : Reveal P A) (t0 t1 t2 : List ℕ) where
   abbrev admits : Value A → Bool
   admits v = V.admits rule.policy v
-
-  abbrev p : List ℕ
-  p = r ++ b ∷ []
 
   -- a line feed that ends a piece
   pub line_grows : (rule.by_lines && is_line_feed b) ≡ true
@@ -54,29 +46,63 @@ module _ {P A : Type 0} (V : Admitter P A) (rule : Rule P) (r : List ℕ) (b : �
         ),
       )
 
-  module _ (no : (rule.by_lines && is_line_feed b) ≡ false) where
-    -- a byte after which no segment is unfinished
-    pub end_grows : is_at_ground p ≡ true
-        → Grows t0 t1 (rest_text rule.limit r) (rest_text rule.limit p)
-        → AtRest [] new → Grows t1 t2 (rest_text rule.limit p) (closed_text V rule p)
-        → GrowsBy V rule r (b ∷ []) t0 t2 new
-    end_grows h before at after =
-        let ends = ground_ends rule.by_lines rule.limit admits r b no h in (
-          subst (λ x. AtRest x new) (sym ends.0) at,
-          subst (Grows t0 t2 (rest_text rule.limit r)) (sym ends.1)
-              (grows_then t0 t1 t2 (rest_text rule.limit r) (rest_text rule.limit p)
-              (closed_text V rule p) before after),
-        )
+-- more of a piece, at most up to its end
+module _ {P A : Type 0} (V : Admitter P A) (rule : Rule P) (r x : List ℕ)
+    (new : Reveal P A) (t0 t1 : List ℕ) (part : IsPart rule.by_lines r x) where
+  abbrev admitted : Value A → Bool
+  admitted v = V.admits rule.policy v
 
-    -- a byte after which one is
-    pub more_grows : is_at_ground p ≡ false
-        → Grows t0 t1 (rest_text rule.limit r) (rest_text rule.limit p) → AtRest p new
-        → GrowsBy V rule r (b ∷ []) t0 t1 new
-    more_grows h grown at =
-        let goes = goes_on rule.by_lines rule.limit admits r b no h in (
-          subst (λ x. AtRest x new) (sym goes.0) at,
-          subst (Grows t0 t1 (rest_text rule.limit r)) (sym goes.1) grown,
-        )
+  abbrev q : List ℕ
+  q = r ++ x
+
+  -- where no segment is unfinished after it
+  pub end_grows : is_at_ground q ≡ true
+      → Grows t0 t1 (rest_text rule.limit r) (closed_text V rule q) → AtRest [] new
+      → GrowsBy V rule r x t0 t1 new
+  end_grows h grown at =
+      let ends = (part_makes rule.by_lines rule.limit admitted r x part).0 h in (
+        subst (λ y. AtRest y new) (sym ends.0) at,
+        subst (Grows t0 t1 (rest_text rule.limit r)) (sym ends.1) grown,
+      )
+
+  -- where one is
+  pub more_grows : is_at_ground q ≡ false
+      → Grows t0 t1 (rest_text rule.limit r) (rest_text rule.limit q) → AtRest q new
+      → GrowsBy V rule r x t0 t1 new
+  more_grows h grown at =
+      let goes = (part_makes rule.by_lines rule.limit admitted r x part).1 h in (
+        subst (λ y. AtRest y new) (sym goes.0) at,
+        subst (Grows t0 t1 (rest_text rule.limit r)) (sym goes.1) grown,
+      )
+
+-- a piece that came at once
+module _ {P A : Type 0} (V : Admitter P A) (rule : Rule P) (x : List ℕ) where
+  abbrev passing : Value A → Bool
+  passing v = V.admits rule.policy v
+
+  pub at_once : (t0 t1 : List ℕ) → t1 ≡ t0 ++ closed_text V rule x
+      → Grows t0 t1 (rest_text rule.limit []) (closed_text V rule x)
+  at_once t0 t1 e = (
+    closed_text V rule x,
+    ap (λ z. z ++ closed_text V rule x) (sym (rest_none rule.limit)),
+    e,
+  )
+
+  module _ (k : Bool) (e : k ≡ are_kept passing (meaning_within (Some rule.limit) x)) where
+    by_test : (b : Bool) → (nat_le (length x) rule.limit && (is_whole x && k)) ≡ b
+        → closed_text V rule x ≡ (if b then x else visible x)
+    by_test b h =
+        ap (λ y. if nat_le (length x) rule.limit && (is_whole x && y) then x else visible x)
+        (sym e)
+        ∙ ap (λ y. if y then x else visible x) h
+
+    pub stays_as : (nat_le (length x) rule.limit && (is_whole x && k)) ≡ true
+        → closed_text V rule x ≡ x
+    stays_as h = by_test true h
+
+    pub shown_as : (nat_le (length x) rule.limit && (is_whole x && k)) ≡ false
+        → closed_text V rule x ≡ visible x
+    shown_as h = by_test false h
 
 module _ {P A : Type 0} (V : Admitter P A) (rule : Rule P) where
   abbrev allows : Value A → Bool
@@ -95,78 +121,14 @@ module _ {P A : Type 0} (V : Admitter P A) (rule : Rule P) where
     grows_more rule.by_lines rule.limit allows r x y t0 t1 t2 a b,
   )
 
-  -- ---- characters of ASCII that pass
-
-  no_feed : (x : ℕ) → is_text_byte x ≡ true → (rule.by_lines && is_line_feed x) ≡ false
-  no_feed x h = by_any rule.by_lines (is_line_feed x) (above x h)
-    where
-      above : (x : ℕ) → is_text_byte x ≡ true → is_line_feed x ≡ false
-      above x h = grind (arith, nat_tests)
-
-      by_any : (l f : Bool) → f ≡ false → (l && f) ≡ false
-      by_any true f e = e
-      by_any false f e = refl
-
-  one_ascii : (x : ℕ) → is_text_byte x ≡ true → IsAscii (x ∷ [])
-  one_ascii x h zero = grind (arith, nat_tests)
-  one_ascii x h (suc i) = omega arith
-
-  -- a text of one character has no break
-  one_whole : (x : ℕ) → is_text_byte x ≡ true → is_whole (x ∷ []) ≡ true
-  unfolding is_whole
-  one_whole x h =
-      let ascii = one_ascii x h in
-      ap (λ u. u && not (has_break (x ∷ [])))
-      (is_utf8-from_IsUtf8 (x ∷ []) (IsUtf8-from_ascii (x ∷ []) ascii))
-      ∙ ap (λ cs. not (list_any breaks (drop 1 cs))) (chars-IsAscii (x ∷ []) ascii)
-
-  one_kept : (x : ℕ) → is_text_byte x ≡ true → allows (print x) ≡ true → 0 < rule.limit
-      → is_kept rule.limit allows (x ∷ []) ≡ true
-  one_kept x h a l =
-      let short : nat_le 1 rule.limit ≡ true = grind (arith, nat_tests) in
-      ap (λ w. nat_le 1 rule.limit
-      && (w && are_kept allows (meaning_within {A = A} (Some rule.limit) (x ∷ [])))) (one_whole x h)
-      ∙ ap (λ vs. nat_le 1 rule.limit && are_kept allows vs) (text_means (Some rule.limit) x h)
-      ∙ ap (λ b. b && are_kept allows (print x ∷ [])) short
-      ∙ ap (λ b. (b || false) && true) a
-
-  one_text : (x : ℕ) → is_text_byte x ≡ true → allows (print x) ≡ true → 0 < rule.limit
-      → (rest_after rule.by_lines [] (x ∷ []) ≡ [])
-      × (revealed_after {A = A} rule.by_lines rule.limit allows [] (x ∷ []) ≡ x ∷ [])
-  one_text x h a l =
-      let ends = ground_ends rule.by_lines rule.limit allows [] x (no_feed x h)
-      (text_ground x h) in
-      (ends.0, ends.1 ∙ ap (λ k. if k then x ∷ [] else visible (x ∷ [])) (one_kept x h a l))
-
-  text_stays : (xs : List ℕ) → list_all is_text_byte xs ≡ true
-      → list_all (λ c. allows (print c)) xs ≡ true → 0 < rule.limit
-      → (rest_after rule.by_lines [] xs ≡ [])
-      × (revealed_after {A = A} rule.by_lines rule.limit allows [] xs ≡ xs)
-  text_stays [] h a l = (refl, rest_none rule.limit)
-  text_stays (x ∷ xs) h a l =
-      let p = and_parts (is_text_byte x) (list_all is_text_byte xs) h in
-      let q = and_parts (allows (print x)) (list_all (λ c. allows (print c)) xs) a in
-      let one = one_text x p.0 q.0 l in
-      let more = text_stays xs p.1 q.1 l in
-      let done = flat_map (piece_text rule.by_lines rule.limit allows)
-      (pieces_after rule.by_lines [] (x ∷ [])) in
-      let first : done ≡ x ∷ [] =
-      sym (append-nil done) ∙ ap (λ z. done ++ z) (sym (rest_none rule.limit))
-      ∙ ap (λ z. done ++ rest_text rule.limit z) (sym one.0) ∙ one.1 in (
-        rest_append rule.by_lines [] (x ∷ []) xs
-            ∙ ap (λ z. rest_after rule.by_lines z xs) one.0 ∙ more.0,
-        all_append rule.by_lines rule.limit allows [] (x ∷ []) xs
-            ∙ ap (λ z. done ++ revealed_after {A = A} rule.by_lines rule.limit allows z xs) one.0
-            ∙ ap (λ z. done ++ z) more.1 ∙ ap (λ z. z ++ xs) first,
-      )
+  -- ---- characters that pass
 
   pub text_grows : (r xs t0 t1 : List ℕ) (new : Reveal P A) → r ≡ []
-      → list_all is_text_byte xs ≡ true → list_all (λ c. allows (print c)) xs ≡ true
-      → 0 < rule.limit → AtRest r new → t1 ≡ t0 ++ xs
+      → IsAdmittedText allows xs → 4 ≤ rule.limit → AtRest r new → t1 ≡ t0 ++ xs
       → GrowsBy V rule r xs t0 t1 new
-  text_grows r xs t0 t1 new e h a l at k =
+  text_grows r xs t0 t1 new e h l at k =
       subst (λ z. GrowsBy V rule z xs t0 t1 new) (sym e)
-      (let stays = text_stays xs h a l in (
+      (let stays = admitted_stays rule.by_lines rule.limit allows l xs h in (
         subst (λ z. AtRest z new) (e ∙ sym stays.0) at,
         (xs, stays.1 ∙ ap (λ z. z ++ xs) (sym (rest_none rule.limit)), k),
       ))

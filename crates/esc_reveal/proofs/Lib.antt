@@ -2,10 +2,14 @@ pub mod Begins
 pub mod Cutting
 pub mod Feeding
 pub mod Ground
+pub mod Judging
 pub mod Longer
 pub mod Means
 pub mod Parts
+pub mod Plain
+pub mod Quiet
 pub mod Reading
 pub mod Showing
 pub mod Shows
+pub mod Texts
 pub mod Through

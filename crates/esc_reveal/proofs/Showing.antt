@@ -1,5 +1,5 @@
 -- Visible text of bytes that come one after another.
-use Rattle.std.proofs.Common.{ℕ, ◌≡◌, ◌+◌, Bool, true, false, nat_le, List, [], ◌∷◌, ◌++◌, length, length-append, arith, refl, ap, sym, ◌∙◌, append_assoc}
+use Rattle.std.proofs.Common.{ℕ, ◌≡◌, ◌+◌, ◌<◌, ◌≤◌, Bool, true, false, nat_le, List, [], ◌∷◌, ◌++◌, length, length-append, arith, refl, ap, sym, ◌∙◌, subst, append_assoc}
 use Rattle.std.proofs.lemmas.Bool.Decides.{nat_tests}
 use Rattle.std.proofs.lemmas.List.{append-nil}
 use Rattle.esc_frame.specs.Machine.Prefixes.{prefix_of}
@@ -31,6 +31,27 @@ longer_over limit b r h = by_length (length r) (length (r ++ b ∷ [])) h (lengt
   where
     by_length : (n m : ℕ) → nat_le n limit ≡ false → m ≡ n + 1 → nat_le m limit ≡ false
     by_length n m h e = grind (arith, nat_tests)
+
+pub over_more : (limit : ℕ) (r x : List ℕ) → nat_le (length r) limit ≡ false
+    → nat_le (length (r ++ x)) limit ≡ false
+over_more limit r x h = by_length (length r) (length (r ++ x)) h (length-append r x)
+  where
+    by_length : (n m : ℕ) → nat_le n limit ≡ false → m ≡ n + length x → nat_le m limit ≡ false
+    by_length n m h e = grind (arith, nat_tests)
+
+long_over : (limit : ℕ) (r x : List ℕ) → limit < length r + length x
+    → nat_le (length (r ++ x)) limit ≡ false
+long_over limit r x h = by_length (length (r ++ x)) (omega (arith, h, length-append r x))
+  where
+    by_length : (n : ℕ) → limit < n → nat_le n limit ≡ false
+    by_length n l = grind (arith, nat_tests)
+
+short_within : (limit : ℕ) (r x : List ℕ) → length r + length x ≤ limit
+    → nat_le (length (r ++ x)) limit ≡ true
+short_within limit r x h = by_length (length (r ++ x)) (omega (arith, h, length-append r x))
+  where
+    by_length : (n : ℕ) → n ≤ limit → nat_le n limit ≡ true
+    by_length n l = grind (arith, nat_tests)
 
 -- ---- what is written of a rest
 
@@ -72,24 +93,64 @@ module _ {A : Type 0} (limit : ℕ) (r : List ℕ) (k : Kept A) (t0 t1 : List �
     e ∙ ap (λ p. t0 ++ p) (whole_by k.is_over h l),
   )
 
-  module _ (b : ℕ) (new : Kept A) where
-    abbrev f : List ℕ
-    f = prefix_of k.begun
-
-    pub pushes_over : KeepsBy limit r k true
-        → prefix_of new.begun ≡ next_begun f b (outcome f b)
-        → t1 ≡ t0 ++ next_text f b (outcome f b)
-        → KeepsBy limit (r ++ b ∷ []) new true
-        × Grows t0 t1 (rest_text limit r) (rest_text limit (r ++ b ∷ []))
-    pushes_over h p e =
+  module _ (x : List ℕ) (new : Kept A) where
+    pub extends_over : KeepsBy limit r k true
+        → prefix_of new.begun ≡ begun_after (prefix_of k.begun) x
+        → t1 ≡ t0 ++ settled (prefix_of k.begun) x
+        → KeepsBy limit (r ++ x) new true
+        × Grows t0 t1 (rest_text limit r) (rest_text limit (r ++ x))
+    extends_over h p e =
         let g = begun_after [] r in
-        let over = longer_over limit b r h.0 in (
-          (over, p ∙ ap (λ x. next_begun x b (outcome x b)) h.1 ∙ sym (begun_append [] r (b ∷ []))),
+        let over = over_more limit r x h.0 in (
+          (over, p ∙ ap (λ f. begun_after f x) h.1 ∙ sym (begun_append [] r x)),
           (
-            next_text g b (outcome g b),
-            rest_over limit (r ++ b ∷ []) over ∙ settled_append [] r (b ∷ [])
-                ∙ ap (λ x. settled [] r ++ x) (append-nil (next_text g b (outcome g b)))
-                ∙ ap (λ x. x ++ next_text g b (outcome g b)) (sym (rest_over limit r h.0)),
-            e ∙ ap (λ x. t0 ++ next_text x b (outcome x b)) h.1,
+            settled g x,
+            rest_over limit (r ++ x) over ∙ settled_append [] r x
+                ∙ ap (λ t. t ++ settled g x) (sym (rest_over limit r h.0)),
+            e ∙ ap (λ f. t0 ++ settled f x) h.1,
           ),
         )
+
+    -- where they were kept whole, and are not any more
+    pub overflows : Keeps limit r k → k.is_over ≡ false → limit < length r + length x
+        → (f tm : List ℕ) → f ≡ begun_after [] k.piece.items
+        → prefix_of new.begun ≡ begun_after f x
+        → tm ≡ t0 ++ settled [] k.piece.items → t1 ≡ tm ++ settled f x
+        → KeepsBy limit (r ++ x) new true
+        × Grows t0 t1 (rest_text limit r) (rest_text limit (r ++ x))
+    overflows h kept long f tm begun p d e =
+        let q = subst (KeepsBy limit r k) kept h in
+        let over = long_over limit r x long in
+        let g = begun_after [] r in
+        let same : f ≡ g = begun ∙ ap (begun_after []) q.1 in (
+          (over, p ∙ ap (λ y. begun_after y x) same ∙ sym (begun_append [] r x)),
+          (
+            settled [] (r ++ x),
+            rest_over limit (r ++ x) over
+                ∙ ap (λ t. t ++ settled [] (r ++ x)) (sym (rest_whole limit r q.0)),
+            e ∙ ap (λ y. tm ++ settled y x) same
+                ∙ ap (λ t. t ++ settled g x) (d ∙ ap (λ y. t0 ++ settled [] y) q.1)
+                ∙ append_assoc t0 (settled [] r) (settled g x)
+                ∙ ap (λ t. t0 ++ t) (sym (settled_append [] r x)),
+          ),
+        )
+
+    -- where they are kept whole
+    pub extends_whole : KeepsBy limit r k false → length k.piece.items + length x ≤ limit
+        → new.piece.items ≡ k.piece.items ++ x
+        → KeepsBy limit (r ++ x) new false
+        × Grows t0 t0 (rest_text limit r) (rest_text limit (r ++ x))
+    extends_whole h few e =
+        let room = short_within limit r x (subst (λ y. length y + length x ≤ limit) h.1 few) in (
+          (room, e ∙ ap (λ y. y ++ x) h.1),
+          (
+            [],
+            rest_whole limit (r ++ x) room ∙ ap (λ y. y ++ []) (sym (rest_whole limit r h.0)),
+            sym (append-nil t0),
+          ),
+        )
+
+    -- the count of the bytes that are kept
+    pub long_of : KeepsBy limit r k false → limit < length k.piece.items + length x
+        → limit < length r + length x
+    long_of h l = subst (λ y. limit < length y + length x) h.1 l

@@ -3,7 +3,6 @@ use Rattle.std.specs.Prelude.{ℕ, ◌≡◌, Bool, false, if◌then◌else◌, 
 use Rattle.esc_filter.specs.declared.admit.Admit.{Ghosts as Admitter}
 use Rattle.esc_frame.specs.Stream.{LeadsToWithin}
 use Rattle.esc_reveal.specs.Grown.{Grows, Keeps}
-use Rattle.esc_reveal.specs.Judged.{IsReady}
 use Rattle.esc_reveal.specs.Pieces.{rest, rest_after}
 use Rattle.esc_reveal.specs.Revealed.{is_kept, revealed, revealed_after, revealed_whole}
 use Rattle.esc_reveal.specs.Visible.{rest_text, visible}
@@ -27,8 +26,13 @@ added_by f = f.text.items
 -- r is what is unfinished of a piece
 pub record AtRest {P A : Type 0} (r : List ℕ) (f : Reveal P A) : Type 0 where
   pub unfailed : f.has_failed ≡ false
-  pub framed : LeadsToWithin (Some 0) r f.framer
-  pub ready : IsReady f.rule.limit f.parser
+  pub framed : LeadsToWithin (Some f.rule.limit) r f.framer
+  pub kept : Keeps f.rule.limit r f.kept
+
+-- r is what is unfinished of a piece, and x came after it, which is framed and not kept yet
+pub record IsFramed {P A : Type 0} (r x : List ℕ) (f : Reveal P A) : Type 0 where
+  pub unfailed : f.has_failed ≡ false
+  pub framed : LeadsToWithin (Some f.rule.limit) (r ++ x) f.framer
   pub kept : Keeps f.rule.limit r f.kept
 
 -- it was fed this stream

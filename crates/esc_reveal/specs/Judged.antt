@@ -1,11 +1,21 @@
 -- What a judge of actions knows.
-use Rattle.std.specs.Prelude.{ℕ, Bool, true, ◌&&◌, List, Some}
+use Rattle.std.specs.Prelude.{ℕ, ◌≡◌, ◌<◌, Bool, true, false, ◌&&◌, List, [], ◌∷◌, Some, take}
+use Rattle.esc_actions.specs.Meaning.{meaning_within, mode_from}
 use Rattle.esc_actions.specs.Texts.{is_string}
-use Rattle.esc_actions.specs.Values.{Value}
-use Rattle.esc_parse.specs.Fed.{WasFedWithin}
-use Rattle.esc_parse.specs.declared.parser.Parser.{Parser}
+use Rattle.esc_actions.specs.Values.{Value, plain}
+use Rattle.esc_filter.specs.declared.admit.Admit.{Ghosts as Admitter}
+use Rattle.esc_frame.specs.Stream.{LeadsToWithin, events_within}
+use Rattle.esc_frame.specs.declared.parser.VTParser.{VTParser}
+use Rattle.esc_parse.specs.Fed.{Hooks}
+use Rattle.esc_parse.specs.declared.performer.Performer.{Performer}
+use Rattle.esc_reveal.specs.Pieces.{is_at_ground}
 use Rattle.esc_reveal.specs.Revealed.{goes_through}
+use Rattle.esc_reveal.specs.declared.judge.Judge.{Judge}
 use Rattle.esc_reveal.specs.declared.judge.Verdict.{Verdict}
+
+-- what is known of no action
+abbrev pub begun : Verdict
+begun = record { some = false; all = true; follows = false }
 
 -- what is known after one more
 abbrev pub judged : {A : Type 0} → (Value A → Bool) → Verdict → Value A → Verdict
@@ -15,6 +25,25 @@ judged admits k v = record {
   follows = is_string v;
 }
 
--- the parser, of this limit, has not failed
-abbrev pub IsReady : {A : Type 0} → ℕ → Parser A → Type 0
-IsReady limit p = (s : List ℕ) × WasFedWithin (Some limit) s p
+-- and after some more, which pass or do not, the last of which is a string or is not
+abbrev pub noted : Bool → Bool → Verdict → Verdict
+noted passes is_string k = record { some = true; all = k.all && passes; follows = is_string }
+
+-- and after these, one after another
+abbrev pub folded : {A : Type 0} → (Value A → Bool) → Verdict → List (Value A) → Verdict
+folded admits k [] = k
+folded admits k (v ∷ vs) = folded admits (judged admits k v) vs
+
+-- Both were fed this stream, which begins where the judge knew of no action: it knows of what the
+-- stream means.
+pub record HasJudged {P A : Type 0} (V : Admitter P A) (limit : ℕ) (s : List ℕ)
+    (framer : VTParser A) (performer : Performer (Judge P) A) : Type 0 where
+  pub framed : LeadsToWithin (Some limit) s framer
+  pub hooked : Hooks (Some limit) performer.unfinished
+      (mode_from plain (events_within (Some limit) s))
+  pub judged : performer.sink.verdict
+      ≡ folded (V.admits performer.sink.policy.now) begun (meaning_within (Some limit) s)
+
+-- a segment is unfinished after each shorter prefix
+abbrev pub IsQuietTo : ℕ → List ℕ → Type 0
+IsQuietTo n s = (k : ℕ) → 0 < k → k < n → is_at_ground (take k s) ≡ false

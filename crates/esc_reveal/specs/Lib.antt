@@ -5,5 +5,6 @@ pub mod Judged
 pub mod Pieces
 pub mod ReadBack
 pub mod Revealed
+pub mod Runs
 pub mod Through
 pub mod Visible

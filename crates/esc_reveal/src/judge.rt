@@ -1,7 +1,9 @@
 //! Whether a piece of a stream is kept.
-ghost use Rattle.std.specs.Prelude.{◌≡◌, ◌&&◌, IfOk, OnErr, Some, ℕ, false};
-ghost use Rattle.esc_actions.specs.Values.{Value, value_of};
-ghost use Rattle.esc_reveal.specs.Judged.{IsReady, judged};
+ghost use Rattle.std.specs.Prelude.{◌≡◌, ◌&&◌, ◌++◌, ◌<◌, ◌≤◌, ℕ, List, [], IfOk, OnErr, OnOk, Some, false, length, take};
+ghost use Rattle.esc_actions.specs.Values.{Value, plain, value_of};
+ghost use Rattle.esc_frame.specs.Stream.{IsQuietWithin, LeadsToWithin};
+ghost use Rattle.esc_parse.specs.Fed.{Hooks};
+ghost use Rattle.esc_reveal.specs.Judged.{HasJudged, IsQuietTo, begun, folded, judged, noted};
 ghost use Rattle.esc_reveal.specs.Revealed.{are_kept};
 ghost use Rattle.esc_reveal.specs.Whole.{is_whole};
 ghost use Rattle.esc_actions.specs.Meaning.{meaning_within};
@@ -10,7 +12,11 @@ ghost use Rattle.memory.specs.Refusals.{Refused};
 use crate::whole::is_whole;
 use esc_actions::Action;
 use esc_filter::{Admit, passes};
-use esc_parse::{Parser, Sink};
+use esc_frame::VTParser;
+use esc_parse::Sink;
+use esc_parse::performer::Performer;
+use esc_parse::unfinished::Unfinished;
+use esc_values::CsiParam;
 use std::alloc::{AllocError, Allocator};
 
 /// What is known of the actions so far.
@@ -22,6 +28,37 @@ pub(crate) struct Verdict {
     pub all: bool,
     /// Whether the last one is a string.
     pub follows: bool,
+}
+
+impl Verdict {
+    // Of no action.
+    fn begun() -> Verdict
+        ensures { result ≡ begun }
+    {
+        Verdict {
+            some: false,
+            all: true,
+            follows: false,
+        }
+    }
+
+    // Of more of them, which pass or do not, the last of which is a string or is not.
+    fn with(self, passes: bool, is_string: bool) -> Verdict
+        ensures { result ≡ noted passes is_string self }
+    {
+        Verdict {
+            some: true,
+            all: self.all && passes,
+            follows: is_string,
+        }
+    }
+
+    // Whether a piece with these actions may stay.
+    fn keeps(self) -> bool
+        ensures { result ≡ (self.some && self.all) }
+    {
+        self.some && self.all
+    }
 }
 
 /// Asks a policy of each action.
@@ -53,51 +90,160 @@ impl<'p, P: Admit<A>, A: Allocator> Sink<Action<A>> for Judge<'p, P> {
         };
         Ok(())
     }
+
+    // Each passes, or none does, so none is made.
+    fn receive_sequence(
+        &mut self,
+        params: &[CsiParam],
+        parameters_truncated: bool,
+        control: u8,
+    ) -> Result<bool, AllocError> {
+        if parameters_truncated {
+            return Ok(false);
+        }
+        let Some(passes) = self.policy.admits_sequence(params, control) else {
+            return Ok(false);
+        };
+        self.verdict = self.verdict.with(passes, false);
+        Ok(true)
+    }
+
+    // The same of a command.
+    fn receive_command(&mut self, text: &[u8]) -> Result<bool, AllocError> {
+        let Some(passes) = self.policy.admits_command(text) else {
+            return Ok(false);
+        };
+        self.verdict = self.verdict.with(passes, true);
+        Ok(true)
+    }
 }
 
-/// Whether all of the piece is of segments that mean something, and each value that it means goes
-/// through. The parser begins anew.
-pub(crate) fn stays_whole<P: Admit<A>, A: Allocator + Copy>(
-    parser: &mut Parser<A>,
+// What asks this policy of actions, of which it was given none.
+fn unasked<P, A: Allocator + Copy>(alloc: A, policy: &P, limit: usize) -> Performer<Judge<'_, P>, A>
+    ensures hooks { Hooks (Some limit) result.unfinished plain }
+    ensures verdict { result.sink.verdict ≡ begun }
+    ensures policy { result.sink.policy.now ≡ policy.now }
+{
+    Performer {
+        sink: Judge {
+            verdict: Verdict::begun(),
+            policy,
+        },
+        alloc,
+        unfinished: Unfinished::new(Some(limit)),
+    }
+}
+
+/// Frames the bytes that come first, where no segment is unfinished, up to the end of a piece or to
+/// the last byte, and asks the policy of what they mean. It returns how many they are, and whether
+/// they mean something, all of which passes.
+pub(crate) fn judge_piece<P: Admit<A>, A: Allocator + Copy>(
+    alloc: A,
+    framer: &mut VTParser<A>,
     policy: &P,
+    limit: usize,
+    bytes: &[u8],
+) -> Result<(usize, bool), AllocError>
+    requires { 0 < length bytes.now }
+    ensures count { IfOk result (λ x. (0 < x.0) × (x.0 ≤ length bytes.now)) }
+    ensures framed { LeadsToWithin (Some limit) [] framer.old → IfOk result
+        (λ x. LeadsToWithin (Some limit) (take x.0 bytes.now) framer.new
+        × IsQuietTo x.0 bytes.now) }
+    ensures judged { LeadsToWithin (Some limit) [] framer.old → IfOk result (λ x. x.1
+        ≡ are_kept (P.admits policy.now) (meaning_within (Some limit) (take x.0 bytes.now))) }
+    ensures refused { LeadsToWithin (Some limit) [] framer.old → OnErr result (Refused A) }
+{
+    let mut performer = unasked(alloc, policy, limit);
+    let mut at = 0;
+    while at < bytes.len() {
+        let n = judge_some(framer, &mut performer, &bytes[at..])?;
+        at += n;
+        if framer.is_ground() {
+            return Ok((at, performer.sink.verdict.keeps()));
+        }
+    }
+    Ok((at, performer.sink.verdict.keeps()))
+}
+
+// Frames some of these bytes, one at least.
+fn judge_some<P: Admit<A>, A: Allocator + Copy>(
+    framer: &mut VTParser<A>,
+    performer: &mut Performer<Judge<'_, P>, A>,
+    bytes: &[u8],
+) -> Result<usize, AllocError>
+    requires { 0 < length bytes.now }
+    ensures count { IfOk result (λ n. (0 < n) × (n ≤ length bytes.now)) }
+    ensures given { (limit : ℕ) (s : List ℕ)
+        → HasJudged P.Admit limit s framer.old performer.old → IfOk result
+        (λ n. HasJudged P.Admit limit (s ++ take n bytes.now) framer.new performer.new
+        × (performer.new.sink.policy.now ≡ performer.old.sink.policy.now)
+        × IsQuietWithin (Some limit) s bytes.now n) }
+    ensures refused { (limit : ℕ) (s : List ℕ)
+        → HasJudged P.Admit limit s framer.old performer.old → OnErr result (Refused A) }
+{
+    match framer.parse_some(bytes, performer) {
+        Ok(n) => Ok(n),
+        Err(_) => Err(AllocError),
+    }
+}
+
+// Frames these bytes.
+fn judge_all<P: Admit<A>, A: Allocator + Copy>(
+    framer: &mut VTParser<A>,
+    performer: &mut Performer<Judge<'_, P>, A>,
+    bytes: &[u8],
+) -> Result<(), AllocError>
+    ensures given { (limit : ℕ) (s : List ℕ)
+        → HasJudged P.Admit limit s framer.old performer.old → OnOk result
+        (HasJudged P.Admit limit (s ++ bytes.now) framer.new performer.new
+        × (performer.new.sink.policy.now ≡ performer.old.sink.policy.now)) }
+    ensures refused { (limit : ℕ) (s : List ℕ)
+        → HasJudged P.Admit limit s framer.old performer.old → OnErr result (Refused A) }
+{
+    match framer.parse(bytes, performer) {
+        Ok(()) => Ok(()),
+        Err(_) => Err(AllocError),
+    }
+}
+
+/// Whether the piece, which the framer was fed, stays: all of it is of segments that mean
+/// something, and each value that it means goes through. The framer was fed it again.
+pub(crate) fn stays_whole<P: Admit<A>, A: Allocator + Copy>(
+    alloc: A,
+    framer: &mut VTParser<A>,
+    policy: &P,
+    limit: usize,
     piece: &[u8],
 ) -> Result<bool, AllocError>
-    ensures kept { (limit : ℕ) → IsReady limit parser.old
-        → IfOk result (λ k. IsReady limit parser.new
-        × (k ≡ (is_whole piece.now
+    ensures kept { LeadsToWithin (Some limit) piece.now framer.old → IfOk result
+        (λ k. LeadsToWithin (Some limit) piece.now framer.new × (k ≡ (is_whole piece.now
         && are_kept (P.admits policy.now) (meaning_within (Some limit) piece.now)))) }
-    ensures refused { (limit : ℕ) → IsReady limit parser.old → OnErr result (Refused A) }
+    ensures refused { LeadsToWithin (Some limit) piece.now framer.old
+        → OnErr result (Refused A) }
 {
     if is_whole(piece) {
-        stays(parser, policy, piece)
+        stays(alloc, framer, policy, limit, piece)
     } else {
         Ok(false)
     }
 }
 
-// Whether the piece means values, and each of them goes through. The parser begins anew.
+// Whether the piece means values, and each of them goes through.
 fn stays<P: Admit<A>, A: Allocator + Copy>(
-    parser: &mut Parser<A>,
+    alloc: A,
+    framer: &mut VTParser<A>,
     policy: &P,
+    limit: usize,
     piece: &[u8],
 ) -> Result<bool, AllocError>
-    ensures kept { (limit : ℕ) → IsReady limit parser.old
-        → IfOk result (λ k. IsReady limit parser.new
+    ensures kept { LeadsToWithin (Some limit) piece.now framer.old → IfOk result
+        (λ k. LeadsToWithin (Some limit) piece.now framer.new
         × (k ≡ are_kept (P.admits policy.now) (meaning_within (Some limit) piece.now))) }
-    ensures refused { (limit : ℕ) → IsReady limit parser.old → OnErr result (Refused A) }
+    ensures refused { LeadsToWithin (Some limit) piece.now framer.old
+        → OnErr result (Refused A) }
 {
-    parser.restart();
-    let judge = Judge {
-        verdict: Verdict {
-            some: false,
-            all: true,
-            follows: false,
-        },
-        policy,
-    };
-    let (result, Judge { verdict, policy: _ }) = parser.parse_into(piece, judge);
-    match result {
-        Ok(()) => Ok(verdict.some && verdict.all),
-        Err(_) => Err(AllocError),
-    }
+    framer.restart();
+    let mut performer = unasked(alloc, policy, limit);
+    judge_all(framer, &mut performer, piece)?;
+    Ok(performer.sink.verdict.keeps())
 }

@@ -1,10 +1,11 @@
 //! What is kept of a piece that has not ended.
-ghost use Rattle.std.specs.Prelude.{◌≡◌, ◌++◌, ◌∷◌, ◌≤◌, ◌↔◌, ℕ, List, [], length, nat_le, true, false, IsTrue, MatchOption, OnErr, OnOk};
+ghost use Rattle.std.specs.Prelude.{◌<◌, ◌+◌, ◌≡◌, ◌++◌, ◌∷◌, ◌≤◌, ◌↔◌, ℕ, List, [], length, nat_le, true, false, IsTrue, MatchOption, OnErr, OnOk};
 ghost use Rattle.esc_reveal.specs.Grown.{Grows, Keeps};
 ghost use Rattle.esc_reveal.specs.Visible.{rest_text, visible};
 ghost use Rattle.memory.specs.Refusals.{Refused};
 
-use crate::visible::{push_next, push_settled, push_stray, push_visible};
+use crate::shown::{push_runs, push_shown};
+use crate::visible::push_stray;
 use esc_frame::utf8::sequence::Pending;
 use std::alloc::{AllocError, Allocator, Global};
 
@@ -37,23 +38,42 @@ impl<A: Allocator> Kept<A> {
         !self.is_over && self.piece.is_empty()
     }
 
-    /// Takes a byte more. Of a piece that is longer than the limit now it is shown at once.
-    pub fn push(&mut self, limit: usize, byte: u8, text: &mut Vec<u8, A>) -> Result<(), AllocError>
+    /// Takes bytes more. Of a piece that is longer than the limit now they are shown at once.
+    pub fn extend(
+        &mut self,
+        limit: usize,
+        bytes: &[u8],
+        text: &mut Vec<u8, A>,
+    ) -> Result<(), AllocError>
         ensures given { (r : List ℕ) → Keeps limit r self.old → OnOk result
-            (Keeps limit (r ++ byte ∷ []) self.new
+            (Keeps limit (r ++ bytes.now) self.new
             × Grows text.old.items text.new.items (rest_text limit r)
-            (rest_text limit (r ++ byte ∷ []))) }
+            (rest_text limit (r ++ bytes.now))) }
         ensures refused { OnErr result (Refused A) }
     {
         if self.is_over {
-            self.begun = push_next(text, self.begun, byte)?;
+            self.begun = push_runs(text, self.begun, bytes)?;
             return Ok(());
         }
-        memory::push(&mut self.piece, byte)?;
-        if self.piece.len() <= limit {
-            return Ok(());
+        let length = self.piece.len() + bytes.len();
+        if length <= limit {
+            return memory::extend(&mut self.piece, bytes);
         }
-        self.begun = push_settled(text, Pending::Nothing, &self.piece)?;
+        self.overflow(bytes, text)
+    }
+
+    // Takes bytes with which the piece is longer than the limit.
+    fn overflow(&mut self, bytes: &[u8], text: &mut Vec<u8, A>) -> Result<(), AllocError>
+        requires { self.old.is_over ≡ false }
+        ensures given { (limit : ℕ) (r : List ℕ) → Keeps limit r self.old
+            → limit < length r + length bytes.now → OnOk result
+            (Keeps limit (r ++ bytes.now) self.new
+            × Grows text.old.items text.new.items (rest_text limit r)
+            (rest_text limit (r ++ bytes.now))) }
+        ensures refused { OnErr result (Refused A) }
+    {
+        let begun = push_runs(text, Pending::Nothing, &self.piece)?;
+        self.begun = push_runs(text, begun, bytes)?;
         self.is_over = true;
         self.piece.clear();
         Ok(())
@@ -84,7 +104,7 @@ impl<A: Allocator> Kept<A> {
             self.clear();
             return Ok(());
         }
-        push_visible(text, &self.piece)?;
+        push_shown(text, &self.piece)?;
         self.clear();
         Ok(())
     }

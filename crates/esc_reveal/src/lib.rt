@@ -10,7 +10,9 @@ mod kept;
 mod laws;
 mod reveal;
 mod revealing;
+mod shown;
 mod silent;
+mod text;
 mod visible;
 mod whole;
 

@@ -1,21 +1,26 @@
 //! A stream in which what is not admitted is shown.
-ghost use Rattle.std.specs.Prelude.{◌≡◌, is_ok, ◌++◌, ◌∷◌, ◌<◌, ◌≤◌, ◌&&◌, ℕ, List, [], OnErr, OnOk, length, IfOk, IsTrue, nat_le, true, false};
-ghost use Rattle.std.specs.List.{list_all};
-ghost use Rattle.esc_actions.specs.Values.{print};
+ghost use Rattle.std.specs.Prelude.{◌≡◌, is_ok, ◌++◌, ◌∷◌, ◌<◌, ◌≤◌, ◌&&◌, ℕ, List, [], OnErr, OnOk, length, take, slice_index, IfOk, Some, nat_le, true, false};
+ghost use Rattle.esc_actions.specs.Meaning.{meaning_within};
 ghost use Rattle.esc_filter.specs.Lines.{is_line_feed};
-ghost use Rattle.esc_frame.specs.Scans.{is_text_byte};
-ghost use Rattle.esc_reveal.specs.Pieces.{is_at_ground};
-ghost use Rattle.esc_reveal.specs.Revealed.{is_kept};
+ghost use Rattle.esc_reveal.specs.Revealed.{are_kept, is_kept};
+ghost use Rattle.esc_reveal.specs.Runs.{IsAdmittedText, IsPart, has_line_end};
 ghost use Rattle.esc_reveal.specs.Visible.{rest_text, visible};
+ghost use Rattle.esc_reveal.specs.declared.reveal.TheConstants.{MOST_BYTES};
 ghost use Rattle.memory.specs.Refusals.{Refused};
 
-use crate::judge::stays_whole;
+use crate::judge::{judge_piece, stays_whole};
 use crate::kept::Kept;
-use crate::silent::Silent;
+use crate::shown::push_shown;
+use crate::silent::frame_some;
+use crate::text::admitted_run;
+use crate::whole::may_stay;
 use esc_filter::Admit;
-use esc_frame::{VTParser, ascii_run};
-use esc_parse::Parser;
+use esc_frame::VTParser;
+use memchr::memchr;
 use std::alloc::{AllocError, Allocator, Global};
+
+// How many bytes a character has at most.
+const MOST_BYTES: usize = 4;
 
 /// What is kept of a stream: how long a piece may be, whether a line feed ends one, and what is
 /// admitted.
@@ -40,12 +45,13 @@ pub(crate) struct Rule<P> {
 /// that has not ended. Where `by_lines`, a line feed always ends a piece: it stays, and what was
 /// unfinished before it is shown.
 ///
-/// Of the stream it keeps the piece that has not ended, at most the limit.
+/// Of the stream it keeps the piece that has not ended, at most the limit, and what a
+/// [`VTParser`](esc_frame::VTParser) of this limit keeps of a segment that has not ended.
 #[derive(Drop)]
 pub struct Reveal<P, A: Allocator = Global> {
     rule: Rule<P>,
     framer: VTParser<A>,
-    parser: Parser<A>,
+    alloc: A,
     kept: Kept<A>,
     // what the last call added
     text: Vec<u8, A>,
@@ -53,7 +59,7 @@ pub struct Reveal<P, A: Allocator = Global> {
 }
 
 impl<P: Admit<A>, A: Allocator + Copy> Reveal<P, A> {
-    ghost use Rattle.esc_reveal.specs.Fed.{AddsTo, AtRest, EndsAs, GrowsTo, Holds, WasFed, added_by, by_lines_of, closed_text, limit_of, policy_of};
+    ghost use Rattle.esc_reveal.specs.Fed.{AddsTo, AtRest, EndsAs, GrowsTo, Holds, IsFramed, WasFed, added_by, by_lines_of, closed_text, limit_of, policy_of};
 
     /// One at the beginning of a stream, of which a piece of at most `limit` bytes is kept. Takes
     /// no memory.
@@ -69,8 +75,8 @@ impl<P: Admit<A>, A: Allocator + Copy> Reveal<P, A> {
                 limit,
                 by_lines,
             },
-            framer: VTParser::with_limit(alloc, 0),
-            parser: Parser::with_limit(alloc, limit),
+            framer: VTParser::with_limit(alloc, limit),
+            alloc,
             kept: Kept::new(alloc),
             text: Vec::new(alloc),
             has_failed: false,
@@ -151,98 +157,171 @@ impl<P: Admit<A>, A: Allocator + Copy> Reveal<P, A> {
         let mut at = 0;
         while at < bytes.len() {
             let rest = &bytes[at..];
-            let run = self.run(rest);
-            match self.take_run(&rest[..run]) {
-                Ok(()) => at += run,
-                Err(e) => return Err(e),
-            }
+            let n = self.take_line(rest)?;
+            at += n;
         }
         Ok(())
     }
 
-    // How many bytes come first that are taken at once: where no segment is unfinished, characters
-    // of ASCII; else one byte.
-    fn run(&self, bytes: &[u8]) -> usize
+    // Takes the bytes before the first line feed that ends a piece, or this line feed, where it
+    // comes first, and returns how many they are.
+    fn take_line(&mut self, bytes: &[u8]) -> Result<usize, AllocError>
         requires { 0 < length bytes.now }
-        ensures some { 0 < result }
-        ensures within { result ≤ length bytes.now }
-    {
-        if !self.kept.is_empty() {
-            return 1;
-        }
-        let run = ascii_run(bytes);
-        if run > 0 { run } else { 1 }
-    }
-
-    // Takes a run: all at once, where it is text that passes and no segment is unfinished.
-    fn take_run(&mut self, run: &[u8]) -> Result<(), AllocError>
-        ensures given { (r : List ℕ) → AtRest r self.old → OnOk result
-            (GrowsTo P.Admit r run.now self.old self.new) }
+        ensures count { IfOk result (λ n. (0 < n) × (n ≤ length bytes.now)) }
+        ensures given { (r : List ℕ) → AtRest r self.old → IfOk result
+            (λ n. GrowsTo P.Admit r (take n bytes.now) self.old self.new) }
         ensures rule { self.new.rule ≡ self.old.rule }
         ensures refused { (r : List ℕ) → AtRest r self.old → OnErr result (Refused A) }
     {
-        if self.passes(run) {
-            memory::extend(&mut self.text, run)
-        } else {
-            self.take_each(run)
+        let run = self.open_run(bytes);
+        if run == 0 {
+            self.end_line(bytes[0])?;
+            return Ok(1);
         }
+        self.take_open(&bytes[..run])?;
+        Ok(run)
     }
 
-    // Whether it does.
-    fn passes(&self, run: &[u8]) -> bool
-        ensures empty { IsTrue result → (r : List ℕ) → AtRest r self.now → r ≡ [] }
-        ensures text { IsTrue result → list_all is_text_byte run.now ≡ true }
-        ensures limit { IsTrue result → 0 < limit_of self.now }
-        ensures admitted { IsTrue result → list_all
-            (λ c. P.admits (policy_of self.now) (print c)) run.now ≡ true }
+    // How many bytes come before the first line feed that ends a piece.
+    fn open_run(&self, bytes: &[u8]) -> usize
+        ensures few { result ≤ length bytes.now }
+        ensures lineless { has_line_end (by_lines_of self.now) (take result bytes.now) ≡ false }
+        ensures ends { result ≡ 0 → 0 < length bytes.now
+            → (by_lines_of self.now && is_line_feed (slice_index bytes.now 0)) ≡ true }
     {
-        if !self.kept.is_empty() {
-            return false;
+        if !self.rule.by_lines {
+            return bytes.len();
         }
-        if self.rule.limit == 0 || !is_text(run) {
-            return false;
+        match memchr(b'\n', bytes) {
+            Some(at) => at,
+            None => bytes.len(),
         }
-        self.rule.policy.admits_text(run)
     }
 
-    // Takes these bytes, one after another.
-    fn take_each(&mut self, bytes: &[u8]) -> Result<(), AllocError>
+    // Takes these bytes, none of which is a line feed that ends a piece.
+    fn take_open(&mut self, bytes: &[u8]) -> Result<(), AllocError>
+        requires { has_line_end (by_lines_of self.old) bytes.now ≡ false }
         ensures given { (r : List ℕ) → AtRest r self.old → OnOk result
             (GrowsTo P.Admit r bytes.now self.old self.new) }
         ensures rule { self.new.rule ≡ self.old.rule }
         ensures refused { (r : List ℕ) → AtRest r self.old → OnErr result (Refused A) }
     {
-        for b in bytes {
-            match self.take_byte(*b) {
-                Ok(()) => {}
-                Err(e) => return Err(e),
-            }
+        let mut at = 0;
+        while at < bytes.len() {
+            let rest = &bytes[at..];
+            let n = self.take_some(rest)?;
+            at += n;
         }
         Ok(())
     }
 
-    // Takes one byte.
-    fn take_byte(&mut self, byte: u8) -> Result<(), AllocError>
-        ensures given { (r : List ℕ) → AtRest r self.old → OnOk result
-            (GrowsTo P.Admit r (byte ∷ []) self.old self.new) }
+    // Takes some of these bytes, and returns how many: a run of text that stays, or those up to the
+    // end of a piece or of an event.
+    fn take_some(&mut self, bytes: &[u8]) -> Result<usize, AllocError>
+        requires some { 0 < length bytes.now }
+        requires lineless { has_line_end (by_lines_of self.old) bytes.now ≡ false }
+        ensures count { IfOk result (λ n. (0 < n) × (n ≤ length bytes.now)) }
+        ensures given { (r : List ℕ) → AtRest r self.old → IfOk result
+            (λ n. GrowsTo P.Admit r (take n bytes.now) self.old self.new) }
         ensures rule { self.new.rule ≡ self.old.rule }
         ensures refused { (r : List ℕ) → AtRest r self.old → OnErr result (Refused A) }
     {
-        if self.is_line_end(byte) {
-            self.end_line(byte)
+        if !self.kept.is_empty() {
+            return self.take_more(bytes);
+        }
+        let run = self.text_run(bytes);
+        if run == 0 {
+            return self.take_first(bytes);
+        }
+        memory::extend(&mut self.text, &bytes[..run])?;
+        Ok(run)
+    }
+
+    // The length of a run of characters that comes first and stays as it is, where no segment is
+    // unfinished; 0 where none is seen at once.
+    fn text_run(&self, bytes: &[u8]) -> usize
+        requires { 0 < length bytes.now }
+        ensures few { result ≤ length bytes.now }
+        ensures limit { 0 < result → MOST_BYTES ≤ limit_of self.now }
+        ensures text { IsAdmittedText (P.admits (policy_of self.now)) (take result bytes.now) }
+    {
+        if self.rule.limit < MOST_BYTES {
+            return 0;
+        }
+        admitted_run(&self.rule.policy, bytes)
+    }
+
+    // Takes bytes up to the end of a piece, or all, where no segment is unfinished, and returns how
+    // many.
+    fn take_first(&mut self, bytes: &[u8]) -> Result<usize, AllocError>
+        requires some { 0 < length bytes.now }
+        requires lineless { has_line_end (by_lines_of self.old) bytes.now ≡ false }
+        ensures count { IfOk result (λ n. (0 < n) × (n ≤ length bytes.now)) }
+        ensures given { AtRest [] self.old → IfOk result
+            (λ n. GrowsTo P.Admit [] (take n bytes.now) self.old self.new) }
+        ensures rule { self.new.rule ≡ self.old.rule }
+        ensures refused { AtRest [] self.old → OnErr result (Refused A) }
+    {
+        let (n, passes) = judge_piece(
+            self.alloc,
+            &mut self.framer,
+            &self.rule.policy,
+            self.rule.limit,
+            bytes,
+        )?;
+        self.put_first(passes, &bytes[..n])?;
+        Ok(n)
+    }
+
+    // Takes these bytes, which were framed and judged: they are a piece, or begin one.
+    fn put_first(&mut self, passes: bool, bytes: &[u8]) -> Result<(), AllocError>
+        ensures given { IsFramed [] bytes.now self.old → IsPart (by_lines_of self.old) [] bytes.now
+            → (passes ≡ are_kept (P.admits (policy_of self.old))
+            (meaning_within (Some (limit_of self.old)) bytes.now)) → OnOk result
+            (GrowsTo P.Admit [] bytes.now self.old self.new) }
+        ensures rule { self.new.rule ≡ self.old.rule }
+        ensures refused { OnErr result (Refused A) }
+    {
+        if !self.framer.is_ground() {
+            return self.kept.extend(self.rule.limit, bytes, &mut self.text);
+        }
+        self.framer.restart();
+        if may_stay(self.rule.limit, passes, bytes) {
+            memory::extend(&mut self.text, bytes)
         } else {
-            self.take_other(byte)
+            push_shown(&mut self.text, bytes)
         }
     }
 
-    // Whether the byte is a line feed that ends a piece.
-    fn is_line_end(&self, byte: u8) -> bool
-        ensures { result ≡ (by_lines_of self.now && is_line_feed byte) }
+    // Takes bytes up to the end of a piece or of an event, and returns how many.
+    fn take_more(&mut self, bytes: &[u8]) -> Result<usize, AllocError>
+        requires some { 0 < length bytes.now }
+        requires lineless { has_line_end (by_lines_of self.old) bytes.now ≡ false }
+        ensures count { IfOk result (λ n. (0 < n) × (n ≤ length bytes.now)) }
+        ensures given { (r : List ℕ) → AtRest r self.old → IfOk result
+            (λ n. GrowsTo P.Admit r (take n bytes.now) self.old self.new) }
+        ensures rule { self.new.rule ≡ self.old.rule }
+        ensures refused { (r : List ℕ) → AtRest r self.old → OnErr result (Refused A) }
     {
-        self.rule.by_lines && byte == b'\n'
+        let n = frame_some(&mut self.framer, bytes)?;
+        self.take_piece(&bytes[..n])?;
+        Ok(n)
     }
 
-    // Takes such a line feed.
+    // Takes these bytes, which were framed: they end a piece, or are a part of it.
+    fn take_piece(&mut self, bytes: &[u8]) -> Result<(), AllocError>
+        ensures given { (r : List ℕ) → IsFramed r bytes.now self.old
+            → IsPart (by_lines_of self.old) r bytes.now → OnOk result
+            (GrowsTo P.Admit r bytes.now self.old self.new) }
+        ensures rule { self.new.rule ≡ self.old.rule }
+        ensures refused { (r : List ℕ) → IsFramed r bytes.now self.old → OnErr result (Refused A) }
+    {
+        let has_ended = self.framer.is_ground();
+        self.kept.extend(self.rule.limit, bytes, &mut self.text)?;
+        if has_ended { self.close() } else { Ok(()) }
+    }
+
+    // Takes a line feed that ends a piece.
     fn end_line(&mut self, byte: u8) -> Result<(), AllocError>
         requires { (by_lines_of self.old && is_line_feed byte) ≡ true }
         ensures given { (r : List ℕ) → AtRest r self.old → OnOk result
@@ -250,45 +329,8 @@ impl<P: Admit<A>, A: Allocator + Copy> Reveal<P, A> {
         ensures rule { self.new.rule ≡ self.old.rule }
         ensures refused { (r : List ℕ) → AtRest r self.old → OnErr result (Refused A) }
     {
-        match self.show() {
-            Ok(()) => memory::extend(&mut self.text, &[byte]),
-            Err(e) => Err(e),
-        }
-    }
-
-    // Takes any other byte.
-    fn take_other(&mut self, byte: u8) -> Result<(), AllocError>
-        requires { (by_lines_of self.old && is_line_feed byte) ≡ false }
-        ensures given { (r : List ℕ) → AtRest r self.old → OnOk result
-            (GrowsTo P.Admit r (byte ∷ []) self.old self.new) }
-        ensures rule { self.new.rule ≡ self.old.rule }
-        ensures refused { (r : List ℕ) → AtRest r self.old → OnErr result (Refused A) }
-    {
-        match self.keep(byte) {
-            Ok(true) => self.close(),
-            Ok(false) => Ok(()),
-            Err(e) => Err(e),
-        }
-    }
-
-    // Keeps one byte more, and returns whether no segment is unfinished after it.
-    fn keep(&mut self, byte: u8) -> Result<bool, AllocError>
-        ensures given { (r : List ℕ) → AtRest r self.old → IfOk result
-            (λ g. (g ≡ is_at_ground (r ++ byte ∷ []))
-            × Holds (r ++ byte ∷ []) (rest_text (limit_of self.old) r)
-            (rest_text (limit_of self.old) (r ++ byte ∷ [])) self.old self.new) }
-        ensures rule { self.new.rule ≡ self.old.rule }
-        ensures refused { (r : List ℕ) → AtRest r self.old → OnErr result (Refused A) }
-    {
-        match self.framer.parse_byte(byte, &mut Silent) {
-            Ok(()) => {}
-            Err(_) => return Err(AllocError),
-        }
-        let is_ground = self.framer.is_ground();
-        match self.kept.push(self.rule.limit, byte, &mut self.text) {
-            Ok(()) => Ok(is_ground),
-            Err(e) => Err(e),
-        }
+        self.show()?;
+        memory::extend(&mut self.text, &[byte])
     }
 
     // Ends a piece that no line feed ends.
@@ -299,10 +341,10 @@ impl<P: Admit<A>, A: Allocator + Copy> Reveal<P, A> {
         ensures rule { self.new.rule ≡ self.old.rule }
         ensures refused { (r : List ℕ) → AtRest r self.old → OnErr result (Refused A) }
     {
-        match self.is_kept() {
-            Ok(true) => self.write(),
-            Ok(false) => self.show(),
-            Err(e) => Err(e),
+        if self.is_kept()? {
+            self.write()
+        } else {
+            self.show()
         }
     }
 
@@ -316,7 +358,13 @@ impl<P: Admit<A>, A: Allocator + Copy> Reveal<P, A> {
         ensures refused { (r : List ℕ) → AtRest r self.old → OnErr result (Refused A) }
     {
         match self.kept.piece() {
-            Some(piece) => stays_whole(&mut self.parser, &self.rule.policy, piece),
+            Some(piece) => stays_whole(
+                self.alloc,
+                &mut self.framer,
+                &self.rule.policy,
+                self.rule.limit,
+                piece,
+            ),
             None => Ok(false),
         }
     }
@@ -343,11 +391,4 @@ impl<P: Admit<A>, A: Allocator + Copy> Reveal<P, A> {
         self.framer.restart();
         self.kept.show(&mut self.text)
     }
-}
-
-// Whether the bytes are characters of ASCII, one byte each.
-fn is_text(bytes: &[u8]) -> bool
-    ensures { IsTrue result → list_all is_text_byte bytes.now ≡ true }
-{
-    ascii_run(bytes) == bytes.len()
 }

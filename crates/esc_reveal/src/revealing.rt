@@ -43,34 +43,18 @@ impl<F: Feeding<A>, P: Admit<A>, A: Allocator + Copy> Feeding<A> for Revealing<F
 
     fn feed_piece(&mut self, bytes: &[u8]) -> Result<(), AllocError> {
         self.text.clear();
-        match self.reveal.feed(bytes) {
-            Ok(()) => {}
-            Err(e) => return Err(e),
-        }
-        match self.filter.feed_piece(self.reveal.added()) {
-            Ok(()) => memory::push_str(&mut self.text, self.filter.added_text()),
-            Err(e) => Err(e),
-        }
+        self.reveal.feed(bytes)?;
+        self.filter.feed_piece(self.reveal.added())?;
+        memory::push_str(&mut self.text, self.filter.added_text())
     }
 
     fn finish_all(&mut self) -> Result<(), AllocError> {
         self.text.clear();
-        match self.reveal.finish() {
-            Ok(()) => {}
-            Err(e) => return Err(e),
-        }
-        match self.filter.feed_piece(self.reveal.added()) {
-            Ok(()) => {}
-            Err(e) => return Err(e),
-        }
-        match memory::push_str(&mut self.text, self.filter.added_text()) {
-            Ok(()) => {}
-            Err(e) => return Err(e),
-        }
-        match self.filter.finish_all() {
-            Ok(()) => memory::push_str(&mut self.text, self.filter.added_text()),
-            Err(e) => Err(e),
-        }
+        self.reveal.finish()?;
+        self.filter.feed_piece(self.reveal.added())?;
+        memory::push_str(&mut self.text, self.filter.added_text())?;
+        self.filter.finish_all()?;
+        memory::push_str(&mut self.text, self.filter.added_text())
     }
 
     fn added_text(&self) -> &str {

@@ -1,7 +1,31 @@
 //! An actor to which all events are nothing.
-use esc_frame::VTActor;
+ghost use Rattle.std.specs.Prelude.{◌++◌, ◌<◌, ◌≤◌, ℕ, List, IfOk, OnErr, Some, length, take};
+ghost use Rattle.esc_frame.specs.Stream.{IsQuietWithin, LeadsToWithin};
+ghost use Rattle.memory.specs.Refusals.{Refused};
+
+use esc_frame::{VTActor, VTParser};
 use esc_values::CsiParam;
-use std::alloc::AllocError;
+use std::alloc::{AllocError, Allocator};
+
+/// Frames some of these bytes, one at least, and returns how many: all but the last leave a segment
+/// unfinished.
+pub(crate) fn frame_some<A: Allocator>(
+    framer: &mut VTParser<A>,
+    bytes: &[u8],
+) -> Result<usize, AllocError>
+    requires { 0 < length bytes.now }
+    ensures count { IfOk result (λ n. (0 < n) × (n ≤ length bytes.now)) }
+    ensures given { (limit : ℕ) (s : List ℕ) → LeadsToWithin (Some limit) s framer.old
+        → IfOk result (λ n. LeadsToWithin (Some limit) (s ++ take n bytes.now) framer.new
+        × IsQuietWithin (Some limit) s bytes.now n) }
+    ensures refused { (limit : ℕ) (s : List ℕ) → LeadsToWithin (Some limit) s framer.old
+        → OnErr result (Refused A) }
+{
+    match framer.parse_some(bytes, &mut Silent) {
+        Ok(n) => Ok(n),
+        Err(_) => Err(AllocError),
+    }
+}
 
 /// Takes each event, and does nothing.
 #[derive(Drop)]

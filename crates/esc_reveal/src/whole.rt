@@ -1,10 +1,11 @@
 //! Whether all of a piece is of the segments that mean something.
-ghost use Rattle.std.specs.Prelude.{◌≡◌, ◌&&◌, not, drop, false};
+ghost use Rattle.std.specs.Prelude.{◌≡◌, ◌&&◌, not, drop, false, true, length, nat_le, IsTrue};
 ghost use Rattle.std.specs.List.{list_any};
-ghost use Rattle.std.specs.Str.{IsUtf8, chars};
+ghost use Rattle.std.specs.Str.{IsUtf8, chars, is_utf8};
 ghost use Rattle.std.specs.Str.Iter.{chars_rest};
 ghost use Rattle.esc_reveal.specs.Whole.{breaks, but_terminator, has_break, is_whole};
 
+use esc_frame::ascii_run;
 use std::str;
 use std::str::Chars;
 
@@ -13,10 +14,38 @@ use std::str::Chars;
 pub(crate) fn is_whole(piece: &[u8]) -> bool
     ensures { result ≡ is_whole piece.now }
 {
-    match str::from_utf8(but_terminator(piece)) {
+    let body = but_terminator(piece);
+    if is_plain(body) {
+        return true;
+    }
+    is_unbroken(body)
+}
+
+// Whether the bytes are of ASCII, with no control after the first character.
+fn is_plain(body: &[u8]) -> bool
+    ensures { IsTrue result → (is_utf8 body.now && not (has_break body.now)) ≡ true }
+{
+    match body.split_first() {
+        Some((first, rest)) => *first < 0x80 && ascii_run(rest) == rest.len(),
+        None => false,
+    }
+}
+
+// Whether the bytes are a text, and no character of it after the first breaks a segment off.
+fn is_unbroken(body: &[u8]) -> bool
+    ensures { result ≡ (is_utf8 body.now && not (has_break body.now)) }
+{
+    match str::from_utf8(body) {
         Ok(text) => !has_break(text),
         Err(_) => false,
     }
+}
+
+/// Whether the piece stays, where it means values that pass, or does not.
+pub(crate) fn may_stay(limit: usize, passes: bool, piece: &[u8]) -> bool
+    ensures { result ≡ (nat_le (length piece.now) limit && (is_whole piece.now && passes)) }
+{
+    passes && piece.len() <= limit && is_whole(piece)
 }
 
 // The piece without the string terminator that ends it.

@@ -1,31 +1,29 @@
-use Rattle.std.proofs.Common.{◌&&◌, [], refl, Some, ap, sym, ◌∙◌}
-use Rattle.std.proofs.lemmas.Result.{IfErr-at_err}
-use Rattle.esc_parse.proofs.Lists.{on_ok_at}
-use Rattle.esc_reveal.proofs.Ground.{finds, stops_refused}
+use Rattle.std.proofs.Common.{[], Some, ap, ◌∙◌}
+use Rattle.esc_actions.specs.Meaning.{meaning_within}
+use Rattle.esc_reveal.proofs.Judging.{finds, judged_first, on_any}
+use Rattle.esc_reveal.specs.Judged.{begun, folded}
 use Rattle.esc_reveal.proofs.judge.stays.Goals as goal
 
-pub returns-then-verdict-clause-kept : goal.returns-then-verdict-clause-kept
-returns-then-verdict-clause-kept g c = λ limit ready.
-    let fed = c.restart.ensures.fed (Some limit) ready.0 ready.1 in
-    let k = on_ok_at _ c.in-Ok.is (c.parse_into-result.ensures.given (Some limit) [] fed) in
-    let q = c.parse_into-result.result.1 in (
-      (c.args.piece.now, k.0),
-      ap (λ b. b && q.verdict.all) (sym c.if-verdict.true)
-          ∙ finds g.P.Admit.admits limit c.args.piece.now _ q refl refl refl k.1,
+pub returns-clause-kept : goal.returns-clause-kept
+returns-clause-kept g c = λ h.
+    let limit = c.args.limit in
+    let piece = c.args.piece.now in
+    let fed = c.restart.ensures.fed (Some limit) piece h in
+    let first = judged_first g.P.Admit limit c.restart.new.self c.unasked-performer.result fed
+    c.unasked-performer.ensures.hooks c.unasked-performer.ensures.verdict in
+    let more = c.in_ok-judge_all.ensures.given limit [] first in (
+      more.0.framed,
+      c.keeps.ensures
+          ∙ finds (g.P.Admit.admits c.args.policy.now) _ (meaning_within (Some limit) piece)
+          (more.0.judged
+          ∙ ap (λ p. folded (g.P.Admit.admits p) begun (meaning_within (Some limit) piece))
+          (more.1 ∙ c.unasked-performer.ensures.policy)),
     )
 
-pub returns-else-verdict-clause-kept : goal.returns-else-verdict-clause-kept
-returns-else-verdict-clause-kept g c = λ limit ready.
-    let fed = c.restart.ensures.fed (Some limit) ready.0 ready.1 in
-    let k = on_ok_at _ c.in-Ok.is (c.parse_into-result.ensures.given (Some limit) [] fed) in
-    let q = c.parse_into-result.result.1 in (
-      (c.args.piece.now, k.0),
-      c.if-verdict.false ∙ ap (λ b. b && q.verdict.all) (sym c.if-verdict.false)
-          ∙ finds g.P.Admit.admits limit c.args.piece.now _ q refl refl refl k.1,
-    )
-
-pub returns-in-Err-clause-refused : goal.returns-in-Err-clause-refused
-returns-in-Err-clause-refused g c = λ limit ready.
-    let fed = c.restart.ensures.fed (Some limit) ready.0 ready.1 in
-    let f = IfErr-at_err _ c.in-Err.is (c.parse_into-result.ensures.refused (Some limit) [] fed) in
-    stops_refused _ _ _ _ (λ p v q z. z.2) _ _ _ f.2
+pub returns-in_err-judge_all-clause-refused : goal.returns-in_err-judge_all-clause-refused
+returns-in_err-judge_all-clause-refused g c = λ h.
+    let limit = c.args.limit in
+    let fed = c.restart.ensures.fed (Some limit) c.args.piece.now h in
+    let first = judged_first g.P.Admit limit c.restart.new.self c.unasked-performer.result fed
+    c.unasked-performer.ensures.hooks c.unasked-performer.ensures.verdict in
+    on_any c.from_residual.result (c.in_err-judge_all.ensures.refused limit [] first)

@@ -4,11 +4,11 @@ use Rattle.esc_reveal.proofs.Feeding.{at_text, line_grows}
 use Rattle.esc_reveal.specs.Fed.{added_by}
 use Rattle.esc_reveal.proofs.reveal.Reveal.end_line.Goals as goal
 
-pub returns-in-Ok-clause-given : goal.returns-in-Ok-clause-given
-returns-in-Ok-clause-given g c = λ r h.
+pub returns-clause-given : goal.returns-clause-given
+returns-clause-given g c = λ r h.
     let old = c.args.self.now in
     let mid = c.show.new.self in
-    let k = c.in-Ok.ensures.given r h in
+    let k = c.in_ok-show.ensures.given r h in
     pushed c.extend.result (added_by mid) (c.args.byte ∷ []) c.extend.new.vec.items
     c.extend.ensures.items (λ e.
     line_grows g.P.Admit old.rule r c.args.byte (record mid { text = c.extend.new.vec })

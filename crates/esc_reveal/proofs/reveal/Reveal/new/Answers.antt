@@ -1,10 +1,9 @@
-use Rattle.std.proofs.Common.{[], refl}
+use Rattle.std.proofs.Common.{refl}
 use Rattle.esc_reveal.proofs.reveal.Reveal.new.Goals as goal
 
 pub returns-clause-fed : goal.returns-clause-fed
 returns-clause-fed g c = record {
   unfailed = refl;
   framed = c.with_limit.ensures;
-  ready = ([], c.with_limit-2.ensures);
   kept = c.new.ensures c.args.limit;
 }

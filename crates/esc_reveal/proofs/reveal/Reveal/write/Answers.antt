@@ -7,8 +7,7 @@ returns-clause-given g c = λ r h few.
     on_ok_more _ _ c.write.result (λ k. (
       record {
         unfailed = h.unfailed;
-        framed = c.restart.ensures.fed (Some 0) r h.framed;
-        ready = h.ready;
+        framed = c.restart.ensures.fed (Some c.args.self.now.rule.limit) r h.framed;
         kept = k.0;
       },
       k.1,
