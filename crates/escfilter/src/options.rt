@@ -181,55 +181,88 @@ impl<'a, A: Allocator + Copy> Task<'a, A> {
 
     // The task that these options and files name.
     fn from_found(found: Found<'a, A>) -> Task<'a, A> {
-        let mut kind = Kind::Filter;
-        let mut target = Target::Output;
-        let mut options = Options {
-            choice: Choice {
-                policy: Policy::Color,
-                groups: None,
-            },
-            limit: DEFAULT_LIMIT,
-            by_lines: false,
-            unicode: Unicode::Keep,
-            shows: false,
-            rows: None,
-            is_cast: false,
-            report: None,
-            fails: false,
-        };
-        let mut by_lines = None;
-        let mut schemes = None;
-        let mut unicode = None;
+        let mut asked = Asked::nothing();
         for given in &found.options {
-            match given.name {
-                "--allow" => options.choice = options.choice.and(given.some),
-                "--deny" => options.choice = options.choice.without(given.some),
-                "--links" => schemes = Some(given.word),
-                "--limit" => options.limit = given.size,
-                "--lines" => by_lines = Some(true),
-                "--whole" => by_lines = Some(false),
-                "--unicode" => unicode = Some(unicode_of(given.word)),
-                "--show" => options.shows = true,
-                "--collapse" => options.rows = rows_of(given.word),
-                "--cast" => options.is_cast = true,
-                "--report" => options.report = Some(form_of(given.word)),
-                "--fail" => options.fails = true,
-                "--output" => target = Target::File(given.word),
-                "--in-place" => target = Target::InPlace(given.word),
-                "--help" => kind = Kind::Help,
-                "--version" => kind = Kind::Version,
-                _ => {}
-            }
+            asked.take(given);
         }
-        options.by_lines = by_lines.unwrap_or(is_by_lines(options.choice.policy));
-        options.unicode = unicode.unwrap_or(unicode_under(options.choice.policy));
-        options.choice = settled(options.choice, schemes, options.rows);
         Task {
-            kind,
-            target,
-            options,
+            kind: asked.kind,
+            target: asked.target,
+            options: asked.settled(),
             files: found.files,
         }
+    }
+}
+
+// What the options ask for. Where one is missing, the policy may decide.
+#[derive(Drop)]
+struct Asked<'a> {
+    kind: Kind,
+    target: Target<'a>,
+    options: Options<'a>,
+    by_lines: Option<bool>,
+    schemes: Option<&'a str>,
+    unicode: Option<Unicode>,
+}
+
+impl<'a> Asked<'a> {
+    // What no option asks for.
+    fn nothing() -> Asked<'a> {
+        Asked {
+            kind: Kind::Filter,
+            target: Target::Output,
+            options: Options {
+                choice: Choice {
+                    policy: Policy::Color,
+                    groups: None,
+                },
+                limit: DEFAULT_LIMIT,
+                by_lines: false,
+                unicode: Unicode::Keep,
+                shows: false,
+                rows: None,
+                is_cast: false,
+                report: None,
+                fails: false,
+            },
+            by_lines: None,
+            schemes: None,
+            unicode: None,
+        }
+    }
+
+    // Takes an option more.
+    fn take(&mut self, given: &Given<'a>) {
+        let options = &mut self.options;
+        match given.name {
+            "--allow" => options.choice = options.choice.and(given.some),
+            "--deny" => options.choice = options.choice.without(given.some),
+            "--links" => self.schemes = Some(given.word),
+            "--limit" => options.limit = given.size,
+            "--lines" => self.by_lines = Some(true),
+            "--whole" => self.by_lines = Some(false),
+            "--unicode" => self.unicode = Some(unicode_of(given.word)),
+            "--show" => options.shows = true,
+            "--collapse" => options.rows = rows_of(given.word),
+            "--cast" => options.is_cast = true,
+            "--report" => options.report = Some(form_of(given.word)),
+            "--fail" => options.fails = true,
+            "--output" => self.target = Target::File(given.word),
+            "--in-place" => self.target = Target::InPlace(given.word),
+            "--help" => self.kind = Kind::Help,
+            "--version" => self.kind = Kind::Version,
+            _ => {}
+        }
+    }
+
+    // How streams are filtered.
+    fn settled(&self) -> Options<'a> {
+        let mut options = self.options;
+        let policy = options.choice.policy;
+        options.by_lines = self.by_lines.unwrap_or(is_by_lines(policy));
+        options.unicode = self.unicode.unwrap_or(unicode_under(policy));
+        options.choice = settled(options.choice, self.schemes, options.rows);
+        options
     }
 }
 
