@@ -5,15 +5,19 @@ use Rattle.std.specs.List.{FoldsTo, count_by, list_all, list_any, slice_split}
 use Rattle.std.proofs.lemmas.Bool.{and_parts}
 use Rattle.std.proofs.lemmas.List.Splits.{length-slice_split}
 use Rattle.esc_actions.proofs.Meanings.{meaning_more}
-use Rattle.esc_actions.specs.Meaning.{meaning_within, mode_from, yield_within}
+use Rattle.esc_actions.specs.ControlCodes.{code_of}
+use Rattle.esc_actions.specs.Meaning.{meaning_within, mode_from, values_from, yield_within}
 use Rattle.esc_actions.specs.Texts.{is_string}
-use Rattle.esc_actions.specs.Values.{Value, csi, osc, plain, value_of}
+use Rattle.esc_actions.specs.Values.{Value, control, csi, executed, osc, plain, value_of}
 use Rattle.esc_actions.specs.Writable.{is_truncated}
 use Rattle.esc_actions.specs.declared.action.Action.{Action}
+use Rattle.esc_actions.specs.declared.control_code.ControlCode.{ControlCode}
 use Rattle.esc_actions.specs.declared.action.Action.TheVariants as action
 use Rattle.esc_filter.proofs.Sequences.{each_whole}
+use Rattle.esc_filter.specs.Passing.{passes}
 use Rattle.esc_filter.specs.declared.admit.Admit.{Ghosts as Admitter}
-use Rattle.esc_frame.specs.Stream.{LeadsToWithin, events_within}
+use Rattle.esc_frame.specs.Events.Event.{Execute}
+use Rattle.esc_frame.specs.Stream.{LeadsToWithin, added_within, events_within}
 use Rattle.esc_frame.specs.declared.parser.VTParser.{VTParser}
 use Rattle.esc_osc.specs.Reading.{meaning as command_meant}
 use Rattle.esc_parse.specs.Fed.{Hooks}
@@ -257,6 +261,21 @@ module _ {A : Type 0} (admits : Value A → Bool) where
       by_follows f true = refl
       by_follows true false = refl
       by_follows false false = refl
+
+-- a control by itself
+pub control_found : {A : Type 0} (admits : Value A → Bool) (limit : ℕ) (x : List ℕ) (b : ℕ)
+    (code : ControlCode) → added_within (Some limit) [] x ≡ Execute b ∷ []
+    → code_of b ≡ Some code
+    → are_kept admits (meaning_within (Some limit) x) ≡ passes admits (control code)
+unfolding events_within added_within meaning_within
+control_found admits limit x b code e k =
+    ap (λ es. are_kept admits (values_from (Some limit) plain es)) e
+    ∙ ap (λ o. are_kept admits (executed o ++ [])) k
+    ∙ by_pass (passes admits (control code))
+  where
+    by_pass : (t : Bool) → ((t || false) && true) ≡ t
+    by_pass true = refl
+    by_pass false = refl
 
 sequence_action : {A : Type 0} (c : CsiValue) → (a : Action A) × (value_of a ≡ csi c)
 sequence_action (sgr s) = (action.CSI (csi_variant.Sgr s), refl)

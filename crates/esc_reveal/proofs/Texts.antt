@@ -1,7 +1,7 @@
 -- Characters, each of which is a piece by itself.
 use Rattle.std.proofs.Common.{IsAscii, ℕ, zero, suc, ◌≡◌, ◌<◌, ◌≤◌, ◌-◌, ◌&&◌, ◌||◌, ◌==◌, inl, inr, not, Bool, true, false, nat_le, if◌then◌else◌, List, [], ◌∷◌, ◌++◌, length, take, drop, Some, arith, refl, ap, sym, ◌∙◌, subst}
 use Rattle.std.specs.Char.{encode_utf8}
-use Rattle.std.specs.List.{flat_map, list_all, list_any, prefix_len}
+use Rattle.std.specs.List.{flat_map, list_all, list_any}
 use Rattle.std.specs.Str.{IsUtf8, chars, encode_utf8_all, is_utf8}
 use Rattle.std.proofs.lemmas.Bool.Decides.{nat_tests}
 use Rattle.std.proofs.lemmas.Bool.{and_parts}
@@ -12,7 +12,6 @@ use Rattle.esc_actions.specs.Values.{Value, plain, print}
 use Rattle.esc_filter.specs.Lines.{has_line_feed, is_line_feed}
 use Rattle.esc_frame.proofs.Characters.{clear_cases, four_is, none_five, spells_clear, three_is, two_is}
 use Rattle.esc_frame.proofs.ClearRuns.{clear_run, free_text_clear}
-use Rattle.esc_frame.proofs.ManyBytes.{run_passes}
 use Rattle.esc_frame.proofs.Still.{character_still}
 use Rattle.esc_frame.specs.Events.Event.{Print}
 use Rattle.esc_frame.specs.Leads.Unfinished.{Ground}
@@ -241,16 +240,9 @@ text_breaks (b ∷ xs) h =
     let t = q.0 in
     let k : breaks b ≡ false = grind (arith, nat_tests) in rw (k, text_breaks xs q.1) refl
 
-all_text : (xs : List ℕ) → prefix_len is_text_byte xs ≡ length xs
-    → list_all is_text_byte xs ≡ true
-all_text xs h =
-    subst (λ y. list_all is_text_byte y ≡ true)
-    (ap (λ n. take n xs) h ∙ take_all (length xs) xs (omega arith)) (run_passes is_text_byte xs)
-
 pub plain_whole : (p : List ℕ) (a : ℕ) (xs : List ℕ) → p ≡ a ∷ xs → a < 128
-    → prefix_len is_text_byte xs ≡ length xs → (is_utf8 p && not (has_break p)) ≡ true
-plain_whole p a xs e l run =
-    let text = all_text xs run in
+    → list_all is_text_byte xs ≡ true → (is_utf8 p && not (has_break p)) ≡ true
+plain_whole p a xs e l text =
     let ascii = first_ascii a xs l (text_ascii xs text) in
     ap (λ y. is_utf8 y && not (has_break y)) e
     ∙ ap (λ u. u && not (has_break (a ∷ xs)))

@@ -1,5 +1,5 @@
 //! Whether a piece of a stream is kept.
-ghost use Rattle.std.specs.Prelude.{◌≡◌, ◌&&◌, ◌++◌, ◌<◌, ◌≤◌, ℕ, List, [], IfOk, OnErr, OnOk, Some, false, length, take};
+ghost use Rattle.std.specs.Prelude.{◌≡◌, ◌&&◌, ◌++◌, ◌<◌, ◌≤◌, ℕ, List, [], IfOk, IfSome, OnErr, OnOk, Some, false, length, take};
 ghost use Rattle.esc_actions.specs.Values.{Value, plain, value_of};
 ghost use Rattle.esc_frame.specs.Stream.{IsQuietWithin, LeadsToWithin};
 ghost use Rattle.esc_parse.specs.Fed.{Hooks};
@@ -10,7 +10,7 @@ ghost use Rattle.esc_actions.specs.Meaning.{meaning_within};
 ghost use Rattle.memory.specs.Refusals.{Refused};
 
 use crate::whole::is_whole;
-use esc_actions::Action;
+use esc_actions::{Action, ControlCode};
 use esc_filter::{Admit, passes};
 use esc_frame::VTParser;
 use esc_parse::Sink;
@@ -138,6 +138,43 @@ fn unasked<P, A: Allocator + Copy>(alloc: A, policy: &P, limit: usize) -> Perfor
 /// the last byte, and asks the policy of what they mean. It returns how many they are, and whether
 /// they mean something, all of which passes.
 pub(crate) fn judge_piece<P: Admit<A>, A: Allocator + Copy>(
+    alloc: A,
+    framer: &mut VTParser<A>,
+    policy: &P,
+    limit: usize,
+    bytes: &[u8],
+) -> Result<(usize, bool), AllocError>
+    requires { 0 < length bytes.now }
+    ensures count { IfOk result (λ x. (0 < x.0) × (x.0 ≤ length bytes.now)) }
+    ensures framed { LeadsToWithin (Some limit) [] framer.old → IfOk result
+        (λ x. LeadsToWithin (Some limit) (take x.0 bytes.now) framer.new
+        × IsQuietTo x.0 bytes.now) }
+    ensures judged { LeadsToWithin (Some limit) [] framer.old → IfOk result (λ x. x.1
+        ≡ are_kept (P.admits policy.now) (meaning_within (Some limit) (take x.0 bytes.now))) }
+    ensures refused { LeadsToWithin (Some limit) [] framer.old → OnErr result (Refused A) }
+{
+    match judge_control(framer, policy, bytes) {
+        Some(passes) => Ok((1, passes)),
+        None => judge_other(alloc, framer, policy, limit, bytes),
+    }
+}
+
+// Whether the control that comes first passes. None where none does.
+fn judge_control<P: Admit<A>, A: Allocator>(
+    framer: &VTParser<A>,
+    policy: &P,
+    bytes: &[u8],
+) -> Option<bool>
+    ensures { (limit : ℕ) → LeadsToWithin (Some limit) [] framer.now → IfSome result
+        (λ k. LeadsToWithin (Some limit) (take 1 bytes.now) framer.now × (k
+        ≡ are_kept (P.admits policy.now) (meaning_within (Some limit) (take 1 bytes.now)))) }
+{
+    let code = ControlCode::from_byte(framer.first_control(bytes)?)?;
+    Some(passes(policy, &Action::Control(code)))
+}
+
+// The same of any other piece.
+fn judge_other<P: Admit<A>, A: Allocator + Copy>(
     alloc: A,
     framer: &mut VTParser<A>,
     policy: &P,

@@ -1,11 +1,11 @@
 //! Whether all of a piece is of the segments that mean something.
 ghost use Rattle.std.specs.Prelude.{◌≡◌, ◌&&◌, not, drop, false, true, length, nat_le, IsTrue};
-ghost use Rattle.std.specs.List.{list_any};
+ghost use Rattle.std.specs.List.{list_all, list_any};
+ghost use Rattle.esc_frame.specs.Scans.{is_text_byte};
 ghost use Rattle.std.specs.Str.{IsUtf8, chars, is_utf8};
 ghost use Rattle.std.specs.Str.Iter.{chars_rest};
 ghost use Rattle.esc_reveal.specs.Whole.{breaks, but_terminator, has_break, is_whole};
 
-use esc_frame::ascii_run;
 use std::str;
 use std::str::Chars;
 
@@ -26,9 +26,22 @@ fn is_plain(body: &[u8]) -> bool
     ensures { IsTrue result → (is_utf8 body.now && not (has_break body.now)) ≡ true }
 {
     match body.split_first() {
-        Some((first, rest)) => *first < 0x80 && ascii_run(rest) == rest.len(),
+        Some((first, rest)) => *first < 0x80 && is_text(rest),
         None => false,
     }
+}
+
+// Whether the bytes are characters of ASCII, 20 to 7F. They are few, mostly.
+fn is_text(bytes: &[u8]) -> bool
+    ensures { result ≡ list_all is_text_byte bytes.now }
+{
+    bytes.iter().all(is_text_byte)
+}
+
+fn is_text_byte(byte: &u8) -> bool
+    ensures { result ≡ is_text_byte byte.now }
+{
+    0x20 <= *byte && *byte <= 0x7f
 }
 
 // Whether the bytes are a text, and no character of it after the first breaks a segment off.
