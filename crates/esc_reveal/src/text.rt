@@ -17,7 +17,9 @@ pub(crate) fn admitted_run<P: Admit<A>, A: Allocator>(policy: &P, bytes: &[u8]) 
     ensures few { result ≤ length bytes.now }
     ensures text { IsAdmittedText (P.admits policy.now) (take result bytes.now) }
 {
-    if bytes[0] < 0x80 {
+    if bytes[0] < 0x20 {
+        0
+    } else if bytes[0] < 0x80 {
         ascii_admitted(policy, bytes)
     } else {
         wide_admitted(policy, bytes)
