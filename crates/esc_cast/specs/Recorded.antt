@@ -1,6 +1,6 @@
 -- What a recording that is filtered has taken, and gives.
 use Rattle.std.specs.Prelude.{ℕ, ◌≡◌, ◌≢◌, List, [], ◌++◌}
-use Rattle.esc_filter.specs.declared.feeding.Feeding.{Ghosts as Feeder}
+use Rattle.esc_normal.specs.declared.feeding.Feeding.{Ghosts as Feeder}
 use Rattle.esc_cast.specs.Recordings.{IsEvent}
 use Rattle.esc_cast.specs.declared.recording.Recording.{Recording}
 

@@ -1,7 +1,7 @@
 //! A recording that is filtered line by line.
 ghost use Rattle.std.specs.Prelude.{◌≡◌, ◌≢◌, ◌++◌, ◌∷◌, ℕ, List, [], IfOk, OnOk};
 ghost use Rattle.json.specs.Print.{IsNumber};
-ghost use Rattle.esc_filter.specs.Streams.{Given};
+ghost use Rattle.esc_normal.specs.Streams.{Given};
 ghost use Rattle.esc_cast.specs.Recordings.{IsEvent, IsUnheard, kind_of, output, wrong};
 
 use crate::cast_error::CastError;

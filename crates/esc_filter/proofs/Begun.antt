@@ -15,8 +15,8 @@ use Rattle.esc_filter.specs.Passing.{closed_text_as, passed_text_as, passes}
 use Rattle.esc_filter.specs.Characters.{in_characters}
 use Rattle.esc_filter.specs.declared.unicode.Unicode.{Unicode}
 use Rattle.esc_filter.proofs.Characters.{in_none}
-use Rattle.esc_filter.specs.Streams.{Filters, IsEither, IsText}
-use Rattle.esc_filter.specs.declared.filter_error.FilterError.{FilterError}
+use Rattle.esc_normal.specs.Streams.{Filters, IsEither, IsText}
+use Rattle.esc_normal.specs.declared.filter_error.FilterError.{FilterError}
 use Rattle.esc_filter.specs.declared.filter.Filter.{Filter}
 use Rattle.esc_filter.specs.declared.line_filter.LineFilter.{LineFilter}
 

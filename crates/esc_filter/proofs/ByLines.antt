@@ -11,7 +11,7 @@ use Rattle.esc_filter.specs.Closing.{closed, closing}
 use Rattle.esc_filter.specs.Fed.{WasFedIn}
 use Rattle.esc_filter.specs.Lines.{is_line_feed, has_line_feed, IsLine, ends_line, begin_with, last_line, lines, line_closing, line_text, passed_of_line, text_by_lines_as, WasFedLines, added_by, AddsText, ClosesLine, EndsLine, EndsLines, GrowsBy, GrowsLine}
 use Rattle.esc_filter.specs.Passing.{in_lines, passes}
-use Rattle.esc_filter.specs.Texts.{ends_in_string}
+use Rattle.esc_normal.specs.Texts.{ends_in_string}
 use Rattle.esc_filter.proofs.Closers.{closed_more}
 use Rattle.esc_filter.proofs.Texts.{added_as, text_longer_as}
 use Rattle.esc_filter.proofs.Characters.{in_none}

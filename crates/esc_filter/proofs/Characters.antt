@@ -18,7 +18,7 @@ use Rattle.esc_filter.specs.Closing.{Left, after_values}
 use Rattle.esc_filter.specs.Noted.{AreKept, Writes}
 use Rattle.esc_filter.specs.declared.written.Written.{Written}
 use Rattle.esc_filter.specs.Passing.{passes}
-use Rattle.esc_filter.specs.Texts.{ends_in_string}
+use Rattle.esc_normal.specs.Texts.{ends_in_string}
 use Rattle.esc_filter.specs.declared.unicode.Unicode.{Unicode}
 use Rattle.esc_filter.specs.declared.unicode.Unicode.TheVariants.{Drop, Keep, Show}
 

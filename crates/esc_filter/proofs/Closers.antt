@@ -22,9 +22,9 @@ use Rattle.esc_actions.specs.Writable.{AreWritable, AreWritableFrom, IsWritable,
 use Rattle.esc_filter.specs.Closing.{Left, after_values, closed, closing, give, given_back, is_any, is_left, is_set, private_mode, unchanged}
 use Rattle.esc_filter.specs.GivenBack.{text_given_back}
 use Rattle.esc_filter.specs.declared.left.TheConstants.{ALTERNATE, CLEARED, HELD, HIDDEN, INSERT, LINK, MARGINS, NO_WRAP, ORIGIN, RENDITION, REVERSE, SAVED, SIDES}
-use Rattle.esc_filter.specs.Texts.{ends_in_string}
+use Rattle.esc_normal.specs.Texts.{ends_in_string}
 use Rattle.esc_filter.proofs.Lights.{end_writable}
-use Rattle.esc_filter.proofs.Texts.{texts_more}
+use Rattle.esc_normal.proofs.Texts.{texts_more}
 
 none_set : (bs : List Bool) → list_any is_set bs ≡ false → (p : ℕ) → get_or bs p false ≡ false
 none_set [] h p = refl

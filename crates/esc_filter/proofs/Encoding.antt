@@ -2,9 +2,9 @@
 use Rattle.std.proofs.Common.{◌≡◌, ℕ, Bool, false, List, [], ◌∷◌, ◌++◌, sym, ap, ◌∙◌, append-nil}
 use Rattle.esc_actions.specs.Texts.{is_string, list_text, text_after}
 use Rattle.esc_actions.specs.Values.{Value}
-use Rattle.esc_filter.proofs.Texts.{ends_more, texts_more}
+use Rattle.esc_normal.proofs.Texts.{ends_more, texts_more}
 use Rattle.esc_filter.specs.Encoding.{AddsTo}
-use Rattle.esc_filter.specs.Texts.{ends_in_string}
+use Rattle.esc_normal.specs.Texts.{ends_in_string}
 
 pub adds_one : {A : Type 0} (follows : Bool) (vs : List (Value A)) (v : Value A) (old new : List ℕ)
     → follows ≡ ends_in_string false vs

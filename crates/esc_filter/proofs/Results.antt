@@ -1,63 +1,6 @@
--- Results, and bytes that were read and written.
-use Rattle.std.proofs.Common.{is_ok, if◌then◌else◌, ◌≡◌, ◌↔◌, Bool, true, false, IsTrue, ◌≤◌, ◌<◌, ◌+◌, ℕ, List, [], ◌∷◌, ◌++◌, Option, inl, inr, refl, sym, subst, ap, ◌∙◌, append-nil, append_assoc, arith, length, length-append, take, Ok, Err, IsErrOf, OnOk, Result}
-use Rattle.std.proofs.KnownBytes.{Appends-nil, Appends-trans, Consumes-trans}
-use Rattle.std.specs.Io.KnownBytes.{Appends, Consumes}
+-- Results of calls.
+use Rattle.std.proofs.Common.{is_ok, if◌then◌else◌, ◌≡◌, ℕ, List, [], ◌∷◌, ◌++◌, inl, inr, Ok, Err, OnOk, Result}
 use Rattle.esc_parse.specs.Given.{StopsAt}
-use Rattle.esc_normal.specs.Io.{AppendsPrefix}
-
--- the error of a result
-pub err_is : {T E : Type 0} (r : Result T E) (e x : E) → r ≡ Err e → IsErrOf r x → e ≡ x
-err_is (Ok t) e x is h = cc
-err_is (Err f) e x is h = cc
-
--- what has not failed does not fail with an error that did not come
-pub not_failed : {T E : Type 0} (r : Result T E) (e : E) (failed : Bool) → (IsErrOf r e → ⊥)
-    → failed ≡ false → (IsErrOf r e ↔ IsTrue failed)
-not_failed r e true other h = absurd cc
-not_failed r e false other h = (λ k. absurd (other k), λ t. absurd cc)
-
--- a prefix of a text is one of a text that begins with it
-pub prefix_after : (a b c : Option (List ℕ)) (before more whole : List ℕ) → Appends a b before
-    → AppendsPrefix b c more → whole ≡ before ++ more
-    → AppendsPrefix a c whole
-prefix_after a b c before more whole h (p, r, is, w) e = (
-  before ++ p,
-  r,
-  e ∙ ap (λ x. before ++ x) is
-      ∙ sym (append_assoc before p r),
-  Appends-trans a b c before p h w,
-)
-
--- a prefix of a text is one of a longer text
-pub prefix_longer : (a b : Option (List ℕ)) (t u : List ℕ) → (more : List ℕ) × (u ≡ t ++ more)
-    → AppendsPrefix a b t → AppendsPrefix a b u
-prefix_longer a b t u (more, e) (p, r, is, w) =
-    (p, r ++ more, e ∙ ap (λ x. x ++ more) is ∙ append_assoc p r more, w)
-
--- all of it is one
-pub prefix_whole : (a b : Option (List ℕ)) (t : List ℕ) → Appends a b t → AppendsPrefix a b t
-prefix_whole a b t h = (t, [], sym (append-nil t), h)
-
--- and so is nothing
-pub prefix_none : (a : Option (List ℕ)) (t : List ℕ) → AppendsPrefix a a t
-prefix_none a t = ([], t, refl, Appends-nil a)
-
--- a read that took nothing
-pub read_none : (a b c : Option (List ℕ)) (s : List ℕ) (n : ℕ) (buf : List ℕ) → n ≡ 0
-    → Consumes a b s → Consumes b c (take n buf) → Consumes a c s
-read_none a b c s n buf e h k = subst (λ x. Consumes a c x) (append-nil s)
-    (Consumes-trans a b c s [] h (subst (λ m. Consumes b c (take m buf)) e k))
-
--- one more piece was read, and its text written
-pub written_more : (a b c : Option (List ℕ)) (before more whole : List ℕ) → Appends a b before
-    → Appends b c more → whole ≡ before ++ more → Appends a c whole
-written_more a b c before more whole h k e = subst (λ x. Appends a c x) (sym e)
-    (Appends-trans a b c before more h k)
-
--- a read that took a byte at least
-pub one_more : (n k : ℕ) (s buf : List ℕ) → n ≤ length s → 0 < k → k ≡ length (take k buf)
-    → n + 1 ≤ length (s ++ take k buf)
-one_more n k s buf h some is = omega (arith, length-append s (take k buf))
 
 -- a giver that does not stop by itself stops at a value, for the reason for which that is refused
 pub stops_for : {P V : Type 0} (R Q : P → V → P → Type 0) (why : Type 0)
@@ -68,17 +11,6 @@ stops_for R Q why says p (v ∷ vs) q (inl e) = absurd e.0
 stops_for R Q why says p (v ∷ vs) q (inr (inl z)) = says p v q z
 stops_for R Q why says p (v ∷ vs) q (inr (inr (mid, t, rest))) =
     stops_for R Q why says mid vs q rest
-
--- what holds, holds on Ok
-pub ok_any : {T E X : Type 0} (r : Result T E) → X → OnOk r X
-ok_any (Ok t) x = x
-ok_any (Err e) x = tt
-
--- what failed exactly where an error came, which did not come, has not failed
-pub unfailed : {T E : Type 0} (t : T) (e : E) (failed : Bool)
-    → (IsErrOf (Ok t) e ↔ IsTrue failed) → failed ≡ false
-unfailed t e true h = let k = h.1 refl in absurd cc
-unfailed t e false h = refl
 
 -- a text that grew where the call that makes it grow did not fail
 pub pushed : {T E X : Type 0} (r : Result T E) (old more new : List ℕ)

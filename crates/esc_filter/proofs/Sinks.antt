@@ -9,12 +9,13 @@ use Rattle.esc_actions.specs.declared.action.Action.{Action}
 use Rattle.esc_filter.specs.Closing.{after_values}
 use Rattle.esc_filter.specs.Fed.{Takes}
 use Rattle.esc_filter.specs.Noted.{HasNoted, Writes, written_of}
-use Rattle.esc_filter.proofs.Texts.{added_as, after_more, end_longer, ends_more, left_longer, text_longer_as, texts_more}
+use Rattle.esc_filter.proofs.Texts.{added_as, after_more, end_longer, left_longer, text_longer_as}
+use Rattle.esc_normal.proofs.Texts.{ends_more, texts_more}
 use Rattle.esc_filter.proofs.Characters.{in_more, in_none}
 use Rattle.esc_filter.specs.Characters.{in_characters, in_unicode}
 use Rattle.esc_filter.specs.declared.unicode.Unicode.{Unicode}
 use Rattle.esc_filter.specs.Passing.{in_lines, is_line_feed, is_whole, passed_as, passed_text_as, passes}
-use Rattle.esc_filter.specs.Texts.{ends_in_string}
+use Rattle.esc_normal.specs.Texts.{ends_in_string}
 use Rattle.esc_filter.specs.declared.written.Written.{Written}
 
 module _ {A : Type 0} where

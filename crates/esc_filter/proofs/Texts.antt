@@ -1,10 +1,10 @@
 -- Texts that grow by one value after another.
-use Rattle.std.proofs.Common.{◌≡◌, ℕ, Bool, false, List, [], ◌∷◌, ◌++◌, Option, refl, sym, ap, ◌∙◌, append_assoc}
+use Rattle.std.proofs.Common.{◌≡◌, ℕ, Bool, false, List, [], ◌∷◌, ◌++◌, Option, refl, sym, ap, ◌∙◌}
 use Rattle.std.proofs.lemmas.List.Elements.{filter-append}
 use Rattle.std.specs.List.{filter}
 use Rattle.esc_actions.proofs.Meanings.{meaning_more}
 use Rattle.esc_actions.specs.Meaning.{meaning_within, yield_within}
-use Rattle.esc_actions.specs.Texts.{is_string, list_text, text_after, texts_after}
+use Rattle.esc_actions.specs.Texts.{list_text, texts_after}
 use Rattle.esc_actions.specs.Values.{Value}
 use Rattle.esc_filter.specs.Closing.{Left, after_value, after_values, unchanged}
 use Rattle.esc_filter.specs.Passing.{passed, passed_as, passed_text, passed_text_as, passes}
@@ -12,22 +12,8 @@ use Rattle.esc_filter.specs.Characters.{in_characters}
 use Rattle.esc_filter.specs.declared.unicode.Unicode.{Unicode}
 use Rattle.esc_filter.specs.declared.unicode.Unicode.TheVariants.{Keep}
 use Rattle.esc_filter.proofs.Characters.{in_both}
-use Rattle.esc_filter.specs.Texts.{ends_in_string}
-
--- one list after another
-pub texts_more : {A : Type 0} (follows : Bool) (vs ws : List (Value A))
-    → texts_after follows (vs ++ ws) ≡ texts_after follows vs
-    ++ texts_after (ends_in_string follows vs) ws
-texts_more follows [] ws = refl
-texts_more follows (v ∷ vs) ws =
-    ap (λ t. text_after follows v ++ t) (texts_more (is_string v) vs ws)
-    ∙ sym (append_assoc (text_after follows v) (texts_after (is_string v) vs)
-    (texts_after (ends_in_string (is_string v) vs) ws))
-
-pub ends_more : {A : Type 0} (follows : Bool) (vs ws : List (Value A))
-    → ends_in_string follows (vs ++ ws) ≡ ends_in_string (ends_in_string follows vs) ws
-ends_more follows [] ws = refl
-ends_more follows (v ∷ vs) ws = ends_more (is_string v) vs ws
+use Rattle.esc_normal.proofs.Texts.{ends_more, texts_more}
+use Rattle.esc_normal.specs.Texts.{ends_in_string}
 
 -- what passes of a longer stream
 pub passed_longer : {A : Type 0} (limit : Option ℕ) (admits : Value A → Bool) (s b : List ℕ)

@@ -1,4 +1,3 @@
-pub mod Texts
 pub mod Rules
 pub mod Closing
 pub mod GivenBack
@@ -7,7 +6,6 @@ pub mod Passing
 pub mod Noted
 pub mod Fed
 pub mod Encoding
-pub mod Streams
 pub mod Lines
 pub mod Concealed
 pub mod Schemes

@@ -9,7 +9,7 @@ use Rattle.esc_visible.specs.Characters.{is_deceiving}
 use Rattle.esc_filter.specs.Characters.{in_unicode}
 use Rattle.esc_filter.specs.Closing.{after_values, unchanged}
 use Rattle.esc_filter.specs.Passing.{is_line_feed}
-use Rattle.esc_filter.specs.Texts.{ends_in_string}
+use Rattle.esc_normal.specs.Texts.{ends_in_string}
 use Rattle.esc_filter.specs.declared.unicode.Unicode.{Unicode}
 use Rattle.esc_filter.specs.declared.unicode.Unicode.TheVariants.{Keep}
 use Rattle.esc_filter.specs.declared.written.Written.{Written}

@@ -1,23 +1,17 @@
 //! From a stream to the text of what passes of it.
-ghost use Rattle.std.specs.Prelude.{ℕ, ◌≡◌, ◌<◌, ◌++◌, List, length, IfErr, IsErrOf, OnErr, OnOk, Some};
-ghost use Rattle.esc_normal.specs.Io.{FailsWith, IsReadWhole, Writes, WritesPrefix};
-ghost use Rattle.esc_filter.specs.Streams.{Filters, Given, HasBegun, HasFed, HasFiltered, HasFilteredAllBut, HasFilteredAtLeast, IsEither, IsText, New, PassesOn, PassesPrefixOn};
+ghost use Rattle.std.specs.Prelude.{IsErrOf, Some};
+ghost use Rattle.esc_normal.specs.Streams.{Filters};
 ghost use Rattle.esc_filter.specs.Lines.{IsFilteredByLines, closed_by_lines};
 ghost use Rattle.esc_filter.specs.Passing.{IsFiltered, closed_text};
 ghost use Rattle.memory.specs.Refusals.{Refused};
 
 use crate::admit::Admit;
-use crate::feeding::Feeding;
 use crate::filter::Filter;
-use crate::filter_error::FilterError;
 use crate::laws;
 use crate::line_filter::LineFilter;
-use esc_normal::Watched;
+use esc_normal::{FilterError, Watched, filter_from};
 use std::alloc::Allocator;
 use std::io::{Read, Write};
-
-/// How often [`filter_stream`] reads a stream at most.
-pub const MOST_READS: u64 = u64::MAX;
 
 /// Reads to the end, and writes the text of the actions that pass the policy, as it reads: after
 /// each read the text of all that was read so far is written and flushed. At the end it writes what
@@ -65,121 +59,4 @@ pub fn filter_lines<R: Read, W: Write, P: Admit<A> + Drop, A: Allocator + Copy>(
     laws::lines_read_back::<A>();
     let mut filter = LineFilter::new(alloc, limit, policy);
     filter_from(alloc, &mut filter, reader, writer)
-}
-
-/// Reads to the end, and writes what the filter, which gives these texts and was fed nothing, has
-/// of each read and of the end, as [`filter_stream`] does.
-pub fn filter_from<R: Read, W: Write, F: Feeding<A>, A: Allocator + Copy>(
-    alloc: A,
-    filter: &mut F,
-    reader: &mut Watched<R>,
-    writer: &mut Watched<W>,
-) -> Result<(), FilterError>
-    ensures holds { New F.Feeding filter.old (λ m c.
-        Filters R.Read W.Write c (IsEither c m) result reader writer) }
-    ensures refused { New F.Feeding filter.old (λ m c.
-        IsErrOf result FilterError.Memory → Refused A) }
-{
-    let Ok(mut chunk) = memory::read_buffer(alloc) else {
-        return Err(FilterError::Memory);
-    };
-    match filter_all(filter, reader, writer, chunk.as_mut_slice()) {
-        Ok(()) => end(filter, writer),
-        Err(error) => Err(error),
-    }
-}
-
-// The same by way of this chunk, part by part of what `Filters` says.
-fn filter_all<R: Read, W: Write, F: Feeding<A>, A: Allocator + Copy>(
-    filter: &mut F,
-    reader: &mut Watched<R>,
-    writer: &mut Watched<W>,
-    chunk: &mut [u8],
-) -> Result<(), FilterError>
-    requires { 0 < length chunk.old }
-    ensures read_all { OnOk result (IsReadWhole R.Read reader) }
-    ensures fed { New F.Feeding filter.old (λ m c.
-        OnOk result (HasFed F.Feeding R.Read W.Write m c filter.new reader writer)) }
-    ensures decided { New F.Feeding filter.old (λ m c.
-        IsErrOf result FilterError.Read → HasFiltered R.Read W.Write (IsText m) reader writer) }
-    ensures endless { New F.Feeding filter.old (λ m c. IsErrOf result FilterError.Endless
-        → HasFilteredAtLeast R.Read W.Write MOST_READS (IsText m) reader writer) }
-    ensures until_refused { New F.Feeding filter.old (λ m c. IsErrOf result FilterError.Memory
-        → HasFilteredAllBut R.Read W.Write (length chunk.old) (IsText m) reader writer) }
-    ensures beginning { New F.Feeding filter.old (λ m c.
-        OnErr result (HasBegun R.Read W.Write c reader writer)) }
-    ensures read_fault { FailsWith result FilterError.Read reader }
-    ensures write_fault { FailsWith result FilterError.Write writer }
-    ensures refused { New F.Feeding filter.old (λ m c.
-        IsErrOf result FilterError.Memory → Refused A) }
-{
-    for _ in 0..MOST_READS {
-        match reader.read(chunk) {
-            Ok(0) => return Ok(()),
-            Ok(n) => pass_on(filter, &chunk[..n], writer)?,
-            Err(_) => return Err(FilterError::Read),
-        }
-    }
-    Err(FilterError::Endless)
-}
-
-// Feeds the filter these bytes, writes the text that they add, and flushes the writer.
-fn pass_on<W: Write, F: Feeding<A>, A: Allocator + Copy>(
-    filter: &mut F,
-    bytes: &[u8],
-    writer: &mut Watched<W>,
-) -> Result<(), FilterError>
-    ensures given { Given F.Feeding filter.old (λ m c s.
-        OnOk result (PassesOn F.Feeding W.Write m c s bytes.now filter.new writer)) }
-    ensures beginning { Given F.Feeding filter.old (λ m c s.
-        OnErr result (PassesPrefixOn W.Write m s bytes.now writer)) }
-    ensures no_read { IsErrOf result FilterError.Read → ⊥ }
-    ensures no_end { IsErrOf result FilterError.Endless → ⊥ }
-    ensures unwritten { IsErrOf result FilterError.Memory → writer.new ≡ writer.old }
-    ensures write_fault { FailsWith result FilterError.Write writer }
-    ensures refused { Given F.Feeding filter.old (λ m c s.
-        IsErrOf result FilterError.Memory → Refused A) }
-{
-    match filter.feed_piece(bytes) {
-        Ok(()) => write_out(writer, filter.added_text()),
-        Err(_) => Err(FilterError::Memory),
-    }
-}
-
-// Ends the filter's stream, and writes the text that this adds.
-fn end<W: Write, F: Feeding<A>, A: Allocator + Copy>(
-    filter: &mut F,
-    output: &mut Watched<W>,
-) -> Result<(), FilterError>
-    ensures given { Given F.Feeding filter.old (λ m c s.
-        OnOk result ((t : List ℕ) × (c s ≡ m s ++ t) × Writes W.Write t output)) }
-    ensures beginning { Given F.Feeding filter.old (λ m c s.
-        OnErr result ((t : List ℕ) × (c s ≡ m s ++ t) × WritesPrefix W.Write t output)) }
-    ensures no_read { IsErrOf result FilterError.Read → ⊥ }
-    ensures no_end { IsErrOf result FilterError.Endless → ⊥ }
-    ensures unwritten { IsErrOf result FilterError.Memory → output.new ≡ output.old }
-    ensures write_fault { FailsWith result FilterError.Write output }
-    ensures refused { Given F.Feeding filter.old (λ m c s.
-        IsErrOf result FilterError.Memory → Refused A) }
-{
-    match filter.finish_all() {
-        Ok(()) => write_out(output, filter.added_text()),
-        Err(_) => Err(FilterError::Memory),
-    }
-}
-
-// Writes all of the text, and flushes the writer.
-fn write_out<W: Write>(writer: &mut Watched<W>, text: &str) -> Result<(), FilterError>
-    ensures whole { OnOk result (Writes W.Write text.now writer) }
-    ensures beginning { OnErr result (WritesPrefix W.Write text.now writer) }
-    ensures fault { IfErr result (λ e. e ≡ FilterError.Write) }
-    ensures emitted { FailsWith result FilterError.Write writer }
-{
-    if !writer.write_whole(text.as_bytes()) {
-        return Err(FilterError::Write);
-    }
-    match writer.flush() {
-        Ok(()) => Ok(()),
-        Err(_) => Err(FilterError::Write),
-    }
 }

@@ -19,7 +19,6 @@ mod concealed;
 mod encoder;
 mod feeding;
 mod filter;
-mod filter_error;
 mod filtering;
 mod function_groups;
 mod group;
@@ -37,11 +36,10 @@ mod written;
 
 pub use admit::{Admit, passes};
 pub use encoder::Encoder;
+pub use esc_normal::{Feeding, FilterError, MOST_READS, filter_from};
 pub use esc_visible::is_deceiving;
-pub use feeding::Feeding;
 pub use filter::Filter;
-pub use filter_error::FilterError;
-pub use filtering::{MOST_READS, filter_from, filter_lines, filter_stream};
+pub use filtering::{filter_lines, filter_stream};
 pub use group::Group;
 pub use groups::Groups;
 pub use laws::{

@@ -4,7 +4,7 @@ use Rattle.esc_actions.specs.Values.{value_of}
 use Rattle.esc_actions.specs.declared.action.Action.{Action}
 use Rattle.esc_parse.specs.Fed.{WasFedWithin}
 use Rattle.esc_lines.specs.Steps.{step_of}
-use Rattle.esc_filter.specs.declared.feeding.Feeding.{Ghosts as Feeder}
+use Rattle.esc_normal.specs.declared.feeding.Feeding.{Ghosts as Feeder}
 use Rattle.esc_lines.specs.Streams.{final_of, left_of, values_of, window_from}
 use Rattle.esc_lines.specs.declared.collapse.Collapse.{Collapse}
 use Rattle.esc_lines.specs.declared.collapsing.Collapsing.{Collapsing}

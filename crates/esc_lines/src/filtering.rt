@@ -1,6 +1,6 @@
 //! From a stream to what is left of the lines of its filter.
 ghost use Rattle.std.specs.Prelude.{IsErrOf, max};
-ghost use Rattle.esc_filter.specs.Streams.{Filters, IsEither, New};
+ghost use Rattle.esc_normal.specs.Streams.{Filters, IsEither, New};
 ghost use Rattle.esc_lines.specs.Fed.{final_after, left_after};
 ghost use Rattle.esc_lines.specs.Windows.{sized};
 ghost use Rattle.memory.specs.Refusals.{Refused};

@@ -1,2 +1,5 @@
 pub mod Io
 pub mod Spelled
+pub mod Streams
+pub mod Texts
+pub mod Normalising

@@ -211,8 +211,8 @@ pub fn normal_text<A: Allocator + Copy>(
     }
 }
 
-// A parser at the beginning of a stream, with or without a limit.
-fn parser_within<A: Allocator + Copy>(alloc: A, limit: Option<usize>) -> Parser<A>
+/// A parser at the beginning of a stream, with or without a limit.
+pub(crate) fn parser_within<A: Allocator + Copy>(alloc: A, limit: Option<usize>) -> Parser<A>
     ensures { WasFedWithin limit [] result }
 {
     match limit {

@@ -43,6 +43,24 @@ impl<A: Allocator> Spell<A> {
         }
     }
 
+    /// The same with an empty text, in the memory of this one.
+    #[inline]
+    pub(crate) fn emptied(self) -> Spell<A>
+        ensures text { result.text ≡ [] }
+        ensures same { result.follows_string ≡ self.follows_string }
+    {
+        let Spell {
+            text,
+            follows_string,
+        } = self;
+        let mut string = text.into_string();
+        string.clear();
+        Spell {
+            text: Text::from_string(string),
+            follows_string,
+        }
+    }
+
     // Appends the text of an action, out of the way of the code that takes characters.
     #[inline(never)]
     fn append(&mut self, action: Action<A>) -> Result<(), AllocError>

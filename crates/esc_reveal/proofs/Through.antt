@@ -1,7 +1,7 @@
 -- A filter of what a reveal makes of a stream.
 use Rattle.std.proofs.Common.{ℕ, ◌≡◌, List, [], ◌++◌, refl, ap, sym, ◌∙◌, subst, append_assoc}
 use Rattle.esc_filter.specs.declared.admit.Admit.{Ghosts as Admitter}
-use Rattle.esc_filter.specs.declared.feeding.Feeding.{Ghosts as Feeder}
+use Rattle.esc_normal.specs.declared.feeding.Feeding.{Ghosts as Feeder}
 use Rattle.esc_reveal.proofs.Cutting.{rest_none}
 use Rattle.esc_reveal.proofs.Longer.{revealed_longer, whole_longer}
 use Rattle.esc_reveal.specs.Fed.{WasFed, text_by, whole_by}

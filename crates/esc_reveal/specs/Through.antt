@@ -1,7 +1,7 @@
 -- A filter that is fed what a reveal makes of a stream.
 use Rattle.std.specs.Prelude.{ℕ, ◌≡◌, List, ◌++◌}
 use Rattle.esc_filter.specs.declared.admit.Admit.{Ghosts as Admitter}
-use Rattle.esc_filter.specs.declared.feeding.Feeding.{Ghosts as Feeder}
+use Rattle.esc_normal.specs.declared.feeding.Feeding.{Ghosts as Feeder}
 use Rattle.esc_reveal.specs.Fed.{WasFed, text_by, whole_by}
 use Rattle.esc_reveal.specs.declared.reveal.Reveal.{Reveal}
 use Rattle.esc_reveal.specs.declared.reveal.Rule.{Rule}

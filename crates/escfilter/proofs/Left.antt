@@ -4,8 +4,8 @@ use Rattle.esc_lines.specs.Fed.{final_after, left_after}
 use Rattle.std.specs.declared.io.traits.Read.{Ghosts as Reader}
 use Rattle.std.specs.declared.io.traits.Write.{Ghosts as Writer}
 use Rattle.esc_normal.specs.Io.{Borrowed}
-use Rattle.esc_filter.specs.Streams.{Filters, IsEither}
-use Rattle.esc_filter.specs.declared.filter_error.FilterError.{FilterError}
+use Rattle.esc_normal.specs.Streams.{Filters, IsEither}
+use Rattle.esc_normal.specs.declared.filter_error.FilterError.{FilterError}
 use Rattle.escfilter.specs.Written.{final_by, left_by, size_of}
 
 -- where so many rows may be written again

@@ -6,8 +6,8 @@ use Rattle.std.specs.declared.io.traits.Write.{Ghosts as Writer}
 use Rattle.esc_actions.specs.Values.{Value}
 use Rattle.esc_parse.proofs.Lists.{on_ok_more}
 use Rattle.esc_normal.specs.Io.{Borrowed, WritesPrefix}
-use Rattle.esc_filter.specs.Streams.{Filters, HasBegun, HasFiltered, IsEither}
-use Rattle.esc_filter.specs.declared.filter_error.FilterError.{FilterError}
+use Rattle.esc_normal.specs.Streams.{Filters, HasBegun, HasFiltered, IsEither}
+use Rattle.esc_normal.specs.declared.filter_error.FilterError.{FilterError}
 use Rattle.esc_filter.specs.declared.unicode.Unicode.{Unicode}
 use Rattle.escfilter.specs.Written.{closed_by, final_by, going_by, is_left_by, is_passed_by, left_by}
 

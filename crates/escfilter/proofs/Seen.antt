@@ -8,7 +8,7 @@ use Rattle.esc_filter.proofs.Texts.{added_as, text_longer_as}
 use Rattle.esc_filter.specs.Closing.{closing}
 use Rattle.esc_filter.specs.Lines.{line_closing, closed_by_lines_as, text_by_lines_as}
 use Rattle.esc_filter.specs.Passing.{closed_text_as, passed_as, passed_text_as}
-use Rattle.esc_filter.specs.Texts.{ends_in_string}
+use Rattle.esc_normal.specs.Texts.{ends_in_string}
 use Rattle.esc_filter.specs.declared.unicode.Unicode.{Unicode}
 use Rattle.esc_reveal.specs.Revealed.{revealed, revealed_whole}
 use Rattle.esc_filter.specs.declared.admit.Admit.{Ghosts as Admitter}

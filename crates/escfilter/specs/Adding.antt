@@ -1,6 +1,6 @@
 -- A filter that was fed nothing, whose text more of a stream only adds to.
 use Rattle.std.specs.Prelude.{ℕ, ◌≡◌, List, [], ◌++◌}
-use Rattle.esc_filter.specs.declared.feeding.Feeding.{Ghosts as Feeder}
+use Rattle.esc_normal.specs.declared.feeding.Feeding.{Ghosts as Feeder}
 
 -- more of a stream adds to its text, and so does its end
 pub record OnlyAdds (m c : List ℕ → List ℕ) : Type 0 where

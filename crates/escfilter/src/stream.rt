@@ -1,6 +1,6 @@
 //! One stream, from its reader to the output.
 ghost use Rattle.std.specs.Prelude.{◌≡◌, IsErrOf, false, true};
-ghost use Rattle.esc_filter.specs.Streams.{Filters, IsEither, New};
+ghost use Rattle.esc_normal.specs.Streams.{Filters, IsEither, New};
 ghost use Rattle.memory.specs.Refusals.{Refused};
 ghost use Rattle.escfilter.specs.Adding.{NewAdding};
 ghost use Rattle.escfilter.specs.Written.{IsWritten, final_by, left_by, seen_by, text_of};

@@ -7,7 +7,7 @@ use Rattle.esc_filter.proofs.Texts.{added_as, text_longer_as}
 use Rattle.esc_filter.specs.Closing.{closing}
 use Rattle.esc_filter.specs.Passing.{passed, passed_as}
 use Rattle.esc_filter.specs.Rules.{admits}
-use Rattle.esc_filter.specs.Texts.{ends_in_string}
+use Rattle.esc_normal.specs.Texts.{ends_in_string}
 use Rattle.esc_filter.specs.declared.policy.Policy.TheVariants.{Screen}
 use Rattle.esc_filter.specs.declared.unicode.Unicode.TheVariants.{Keep}
 use Rattle.esc_html.specs.Pages.{closing_text, page_text}
@@ -21,8 +21,8 @@ use Rattle.eschtml.specs.declared.options.Options.{Options}
 use Rattle.std.specs.declared.io.traits.Read.{Ghosts as Reader}
 use Rattle.std.specs.declared.io.traits.Write.{Ghosts as Writer}
 use Rattle.esc_normal.specs.Io.{Borrowed}
-use Rattle.esc_filter.specs.Streams.{Filters}
-use Rattle.esc_filter.specs.declared.filter_error.FilterError.{FilterError}
+use Rattle.esc_normal.specs.Streams.{Filters}
+use Rattle.esc_normal.specs.declared.filter_error.FilterError.{FilterError}
 use Rattle.eschtml.proofs.Longer.{page_longer, page_of_nothing, text_more}
 
 -- a page only grows

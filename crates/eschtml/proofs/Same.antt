@@ -4,8 +4,8 @@ use Rattle.std.proofs.lemmas.Result.{on_err_weaker}
 use Rattle.std.specs.declared.io.traits.Read.{Ghosts as Reader}
 use Rattle.std.specs.declared.io.traits.Write.{Ghosts as Writer}
 use Rattle.esc_normal.specs.Io.{Borrowed, WritesPrefix}
-use Rattle.esc_filter.specs.Streams.{Filters, HasBegun, HasFiltered, IsEither}
-use Rattle.esc_filter.specs.declared.filter_error.FilterError.{FilterError}
+use Rattle.esc_normal.specs.Streams.{Filters, HasBegun, HasFiltered, IsEither}
+use Rattle.esc_normal.specs.declared.filter_error.FilterError.{FilterError}
 
 on_ok_more : {T E : Type 0} (X Y : Type 0) (r : Result T E) → (X → Y) → OnOk r X → OnOk r Y
 on_ok_more X Y (Ok x) f h = f h

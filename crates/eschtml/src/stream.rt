@@ -1,6 +1,6 @@
 //! One stream, from its reader to the output.
 ghost use Rattle.std.specs.Prelude.{◌≡◌, ◌++◌, [], ℕ, IsErrOf, Some, false, if◌then◌else◌, true};
-ghost use Rattle.esc_filter.specs.Streams.{Filters, IsEither};
+ghost use Rattle.esc_normal.specs.Streams.{Filters, IsEither};
 ghost use Rattle.esc_html.specs.Fed.{WasFed, added_by};
 ghost use Rattle.esc_html.specs.Pages.{page_text};
 ghost use Rattle.esc_html.specs.declared.layout.Layout.{Layout as LayoutValue};

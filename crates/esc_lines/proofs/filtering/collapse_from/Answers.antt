@@ -1,7 +1,7 @@
 use Rattle.std.proofs.Common.{[], arith, max, refl, subst, sym}
 use Rattle.std.proofs.KnownBytes.{Appends-nil, Consumes-nil}
 use Rattle.std.specs.Io.KnownBytes.{Appends}
-use Rattle.esc_filter.proofs.Results.{not_failed, prefix_none}
+use Rattle.esc_normal.proofs.Results.{not_failed, prefix_none}
 use Rattle.esc_lines.specs.Fed.{final_after, left_after}
 use Rattle.esc_lines.specs.Windows.{sized}
 use Rattle.esc_lines.proofs.Streams.{final_after_nil, left_after_more}

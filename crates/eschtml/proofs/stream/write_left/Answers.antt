@@ -2,7 +2,7 @@ use Rattle.std.proofs.Common.{[], Some, arith, refl, subst, sym, true, false}
 use Rattle.std.proofs.KnownBytes.{Appends-nil, Consumes-nil}
 use Rattle.std.specs.Io.KnownBytes.{Appends}
 use Rattle.esc_filter.proofs.Begun.{begun, filters}
-use Rattle.esc_filter.proofs.Results.{not_failed, prefix_none}
+use Rattle.esc_normal.proofs.Results.{not_failed, prefix_none}
 use Rattle.esc_filter.specs.Rules.{admits}
 use Rattle.esc_filter.specs.declared.policy.Policy.TheVariants.{Screen}
 use Rattle.esc_filter.specs.declared.unicode.Unicode.TheVariants.{Keep}

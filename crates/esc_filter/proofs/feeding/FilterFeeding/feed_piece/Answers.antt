@@ -5,7 +5,7 @@ use Rattle.esc_filter.proofs.feeding.FilterFeeding.feed_piece.Goals as goal
 use Rattle.esc_filter.specs.Fed.{WasFedIn, added_by, policy_of}
 use Rattle.esc_filter.specs.Passing.{closed_text_as, passed_as, passed_text_as}
 use Rattle.esc_filter.specs.declared.unicode.Unicode.{Unicode}
-use Rattle.esc_filter.specs.Texts.{ends_in_string}
+use Rattle.esc_normal.specs.Texts.{ends_in_string}
 
 pub returns-in-Ok-clause-given : goal.returns-in-Ok-clause-given
 returns-in-Ok-clause-given g c = λ m e s h.

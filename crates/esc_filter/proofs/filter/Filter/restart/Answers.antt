@@ -5,7 +5,7 @@ use Rattle.esc_filter.proofs.filter.Filter.restart.Goals as goal
 use Rattle.esc_filter.specs.Closing.{after_values, unchanged}
 use Rattle.esc_filter.specs.Fed.{policy_of}
 use Rattle.esc_filter.specs.Passing.{in_lines}
-use Rattle.esc_filter.specs.Texts.{ends_in_string}
+use Rattle.esc_normal.specs.Texts.{ends_in_string}
 
 pub returns-clause-fed : goal.returns-clause-fed
 returns-clause-fed g c = λ b u limit s h.

@@ -1,6 +1,6 @@
 use Rattle.std.proofs.Common.{◌≡◌, ◌≤◌, List, ℕ, [], false, length}
 use Rattle.std.specs.Io.KnownBytes.{Appends, Consumes}
-use Rattle.esc_filter.proofs.filtering.filter_all.Given as goal
+use Rattle.esc_normal.proofs.filtering.filter_all.Given as goal
 
 abbrev pub invariant-loop : goal.invariant-loop
 invariant-loop g l = record {

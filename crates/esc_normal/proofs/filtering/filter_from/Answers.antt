@@ -3,8 +3,8 @@ use Rattle.std.proofs.KnownBytes.{Appends-nil, Consumes-nil}
 use Rattle.std.proofs.lemmas.Result.{on_err_weaker}
 use Rattle.std.specs.Io.KnownBytes.{Appends, Consumes}
 use Rattle.esc_parse.proofs.Lists.{on_ok_more}
-use Rattle.esc_filter.proofs.Results.{not_failed, ok_any, prefix_after, prefix_none, unfailed, written_more}
-use Rattle.esc_filter.proofs.filtering.filter_from.Goals as goal
+use Rattle.esc_normal.proofs.Results.{not_failed, ok_any, prefix_after, prefix_none, unfailed, written_more}
+use Rattle.esc_normal.proofs.filtering.filter_from.Goals as goal
 
 pub returns-in-Ok-filter_all-clause-holds : goal.returns-in-Ok-filter_all-clause-holds
 returns-in-Ok-filter_all-clause-holds g c = λ m e fresh none more.

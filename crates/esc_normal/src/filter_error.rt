@@ -1,7 +1,7 @@
-//! Why a stream was not filtered.
+//! Why a stream was not written to its end.
 use thiserror::Error;
 
-/// Why a stream was not filtered to its end.
+/// Why a stream was not read and written to its end, by a filter or in its normal form.
 #[derive(Clone, Copy, Debug, Error, PartialEq, Eq)]
 pub enum FilterError {
     /// The reader returned an error. The text of all that was read before was written.

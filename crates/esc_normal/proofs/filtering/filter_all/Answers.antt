@@ -4,8 +4,8 @@ use Rattle.std.proofs.KnownBytes.{Appends-nil, Consumes-kept, Consumes-nil, Cons
 use Rattle.std.specs.Io.KnownBytes.{Appends}
 use Rattle.esc_parse.proofs.Lists.{on_err_any}
 use Rattle.std.proofs.lemmas.Result.{err_from_is_err_and}
-use Rattle.esc_filter.proofs.Results.{err_is, one_more, prefix_after, prefix_longer, prefix_whole, read_none, written_more}
-use Rattle.esc_filter.proofs.filtering.filter_all.Goals as goal
+use Rattle.esc_normal.proofs.Results.{err_is, one_more, prefix_after, prefix_longer, prefix_whole, read_none, written_more}
+use Rattle.esc_normal.proofs.filtering.filter_all.Goals as goal
 
 pub loop-init : goal.loop-init
 loop-init g c = record {

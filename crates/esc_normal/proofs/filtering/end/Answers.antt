@@ -1,8 +1,8 @@
 use Rattle.std.proofs.Common.{◌++◌, ap, sym, ◌∙◌}
 use Rattle.esc_parse.proofs.Lists.{on_ok_more}
 use Rattle.std.proofs.lemmas.Result.{on_err_weaker}
-use Rattle.esc_filter.proofs.Results.{prefix_none}
-use Rattle.esc_filter.proofs.filtering.end.Goals as goal
+use Rattle.esc_normal.proofs.Results.{prefix_none}
+use Rattle.esc_normal.proofs.filtering.end.Goals as goal
 
 pub returns-in-Ok-clause-given : goal.returns-in-Ok-clause-given
 returns-in-Ok-clause-given g c = λ m e s h.

@@ -1,0 +1,10 @@
+use Rattle.std.proofs.Common.{false, sym, ap, ◌∙◌}
+use Rattle.esc_actions.proofs.Meanings.{meaning_nil}
+use Rattle.esc_normal.specs.Texts.{ends_in_string}
+use Rattle.esc_normal.proofs.normaliser.Normaliser.new.Goals as goal
+
+pub returns-clause-fed : goal.returns-clause-fed
+returns-clause-fed g c = (
+  c.parser_within.ensures,
+  c.new.ensures.plain ∙ ap (ends_in_string false) (sym (meaning_nil c.args.limit)),
+)

@@ -1,0 +1,39 @@
+//! What takes a stream in pieces, and has the text of each.
+ghost use Rattle.std.specs.Prelude.{◌≡◌, ◌++◌, ℕ, List, OnErr, OnOk};
+ghost use Rattle.memory.specs.Refusals.{Refused};
+
+use std::alloc::{AllocError, Allocator};
+
+/// Takes a stream in whatever pieces it comes, and has for each the text that it adds, and what its
+/// end adds.
+pub trait Feeding<A: Allocator> {
+    // it gives the first texts for streams that go on, and the second for those that have ended,
+    // and was fed this stream
+    ghost gives: { Self → (List ℕ → List ℕ) → (List ℕ → List ℕ) → List ℕ → Type 0 };
+
+    // what the bytes fed last added
+    ghost added: { Self → List ℕ };
+
+    /// Takes bytes more.
+    fn feed_piece(&mut self, bytes: &[u8]) -> Result<(), AllocError>
+        ensures given { (m c : List ℕ → List ℕ) (s : List ℕ) → gives self.old m c s
+            → OnOk result (gives self.new m c (s ++ bytes.now)
+            × (m (s ++ bytes.now) ≡ m s ++ added self.new)) }
+        ensures longer { (m c : List ℕ → List ℕ) (s : List ℕ) → gives self.old m c s
+            → (t : List ℕ) × (m (s ++ bytes.now) ≡ m s ++ t) }
+        ensures refused { (m c : List ℕ → List ℕ) (s : List ℕ) → gives self.old m c s
+            → OnErr result (Refused A) };
+
+    /// Ends the stream.
+    fn finish_all(&mut self) -> Result<(), AllocError>
+        ensures ended { (m c : List ℕ → List ℕ) (s : List ℕ) → gives self.old m c s
+            → OnOk result (c s ≡ m s ++ added self.new) }
+        ensures longer { (m c : List ℕ → List ℕ) (s : List ℕ) → gives self.old m c s
+            → (t : List ℕ) × (c s ≡ m s ++ t) }
+        ensures refused { (m c : List ℕ → List ℕ) (s : List ℕ) → gives self.old m c s
+            → OnErr result (Refused A) };
+
+    /// The text that the last call added.
+    fn added_text(&self) -> &str
+        ensures { result.now ≡ added self.now };
+}
