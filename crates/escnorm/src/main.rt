@@ -8,8 +8,11 @@ pub mod task;
 #[cfg(test)]
 mod tests;
 
+use command_line::is_output;
 use esc_normal::Watched;
+use run::Order;
 pub use run::run;
+use std::fs::metadata;
 use std::process::ExitCode;
 use std::{env, io};
 
@@ -23,11 +26,22 @@ fn main(rt: HostRuntime) -> ExitCode {
     let status = run(
         rt.alloc(),
         &words,
+        order(&rt),
         &mut input,
         &mut output,
         &mut rt.stderr(),
     );
     ExitCode::from(status)
+}
+
+// When to write: once all is read where standard output is the file that is read, which would have
+// no end otherwise.
+fn order(rt: &HostRuntime) -> Order {
+    if is_output(rt, metadata(rt, "/dev/stdin")) {
+        Order::OnceRead
+    } else {
+        Order::AsItReads
+    }
 }
 
 // The words after the program's name.

@@ -8,7 +8,8 @@ ghost use Rattle.esc_actions.specs.Texts.{list_text};
 
 use crate::task::Task;
 use esc_normal::{
-    NormaliseError, Watched, is_normal, is_normal_limited, normalise, normalise_limited,
+    FilterError, NormaliseError, Watched, is_normal, is_normal_limited, normalise,
+    normalise_limited, normalise_stream,
 };
 use std::alloc::Allocator;
 use std::io::{Read, Write};
@@ -21,17 +22,28 @@ const USAGE: u8 = 2;
 
 const DIFFERENT: u8 = 3;
 
+/// When the program writes.
+#[derive(Clone, Copy)]
+pub enum Order {
+    /// As it reads.
+    AsItReads,
+    /// Once it has read all, for an output that is what it reads: the input has an end then.
+    OnceRead,
+}
+
 /// What the program does with these words, its arguments, and the status it ends with.
 ///
-/// Without words it normalises `input` to `output`: status 0. With `--check` it compares `input`
-/// with its normal form, and writes nothing: status 0 where they are equal, 3 where they differ.
-/// With `--limit` and a number after these it does so through a parser that keeps no more bytes of
-/// a segment. Where that is hindered, status 1, with a line on `faults` that names the fault. Any
-/// other words are status 2, with the usage on `faults`, and nothing is read or written. Where a
-/// line cannot be written the status stays.
+/// Without words it normalises `input` to `output`, in this order: status 0. With `--check` it
+/// compares `input` with its normal form, and writes nothing: status 0 where they are equal, 3
+/// where they differ. With `--limit` and a number after these it does so through a parser that
+/// keeps no more bytes of a segment. Where that is hindered, status 1, with a line on `faults` that
+/// names the fault; then a prefix of the normal form was written. Any other words are status 2,
+/// with the usage on `faults`, and nothing is read or written. Where a line cannot be written the
+/// status stays.
 pub fn run<A: Allocator + Copy, R: Read, W: Write, E: Write>(
     alloc: A,
     words: &[String],
+    order: Order,
     input: &mut Watched<R>,
     output: &mut Watched<W>,
     faults: &mut E,
@@ -48,7 +60,7 @@ pub fn run<A: Allocator + Copy, R: Read, W: Write, E: Write>(
         × (output.new ≡ output.old) }
 {
     let done = match Task::of(words) {
-        Some(Task::Normalise(limit)) => normalised(alloc, input, output, limit),
+        Some(Task::Normalise(limit)) => normalised(alloc, order, input, output, limit),
         Some(Task::Check(limit)) => checked(alloc, input, limit),
         None => {
             let _ = writeln!(faults, "usage: escnorm [--check] [--limit n]");
@@ -67,22 +79,67 @@ pub fn run<A: Allocator + Copy, R: Read, W: Write, E: Write>(
 // The status once the input is normalised.
 fn normalised<A: Allocator + Copy, R: Read, W: Write>(
     alloc: A,
+    order: Order,
     input: &mut Watched<R>,
     output: &mut Watched<W>,
     limit: Option<usize>,
-) -> Result<u8, NormaliseError>
+) -> Result<u8, FilterError>
     ensures { IfOk result (λ n. IsNormalised A limit
         (R.remaining (inner_of input.old)) (R.remaining (inner_of input.new))
         (W.contents (inner_of output.old)) (W.contents (inner_of output.new)) n) }
 {
-    match normalise_and_flush(alloc, input, output, limit) {
-        Ok(()) => Ok(DONE),
-        Err(error) => Err(error),
+    normalise_in(alloc, order, input, output, limit)?;
+    Ok(DONE)
+}
+
+// Normalises in this order, and flushes the writer.
+fn normalise_in<A: Allocator + Copy, R: Read, W: Write>(
+    alloc: A,
+    order: Order,
+    reader: &mut Watched<R>,
+    writer: &mut Watched<W>,
+    limit: Option<usize>,
+) -> Result<(), FilterError>
+    ensures read_all { OnOk result (IsAtEnd (R.remaining (inner_of reader.new))) }
+    ensures written { OnOk result (IfSome (R.remaining (inner_of reader.old)) (λ s.
+        Appends (W.contents (inner_of writer.old)) (W.contents (inner_of writer.new))
+        (list_text (meaning_within {A = A} limit s)))) }
+{
+    match order {
+        Order::AsItReads => normalise_stream(alloc, reader, writer, limit),
+        Order::OnceRead => match normalise_and_flush(alloc, reader, writer, limit) {
+            Ok(()) => Ok(()),
+            Err(error) => Err(fault_of(error)),
+        },
     }
 }
 
 // The status once the input is compared with its normal form.
 fn checked<A: Allocator + Copy, R: Read>(
+    alloc: A,
+    input: &mut Watched<R>,
+    limit: Option<usize>,
+) -> Result<u8, FilterError>
+    ensures { IfOk result
+        (λ n. IfSome (R.remaining (inner_of input.old)) (λ s. IsVerdict A limit s n)) }
+{
+    match compared(alloc, input, limit) {
+        Ok(status) => Ok(status),
+        Err(error) => Err(fault_of(error)),
+    }
+}
+
+// The same fault, as the error of a stream that is written as it is read.
+fn fault_of(error: NormaliseError) -> FilterError {
+    match error {
+        NormaliseError::Read => FilterError::Read,
+        NormaliseError::Write => FilterError::Write,
+        NormaliseError::Memory => FilterError::Memory,
+    }
+}
+
+// The same with the error of `is_normal`.
+fn compared<A: Allocator + Copy, R: Read>(
     alloc: A,
     input: &mut Watched<R>,
     limit: Option<usize>,
@@ -97,7 +154,7 @@ fn checked<A: Allocator + Copy, R: Read>(
     if is_same { Ok(DONE) } else { Ok(DIFFERENT) }
 }
 
-// Normalises, then flushes the writer. An error of the flush is a write fault.
+// Normalises once all is read, then flushes the writer. An error of the flush is a write fault.
 fn normalise_and_flush<A: Allocator + Copy, R: Read, W: Write>(
     alloc: A,
     reader: &mut Watched<R>,
