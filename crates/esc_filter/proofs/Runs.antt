@@ -17,7 +17,7 @@ use Rattle.esc_filter.specs.Fed.{Refuses, Takes}
 use Rattle.memory.specs.Refusals.{Refused}
 use Rattle.esc_filter.specs.Passing.{passes}
 use Rattle.esc_filter.specs.declared.passing.Passing.{Passing}
-use Rattle.esc_filter.specs.Rules.{admits, is_shown}
+use Rattle.esc_filter.specs.Rules.{admits, is_shown, is_text}
 use Rattle.esc_filter.specs.declared.policy.Policy.{Policy}
 use Rattle.esc_filter.specs.declared.policy.Policy.TheVariants as policy
 
@@ -63,7 +63,14 @@ admitted_char A policy.Color c h = rw h refl
 admitted_char A policy.Screen c h = rw h refl
 admitted_char A policy.All c h = refl
 
--- each policy admits characters that are shown
+-- each policy admits text
+pub text_passes : {A : Type 0} (p : Policy) (v : Value A) → is_text v ≡ true → true ≡ admits p v
+text_passes policy.Text v h = sym h
+text_passes policy.Color v h = rw h refl
+text_passes policy.Screen v h = rw h refl
+text_passes policy.All v h = refl
+
+-- and characters that are shown
 pub run_admitted : (A : Type 0) (p : Policy) (xs : List ℕ) → list_all is_shown xs ≡ true
     → list_all (λ c. admits {A = A} p (print c)) xs ≡ true
 run_admitted A p xs h = all_more is_shown (λ c. admits {A = A} p (print c))

@@ -104,6 +104,8 @@ impl<'a, A: Allocator> Admit<A> for Groups<'a> {
 
     ghost admits = { λ g v. admits_groups g v };
 
+    // Out of the way of a policy that a program has in the same place.
+    #[inline(never)]
     fn admits(&self, action: &Action<A>) -> bool {
         leads(&self.schemes, action) && self.has(Group::of(action))
     }
