@@ -21,8 +21,8 @@ pub(crate) struct Passing<'p, P, A: Allocator = Global> {
 }
 
 impl<'p, P: Admit<A>, A: Allocator> Passing<'p, P, A> {
-    // Takes a control, which can be written by itself. No action is moved, so it costs less than any
-    // other.
+    // Takes a control, which can be written by itself. No action is moved, so it costs less than
+    // any other.
     #[inline(never)]
     fn receive_control(&mut self, code: ControlCode) -> Result<(), AllocError>
         ensures ok { OnOk result (Takes (P.admits self.old.policy.now) self.old.written

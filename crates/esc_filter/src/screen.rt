@@ -72,8 +72,8 @@ fn is_screen_sequence<A: Allocator>(csi: &CSI<A>) -> bool
     }
 }
 
-// The same, of a sequence that has no name of its own. That the plain ones from ICH to DL change the
-// screen alone is known before the table is asked.
+// The same, of a sequence that has no name of its own. That the plain ones from ICH to DL change
+// the screen alone is known before the table is asked.
 #[tactic(auto, using(crate::proofs::Screens::plain_moves))]
 #[inline]
 pub(crate) fn is_screen_body(params: &[CsiParam], control: u8) -> bool

@@ -217,9 +217,13 @@ sequence_taken {A} p q es true f t is adds = absurd (true≢false t)
 
 pub sequence_refused : {A : Type 0} (p q : Screen A) (es : List CsiParam) (truncated : Bool) (f : ℕ)
     → csi_of es truncated f ≡ unspecified es truncated f ∷ [] → Refused A
-    → StopsAt ⊥ (By (IsSequence {A = A}) Takes) (By (IsSequence {A = A}) (λ p a q. Refused A)) p (csi_of es truncated f) q
+    → StopsAt ⊥ (By (IsSequence {A = A}) Takes) (By (IsSequence {A = A}) (λ p a q. Refused A)) p
+    (csi_of es truncated f) q
 sequence_refused {A} p q es truncated f is r =
-    subst (λ vs. StopsAt ⊥ (By (IsSequence {A = A}) Takes) (By (IsSequence {A = A}) (λ p a q. Refused A)) p vs q) (sym is)
+    subst
+    (λ vs. StopsAt ⊥ (By (IsSequence {A = A}) Takes)
+    (By (IsSequence {A = A}) (λ p a q. Refused A)) p vs q)
+    (sym is)
     (inr (inl (one, refl, r)))
   where
     one : Action A

@@ -97,7 +97,8 @@ module _ (n : ℕ) (cs ps : List ℕ) (ys : List (Option Glyph)) (within : n ≤
       ∙ append_assoc (map plain_cell before) (map plain_cell after) ys
 
   put_among : put_all n plain_look cs (map plain_cell ps ++ ys)
-      ≡ map plain_cell before ++ (map plain_cell cs ++ drop (length cs) (map plain_cell after ++ ys))
+      ≡ map plain_cell before
+      ++ (map plain_cell cs ++ drop (length cs) (map plain_cell after ++ ys))
   put_among =
       ap (put_all n plain_look cs) cut
       ∙ put_all_at n plain_look cs (map plain_cell before) (map plain_cell after ++ ys)

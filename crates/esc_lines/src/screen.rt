@@ -393,7 +393,8 @@ impl<A: Allocator + Copy> Screen<A> {
     }
 
     fn erase_above(&mut self) -> Result<(), AllocError>
-        ensures ok { OnOk result (Becomes self.old [] (above_erased (window_of self.old)) self.new) }
+        ensures ok { OnOk result (Becomes self.old [] (above_erased (window_of self.old))
+            self.new) }
         ensures refused { OnErr result (Refused A) }
     {
         self.erase_left()?;

@@ -71,8 +71,8 @@ prefix_of_had A limit (Some xs) (Some ys) before after s c p =
 
 -- where all was read, and the text of what was read was written, it is the text of all that the
 -- reader had
-pub written_all : (A : Type 0) {X E : Type 0} (limit : Option ℕ) (had left before after : Option (List ℕ))
-    (r : Result X E) → OnOk r (IsAtEnd left)
+pub written_all : (A : Type 0) {X E : Type 0} (limit : Option ℕ)
+    (had left before after : Option (List ℕ)) (r : Result X E) → OnOk r (IsAtEnd left)
     → OnOk r ((s : List ℕ) × (t : List ℕ) × Consumes had left s × Appends before after t
     × (t ≡ normal_form A limit s))
     → OnOk r (IfSome had (λ xs. Appends before after (normal_form A limit xs)))

@@ -9,7 +9,8 @@ pub returns-in_err-take-clause-refused : goal.returns-in_err-take-clause-refused
 returns-in_err-take-clause-refused g c =
     err_any c.from_residual.result
     (sequence_refused c.args.self.now c.take.new.self c.args.params.now
-    c.args.parameters_truncated c.args.control (c.is_unspecified.ensures c.if-not-is_unspecified.false)
+    c.args.parameters_truncated c.args.control
+    (c.is_unspecified.ensures c.if-not-is_unspecified.false)
     c.in_err-take.ensures.refused)
 
 pub returns-clause-taken : goal.returns-clause-taken

@@ -6,7 +6,8 @@ use Rattle.esc_lines.proofs.row.Row.write.Goals as goal
 
 pub push_ascii-requires : goal.push_ascii-requires
 push_ascii-requires g c =
-    subst IsAscii (sym c.deref.ensures.value) (bytes_ascii c.self.inside.plain.items c.self.invariant)
+    subst IsAscii (sym c.deref.ensures.value)
+    (bytes_ascii c.self.inside.plain.items c.self.invariant)
 
 pub returns-clause-ok : goal.returns-clause-ok
 returns-clause-ok g c =
