@@ -1,16 +1,20 @@
 -- A control sequence that is taken from its parameters, as one action.
-use Rattle.std.proofs.Common.{ℕ, ◌≡◌, Bool, List, [], ◌∷◌, Result, Ok, Err, OnErr, refl, sym, subst, inl, inr}
+use Rattle.std.proofs.Common.{ℕ, ◌≡◌, Bool, true, false, List, [], ◌∷◌, Result, Ok, Err, OnErr, refl, sym, subst, inl, inr}
 use Rattle.std.specs.List.{FoldsTo}
 use Rattle.esc_actions.specs.Values.{csi, value_of}
 use Rattle.esc_actions.specs.declared.action.Action.{Action}
 use Rattle.esc_actions.specs.declared.action.Action.TheVariants as action
 use Rattle.esc_html.specs.Fed.{Adds, Takes, state_of}
-use Rattle.esc_html.specs.Marks.{function_step}
+use Rattle.esc_html.specs.Marks.{Pen, changes, function_step}
+use Rattle.esc_html.specs.Renditions.{rendition_of, with_rendition}
 use Rattle.esc_html.specs.declared.page.Page.{Page}
 use Rattle.esc_parse.specs.Given.{By, StopsAt}
 use Rattle.esc_sequences.specs.Csis.{CsiValue, sgr, unspecified}
 use Rattle.esc_sequences.specs.declared.csi.CSI.TheVariants as csi_variant
+use Rattle.esc_sequences.specs.declared.intensity.Intensity.TheVariants as intensity
 use Rattle.esc_sequences.specs.declared.sgr.Sgr.{Sgr}
+use Rattle.esc_sequences.specs.declared.sgr.Sgr.TheVariants as known
+use Rattle.esc_sequences.specs.declared.underline.Underline.TheVariants as underline
 use Rattle.esc_typed.specs.Functions.{of_csi}
 use Rattle.esc_values.specs.declared.csi_param.CsiParam.{CsiParam}
 use Rattle.memory.specs.Refusals.{Refused}
@@ -70,6 +74,22 @@ sequence_refused p q vs es more f e r =
       refl,
       r,
     )))
+
+-- a rendition by itself does what one of all does
+pub same_rendition : (p : Pen) (s : Sgr)
+    → changes (with_rendition p (rendition_of s)) ≡ function_step p (of_csi (sgr s))
+same_rendition p known.Reset = refl
+same_rendition p (known.Intensity intensity.Bold) = refl
+same_rendition p (known.Intensity intensity.Half) = refl
+same_rendition p (known.Intensity intensity.Normal) = refl
+same_rendition p (known.Italic true) = refl
+same_rendition p (known.Italic false) = refl
+same_rendition p (known.Underline underline.None) = refl
+same_rendition p (known.Underline underline.Single) = refl
+same_rendition p (known.Underline underline.Double) = refl
+same_rendition p (known.Underline underline.Curly) = refl
+same_rendition p (known.Underline underline.Dotted) = refl
+same_rendition p (known.Underline underline.Dashed) = refl
 
 pub on_err : {T E : Type 0} (X : Type 0) (r : Result T E) → X → OnErr r X
 on_err X (Ok x) h = tt

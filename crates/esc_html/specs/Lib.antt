@@ -7,6 +7,7 @@ pub mod Addresses
 pub mod Listed
 pub mod Marks
 pub mod Plain
+pub mod Renditions
 pub mod Pages
 pub mod Shown
 pub mod Fed

@@ -7,6 +7,7 @@ ghost use Rattle.esc_looks.specs.Looks.{is_plain};
 ghost use Rattle.esc_html.specs.Marks.{address_of, changes, command_step, control_step, function_step, is_page_address, print_step, shows, with_link, with_look};
 ghost use Rattle.esc_html.specs.Pages.{before_character, closed, first_state, link_end_if, link_opening, open_or_not, opened, span_end_unless, span_unless};
 ghost use Rattle.esc_html.specs.Pieces.{html_text};
+ghost use Rattle.esc_html.specs.Renditions.{rendition_of, with_rendition};
 ghost use Rattle.esc_sequences.specs.Csis.{sgr, unspecified};
 ghost use Rattle.esc_typed.specs.Functions.{of_csi, value_of};
 ghost use Rattle.esc_typed.specs.Selections.{left};
@@ -21,9 +22,9 @@ use esc_links::Hyperlink;
 use esc_looks::Look;
 use esc_osc::OperatingSystemCommand;
 use esc_parse::Sink;
+use esc_sequences::Sgr;
 use esc_sequences::csi::{is_unspecified, short_rendition};
-use esc_sequences::{CSI, Sgr};
-use esc_typed::{Function, Renditions, Unfit};
+use esc_typed::{Function, Rendition, Renditions, Unfit};
 use esc_values::{CsiParam, Text};
 use memchr::memchr;
 use std::alloc::{AllocError, Allocator, Global};
@@ -126,6 +127,9 @@ impl<A: Allocator> Page<A> {
         ensures layout { OnOk result (self.new.layout ≡ self.old.layout) }
         ensures refused { OnErr result (Refused A) }
     {
+        if !self.is_open {
+            return Ok(());
+        }
         let closing = self.closing();
         self.html.push_html(closing)?;
         self.is_open = false;
@@ -226,8 +230,18 @@ impl<A: Allocator> Page<A> {
             (function_step (state_of self.old).pen (of_csi (sgr rendition))) self.new) }
         ensures refused { OnErr result (Refused A) }
     {
-        let csi: CSI<A> = CSI::Sgr(rendition);
-        self.take_function(Function::of(&csi))
+        self.select_one(rendition_of(rendition))
+    }
+
+    // The tags are closed, and the look changes by one rendition.
+    fn select_one(&mut self, rendition: Rendition) -> Result<(), AllocError>
+        ensures ok { OnOk result (Adds self.old
+            (changes (with_rendition (state_of self.old).pen rendition)) self.new) }
+        ensures refused { OnErr result (Refused A) }
+    {
+        self.close()?;
+        self.look.select(rendition);
+        Ok(())
     }
 
     // Takes a control sequence by its parameters.
@@ -336,6 +350,18 @@ impl<A: Allocator> Sink<Action<A>> for Page<A> {
 
     fn drops_images(&self) -> bool {
         true
+    }
+}
+
+// The same as one of all renditions.
+fn rendition_of(rendition: Sgr) -> Rendition
+    ensures { result ≡ rendition_of rendition }
+{
+    match rendition {
+        Sgr::Reset => Rendition::Reset,
+        Sgr::Intensity(intensity) => Rendition::Intensity(intensity),
+        Sgr::Italic(is_on) => Rendition::Italic(is_on),
+        Sgr::Underline(underline) => Rendition::Underline(underline),
     }
 }
 
