@@ -124,12 +124,12 @@ fn status_of(alloc: Global, words: &[String], faults: &mut FixedWriter) -> u8 {
     )
 }
 
-/// How much of the text is written before the reader fails at this call.
-fn written_before(at: usize) -> usize {
+/// What is written before the reader fails at this call.
+fn written_before(at: usize) -> &'static [u8] {
     match at {
-        8 => TEXT.len(),
-        7 => TEXT.len() - 1,
-        _ => 0,
+        8 => TEXT,
+        7 => &TEXT[..TEXT.len() - 1],
+        _ => b"",
     }
 }
 
@@ -143,12 +143,9 @@ fn the_reader_fails_at_each_call(rt: HostRuntime) -> Result<(), Fail> {
         let words = words(rt.alloc(), line)?;
         for at in 1..9usize {
             let is_written = line == "." && matches!(order, Order::AsItReads);
-            let len = if is_written { written_before(at) } else { 0 };
+            let written = if is_written { written_before(at) } else { b"" };
             let run = run_over(rt.alloc(), &words, order, at, FixedWriter::new(64, 64, 0));
-            assert!(rt;
-                run.is(1, &TEXT[..len], b"escnorm: read fault\n"),
-                "at {at}"
-            );
+            assert!(rt; run.is(1, written, b"escnorm: read fault\n"), "at {at}");
         }
     }
     Ok(())
