@@ -60,7 +60,7 @@ impl<A: Allocator> Admit<A> for Policy {
         are_shown(text.as_bytes())
     }
 
-    #[inline]
+    #[inline(always)]
     fn admits_sequence(&self, params: &[CsiParam], control: u8) -> Option<bool> {
         match self {
             Policy::Text => Some(false),

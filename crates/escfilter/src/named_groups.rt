@@ -168,7 +168,7 @@ impl<'a, A: Allocator> Admit<A> for Choice<'a> {
         }
     }
 
-    #[inline]
+    #[inline(always)]
     fn admits_sequence(&self, params: &[CsiParam], control: u8) -> Option<bool> {
         match &self.groups {
             Some(groups) => <Groups<'_> as Admit<A>>::admits_sequence(groups, params, control),
