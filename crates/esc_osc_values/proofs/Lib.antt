@@ -3,6 +3,7 @@ pub mod Colors
 pub mod Fits
 pub mod Found
 pub mod JoinedLossy
+mod Keys
 pub mod Numerals
 pub mod Parts
 pub mod Selections

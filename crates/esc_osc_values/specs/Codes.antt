@@ -1,5 +1,5 @@
 -- The codes of commands and their texts.
-use Rattle.std.specs.Prelude.{ℕ, ◌-◌, ◌==◌, nat_eq, nat_le, ◌&&◌, if◌then◌else◌, List, [], ◌∷◌, map, get_or, take, slice_index, Option, Some, None}
+use Rattle.std.specs.Prelude.{ℕ, ◌+◌, ◌*◌, ◌-◌, ◌==◌, nat_eq, nat_le, ◌&&◌, if◌then◌else◌, List, [], ◌∷◌, map, get_or, take, slice_index, Option, Some, None}
 use Rattle.std.specs.Cmp.Lexicographic.{pointwise}
 use Rattle.esc_values.specs.Scalars.{and_then, number_of}
 use Rattle.esc_osc_values.specs.declared.code.OperatingSystemCommandCode.{OperatingSystemCommandCode}
@@ -17,6 +17,16 @@ place c = tag_of the_type c
 -- the text of a code
 abbrev pub code_text : OperatingSystemCommandCode → List ℕ
 code_text c = get_or (map (λ t. t.now) TEXTS) (place c) []
+
+-- the key of a text of one to four bytes: a one and its bytes, as a number in base 256. Zero is that
+-- of every other text.
+abbrev pub text_key : List ℕ → ℕ
+text_key (a ∷ []) = 0x100 + a
+text_key (a ∷ b ∷ []) = 0x1_0000 + a * 0x100 + b
+text_key (a ∷ b ∷ c ∷ []) = 0x100_0000 + a * 0x1_0000 + b * 0x100 + c
+text_key (a ∷ b ∷ c ∷ d ∷ []) =
+    0x1_0000_0000 + a * 0x100_0000 + b * 0x1_0000 + c * 0x100 + d
+text_key t = 0
 
 -- every code, in the order in which a text is compared with theirs
 abbrev pub all_codes : List OperatingSystemCommandCode

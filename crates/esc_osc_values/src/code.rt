@@ -1,6 +1,6 @@
 //! The codes of operating system commands.
 ghost use Rattle.std.specs.Prelude.{◌≡◌, ◌≢◌, ◌<◌, [], get_or, length, map, MatchOption};
-ghost use Rattle.esc_osc_values.specs.Codes.{code_text, place};
+ghost use Rattle.esc_osc_values.specs.Codes.{code_text, place, text_key};
 ghost use Rattle.esc_osc_values.specs.declared.code.OperatingSystemCommandCode.{OperatingSystemCommandCode};
 
 /// What an operating system command asks for, which its first part says (xterm's list of control
@@ -92,71 +92,80 @@ pub enum OperatingSystemCommandCode {
     SetIconNameSun,
 }
 
-// A row a line: the code, and its text. The rows are in the order of `OperatingSystemCommandCode`: a
-// text is compared with theirs in turn, so those that come most are first.
+// A row a line: the code, its text, and the key of the text. The rows are in the order of
+// `OperatingSystemCommandCode`: a key is compared with theirs in turn, so those that come most are
+// first.
 macro_rules! codes {
     ($each:ident) => {
         $each![
-            SetIconNameAndWindowTitle, "0";
-            SetWindowTitle, "2";
-            SetIconName, "1";
-            SetHyperlink, "8";
-            FinalTermSemanticPrompt, "133";
-            SetCurrentWorkingDirectory, "7";
-            ManipulateSelectionData, "52";
-            SetTextForegroundColor, "10";
-            SetTextBackgroundColor, "11";
-            SetTextCursorColor, "12";
-            ChangeColorNumber, "4";
-            SystemNotification, "9";
-            ITermProprietary, "1337";
-            SetXWindowProperty, "3";
-            ChangeSpecialColorNumber, "5";
-            ChangeTitleTabColor, "6";
-            SetMouseForegroundColor, "13";
-            SetMouseBackgroundColor, "14";
-            SetTektronixForegroundColor, "15";
-            SetTektronixBackgroundColor, "16";
-            SetHighlightBackgroundColor, "17";
-            SetTektronixCursorColor, "18";
-            SetHighlightForegroundColor, "19";
-            SetLogFileName, "46";
-            SetFont, "50";
-            EmacsShell, "51";
-            ResetColors, "104";
-            ResetSpecialColor, "105";
-            ResetTextForegroundColor, "110";
-            ResetTextBackgroundColor, "111";
-            ResetTextCursorColor, "112";
-            ResetMouseForegroundColor, "113";
-            ResetMouseBackgroundColor, "114";
-            ResetTektronixForegroundColor, "115";
-            ResetTektronixBackgroundColor, "116";
-            ResetHighlightColor, "117";
-            ResetTektronixCursorColor, "118";
-            ResetHighlightForegroundColor, "119";
-            RxvtProprietary, "777";
-            SetWindowTitleSun, "l";
-            SetIconNameSun, "L";
+            SetIconNameAndWindowTitle, "0", 0x1_30;
+            SetWindowTitle, "2", 0x1_32;
+            SetIconName, "1", 0x1_31;
+            SetHyperlink, "8", 0x1_38;
+            FinalTermSemanticPrompt, "133", 0x1_31_33_33;
+            SetCurrentWorkingDirectory, "7", 0x1_37;
+            ManipulateSelectionData, "52", 0x1_35_32;
+            SetTextForegroundColor, "10", 0x1_31_30;
+            SetTextBackgroundColor, "11", 0x1_31_31;
+            SetTextCursorColor, "12", 0x1_31_32;
+            ChangeColorNumber, "4", 0x1_34;
+            SystemNotification, "9", 0x1_39;
+            ITermProprietary, "1337", 0x1_31_33_33_37;
+            SetXWindowProperty, "3", 0x1_33;
+            ChangeSpecialColorNumber, "5", 0x1_35;
+            ChangeTitleTabColor, "6", 0x1_36;
+            SetMouseForegroundColor, "13", 0x1_31_33;
+            SetMouseBackgroundColor, "14", 0x1_31_34;
+            SetTektronixForegroundColor, "15", 0x1_31_35;
+            SetTektronixBackgroundColor, "16", 0x1_31_36;
+            SetHighlightBackgroundColor, "17", 0x1_31_37;
+            SetTektronixCursorColor, "18", 0x1_31_38;
+            SetHighlightForegroundColor, "19", 0x1_31_39;
+            SetLogFileName, "46", 0x1_34_36;
+            SetFont, "50", 0x1_35_30;
+            EmacsShell, "51", 0x1_35_31;
+            ResetColors, "104", 0x1_31_30_34;
+            ResetSpecialColor, "105", 0x1_31_30_35;
+            ResetTextForegroundColor, "110", 0x1_31_31_30;
+            ResetTextBackgroundColor, "111", 0x1_31_31_31;
+            ResetTextCursorColor, "112", 0x1_31_31_32;
+            ResetMouseForegroundColor, "113", 0x1_31_31_33;
+            ResetMouseBackgroundColor, "114", 0x1_31_31_34;
+            ResetTektronixForegroundColor, "115", 0x1_31_31_35;
+            ResetTektronixBackgroundColor, "116", 0x1_31_31_36;
+            ResetHighlightColor, "117", 0x1_31_31_37;
+            ResetTektronixCursorColor, "118", 0x1_31_31_38;
+            ResetHighlightForegroundColor, "119", 0x1_31_31_39;
+            RxvtProprietary, "777", 0x1_37_37_37;
+            SetWindowTitleSun, "l", 0x1_6c;
+            SetIconNameSun, "L", 0x1_4c;
         ]
     };
 }
 
 macro_rules! values {
-    ($($code:ident, $text:literal);+ $(;)?) => {
+    ($($code:ident, $text:literal, $key:literal);+ $(;)?) => {
         [$(OperatingSystemCommandCode::$code),+]
     };
 }
 
 macro_rules! texts {
-    ($($code:ident, $text:literal);+ $(;)?) => {
+    ($($code:ident, $text:literal, $key:literal);+ $(;)?) => {
         [$($text),+]
+    };
+}
+
+macro_rules! keys {
+    ($($code:ident, $text:literal, $key:literal);+ $(;)?) => {
+        [$($key),+]
     };
 }
 
 static CODES: [OperatingSystemCommandCode; 41] = codes!(values);
 
 static TEXTS: [&str; 41] = codes!(texts);
+
+static KEYS: [u64; 41] = codes!(keys);
 
 // The text in this place of a table.
 fn text_in(texts: &[&'static str], index: usize) -> &'static str
@@ -175,15 +184,43 @@ fn place(code: OperatingSystemCommandCode) -> usize
     code as usize
 }
 
+// The key of a text of one to four bytes: a one and its bytes, as a number in base 256. Zero for
+// every other text.
+#[inline]
+fn text_key(text: &[u8]) -> u64
+    ensures { result ≡ text_key text.now }
+{
+    match text {
+        [a] => 0x100 + *a as u64,
+        [a, b] => 0x1_0000 + *a as u64 * 0x100 + *b as u64,
+        [a, b, c] => 0x100_0000 + *a as u64 * 0x1_0000 + *b as u64 * 0x100 + *c as u64,
+        [a, b, c, d] => 0x1_0000_0000
+            + *a as u64 * 0x100_0000
+            + *b as u64 * 0x1_0000
+            + *c as u64 * 0x100
+            + *d as u64,
+        _ => 0,
+    }
+}
+
+// The key of the text of a code.
+#[inline(always)]
+fn key(code: OperatingSystemCommandCode) -> u64
+    ensures { result ≡ text_key (code_text code) }
+{
+    KEYS[place(code)]
+}
+
 impl OperatingSystemCommandCode {
-    /// The code whose text this is; none where it is the text of no code. The texts are compared
-    /// byte by byte, so `02` is no code.
+    /// The code whose text this is; none where it is the text of no code. Every byte counts, so
+    /// `02` is no code.
     pub fn from_code(code: &str) -> Option<OperatingSystemCommandCode>
         ensures { MatchOption result ((c : OperatingSystemCommandCode) → code.now ≢ code_text c)
             (λ c. code.now ≡ code_text c) }
     {
+        let wanted = text_key(code.as_bytes());
         for known in CODES {
-            if code == known.as_code() {
+            if key(known) == wanted {
                 return Some(known);
             }
         }
