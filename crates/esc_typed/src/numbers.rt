@@ -14,42 +14,30 @@ pub(crate) fn arguments(kind: Kind, entries: &[CsiParam]) -> Result<Arguments, U
     ensures { result ≡ arguments kind entries.now }
 {
     match kind {
-        Kind::Nothing => match one(entries) {
-            Ok(number) => no_number(number),
-            Err(unfit) => Err(unfit),
-        },
-        Kind::Zero => match one(entries) {
-            Ok(number) => zero(number),
-            Err(unfit) => Err(unfit),
-        },
-        Kind::Count => match one(entries) {
-            Ok(number) => count(number),
-            Err(unfit) => Err(unfit),
-        },
-        Kind::Selector => match one(entries) {
-            Ok(number) => selector(number),
-            Err(unfit) => Err(unfit),
-        },
-        Kind::Place => match two(entries) {
-            Ok((line, col)) => place(line, col),
-            Err(unfit) => Err(unfit),
-        },
-        Kind::Margins => match two(entries) {
-            Ok((first, last)) => margins(first, last),
-            Err(unfit) => Err(unfit),
-        },
-        Kind::Flags => match two(entries) {
-            Ok((bits, change)) => flags(bits, change),
-            Err(unfit) => Err(unfit),
-        },
-        Kind::Report => match three(entries) {
-            Ok((button, col, line)) => report(button, col, line),
-            Err(unfit) => Err(unfit),
-        },
-        Kind::Numbers => match three(entries) {
-            Ok((first, second, third)) => more_words(first_word(first), second, third),
-            Err(unfit) => Err(unfit),
-        },
+        Kind::Nothing => no_number(one(entries)?),
+        Kind::Zero => zero(one(entries)?),
+        Kind::Count => count(one(entries)?),
+        Kind::Selector => selector(one(entries)?),
+        Kind::Place => {
+            let (line, col) = two(entries)?;
+            place(line, col)
+        }
+        Kind::Margins => {
+            let (first, last) = two(entries)?;
+            margins(first, last)
+        }
+        Kind::Flags => {
+            let (bits, change) = two(entries)?;
+            flags(bits, change)
+        }
+        Kind::Report => {
+            let (button, col, line) = three(entries)?;
+            report(button, col, line)
+        }
+        Kind::Numbers => {
+            let (first, second, third) = three(entries)?;
+            more_words(first_word(first), second, third)
+        }
         Kind::Selectors | Kind::Renditions | Kind::Modes => Err(Unfit::Untyped),
     }
 }
@@ -104,10 +92,7 @@ fn margins(first: Option<u64>, last: Option<u64>) -> Result<Arguments, Unfit>
     let Some(first) = OneBased::of_number(first) else {
         return Err(Unfit::OutOfRange);
     };
-    match last_of(last) {
-        Ok(last) => Ok(Arguments::Margins(first, last)),
-        Err(unfit) => Err(unfit),
-    }
+    Ok(Arguments::Margins(first, last_of(last)?))
 }
 
 // The last line or column, where there is one.
@@ -156,10 +141,7 @@ fn flags(bits: Option<u64>, change: Option<u64>) -> Result<Arguments, Unfit>
     let Ok(bits) = byte_or(0, bits) else {
         return Err(Unfit::OutOfRange);
     };
-    match byte_or(1, change) {
-        Ok(change) => Ok(Arguments::Flags(bits, change)),
-        Err(unfit) => Err(unfit),
-    }
+    Ok(Arguments::Flags(bits, byte_or(1, change)?))
 }
 
 // A button, a column and a line.
@@ -204,10 +186,7 @@ fn word_of(number: Option<u64>) -> Result<Option<u32>, Unfit>
 {
     match number {
         None => Ok(None),
-        Some(number) => match word(number) {
-            Ok(number) => Ok(Some(number)),
-            Err(unfit) => Err(unfit),
-        },
+        Some(number) => Ok(Some(word(number)?)),
     }
 }
 
@@ -229,13 +208,13 @@ fn more_words(
 fn three(entries: &[CsiParam]) -> Result<(Option<u64>, Option<u64>, Option<u64>), Unfit>
     ensures { result ≡ three entries.now }
 {
-    match next(entries) {
-        Ok((first, None)) => Ok((first, None, None)),
-        Ok((first, Some(rest))) => match two(rest) {
-            Ok((second, third)) => Ok((first, second, third)),
-            Err(unfit) => Err(unfit),
-        },
-        Err(unfit) => Err(unfit),
+    let (first, rest) = next(entries)?;
+    match rest {
+        None => Ok((first, None, None)),
+        Some(rest) => {
+            let (second, third) = two(rest)?;
+            Ok((first, second, third))
+        }
     }
 }
 
@@ -243,10 +222,10 @@ fn three(entries: &[CsiParam]) -> Result<(Option<u64>, Option<u64>, Option<u64>)
 fn one(entries: &[CsiParam]) -> Result<Option<u64>, Unfit>
     ensures { result ≡ one entries.now }
 {
-    match next(entries) {
-        Ok((number, None)) => Ok(number),
-        Ok((_, Some(_))) => Err(Unfit::TooMany),
-        Err(unfit) => Err(unfit),
+    let (number, rest) = next(entries)?;
+    match rest {
+        None => Ok(number),
+        Some(_) => Err(Unfit::TooMany),
     }
 }
 
@@ -254,13 +233,10 @@ fn one(entries: &[CsiParam]) -> Result<Option<u64>, Unfit>
 fn two(entries: &[CsiParam]) -> Result<(Option<u64>, Option<u64>), Unfit>
     ensures { result ≡ two entries.now }
 {
-    match next(entries) {
-        Ok((first, None)) => Ok((first, None)),
-        Ok((first, Some(rest))) => match one(rest) {
-            Ok(second) => Ok((first, second)),
-            Err(unfit) => Err(unfit),
-        },
-        Err(unfit) => Err(unfit),
+    let (first, rest) = next(entries)?;
+    match rest {
+        None => Ok((first, None)),
+        Some(rest) => Ok((first, one(rest)?)),
     }
 }
 
@@ -271,10 +247,7 @@ fn next(entries: &[CsiParam]) -> Result<(Option<u64>, Option<&[CsiParam]>), Unfi
     ensures err { IfErr result (λ u. next entries.now ≡ Err u) }
 {
     let (number, rest) = number_first(entries);
-    match more(rest) {
-        Ok(rest) => Ok((number, rest)),
-        Err(unfit) => Err(unfit),
-    }
+    Ok((number, more(rest)?))
 }
 
 // The number that comes first, where one does, and what follows.
