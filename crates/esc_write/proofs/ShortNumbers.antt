@@ -1,7 +1,7 @@
 -- The texts of control sequences of short numbers.
 use Rattle.std.proofs.Common.{ℕ, ◌≡◌, ◌+◌, ◌/◌, ◌%◌, ◌<◌, ◌≤◌, [], ◌∷◌, refl}
 use Rattle.esc_values.proofs.Digits.{decimal_one, decimal_two, decimal_three}
-use Rattle.esc_write.specs.Plain.{indexed_text, number_text}
+use Rattle.esc_write.specs.Plain.{indexed_text, last_text, number_text}
 
 pub number_one : (n f : ℕ) → n < 10 → number_text n f ≡ 0x1b ∷ 0x5b ∷ (48 + n) ∷ f ∷ []
 number_one n f one = rw (decimal_one n one) refl
@@ -13,6 +13,17 @@ number_two n f low high = rw (decimal_two n low high) refl
 pub number_three : (n f : ℕ) → 100 ≤ n → n < 1000
     → number_text n f ≡ 0x1b ∷ 0x5b ∷ (48 + n / 100) ∷ (48 + n / 10 % 10) ∷ (48 + n % 10) ∷ f ∷ []
 number_three n f low high = rw (decimal_three n low high) refl
+
+pub last_one : (n f : ℕ) → n < 10 → last_text n f ≡ (48 + n) ∷ f ∷ []
+last_one n f one = rw (decimal_one n one) refl
+
+pub last_two : (n f : ℕ) → 10 ≤ n → n < 100
+    → last_text n f ≡ (48 + n / 10) ∷ (48 + n % 10) ∷ f ∷ []
+last_two n f low high = rw (decimal_two n low high) refl
+
+pub last_three : (n f : ℕ) → 100 ≤ n → n < 1000
+    → last_text n f ≡ (48 + n / 100) ∷ (48 + n / 10 % 10) ∷ (48 + n % 10) ∷ f ∷ []
+last_three n f low high = rw (decimal_three n low high) refl
 
 pub indexed_one : (a b c f : ℕ) → 10 ≤ a → a < 100 → b < 10 → c < 10
     → indexed_text a b c f ≡ 0x1b ∷ 0x5b ∷ (48 + a / 10) ∷ (48 + a % 10) ∷ 0x3b ∷ (48 + b) ∷ 0x3b

@@ -27,6 +27,14 @@ IsPlain es more f = IsNumber es ⊎ (csi_of es more f ≡ unspecified es more f 
 abbrev pub number_text : ℕ → ℕ → List ℕ
 number_text n f = 0x1b ∷ 0x5b ∷ (decimal n ++ f ∷ [])
 
+-- a number, and an ASCII final byte
+abbrev pub last_text : ℕ → ℕ → List ℕ
+last_text n f = decimal n ++ f ∷ []
+
+-- the text of one of two numbers, with `;` between them
+abbrev pub pair_text : ℕ → ℕ → ℕ → List ℕ
+pair_text a b f = 0x1b ∷ 0x5b ∷ (decimal a ++ 0x3b ∷ last_text b f)
+
 -- the text of one of three numbers, with `;` between them
 abbrev pub indexed_text : ℕ → ℕ → ℕ → ℕ → List ℕ
 indexed_text a b c f =
@@ -34,7 +42,9 @@ indexed_text a b c f =
 
 -- the text of one that is known by its numbers
 abbrev pub short_text : ShortNumbers → ℕ → List ℕ
+short_text short.Nothing f = 0x1b ∷ 0x5b ∷ f ∷ []
 short_text (short.Lone n) f = number_text n f
+short_text (short.Pair a b) f = pair_text a b f
 short_text (short.Palette i) f = indexed_text i.first i.second i.third f
 
 -- a text without `;`

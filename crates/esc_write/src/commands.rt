@@ -159,6 +159,20 @@ fn is_title<A: Allocator>(text: &[u8]) -> bool
     is_title_code(*code)
 }
 
+/// The text of a command that is a plain link, as [`is_plain_link`] says, where it is UTF-8.
+pub fn plain_link<A: Allocator>(text: &[u8]) -> Option<&str>
+    ensures same { IfSome result (λ t. t.now ≡ text.now) }
+    ensures link { IfSome result (λ t. IsPlainLink A text.now) }
+{
+    if !is_plain_link::<A>(text) {
+        return None;
+    }
+    match str::from_utf8(text) {
+        Ok(text) => Some(text),
+        Err(_) => None,
+    }
+}
+
 /// The text of a command, where it is seen at once that the command is written as it came: a title,
 /// a link without parameters or with `id` alone, the end of a link, and the mark of a prompt
 /// without keys or with `aid` alone.

@@ -1,14 +1,51 @@
 //! Control sequences, appended to a text with no action made of them.
 ghost use Rattle.std.specs.Prelude.{◌≡◌, ◌++◌, IsTrue, OnErr, OnOk};
 ghost use Rattle.memory.specs.Refusals.{Refused};
-ghost use Rattle.esc_sequences.specs.Csis.{csi_text, unspecified};
+ghost use Rattle.esc_sequences.specs.Csis.{csi_text, csi_value, unspecified};
 ghost use Rattle.esc_write.specs.Plain.{IsNumber, IsPlain};
 
+use crate::short_numbers::ShortNumbers;
 use crate::short_text::ShortText;
-use esc_sequences::BorrowedSequence;
 use esc_sequences::csi::is_unspecified;
+use esc_sequences::{BorrowedSequence, CSI};
 use esc_values::{CsiParam, Text};
 use std::alloc::{AllocError, Allocator};
+
+/// Appends the text of a control sequence.
+pub(crate) fn append_csi<A: Allocator>(text: &mut Text<A>, csi: &CSI<A>) -> Result<(), AllocError>
+    ensures ok { OnOk result (text.new ≡ text.old ++ csi_text (csi_value csi.now)) }
+    ensures refused { OnErr result (Refused A) }
+{
+    match csi {
+        CSI::Sgr(sgr) => text.push_display(sgr),
+        CSI::Unspecified(sequence) => {
+            let sequence = sequence.as_ref();
+            append_body(
+                text,
+                sequence.params.as_slice(),
+                sequence.parameters_truncated,
+                sequence.control,
+            )
+        }
+    }
+}
+
+// Appends the text of a control sequence that has no name, at once where its numbers are short.
+fn append_body<A: Allocator>(
+    text: &mut Text<A>,
+    params: &[CsiParam],
+    parameters_truncated: bool,
+    control: u8,
+) -> Result<(), AllocError>
+    ensures ok { OnOk result (text.new
+        ≡ text.old ++ csi_text (unspecified params.now parameters_truncated control)) }
+    ensures refused { OnErr result (Refused A) }
+{
+    match ShortNumbers::of(params, control) {
+        Some(numbers) => numbers.append_to(text, control),
+        None => append_csi_params(text, params, parameters_truncated, control),
+    }
+}
 
 /// Appends the text of a control sequence that has no name; a short one is gathered first.
 pub fn append_csi_params<A: Allocator>(

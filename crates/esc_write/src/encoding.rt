@@ -7,6 +7,7 @@ ghost use Rattle.esc_actions.specs.Texts.{has_text, is_string, list_text, normal
 ghost use Rattle.esc_actions.specs.Values.{value_of};
 ghost use Rattle.esc_actions.specs.Writable.{AreWritable};
 
+use crate::direct::append_csi;
 use crate::encode_error::EncodeError;
 use crate::runs::{gather_eights, have_texts};
 use crate::short_text::ShortText;
@@ -202,8 +203,8 @@ fn write_alone<A: Allocator>(text: &mut Text<A>, action: &Action<A>) -> Result<(
         Action::Print(c) => text.push(*c),
         Action::Control(code) => text.push(code.as_char()),
         Action::PrintString(string) => text.push_str(string.as_str()),
+        Action::CSI(csi) => append_csi(text, csi),
         Action::Esc(_)
-        | Action::CSI(_)
         | Action::OperatingSystemCommand(_)
         | Action::KittyImage(_)
         | Action::XtGetTcap(_)

@@ -16,6 +16,6 @@ pub mod short_numbers;
 mod short_sequence;
 mod short_text;
 
-pub use commands::is_plain_link;
+pub use commands::{is_plain_link, plain_link};
 pub use encode_error::{EncodeError, same_encode_error};
 pub use encoding::encode;

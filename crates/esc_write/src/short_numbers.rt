@@ -5,7 +5,7 @@ ghost use Rattle.std.specs.Str.{IsAscii};
 ghost use Rattle.memory.specs.Refusals.{Refused};
 ghost use Rattle.esc_sequences.specs.Csis.{csi_text, unspecified};
 ghost use Rattle.esc_values.specs.declared.csi_param.CsiParam.TheVariants.{Integer, P};
-ghost use Rattle.esc_write.specs.Plain.{IsPlain, indexed_text, number_text, short_text};
+ghost use Rattle.esc_write.specs.Plain.{IsPlain, indexed_text, last_text, number_text, pair_text, short_text};
 
 use crate::indexed::Indexed;
 use esc_values::{CsiParam, Text};
@@ -44,6 +44,20 @@ fn lone_number(params: &[CsiParam]) -> Option<u8>
         return None;
     };
     small_number(*param)
+}
+
+// The only two parameters, where they are numbers below 256.
+#[inline(always)]
+fn two_numbers(params: &[CsiParam]) -> Option<(u8, u8)>
+    ensures { IfSome result (λ p. params.now
+        ≡ Integer (pos p.0) ∷ P 0x3b ∷ Integer (pos p.1) ∷ []) }
+{
+    let [one, CsiParam::P(b';'), two] = params else {
+        return None;
+    };
+    let first = small_number(*one)?;
+    let second = small_number(*two)?;
+    Some((first, second))
 }
 
 // These numbers, where the parameters are such ones, with `;` between them.
@@ -93,6 +107,43 @@ fn append_number<A: Allocator>(
             control,
         ]))
     }
+}
+
+// Appends a number and the final byte after it.
+#[inline(always)]
+fn append_last<A: Allocator>(text: &mut Text<A>, number: u8, control: u8) -> Result<(), AllocError>
+    requires { control < 128 }
+    ensures ok { OnOk result (text.new ≡ text.old ++ last_text number control) }
+    ensures refused { OnErr result (Refused A) }
+{
+    if number < 10 {
+        text.push_str(ascii(&[48 + number, control]))
+    } else if number < 100 {
+        text.push_str(ascii(&[48 + number / 10, 48 + number % 10, control]))
+    } else {
+        text.push_str(ascii(&[
+            48 + number / 100,
+            48 + number / 10 % 10,
+            48 + number % 10,
+            control,
+        ]))
+    }
+}
+
+// Appends the text of a control sequence of two numbers.
+#[inline(always)]
+fn append_pair<A: Allocator>(
+    text: &mut Text<A>,
+    first: u8,
+    second: u8,
+    control: u8,
+) -> Result<(), AllocError>
+    requires { control < 128 }
+    ensures ok { OnOk result (text.new ≡ text.old ++ pair_text first second control) }
+    ensures refused { OnErr result (Refused A) }
+{
+    append_number(text, first, b';')?;
+    append_last(text, second, control)
 }
 
 // Appends the text of a control sequence of such numbers, of which the third has one digit.
@@ -198,11 +249,16 @@ fn append_indexed<A: Allocator>(
     }
 }
 
-/// A number alone, or the numbers of a colour of the palette.
+/// The parameters of a control sequence that is written at once: none, one or two numbers, or
+/// those of a colour of the palette.
 #[derive(Clone, Copy)]
 pub enum ShortNumbers {
+    /// None.
+    Nothing,
     /// A number alone.
     Lone(u8),
+    /// Two numbers.
+    Pair(u8, u8),
     /// The numbers of a colour of the palette.
     Palette(Indexed),
 }
@@ -223,6 +279,12 @@ impl ShortNumbers {
         if let Some(number) = lone_number(params) {
             return Some(ShortNumbers::Lone(number));
         }
+        if control != b'm' {
+            if params.is_empty() {
+                return Some(ShortNumbers::Nothing);
+            }
+            return two_numbers(params).map(|pair| ShortNumbers::Pair(pair.0, pair.1));
+        }
         match palette_numbers(params) {
             Some(numbers) => Some(ShortNumbers::Palette(numbers)),
             None => None,
@@ -237,7 +299,9 @@ impl ShortNumbers {
         ensures refused { OnErr result (Refused A) }
     {
         match self {
+            ShortNumbers::Nothing => text.push_str(ascii(&[0x1b, b'[', control])),
             ShortNumbers::Lone(number) => append_number(text, number, control),
+            ShortNumbers::Pair(first, second) => append_pair(text, first, second, control),
             ShortNumbers::Palette(numbers) => append_indexed(text, numbers, control),
         }
     }
