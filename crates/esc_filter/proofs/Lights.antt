@@ -21,7 +21,8 @@ use Rattle.esc_osc.specs.declared.command.OperatingSystemCommand.{OperatingSyste
 use Rattle.esc_osc.specs.declared.command.OperatingSystemCommand.TheVariants as command
 use Rattle.esc_write.specs.Plain.{IsPlainLink}
 use Rattle.esc_filter.specs.Closing.{Left, BeginsWith, Turns, after_body, after_command, is_reset, turned}
-use Rattle.esc_filter.specs.Rules.{is_link}
+use Rattle.esc_filter.specs.Rules.{BeginsOther, is_link}
+use Rattle.esc_filter.proofs.Commands.{other_begins}
 use Rattle.esc_filter.specs.declared.left.TheConstants.{LINK, RENDITION}
 
 -- ---- one number
@@ -146,6 +147,11 @@ module _ (A : Type 0) where
   pub stays : (c : OperatingSystemCommand A) (o : Left) → is_link c ≡ false → o ≡ after_command c o
   stays (command.SetHyperlink l) o h = absurd cc
   stays _ o h = refl
+
+  -- a command that is no link leaves all as it was
+  pub leaves : (t : List ℕ) (o : Left) → BeginsOther t
+      → after_command (meaning {A = A} (parts_of t)) o ≡ o
+  leaves t o h = sym (stays (meaning (parts_of t)) o (other_begins A t h))
 
   some_link : (t : List ℕ) (l : Option (Hyperlink A)) → t ≢ codes "8;;"
       → command_text (command.SetHyperlink l) ≡ framed t → is_some l ≡ true

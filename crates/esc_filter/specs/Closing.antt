@@ -135,11 +135,6 @@ abbrev pub after_command : {A : Type 0} → OperatingSystemCommand A → Left �
 after_command (command.SetHyperlink link) o = turned o LINK (is_some link)
 after_command _ o = o
 
--- a link is left now, or is not any more; or all is as it was
-abbrev pub linked : Option Bool → Left → Left
-linked None o = o
-linked (Some b) o = turned o LINK b
-
 -- after a value
 abbrev pub after_value : {A : Type 0} → Value A → Left → Left
 after_value (esc e) o = after_escape e o

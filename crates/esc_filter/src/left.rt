@@ -6,8 +6,9 @@ ghost use Rattle.esc_values.specs.declared.csi_param.CsiParam.{CsiParam};
 ghost use Rattle.esc_values.specs.declared.csi_param.CsiParam.TheVariants.{Integer};
 ghost use Rattle.esc_actions.specs.Values.{value_of};
 ghost use Rattle.esc_osc.specs.Reading.{meaning as command_meant};
-ghost use Rattle.esc_filter.specs.Closing.{BeginsWith, Left, after_body, after_command, after_escape, after_mode, after_param, after_params, after_private, after_sequence, after_value, is_any, is_left, is_marked, is_private, is_reset, is_set, linked, lit, noted, restores, turned, unchanged, Turns};
+ghost use Rattle.esc_filter.specs.Closing.{BeginsWith, Left, after_body, after_command, after_escape, after_mode, after_param, after_params, after_private, after_sequence, after_value, is_any, is_left, is_marked, is_private, is_reset, is_set, lit, noted, restores, turned, unchanged, Turns};
 ghost use Rattle.esc_filter.specs.GivenBack.{text_given_back};
+ghost use Rattle.esc_write.specs.Plain.{IsPlainLink};
 ghost use Rattle.memory.specs.Refusals.{Refused};
 
 use crate::policy::has_other_code;
@@ -16,7 +17,6 @@ use esc_osc::{OperatingSystemCommand, laws};
 use esc_sequences::csi::is_unspecified;
 use esc_sequences::{CSI, Esc, Sgr};
 use esc_values::{CsiParam, Text};
-use esc_write::is_plain_link;
 use std::alloc::{AllocError, Allocator};
 use std::marker::Model;
 
@@ -251,13 +251,17 @@ impl Left {
         }
     }
 
-    /// A link is left now, or is not any more; or all is as it was.
+    /// Notes a link of this text, or the end of one.
     #[inline]
-    pub fn link(&mut self, link: Option<bool>)
-        ensures { self.new ≡ linked link self.old }
+    pub fn link<A: Allocator>(&mut self, link: &str)
+        requires { IsPlainLink A link.now }
+        ensures { self.new ≡ after_command (command_meant {A = A} (parts_of link.now)) self.old }
     {
-        if let Some(is) = link {
-            self.turn(LINK, is);
+        laws::reads_back::<A>();
+        if link == "8;;" {
+            self.turn(LINK, false);
+        } else {
+            self.turn(LINK, true);
         }
     }
 
@@ -348,25 +352,14 @@ fn restores(params: &[CsiParam], control: u8) -> bool
     control == b'u' || ((control == b'q' || control == b'}') && is_marked(params, b'#'))
 }
 
-/// What the command of this text makes of the link that is left, where it is seen at once what the
-/// command leaves changed.
+/// Whether the command of this text leaves all as it was, where that is seen at once.
+#[tactic(auto, using(crate::proofs::Lights::leaves))]
 #[inline]
-pub(crate) fn link_after<A: Allocator>(text: &[u8]) -> Option<Option<bool>>
-    ensures { IfSome result (λ l. (o : Left)
-        → linked l o ≡ after_command (command_meant {A = A} (parts_of text.now)) o) }
+pub(crate) fn leaves_all<A: Allocator>(text: &[u8]) -> bool
+    ensures { IsTrue result → (o : Left)
+        → after_command (command_meant {A = A} (parts_of text.now)) o ≡ o }
 {
-    laws::reads_back::<A>();
-    if has_other_code(text) {
-        return Some(None);
-    }
-    if text == b"8;;".as_slice() {
-        return Some(Some(false));
-    }
-    if is_plain_link::<A>(text) && text.is_ascii() {
-        Some(Some(true))
-    } else {
-        None
-    }
+    has_other_code(text)
 }
 
 // The natural number that a parameter is.

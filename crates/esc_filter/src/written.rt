@@ -13,7 +13,7 @@ ghost use Rattle.esc_filter.specs.Characters.{in_unicode, instead};
 ghost use Rattle.esc_filter.specs.Noted.{AreKept, HasNoted, Notes, WriteDenies, Writes, without_text, written_of};
 ghost use Rattle.esc_filter.specs.Passing.{is_line_feed};
 
-use crate::left::{Left, link_after, renditions_after};
+use crate::left::{Left, leaves_all, renditions_after};
 use crate::text::emptied;
 use crate::unicode::Unicode;
 use esc_actions::{Action, ControlCode};
@@ -21,6 +21,7 @@ use esc_normal::Spell;
 use esc_parse::Sink;
 use esc_values::CsiParam;
 use esc_visible::{has_deceiving, is_deceiving, number_text};
+use esc_write::plain_link;
 use std::alloc::{AllocError, Allocator, Global};
 
 /// Appends the text of each action, but of line feeds where lines are streams of their own.
@@ -277,15 +278,17 @@ impl<A: Allocator> Sink<Action<A>> for Written<A> {
 
     #[inline]
     fn receive_command(&mut self, text: &[u8]) -> Result<bool, AllocError> {
-        let Some(link) = link_after::<A>(text) else {
+        if leaves_all::<A>(text) {
+            return self.spell.receive_command(text);
+        }
+        let Some(link) = plain_link::<A>(text) else {
             return Ok(false);
         };
-        match self.spell.receive_command(text) {
-            Ok(true) => {
-                self.left.link(link);
+        match self.spell.write_verbatim(link) {
+            Ok(()) => {
+                self.left.link::<A>(link);
                 Ok(true)
             }
-            Ok(false) => Ok(false),
             Err(error) => Err(error),
         }
     }

@@ -107,8 +107,9 @@ impl<A: Allocator> Spell<A> {
         Ok(())
     }
 
-    // Appends the text of a command that is written as it came.
-    fn write_verbatim(&mut self, text: &str) -> Result<(), AllocError>
+    /// Appends the text of a command that is written as it came: `ESC ]`, these bytes, and the
+    /// string terminator.
+    pub fn write_verbatim(&mut self, text: &str) -> Result<(), AllocError>
         ensures ok { OnOk result ((self.new.text ≡ self.old.text ++ framed text.now)
             × (self.new.follows_string ≡ true)) }
         ensures refused { OnErr result (Refused A) }

@@ -1,0 +1,12 @@
+use Rattle.std.proofs.Common.{rules, ◌∙◌}
+use Rattle.esc_filter.proofs.Lights.{ends, opens}
+use Rattle.esc_filter.proofs.left.Left.link.Goals as goal
+
+pub returns-then-eq : goal.returns-then-eq
+returns-then-eq g c =
+    c.turn.ensures ∙ ends _ c.args.link.now c.args.self.now (search rules) c.reads_back.ensures
+
+pub returns-else-eq : goal.returns-else-eq
+returns-else-eq g c =
+    c.turn-else-eq.ensures
+    ∙ opens _ c.args.link.now c.args.self.now c.requires (search rules)
