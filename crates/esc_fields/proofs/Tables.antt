@@ -1,0 +1,58 @@
+-- Tables with more fields.
+use Rattle.std.proofs.Common.{ℕ, ◌≡◌, ◌+◌, List, [], ◌∷◌, ◌++◌, length, take, map, refl, sym, ap, ◌∙◌, append_assoc}
+use Rattle.std.proofs.Math.Seq.{drop-append_seam, take-append_seam}
+use Rattle.std.proofs.lemmas.List.{append-nil, length-append}
+use Rattle.esc_fields.specs.Fields.{Field, Table, Value, name_number, named, row_at, row_said, said, table_of, text_of, with_field, with_fields}
+use Rattle.esc_fields.specs.declared.field_name.FieldName.{FieldName}
+use Rattle.esc_fields.specs.declared.field_row.FieldRow.{FieldRow}
+use Rattle.esc_fields.specs.Fields.Value.{Number, Text, Size}
+
+-- more fields after others
+pub with_more : (t : Table) (fs gs : List Field)
+    → with_fields (with_fields t fs) gs ≡ with_fields t (fs ++ gs)
+with_more t [] gs = refl
+with_more t (f ∷ fs) gs = with_more (with_field t f) fs gs
+
+-- the texts of fields, and their rows after texts of so many bytes
+abbrev texts : List Field → List ℕ
+texts [] = []
+texts (f ∷ fs) = text_of f.value ++ texts fs
+
+abbrev rows : ℕ → List Field → List FieldRow
+rows n [] = []
+rows n (f ∷ fs) = row_at n f.name f.value ∷ rows (n + length (text_of f.value)) fs
+
+-- a table with fields more has their rows and their texts
+in_parts : (t : Table) (fs : List Field)
+    → with_fields t fs ≡ (t.0 ++ rows (length t.1) fs, t.1 ++ texts fs)
+in_parts t [] = λ k. (sym (append-nil t.0) k, sym (append-nil t.1) k)
+in_parts t (f ∷ fs) =
+    let x = text_of f.value in
+    let row = row_at (length t.1) f.name f.value in
+    let first = append_assoc t.0 (row ∷ []) (rows (length (t.1 ++ x)) fs)
+    ∙ ap (λ n. t.0 ++ row ∷ rows n fs) (length-append t.1 x) in
+    let second = append_assoc t.1 x (texts fs) in
+    in_parts (with_field t f) fs ∙ (λ k. (first k, second k))
+
+-- a row says its field, whatever texts come before and after
+row_says : (x y : List ℕ) (n : FieldName) (v : Value)
+    → row_said (x ++ (text_of v ++ y)) (row_at (length x) n v) ≡ (name_number n, v)
+row_says x y n (Number z) = refl
+row_says x y n (Text t) =
+    ap (λ w. (name_number n, Text w))
+    (ap (take (length t)) (drop-append_seam x (t ++ y)) ∙ take-append_seam t y)
+row_says x y n (Size k) = refl
+
+rows_are : (x : List ℕ) (fs : List Field)
+    → map (row_said (x ++ texts fs)) (rows (length x) fs) ≡ map named fs
+rows_are x [] = refl
+rows_are x (f ∷ fs) =
+    let t = text_of f.value in
+    let first = row_says x (texts fs) f.name f.value in
+    let all = sym (append_assoc x t (texts fs)) in
+    let place = sym (length-append x t) in
+    let rest = (λ k. map (row_said (all k)) (rows (place k) fs)) ∙ rows_are (x ++ t) fs in
+    λ k. first k ∷ rest k
+
+pub rows_say : (fs : List Field) → said (table_of fs) ≡ map named fs
+rows_say fs = ap said (in_parts ([], []) fs) ∙ rows_are [] fs

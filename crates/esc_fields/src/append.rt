@@ -1,0 +1,112 @@
+//! The fields of commands, each in a clause of its own. An error is that memory was refused.
+ghost use Rattle.std.specs.Prelude.{◌≡◌, OnOk, OnErr};
+ghost use Rattle.esc_fields.specs.Commands.{fields_of};
+ghost use Rattle.esc_fields.specs.Fields.{with_fields};
+ghost use Rattle.esc_osc.specs.declared.command.OperatingSystemCommand.TheVariants as command;
+ghost use Rattle.memory.specs.Refusals.{Refused};
+
+use crate::append_items::{
+    append_colors, append_indices, append_pairs, append_parts, append_progress, append_texts,
+};
+use crate::append_link::append_link;
+use crate::append_prompt::append_prompt;
+use crate::append_proprietary::append_proprietary;
+use crate::field_name::FieldName;
+use crate::fields::Fields;
+use esc_osc::OperatingSystemCommand as Command;
+use esc_osc_values::{ColorOrQuery, DynamicColorNumber, Selection};
+use esc_values::Text;
+use std::alloc::{AllocError, Allocator};
+
+// Appends the fields of a command.
+pub(crate) fn append<A: Allocator>(
+    command: &Command<A>,
+    fields: &mut Fields<A>,
+) -> Result<(), AllocError>
+    ensures ok { OnOk result (fields.new ≡ with_fields fields.old (fields_of command.now)) }
+    ensures refused { OnErr result (Refused A) }
+{
+    match command {
+        Command::SetIconNameAndWindowTitle(text)
+        | Command::SetWindowTitle(text)
+        | Command::SetWindowTitleSun(text)
+        | Command::SetIconName(text)
+        | Command::SetIconNameSun(text)
+        | Command::SystemNotification(text) => fields.push_text(FieldName::Text, text.as_bytes()),
+        Command::SetHyperlink(link) => append_link(link, fields),
+        Command::ClearSelection(selection) | Command::QuerySelection(selection) => {
+            append_selection(selection, fields)
+        }
+        Command::SetSelection(selection, text) => append_content(selection, text, fields),
+        Command::ITermProprietary(command) => append_proprietary(command, fields),
+        Command::FinalTermSemanticPrompt(prompt) => append_prompt(prompt, fields),
+        Command::ChangeColorNumber(pairs) => append_pairs(pairs.as_slice(), fields),
+        Command::ChangeDynamicColors(number, colors) => append_dynamic(
+            *number,
+            colors.as_slice(),
+            fields,
+        ),
+        Command::ResetDynamicColor(number) => append_number(*number, fields),
+        Command::CurrentWorkingDirectory(path) => {
+            fields.push_text(FieldName::Directory, path.as_bytes())
+        }
+        Command::ResetColors(indices) => append_indices(indices.as_slice(), fields),
+        Command::RxvtExtension(texts) => append_texts(texts.as_slice(), fields),
+        Command::ConEmuProgress(progress) => append_progress(progress, fields),
+        Command::Unspecified(parts) => append_parts(parts.as_slice(), fields),
+    }
+}
+
+// Which selections.
+fn append_selection<A: Allocator>(
+    selection: &Selection,
+    fields: &mut Fields<A>,
+) -> Result<(), AllocError>
+    ensures ok { OnOk result (fields.new
+        ≡ with_fields fields.old (fields_of {A = A} (command.ClearSelection selection.now))) }
+    ensures refused { OnErr result (Refused A) }
+{
+    fields.push_number(FieldName::Selection, i64::from(selection.bits()))
+}
+
+// Which selections, and their text.
+fn append_content<A: Allocator>(
+    selection: &Selection,
+    text: &Text<A>,
+    fields: &mut Fields<A>,
+) -> Result<(), AllocError>
+    ensures ok { OnOk result (fields.new
+        ≡ with_fields fields.old (fields_of {A = A}
+        (command.SetSelection selection.now text.now))) }
+    ensures refused { OnErr result (Refused A) }
+{
+    append_selection(selection, fields)?;
+    fields.push_text(FieldName::Text, text.as_bytes())
+}
+
+// A dynamic colour, and colours for it and those after it.
+fn append_dynamic<A: Allocator>(
+    number: DynamicColorNumber,
+    colors: &[ColorOrQuery],
+    fields: &mut Fields<A>,
+) -> Result<(), AllocError>
+    ensures ok { OnOk result (fields.new
+        ≡ with_fields fields.old (fields_of {A = A}
+        (command.ChangeDynamicColors number colors.now))) }
+    ensures refused { OnErr result (Refused A) }
+{
+    append_number(number, fields)?;
+    append_colors(colors, fields)
+}
+
+// A dynamic colour.
+fn append_number<A: Allocator>(
+    number: DynamicColorNumber,
+    fields: &mut Fields<A>,
+) -> Result<(), AllocError>
+    ensures ok { OnOk result (fields.new
+        ≡ with_fields fields.old (fields_of {A = A} (command.ResetDynamicColor number))) }
+    ensures refused { OnErr result (Refused A) }
+{
+    fields.push_number(FieldName::DynamicColor, i64::from(number.number()))
+}

@@ -1,0 +1,130 @@
+//! The fields of a command.
+ghost use Rattle.std.specs.Prelude.{◌≡◌, ◌++◌, ◌∷◌, [], IfOk, OnOk, OnErr};
+ghost use Rattle.esc_fields.specs.Commands.{fields_of};
+ghost use Rattle.esc_fields.specs.Fields.{flag_field, signed_field, size_field, table_of, text_field, with_field};
+ghost use Rattle.memory.specs.Refusals.{Refused};
+
+use crate::append::append;
+use crate::field_name::FieldName;
+use crate::field_row::{FieldRow, NUMBER, SIZE, TEXT};
+use esc_osc::OperatingSystemCommand;
+use std::alloc::{AllocError, Allocator, Global};
+use std::marker::Model;
+
+/// The fields of a command: a row for each, and their texts one after another. Contracts see the
+/// rows and that text.
+#[derive(Drop)]
+pub struct Fields<A: Allocator = Global> {
+    rows: Vec<FieldRow, A>,
+    text: Vec<u8, A>,
+}
+
+impl<A: Allocator> Model for Fields<A> {
+    ghost use Rattle.std.specs.Prelude.{ℕ, List};
+    ghost use Rattle.esc_fields.specs.declared.field_row.FieldRow.{FieldRow};
+
+    ghost Value = { List FieldRow × List ℕ };
+
+    ghost view = { λ f. (f.rows.items, f.text.items) };
+}
+
+impl<A: Allocator + Copy> Fields<A> {
+    /// The fields of this command. The error is that memory was refused.
+    pub fn of(alloc: A, command: &OperatingSystemCommand<A>) -> Result<Fields<A>, AllocError>
+        ensures ok { IfOk result (λ f. f ≡ table_of (fields_of command.now)) }
+        ensures refused { OnErr result (Refused A) }
+    {
+        let mut fields = Fields::new(alloc);
+        append(command, &mut fields)?;
+        Ok(fields)
+    }
+
+    // No fields.
+    fn new(alloc: A) -> Fields<A>
+        ensures { result ≡ ([], []) }
+    {
+        Fields {
+            rows: Vec::new(alloc),
+            text: Vec::new(alloc),
+        }
+    }
+}
+
+impl<A: Allocator> Fields<A> {
+    /// A row for each field, in order.
+    pub fn rows(&self) -> &[FieldRow]
+        ensures { result.now ≡ self.now.0 }
+    {
+        self.rows.as_slice()
+    }
+
+    /// The texts of the fields, one after another.
+    pub fn text(&self) -> &[u8]
+        ensures { result.now ≡ self.now.1 }
+    {
+        self.text.as_slice()
+    }
+
+    // Appends a number.
+    pub(crate) fn push_number(&mut self, name: FieldName, number: i64) -> Result<(), AllocError>
+        ensures ok { OnOk result (self.new ≡ with_field self.old (signed_field name number)) }
+        ensures refused { OnErr result (Refused A) }
+    {
+        self.push(FieldRow {
+            name: name.number(),
+            kind: NUMBER,
+            number,
+            offset: 0,
+            length: 0,
+        })
+    }
+
+    // Appends a flag.
+    pub(crate) fn push_flag(&mut self, name: FieldName, flag: bool) -> Result<(), AllocError>
+        ensures ok { OnOk result (self.new ≡ with_field self.old (flag_field name flag)) }
+        ensures refused { OnErr result (Refused A) }
+    {
+        self.push_number(name, if flag { 1 } else { 0 })
+    }
+
+    // Appends a size.
+    pub(crate) fn push_size(&mut self, name: FieldName, size: usize) -> Result<(), AllocError>
+        ensures ok { OnOk result (self.new ≡ with_field self.old (size_field name size)) }
+        ensures refused { OnErr result (Refused A) }
+    {
+        self.push(FieldRow {
+            name: name.number(),
+            kind: SIZE,
+            number: 0,
+            offset: 0,
+            length: size,
+        })
+    }
+
+    // Appends a text.
+    pub(crate) fn push_text(&mut self, name: FieldName, text: &[u8]) -> Result<(), AllocError>
+        ensures ok { OnOk result (self.new ≡ with_field self.old (text_field name text.now)) }
+        ensures refused { OnErr result (Refused A) }
+    {
+        let offset = self.text.len();
+        self.push(FieldRow {
+            name: name.number(),
+            kind: TEXT,
+            number: 0,
+            offset,
+            length: text.len(),
+        })?;
+        memory::extend(&mut self.text, text)
+    }
+
+    // Appends a row.
+    fn push(&mut self, row: FieldRow) -> Result<(), AllocError>
+        ensures ok { OnOk result (self.new ≡ (self.old.0 ++ row ∷ [], self.old.1)) }
+        ensures refused { OnErr result (Refused A) }
+    {
+        match memory::push(&mut self.rows, row) {
+            Ok(()) => Ok(()),
+            Err(_) => Err(AllocError),
+        }
+    }
+}

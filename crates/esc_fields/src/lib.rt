@@ -1,0 +1,28 @@
+//! The value of an operating system command as a flat list of fields, for callers that have no
+//! enums with values: a kind, rows of numbers and places, and one text.
+//!
+//! Each command has a [`CommandKind`], also each command of iTerm2 and each prompt. [`Fields`]
+//! holds its parts, each under a [`FieldName`], in order: what is optional is a field that is
+//! absent, and the items of a list come one after another.
+//!
+//! Of `OperatingSystemCommand::SetSelection(Selection::CLIPBOARD, text)`, where the text is `hi`,
+//! the fields `Fields::of(alloc, &command)?` are `FieldName::Selection` with the number 2 and
+//! `FieldName::Text`, whose row says that its text is the 2 bytes at 0 of `fields.text()`, `hi`.
+#![tactic(auto)]
+
+mod append;
+mod append_file;
+mod append_items;
+mod append_link;
+mod append_prompt;
+mod append_proprietary;
+pub mod command_kind;
+pub mod field_name;
+pub mod field_row;
+pub mod fields;
+pub mod laws;
+
+pub use command_kind::CommandKind;
+pub use field_name::FieldName;
+pub use field_row::{FieldRow, NUMBER, SIZE, TEXT};
+pub use fields::Fields;
