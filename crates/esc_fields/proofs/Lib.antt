@@ -1,1 +1,7 @@
 pub mod Tables
+mod Found
+mod FilesFound
+mod ColorsFound
+mod PromptsFound
+mod Numbers
+pub mod Whole
