@@ -216,6 +216,16 @@ static size_t some_room(void) {
     return one_in(4) ? ROOMS[below(sizeof ROOMS / sizeof *ROOMS)] : below(SMALL + 1);
 }
 
+/* The command of each text. */
+static void check_commands(void) {
+    struct record record;
+    for (size_t at = 0; at < whole.length; at += sizeof record + record.payload) {
+        record = record_at(&whole, at);
+        if (record.kind == ESCAPE_STREAM_OSC)
+            check_command((struct bytes){whole.at + at + sizeof record, record.text});
+    }
+}
+
 /* What the policy text admits, by the events: characters but DEL, and three controls. */
 static struct bytes shown_text(void) {
     struct record record;
@@ -241,5 +251,6 @@ struct bytes check_events(struct bytes stream) {
         if (cut.length != expected.length || memcmp(cut.at, expected.at, cut.length) != 0)
             fails("other events in pieces, over a buffer of", room);
     }
+    check_commands();
     return shown_text();
 }

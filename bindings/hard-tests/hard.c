@@ -78,6 +78,7 @@ static void begin(void) {
     begin_events();
     begin_texts();
     begin_pieces();
+    begin_commands();
 }
 
 int main(int count, char **words) {

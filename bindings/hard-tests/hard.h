@@ -60,5 +60,7 @@ void check_texts(struct bytes stream, struct bytes shown);
 void begin_pieces(void);
 void check_pieces(uint32_t policy, size_t limit, struct bytes stream, struct bytes text);
 void check_functions(void);
+void begin_commands(void);
+void check_command(struct bytes text);
 
 #endif

@@ -1,11 +1,11 @@
 /* SPDX-License-Identifier: MIT */
 /*
- * escape_stream.h - streams of terminal escape sequences: their normal form, a filter, HTML, and functions by name
+ * escape_stream.h - streams of terminal escape sequences: their normal form, a filter, HTML, and what they ask for
  *
  * A stream is bytes as a program writes them to a terminal: UTF-8 text, control characters, and the control functions of
  * ECMA-48 and xterm, such as colours, cursor movements and titles. Any bytes are a stream. Each of the first three calls takes
  * one whole, and keeps nothing. A filter in pieces, escape_stream_filter_begin and the calls after it, takes one as it comes, and
- * so does a page, escape_stream_html_begin and the calls after it.
+ * so does a page, escape_stream_html_begin and the calls after it. escape_stream_read_osc takes the text of one command.
  *
  *     cc -I crates/escape_c/include program.c libescape_c.a liblibc_c.a
  *
@@ -13,9 +13,10 @@
  * it takes for granted. Nothing checks the caller, who owes this at every call:
  *
  *   - No pointer is NULL, also where its length is 0.
- *   - `bytes` is `length` initialized bytes that can be read, and nobody writes them during the call.
- *   - `out` is `capacity` initialized bytes that can be read and written; `needed` and `answer` point to initialized objects
- *     of their types. No two of these and of `bytes` overlap, and nobody else reads or writes them during the call.
+ *   - `bytes` or `text` is `length` initialized bytes that can be read, and nobody writes them during the call.
+ *   - `out` is `capacity` initialized bytes that can be read and written; `needed`, `answer` and `osc` point to initialized
+ *     objects of their types, and `fields` to `field_room` of them. No two of these and of `bytes` or `text` overlap, and nobody
+ *     else reads or writes them during the call.
  *   - No object has more than PTRDIFF_MAX bytes.
  *   - malloc, realloc and free are of one allocator, and align a block to each power of two up to 16 that divides its size.
  *   - The call is made neither in a signal handler, nor in the child of a process with threads that has only forked.
@@ -41,8 +42,8 @@ extern "C" {
 #define ESCAPE_STREAM_VERSION_PATCH 0
 
 /*
- * The statuses. After each but ESCAPE_STREAM_DONE nothing was written: `out`, `*needed` and `*answer` are as they were. Later
- * versions may add some, so treat one that you do not know as an error.
+ * The statuses. After each but ESCAPE_STREAM_DONE nothing was written: `out`, `fields`, `*needed`, `*answer` and `*osc` are as
+ * they were. Later versions may add some, so treat one that you do not know as an error.
  */
 #define ESCAPE_STREAM_DONE UINT32_C(0)           /* the call was done */
 #define ESCAPE_STREAM_NO_MEMORY UINT32_C(1)      /* a request for memory was refused */
@@ -307,6 +308,151 @@ bool escape_stream_escape_function(uint8_t intermediate, uint8_t final, struct e
  * The same of a C0 control, 0x00 to 0x1f, or DEL, 0x7f: its code. 0x0a is "LF", "line feed".
  */
 bool escape_stream_control_function(uint8_t code, struct escape_stream_function *out);
+
+/*
+ * The kinds of operating system commands, and which fields each has, in order. One between [ and ] may be absent; `..` says that
+ * what is before it comes once for each item. A colour is RED, GREEN and BLUE, or QUERY in place of the three. The 3 flags of a
+ * file are PRESERVE_ASPECT_RATIO, INLINE and DO_NOT_MOVE_CURSOR; its width is one of WIDTH_.., and its height one of HEIGHT_..,
+ * each absent where it is automatic. The commands of iTerm2 and the prompts of shells have a kind each. Later versions may add
+ * some.
+ */
+#define ESCAPE_STREAM_OSC_UNSPECIFIED UINT32_C(0)                              /* PART ..: any other command, as its parts between ; */
+#define ESCAPE_STREAM_OSC_SET_ICON_NAME_AND_WINDOW_TITLE UINT32_C(1)           /* TEXT */
+#define ESCAPE_STREAM_OSC_SET_WINDOW_TITLE UINT32_C(2)                         /* TEXT */
+#define ESCAPE_STREAM_OSC_SET_WINDOW_TITLE_SUN UINT32_C(3)                     /* TEXT */
+#define ESCAPE_STREAM_OSC_SET_ICON_NAME UINT32_C(4)                            /* TEXT */
+#define ESCAPE_STREAM_OSC_SET_ICON_NAME_SUN UINT32_C(5)                        /* TEXT */
+#define ESCAPE_STREAM_OSC_SET_HYPERLINK UINT32_C(6)                            /* URI, IMPLICIT, (KEY, VALUE) ..; none: the link ends */
+#define ESCAPE_STREAM_OSC_CLEAR_SELECTION UINT32_C(7)                          /* SELECTION */
+#define ESCAPE_STREAM_OSC_QUERY_SELECTION UINT32_C(8)                          /* SELECTION */
+#define ESCAPE_STREAM_OSC_SET_SELECTION UINT32_C(9)                            /* SELECTION, TEXT */
+#define ESCAPE_STREAM_OSC_SYSTEM_NOTIFICATION UINT32_C(10)                     /* TEXT */
+#define ESCAPE_STREAM_OSC_CHANGE_COLOR_NUMBER UINT32_C(11)                     /* (PALETTE_INDEX, colour) .. */
+#define ESCAPE_STREAM_OSC_CHANGE_DYNAMIC_COLORS UINT32_C(12)                   /* DYNAMIC_COLOR, colour ..: for it and those after it */
+#define ESCAPE_STREAM_OSC_RESET_DYNAMIC_COLOR UINT32_C(13)                     /* DYNAMIC_COLOR */
+#define ESCAPE_STREAM_OSC_CURRENT_WORKING_DIRECTORY UINT32_C(14)               /* DIRECTORY */
+#define ESCAPE_STREAM_OSC_RESET_COLORS UINT32_C(15)                            /* PALETTE_INDEX ..; none: all of them */
+#define ESCAPE_STREAM_OSC_RXVT_EXTENSION UINT32_C(16)                          /* PART .. */
+#define ESCAPE_STREAM_OSC_CONEMU_PROGRESS UINT32_C(17)                         /* PROGRESS_STATE, and in states 1 and 2 PERCENT */
+#define ESCAPE_STREAM_OSC_PROMPT_FRESH_LINE UINT32_C(18)                       /* none */
+#define ESCAPE_STREAM_OSC_PROMPT_FRESH_LINE_AND_START_PROMPT UINT32_C(19)      /* [APPLICATION], [CLICK] */
+#define ESCAPE_STREAM_OSC_PROMPT_END_OF_COMMAND_WITH_FRESH_LINE UINT32_C(20)   /* [APPLICATION], [CLICK] */
+#define ESCAPE_STREAM_OSC_PROMPT_START_PROMPT UINT32_C(21)                     /* PROMPT_KIND */
+#define ESCAPE_STREAM_OSC_PROMPT_START_OF_INPUT_UNTIL_NEXT_MARKER UINT32_C(22) /* none */
+#define ESCAPE_STREAM_OSC_PROMPT_START_OF_INPUT_UNTIL_END_OF_LINE UINT32_C(23) /* none */
+#define ESCAPE_STREAM_OSC_PROMPT_START_OF_OUTPUT UINT32_C(24)                  /* [APPLICATION] */
+#define ESCAPE_STREAM_OSC_PROMPT_COMMAND_STATUS UINT32_C(25)                   /* STATUS, [APPLICATION] */
+#define ESCAPE_STREAM_OSC_ITERM_SET_MARK UINT32_C(26)                          /* none */
+#define ESCAPE_STREAM_OSC_ITERM_STEAL_FOCUS UINT32_C(27)                       /* none */
+#define ESCAPE_STREAM_OSC_ITERM_CLEAR_SCROLLBACK UINT32_C(28)                  /* none */
+#define ESCAPE_STREAM_OSC_ITERM_CURRENT_DIR UINT32_C(29)                       /* DIRECTORY */
+#define ESCAPE_STREAM_OSC_ITERM_SET_PROFILE UINT32_C(30)                       /* NAME */
+#define ESCAPE_STREAM_OSC_ITERM_COPY_TO_CLIPBOARD UINT32_C(31)                 /* NAME: the pasteboard */
+#define ESCAPE_STREAM_OSC_ITERM_END_COPY UINT32_C(32)                          /* none */
+#define ESCAPE_STREAM_OSC_ITERM_HIGHLIGHT_CURSOR_LINE UINT32_C(33)             /* HIGHLIGHTED */
+#define ESCAPE_STREAM_OSC_ITERM_REQUEST_CELL_SIZE UINT32_C(34)                 /* none */
+#define ESCAPE_STREAM_OSC_ITERM_REPORT_CELL_SIZE UINT32_C(35)                  /* CELL_HEIGHT, CELL_WIDTH, [SCALE] */
+#define ESCAPE_STREAM_OSC_ITERM_COPY UINT32_C(36)                              /* TEXT */
+#define ESCAPE_STREAM_OSC_ITERM_REPORT_VARIABLE UINT32_C(37)                   /* NAME. No text is read as this one */
+#define ESCAPE_STREAM_OSC_ITERM_SET_USER_VAR UINT32_C(38)                      /* NAME, VALUE */
+#define ESCAPE_STREAM_OSC_ITERM_SET_BADGE_FORMAT UINT32_C(39)                  /* TEXT */
+#define ESCAPE_STREAM_OSC_ITERM_FILE UINT32_C(40)                              /* [NAME], [SIZE], [width], [height], 3 flags, CONTENT */
+#define ESCAPE_STREAM_OSC_ITERM_SET_UNICODE_VERSION UINT32_C(41)               /* VERSION */
+#define ESCAPE_STREAM_OSC_ITERM_PUSH_UNICODE_VERSION UINT32_C(42)              /* [LABEL] */
+#define ESCAPE_STREAM_OSC_ITERM_POP_UNICODE_VERSION UINT32_C(43)               /* [LABEL] */
+
+/*
+ * The names of fields, and what each holds. A flag is a number, 0 or 1. Texts are UTF-8 where nothing else is said. No 0 ends them,
+ * and they may hold controls, so print none as it is.
+ */
+#define ESCAPE_STREAM_FIELD_TEXT UINT32_C(0)                   /* text: a title, a notification, or for a clipboard or the badge */
+#define ESCAPE_STREAM_FIELD_PART UINT32_C(1)                   /* text: a part of a command; of UNSPECIFIED it need not be UTF-8 */
+#define ESCAPE_STREAM_FIELD_DIRECTORY UINT32_C(2)              /* text: the path or the address of a directory */
+#define ESCAPE_STREAM_FIELD_URI UINT32_C(3)                    /* text: the address of a link */
+#define ESCAPE_STREAM_FIELD_IMPLICIT UINT32_C(4)               /* flag: the terminal found the link in the text. Here 0 */
+#define ESCAPE_STREAM_FIELD_KEY UINT32_C(5)                    /* text: the key of a parameter of a link */
+#define ESCAPE_STREAM_FIELD_VALUE UINT32_C(6)                  /* text: its value; or that of a variable */
+#define ESCAPE_STREAM_FIELD_SELECTION UINT32_C(7)              /* number, a sum: 2 clipboard, 4 primary, 8 select, 16 to 8192 buffers */
+#define ESCAPE_STREAM_FIELD_PALETTE_INDEX UINT32_C(8)          /* number: a place of the palette, 0 to 255 */
+#define ESCAPE_STREAM_FIELD_DYNAMIC_COLOR UINT32_C(9)          /* number: 10 to 19, that of the command which changes it */
+#define ESCAPE_STREAM_FIELD_RED UINT32_C(10)                   /* number: 0 to 65535 */
+#define ESCAPE_STREAM_FIELD_GREEN UINT32_C(11)                 /* number: 0 to 65535 */
+#define ESCAPE_STREAM_FIELD_BLUE UINT32_C(12)                  /* number: 0 to 65535 */
+#define ESCAPE_STREAM_FIELD_QUERY UINT32_C(13)                 /* number: 1. Asks for the colour */
+#define ESCAPE_STREAM_FIELD_PROGRESS_STATE UINT32_C(14)        /* number: 0 none, 1 per cent, 2 error, 3 no end known, 4 paused */
+#define ESCAPE_STREAM_FIELD_PERCENT UINT32_C(15)               /* number: 0 to 100 */
+#define ESCAPE_STREAM_FIELD_APPLICATION UINT32_C(16)           /* text: the name of the application that writes the prompt */
+#define ESCAPE_STREAM_FIELD_CLICK UINT32_C(17)                 /* number: 0 a line, 1 lines, 2 also up and down, 3 so, smartly */
+#define ESCAPE_STREAM_FIELD_PROMPT_KIND UINT32_C(18)           /* number: 0 initial, 1 right side, 2 continuation, 3 secondary */
+#define ESCAPE_STREAM_FIELD_STATUS UINT32_C(19)                /* number: the status of the command that ended */
+#define ESCAPE_STREAM_FIELD_NAME UINT32_C(20)                  /* text: of a profile, a pasteboard, a variable or a file */
+#define ESCAPE_STREAM_FIELD_HIGHLIGHTED UINT32_C(21)           /* flag: the line of the cursor is highlighted */
+#define ESCAPE_STREAM_FIELD_CELL_HEIGHT UINT32_C(22)           /* number: in tenths of a pixel */
+#define ESCAPE_STREAM_FIELD_CELL_WIDTH UINT32_C(23)            /* number: in tenths of a pixel */
+#define ESCAPE_STREAM_FIELD_SCALE UINT32_C(24)                 /* number: pixels of the display for a pixel, in tenths */
+#define ESCAPE_STREAM_FIELD_SIZE UINT32_C(25)                  /* size: how many bytes the file has, as the command says */
+#define ESCAPE_STREAM_FIELD_WIDTH_CELLS UINT32_C(26)           /* number: in cells; less than 0 is 0, also in the next five */
+#define ESCAPE_STREAM_FIELD_WIDTH_PIXELS UINT32_C(27)          /* number: in pixels */
+#define ESCAPE_STREAM_FIELD_WIDTH_PERCENT UINT32_C(28)         /* number: of the window */
+#define ESCAPE_STREAM_FIELD_HEIGHT_CELLS UINT32_C(29)          /* number: in cells */
+#define ESCAPE_STREAM_FIELD_HEIGHT_PIXELS UINT32_C(30)         /* number: in pixels */
+#define ESCAPE_STREAM_FIELD_HEIGHT_PERCENT UINT32_C(31)        /* number: of the window */
+#define ESCAPE_STREAM_FIELD_PRESERVE_ASPECT_RATIO UINT32_C(32) /* flag: the width and the height keep their ratio */
+#define ESCAPE_STREAM_FIELD_INLINE UINT32_C(33)                /* flag: the file is shown, and else stored */
+#define ESCAPE_STREAM_FIELD_DO_NOT_MOVE_CURSOR UINT32_C(34)    /* flag: the cursor stays where it is */
+#define ESCAPE_STREAM_FIELD_CONTENT UINT32_C(35)               /* text: what the file holds, any bytes */
+#define ESCAPE_STREAM_FIELD_VERSION UINT32_C(36)               /* number: a version of Unicode */
+#define ESCAPE_STREAM_FIELD_LABEL UINT32_C(37)                 /* text: of a version that is kept or brought back */
+
+/* What a field holds. */
+#define ESCAPE_STREAM_VALUE_NUMBER UINT32_C(0) /* `number` */
+#define ESCAPE_STREAM_VALUE_TEXT UINT32_C(1)   /* `length` bytes of `out`, from `offset` on */
+#define ESCAPE_STREAM_VALUE_SIZE UINT32_C(2)   /* `length`, a number of bytes */
+
+/* A field of a command. What has no meaning for what it holds is 0. */
+struct escape_stream_field {
+    uint32_t name; /* which part of the command it is: ESCAPE_STREAM_FIELD_.. */
+    uint32_t kind; /* what it holds: ESCAPE_STREAM_VALUE_.. */
+    int64_t number;
+    size_t offset;
+    size_t length;
+};
+
+/* A command. */
+struct escape_stream_osc {
+    uint32_t kind;      /* which one: ESCAPE_STREAM_OSC_.. */
+    size_t field_count; /* how many fields it has */
+    size_t text_length; /* how many bytes their texts have together */
+};
+
+/*
+ * Reads the command that the text of an operating system command is, the bytes between ESC ] and what ends them: the text of an
+ * event ESCAPE_STREAM_OSC of escape_stream_next. Any bytes are such a text.
+ *
+ *   text, length           the text, and how many bytes it has
+ *   osc                    where the kind of the command goes, and how much room its fields and their texts need
+ *   fields, field_room     where its fields go, and for how many there is room
+ *   out, capacity          where their texts go, one after another, and for how many bytes there is room
+ *
+ * ESCAPE_STREAM_DONE: `*osc` is that of the command, whatever the room. At the beginning of `fields` are its fields, as many as
+ * there is room for, and at the beginning of `out` their texts, as much as there is room for; all else is as it was. Each field
+ * is there where `osc->field_count <= field_room`, and each text where `osc->text_length <= capacity`; where they are not, call
+ * again with room.
+ *
+ * ESCAPE_STREAM_NO_MEMORY is the only other status. The call takes memory for the command and its fields, and gives it back
+ * before it returns.
+ *
+ * Example: the title of a window.
+ *
+ *     struct escape_stream_osc osc = {0};
+ *     struct escape_stream_field fields[8] = {0};
+ *     uint8_t out[256] = {0};
+ *     if (escape_stream_read_osc(text, length, &osc, fields, 8, out, sizeof out) == ESCAPE_STREAM_DONE &&
+ *         osc.kind == ESCAPE_STREAM_OSC_SET_WINDOW_TITLE && osc.text_length <= sizeof out)
+ *         set_title(out, fields[0].length);
+ */
+uint32_t escape_stream_read_osc(const uint8_t *text, size_t length, struct escape_stream_osc *osc,
+                                struct escape_stream_field *fields, size_t field_room, uint8_t *out, size_t capacity);
 
 #ifdef __cplusplus
 }

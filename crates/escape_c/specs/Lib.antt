@@ -4,3 +4,4 @@ pub mod HeldPage
 pub mod PagePieces
 pub mod Pieces
 pub mod FunctionRows
+pub mod OscValues

@@ -6,7 +6,8 @@
 //! caller makes room and calls again. After any status but `DONE` nothing was written. These calls
 //! keep nothing. The filter in pieces is a [`PieceFilter`] of the caller's, and HTML in pieces a
 //! [`PiecePage`], each with a block after it.
-//! Three further calls write a [`FunctionRow`]: what a sequence or a control asks for, by name.
+//! Three further calls write a [`FunctionRow`]: what a sequence or a control asks for, by name; and
+//! one an [`OscValue`] and rows of fields: what an operating system command says.
 //! `include/escape_stream.h` declares the calls for C.
 #![tactic(auto)]
 
@@ -17,6 +18,8 @@ mod held;
 mod held_page;
 mod is_normal;
 mod normal;
+mod osc;
+mod osc_value;
 mod output;
 mod page_pieces;
 mod page_state;
@@ -33,6 +36,8 @@ pub use function::{
 pub use function_row::FunctionRow;
 pub use is_normal::escape_stream_is_normal;
 pub use normal::escape_stream_normal;
+pub use osc::escape_stream_read_osc;
+pub use osc_value::OscValue;
 pub use page_pieces::{
     escape_stream_html_begin, escape_stream_html_end, escape_stream_html_feed,
     escape_stream_html_finish, escape_stream_html_text,

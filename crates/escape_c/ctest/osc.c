@@ -1,0 +1,239 @@
+/* SPDX-License-Identifier: MIT */
+/*
+ * Reads operating system commands by escape_stream.h, and compares their fields with what is wanted.
+ *
+ *     osc
+ *
+ * Each command in every room, with guards beside it; each request for memory is refused in turn. Prints a line for each
+ * difference; the status is 1 where there is one. Link it with -Wl,--wrap=malloc,--wrap=realloc,--wrap=free, by which it counts,
+ * refuses, and sees that all was given back.
+ */
+#include "escape_stream.h"
+
+#include <inttypes.h>
+#include <stdio.h>
+#include <stdlib.h>
+#include <string.h>
+
+enum { MOST_FIELDS = 24, MOST_BYTES = 120, JUNK = 0xa5 };
+
+static unsigned long refused, requests, differences;
+static long blocks;
+
+void *__real_malloc(size_t size);
+void *__real_realloc(void *block, size_t size);
+void __real_free(void *block);
+void *__wrap_malloc(size_t size);
+void *__wrap_realloc(void *block, size_t size);
+void __wrap_free(void *block);
+
+void *__wrap_malloc(size_t size) {
+    void *block = ++requests == refused ? NULL : __real_malloc(size);
+    blocks += block != NULL;
+    return block;
+}
+
+void *__wrap_realloc(void *block, size_t size) {
+    void *moved = ++requests == refused ? NULL : __real_realloc(block, size);
+    blocks += !block && moved;
+    return moved;
+}
+
+void __wrap_free(void *block) {
+    blocks -= block != NULL;
+    __real_free(block);
+}
+
+#define KIND(name) [ESCAPE_STREAM_OSC_##name] = #name
+static const char *const KINDS[] = {
+    KIND(UNSPECIFIED), KIND(SET_ICON_NAME_AND_WINDOW_TITLE), KIND(SET_WINDOW_TITLE), KIND(SET_WINDOW_TITLE_SUN),
+    KIND(SET_ICON_NAME), KIND(SET_ICON_NAME_SUN), KIND(SET_HYPERLINK), KIND(CLEAR_SELECTION), KIND(QUERY_SELECTION),
+    KIND(SET_SELECTION), KIND(SYSTEM_NOTIFICATION), KIND(CHANGE_COLOR_NUMBER), KIND(CHANGE_DYNAMIC_COLORS),
+    KIND(RESET_DYNAMIC_COLOR), KIND(CURRENT_WORKING_DIRECTORY), KIND(RESET_COLORS), KIND(RXVT_EXTENSION),
+    KIND(CONEMU_PROGRESS), KIND(PROMPT_FRESH_LINE), KIND(PROMPT_FRESH_LINE_AND_START_PROMPT),
+    KIND(PROMPT_END_OF_COMMAND_WITH_FRESH_LINE), KIND(PROMPT_START_PROMPT), KIND(PROMPT_START_OF_INPUT_UNTIL_NEXT_MARKER),
+    KIND(PROMPT_START_OF_INPUT_UNTIL_END_OF_LINE), KIND(PROMPT_START_OF_OUTPUT), KIND(PROMPT_COMMAND_STATUS),
+    KIND(ITERM_SET_MARK), KIND(ITERM_STEAL_FOCUS), KIND(ITERM_CLEAR_SCROLLBACK), KIND(ITERM_CURRENT_DIR),
+    KIND(ITERM_SET_PROFILE), KIND(ITERM_COPY_TO_CLIPBOARD), KIND(ITERM_END_COPY), KIND(ITERM_HIGHLIGHT_CURSOR_LINE),
+    KIND(ITERM_REQUEST_CELL_SIZE), KIND(ITERM_REPORT_CELL_SIZE), KIND(ITERM_COPY), KIND(ITERM_REPORT_VARIABLE),
+    KIND(ITERM_SET_USER_VAR), KIND(ITERM_SET_BADGE_FORMAT), KIND(ITERM_FILE), KIND(ITERM_SET_UNICODE_VERSION),
+    KIND(ITERM_PUSH_UNICODE_VERSION), KIND(ITERM_POP_UNICODE_VERSION),
+};
+
+#define NAME(name) [ESCAPE_STREAM_FIELD_##name] = #name
+static const char *const NAMES[] = {
+    NAME(TEXT), NAME(PART), NAME(DIRECTORY), NAME(URI), NAME(IMPLICIT), NAME(KEY), NAME(VALUE), NAME(SELECTION),
+    NAME(PALETTE_INDEX), NAME(DYNAMIC_COLOR), NAME(RED), NAME(GREEN), NAME(BLUE), NAME(QUERY), NAME(PROGRESS_STATE),
+    NAME(PERCENT), NAME(APPLICATION), NAME(CLICK), NAME(PROMPT_KIND), NAME(STATUS), NAME(NAME), NAME(HIGHLIGHTED),
+    NAME(CELL_HEIGHT), NAME(CELL_WIDTH), NAME(SCALE), NAME(SIZE), NAME(WIDTH_CELLS), NAME(WIDTH_PIXELS),
+    NAME(WIDTH_PERCENT), NAME(HEIGHT_CELLS), NAME(HEIGHT_PIXELS), NAME(HEIGHT_PERCENT), NAME(PRESERVE_ASPECT_RATIO),
+    NAME(INLINE), NAME(DO_NOT_MOVE_CURSOR), NAME(CONTENT), NAME(VERSION), NAME(LABEL),
+};
+
+/* The text of a command, and its kind and fields. */
+static const struct command {
+    const char *text, *wanted;
+} COMMANDS[] = {
+    {"0;a;b", "SET_ICON_NAME_AND_WINDOW_TITLE TEXT=a;b"},
+    {"2;caf\xc3\xa9", "SET_WINDOW_TITLE TEXT=caf\xc3\xa9"},
+    {"2;", "SET_WINDOW_TITLE TEXT="},
+    {"lsun", "SET_WINDOW_TITLE_SUN TEXT=sun"},
+    {"1;icon", "SET_ICON_NAME TEXT=icon"},
+    {"Lsun", "SET_ICON_NAME_SUN TEXT=sun"},
+    {"8;;", "SET_HYPERLINK"},
+    {"8;;http://a/", "SET_HYPERLINK URI=http://a/ IMPLICIT=0"},
+    {"8;id=1:b==;u", "SET_HYPERLINK URI=u IMPLICIT=0 KEY=b VALUE== KEY=id VALUE=1"},
+    {"52;c", "CLEAR_SELECTION SELECTION=2"},
+    {"52;;?", "QUERY_SELECTION SELECTION=24"},
+    {"52;p9;aGVsbG8=", "SET_SELECTION SELECTION=8196 TEXT=hello"},
+    {"9;done", "SYSTEM_NOTIFICATION TEXT=done"},
+    {"4;1;#ff0080;255;?", "CHANGE_COLOR_NUMBER PALETTE_INDEX=1 RED=65535 GREEN=0 BLUE=32896 PALETTE_INDEX=255 QUERY=1"},
+    {"11;?;rgb:1/2/3", "CHANGE_DYNAMIC_COLORS DYNAMIC_COLOR=11 QUERY=1 RED=4369 GREEN=8738 BLUE=13107"},
+    {"112", "RESET_DYNAMIC_COLOR DYNAMIC_COLOR=12"},
+    {"7;file:///tmp", "CURRENT_WORKING_DIRECTORY DIRECTORY=file:///tmp"},
+    {"104", "RESET_COLORS"},
+    {"104;0;255", "RESET_COLORS PALETTE_INDEX=0 PALETTE_INDEX=255"},
+    {"777;notify;a;b", "RXVT_EXTENSION PART=notify PART=a PART=b"},
+    {"9;4;0", "CONEMU_PROGRESS PROGRESS_STATE=0"},
+    {"9;4;1;50", "CONEMU_PROGRESS PROGRESS_STATE=1 PERCENT=50"},
+    {"9;4;2;7", "CONEMU_PROGRESS PROGRESS_STATE=2 PERCENT=7"},
+    {"9;4;3", "CONEMU_PROGRESS PROGRESS_STATE=3"},
+    {"9;4;4", "CONEMU_PROGRESS PROGRESS_STATE=4"},
+    {"133;L", "PROMPT_FRESH_LINE"},
+    {"133;A", "PROMPT_FRESH_LINE_AND_START_PROMPT"},
+    {"133;A;aid=sh;cl=line", "PROMPT_FRESH_LINE_AND_START_PROMPT APPLICATION=sh CLICK=0"},
+    {"133;N;cl=w", "PROMPT_END_OF_COMMAND_WITH_FRESH_LINE CLICK=3"},
+    {"133;P;k=i", "PROMPT_START_PROMPT PROMPT_KIND=0"},
+    {"133;P;k=s", "PROMPT_START_PROMPT PROMPT_KIND=3"},
+    {"133;B", "PROMPT_START_OF_INPUT_UNTIL_NEXT_MARKER"},
+    {"133;I", "PROMPT_START_OF_INPUT_UNTIL_END_OF_LINE"},
+    {"133;C;aid=7", "PROMPT_START_OF_OUTPUT APPLICATION=7"},
+    {"133;D;-1;aid=7", "PROMPT_COMMAND_STATUS STATUS=-1 APPLICATION=7"},
+    {"133;D", "PROMPT_COMMAND_STATUS STATUS=0"},
+    {"1337;SetMark", "ITERM_SET_MARK"},
+    {"1337;StealFocus", "ITERM_STEAL_FOCUS"},
+    {"1337;ClearScrollback", "ITERM_CLEAR_SCROLLBACK"},
+    {"1337;CurrentDir=/tmp", "ITERM_CURRENT_DIR DIRECTORY=/tmp"},
+    {"1337;SetProfile=a=b", "ITERM_SET_PROFILE NAME=a=b"},
+    {"1337;CopyToClipboard=find", "ITERM_COPY_TO_CLIPBOARD NAME=find"},
+    {"1337;EndCopy", "ITERM_END_COPY"},
+    {"1337;HighlightCursorLine=yes", "ITERM_HIGHLIGHT_CURSOR_LINE HIGHLIGHTED=1"},
+    {"1337;ReportCellSize", "ITERM_REQUEST_CELL_SIZE"},
+    {"1337;ReportCellSize=12.5;6", "ITERM_REPORT_CELL_SIZE CELL_HEIGHT=125 CELL_WIDTH=60"},
+    {"1337;ReportCellSize=1;2;2.0", "ITERM_REPORT_CELL_SIZE CELL_HEIGHT=10 CELL_WIDTH=20 SCALE=20"},
+    {"1337;Copy=;aGVsbG8=", "ITERM_COPY TEXT=hello"},
+    {"1337;SetUserVar=a=aGVsbG8=", "ITERM_SET_USER_VAR NAME=a VALUE=hello"},
+    {"1337;SetBadgeFormat=aGVsbG8=", "ITERM_SET_BADGE_FORMAT TEXT=hello"},
+    {"1337;File=:AAH/", "ITERM_FILE PRESERVE_ASPECT_RATIO=1 INLINE=0 DO_NOT_MOVE_CURSOR=0 CONTENT=[00][01][ff]"},
+    {"1337;File=name=YQ==;size=18446744073709551615;width=-2;height=50%;preserveAspectRatio=0;inline=1;doNotMoveCursor=1:aGk=",
+     "ITERM_FILE NAME=a SIZE=18446744073709551615 WIDTH_CELLS=-2 HEIGHT_PERCENT=50 PRESERVE_ASPECT_RATIO=0 INLINE=1 "
+     "DO_NOT_MOVE_CURSOR=1 CONTENT=hi"},
+    {"1337;File=width=3px;height=4px:", "ITERM_FILE WIDTH_PIXELS=3 HEIGHT_PIXELS=4 PRESERVE_ASPECT_RATIO=1 INLINE=0 DO_NOT_MOVE_CURSOR=0 CONTENT="},
+    {"1337;File=width=3%;height=4:", "ITERM_FILE WIDTH_PERCENT=3 HEIGHT_CELLS=4 PRESERVE_ASPECT_RATIO=1 INLINE=0 DO_NOT_MOVE_CURSOR=0 CONTENT="},
+    {"1337;UnicodeVersion=9", "ITERM_SET_UNICODE_VERSION VERSION=9"},
+    {"1337;UnicodeVersion=push a", "ITERM_PUSH_UNICODE_VERSION LABEL=a"},
+    {"1337;UnicodeVersion=pop", "ITERM_POP_UNICODE_VERSION"},
+    {"", "UNSPECIFIED"},
+    {"02;a", "UNSPECIFIED PART=02 PART=a"},
+    {"2;\xff", "UNSPECIFIED PART=2 PART=[ff]"},
+};
+
+static void wants(bool holds, const char *what, const char *text, size_t number) {
+    if (holds)
+        return;
+    fprintf(stderr, "osc: %s (%s, %zu)\n", what, text, number);
+    differences++;
+}
+
+/* Appends a text, of which a control and a byte FF are two digits between brackets. */
+static size_t append_text(char *line, size_t at, const uint8_t *text, size_t length) {
+    for (size_t i = 0; i < length; i++)
+        at += (size_t)sprintf(line + at, text[i] < 0x20 || text[i] == 0xff ? "[%02x]" : "%c", text[i]);
+    return at;
+}
+
+/* The kind and the fields of a command, as the table has them. */
+static const char *written(const struct escape_stream_osc *osc, const struct escape_stream_field *fields, const uint8_t *out) {
+    static char line[1000];
+    size_t at = (size_t)sprintf(line, "%s", KINDS[osc->kind]);
+    for (size_t i = 0; i < osc->field_count; i++) {
+        const struct escape_stream_field *field = &fields[i];
+        at += (size_t)sprintf(line + at, " %s=", NAMES[field->name]);
+        if (field->kind == ESCAPE_STREAM_VALUE_NUMBER)
+            at += (size_t)sprintf(line + at, "%" PRId64, field->number);
+        else if (field->kind == ESCAPE_STREAM_VALUE_TEXT)
+            at = append_text(line, at, out + field->offset, field->length);
+        else
+            at += (size_t)sprintf(line + at, "%zu", field->length);
+    }
+    return line;
+}
+
+/* What a call is given: room for fields and texts, with guards. */
+struct room {
+    struct escape_stream_osc osc;
+    struct escape_stream_field fields[MOST_FIELDS];
+    uint8_t out[MOST_BYTES];
+};
+
+static uint32_t read_into(struct room *room, const char *text, size_t field_room, size_t capacity) {
+    memset(room, JUNK, sizeof *room);
+    return escape_stream_read_osc((const uint8_t *)text, strlen(text), &room->osc, room->fields, field_room, room->out, capacity);
+}
+
+static bool is_junk(const void *at, size_t length) {
+    for (size_t i = 0; i < length; i++)
+        if (((const uint8_t *)at)[i] != JUNK)
+            return false;
+    return true;
+}
+
+/* The same command in less room: the beginnings of its fields and of their texts, and nothing past these. */
+static void check_room(const struct room *whole, const char *text, size_t field_room, size_t capacity) {
+    static struct room room;
+    size_t fields = field_room < whole->osc.field_count ? field_room : whole->osc.field_count;
+    size_t bytes = capacity < whole->osc.text_length ? capacity : whole->osc.text_length;
+    wants(read_into(&room, text, field_room, capacity) == ESCAPE_STREAM_DONE, "another status", text, field_room);
+    wants(room.osc.kind == whole->osc.kind && room.osc.field_count == whole->osc.field_count &&
+          room.osc.text_length == whole->osc.text_length, "another value", text, field_room);
+    wants(memcmp(room.fields, whole->fields, fields * sizeof *room.fields) == 0, "other fields", text, field_room);
+    wants(is_junk(&room.fields[fields], sizeof room.fields - fields * sizeof *room.fields), "a field past them", text, field_room);
+    wants(memcmp(room.out, whole->out, bytes) == 0, "another text", text, capacity);
+    wants(is_junk(&room.out[bytes], sizeof room.out - bytes), "a byte past it", text, capacity);
+}
+
+static void check_refusals(const char *text) {
+    static struct room room;
+    for (unsigned long at = 1; at < 1000; at++) {
+        uint32_t status;
+        requests = 0;
+        refused = at;
+        status = read_into(&room, text, MOST_FIELDS, MOST_BYTES);
+        refused = 0;
+        wants(blocks == 0, "blocks are kept", text, at);
+        if (requests < at) {
+            wants(status == ESCAPE_STREAM_DONE, "another status", text, at);
+            return;
+        }
+        wants(status == ESCAPE_STREAM_NO_MEMORY && is_junk(&room, sizeof room), "something was written", text, at);
+    }
+}
+
+static void check_command(const struct command *command) {
+    static struct room whole;
+    wants(read_into(&whole, command->text, MOST_FIELDS, MOST_BYTES) == ESCAPE_STREAM_DONE, "another status", command->text, 0);
+    wants(strcmp(written(&whole.osc, whole.fields, whole.out), command->wanted) == 0,
+          written(&whole.osc, whole.fields, whole.out), command->text, 0);
+    for (size_t fields = 0; fields <= whole.osc.field_count + 2; fields++)
+        check_room(&whole, command->text, fields, MOST_BYTES);
+    for (size_t bytes = 0; bytes <= whole.osc.text_length + 2; bytes++)
+        check_room(&whole, command->text, MOST_FIELDS, bytes);
+    check_refusals(command->text);
+}
+
+int main(void) {
+    for (size_t i = 0; i < sizeof COMMANDS / sizeof *COMMANDS; i++)
+        check_command(&COMMANDS[i]);
+    printf("%lu differences\n", differences);
+    return differences != 0;
+}

@@ -1,0 +1,13 @@
+//! What the text of an OSC means, as a kind and counts.
+
+/// What a command is, for its caller: its kind, and how much room its fields and their texts need.
+#[repr(C)]
+#[derive(Clone, Copy)]
+pub struct OscValue {
+    /// Which command: the number of a [`CommandKind`](esc_fields::CommandKind).
+    pub kind: u32,
+    /// How many fields it has.
+    pub field_count: usize,
+    /// How many bytes the texts of these have together.
+    pub text_length: usize,
+}
