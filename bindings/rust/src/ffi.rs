@@ -55,6 +55,15 @@ extern "C" {
         capacity: usize,
     ) -> usize;
     fn escape_stream_html_end(page: *mut Page);
+    fn escape_stream_read_osc(
+        text: *const u8,
+        length: usize,
+        osc: *mut Osc,
+        fields: *mut Field,
+        field_room: usize,
+        out: *mut u8,
+        capacity: usize,
+    ) -> u32;
 }
 
 extern "C" {
@@ -133,6 +142,62 @@ fn number(policy: Policy) -> u32 {
         Policy::Screen => 2,
         Policy::All => 3,
     }
+}
+
+/// A field of a command.
+#[cfg(feature = "oneshot")]
+#[repr(C)]
+#[derive(Clone, Copy)]
+pub struct Field {
+    pub name: u32,
+    pub kind: u32,
+    pub number: i64,
+    pub offset: usize,
+    pub length: usize,
+}
+
+/// A field before a call writes it.
+#[cfg(feature = "oneshot")]
+pub const NO_FIELD: Field = Field {
+    name: 0,
+    kind: 0,
+    number: 0,
+    offset: 0,
+    length: 0,
+};
+
+/// A command: its kind, and how much room its fields and their texts need.
+#[cfg(feature = "oneshot")]
+#[repr(C)]
+pub struct Osc {
+    pub kind: u32,
+    pub field_count: usize,
+    pub text_length: usize,
+}
+
+/// Reads the text of a command.
+#[cfg(feature = "oneshot")]
+pub fn read_osc(text: &[u8], fields: &mut [Field], out: &mut [u8]) -> Result<Osc, Error> {
+    let mut osc = Osc {
+        kind: 0,
+        field_count: 0,
+        text_length: 0,
+    };
+    // SAFETY: the references are what the types ask for. Clause `written` says what `fields` and `out`
+    // hold after `DONE`, initialized all of them, clause `value` what `osc` holds, and `refused` that
+    // all are as they were after any other status.
+    let status = unsafe {
+        escape_stream_read_osc(
+            text.as_ptr(),
+            text.len(),
+            &mut osc,
+            fields.as_mut_ptr(),
+            fields.len(),
+            out.as_mut_ptr(),
+            out.len(),
+        )
+    };
+    done(status, osc)
 }
 
 // By clause `refused` the only other status is that of want of memory, where the policy is known.

@@ -6,7 +6,7 @@
 //! takes one whole, but those of a [`Filter`], a writer, of an [`html::PiecePage`], which gives HTML
 //! of it, and of a [`Parser`], which take it in pieces. The module [`vte`] has that parser with the calls of the crate `vte`.
 //! [`ControlFunction`] and [`EscapeFunction`] name what sequences ask for, by tables that are made
-//! from those of the library.
+//! from those of the library, and [`osc::OperatingSystemCommand`] is what a command says.
 //!
 //! The work is done by a library that is proved: what each call writes is what its contract says,
 //! for every stream. This crate is not proved. Its module `ffi` is its one place with unsafe code.
@@ -44,6 +44,8 @@ mod function_rows;
 pub mod html;
 #[cfg(feature = "oneshot")]
 mod oneshot;
+#[cfg(feature = "oneshot")]
+pub mod osc;
 mod parameters;
 mod params;
 mod parser;
@@ -73,7 +75,8 @@ pub enum Error {
     /// A request for memory was refused. Nothing was written.
     Memory,
     /// A [`Parser`] failed, and gives nothing any more: the clause `sound` of the library's call
-    /// excludes it. Or a filter or a page in pieces was refused memory before, or has ended.
+    /// excludes it. Or a filter or a page in pieces was refused memory before, or has ended. Or the
+    /// fields of a command are none that its kind has, which the library's call excludes too.
     Failed,
 }
 

@@ -1,8 +1,11 @@
 // SPDX-License-Identifier: MIT
 //! Checks the calls against the tables of streams that the proved programs are checked against.
 //! docs/DEVELOPING.md has their form.
+mod rows;
+
 use escape_stream::{PieceFilter, Policy, filter, filter_into, is_normal, normal, normal_into};
-use std::{fs, path::Path, str};
+use rows::{Row, count_rows};
+use std::str;
 
 const LIMIT: usize = 1_048_576;
 
@@ -15,70 +18,6 @@ const POLICIES: [(&str, Policy); 4] = [
     ("as-screen", Policy::Screen),
     ("as-all", Policy::All),
 ];
-
-// The lines of a row.
-struct Row<'a>(Vec<&'a str>);
-
-impl Row<'_> {
-    // What its lines of this word stand for, joined.
-    fn bytes(&self, word: &str) -> Option<Vec<u8>> {
-        let mut found = None;
-        for line in &self.0 {
-            let (head, text) = line.split_once(' ').unwrap_or((line, ""));
-            let (name, times) = head.split_once('*').unwrap_or((head, "1"));
-            if name == word {
-                let one = unescaped(text.trim_start());
-                found
-                    .get_or_insert_with(Vec::new)
-                    .extend(one.repeat(times.parse().unwrap()));
-            }
-        }
-        found
-    }
-
-    fn name(&self) -> &str {
-        self.0.first().unwrap_or(&"")
-    }
-}
-
-// `\xNN` is a byte, `\\` is `\`, any other character is itself.
-fn unescaped(text: &str) -> Vec<u8> {
-    let mut bytes = Vec::new();
-    let mut rest = text.as_bytes();
-    while let [first, more @ ..] = rest {
-        rest = more;
-        match (first, more) {
-            (b'\\', [b'x', high, low, after @ ..]) => {
-                bytes
-                    .push(u8::from_str_radix(str::from_utf8(&[*high, *low]).unwrap(), 16).unwrap());
-                rest = after;
-            }
-            (b'\\', [b'\\', after @ ..]) => {
-                bytes.push(b'\\');
-                rest = after;
-            }
-            _ => bytes.push(*first),
-        }
-    }
-    bytes
-}
-
-// Calls `check` on each row of the tables, and returns how many there are of which it returns true.
-fn count_rows(check: impl Fn(&Row) -> bool) -> usize {
-    let folder = Path::new(env!("CARGO_MANIFEST_DIR")).join("../../crates/check_rows/data");
-    let mut count = 0;
-    for table in fs::read_dir(folder).unwrap() {
-        let text = fs::read_to_string(table.unwrap().path()).unwrap();
-        for block in text.split("\n\n") {
-            let row = Row(block
-                .lines()
-                .filter(|line| !line.starts_with('#'))
-                .collect());
-            count += usize::from(check(&row));
-        }
-    }
-    count
-}
 
 // The call writes this text into any room, and nothing past it.
 fn check_capacities(row: &Row, text: &[u8], call: impl Fn(&mut [u8]) -> usize) {

@@ -1,0 +1,180 @@
+// SPDX-License-Identifier: MIT
+//! Operating system commands as values: titles, links, clipboards, colours, prompts and the
+//! commands of iTerm2.
+//!
+//! The names are those of the crate `termwiz`. Texts are owned, and sizes in tenths are whole
+//! numbers.
+mod fields;
+mod iterm;
+mod prompt;
+mod values;
+
+pub use iterm::{ITermDimension, ITermFileData, ITermProprietary, ITermUnicodeVersionOp};
+pub use prompt::{FinalTermClick, FinalTermPromptKind, FinalTermSemanticPrompt};
+pub use values::{
+    ChangeColorPair, Color16, ColorOrQuery, DynamicColorNumber, Hyperlink, Progress, Selection,
+};
+
+use crate::{Error, ffi};
+use alloc::string::String;
+use alloc::vec::Vec;
+use fields::{Fields, kind, name};
+
+/// An operating system command: a control string between `ESC ]` and a string terminator, whose
+/// parts have `;` between them (xterm's list of control sequences, "Operating System Commands").
+#[derive(Clone, Debug, PartialEq, Eq)]
+#[non_exhaustive]
+pub enum OperatingSystemCommand {
+    /// Code 0: sets the name of the icon and the title of the window.
+    SetIconNameAndWindowTitle(String),
+    /// Code 2: sets the title of the window.
+    SetWindowTitle(String),
+    /// Code `l`: sets the title of the window, as Sun's terminals do it.
+    SetWindowTitleSun(String),
+    /// Code 1: sets the name of the icon.
+    SetIconName(String),
+    /// Code `L`: sets the name of the icon, as Sun's terminals do it.
+    SetIconNameSun(String),
+    /// Code 8: what is printed next belongs to this link, or to none.
+    SetHyperlink(Option<Hyperlink>),
+    /// Code 52 with a selection alone: clears it.
+    ClearSelection(Selection),
+    /// Code 52 with a selection and `?`: asks for its text.
+    QuerySelection(Selection),
+    /// Code 52 with a selection and a text in base64: sets it.
+    SetSelection(Selection, String),
+    /// Code 9: shows a notification.
+    SystemNotification(String),
+    /// Code 1337: a command of iTerm2.
+    ITermProprietary(ITermProprietary),
+    /// Code 133: where a shell's prompts, commands and their output begin and end.
+    FinalTermSemanticPrompt(FinalTermSemanticPrompt),
+    /// Code 4: changes colours of the palette, or asks for them.
+    ChangeColorNumber(Vec<ChangeColorPair>),
+    /// Codes 10 to 19: changes this dynamic colour and those after it, or asks for them, one a
+    /// colour.
+    ChangeDynamicColors(DynamicColorNumber, Vec<ColorOrQuery>),
+    /// Codes 110 to 119: resets a dynamic colour.
+    ResetDynamicColor(DynamicColorNumber),
+    /// Code 7: the directory that the shell works in.
+    CurrentWorkingDirectory(String),
+    /// Code 104: resets these colours of the palette; all of them where none is named.
+    ResetColors(Vec<u8>),
+    /// Code 777: an extension of rxvt, as its parts.
+    RxvtExtension(Vec<String>),
+    /// Code 9 with `4`: shows the progress of a task, as ConEmu does it.
+    ConEmuProgress(Progress),
+    /// Any other command, as its parts.
+    Unspecified(Vec<Vec<u8>>),
+}
+
+impl OperatingSystemCommand {
+    /// The command of this text: the bytes between `ESC ]` and what ends them, as
+    /// [`Event::Osc`](crate::Event::Osc) has them. Any bytes are the text of a command.
+    ///
+    /// ```
+    /// use escape_stream::osc::{FinalTermSemanticPrompt, OperatingSystemCommand};
+    ///
+    /// assert_eq!(
+    ///     OperatingSystemCommand::parse(b"2;hello")?,
+    ///     OperatingSystemCommand::SetWindowTitle("hello".into()),
+    /// );
+    /// let link = OperatingSystemCommand::parse(b"8;id=1;http://example.com/")?;
+    /// if let OperatingSystemCommand::SetHyperlink(Some(link)) = link {
+    ///     assert_eq!(link.uri, "http://example.com/");
+    ///     assert_eq!(link.params["id"], "1");
+    /// }
+    /// assert_eq!(
+    ///     OperatingSystemCommand::parse(b"133;D;1")?,
+    ///     OperatingSystemCommand::FinalTermSemanticPrompt(FinalTermSemanticPrompt::CommandStatus {
+    ///         status: 1,
+    ///         aid: None,
+    ///     }),
+    /// );
+    /// # Ok::<(), escape_stream::Error>(())
+    /// ```
+    ///
+    /// # Errors
+    ///
+    /// [`Error::Memory`] where the library was refused memory; the texts of the value itself take it
+    /// as a `String` does. [`Error::Failed`] is excluded by the clauses of the library's call: it
+    /// says that a command had other fields than its kind has.
+    pub fn parse(text: &[u8]) -> Result<OperatingSystemCommand, Error> {
+        let (osc, rows, texts) = read(text)?;
+        let mut fields = Fields::new(&rows, &texts);
+        command(osc.kind, &mut fields)
+            .filter(|_| fields.is_empty())
+            .ok_or(Error::Failed)
+    }
+}
+
+// The command with all its fields and their texts: first in as much room as most commands need.
+fn read(text: &[u8]) -> Result<(ffi::Osc, Vec<ffi::Field>, Vec<u8>), Error> {
+    let (mut rows, mut texts) = (Vec::new(), Vec::new());
+    make_room(&mut rows, 8, ffi::NO_FIELD)?;
+    make_room(&mut texts, text.len(), 0)?;
+    let mut osc = ffi::read_osc(text, &mut rows, &mut texts)?;
+    if osc.field_count > rows.len() || osc.text_length > texts.len() {
+        make_room(&mut rows, osc.field_count, ffi::NO_FIELD)?;
+        make_room(&mut texts, osc.text_length, 0)?;
+        osc = ffi::read_osc(text, &mut rows, &mut texts)?;
+    }
+    rows.truncate(osc.field_count);
+    texts.truncate(osc.text_length);
+    Ok((osc, rows, texts))
+}
+
+fn make_room<T: Clone>(items: &mut Vec<T>, count: usize, item: T) -> Result<(), Error> {
+    let more = count.saturating_sub(items.len());
+    items.try_reserve_exact(more).map_err(|_| Error::Memory)?;
+    items.resize(items.len() + more, item);
+    Ok(())
+}
+
+// The command of a kind, from its fields.
+fn command(of: u32, fields: &mut Fields<'_>) -> Option<OperatingSystemCommand> {
+    use OperatingSystemCommand as Command;
+    Some(match of {
+        kind::UNSPECIFIED => Command::Unspecified(fields.all(|it| it.bytes(name::PART))?),
+        kind::SET_ICON_NAME_AND_WINDOW_TITLE => {
+            Command::SetIconNameAndWindowTitle(fields.text(name::TEXT)?)
+        }
+        kind::SET_WINDOW_TITLE => Command::SetWindowTitle(fields.text(name::TEXT)?),
+        kind::SET_WINDOW_TITLE_SUN => Command::SetWindowTitleSun(fields.text(name::TEXT)?),
+        kind::SET_ICON_NAME => Command::SetIconName(fields.text(name::TEXT)?),
+        kind::SET_ICON_NAME_SUN => Command::SetIconNameSun(fields.text(name::TEXT)?),
+        kind::SET_HYPERLINK if fields.is_empty() => Command::SetHyperlink(None),
+        kind::SET_HYPERLINK => Command::SetHyperlink(Some(Hyperlink::of(fields)?)),
+        kind::CLEAR_SELECTION => Command::ClearSelection(Selection::of(fields)?),
+        kind::QUERY_SELECTION => Command::QuerySelection(Selection::of(fields)?),
+        kind::SET_SELECTION => {
+            Command::SetSelection(Selection::of(fields)?, fields.text(name::TEXT)?)
+        }
+        kind::SYSTEM_NOTIFICATION => Command::SystemNotification(fields.text(name::TEXT)?),
+        kind::CHANGE_COLOR_NUMBER => Command::ChangeColorNumber(fields.all(ChangeColorPair::of)?),
+        kind::CHANGE_DYNAMIC_COLORS => Command::ChangeDynamicColors(
+            DynamicColorNumber::of(fields)?,
+            fields.all(ColorOrQuery::of)?,
+        ),
+        kind::RESET_DYNAMIC_COLOR => Command::ResetDynamicColor(DynamicColorNumber::of(fields)?),
+        kind::CURRENT_WORKING_DIRECTORY => {
+            Command::CurrentWorkingDirectory(fields.text(name::DIRECTORY)?)
+        }
+        kind::RESET_COLORS => {
+            Command::ResetColors(fields.all(|it| it.number::<u8>(name::PALETTE_INDEX))?)
+        }
+        kind::RXVT_EXTENSION => Command::RxvtExtension(fields.all(|it| it.text(name::PART))?),
+        kind::CONEMU_PROGRESS => Command::ConEmuProgress(Progress::of(fields)?),
+        _ => return family(of, fields),
+    })
+}
+
+// The command of a kind that is a prompt, or one of iTerm2.
+fn family(of: u32, fields: &mut Fields<'_>) -> Option<OperatingSystemCommand> {
+    use OperatingSystemCommand as Command;
+    if of < kind::ITERM_SET_MARK {
+        FinalTermSemanticPrompt::of(of, fields).map(Command::FinalTermSemanticPrompt)
+    } else {
+        ITermProprietary::of(of, fields).map(Command::ITermProprietary)
+    }
+}

@@ -1,0 +1,126 @@
+// SPDX-License-Identifier: MIT
+//! The fields of a command, taken one after another. The numbers are those of `escape_stream.h`.
+use crate::ffi;
+use alloc::string::String;
+use alloc::vec::Vec;
+
+// Constants with the numbers from this one on.
+macro_rules! numbered {
+    ($number:expr;) => {};
+    ($number:expr; $first:ident $($rest:ident)*) => {
+        pub const $first: u32 = $number;
+        numbered!($number + 1; $($rest)*);
+    };
+}
+
+/// The kinds of commands, `ESCAPE_STREAM_OSC_..`.
+pub mod kind {
+    numbered! { 0;
+        UNSPECIFIED SET_ICON_NAME_AND_WINDOW_TITLE SET_WINDOW_TITLE SET_WINDOW_TITLE_SUN
+        SET_ICON_NAME SET_ICON_NAME_SUN SET_HYPERLINK CLEAR_SELECTION QUERY_SELECTION
+        SET_SELECTION SYSTEM_NOTIFICATION CHANGE_COLOR_NUMBER CHANGE_DYNAMIC_COLORS
+        RESET_DYNAMIC_COLOR CURRENT_WORKING_DIRECTORY RESET_COLORS RXVT_EXTENSION CONEMU_PROGRESS
+        PROMPT_FRESH_LINE PROMPT_FRESH_LINE_AND_START_PROMPT
+        PROMPT_END_OF_COMMAND_WITH_FRESH_LINE PROMPT_START_PROMPT
+        PROMPT_START_OF_INPUT_UNTIL_NEXT_MARKER PROMPT_START_OF_INPUT_UNTIL_END_OF_LINE
+        PROMPT_START_OF_OUTPUT PROMPT_COMMAND_STATUS
+        ITERM_SET_MARK ITERM_STEAL_FOCUS ITERM_CLEAR_SCROLLBACK ITERM_CURRENT_DIR
+        ITERM_SET_PROFILE ITERM_COPY_TO_CLIPBOARD ITERM_END_COPY ITERM_HIGHLIGHT_CURSOR_LINE
+        ITERM_REQUEST_CELL_SIZE ITERM_REPORT_CELL_SIZE ITERM_COPY ITERM_REPORT_VARIABLE
+        ITERM_SET_USER_VAR ITERM_SET_BADGE_FORMAT ITERM_FILE ITERM_SET_UNICODE_VERSION
+        ITERM_PUSH_UNICODE_VERSION ITERM_POP_UNICODE_VERSION
+    }
+}
+
+/// The names of fields, `ESCAPE_STREAM_FIELD_..`.
+pub mod name {
+    numbered! { 0;
+        TEXT PART DIRECTORY URI IMPLICIT KEY VALUE SELECTION PALETTE_INDEX DYNAMIC_COLOR RED GREEN
+        BLUE QUERY PROGRESS_STATE PERCENT APPLICATION CLICK PROMPT_KIND STATUS NAME HIGHLIGHTED
+        CELL_HEIGHT CELL_WIDTH SCALE SIZE WIDTH_CELLS WIDTH_PIXELS WIDTH_PERCENT HEIGHT_CELLS
+        HEIGHT_PIXELS HEIGHT_PERCENT PRESERVE_ASPECT_RATIO INLINE DO_NOT_MOVE_CURSOR CONTENT
+        VERSION LABEL
+    }
+}
+
+// What a field holds, `ESCAPE_STREAM_VALUE_..`.
+numbered! { 0; VALUE_NUMBER VALUE_TEXT VALUE_SIZE }
+
+/// Fields that are left. Each call takes the next one, where it has this name and holds what is
+/// asked for, and else none.
+pub struct Fields<'a> {
+    rows: &'a [ffi::Field],
+    texts: &'a [u8],
+}
+
+impl<'a> Fields<'a> {
+    pub fn new(rows: &'a [ffi::Field], texts: &'a [u8]) -> Fields<'a> {
+        Fields { rows, texts }
+    }
+
+    pub fn is_empty(&self) -> bool {
+        self.rows.is_empty()
+    }
+
+    /// Whether the next field has this name.
+    pub fn has(&self, name: u32) -> bool {
+        self.rows.first().is_some_and(|row| row.name == name)
+    }
+
+    /// The values of all fields that are left.
+    pub fn all<T, C: Default + Extend<T>>(
+        &mut self,
+        mut value: impl FnMut(&mut Self) -> Option<T>,
+    ) -> Option<C> {
+        let mut values = C::default();
+        while !self.is_empty() {
+            values.extend([value(self)?]);
+        }
+        Some(values)
+    }
+
+    fn take(&mut self, name: u32, kind: u32) -> Option<&'a ffi::Field> {
+        let (row, rest) = self.rows.split_first()?;
+        if row.name != name || row.kind != kind {
+            return None;
+        }
+        self.rows = rest;
+        Some(row)
+    }
+
+    /// A number.
+    pub fn number<T: TryFrom<i64>>(&mut self, name: u32) -> Option<T> {
+        self.take(name, VALUE_NUMBER)?.number.try_into().ok()
+    }
+
+    /// A flag.
+    pub fn flag(&mut self, name: u32) -> Option<bool> {
+        Some(self.number::<u8>(name)? != 0)
+    }
+
+    /// A size.
+    pub fn size(&mut self, name: u32) -> Option<usize> {
+        Some(self.take(name, VALUE_SIZE)?.length)
+    }
+
+    /// Bytes.
+    pub fn bytes(&mut self, name: u32) -> Option<Vec<u8>> {
+        let row = self.take(name, VALUE_TEXT)?;
+        let bytes = self.texts.get(row.offset..)?.get(..row.length)?;
+        Some(bytes.to_vec())
+    }
+
+    /// A text.
+    pub fn text(&mut self, name: u32) -> Option<String> {
+        String::from_utf8(self.bytes(name)?).ok()
+    }
+
+    /// A text, where there is one.
+    pub fn optional_text(&mut self, name: u32) -> Option<Option<String>> {
+        if self.has(name) {
+            self.text(name).map(Some)
+        } else {
+            Some(None)
+        }
+    }
+}

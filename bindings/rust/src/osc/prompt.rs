@@ -1,0 +1,132 @@
+// SPDX-License-Identifier: MIT
+//! Semantic prompts.
+use super::fields::{Fields, kind, name};
+use alloc::string::String;
+
+/// A mark that a shell writes between its prompts, the user's input, and the output of commands
+/// (FinalTerm; operating system command 133, with a letter after the code).
+#[derive(Clone, Debug, PartialEq, Eq)]
+#[non_exhaustive]
+pub enum FinalTermSemanticPrompt {
+    /// `L`: goes to the start of a new line, unless the cursor is at the start of one.
+    FreshLine,
+    /// `A`: as `FreshLine`, and a prompt begins.
+    FreshLineAndStartPrompt {
+        /// The name of the application, where it is given.
+        aid: Option<String>,
+        /// What a click does, where it is given.
+        cl: Option<FinalTermClick>,
+    },
+    /// `N`: the command before ends, and then as `FreshLineAndStartPrompt`.
+    MarkEndOfCommandWithFreshLine {
+        /// The name of the application, where it is given.
+        aid: Option<String>,
+        /// What a click does, where it is given.
+        cl: Option<FinalTermClick>,
+    },
+    /// `P`: a prompt of this kind begins.
+    StartPrompt(FinalTermPromptKind),
+    /// `B`: the prompt ends, and the input begins. It goes on to the next mark.
+    MarkEndOfPromptAndStartOfInputUntilNextMarker,
+    /// `I`: the prompt ends, and the input begins. It goes on to the end of the line.
+    MarkEndOfPromptAndStartOfInputUntilEndOfLine,
+    /// `C`: the input ends, and the output begins.
+    MarkEndOfInputAndStartOfOutput {
+        /// The name of the application, where it is given.
+        aid: Option<String>,
+    },
+    /// `D`: the command ends.
+    CommandStatus {
+        /// With what status; 0 where none is given.
+        status: i32,
+        /// The name of the application, where it is given.
+        aid: Option<String>,
+    },
+}
+
+impl FinalTermSemanticPrompt {
+    pub(super) fn of(of: u32, fields: &mut Fields<'_>) -> Option<FinalTermSemanticPrompt> {
+        use FinalTermSemanticPrompt as Prompt;
+        Some(match of {
+            kind::PROMPT_FRESH_LINE => Prompt::FreshLine,
+            kind::PROMPT_FRESH_LINE_AND_START_PROMPT => Prompt::FreshLineAndStartPrompt {
+                aid: fields.optional_text(name::APPLICATION)?,
+                cl: FinalTermClick::of(fields)?,
+            },
+            kind::PROMPT_END_OF_COMMAND_WITH_FRESH_LINE => Prompt::MarkEndOfCommandWithFreshLine {
+                aid: fields.optional_text(name::APPLICATION)?,
+                cl: FinalTermClick::of(fields)?,
+            },
+            kind::PROMPT_START_PROMPT => Prompt::StartPrompt(FinalTermPromptKind::of(fields)?),
+            kind::PROMPT_START_OF_INPUT_UNTIL_NEXT_MARKER => {
+                Prompt::MarkEndOfPromptAndStartOfInputUntilNextMarker
+            }
+            kind::PROMPT_START_OF_INPUT_UNTIL_END_OF_LINE => {
+                Prompt::MarkEndOfPromptAndStartOfInputUntilEndOfLine
+            }
+            kind::PROMPT_START_OF_OUTPUT => Prompt::MarkEndOfInputAndStartOfOutput {
+                aid: fields.optional_text(name::APPLICATION)?,
+            },
+            kind::PROMPT_COMMAND_STATUS => Prompt::CommandStatus {
+                status: fields.number(name::STATUS)?,
+                aid: fields.optional_text(name::APPLICATION)?,
+            },
+            _ => return None,
+        })
+    }
+}
+
+/// Which movements of the cursor the shell takes where the user clicks on its input (FinalTerm; key
+/// `cl`).
+#[derive(Clone, Copy, Debug, PartialEq, Eq, Hash)]
+pub enum FinalTermClick {
+    /// `line`: to the left and to the right within one line.
+    Line,
+    /// `m`: to the left and to the right over more lines.
+    MultipleLine,
+    /// `v`: also up and down, conservatively.
+    ConservativeVertical,
+    /// `w`: also up and down, smartly: the shell knows where its lines end.
+    SmartVertical,
+}
+
+impl FinalTermClick {
+    fn of(fields: &mut Fields<'_>) -> Option<Option<FinalTermClick>> {
+        if !fields.has(name::CLICK) {
+            return Some(None);
+        }
+        Some(Some(match fields.number::<u8>(name::CLICK)? {
+            0 => FinalTermClick::Line,
+            1 => FinalTermClick::MultipleLine,
+            2 => FinalTermClick::ConservativeVertical,
+            3 => FinalTermClick::SmartVertical,
+            _ => return None,
+        }))
+    }
+}
+
+/// Which prompt begins (FinalTerm; key `k`).
+#[derive(Clone, Copy, Debug, Default, PartialEq, Eq, Hash)]
+pub enum FinalTermPromptKind {
+    /// `i`: the first prompt, at the left.
+    #[default]
+    Initial,
+    /// `r`: a prompt at the right side.
+    RightSide,
+    /// `c`: a prompt of a further line, in which the user can still go back to the lines before.
+    Continuation,
+    /// `s`: a prompt of a further line, in which the user can no more go back.
+    Secondary,
+}
+
+impl FinalTermPromptKind {
+    fn of(fields: &mut Fields<'_>) -> Option<FinalTermPromptKind> {
+        Some(match fields.number::<u8>(name::PROMPT_KIND)? {
+            0 => FinalTermPromptKind::Initial,
+            1 => FinalTermPromptKind::RightSide,
+            2 => FinalTermPromptKind::Continuation,
+            3 => FinalTermPromptKind::Secondary,
+            _ => return None,
+        })
+    }
+}

@@ -1,0 +1,197 @@
+// SPDX-License-Identifier: MIT
+//! What commands name and carry.
+use super::fields::{Fields, name};
+use alloc::collections::BTreeMap;
+use alloc::string::String;
+use core::ops::BitOr;
+
+/// A hyperlink: where the characters that follow lead to ("Hyperlinks in terminal emulators", the
+/// command OSC 8).
+#[derive(Clone, Debug, PartialEq, Eq)]
+pub struct Hyperlink {
+    /// The parameters, with their keys. The key `id` is that of the link: cells of one id and one
+    /// address are one link.
+    pub params: BTreeMap<String, String>,
+    /// The address.
+    pub uri: String,
+    /// Whether the terminal found it in the text itself. What is read has false.
+    pub implicit: bool,
+}
+
+impl Hyperlink {
+    pub(super) fn of(fields: &mut Fields<'_>) -> Option<Hyperlink> {
+        Some(Hyperlink {
+            uri: fields.text(name::URI)?,
+            implicit: fields.flag(name::IMPLICIT)?,
+            params: fields.all(|it| Some((it.text(name::KEY)?, it.text(name::VALUE)?)))?,
+        })
+    }
+}
+
+/// Which selections, as a set of bits (xterm's list of control sequences, "Manipulate Selection
+/// Data").
+#[derive(Clone, Copy, Debug, Default, PartialEq, Eq, Hash)]
+pub struct Selection(u16);
+
+impl Selection {
+    /// No selection.
+    pub const NONE: Selection = Selection(0);
+
+    /// The clipboard, letter `c`.
+    pub const CLIPBOARD: Selection = Selection(2);
+
+    /// The primary selection, letter `p`.
+    pub const PRIMARY: Selection = Selection(4);
+
+    /// The selection that the terminal is configured to use, letter `s`.
+    pub const SELECT: Selection = Selection(8);
+
+    /// Cut buffer 0. The bits of the others, up to 9, are the next ones.
+    pub const CUT0: Selection = Selection(16);
+
+    /// The bits.
+    pub fn bits(self) -> u16 {
+        self.0
+    }
+
+    /// Whether it has every bit of `other`.
+    pub fn contains(self, other: Selection) -> bool {
+        self.0 & other.0 == other.0
+    }
+
+    pub(super) fn of(fields: &mut Fields<'_>) -> Option<Selection> {
+        fields.number(name::SELECTION).map(Selection)
+    }
+}
+
+impl BitOr for Selection {
+    type Output = Selection;
+
+    fn bitor(self, other: Selection) -> Selection {
+        Selection(self.0 | other.0)
+    }
+}
+
+/// A colour: how much red, green and blue, each from 0 to 65535.
+#[derive(Clone, Copy, Debug, PartialEq, Eq, Hash)]
+pub struct Color16 {
+    /// Red.
+    pub red: u16,
+    /// Green.
+    pub green: u16,
+    /// Blue.
+    pub blue: u16,
+}
+
+/// A colour, or the question which it is.
+#[derive(Clone, Copy, Debug, PartialEq, Eq, Hash)]
+pub enum ColorOrQuery {
+    /// This colour.
+    Color(Color16),
+    /// Asks for the colour.
+    Query,
+}
+
+impl ColorOrQuery {
+    pub(super) fn of(fields: &mut Fields<'_>) -> Option<ColorOrQuery> {
+        if fields.has(name::QUERY) {
+            fields.flag(name::QUERY)?;
+            return Some(ColorOrQuery::Query);
+        }
+        Some(ColorOrQuery::Color(Color16 {
+            red: fields.number(name::RED)?,
+            green: fields.number(name::GREEN)?,
+            blue: fields.number(name::BLUE)?,
+        }))
+    }
+}
+
+/// A place of the palette, and the colour that it is to have, or the question which it has.
+#[derive(Clone, Copy, Debug, PartialEq, Eq, Hash)]
+pub struct ChangeColorPair {
+    /// The place, from 0 to 255.
+    pub palette_index: u8,
+    /// The colour.
+    pub color: ColorOrQuery,
+}
+
+impl ChangeColorPair {
+    pub(super) fn of(fields: &mut Fields<'_>) -> Option<ChangeColorPair> {
+        Some(ChangeColorPair {
+            palette_index: fields.number(name::PALETTE_INDEX)?,
+            color: ColorOrQuery::of(fields)?,
+        })
+    }
+}
+
+/// A colour that a program may change, ask for and reset (xterm's list of control sequences, "VT100
+/// text colors" and on). Its number is that of the code which changes it.
+#[derive(Clone, Copy, Debug, PartialEq, Eq, Hash)]
+pub enum DynamicColorNumber {
+    /// The colour of the foreground of text.
+    TextForegroundColor = 10,
+    /// The colour of the background of text.
+    TextBackgroundColor = 11,
+    /// The colour of the text cursor.
+    TextCursorColor = 12,
+    /// The colour of the foreground of the pointer.
+    MouseForegroundColor = 13,
+    /// The colour of the background of the pointer.
+    MouseBackgroundColor = 14,
+    /// The colour of the foreground in Tektronix mode.
+    TektronixForegroundColor = 15,
+    /// The colour of the background in Tektronix mode.
+    TektronixBackgroundColor = 16,
+    /// The colour of the background of highlighted text.
+    HighlightBackgroundColor = 17,
+    /// The colour of the cursor in Tektronix mode.
+    TektronixCursorColor = 18,
+    /// The colour of the foreground of highlighted text.
+    HighlightForegroundColor = 19,
+}
+
+impl DynamicColorNumber {
+    pub(super) fn of(fields: &mut Fields<'_>) -> Option<DynamicColorNumber> {
+        Some(match fields.number::<u8>(name::DYNAMIC_COLOR)? {
+            10 => DynamicColorNumber::TextForegroundColor,
+            11 => DynamicColorNumber::TextBackgroundColor,
+            12 => DynamicColorNumber::TextCursorColor,
+            13 => DynamicColorNumber::MouseForegroundColor,
+            14 => DynamicColorNumber::MouseBackgroundColor,
+            15 => DynamicColorNumber::TektronixForegroundColor,
+            16 => DynamicColorNumber::TektronixBackgroundColor,
+            17 => DynamicColorNumber::HighlightBackgroundColor,
+            18 => DynamicColorNumber::TektronixCursorColor,
+            19 => DynamicColorNumber::HighlightForegroundColor,
+            _ => return None,
+        })
+    }
+}
+
+/// The progress of a task, as ConEmu shows it (its "ANSI X3.64 and Xterm 256 colors", OSC 9;4).
+#[derive(Clone, Copy, Debug, PartialEq, Eq, Hash)]
+pub enum Progress {
+    /// None is shown.
+    None,
+    /// So many per cent, at most 100.
+    SetPercentage(u8),
+    /// An error, at so many per cent.
+    SetError(u8),
+    /// It goes on, for nobody knows how long.
+    SetIndeterminate,
+    /// It pauses.
+    Paused,
+}
+
+impl Progress {
+    pub(super) fn of(fields: &mut Fields<'_>) -> Option<Progress> {
+        Some(match fields.number::<u8>(name::PROGRESS_STATE)? {
+            0 => Progress::None,
+            1 => Progress::SetPercentage(fields.number(name::PERCENT)?),
+            2 => Progress::SetError(fields.number(name::PERCENT)?),
+            3 => Progress::SetIndeterminate,
+            4 => Progress::Paused,
+            _ => return None,
+        })
+    }
+}
