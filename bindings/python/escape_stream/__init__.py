@@ -16,6 +16,7 @@ The work is done by a library that is proved: what each call writes is what its 
 not proved.
 """
 
+from escape_stream._commands import Command, CommandKind, FieldName, command
 from escape_stream._events import (
     Apc,
     Control,
@@ -37,6 +38,8 @@ from escape_stream._whole import DEFAULT_LIMIT, Policy, filter, is_normal, norma
 __all__ = [
     "DEFAULT_LIMIT",
     "Apc",
+    "Command",
+    "CommandKind",
     "Control",
     "Csi",
     "Data",
@@ -44,6 +47,7 @@ __all__ = [
     "DcsEnd",
     "Escape",
     "Event",
+    "FieldName",
     "Filter",
     "Function",
     "LimitPassed",
@@ -51,6 +55,7 @@ __all__ = [
     "Parser",
     "Policy",
     "Text",
+    "command",
     "events",
     "filter",
     "function",

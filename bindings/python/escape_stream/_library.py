@@ -15,6 +15,8 @@ DONE, NO_MEMORY, UNKNOWN_POLICY, NOT_BEGUN = range(4)
 NONE, TEXT, CHARACTER, CONTROL, ESCAPE, CSI, OSC = range(7)
 DCS, DATA, DATA_BYTE, DCS_END, APC, FAILED, LIMIT = range(7, 14)
 
+VALUE_NUMBER, VALUE_TEXT, VALUE_SIZE = range(3)
+
 MOST_ENTRIES = 256
 
 
@@ -91,6 +93,24 @@ class RawFunction(Structure):
         ("changes_screen", c_bool),
         ("is_answered", c_bool),
     ]
+
+
+class RawField(Structure):
+    """`struct escape_stream_field`."""
+
+    _fields_ = [
+        ("name", c_uint32),
+        ("kind", c_uint32),
+        ("number", c_int64),
+        ("offset", c_size_t),
+        ("length", c_size_t),
+    ]
+
+
+class RawOsc(Structure):
+    """`struct escape_stream_osc`."""
+
+    _fields_ = [("kind", c_uint32), ("field_count", c_size_t), ("text_length", c_size_t)]
 
 
 _PLACE = str(Path(__file__).parent / "libescape_stream.so")
@@ -174,6 +194,10 @@ escape_function.restype = c_bool
 c0_function = _short.escape_stream_control_function
 c0_function.argtypes = (c_ubyte, POINTER(RawFunction))
 c0_function.restype = c_bool
+
+read_osc = _short.escape_stream_read_osc
+read_osc.argtypes = (*_length, POINTER(RawOsc), POINTER(RawField), c_size_t, *_room)
+read_osc.restype = c_uint32
 
 
 def done(status: int) -> None:

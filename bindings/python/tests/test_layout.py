@@ -10,7 +10,7 @@ from pathlib import Path
 import pytest
 from rows import TOP
 
-from escape_stream import Policy, _library
+from escape_stream import CommandKind, FieldName, Policy, _library
 
 STRUCTS: dict[str, type[ctypes.Structure]] = {
     "escape_stream_filter": _library.RawFilter,
@@ -18,8 +18,11 @@ STRUCTS: dict[str, type[ctypes.Structure]] = {
     "escape_stream_event": _library.RawEvent,
     "escape_stream_parser": _library.RawParser,
     "escape_stream_function": _library.RawFunction,
+    "escape_stream_field": _library.RawField,
+    "escape_stream_osc": _library.RawOsc,
 }
 STATUSES = ("DONE", "NO_MEMORY", "UNKNOWN_POLICY", "NOT_BEGUN")
+VALUES = ("VALUE_NUMBER", "VALUE_TEXT", "VALUE_SIZE")
 KINDS = "NONE TEXT CHARACTER CONTROL ESCAPE CSI OSC DCS DATA DATA_BYTE DCS_END APC FAILED LIMIT".split()
 HEADERS = [TOP / "crates/escape_c/include", TOP / "crates/stream_c/include"]
 
@@ -31,10 +34,11 @@ def declared() -> dict[str, int]:
         found[f"sizeof(struct {name})"] = ctypes.sizeof(struct)
         for field in struct._fields_:
             found[f"offsetof(struct {name}, {field[0]})"] = getattr(struct, field[0]).offset
-    for word in (*STATUSES, *KINDS):
+    for word in (*STATUSES, *KINDS, *VALUES):
         found[f"ESCAPE_STREAM_{word}"] = getattr(_library, word)
-    for policy in Policy:
-        found[f"ESCAPE_STREAM_POLICY_{policy.name}"] = policy
+    for prefix, enum in (("POLICY", Policy), ("OSC", CommandKind), ("FIELD", FieldName)):
+        for it in enum:
+            found[f"ESCAPE_STREAM_{prefix}_{it.name}"] = it
     return found
 
 
