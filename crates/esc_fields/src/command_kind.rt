@@ -10,7 +10,8 @@ use std::alloc::Allocator;
 /// Which command it is. The commands of iTerm2 and the prompts have a kind each, and so have the
 /// three things that are done to the version of Unicode. Each names the
 /// [fields](crate::FieldName) that it has, in order: `?` says that one may be absent, and `*` that
-/// what is before it comes once for each item.
+/// what is before it comes once for each item. The numbers are those of the header for C, so a new
+/// kind comes last.
 #[derive(Clone, Copy, Debug, PartialEq, Eq)]
 pub enum CommandKind {
     /// `Part*`: any other command, as its parts.
