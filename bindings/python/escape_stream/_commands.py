@@ -118,7 +118,7 @@ class Command:
 
 
 def command(text: bytes) -> Command:
-    """Returns what the text of an operating system command says: of an event `Osc` its `text`. Any bytes are the text of a command.
+    """Returns what the text of an operating system command says: that of an event `Osc`. Any bytes are such a text.
 
     >>> from escape_stream import FieldName, command
     >>> command(b"8;id=1;http://example.com/").get(FieldName.URI)

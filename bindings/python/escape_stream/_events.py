@@ -58,7 +58,7 @@ class Csi:
 
 @dataclass(frozen=True, slots=True)
 class Osc:
-    """An operating system command: all bytes between its opener and its end."""
+    """An operating system command: all bytes between its opener and its end. `command` says what they ask for."""
 
     text: bytes
 
