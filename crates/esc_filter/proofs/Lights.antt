@@ -19,8 +19,10 @@ use lib.Utf8.{encode}
 use Rattle.esc_osc.specs.Reading.{meaning}
 use Rattle.esc_osc.specs.declared.command.OperatingSystemCommand.{OperatingSystemCommand}
 use Rattle.esc_osc.specs.declared.command.OperatingSystemCommand.TheVariants as command
-use Rattle.esc_write.specs.Plain.{IsPlainLink}
-use Rattle.esc_filter.specs.Closing.{Left, BeginsWith, Turns, after_body, after_command, is_reset, turned}
+use Rattle.esc_write.specs.Plain.{AreParams, IsPlainLink}
+use Rattle.esc_write.specs.declared.short_numbers.ShortNumbers.{ShortNumbers}
+use Rattle.esc_write.specs.declared.short_numbers.ShortNumbers.TheVariants as short
+use Rattle.esc_filter.specs.Closing.{IsAfter, Left, BeginsWith, Turns, after_body, after_command, is_reset, lights, turned}
 use Rattle.esc_filter.specs.Rules.{BeginsOther, is_link}
 use Rattle.esc_filter.proofs.Commands.{other_begins}
 use Rattle.esc_filter.specs.declared.left.TheConstants.{LINK, RENDITION}
@@ -135,6 +137,25 @@ pub others_stay : (f : ℕ) (es : List CsiParam) (o : Left) → (f == 0x68) ≡ 
     → (f == 0x6c) ≡ false → (f == 0x6d) ≡ false → (f == 0x71) ≡ false → (f == 0x72) ≡ false
     → (f == 0x75) ≡ false → (f == 0x7d) ≡ false → after_body es f o ≡ o
 others_stay f es o h l m q r u b = rw (h, l, m, q, r, u, b) refl
+
+-- ---- the numbers of a short one
+
+short_turns : (s : ShortNumbers) (es : List CsiParam) → AreParams s es 0x6d → Turns es (lights s)
+short_turns short.Nothing es h = absurd (h refl)
+short_turns (short.Lone n) es h = lone_turns es n h
+short_turns (short.Pair a b) es h = absurd (h refl)
+short_turns (short.Palette i) es h = first_turns es i.first (_, h.1) (omega (arith, i.fits.0))
+
+pub short_renditions : (s : ShortNumbers) (es : List CsiParam) (f : ℕ) (o : Left) → f ≡ 0x6d
+    → AreParams s es f → IsAfter es f o (turned o RENDITION (lights s))
+short_renditions s es f o is h =
+    let (v, one, after) = short_turns s es (subst (λ g. AreParams s es g) is h) in
+    (v, ap (csi_of es false) is ∙ one, sym (after o))
+
+pub other_sequence : (es : List CsiParam) (f : ℕ) (o p : Left) → f ≢ 0x6d → p ≡ after_body es f o
+    → IsAfter es f o p
+other_sequence es f o p other after =
+    (unspecified es false f, rw (ne_eqb f 0x6d other) refl, after)
 
 -- ---- a command
 

@@ -11,6 +11,8 @@ use Rattle.esc_values.specs.declared.csi_param.CsiParam.TheVariants.{Integer, P}
 use Rattle.esc_osc.specs.declared.command.OperatingSystemCommand.{OperatingSystemCommand}
 use Rattle.esc_osc.specs.declared.command.OperatingSystemCommand.TheVariants as command
 use Rattle.esc_actions.specs.Values.{Value, esc, csi, osc}
+use Rattle.esc_write.specs.declared.short_numbers.ShortNumbers.{ShortNumbers}
+use Rattle.esc_write.specs.declared.short_numbers.ShortNumbers.TheVariants as short
 use Rattle.esc_filter.specs.declared.left.TheConstants.{ALTERNATE, CLEARED, HELD, HIDDEN, INSERT, LINK, MARGINS, NO_WRAP, ORIGIN, RENDITION, REVERSE, SAVED, SIDES}
 
 -- ---- what is left changed
@@ -114,6 +116,17 @@ after_sequence (unspecified es more f) o = after_body es f o
 abbrev pub Turns : List CsiParam → Bool → Type 0
 Turns es b = (v : CsiValue) × (csi_of es false 0x6d ≡ v ∷ [])
     × ((o : Left) → after_sequence v o ≡ turned o RENDITION b)
+
+-- the sequence is one value, after which o is p
+abbrev pub IsAfter : List CsiParam → ℕ → Left → Left → Type 0
+IsAfter es f o p = (v : CsiValue) × (csi_of es false f ≡ v ∷ []) × (p ≡ after_sequence v o)
+
+-- whether renditions of these numbers leave any on
+abbrev pub lights : ShortNumbers → Bool
+lights (short.Lone n) = not (n == 0)
+lights short.Nothing = true
+lights (short.Pair a b) = true
+lights (short.Palette i) = true
 
 -- after a sequence of these parameters, where it is known whether renditions are on then, or its
 -- body says what it leaves changed

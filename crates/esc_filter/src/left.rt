@@ -6,9 +6,9 @@ ghost use Rattle.esc_values.specs.declared.csi_param.CsiParam.{CsiParam};
 ghost use Rattle.esc_values.specs.declared.csi_param.CsiParam.TheVariants.{Integer};
 ghost use Rattle.esc_actions.specs.Values.{value_of};
 ghost use Rattle.esc_osc.specs.Reading.{meaning as command_meant};
-ghost use Rattle.esc_filter.specs.Closing.{BeginsWith, Left, after_body, after_command, after_escape, after_mode, after_param, after_params, after_private, after_sequence, after_value, is_any, is_left, is_marked, is_private, is_reset, is_set, lit, noted, restores, turned, unchanged, Turns};
+ghost use Rattle.esc_filter.specs.Closing.{BeginsWith, IsAfter, Left, after_body, after_command, after_escape, after_mode, after_param, after_params, after_private, after_sequence, after_value, is_any, is_left, is_marked, is_private, is_reset, is_set, lights, lit, noted, restores, turned, unchanged, Turns};
 ghost use Rattle.esc_filter.specs.GivenBack.{text_given_back};
-ghost use Rattle.esc_write.specs.Plain.{IsPlainLink};
+ghost use Rattle.esc_write.specs.Plain.{AreParams, IsPlainLink};
 ghost use Rattle.memory.specs.Refusals.{Refused};
 
 use crate::policy::has_other_code;
@@ -17,6 +17,7 @@ use esc_osc::{OperatingSystemCommand, laws};
 use esc_sequences::csi::is_unspecified;
 use esc_sequences::{CSI, Esc, Sgr};
 use esc_values::{CsiParam, Text};
+use esc_write::short_numbers::ShortNumbers;
 use std::alloc::{AllocError, Allocator};
 use std::marker::Model;
 
@@ -179,6 +180,21 @@ impl Left {
         }
     }
 
+    /// Notes a control sequence that is known by its numbers.
+    #[inline]
+    pub fn note_short(&mut self, numbers: ShortNumbers, params: &[CsiParam], control: u8)
+        requires { AreParams numbers params.now control }
+        ensures { IsAfter params.now control self.old self.new }
+    {
+        if control == b'm' {
+            self.turn(RENDITION, lights(numbers));
+            return;
+        }
+        if may_change(control) {
+            self.note_body(params, control);
+        }
+    }
+
     /// Notes a control sequence, after which renditions are on, or not, where that is known.
     #[inline]
     pub fn note_sequence(&mut self, is_on: Option<bool>, params: &[CsiParam], control: u8)
@@ -319,6 +335,17 @@ fn may_change(control: u8) -> bool
     ensures { result ≡ false → (es : List CsiParam) (o : Left) → after_body es control o ≡ o }
 {
     matches!(control, b'h' | b'l' | b'm' | b'q' | b'r' | b'u' | b'}')
+}
+
+// Whether the renditions of these numbers leave any on.
+#[inline]
+fn lights(numbers: ShortNumbers) -> bool
+    ensures { result ≡ lights numbers }
+{
+    match numbers {
+        ShortNumbers::Lone(number) => number != 0,
+        ShortNumbers::Nothing | ShortNumbers::Pair(_, _) | ShortNumbers::Palette(_) => true,
+    }
 }
 
 // Whether a rendition resets all.

@@ -22,6 +22,7 @@ use esc_parse::Sink;
 use esc_values::CsiParam;
 use esc_visible::{has_deceiving, is_deceiving, number_text};
 use esc_write::plain_link;
+use esc_write::short_numbers::ShortNumbers;
 use std::alloc::{AllocError, Allocator, Global};
 
 /// Appends the text of each action, but of line feeds where lines are streams of their own.
@@ -259,6 +260,15 @@ impl<A: Allocator> Sink<Action<A>> for Written<A> {
     ) -> Result<bool, AllocError> {
         if parameters_truncated {
             return Ok(false);
+        }
+        if let Some(numbers) = ShortNumbers::of(params, control) {
+            return match self.spell.write_short(numbers, control) {
+                Ok(()) => {
+                    self.left.note_short(numbers, params, control);
+                    Ok(true)
+                }
+                Err(error) => Err(error),
+            };
         }
         let Some(is_on) = renditions_after(params, control) else {
             return Ok(false);

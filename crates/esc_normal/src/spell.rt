@@ -94,9 +94,9 @@ impl<A: Allocator> Spell<A> {
         Ok(())
     }
 
-    // Appends the text of one that is known by its numbers.
+    /// Appends the text of one that is known by its numbers.
     #[inline]
-    fn write_short(&mut self, numbers: ShortNumbers, control: u8) -> Result<(), AllocError>
+    pub fn write_short(&mut self, numbers: ShortNumbers, control: u8) -> Result<(), AllocError>
         requires { control < 128 }
         ensures ok { OnOk result ((self.new.text ≡ self.old.text ++ short_text numbers control)
             × (self.new.follows_string ≡ false)) }

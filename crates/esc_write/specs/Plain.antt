@@ -1,13 +1,13 @@
 -- Control sequences and commands whose text is seen at once: that of the parameters, or the text as
 -- it came.
-use Rattle.std.specs.Prelude.{ℕ, ℤ, ◌≡◌, ◌⊎◌, ◌==◌, Bool, false, List, [], ◌∷◌, ◌++◌, Option, codes}
+use Rattle.std.specs.Prelude.{ℕ, ℤ, pos, ◌≡◌, ◌≢◌, ◌⊎◌, ◌==◌, Bool, false, List, [], ◌∷◌, ◌++◌, Option, codes}
 use Rattle.std.specs.Fmt.{decimal}
 use Rattle.std.specs.List.{list_any, slice_split}
 use Rattle.esc_values.specs.Clear.{framed, parts_of}
 use Rattle.esc_sequences.specs.Csis.{csi_of, unspecified}
 use Rattle.esc_links.specs.Hyperlinks.{is_colon}
 use Rattle.esc_values.specs.declared.csi_param.CsiParam.{CsiParam}
-use Rattle.esc_values.specs.declared.csi_param.CsiParam.TheVariants.{Integer}
+use Rattle.esc_values.specs.declared.csi_param.CsiParam.TheVariants.{Integer, P}
 use Rattle.esc_links.specs.declared.hyperlink.Hyperlink.{Hyperlink}
 use Rattle.esc_osc.specs.Commands.{command_text}
 use Rattle.esc_osc.specs.Reading.{meaning}
@@ -46,6 +46,15 @@ short_text short.Nothing f = 0x1b ∷ 0x5b ∷ f ∷ []
 short_text (short.Lone n) f = number_text n f
 short_text (short.Pair a b) f = pair_text a b f
 short_text (short.Palette i) f = indexed_text i.first i.second i.third f
+
+-- the parameters of one that is known by its numbers, with the final byte f
+abbrev pub AreParams : ShortNumbers → List CsiParam → ℕ → Type 0
+AreParams short.Nothing es f = f ≢ 0x6d
+AreParams (short.Lone n) es f = es ≡ Integer (pos n) ∷ []
+AreParams (short.Pair a b) es f = f ≢ 0x6d
+AreParams (short.Palette i) es f =
+    (f ≡ 0x6d) × (es ≡ Integer (pos i.first) ∷ P 0x3b ∷ Integer (pos i.second) ∷ P 0x3b
+    ∷ Integer (pos i.third) ∷ [])
 
 -- a text without `;`
 abbrev pub IsOnePart : List ℕ → Type 0

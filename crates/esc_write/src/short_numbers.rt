@@ -5,7 +5,7 @@ ghost use Rattle.std.specs.Str.{IsAscii};
 ghost use Rattle.memory.specs.Refusals.{Refused};
 ghost use Rattle.esc_sequences.specs.Csis.{csi_text, unspecified};
 ghost use Rattle.esc_values.specs.declared.csi_param.CsiParam.TheVariants.{Integer, P};
-ghost use Rattle.esc_write.specs.Plain.{IsPlain, indexed_text, last_text, number_text, pair_text, short_text};
+ghost use Rattle.esc_write.specs.Plain.{AreParams, IsPlain, indexed_text, last_text, number_text, pair_text, short_text};
 
 use crate::indexed::Indexed;
 use esc_values::{CsiParam, Text};
@@ -29,10 +29,10 @@ fn small_number(param: CsiParam) -> Option<u8>
     let CsiParam::Integer(number) = param else {
         return None;
     };
-    match u8::try_from(number) {
-        Ok(small) => Some(small),
-        Err(_) => None,
+    if number < 0 || number > 255 {
+        return None;
     }
+    Some(number as u8)
 }
 
 // The number that is the only parameter, where it is below 256.
@@ -265,13 +265,14 @@ pub enum ShortNumbers {
 
 impl ShortNumbers {
     /// What the parameters are, where the control sequence is one of these, and its text that of
-    /// the parameters.
+    /// the parameters. A sequence that ends in `m` is a number alone or a colour of the palette.
     #[inline(always)]
     pub fn of(params: &[CsiParam], control: u8) -> Option<ShortNumbers>
         ensures plain { IfSome result (λ s. (more : Bool) → IsPlain params.now more control) }
         ensures text { IfSome result (λ s. (more : Bool)
             → csi_text (unspecified params.now more control) ≡ short_text s control) }
         ensures ascii { IfSome result (λ s. control < 128) }
+        ensures params { IfSome result (λ s. AreParams s params.now control) }
     {
         if control >= 128 {
             return None;
