@@ -1,0 +1,6 @@
+mod Cell
+mod Numbers
+mod Room
+mod Taken
+mod Values
+mod Walks
