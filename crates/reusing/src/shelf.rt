@@ -38,8 +38,17 @@ impl<A: Allocator> Shelf<A> {
         }
         match self.second.replace(None) {
             Some(block) => Some(block),
-            None => Block::new(alloc, self.size),
+            None => self.ask(alloc),
         }
+    }
+
+    #[cold]
+    #[inline(never)]
+    fn ask(&self, alloc: &A) -> Option<Block<A>>
+        requires { self.now.first.0 ≡ alloc.now }
+        ensures { IfSome result (λ b. (b.alloc ≡ self.now.first.0) × (b.size ≡ self.now.first.1)) }
+    {
+        Block::new(alloc, self.size)
     }
 
     // Keeps the block. Where two are kept already, the one that was kept first goes back.
@@ -51,8 +60,16 @@ impl<A: Allocator> Shelf<A> {
             return;
         };
         if let Some(oldest) = self.second.replace(Some(old)) {
-            oldest.free(alloc, self.size);
+            self.give_back(alloc, oldest);
         }
+    }
+
+    #[cold]
+    #[inline(never)]
+    fn give_back(&self, alloc: &A, block: Block<A>)
+        requires { (self.now.first.0 ≡ alloc.now) × (block.alloc ≡ self.now.first.0) × (block.size ≡ self.now.first.1) }
+    {
+        block.free(alloc, self.size);
     }
 
     // Gives all blocks back.
