@@ -1,4 +1,5 @@
 mod Cell
+mod Large
 mod Numbers
 mod Room
 mod Taken

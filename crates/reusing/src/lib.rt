@@ -10,10 +10,9 @@
 #![tactic(auto)]
 
 mod block;
+mod pool;
 mod reusing;
 mod shelf;
 mod slot;
-#[cfg(test)]
-mod tests;
 
 pub use reusing::Reusing;

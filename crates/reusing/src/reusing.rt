@@ -1,14 +1,10 @@
-ghost use Rattle.std.specs.Prelude.{◌≡◌, ◌≤◌, IfSome};
-ghost use Rattle.reusing.specs.Sizes.{block_size};
+ghost use Rattle.std.specs.Prelude.{◌≡◌};
 ghost use Rattle.reusing.specs.Ownership.{block_token};
 
-use crate::block::Block;
-use crate::shelf::Shelf;
+use crate::pool::{LARGEST, Pool};
 use std::alloc::{AllocError, Allocator};
 use std::fmt;
-use std::marker::PhantomData;
-
-const LARGEST: usize = 1024;
+use std::mem::size_of;
 
 /// An allocator over another that keeps small blocks that were given back, and hands them out
 /// again.
@@ -16,108 +12,65 @@ const LARGEST: usize = 1024;
 /// It is lent: `&Reusing<Global>` is an allocator and is `Copy`. A request for at most 1024 bytes
 /// gets a block of 32, 64, 128, 256, 512 or 1024 bytes, whichever is the least that holds them. Of
 /// each of these sizes two blocks at most are kept, and the inner allocator is asked where none is.
-/// It is asked for larger blocks each time, and each goes back to it at once. What it refuses is
-/// refused here, and nothing else.
+/// It is asked for larger blocks each time, grows and shrinks them in its own way, and has each back
+/// at once. What it refuses is refused here, and nothing else.
 ///
 /// The blocks that are kept go back when the allocator is dropped.
 pub struct Reusing<A: Allocator> {
-    inner: A,
-    to_32: Shelf<A>,
-    to_64: Shelf<A>,
-    to_128: Shelf<A>,
-    to_256: Shelf<A>,
-    to_512: Shelf<A>,
-    to_1024: Shelf<A>,
-    ghost small: { (to_32.first ≡ (inner, 32)) × (to_64.first ≡ (inner, 64)) × (to_128.first ≡ (inner, 128)) },
-    ghost large: { (to_256.first ≡ (inner, 256)) × (to_512.first ≡ (inner, 512)) × (to_1024.first ≡ (inner, 1024)) },
+    pool: Pool<A>,
 }
 
 impl<A: Allocator> Reusing<A> {
     /// An allocator over `inner` that keeps nothing yet.
     pub fn new(inner: A) -> Reusing<A> {
-        let to_32 = Shelf::new(&inner, 32);
-        let to_64 = Shelf::new(&inner, 64);
-        let to_128 = Shelf::new(&inner, 128);
-        let to_256 = Shelf::new(&inner, 256);
-        let to_512 = Shelf::new(&inner, 512);
-        let to_1024 = Shelf::new(&inner, 1024);
         Reusing {
-            inner,
-            to_32,
-            to_64,
-            to_128,
-            to_256,
-            to_512,
-            to_1024,
+            pool: Pool::new(inner),
         }
     }
 
     /// The inner allocator.
-    pub fn inner(&self) -> &A
-        ensures { result.now ≡ self.now.inner }
-    {
-        &self.inner
-    }
-
-    // The blocks for requests of `size` bytes.
-    #[inline]
-    fn shelf(&self, size: usize) -> &Shelf<A>
-        requires { size ≤ 1024 }
-        ensures { result.now.first ≡ (self.now.inner, block_size size) }
-    {
-        if size <= 32 {
-            &self.to_32
-        } else if size <= 64 {
-            &self.to_64
-        } else if size <= 128 {
-            &self.to_128
-        } else if size <= 256 {
-            &self.to_256
-        } else if size <= 512 {
-            &self.to_512
-        } else {
-            &self.to_1024
-        }
-    }
-
-    #[inline]
-    fn take(&self, size: usize) -> Option<Block<A>>
-        requires { size ≤ 1024 }
-        ensures { IfSome result (λ b. (b.alloc ≡ self.now.inner) × (b.size ≡ block_size size)) }
-    {
-        self.shelf(size).take(&self.inner)
-    }
-
-    #[inline]
-    fn give(&self, block: Block<A>, size: usize)
-        requires { (size ≤ 1024) × (block.alloc ≡ self.now.inner) × (block.size ≡ block_size size) }
-    {
-        self.shelf(size).give(&self.inner, block);
+    pub fn inner(&self) -> &A {
+        self.pool.inner()
     }
 }
 
 unsafe impl<A: Allocator> Allocator for Reusing<A> {
-    ghost dealloc_token = { λ r. block_token (A.dealloc_token r.inner) };
+    ghost dealloc_token = { λ r. block_token (A.dealloc_token r.pool.inner) };
 
     #[inline]
     fn allocate(&self, size: usize, align: usize) -> Result<*mut u8, AllocError> {
-        if size > LARGEST {
-            return self.inner.allocate(size, align);
-        }
-        match self.take(size) {
-            Some(Block { ptr, marker: _ }) => Ok(ptr),
-            None => Err(AllocError),
-        }
+        self.pool.allocate(size, align)
     }
 
     #[inline]
     unsafe fn deallocate(&self, ptr: *mut u8, size: usize, align: usize) {
-        if size > LARGEST {
-            self.inner.deallocate(ptr, size, align);
-            return;
+        self.pool.deallocate(ptr, size, align);
+    }
+
+    unsafe fn grow<T>(
+        &self,
+        ptr: *mut T,
+        len: usize,
+        old_cap: usize,
+        new_cap: usize,
+    ) -> Result<*mut T, AllocError> {
+        if old_cap * size_of::<T>() > LARGEST {
+            return self.pool.inner.grow(ptr, len, old_cap, new_cap);
         }
-        let marker = PhantomData;
-        self.give(Block { ptr, marker }, size);
+        self.pool.grow(ptr, len, old_cap, new_cap)
+    }
+
+    unsafe fn shrink<T>(
+        &self,
+        ptr: *mut T,
+        len: usize,
+        old_cap: usize,
+        new_cap: usize,
+    ) -> Result<*mut T, AllocError> {
+        if new_cap * size_of::<T>() > LARGEST {
+            return self.pool.inner.shrink(ptr, len, old_cap, new_cap);
+        }
+        self.pool.shrink(ptr, len, old_cap, new_cap)
     }
 }
 
@@ -129,20 +82,7 @@ impl<A: Allocator> fmt::Debug for Reusing<A> {
 
 impl<A: Allocator> Drop for Reusing<A> {
     fn drop(self) {
-        let Reusing {
-            inner,
-            to_32,
-            to_64,
-            to_128,
-            to_256,
-            to_512,
-            to_1024,
-        } = self;
-        to_32.empty(&inner);
-        to_64.empty(&inner);
-        to_128.empty(&inner);
-        to_256.empty(&inner);
-        to_512.empty(&inner);
-        to_1024.empty(&inner);
+        let Reusing { pool } = self;
+        drop(pool);
     }
 }
