@@ -100,7 +100,7 @@ unsafe impl<A: Allocator> Allocator for Pool<A> {
         }
     }
 
-    #[inline]
+    #[inline(never)]
     unsafe fn deallocate(&self, ptr: *mut u8, size: usize, align: usize) {
         if size > LARGEST {
             self.inner.deallocate(ptr, size, align);

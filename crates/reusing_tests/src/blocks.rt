@@ -10,12 +10,21 @@ fn hold<A: Allocator>(alloc: A, bytes: usize) -> Result<(), AllocError> {
     Ok(())
 }
 
-/// Holds three blocks of one size at once, and returns whether each has what was put into it.
-fn hold_three<A: Allocator + Copy>(alloc: A) -> Result<bool, AllocError> {
-    let first = Box::new(alloc, 1u64)?;
-    let second = Box::new(alloc, 2u64)?;
-    let third = Box::new(alloc, 3u64)?;
-    Ok(*first == 1 && *second == 2 && *third == 3)
+/// Holds this many blocks of one size at once, eight at most, and returns whether each has what was
+/// put into it.
+fn hold_at_once<A: Allocator + Copy>(alloc: A, count: u64) -> Result<bool, AllocError> {
+    let mut held = Vec::with_capacity(alloc, 8)?;
+    for number in 0..count {
+        held.push(Box::new(alloc, number)?)?;
+    }
+    let mut expected = 0u64;
+    for number in &held {
+        if **number != expected {
+            return Ok(false);
+        }
+        expected = expected.wrapping_add(1);
+    }
+    Ok(true)
 }
 
 /// Returns a list of these bytes again and again, this many times.
@@ -46,6 +55,19 @@ fn requests_of(alloc: Global, sizes: &[usize]) -> Result<u64, AllocError> {
     Ok(below.requests())
 }
 
+/// The requests that reach it where this many blocks of one size, and the block of their list, are
+/// held at once ten times.
+fn requests_at_once(alloc: Global, count: u64) -> Result<u64, AllocError> {
+    let below = Refusing::new(alloc);
+    let memory = Reusing::new(&below);
+    for _round in 0..10u8 {
+        if !hold_at_once(&memory, count)? {
+            return Ok(0);
+        }
+    }
+    Ok(below.requests())
+}
+
 #[test]
 fn a_block_of_each_size_is_asked_for_once(rt: HostRuntime) -> Result<(), Fail> {
     assert_eq!(rt; requests_of(rt.alloc(), &[64; 100])?, 1);
@@ -63,13 +85,9 @@ fn large_blocks_are_asked_for_each_time(rt: HostRuntime) -> Result<(), Fail> {
 }
 
 #[test]
-fn two_blocks_of_a_size_are_kept(rt: HostRuntime) -> Result<(), Fail> {
-    let below = Refusing::new(rt.alloc());
-    let memory = Reusing::new(&below);
-    for _round in 0..10u8 {
-        assert!(rt; hold_three(&memory)?);
-    }
-    assert_eq!(rt; below.requests(), 12);
+fn four_blocks_of_a_size_are_kept(rt: HostRuntime) -> Result<(), Fail> {
+    assert_eq!(rt; requests_at_once(rt.alloc(), 4)?, 5);
+    assert_eq!(rt; requests_at_once(rt.alloc(), 5)?, 15);
     Ok(())
 }
 
@@ -93,7 +111,7 @@ fn a_refusal_is_passed_on_and_leaves_what_is_kept(rt: HostRuntime) {
     let memory = Reusing::new(&below);
     assert!(rt; hold(&memory, 8).is_ok());
     below.refuse_at(1);
-    assert!(rt; hold_three(&memory).is_err() && below.has_refused());
+    assert!(rt; hold_at_once(&memory, 3).is_err() && below.has_refused());
     below.refuse_at(1);
     assert!(rt; hold(&memory, 8).is_ok() && below.requests() == 0);
 }
@@ -102,7 +120,7 @@ fn a_refusal_is_passed_on_and_leaves_what_is_kept(rt: HostRuntime) {
 fn what_is_kept_goes_back_at_the_end(rt: HostRuntime) -> Result<(), Fail> {
     let below = LocalHeap::new(rt.alloc(), 1 << 14)?;
     let memory = Reusing::new(&below);
-    assert!(rt; hold_three(&memory)? && is_repeated(&repeated(&memory, 5)?));
+    assert!(rt; hold_at_once(&memory, 3)? && is_repeated(&repeated(&memory, 5)?));
     assert!(rt; below.used() > 0);
     drop(memory);
     assert_eq!(rt; below.used(), 0);
