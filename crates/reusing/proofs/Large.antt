@@ -1,14 +1,14 @@
 -- A block of more than 1024 bytes is one of the inner allocator: its token is that allocator's. Assumes `Logic`.
-use Rattle.std.proofs.Common.{◌≡◌, ℕ, ◌*◌, ◌^◌, ◌<◌, Bool, true, false, leb, List, [], ◌∷◌, refl, sym, ap, subst, ◌∙◌, arith, w64, leb-true}
+use Rattle.std.proofs.Common.{◌≡◌, ℕ, ◌*◌, ◌^◌, ◌<◌, Bool, true, false, leb, List, [], ◌∷◌, refl, sym, ap, subst, arith, w64, leb-true}
 use seplogic.Ra.Ura.{Ura}
 use mir.Syntax.{Ty, ty_array}
 use base.Logic.{ent}
-use base.Fml.{Fml, fex}
+use base.Fml.{Fml}
 use mir.Val.{Val, vint}
 use prog.Memory.{size, capped}
 use prog.RawLaws.{size-raw}
 use types.Logic.{Logic, sem}
-use types.Kit.{‵, ◌$◌, ◌∵◌, !, qed, move, rewrite, fsplit3, fjoin3, fpick, fpack, done}
+use types.Kit.{‵, ◌$◌, ◌∵◌, !, qed, move, rewrite, fsplit3, fjoin3, done}
 use denote.RattleType.{RattleType}
 use denote.Memory.{lone}
 use denote.RawPtr.{Ptr, block_ptr}
@@ -47,14 +47,14 @@ module _ {M : Type 1} {𝓤 : Ura M} (𝓛 : Logic 𝓤) (t : Ty → Ptr → Fml
   pub wraps : (p : Ptr) (len n : ℕ) (xs : List R.Denot) → 1024 < n * size (lone R.mir) → ent 𝓤 (sem 𝓛 (inner p len n xs)) (sem 𝓛 (outer p len n xs))
   wraps p len n xs large =
       qed 𝓛 (‵ (inner p len n xs) ∷ []) ∵ fsplit3 ! $ move ! (2 ∷ []) $
-      fpack ! (leb (size (array_of R n)) 1024 ≡ false) (λ _. way n p false) (large_array R n large) $ fpack ! Bool (λ small. fex (leb (size (array_of R n)) 1024 ≡ small) (λ _. way n p small)) false $
+      rewrite ! 0 (λ (small : Bool). ‵ (way n p small)) (sym (large_array R n large)) refl $
       move ! (1 ∷ 2 ∷ 0 ∷ []) $ fjoin3 ! $ done !
 
   pub unwraps : (p : Ptr) (len n : ℕ) (xs : List R.Denot) → 1024 < n * size (lone R.mir) → ent 𝓤 (sem 𝓛 (outer p len n xs)) (sem 𝓛 (inner p len n xs))
   unwraps p len n xs large =
-      qed 𝓛 (‵ (outer p len n xs) ∷ []) ∵ fsplit3 ! $ move ! (2 ∷ []) $ fpick ! (λ small. fpick ! (λ is.
-      rewrite ! 0 (λ (s : Bool). ‵ (way n p s)) (sym is ∙ large_array R n large) refl $
-      move ! (1 ∷ 2 ∷ 0 ∷ []) $ fjoin3 ! $ done !))
+      qed 𝓛 (‵ (outer p len n xs) ∷ []) ∵ fsplit3 ! $ move ! (2 ∷ []) $
+      rewrite ! 0 (λ (small : Bool). ‵ (way n p small)) (large_array R n large) refl $
+      move ! (1 ∷ 2 ∷ 0 ∷ []) $ fjoin3 ! $ done !
 
   -- the same of what `grow` or `shrink` answers
   pub wraps_result : (p : Ptr) (len old new : ℕ) (xs : List R.Denot) → 1024 < old * size (lone R.mir) → 1024 < new * size (lone R.mir) → (y : Bool) (b o : ℕ)

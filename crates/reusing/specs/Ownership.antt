@@ -1,5 +1,5 @@
 -- What a slot owns, and the right to give a block back.
-use Rattle.std.specs.Prelude.{◌≡◌, ℕ, ◌/◌, Bool, true, false, leb, List}
+use Rattle.std.specs.Prelude.{ℕ, ◌/◌, Bool, true, false, leb, List}
 use mir.Syntax.{Ty, w128, ty_int, ty_array}
 use mir.Val.{Val}
 use prog.Memory.{size}
@@ -28,7 +28,7 @@ module _ (t : Ty → Ptr → Fml) where
 
   -- the right to give the block for a τ at p back, where t is the right to give one back to the inner allocator
   abbrev pub block_token : Ty → Ptr → Fml
-  block_token τ p = fex Bool (λ small. fex (leb (size τ) 1024 ≡ small) (λ _. either small (part_of_block (block_size (size τ)) τ p) (t τ p)))
+  block_token τ p = either (leb (size τ) 1024) (part_of_block (block_size (size τ)) τ p) (t τ p)
 
 module _ (F : RattleType) (I : F.Denot → Fml) where
   -- fields of which I holds, in memory

@@ -1,16 +1,16 @@
 -- `allocate` hands out a block as room for the type that was asked, and the way back as the token. A large request it passes on. Assumes `Logic`.
-use Rattle.std.proofs.Common.{◌≡◌, ℕ, ◌+◌, ◌^◌, ◌<◌, ◌≤◌, Bool, true, false, leb, ltb→lt, nltb→le, List, [], ◌∷◌, ◌++◌, refl, sym, arith, lit<, w64, Ok, Err}
+use Rattle.std.proofs.Common.{◌≡◌, ℕ, ◌+◌, ◌^◌, ◌<◌, ◌≤◌, Bool, true, false, ltb→lt, nltb→le, List, [], ◌∷◌, ◌++◌, refl, sym, arith, lit<, w64, Ok, Err}
 use mir.Syntax.{Ty, Fn, Args, a_type, dcons, dnil}
 use mir.Val.{Val, vint, vptr}
 use mir.MapTy.{inst_fn}
 use base.Logic.{SProp, emp, id⊢}
-use base.Fml.{Lft, Share, Fml, ftrue, fex, froom, fwand, flft}
+use base.Fml.{Lft, Share, Fml, ftrue, froom, fwand, flft}
 use prog.Memory.{size, align, capped, up}
 use prog.Wp.{Env, WpFn}
 use contract.BorrowLft.{◌⊑◌, ⊑_trans}
 use contract.Monad.{fact, fact_i}
 use contract.Running.{tables}
-use types.Kit.{‵, raw, ◌⊛◌, some, later, prop, at_ret, ◌$◌, ◌∵◌, !, qed, by, move, keep, drop, use0, use1, use2, split, split3, join, pick, rewrite, regoal, fsplit, fjoin, fpack, feq_i, flt_i, await}
+use types.Kit.{‵, raw, ◌⊛◌, some, later, prop, at_ret, ◌$◌, ◌∵◌, !, qed, by, move, keep, drop, use0, use1, use2, split, split3, join, pick, rewrite, regoal, fsplit, fjoin, feq_i, flt_i, await}
 use types.Part.{whole, sub, agg}
 use types.Match.{vrt, in_variant}
 use types.Run.{stop, fld, lit, bin, addr, of_opd, no_more, and_then, first, branches, skips, switches_on, exec, returns, returns_within, enter}
@@ -93,7 +93,7 @@ allocate_spec 𝓤 𝓛 𝓜 𝓡 wired A L g d dd met md =
     use1 𝓛 (later (raw (Answered Y 𝓛 𝓜.mem 𝓡.returns h τ v) ⊛ ‵ (flft κ q))) (Takes-gives Y 𝓛 𝓜.mem 𝓡.returns κ q place h n al τ v) $ await ! tt $ split ! $
     answers Y ! 𝓜.mem 𝓡.returns h τ v
     (λ b o e. let p : Ptr = block_ptr b o in move ! (1 ∷ []) $
-    fpack ! (leb (size τ) 1024 ≡ false) (λ _. Way false p) (is_large τ n asked.0 large) $ fpack ! Bool (λ small. fex (leb (size τ) 1024 ≡ small) (λ _. Way small p)) false $ move ! (1 ∷ 0 ∷ []) $ fjoin ! $
+    rewrite ! 0 (λ (small : Bool). ‵ (Way small p)) (sym (is_large τ n asked.0 large)) refl $ move ! (1 ∷ 0 ∷ []) $ fjoin ! $
     lands_as ! e refl (Answer-typed true b o) $
     returns_within ! Post refl (look_at ! 0 refl) $ free_all ! refl $
     move ! (2 ∷ 3 ∷ []) $ join ! $ move ! (2 ∷ 0 ∷ []) $ join ! $ move ! (1 ∷ 0 ∷ []) $
@@ -115,7 +115,7 @@ allocate_spec 𝓤 𝓛 𝓜 𝓡 wired A L g d dd met md =
     (λ b o e. let p : Ptr = block_ptr b o in let same = small_size τ n asked.0 low in let holds = block_holds (size τ) (omega arith) in
     rewrite ! 0 (λ (j : ℕ). ‵ (froom (units_of (block_size j)) b o)) (sym same) refl $ rewrite ! 1 (λ (j : ℕ). ‵ (t (units_of (block_size j)) p)) (sym same) refl $
     use1 𝓛 (‵ (froom τ b o) ⊛ ‵ (fwand (froom τ b o) (froom (units_of m) b o))) (retypes 𝓛 τ b o m holds.0 holds.1) $ split ! $ move ! (1 ∷ 2 ∷ []) $ fjoin ! $
-    fpack ! (leb (size τ) 1024 ≡ true) (λ _. Way true p) (is_small τ n asked.0 low) $ fpack ! Bool (λ small. fex (leb (size τ) 1024 ≡ small) (λ _. Way small p)) true $ move ! (1 ∷ 0 ∷ []) $ fjoin ! $
+    rewrite ! 0 (λ (small : Bool). ‵ (Way small p)) (sym (is_small τ n asked.0 low)) refl $ move ! (1 ∷ 0 ∷ []) $ fjoin ! $
     lands_as ! e refl (tt, (record { fits = lit< tt }, ((tt, (tt, tt)), tt))) $
     first ! $ switches_on ! (get_tag ! (vrt ! refl (fld ! refl (stop !))) (whole !)) $ exec ! C Λ En (arm_body 0 (head (after 3 fn.body))) (then_runs 𝓛 C Λ En (after 4 fn.body) (at_ret En Post)) $
     sets ! (of_opd ! (get_in ! (vrt ! refl (fld ! refl (fld ! refl (stop !)))) (sub ! 0 refl (in_variant ! 1 0 refl refl (whole !))))) refl (tt, tt) $

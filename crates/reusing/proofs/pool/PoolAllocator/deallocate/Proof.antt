@@ -1,5 +1,5 @@
 -- `deallocate` turns the room into the block again, and keeps it. A large block it passes on. Assumes `Logic`.
-use Rattle.std.proofs.Common.{◌≡◌, ℕ, ◌+◌, ◌^◌, ◌<◌, ◌≤◌, Bool, ltb→lt, nltb→le, List, [], ◌∷◌, ◌++◌, refl, sym, ap, ◌∙◌, lit<, w64}
+use Rattle.std.proofs.Common.{◌≡◌, ℕ, ◌+◌, ◌^◌, ◌<◌, ◌≤◌, Bool, ltb→lt, nltb→le, List, [], ◌∷◌, ◌++◌, refl, ap, ◌∙◌, lit<, w64}
 use mir.Syntax.{Ty, Fn, Args, a_type, dcons, dnil}
 use mir.Val.{Val, vint, vptr, vunit}
 use mir.MapTy.{inst_fn}
@@ -11,7 +11,7 @@ use contract.BorrowLft.{◌⊑◌, ⊑_trans}
 use contract.Monad.{fact, fact_i}
 use contract.Running.{tables}
 use types.Logic.{sem}
-use types.Kit.{use3, given, learn, fpick, feq_l, ‵, raw, ◌⊛◌, some, later, prop, at_ret, ◌$◌, ◌∵◌, !, qed, by, move, keep, drop, use0, use1, use2, split, split3, join, pick, rewrite, regoal, fsplit, fjoin, feq_i, flt_i, await}
+use types.Kit.{use3, given, learn, feq_l, ‵, raw, ◌⊛◌, some, later, prop, at_ret, ◌$◌, ◌∵◌, !, qed, by, move, keep, drop, use0, use1, use2, split, split3, join, pick, rewrite, regoal, fsplit, fjoin, feq_i, flt_i, await}
 use types.Part.{agg}
 use types.Run.{stop, fld, unit_lit, bin, addr, of_opd, no_more, and_then, first, branches, skips, exec, returns, returns_within, enter}
 use types.ByLocal.{alloc_all, pass_all, free_all, look_at, get, through, sets, lands_as, env}
@@ -81,14 +81,14 @@ deallocate_spec 𝓤 𝓛 𝓜 𝓡 wired A L g d dd met md =
     move ! (1 ∷ []) $ split3 ! $ heard ! InA (λ le. heard ! Asked (λ asked.
     in_a_block ! from (λ r. owned_block (block_token t) τ r) (fst∗ 𝓤 (never 𝓤) (sem 𝓛 (block_token t τ null_ptr))) (λ b o placed. let p : Ptr = block_ptr b o in
     let Way : Bool → Fml = λ small. either small (part_of_block t m τ p) (t τ p) in
-    fsplit ! $ move ! (1 ∷ []) $ fpick ! (λ small. fpick ! (λ is. move ! (2 ∷ []) $ split ! $ move ! (1 ∷ []) $ fsplit ! $ fsplit ! $ keep ! (1 ∷ 3 ∷ 4 ∷ 5 ∷ []) $
+    fsplit ! $ move ! (2 ∷ 1 ∷ 0 ∷ []) $ split ! $ move ! (1 ∷ []) $ fsplit ! $ fsplit ! $ keep ! (1 ∷ 3 ∷ 4 ∷ 5 ∷ []) $
     regoal ! (λ (us : List Val). prop (WpFn 𝓤 H C Λ fn us Post)) (λ i. are.0.0 i ++ ((are.1.0 ∙ ap (λ (r : Ptr). ptr_val r ∷ []) placed) i ++ (are.1.1.0.0 i ++ (are.1.1.1.0.0 i ++ [])))) refl $
     enter ! C Λ fn (me ∷ vptr b o ∷ vint w64 n ∷ vint w64 al ∷ []) Post $
     alloc_all ! (λ l. pass_all ! refl ((tt, tt), ((tt, tt), ((tt, record { fits = fn' }), ((tt, record { fits = are.1.1.1.0.1 }), tt)))) $ let En : Env 𝓤 𝓛.H = env fn.locals l in
     sets ! (bin ! (big_lit ! (record { fits = lit< tt })) (get ! refl) tt) refl (tt, tt) $
     first ! $ branches ! (get ! refl)
     (λ big. let large : 1024 < n = ltb→lt 1024 n big in let w = at_gives Y 𝓛 𝓜.mem 𝓡.returns κ q place' h b o n al τ in
-    rewrite ! 2 (λ (s : Bool). ‵ (Way s)) (sym is ∙ is_large τ n asked.0 large) refl $
+    rewrite ! 2 (λ (s : Bool). ‵ (Way s)) (is_large τ n asked.0 large) refl $
     unhide ! $ fsplit ! $ fsplit ! $ use1 𝓛 (‵ (seen Y κ place' h)) (id⊢ 𝓤 _) $ move ! (1 ∷ []) $ drop ! $ move ! (1 ∷ []) $ drop ! $ move ! (1 ∷ []) $
     use1 𝓛 (‵ (flft κ q) ⊛ ‵ (flft z.0.0.1.0 z.0.1.1.0) ⊛ ‵ ftrue) (id⊢ 𝓤 _) $ split3 ! $ move ! (3 ∷ 0 ∷ []) $ join ! $ move ! (4 ∷ 3 ∷ 0 ∷ []) $
     sets ! (addr ! (through ! refl (fld ! refl (stop !)))) refl (tt, tt) $
@@ -102,7 +102,7 @@ deallocate_spec 𝓤 𝓛 𝓜 𝓡 wired A L g d dd met md =
     feq_i ! (List Val) (vunit ∷ []) (vunit ∷ []) refl $ nothing ! $ nothing ! $ nothing ! $ fjoin ! $ nothing ! $ fjoin ! $ nothing ! $ fjoin ! $ nothing ! $ fjoin ! $ move ! (3 ∷ 0 ∷ 2 ∷ 1 ∷ []) $
     by ! (leaves 𝓛 En₀ stays c z (vunit) (tt) (tt, (tt, (tt, (tt, tt)))) (tt, (tt, (tt, (tt, tt))))))))
     (λ not_big. let low : n ≤ 1024 = nltb→le 1024 n not_big in let same = small_size τ n asked.0 low in
-    rewrite ! 2 (λ (s : Bool). ‵ (Way s)) (sym is ∙ is_small τ n asked.0 low) refl $
+    rewrite ! 2 (λ (s : Bool). ‵ (Way s)) (is_small τ n asked.0 low) refl $
     skips ! $ exec ! C Λ En (after 2 fn.body) (at_ret En Post) $
     move ! (2 ∷ 3 ∷ []) $ fsplit ! $ move ! (2 ∷ 0 ∷ []) $ use2 𝓛 (‵ (room_for (units_of m) p)) (apply∗ 𝓤 (sem 𝓛 (room_for τ p)) (sem 𝓛 (room_for (units_of m) p))) $ fjoin ! $
     sets ! (agg ! (no_more !)) refl (tt, tt) $
@@ -119,4 +119,4 @@ deallocate_spec 𝓤 𝓛 𝓜 𝓡 wired A L g d dd met md =
     sets ! (of_opd ! (unit_lit !)) refl (tt, tt) $
     returns ! (look_at ! 0 refl) $ free_all ! refl $
     feq_i ! (List Val) (vunit ∷ []) (vunit ∷ []) refl $ nothing ! $ nothing ! $ nothing ! $ fjoin ! $ nothing ! $ fjoin ! $ nothing ! $ fjoin ! $ nothing ! $ fjoin ! $ move ! (3 ∷ 0 ∷ 2 ∷ 1 ∷ []) $
-    by ! (leaves 𝓛 En₀ stays c z (vunit) (tt) (tt, (tt, (tt, (tt, tt)))) (tt, (tt, (tt, (tt, tt))))))))))))))))
+    by ! (leaves 𝓛 En₀ stays c z (vunit) (tt) (tt, (tt, (tt, (tt, tt)))) (tt, (tt, (tt, (tt, tt))))))))))))))
