@@ -1,4 +1,5 @@
--- A block of more than 1024 bytes is one of the inner allocator: its token is that allocator's. Assumes `Logic`.
+-- A block of more than 1024 bytes is one of the inner allocator: its token is that allocator's.
+-- Assumes `Logic`.
 use Rattle.std.proofs.Common.{◌≡◌, ℕ, ◌*◌, ◌^◌, ◌<◌, Bool, true, false, leb, List, [], ◌∷◌, refl, sym, ap, subst, arith, w64, leb-true}
 use seplogic.Ra.Ura.{Ura}
 use mir.Syntax.{Ty, ty_array}
@@ -21,8 +22,13 @@ by_test : {X : Type 0} (t : Bool) → (t ≡ true → X) → (t ≡ false → X)
 by_test true f g = f refl
 by_test false f g = g refl
 
-pub large_array : (R : RattleType) (n : ℕ) → 1024 < n * size (lone R.mir) → leb (size (array_of R n)) 1024 ≡ false
-large_array R n large = by_test (leb (size (array_of R n)) 1024) (λ e. absurd (omega (arith, leb-true (size (array_of R n)) 1024 e, size-raw (ty_array (lone R.mir) n)))) (λ e. e)
+pub large_array : (R : RattleType) (n : ℕ) → 1024 < n * size (lone R.mir)
+    → leb (size (array_of R n)) 1024 ≡ false
+large_array R n large = by_test (leb (size (array_of R n)) 1024) (λ e. absurd (omega (
+  arith,
+  leb-true (size (array_of R n)) 1024 e,
+  size-raw (ty_array (lone R.mir) n),
+))) (λ e. e)
 
 abbrev word : ℕ → Val
 word = vint w64
@@ -42,22 +48,27 @@ module _ {M : Type 1} {𝓤 : Ura M} (𝓛 : Logic 𝓤) (t : Ty → Ptr → Fml
   outer = block_with_items (block_token t) R
 
   abbrev way : ℕ → Ptr → Bool → Fml
-  way n p small = either small (part_of_block t (block_size (size (array_of R n))) (array_of R n) p) (t (array_of R n) p)
+  way n p small = either small (part_of_block t (block_size (size (array_of R n))) (array_of R n) p)
+      (t (array_of R n) p)
 
-  pub wraps : (p : Ptr) (len n : ℕ) (xs : List R.Denot) → 1024 < n * size (lone R.mir) → ent 𝓤 (sem 𝓛 (inner p len n xs)) (sem 𝓛 (outer p len n xs))
+  pub wraps : (p : Ptr) (len n : ℕ) (xs : List R.Denot) → 1024 < n * size (lone R.mir)
+      → ent 𝓤 (sem 𝓛 (inner p len n xs)) (sem 𝓛 (outer p len n xs))
   wraps p len n xs large =
       qed 𝓛 (‵ (inner p len n xs) ∷ []) ∵ fsplit3 ! $ move ! (2 ∷ []) $
       rewrite ! 0 (λ (small : Bool). ‵ (way n p small)) (sym (large_array R n large)) refl $
       move ! (1 ∷ 2 ∷ 0 ∷ []) $ fjoin3 ! $ done !
 
-  pub unwraps : (p : Ptr) (len n : ℕ) (xs : List R.Denot) → 1024 < n * size (lone R.mir) → ent 𝓤 (sem 𝓛 (outer p len n xs)) (sem 𝓛 (inner p len n xs))
+  pub unwraps : (p : Ptr) (len n : ℕ) (xs : List R.Denot) → 1024 < n * size (lone R.mir)
+      → ent 𝓤 (sem 𝓛 (outer p len n xs)) (sem 𝓛 (inner p len n xs))
   unwraps p len n xs large =
       qed 𝓛 (‵ (outer p len n xs) ∷ []) ∵ fsplit3 ! $ move ! (2 ∷ []) $
       rewrite ! 0 (λ (small : Bool). ‵ (way n p small)) (large_array R n large) refl $
       move ! (1 ∷ 2 ∷ 0 ∷ []) $ fjoin3 ! $ done !
 
   -- the same of what `grow` or `shrink` answers
-  pub wraps_result : (p : Ptr) (len old new : ℕ) (xs : List R.Denot) → 1024 < old * size (lone R.mir) → 1024 < new * size (lone R.mir) → (y : Bool) (b o : ℕ)
-      → ent 𝓤 (sem 𝓛 (resized_if_ok t R p len old new xs (result_of y b o))) (sem 𝓛 (resized_if_ok (block_token t) R p len old new xs (result_of y b o)))
+  pub wraps_result : (p : Ptr) (len old new : ℕ) (xs : List R.Denot)
+      → 1024 < old * size (lone R.mir) → 1024 < new * size (lone R.mir) → (y : Bool) (b o : ℕ)
+      → ent 𝓤 (sem 𝓛 (resized_if_ok t R p len old new xs (result_of y b o)))
+      (sem 𝓛 (resized_if_ok (block_token t) R p len old new xs (result_of y b o)))
   wraps_result p len old new xs large large' true b o = wraps (block_ptr b o) len new xs large'
   wraps_result p len old new xs large large' false b o = wraps p len old xs large

@@ -33,9 +33,17 @@ block_own p0 = (plainly (RawPtr ∷ plainly [] ∷ [])).own_val (p0, (tt, tt))
 pub block_told : (p0 : Ptr) (vs : List Val) → shadow (block_own p0 vs) → vs ≡ block_val p0 ∷ []
 block_told p0 vs s = s.1.0 ∙ (λ i. vstruct (of_list (s.1.1.0 i ++ (s.1.1.1.0.1.0 i ++ []))) ∷ [])
 
-pub block_made : {M : Type 1} {𝓤 : Ura M} (𝓛 : Logic 𝓤) (p0 : Ptr) → ent 𝓤 (emp 𝓤) (sem 𝓛 (block_own p0 (block_val p0 ∷ [])))
-block_made 𝓛 p0 = makes_shadow 𝓛 (block_own p0 (block_val p0 ∷ [])) (λ _. (tt, (tt, ((λ _. (tt, tt)), tt)))) ((ptr_val p0 ∷ [], (vstruct vnil ∷ [], tt)), (refl, (refl, ((tt, (refl, tt)), tt))))
+pub block_made : {M : Type 1} {𝓤 : Ura M} (𝓛 : Logic 𝓤) (p0 : Ptr)
+    → ent 𝓤 (emp 𝓤) (sem 𝓛 (block_own p0 (block_val p0 ∷ [])))
+block_made 𝓛 p0 = makes_shadow 𝓛 (block_own p0 (block_val p0 ∷ [])) (λ _. (
+  tt,
+  (tt, ((λ _. (tt, tt)), tt)),
+)) (
+  (ptr_val p0 ∷ [], (vstruct vnil ∷ [], tt)),
+  (refl, (refl, ((tt, (refl, tt)), tt))),
+)
 
-pub block_typed : (p0 : Ptr) → Good (ty_struct [] (tcons ty_ptr (tcons (ty_struct [] tnil) tnil))) (block_val p0)
+pub block_typed : (p0 : Ptr)
+    → Good (ty_struct [] (tcons ty_ptr (tcons (ty_struct [] tnil) tnil))) (block_val p0)
 block_typed (block_ptr b o) = (tt, (tt, (tt, tt)))
 block_typed null_ptr = (tt, (record { fits = lit< tt }, (tt, tt)))

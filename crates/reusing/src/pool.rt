@@ -20,8 +20,10 @@ pub(crate) struct Pool<A: Allocator> {
     to_256: Shelf<A>,
     to_512: Shelf<A>,
     to_1024: Shelf<A>,
-    ghost small: { (to_32.first ≡ (inner, 32)) × (to_64.first ≡ (inner, 64)) × (to_128.first ≡ (inner, 128)) },
-    ghost large: { (to_256.first ≡ (inner, 256)) × (to_512.first ≡ (inner, 512)) × (to_1024.first ≡ (inner, 1024)) },
+    ghost small: { (to_32.first ≡ (inner, 32)) × (to_64.first ≡ (inner, 64))
+        × (to_128.first ≡ (inner, 128)) },
+    ghost large: { (to_256.first ≡ (inner, 256)) × (to_512.first ≡ (inner, 512))
+        × (to_1024.first ≡ (inner, 1024)) },
 }
 
 impl<A: Allocator> Pool<A> {

@@ -11,9 +11,9 @@ use std::mem::size_of;
 ///
 /// It is lent: `&Reusing<Global>` is an allocator and is `Copy`. A request for at most 1024 bytes
 /// gets a block of 32, 64, 128, 256, 512 or 1024 bytes, whichever is the least that holds them. Of
-/// each of these sizes four blocks at most are kept, and the inner allocator is asked where none is.
-/// It is asked for larger blocks each time, grows and shrinks them in its own way, and has each back
-/// at once. What it refuses is refused here, and nothing else.
+/// each of these sizes four blocks at most are kept, and where none is the inner allocator is asked
+/// for one. It is asked for larger blocks each time, grows and shrinks them in its own way, and has
+/// each back at once. What it refuses is refused here, and nothing else.
 ///
 /// The blocks that are kept go back when the allocator is dropped.
 pub struct Reusing<A: Allocator> {

@@ -66,7 +66,8 @@ impl<A: Allocator> Shelf<A> {
     // Keeps the block. Where four are kept already, the one that was kept first goes back.
     #[inline]
     pub(crate) fn give(&self, alloc: &A, block: Block<A>)
-        requires { (self.now.first.0 ≡ alloc.now) × (block.alloc ≡ self.now.first.0) × (block.size ≡ self.now.first.1) }
+        requires { (self.now.first.0 ≡ alloc.now) × (block.alloc ≡ self.now.first.0)
+            × (block.size ≡ self.now.first.1) }
     {
         if let Some(block) = self.first.replace(Some(block)) {
             self.give_other(alloc, block);
@@ -76,7 +77,8 @@ impl<A: Allocator> Shelf<A> {
     // The same, past the first slot.
     #[inline(never)]
     fn give_other(&self, alloc: &A, block: Block<A>)
-        requires { (self.now.first.0 ≡ alloc.now) × (block.alloc ≡ self.now.first.0) × (block.size ≡ self.now.first.1) }
+        requires { (self.now.first.0 ≡ alloc.now) × (block.alloc ≡ self.now.first.0)
+            × (block.size ≡ self.now.first.1) }
     {
         let Some(block) = self.second.replace(Some(block)) else {
             return;

@@ -15,11 +15,13 @@ pub(crate) struct Slot<A: Allocator> {
 impl<A: Allocator> Owns for Slot<A> {
     ghost Value = { A × ℕ };
 
-    ghost shr_at = { λ s. behind_a_ref Fields (λ i. fex (IfSome i.block (λ b. (b.alloc ≡ s.0) × (b.size ≡ s.1))) (λ _. ftrue)) };
+    ghost shr_at = { λ s. behind_a_ref Fields
+        (λ i. fex (IfSome i.block (λ b. (b.alloc ≡ s.0) × (b.size ≡ s.1))) (λ _. ftrue)) };
 }
 
 impl<A: Allocator> Move for Slot<A> {
-    ghost own_val = { λ s vs. fex Inside (λ i. fsep (Fields.own_val i vs) (fex (IfSome i.block (λ b. (b.alloc ≡ s.0) × (b.size ≡ s.1))) (λ _. ftrue))) };
+    ghost own_val = { λ s vs. fex Inside (λ i. fsep (Fields.own_val i vs)
+        (fex (IfSome i.block (λ b. (b.alloc ≡ s.0) × (b.size ≡ s.1))) (λ _. ftrue))) };
 }
 
 impl<A: Allocator> Slot<A> {

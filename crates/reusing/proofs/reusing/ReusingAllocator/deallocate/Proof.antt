@@ -47,11 +47,34 @@ deallocate_spec 𝓤 𝓛 𝓜 𝓡 wired A L g d dd met md =
     let c₀ = clauses A g d dd 𝓛 𝓜.mem 𝓡.returns in
     let args : Args = bounded (a_type ∷ []) (A, tt) (dcons d (dcons dd dnil)) in
     let fn : Fn = inst_fn args compiled.function in
-    let stays : Stays En₀.signature.params En₀.kept = (stay_dropped (slot_at 0 En₀.signature.params) En₀.kept.0, (stay_dropped (slot_at 1 En₀.signature.params) En₀.kept.1.0, (stay_dropped (slot_at 2 En₀.signature.params) En₀.kept.1.1.0, (stay_dropped (slot_at 3 En₀.signature.params) En₀.kept.1.1.1.0, tt)))) in
+    let stays : Stays En₀.signature.params En₀.kept = (
+      stay_dropped (slot_at 0 En₀.signature.params)
+          En₀.kept.0,
+      (
+        stay_dropped (slot_at 1 En₀.signature.params) En₀.kept.1.0,
+        (
+          stay_dropped (slot_at 2 En₀.signature.params) En₀.kept.1.1.0,
+          (stay_dropped (slot_at 3 En₀.signature.params) En₀.kept.1.1.1.0, tt),
+        ),
+      ),
+    ) in
     let c = c₀ in
     let C = (tables 𝓤 H 𝓜 𝓡 𝓡.env).C in
     let Λ = (tables 𝓤 H 𝓜 𝓡 𝓡.env).Λ in
-    proved_at 𝓛 En₀ stays c 𝓜 𝓡 (Goes-dropped 𝓛 2 (slot_at 0 En₀.signature.params) En₀.kept.0 (λ κs x f. refl), (Goes-dropped 𝓛 2 (slot_at 1 En₀.signature.params) En₀.kept.1.0 (λ κs x f. refl), (Goes-dropped 𝓛 2 (slot_at 2 En₀.signature.params) En₀.kept.1.1.0 (λ κs x f. refl), (Goes-dropped 𝓛 2 (slot_at 3 En₀.signature.params) En₀.kept.1.1.1.0 (λ κs x f. refl), tt)))) (#self args) fn (compiled.unfolded 𝓤 H 𝓜 𝓡 wired (A, tt) d dd) (λ z are.
+    proved_at 𝓛 En₀ stays c 𝓜 𝓡 (
+      Goes-dropped 𝓛 2 (slot_at 0 En₀.signature.params) En₀.kept.0
+          (λ κs x f. refl),
+      (
+        Goes-dropped 𝓛 2 (slot_at 1 En₀.signature.params) En₀.kept.1.0 (λ κs x f. refl),
+        (
+          Goes-dropped 𝓛 2 (slot_at 2 En₀.signature.params) En₀.kept.1.1.0 (λ κs x f. refl),
+          (
+            Goes-dropped 𝓛 2 (slot_at 3 En₀.signature.params) En₀.kept.1.1.1.0 (λ κs x f. refl),
+            tt,
+          ),
+        ),
+      ),
+    ) (#self args) fn (compiled.unfolded 𝓤 H 𝓜 𝓡 wired (A, tt) d dd) (λ z are.
     let Post : Val → SProp 𝓤 = (walk_of 𝓛 En₀ stays c).post z in
     let a = z.0.3 in
     let vss = z.0.4 in
@@ -68,23 +91,72 @@ deallocate_spec 𝓤 𝓛 𝓜 𝓡 wired A L g d dd met md =
     let place : ℕ × ℕ = (a.0.ref_ptr.0, a.0.ref_ptr.1 + up (align (lone Inner.mir)) 0) in
     let it : Val = vptr place.0 place.1 in
     let k = triple_of 𝓛 (callee.signature A g d dd) (callee.spec A g d dd 𝓛 𝓜.mem 𝓡.returns) in
-    let y : k.Ghost = ((z.0.0, z.0.1, z.0.2, (record { ref_ptr = place; now = within }, (from, (n, (al, tt)))), (it ∷ [], (ptr_val from ∷ [], (vint w64 n ∷ [], (vint w64 al ∷ [], tt))))), τ) in
+    let y : k.Ghost = (
+      (
+        z.0.0,
+        z.0.1,
+        z.0.2,
+        (
+          record { ref_ptr = place; now = within },
+          (from, (n, (al, tt))),
+        ),
+        (it ∷ [], (ptr_val from ∷ [], (vint w64 n ∷ [], (vint w64 al ∷ [], tt)))),
+      ),
+      τ,
+    ) in
     let InA : Type 0 = z.0.0.1.0 ⊑ A.lives in
     let Asked : Type 0 = (capped (size τ) ≡ n) × (capped (align τ) ≡ al) in
-    qed 𝓛 ((raw (alive 𝓛 En₀.signature z.0.0 z.0.1) ⊛ ‵ (owns (types_at En₀.signature.params z.0.0) a vss)) ∷ (raw (fact 𝓤 InA) ⊛ raw (fact 𝓤 Asked) ⊛ ‵ (owned_block (block_token t) τ from)) ∷ []) ∵
-    move ! (1 ∷ []) $ split3 ! $ heard ! InA (λ le. heard ! Asked (λ asked. move ! (1 ∷ []) $ split ! $ move ! (1 ∷ []) $ fsplit ! $ fsplit ! $ keep ! (1 ∷ 3 ∷ 4 ∷ []) $
-    unhide ! $ fsplit ! $ fsplit ! $ use1 𝓛 (‵ (hidden_shr Inner κ within place.0 place.1)) (id⊢ 𝓤 _) $ move ! (1 ∷ []) $ drop ! $ move ! (1 ∷ []) $ drop ! $
-    regoal ! (λ (us : List Val). prop (WpFn 𝓤 H C Λ fn us Post)) (λ i. are.0.0 i ++ (are.1.0 i ++ (are.1.1.0.0 i ++ (are.1.1.1.0.0 i ++ [])))) refl $
+    qed 𝓛 ((raw (alive 𝓛 En₀.signature z.0.0 z.0.1)
+    ⊛ ‵ (owns (types_at En₀.signature.params z.0.0) a vss)) ∷ (raw (fact 𝓤 InA) ⊛ raw (fact 𝓤 Asked)
+    ⊛ ‵ (owned_block (block_token t) τ from)) ∷ []) ∵
+    move ! (1 ∷ []) $ split3 ! $ heard ! InA (λ le. heard ! Asked (λ asked. move ! (1 ∷ []) $
+    split ! $ move ! (1 ∷ []) $ fsplit ! $ fsplit ! $ keep ! (1 ∷ 3 ∷ 4 ∷ []) $
+    unhide ! $ fsplit ! $ fsplit ! $
+    use1 𝓛 (‵ (hidden_shr Inner κ within place.0 place.1)) (id⊢ 𝓤 _) $ move ! (1 ∷ []) $ drop ! $
+    move ! (1 ∷ []) $ drop ! $
+    regoal ! (λ (us : List Val). prop (WpFn 𝓤 H C Λ fn us Post))
+    (λ i. are.0.0 i ++ (are.1.0 i ++ (are.1.1.0.0 i ++ (are.1.1.1.0.0 i ++ [])))) refl $
     enter ! C Λ fn (me ∷ ptr_val from ∷ vint w64 n ∷ vint w64 al ∷ []) Post $
-    alloc_all ! (λ l. pass_all ! refl ((tt, tt), (ptr_typed from, ((tt, record { fits = are.1.1.0.1 }), ((tt, record { fits = are.1.1.1.0.1 }), tt)))) $ let En : Env 𝓤 𝓛.H = env fn.locals l in
+    alloc_all ! (λ l. pass_all ! refl (
+      (tt, tt),
+      (
+        ptr_typed from,
+        (
+          (tt, record { fits = are.1.1.0.1 }),
+          (
+            (tt, record { fits = are.1.1.1.0.1 }),
+            tt,
+          ),
+        ),
+      ),
+    ) $ let En : Env 𝓤 𝓛.H = env fn.locals l in
     sets ! (addr ! (through ! refl (fld ! refl (stop !)))) refl (tt, tt) $
-    nothing ! $ flt_i ! al (2 ^ 64) are.1.1.1.0.1 $ feq_i ! (List Val) (vint w64 al ∷ []) (vint w64 al ∷ []) refl $ fjoin ! $ fjoin ! $ flt_i ! n (2 ^ 64) are.1.1.0.1 $ feq_i ! (List Val) (vint w64 n ∷ []) (vint w64 n ∷ []) refl $ fjoin ! $ fjoin ! $
-    feq_i ! (List Val) (ptr_val from ∷ []) (ptr_val from ∷ []) refl $ fjoin ! $ move ! (1 ∷ 0 ∷ []) $ feq_i ! (List Val) (it ∷ []) (it ∷ []) refl $ fjoin ! $ fjoin ! $ move ! (1 ∷ 0 ∷ []) $ join ! $ move ! (1 ∷ []) $
-    use0 𝓛 (raw (fact 𝓤 Asked)) (fact_i 𝓤 Asked (emp 𝓤) asked) $ join ! $ use0 𝓛 (raw (fact 𝓤 InA)) (fact_i 𝓤 InA (emp 𝓤) le) $ join ! $ move ! (1 ∷ 0 ∷ []) $ join ! $ use1 𝓛 (raw (k.pre y)) (id⊢ 𝓤 _) $
-    calls_at ! (fm 𝓛 𝓜 𝓡) k (meets 𝓤 𝓛 𝓜 𝓡 (compiled.calls-reusing::pool::PoolAllocator::deallocate 𝓡.env wired) A L g d dd met md) y (and_then ! (get ! refl) (and_then ! (get ! refl) (and_then ! (get ! refl) (and_then ! (get ! refl) (no_more !))))) (λ u.
-    use1 𝓛 (later (some (λ (r : Unit {0}). (raw (alive 𝓛 En₀.signature z.0.0 z.0.1) ⊛ ‵ (unit.own_val r (u ∷ []))) ⊛ some (λ (ls : Lasts (callee.ended A g d dd) z.0.0 y.0.3). ‵ (lasts (callee.ended A g d dd) z.0.0 y.0.3 ls) ⊛ ‵ ftrue)))) (id⊢ 𝓤 (k.post y u)) $
-    await ! tt $ pick ! (λ r. split ! $ move ! (1 ∷ []) $ drop ! $ split ! $ move ! (1 ∷ []) $ feq_l ! (λ e. lands_as ! (ap only e) refl (tt, tt) $
+    nothing ! $ flt_i ! al (2 ^ 64) are.1.1.1.0.1 $
+    feq_i ! (List Val) (vint w64 al ∷ []) (vint w64 al ∷ []) refl $ fjoin ! $ fjoin ! $
+    flt_i ! n (2 ^ 64) are.1.1.0.1 $ feq_i ! (List Val) (vint w64 n ∷ []) (vint w64 n ∷ []) refl $
+    fjoin ! $ fjoin ! $
+    feq_i ! (List Val) (ptr_val from ∷ []) (ptr_val from ∷ []) refl $ fjoin ! $
+    move ! (1 ∷ 0 ∷ []) $ feq_i ! (List Val) (it ∷ []) (it ∷ []) refl $ fjoin ! $ fjoin ! $
+    move ! (1 ∷ 0 ∷ []) $ join ! $ move ! (1 ∷ []) $
+    use0 𝓛 (raw (fact 𝓤 Asked)) (fact_i 𝓤 Asked (emp 𝓤) asked) $ join ! $
+    use0 𝓛 (raw (fact 𝓤 InA)) (fact_i 𝓤 InA (emp 𝓤) le) $ join ! $ move ! (1 ∷ 0 ∷ []) $ join ! $
+    use1 𝓛 (raw (k.pre y)) (id⊢ 𝓤 _) $
+    calls_at ! (fm 𝓛 𝓜 𝓡) k (meets 𝓤 𝓛 𝓜 𝓡 (compiled.calls-reusing::pool::PoolAllocator::deallocate
+    𝓡.env wired) A L g d dd met md) y
+    (and_then ! (get ! refl)
+    (and_then ! (get ! refl) (and_then ! (get ! refl) (and_then ! (get ! refl) (no_more !))))) (λ u.
+    use1 𝓛 (later (some (λ (r : Unit {0}). (raw (alive 𝓛 En₀.signature z.0.0 z.0.1)
+    ⊛ ‵ (unit.own_val r (u ∷ [])))
+    ⊛ some (λ (ls : Lasts (callee.ended A g d dd) z.0.0 y.0.3). ‵ (lasts (callee.ended A g d dd)
+    z.0.0 y.0.3 ls) ⊛ ‵ ftrue)))) (id⊢ 𝓤 (k.post y u)) $
+    await ! tt $ pick ! (λ r. split ! $ move ! (1 ∷ []) $ drop ! $ split ! $ move ! (1 ∷ []) $
+    feq_l ! (λ e. lands_as ! (ap only e) refl (tt, tt) $
     sets ! (of_opd ! (unit_lit !)) refl (tt, tt) $
     returns ! (look_at ! 0 refl) $ free_all ! refl $
-    feq_i ! (List Val) (vunit ∷ []) (vunit ∷ []) refl $ nothing ! $ nothing ! $ nothing ! $ fjoin ! $ nothing ! $ fjoin ! $ nothing ! $ fjoin ! $ nothing ! $ fjoin ! $ move ! (3 ∷ 0 ∷ 2 ∷ 1 ∷ []) $
-    by ! (leaves 𝓛 En₀ stays c z (vunit) (tt) (tt, (tt, (tt, (tt, tt)))) (tt, (tt, (tt, (tt, tt))))))))))))
+    feq_i ! (List Val) (vunit ∷ []) (vunit ∷ []) refl $ nothing ! $ nothing ! $ nothing ! $
+    fjoin ! $ nothing ! $ fjoin ! $ nothing ! $ fjoin ! $ nothing ! $ fjoin ! $
+    move ! (3 ∷ 0 ∷ 2 ∷ 1 ∷ []) $
+    by ! (leaves 𝓛 En₀ stays c z (vunit) (tt) (tt, (tt, (tt, (tt, tt)))) (
+      tt,
+      (tt, (tt, (tt, tt))),
+    )))))))))

@@ -37,22 +37,35 @@ into_inner_spec 𝓤 𝓛 𝓜 𝓡 wired A L g d dd met md =
     let c₀ = clauses A g d dd 𝓛 𝓜.mem 𝓡.returns in
     let args : Args = bounded (a_type ∷ []) (A, tt) (dcons d (dcons dd dnil)) in
     let fn : Fn = inst_fn args compiled.function in
-    let stays : Stays En₀.signature.params En₀.kept = (stay_dropped (slot_at 0 En₀.signature.params) En₀.kept.0, tt) in
+    let stays : Stays En₀.signature.params En₀.kept = (
+      stay_dropped (slot_at 0 En₀.signature.params)
+          En₀.kept.0,
+      tt,
+    ) in
     let c = c₀ in
     let C = (tables 𝓤 H 𝓜 𝓡 𝓡.env).C in
     let Λ = (tables 𝓤 H 𝓜 𝓡 𝓡.env).Λ in
-    proved_at 𝓛 En₀ stays c 𝓜 𝓡 (Goes-blank 𝓛 1 (slot_at 0 En₀.signature.params) En₀.kept.0 (λ κs x f. tt), tt) (#self args) fn (compiled.unfolded 𝓤 H 𝓜 𝓡 wired (A, tt) d dd) (λ z are.
+    proved_at 𝓛 En₀ stays c 𝓜 𝓡 (
+      Goes-blank 𝓛 1 (slot_at 0 En₀.signature.params) En₀.kept.0
+          (λ κs x f. tt),
+      tt,
+    ) (#self args) fn (compiled.unfolded 𝓤 H 𝓜 𝓡 wired (A, tt) d dd) (λ z are.
     let Post : Val → SProp 𝓤 = (walk_of 𝓛 En₀ stays c).post z in
     let a = z.0.3 in
     let vss = z.0.4 in
     let Z : RattleType = param 0 A in
-    qed 𝓛 ((raw (alive 𝓛 En₀.signature z.0.0 z.0.1) ⊛ ‵ (owns (types_at En₀.signature.params z.0.0) a vss)) ∷ (raw (fact 𝓤 (z.0.0.0 ⊑ A.lives)) ⊛ ‵ ftrue) ∷ []) ∵ move ! (1 ∷ []) $ split ! $ drop ! $ drop ! $ split ! $ move ! (1 ∷ []) $
-    fsplit ! $ move ! (1 ∷ []) $ drop ! $ fsplit ! $ drop ! $ contents_out A L g a.0 ! vss.0 (λ x v over typed told.
+    qed 𝓛 ((raw (alive 𝓛 En₀.signature z.0.0 z.0.1)
+    ⊛ ‵ (owns (types_at En₀.signature.params z.0.0) a vss)) ∷ (raw (fact 𝓤 (z.0.0.0 ⊑ A.lives))
+    ⊛ ‵ ftrue) ∷ []) ∵ move ! (1 ∷ []) $ split ! $ drop ! $ drop ! $ split ! $ move ! (1 ∷ []) $
+    fsplit ! $ move ! (1 ∷ []) $ drop ! $ fsplit ! $ drop ! $
+    contents_out A L g a.0 ! vss.0 (λ x v over typed told.
     regoal ! (λ (us : List Val). prop (WpFn 𝓤 H C Λ fn us Post)) (λ i. told i ++ []) refl $
     enter ! C Λ fn (round v ∷ []) Post $
-    alloc_all ! (λ l. pass_all ! refl ((and_tt _ ((typed).0), ((typed).1, tt)), tt) $ let En : Env 𝓤 𝓛.H = env fn.locals l in
+    alloc_all ! (λ l. pass_all ! refl ((and_tt _ ((typed).0), ((typed).1, tt)), tt) $
+    let En : Env 𝓤 𝓛.H = env fn.locals l in
     sets ! (of_opd ! (get_in ! (fld ! refl (stop !)) (sub ! 0 refl (whole !)))) refl typed $
     sets ! (of_opd ! (get ! refl)) refl typed $
     returns ! (look_at ! 0 refl) $ free_all ! refl $
-    use0 𝓛 (raw (fact 𝓤 (Over Z g a.0 x))) (fact_i 𝓤 (Over Z g a.0 x) (emp 𝓤) over) $ nothing ! $ nothing ! $ fjoin ! $ move ! (3 ∷ 0 ∷ 2 ∷ 1 ∷ []) $
+    use0 𝓛 (raw (fact 𝓤 (Over Z g a.0 x))) (fact_i 𝓤 (Over Z g a.0 x) (emp 𝓤) over) $ nothing ! $
+    nothing ! $ fjoin ! $ move ! (3 ∷ 0 ∷ 2 ∷ 1 ∷ []) $
     by ! (leaves 𝓛 En₀ stays c z (v) (x) (tt, tt) (tt, tt)))))
