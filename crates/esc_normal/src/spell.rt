@@ -95,7 +95,7 @@ impl<A: Allocator> Spell<A> {
     }
 
     /// Appends the text of one that is known by its numbers.
-    #[inline]
+    #[inline(always)]
     pub fn write_short(&mut self, numbers: ShortNumbers, control: u8) -> Result<(), AllocError>
         requires { control < 128 }
         ensures ok { OnOk result ((self.new.text ≡ self.old.text ++ short_text numbers control)
