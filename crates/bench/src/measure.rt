@@ -8,6 +8,7 @@ use crate::tally::Tally;
 use anyhow::Result;
 use esc_frame::parser::VTParser;
 use escape_stream::{Parser, Watched, encode, normalise};
+use reusing::Reusing;
 use std::alloc::Global;
 use std::fmt;
 
@@ -18,6 +19,8 @@ pub enum Measure {
     Framing,
     /// The actions of a stream, counted.
     Parse,
+    /// The same, where the memory of the last actions serves the next.
+    ParseReusing,
     /// The first actions of the prefixes of a stream, counted.
     ParseFirst,
     /// The actions of the prefixes of a stream that leave no segment unfinished, counted.
@@ -40,9 +43,10 @@ const LIMIT: usize = 65_536;
 
 impl Measure {
     /// All measures, in the order in which they are taken.
-    pub const ALL: [Measure; 8] = [
+    pub const ALL: [Measure; 9] = [
         Measure::Framing,
         Measure::Parse,
+        Measure::ParseReusing,
         Measure::ParseFirst,
         Measure::ParseFirstAsVec,
         Measure::Encode,
@@ -56,6 +60,7 @@ impl Measure {
         match self {
             Measure::Framing => "framing",
             Measure::Parse => "parse",
+            Measure::ParseReusing => "parse_reusing",
             Measure::ParseFirst => "parse_first",
             Measure::ParseFirstAsVec => "parse_first_as_vec",
             Measure::Encode => "encode",
@@ -70,6 +75,7 @@ impl Measure {
         match self {
             Measure::Framing => framing(alloc, &input.bytes),
             Measure::Parse => parse(alloc, &input.bytes),
+            Measure::ParseReusing => reusing(alloc, &input.bytes),
             Measure::ParseFirst => first_actions(alloc, &input.bytes),
             Measure::ParseFirstAsVec => prefixes(alloc, &input.bytes),
             Measure::Encode => Ok(Counted::Bytes(encode(alloc, &input.actions)?.len())),
@@ -107,6 +113,14 @@ fn parse(alloc: Global, bytes: &[u8]) -> Result<Counted> {
     let mut tally = Tally::new();
     let mut parser = Parser::new(alloc);
     parser.parse(bytes, |action| tally.add(action))?;
+    Ok(tally.counted())
+}
+
+fn reusing(alloc: Global, bytes: &[u8]) -> Result<Counted> {
+    let memory = Reusing::new(alloc);
+    let mut parser = Parser::new(&memory);
+    let (result, tally) = parser.parse_into(bytes, Tally::new());
+    result?;
     Ok(tally.counted())
 }
 
