@@ -1,7 +1,11 @@
 pub mod Tables
+pub mod Images
 mod Found
 mod FilesFound
 mod ColorsFound
 mod PromptsFound
 mod Numbers
+mod ImagesFound
+pub mod ImagesWhole
 pub mod Whole
+pub mod SixelsFound

@@ -17,7 +17,14 @@ names =
     ∷ name.CellWidth ∷ name.Scale ∷ name.Size ∷ name.WidthCells ∷ name.WidthPixels
     ∷ name.WidthPercent ∷ name.HeightCells ∷ name.HeightPixels ∷ name.HeightPercent
     ∷ name.PreserveAspectRatio ∷ name.Inline ∷ name.DoNotMoveCursor ∷ name.Content ∷ name.Version
-    ∷ name.Label ∷ []
+    ∷ name.Label
+    ∷ name.Medium ∷ name.DataSize ∷ name.DataOffset ∷ name.Format ∷ name.PixelWidth
+    ∷ name.PixelHeight ∷ name.ImageId ∷ name.ImageNumber ∷ name.Compression ∷ name.MoreDataFollows
+    ∷ name.X ∷ name.Y ∷ name.Width ∷ name.Height ∷ name.XOffset ∷ name.YOffset ∷ name.Columns
+    ∷ name.Rows ∷ name.PlacementId ∷ name.ZIndex ∷ name.UnicodePlaceholder ∷ name.BaseFrame
+    ∷ name.FrameNumber ∷ name.Duration ∷ name.CompositionMode ∷ name.BackgroundPixel
+    ∷ name.TargetFrame ∷ name.SourceFrame ∷ name.SourceX ∷ name.SourceY ∷ name.DeletesData
+    ∷ name.FirstImageId ∷ name.LastImageId ∷ name.Verbosity ∷ []
 
 abbrev kinds : List CommandKind
 kinds =
@@ -82,6 +89,40 @@ name_back name.DoNotMoveCursor = refl
 name_back name.Content = refl
 name_back name.Version = refl
 name_back name.Label = refl
+name_back name.Medium = refl
+name_back name.DataSize = refl
+name_back name.DataOffset = refl
+name_back name.Format = refl
+name_back name.PixelWidth = refl
+name_back name.PixelHeight = refl
+name_back name.ImageId = refl
+name_back name.ImageNumber = refl
+name_back name.Compression = refl
+name_back name.MoreDataFollows = refl
+name_back name.X = refl
+name_back name.Y = refl
+name_back name.Width = refl
+name_back name.Height = refl
+name_back name.XOffset = refl
+name_back name.YOffset = refl
+name_back name.Columns = refl
+name_back name.Rows = refl
+name_back name.PlacementId = refl
+name_back name.ZIndex = refl
+name_back name.UnicodePlaceholder = refl
+name_back name.BaseFrame = refl
+name_back name.FrameNumber = refl
+name_back name.Duration = refl
+name_back name.CompositionMode = refl
+name_back name.BackgroundPixel = refl
+name_back name.TargetFrame = refl
+name_back name.SourceFrame = refl
+name_back name.SourceX = refl
+name_back name.SourceY = refl
+name_back name.DeletesData = refl
+name_back name.FirstImageId = refl
+name_back name.LastImageId = refl
+name_back name.Verbosity = refl
 
 pub kind_back : (k : CommandKind) → kind_at (kind_number k) ≡ k
 kind_back kind.Unspecified = refl

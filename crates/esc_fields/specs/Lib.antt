@@ -1,6 +1,10 @@
 pub mod Commands
 pub mod Fields
+pub mod ImageKinds
+pub mod Images
 pub mod Kinds
 pub mod Links
 pub mod Prompts
 pub mod Proprietary
+pub mod Queries
+pub mod Sixels

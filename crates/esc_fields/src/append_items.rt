@@ -3,6 +3,7 @@ ghost use Rattle.std.specs.Prelude.{◌≡◌, OnOk, OnErr};
 ghost use Rattle.std.specs.List.{flat_map};
 ghost use Rattle.esc_fields.specs.Commands.{color_fields, index_fields, pair_fields, part_fields, progress_fields};
 ghost use Rattle.esc_fields.specs.Fields.{with_fields};
+ghost use Rattle.esc_fields.specs.Queries.{query_fields};
 ghost use Rattle.memory.specs.Refusals.{Refused};
 
 use crate::field_name::FieldName;
@@ -137,4 +138,18 @@ pub(crate) fn append_progress<A: Allocator>(
         Progress::SetIndeterminate => fields.push_number(FieldName::ProgressState, 3),
         Progress::Paused => fields.push_number(FieldName::ProgressState, 4),
     }
+}
+
+// The names of capabilities.
+pub(crate) fn append_capabilities<A: Allocator>(
+    names: &[Text<A>],
+    fields: &mut Fields<A>,
+) -> Result<(), AllocError>
+    ensures ok { OnOk result (fields.new ≡ with_fields fields.old (query_fields names.now)) }
+    ensures refused { OnErr result (Refused A) }
+{
+    for name in names {
+        fields.push_text(FieldName::Name, name.as_bytes())?;
+    }
+    Ok(())
 }

@@ -2,8 +2,9 @@
 ghost use Rattle.std.specs.Prelude.{◌≡◌};
 ghost use Rattle.esc_fields.specs.Fields.{name_number};
 
-/// Which part of a command a field is, and what it holds: a number, a flag, which is the number 0 or
-/// 1, a text or a size. The numbers are those of the header for C, so a new name comes last.
+/// Which part of a command or an image a field is, and what it holds: a number, a flag, which is
+/// the number 0 or 1, a text or a size. The numbers are those of the header for C, so a new name
+/// comes last.
 #[derive(Clone, Copy, Debug, PartialEq, Eq)]
 pub enum FieldName {
     /// A text: a title, the name of an icon, a notification, or what goes to the clipboard or the
@@ -85,6 +86,77 @@ pub enum FieldName {
     Version,
     /// A text: the label of a version that is kept or brought back.
     Label,
+    /// A number: what an image is made of, in the order of `KittyImageData`, from 0. Its payload as
+    /// it came, bytes, the path of a file, that of a temporary one, or the name of a shared memory
+    /// object is its `Content`.
+    Medium,
+    /// A number: how many bytes of a file or an object are the image.
+    DataSize,
+    /// A number: how many bytes come before them.
+    DataOffset,
+    /// A number: the format of an image's pixels. 24 RGB, 32 RGBA, 100 a PNG file.
+    Format,
+    /// A number: the width of an image in pixels.
+    PixelWidth,
+    /// A number: its height in pixels.
+    PixelHeight,
+    /// A number: the id of an image.
+    ImageId,
+    /// A number: the number of an image, in place of an id.
+    ImageNumber,
+    /// A number: how an image's pixels are compressed. 0 not at all, 1 by deflate.
+    Compression,
+    /// A flag: whether more of an image follows in further commands.
+    MoreDataFollows,
+    /// A number: a left edge in pixels, or a column from 1 where placements are deleted.
+    X,
+    /// A number: a top edge in pixels, or a row from 1 where placements are deleted.
+    Y,
+    /// A number: the width of the part that is shown or put over others, in pixels.
+    Width,
+    /// A number: its height in pixels.
+    Height,
+    /// A number: how far from the left edge of the first cell an image is shown, in pixels.
+    XOffset,
+    /// A number: how far from its top edge.
+    YOffset,
+    /// A number: how many columns an image is scaled to.
+    Columns,
+    /// A number: how many rows.
+    Rows,
+    /// A number: the id of a placement.
+    PlacementId,
+    /// A number: the order of an image above and below others. It may be negative.
+    ZIndex,
+    /// A flag: whether an image is shown where placeholder characters are.
+    UnicodePlaceholder,
+    /// A number: the frame whose pixels a new one begins with, from 1.
+    BaseFrame,
+    /// A number: the frame that is edited, from 1.
+    FrameNumber,
+    /// A number: how long a frame is shown, in milliseconds.
+    Duration,
+    /// A number: how pixels are put over others. 0 blended, 1 in their place.
+    CompositionMode,
+    /// A number: the colour of a frame's background, as red, green, blue and alpha of 8 bits each,
+    /// red the highest.
+    BackgroundPixel,
+    /// A number: the frame that is changed, from 1.
+    TargetFrame,
+    /// A number: the frame whose pixels are taken, from 1.
+    SourceFrame,
+    /// A number: the left edge of the part that is taken, in pixels.
+    SourceX,
+    /// A number: its top edge in pixels.
+    SourceY,
+    /// A flag: whether the data of an image is deleted too.
+    DeletesData,
+    /// A number: the first of the ids of images that are deleted.
+    FirstImageId,
+    /// A number: the last.
+    LastImageId,
+    /// A number: what is reported of a command. 0 successes and errors, 1 errors alone, 2 nothing.
+    Verbosity,
 }
 
 impl FieldName {

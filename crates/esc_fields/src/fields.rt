@@ -1,18 +1,24 @@
-//! The fields of a command.
+//! The fields of a command, an image or a query.
 ghost use Rattle.std.specs.Prelude.{◌≡◌, ◌++◌, ◌∷◌, [], IfOk, OnOk, OnErr};
 ghost use Rattle.esc_fields.specs.Commands.{fields_of};
 ghost use Rattle.esc_fields.specs.Fields.{flag_field, signed_field, size_field, table_of, text_field, with_field};
+ghost use Rattle.esc_fields.specs.Images.{fields_of_image};
+ghost use Rattle.esc_fields.specs.Queries.{query_fields};
 ghost use Rattle.memory.specs.Refusals.{Refused};
 
 use crate::append::append;
+use crate::append_image::append_image;
+use crate::append_items::append_capabilities;
 use crate::field_name::FieldName;
 use crate::field_row::{FieldRow, NUMBER, SIZE, TEXT};
+use esc_kitty::KittyImage;
 use esc_osc::OperatingSystemCommand;
+use esc_values::Text;
 use std::alloc::{AllocError, Allocator, Global};
 use std::marker::Model;
 
-/// The fields of a command: a row for each, and their texts one after another. Contracts see the
-/// rows and that text.
+/// The fields of a command, an image or a query: a row for each, and their texts one after another.
+/// Contracts see the rows and that text.
 #[derive(Drop)]
 pub struct Fields<A: Allocator = Global> {
     rows: Vec<FieldRow, A>,
@@ -36,6 +42,29 @@ impl<A: Allocator + Copy> Fields<A> {
     {
         let mut fields = Fields::new(alloc);
         append(command, &mut fields)?;
+        Ok(fields)
+    }
+
+    /// The fields of this image of kitty's; none where it is none. The error is that memory was
+    /// refused.
+    pub fn of_image(alloc: A, image: &Option<KittyImage<A>>) -> Result<Fields<A>, AllocError>
+        ensures ok { IfOk result (λ f. f ≡ table_of (fields_of_image image.now)) }
+        ensures refused { OnErr result (Refused A) }
+    {
+        let mut fields = Fields::new(alloc);
+        if let Some(image) = image {
+            append_image(image, &mut fields)?;
+        }
+        Ok(fields)
+    }
+
+    /// The fields of a termcap query for these names. The error is that memory was refused.
+    pub fn of_names(alloc: A, names: &[Text<A>]) -> Result<Fields<A>, AllocError>
+        ensures ok { IfOk result (λ f. f ≡ table_of (query_fields names.now)) }
+        ensures refused { OnErr result (Refused A) }
+    {
+        let mut fields = Fields::new(alloc);
+        append_capabilities(names, &mut fields)?;
         Ok(fields)
     }
 

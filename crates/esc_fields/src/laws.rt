@@ -1,9 +1,16 @@
-//! Laws of fields: rows say what fields hold, and fields are the whole of a command.
-ghost use Rattle.std.specs.Prelude.{◌≡◌, List, map};
+//! Laws of fields: rows say what fields hold, fields are the whole of a command, an
+//! image and a query, and so is a row of a piece of sixel data.
+ghost use Rattle.std.specs.Prelude.{◌≡◌, ℕ, List, Option, map};
 ghost use Rattle.esc_fields.specs.Commands.{fields_of};
 ghost use Rattle.esc_fields.specs.Fields.{Field, named, said, table_of};
 ghost use Rattle.esc_fields.specs.Kinds.{kind_number, kind_of};
+ghost use Rattle.esc_fields.specs.ImageKinds.{image_kind, image_number};
+ghost use Rattle.esc_fields.specs.Images.{fields_of_image};
+ghost use Rattle.esc_fields.specs.Queries.{query_fields};
+ghost use Rattle.esc_fields.specs.Sixels.{sixel_row};
+ghost use Rattle.esc_kitty.specs.declared.image.KittyImage.{KittyImage};
 ghost use Rattle.esc_osc.specs.declared.command.OperatingSystemCommand.{OperatingSystemCommand};
+ghost use Rattle.esc_sixel.specs.declared.sixel_data.SixelData.{SixelData};
 
 use std::alloc::Allocator;
 
@@ -19,4 +26,25 @@ pub fn rows_say()
 pub fn are_whole<A: Allocator>()
     ensures { (c d : OperatingSystemCommand A) → kind_number (kind_of c) ≡ kind_number (kind_of d)
         → table_of (fields_of c) ≡ table_of (fields_of d) → c ≡ d }
+{}
+
+/// So they are of an image of kitty's, or of none.
+#[tactic(auto, using(crate::proofs::ImagesWhole::images_whole))]
+pub fn images_are_whole<A: Allocator>()
+    ensures { (i j : Option (KittyImage A))
+        → image_number (image_kind i) ≡ image_number (image_kind j)
+        → table_of (fields_of_image i) ≡ table_of (fields_of_image j) → i ≡ j }
+{}
+
+/// A row is the whole of a piece of sixel data.
+#[tactic(auto, using(crate::proofs::SixelsFound::sixels_whole))]
+pub fn sixel_rows_are_whole()
+    ensures { (d e : SixelData) → sixel_row d ≡ sixel_row e → d ≡ e }
+{}
+
+/// The rows of the fields of a termcap query and their texts are the whole of it.
+#[tactic(auto, using(crate::proofs::SixelsFound::queries_whole))]
+pub fn queries_are_whole()
+    ensures { (ns ms : List (List ℕ)) → table_of (query_fields ns) ≡ table_of (query_fields ms)
+        → ns ≡ ms }
 {}

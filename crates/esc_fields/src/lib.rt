@@ -1,9 +1,11 @@
-//! The value of an operating system command as a flat list of fields, for callers that have no
-//! enums with values: a kind, rows of numbers and places, and one text.
+//! The value of an operating system command, an image of kitty's or a termcap query as a flat list
+//! of fields, for callers that have no enums with values: a kind, rows of numbers and places, and
+//! one text; and sixel data as rows.
 //!
-//! Each command has a [`CommandKind`], also each command of iTerm2 and each prompt. [`Fields`]
-//! holds its parts, each under a [`FieldName`], in order: what is optional is a field that is
-//! absent, and the items of a list come one after another.
+//! Each command has a [`CommandKind`], also each command of iTerm2 and each prompt, and each image
+//! an [`ImageKind`]. [`Fields`] holds its parts, each under a [`FieldName`], in order: what is
+//! optional is a field that is absent, and the items of a list come one after another. A piece of
+//! sixel data is a [`SixelRow`].
 //!
 //! Of `OperatingSystemCommand::SetSelection(Selection::CLIPBOARD, text)`, where the text is `hi`,
 //! the fields `Fields::of(alloc, &command)?` are `FieldName::Selection` with the number 2 and
@@ -11,18 +13,26 @@
 #![tactic(auto)]
 
 mod append;
+mod append_delete;
 mod append_file;
+mod append_image;
 mod append_items;
 mod append_link;
+mod append_numbers;
 mod append_prompt;
 mod append_proprietary;
 pub mod command_kind;
 pub mod field_name;
 pub mod field_row;
 pub mod fields;
+pub mod image_kind;
+mod image_numbers;
 pub mod laws;
+pub mod sixel_row;
 
 pub use command_kind::CommandKind;
 pub use field_name::FieldName;
 pub use field_row::{FieldRow, NUMBER, SIZE, TEXT};
 pub use fields::Fields;
+pub use image_kind::ImageKind;
+pub use sixel_row::SixelRow;

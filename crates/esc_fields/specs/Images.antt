@@ -1,0 +1,200 @@
+-- The fields of kitty's images.
+use Rattle.std.specs.Prelude.{ℕ, ℤ, pos, Bool, List, [], ◌∷◌, ◌++◌, Option, Some, None}
+use Rattle.std.specs.List.{flat_map}
+use Rattle.std.specs.Option.{option_map}
+use Rattle.esc_kitty.specs.Texts.{offset_in, size_in}
+use Rattle.esc_kitty.specs.declared.compose.KittyImageFrameCompose.{KittyImageFrameCompose}
+use Rattle.esc_kitty.specs.declared.composition.KittyFrameCompositionMode.{KittyFrameCompositionMode}
+use Rattle.esc_kitty.specs.declared.composition.KittyFrameCompositionMode.TheVariants.{AlphaBlending, Overwrite}
+use Rattle.esc_kitty.specs.declared.compression.KittyImageCompression.{KittyImageCompression}
+use Rattle.esc_kitty.specs.declared.compression.KittyImageCompression.TheVariants as compression
+use Rattle.esc_kitty.specs.declared.content.KittyImageData.{KittyImageData}
+use Rattle.esc_kitty.specs.declared.content.KittyImageData.TheVariants.{Direct, DirectBin, File, TemporaryFile, SharedMem}
+use Rattle.esc_kitty.specs.declared.delete.KittyImageDelete.{KittyImageDelete}
+use Rattle.esc_kitty.specs.declared.delete.KittyImageDelete.TheVariants as delete
+use Rattle.esc_kitty.specs.declared.format.KittyImageFormat.{KittyImageFormat}
+use Rattle.esc_kitty.specs.declared.format.KittyImageFormat.TheVariants.{Rgb, Rgba, Png}
+use Rattle.esc_kitty.specs.declared.frame.KittyImageFrame.{KittyImageFrame}
+use Rattle.esc_kitty.specs.declared.image.KittyImage.{KittyImage}
+use Rattle.esc_kitty.specs.declared.image.KittyImage.TheVariants as image
+use Rattle.esc_kitty.specs.declared.placement.KittyImagePlacement.{KittyImagePlacement}
+use Rattle.esc_kitty.specs.declared.transmit.KittyImageTransmit.{KittyImageTransmit}
+use Rattle.esc_kitty.specs.declared.verbosity.KittyImageVerbosity.{KittyImageVerbosity}
+use Rattle.esc_kitty.specs.declared.verbosity.KittyImageVerbosity.TheVariants.{Verbose, OnlyErrors, Quiet}
+use Rattle.esc_fields.specs.Fields.{Field, flag_number, signed_field, text_field}
+use Rattle.esc_fields.specs.declared.field_name.FieldName.{FieldName}
+use Rattle.esc_fields.specs.declared.field_name.FieldName.TheVariants as name
+
+-- names, each with its number where it has one
+abbrev pub Numbers : Type 0
+Numbers = List (FieldName × Option ℤ)
+
+-- a field, where there is a number, and those of several
+abbrev pub optional_field : FieldName → Option ℤ → List Field
+optional_field n None = []
+optional_field n (Some z) = signed_field n z ∷ []
+
+abbrev pub given : FieldName × Option ℤ → List Field
+given s = optional_field s.0 s.1
+
+abbrev pub number_fields : Numbers → List Field
+number_fields ns = flat_map given ns
+
+-- a number from 0 up where there is one, one that is always there, and a flag, which is always
+-- there
+abbrev pub counted : Option ℕ → Option ℤ
+counted o = option_map pos o
+
+abbrev pub known : ℕ → Option ℤ
+known n = Some (pos n)
+
+abbrev pub flagged : Bool → Option ℤ
+flagged b = Some (flag_number b)
+
+-- the numbers of what the protocol has words for: of formats and of what is reported they are those
+-- of the protocol
+abbrev pub verbosity_number : KittyImageVerbosity → ℕ
+verbosity_number Verbose = 0
+verbosity_number OnlyErrors = 1
+verbosity_number Quiet = 2
+
+abbrev pub format_number : KittyImageFormat → ℕ
+format_number Rgb = 24
+format_number Rgba = 32
+format_number Png = 100
+
+abbrev pub compression_number : KittyImageCompression → ℕ
+compression_number compression.None = 0
+compression_number compression.Deflate = 1
+
+abbrev pub composition_number : KittyFrameCompositionMode → ℕ
+composition_number AlphaBlending = 0
+composition_number Overwrite = 1
+
+module _ {A : Type 0} where
+  -- what an image is made of: which of five it is, and its text
+  abbrev pub medium_number : KittyImageData A → ℕ
+  medium_number (Direct t) = 0
+  medium_number (DirectBin t) = 1
+  medium_number (File t s o) = 2
+  medium_number (TemporaryFile t s o) = 3
+  medium_number (SharedMem t s o) = 4
+
+  abbrev pub bytes_of : KittyImageData A → List ℕ
+  bytes_of (Direct t) = t
+  bytes_of (DirectBin t) = t
+  bytes_of (File t s o) = t
+  bytes_of (TemporaryFile t s o) = t
+  bytes_of (SharedMem t s o) = t
+
+  -- an image on its way: its text, and its numbers
+  abbrev pub content_field : KittyImageTransmit A → Field
+  content_field t = text_field name.Content (bytes_of t.content)
+
+  abbrev pub transmit_numbers : KittyImageTransmit A → Numbers
+  transmit_numbers t =
+      (name.Medium, known (medium_number t.content))
+      ∷ (name.DataSize, counted (size_in t.content))
+      ∷ (name.DataOffset, counted (offset_in t.content))
+      ∷ (name.Format, counted (option_map format_number t.format))
+      ∷ (name.PixelWidth, counted t.width)
+      ∷ (name.PixelHeight, counted t.height)
+      ∷ (name.ImageId, counted t.image_id)
+      ∷ (name.ImageNumber, counted t.image_number)
+      ∷ (name.Compression, known (compression_number t.compression))
+      ∷ (name.MoreDataFollows, flagged t.more_data_follows) ∷ []
+
+-- how an image is shown
+abbrev pub placement_numbers : KittyImagePlacement → Numbers
+placement_numbers p =
+    (name.X, counted p.x)
+    ∷ (name.Y, counted p.y)
+    ∷ (name.Width, counted p.w)
+    ∷ (name.Height, counted p.h)
+    ∷ (name.XOffset, counted p.x_offset)
+    ∷ (name.YOffset, counted p.y_offset)
+    ∷ (name.Columns, counted p.columns)
+    ∷ (name.Rows, counted p.rows)
+    ∷ (name.PlacementId, counted p.placement_id)
+    ∷ (name.DoNotMoveCursor, flagged p.do_not_move_cursor)
+    ∷ (name.ZIndex, p.z_index)
+    ∷ (name.UnicodePlaceholder, flagged p.unicode_placeholder) ∷ []
+
+-- a frame that is sent, and frames that are put over others
+abbrev pub frame_numbers : KittyImageFrame → Numbers
+frame_numbers f =
+    (name.X, counted f.x)
+    ∷ (name.Y, counted f.y)
+    ∷ (name.BaseFrame, counted f.base_frame)
+    ∷ (name.FrameNumber, counted f.frame_number)
+    ∷ (name.Duration, counted f.duration_ms)
+    ∷ (name.CompositionMode, known (composition_number f.composition_mode))
+    ∷ (name.BackgroundPixel, counted f.background_pixel) ∷ []
+
+abbrev pub compose_numbers : KittyImageFrameCompose → Numbers
+compose_numbers c =
+    (name.ImageId, counted c.image_id)
+    ∷ (name.ImageNumber, counted c.image_number)
+    ∷ (name.TargetFrame, counted c.target_frame)
+    ∷ (name.SourceFrame, counted c.source_frame)
+    ∷ (name.X, counted c.x)
+    ∷ (name.Y, counted c.y)
+    ∷ (name.Width, counted c.w)
+    ∷ (name.Height, counted c.h)
+    ∷ (name.SourceX, counted c.src_x)
+    ∷ (name.SourceY, counted c.src_y)
+    ∷ (name.CompositionMode, known (composition_number c.composition_mode)) ∷ []
+
+-- what is deleted, and whether its data too
+abbrev pub delete_numbers : KittyImageDelete → Numbers
+delete_numbers (delete.All d) = (name.DeletesData, flagged d) ∷ []
+delete_numbers (delete.ByImageId i p d) =
+    (name.ImageId, known i) ∷ (name.PlacementId, counted p) ∷ (name.DeletesData, flagged d) ∷ []
+delete_numbers (delete.ByImageNumber n p d) =
+    (name.ImageNumber, known n) ∷ (name.PlacementId, counted p) ∷ (name.DeletesData, flagged d)
+    ∷ []
+delete_numbers (delete.AtCursorPosition d) = (name.DeletesData, flagged d) ∷ []
+delete_numbers (delete.AnimationFrames d) = (name.DeletesData, flagged d) ∷ []
+delete_numbers (delete.DeleteAt x y d) =
+    (name.X, known x) ∷ (name.Y, known y) ∷ (name.DeletesData, flagged d) ∷ []
+delete_numbers (delete.DeleteAtZ x y z d) =
+    (name.X, known x) ∷ (name.Y, known y) ∷ (name.ZIndex, Some z)
+    ∷ (name.DeletesData, flagged d) ∷ []
+delete_numbers (delete.DeleteColumn x d) =
+    (name.X, known x) ∷ (name.DeletesData, flagged d) ∷ []
+delete_numbers (delete.DeleteRow y d) = (name.Y, known y) ∷ (name.DeletesData, flagged d) ∷ []
+delete_numbers (delete.DeleteZ z d) = (name.ZIndex, Some z) ∷ (name.DeletesData, flagged d) ∷ []
+delete_numbers (delete.ByImageIdRange f l d) =
+    (name.FirstImageId, known f) ∷ (name.LastImageId, known l) ∷ (name.DeletesData, flagged d)
+    ∷ []
+
+-- the id and the number of an image that is kept
+abbrev pub id_numbers : Option ℕ → Option ℕ → Numbers
+id_numbers i n = (name.ImageId, counted i) ∷ (name.ImageNumber, counted n) ∷ []
+
+-- what is reported
+abbrev pub verbosity_numbers : KittyImageVerbosity → Numbers
+verbosity_numbers v = (name.Verbosity, known (verbosity_number v)) ∷ []
+
+module _ {A : Type 0} where
+  -- The fields of an image: the text of what is transmitted, and numbers by name, of which those
+  -- that are not given are absent. With its kind they are the whole of it, as the law
+  -- `images_are_whole` says.
+  abbrev pub image_fields : KittyImage A → List Field
+  image_fields (image.TransmitData t v) =
+      content_field t ∷ number_fields (transmit_numbers t ++ verbosity_numbers v)
+  image_fields (image.TransmitDataAndDisplay t p v) = content_field t
+      ∷ number_fields (transmit_numbers t ++ (placement_numbers p ++ verbosity_numbers v))
+  image_fields (image.Display i n p v) =
+      number_fields (id_numbers i n ++ (placement_numbers p ++ verbosity_numbers v))
+  image_fields (image.Delete w v) = number_fields (delete_numbers w ++ verbosity_numbers v)
+  image_fields (image.Query t) = content_field t ∷ number_fields (transmit_numbers t)
+  image_fields (image.TransmitFrame t f v) = content_field t
+      ∷ number_fields (transmit_numbers t ++ (frame_numbers f ++ verbosity_numbers v))
+  image_fields (image.ComposeFrame f v) =
+      number_fields (compose_numbers f ++ verbosity_numbers v)
+
+  -- and of none
+  abbrev pub fields_of_image : Option (KittyImage A) → List Field
+  fields_of_image None = []
+  fields_of_image (Some i) = image_fields i

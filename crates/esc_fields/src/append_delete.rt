@@ -1,0 +1,120 @@
+//! The fields of deletions of kitty's images. An error is that memory was refused.
+ghost use Rattle.std.specs.Prelude.{◌≡◌, [], ◌∷◌, OnOk, OnErr};
+ghost use Rattle.esc_fields.specs.Fields.{with_fields};
+ghost use Rattle.esc_fields.specs.Images.{counted, delete_numbers, flagged, known, number_fields};
+ghost use Rattle.esc_fields.specs.declared.field_name.FieldName.TheVariants as name;
+ghost use Rattle.memory.specs.Refusals.{Refused};
+
+use crate::append_numbers::append_numbers;
+use crate::field_name::FieldName;
+use crate::fields::Fields;
+use crate::image_numbers::{counted, flagged, known};
+use esc_kitty::KittyImageDelete as Delete;
+use std::alloc::{AllocError, Allocator};
+
+// What is deleted.
+pub(crate) fn append_delete<A: Allocator>(
+    what: &Delete,
+    fields: &mut Fields<A>,
+) -> Result<(), AllocError>
+    ensures ok { OnOk result (fields.new
+        ≡ with_fields fields.old (number_fields (delete_numbers what.now))) }
+    ensures refused { OnErr result (Refused A) }
+{
+    match what {
+        Delete::All { delete }
+        | Delete::AtCursorPosition { delete }
+        | Delete::AnimationFrames { delete } => append_flag(*delete, fields),
+        Delete::DeleteZ { z, delete } => {
+            fields.push_number(FieldName::ZIndex, i64::from(*z))?;
+            append_flag(*delete, fields)
+        }
+        Delete::DeleteColumn { x, delete } => append_one(FieldName::X, *x, *delete, fields),
+        Delete::DeleteRow { y, delete } => append_one(FieldName::Y, *y, *delete, fields),
+        Delete::ByImageId {
+            image_id,
+            placement_id,
+            delete,
+        } => append_image_id(
+            FieldName::ImageId,
+            *image_id,
+            *placement_id,
+            *delete,
+            fields,
+        ),
+        Delete::ByImageNumber {
+            image_number,
+            placement_id,
+            delete,
+        } => append_image_id(
+            FieldName::ImageNumber,
+            *image_number,
+            *placement_id,
+            *delete,
+            fields,
+        ),
+        Delete::DeleteAt { x, y, delete } => {
+            fields.push_number(FieldName::X, i64::from(*x))?;
+            append_one(FieldName::Y, *y, *delete, fields)
+        }
+        Delete::DeleteAtZ { x, y, z, delete } => {
+            fields.push_number(FieldName::X, i64::from(*x))?;
+            fields.push_number(FieldName::Y, i64::from(*y))?;
+            fields.push_number(FieldName::ZIndex, i64::from(*z))?;
+            append_flag(*delete, fields)
+        }
+        Delete::ByImageIdRange {
+            first,
+            last,
+            delete,
+        } => {
+            fields.push_number(FieldName::FirstImageId, i64::from(*first))?;
+            append_one(FieldName::LastImageId, *last, *delete, fields)
+        }
+    }
+}
+
+// Whether the data too.
+fn append_flag<A: Allocator>(delete: bool, fields: &mut Fields<A>) -> Result<(), AllocError>
+    ensures ok { OnOk result (fields.new
+        ≡ with_fields fields.old (number_fields ((name.DeletesData, flagged delete) ∷ []))) }
+    ensures refused { OnErr result (Refused A) }
+{
+    fields.push_flag(FieldName::DeletesData, delete)
+}
+
+// A number, and whether the data too.
+fn append_one<A: Allocator>(
+    part: FieldName,
+    number: u32,
+    delete: bool,
+    fields: &mut Fields<A>,
+) -> Result<(), AllocError>
+    ensures ok { OnOk result (fields.new ≡ with_fields fields.old (number_fields
+        ((part, known number) ∷ (name.DeletesData, flagged delete) ∷ []))) }
+    ensures refused { OnErr result (Refused A) }
+{
+    fields.push_number(part, i64::from(number))?;
+    append_flag(delete, fields)
+}
+
+// An image by its id or its number, a placement of it where one is given, and whether the data too.
+fn append_image_id<A: Allocator>(
+    part: FieldName,
+    number: u32,
+    placement: Option<u32>,
+    delete: bool,
+    fields: &mut Fields<A>,
+) -> Result<(), AllocError>
+    ensures ok { OnOk result (fields.new ≡ with_fields fields.old (number_fields
+        ((part, known number) ∷ (name.PlacementId, counted placement)
+        ∷ (name.DeletesData, flagged delete) ∷ []))) }
+    ensures refused { OnErr result (Refused A) }
+{
+    let numbers = [
+        (part, known(number)),
+        (FieldName::PlacementId, counted(placement)),
+        (FieldName::DeletesData, flagged(delete)),
+    ];
+    append_numbers(&numbers, fields)
+}

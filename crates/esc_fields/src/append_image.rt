@@ -1,0 +1,170 @@
+//! The fields of kitty's images. An error is that memory was refused.
+ghost use Rattle.std.specs.Prelude.{◌≡◌, OnOk, OnErr};
+ghost use Rattle.esc_fields.specs.Fields.{with_fields};
+ghost use Rattle.esc_fields.specs.Images.{id_numbers, image_fields, number_fields, verbosity_numbers};
+ghost use Rattle.esc_kitty.specs.declared.image.KittyImage.TheVariants as image;
+ghost use Rattle.memory.specs.Refusals.{Refused};
+
+use crate::append_delete::append_delete;
+use crate::append_numbers::{
+    append_compose, append_frame, append_numbers, append_placement, append_transmit,
+};
+use crate::field_name::FieldName;
+use crate::fields::Fields;
+use crate::image_numbers::{counted, verbosity_number};
+use esc_kitty::{
+    KittyImage, KittyImageFrame, KittyImageFrameCompose, KittyImagePlacement, KittyImageTransmit,
+    KittyImageVerbosity,
+};
+use std::alloc::{AllocError, Allocator};
+
+// Appends the fields of an image.
+#[tactic(auto, using(crate::proofs::Images::more_numbers))]
+pub(crate) fn append_image<A: Allocator>(
+    image: &KittyImage<A>,
+    fields: &mut Fields<A>,
+) -> Result<(), AllocError>
+    ensures ok { OnOk result (fields.new ≡ with_fields fields.old (image_fields image.now)) }
+    ensures refused { OnErr result (Refused A) }
+{
+    match image {
+        KittyImage::TransmitData {
+            transmit,
+            verbosity,
+        } => append_kept(transmit, *verbosity, fields),
+        KittyImage::TransmitDataAndDisplay {
+            transmit,
+            placement,
+            verbosity,
+        } => append_shown(transmit, placement, *verbosity, fields),
+        KittyImage::Display {
+            image_id,
+            image_number,
+            placement,
+            verbosity,
+        } => append_display(*image_id, *image_number, placement, *verbosity, fields),
+        KittyImage::Delete { what, verbosity } => {
+            append_delete(what, fields)?;
+            append_verbosity(*verbosity, fields)
+        }
+        KittyImage::Query { transmit } => append_transmit(transmit, fields),
+        KittyImage::TransmitFrame {
+            transmit,
+            frame,
+            verbosity,
+        } => append_sent(transmit, frame, *verbosity, fields),
+        KittyImage::ComposeFrame { frame, verbosity } => {
+            append_composed(frame, *verbosity, fields)
+        }
+    }
+}
+
+// What is reported.
+fn append_verbosity<A: Allocator>(
+    verbosity: KittyImageVerbosity,
+    fields: &mut Fields<A>,
+) -> Result<(), AllocError>
+    ensures ok { OnOk result (fields.new
+        ≡ with_fields fields.old (number_fields (verbosity_numbers verbosity))) }
+    ensures refused { OnErr result (Refused A) }
+{
+    append_numbers(
+        &[(FieldName::Verbosity, verbosity_number(verbosity))],
+        fields,
+    )
+}
+
+// An image that is kept.
+#[tactic(auto, using(crate::proofs::Images::more_after_content))]
+fn append_kept<A: Allocator>(
+    transmit: &KittyImageTransmit<A>,
+    verbosity: KittyImageVerbosity,
+    fields: &mut Fields<A>,
+) -> Result<(), AllocError>
+    ensures ok { OnOk result (fields.new
+        ≡ with_fields fields.old (image_fields (image.TransmitData transmit.now verbosity))) }
+    ensures refused { OnErr result (Refused A) }
+{
+    append_transmit(transmit, fields)?;
+    append_verbosity(verbosity, fields)
+}
+
+// An image that is kept and shown.
+fn append_shown<A: Allocator>(
+    transmit: &KittyImageTransmit<A>,
+    placement: &KittyImagePlacement,
+    verbosity: KittyImageVerbosity,
+    fields: &mut Fields<A>,
+) -> Result<(), AllocError>
+    ensures ok { OnOk result (fields.new ≡ with_fields fields.old (image_fields
+        (image.TransmitDataAndDisplay transmit.now placement.now verbosity))) }
+    ensures refused { OnErr result (Refused A) }
+{
+    append_transmit(transmit, fields)?;
+    append_placement(placement, fields)?;
+    append_verbosity(verbosity, fields)
+}
+
+// A kept image that is shown.
+fn append_display<A: Allocator>(
+    image_id: Option<u32>,
+    image_number: Option<u32>,
+    placement: &KittyImagePlacement,
+    verbosity: KittyImageVerbosity,
+    fields: &mut Fields<A>,
+) -> Result<(), AllocError>
+    ensures ok { OnOk result (fields.new ≡ with_fields fields.old (image_fields {A = A}
+        (image.Display image_id image_number placement.now verbosity))) }
+    ensures refused { OnErr result (Refused A) }
+{
+    append_ids(image_id, image_number, fields)?;
+    append_placement(placement, fields)?;
+    append_verbosity(verbosity, fields)
+}
+
+// The id and the number of an image, where they are given.
+fn append_ids<A: Allocator>(
+    image_id: Option<u32>,
+    image_number: Option<u32>,
+    fields: &mut Fields<A>,
+) -> Result<(), AllocError>
+    ensures ok { OnOk result (fields.new
+        ≡ with_fields fields.old (number_fields (id_numbers image_id image_number))) }
+    ensures refused { OnErr result (Refused A) }
+{
+    let ids = [
+        (FieldName::ImageId, counted(image_id)),
+        (FieldName::ImageNumber, counted(image_number)),
+    ];
+    append_numbers(&ids, fields)
+}
+
+// A frame that is kept.
+fn append_sent<A: Allocator>(
+    transmit: &KittyImageTransmit<A>,
+    frame: &KittyImageFrame,
+    verbosity: KittyImageVerbosity,
+    fields: &mut Fields<A>,
+) -> Result<(), AllocError>
+    ensures ok { OnOk result (fields.new ≡ with_fields fields.old (image_fields
+        (image.TransmitFrame transmit.now frame.now verbosity))) }
+    ensures refused { OnErr result (Refused A) }
+{
+    append_transmit(transmit, fields)?;
+    append_frame(frame, fields)?;
+    append_verbosity(verbosity, fields)
+}
+
+// Frames that are put over others.
+fn append_composed<A: Allocator>(
+    frame: &KittyImageFrameCompose,
+    verbosity: KittyImageVerbosity,
+    fields: &mut Fields<A>,
+) -> Result<(), AllocError>
+    ensures ok { OnOk result (fields.new ≡ with_fields fields.old
+        (image_fields {A = A} (image.ComposeFrame frame.now verbosity))) }
+    ensures refused { OnErr result (Refused A) }
+{
+    append_compose(frame, fields)?;
+    append_verbosity(verbosity, fields)
+}

@@ -1,0 +1,147 @@
+//! The fields of numbers by name, and of the parts of kitty's images. An error is that memory was
+//! refused.
+ghost use Rattle.std.specs.Prelude.{◌≡◌, ◌∷◌, OnOk, OnErr};
+ghost use Rattle.esc_fields.specs.Fields.{with_fields};
+ghost use Rattle.esc_fields.specs.Images.{compose_numbers, content_field, delete_numbers, frame_numbers, number_fields, placement_numbers, transmit_numbers};
+ghost use Rattle.memory.specs.Refusals.{Refused};
+
+use crate::field_name::FieldName;
+use crate::fields::Fields;
+use crate::image_numbers::{
+    bytes, composition, compression, counted, data_offset, data_size, flagged, format, medium,
+};
+use esc_kitty::{KittyImageFrame, KittyImageFrameCompose, KittyImagePlacement, KittyImageTransmit};
+use std::alloc::{AllocError, Allocator};
+
+// Numbers, each where it is given.
+pub(crate) fn append_numbers<A: Allocator>(
+    numbers: &[(FieldName, Option<i64>)],
+    fields: &mut Fields<A>,
+) -> Result<(), AllocError>
+    ensures ok { OnOk result (fields.new ≡ with_fields fields.old (number_fields numbers.now)) }
+    ensures refused { OnErr result (Refused A) }
+{
+    for (name, number) in numbers {
+        if let Some(number) = number {
+            fields.push_number(*name, *number)?;
+        }
+    }
+    Ok(())
+}
+
+// An image on its way to the terminal.
+pub(crate) fn append_transmit<A: Allocator>(
+    transmit: &KittyImageTransmit<A>,
+    fields: &mut Fields<A>,
+) -> Result<(), AllocError>
+    ensures ok { OnOk result (fields.new ≡ with_fields fields.old
+        (content_field transmit.now ∷ number_fields (transmit_numbers transmit.now))) }
+    ensures refused { OnErr result (Refused A) }
+{
+    let content = &transmit.content;
+    fields.push_text(FieldName::Content, bytes(content))?;
+    let numbers = [
+        (FieldName::Medium, medium(content)),
+        (FieldName::DataSize, data_size(content)),
+        (FieldName::DataOffset, data_offset(content)),
+        (FieldName::Format, format(transmit.format)),
+        (FieldName::PixelWidth, counted(transmit.width)),
+        (FieldName::PixelHeight, counted(transmit.height)),
+        (FieldName::ImageId, counted(transmit.image_id)),
+        (FieldName::ImageNumber, counted(transmit.image_number)),
+        (FieldName::Compression, compression(transmit.compression)),
+        (
+            FieldName::MoreDataFollows,
+            flagged(transmit.more_data_follows),
+        ),
+    ];
+    append_numbers(&numbers, fields)
+}
+
+// How an image is shown.
+pub(crate) fn append_placement<A: Allocator>(
+    placement: &KittyImagePlacement,
+    fields: &mut Fields<A>,
+) -> Result<(), AllocError>
+    ensures ok { OnOk result (fields.new
+        ≡ with_fields fields.old (number_fields (placement_numbers placement.now))) }
+    ensures refused { OnErr result (Refused A) }
+{
+    let z_index = match placement.z_index {
+        Some(z) => Some(i64::from(z)),
+        None => None,
+    };
+    let numbers = [
+        (FieldName::X, counted(placement.x)),
+        (FieldName::Y, counted(placement.y)),
+        (FieldName::Width, counted(placement.w)),
+        (FieldName::Height, counted(placement.h)),
+        (FieldName::XOffset, counted(placement.x_offset)),
+        (FieldName::YOffset, counted(placement.y_offset)),
+        (FieldName::Columns, counted(placement.columns)),
+        (FieldName::Rows, counted(placement.rows)),
+        (FieldName::PlacementId, counted(placement.placement_id)),
+        (
+            FieldName::DoNotMoveCursor,
+            flagged(placement.do_not_move_cursor),
+        ),
+        (FieldName::ZIndex, z_index),
+        (
+            FieldName::UnicodePlaceholder,
+            flagged(placement.unicode_placeholder),
+        ),
+    ];
+    append_numbers(&numbers, fields)
+}
+
+// A frame that is sent.
+pub(crate) fn append_frame<A: Allocator>(
+    frame: &KittyImageFrame,
+    fields: &mut Fields<A>,
+) -> Result<(), AllocError>
+    ensures ok { OnOk result (fields.new
+        ≡ with_fields fields.old (number_fields (frame_numbers frame.now))) }
+    ensures refused { OnErr result (Refused A) }
+{
+    let numbers = [
+        (FieldName::X, counted(frame.x)),
+        (FieldName::Y, counted(frame.y)),
+        (FieldName::BaseFrame, counted(frame.base_frame)),
+        (FieldName::FrameNumber, counted(frame.frame_number)),
+        (FieldName::Duration, counted(frame.duration_ms)),
+        (
+            FieldName::CompositionMode,
+            composition(frame.composition_mode),
+        ),
+        (FieldName::BackgroundPixel, counted(frame.background_pixel)),
+    ];
+    append_numbers(&numbers, fields)
+}
+
+// Frames that are put over others.
+pub(crate) fn append_compose<A: Allocator>(
+    frame: &KittyImageFrameCompose,
+    fields: &mut Fields<A>,
+) -> Result<(), AllocError>
+    ensures ok { OnOk result (fields.new
+        ≡ with_fields fields.old (number_fields (compose_numbers frame.now))) }
+    ensures refused { OnErr result (Refused A) }
+{
+    let numbers = [
+        (FieldName::ImageId, counted(frame.image_id)),
+        (FieldName::ImageNumber, counted(frame.image_number)),
+        (FieldName::TargetFrame, counted(frame.target_frame)),
+        (FieldName::SourceFrame, counted(frame.source_frame)),
+        (FieldName::X, counted(frame.x)),
+        (FieldName::Y, counted(frame.y)),
+        (FieldName::Width, counted(frame.w)),
+        (FieldName::Height, counted(frame.h)),
+        (FieldName::SourceX, counted(frame.src_x)),
+        (FieldName::SourceY, counted(frame.src_y)),
+        (
+            FieldName::CompositionMode,
+            composition(frame.composition_mode),
+        ),
+    ];
+    append_numbers(&numbers, fields)
+}

@@ -1,0 +1,128 @@
+//! The numbers of what kitty's protocol has words for.
+ghost use Rattle.std.specs.Prelude.{◌≡◌, pos};
+ghost use Rattle.std.specs.Option.{option_map};
+ghost use Rattle.esc_fields.specs.Images.{bytes_of, composition_number, compression_number, counted, flagged, format_number, known, medium_number, verbosity_number};
+ghost use Rattle.esc_kitty.specs.Texts.{offset_in, size_in};
+
+use esc_kitty::{
+    KittyFrameCompositionMode, KittyImageCompression, KittyImageData, KittyImageFormat,
+    KittyImageVerbosity,
+};
+use std::alloc::Allocator;
+
+// A number from 0 up, where there is one.
+pub(crate) fn counted(number: Option<u32>) -> Option<i64>
+    ensures { result ≡ counted number }
+{
+    match number {
+        Some(number) => Some(i64::from(number)),
+        None => None,
+    }
+}
+
+// A number from 0 up.
+pub(crate) fn known(number: u32) -> Option<i64>
+    ensures { result ≡ known number }
+{
+    Some(i64::from(number))
+}
+
+// A flag.
+pub(crate) fn flagged(flag: bool) -> Option<i64>
+    ensures { result ≡ flagged flag }
+{
+    Some(if flag { 1 } else { 0 })
+}
+
+// What is reported.
+pub(crate) fn verbosity_number(verbosity: KittyImageVerbosity) -> Option<i64>
+    ensures { result ≡ known (verbosity_number verbosity) }
+{
+    match verbosity {
+        KittyImageVerbosity::Verbose => Some(0),
+        KittyImageVerbosity::OnlyErrors => Some(1),
+        KittyImageVerbosity::Quiet => Some(2),
+    }
+}
+
+// The format of pixels, where it is given.
+pub(crate) fn format(format: Option<KittyImageFormat>) -> Option<i64>
+    ensures { result ≡ counted (option_map format_number format) }
+{
+    match format {
+        None => None,
+        Some(KittyImageFormat::Rgb) => Some(24),
+        Some(KittyImageFormat::Rgba) => Some(32),
+        Some(KittyImageFormat::Png) => Some(100),
+    }
+}
+
+// How pixels are compressed.
+pub(crate) fn compression(compression: KittyImageCompression) -> Option<i64>
+    ensures { result ≡ known (compression_number compression) }
+{
+    match compression {
+        KittyImageCompression::None => Some(0),
+        KittyImageCompression::Deflate => Some(1),
+    }
+}
+
+// How pixels are put over others.
+pub(crate) fn composition(mode: KittyFrameCompositionMode) -> Option<i64>
+    ensures { result ≡ known (composition_number mode) }
+{
+    match mode {
+        KittyFrameCompositionMode::AlphaBlending => Some(0),
+        KittyFrameCompositionMode::Overwrite => Some(1),
+    }
+}
+
+// Which of five it is that an image is made of.
+pub(crate) fn medium<A: Allocator>(content: &KittyImageData<A>) -> Option<i64>
+    ensures { result ≡ known (medium_number content.now) }
+{
+    match content {
+        KittyImageData::Direct(_) => Some(0),
+        KittyImageData::DirectBin(_) => Some(1),
+        KittyImageData::File { .. } => Some(2),
+        KittyImageData::TemporaryFile { .. } => Some(3),
+        KittyImageData::SharedMem { .. } => Some(4),
+    }
+}
+
+// How many bytes it has, where they are given.
+pub(crate) fn data_size<A: Allocator>(content: &KittyImageData<A>) -> Option<i64>
+    ensures { result ≡ counted (size_in content.now) }
+{
+    match content {
+        KittyImageData::Direct(_) | KittyImageData::DirectBin(_) => None,
+        KittyImageData::File { data_size, .. } => counted(*data_size),
+        KittyImageData::TemporaryFile { data_size, .. } => counted(*data_size),
+        KittyImageData::SharedMem { data_size, .. } => counted(*data_size),
+    }
+}
+
+// How many bytes come before them, where they are given.
+pub(crate) fn data_offset<A: Allocator>(content: &KittyImageData<A>) -> Option<i64>
+    ensures { result ≡ counted (offset_in content.now) }
+{
+    match content {
+        KittyImageData::Direct(_) | KittyImageData::DirectBin(_) => None,
+        KittyImageData::File { data_offset, .. } => counted(*data_offset),
+        KittyImageData::TemporaryFile { data_offset, .. } => counted(*data_offset),
+        KittyImageData::SharedMem { data_offset, .. } => counted(*data_offset),
+    }
+}
+
+// Its text.
+pub(crate) fn bytes<A: Allocator>(content: &KittyImageData<A>) -> &[u8]
+    ensures { result.now ≡ bytes_of content.now }
+{
+    match content {
+        KittyImageData::Direct(text) => text.as_bytes(),
+        KittyImageData::DirectBin(bytes) => bytes.as_slice(),
+        KittyImageData::File { path, .. } => path.as_bytes(),
+        KittyImageData::TemporaryFile { path, .. } => path.as_bytes(),
+        KittyImageData::SharedMem { name, .. } => name.as_bytes(),
+    }
+}
