@@ -8,41 +8,8 @@
  * difference; the status is 1 where there is one. Link it with -Wl,--wrap=malloc,--wrap=realloc,--wrap=free, by which it counts,
  * refuses, and sees that all was given back.
  */
-#include "escape_stream.h"
-
-#include <inttypes.h>
-#include <stdio.h>
-#include <stdlib.h>
-#include <string.h>
-
-enum { MOST_FIELDS = 24, MOST_BYTES = 120, JUNK = 0xa5 };
-
-static unsigned long refused, requests, differences;
-static long blocks;
-
-void *__real_malloc(size_t size);
-void *__real_realloc(void *block, size_t size);
-void __real_free(void *block);
-void *__wrap_malloc(size_t size);
-void *__wrap_realloc(void *block, size_t size);
-void __wrap_free(void *block);
-
-void *__wrap_malloc(size_t size) {
-    void *block = ++requests == refused ? NULL : __real_malloc(size);
-    blocks += block != NULL;
-    return block;
-}
-
-void *__wrap_realloc(void *block, size_t size) {
-    void *moved = ++requests == refused ? NULL : __real_realloc(block, size);
-    blocks += !block && moved;
-    return moved;
-}
-
-void __wrap_free(void *block) {
-    blocks -= block != NULL;
-    __real_free(block);
-}
+#define PROGRAM "osc"
+#include "fields.h"
 
 #define KIND(name) [ESCAPE_STREAM_OSC_##name] = #name
 static const char *const KINDS[] = {
@@ -60,20 +27,22 @@ static const char *const KINDS[] = {
     KIND(ITERM_PUSH_UNICODE_VERSION), KIND(ITERM_POP_UNICODE_VERSION),
 };
 
-#define NAME(name) [ESCAPE_STREAM_FIELD_##name] = #name
-static const char *const NAMES[] = {
-    NAME(TEXT), NAME(PART), NAME(DIRECTORY), NAME(URI), NAME(IMPLICIT), NAME(KEY), NAME(VALUE), NAME(SELECTION),
-    NAME(PALETTE_INDEX), NAME(DYNAMIC_COLOR), NAME(RED), NAME(GREEN), NAME(BLUE), NAME(QUERY), NAME(PROGRESS_STATE),
-    NAME(PERCENT), NAME(APPLICATION), NAME(CLICK), NAME(PROMPT_KIND), NAME(STATUS), NAME(NAME), NAME(HIGHLIGHTED),
-    NAME(CELL_HEIGHT), NAME(CELL_WIDTH), NAME(SCALE), NAME(SIZE), NAME(WIDTH_CELLS), NAME(WIDTH_PIXELS),
-    NAME(WIDTH_PERCENT), NAME(HEIGHT_CELLS), NAME(HEIGHT_PIXELS), NAME(HEIGHT_PERCENT), NAME(PRESERVE_ASPECT_RATIO),
-    NAME(INLINE), NAME(DO_NOT_MOVE_CURSOR), NAME(CONTENT), NAME(VERSION), NAME(LABEL),
-};
+static const char *kind_name(uint32_t kind) { return KINDS[kind]; }
 
-/* The text of a command, and its kind and fields. */
-static const struct command {
-    const char *text, *wanted;
-} COMMANDS[] = {
+static uint32_t read_text(const uint8_t *text, size_t length, struct value *value, struct escape_stream_field *fields,
+                          size_t field_room, uint8_t *out, size_t capacity) {
+    struct escape_stream_osc osc;
+    uint32_t status;
+    memset(&osc, JUNK, sizeof osc);
+    status = escape_stream_read_osc(text, length, &osc, fields, field_room, out, capacity);
+    if (status == ESCAPE_STREAM_DONE)
+        *value = (struct value){osc.kind, osc.field_count, osc.text_length};
+    else
+        memcpy(value, &osc, sizeof osc);
+    return status;
+}
+
+static const struct command COMMANDS[] = {
     {"0;a;b", "SET_ICON_NAME_AND_WINDOW_TITLE TEXT=a;b"},
     {"2;caf\xc3\xa9", "SET_WINDOW_TITLE TEXT=caf\xc3\xa9"},
     {"2;", "SET_WINDOW_TITLE TEXT="},
@@ -138,102 +107,6 @@ static const struct command {
     {"2;\xff", "UNSPECIFIED PART=2 PART=[ff]"},
 };
 
-static void wants(bool holds, const char *what, const char *text, size_t number) {
-    if (holds)
-        return;
-    fprintf(stderr, "osc: %s (%s, %zu)\n", what, text, number);
-    differences++;
-}
-
-/* Appends a text, of which a control and a byte FF are two digits between brackets. */
-static size_t append_text(char *line, size_t at, const uint8_t *text, size_t length) {
-    for (size_t i = 0; i < length; i++)
-        at += (size_t)sprintf(line + at, text[i] < 0x20 || text[i] == 0xff ? "[%02x]" : "%c", text[i]);
-    return at;
-}
-
-/* The kind and the fields of a command, as the table has them. */
-static const char *written(const struct escape_stream_osc *osc, const struct escape_stream_field *fields, const uint8_t *out) {
-    static char line[1000];
-    size_t at = (size_t)sprintf(line, "%s", KINDS[osc->kind]);
-    for (size_t i = 0; i < osc->field_count; i++) {
-        const struct escape_stream_field *field = &fields[i];
-        at += (size_t)sprintf(line + at, " %s=", NAMES[field->name]);
-        if (field->kind == ESCAPE_STREAM_VALUE_NUMBER)
-            at += (size_t)sprintf(line + at, "%" PRId64, field->number);
-        else if (field->kind == ESCAPE_STREAM_VALUE_TEXT)
-            at = append_text(line, at, out + field->offset, field->length);
-        else
-            at += (size_t)sprintf(line + at, "%zu", field->length);
-    }
-    return line;
-}
-
-/* What a call is given: room for fields and texts, with guards. */
-struct room {
-    struct escape_stream_osc osc;
-    struct escape_stream_field fields[MOST_FIELDS];
-    uint8_t out[MOST_BYTES];
-};
-
-static uint32_t read_into(struct room *room, const char *text, size_t field_room, size_t capacity) {
-    memset(room, JUNK, sizeof *room);
-    return escape_stream_read_osc((const uint8_t *)text, strlen(text), &room->osc, room->fields, field_room, room->out, capacity);
-}
-
-static bool is_junk(const void *at, size_t length) {
-    for (size_t i = 0; i < length; i++)
-        if (((const uint8_t *)at)[i] != JUNK)
-            return false;
-    return true;
-}
-
-/* The same command in less room: the beginnings of its fields and of their texts, and nothing past these. */
-static void check_room(const struct room *whole, const char *text, size_t field_room, size_t capacity) {
-    static struct room room;
-    size_t fields = field_room < whole->osc.field_count ? field_room : whole->osc.field_count;
-    size_t bytes = capacity < whole->osc.text_length ? capacity : whole->osc.text_length;
-    wants(read_into(&room, text, field_room, capacity) == ESCAPE_STREAM_DONE, "another status", text, field_room);
-    wants(room.osc.kind == whole->osc.kind && room.osc.field_count == whole->osc.field_count &&
-          room.osc.text_length == whole->osc.text_length, "another value", text, field_room);
-    wants(memcmp(room.fields, whole->fields, fields * sizeof *room.fields) == 0, "other fields", text, field_room);
-    wants(is_junk(&room.fields[fields], sizeof room.fields - fields * sizeof *room.fields), "a field past them", text, field_room);
-    wants(memcmp(room.out, whole->out, bytes) == 0, "another text", text, capacity);
-    wants(is_junk(&room.out[bytes], sizeof room.out - bytes), "a byte past it", text, capacity);
-}
-
-static void check_refusals(const char *text) {
-    static struct room room;
-    for (unsigned long at = 1; at < 1000; at++) {
-        uint32_t status;
-        requests = 0;
-        refused = at;
-        status = read_into(&room, text, MOST_FIELDS, MOST_BYTES);
-        refused = 0;
-        wants(blocks == 0, "blocks are kept", text, at);
-        if (requests < at) {
-            wants(status == ESCAPE_STREAM_DONE, "another status", text, at);
-            return;
-        }
-        wants(status == ESCAPE_STREAM_NO_MEMORY && is_junk(&room, sizeof room), "something was written", text, at);
-    }
-}
-
-static void check_command(const struct command *command) {
-    static struct room whole;
-    wants(read_into(&whole, command->text, MOST_FIELDS, MOST_BYTES) == ESCAPE_STREAM_DONE, "another status", command->text, 0);
-    wants(strcmp(written(&whole.osc, whole.fields, whole.out), command->wanted) == 0,
-          written(&whole.osc, whole.fields, whole.out), command->text, 0);
-    for (size_t fields = 0; fields <= whole.osc.field_count + 2; fields++)
-        check_room(&whole, command->text, fields, MOST_BYTES);
-    for (size_t bytes = 0; bytes <= whole.osc.text_length + 2; bytes++)
-        check_room(&whole, command->text, MOST_FIELDS, bytes);
-    check_refusals(command->text);
-}
-
 int main(void) {
-    for (size_t i = 0; i < sizeof COMMANDS / sizeof *COMMANDS; i++)
-        check_command(&COMMANDS[i]);
-    printf("%lu differences\n", differences);
-    return differences != 0;
+    return check_all(COMMANDS, sizeof COMMANDS / sizeof *COMMANDS);
 }

@@ -5,7 +5,8 @@
  * A stream is bytes as a program writes them to a terminal: UTF-8 text, control characters, and the control functions of
  * ECMA-48 and xterm, such as colours, cursor movements and titles. Any bytes are a stream. Each of the first three calls takes
  * one whole, and keeps nothing. A filter in pieces, escape_stream_filter_begin and the calls after it, takes one as it comes, and
- * so does a page, escape_stream_html_begin and the calls after it. escape_stream_read_osc takes the text of one command.
+ * so does a page, escape_stream_html_begin and the calls after it. The calls escape_stream_read_.. take the text of one command,
+ * query or image.
  *
  *     cc -I crates/escape_c/include program.c libescape_c.a liblibc_c.a
  *
@@ -14,9 +15,10 @@
  *
  *   - No pointer is NULL, also where its length is 0.
  *   - `bytes` or `text` is `length` initialized bytes that can be read, and nobody writes them during the call.
- *   - `out` is `capacity` initialized bytes that can be read and written; `needed`, `answer` and `osc` point to initialized
- *     objects of their types, and `fields` to `field_room` of them. No two of these and of `bytes` or `text` overlap, and nobody
- *     else reads or writes them during the call.
+ *   - `out` is `capacity` initialized bytes that can be read and written; `needed`, `answer`, `osc`, `image`, `query` and `sixel`
+ *     point to initialized objects of their types, `fields` to `field_room` of them, `items` to `item_room`, and `params` to
+ *     `count`. No two of these and of `bytes` or `text` overlap, but `params` and `text`, and nobody else reads or writes them
+ *     during the call.
  *   - No object has more than PTRDIFF_MAX bytes.
  *   - malloc, realloc and free are of one allocator, and align a block to each power of two up to 16 that divides its size.
  *   - The call is made neither in a signal handler, nor in the child of a process with threads that has only forked.
@@ -42,8 +44,8 @@ extern "C" {
 #define ESCAPE_STREAM_VERSION_PATCH 0
 
 /*
- * The statuses. After each but ESCAPE_STREAM_DONE nothing was written: `out`, `fields`, `*needed`, `*answer` and `*osc` are as
- * they were. Later versions may add some, so treat one that you do not know as an error.
+ * The statuses. After each but ESCAPE_STREAM_DONE nothing was written: `out`, `fields`, `items`, `*needed`, `*answer`, `*osc`,
+ * `*image`, `*query` and `*sixel` are as they were. Later versions may add some, so treat one that you do not know as an error.
  */
 #define ESCAPE_STREAM_DONE UINT32_C(0)           /* the call was done */
 #define ESCAPE_STREAM_NO_MEMORY UINT32_C(1)      /* a request for memory was refused */
@@ -400,9 +402,43 @@ bool escape_stream_control_function(uint8_t code, struct escape_stream_function 
 #define ESCAPE_STREAM_FIELD_PRESERVE_ASPECT_RATIO UINT32_C(32) /* flag: the width and the height keep their ratio */
 #define ESCAPE_STREAM_FIELD_INLINE UINT32_C(33)                /* flag: the file is shown, and else stored */
 #define ESCAPE_STREAM_FIELD_DO_NOT_MOVE_CURSOR UINT32_C(34)    /* flag: the cursor stays where it is */
-#define ESCAPE_STREAM_FIELD_CONTENT UINT32_C(35)               /* text: what the file holds, any bytes */
+#define ESCAPE_STREAM_FIELD_CONTENT UINT32_C(35)               /* text: what a file holds, any bytes; and see MEDIUM */
 #define ESCAPE_STREAM_FIELD_VERSION UINT32_C(36)               /* number: a version of Unicode */
 #define ESCAPE_STREAM_FIELD_LABEL UINT32_C(37)                 /* text: of a version that is kept or brought back */
+#define ESCAPE_STREAM_FIELD_MEDIUM UINT32_C(38)                /* number: what CONTENT is, ESCAPE_STREAM_MEDIUM_.. */
+#define ESCAPE_STREAM_FIELD_DATA_SIZE UINT32_C(39)             /* number: how many bytes of the file or the memory are the image */
+#define ESCAPE_STREAM_FIELD_DATA_OFFSET UINT32_C(40)           /* number: how many come before them */
+#define ESCAPE_STREAM_FIELD_FORMAT UINT32_C(41)                /* number: of pixels. 24 RGB, 32 RGBA, 100 a PNG file */
+#define ESCAPE_STREAM_FIELD_PIXEL_WIDTH UINT32_C(42)           /* number: of an image, in pixels */
+#define ESCAPE_STREAM_FIELD_PIXEL_HEIGHT UINT32_C(43)          /* number */
+#define ESCAPE_STREAM_FIELD_IMAGE_ID UINT32_C(44)              /* number: the id of an image */
+#define ESCAPE_STREAM_FIELD_IMAGE_NUMBER UINT32_C(45)          /* number: the number of an image, in place of an id */
+#define ESCAPE_STREAM_FIELD_COMPRESSION UINT32_C(46)           /* number: 0 none, 1 deflate */
+#define ESCAPE_STREAM_FIELD_MORE_DATA_FOLLOWS UINT32_C(47)     /* flag: more of the image follows in further commands */
+#define ESCAPE_STREAM_FIELD_X UINT32_C(48)                     /* number: a left edge in pixels; of a deletion a column, from 1 */
+#define ESCAPE_STREAM_FIELD_Y UINT32_C(49)                     /* number: a top edge in pixels; of a deletion a row, from 1 */
+#define ESCAPE_STREAM_FIELD_WIDTH UINT32_C(50)                 /* number: of the part that is shown or put over others, in pixels */
+#define ESCAPE_STREAM_FIELD_HEIGHT UINT32_C(51)                /* number */
+#define ESCAPE_STREAM_FIELD_X_OFFSET UINT32_C(52)              /* number: how far from the left edge of the first cell, in pixels */
+#define ESCAPE_STREAM_FIELD_Y_OFFSET UINT32_C(53)              /* number: how far from its top edge */
+#define ESCAPE_STREAM_FIELD_COLUMNS UINT32_C(54)               /* number: how many an image is scaled to */
+#define ESCAPE_STREAM_FIELD_ROWS UINT32_C(55)                  /* number */
+#define ESCAPE_STREAM_FIELD_PLACEMENT_ID UINT32_C(56)          /* number: the id of a placement */
+#define ESCAPE_STREAM_FIELD_Z_INDEX UINT32_C(57)               /* number: the order above and below others, which may be negative */
+#define ESCAPE_STREAM_FIELD_UNICODE_PLACEHOLDER UINT32_C(58)   /* flag: the image is shown where placeholder characters are */
+#define ESCAPE_STREAM_FIELD_BASE_FRAME UINT32_C(59)            /* number: the frame whose pixels a new one begins with, from 1 */
+#define ESCAPE_STREAM_FIELD_FRAME_NUMBER UINT32_C(60)          /* number: the frame that is edited, from 1 */
+#define ESCAPE_STREAM_FIELD_DURATION UINT32_C(61)              /* number: how long a frame is shown, in milliseconds */
+#define ESCAPE_STREAM_FIELD_COMPOSITION_MODE UINT32_C(62)      /* number: 0 pixels are blended with others, 1 they replace them */
+#define ESCAPE_STREAM_FIELD_BACKGROUND_PIXEL UINT32_C(63)      /* number: red, green, blue and alpha of 8 bits, red the highest */
+#define ESCAPE_STREAM_FIELD_TARGET_FRAME UINT32_C(64)          /* number: the frame that is changed, from 1 */
+#define ESCAPE_STREAM_FIELD_SOURCE_FRAME UINT32_C(65)          /* number: the frame whose pixels are taken, from 1 */
+#define ESCAPE_STREAM_FIELD_SOURCE_X UINT32_C(66)              /* number: the left edge of the part that is taken, in pixels */
+#define ESCAPE_STREAM_FIELD_SOURCE_Y UINT32_C(67)              /* number: its top edge */
+#define ESCAPE_STREAM_FIELD_DELETES_DATA UINT32_C(68)          /* flag: the data of images is deleted too */
+#define ESCAPE_STREAM_FIELD_FIRST_IMAGE_ID UINT32_C(69)        /* number: the first of the ids that are deleted */
+#define ESCAPE_STREAM_FIELD_LAST_IMAGE_ID UINT32_C(70)         /* number: the last */
+#define ESCAPE_STREAM_FIELD_VERBOSITY UINT32_C(71)             /* number: what is reported. 0 all, 1 errors alone, 2 nothing */
 
 /* What a field holds. */
 #define ESCAPE_STREAM_VALUE_NUMBER UINT32_C(0) /* `number` */
@@ -453,6 +489,141 @@ struct escape_stream_osc {
  */
 uint32_t escape_stream_read_osc(const uint8_t *text, size_t length, struct escape_stream_osc *osc,
                                 struct escape_stream_field *fields, size_t field_room, uint8_t *out, size_t capacity);
+
+/*
+ * The kinds of commands of kitty's graphics protocol, and which fields each has, in order, as for those of operating system
+ * commands. A deletion has a kind for each of what is deleted. Later versions may add some.
+ *
+ * identified   [IMAGE_ID], [IMAGE_NUMBER]
+ * transmitted  CONTENT, MEDIUM, [DATA_SIZE], [DATA_OFFSET], [FORMAT], [PIXEL_WIDTH], [PIXEL_HEIGHT], [IMAGE_ID], [IMAGE_NUMBER],
+ *              COMPRESSION, MORE_DATA_FOLLOWS
+ * placed       [X], [Y], [WIDTH], [HEIGHT], [X_OFFSET], [Y_OFFSET], [COLUMNS], [ROWS], [PLACEMENT_ID], DO_NOT_MOVE_CURSOR,
+ *              [Z_INDEX], UNICODE_PLACEHOLDER
+ * framed       [X], [Y], [BASE_FRAME], [FRAME_NUMBER], [DURATION], COMPOSITION_MODE, [BACKGROUND_PIXEL]
+ * composed     [TARGET_FRAME], [SOURCE_FRAME], [X], [Y], [WIDTH], [HEIGHT], [SOURCE_X], [SOURCE_Y], COMPOSITION_MODE
+ */
+#define ESCAPE_STREAM_KITTY_NONE UINT32_C(0)                       /* none: the text is no image */
+#define ESCAPE_STREAM_KITTY_TRANSMIT_DATA UINT32_C(1)              /* transmitted, VERBOSITY: keeps an image */
+#define ESCAPE_STREAM_KITTY_TRANSMIT_DATA_AND_DISPLAY UINT32_C(2)  /* transmitted, placed, VERBOSITY: keeps an image and shows it */
+#define ESCAPE_STREAM_KITTY_DISPLAY UINT32_C(3)                    /* identified, placed, VERBOSITY: shows an image */
+#define ESCAPE_STREAM_KITTY_QUERY UINT32_C(4)                      /* transmitted: asks whether it could be kept */
+#define ESCAPE_STREAM_KITTY_TRANSMIT_FRAME UINT32_C(5)             /* transmitted, framed, VERBOSITY: keeps a frame */
+#define ESCAPE_STREAM_KITTY_COMPOSE_FRAME UINT32_C(6)              /* identified, composed, VERBOSITY: puts a frame over another */
+#define ESCAPE_STREAM_KITTY_DELETE_ALL UINT32_C(7)                 /* DELETES_DATA, VERBOSITY: and so at the end of all below */
+#define ESCAPE_STREAM_KITTY_DELETE_BY_IMAGE_ID UINT32_C(8)         /* IMAGE_ID, [PLACEMENT_ID] */
+#define ESCAPE_STREAM_KITTY_DELETE_BY_IMAGE_NUMBER UINT32_C(9)     /* IMAGE_NUMBER, [PLACEMENT_ID] */
+#define ESCAPE_STREAM_KITTY_DELETE_AT_CURSOR_POSITION UINT32_C(10) /* none more */
+#define ESCAPE_STREAM_KITTY_DELETE_ANIMATION_FRAMES UINT32_C(11)   /* none more */
+#define ESCAPE_STREAM_KITTY_DELETE_AT UINT32_C(12)                 /* X, Y */
+#define ESCAPE_STREAM_KITTY_DELETE_AT_Z UINT32_C(13)               /* X, Y, Z_INDEX */
+#define ESCAPE_STREAM_KITTY_DELETE_COLUMN UINT32_C(14)             /* X */
+#define ESCAPE_STREAM_KITTY_DELETE_ROW UINT32_C(15)                /* Y */
+#define ESCAPE_STREAM_KITTY_DELETE_Z UINT32_C(16)                  /* Z_INDEX */
+#define ESCAPE_STREAM_KITTY_DELETE_BY_IMAGE_ID_RANGE UINT32_C(17)  /* FIRST_IMAGE_ID, LAST_IMAGE_ID */
+
+/*
+ * What the CONTENT of an image is. A payload is the text as it came, which is base64 and is not decoded, since it may be cut into
+ * several commands. A path and a name are decoded. No text is read as BYTES.
+ */
+#define ESCAPE_STREAM_MEDIUM_PAYLOAD 0        /* the pixels, in base64 */
+#define ESCAPE_STREAM_MEDIUM_BYTES 1          /* the pixels */
+#define ESCAPE_STREAM_MEDIUM_FILE 2           /* the path of a file */
+#define ESCAPE_STREAM_MEDIUM_TEMPORARY_FILE 3 /* that of a file which the terminal deletes once it is read */
+#define ESCAPE_STREAM_MEDIUM_SHARED_MEMORY 4  /* the name of a shared memory object */
+
+/* A command of kitty's graphics protocol. */
+struct escape_stream_image {
+    uint32_t kind;      /* which one: ESCAPE_STREAM_KITTY_.. */
+    size_t field_count; /* how many fields it has, at most 24 */
+    size_t text_length; /* how many bytes their texts have together */
+};
+
+/*
+ * Reads the command of kitty's graphics protocol that the text of an application program command is, the bytes between ESC _ and
+ * what ends them: the text of an event ESCAPE_STREAM_APC of escape_stream_next. Any bytes are such a text; where they are no such
+ * command the kind is ESCAPE_STREAM_KITTY_NONE, without a field.
+ *
+ * The arguments and the statuses are those of escape_stream_read_osc, and so is what is written.
+ *
+ * Example: the size of an image that is sent.
+ *
+ *     struct escape_stream_image image = {0};
+ *     struct escape_stream_field fields[24] = {0};
+ *     uint8_t out[1] = {0};
+ *     if (escape_stream_read_kitty(text, length, &image, fields, 24, out, 0) == ESCAPE_STREAM_DONE)
+ *         for (size_t i = 0; i < image.field_count; i++)
+ *             if (fields[i].name == ESCAPE_STREAM_FIELD_PIXEL_WIDTH)
+ *                 width = fields[i].number;
+ */
+uint32_t escape_stream_read_kitty(const uint8_t *text, size_t length, struct escape_stream_image *image,
+                                  struct escape_stream_field *fields, size_t field_room, uint8_t *out, size_t capacity);
+
+/* A termcap query. */
+struct escape_stream_query {
+    size_t name_count;  /* how many names it has, at least one */
+    size_t text_length; /* how many bytes these have together */
+};
+
+/*
+ * Reads the names that a termcap query asks for (XTGETTCAP), of the data between ESC P + q and what ends it: that of the events
+ * after an event ESCAPE_STREAM_DCS whose byte is `q` and whose one intermediate is `+`, put together. Any bytes are such data. Each
+ * name is a field ESCAPE_STREAM_FIELD_NAME: what was written in hexadecimal, or the text as it is where it is not hexadecimal.
+ *
+ * The arguments and the statuses are those of escape_stream_read_osc, and so is what is written.
+ */
+uint32_t escape_stream_read_tcap(const uint8_t *text, size_t length, struct escape_stream_query *query,
+                                 struct escape_stream_field *fields, size_t field_room, uint8_t *out, size_t capacity);
+
+/* What an item of a sixel image is, and what of it has a meaning. */
+#define ESCAPE_STREAM_SIXEL_PIXELS UINT32_C(0)          /* pixels; count is 1 */
+#define ESCAPE_STREAM_SIXEL_REPEAT UINT32_C(1)          /* pixels, count: the same so many times */
+#define ESCAPE_STREAM_SIXEL_DEFINE_RGB UINT32_C(2)      /* color, red, green, blue: gives a colour to a number, and selects it */
+#define ESCAPE_STREAM_SIXEL_DEFINE_HSL UINT32_C(3)      /* color, hue, lightness, saturation: the same */
+#define ESCAPE_STREAM_SIXEL_SELECT UINT32_C(4)          /* color: selects it */
+#define ESCAPE_STREAM_SIXEL_CARRIAGE_RETURN UINT32_C(5) /* back to the start of the line, over which is drawn */
+#define ESCAPE_STREAM_SIXEL_NEW_LINE UINT32_C(6)        /* to the start of the next band of six lines */
+
+/* An item of a sixel image. What has no meaning for its kind is 0. */
+struct escape_stream_sixel_item {
+    uint32_t kind;  /* ESCAPE_STREAM_SIXEL_.. */
+    uint32_t count; /* how many times its pixels come */
+    uint16_t color; /* the number of a colour */
+    uint16_t hue;   /* in degrees, from 0 to 360; larger ones are as they were written */
+    uint8_t pixels; /* six, one above the other, the top one the lowest bit */
+    uint8_t red, green, blue;          /* from 0 to 255 */
+    uint8_t lightness, saturation;     /* from 0 to 100; larger ones are as they were written */
+};
+
+/* A sixel image. */
+struct escape_stream_sixel {
+    int64_t pan, pad;                    /* a pixel is pan units high and pad wide */
+    int64_t grid_size;                   /* the horizontal grid size, where `has_grid_size` */
+    uint32_t pixel_width, pixel_height;  /* as raster attributes say, where `has_pixel_width` and `has_pixel_height` */
+    uint32_t width, height;              /* those, where both are there, and else those of what is drawn */
+    bool has_grid_size, has_pixel_width, has_pixel_height;
+    bool background_is_transparent;      /* pixels of 0 leave what was there */
+    size_t item_count;                   /* how many items its data has */
+};
+
+/*
+ * Reads a sixel image, of the parameters and the data between ESC P and what ends it: those of an event ESCAPE_STREAM_DCS whose
+ * byte is `q` and which has no intermediate, and those of the events after it, put together. Any parameters and any bytes are
+ * such an image.
+ *
+ *   params, count          the parameters, and how many there are; one that is missing before others is 0
+ *   text, length           the data, and how many bytes it has
+ *   sixel                  where the image goes, but for its items, and how much room these need
+ *   items, item_room       where its items go, and for how many there is room
+ *
+ * The items come in an array, one an item, so a loop over it with a switch by `kind` draws the image; PIXELS and REPEAT may be one
+ * case, `count` times `pixels`. There are no more than `length`, so that room for so many is enough at the first call.
+ *
+ * ESCAPE_STREAM_DONE: `*sixel` is that of the image, whatever the room. At the beginning of `items` are its items, as many as there
+ * is room for; the others are as they were. ESCAPE_STREAM_NO_MEMORY is the only other status. The call takes memory for the image,
+ * and gives it back before it returns.
+ */
+uint32_t escape_stream_read_sixel(const int64_t *params, size_t count, const uint8_t *text, size_t length,
+                                  struct escape_stream_sixel *sixel, struct escape_stream_sixel_item *items, size_t item_room);
 
 #ifdef __cplusplus
 }

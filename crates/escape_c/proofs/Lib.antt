@@ -3,3 +3,4 @@ pub mod AsBox
 pub mod AsPageBox
 pub mod PageStates
 pub mod SameState
+pub mod Rows

@@ -1,7 +1,10 @@
-pub mod Policies
+pub mod FunctionRows
 pub mod Held
 pub mod HeldPage
+pub mod ImageValues
+pub mod OscValues
 pub mod PagePieces
 pub mod Pieces
-pub mod FunctionRows
-pub mod OscValues
+pub mod Policies
+pub mod QueryValues
+pub mod SixelValues

@@ -7,7 +7,9 @@
 //! keep nothing. The filter in pieces is a [`PieceFilter`] of the caller's, and HTML in pieces a
 //! [`PiecePage`], each with a block after it.
 //! Three further calls write a [`FunctionRow`]: what a sequence or a control asks for, by name; and
-//! one an [`OscValue`] and rows of fields: what an operating system command says.
+//! three an [`OscValue`], an [`ImageValue`] or a [`QueryValue`] and rows of fields: what an operating
+//! system command, an image of kitty's or a termcap query says; and one a [`SixelValue`] and rows of
+//! sixel data.
 //! `include/escape_stream.h` declares the calls for C.
 #![tactic(auto)]
 
@@ -16,7 +18,9 @@ mod function;
 mod function_row;
 mod held;
 mod held_page;
+mod image_value;
 mod is_normal;
+mod kitty;
 mod normal;
 mod osc;
 mod osc_value;
@@ -27,14 +31,20 @@ mod parts;
 mod piece_filter;
 mod piece_page;
 mod pieces;
+mod query_value;
+mod sixel;
+mod sixel_value;
 mod state;
+mod tcap;
 
 pub use filter::escape_stream_filter;
 pub use function::{
     escape_stream_control_function, escape_stream_escape_function, escape_stream_function,
 };
 pub use function_row::FunctionRow;
+pub use image_value::ImageValue;
 pub use is_normal::escape_stream_is_normal;
+pub use kitty::escape_stream_read_kitty;
 pub use normal::escape_stream_normal;
 pub use osc::escape_stream_read_osc;
 pub use osc_value::OscValue;
@@ -48,6 +58,10 @@ pub use pieces::{
     escape_stream_filter_begin, escape_stream_filter_end, escape_stream_filter_feed,
     escape_stream_filter_finish, escape_stream_filter_text,
 };
+pub use query_value::QueryValue;
+pub use sixel::escape_stream_read_sixel;
+pub use sixel_value::SixelValue;
+pub use tcap::escape_stream_read_tcap;
 
 /// The call was done.
 pub const DONE: u32 = 0;

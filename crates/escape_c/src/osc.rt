@@ -61,7 +61,7 @@ fn read(alloc: Global, text: &[u8]) -> Result<(CommandKind, Fields), AllocError>
 
 // Copies as many rows as there is room for, and leaves the other places as they are. Returns how
 // many there are.
-fn put_rows(rows: &[FieldRow], fields: &mut [FieldRow]) -> usize
+pub(crate) fn put_rows(rows: &[FieldRow], fields: &mut [FieldRow]) -> usize
     ensures needed { result ≡ length rows.now }
     ensures written { fields.new ≡ put_into rows.now fields.old }
 {

@@ -1,0 +1,14 @@
+//! What the text of an APC is, as a kind and counts.
+
+/// What an image of kitty's is, for its caller: its kind, and how much room its fields and their
+/// texts need.
+#[repr(C)]
+#[derive(Clone, Copy)]
+pub struct ImageValue {
+    /// Which command of the protocol: the number of an [`ImageKind`](esc_fields::ImageKind).
+    pub kind: u32,
+    /// How many fields it has.
+    pub field_count: usize,
+    /// How many bytes the texts of these have together.
+    pub text_length: usize,
+}

@@ -1,0 +1,32 @@
+//! What a sixel image is, but for its data.
+
+/// What a sixel image is, for its caller, and how much room its data needs.
+#[repr(C)]
+#[derive(Clone, Copy)]
+pub struct SixelValue {
+    /// The pixel aspect ratio is pan to pad: a pixel is so many units high.
+    pub pan: i64,
+    /// A pixel is so many units wide.
+    pub pad: i64,
+    /// The horizontal grid size, or 0.
+    pub grid_size: i64,
+    /// The width in pixels that raster attributes gave, or 0.
+    pub pixel_width: u32,
+    /// The height in pixels that raster attributes gave, or 0.
+    pub pixel_height: u32,
+    /// The width in pixels: that of the raster attributes, where they gave both, and else of what
+    /// is drawn.
+    pub width: u32,
+    /// The height in pixels in the same way.
+    pub height: u32,
+    /// Whether the header has a horizontal grid size.
+    pub has_grid_size: bool,
+    /// Whether raster attributes gave a width.
+    pub has_pixel_width: bool,
+    /// Whether raster attributes gave a height.
+    pub has_pixel_height: bool,
+    /// Whether pixels of 0 leave what was there.
+    pub background_is_transparent: bool,
+    /// How many items its data has.
+    pub item_count: usize,
+}
