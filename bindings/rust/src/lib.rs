@@ -6,7 +6,9 @@
 //! takes one whole, but those of a [`Filter`], a writer, of an [`html::PiecePage`], which gives HTML
 //! of it, and of a [`Parser`], which take it in pieces. The module [`vte`] has that parser with the calls of the crate `vte`.
 //! [`ControlFunction`] and [`EscapeFunction`] name what sequences ask for, by tables that are made
-//! from those of the library, and [`osc::OperatingSystemCommand`] is what a command says.
+//! from those of the library. [`osc::OperatingSystemCommand`] is what a command says,
+//! [`apc::KittyImage`] and [`dcs::Sixel`] what an image is, and [`action::Parser`] gives a stream as
+//! actions, with such values.
 //!
 //! The work is done by a library that is proved: what each call writes is what its contract says,
 //! for every stream. This crate is not proved. Its module `ffi` is its one place with unsafe code.
@@ -34,8 +36,16 @@ extern crate alloc;
 #[cfg(feature = "std")]
 extern crate std;
 
+#[cfg(feature = "oneshot")]
+pub mod action;
+#[cfg(feature = "oneshot")]
+pub mod apc;
+#[cfg(feature = "oneshot")]
+pub mod dcs;
 #[allow(unsafe_code)]
 mod ffi;
+#[cfg(feature = "oneshot")]
+mod fields;
 #[cfg(feature = "oneshot")]
 mod filter;
 mod function;

@@ -4,7 +4,6 @@
 //!
 //! The names are those of the crate `termwiz`. Texts are owned, and sizes in tenths are whole
 //! numbers.
-mod fields;
 mod iterm;
 mod prompt;
 mod values;
@@ -15,10 +14,10 @@ pub use values::{
     ChangeColorPair, Color16, ColorOrQuery, DynamicColorNumber, Hyperlink, Progress, Selection,
 };
 
+use crate::fields::{Fields, kind, name, read};
 use crate::{Error, ffi};
 use alloc::string::String;
 use alloc::vec::Vec;
-use fields::{Fields, kind, name};
 
 /// An operating system command: a control string between `ESC ]` and a string terminator, whose
 /// parts have `;` between them (xterm's list of control sequences, "Operating System Commands").
@@ -100,35 +99,8 @@ impl OperatingSystemCommand {
     /// as a `String` does. [`Error::Failed`] is excluded by the clauses of the library's call: it
     /// says that a command had other fields than its kind has.
     pub fn parse(text: &[u8]) -> Result<OperatingSystemCommand, Error> {
-        let (osc, rows, texts) = read(text)?;
-        let mut fields = Fields::new(&rows, &texts);
-        command(osc.kind, &mut fields)
-            .filter(|_| fields.is_empty())
-            .ok_or(Error::Failed)
+        read(text, ffi::read_osc, command)
     }
-}
-
-// The command with all its fields and their texts: first in as much room as most commands need.
-fn read(text: &[u8]) -> Result<(ffi::Osc, Vec<ffi::Field>, Vec<u8>), Error> {
-    let (mut rows, mut texts) = (Vec::new(), Vec::new());
-    make_room(&mut rows, 8, ffi::NO_FIELD)?;
-    make_room(&mut texts, text.len(), 0)?;
-    let mut osc = ffi::read_osc(text, &mut rows, &mut texts)?;
-    if osc.field_count > rows.len() || osc.text_length > texts.len() {
-        make_room(&mut rows, osc.field_count, ffi::NO_FIELD)?;
-        make_room(&mut texts, osc.text_length, 0)?;
-        osc = ffi::read_osc(text, &mut rows, &mut texts)?;
-    }
-    rows.truncate(osc.field_count);
-    texts.truncate(osc.text_length);
-    Ok((osc, rows, texts))
-}
-
-fn make_room<T: Clone>(items: &mut Vec<T>, count: usize, item: T) -> Result<(), Error> {
-    let more = count.saturating_sub(items.len());
-    items.try_reserve_exact(more).map_err(|_| Error::Memory)?;
-    items.resize(items.len() + more, item);
-    Ok(())
 }
 
 // The command of a kind, from its fields.

@@ -1,6 +1,6 @@
 // SPDX-License-Identifier: MIT
 //! iTerm2's proprietary commands.
-use super::fields::{Fields, kind, name};
+use crate::fields::{Fields, kind, name};
 use alloc::boxed::Box;
 use alloc::string::String;
 use alloc::vec::Vec;

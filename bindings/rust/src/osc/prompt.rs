@@ -1,6 +1,6 @@
 // SPDX-License-Identifier: MIT
 //! Semantic prompts.
-use super::fields::{Fields, kind, name};
+use crate::fields::{Fields, kind, name};
 use alloc::string::String;
 
 /// A mark that a shell writes between its prompts, the user's input, and the output of commands

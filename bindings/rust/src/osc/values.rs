@@ -1,6 +1,6 @@
 // SPDX-License-Identifier: MIT
 //! What commands name and carry.
-use super::fields::{Fields, name};
+use crate::fields::{Fields, name};
 use alloc::collections::BTreeMap;
 use alloc::string::String;
 use core::ops::BitOr;

@@ -1,8 +1,43 @@
 // SPDX-License-Identifier: MIT
-//! The fields of a command, taken one after another. The numbers are those of `escape_stream.h`.
-use crate::ffi;
+//! The fields of a command or an image, taken one after another. The numbers are those of `escape_stream.h`.
+use crate::{Error, ffi};
 use alloc::string::String;
 use alloc::vec::Vec;
+
+/// The value of a text: what a call says of it, in first as much room as most need, made of its
+/// kind and its fields.
+pub fn read<T>(
+    text: &[u8],
+    call: impl Fn(&[u8], &mut [ffi::Field], &mut [u8]) -> Result<ffi::Said, Error>,
+    value: impl FnOnce(u32, &mut Fields<'_>) -> Option<T>,
+) -> Result<T, Error> {
+    let (mut rows, mut texts) = (Vec::new(), Vec::new());
+    make_room(&mut rows, 8, ffi::NO_FIELD)?;
+    make_room(&mut texts, text.len(), 0)?;
+    let mut said = call(text, &mut rows, &mut texts)?;
+    if said.field_count > rows.len() || said.text_length > texts.len() {
+        make_room(&mut rows, said.field_count, ffi::NO_FIELD)?;
+        make_room(&mut texts, said.text_length, 0)?;
+        said = call(text, &mut rows, &mut texts)?;
+    }
+    rows.truncate(said.field_count);
+    texts.truncate(said.text_length);
+    let mut fields = Fields {
+        rows: &rows,
+        texts: &texts,
+    };
+    value(said.kind, &mut fields)
+        .filter(|_| fields.is_empty())
+        .ok_or(Error::Failed)
+}
+
+/// Makes the items so many, where they are fewer.
+pub fn make_room<T: Clone>(items: &mut Vec<T>, count: usize, item: T) -> Result<(), Error> {
+    let more = count.saturating_sub(items.len());
+    items.try_reserve_exact(more).map_err(|_| Error::Memory)?;
+    items.resize(items.len() + more, item);
+    Ok(())
+}
 
 // Constants with the numbers from this one on.
 macro_rules! numbered {
@@ -32,6 +67,16 @@ pub mod kind {
     }
 }
 
+/// The kinds of kitty's images, `ESCAPE_STREAM_KITTY_..`.
+pub mod image {
+    numbered! { 0;
+        NONE TRANSMIT_DATA TRANSMIT_DATA_AND_DISPLAY DISPLAY QUERY TRANSMIT_FRAME COMPOSE_FRAME
+        DELETE_ALL DELETE_BY_IMAGE_ID DELETE_BY_IMAGE_NUMBER DELETE_AT_CURSOR_POSITION
+        DELETE_ANIMATION_FRAMES DELETE_AT DELETE_AT_Z DELETE_COLUMN DELETE_ROW DELETE_Z
+        DELETE_BY_IMAGE_ID_RANGE
+    }
+}
+
 /// The names of fields, `ESCAPE_STREAM_FIELD_..`.
 pub mod name {
     numbered! { 0;
@@ -39,7 +84,11 @@ pub mod name {
         BLUE QUERY PROGRESS_STATE PERCENT APPLICATION CLICK PROMPT_KIND STATUS NAME HIGHLIGHTED
         CELL_HEIGHT CELL_WIDTH SCALE SIZE WIDTH_CELLS WIDTH_PIXELS WIDTH_PERCENT HEIGHT_CELLS
         HEIGHT_PIXELS HEIGHT_PERCENT PRESERVE_ASPECT_RATIO INLINE DO_NOT_MOVE_CURSOR CONTENT
-        VERSION LABEL
+        VERSION LABEL MEDIUM DATA_SIZE DATA_OFFSET FORMAT PIXEL_WIDTH PIXEL_HEIGHT IMAGE_ID
+        IMAGE_NUMBER COMPRESSION MORE_DATA_FOLLOWS X Y WIDTH HEIGHT X_OFFSET Y_OFFSET COLUMNS ROWS
+        PLACEMENT_ID Z_INDEX UNICODE_PLACEHOLDER BASE_FRAME FRAME_NUMBER DURATION COMPOSITION_MODE
+        BACKGROUND_PIXEL TARGET_FRAME SOURCE_FRAME SOURCE_X SOURCE_Y DELETES_DATA FIRST_IMAGE_ID
+        LAST_IMAGE_ID VERBOSITY
     }
 }
 
@@ -54,10 +103,6 @@ pub struct Fields<'a> {
 }
 
 impl<'a> Fields<'a> {
-    pub fn new(rows: &'a [ffi::Field], texts: &'a [u8]) -> Fields<'a> {
-        Fields { rows, texts }
-    }
-
     pub fn is_empty(&self) -> bool {
         self.rows.is_empty()
     }
@@ -91,6 +136,15 @@ impl<'a> Fields<'a> {
     /// A number.
     pub fn number<T: TryFrom<i64>>(&mut self, name: u32) -> Option<T> {
         self.take(name, VALUE_NUMBER)?.number.try_into().ok()
+    }
+
+    /// A number, where there is one.
+    pub fn optional<T: TryFrom<i64>>(&mut self, name: u32) -> Option<Option<T>> {
+        if self.has(name) {
+            self.number(name).map(Some)
+        } else {
+            Some(None)
+        }
     }
 
     /// A flag.

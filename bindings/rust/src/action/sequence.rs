@@ -1,0 +1,42 @@
+// SPDX-License-Identifier: MIT
+//! Control and escape sequences.
+use crate::{ControlFunction, Entry, EscapeFunction};
+use alloc::vec::Vec;
+
+/// A control sequence: its entries and its final byte, as `termwiz` has one of which it knows no
+/// more in its `Unspecified`. [`function`](CSI::function) names it.
+#[derive(Clone, Debug, PartialEq)]
+pub struct CSI {
+    /// Numbers and bytes in order: private prefix, parameters, separators, intermediates.
+    /// [`Parameters`](crate::Parameters) reads them.
+    pub params: Vec<Entry>,
+    /// Whether more came than are kept.
+    pub parameters_truncated: bool,
+    /// The final byte.
+    pub control: u8,
+}
+
+impl CSI {
+    /// What it asks for, by name.
+    #[must_use]
+    pub fn function(&self) -> Option<ControlFunction> {
+        ControlFunction::of_entries(&self.params, self.control)
+    }
+}
+
+/// An escape sequence. [`function`](Esc::function) names it.
+#[derive(Clone, Copy, Debug, PartialEq, Eq, Hash)]
+pub struct Esc {
+    /// The intermediate, where there is exactly one.
+    pub intermediate: Option<u8>,
+    /// The final byte.
+    pub control: u8,
+}
+
+impl Esc {
+    /// What it asks for, by name.
+    #[must_use]
+    pub fn function(self) -> Option<EscapeFunction> {
+        EscapeFunction::of(self.intermediate, self.control)
+    }
+}

@@ -1,0 +1,28 @@
+// SPDX-License-Identifier: MIT
+//! Device control strings as values: sixel images and termcap queries.
+//!
+//! The names are those of the crate `termwiz`.
+mod sixel;
+
+pub use sixel::{RgbColor, Sixel, SixelData, SixelValue};
+
+use crate::fields::{Fields, name, read};
+use crate::{Error, ffi};
+use alloc::string::String;
+use alloc::vec::Vec;
+
+/// The names of capabilities that a termcap query asks for (XTGETTCAP), at least one, by its data:
+/// the bytes between `ESC P + q` and what ends them. Any bytes are such data.
+///
+/// ```
+/// assert_eq!(escape_stream::dcs::xt_get_tcap(b"544e;436f")?, ["TN", "Co"]);
+/// # Ok::<(), escape_stream::Error>(())
+/// ```
+///
+/// # Errors
+///
+/// Those of [`OperatingSystemCommand::parse`](crate::osc::OperatingSystemCommand::parse).
+pub fn xt_get_tcap(data: &[u8]) -> Result<Vec<String>, Error> {
+    let names = |_, fields: &mut Fields<'_>| fields.all(|it| it.text(name::NAME));
+    read(data, ffi::read_tcap, names)
+}

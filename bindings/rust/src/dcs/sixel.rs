@@ -1,0 +1,180 @@
+// SPDX-License-Identifier: MIT
+//! Sixel images.
+use crate::fields::make_room;
+use crate::{Error, ffi};
+use alloc::vec::Vec;
+
+/// A sixel image.
+#[derive(Clone, Debug, PartialEq, Eq)]
+pub struct Sixel {
+    /// The pixel aspect ratio is pan to pad: a pixel is so many units high.
+    pub pan: i64,
+    /// A pixel is so many units wide.
+    pub pad: i64,
+    /// The width in pixels, where raster attributes gave one.
+    pub pixel_width: Option<u32>,
+    /// The height in pixels, where raster attributes gave one.
+    pub pixel_height: Option<u32>,
+    /// Whether pixels of 0 leave what was there; else they are drawn in the background colour.
+    pub background_is_transparent: bool,
+    /// The horizontal grid size, where the header has one.
+    pub horizontal_grid_size: Option<i64>,
+    /// The data.
+    pub data: Vec<SixelData>,
+}
+
+/// Six pixels, one above the other, as the bits of a number from 0 to 63. The lowest bit is the top
+/// pixel.
+pub type SixelValue = u8;
+
+/// A piece of sixel data.
+#[derive(Clone, Copy, Debug, PartialEq, Eq)]
+pub enum SixelData {
+    /// Six pixels.
+    Data(SixelValue),
+    /// Six pixels so many times.
+    Repeat {
+        /// How many times.
+        repeat_count: u32,
+        /// The pixels.
+        data: SixelValue,
+    },
+    /// Gives a colour to a number, and selects it.
+    DefineColorMapRGB {
+        /// The number.
+        color_number: u16,
+        /// The colour.
+        rgb: RgbColor,
+    },
+    /// Gives a colour to a number, and selects it.
+    DefineColorMapHSL {
+        /// The number.
+        color_number: u16,
+        /// The angle of the hue, from 0 to 360 degrees. Larger ones are kept as they are.
+        hue_angle: u16,
+        /// The saturation, from 0 to 100. Larger ones are kept as they are.
+        saturation: u8,
+        /// The lightness, from 0 to 100. Larger ones are kept as they are.
+        lightness: u8,
+    },
+    /// Selects the colour of this number.
+    SelectColorMapEntry(u16),
+    /// Back to the start of the line, so that what follows is drawn over it.
+    CarriageReturn,
+    /// To the start of the next band of six lines.
+    NewLine,
+}
+
+/// A colour as the intensities of red, green and blue, each from 0 to 255.
+#[derive(Clone, Copy, Debug, PartialEq, Eq, Hash)]
+pub struct RgbColor {
+    /// Red.
+    pub red: u8,
+    /// Green.
+    pub green: u8,
+    /// Blue.
+    pub blue: u8,
+}
+
+impl Sixel {
+    /// The image of these parameters and this data: those of [`Event::Dcs`](crate::Event::Dcs) with
+    /// the byte `q` and no intermediate, and the bytes up to what ends them. Any are such an image.
+    ///
+    /// ```
+    /// use escape_stream::dcs::{Sixel, SixelData};
+    ///
+    /// let sixel = Sixel::parse(&[9, 1], b"~!3?-")?;
+    /// assert_eq!((sixel.pan, sixel.pad, sixel.dimensions()), (1, 1, (4, 6)));
+    /// assert_eq!(sixel.data[0], SixelData::Data(63));
+    /// assert_eq!(sixel.data[2], SixelData::NewLine);
+    /// # Ok::<(), escape_stream::Error>(())
+    /// ```
+    ///
+    /// # Errors
+    ///
+    /// Those of [`OperatingSystemCommand::parse`](crate::osc::OperatingSystemCommand::parse).
+    pub fn parse(params: &[i64], data: &[u8]) -> Result<Sixel, Error> {
+        let mut rows = Vec::new();
+        let (mut raw, mut count) = ffi::read_sixel(params, data, &mut rows)?;
+        make_room(&mut rows, raw.item_count, ffi::NO_ITEM)?;
+        if !rows.is_empty() {
+            (raw, count) = ffi::read_sixel(params, data, &mut rows)?;
+        }
+        let mut items = Vec::new();
+        items.try_reserve_exact(count).map_err(|_| Error::Memory)?;
+        for row in &rows[..count] {
+            items.push(SixelData::of(row).ok_or(Error::Failed)?);
+        }
+        let sixel = Sixel {
+            pan: raw.pan,
+            pad: raw.pad,
+            pixel_width: raw.has_pixel_width.then_some(raw.pixel_width),
+            pixel_height: raw.has_pixel_height.then_some(raw.pixel_height),
+            background_is_transparent: raw.background_is_transparent,
+            horizontal_grid_size: raw.has_grid_size.then_some(raw.grid_size),
+            data: items,
+        };
+        debug_assert_eq!(sixel.dimensions(), (raw.width, raw.height));
+        Ok(sixel)
+    }
+
+    /// Width and height in pixels: both sizes of the raster attributes, where both are there. Else
+    /// the width of the widest line, and six times the number of the last band that has a sixel.
+    #[must_use]
+    pub fn dimensions(&self) -> (u32, u32) {
+        if let (Some(width), Some(height)) = (self.pixel_width, self.pixel_height) {
+            return (width, height);
+        }
+        let (mut width, mut height, mut column, mut band) = (0, 0, 0u32, 1u32);
+        for item in &self.data {
+            let count = match item {
+                SixelData::Data(_) => 1,
+                SixelData::Repeat { repeat_count, .. } => *repeat_count,
+                SixelData::CarriageReturn => {
+                    column = 0;
+                    continue;
+                }
+                SixelData::NewLine => {
+                    (column, band) = (0, band.saturating_add(1));
+                    continue;
+                }
+                _ => continue,
+            };
+            column = column.saturating_add(count);
+            width = column.max(width);
+            height = band.saturating_mul(6);
+        }
+        (width, height)
+    }
+}
+
+impl SixelData {
+    // The piece of data of a row. Kinds are as the header has them.
+    fn of(row: &ffi::SixelItem) -> Option<SixelData> {
+        Some(match row.kind {
+            0 => SixelData::Data(row.pixels),
+            1 => SixelData::Repeat {
+                repeat_count: row.count,
+                data: row.pixels,
+            },
+            2 => SixelData::DefineColorMapRGB {
+                color_number: row.color,
+                rgb: RgbColor {
+                    red: row.red,
+                    green: row.green,
+                    blue: row.blue,
+                },
+            },
+            3 => SixelData::DefineColorMapHSL {
+                color_number: row.color,
+                hue_angle: row.hue,
+                saturation: row.saturation,
+                lightness: row.lightness,
+            },
+            4 => SixelData::SelectColorMapEntry(row.color),
+            5 => SixelData::CarriageReturn,
+            6 => SixelData::NewLine,
+            _ => return None,
+        })
+    }
+}
