@@ -16,7 +16,9 @@ The work is done by a library that is proved: what each call writes is what its 
 not proved.
 """
 
-from escape_stream._commands import Command, CommandKind, FieldName, command
+from escape_stream._actions import Action, DeviceControl, actions
+from escape_stream._commands import Command, CommandKind, command
+from escape_stream._devices import Sixel, SixelItem, SixelKind, TermcapQuery, sixel, termcap_query
 from escape_stream._events import (
     Apc,
     Control,
@@ -30,13 +32,16 @@ from escape_stream._events import (
     Osc,
     Text,
 )
+from escape_stream._fields import FieldName
 from escape_stream._filter import Filter
 from escape_stream._functions import Function, function
+from escape_stream._images import Image, ImageKind, Medium, image
 from escape_stream._parser import Parser, events, joined
 from escape_stream._whole import DEFAULT_LIMIT, Policy, filter, is_normal, normal
 
 __all__ = [
     "DEFAULT_LIMIT",
+    "Action",
     "Apc",
     "Command",
     "CommandKind",
@@ -45,21 +50,33 @@ __all__ = [
     "Data",
     "Dcs",
     "DcsEnd",
+    "DeviceControl",
     "Escape",
     "Event",
     "FieldName",
     "Filter",
     "Function",
+    "Image",
+    "ImageKind",
     "LimitPassed",
+    "Medium",
     "Osc",
     "Parser",
     "Policy",
+    "Sixel",
+    "SixelItem",
+    "SixelKind",
+    "TermcapQuery",
     "Text",
+    "actions",
     "command",
     "events",
     "filter",
     "function",
+    "image",
     "is_normal",
     "joined",
     "normal",
+    "sixel",
+    "termcap_query",
 ]

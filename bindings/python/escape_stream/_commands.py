@@ -1,11 +1,11 @@
 # SPDX-License-Identifier: MIT
 """What operating system commands say: their kind, and their parts as fields."""
 
-from ctypes import byref, c_ubyte
 from dataclasses import dataclass
 from enum import IntEnum
 
 from escape_stream import _library
+from escape_stream._fields import Fields, FieldName, Value, read
 
 
 class CommandKind(IntEnum):
@@ -57,50 +57,7 @@ class CommandKind(IntEnum):
     ITERM_POP_UNICODE_VERSION = 43
 
 
-class FieldName(IntEnum):
-    """Which part of a command a field is. `escape_stream.h` says what each holds."""
-
-    TEXT = 0
-    PART = 1
-    DIRECTORY = 2
-    URI = 3
-    IMPLICIT = 4
-    KEY = 5
-    VALUE = 6
-    SELECTION = 7
-    PALETTE_INDEX = 8
-    DYNAMIC_COLOR = 9
-    RED = 10
-    GREEN = 11
-    BLUE = 12
-    QUERY = 13
-    PROGRESS_STATE = 14
-    PERCENT = 15
-    APPLICATION = 16
-    CLICK = 17
-    PROMPT_KIND = 18
-    STATUS = 19
-    NAME = 20
-    HIGHLIGHTED = 21
-    CELL_HEIGHT = 22
-    CELL_WIDTH = 23
-    SCALE = 24
-    SIZE = 25
-    WIDTH_CELLS = 26
-    WIDTH_PIXELS = 27
-    WIDTH_PERCENT = 28
-    HEIGHT_CELLS = 29
-    HEIGHT_PIXELS = 30
-    HEIGHT_PERCENT = 31
-    PRESERVE_ASPECT_RATIO = 32
-    INLINE = 33
-    DO_NOT_MOVE_CURSOR = 34
-    CONTENT = 35
-    VERSION = 36
-    LABEL = 37
-
-
-# The fields whose bytes need not be UTF-8.
+# The fields whose bytes need not be UTF-8, by their kinds.
 _BYTES = {(CommandKind.UNSPECIFIED, FieldName.PART), (CommandKind.ITERM_FILE, FieldName.CONTENT)}
 
 
@@ -109,10 +66,10 @@ class Command:
     """An operating system command: its kind, and its fields in order."""
 
     kind: CommandKind
-    fields: tuple[tuple[FieldName, int | str | bytes], ...]
+    fields: Fields
     """Numbers and sizes as `int`, texts as `str`; of what need not be UTF-8, `bytes`. A flag is 0 or 1."""
 
-    def get(self, name: FieldName) -> int | str | bytes | None:
+    def get(self, name: FieldName) -> Value | None:
         """Returns the first field of this name, where there is one."""
         return next((value for it, value in self.fields if it == name), None)
 
@@ -128,24 +85,5 @@ def command(text: bytes) -> Command:
 
     Raises MemoryError where a request for memory was refused.
     """
-    text, raw = _library.bytes_of(text), _library.RawOsc()
-    # First in as much room as most commands need.
-    room = raw.field_count, raw.text_length = 8, len(text)
-    while True:
-        rows, out = (_library.RawField * room[0])(), (c_ubyte * room[1])()
-        _library.done(_library.read_osc(text, len(text), byref(raw), rows, room[0], out, room[1]))
-        if raw.field_count <= room[0] and raw.text_length <= room[1]:
-            break
-        room = raw.field_count, raw.text_length
-    kind, texts = CommandKind(raw.kind), bytes(out)
-    return Command(kind, tuple(_field(kind, row, texts) for row in rows[: raw.field_count]))
-
-
-def _field(kind: CommandKind, row: _library.RawField, texts: bytes) -> tuple[FieldName, int | str | bytes]:
-    name = FieldName(row.name)
-    if row.kind == _library.VALUE_NUMBER:
-        return name, row.number
-    if row.kind == _library.VALUE_SIZE:
-        return name, row.length
-    text = texts[row.offset : row.offset + row.length]
-    return name, text if (kind, name) in _BYTES else text.decode()
+    kind, fields = read(_library.read_osc, _library.RawOsc(), text, _BYTES)
+    return Command(CommandKind(kind), fields)

@@ -7,7 +7,7 @@ pointer is never null; an object that a call writes is of this package alone.
 
 import ctypes
 import struct
-from ctypes import POINTER, Structure, c_bool, c_char_p, c_int64, c_size_t, c_ubyte, c_uint32, c_uint64, c_void_p
+from ctypes import POINTER, Structure, c_bool, c_char_p, c_int64, c_size_t, c_ubyte, c_uint16, c_uint32, c_uint64, c_void_p
 from pathlib import Path
 
 DONE, NO_MEMORY, UNKNOWN_POLICY, NOT_BEGUN = range(4)
@@ -113,6 +113,62 @@ class RawOsc(Structure):
     _fields_ = [("kind", c_uint32), ("field_count", c_size_t), ("text_length", c_size_t)]
 
 
+class RawImage(Structure):
+    """`struct escape_stream_image`."""
+
+    _fields_ = [("kind", c_uint32), ("field_count", c_size_t), ("text_length", c_size_t)]
+
+
+class RawQuery(Structure):
+    """`struct escape_stream_query`."""
+
+    _fields_ = [("name_count", c_size_t), ("text_length", c_size_t)]
+
+    # A query has no kind, and its names are its fields.
+    kind = 0
+
+    @property
+    def field_count(self) -> int:
+        """How many names it has."""
+        return self.name_count
+
+
+class RawSixelItem(Structure):
+    """`struct escape_stream_sixel_item`."""
+
+    _fields_ = [
+        ("kind", c_uint32),
+        ("count", c_uint32),
+        ("color", c_uint16),
+        ("hue", c_uint16),
+        ("pixels", c_ubyte),
+        ("red", c_ubyte),
+        ("green", c_ubyte),
+        ("blue", c_ubyte),
+        ("lightness", c_ubyte),
+        ("saturation", c_ubyte),
+    ]
+
+
+class RawSixel(Structure):
+    """`struct escape_stream_sixel`."""
+
+    _fields_ = [
+        ("pan", c_int64),
+        ("pad", c_int64),
+        ("grid_size", c_int64),
+        ("pixel_width", c_uint32),
+        ("pixel_height", c_uint32),
+        ("width", c_uint32),
+        ("height", c_uint32),
+        ("has_grid_size", c_bool),
+        ("has_pixel_width", c_bool),
+        ("has_pixel_height", c_bool),
+        ("background_is_transparent", c_bool),
+        ("item_count", c_size_t),
+    ]
+
+
 _PLACE = str(Path(__file__).parent / "libescape_stream.so")
 # The calls that take a whole stream, or a piece of any length, let other threads run meanwhile.
 _long = ctypes.CDLL(_PLACE)
@@ -198,6 +254,18 @@ c0_function.restype = c_bool
 read_osc = _short.escape_stream_read_osc
 read_osc.argtypes = (*_length, POINTER(RawOsc), POINTER(RawField), c_size_t, *_room)
 read_osc.restype = c_uint32
+
+read_kitty = _short.escape_stream_read_kitty
+read_kitty.argtypes = (*_length, POINTER(RawImage), POINTER(RawField), c_size_t, *_room)
+read_kitty.restype = c_uint32
+
+read_tcap = _short.escape_stream_read_tcap
+read_tcap.argtypes = (*_length, POINTER(RawQuery), POINTER(RawField), c_size_t, *_room)
+read_tcap.restype = c_uint32
+
+read_sixel = _long.escape_stream_read_sixel
+read_sixel.argtypes = (POINTER(c_int64), c_size_t, *_length, POINTER(RawSixel), POINTER(RawSixelItem), c_size_t)
+read_sixel.restype = c_uint32
 
 
 def done(status: int) -> None:

@@ -5,12 +5,13 @@ import ctypes
 import os
 import shutil
 import subprocess
+from enum import IntEnum
 from pathlib import Path
 
 import pytest
 from rows import TOP
 
-from escape_stream import CommandKind, FieldName, Policy, _library
+from escape_stream import CommandKind, FieldName, ImageKind, Medium, Policy, SixelKind, _library
 
 STRUCTS: dict[str, type[ctypes.Structure]] = {
     "escape_stream_filter": _library.RawFilter,
@@ -20,10 +21,22 @@ STRUCTS: dict[str, type[ctypes.Structure]] = {
     "escape_stream_function": _library.RawFunction,
     "escape_stream_field": _library.RawField,
     "escape_stream_osc": _library.RawOsc,
+    "escape_stream_image": _library.RawImage,
+    "escape_stream_query": _library.RawQuery,
+    "escape_stream_sixel": _library.RawSixel,
+    "escape_stream_sixel_item": _library.RawSixelItem,
 }
 STATUSES = ("DONE", "NO_MEMORY", "UNKNOWN_POLICY", "NOT_BEGUN")
 VALUES = ("VALUE_NUMBER", "VALUE_TEXT", "VALUE_SIZE")
 KINDS = "NONE TEXT CHARACTER CONTROL ESCAPE CSI OSC DCS DATA DATA_BYTE DCS_END APC FAILED LIMIT".split()
+ENUMS: dict[str, type[IntEnum]] = {
+    "POLICY": Policy,
+    "OSC": CommandKind,
+    "KITTY": ImageKind,
+    "MEDIUM": Medium,
+    "SIXEL": SixelKind,
+    "FIELD": FieldName,
+}
 HEADERS = [TOP / "crates/escape_c/include", TOP / "crates/stream_c/include"]
 
 
@@ -36,7 +49,7 @@ def declared() -> dict[str, int]:
             found[f"offsetof(struct {name}, {field[0]})"] = getattr(struct, field[0]).offset
     for word in (*STATUSES, *KINDS, *VALUES):
         found[f"ESCAPE_STREAM_{word}"] = getattr(_library, word)
-    for prefix, enum in (("POLICY", Policy), ("OSC", CommandKind), ("FIELD", FieldName)):
+    for prefix, enum in ENUMS.items():
         for it in enum:
             found[f"ESCAPE_STREAM_{prefix}_{it.name}"] = it
     return found

@@ -1,0 +1,117 @@
+# SPDX-License-Identifier: MIT
+"""What device control strings say: sixel images, termcap queries and short requests."""
+
+from collections.abc import Sequence
+from ctypes import byref, c_int64
+from dataclasses import dataclass
+from enum import IntEnum
+
+from escape_stream import _library
+from escape_stream._fields import read
+
+
+class SixelKind(IntEnum):
+    """What an item of a sixel image is."""
+
+    PIXELS = 0
+    """Six pixels."""
+    REPEAT = 1
+    """Six pixels, `count` times."""
+    DEFINE_RGB = 2
+    """Gives a colour to a number, and selects it."""
+    DEFINE_HSL = 3
+    """The same."""
+    SELECT = 4
+    """Selects the colour of a number."""
+    CARRIAGE_RETURN = 5
+    """Back to the start of the line, over which is drawn."""
+    NEW_LINE = 6
+    """To the start of the next band of six lines."""
+
+
+@dataclass(frozen=True, slots=True)
+class SixelItem:
+    """An item of a sixel image. What has no meaning for its kind is 0."""
+
+    kind: SixelKind
+    pixels: int = 0
+    """Six, one above the other, as bits: the top one the lowest."""
+    count: int = 0
+    """How many times they come."""
+    color: int = 0
+    """The number of a colour."""
+    rgb: tuple[int, int, int] = (0, 0, 0)
+    """Red, green and blue, from 0 to 255."""
+    hls: tuple[int, int, int] = (0, 0, 0)
+    """Hue, from 0 to 360, lightness and saturation, from 0 to 100; larger ones are as they were written."""
+
+
+@dataclass(frozen=True, slots=True)
+class Sixel:
+    """A sixel image."""
+
+    pan: int
+    """A pixel is so many units high."""
+    pad: int
+    """And so many wide."""
+    pixel_width: int | None
+    """As raster attributes say."""
+    pixel_height: int | None
+    background_is_transparent: bool
+    """Whether pixels of 0 leave what was there."""
+    horizontal_grid_size: int | None
+    dimensions: tuple[int, int]
+    """Width and height: both that raster attributes say, and else those of what is drawn."""
+    items: tuple[SixelItem, ...]
+
+
+@dataclass(frozen=True, slots=True)
+class TermcapQuery:
+    """The names of capabilities that are asked for (XTGETTCAP), at least one."""
+
+    names: tuple[str, ...]
+
+
+def termcap_query(data: bytes) -> TermcapQuery:
+    """Returns what the data of a device control string with `+q` asks for. Any bytes are such data.
+
+    >>> from escape_stream import termcap_query
+    >>> termcap_query(b"544e;436f").names
+    ('TN', 'Co')
+
+    Raises MemoryError where a request for memory was refused.
+    """
+    _, fields = read(_library.read_tcap, _library.RawQuery(), data, ())
+    return TermcapQuery(tuple(str(value) for _, value in fields))
+
+
+def sixel(parameters: Sequence[int], data: bytes) -> Sixel:
+    """Returns the image of a device control string with `q`: of its parameters and its data. Any are such an image.
+
+    >>> from escape_stream import sixel
+    >>> sixel([9, 1], b"~!3?").dimensions
+    (4, 6)
+
+    Raises MemoryError where a request for memory was refused.
+    """
+    data, raw = _library.bytes_of(data), _library.RawSixel()
+    numbers = (c_int64 * len(parameters))(*parameters)
+    rows = (_library.RawSixelItem * len(data))()
+    _library.done(_library.read_sixel(numbers, len(numbers), data, len(data), byref(raw), rows, len(rows)))
+    if raw.item_count > len(rows):
+        raise RuntimeError("escape_stream: more items than bytes")
+    return Sixel(
+        raw.pan,
+        raw.pad,
+        raw.pixel_width if raw.has_pixel_width else None,
+        raw.pixel_height if raw.has_pixel_height else None,
+        raw.background_is_transparent,
+        raw.grid_size if raw.has_grid_size else None,
+        (raw.width, raw.height),
+        tuple(map(_item, rows[: raw.item_count])),
+    )
+
+
+def _item(row: _library.RawSixelItem) -> SixelItem:
+    rgb, hls = (row.red, row.green, row.blue), (row.hue, row.lightness, row.saturation)
+    return SixelItem(SixelKind(row.kind), row.pixels, row.count, row.color, rgb, hls)

@@ -1,0 +1,74 @@
+# SPDX-License-Identifier: MIT
+"""What commands of kitty's graphics protocol say: their kind, and their keys as fields."""
+
+from dataclasses import dataclass
+from enum import IntEnum
+
+from escape_stream import _library
+from escape_stream._fields import Fields, FieldName, Value, read
+
+
+class ImageKind(IntEnum):
+    """Which command it is. `escape_stream.h` says which fields each has."""
+
+    NONE = 0
+    TRANSMIT_DATA = 1
+    TRANSMIT_DATA_AND_DISPLAY = 2
+    DISPLAY = 3
+    QUERY = 4
+    TRANSMIT_FRAME = 5
+    COMPOSE_FRAME = 6
+    DELETE_ALL = 7
+    DELETE_BY_IMAGE_ID = 8
+    DELETE_BY_IMAGE_NUMBER = 9
+    DELETE_AT_CURSOR_POSITION = 10
+    DELETE_ANIMATION_FRAMES = 11
+    DELETE_AT = 12
+    DELETE_AT_Z = 13
+    DELETE_COLUMN = 14
+    DELETE_ROW = 15
+    DELETE_Z = 16
+    DELETE_BY_IMAGE_ID_RANGE = 17
+
+
+class Medium(IntEnum):
+    """What the field `CONTENT` of an image is."""
+
+    PAYLOAD = 0
+    """The pixels as they came, in base64."""
+    BYTES = 1
+    """The pixels. No text is read so."""
+    FILE = 2
+    """The path of a file."""
+    TEMPORARY_FILE = 3
+    """That of a file which the terminal deletes once it is read."""
+    SHARED_MEMORY = 4
+    """The name of a shared memory object."""
+
+
+@dataclass(frozen=True, slots=True)
+class Image:
+    """A command of kitty's graphics protocol: its kind, and its fields in order."""
+
+    kind: ImageKind
+    fields: Fields
+    """Numbers as `int`, texts as `str`. A flag is 0 or 1."""
+
+    def get(self, name: FieldName) -> Value | None:
+        """Returns the field of this name, where there is one."""
+        return next((value for it, value in self.fields if it == name), None)
+
+
+def image(text: bytes) -> Image | None:
+    """Returns what the text of an application program command says, that of an event `Apc`; None where it is no image.
+
+    >>> from escape_stream import FieldName, image
+    >>> image(b"Gf=24,s=10,v=20;AAAA").get(FieldName.PIXEL_WIDTH)
+    10
+    >>> image(b"no image") is None
+    True
+
+    Raises MemoryError where a request for memory was refused.
+    """
+    kind, fields = read(_library.read_kitty, _library.RawImage(), text, ())
+    return Image(ImageKind(kind), fields) if kind else None
