@@ -9,3 +9,4 @@ mod ImagesFound
 pub mod ImagesWhole
 pub mod Whole
 pub mod SixelsFound
+pub mod SixelsFew

@@ -1,6 +1,6 @@
 //! Laws of fields: rows say what fields hold, fields are the whole of a command, an
 //! image and a query, and so is a row of a piece of sixel data.
-ghost use Rattle.std.specs.Prelude.{◌≡◌, ℕ, List, Option, map};
+ghost use Rattle.std.specs.Prelude.{◌≡◌, ◌≤◌, ℕ, ℤ, List, Option, length, map};
 ghost use Rattle.esc_fields.specs.Commands.{fields_of};
 ghost use Rattle.esc_fields.specs.Fields.{Field, named, said, table_of};
 ghost use Rattle.esc_fields.specs.Kinds.{kind_number, kind_of};
@@ -10,6 +10,8 @@ ghost use Rattle.esc_fields.specs.Queries.{query_fields};
 ghost use Rattle.esc_fields.specs.Sixels.{sixel_row};
 ghost use Rattle.esc_kitty.specs.declared.image.KittyImage.{KittyImage};
 ghost use Rattle.esc_osc.specs.declared.command.OperatingSystemCommand.{OperatingSystemCommand};
+ghost use Rattle.esc_sixel.specs.Items.{items};
+ghost use Rattle.esc_sixel.specs.Meaning.{sixel_of};
 ghost use Rattle.esc_sixel.specs.declared.sixel_data.SixelData.{SixelData};
 
 use std::alloc::Allocator;
@@ -47,4 +49,11 @@ pub fn sixel_rows_are_whole()
 pub fn queries_are_whole()
     ensures { (ns ms : List (List ℕ)) → table_of (query_fields ns) ≡ table_of (query_fields ms)
         → ns ≡ ms }
+{}
+
+/// A sixel image has no more pieces of data than bytes that it was read from.
+#[tactic(auto, using(crate::proofs::SixelsFew::content_few))]
+pub fn sixel_items_are_few<A: Allocator>()
+    ensures { (ps : List ℤ) (s : List ℕ)
+        → length (sixel_of {A = A} ps (items s)).content ≤ length s }
 {}
