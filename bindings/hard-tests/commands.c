@@ -1,5 +1,5 @@
 /* SPDX-License-Identifier: MIT */
-/* The fields of operating system commands: their texts one after another, in room of any length. */
+/* The fields of commands, images and queries: their texts one after another, in room of any length; and sixel images. */
 #include "hard.h"
 #include "escape_stream.h"
 
@@ -39,12 +39,45 @@ static struct room room_of(size_t field_room, size_t capacity) {
     return room;
 }
 
+static uint32_t read_osc(const struct room *room, struct bytes text) {
+    return escape_stream_read_osc(text.at, text.length, room->osc, room->fields, room->field_room, room->out, room->capacity);
+}
+
+static uint32_t read_kitty(const struct room *room, struct bytes text) {
+    struct escape_stream_image image;
+    uint32_t status;
+    memset(&image, UNTOUCHED, sizeof image);
+    status = escape_stream_read_kitty(text.at, text.length, &image, room->fields, room->field_room, room->out, room->capacity);
+    *room->osc = (struct escape_stream_osc){image.kind, image.field_count, image.text_length};
+    return status;
+}
+
+static uint32_t read_tcap(const struct room *room, struct bytes text) {
+    struct escape_stream_query query;
+    uint32_t status;
+    memset(&query, UNTOUCHED, sizeof query);
+    status = escape_stream_read_tcap(text.at, text.length, &query, room->fields, room->field_room, room->out, room->capacity);
+    *room->osc = (struct escape_stream_osc){0, query.name_count, query.text_length};
+    return status;
+}
+
+/* The calls that give fields, by what they read. */
+static const struct call {
+    const char *name;
+    uint32_t (*read)(const struct room *room, struct bytes text);
+    uint32_t last_kind;
+} CALLS[] = {
+    [COMMANDS] = {"escape_stream_read_osc", read_osc, ESCAPE_STREAM_OSC_ITERM_POP_UNICODE_VERSION},
+    [IMAGES] = {"escape_stream_read_kitty", read_kitty, ESCAPE_STREAM_KITTY_DELETE_BY_IMAGE_ID_RANGE},
+    [QUERIES] = {"escape_stream_read_tcap", read_tcap, 0},
+};
+static const struct call *call;
+
 static uint32_t run(const struct room *room, struct bytes text) {
     uint32_t status;
-    at_hand.call = "escape_stream_read_osc";
+    at_hand.call = call->name;
     at_hand.calls++;
-    text = lent(text);
-    status = escape_stream_read_osc(text.at, text.length, room->osc, room->fields, room->field_room, room->out, room->capacity);
+    status = call->read(room, lent(text));
     if (blocks != 0)
         fails("blocks were not given back", (size_t)blocks);
     return status;
@@ -69,7 +102,7 @@ static void clear(const struct room *room, size_t fields, size_t bytes) {
 
 static void check_field(const struct escape_stream_field *field, size_t *length) {
     bool is_text = field->kind == ESCAPE_STREAM_VALUE_TEXT;
-    if (field->name > ESCAPE_STREAM_FIELD_LABEL || field->kind > ESCAPE_STREAM_VALUE_SIZE)
+    if (field->name > ESCAPE_STREAM_FIELD_VERBOSITY || field->kind > ESCAPE_STREAM_VALUE_SIZE)
         fails("an unknown name or kind of a field", field->name);
     if (field->offset != (is_text ? *length : 0))
         fails("a text at another place", field->offset);
@@ -88,7 +121,7 @@ static struct escape_stream_osc read_all(struct bytes text) {
     if (run(&room, text) != ESCAPE_STREAM_DONE)
         fails("another status", text.length);
     osc = *room.osc;
-    if (osc.kind > ESCAPE_STREAM_OSC_ITERM_POP_UNICODE_VERSION)
+    if (osc.kind > call->last_kind)
         fails("an unknown kind of a command", osc.kind);
     if (osc.field_count > FIELD_ROOM || osc.text_length > TEXT_ROOM)
         fails("more fields or texts than this program has room for", osc.field_count);
@@ -122,13 +155,14 @@ static void check_room(const struct escape_stream_osc *osc, struct bytes text) {
 
 static void check_refusal(const struct escape_stream_osc *osc, struct bytes text) {
     struct room room = room_of(8, 64);
-    size_t at = 1 + below(6);
+    size_t at = 1 + below(6), untouched;
     uint32_t status;
+    memset(&untouched, UNTOUCHED, sizeof untouched);
     requests = 0;
     refused = at;
     status = run(&room, text);
     refused = 0;
-    if (status == ESCAPE_STREAM_NO_MEMORY && requests >= at && is_all(UNTOUCHED, room.osc, sizeof *room.osc)) {
+    if (status == ESCAPE_STREAM_NO_MEMORY && requests >= at && room.osc->field_count == untouched) {
         at_hand.refusals++;
         clear(&room, 0, 0);
     } else if (status == ESCAPE_STREAM_DONE) {
@@ -138,10 +172,37 @@ static void check_refusal(const struct escape_stream_osc *osc, struct bytes text
     }
 }
 
-/* Checks the command of a text. */
-void check_command(struct bytes text) {
-    struct escape_stream_osc osc = read_all(text);
+/* Checks what a text says, as what it is read. */
+void check_command(enum reading as, struct bytes text) {
+    struct escape_stream_osc osc;
+    call = &CALLS[as];
+    osc = read_all(text);
     check_room(&osc, text);
     if (one_in(4))
         check_refusal(&osc, text);
+}
+
+/* Checks the sixel image of a text: its items in room for some, and none past these. */
+void check_sixel(struct bytes text) {
+    const int64_t params[3] = {(int64_t)below(10), (int64_t)below(3), (int64_t)below(5)};
+    struct escape_stream_sixel sixel = {0};
+    struct escape_stream_sixel_item *items;
+    size_t item_room = below(text.length + 3), count = below(4), written;
+    at_hand.call = "escape_stream_read_sixel";
+    at_hand.calls++;
+    items = (void *)placed(&rows, item_room * sizeof *items);
+    text = lent(text);
+    if (escape_stream_read_sixel(params, count, text.at, text.length, &sixel, items, item_room) != ESCAPE_STREAM_DONE)
+        fails("another status", text.length);
+    if (blocks != 0)
+        fails("blocks were not given back", (size_t)blocks);
+    if (sixel.item_count > text.length)
+        fails("more items than bytes", sixel.item_count);
+    written = item_room < sixel.item_count ? item_room : sixel.item_count;
+    for (size_t i = 0; i < written; i++)
+        if (items[i].kind > ESCAPE_STREAM_SIXEL_NEW_LINE || items[i].pixels > 63)
+            fails("an unknown item", items[i].kind);
+    memset(items, JUNK, written * sizeof *items);
+    if (!is_all(JUNK, items, item_room * sizeof *items))
+        fails("an item past those of the image was written, in room for", item_room);
 }

@@ -216,13 +216,20 @@ static size_t some_room(void) {
     return one_in(4) ? ROOMS[below(sizeof ROOMS / sizeof *ROOMS)] : below(SMALL + 1);
 }
 
-/* The command of each text. */
+/* What each text says. Any bytes are a query, and the data of a sixel image. */
 static void check_commands(void) {
     struct record record;
     for (size_t at = 0; at < whole.length; at += sizeof record + record.payload) {
+        struct bytes text = {whole.at + at + sizeof record, 0};
         record = record_at(&whole, at);
-        if (record.kind == ESCAPE_STREAM_OSC)
-            check_command((struct bytes){whole.at + at + sizeof record, record.text});
+        text.length = record.text;
+        if (record.kind != ESCAPE_STREAM_OSC && record.kind != ESCAPE_STREAM_APC)
+            continue;
+        check_command(record.kind == ESCAPE_STREAM_OSC ? COMMANDS : IMAGES, text);
+        if (one_in(4)) {
+            check_command(QUERIES, text);
+            check_sixel(text);
+        }
     }
 }
 

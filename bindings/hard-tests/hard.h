@@ -61,6 +61,8 @@ void begin_pieces(void);
 void check_pieces(uint32_t policy, size_t limit, struct bytes stream, struct bytes text);
 void check_functions(void);
 void begin_commands(void);
-void check_command(struct bytes text);
+enum reading { COMMANDS, IMAGES, QUERIES };
+void check_command(enum reading as, struct bytes text);
+void check_sixel(struct bytes text);
 
 #endif
