@@ -1,5 +1,5 @@
 //! The fields of deletions of kitty's images. An error is that memory was refused.
-ghost use Rattle.std.specs.Prelude.{◌≡◌, [], ◌∷◌, OnOk, OnErr};
+ghost use Rattle.std.specs.Prelude.{◌≡◌, [], ◌∷◌, OnOk, OnErr, Some};
 ghost use Rattle.esc_fields.specs.Fields.{with_fields};
 ghost use Rattle.esc_fields.specs.Images.{counted, delete_numbers, flagged, known, number_fields};
 ghost use Rattle.esc_fields.specs.declared.field_name.FieldName.TheVariants as name;
@@ -21,57 +21,96 @@ pub(crate) fn append_delete<A: Allocator>(
         ≡ with_fields fields.old (number_fields (delete_numbers what.now))) }
     ensures refused { OnErr result (Refused A) }
 {
+    let id = FieldName::ImageId;
+    let number = FieldName::ImageNumber;
     match what {
         Delete::All { delete }
         | Delete::AtCursorPosition { delete }
         | Delete::AnimationFrames { delete } => append_flag(*delete, fields),
-        Delete::DeleteZ { z, delete } => {
-            fields.push_number(FieldName::ZIndex, i64::from(*z))?;
-            append_flag(*delete, fields)
-        }
+        Delete::DeleteZ { z, delete } => append_order(*z, *delete, fields),
         Delete::DeleteColumn { x, delete } => append_one(FieldName::X, *x, *delete, fields),
         Delete::DeleteRow { y, delete } => append_one(FieldName::Y, *y, *delete, fields),
         Delete::ByImageId {
             image_id,
             placement_id,
             delete,
-        } => append_image_id(
-            FieldName::ImageId,
-            *image_id,
-            *placement_id,
-            *delete,
-            fields,
-        ),
+        } => append_image_id(id, *image_id, *placement_id, *delete, fields),
         Delete::ByImageNumber {
             image_number,
             placement_id,
             delete,
-        } => append_image_id(
-            FieldName::ImageNumber,
-            *image_number,
-            *placement_id,
-            *delete,
-            fields,
-        ),
-        Delete::DeleteAt { x, y, delete } => {
-            fields.push_number(FieldName::X, i64::from(*x))?;
-            append_one(FieldName::Y, *y, *delete, fields)
-        }
-        Delete::DeleteAtZ { x, y, z, delete } => {
-            fields.push_number(FieldName::X, i64::from(*x))?;
-            fields.push_number(FieldName::Y, i64::from(*y))?;
-            fields.push_number(FieldName::ZIndex, i64::from(*z))?;
-            append_flag(*delete, fields)
-        }
+        } => append_image_id(number, *image_number, *placement_id, *delete, fields),
+        Delete::DeleteAt { x, y, delete } => append_cell(*x, *y, *delete, fields),
+        Delete::DeleteAtZ { x, y, z, delete } => append_cell_at(*x, *y, *z, *delete, fields),
         Delete::ByImageIdRange {
             first,
             last,
             delete,
-        } => {
-            fields.push_number(FieldName::FirstImageId, i64::from(*first))?;
-            append_one(FieldName::LastImageId, *last, *delete, fields)
-        }
+        } => append_range(*first, *last, *delete, fields),
     }
+}
+
+// A cell, and whether the data too.
+fn append_cell<A: Allocator>(
+    x: u32,
+    y: u32,
+    delete: bool,
+    fields: &mut Fields<A>,
+) -> Result<(), AllocError>
+    ensures ok { OnOk result (fields.new ≡ with_fields fields.old (number_fields
+        ((name.X, known x) ∷ (name.Y, known y) ∷ (name.DeletesData, flagged delete) ∷ []))) }
+    ensures refused { OnErr result (Refused A) }
+{
+    fields.push_number(FieldName::X, i64::from(x))?;
+    append_one(FieldName::Y, y, delete, fields)
+}
+
+// A cell and an order, and whether the data too.
+fn append_cell_at<A: Allocator>(
+    x: u32,
+    y: u32,
+    z: i32,
+    delete: bool,
+    fields: &mut Fields<A>,
+) -> Result<(), AllocError>
+    ensures ok { OnOk result (fields.new ≡ with_fields fields.old (number_fields
+        ((name.X, known x) ∷ (name.Y, known y) ∷ (name.ZIndex, Some z)
+        ∷ (name.DeletesData, flagged delete) ∷ []))) }
+    ensures refused { OnErr result (Refused A) }
+{
+    fields.push_number(FieldName::X, i64::from(x))?;
+    fields.push_number(FieldName::Y, i64::from(y))?;
+    append_order(z, delete, fields)
+}
+
+// An order, and whether the data too.
+fn append_order<A: Allocator>(
+    z: i32,
+    delete: bool,
+    fields: &mut Fields<A>,
+) -> Result<(), AllocError>
+    ensures ok { OnOk result (fields.new ≡ with_fields fields.old (number_fields
+        ((name.ZIndex, Some z) ∷ (name.DeletesData, flagged delete) ∷ []))) }
+    ensures refused { OnErr result (Refused A) }
+{
+    fields.push_number(FieldName::ZIndex, i64::from(z))?;
+    append_flag(delete, fields)
+}
+
+// The first id and the last, and whether the data too.
+fn append_range<A: Allocator>(
+    first: u32,
+    last: u32,
+    delete: bool,
+    fields: &mut Fields<A>,
+) -> Result<(), AllocError>
+    ensures ok { OnOk result (fields.new ≡ with_fields fields.old (number_fields
+        ((name.FirstImageId, known first) ∷ (name.LastImageId, known last)
+        ∷ (name.DeletesData, flagged delete) ∷ []))) }
+    ensures refused { OnErr result (Refused A) }
+{
+    fields.push_number(FieldName::FirstImageId, i64::from(first))?;
+    append_one(FieldName::LastImageId, last, delete, fields)
 }
 
 // Whether the data too.

@@ -6,7 +6,7 @@ use super::{
 use crate::apc::KittyImage;
 use crate::dcs::{Sixel, xt_get_tcap};
 use crate::osc::OperatingSystemCommand;
-use crate::{Error, Event, dcs_numbers};
+use crate::{Entry, Error, Event, dcs_numbers};
 use alloc::boxed::Box;
 use alloc::vec::Vec;
 
@@ -126,14 +126,10 @@ impl Device {
                 entries,
                 has_more,
                 byte,
-            } => act(Action::CSI(CSI {
-                params: entries.to_vec(),
-                parameters_truncated: has_more,
-                control: byte,
-            })),
+            } => act(Action::CSI(sequence(entries, has_more, byte))),
             Event::Osc(text) => {
-                let command = OperatingSystemCommand::parse(text)?;
-                act(Action::OperatingSystemCommand(Box::new(command)));
+                let command = Box::new(OperatingSystemCommand::parse(text)?);
+                act(Action::OperatingSystemCommand(command));
             }
             Event::Apc(text) => {
                 if let Some(image) = KittyImage::parse_apc(text)? {
@@ -240,6 +236,14 @@ fn escape(intermediates: &[u8], control: u8) -> Esc {
     };
     Esc {
         intermediate,
+        control,
+    }
+}
+
+fn sequence(entries: &[Entry], has_more: bool, control: u8) -> CSI {
+    CSI {
+        params: entries.to_vec(),
+        parameters_truncated: has_more,
         control,
     }
 }
