@@ -10,3 +10,9 @@ pub mod ImagesWhole
 pub mod Whole
 pub mod SixelsFound
 pub mod SixelsFew
+mod ValuesBack
+mod ItemsBack
+mod FilesBack
+mod KindsBack
+pub mod CommandsBack
+mod RowsSame

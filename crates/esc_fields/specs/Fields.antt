@@ -87,11 +87,14 @@ with_fields t (f ∷ fs) = with_fields (with_field t f) fs
 abbrev pub table_of : List Field → Table
 table_of fs = with_fields ([], []) fs
 
+-- a value of this kind, of its number, its text and its size
+abbrev pub value_with : ℕ → ℤ → List ℕ → ℕ → Value
+value_with k z t n = if k == NUMBER then Number z else if k == TEXT then Text t else Size n
+
 -- what a row says of its field, over the texts of all fields: by its kind a number, a text or a
 -- size
 abbrev pub value_at : List ℕ → FieldRow → Value
-value_at t r = if r.kind == NUMBER then Number r.number
-    else if r.kind == TEXT then Text (take r.length (drop r.offset t)) else Size r.length
+value_at t r = value_with r.kind r.number (take r.length (drop r.offset t)) r.length
 
 -- the number of a row's name, and its value
 abbrev pub row_said : List ℕ → FieldRow → ℕ × Value

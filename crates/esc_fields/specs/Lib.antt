@@ -8,3 +8,8 @@ pub mod Prompts
 pub mod Proprietary
 pub mod Queries
 pub mod Sixels
+pub mod Found
+pub mod FoundItems
+pub mod FoundPrompts
+pub mod FoundCommands
+pub mod Held

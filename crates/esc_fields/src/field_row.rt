@@ -11,7 +11,7 @@ pub const SIZE: u32 = 2;
 
 /// A field, as numbers and a place. What has no meaning for its kind is 0.
 #[repr(C)]
-#[derive(Clone, Copy)]
+#[derive(Clone, Copy, PartialEq, Eq)]
 pub struct FieldRow {
     /// Which part of the command it is: the number of a [`FieldName`](crate::FieldName).
     pub name: u32,

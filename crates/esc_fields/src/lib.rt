@@ -10,6 +10,9 @@
 //! Of `OperatingSystemCommand::SetSelection(Selection::CLIPBOARD, text)`, where the text is `hi`,
 //! the fields `Fields::of(alloc, &command)?` are `FieldName::Selection` with the number 2 and
 //! `FieldName::Text`, whose row says that its text is the 2 bytes at 0 of `fields.text()`, `hi`.
+//!
+//! The way back: `command_of(alloc, CommandKind::of(&command).number(), fields.rows(),
+//! fields.text())?` is that command again, and of rows that are the fields of no command it is none.
 #![tactic(auto)]
 
 mod append;
@@ -27,7 +30,18 @@ pub mod field_row;
 pub mod fields;
 pub mod image_kind;
 mod image_numbers;
+mod kinds;
 pub mod laws;
+mod read_back;
+mod read_colors;
+mod read_command;
+mod read_file;
+mod read_iterm;
+mod read_link;
+mod read_lists;
+mod read_optional;
+mod read_prompt;
+mod said;
 pub mod sixel_row;
 
 pub use command_kind::CommandKind;
@@ -35,4 +49,5 @@ pub use field_name::FieldName;
 pub use field_row::{FieldRow, NUMBER, SIZE, TEXT};
 pub use fields::Fields;
 pub use image_kind::ImageKind;
+pub use read_back::{command_of, has_fields};
 pub use sixel_row::SixelRow;

@@ -1,0 +1,180 @@
+-- Commands are read back from what their rows say.
+use Rattle.std.proofs.Common.{ℕ, ◌≡◌, List, [], ◌∷◌, ◌++◌, Option, Some, None, refl, sym, ap, map, ◌∙◌}
+use Rattle.std.specs.Prelude.{◌^◌}
+use Rattle.esc_iterm.specs.declared.proprietary.ITermProprietary.{ITermProprietary}
+use Rattle.esc_iterm.specs.declared.proprietary.ITermProprietary.TheVariants as iterm
+use Rattle.esc_iterm.specs.declared.unicode_version.ITermUnicodeVersionOp.TheVariants as version
+use Rattle.esc_prompts.specs.declared.click.FinalTermClick.{FinalTermClick}
+use Rattle.esc_prompts.specs.declared.click.FinalTermClick.TheVariants as click
+use Rattle.esc_prompts.specs.declared.prompt.FinalTermSemanticPrompt.{FinalTermSemanticPrompt}
+use Rattle.esc_prompts.specs.declared.prompt.FinalTermSemanticPrompt.TheVariants as prompt
+use Rattle.esc_prompts.specs.declared.prompt_kind.FinalTermPromptKind.{FinalTermPromptKind}
+use Rattle.esc_prompts.specs.declared.prompt_kind.FinalTermPromptKind.TheVariants as prompt_kind
+use Rattle.esc_osc.specs.declared.command.OperatingSystemCommand.{OperatingSystemCommand}
+use Rattle.esc_osc.specs.declared.command.OperatingSystemCommand.TheVariants as command
+use Rattle.esc_fields.proofs.FilesBack.{file_back}
+use Rattle.esc_fields.proofs.ItemsBack.{colors_back, dynamic_back, link_back, pairs_back, progress_back}
+use Rattle.esc_fields.proofs.KindsBack.{kind_back}
+use Rattle.esc_fields.proofs.Tables.{rows_say}
+use Rattle.esc_fields.proofs.ValuesBack.{below_is, flag_back, numbers_back, optional_is, parts_back, signed_is, text_is, texts_back}
+use Rattle.esc_fields.specs.Commands.{fields_of}
+use Rattle.esc_fields.specs.Fields.{Table, named, said}
+use Rattle.esc_fields.specs.FoundCommands.{command_in, kind_at}
+use Rattle.esc_fields.specs.FoundItems.{nothing}
+use Rattle.esc_fields.specs.FoundPrompts.{click_in, click_of, prompt_kind_of, scale_in, text_in}
+use Rattle.esc_fields.specs.Found.{past}
+use Rattle.esc_fields.specs.Held.{Has, IsHeld, IsHeldITerm, IsHeldPrompt, IsOptional, IsScale}
+use Rattle.esc_fields.specs.Kinds.{iterm_kind, kind_of, prompt_kind as kind_of_prompt}
+use Rattle.esc_fields.specs.Prompts.{aid_fields, click_fields, click_number, kind_number, prompt_fields}
+use Rattle.esc_fields.specs.Proprietary.{iterm_fields, scale_fields, text_fields}
+use Rattle.esc_fields.specs.declared.field_name.FieldName.TheVariants as name
+
+-- clicks and kinds of prompts
+click_back : (c : FinalTermClick) → click_of (click_number c) ≡ c
+click_back click.Line = refl
+click_back click.MultipleLine = refl
+click_back click.ConservativeVertical = refl
+click_back click.SmartVertical = refl
+
+prompt_kind_back : (k : FinalTermPromptKind) → prompt_kind_of (kind_number k) ≡ k
+prompt_kind_back prompt_kind.Initial = refl
+prompt_kind_back prompt_kind.RightSide = refl
+prompt_kind_back prompt_kind.Continuation = refl
+prompt_kind_back prompt_kind.Secondary = refl
+
+-- the name of the application and the click, of which each may be absent
+aid_back : (a : Option (List ℕ)) (c : Option FinalTermClick) → IsOptional a
+    → text_in name.Application (map named (aid_fields a ++ click_fields c)) ≡ a
+aid_back None None held = refl
+aid_back None (Some c) held = refl
+aid_back (Some t) c held = ap Some (text_is t held)
+
+click_after : (a : Option (List ℕ)) (c : Option FinalTermClick)
+    → click_in (past name.Application (map named (aid_fields a ++ click_fields c))) ≡ c
+click_after None None = refl
+click_after None (Some c) = ap Some (click_back c)
+click_after (Some t) None = refl
+click_after (Some t) (Some c) = ap Some (click_back c)
+
+lone_back : (a : Option (List ℕ)) → IsOptional a
+    → text_in name.Application (map named (aid_fields a)) ≡ a
+lone_back None held = refl
+lone_back (Some t) held = ap Some (text_is t held)
+
+-- a label and a scale that may be absent
+label_back : (o : Option (List ℕ)) → IsOptional o
+    → text_in name.Label (map named (text_fields name.Label o)) ≡ o
+label_back None held = refl
+label_back (Some t) held = ap Some (text_is t held)
+
+scale_back : (o : Option ℕ) → IsScale o → scale_in (map named (scale_fields o)) ≡ o
+scale_back None held = refl
+scale_back (Some s) held = ap Some (below_is (2 ^ 32) s held)
+
+module _ {A : Type 0} where
+  -- a prompt of its kind
+  prompts_back : (p : FinalTermSemanticPrompt A) → IsHeldPrompt p
+      → command_in (kind_of_prompt p) (map named (prompt_fields p))
+      ≡ command.FinalTermSemanticPrompt p
+  prompts_back prompt.FreshLine held = refl
+  prompts_back (prompt.FreshLineAndStartPrompt a c) held =
+      λ i. command.FinalTermSemanticPrompt
+      (prompt.FreshLineAndStartPrompt (aid_back a c held i) (click_after a c i))
+  prompts_back (prompt.MarkEndOfCommandWithFreshLine a c) held =
+      λ i. command.FinalTermSemanticPrompt
+      (prompt.MarkEndOfCommandWithFreshLine (aid_back a c held i) (click_after a c i))
+  prompts_back (prompt.StartPrompt k) held =
+      ap (λ p. command.FinalTermSemanticPrompt (prompt.StartPrompt p)) (prompt_kind_back k)
+  prompts_back prompt.MarkEndOfPromptAndStartOfInputUntilNextMarker held = refl
+  prompts_back prompt.MarkEndOfPromptAndStartOfInputUntilEndOfLine held = refl
+  prompts_back (prompt.MarkEndOfInputAndStartOfOutput a) held =
+      ap (λ o. command.FinalTermSemanticPrompt (prompt.MarkEndOfInputAndStartOfOutput o))
+      (lone_back a held)
+  prompts_back (prompt.CommandStatus s a) held =
+      let status_is = signed_is s held.0 in
+      let aid_is = lone_back a held.1 in
+      λ i. command.FinalTermSemanticPrompt (prompt.CommandStatus (status_is i) (aid_is i))
+
+  -- a command of iTerm2 of its kind
+  iterms_back : (c : ITermProprietary A) → IsHeldITerm c
+      → command_in (iterm_kind c) (map named (iterm_fields c)) ≡ command.ITermProprietary c
+  iterms_back iterm.SetMark held = refl
+  iterms_back iterm.StealFocus held = refl
+  iterms_back iterm.ClearScrollback held = refl
+  iterms_back (iterm.CurrentDir t) held =
+      ap (λ x. command.ITermProprietary (iterm.CurrentDir x)) (text_is t held)
+  iterms_back (iterm.SetProfile t) held =
+      ap (λ x. command.ITermProprietary (iterm.SetProfile x)) (text_is t held)
+  iterms_back (iterm.CopyToClipboard t) held =
+      ap (λ x. command.ITermProprietary (iterm.CopyToClipboard x)) (text_is t held)
+  iterms_back iterm.EndCopy held = refl
+  iterms_back (iterm.HighlightCursorLine b) held =
+      ap (λ x. command.ITermProprietary (iterm.HighlightCursorLine x)) (flag_back b)
+  iterms_back iterm.RequestCellSize held = refl
+  iterms_back (iterm.ReportCellSize h w s) held =
+      let height_is = below_is (2 ^ 32) h held.0 in
+      let width_is = below_is (2 ^ 32) w held.1 in
+      let scale_is = scale_back s held.2 in
+      λ i. command.ITermProprietary (iterm.ReportCellSize (height_is i) (width_is i) (scale_is i))
+  iterms_back (iterm.Copy t) held =
+      ap (λ x. command.ITermProprietary (iterm.Copy x)) (text_is t held)
+  iterms_back (iterm.ReportVariable t) held =
+      ap (λ x. command.ITermProprietary (iterm.ReportVariable x)) (text_is t held)
+  iterms_back (iterm.SetUserVar n t) held =
+      let name_is = text_is n held.0 in
+      let value_is = text_is t held.1 in
+      λ i. command.ITermProprietary (iterm.SetUserVar (name_is i) (value_is i))
+  iterms_back (iterm.SetBadgeFormat t) held =
+      ap (λ x. command.ITermProprietary (iterm.SetBadgeFormat x)) (text_is t held)
+  iterms_back (iterm.File f) held =
+      ap (λ x. command.ITermProprietary (iterm.File x)) (file_back f held)
+  iterms_back (iterm.UnicodeVersion (version.Set n)) held =
+      ap (λ x. command.ITermProprietary (iterm.UnicodeVersion (version.Set x)))
+      (below_is (2 ^ 8) n held)
+  iterms_back (iterm.UnicodeVersion (version.Push l)) held =
+      ap (λ x. command.ITermProprietary (iterm.UnicodeVersion (version.Push x)))
+      (label_back l held)
+  iterms_back (iterm.UnicodeVersion (version.Pop l)) held =
+      ap (λ x. command.ITermProprietary (iterm.UnicodeVersion (version.Pop x)))
+      (label_back l held)
+
+  command_back : (c : OperatingSystemCommand A) → IsHeld c
+      → command_in (kind_of c) (map named (fields_of c)) ≡ c
+  command_back (command.SetIconNameAndWindowTitle t) held =
+      ap command.SetIconNameAndWindowTitle (text_is t held)
+  command_back (command.SetWindowTitle t) held = ap command.SetWindowTitle (text_is t held)
+  command_back (command.SetWindowTitleSun t) held = ap command.SetWindowTitleSun (text_is t held)
+  command_back (command.SetIconName t) held = ap command.SetIconName (text_is t held)
+  command_back (command.SetIconNameSun t) held = ap command.SetIconNameSun (text_is t held)
+  command_back (command.SetHyperlink h) held = ap command.SetHyperlink (link_back h held)
+  command_back (command.ClearSelection s) held =
+      ap (λ n. command.ClearSelection (record { 0 = n })) (below_is (2 ^ 16) s.0 held)
+  command_back (command.QuerySelection s) held =
+      ap (λ n. command.QuerySelection (record { 0 = n })) (below_is (2 ^ 16) s.0 held)
+  command_back (command.SetSelection s t) held =
+      let bits_are = below_is (2 ^ 16) s.0 held.0 in
+      let text_are = text_is t held.1 in
+      λ i. command.SetSelection (record { 0 = bits_are i }) (text_are i)
+  command_back (command.SystemNotification t) held = ap command.SystemNotification (text_is t held)
+  command_back (command.ITermProprietary c) held = iterms_back c held
+  command_back (command.FinalTermSemanticPrompt p) held = prompts_back p held
+  command_back (command.ChangeColorNumber ps) held =
+      ap command.ChangeColorNumber (pairs_back ps held nothing)
+  command_back (command.ChangeDynamicColors n cs) held =
+      let colors_are = colors_back cs held nothing in
+      λ i. command.ChangeDynamicColors (dynamic_back n i) (colors_are i)
+  command_back (command.ResetDynamicColor n) held = ap command.ResetDynamicColor (dynamic_back n)
+  command_back (command.CurrentWorkingDirectory t) held =
+      ap command.CurrentWorkingDirectory (text_is t held)
+  command_back (command.ResetColors ns) held = ap command.ResetColors (numbers_back ns held)
+  command_back (command.RxvtExtension ts) held = ap command.RxvtExtension (texts_back ts held)
+  command_back (command.ConEmuProgress p) held = ap command.ConEmuProgress (progress_back p held)
+  command_back (command.Unspecified ps) held = ap command.Unspecified (parts_back ps)
+
+  -- what a kind and rows say is the command that has them
+  pub found : (k : ℕ) (t : Table) (c : OperatingSystemCommand A) → IsHeld c → Has k t c
+      → command_in (kind_at k) (said t) ≡ c
+  found k t c held has =
+      let kind_is = ap kind_at (sym has.0) ∙ kind_back (kind_of c) in
+      let rows_are = ap said (sym has.1) ∙ rows_say (fields_of c) in
+      (λ i. command_in (kind_is i) (rows_are i)) ∙ command_back c held

@@ -1,0 +1,7 @@
+use Rattle.std.proofs.Common.{◌≡◌, IsTrue}
+use Rattle.std.proofs.lemmas.Slice.Eq.{slice_eq-Decides}
+use Rattle.esc_fields.proofs.RowsSame.{rows_decide}
+use Rattle.esc_fields.proofs.read_back.are_rows.Goals as goal
+
+pub returns : goal.returns
+returns c = slice_eq-Decides rows_decide c.args.rows.now c.args.those.now c.eq.result c.eq.ensures

@@ -1,0 +1,137 @@
+-- Prompts and the commands of iTerm2 that rows say.
+use Rattle.std.specs.Prelude.{ℕ, ℤ, ◌==◌, if◌then◌else◌, List, [], ◌∷◌, Option, Some, None}
+use Rattle.std.specs.Option.{option_map}
+use Rattle.esc_iterm.specs.declared.dimension.ITermDimension.{ITermDimension}
+use Rattle.esc_iterm.specs.declared.dimension.ITermDimension.TheVariants.{Automatic, Cells, Percent, Pixels}
+use Rattle.esc_iterm.specs.declared.file_data.ITermFileData.{ITermFileData}
+use Rattle.esc_iterm.specs.declared.proprietary.ITermProprietary.{ITermProprietary}
+use Rattle.esc_iterm.specs.declared.proprietary.ITermProprietary.TheVariants as iterm
+use Rattle.esc_iterm.specs.declared.unicode_version.ITermUnicodeVersionOp.TheVariants as version
+use Rattle.esc_prompts.specs.declared.click.FinalTermClick.{FinalTermClick}
+use Rattle.esc_prompts.specs.declared.click.FinalTermClick.TheVariants as click
+use Rattle.esc_prompts.specs.declared.prompt.FinalTermSemanticPrompt.{FinalTermSemanticPrompt}
+use Rattle.esc_prompts.specs.declared.prompt.FinalTermSemanticPrompt.TheVariants as prompt
+use Rattle.esc_prompts.specs.declared.prompt_kind.FinalTermPromptKind.{FinalTermPromptKind}
+use Rattle.esc_prompts.specs.declared.prompt_kind.FinalTermPromptKind.TheVariants as kind
+use Rattle.esc_fields.specs.Fields.{text_of}
+use Rattle.esc_fields.specs.Found.{NamedValue, after, byte_of, count_of, first, flag_of, is_named, length_of, named_value, number_of, past, second, signed, size_of, string_of}
+use Rattle.esc_fields.specs.declared.command_kind.CommandKind.{CommandKind}
+use Rattle.esc_fields.specs.declared.command_kind.CommandKind.TheVariants as command_kind
+use Rattle.esc_fields.specs.declared.field_name.FieldName.{FieldName}
+use Rattle.esc_fields.specs.declared.field_name.FieldName.TheVariants as name
+
+-- a click and a kind of prompt by their numbers
+abbrev pub click_of : ℕ → FinalTermClick
+click_of n = if n == 0 then click.Line else if n == 1 then click.MultipleLine
+    else if n == 2 then click.ConservativeVertical else click.SmartVertical
+
+abbrev pub prompt_kind_of : ℕ → FinalTermPromptKind
+prompt_kind_of n = if n == 0 then kind.Initial else if n == 1 then kind.RightSide
+    else if n == 2 then kind.Continuation else kind.Secondary
+
+-- a text, a number and a size that may be absent
+abbrev pub text_in : FieldName → List NamedValue → Option (List ℕ)
+text_in n ss = option_map string_of (named_value n ss)
+
+abbrev pub scale_in : List NamedValue → Option ℕ
+scale_in ss = option_map length_of (named_value name.Scale ss)
+
+abbrev pub size_in : List NamedValue → Option ℕ
+size_in ss = option_map size_of (named_value name.Size ss)
+
+abbrev pub click_in : List NamedValue → Option FinalTermClick
+click_in ss = option_map (λ v. click_of (count_of v)) (named_value name.Click ss)
+
+-- a dimension of three units, each under a name of its own; what comes after it
+abbrev pub dimension_in : FieldName → FieldName → FieldName → List NamedValue → ITermDimension
+dimension_in c p r [] = Automatic
+dimension_in c p r (s ∷ ss) =
+    if is_named c s then Cells (number_of s.1) else if is_named p s then Pixels (number_of s.1)
+    else if is_named r s then Percent (number_of s.1) else Automatic
+
+abbrev pub width_in : List NamedValue → ITermDimension
+width_in ss = dimension_in name.WidthCells name.WidthPixels name.WidthPercent ss
+
+abbrev pub past_width : List NamedValue → List NamedValue
+past_width ss = past name.WidthPercent (past name.WidthPixels (past name.WidthCells ss))
+
+abbrev pub height_in : List NamedValue → ITermDimension
+height_in ss = dimension_in name.HeightCells name.HeightPixels name.HeightPercent ss
+
+abbrev pub past_height : List NamedValue → List NamedValue
+past_height ss = past name.HeightPercent (past name.HeightPixels (past name.HeightCells ss))
+
+module _ {A : Type 0} where
+  -- a file of its name, its size, its dimensions, and what comes after these
+  abbrev pub file_with : Option (List ℕ) → Option ℕ → ITermDimension → ITermDimension → List NamedValue
+      → ITermFileData A
+  file_with n k w h ss = record {
+    name = n;
+    size = k;
+    width = w;
+    height = h;
+    preserve_aspect_ratio = flag_of (first ss);
+    inline = flag_of (second ss);
+    do_not_move_cursor = flag_of (second (after ss));
+    content = text_of (second (after (after ss)));
+  }
+
+  abbrev pub high_in : Option (List ℕ) → Option ℕ → ITermDimension → List NamedValue → ITermFileData A
+  high_in n k w ss = file_with n k w (height_in ss) (past_height ss)
+
+  abbrev pub sized_in : Option (List ℕ) → List NamedValue → ITermFileData A
+  sized_in n ss = high_in n (size_in ss) (width_in (past name.Size ss)) (past_width (past name.Size ss))
+
+  abbrev pub file_in : List NamedValue → ITermFileData A
+  file_in ss = sized_in (text_in name.Name ss) (past name.Name ss)
+
+  -- the prompt of a kind
+  abbrev pub prompt_in : CommandKind → List NamedValue → FinalTermSemanticPrompt A
+  prompt_in command_kind.PromptFreshLineAndStartPrompt ss =
+      prompt.FreshLineAndStartPrompt (text_in name.Application ss)
+      (click_in (past name.Application ss))
+  prompt_in command_kind.PromptEndOfCommandWithFreshLine ss =
+      prompt.MarkEndOfCommandWithFreshLine (text_in name.Application ss)
+      (click_in (past name.Application ss))
+  prompt_in command_kind.PromptStartPrompt ss =
+      prompt.StartPrompt (prompt_kind_of (count_of (first ss)))
+  prompt_in command_kind.PromptStartOfInputUntilNextMarker ss =
+      prompt.MarkEndOfPromptAndStartOfInputUntilNextMarker
+  prompt_in command_kind.PromptStartOfInputUntilEndOfLine ss =
+      prompt.MarkEndOfPromptAndStartOfInputUntilEndOfLine
+  prompt_in command_kind.PromptStartOfOutput ss =
+      prompt.MarkEndOfInputAndStartOfOutput (text_in name.Application ss)
+  prompt_in command_kind.PromptCommandStatus ss =
+      prompt.CommandStatus (signed (number_of (first ss))) (text_in name.Application (after ss))
+  prompt_in k ss = prompt.FreshLine
+
+  -- the command of iTerm2 of a kind that has one text, or nothing
+  abbrev pub texted_in : CommandKind → List ℕ → ITermProprietary A
+  texted_in command_kind.ITermStealFocus t = iterm.StealFocus
+  texted_in command_kind.ITermClearScrollback t = iterm.ClearScrollback
+  texted_in command_kind.ITermCurrentDir t = iterm.CurrentDir t
+  texted_in command_kind.ITermSetProfile t = iterm.SetProfile t
+  texted_in command_kind.ITermCopyToClipboard t = iterm.CopyToClipboard t
+  texted_in command_kind.ITermEndCopy t = iterm.EndCopy
+  texted_in command_kind.ITermRequestCellSize t = iterm.RequestCellSize
+  texted_in command_kind.ITermCopy t = iterm.Copy t
+  texted_in command_kind.ITermReportVariable t = iterm.ReportVariable t
+  texted_in command_kind.ITermSetBadgeFormat t = iterm.SetBadgeFormat t
+  texted_in k t = iterm.SetMark
+
+  -- the command of iTerm2 of a kind
+  abbrev pub iterm_in : CommandKind → List NamedValue → ITermProprietary A
+  iterm_in command_kind.ITermHighlightCursorLine ss = iterm.HighlightCursorLine (flag_of (first ss))
+  iterm_in command_kind.ITermReportCellSize ss =
+      iterm.ReportCellSize (length_of (first ss)) (length_of (second ss))
+      (scale_in (after (after ss)))
+  iterm_in command_kind.ITermSetUserVar ss =
+      iterm.SetUserVar (string_of (first ss)) (string_of (second ss))
+  iterm_in command_kind.ITermFile ss = iterm.File (file_in ss)
+  iterm_in command_kind.ITermSetUnicodeVersion ss =
+      iterm.UnicodeVersion (version.Set (byte_of (first ss)))
+  iterm_in command_kind.ITermPushUnicodeVersion ss =
+      iterm.UnicodeVersion (version.Push (text_in name.Label ss))
+  iterm_in command_kind.ITermPopUnicodeVersion ss =
+      iterm.UnicodeVersion (version.Pop (text_in name.Label ss))
+  iterm_in k ss = texted_in k (string_of (first ss))

@@ -1,0 +1,61 @@
+//! The command of a kind and fields.
+ghost use Rattle.std.specs.Prelude.{◌≡◌, ◌↔◌, IfOk, IfSome, IsTrue, None, OnErr};
+ghost use Rattle.esc_fields.specs.Held.{Has, IsHeld};
+ghost use Rattle.esc_osc.specs.declared.command.OperatingSystemCommand.{OperatingSystemCommand};
+ghost use Rattle.memory.specs.Refusals.{Refused};
+
+use crate::command_kind::CommandKind;
+use crate::field_row::FieldRow;
+use crate::fields::Fields;
+use crate::kinds::kind_at;
+use crate::read_command::command;
+use crate::said::said_by;
+use esc_osc::OperatingSystemCommand as Command;
+use std::alloc::{AllocError, Allocator};
+
+/// The command of a kind, by its number, with these fields: rows, and their texts one after
+/// another, as [`Fields::of`] has them. None where no command has this kind and these fields. The
+/// error is that memory was refused.
+pub fn command_of<A: Allocator + Copy>(
+    alloc: A,
+    kind: u32,
+    rows: &[FieldRow],
+    text: &[u8],
+) -> Result<Option<Command<A>>, AllocError>
+    ensures has { IfOk result (λ o. IfSome o (Has kind (rows.now, text.now))) }
+    ensures none { IfOk result (λ o. o ≡ None → (c : OperatingSystemCommand A) → IsHeld c
+        → Has kind (rows.now, text.now) c → ⊥) }
+    ensures refused { OnErr result (Refused A) }
+{
+    let fields = said_by(alloc, rows, text)?;
+    let command = command(alloc, kind_at(kind), fields.as_slice())?;
+    if has_fields(alloc, &command, kind, rows, text)? {
+        Ok(Some(command))
+    } else {
+        Ok(None)
+    }
+}
+
+/// Whether a command has this kind, by its number, and these fields. The error is that memory was
+/// refused.
+pub fn has_fields<A: Allocator + Copy>(
+    alloc: A,
+    command: &Command<A>,
+    kind: u32,
+    rows: &[FieldRow],
+    text: &[u8],
+) -> Result<bool, AllocError>
+    ensures has { IfOk result (λ b. IsTrue b ↔ Has kind (rows.now, text.now) command.now) }
+    ensures refused { OnErr result (Refused A) }
+{
+    let fields = Fields::of(alloc, command)?;
+    let same_kind = CommandKind::of(command).number() == kind;
+    Ok(same_kind && are_rows(fields.rows(), rows) && fields.text() == text)
+}
+
+// Whether the rows are those.
+fn are_rows(rows: &[FieldRow], those: &[FieldRow]) -> bool
+    ensures { IsTrue result ↔ (rows.now ≡ those.now) }
+{
+    rows == those
+}

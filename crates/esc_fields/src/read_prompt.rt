@@ -1,0 +1,95 @@
+//! Prompts that rows say. An error is that memory was refused.
+ghost use Rattle.std.specs.Prelude.{◌≡◌, IfOk, OnErr, ℤ};
+ghost use Rattle.esc_fields.specs.Found.{number_of, signed};
+ghost use Rattle.esc_fields.specs.FoundPrompts.{click_in, click_of, prompt_in, prompt_kind_of};
+ghost use Rattle.memory.specs.Refusals.{Refused};
+
+use crate::command_kind::CommandKind;
+use crate::field_name::FieldName;
+use crate::read_optional::{named, past, text};
+use crate::said::{Said, after, first};
+use esc_prompts::{FinalTermClick, FinalTermPromptKind, FinalTermSemanticPrompt as Prompt};
+use std::alloc::{AllocError, Allocator};
+
+// The prompt of a kind.
+pub(crate) fn prompt<A: Allocator>(
+    alloc: A,
+    kind: CommandKind,
+    fields: &[Said<'_>],
+) -> Result<Prompt<A>, AllocError>
+    ensures ok { IfOk result (λ p. p ≡ prompt_in kind fields.now) }
+    ensures refused { OnErr result (Refused A) }
+{
+    match kind {
+        CommandKind::PromptFreshLineAndStartPrompt => Ok(Prompt::FreshLineAndStartPrompt {
+            aid: text(alloc, FieldName::Application, fields)?,
+            cl: click(past(FieldName::Application, fields)),
+        }),
+        CommandKind::PromptEndOfCommandWithFreshLine => Ok(Prompt::MarkEndOfCommandWithFreshLine {
+            aid: text(alloc, FieldName::Application, fields)?,
+            cl: click(past(FieldName::Application, fields)),
+        }),
+        CommandKind::PromptStartPrompt => Ok(Prompt::StartPrompt(prompt_kind(first(
+            fields,
+        ).count()))),
+        CommandKind::PromptStartOfInputUntilNextMarker => {
+            Ok(Prompt::MarkEndOfPromptAndStartOfInputUntilNextMarker)
+        }
+        CommandKind::PromptStartOfInputUntilEndOfLine => {
+            Ok(Prompt::MarkEndOfPromptAndStartOfInputUntilEndOfLine)
+        }
+        CommandKind::PromptStartOfOutput => Ok(Prompt::MarkEndOfInputAndStartOfOutput {
+            aid: text(alloc, FieldName::Application, fields)?,
+        }),
+        CommandKind::PromptCommandStatus => Ok(Prompt::CommandStatus {
+            status: status(first(fields).number()),
+            aid: text(alloc, FieldName::Application, after(fields))?,
+        }),
+        _ => Ok(Prompt::FreshLine),
+    }
+}
+
+// The number, where it has 32 bits; else 0.
+fn status(number: i64) -> i32
+    ensures { result ≡ signed number }
+{
+    if -2147483648 <= number && number <= 2147483647 {
+        number as i32
+    } else {
+        0
+    }
+}
+
+// What a click does, where it is given.
+fn click(fields: &[Said<'_>]) -> Option<FinalTermClick>
+    ensures { result ≡ click_in fields.now }
+{
+    match named(FieldName::Click, fields) {
+        Some(field) => Some(click_of(field.count())),
+        None => None,
+    }
+}
+
+// The click of this number.
+fn click_of(number: u64) -> FinalTermClick
+    ensures { result ≡ click_of number }
+{
+    match number {
+        0 => FinalTermClick::Line,
+        1 => FinalTermClick::MultipleLine,
+        2 => FinalTermClick::ConservativeVertical,
+        _ => FinalTermClick::SmartVertical,
+    }
+}
+
+// The kind of prompt of this number.
+fn prompt_kind(number: u64) -> FinalTermPromptKind
+    ensures { result ≡ prompt_kind_of number }
+{
+    match number {
+        0 => FinalTermPromptKind::Initial,
+        1 => FinalTermPromptKind::RightSide,
+        2 => FinalTermPromptKind::Continuation,
+        _ => FinalTermPromptKind::Secondary,
+    }
+}
