@@ -1,6 +1,6 @@
 /* SPDX-License-Identifier: MIT */
 /*
- * Reads operating system commands by escape_stream.h, and compares their fields with what is wanted.
+ * Reads operating system commands by escape_stream.h, compares their fields with what is wanted, and writes them again.
  *
  *     osc
  *
@@ -8,8 +8,41 @@
  * difference; the status is 1 where there is one. Link it with -Wl,--wrap=malloc,--wrap=realloc,--wrap=free, by which it counts,
  * refuses, and sees that all was given back.
  */
-#define PROGRAM "osc"
-#include "fields.h"
+#include "escape_stream.h"
+
+#include <inttypes.h>
+#include <stdio.h>
+#include <stdlib.h>
+#include <string.h>
+
+enum { MOST_FIELDS = 24, MOST_BYTES = 120, MOST_WRITTEN = 240, JUNK = 0xa5 };
+
+static unsigned long refused, requests, differences;
+static long blocks;
+
+void *__real_malloc(size_t size);
+void *__real_realloc(void *block, size_t size);
+void __real_free(void *block);
+void *__wrap_malloc(size_t size);
+void *__wrap_realloc(void *block, size_t size);
+void __wrap_free(void *block);
+
+void *__wrap_malloc(size_t size) {
+    void *block = ++requests == refused ? NULL : __real_malloc(size);
+    blocks += block != NULL;
+    return block;
+}
+
+void *__wrap_realloc(void *block, size_t size) {
+    void *moved = ++requests == refused ? NULL : __real_realloc(block, size);
+    blocks += !block && moved;
+    return moved;
+}
+
+void __wrap_free(void *block) {
+    blocks -= block != NULL;
+    __real_free(block);
+}
 
 #define KIND(name) [ESCAPE_STREAM_OSC_##name] = #name
 static const char *const KINDS[] = {
@@ -27,22 +60,20 @@ static const char *const KINDS[] = {
     KIND(ITERM_PUSH_UNICODE_VERSION), KIND(ITERM_POP_UNICODE_VERSION),
 };
 
-static const char *kind_name(uint32_t kind) { return KINDS[kind]; }
+#define NAME(name) [ESCAPE_STREAM_FIELD_##name] = #name
+static const char *const NAMES[] = {
+    NAME(TEXT), NAME(PART), NAME(DIRECTORY), NAME(URI), NAME(IMPLICIT), NAME(KEY), NAME(VALUE), NAME(SELECTION),
+    NAME(PALETTE_INDEX), NAME(DYNAMIC_COLOR), NAME(RED), NAME(GREEN), NAME(BLUE), NAME(QUERY), NAME(PROGRESS_STATE),
+    NAME(PERCENT), NAME(APPLICATION), NAME(CLICK), NAME(PROMPT_KIND), NAME(STATUS), NAME(NAME), NAME(HIGHLIGHTED),
+    NAME(CELL_HEIGHT), NAME(CELL_WIDTH), NAME(SCALE), NAME(SIZE), NAME(WIDTH_CELLS), NAME(WIDTH_PIXELS),
+    NAME(WIDTH_PERCENT), NAME(HEIGHT_CELLS), NAME(HEIGHT_PIXELS), NAME(HEIGHT_PERCENT), NAME(PRESERVE_ASPECT_RATIO),
+    NAME(INLINE), NAME(DO_NOT_MOVE_CURSOR), NAME(CONTENT), NAME(VERSION), NAME(LABEL),
+};
 
-static uint32_t read_text(const uint8_t *text, size_t length, struct value *value, struct escape_stream_field *fields,
-                          size_t field_room, uint8_t *out, size_t capacity) {
-    struct escape_stream_osc osc;
-    uint32_t status;
-    memset(&osc, JUNK, sizeof osc);
-    status = escape_stream_read_osc(text, length, &osc, fields, field_room, out, capacity);
-    if (status == ESCAPE_STREAM_DONE)
-        *value = (struct value){osc.kind, osc.field_count, osc.text_length};
-    else
-        memcpy(value, &osc, sizeof osc);
-    return status;
-}
-
-static const struct command COMMANDS[] = {
+/* The text of a command, and its kind and fields. */
+static const struct command {
+    const char *text, *wanted;
+} COMMANDS[] = {
     {"0;a;b", "SET_ICON_NAME_AND_WINDOW_TITLE TEXT=a;b"},
     {"2;caf\xc3\xa9", "SET_WINDOW_TITLE TEXT=caf\xc3\xa9"},
     {"2;", "SET_WINDOW_TITLE TEXT="},
@@ -107,6 +138,248 @@ static const struct command COMMANDS[] = {
     {"2;\xff", "UNSPECIFIED PART=2 PART=[ff]"},
 };
 
+static void wants(bool holds, const char *what, const char *text, size_t number) {
+    if (holds)
+        return;
+    fprintf(stderr, "osc: %s (%s, %zu)\n", what, text, number);
+    differences++;
+}
+
+/* Appends a text, of which a control and a byte FF are two digits between brackets. */
+static size_t append_text(char *line, size_t at, const uint8_t *text, size_t length) {
+    for (size_t i = 0; i < length; i++)
+        at += (size_t)sprintf(line + at, text[i] < 0x20 || text[i] == 0xff ? "[%02x]" : "%c", text[i]);
+    return at;
+}
+
+/* The kind and the fields of a command, as the table has them. */
+static const char *written(const struct escape_stream_osc *osc, const struct escape_stream_field *fields, const uint8_t *out) {
+    static char line[1000];
+    size_t at = (size_t)sprintf(line, "%s", KINDS[osc->kind]);
+    for (size_t i = 0; i < osc->field_count; i++) {
+        const struct escape_stream_field *field = &fields[i];
+        at += (size_t)sprintf(line + at, " %s=", NAMES[field->name]);
+        if (field->kind == ESCAPE_STREAM_VALUE_NUMBER)
+            at += (size_t)sprintf(line + at, "%" PRId64, field->number);
+        else if (field->kind == ESCAPE_STREAM_VALUE_TEXT)
+            at = append_text(line, at, out + field->offset, field->length);
+        else
+            at += (size_t)sprintf(line + at, "%zu", field->length);
+    }
+    return line;
+}
+
+/* What a call is given: room for fields and texts, with guards. */
+struct room {
+    struct escape_stream_osc osc;
+    struct escape_stream_field fields[MOST_FIELDS];
+    uint8_t out[MOST_BYTES];
+};
+
+static uint32_t read_into(struct room *room, const char *text, size_t field_room, size_t capacity) {
+    memset(room, JUNK, sizeof *room);
+    return escape_stream_read_osc((const uint8_t *)text, strlen(text), &room->osc, room->fields, field_room, room->out, capacity);
+}
+
+static bool is_junk(const void *at, size_t length) {
+    for (size_t i = 0; i < length; i++)
+        if (((const uint8_t *)at)[i] != JUNK)
+            return false;
+    return true;
+}
+
+/* The same command in less room: the beginnings of its fields and of their texts, and nothing past these. */
+static void check_room(const struct room *whole, const char *text, size_t field_room, size_t capacity) {
+    static struct room room;
+    size_t fields = field_room < whole->osc.field_count ? field_room : whole->osc.field_count;
+    size_t bytes = capacity < whole->osc.text_length ? capacity : whole->osc.text_length;
+    wants(read_into(&room, text, field_room, capacity) == ESCAPE_STREAM_DONE, "another status", text, field_room);
+    wants(room.osc.kind == whole->osc.kind && room.osc.field_count == whole->osc.field_count &&
+          room.osc.text_length == whole->osc.text_length, "another value", text, field_room);
+    wants(memcmp(room.fields, whole->fields, fields * sizeof *room.fields) == 0, "other fields", text, field_room);
+    wants(is_junk(&room.fields[fields], sizeof room.fields - fields * sizeof *room.fields), "a field past them", text, field_room);
+    wants(memcmp(room.out, whole->out, bytes) == 0, "another text", text, capacity);
+    wants(is_junk(&room.out[bytes], sizeof room.out - bytes), "a byte past it", text, capacity);
+}
+
+static void check_refusals(const char *text) {
+    static struct room room;
+    for (unsigned long at = 1; at < 1000; at++) {
+        uint32_t status;
+        requests = 0;
+        refused = at;
+        status = read_into(&room, text, MOST_FIELDS, MOST_BYTES);
+        refused = 0;
+        wants(blocks == 0, "blocks are kept", text, at);
+        if (requests < at) {
+            wants(status == ESCAPE_STREAM_DONE, "another status", text, at);
+            return;
+        }
+        wants(status == ESCAPE_STREAM_NO_MEMORY && is_junk(&room, sizeof room), "something was written", text, at);
+    }
+}
+
+static bool is_same(const struct room *room, const struct room *other) {
+    return room->osc.kind == other->osc.kind && room->osc.field_count == other->osc.field_count &&
+           room->osc.text_length == other->osc.text_length &&
+           memcmp(room->fields, other->fields, sizeof room->fields) == 0 && memcmp(room->out, other->out, sizeof room->out) == 0;
+}
+
+/* Writes what was read. */
+static uint32_t write_from(const struct room *from, uint8_t *out, size_t capacity, size_t *needed) {
+    return escape_stream_write_osc(from->osc.kind, from->fields, from->osc.field_count, from->out, from->osc.text_length, out,
+                                   capacity, needed);
+}
+
+/* Each request for memory refused while it is written. */
+static void check_write_refusals(const struct room *whole, const char *text) {
+    static uint8_t out[MOST_WRITTEN];
+    for (unsigned long at = 1; at < 1000; at++) {
+        size_t needed = JUNK;
+        uint32_t status;
+        memset(out, JUNK, sizeof out);
+        requests = 0;
+        refused = at;
+        status = write_from(whole, out, sizeof out, &needed);
+        refused = 0;
+        wants(blocks == 0, "blocks are kept by writing", text, at);
+        if (requests < at) {
+            wants(status == ESCAPE_STREAM_DONE, "another status of writing", text, at);
+            return;
+        }
+        wants(status == ESCAPE_STREAM_NO_MEMORY && needed == JUNK && is_junk(out, sizeof out), "refused, and written", text, at);
+    }
+}
+
+/* The command that was read is written in every room, and reads back as the same fields. */
+static void check_written(const struct room *whole, const char *text) {
+    static uint8_t all[MOST_WRITTEN], out[MOST_WRITTEN];
+    static struct room again;
+    size_t length = 0;
+    memset(all, JUNK, sizeof all);
+    wants(write_from(whole, all, sizeof all, &length) == ESCAPE_STREAM_DONE, "another status of writing", text, 0);
+    wants(length >= 4 && length < sizeof all && memcmp(all, "\x1b]", 2) == 0 && memcmp(all + length - 2, "\x1b\\", 2) == 0 &&
+          is_junk(all + length, sizeof all - length), "no such command", text, length);
+    if (length < 4 || length >= sizeof all)
+        return;
+    for (size_t capacity = 0; capacity <= length + 2; capacity++) {
+        size_t needed = 0, fitting = capacity < length ? capacity : length;
+        memset(out, JUNK, sizeof out);
+        wants(write_from(whole, out, capacity, &needed) == ESCAPE_STREAM_DONE && needed == length, "another length", text, capacity);
+        wants(memcmp(out, all, fitting) == 0 && is_junk(out + fitting, sizeof out - fitting), "another text", text, capacity);
+    }
+    memset(&again, JUNK, sizeof again);
+    wants(escape_stream_read_osc(all + 2, length - 4, &again.osc, again.fields, MOST_FIELDS, again.out, MOST_BYTES) ==
+          ESCAPE_STREAM_DONE && is_same(&again, whole), "other fields when read again", text, length);
+    check_write_refusals(whole, text);
+}
+
+static void check_not_writable(const struct room *whole, const char *text) {
+    static uint8_t out[MOST_WRITTEN];
+    size_t needed = JUNK;
+    memset(out, JUNK, sizeof out);
+    wants(write_from(whole, out, sizeof out, &needed) == ESCAPE_STREAM_NOT_WRITABLE && needed == JUNK &&
+          is_junk(out, sizeof out), "something was written", text, 0);
+}
+
+/* Changes of each field by one are another command, or none; they are not this one. */
+static void check_changed(const struct room *whole, const char *text) {
+    static struct room changed, again;
+    static uint8_t out[MOST_WRITTEN];
+    for (size_t i = 0; i < whole->osc.field_count; i++)
+        for (unsigned which = 0; which < 5; which++) {
+            size_t needed = JUNK;
+            uint32_t status;
+            changed = *whole;
+            changed.fields[i].name += which == 0;
+            changed.fields[i].kind += which == 1;
+            changed.fields[i].number += which == 2;
+            changed.fields[i].offset += which == 3;
+            changed.fields[i].length += which == 4;
+            memset(out, JUNK, sizeof out);
+            status = write_from(&changed, out, sizeof out, &needed);
+            if (status != ESCAPE_STREAM_DONE) {
+                wants((status == ESCAPE_STREAM_NO_COMMAND || status == ESCAPE_STREAM_NOT_WRITABLE) && needed == JUNK &&
+                      is_junk(out, sizeof out), "a change was written", text, i);
+                continue;
+            }
+            memset(&again, JUNK, sizeof again);
+            escape_stream_read_osc(out + 2, needed - 4, &again.osc, again.fields, MOST_FIELDS, again.out, MOST_BYTES);
+            wants(is_same(&again, &changed), "a change reads otherwise", text, i);
+        }
+}
+
+static void check_command(const struct command *command) {
+    static struct room whole;
+    wants(read_into(&whole, command->text, MOST_FIELDS, MOST_BYTES) == ESCAPE_STREAM_DONE, "another status", command->text, 0);
+    wants(strcmp(written(&whole.osc, whole.fields, whole.out), command->wanted) == 0,
+          written(&whole.osc, whole.fields, whole.out), command->text, 0);
+    for (size_t fields = 0; fields <= whole.osc.field_count + 2; fields++)
+        check_room(&whole, command->text, fields, MOST_BYTES);
+    for (size_t bytes = 0; bytes <= whole.osc.text_length + 2; bytes++)
+        check_room(&whole, command->text, MOST_FIELDS, bytes);
+    check_refusals(command->text);
+    if (strchr(command->text, '\xff')) /* what is no UTF-8 would be written as U+FFFD */
+        check_not_writable(&whole, command->text);
+    else
+        check_written(&whole, command->text);
+    check_changed(&whole, command->text);
+}
+
+/* Fields that say no command, or one that is not writable. */
+static const struct refusal {
+    uint32_t kind;
+    struct escape_stream_field fields[3];
+    size_t count;
+    const char *text;
+    uint32_t wanted;
+} REFUSALS[] = {
+#define NUMBER(name, number) {ESCAPE_STREAM_FIELD_##name, ESCAPE_STREAM_VALUE_NUMBER, number, 0, 0}
+#define TEXT(name, offset, length) {ESCAPE_STREAM_FIELD_##name, ESCAPE_STREAM_VALUE_TEXT, 0, offset, length}
+    {44, {TEXT(TEXT, 0, 1)}, 1, "a", ESCAPE_STREAM_NO_COMMAND},
+    {UINT32_MAX, {TEXT(TEXT, 0, 1)}, 1, "a", ESCAPE_STREAM_NO_COMMAND},
+    {ESCAPE_STREAM_OSC_SET_WINDOW_TITLE, {TEXT(TEXT, 0, 1)}, 0, "", ESCAPE_STREAM_NO_COMMAND},
+    {ESCAPE_STREAM_OSC_SET_WINDOW_TITLE, {TEXT(TEXT, 0, 1)}, 1, "ab", ESCAPE_STREAM_NO_COMMAND},
+    {ESCAPE_STREAM_OSC_SET_WINDOW_TITLE, {TEXT(TEXT, 0, 3)}, 1, "ab", ESCAPE_STREAM_NO_COMMAND},
+    {ESCAPE_STREAM_OSC_SET_WINDOW_TITLE, {TEXT(TEXT, 1, 1)}, 1, "ab", ESCAPE_STREAM_NO_COMMAND},
+    {ESCAPE_STREAM_OSC_SET_WINDOW_TITLE, {TEXT(TEXT, 0, SIZE_MAX)}, 1, "a", ESCAPE_STREAM_NO_COMMAND},
+    {ESCAPE_STREAM_OSC_SET_WINDOW_TITLE, {TEXT(TEXT, SIZE_MAX, 1)}, 1, "a", ESCAPE_STREAM_NO_COMMAND},
+    {ESCAPE_STREAM_OSC_SET_WINDOW_TITLE, {TEXT(NAME, 0, 1)}, 1, "a", ESCAPE_STREAM_NO_COMMAND},
+    {ESCAPE_STREAM_OSC_SET_WINDOW_TITLE, {TEXT(TEXT, 0, 1), TEXT(TEXT, 1, 1)}, 2, "ab", ESCAPE_STREAM_NO_COMMAND},
+    {ESCAPE_STREAM_OSC_SET_WINDOW_TITLE, {TEXT(TEXT, 0, 1)}, 1, "\xff", ESCAPE_STREAM_NO_COMMAND},
+    {ESCAPE_STREAM_OSC_SET_WINDOW_TITLE, {TEXT(TEXT, 0, 1)}, 1, "\x1b", ESCAPE_STREAM_NOT_WRITABLE},
+    {ESCAPE_STREAM_OSC_SET_WINDOW_TITLE, {TEXT(TEXT, 0, 2)}, 1, "\xc2\x9c", ESCAPE_STREAM_NOT_WRITABLE},
+    {ESCAPE_STREAM_OSC_SYSTEM_NOTIFICATION, {TEXT(TEXT, 0, 3)}, 1, "a;b", ESCAPE_STREAM_NOT_WRITABLE},
+    {ESCAPE_STREAM_OSC_ITERM_REPORT_VARIABLE, {TEXT(NAME, 0, 1)}, 1, "a", ESCAPE_STREAM_NOT_WRITABLE},
+    {ESCAPE_STREAM_OSC_UNSPECIFIED, {TEXT(PART, 0, 1), TEXT(PART, 1, 1)}, 2, "2a", ESCAPE_STREAM_NOT_WRITABLE},
+    {ESCAPE_STREAM_OSC_CLEAR_SELECTION, {NUMBER(SELECTION, 65536)}, 1, "", ESCAPE_STREAM_NO_COMMAND},
+    {ESCAPE_STREAM_OSC_CLEAR_SELECTION, {NUMBER(SELECTION, -1)}, 1, "", ESCAPE_STREAM_NO_COMMAND},
+    {ESCAPE_STREAM_OSC_CLEAR_SELECTION, {NUMBER(SELECTION, 1)}, 1, "", ESCAPE_STREAM_NOT_WRITABLE},
+    {ESCAPE_STREAM_OSC_RESET_DYNAMIC_COLOR, {NUMBER(DYNAMIC_COLOR, 20)}, 1, "", ESCAPE_STREAM_NO_COMMAND},
+    {ESCAPE_STREAM_OSC_RESET_COLORS, {NUMBER(PALETTE_INDEX, 256)}, 1, "", ESCAPE_STREAM_NO_COMMAND},
+    {ESCAPE_STREAM_OSC_CONEMU_PROGRESS, {NUMBER(PROGRESS_STATE, 5)}, 1, "", ESCAPE_STREAM_NO_COMMAND},
+    {ESCAPE_STREAM_OSC_CONEMU_PROGRESS, {NUMBER(PROGRESS_STATE, 1), NUMBER(PERCENT, 101)}, 2, "", ESCAPE_STREAM_NOT_WRITABLE},
+    {ESCAPE_STREAM_OSC_PROMPT_COMMAND_STATUS, {NUMBER(STATUS, INT64_C(2147483648))}, 1, "", ESCAPE_STREAM_NO_COMMAND},
+    {ESCAPE_STREAM_OSC_SET_HYPERLINK, {TEXT(URI, 0, 1), NUMBER(IMPLICIT, 1)}, 2, "u", ESCAPE_STREAM_NOT_WRITABLE},
+    {ESCAPE_STREAM_OSC_SET_HYPERLINK, {TEXT(URI, 0, 1), NUMBER(IMPLICIT, 0), TEXT(KEY, 1, 1)}, 3, "uk", ESCAPE_STREAM_NO_COMMAND},
+};
+
+static void check_refusal(size_t number) {
+    const struct refusal *refusal = &REFUSALS[number];
+    uint8_t out[MOST_WRITTEN];
+    size_t needed = JUNK;
+    memset(out, JUNK, sizeof out);
+    wants(escape_stream_write_osc(refusal->kind, refusal->fields, refusal->count, (const uint8_t *)refusal->text,
+                                  strlen(refusal->text), out, sizeof out, &needed) == refusal->wanted,
+          "another status", "refusal", number);
+    wants(needed == JUNK && is_junk(out, sizeof out) && blocks == 0, "something was written", "refusal", number);
+}
+
 int main(void) {
-    return check_all(COMMANDS, sizeof COMMANDS / sizeof *COMMANDS);
+    for (size_t i = 0; i < sizeof COMMANDS / sizeof *COMMANDS; i++)
+        check_command(&COMMANDS[i]);
+    for (size_t i = 0; i < sizeof REFUSALS / sizeof *REFUSALS; i++)
+        check_refusal(i);
+    printf("%lu differences\n", differences);
+    return differences != 0;
 }

@@ -6,7 +6,7 @@
  * ECMA-48 and xterm, such as colours, cursor movements and titles. Any bytes are a stream. Each of the first three calls takes
  * one whole, and keeps nothing. A filter in pieces, escape_stream_filter_begin and the calls after it, takes one as it comes, and
  * so does a page, escape_stream_html_begin and the calls after it. The calls escape_stream_read_.. take the text of one command,
- * query or image.
+ * query or image, and escape_stream_write_osc writes a command.
  *
  *     cc -I crates/escape_c/include program.c libescape_c.a liblibc_c.a
  *
@@ -14,7 +14,8 @@
  * it takes for granted. Nothing checks the caller, who owes this at every call:
  *
  *   - No pointer is NULL, also where its length is 0.
- *   - `bytes` or `text` is `length` initialized bytes that can be read, and nobody writes them during the call.
+ *   - `bytes` or `text` is `length` initialized bytes that can be read, and nobody writes them during the call; of
+ *     escape_stream_write_osc so are the `text_length` bytes of `text` and the `count` fields.
  *   - `out` is `capacity` initialized bytes that can be read and written; `needed`, `answer`, `osc`, `image`, `query` and `sixel`
  *     point to initialized objects of their types, `fields` to `field_room` of them, `items` to `item_room`, and `params` to
  *     `count`. No two of these and of `bytes` or `text` overlap, but `params` and `text`, and nobody else reads or writes them
@@ -51,6 +52,8 @@ extern "C" {
 #define ESCAPE_STREAM_NO_MEMORY UINT32_C(1)      /* a request for memory was refused */
 #define ESCAPE_STREAM_UNKNOWN_POLICY UINT32_C(2) /* no policy has this number */
 #define ESCAPE_STREAM_NOT_BEGUN UINT32_C(3)      /* the filter or page was not begun, or has ended */
+#define ESCAPE_STREAM_NO_COMMAND UINT32_C(4)     /* no command has this kind and these fields */
+#define ESCAPE_STREAM_NOT_WRITABLE UINT32_C(5)   /* the text of the command would not read back as it */
 
 /*
  * The policies of escape_stream_filter and escape_stream_filter_begin. Each admits all that the one before it does.
@@ -624,6 +627,44 @@ struct escape_stream_sixel {
  */
 uint32_t escape_stream_read_sixel(const int64_t *params, size_t count, const uint8_t *text, size_t length,
                                   struct escape_stream_sixel *sixel, struct escape_stream_sixel_item *items, size_t item_room);
+
+/*
+ * Writes a command: ESC ], its text and ESC \. A command that was read in another spelling, as a title that BEL ended or a
+ * color by its name, is written in this one.
+ *
+ *   kind               which command: ESCAPE_STREAM_OSC_..
+ *   fields, count      its fields, in the order that the kind has them, and how many there are
+ *   text, text_length  the texts of these fields one after another, in the order of the fields, and how many bytes they have
+ *   out, capacity      where the command goes, and for how many bytes there is room
+ *   needed             where the length of the whole command goes
+ *
+ * The kind, the fields and the texts are as escape_stream_read_osc writes them: the first text has the offset 0, each other the
+ * offset at which the one before it ends, and what has no meaning for what a field holds is 0.
+ *
+ * ESCAPE_STREAM_DONE: at the beginning of `out` is the command, as much of it as there is room for, and all else there is as it
+ * was. `*needed` is its length, whatever the room; where it is more than `capacity`, call again with room. What is between ESC ]
+ * and ESC \ holds no control but DEL, and escape_stream_read_osc reads this kind, these fields and these texts of it.
+ *
+ * ESCAPE_STREAM_NO_COMMAND: no command has this kind and these fields, as where a field is missing, comes twice or has a name that
+ * the kind has not, a number is out of its range, a text is not UTF-8, or a link's keys are not in order.
+ *
+ * ESCAPE_STREAM_NOT_WRITABLE: one has them, but its text would not read back as it, as that of a title with a control, of a text
+ * with a `;` where that would divide it, or of ESCAPE_STREAM_OSC_ITERM_REPORT_VARIABLE, which has no reading.
+ *
+ * ESCAPE_STREAM_NO_MEMORY is the only other status. The call takes memory for the command and its text, and gives it back before it
+ * returns.
+ *
+ * Example: a title.
+ *
+ *     struct escape_stream_field field = {ESCAPE_STREAM_FIELD_TEXT, ESCAPE_STREAM_VALUE_TEXT, 0, 0, length};
+ *     uint8_t out[256] = {0};
+ *     size_t needed = 0;
+ *     if (escape_stream_write_osc(ESCAPE_STREAM_OSC_SET_WINDOW_TITLE, &field, 1, title, length, out, sizeof out, &needed) ==
+ *             ESCAPE_STREAM_DONE && needed <= sizeof out)
+ *         fwrite(out, 1, needed, stdout);
+ */
+uint32_t escape_stream_write_osc(uint32_t kind, const struct escape_stream_field *fields, size_t count, const uint8_t *text,
+                                 size_t text_length, uint8_t *out, size_t capacity, size_t *needed);
 
 #ifdef __cplusplus
 }

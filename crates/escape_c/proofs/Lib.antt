@@ -4,3 +4,4 @@ pub mod AsPageBox
 pub mod PageStates
 pub mod SameState
 pub mod Rows
+mod WrittenBack

@@ -8,3 +8,4 @@ pub mod Pieces
 pub mod Policies
 pub mod QueryValues
 pub mod SixelValues
+pub mod WrittenOscs

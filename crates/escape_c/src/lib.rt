@@ -9,10 +9,11 @@
 //! Three further calls write a [`FunctionRow`]: what a sequence or a control asks for, by name; and
 //! three an [`OscValue`], an [`ImageValue`] or a [`QueryValue`] and rows of fields: what an operating
 //! system command, an image of kitty's or a termcap query says; and one a [`SixelValue`] and rows of
-//! sixel data.
+//! sixel data. Another takes rows of fields, and writes the command that has them.
 //! `include/escape_stream.h` declares the calls for C.
 #![tactic(auto)]
 
+mod clear;
 mod filter;
 mod function;
 mod function_row;
@@ -36,6 +37,7 @@ mod sixel;
 mod sixel_value;
 mod state;
 mod tcap;
+mod write_osc;
 
 pub use filter::escape_stream_filter;
 pub use function::{
@@ -62,6 +64,7 @@ pub use query_value::QueryValue;
 pub use sixel::escape_stream_read_sixel;
 pub use sixel_value::SixelValue;
 pub use tcap::escape_stream_read_tcap;
+pub use write_osc::escape_stream_write_osc;
 
 /// The call was done.
 pub const DONE: u32 = 0;
@@ -74,3 +77,9 @@ pub const UNKNOWN_POLICY: u32 = 2;
 
 /// The filter or the page in pieces was not begun, or has ended. Nothing was taken.
 pub const NOT_BEGUN: u32 = 3;
+
+/// No command has this kind and these fields. Nothing was written.
+pub const NO_COMMAND: u32 = 4;
+
+/// The text of the command would not read back as it. Nothing was written.
+pub const NOT_WRITABLE: u32 = 5;
