@@ -16,6 +16,7 @@ mod texts;
 #[cfg(feature = "oneshot")]
 pub use texts::{
     Field, NO_FIELD, NO_ITEM, Said, SixelItem, read_kitty, read_osc, read_sixel, read_tcap,
+    write_osc,
 };
 
 #[cfg(feature = "oneshot")]

@@ -88,6 +88,9 @@ pub enum Error {
     /// excludes it. Or a filter or a page in pieces was refused memory before, or has ended. Or the
     /// fields of a command are none that its kind has, which the library's call excludes too.
     Failed,
+    /// The text of a command would not read back as it, as that of a title with a control. Nothing
+    /// was written.
+    NotWritable,
 }
 
 impl fmt::Display for Error {
@@ -95,6 +98,7 @@ impl fmt::Display for Error {
         match self {
             Error::Memory => f.write_str("out of memory"),
             Error::Failed => f.write_str("an earlier call failed"),
+            Error::NotWritable => f.write_str("the command would not read back"),
         }
     }
 }

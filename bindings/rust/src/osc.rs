@@ -6,6 +6,7 @@
 //! numbers.
 mod iterm;
 mod prompt;
+mod said;
 mod values;
 
 pub use iterm::{ITermDimension, ITermFileData, ITermProprietary, ITermUnicodeVersionOp};
@@ -14,10 +15,11 @@ pub use values::{
     ChangeColorPair, Color16, ColorOrQuery, DynamicColorNumber, Hyperlink, Progress, Selection,
 };
 
-use crate::fields::{Fields, kind, name, read};
+use crate::fields::{Fields, kind, make_room, name, read};
 use crate::{Error, ffi};
 use alloc::string::String;
 use alloc::vec::Vec;
+use said::Said;
 
 /// An operating system command: a control string between `ESC ]` and a string terminator, whose
 /// parts have `;` between them (xterm's list of control sequences, "Operating System Commands").
@@ -100,6 +102,38 @@ impl OperatingSystemCommand {
     /// says that a command had other fields than its kind has.
     pub fn parse(text: &[u8]) -> Result<OperatingSystemCommand, Error> {
         read(text, ffi::read_osc, command)
+    }
+
+    /// The bytes of this command: `ESC ]`, its text and `ESC \`. What is between these reads back as
+    /// this command, and holds no control but DEL.
+    ///
+    /// ```
+    /// use escape_stream::{Error, osc::OperatingSystemCommand};
+    ///
+    /// let title = OperatingSystemCommand::SetWindowTitle("hello".into());
+    /// assert_eq!(title.to_bytes()?, b"\x1b]2;hello\x1b\\");
+    /// let title = OperatingSystemCommand::SetWindowTitle("\x1b[2J".into());
+    /// assert_eq!(title.to_bytes(), Err(Error::NotWritable));
+    /// # Ok::<(), Error>(())
+    /// ```
+    ///
+    /// # Errors
+    ///
+    /// [`Error::NotWritable`] where no bytes would read back as this command: a text has a control,
+    /// or a `;` that would divide it, or the command has no reading. [`Error::Memory`] where the
+    /// library was refused memory; the fields take it as a `Vec` does.
+    pub fn to_bytes(&self) -> Result<Vec<u8>, Error> {
+        let mut said = Said::default();
+        let kind = said.command(self);
+        let mut bytes = Vec::new();
+        make_room(&mut bytes, said.texts.len().saturating_add(64), 0)?;
+        let mut needed = ffi::write_osc(kind, &said.rows, &said.texts, &mut bytes)?;
+        if needed > bytes.len() {
+            make_room(&mut bytes, needed, 0)?;
+            needed = ffi::write_osc(kind, &said.rows, &said.texts, &mut bytes)?;
+        }
+        bytes.truncate(needed);
+        Ok(bytes)
     }
 }
 

@@ -2,8 +2,11 @@
 //! Checks what commands say against the tables of streams, which have the actions of each.
 mod rows;
 
-use escape_stream::osc::OperatingSystemCommand;
-use escape_stream::{Event, Parser};
+use escape_stream::osc::{
+    ChangeColorPair, Color16, ColorOrQuery, ITermDimension, ITermFileData, ITermProprietary,
+    OperatingSystemCommand, Selection,
+};
+use escape_stream::{Error, Event, Parser};
 use rows::{Row, count_rows, unescaped};
 
 // No string of the tables is longer.
@@ -17,11 +20,22 @@ fn commands(stream: &[u8]) -> Vec<String> {
         .advance(stream, |event| {
             if let Event::Osc(text) = event {
                 let command = OperatingSystemCommand::parse(text).unwrap();
+                assert_reads_back(&command);
                 found.push(format!("OperatingSystemCommand({command:?})"));
             }
         })
         .unwrap();
     found
+}
+
+// What is written of a command reads back as it.
+fn assert_reads_back(command: &OperatingSystemCommand) {
+    let bytes = command.to_bytes().unwrap();
+    let text = bytes
+        .strip_prefix(b"\x1b]")
+        .and_then(|text| text.strip_suffix(b"\x1b\\"))
+        .unwrap();
+    assert_eq!(OperatingSystemCommand::parse(text).as_ref(), Ok(command));
 }
 
 // The commands among the actions of a row. A line `kept` is a command that is kept as its parts.
@@ -56,4 +70,48 @@ fn commands_are_as_in_the_tables() {
         !wanted.is_empty()
     });
     assert!(count > 150, "{count} rows");
+}
+
+#[test]
+fn commands_that_the_tables_lack_read_back() {
+    let file = ITermFileData {
+        name: Some("a;b".into()),
+        size: Some(usize::MAX),
+        width: ITermDimension::Percent(i64::MIN),
+        height: ITermDimension::Pixels(i64::MAX),
+        preserve_aspect_ratio: false,
+        inline: true,
+        do_not_move_cursor: true,
+        content: (0..=255).collect(),
+    };
+    let colors = (0..1000).map(|n| ChangeColorPair {
+        palette_index: 7,
+        color: ColorOrQuery::Color(Color16 {
+            red: n,
+            green: 65535,
+            blue: 0,
+        }),
+    });
+    for command in [
+        OperatingSystemCommand::ITermProprietary(ITermProprietary::File(Box::new(file))),
+        OperatingSystemCommand::ChangeColorNumber(colors.collect()),
+        OperatingSystemCommand::SetSelection(Selection::CLIPBOARD, "\u{1b}\0é;".into()),
+        OperatingSystemCommand::RxvtExtension(vec!["notify".into(), String::new()]),
+    ] {
+        assert_reads_back(&command);
+    }
+}
+
+#[test]
+fn what_would_not_read_back_is_not_written() {
+    for command in [
+        OperatingSystemCommand::SetWindowTitle("\u{1b}\\".into()),
+        OperatingSystemCommand::SetWindowTitle("\u{9c}".into()),
+        OperatingSystemCommand::SystemNotification("a;b".into()),
+        OperatingSystemCommand::QuerySelection(Selection::NONE),
+        OperatingSystemCommand::Unspecified(vec![b"2".to_vec(), b"title".to_vec()]),
+        OperatingSystemCommand::ITermProprietary(ITermProprietary::ReportVariable("a".into())),
+    ] {
+        assert_eq!(command.to_bytes(), Err(Error::NotWritable), "{command:?}");
+    }
 }

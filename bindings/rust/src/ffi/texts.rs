@@ -13,6 +13,16 @@ extern "C" {
         out: *mut u8,
         capacity: usize,
     ) -> u32;
+    fn escape_stream_write_osc(
+        kind: u32,
+        fields: *const Field,
+        count: usize,
+        text: *const u8,
+        text_length: usize,
+        out: *mut u8,
+        capacity: usize,
+        needed: *mut usize,
+    ) -> u32;
     fn escape_stream_read_tcap(
         text: *const u8,
         length: usize,
@@ -41,6 +51,9 @@ extern "C" {
         capacity: usize,
     ) -> u32;
 }
+
+const NO_COMMAND: u32 = 4;
+const NOT_WRITABLE: u32 = 5;
 
 /// A field of a command.
 #[repr(C)]
@@ -220,4 +233,27 @@ pub fn read_sixel(
     };
     let count = sixel.item_count.min(items.len());
     done(status, (sixel, count))
+}
+
+/// Writes the command of a kind and fields, as much of it as fits. Returns its length.
+pub fn write_osc(kind: u32, fields: &[Field], text: &[u8], out: &mut [u8]) -> Result<usize, Error> {
+    let mut needed = 0;
+    // SAFETY: the references are what the types ask for. Clause `written` says what `out` and
+    // `needed` hold after `DONE`, and `refused` that both are as they were after any other status.
+    let status = unsafe {
+        escape_stream_write_osc(
+            kind,
+            fields.as_ptr(),
+            fields.len(),
+            text.as_ptr(),
+            text.len(),
+            out.as_mut_ptr(),
+            out.len(),
+            &mut needed,
+        )
+    };
+    match status {
+        NO_COMMAND | NOT_WRITABLE => Err(Error::NotWritable),
+        _ => done(status, needed),
+    }
 }
