@@ -1,5 +1,5 @@
 -- Commands are read back from what their rows say.
-use Rattle.std.proofs.Common.{ℕ, ◌≡◌, List, [], ◌∷◌, ◌++◌, Option, Some, None, refl, sym, ap, map, ◌∙◌}
+use Rattle.std.proofs.Common.{ℕ, ◌≡◌, List, ◌++◌, Option, Some, None, refl, sym, ap, map, ◌∙◌}
 use Rattle.std.specs.Prelude.{◌^◌}
 use Rattle.esc_iterm.specs.declared.proprietary.ITermProprietary.{ITermProprietary}
 use Rattle.esc_iterm.specs.declared.proprietary.ITermProprietary.TheVariants as iterm
@@ -16,7 +16,7 @@ use Rattle.esc_fields.proofs.FilesBack.{file_back}
 use Rattle.esc_fields.proofs.ItemsBack.{colors_back, dynamic_back, link_back, pairs_back, progress_back}
 use Rattle.esc_fields.proofs.KindsBack.{kind_back}
 use Rattle.esc_fields.proofs.Tables.{rows_say}
-use Rattle.esc_fields.proofs.ValuesBack.{below_is, flag_back, numbers_back, optional_is, parts_back, signed_is, text_is, texts_back}
+use Rattle.esc_fields.proofs.ValuesBack.{below_is, flag_back, numbers_back, parts_back, signed_is, text_is, texts_back}
 use Rattle.esc_fields.specs.Commands.{fields_of}
 use Rattle.esc_fields.specs.Fields.{Table, named, said}
 use Rattle.esc_fields.specs.FoundCommands.{command_in, kind_at}

@@ -1,5 +1,5 @@
 -- Files are read back from what their rows say.
-use Rattle.std.proofs.Common.{ℕ, ◌≡◌, List, ◌++◌, Option, Some, None, refl, map, ap, sym, ◌∙◌}
+use Rattle.std.proofs.Common.{ℕ, ◌≡◌, List, ◌++◌, Option, Some, None, refl, map, ◌∙◌}
 use Rattle.esc_iterm.specs.declared.dimension.ITermDimension.{ITermDimension}
 use Rattle.esc_iterm.specs.declared.dimension.ITermDimension.TheVariants.{Automatic, Cells, Percent, Pixels}
 use Rattle.esc_iterm.specs.declared.file_data.ITermFileData.{ITermFileData}

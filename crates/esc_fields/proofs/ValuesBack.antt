@@ -3,12 +3,12 @@ use Rattle.std.proofs.Common.{ℕ, ℤ, pos, negsuc, ◌≡◌, ◌<◌, ◌^◌
 use Rattle.std.proofs.lemmas.Bool.{lt-ltb}
 use Rattle.std.proofs.lemmas.Str.{is_utf8-from_IsUtf8}
 use Rattle.std.specs.List.{flat_map}
-use Rattle.std.specs.Option.{option_map, unwrap_or}
+use Rattle.std.specs.Option.{option_map}
 use Rattle.std.specs.Str.{IsUtf8}
 use Rattle.esc_osc_values.specs.WritableValues.{AreNumbers}
 use Rattle.esc_values.specs.Scalars.{IsSigned}
 use Rattle.esc_fields.specs.Commands.{index_fields, part_fields}
-use Rattle.esc_fields.specs.Fields.{Value, flag_number, named, text_of}
+use Rattle.esc_fields.specs.Fields.{flag_number, named, text_of}
 use Rattle.esc_fields.specs.Fields.Value.{Number}
 use Rattle.esc_fields.specs.Found.{below, byte_of, flag_of, parameters, signed, string_of, utf8_or_none}
 use Rattle.esc_fields.specs.Held.{ArePairsOfTexts, AreTexts, IsOptional}

@@ -12,7 +12,7 @@ use Rattle.esc_osc_values.specs.declared.dynamic_color_number.DynamicColorNumber
 use Rattle.esc_osc_values.specs.declared.progress.Progress.{Progress}
 use Rattle.esc_osc_values.specs.declared.progress.Progress.TheVariants as progress
 use Rattle.esc_fields.specs.Fields.{Value}
-use Rattle.esc_fields.specs.Found.{NamedValue, after, byte_of, channel_of, count_of, first, flag_of, is_named, parameters, second, string_of}
+use Rattle.esc_fields.specs.Found.{NamedValue, byte_of, channel_of, count_of, first, flag_of, is_named, parameters, second, string_of}
 use Rattle.esc_fields.specs.declared.read_colors.Known.{Known}
 use Rattle.esc_fields.specs.declared.field_name.FieldName.TheVariants as name
 

@@ -5,7 +5,6 @@ use Rattle.std.specs.Str.{IsUtf8}
 use Rattle.esc_values.specs.Scalars.{IsSigned}
 use Rattle.esc_links.specs.Hyperlinks.{put_all}
 use Rattle.esc_links.specs.declared.hyperlink.Hyperlink.{Hyperlink}
-use Rattle.esc_iterm.specs.declared.file_data.ITermFileData.{ITermFileData}
 use Rattle.esc_iterm.specs.declared.proprietary.ITermProprietary.{ITermProprietary}
 use Rattle.esc_iterm.specs.declared.proprietary.ITermProprietary.TheVariants as iterm
 use Rattle.esc_iterm.specs.declared.unicode_version.ITermUnicodeVersionOp.{ITermUnicodeVersionOp}

@@ -1,4 +1,4 @@
-use Rattle.std.proofs.Common.{◌≡◌, arith, sym}
+use Rattle.std.proofs.Common.{arith, sym}
 use Rattle.std.proofs.lemmas.List.{get_or_past}
 use Rattle.esc_fields.specs.declared.command_kind.CommandKind.TheVariants as kind
 use Rattle.esc_fields.specs.declared.kinds.TheConstants.{KINDS}

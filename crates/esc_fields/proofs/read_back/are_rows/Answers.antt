@@ -1,4 +1,3 @@
-use Rattle.std.proofs.Common.{◌≡◌, IsTrue}
 use Rattle.std.proofs.lemmas.Slice.Eq.{slice_eq-Decides}
 use Rattle.esc_fields.proofs.RowsSame.{rows_decide}
 use Rattle.esc_fields.proofs.read_back.are_rows.Goals as goal

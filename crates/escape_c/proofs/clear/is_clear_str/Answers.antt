@@ -1,4 +1,4 @@
-use Rattle.std.proofs.Common.{◌≡◌, sym, ◌∙◌}
+use Rattle.std.proofs.Common.{sym, ◌∙◌}
 use Rattle.escape_c.proofs.WrittenBack.{clear_if, clear_only}
 use Rattle.escape_c.proofs.clear.is_clear_str.Goals as goal
 
