@@ -104,8 +104,8 @@ impl OperatingSystemCommand {
         read(text, ffi::read_osc, command)
     }
 
-    /// The bytes of this command: `ESC ]`, its text and `ESC \`. What is between these reads back as
-    /// this command, and holds no control but DEL.
+    /// The bytes of this command: `ESC ]`, its text and `ESC \`. What is between these reads back
+    /// as this command, and holds no control but DEL.
     ///
     /// ```
     /// use escape_stream::{Error, osc::OperatingSystemCommand};

@@ -32,8 +32,8 @@ pair_first k n (Color c) fs ps small held rest =
     let green_is = below_is (2 ^ 16) c.green held.1 in
     let blue_is = below_is (2 ^ 16) c.blue held.2 in
     let rest_is = rest _ in
-    λ i. placed (place_is i) (Color (record { red = red_is i; green = green_is i; blue = blue_is i }))
-    ∷ rest_is i
+    λ i. placed (place_is i)
+    (Color (record { red = red_is i; green = green_is i; blue = blue_is i })) ∷ rest_is i
 pair_first k n Query fs ps small held rest =
     let place_is = below_is (2 ^ 8) n small in
     let rest_is = rest _ in

@@ -1,4 +1,4 @@
--- A test of rows tells whether they are the same.
+-- A test of rows says whether they are the same.
 use Rattle.std.proofs.Common.{◌≡◌, ◌&&◌, ◌==◌, Bool, ap}
 use Rattle.std.specs.Bool.{Decides}
 use Rattle.std.proofs.lemmas.Bool.Decides.{Decides-and, Decides-eqb, Decides-int_eq}

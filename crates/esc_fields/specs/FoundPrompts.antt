@@ -63,8 +63,8 @@ past_height ss = past name.HeightPercent (past name.HeightPixels (past name.Heig
 
 module _ {A : Type 0} where
   -- a file of its name, its size, its dimensions, and what comes after these
-  abbrev pub file_with : Option (List ℕ) → Option ℕ → ITermDimension → ITermDimension → List NamedValue
-      → ITermFileData A
+  abbrev pub file_with : Option (List ℕ) → Option ℕ → ITermDimension → ITermDimension
+      → List NamedValue → ITermFileData A
   file_with n k w h ss = record {
     name = n;
     size = k;
@@ -76,11 +76,13 @@ module _ {A : Type 0} where
     content = text_of (second (after (after ss)));
   }
 
-  abbrev pub high_in : Option (List ℕ) → Option ℕ → ITermDimension → List NamedValue → ITermFileData A
+  abbrev pub high_in : Option (List ℕ) → Option ℕ → ITermDimension → List NamedValue
+      → ITermFileData A
   high_in n k w ss = file_with n k w (height_in ss) (past_height ss)
 
   abbrev pub sized_in : Option (List ℕ) → List NamedValue → ITermFileData A
-  sized_in n ss = high_in n (size_in ss) (width_in (past name.Size ss)) (past_width (past name.Size ss))
+  sized_in n ss = high_in n (size_in ss) (width_in (past name.Size ss))
+      (past_width (past name.Size ss))
 
   abbrev pub file_in : List NamedValue → ITermFileData A
   file_in ss = sized_in (text_in name.Name ss) (past name.Name ss)

@@ -12,7 +12,7 @@
 //! `FieldName::Text`, whose row says that its text is the 2 bytes at 0 of `fields.text()`, `hi`.
 //!
 //! The way back: `command_of(alloc, CommandKind::of(&command).number(), fields.rows(),
-//! fields.text())?` is that command again, and of rows that are the fields of no command it is none.
+//! fields.text())?` is that command again; of rows that are the fields of no command it is none.
 #![tactic(auto)]
 
 mod append;
