@@ -7,9 +7,9 @@
 //! keep nothing. The filter in pieces is a [`PieceFilter`] of the caller's, and HTML in pieces a
 //! [`PiecePage`], each with a block after it.
 //! Three further calls write a [`FunctionRow`]: what a sequence or a control asks for, by name; and
-//! three an [`OscValue`], an [`ImageValue`] or a [`QueryValue`] and rows of fields: what an operating
-//! system command, an image of kitty's or a termcap query says; and one a [`SixelValue`] and rows of
-//! sixel data. Another takes rows of fields, and writes the command that has them.
+//! three an [`OscValue`], an [`ImageValue`] or a [`QueryValue`] and rows of fields: what an
+//! operating system command, an image of kitty's or a termcap query says; and one a [`SixelValue`]
+//! and rows of sixel data. Another takes rows of fields, and writes the command that has them.
 //! `include/escape_stream.h` declares the calls for C.
 #![tactic(auto)]
 
