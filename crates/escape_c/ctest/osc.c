@@ -8,41 +8,10 @@
  * difference; the status is 1 where there is one. Link it with -Wl,--wrap=malloc,--wrap=realloc,--wrap=free, by which it counts,
  * refuses, and sees that all was given back.
  */
-#include "escape_stream.h"
+#define PROGRAM "osc"
+#include "fields.h"
 
-#include <inttypes.h>
-#include <stdio.h>
-#include <stdlib.h>
-#include <string.h>
-
-enum { MOST_FIELDS = 24, MOST_BYTES = 120, MOST_WRITTEN = 240, JUNK = 0xa5 };
-
-static unsigned long refused, requests, differences;
-static long blocks;
-
-void *__real_malloc(size_t size);
-void *__real_realloc(void *block, size_t size);
-void __real_free(void *block);
-void *__wrap_malloc(size_t size);
-void *__wrap_realloc(void *block, size_t size);
-void __wrap_free(void *block);
-
-void *__wrap_malloc(size_t size) {
-    void *block = ++requests == refused ? NULL : __real_malloc(size);
-    blocks += block != NULL;
-    return block;
-}
-
-void *__wrap_realloc(void *block, size_t size) {
-    void *moved = ++requests == refused ? NULL : __real_realloc(block, size);
-    blocks += !block && moved;
-    return moved;
-}
-
-void __wrap_free(void *block) {
-    blocks -= block != NULL;
-    __real_free(block);
-}
+enum { MOST_WRITTEN = 240 };
 
 #define KIND(name) [ESCAPE_STREAM_OSC_##name] = #name
 static const char *const KINDS[] = {
@@ -60,20 +29,22 @@ static const char *const KINDS[] = {
     KIND(ITERM_PUSH_UNICODE_VERSION), KIND(ITERM_POP_UNICODE_VERSION),
 };
 
-#define NAME(name) [ESCAPE_STREAM_FIELD_##name] = #name
-static const char *const NAMES[] = {
-    NAME(TEXT), NAME(PART), NAME(DIRECTORY), NAME(URI), NAME(IMPLICIT), NAME(KEY), NAME(VALUE), NAME(SELECTION),
-    NAME(PALETTE_INDEX), NAME(DYNAMIC_COLOR), NAME(RED), NAME(GREEN), NAME(BLUE), NAME(QUERY), NAME(PROGRESS_STATE),
-    NAME(PERCENT), NAME(APPLICATION), NAME(CLICK), NAME(PROMPT_KIND), NAME(STATUS), NAME(NAME), NAME(HIGHLIGHTED),
-    NAME(CELL_HEIGHT), NAME(CELL_WIDTH), NAME(SCALE), NAME(SIZE), NAME(WIDTH_CELLS), NAME(WIDTH_PIXELS),
-    NAME(WIDTH_PERCENT), NAME(HEIGHT_CELLS), NAME(HEIGHT_PIXELS), NAME(HEIGHT_PERCENT), NAME(PRESERVE_ASPECT_RATIO),
-    NAME(INLINE), NAME(DO_NOT_MOVE_CURSOR), NAME(CONTENT), NAME(VERSION), NAME(LABEL),
-};
+static const char *kind_name(uint32_t kind) { return KINDS[kind]; }
 
-/* The text of a command, and its kind and fields. */
-static const struct command {
-    const char *text, *wanted;
-} COMMANDS[] = {
+static uint32_t read_text(const uint8_t *text, size_t length, struct value *value, struct escape_stream_field *fields,
+                          size_t field_room, uint8_t *out, size_t capacity) {
+    struct escape_stream_osc osc;
+    uint32_t status;
+    memset(&osc, JUNK, sizeof osc);
+    status = escape_stream_read_osc(text, length, &osc, fields, field_room, out, capacity);
+    if (status == ESCAPE_STREAM_DONE)
+        *value = (struct value){osc.kind, osc.field_count, osc.text_length};
+    else
+        memcpy(value, &osc, sizeof osc);
+    return status;
+}
+
+static const struct command COMMANDS[] = {
     {"0;a;b", "SET_ICON_NAME_AND_WINDOW_TITLE TEXT=a;b"},
     {"2;caf\xc3\xa9", "SET_WINDOW_TITLE TEXT=caf\xc3\xa9"},
     {"2;", "SET_WINDOW_TITLE TEXT="},
@@ -138,96 +109,15 @@ static const struct command {
     {"2;\xff", "UNSPECIFIED PART=2 PART=[ff]"},
 };
 
-static void wants(bool holds, const char *what, const char *text, size_t number) {
-    if (holds)
-        return;
-    fprintf(stderr, "osc: %s (%s, %zu)\n", what, text, number);
-    differences++;
-}
-
-/* Appends a text, of which a control and a byte FF are two digits between brackets. */
-static size_t append_text(char *line, size_t at, const uint8_t *text, size_t length) {
-    for (size_t i = 0; i < length; i++)
-        at += (size_t)sprintf(line + at, text[i] < 0x20 || text[i] == 0xff ? "[%02x]" : "%c", text[i]);
-    return at;
-}
-
-/* The kind and the fields of a command, as the table has them. */
-static const char *written(const struct escape_stream_osc *osc, const struct escape_stream_field *fields, const uint8_t *out) {
-    static char line[1000];
-    size_t at = (size_t)sprintf(line, "%s", KINDS[osc->kind]);
-    for (size_t i = 0; i < osc->field_count; i++) {
-        const struct escape_stream_field *field = &fields[i];
-        at += (size_t)sprintf(line + at, " %s=", NAMES[field->name]);
-        if (field->kind == ESCAPE_STREAM_VALUE_NUMBER)
-            at += (size_t)sprintf(line + at, "%" PRId64, field->number);
-        else if (field->kind == ESCAPE_STREAM_VALUE_TEXT)
-            at = append_text(line, at, out + field->offset, field->length);
-        else
-            at += (size_t)sprintf(line + at, "%zu", field->length);
-    }
-    return line;
-}
-
-/* What a call is given: room for fields and texts, with guards. */
-struct room {
-    struct escape_stream_osc osc;
-    struct escape_stream_field fields[MOST_FIELDS];
-    uint8_t out[MOST_BYTES];
-};
-
-static uint32_t read_into(struct room *room, const char *text, size_t field_room, size_t capacity) {
-    memset(room, JUNK, sizeof *room);
-    return escape_stream_read_osc((const uint8_t *)text, strlen(text), &room->osc, room->fields, field_room, room->out, capacity);
-}
-
-static bool is_junk(const void *at, size_t length) {
-    for (size_t i = 0; i < length; i++)
-        if (((const uint8_t *)at)[i] != JUNK)
-            return false;
-    return true;
-}
-
-/* The same command in less room: the beginnings of its fields and of their texts, and nothing past these. */
-static void check_room(const struct room *whole, const char *text, size_t field_room, size_t capacity) {
-    static struct room room;
-    size_t fields = field_room < whole->osc.field_count ? field_room : whole->osc.field_count;
-    size_t bytes = capacity < whole->osc.text_length ? capacity : whole->osc.text_length;
-    wants(read_into(&room, text, field_room, capacity) == ESCAPE_STREAM_DONE, "another status", text, field_room);
-    wants(room.osc.kind == whole->osc.kind && room.osc.field_count == whole->osc.field_count &&
-          room.osc.text_length == whole->osc.text_length, "another value", text, field_room);
-    wants(memcmp(room.fields, whole->fields, fields * sizeof *room.fields) == 0, "other fields", text, field_room);
-    wants(is_junk(&room.fields[fields], sizeof room.fields - fields * sizeof *room.fields), "a field past them", text, field_room);
-    wants(memcmp(room.out, whole->out, bytes) == 0, "another text", text, capacity);
-    wants(is_junk(&room.out[bytes], sizeof room.out - bytes), "a byte past it", text, capacity);
-}
-
-static void check_refusals(const char *text) {
-    static struct room room;
-    for (unsigned long at = 1; at < 1000; at++) {
-        uint32_t status;
-        requests = 0;
-        refused = at;
-        status = read_into(&room, text, MOST_FIELDS, MOST_BYTES);
-        refused = 0;
-        wants(blocks == 0, "blocks are kept", text, at);
-        if (requests < at) {
-            wants(status == ESCAPE_STREAM_DONE, "another status", text, at);
-            return;
-        }
-        wants(status == ESCAPE_STREAM_NO_MEMORY && is_junk(&room, sizeof room), "something was written", text, at);
-    }
-}
-
 static bool is_same(const struct room *room, const struct room *other) {
-    return room->osc.kind == other->osc.kind && room->osc.field_count == other->osc.field_count &&
-           room->osc.text_length == other->osc.text_length &&
+    return room->value.kind == other->value.kind && room->value.field_count == other->value.field_count &&
+           room->value.text_length == other->value.text_length &&
            memcmp(room->fields, other->fields, sizeof room->fields) == 0 && memcmp(room->out, other->out, sizeof room->out) == 0;
 }
 
 /* Writes what was read. */
 static uint32_t write_from(const struct room *from, uint8_t *out, size_t capacity, size_t *needed) {
-    return escape_stream_write_osc(from->osc.kind, from->fields, from->osc.field_count, from->out, from->osc.text_length, out,
+    return escape_stream_write_osc(from->value.kind, from->fields, from->value.field_count, from->out, from->value.text_length, out,
                                    capacity, needed);
 }
 
@@ -269,7 +159,7 @@ static void check_written(const struct room *whole, const char *text) {
         wants(memcmp(out, all, fitting) == 0 && is_junk(out + fitting, sizeof out - fitting), "another text", text, capacity);
     }
     memset(&again, JUNK, sizeof again);
-    wants(escape_stream_read_osc(all + 2, length - 4, &again.osc, again.fields, MOST_FIELDS, again.out, MOST_BYTES) ==
+    wants(read_text(all + 2, length - 4, &again.value, again.fields, MOST_FIELDS, again.out, MOST_BYTES) ==
           ESCAPE_STREAM_DONE && is_same(&again, whole), "other fields when read again", text, length);
     check_write_refusals(whole, text);
 }
@@ -286,7 +176,7 @@ static void check_not_writable(const struct room *whole, const char *text) {
 static void check_changed(const struct room *whole, const char *text) {
     static struct room changed, again;
     static uint8_t out[MOST_WRITTEN];
-    for (size_t i = 0; i < whole->osc.field_count; i++)
+    for (size_t i = 0; i < whole->value.field_count; i++)
         for (unsigned which = 0; which < 5; which++) {
             size_t needed = JUNK;
             uint32_t status;
@@ -304,26 +194,20 @@ static void check_changed(const struct room *whole, const char *text) {
                 continue;
             }
             memset(&again, JUNK, sizeof again);
-            escape_stream_read_osc(out + 2, needed - 4, &again.osc, again.fields, MOST_FIELDS, again.out, MOST_BYTES);
+            read_text(out + 2, needed - 4, &again.value, again.fields, MOST_FIELDS, again.out, MOST_BYTES);
             wants(is_same(&again, &changed), "a change reads otherwise", text, i);
         }
 }
 
-static void check_command(const struct command *command) {
+/* What was read, written; where it has bytes that are no UTF-8, which would be written as U+FFFD, it is not. */
+static void check_back(const char *text) {
     static struct room whole;
-    wants(read_into(&whole, command->text, MOST_FIELDS, MOST_BYTES) == ESCAPE_STREAM_DONE, "another status", command->text, 0);
-    wants(strcmp(written(&whole.osc, whole.fields, whole.out), command->wanted) == 0,
-          written(&whole.osc, whole.fields, whole.out), command->text, 0);
-    for (size_t fields = 0; fields <= whole.osc.field_count + 2; fields++)
-        check_room(&whole, command->text, fields, MOST_BYTES);
-    for (size_t bytes = 0; bytes <= whole.osc.text_length + 2; bytes++)
-        check_room(&whole, command->text, MOST_FIELDS, bytes);
-    check_refusals(command->text);
-    if (strchr(command->text, '\xff')) /* what is no UTF-8 would be written as U+FFFD */
-        check_not_writable(&whole, command->text);
+    read_into(&whole, text, MOST_FIELDS, MOST_BYTES);
+    if (strchr(text, '\xff'))
+        check_not_writable(&whole, text);
     else
-        check_written(&whole, command->text);
-    check_changed(&whole, command->text);
+        check_written(&whole, text);
+    check_changed(&whole, text);
 }
 
 /* Fields that say no command, or one that is not writable. */
@@ -376,10 +260,10 @@ static void check_refusal(size_t number) {
 }
 
 int main(void) {
-    for (size_t i = 0; i < sizeof COMMANDS / sizeof *COMMANDS; i++)
-        check_command(&COMMANDS[i]);
+    size_t count = sizeof COMMANDS / sizeof *COMMANDS;
+    for (size_t i = 0; i < count; i++)
+        check_back(COMMANDS[i].text);
     for (size_t i = 0; i < sizeof REFUSALS / sizeof *REFUSALS; i++)
         check_refusal(i);
-    printf("%lu differences\n", differences);
-    return differences != 0;
+    return check_all(COMMANDS, count);
 }
