@@ -3,8 +3,8 @@
 //! `bench [--counts] [MEASURE..] < STREAM` reads a stream whole and prints a line for each measure,
 //! `framing`, `parse`, `parse_reusing`, `parse_first`, `parse_first_as_vec`, `encode`, `normalise`,
 //! `images` or `endless` (all where none is named): its best speed of several passes in MB/s (10^6
-//! bytes a second), and what it counted. `--counts` leaves out the speed, so that the output depends
-//! on the stream alone.
+//! bytes a second), and what it counted. `--counts` leaves out the speed, so that the output
+//! depends on the stream alone.
 #![tactic(auto)]
 
 mod count;
@@ -32,7 +32,7 @@ const PASSES: u32 = 5;
 fn main(rt: HostRuntime) -> Result<ExitCode> {
     let Some(wanted) = arguments(&rt)? else {
         eprintln!(rt;
-            "usage: bench [--counts] [framing | parse | parse_reusing | parse_first | parse_first_as_vec | encode | normalise | images | endless].."
+            "usage: bench [--counts] [MEASURE..] < STREAM; docs/PERFORMANCE.md names the measures"
         )?;
         return Ok(ExitCode::from(2));
     };

@@ -125,11 +125,14 @@ module _ {A : Type 0} where
       (λ k. delete.All (flag_back d k)) (verbosity_back v)
   deletion_back (delete.ByImageId i p d) v = removed kind.DeleteByImageId (delete.ByImageId i p d) v
       (λ k. delete.ByImageId i (count_back p k) (flag_back d k)) (verbosity_back v)
-  deletion_back (delete.ByImageNumber n p d) v = removed kind.DeleteByImageNumber (delete.ByImageNumber n p d) v
+  deletion_back (delete.ByImageNumber n p d) v =
+      removed kind.DeleteByImageNumber (delete.ByImageNumber n p d) v
       (λ k. delete.ByImageNumber n (count_back p k) (flag_back d k)) (verbosity_back v)
-  deletion_back (delete.AtCursorPosition d) v = removed kind.DeleteAtCursorPosition (delete.AtCursorPosition d) v
+  deletion_back (delete.AtCursorPosition d) v =
+      removed kind.DeleteAtCursorPosition (delete.AtCursorPosition d) v
       (λ k. delete.AtCursorPosition (flag_back d k)) (verbosity_back v)
-  deletion_back (delete.AnimationFrames d) v = removed kind.DeleteAnimationFrames (delete.AnimationFrames d) v
+  deletion_back (delete.AnimationFrames d) v =
+      removed kind.DeleteAnimationFrames (delete.AnimationFrames d) v
       (λ k. delete.AnimationFrames (flag_back d k)) (verbosity_back v)
   deletion_back (delete.DeleteAt x y d) v = removed kind.DeleteAt (delete.DeleteAt x y d) v
       (λ k. delete.DeleteAt x y (flag_back d k)) (verbosity_back v)
@@ -141,7 +144,8 @@ module _ {A : Type 0} where
       (λ k. delete.DeleteRow y (flag_back d k)) (verbosity_back v)
   deletion_back (delete.DeleteZ z d) v = removed kind.DeleteZ (delete.DeleteZ z d) v
       (λ k. delete.DeleteZ z (flag_back d k)) (verbosity_back v)
-  deletion_back (delete.ByImageIdRange f l d) v = removed kind.DeleteByImageIdRange (delete.ByImageIdRange f l d) v
+  deletion_back (delete.ByImageIdRange f l d) v =
+      removed kind.DeleteByImageIdRange (delete.ByImageIdRange f l d) v
       (λ k. delete.ByImageIdRange f l (flag_back d k)) (verbosity_back v)
 
   image_back : (i : Option (KittyImage A)) → image_in (image_kind i) (fields_of_image i) ≡ i

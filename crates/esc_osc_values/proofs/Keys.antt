@@ -29,7 +29,8 @@ packed_same p q (a ∷ x) [] bx by pq qp e =
 packed_same p q (a ∷ x) (b ∷ y) bx by pq qp e =
     let ha : a < 256 = bx.0 in
     let hb : b < 256 = by.0 in
-    let rest = packed_same (256 * p + a) (256 * q + b) x y bx.1 by.1 (omega arith) (omega arith) e in
+    let rest =
+    packed_same (256 * p + a) (256 * q + b) x y bx.1 by.1 (omega arith) (omega arith) e in
     let sums : 256 * p + a ≡ 256 * q + b = rest.0 in
     let heads : a ≡ b = omega arith in
     (omega arith, ap (λ h. h ∷ x) heads ∙ ap (λ t. b ∷ t) rest.1)
@@ -56,8 +57,8 @@ pub same_key : (t : List ℕ) (c : OperatingSystemCommandCode) → IsUtf8 t
 same_key t c utf8 same =
     let of_code = key_some c in
     let of_text : 0 < text_key t = rw same at of_code in
-    (packed_same 1 1 t (code_text c) (utf8_are_bytes t utf8) (code_bytes c) (omega arith) (omega arith)
-    (sym (packed_key t of_text) ∙ sym same ∙ packed_key (code_text c) of_code)).1
+    (packed_same 1 1 t (code_text c) (utf8_are_bytes t utf8) (code_bytes c) (omega arith)
+    (omega arith) (sym (packed_key t of_text) ∙ sym same ∙ packed_key (code_text c) of_code)).1
 
 -- a text of another key is not the code's
 pub other_key : (t : List ℕ) (c : OperatingSystemCommandCode) → text_key (code_text c) ≢ text_key t

@@ -18,8 +18,8 @@ place c = tag_of the_type c
 abbrev pub code_text : OperatingSystemCommandCode → List ℕ
 code_text c = get_or (map (λ t. t.now) TEXTS) (place c) []
 
--- the key of a text of one to four bytes: a one and its bytes, as a number in base 256. Zero is that
--- of every other text.
+-- the key of a text of one to four bytes: a one and its bytes, as a number in base 256. Every other
+-- text has the key zero.
 abbrev pub text_key : List ℕ → ℕ
 text_key (a ∷ []) = 0x100 + a
 text_key (a ∷ b ∷ []) = 0x1_0000 + a * 0x100 + b

@@ -1,5 +1,5 @@
-//! Tests of `reusing`: what it asks of the allocator below and gives back to it, of which no contract
-//! speaks.
+//! Tests of `reusing`: what it asks of the allocator below and gives back to it, of which no
+//! contract speaks.
 #![tactic(auto)]
 
 #[cfg(test)]
