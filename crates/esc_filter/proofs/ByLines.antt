@@ -1,9 +1,10 @@
 -- The text of a stream whose lines are streams of their own, as it grows.
-use Rattle.std.proofs.Common.{ℕ, ◌≡◌, Bool, true, false, ◌||◌, if◌then◌else◌, List, [], ◌∷◌, ◌++◌, Some, Result, Ok, Err, IfErr, OnErr, ◌⊎◌, inl, inr, arith, refl, ap, sym, ◌∙◌, subst, append_assoc}
+use Rattle.std.proofs.Common.{ℕ, ◌≡◌, ◌+◌, ◌-◌, length, take, drop, Bool, true, false, ◌||◌, if◌then◌else◌, List, [], ◌∷◌, ◌++◌, Some, Result, Ok, Err, IfErr, OnErr, ◌⊎◌, inl, inr, arith, refl, ap, sym, ◌∙◌, subst, append_assoc}
 use Rattle.std.specs.List.{flat_map, filter}
 use Rattle.std.proofs.lemmas.Bool.Decides.{nat_tests}
 use Rattle.std.proofs.lemmas.Grind.{flat_map-append}
 use Rattle.std.proofs.lemmas.List.{append-nil}
+use Rattle.esc_frame.proofs.CsiRuns.{run_joins}
 use Rattle.esc_actions.proofs.Meanings.{meaning_nil}
 use Rattle.esc_actions.specs.Texts.{list_text, texts_after}
 use Rattle.esc_actions.specs.Values.{Value}
@@ -62,10 +63,20 @@ pub ends_append : (before : Bool) (x y : List ℕ)
 ends_append before [] y = refl
 ends_append before (b ∷ x) y = ends_append (is_line_feed b) x y
 
-line_ends : (before : Bool) (l : List ℕ) → IsLine l → ends_line before l ≡ true
+pub line_ends : (before : Bool) (l : List ℕ) → IsLine l → ends_line before l ≡ true
 line_ends before l (x, none, e) = ap (ends_line before) e ∙ ends_append before x (0x0a ∷ [])
 
-no_end : (x : List ℕ) → has_line_feed x ≡ false → ends_line false x ≡ false
+-- after n bytes from i on that are a line
+pub line_ended : (s x : List ℕ) (i n : ℕ) → IsLine (take n (take (length x - i) (drop i x)))
+    → ends_line true (s ++ take (i + n) x) ≡ true
+line_ended s x i n line =
+    let piece = take n (take (length x - i) (drop i x)) in
+    ap (λ y. ends_line true (s ++ y)) (sym (run_joins x i n))
+    ∙ ap (ends_line true) (sym (append_assoc s (take i x) piece))
+    ∙ ends_append true (s ++ take i x) piece
+    ∙ line_ends (ends_line true (s ++ take i x)) piece line
+
+pub no_end : (x : List ℕ) → has_line_feed x ≡ false → ends_line false x ≡ false
 no_end [] h = refl
 no_end (b ∷ x) h = by_head (is_line_feed b) h (no_end x)
   where
@@ -74,7 +85,7 @@ no_end (b ∷ x) h = by_head (is_line_feed b) h (no_end x)
     by_head true g more = absurd cc
     by_head false g more = more g
 
-line_feed_is : (b : ℕ) → is_line_feed b ≡ true → b ≡ 0x0a
+pub line_feed_is : (b : ℕ) → is_line_feed b ≡ true → b ≡ 0x0a
 line_feed_is b h = grind (arith, nat_tests)
 
 -- ---- lines
@@ -161,7 +172,7 @@ module _ {A : Type 0} (u : Unicode) (limit : ℕ) (admits : Value A → Bool) wh
       ap (λ vs. list_text (in_characters u (filter (passes (in_lines true admits)) vs)))
       (meaning_nil (Some limit)) ∙ ap list_text (in_none u)
 
-  by_append : (d x : List ℕ) → ends_line true d ≡ true → By (d ++ x) ≡ By d ++ By x
+  pub by_append : (d x : List ℕ) → ends_line true d ≡ true → By (d ++ x) ≡ By d ++ By x
   by_append d x h =
       ap (flat_map (line_text {A = A} u limit admits)) (lines_append d x h)
       ∙ flat_map-append (line_text {A = A} u limit admits) (lines d) (lines x)
@@ -177,7 +188,7 @@ module _ {A : Type 0} (u : Unicode) (limit : ℕ) (admits : Value A → Bool) wh
       ∙ append-nil (line_text u limit admits (b ∷ r))
       ∙ ap (λ t. either t (b ∷ r)) (no_end (b ∷ r) h)
 
-  closed_text : (l : List ℕ) → IsLine l → By l ≡ T l ++ (C l ++ 0x0a ∷ [])
+  pub closed_text : (l : List ℕ) → IsLine l → By l ≡ T l ++ (C l ++ 0x0a ∷ [])
   closed_text l (x, none, e) =
       ap (flat_map (line_text {A = A} u limit admits))
       (ap lines e ∙ one_line x 0x0a none refl ∙ ap (λ k. k ∷ []) (sym e))

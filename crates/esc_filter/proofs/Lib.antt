@@ -3,6 +3,7 @@ pub mod Encoding
 pub mod Results
 pub mod Runs
 pub mod Sequences
+pub mod Knowing
 pub mod Noting
 pub mod Lights
 pub mod Closers
@@ -12,6 +13,7 @@ pub mod Texts
 pub mod Writable
 pub mod Images
 pub mod ByLines
+pub mod PlainLines
 pub mod LineFeeds
 pub mod ReadLines
 pub mod Begun

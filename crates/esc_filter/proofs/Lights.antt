@@ -23,6 +23,7 @@ use Rattle.esc_write.specs.Plain.{AreParams, IsPlainLink}
 use Rattle.esc_write.specs.declared.short_numbers.ShortNumbers.{ShortNumbers}
 use Rattle.esc_write.specs.declared.short_numbers.ShortNumbers.TheVariants as short
 use Rattle.esc_filter.specs.Closing.{IsAfter, Left, BeginsWith, Turns, after_body, after_command, is_reset, lights, turned}
+use Rattle.esc_filter.specs.Noted.{IsPlainSgr}
 use Rattle.esc_filter.specs.Rules.{BeginsOther, is_link}
 use Rattle.esc_filter.proofs.Commands.{other_begins}
 use Rattle.esc_filter.specs.declared.left.TheConstants.{LINK, RENDITION}
@@ -196,3 +197,13 @@ module _ (A : Type 0) where
 
 -- what a sequence of no parameter, of one and of some turns, for `grind`
 pub ruleset turning = (nothing_turns, lone_turns, first_turns)
+
+-- ---- sequences of short numbers
+
+-- those that end in `m` are renditions
+pub plain_sgr : (n : ShortNumbers) (es : List CsiParam) (f : ℕ) → AreParams n es f
+    → IsPlainSgr es f
+plain_sgr short.Nothing es f other = λ m. absurd (other m)
+plain_sgr (short.Lone n) es f e = λ m. rw e refl
+plain_sgr (short.Pair a b) es f other = λ m. absurd (other m)
+plain_sgr (short.Palette i) es f (m, e) = λ _. rw e refl

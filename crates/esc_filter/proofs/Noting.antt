@@ -4,7 +4,9 @@ use Rattle.std.specs.Prelude.{IsTrue}
 use Rattle.std.specs.List.{FoldsTo}
 use Rattle.std.proofs.lemmas.Result.{on_err_weaker}
 use Rattle.memory.specs.Refusals.{Refused}
-use Rattle.esc_sequences.specs.Csis.{CsiValue}
+use Rattle.esc_sequences.specs.Csis.{CsiValue, csi_of}
+use Rattle.esc_values.specs.declared.csi_param.CsiParam.{CsiParam}
+use Rattle.esc_write.specs.Plain.{IsPlain}
 use Rattle.esc_osc.specs.Reading.{meaning as command_meant}
 use Rattle.esc_actions.specs.Texts.{has_text, is_string, text_after}
 use Rattle.esc_actions.specs.Values.{Value, control, csi, osc, print, value_of}
@@ -20,7 +22,8 @@ use Rattle.esc_parse.specs.Given.{By, StopsAt}
 use Rattle.esc_parse.proofs.Lists.{if_ok_more}
 use Rattle.esc_normal.specs.Spelled.{Adds, Denies}
 use Rattle.esc_normal.specs.declared.spell.Spell.{Spell}
-use Rattle.esc_normal.proofs.Spelling.{IsCommand, IsSequence}
+use Rattle.esc_osc.specs.Commands.{command_text}
+use Rattle.esc_normal.proofs.Spelling.{IsCommand, IsSequence, plain_refused}
 use Rattle.esc_filter.proofs.Results.{stops_for}
 use Rattle.esc_filter.specs.Closing.{Left, after_command, after_sequence, after_value}
 use Rattle.esc_filter.specs.Noted.{Notes, WriteDenies, Writes, written_of}
@@ -161,6 +164,27 @@ module _ {A : Type 0} where
   sequence_noted r vs p o s (v, e, h) t =
       if_ok_more _ _ r (λ b k i. one_noted vs v p o s e h (k i)) t
 
+  -- one value, which was written
+  pub one_written : (vs : List CsiValue) (v : CsiValue) (p : Written A) (o : Left) (s : Spell A)
+      → vs ≡ v ∷ [] → o ≡ after_sequence v p.left → FoldsTo (By IsSequence Adds) p.spell vs s
+      → Writes p (csi v ∷ []) (with_both p o s)
+  one_written vs v p o s e h t = by (subst (λ ws. FoldsTo (By IsSequence Adds) p.spell ws s) e t)
+    where
+      by : FoldsTo (By IsSequence Adds) p.spell (v ∷ []) s → Writes p (csi v ∷ []) (with_both p o s)
+      by (j, (a, is, w), same) =
+          subst (λ k. Writes p (csi v ∷ []) (with_both p o k)) same
+          (writes_one p (with_both p o j) a (csi v) is w h refl refl)
+
+  -- a link that was
+  pub link_written : (ps : List (List ℕ)) (p : Written A) (o : Left) (s : Spell A)
+      → o ≡ after_command (command_meant {A = A} ps) p.left
+      → (s.text ≡ p.spell.text ++ command_text (command_meant {A = A} ps))
+      × (s.follows_string ≡ true)
+      → Writes p (osc (command_meant ps) ∷ []) (with_both p o s)
+  link_written ps p o s h t =
+      writes_one p (with_both p o s) (action.OperatingSystemCommand (command_meant ps))
+      (osc (command_meant ps)) refl t h refl refl
+
   sequence_why : (p : Spell A) (v : CsiValue) (q : Spell A) → By IsSequence Denies p v q → Refused A
   sequence_why p v q (a, is, denied) = denied (ap has_text is)
 
@@ -183,6 +207,14 @@ module _ {A : Type 0} where
       → OnErr r (StopsAt ⊥ (By IsSequence Adds) (By IsSequence Denies) p.spell vs s)
       → OnErr r (StopsAt ⊥ (By IsSequence Notes) (By IsSequence WriteDenies) p vs q)
   sequence_denied r vs p q s t = on_err_weaker r (sequence_stops vs p q s) t
+
+  -- one whose text is that of its parameters is refused where memory is
+  pub plain_denied : (p q : Written A) (es : List CsiParam) (f : ℕ) → IsPlain es false f
+      → Refused A
+      → StopsAt ⊥ (By IsSequence Notes) (By IsSequence WriteDenies) p (csi_of es false f) q
+  plain_denied p q es f plain r =
+      sequence_stops (csi_of es false f) p q q.spell
+      (plain_refused ⊥ p.spell q.spell es false f plain r)
 
   -- ---- a command
 

@@ -14,7 +14,7 @@ use Rattle.esc_actions.specs.Writable.{is_truncated}
 use Rattle.esc_actions.specs.declared.action.Action.{Action}
 use Rattle.esc_actions.specs.declared.action.Action.TheVariants as action
 use Rattle.esc_parse.specs.Given.{By, StopsAt}
-use Rattle.esc_filter.specs.Noted.{Notes, WriteDenies}
+use Rattle.esc_filter.specs.Noted.{Notes, WriteDenies, Writes, WritesLink, WritesOne, written_of}
 use Rattle.esc_filter.specs.declared.written.Written.{Written}
 use Rattle.esc_osc.specs.Reading.{meaning as command_meant}
 use Rattle.esc_parse.proofs.Lists.{if_ok_more}
@@ -85,6 +85,25 @@ sequence_action (unspecified es more f) = (
       (csi_variant.Unspecified (record { params = es; parameters_truncated = more; control = f })),
   refl,
 )
+
+module _ {A : Type 0} where
+  -- one that was written as one value
+  pub one_taken : (p q : Written A) (es : List CsiParam) (f : ℕ) → WritesOne p es f q
+      → FoldsTo (By IsSequence Notes) p (csi_of es false f) q
+  one_taken p q es f (v, one, w) =
+      let a = sequence_action v in
+      subst (λ vs. FoldsTo (By IsSequence Notes) p vs q) (sym one)
+      (q, (a.0, a.1, subst (λ x. Writes p (written_of p.by_lines p.unicode x) q) (sym a.1) w), refl)
+
+  -- a link that was
+  pub link_taken : (p q : Written A) (ps : List (List ℕ)) → WritesLink p ps q
+      → FoldsTo (By IsCommand Notes) p (ps ∷ []) q
+  link_taken p q ps (is, w) = (q, (action.OperatingSystemCommand (command_meant ps), refl, w), refl)
+
+  pub link_denied : (p q : Written A) (ps : List (List ℕ)) → Refused A
+      → StopsAt ⊥ (By IsCommand Notes) (By IsCommand WriteDenies) p (ps ∷ []) q
+  link_denied p q ps r =
+      inr (inl (action.OperatingSystemCommand (command_meant ps), refl, λ _. r))
 
 module _ {P A : Type 0} (allows : P → Value A → Bool) where
   abbrev with_written : Passing P A → Written A → Passing P A

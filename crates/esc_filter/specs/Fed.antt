@@ -1,6 +1,11 @@
 -- What a filter was fed.
-use Rattle.std.specs.Prelude.{ℕ, ◌≡◌, Bool, true, false, List, [], ◌++◌, Some}
-use Rattle.esc_actions.specs.Values.{Value, value_of}
+use Rattle.std.specs.Prelude.{ℕ, ◌≡◌, Bool, true, false, List, [], ◌∷◌, ◌++◌, Some}
+use Rattle.std.specs.List.{FoldsTo}
+use Rattle.esc_values.specs.declared.csi_param.CsiParam.{CsiParam}
+use Rattle.esc_sequences.specs.Csis.{csi_of}
+use Rattle.esc_osc.specs.Reading.{meaning as command_meant}
+use Rattle.esc_parse.specs.Given.{By, StopsAt}
+use Rattle.esc_actions.specs.Values.{Value, csi, osc, value_of}
 use Rattle.esc_actions.specs.declared.action.Action.{Action}
 use Rattle.esc_parse.specs.Fed.{IsBroken as IsBrokenParser, WasFedWithin}
 use Rattle.esc_actions.specs.Texts.{list_text}
@@ -22,6 +27,31 @@ Takes admits p a q = (passes admits (value_of a) ≡ true → Notes p a q)
 -- one that has a text is refused where memory is
 abbrev pub Refuses : {P A : Type 0} → Passing P A → Action A → Passing P A → Type 0
 Refuses p a q = WriteDenies p.written a q.written
+
+-- those of a control sequence, one after another, or up to one that is refused
+abbrev pub TakesSequence : {P A : Type 0} → (P → Value A → Bool) → Passing P A → List CsiParam → ℕ
+    → Passing P A → Type 0
+TakesSequence allows p es f q = FoldsTo (By (λ a c. value_of a ≡ csi c)
+    (λ r a s. Takes (allows r.policy.now) r.written a s.written × (s.policy.now ≡ r.policy.now))) p
+    (csi_of es false f) q
+
+abbrev pub StopsSequence : {P A : Type 0} → (P → Value A → Bool) → Passing P A → List CsiParam → ℕ
+    → Passing P A → Type 0
+StopsSequence allows p es f q = StopsAt ⊥ (By (λ a c. value_of a ≡ csi c)
+    (λ r a s. Takes (allows r.policy.now) r.written a s.written × (s.policy.now ≡ r.policy.now)))
+    (By (λ a c. value_of a ≡ csi c) Refuses) p (csi_of es false f) q
+
+-- that of a command of these parts
+abbrev pub TakesCommand : {P A : Type 0} → (P → Value A → Bool) → Passing P A → List (List ℕ)
+    → Passing P A → Type 0
+TakesCommand allows p ps q = FoldsTo (By (λ a c. value_of a ≡ osc (command_meant c))
+    (λ r a s. Takes (allows r.policy.now) r.written a s.written × (s.policy.now ≡ r.policy.now))) p (ps ∷ []) q
+
+abbrev pub StopsCommand : {P A : Type 0} → (P → Value A → Bool) → Passing P A → List (List ℕ)
+    → Passing P A → Type 0
+StopsCommand allows p ps q = StopsAt ⊥ (By (λ a c. value_of a ≡ osc (command_meant c))
+    (λ r a s. Takes (allows r.policy.now) r.written a s.written × (s.policy.now ≡ r.policy.now)))
+    (By (λ a c. value_of a ≡ osc (command_meant c)) Refuses) p (ps ∷ []) q
 
 -- The filter, of this limit and of a policy that admits these values, was fed these bytes, where u
 -- says what is written of characters that deceive. Where `by_lines`, they are of one line, whose

@@ -1,4 +1,5 @@
 pub mod Rules
+pub mod Known
 pub mod Closing
 pub mod GivenBack
 pub mod Characters

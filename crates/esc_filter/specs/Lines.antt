@@ -1,7 +1,7 @@
 -- What is written of a stream whose lines are streams of their own, where u says what is written of
 -- characters that deceive.
-use Rattle.std.specs.Prelude.{ℕ, ◌≡◌, Bool, true, false, ◌==◌, if◌then◌else◌, List, [], ◌∷◌, ◌++◌, Some, string_bytes}
-use Rattle.std.specs.List.{list_any, flat_map}
+use Rattle.std.specs.Prelude.{ℕ, ◌≡◌, Bool, true, false, ◌==◌, ◌||◌, if◌then◌else◌, List, [], ◌∷◌, ◌++◌, Some, string_bytes}
+use Rattle.std.specs.List.{list_all, list_any, flat_map}
 use Rattle.esc_actions.specs.Meaning.{meaning, Reads}
 use Rattle.esc_actions.specs.Texts.{list_text, normal}
 use Rattle.esc_actions.specs.Values.{Value, control}
@@ -9,6 +9,8 @@ use Rattle.esc_actions.specs.declared.control_code.ControlCode.TheVariants.{Line
 use Rattle.esc_filter.specs.Closing.{closed, closing}
 use Rattle.esc_filter.specs.Fed.{WasFedIn, policy_of}
 use Rattle.esc_filter.specs.Passing.{in_lines, passed_as}
+use Rattle.esc_filter.specs.Rules.{is_layout}
+use Rattle.esc_frame.specs.Scans.{is_data_byte}
 use Rattle.esc_filter.specs.declared.admit.Admit.{Ghosts as Admitter}
 use Rattle.esc_filter.specs.declared.line_filter.LineFilter.{LineFilter}
 use Rattle.esc_filter.specs.declared.unicode.Unicode.{Unicode}
@@ -42,6 +44,14 @@ lines (b ∷ s) = if is_line_feed b then (b ∷ []) ∷ lines s else begin_with 
 abbrev pub last_line : List ℕ → List ℕ
 last_line [] = []
 last_line (b ∷ s) = if has_line_feed (b ∷ s) then last_line s else b ∷ s
+
+-- bytes 20 to 7E, tab, line feed and carriage return
+abbrev pub is_plain_byte : ℕ → Bool
+is_plain_byte b = is_data_byte b || is_layout b
+
+-- lines that have ended, of such bytes alone
+abbrev pub ArePlainLines : List ℕ → Type 0
+ArePlainLines s = (list_all is_plain_byte s ≡ true) × (ends_line true s ≡ true)
 
 -- what passes of a line but its line feed
 abbrev pub passed_of_line : {A : Type 0} → Unicode → ℕ → (Value A → Bool) → List ℕ → List (Value A)

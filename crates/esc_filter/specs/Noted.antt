@@ -1,14 +1,18 @@
 -- What an action makes of what writes it.
-use Rattle.std.specs.Prelude.{ℕ, ◌≡◌, ◌⊎◌, Bool, false, ◌&&◌, if◌then◌else◌, List, [], ◌++◌}
-use Rattle.std.specs.List.{list_any}
+use Rattle.std.specs.Prelude.{ℕ, ◌≡◌, ◌⊎◌, Bool, false, true, ◌&&◌, if◌then◌else◌, List, [], ◌∷◌, ◌++◌}
+use Rattle.std.specs.List.{list_all, list_any}
+use Rattle.esc_values.specs.declared.csi_param.CsiParam.{CsiParam}
+use Rattle.esc_sequences.specs.Csis.{CsiValue, csi_of}
+use Rattle.esc_osc.specs.Reading.{meaning as command_meant}
 use Rattle.esc_actions.specs.Texts.{texts_after}
-use Rattle.esc_actions.specs.Values.{Value, value_of}
+use Rattle.esc_actions.specs.Values.{Value, csi, osc, value_of}
 use Rattle.esc_actions.specs.declared.action.Action.{Action}
 use Rattle.esc_normal.specs.Spelled.{Denies}
 use Rattle.esc_visible.specs.Characters.{is_deceiving}
 use Rattle.esc_filter.specs.Characters.{in_unicode}
 use Rattle.esc_filter.specs.Closing.{after_values, unchanged}
 use Rattle.esc_filter.specs.Passing.{is_line_feed}
+use Rattle.esc_filter.specs.Rules.{is_link, is_plain_param}
 use Rattle.esc_normal.specs.Texts.{ends_in_string}
 use Rattle.esc_filter.specs.declared.unicode.Unicode.{Unicode}
 use Rattle.esc_filter.specs.declared.unicode.Unicode.TheVariants.{Keep}
@@ -44,3 +48,19 @@ WriteDenies p a q = Denies p.spell a q.spell
 abbrev pub HasNoted : {A : Type 0} → Bool → Unicode → List (Value A) → Written A → Type 0
 HasNoted b u vs w = (w.spell.follows_string ≡ ends_in_string false vs)
     × (w.left ≡ after_values vs unchanged) × (w.by_lines ≡ b) × (w.unicode ≡ u)
+
+-- ---- sequences and commands that are written from their parameters or their text
+
+-- the control sequence with these parameters and this final byte is one value, which was written, and
+-- what it leaves changed noted
+abbrev pub WritesOne : {A : Type 0} → Written A → List CsiParam → ℕ → Written A → Type 0
+WritesOne p es f q = (v : CsiValue) × (csi_of es false f ≡ v ∷ []) × Writes p (csi v ∷ []) q
+
+-- where it ends in `m`, it is renditions
+abbrev pub IsPlainSgr : List CsiParam → ℕ → Type 0
+IsPlainSgr es f = f ≡ 0x6d → list_all is_plain_param es ≡ true
+
+-- the command of these parts is a link, or the end of one, which was written and noted
+abbrev pub WritesLink : {A : Type 0} → Written A → List (List ℕ) → Written A → Type 0
+WritesLink {A} p ps q = (is_link (command_meant {A = A} ps) ≡ true)
+    × Writes p (osc (command_meant ps) ∷ []) q

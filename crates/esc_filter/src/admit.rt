@@ -7,8 +7,10 @@ ghost use Rattle.esc_sequences.specs.Csis.{csi_of};
 ghost use Rattle.esc_actions.specs.Values.{Value, csi, device_value, osc, print, value_of};
 ghost use Rattle.esc_osc.specs.Reading.{meaning as command_meant};
 ghost use Rattle.esc_parse.specs.Images.{is_image};
+ghost use Rattle.esc_filter.specs.Known.{IsKnown};
 ghost use Rattle.esc_filter.specs.Passing.{is_whole, passes};
 
+use crate::known::Known;
 use esc_actions::Action;
 use esc_actions::exceptions::{has_high_byte, is_opening, is_truncated};
 use esc_device::DeviceControlMode;
@@ -30,6 +32,16 @@ pub trait Admit<A: Allocator> {
     /// [`admits_command`](Admit::admits_command) knows it.
     fn admits(&self, action: &Action<A>) -> bool
         ensures { result ≡ admits self.now (value_of action.now) };
+
+    /// What it does to all actions of a kind. It is not asked of these, and
+    /// [`leaves_out`](Admit::leaves_out) is not shown those that do not pass. It says nothing by
+    /// default, and is asked of each.
+    #[inline]
+    fn known(&self) -> Known
+        ensures { IsKnown (admits self.now) result }
+    {
+        Known::nothing()
+    }
 
     /// Whether each character of a run of text, 20 to 7F and one byte each, may pass. Where it
     /// returns false, each of them is asked of by itself; so it does by default.

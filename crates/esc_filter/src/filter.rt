@@ -1,9 +1,11 @@
 //! A filter that is fed a stream piece by piece.
-ghost use Rattle.std.specs.Prelude.{◌≡◌, ◌≤◌, ◌+◌, Bool, List, [], IfErr, OnErr, OnOk, Some, false, min};
+ghost use Rattle.std.specs.Prelude.{◌≡◌, ◌≤◌, ◌+◌, Bool, List, [], IfErr, IsTrue, OnErr, OnOk, Some, false, true, min};
 ghost use Rattle.esc_actions.specs.Limited.{data_kept};
+ghost use Rattle.esc_actions.specs.Values.{Value};
 ghost use Rattle.esc_frame.specs.Counts.{kept_of_cut};
 ghost use Rattle.esc_frame.specs.Limits.{most};
 ghost use Rattle.esc_frame.specs.Segments.{IsCut, Segment};
+ghost use Rattle.esc_filter.specs.Rules.{is_text};
 ghost use Rattle.memory.specs.Refusals.{Refused};
 
 use crate::admit::Admit;
@@ -151,6 +153,15 @@ impl<P: Admit<A>, A: Allocator + Copy> Filter<P, A> {
         ensures { result ≡ false → IsUnchanged self.now }
     {
         self.written.left.is_any()
+    }
+
+    /// Whether all text passes.
+    #[inline]
+    pub(crate) fn passes_text(&self) -> bool
+        ensures { IsTrue result → (v : Value A) → is_text v ≡ true
+            → P.admits (policy_of self.now) v ≡ true }
+    {
+        self.policy.known().text
     }
 
     /// Tells the policy that a line feed was added to the text of a line, where its own did not

@@ -8,6 +8,7 @@ ghost use Rattle.esc_filter.specs.Groups.{IsWithSchemes, groups_of, has, has_seq
 use crate::admit::Admit;
 use crate::concealed::conceals;
 use crate::group::{Group, group_of_body};
+use crate::known::Known;
 use crate::policy::{Policy, are_plain, are_shown};
 use crate::schemes::leads;
 use esc_actions::Action;
@@ -108,6 +109,18 @@ impl<'a, A: Allocator> Admit<A> for Groups<'a> {
     #[inline(never)]
     fn admits(&self, action: &Action<A>) -> bool {
         leads(&self.schemes, action) && self.has(Group::of(action))
+    }
+
+    #[inline(never)]
+    fn known(&self) -> Known {
+        Known {
+            text: self.has(Group::Characters) && self.has(Group::Layout),
+            renditions: self.has(Group::Sgr) && self.has(Group::Hidden),
+            links: self.has(Group::Links) && self.schemes.is_none(),
+            no_functions: false,
+            no_commands: false,
+            no_escapes: false,
+        }
     }
 
     #[inline]

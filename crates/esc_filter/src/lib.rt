@@ -23,10 +23,12 @@ mod filtering;
 mod function_groups;
 mod group;
 mod groups;
+mod known;
 mod laws;
 mod left;
 mod line_filter;
 mod passing;
+mod plain_lines;
 mod policy;
 mod schemes;
 mod screen;
@@ -42,6 +44,7 @@ pub use filter::Filter;
 pub use filtering::{filter_lines, filter_stream};
 pub use group::Group;
 pub use groups::Groups;
+pub use known::Known;
 pub use laws::{
     closing_comes_last, lines_read_back, passed_more, passed_reads_back, policies_are_groups,
     screen_is_not_answered, written_lines_read_back, written_reads_back,

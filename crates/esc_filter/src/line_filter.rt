@@ -1,10 +1,11 @@
 //! A filter to which each line is a stream of its own.
-ghost use Rattle.std.specs.Prelude.{◌≡◌, ◌≤◌, ◌<◌, [], Err, IfErr, MatchOption, OnErr, OnOk, length, take, true, false};
-ghost use Rattle.esc_filter.specs.Lines.{has_line_feed, IsLine};
+ghost use Rattle.std.specs.Prelude.{◌≡◌, ◌≤◌, ◌<◌, [], Err, IfErr, IfOk, MatchOption, OnErr, OnOk, length, take, true, false};
+ghost use Rattle.esc_filter.specs.Lines.{ends_line, has_line_feed, IsLine};
 ghost use Rattle.memory.specs.Refusals.{Refused};
 
 use crate::admit::Admit;
 use crate::filter::Filter;
+use crate::plain_lines::plain_lines;
 use crate::unicode::Unicode;
 use esc_frame::ParseError;
 use memchr::memchr;
@@ -131,15 +132,31 @@ impl<P: Admit<A>, A: Allocator + Copy> LineFilter<P, A> {
             let rest = &bytes[at..];
             match line_length(rest) {
                 Some(n) => {
-                    match self.feed_line(&rest[..n]) {
-                        Ok(()) => at += n,
-                        Err(e) => return Err(e),
-                    }
+                    self.feed_line(&rest[..n])?;
+                    at += n;
+                    at += self.pass_plain(&bytes[at..])?;
                 }
                 None => return self.feed_open(rest),
             }
         }
         Ok(())
+    }
+
+    // Between lines, appends as they are the lines that come first and are text alone, where all
+    // text passes. It returns how long they are.
+    fn pass_plain(&mut self, bytes: &[u8]) -> Result<usize, AllocError>
+        ensures given { AfterLines P.Admit self.old (λ u limit admits s. ends_line true s ≡ true
+            → IfOk result (λ n. GrowsBy u admits limit s (take n bytes.now) self.old self.new)) }
+        ensures few { IfOk result (λ n. n ≤ length bytes.now) }
+        ensures policy { policy_of_lines self.new ≡ policy_of_lines self.old }
+        ensures refused { OnErr result (Refused A) }
+    {
+        if !self.filter.passes_text() {
+            return Ok(0);
+        }
+        let lines = plain_lines(bytes);
+        memory::push_str(&mut self.text, lines)?;
+        Ok(lines.len())
     }
 
     // Takes what ends the last line.

@@ -1,13 +1,17 @@
 //! What takes the actions that pass.
-ghost use Rattle.std.specs.Prelude.{◌≡◌, MatchResult, OnErr, OnOk};
+ghost use Rattle.std.specs.Prelude.{◌≡◌, false, IfOk, IsTrue, MatchResult, OnErr, OnOk};
+ghost use Rattle.esc_values.specs.Clear.{parts_of};
 ghost use Rattle.esc_actions.specs.declared.action.Action.TheVariants as action;
-ghost use Rattle.esc_filter.specs.Fed.{Refuses, Takes};
+ghost use Rattle.esc_filter.specs.Fed.{Refuses, StopsCommand, StopsSequence, Takes, TakesCommand, TakesSequence};
+ghost use Rattle.esc_filter.specs.Known.{ArePassedLinks, IsKnownSgr};
 ghost use Rattle.memory.specs.Refusals.{Refused};
 
 use crate::admit::{Admit, passes};
+use crate::policy::has_other_code;
 use crate::written::Written;
 use esc_actions::{Action, ControlCode};
 use esc_parse::Sink;
+use esc_sequences::Esc;
 use esc_values::CsiParam;
 use std::alloc::{AllocError, Allocator, Global};
 
@@ -38,6 +42,20 @@ impl<'p, P: Admit<A>, A: Allocator> Passing<'p, P, A> {
         }
     }
 
+    // Takes an escape sequence.
+    #[inline]
+    fn receive_escape(&mut self, esc: Esc) -> Result<(), AllocError>
+        ensures { MatchResult result
+            (λ _. Takes (P.admits self.old.policy.now) self.old.written (action.Esc esc)
+            self.new.written × (self.new.policy.now ≡ self.old.policy.now))
+            (λ _. Refuses self.old (action.Esc esc) self.new) }
+    {
+        if self.policy.known().no_escapes {
+            return Ok(());
+        }
+        self.receive_any(Action::Esc(esc))
+    }
+
     // Takes any action.
     fn receive_any(&mut self, action: Action<A>) -> Result<(), AllocError>
         ensures { MatchResult result
@@ -57,6 +75,75 @@ impl<'p, P: Admit<A>, A: Allocator> Passing<'p, P, A> {
     }
 }
 
+// Control sequences and commands. What passes is appended from its parameters or its text where that
+// can be, and what does not is passed over; neither is made. Where nothing is known of it, nothing is
+// done, and it returns false.
+impl<'p, P: Admit<A>, A: Allocator> Passing<'p, P, A> {
+    // Takes a control sequence that ends in `m`, where all renditions pass.
+    #[inline(always)]
+    fn take_rendition(&mut self, params: &[CsiParam], control: u8) -> Result<bool, AllocError>
+        requires { IsKnownSgr (P.admits self.old.policy.now) control }
+        ensures taken { IfOk result (λ b. IsTrue b
+            → TakesSequence P.admits self.old params.now control self.new) }
+        ensures left { IfOk result (λ b. b ≡ false → self.new ≡ self.old) }
+        ensures refused { OnErr result
+            (StopsSequence P.admits self.old params.now control self.new) }
+    {
+        if self.written.append_short(params, control)? {
+            return Ok(true);
+        }
+        self.ask_sequence(params, control)
+    }
+
+    // Asks the policy of a control sequence.
+    #[inline(never)]
+    fn ask_sequence(&mut self, params: &[CsiParam], control: u8) -> Result<bool, AllocError>
+        ensures taken { IfOk result (λ b. IsTrue b
+            → TakesSequence P.admits self.old params.now control self.new) }
+        ensures left { IfOk result (λ b. b ≡ false → self.new ≡ self.old) }
+        ensures refused { OnErr result
+            (StopsSequence P.admits self.old params.now control self.new) }
+    {
+        match self.policy.admits_sequence(params, control) {
+            Some(true) => self.written.receive_sequence(params, false, control),
+            Some(false) => Ok(true),
+            None => Ok(false),
+        }
+    }
+
+    // Takes a command, where all links pass.
+    #[inline]
+    fn take_link(&mut self, text: &[u8]) -> Result<bool, AllocError>
+        requires { ArePassedLinks (P.admits self.old.policy.now) }
+        ensures taken { IfOk result (λ b. IsTrue b
+            → TakesCommand P.admits self.old (parts_of text.now) self.new) }
+        ensures left { IfOk result (λ b. b ≡ false → self.new ≡ self.old) }
+        ensures refused { OnErr result
+            (StopsCommand P.admits self.old (parts_of text.now) self.new) }
+    {
+        if self.written.append_link(text)? {
+            return Ok(true);
+        }
+        self.ask_command(text)
+    }
+
+    // Asks the policy of a command.
+    #[inline(never)]
+    fn ask_command(&mut self, text: &[u8]) -> Result<bool, AllocError>
+        ensures taken { IfOk result (λ b. IsTrue b
+            → TakesCommand P.admits self.old (parts_of text.now) self.new) }
+        ensures left { IfOk result (λ b. b ≡ false → self.new ≡ self.old) }
+        ensures refused { OnErr result
+            (StopsCommand P.admits self.old (parts_of text.now) self.new) }
+    {
+        match self.policy.admits_command(text) {
+            Some(true) => self.written.receive_command(text),
+            Some(false) => Ok(true),
+            None => Ok(false),
+        }
+    }
+}
+
 impl<'p, P: Admit<A>, A: Allocator> Sink<Action<A>> for Passing<'p, P, A> {
     ghost is_ready = { λ _. Unit {0} };
 
@@ -71,6 +158,7 @@ impl<'p, P: Admit<A>, A: Allocator> Sink<Action<A>> for Passing<'p, P, A> {
     fn receive(&mut self, action: Action<A>) -> Result<(), AllocError> {
         match action {
             Action::Control(code) => self.receive_control(code),
+            Action::Esc(esc) => self.receive_escape(esc),
             other => self.receive_any(other),
         }
     }
@@ -103,8 +191,6 @@ impl<'p, P: Admit<A>, A: Allocator> Sink<Action<A>> for Passing<'p, P, A> {
         Ok(())
     }
 
-    // What passes is appended from its parameters where the text can be, and what does not is
-    // passed over; neither is made.
     #[inline]
     fn receive_sequence(
         &mut self,
@@ -115,23 +201,28 @@ impl<'p, P: Admit<A>, A: Allocator> Sink<Action<A>> for Passing<'p, P, A> {
         if parameters_truncated {
             return Ok(false);
         }
-        match self.policy.admits_sequence(params, control) {
-            Some(true) => self
-                .written
-                .receive_sequence(params, parameters_truncated, control),
-            Some(false) => Ok(true),
-            None => Ok(false),
+        let known = self.policy.known();
+        if control != b'm' {
+            if known.no_functions {
+                return Ok(true);
+            }
+        } else if known.renditions {
+            return self.take_rendition(params, control);
         }
+        self.ask_sequence(params, control)
     }
 
-    // The same of a command.
     #[inline]
     fn receive_command(&mut self, text: &[u8]) -> Result<bool, AllocError> {
-        match self.policy.admits_command(text) {
-            Some(true) => self.written.receive_command(text),
-            Some(false) => Ok(true),
-            None => Ok(false),
+        let known = self.policy.known();
+        if has_other_code(text) {
+            if known.no_commands {
+                return Ok(true);
+            }
+        } else if known.links {
+            return self.take_link(text);
         }
+        self.ask_command(text)
     }
 
     #[tactic(auto, using(crate::proofs::Images::passed_over))]

@@ -8,6 +8,7 @@ ghost use Rattle.esc_osc.specs.Reading.{meaning as command_meant};
 ghost use Rattle.esc_filter.specs.Rules.{BeginsOther, admits, is_colour, is_layout, is_link, is_plain_param, is_rendition, is_screen_sequence, is_shown, is_text};
 
 use crate::admit::Admit;
+use crate::known::Known;
 use crate::screen::{is_screen, is_screen_body};
 use esc_actions::Action;
 use esc_osc::OperatingSystemCommand;
@@ -48,6 +49,36 @@ impl<A: Allocator> Admit<A> for Policy {
             return true;
         }
         is_admitted(self, action)
+    }
+
+    #[inline]
+    fn known(&self) -> Known {
+        match self {
+            Policy::Text => Known {
+                text: true,
+                renditions: false,
+                links: false,
+                no_functions: true,
+                no_commands: true,
+                no_escapes: true,
+            },
+            Policy::Color => Known {
+                text: true,
+                renditions: true,
+                links: true,
+                no_functions: true,
+                no_commands: true,
+                no_escapes: true,
+            },
+            Policy::Screen | Policy::All => Known {
+                text: true,
+                renditions: true,
+                links: true,
+                no_functions: false,
+                no_commands: false,
+                no_escapes: false,
+            },
+        }
     }
 
     #[inline]

@@ -1,16 +1,17 @@
 //! What writes the actions that pass, and notes what they leave changed.
-ghost use Rattle.std.specs.Prelude.{◌≡◌, ◌∷◌, ◌<◌, [], false, true, length, map, IsTrue, MatchResult, OnErr, OnOk};
+ghost use Rattle.std.specs.Prelude.{◌≡◌, ◌∷◌, ◌<◌, [], false, true, length, map, IfOk, IsTrue, MatchResult, OnErr, OnOk};
 ghost use Rattle.std.specs.List.{list_all};
 ghost use Rattle.std.specs.Str.{chars};
-ghost use Rattle.esc_values.specs.Clear.{is_clear};
+ghost use Rattle.esc_values.specs.Clear.{is_clear, parts_of};
 ghost use Rattle.esc_visible.specs.Characters.{number_text};
 ghost use Rattle.esc_actions.specs.declared.action.Action.TheVariants as action;
 ghost use Rattle.esc_parse.specs.Given.{Receives};
 ghost use Rattle.memory.specs.Refusals.{Refused};
+ghost use Rattle.esc_write.specs.Plain.{IsPlain};
 ghost use Rattle.esc_filter.specs.Closing.{unchanged};
 ghost use Rattle.esc_actions.specs.Values.{control, print, value_of};
 ghost use Rattle.esc_filter.specs.Characters.{in_unicode, instead};
-ghost use Rattle.esc_filter.specs.Noted.{AreKept, HasNoted, Notes, WriteDenies, Writes, without_text, written_of};
+ghost use Rattle.esc_filter.specs.Noted.{AreKept, HasNoted, IsPlainSgr, Notes, WriteDenies, Writes, WritesLink, WritesOne, without_text, written_of};
 ghost use Rattle.esc_filter.specs.Passing.{is_line_feed};
 
 use crate::left::{Left, leaves_all, renditions_after};
@@ -190,6 +191,48 @@ impl<A: Allocator> Written<A> {
         }
     }
 
+    /// Appends a control sequence that is known by its numbers, and notes what it leaves changed.
+    /// Where it is none of these, it returns false.
+    #[inline(always)]
+    pub fn append_short(&mut self, params: &[CsiParam], control: u8) -> Result<bool, AllocError>
+        ensures taken { IfOk result (λ b. IsTrue b
+            → WritesOne self.old params.now control self.new × IsPlainSgr params.now control) }
+        ensures left { IfOk result (λ b. b ≡ false → self.new ≡ self.old) }
+        ensures refused { OnErr result (IsPlain params.now false control × Refused A) }
+    {
+        let Some(numbers) = ShortNumbers::of(params, control) else {
+            return Ok(false);
+        };
+        match self.spell.write_short(numbers, control) {
+            Ok(()) => {
+                self.left.note_short(numbers, params, control);
+                Ok(true)
+            }
+            Err(error) => Err(error),
+        }
+    }
+
+    /// Appends a link that is written as it came, and notes it. Where the command of this text is
+    /// none, it returns false.
+    #[inline]
+    pub fn append_link(&mut self, text: &[u8]) -> Result<bool, AllocError>
+        ensures taken { IfOk result (λ b. IsTrue b
+            → WritesLink self.old (parts_of text.now) self.new) }
+        ensures left { IfOk result (λ b. b ≡ false → self.new ≡ self.old) }
+        ensures refused { OnErr result (Refused A) }
+    {
+        let Some(link) = plain_link::<A>(text) else {
+            return Ok(false);
+        };
+        match self.spell.write_verbatim(link) {
+            Ok(()) => {
+                self.left.link::<A>(link);
+                Ok(true)
+            }
+            Err(error) => Err(error),
+        }
+    }
+
     /// Appends a control, or notes the end of a line.
     #[inline]
     pub fn append_control(&mut self, code: ControlCode) -> Result<(), AllocError>
@@ -261,14 +304,8 @@ impl<A: Allocator> Sink<Action<A>> for Written<A> {
         if parameters_truncated {
             return Ok(false);
         }
-        if let Some(numbers) = ShortNumbers::of(params, control) {
-            return match self.spell.write_short(numbers, control) {
-                Ok(()) => {
-                    self.left.note_short(numbers, params, control);
-                    Ok(true)
-                }
-                Err(error) => Err(error),
-            };
+        if self.append_short(params, control)? {
+            return Ok(true);
         }
         let Some(is_on) = renditions_after(params, control) else {
             return Ok(false);
@@ -291,16 +328,7 @@ impl<A: Allocator> Sink<Action<A>> for Written<A> {
         if leaves_all::<A>(text) {
             return self.spell.receive_command(text);
         }
-        let Some(link) = plain_link::<A>(text) else {
-            return Ok(false);
-        };
-        match self.spell.write_verbatim(link) {
-            Ok(()) => {
-                self.left.link::<A>(link);
-                Ok(true)
-            }
-            Err(error) => Err(error),
-        }
+        self.append_link(text)
     }
 }
 

@@ -1,7 +1,7 @@
 //! The groups of actions that the options name.
 
 use esc_actions::Action;
-use esc_filter::{Admit, Group, Groups, Policy};
+use esc_filter::{Admit, Group, Groups, Known, Policy};
 use esc_values::CsiParam;
 use std::alloc::Allocator;
 use std::fmt;
@@ -149,6 +149,14 @@ impl<'a, A: Allocator> Admit<A> for Choice<'a> {
         match &self.groups {
             Some(groups) => groups.admits(action),
             None => self.policy.admits(action),
+        }
+    }
+
+    #[inline]
+    fn known(&self) -> Known {
+        match &self.groups {
+            Some(groups) => <Groups<'_> as Admit<A>>::known(groups),
+            None => <Policy as Admit<A>>::known(&self.policy),
         }
     }
 

@@ -1,9 +1,9 @@
-use Rattle.std.proofs.Common.{rules, ◌≡◌, ◌-◌, ◌++◌, OnOk, List, ℕ, length, take, drop, refl, sym, ap, ◌∙◌, subst, take-append-drop}
+use Rattle.std.proofs.Common.{rules, ◌≡◌, ◌+◌, ◌-◌, ◌++◌, true, OnOk, List, ℕ, length, take, drop, refl, sym, ap, ◌∙◌, subst, take-append-drop}
 use Rattle.esc_frame.proofs.CsiRuns.{run_joins}
 use Rattle.std.proofs.lemmas.List.{take_rest, take_all}
-use Rattle.esc_filter.specs.Lines.{GrowsBy, WasFedLines, policy_of_lines}
-use Rattle.esc_parse.proofs.Lists.{on_ok_more}
-use Rattle.esc_filter.proofs.ByLines.{grows_more, grows_not}
+use Rattle.esc_filter.specs.Lines.{GrowsBy, WasFedLines, ends_line, policy_of_lines}
+use Rattle.esc_parse.proofs.Lists.{on_err_any, on_ok_more}
+use Rattle.esc_filter.proofs.ByLines.{grows_more, grows_not, line_ended}
 use Rattle.esc_filter.proofs.line_filter.LineFilter.feed_lines.Goals as goal
 
 -- the bytes from a place on
@@ -26,30 +26,43 @@ loop-at-preserved g c =
     let bs = c.args.bytes.now in
     let at = c.loop-at.at in
     let inv = c.loop-at.invariant in
-    let piece = take c.in-Some.n (tail bs at) in
+    let n = c.in-Some.n in
+    let piece = take n (tail bs at) in
+    let more = take c.in_ok-at-in-Some.field-0 (tail bs (at + n)) in
     record {
       within = search rules;
-      policy = c.feed_line.ensures.policy ∙ inv.policy;
+      policy = c.pass_plain.ensures.policy ∙ c.feed_line.ensures.policy ∙ inv.policy;
       grown = λ u limit s w.
           let admits = g.P.Admit.admits (policy_of_lines c.args.self.now) in
           let before = inv.grown u limit s w in
           let sx = s ++ take at bs in
-          subst (λ x. GrowsBy u admits limit s x c.args.self.now c.feed_line.new.self)
-          (run_joins bs at c.in-Some.n)
+          let line = subst (λ x. GrowsBy u admits limit s x c.args.self.now c.feed_line.new.self)
+          (run_joins bs at n)
           (grows_more u limit admits s (take at bs) piece c.args.self.now c.loop-at.self
           c.feed_line.new.self before
           (subst (λ p. WasFedLines u limit (g.P.Admit.admits p) sx c.loop-at.self
           → GrowsBy u (g.P.Admit.admits p) limit sx piece c.loop-at.self c.feed_line.new.self)
-          inv.policy (c.in-Ok.ensures.given u limit sx) before.1.0));
+          inv.policy (c.in_ok-feed_line-in-Some.ensures.given u limit sx) before.1.0)) in
+          let sy = s ++ take (at + n) bs in
+          let ends : ends_line true sy ≡ true = line_ended s bs at n c.in-Some.ensures.2 in
+          subst (λ x. GrowsBy u admits limit s x c.args.self.now c.pass_plain.new.self)
+          (run_joins bs (at + n) c.in_ok-at-in-Some.field-0)
+          (grows_more u limit admits s (take (at + n) bs) more c.args.self.now
+          c.feed_line.new.self c.pass_plain.new.self line
+          (subst (λ p. WasFedLines u limit (g.P.Admit.admits p) sy c.feed_line.new.self
+          → GrowsBy u (g.P.Admit.admits p) limit sy more c.feed_line.new.self
+          c.pass_plain.new.self) (c.feed_line.ensures.policy ∙ inv.policy)
+          (λ v. c.in_ok-at-in-Some.ensures.given u limit sy v ends) line.1.0));
     }
 
-pub returns-in-Err-clause-refused : goal.returns-in-Err-clause-refused
-returns-in-Err-clause-refused g c = λ u limit s w.
+pub returns-in_err-feed_line-in-Some-clause-refused : goal.returns-in_err-feed_line-in-Some-clause-refused
+returns-in_err-feed_line-in-Some-clause-refused g c = λ u limit s w.
     let inv = c.loop-at.invariant in
     let sx = s ++ take c.loop-at.at c.args.bytes.now in
-    c.in-Err.ensures.refused u limit sx
+    on_err_any _ c.from_residual.result
+    (c.in_err-feed_line-in-Some.ensures.refused u limit sx
     (subst (λ p. WasFedLines u limit (g.P.Admit.admits p) sx c.loop-at.self) (sym inv.policy)
-    (inv.grown u limit s w).1.0)
+    (inv.grown u limit s w).1.0))
 
 pub returns-in-None-clause-given : goal.returns-in-None-clause-given
 returns-in-None-clause-given g c = λ u limit s w.

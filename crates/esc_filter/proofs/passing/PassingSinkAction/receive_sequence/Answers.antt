@@ -1,29 +1,34 @@
-use Rattle.std.proofs.Common.{Some, ap}
+use Rattle.std.proofs.Common.{IfOk, subst, sym}
+use Rattle.std.specs.Prelude.{IsTrue}
+use Rattle.std.specs.List.{FoldsTo}
+use Rattle.std.proofs.lemmas.Bool.{ne_eqb}
 use Rattle.esc_sequences.specs.Csis.{csi_of}
-use Rattle.esc_filter.proofs.Sequences.{left_alone, passes_taken, refused_taken, stays_taken}
+use Rattle.esc_normal.proofs.Spelling.{IsSequence}
+use Rattle.esc_parse.specs.Given.{By}
+use Rattle.esc_filter.proofs.Knowing.{functions_stay}
+use Rattle.esc_filter.proofs.Runs.{TakesBy}
+use Rattle.esc_filter.proofs.Sequences.{stays_taken}
 use Rattle.esc_filter.proofs.passing.PassingSinkAction.receive_sequence.Goals as goal
 
-pub returns-in-Some-true-clause-taken : goal.returns-in-Some-true-clause-taken
-returns-in-Some-true-clause-taken g c =
-    passes_taken g.P.Admit.admits c.receive_sequence.result c.args.params.now
-    c.args.parameters_truncated c.args.control c.args.self.now
-    c.receive_sequence.new.self
-    c.if-parameters_truncated.false (c.in-Some-true.ensures.passes
-    (ap Some c.in-Some-true.field-0-test)) c.receive_sequence.ensures.taken
+pub returns-then-known-clause-taken : goal.returns-then-known-clause-taken
+returns-then-known-clause-taken g c = λ _.
+    let es = c.args.params.now in
+    let f = c.args.control in
+    stays_taken g.P.Admit.admits es c.args.parameters_truncated f c.args.self.now
+    c.if-parameters_truncated.false
+    (functions_stay (g.P.Admit.admits c.args.self.now.policy.now) c.known-known.result c.known-known.ensures
+    c.if-known.true es f (ne_eqb f 0x6d c.if-control-ne109.true))
 
-pub returns-in-Some-true-clause-left : goal.returns-in-Some-true-clause-left
-returns-in-Some-true-clause-left g c =
-    left_alone g.P.Admit.admits c.receive_sequence.result c.args.self.now
-    c.receive_sequence.new.self c.receive_sequence.ensures.left
+pub returns-then-known-2-clause-taken : goal.returns-then-known-2-clause-taken
+returns-then-known-2-clause-taken g c =
+    subst (λ more. IfOk c.take_rendition.result (λ b. IsTrue b → FoldsTo (By IsSequence
+    (TakesBy g.P.Admit.admits)) c.args.self.now (csi_of c.args.params.now more c.args.control)
+    c.take_rendition.new.self)) (sym c.if-parameters_truncated.false)
+    c.take_rendition.ensures.taken
 
-pub returns-in-Some-true-clause-refused : goal.returns-in-Some-true-clause-refused
-returns-in-Some-true-clause-refused g c =
-    refused_taken g.P.Admit.admits c.receive_sequence.result
-    (csi_of c.args.params.now c.args.parameters_truncated c.args.control) c.args.self.now
-    c.receive_sequence.new.self c.receive_sequence.ensures.refused
-
-pub returns-in-Some-false-clause-taken : goal.returns-in-Some-false-clause-taken
-returns-in-Some-false-clause-taken g c = λ _.
-    stays_taken g.P.Admit.admits c.args.params.now c.args.parameters_truncated c.args.control
-    c.args.self.now c.if-parameters_truncated.false
-    (c.in-Some-false.ensures.stays (ap Some c.in-Some-false.field-0-test))
+pub returns-clause-taken : goal.returns-clause-taken
+returns-clause-taken g c =
+    subst (λ more. IfOk c.ask_sequence.result (λ b. IsTrue b → FoldsTo (By IsSequence
+    (TakesBy g.P.Admit.admits)) c.args.self.now (csi_of c.args.params.now more c.args.control)
+    c.ask_sequence.new.self)) (sym c.if-parameters_truncated.false)
+    c.ask_sequence.ensures.taken

@@ -1,0 +1,106 @@
+-- What a policy is known to do.
+use Rattle.std.proofs.Common.{◌≡◌, ℕ, Bool, true, false, ◌==◌, List, refl}
+use Rattle.std.specs.Prelude.{IsTrue}
+use Rattle.std.specs.List.{list_all, list_any}
+use Rattle.esc_sequences.specs.Csis.{csi_of, sgr, unspecified}
+use Rattle.esc_values.specs.declared.csi_param.CsiParam.{CsiParam}
+use Rattle.esc_actions.specs.Values.{Value, csi}
+use Rattle.esc_filter.specs.Known.{IsKnown, IsKnownSgr, nothing}
+use Rattle.esc_filter.specs.Rules.{admits, is_plain_param, is_rendition}
+use Rattle.esc_filter.specs.declared.known.Known.{Known}
+use Rattle.esc_filter.specs.declared.policy.Policy.TheVariants as policy
+use Rattle.esc_filter.proofs.Sequences.{each_of, nameless}
+
+pub nothing_known : {A : Type 0} (admits : Value A → Bool) → IsKnown admits nothing
+nothing_known admits = record {
+  text = λ h. absurd cc;
+  renditions = λ h. absurd cc;
+  links = λ h. absurd cc;
+  no_functions = λ h. absurd cc;
+  no_commands = λ h. absurd cc;
+  no_escapes = λ h. absurd cc;
+}
+
+module _ {A : Type 0} (admits : Value A → Bool) (k : Known) (known : IsKnown admits k) where
+  -- where nothing but renditions passes, no other sequence does
+  pub functions_stay : IsTrue k.no_functions → (es : List CsiParam) (f : ℕ) → (f == 0x6d) ≡ false
+      → list_any (λ c. admits (csi c)) (csi_of es false f) ≡ false
+  functions_stay none es f other =
+      let plain : is_rendition (unspecified es false f) ≡ false = rw other refl in
+      let stays : admits (csi (unspecified es false f)) ≡ false =
+      known.no_functions none (unspecified es false f) plain in
+      rw (nameless es f other) (rw stays refl)
+
+-- where all renditions pass, these do
+pub renditions_pass : {A : Type 0} (admits : Value A → Bool) (es : List CsiParam) (f : ℕ)
+    → IsKnownSgr admits f → list_all is_plain_param es ≡ true
+    → list_all (λ c. admits (csi c)) (csi_of es false f) ≡ true
+renditions_pass admits es f (m, pass) plain =
+    each_of (λ c. admits (csi c)) (λ s. pass (sgr s) refl) es f
+    (pass (unspecified es false f) (rw (m, plain) refl))
+
+-- ---- the policies
+
+pub text_known : (A : Type 0) → IsKnown {A = A} (admits policy.Text) (record {
+  text = true;
+  renditions = false;
+  links = false;
+  no_functions = true;
+  no_commands = true;
+  no_escapes = true;
+})
+text_known A = record {
+  text = λ h v t. t;
+  renditions = λ h. absurd cc;
+  links = λ h. absurd cc;
+  no_functions = λ h c t. refl;
+  no_commands = λ h c t. refl;
+  no_escapes = λ h e. refl;
+}
+
+pub colour_known : (A : Type 0) → IsKnown {A = A} (admits policy.Color) (record {
+  text = true;
+  renditions = true;
+  links = true;
+  no_functions = true;
+  no_commands = true;
+  no_escapes = true;
+})
+colour_known A = record {
+  text = λ h v t. rw t refl;
+  renditions = λ h c t. t;
+  links = λ h c t. t;
+  no_functions = λ h c t. t;
+  no_commands = λ h c t. t;
+  no_escapes = λ h e. refl;
+}
+
+abbrev more : Known
+more = record {
+  text = true;
+  renditions = true;
+  links = true;
+  no_functions = false;
+  no_commands = false;
+  no_escapes = false;
+}
+
+pub screen_known : (A : Type 0) → IsKnown {A = A} (admits policy.Screen) more
+screen_known A = record {
+  text = λ h v t. rw t refl;
+  renditions = λ h c t. rw t refl;
+  links = λ h c t. rw t refl;
+  no_functions = λ h. absurd cc;
+  no_commands = λ h. absurd cc;
+  no_escapes = λ h. absurd cc;
+}
+
+pub all_known : (A : Type 0) → IsKnown {A = A} (admits policy.All) more
+all_known A = record {
+  text = λ h v t. refl;
+  renditions = λ h c t. refl;
+  links = λ h c t. refl;
+  no_functions = λ h. absurd cc;
+  no_commands = λ h. absurd cc;
+  no_escapes = λ h. absurd cc;
+}

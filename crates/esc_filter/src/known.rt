@@ -1,0 +1,39 @@
+//! What is known of a policy before it is asked.
+ghost use Rattle.std.specs.Prelude.{◌≡◌};
+ghost use Rattle.esc_filter.specs.Known.{nothing};
+
+/// What a policy does to all actions of a kind, so that it need not be asked of each. Where a field
+/// is false, it is asked.
+#[derive(Clone, Copy, Debug, PartialEq, Eq)]
+pub struct Known {
+    /// All that [`Policy::Text`](crate::Policy::Text) admits passes: characters but DEL, tab, line
+    /// feed and carriage return.
+    pub text: bool,
+    /// All graphic renditions (SGR) pass.
+    pub renditions: bool,
+    /// All hyperlinks (OSC 8) pass, and their ends.
+    pub links: bool,
+    /// No control sequence passes but renditions.
+    pub no_functions: bool,
+    /// No operating system command passes but links.
+    pub no_commands: bool,
+    /// No escape sequence passes.
+    pub no_escapes: bool,
+}
+
+impl Known {
+    /// Nothing: the policy is asked of each action.
+    #[inline]
+    pub fn nothing() -> Known
+        ensures { result ≡ nothing }
+    {
+        Known {
+            text: false,
+            renditions: false,
+            links: false,
+            no_functions: false,
+            no_commands: false,
+            no_escapes: false,
+        }
+    }
+}
