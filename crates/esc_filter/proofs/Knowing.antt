@@ -5,7 +5,7 @@ use Rattle.std.specs.List.{list_all, list_any}
 use Rattle.esc_sequences.specs.Csis.{csi_of, sgr, unspecified}
 use Rattle.esc_values.specs.declared.csi_param.CsiParam.{CsiParam}
 use Rattle.esc_actions.specs.Values.{Value, csi}
-use Rattle.esc_filter.specs.Known.{IsKnown, IsKnownSgr, nothing}
+use Rattle.esc_filter.specs.Known.{ArePassedRenditions, IsKnown, nothing}
 use Rattle.esc_filter.specs.Rules.{admits, is_plain_param, is_rendition}
 use Rattle.esc_filter.specs.declared.known.Known.{Known}
 use Rattle.esc_filter.specs.declared.policy.Policy.TheVariants as policy
@@ -32,12 +32,12 @@ module _ {A : Type 0} (admits : Value A → Bool) (k : Known) (known : IsKnown a
       rw (nameless es f other) (rw stays refl)
 
 -- where all renditions pass, these do
-pub renditions_pass : {A : Type 0} (admits : Value A → Bool) (es : List CsiParam) (f : ℕ)
-    → IsKnownSgr admits f → list_all is_plain_param es ≡ true
-    → list_all (λ c. admits (csi c)) (csi_of es false f) ≡ true
-renditions_pass admits es f (m, pass) plain =
-    each_of (λ c. admits (csi c)) (λ s. pass (sgr s) refl) es f
-    (pass (unspecified es false f) (rw (m, plain) refl))
+pub renditions_pass : {A : Type 0} (admits : Value A → Bool) (es : List CsiParam)
+    → ArePassedRenditions admits → list_all is_plain_param es ≡ true
+    → list_all (λ c. admits (csi c)) (csi_of es false 0x6d) ≡ true
+renditions_pass admits es pass plain =
+    each_of (λ c. admits (csi c)) (λ s. pass (sgr s) refl) es 0x6d
+    (pass (unspecified es false 0x6d) (rw plain refl))
 
 -- ---- the policies
 

@@ -1,7 +1,7 @@
 -- Whether renditions are on after a control sequence, and a link is left after a command.
 use Rattle.std.proofs.Common.{◌≡◌, ◌≢◌, ℕ, ℤ, pos, ◌<◌, length, ◌==◌, Bool, true, false, not, if◌then◌else◌, List, [], ◌∷◌, codes, Option, Some, None, refl, sym, ap, ◌∙◌, subst, drop, arith}
 use Rattle.std.specs.Prelude.{is_some, unwrap_or}
-use Rattle.std.specs.List.{onto_first, slice_split}
+use Rattle.std.specs.List.{list_all, onto_first, slice_split}
 use Rattle.std.proofs.lemmas.List.{append_cancel_right}
 use Rattle.std.proofs.lemmas.List.Splits.{slice_split-cons_no}
 use Rattle.std.proofs.lemmas.Bool.{ne_eqb}
@@ -23,8 +23,7 @@ use Rattle.esc_write.specs.Plain.{AreParams, IsPlainLink}
 use Rattle.esc_write.specs.declared.short_numbers.ShortNumbers.{ShortNumbers}
 use Rattle.esc_write.specs.declared.short_numbers.ShortNumbers.TheVariants as short
 use Rattle.esc_filter.specs.Closing.{IsAfter, Left, BeginsWith, Turns, after_body, after_command, is_reset, lights, turned}
-use Rattle.esc_filter.specs.Noted.{IsPlainSgr}
-use Rattle.esc_filter.specs.Rules.{BeginsOther, is_link}
+use Rattle.esc_filter.specs.Rules.{BeginsOther, is_link, is_plain_param}
 use Rattle.esc_filter.proofs.Commands.{other_begins}
 use Rattle.esc_filter.specs.declared.left.TheConstants.{LINK, RENDITION}
 
@@ -201,9 +200,9 @@ pub ruleset turning = (nothing_turns, lone_turns, first_turns)
 -- ---- sequences of short numbers
 
 -- those that end in `m` are renditions
-pub plain_sgr : (n : ShortNumbers) (es : List CsiParam) (f : ℕ) → AreParams n es f
-    → IsPlainSgr es f
-plain_sgr short.Nothing es f other = λ m. absurd (other m)
-plain_sgr (short.Lone n) es f e = λ m. rw e refl
-plain_sgr (short.Pair a b) es f other = λ m. absurd (other m)
-plain_sgr (short.Palette i) es f (m, e) = λ _. rw e refl
+pub plain_sgr : (n : ShortNumbers) (es : List CsiParam) → AreParams n es 0x6d
+    → list_all is_plain_param es ≡ true
+plain_sgr short.Nothing es other = absurd (other refl)
+plain_sgr (short.Lone n) es e = rw e refl
+plain_sgr (short.Pair a b) es other = absurd (other refl)
+plain_sgr (short.Palette i) es (m, e) = rw e refl

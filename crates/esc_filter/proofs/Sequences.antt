@@ -14,7 +14,7 @@ use Rattle.esc_actions.specs.Writable.{is_truncated}
 use Rattle.esc_actions.specs.declared.action.Action.{Action}
 use Rattle.esc_actions.specs.declared.action.Action.TheVariants as action
 use Rattle.esc_parse.specs.Given.{By, StopsAt}
-use Rattle.esc_filter.specs.Noted.{Notes, WriteDenies, Writes, WritesLink, WritesOne, written_of}
+use Rattle.esc_filter.specs.Noted.{Notes, WriteDenies, Writes, WritesLink, WritesRendition, written_of}
 use Rattle.esc_filter.specs.declared.written.Written.{Written}
 use Rattle.esc_osc.specs.Reading.{meaning as command_meant}
 use Rattle.esc_parse.proofs.Lists.{if_ok_more}
@@ -87,10 +87,10 @@ sequence_action (unspecified es more f) = (
 )
 
 module _ {A : Type 0} where
-  -- one that was written as one value
-  pub one_taken : (p q : Written A) (es : List CsiParam) (f : ℕ) → WritesOne p es f q
-      → FoldsTo (By IsSequence Notes) p (csi_of es false f) q
-  one_taken p q es f (v, one, w) =
+  -- a rendition that was written
+  pub one_taken : (p q : Written A) (es : List CsiParam) → WritesRendition p es q
+      → FoldsTo (By IsSequence Notes) p (csi_of es false 0x6d) q
+  one_taken p q es (plain, (v, one, w)) =
       let a = sequence_action v in
       subst (λ vs. FoldsTo (By IsSequence Notes) p vs q) (sym one)
       (q, (a.0, a.1, subst (λ x. Writes p (written_of p.by_lines p.unicode x) q) (sym a.1) w), refl)

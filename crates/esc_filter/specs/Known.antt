@@ -1,5 +1,5 @@
 -- What is known of a policy before it is asked.
-use Rattle.std.specs.Prelude.{ℕ, ◌≡◌, Bool, false, true, IsTrue}
+use Rattle.std.specs.Prelude.{◌≡◌, Bool, false, true, IsTrue}
 use Rattle.esc_sequences.specs.Csis.{CsiValue}
 use Rattle.esc_sequences.specs.declared.esc.Esc.{Esc}
 use Rattle.esc_osc.specs.declared.command.OperatingSystemCommand.{OperatingSystemCommand}
@@ -18,10 +18,9 @@ nothing = record {
   no_escapes = false;
 }
 
--- renditions pass, and the final byte is theirs
-abbrev pub IsKnownSgr : {A : Type 0} → (Value A → Bool) → ℕ → Type 0
-IsKnownSgr admits f = (f ≡ 0x6d)
-    × ((c : CsiValue) → is_rendition c ≡ true → admits (csi c) ≡ true)
+-- renditions pass
+abbrev pub ArePassedRenditions : {A : Type 0} → (Value A → Bool) → Type 0
+ArePassedRenditions admits = (c : CsiValue) → is_rendition c ≡ true → admits (csi c) ≡ true
 
 -- links do
 abbrev pub ArePassedLinks : {A : Type 0} → (Value A → Bool) → Type 0

@@ -51,14 +51,11 @@ HasNoted b u vs w = (w.spell.follows_string ≡ ends_in_string false vs)
 
 -- ---- sequences and commands that are written from their parameters or their text
 
--- the control sequence with these parameters and this final byte is one value, which was written, and
--- what it leaves changed noted
-abbrev pub WritesOne : {A : Type 0} → Written A → List CsiParam → ℕ → Written A → Type 0
-WritesOne p es f q = (v : CsiValue) × (csi_of es false f ≡ v ∷ []) × Writes p (csi v ∷ []) q
-
--- where it ends in `m`, it is renditions
-abbrev pub IsPlainSgr : List CsiParam → ℕ → Type 0
-IsPlainSgr es f = f ≡ 0x6d → list_all is_plain_param es ≡ true
+-- the control sequence with these parameters that ends in `m` is one rendition, which was written and
+-- noted
+abbrev pub WritesRendition : {A : Type 0} → Written A → List CsiParam → Written A → Type 0
+WritesRendition p es q = (list_all is_plain_param es ≡ true)
+    × ((v : CsiValue) × (csi_of es false 0x6d ≡ v ∷ []) × Writes p (csi v ∷ []) q)
 
 -- the command of these parts is a link, or the end of one, which was written and noted
 abbrev pub WritesLink : {A : Type 0} → Written A → List (List ℕ) → Written A → Type 0

@@ -3,7 +3,7 @@ ghost use Rattle.std.specs.Prelude.{◌≡◌, false, IfOk, IsTrue, MatchResult,
 ghost use Rattle.esc_values.specs.Clear.{parts_of};
 ghost use Rattle.esc_actions.specs.declared.action.Action.TheVariants as action;
 ghost use Rattle.esc_filter.specs.Fed.{Refuses, StopsCommand, StopsSequence, Takes, TakesCommand, TakesSequence};
-ghost use Rattle.esc_filter.specs.Known.{ArePassedLinks, IsKnownSgr};
+ghost use Rattle.esc_filter.specs.Known.{ArePassedLinks, ArePassedRenditions};
 ghost use Rattle.memory.specs.Refusals.{Refused};
 
 use crate::admit::{Admit, passes};
@@ -80,19 +80,18 @@ impl<'p, P: Admit<A>, A: Allocator> Passing<'p, P, A> {
 // done, and it returns false.
 impl<'p, P: Admit<A>, A: Allocator> Passing<'p, P, A> {
     // Takes a control sequence that ends in `m`, where all renditions pass.
-    #[inline(always)]
-    fn take_rendition(&mut self, params: &[CsiParam], control: u8) -> Result<bool, AllocError>
-        requires { IsKnownSgr (P.admits self.old.policy.now) control }
+    #[inline]
+    fn take_rendition(&mut self, params: &[CsiParam]) -> Result<bool, AllocError>
+        requires { ArePassedRenditions (P.admits self.old.policy.now) }
         ensures taken { IfOk result (λ b. IsTrue b
-            → TakesSequence P.admits self.old params.now control self.new) }
+            → TakesSequence P.admits self.old params.now 0x6d self.new) }
         ensures left { IfOk result (λ b. b ≡ false → self.new ≡ self.old) }
-        ensures refused { OnErr result
-            (StopsSequence P.admits self.old params.now control self.new) }
+        ensures refused { OnErr result (StopsSequence P.admits self.old params.now 0x6d self.new) }
     {
-        if self.written.append_short(params, control)? {
+        if self.written.append_rendition(params)? {
             return Ok(true);
         }
-        self.ask_sequence(params, control)
+        self.ask_sequence(params, b'm')
     }
 
     // Asks the policy of a control sequence.
@@ -207,7 +206,7 @@ impl<'p, P: Admit<A>, A: Allocator> Sink<Action<A>> for Passing<'p, P, A> {
                 return Ok(true);
             }
         } else if known.renditions {
-            return self.take_rendition(params, control);
+            return self.take_rendition(params);
         }
         self.ask_sequence(params, control)
     }

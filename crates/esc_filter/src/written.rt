@@ -11,7 +11,7 @@ ghost use Rattle.esc_write.specs.Plain.{IsPlain};
 ghost use Rattle.esc_filter.specs.Closing.{unchanged};
 ghost use Rattle.esc_actions.specs.Values.{control, print, value_of};
 ghost use Rattle.esc_filter.specs.Characters.{in_unicode, instead};
-ghost use Rattle.esc_filter.specs.Noted.{AreKept, HasNoted, IsPlainSgr, Notes, WriteDenies, Writes, WritesLink, WritesOne, without_text, written_of};
+ghost use Rattle.esc_filter.specs.Noted.{AreKept, HasNoted, Notes, WriteDenies, Writes, WritesLink, WritesRendition, without_text, written_of};
 ghost use Rattle.esc_filter.specs.Passing.{is_line_feed};
 
 use crate::left::{Left, leaves_all, renditions_after};
@@ -191,21 +191,21 @@ impl<A: Allocator> Written<A> {
         }
     }
 
-    /// Appends a control sequence that is known by its numbers, and notes what it leaves changed.
-    /// Where it is none of these, it returns false.
-    #[inline(always)]
-    pub fn append_short(&mut self, params: &[CsiParam], control: u8) -> Result<bool, AllocError>
-        ensures taken { IfOk result (λ b. IsTrue b
-            → WritesOne self.old params.now control self.new × IsPlainSgr params.now control) }
+    /// Appends a rendition of one number, or a colour of the palette, and notes what it leaves
+    /// changed. Where a sequence of these parameters that ends in `m` is none of both, it returns
+    /// false.
+    #[inline]
+    pub fn append_rendition(&mut self, params: &[CsiParam]) -> Result<bool, AllocError>
+        ensures taken { IfOk result (λ b. IsTrue b → WritesRendition self.old params.now self.new) }
         ensures left { IfOk result (λ b. b ≡ false → self.new ≡ self.old) }
-        ensures refused { OnErr result (IsPlain params.now false control × Refused A) }
+        ensures refused { OnErr result (IsPlain params.now false 0x6d × Refused A) }
     {
-        let Some(numbers) = ShortNumbers::of(params, control) else {
+        let Some(numbers) = ShortNumbers::of(params, b'm') else {
             return Ok(false);
         };
-        match self.spell.write_short(numbers, control) {
+        match self.spell.write_short(numbers, b'm') {
             Ok(()) => {
-                self.left.note_short(numbers, params, control);
+                self.left.note_short(numbers, params, b'm');
                 Ok(true)
             }
             Err(error) => Err(error),
@@ -304,8 +304,14 @@ impl<A: Allocator> Sink<Action<A>> for Written<A> {
         if parameters_truncated {
             return Ok(false);
         }
-        if self.append_short(params, control)? {
-            return Ok(true);
+        if let Some(numbers) = ShortNumbers::of(params, control) {
+            return match self.spell.write_short(numbers, control) {
+                Ok(()) => {
+                    self.left.note_short(numbers, params, control);
+                    Ok(true)
+                }
+                Err(error) => Err(error),
+            };
         }
         let Some(is_on) = renditions_after(params, control) else {
             return Ok(false);

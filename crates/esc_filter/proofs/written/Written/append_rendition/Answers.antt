@@ -3,25 +3,25 @@ use Rattle.esc_sequences.specs.Csis.{csi_of}
 use Rattle.esc_normal.proofs.Spelling.{plain_given}
 use Rattle.esc_filter.proofs.Lights.{plain_sgr}
 use Rattle.esc_filter.proofs.Noting.{one_written}
-use Rattle.esc_filter.proofs.written.Written.append_short.Goals as goal
+use Rattle.esc_filter.proofs.written.Written.append_rendition.Goals as goal
 
 pub returns-in-Ok-clause-taken : goal.returns-in-Ok-clause-taken
 returns-in-Ok-clause-taken g c = λ _.
     let p = c.args.self.now in
     let es = c.args.params.now in
-    let f = c.args.control in
     let (v, one, after) = c.note_short.ensures in (
+      plain_sgr c.in-Some.numbers es c.in-Some.ensures.params,
       (
         v,
         one,
-        one_written (csi_of es false f) v p _ c.write_short.new.self one after
-            (plain_given p.spell c.write_short.new.self es false f (c.in-Some.ensures.plain false) (
+        one_written (csi_of es false 0x6d) v p _ c.write_short.new.self one after
+            (plain_given p.spell c.write_short.new.self es false 0x6d
+            (c.in-Some.ensures.plain false) (
               c.in-Ok.ensures.ok.0
                   ∙ ap (λ t. p.spell.text ++ t) (sym (c.in-Some.ensures.text false)),
               c.in-Ok.ensures.ok.1,
             )),
       ),
-      plain_sgr c.in-Some.numbers es f c.in-Some.ensures.params,
     )
 
 pub returns-in-Err-clause-refused : goal.returns-in-Err-clause-refused
