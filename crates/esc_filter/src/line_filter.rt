@@ -151,10 +151,13 @@ impl<P: Admit<A>, A: Allocator + Copy> LineFilter<P, A> {
         ensures policy { policy_of_lines self.new ≡ policy_of_lines self.old }
         ensures refused { OnErr result (Refused A) }
     {
-        if !self.filter.passes_text() {
+        if begins_escape(bytes) || !self.filter.passes_text() {
             return Ok(0);
         }
         let lines = plain_lines(bytes);
+        if lines.is_empty() {
+            return Ok(0);
+        }
         memory::push_str(&mut self.text, lines)?;
         Ok(lines.len())
     }
@@ -233,6 +236,11 @@ impl<P: Admit<A>, A: Allocator + Copy> LineFilter<P, A> {
             Err(e) => Err(e),
         }
     }
+}
+
+// Whether a sequence comes first, and so no line of text alone.
+fn begins_escape(bytes: &[u8]) -> bool {
+    matches!(bytes, [0x1b, ..])
 }
 
 // The length of the line that these bytes begin with, with its line feed. None where they have no

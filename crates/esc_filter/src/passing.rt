@@ -1,13 +1,14 @@
 //! What takes the actions that pass.
 ghost use Rattle.std.specs.Prelude.{◌≡◌, false, IfOk, IsTrue, MatchResult, OnErr, OnOk};
 ghost use Rattle.esc_values.specs.Clear.{parts_of};
+ghost use Rattle.esc_actions.specs.Values.{control};
 ghost use Rattle.esc_actions.specs.declared.action.Action.TheVariants as action;
 ghost use Rattle.esc_filter.specs.Fed.{Refuses, StopsCommand, StopsSequence, Takes, TakesCommand, TakesSequence};
 ghost use Rattle.esc_filter.specs.Known.{ArePassedLinks, ArePassedRenditions};
 ghost use Rattle.memory.specs.Refusals.{Refused};
 
 use crate::admit::{Admit, passes};
-use crate::policy::has_other_code;
+use crate::policy::{has_other_code, is_layout};
 use crate::written::Written;
 use esc_actions::{Action, ControlCode};
 use esc_parse::Sink;
@@ -33,13 +34,22 @@ impl<'p, P: Admit<A>, A: Allocator> Passing<'p, P, A> {
             (action.Control code) self.new.written × (self.new.policy.now ≡ self.old.policy.now)) }
         ensures refused { OnErr result (Refused A) }
     {
-        let action = Action::Control(code);
-        if self.policy.admits(&action) {
-            self.written.append_control(code)
-        } else {
-            self.policy.leaves_out(&action);
-            Ok(())
+        if self.admits_control(code) {
+            return self.written.append_control(code);
         }
+        self.policy.leaves_out(&Action::Control(code));
+        Ok(())
+    }
+
+    // Whether the policy admits a control, of which those that lay out text are the most.
+    #[inline]
+    fn admits_control(&self, code: ControlCode) -> bool
+        ensures { result ≡ P.admits self.now.policy.now (control code) }
+    {
+        if is_layout(code.as_char()) && self.policy.known().text {
+            return true;
+        }
+        self.policy.admits(&Action::Control(code))
     }
 
     // Takes an escape sequence.

@@ -205,11 +205,15 @@ fn is_text<A: Allocator>(action: &Action<A>) -> bool
     }
 }
 
-// Whether each character of this UTF-8 is shown: none of its bytes is DEL.
+// Whether each character of this UTF-8 is shown: none of its bytes is DEL. Between words there is
+// often one alone.
 pub(crate) fn are_shown(text: &[u8]) -> bool
     ensures { result ≡ list_all is_shown text.now }
 {
-    !text.contains(&0x7f)
+    match text {
+        [only] => *only != 0x7f,
+        _ => !text.contains(&0x7f),
+    }
 }
 
 // Whether it is tab, line feed or carriage return.

@@ -2,5 +2,5 @@ use Rattle.std.proofs.Common.{ap, not, ◌∙◌}
 use Rattle.esc_filter.proofs.Runs.{none_hidden}
 use Rattle.esc_filter.proofs.policy.are_shown.Goals as goal
 
-pub returns : goal.returns
-returns c = ap not c.contains.ensures.value ∙ none_hidden c.args.text.now
+pub returns-in_default : goal.returns-in_default
+returns-in_default c = ap not c.contains.ensures.value ∙ none_hidden c.args.text.now

@@ -4,8 +4,12 @@ use Rattle.esc_filter.proofs.ByLines.{grows_not}
 use Rattle.esc_filter.proofs.PlainLines.{plain_grows}
 use Rattle.esc_filter.proofs.line_filter.LineFilter.pass_plain.Goals as goal
 
-pub returns-then-not-passes_text-clause-given : goal.returns-then-not-passes_text-clause-given
-returns-then-not-passes_text-clause-given g c = λ u limit s w ends.
+pub returns-then-begins_escape-clause-given : goal.returns-then-begins_escape-clause-given
+returns-then-begins_escape-clause-given g c = λ u limit s w ends.
+    grows_not u limit (g.P.Admit.admits (policy_of_lines c.args.self.now)) s c.args.self.now w
+
+pub returns-then-is_empty-clause-given : goal.returns-then-is_empty-clause-given
+returns-then-is_empty-clause-given g c = λ u limit s w ends.
     grows_not u limit (g.P.Admit.admits (policy_of_lines c.args.self.now)) s c.args.self.now w
 
 pub returns-clause-given : goal.returns-clause-given
