@@ -5,12 +5,16 @@
 //! the name of its function.
 mod control_code;
 mod device;
+mod device_string;
+mod entries;
 mod parser;
 mod sequence;
+mod taker;
 
 pub use control_code::ControlCode;
 pub use device::{DeviceControlMode, EnterDeviceControlMode, ShortDeviceControl};
-pub use parser::Parser;
+pub use entries::Entries;
+pub use parser::{Actions, Parser};
 pub use sequence::{CSI, Esc};
 
 use crate::apc::KittyImage;

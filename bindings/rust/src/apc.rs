@@ -9,7 +9,7 @@ mod transmit;
 pub use delete::KittyImageDelete;
 pub use transmit::{KittyImageCompression, KittyImageData, KittyImageFormat, KittyImageTransmit};
 
-use crate::fields::{Fields, image, name, read};
+use crate::fields::{Fields, Room, image, name, read};
 use crate::{Error, ffi};
 
 /// A command of kitty's graphics protocol.
@@ -94,7 +94,11 @@ impl KittyImage {
     ///
     /// Those of [`OperatingSystemCommand::parse`](crate::osc::OperatingSystemCommand::parse).
     pub fn parse_apc(text: &[u8]) -> Result<Option<KittyImage>, Error> {
-        read(text, ffi::read_kitty, |kind, fields| {
+        KittyImage::parse_in(text, &mut Room::default())
+    }
+
+    pub(crate) fn parse_in(text: &[u8], room: &mut Room) -> Result<Option<KittyImage>, Error> {
+        read(text, room, ffi::read_kitty, |kind, fields| {
             if kind == image::NONE {
                 Some(None)
             } else {

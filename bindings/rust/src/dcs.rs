@@ -2,11 +2,13 @@
 //! Device control strings as values: sixel images and termcap queries.
 //!
 //! The names are those of the crate `termwiz`.
+mod read_sixel;
 mod sixel;
 
+pub(crate) use read_sixel::read_sixel;
 pub use sixel::{RgbColor, Sixel, SixelData, SixelValue};
 
-use crate::fields::{Fields, name, read};
+use crate::fields::{Fields, Room, name, read};
 use crate::{Error, ffi};
 use alloc::string::String;
 use alloc::vec::Vec;
@@ -23,6 +25,10 @@ use alloc::vec::Vec;
 ///
 /// Those of [`OperatingSystemCommand::parse`](crate::osc::OperatingSystemCommand::parse).
 pub fn xt_get_tcap(data: &[u8]) -> Result<Vec<String>, Error> {
+    xt_get_tcap_in(data, &mut Room::default())
+}
+
+pub(crate) fn xt_get_tcap_in(data: &[u8], room: &mut Room) -> Result<Vec<String>, Error> {
     let names = |_, fields: &mut Fields<'_>| fields.all(|it| it.text(name::NAME));
-    read(data, ffi::read_tcap, names)
+    read(data, room, ffi::read_tcap, names)
 }

@@ -15,7 +15,7 @@ use crate::{Error, Policy};
 mod texts;
 #[cfg(feature = "oneshot")]
 pub use texts::{
-    Field, NO_FIELD, NO_ITEM, Said, SixelItem, read_kitty, read_osc, read_sixel, read_tcap,
+    Field, NO_FIELD, NO_ITEM, Said, Sixel, SixelItem, read_kitty, read_osc, read_sixel, read_tcap,
     write_osc,
 };
 
@@ -283,11 +283,21 @@ pub struct Entry {
     pub(crate) is_byte: bool,
 }
 
-const NO_ENTRY: Entry = Entry {
-    number: 0,
-    byte: 0,
-    is_byte: false,
-};
+impl Entry {
+    /// An entry before a call writes it.
+    pub(crate) const NONE: Entry = Entry {
+        number: 0,
+        byte: 0,
+        is_byte: false,
+    };
+}
+
+/// The kinds of events, `ESCAPE_STREAM_NONE` and on.
+pub mod kind {
+    crate::numbered! { 0;
+        NONE TEXT CHARACTER CONTROL ESCAPE CSI OSC DCS DATA DATA_BYTE DCS_END APC FAILED
+    }
+}
 
 /// An event.
 #[repr(C)]
@@ -301,6 +311,14 @@ pub struct Event {
     pub has_more: bool,
     pub count: usize,
     pub entries: [Entry; 256],
+}
+
+impl Event {
+    /// The intermediates that are kept.
+    #[inline(always)]
+    pub fn intermediates(&self) -> &[u8] {
+        self.intermediates.get(..self.kept).unwrap_or_default()
+    }
 }
 
 /// A parser. Its fields are the library's.
@@ -327,6 +345,16 @@ pub struct Parser {
     has_failed: bool,
 }
 
+// The number of a parser between sequences: `GROUND` of `esc_lent`.
+const GROUND: u32 = 0;
+
+impl Parser {
+    /// Whether no sequence, no string and no character is unfinished.
+    pub fn is_ground(&self) -> bool {
+        self.state == GROUND && self.pending == 0
+    }
+}
+
 /// No event.
 pub fn no_event() -> Event {
     Event {
@@ -338,7 +366,7 @@ pub fn no_event() -> Event {
         kept: 0,
         has_more: false,
         count: 0,
-        entries: [NO_ENTRY; 256],
+        entries: [Entry::NONE; 256],
     }
 }
 
@@ -355,7 +383,7 @@ pub fn begun() -> Parser {
         has_more: false,
         form: 0,
         count: 0,
-        entries: [NO_ENTRY; 256],
+        entries: [Entry::NONE; 256],
         is_truncated: false,
         is_open: false,
         number: 0,

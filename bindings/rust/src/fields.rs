@@ -1,30 +1,37 @@
 // SPDX-License-Identifier: MIT
 //! The fields of a command or an image, taken one after another. The numbers are those of `escape_stream.h`.
-use crate::{Error, ffi};
+use crate::{Error, ffi, numbered};
 use alloc::string::String;
 use alloc::vec::Vec;
+
+/// Room for what a call writes. It is used again, and grows where more is needed.
+#[derive(Default)]
+pub struct Room {
+    rows: Vec<ffi::Field>,
+    texts: Vec<u8>,
+    pub items: Vec<ffi::SixelItem>,
+}
 
 /// The value of a text: what a call says of it, in first as much room as most need, made of its
 /// kind and its fields.
 pub fn read<T>(
     text: &[u8],
+    room: &mut Room,
     call: impl Fn(&[u8], &mut [ffi::Field], &mut [u8]) -> Result<ffi::Said, Error>,
     value: impl FnOnce(u32, &mut Fields<'_>) -> Option<T>,
 ) -> Result<T, Error> {
-    let (mut rows, mut texts) = (Vec::new(), Vec::new());
-    make_room(&mut rows, 8, ffi::NO_FIELD)?;
-    make_room(&mut texts, text.len(), 0)?;
-    let mut said = call(text, &mut rows, &mut texts)?;
+    let Room { rows, texts, .. } = room;
+    make_room(rows, 8, ffi::NO_FIELD)?;
+    make_room(texts, text.len(), 0)?;
+    let mut said = call(text, rows, texts)?;
     if said.field_count > rows.len() || said.text_length > texts.len() {
-        make_room(&mut rows, said.field_count, ffi::NO_FIELD)?;
-        make_room(&mut texts, said.text_length, 0)?;
-        said = call(text, &mut rows, &mut texts)?;
+        make_room(rows, said.field_count, ffi::NO_FIELD)?;
+        make_room(texts, said.text_length, 0)?;
+        said = call(text, rows, texts)?;
     }
-    rows.truncate(said.field_count);
-    texts.truncate(said.text_length);
     let mut fields = Fields {
-        rows: &rows,
-        texts: &texts,
+        rows: rows.get(..said.field_count).ok_or(Error::Failed)?,
+        texts: texts.get(..said.text_length).ok_or(Error::Failed)?,
     };
     value(said.kind, &mut fields)
         .filter(|_| fields.is_empty())
@@ -39,18 +46,9 @@ pub fn make_room<T: Clone>(items: &mut Vec<T>, count: usize, item: T) -> Result<
     Ok(())
 }
 
-// Constants with the numbers from this one on.
-macro_rules! numbered {
-    ($number:expr;) => {};
-    ($number:expr; $first:ident $($rest:ident)*) => {
-        pub const $first: u32 = $number;
-        numbered!($number + 1; $($rest)*);
-    };
-}
-
 /// The kinds of commands, `ESCAPE_STREAM_OSC_..`.
 pub mod kind {
-    numbered! { 0;
+    crate::numbered! { 0;
         UNSPECIFIED SET_ICON_NAME_AND_WINDOW_TITLE SET_WINDOW_TITLE SET_WINDOW_TITLE_SUN
         SET_ICON_NAME SET_ICON_NAME_SUN SET_HYPERLINK CLEAR_SELECTION QUERY_SELECTION
         SET_SELECTION SYSTEM_NOTIFICATION CHANGE_COLOR_NUMBER CHANGE_DYNAMIC_COLORS
@@ -69,7 +67,7 @@ pub mod kind {
 
 /// The kinds of kitty's images, `ESCAPE_STREAM_KITTY_..`.
 pub mod image {
-    numbered! { 0;
+    crate::numbered! { 0;
         NONE TRANSMIT_DATA TRANSMIT_DATA_AND_DISPLAY DISPLAY QUERY TRANSMIT_FRAME COMPOSE_FRAME
         DELETE_ALL DELETE_BY_IMAGE_ID DELETE_BY_IMAGE_NUMBER DELETE_AT_CURSOR_POSITION
         DELETE_ANIMATION_FRAMES DELETE_AT DELETE_AT_Z DELETE_COLUMN DELETE_ROW DELETE_Z
@@ -79,7 +77,7 @@ pub mod image {
 
 /// The names of fields, `ESCAPE_STREAM_FIELD_..`.
 pub mod name {
-    numbered! { 0;
+    crate::numbered! { 0;
         TEXT PART DIRECTORY URI IMPLICIT KEY VALUE SELECTION PALETTE_INDEX DYNAMIC_COLOR RED GREEN
         BLUE QUERY PROGRESS_STATE PERCENT APPLICATION CLICK PROMPT_KIND STATUS NAME HIGHLIGHTED
         CELL_HEIGHT CELL_WIDTH SCALE SIZE WIDTH_CELLS WIDTH_PIXELS WIDTH_PERCENT HEIGHT_CELLS

@@ -52,6 +52,7 @@ mod function;
 mod function_rows;
 #[cfg(feature = "oneshot")]
 pub mod html;
+mod numbered;
 #[cfg(feature = "oneshot")]
 mod oneshot;
 #[cfg(feature = "oneshot")]
@@ -75,6 +76,8 @@ pub use parser::{Entry, Event, Parser};
 pub use string_end::StringEnd;
 #[cfg(all(feature = "oneshot", feature = "std"))]
 pub use writer::Filter;
+
+pub(crate) use numbered::numbered;
 
 use core::fmt;
 

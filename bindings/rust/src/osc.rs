@@ -5,6 +5,7 @@
 //! The names are those of the crate `termwiz`. Texts are owned, and sizes in tenths are whole
 //! numbers.
 mod iterm;
+mod plain;
 mod prompt;
 mod said;
 mod values;
@@ -15,7 +16,7 @@ pub use values::{
     ChangeColorPair, Color16, ColorOrQuery, DynamicColorNumber, Hyperlink, Progress, Selection,
 };
 
-use crate::fields::{Fields, kind, make_room, name, read};
+use crate::fields::{Fields, Room, kind, make_room, name, read};
 use crate::{Error, ffi};
 use alloc::string::String;
 use alloc::vec::Vec;
@@ -101,7 +102,18 @@ impl OperatingSystemCommand {
     /// as a `String` does. [`Error::Failed`] is excluded by the clauses of the library's call: it
     /// says that a command had other fields than its kind has.
     pub fn parse(text: &[u8]) -> Result<OperatingSystemCommand, Error> {
-        read(text, ffi::read_osc, command)
+        OperatingSystemCommand::parse_in(text, &mut Room::default())
+    }
+
+    #[inline]
+    pub(crate) fn parse_in(text: &[u8], room: &mut Room) -> Result<OperatingSystemCommand, Error> {
+        match plain::plain(text) {
+            Some(command) => {
+                debug_assert!(read_in(text, room).map_or(true, |it| it == command));
+                Ok(command)
+            }
+            None => read_in(text, room),
+        }
     }
 
     /// The bytes of this command: `ESC ]`, its text and `ESC \`. What is between these reads back
@@ -135,6 +147,12 @@ impl OperatingSystemCommand {
         bytes.truncate(needed);
         Ok(bytes)
     }
+}
+
+// The command that the library reads.
+#[inline(never)]
+fn read_in(text: &[u8], room: &mut Room) -> Result<OperatingSystemCommand, Error> {
+    read(text, room, ffi::read_osc, command)
 }
 
 // The command of a kind, from its fields.

@@ -1,5 +1,6 @@
 // SPDX-License-Identifier: MIT
 //! A parser that takes a stream in pieces.
+use crate::ffi::kind;
 use crate::{Error, ffi};
 use alloc::boxed::Box;
 use alloc::vec;
@@ -30,6 +31,8 @@ pub struct Parser {
     raw: Box<ffi::Parser>,
     event: Box<ffi::Event>,
     buffer: Vec<u8>,
+    // The last byte of data that came by itself.
+    byte: u8,
 }
 
 /// What a stream says, in order. A run may come in several, or its characters and bytes one by one.
@@ -117,6 +120,23 @@ impl<'a> Event<'a> {
 pub use crate::ffi::Entry;
 
 impl Entry {
+    /// The entry of a number.
+    pub fn of_number(number: i64) -> Entry {
+        Entry {
+            number,
+            ..Entry::NONE
+        }
+    }
+
+    /// The entry of a byte that is no number.
+    pub fn of_byte(byte: u8) -> Entry {
+        Entry {
+            byte,
+            is_byte: true,
+            ..Entry::NONE
+        }
+    }
+
     /// The number, held at the greatest `i64`.
     pub fn number(self) -> Option<i64> {
         (!self.is_byte).then_some(self.number)
@@ -133,6 +153,8 @@ impl PartialEq for Entry {
         (self.number(), self.byte()) == (other.number(), other.byte())
     }
 }
+
+impl Eq for Entry {}
 
 impl fmt::Debug for Entry {
     fn fmt(&self, f: &mut fmt::Formatter<'_>) -> fmt::Result {
@@ -163,6 +185,7 @@ impl Parser {
             raw: Box::new(ffi::begun()),
             event: Box::new(ffi::no_event()),
             buffer: vec![0; 2 * limit],
+            byte: 0,
         }
     }
 
@@ -192,56 +215,90 @@ impl Parser {
         let mut rest = bytes;
         let mut count = 0;
         loop {
-            let taken = ffi::next(&mut self.raw, &mut self.buffer, rest, &mut self.event);
+            let taken = self.step(rest);
+            match self.event.kind {
+                kind::NONE => return Ok(count + taken),
+                kind::FAILED => return Err(Error::Failed),
+                _ => {}
+            }
             let (front, back) = rest.split_at(taken);
-            let goes_on = match self.event.kind {
-                0 => return Ok(count + taken),
-                12 => return Err(Error::Failed),
-                9 => act(Event::Data(&[self.event.byte as u8]), front),
-                _ => act(self.noted(rest), front),
-            };
             count += taken;
-            rest = if goes_on { back } else { &[] };
+            rest = if act(self.noted(rest), front) {
+                back
+            } else {
+                &[]
+            };
         }
     }
 
-    // The event of a call that was given these bytes. Kinds are as the header has them.
-    fn noted<'a>(&'a self, bytes: &'a [u8]) -> Event<'a> {
+    /// Whether no sequence, no string and no character is unfinished after the bytes so far.
+    ///
+    /// ```
+    /// let mut parser = escape_stream::Parser::new();
+    /// parser.advance(b"a\x1b[1", |_| {})?;
+    /// assert!(!parser.is_ground());
+    /// parser.advance(b"m", |_| {})?;
+    /// assert!(parser.is_ground());
+    /// # Ok::<(), escape_stream::Error>(())
+    /// ```
+    pub fn is_ground(&self) -> bool {
+        self.raw.is_ground()
+    }
+
+    // Takes bytes up to the next event, and returns how many.
+    #[inline(always)]
+    pub(crate) fn step(&mut self, bytes: &[u8]) -> usize {
+        ffi::next(&mut self.raw, &mut self.buffer, bytes, &mut self.event)
+    }
+
+    // What the last call noted.
+    #[cfg(feature = "oneshot")]
+    #[inline(always)]
+    pub(crate) fn raw_event(&self) -> &ffi::Event {
+        &self.event
+    }
+
+    // The event of a call that was given these bytes.
+    #[inline(always)]
+    pub(crate) fn noted<'a>(&'a mut self, bytes: &'a [u8]) -> Event<'a> {
+        self.byte = self.event.byte as u8;
         let event = &*self.event;
         let has_more = event.has_more;
         let byte = event.byte as u8;
         match event.kind {
-            1 => Event::Text(ffi::text(event, bytes)),
-            2 => {
+            kind::TEXT => Event::Text(ffi::text(event, bytes)),
+            kind::CHARACTER => {
                 Event::Character(char::from_u32(event.byte).unwrap_or(char::REPLACEMENT_CHARACTER))
             }
-            3 => Event::Control(byte),
-            4 => Event::Escape {
-                intermediates: &event.intermediates[..event.kept],
+            kind::CONTROL => Event::Control(byte),
+            kind::ESCAPE => Event::Escape {
+                intermediates: event.intermediates(),
                 has_more,
                 byte,
             },
-            5 => Event::Csi {
+            kind::CSI => Event::Csi {
                 entries: &event.entries[..event.count],
                 has_more,
                 byte,
             },
-            6 => Event::Osc(self.string()),
-            7 => Event::Dcs {
+            kind::OSC => Event::Osc(self.string()),
+            kind::DCS => Event::Dcs {
                 parameters: self.string(),
-                intermediates: &event.intermediates[..event.kept],
+                intermediates: event.intermediates(),
                 has_more,
                 byte,
             },
-            8 => Event::Data(&bytes[event.start..][..event.length]),
-            10 => Event::DcsEnd,
-            13 => Event::LimitPassed,
-            _ => Event::Apc(self.string()),
+            kind::DATA => Event::Data(&bytes[event.start..][..event.length]),
+            kind::DATA_BYTE => Event::Data(core::slice::from_ref(&self.byte)),
+            kind::DCS_END => Event::DcsEnd,
+            kind::APC => Event::Apc(self.string()),
+            _ => Event::LimitPassed,
         }
     }
 
     // A text, in the upper half of the buffer.
-    fn string(&self) -> &[u8] {
+    #[inline]
+    pub(crate) fn string(&self) -> &[u8] {
         &self.buffer[self.buffer.len() / 2..][..self.event.length]
     }
 }

@@ -54,6 +54,11 @@ fn wanted(row: &Row) -> Vec<String> {
         }
     }
     actions.retain(|it| it.starts_with("OperatingSystemCommand("));
+    for it in &mut actions {
+        if it.contains("(File(ITermFileData {") {
+            *it = it.replace("content: ", "data: ");
+        }
+    }
     actions
 }
 
@@ -82,7 +87,7 @@ fn commands_that_the_tables_lack_read_back() {
         preserve_aspect_ratio: false,
         inline: true,
         do_not_move_cursor: true,
-        content: (0..=255).collect(),
+        data: (0..=255).collect(),
     };
     let colors = (0..1000).map(|n| ChangeColorPair {
         palette_index: 7,
@@ -113,5 +118,59 @@ fn what_would_not_read_back_is_not_written() {
         OperatingSystemCommand::ITermProprietary(ITermProprietary::ReportVariable("a".into())),
     ] {
         assert_eq!(command.to_bytes(), Err(Error::NotWritable), "{command:?}");
+    }
+}
+
+// Texts of these words one after another. In a debug build each that is read at once is compared
+// with what the library reads.
+#[test]
+fn texts_of_words() {
+    const WORDS: [&str; 24] = [
+        "0",
+        "1",
+        "2",
+        "8",
+        "133",
+        "7",
+        "id",
+        "aid",
+        "A",
+        "B",
+        "C",
+        "D",
+        "I",
+        "L",
+        "N",
+        "P",
+        ";",
+        ";",
+        ";",
+        "=",
+        ":",
+        "http://e.com/",
+        "\u{e9}",
+        "\u{7f}",
+    ];
+    let mut state = 1_u64;
+    let mut next = |below: usize| {
+        state = state
+            .wrapping_mul(6_364_136_223_846_793_005)
+            .wrapping_add(1);
+        (state >> 33) as usize % below
+    };
+    for round in 0..100_000 {
+        let heads = ["", "0;", "8;;", "8;id=", "133;", "133;A;aid="];
+        let mut text = Vec::from(heads[next(heads.len())]);
+        for _ in 0..next(6) {
+            text.extend(WORDS[next(WORDS.len())].bytes());
+        }
+        if round % 16 == 0 {
+            text.push(next(256) as u8);
+        }
+        assert!(
+            OperatingSystemCommand::parse(&text).is_ok(),
+            "{}",
+            text.escape_ascii()
+        );
     }
 }

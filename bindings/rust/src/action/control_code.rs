@@ -194,10 +194,23 @@ const ALL: [ControlCode; 61] = [
     ControlCode::APC,
 ];
 
+// The code of each byte.
+const BY_BYTE: [Option<ControlCode>; 256] = {
+    let mut codes = [None; 256];
+    let mut i = 0;
+    while i < ALL.len() {
+        codes[ALL[i] as usize] = Some(ALL[i]);
+        i += 1;
+    }
+    codes
+};
+
 impl ControlCode {
     /// The code of this number. 80, 81 and 99 (hexadecimal) have no name.
+    #[inline]
     #[must_use]
     pub fn from_byte(byte: u8) -> Option<ControlCode> {
-        ALL.into_iter().find(|code| *code as u8 == byte)
+        static CODES: [Option<ControlCode>; 256] = BY_BYTE;
+        CODES[usize::from(byte)]
     }
 }

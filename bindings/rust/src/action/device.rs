@@ -1,5 +1,6 @@
 // SPDX-License-Identifier: MIT
 //! What device control strings give, but for images and termcap queries.
+use alloc::boxed::Box;
 use alloc::vec::Vec;
 use core::fmt;
 
@@ -9,13 +10,13 @@ use core::fmt;
 #[non_exhaustive]
 pub enum DeviceControlMode {
     /// A mode is entered, until `Exit`.
-    Enter(EnterDeviceControlMode),
+    Enter(Box<EnterDeviceControlMode>),
     /// The mode that was entered ends.
     Exit,
     /// A byte of data for the mode that was entered.
     Data(u8),
     /// A short device control.
-    ShortDeviceControl(ShortDeviceControl),
+    ShortDeviceControl(Box<ShortDeviceControl>),
 }
 
 /// The header of a device control string: the mode that the string enters, until it ends.

@@ -1,16 +1,16 @@
 // SPDX-License-Identifier: MIT
 //! A parser that gives actions.
-use super::{
-    Action, CSI, ControlCode, DeviceControlMode, EnterDeviceControlMode, Esc, ShortDeviceControl,
-};
-use crate::apc::KittyImage;
-use crate::dcs::{Sixel, xt_get_tcap};
-use crate::osc::OperatingSystemCommand;
-use crate::{Entry, Error, Event, dcs_numbers};
-use alloc::boxed::Box;
+use super::device_string::DeviceString;
+use super::taker::{Taker, single};
+use super::{Action, CSI, ControlCode, Entries, Esc};
+use crate::ffi::kind;
+use crate::{Error, Event, ffi};
+use alloc::collections::VecDeque;
 use alloc::vec::Vec;
+use core::iter::FusedIterator;
 
-/// A parser of a stream that comes in pieces, and is given as actions.
+/// A parser of a stream that comes in pieces, and is given as actions. Its calls are those of
+/// `termwiz`, so none of them returns an [`Error`]: [`failure`](Parser::failure) does.
 ///
 /// ```
 /// use escape_stream::action::{Action, Parser};
@@ -23,27 +23,15 @@ use alloc::vec::Vec;
 ///         if let Action::OperatingSystemCommand(command) = action {
 ///             titles.push(*command);
 ///         }
-///     })?;
+///     });
 /// }
 /// assert_eq!(titles, [OperatingSystemCommand::SetWindowTitle("some".into())]);
-/// # Ok::<(), escape_stream::Error>(())
+/// assert_eq!(parser.failure(), None);
 /// ```
 pub struct Parser {
     events: crate::Parser,
-    device: Device,
-    limit: usize,
-}
-
-// The device control string that is unfinished.
-enum Device {
-    Nothing,
-    // A mode, of which nothing has to be kept.
-    Entered,
-    // More data came than the limit allows.
-    Over,
-    Sixel { params: Vec<i64>, data: Vec<u8> },
-    Termcap(Vec<u8>),
-    Short(ShortDeviceControl),
+    taker: Taker,
+    failure: Option<Error>,
 }
 
 impl Default for Parser {
@@ -66,184 +54,252 @@ impl Parser {
     pub fn with_limits(text: usize, data: usize) -> Parser {
         Parser {
             events: crate::Parser::with_limit(text),
-            device: Device::Nothing,
-            limit: data,
+            taker: Taker::new(data),
+            failure: None,
         }
     }
 
-    /// Takes the next bytes of the stream, and calls `act` with each action. Characters of a run
-    /// come in one `PrintString` or several; a string that is unfinished gives its action when it
-    /// ends.
+    /// Takes the next bytes of the stream, and calls `callback` with each action. Characters of a
+    /// run come in one `PrintString` or several, a single one as `Print`; a string that is
+    /// unfinished gives its action when it ends.
     ///
-    /// # Errors
-    ///
-    /// Those of [`OperatingSystemCommand::parse`] and of
-    /// [`Parser::advance`](crate::Parser::advance). The bytes after are not taken.
-    pub fn parse(&mut self, bytes: &[u8], mut act: impl FnMut(Action)) -> Result<(), Error> {
-        let (device, limit) = (&mut self.device, self.limit);
-        let mut result = Ok(());
-        self.events.advance_while(bytes, |event, _| {
-            result = device.take(event, limit, &mut act);
-            result.is_ok()
-        })?;
-        result
+    /// After a [failure](Parser::failure) it calls nothing.
+    #[inline]
+    pub fn parse<F: FnMut(Action)>(&mut self, bytes: &[u8], mut callback: F) {
+        let mut rest = bytes;
+        while self.failure.is_none() {
+            let taken = self.events.step(rest);
+            // What comes most often first, each in its own call, so that a closure can be inlined.
+            let event = self.events.raw_event();
+            match event.kind {
+                kind::TEXT => {
+                    let run = ffi::text(event, rest);
+                    match single(run) {
+                        Some(c) => callback(Action::Print(c)),
+                        None => callback(Action::PrintString(run.into())),
+                    }
+                }
+                kind::CSI => callback(Action::CSI(CSI {
+                    params: Entries::first(event.count, &event.entries),
+                    parameters_truncated: event.has_more,
+                    control: event.byte as u8,
+                })),
+                kind::CONTROL => {
+                    if let Some(code) = ControlCode::from_byte(event.byte as u8) {
+                        callback(Action::Control(code));
+                    }
+                }
+                kind::ESCAPE => callback(Action::Esc(Esc::of(
+                    event.intermediates(),
+                    event.byte as u8,
+                ))),
+                kind::OSC => match self.taker.command(self.events.string()) {
+                    Ok(command) => callback(Action::OperatingSystemCommand(command)),
+                    Err(error) => self.failure = Some(error),
+                },
+                kind::NONE => return,
+                _ => self.take_other(rest, &mut callback),
+            }
+            rest = rest.get(taken..).unwrap_or_default();
+        }
+    }
+
+    // Calls `act` with the actions of the event of a call that was given these bytes.
+    #[inline(never)]
+    fn take_other(&mut self, bytes: &[u8], act: &mut impl FnMut(Action)) {
+        self.failure = match self.events.raw_event().kind {
+            kind::FAILED => Some(Error::Failed),
+            _ => self.taker.take(self.events.noted(bytes), act).err(),
+        };
     }
 
     /// The actions of the next bytes of the stream, with what is printed joined.
     ///
-    /// # Errors
-    ///
-    /// Those of [`parse`](Parser::parse).
-    pub fn parse_as_vec(&mut self, bytes: &[u8]) -> Result<Vec<Action>, Error> {
+    /// After a [failure](Parser::failure) there are none.
+    pub fn parse_as_vec(&mut self, bytes: &[u8]) -> Vec<Action> {
         let mut actions = Vec::new();
-        self.parse(bytes, |action| action.append_to(&mut actions))?;
-        Ok(actions)
+        self.parse(bytes, |action| action.append_to(&mut actions));
+        actions
     }
-}
 
-impl Device {
-    // The actions of an event.
+    /// Takes the next bytes of the stream up to the end of the first action, and returns it with
+    /// how many bytes these are. Of a run of characters it is the first one. Further actions of
+    /// its last byte are dropped, as that of a CAN which ends a command.
+    ///
+    /// `None` where the bytes give no action: then all were taken. After a
+    /// [failure](Parser::failure) it takes none.
+    ///
+    /// ```
+    /// use escape_stream::action::{Action, ControlCode, Parser};
+    ///
+    /// let mut parser = Parser::new();
+    /// let bytes = b"ab\n\x1b[";
+    /// assert_eq!(parser.parse_first(bytes), Some((Action::Print('a'), 1)));
+    /// assert_eq!(parser.parse_first(&bytes[1..]), Some((Action::Print('b'), 1)));
+    /// let feed = Action::Control(ControlCode::LineFeed);
+    /// assert_eq!(parser.parse_first(&bytes[2..]), Some((feed, 1)));
+    /// assert_eq!(parser.parse_first(&bytes[3..]), None);
+    /// ```
+    pub fn parse_first(&mut self, bytes: &[u8]) -> Option<(Action, usize)> {
+        let mut first = None;
+        let count = self.take_first(bytes, |action| {
+            first.get_or_insert(action);
+        });
+        first.map(|action| (action, count))
+    }
+
+    /// Takes the next bytes of the stream up to where there is an action and no sequence and no
+    /// string is unfinished, and returns all actions of these bytes with how many they are. So a
+    /// string comes with its terminator.
+    ///
+    /// `None` where there is no such place: then all bytes were taken, and what they gave is
+    /// dropped. After a [failure](Parser::failure) it takes none.
+    ///
+    /// ```
+    /// use escape_stream::action::Parser;
+    ///
+    /// let bytes = b"\x1b]2;title\x1b\\text";
+    /// let (actions, count) = Parser::new().parse_first_as_vec(bytes).unwrap();
+    /// assert_eq!((actions.len(), count), (2, 11));
+    /// ```
+    pub fn parse_first_as_vec(&mut self, bytes: &[u8]) -> Option<(Vec<Action>, usize)> {
+        let mut actions = Vec::new();
+        let mut count = self.take_first(bytes, |action| actions.push(action));
+        if actions.is_empty() {
+            return None;
+        }
+        while !self.events.is_ground() {
+            // Bytes that are no data may end a sequence without an action.
+            let length = if self.taker.device.is_open() {
+                bytes.len()
+            } else {
+                count + 1
+            };
+            let piece = bytes.get(count..length).filter(|it| !it.is_empty())?;
+            count += self.take(piece, |taker, event, _| {
+                taker
+                    .take(event, &mut |action| actions.push(action))
+                    .map(|()| false)
+            });
+            if self.failure.is_some() {
+                return None;
+            }
+        }
+        Some((actions, count))
+    }
+
+    /// The actions of the next bytes of the stream, one after another. Characters of a run come
+    /// in one `PrintString` or several.
+    ///
+    /// ```
+    /// use escape_stream::action::{Action, Parser};
+    ///
+    /// let mut parser = Parser::new();
+    /// let printed = parser.actions(b"a\x1b[1mbc").filter_map(|action| match action {
+    ///     Action::Print(c) => Some(c.to_string()),
+    ///     Action::PrintString(text) => Some(text),
+    ///     _ => None,
+    /// });
+    /// assert_eq!(printed.collect::<String>(), "abc");
+    /// ```
+    pub fn actions<'a, 'b>(&'a mut self, bytes: &'b [u8]) -> Actions<'a, 'b> {
+        Actions {
+            parser: self,
+            rest: bytes,
+            ready: VecDeque::new(),
+        }
+    }
+
+    /// Why it gives nothing any more, where it failed: where memory was refused, or for
+    /// [`Error::Failed`], which the clauses of the library's calls exclude. Bytes after the failure
+    /// are not taken.
+    #[must_use]
+    pub fn failure(&self) -> Option<Error> {
+        self.failure
+    }
+
+    // Takes bytes up to the end of the first action, calls `act` with each action of its last byte,
+    // and returns how many bytes were taken.
+    fn take_first(&mut self, bytes: &[u8], mut act: impl FnMut(Action)) -> usize {
+        // Of a run only the first character or byte is taken: a run changes no state.
+        let mut excess = 0;
+        let count = self.take(bytes, |taker, event, _| {
+            let mut goes_on = true;
+            let event = match event {
+                Event::Text(run) => {
+                    let first = run.chars().next().map_or(0, char::len_utf8);
+                    excess = run.len() - first;
+                    Event::Text(&run[..first])
+                }
+                Event::Data(run) if matches!(taker.device, DeviceString::Entered) => {
+                    excess = run.len() - 1;
+                    Event::Data(&run[..1])
+                }
+                _ => event,
+            };
+            taker.take(event, &mut |action| {
+                goes_on = false;
+                act(action);
+            })?;
+            Ok(goes_on)
+        });
+        count.saturating_sub(excess)
+    }
+
+    // Takes bytes, all of them or up to an event for which `act` is false, and returns how many.
+    #[inline]
     fn take(
         &mut self,
-        event: Event<'_>,
-        limit: usize,
-        act: &mut impl FnMut(Action),
-    ) -> Result<(), Error> {
-        match event {
-            Event::Text(run) => act(Action::PrintString(run.into())),
-            Event::Character(c) => act(Action::Print(c)),
-            Event::Control(byte) => {
-                if let Some(code) = ControlCode::from_byte(byte) {
-                    act(Action::Control(code));
-                }
-            }
-            Event::Escape {
-                intermediates,
-                byte,
-                ..
-            } => act(Action::Esc(escape(intermediates, byte))),
-            Event::Csi {
-                entries,
-                has_more,
-                byte,
-            } => act(Action::CSI(sequence(entries, has_more, byte))),
-            Event::Osc(text) => {
-                let command = Box::new(OperatingSystemCommand::parse(text)?);
-                act(Action::OperatingSystemCommand(command));
-            }
-            Event::Apc(text) => {
-                if let Some(image) = KittyImage::parse_apc(text)? {
-                    act(Action::KittyImage(Box::new(image)));
-                }
-            }
-            Event::Dcs { .. } => self.begin(event, act),
-            Event::Data(bytes) => self.push(bytes, limit, act)?,
-            Event::DcsEnd => return self.end(act),
-            Event::LimitPassed => {}
-        }
-        Ok(())
-    }
-
-    // A string begins.
-    fn begin(&mut self, event: Event<'_>, act: &mut impl FnMut(Action)) {
-        let Event::Dcs {
-            parameters,
-            intermediates,
-            has_more,
-            byte,
-        } = event
-        else {
-            return;
-        };
-        let params = dcs_numbers(parameters).map(Option::unwrap_or_default);
-        let params = params.collect();
-        let intermediates = intermediates.to_vec();
-        *self = match (byte, has_more, &intermediates[..]) {
-            (b'q', false, []) => Device::Sixel {
-                params,
-                data: Vec::new(),
-            },
-            (b'q', false, [b'+']) => Device::Termcap(Vec::new()),
-            (b'q', false, [b'$']) => Device::Short(ShortDeviceControl {
-                params,
-                intermediates,
-                byte,
-                data: Vec::new(),
-            }),
-            _ => {
-                act(Action::DeviceControl(DeviceControlMode::Enter(
-                    EnterDeviceControlMode {
-                        byte,
-                        params,
-                        intermediates,
-                        ignored_extra_intermediates: has_more,
-                    },
-                )));
-                Device::Entered
-            }
-        };
-    }
-
-    // More of its data.
-    fn push(
-        &mut self,
         bytes: &[u8],
-        limit: usize,
-        act: &mut impl FnMut(Action),
-    ) -> Result<(), Error> {
-        let data = match self {
-            Device::Nothing | Device::Over => return Ok(()),
-            Device::Entered => {
-                for byte in bytes {
-                    act(Action::DeviceControl(DeviceControlMode::Data(*byte)));
-                }
-                return Ok(());
-            }
-            Device::Sixel { data, .. } | Device::Termcap(data) => data,
-            Device::Short(short) => &mut short.data,
-        };
-        if limit - data.len() < bytes.len() {
-            *self = Device::Over;
-            return Ok(());
+        mut act: impl FnMut(&mut Taker, Event<'_>, &[u8]) -> Result<bool, Error>,
+    ) -> usize {
+        if self.failure.is_some() {
+            return 0;
         }
-        data.try_reserve(bytes.len()).map_err(|_| Error::Memory)?;
-        data.extend_from_slice(bytes);
-        Ok(())
-    }
-
-    // It ends.
-    fn end(&mut self, act: &mut impl FnMut(Action)) -> Result<(), Error> {
-        act(match core::mem::replace(self, Device::Nothing) {
-            Device::Nothing | Device::Over => return Ok(()),
-            Device::Entered => Action::DeviceControl(DeviceControlMode::Exit),
-            Device::Sixel { params, data } => {
-                Action::Sixel(Box::new(Sixel::parse(&params, &data)?))
-            }
-            Device::Termcap(data) => Action::XtGetTcap(xt_get_tcap(&data)?),
-            Device::Short(short) => {
-                Action::DeviceControl(DeviceControlMode::ShortDeviceControl(short))
-            }
+        let (taker, failure) = (&mut self.taker, &mut self.failure);
+        let taken = self.events.advance_while(bytes, |event, taken| {
+            act(taker, event, taken).unwrap_or_else(|error| {
+                *failure = Some(error);
+                false
+            })
         });
-        Ok(())
+        taken.unwrap_or_else(|error| {
+            self.failure = Some(error);
+            0
+        })
     }
 }
 
-// The intermediate counts where it is the only one.
-fn escape(intermediates: &[u8], control: u8) -> Esc {
-    let intermediate = match intermediates {
-        [one] => Some(*one),
-        _ => None,
-    };
-    Esc {
-        intermediate,
-        control,
+/// The actions of some bytes, one after another: what [`Parser::actions`] returns. Bytes are taken
+/// as they are needed. Where it is dropped before its end, [`rest`](Actions::rest) are not taken.
+pub struct Actions<'a, 'b> {
+    parser: &'a mut Parser,
+    rest: &'b [u8],
+    ready: VecDeque<Action>,
+}
+
+impl<'b> Actions<'_, 'b> {
+    /// The bytes that are not taken yet.
+    #[must_use]
+    pub fn rest(&self) -> &'b [u8] {
+        self.rest
     }
 }
 
-fn sequence(entries: &[Entry], has_more: bool, control: u8) -> CSI {
-    CSI {
-        params: entries.to_vec(),
-        parameters_truncated: has_more,
-        control,
+impl Iterator for Actions<'_, '_> {
+    type Item = Action;
+
+    fn next(&mut self) -> Option<Action> {
+        while self.ready.is_empty() && !self.rest.is_empty() && self.parser.failure.is_none() {
+            let ready = &mut self.ready;
+            let taken = self.parser.take(self.rest, |taker, event, _| {
+                taker.take(event, &mut |action| ready.push_back(action))?;
+                Ok(ready.is_empty())
+            });
+            self.rest = self.rest.get(taken..).unwrap_or_default();
+        }
+        self.ready.pop_front()
     }
 }
+
+impl FusedIterator for Actions<'_, '_> {}

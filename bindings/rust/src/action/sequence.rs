@@ -1,15 +1,15 @@
 // SPDX-License-Identifier: MIT
 //! Control and escape sequences.
-use crate::{ControlFunction, Entry, EscapeFunction};
-use alloc::vec::Vec;
+use super::Entries;
+use crate::{ControlFunction, EscapeFunction};
 
 /// A control sequence: its entries and its final byte, as `termwiz` has one of which it knows no
 /// more in its `Unspecified`. [`function`](CSI::function) names it.
-#[derive(Clone, Debug, PartialEq)]
+#[derive(Clone, Debug, PartialEq, Eq)]
 pub struct CSI {
     /// Numbers and bytes in order: private prefix, parameters, separators, intermediates.
     /// [`Parameters`](crate::Parameters) reads them.
-    pub params: Vec<Entry>,
+    pub params: Entries,
     /// Whether more came than are kept.
     pub parameters_truncated: bool,
     /// The final byte.
@@ -34,6 +34,19 @@ pub struct Esc {
 }
 
 impl Esc {
+    // The intermediate counts where it is the only one.
+    #[inline]
+    pub(super) fn of(intermediates: &[u8], control: u8) -> Esc {
+        let intermediate = match intermediates {
+            [one] => Some(*one),
+            _ => None,
+        };
+        Esc {
+            intermediate,
+            control,
+        }
+    }
+
     /// What it asks for, by name.
     #[must_use]
     pub fn function(self) -> Option<EscapeFunction> {

@@ -1,6 +1,7 @@
 // SPDX-License-Identifier: MIT
 //! Sixel images.
-use crate::fields::make_room;
+use super::read_sixel;
+use crate::fields::Room;
 use crate::{Error, ffi};
 use alloc::vec::Vec;
 
@@ -94,28 +95,7 @@ impl Sixel {
     ///
     /// Those of [`OperatingSystemCommand::parse`](crate::osc::OperatingSystemCommand::parse).
     pub fn parse(params: &[i64], data: &[u8]) -> Result<Sixel, Error> {
-        let mut rows = Vec::new();
-        let (mut raw, mut count) = ffi::read_sixel(params, data, &mut rows)?;
-        make_room(&mut rows, raw.item_count, ffi::NO_ITEM)?;
-        if !rows.is_empty() {
-            (raw, count) = ffi::read_sixel(params, data, &mut rows)?;
-        }
-        let mut items = Vec::new();
-        items.try_reserve_exact(count).map_err(|_| Error::Memory)?;
-        for row in &rows[..count] {
-            items.push(SixelData::of(row).ok_or(Error::Failed)?);
-        }
-        let sixel = Sixel {
-            pan: raw.pan,
-            pad: raw.pad,
-            pixel_width: raw.has_pixel_width.then_some(raw.pixel_width),
-            pixel_height: raw.has_pixel_height.then_some(raw.pixel_height),
-            background_is_transparent: raw.background_is_transparent,
-            horizontal_grid_size: raw.has_grid_size.then_some(raw.grid_size),
-            data: items,
-        };
-        debug_assert_eq!(sixel.dimensions(), (raw.width, raw.height));
-        Ok(sixel)
+        read_sixel(params, data, &mut Room::default())
     }
 
     /// Width and height in pixels: both sizes of the raster attributes, where both are there. Else
@@ -150,7 +130,7 @@ impl Sixel {
 
 impl SixelData {
     // The piece of data of a row. Kinds are as the header has them.
-    fn of(row: &ffi::SixelItem) -> Option<SixelData> {
+    pub(super) fn of(row: &ffi::SixelItem) -> Option<SixelData> {
         Some(match row.kind {
             0 => SixelData::Data(row.pixels),
             1 => SixelData::Repeat {

@@ -145,7 +145,7 @@ pub struct ITermFileData {
     /// Whether the cursor stays where it is.
     pub do_not_move_cursor: bool,
     /// What it holds.
-    pub content: Vec<u8>,
+    pub data: Vec<u8>,
 }
 
 impl ITermFileData {
@@ -162,7 +162,7 @@ impl ITermFileData {
             preserve_aspect_ratio: fields.flag(name::PRESERVE_ASPECT_RATIO)?,
             inline: fields.flag(name::INLINE)?,
             do_not_move_cursor: fields.flag(name::DO_NOT_MOVE_CURSOR)?,
-            content: fields.bytes(name::CONTENT)?,
+            data: fields.bytes(name::CONTENT)?,
         })
     }
 }

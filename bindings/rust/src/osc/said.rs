@@ -278,7 +278,7 @@ impl Said {
         self.number(name::PRESERVE_ASPECT_RATIO, file.preserve_aspect_ratio)
             .number(name::INLINE, file.inline)
             .number(name::DO_NOT_MOVE_CURSOR, file.do_not_move_cursor)
-            .bytes(name::CONTENT, &file.content);
+            .bytes(name::CONTENT, &file.data);
         kind::ITERM_FILE
     }
 

@@ -19,6 +19,32 @@ pub struct Hyperlink {
 }
 
 impl Hyperlink {
+    /// A link to this address, without parameters.
+    pub fn new(uri: impl Into<String>) -> Hyperlink {
+        Hyperlink {
+            params: BTreeMap::new(),
+            uri: uri.into(),
+            implicit: false,
+        }
+    }
+
+    /// A link to this address with an id.
+    pub fn new_with_id(uri: impl Into<String>, id: impl Into<String>) -> Hyperlink {
+        let mut link = Hyperlink::new(uri);
+        link.params.insert("id".into(), id.into());
+        link
+    }
+
+    /// The address.
+    pub fn uri(&self) -> &str {
+        &self.uri
+    }
+
+    /// The parameters, with their keys.
+    pub fn params(&self) -> &BTreeMap<String, String> {
+        &self.params
+    }
+
     pub(super) fn of(fields: &mut Fields<'_>) -> Option<Hyperlink> {
         Some(Hyperlink {
             uri: fields.text(name::URI)?,
@@ -46,8 +72,35 @@ impl Selection {
     /// The selection that the terminal is configured to use, letter `s`.
     pub const SELECT: Selection = Selection(8);
 
-    /// Cut buffer 0. The bits of the others, up to 9, are the next ones.
+    /// Cut buffer 0, letter `0`.
     pub const CUT0: Selection = Selection(16);
+
+    /// Cut buffer 1.
+    pub const CUT1: Selection = Selection(32);
+
+    /// Cut buffer 2.
+    pub const CUT2: Selection = Selection(64);
+
+    /// Cut buffer 3.
+    pub const CUT3: Selection = Selection(128);
+
+    /// Cut buffer 4.
+    pub const CUT4: Selection = Selection(256);
+
+    /// Cut buffer 5.
+    pub const CUT5: Selection = Selection(512);
+
+    /// Cut buffer 6.
+    pub const CUT6: Selection = Selection(1024);
+
+    /// Cut buffer 7.
+    pub const CUT7: Selection = Selection(2048);
+
+    /// Cut buffer 8.
+    pub const CUT8: Selection = Selection(4096);
+
+    /// Cut buffer 9.
+    pub const CUT9: Selection = Selection(8192);
 
     /// The bits.
     pub fn bits(self) -> u16 {

@@ -1,0 +1,107 @@
+// SPDX-License-Identifier: MIT
+//! The entries of a control sequence, which need no memory where they are few.
+use crate::Entry;
+use alloc::boxed::Box;
+use alloc::vec::Vec;
+use core::fmt;
+use core::ops::Deref;
+
+// A colour of the palette, `38;5;n`, has so many.
+const FEW: usize = 5;
+
+/// The entries of a control sequence, as a slice. Up to five of them take no memory.
+///
+/// ```
+/// use escape_stream::action::{Action, Parser};
+///
+/// let found = Parser::new().parse_as_vec(b"\x1b[38;5;7m");
+/// if let [Action::CSI(sequence)] = &found[..] {
+///     assert_eq!(sequence.params.len(), 5);
+///     assert_eq!(sequence.params[4].number(), Some(7));
+/// }
+/// ```
+#[derive(Clone)]
+pub struct Entries(Kept);
+
+#[derive(Clone)]
+enum Kept {
+    // The first so many of these.
+    Few(u8, [Entry; FEW]),
+    Many(Box<[Entry]>),
+}
+
+impl Entries {
+    // The first so many of these.
+    #[inline(always)]
+    pub(super) fn first(count: usize, entries: &[Entry; 256]) -> Entries {
+        if count > FEW {
+            return Entries::from(entries.get(..count).unwrap_or(entries));
+        }
+        let [a, b, c, d, e, ..] = *entries;
+        Entries(Kept::Few(count as u8, [a, b, c, d, e]))
+    }
+}
+
+impl From<&[Entry]> for Entries {
+    fn from(entries: &[Entry]) -> Entries {
+        if entries.len() > FEW {
+            return Entries(Kept::Many(entries.into()));
+        }
+        let mut few = [Entry::NONE; FEW];
+        few[..entries.len()].copy_from_slice(entries);
+        Entries(Kept::Few(entries.len() as u8, few))
+    }
+}
+
+impl From<Vec<Entry>> for Entries {
+    fn from(entries: Vec<Entry>) -> Entries {
+        Entries::from(&entries[..])
+    }
+}
+
+impl FromIterator<Entry> for Entries {
+    fn from_iter<I: IntoIterator<Item = Entry>>(entries: I) -> Entries {
+        entries.into_iter().collect::<Vec<_>>().into()
+    }
+}
+
+impl Deref for Entries {
+    type Target = [Entry];
+
+    #[inline]
+    fn deref(&self) -> &[Entry] {
+        match &self.0 {
+            Kept::Few(count, few) => few.get(..usize::from(*count)).unwrap_or(few),
+            Kept::Many(entries) => entries,
+        }
+    }
+}
+
+impl<'a> IntoIterator for &'a Entries {
+    type Item = &'a Entry;
+    type IntoIter = core::slice::Iter<'a, Entry>;
+
+    fn into_iter(self) -> Self::IntoIter {
+        self.iter()
+    }
+}
+
+impl Default for Entries {
+    fn default() -> Entries {
+        Entries::from(&[][..])
+    }
+}
+
+impl PartialEq for Entries {
+    fn eq(&self, other: &Entries) -> bool {
+        self[..] == other[..]
+    }
+}
+
+impl Eq for Entries {}
+
+impl fmt::Debug for Entries {
+    fn fmt(&self, f: &mut fmt::Formatter<'_>) -> fmt::Result {
+        self[..].fmt(f)
+    }
+}
