@@ -10,12 +10,14 @@ mod entries;
 mod parser;
 mod sequence;
 mod taker;
+mod written;
 
 pub use control_code::ControlCode;
 pub use device::{DeviceControlMode, EnterDeviceControlMode, ShortDeviceControl};
 pub use entries::Entries;
 pub use parser::{Actions, Parser};
 pub use sequence::{CSI, Esc};
+pub use written::encode;
 
 use crate::apc::KittyImage;
 use crate::dcs::Sixel;

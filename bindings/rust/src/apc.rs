@@ -5,6 +5,7 @@
 //! The names are those of the crate `termwiz`. Texts are owned.
 mod delete;
 mod transmit;
+mod written;
 
 pub use delete::KittyImageDelete;
 pub use transmit::{KittyImageCompression, KittyImageData, KittyImageFormat, KittyImageTransmit};

@@ -4,6 +4,7 @@
 //! The names are those of the crate `termwiz`.
 mod read_sixel;
 mod sixel;
+mod written;
 
 pub(crate) use read_sixel::read_sixel;
 pub use sixel::{RgbColor, Sixel, SixelData, SixelValue};

@@ -8,7 +8,7 @@
 //! [`ControlFunction`] and [`EscapeFunction`] name what sequences ask for, by tables that are made
 //! from those of the library. [`osc::OperatingSystemCommand`] is what a command says,
 //! [`apc::KittyImage`] and [`dcs::Sixel`] what an image is, and [`action::Parser`] gives a stream as
-//! actions, with such values.
+//! actions, with such values, which can be written again.
 //!
 //! The work is done by a library that is proved: what each call writes is what its contract says,
 //! for every stream. This crate is not proved. Its module `ffi` is its one place with unsafe code.
@@ -64,6 +64,8 @@ mod string_end;
 pub mod vte;
 #[cfg(all(feature = "oneshot", feature = "std"))]
 mod writer;
+#[cfg(feature = "oneshot")]
+mod written;
 
 #[cfg(feature = "oneshot")]
 pub use filter::PieceFilter;

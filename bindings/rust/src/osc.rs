@@ -17,6 +17,7 @@ pub use values::{
 };
 
 use crate::fields::{Fields, Room, kind, make_room, name, read};
+use crate::written::displayed;
 use crate::{Error, ffi};
 use alloc::string::String;
 use alloc::vec::Vec;
@@ -69,6 +70,8 @@ pub enum OperatingSystemCommand {
     /// Any other command, as its parts.
     Unspecified(Vec<Vec<u8>>),
 }
+
+displayed!(OperatingSystemCommand);
 
 impl OperatingSystemCommand {
     /// The command of this text: the bytes between `ESC ]` and what ends them, as
