@@ -8,7 +8,8 @@
 //! [`ControlFunction`] and [`EscapeFunction`] name what sequences ask for, by tables that are made
 //! from those of the library. [`osc::OperatingSystemCommand`] is what a command says,
 //! [`apc::KittyImage`] and [`dcs::Sixel`] what an image is, and [`action::Parser`] gives a stream as
-//! actions, with such values, which can be written again.
+//! actions, with such values, which can be written again. The module [`termwiz`] has these at the
+//! paths of the crate `termwiz`.
 //!
 //! The work is done by a library that is proved: what each call writes is what its contract says,
 //! for every stream. This crate is not proved. Its module `ffi` is its one place with unsafe code.
@@ -61,6 +62,8 @@ mod parameters;
 mod params;
 mod parser;
 mod string_end;
+#[cfg(feature = "oneshot")]
+pub mod termwiz;
 pub mod vte;
 #[cfg(all(feature = "oneshot", feature = "std"))]
 mod writer;
