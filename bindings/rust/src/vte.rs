@@ -290,6 +290,8 @@ fn saturated(number: i64) -> u16 {
     number.clamp(0, u16::MAX.into()) as u16
 }
 
+// A command. Its loop over bytes needs the registers that the loop over events has.
+#[inline(never)]
 fn call_osc<P: Perform>(performer: &mut P, text: &[u8], bell_terminated: bool) {
     let mut parts = [&[][..]; MOST_PARTS];
     let mut count = 0;
