@@ -9,6 +9,8 @@ use std::process;
 
 fn main() {
     println!("cargo:rerun-if-env-changed=ESCAPE_STREAM_LIB");
+    // Only the manifest of ../rust-serde has this feature.
+    println!("cargo:rustc-check-cfg=cfg(feature, values(\"serde\"))");
     let mut names = vec!["stream_c"];
     if env::var_os("CARGO_FEATURE_ONESHOT").is_some() {
         names.extend(["escape_c", "libc_c"]);

@@ -28,6 +28,7 @@ use alloc::vec::Vec;
 
 /// What a part of a stream asks for.
 #[derive(Clone, Debug, PartialEq)]
+#[cfg_attr(feature = "serde", derive(serde::Serialize, serde::Deserialize))]
 #[non_exhaustive]
 pub enum Action {
     /// Prints a character.

@@ -15,6 +15,7 @@ use crate::{Error, ffi};
 
 /// A command of kitty's graphics protocol.
 #[derive(Clone, Debug, PartialEq, Eq)]
+#[cfg_attr(feature = "serde", derive(serde::Serialize, serde::Deserialize))]
 #[non_exhaustive]
 pub enum KittyImage {
     /// Keeps an image.
@@ -163,6 +164,7 @@ fn image_of(kind: u32, fields: &mut Fields<'_>) -> Option<KittyImage> {
 
 /// What the terminal reports of a command.
 #[derive(Clone, Copy, Debug, PartialEq, Eq, Hash)]
+#[cfg_attr(feature = "serde", derive(serde::Serialize, serde::Deserialize))]
 pub enum KittyImageVerbosity {
     /// Successes and errors.
     Verbose,
@@ -183,6 +185,7 @@ impl KittyImageVerbosity {
 
 /// How an image is shown.
 #[derive(Clone, Debug, PartialEq, Eq)]
+#[cfg_attr(feature = "serde", derive(serde::Serialize, serde::Deserialize))]
 pub struct KittyImagePlacement {
     /// The left edge of the part of the image that is shown, in pixels.
     pub x: Option<u32>,
@@ -231,6 +234,7 @@ impl KittyImagePlacement {
 
 /// How a frame's pixels are put over others.
 #[derive(Clone, Copy, Debug, PartialEq, Eq, Hash)]
+#[cfg_attr(feature = "serde", derive(serde::Serialize, serde::Deserialize))]
 pub enum KittyFrameCompositionMode {
     /// The colours are blended by their alpha.
     AlphaBlending,
@@ -250,6 +254,7 @@ impl KittyFrameCompositionMode {
 
 /// A frame of an animation that is sent.
 #[derive(Clone, Debug, PartialEq, Eq)]
+#[cfg_attr(feature = "serde", derive(serde::Serialize, serde::Deserialize))]
 pub struct KittyImageFrame {
     /// The left edge at which its pixels are put, in pixels.
     pub x: Option<u32>,
@@ -284,6 +289,7 @@ impl KittyImageFrame {
 
 /// A part of one frame that is put over another of the same image.
 #[derive(Clone, Debug, PartialEq, Eq)]
+#[cfg_attr(feature = "serde", derive(serde::Serialize, serde::Deserialize))]
 pub struct KittyImageFrameCompose {
     /// The image's id.
     pub image_id: Option<u32>,

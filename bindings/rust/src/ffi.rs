@@ -277,6 +277,11 @@ impl Page {
 /// intermediate.
 #[repr(C)]
 #[derive(Clone, Copy)]
+#[cfg_attr(feature = "serde", derive(serde::Serialize, serde::Deserialize))]
+#[cfg_attr(
+    feature = "serde",
+    serde(from = "crate::serial::Entry", into = "crate::serial::Entry")
+)]
 pub struct Entry {
     pub(crate) number: i64,
     pub(crate) byte: u8,

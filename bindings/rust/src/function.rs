@@ -4,6 +4,7 @@ use crate::Entry;
 
 /// What a control function changes, and whether a terminal answers it.
 #[derive(Clone, Copy, Debug, PartialEq, Eq, Hash)]
+#[cfg_attr(feature = "serde", derive(serde::Serialize, serde::Deserialize))]
 pub enum Effect {
     /// It changes the screen alone: what is shown, the cursor, margins, tab stops and renditions.
     Screen,
@@ -33,6 +34,7 @@ macro_rules! functions {
         /// Its table, with parameters and standards, is docs/FUNCTIONS.md.
         #[allow(non_camel_case_types, clippy::upper_case_acronyms)]
         #[derive(Clone, Copy, Debug, PartialEq, Eq, Hash, PartialOrd, Ord)]
+        #[cfg_attr(feature = "serde", derive(serde::Serialize, serde::Deserialize))]
         #[non_exhaustive]
         pub enum $functions {
             $(#[doc = $doc] $f,)+

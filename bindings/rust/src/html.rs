@@ -7,6 +7,7 @@ const DEFAULT_LIMIT: usize = 1_048_576;
 
 /// How a page is laid out.
 #[derive(Clone, Copy, Debug, Default, PartialEq, Eq, Hash)]
+#[cfg_attr(feature = "serde", derive(serde::Serialize, serde::Deserialize))]
 pub struct Layout {
     /// Whether the tags that are open are closed before each line feed, and opened again after it:
     /// so each line is HTML by itself.

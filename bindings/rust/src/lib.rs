@@ -61,6 +61,8 @@ pub mod osc;
 mod parameters;
 mod params;
 mod parser;
+#[cfg(feature = "serde")]
+mod serial;
 mod string_end;
 #[cfg(feature = "oneshot")]
 pub mod termwiz;

@@ -26,6 +26,7 @@ use said::Said;
 /// An operating system command: a control string between `ESC ]` and a string terminator, whose
 /// parts have `;` between them (xterm's list of control sequences, "Operating System Commands").
 #[derive(Clone, Debug, PartialEq, Eq)]
+#[cfg_attr(feature = "serde", derive(serde::Serialize, serde::Deserialize))]
 #[non_exhaustive]
 pub enum OperatingSystemCommand {
     /// Code 0: sets the name of the icon and the title of the window.

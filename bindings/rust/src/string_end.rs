@@ -20,6 +20,7 @@ use crate::Event;
 /// # Ok::<(), escape_stream::Error>(())
 /// ```
 #[derive(Clone, Copy, Debug, PartialEq, Eq, Hash)]
+#[cfg_attr(feature = "serde", derive(serde::Serialize, serde::Deserialize))]
 pub enum StringEnd {
     /// BEL, which ends operating system commands alone.
     Bell,

@@ -3,6 +3,7 @@
 
 /// A control code of the sets C0 and C1 (ECMA-48), by its name. `as u8` gives its number.
 #[derive(Clone, Copy, Debug, PartialEq, Eq, Hash)]
+#[cfg_attr(feature = "serde", derive(serde::Serialize, serde::Deserialize))]
 #[repr(u8)]
 pub enum ControlCode {
     /// Null.

@@ -7,6 +7,7 @@ use core::fmt;
 /// A short device control, or a step of a device control string that enters a mode: its header,
 /// each byte of its data, and its end.
 #[derive(Clone, PartialEq, Eq)]
+#[cfg_attr(feature = "serde", derive(serde::Serialize, serde::Deserialize))]
 #[non_exhaustive]
 pub enum DeviceControlMode {
     /// A mode is entered, until `Exit`.
@@ -21,6 +22,7 @@ pub enum DeviceControlMode {
 
 /// The header of a device control string: the mode that the string enters, until it ends.
 #[derive(Clone, PartialEq, Eq)]
+#[cfg_attr(feature = "serde", derive(serde::Serialize, serde::Deserialize))]
 pub struct EnterDeviceControlMode {
     /// The final byte.
     pub byte: u8,
@@ -34,6 +36,7 @@ pub struct EnterDeviceControlMode {
 
 /// A device control string that is given whole, since it is short: a request for a setting.
 #[derive(Clone, PartialEq, Eq)]
+#[cfg_attr(feature = "serde", derive(serde::Serialize, serde::Deserialize))]
 pub struct ShortDeviceControl {
     /// The parameters. One that the header leaves out is 0.
     pub params: Vec<i64>,

@@ -21,6 +21,8 @@ const FEW: usize = 5;
 /// }
 /// ```
 #[derive(Clone)]
+#[cfg_attr(feature = "serde", derive(serde::Serialize, serde::Deserialize))]
+#[cfg_attr(feature = "serde", serde(from = "Vec<Entry>", into = "Vec<Entry>"))]
 pub struct Entries(Kept);
 
 #[derive(Clone)]
@@ -56,6 +58,12 @@ impl From<&[Entry]> for Entries {
 impl From<Vec<Entry>> for Entries {
     fn from(entries: Vec<Entry>) -> Entries {
         Entries::from(&entries[..])
+    }
+}
+
+impl From<Entries> for Vec<Entry> {
+    fn from(entries: Entries) -> Vec<Entry> {
+        entries.to_vec()
     }
 }
 

@@ -6,6 +6,7 @@ use crate::{ControlFunction, EscapeFunction};
 /// A control sequence: its entries and its final byte, as `termwiz` has one of which it knows no
 /// more in its `Unspecified`. [`function`](CSI::function) names it.
 #[derive(Clone, Debug, PartialEq, Eq)]
+#[cfg_attr(feature = "serde", derive(serde::Serialize, serde::Deserialize))]
 pub struct CSI {
     /// Numbers and bytes in order: private prefix, parameters, separators, intermediates.
     /// [`Parameters`](crate::Parameters) reads them.
@@ -26,6 +27,7 @@ impl CSI {
 
 /// An escape sequence. [`function`](Esc::function) names it.
 #[derive(Clone, Copy, Debug, PartialEq, Eq, Hash)]
+#[cfg_attr(feature = "serde", derive(serde::Serialize, serde::Deserialize))]
 pub struct Esc {
     /// The intermediate, where there is exactly one.
     pub intermediate: Option<u8>,

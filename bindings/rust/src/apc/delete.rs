@@ -5,6 +5,7 @@ use crate::fields::{Fields, image, name};
 /// Which placements are deleted. `delete` says whether the data of their images is deleted too,
 /// where nothing shows them any more.
 #[derive(Clone, Copy, Debug, PartialEq, Eq)]
+#[cfg_attr(feature = "serde", derive(serde::Serialize, serde::Deserialize))]
 #[non_exhaustive]
 pub enum KittyImageDelete {
     /// All that are visible.

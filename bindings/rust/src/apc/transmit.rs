@@ -7,6 +7,7 @@ use core::fmt;
 
 /// An image on its way to the terminal.
 #[derive(Clone, Debug, PartialEq, Eq)]
+#[cfg_attr(feature = "serde", derive(serde::Serialize, serde::Deserialize))]
 pub struct KittyImageTransmit {
     /// The format of its pixels. Where there is none the terminal takes `Rgba`.
     pub format: Option<KittyImageFormat>,
@@ -43,6 +44,7 @@ impl KittyImageTransmit {
 
 /// What an image is made of, or where that lies.
 #[derive(Clone, PartialEq, Eq)]
+#[cfg_attr(feature = "serde", derive(serde::Serialize, serde::Deserialize))]
 pub enum KittyImageData {
     /// The payload as it is in the command, in base64. It is not decoded.
     Direct(String),
@@ -145,6 +147,7 @@ impl fmt::Debug for KittyImageData {
 
 /// The format of an image's pixels.
 #[derive(Clone, Copy, Debug, PartialEq, Eq, Hash)]
+#[cfg_attr(feature = "serde", derive(serde::Serialize, serde::Deserialize))]
 pub enum KittyImageFormat {
     /// Three bytes a pixel: red, green and blue.
     Rgb,
@@ -168,6 +171,7 @@ impl KittyImageFormat {
 
 /// How an image's pixels are compressed.
 #[derive(Clone, Copy, Debug, PartialEq, Eq, Hash)]
+#[cfg_attr(feature = "serde", derive(serde::Serialize, serde::Deserialize))]
 pub enum KittyImageCompression {
     /// Not at all.
     None,

@@ -7,6 +7,7 @@ use alloc::vec::Vec;
 
 /// A sixel image.
 #[derive(Clone, Debug, PartialEq, Eq)]
+#[cfg_attr(feature = "serde", derive(serde::Serialize, serde::Deserialize))]
 pub struct Sixel {
     /// The pixel aspect ratio is pan to pad: a pixel is so many units high.
     pub pan: i64,
@@ -30,6 +31,7 @@ pub type SixelValue = u8;
 
 /// A piece of sixel data.
 #[derive(Clone, Copy, Debug, PartialEq, Eq)]
+#[cfg_attr(feature = "serde", derive(serde::Serialize, serde::Deserialize))]
 pub enum SixelData {
     /// Six pixels.
     Data(SixelValue),
@@ -68,6 +70,7 @@ pub enum SixelData {
 
 /// A colour as the intensities of red, green and blue, each from 0 to 255.
 #[derive(Clone, Copy, Debug, PartialEq, Eq, Hash)]
+#[cfg_attr(feature = "serde", derive(serde::Serialize, serde::Deserialize))]
 pub struct RgbColor {
     /// Red.
     pub red: u8,

@@ -8,6 +8,7 @@ use alloc::vec::Vec;
 /// A proprietary command of iTerm2: the operating system command 1337 (iTerm2's documentation,
 /// "Proprietary Escape Codes").
 #[derive(Clone, Debug, PartialEq, Eq)]
+#[cfg_attr(feature = "serde", derive(serde::Serialize, serde::Deserialize))]
 #[non_exhaustive]
 pub enum ITermProprietary {
     /// Marks this line, so that it can be jumped back to.
@@ -100,6 +101,7 @@ impl ITermProprietary {
 /// What is done to the version of Unicode by which characters have their widths (iTerm2's
 /// documentation, "Unicode Version").
 #[derive(Clone, Debug, PartialEq, Eq)]
+#[cfg_attr(feature = "serde", derive(serde::Serialize, serde::Deserialize))]
 pub enum ITermUnicodeVersionOp {
     /// Sets the version.
     Set(u8),
@@ -129,6 +131,7 @@ impl ITermUnicodeVersionOp {
 /// A file that is sent to the terminal, to be stored or shown (iTerm2's documentation, "Inline
 /// Images Protocol").
 #[derive(Clone, Debug, PartialEq, Eq)]
+#[cfg_attr(feature = "serde", derive(serde::Serialize, serde::Deserialize))]
 pub struct ITermFileData {
     /// Its name, where it has one.
     pub name: Option<String>,
@@ -177,6 +180,7 @@ const HEIGHTS: [u32; 3] = [
 
 /// The width or the height at which a file is shown. A negative number counts as 0.
 #[derive(Clone, Copy, Debug, Default, PartialEq, Eq, Hash)]
+#[cfg_attr(feature = "serde", derive(serde::Serialize, serde::Deserialize))]
 pub enum ITermDimension {
     /// As large as the file itself is.
     #[default]

@@ -6,6 +6,7 @@ use alloc::string::String;
 /// A mark that a shell writes between its prompts, the user's input, and the output of commands
 /// (FinalTerm; operating system command 133, with a letter after the code).
 #[derive(Clone, Debug, PartialEq, Eq)]
+#[cfg_attr(feature = "serde", derive(serde::Serialize, serde::Deserialize))]
 #[non_exhaustive]
 pub enum FinalTermSemanticPrompt {
     /// `L`: goes to the start of a new line, unless the cursor is at the start of one.
@@ -79,6 +80,7 @@ impl FinalTermSemanticPrompt {
 /// Which movements of the cursor the shell takes where the user clicks on its input (FinalTerm; key
 /// `cl`).
 #[derive(Clone, Copy, Debug, PartialEq, Eq, Hash)]
+#[cfg_attr(feature = "serde", derive(serde::Serialize, serde::Deserialize))]
 pub enum FinalTermClick {
     /// `line`: to the left and to the right within one line.
     Line,
@@ -107,6 +109,7 @@ impl FinalTermClick {
 
 /// Which prompt begins (FinalTerm; key `k`).
 #[derive(Clone, Copy, Debug, Default, PartialEq, Eq, Hash)]
+#[cfg_attr(feature = "serde", derive(serde::Serialize, serde::Deserialize))]
 pub enum FinalTermPromptKind {
     /// `i`: the first prompt, at the left.
     #[default]

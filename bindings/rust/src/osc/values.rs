@@ -8,6 +8,7 @@ use core::ops::BitOr;
 /// A hyperlink: where the characters that follow lead to ("Hyperlinks in terminal emulators", the
 /// command OSC 8).
 #[derive(Clone, Debug, PartialEq, Eq)]
+#[cfg_attr(feature = "serde", derive(serde::Serialize, serde::Deserialize))]
 pub struct Hyperlink {
     /// The parameters, with their keys. The key `id` is that of the link: cells of one id and one
     /// address are one link.
@@ -57,6 +58,7 @@ impl Hyperlink {
 /// Which selections, as a set of bits (xterm's list of control sequences, "Manipulate Selection
 /// Data").
 #[derive(Clone, Copy, Debug, Default, PartialEq, Eq, Hash)]
+#[cfg_attr(feature = "serde", derive(serde::Serialize, serde::Deserialize))]
 pub struct Selection(u16);
 
 impl Selection {
@@ -127,6 +129,7 @@ impl BitOr for Selection {
 
 /// A colour: how much red, green and blue, each from 0 to 65535.
 #[derive(Clone, Copy, Debug, PartialEq, Eq, Hash)]
+#[cfg_attr(feature = "serde", derive(serde::Serialize, serde::Deserialize))]
 pub struct Color16 {
     /// Red.
     pub red: u16,
@@ -138,6 +141,7 @@ pub struct Color16 {
 
 /// A colour, or the question which it is.
 #[derive(Clone, Copy, Debug, PartialEq, Eq, Hash)]
+#[cfg_attr(feature = "serde", derive(serde::Serialize, serde::Deserialize))]
 pub enum ColorOrQuery {
     /// This colour.
     Color(Color16),
@@ -161,6 +165,7 @@ impl ColorOrQuery {
 
 /// A place of the palette, and the colour that it is to have, or the question which it has.
 #[derive(Clone, Copy, Debug, PartialEq, Eq, Hash)]
+#[cfg_attr(feature = "serde", derive(serde::Serialize, serde::Deserialize))]
 pub struct ChangeColorPair {
     /// The place, from 0 to 255.
     pub palette_index: u8,
@@ -180,6 +185,7 @@ impl ChangeColorPair {
 /// A colour that a program may change, ask for and reset (xterm's list of control sequences, "VT100
 /// text colors" and on). Its number is that of the code which changes it.
 #[derive(Clone, Copy, Debug, PartialEq, Eq, Hash)]
+#[cfg_attr(feature = "serde", derive(serde::Serialize, serde::Deserialize))]
 pub enum DynamicColorNumber {
     /// The colour of the foreground of text.
     TextForegroundColor = 10,
@@ -223,6 +229,7 @@ impl DynamicColorNumber {
 
 /// The progress of a task, as ConEmu shows it (its "ANSI X3.64 and Xterm 256 colors", OSC 9;4).
 #[derive(Clone, Copy, Debug, PartialEq, Eq, Hash)]
+#[cfg_attr(feature = "serde", derive(serde::Serialize, serde::Deserialize))]
 pub enum Progress {
     /// None is shown.
     None,
