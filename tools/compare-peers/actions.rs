@@ -3,6 +3,7 @@
 //! PASSES`, as vte.rs says. Each action is counted, and the lengths of texts are added up; then it
 //! is dropped, with the memory that it took.
 use escape_stream::action::{Action, Parser};
+use std::hint::black_box;
 use std::{env, fs};
 
 #[derive(Default)]
@@ -21,7 +22,7 @@ impl Count {
             }
             Action::PrintString(text) => {
                 self.characters += 1;
-                self.sum += text.len() as u64;
+                self.sum += black_box(&text).len() as u64;
             }
             Action::CSI(sequence) => {
                 self.actions += 1;

@@ -221,10 +221,10 @@ impl Parser {
                 kind::FAILED => return Err(Error::Failed),
                 _ => {}
             }
-            let (front, back) = rest.split_at(taken);
+            let (piece, after) = rest.split_at(taken);
             count += taken;
-            rest = if act(self.noted(rest), front) {
-                back
+            rest = if act(self.noted(rest), piece) {
+                after
             } else {
                 &[]
             };

@@ -23,35 +23,46 @@ const FEW: usize = 5;
 #[derive(Clone)]
 #[cfg_attr(feature = "serde", derive(serde::Serialize, serde::Deserialize))]
 #[cfg_attr(feature = "serde", serde(from = "Vec<Entry>", into = "Vec<Entry>"))]
-pub struct Entries(Kept);
-
-#[derive(Clone)]
-enum Kept {
-    // The first so many of these.
-    Few(u8, [Entry; FEW]),
-    Many(Box<[Entry]>),
+pub struct Entries {
+    // All of them, where there are more than a few.
+    many: Option<Box<[Entry]>>,
+    // Else the first so many of these.
+    count: u8,
+    few: [Entry; FEW],
 }
 
 impl Entries {
     // The first so many of these.
     #[inline(always)]
     pub(super) fn first(count: usize, entries: &[Entry; 256]) -> Entries {
-        if count > FEW {
-            return Entries::from(entries.get(..count).unwrap_or(entries));
+        let is_few = count <= FEW;
+        // By reference: so they are copied once, to their place.
+        let few: Result<&[Entry; FEW], _> = entries[..FEW].try_into();
+        Entries {
+            many: if is_few { None } else { many(count, entries) },
+            count: count as u8,
+            few: *few.unwrap_or(&[Entry::NONE; FEW]),
         }
-        let [a, b, c, d, e, ..] = *entries;
-        Entries(Kept::Few(count as u8, [a, b, c, d, e]))
     }
+}
+
+#[inline(never)]
+fn many(count: usize, entries: &[Entry; 256]) -> Option<Box<[Entry]>> {
+    Some(entries.get(..count).unwrap_or(entries).into())
 }
 
 impl From<&[Entry]> for Entries {
     fn from(entries: &[Entry]) -> Entries {
-        if entries.len() > FEW {
-            return Entries(Kept::Many(entries.into()));
-        }
         let mut few = [Entry::NONE; FEW];
-        few[..entries.len()].copy_from_slice(entries);
-        Entries(Kept::Few(entries.len() as u8, few))
+        let is_few = entries.len() <= FEW;
+        if is_few {
+            few[..entries.len()].copy_from_slice(entries);
+        }
+        Entries {
+            many: (!is_few).then(|| entries.into()),
+            count: entries.len() as u8,
+            few,
+        }
     }
 }
 
@@ -78,9 +89,9 @@ impl Deref for Entries {
 
     #[inline]
     fn deref(&self) -> &[Entry] {
-        match &self.0 {
-            Kept::Few(count, few) => few.get(..usize::from(*count)).unwrap_or(few),
-            Kept::Many(entries) => entries,
+        match &self.many {
+            None => self.few.get(..usize::from(self.count)).unwrap_or(&self.few),
+            Some(entries) => entries,
         }
     }
 }

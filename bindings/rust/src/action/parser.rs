@@ -66,51 +66,50 @@ impl Parser {
     /// After a [failure](Parser::failure) it calls nothing.
     #[inline]
     pub fn parse<F: FnMut(Action)>(&mut self, bytes: &[u8], mut callback: F) {
+        if self.failure.is_some() {
+            return;
+        }
         let mut rest = bytes;
-        while self.failure.is_none() {
+        loop {
             let taken = self.events.step(rest);
             // What comes most often first, each in its own call, so that a closure can be inlined.
             let event = self.events.raw_event();
-            match event.kind {
-                kind::TEXT => {
-                    let run = ffi::text(event, rest);
-                    match single(run) {
-                        Some(c) => callback(Action::Print(c)),
-                        None => callback(Action::PrintString(run.into())),
-                    }
+            if event.kind == kind::CSI {
+                callback(sequence(event));
+            } else if event.kind == kind::TEXT {
+                let run = ffi::text(event, rest);
+                match single(run) {
+                    Some(c) => callback(Action::Print(c)),
+                    None => callback(Action::PrintString(run.into())),
                 }
-                kind::CSI => callback(Action::CSI(CSI {
-                    params: Entries::first(event.count, &event.entries),
-                    parameters_truncated: event.has_more,
-                    control: event.byte as u8,
-                })),
-                kind::CONTROL => {
-                    if let Some(code) = ControlCode::from_byte(event.byte as u8) {
-                        callback(Action::Control(code));
-                    }
+            } else if event.kind == kind::CONTROL {
+                if let Some(code) = ControlCode::from_byte(event.byte as u8) {
+                    callback(Action::Control(code));
                 }
-                kind::ESCAPE => callback(Action::Esc(Esc::of(
-                    event.intermediates(),
-                    event.byte as u8,
-                ))),
-                kind::OSC => match self.taker.command(self.events.string()) {
+            } else if event.kind == kind::ESCAPE {
+                let escape = Esc::of(event.intermediates(), event.byte as u8);
+                callback(Action::Esc(escape));
+            } else if event.kind == kind::OSC {
+                match self.taker.command(self.events.string()) {
                     Ok(command) => callback(Action::OperatingSystemCommand(command)),
-                    Err(error) => self.failure = Some(error),
-                },
-                kind::NONE => return,
-                _ => self.take_other(rest, &mut callback),
+                    Err(error) => return self.failure = Some(error),
+                }
+            } else if event.kind == kind::NONE || !self.take_other(rest, &mut callback) {
+                return;
             }
-            rest = rest.get(taken..).unwrap_or_default();
+            rest = &rest[taken..];
         }
     }
 
-    // Calls `act` with the actions of the event of a call that was given these bytes.
+    // Calls `act` with the actions of the event of a call that was given these bytes, and says
+    // whether it did not fail.
     #[inline(never)]
-    fn take_other(&mut self, bytes: &[u8], act: &mut impl FnMut(Action)) {
+    fn take_other(&mut self, bytes: &[u8], act: &mut impl FnMut(Action)) -> bool {
         self.failure = match self.events.raw_event().kind {
             kind::FAILED => Some(Error::Failed),
             _ => self.taker.take(self.events.noted(bytes), act).err(),
         };
+        self.failure.is_none()
     }
 
     /// The actions of the next bytes of the stream, with what is printed joined.
@@ -268,6 +267,16 @@ impl Parser {
             0
         })
     }
+}
+
+// The control sequence of an event.
+#[inline(always)]
+fn sequence(event: &ffi::Event) -> Action {
+    Action::CSI(CSI {
+        params: Entries::first(event.count, &event.entries),
+        parameters_truncated: event.has_more,
+        control: event.byte as u8,
+    })
 }
 
 /// The actions of some bytes, one after another: what [`Parser::actions`] returns. Bytes are taken
