@@ -3,8 +3,9 @@
 //! origin.
 //!
 //! A stream is bytes as a program writes them to a terminal. Any bytes are a stream; each call
-//! takes one whole, but those of a [`Filter`], a writer, of an [`html::PiecePage`], which gives HTML
-//! of it, and of a [`Parser`], which take it in pieces. The module [`vte`] has that parser with the calls of the crate `vte`.
+//! takes one whole, but those of a [`Filter`], a writer, of a [`FilterReader`], of an
+//! [`html::PiecePage`], which gives HTML of it, and of a [`Parser`], which take it in pieces. The
+//! module [`vte`] has that parser with the calls of the crate `vte`.
 //! [`ControlFunction`] and [`EscapeFunction`] name what sequences ask for, by tables that are made
 //! from those of the library. [`osc::OperatingSystemCommand`] is what a command says,
 //! [`apc::KittyImage`] and [`dcs::Sixel`] what an image is, and [`action::Parser`] gives a stream as
@@ -61,6 +62,8 @@ pub mod osc;
 mod parameters;
 mod params;
 mod parser;
+#[cfg(all(feature = "oneshot", feature = "std"))]
+mod reader;
 #[cfg(feature = "serde")]
 mod serial;
 mod string_end;
@@ -80,9 +83,11 @@ pub use function_rows::{C0, ControlFunction, EscapeFunction};
 pub use oneshot::{Policy, filter, filter_into, is_normal, normal, normal_into};
 pub use parameters::{Parameters, dcs_numbers, osc_number, osc_parts};
 pub use parser::{Entry, Event, Parser};
+#[cfg(all(feature = "oneshot", feature = "std"))]
+pub use reader::FilterReader;
 pub use string_end::StringEnd;
 #[cfg(all(feature = "oneshot", feature = "std"))]
-pub use writer::Filter;
+pub use writer::{Filter, FilterWriter};
 
 pub(crate) use numbered::numbered;
 

@@ -30,6 +30,9 @@ pub struct Filter<W: Write> {
     written: usize,
 }
 
+/// [`Filter`], by the name that goes with [`FilterReader`](crate::FilterReader).
+pub type FilterWriter<W> = Filter<W>;
+
 impl<W: Write> Filter<W> {
     /// A filter at the beginning of a stream, which keeps at most 1,048,576 bytes of a string.
     ///

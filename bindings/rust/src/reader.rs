@@ -1,0 +1,112 @@
+// SPDX-License-Identifier: MIT
+//! A reader that filters.
+use crate::{Error, PieceFilter, Policy};
+use std::io::{self, Read};
+use std::vec;
+use std::vec::Vec;
+
+const PIECE: usize = 8192;
+
+/// Reads from another reader what a policy admits of its stream, and nothing else, as it comes.
+///
+/// What is read is what [`filter`](crate::filter) gives of all that the inner reader gave, and at
+/// its end what takes back what the stream left changed at a terminal, as renditions and a link. A
+/// sequence that is unfinished waits for its end, and is dropped at the end of the stream. An error
+/// of the inner reader is handed on, and reading goes on after it, as where it gives bytes at the
+/// next call.
+///
+/// ```
+/// use escape_stream::{FilterReader, Policy};
+/// use std::io::Read;
+///
+/// let mut text = String::new();
+/// let log = &b"a\x1b]0;a title\x07\x1b[31mred"[..];
+/// FilterReader::new(log, Policy::Color)?.read_to_string(&mut text)?;
+/// assert_eq!(text, "a\x1b[31mred\x1b[0m");
+/// # Ok::<(), std::io::Error>(())
+/// ```
+#[derive(Debug)]
+pub struct FilterReader<R> {
+    inner: R,
+    filter: PieceFilter,
+    piece: Vec<u8>,
+    // How much of the text that the last piece added was read.
+    read: usize,
+    has_ended: bool,
+}
+
+impl<R: Read> FilterReader<R> {
+    /// A filter at the beginning of a stream, which keeps at most 1,048,576 bytes of a string.
+    ///
+    /// # Errors
+    ///
+    /// [`Error::Memory`] where a request for memory was refused.
+    pub fn new(inner: R, policy: Policy) -> Result<FilterReader<R>, Error> {
+        Ok(FilterReader::over(inner, PieceFilter::new(policy)?))
+    }
+
+    /// The same with another limit: of a string with more bytes nothing is read.
+    ///
+    /// # Errors
+    ///
+    /// [`Error::Memory`] where a request for memory was refused.
+    pub fn with_limit(inner: R, policy: Policy, limit: usize) -> Result<FilterReader<R>, Error> {
+        Ok(FilterReader::over(
+            inner,
+            PieceFilter::with_limit(policy, limit)?,
+        ))
+    }
+
+    fn over(inner: R, filter: PieceFilter) -> FilterReader<R> {
+        FilterReader {
+            inner,
+            filter,
+            piece: vec![0; PIECE],
+            read: 0,
+            has_ended: false,
+        }
+    }
+
+    /// The inner reader.
+    pub fn get_ref(&self) -> &R {
+        &self.inner
+    }
+
+    /// The inner reader. What is read from it here is not filtered.
+    pub fn get_mut(&mut self) -> &mut R {
+        &mut self.inner
+    }
+
+    /// The inner reader, without what is unfinished, or was not read yet.
+    pub fn into_inner(self) -> R {
+        self.inner
+    }
+
+    // Takes the next piece, or the end of the stream.
+    fn take(&mut self) -> io::Result<()> {
+        let count = self.inner.read(&mut self.piece)?;
+        self.read = 0;
+        if count == 0 {
+            self.filter.finish()?;
+            self.has_ended = true;
+        } else {
+            self.filter.feed(&self.piece[..count])?;
+        }
+        Ok(())
+    }
+}
+
+impl<R: Read> Read for FilterReader<R> {
+    /// Reads from the inner reader until it has something to give, or the stream has ended. Where
+    /// memory is refused, now or before, the error is of kind `OutOfMemory`.
+    fn read(&mut self, out: &mut [u8]) -> io::Result<usize> {
+        loop {
+            let count = self.filter.text_from(self.read, out);
+            self.read += count;
+            if count > 0 || out.is_empty() || self.has_ended {
+                return Ok(count);
+            }
+            self.take()?;
+        }
+    }
+}
