@@ -1,0 +1,176 @@
+// SPDX-License-Identifier: MIT
+//! Random streams of parts of sequences: their actions are the same however they are taken, and
+//! what is written of them is the normal form.
+use escape_stream::action::{Action, DeviceControlMode, Parser, encode};
+use escape_stream::normal;
+
+const WORDS: [&[u8]; 64] = [
+    b"a",
+    b"text",
+    b"\xc3\xa9",
+    b"\xe2\x82\xac",
+    b"\xf0\x9f\x98\x80",
+    b"\xe2\x82",
+    b"\xff",
+    b"\x7f",
+    b"\n",
+    b"\r",
+    b"\t",
+    b"\x07",
+    b"\x18",
+    b"\x1a",
+    b"\x00",
+    b"\x1b",
+    b"\x1b\\",
+    b"\x1b[",
+    b"\x1b]",
+    b"\x1bP",
+    b"\x1b_",
+    b"\x1bX",
+    b"\x1b^",
+    b"\x9b",
+    b"\x9d",
+    b"\x90",
+    b"\x9c",
+    b"\xc2\x9c",
+    b"\x84",
+    b"0",
+    b"1;",
+    b"31",
+    b":",
+    b";",
+    b"m",
+    b"H",
+    b"?25h",
+    b"38;5;7m",
+    b"1;2;3;4;5;6m",
+    b"$",
+    b" ",
+    b"(B",
+    b"7",
+    b"2;title",
+    b"8;;http://e.com/",
+    b"8;id=1;x",
+    b"133;A",
+    b"133;D;0",
+    b"52;c;aGk=",
+    b"4;1;?",
+    b"q",
+    b"+q544e;43",
+    b"$qm",
+    b"1p",
+    b"#1!3~",
+    b"\"1;1;2;3",
+    b"Ga=d,d=i,i=7",
+    b"Gi=1,a=q;AAAA",
+    b"\x1b[1m",
+    b"\x1b]0;t\x07",
+    b"\x1bPq#1;2;9;8;7~\x1b\\",
+    b"\x1b_Ga=t;AA\x1b\\",
+    b"\x1bP1pxy\x1b\\",
+    b"1337;SetMark",
+];
+
+struct Random(u64);
+
+impl Random {
+    fn below(&mut self, below: usize) -> usize {
+        self.0 = self
+            .0
+            .wrapping_mul(6_364_136_223_846_793_005)
+            .wrapping_add(1);
+        (self.0 >> 33) as usize % below
+    }
+
+    fn stream(&mut self) -> Vec<u8> {
+        let count = self.below(24);
+        let words = (0..count).map(|_| WORDS[self.below(WORDS.len())]);
+        words.collect::<Vec<_>>().concat()
+    }
+}
+
+fn parser() -> Parser {
+    Parser::with_limits(1 << 12, 1 << 12)
+}
+
+// The actions of a stream in pieces of a length, with what is printed joined.
+fn in_pieces(stream: &[u8], length: usize) -> Vec<Action> {
+    let mut parser = parser();
+    let mut actions = Vec::new();
+    for piece in stream.chunks(length) {
+        parser.parse(piece, |action| action.append_to(&mut actions));
+    }
+    assert_eq!(parser.failure(), None);
+    actions
+}
+
+#[test]
+fn however_they_are_taken() {
+    let mut random = Random(1);
+    for _ in 0..4000 {
+        let stream = random.stream();
+        let wanted = in_pieces(&stream, 1);
+        let shown = stream.escape_ascii();
+        for length in [2, 3, 7, 16, 64, 1000] {
+            assert_eq!(in_pieces(&stream, length), wanted, "{shown} by {length}");
+        }
+        let mut found = Vec::new();
+        let mut parser = parser();
+        let (first, second) = stream.split_at(random.below(stream.len() + 1));
+        for piece in [first, second] {
+            parser
+                .actions(piece)
+                .for_each(|it| it.append_to(&mut found));
+        }
+        assert_eq!(found, wanted, "{shown}");
+    }
+}
+
+#[test]
+fn by_first_actions() {
+    let mut random = Random(2);
+    for _ in 0..4000 {
+        let stream = random.stream();
+        let mut parser = parser();
+        let (mut found, mut rest) = (Vec::new(), &stream[..]);
+        while let Some((actions, count)) = parser.parse_first_as_vec(rest) {
+            assert!(count > 0 && !actions.is_empty());
+            actions.into_iter().for_each(|it| it.append_to(&mut found));
+            rest = &rest[count..];
+        }
+        // What the last bytes give is dropped where they leave something unfinished.
+        let wanted = in_pieces(&stream[..stream.len() - rest.len()], 1000);
+        assert_eq!(found, wanted, "{}", stream.escape_ascii());
+    }
+}
+
+// Whether the steps of each mode are whole.
+fn are_whole(actions: &[Action]) -> bool {
+    let count = |wanted: fn(&DeviceControlMode) -> bool| {
+        let is_it = |it: &&Action| matches!(it, Action::DeviceControl(mode) if wanted(mode));
+        actions.iter().filter(is_it).count()
+    };
+    count(|it| matches!(it, DeviceControlMode::Enter(_)))
+        == count(|it| matches!(it, DeviceControlMode::Exit))
+}
+
+#[test]
+fn what_is_written_is_the_normal_form() {
+    let mut random = Random(3);
+    let mut count = 0;
+    for _ in 0..4000 {
+        let stream = random.stream();
+        let actions = in_pieces(&stream, 1000);
+        if !are_whole(&actions) {
+            continue;
+        }
+        let Ok(text) = encode(&actions) else {
+            // (an escape sequence that lost its intermediates may open something)
+            assert!(actions.iter().any(|it| it.to_bytes().is_err()));
+            continue;
+        };
+        assert_eq!(text, normal(&stream).unwrap(), "{}", stream.escape_ascii());
+        count += 1;
+    }
+    assert!(count > 3000, "{count} streams");
+}
