@@ -121,36 +121,37 @@ fn what_would_not_read_back_is_not_written() {
     }
 }
 
+const WORDS: [&str; 24] = [
+    "0",
+    "1",
+    "2",
+    "8",
+    "133",
+    "7",
+    "id",
+    "aid",
+    "A",
+    "B",
+    "C",
+    "D",
+    "I",
+    "L",
+    "N",
+    "P",
+    ";",
+    ";",
+    ";",
+    "=",
+    ":",
+    "http://e.com/",
+    "\u{e9}",
+    "\u{7f}",
+];
+
 // Texts of these words one after another. In a debug build each that is read at once is compared
 // with what the library reads.
 #[test]
 fn texts_of_words() {
-    const WORDS: [&str; 24] = [
-        "0",
-        "1",
-        "2",
-        "8",
-        "133",
-        "7",
-        "id",
-        "aid",
-        "A",
-        "B",
-        "C",
-        "D",
-        "I",
-        "L",
-        "N",
-        "P",
-        ";",
-        ";",
-        ";",
-        "=",
-        ":",
-        "http://e.com/",
-        "\u{e9}",
-        "\u{7f}",
-    ];
     let mut state = 1_u64;
     let mut next = |below: usize| {
         state = state

@@ -90,10 +90,11 @@ impl Parser {
                 let escape = Esc::of(event.intermediates(), event.byte as u8);
                 callback(Action::Esc(escape));
             } else if event.kind == kind::OSC {
-                match self.taker.command(self.events.string()) {
-                    Ok(command) => callback(Action::OperatingSystemCommand(command)),
-                    Err(error) => return self.failure = Some(error),
-                }
+                let command = self.taker.command(self.events.string());
+                let Some(command) = self.done(command) else {
+                    return;
+                };
+                callback(Action::OperatingSystemCommand(command));
             } else if event.kind == kind::NONE || !self.take_other(rest, &mut callback) {
                 return;
             }
@@ -105,11 +106,16 @@ impl Parser {
     // whether it did not fail.
     #[inline(never)]
     fn take_other(&mut self, bytes: &[u8], act: &mut impl FnMut(Action)) -> bool {
-        self.failure = match self.events.raw_event().kind {
-            kind::FAILED => Some(Error::Failed),
-            _ => self.taker.take(self.events.noted(bytes), act).err(),
+        let taken = match self.events.raw_event().kind {
+            kind::FAILED => Err(Error::Failed),
+            _ => self.taker.take(self.events.noted(bytes), act),
         };
-        self.failure.is_none()
+        self.done(taken).is_some()
+    }
+
+    // What a call gave. An error is kept.
+    fn done<T>(&mut self, result: Result<T, Error>) -> Option<T> {
+        result.map_err(|error| self.failure = Some(error)).ok()
     }
 
     /// The actions of the next bytes of the stream, with what is printed joined.
