@@ -103,8 +103,8 @@ pub enum Error {
     /// excludes it. Or a filter or a page in pieces was refused memory before, or has ended. Or the
     /// fields of a command are none that its kind has, which the library's call excludes too.
     Failed,
-    /// The text of a command would not read back as it, as that of a title with a control. Nothing
-    /// was written.
+    /// The bytes of a command or another action would not read back as it, as those of a title with
+    /// a control. Nothing was written.
     NotWritable,
 }
 
@@ -113,7 +113,7 @@ impl fmt::Display for Error {
         match self {
             Error::Memory => f.write_str("out of memory"),
             Error::Failed => f.write_str("an earlier call failed"),
-            Error::NotWritable => f.write_str("the command would not read back"),
+            Error::NotWritable => f.write_str("what is written would not read back"),
         }
     }
 }
