@@ -1,0 +1,32 @@
+use Rattle.std.proofs.Common.{◌≡◌, refl}
+use Rattle.esc_values.specs.Clear.{parts_of}
+use Rattle.esc_actions.specs.Values.{osc, value_of}
+use Rattle.esc_actions.specs.declared.action.Action.TheVariants as action
+use Rattle.esc_osc.specs.Reading.{meaning as command_meant}
+use Rattle.escape_stream.proofs.Lent.{may_one, one_given, one_refused}
+use Rattle.escape_stream.specs.declared.borrowed.ActionRef.TheVariants.{Command}
+use Rattle.escape_stream.proofs.lending.LendingSinkAction.receive_command.Goals as goal
+
+pub receive-requires-clause-ready : goal.receive-requires-clause-ready
+receive-requires-clause-ready g c =
+    may_one g.S.BorrowingSink.takes (λ a ps. value_of a ≡ osc (command_meant ps)) c.args.self.now
+    c.nothing_begun.ensures _ (parts_of c.args.text.now)
+    (action.OperatingSystemCommand (command_meant (parts_of c.args.text.now)))
+    (Command c.args.text) refl refl refl
+    g.S.BorrowingSink.is_ready g.S.BorrowingSink.may c.requires
+
+pub returns-in-Ok-clause-taken : goal.returns-in-Ok-clause-taken
+returns-in-Ok-clause-taken g c = λ _.
+    one_given g.S.BorrowingSink.takes (λ a ps. value_of a ≡ osc (command_meant ps)) c.args.self.now
+    c.nothing_begun.ensures _ (parts_of c.args.text.now)
+    (action.OperatingSystemCommand (command_meant (parts_of c.args.text.now)))
+    (Command c.args.text) refl refl refl _
+    c.nothing_begun.ensures c.in-Ok.ensures.given
+
+pub returns-in-Err-clause-refused : goal.returns-in-Err-clause-refused
+returns-in-Err-clause-refused g c =
+    one_refused g.S.BorrowingSink.takes (λ a ps. value_of a ≡ osc (command_meant ps)) c.args.self.now
+    c.nothing_begun.ensures _ (parts_of c.args.text.now)
+    (action.OperatingSystemCommand (command_meant (parts_of c.args.text.now)))
+    (Command c.args.text) refl refl refl
+    g.S.BorrowingSink.refuses _ c.in-Err.ensures.given

@@ -1,0 +1,17 @@
+use Rattle.std.proofs.Common.{ap, chars, ◌∙◌}
+use Rattle.escape_stream.proofs.Lent.{may_text, text_chars, text_given}
+use Rattle.escape_stream.proofs.lending.LendingSinkAction.receive_text.Goals as goal
+
+pub receive-requires-clause-ready : goal.receive-requires-clause-ready
+receive-requires-clause-ready g c =
+    may_text g.S.BorrowingSink.takes c.args.text.now c.as_str.result
+    (ap chars c.as_str.ensures ∙ text_chars c.args.text.now c.requires.text) c.requires.some
+    c.args.self.now c.nothing_begun.ensures g.S.BorrowingSink.is_ready g.S.BorrowingSink.may
+    c.requires.ready
+
+pub returns-clause-given : goal.returns-clause-given
+returns-clause-given g c =
+    text_given g.S.BorrowingSink.takes c.args.text.now c.as_str.result
+    (ap chars c.as_str.ensures ∙ text_chars c.args.text.now c.requires.text) c.requires.some
+    c.args.self.now c.nothing_begun.ensures g.S.BorrowingSink.refuses _ _ c.nothing_begun.ensures
+    c.receive.ensures.given

@@ -1,0 +1,77 @@
+-- Borrowed actions: what they mean, and what a sink of them was given.
+use Rattle.std.specs.Prelude.{ℕ, ◌≡◌, ◌≢◌, ◌⊎◌, List, [], ◌∷◌, ◌++◌, Option, map}
+use Rattle.std.specs.List.{FoldsTo, flat_map}
+use Rattle.std.specs.Str.{chars}
+use Rattle.esc_values.specs.Clear.{parts_of}
+use Rattle.esc_sequences.specs.Csis.{unspecified}
+use Rattle.esc_osc.specs.Reading.{meaning as command_meant}
+use Rattle.esc_actions.specs.Meaning.{yield_within}
+use Rattle.esc_actions.specs.Values.{Value, csi, osc, print, value_of}
+use Rattle.esc_actions.specs.declared.action.Action.{Action}
+use Rattle.esc_parse.specs.Fed.{IsBroken, WasFedWithin}
+use Rattle.esc_parse.specs.declared.parser.Parser.{Parser}
+use Rattle.escape_stream.specs.declared.borrowed.ActionRef.{ActionRef}
+use Rattle.escape_stream.specs.declared.borrowed.ActionRef.TheVariants.{Text, Sequence, Command, Owned}
+
+-- what a borrowed action means: the values of the actions that it stands for, in order
+abbrev pub values_of : {A : Type 0} → ActionRef (Action A) → List (Value A)
+values_of (Text t) = map print (chars t.now)
+values_of (Sequence params truncated control) = csi (unspecified params.now truncated control) ∷ []
+values_of (Command t) = osc (command_meant (parts_of t.now)) ∷ []
+values_of (Owned a) = value_of a ∷ []
+
+-- a text has a character
+abbrev pub IsSome : {T : Type 0} → ActionRef T → Type 0
+IsSome (Text t) = t.now ≢ []
+IsSome (Sequence params truncated control) = Unit {0}
+IsSome (Command t) = Unit {0}
+IsSome (Owned a) = Unit {0}
+
+-- p was given borrowed actions, one after another, that together mean vs, and became q
+abbrev pub Gets : {S A : Type 0} → (S → ActionRef (Action A) → S → Type 0) → S → List (Value A) → S
+    → Type 0
+Gets {S} {A} takes p vs q =
+    (rs : List (ActionRef (Action A))) × (flat_map values_of rs ≡ vs) × FoldsTo takes p rs q
+
+-- p was given borrowed actions that together mean a prefix of vs, and became q
+abbrev pub GetsSome : {S A : Type 0} → (S → ActionRef (Action A) → S → Type 0) → S
+    → List (Value A) → S
+    → Type 0
+GetsSome {S} {A} takes p vs q =
+    (prefix : List (Value A)) × (rest : List (Value A)) × (vs ≡ prefix ++ rest)
+    × Gets takes p prefix q
+
+-- p was given borrowed actions that together mean a prefix of vs. Then the call with one that means
+-- what comes next was refused, and left q; or the giver stopped by itself, at q, which it does only
+-- where `own` holds.
+abbrev pub Stops : {S A : Type 0} → Type 0 → (S → ActionRef (Action A) → S → Type 0)
+    → (S → ActionRef (Action A) → S → Type 0) → S → List (Value A) → S
+    → Type 0
+Stops {S} {A} own takes refuses p vs q =
+    (rs : List (ActionRef (Action A))) × (rest : List (Value A)) × (mid : S)
+    × (vs ≡ flat_map values_of rs ++ rest) × FoldsTo takes p rs mid
+    × ((own × (mid ≡ q)) ⊎ ((r : ActionRef (Action A)) × (later : List (Value A))
+    × (rest ≡ values_of r ++ later) × refuses mid r q))
+
+-- p may be given borrowed actions that together mean vs: once those that it was given mean a prefix
+-- of vs, any that means what comes next, and no empty text
+abbrev pub Awaits : {S A : Type 0} → (S → ActionRef (Action A) → Type 0)
+    → (S → ActionRef (Action A) → S → Type 0) → S → List (Value A)
+    → Type 0
+Awaits {S} {A} may takes p vs =
+    (rs : List (ActionRef (Action A))) (r : ActionRef (Action A)) (later : List (Value A)) (q : S)
+    → IsSome r → vs ≡ flat_map values_of rs ++ (values_of r ++ later) → FoldsTo takes p rs q
+    → may q r
+
+-- A receiver need not be ready for every borrowed action: the parser has failed, and gives none; or
+-- the receiver awaits what b adds to a stream that the parser may have been fed.
+abbrev pub MayParse : {A S : Type 0} → (S → ActionRef (Action A) → Type 0)
+    → (S → ActionRef (Action A) → S → Type 0) → Parser A → S → List ℕ
+    → Type 0
+MayParse may takes p old b =
+    IsBroken p ⊎ ((limit : Option ℕ) × (s : List ℕ) × WasFedWithin limit s p
+    × Awaits may takes old (yield_within limit s b))
+
+-- a list of actions that grew by these values
+abbrev pub HasGrown : {A : Type 0} → List (Action A) → List (Value A) → List (Action A) → Type 0
+HasGrown old vs new = map value_of new ≡ map value_of old ++ vs

@@ -1,0 +1,120 @@
+//! Actions that borrow what the parser has of them.
+ghost use Rattle.std.specs.Prelude.{◌≡◌, ◌+◌, ◌≤◌, [], ◌∷◌, IfOk, OnErr, OnOk, length, map, vec_capacity, vec_len};
+ghost use Rattle.std.specs.Str.{chars};
+ghost use Rattle.esc_sequences.specs.Csis.{csi_value, unspecified};
+ghost use Rattle.esc_actions.specs.Values.{print, value_of};
+ghost use Rattle.escape_stream.specs.Borrowed.{HasGrown, values_of};
+ghost use Rattle.memory.specs.Refusals.{Refused};
+
+use esc_actions::Action;
+use esc_parse::commands::command_in;
+use esc_sequences::{CSI, Unspecified};
+use esc_values::{Boxed, CsiParam, Items};
+use std::alloc::{AllocError, Allocator};
+
+/// Actions as [`parse_borrowed`](crate::parse_borrowed) hands them out: text, parameters and
+/// commands lie where the parser has them, so that no memory is asked for.
+#[derive(Drop, Debug)]
+pub enum ActionRef<'a, T = Action> {
+    /// A run of characters, one or more, of which each is a [`Print`](Action::Print).
+    Text(&'a str),
+    /// A control sequence that has no name (ECMA-48, 5.4): one
+    /// [`CSI::Unspecified`](crate::csi::CSI::Unspecified). A rendition has a name, and is `Owned`.
+    Sequence {
+        /// The parameters of its body.
+        params: &'a [CsiParam],
+        /// Whether the body has more parameters, which are not kept.
+        parameters_truncated: bool,
+        /// The final byte, 40 to 7E (hexadecimal).
+        control: u8,
+    },
+    /// The text of an operating system command (ECMA-48, 8.3.89), of which the parts are between
+    /// `;`: one [`OperatingSystemCommand`](Action::OperatingSystemCommand).
+    Command(&'a [u8]),
+    /// Any other action. A character that is no part of a run is here too, as a
+    /// [`Print`](Action::Print).
+    Owned(T),
+}
+
+impl<A: Allocator + Copy> ActionRef<'_, Action<A>> {
+    /// Appends the actions that this stands for to a list. They are those that
+    /// [`Parser::parse`](crate::Parser::parse) would have handed out.
+    ///
+    /// The error is that memory was refused; the list is as it was then.
+    pub fn append_to(self, alloc: A, actions: &mut Vec<Action<A>, A>) -> Result<(), AllocError>
+        ensures ok { OnOk result
+            (HasGrown actions.old.items (values_of self.entry) actions.new.items) }
+        ensures refused { OnErr result ((actions.new.items ≡ actions.old.items) × Refused A) }
+    {
+        match self {
+            ActionRef::Text(text) => append_text(text, actions),
+            ActionRef::Sequence {
+                params,
+                parameters_truncated,
+                control,
+            } => {
+                let sequence = as_it_is(alloc, params, parameters_truncated, control)?;
+                append(Action::CSI(sequence), actions)
+            }
+            ActionRef::Command(text) => {
+                let command = Boxed::new(alloc, command_in(alloc, text)?)?;
+                append(Action::OperatingSystemCommand(command), actions)
+            }
+            ActionRef::Owned(action) => append(action, actions),
+        }
+    }
+}
+
+// Appends an action.
+#[tactic(auto, using(crate::proofs::Appended::has_grown))]
+fn append<A: Allocator>(
+    action: Action<A>,
+    actions: &mut Vec<Action<A>, A>,
+) -> Result<(), AllocError>
+    ensures ok { OnOk result
+        (HasGrown actions.old.items (value_of action ∷ []) actions.new.items) }
+    ensures refused { OnErr result ((actions.new.items ≡ actions.old.items) × Refused A) }
+{
+    memory::push(actions, action)?;
+    Ok(())
+}
+
+// Appends a `Print` of each character, once there is room for all.
+fn append_text<A: Allocator>(text: &str, actions: &mut Vec<Action<A>, A>) -> Result<(), AllocError>
+    ensures ok { OnOk result
+        (HasGrown actions.old.items (map print (chars text.now)) actions.new.items) }
+    ensures refused { OnErr result ((actions.new.items ≡ actions.old.items) × Refused A) }
+{
+    memory::reserve_for(actions, text.as_bytes(), 0)?;
+    push_text(text, actions);
+    Ok(())
+}
+
+// Appends a `Print` of each character, for which there is room.
+fn push_text<A: Allocator>(text: &str, actions: &mut Vec<Action<A>, A>)
+    requires { vec_len actions.old + length text.now ≤ vec_capacity actions.old }
+    ensures { HasGrown actions.old.items (map print (chars text.now)) actions.new.items }
+{
+    for c in text.chars() {
+        actions.push_reserved(Action::Print(c));
+    }
+}
+
+// The sequence of these parameters, as it is.
+fn as_it_is<A: Allocator + Copy>(
+    alloc: A,
+    params: &[CsiParam],
+    parameters_truncated: bool,
+    control: u8,
+) -> Result<CSI<A>, AllocError>
+    ensures ok { IfOk result (λ c.
+        csi_value c ≡ unspecified params.now parameters_truncated control) }
+    ensures refused { OnErr result (Refused A) }
+{
+    let kept = Unspecified {
+        params: Items::from_vec(memory::copied(alloc, params)?),
+        parameters_truncated,
+        control,
+    };
+    Ok(CSI::Unspecified(Boxed::new(alloc, kept)?))
+}
