@@ -23,8 +23,9 @@ pub struct Count {
     total: u64,
 }
 
+/// The sum of these bytes.
 #[inline(always)]
-fn sum_of(text: &[u8]) -> u64 {
+pub(crate) fn sum_of(text: &[u8]) -> u64 {
     let mut sum = 0u64;
     for b in text {
         sum = sum.wrapping_add(*b as u64);

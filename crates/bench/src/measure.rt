@@ -1,5 +1,7 @@
 //! The measures.
+ghost use Rattle.std.specs.Prelude.{⊤};
 
+use crate::borrowed_tally::BorrowedTally;
 use crate::count::Count;
 use crate::counted::Counted;
 use crate::images::Images;
@@ -7,7 +9,7 @@ use crate::input::Input;
 use crate::tally::Tally;
 use anyhow::Result;
 use esc_frame::parser::VTParser;
-use escape_stream::{Parser, Watched, encode, normalise};
+use escape_stream::{Parser, Watched, encode, normalise, parse_borrowed};
 use reusing::Reusing;
 use std::alloc::Global;
 use std::fmt;
@@ -19,7 +21,9 @@ pub enum Measure {
     Framing,
     /// The actions of a stream, counted.
     Parse,
-    /// The same, where the memory of the last actions serves the next.
+    /// The borrowed actions of a stream, counted.
+    ParseBorrowed,
+    /// The actions of a stream, counted, where the memory of the last actions serves the next.
     ParseReusing,
     /// The first actions of the prefixes of a stream, counted.
     ParseFirst,
@@ -43,9 +47,10 @@ const LIMIT: usize = 65_536;
 
 impl Measure {
     /// All measures, in the order in which they are taken.
-    pub const ALL: [Measure; 9] = [
+    pub const ALL: [Measure; 10] = [
         Measure::Framing,
         Measure::Parse,
+        Measure::ParseBorrowed,
         Measure::ParseReusing,
         Measure::ParseFirst,
         Measure::ParseFirstAsVec,
@@ -60,6 +65,7 @@ impl Measure {
         match self {
             Measure::Framing => "framing",
             Measure::Parse => "parse",
+            Measure::ParseBorrowed => "parse_borrowed",
             Measure::ParseReusing => "parse_reusing",
             Measure::ParseFirst => "parse_first",
             Measure::ParseFirstAsVec => "parse_first_as_vec",
@@ -75,6 +81,7 @@ impl Measure {
         match self {
             Measure::Framing => framing(alloc, &input.bytes),
             Measure::Parse => parse(alloc, &input.bytes),
+            Measure::ParseBorrowed => borrowed(alloc, &input.bytes),
             Measure::ParseReusing => reusing(alloc, &input.bytes),
             Measure::ParseFirst => first_actions(alloc, &input.bytes),
             Measure::ParseFirstAsVec => prefixes(alloc, &input.bytes),
@@ -113,6 +120,21 @@ fn parse(alloc: Global, bytes: &[u8]) -> Result<Counted> {
     let mut tally = Tally::new();
     let mut parser = Parser::new(alloc);
     parser.parse(bytes, |action| tally.add(action))?;
+    Ok(tally.counted())
+}
+
+fn borrowed(alloc: Global, bytes: &[u8]) -> Result<Counted> {
+    let mut tally = BorrowedTally::new();
+    let mut parser = Parser::new(alloc);
+    parse_borrowed(
+        &mut parser,
+        bytes,
+        |action|
+            ensures { ⊤ }
+        {
+            tally.add(action);
+        },
+    )?;
     Ok(tally.counted())
 }
 
