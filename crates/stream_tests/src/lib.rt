@@ -6,6 +6,8 @@ mod appending;
 #[cfg(test)]
 mod asking;
 #[cfg(test)]
+mod borrowing;
+#[cfg(test)]
 mod characters;
 #[cfg(test)]
 mod events;
